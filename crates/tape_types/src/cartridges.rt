@@ -1,0 +1,61 @@
+use crate::lists::List;
+use crate::texts::Bytes;
+
+/// One of the two partitions of a cartridge (LTFS 2.4, section 5.1).
+#[derive(Clone, Copy, Debug, PartialEq, Eq)]
+pub enum Part {
+    /// The index partition.
+    Ip,
+    /// The data partition.
+    Dp,
+}
+
+/// A position of a partition, counted in items from its beginning.
+#[derive(Clone, Copy, Debug, PartialEq, Eq)]
+pub struct Place {
+    pub part: Part,
+    pub pos: u64,
+}
+
+/// What stands at one position of a partition.
+#[derive(Drop)]
+pub enum Item {
+    /// A block of 1 to 1,048,576 bytes.
+    Block(Bytes),
+    /// A file mark.
+    Mark,
+    /// What a write that was cut off has left: it can't be read.
+    Torn,
+}
+
+/// The volume coherency attribute of a partition (LTFS 2.4, section 10.4).
+#[derive(Clone, Copy)]
+pub enum Note {
+    Absent,
+    Kept([u8; 70]),
+}
+
+/// What a cartridge holds: the items of both partitions, the volume change reference and
+/// the coherency attribute of each partition.
+#[derive(Drop)]
+pub struct Cartridge {
+    pub ip: List<Item>,
+    pub dp: List<Item>,
+    pub vcr: u64,
+    pub note_ip: Note,
+    pub note_dp: Note,
+}
+
+/// How many items each partition can hold.
+#[derive(Clone, Copy, Debug, PartialEq, Eq)]
+pub struct Limits {
+    pub cap_ip: u64,
+    pub cap_dp: u64,
+}
+
+/// A count before an event and after it.
+#[derive(Clone, Copy, Debug, PartialEq, Eq)]
+pub struct Twin {
+    pub before: u64,
+    pub after: u64,
+}

@@ -1,0 +1,14 @@
+// The types that every crate of the volume server uses.
+#![tactic(auto)]
+
+mod cartridges;
+mod lists;
+mod moments;
+mod names;
+mod texts;
+
+pub use cartridges::{Cartridge, Item, Limits, Note, Part, Place, Twin};
+pub use lists::List;
+pub use moments::{Moment, Times};
+pub use names::{NameErr, check_name};
+pub use texts::{Bytes, NoMemory, Text};
