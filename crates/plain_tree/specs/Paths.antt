@@ -1,0 +1,43 @@
+-- Paths, which are lists of names, and finite maps from paths.
+use Rattle.std.specs.Prelude.{ℕ, ◌+◌, ◌-◌, List, ◌++◌, Bool, ◌&&◌, ◌==◌, not, if◌then◌else◌, map, length, take, drop, nat_eq, slice_get, Option, None}
+use Rattle.std.specs.List.{starts_with}
+use Rattle.std.specs.declared.cmp.Ordering.{Ordering}
+use Rattle.std.specs.Cmp.Lexicographic.{slice_cmp, pointwise}
+use Rattle.std.specs.Ordering.{nat_cmp, is_eq}
+use Rattle.std.specs.FinMap.{FinMap, from_entries}
+
+-- name by name, by the bytes of the names
+abbrev pub path_cmp : List (List ℕ) → List (List ℕ) → Ordering
+path_cmp a b = slice_cmp (λ x y. slice_cmp nat_cmp x y) a b
+
+-- two paths are one
+abbrev pub same_path : List (List ℕ) → List (List ℕ) → Bool
+same_path a b = is_eq (path_cmp a b)
+
+-- the path without its last name
+abbrev pub parent_of : List (List ℕ) → List (List ℕ)
+parent_of path = take (length path - 1) path
+
+-- the last name, but of the root, which has none
+abbrev pub last_name : List (List ℕ) → Option (List ℕ)
+last_name path = slice_get path (length path - 1)
+
+-- the second path is the first one, or goes on from it
+abbrev pub is_at_or_below : List (List ℕ) → List (List ℕ) → Bool
+is_at_or_below front path = starts_with (pointwise nat_eq) path front
+
+-- the path lies below the first one
+abbrev pub is_below : List (List ℕ) → List (List ℕ) → Bool
+is_below front path = is_at_or_below front path && not (length path == length front)
+
+-- the name of a path that stands directly in the directory
+abbrev pub name_in : List (List ℕ) → List (List ℕ) → Option (List ℕ)
+name_in dir path = if is_below dir path && (length path == length dir + 1) then last_name path else None
+
+-- where a path stands once `from` has become `to`
+abbrev pub moved_path : List (List ℕ) → List (List ℕ) → List (List ℕ) → List (List ℕ)
+moved_path from to path = if is_at_or_below from path then to ++ drop (length from) path else path
+
+-- the map of a list of entries, whose keys show paths
+abbrev pub nodes_of : {K X : Type 0} → (K → List (List ℕ)) → List (K × X) → FinMap path_cmp X
+nodes_of path es = from_entries (map (λ e. (path e.0, e.1)) es)

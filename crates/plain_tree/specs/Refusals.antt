@@ -1,0 +1,120 @@
+-- Why a call is refused: the checks of each call, in order, of which the first that fails is the answer.
+use Rattle.std.specs.Prelude.{ℕ, zero, suc, ◌+◌, ◌^◌, List, [], ◌∷◌, Bool, true, false, ◌||◌, nat_le, nat_lt, ◌==◌, if◌then◌else◌, length, take, Option, Some, None, is_none, is_some}
+use Rattle.std.specs.Option.{option_map}
+use Rattle.std.specs.FinMap as fin
+use Rattle.tape_types.specs.Names.{name_fault}
+use Rattle.plain_tree.specs.declared.nodes.Node.{Node}
+use Rattle.plain_tree.specs.declared.nodes.Kind.{Kind}
+use Rattle.plain_tree.specs.declared.nodes.Kind.TheVariants as kinds
+use Rattle.plain_tree.specs.declared.calls.Call.{Call}
+use Rattle.plain_tree.specs.declared.calls.Call.TheVariants.{Mkdir, Create, Write, Truncate, Read, Listing, Stat, Rename, Remove, Sync}
+use Rattle.plain_tree.specs.declared.calls.Refusal.{Refusal}
+use Rattle.plain_tree.specs.declared.calls.Refusal.TheVariants.{BadName, Root, NotFound, NotDir, IsDir, IsLink, Exists, Inside, NotEmpty, TooLong, TooMany, Damaged}
+use Rattle.plain_tree.specs.Cells.{range_of, bytes_of}
+use Rattle.plain_tree.specs.Paths.{same_path, parent_of, last_name, is_below}
+use Rattle.plain_tree.specs.Tree.{Tree, Nodes, cells_at, entries_in}
+
+-- the first check that fails
+abbrev pub first_of : List (Option Refusal) → Option Refusal
+first_of [] = None
+first_of (None ∷ later) = first_of later
+first_of (Some refusal ∷ later) = Some refusal
+
+abbrev pub refuse_if : Bool → Refusal → Option Refusal
+refuse_if true refusal = Some refusal
+refuse_if false refusal = None
+
+-- the last name is one that no node may have
+abbrev pub bad_name : List (List ℕ) → Option Refusal
+bad_name path = found (last_name path)
+  where
+    found : Option (List ℕ) → Option Refusal
+    found None = None
+    found (Some name) = refuse_if (is_some (name_fault name)) BadName
+
+abbrev pub at_root : List (List ℕ) → Option Refusal
+at_root path = refuse_if (length path == 0) Root
+
+-- what stands at the longest front of fewer than n names that is there says why the path isn't
+abbrev pub why_missing : Nodes → List (List ℕ) → ℕ → Refusal
+why_missing nodes path zero = NotFound
+why_missing nodes path (suc n) = found (fin.get nodes (take n path)) (why_missing nodes path n)
+  where
+    by_kind : Kind → Refusal
+    by_kind kinds.Dir = NotFound
+    by_kind (kinds.File cells) = NotDir
+    by_kind (kinds.Link text) = NotDir
+
+    found : Option Node → Refusal → Refusal
+    found (Some node) shorter = by_kind node.kind
+    found None shorter = shorter
+
+-- the check of what stands at a path
+abbrev pub checked_at : (Kind → Option Refusal) → Nodes → List (List ℕ) → Option Refusal
+checked_at check nodes path = found (fin.get nodes path)
+  where
+    found : Option Node → Option Refusal
+    found None = Some (why_missing nodes path (length path))
+    found (Some node) = check node.kind
+
+-- something stands at the path
+abbrev pub no_node : Nodes → List (List ℕ) → Option Refusal
+no_node nodes path = checked_at (λ _. None) nodes path
+
+-- a directory does
+abbrev pub no_dir : Nodes → List (List ℕ) → Option Refusal
+no_dir nodes path = checked_at check nodes path
+  where
+    check : Kind → Option Refusal
+    check kinds.Dir = None
+    check (kinds.File cells) = Some NotDir
+    check (kinds.Link text) = Some NotDir
+
+-- a file does
+abbrev pub no_file : Nodes → List (List ℕ) → Option Refusal
+no_file nodes path = checked_at check nodes path
+  where
+    check : Kind → Option Refusal
+    check kinds.Dir = Some IsDir
+    check (kinds.File cells) = None
+    check (kinds.Link text) = Some IsLink
+
+abbrev pub exists_at : Nodes → List (List ℕ) → Option Refusal
+exists_at nodes path = refuse_if (fin.contains_key nodes path) Exists
+
+-- a file has at most 2^40 bytes
+abbrev pub too_long : ℕ → Option Refusal
+too_long length = refuse_if (nat_lt (2 ^ 40) length) TooLong
+
+-- there are at most 65,536 nodes, and uids up to 2^62
+abbrev pub too_many : Tree → Option Refusal
+too_many t = refuse_if (nat_le 65536 (fin.len t.nodes) || nat_le (2 ^ 62) t.highest) TooMany
+
+abbrev pub not_empty : Nodes → List (List ℕ) → Option Refusal
+not_empty nodes path = refuse_if (nat_lt 0 (length (entries_in nodes path))) NotEmpty
+
+-- a byte of the range is lost
+abbrev pub damaged : Nodes → List (List ℕ) → ℕ → ℕ → Option Refusal
+damaged nodes path offset count = refuse_if (is_none (bytes_of (range_of (cells_at nodes path) offset count))) Damaged
+
+-- a new node at the path
+abbrev pub new_refusal : Tree → List (List ℕ) → Option Refusal
+new_refusal t path = first_of (bad_name path ∷ at_root path ∷ no_dir t.nodes (parent_of path) ∷ exists_at t.nodes path ∷ too_many t ∷ [])
+
+abbrev pub rename_refusal : Nodes → List (List ℕ) → List (List ℕ) → Option Refusal
+rename_refusal nodes from to =
+    first_of (bad_name to ∷ at_root from ∷ at_root to ∷ no_node nodes from ∷ no_dir nodes (parent_of to)
+    ∷ (if same_path from to then None else first_of (exists_at nodes to ∷ refuse_if (is_below from to) Inside ∷ [])) ∷ [])
+
+-- the first refusal of a call, where it is refused
+abbrev pub refusal_of : Tree → Call → Option Refusal
+refusal_of t (Mkdir path) = new_refusal t path
+refusal_of t (Create path) = new_refusal t path
+refusal_of t (Write path offset bytes) = first_of (no_file t.nodes path ∷ too_long (offset + length bytes) ∷ [])
+refusal_of t (Truncate path length) = first_of (no_file t.nodes path ∷ too_long length ∷ [])
+refusal_of t (Read path offset count) = first_of (no_file t.nodes path ∷ damaged t.nodes path offset count ∷ [])
+refusal_of t (Listing path) = no_dir t.nodes path
+refusal_of t (Stat path) = no_node t.nodes path
+refusal_of t (Rename from to) = rename_refusal t.nodes from to
+refusal_of t (Remove path) = first_of (at_root path ∷ no_node t.nodes path ∷ not_empty t.nodes path ∷ [])
+refusal_of t Sync = None

@@ -1,0 +1,104 @@
+-- The tree of a volume (LTFS 2.4, section 9.2), and what stands where in it.
+use Rattle.std.specs.Prelude.{ℕ, ◌+◌, List, [], ◌∷◌, Bool, true, false, map, length, Option, Some, None}
+use Rattle.std.specs.List.{filter_map}
+use Rattle.std.specs.Option.{option_map}
+use Rattle.std.specs.FinMap as fin
+use Rattle.tape_types.specs.declared.moments.Moment.{Moment}
+use Rattle.tape_types.specs.declared.moments.Times.{Times}
+use Rattle.plain_tree.specs.declared.nodes.Node.{Node}
+use Rattle.plain_tree.specs.declared.nodes.Kind.{Kind}
+use Rattle.plain_tree.specs.declared.nodes.Kind.TheVariants as kinds
+use Rattle.plain_tree.specs.declared.calls.Sort.{Sort}
+use Rattle.plain_tree.specs.declared.calls.Sort.TheVariants as sorts
+use Rattle.plain_tree.specs.declared.calls.Entry.{Entry}
+use Rattle.plain_tree.specs.declared.calls.Facts.{Facts}
+use Rattle.plain_tree.specs.Cells.{Cell}
+use Rattle.plain_tree.specs.Paths.{path_cmp, name_in, moved_path}
+
+-- what stands at each path
+abbrev pub Nodes : Type 0
+Nodes = fin.FinMap path_cmp Node
+
+-- the highest uid that was ever given, and what stands at each path
+pub record Tree : Type 0 where
+  pub highest : ℕ
+  pub nodes : Nodes
+
+abbrev pub times_at : Moment → Times
+times_at at = record { create = at; change = at; modify = at; access = at; backup = at }
+
+-- a node that was made at a moment
+abbrev pub new_node : Kind → ℕ → Moment → Node
+new_node kind uid at = record { uid = uid; times = times_at at; readonly = false; kind = kind }
+
+-- the tree with the root alone
+abbrev pub empty_tree : Moment → Tree
+empty_tree at = record { highest = 1; nodes = fin.insert fin.empty [] (new_node kinds.Dir 1 at) }
+
+-- the map with the node at a path changed, where there is one
+abbrev pub changed_at : (Node → Node) → List (List ℕ) → Nodes → Nodes
+changed_at change path nodes = found (fin.get nodes path)
+  where
+    found : Option Node → Nodes
+    found None = nodes
+    found (Some node) = fin.insert nodes path (change node)
+
+-- change and modify time are this moment
+abbrev pub touched : Moment → Node → Node
+touched at node = record node { times = record node.times { change = at; modify = at } }
+
+-- the change time is this moment
+abbrev pub change_noted : Moment → Node → Node
+change_noted at node = record node { times = record node.times { change = at } }
+
+-- the map with the node at a path touched
+abbrev pub touch : Moment → List (List ℕ) → Nodes → Nodes
+touch at path nodes = changed_at (touched at) path nodes
+
+-- a file with its cells changed, touched; another node as it is
+abbrev pub file_changed : (List Cell → List Cell) → Moment → Node → Node
+file_changed change at node = of_kind node.kind
+  where
+    of_kind : Kind → Node
+    of_kind kinds.Dir = node
+    of_kind (kinds.File cells) = touched at (record node { kind = kinds.File (change cells) })
+    of_kind (kinds.Link text) = node
+
+-- each node at or below `from` stands at or below `to`, and all others stay
+abbrev pub moved : List (List ℕ) → List (List ℕ) → Nodes → Nodes
+moved from to nodes = fin.from_entries (map (λ e. (moved_path from to e.0, e.1)) (fin.entries nodes))
+
+abbrev pub sort_of : Kind → Sort
+sort_of kinds.Dir = sorts.Dir
+sort_of (kinds.File cells) = sorts.File
+sort_of (kinds.Link text) = sorts.Link
+
+-- the cells of a file, and none of another node
+abbrev pub cells_of_kind : Kind → List Cell
+cells_of_kind kinds.Dir = []
+cells_of_kind (kinds.File cells) = cells
+cells_of_kind (kinds.Link text) = []
+
+-- the text of a link, and none of another node
+abbrev pub text_of_kind : Kind → List ℕ
+text_of_kind kinds.Dir = []
+text_of_kind (kinds.File cells) = []
+text_of_kind (kinds.Link text) = text
+
+-- the cells of the file at a path
+abbrev pub cells_at : Nodes → List (List ℕ) → List Cell
+cells_at nodes path = found (fin.get nodes path)
+  where
+    found : Option Node → List Cell
+    found None = []
+    found (Some node) = cells_of_kind node.kind
+
+abbrev pub facts_of : Node → Facts
+facts_of node = record { sort = sort_of node.kind; uid = node.uid; length = length (cells_of_kind node.kind); text = text_of_kind node.kind; times = node.times }
+
+-- what stands directly in a directory, by the bytes of the names
+abbrev pub entries_in : Nodes → List (List ℕ) → List Entry
+entries_in nodes dir = filter_map entry (fin.entries nodes)
+  where
+    entry : (List (List ℕ) × Node) → Option Entry
+    entry e = option_map (λ name. record { sort = sort_of e.1.kind; name = name }) (name_in dir e.0)
