@@ -1,0 +1,136 @@
+-- The lines of a script, the calls that they spell, and the first line that is refused.
+use Rattle.std.specs.Prelude.{◌≡◌, ℕ, ◌+◌, List, [], ◌∷◌, ◌++◌, Bool, ◌||◌, not, ◌==◌, nat_le, nat_lt, if◌then◌else◌, filter, map, length, sum_by, slice_index, Option, Some, None, Result, Ok, Err}
+use Rattle.std.specs.List.{list_any, slice_split}
+use Rattle.std.specs.Str.{is_utf8}
+use Rattle.plain_tree.specs.declared.calls.Call.{Call}
+use Rattle.plain_tree.specs.declared.calls.Call.TheVariants.{Mkdir, Create, Write, Truncate, Read, Listing, Stat, Rename, Remove, Sync}
+use Rattle.plain_tree.specs.History.{Calls}
+use Rattle.session_script.specs.declared.reading.Verb.{Verb}
+use Rattle.session_script.specs.declared.reading.Verb.TheVariants as verbs
+use Rattle.session_script.specs.declared.scripts.ScriptWhy.{ScriptWhy}
+use Rattle.session_script.specs.declared.scripts.ScriptWhy.TheVariants as reasons
+use Rattle.session_script.specs.declared.scripts.ScriptErr.{ScriptErr}
+use Rattle.session_script.specs.declared.scripts.ScriptFault.{ScriptFault}
+use Rattle.session_script.specs.declared.scripts.ScriptFault.TheVariants as faults
+use Rattle.session_script.specs.declared.scripts.ScriptLine.{ScriptLine}
+use Rattle.session_script.specs.Words.{words_of, is_empty, number_of, session_of, verb_of, path_of, bytes_of}
+
+-- the calls of each session, in order
+abbrev pub calls_of : List ScriptLine → Calls
+calls_of script who = map (λ l. l.call) (filter (λ l. l.who == who) script)
+
+-- what a word spells goes on to the next word, or the reason is told
+abbrev pub read_as : {A : Type 0} → Option A → ScriptWhy → (A → Result Call ScriptWhy) → Result Call ScriptWhy
+read_as None reason next = Err reason
+read_as (Some value) reason next = next value
+
+-- the call that the words behind a verb spell
+abbrev pub call_by : Verb → List (List ℕ) → Result Call ScriptWhy
+call_by verbs.Mkdir (p ∷ []) = read_as (path_of p) reasons.Path (λ path. Ok (Mkdir path))
+call_by verbs.Create (p ∷ []) = read_as (path_of p) reasons.Path (λ path. Ok (Create path))
+call_by verbs.Write (p ∷ n ∷ b ∷ []) =
+    read_as (path_of p) reasons.Path (λ path. read_as (number_of n) reasons.Number (λ offset. read_as (bytes_of b) reasons.Bytes (λ bytes. Ok (Write path offset bytes))))
+call_by verbs.Truncate (p ∷ n ∷ []) =
+    read_as (path_of p) reasons.Path (λ path. read_as (number_of n) reasons.Number (λ length. Ok (Truncate path length)))
+call_by verbs.Read (p ∷ n ∷ m ∷ []) =
+    read_as (path_of p) reasons.Path (λ path. read_as (number_of n) reasons.Number (λ offset. read_as (number_of m) reasons.Number (λ count. Ok (Read path offset count))))
+call_by verbs.List (p ∷ []) = read_as (path_of p) reasons.Path (λ path. Ok (Listing path))
+call_by verbs.Stat (p ∷ []) = read_as (path_of p) reasons.Path (λ path. Ok (Stat path))
+call_by verbs.Rename (p ∷ q ∷ []) =
+    read_as (path_of p) reasons.Path (λ from. read_as (path_of q) reasons.Path (λ to. Ok (Rename from to)))
+call_by verbs.Remove (p ∷ []) = read_as (path_of p) reasons.Path (λ path. Ok (Remove path))
+call_by verbs.Sync [] = Ok Sync
+call_by _ _ = Err reasons.Words
+
+-- the call that the words of a line spell behind the session
+abbrev pub call_of : List (List ℕ) → Result Call ScriptWhy
+call_of [] = Err reasons.Verb
+call_of (word ∷ words) = by_verb (verb_of word)
+  where
+    by_verb : Option Verb → Result Call ScriptWhy
+    by_verb None = Err reasons.Verb
+    by_verb (Some verb) = if list_any is_empty words then Err reasons.Words else call_by verb words
+
+abbrev pub with_session : ℕ → Result Call ScriptWhy → Result ScriptLine ScriptWhy
+with_session who (Ok call) = Ok (record { who = who; call = call })
+with_session who (Err reason) = Err reason
+
+-- what the words of a line spell: a session and its call
+abbrev pub spelled_by : List (List ℕ) → Result ScriptLine ScriptWhy
+spelled_by [] = Err reasons.Who
+spelled_by (word ∷ words) = by_session (session_of word)
+  where
+    by_session : Option ℕ → Result ScriptLine ScriptWhy
+    by_session None = Err reasons.Who
+    by_session (Some who) = with_session who (call_of words)
+
+-- how many bytes a call writes, and how many it asks to read
+abbrev pub bytes_written : Call → ℕ
+bytes_written (Write path offset bytes) = length bytes
+bytes_written _ = 0
+
+abbrev pub bytes_asked : Call → ℕ
+bytes_asked (Read path offset count) = count
+bytes_asked _ = 0
+
+-- the first limit that a line passes, behind the lines that stand before it
+abbrev pub limit_passed : List ScriptLine → ScriptLine → Option ScriptWhy
+limit_passed before line =
+    if nat_le 1024 (length (calls_of before line.who)) then Some reasons.Calls
+    else if nat_lt 65536 (bytes_written line.call) || nat_lt 1048576 (bytes_asked line.call) then Some reasons.Big
+    else if nat_lt 67108864 (sum_by (λ l. bytes_written l.call) before + bytes_written line.call) then Some reasons.Sum
+    else if nat_lt 67108864 (sum_by (λ l. bytes_asked l.call) before + bytes_asked line.call) then Some reasons.Sum
+    else None
+
+-- a line within the limits
+abbrev pub limited : List ScriptLine → ScriptLine → Result (Option ScriptLine) ScriptWhy
+limited before line = by_limit (limit_passed before line)
+  where
+    by_limit : Option ScriptWhy → Result (Option ScriptLine) ScriptWhy
+    by_limit None = Ok (Some line)
+    by_limit (Some reason) = Err reason
+
+-- an empty line and a comment are skipped
+abbrev pub is_skipped : List ℕ → Bool
+is_skipped line = is_empty line || slice_index line 0 == 35
+
+-- what a line spells behind the lines before it: nothing, or a session and its call
+abbrev pub line_of : List ScriptLine → List ℕ → Result (Option ScriptLine) ScriptWhy
+line_of before line =
+    if not (is_utf8 line) then Err reasons.Utf8
+    else if is_skipped line then Ok None
+    else by_words (spelled_by (words_of line))
+  where
+    by_words : Result ScriptLine ScriptWhy → Result (Option ScriptLine) ScriptWhy
+    by_words (Ok spelled) = limited before spelled
+    by_words (Err reason) = Err reason
+
+-- the script with one more line, or the line's refusal
+abbrev pub with_line : ℕ → List ScriptLine → Result (Option ScriptLine) ScriptWhy → Result (List ScriptLine) ScriptErr
+with_line number before (Ok None) = Ok before
+with_line number before (Ok (Some spelled)) = Ok (before ++ spelled ∷ [])
+with_line number before (Err reason) = Err (record { line = number; why = reason })
+
+abbrev pub and_then : Result (List ScriptLine) ScriptErr → (List ScriptLine → Result (List ScriptLine) ScriptErr) → Result (List ScriptLine) ScriptErr
+and_then (Ok script) next = next script
+and_then (Err refusal) next = Err refusal
+
+-- the script that lines go on to spell, the first of which has this number; or the first that is refused
+abbrev pub script_from : ℕ → List ScriptLine → List (List ℕ) → Result (List ScriptLine) ScriptErr
+script_from number before [] = Ok before
+script_from number before (line ∷ lines) =
+    and_then (with_line number before (line_of before line)) (λ script. script_from (number + 1) script lines)
+
+-- the lines of a text; behind a last line feed stands one more, which is empty
+abbrev pub lines_of : List ℕ → List (List ℕ)
+lines_of text = slice_split (λ b. b == 10) text
+
+-- the script of a text, or its first refusal
+abbrev pub script_of : List ℕ → Result (List ScriptLine) ScriptErr
+script_of text =
+    if nat_lt 16777216 (length text) then Err (record { line = 0; why = reasons.Long }) else script_from 1 [] (lines_of text)
+
+-- a fault of reading is the text's first refusal, or want of memory
+abbrev pub IsFault : ScriptFault → Result (List ScriptLine) ScriptErr → Type 0
+IsFault faults.NoMemory script = Unit {0}
+IsFault (faults.Bad e) script = script ≡ Err e

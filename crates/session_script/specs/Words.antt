@@ -1,0 +1,87 @@
+-- The words of a script's line, and what each form of word spells.
+use Rattle.std.specs.Prelude.{ℕ, zero, suc, ◌+◌, ◌-◌, ◌*◌, ◌^◌, List, [], ◌∷◌, Bool, ◌&&◌, not, nat_le, nat_lt, nat_eq, ◌==◌, if◌then◌else◌, fold, map, length, drop, replicate, Option, Some, None, codes}
+use Rattle.std.specs.List.{list_all, slice_split, starts_with}
+use Rattle.std.specs.Option.{option_map}
+use Rattle.std.specs.Str.{bytes_eq, is_utf8}
+use Rattle.std.specs.Char.{digit_value, is_digit}
+use Rattle.percent_encoding.specs.Percent.{percent_decode}
+use Rattle.session_script.specs.declared.reading.Verb.{Verb}
+use Rattle.session_script.specs.declared.reading.Verb.TheVariants as verbs
+
+-- the words between single spaces
+abbrev pub words_of : List ℕ → List (List ℕ)
+words_of line = slice_split (λ b. b == 32) line
+
+abbrev pub is_empty : List ℕ → Bool
+is_empty word = length word == 0
+
+-- the number that decimal digits spell
+abbrev pub decimal_value : List ℕ → ℕ
+decimal_value digits = fold (λ n d. n * 10 + (d - 48)) 0 digits
+
+-- a number is 1 to 20 decimal digits, below 2^64
+abbrev pub number_of : List ℕ → Option ℕ
+number_of word =
+    if nat_le 1 (length word) && nat_le (length word) 20 && list_all (λ d. is_digit d 10) word && nat_lt (decimal_value word) (2 ^ 64)
+    then Some (decimal_value word) else None
+
+-- a session is a number from 1 to 16 with no zero in front
+abbrev pub session_of : List ℕ → Option ℕ
+session_of word = within (number_of word)
+  where
+    within : Option ℕ → Option ℕ
+    within None = None
+    within (Some who) = if nat_le 1 who && nat_le who 16 && not (starts_with nat_eq word (codes "0")) then Some who else None
+
+abbrev pub verb_of : List ℕ → Option Verb
+verb_of word =
+    if bytes_eq word (codes "mkdir") then Some verbs.Mkdir
+    else if bytes_eq word (codes "create") then Some verbs.Create
+    else if bytes_eq word (codes "write") then Some verbs.Write
+    else if bytes_eq word (codes "truncate") then Some verbs.Truncate
+    else if bytes_eq word (codes "read") then Some verbs.Read
+    else if bytes_eq word (codes "list") then Some verbs.List
+    else if bytes_eq word (codes "stat") then Some verbs.Stat
+    else if bytes_eq word (codes "rename") then Some verbs.Rename
+    else if bytes_eq word (codes "remove") then Some verbs.Remove
+    else if bytes_eq word (codes "sync") then Some verbs.Sync
+    else None
+
+-- a name isn't empty, and is UTF-8 once its escapes are decoded
+abbrev pub is_name : List ℕ → Bool
+is_name piece = not (is_empty piece) && is_utf8 (percent_decode piece)
+
+abbrev pub names_of : List (List ℕ) → Option (List (List ℕ))
+names_of pieces = if list_all is_name pieces then Some (map percent_decode pieces) else None
+
+-- a path is a slash, or a slash and a name one or more times
+abbrev pub path_of : List ℕ → Option (List (List ℕ))
+path_of [] = None
+path_of (c ∷ rest) =
+    if c == 47 then (if is_empty rest then Some [] else names_of (slice_split (λ b. b == 47) rest)) else None
+
+-- pairs of hexadecimal digits, possibly none
+abbrev pub hex_bytes : List ℕ → Option (List ℕ)
+hex_bytes [] = Some []
+hex_bytes (high ∷ []) = None
+hex_bytes (high ∷ low ∷ rest) =
+    if is_digit high 16 && is_digit low 16 then option_map (λ bytes. (16 * digit_value high + digit_value low) ∷ bytes) (hex_bytes rest) else None
+
+-- one byte or more, taken as they are
+abbrev pub text_bytes : List ℕ → Option (List ℕ)
+text_bytes bytes = if is_empty bytes then None else Some bytes
+
+-- two hexadecimal digits, a colon and a number: so many bytes of that value
+abbrev pub fill_bytes : List ℕ → Option (List ℕ)
+fill_bytes (high ∷ low ∷ colon ∷ count) =
+    if is_digit high 16 && is_digit low 16 && colon == 58
+    then option_map (λ n. replicate n (16 * digit_value high + digit_value low)) (number_of count) else None
+fill_bytes _ = None
+
+-- the bytes of a write
+abbrev pub bytes_of : List ℕ → Option (List ℕ)
+bytes_of word =
+    if starts_with nat_eq word (codes "hex:") then hex_bytes (drop 4 word)
+    else if starts_with nat_eq word (codes "text:") then text_bytes (drop 5 word)
+    else if starts_with nat_eq word (codes "fill:") then fill_bytes (drop 5 word)
+    else None

@@ -1,0 +1,67 @@
+use percent_encoding::{AsciiSet, CONTROLS, ascii_set};
+use plain_tree::{Answer, Placed};
+use tape_types::{List, Place, Twin};
+
+/// The bytes that a name or a text in the output escapes, beside those past ASCII.
+pub const ESCAPED: AsciiSet = ascii_set!(CONTROLS.add(b' ').add(b'%'));
+
+/// What a session is told of a call.
+#[derive(Drop)]
+pub enum Reply {
+    /// What the tree answers.
+    Answer(Answer),
+    /// There is no space for it: it needs so many positions, and there are so many.
+    Full { need: u64, limit: u64 },
+    /// The drive failed: its count of faults before and after.
+    Fault(Twin),
+    NoMemory,
+}
+
+/// The place of a sync, and the drive's count of commands when the sync was answered.
+#[derive(Clone, Copy)]
+pub struct Ack {
+    pub place: u64,
+    pub command: u64,
+}
+
+/// What happened to requests, ops and sessions while a volume was served.
+#[derive(Clone, Copy)]
+pub enum Event {
+    Wants {
+        ticket: u64,
+        place: Place,
+    },
+    Queues {
+        place: Place,
+    },
+    Syncs {
+        ticket: u64,
+    },
+    Synced {
+        ticket: u64,
+    },
+    Drains {
+        who: u16,
+    },
+    Rests {
+        who: u16,
+    },
+    Served {
+        ticket: u64,
+        place: Place,
+        fault: Option<Twin>,
+    },
+    Worked {
+        place: Place,
+        fault: Option<Twin>,
+    },
+}
+
+/// What a run did. Each placement of the history has the reply at the same position.
+#[derive(Drop)]
+pub struct Log {
+    pub history: List<Placed>,
+    pub replies: List<Reply>,
+    pub acks: List<Ack>,
+    pub events: List<Event>,
+}
