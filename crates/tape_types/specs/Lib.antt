@@ -1,4 +1,5 @@
 pub mod Counts
 pub mod Moments
 pub mod Names
+pub mod TimeParts
 pub mod Times

@@ -1,10 +1,11 @@
 -- Moments as dates and times of the proleptic Gregorian calendar, and the texts of these (LTFS 2.4, section 7.5).
-use Rattle.std.specs.Prelude.{ℕ, zero, suc, ◌+◌, ◌*◌, ◌/◌, ◌%◌, ℤ, pos, ◌-ℤ◌, unsigned_abs, List, [], ◌∷◌, ◌++◌, count_by, codes}
+use Rattle.std.specs.Prelude.{◌≡◌, ℕ, zero, suc, ◌+◌, ◌*◌, ◌/◌, ◌%◌, ◌<◌, ℤ, pos, ◌+ℤ◌, ◌-ℤ◌, ◌*ℤ◌, unsigned_abs, List, [], ◌∷◌, ◌++◌, count_by, codes}
 use Rattle.std.specs.List.{range_with_len}
 use Rattle.std.specs.Int.{int_div_euclid, int_rem_euclid}
 use Rattle.std.specs.Ordering.{int_cmp, is_le}
-use Rattle.jiff_core.specs.Calendar.{days_from_civil}
+use Rattle.jiff_core.specs.Calendar.{days_from_civil, IsCivilDate}
 use Rattle.tape_types.specs.declared.moments.Moment.{Moment}
+use Rattle.tape_types.specs.declared.times.Civil.{Civil}
 
 -- how many of the years 1 to 9999 have begun by a day, where day 0 is 1 January 1970
 unfoldable pub year_of : ℤ → ℕ
@@ -25,19 +26,35 @@ day_number secs = int_div_euclid secs (pos 86400)
 abbrev pub second_of_day : ℤ → ℕ
 second_of_day secs = unsigned_abs (int_rem_euclid secs (pos 86400))
 
+-- the date and the time of day of a moment
+unfoldable pub civil_of : Moment → Civil
+civil_of m =
+    let day = day_number m.secs in
+    let second = second_of_day m.secs in
+    record { year = year_of day; month = month_of day; day = day_of day; hour = second / 3600; minute = second / 60 % 60; second = second % 60; nanos = m.nanos }
+
 -- the last `width` decimal digits of a number
 abbrev pub digits : ℕ → ℕ → List ℕ
 digits zero n = []
 digits (suc width) n = digits width (n / 10) ++ (48 + n % 10) ∷ []
 
--- the date, as `2024-01-02`
-unfoldable pub date_text : ℤ → List ℕ
-date_text day = digits 4 (year_of day) ++ codes "-" ++ digits 2 (month_of day) ++ codes "-" ++ digits 2 (day_of day)
+-- a date and a time of day, as `2024-01-02T03:04:05.000000000Z`
+unfoldable pub civil_text : Civil → List ℕ
+civil_text c =
+    digits 4 c.year ++ codes "-" ++ digits 2 c.month ++ codes "-" ++ digits 2 c.day
+    ++ codes "T" ++ digits 2 c.hour ++ codes ":" ++ digits 2 c.minute ++ codes ":" ++ digits 2 c.second
+    ++ codes "." ++ digits 9 c.nanos ++ codes "Z"
 
--- the time of day, as `03:04:05`
-unfoldable pub clock_text : ℕ → List ℕ
-clock_text second = digits 2 (second / 3600) ++ codes ":" ++ digits 2 (second / 60 % 60) ++ codes ":" ++ digits 2 (second % 60)
-
--- the moment, as `2024-01-02T03:04:05.000000000Z`
+-- the text of a moment
 unfoldable pub time_text : Moment → List ℕ
-time_text m = date_text (day_number m.secs) ++ codes "T" ++ clock_text (second_of_day m.secs) ++ codes "." ++ digits 9 m.nanos ++ codes "Z"
+time_text m = civil_text (civil_of m)
+
+-- the calendar has this date, the day has this time, and a clock that began with 1970 has then counted the
+-- seconds of the moment
+pub record IsCivil (m : Moment) (c : Civil) : Type 0 where
+  pub date : IsCivilDate (pos c.year) c.month c.day
+  pub hour : c.hour < 24
+  pub minute : c.minute < 60
+  pub second : c.second < 60
+  pub secs : m.secs ≡ days_from_civil (pos c.year) c.month c.day *ℤ pos 86400 +ℤ pos (c.hour * 3600 + c.minute * 60 + c.second)
+  pub nanos : m.nanos ≡ c.nanos

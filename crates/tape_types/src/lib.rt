@@ -6,9 +6,11 @@ mod lists;
 mod moments;
 mod names;
 mod texts;
+mod times;
 
 pub use cartridges::{Cartridge, Item, Limits, Note, Part, Place, Twin};
 pub use lists::List;
 pub use moments::{Moment, Times};
 pub use names::{NameErr, check_name};
 pub use texts::{Bytes, NoMemory, Text};
+pub use times::{parse_time, time_text, times_are_civil};
