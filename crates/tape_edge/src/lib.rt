@@ -1,0 +1,12 @@
+// Where bytes come from and go to, and where moments come from.
+#![tactic(auto)]
+
+mod clocks;
+mod memory;
+mod streams;
+mod traits;
+
+pub use clocks::{StepClock, SystemClock};
+pub use memory::{MemSink, MemSource};
+pub use streams::{ReaderSource, WriterSink};
+pub use traits::{Clock, ReadFault, Sink, Source, WriteFault};
