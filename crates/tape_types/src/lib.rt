@@ -5,6 +5,8 @@ mod cartridges;
 mod lists;
 mod moments;
 mod names;
+#[cfg(test)]
+mod tests;
 mod texts;
 mod times;
 
