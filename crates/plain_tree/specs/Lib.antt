@@ -6,3 +6,4 @@ pub mod Paths
 pub mod RefusalNames
 pub mod Refusals
 pub mod Tree
+pub mod Valid

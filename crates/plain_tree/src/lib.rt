@@ -2,8 +2,11 @@
 #![tactic(auto)]
 
 mod calls;
+mod map_tree;
+mod node_map;
 mod nodes;
 mod paged;
+mod refusals;
 
 pub use calls::{Answer, Call, Entry, Facts, Fate, Placed, Refusal, Sort};
 pub use nodes::{Kind, Node};

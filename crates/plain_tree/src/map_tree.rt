@@ -1,0 +1,218 @@
+ghost use Rattle.std.specs.Prelude.{◌≡◌, ◌<◌, ◌+◌, ◌^◌, [], length, None, OnOk, OnErr, IfOk, IfNone};
+ghost use Rattle.std.specs.Result.{result_err};
+ghost use Rattle.plain_tree.specs.Refusals.{new_refusal, no_file};
+ghost use Rattle.plain_tree.specs.Tree.{empty_tree, new_node, facts_of, sort_of, cells_at};
+ghost use Rattle.plain_tree.specs.Calls.{after, after_unless, answer, answer_unless, with_new, with_length};
+
+use crate::calls::{Answer, Call, Facts, Refusal, Sort};
+use crate::node_map::NodeMap;
+use crate::nodes::{Kind, Node};
+use crate::paged::PagedFile;
+use crate::refusals::{bad_name, no_dir, no_file, no_node, parent, why_missing};
+use std::alloc::Global;
+use std::marker::Model;
+use tape_types::{Moment, NoMemory, Text, Times};
+
+const MOST_NODES: usize = 65536;
+const LONGEST: u64 = 1 << 40;
+const LAST_UID: u64 = 1 << 62;
+
+/// The tree as a map from paths to nodes.
+#[derive(Drop)]
+pub struct MapTree {
+    highest: u64,
+    nodes: NodeMap,
+    alloc: Global,
+}
+
+impl Model for MapTree {
+    ghost use Rattle.std.specs.Prelude.{ℕ, refl};
+    ghost use Rattle.std.specs.FinMap as fin;
+    ghost use Rattle.std.specs.Coded.{coded_list, coded_ℕ, coded×, code_by};
+    ghost use Rattle.plain_tree.specs.declared.nodes.Node.{Node};
+    ghost use Rattle.plain_tree.specs.contracts.nodes.Node as node;
+    ghost use Rattle.plain_tree.specs.Paths.{path_cmp};
+    ghost use Rattle.plain_tree.specs.Tree.{Tree};
+
+    ghost Value = { Tree };
+
+    ghost coded = { code_by (ℕ × fin.FinMap path_cmp Node) (coded× coded_ℕ (fin.code (coded_list (coded_list coded_ℕ)) node.the_row.coded))
+        (λ t. (t.highest, t.nodes)) (λ p. record { highest = p.0; nodes = p.1 }) (λ _. refl) };
+
+    ghost view = { λ a. record { highest = a.highest; nodes = a.nodes } };
+}
+
+impl MapTree {
+    /// The tree with the root alone.
+    pub fn empty(alloc: Global, at: Moment) -> Result<MapTree, NoMemory>
+        ensures { IfOk result (λ t. t ≡ empty_tree at) }
+    {
+        let mut nodes = NodeMap::new(alloc);
+        nodes.insert(Vec::new(alloc), new_node(Kind::Dir, 1, at))?;
+        Ok(MapTree {
+            highest: 1,
+            nodes,
+            alloc,
+        })
+    }
+
+    pub fn create(&mut self, path: &[Text], kind: Kind, at: Moment) -> Result<Answer, NoMemory>
+        ensures answer { IfOk result (λ a. a ≡ answer_unless (new_refusal self.old path.now) Answer.Done) }
+        ensures after { OnOk result (self.new ≡ after_unless (new_refusal self.old path.now) (with_new kind self.old path.now at) self.old) }
+        ensures err { OnErr result (self.new ≡ self.old) }
+    {
+        if let Some(refusal) = self.new_refusal(path)? {
+            return Ok(Answer::Refused(refusal));
+        }
+        let uid = self.highest + 1;
+        let key = clone_path(self.alloc, path)?;
+        self.nodes.insert(key, new_node(kind, uid, at))?;
+        self.nodes.touch(parent(path), at);
+        self.highest = uid;
+        Ok(Answer::Done)
+    }
+
+    pub fn write(&mut self, path: &[Text], offset: u64, bytes: &[u8], at: Moment) -> Result<Answer, NoMemory>
+        ensures answer { IfOk result (λ a. a ≡ answer self.old (Call.Write path.now offset bytes.now)) }
+        ensures after { OnOk result (self.new ≡ after self.old (Call.Write path.now offset bytes.now) at) }
+        ensures err { OnErr result (self.new ≡ self.old) }
+    {
+        if let Some(refusal) = no_file(&self.nodes, path) {
+            return Ok(Answer::Refused(refusal));
+        }
+        if offset > LONGEST || bytes.len() as u64 > LONGEST - offset {
+            return Ok(Answer::Refused(Refusal::TooLong));
+        }
+        if !bytes.is_empty() {
+            self.nodes.write(path, offset, bytes, at)?;
+        }
+        Ok(Answer::Done)
+    }
+
+    pub fn truncate(&mut self, path: &[Text], size: u64, at: Moment) -> Answer
+        ensures answer { result ≡ answer self.old (Call.Truncate path.now size) }
+        ensures after { self.new ≡ after self.old (Call.Truncate path.now size) at }
+    {
+        match file_length(&self.nodes, path) {
+            Err(refusal) => Answer::Refused(refusal),
+            Ok(_) if size > LONGEST => Answer::Refused(Refusal::TooLong),
+            Ok(present) => {
+                if size != present {
+                    self.nodes.resize(path, size, at);
+                }
+                Answer::Done
+            }
+        }
+    }
+
+    pub fn read(&self, path: &[Text], offset: u64, count: u64) -> Result<Answer, NoMemory>
+        ensures { IfOk result (λ a. a ≡ answer self.now (Call.Read path.now offset count)) }
+    {
+        match self.nodes.get(path) {
+            None => Ok(Answer::Refused(why_missing(&self.nodes, path))),
+            Some(node) => match &node.kind {
+                Kind::Dir => Ok(Answer::Refused(Refusal::IsDir)),
+                Kind::Link(_) => Ok(Answer::Refused(Refusal::IsLink)),
+                Kind::File(file) => Ok(Answer::Got(file.read(offset, count)?)),
+            },
+        }
+    }
+
+    pub fn stat(&self, path: &[Text]) -> Result<Answer, NoMemory>
+        ensures { IfOk result (λ a. a ≡ answer self.now (Call.Stat path.now)) }
+    {
+        match self.nodes.get(path) {
+            None => Ok(Answer::Refused(why_missing(&self.nodes, path))),
+            Some(node) => Ok(Answer::Facts(facts_of(self.alloc, node)?)),
+        }
+    }
+
+    /// Why a new node may not stand at the path.
+    fn new_refusal(&self, path: &[Text]) -> Result<Option<Refusal>, NoMemory>
+        ensures value { IfOk result (λ refusal. refusal ≡ new_refusal self.now path.now) }
+        ensures room { IfOk result (λ refusal. IfNone refusal ((0 < length path.now) × (self.now.highest < 2 ^ 62))) }
+    {
+        if let Some(refusal) = bad_name(self.alloc, path)? {
+            return Ok(Some(refusal));
+        }
+        if path.is_empty() {
+            return Ok(Some(Refusal::Root));
+        }
+        if let Some(refusal) = no_dir(&self.nodes, parent(path)) {
+            return Ok(Some(refusal));
+        }
+        if self.nodes.contains(path) {
+            return Ok(Some(Refusal::Exists));
+        }
+        if self.nodes.len() >= MOST_NODES || self.highest >= LAST_UID {
+            return Ok(Some(Refusal::TooMany));
+        }
+        Ok(None)
+    }
+}
+
+fn new_node(kind: Kind, uid: u64, at: Moment) -> Node
+    ensures { result ≡ new_node kind uid at }
+{
+    Node {
+        uid,
+        times: Times::all_at(at),
+        readonly: false,
+        kind,
+    }
+}
+
+/// The length of the file at a path, or why it is no file.
+fn file_length(nodes: &NodeMap, path: &[Text]) -> Result<u64, Refusal>
+    ensures refusal { result_err result ≡ no_file nodes.now path.now }
+    ensures length { IfOk result (λ n. n ≡ length (cells_at nodes.now path.now)) }
+{
+    match nodes.get(path) {
+        None => Err(why_missing(nodes, path)),
+        Some(node) => match &node.kind {
+            Kind::Dir => Err(Refusal::IsDir),
+            Kind::File(file) => Ok(file.len()),
+            Kind::Link(_) => Err(Refusal::IsLink),
+        },
+    }
+}
+
+fn facts_of(alloc: Global, node: &Node) -> Result<Facts, NoMemory>
+    ensures { IfOk result (λ facts. facts ≡ facts_of node.now) }
+{
+    let length = match &node.kind {
+        Kind::File(file) => file.len(),
+        Kind::Dir | Kind::Link(_) => 0,
+    };
+    let text = match &node.kind {
+        Kind::Link(text) => text.try_clone(alloc)?,
+        Kind::Dir | Kind::File(_) => Text::from_string(String::new(alloc)),
+    };
+    Ok(Facts {
+        sort: sort_of(&node.kind),
+        uid: node.uid,
+        length,
+        text,
+        times: node.times,
+    })
+}
+
+fn sort_of(kind: &Kind) -> Sort
+    ensures { result ≡ sort_of kind.now }
+{
+    match kind {
+        Kind::Dir => Sort::Dir,
+        Kind::File(_) => Sort::File,
+        Kind::Link(_) => Sort::Link,
+    }
+}
+
+fn clone_path(alloc: Global, path: &[Text]) -> Result<Vec<Text>, NoMemory>
+    ensures { IfOk result (λ copy. copy.items ≡ path.now) }
+{
+    let mut copy = Vec::with_capacity(alloc, path.len())?;
+    for name in path {
+        copy.push(name.try_clone(alloc)?)?;
+    }
+    Ok(copy)
+}

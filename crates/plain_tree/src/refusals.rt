@@ -1,0 +1,103 @@
+ghost use Rattle.std.specs.Prelude.{◌≡◌, length, IfOk};
+ghost use Rattle.plain_tree.specs.Paths.{parent_of, same_path, is_at_or_below, is_below};
+ghost use Rattle.plain_tree.specs.Refusals.{bad_name, why_missing, no_node, no_dir, no_file};
+
+use crate::calls::Refusal;
+use crate::node_map::NodeMap;
+use crate::nodes::Kind;
+use std::alloc::Global;
+use tape_types::{NameErr, NoMemory, Text, check_name};
+
+/// Whether the last name is one that no node may have.
+pub fn bad_name(alloc: Global, path: &[Text]) -> Result<Option<Refusal>, NoMemory>
+    ensures { IfOk result (λ refusal. refusal ≡ bad_name path.now) }
+{
+    let Some(name) = path.last() else {
+        return Ok(None);
+    };
+    match check_name(alloc, name.as_str()) {
+        Ok(()) => Ok(None),
+        Err(NameErr::NoMemory) => Err(NoMemory),
+        Err(_) => Ok(Some(Refusal::BadName)),
+    }
+}
+
+/// Why a path that isn't there isn't: its longest front that is there decides.
+pub fn why_missing(nodes: &NodeMap, path: &[Text]) -> Refusal
+    ensures { result ≡ why_missing nodes.now path.now (length path.now) }
+{
+    let mut n = path.len();
+    while n > 0 {
+        n -= 1;
+        if let Some(node) = nodes.get(&path[..n]) {
+            return match &node.kind {
+                Kind::Dir => Refusal::NotFound,
+                Kind::File(_) | Kind::Link(_) => Refusal::NotDir,
+            };
+        }
+    }
+    Refusal::NotFound
+}
+
+/// Why nothing stands at a path.
+pub fn no_node(nodes: &NodeMap, path: &[Text]) -> Option<Refusal>
+    ensures { result ≡ no_node nodes.now path.now }
+{
+    match nodes.get(path) {
+        Some(_) => None,
+        None => Some(why_missing(nodes, path)),
+    }
+}
+
+/// Why a path is no directory.
+pub fn no_dir(nodes: &NodeMap, path: &[Text]) -> Option<Refusal>
+    ensures { result ≡ no_dir nodes.now path.now }
+{
+    match nodes.get(path) {
+        Some(node) => match &node.kind {
+            Kind::Dir => None,
+            Kind::File(_) | Kind::Link(_) => Some(Refusal::NotDir),
+        },
+        None => Some(why_missing(nodes, path)),
+    }
+}
+
+/// Why a path is no file.
+pub fn no_file(nodes: &NodeMap, path: &[Text]) -> Option<Refusal>
+    ensures { result ≡ no_file nodes.now path.now }
+{
+    match nodes.get(path) {
+        Some(node) => match &node.kind {
+            Kind::Dir => Some(Refusal::IsDir),
+            Kind::File(_) => None,
+            Kind::Link(_) => Some(Refusal::IsLink),
+        },
+        None => Some(why_missing(nodes, path)),
+    }
+}
+
+/// The path without its last name.
+pub fn parent(path: &[Text]) -> &[Text]
+    ensures { result.now ≡ parent_of path.now }
+{
+    &path[..path.len().saturating_sub(1)]
+}
+
+pub fn same_path(a: &[Text], b: &[Text]) -> bool
+    ensures { result ≡ same_path a.now b.now }
+{
+    a == b
+}
+
+/// Whether the second path is the first one, or goes on from it.
+pub fn is_at_or_below(front: &[Text], path: &[Text]) -> bool
+    ensures { result ≡ is_at_or_below front.now path.now }
+{
+    path.starts_with(front)
+}
+
+pub fn is_below(front: &[Text], path: &[Text]) -> bool
+    ensures { result ≡ is_below front.now path.now }
+{
+    is_at_or_below(front, path) && path.len() != front.len()
+}
