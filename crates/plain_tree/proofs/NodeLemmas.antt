@@ -1,5 +1,5 @@
 -- A map whose keys show paths, seen as a finite map from paths.
-use Rattle.std.proofs.Common.{Option, ◌≡◌, ℕ, ◌+◌, ◌-◌, Bool, true, false, cond, List, [], ◌∷◌, length, Some, None, is_some, sym, ap, ◌∙◌, refl, arith}
+use Rattle.std.proofs.Common.{Option, IsSome, ◌≡◌, ℕ, ◌+◌, ◌-◌, Bool, true, false, cond, List, [], ◌∷◌, length, Some, None, is_some, sym, ap, ◌∙◌, refl, arith}
 use Rattle.std.specs.declared.cmp.Ordering.{Ordering}
 use Rattle.std.specs.declared.cmp.Ordering.TheVariants.{Less, Equal, Greater}
 use Rattle.std.specs.Ordering.{is_eq, match_ordering}
@@ -188,3 +188,11 @@ module _ {K X : Type 0} (path : K → List (List ℕ)) where
       ap (λ l. fin.len (nodes_of path l)) is ∙ ap fin.len (nodes_remove es p sorted) ∙ fin.len-remove path_total (nodes_of path es) p
       ∙ ap (λ o. cond (is_some o) (fin.len (nodes_of path es) - 1) (fin.len (nodes_of path es))) (get_nodes path es p)
       ∙ ap (λ n. cond (is_some (lookup (at path p) es)) (n - 1) n) was ∙ counted_less _ _ _ count
+
+-- a path that is there isn't missing
+no_some : {X : Type 0} (o : Option X) → None ≡ o → IsSome o → ⊥
+no_some None is some = cc
+no_some (Some x) is some = cc
+
+pub not_missing : {K X : Type 0} (path : K → List (List ℕ)) (es : List (K × X)) (m : fin.FinMap path_cmp X) (p : List (List ℕ)) → nodes_of path es ≡ m → None ≡ lookup (at path p) es → IsSome (fin.get m p) → ⊥
+not_missing path es m p view missing some = no_some (fin.get m p) (missing ∙ sym (get_nodes path es p) ∙ ap (λ m. fin.get m p) view) some

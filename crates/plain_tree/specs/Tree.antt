@@ -96,9 +96,10 @@ cells_at nodes path = found (fin.get nodes path)
 abbrev pub facts_of : Node → Facts
 facts_of node = record { sort = sort_of node.kind; uid = node.uid; length = length (cells_of_kind node.kind); text = text_of_kind node.kind; times = node.times }
 
+-- the line of a node that stands directly in a directory
+abbrev pub entry_in : List (List ℕ) → (List (List ℕ) × Node) → Option Entry
+entry_in dir e = option_map (λ name. record { sort = sort_of e.1.kind; name = name }) (name_in dir e.0)
+
 -- what stands directly in a directory, by the bytes of the names
 abbrev pub entries_in : Nodes → List (List ℕ) → List Entry
-entries_in nodes dir = filter_map entry (fin.entries nodes)
-  where
-    entry : (List (List ℕ) × Node) → Option Entry
-    entry e = option_map (λ name. record { sort = sort_of e.1.kind; name = name }) (name_in dir e.0)
+entries_in nodes dir = filter_map (entry_in dir) (fin.entries nodes)

@@ -3,10 +3,14 @@
 
 mod calls;
 mod map_tree;
+mod moves;
 mod node_map;
 mod nodes;
 mod paged;
+mod paths;
+mod plain;
 mod refusals;
 
 pub use calls::{Answer, Call, Entry, Facts, Fate, Placed, Refusal, Sort};
 pub use nodes::{Kind, Node};
+pub use plain::Plain;

@@ -1,14 +1,16 @@
 ghost use Rattle.std.specs.Prelude.{◌≡◌, ◌<◌, ◌+◌, ◌^◌, [], length, None, OnOk, OnErr, IfOk, IfNone};
 ghost use Rattle.std.specs.Result.{result_err};
-ghost use Rattle.plain_tree.specs.Refusals.{new_refusal, no_file};
+ghost use Rattle.plain_tree.specs.Refusals.{new_refusal, rename_refusal, no_file};
+ghost use Rattle.plain_tree.specs.Valid.{IsValid};
 ghost use Rattle.plain_tree.specs.Tree.{empty_tree, new_node, facts_of, sort_of, cells_at};
 ghost use Rattle.plain_tree.specs.Calls.{after, after_unless, answer, answer_unless, with_new, with_length};
 
-use crate::calls::{Answer, Call, Facts, Refusal, Sort};
-use crate::node_map::NodeMap;
+use crate::calls::{Answer, Call, Facts, Refusal};
+use crate::node_map::{NodeMap, sort_of};
 use crate::nodes::{Kind, Node};
 use crate::paged::PagedFile;
-use crate::refusals::{bad_name, no_dir, no_file, no_node, parent, why_missing};
+use crate::paths::{clone_path, is_below, parent, same_path};
+use crate::refusals::{bad_name, no_dir, no_file, no_node, why_missing};
 use std::alloc::Global;
 use std::marker::Model;
 use tape_types::{Moment, NoMemory, Text, Times};
@@ -56,7 +58,35 @@ impl MapTree {
         })
     }
 
-    pub fn create(&mut self, path: &[Text], kind: Kind, at: Moment) -> Result<Answer, NoMemory>
+    /// Answers a call, and changes the tree as it says. Without memory nothing changes.
+    pub fn apply(&mut self, call: &Call, at: Moment) -> Result<Answer, NoMemory>
+        requires { IsValid self.old }
+        ensures answer { IfOk result (λ a. a ≡ answer self.old call.now) }
+        ensures after { OnOk result (self.new ≡ after self.old call.now at) }
+        ensures err { OnErr result (self.new ≡ self.old) }
+    {
+        match call {
+            Call::Mkdir { path } => self.create(path.as_slice(), Kind::Dir, at),
+            Call::Create { path } => {
+                let file = Kind::File(PagedFile::new(self.alloc));
+                self.create(path.as_slice(), file, at)
+            }
+            Call::Write { path, offset, bytes } => self.write(path.as_slice(), *offset, bytes.as_slice(), at),
+            Call::Truncate { path, length } => Ok(self.truncate(path.as_slice(), *length, at)),
+            Call::Read {
+                path,
+                offset,
+                count,
+            } => self.read(path.as_slice(), *offset, *count),
+            Call::Listing { path } => self.list(path.as_slice()),
+            Call::Stat { path } => self.stat(path.as_slice()),
+            Call::Rename { from, to } => self.rename(from.as_slice(), to.as_slice(), at),
+            Call::Remove { path } => Ok(self.remove(path.as_slice(), at)),
+            Call::Sync => Ok(Answer::Synced),
+        }
+    }
+
+    fn create(&mut self, path: &[Text], kind: Kind, at: Moment) -> Result<Answer, NoMemory>
         ensures answer { IfOk result (λ a. a ≡ answer_unless (new_refusal self.old path.now) Answer.Done) }
         ensures after { OnOk result (self.new ≡ after_unless (new_refusal self.old path.now) (with_new kind self.old path.now at) self.old) }
         ensures err { OnErr result (self.new ≡ self.old) }
@@ -72,7 +102,7 @@ impl MapTree {
         Ok(Answer::Done)
     }
 
-    pub fn write(&mut self, path: &[Text], offset: u64, bytes: &[u8], at: Moment) -> Result<Answer, NoMemory>
+    fn write(&mut self, path: &[Text], offset: u64, bytes: &[u8], at: Moment) -> Result<Answer, NoMemory>
         ensures answer { IfOk result (λ a. a ≡ answer self.old (Call.Write path.now offset bytes.now)) }
         ensures after { OnOk result (self.new ≡ after self.old (Call.Write path.now offset bytes.now) at) }
         ensures err { OnErr result (self.new ≡ self.old) }
@@ -89,7 +119,7 @@ impl MapTree {
         Ok(Answer::Done)
     }
 
-    pub fn truncate(&mut self, path: &[Text], size: u64, at: Moment) -> Answer
+    fn truncate(&mut self, path: &[Text], size: u64, at: Moment) -> Answer
         ensures answer { result ≡ answer self.old (Call.Truncate path.now size) }
         ensures after { self.new ≡ after self.old (Call.Truncate path.now size) at }
     {
@@ -105,7 +135,7 @@ impl MapTree {
         }
     }
 
-    pub fn read(&self, path: &[Text], offset: u64, count: u64) -> Result<Answer, NoMemory>
+    fn read(&self, path: &[Text], offset: u64, count: u64) -> Result<Answer, NoMemory>
         ensures { IfOk result (λ a. a ≡ answer self.now (Call.Read path.now offset count)) }
     {
         match self.nodes.get(path) {
@@ -118,13 +148,86 @@ impl MapTree {
         }
     }
 
-    pub fn stat(&self, path: &[Text]) -> Result<Answer, NoMemory>
+    fn list(&self, path: &[Text]) -> Result<Answer, NoMemory>
+        ensures { IfOk result (λ a. a ≡ answer self.now (Call.Listing path.now)) }
+    {
+        match no_dir(&self.nodes, path) {
+            Some(refusal) => Ok(Answer::Refused(refusal)),
+            None => Ok(Answer::Names(self.nodes.list(self.alloc, path)?)),
+        }
+    }
+
+    fn remove(&mut self, path: &[Text], at: Moment) -> Answer
+        ensures answer { result ≡ answer self.old (Call.Remove path.now) }
+        ensures after { self.new ≡ after self.old (Call.Remove path.now) at }
+    {
+        if path.is_empty() {
+            return Answer::Refused(Refusal::Root);
+        }
+        if let Some(refusal) = no_node(&self.nodes, path) {
+            return Answer::Refused(refusal);
+        }
+        if self.nodes.has_entries(path) {
+            return Answer::Refused(Refusal::NotEmpty);
+        }
+        let _node = self.nodes.remove(path);
+        self.nodes.touch(parent(path), at);
+        Answer::Done
+    }
+
+    fn stat(&self, path: &[Text]) -> Result<Answer, NoMemory>
         ensures { IfOk result (λ a. a ≡ answer self.now (Call.Stat path.now)) }
     {
         match self.nodes.get(path) {
             None => Ok(Answer::Refused(why_missing(&self.nodes, path))),
             Some(node) => Ok(Answer::Facts(facts_of(self.alloc, node)?)),
         }
+    }
+
+    fn rename(&mut self, from: &[Text], to: &[Text], at: Moment) -> Result<Answer, NoMemory>
+        requires { IsValid self.old }
+        ensures answer { IfOk result (λ a. a ≡ answer self.old (Call.Rename from.now to.now)) }
+        ensures after { OnOk result (self.new ≡ after self.old (Call.Rename from.now to.now) at) }
+        ensures err { OnErr result (self.new ≡ self.old) }
+    {
+        if let Some(refusal) = self.rename_refusal(from, to)? {
+            return Ok(Answer::Refused(refusal));
+        }
+        if !same_path(from, to) {
+            self.nodes.rename(self.alloc, from, to)?;
+            self.nodes.note_change(to, at);
+            self.nodes.touch(parent(from), at);
+            self.nodes.touch(parent(to), at);
+        }
+        Ok(Answer::Done)
+    }
+
+    /// Why a node may not move to another path.
+    fn rename_refusal(&self, from: &[Text], to: &[Text]) -> Result<Option<Refusal>, NoMemory>
+        ensures { IfOk result (λ refusal. refusal ≡ rename_refusal self.now.nodes from.now to.now) }
+    {
+        if let Some(refusal) = bad_name(self.alloc, to)? {
+            return Ok(Some(refusal));
+        }
+        if from.is_empty() || to.is_empty() {
+            return Ok(Some(Refusal::Root));
+        }
+        if let Some(refusal) = no_node(&self.nodes, from) {
+            return Ok(Some(refusal));
+        }
+        if let Some(refusal) = no_dir(&self.nodes, parent(to)) {
+            return Ok(Some(refusal));
+        }
+        if same_path(from, to) {
+            return Ok(None);
+        }
+        if self.nodes.contains(to) {
+            return Ok(Some(Refusal::Exists));
+        }
+        if is_below(from, to) {
+            return Ok(Some(Refusal::Inside));
+        }
+        Ok(None)
     }
 
     /// Why a new node may not stand at the path.
@@ -195,24 +298,4 @@ fn facts_of(alloc: Global, node: &Node) -> Result<Facts, NoMemory>
         text,
         times: node.times,
     })
-}
-
-fn sort_of(kind: &Kind) -> Sort
-    ensures { result ≡ sort_of kind.now }
-{
-    match kind {
-        Kind::Dir => Sort::Dir,
-        Kind::File(_) => Sort::File,
-        Kind::Link(_) => Sort::Link,
-    }
-}
-
-fn clone_path(alloc: Global, path: &[Text]) -> Result<Vec<Text>, NoMemory>
-    ensures { IfOk result (λ copy. copy.items ≡ path.now) }
-{
-    let mut copy = Vec::with_capacity(alloc, path.len())?;
-    for name in path {
-        copy.push(name.try_clone(alloc)?)?;
-    }
-    Ok(copy)
 }

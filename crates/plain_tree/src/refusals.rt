@@ -1,5 +1,4 @@
 ghost use Rattle.std.specs.Prelude.{◌≡◌, length, IfOk};
-ghost use Rattle.plain_tree.specs.Paths.{parent_of, same_path, is_at_or_below, is_below};
 ghost use Rattle.plain_tree.specs.Refusals.{bad_name, why_missing, no_node, no_dir, no_file};
 
 use crate::calls::Refusal;
@@ -74,30 +73,4 @@ pub fn no_file(nodes: &NodeMap, path: &[Text]) -> Option<Refusal>
         },
         None => Some(why_missing(nodes, path)),
     }
-}
-
-/// The path without its last name.
-pub fn parent(path: &[Text]) -> &[Text]
-    ensures { result.now ≡ parent_of path.now }
-{
-    &path[..path.len().saturating_sub(1)]
-}
-
-pub fn same_path(a: &[Text], b: &[Text]) -> bool
-    ensures { result ≡ same_path a.now b.now }
-{
-    a == b
-}
-
-/// Whether the second path is the first one, or goes on from it.
-pub fn is_at_or_below(front: &[Text], path: &[Text]) -> bool
-    ensures { result ≡ is_at_or_below front.now path.now }
-{
-    path.starts_with(front)
-}
-
-pub fn is_below(front: &[Text], path: &[Text]) -> bool
-    ensures { result ≡ is_below front.now path.now }
-{
-    is_at_or_below(front, path) && path.len() != front.len()
 }

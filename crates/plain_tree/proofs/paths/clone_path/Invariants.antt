@@ -1,5 +1,5 @@
 use Rattle.std.proofs.Common.{◌≡◌, take}
-use Rattle.plain_tree.proofs.map_tree.clone_path.Given as goal
+use Rattle.plain_tree.proofs.paths.clone_path.Given as goal
 
 abbrev pub invariant-loop-name : goal.invariant-loop-name
 invariant-loop-name l = l.copy.items ≡ take l.name-index l.path
