@@ -24,7 +24,7 @@ use Rattle.plain_tree.proofs.NodeLemmas.{path_total, path_exact, key_cmp, get_no
 abbrev name_cmp : List ℕ → List ℕ → Ordering
 name_cmp x y = slice_cmp nat_cmp x y
 
-both_true : (a b : Bool) → (a && b) ≡ true → (a ≡ true) × (b ≡ true)
+pub both_true : (a b : Bool) → (a && b) ≡ true → (a ≡ true) × (b ≡ true)
 both_true true b e = (refl, e)
 both_true false b e = cc
 

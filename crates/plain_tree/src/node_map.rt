@@ -1,4 +1,5 @@
 ghost use Rattle.std.specs.Prelude.{◌≡◌, ℕ, List, fold, false, None, ◌<◌, ◌+◌, ◌^◌, ◌≤◌, length, map, nat_lt, true, Some, IsSome, OnOk, OnErr, IfOk};
+ghost use Rattle.std.specs.List.{All};
 ghost use Rattle.std.specs.Option.{option_copied};
 ghost use Rattle.std.specs.FinMap as fin;
 ghost use Rattle.plain_tree.specs.Cells.{written, resized};
@@ -160,7 +161,7 @@ impl NodeMap {
 
     /// Puts a node at the end of each move, which takes the memory that the moves need.
     fn reserve(&mut self, alloc: Global, moves: &[Move]) -> Result<(), NoMemory>
-        ensures there { OnOk result ((path : List (List ℕ)) → is_end moves.now path ≡ true → IsSome (fin.get self.new path)) }
+        ensures there { OnOk result (All (λ m. IsSome (fin.get self.new m.to)) moves.now) }
         ensures others { (path : List (List ℕ)) → is_end moves.now path ≡ false → fin.get self.new path ≡ fin.get self.old path }
     {
         for m in moves {
@@ -182,7 +183,6 @@ impl NodeMap {
 
     /// Takes each node from its start to its end, where something stands.
     fn carry(&mut self, moves: &[Move])
-        requires { (path : List (List ℕ)) → is_end moves.now path ≡ true → IsSome (fin.get self.old path) }
         ensures { self.new ≡ fold carried self.old moves.now }
     {
         for m in moves {
@@ -192,13 +192,13 @@ impl NodeMap {
         }
     }
 
-    /// Puts a node in place of the one at a path. Takes no memory.
+    /// Puts a node in place of the one at a path, where there is one. Takes no memory.
     fn replace(&mut self, path: &[Text], node: Node)
-        requires { IsSome (fin.get self.old path.now) }
-        ensures { self.new ≡ fin.insert self.old path.now node }
+        ensures { self.new ≡ changed_at (λ _. node) path.now self.old }
     {
-        if let Some(place) = self.by_path.get_mut(path) {
-            *place = node;
+        match self.by_path.get_mut(path) {
+            Some(place) => put_node(place, node),
+            None => drop(node),
         }
     }
 
@@ -324,4 +324,10 @@ fn placeholder() -> Node {
         readonly: false,
         kind: Kind::Dir,
     }
+}
+
+fn put_node(place: &mut Node, node: Node)
+    ensures { place.new ≡ node }
+{
+    *place = node;
 }

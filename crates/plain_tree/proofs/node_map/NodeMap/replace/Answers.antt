@@ -1,0 +1,25 @@
+use Rattle.std.proofs.Common.{is_some, sym, ap, ◌∙◌}
+use Rattle.plain_tree.specs.Tree.{changed_at, touched, change_noted, file_changed}
+use Rattle.plain_tree.proofs.NodeLemmas.{nodes_changed, nodes_unchanged, len_set}
+use Rattle.plain_tree.proofs.node_map.NodeMap.replace.Goals as goal
+use Rattle.plain_tree.proofs.node_map.NodeMap.replace.Goals.{in-Some, in-None}
+
+pub invariant_of-self : goal.invariant_of-self
+invariant_of-self c =
+    let es = c.self.inside.by_path.entries in
+    elim c.match-get_mut.branch [
+      | in-Some w ↦
+          let through = c.get_mut.follows.holds w.put_node.new.place in
+          rw w.self-inside-is (len_set (λ k. k.items) es _ c.args.path.now w.put_node.new.place (ap is_some (sym w.in-Some.ensures.value)) through.0 through.2 c.self.invariant)
+      | in-None w ↦ rw (w.self-inside-is, c.get_mut.follows.holds-at-none) c.self.invariant
+    ]
+
+pub returns : goal.returns
+returns c =
+    let es = c.self.inside.by_path.entries in
+    elim c.match-get_mut.branch [
+      | in-Some w ↦
+          let through = c.get_mut.follows.holds w.put_node.new.place in
+          rw w.self-inside-is (nodes_changed (λ k. k.items) es _ c.args.path.now (λ _. c.args.node) w.in-Some.place.now w.put_node.new.place w.in-Some.ensures.value through.0 w.put_node.ensures ∙ ap (changed_at (λ _. c.args.node) c.args.path.now) c.self.view_is)
+      | in-None w ↦ rw (w.self-inside-is, c.get_mut.follows.holds-at-none) (nodes_unchanged (λ k. k.items) es c.args.path.now (λ _. c.args.node) w.in-None.ensures.value ∙ ap (changed_at (λ _. c.args.node) c.args.path.now) c.self.view_is)
+    ]
