@@ -1,25 +1,24 @@
 -- What stands at or below a path comes in one run of the paths in order.
-use Rattle.std.proofs.Common.{Option, ◌≡◌, ℕ, suc, ◌+◌, ◌-◌, eqb, get_or, Bool, true, false, cond, ◌&&◌, not, nat_eq, List, [], ◌∷◌, ◌++◌, length, take, map, Some, None, is_some, sym, ap, ◌∙◌, refl, subst, T, nat_lt, arith}
+use Rattle.std.proofs.Common.{◌≡◌, ℕ, suc, ◌+◌, ◌-◌, eqb, get_or, Bool, true, false, cond, ◌&&◌, not, nat_eq, List, [], ◌∷◌, length, map, Some, None, sym, ap, ◌∙◌, refl, subst, T, nat_lt, arith}
 use Rattle.std.specs.declared.cmp.Ordering.{Ordering}
 use Rattle.std.specs.declared.cmp.Ordering.TheVariants.{Less, Equal, Greater}
 use Rattle.std.specs.declared.ops.Bound.TheVariants.{Included, Unbounded}
 use Rattle.std.specs.Ordering.{is_eq, is_gt, is_le, is_lt, nat_cmp, ordering_then, ordering_reverse}
-use Rattle.std.specs.Cmp.{IsTotalOrder}
 use Rattle.std.specs.Cmp.Lexicographic.{slice_cmp, pointwise, texts_ties, nat_list_cmp_total}
-use Rattle.std.specs.List.{filter, filter_map, cons_option, AllByRecursion, starts_with}
+use Rattle.std.specs.List.{filter, filter_map, cons_option, AllByRecursion}
 use Rattle.std.specs.List.Sorted.{IsStrictlySortedBy}
 use Rattle.std.specs.Map.{keys_of}
 use Rattle.std.specs.BTreeMap.Range.{entries_between}
 use Rattle.std.specs.FinMap as fin
 use Rattle.plain_tree.specs.declared.nodes.Node.{Node}
 use Rattle.plain_tree.specs.declared.calls.Entry.{Entry}
-use Rattle.plain_tree.specs.Paths.{path_cmp, nodes_of, is_at_or_below, is_below, name_in, last_name}
+use Rattle.plain_tree.specs.Paths.{path_cmp, nodes_of, is_at_or_below, name_in, last_name}
 use Rattle.plain_tree.specs.Tree.{entry_in, entries_in, sort_of}
 use Rattle.std.specs.Option.{option_map}
 use Rattle.std.proofs.lemmas.Option.{slice_get-get_or}
 use Rattle.std.proofs.lemmas.Bool.Decides.{nat_tests}
 use Rattle.plain_tree.proofs.PageLemmas.{ltb-is_true}
-use Rattle.plain_tree.proofs.NodeLemmas.{path_total, path_exact, key_cmp, get_nodes}
+use Rattle.plain_tree.proofs.NodeLemmas.{path_total, path_exact, key_cmp}
 
 abbrev name_cmp : List ℕ → List ℕ → Ordering
 name_cmp x y = slice_cmp nat_cmp x y
@@ -125,7 +124,7 @@ module _ {K X : Type 0} (path : K → List (List ℕ)) where
   entries_shown es sorted =
       let is : T (fin.is_sorted path_cmp (shown path es)) = subst T (sym (sorted_paths es sorted)) tt in
       ap fin.entries (fin.same_map path_total path_exact (nodes_of path es) (fin.from_sorted (shown path es)) (λ q.
-        fin.get-from_entries path_total (shown path es) q ∙ sym (fin.get-from_sorted path_cmp (shown path es) q is)))
+      fin.get-from_entries path_total (shown path es) q ∙ sym (fin.get-from_sorted path_cmp (shown path es) q is)))
       ∙ fin.entries-from_sorted path_cmp (shown path es) is
 
 module _ {K : Type 0} (path : K → List (List ℕ)) where

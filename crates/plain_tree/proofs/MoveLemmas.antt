@@ -1,5 +1,5 @@
 -- What moving a node with all below it does to each path.
-use Rattle.std.proofs.Common.{Option, IsSome, ◌≡◌, ℕ, zero, suc, ◌+◌, ◌<◌, Bool, true, false, cond, ◌&&◌, ◌||◌, nat_eq, List, [], ◌∷◌, ◌++◌, length, take, drop, map, fold, get_or, Some, None, is_some, sym, ap, ◌∙◌, refl, subst, T, arith, Decides}
+use Rattle.std.proofs.Common.{Option, IsSome, ◌≡◌, ℕ, zero, suc, ◌+◌, ◌<◌, Bool, true, false, cond, ◌&&◌, ◌||◌, List, [], ◌∷◌, ◌++◌, length, take, drop, map, fold, get_or, Some, None, is_some, sym, ap, ◌∙◌, refl, subst, T, arith, Decides}
 use Rattle.std.specs.declared.cmp.Ordering.{Ordering}
 use Rattle.std.specs.declared.cmp.Ordering.TheVariants.{Less, Equal, Greater}
 use Rattle.std.specs.Ordering.{is_eq, is_lt}
@@ -9,7 +9,6 @@ use Rattle.std.proofs.lemmas.Cmp.{tied_itself}
 use Rattle.std.proofs.lemmas.Slice.Eq.{slice_eq-Decides}
 use Rattle.std.proofs.lemmas.List.{take-append-drop, take_at, drop_at, take_more}
 use Rattle.std.proofs.lemmas.Map.Views.{any-filter_same}
-use Rattle.std.specs.Cmp.Lexicographic.{pointwise}
 use Rattle.std.specs.List.{filter, list_any, All}
 use Rattle.std.proofs.lemmas.List.Elements.{All-head, All-tail}
 use Rattle.std.specs.List.Sorted.{IsStrictlySortedBy}
@@ -37,7 +36,7 @@ same_self x = ap is_eq (tied_itself path_total x)
 pub is_same : (x y : List (List ℕ)) → x ≡ y → same_path x y ≡ true
 is_same x y e = subst (λ z. same_path x z ≡ true) e (same_self x)
 
-below_Decides : (d q : List (List ℕ)) → Decides (is_at_or_below d q) (d ≡ take (length d) q)
+pub below_Decides : (d q : List (List ℕ)) → Decides (is_at_or_below d q) (d ≡ take (length d) q)
 below_Decides d q = slice_eq-Decides (λ x y. slice_eq-Decides unsigned_Decides x y _ refl) d (take (length d) q) _ refl
 
 -- a path below another is that path, and more names
@@ -242,11 +241,11 @@ module _ (from to : List (List ℕ)) where
   came_from : (k q : List (List ℕ)) → is_at_or_below from k ≡ true → is_at_or_below to q ≡ true → same_path q (moved_path from to k) ≡ same_path (back q) k
   came_from k q below at = both_ways _ _
       (λ same. is_same (back q) k (
-        ap (λ p. from ++ drop (length to) p) (same_is q (moved_path from to k) same ∙ moved_below from to k below)
-        ∙ ap (λ r. from ++ r) (drop_at to (drop (length from) k) (length to) refl) ∙ sym (below_split from k below)))
+      ap (λ p. from ++ drop (length to) p) (same_is q (moved_path from to k) same ∙ moved_below from to k below)
+      ∙ ap (λ r. from ++ r) (drop_at to (drop (length from) k) (length to) refl) ∙ sym (below_split from k below)))
       (λ same. is_same q (moved_path from to k) (
-        below_split to q at ∙ ap (λ r. to ++ r) (sym (drop_at from (drop (length to) q) (length from) refl) ∙ ap (drop (length from)) (same_is (back q) k same))
-        ∙ sym (moved_below from to k below)))
+      below_split to q at ∙ ap (λ r. to ++ r) (sym (drop_at from (drop (length to) q) (length from) refl) ∙ ap (drop (length from)) (same_is (back q) k same))
+      ∙ sym (moved_below from to k below)))
 
   pub ends_starts : (ks : List (List (List ℕ))) (q : List (List ℕ)) → AllBelow ks → is_at_or_below to q ≡ true → ends ks q ≡ starts ks (back q)
   ends_starts [] q all at = refl
@@ -279,33 +278,33 @@ module _ (from to : List (List ℕ)) where
       let next = get_carried s k v.0 v.1 (present b (ap (λ t. t || ends ks b) (same_self b))) differ in
       let later : (x : List (List ℕ)) → starts ks x ≡ true → starts (k ∷ ks) x ≡ true = λ x e. or_right (same_path x k) (starts ks x) e in
       let start_kept : (x : List (List ℕ)) → starts ks x ≡ true → fin.get (carried s (move_to from to k)) x ≡ fin.get s x = λ x e.
-            next x
-            ∙ ap (λ t. cond t (Some v.0) (cond (same_path x k) None (fin.get s x)))
-              (not_same x b (λ same. let wrong : true ≡ false = sym at ∙ ap (is_at_or_below to) (sym (same_is x b same)) ∙ apart x (later x e) in cc))
-            ∙ ap (λ t. cond t None (fin.get s x))
-              (not_same x k (λ same. let wrong : true ≡ false = sym e ∙ ap (starts ks) (same_is x k same) ∙ once.0 in cc)) in
+      next x
+      ∙ ap (λ t. cond t (Some v.0) (cond (same_path x k) None (fin.get s x)))
+      (not_same x b (λ same. let wrong : true ≡ false = sym at ∙ ap (is_at_or_below to) (sym (same_is x b same)) ∙ apart x (later x e) in cc))
+      ∙ ap (λ t. cond t None (fin.get s x))
+      (not_same x k (λ same. let wrong : true ≡ false = sym e ∙ ap (starts ks) (same_is x k same) ∙ once.0 in cc)) in
       get_all_carried ks (carried s (move_to from to k)) once.1 below.1
-        (λ x e. ap is_some (start_kept x e) ∙ there x (later x e))
-        (λ x e. ap is_some (next x) ∙ some_after (same_path x b) (same_path x k)
-          (λ same. let wrong : true ≡ false = sym (ends_below ks x below.1 e) ∙ ap (is_at_or_below to) (same_is x k same) ∙ away in cc)
-          v.0 (fin.get s x) (present x (or_right (same_path x b) (ends ks x) e)))
-        (λ x e. apart x (later x e)) q
+      (λ x e. ap is_some (start_kept x e) ∙ there x (later x e))
+      (λ x e. ap is_some (next x) ∙ some_after (same_path x b) (same_path x k)
+      (λ same. let wrong : true ≡ false = sym (ends_below ks x below.1 e) ∙ ap (is_at_or_below to) (same_is x k same) ∙ away in cc)
+      v.0 (fin.get s x) (present x (or_right (same_path x b) (ends ks x) e)))
+      (λ x e. apart x (later x e)) q
       ∙ (let after = carried s (move_to from to k) in
-        elim (same_path q b) as (λ t. same_path q b ≡ t → cond (ends ks q) (fin.get after (back q)) (cond (starts ks q) None (fin.get after q)) ≡ cond (t || ends ks q) (fin.get s (back q)) (cond (same_path q k || starts ks q) None (fin.get s q))) [
-          | true ↦ λ same.
-              let within : is_at_or_below to q ≡ true = end_below k q below.0 same in
-              let came : back q ≡ k = same_is (back q) k (sym (came_from k q below.0 within) ∙ same) in
-              let none : ends ks q ≡ false = ends_starts ks q below.1 within ∙ ap (starts ks) came ∙ once.0 in
-              let no_start : starts ks q ≡ false = not_true (starts ks q) (λ e. let wrong : true ≡ false = sym within ∙ apart q (later q e) in cc) in
-              ap (λ t. cond t (fin.get after (back q)) (cond (starts ks q) None (fin.get after q))) none
-              ∙ ap (λ t. cond t None (fin.get after q)) no_start ∙ next q ∙ ap (λ t. cond t (Some v.0) (cond (same_path q k) None (fin.get s q))) same
-              ∙ sym v.1 ∙ ap (fin.get s) (sym came)
-          | false ↦ λ other.
-              elim (ends ks q) as (λ t. ends ks q ≡ t → cond t (fin.get after (back q)) (cond (starts ks q) None (fin.get after q)) ≡ cond t (fin.get s (back q)) (cond (same_path q k || starts ks q) None (fin.get s q))) [
-                | true ↦ λ e. start_kept (back q) (sym (ends_starts ks q below.1 (ends_below ks q below.1 e)) ∙ e)
-                | false ↦ λ e. ap (λ o. cond (starts ks q) None o) (next q ∙ ap (λ t. cond t (Some v.0) (cond (same_path q k) None (fin.get s q))) other) ∙ merged (starts ks q) (same_path q k) (fin.get s q)
-              ] refl
-        ] refl)
+      elim (same_path q b) as (λ t. same_path q b ≡ t → cond (ends ks q) (fin.get after (back q)) (cond (starts ks q) None (fin.get after q)) ≡ cond (t || ends ks q) (fin.get s (back q)) (cond (same_path q k || starts ks q) None (fin.get s q))) [
+        | true ↦ λ same.
+            let within : is_at_or_below to q ≡ true = end_below k q below.0 same in
+            let came : back q ≡ k = same_is (back q) k (sym (came_from k q below.0 within) ∙ same) in
+            let none : ends ks q ≡ false = ends_starts ks q below.1 within ∙ ap (starts ks) came ∙ once.0 in
+            let no_start : starts ks q ≡ false = not_true (starts ks q) (λ e. let wrong : true ≡ false = sym within ∙ apart q (later q e) in cc) in
+            ap (λ t. cond t (fin.get after (back q)) (cond (starts ks q) None (fin.get after q))) none
+            ∙ ap (λ t. cond t None (fin.get after q)) no_start ∙ next q ∙ ap (λ t. cond t (Some v.0) (cond (same_path q k) None (fin.get s q))) same
+            ∙ sym v.1 ∙ ap (fin.get s) (sym came)
+        | false ↦ λ other.
+            elim (ends ks q) as (λ t. ends ks q ≡ t → cond t (fin.get after (back q)) (cond (starts ks q) None (fin.get after q)) ≡ cond t (fin.get s (back q)) (cond (same_path q k || starts ks q) None (fin.get s q))) [
+              | true ↦ λ e. start_kept (back q) (sym (ends_starts ks q below.1 (ends_below ks q below.1 e)) ∙ e)
+              | false ↦ λ e. ap (λ o. cond (starts ks q) None o) (next q ∙ ap (λ t. cond t (Some v.0) (cond (same_path q k) None (fin.get s q))) other) ∙ merged (starts ks q) (same_path q k) (fin.get s q)
+            ] refl
+      ] refl)
     where
       merged : (a b : Bool) (o : Option Node) → cond a None (cond b None o) ≡ cond (b || a) None o
       merged true true o = refl
@@ -386,8 +385,8 @@ module _ (from to : List (List ℕ)) where
   carried_moved m s ms is free others there = fin.same_map path_total path_exact _ _ (λ q.
       ap (λ l. fin.get (fold carried s l) q) is
       ∙ get_all_carried ks s (once_filtered (is_at_or_below from) (fin.keys m) (once_keys m)) below
-        (λ x e. ap is_some (as_before x (apart x e)) ∙ (both_true (is_at_or_below from x) (is_some (fin.get m x)) (sym (starts_are m x) ∙ e)).1)
-        (λ x e. there x (ap (λ l. is_end l x) is ∙ e)) apart q
+      (λ x e. ap is_some (as_before x (apart x e)) ∙ (both_true (is_at_or_below from x) (is_some (fin.get m x)) (sym (starts_are m x) ∙ e)).1)
+      (λ x e. there x (ap (λ l. is_end l x) is ∙ e)) apart q
       ∙ (elim (is_at_or_below to q) as (λ a. is_at_or_below to q ≡ a → cond (ends ks q) (fin.get s (back q)) (cond (starts ks q) None (fin.get s q)) ≡ cond a (fin.get m (back q)) (cond (is_at_or_below from q) None (fin.get m q))) [
         | true ↦ λ at.
             elim (ends ks q) as (λ e. ends ks q ≡ e → cond e (fin.get s (back q)) (cond (starts ks q) None (fin.get s q)) ≡ fin.get m (back q)) [

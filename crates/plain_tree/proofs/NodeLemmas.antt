@@ -141,7 +141,6 @@ nodes_same path es fs p node new found written is =
     ap (nodes_of path) written ∙ nodes_set path es p new (ap is_some (sym found)) ∙ ap (fin.insert (nodes_of path es) p) is
     ∙ insert_same (nodes_of path es) p node (get_nodes path es p ∙ sym found)
 
-
 counted_less : (b : Bool) (n m : ℕ) → m + cond b 1 0 ≡ n → cond b (n - 1) n ≡ m
 counted_less true n m e = omega arith
 counted_less false n m e = omega arith

@@ -1,5 +1,5 @@
 -- What a change of one page does to the bytes of a file, and what the bytes say of its cells.
-use Rattle.std.proofs.Common.{◌≡◌, ◌≢◌, ◌⊎◌, ℕ, suc, ◌+◌, ◌-◌, ◌/◌, ◌%◌, ◌<◌, ◌≤◌, Bool, true, false, cond, ltb, List, [], ◌∷◌, ◌++◌, length, get_or, take, drop, map, replicate, Option, Some, None, is_some, sym, ap, ◌∙◌, refl, subst, arith, ⊎_elim, inl, inr, max, min}
+use Rattle.std.proofs.Common.{◌≡◌, ◌⊎◌, ℕ, ◌+◌, ◌-◌, ◌/◌, ◌%◌, ◌<◌, ◌≤◌, Bool, true, false, cond, ltb, List, [], ◌∷◌, ◌++◌, length, get_or, take, drop, map, replicate, Option, Some, None, is_some, sym, ap, ◌∙◌, refl, subst, arith, ⊎_elim, inl, inr, max, min}
 use Rattle.std.specs.List.{range_with_len}
 use Rattle.std.specs.declared.cmp.Ordering.{Ordering}
 use Rattle.std.specs.declared.cmp.Ordering.TheVariants.{Less, Equal, Greater}
@@ -13,10 +13,10 @@ use Rattle.std.proofs.Common.{rules, tests, Result, Ok, Err, is_ok, OnOk}
 use Rattle.std.specs.Map.{lookup}
 use Rattle.std.specs.List.{filter}
 use borrow.Rule.Slice.PartMut.{put_mid}
-use Rattle.std.proofs.lemmas.List.{get_or-replicate, get_or_past, length-replicate, get_or-take, get_or-drop, get_or_append_left, get_or-append_right, get_or_default, same_lists, length-take, length-append, length-drop, get_or-map, length-map}
+use Rattle.std.proofs.lemmas.List.{get_or-replicate, get_or_past, length-replicate, get_or-take, get_or-drop, get_or_append_left, get_or-append_right, get_or_default, same_lists, length-take, length-append, length-drop}
 use Rattle.std.proofs.lemmas.List.FromFn.{length-map-range_with_len, get_or-map-range_with_len}
 use Rattle.plain_tree.specs.Cells.{Cell, bytes_of}
-use Rattle.plain_tree.specs.Pages.{byte_in, page_at, byte_at, cells_of}
+use Rattle.plain_tree.specs.Pages.{byte_in, page_at, byte_at}
 
 tied : (r : Ordering) → is_eq r ≡ true → r ≡ Equal
 tied Less e = cc
@@ -81,10 +81,10 @@ part_read xs from size fits =
     same_lists _ _
     (omega (arith, length-take size (drop from xs), length-drop from xs, length-map-range_with_len (λ i. get_or xs i 0) from size))
     (λ k d lt.
-      get_or-take size (drop from xs) k d (omega (arith, lt, length-take size (drop from xs)))
-      ∙ get_or-drop from xs k d
-      ∙ get_or_default xs (from + k) d 0 (omega (arith, lt, length-take size (drop from xs), length-drop from xs))
-      ∙ sym (get_or-map-range_with_len (λ i. get_or xs i 0) from size k (from + k) d (omega (arith, lt, length-take size (drop from xs))) refl))
+    get_or-take size (drop from xs) k d (omega (arith, lt, length-take size (drop from xs)))
+    ∙ get_or-drop from xs k d
+    ∙ get_or_default xs (from + k) d 0 (omega (arith, lt, length-take size (drop from xs), length-drop from xs))
+    ∙ sym (get_or-map-range_with_len (λ i. get_or xs i 0) from size k (from + k) d (omega (arith, lt, length-take size (drop from xs))) refl))
 
 -- two functions that agree along two ranges
 pub ranges_same : {A : Type 0} (f g : ℕ → A) (a b n : ℕ) → ((k : ℕ) → k < n → f (a + k) ≡ g (b + k)) → map f (range_with_len a n) ≡ map g (range_with_len b n)
@@ -92,7 +92,7 @@ ranges_same f g a b n same =
     same_lists _ _
     (length-map-range_with_len f a n ∙ sym (length-map-range_with_len g b n))
     (λ k d lt. let within : k < n = omega (arith, lt, length-map-range_with_len f a n) in
-      get_or-map-range_with_len f a n k (a + k) d within refl ∙ same k within ∙ sym (get_or-map-range_with_len g b n k (b + k) d within refl))
+    get_or-map-range_with_len f a n k (a + k) d within refl ∙ same k within ∙ sym (get_or-map-range_with_len g b n k (b + k) d within refl))
 
 -- a range, and the next
 pub ranges_join : {A : Type 0} (f : ℕ → A) (a m n b r : ℕ) → b ≡ a + m → r ≡ m + n → map f (range_with_len a m) ++ map f (range_with_len b n) ≡ map f (range_with_len a r)
@@ -103,11 +103,11 @@ ranges_join f a m n b r next total =
     let both : length (map f (range_with_len a m) ++ map f (range_with_len b n)) ≡ m + n = length-append (map f (range_with_len a m)) (map f (range_with_len b n)) ∙ omega arith in
     same_lists _ _ (omega arith)
     (λ k d lt. ⊎_elim
-      (λ low. get_or_append_left (map f (range_with_len a m)) (map f (range_with_len b n)) d k (omega arith)
-        ∙ get_or-map-range_with_len f a m k (a + k) d low refl ∙ sym (get_or-map-range_with_len f a r k (a + k) d (omega arith) refl))
-      (λ high. get_or-append_right (map f (range_with_len a m)) (map f (range_with_len b n)) m k d left high
-        ∙ get_or-map-range_with_len f b n (k - m) (a + k) d (omega arith) (omega arith) ∙ sym (get_or-map-range_with_len f a r k (a + k) d (omega arith) refl))
-      (cases_lt k m))
+    (λ low. get_or_append_left (map f (range_with_len a m)) (map f (range_with_len b n)) d k (omega arith)
+    ∙ get_or-map-range_with_len f a m k (a + k) d low refl ∙ sym (get_or-map-range_with_len f a r k (a + k) d (omega arith) refl))
+    (λ high. get_or-append_right (map f (range_with_len a m)) (map f (range_with_len b n)) m k d left high
+    ∙ get_or-map-range_with_len f b n (k - m) (a + k) d (omega arith) (omega arith) ∙ sym (get_or-map-range_with_len f a r k (a + k) d (omega arith) refl))
+    (cases_lt k m))
 
 -- the cells up to an offset, zeros in a gap
 pub padded : (old : ℕ → Cell) (len offset : ℕ) → List Cell
@@ -122,9 +122,9 @@ padded_at old len offset k beyond within =
     let size : length (map old (range_with_len 0 len)) ≡ len = length-map-range_with_len old 0 len in
     get_or-take offset (map old (range_with_len 0 len) ++ replicate (offset - len) (Some 0)) k (Some 0) within
     ∙ ⊎_elim
-      (λ lt. get_or_append_left (map old (range_with_len 0 len)) (replicate (offset - len) (Some 0)) (Some 0) k (omega arith) ∙ get_or-map-range_with_len old 0 len k k (Some 0) lt (omega arith))
-      (λ ge. get_or-append_right (map old (range_with_len 0 len)) (replicate (offset - len) (Some 0)) len k (Some 0) size ge ∙ zero_cells (offset - len) (k - len) ∙ sym (beyond k ge))
-      (cases_lt k len)
+    (λ lt. get_or_append_left (map old (range_with_len 0 len)) (replicate (offset - len) (Some 0)) (Some 0) k (omega arith) ∙ get_or-map-range_with_len old 0 len k k (Some 0) lt (omega arith))
+    (λ ge. get_or-append_right (map old (range_with_len 0 len)) (replicate (offset - len) (Some 0)) len k (Some 0) size ge ∙ zero_cells (offset - len) (k - len) ∙ sym (beyond k ge))
+    (cases_lt k len)
 
 length-padded : (old : ℕ → Cell) (len offset : ℕ) → length (padded old len offset) ≡ offset
 unfolding padded
@@ -144,23 +144,23 @@ cells_written old new len size offset news inside below above beyond is =
     same_lists _ _
     (omega (arith, length-append (padded old len offset ++ news) (drop (offset + length news) (map old (range_with_len 0 len))), length-drop (offset + length news) (map old (range_with_len 0 len)), length-map-range_with_len old 0 len))
     (λ k d lt.
-      get_or_default (map new (range_with_len 0 size)) k d (Some 0) lt
-      ∙ get_or-map-range_with_len new 0 size k k (Some 0) (omega arith) (omega arith)
-      ∙ ⊎_elim
-        (λ low. below k low ∙ sym (padded_at old len offset k beyond low)
-          ∙ sym (get_or_append_left (padded old len offset) news (Some 0) k (omega arith)) ∙ sym (get_or_append_left (padded old len offset ++ news) _ (Some 0) k (omega arith)))
-        (λ high. ⊎_elim
-          (λ mid. let at : offset + (k - offset) ≡ k = omega arith in
-            ap new (sym at) ∙ inside (k - offset) (omega arith)
-            ∙ sym (get_or-append_right (padded old len offset) news offset k (Some 0) pad high) ∙ sym (get_or_append_left (padded old len offset ++ news) _ (Some 0) k (omega arith)))
-          (λ past. let at : offset + length news + (k - (offset + length news)) ≡ k = omega arith in
-            above k past ∙ sym (get_or-map-range_with_len old 0 len k k (Some 0) (omega arith) (omega arith))
-            ∙ ap (λ i. get_or (map old (range_with_len 0 len)) i (Some 0)) (sym at)
-            ∙ sym (get_or-drop (offset + length news) (map old (range_with_len 0 len)) (k - (offset + length news)) (Some 0))
-            ∙ sym (get_or-append_right (padded old len offset ++ news) _ (offset + length news) k (Some 0) two past))
-          (cases_lt k (offset + length news)))
-        (cases_lt k offset)
-      ∙ get_or_default _ k (Some 0) d (omega (arith, lt, length-append (padded old len offset ++ news) (drop (offset + length news) (map old (range_with_len 0 len))), length-drop (offset + length news) (map old (range_with_len 0 len)), length-map-range_with_len old 0 len)))
+    get_or_default (map new (range_with_len 0 size)) k d (Some 0) lt
+    ∙ get_or-map-range_with_len new 0 size k k (Some 0) (omega arith) (omega arith)
+    ∙ ⊎_elim
+    (λ low. below k low ∙ sym (padded_at old len offset k beyond low)
+    ∙ sym (get_or_append_left (padded old len offset) news (Some 0) k (omega arith)) ∙ sym (get_or_append_left (padded old len offset ++ news) _ (Some 0) k (omega arith)))
+    (λ high. ⊎_elim
+    (λ mid. let at : offset + (k - offset) ≡ k = omega arith in
+    ap new (sym at) ∙ inside (k - offset) (omega arith)
+    ∙ sym (get_or-append_right (padded old len offset) news offset k (Some 0) pad high) ∙ sym (get_or_append_left (padded old len offset ++ news) _ (Some 0) k (omega arith)))
+    (λ past. let at : offset + length news + (k - (offset + length news)) ≡ k = omega arith in
+    above k past ∙ sym (get_or-map-range_with_len old 0 len k k (Some 0) (omega arith) (omega arith))
+    ∙ ap (λ i. get_or (map old (range_with_len 0 len)) i (Some 0)) (sym at)
+    ∙ sym (get_or-drop (offset + length news) (map old (range_with_len 0 len)) (k - (offset + length news)) (Some 0))
+    ∙ sym (get_or-append_right (padded old len offset ++ news) _ (offset + length news) k (Some 0) two past))
+    (cases_lt k (offset + length news)))
+    (cases_lt k offset)
+    ∙ get_or_default _ k (Some 0) d (omega (arith, lt, length-append (padded old len offset ++ news) (drop (offset + length news) (map old (range_with_len 0 len))), length-drop (offset + length news) (map old (range_with_len 0 len)), length-map-range_with_len old 0 len)))
 
 -- the cells after a change of length
 pub cells_resized : (old new : ℕ → Cell) (len n : ℕ) → ((i : ℕ) → i < n → new i ≡ old i) → ((i : ℕ) → len ≤ i → old i ≡ Some 0) → map new (range_with_len 0 n) ≡ padded old len n
@@ -169,10 +169,10 @@ cells_resized old new len n same beyond =
     let pad : length (padded old len n) ≡ n = length-padded old len n in
     same_lists _ _ (omega arith)
     (λ k d lt.
-      get_or_default (map new (range_with_len 0 n)) k d (Some 0) lt
-      ∙ get_or-map-range_with_len new 0 n k k (Some 0) (omega arith) (omega arith)
-      ∙ same k (omega arith) ∙ sym (padded_at old len n k beyond (omega arith))
-      ∙ get_or_default (padded old len n) k (Some 0) d (omega arith))
+    get_or_default (map new (range_with_len 0 n)) k d (Some 0) lt
+    ∙ get_or-map-range_with_len new 0 n k k (Some 0) (omega arith) (omega arith)
+    ∙ same k (omega arith) ∙ sym (padded_at old len n k beyond (omega arith))
+    ∙ get_or_default (padded old len n) k (Some 0) d (omega arith))
 
 -- the padding is that of the specification
 pub padded_is : (old : ℕ → Cell) (len offset : ℕ) → padded old len offset ≡ take offset (map old (range_with_len 0 len) ++ replicate (offset - length (map old (range_with_len 0 len))) (Some 0))
@@ -187,9 +187,9 @@ cells_read f len offset from count n is size_is =
     same_lists _ _
     (omega (arith, length-take count (drop offset (map f (range_with_len 0 len))), length-drop offset (map f (range_with_len 0 len))))
     (λ k d lt.
-      get_or-map-range_with_len f from n k (offset + k) d (omega arith) (omega arith)
-      ∙ sym (get_or-take count (drop offset (map f (range_with_len 0 len))) k d (omega arith) ∙ get_or-drop offset (map f (range_with_len 0 len)) k d
-        ∙ get_or-map-range_with_len f 0 len (offset + k) (offset + k) d (omega arith) (omega arith)))
+    get_or-map-range_with_len f from n k (offset + k) d (omega arith) (omega arith)
+    ∙ sym (get_or-take count (drop offset (map f (range_with_len 0 len))) k d (omega arith) ∙ get_or-drop offset (map f (range_with_len 0 len)) k d
+    ∙ get_or-map-range_with_len f 0 len (offset + k) (offset + k) d (omega arith) (omega arith)))
 
 -- the bytes of cells of which none is lost
 pub all_there : (f : ℕ → ℕ) (xs : List ℕ) → bytes_of (map (λ i. Some (f i)) xs) ≡ Some (map f xs)
@@ -202,9 +202,9 @@ cleared xs ys from n k whole is past =
     let long : length ys ≡ n = ap length is ∙ length-replicate {A = ℕ} n 0 in
     get_or-append_right (take from xs) (ys ++ drop n (drop from xs)) from k 0 (omega (arith, length-take from xs)) past
     ∙ ⊎_elim
-      (λ low. get_or_append_left ys (drop n (drop from xs)) 0 (k - from) (omega arith) ∙ ap (λ l. get_or l (k - from) 0) is ∙ zeros n (k - from))
-      (λ high. get_or_past (ys ++ drop n (drop from xs)) (k - from) 0 (omega (arith, length-append ys (drop n (drop from xs)), length-drop n (drop from xs), length-drop from xs)))
-      (cases_lt (k - from) n)
+    (λ low. get_or_append_left ys (drop n (drop from xs)) 0 (k - from) (omega arith) ∙ ap (λ l. get_or l (k - from) 0) is ∙ zeros n (k - from))
+    (λ high. get_or_past (ys ++ drop n (drop from xs)) (k - from) 0 (omega (arith, length-append ys (drop n (drop from xs)), length-drop n (drop from xs), length-drop from xs)))
+    (cases_lt (k - from) n)
 
 pick : {B : Type 0} (t : ℕ → Bool) (e : ℕ × B) (rest : List (ℕ × B)) (old : Option B) (here p pq : Bool) → t e.0 ≡ here → (here ≡ true → p ≡ pq) → lookup t rest ≡ cond pq old None → lookup t (cond p (e ∷ rest) rest) ≡ cond pq (cond here (Some e.1) old) None
 pick t e rest old true true true is same ih = ap (λ b. cond b (Some e.1) (lookup t rest)) is
@@ -223,8 +223,8 @@ pub page_filtered : {B : Type 0} (es : List (ℕ × B)) (first q : ℕ) → page
 page_filtered [] first q = none_either (ltb q first)
 page_filtered (e ∷ es) first q =
     pick (λ k. is_eq (nat_cmp q k)) e (filter (λ e. ltb e.0 first) es) (page_at es q) (is_eq (nat_cmp q e.0)) (ltb e.0 first) (ltb q first) refl
-      (λ yes. ap (λ k. ltb k first) (sym (same_key q e.0 yes)))
-      (page_filtered es first q)
+    (λ yes. ap (λ k. ltb k first) (sym (same_key q e.0 yes)))
+    (page_filtered es first q)
 
 -- what an append leaves where it succeeds
 pub appended : {T E : Type 0} (r : Result T E) (before after more same : List ℕ) → after ≡ cond (is_ok r) (before ++ more) before → more ≡ same → OnOk r (after ≡ before ++ same)
@@ -239,7 +239,7 @@ zeros_read n fits =
     same_lists _ _
     (omega (arith, length-take n page, length-map-range_with_len {X = ℕ} (λ i. 0) 0 n))
     (λ k d lt. let within : k < n = omega (arith, lt, length-take n page) in
-      get_or-take n page k d within ∙ get_or-replicate 4096 k 0 d (omega arith) ∙ sym (get_or-map-range_with_len {X = ℕ} (λ i. 0) 0 n k k d within (omega arith)))
+    get_or-take n page k d within ∙ get_or-replicate 4096 k 0 d (omega arith) ∙ sym (get_or-map-range_with_len {X = ℕ} (λ i. 0) 0 n k k d within (omega arith)))
 
 pub ltb-is_true : (a b : ℕ) → a < b → ltb a b ≡ true
 ltb-is_true a b h = search (rules, tests)

@@ -1,7 +1,6 @@
 -- Histories of placements: whose calls stand where, and the tree that they leave.
-use Rattle.std.specs.Prelude.{◌≡◌, ℕ, List, [], ◌∷◌, ◌==◌, filter, fold, map, length, Option, Some, None, slice_get}
+use Rattle.std.specs.Prelude.{◌≡◌, ℕ, List, ◌==◌, filter, fold, map, length, Option, Some, None, slice_get}
 use Rattle.std.specs.List.{range_with_len}
-use Rattle.tape_types.specs.declared.moments.Moment.{Moment}
 use Rattle.plain_tree.specs.declared.calls.Call.{Call}
 use Rattle.plain_tree.specs.declared.calls.Placed.{Placed}
 use Rattle.plain_tree.specs.declared.calls.Fate.{Fate}

@@ -1,6 +1,6 @@
 -- How a node, and all that stands below it, comes to another path.
-use Rattle.std.specs.Prelude.{◌≡◌, ℕ, ◌++◌, List, Bool, true, false, map, length, drop, Option, Some, None}
-use Rattle.std.specs.List.{filter, list_any, fold}
+use Rattle.std.specs.Prelude.{ℕ, List, Bool, map, Option, Some, None}
+use Rattle.std.specs.List.{filter, list_any}
 use Rattle.std.specs.FinMap as fin
 use Rattle.plain_tree.specs.declared.nodes.Node.{Node}
 use Rattle.plain_tree.specs.declared.moves.Move.{Move}

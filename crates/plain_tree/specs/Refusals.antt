@@ -1,6 +1,5 @@
 -- Why a call is refused: the checks of each call, in order, of which the first that fails is the answer.
 use Rattle.std.specs.Prelude.{ℕ, zero, suc, ◌+◌, ◌^◌, List, [], ◌∷◌, Bool, true, false, ◌||◌, nat_le, nat_lt, ◌==◌, if◌then◌else◌, length, take, Option, Some, None, is_none, is_some}
-use Rattle.std.specs.Option.{option_map}
 use Rattle.std.specs.FinMap as fin
 use Rattle.tape_types.specs.Names.{name_fault}
 use Rattle.plain_tree.specs.declared.nodes.Node.{Node}

@@ -1,5 +1,5 @@
 -- The tree of a volume (LTFS 2.4, section 9.2), and what stands where in it.
-use Rattle.std.specs.Prelude.{ℕ, ◌+◌, List, [], ◌∷◌, Bool, true, false, map, length, Option, Some, None}
+use Rattle.std.specs.Prelude.{ℕ, List, [], false, map, length, Option, Some, None}
 use Rattle.std.specs.List.{filter_map}
 use Rattle.std.specs.Option.{option_map}
 use Rattle.std.specs.FinMap as fin

@@ -16,7 +16,9 @@ use std::marker::Model;
 use tape_types::{Moment, NoMemory, Text, Times};
 
 const MOST_NODES: usize = 65536;
+
 const LONGEST: u64 = 1 << 40;
+
 const LAST_UID: u64 = 1 << 62;
 
 /// The tree as a map from paths to nodes.
@@ -71,7 +73,11 @@ impl MapTree {
                 let file = Kind::File(PagedFile::new(self.alloc));
                 self.create(path.as_slice(), file, at)
             }
-            Call::Write { path, offset, bytes } => self.write(path.as_slice(), *offset, bytes.as_slice(), at),
+            Call::Write {
+                path,
+                offset,
+                bytes,
+            } => self.write(path.as_slice(), *offset, bytes.as_slice(), at),
             Call::Truncate { path, length } => Ok(self.truncate(path.as_slice(), *length, at)),
             Call::Read {
                 path,
@@ -102,7 +108,13 @@ impl MapTree {
         Ok(Answer::Done)
     }
 
-    fn write(&mut self, path: &[Text], offset: u64, bytes: &[u8], at: Moment) -> Result<Answer, NoMemory>
+    fn write(
+        &mut self,
+        path: &[Text],
+        offset: u64,
+        bytes: &[u8],
+        at: Moment,
+    ) -> Result<Answer, NoMemory>
         ensures answer { IfOk result (λ a. a ≡ answer self.old (Call.Write path.now offset bytes.now)) }
         ensures after { OnOk result (self.new ≡ after self.old (Call.Write path.now offset bytes.now) at) }
         ensures err { OnErr result (self.new ≡ self.old) }

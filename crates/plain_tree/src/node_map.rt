@@ -8,8 +8,8 @@ ghost use Rattle.plain_tree.specs.Moves.{moves_of, is_end, carried};
 ghost use Rattle.plain_tree.specs.Tree.{touched, touch, change_noted, changed_at, file_changed, sort_of, entry_in, entries_in, moved};
 
 use crate::calls::{Entry, Sort};
-use crate::nodes::{Kind, Node};
 use crate::moves::Move;
+use crate::nodes::{Kind, Node};
 use crate::paths::{clone_path, is_at_or_below, join_paths};
 use std::alloc::Global;
 use std::collections::BTreeMap;
@@ -221,7 +221,13 @@ impl NodeMap {
     }
 
     /// Puts bytes into the file at a path and touches it, or changes nothing.
-    pub fn write(&mut self, path: &[Text], offset: u64, bytes: &[u8], at: Moment) -> Result<(), NoMemory>
+    pub fn write(
+        &mut self,
+        path: &[Text],
+        offset: u64,
+        bytes: &[u8],
+        at: Moment,
+    ) -> Result<(), NoMemory>
         requires some { 0 < length bytes.now }
         requires fits { offset + length bytes.now ≤ 2 ^ 40 }
         ensures ok { OnOk result (self.new ≡ changed_at (file_changed (λ cells. written cells offset (map Some bytes.now)) at) path.now self.old) }
@@ -279,7 +285,12 @@ fn resize_node(node: &mut Node, size: u64, at: Moment)
 }
 
 /// The line of a node that stands directly in a directory. The path is that of the directory, or below it.
-fn entry_below(alloc: Global, dir: &[Text], path: &[Text], node: &Node) -> Result<Option<Entry>, NoMemory>
+fn entry_below(
+    alloc: Global,
+    dir: &[Text],
+    path: &[Text],
+    node: &Node,
+) -> Result<Option<Entry>, NoMemory>
     requires { is_at_or_below dir.now path.now ≡ true }
     ensures { IfOk result (λ entry. entry ≡ entry_in dir.now (path.now, node.now)) }
 {

@@ -11,6 +11,7 @@ use tape_types::{Bytes, NoMemory};
 const PAGE: u64 = 4096;
 
 type Page = Box<[u8; 4096]>;
+
 type Pages = BTreeMap<u64, Page>;
 
 /// A file as a length and pages of 4,096 bytes. A page that isn't there is all zeros.
@@ -116,7 +117,12 @@ fn append_piece(bytes: &mut Vec<u8>, pages: &Pages, at: u64, count: u64) -> Resu
     }
 }
 
-fn append_part(bytes: &mut Vec<u8>, page: &[u8; 4096], from: usize, size: usize) -> Result<(), AllocError>
+fn append_part(
+    bytes: &mut Vec<u8>,
+    page: &[u8; 4096],
+    from: usize,
+    size: usize,
+) -> Result<(), AllocError>
     requires { from + size ≤ 4096 }
     ensures { OnOk result (bytes.new.items ≡ bytes.old.items ++ map (λ i. slice_index page.now i) (range_with_len from size)) }
 {

@@ -1,4 +1,4 @@
-use Rattle.std.proofs.Common.{◌+◌, ◌-◌, ℕ, List, ◌≡◌, take, drop, map, get_or, refl, ap, ◌∙◌, arith}
+use Rattle.std.proofs.Common.{◌+◌, ◌-◌, ℕ, List, ◌≡◌, take, drop, map, get_or, ap, ◌∙◌, arith}
 use Rattle.std.specs.List.{range_with_len}
 use Rattle.plain_tree.proofs.PageLemmas.{part_read, appended}
 use Rattle.plain_tree.proofs.paged.append_part.Goals as goal
@@ -8,6 +8,6 @@ returns c =
     let page : List ℕ = c.args.page.now in
     let size : c.args.from + c.args.size - c.args.from ≡ c.args.size = omega arith in
     appended c.extend_from_slice.result c.args.bytes.now.items c.extend_from_slice.new.self.items
-      (take (c.args.from + c.args.size - c.args.from) (drop c.args.from page)) (map (λ i. get_or page i 0) (range_with_len c.args.from c.args.size))
-      c.extend_from_slice.ensures.items
-      (ap (λ n. take n (drop c.args.from page)) size ∙ part_read page c.args.from c.args.size (omega arith))
+    (take (c.args.from + c.args.size - c.args.from) (drop c.args.from page)) (map (λ i. get_or page i 0) (range_with_len c.args.from c.args.size))
+    c.extend_from_slice.ensures.items
+    (ap (λ n. take n (drop c.args.from page)) size ∙ part_read page c.args.from c.args.size (omega arith))

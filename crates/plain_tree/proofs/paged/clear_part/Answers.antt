@@ -1,4 +1,4 @@
-use Rattle.std.proofs.Common.{◌-◌, ap, ◌∙◌, replicate, length, take, drop, arith, rules}
+use Rattle.std.proofs.Common.{◌-◌, ap, ◌∙◌, replicate, drop, arith, rules}
 use Rattle.std.proofs.lemmas.List.{length-take, length-drop}
 use Rattle.plain_tree.proofs.PageLemmas.{cleared}
 use Rattle.plain_tree.proofs.paged.clear_part.Goals as goal

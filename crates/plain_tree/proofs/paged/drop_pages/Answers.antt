@@ -1,6 +1,5 @@
-use Rattle.std.proofs.Common.{◌≡◌, ℕ, true, false, cond, ltb, is_some, None, Option, List, sym, ap, ◌∙◌, arith, rules, tests}
+use Rattle.std.proofs.Common.{◌≡◌, cond, ltb, is_some, None, ap, ◌∙◌, rules}
 use Rattle.std.proofs.lemmas.Map.Made.{filter_same_pairs}
-use Rattle.std.proofs.lemmas.Bool.Decides.{nat_tests}
 use Rattle.std.specs.List.{filter}
 use Rattle.plain_tree.specs.Pages.{page_at}
 use Rattle.plain_tree.proofs.PageLemmas.{page_filtered, ltb-is_true, ltb-is_false}

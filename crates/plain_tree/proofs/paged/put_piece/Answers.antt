@@ -1,4 +1,4 @@
-use Rattle.std.proofs.Common.{◌+◌, ◌/◌, ◌%◌, ◌<◌, ◌≤◌, ◌⊎◌, length, ap, ◌∙◌, refl, get_or, ⊎_elim, inl, inr, arith}
+use Rattle.std.proofs.Common.{◌/◌, ◌%◌, ap, ◌∙◌, get_or, ⊎_elim, inl, inr, arith}
 use Rattle.plain_tree.proofs.PageLemmas.{pages_kept, byte_kept}
 use Rattle.plain_tree.proofs.paged.put_piece.Goals as goal
 

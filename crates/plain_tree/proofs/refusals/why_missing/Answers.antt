@@ -1,4 +1,4 @@
-use Rattle.std.proofs.Common.{◌≡◌, ℕ, ◌-◌, List, take, suc, None, sym, ap, ◌∙◌, refl, arith}
+use Rattle.std.proofs.Common.{◌≡◌, ℕ, ◌-◌, List, take, suc, None, sym, ◌∙◌, refl, arith}
 use Rattle.std.specs.FinMap as fin
 use Rattle.plain_tree.specs.Tree.{Nodes}
 use Rattle.plain_tree.specs.Refusals.{why_missing}

@@ -17,4 +17,3 @@ loop-m-preserved c =
 
 pub returns-clause-gone : goal.returns-clause-gone
 returns-clause-gone c path e = c.loop-m.invariant.gone path (ap (λ ms. is_end ms path) (take_all c.loop-m.m-index c.args.moves.now c.loop-m-test.false) ∙ e)
-

@@ -1,5 +1,5 @@
 use Rattle.std.proofs.Common.{◌≡◌, [], arith, sym, ap, ◌∙◌, true, cond, ◌∷◌, nat_lt, length}
-use Rattle.std.specs.List.{filter_map, cons_option}
+use Rattle.std.specs.List.{filter_map}
 use Rattle.std.specs.Map.Iter.{deref_pair}
 use Rattle.std.proofs.lemmas.Map.Iter.{rest_more}
 use Rattle.plain_tree.specs.Tree.{entry_in, entries_in}
@@ -29,5 +29,5 @@ returns-then-len-dir c =
     let rest = front_below (λ k. k.items) dir c.next.new.self in
     one_entry dir path node (filter_map (entry_in dir) (shown (λ k. k.items) rest)) below (omega (arith, c.in-Some-2.path.now.ok.0, c.len.ensures, c.if-len-dir.true))
     ∙ ap (λ l. nat_lt 0 (length l))
-      (sym (ap (λ b. filter_map (entry_in dir) (shown (λ k. k.items) (cond b ((c.in-Some-2.path.now, node) ∷ rest) []))) below)
-      ∙ sym (ap (λ it. filter_map (entry_in dir) (shown (λ k. k.items) (front_below (λ k. k.items) dir it))) it) ∙ c.loop-path.invariant)
+    (sym (ap (λ b. filter_map (entry_in dir) (shown (λ k. k.items) (cond b ((c.in-Some-2.path.now, node) ∷ rest) []))) below)
+    ∙ sym (ap (λ it. filter_map (entry_in dir) (shown (λ k. k.items) (front_below (λ k. k.items) dir it))) it) ∙ c.loop-path.invariant)

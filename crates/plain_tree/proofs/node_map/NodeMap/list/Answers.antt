@@ -1,4 +1,4 @@
-use Rattle.std.proofs.Common.{[], ◌++◌, sym, ap, ◌∙◌}
+use Rattle.std.proofs.Common.{◌++◌, sym, ap, ◌∙◌}
 use Rattle.std.specs.List.{filter_map}
 use Rattle.plain_tree.specs.Tree.{entry_in, entries_in}
 use Rattle.plain_tree.proofs.NodeLemmas.{path_exact, not_missing}

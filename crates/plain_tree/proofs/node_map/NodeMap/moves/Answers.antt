@@ -1,4 +1,4 @@
-use Rattle.std.proofs.Common.{[], ◌++◌, map, sym, ap, ◌∙◌}
+use Rattle.std.proofs.Common.{◌++◌, map, sym, ap, ◌∙◌}
 use Rattle.plain_tree.specs.Moves.{moves_of}
 use Rattle.plain_tree.proofs.NodeLemmas.{path_exact, not_missing}
 use Rattle.plain_tree.proofs.BelowLemmas.{front_below}

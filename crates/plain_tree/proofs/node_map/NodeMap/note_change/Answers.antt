@@ -1,6 +1,5 @@
 use Rattle.std.proofs.Common.{is_some, sym, ap, ◌∙◌}
-use Rattle.plain_tree.specs.Tree.{changed_at, touched, change_noted, file_changed}
-use Rattle.plain_tree.specs.Cells.{resized}
+use Rattle.plain_tree.specs.Tree.{changed_at, change_noted}
 use Rattle.plain_tree.proofs.NodeLemmas.{nodes_changed, nodes_unchanged, len_set}
 use Rattle.plain_tree.proofs.node_map.NodeMap.note_change.Goals as goal
 use Rattle.plain_tree.proofs.node_map.NodeMap.note_change.Goals.{in-Some, in_default}

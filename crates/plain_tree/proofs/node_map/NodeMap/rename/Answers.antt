@@ -17,4 +17,4 @@ returns-clause-ok c =
     let reserved = c.reserve.new.self in
     c.carry.ensures ∙ ap (fold carried reserved) (c.deref-2.ensures.value ∙ sym c.deref.ensures.value)
     ∙ carried_moved c.args.from.now c.args.to.now c.args.self.now reserved moves (c.deref.ensures.value ∙ c.in_ok-moves.ensures) c.requires.free
-      c.in_default.ensures.others (λ x e. at_its_end reserved moves x c.in_default.ensures.there e)
+    c.in_default.ensures.others (λ x e. at_its_end reserved moves x c.in_default.ensures.there e)

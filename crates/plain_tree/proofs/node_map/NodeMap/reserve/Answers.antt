@@ -1,5 +1,4 @@
 use Rattle.std.proofs.Common.{IsSome, is_some, take, sym, ap, ◌∙◌, subst}
-use Rattle.std.specs.List.{All}
 use Rattle.std.specs.FinMap as fin
 use Rattle.std.proofs.lemmas.List.Elements.{All-more, All-weaker, All-same}
 use Rattle.std.proofs.lemmas.List.{take_all}
@@ -15,9 +14,9 @@ loop-m-preserved c =
     let after = c.in_ok-insert.ensures.ok ∙ ap (λ p. fin.insert c.loop-m.self p node) (c.in_ok-key.ensures ∙ c.as_slice.ensures) in
     record {
       there = All-more (λ (x : Move). IsSome (fin.get c.insert.new.self x.to)) ms c.loop-m.m-index m c.loop-m-test.true
-        (All-weaker (λ (x : Move). IsSome (fin.get c.loop-m.self x.to)) (λ (x : Move). IsSome (fin.get c.insert.new.self x.to))
+          (All-weaker (λ (x : Move). IsSome (fin.get c.loop-m.self x.to)) (λ (x : Move). IsSome (fin.get c.insert.new.self x.to))
           (λ x some. subst (λ n. IsSome (fin.get n x.to)) (sym after) (still_there c.loop-m.self m.to x.to node some)) (take c.loop-m.m-index ms) c.loop-m.invariant.there)
-        (subst (λ (x : Move). IsSome (fin.get c.insert.new.self x.to)) c.m-item.is (ap (λ n. is_some (fin.get n m.to)) after ∙ ap is_some (here_inserted c.loop-m.self m.to m.to node (same_self m.to))));
+          (subst (λ (x : Move). IsSome (fin.get c.insert.new.self x.to)) c.m-item.is (ap (λ n. is_some (fin.get n m.to)) after ∙ ap is_some (here_inserted c.loop-m.self m.to m.to node (same_self m.to))));
       others = λ path e. ap (λ n. fin.get n path) after ∙ other_inserted c.loop-m.self m.to path node (end_at ms c.loop-m.m-index m path c.loop-m-test.true c.m-item.is e) ∙ c.loop-m.invariant.others path e;
     }
 

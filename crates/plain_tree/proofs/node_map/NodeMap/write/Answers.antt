@@ -35,6 +35,6 @@ returns-clause-ok c =
       | in-Some+in_ok-write_node w ↦
           let through = c.get_mut.follows.holds w.write_node.new.node in
           rw w.self-inside-is (nodes_changed (λ k. k.items) es _ c.args.path.now change w.in-Some.node.now w.write_node.new.node w.in-Some.ensures.value through.0 w.in_ok-write_node.ensures.ok
-            ∙ ap (changed_at change c.args.path.now) c.self.view_is)
+          ∙ ap (changed_at change c.args.path.now) c.self.view_is)
       | in_default w ↦ rw (w.self-inside-is, c.get_mut.follows.holds-at-none) (nodes_unchanged (λ k. k.items) es c.args.path.now change w.in_default.ensures.value ∙ ap (changed_at change c.args.path.now) c.self.view_is)
     ]

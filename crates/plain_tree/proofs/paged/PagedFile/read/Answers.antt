@@ -1,4 +1,4 @@
-use Rattle.std.proofs.Common.{◌+◌, ◌-◌, ◌≡◌, ◌≤◌, ℕ, sym, ap, ◌∙◌, Some, arith, map}
+use Rattle.std.proofs.Common.{◌+◌, ◌-◌, ℕ, sym, ap, ◌∙◌, Some, arith}
 use Rattle.std.specs.List.{range_with_len}
 use Rattle.plain_tree.specs.Cells.{Cell, bytes_of, range_of}
 use Rattle.plain_tree.specs.Pages.{byte_at}

@@ -1,4 +1,4 @@
-use Rattle.std.proofs.Common.{◌≡◌, ◌≤◌, ◌<◌, ◌/◌, ◌%◌, ℕ, sym, ap, ◌∙◌, refl, Some, arith}
+use Rattle.std.proofs.Common.{◌/◌, ◌%◌, ℕ, ap, ◌∙◌, refl, Some, arith}
 use Rattle.plain_tree.specs.Cells.{Cell, resized}
 use Rattle.plain_tree.specs.Pages.{byte_at, byte_in}
 use Rattle.plain_tree.proofs.PageLemmas.{cells_resized, padded_is}

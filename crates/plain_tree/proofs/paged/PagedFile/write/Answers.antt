@@ -1,4 +1,4 @@
-use Rattle.std.proofs.Common.{◌+◌, List, ◌≡◌, ◌++◌, length, drop, map, sym, ap, ◌∙◌, Some, Option, ℕ, arith}
+use Rattle.std.proofs.Common.{◌+◌, ◌≡◌, ◌++◌, length, drop, map, sym, ap, ◌∙◌, Some, ℕ, arith}
 use Rattle.std.specs.List.{range_with_len}
 use Rattle.std.proofs.Math.ListN.{get_or-map}
 use Rattle.std.proofs.lemmas.List.{length-map}
