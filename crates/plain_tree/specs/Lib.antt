@@ -1,6 +1,7 @@
 pub mod Calls
 pub mod Cells
 pub mod History
+pub mod Laws
 pub mod Moves
 pub mod Pages
 pub mod Paths

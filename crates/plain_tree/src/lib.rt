@@ -2,6 +2,7 @@
 #![tactic(auto)]
 
 mod calls;
+mod laws;
 mod map_tree;
 mod moves;
 mod node_map;
@@ -12,5 +13,6 @@ mod plain;
 mod refusals;
 
 pub use calls::{Answer, Call, Entry, Facts, Fate, Placed, Refusal, Sort};
+pub use laws::{refused_calls_change_nothing, trees_stay_valid};
 pub use nodes::{Kind, Node};
 pub use plain::Plain;

@@ -1,0 +1,74 @@
+-- What is true of the tree over all calls and all lists of calls.
+use Rattle.std.specs.Prelude.{◌≡◌, ◌≢◌, ℕ, ◌<◌, ◌≤◌, List, [], ◌∷◌, ◌++◌, true, false, map, length, Option, Some, None}
+use Rattle.std.specs.List.{Contains}
+use Rattle.std.specs.List.Sorted.{IsStrictlySortedBy}
+use Rattle.std.specs.Ordering.{nat_cmp}
+use Rattle.std.specs.Cmp.Lexicographic.{slice_cmp}
+use Rattle.std.specs.FinMap as fin
+use Rattle.tape_types.specs.declared.moments.Moment.{Moment}
+use Rattle.plain_tree.specs.declared.nodes.Node.{Node}
+use Rattle.plain_tree.specs.declared.nodes.Kind.{Kind}
+use Rattle.plain_tree.specs.declared.calls.Answer.TheVariants as answers
+use Rattle.plain_tree.specs.declared.calls.Call.{Call}
+use Rattle.plain_tree.specs.declared.calls.Call.TheVariants as asks
+use Rattle.plain_tree.specs.declared.calls.Entry.{Entry}
+use Rattle.plain_tree.specs.declared.calls.Placed.{Placed}
+use Rattle.plain_tree.specs.declared.calls.Refusal.{Refusal}
+use Rattle.plain_tree.specs.Paths.{is_at_or_below, parent_of}
+use Rattle.plain_tree.specs.Tree.{Tree, Nodes, empty_tree, sort_of, entries_in}
+use Rattle.plain_tree.specs.Refusals.{refusal_of}
+use Rattle.plain_tree.specs.Calls.{answer, after}
+use Rattle.plain_tree.specs.History.{Calls, replay}
+use Rattle.plain_tree.specs.Valid.{IsValid}
+
+-- the tree with the root alone is valid; each call leaves a valid tree valid, and so does each history
+pub record TreesStayValid : Type 0 where
+  pub first : (at : Moment) → IsValid (empty_tree at)
+  pub next : (t : Tree) (call : Call) (at : Moment) → IsValid t → IsValid (after t call at)
+  pub always : (calls : Calls) (history : List Placed) (t : Tree) → IsValid t → IsValid (replay calls t history)
+
+-- a refused call leaves the tree as it was
+abbrev pub RefusedCallsChangeNothing : Type 0
+RefusedCallsChangeNothing = (t : Tree) (call : Call) (at : Moment) (refusal : Refusal) → answer t call ≡ answers.Refused refusal → after t call at ≡ t
+
+-- no node has this uid
+abbrev pub IsUnused : Tree → ℕ → Type 0
+IsUnused t uid = (path : List (List ℕ)) (node : Node) → fin.get t.nodes path ≡ Some node → node.uid ≢ uid
+
+-- over any history of a valid tree the highest uid never falls, and a uid that was given and is in use no more never comes back
+pub record UidsNeverReturn : Type 0 where
+  pub rises : (calls : Calls) (history : List Placed) (t : Tree) → t.highest ≤ (replay calls t history).highest
+  pub stays_unused : (calls : Calls) (history : List Placed) (t : Tree) (uid : ℕ) → IsValid t → uid ≤ t.highest → IsUnused t uid → IsUnused (replay calls t history) uid
+
+-- the uid of a node, and what it holds
+abbrev pub holding : Option Node → Option (ℕ × Kind)
+holding None = None
+holding (Some node) = Some (node.uid, node.kind)
+
+abbrev pub holding_at : Tree → List (List ℕ) → Option (ℕ × Kind)
+holding_at t path = holding (fin.get t.nodes path)
+
+-- A rename of a valid tree that isn't refused moves each node at or below `from` with its uid and what it holds. What lies
+-- below the moved node is exactly as it was, and what lies elsewhere keeps its uid and what it holds.
+pub record RenameKeepsNodes (t : Tree) (from to : List (List ℕ)) (at : Moment) : Type 0 where
+  pub moved : (x : List (List ℕ)) → holding_at (after t (asks.Rename from to) at) (to ++ x) ≡ holding_at t (from ++ x)
+  pub gone : (x : List (List ℕ)) → from ≢ to → fin.get (after t (asks.Rename from to) at).nodes (from ++ x) ≡ None
+  pub elsewhere : (path : List (List ℕ)) → is_at_or_below from path ≡ false → is_at_or_below to path ≡ false
+    → holding_at (after t (asks.Rename from to) at) path ≡ holding_at t path
+
+abbrev pub RenamesKeepNodes : Type 0
+RenamesKeepNodes = (t : Tree) (from to : List (List ℕ)) (at : Moment) → IsValid t → refusal_of t (asks.Rename from to) ≡ None → RenameKeepsNodes t from to at
+
+-- a read of the range of a write that wasn't refused gives the bytes that were written
+abbrev pub ReadsSeeWrites : Type 0
+ReadsSeeWrites = (t : Tree) (path : List (List ℕ)) (offset : ℕ) (bytes : List ℕ) (at : Moment) → 0 < length bytes → refusal_of t (asks.Write path offset bytes) ≡ None
+    → answer (after t (asks.Write path offset bytes) at) (asks.Read path offset (length bytes)) ≡ answers.Got bytes
+
+-- A listing has a line for each node that stands directly in the directory, no other line, and its names ascend by their bytes.
+pub record IsExactListing (nodes : Nodes) (dir : List (List ℕ)) (entries : List Entry) : Type 0 where
+  pub complete : (name : List ℕ) (node : Node) → fin.get nodes (dir ++ name ∷ []) ≡ Some node → Contains entries (record { sort = sort_of node.kind; name = name })
+  pub sound : (entry : Entry) → Contains entries entry → (node : Node) × (fin.get nodes (dir ++ entry.name ∷ []) ≡ Some node) × (entry.sort ≡ sort_of node.kind)
+  pub ascends : IsStrictlySortedBy (slice_cmp nat_cmp) (map (λ e. e.name) entries)
+
+abbrev pub ListingsAreExact : Type 0
+ListingsAreExact = (t : Tree) (dir : List (List ℕ)) (entries : List Entry) → answer t (asks.Listing dir) ≡ answers.Names entries → IsExactListing t.nodes dir entries

@@ -1,0 +1,13 @@
+ghost use Rattle.plain_tree.specs.Laws.{TreesStayValid, RefusedCallsChangeNothing};
+
+/// Every tree that calls reach is valid.
+pub fn trees_stay_valid()
+    ensures { TreesStayValid }
+{
+}
+
+/// A refused call leaves the tree as it was.
+pub fn refused_calls_change_nothing()
+    ensures { RefusedCallsChangeNothing }
+{
+}
