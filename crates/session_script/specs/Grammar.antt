@@ -5,8 +5,8 @@ use Rattle.std.specs.Str.{is_utf8}
 use Rattle.plain_tree.specs.declared.calls.Call.{Call}
 use Rattle.plain_tree.specs.declared.calls.Call.TheVariants.{Mkdir, Create, Write, Truncate, Read, Listing, Stat, Rename, Remove, Sync}
 use Rattle.plain_tree.specs.History.{Calls}
-use Rattle.session_script.specs.declared.reading.Verb.{Verb}
-use Rattle.session_script.specs.declared.reading.Verb.TheVariants as verbs
+use Rattle.session_script.specs.declared.words.Verb.{Verb}
+use Rattle.session_script.specs.declared.words.Verb.TheVariants as verbs
 use Rattle.session_script.specs.declared.scripts.ScriptWhy.{ScriptWhy}
 use Rattle.session_script.specs.declared.scripts.ScriptWhy.TheVariants as reasons
 use Rattle.session_script.specs.declared.scripts.ScriptErr.{ScriptErr}
@@ -42,6 +42,10 @@ call_by verbs.Remove (p ∷ []) = read_as (path_of p) reasons.Path (λ path. Ok 
 call_by verbs.Sync [] = Ok Sync
 call_by _ _ = Err reasons.Words
 
+-- the same, where none of them is empty
+abbrev pub call_with : Verb → List (List ℕ) → Result Call ScriptWhy
+call_with verb words = if list_any is_empty words then Err reasons.Words else call_by verb words
+
 -- the call that the words of a line spell behind the session
 abbrev pub call_of : List (List ℕ) → Result Call ScriptWhy
 call_of [] = Err reasons.Verb
@@ -49,7 +53,7 @@ call_of (word ∷ words) = by_verb (verb_of word)
   where
     by_verb : Option Verb → Result Call ScriptWhy
     by_verb None = Err reasons.Verb
-    by_verb (Some verb) = if list_any is_empty words then Err reasons.Words else call_by verb words
+    by_verb (Some verb) = call_with verb words
 
 abbrev pub with_session : ℕ → Result Call ScriptWhy → Result ScriptLine ScriptWhy
 with_session who (Ok call) = Ok (record { who = who; call = call })

@@ -1,12 +1,12 @@
 -- The words of a script's line, and what each form of word spells.
-use Rattle.std.specs.Prelude.{ℕ, zero, suc, ◌+◌, ◌-◌, ◌*◌, ◌^◌, List, [], ◌∷◌, Bool, ◌&&◌, not, nat_le, nat_lt, nat_eq, ◌==◌, if◌then◌else◌, fold, map, length, drop, replicate, Option, Some, None, codes}
+use Rattle.std.specs.Prelude.{ℕ, zero, suc, ◌+◌, ◌-◌, ◌*◌, ◌^◌, List, [], ◌∷◌, Bool, ◌&&◌, not, nat_le, nat_lt, nat_eq, ◌==◌, if◌then◌else◌, fold, map, length, drop, replicate, Option, Some, None, option_and_then, codes}
 use Rattle.std.specs.List.{list_all, slice_split, starts_with}
 use Rattle.std.specs.Option.{option_map}
 use Rattle.std.specs.Str.{bytes_eq, is_utf8}
 use Rattle.std.specs.Char.{digit_value, is_digit}
 use Rattle.percent_encoding.specs.Percent.{percent_decode}
-use Rattle.session_script.specs.declared.reading.Verb.{Verb}
-use Rattle.session_script.specs.declared.reading.Verb.TheVariants as verbs
+use Rattle.session_script.specs.declared.words.Verb.{Verb}
+use Rattle.session_script.specs.declared.words.Verb.TheVariants as verbs
 
 -- the words between single spaces
 abbrev pub words_of : List ℕ → List (List ℕ)
@@ -47,12 +47,18 @@ verb_of word =
     else if bytes_eq word (codes "sync") then Some verbs.Sync
     else None
 
--- a name isn't empty, and is UTF-8 once its escapes are decoded
-abbrev pub is_name : List ℕ → Bool
-is_name piece = not (is_empty piece) && is_utf8 (percent_decode piece)
+-- the text of bytes that are UTF-8
+abbrev pub text_of : List ℕ → Option (List ℕ)
+text_of bytes = if is_utf8 bytes then Some bytes else None
 
+-- a name isn't empty, and is UTF-8 once its escapes are decoded
+abbrev pub name_of : List ℕ → Option (List ℕ)
+name_of piece = if is_empty piece then None else text_of (percent_decode piece)
+
+-- the names of pieces that are all names
 abbrev pub names_of : List (List ℕ) → Option (List (List ℕ))
-names_of pieces = if list_all is_name pieces then Some (map percent_decode pieces) else None
+names_of [] = Some []
+names_of (piece ∷ pieces) = option_and_then (λ name. option_map (λ names. name ∷ names) (names_of pieces)) (name_of piece)
 
 -- a path is a slash, or a slash and a name one or more times
 abbrev pub path_of : List ℕ → Option (List (List ℕ))
@@ -60,12 +66,15 @@ path_of [] = None
 path_of (c ∷ rest) =
     if c == 47 then (if is_empty rest then Some [] else names_of (slice_split (λ b. b == 47) rest)) else None
 
+-- the byte that two hexadecimal digits spell
+abbrev pub hex_value : ℕ → ℕ → Option ℕ
+hex_value high low = if is_digit high 16 && is_digit low 16 then Some (16 * digit_value high + digit_value low) else None
+
 -- pairs of hexadecimal digits, possibly none
 abbrev pub hex_bytes : List ℕ → Option (List ℕ)
 hex_bytes [] = Some []
 hex_bytes (high ∷ []) = None
-hex_bytes (high ∷ low ∷ rest) =
-    if is_digit high 16 && is_digit low 16 then option_map (λ bytes. (16 * digit_value high + digit_value low) ∷ bytes) (hex_bytes rest) else None
+hex_bytes (high ∷ low ∷ rest) = option_and_then (λ byte. option_map (λ bytes. byte ∷ bytes) (hex_bytes rest)) (hex_value high low)
 
 -- one byte or more, taken as they are
 abbrev pub text_bytes : List ℕ → Option (List ℕ)
@@ -74,8 +83,7 @@ text_bytes bytes = if is_empty bytes then None else Some bytes
 -- two hexadecimal digits, a colon and a number: so many bytes of that value
 abbrev pub fill_bytes : List ℕ → Option (List ℕ)
 fill_bytes (high ∷ low ∷ colon ∷ count) =
-    if is_digit high 16 && is_digit low 16 && colon == 58
-    then option_map (λ n. replicate n (16 * digit_value high + digit_value low)) (number_of count) else None
+    if colon == 58 then option_and_then (λ byte. option_map (λ n. replicate n byte) (number_of count)) (hex_value high low) else None
 fill_bytes _ = None
 
 -- the bytes of a write

@@ -1,0 +1,4 @@
+pub mod Arguments
+pub mod HexBytes
+pub mod Pieces
+pub mod Texts

@@ -1,0 +1,168 @@
+ghost use Rattle.std.specs.Prelude.{◌≡◌, [], ◌∷◌, IfOk};
+ghost use Rattle.session_script.specs.Grammar.{bytes_written, bytes_asked, call_by, spelled_by};
+ghost use Rattle.session_script.specs.Words.{words_of};
+ghost use Rattle.session_script.specs.declared.words.Verb.TheVariants as verbs;
+ghost use Rattle.session_script.specs.Readings.{call_drafted, call_given, IsDrafted, IsReadLine};
+
+use crate::bytes::{Content, read_bytes};
+use crate::faults::LineFault;
+use crate::paths::read_path;
+use crate::scripts::ScriptWhy;
+use crate::words::{Arguments, Verb, cut, read_arguments, read_number, read_session, read_verb};
+use plain_tree::Call;
+use std::alloc::Global;
+use tape_types::{List, NoMemory, Text};
+
+/// A call, before the bytes of a write are made.
+#[derive(Drop)]
+pub enum Draft {
+    Write {
+        path: List<Text>,
+        offset: u64,
+        content: Content,
+    },
+    Whole(Call),
+}
+
+impl Draft {
+    /// How many bytes the call writes.
+    pub fn bytes_written(&self) -> u64
+        ensures { result ≡ bytes_written (call_drafted self.now) }
+    {
+        match self {
+            Draft::Write { content, .. } => content.len(),
+            Draft::Whole(Call::Write { bytes, .. }) => bytes.len() as u64,
+            Draft::Whole(_) => 0,
+        }
+    }
+
+    /// How many bytes the call asks to read.
+    pub fn bytes_asked(&self) -> u64
+        ensures { result ≡ bytes_asked (call_drafted self.now) }
+    {
+        match self {
+            Draft::Whole(Call::Read { count, .. }) => *count,
+            _ => 0,
+        }
+    }
+
+    pub fn into_call(self, alloc: Global) -> Result<Call, NoMemory>
+        ensures { IfOk result (λ call. call ≡ call_drafted self) }
+    {
+        match self {
+            Draft::Write {
+                path,
+                offset,
+                content,
+            } => Ok(Call::Write {
+                path,
+                offset,
+                bytes: content.into_bytes(alloc)?,
+            }),
+            Draft::Whole(call) => Ok(call),
+        }
+    }
+}
+
+/// The session and the call that the words of a line spell.
+pub fn read_words(alloc: Global, line: &[u8]) -> Result<(u16, Draft), LineFault>
+    ensures { IsReadLine result (spelled_by (words_of line.now)) }
+{
+    let (first, left) = cut(line, b' ');
+    let who = read_session(first).ok_or(ScriptWhy::Who)?;
+    let left = left.ok_or(ScriptWhy::Verb)?;
+    let (second, left) = cut(left, b' ');
+    let verb = read_verb(second).ok_or(ScriptWhy::Verb)?;
+    let draft = read_call(alloc, verb, read_arguments(left))?;
+    Ok((who, draft))
+}
+
+/// The call that a verb and the words behind it spell.
+fn read_call(alloc: Global, verb: Verb, words: Arguments) -> Result<Draft, LineFault>
+    ensures { IsDrafted result (call_given verb words.entry) }
+{
+    match (verb, words) {
+        (Verb::Mkdir, Arguments::One(path)) => {
+            let path = read_path(alloc, path)?;
+            Ok(Draft::Whole(Call::Mkdir { path }))
+        }
+        (Verb::Create, Arguments::One(path)) => {
+            let path = read_path(alloc, path)?;
+            Ok(Draft::Whole(Call::Create { path }))
+        }
+        (Verb::Write, Arguments::Three(path, offset, bytes)) => {
+            read_write(alloc, path, offset, bytes)
+        }
+        (Verb::Truncate, Arguments::Two(path, length)) => read_truncate(alloc, path, length),
+        (Verb::Read, Arguments::Three(path, offset, count)) => {
+            read_read(alloc, path, offset, count)
+        }
+        (Verb::List, Arguments::One(path)) => {
+            let path = read_path(alloc, path)?;
+            Ok(Draft::Whole(Call::Listing { path }))
+        }
+        (Verb::Stat, Arguments::One(path)) => {
+            let path = read_path(alloc, path)?;
+            Ok(Draft::Whole(Call::Stat { path }))
+        }
+        (Verb::Rename, Arguments::Two(from, to)) => read_rename(alloc, from, to),
+        (Verb::Remove, Arguments::One(path)) => {
+            let path = read_path(alloc, path)?;
+            Ok(Draft::Whole(Call::Remove { path }))
+        }
+        (Verb::Sync, Arguments::Nothing) => Ok(Draft::Whole(Call::Sync)),
+        _ => Err(LineFault::Bad(ScriptWhy::Words)),
+    }
+}
+
+fn read_write(
+    alloc: Global,
+    path: &[u8],
+    offset: &[u8],
+    bytes: &[u8],
+) -> Result<Draft, LineFault>
+    ensures { IsDrafted result (call_by verbs.Write (path.now ∷ offset.now ∷ bytes.now ∷ [])) }
+{
+    let path = read_path(alloc, path)?;
+    let offset = read_number(offset).ok_or(ScriptWhy::Number)?;
+    let content = read_bytes(alloc, bytes)?;
+    Ok(Draft::Write {
+        path,
+        offset,
+        content,
+    })
+}
+
+fn read_truncate(alloc: Global, path: &[u8], length: &[u8]) -> Result<Draft, LineFault>
+    ensures { IsDrafted result (call_by verbs.Truncate (path.now ∷ length.now ∷ [])) }
+{
+    let path = read_path(alloc, path)?;
+    let length = read_number(length).ok_or(ScriptWhy::Number)?;
+    Ok(Draft::Whole(Call::Truncate { path, length }))
+}
+
+fn read_read(
+    alloc: Global,
+    path: &[u8],
+    offset: &[u8],
+    count: &[u8],
+) -> Result<Draft, LineFault>
+    ensures { IsDrafted result (call_by verbs.Read (path.now ∷ offset.now ∷ count.now ∷ [])) }
+{
+    let path = read_path(alloc, path)?;
+    let offset = read_number(offset).ok_or(ScriptWhy::Number)?;
+    let count = read_number(count).ok_or(ScriptWhy::Number)?;
+    Ok(Draft::Whole(Call::Read {
+        path,
+        offset,
+        count,
+    }))
+}
+
+fn read_rename(alloc: Global, from: &[u8], to: &[u8]) -> Result<Draft, LineFault>
+    ensures { IsDrafted result (call_by verbs.Rename (from.now ∷ to.now ∷ [])) }
+{
+    let from = read_path(alloc, from)?;
+    let to = read_path(alloc, to)?;
+    Ok(Draft::Whole(Call::Rename { from, to }))
+}
