@@ -1,4 +1,7 @@
 pub mod Arguments
+pub mod Bounds
 pub mod HexBytes
+pub mod HistoryLemmas
 pub mod Pieces
+pub mod SessionLemmas
 pub mod Texts

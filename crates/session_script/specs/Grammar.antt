@@ -20,7 +20,7 @@ abbrev pub calls_of : List ScriptLine → Calls
 calls_of script who = map (λ l. l.call) (filter (λ l. l.who == who) script)
 
 -- what a word spells goes on to the next word, or the reason is told
-abbrev pub read_as : {A : Type 0} → Option A → ScriptWhy → (A → Result Call ScriptWhy) → Result Call ScriptWhy
+abbrev pub read_as : {A B : Type 0} → Option A → ScriptWhy → (A → Result B ScriptWhy) → Result B ScriptWhy
 read_as None reason next = Err reason
 read_as (Some value) reason next = next value
 
@@ -49,12 +49,9 @@ call_with verb words = if list_any is_empty words then Err reasons.Words else ca
 -- the call that the words of a line spell behind the session
 abbrev pub call_of : List (List ℕ) → Result Call ScriptWhy
 call_of [] = Err reasons.Verb
-call_of (word ∷ words) = by_verb (verb_of word)
-  where
-    by_verb : Option Verb → Result Call ScriptWhy
-    by_verb None = Err reasons.Verb
-    by_verb (Some verb) = call_with verb words
+call_of (word ∷ words) = read_as (verb_of word) reasons.Verb (λ verb. call_with verb words)
 
+-- a session and its call
 abbrev pub with_session : ℕ → Result Call ScriptWhy → Result ScriptLine ScriptWhy
 with_session who (Ok call) = Ok (record { who = who; call = call })
 with_session who (Err reason) = Err reason
@@ -62,11 +59,7 @@ with_session who (Err reason) = Err reason
 -- what the words of a line spell: a session and its call
 abbrev pub spelled_by : List (List ℕ) → Result ScriptLine ScriptWhy
 spelled_by [] = Err reasons.Who
-spelled_by (word ∷ words) = by_session (session_of word)
-  where
-    by_session : Option ℕ → Result ScriptLine ScriptWhy
-    by_session None = Err reasons.Who
-    by_session (Some who) = with_session who (call_of words)
+spelled_by (word ∷ words) = read_as (session_of word) reasons.Who (λ who. with_session who (call_of words))
 
 -- how many bytes a call writes, and how many it asks to read
 abbrev pub bytes_written : Call → ℕ
@@ -86,13 +79,15 @@ limit_passed before line =
     else if nat_lt 67108864 (sum_by (λ l. bytes_asked l.call) before + bytes_asked line.call) then Some reasons.Sum
     else None
 
+-- a line that passes no limit, or the limit that it passes
+abbrev pub unless_passed : Option ScriptWhy → ScriptLine → Result (Option ScriptLine) ScriptWhy
+unless_passed None line = Ok (Some line)
+unless_passed (Some reason) line = Err reason
+
 -- a line within the limits
-abbrev pub limited : List ScriptLine → ScriptLine → Result (Option ScriptLine) ScriptWhy
-limited before line = by_limit (limit_passed before line)
-  where
-    by_limit : Option ScriptWhy → Result (Option ScriptLine) ScriptWhy
-    by_limit None = Ok (Some line)
-    by_limit (Some reason) = Err reason
+abbrev pub limited : List ScriptLine → Result ScriptLine ScriptWhy → Result (Option ScriptLine) ScriptWhy
+limited before (Ok line) = unless_passed (limit_passed before line) line
+limited before (Err reason) = Err reason
 
 -- an empty line and a comment are skipped
 abbrev pub is_skipped : List ℕ → Bool
@@ -103,11 +98,7 @@ abbrev pub line_of : List ScriptLine → List ℕ → Result (Option ScriptLine)
 line_of before line =
     if not (is_utf8 line) then Err reasons.Utf8
     else if is_skipped line then Ok None
-    else by_words (spelled_by (words_of line))
-  where
-    by_words : Result ScriptLine ScriptWhy → Result (Option ScriptLine) ScriptWhy
-    by_words (Ok spelled) = limited before spelled
-    by_words (Err reason) = Err reason
+    else limited before (spelled_by (words_of line))
 
 -- the script with one more line, or the line's refusal
 abbrev pub with_line : ℕ → List ScriptLine → Result (Option ScriptLine) ScriptWhy → Result (List ScriptLine) ScriptErr
@@ -115,6 +106,7 @@ with_line number before (Ok None) = Ok before
 with_line number before (Ok (Some spelled)) = Ok (before ++ spelled ∷ [])
 with_line number before (Err reason) = Err (record { line = number; why = reason })
 
+-- what was read goes on to the next line
 abbrev pub and_then : Result (List ScriptLine) ScriptErr → (List ScriptLine → Result (List ScriptLine) ScriptErr) → Result (List ScriptLine) ScriptErr
 and_then (Ok script) next = next script
 and_then (Err refusal) next = Err refusal

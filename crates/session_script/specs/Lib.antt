@@ -1,7 +1,10 @@
 pub mod Faults
 pub mod Grammar
+pub mod Limits
 pub mod LogText
 pub mod Readings
 pub mod ReasonNames
 pub mod Replies
+pub mod Sessions
+pub mod Steps
 pub mod Words

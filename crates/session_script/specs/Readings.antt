@@ -64,3 +64,9 @@ abbrev pub IsReadLine : Result (ℕ × Draft) LineFault → Result ScriptLine Sc
 IsReadLine (Ok line) spelled = spelled ≡ Ok (record { who = line.0; call = call_drafted line.1 })
 IsReadLine (Err (faults.Bad why)) spelled = spelled ≡ Err why
 IsReadLine (Err faults.NoMemory) spelled = Unit {0}
+
+-- what a reader answers is what is spelled, or the reason for which it is refused; or memory was refused
+abbrev pub IsRead : {A : Type 0} → Result A LineFault → Result A ScriptWhy → Type 0
+IsRead (Ok value) spelled = spelled ≡ Ok value
+IsRead (Err (faults.Bad why)) spelled = spelled ≡ Err why
+IsRead (Err faults.NoMemory) spelled = Unit {0}

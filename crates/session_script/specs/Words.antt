@@ -27,11 +27,8 @@ number_of word =
 
 -- a session is a number from 1 to 16 with no zero in front
 abbrev pub session_of : List ℕ → Option ℕ
-session_of word = within (number_of word)
-  where
-    within : Option ℕ → Option ℕ
-    within None = None
-    within (Some who) = if nat_le 1 who && nat_le who 16 && not (starts_with nat_eq word (codes "0")) then Some who else None
+session_of word =
+    option_and_then (λ who. if nat_le 1 who && nat_le who 16 && not (starts_with nat_eq word (codes "0")) then Some who else None) (number_of word)
 
 abbrev pub verb_of : List ℕ → Option Verb
 verb_of word =

@@ -31,8 +31,7 @@ impl Draft {
     {
         match self {
             Draft::Write { content, .. } => content.len(),
-            Draft::Whole(Call::Write { bytes, .. }) => bytes.len() as u64,
-            Draft::Whole(_) => 0,
+            Draft::Whole(call) => bytes_written(call),
         }
     }
 
@@ -41,8 +40,8 @@ impl Draft {
         ensures { result ≡ bytes_asked (call_drafted self.now) }
     {
         match self {
-            Draft::Whole(Call::Read { count, .. }) => *count,
-            _ => 0,
+            Draft::Write { .. } => 0,
+            Draft::Whole(call) => bytes_asked(call),
         }
     }
 
@@ -61,6 +60,26 @@ impl Draft {
             }),
             Draft::Whole(call) => Ok(call),
         }
+    }
+}
+
+/// How many bytes a call writes.
+pub fn bytes_written(call: &Call) -> u64
+    ensures { result ≡ bytes_written call.now }
+{
+    match call {
+        Call::Write { bytes, .. } => bytes.len() as u64,
+        _ => 0,
+    }
+}
+
+/// How many bytes a call asks to read.
+pub fn bytes_asked(call: &Call) -> u64
+    ensures { result ≡ bytes_asked call.now }
+{
+    match call {
+        Call::Read { count, .. } => *count,
+        _ => 0,
     }
 }
 
@@ -115,12 +134,7 @@ fn read_call(alloc: Global, verb: Verb, words: Arguments) -> Result<Draft, LineF
     }
 }
 
-fn read_write(
-    alloc: Global,
-    path: &[u8],
-    offset: &[u8],
-    bytes: &[u8],
-) -> Result<Draft, LineFault>
+fn read_write(alloc: Global, path: &[u8], offset: &[u8], bytes: &[u8]) -> Result<Draft, LineFault>
     ensures { IsDrafted result (call_by verbs.Write (path.now ∷ offset.now ∷ bytes.now ∷ [])) }
 {
     let path = read_path(alloc, path)?;
@@ -141,12 +155,7 @@ fn read_truncate(alloc: Global, path: &[u8], length: &[u8]) -> Result<Draft, Lin
     Ok(Draft::Whole(Call::Truncate { path, length }))
 }
 
-fn read_read(
-    alloc: Global,
-    path: &[u8],
-    offset: &[u8],
-    count: &[u8],
-) -> Result<Draft, LineFault>
+fn read_read(alloc: Global, path: &[u8], offset: &[u8], count: &[u8]) -> Result<Draft, LineFault>
     ensures { IsDrafted result (call_by verbs.Read (path.now ∷ offset.now ∷ count.now ∷ [])) }
 {
     let path = read_path(alloc, path)?;

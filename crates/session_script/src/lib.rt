@@ -6,8 +6,12 @@ mod drafts;
 mod faults;
 mod logs;
 mod paths;
+mod progress;
+mod reading;
 mod scripts;
+mod steps;
 mod words;
 
 pub use logs::{Ack, Event, Log, Reply};
+pub use reading::read_script;
 pub use scripts::{Script, ScriptErr, ScriptFault, ScriptLine, ScriptWhy};

@@ -1,0 +1,109 @@
+-- One more placement at the end of a history that goes by the lines of a script.
+use Rattle.std.proofs.Common.{◌≡◌, ℕ, zero, suc, ◌+◌, ◌<◌, ◌≤◌, Bool, true, false, cond, eqb, List, [], ◌∷◌, ◌++◌, length, take, filter, map, Some, None, sym, ap, ◌∙◌, refl, subst, arith, ⊎_elim, append-nil}
+use Rattle.std.specs.Prelude.{slice_get, Option}
+use Rattle.std.specs.List.{range_with_len}
+use Rattle.std.proofs.lemmas.Bool.{eqb-true, eq-eqb, cases_lt}
+use Rattle.std.proofs.lemmas.List.{map-append, take-append-le, length_push, take_all}
+use Rattle.std.proofs.lemmas.List.Elements.{filter-append}
+use Rattle.std.proofs.lemmas.List.FromFn.{map-range_with_len_more}
+use Rattle.std.proofs.lemmas.List.Sums.{fold-append}
+use Rattle.std.proofs.lemmas.Option.{slice_get_within}
+use Rattle.plain_tree.specs.declared.calls.Call.{Call}
+use Rattle.plain_tree.specs.declared.calls.Placed.{Placed}
+use Rattle.plain_tree.specs.History.{Calls, call_at, after_placement, replay, numbers_of, IsInterleaving}
+use Rattle.plain_tree.specs.Tree.{Tree}
+use Rattle.session_script.specs.Grammar.{calls_of}
+use Rattle.session_script.specs.Replies.{IsReply, AreReplies}
+use Rattle.session_script.specs.declared.logs.Reply.{Reply}
+use Rattle.session_script.specs.declared.scripts.ScriptLine.{ScriptLine}
+
+pub replay-push : (calls : Calls) (first : Tree) (history : List Placed) (p : Placed) → replay calls first (history ++ p ∷ []) ≡ after_placement calls (replay calls first history) p
+replay-push calls first history p = fold-append (after_placement calls) first history (p ∷ [])
+
+filter-one : {A : Type 0} (test : A → Bool) (x : A) → filter test (x ∷ []) ≡ cond (test x) (x ∷ []) []
+filter-one test x = at (test x)
+  where
+    at : (b : Bool) → cond b (x ∷ []) [] ≡ cond b (x ∷ []) []
+    at b = refl
+
+map-one_if : {A B : Type 0} (f : A → B) (b : Bool) (x : A) → map f (cond b (x ∷ []) []) ≡ cond b (f x ∷ []) []
+map-one_if f true x = refl
+map-one_if f false x = refl
+
+-- the elements that pass, as they are shown, of a list with one more
+shown-push : {A B : Type 0} (show : A → B) (test : A → Bool) (xs : List A) (x : A) → map show (filter test (xs ++ x ∷ [])) ≡ map show (filter test xs) ++ cond (test x) (show x ∷ []) []
+shown-push show test xs x =
+    ap (map show) (filter-append test xs (x ∷ []) ∙ ap (λ l. filter test xs ++ l) (filter-one test x))
+    ∙ map-append show (filter test xs) (cond (test x) (x ∷ []) [])
+    ∙ ap (λ l. map show (filter test xs) ++ l) (map-one_if show (test x) x)
+
+range_more : (n : ℕ) → range_with_len 0 (n + 1) ≡ range_with_len 0 n ++ n ∷ []
+range_more n = sym (map_same (range_with_len 0 (n + 1))) ∙ map-range_with_len_more (λ i. i) 0 n n (omega arith) ∙ ap (λ l. l ++ n ∷ []) (map_same (range_with_len 0 n))
+  where
+    map_same : (xs : List ℕ) → map (λ i. i) xs ≡ xs
+    map_same [] = refl
+    map_same (x ∷ xs) = ap (λ l. x ∷ l) (map_same xs)
+
+-- the line's session goes on by one number, and the others stay
+numbers_go_on : (b : Bool) (calls : List Call) (call : Call) (nth : ℕ) → (b ≡ true → nth ≡ length calls) → range_with_len 0 (length calls) ++ cond b (nth ∷ []) [] ≡ range_with_len 0 (length (calls ++ cond b (call ∷ []) []))
+numbers_go_on true calls call nth next =
+    ap (λ n. range_with_len 0 (length calls) ++ n ∷ []) (next refl) ∙ sym (range_more (length calls)) ∙ ap (range_with_len 0) (sym (length_push calls call))
+numbers_go_on false calls call nth next = simp append-nil refl
+
+pub interleaving_more : (script : List ScriptLine) (line : ScriptLine) (history : List Placed) (p : Placed) → p.who ≡ line.who → p.nth ≡ length (calls_of script line.who) → IsInterleaving (calls_of script) history
+    → IsInterleaving (calls_of (script ++ line ∷ [])) (history ++ p ∷ [])
+interleaving_more script line history p same next so_far who =
+    shown-push (λ q. q.nth) (λ q. eqb q.who who) history p
+    ∙ ap (λ l. l ++ cond (eqb p.who who) (p.nth ∷ []) []) (so_far who)
+    ∙ ap (λ w. range_with_len 0 (length (calls_of script who)) ++ cond (eqb w who) (p.nth ∷ []) []) same
+    ∙ numbers_go_on (eqb line.who who) (calls_of script who) line.call p.nth (λ is. next ∙ ap (λ w. length (calls_of script w)) (eqb-true line.who who is))
+    ∙ ap (λ l. range_with_len 0 (length l)) (sym (shown-push (λ l. l.call) (λ l. eqb l.who who) script line))
+
+some_same : {A : Type 0} (x y : A) → Some x ≡ Some y → x ≡ y
+some_same x y e = cc
+
+-- the call of a line is the one of its session with as many calls before it
+pub call_at_line : (script : List ScriptLine) (k : ℕ) (line : ScriptLine) → slice_get script k ≡ Some line
+    → slice_get (calls_of script line.who) (length (calls_of (take k script) line.who)) ≡ Some line.call
+call_at_line [] k line found = cc
+call_at_line (x ∷ script) zero line found =
+    let same : x ≡ line = some_same x line found in
+    ap (λ b. slice_get (map (λ l. l.call) (cond b (x ∷ filter (λ l. eqb l.who line.who) script) (filter (λ l. eqb l.who line.who) script))) 0) (eq-eqb x.who line.who (ap (λ l. l.who) same))
+    ∙ ap (λ l. Some l.call) same
+call_at_line (x ∷ script) (suc k) line found = at (eqb x.who line.who) (call_at_line script k line found)
+  where
+    at : (b : Bool) → slice_get (calls_of script line.who) (length (calls_of (take k script) line.who)) ≡ Some line.call
+        → slice_get (map (λ l. l.call) (cond b (x ∷ filter (λ l. eqb l.who line.who) script) (filter (λ l. eqb l.who line.who) script)))
+        (length (map (λ l. l.call) (cond b (x ∷ filter (λ l. eqb l.who line.who) (take k script)) (filter (λ l. eqb l.who line.who) (take k script))))) ≡ Some line.call
+    at true rest = rest
+    at false rest = rest
+
+slice_get-append : {A : Type 0} (xs ys : List A) (k : ℕ) → k < length xs → slice_get (xs ++ ys) k ≡ slice_get xs k
+slice_get-append [] ys k lt = absurd (omega arith)
+slice_get-append (x ∷ xs) ys zero lt = refl
+slice_get-append (x ∷ xs) ys (suc k) lt = slice_get-append xs ys k (omega arith)
+
+slice_get-seam : {A : Type 0} (xs : List A) (y : A) → slice_get (xs ++ y ∷ []) (length xs) ≡ Some y
+slice_get-seam [] y = refl
+slice_get-seam (x ∷ xs) y = slice_get-seam xs y
+
+-- one more placement with its reply
+pub replies_more : (calls : Calls) (first : Tree) (history : List Placed) (answered : List Reply) (p : Placed) (call : Call) (reply : Reply)
+    → AreReplies calls first history answered → call_at calls p ≡ Some call → IsReply p.fate (replay calls first history) call reply
+    → AreReplies calls first (history ++ p ∷ []) (answered ++ reply ∷ [])
+replies_more calls first history answered p call reply so_far is answers = record {
+  count = length_push answered reply ∙ ap (λ n. n + 1) so_far.count ∙ sym (length_push history p);
+  each = λ place q r at_q at_r. ⊎_elim
+      (λ lt.
+      let before : take place (history ++ p ∷ []) ≡ take place history = take-append-le place history (p ∷ []) (omega arith) in
+      let there = so_far.each place q r (sym (slice_get-append history (p ∷ []) place lt) ∙ at_q) (sym (slice_get-append answered (reply ∷ []) place (omega (arith, so_far.count))) ∙ at_r) in
+      (there.0, there.1, subst (λ h. IsReply q.fate (replay calls first h) there.0 r) (sym before) there.2))
+      (λ ge.
+      let within : place < length (history ++ p ∷ []) = slice_get_within (history ++ p ∷ []) place q at_q in
+      let last : place ≡ length history = omega (arith, length_push history p) in
+      let is_p : p ≡ q = some_same p q (sym (slice_get-seam history p) ∙ ap (slice_get (history ++ p ∷ [])) (sym last) ∙ at_q) in
+      let is_reply : reply ≡ r = some_same reply r (sym (slice_get-seam answered reply) ∙ ap (slice_get (answered ++ reply ∷ [])) (so_far.count ∙ sym last) ∙ at_r) in
+      let before : take place (history ++ p ∷ []) ≡ history = take-append-le place history (p ∷ []) (omega arith) ∙ take_all place history (omega arith) in
+      (call, ap (call_at calls) (sym is_p) ∙ is, subst (λ h. IsReply q.fate (replay calls first h) call r) (sym before) (subst (λ x. IsReply x.fate (replay calls first history) call r) is_p (subst (IsReply p.fate (replay calls first history) call) is_reply answers))))
+      (cases_lt place (length history));
+}
