@@ -1,6 +1,6 @@
 -- A script that grows within its limits.
-use Rattle.std.proofs.Common.{◌≡◌, ◌≢◌, ℕ, zero, suc, ◌+◌, ◌-◌, ◌*◌, ◌<◌, ◌≤◌, Bool, true, false, cond, eqb, ltb, leb, List, [], ◌∷◌, ◌++◌, length, sum_by, sym, ap, ◌∙◌, refl, subst, arith, ⊎_elim, Some, None, Ok, Err, ne_eqb, map}
-use Rattle.std.specs.Prelude.{Option, Result, nat_le, nat_lt, nat_eq, ◌&&◌, ◌||◌, not, filter, option_and_then, codes}
+use Rattle.std.proofs.Common.{◌≡◌, ◌≢◌, ℕ, zero, suc, ◌+◌, ◌*◌, ◌<◌, ◌≤◌, Bool, true, false, cond, eqb, List, [], ◌∷◌, ◌++◌, length, sum_by, sym, ap, ◌∙◌, refl, subst, arith, ⊎_elim, Some, None, Ok, Err, ne_eqb, map}
+use Rattle.std.specs.Prelude.{Option, Result, nat_le, nat_eq, ◌&&◌, not, filter, option_and_then, codes}
 use Rattle.std.specs.List.{starts_with}
 use Rattle.std.specs.Str.{is_utf8}
 use Rattle.std.proofs.lemmas.Bool.{cases_eq, eq-eqb, leb-false, ltb-false}
@@ -14,7 +14,7 @@ use Rattle.session_script.specs.Words.{words_of, number_of, session_of}
 use Rattle.session_script.specs.Grammar.{calls_of, bytes_written, bytes_asked, limit_passed, unless_passed, limited, is_skipped, line_of, read_as, with_session, call_of, spelled_by}
 use Rattle.session_script.specs.Sessions.{HasSessions}
 use Rattle.session_script.specs.Limits.{IsBounded}
-use Rattle.session_script.proofs.SessionLemmas.{length-calls_more, HasSessions-more, length-calls-le}
+use Rattle.session_script.proofs.SessionLemmas.{length-calls_more, HasSessions-more}
 
 abbrev one_if : Bool → ℕ
 one_if b = cond b 1 0

@@ -1,5 +1,5 @@
 -- Decoding hexadecimal against the bytes that it spells.
-use Rattle.std.proofs.Common.{◌≡◌, ℕ, zero, suc, ◌+◌, ◌*◌, ◌%◌, Bool, true, false, cond, eqb, ltb, List, [], ◌∷◌, length, sym, ap, ◌∙◌, refl, arith, subst, ◌⊎◌, ⊎_elim, Some, None, Ok, Err}
+use Rattle.std.proofs.Common.{◌≡◌, ℕ, ◌+◌, ◌*◌, ◌%◌, Bool, true, false, cond, eqb, List, [], ◌∷◌, length, sym, ap, ◌∙◌, refl, arith, subst, ◌⊎◌, ⊎_elim, Some, None, Ok, Err}
 use Rattle.std.specs.Prelude.{Option, Result, option_and_then, ◌&&◌}
 use Rattle.std.specs.Option.{option_map}
 use Rattle.std.specs.Char.{digit_value, is_digit}

@@ -1,6 +1,6 @@
 -- One more placement at the end of a history that goes by the lines of a script.
-use Rattle.std.proofs.Common.{◌≡◌, ℕ, zero, suc, ◌+◌, ◌<◌, ◌≤◌, Bool, true, false, cond, eqb, List, [], ◌∷◌, ◌++◌, length, take, filter, map, Some, None, sym, ap, ◌∙◌, refl, subst, arith, ⊎_elim, append-nil}
-use Rattle.std.specs.Prelude.{slice_get, Option}
+use Rattle.std.proofs.Common.{◌≡◌, ℕ, zero, suc, ◌+◌, ◌<◌, Bool, true, false, cond, eqb, List, [], ◌∷◌, ◌++◌, length, take, filter, map, Some, sym, ap, ◌∙◌, refl, subst, arith, ⊎_elim, append-nil}
+use Rattle.std.specs.Prelude.{slice_get}
 use Rattle.std.specs.List.{range_with_len}
 use Rattle.std.proofs.lemmas.Bool.{eqb-true, eq-eqb, cases_lt}
 use Rattle.std.proofs.lemmas.List.{map-append, take-append-le, length_push, take_all}
@@ -10,7 +10,7 @@ use Rattle.std.proofs.lemmas.List.Sums.{fold-append}
 use Rattle.std.proofs.lemmas.Option.{slice_get_within}
 use Rattle.plain_tree.specs.declared.calls.Call.{Call}
 use Rattle.plain_tree.specs.declared.calls.Placed.{Placed}
-use Rattle.plain_tree.specs.History.{Calls, call_at, after_placement, replay, numbers_of, IsInterleaving}
+use Rattle.plain_tree.specs.History.{Calls, call_at, after_placement, replay, IsInterleaving}
 use Rattle.plain_tree.specs.Tree.{Tree}
 use Rattle.session_script.specs.Grammar.{calls_of}
 use Rattle.session_script.specs.Replies.{IsReply, AreReplies}

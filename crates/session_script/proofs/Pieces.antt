@@ -1,5 +1,5 @@
 -- The first piece of a text that is cut at a byte.
-use Rattle.std.proofs.Common.{◌≡◌, ℕ, ◌+◌, ◌<◌, ◌≤◌, Bool, true, false, List, ◌∷◌, [], length, get_or, take, drop, sym, ap, ◌∙◌, refl, arith, Some, None, Bor}
+use Rattle.std.proofs.Common.{◌≡◌, ℕ, ◌+◌, ◌<◌, Bool, true, false, List, ◌∷◌, [], length, get_or, take, drop, ap, ◌∙◌, refl, arith, Some, None, Bor}
 use Rattle.std.specs.Prelude.{Option}
 use Rattle.std.specs.List.{slice_split}
 use Rattle.std.proofs.lemmas.List.Splits.{slice_split_first, slice_split_none}

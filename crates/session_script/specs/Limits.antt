@@ -1,5 +1,5 @@
 -- Scripts within the limits, and their growth by a line.
-use Rattle.std.specs.Prelude.{◌≡◌, ℕ, ◌≤◌, List, length, sum_by, Result, Ok, Err}
+use Rattle.std.specs.Prelude.{ℕ, ◌≤◌, List, length, sum_by}
 use Rattle.session_script.specs.declared.scripts.ScriptLine.{ScriptLine}
 use Rattle.session_script.specs.Grammar.{calls_of, bytes_written, bytes_asked}
 use Rattle.session_script.specs.Sessions.{HasSessions}

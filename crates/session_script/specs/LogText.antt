@@ -25,10 +25,14 @@ hex_byte b = digit_glyph false (b / 16) ∷ digit_glyph false (b % 16) ∷ []
 abbrev pub escaped : List ℕ → List ℕ
 escaped text = percent_encode ESCAPED text
 
--- `N`, and a space and the bytes in hexadecimal, where there are any
+-- a space and the bytes in hexadecimal, where there are any
+abbrev pub hex_text : List ℕ → List ℕ
+hex_text [] = []
+hex_text (b ∷ bytes) = codes " " ++ flat_map hex_byte (b ∷ bytes)
+
+-- how many bytes there are, and the bytes
 abbrev pub bytes_text : List ℕ → List ℕ
-bytes_text [] = codes "0"
-bytes_text (b ∷ bytes) = decimal (length (b ∷ bytes)) ++ codes " " ++ flat_map hex_byte (b ∷ bytes)
+bytes_text bytes = decimal (length bytes) ++ hex_text bytes
 
 abbrev pub sort_letter : Sort → List ℕ
 sort_letter sorts.Dir = codes "d"
@@ -38,14 +42,15 @@ sort_letter sorts.Link = codes "l"
 abbrev pub entry_text : Entry → List ℕ
 entry_text entry = codes " " ++ sort_letter entry.sort ++ codes ":" ++ escaped entry.name
 
+-- the sort and the uid, and a file's length or a link's text
+abbrev pub sort_text : Sort → Facts → List ℕ
+sort_text sorts.Dir facts = codes "dir " ++ decimal facts.uid
+sort_text sorts.File facts = codes "file " ++ decimal facts.uid ++ codes " " ++ decimal facts.length
+sort_text sorts.Link facts = codes "link " ++ decimal facts.uid ++ codes " " ++ escaped facts.text
+
 -- the modify time is the one that is told
 abbrev pub facts_text : Facts → List ℕ
-facts_text facts = by_sort facts.sort
-  where
-    by_sort : Sort → List ℕ
-    by_sort sorts.Dir = codes "dir " ++ decimal facts.uid ++ codes " " ++ time_text facts.times.modify
-    by_sort sorts.File = codes "file " ++ decimal facts.uid ++ codes " " ++ decimal facts.length ++ codes " " ++ time_text facts.times.modify
-    by_sort sorts.Link = codes "link " ++ decimal facts.uid ++ codes " " ++ escaped facts.text ++ codes " " ++ time_text facts.times.modify
+facts_text facts = sort_text facts.sort facts ++ codes " " ++ time_text facts.times.modify
 
 abbrev pub answer_text : Answer → List ℕ
 answer_text answers.Done = codes "ok"

@@ -6,6 +6,7 @@ mod drafts;
 mod faults;
 mod logs;
 mod paths;
+mod printing;
 mod progress;
 mod reading;
 mod scripts;
@@ -13,5 +14,6 @@ mod steps;
 mod words;
 
 pub use logs::{Ack, Event, Log, Reply};
+pub use printing::log_text;
 pub use reading::read_script;
 pub use scripts::{Script, ScriptErr, ScriptFault, ScriptLine, ScriptWhy};

@@ -1,5 +1,4 @@
-use Rattle.std.proofs.Common.{◌≡◌, ◌+◌, ◌++◌, ℕ, List, eqb, length, Bor, None, Some}
-use Rattle.std.specs.Prelude.{Option}
+use Rattle.std.proofs.Common.{◌≡◌, ◌++◌, eqb}
 use Rattle.std.specs.Option.{option_map}
 use Rattle.std.specs.List.{slice_split}
 use Rattle.session_script.specs.Words.{names_of}

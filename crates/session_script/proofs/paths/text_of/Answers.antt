@@ -1,4 +1,4 @@
-use Rattle.std.proofs.Common.{ap, ◌∙◌}
+use Rattle.std.proofs.Common.{ap}
 use Rattle.std.proofs.lemmas.Str.{IsUtf8-string_bytes}
 use Rattle.session_script.proofs.Texts.{text_of-IsUtf8, text_of-fault}
 use Rattle.session_script.proofs.paths.text_of.Goals as goal
