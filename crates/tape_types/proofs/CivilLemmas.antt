@@ -43,6 +43,9 @@ civil_of_only m c h =
     same_civil (civil_of m) c (rw parts.0 (year_of-civil c.year c.month c.day h.date)) (rw parts.0 (month_of-civil c.year c.month c.day h.date)) (rw parts.0 (day_of-civil c.year c.month c.day h.date))
     (rw parts.1 (omega arith)) (rw parts.1 (omega arith)) (rw parts.1 (omega arith)) h.nanos
 
+pub civil_once : (m : Moment) (c d : Civil) → IsCivil m c → IsCivil m d → c ≡ d
+civil_once m c d h k = sym (civil_of_only m c h) ∙ civil_of_only m d k
+
 -- and it names each
 named : (m : Moment) → DateOn (day_number m.secs) → (c : Civil) × IsCivil m c
 named m on =

@@ -47,6 +47,7 @@ pub fn parse_time(text: &[u8]) -> Option<Moment>
 /// two moments have the same text.
 pub fn times_are_civil()
     ensures named { (m : Moment) → (c : Civil) × IsCivil m c }
+    ensures once { (m : Moment) (c d : Civil) → IsCivil m c → IsCivil m d → c ≡ d }
     ensures shown { (m : Moment) (c : Civil) → IsCivil m c → time_text m ≡ civil_text c }
     ensures apart { (m n : Moment) → time_text m ≡ time_text n → m ≡ n }
 {}
