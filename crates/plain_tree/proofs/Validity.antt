@@ -275,12 +275,12 @@ remove_keeps t path at free s =
         ] refl
 
 -- what holds before a node moves
-record CanMove (m : Nodes) (from to : List (List ℕ)) : Type 0 where
-  from_named : from ≢ []
-  to_named : to ≢ []
-  free : (x : List (List ℕ)) → is_at_or_below to x ≡ true → fin.get m x ≡ None
-  apart : is_at_or_below from to ≡ false
-  up : (u : ℕ) × (mark_at m (parent_of to) ≡ Some (u, true))
+pub record CanMove (m : Nodes) (from to : List (List ℕ)) : Type 0 where
+  pub from_named : from ≢ []
+  pub to_named : to ≢ []
+  pub free : (x : List (List ℕ)) → is_at_or_below to x ≡ true → fin.get m x ≡ None
+  pub apart : is_at_or_below from to ≡ false
+  pub up : (u : ℕ) × (mark_at m (parent_of to) ≡ Some (u, true))
 
 marked : (a b : Bool) (x y : Option Node) → mark_of (cond a x (cond b None y)) ≡ cond a (mark_of x) (cond b None (mark_of y))
 marked true b x y = refl
@@ -413,7 +413,7 @@ not_at_or_below from to below differ = not_true (is_at_or_below from to) (λ e.
     let same : from ≡ to = (below_Decides from to).0 e ∙ take_all (length from) to (omega arith) in
     let wrong : true ≡ false = sym (is_same from to same) ∙ differ in cc)
 
-can_move : (t : Tree) (from to : List (List ℕ)) → IsValid t → rename_refusal t.nodes from to ≡ None → same_path from to ≡ false → CanMove t.nodes from to
+pub can_move : (t : Tree) (from to : List (List ℕ)) → IsValid t → rename_refusal t.nodes from to ≡ None → same_path from to ≡ false → CanMove t.nodes from to
 can_move t from to s free differ =
     let a = first_none (bad_name to) _ free in
     let b = first_none (at_root from) _ a.1 in

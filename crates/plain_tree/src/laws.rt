@@ -1,4 +1,4 @@
-ghost use Rattle.plain_tree.specs.Laws.{TreesStayValid, RefusedCallsChangeNothing};
+ghost use Rattle.plain_tree.specs.Laws.{TreesStayValid, RefusedCallsChangeNothing, UidsNeverReturn};
 
 /// Every tree that calls reach is valid.
 pub fn trees_stay_valid()
@@ -9,5 +9,11 @@ pub fn trees_stay_valid()
 /// A refused call leaves the tree as it was.
 pub fn refused_calls_change_nothing()
     ensures { RefusedCallsChangeNothing }
+{
+}
+
+/// The uid of a node that is gone is never given again.
+pub fn uids_never_return()
+    ensures { UidsNeverReturn }
 {
 }

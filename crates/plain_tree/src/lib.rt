@@ -13,6 +13,6 @@ mod plain;
 mod refusals;
 
 pub use calls::{Answer, Call, Entry, Facts, Fate, Placed, Refusal, Sort};
-pub use laws::{refused_calls_change_nothing, trees_stay_valid};
+pub use laws::{refused_calls_change_nothing, trees_stay_valid, uids_never_return};
 pub use nodes::{Kind, Node};
 pub use plain::Plain;
