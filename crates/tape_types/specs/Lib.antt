@@ -1,3 +1,4 @@
+pub mod Cartridges
 pub mod Counts
 pub mod Moments
 pub mod Names

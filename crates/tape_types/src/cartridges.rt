@@ -1,5 +1,8 @@
+ghost use Rattle.std.specs.Prelude.{◌≡◌, IfOk};
+
 use crate::lists::List;
-use crate::texts::Bytes;
+use crate::texts::{Bytes, NoMemory};
+use std::alloc::Global;
 
 /// One of the two partitions of a cartridge (LTFS 2.4, section 5.1).
 #[derive(Clone, Copy, Debug, PartialEq, Eq)]
@@ -26,6 +29,19 @@ pub enum Item {
     Mark,
     /// What a write that was cut off has left: it can't be read.
     Torn,
+}
+
+impl Item {
+    /// A second item that equals this one.
+    pub fn try_clone(&self, alloc: Global) -> Result<Item, NoMemory>
+        ensures { IfOk result (λ copy. copy ≡ self.now) }
+    {
+        match self {
+            Item::Block(bytes) => Ok(Item::Block(bytes.try_clone(alloc)?)),
+            Item::Mark => Ok(Item::Mark),
+            Item::Torn => Ok(Item::Torn),
+        }
+    }
 }
 
 /// The volume coherency attribute of a partition (LTFS 2.4, section 10.4).
