@@ -1,0 +1,6 @@
+pub mod Commands
+pub mod Crashes
+pub mod Memory
+pub mod Placed
+pub mod Record
+pub mod Schedule

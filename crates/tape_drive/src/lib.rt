@@ -1,0 +1,12 @@
+//! A tape drive: the trait that every promise about a cartridge rests on, with what a crash may leave at any moment.
+#![tactic(auto)]
+
+mod drive;
+mod memory;
+mod record;
+mod schedule;
+
+pub use drive::{Drive, DriveErr, Got};
+pub use memory::MemDrive;
+pub use record::{Act, Entry};
+pub use schedule::{Cmd, Fail, Schedule, Start};
