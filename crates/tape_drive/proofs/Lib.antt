@@ -1,1 +1,4 @@
+pub mod Acts
+pub mod Meets
 pub mod Sound
+pub mod Told

@@ -1,5 +1,6 @@
 pub mod Commands
 pub mod Crashes
+pub mod Laws
 pub mod Memory
 pub mod Placed
 pub mod Record

@@ -15,6 +15,8 @@ use Rattle.tape_drive.specs.declared.schedule.Schedule.{Schedule}
 use Rattle.tape_drive.specs.declared.record.Act.{Act}
 use Rattle.tape_drive.specs.declared.record.Act.TheVariants.{Put, Flushed, Noted, Settled}
 use Rattle.tape_drive.specs.declared.record.Entry.{Entry}
+use Rattle.tape_drive.specs.declared.drive.Got.{Got}
+use Rattle.tape_drive.specs.Commands.{item_at, IsRead, after_read}
 use Rattle.tape_drive.specs.Schedule.{up, fresh, counted, IsStopped, IsListed}
 use Rattle.tape_drive.specs.Record.{with_items, with_note, IsSound}
 
@@ -139,11 +141,22 @@ MustFail kind v = IsStopped v.schedule ⊎ IsListed kind v.schedule
 abbrev pub MustFailToWrite : Cmd → View → Type 0
 MustFailToWrite kind v = MustFail kind v ⊎ (2 ^ 64 - 1 ≤ v.held.vcr)
 
--- What a command of this kind does that reads, flushes or writes an attribute: it fails where it has to or for want of
--- memory, and then changes nothing; else it does this.
-abbrev pub Ran : {T E : Type 0} → Result T E → Cmd → View → View → View → Type 0
-Ran (Ok _) kind done old new = (¬ (MustFail kind old)) × (new ≡ done)
-Ran (Err _) kind done old new = (MustFail kind old × (new ≡ failed (begun kind old)))
+-- What a locate does: it fails where it has to, and then changes nothing; else the head stands there.
+abbrev pub RanLocate : {T E : Type 0} → Result T E → Place → View → View → Type 0
+RanLocate (Ok _) at old new = (¬ (MustFail cmd.Locate old)) × (new ≡ moved (Some at) (begun cmd.Locate old))
+RanLocate (Err _) at old new = MustFail cmd.Locate old × (new ≡ failed (begun cmd.Locate old))
+
+-- What a read at a place does: it fails where it has to, and then changes nothing; else it answers what stands there.
+abbrev pub RanRead : {E : Type 0} → Result Got E → Place → List ℕ → View → View → Type 0
+RanRead (Ok answer) at buf old new =
+    (¬ (MustFail cmd.Read old)) × IsRead (item_at at old.held) answer buf × (new ≡ moved (Some (after_read answer at)) (begun cmd.Read old))
+RanRead (Err _) at buf old new = MustFail cmd.Read old × (new ≡ failed (begun cmd.Read old))
+
+-- What a command of another kind does that is no write or mark: it fails where it has to or for want of memory, and then
+-- changes nothing; else it does this act, and the cartridge reads so.
+abbrev pub Ran : {T E : Type 0} → Result T E → Cmd → Act → Cartridge → View → View → Type 0
+Ran (Ok _) kind act held old new = (¬ (MustFail kind old)) × (new ≡ acted old.commands act held (begun kind old))
+Ran (Err _) kind act held old new = (MustFail kind old × (new ≡ failed (begun kind old)))
     ⊎ ((¬ (MustFail kind old)) × (new ≡ starved_out (begun kind old)))
 
 -- What a write or mark does at a place: it fails where it has to or for want of memory, and then changes nothing

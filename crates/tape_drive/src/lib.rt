@@ -1,6 +1,7 @@
 //! A tape drive: the trait that every promise about a cartridge rests on, with what a crash may leave at any moment.
 #![tactic(auto)]
 
+mod commands;
 mod drive;
 mod memory;
 mod record;

@@ -1,5 +1,7 @@
 // A drive in memory.
-ghost use Rattle.std.specs.Prelude.{◌≡◌, ◌≤◌, ◌<◌, ◌+◌, ◌-◌, ◌^◌, ◌++◌, [], ◌∷◌, length, take, drop, OnOk, OnErr, IfOk, vec_len, vec_capacity, Option, Some};
+ghost use Rattle.std.specs.Prelude.{◌≡◌, ◌≤◌, ◌<◌, ◌+◌, ◌-◌, ◌^◌, ◌++◌, [], ◌∷◌, length, take, drop, OnOk, OnErr, IfOk, IsTrue, All, ◌↔◌, vec_len, vec_capacity, Option, Some};
+ghost use Rattle.std.specs.Option.{option_copied};
+ghost use Rattle.tape_drive.specs.Commands.{item_at};
 ghost use Rattle.tape_types.specs.declared.cartridges.Place.{Place};
 ghost use Rattle.tape_types.specs.declared.cartridges.Item.{Item};
 ghost use Rattle.tape_types.specs.declared.cartridges.Cartridge.{Cartridge};
@@ -100,7 +102,7 @@ impl MemDrive {
     ghost use Rattle.tape_types.specs.Cartridges.{items_of, note_of, capacity, IsItem};
     ghost use Rattle.tape_drive.specs.Memory.{begun, failed, starved_out, acted, with_item, moved, IsSane};
     ghost use Rattle.tape_drive.specs.Schedule.{IsStart};
-    ghost use Rattle.tape_drive.specs.Record.{with_note, undo};
+    ghost use Rattle.tape_drive.specs.Record.{with_note, undo, IsSound};
     ghost use Rattle.tape_drive.specs.declared.record.Act.TheVariants.{Put, Noted};
 
     // A command of this kind has come.
@@ -128,8 +130,74 @@ impl MemDrive {
         self.fail()
     }
 
+    pub(crate) fn alloc(&self) -> Global {
+        self.alloc
+    }
+
+    pub(crate) fn kept_limits(&self) -> Limits
+        ensures value { result ≡ self.now.limits }
+        ensures sound { IsSound self.now.limits self.now.commands self.now.held self.now.acts }
+    {
+        self.limits
+    }
+
+    pub(crate) fn fault_count(&self) -> u64
+        ensures { result ≡ self.now.faults }
+    {
+        self.faults
+    }
+
+    pub(crate) fn command_count(&self) -> u64
+        ensures { result ≡ self.now.commands }
+    {
+        self.commands
+    }
+
+    pub(crate) fn head(&self) -> Option<Place>
+        ensures { result ≡ self.now.head }
+    {
+        self.head
+    }
+
+    pub(crate) fn move_to(&mut self, place: Place)
+        ensures { self.new ≡ moved (Some place) self.old }
+    {
+        self.head = Some(place);
+    }
+
+    pub(crate) fn vcr_held(&self) -> u64
+        ensures { result ≡ self.now.held.vcr }
+    {
+        self.vcr
+    }
+
+    pub(crate) fn is_vcr_at_end(&self) -> bool
+        ensures { IsTrue result ↔ (2 ^ 64 - 1 ≤ self.now.held.vcr) }
+    {
+        self.vcr == u64::MAX
+    }
+
+    pub(crate) fn note_of(&self, part: Part) -> Note
+        ensures { result ≡ note_of part self.now.held }
+    {
+        match part {
+            Part::Ip => self.note_ip,
+            Part::Dp => self.note_dp,
+        }
+    }
+
+    pub(crate) fn item_at(&self, at: Place) -> Option<&Item>
+        ensures value { option_copied result ≡ item_at at self.now.held }
+        ensures size { (x : Item) → option_copied result ≡ Some x → IsItem x }
+        ensures inside { (x : Item) → option_copied result ≡ Some x → at.pos < 2 ^ 40 }
+    {
+        self.items_of(at.part).get(at.pos as usize)
+    }
+
     pub(crate) fn items_of(&self, part: Part) -> &[Item]
-        ensures { result.now ≡ items_of part self.now.held }
+        ensures value { result.now ≡ items_of part self.now.held }
+        ensures size { All IsItem result.now }
+        ensures count { length result.now ≤ 2 ^ 40 }
     {
         match part {
             Part::Ip => self.ip.as_slice(),
@@ -177,12 +245,7 @@ impl MemDrive {
         Ok(())
     }
 
-    pub(crate) fn set_note(
-        &mut self,
-        number: u64,
-        part: Part,
-        note: Note,
-    ) -> Result<(), NoMemory>
+    pub(crate) fn set_note(&mut self, number: u64, part: Part, note: Note) -> Result<(), NoMemory>
         requires number { self.old.commands < 2 ^ 64 - 1 → number < self.old.commands }
         ensures ok { OnOk result (self.new ≡ acted number (Noted part (note_of part self.old.held)) (with_note part note self.old.held) self.old) }
         ensures err { OnErr result (self.new ≡ self.old) }

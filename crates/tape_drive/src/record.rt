@@ -14,7 +14,10 @@ pub enum Act {
     /// Both partitions were made durable.
     Flushed,
     /// An attribute was written. `before` is the one from before.
-    Noted { part: Part, before: Note },
+    Noted {
+        part: Part,
+        before: Note,
+    },
     /// An attribute or the volume change reference was read.
     Settled,
 }

@@ -77,9 +77,7 @@ impl Schedule {
                 self.left = Some(n - 1);
                 if listed { Start::Listed } else { Start::Free }
             }
-            None => {
-                if listed { Start::Listed } else { Start::Free }
-            }
+            None => { if listed { Start::Listed } else { Start::Free } }
         }
     }
 }
