@@ -1,4 +1,6 @@
 pub mod Acts
+pub mod Exact
 pub mod Meets
 pub mod Sound
+pub mod Stood
 pub mod Told

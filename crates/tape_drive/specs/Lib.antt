@@ -1,5 +1,6 @@
 pub mod Commands
 pub mod Crashes
+pub mod Images
 pub mod Laws
 pub mod Memory
 pub mod Placed

@@ -2,11 +2,13 @@
 #![tactic(auto)]
 
 mod commands;
+mod crash;
 mod drive;
 mod memory;
 mod record;
 mod schedule;
 
+pub use crash::Cut;
 pub use drive::{Drive, DriveErr, Got};
 pub use memory::MemDrive;
 pub use record::{Act, Entry};
