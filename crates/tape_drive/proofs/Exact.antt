@@ -35,7 +35,7 @@ gives_past held es image h =
       state = record { vcr = refl; note_ip = refl; note_dp = refl };
     })
 
-same_cartridge : (c d : Cartridge) → c.ip ≡ d.ip → c.dp ≡ d.dp → c.vcr ≡ d.vcr → c.note_ip ≡ d.note_ip → c.note_dp ≡ d.note_dp → c ≡ d
+pub same_cartridge : (c d : Cartridge) → c.ip ≡ d.ip → c.dp ≡ d.dp → c.vcr ≡ d.vcr → c.note_ip ≡ d.note_ip → c.note_dp ≡ d.note_dp → c ≡ d
 same_cartridge c d ip dp vcr n m =
     ap (λ (l : List Item). reads_as l c.dp c.vcr c.note_ip c.note_dp) ip
     ∙ ap (λ (l : List Item). reads_as d.ip l c.vcr c.note_ip c.note_dp) dp
@@ -52,7 +52,7 @@ past_gives held es image past =
     (cut_ip, cut_dp, ip.2, dp.2, same_cartridge image (crash_image held es cut_ip cut_dp) ip.3 dp.3 past.state.vcr past.state.note_ip past.state.note_dp)
 
 -- the parts of the cartridge from before an act
-undone_ip : (act : Act) (c : Cartridge) → (undo act c).ip ≡ undone Ip act c.ip
+pub undone_ip : (act : Act) (c : Cartridge) → (undo act c).ip ≡ undone Ip act c.ip
 undone_ip (Put Ip gone failed) c = refl
 undone_ip (Put Dp gone failed) c = refl
 undone_ip Flushed c = refl
@@ -60,7 +60,7 @@ undone_ip (Noted Ip n) c = refl
 undone_ip (Noted Dp n) c = refl
 undone_ip Settled c = refl
 
-undone_dp : (act : Act) (c : Cartridge) → (undo act c).dp ≡ undone Dp act c.dp
+pub undone_dp : (act : Act) (c : Cartridge) → (undo act c).dp ≡ undone Dp act c.dp
 undone_dp (Put Ip gone failed) c = refl
 undone_dp (Put Dp gone failed) c = refl
 undone_dp Flushed c = refl
@@ -291,3 +291,7 @@ was_gave held (e ∷ es) image (inr earlier) = inr (earlier.0, was_gave (undo e.
 
 pub left_gave : (held : Cartridge) (es : List Entry) (image : Cartridge) → Leaves held es image → Gave held es image
 left_gave held es image left = was_gave held es image (left_was held es image left)
+
+-- two cuts give what a crash may leave
+pub image_left : (held : Cartridge) (es : List Entry) (ip dp : Cut) → ip.moment < moments es → dp.moment < moments es → Leaves held es (crash_image held es ip dp)
+image_left held es ip dp lt_ip lt_dp = past_left held es (crash_image held es ip dp) (gives_past held es (crash_image held es ip dp) (ip, dp, lt_ip, lt_dp, refl))

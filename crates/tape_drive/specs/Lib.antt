@@ -6,3 +6,4 @@ pub mod Memory
 pub mod Placed
 pub mod Record
 pub mod Schedule
+pub mod Walks

@@ -1,5 +1,5 @@
 // A drive in memory.
-ghost use Rattle.std.specs.Prelude.{◌≡◌, ◌≤◌, ◌<◌, ◌+◌, ◌-◌, ◌^◌, ◌++◌, [], ◌∷◌, length, take, drop, OnOk, OnErr, IfOk, IsTrue, All, ◌↔◌, vec_len, vec_capacity, Option, Some};
+ghost use Rattle.std.specs.Prelude.{◌≡◌, ◌≤◌, ◌<◌, ◌+◌, ◌-◌, ◌^◌, ◌++◌, [], ◌∷◌, length, take, drop, OnOk, OnErr, IfOk, IsTrue, All, ◌↔◌, reverse, vec_len, vec_capacity, Option, Some};
 ghost use Rattle.std.specs.Option.{option_copied};
 ghost use Rattle.tape_drive.specs.Commands.{item_at};
 ghost use Rattle.tape_types.specs.declared.cartridges.Place.{Place};
@@ -192,6 +192,14 @@ impl MemDrive {
         ensures inside { (x : Item) → option_copied result ≡ Some x → at.pos < 2 ^ 40 }
     {
         self.items_of(at.part).get(at.pos as usize)
+    }
+
+    // The record, the oldest entry first.
+    pub(crate) fn acts(&self) -> &[Entry]
+        ensures value { reverse result.now ≡ self.now.acts }
+        ensures sound { IsSound self.now.limits self.now.commands self.now.held self.now.acts }
+    {
+        self.acts.as_slice()
     }
 
     pub(crate) fn items_of(&self, part: Part) -> &[Item]
