@@ -4,12 +4,14 @@
 mod commands;
 mod crash;
 mod drive;
+mod durable;
 mod memory;
 mod record;
 mod schedule;
 
 pub use crash::Cut;
 pub use drive::{Drive, DriveErr, Got};
+pub use durable::write_durably;
 pub use memory::MemDrive;
 pub use record::{Act, Entry};
 pub use schedule::{Cmd, Fail, Schedule, Start};
