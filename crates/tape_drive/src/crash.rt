@@ -26,7 +26,8 @@ impl MemDrive {
     /// How many moments there are from the last flush that succeeded up to now, with both. Each write or mark that
     /// succeeded, or was listed to fail, has added two.
     pub fn moments(&self) -> u64
-        ensures { result ≡ moments self.now.acts }
+        ensures value { result ≡ moments self.now.acts }
+        ensures some { 1 ≤ result }
     {
         count_moments(self.acts())
     }
@@ -40,11 +41,11 @@ impl MemDrive {
         ensures left { IfOk result (λ c. ⟦<MemDrive as Drive>⟧.leaves self.now c) }
         ensures fits { IfOk result (λ c. FitsLimits self.now.limits c) }
     {
-        let ip = self.image(Part::Ip, ip)?;
-        let dp = self.image(Part::Dp, dp)?;
+        let ip_items = self.image(Part::Ip, ip)?;
+        let dp_items = self.image(Part::Dp, dp)?;
         Ok(Cartridge {
-            ip,
-            dp,
+            ip: ip_items,
+            dp: dp_items,
             vcr: self.vcr_held(),
             note_ip: self.note_of(Part::Ip),
             note_dp: self.note_of(Part::Dp),
@@ -83,7 +84,8 @@ pub fn crash_gives_all(drive: &MemDrive)
 }
 
 fn count_moments(acts: &[Entry]) -> u64
-    ensures { result ≡ moments (reverse acts.now) }
+    ensures value { result ≡ moments (reverse acts.now) }
+    ensures some { 1 ≤ result }
 {
     let mut n = 1;
     for entry in acts {
@@ -137,7 +139,7 @@ fn torn_if(torn: bool, next: Option<u64>, mut items: Vec<Item>) -> Result<List<I
 // A walk back over a record, as one partition saw it: how many moments are left, what stood there, and where the
 // next item was written.
 #[derive(Drop)]
-pub struct Walk {
+struct Walk {
     count: u64,
     items: Vec<Item>,
     next: Option<u64>,

@@ -9,9 +9,11 @@ mod memory;
 mod record;
 mod schedule;
 
-pub use crash::Cut;
+pub use crash::{Cut, crash_gives_all};
 pub use drive::{Drive, DriveErr, Got};
 pub use durable::write_durably;
 pub use memory::MemDrive;
-pub use record::{Act, Entry};
-pub use schedule::{Cmd, Fail, Schedule, Start};
+pub use schedule::{Cmd, Fail};
+
+#[cfg(test)]
+mod tests;

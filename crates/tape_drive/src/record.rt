@@ -3,7 +3,7 @@ use tape_types::{Item, List, Note, Part};
 
 /// What a command has done: enough to go back to what was before it.
 #[derive(Drop)]
-pub enum Act {
+pub(crate) enum Act {
     /// A partition was cut, and an item appended. `gone` is what the cut has taken away; `failed` tells whether
     /// the command failed.
     Put {
@@ -24,7 +24,7 @@ pub enum Act {
 
 /// A command that has done something, with the number of commands at which it began.
 #[derive(Drop)]
-pub struct Entry {
+pub(crate) struct Entry {
     pub number: u64,
     pub act: Act,
 }

@@ -26,7 +26,7 @@ pub struct Fail {
 
 /// Which commands are to fail, with how many there were of each kind, and how many more may pass.
 #[derive(Drop)]
-pub struct Schedule {
+pub(crate) struct Schedule {
     fails: List<Fail>,
     made: [u64; 8],
     left: Option<u64>,
@@ -34,7 +34,7 @@ pub struct Schedule {
 
 /// What is in store for a command.
 #[derive(Clone, Copy, Debug, PartialEq, Eq)]
-pub enum Start {
+pub(crate) enum Start {
     /// No command passes any more.
     Stopped,
     /// This one is listed to fail.

@@ -10,6 +10,6 @@ pub returns-clause-left : goal.returns-clause-left
 returns-clause-left c =
     let v = c.args.self.now in
     let image : Cartridge = crash_image v.held v.acts c.args.ip c.args.dp in
-    let given : Cartridge = reads_as c.in_ok-ip.ip c.in_ok-dp.dp c.vcr_held.result c.note_of.result c.note_of-2.result in
-    let is : given ≡ image = same_cartridge given image c.in_ok-ip.ensures.image c.in_ok-dp.ensures.image c.vcr_held.ensures c.note_of.ensures c.note_of-2.ensures in
+    let given : Cartridge = reads_as c.in_ok-ip_items.ip_items c.in_ok-dp_items.dp_items c.vcr_held.result c.note_of.result c.note_of-2.result in
+    let is : given ≡ image = same_cartridge given image c.in_ok-ip_items.ensures.image c.in_ok-dp_items.ensures.image c.vcr_held.ensures c.note_of.ensures c.note_of-2.ensures in
     subst (λ (d : Cartridge). Leaves v.held v.acts d) (sym is) (image_left v.held v.acts c.args.ip c.args.dp c.requires.ip c.requires.dp)
