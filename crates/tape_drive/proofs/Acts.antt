@@ -1,5 +1,5 @@
 -- What a crash may leave after a command of the drive in memory.
-use Rattle.std.proofs.Common.{ℕ, ◌+◌, ◌-◌, ◌^◌, ◌≤◌, ◌<◌, ◌≡◌, ◌⊎◌, ⊎_elim, inl, inr, Bool, true, false, List, [], ◌∷◌, ◌++◌, take, drop, refl, sym, ◌∙◌, ap, subst, arith}
+use Rattle.std.proofs.Common.{ℕ, ◌+◌, ◌-◌, ◌^◌, ◌≤◌, ◌<◌, ◌≡◌, ◌⊎◌, ⊎_elim, inl, inr, Bool, List, [], ◌∷◌, ◌++◌, take, refl, ◌∙◌, ap, subst, arith}
 use Rattle.std.proofs.lemmas.Bool.{cases_lt}
 use Rattle.tape_types.specs.declared.cartridges.Part.{Part}
 use Rattle.tape_types.specs.declared.cartridges.Part.TheVariants.{Ip, Dp}
@@ -8,14 +8,13 @@ use Rattle.tape_types.specs.declared.cartridges.Item.{Item}
 use Rattle.tape_types.specs.declared.cartridges.Item.TheVariants as item
 use Rattle.tape_types.specs.declared.cartridges.Note.{Note}
 use Rattle.tape_types.specs.declared.cartridges.Cartridge.{Cartridge}
-use Rattle.tape_types.specs.Cartridges.{items_of, note_of}
-use Rattle.tape_drive.specs.declared.record.Act.{Act}
-use Rattle.tape_drive.specs.declared.record.Act.TheVariants.{Put, Flushed, Noted, Settled}
+use Rattle.tape_types.specs.Cartridges.{items_of}
+use Rattle.tape_drive.specs.declared.record.Act.TheVariants.{Put, Noted}
 use Rattle.tape_drive.specs.declared.record.Entry.{Entry}
-use Rattle.tape_drive.specs.Commands.{KeepsRest, VcrRose, IsCutShort, IsWritten, IsBroken, IsNoted}
+use Rattle.tape_drive.specs.Commands.{KeepsRest, VcrRose, IsWritten, IsBroken, IsNoted}
 use Rattle.tape_drive.specs.Crashes.{IsCut, WithinWrite, WithinNote, Crashes}
 use Rattle.tape_drive.specs.Memory.{with_item}
-use Rattle.tape_drive.specs.Record.{front, with_items, with_note, undo, IsStage, DuringPut, During, Leaves, LeftFrom, LeftSince, Numbered}
+use Rattle.tape_drive.specs.Record.{front, with_items, with_note, undo, IsStage, During, Leaves, LeftFrom, LeftSince, Numbered}
 use Rattle.tape_drive.proofs.Sound.{front_of}
 
 -- since a number that no act has reached there is no other moment than now

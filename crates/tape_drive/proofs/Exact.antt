@@ -1,21 +1,19 @@
 -- What a crash may leave is what two cuts give, or gave before the failed writes that nothing has succeeded after.
-use Rattle.std.proofs.Common.{ℕ, ◌+◌, ◌-◌, ◌≤◌, ◌<◌, ◌≡◌, ◌⊎◌, ⊎_elim, inl, inr, Bool, true, false, List, [], ◌∷◌, ◌++◌, length, refl, sym, ◌∙◌, ap, subst, arith}
-use Rattle.std.specs.Prelude.{if◌then◌else◌}
+use Rattle.std.proofs.Common.{ℕ, ◌-◌, ◌<◌, ◌≡◌, ◌⊎◌, ⊎_elim, inl, inr, Bool, true, false, List, [], ◌∷◌, ◌++◌, refl, sym, ◌∙◌, ap, subst}
 use Rattle.tape_types.specs.declared.cartridges.Part.{Part}
 use Rattle.tape_types.specs.declared.cartridges.Part.TheVariants.{Ip, Dp}
 use Rattle.tape_types.specs.declared.cartridges.Item.{Item}
 use Rattle.tape_types.specs.declared.cartridges.Note.{Note}
 use Rattle.tape_types.specs.declared.cartridges.Cartridge.{Cartridge}
-use Rattle.tape_types.specs.Cartridges.{items_of, note_of, other}
 use Rattle.tape_drive.specs.declared.record.Act.{Act}
 use Rattle.tape_drive.specs.declared.record.Act.TheVariants.{Put, Flushed, Noted, Settled}
 use Rattle.tape_drive.specs.declared.record.Entry.{Entry}
 use Rattle.tape_drive.specs.declared.crash.Cut.{Cut}
-use Rattle.tape_drive.specs.Commands.{KeepsRest, IsNoted}
+use Rattle.tape_drive.specs.Commands.{IsNoted}
 use Rattle.tape_drive.specs.Crashes.{HasState}
 use Rattle.tape_drive.specs.Placed.{reads_as}
 use Rattle.tape_drive.specs.Record.{front, with_note, undo, IsStage, DuringPut, During, Settles, Leaves}
-use Rattle.tape_drive.specs.Images.{is_same, moments, undone, image_of, crash_image, Gives, IsFailure, Gave}
+use Rattle.tape_drive.specs.Images.{is_same, moments, undone, crash_image, Gives, IsFailure, Gave}
 use Rattle.tape_drive.proofs.Stood.{OwnStage, StoodBy, Stood, stood_now, image_in, image_from}
 
 -- each partition of an image has stood, and the rest is as it reads
@@ -207,13 +205,13 @@ was_put Ip gone failed held es number before image settles was during =
     let old : image.ip ≡ before.ip → HasState held image → IsPast held (e ∷ es) image =
     λ (same : image.ip ≡ before.ip) (s : HasState held image). record { ip = inr (subst (λ (l : List Item). Stood Ip (front held.ip ++ gone) es l) (sym same) ip); dp = dp; state = s } in
     ⊎_elim
-        (λ (same : (image.ip ≡ before.ip) × ((image.vcr ≡ before.vcr) ⊎ (image.vcr ≡ held.vcr))). ⊎_elim
-        (λ (vcr : image.vcr ≡ before.vcr). put_same failed Ip gone held es number before image settles was
-        (same_cartridge image before same.0 during.rest.other_part vcr during.rest.note_ip during.rest.note_dp) (old same.0))
-        (λ (vcr : image.vcr ≡ held.vcr). inl (old same.0 (state vcr)))
-        same.1)
-        (λ (stage : IsStage held.ip image.ip × (image.vcr ≡ held.vcr)). inl (record { ip = inl stage.0; dp = dp; state = state stage.1 }))
-        during.items
+    (λ (same : (image.ip ≡ before.ip) × ((image.vcr ≡ before.vcr) ⊎ (image.vcr ≡ held.vcr))). ⊎_elim
+    (λ (vcr : image.vcr ≡ before.vcr). put_same failed Ip gone held es number before image settles was
+    (same_cartridge image before same.0 during.rest.other_part vcr during.rest.note_ip during.rest.note_dp) (old same.0))
+    (λ (vcr : image.vcr ≡ held.vcr). inl (old same.0 (state vcr)))
+    same.1)
+    (λ (stage : IsStage held.ip image.ip × (image.vcr ≡ held.vcr)). inl (record { ip = inl stage.0; dp = dp; state = state stage.1 }))
+    during.items
 was_put Dp gone failed held es number before image settles was during =
     let dp = was_dp (undo (Put Dp gone failed) held) es before was in
     let ip = subst (λ (l : List Item). Stood Ip held.ip es l) (sym during.rest.other_part) (was_ip (undo (Put Dp gone failed) held) es before was) in
@@ -224,13 +222,13 @@ was_put Dp gone failed held es number before image settles was during =
     let old : image.dp ≡ before.dp → HasState held image → IsPast held (e ∷ es) image =
     λ (same : image.dp ≡ before.dp) (s : HasState held image). record { ip = ip; dp = inr (subst (λ (l : List Item). Stood Dp (front held.dp ++ gone) es l) (sym same) dp); state = s } in
     ⊎_elim
-        (λ (same : (image.dp ≡ before.dp) × ((image.vcr ≡ before.vcr) ⊎ (image.vcr ≡ held.vcr))). ⊎_elim
-        (λ (vcr : image.vcr ≡ before.vcr). put_same failed Dp gone held es number before image settles was
-        (same_cartridge image before during.rest.other_part same.0 vcr during.rest.note_ip during.rest.note_dp) (old same.0))
-        (λ (vcr : image.vcr ≡ held.vcr). inl (old same.0 (state vcr)))
-        same.1)
-        (λ (stage : IsStage held.dp image.dp × (image.vcr ≡ held.vcr)). inl (record { ip = ip; dp = inl stage.0; state = state stage.1 }))
-        during.items
+    (λ (same : (image.dp ≡ before.dp) × ((image.vcr ≡ before.vcr) ⊎ (image.vcr ≡ held.vcr))). ⊎_elim
+    (λ (vcr : image.vcr ≡ before.vcr). put_same failed Dp gone held es number before image settles was
+    (same_cartridge image before during.rest.other_part same.0 vcr during.rest.note_ip during.rest.note_dp) (old same.0))
+    (λ (vcr : image.vcr ≡ held.vcr). inl (old same.0 (state vcr)))
+    same.1)
+    (λ (stage : IsStage held.dp image.dp × (image.vcr ≡ held.vcr)). inl (record { ip = ip; dp = inl stage.0; state = state stage.1 }))
+    during.items
 
 was_by : (number : ℕ) (act : Act) (held : Cartridge) (es : List Entry) (before image : Cartridge) → Settles act held image → WasPast (undo act held) es before → During act held before image
     → IsPast held (record { number = number; act = act } ∷ es) image ⊎ (IsFailure act × WasPast (undo act held) es image)

@@ -1,5 +1,5 @@
 -- What the trait asks of every command, from what a command does to the view.
-use Rattle.std.proofs.Common.{ℕ, ◌+◌, ◌-◌, ◌^◌, ◌≤◌, ◌<◌, ◌≡◌, ◌⊎◌, ⊎_elim, inl, inr, min, Bool, true, false, List, [], ◌∷◌, ◌++◌, drop, Option, Some, None, Result, Ok, Err, refl, sym, ◌∙◌, ap, subst, arith}
+use Rattle.std.proofs.Common.{ℕ, ◌+◌, ◌-◌, ◌^◌, ◌≤◌, ◌<◌, ◌≡◌, inl, inr, min, true, false, List, drop, Option, Some, None, Result, Ok, Err, refl, sym, ◌∙◌, ap, subst, arith}
 use Rattle.std.specs.Prelude.{OnOk, OnErr, length, slice_get}
 use Rattle.std.proofs.lemmas.Option.{slice_get_cases}
 use Rattle.tape_types.specs.declared.cartridges.Place.{Place}
@@ -19,8 +19,7 @@ use Rattle.tape_drive.specs.declared.schedule.Cmd.TheVariants as cmd
 use Rattle.tape_drive.specs.declared.drive.Got.{Got}
 use Rattle.tape_drive.specs.Commands.{Counted, item_at, IsRead, FillsBuffer, after_read, AfterWrite, AfterNote, IsWritten, IsBroken, IsNoted}
 use Rattle.tape_drive.specs.Crashes.{Crashes, NothingNew, WithinWrite, HasState}
-use Rattle.tape_drive.specs.Schedule.{IsStopped, IsListed}
-use Rattle.tape_drive.specs.Memory.{View, begun, acted, moved, failed, starved_out, put, with_item, MustFailToWrite, RanLocate, RanRead, Ran, RanPut, IsSane}
+use Rattle.tape_drive.specs.Memory.{View, begun, acted, moved, failed, starved_out, with_item, RanLocate, RanRead, Ran, RanPut, IsSane}
 use Rattle.tape_drive.specs.Record.{with_note, undo, During, Settles, Leaves, LeftSince}
 use Rattle.tape_drive.proofs.Sound.{undo_put}
 use Rattle.tape_drive.proofs.Acts.{quiet, acts, within_put, written, broken, noted, write_same}

@@ -1,6 +1,6 @@
 -- What has stood in a partition keeps to its capacity.
-use Rattle.std.proofs.Common.{ℕ, ◌+◌, ◌-◌, ◌^◌, ◌≤◌, ◌<◌, ◌≡◌, ⊎_elim, inl, inr, min, Bool, true, false, List, [], ◌∷◌, ◌++◌, take, length, sym, subst, arith}
-use Rattle.std.specs.Prelude.{All, if◌then◌else◌}
+use Rattle.std.proofs.Common.{ℕ, ◌-◌, ◌≤◌, ◌<◌, inl, inr, Bool, true, false, List, [], ◌∷◌, length, sym, subst, arith}
+use Rattle.std.specs.Prelude.{All}
 use Rattle.std.proofs.lemmas.List.{length-append, length-take}
 use Rattle.std.proofs.lemmas.List.Elements.{All-append, All-take, All-cons}
 use Rattle.tape_types.specs.declared.cartridges.Part.{Part}

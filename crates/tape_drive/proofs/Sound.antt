@@ -1,5 +1,5 @@
 -- The record of a drive in memory stays sound.
-use Rattle.std.proofs.Common.{ℕ, ◌+◌, ◌-◌, ◌^◌, ◌≤◌, ◌<◌, ◌≡◌, min, Bool, List, [], ◌∷◌, ◌++◌, length, get_or, take, drop, refl, sym, ◌∙◌, ap, subst, arith}
+use Rattle.std.proofs.Common.{ℕ, ◌+◌, ◌-◌, ◌^◌, ◌<◌, ◌≡◌, min, Bool, List, [], ◌∷◌, ◌++◌, length, get_or, take, drop, refl, sym, ◌∙◌, ap, subst, arith}
 use Rattle.std.specs.Prelude.{reverse, All}
 use Rattle.std.proofs.lemmas.List.{reverse-append, length-append, length-take, take-append-drop}
 use Rattle.std.proofs.lemmas.List.Elements.{All-append, All-take}

@@ -1,11 +1,10 @@
 -- The images of one partition: what `image_of` gives is what stood at some moment, with a Torn or without.
-use Rattle.std.proofs.Common.{ℕ, ◌+◌, ◌-◌, ◌≤◌, ◌<◌, ◌≡◌, ◌⊎◌, ⊎_elim, inl, inr, min, Bool, true, false, List, [], ◌∷◌, ◌++◌, take, length, Option, Some, None, refl, sym, ◌∙◌, ap, subst, arith}
-use Rattle.std.specs.Prelude.{nat_lt, if◌then◌else◌, nat_eq}
+use Rattle.std.proofs.Common.{ℕ, ◌+◌, ◌-◌, ◌≤◌, ◌<◌, ◌≡◌, ◌⊎◌, ⊎_elim, inl, inr, Bool, true, false, List, [], ◌∷◌, ◌++◌, take, length, Option, Some, None, refl, sym, ◌∙◌, ap, arith}
+use Rattle.std.specs.Prelude.{nat_lt, if◌then◌else◌}
 use Rattle.std.proofs.lemmas.Bool.{cases_lt, lt-ltb, le-ltb, ltb-true}
-use Rattle.std.proofs.lemmas.List.{length-take, take-append-le, take_all}
+use Rattle.std.proofs.lemmas.List.{length-take, take_all}
 use Rattle.std.proofs.Math.Seq.{take-append_seam}
 use Rattle.tape_types.specs.declared.cartridges.Part.{Part}
-use Rattle.tape_types.specs.declared.cartridges.Part.TheVariants.{Ip, Dp}
 use Rattle.tape_types.specs.declared.cartridges.Item.{Item}
 use Rattle.tape_types.specs.declared.cartridges.Item.TheVariants as item
 use Rattle.tape_drive.specs.declared.record.Act.{Act}
@@ -87,7 +86,7 @@ still_stands part items (e ∷ es) m lt none =
 -- what stood at a moment
 in_own : (b1 b2 b : Bool) (items gone s : List Item) (E : List Item → List Item → Type 0) → ((l : List Item) → E l l) → (b2 ≡ true → E (if b then front items ++ gone else items) s)
     → OwnStage b items (if b1 then items else if b2 then s else if b then front items else items)
-        (E (if b then front items ++ gone else items) (if b1 then items else if b2 then s else if b then front items else items))
+    (E (if b then front items ++ gone else items) (if b1 then items else if b2 then s else if b then front items else items))
 in_own true b2 true items gone s E all ih = inl (inr (inr refl))
 in_own true b2 false items gone s E all ih = all items
 in_own false true true items gone s E all ih = inr (ih refl)
@@ -123,7 +122,7 @@ torn_own : (b1 b2 b : Bool) (pos : ℕ) (items gone s : List Item) (earlier : Op
     → (b2 ≡ true → earlier ≡ None → s ≡ (if b then front items ++ gone else items)) → (b1 ≡ true → b2 ≡ false)
     → earlier_or earlier (if b1 then None else if b then Some (length items - 1) else None) ≡ Some pos
     → OwnStage b items (take pos (if b1 then items else if b2 then s else if b then front items else items) ++ item.Torn ∷ [])
-        (E (if b then front items ++ gone else items) (take pos (if b1 then items else if b2 then s else if b then front items else items) ++ item.Torn ∷ []))
+    (E (if b then front items ++ gone else items) (take pos (if b1 then items else if b2 then s else if b then front items else items) ++ item.Torn ∷ []))
 torn_own true b2 b pos items gone s earlier E none ih still order is = let e : earlier ≡ None = none (order refl) in absurd (cc)
 torn_own false true true pos items gone s (Some q) E none ih still order is = inr (ih refl refl is)
 torn_own false true true pos items gone s None E none ih still order is =
@@ -222,8 +221,8 @@ module _ (n : ℕ) (items gone x : List Item) (f : ℕ → List Item) (g : ℕ �
     true,
     omega arith,
     is ∙ ap (λ (l : List Item). l ++ item.Torn ∷ []) (sym (front_again items))
-    ∙ ap (λ (l : List Item). take (length items - 1) l ++ item.Torn ∷ []) (sym (at_cut n items (f n) (front items)))
-    ∙ ap (λ (o : Option ℕ). torn_at o (if nat_lt n n then items else if nat_lt n n then f n else front items)) (sym (next_at_cut n (length items - 1) (g n) none)),
+        ∙ ap (λ (l : List Item). take (length items - 1) l ++ item.Torn ∷ []) (sym (at_cut n items (f n) (front items)))
+        ∙ ap (λ (o : Option ℕ). torn_at o (if nat_lt n n then items else if nat_lt n n then f n else front items)) (sym (next_at_cut n (length items - 1) (g n) none)),
   )
   from_own true none ih (inl (inr (inr is))) = (n + 1, false, omega arith, is ∙ sym (at_item n items (f (n + 1)) (front items)))
   from_own true none ih (inr earlier) = from_earlier true (ih earlier)

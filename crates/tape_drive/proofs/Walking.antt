@@ -1,5 +1,5 @@
 -- A walk back over a record goes by the definitions of what stood and what was written next.
-use Rattle.std.proofs.Common.{ℕ, ◌+◌, ◌-◌, ◌≤◌, ◌<◌, ◌≡◌, ◌⊎◌, ⊎_elim, inl, inr, Bool, true, false, List, [], ◌∷◌, ◌++◌, take, length, get_or, Option, Some, None, refl, sym, ◌∙◌, ap, subst, arith}
+use Rattle.std.proofs.Common.{ℕ, ◌+◌, ◌-◌, ◌≤◌, ◌<◌, ◌≡◌, inl, inr, Bool, true, false, List, [], ◌∷◌, take, length, get_or, Option, Some, None, refl, sym, ◌∙◌, ap, arith}
 use Rattle.std.specs.Prelude.{nat_lt, if◌then◌else◌, reverse}
 use Rattle.std.proofs.lemmas.Bool.{lt-ltb, le-ltb}
 use Rattle.std.proofs.lemmas.List.{reverse-append, take_more}
@@ -9,9 +9,8 @@ use Rattle.tape_drive.specs.declared.record.Act.{Act}
 use Rattle.tape_drive.specs.declared.record.Act.TheVariants.{Put, Flushed, Noted, Settled}
 use Rattle.tape_drive.specs.declared.record.Entry.{Entry}
 use Rattle.tape_drive.specs.declared.crash.Walk.{Walk}
-use Rattle.tape_drive.specs.Record.{front}
 use Rattle.tape_drive.specs.Images.{is_same, moments, moments_after, undone, stood_by, stood, earlier_or, next_by, next_put}
-use Rattle.tape_drive.specs.Walks.{PutSteps, Stays, Steps}
+use Rattle.tape_drive.specs.Walks.{PutSteps, Steps}
 use Rattle.tape_drive.proofs.Stood.{none_after}
 
 -- the newest entry of the record's front
@@ -63,8 +62,8 @@ module _ (part : Part) (m n : ℕ) (p : Part) (gone : List Item) (failed : Bool)
       let u : nat_lt m n ≡ true = lt-ltb m n (omega (arith, counted, steps.0)) in (
         rw (t, u) (ap f (sym steps.2)),
         rw t (later_own (is_same part p) (length items - 1) (g (undone part (Put p gone failed) items)) old.next
-        ∙ ap (λ (o : Option ℕ). earlier_or (g (undone part (Put p gone failed) items)) o) (sym steps.3)
-        ∙ ap (λ (l : List Item). earlier_or (g l) new.next) (sym steps.2)),
+            ∙ ap (λ (o : Option ℕ). earlier_or (g (undone part (Put p gone failed) items)) o) (sym steps.3)
+            ∙ ap (λ (l : List Item). earlier_or (g l) new.next) (sym steps.2)),
       )
 
 reaches_by : (part : Part) (m n : ℕ) (act : Act) (old new : Walk) (s : List Item) (earlier : Option ℕ) → old.count ≡ moments_after act n → (n ≤ m → earlier ≡ None) → m < old.count

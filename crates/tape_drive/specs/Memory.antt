@@ -1,24 +1,22 @@
 -- What contracts see of a drive in memory, and what each of its commands does.
 use Rattle.std.specs.Prelude.{ℕ, ◌+◌, ◌-◌, ◌^◌, ◌≤◌, ◌<◌, ◌≡◌, ◌⊎◌, Bool, true, false, List, [], ◌∷◌, ◌++◌, take, drop, Option, Some, None, Result, Ok, Err}
 use Rattle.tape_types.specs.declared.cartridges.Place.{Place}
-use Rattle.tape_types.specs.declared.cartridges.Part.{Part}
 use Rattle.tape_types.specs.declared.cartridges.Item.{Item}
 use Rattle.tape_types.specs.declared.cartridges.Item.TheVariants as item
-use Rattle.tape_types.specs.declared.cartridges.Note.{Note}
 use Rattle.tape_types.specs.declared.cartridges.Limits.{Limits}
 use Rattle.tape_types.specs.declared.cartridges.Cartridge.{Cartridge}
-use Rattle.tape_types.specs.Cartridges.{items_of, note_of, next}
+use Rattle.tape_types.specs.Cartridges.{items_of, next}
 use Rattle.tape_drive.specs.declared.schedule.Cmd.{Cmd}
 use Rattle.tape_drive.specs.declared.schedule.Cmd.TheVariants as cmd
 use Rattle.tape_drive.specs.declared.schedule.Fail.{Fail}
 use Rattle.tape_drive.specs.declared.schedule.Schedule.{Schedule}
 use Rattle.tape_drive.specs.declared.record.Act.{Act}
-use Rattle.tape_drive.specs.declared.record.Act.TheVariants.{Put, Flushed, Noted, Settled}
+use Rattle.tape_drive.specs.declared.record.Act.TheVariants.{Put}
 use Rattle.tape_drive.specs.declared.record.Entry.{Entry}
 use Rattle.tape_drive.specs.declared.drive.Got.{Got}
 use Rattle.tape_drive.specs.Commands.{item_at, IsRead, after_read}
 use Rattle.tape_drive.specs.Schedule.{up, fresh, counted, IsStopped, IsListed}
-use Rattle.tape_drive.specs.Record.{with_items, with_note, IsSound}
+use Rattle.tape_drive.specs.Record.{with_items, IsSound}
 
 -- a drive in memory
 pub record View : Type 0 where

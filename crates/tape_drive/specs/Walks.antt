@@ -1,5 +1,5 @@
 -- A walk back over a record.
-use Rattle.std.specs.Prelude.{ℕ, ◌+◌, ◌-◌, ◌≤◌, ◌<◌, ◌≡◌, ◌⊎◌, Bool, true, false, if◌then◌else◌, List, ◌++◌, length, Option, Some, None}
+use Rattle.std.specs.Prelude.{ℕ, ◌-◌, ◌<◌, ◌≡◌, ◌⊎◌, Bool, true, false, if◌then◌else◌, List, ◌++◌, length, Some}
 use Rattle.tape_types.specs.declared.cartridges.Part.{Part}
 use Rattle.tape_types.specs.declared.cartridges.Item.{Item}
 use Rattle.tape_drive.specs.declared.record.Act.{Act}
@@ -13,7 +13,7 @@ abbrev pub PutSteps : Bool → Bool → ℕ → List Item → Walk → Walk → 
 PutSteps true own moment gone old new =
     ((old.count - 2 < moment) × (new.items.items ≡ old.items.items) × (new.next ≡ old.next))
     ⊎ ((old.count - 2 ≡ moment) × (new.items.items ≡ (if own then front old.items.items else old.items.items))
-      × (new.next ≡ (if own then Some (length old.items.items - 1) else old.next)))
+    × (new.next ≡ (if own then Some (length old.items.items - 1) else old.next)))
 PutSteps false own moment gone old new =
     (moment < old.count - 2) × (new.count ≡ old.count - 2)
     × (new.items.items ≡ (if own then front old.items.items ++ gone else old.items.items))

@@ -149,7 +149,13 @@ impl Walk {
     ghost use Rattle.tape_drive.specs.Walks.{Steps, PutSteps};
 
     // Goes back to a moment.
-    fn back(&mut self, alloc: Global, part: Part, moment: u64, acts: &[Entry]) -> Result<(), NoMemory>
+    fn back(
+        &mut self,
+        alloc: Global,
+        part: Part,
+        moment: u64,
+        acts: &[Entry],
+    ) -> Result<(), NoMemory>
         requires count { self.old.count ≡ moments (reverse acts.now) }
         requires moment { moment < self.old.count }
         ensures items { OnOk result (self.new.items.items ≡ stood part self.old.items.items (reverse acts.now) moment) }
@@ -183,7 +189,13 @@ impl Walk {
     }
 
     // The same over an item that was put, in this partition or not.
-    fn step_over(&mut self, alloc: Global, own: bool, moment: u64, gone: &[Item]) -> Result<bool, NoMemory>
+    fn step_over(
+        &mut self,
+        alloc: Global,
+        own: bool,
+        moment: u64,
+        gone: &[Item],
+    ) -> Result<bool, NoMemory>
         requires { 2 ≤ self.old.count }
         ensures { IfOk result (λ reached. PutSteps reached own moment gone.now self.old self.new) }
     {

@@ -207,13 +207,7 @@ fn read_one<D: Drive>(drive: &mut D, place: Place, buf: &mut Vec<u8>) -> Result<
     drive.read(buf)
 }
 
-fn expect_read(
-    rt: &impl Abort,
-    alloc: Global,
-    pos: u64,
-    got: Got,
-    bytes: &[u8],
-) -> Result<(), Fail>
+fn expect_read(rt: &impl Abort, alloc: Global, pos: u64, got: Got, bytes: &[u8]) -> Result<(), Fail>
     requires { pos ≤ 7 }
 {
     let mut drive = drive(alloc, 14, List::new(alloc))?;

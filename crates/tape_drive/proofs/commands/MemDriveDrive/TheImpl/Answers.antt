@@ -1,5 +1,5 @@
 -- Each command of the drive in memory does what the trait asks.
-use Rattle.std.proofs.Common.{ℕ, ◌≡◌, inl, Option, Some, None, Result, Ok, Err, refl, sym, ap, subst, rules}
+use Rattle.std.proofs.Common.{ℕ, ◌≡◌, inl, Some, refl, ap, subst, rules}
 use Rattle.tape_types.specs.declared.cartridges.Cartridge.{Cartridge}
 use Rattle.tape_types.specs.declared.cartridges.Item.TheVariants as item
 use Rattle.tape_types.specs.declared.cartridges.Note.{Note}

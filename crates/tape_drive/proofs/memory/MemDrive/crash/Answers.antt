@@ -1,4 +1,4 @@
-use Rattle.std.proofs.Common.{◌≡◌, sym, subst, rules}
+use Rattle.std.proofs.Common.{◌≡◌, sym, subst}
 use Rattle.tape_types.specs.declared.cartridges.Cartridge.{Cartridge}
 use Rattle.tape_drive.specs.Images.{crash_image}
 use Rattle.tape_drive.specs.Record.{Leaves}

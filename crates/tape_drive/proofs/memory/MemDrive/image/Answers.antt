@@ -1,8 +1,7 @@
-use Rattle.std.proofs.Common.{ℕ, ◌≡◌, List, Option, Some, None, sym, ◌∙◌, ap, subst, rules}
-use Rattle.std.specs.Prelude.{if◌then◌else◌}
+use Rattle.std.proofs.Common.{◌≡◌, List, sym, subst, rules}
 use Rattle.tape_types.specs.declared.cartridges.Item.{Item}
 use Rattle.tape_types.specs.Cartridges.{items_of, capacity, HoldsAtMost}
-use Rattle.tape_drive.specs.Images.{image_of, torn_at}
+use Rattle.tape_drive.specs.Images.{image_of}
 use Rattle.tape_drive.proofs.Sizes.{image_fits}
 use Rattle.tape_drive.proofs.memory.MemDrive.image.Goals as goal
 

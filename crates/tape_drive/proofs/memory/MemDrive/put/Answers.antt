@@ -1,6 +1,6 @@
-use Rattle.std.proofs.Common.{ℕ, ◌+◌, ◌≡◌, ◌<◌, ◌-◌, ◌^◌, sym, ◌∙◌, ap, subst, List, ◌∷◌, ◌++◌, [], drop}
+use Rattle.std.proofs.Common.{◌+◌, ◌≡◌, ◌<◌, ◌-◌, ◌^◌, sym, ◌∙◌, ap, subst, List, ◌∷◌, ◌++◌, []}
 use Rattle.std.specs.Prelude.{reverse}
-use Rattle.tape_types.specs.Cartridges.{items_of, capacity, FitsLimits}
+use Rattle.tape_types.specs.Cartridges.{capacity, FitsLimits}
 use Rattle.tape_types.specs.declared.cartridges.Cartridge.{Cartridge}
 use Rattle.tape_types.specs.declared.cartridges.Item.{Item}
 use Rattle.tape_drive.specs.declared.record.Act.{Act}

@@ -1,4 +1,4 @@
-use Rattle.std.proofs.Common.{ℕ, ◌≡◌, ◌<◌, ◌-◌, ◌^◌, sym, subst, List}
+use Rattle.std.proofs.Common.{◌<◌, ◌-◌, ◌^◌, sym, subst, List}
 use Rattle.tape_drive.specs.declared.record.Entry.{Entry}
 use Rattle.tape_drive.specs.Record.{IsSound}
 use Rattle.tape_drive.specs.Placed.{reads_as}

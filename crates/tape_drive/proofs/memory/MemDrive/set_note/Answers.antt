@@ -1,4 +1,4 @@
-use Rattle.std.proofs.Common.{ℕ, ◌≡◌, ◌<◌, ◌-◌, ◌^◌, sym, ◌∙◌, ap, subst, List, ◌∷◌, ◌++◌, []}
+use Rattle.std.proofs.Common.{◌≡◌, ◌<◌, ◌-◌, ◌^◌, sym, ◌∙◌, ap, subst, List, ◌∷◌, ◌++◌, []}
 use Rattle.std.specs.Prelude.{reverse}
 use Rattle.tape_types.specs.Cartridges.{FitsLimits}
 use Rattle.tape_types.specs.declared.cartridges.Cartridge.{Cartridge}
