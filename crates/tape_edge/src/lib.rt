@@ -4,6 +4,8 @@
 mod clocks;
 mod memory;
 mod streams;
+#[cfg(test)]
+mod tests;
 mod traits;
 
 pub use clocks::{StepClock, SystemClock};

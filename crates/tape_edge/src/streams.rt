@@ -3,7 +3,7 @@ ghost use Rattle.std.specs.Prelude.{◌≡◌};
 use crate::traits::{ReadFault, Sink, Source, WriteFault};
 use std::io::{Read, Write};
 
-/// A source over any reader.
+/// A source over any reader, as standard input.
 #[derive(Drop)]
 pub struct ReaderSource<R> {
     inner: R,
@@ -11,7 +11,11 @@ pub struct ReaderSource<R> {
 }
 
 impl<R> ReaderSource<R> {
-    pub fn new(inner: R) -> ReaderSource<R> {
+    /// A source that has not failed yet.
+    pub fn new(inner: R) -> ReaderSource<R>
+        ensures inner { result.inner ≡ inner }
+        ensures faults { result.faults ≡ 0 }
+    {
         ReaderSource { inner, faults: 0 }
     }
 }
@@ -36,7 +40,7 @@ impl<R: Read> Source for ReaderSource<R> {
     }
 }
 
-/// A sink over any writer.
+/// A sink over any writer, as standard output. A write that takes nothing of a piece that isn't empty is a fault.
 #[derive(Drop)]
 pub struct WriterSink<W> {
     inner: W,
@@ -44,7 +48,11 @@ pub struct WriterSink<W> {
 }
 
 impl<W> WriterSink<W> {
-    pub fn new(inner: W) -> WriterSink<W> {
+    /// A sink that has not failed yet.
+    pub fn new(inner: W) -> WriterSink<W>
+        ensures inner { result.inner ≡ inner }
+        ensures faults { result.faults ≡ 0 }
+    {
         WriterSink { inner, faults: 0 }
     }
 }
