@@ -1,0 +1,5 @@
+pub mod Headline
+pub mod Inputs
+pub mod Outcomes
+pub mod Sessions
+pub mod Words

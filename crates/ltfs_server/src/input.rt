@@ -1,0 +1,97 @@
+ghost use Rattle.std.specs.Prelude.{◌≡◌, ◌≤◌, ◌<◌, length, IfOk, IfErr};
+ghost use Rattle.std.specs.Io.KnownBytes.{Consumes, IsAtEnd};
+ghost use Rattle.ltfs_server.specs.Inputs.{IsReadFailure, ReadsPiece};
+
+use std::alloc::{AllocError, Global};
+use tape_edge::{ReadFault, Source};
+use tape_types::Twin;
+
+/// No script has more bytes.
+const SCRIPT_LIMIT: usize = 16777216;
+
+/// How many bytes are read at a time, at most.
+const PIECE: usize = 1048576;
+
+/// Why there is no input.
+#[derive(Clone, Copy)]
+pub enum ReadFailure {
+    /// The source failed: its count of faults before and after.
+    Fault(Twin),
+    NoMemory,
+}
+
+impl From<AllocError> for ReadFailure {
+    ghost use Rattle.std.specs.Prelude.{◌≡◌};
+    ghost use Rattle.ltfs_server.specs.declared.input.ReadFailure.TheVariants as failures;
+
+    ghost from_gives = { λ _ e. e ≡ failures.NoMemory };
+
+    fn from(_e: AllocError) -> ReadFailure {
+        ReadFailure::NoMemory
+    }
+}
+
+/// What a source has left: all of it, or one byte more than a script may have.
+pub fn read_input<S: Source>(alloc: Global, source: &mut S) -> Result<Vec<u8>, ReadFailure>
+    ensures read { IfOk result (λ text. Consumes (S.left source.old) (S.left source.new) text.items) }
+    ensures whole { IfOk result (λ text. length text.items ≤ 16777216 → IsAtEnd (S.left source.new)) }
+    ensures fault { IfErr result (IsReadFailure (S.faults source.old) (S.faults source.new)) }
+    ensures later { S.faults source.old ≤ S.faults source.new }
+{
+    let mut buffer = zeros(alloc, PIECE)?;
+    read_by(alloc, source, buffer.as_mut_slice())
+}
+
+/// A buffer of so many zeros.
+fn zeros(alloc: Global, count: usize) -> Result<Vec<u8>, AllocError>
+    ensures { IfOk result (λ buffer. length buffer.items ≡ count) }
+{
+    vec![in alloc; 0u8; count]
+}
+
+/// The same, read by pieces as large as the buffer.
+fn read_by<S: Source>(
+    alloc: Global,
+    source: &mut S,
+    buffer: &mut [u8],
+) -> Result<Vec<u8>, ReadFailure>
+    requires { 0 < length buffer.old }
+    ensures read { IfOk result (λ text. Consumes (S.left source.old) (S.left source.new) text.items) }
+    ensures whole { IfOk result (λ text. length text.items ≤ 16777216 → IsAtEnd (S.left source.new)) }
+    ensures fault { IfErr result (IsReadFailure (S.faults source.old) (S.faults source.new)) }
+    ensures later { S.faults source.old ≤ S.faults source.new }
+{
+    let mut text = Vec::new(alloc);
+    while text.len() <= SCRIPT_LIMIT {
+        let room = buffer.len().min(SCRIPT_LIMIT + 1 - text.len());
+        if !read_piece(source, &mut buffer[..room], &mut text)? {
+            return Ok(text);
+        }
+    }
+    Ok(text)
+}
+
+/// Appends what one read gives, and answers whether it gave anything. It doesn't at the end.
+fn read_piece<S: Source>(
+    source: &mut S,
+    piece: &mut [u8],
+    text: &mut Vec<u8>,
+) -> Result<bool, ReadFailure>
+    requires { 0 < length piece.old }
+    ensures read { IfOk result (λ more. ReadsPiece more (S.left source.old) (S.left source.new) text.old.items text.new.items) }
+    ensures fault { IfErr result (IsReadFailure (S.faults source.old) (S.faults source.new)) }
+    ensures later { S.faults source.old ≤ S.faults source.new }
+{
+    let before = source.faults();
+    match source.read(piece) {
+        Ok(0) => Ok(false),
+        Ok(count) => {
+            text.extend_from_slice(&piece[..count])?;
+            Ok(true)
+        }
+        Err(ReadFault) => Err(ReadFailure::Fault(Twin {
+            before,
+            after: source.faults(),
+        })),
+    }
+}
