@@ -1,4 +1,5 @@
--- The volume coherency attribute, 080Ch, of a partition (LTFS 2.4, section 10.4): 70 bytes in the memory of the cartridge, numbers with the highest byte first.
+-- The volume coherency attribute, 080Ch, of a partition (LTFS 2.4, section 10.4): 70 bytes in the memory of the
+-- cartridge, its numbers with the highest byte first.
 use Rattle.std.specs.Prelude.{◌≡◌, ◌≤◌, ℕ, List, [], ◌∷◌, ◌++◌, Option, Some, option_map, length, slice_index, codes}
 use Rattle.std.specs.List.{slice_range}
 use Rattle.std.specs.Int.{w64, w128, from_be_bytes, to_be_bytes}

@@ -1,18 +1,18 @@
 //! Notes on the partitions of a cartridge: the volume coherency attribute.
 #![tactic(auto)]
 
-ghost use Rattle.std.specs.Prelude.{◌≡◌, ◌↔◌, ◌+◌, ◌≤◌, ◌++◌, List, length, take, drop, slice_range, Some, IfSome, IfNone, IsTrue};
+ghost use Rattle.std.specs.Prelude.{◌≡◌, ◌↔◌, ◌+◌, ◌≤◌, ◌++◌, length, take, drop, Some, IfSome, IsTrue};
 ghost use Rattle.std.specs.Int.{w64, w128, from_be_bytes, to_be_bytes};
 ghost use Rattle.uuid.specs.Text.{hyphenated_text, lower};
 ghost use Rattle.coherency.specs.declared.Coherency.{Coherency};
 ghost use Rattle.coherency.specs.Notes.{IsCurrent, IsNote, note_of, uuid_in};
 ghost use Rattle.coherency.specs.Frame.{has_frame};
 
-#[cfg(test)]
-mod tests;
-
 use tape_types::Note;
 use uuid::Uuid;
+
+#[cfg(test)]
+mod tests;
 
 /// What a note says of its partition.
 #[derive(Clone, Copy, Debug, PartialEq, Eq)]

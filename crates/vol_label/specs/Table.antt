@@ -6,10 +6,11 @@ use Rattle.vol_label.specs.declared.Vol1.{Vol1}
 use Rattle.vol_label.specs.declared.Vol1Err.{Vol1Err}
 use Rattle.vol_label.specs.declared.Vol1Err.TheVariants.{Length, Byte}
 
--- a byte of an identifier is a space or a visible character of ASCII, 20h to 7Eh
+-- a byte is a space or a visible character of ASCII, 20h to 7Eh
 abbrev pub is_printable : ℕ → Bool
 is_printable byte = is_in_range 32 126 byte
 
+-- each byte of the identifiers of a label is one of these
 pub record IsVol1 (label : Vol1) : Type 0 where
   pub volume : All (λ byte. is_printable byte ≡ true) label.volume
   pub owner : All (λ byte. is_printable byte ≡ true) label.owner

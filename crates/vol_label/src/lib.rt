@@ -12,7 +12,7 @@ mod tests;
 /// to 7Eh.
 #[derive(Clone, Copy, Debug, PartialEq, Eq)]
 pub struct Vol1 {
-    /// The volume identifier, which is also on the cartridge's bar code.
+    /// The volume identifier.
     pub volume: [u8; 6],
     /// The owner identifier.
     pub owner: [u8; 14],
