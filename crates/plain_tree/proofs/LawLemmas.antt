@@ -1,11 +1,10 @@
 -- The laws of refusals, uids, writes and renames.
-use Rattle.std.proofs.Common.{◌⊎◌, ◌≡◌, ◌≢◌, ℕ, ◌+◌, ◌<◌, ◌≤◌, Bool, true, false, cond, eqb, List, [], ◌∷◌, ◌++◌, length, take, drop, map, fold, Option, Some, None, is_some, sym, ap, ◌∙◌, refl, subst, arith, ⊎_elim, inl, inr}
+use Rattle.std.proofs.Common.{◌⊎◌, ◌≡◌, ℕ, ◌+◌, ◌<◌, ◌≤◌, true, false, cond, eqb, List, [], ◌∷◌, length, map, Option, Some, None, sym, ap, ◌∙◌, refl, arith, ⊎_elim, inl, inr}
 use Rattle.std.specs.FinMap as fin
 use Rattle.tape_types.specs.declared.moments.Moment.{Moment}
 use Rattle.plain_tree.specs.declared.nodes.Node.{Node}
 use Rattle.plain_tree.specs.declared.nodes.Kind.{Kind}
 use Rattle.plain_tree.specs.declared.nodes.Kind.TheVariants as kinds
-use Rattle.plain_tree.specs.declared.calls.Answer.{Answer}
 use Rattle.plain_tree.specs.declared.calls.Answer.TheVariants as answers
 use Rattle.plain_tree.specs.declared.calls.Call.{Call}
 use Rattle.plain_tree.specs.declared.calls.Call.TheVariants.{Mkdir, Create, Write, Truncate, Read, Listing, Stat, Rename, Remove, Sync}
@@ -139,12 +138,12 @@ later_new : (kind : Kind) (t : Tree) (path : List (List ℕ)) (at : Moment) → 
 later_new kind t path at = record {
   rises = omega arith;
   known = λ q node is.
-    let new = new_node kind (t.highest + 1) at in
-    let was = uids_touched at (parent_of path) (fin.insert t.nodes path (new_node kind (t.highest + 1) at)) q node is in
-    elim (same_path was.0 path) as (λ b. same_path was.0 path ≡ b → ((p : List (List ℕ)) × (old : Node) × (fin.get t.nodes p ≡ Some old) × (node.uid ≡ old.uid)) ⊎ (t.highest < node.uid)) [
-      | true ↦ λ same. inr (let uid : was.1.uid ≡ t.highest + 1 = same_some was.1 (new_node kind (t.highest + 1) at) (sym was.2 ∙ here_inserted t.nodes path was.0 (new_node kind (t.highest + 1) at) same) in omega (arith, was.3))
-      | false ↦ λ other. inl (was.0, was.1, sym (other_inserted t.nodes path was.0 (new_node kind (t.highest + 1) at) other) ∙ was.2, was.3)
-    ] refl;
+      let new = new_node kind (t.highest + 1) at in
+      let was = uids_touched at (parent_of path) (fin.insert t.nodes path (new_node kind (t.highest + 1) at)) q node is in
+      elim (same_path was.0 path) as (λ b. same_path was.0 path ≡ b → ((p : List (List ℕ)) × (old : Node) × (fin.get t.nodes p ≡ Some old) × (node.uid ≡ old.uid)) ⊎ (t.highest < node.uid)) [
+        | true ↦ λ same. inr (let uid : was.1.uid ≡ t.highest + 1 = same_some was.1 (new_node kind (t.highest + 1) at) (sym was.2 ∙ here_inserted t.nodes path was.0 (new_node kind (t.highest + 1) at) same) in omega (arith, was.3))
+        | false ↦ λ other. inl (was.0, was.1, sym (other_inserted t.nodes path was.0 (new_node kind (t.highest + 1) at) other) ∙ was.2, was.3)
+      ] refl;
 }
 
 later_done : (t : Tree) (call : Call) (at : Moment) → refusal_of t call ≡ None → IsValid t → IsLater t (after_done t call at)
@@ -167,8 +166,8 @@ later_done t (Rename from to) at free s =
           let m = moved from to t.nodes in
           let noted = changed_at (change_noted at) to (moved from to t.nodes) in
           later t _ (uids_of_uids _ (touch at (parent_of from) noted) t.nodes (uids_touched at (parent_of to) (touch at (parent_of from) noted))
-            (uids_of_uids _ noted t.nodes (uids_touched at (parent_of from) noted)
-              (uids_of_uids _ m t.nodes (uids_changed (change_noted at) (λ n. refl) to m) (uids_moved from to t.nodes (can_move t from to s free differ).free))))
+          (uids_of_uids _ noted t.nodes (uids_touched at (parent_of from) noted)
+          (uids_of_uids _ m t.nodes (uids_changed (change_noted at) (λ n. refl) to m) (uids_moved from to t.nodes (can_move t from to s free differ).free))))
     ] refl
 later_done t (Remove path) at free s = later t _ (uids_of_uids _ (fin.remove t.nodes path) t.nodes (uids_touched at (parent_of path) (fin.remove t.nodes path)) (uids_removed path t.nodes))
 later_done t Sync at free s = later_same t
@@ -209,14 +208,14 @@ record KeepsUnused (h uid : ℕ) (t : Tree) : Type 0 where
 pub unused_stays : (calls : Calls) (history : List Placed) (t : Tree) (uid : ℕ) → IsValid t → uid ≤ t.highest → IsUnused t uid → IsUnused (replay calls t history) uid
 unused_stays calls history t uid s given unused =
     (history_keeps (KeepsUnused 0 uid)
-      (λ t call at k.
-        let later = later_next t call at k.valid in
-        record {
-          valid = next_valid t call at k.valid;
-          given = omega (arith, k.given, later.rises);
-          unused = λ path node is e. ⊎_elim
-            (λ old. k.unused old.0 old.1 old.2 (sym old.3 ∙ e))
-            (λ new. absurd (omega (arith, k.given, new, e)))
-            (later.known path node is);
-        })
-      calls history t (record { valid = s; given = given; unused = unused })).unused
+    (λ t call at k.
+    let later = later_next t call at k.valid in
+    record {
+      valid = next_valid t call at k.valid;
+      given = omega (arith, k.given, later.rises);
+      unused = λ path node is e. ⊎_elim
+          (λ old. k.unused old.0 old.1 old.2 (sym old.3 ∙ e))
+          (λ new. absurd (omega (arith, k.given, new, e)))
+          (later.known path node is);
+    })
+    calls history t (record { valid = s; given = given; unused = unused })).unused

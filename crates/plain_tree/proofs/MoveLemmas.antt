@@ -154,7 +154,7 @@ abbrev Once : List (List (List ℕ)) → Type 0
 Once [] = Unit {0}
 Once (k ∷ ks) = (list_any (same_path k) ks ≡ false) × Once ks
 
-none_above : {X : Type 0} (es : List (List (List ℕ) × X)) (x : List (List ℕ)) → fin.Entries.below_all path_cmp x es ≡ true → list_any (same_path x) (map (λ e. e.0) es) ≡ false
+pub none_above : {X : Type 0} (es : List (List (List ℕ) × X)) (x : List (List ℕ)) → fin.Entries.below_all path_cmp x es ≡ true → list_any (same_path x) (map (λ e. e.0) es) ≡ false
 none_above [] x e = refl
 none_above (y ∷ es) x e =
     let parts = both_true (is_lt (path_cmp x y.0)) (fin.Entries.below_all path_cmp x es) e in

@@ -177,10 +177,10 @@ create_keeps kind t path at free s =
 pub below_parent : (d p : List (List ℕ)) → is_at_or_below d p ≡ true → length d < length p → is_at_or_below d (parent_of p) ≡ true
 below_parent d p e lt = (below_Decides d (parent_of p)).1 ((below_Decides d p).0 e ∙ sym (take-take (length d) (length p - 1) p (omega arith)))
 
-below_length : (d p : List (List ℕ)) → is_at_or_below d p ≡ true → length d ≤ length p
+pub below_length : (d p : List (List ℕ)) → is_at_or_below d p ≡ true → length d ≤ length p
 below_length d p e = omega (arith, ap length ((below_Decides d p).0 e), length-take (length d) p)
 
-below_up : (d p : List (List ℕ)) → is_at_or_below d (parent_of p) ≡ true → is_at_or_below d p ≡ true
+pub below_up : (d p : List (List ℕ)) → is_at_or_below d (parent_of p) ≡ true → is_at_or_below d p ≡ true
 below_up d p e =
     let fits = below_length d (parent_of p) e in
     (below_Decides d p).1 ((below_Decides d (parent_of p)).0 e ∙ take-take (length d) (length p - 1) p (omega (arith, fits, length-take (length p - 1) p)))

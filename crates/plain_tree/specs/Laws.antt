@@ -1,5 +1,5 @@
 -- What is true of the tree over all calls and all lists of calls.
-use Rattle.std.specs.Prelude.{◌≡◌, ◌≢◌, ℕ, ◌<◌, ◌≤◌, List, [], ◌∷◌, ◌++◌, true, false, map, length, Option, Some, None}
+use Rattle.std.specs.Prelude.{◌≡◌, ◌≢◌, ℕ, ◌<◌, ◌≤◌, List, [], ◌∷◌, ◌++◌, false, map, length, Option, Some, None}
 use Rattle.std.specs.List.{Contains}
 use Rattle.std.specs.List.Sorted.{IsStrictlySortedBy}
 use Rattle.std.specs.Ordering.{nat_cmp}
@@ -14,8 +14,8 @@ use Rattle.plain_tree.specs.declared.calls.Call.TheVariants as asks
 use Rattle.plain_tree.specs.declared.calls.Entry.{Entry}
 use Rattle.plain_tree.specs.declared.calls.Placed.{Placed}
 use Rattle.plain_tree.specs.declared.calls.Refusal.{Refusal}
-use Rattle.plain_tree.specs.Paths.{is_at_or_below, parent_of}
-use Rattle.plain_tree.specs.Tree.{Tree, Nodes, empty_tree, sort_of, entries_in}
+use Rattle.plain_tree.specs.Paths.{is_at_or_below}
+use Rattle.plain_tree.specs.Tree.{Tree, Nodes, empty_tree, sort_of}
 use Rattle.plain_tree.specs.Refusals.{refusal_of}
 use Rattle.plain_tree.specs.Calls.{answer, after}
 use Rattle.plain_tree.specs.History.{Calls, replay}
@@ -48,16 +48,17 @@ holding (Some node) = Some (node.uid, node.kind)
 abbrev pub holding_at : Tree → List (List ℕ) → Option (ℕ × Kind)
 holding_at t path = holding (fin.get t.nodes path)
 
--- A rename of a valid tree that isn't refused moves each node at or below `from` with its uid and what it holds. What lies
--- below the moved node is exactly as it was, and what lies elsewhere keeps its uid and what it holds.
-pub record RenameKeepsNodes (t : Tree) (from to : List (List ℕ)) (at : Moment) : Type 0 where
-  pub moved : (x : List (List ℕ)) → holding_at (after t (asks.Rename from to) at) (to ++ x) ≡ holding_at t (from ++ x)
-  pub gone : (x : List (List ℕ)) → from ≢ to → fin.get (after t (asks.Rename from to) at).nodes (from ++ x) ≡ None
-  pub elsewhere : (path : List (List ℕ)) → is_at_or_below from path ≡ false → is_at_or_below to path ≡ false
-    → holding_at (after t (asks.Rename from to) at) path ≡ holding_at t path
+-- Each node at or below `from` has come to `to` with its uid and what it holds, and nothing is left there. What lies below
+-- the moved node is exactly as it was; what lies elsewhere keeps its uid and what it holds.
+pub record HasMoved (t next : Tree) (from to : List (List ℕ)) : Type 0 where
+  pub moved : (x : List (List ℕ)) → holding_at next (to ++ x) ≡ holding_at t (from ++ x)
+  pub below : (x : List (List ℕ)) → x ≢ [] → fin.get next.nodes (to ++ x) ≡ fin.get t.nodes (from ++ x)
+  pub gone : (x : List (List ℕ)) → from ≢ to → fin.get next.nodes (from ++ x) ≡ None
+  pub elsewhere : (path : List (List ℕ)) → is_at_or_below from path ≡ false → is_at_or_below to path ≡ false → holding_at next path ≡ holding_at t path
 
+-- so it is after a rename of a valid tree that isn't refused
 abbrev pub RenamesKeepNodes : Type 0
-RenamesKeepNodes = (t : Tree) (from to : List (List ℕ)) (at : Moment) → IsValid t → refusal_of t (asks.Rename from to) ≡ None → RenameKeepsNodes t from to at
+RenamesKeepNodes = (t : Tree) (from to : List (List ℕ)) (at : Moment) → IsValid t → refusal_of t (asks.Rename from to) ≡ None → HasMoved t (after t (asks.Rename from to) at) from to
 
 -- a read of the range of a write that wasn't refused gives the bytes that were written
 abbrev pub ReadsSeeWrites : Type 0

@@ -13,6 +13,9 @@ mod plain;
 mod refusals;
 
 pub use calls::{Answer, Call, Entry, Facts, Fate, Placed, Refusal, Sort};
-pub use laws::{refused_calls_change_nothing, trees_stay_valid, uids_never_return};
+pub use laws::{
+    listings_are_exact, reads_see_writes, refused_calls_change_nothing, renames_keep_nodes,
+    trees_stay_valid, uids_never_return,
+};
 pub use nodes::{Kind, Node};
 pub use plain::Plain;
