@@ -1,6 +1,6 @@
 -- A script that grows within its limits.
 use Rattle.std.proofs.Common.{◌≡◌, ◌≢◌, ℕ, zero, suc, ◌+◌, ◌*◌, ◌<◌, ◌≤◌, Bool, true, false, cond, eqb, List, [], ◌∷◌, ◌++◌, length, sum_by, sym, ap, ◌∙◌, refl, subst, arith, ⊎_elim, Some, None, Ok, Err, ne_eqb, map}
-use Rattle.std.specs.Prelude.{Option, Result, nat_le, nat_eq, ◌&&◌, not, filter, option_and_then, codes}
+use Rattle.std.specs.Prelude.{Option, Result, nat_le, nat_eq, ◌&&◌, ◌||◌, not, filter, option_and_then, codes}
 use Rattle.std.specs.List.{starts_with}
 use Rattle.std.specs.Str.{is_utf8}
 use Rattle.std.proofs.lemmas.Bool.{cases_eq, eq-eqb, leb-false, ltb-false}
@@ -16,18 +16,24 @@ use Rattle.session_script.specs.Sessions.{HasSessions}
 use Rattle.session_script.specs.Limits.{IsBounded}
 use Rattle.session_script.proofs.SessionLemmas.{length-calls_more, HasSessions-more}
 
-abbrev one_if : Bool → ℕ
+abbrev pub one_if : Bool → ℕ
 one_if b = cond b 1 0
 
 -- what passes no limit
 pub record IsWithin (before : List ScriptLine) (line : ScriptLine) : Type 0 where
   pub calls : length (calls_of before line.who) < 1024
+  pub small_write : bytes_written line.call ≤ 65536
+  pub small_read : bytes_asked line.call ≤ 1048576
   pub written : sum_by (λ l. bytes_written l.call) before + bytes_written line.call ≤ 67108864
   pub asked : sum_by (λ l. bytes_asked l.call) before + bytes_asked line.call ≤ 67108864
 
 not_some : {A : Type 0} (b : Bool) (x : A) (o : Option A) → cond b (Some x) o ≡ None → (b ≡ false) × (o ≡ None)
 not_some true x o e = cc
 not_some false x o e = (refl, e)
+
+neither : (a b : Bool) → (a || b) ≡ false → (a ≡ false) × (b ≡ false)
+neither true b h = cc
+neither false b h = (refl, h)
 
 pub IsWithin-passed : (before : List ScriptLine) (line : ScriptLine) → limit_passed before line ≡ None → IsWithin before line
 IsWithin-passed before line e =
@@ -36,6 +42,8 @@ IsWithin-passed before line e =
     let third = not_some _ reasons.Sum _ second.1 in
     let fourth = not_some _ reasons.Sum _ third.1 in record {
       calls = leb-false _ _ first.0;
+      small_write = ltb-false _ _ (neither _ _ second.0).0;
+      small_read = ltb-false _ _ (neither _ _ second.0).1;
       written = ltb-false _ _ third.0;
       asked = ltb-false _ _ fourth.0;
     }
@@ -72,7 +80,7 @@ calls_to-le : (s : List ScriptLine) (n : ℕ) → ((who : ℕ) → length (calls
 calls_to-le s zero few = omega arith
 calls_to-le s (suc n) few = omega (arith, calls_to-le s n few, few (suc n))
 
-one_more : (x : ScriptLine) (s : List ScriptLine) (who : ℕ) → length (calls_of (x ∷ s) who) ≡ length (calls_of s who) + cond (eqb x.who who) 1 0
+pub one_more : (x : ScriptLine) (s : List ScriptLine) (who : ℕ) → length (calls_of (x ∷ s) who) ≡ length (calls_of s who) + cond (eqb x.who who) 1 0
 one_more x s who = at (eqb x.who who)
   where
     at : (b : Bool) → length (map (λ (l : ScriptLine). l.call) (cond b (x ∷ filter (λ l. eqb l.who who) s) (filter (λ l. eqb l.who who) s))) ≡ length (calls_of s who) + cond b 1 0

@@ -1,8 +1,14 @@
 pub mod Arguments
 pub mod Bounds
+pub mod BytesLaws
+pub mod CallLaws
+pub mod GrammarLaws
 pub mod HexBytes
 pub mod HexText
 pub mod HistoryLemmas
+pub mod LineLaws
+pub mod NumberLaws
+pub mod PathLaws
 pub mod Pieces
 pub mod SessionLemmas
 pub mod Texts

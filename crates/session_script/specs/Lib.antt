@@ -1,10 +1,9 @@
-pub mod Faults
 pub mod Grammar
 pub mod Limits
 pub mod LogText
 pub mod Readings
 pub mod ReasonNames
 pub mod Replies
+pub mod ScriptText
 pub mod Sessions
-pub mod Steps
 pub mod Words

@@ -1,4 +1,6 @@
-ghost use Rattle.std.specs.Prelude.{◌≡◌, length, IfOk};
+ghost use Rattle.std.specs.Prelude.{◌≡◌, length, IfOk, if◌then◌else◌};
+ghost use Rattle.std.specs.Option.{option_map};
+ghost use Rattle.std.specs.Char.{digit_value, is_digit};
 ghost use Rattle.session_script.specs.Words.{bytes_of, hex_bytes, text_bytes, fill_bytes, hex_value};
 ghost use Rattle.session_script.specs.Readings.{bytes_given, IsReadBytes};
 
@@ -57,8 +59,39 @@ pub fn read_bytes(alloc: Global, word: &[u8]) -> Result<Content, LineFault>
 fn read_hex(alloc: Global, digits: &[u8]) -> Result<Content, LineFault>
     ensures { IsReadBytes result (hex_bytes digits.now) }
 {
-    let bytes = hex::decode(alloc, digits)?;
-    Ok(Content::Given(Bytes::from_vec(bytes)))
+    match hex_bytes(alloc, digits)? {
+        Some(bytes) => Ok(Content::Given(Bytes::from_vec(bytes))),
+        None => Err(LineFault::Bad(ScriptWhy::Bytes)),
+    }
+}
+
+/// The bytes that pairs of hexadecimal digits spell.
+fn hex_bytes(alloc: Global, digits: &[u8]) -> Result<Option<Vec<u8>>, NoMemory>
+    ensures { IfOk result (λ bytes. option_map (λ v. v.items) bytes ≡ hex_bytes digits.now) }
+{
+    if digits.len() % 2 != 0 {
+        return Ok(None);
+    }
+    let mut bytes = Vec::with_capacity(alloc, digits.len() / 2)?;
+    for k in 0..digits.len() / 2 {
+        let Some(byte) = byte_of(digits[2 * k], digits[2 * k + 1]) else {
+            return Ok(None);
+        };
+        bytes.push(byte)?;
+    }
+    Ok(Some(bytes))
+}
+
+/// The value of a hexadecimal digit of either case, or 16.
+fn digit_of(byte: u8) -> u8
+    ensures { result ≡ (if is_digit byte 16 then digit_value byte else 16) }
+{
+    match byte {
+        b'0'..=b'9' => byte - b'0',
+        b'a'..=b'f' => byte - b'a' + 10,
+        b'A'..=b'F' => byte - b'A' + 10,
+        _ => 16,
+    }
 }
 
 fn read_text(alloc: Global, text: &[u8]) -> Result<Content, LineFault>
@@ -92,7 +125,10 @@ fn read_fill(fill: &[u8]) -> Result<Content, LineFault>
 fn byte_of(high: u8, low: u8) -> Option<u8>
     ensures { result ≡ hex_value high low }
 {
-    let high = char::from(high).to_digit(16)?;
-    let low = char::from(low).to_digit(16)?;
-    Some((16 * high + low) as u8)
+    let high = digit_of(high);
+    let low = digit_of(low);
+    if high > 15 || low > 15 {
+        return None;
+    }
+    Some(16 * high + low)
 }

@@ -1,5 +1,4 @@
 use crate::scripts::ScriptWhy;
-use hex::FromHexError;
 use tape_types::NoMemory;
 
 /// Why a line gives no call.
@@ -28,19 +27,5 @@ impl From<ScriptWhy> for LineFault {
 
     fn from(why: ScriptWhy) -> LineFault {
         LineFault::Bad(why)
-    }
-}
-
-impl From<FromHexError> for LineFault {
-    ghost use Rattle.std.specs.Prelude.{◌≡◌};
-    ghost use Rattle.session_script.specs.Faults.{hex_fault};
-
-    ghost from_gives = { λ fault e. e ≡ hex_fault fault };
-
-    fn from(fault: FromHexError) -> LineFault {
-        match fault {
-            FromHexError::OutOfMemory => LineFault::NoMemory,
-            _ => LineFault::Bad(ScriptWhy::Bytes),
-        }
     }
 }

@@ -4,15 +4,16 @@
 mod bytes;
 mod drafts;
 mod faults;
+mod laws;
 mod logs;
 mod paths;
 mod printing;
 mod progress;
 mod reading;
 mod scripts;
-mod steps;
 mod words;
 
+pub use laws::reads_the_grammar;
 pub use logs::{Ack, Event, Log, Reply};
 pub use printing::log_text;
 pub use reading::read_script;

@@ -4,7 +4,6 @@ ghost use Rattle.session_script.specs.Grammar.{script_of, script_from, lines_of,
 use crate::faults::LineFault;
 use crate::progress::Progress;
 use crate::scripts::{Script, ScriptErr, ScriptFault, ScriptWhy};
-use crate::steps::after_line;
 use crate::words::cut;
 use std::alloc::Global;
 
@@ -36,8 +35,9 @@ fn read_lines(alloc: Global, text: &[u8]) -> Result<Script, ScriptFault>
     while let Some(rest) = left {
         let (line, more) = cut(rest, b'\n');
         number += 1;
-        match after_line(progress, alloc, line) {
-            Ok(next) => progress = next,
+        match progress.read_line(alloc, line) {
+            Ok(None) => {}
+            Ok(Some(spelled)) => progress = progress.with(spelled)?,
             Err(LineFault::Bad(why)) => {
                 return Err(ScriptFault::Bad(ScriptErr { line: number, why }));
             }

@@ -1,0 +1,146 @@
+-- Scripts as they are spelled, line by line and word by word.
+use Rattle.std.specs.Prelude.{◌≡◌, ◌≢◌, ◌⊎◌, ℕ, ◌+◌, ◌-◌, ◌*◌, ◌^◌, ◌<◌, ◌≤◌, List, [], ◌∷◌, ◌++◌, Ok, codes, length, replicate, sum_by, slice_index}
+use Rattle.std.specs.List.{AllByRecursion, join_with_byte}
+use Rattle.std.specs.Str.{IsUtf8}
+use Rattle.percent_encoding.specs.Percent.{percent_decode}
+use Rattle.plain_tree.specs.declared.calls.Call.{Call}
+use Rattle.plain_tree.specs.declared.calls.Call.TheVariants.{Mkdir, Create, Write, Truncate, Read, Listing, Stat, Rename, Remove, Sync}
+use Rattle.session_script.specs.declared.scripts.ScriptLine.{ScriptLine}
+use Rattle.session_script.specs.Grammar.{calls_of, bytes_written, bytes_asked, script_of}
+
+-- a piece that does not have the byte
+abbrev pub Lacks : ℕ → List ℕ → Type 0
+Lacks byte piece = AllByRecursion (λ b. b ≢ byte) piece
+
+-- the text is the pieces, with this byte between each two and nowhere else
+pub record IsJoined (byte : ℕ) (pieces : List (List ℕ)) (text : List ℕ) : Type 0 where
+  pub joined : text ≡ join_with_byte byte pieces
+  pub free : AllByRecursion (Lacks byte) pieces
+
+abbrev pub IsDecimalDigit : ℕ → Type 0
+IsDecimalDigit d = (48 ≤ d) × (d ≤ 57)
+
+-- what decimal digits stand for, each by its place
+abbrev pub place_value : List ℕ → ℕ
+place_value [] = 0
+place_value (d ∷ digits) = (d - 48) * 10 ^ length digits + place_value digits
+
+-- a number is 1 to 20 decimal digits, below 2^64
+pub record SpellsNumber (word : List ℕ) (n : ℕ) : Type 0 where
+  pub some : 1 ≤ length word
+  pub few : length word ≤ 20
+  pub digits : AllByRecursion IsDecimalDigit word
+  pub value : place_value word ≡ n
+  pub small : n < 2 ^ 64
+
+-- a session is a number from 1 to 16 with no zero in front
+pub record SpellsSession (word : List ℕ) (who : ℕ) : Type 0 where
+  pub number : SpellsNumber word who
+  pub low : 1 ≤ who
+  pub high : who ≤ 16
+  pub no_zero : slice_index word 0 ≢ 48
+
+-- a name isn't empty, has no slash, and is UTF-8 once its escapes are decoded
+pub record SpellsName (piece name : List ℕ) : Type 0 where
+  pub some : 1 ≤ length piece
+  pub no_slash : Lacks 47 piece
+  pub decoded : percent_decode piece ≡ name
+  pub text : IsUtf8 name
+
+-- a slash before each name
+abbrev pub SpellsNames : List ℕ → List (List ℕ) → Type 0
+SpellsNames word [] = word ≡ []
+SpellsNames word (name ∷ names) = (piece : List ℕ) × (rest : List ℕ) × (word ≡ 47 ∷ (piece ++ rest)) × SpellsName piece name × SpellsNames rest names
+
+-- a slash alone for the root, else a slash before each name
+abbrev pub SpellsPath : List ℕ → List (List ℕ) → Type 0
+SpellsPath word [] = word ≡ codes "/"
+SpellsPath word (name ∷ names) = SpellsNames word (name ∷ names)
+
+-- a hexadecimal digit of either case
+abbrev pub IsHexDigit : ℕ → ℕ → Type 0
+IsHexDigit c v = ((v < 10) × (c ≡ 48 + v)) ⊎ (((10 ≤ v) × (v < 16) × (c ≡ 87 + v)) ⊎ ((10 ≤ v) × (v < 16) × (c ≡ 55 + v)))
+
+-- two hexadecimal digits, the higher first
+abbrev pub SpellsByte : ℕ → ℕ → ℕ → Type 0
+SpellsByte high low byte = (h : ℕ) × (l : ℕ) × IsHexDigit high h × IsHexDigit low l × (byte ≡ 16 * h + l)
+
+-- two hexadecimal digits for each byte
+abbrev pub SpellsHex : List ℕ → List ℕ → Type 0
+SpellsHex word [] = word ≡ []
+SpellsHex word (byte ∷ bytes) = (high : ℕ) × (low : ℕ) × (rest : List ℕ) × (word ≡ high ∷ low ∷ rest) × SpellsByte high low byte × SpellsHex rest bytes
+
+-- `hex:` and two digits for each byte
+abbrev pub IsHexWord : List ℕ → List ℕ → Type 0
+IsHexWord word bytes = (digits : List ℕ) × (word ≡ codes "hex:" ++ digits) × SpellsHex digits bytes
+
+-- `text:` and the bytes themselves, at least one
+abbrev pub IsTextWord : List ℕ → List ℕ → Type 0
+IsTextWord word bytes = (word ≡ codes "text:" ++ bytes) × (1 ≤ length bytes)
+
+-- `fill:`, a byte, `:` and how many there are of it
+abbrev pub IsFillWord : List ℕ → List ℕ → Type 0
+IsFillWord word bytes =
+    (high : ℕ) × (low : ℕ) × (count : List ℕ) × (byte : ℕ) × (n : ℕ) × (word ≡ codes "fill:" ++ high ∷ low ∷ 58 ∷ count) × SpellsByte high low byte × SpellsNumber count n
+    × (bytes ≡ replicate n byte)
+
+-- the bytes of a write
+abbrev pub SpellsBytes : List ℕ → List ℕ → Type 0
+SpellsBytes word bytes = IsHexWord word bytes ⊎ (IsTextWord word bytes ⊎ IsFillWord word bytes)
+
+-- the words of a call behind its session
+abbrev pub SpellsCall : List (List ℕ) → Call → Type 0
+SpellsCall words (Mkdir path) = (p : List ℕ) × (words ≡ codes "mkdir" ∷ p ∷ []) × SpellsPath p path
+SpellsCall words (Create path) = (p : List ℕ) × (words ≡ codes "create" ∷ p ∷ []) × SpellsPath p path
+SpellsCall words (Write path offset bytes) =
+    (p : List ℕ) × (n : List ℕ) × (b : List ℕ) × (words ≡ codes "write" ∷ p ∷ n ∷ b ∷ []) × SpellsPath p path × SpellsNumber n offset × SpellsBytes b bytes
+SpellsCall words (Truncate path length) = (p : List ℕ) × (n : List ℕ) × (words ≡ codes "truncate" ∷ p ∷ n ∷ []) × SpellsPath p path × SpellsNumber n length
+SpellsCall words (Read path offset count) =
+    (p : List ℕ) × (n : List ℕ) × (m : List ℕ) × (words ≡ codes "read" ∷ p ∷ n ∷ m ∷ []) × SpellsPath p path × SpellsNumber n offset × SpellsNumber m count
+SpellsCall words (Listing path) = (p : List ℕ) × (words ≡ codes "list" ∷ p ∷ []) × SpellsPath p path
+SpellsCall words (Stat path) = (p : List ℕ) × (words ≡ codes "stat" ∷ p ∷ []) × SpellsPath p path
+SpellsCall words (Rename from to) = (p : List ℕ) × (q : List ℕ) × (words ≡ codes "rename" ∷ p ∷ q ∷ []) × SpellsPath p from × SpellsPath q to
+SpellsCall words (Remove path) = (p : List ℕ) × (words ≡ codes "remove" ∷ p ∷ []) × SpellsPath p path
+SpellsCall words Sync = words ≡ codes "sync" ∷ []
+
+-- a session and its call, with exactly one space between two words
+pub record IsCallLine (line : List ℕ) (spelled : ScriptLine) : Type 0 where
+  pub word : List ℕ
+  pub words : List (List ℕ)
+  pub joined : IsJoined 32 (word ∷ words) line
+  pub session : SpellsSession word spelled.who
+  pub call : SpellsCall words spelled.call
+
+-- an empty line or a comment
+abbrev pub IsSkippedLine : List ℕ → Type 0
+IsSkippedLine [] = Unit {0}
+IsSkippedLine (c ∷ line) = c ≡ 35
+
+-- each line is UTF-8, and is skipped or spells the next call
+abbrev pub SpellLines : List (List ℕ) → List ScriptLine → Type 0
+SpellLines [] [] = Unit {0}
+SpellLines [] (spelled ∷ script) = ⊥
+SpellLines (line ∷ lines) [] = IsUtf8 line × IsSkippedLine line × SpellLines lines []
+SpellLines (line ∷ lines) (spelled ∷ script) = IsUtf8 line × ((IsSkippedLine line × SpellLines lines (spelled ∷ script)) ⊎ (IsCallLine line spelled × SpellLines lines script))
+
+-- 1,024 calls a session, 65,536 bytes a write and 1,048,576 a read, and 67,108,864 bytes in all for either
+pub record IsWithinLimits (script : List ScriptLine) : Type 0 where
+  pub calls : (who : ℕ) → length (calls_of script who) ≤ 1024
+  pub written : AllByRecursion (λ l. bytes_written l.call ≤ 65536) script
+  pub asked : AllByRecursion (λ l. bytes_asked l.call ≤ 1048576) script
+  pub written_in_all : sum_by (λ l. bytes_written l.call) script ≤ 67108864
+  pub asked_in_all : sum_by (λ l. bytes_asked l.call) script ≤ 67108864
+
+-- a text of one line or more, with a line feed between each two, that spell the script within the limits
+pub record IsScriptText (text : List ℕ) (script : List ScriptLine) : Type 0 where
+  pub lines : List (List ℕ)
+  pub some : 1 ≤ length lines
+  pub joined : IsJoined 10 lines text
+  pub short : length text ≤ 16777216
+  pub spelled : SpellLines lines script
+  pub limited : IsWithinLimits script
+
+-- what is read is spelled so, and what is spelled so is read
+pub record ReadsGrammar : Type 0 where
+  pub found : (text : List ℕ) (script : List ScriptLine) → script_of text ≡ Ok script → IsScriptText text script
+  pub only : (text : List ℕ) (script : List ScriptLine) → IsScriptText text script → script_of text ≡ Ok script
