@@ -11,6 +11,8 @@ mod printing;
 mod progress;
 mod reading;
 mod scripts;
+#[cfg(test)]
+mod tests;
 mod words;
 
 pub use laws::reads_the_grammar;

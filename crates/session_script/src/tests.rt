@@ -1,0 +1,183 @@
+use crate::{Log, Reply, ScriptFault, log_text, read_script};
+use plain_tree::{Answer, Call, Entry, Facts, Fate, Placed, Refusal, Sort};
+use std::alloc::{AllocError, Global};
+use std::test::Fail;
+use tape_types::{Bytes, List, Moment, Text, Times, Twin};
+
+/// How many calls a text has, or the line that is refused and why.
+fn told(alloc: Global, text: &[u8]) -> Result<String, AllocError> {
+    match read_script(alloc, text) {
+        Ok(script) => {
+            let count = script.len();
+            format!(in alloc; "{count} calls")
+        }
+        Err(ScriptFault::Bad(e)) => {
+            let line = e.line;
+            let why = e.why;
+            format!(in alloc; "{line} {why}")
+        }
+        Err(ScriptFault::NoMemory) => format!(in alloc; "memory"),
+    }
+}
+
+const TABLE: [(&[u8], &str); 34] = [
+    (b"", "0 calls"),
+    (b"# a comment\n\n", "0 calls"),
+    (b"1 sync\n16 sync", "2 calls"),
+    (b"#\xff\n1 sync", "1 Utf8"),
+    (b"1 sync\n# first\n1 mkdir a\n1 mkdir", "3 Path"),
+    (b" 1 mkdir /a", "1 Who"),
+    (b"01 sync", "1 Who"),
+    (b"0 sync", "1 Who"),
+    (b"17 sync", "1 Who"),
+    (b"1", "1 Verb"),
+    (b"1  mkdir /a", "1 Verb"),
+    (b"1 move /a", "1 Verb"),
+    (b"1 mkdir", "1 Words"),
+    (b"1 mkdir /a ", "1 Words"),
+    (b"1 sync ", "1 Words"),
+    (b"1 read x y", "1 Words"),
+    (b"1 read x y z", "1 Path"),
+    (b"1 write a 0 zip:", "1 Path"),
+    (b"1 mkdir /a/", "1 Path"),
+    (b"1 mkdir /%ff", "1 Path"),
+    (b"1 mkdir /a\r\n", "1 calls"),
+    (b"1 truncate /a 18446744073709551615", "1 calls"),
+    (b"1 truncate /a 18446744073709551616", "1 Number"),
+    (b"1 truncate /a 00000000000000000001", "1 calls"),
+    (b"1 truncate /a 000000000000000000001", "1 Number"),
+    (b"1 write /a 0 hex:", "1 calls"),
+    (b"1 write /a 0 hex:0", "1 Bytes"),
+    (b"1 write /a 0 text:", "1 Bytes"),
+    (b"1 write /a 0 fill:0g:1", "1 Bytes"),
+    (b"1 write /a 0 fill:00:x", "1 Bytes"),
+    (b"1 write /a 0 fill:00:65536", "1 calls"),
+    (b"1 write /a 0 fill:00:65537", "1 Big"),
+    (b"1 read /a 0 1048576", "1 calls"),
+    (b"1 read /a 0 1048577", "1 Big"),
+];
+
+#[test]
+fn scripts_and_their_refusals(rt: HostRuntime) -> Result<(), Fail> {
+    for (text, expected) in &TABLE {
+        let told = told(rt.alloc(), text)?;
+        assert_eq!(rt; told.as_str(), *expected);
+    }
+    Ok(())
+}
+
+/// The line, so many times.
+fn repeated(alloc: Global, line: &[u8], count: u32) -> Result<Vec<u8>, AllocError> {
+    let mut text = Vec::new(alloc);
+    for _turn in 0..count {
+        text.extend_from_slice(line)?;
+    }
+    Ok(text)
+}
+
+#[test]
+fn limits_over_many_lines(rt: HostRuntime) -> Result<(), Fail> {
+    let calls = repeated(rt.alloc(), b"3 sync\n", 1025)?;
+    assert_eq!(rt; told(rt.alloc(), calls.as_slice())?.as_str(), "1025 Calls");
+    let reads = repeated(rt.alloc(), b"1 read / 0 1048576\n2 sync\n", 65)?;
+    assert_eq!(rt; told(rt.alloc(), reads.as_slice())?.as_str(), "129 Sum");
+    Ok(())
+}
+
+#[test]
+fn names_are_decoded(rt: HostRuntime) -> Result<(), Fail> {
+    let script = read_script(rt.alloc(), b"2 mkdir /a%20b/%2525")
+        .ok()
+        .ok_or("refused")?;
+    assert_eq!(rt; script.sessions(), 2);
+    assert_eq!(rt; script.count(1), 0);
+    let lines = script.lines();
+    assert_eq!(rt; lines.len(), 1);
+    if let Call::Mkdir { path } = &lines[0].call {
+        let path = path.as_slice();
+        assert_eq!(rt; path.len(), 2);
+        assert_eq!(rt; path[0].as_str(), "a b");
+        assert_eq!(rt; path[1].as_str(), "%25");
+    } else {
+        assert!(rt; false, "another call");
+    }
+    Ok(())
+}
+
+fn text(alloc: Global, words: &str) -> Result<Text, AllocError> {
+    Ok(Text::from_string(String::from_str(alloc, words)?))
+}
+
+fn facts(alloc: Global, sort: Sort) -> Result<Reply, AllocError> {
+    let times = Times::all_at(Moment { secs: 0, nanos: 7 });
+    Ok(Reply::Answer(Answer::Facts(Facts {
+        sort,
+        uid: 2,
+        length: 5,
+        text: text(alloc, "a b")?,
+        times,
+    })))
+}
+
+fn entries(alloc: Global) -> Result<Reply, AllocError> {
+    let mut entries = Vec::new(alloc);
+    entries.push(Entry {
+        sort: Sort::Dir,
+        name: text(alloc, "100%")?,
+    })?;
+    entries.push(Entry {
+        sort: Sort::Link,
+        name: text(alloc, "\u{e9}")?,
+    })?;
+    Ok(Reply::Answer(Answer::Names(List::from_vec(entries))))
+}
+
+fn replies(alloc: Global) -> Result<Vec<Reply>, AllocError> {
+    let mut replies = Vec::new(alloc);
+    replies.push(Reply::Answer(Answer::Done))?;
+    replies.push(Reply::Answer(Answer::Synced))?;
+    replies.push(Reply::Answer(Answer::Got(Bytes::new(alloc))))?;
+    let bytes = vec![in alloc; 171u8; 2]?;
+    replies.push(Reply::Answer(Answer::Got(Bytes::from_vec(bytes))))?;
+    replies.push(entries(alloc)?)?;
+    replies.push(facts(alloc, Sort::Dir)?)?;
+    replies.push(facts(alloc, Sort::File)?)?;
+    replies.push(facts(alloc, Sort::Link)?)?;
+    replies.push(Reply::Answer(Answer::Refused(Refusal::NotEmpty)))?;
+    replies.push(Reply::Full { need: 3, limit: 2 })?;
+    replies.push(Reply::Fault(Twin {
+        before: 0,
+        after: 1,
+    }))?;
+    replies.push(Reply::NoMemory)?;
+    Ok(replies)
+}
+
+fn log_of(alloc: Global, replies: Vec<Reply>) -> Result<Log, AllocError> {
+    let mut history = Vec::new(alloc);
+    for nth in 0..12u32 {
+        let at = Moment { secs: 0, nanos: 0 };
+        history.push(Placed {
+            who: 3,
+            nth,
+            at,
+            fate: Fate::Done,
+        })?;
+    }
+    Ok(Log {
+        history: List::from_vec(history),
+        replies: List::from_vec(replies),
+        acks: List::new(alloc),
+        events: List::new(alloc),
+    })
+}
+
+#[test]
+fn each_reply_has_its_line(rt: HostRuntime) -> Result<(), Fail> {
+    let log = log_of(rt.alloc(), replies(rt.alloc())?)?;
+    let text = log_text(rt.alloc(), &log).ok().ok_or("no memory")?;
+    let expected =
+        "0 3.0 ok\n1 3.1 synced\n2 3.2 bytes 0\n3 3.3 bytes 2 abab\n4 3.4 names 2 d:100%25 l:%C3%A9\n5 3.5 dir 2 1970-01-01T00:00:00.000000007Z\n6 3.6 file 2 5 1970-01-01T00:00:00.000000007Z\n7 3.7 link 2 a%20b 1970-01-01T00:00:00.000000007Z\n8 3.8 no NotEmpty\n9 3.9 full 3 2\n10 3.10 fault 0 1\n11 3.11 nomemory\n";
+    assert_eq!(rt; text.as_slice(), expected.as_bytes());
+    Ok(())
+}
