@@ -1,14 +1,12 @@
 // The commands of the drive in memory.
-ghost use Rattle.std.specs.Prelude.{◌≡◌, ◌≤◌, ◌<◌, ◌+◌, ◌-◌, ◌^◌, ◌⊎◌, ℕ, [], length, take, drop, OnOk, OnErr, IfOk, IfErr, vec_capacity, Option, Some};
-ghost use Rattle.std.specs.Option.{option_copied};
+ghost use Rattle.std.specs.Prelude.{◌≡◌, ◌≤◌, ◌<◌, ◌+◌, ◌-◌, ◌^◌, length, IfOk, vec_capacity, Some};
 ghost use Rattle.tape_types.specs.declared.cartridges.Place.{Place};
 ghost use Rattle.tape_types.specs.declared.cartridges.Item.{Item};
 ghost use Rattle.tape_types.specs.declared.cartridges.Item.TheVariants as item;
 ghost use Rattle.tape_types.specs.declared.cartridges.Note.TheVariants as kind;
 ghost use Rattle.tape_types.specs.declared.cartridges.Cartridge.{Cartridge};
 ghost use Rattle.tape_types.specs.Cartridges.{items_of, note_of, capacity, next, IsItem};
-ghost use Rattle.tape_types.specs.Counts.{Rose};
-ghost use Rattle.tape_drive.specs.Commands.{HasRoom, item_at, IsRead, FillsBuffer, after_read};
+ghost use Rattle.tape_drive.specs.Commands.{HasRoom, item_at, IsRead, after_read};
 ghost use Rattle.tape_drive.specs.Memory.{RanLocate, RanRead, Ran, RanPut, IsSane};
 ghost use Rattle.tape_drive.specs.Record.{with_note, undo};
 ghost use Rattle.tape_drive.specs.declared.record.Act.TheVariants.{Flushed, Noted, Settled};

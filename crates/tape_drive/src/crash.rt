@@ -1,9 +1,8 @@
 // What a crash of the drive in memory may leave, by choice.
-ghost use Rattle.std.specs.Prelude.{◌≡◌, ◌≤◌, ◌<◌, ◌+◌, ◌-◌, ◌*◌, ◌^◌, ◌++◌, ◌↔◌, if◌then◌else◌, length, reverse, OnOk, OnErr, IfOk, Option, Some, None};
+ghost use Rattle.std.specs.Prelude.{◌≡◌, ◌≤◌, ◌<◌, ◌+◌, ◌-◌, ◌*◌, ◌^◌, ◌++◌, ◌↔◌, if◌then◌else◌, reverse, OnOk, IfOk, Option, Some, None};
 ghost use Rattle.tape_types.specs.declared.cartridges.Cartridge.{Cartridge};
 ghost use Rattle.tape_types.specs.Cartridges.{items_of, capacity, HoldsAtMost, FitsLimits};
-ghost use Rattle.tape_drive.specs.Images.{is_same, moments_after, moments, stood, earlier_or, next_put, torn_at, image_of, crash_image, Gave};
-ghost use Rattle.tape_drive.specs.Record.{Leaves};
+ghost use Rattle.tape_drive.specs.Images.{moments_after, moments, stood, earlier_or, next_put, torn_at, image_of, crash_image, Gave};
 
 use crate::drive::Drive;
 use crate::memory::MemDrive;

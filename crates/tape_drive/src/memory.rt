@@ -1,11 +1,10 @@
 // A drive in memory.
-ghost use Rattle.std.specs.Prelude.{◌≡◌, ◌≤◌, ◌<◌, ◌+◌, ◌-◌, ◌^◌, ◌++◌, [], ◌∷◌, length, take, drop, OnOk, OnErr, IfOk, IsTrue, All, ◌↔◌, reverse, vec_len, vec_capacity, Option, Some};
+ghost use Rattle.std.specs.Prelude.{◌≡◌, ◌≤◌, ◌<◌, ◌+◌, ◌-◌, ◌^◌, ◌++◌, [], ◌∷◌, length, take, drop, OnOk, OnErr, IfOk, IsTrue, All, ◌↔◌, reverse, Option, Some};
 ghost use Rattle.std.specs.Option.{option_copied};
 ghost use Rattle.tape_drive.specs.Commands.{item_at};
 ghost use Rattle.tape_types.specs.declared.cartridges.Place.{Place};
 ghost use Rattle.tape_types.specs.declared.cartridges.Item.{Item};
 ghost use Rattle.tape_types.specs.declared.cartridges.Cartridge.{Cartridge};
-ghost use Rattle.tape_types.specs.Cartridges.{next};
 ghost use Rattle.tape_drive.specs.Placed.{IsPlaced, IsNotePlaced};
 
 use crate::drive::DriveErr;

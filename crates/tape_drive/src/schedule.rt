@@ -1,6 +1,6 @@
 // Which commands of a drive in memory are to fail.
-ghost use Rattle.std.specs.Prelude.{◌≡◌, ◌<◌, IsTrue, ◌↔◌};
-ghost use Rattle.tape_drive.specs.Schedule.{code, up, counted, IsStopped, IsListed, IsStart};
+ghost use Rattle.std.specs.Prelude.{◌≡◌, ◌<◌};
+ghost use Rattle.tape_drive.specs.Schedule.{code, counted, IsStart};
 
 use tape_types::List;
 
