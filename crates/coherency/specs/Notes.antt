@@ -1,4 +1,4 @@
--- The volume coherency attribute, 080Ch, of a partition (LTFS 2.4, section 10.4): 70 bytes in the memory of the
+-- The volume coherency attribute, 080Ch, of a partition (LTFS 2.4 on volume coherency information): 70 bytes in the memory of the
 -- cartridge, its numbers with the highest byte first.
 use Rattle.std.specs.Prelude.{◌≡◌, ◌≤◌, ℕ, List, [], ◌∷◌, ◌++◌, Option, Some, option_map, length, slice_index, codes}
 use Rattle.std.specs.List.{slice_range}

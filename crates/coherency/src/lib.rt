@@ -27,7 +27,7 @@ pub struct Coherency {
     pub uuid: u128,
 }
 
-/// The note with these values (LTFS 2.4, section 10.4): the UUID in lower case, and
+/// The note with these values (LTFS 2.4 on volume coherency information): the UUID in lower case, and
 /// version 1.
 pub fn encode_note(values: &Coherency) -> [u8; 70]
     ensures bytes { result ≡ note_of values.now }

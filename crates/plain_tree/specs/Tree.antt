@@ -1,4 +1,4 @@
--- The tree of a volume (LTFS 2.4, section 9.2), and what stands where in it.
+-- The tree of a volume (LTFS 2.4 on the index), and what stands where in it.
 use Rattle.std.specs.Prelude.{ℕ, List, [], false, map, length, Option, Some, None}
 use Rattle.std.specs.List.{filter_map}
 use Rattle.std.specs.Option.{option_map}

@@ -32,7 +32,7 @@ pub enum DriveErr {
     Failed,
 }
 
-/// A drive with one cartridge of two partitions (LTFS 2.4, section 5.1).
+/// A drive with one cartridge of two partitions (LTFS 2.4 on partitions).
 ///
 /// The eight calls from `locate` to `vcr` are its commands. After one that failed the head has to be located again.
 pub trait Drive: Drop {
@@ -159,7 +159,7 @@ pub trait Drive: Drop {
         ensures crash { Crashes NothingNew (commands self.old)
             (leaves self.old) (leaves self.new) (left_since self.old) (left_since self.new) };
 
-    /// Reads the coherency attribute of a partition (LTFS 2.4, section 10.4).
+    /// Reads the coherency attribute of a partition (LTFS 2.4 on volume coherency information).
     fn read_note(&mut self, part: Part) -> Result<Note, DriveErr>
         ensures value { IfOk result (λ note. (c : Cartridge) → held self.old ≡ Some c → note ≡ note_of part c) }
         ensures settled { OnOk result (IsSettled (held self.new) (leaves self.new)) }
@@ -187,7 +187,7 @@ pub trait Drive: Drop {
             → Crashes (WithinNote part (kind.Kept note.now)) (commands self.old)
             (leaves self.old) (leaves self.new) (left_since self.old) (left_since self.new) };
 
-    /// Reads the volume change reference (LTFS 2.4, section 10.4).
+    /// Reads the volume change reference (LTFS 2.4 on medium auxiliary memory).
     fn vcr(&mut self) -> Result<u64, DriveErr>
         ensures value { IfOk result (λ n. (c : Cartridge) → held self.old ≡ Some c → n ≡ c.vcr) }
         ensures settled { OnOk result (IsSettled (held self.new) (leaves self.new)) }

@@ -1,4 +1,4 @@
--- Cartridges and their parts (LTFS 2.4, sections 5.1 and 10.4).
+-- Cartridges and their parts (LTFS 2.4 on partitions and on medium auxiliary memory).
 use Rattle.std.specs.Prelude.{ℕ, ◌+◌, ◌≤◌, ◌^◌, List, length, All}
 use Rattle.tape_types.specs.declared.cartridges.Part.{Part}
 use Rattle.tape_types.specs.declared.cartridges.Part.TheVariants.{Ip, Dp}

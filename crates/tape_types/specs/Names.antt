@@ -1,4 +1,4 @@
--- Which texts may be names of nodes (LTFS 2.4, section 7.4). A name is given by its bytes in UTF-8.
+-- Which texts may be names of nodes (LTFS 2.4 on names). A name is given by its bytes in UTF-8.
 use Rattle.std.specs.Prelude.{◌≡◌, ◌⊎◌, ℕ, List, Bool, not, length, nat_lt, ◌==◌, ◌||◌, if◌then◌else◌, Option, Some, None, Result, Ok, Err, codes}
 use Rattle.std.specs.List.{list_any}
 use Rattle.std.specs.Str.{chars, bytes_eq}

@@ -1,4 +1,4 @@
--- Moments as dates and times of the proleptic Gregorian calendar, and the texts of these (LTFS 2.4, section 7.5).
+-- Moments as dates and times of the proleptic Gregorian calendar, and the texts of these (LTFS 2.4 on time stamps).
 use Rattle.std.specs.Prelude.{◌≡◌, ℕ, zero, suc, ◌+◌, ◌*◌, ◌/◌, ◌%◌, ◌<◌, ℤ, pos, ◌+ℤ◌, ◌-ℤ◌, ◌*ℤ◌, unsigned_abs, List, [], ◌∷◌, ◌++◌, count_by, codes}
 use Rattle.std.specs.List.{range_with_len}
 use Rattle.std.specs.Int.{int_div_euclid, int_rem_euclid}

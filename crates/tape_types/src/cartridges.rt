@@ -4,7 +4,7 @@ use crate::lists::List;
 use crate::texts::{Bytes, NoMemory};
 use std::alloc::Global;
 
-/// One of the two partitions of a cartridge (LTFS 2.4, section 5.1).
+/// One of the two partitions of a cartridge (LTFS 2.4 on partitions).
 #[derive(Clone, Copy, Debug, PartialEq, Eq)]
 pub enum Part {
     /// The index partition.
@@ -44,7 +44,7 @@ impl Item {
     }
 }
 
-/// The volume coherency attribute of a partition (LTFS 2.4, section 10.4).
+/// The volume coherency attribute of a partition (LTFS 2.4 on volume coherency information).
 #[derive(Clone, Copy)]
 pub enum Note {
     Absent,

@@ -12,7 +12,7 @@ pub struct Moment {
     pub ghost within_second: { nanos < 1000000000 },
 }
 
-/// The five times of a node (LTFS 2.4, section 9.2).
+/// The five times of a node (LTFS 2.4 on the index).
 #[derive(Clone, Copy, Debug, PartialEq, Eq)]
 pub struct Times {
     pub create: Moment,

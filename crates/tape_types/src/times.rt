@@ -23,7 +23,7 @@ struct Civil {
     nanos: u32,
 }
 
-/// The text of a moment, as `2024-01-02T03:04:05.000000000Z` (LTFS 2.4, section 7.5).
+/// The text of a moment, as `2024-01-02T03:04:05.000000000Z` (LTFS 2.4 on time stamps).
 #[tactic(auto, using(crate::proofs::CivilLemmas::time_text_civil))]
 pub fn time_text(at: Moment) -> [u8; 30]
     ensures { result ≡ time_text at }

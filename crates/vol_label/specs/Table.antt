@@ -1,4 +1,4 @@
--- The VOL1 record of 80 bytes with which each partition of a volume begins (LTFS 2.4, section 8.1.1, after ANSI X3.27).
+-- The VOL1 record of 80 bytes with which each partition of a volume begins (LTFS 2.4 on labels, after ANSI X3.27).
 use Rattle.std.specs.Prelude.{◌≡◌, ◌≢◌, ℕ, ◌-◌, ◌<◌, nat_lt, Bool, true, false, ◌==◌, if◌then◌else◌, List, ◌++◌, length, replicate, codes, slice_index}
 use Rattle.std.specs.List.{All, slice_range}
 use Rattle.std.specs.Int.{is_in_range}

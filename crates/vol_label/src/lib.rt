@@ -27,7 +27,7 @@ pub enum Vol1Err {
     Byte(u8),
 }
 
-/// The record of a label (LTFS 2.4, section 8.1.1). Its reserved fields are spaces.
+/// The record of a label (LTFS 2.4 on labels). Its reserved fields are spaces.
 pub fn encode(label: &Vol1) -> [u8; 80]
     requires { IsVol1 label.now }
     ensures bytes { result ≡ record_of label.now }
