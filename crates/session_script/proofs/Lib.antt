@@ -10,5 +10,6 @@ pub mod LineLaws
 pub mod NumberLaws
 pub mod PathLaws
 pub mod Pieces
+pub mod RefusalLaws
 pub mod SessionLemmas
 pub mod Texts

@@ -4,6 +4,7 @@ pub mod LogText
 pub mod Readings
 pub mod ReasonNames
 pub mod Replies
+pub mod ScriptRefusals
 pub mod ScriptText
 pub mod Sessions
 pub mod Words

@@ -15,7 +15,7 @@ mod scripts;
 mod tests;
 mod words;
 
-pub use laws::reads_the_grammar;
+pub use laws::{reads_the_grammar, refuses_the_first};
 pub use logs::{Ack, Event, Log, Reply};
 pub use printing::log_text;
 pub use reading::read_script;

@@ -1,0 +1,390 @@
+-- Refused scripts: the lines before the one that is refused, and the form that this lacks.
+use Rattle.std.proofs.Common.{◌≡◌, ◌⊎◌, inl, inr, ℕ, ◌+◌, ◌<◌, ◌≤◌, Bool, true, false, cond, eqb, List, [], ◌∷◌, ◌++◌, length, sum_by, sym, ap, ◌∙◌, refl, subst, arith, Some, None, Ok, Err, append-nil, append_assoc}
+use Rattle.std.specs.Prelude.{Option, Result, ◌||◌, not, nat_le, nat_lt}
+use Rattle.std.specs.List.{AllByRecursion, list_any}
+use Rattle.std.specs.Str.{IsUtf8, is_utf8}
+use Rattle.std.proofs.lemmas.Bool.{leb-true, leb-false, ltb-true, ltb-false}
+use Rattle.std.proofs.lemmas.List.Splits.{length-slice_split}
+use Rattle.std.proofs.lemmas.Str.{IsUtf8-from_is_utf8, is_utf8-from_IsUtf8}
+use Rattle.plain_tree.specs.declared.calls.Call.{Call}
+use Rattle.plain_tree.specs.declared.calls.Call.TheVariants.{Create, Truncate, Read, Listing, Stat, Rename, Remove, Sync}
+use Rattle.session_script.specs.declared.scripts.ScriptErr.{ScriptErr}
+use Rattle.session_script.specs.declared.scripts.ScriptLine.{ScriptLine}
+use Rattle.session_script.specs.declared.scripts.ScriptWhy.{ScriptWhy}
+use Rattle.session_script.specs.declared.scripts.ScriptWhy.TheVariants as reasons
+use Rattle.session_script.specs.declared.words.Verb.{Verb}
+use Rattle.session_script.specs.declared.words.Verb.TheVariants as verbs
+use Rattle.session_script.specs.Words.{is_empty, words_of, verb_of, session_of, path_of, number_of, bytes_of}
+use Rattle.session_script.specs.Grammar.{calls_of, bytes_written, bytes_asked, read_as, call_by, call_with, call_of, with_session, spelled_by, limit_passed, unless_passed, limited, is_skipped, line_of, with_line, and_then, script_from, lines_of, script_of}
+use Rattle.session_script.specs.ScriptText.{IsJoined, SpellsPath, SpellsNumber, SpellsBytes, IsSkippedLine, IsCallLine, SpellLines, IsWithinLimits}
+use Rattle.session_script.specs.ScriptRefusals.{verb_text, HasWords, HasPaths, HasNumbers, HasContent, LacksForm, PassesLimit, LacksCall, IsRefusedLine, IsRefusedText, IsTooLong}
+use Rattle.session_script.proofs.NumberLaws.{number_found, number_only, session_found, session_only}
+use Rattle.session_script.proofs.PathLaws.{IsJoined-split, not_empty, empty_no, path_found, path_only}
+use Rattle.session_script.proofs.BytesLaws.{bytes_only}
+use Rattle.session_script.proofs.CallLaws.{verb_found}
+use Rattle.session_script.proofs.CallLaws as calls
+use Rattle.session_script.proofs.LineLaws.{spelled_found, line_utf8, line_none, line_skip_only}
+use Rattle.session_script.proofs.Bounds.{line_spelled}
+use Rattle.session_script.proofs.GrammarLaws.{IsWithinLimits-nil, IsWithinLimits-more}
+
+no_path : (w : List ℕ) → path_of w ≡ None → (path : List (List ℕ)) × SpellsPath w path → ⊥
+no_path w is h = let some : path_of w ≡ Some h.0 = path_only w h.0 h.1 in cc
+
+no_number : (w : List ℕ) → number_of w ≡ None → (n : ℕ) × SpellsNumber w n → ⊥
+no_number w is h = let some : number_of w ≡ Some h.0 = number_only w h.0 h.1 in cc
+
+no_bytes : (w : List ℕ) → bytes_of w ≡ None → (bytes : List ℕ) × SpellsBytes w bytes → ⊥
+no_bytes w is h = let some : bytes_of w ≡ Some h.0 = bytes_only w h.0 h.1 in cc
+
+neither : (a b : Bool) → (a || b) ≡ false → (a ≡ false) × (b ≡ false)
+neither true b h = cc
+neither false b h = (refl, h)
+
+all_full : (words : List (List ℕ)) → list_any is_empty words ≡ false → AllByRecursion (λ w. 1 ≤ length w) words
+all_full [] h = tt
+all_full (w ∷ words) h = let both = neither (is_empty w) (list_any is_empty words) h in (not_empty w both.0, all_full words both.1)
+
+none_empty : (words : List (List ℕ)) → AllByRecursion (λ w. 1 ≤ length w) words → list_any is_empty words ≡ false
+none_empty [] h = refl
+none_empty (w ∷ words) h = ap (λ b. b || list_any is_empty words) (empty_no w h.0) ∙ none_empty words h.1
+
+-- the call that a verb's word names is that verb's
+verb_only : (verb : Verb) → verb_of (verb_text verb) ≡ Some verb
+verb_only verbs.Mkdir = refl
+verb_only verbs.Create = refl
+verb_only verbs.Write = refl
+verb_only verbs.Truncate = refl
+verb_only verbs.Read = refl
+verb_only verbs.List = refl
+verb_only verbs.Stat = refl
+verb_only verbs.Rename = refl
+verb_only verbs.Remove = refl
+verb_only verbs.Sync = refl
+
+same_text : (verb : Verb) → calls.verb_text verb ≡ verb_text verb
+same_text verbs.Mkdir = refl
+same_text verbs.Create = refl
+same_text verbs.Write = refl
+same_text verbs.Truncate = refl
+same_text verbs.Read = refl
+same_text verbs.List = refl
+same_text verbs.Stat = refl
+same_text verbs.Rename = refl
+same_text verbs.Remove = refl
+same_text verbs.Sync = refl
+
+module _ (told : ScriptWhy) where
+  wrong_words : (verb : Verb) (rest : List (List ℕ)) → (HasWords verb rest → ⊥) → (let r : Result Call ScriptWhy = Err reasons.Words in r) ≡ Err told → LacksForm (verb_text verb ∷ rest) told
+  wrong_words verb rest no_words e =
+      let same : reasons.Words ≡ told = cc in subst (LacksForm (verb_text verb ∷ rest)) same (verb, rest, refl, no_words)
+
+  -- a word that has to be a path is none, or what is behind it lacks a form
+  at_path : (verb : Verb) (rest : List (List ℕ)) (p : List ℕ) (next : List (List ℕ) → Result Call ScriptWhy) → HasWords verb rest
+      → (HasPaths verb rest → (path : List (List ℕ)) × SpellsPath p path) → read_as (path_of p) reasons.Path next ≡ Err told
+      → ((path : List (List ℕ)) → SpellsPath p path → next path ≡ Err told → LacksForm (verb_text verb ∷ rest) told) → LacksForm (verb_text verb ∷ rest) told
+  at_path verb rest p next words this e later = at (path_of p) refl e
+    where
+      at : (o : Option (List (List ℕ))) → path_of p ≡ o → read_as o reasons.Path next ≡ Err told → LacksForm (verb_text verb ∷ rest) told
+      at None is h =
+          let same : reasons.Path ≡ told = cc in subst (LacksForm (verb_text verb ∷ rest)) same (verb, rest, refl, words, λ paths. no_path p is (this paths))
+      at (Some path) is h = later path (path_found p path is) h
+
+  -- the same of a number
+  at_number : (verb : Verb) (rest : List (List ℕ)) (w : List ℕ) (next : ℕ → Result Call ScriptWhy) → HasWords verb rest → HasPaths verb rest
+      → (HasNumbers verb rest → (n : ℕ) × SpellsNumber w n) → read_as (number_of w) reasons.Number next ≡ Err told
+      → ((n : ℕ) → SpellsNumber w n → next n ≡ Err told → LacksForm (verb_text verb ∷ rest) told) → LacksForm (verb_text verb ∷ rest) told
+  at_number verb rest w next words paths this e later = at (number_of w) refl e
+    where
+      at : (o : Option ℕ) → number_of w ≡ o → read_as o reasons.Number next ≡ Err told → LacksForm (verb_text verb ∷ rest) told
+      at None is h =
+          let same : reasons.Number ≡ told = cc in
+          subst (LacksForm (verb_text verb ∷ rest)) same (verb, rest, refl, words, paths, λ numbers. no_number w is (this numbers))
+      at (Some n) is h = later n (number_found w n is) h
+
+  -- the same of the bytes of a write
+  at_bytes : (verb : Verb) (rest : List (List ℕ)) (w : List ℕ) (next : List ℕ → Result Call ScriptWhy) → HasWords verb rest → HasPaths verb rest → HasNumbers verb rest
+      → (HasContent verb rest → (bytes : List ℕ) × SpellsBytes w bytes) → read_as (bytes_of w) reasons.Bytes next ≡ Err told
+      → ((bytes : List ℕ) → next bytes ≡ Err told → LacksForm (verb_text verb ∷ rest) told) → LacksForm (verb_text verb ∷ rest) told
+  at_bytes verb rest w next words paths numbers this e later = at (bytes_of w) refl e
+    where
+      at : (o : Option (List ℕ)) → bytes_of w ≡ o → read_as o reasons.Bytes next ≡ Err told → LacksForm (verb_text verb ∷ rest) told
+      at None is h =
+          let same : reasons.Bytes ≡ told = cc in
+          subst (LacksForm (verb_text verb ∷ rest)) same (verb, rest, refl, words, paths, numbers, λ content. no_bytes w is (this content))
+      at (Some bytes) is h = later bytes h
+
+  never : {X : Type 0} (call : Call) → Ok call ≡ Err told → X
+  never call e = cc
+
+  mkdir_lacks : (rest : List (List ℕ)) → AllByRecursion (λ w. 1 ≤ length w) rest → call_by verbs.Mkdir rest ≡ Err told → LacksForm (verb_text verbs.Mkdir ∷ rest) told
+  mkdir_lacks [] full e = wrong_words verbs.Mkdir [] (λ h. omega (arith, h.count)) e
+  mkdir_lacks (p ∷ []) full e = at_path verbs.Mkdir (p ∷ []) p _ (record { count = refl; full = full }) (λ h. h.0) e (λ path is h. never _ h)
+  mkdir_lacks (p ∷ q ∷ rest) full e = wrong_words verbs.Mkdir (p ∷ q ∷ rest) (λ h. omega (arith, h.count)) e
+
+  write_lacks : (rest : List (List ℕ)) → AllByRecursion (λ w. 1 ≤ length w) rest → call_by verbs.Write rest ≡ Err told → LacksForm (verb_text verbs.Write ∷ rest) told
+  write_lacks [] full e = wrong_words verbs.Write [] (λ h. omega (arith, h.count)) e
+  write_lacks (p ∷ []) full e = wrong_words verbs.Write (p ∷ []) (λ h. omega (arith, h.count)) e
+  write_lacks (p ∷ n ∷ []) full e = wrong_words verbs.Write (p ∷ n ∷ []) (λ h. omega (arith, h.count)) e
+  write_lacks (p ∷ n ∷ b ∷ []) full e =
+      let words : HasWords verbs.Write (p ∷ n ∷ b ∷ []) = record { count = refl; full = full } in
+      at_path verbs.Write (p ∷ n ∷ b ∷ []) p _ words (λ h. h.0) e (λ path path_is f.
+      at_number verbs.Write (p ∷ n ∷ b ∷ []) n _ words ((path, path_is), tt) (λ h. h.0) f (λ offset offset_is g.
+      at_bytes verbs.Write (p ∷ n ∷ b ∷ []) b _ words ((path, path_is), tt) ((offset, offset_is), tt) (λ h. h.0) g (λ bytes h. never _ h)))
+  write_lacks (p ∷ n ∷ b ∷ r ∷ rest) full e = wrong_words verbs.Write (p ∷ n ∷ b ∷ r ∷ rest) (λ h. omega (arith, h.count)) e
+
+  one_lacks : (verb : Verb) (make : List (List ℕ) → Call) (p : List ℕ) → HasWords verb (p ∷ []) → (HasPaths verb (p ∷ []) → (path : List (List ℕ)) × SpellsPath p path)
+      → read_as (path_of p) reasons.Path (λ path. Ok (make path)) ≡ Err told → LacksForm (verb_text verb ∷ p ∷ []) told
+  one_lacks verb make p words this e = at_path verb (p ∷ []) p _ words this e (λ path is h. never (make path) h)
+
+  create_lacks : (rest : List (List ℕ)) → AllByRecursion (λ w. 1 ≤ length w) rest → call_by verbs.Create rest ≡ Err told → LacksForm (verb_text verbs.Create ∷ rest) told
+  create_lacks [] full e = wrong_words verbs.Create [] (λ h. omega (arith, h.count)) e
+  create_lacks (p ∷ []) full e = one_lacks verbs.Create Create p (record { count = refl; full = full }) (λ h. h.0) e
+  create_lacks (p ∷ q ∷ rest) full e = wrong_words verbs.Create (p ∷ q ∷ rest) (λ h. omega (arith, h.count)) e
+
+  list_lacks : (rest : List (List ℕ)) → AllByRecursion (λ w. 1 ≤ length w) rest → call_by verbs.List rest ≡ Err told → LacksForm (verb_text verbs.List ∷ rest) told
+  list_lacks [] full e = wrong_words verbs.List [] (λ h. omega (arith, h.count)) e
+  list_lacks (p ∷ []) full e = one_lacks verbs.List Listing p (record { count = refl; full = full }) (λ h. h.0) e
+  list_lacks (p ∷ q ∷ rest) full e = wrong_words verbs.List (p ∷ q ∷ rest) (λ h. omega (arith, h.count)) e
+
+  stat_lacks : (rest : List (List ℕ)) → AllByRecursion (λ w. 1 ≤ length w) rest → call_by verbs.Stat rest ≡ Err told → LacksForm (verb_text verbs.Stat ∷ rest) told
+  stat_lacks [] full e = wrong_words verbs.Stat [] (λ h. omega (arith, h.count)) e
+  stat_lacks (p ∷ []) full e = one_lacks verbs.Stat Stat p (record { count = refl; full = full }) (λ h. h.0) e
+  stat_lacks (p ∷ q ∷ rest) full e = wrong_words verbs.Stat (p ∷ q ∷ rest) (λ h. omega (arith, h.count)) e
+
+  remove_lacks : (rest : List (List ℕ)) → AllByRecursion (λ w. 1 ≤ length w) rest → call_by verbs.Remove rest ≡ Err told → LacksForm (verb_text verbs.Remove ∷ rest) told
+  remove_lacks [] full e = wrong_words verbs.Remove [] (λ h. omega (arith, h.count)) e
+  remove_lacks (p ∷ []) full e = one_lacks verbs.Remove Remove p (record { count = refl; full = full }) (λ h. h.0) e
+  remove_lacks (p ∷ q ∷ rest) full e = wrong_words verbs.Remove (p ∷ q ∷ rest) (λ h. omega (arith, h.count)) e
+
+  sync_lacks : (rest : List (List ℕ)) → AllByRecursion (λ w. 1 ≤ length w) rest → call_by verbs.Sync rest ≡ Err told → LacksForm (verb_text verbs.Sync ∷ rest) told
+  sync_lacks [] full e = never Sync e
+  sync_lacks (p ∷ rest) full e = wrong_words verbs.Sync (p ∷ rest) (λ h. omega (arith, h.count)) e
+
+  rename_lacks : (rest : List (List ℕ)) → AllByRecursion (λ w. 1 ≤ length w) rest → call_by verbs.Rename rest ≡ Err told → LacksForm (verb_text verbs.Rename ∷ rest) told
+  rename_lacks [] full e = wrong_words verbs.Rename [] (λ h. omega (arith, h.count)) e
+  rename_lacks (p ∷ []) full e = wrong_words verbs.Rename (p ∷ []) (λ h. omega (arith, h.count)) e
+  rename_lacks (p ∷ q ∷ []) full e =
+      let words : HasWords verbs.Rename (p ∷ q ∷ []) = record { count = refl; full = full } in
+      at_path verbs.Rename (p ∷ q ∷ []) p _ words (λ h. h.0) e (λ from from_is f. at_path verbs.Rename (p ∷ q ∷ []) q _ words (λ h. h.1.0) f (λ to to_is h. never (Rename from to) h))
+  rename_lacks (p ∷ q ∷ r ∷ rest) full e = wrong_words verbs.Rename (p ∷ q ∷ r ∷ rest) (λ h. omega (arith, h.count)) e
+
+  truncate_lacks : (rest : List (List ℕ)) → AllByRecursion (λ w. 1 ≤ length w) rest → call_by verbs.Truncate rest ≡ Err told → LacksForm (verb_text verbs.Truncate ∷ rest) told
+  truncate_lacks [] full e = wrong_words verbs.Truncate [] (λ h. omega (arith, h.count)) e
+  truncate_lacks (p ∷ []) full e = wrong_words verbs.Truncate (p ∷ []) (λ h. omega (arith, h.count)) e
+  truncate_lacks (p ∷ n ∷ []) full e =
+      let words : HasWords verbs.Truncate (p ∷ n ∷ []) = record { count = refl; full = full } in
+      at_path verbs.Truncate (p ∷ n ∷ []) p _ words (λ h. h.0) e (λ path path_is f.
+      at_number verbs.Truncate (p ∷ n ∷ []) n _ words ((path, path_is), tt) (λ h. h.0) f (λ size size_is h. never (Truncate path size) h))
+  truncate_lacks (p ∷ n ∷ r ∷ rest) full e = wrong_words verbs.Truncate (p ∷ n ∷ r ∷ rest) (λ h. omega (arith, h.count)) e
+
+  read_lacks : (rest : List (List ℕ)) → AllByRecursion (λ w. 1 ≤ length w) rest → call_by verbs.Read rest ≡ Err told → LacksForm (verb_text verbs.Read ∷ rest) told
+  read_lacks [] full e = wrong_words verbs.Read [] (λ h. omega (arith, h.count)) e
+  read_lacks (p ∷ []) full e = wrong_words verbs.Read (p ∷ []) (λ h. omega (arith, h.count)) e
+  read_lacks (p ∷ n ∷ []) full e = wrong_words verbs.Read (p ∷ n ∷ []) (λ h. omega (arith, h.count)) e
+  read_lacks (p ∷ n ∷ m ∷ []) full e =
+      let words : HasWords verbs.Read (p ∷ n ∷ m ∷ []) = record { count = refl; full = full } in
+      at_path verbs.Read (p ∷ n ∷ m ∷ []) p _ words (λ h. h.0) e (λ path path_is f.
+      at_number verbs.Read (p ∷ n ∷ m ∷ []) n _ words ((path, path_is), tt) (λ h. h.0) f (λ offset offset_is g.
+      at_number verbs.Read (p ∷ n ∷ m ∷ []) m _ words ((path, path_is), tt) (λ h. h.1.0) g (λ count count_is h. never (Read path offset count) h)))
+  read_lacks (p ∷ n ∷ m ∷ r ∷ rest) full e = wrong_words verbs.Read (p ∷ n ∷ m ∷ r ∷ rest) (λ h. omega (arith, h.count)) e
+
+  by_lacks : (verb : Verb) (rest : List (List ℕ)) → AllByRecursion (λ w. 1 ≤ length w) rest → call_by verb rest ≡ Err told → LacksForm (verb_text verb ∷ rest) told
+  by_lacks verbs.Mkdir rest full e = mkdir_lacks rest full e
+  by_lacks verbs.Create rest full e = create_lacks rest full e
+  by_lacks verbs.Write rest full e = write_lacks rest full e
+  by_lacks verbs.Truncate rest full e = truncate_lacks rest full e
+  by_lacks verbs.Read rest full e = read_lacks rest full e
+  by_lacks verbs.List rest full e = list_lacks rest full e
+  by_lacks verbs.Stat rest full e = stat_lacks rest full e
+  by_lacks verbs.Rename rest full e = rename_lacks rest full e
+  by_lacks verbs.Remove rest full e = remove_lacks rest full e
+  by_lacks verbs.Sync rest full e = sync_lacks rest full e
+
+  with_lacks : (verb : Verb) (rest : List (List ℕ)) → call_with verb rest ≡ Err told → LacksForm (verb_text verb ∷ rest) told
+  with_lacks verb rest e = at (list_any is_empty rest) refl e
+    where
+      at : (b : Bool) → list_any is_empty rest ≡ b → cond b (Err reasons.Words) (call_by verb rest) ≡ Err told → LacksForm (verb_text verb ∷ rest) told
+      at true is h = wrong_words verb rest (λ words. let no : list_any is_empty rest ≡ false = none_empty rest words.full in cc) h
+      at false is h = by_lacks verb rest (all_full rest is) h
+
+  -- the words behind a session that are refused lack the form that is told
+  call_lacks : (words : List (List ℕ)) → call_of words ≡ Err told → LacksForm words told
+  call_lacks [] e = let same : reasons.Verb ≡ told = cc in subst (LacksForm []) same (λ verb rest h. cc)
+  call_lacks (word ∷ words) e = at (verb_of word) refl e
+    where
+      other : verb_of word ≡ None → (verb : Verb) (rest : List (List ℕ)) → word ∷ words ≡ verb_text verb ∷ rest → ⊥
+      other is verb rest h =
+          let text : word ≡ verb_text verb = cc in
+          let some : verb_of word ≡ Some verb = ap verb_of text ∙ verb_only verb in cc
+
+      at : (o : Option Verb) → verb_of word ≡ o → read_as o reasons.Verb (λ verb. call_with verb words) ≡ Err told → LacksForm (word ∷ words) told
+      at None is h = let same : reasons.Verb ≡ told = cc in subst (LacksForm (word ∷ words)) same (other is)
+      at (Some verb) is h = subst (λ w. LacksForm (w ∷ words) told) (sym (verb_found word verb is ∙ same_text verb)) (with_lacks verb words h)
+
+-- a limit that is told is passed, and none that is tested before it
+limit_found : (before : List ScriptLine) (line : ScriptLine) (told : ScriptWhy) → limit_passed before line ≡ Some told → PassesLimit before line told
+limit_found before line told e = calls_at (nat_le 1024 (length (calls_of before line.who))) refl e
+  where
+    asked_at : length (calls_of before line.who) < 1024 → bytes_written line.call ≤ 65536 → bytes_asked line.call ≤ 1048576 → (b : Bool)
+        → nat_lt 67108864 (sum_by (λ l. bytes_asked l.call) before + bytes_asked line.call) ≡ b → cond b (Some reasons.Sum) None ≡ Some told → PassesLimit before line told
+    asked_at few write read true is h = let same : reasons.Sum ≡ told = cc in subst (PassesLimit before line) same (few, write, read, inr (ltb-true _ _ is))
+    asked_at few write read false is h = cc
+
+    written_at : length (calls_of before line.who) < 1024 → bytes_written line.call ≤ 65536 → bytes_asked line.call ≤ 1048576 → (b : Bool)
+        → nat_lt 67108864 (sum_by (λ l. bytes_written l.call) before + bytes_written line.call) ≡ b
+        → cond b (Some reasons.Sum) (cond (nat_lt 67108864 (sum_by (λ l. bytes_asked l.call) before + bytes_asked line.call)) (Some reasons.Sum) None) ≡ Some told → PassesLimit before line told
+    written_at few write read true is h = let same : reasons.Sum ≡ told = cc in subst (PassesLimit before line) same (few, write, read, inl (ltb-true _ _ is))
+    written_at few write read false is h = asked_at few write read (nat_lt 67108864 (sum_by (λ l. bytes_asked l.call) before + bytes_asked line.call)) refl h
+
+    big_at : length (calls_of before line.who) < 1024 → (b c : Bool) → nat_lt 65536 (bytes_written line.call) ≡ b → nat_lt 1048576 (bytes_asked line.call) ≡ c
+        → cond (b || c) (Some reasons.Big)
+        (cond (nat_lt 67108864 (sum_by (λ l. bytes_written l.call) before + bytes_written line.call)) (Some reasons.Sum)
+        (cond (nat_lt 67108864 (sum_by (λ l. bytes_asked l.call) before + bytes_asked line.call)) (Some reasons.Sum) None)) ≡ Some told → PassesLimit before line told
+    big_at few true c write read h = let same : reasons.Big ≡ told = cc in subst (PassesLimit before line) same (few, inl (ltb-true _ _ write))
+    big_at few false true write read h = let same : reasons.Big ≡ told = cc in subst (PassesLimit before line) same (few, inr (ltb-true _ _ read))
+    big_at few false false write read h =
+        written_at few (ltb-false _ _ write) (ltb-false _ _ read) (nat_lt 67108864 (sum_by (λ l. bytes_written l.call) before + bytes_written line.call)) refl h
+
+    calls_at : (b : Bool) → nat_le 1024 (length (calls_of before line.who)) ≡ b
+        → cond b (Some reasons.Calls)
+        (cond (nat_lt 65536 (bytes_written line.call) || nat_lt 1048576 (bytes_asked line.call)) (Some reasons.Big)
+        (cond (nat_lt 67108864 (sum_by (λ l. bytes_written l.call) before + bytes_written line.call)) (Some reasons.Sum)
+        (cond (nat_lt 67108864 (sum_by (λ l. bytes_asked l.call) before + bytes_asked line.call)) (Some reasons.Sum) None))) ≡ Some told → PassesLimit before line told
+    calls_at true is h = let same : reasons.Calls ≡ told = cc in subst (PassesLimit before line) same (leb-true _ _ is)
+    calls_at false is h = big_at (leb-false _ _ is) (nat_lt 65536 (bytes_written line.call)) (nat_lt 1048576 (bytes_asked line.call)) refl refl h
+
+module _ (before : List ScriptLine) (line : List ℕ) where
+  by_form : (told : ScriptWhy) → IsUtf8 line → (IsSkippedLine line → ⊥) → LacksCall line told → IsRefusedLine before line told
+  by_form reasons.Utf8 valid some h = absurd h.5
+  by_form reasons.Who valid some h = absurd h.5
+  by_form _ valid some h = (valid, some, inl h)
+
+  by_limit : (told : ScriptWhy) → IsUtf8 line → (IsSkippedLine line → ⊥) → (spelled : ScriptLine) → IsCallLine line spelled → PassesLimit before spelled told → IsRefusedLine before line told
+  by_limit reasons.Utf8 valid some spelled called h = absurd h
+  by_limit reasons.Who valid some spelled called h = absurd h
+  by_limit _ valid some spelled called h = (valid, some, inr (spelled, called, h))
+
+  module _ (told : ScriptWhy) (valid : IsUtf8 line) (some : IsSkippedLine line → ⊥) where
+    words_refused : (words : List (List ℕ)) → 0 < length words → IsJoined 32 words line → spelled_by words ≡ Err told → IsRefusedLine before line told
+    words_refused [] full joined e = absurd (omega arith)
+    words_refused (word ∷ words) full joined e = at (session_of word) refl e
+      where
+        called : (who : ℕ) → session_of word ≡ Some who → (r : Result Call ScriptWhy) → call_of words ≡ r → with_session who r ≡ Err told → IsRefusedLine before line told
+        called who is (Ok call) are h = cc
+        called who is (Err why) are h =
+            let same : why ≡ told = cc in by_form told valid some (word, words, who, joined, session_found word who is, call_lacks told words (are ∙ ap Err same))
+
+        at : (o : Option ℕ) → session_of word ≡ o → read_as o reasons.Who (λ who. with_session who (call_of words)) ≡ Err told → IsRefusedLine before line told
+        at None is h =
+            let same : reasons.Who ≡ told = cc in
+            subst (IsRefusedLine before line) same (valid, some, (word, words, joined, λ who spells. let found : session_of word ≡ Some who = session_only word who spells in cc))
+        at (Some who) is h = called who is (call_of words) refl h
+
+    spelled_refused : (r : Result ScriptLine ScriptWhy) → spelled_by (words_of line) ≡ r → limited before r ≡ Err told → IsRefusedLine before line told
+    spelled_refused (Err why) is h =
+        let same : why ≡ told = cc in
+        words_refused (words_of line) (omega (arith, length-slice_split (λ b. eqb b 32) line)) (IsJoined-split 32 line) (is ∙ ap Err same)
+    spelled_refused (Ok spelled) is h = at (limit_passed before spelled) refl h
+      where
+        at : (o : Option ScriptWhy) → limit_passed before spelled ≡ o → unless_passed o spelled ≡ Err told → IsRefusedLine before line told
+        at None passed k = cc
+        at (Some why) passed k =
+            let same : why ≡ told = cc in by_limit told valid some spelled (spelled_found line spelled is) (limit_found before spelled told (passed ∙ ap Some same))
+
+  line_refused : (told : ScriptWhy) → line_of before line ≡ Err told → IsRefusedLine before line told
+  line_refused told e = at (is_utf8 line) refl (is_skipped line) e
+    where
+      never_skipped : IsUtf8 line → IsSkippedLine line → ⊥
+      never_skipped valid skip = let none : line_of before line ≡ Ok None = line_skip_only before line valid skip in cc
+
+      at : (utf8 : Bool) → is_utf8 line ≡ utf8 → (skip : Bool) → cond (not utf8) (Err reasons.Utf8) (cond skip (Ok None) (limited before (spelled_by (words_of line)))) ≡ Err told
+          → IsRefusedLine before line told
+      at false is skip h =
+          let same : reasons.Utf8 ≡ told = cc in
+          subst (IsRefusedLine before line) same (λ valid. let yes : is_utf8 line ≡ true = is_utf8-from_IsUtf8 line valid in cc)
+      at true is true h = cc
+      at true is false h =
+          let valid : IsUtf8 line = IsUtf8-from_is_utf8 line is in spelled_refused told valid (never_skipped valid) (spelled_by (words_of line)) refl h
+
+-- the line of these that is refused behind a script, and what those before it add
+record Refuses (n : ℕ) (before : List ScriptLine) (lines : List (List ℕ)) (e : ScriptErr) : Type 0 where
+  front : List (List ℕ)
+  line : List ℕ
+  rest : List (List ℕ)
+  added : List ScriptLine
+  cut : lines ≡ front ++ line ∷ rest
+  number : e.line ≡ length front + n
+  spelled : SpellLines front added
+  limited : IsWithinLimits (before ++ added)
+  refused : IsRefusedLine (before ++ added) line e.why
+
+skipped_first : (line : List ℕ) (lines : List (List ℕ)) (script : List ScriptLine) → IsUtf8 line → IsSkippedLine line → SpellLines lines script → SpellLines (line ∷ lines) script
+skipped_first line lines [] valid skip rest = (valid, skip, rest)
+skipped_first line lines (spelled ∷ script) valid skip rest = (valid, inl (skip, rest))
+
+from_refused : (n : ℕ) (before : List ScriptLine) (lines : List (List ℕ)) (e : ScriptErr) → script_from n before lines ≡ Err e → IsWithinLimits before → Refuses n before lines e
+from_refused n before [] e is within = cc
+from_refused n before (line ∷ lines) e is within = at (line_of before line) refl is (λ b h w. from_refused (n + 1) b lines e h w)
+  where
+    here : (why : ScriptWhy) → line_of before line ≡ Err why → Refuses n before (line ∷ lines) (record { line = n; why = why })
+    here why was = record {
+      front = [];
+      line = line;
+      rest = lines;
+      added = [];
+      cut = refl;
+      number = omega arith;
+      spelled = tt;
+      limited = subst IsWithinLimits (sym (append-nil before)) within;
+      refused = subst (λ b. IsRefusedLine b line why) (sym (append-nil before)) (line_refused before line why was);
+    }
+
+    at : (r : Result (Option ScriptLine) ScriptWhy) → line_of before line ≡ r → and_then (with_line n before r) (λ s. script_from (n + 1) s lines) ≡ Err e
+        → ((b : List ScriptLine) → script_from (n + 1) b lines ≡ Err e → IsWithinLimits b → Refuses (n + 1) b lines e) → Refuses n before (line ∷ lines) e
+    at (Err why) was h later =
+        let same : record { line = n; why = why } ≡ e = cc in subst (Refuses n before (line ∷ lines)) same (here why was)
+    at (Ok None) was h later =
+        let more = later before h within in record {
+          front = line ∷ more.front;
+          line = more.line;
+          rest = more.rest;
+          added = more.added;
+          cut = ap (λ l. line ∷ l) more.cut;
+          number = omega (arith, more.number);
+          spelled = skipped_first line more.front more.added (line_utf8 before line None was) (line_none before line was) more.spelled;
+          limited = more.limited;
+          refused = more.refused;
+        }
+    at (Ok (Some spelled)) was h later =
+        let read = line_spelled before line spelled was in
+        let more = later (before ++ spelled ∷ []) h (IsWithinLimits-more before spelled within read.1) in
+        let moved : (before ++ spelled ∷ []) ++ more.added ≡ before ++ spelled ∷ more.added = append_assoc before (spelled ∷ []) more.added in record {
+          front = line ∷ more.front;
+          line = more.line;
+          rest = more.rest;
+          added = spelled ∷ more.added;
+          cut = ap (λ l. line ∷ l) more.cut;
+          number = omega (arith, more.number);
+          spelled = (line_utf8 before line (Some spelled) was, inr (spelled_found line spelled read.0, more.spelled));
+          limited = subst IsWithinLimits moved more.limited;
+          refused = subst (λ b. IsRefusedLine b more.line e.why) moved more.refused;
+        }
+
+pub first_refused : (text : List ℕ) (e : ScriptErr) → script_of text ≡ Err e → IsTooLong text e ⊎ IsRefusedText text e
+first_refused text e is = at (nat_lt 16777216 (length text)) refl is
+  where
+    at : (b : Bool) → nat_lt 16777216 (length text) ≡ b → cond b (Err (record { line = 0; why = reasons.Long })) (script_from 1 [] (lines_of text)) ≡ Err e → IsTooLong text e ⊎ IsRefusedText text e
+    at true long h = let same : e ≡ record { line = 0; why = reasons.Long } = cc in inl (same, ltb-true _ _ long)
+    at false short h =
+        let found = from_refused 1 [] (lines_of text) e h IsWithinLimits-nil in inr (record {
+          front = found.front;
+          line = found.line;
+          rest = found.rest;
+          script = found.added;
+          short = ltb-false _ _ short;
+          joined = subst (λ lines. IsJoined 10 lines text) found.cut (IsJoined-split 10 text);
+          number = found.number;
+          spelled = found.spelled;
+          limited = found.limited;
+          refused = found.refused;
+        })

@@ -1,0 +1,115 @@
+-- Which line of a text is refused, and which form it lacks.
+use Rattle.std.specs.Prelude.{◌≡◌, ◌⊎◌, ℕ, ◌+◌, ◌<◌, ◌≤◌, List, ◌∷◌, ◌++◌, Err, codes, length, take, drop, sum_by}
+use Rattle.std.specs.List.{AllByRecursion}
+use Rattle.std.specs.Str.{IsUtf8}
+use Rattle.session_script.specs.declared.scripts.ScriptErr.{ScriptErr}
+use Rattle.session_script.specs.declared.scripts.ScriptLine.{ScriptLine}
+use Rattle.session_script.specs.declared.scripts.ScriptWhy.{ScriptWhy}
+use Rattle.session_script.specs.declared.scripts.ScriptWhy.TheVariants as reasons
+use Rattle.session_script.specs.declared.words.Verb.{Verb}
+use Rattle.session_script.specs.declared.words.Verb.TheVariants as verbs
+use Rattle.session_script.specs.Grammar.{calls_of, bytes_written, bytes_asked, script_of}
+use Rattle.session_script.specs.ScriptText.{IsJoined, SpellsSession, SpellsPath, SpellsNumber, SpellsBytes, IsSkippedLine, IsCallLine, SpellLines, IsWithinLimits}
+
+-- how a call is named
+abbrev pub verb_text : Verb → List ℕ
+verb_text verbs.Mkdir = codes "mkdir"
+verb_text verbs.Create = codes "create"
+verb_text verbs.Write = codes "write"
+verb_text verbs.Truncate = codes "truncate"
+verb_text verbs.Read = codes "read"
+verb_text verbs.List = codes "list"
+verb_text verbs.Stat = codes "stat"
+verb_text verbs.Rename = codes "rename"
+verb_text verbs.Remove = codes "remove"
+verb_text verbs.Sync = codes "sync"
+
+-- how many paths stand first behind a verb
+abbrev pub path_count : Verb → ℕ
+path_count verbs.Rename = 2
+path_count verbs.Sync = 0
+path_count _ = 1
+
+-- how many numbers stand behind the paths
+abbrev pub number_count : Verb → ℕ
+number_count verbs.Write = 1
+number_count verbs.Truncate = 1
+number_count verbs.Read = 2
+number_count _ = 0
+
+-- how many words of bytes stand last
+abbrev pub content_count : Verb → ℕ
+content_count verbs.Write = 1
+content_count _ = 0
+
+-- as many words as the verb takes, none of them empty
+pub record HasWords (verb : Verb) (words : List (List ℕ)) : Type 0 where
+  pub count : length words ≡ path_count verb + number_count verb + content_count verb
+  pub full : AllByRecursion (λ w. 1 ≤ length w) words
+
+-- the words that are paths, numbers and bytes spell such
+abbrev pub HasPaths : Verb → List (List ℕ) → Type 0
+HasPaths verb words = AllByRecursion (λ w. (path : List (List ℕ)) × SpellsPath w path) (take (path_count verb) words)
+
+abbrev pub HasNumbers : Verb → List (List ℕ) → Type 0
+HasNumbers verb words = AllByRecursion (λ w. (n : ℕ) × SpellsNumber w n) (take (number_count verb) (drop (path_count verb) words))
+
+abbrev pub HasContent : Verb → List (List ℕ) → Type 0
+HasContent verb words = AllByRecursion (λ w. (bytes : List ℕ) × SpellsBytes w bytes) (drop (number_count verb) (drop (path_count verb) words))
+
+-- Which form the words behind a session lack, where they have those that are tested before: the second word of the line
+-- names a call, the words are as many as it takes, the paths, the numbers, the bytes.
+abbrev pub LacksForm : List (List ℕ) → ScriptWhy → Type 0
+LacksForm words reasons.Verb = (verb : Verb) (rest : List (List ℕ)) → words ≡ verb_text verb ∷ rest → ⊥
+LacksForm words reasons.Words = (verb : Verb) × (rest : List (List ℕ)) × (words ≡ verb_text verb ∷ rest) × (HasWords verb rest → ⊥)
+LacksForm words reasons.Path = (verb : Verb) × (rest : List (List ℕ)) × (words ≡ verb_text verb ∷ rest) × HasWords verb rest × (HasPaths verb rest → ⊥)
+LacksForm words reasons.Number =
+    (verb : Verb) × (rest : List (List ℕ)) × (words ≡ verb_text verb ∷ rest) × HasWords verb rest × HasPaths verb rest × (HasNumbers verb rest → ⊥)
+LacksForm words reasons.Bytes =
+    (verb : Verb) × (rest : List (List ℕ)) × (words ≡ verb_text verb ∷ rest) × HasWords verb rest × HasPaths verb rest × HasNumbers verb rest × (HasContent verb rest → ⊥)
+LacksForm words _ = ⊥
+
+-- the limit that a call passes behind the lines before it, where it passes none that is tested before
+abbrev pub PassesLimit : List ScriptLine → ScriptLine → ScriptWhy → Type 0
+PassesLimit before line reasons.Calls = 1024 ≤ length (calls_of before line.who)
+PassesLimit before line reasons.Big = (length (calls_of before line.who) < 1024) × ((65536 < bytes_written line.call) ⊎ (1048576 < bytes_asked line.call))
+PassesLimit before line reasons.Sum =
+    (length (calls_of before line.who) < 1024) × (bytes_written line.call ≤ 65536) × (bytes_asked line.call ≤ 1048576)
+    × ((67108864 < sum_by (λ l. bytes_written l.call) before + bytes_written line.call) ⊎ (67108864 < sum_by (λ l. bytes_asked l.call) before + bytes_asked line.call))
+PassesLimit before line _ = ⊥
+
+-- the first word of a line names no session
+abbrev pub LacksSession : List ℕ → Type 0
+LacksSession line = (word : List ℕ) × (words : List (List ℕ)) × IsJoined 32 (word ∷ words) line × ((who : ℕ) → SpellsSession word who → ⊥)
+
+-- it does, and the words behind it lack a form
+abbrev pub LacksCall : List ℕ → ScriptWhy → Type 0
+LacksCall line reason = (word : List ℕ) × (words : List (List ℕ)) × (who : ℕ) × IsJoined 32 (word ∷ words) line × SpellsSession word who × LacksForm words reason
+
+-- a line is refused behind those before it
+abbrev pub IsRefusedLine : List ScriptLine → List ℕ → ScriptWhy → Type 0
+IsRefusedLine before line reasons.Utf8 = IsUtf8 line → ⊥
+IsRefusedLine before line reasons.Who = IsUtf8 line × (IsSkippedLine line → ⊥) × LacksSession line
+IsRefusedLine before line reason =
+    IsUtf8 line × (IsSkippedLine line → ⊥) × (LacksCall line reason ⊎ ((spelled : ScriptLine) × IsCallLine line spelled × PassesLimit before spelled reason))
+
+-- the lines before one are a script by themselves, and that line is refused
+pub record IsRefusedText (text : List ℕ) (e : ScriptErr) : Type 0 where
+  pub front : List (List ℕ)
+  pub line : List ℕ
+  pub rest : List (List ℕ)
+  pub script : List ScriptLine
+  pub short : length text ≤ 16777216
+  pub joined : IsJoined 10 (front ++ line ∷ rest) text
+  pub number : e.line ≡ length front + 1
+  pub spelled : SpellLines front script
+  pub limited : IsWithinLimits script
+  pub refused : IsRefusedLine script line e.why
+
+-- a text over its limit is refused at line 0
+abbrev pub IsTooLong : List ℕ → ScriptErr → Type 0
+IsTooLong text e = (e ≡ record { line = 0; why = reasons.Long }) × (16777216 < length text)
+
+-- what is refused is refused at its first line that is not of its form, for the first form that this lacks
+abbrev pub RefusesTheFirst : Type 0
+RefusesTheFirst = (text : List ℕ) (e : ScriptErr) → script_of text ≡ Err e → IsTooLong text e ⊎ IsRefusedText text e
