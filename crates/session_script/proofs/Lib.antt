@@ -11,5 +11,6 @@ pub mod NumberLaws
 pub mod PathLaws
 pub mod Pieces
 pub mod RefusalLaws
+pub mod RefusalsOnly
 pub mod SessionLemmas
 pub mod Texts

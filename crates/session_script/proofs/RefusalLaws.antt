@@ -1,4 +1,4 @@
--- Refused scripts: the lines before the one that is refused, and the form that this lacks.
+-- Refused scripts, as they are read: the lines before the one that is refused, and what is wrong with this.
 use Rattle.std.proofs.Common.{◌≡◌, ◌⊎◌, inl, inr, ℕ, ◌+◌, ◌<◌, ◌≤◌, Bool, true, false, cond, eqb, List, [], ◌∷◌, ◌++◌, length, sum_by, sym, ap, ◌∙◌, refl, subst, arith, Some, None, Ok, Err, append-nil, append_assoc}
 use Rattle.std.specs.Prelude.{Option, Result, ◌||◌, not, nat_le, nat_lt}
 use Rattle.std.specs.List.{AllByRecursion, list_any}
@@ -7,7 +7,7 @@ use Rattle.std.proofs.lemmas.Bool.{leb-true, leb-false, ltb-true, ltb-false}
 use Rattle.std.proofs.lemmas.List.Splits.{length-slice_split}
 use Rattle.std.proofs.lemmas.Str.{IsUtf8-from_is_utf8, is_utf8-from_IsUtf8}
 use Rattle.plain_tree.specs.declared.calls.Call.{Call}
-use Rattle.plain_tree.specs.declared.calls.Call.TheVariants.{Create, Truncate, Read, Listing, Stat, Rename, Remove, Sync}
+use Rattle.plain_tree.specs.declared.calls.Call.TheVariants.{Mkdir, Create, Truncate, Read, Listing, Stat, Rename, Remove, Sync}
 use Rattle.session_script.specs.declared.scripts.ScriptErr.{ScriptErr}
 use Rattle.session_script.specs.declared.scripts.ScriptLine.{ScriptLine}
 use Rattle.session_script.specs.declared.scripts.ScriptWhy.{ScriptWhy}
@@ -44,12 +44,12 @@ all_full : (words : List (List ℕ)) → list_any is_empty words ≡ false → A
 all_full [] h = tt
 all_full (w ∷ words) h = let both = neither (is_empty w) (list_any is_empty words) h in (not_empty w both.0, all_full words both.1)
 
-none_empty : (words : List (List ℕ)) → AllByRecursion (λ w. 1 ≤ length w) words → list_any is_empty words ≡ false
+pub none_empty : (words : List (List ℕ)) → AllByRecursion (λ w. 1 ≤ length w) words → list_any is_empty words ≡ false
 none_empty [] h = refl
 none_empty (w ∷ words) h = ap (λ b. b || list_any is_empty words) (empty_no w h.0) ∙ none_empty words h.1
 
--- the call that a verb's word names is that verb's
-verb_only : (verb : Verb) → verb_of (verb_text verb) ≡ Some verb
+-- a word that names a verb names that alone
+pub verb_only : (verb : Verb) → verb_of (verb_text verb) ≡ Some verb
 verb_only verbs.Mkdir = refl
 verb_only verbs.Create = refl
 verb_only verbs.Write = refl
@@ -82,43 +82,47 @@ module _ (told : ScriptWhy) where
   at_path : (verb : Verb) (rest : List (List ℕ)) (p : List ℕ) (next : List (List ℕ) → Result Call ScriptWhy) → HasWords verb rest
       → (HasPaths verb rest → (path : List (List ℕ)) × SpellsPath p path) → read_as (path_of p) reasons.Path next ≡ Err told
       → ((path : List (List ℕ)) → SpellsPath p path → next path ≡ Err told → LacksForm (verb_text verb ∷ rest) told) → LacksForm (verb_text verb ∷ rest) told
-  at_path verb rest p next words this e later = at (path_of p) refl e
+  at_path verb rest p next words is_path e later = at (path_of p) refl e
     where
       at : (o : Option (List (List ℕ))) → path_of p ≡ o → read_as o reasons.Path next ≡ Err told → LacksForm (verb_text verb ∷ rest) told
       at None is h =
-          let same : reasons.Path ≡ told = cc in subst (LacksForm (verb_text verb ∷ rest)) same (verb, rest, refl, words, λ paths. no_path p is (this paths))
+          let same : reasons.Path ≡ told = cc in subst (LacksForm (verb_text verb ∷ rest)) same (verb, rest, refl, words, λ paths. no_path p is (is_path paths))
       at (Some path) is h = later path (path_found p path is) h
 
   -- the same of a number
   at_number : (verb : Verb) (rest : List (List ℕ)) (w : List ℕ) (next : ℕ → Result Call ScriptWhy) → HasWords verb rest → HasPaths verb rest
       → (HasNumbers verb rest → (n : ℕ) × SpellsNumber w n) → read_as (number_of w) reasons.Number next ≡ Err told
       → ((n : ℕ) → SpellsNumber w n → next n ≡ Err told → LacksForm (verb_text verb ∷ rest) told) → LacksForm (verb_text verb ∷ rest) told
-  at_number verb rest w next words paths this e later = at (number_of w) refl e
+  at_number verb rest w next words paths is_number e later = at (number_of w) refl e
     where
       at : (o : Option ℕ) → number_of w ≡ o → read_as o reasons.Number next ≡ Err told → LacksForm (verb_text verb ∷ rest) told
       at None is h =
           let same : reasons.Number ≡ told = cc in
-          subst (LacksForm (verb_text verb ∷ rest)) same (verb, rest, refl, words, paths, λ numbers. no_number w is (this numbers))
+          subst (LacksForm (verb_text verb ∷ rest)) same (verb, rest, refl, words, paths, λ numbers. no_number w is (is_number numbers))
       at (Some n) is h = later n (number_found w n is) h
 
   -- the same of the bytes of a write
   at_bytes : (verb : Verb) (rest : List (List ℕ)) (w : List ℕ) (next : List ℕ → Result Call ScriptWhy) → HasWords verb rest → HasPaths verb rest → HasNumbers verb rest
       → (HasContent verb rest → (bytes : List ℕ) × SpellsBytes w bytes) → read_as (bytes_of w) reasons.Bytes next ≡ Err told
       → ((bytes : List ℕ) → next bytes ≡ Err told → LacksForm (verb_text verb ∷ rest) told) → LacksForm (verb_text verb ∷ rest) told
-  at_bytes verb rest w next words paths numbers this e later = at (bytes_of w) refl e
+  at_bytes verb rest w next words paths numbers is_bytes e later = at (bytes_of w) refl e
     where
       at : (o : Option (List ℕ)) → bytes_of w ≡ o → read_as o reasons.Bytes next ≡ Err told → LacksForm (verb_text verb ∷ rest) told
       at None is h =
           let same : reasons.Bytes ≡ told = cc in
-          subst (LacksForm (verb_text verb ∷ rest)) same (verb, rest, refl, words, paths, numbers, λ content. no_bytes w is (this content))
+          subst (LacksForm (verb_text verb ∷ rest)) same (verb, rest, refl, words, paths, numbers, λ content. no_bytes w is (is_bytes content))
       at (Some bytes) is h = later bytes h
 
   never : {X : Type 0} (call : Call) → Ok call ≡ Err told → X
   never call e = cc
 
+  one_lacks : (verb : Verb) (make : List (List ℕ) → Call) (p : List ℕ) → HasWords verb (p ∷ []) → (HasPaths verb (p ∷ []) → (path : List (List ℕ)) × SpellsPath p path)
+      → read_as (path_of p) reasons.Path (λ path. Ok (make path)) ≡ Err told → LacksForm (verb_text verb ∷ p ∷ []) told
+  one_lacks verb make p words is_path e = at_path verb (p ∷ []) p _ words is_path e (λ path is h. never (make path) h)
+
   mkdir_lacks : (rest : List (List ℕ)) → AllByRecursion (λ w. 1 ≤ length w) rest → call_by verbs.Mkdir rest ≡ Err told → LacksForm (verb_text verbs.Mkdir ∷ rest) told
   mkdir_lacks [] full e = wrong_words verbs.Mkdir [] (λ h. omega (arith, h.count)) e
-  mkdir_lacks (p ∷ []) full e = at_path verbs.Mkdir (p ∷ []) p _ (record { count = refl; full = full }) (λ h. h.0) e (λ path is h. never _ h)
+  mkdir_lacks (p ∷ []) full e = one_lacks verbs.Mkdir Mkdir p (record { count = refl; full = full }) (λ h. h.0) e
   mkdir_lacks (p ∷ q ∷ rest) full e = wrong_words verbs.Mkdir (p ∷ q ∷ rest) (λ h. omega (arith, h.count)) e
 
   write_lacks : (rest : List (List ℕ)) → AllByRecursion (λ w. 1 ≤ length w) rest → call_by verbs.Write rest ≡ Err told → LacksForm (verb_text verbs.Write ∷ rest) told
@@ -131,10 +135,6 @@ module _ (told : ScriptWhy) where
       at_number verbs.Write (p ∷ n ∷ b ∷ []) n _ words ((path, path_is), tt) (λ h. h.0) f (λ offset offset_is g.
       at_bytes verbs.Write (p ∷ n ∷ b ∷ []) b _ words ((path, path_is), tt) ((offset, offset_is), tt) (λ h. h.0) g (λ bytes h. never _ h)))
   write_lacks (p ∷ n ∷ b ∷ r ∷ rest) full e = wrong_words verbs.Write (p ∷ n ∷ b ∷ r ∷ rest) (λ h. omega (arith, h.count)) e
-
-  one_lacks : (verb : Verb) (make : List (List ℕ) → Call) (p : List ℕ) → HasWords verb (p ∷ []) → (HasPaths verb (p ∷ []) → (path : List (List ℕ)) × SpellsPath p path)
-      → read_as (path_of p) reasons.Path (λ path. Ok (make path)) ≡ Err told → LacksForm (verb_text verb ∷ p ∷ []) told
-  one_lacks verb make p words this e = at_path verb (p ∷ []) p _ words this e (λ path is h. never (make path) h)
 
   create_lacks : (rest : List (List ℕ)) → AllByRecursion (λ w. 1 ≤ length w) rest → call_by verbs.Create rest ≡ Err told → LacksForm (verb_text verbs.Create ∷ rest) told
   create_lacks [] full e = wrong_words verbs.Create [] (λ h. omega (arith, h.count)) e
@@ -208,7 +208,7 @@ module _ (told : ScriptWhy) where
       at false is h = by_lacks verb rest (all_full rest is) h
 
   -- the words behind a session that are refused lack the form that is told
-  call_lacks : (words : List (List ℕ)) → call_of words ≡ Err told → LacksForm words told
+  pub call_lacks : (words : List (List ℕ)) → call_of words ≡ Err told → LacksForm words told
   call_lacks [] e = let same : reasons.Verb ≡ told = cc in subst (LacksForm []) same (λ verb rest h. cc)
   call_lacks (word ∷ words) e = at (verb_of word) refl e
     where
@@ -222,7 +222,7 @@ module _ (told : ScriptWhy) where
       at (Some verb) is h = subst (λ w. LacksForm (w ∷ words) told) (sym (verb_found word verb is ∙ same_text verb)) (with_lacks verb words h)
 
 -- a limit that is told is passed, and none that is tested before it
-limit_found : (before : List ScriptLine) (line : ScriptLine) (told : ScriptWhy) → limit_passed before line ≡ Some told → PassesLimit before line told
+pub limit_found : (before : List ScriptLine) (line : ScriptLine) (told : ScriptWhy) → limit_passed before line ≡ Some told → PassesLimit before line told
 limit_found before line told e = calls_at (nat_le 1024 (length (calls_of before line.who))) refl e
   where
     asked_at : length (calls_of before line.who) < 1024 → bytes_written line.call ≤ 65536 → bytes_asked line.call ≤ 1048576 → (b : Bool)

@@ -1,4 +1,4 @@
--- Which line of a text is refused, and which form it lacks.
+-- Which line of a text is refused, and for which reason.
 use Rattle.std.specs.Prelude.{◌≡◌, ◌⊎◌, ℕ, ◌+◌, ◌<◌, ◌≤◌, List, ◌∷◌, ◌++◌, Err, codes, length, take, drop, sum_by}
 use Rattle.std.specs.List.{AllByRecursion}
 use Rattle.std.specs.Str.{IsUtf8}
@@ -11,7 +11,7 @@ use Rattle.session_script.specs.declared.words.Verb.TheVariants as verbs
 use Rattle.session_script.specs.Grammar.{calls_of, bytes_written, bytes_asked, script_of}
 use Rattle.session_script.specs.ScriptText.{IsJoined, SpellsSession, SpellsPath, SpellsNumber, SpellsBytes, IsSkippedLine, IsCallLine, SpellLines, IsWithinLimits}
 
--- how a call is named
+-- the word that names a call
 abbrev pub verb_text : Verb → List ℕ
 verb_text verbs.Mkdir = codes "mkdir"
 verb_text verbs.Create = codes "create"
@@ -24,41 +24,43 @@ verb_text verbs.Rename = codes "rename"
 verb_text verbs.Remove = codes "remove"
 verb_text verbs.Sync = codes "sync"
 
--- how many paths stand first behind a verb
+-- how many paths a call takes, which stand first behind its name
 abbrev pub path_count : Verb → ℕ
 path_count verbs.Rename = 2
 path_count verbs.Sync = 0
 path_count _ = 1
 
--- how many numbers stand behind the paths
+-- how many numbers it takes, which stand behind the paths
 abbrev pub number_count : Verb → ℕ
 number_count verbs.Write = 1
 number_count verbs.Truncate = 1
 number_count verbs.Read = 2
 number_count _ = 0
 
--- how many words of bytes stand last
+-- how many words of bytes it takes, which stand last
 abbrev pub content_count : Verb → ℕ
 content_count verbs.Write = 1
 content_count _ = 0
 
--- as many words as the verb takes, none of them empty
+-- as many words as the call takes, none of them empty
 pub record HasWords (verb : Verb) (words : List (List ℕ)) : Type 0 where
   pub count : length words ≡ path_count verb + number_count verb + content_count verb
   pub full : AllByRecursion (λ w. 1 ≤ length w) words
 
--- the words that are paths, numbers and bytes spell such
+-- each word that stands for a path spells one
 abbrev pub HasPaths : Verb → List (List ℕ) → Type 0
 HasPaths verb words = AllByRecursion (λ w. (path : List (List ℕ)) × SpellsPath w path) (take (path_count verb) words)
 
+-- each word that stands for a number spells one
 abbrev pub HasNumbers : Verb → List (List ℕ) → Type 0
 HasNumbers verb words = AllByRecursion (λ w. (n : ℕ) × SpellsNumber w n) (take (number_count verb) (drop (path_count verb) words))
 
+-- each word that stands for the bytes of a write spells such
 abbrev pub HasContent : Verb → List (List ℕ) → Type 0
 HasContent verb words = AllByRecursion (λ w. (bytes : List ℕ) × SpellsBytes w bytes) (drop (number_count verb) (drop (path_count verb) words))
 
--- Which form the words behind a session lack, where they have those that are tested before: the second word of the line
--- names a call, the words are as many as it takes, the paths, the numbers, the bytes.
+-- the first form that the words behind a session lack: they name a call, are as many as it takes, and spell its paths, its
+-- numbers and its bytes
 abbrev pub LacksForm : List (List ℕ) → ScriptWhy → Type 0
 LacksForm words reasons.Verb = (verb : Verb) (rest : List (List ℕ)) → words ≡ verb_text verb ∷ rest → ⊥
 LacksForm words reasons.Words = (verb : Verb) × (rest : List (List ℕ)) × (words ≡ verb_text verb ∷ rest) × (HasWords verb rest → ⊥)
@@ -69,7 +71,8 @@ LacksForm words reasons.Bytes =
     (verb : Verb) × (rest : List (List ℕ)) × (words ≡ verb_text verb ∷ rest) × HasWords verb rest × HasPaths verb rest × HasNumbers verb rest × (HasContent verb rest → ⊥)
 LacksForm words _ = ⊥
 
--- the limit that a call passes behind the lines before it, where it passes none that is tested before
+-- the first limit that a call passes behind the lines before it: the calls of its session, the bytes of the call, and those
+-- of all writes or of all reads
 abbrev pub PassesLimit : List ScriptLine → ScriptLine → ScriptWhy → Type 0
 PassesLimit before line reasons.Calls = 1024 ≤ length (calls_of before line.who)
 PassesLimit before line reasons.Big = (length (calls_of before line.who) < 1024) × ((65536 < bytes_written line.call) ⊎ (1048576 < bytes_asked line.call))
@@ -82,18 +85,19 @@ PassesLimit before line _ = ⊥
 abbrev pub LacksSession : List ℕ → Type 0
 LacksSession line = (word : List ℕ) × (words : List (List ℕ)) × IsJoined 32 (word ∷ words) line × ((who : ℕ) → SpellsSession word who → ⊥)
 
--- it does, and the words behind it lack a form
+-- the first word names a session, and the words behind it lack a form
 abbrev pub LacksCall : List ℕ → ScriptWhy → Type 0
 LacksCall line reason = (word : List ℕ) × (words : List (List ℕ)) × (who : ℕ) × IsJoined 32 (word ∷ words) line × SpellsSession word who × LacksForm words reason
 
--- a line is refused behind those before it
+-- a line is refused behind the script of those before it: it isn't UTF-8, or it isn't skipped and lacks a form, or
+-- it spells a call that passes a limit
 abbrev pub IsRefusedLine : List ScriptLine → List ℕ → ScriptWhy → Type 0
 IsRefusedLine before line reasons.Utf8 = IsUtf8 line → ⊥
 IsRefusedLine before line reasons.Who = IsUtf8 line × (IsSkippedLine line → ⊥) × LacksSession line
 IsRefusedLine before line reason =
     IsUtf8 line × (IsSkippedLine line → ⊥) × (LacksCall line reason ⊎ ((spelled : ScriptLine) × IsCallLine line spelled × PassesLimit before spelled reason))
 
--- the lines before one are a script by themselves, and that line is refused
+-- the lines before one are a script by themselves, and that line is refused behind them; lines are counted from 1
 pub record IsRefusedText (text : List ℕ) (e : ScriptErr) : Type 0 where
   pub front : List (List ℕ)
   pub line : List ℕ
@@ -110,6 +114,12 @@ pub record IsRefusedText (text : List ℕ) (e : ScriptErr) : Type 0 where
 abbrev pub IsTooLong : List ℕ → ScriptErr → Type 0
 IsTooLong text e = (e ≡ record { line = 0; why = reasons.Long }) × (16777216 < length text)
 
--- what is refused is refused at its first line that is not of its form, for the first form that this lacks
-abbrev pub RefusesTheFirst : Type 0
-RefusesTheFirst = (text : List ℕ) (e : ScriptErr) → script_of text ≡ Err e → IsTooLong text e ⊎ IsRefusedText text e
+-- what a refusal says of its text
+abbrev pub IsRefusal : List ℕ → ScriptErr → Type 0
+IsRefusal text e = IsTooLong text e ⊎ IsRefusedText text e
+
+-- what is refused is refused at its first line that lacks a form or passes a limit, for the first of them; and what has such a
+-- line is refused so
+pub record RefusesTheFirst : Type 0 where
+  pub found : (text : List ℕ) (e : ScriptErr) → script_of text ≡ Err e → IsRefusal text e
+  pub only : (text : List ℕ) (e : ScriptErr) → IsRefusal text e → script_of text ≡ Err e

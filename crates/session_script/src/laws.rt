@@ -6,8 +6,8 @@ pub fn reads_the_grammar()
     ensures { ReadsGrammar }
 {}
 
-/// What is refused is refused at its first line that is not of its form or passes a limit, and for the first form or limit in
-/// the order of the reasons.
+/// A text is refused at its first line that lacks a form or passes a limit, for the first of the reasons in their order that
+/// holds of it; and a text that has such a line is refused so.
 pub fn refuses_the_first()
     ensures { RefusesTheFirst }
 {}
