@@ -12,23 +12,11 @@ use Rattle.session_script.specs.declared.words.Verb.{Verb}
 use Rattle.session_script.specs.declared.words.Verb.TheVariants as verbs
 use Rattle.session_script.specs.Words.{is_empty, verb_of, path_of, number_of, bytes_of}
 use Rattle.session_script.specs.Grammar.{read_as, call_by, call_with, call_of}
+use Rattle.session_script.specs.ScriptRefusals.{verb_text}
 use Rattle.session_script.specs.ScriptText.{SpellsPath, SpellsCall}
 use Rattle.session_script.proofs.NumberLaws.{number_found, number_only}
 use Rattle.session_script.proofs.PathLaws.{empty_no, path_found, path_only}
 use Rattle.session_script.proofs.BytesLaws.{bytes_found, bytes_only, bytes_some}
-
--- how a verb is spelled
-abbrev pub verb_text : Verb → List ℕ
-verb_text verbs.Mkdir = codes "mkdir"
-verb_text verbs.Create = codes "create"
-verb_text verbs.Write = codes "write"
-verb_text verbs.Truncate = codes "truncate"
-verb_text verbs.Read = codes "read"
-verb_text verbs.List = codes "list"
-verb_text verbs.Stat = codes "stat"
-verb_text verbs.Rename = codes "rename"
-verb_text verbs.Remove = codes "remove"
-verb_text verbs.Sync = codes "sync"
 
 test : (word text : List ℕ) (v verb : Verb) (o : Option Verb) → verb_text v ≡ text → (o ≡ Some verb → word ≡ verb_text verb) → cond (bytes_eq word text) (Some v) o ≡ Some verb → word ≡ verb_text verb
 test word text v verb o named later e = at (bytes_eq word text) refl e

@@ -101,7 +101,7 @@ pub record Adds (before : List ScriptLine) (lines : List (List ℕ)) (script : L
   pub spelled : SpellLines lines added
   pub limited : IsWithinLimits script
 
-skipped : (line : List ℕ) (lines : List (List ℕ)) (script : List ScriptLine) → IsUtf8 line → IsSkippedLine line → SpellLines lines script → SpellLines (line ∷ lines) script
+pub skipped : (line : List ℕ) (lines : List (List ℕ)) (script : List ScriptLine) → IsUtf8 line → IsSkippedLine line → SpellLines lines script → SpellLines (line ∷ lines) script
 skipped line lines [] valid skip rest = (valid, skip, rest)
 skipped line lines (spelled ∷ script) valid skip rest = (valid, inl (skip, rest))
 

@@ -22,10 +22,9 @@ use Rattle.session_script.proofs.NumberLaws.{number_found, number_only, session_
 use Rattle.session_script.proofs.PathLaws.{IsJoined-split, not_empty, empty_no, path_found, path_only}
 use Rattle.session_script.proofs.BytesLaws.{bytes_only}
 use Rattle.session_script.proofs.CallLaws.{verb_found}
-use Rattle.session_script.proofs.CallLaws as calls
 use Rattle.session_script.proofs.LineLaws.{spelled_found, line_utf8, line_none, line_skip_only}
 use Rattle.session_script.proofs.Bounds.{line_spelled}
-use Rattle.session_script.proofs.GrammarLaws.{IsWithinLimits-nil, IsWithinLimits-more}
+use Rattle.session_script.proofs.GrammarLaws.{IsWithinLimits-nil, IsWithinLimits-more, skipped}
 
 no_path : (w : List ℕ) → path_of w ≡ None → (path : List (List ℕ)) × SpellsPath w path → ⊥
 no_path w is h = let some : path_of w ≡ Some h.0 = path_only w h.0 h.1 in cc
@@ -60,18 +59,6 @@ verb_only verbs.Stat = refl
 verb_only verbs.Rename = refl
 verb_only verbs.Remove = refl
 verb_only verbs.Sync = refl
-
-same_text : (verb : Verb) → calls.verb_text verb ≡ verb_text verb
-same_text verbs.Mkdir = refl
-same_text verbs.Create = refl
-same_text verbs.Write = refl
-same_text verbs.Truncate = refl
-same_text verbs.Read = refl
-same_text verbs.List = refl
-same_text verbs.Stat = refl
-same_text verbs.Rename = refl
-same_text verbs.Remove = refl
-same_text verbs.Sync = refl
 
 module _ (told : ScriptWhy) where
   wrong_words : (verb : Verb) (rest : List (List ℕ)) → (HasWords verb rest → ⊥) → (let r : Result Call ScriptWhy = Err reasons.Words in r) ≡ Err told → LacksForm (verb_text verb ∷ rest) told
@@ -219,7 +206,7 @@ module _ (told : ScriptWhy) where
 
       at : (o : Option Verb) → verb_of word ≡ o → read_as o reasons.Verb (λ verb. call_with verb words) ≡ Err told → LacksForm (word ∷ words) told
       at None is h = let same : reasons.Verb ≡ told = cc in subst (LacksForm (word ∷ words)) same (other is)
-      at (Some verb) is h = subst (λ w. LacksForm (w ∷ words) told) (sym (verb_found word verb is ∙ same_text verb)) (with_lacks verb words h)
+      at (Some verb) is h = subst (λ w. LacksForm (w ∷ words) told) (sym (verb_found word verb is)) (with_lacks verb words h)
 
 -- a limit that is told is passed, and none that is tested before it
 pub limit_found : (before : List ScriptLine) (line : ScriptLine) (told : ScriptWhy) → limit_passed before line ≡ Some told → PassesLimit before line told
@@ -318,10 +305,6 @@ record Refuses (n : ℕ) (before : List ScriptLine) (lines : List (List ℕ)) (e
   limited : IsWithinLimits (before ++ added)
   refused : IsRefusedLine (before ++ added) line e.why
 
-skipped_first : (line : List ℕ) (lines : List (List ℕ)) (script : List ScriptLine) → IsUtf8 line → IsSkippedLine line → SpellLines lines script → SpellLines (line ∷ lines) script
-skipped_first line lines [] valid skip rest = (valid, skip, rest)
-skipped_first line lines (spelled ∷ script) valid skip rest = (valid, inl (skip, rest))
-
 from_refused : (n : ℕ) (before : List ScriptLine) (lines : List (List ℕ)) (e : ScriptErr) → script_from n before lines ≡ Err e → IsWithinLimits before → Refuses n before lines e
 from_refused n before [] e is within = cc
 from_refused n before (line ∷ lines) e is within = at (line_of before line) refl is (λ b h w. from_refused (n + 1) b lines e h w)
@@ -351,7 +334,7 @@ from_refused n before (line ∷ lines) e is within = at (line_of before line) re
           added = more.added;
           cut = ap (λ l. line ∷ l) more.cut;
           number = omega (arith, more.number);
-          spelled = skipped_first line more.front more.added (line_utf8 before line None was) (line_none before line was) more.spelled;
+          spelled = skipped line more.front more.added (line_utf8 before line None was) (line_none before line was) more.spelled;
           limited = more.limited;
           refused = more.refused;
         }
