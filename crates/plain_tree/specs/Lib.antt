@@ -1,5 +1,6 @@
 pub mod Calls
 pub mod Cells
+pub mod Fronts
 pub mod History
 pub mod Laws
 pub mod Moves

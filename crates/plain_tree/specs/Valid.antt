@@ -32,3 +32,7 @@ pub record IsShape (mark : List (List ℕ) → Option (ℕ × Bool)) (count high
 
 abbrev pub IsValid : Tree → Type 0
 IsValid t = IsShape (mark_at t.nodes) (fin.len t.nodes) t.highest
+
+-- the nodes of a valid tree
+abbrev pub AreValid : Nodes → Type 0
+AreValid nodes = (highest : ℕ) × IsShape (mark_at nodes) (fin.len nodes) highest

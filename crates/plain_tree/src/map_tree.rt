@@ -1,7 +1,7 @@
 ghost use Rattle.std.specs.Prelude.{◌≡◌, ◌<◌, ◌+◌, ◌^◌, [], length, None, OnOk, OnErr, IfOk, IfNone};
 ghost use Rattle.std.specs.Result.{result_err};
 ghost use Rattle.plain_tree.specs.Refusals.{new_refusal, rename_refusal, no_file};
-ghost use Rattle.plain_tree.specs.Valid.{IsValid};
+ghost use Rattle.plain_tree.specs.Valid.{IsValid, AreValid};
 ghost use Rattle.plain_tree.specs.Tree.{empty_tree, new_node, facts_of, sort_of, cells_at};
 ghost use Rattle.plain_tree.specs.Calls.{after, after_unless, answer, answer_unless, with_new, with_length};
 
@@ -93,6 +93,7 @@ impl MapTree {
     }
 
     fn create(&mut self, path: &[Text], kind: Kind, at: Moment) -> Result<Answer, NoMemory>
+        requires { IsValid self.old }
         ensures answer { IfOk result (λ a. a ≡ answer_unless (new_refusal self.old path.now) Answer.Done) }
         ensures after { OnOk result (self.new ≡ after_unless (new_refusal self.old path.now) (with_new kind self.old path.now at) self.old) }
         ensures err { OnErr result (self.new ≡ self.old) }
@@ -115,6 +116,7 @@ impl MapTree {
         bytes: &[u8],
         at: Moment,
     ) -> Result<Answer, NoMemory>
+        requires { IsValid self.old }
         ensures answer { IfOk result (λ a. a ≡ answer self.old (Call.Write path.now offset bytes.now)) }
         ensures after { OnOk result (self.new ≡ after self.old (Call.Write path.now offset bytes.now) at) }
         ensures err { OnErr result (self.new ≡ self.old) }
@@ -132,6 +134,7 @@ impl MapTree {
     }
 
     fn truncate(&mut self, path: &[Text], size: u64, at: Moment) -> Answer
+        requires { IsValid self.old }
         ensures answer { result ≡ answer self.old (Call.Truncate path.now size) }
         ensures after { self.new ≡ after self.old (Call.Truncate path.now size) at }
     {
@@ -148,6 +151,7 @@ impl MapTree {
     }
 
     fn read(&self, path: &[Text], offset: u64, count: u64) -> Result<Answer, NoMemory>
+        requires { IsValid self.now }
         ensures { IfOk result (λ a. a ≡ answer self.now (Call.Read path.now offset count)) }
     {
         match self.nodes.get(path) {
@@ -161,6 +165,7 @@ impl MapTree {
     }
 
     fn list(&self, path: &[Text]) -> Result<Answer, NoMemory>
+        requires { IsValid self.now }
         ensures { IfOk result (λ a. a ≡ answer self.now (Call.Listing path.now)) }
     {
         match no_dir(&self.nodes, path) {
@@ -170,6 +175,7 @@ impl MapTree {
     }
 
     fn remove(&mut self, path: &[Text], at: Moment) -> Answer
+        requires { IsValid self.old }
         ensures answer { result ≡ answer self.old (Call.Remove path.now) }
         ensures after { self.new ≡ after self.old (Call.Remove path.now) at }
     {
@@ -188,6 +194,7 @@ impl MapTree {
     }
 
     fn stat(&self, path: &[Text]) -> Result<Answer, NoMemory>
+        requires { IsValid self.now }
         ensures { IfOk result (λ a. a ≡ answer self.now (Call.Stat path.now)) }
     {
         match self.nodes.get(path) {
@@ -216,6 +223,7 @@ impl MapTree {
 
     /// Why a node may not move to another path.
     fn rename_refusal(&self, from: &[Text], to: &[Text]) -> Result<Option<Refusal>, NoMemory>
+        requires { IsValid self.now }
         ensures { IfOk result (λ refusal. refusal ≡ rename_refusal self.now.nodes from.now to.now) }
     {
         if let Some(refusal) = bad_name(self.alloc, to)? {
@@ -244,6 +252,7 @@ impl MapTree {
 
     /// Why a new node may not stand at the path.
     fn new_refusal(&self, path: &[Text]) -> Result<Option<Refusal>, NoMemory>
+        requires { IsValid self.now }
         ensures value { IfOk result (λ refusal. refusal ≡ new_refusal self.now path.now) }
         ensures room { IfOk result (λ refusal. IfNone refusal ((0 < length path.now) × (self.now.highest < 2 ^ 62))) }
     {
@@ -279,6 +288,7 @@ fn new_node(kind: Kind, uid: u64, at: Moment) -> Node
 
 /// The length of the file at a path, or why it is no file.
 fn file_length(nodes: &NodeMap, path: &[Text]) -> Result<u64, Refusal>
+    requires { AreValid nodes.now }
     ensures refusal { result_err result ≡ no_file nodes.now path.now }
     ensures length { IfOk result (λ n. n ≡ length (cells_at nodes.now path.now)) }
 {

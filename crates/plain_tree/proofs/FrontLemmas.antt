@@ -1,0 +1,62 @@
+-- The fronts of a path in a valid tree: those that are there, and above them those that aren't.
+use Rattle.std.proofs.Common.{◌≡◌, ℕ, zero, suc, ◌-◌, ◌<◌, ◌≤◌, true, false, List, [], ◌∷◌, length, take, Some, None, is_some, sym, ap, ◌∙◌, refl, arith, ◌⊎◌, ⊎_elim}
+use Rattle.std.specs.Prelude.{Option}
+use Rattle.std.specs.FinMap as fin
+use Rattle.std.proofs.lemmas.Bool.{cases_lt}
+use Rattle.std.proofs.lemmas.List.{length-take-le}
+use Rattle.plain_tree.specs.declared.nodes.Node.{Node}
+use Rattle.plain_tree.specs.declared.nodes.Kind.TheVariants as kinds
+use Rattle.plain_tree.specs.declared.calls.Refusal.TheVariants as refusals
+use Rattle.plain_tree.specs.Fronts.{IsLongestFront}
+use Rattle.plain_tree.specs.Paths.{is_at_or_below}
+use Rattle.plain_tree.specs.Refusals.{why_missing}
+use Rattle.plain_tree.specs.Tree.{Nodes}
+use Rattle.plain_tree.specs.Valid.{AreValid}
+use Rattle.plain_tree.proofs.MoveLemmas.{below_Decides}
+use Rattle.plain_tree.proofs.Validity.{free_below}
+
+take-take : {A : Type 0} (m n : ℕ) (xs : List A) → m ≤ n → take m (take n xs) ≡ take m xs
+take-take zero n xs le = refl
+take-take (suc m) zero xs le = absurd (omega arith)
+take-take (suc m) (suc n) [] le = refl
+take-take (suc m) (suc n) (x ∷ xs) le = ap (λ l. x ∷ l) (take-take m n xs (omega arith))
+
+front_below : (path : List (List ℕ)) (m n : ℕ) → m ≤ n → m ≤ length path → is_at_or_below (take m path) (take n path) ≡ true
+front_below path m n le within =
+    (below_Decides (take m path) (take n path)).1 (sym (ap (λ k. take k (take n path)) (length-take-le m path within) ∙ take-take m n path le))
+
+none_of : {A : Type 0} (o : Option A) → is_some o ≡ false → o ≡ None
+none_of None is = refl
+none_of (Some x) is = cc
+
+-- where a front isn't there, no longer one is
+pub missing_longer : (nodes : Nodes) (path : List (List ℕ)) (m n : ℕ) → AreValid nodes → is_some (fin.get nodes (take m path)) ≡ false → m ≤ n → n ≤ length path → fin.get nodes (take n path) ≡ None
+missing_longer nodes path m n valid none le within =
+    free_below nodes (fin.len nodes) valid.0 valid.1 (take m path) (none_of _ none) (n - m) (take n path)
+    (omega (arith, length-take-le m path (omega arith), length-take-le n path within)) (front_below path m n le (omega arith))
+
+-- the longest front that is there decides
+longest_decides : (nodes : Nodes) (path : List (List ℕ)) (k n : ℕ) → k < n → ((m : ℕ) → k < m → m < n → fin.get nodes (take m path) ≡ None) → why_missing nodes path n ≡ why_missing nodes path (suc k)
+longest_decides nodes path k zero lt longest = absurd (omega arith)
+longest_decides nodes path k (suc n) lt longest = ⊎_elim
+    (λ below. one n (longest n below (omega arith)) ∙ longest_decides nodes path k n below (λ m a b. longest m a (omega arith)))
+    (λ at. ap (λ j. why_missing nodes path (suc j)) (omega arith))
+    (cases_lt k n)
+  where
+    one : (j : ℕ) → fin.get nodes (take j path) ≡ None → why_missing nodes path (suc j) ≡ why_missing nodes path j
+    one j missing = rw missing refl
+
+found_dir : (nodes : Nodes) (path : List (List ℕ)) (k : ℕ) (node : Node) → fin.get nodes (take k path) ≡ Some node → node.kind ≡ kinds.Dir → why_missing nodes path (suc k) ≡ refusals.NotFound
+found_dir nodes path k node is dir = rw (is, dir) refl
+
+pub dir_decides : (nodes : Nodes) (path : List (List ℕ)) (k : ℕ) (node : Node) → IsLongestFront nodes path k (length path) → fin.get nodes (take k path) ≡ Some node → node.kind ≡ kinds.Dir
+    → refusals.NotFound ≡ why_missing nodes path (length path)
+dir_decides nodes path k node front is dir = sym (longest_decides nodes path k (length path) front.shorter front.longest ∙ found_dir nodes path k node is dir)
+
+pub other_decides : (nodes : Nodes) (path : List (List ℕ)) (k : ℕ) (node : Node) → IsLongestFront nodes path k (length path) → fin.get nodes (take k path) ≡ Some node
+    → (((cells : List (Option ℕ)) × node.kind ≡ kinds.File cells) ⊎ ((text : List ℕ) × node.kind ≡ kinds.Link text))
+    → refusals.NotDir ≡ why_missing nodes path (length path)
+other_decides nodes path k node front is other = sym (longest_decides nodes path k (length path) front.shorter front.longest ∙ found other)
+  where
+    found : (((cells : List (Option ℕ)) × node.kind ≡ kinds.File cells) ⊎ ((text : List ℕ) × node.kind ≡ kinds.Link text)) → why_missing nodes path (suc k) ≡ refusals.NotDir
+    found = ⊎_elim (λ file. rw (is, file.1) refl) (λ link. rw (is, link.1) refl)
