@@ -20,6 +20,18 @@ pub struct Place {
     pub pos: u64,
 }
 
+/// A run of bytes of a file on tape (LTFS 2.4 on data extents). It begins at byte `byte` of
+/// the block at position `block` of `part` and goes on through the blocks after it. Its
+/// `count` bytes stand in the file from byte `offset` on.
+#[derive(Clone, Copy, Debug, PartialEq, Eq)]
+pub struct Extent {
+    pub offset: u64,
+    pub part: Part,
+    pub block: u64,
+    pub byte: u32,
+    pub count: u64,
+}
+
 /// What stands at one position of a partition.
 #[derive(Drop)]
 pub enum Item {

@@ -10,7 +10,7 @@ mod tests;
 mod texts;
 mod times;
 
-pub use cartridges::{Cartridge, Item, Limits, Note, Part, Place, Twin};
+pub use cartridges::{Cartridge, Extent, Item, Limits, Note, Part, Place, Twin};
 pub use lists::List;
 pub use moments::{Moment, Times};
 pub use names::{NameErr, check_name};
