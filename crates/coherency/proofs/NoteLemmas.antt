@@ -1,41 +1,20 @@
 -- The fields of a note.
-use Rattle.std.proofs.Common.{◌≡◌, ℕ, ◌+◌, ◌<◌, ◌≤◌, ◌^◌, Bool, nat_le, true, false, ◌==◌, ◌&&◌, List, [], ◌∷◌, ◌++◌, length, get_or, take, drop, map, replicate, codes, refl, sym, ap, ◌∙◌, arith, Option, Some, None, option_map}
+use Rattle.std.proofs.Common.{◌≡◌, ℕ, ◌+◌, ◌<◌, ◌≤◌, ◌^◌, Bool, nat_le, true, false, ◌==◌, ◌&&◌, List, [], ◌∷◌, ◌++◌, length, get_or, take, drop, map, replicate, codes, refl, sym, ap, ◌∙◌, arith, Some, None}
 use Rattle.std.specs.Cmp.Derive.{both_true}
 use Rattle.std.specs.List.{slice_range, range_with_len}
-use Rattle.std.specs.Int.{w64, w128, from_be_bytes, to_be_bytes}
+use Rattle.std.specs.Int.{w64, from_be_bytes, to_be_bytes}
 use Rattle.std.specs.Str.{bytes_eq}
 use Rattle.std.proofs.lemmas.Bool.{eq-eqb, eqb-true}
 use Rattle.std.proofs.lemmas.Grind.{same_number_lists}
 use Rattle.std.proofs.lemmas.List.FromFn.{length-map-range_with_len, get_or-map-range_with_len}
 use Rattle.std.proofs.lemmas.Nat.{from_be_bytes-to_be_bytes_8}
 use Rattle.std.proofs.lemmas.Slice.Eq.{bytes_eq-Decides}
-use Rattle.uuid.specs.Text.{hyphenated_text, lower, parsed, parsed_hyphenated}
-use Rattle.uuid.proofs.TextLemmas.{by_index_length}
 use Rattle.tape_types.specs.declared.cartridges.Note.{Note}
 use Rattle.tape_types.specs.declared.cartridges.Note.TheVariants.{Kept}
-use Rattle.uuid.proofs.OrderLemmas.{from_be_bytes-to_be_bytes_16}
 use Rattle.coherency.specs.declared.Coherency.{Coherency}
 use Rattle.coherency.specs.Frame.{has_frame}
-use Rattle.coherency.specs.Notes.{HasValues, IsCurrent, IsNote, uuid_in}
-
-none_of : {X : Type 0} (o : Option X) → ((u : X) → o ≡ Some u → ⊥) → o ≡ None
-none_of None h = refl
-none_of (Some x) h = absurd (h x refl)
-
--- at 36 characters the form is the one with hyphens
-parsed-36 : (text : List ℕ) → length text ≡ 36 → parsed text ≡ parsed_hyphenated text
-parsed-36 text e = rw e refl
-
-pub uuid_in-none : (text : List ℕ) → length text ≡ 36 → ((u : List ℕ) → parsed text ≡ Some u → ⊥) → None ≡ uuid_in text
-uuid_in-none text long none =
-    sym (ap (option_map (from_be_bytes w128)) (sym (parsed-36 text long) ∙ none_of (parsed text) none))
-
-pub uuid_in-written : (text : List ℕ) (uuid : ℕ) → length text ≡ 36 → uuid < 2 ^ 128 → Some (to_be_bytes w128 uuid) ≡ parsed text → uuid_in text ≡ Some uuid
-uuid_in-written text uuid long fits e =
-    ap (option_map (from_be_bytes w128)) (sym (parsed-36 text long) ∙ sym e) ∙ ap Some (from_be_bytes-to_be_bytes_16 uuid fits)
-
-pub length-uuid : (uuid : ℕ) → length (hyphenated_text lower (to_be_bytes w128 uuid)) ≡ 36
-length-uuid uuid = by_index_length 36 _
+use Rattle.coherency.specs.Notes.{HasValues, IsCurrent, IsNote}
+use Rattle.tape_types.specs.Uuids.{uuid_in}
 
 -- a note without values is not current
 pub not_current : (note : Note) (bytes : List ℕ) (vcr uuid : ℕ) → note ≡ Kept bytes → ((c : Coherency) → IsNote bytes c → None ≡ Some c) → IsCurrent note vcr uuid → ⊥

@@ -1,16 +1,12 @@
 -- The volume coherency attribute, 080Ch, of a partition (LTFS 2.4 on volume coherency information): 70 bytes in the memory of the
 -- cartridge, its numbers with the highest byte first.
-use Rattle.std.specs.Prelude.{◌≡◌, ◌≤◌, ℕ, List, [], ◌∷◌, ◌++◌, Option, Some, option_map, length, slice_index, codes}
+use Rattle.std.specs.Prelude.{◌≡◌, ◌≤◌, ℕ, List, [], ◌∷◌, ◌++◌, Some, length, slice_index, codes}
 use Rattle.std.specs.List.{slice_range}
-use Rattle.std.specs.Int.{w64, w128, from_be_bytes, to_be_bytes}
-use Rattle.uuid.specs.Text.{hyphenated_text, lower, parsed_hyphenated}
+use Rattle.std.specs.Int.{w64, from_be_bytes, to_be_bytes}
+use Rattle.tape_types.specs.Uuids.{uuid_in, uuid_text}
 use Rattle.tape_types.specs.declared.cartridges.Note.{Note}
 use Rattle.tape_types.specs.declared.cartridges.Note.TheVariants.{Absent, Kept}
 use Rattle.coherency.specs.declared.Coherency.{Coherency}
-
--- the number of a UUID that is written with hyphens, its letters in either case
-abbrev pub uuid_in : List ℕ → Option ℕ
-uuid_in text = option_map (from_be_bytes w128) (parsed_hyphenated text)
 
 -- the bytes are a note with these values: each field stands at its offsets
 pub record IsNote (note : List ℕ) (c : Coherency) : Type 0 where
@@ -29,7 +25,7 @@ pub record IsNote (note : List ℕ) (c : Coherency) : Type 0 where
 abbrev pub note_of : Coherency → List ℕ
 note_of c =
     8 ∷ [] ++ to_be_bytes w64 c.vcr ++ to_be_bytes w64 c.generation ++ to_be_bytes w64 c.block ++ 0 ∷ 43 ∷ [] ++ codes "LTFS" ++ 0 ∷ []
-    ++ hyphenated_text lower (to_be_bytes w128 c.uuid) ++ 0 ∷ 1 ∷ []
+    ++ uuid_text c.uuid ++ 0 ∷ 1 ∷ []
 
 -- a partition's note is there and has these values
 abbrev pub HasValues : Note → Coherency → Type 0

@@ -2,14 +2,12 @@
 #![tactic(auto)]
 
 ghost use Rattle.std.specs.Prelude.{◌≡◌, ◌↔◌, ◌+◌, ◌≤◌, ◌++◌, length, take, drop, Some, IfSome, IsTrue};
-ghost use Rattle.std.specs.Int.{w64, w128, from_be_bytes, to_be_bytes};
-ghost use Rattle.uuid.specs.Text.{hyphenated_text, lower};
+ghost use Rattle.std.specs.Int.{w64, from_be_bytes};
 ghost use Rattle.coherency.specs.declared.Coherency.{Coherency};
-ghost use Rattle.coherency.specs.Notes.{IsCurrent, IsNote, note_of, uuid_in};
+ghost use Rattle.coherency.specs.Notes.{IsCurrent, IsNote, note_of};
 ghost use Rattle.coherency.specs.Frame.{has_frame};
 
-use tape_types::Note;
-use uuid::Uuid;
+use tape_types::{Note, parse_uuid, uuid_text};
 
 #[cfg(test)]
 mod tests;
@@ -51,18 +49,6 @@ pub fn encode_note(values: &Coherency) -> [u8; 70]
     note
 }
 
-/// The UUID with this number, written with hyphens and in lower case.
-fn uuid_text(uuid: u128) -> [u8; 36]
-    ensures text { result ≡ hyphenated_text lower (to_be_bytes w128 uuid) }
-    ensures parsed { uuid_in result ≡ Some uuid }
-{
-    let mut buffer = Uuid::encode_buffer();
-    let text = Uuid::from_u128(uuid).hyphenated().encode_lower(&mut buffer);
-    let mut bytes = [0; 36];
-    bytes.copy_from_slice(text.as_bytes());
-    bytes
-}
-
 /// Writes a field at its offset.
 fn put(note: &mut [u8], at: usize, field: &[u8])
     requires { at + length field.now ≤ length note.old }
@@ -80,7 +66,7 @@ pub fn decode_note(note: &[u8; 70]) -> Option<Coherency>
     if !has_frame(note) {
         return None;
     }
-    match uuid_of(&note[32..68]) {
+    match parse_uuid(&note[32..68]) {
         Some(uuid) => Some(Coherency {
             vcr: number(&note[1..9]),
             generation: number(&note[9..17]),
@@ -100,17 +86,6 @@ fn has_frame(note: &[u8; 70]) -> bool
         && &note[27..32] == b"LTFS\0".as_slice()
         && note[68] == 0
         && note[69] <= 1
-}
-
-/// The number of a UUID that is written with hyphens.
-fn uuid_of(text: &[u8]) -> Option<u128>
-    requires { length text.now ≡ 36 }
-    ensures { result ≡ uuid_in text.now }
-{
-    match Uuid::try_parse_ascii(text) {
-        Ok(uuid) => Some(uuid.as_u128()),
-        Err(_) => None,
-    }
 }
 
 /// The number in eight bytes.

@@ -2,3 +2,4 @@ pub mod CivilLemmas
 pub mod DayLemmas
 pub mod DigitLemmas
 pub mod TextLemmas
+pub mod UuidLemmas

@@ -4,3 +4,4 @@ pub mod Moments
 pub mod Names
 pub mod TimeParts
 pub mod Times
+pub mod Uuids

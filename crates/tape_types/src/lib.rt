@@ -9,6 +9,7 @@ mod names;
 mod tests;
 mod texts;
 mod times;
+mod uuids;
 
 pub use cartridges::{Cartridge, Extent, Item, Limits, Note, Part, Place, Twin};
 pub use lists::List;
@@ -16,3 +17,4 @@ pub use moments::{Moment, Times};
 pub use names::{NameErr, check_name};
 pub use texts::{Bytes, NoMemory, Text};
 pub use times::{parse_time, time_text, times_are_civil};
+pub use uuids::{parse_uuid, uuid_text};

@@ -1,12 +1,12 @@
 use Rattle.std.proofs.Common.{rules, arith, ◌≡◌, ◌∙◌, sym, length, ap, refl, List, ℕ, Fits}
 use Rattle.std.specs.Int.{w64, to_be_bytes}
-use Rattle.coherency.proofs.NoteLemmas.{fields, put_field, written, fields-note, length-uuid}
+use Rattle.coherency.proofs.NoteLemmas.{fields, put_field, written, fields-note}
 use Rattle.coherency.proofs.encode_note.Goals as goal
 
 pub returns-clause-bytes : goal.returns-clause-bytes
 returns-clause-bytes c =
     let v = c.args.values.now in
-    let long : length c.uuid_text.result ≡ 36 = ap length c.uuid_text.ensures.text ∙ length-uuid v.uuid in
+    let long : length c.uuid_text.result ≡ 36 = search rules in
     written c.put.new.note c.put-2.new.note c.put-3.new.note c.put-4.new.note c.put-5.new.note c.put-6.new.note c.put-7.new.note c.put-8.new.note
     (to_be_bytes w64 v.vcr) (to_be_bytes w64 v.generation) (to_be_bytes w64 v.block) c.uuid_text.result refl refl refl long
     c.put.ensures
@@ -19,7 +19,7 @@ returns-clause-bytes c =
 pub returns-clause-decodes : goal.returns-clause-decodes
 returns-clause-decodes c =
     let v = c.args.values.now in
-    let long : length c.uuid_text.result ≡ 36 = ap length c.uuid_text.ensures.text ∙ length-uuid v.uuid in
+    let long : length c.uuid_text.result ≡ 36 = search rules in
     let vcr_fits : Fits w64 v.vcr = search rules in
     let generation_fits : Fits w64 v.generation = search rules in
     let block_fits : Fits w64 v.block = search rules in

@@ -1,7 +1,7 @@
 use Rattle.std.proofs.Common.{rules, ◌<◌, ◌^◌, ◌∙◌, sym, length, ap, Some}
 use Rattle.uuid.specs.Text.{hyphenated_text, lower, parsed}
-use Rattle.coherency.proofs.NoteLemmas.{length-uuid, uuid_in-written}
-use Rattle.coherency.proofs.uuid_text.Goals as goal
+use Rattle.tape_types.proofs.UuidLemmas.{length-uuid, uuid_in-written}
+use Rattle.tape_types.proofs.uuids.uuid_text.Goals as goal
 
 pub copy_from_slice-requires : goal.copy_from_slice-requires
 copy_from_slice-requires c =
