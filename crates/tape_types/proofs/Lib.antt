@@ -1,5 +1,6 @@
 pub mod CivilLemmas
 pub mod DayLemmas
 pub mod DigitLemmas
+pub mod ShownLemmas
 pub mod TextLemmas
 pub mod UuidLemmas

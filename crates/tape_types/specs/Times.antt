@@ -1,9 +1,10 @@
 -- Moments as dates and times of the proleptic Gregorian calendar, and the texts of these (LTFS 2.4 on time stamps).
-use Rattle.std.specs.Prelude.{◌≡◌, ℕ, zero, suc, ◌+◌, ◌*◌, ◌/◌, ◌%◌, ◌<◌, ℤ, pos, ◌+ℤ◌, ◌-ℤ◌, ◌*ℤ◌, unsigned_abs, List, [], ◌∷◌, ◌++◌, count_by, codes}
-use Rattle.std.specs.List.{range_with_len}
+use Rattle.std.specs.Prelude.{◌≡◌, ℕ, zero, suc, ◌+◌, ◌*◌, ◌/◌, ◌%◌, ◌<◌, ◌-◌, ◌&&◌, nat_le, nat_lt, Bool, Option, Some, None, if◌then◌else◌, ℤ, pos, ◌+ℤ◌, ◌-ℤ◌, ◌*ℤ◌, unsigned_abs, List, [], ◌∷◌, ◌++◌, count_by, codes}
+use Rattle.std.specs.List.{range_with_len, slice_range}
 use Rattle.std.specs.Int.{int_div_euclid, int_rem_euclid}
 use Rattle.std.specs.Ordering.{int_cmp, is_le}
-use Rattle.jiff_core.specs.Calendar.{days_from_civil, IsCivilDate}
+use Rattle.std.specs.Str.{bytes_eq}
+use Rattle.jiff_core.specs.Calendar.{days_from_civil, days_in_month, IsCivilDate}
 use Rattle.tape_types.specs.declared.moments.Moment.{Moment}
 use Rattle.tape_types.specs.declared.times.Civil.{Civil}
 
@@ -58,3 +59,22 @@ pub record IsCivil (m : Moment) (c : Civil) : Type 0 where
   pub second : c.second < 60
   pub secs : m.secs ≡ days_from_civil (pos c.year) c.month c.day *ℤ pos 86400 +ℤ pos (c.hour * 3600 + c.minute * 60 + c.second)
   pub nanos : m.nanos ≡ c.nanos
+
+-- the number that decimal digits show, behind others that show n
+abbrev pub number_from : ℕ → List ℕ → ℕ
+number_from n [] = n
+number_from n (b ∷ bytes) = number_from (n * 10 + (b - 48)) bytes
+
+-- the numbers at the places of such a text
+abbrev pub numbers_in : List ℕ → Civil
+numbers_in text =
+    let part = λ (from to : ℕ). number_from 0 (slice_range text from to) in
+    record { year = part 0 4; month = part 5 7; day = part 8 10; hour = part 11 13; minute = part 14 16; second = part 17 19; nanos = part 20 29 }
+
+-- whether the calendar has this date, and the day this time
+abbrev pub is_civil : Civil → Bool
+is_civil c = nat_le 1 c.month && nat_le c.month 12 && nat_le 1 c.day && nat_le c.day (days_in_month (pos c.year) c.month) && nat_lt c.hour 24 && nat_lt c.minute 60 && nat_lt c.second 60
+
+-- the date and the time of day that a text shows, where there are such
+unfoldable pub civil_in : List ℕ → Option Civil
+civil_in text = if bytes_eq text (civil_text (numbers_in text)) && is_civil (numbers_in text) then Some (numbers_in text) else None

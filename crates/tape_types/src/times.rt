@@ -1,10 +1,10 @@
-ghost use Rattle.std.specs.Prelude.{◌≡◌, ◌≢◌, ◌<◌, ◌≤◌, ◌≤ℤ◌, ◌^◌, ℕ, pos, length, IfSome, IfNone};
+ghost use Rattle.std.specs.Prelude.{◌≡◌, ◌≢◌, ◌<◌, ◌≤◌, ◌≤ℤ◌, ◌^◌, ℕ, pos, length, Some, None, IfSome, IfNone, MatchOption, is_some};
 ghost use Rattle.jiff_core.specs.Calendar.{days_from_civil};
 ghost use Rattle.jiff_core.specs.Date.{epoch_day};
 ghost use Rattle.tape_types.specs.declared.moments.Moment.{Moment};
 ghost use Rattle.tape_types.specs.declared.times.Civil.{Civil};
 ghost use Rattle.tape_types.specs.TimeParts.{HasPlaces, has_marks};
-ghost use Rattle.tape_types.specs.Times.{IsCivil, civil_text, digits, time_text};
+ghost use Rattle.tape_types.specs.Times.{IsCivil, civil_in, civil_text, digits, is_civil, time_text};
 
 use crate::moments::Moment;
 use jiff_core::civil::Date;
@@ -36,6 +36,7 @@ pub fn time_text(at: Moment) -> [u8; 30]
 pub fn parse_time(text: &[u8]) -> Option<Moment>
     ensures some { IfSome result (λ m. text.now ≡ time_text m) }
     ensures none { IfNone result ((m : Moment) → text.now ≢ time_text m) }
+    ensures civil { MatchOption result (civil_in text.now ≡ None) (λ m. (c : Civil) × (civil_in text.now ≡ Some c) × IsCivil m c) }
 {
     match read_civil(text) {
         Some(civil) => moment_of(civil),
@@ -85,6 +86,7 @@ fn moment_of(civil: Civil) -> Option<Moment>
     requires { HasPlaces civil }
     ensures some { IfSome result (λ m. IsCivil m civil) }
     ensures none { IfNone result ((m : Moment) → ¬ IsCivil m civil) }
+    ensures exists { is_some result ≡ is_civil civil }
 {
     if civil.hour > 23 || civil.minute > 59 || civil.second > 59 {
         return None;
