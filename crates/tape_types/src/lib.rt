@@ -16,5 +16,5 @@ pub use lists::List;
 pub use moments::{Moment, Times};
 pub use names::{NameErr, check_name};
 pub use texts::{Bytes, NoMemory, Text};
-pub use times::{parse_time, time_text, times_are_civil};
+pub use times::{Civil, parse_time, time_text, times_are_civil};
 pub use uuids::{parse_uuid, uuid_text};

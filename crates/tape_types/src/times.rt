@@ -11,16 +11,17 @@ use jiff_core::civil::Date;
 
 const SECONDS_OF_DAY: i64 = 86_400;
 
-/// A moment as the calendar names it, by a date and a time of day.
+/// A date of the proleptic Gregorian calendar and a time of day, as the text of a moment
+/// shows them: a year of 0 to 9999, a month and a day from 1, and nanoseconds of the second.
 #[derive(Clone, Copy)]
-struct Civil {
-    year: u16,
-    month: u8,
-    day: u8,
-    hour: u8,
-    minute: u8,
-    second: u8,
-    nanos: u32,
+pub struct Civil {
+    pub year: u16,
+    pub month: u8,
+    pub day: u8,
+    pub hour: u8,
+    pub minute: u8,
+    pub second: u8,
+    pub nanos: u32,
 }
 
 /// The text of a moment, as `2024-01-02T03:04:05.000000000Z` (LTFS 2.4 on time stamps).

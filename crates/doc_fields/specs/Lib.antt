@@ -1,0 +1,11 @@
+pub mod Declaration
+pub mod EndTag
+pub mod Likely
+pub mod Numbers
+pub mod Reading
+pub mod Space
+pub mod StartTag
+pub mod Tags
+pub mod Texts
+pub mod Values
+pub mod Written

@@ -1,0 +1,40 @@
+-- The one text of each field that is written.
+use denote.Ref.{Bor}
+use Rattle.std.specs.Prelude.{◌≡◌, ℕ, Option, Some, None, List, [], ◌∷◌, ◌++◌, Bool, true, false, codes, ◌==◌, if◌then◌else◌}
+use Rattle.std.specs.List.{flat_map}
+use Rattle.doc_fields.specs.declared.tags.Tag.{Tag}
+use Rattle.doc_fields.specs.declared.starts.Attribute.{Attribute}
+use Rattle.doc_fields.specs.declared.starts.Attribute.TheVariants.{Absent, Version, Percent}
+use Rattle.doc_fields.specs.Tags.{spelled}
+
+abbrev pub attribute_text : Attribute → List ℕ
+attribute_text Absent = []
+attribute_text Version = codes " version=\"2.4.0\""
+attribute_text (Percent true) = codes " percentencoded=\"true\""
+attribute_text (Percent false) = codes " percentencoded=\"false\""
+
+abbrev pub start_text : Tag → Attribute → List ℕ
+start_text tag a = 60 ∷ spelled tag ++ attribute_text a ++ 62 ∷ []
+
+abbrev pub end_text : Tag → List ℕ
+end_text tag = 60 ∷ 47 ∷ spelled tag ++ 62 ∷ []
+
+abbrev pub bool_text : Bool → List ℕ
+bool_text true = codes "true"
+bool_text false = codes "false"
+
+abbrev pub escaped : ℕ → List ℕ
+escaped b = if b == 38 then codes "&amp;" else (if b == 60 then codes "&lt;" else (if b == 62 then codes "&gt;" else (if b == 13 then codes "&#13;" else b ∷ [])))
+
+-- a text with escapes for what can't stand raw
+abbrev pub escape : List ℕ → List ℕ
+escape text = flat_map escaped text
+
+-- what stands for a byte that can't stand raw, and nothing for every other
+abbrev pub IsEscape : ℕ → Option (Bor (List ℕ)) → Type 0
+IsEscape b None = escaped b ≡ b ∷ []
+IsEscape b (Some text) = escaped b ≡ text.now
+
+-- what stood there stands in front
+abbrev pub Keeps : List ℕ → List ℕ → Type 0
+Keeps old new = (more : List ℕ) × (new ≡ old ++ more)

@@ -1,0 +1,25 @@
+//! The fields of the documents of a volume, its label and its index: reading from a place of
+//! a text, and writing.
+#![tactic(auto)]
+
+mod bytes;
+mod declaration;
+mod errors;
+mod numbers;
+mod starts;
+mod tags;
+mod texts;
+mod values;
+mod writing;
+
+pub use bytes::skip_space;
+pub use declaration::read_head;
+pub use errors::{FieldErr, Why};
+pub use numbers::read_u64;
+pub use starts::{Attribute, Start, read_end, read_name, read_rest, read_start};
+pub use tags::{Tag, name_of, tag_of};
+pub use texts::read_text;
+pub use values::{LockState, read_bool, read_letter, read_lock, read_time, read_uuid};
+pub use writing::{
+    put_bool, put_end, put_letter, put_lock, put_start, put_text, put_time, put_u64, put_uuid,
+};
