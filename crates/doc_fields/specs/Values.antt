@@ -2,7 +2,7 @@
 use Rattle.std.specs.Prelude.{◌≡◌, ℕ, ◌+◌, List, [], ◌∷◌, Bool, true, false, length, drop, codes, Option, Some, None, Result, Ok, Err, nat_lt, nat_le, ◌==◌, ◌&&◌, ◌||◌, if◌then◌else◌}
 use Rattle.tape_types.specs.declared.times.Civil.{Civil}
 use Rattle.tape_types.specs.declared.moments.Moment.{Moment}
-use Rattle.tape_types.specs.Times.{civil_in, IsCivil}
+use Rattle.tape_types.specs.Times.{civil_in, civil_of}
 use Rattle.tape_types.specs.Uuids.{uuid_in}
 use Rattle.doc_fields.specs.declared.values.LockState.{LockState}
 use Rattle.doc_fields.specs.declared.values.LockState.TheVariants.{Unlocked, Locked, PermLocked}
@@ -79,9 +79,9 @@ time_or_fault text at None = Err (value_fault (is_cut_shape time_shape (drop at 
 unfoldable pub time_at : List ℕ → ℕ → Read (Civil × ℕ)
 time_at text at = time_or_fault text at (shown 30 civil_in text at)
 
--- a moment stands for the date and the time of day that were read
+-- a moment's date and time of day are what was read
 abbrev pub IsTimeRead : Result (Moment × ℕ) FieldErr → Read (Civil × ℕ) → Type 0
-IsTimeRead (Ok m) read = (c : Civil) × (read ≡ Ok (c, m.1)) × IsCivil m.0 c
+IsTimeRead (Ok m) read = read ≡ Ok (civil_of m.0, m.1)
 IsTimeRead (Err e) read = read ≡ Err e
 
 abbrev pub uuid_shape : List ℕ

@@ -12,7 +12,7 @@ mod texts;
 mod values;
 mod writing;
 
-pub use bytes::skip_space;
+pub use bytes::{byte, skip_space};
 pub use declaration::read_head;
 pub use errors::{FieldErr, Why};
 pub use numbers::read_u64;

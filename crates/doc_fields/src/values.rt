@@ -1,13 +1,12 @@
 //! The other forms of a leaf's value. Each is read from the place of its first byte.
 
-ghost use Rattle.std.specs.Prelude.{◌≡◌, ◌≤◌, ◌<◌, ◌+◌, length, Some, None, IfOk, IfSome, MatchOption};
+ghost use Rattle.std.specs.Prelude.{◌≡◌, ◌≤◌, ◌<◌, ◌+◌, length, IfOk, IfSome, option_map};
 ghost use Rattle.doc_fields.specs.Values.{IsTimeRead, bool_at, fits, fits_place, is_cut_shape, is_hex_digit, letter_at, lock_at, shown, time_at, uuid_at, value_fault};
-ghost use Rattle.tape_types.specs.Times.{IsCivil, civil_in};
+ghost use Rattle.tape_types.specs.Times.{civil_in, civil_of};
 ghost use Rattle.tape_types.specs.Uuids.{uuid_in};
-ghost use Rattle.tape_types.specs.declared.times.Civil.{Civil};
 
 use crate::bytes::{begins, byte, syntax};
-use crate::errors::{FieldErr, Why};
+use crate::errors::FieldErr;
 use crate::numbers::is_digit;
 use tape_types::{Moment, parse_time, parse_uuid};
 
@@ -130,7 +129,7 @@ fn is_cut_shape(shape: &[u8], rest: &[u8]) -> bool
 /// The moment whose text stands at a place.
 fn shown_time(text: &[u8], at: usize) -> Option<Moment>
     requires { at ≤ length text.now }
-    ensures value { MatchOption result (shown 30 civil_in text.now at ≡ None) (λ m. (c : Civil) × (shown 30 civil_in text.now at ≡ Some c) × IsCivil m c) }
+    ensures value { shown 30 civil_in text.now at ≡ option_map civil_of result }
     ensures within { IfSome result (λ _. at + 30 ≤ length text.now) }
 {
     if text.len() - at < 30 {

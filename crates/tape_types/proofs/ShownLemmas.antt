@@ -3,11 +3,12 @@ use Rattle.std.proofs.Common.{◌≡◌, ℕ, zero, suc, ◌+◌, ◌-◌, ◌*�
 use Rattle.std.specs.Str.{bytes_eq}
 use Rattle.std.proofs.Math.Nat.{pow-suc}
 use Rattle.std.proofs.lemmas.Slice.Eq.{bytes_eq-Decides}
-use Rattle.std.specs.Option.{is_some, MatchOption, IfSome}
+use Rattle.std.specs.Option.{is_some, IfSome, option_map}
 use Rattle.tape_types.specs.declared.moments.Moment.{Moment}
 use Rattle.tape_types.specs.declared.times.Civil.{Civil}
 use Rattle.tape_types.specs.TimeParts.{HasPlaces}
-use Rattle.tape_types.specs.Times.{digits, civil_text, civil_in, number_from, numbers_in, is_civil, IsCivil}
+use Rattle.tape_types.specs.Times.{digits, civil_text, civil_in, number_from, numbers_in, is_civil, civil_of, IsCivil}
+use Rattle.tape_types.proofs.CivilLemmas.{civil_of_only}
 use Rattle.tape_types.proofs.TextLemmas.{parts_of, same_civil}
 
 from-snoc : (n : ℕ) (bytes : List ℕ) (b : ℕ) → number_from n (bytes ++ b ∷ []) ≡ number_from n bytes * 10 + (b - 48)
@@ -54,7 +55,6 @@ civil_in-none text none =
     either (bytes_eq text (civil_text (numbers_in text))) refl
 
 -- what a call that looks for a moment answers, as an answer for the text
-pub civil-found : (text : List ℕ) (c : Civil) (found : Option Moment) → text ≡ civil_text c → HasPlaces c → IfSome found (λ m. IsCivil m c) → is_some found ≡ is_civil c
-    → MatchOption found (civil_in text ≡ None) (λ m. (d : Civil) × (civil_in text ≡ Some d) × IsCivil m d)
+pub civil-found : (text : List ℕ) (c : Civil) (found : Option Moment) → text ≡ civil_text c → HasPlaces c → IfSome found (λ m. IsCivil m c) → is_some found ≡ is_civil c → civil_in text ≡ option_map civil_of found
 civil-found text c None e places some is = civil_in-shown text c false e places (sym is)
-civil-found text c (Some m) e places some is = (c, civil_in-shown text c true e places (sym is), some)
+civil-found text c (Some m) e places some is = civil_in-shown text c true e places (sym is) ∙ ap Some (sym (civil_of_only m c some))

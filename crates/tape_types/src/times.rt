@@ -1,10 +1,10 @@
-ghost use Rattle.std.specs.Prelude.{◌≡◌, ◌≢◌, ◌<◌, ◌≤◌, ◌≤ℤ◌, ◌^◌, ℕ, pos, length, Some, None, IfSome, IfNone, MatchOption, is_some};
+ghost use Rattle.std.specs.Prelude.{◌≡◌, ◌≢◌, ◌<◌, ◌≤◌, ◌≤ℤ◌, ◌^◌, ℕ, pos, length, IfSome, IfNone, is_some, option_map};
 ghost use Rattle.jiff_core.specs.Calendar.{days_from_civil};
 ghost use Rattle.jiff_core.specs.Date.{epoch_day};
 ghost use Rattle.tape_types.specs.declared.moments.Moment.{Moment};
 ghost use Rattle.tape_types.specs.declared.times.Civil.{Civil};
 ghost use Rattle.tape_types.specs.TimeParts.{HasPlaces, has_marks};
-ghost use Rattle.tape_types.specs.Times.{IsCivil, civil_in, civil_text, digits, is_civil, time_text};
+ghost use Rattle.tape_types.specs.Times.{IsCivil, civil_in, civil_of, civil_text, digits, is_civil, time_text};
 
 use crate::moments::Moment;
 use jiff_core::civil::Date;
@@ -37,7 +37,7 @@ pub fn time_text(at: Moment) -> [u8; 30]
 pub fn parse_time(text: &[u8]) -> Option<Moment>
     ensures some { IfSome result (λ m. text.now ≡ time_text m) }
     ensures none { IfNone result ((m : Moment) → text.now ≢ time_text m) }
-    ensures civil { MatchOption result (civil_in text.now ≡ None) (λ m. (c : Civil) × (civil_in text.now ≡ Some c) × IsCivil m c) }
+    ensures civil { civil_in text.now ≡ option_map civil_of result }
 {
     match read_civil(text) {
         Some(civil) => moment_of(civil),
