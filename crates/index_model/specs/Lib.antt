@@ -1,3 +1,4 @@
+pub mod Archive
 pub mod Places
 pub mod Texts
 pub mod Order

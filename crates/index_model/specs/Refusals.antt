@@ -63,3 +63,17 @@ pub record RefusesOverlap (index : Index) (uid : ℕ) : Type 0 where
   pub bad : IsFirstBadFile index at uid
   pub within : ¬ IsOutOfBounds index.nodes at
   pub overlap : HasOverlap index.nodes at
+
+-- what is told: a UID, and what is wrong with the node that has it
+pub data Fault : Type 0 where
+  wrong_uid : ℕ → Fault
+  taken_name : ℕ → Fault
+  out_of_bounds : ℕ → Fault
+  overlapping : ℕ → Fault
+
+-- this is told of the index
+abbrev pub IsToldOf : Index → Fault → Type 0
+IsToldOf index (wrong_uid n) = RefusesUid index n
+IsToldOf index (taken_name n) = RefusesName index n
+IsToldOf index (out_of_bounds n) = RefusesExtent index n
+IsToldOf index (overlapping n) = RefusesOverlap index n

@@ -1,0 +1,5 @@
+pub mod Walks
+pub mod OrderLaws
+pub mod FaultLaws
+pub mod ArchiveFacts
+pub mod DamagedFacts
