@@ -6,10 +6,11 @@ ghost use Rattle.index_model.specs.Places.{IsAt};
 ghost use Rattle.index_model.specs.Refusals.{Fault, IsToldOf};
 ghost use Rattle.index_model.specs.Valid.{Agrees};
 
-/// Of an index one fault is told, and none where its nodes agree.
+/// Of an index one fault is told, or none, which is where its nodes agree.
 pub fn one_fault_is_told()
     ensures one { (index : Index) (a b : Fault) → IsToldOf index a → IsToldOf index b → a ≡ b }
     ensures agrees { (index : Index) (a : Fault) → IsToldOf index a → ¬ Agrees index }
+    ensures no_fault { (index : Index) → ((a : Fault) → ¬ IsToldOf index a) → Agrees index }
 {}
 
 /// In the order of the document all that lies in a directory stands together, directly behind
