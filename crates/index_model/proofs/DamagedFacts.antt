@@ -1,13 +1,14 @@
 -- What is told of damaged indexes.
-use Rattle.std.proofs.Common.{◌≡◌, ℕ, ◌+◌, ◌<◌, ◌≤◌, ◌^◌, ◌==◌, if◌then◌else◌, List, [], ◌∷◌, codes, inl, inr, subst, refl, sym, ap, ◌∙◌, arith}
+use Rattle.std.proofs.Common.{◌≡◌, ◌⊎◌, ℕ, ◌+◌, ◌<◌, ◌≤◌, ◌^◌, ◌==◌, if◌then◌else◌, List, [], ◌∷◌, codes, inl, inr, subst, refl, sym, ap, ◌∙◌, arith}
+use Rattle.std.specs.List.{AllByRecursion}
 use Rattle.tape_types.specs.declared.moments.Moment.{Moment}
 use Rattle.tape_types.specs.declared.moments.Times.{Times}
 use Rattle.index_model.specs.declared.nodes.Kind.{Kind}
 use Rattle.index_model.specs.declared.nodes.Kind.TheVariants as kinds
 use Rattle.index_model.specs.declared.nodes.RawExtent.{RawExtent}
 use Rattle.index_model.specs.declared.nodes.Node.{Node}
-use Rattle.index_model.specs.Archive.{archive_nodes, hello, index_of, late_node, long_file, node, node_in_file, one_name, shared_byte, with_file}
-use Rattle.index_model.specs.Extents.{HasOverlap, IsBadFile, IsFileAt, IsOutOfBounds, ShareOffset}
+use Rattle.index_model.specs.Archive.{archive_nodes, hello, index_of, late_node, long_file, node, node_in_file, one_name, shared_byte, touching, with_file}
+use Rattle.index_model.specs.Extents.{AreFiles, Covers, HasOverlap, IsBadFile, IsFileAt, IsOutOfBounds, ShareOffset}
 use Rattle.index_model.specs.Names.{AreNamesApart}
 use Rattle.index_model.specs.Order.{AreInOrder, LiesIn}
 use Rattle.index_model.specs.Order.LiesIn.{through}
@@ -189,3 +190,26 @@ name_taken at times = record {
 
     place : (k : ℕ) (n : Node) → IsAt (one_name times) k n → k ≡ place_of n.uid
     place k n is = each (λ j x. j ≡ place_of x.uid) (one_name times) (refl, (refl, (refl, tt))) k n is
+
+-- offsets of the three extents: below 3 in the first, from 3 on in the second, none in the third
+touching_apart : (one two offset : ℕ) → ShareOffset touching one two offset → one ≡ two
+touching_apart one two offset h =
+    let first : (at : ℕ) (e : RawExtent) → IsAt touching at e → Covers e offset → ((at ≡ 0) × (offset < 3)) ⊎ ((at ≡ 1) × (3 ≤ offset)) =
+    each (λ k e. Covers e offset → ((k ≡ 0) × (offset < 3)) ⊎ ((k ≡ 1) × (3 ≤ offset))) touching
+    ((λ c. inl (refl, c.until)), ((λ c. inr (refl, c.from)), ((λ c. absurd (omega (arith, c.from, c.until))), tt))) in
+    elim (first one h.one h.is h.covers) [
+      | inl a ↦ elim (first two h.two h.other_is h.other_covers) [ inl b ↦ a.0 ∙ sym b.0 | inr b ↦ absurd (omega (arith, a.1, b.1)) ]
+      | inr a ↦ elim (first two h.two h.other_is h.other_covers) [ inl b ↦ absurd (omega (arith, a.1, b.1)) | inr b ↦ a.0 ∙ sym b.0 ]
+    ]
+
+touching_file : (times : Times) (at bytes : ℕ) (extents : List RawExtent) → IsFileAt (with_file times (kinds.File 5 touching)) at bytes extents → (bytes ≡ 5) × (extents ≡ touching)
+touching_file times at bytes extents f =
+    each (λ k x. x.kind ≡ kinds.File bytes extents → (bytes ≡ 5) × (extents ≡ touching)) (with_file times (kinds.File 5 touching))
+    ((λ e. absurd (dir_file bytes extents e)), ((λ e. file_parts 5 bytes touching extents e), tt)) at f.node f.is f.file
+
+pub touching_fine : (times : Times) → AreFiles (with_file times (kinds.File 5 touching))
+touching_fine times = record {
+  size = λ at bytes extents f. subst (λ b. b ≤ 2 ^ 40) (sym (touching_file times at bytes extents f).0) (omega arith);
+  ends = λ at bytes extents f. subst (AllByRecursion (λ e. e.offset + e.count ≤ 2 ^ 62)) (sym (touching_file times at bytes extents f).1) (omega arith, (omega arith, (omega arith, tt)));
+  apart = λ at bytes extents f one two offset shared. touching_apart one two offset (subst (λ xs. ShareOffset xs one two offset) (touching_file times at bytes extents f).1 shared);
+}

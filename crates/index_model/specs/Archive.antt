@@ -61,6 +61,14 @@ one_name times = node times 0 1 [] kinds.Dir ∷ node times 0 3 (codes "docs") k
 abbrev pub long_file : Times → List Node
 long_file times = with_file times (kinds.File (2 ^ 40 + 1) [])
 
+-- extents that touch, and one of no bytes within the second of them
+abbrev pub touching : List RawExtent
+touching =
+    record { offset = 0; letter = 98; block = 7; byte = 0; count = 3 }
+    ∷ record { offset = 3; letter = 98; block = 9; byte = 0; count = 2 }
+    ∷ record { offset = 4; letter = 98; block = 9; byte = 0; count = 0 }
+    ∷ []
+
 -- two extents that share a byte
 abbrev pub shared_byte : Times → List Node
 shared_byte times = with_file times (kinds.File 5 (hello ∷ record { offset = 4; letter = 98; block = 9; byte = 0; count = 1 } ∷ []))

@@ -1,5 +1,5 @@
-//! The index of an LTFS volume: what one document tells of the volume, of its files and of where their bytes stand
-//! (LTFS 2.4 on the index).
+//! The index of an LTFS volume: what one document tells of the volume, of its files and of where
+//! their bytes stand (LTFS 2.4 on the index).
 #![tactic(auto)]
 
 #[cfg(test)]

@@ -1,4 +1,4 @@
-use Rattle.index_model.proofs.DamagedFacts.{highest_over, in_file, late, name_taken, overlap, too_long, uid_over}
+use Rattle.index_model.proofs.DamagedFacts.{highest_over, in_file, late, name_taken, overlap, too_long, touching_fine, uid_over}
 use Rattle.index_model.proofs.ArchiveFacts.{archive_is_valid}
 use Rattle.index_model.proofs.examples.the_definitions_tell_valid_from_damaged.Goals as goal
 
@@ -25,3 +25,6 @@ returns-clause-long c = too_long
 
 pub returns-clause-overlap : goal.returns-clause-overlap
 returns-clause-overlap c = overlap
+
+pub returns-clause-touching : goal.returns-clause-touching
+returns-clause-touching c = touching_fine
