@@ -1,0 +1,6 @@
+pub mod Walks
+pub mod OrderLaws
+pub mod FaultLaws
+pub mod NoFault
+pub mod ArchiveFacts
+pub mod DamagedFacts

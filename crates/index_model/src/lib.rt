@@ -1,0 +1,19 @@
+//! The index of an LTFS volume: what one document tells of the volume, of its files and of where
+//! their bytes stand (LTFS 2.4 on the index).
+#![tactic(auto)]
+
+#[cfg(test)]
+mod examples;
+mod indexes;
+mod laws;
+mod nodes;
+#[cfg(test)]
+mod rows;
+#[cfg(test)]
+mod slow;
+#[cfg(test)]
+mod tests;
+
+pub use indexes::{Index, Lock, Policy, Spot};
+pub use laws::{directories_stand_together, one_fault_is_told};
+pub use nodes::{Kind, Node, RawExtent};

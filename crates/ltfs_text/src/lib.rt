@@ -1,0 +1,9 @@
+//! Texts in the documents of an LTFS volume that may hold any character: names, patterns of a
+//! placement policy and texts of symbolic links.
+#![tactic(auto)]
+
+mod names;
+#[cfg(test)]
+mod tests;
+
+pub use names::{NameText, ReadNameErr, name_text, names_read_back, read_name};
