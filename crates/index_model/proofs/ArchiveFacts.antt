@@ -1,7 +1,7 @@
 -- The archive is a valid index.
-use Rattle.std.proofs.Common.{◌≡◌, ℕ, ◌+◌, ◌<◌, ◌≤◌, ◌^◌, ◌&&◌, Bool, true, false, nat_le, length, List, [], ◌∷◌, codes, IsAscii, All, inl, inr, subst, refl, sym, ap, arith}
+use Rattle.std.proofs.Common.{◌≡◌, ℕ, ◌+◌, ◌<◌, ◌≤◌, ◌^◌, ◌&&◌, Bool, true, false, nat_le, length, List, [], ◌∷◌, codes, IsAscii, All, subst, refl, sym, ap, ◌∙◌, arith}
 use Rattle.std.specs.List.{AllByRecursion, list_all}
-use Rattle.std.proofs.lemmas.Bool.{and_parts}
+use Rattle.std.proofs.lemmas.Bool.{and_from, and_parts}
 use Rattle.std.proofs.lemmas.Bool.Decides.{nat_tests}
 use Rattle.std.proofs.lemmas.List.Elements.{All-nil, All-cons}
 use Rattle.std.proofs.lemmas.Str.{IsUtf8-from_ascii, chars-IsAscii}
@@ -18,7 +18,8 @@ use Rattle.index_model.specs.Names.{AreNames, AreNamesApart, IsNodeName, IsVolum
 use Rattle.index_model.specs.Order.{AreInOrder, IsDirAt, LiesIn}
 use Rattle.index_model.specs.Order.LiesIn.{itself, through}
 use Rattle.index_model.specs.Places.{IsAt}
-use Rattle.index_model.specs.Texts.{IsAllowed, IsLetter, IsPlainText}
+use Rattle.index_model.specs.Texts.{IsLetter, IsPlainText}
+use Rattle.doc_fields.specs.Texts.{is_allowed}
 use Rattle.index_model.specs.Uids.{AreUids}
 use Rattle.index_model.specs.Valid.{IsFormed, IsValid}
 use Rattle.index_model.proofs.Walks.{EachFrom, each}
@@ -33,12 +34,12 @@ ascii_from (c ∷ text) e =
     let small = and_parts (nat_le 32 c) (nat_le c 126) p.0 in
     All-cons (λ k. k < 128) c text (grind (arith, nat_tests)) (ascii_from text p.1)
 
-allowed_from : (text : List ℕ) → list_all printable text ≡ true → AllByRecursion IsAllowed text
-allowed_from [] e = tt
+allowed_from : (text : List ℕ) → list_all printable text ≡ true → list_all is_allowed text ≡ true
+allowed_from [] e = refl
 allowed_from (c ∷ text) e =
     let p = and_parts (printable c) (list_all printable text) e in
     let small = and_parts (nat_le 32 c) (nat_le c 126) p.0 in
-    (inr (inr (inr (inl (grind (arith, nat_tests))))), allowed_from text p.1)
+    and_from (is_allowed c) (list_all is_allowed text) (grind (arith, nat_tests)) (allowed_from text p.1)
 
 ascii : (text : List ℕ) → list_all printable text ≡ true → IsAscii text
 ascii text e = IsAscii-from_all text (ascii_from text e)
@@ -46,7 +47,7 @@ ascii text e = IsAscii-from_all text (ascii_from text e)
 plain : (text : List ℕ) → list_all printable text ≡ true → IsPlainText text
 plain text e = record {
   utf8 = IsUtf8-from_ascii text (ascii text e);
-  allowed = subst (AllByRecursion IsAllowed) (sym (chars-IsAscii text (ascii text e))) (allowed_from text e);
+  allowed = ap (list_all is_allowed) (chars-IsAscii text (ascii text e)) ∙ allowed_from text e;
 }
 
 in_order : (times : Times) → AreInOrder (archive_nodes times)

@@ -3,7 +3,7 @@ use Rattle.std.specs.Prelude.{ℕ, ◌+◌, ◌^◌, List, [], ◌∷◌, Some, 
 use Rattle.tape_types.specs.declared.moments.Moment.{Moment}
 use Rattle.tape_types.specs.declared.moments.Times.{Times}
 use Rattle.index_model.specs.declared.indexes.Index.{Index}
-use Rattle.index_model.specs.declared.indexes.Lock.TheVariants as locks
+use Rattle.doc_fields.specs.declared.values.LockState.TheVariants as locks
 use Rattle.index_model.specs.declared.nodes.Kind.{Kind}
 use Rattle.index_model.specs.declared.nodes.Kind.TheVariants as kinds
 use Rattle.index_model.specs.declared.nodes.Node.{Node}

@@ -1,4 +1,5 @@
 use crate::nodes::Node;
+use doc_fields::LockState;
 use tape_types::{List, Moment, Text};
 
 /// Where an index stands on tape: the position of the first block of its document (LTFS 2.4 on
@@ -22,15 +23,6 @@ pub struct Policy {
     /// The patterns, in the order of the document. Each may be any text, an empty one too.
     pub names: List<Text>,
 }
-
-/// The advisory locking of a volume (LTFS 2.4 on the volume lock state).
-#[derive(Clone, Copy, Debug, PartialEq, Eq)]
-pub enum Lock {
-    Unlocked,
-    Locked,
-    PermLocked,
-}
-
 /// An index of a volume (LTFS 2.4 on the index).
 #[derive(Drop)]
 pub struct Index {
@@ -52,7 +44,7 @@ pub struct Index {
     pub allow: bool,
     /// Where there is none, no file belongs on the index partition.
     pub policy: Option<Policy>,
-    pub lock: Option<Lock>,
+    pub lock: Option<LockState>,
     /// The highest file UID that a node of the volume ever had, at most 2^62 in a valid index.
     pub highest: u64,
     /// The nodes in the order of the document: the root first, each node before those below

@@ -14,6 +14,6 @@ mod slow;
 #[cfg(test)]
 mod tests;
 
-pub use indexes::{Index, Lock, Policy, Spot};
+pub use indexes::{Index, Policy, Spot};
 pub use laws::{directories_stand_together, one_fault_is_told};
 pub use nodes::{Kind, Node, RawExtent};
