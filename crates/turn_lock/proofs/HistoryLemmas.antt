@@ -4,7 +4,7 @@ use Rattle.std.specs.List.{All, Contains, filter}
 use Rattle.std.proofs.lemmas.List.Elements.{All-append, All-cons, All-nil, All-head, All-tail, All-weaker, filter-append}
 use Rattle.std.proofs.lemmas.Bool.Decides.{nat_tests}
 use Rattle.turn_lock.specs.Sums.{times}
-use Rattle.turn_lock.specs.Histories.{numbers_to, IsAnothers, Sees, AddsOwn, own_entries, longer}
+use Rattle.turn_lock.specs.Histories.{numbers_to, IsAnothers, Sees, own_entries, longer}
 use Rattle.turn_lock.proofs.SumLemmas.{times_append, stands, stands_not, not_in, number_once}
 
 all_left : {X : Type 0} (P : X → Type 0) (xs ys : List X) → All P (xs ++ ys) → All P xs

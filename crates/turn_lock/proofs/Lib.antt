@@ -1,7 +1,8 @@
-pub mod SumLemmas
-pub mod HistoryLemmas
-pub mod RuleLemmas
-pub mod TurnLemmas
-pub mod SeatLemmas
-pub mod EndLemmas
-pub mod PassLemmas
+mod SumLemmas
+mod HistoryLemmas
+mod RuleLemmas
+mod TurnLemmas
+mod SeatLemmas
+mod EndLemmas
+mod PassLemmas
+pub mod Callers

@@ -49,7 +49,7 @@ module _ {A : Type 0} (f : A → ℕ) where
 pub times_append : (n : ℕ) (xs ys : List ℕ) → times n (xs ++ ys) ≡ times n xs + times n ys
 times_append n xs ys = total_append (λ x. if x == n then 1 else 0) xs ys
 
-times_head : (n : ℕ) (xs : List ℕ) → 0 < times n (n ∷ xs)
+pub times_head : (n : ℕ) (xs : List ℕ) → 0 < times n (n ∷ xs)
 times_head n xs = grind (arith, nat_tests)
 
 all_stand : (xs : List ℕ) → All (λ y. 0 < times y xs) xs

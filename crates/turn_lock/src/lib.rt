@@ -12,6 +12,8 @@ mod lock;
 mod logged;
 mod pass;
 mod rule;
+#[cfg(test)]
+mod tests;
 
 pub use lock::TurnLock;
 pub use logged::Logged;
