@@ -13,10 +13,10 @@ alone n m numbers own is = stands_in numbers m (subst (λ (ns : List ℕ). 0 < t
 module _ {M : Type 0} (names : M → ℕ) where
   -- entries of one's only number
   pub adds_more : (n : ℕ) (numbers : List ℕ) (seen whole later : List M) → numbers ≡ n ∷ [] → whole ≡ seen ++ later → All (λ e. names e ≡ n) later → AddsOwn names numbers seen whole
-  adds_more n numbers seen whole later own more h = (later, sym more, All-weaker (λ e. names e ≡ n) (λ e. Contains numbers (names e)) (λ e is. alone n (names e) numbers own is) later h)
+  adds_more n numbers seen whole later own more h = record { later = later; begins = sym more; own = All-weaker (λ e. names e ≡ n) (λ e. Contains numbers (names e)) (λ e is. alone n (names e) numbers own is) later h }
 
   pub adds_none : (numbers : List ℕ) (seen whole : List M) → whole ≡ seen → AddsOwn names numbers seen whole
-  adds_none numbers seen whole same = ([], append-nil seen ∙ sym same, All-nil (λ e. Contains numbers (names e)))
+  adds_none numbers seen whole same = record { later = []; begins = append-nil seen ∙ sym same; own = All-nil (λ e. Contains numbers (names e)) }
 
   pub adds_one : (n : ℕ) (numbers : List ℕ) (seen whole : List M) (e : M) → numbers ≡ n ∷ [] → names e ≡ n → whole ≡ seen ++ e ∷ [] → AddsOwn names numbers seen whole
   adds_one n numbers seen whole e own is more = adds_more n numbers seen whole (e ∷ []) own more (All-cons (λ x. names x ≡ n) e [] is (All-nil (λ x. names x ≡ n)))
@@ -31,4 +31,4 @@ module _ {M : Type 0} (names : M → ℕ) where
 
   -- what comes after does not name a number that one has
   pub later_of_others : (seats n : ℕ) (numbers : List ℕ) (seen whole : List M) → Contains numbers n → Sees names seats numbers seen whole → (later : List M) × (seen ++ later ≡ whole) × All (λ e. names e ≢ n) later
-  later_of_others seats n numbers seen whole at s = (s.0, s.1, All-weaker (λ e. IsAnothers seats numbers (names e)) (λ e. names e ≢ n) (λ e h is. h.not_own (subst (Contains numbers) (sym is) at)) s.0 s.2)
+  later_of_others seats n numbers seen whole at s = (s.later, s.begins, All-weaker (λ e. IsAnothers seats numbers (names e)) (λ e. names e ≢ n) (λ e h is. h.not_own (subst (Contains numbers) (sym is) at)) s.later s.anothers)

@@ -38,30 +38,30 @@ module _ {M : Type 0} where
 
 module _ {M : Type 0} (names : M → ℕ) (seats : ℕ) where
   pub sees_all : (ns : List ℕ) (whole : List M) → Sees names seats ns whole whole
-  sees_all ns whole = ([], append-nil whole, All-nil (λ e. IsAnothers seats ns (names e)))
+  sees_all ns whole = record { later = []; begins = append-nil whole; anothers = All-nil (λ e. IsAnothers seats ns (names e)) }
 
   pub sees_more : (ns : List ℕ) (seen whole more after : List M) → Sees names seats ns seen whole → whole ++ more ≡ after → All (λ e. IsAnothers seats ns (names e)) more → Sees names seats ns seen after
-  sees_more ns seen whole more after s e h = (s.0 ++ more, sym (append_assoc seen s.0 more) ∙ (ap (λ l. l ++ more) s.1 ∙ e), All-append (λ e. IsAnothers seats ns (names e)) s.0 more s.2 h)
+  sees_more ns seen whole more after s e h = record { later = s.later ++ more; begins = sym (append_assoc seen s.later more) ∙ (ap (λ l. l ++ more) s.begins ∙ e); anothers = All-append (λ e. IsAnothers seats ns (names e)) s.later more s.anothers h }
 
   pub sees_fewer : (ns ms : List ℕ) (seen whole : List M) → ((n : ℕ) → times n ms ≤ times n ns) → Sees names seats ns seen whole → Sees names seats ms seen whole
-  sees_fewer ns ms seen whole le s = (s.0, s.1, All-weaker (λ e. IsAnothers seats ns (names e)) (λ e. IsAnothers seats ms (names e)) (λ e h. fewer seats ns ms (names e) (le (names e)) h) s.0 s.2)
+  sees_fewer ns ms seen whole le s = record { later = s.later; begins = s.begins; anothers = All-weaker (λ e. IsAnothers seats ns (names e)) (λ e. IsAnothers seats ms (names e)) (λ e h. fewer seats ns ms (names e) (le (names e)) h) s.later s.anothers }
 
   -- what one adds is another's to all that have none of its numbers
-  pub anothers : (ns ms : List ℕ) (more : List M) → ((n : ℕ) → times n ns + times n ms ≤ times n (numbers_to seats)) → ((n : ℕ) → 0 < times n (numbers_to seats) → (1 ≤ n) × (n ≤ seats))
+  pub adds_anothers : (ns ms : List ℕ) (more : List M) → ((n : ℕ) → times n ns + times n ms ≤ times n (numbers_to seats)) → ((n : ℕ) → 0 < times n (numbers_to seats) → (1 ≤ n) × (n ≤ seats))
       → ((n : ℕ) → times n (numbers_to seats) ≤ 1) → All (λ e. Contains ns (names e)) more → All (λ e. IsAnothers seats ms (names e)) more
-  anothers ns ms more apart within once own = All-weaker (λ e. Contains ns (names e)) (λ e. IsAnothers seats ms (names e))
+  adds_anothers ns ms more apart within once own = All-weaker (λ e. Contains ns (names e)) (λ e. IsAnothers seats ms (names e))
       (λ e h. let n = names e in let s = stands ns n h in let d = apart n in let w = within n (omega (arith, s, d)) in let o = once n in record { from_one = w.0; to_seats = w.1; not_own = not_in ms n (omega (arith, s, d, o)) }) more own
 
   sees_between : (n m : List ℕ) (s t whole : List M) → Sees names seats n s whole → Sees names seats m t whole → length s ≤ length t → Sees names seats n s t × Sees names seats n t whole
-  sees_between n m s t whole a b le = let P : M → Type 0 = λ e. IsAnothers seats n (names e) in let r = between s a.0 t b.0 (a.1 ∙ sym b.1) le in let h : All P (r.0 ++ b.0) = subst (All P) r.2 a.2 in
-      ((r.0, r.1, all_left P r.0 b.0 h), (b.0, b.1, all_right P r.0 b.0 h))
+  sees_between n m s t whole a b le = let P : M → Type 0 = λ e. IsAnothers seats n (names e) in let r = between s a.later t b.later (a.begins ∙ sym b.begins) le in let h : All P (r.0 ++ b.later) = subst (All P) r.2 a.anothers in
+      (record { later = r.0; begins = r.1; anothers = all_left P r.0 b.later h }, record { later = b.later; begins = b.begins; anothers = all_right P r.0 b.later h })
 
   abbrev Merged : List ℕ → List ℕ → List M → List M → List M → List M → Type 0
   Merged n m s t whole l = Sees names seats n s l × Sees names seats m t l × Sees names seats (n ++ m) l whole
 
   sees_both : (n m : List ℕ) (l whole : List M) → Sees names seats n l whole → Sees names seats m l whole → Sees names seats (n ++ m) l whole
-  sees_both n m l whole a b = let e = same_rest l a.0 b.0 (a.1 ∙ sym b.1) in let h : All (λ e. IsAnothers seats n (names e)) b.0 = subst (All (λ e. IsAnothers seats n (names e))) e a.2 in
-      (b.0, b.1, λ k d lt. both_lists seats n m _ (h k d lt) (b.2 k d lt))
+  sees_both n m l whole a b = let e = same_rest l a.later b.later (a.begins ∙ sym b.begins) in let h : All (λ e. IsAnothers seats n (names e)) b.later = subst (All (λ e. IsAnothers seats n (names e))) e a.anothers in
+      record { later = b.later; begins = b.begins; anothers = λ k d lt. both_lists seats n m _ (h k d lt) (b.anothers k d lt) }
 
   longer_at : (n m : List ℕ) (s t whole : List M) → Sees names seats n s whole → Sees names seats m t whole → (b : Bool) → nat_lt (length s) (length t) ≡ b → Merged n m s t whole (if b then t else s)
   longer_at n m s t whole a b true is = let r = sees_between n m s t whole a b (grind (arith, nat_tests, is)) in (r.0, sees_all m t, sees_both n m t whole r.1 b)
@@ -72,7 +72,7 @@ module _ {M : Type 0} (names : M → ℕ) (seats : ℕ) where
 
   -- who has all the numbers has seen all
   pub sees_whole : (ns : List ℕ) (seen whole : List M) → ((n : ℕ) → times n ns ≡ times n (numbers_to seats)) → Sees names seats ns seen whole → whole ≡ seen
-  sees_whole ns seen whole same s = sym s.1 ∙ (ap (λ l. seen ++ l) (nothing s.0 s.2) ∙ append-nil seen) where
+  sees_whole ns seen whole same s = sym s.begins ∙ (ap (λ l. seen ++ l) (nothing s.later s.anothers) ∙ append-nil seen) where
     nothing : (later : List M) → All (λ e. IsAnothers seats ns (names e)) later → later ≡ []
     nothing [] h = refl
     nothing (e ∷ es) h = let a = All-head (λ e. IsAnothers seats ns (names e)) e es h in absurd (omega (arith, stands_not ns (names e) a.not_own, same (names e), number_once (names e) seats a.from_one a.to_seats))
@@ -85,4 +85,4 @@ module _ {M : Type 0} (names : M → ℕ) (seats : ℕ) where
   -- the entries of one's own numbers are those that were seen
   pub sees_own : (ns : List ℕ) (seen whole : List M) → Sees names seats ns seen whole → own_entries names ns whole ≡ own_entries names ns seen
   sees_own ns seen whole s = let p : M → Bool = λ e. nat_lt 0 (times (names e) ns) in
-      ap (filter p) (sym s.1) ∙ (filter-append p seen s.0 ∙ (ap (λ l. filter p seen ++ l) (none_own ns s.0 s.2) ∙ append-nil (filter p seen)))
+      ap (filter p) (sym s.begins) ∙ (filter-append p seen s.later ∙ (ap (λ l. filter p seen ++ l) (none_own ns s.later s.anothers) ∙ append-nil (filter p seen)))

@@ -65,6 +65,7 @@ module _ {T M F : Type 0} where
 
   pub beside_now : (m o w : Me (Option T) (Knowledge M F)) → w ≡ (beside m.0 o.0, m.1) → IsCalm m → IsCalm o → IsBeside w
   beside_now m o w e h h' = record {
+    no_slot = ap (λ (z : Me (Option T) (Knowledge M F)). z.1) e ∙ h.no_slot;
     no_ticket = ap (λ (z : Me (Option T) (Knowledge M F)). z.0.ticket) e;
     unserved = ap (λ (z : Me (Option T) (Knowledge M F)). z.0.served) e;
     some_number = subst (λ (z : Me (Option T) (Knowledge M F)). 0 < length z.0.numbers) (sym e) h.some_number;

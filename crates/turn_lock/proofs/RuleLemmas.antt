@@ -15,7 +15,7 @@ use Rattle.turn_lock.specs.Histories.{numbers_to, IsAnothers, Sees}
 use Rattle.turn_lock.specs.Knowing.{owns, owns_times, IsWaiting}
 use Rattle.turn_lock.specs.Rule.{has, holds_ticket, Fits, IsHome, IsKept}
 use Rattle.turn_lock.proofs.SumLemmas.{total_set, total_two, total_le, number_within, number_at_most_once}
-use Rattle.turn_lock.proofs.HistoryLemmas.{sees_more, anothers}
+use Rattle.turn_lock.proofs.HistoryLemmas.{sees_more, adds_anothers}
 
 pub same_some : (n m : ℕ) → Some n ≡ Some m → n ≡ m
 same_some n m e = cc e
@@ -132,6 +132,6 @@ module _ {T M F : Type 0} (history : T → List M) (fixed : T → F) (names : M 
       let two : (n : ℕ) → owns_times n v + owns_times n u ≤ times n (numbers_to seats) = λ n. let d = k.once n in omega (arith, d, total_two (owns_times n) s.views id i v u (λ z. ne (sym z)) at there) in
       let within : (n : ℕ) → 0 < times n (numbers_to seats) → (1 ≤ n) × (n ≤ seats) = λ n h. number_within n seats h in
       let once : (n : ℕ) → times n (numbers_to seats) ≤ 1 = λ n. number_at_most_once n seats in (
-        λ some. sees_more names seats u.numbers u.seen k.whole more whole' (t.sees some) e (anothers names seats v.numbers u.numbers more (λ n. let d = two n in omega (arith, d)) within once own),
-        λ some. sees_more names seats u.joined_numbers u.joined_seen k.whole more whole' (t.sees_joined some) e (anothers names seats v.numbers u.joined_numbers more (λ n. let d = two n in omega (arith, d)) within once own),
+        λ some. sees_more names seats u.numbers u.seen k.whole more whole' (t.sees some) e (adds_anothers names seats v.numbers u.numbers more (λ n. let d = two n in omega (arith, d)) within once own),
+        λ some. sees_more names seats u.joined_numbers u.joined_seen k.whole more whole' (t.sees_joined some) e (adds_anothers names seats v.numbers u.joined_numbers more (λ n. let d = two n in omega (arith, d)) within once own),
       )

@@ -16,7 +16,7 @@ use Rattle.turn_lock.specs.Knowing.{drew, in_turn, ended, IsCalm, IsWaiting, Has
 use Rattle.turn_lock.specs.Rule.{has, holds_ticket, Fits, IsHome, IsKept}
 use Rattle.turn_lock.specs.Steps.{Turns, draws, looks, counts, ends}
 use Rattle.turn_lock.proofs.SumLemmas.{total_set, total_zero}
-use Rattle.turn_lock.proofs.HistoryLemmas.{sees_all}
+use Rattle.turn_lock.proofs.HistoryLemmas.{sees_all, sees_own}
 use Rattle.turn_lock.proofs.RuleLemmas.{same_some, no_some, same_fixed, not_both, holds_none, has_some, few_tickets, moved, still_apart, alone, unserved_before, not_home, other_unserved, all_unserved, no_more, others_see}
 
 pub same_state : {T : Type 0} (x y : T) → ◌≡◌ {A = List (ℕ × Option T)} ((0, Some x) ∷ []) ((0, Some y) ∷ []) → x ≡ y
@@ -108,7 +108,8 @@ module _ {T M F : Type 0} (history : T → List M) (fixed : T → F) (names : M 
         h.1,
         turn_comes s k id n m x wait at now h.2,
         λ j is. let same = same_some n j (sym wait.ticket ∙ is) in (
-          (λ _. record { state = x; known = refl; slot = refl; same = q.0 ∙ ap (λ (z : F). Some z) (sym h.3); sees = subst (λ (l : List M). Sees names m.0.seats m.0.numbers m.0.seen l) (sym h.2) (subst (λ (z : ℕ). Sees names z m.0.numbers m.0.seen k.whole) (sym q.1) (t.sees wait.some_number)) }),
+          (λ _. let sees : Sees names m.0.seats m.0.numbers m.0.seen (history x) = subst (λ (l : List M). Sees names m.0.seats m.0.numbers m.0.seen l) (sym h.2) (subst (λ (z : ℕ). Sees names z m.0.numbers m.0.seen k.whole) (sym q.1) (t.sees wait.some_number)) in
+          record { state = x; known = refl; slot = refl; same = q.0 ∙ ap (λ (z : F). Some z) (sym h.3); sees = sees; own = sees_own names m.0.seats m.0.numbers m.0.seen (history x) sees }),
           λ other. absurd (other (e ∙ same)),
         ),
       ))
@@ -117,13 +118,13 @@ module _ {T M F : Type 0} (history : T → List M) (fixed : T → F) (names : M 
   pub counts_keeps : (id new : ℕ) (m : Mine) (x : T) → HasTurn (Some x) m → new ≡ length (history x) → AddsOwn names m.0.numbers m.0.seen (history x) → Allows Rule 1 id m 2 (λ _. new) (λ _. counts history (step 1 2 new 0 none) m new)
   counts_keeps id new m x turn long adds s k one at small =
       let v : V = m.0 in let w : V = in_turn v (history x) in let t = k.each id v at in let mine = t.turn turn.served in let three = k.three_words in let no = no_more history fixed names seats f v turn.none_joined in
-      let e : k.whole ++ adds.0 ≡ history x = ap (λ (l : List M). l ++ adds.0) (sym mine.1) ∙ adds.1 in (
+      let e : k.whole ++ adds.later ≡ history x = ap (λ (l : List M). l ++ adds.later) (sym mine.1) ∙ adds.begins in (
         w,
         keeps,
         tt,
         moved history fixed names seats f s k id v w (set s.words 2 new) s.homes k.ticket k.serving (history x) at (length-set s.words 2 new ∙ k.three_words) (get_or-set_other s.words 2 0 new 0 (λ z. omega arith) ∙ k.ticket_is) (get_or-set_other s.words 2 1 new 0 (λ z. omega arith) ∙ k.serving_is)
             (get_or-set_same s.words 2 new 0 (omega arith) ∙ long) k.one_slot k.low (omega arith) (still_apart history fixed names seats f s k id v w at (λ j. omega arith)) (omega (arith, no.0)) (λ j. omega (arith, no.1 j))
-            (λ i u ne there r. let q = others_see history fixed names seats f s k id i v u adds.0 (history x) ne at there adds.2 e in record { ranged = r.ranged; entitled = r.entitled; sees = q.0; sees_joined = q.1; same = r.same; turn = λ up. absurd (other_unserved history fixed names seats f s k id v at mine.0 i u ne there up) })
+            (λ i u ne there r. let q = others_see history fixed names seats f s k id i v u adds.later (history x) ne at there adds.own e in record { ranged = r.ranged; entitled = r.entitled; sees = q.0; sees_joined = q.1; same = r.same; turn = λ up. absurd (other_unserved history fixed names seats f s k id v at mine.0 i u ne there up) })
             record { ranged = t.ranged; entitled = let h = t.entitled in omega (arith, h, no.0); sees = λ _. sees_all names seats v.numbers (history x); sees_joined = λ lt. nothing_joined lt; same = t.same; turn = λ _. (mine.0, refl) }
             (λ h. absurd (not_home history fixed names seats f s.views id v w at refl h)),
         (λ y is. (ap (λ (z : T). in_turn v (history z)) (same_state x y (sym turn.has_slot ∙ is)), refl)),

@@ -15,12 +15,16 @@ pub record IsAnothers (seats : ℕ) (numbers : List ℕ) (n : ℕ) : Type 0 wher
 
 module _ {M : Type 0} where
   -- the whole history begins with what was seen, and each later entry names a number of the lock that is none of these
-  abbrev pub Sees : (M → ℕ) → ℕ → List ℕ → List M → List M → Type 0
-  Sees names seats numbers seen whole = (later : List M) × (seen ++ later ≡ whole) × All (λ e. IsAnothers seats numbers (names e)) later
+  pub record Sees (names : M → ℕ) (seats : ℕ) (numbers : List ℕ) (seen whole : List M) : Type 0 where
+    pub later : List M
+    pub begins : seen ++ later ≡ whole
+    pub anothers : All (λ e. IsAnothers seats numbers (names e)) later
 
   -- the whole history begins with what was seen, and each later entry names one of these numbers
-  abbrev pub AddsOwn : (M → ℕ) → List ℕ → List M → List M → Type 0
-  AddsOwn names numbers seen whole = (later : List M) × (seen ++ later ≡ whole) × All (λ e. Contains numbers (names e)) later
+  pub record AddsOwn (names : M → ℕ) (numbers : List ℕ) (seen whole : List M) : Type 0 where
+    pub later : List M
+    pub begins : seen ++ later ≡ whole
+    pub own : All (λ e. Contains numbers (names e)) later
 
   -- the entries that name one of these numbers, in order
   abbrev pub own_entries : (M → ℕ) → List ℕ → List M → List M

@@ -40,6 +40,12 @@ module _ {M F : Type 0} where
   abbrev pub merged : Knowledge M F → Knowledge M F
   merged v = record { ticket = None; served = false; numbers = v.numbers ++ v.joined_numbers; seen = longer v.seen v.joined_seen; joined_numbers = []; joined_seen = []; seats = v.seats; fixed = v.fixed }
 
+  -- the same but for its numbers
+  pub record SameBut (v w : Knowledge M F) : Type 0 where
+    pub seen : w.seen ≡ v.seen
+    pub seats : w.seats ≡ v.seats
+    pub fixed : w.fixed ≡ v.fixed
+
   -- how many numbers it has, those beside its own among them
   abbrev pub owns : Knowledge M F → ℕ
   owns v = length v.numbers + length v.joined_numbers
@@ -80,6 +86,7 @@ module _ {T M F : Type 0} where
 
   -- it has joined another, and what that one had lies beside its own
   pub record IsBeside (m : Me (Option T) (Knowledge M F)) : Type 0 where
+    pub no_slot : m.1 ≡ []
     pub no_ticket : m.0.ticket ≡ None
     pub unserved : m.0.served ≡ false
     pub some_number : 0 < length m.0.numbers

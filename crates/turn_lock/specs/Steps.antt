@@ -2,7 +2,7 @@
 use Rattle.std.specs.Prelude.{ℕ, ◌≡◌, ◌≢◌, List, [], ◌∷◌, Option, Some, None}
 use Rattle.atomic_table.specs.Table.{Me, Step, rest}
 use Rattle.turn_lock.specs.declared.rule.Knowledge.{Knowledge}
-use Rattle.turn_lock.specs.Histories.{Sees, longer}
+use Rattle.turn_lock.specs.Histories.{Sees, own_entries, longer}
 use Rattle.turn_lock.specs.Knowing.{drew, in_turn, ended, merged}
 
 -- what a turn tells who waited for it: the slot has a state, and its history is known
@@ -12,6 +12,7 @@ pub record Turns {T M F : Type 0} (history : T → List M) (fixed : T → F) (na
   pub slot : w.1 ≡ (0, Some state) ∷ m.1
   pub same : m.0.fixed ≡ Some (fixed state)
   pub sees : Sees names m.0.seats m.0.numbers m.0.seen (history state)
+  pub own : own_entries names m.0.numbers (history state) ≡ own_entries names m.0.numbers m.0.seen
 
 module _ {T M F : Type 0} where
   -- the number found is the ticket

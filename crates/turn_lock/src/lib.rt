@@ -8,6 +8,7 @@
 //! anything between passes that never met in one history.
 #![tactic(auto)]
 
+mod board;
 mod lock;
 mod logged;
 mod pass;
