@@ -1,18 +1,18 @@
 -- How the lock begins, and how it ends.
-use Rattle.std.proofs.Common.{◌≡◌, ◌≢◌, ℕ, zero, suc, ◌+◌, ◌^◌, ◌<◌, ◌≤◌, Bool, true, false, List, [], ◌∷◌, ◌++◌, length, Option, Some, None, sym, refl, ap, ◌∙◌, subst, arith}
-use mathlib.Core.Option.{some, none, some-injective, some-ne-none}
+use Rattle.std.proofs.Common.{◌≡◌, ◌≢◌, ℕ, zero, suc, ◌^◌, ◌<◌, false, List, [], ◌∷◌, length, Option, Some, sym, refl, ap, ◌∙◌, subst, arith}
+use mathlib.Core.Option.{some, some-injective, some-ne-none}
 use mathlib.Core.Logic.{dite}
 use native.Mathlib.Decide.{ℕ_discrete}
 use lib.ListN.{get_elem?}
 use Rattle.atomic_table.specs.Table.{State, Me, opening, Final, Seen}
 use Rattle.turn_lock.specs.declared.rule.Knowledge.{Knowledge}
-use Rattle.turn_lock.specs.Sums.{total, times}
-use Rattle.turn_lock.specs.Histories.{numbers_to, Sees}
+use Rattle.turn_lock.specs.Sums.{times}
+use Rattle.turn_lock.specs.Histories.{numbers_to}
 use Rattle.turn_lock.specs.Knowing.{owns, owns_times, calm, IsCalm}
-use Rattle.turn_lock.specs.Rule.{has, holds_ticket, Fits, IsKept}
+use Rattle.turn_lock.specs.Rule.{Fits, IsKept}
 use Rattle.turn_lock.proofs.SumLemmas.{total_two, total_one, numbers_length, no_length}
 use Rattle.turn_lock.proofs.HistoryLemmas.{sees_all, sees_whole}
-use Rattle.turn_lock.proofs.RuleLemmas.{no_some, same_fixed, not_true, not_both, has_some, no_more}
+use Rattle.turn_lock.proofs.RuleLemmas.{no_some, same_fixed, not_true, not_both, has_some}
 
 nothing_joined : {P : Type 0} → 0 < 0 → P
 nothing_joined lt = absurd (omega (arith, lt))
@@ -75,8 +75,7 @@ module _ {T M F : Type 0} (history : T → List M) (fixed : T → F) (names : M 
       → (x : T) × (slot ≡ Some x) × (m.0.fixed ≡ Some (fixed x)) × (history x ≡ m.0.seen)
   closed id m words xs slot still as_many last there =
       let s : State (Option T) V = last.0 in let k = last.1.0 in let at = last.1.1 in let v : V = m.0 in let t = k.each id v at in
-      let q = t.same still.some_number in let all : length v.numbers ≡ seats = as_many ∙ q.1 in let h = k.home (none_served s k id m still at all) in
-      (
+      let q = t.same still.some_number in let all : length v.numbers ≡ seats = as_many ∙ q.1 in let h = k.home (none_served s k id m still at all) in (
         h.0,
         some-injective slot (Some h.0) (sym there ∙ last.4 0 (Some h.0) h.1),
         q.0 ∙ ap (λ (z : F). Some z) (sym h.3),

@@ -4,5 +4,5 @@ mod RuleLemmas
 mod TurnLemmas
 mod SeatLemmas
 mod EndLemmas
-mod PassLemmas
+mod SeatStates
 pub mod Callers

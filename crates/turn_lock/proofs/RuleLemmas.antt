@@ -11,7 +11,7 @@ use Rattle.atomic_table.specs.Table.{State, Me}
 use Rattle.atomic_table.proofs.Lists.{at_set, set_else}
 use Rattle.turn_lock.specs.declared.rule.Knowledge.{Knowledge}
 use Rattle.turn_lock.specs.Sums.{total, times}
-use Rattle.turn_lock.specs.Histories.{numbers_to, IsAnothers, Sees}
+use Rattle.turn_lock.specs.Histories.{numbers_to, Sees}
 use Rattle.turn_lock.specs.Knowing.{owns, owns_times, IsWaiting}
 use Rattle.turn_lock.specs.Rule.{has, holds_ticket, Fits, IsHome, IsKept}
 use Rattle.turn_lock.proofs.SumLemmas.{total_set, total_two, total_le, number_within, number_at_most_once}

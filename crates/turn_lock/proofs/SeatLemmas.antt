@@ -1,12 +1,12 @@
 -- Splitting, joining and merging keep the rule.
-use Rattle.std.proofs.Common.{◌≡◌, ◌≢◌, ℕ, zero, suc, ◌+◌, ◌-◌, ◌<◌, ◌≤◌, Bool, true, false, List, [], ◌∷◌, ◌++◌, length, get_or, set, take, drop, Option, Some, None, sym, refl, ap, ◌∙◌, subst, ⊎_elim, arith, length-append, take-append-drop}
+use Rattle.std.proofs.Common.{◌≡◌, ℕ, ◌+◌, ◌-◌, ◌<◌, ◌≤◌, false, List, [], ◌∷◌, ◌++◌, length, set, take, drop, Option, None, sym, refl, ap, ◌∙◌, subst, ⊎_elim, arith, length-append, take-append-drop}
 use mathlib.Core.Option.{some, none}
 use lib.ListN.{get_elem?}
 use lib.Seq.{set-get_or}
 use Rattle.atomic_table.specs.Table.{State, Me, step, keeps, Allows, Splits, Joins}
 use Rattle.atomic_table.proofs.Lists.{set_else, at_snoc, at_longer}
 use Rattle.turn_lock.specs.declared.rule.Knowledge.{Knowledge}
-use Rattle.turn_lock.specs.Sums.{total, times}
+use Rattle.turn_lock.specs.Sums.{times}
 use Rattle.turn_lock.specs.Histories.{Sees}
 use Rattle.turn_lock.specs.Knowing.{owns, owns_times, spent, without_last, last_alone, beside, merged, IsCalm, IsBeside}
 use Rattle.turn_lock.specs.Rule.{has, holds_ticket, Fits, IsKept}

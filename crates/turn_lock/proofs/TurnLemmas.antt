@@ -1,5 +1,5 @@
 -- The steps of a turn keep the rule: draw, look, count and next.
-use Rattle.std.proofs.Common.{◌≡◌, ◌≢◌, ℕ, zero, suc, ◌+◌, ◌-◌, ◌%◌, ◌^◌, ◌<◌, ◌≤◌, Bool, true, false, List, [], ◌∷◌, ◌++◌, length, get_or, set, Option, Some, None, sym, refl, ap, ◌∙◌, subst, arith, length-set, get_or-set_other, get_or-set_same, eqb, eq-eqb, ne_eqb}
+use Rattle.std.proofs.Common.{◌≡◌, ◌≢◌, ℕ, ◌+◌, ◌%◌, ◌^◌, ◌<◌, ◌≤◌, Bool, false, List, [], ◌∷◌, ◌++◌, length, get_or, set, Option, Some, sym, refl, ap, ◌∙◌, subst, arith, length-set, get_or-set_other, get_or-set_same, eqb, eq-eqb, ne_eqb}
 use Rattle.std.specs.Bool.{MatchBool}
 use mathlib.Core.Option.{some, none}
 use mathlib.Core.Logic.{dite}
@@ -7,13 +7,12 @@ use native.Mathlib.Decide.{ℕ_discrete}
 use lib.ListN.{get_elem?}
 use lib.Seq.{set-get_or}
 use Rattle.std.proofs.lemmas.Bool.Decides.{nat_tests}
-use Rattle.atomic_table.specs.Table.{State, Me, step, rest, keeps, takes, gives, stepped, Allows}
+use Rattle.atomic_table.specs.Table.{State, Me, step, keeps, takes, gives, stepped, Allows}
 use Rattle.atomic_table.proofs.Lists.{set_here, set_again}
 use Rattle.turn_lock.specs.declared.rule.Knowledge.{Knowledge}
-use Rattle.turn_lock.specs.Sums.{total}
 use Rattle.turn_lock.specs.Histories.{Sees, AddsOwn}
 use Rattle.turn_lock.specs.Knowing.{drew, in_turn, ended, IsCalm, IsWaiting, HasTurn}
-use Rattle.turn_lock.specs.Rule.{has, holds_ticket, Fits, IsHome, IsKept}
+use Rattle.turn_lock.specs.Rule.{has, holds_ticket, Fits, IsKept}
 use Rattle.turn_lock.specs.Steps.{Turns, draws, looks, counts, ends}
 use Rattle.turn_lock.proofs.SumLemmas.{total_set, total_zero}
 use Rattle.turn_lock.proofs.HistoryLemmas.{sees_all, sees_own}
@@ -109,7 +108,7 @@ module _ {T M F : Type 0} (history : T → List M) (fixed : T → F) (names : M 
         turn_comes s k id n m x wait at now h.2,
         λ j is. let same = same_some n j (sym wait.ticket ∙ is) in (
           (λ _. let sees : Sees names m.0.seats m.0.numbers m.0.seen (history x) = subst (λ (l : List M). Sees names m.0.seats m.0.numbers m.0.seen l) (sym h.2) (subst (λ (z : ℕ). Sees names z m.0.numbers m.0.seen k.whole) (sym q.1) (t.sees wait.some_number)) in
-          record { state = x; known = refl; slot = refl; same = q.0 ∙ ap (λ (z : F). Some z) (sym h.3); sees = sees; own = sees_own names m.0.seats m.0.numbers m.0.seen (history x) sees }),
+              record { state = x; known = refl; slot = refl; same = q.0 ∙ ap (λ (z : F). Some z) (sym h.3); sees = sees; own = sees_own names m.0.seats m.0.numbers m.0.seen (history x) sees }),
           λ other. absurd (other (e ∙ same)),
         ),
       ))

@@ -1,5 +1,5 @@
 -- What each kind of step tells the seat m that makes it: the seat afterwards, w, and what it learns.
-use Rattle.std.specs.Prelude.{ℕ, ◌≡◌, ◌≢◌, List, [], ◌∷◌, Option, Some, None}
+use Rattle.std.specs.Prelude.{ℕ, ◌≡◌, ◌≢◌, List, [], ◌∷◌, Option, Some}
 use Rattle.atomic_table.specs.Table.{Me, Step, rest}
 use Rattle.turn_lock.specs.declared.rule.Knowledge.{Knowledge}
 use Rattle.turn_lock.specs.Histories.{Sees, own_entries, longer}

@@ -1,4 +1,4 @@
-use Rattle.std.proofs.Common.{◌≡◌, ◌∷◌, [], false}
+use Rattle.std.proofs.Common.{◌≡◌, false}
 use Rattle.turn_lock.proofs.tests.add_all.Given as goal
 
 abbrev pub invariant-loop-n : goal.invariant-loop-n

@@ -1,6 +1,6 @@
 use Rattle.std.proofs.Common.{arith, ap, ◌∙◌, ◌++◌, ◌∷◌, [], sym}
 use Rattle.turn_lock.proofs.SeatLemmas.{split_keeps}
-use Rattle.turn_lock.proofs.PassLemmas.{cut_last}
+use Rattle.turn_lock.proofs.SeatStates.{cut_last}
 use Rattle.turn_lock.proofs.board.Board.cut.Goals as goal
 
 pub split_seat-requires : goal.split_seat-requires

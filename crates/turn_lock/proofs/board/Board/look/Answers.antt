@@ -1,4 +1,4 @@
-use Rattle.std.proofs.Common.{arith, sym, ◌∙◌}
+use Rattle.std.proofs.Common.{arith}
 use Rattle.turn_lock.proofs.TurnLemmas.{looks_keeps, looked}
 use Rattle.turn_lock.proofs.board.Board.look.Goals as goal
 

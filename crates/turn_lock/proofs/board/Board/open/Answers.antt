@@ -1,6 +1,6 @@
 use Rattle.std.proofs.Common.{arith, ◌++◌, [], ◌∷◌, Some, ap, ◌∙◌, refl}
 use Rattle.turn_lock.proofs.SumLemmas.{numbers_length}
-use Rattle.turn_lock.proofs.PassLemmas.{first_calm}
+use Rattle.turn_lock.proofs.SeatStates.{first_calm}
 use Rattle.turn_lock.proofs.EndLemmas.{opens}
 use Rattle.turn_lock.proofs.board.Board.open.Goals as goal
 

@@ -1,6 +1,5 @@
 use Rattle.std.proofs.Common.{arith}
 use Rattle.turn_lock.proofs.SeatLemmas.{join_keeps}
-use Rattle.turn_lock.proofs.PassLemmas.{beside_now}
 use Rattle.turn_lock.proofs.board.Board.tie.Goals as goal
 
 pub join_seat-requires : goal.join_seat-requires
