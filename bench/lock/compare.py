@@ -5,13 +5,14 @@ usage: compare.py [ROUNDS] [TURNS]
 
 Builds turns/ (its files end in .in, so that they are no part of the repository's crates) beside crates/turn_lock in a
 folder of its own, proved as any program, and turns.rs with rustc. Runs both in turn with 1, 2, 4 and 16 threads, checks
-that each list has all entries, and prints the best round of each in turns per second.
+that each list has all entries, and prints the middle round of each in turns per second.
 """
 import os
 import shutil
 import subprocess
 import sys
 import tempfile
+from statistics import median
 
 HERE = os.path.dirname(os.path.abspath(__file__))
 ROOT = os.path.dirname(os.path.dirname(HERE))
@@ -52,7 +53,7 @@ def main():
         ours, peer = build(folder)
         for threads in THREADS:
             speeds = [(speed(ours, threads, turns), speed(peer, threads, turns)) for _ in range(rounds)]
-            mine, its = max(s[0] for s in speeds), max(s[1] for s in speeds)
+            mine, its = median(s[0] for s in speeds), median(s[1] for s in speeds)
             print(f"{threads:3} threads   turn lock {mine / 1e6:7.3f} M/s   mutex {its / 1e6:7.3f} M/s   ratio {its / mine:.2f}")
 
 
