@@ -1,0 +1,6 @@
+pub mod Sums
+pub mod Histories
+pub mod Passes
+pub mod Knowing
+pub mod Rule
+pub mod Steps
