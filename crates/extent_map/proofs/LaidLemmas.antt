@@ -155,3 +155,11 @@ resized_laid f n h fits = record {
   can_be = fits;
   are_laid = cut_laid f.block_size 0 f.length f.extents n h.are_laid (omega arith);
 }
+
+abbrev pub laid_as : ℕ → ℕ → List Extent → Laid
+laid_as size length es = record { block_size = size; length = length; extents = es }
+
+pub overlaid_is : (size length n : ℕ) (es after : List Extent) (new : Extent) → after ≡ cut new.offset es ++ new ∷ left_from size (new.offset + new.count) es → n ≡ max length (new.offset + new.count)
+    → laid_as size n after ≡ overlaid (laid_as size length es) new
+overlaid_is size length n es after new is long =
+    ap (laid_as size n) is ∙ ap (λ m. laid_as size m (cut new.offset es ++ new ∷ left_from size (new.offset + new.count) es)) long

@@ -1,8 +1,12 @@
 -- What the bytes of a file are, given what stands on tape.
-use Rattle.std.specs.Prelude.{ℕ, ◌+◌, ◌-◌, ◌/◌, ◌%◌, Bool, ◌&&◌, nat_le, nat_lt, List, [], ◌∷◌, map, Some, if◌then◌else◌}
+use Rattle.std.specs.Prelude.{ℕ, ◌+◌, ◌-◌, ◌/◌, ◌%◌, Bool, ◌&&◌, nat_le, nat_lt, List, [], ◌∷◌, map, Option, Some, None, slice_get, if◌then◌else◌}
 use Rattle.std.specs.List.{range_with_len}
 use Rattle.tape_types.specs.declared.cartridges.Extent.{Extent}
 use Rattle.tape_types.specs.declared.cartridges.Part.{Part}
+use Rattle.tape_types.specs.declared.cartridges.Item.{Item}
+use Rattle.tape_types.specs.declared.cartridges.Item.TheVariants.{Block, Mark, Torn}
+use Rattle.tape_types.specs.declared.cartridges.Cartridge.{Cartridge}
+use Rattle.tape_types.specs.Cartridges.{items_of}
 use Rattle.plain_tree.specs.Cells.{Cell}
 use Rattle.extent_map.specs.Laid.{Laid}
 
@@ -10,6 +14,17 @@ use Rattle.extent_map.specs.Laid.{Laid}
 -- block or has no such byte
 abbrev pub Tape : Type 0
 Tape = Part → ℕ → ℕ → Cell
+
+-- the byte of an item
+abbrev pub byte_in : Option Item → ℕ → Cell
+byte_in (Some (Block bytes)) byte = slice_get bytes byte
+byte_in (Some Mark) byte = None
+byte_in (Some Torn) byte = None
+byte_in None byte = None
+
+-- what stands on a cartridge
+abbrev pub tape_of : Cartridge → Tape
+tape_of c part pos byte = byte_in (slice_get (items_of part c) pos) byte
 
 -- the byte of an extent with this number
 abbrev pub cell_of : Tape → ℕ → Extent → ℕ → Cell

@@ -1,6 +1,9 @@
 ghost use Rattle.std.specs.Prelude.{◌≡◌, ℕ, ◌+◌, ◌^◌, ◌<◌, ◌≤◌, [], OnOk, IfOk};
+ghost use Rattle.std.specs.List.{All, flat_map};
+ghost use Rattle.plain_tree.specs.Cells as plain;
 ghost use Rattle.extent_map.specs.Laid.{IsLaid, overlaid, resized};
-ghost use Rattle.extent_map.specs.Pieces.{planned};
+ghost use Rattle.extent_map.specs.Cells.{Tape, cells_of, file_cells};
+ghost use Rattle.extent_map.specs.Pieces.{planned, read_piece, IsInOneBlock};
 
 use crate::edits::{begun_by, cut_off, ended_by, part, put};
 use crate::pieces::{Piece, push_range};
@@ -56,7 +59,9 @@ impl Extents {
         requires fits { new.offset + new.count ≤ 2 ^ 40 }
         requires byte { new.byte < self.old.laid.block_size }
         requires block { new.block ≤ 2 ^ 62 }
-        ensures { self.new.laid ≡ overlaid self.old.laid new }
+        ensures extents { self.new.laid ≡ overlaid self.old.laid new }
+        ensures laid { IsLaid self.new.laid }
+        ensures bytes { (tape : Tape) → file_cells tape self.new.laid ≡ plain.written (file_cells tape self.old.laid) new.offset (cells_of tape self.old.laid.block_size new) }
     {
         put(&mut self.extents, new, self.block_size);
         self.length = self.length.max(new.offset + new.count);
@@ -65,10 +70,19 @@ impl Extents {
     /// Cuts the file, or makes it longer by bytes that are 0. Takes no memory.
     pub fn set_length(&mut self, length: u64)
         requires { length ≤ 2 ^ 40 }
-        ensures { self.new.laid ≡ resized self.old.laid length }
+        ensures extents { self.new.laid ≡ resized self.old.laid length }
+        ensures laid { IsLaid self.new.laid }
+        ensures bytes { (tape : Tape) → file_cells tape self.new.laid ≡ plain.resized (file_cells tape self.old.laid) length }
     {
         cut_off(&mut self.extents, length);
         self.length = length;
+    }
+
+    /// How many bytes a block of the volume has.
+    pub fn block_size(&self) -> u32
+        ensures { result ≡ self.now.laid.block_size }
+    {
+        self.block_size
     }
 
     /// In bytes.
@@ -89,7 +103,9 @@ impl Extents {
     /// What lies in a range of the file, piece by piece.
     pub fn plan(&self, alloc: Global, offset: u64, count: u64) -> Result<List<Piece>, NoMemory>
         requires { offset + count ≤ self.now.laid.length }
-        ensures { IfOk result (λ pieces. pieces ≡ planned self.now.laid offset count) }
+        ensures pieces { IfOk result (λ pieces. pieces ≡ planned self.now.laid offset count) }
+        ensures blocks { IfOk result (All (IsInOneBlock self.now.laid.block_size)) }
+        ensures bytes { IfOk result (λ pieces. (tape : Tape) → flat_map (read_piece tape) pieces ≡ plain.range_of (file_cells tape self.now.laid) offset count) }
     {
         let first = ended_by(&self.extents, offset);
         let end = offset + count;

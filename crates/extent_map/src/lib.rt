@@ -5,6 +5,8 @@ mod edits;
 mod extents;
 mod laws;
 mod pieces;
+#[cfg(test)]
+mod tests;
 
 pub use extents::Extents;
 pub use laws::{

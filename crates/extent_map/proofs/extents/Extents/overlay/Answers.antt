@@ -1,7 +1,9 @@
-use Rattle.std.proofs.Common.{ℕ, ◌≡◌, ◌<◌, ◌^◌, List, sym, ap, subst, arith}
-use Rattle.tape_types.specs.declared.cartridges.Extent.{Extent}
-use Rattle.extent_map.specs.Laid.{Laid, Room, IsLaid, overlaid}
-use Rattle.extent_map.proofs.LaidLemmas.{overlaid_laid, laid_raise}
+use Rattle.std.proofs.Common.{◌≡◌, ◌<◌, ◌^◌, sym, ap, ◌∙◌, subst, arith}
+use Rattle.plain_tree.specs.Cells as plain
+use Rattle.extent_map.specs.Laid.{Room, IsLaid}
+use Rattle.extent_map.specs.Cells.{cells_of, file_cells}
+use Rattle.extent_map.proofs.LaidLemmas.{laid_as, overlaid_is, overlaid_laid, laid_raise}
+use Rattle.extent_map.proofs.LawLemmas.{overlays_write}
 use Rattle.extent_map.proofs.extents.Extents.overlay.Goals as goal
 
 pub put-requires-clause-laid : goal.put-requires-clause-laid
@@ -12,9 +14,19 @@ put-requires-clause-laid c =
 pub invariant_of-self : goal.invariant_of-self
 invariant_of-self c =
     let f = c.self.inside in
-    let old : Laid = record { block_size = f.block_size; length = f.length; extents = f.extents.items } in
+    let new = c.args.new in
     let size : f.block_size ≡ c.args.self.now.laid.block_size = ap (λ (r : Room). r.laid.block_size) c.self.view_is in
-    let byte : c.args.new.byte < f.block_size = omega (arith, c.requires.byte) in
-    subst (λ (l : List Extent). IsLaid (record { block_size = f.block_size; length = c.max-self-inside.result; extents = l })) (sym c.put.ensures)
-    (subst (λ (n : ℕ). IsLaid (record { block_size = f.block_size; length = n; extents = (overlaid old c.args.new).extents })) (sym c.max-self-inside.ensures)
-    (overlaid_laid old c.args.new c.self.invariant c.requires.some c.requires.fits byte c.requires.block))
+    let byte : new.byte < f.block_size = omega (arith, c.requires.byte) in
+    subst IsLaid (sym (overlaid_is f.block_size f.length c.max-self-inside.result f.extents.items c.put.new.extents.items new c.put.ensures c.max-self-inside.ensures))
+    (overlaid_laid (laid_as f.block_size f.length f.extents.items) new c.self.invariant c.requires.some c.requires.fits byte c.requires.block)
+
+pub returns-clause-laid : goal.returns-clause-laid
+returns-clause-laid c = invariant_of-self c
+
+pub returns-clause-bytes : goal.returns-clause-bytes
+returns-clause-bytes c = λ tape.
+    let f = c.self.inside in
+    let new = c.args.new in
+    ap (file_cells tape) (overlaid_is f.block_size f.length c.max-self-inside.result f.extents.items c.put.new.extents.items new c.put.ensures c.max-self-inside.ensures)
+    ∙ overlays_write tape (laid_as f.block_size f.length f.extents.items) new c.self.invariant
+    ∙ ap (λ (r : Room). plain.written (file_cells tape r.laid) new.offset (cells_of tape r.laid.block_size new)) c.self.view_is

@@ -1,7 +1,9 @@
-use Rattle.std.proofs.Common.{◌^◌, List, sym, subst}
-use Rattle.tape_types.specs.declared.cartridges.Extent.{Extent}
-use Rattle.extent_map.specs.Laid.{IsLaid}
-use Rattle.extent_map.proofs.LaidLemmas.{resized_laid, laid_raise}
+use Rattle.std.proofs.Common.{◌^◌, sym, ap, ◌∙◌, subst}
+use Rattle.plain_tree.specs.Cells as plain
+use Rattle.extent_map.specs.Laid.{Room, IsLaid}
+use Rattle.extent_map.specs.Cells.{file_cells}
+use Rattle.extent_map.proofs.LaidLemmas.{laid_as, resized_laid, laid_raise}
+use Rattle.extent_map.proofs.LawLemmas.{lengths_truncate}
 use Rattle.extent_map.proofs.extents.Extents.set_length.Goals as goal
 
 pub cut_off-requires : goal.cut_off-requires
@@ -12,5 +14,14 @@ cut_off-requires c =
 pub invariant_of-self : goal.invariant_of-self
 invariant_of-self c =
     let f = c.self.inside in
-    subst (λ (l : List Extent). IsLaid (record { block_size = f.block_size; length = c.args.length; extents = l })) (sym c.cut_off.ensures)
-    (resized_laid (record { block_size = f.block_size; length = f.length; extents = f.extents.items }) c.args.length c.self.invariant c.requires)
+    subst IsLaid (sym (ap (laid_as f.block_size c.args.length) c.cut_off.ensures)) (resized_laid (laid_as f.block_size f.length f.extents.items) c.args.length c.self.invariant c.requires)
+
+pub returns-clause-laid : goal.returns-clause-laid
+returns-clause-laid c = invariant_of-self c
+
+pub returns-clause-bytes : goal.returns-clause-bytes
+returns-clause-bytes c = λ tape.
+    let f = c.self.inside in
+    ap (λ es. file_cells tape (laid_as f.block_size c.args.length es)) c.cut_off.ensures
+    ∙ lengths_truncate tape (laid_as f.block_size f.length f.extents.items) c.args.length c.self.invariant
+    ∙ ap (λ (r : Room). plain.resized (file_cells tape r.laid) c.args.length) c.self.view_is
