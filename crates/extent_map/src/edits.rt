@@ -1,4 +1,4 @@
-ghost use Rattle.std.specs.Prelude.{◌≡◌, ℕ, ◌+◌, ◌-◌, ◌^◌, ◌<◌, ◌≤◌, true, false, nat_le, nat_lt, take, drop, replicate, ◌∷◌, ◌++◌, length, IsSome, vec_len, vec_capacity};
+ghost use Rattle.std.specs.Prelude.{◌≡◌, ℕ, ◌+◌, ◌-◌, ◌^◌, ◌<◌, ◌≤◌, true, false, nat_le, nat_lt, take, drop, [], ◌∷◌, ◌++◌, length, IsSome, vec_len, vec_capacity};
 ghost use Rattle.std.specs.List.{flat_map, All};
 ghost use Rattle.std.specs.List.Sorted.{IsPartitionedBy, IsPartitionPoint};
 ghost use Rattle.std.specs.Option.{option_to_list};
@@ -121,32 +121,45 @@ fn put_between(
     ensures { extents.new.items ≡ take first extents.old.items ++ option_to_list front ++ new ∷ drop last extents.old.items }
 {
     match front {
-        None => {
-            make_gap(extents, first, last, 1, new);
-        }
+        None => put_over(extents, first, last, new),
         Some(part) => {
-            make_gap(extents, first, last, 2, new);
-            extents[first] = part;
+            let last = put_one(extents, first, last, part);
+            put_over(extents, first + 1, last, new);
         }
     }
 }
 
-/// Puts `count` times the same extent in place of those from one place up to another.
-fn make_gap(extents: &mut Vec<Extent>, first: usize, last: usize, count: usize, filler: Extent)
+/// Puts an extent in place of those from one place up to another.
+fn put_over(extents: &mut Vec<Extent>, first: usize, last: usize, new: Extent)
     requires order { first ≤ last }
     requires within { last ≤ vec_len extents.old }
-    requires some { 1 ≤ count }
-    requires room { vec_len extents.old + count ≤ vec_capacity extents.old }
-    ensures { extents.new.items ≡ take first extents.old.items ++ replicate count filler ++ drop last extents.old.items }
+    requires room { vec_len extents.old < vec_capacity extents.old }
+    ensures { extents.new.items ≡ take first extents.old.items ++ new ∷ drop last extents.old.items }
 {
-    let length = extents.len();
-    let size = length - (last - first) + count;
-    if extents.resize(length.max(size), filler).is_err() {
+    let last = put_one(extents, first, last, new);
+    drop(extents.drain(first + 1..last));
+}
+
+/// Puts an extent in place of the first of those from one place up to another, or before `last` where there are none.
+/// Gives the place up to which those that are left go then.
+fn put_one(extents: &mut Vec<Extent>, first: usize, last: usize, new: Extent) -> usize
+    requires order { first ≤ last }
+    requires within { last ≤ vec_len extents.old }
+    requires room { vec_len extents.old < vec_capacity extents.old }
+    ensures front { take (first + 1) extents.new.items ≡ take first extents.old.items ++ new ∷ [] }
+    ensures back { drop result extents.new.items ≡ drop last extents.old.items }
+    ensures order { first < result }
+    ensures within { result ≤ vec_len extents.new }
+    ensures room { (vec_capacity extents.old ≤ vec_capacity extents.new) × (vec_len extents.new ≤ vec_len extents.old + 1) }
+{
+    if first < last {
+        extents[first] = new;
+        return last;
+    }
+    if extents.insert(first, new).is_err() {
         unreachable!();
     }
-    extents.copy_within(last..length, first + count);
-    extents.truncate(size);
-    extents[first..first + count].fill(filler);
+    last + 1
 }
 
 /// Leaves the first extents alone, and behind them what `front` has.
