@@ -4,7 +4,7 @@ use Rattle.std.specs.List.{flat_map, All}
 use Rattle.std.specs.List.Sorted.{IsPartitionedBy, IsPartitionPoint}
 use Rattle.std.proofs.lemmas.Bool.{cases_lt, leb-true, ltb-true}
 use Rattle.std.proofs.lemmas.Bool.Decides.{nat_tests}
-use Rattle.std.proofs.lemmas.List.{get_or-drop, length-drop, length-take-le, drop_all, set_split, take-take, length_push, take_at, drop_at, take-append-le}
+use Rattle.std.proofs.lemmas.List.{set_at, get_or-drop, length-drop, length-take-le, drop_all, set_split, take-take, drop_at, take-append-le}
 use Rattle.std.proofs.lemmas.List.Concat.{flat_map-append}
 use Rattle.std.proofs.lemmas.List.Elements.{All-take, All-drop, All-same}
 use Rattle.tape_types.specs.declared.cartridges.Extent.{Extent}
@@ -117,16 +117,9 @@ kept old k e lt =
     let none : drop (suc k) (take (k + 1) old) ≡ [] = drop_all (suc k) (take (k + 1) old) (omega arith) in
     set_split (take (k + 1) old) k e (omega arith) ∙ ap (λ l. l ++ e ∷ drop (suc k) (take (k + 1) old)) (take-take k (k + 1) old (omega arith)) ∙ ap (λ l. take k old ++ e ∷ l) none
 
--- after an insert at k
-module _ (old : List Extent) (k : ℕ) (e : Extent) (within : k ≤ length old) where
-  long_front : length (take k old ++ e ∷ []) ≡ k + 1
-  long_front = length_push (take k old) e ∙ ap (λ n. n + 1) (length-take-le k old within)
-
-  pub inserted_front : take (k + 1) (take k old ++ e ∷ drop k old) ≡ take k old ++ e ∷ []
-  inserted_front = ap (take (k + 1)) (sym (append_assoc (take k old) (e ∷ []) (drop k old))) ∙ take_at (take k old ++ e ∷ []) (drop k old) (k + 1) long_front
-
-  pub inserted_back : drop (k + 1) (take k old ++ e ∷ drop k old) ≡ drop k old
-  inserted_back = ap (drop (k + 1)) (sym (append_assoc (take k old) (e ∷ []) (drop k old))) ∙ drop_at (take k old ++ e ∷ []) (drop k old) (k + 1) long_front
+pub put_first : (xs ys : List Extent) (e new : Extent) (k : ℕ) → length xs ≡ k → set (xs ++ (new ∷ new ∷ []) ++ ys) k e ≡ xs ++ e ∷ [] ++ new ∷ ys
+put_first xs ys e new k long =
+    ap (λ l. set l k e) (append_assoc xs (new ∷ new ∷ []) ys) ∙ set_at xs new (new ∷ ys) e k long ∙ sym (append_assoc xs (e ∷ []) (new ∷ ys))
 
 pub put_list : (size low high : ℕ) (es : List Extent) (from end first last : ℕ) (front : List Extent) (new : Extent) (after begun : List Extent)
     → AreLaid size low high es → IsPlace from es first → first ≤ last → last ≤ length es

@@ -1,4 +1,4 @@
-ghost use Rattle.std.specs.Prelude.{◌≡◌, ℕ, ◌+◌, ◌-◌, ◌^◌, ◌<◌, ◌≤◌, true, false, nat_le, nat_lt, take, drop, [], ◌∷◌, ◌++◌, length, IsSome, vec_len, vec_capacity};
+ghost use Rattle.std.specs.Prelude.{◌≡◌, ℕ, ◌+◌, ◌-◌, ◌^◌, ◌<◌, ◌≤◌, true, false, nat_le, nat_lt, take, drop, replicate, ◌∷◌, ◌++◌, length, IsSome, vec_len, vec_capacity};
 ghost use Rattle.std.specs.List.{flat_map, All};
 ghost use Rattle.std.specs.List.Sorted.{IsPartitionedBy, IsPartitionPoint};
 ghost use Rattle.std.specs.Option.{option_to_list};
@@ -121,45 +121,44 @@ fn put_between(
     ensures { extents.new.items ≡ take first extents.old.items ++ option_to_list front ++ new ∷ drop last extents.old.items }
 {
     match front {
-        None => put_over(extents, first, last, new),
+        None => make_gap(extents, first, last, 1, new),
         Some(part) => {
-            let last = put_one(extents, first, last, part);
-            put_over(extents, first + 1, last, new);
+            make_gap(extents, first, last, 2, new);
+            extents[first] = part;
         }
     }
 }
 
-/// Puts an extent in place of those from one place up to another.
-fn put_over(extents: &mut Vec<Extent>, first: usize, last: usize, new: Extent)
+/// Puts `count` times the same extent in place of those from one place up to another.
+fn make_gap(extents: &mut Vec<Extent>, first: usize, last: usize, count: usize, filler: Extent)
     requires order { first ≤ last }
     requires within { last ≤ vec_len extents.old }
-    requires room { vec_len extents.old < vec_capacity extents.old }
-    ensures { extents.new.items ≡ take first extents.old.items ++ new ∷ drop last extents.old.items }
+    requires some { 1 ≤ count }
+    requires room { vec_len extents.old + count ≤ vec_capacity extents.old }
+    ensures { extents.new.items ≡ take first extents.old.items ++ replicate count filler ++ drop last extents.old.items }
 {
-    let last = put_one(extents, first, last, new);
-    drop(extents.drain(first + 1..last));
+    move_rest(extents, last, first + count, filler);
+    extents[first..first + count].fill(filler);
 }
 
-/// Puts an extent in place of the first of those from one place up to another, or before `last` where there are none.
-/// Gives the place up to which those that are left go then.
-fn put_one(extents: &mut Vec<Extent>, first: usize, last: usize, new: Extent) -> usize
-    requires order { first ≤ last }
-    requires within { last ≤ vec_len extents.old }
-    requires room { vec_len extents.old < vec_capacity extents.old }
-    ensures front { take (first + 1) extents.new.items ≡ take first extents.old.items ++ new ∷ [] }
-    ensures back { drop result extents.new.items ≡ drop last extents.old.items }
-    ensures order { first < result }
-    ensures within { result ≤ vec_len extents.new }
-    ensures room { (vec_capacity extents.old ≤ vec_capacity extents.new) × (vec_len extents.new ≤ vec_len extents.old + 1) }
+/// Moves the extents from a place on to another place. What lies between is any extents, `filler` among them.
+fn move_rest(extents: &mut Vec<Extent>, from: usize, to: usize, filler: Extent)
+    requires within { from ≤ vec_len extents.old }
+    requires room { vec_len extents.old + (to - from) ≤ vec_capacity extents.old }
+    ensures head { (n : ℕ) → n ≤ from → n ≤ to → take n extents.new.items ≡ take n extents.old.items }
+    ensures rest { drop to extents.new.items ≡ drop from extents.old.items }
+    ensures len { vec_len extents.new + from ≡ vec_len extents.old + to }
 {
-    if first < last {
-        extents[first] = new;
-        return last;
+    if from == to {
+        return;
     }
-    if extents.insert(first, new).is_err() {
+    let length = extents.len();
+    let size = length - from + to;
+    if extents.resize(length.max(size), filler).is_err() {
         unreachable!();
     }
-    last + 1
+    extents.copy_within(from..length, to);
+    extents.truncate(size);
 }
 
 /// Leaves the first extents alone, and behind them what `front` has.
