@@ -1,0 +1,6 @@
+pub mod CellLemmas
+pub mod LaidLemmas
+pub mod LawLemmas
+pub mod PieceLemmas
+pub mod PlaceLemmas
+pub mod TakenLemmas

@@ -1,0 +1,4 @@
+pub mod Cells
+pub mod Laid
+pub mod Laws
+pub mod Pieces

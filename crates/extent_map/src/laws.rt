@@ -1,0 +1,26 @@
+ghost use Rattle.extent_map.specs.Laws.{OverlaysWrite, LengthsTruncate, OldBytesStayAway, PlansRead, OverlaysTakeOut};
+
+/// An overlay writes the bytes of the new extent into the file, whatever stands on tape.
+pub fn overlays_write()
+    ensures { OverlaysWrite }
+{}
+
+/// A new length truncates the file.
+pub fn lengths_truncate()
+    ensures { LengthsTruncate }
+{}
+
+/// What was cut off never comes back.
+pub fn old_bytes_stay_away()
+    ensures { OldBytesStayAway }
+{}
+
+/// The pieces of a range read its bytes, each within a block.
+pub fn plans_read()
+    ensures { PlansRead }
+{}
+
+/// An overlay takes its range out of each extent, and puts the new one among what is left.
+pub fn overlays_take_out()
+    ensures { OverlaysTakeOut }
+{}

@@ -1,0 +1,15 @@
+//! How the bytes of a file lie on tape: its extents (LTFS 2.4 on data extents).
+#![tactic(auto)]
+
+mod edits;
+mod extents;
+mod laws;
+mod pieces;
+#[cfg(test)]
+mod tests;
+
+pub use extents::Extents;
+pub use laws::{
+    lengths_truncate, old_bytes_stay_away, overlays_take_out, overlays_write, plans_read,
+};
+pub use pieces::Piece;
