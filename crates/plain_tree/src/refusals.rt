@@ -1,11 +1,12 @@
 ghost use Rattle.std.specs.Prelude.{◌≡◌, ◌<◌, length, IfOk};
 ghost use Rattle.plain_tree.specs.Refusals.{bad_name, why_missing, no_node, no_dir, no_file};
-ghost use Rattle.plain_tree.specs.Fronts.{IsLongestFront};
+ghost use Rattle.plain_tree.specs.Fronts.{IsLongestFront, missing_below};
 ghost use Rattle.plain_tree.specs.Valid.{AreValid};
 
 use crate::calls::Refusal;
 use crate::node_map::NodeMap;
 use crate::nodes::Kind;
+use crate::paths::parent;
 use std::alloc::Global;
 use tape_types::{NameErr, NoMemory, Text, check_name};
 
@@ -23,7 +24,7 @@ pub fn bad_name(alloc: Global, path: &[Text]) -> Result<Option<Refusal>, NoMemor
     }
 }
 
-/// Why a path that isn't there isn't: its longest front that is there decides.
+/// Why a path that isn't there isn't: its longest front that is there decides. Mostly that is the parent.
 pub fn why_missing(nodes: &NodeMap, path: &[Text]) -> Refusal
     requires { AreValid nodes.now }
     ensures { result ≡ why_missing nodes.now path.now (length path.now) }
@@ -31,10 +32,20 @@ pub fn why_missing(nodes: &NodeMap, path: &[Text]) -> Refusal
     if path.is_empty() {
         return Refusal::NotFound;
     }
+    if let Some(node) = nodes.get(parent(path)) {
+        return missing_below(&node.kind);
+    }
     let Some(node) = nodes.get(&path[..longest_front(nodes, path)]) else {
         unreachable!();
     };
-    match &node.kind {
+    missing_below(&node.kind)
+}
+
+/// Why a path isn't there, of which nothing stands below this node.
+fn missing_below(kind: &Kind) -> Refusal
+    ensures { result ≡ missing_below kind.now }
+{
+    match kind {
         Kind::Dir => Refusal::NotFound,
         Kind::File(_) | Kind::Link(_) => Refusal::NotDir,
     }
