@@ -7,9 +7,8 @@ use Rattle.std.proofs.lemmas.List.{length-take-le}
 use Rattle.plain_tree.specs.declared.nodes.Node.{Node}
 use Rattle.plain_tree.specs.declared.nodes.Kind.{Kind}
 use Rattle.plain_tree.specs.declared.nodes.Kind.TheVariants as kinds
-use Rattle.plain_tree.specs.Fronts.{IsLongestFront, missing_below}
-use Rattle.plain_tree.specs.Paths.{is_at_or_below, parent_of}
-use Rattle.plain_tree.specs.Refusals.{why_missing}
+use Rattle.plain_tree.specs.Paths.{is_at_or_below}
+use Rattle.plain_tree.specs.Refusals.{why_missing, missing_below}
 use Rattle.plain_tree.specs.Tree.{Nodes}
 use Rattle.plain_tree.specs.Valid.{AreValid}
 use Rattle.plain_tree.proofs.MoveLemmas.{below_Decides}
@@ -54,15 +53,7 @@ found_node nodes path k node is = by node.kind refl
     by (kinds.File cells) e = rw (is, e) refl
     by (kinds.Link text) e = rw (is, e) refl
 
-pub front_decides : (nodes : Nodes) (path : List (List ℕ)) (k : ℕ) (node : Node) → IsLongestFront nodes path k (length path) → fin.get nodes (take k path) ≡ Some node
+-- the longest front that is there says why the path isn't
+pub front_decides : (nodes : Nodes) (path : List (List ℕ)) (k : ℕ) (node : Node) → k < length path → fin.get nodes (take k path) ≡ Some node → ((m : ℕ) → k < m → m < length path → fin.get nodes (take m path) ≡ None)
     → missing_below node.kind ≡ why_missing nodes path (length path)
-front_decides nodes path k node front is = found_node nodes path k node is ∙ sym (longest_decides nodes path k (length path) front.shorter front.longest)
-
--- the parent, where it is there, is the longest front
-pub parent_decides : (nodes : Nodes) (path : List (List ℕ)) (node : Node) → 0 < length path → fin.get nodes (parent_of path) ≡ Some node
-    → missing_below node.kind ≡ why_missing nodes path (length path)
-parent_decides nodes path node some is = front_decides nodes path (length path - 1) node (record {
-  shorter = omega arith;
-  there = ap is_some is;
-  longest = λ m from below. absurd (omega arith);
-}) is
+front_decides nodes path k node shorter is longest = found_node nodes path k node is ∙ sym (longest_decides nodes path k (length path) shorter longest)

@@ -10,9 +10,8 @@ use Rattle.plain_tree.specs.declared.nodes.Kind.TheVariants as kinds
 use Rattle.plain_tree.specs.declared.calls.Entry.{Entry}
 use Rattle.plain_tree.specs.declared.calls.Refusal.{Refusal}
 use Rattle.plain_tree.specs.declared.links.Links.{Links}
-use Rattle.plain_tree.specs.Fronts.{missing_below}
 use Rattle.plain_tree.specs.Paths.{path_cmp, parent_of, is_at_or_below}
-use Rattle.plain_tree.specs.Refusals.{why_missing}
+use Rattle.plain_tree.specs.Refusals.{missing_below}
 use Rattle.plain_tree.specs.Tree.{Nodes, entries_in, changed_at, moved, new_node, empty_tree}
 use Rattle.plain_tree.specs.Valid.{mark_of, mark_at, AreValid}
 use Rattle.plain_tree.specs.Links.{child, walk, name_cmp, lines_of, IsPut, IsMovedTo, IsSame, IsLast}
@@ -220,11 +219,7 @@ module _ (root : Node) (links : Links) (count : ℕ) (m : Nodes) (was : Next roo
       let longer : (n : ℕ) → is.names + 1 ≤ n → n ≤ length path → fin.get m (take n path) ≡ None = λ n le within. missing_longer m path (is.names + 1) n was.kept.valid (ap is_some gone) le within in
       record {
         none = ap (fin.get m) (sym (take_all (length path) path (omega arith))) ∙ longer (length path) (omega (arith, is.shorter)) (omega arith);
-        reason = by ∙ front_decides m path is.names last (record {
-          shorter = is.shorter;
-          there = ap is_some there;
-          longest = λ n from below. longer n (omega arith) (omega arith);
-        }) there;
+        reason = by ∙ front_decides m path is.names last is.shorter there (λ n from below. longer n (omega arith) (omega arith));
       }
 
 pub no_names : (p : List (List ℕ)) → length p ≡ 0 → p ≡ []

@@ -1,18 +1,16 @@
 -- What stands in directories after changes of the maps of their names, and where paths lead.
-use Rattle.std.proofs.Common.{◌≡◌, ℕ, suc, ◌+◌, ◌<◌, Bool, true, false, cond, List, [], ◌∷◌, ◌++◌, length, take, map, get_or, Option, Some, None, IsSome, is_some, Result, Ok, Err, OnOk, OnErr, sym, ap, ◌∙◌, refl, subst, arith}
-use Rattle.std.specs.declared.cmp.Ordering.{Ordering}
+use Rattle.std.proofs.Common.{◌≡◌, ℕ, ◌+◌, ◌<◌, true, false, List, [], ◌∷◌, ◌++◌, length, take, map, get_or, Option, Some, None, IsSome, is_some, Result, Ok, Err, OnOk, OnErr, sym, ap, ◌∙◌, refl, subst}
 use Rattle.std.specs.declared.cmp.Ordering.TheVariants.{Less, Equal, Greater}
 use Rattle.std.specs.Ordering.{is_eq, nat_cmp}
 use Rattle.std.specs.Option.{option_map}
-use Rattle.std.specs.BTreeMap.{BTreeMap, get, UpdatesBy, Updates, IsEmpty}
+use Rattle.std.specs.BTreeMap.{BTreeMap, get, Updates, IsEmpty}
 use Rattle.std.specs.Map.{keys_of}
 use Rattle.std.specs.List.Sorted.{IsStrictlySortedBy}
 use Rattle.std.specs.FinMap as fin
 use Rattle.std.proofs.lemmas.List.{take_more}
 use Rattle.plain_tree.specs.declared.nodes.Node.{Node}
 use Rattle.plain_tree.specs.declared.calls.Entry.{Entry}
-use Rattle.plain_tree.specs.declared.links.Links.{Links}
-use Rattle.plain_tree.specs.Links.{Child, Names, name_cmp, under, child, walk, lines, line_of, IsPut, IsPutIn, IsMovedTo, IsSame}
+use Rattle.plain_tree.specs.Links.{Child, Names, name_cmp, under, child, walk, lines, line_of, IsPut, IsPutIn, IsMovedTo}
 
 pub name_exact : fin.IsAntisymmetric name_cmp
 name_exact = fin.slice_cmp-IsAntisymmetric fin.nat_cmp-IsAntisymmetric

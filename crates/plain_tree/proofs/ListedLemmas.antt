@@ -1,8 +1,7 @@
 -- The lines that links show of a directory are those of the map's listing.
-use Rattle.std.proofs.Common.{Option, ◌≡◌, ℕ, T, Bool, true, false, cond, ◌&&◌, List, [], ◌∷◌, ◌++◌, map, Some, None, sym, ap, ◌∙◌, refl, subst}
-use Rattle.std.specs.declared.cmp.Ordering.{Ordering}
-use Rattle.std.specs.declared.cmp.Ordering.TheVariants.{Less, Equal, Greater}
-use Rattle.std.specs.Ordering.{is_eq, is_lt, nat_cmp}
+use Rattle.std.proofs.Common.{Option, ◌≡◌, ℕ, T, Bool, true, false, cond, ◌&&◌, List, [], ◌∷◌, ◌++◌, map, Some, None, sym, ap, ◌∙◌, refl}
+use Rattle.std.specs.declared.cmp.Ordering.TheVariants.{Less}
+use Rattle.std.specs.Ordering.{is_eq, is_lt}
 use Rattle.std.specs.Option.{option_map}
 use Rattle.std.specs.List.{filter_map, cons_option, AllByRecursion}
 use Rattle.std.specs.List.Sorted.{IsStrictlySortedBy}
@@ -84,6 +83,6 @@ is_T false e = cc
 pub listed_same : (o : Option Names) (m : Nodes) (dir : List (List ℕ)) → IsStrictlySortedBy name_cmp (map (λ (e : Entry). e.name) (lines o)) → ((name : List ℕ) → fin.get m (dir ++ name ∷ []) ≡ under o name) → lines o ≡ entries_in m dir
 listed_same o m dir ascend same =
     let one : pairs (lines o) ≡ pairs (entries_in m dir) = fin.Entries.same_entries name_cmp nat_list_cmp_total name_exact (pairs (lines o)) (pairs (entries_in m dir))
-        (is_T _ (sorted_pairs (lines o) ascend)) (is_T _ (sorted_pairs (entries_in m dir) (exact m dir).ascends))
-        (λ q. found_line o q ∙ ap sort_at (sym (same q) ∙ fin.get-entries m (dir ++ q ∷ [])) ∙ sym (found_entry (fin.entries m) dir q)) in
+    (is_T _ (sorted_pairs (lines o) ascend)) (is_T _ (sorted_pairs (entries_in m dir) (exact m dir).ascends))
+    (λ q. found_line o q ∙ ap sort_at (sym (same q) ∙ fin.get-entries m (dir ++ q ∷ [])) ∙ sym (found_entry (fin.entries m) dir q)) in
     sym (unpaired (lines o)) ∙ ap (map (λ (p : List ℕ × Sort). record { sort = p.1; name = p.0 })) one ∙ unpaired (entries_in m dir)

@@ -21,8 +21,7 @@ use Rattle.plain_tree.specs.Tree.{Tree, Nodes, sort_of, entry_in, entries_in}
 use Rattle.plain_tree.specs.Refusals.{no_dir}
 use Rattle.plain_tree.specs.Calls.{answer, answer_unless}
 use Rattle.plain_tree.specs.Laws.{IsExactListing}
-use Rattle.plain_tree.proofs.BelowLemmas.{both_true}
-use Rattle.plain_tree.proofs.MoveLemmas.{same_is, same_self, not_true, below_split, below_join, none_above}
+use Rattle.plain_tree.proofs.MoveLemmas.{both_true, same_is, same_self, not_true, below_split, below_join, none_above}
 
 abbrev Row : Type 0
 Row = List (List ℕ) × Node

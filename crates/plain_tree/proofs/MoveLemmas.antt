@@ -1,5 +1,5 @@
 -- What moving a node with all below it does to each path.
-use Rattle.std.proofs.Common.{Option, IsSome, ◌≡◌, ℕ, zero, suc, ◌+◌, ◌<◌, Bool, true, false, cond, ◌&&◌, ◌||◌, List, [], ◌∷◌, ◌++◌, length, take, drop, map, fold, get_or, Some, None, is_some, sym, ap, ◌∙◌, refl, subst, T, arith, Decides}
+use Rattle.std.proofs.Common.{Option, ◌≡◌, ℕ, Bool, true, false, cond, ◌&&◌, ◌||◌, List, [], ◌∷◌, ◌++◌, length, take, drop, map, Some, None, is_some, sym, ap, ◌∙◌, refl, subst, Decides}
 use Rattle.std.specs.declared.cmp.Ordering.{Ordering}
 use Rattle.std.specs.declared.cmp.Ordering.TheVariants.{Less, Equal, Greater}
 use Rattle.std.specs.Ordering.{is_eq, is_lt}
@@ -10,10 +10,13 @@ use Rattle.std.proofs.lemmas.List.{take-append-drop, take_at, drop_at}
 use Rattle.std.specs.List.{list_any}
 use Rattle.std.specs.FinMap as fin
 use Rattle.plain_tree.specs.declared.nodes.Node.{Node}
-use Rattle.plain_tree.specs.Paths.{path_cmp, nodes_of, same_path, is_at_or_below, moved_path}
-use Rattle.plain_tree.specs.Tree.{Nodes, changed_at, moved}
+use Rattle.plain_tree.specs.Paths.{path_cmp, same_path, is_at_or_below, moved_path}
+use Rattle.plain_tree.specs.Tree.{Nodes, moved}
 use Rattle.plain_tree.proofs.NodeLemmas.{path_total, path_exact, tied}
-use Rattle.plain_tree.proofs.BelowLemmas.{both_true}
+
+pub both_true : (a b : Bool) → (a && b) ≡ true → (a ≡ true) × (b ≡ true)
+both_true true b e = (refl, e)
+both_true false b e = cc
 
 -- paths, tested and compared
 pub same_is : (x y : List (List ℕ)) → same_path x y ≡ true → x ≡ y

@@ -1,10 +1,10 @@
 -- The map that a tree of links shows, after each change of the links.
-use Rattle.std.proofs.Common.{Option, IsSome, ◌≡◌, ◌≢◌, ℕ, suc, ◌+◌, ◌-◌, ◌<◌, ◌≤◌, Bool, true, false, cond, List, [], ◌∷◌, ◌++◌, length, take, drop, Some, None, is_some, sym, ap, ◌∙◌, refl, subst, arith, ⊎_elim}
+use Rattle.std.proofs.Common.{Option, ◌≡◌, ◌≢◌, ℕ, suc, ◌+◌, ◌<◌, ◌≤◌, true, false, cond, List, [], ◌∷◌, ◌++◌, length, take, drop, Some, None, is_some, sym, ap, ◌∙◌, refl, subst, arith, ⊎_elim}
 use Rattle.std.specs.FinMap as fin
 use Rattle.std.proofs.lemmas.List.{append-nil, length-append, drop_at, take-take}
 use Rattle.std.proofs.lemmas.Bool.{cases_lt}
 use Rattle.plain_tree.specs.declared.nodes.Node.{Node}
-use Rattle.plain_tree.specs.Paths.{path_cmp, same_path, is_at_or_below, parent_of}
+use Rattle.plain_tree.specs.Paths.{same_path, is_at_or_below}
 use Rattle.plain_tree.specs.Tree.{Nodes, moved}
 use Rattle.plain_tree.specs.Valid.{mark_of, is_dir, AreValid}
 use Rattle.plain_tree.specs.Links.{Child, walk, IsPut, IsMovedTo, IsSame}

@@ -1,9 +1,11 @@
 -- Each call leaves a valid tree valid.
-use Rattle.std.proofs.Common.{IsSome, ◌⊎◌, ◌^◌, ◌≡◌, ◌≢◌, ℕ, zero, suc, ◌+◌, ◌-◌, ◌<◌, ◌≤◌, Bool, true, false, cond, ◌&&◌, not, eqb, nat_lt, List, [], ◌∷◌, ◌++◌, length, take, drop, map, Option, Some, None, is_some, sym, ap, ◌∙◌, refl, subst, arith, ⊎_elim, inl, inr, lit≤, Result, Ok, Err, OnOk, OnErr}
+use Rattle.std.proofs.Common.{IsSome, ◌⊎◌, ◌^◌, ◌≡◌, ◌≢◌, ℕ, zero, suc, ◌+◌, ◌-◌, ◌<◌, ◌≤◌, Bool, true, false, cond, ◌&&◌, not, eqb, nat_lt, get_or, List, [], ◌∷◌, ◌++◌, length, take, drop, map, Option, Some, None, is_some, sym, ap, ◌∙◌, refl, subst, arith, ⊎_elim, inl, inr, lit≤, Result, Ok, Err, OnOk, OnErr}
 use Rattle.std.specs.declared.cmp.Ordering.{Ordering}
 use Rattle.std.specs.declared.cmp.Ordering.TheVariants.{Less, Equal, Greater}
 use Rattle.std.specs.Ordering.{is_eq}
 use Rattle.std.specs.List.{filter_map, cons_option}
+use Rattle.std.specs.Option.{option_map}
+use Rattle.std.proofs.lemmas.Option.{slice_get-get_or}
 use Rattle.std.specs.FinMap as fin
 use Rattle.std.proofs.lemmas.Bool.Decides.{nat_tests}
 use Rattle.std.proofs.lemmas.List.{length-take, length-drop, length-append, drop_at, take-take, take_all, drop-take, length-map}
@@ -22,14 +24,13 @@ use Rattle.plain_tree.specs.declared.calls.Refusal.TheVariants.{Root, Exists, No
 use Rattle.plain_tree.specs.declared.calls.Call.{Call}
 use Rattle.plain_tree.specs.declared.calls.Call.TheVariants.{Mkdir, Create, Write, Truncate, Read, Listing, Stat, Rename, Remove, Sync}
 use Rattle.plain_tree.specs.Cells.{Cell, written, resized}
-use Rattle.plain_tree.specs.Paths.{path_cmp, parent_of, same_path, is_at_or_below, is_below, moved_path}
-use Rattle.plain_tree.specs.Tree.{Tree, Nodes, empty_tree, new_node, changed_at, touch, touched, change_noted, file_changed, changed_by, moved, entry_in, entries_in, cells_at}
+use Rattle.plain_tree.specs.Paths.{path_cmp, name_in, last_name, parent_of, same_path, is_at_or_below, is_below, moved_path}
+use Rattle.plain_tree.specs.Tree.{Tree, sort_of, Nodes, empty_tree, new_node, changed_at, touch, touched, change_noted, file_changed, changed_by, moved, entry_in, entries_in, cells_at}
 use Rattle.plain_tree.specs.Refusals.{first_of, refuse_if, no_node, no_dir, exists_at, at_root, too_many, not_empty, bad_name, new_refusal, rename_refusal, refusal_of}
 use Rattle.plain_tree.specs.Calls.{with_new, with_bytes, with_length, with_rename, without, after, after_done, after_unless}
 use Rattle.plain_tree.specs.Valid.{is_dir, mark_of, mark_at, IsShape, AreValid, IsValid}
 use Rattle.plain_tree.specs.Seen.{CanStand, CanLeave, CanMove}
 use Rattle.plain_tree.proofs.NodeLemmas.{path_total, path_exact, changed_found, changed_missing}
-use Rattle.plain_tree.proofs.BelowLemmas.{one_entry}
 use Rattle.plain_tree.proofs.MoveLemmas.{same_is, is_same, below_split, below_join, below_Decides, not_true, back, back_below, get_moved}
 
 -- a shape goes by the marks alone
@@ -254,6 +255,15 @@ parent_missing m valid path some none =
 
 pub valid_free : (t : Tree) → IsValid t → (to : List (List ℕ)) → fin.get t.nodes to ≡ None → (p : List (List ℕ)) → is_at_or_below to p ≡ true → fin.get t.nodes p ≡ None
 valid_free t s to none p e = free_below t.nodes (fin.len t.nodes) t.highest s to none (length p - length to) p (omega (arith, below_length to p e)) e
+
+-- a path of one name more than a directory's, below it, is a line of its listing
+pub one_entry : (dir p : List (List ℕ)) (node : Node) (rest : List Entry) → is_at_or_below dir p ≡ true → length p ≡ length dir + 1 → true ≡ nat_lt 0 (length (cons_option (entry_in dir (p, node)) rest))
+one_entry dir p node rest is long =
+    let other : eqb (length p) (length dir) ≡ false = grind (arith, nat_tests) in
+    let one : eqb (length p) (length dir + 1) ≡ true = grind (arith, nat_tests) in
+    let test : (is_at_or_below dir p && not (eqb (length p) (length dir)) && eqb (length p) (length dir + 1)) ≡ true = ap (λ b. b && not (eqb (length p) (length dir)) && eqb (length p) (length dir + 1)) is ∙ ap (λ b. not b && eqb (length p) (length dir + 1)) other ∙ one in
+    let name : name_in dir p ≡ Some (get_or p (length p - 1) []) = ap (λ b. cond b (last_name p) None) test ∙ slice_get-get_or p (length p - 1) [] (omega arith) in
+    sym (ap (λ o. nat_lt 0 (length (cons_option (option_map (λ name. record { sort = sort_of node.kind; name = name }) o) rest))) name ∙ ltb-is_true 0 (suc (length rest)) (omega arith))
 
 -- a child of a directory is in its listing
 more_listed : (o : Option Entry) (rest : List Entry) → true ≡ nat_lt 0 (length rest) → true ≡ nat_lt 0 (length (cons_option o rest))

@@ -1,6 +1,5 @@
 pub mod Calls
 pub mod Cells
-pub mod Fronts
 pub mod History
 pub mod Laws
 pub mod Links

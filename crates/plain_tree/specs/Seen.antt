@@ -1,5 +1,5 @@
 -- A tree that is kept as links, seen as a map from paths.
-use Rattle.std.specs.Prelude.{◌≡◌, ◌≢◌, ℕ, ◌+◌, ◌<◌, ◌^◌, List, [], ◌∷◌, ◌++◌, false, length, nat_lt, true, Option, Some, None, IsSome}
+use Rattle.std.specs.Prelude.{◌≡◌, ◌≢◌, ℕ, ◌+◌, ◌<◌, ◌^◌, List, [], ◌∷◌, ◌++◌, false, length, nat_lt, true, Some, None, IsSome}
 use Rattle.std.specs.Coded.{Π_prop, coded_option, Coded-set}
 use Rattle.std.specs.Cmp.Lexicographic.{lists_total, nat_list_cmp_total}
 use Rattle.std.specs.FinMap as fin
@@ -9,7 +9,7 @@ use Rattle.plain_tree.specs.declared.nodes.Node.{Node}
 use Rattle.plain_tree.specs.declared.calls.Refusal.{Refusal}
 use Rattle.plain_tree.specs.declared.links.Links.{Links}
 use Rattle.plain_tree.specs.contracts.nodes.Node as node
-use Rattle.plain_tree.specs.Paths.{path_cmp, parent_of, is_at_or_below}
+use Rattle.plain_tree.specs.Paths.{parent_of, is_at_or_below}
 use Rattle.plain_tree.specs.Refusals.{why_missing}
 use Rattle.plain_tree.specs.Tree.{Nodes, entries_in}
 use Rattle.plain_tree.specs.Valid.{mark_at, IsShape, AreValid}

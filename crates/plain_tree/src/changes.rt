@@ -1,7 +1,7 @@
 ghost use Rattle.std.specs.Prelude.{◌≡◌, ◌<◌, ◌+◌, ◌^◌, ◌≤◌, length, map, Some, OnOk, OnErr};
 ghost use Rattle.plain_tree.specs.Cells.{written, resized};
 ghost use Rattle.plain_tree.specs.Tree.{touched, change_noted, file_changed, sort_of, changed_by, new_node};
-ghost use Rattle.plain_tree.specs.Fronts.{missing_below};
+ghost use Rattle.plain_tree.specs.Refusals.{missing_below};
 
 use crate::calls::{Refusal, Sort};
 use crate::nodes::{Kind, Node};

@@ -1,6 +1,4 @@
 use Rattle.std.proofs.Common.{◌≡◌, ◌++◌, map}
-use Rattle.plain_tree.specs.declared.calls.Entry.{Entry}
-use Rattle.plain_tree.specs.Tree.{sort_of}
 use Rattle.plain_tree.specs.Links.{line_of}
 use Rattle.plain_tree.proofs.links.list_names.Given as goal
 

@@ -1,4 +1,4 @@
-use Rattle.std.proofs.Common.{length, nat_lt, sym, ap, ◌∙◌}
+use Rattle.std.proofs.Common.{length, nat_lt, ap, ◌∙◌}
 use Rattle.plain_tree.proofs.KeptLemmas.{now_kept, lines_are}
 use Rattle.plain_tree.proofs.node_map.NodeMap.has_entries.Goals as goal
 

@@ -1,4 +1,3 @@
-use Rattle.std.proofs.Common.{sym, ap, ◌∙◌}
 use Rattle.plain_tree.proofs.KeptLemmas.{now_kept, lines_are, if_ok_same}
 use Rattle.plain_tree.proofs.node_map.NodeMap.list.Goals as goal
 

@@ -1,6 +1,5 @@
-use Rattle.std.proofs.Common.{ℕ}
 use Rattle.plain_tree.specs.Tree.{empty_tree}
-use Rattle.plain_tree.proofs.KeptLemmas.{Next, the_root, only, still_kept}
+use Rattle.plain_tree.proofs.KeptLemmas.{the_root, only, still_kept}
 use Rattle.plain_tree.proofs.node_map.NodeMap.new.Goals as goal
 
 pub invariant_of-result : goal.invariant_of-result

@@ -1,5 +1,5 @@
 use Rattle.std.specs.FinMap as fin
-use Rattle.std.proofs.Common.{◌-◌, sym, ap, ◌∙◌}
+use Rattle.std.proofs.Common.{◌-◌}
 use Rattle.plain_tree.proofs.KeptLemmas.{now_kept, only, still_kept, remove_next, one_there, no_dir_missing}
 use Rattle.plain_tree.proofs.node_map.NodeMap.remove.Goals as goal
 

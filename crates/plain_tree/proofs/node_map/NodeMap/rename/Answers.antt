@@ -14,9 +14,12 @@ pub rename-requires-clause-free : goal.rename-requires-clause-free
 rename-requires-clause-free c = sym (place_child c.self.inside.root c.self.inside.links c.self.inside.count c.args.self.now (now_kept c.self.inside.root c.self.inside.links c.self.inside.count c.args.self.now c.self.inside.seen c.self.view_is c.self.invariant) c.args.to.now c.in-Some-place.uid c.in-Some-place.name.now c.in-Some-place.ensures.there) ∙ c.requires.free c.args.to.now (below_self c.args.to.now)
 
 pub invariant_of-self-inside : goal.invariant_of-self-inside
-invariant_of-self-inside c = (seen_by c.rename.result c.self.inside.root c.rename.new.self c.self.inside.count (moved c.args.from.now c.args.to.now c.args.self.now) c.args.self.now
-    (on_ok c.rename.result (λ move. move_next c.self.inside.root c.self.inside.links c.rename.new.self c.self.inside.count c.args.self.now (now_kept c.self.inside.root c.self.inside.links c.self.inside.count c.args.self.now c.self.inside.seen c.self.view_is c.self.invariant) c.args.from.now c.args.to.now c.in-Some.old c.in-Some-place.uid c.in-Some.old_name.now c.in-Some-place.name.now c.in-Some.ensures.there c.in-Some-place.ensures.there move c.requires) c.rename.ensures.ok)
-    (on_err c.rename.result (λ same. unchanged c.self.inside.root c.self.inside.links c.rename.new.self c.self.inside.count c.args.self.now (now_kept c.self.inside.root c.self.inside.links c.self.inside.count c.args.self.now c.self.inside.seen c.self.view_is c.self.invariant) same) c.rename.ensures.err), tt)
+invariant_of-self-inside c = (
+  seen_by c.rename.result c.self.inside.root c.rename.new.self c.self.inside.count (moved c.args.from.now c.args.to.now c.args.self.now) c.args.self.now
+      (on_ok c.rename.result (λ move. move_next c.self.inside.root c.self.inside.links c.rename.new.self c.self.inside.count c.args.self.now (now_kept c.self.inside.root c.self.inside.links c.self.inside.count c.args.self.now c.self.inside.seen c.self.view_is c.self.invariant) c.args.from.now c.args.to.now c.in-Some.old c.in-Some-place.uid c.in-Some.old_name.now c.in-Some-place.name.now c.in-Some.ensures.there c.in-Some-place.ensures.there move c.requires) c.rename.ensures.ok)
+      (on_err c.rename.result (λ same. unchanged c.self.inside.root c.self.inside.links c.rename.new.self c.self.inside.count c.args.self.now (now_kept c.self.inside.root c.self.inside.links c.self.inside.count c.args.self.now c.self.inside.seen c.self.view_is c.self.invariant) same) c.rename.ensures.err),
+  tt,
+)
 
 pub invariant_of-self : goal.invariant_of-self
 invariant_of-self c = still_kept c.self.inside.root c.rename.new.self c.self.inside.count c.args.self.now c.self-1.given.0 (unchanged c.self.inside.root c.self.inside.links c.rename.new.self c.self.inside.count c.args.self.now (now_kept c.self.inside.root c.self.inside.links c.self.inside.count c.args.self.now c.self.inside.seen c.self.view_is c.self.invariant) c.in_err-rename.ensures.err)

@@ -7,9 +7,12 @@ use Rattle.plain_tree.proofs.KeptLemmas.{seen_by, now_kept, only, still_kept, un
 use Rattle.plain_tree.proofs.node_map.NodeMap.write.Goals as goal
 
 pub invariant_of-self-inside : goal.invariant_of-self-inside
-invariant_of-self-inside c = (seen_by c.write_node.result c.write_node.new.node c.self.inside.links c.self.inside.count (changed_at (file_changed (λ cells. written cells c.args.offset (map (λ x. Some x) c.args.bytes.now)) c.args.at) c.args.path.now c.args.self.now) c.args.self.now
-    (on_ok c.write_node.result (λ is. change_root c.self.inside.root c.write_node.new.node c.self.inside.links c.self.inside.count c.args.self.now (now_kept c.self.inside.root c.self.inside.links c.self.inside.count c.args.self.now c.self.inside.seen c.self.view_is c.self.invariant) c.args.path.now (file_changed (λ cells. written cells c.args.offset (map (λ x. Some x) c.args.bytes.now)) c.args.at) (file_mark (λ cells. written cells c.args.offset (map (λ x. Some x) c.args.bytes.now)) c.args.at) (no_names c.args.path.now (search rules)) is) c.write_node.ensures.ok)
-    (on_err c.write_node.result (λ is. same_root c.self.inside.root c.write_node.new.node c.self.inside.links c.self.inside.count c.args.self.now (now_kept c.self.inside.root c.self.inside.links c.self.inside.count c.args.self.now c.self.inside.seen c.self.view_is c.self.invariant) is) c.write_node.ensures.err), tt)
+invariant_of-self-inside c = (
+  seen_by c.write_node.result c.write_node.new.node c.self.inside.links c.self.inside.count (changed_at (file_changed (λ cells. written cells c.args.offset (map (λ x. Some x) c.args.bytes.now)) c.args.at) c.args.path.now c.args.self.now) c.args.self.now
+      (on_ok c.write_node.result (λ is. change_root c.self.inside.root c.write_node.new.node c.self.inside.links c.self.inside.count c.args.self.now (now_kept c.self.inside.root c.self.inside.links c.self.inside.count c.args.self.now c.self.inside.seen c.self.view_is c.self.invariant) c.args.path.now (file_changed (λ cells. written cells c.args.offset (map (λ x. Some x) c.args.bytes.now)) c.args.at) (file_mark (λ cells. written cells c.args.offset (map (λ x. Some x) c.args.bytes.now)) c.args.at) (no_names c.args.path.now (search rules)) is) c.write_node.ensures.ok)
+      (on_err c.write_node.result (λ is. same_root c.self.inside.root c.write_node.new.node c.self.inside.links c.self.inside.count c.args.self.now (now_kept c.self.inside.root c.self.inside.links c.self.inside.count c.args.self.now c.self.inside.seen c.self.view_is c.self.invariant) is) c.write_node.ensures.err),
+  tt,
+)
 
 pub invariant_of-self : goal.invariant_of-self
 invariant_of-self c = still_kept c.write_node.new.node c.self.inside.links c.self.inside.count c.args.self.now c.self-1.given.0 (same_root c.self.inside.root c.write_node.new.node c.self.inside.links c.self.inside.count c.args.self.now (now_kept c.self.inside.root c.self.inside.links c.self.inside.count c.args.self.now c.self.inside.seen c.self.view_is c.self.invariant) c.in_err-write_node.ensures.err)
@@ -29,9 +32,12 @@ returns-in_default-clause-ok c =
     change_missing c.args.self.now (now_kept c.self.inside.root c.self.inside.links c.self.inside.count c.args.self.now c.self.inside.seen c.self.view_is c.self.invariant).kept.valid c.args.path.now (file_changed (λ cells. written cells c.args.offset (map (λ x. Some x) c.args.bytes.now)) c.args.at) some (c.in_default.ensures.missing some)
 
 pub invariant_of-self-inside-2 : goal.invariant_of-self-inside-2
-invariant_of-self-inside-2 c = (seen_by c.write.result c.self.inside.root c.write.new.self c.self.inside.count (changed_at (file_changed (λ cells. written cells c.args.offset (map (λ x. Some x) c.args.bytes.now)) c.args.at) c.args.path.now c.args.self.now) c.args.self.now
-    (on_ok c.write.result (λ put. change_next c.self.inside.root c.self.inside.links c.write.new.self c.self.inside.count c.args.self.now (now_kept c.self.inside.root c.self.inside.links c.self.inside.count c.args.self.now c.self.inside.seen c.self.view_is c.self.invariant) c.args.path.now c.in-Some.uid c.in-Some.name.now c.in-Some.ensures.there (file_changed (λ cells. written cells c.args.offset (map (λ x. Some x) c.args.bytes.now)) c.args.at) (file_mark (λ cells. written cells c.args.offset (map (λ x. Some x) c.args.bytes.now)) c.args.at) put) c.write.ensures.ok)
-    (on_err c.write.result (λ same. unchanged c.self.inside.root c.self.inside.links c.write.new.self c.self.inside.count c.args.self.now (now_kept c.self.inside.root c.self.inside.links c.self.inside.count c.args.self.now c.self.inside.seen c.self.view_is c.self.invariant) same) c.write.ensures.err), tt)
+invariant_of-self-inside-2 c = (
+  seen_by c.write.result c.self.inside.root c.write.new.self c.self.inside.count (changed_at (file_changed (λ cells. written cells c.args.offset (map (λ x. Some x) c.args.bytes.now)) c.args.at) c.args.path.now c.args.self.now) c.args.self.now
+      (on_ok c.write.result (λ put. change_next c.self.inside.root c.self.inside.links c.write.new.self c.self.inside.count c.args.self.now (now_kept c.self.inside.root c.self.inside.links c.self.inside.count c.args.self.now c.self.inside.seen c.self.view_is c.self.invariant) c.args.path.now c.in-Some.uid c.in-Some.name.now c.in-Some.ensures.there (file_changed (λ cells. written cells c.args.offset (map (λ x. Some x) c.args.bytes.now)) c.args.at) (file_mark (λ cells. written cells c.args.offset (map (λ x. Some x) c.args.bytes.now)) c.args.at) put) c.write.ensures.ok)
+      (on_err c.write.result (λ same. unchanged c.self.inside.root c.self.inside.links c.write.new.self c.self.inside.count c.args.self.now (now_kept c.self.inside.root c.self.inside.links c.self.inside.count c.args.self.now c.self.inside.seen c.self.view_is c.self.invariant) same) c.write.ensures.err),
+  tt,
+)
 
 pub invariant_of-self-in_err-write : goal.invariant_of-self-in_err-write
 invariant_of-self-in_err-write c = still_kept c.self.inside.root c.write.new.self c.self.inside.count c.args.self.now c.self-2-1.given.0 (unchanged c.self.inside.root c.self.inside.links c.write.new.self c.self.inside.count c.args.self.now (now_kept c.self.inside.root c.self.inside.links c.self.inside.count c.args.self.now c.self.inside.seen c.self.view_is c.self.invariant) c.in_err-write.ensures.err)
