@@ -36,11 +36,11 @@ now_kept root links count m s is kept = record {
 }
 
 -- no other map is shown
-pub only : (root : Node) (links : Links) (count : ℕ) (m : Nodes) (s : Seen root links) → Next root links count m → s.0 ≡ m
-only root links count m s next = fin.same_map path_total path_exact s.0 m (λ p. s.1 p ∙ sym (next.shown p))
+pub only : (root : Node) (links : Links) (count : ℕ) (m n : Nodes) → ((p : List (List ℕ)) → fin.get n p ≡ walk (child links) (Some root) p) → Next root links count m → n ≡ m
+only root links count m n shown next = fin.same_map path_total path_exact n m (λ p. shown p ∙ sym (next.shown p))
 
-pub still_kept : (root : Node) (links : Links) (count : ℕ) (m : Nodes) (s : Seen root links) → Next root links count m → IsKept s.0 links count
-still_kept root links count m s next = subst (λ n. IsKept n links count) (sym (only root links count m s next)) next.kept
+pub still_kept : (root : Node) (links : Links) (count : ℕ) (m n : Nodes) → ((p : List (List ℕ)) → fin.get n p ≡ walk (child links) (Some root) p) → Next root links count m → IsKept n links count
+still_kept root links count m n shown next = subst (λ n. IsKept n links count) (sym (only root links count m n shown next)) next.kept
 
 pub the_root : (root : Node) (links : Links) (at : Moment) → root ≡ new_node kinds.Dir 1 at → ((u : ℕ) (n : List ℕ) → child links u n ≡ None) → Next root links 1 (empty_tree at).nodes
 the_root root links at is none = record {

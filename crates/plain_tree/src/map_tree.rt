@@ -115,7 +115,6 @@ impl MapTree {
         bytes: &[u8],
         at: Moment,
     ) -> Result<Answer, NoMemory>
-        requires { IsValid self.old }
         ensures answer { IfOk result (λ a. a ≡ answer self.old (Call.Write path.now offset bytes.now)) }
         ensures after { OnOk result (self.new ≡ after self.old (Call.Write path.now offset bytes.now) at) }
         ensures err { OnErr result (self.new ≡ self.old) }
@@ -133,7 +132,6 @@ impl MapTree {
     }
 
     fn truncate(&mut self, path: &[Text], size: u64, at: Moment) -> Answer
-        requires { IsValid self.old }
         ensures answer { result ≡ answer self.old (Call.Truncate path.now size) }
         ensures after { self.new ≡ after self.old (Call.Truncate path.now size) at }
     {
@@ -150,7 +148,6 @@ impl MapTree {
     }
 
     fn read(&self, path: &[Text], offset: u64, count: u64) -> Result<Answer, NoMemory>
-        requires { IsValid self.now }
         ensures { IfOk result (λ a. a ≡ answer self.now (Call.Read path.now offset count)) }
     {
         match self.nodes.find(path) {
@@ -164,7 +161,6 @@ impl MapTree {
     }
 
     fn list(&self, path: &[Text]) -> Result<Answer, NoMemory>
-        requires { IsValid self.now }
         ensures { IfOk result (λ a. a ≡ answer self.now (Call.Listing path.now)) }
     {
         match no_dir(&self.nodes, path) {
@@ -193,7 +189,6 @@ impl MapTree {
     }
 
     fn stat(&self, path: &[Text]) -> Result<Answer, NoMemory>
-        requires { IsValid self.now }
         ensures { IfOk result (λ a. a ≡ answer self.now (Call.Stat path.now)) }
     {
         match self.nodes.find(path) {
@@ -222,7 +217,6 @@ impl MapTree {
 
     /// Why a node may not move to another path.
     fn rename_refusal(&self, from: &[Text], to: &[Text]) -> Result<Option<Refusal>, NoMemory>
-        requires { IsValid self.now }
         ensures { IfOk result (λ refusal. refusal ≡ rename_refusal self.now.nodes from.now to.now) }
     {
         if let Some(refusal) = bad_name(self.alloc, to)? {
@@ -251,7 +245,6 @@ impl MapTree {
 
     /// Why a new node may not stand at the path.
     fn new_refusal(&self, path: &[Text]) -> Result<Option<Refusal>, NoMemory>
-        requires { IsValid self.now }
         ensures value { IfOk result (λ refusal. refusal ≡ new_refusal self.now path.now) }
         ensures room { IfOk result (λ refusal. IfNone refusal ((0 < length path.now) × (self.now.highest < 2 ^ 62))) }
     {

@@ -1,5 +1,5 @@
 use Rattle.std.specs.FinMap as fin
-use Rattle.std.proofs.Common.{◌-◌}
+use Rattle.std.proofs.Common.{◌-◌, rules}
 use Rattle.plain_tree.proofs.KeptLemmas.{now_kept, only, still_kept, remove_next, one_there, no_dir_missing}
 use Rattle.plain_tree.proofs.node_map.NodeMap.remove.Goals as goal
 
@@ -13,7 +13,7 @@ pub invariant_of-self-inside : goal.invariant_of-self-inside
 invariant_of-self-inside c = ((fin.remove c.args.self.now c.args.path.now, (remove_next c.self.inside.root c.self.inside.links c.remove-node.new.self c.self.inside.count c.args.self.now (now_kept c.self.inside.root c.self.inside.links c.self.inside.count c.args.self.now c.self.inside.seen c.self.view_is c.self.invariant) c.args.path.now c.in-Some.uid c.in-Some.name.now c.in-Some.ensures.there c.remove-node.ensures.rest c.requires).shown), tt)
 
 pub invariant_of-self : goal.invariant_of-self
-invariant_of-self c = still_kept c.self.inside.root c.remove-node.new.self (c.self.inside.count - 1) (fin.remove c.args.self.now c.args.path.now) c.self-1.given.0 (remove_next c.self.inside.root c.self.inside.links c.remove-node.new.self c.self.inside.count c.args.self.now (now_kept c.self.inside.root c.self.inside.links c.self.inside.count c.args.self.now c.self.inside.seen c.self.view_is c.self.invariant) c.args.path.now c.in-Some.uid c.in-Some.name.now c.in-Some.ensures.there c.remove-node.ensures.rest c.requires)
+invariant_of-self c = still_kept c.self.inside.root c.remove-node.new.self (c.self.inside.count - 1) (fin.remove c.args.self.now c.args.path.now) _ (search rules) (remove_next c.self.inside.root c.self.inside.links c.remove-node.new.self c.self.inside.count c.args.self.now (now_kept c.self.inside.root c.self.inside.links c.self.inside.count c.args.self.now c.self.inside.seen c.self.view_is c.self.invariant) c.args.path.now c.in-Some.uid c.in-Some.name.now c.in-Some.ensures.there c.remove-node.ensures.rest c.requires)
 
 pub returns : goal.returns
-returns c = only c.self.inside.root c.remove-node.new.self (c.self.inside.count - 1) (fin.remove c.args.self.now c.args.path.now) c.self-1.given.0 (remove_next c.self.inside.root c.self.inside.links c.remove-node.new.self c.self.inside.count c.args.self.now (now_kept c.self.inside.root c.self.inside.links c.self.inside.count c.args.self.now c.self.inside.seen c.self.view_is c.self.invariant) c.args.path.now c.in-Some.uid c.in-Some.name.now c.in-Some.ensures.there c.remove-node.ensures.rest c.requires)
+returns c = only c.self.inside.root c.remove-node.new.self (c.self.inside.count - 1) (fin.remove c.args.self.now c.args.path.now) _ (search rules) (remove_next c.self.inside.root c.self.inside.links c.remove-node.new.self c.self.inside.count c.args.self.now (now_kept c.self.inside.root c.self.inside.links c.self.inside.count c.args.self.now c.self.inside.seen c.self.view_is c.self.invariant) c.args.path.now c.in-Some.uid c.in-Some.name.now c.in-Some.ensures.there c.remove-node.ensures.rest c.requires)

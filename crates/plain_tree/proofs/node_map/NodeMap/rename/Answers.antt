@@ -1,4 +1,4 @@
-use Rattle.std.proofs.Common.{sym, ap, ◌∙◌, is_some}
+use Rattle.std.proofs.Common.{sym, ap, ◌∙◌, is_some, rules}
 use Rattle.plain_tree.specs.Tree.{moved}
 use Rattle.plain_tree.proofs.LinkLemmas.{on_ok, on_err, on_any_err}
 use Rattle.plain_tree.proofs.KeptLemmas.{seen_by, now_kept, only, still_kept, unchanged, move_next, place_child, below_self, no_dir_missing}
@@ -22,13 +22,13 @@ invariant_of-self-inside c = (
 )
 
 pub invariant_of-self : goal.invariant_of-self
-invariant_of-self c = still_kept c.self.inside.root c.rename.new.self c.self.inside.count c.args.self.now c.self-1.given.0 (unchanged c.self.inside.root c.self.inside.links c.rename.new.self c.self.inside.count c.args.self.now (now_kept c.self.inside.root c.self.inside.links c.self.inside.count c.args.self.now c.self.inside.seen c.self.view_is c.self.invariant) c.in_err-rename.ensures.err)
+invariant_of-self c = still_kept c.self.inside.root c.rename.new.self c.self.inside.count c.args.self.now _ (search rules) (unchanged c.self.inside.root c.self.inside.links c.rename.new.self c.self.inside.count c.args.self.now (now_kept c.self.inside.root c.self.inside.links c.self.inside.count c.args.self.now c.self.inside.seen c.self.view_is c.self.invariant) c.in_err-rename.ensures.err)
 
 pub returns-in_err-rename-clause-err : goal.returns-in_err-rename-clause-err
-returns-in_err-rename-clause-err c = on_any_err c.from_residual.result (only c.self.inside.root c.rename.new.self c.self.inside.count c.args.self.now c.self-1.given.0 (unchanged c.self.inside.root c.self.inside.links c.rename.new.self c.self.inside.count c.args.self.now (now_kept c.self.inside.root c.self.inside.links c.self.inside.count c.args.self.now c.self.inside.seen c.self.view_is c.self.invariant) c.in_err-rename.ensures.err))
+returns-in_err-rename-clause-err c = on_any_err c.from_residual.result (only c.self.inside.root c.rename.new.self c.self.inside.count c.args.self.now _ (search rules) (unchanged c.self.inside.root c.self.inside.links c.rename.new.self c.self.inside.count c.args.self.now (now_kept c.self.inside.root c.self.inside.links c.self.inside.count c.args.self.now c.self.inside.seen c.self.view_is c.self.invariant) c.in_err-rename.ensures.err))
 
 pub invariant_of-self-2 : goal.invariant_of-self-2
-invariant_of-self-2 c = still_kept c.self.inside.root c.rename.new.self c.self.inside.count (moved c.args.from.now c.args.to.now c.args.self.now) c.self-1.given.0 (move_next c.self.inside.root c.self.inside.links c.rename.new.self c.self.inside.count c.args.self.now (now_kept c.self.inside.root c.self.inside.links c.self.inside.count c.args.self.now c.self.inside.seen c.self.view_is c.self.invariant) c.args.from.now c.args.to.now c.in-Some.old c.in-Some-place.uid c.in-Some.old_name.now c.in-Some-place.name.now c.in-Some.ensures.there c.in-Some-place.ensures.there c.in_ok-rename.ensures.ok c.requires)
+invariant_of-self-2 c = still_kept c.self.inside.root c.rename.new.self c.self.inside.count (moved c.args.from.now c.args.to.now c.args.self.now) _ (search rules) (move_next c.self.inside.root c.self.inside.links c.rename.new.self c.self.inside.count c.args.self.now (now_kept c.self.inside.root c.self.inside.links c.self.inside.count c.args.self.now c.self.inside.seen c.self.view_is c.self.invariant) c.args.from.now c.args.to.now c.in-Some.old c.in-Some-place.uid c.in-Some.old_name.now c.in-Some-place.name.now c.in-Some.ensures.there c.in-Some-place.ensures.there c.in_ok-rename.ensures.ok c.requires)
 
 pub returns-clause-ok : goal.returns-clause-ok
-returns-clause-ok c = only c.self.inside.root c.rename.new.self c.self.inside.count (moved c.args.from.now c.args.to.now c.args.self.now) c.self-1.given.0 (move_next c.self.inside.root c.self.inside.links c.rename.new.self c.self.inside.count c.args.self.now (now_kept c.self.inside.root c.self.inside.links c.self.inside.count c.args.self.now c.self.inside.seen c.self.view_is c.self.invariant) c.args.from.now c.args.to.now c.in-Some.old c.in-Some-place.uid c.in-Some.old_name.now c.in-Some-place.name.now c.in-Some.ensures.there c.in-Some-place.ensures.there c.in_ok-rename.ensures.ok c.requires)
+returns-clause-ok c = only c.self.inside.root c.rename.new.self c.self.inside.count (moved c.args.from.now c.args.to.now c.args.self.now) _ (search rules) (move_next c.self.inside.root c.self.inside.links c.rename.new.self c.self.inside.count c.args.self.now (now_kept c.self.inside.root c.self.inside.links c.self.inside.count c.args.self.now c.self.inside.seen c.self.view_is c.self.invariant) c.args.from.now c.args.to.now c.in-Some.old c.in-Some-place.uid c.in-Some.old_name.now c.in-Some-place.name.now c.in-Some.ensures.there c.in-Some-place.ensures.there c.in_ok-rename.ensures.ok c.requires)

@@ -15,16 +15,16 @@ invariant_of-self-inside c = (
 )
 
 pub invariant_of-self : goal.invariant_of-self
-invariant_of-self c = still_kept c.write_node.new.node c.self.inside.links c.self.inside.count c.args.self.now c.self-1.given.0 (same_root c.self.inside.root c.write_node.new.node c.self.inside.links c.self.inside.count c.args.self.now (now_kept c.self.inside.root c.self.inside.links c.self.inside.count c.args.self.now c.self.inside.seen c.self.view_is c.self.invariant) c.in_err-write_node.ensures.err)
+invariant_of-self c = still_kept c.write_node.new.node c.self.inside.links c.self.inside.count c.args.self.now _ (search rules) (same_root c.self.inside.root c.write_node.new.node c.self.inside.links c.self.inside.count c.args.self.now (now_kept c.self.inside.root c.self.inside.links c.self.inside.count c.args.self.now c.self.inside.seen c.self.view_is c.self.invariant) c.in_err-write_node.ensures.err)
 
 pub returns-in_err-write_node-clause-err : goal.returns-in_err-write_node-clause-err
-returns-in_err-write_node-clause-err c = on_any_err c.from_residual.result (only c.write_node.new.node c.self.inside.links c.self.inside.count c.args.self.now c.self-1.given.0 (same_root c.self.inside.root c.write_node.new.node c.self.inside.links c.self.inside.count c.args.self.now (now_kept c.self.inside.root c.self.inside.links c.self.inside.count c.args.self.now c.self.inside.seen c.self.view_is c.self.invariant) c.in_err-write_node.ensures.err))
+returns-in_err-write_node-clause-err c = on_any_err c.from_residual.result (only c.write_node.new.node c.self.inside.links c.self.inside.count c.args.self.now _ (search rules) (same_root c.self.inside.root c.write_node.new.node c.self.inside.links c.self.inside.count c.args.self.now (now_kept c.self.inside.root c.self.inside.links c.self.inside.count c.args.self.now c.self.inside.seen c.self.view_is c.self.invariant) c.in_err-write_node.ensures.err))
 
 pub invariant_of-self-then-is_empty : goal.invariant_of-self-then-is_empty
-invariant_of-self-then-is_empty c = still_kept c.write_node.new.node c.self.inside.links c.self.inside.count (changed_at (file_changed (λ cells. written cells c.args.offset (map (λ x. Some x) c.args.bytes.now)) c.args.at) c.args.path.now c.args.self.now) c.self-1.given.0 (change_root c.self.inside.root c.write_node.new.node c.self.inside.links c.self.inside.count c.args.self.now (now_kept c.self.inside.root c.self.inside.links c.self.inside.count c.args.self.now c.self.inside.seen c.self.view_is c.self.invariant) c.args.path.now (file_changed (λ cells. written cells c.args.offset (map (λ x. Some x) c.args.bytes.now)) c.args.at) (file_mark (λ cells. written cells c.args.offset (map (λ x. Some x) c.args.bytes.now)) c.args.at) (no_names c.args.path.now (search rules)) c.in_ok-write_node.ensures.ok)
+invariant_of-self-then-is_empty c = still_kept c.write_node.new.node c.self.inside.links c.self.inside.count (changed_at (file_changed (λ cells. written cells c.args.offset (map (λ x. Some x) c.args.bytes.now)) c.args.at) c.args.path.now c.args.self.now) _ (search rules) (change_root c.self.inside.root c.write_node.new.node c.self.inside.links c.self.inside.count c.args.self.now (now_kept c.self.inside.root c.self.inside.links c.self.inside.count c.args.self.now c.self.inside.seen c.self.view_is c.self.invariant) c.args.path.now (file_changed (λ cells. written cells c.args.offset (map (λ x. Some x) c.args.bytes.now)) c.args.at) (file_mark (λ cells. written cells c.args.offset (map (λ x. Some x) c.args.bytes.now)) c.args.at) (no_names c.args.path.now (search rules)) c.in_ok-write_node.ensures.ok)
 
 pub returns-then-is_empty-clause-ok : goal.returns-then-is_empty-clause-ok
-returns-then-is_empty-clause-ok c = only c.write_node.new.node c.self.inside.links c.self.inside.count (changed_at (file_changed (λ cells. written cells c.args.offset (map (λ x. Some x) c.args.bytes.now)) c.args.at) c.args.path.now c.args.self.now) c.self-1.given.0 (change_root c.self.inside.root c.write_node.new.node c.self.inside.links c.self.inside.count c.args.self.now (now_kept c.self.inside.root c.self.inside.links c.self.inside.count c.args.self.now c.self.inside.seen c.self.view_is c.self.invariant) c.args.path.now (file_changed (λ cells. written cells c.args.offset (map (λ x. Some x) c.args.bytes.now)) c.args.at) (file_mark (λ cells. written cells c.args.offset (map (λ x. Some x) c.args.bytes.now)) c.args.at) (no_names c.args.path.now (search rules)) c.in_ok-write_node.ensures.ok)
+returns-then-is_empty-clause-ok c = only c.write_node.new.node c.self.inside.links c.self.inside.count (changed_at (file_changed (λ cells. written cells c.args.offset (map (λ x. Some x) c.args.bytes.now)) c.args.at) c.args.path.now c.args.self.now) _ (search rules) (change_root c.self.inside.root c.write_node.new.node c.self.inside.links c.self.inside.count c.args.self.now (now_kept c.self.inside.root c.self.inside.links c.self.inside.count c.args.self.now c.self.inside.seen c.self.view_is c.self.invariant) c.args.path.now (file_changed (λ cells. written cells c.args.offset (map (λ x. Some x) c.args.bytes.now)) c.args.at) (file_mark (λ cells. written cells c.args.offset (map (λ x. Some x) c.args.bytes.now)) c.args.at) (no_names c.args.path.now (search rules)) c.in_ok-write_node.ensures.ok)
 
 pub returns-in_default-clause-ok : goal.returns-in_default-clause-ok
 returns-in_default-clause-ok c =
@@ -40,13 +40,13 @@ invariant_of-self-inside-2 c = (
 )
 
 pub invariant_of-self-in_err-write : goal.invariant_of-self-in_err-write
-invariant_of-self-in_err-write c = still_kept c.self.inside.root c.write.new.self c.self.inside.count c.args.self.now c.self-2-1.given.0 (unchanged c.self.inside.root c.self.inside.links c.write.new.self c.self.inside.count c.args.self.now (now_kept c.self.inside.root c.self.inside.links c.self.inside.count c.args.self.now c.self.inside.seen c.self.view_is c.self.invariant) c.in_err-write.ensures.err)
+invariant_of-self-in_err-write c = still_kept c.self.inside.root c.write.new.self c.self.inside.count c.args.self.now _ (search rules) (unchanged c.self.inside.root c.self.inside.links c.write.new.self c.self.inside.count c.args.self.now (now_kept c.self.inside.root c.self.inside.links c.self.inside.count c.args.self.now c.self.inside.seen c.self.view_is c.self.invariant) c.in_err-write.ensures.err)
 
 pub returns-in_err-write-clause-err : goal.returns-in_err-write-clause-err
-returns-in_err-write-clause-err c = on_any_err c.from_residual-in_err-write.result (only c.self.inside.root c.write.new.self c.self.inside.count c.args.self.now c.self-2-1.given.0 (unchanged c.self.inside.root c.self.inside.links c.write.new.self c.self.inside.count c.args.self.now (now_kept c.self.inside.root c.self.inside.links c.self.inside.count c.args.self.now c.self.inside.seen c.self.view_is c.self.invariant) c.in_err-write.ensures.err))
+returns-in_err-write-clause-err c = on_any_err c.from_residual-in_err-write.result (only c.self.inside.root c.write.new.self c.self.inside.count c.args.self.now _ (search rules) (unchanged c.self.inside.root c.self.inside.links c.write.new.self c.self.inside.count c.args.self.now (now_kept c.self.inside.root c.self.inside.links c.self.inside.count c.args.self.now c.self.inside.seen c.self.view_is c.self.invariant) c.in_err-write.ensures.err))
 
 pub invariant_of-self-2 : goal.invariant_of-self-2
-invariant_of-self-2 c = still_kept c.self.inside.root c.write.new.self c.self.inside.count (changed_at (file_changed (λ cells. written cells c.args.offset (map (λ x. Some x) c.args.bytes.now)) c.args.at) c.args.path.now c.args.self.now) c.self-2-1.given.0 (change_next c.self.inside.root c.self.inside.links c.write.new.self c.self.inside.count c.args.self.now (now_kept c.self.inside.root c.self.inside.links c.self.inside.count c.args.self.now c.self.inside.seen c.self.view_is c.self.invariant) c.args.path.now c.in-Some.uid c.in-Some.name.now c.in-Some.ensures.there (file_changed (λ cells. written cells c.args.offset (map (λ x. Some x) c.args.bytes.now)) c.args.at) (file_mark (λ cells. written cells c.args.offset (map (λ x. Some x) c.args.bytes.now)) c.args.at) c.in_ok-write.ensures.ok)
+invariant_of-self-2 c = still_kept c.self.inside.root c.write.new.self c.self.inside.count (changed_at (file_changed (λ cells. written cells c.args.offset (map (λ x. Some x) c.args.bytes.now)) c.args.at) c.args.path.now c.args.self.now) _ (search rules) (change_next c.self.inside.root c.self.inside.links c.write.new.self c.self.inside.count c.args.self.now (now_kept c.self.inside.root c.self.inside.links c.self.inside.count c.args.self.now c.self.inside.seen c.self.view_is c.self.invariant) c.args.path.now c.in-Some.uid c.in-Some.name.now c.in-Some.ensures.there (file_changed (λ cells. written cells c.args.offset (map (λ x. Some x) c.args.bytes.now)) c.args.at) (file_mark (λ cells. written cells c.args.offset (map (λ x. Some x) c.args.bytes.now)) c.args.at) c.in_ok-write.ensures.ok)
 
 pub returns-clause-ok : goal.returns-clause-ok
-returns-clause-ok c = only c.self.inside.root c.write.new.self c.self.inside.count (changed_at (file_changed (λ cells. written cells c.args.offset (map (λ x. Some x) c.args.bytes.now)) c.args.at) c.args.path.now c.args.self.now) c.self-2-1.given.0 (change_next c.self.inside.root c.self.inside.links c.write.new.self c.self.inside.count c.args.self.now (now_kept c.self.inside.root c.self.inside.links c.self.inside.count c.args.self.now c.self.inside.seen c.self.view_is c.self.invariant) c.args.path.now c.in-Some.uid c.in-Some.name.now c.in-Some.ensures.there (file_changed (λ cells. written cells c.args.offset (map (λ x. Some x) c.args.bytes.now)) c.args.at) (file_mark (λ cells. written cells c.args.offset (map (λ x. Some x) c.args.bytes.now)) c.args.at) c.in_ok-write.ensures.ok)
+returns-clause-ok c = only c.self.inside.root c.write.new.self c.self.inside.count (changed_at (file_changed (λ cells. written cells c.args.offset (map (λ x. Some x) c.args.bytes.now)) c.args.at) c.args.path.now c.args.self.now) _ (search rules) (change_next c.self.inside.root c.self.inside.links c.write.new.self c.self.inside.count c.args.self.now (now_kept c.self.inside.root c.self.inside.links c.self.inside.count c.args.self.now c.self.inside.seen c.self.view_is c.self.invariant) c.args.path.now c.in-Some.uid c.in-Some.name.now c.in-Some.ensures.there (file_changed (λ cells. written cells c.args.offset (map (λ x. Some x) c.args.bytes.now)) c.args.at) (file_mark (λ cells. written cells c.args.offset (map (λ x. Some x) c.args.bytes.now)) c.args.at) c.in_ok-write.ensures.ok)
