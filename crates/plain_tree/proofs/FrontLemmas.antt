@@ -1,15 +1,14 @@
 -- The fronts of a path in a valid tree: those that are there, and above them those that aren't.
-use Rattle.std.proofs.Common.{◌≡◌, ℕ, zero, suc, ◌-◌, ◌<◌, ◌≤◌, true, false, List, [], ◌∷◌, length, take, Some, None, is_some, sym, ap, ◌∙◌, refl, arith, ◌⊎◌, ⊎_elim}
+use Rattle.std.proofs.Common.{◌≡◌, ℕ, zero, suc, ◌-◌, ◌<◌, ◌≤◌, true, false, List, [], ◌∷◌, length, take, Some, None, is_some, sym, ap, ◌∙◌, refl, arith, ⊎_elim}
 use Rattle.std.specs.Prelude.{Option}
 use Rattle.std.specs.FinMap as fin
 use Rattle.std.proofs.lemmas.Bool.{cases_lt}
 use Rattle.std.proofs.lemmas.List.{length-take-le}
 use Rattle.plain_tree.specs.declared.nodes.Node.{Node}
+use Rattle.plain_tree.specs.declared.nodes.Kind.{Kind}
 use Rattle.plain_tree.specs.declared.nodes.Kind.TheVariants as kinds
-use Rattle.plain_tree.specs.declared.calls.Refusal.TheVariants as refusals
-use Rattle.plain_tree.specs.Fronts.{IsLongestFront}
 use Rattle.plain_tree.specs.Paths.{is_at_or_below}
-use Rattle.plain_tree.specs.Refusals.{why_missing}
+use Rattle.plain_tree.specs.Refusals.{why_missing, missing_below}
 use Rattle.plain_tree.specs.Tree.{Nodes}
 use Rattle.plain_tree.specs.Valid.{AreValid}
 use Rattle.plain_tree.proofs.MoveLemmas.{below_Decides}
@@ -46,17 +45,15 @@ longest_decides nodes path k (suc n) lt longest = ⊎_elim
     one : (j : ℕ) → fin.get nodes (take j path) ≡ None → why_missing nodes path (suc j) ≡ why_missing nodes path j
     one j missing = rw missing refl
 
-found_dir : (nodes : Nodes) (path : List (List ℕ)) (k : ℕ) (node : Node) → fin.get nodes (take k path) ≡ Some node → node.kind ≡ kinds.Dir → why_missing nodes path (suc k) ≡ refusals.NotFound
-found_dir nodes path k node is dir = rw (is, dir) refl
-
-pub dir_decides : (nodes : Nodes) (path : List (List ℕ)) (k : ℕ) (node : Node) → IsLongestFront nodes path k (length path) → fin.get nodes (take k path) ≡ Some node → node.kind ≡ kinds.Dir
-    → refusals.NotFound ≡ why_missing nodes path (length path)
-dir_decides nodes path k node front is dir = sym (longest_decides nodes path k (length path) front.shorter front.longest ∙ found_dir nodes path k node is dir)
-
-pub other_decides : (nodes : Nodes) (path : List (List ℕ)) (k : ℕ) (node : Node) → IsLongestFront nodes path k (length path) → fin.get nodes (take k path) ≡ Some node
-    → (((cells : List (Option ℕ)) × node.kind ≡ kinds.File cells) ⊎ ((text : List ℕ) × node.kind ≡ kinds.Link text))
-    → refusals.NotDir ≡ why_missing nodes path (length path)
-other_decides nodes path k node front is other = sym (longest_decides nodes path k (length path) front.shorter front.longest ∙ found other)
+found_node : (nodes : Nodes) (path : List (List ℕ)) (k : ℕ) (node : Node) → fin.get nodes (take k path) ≡ Some node → missing_below node.kind ≡ why_missing nodes path (suc k)
+found_node nodes path k node is = by node.kind refl
   where
-    found : (((cells : List (Option ℕ)) × node.kind ≡ kinds.File cells) ⊎ ((text : List ℕ) × node.kind ≡ kinds.Link text)) → why_missing nodes path (suc k) ≡ refusals.NotDir
-    found = ⊎_elim (λ file. rw (is, file.1) refl) (λ link. rw (is, link.1) refl)
+    by : (kind : Kind) → node.kind ≡ kind → missing_below node.kind ≡ why_missing nodes path (suc k)
+    by kinds.Dir e = rw (is, e) refl
+    by (kinds.File cells) e = rw (is, e) refl
+    by (kinds.Link text) e = rw (is, e) refl
+
+-- the longest front that is there says why the path isn't
+pub front_decides : (nodes : Nodes) (path : List (List ℕ)) (k : ℕ) (node : Node) → k < length path → fin.get nodes (take k path) ≡ Some node → ((m : ℕ) → k < m → m < length path → fin.get nodes (take m path) ≡ None)
+    → missing_below node.kind ≡ why_missing nodes path (length path)
+front_decides nodes path k node shorter is longest = found_node nodes path k node is ∙ sym (longest_decides nodes path k (length path) shorter longest)

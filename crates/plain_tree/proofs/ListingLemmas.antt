@@ -21,14 +21,13 @@ use Rattle.plain_tree.specs.Tree.{Tree, Nodes, sort_of, entry_in, entries_in}
 use Rattle.plain_tree.specs.Refusals.{no_dir}
 use Rattle.plain_tree.specs.Calls.{answer, answer_unless}
 use Rattle.plain_tree.specs.Laws.{IsExactListing}
-use Rattle.plain_tree.proofs.BelowLemmas.{both_true}
-use Rattle.plain_tree.proofs.MoveLemmas.{same_is, same_self, not_true, below_split, below_join, none_above}
+use Rattle.plain_tree.proofs.MoveLemmas.{both_true, same_is, same_self, not_true, below_split, below_join, none_above}
 
 abbrev Row : Type 0
 Row = List (List ℕ) × Node
 
 -- the name of a child
-child_name : (dir : List (List ℕ)) (name : List ℕ) → name_in dir (dir ++ name ∷ []) ≡ Some name
+pub child_name : (dir : List (List ℕ)) (name : List ℕ) → name_in dir (dir ++ name ∷ []) ≡ Some name
 child_name dir name =
     let p = dir ++ name ∷ [] in
     let long : length (dir ++ name ∷ []) ≡ length dir + 1 = length-append dir (name ∷ []) in
@@ -101,7 +100,7 @@ complete_in (e ∷ es) dir name node found =
     ] refl found
 
 -- what a line says
-line_says : (dir : List (List ℕ)) (e : Row) (line : Entry) → entry_in dir e ≡ Some line → (e.0 ≡ dir ++ line.name ∷ []) × (line.sort ≡ sort_of e.1.kind)
+pub line_says : (dir : List (List ℕ)) (e : Row) (line : Entry) → entry_in dir e ≡ Some line → (e.0 ≡ dir ++ line.name ∷ []) × (line.sort ≡ sort_of e.1.kind)
 line_says dir e line is = by (name_in dir e.0) refl is
   where
     by : (o : Option (List ℕ)) → name_in dir e.0 ≡ o → option_map (λ name. record { sort = sort_of e.1.kind; name = name }) o ≡ Some line → (e.0 ≡ dir ++ line.name ∷ []) × (line.sort ≡ sort_of e.1.kind)
@@ -139,7 +138,7 @@ sound_in (e ∷ es) dir line sorted c =
     ] refl c
 
 -- children of one directory are in the order of their names
-cmp_children : (dir : List (List ℕ)) (a b : List ℕ) → path_cmp (dir ++ a ∷ []) (dir ++ b ∷ []) ≡ slice_cmp nat_cmp a b
+pub cmp_children : (dir : List (List ℕ)) (a b : List ℕ) → path_cmp (dir ++ a ∷ []) (dir ++ b ∷ []) ≡ slice_cmp nat_cmp a b
 cmp_children [] a b = last (slice_cmp nat_cmp a b)
   where
     last : (r : Ordering) → ordering_then r Equal ≡ r
@@ -181,7 +180,7 @@ sorted_entries m = is_true (fin.is_sorted path_cmp (fin.entries m)) (fin.entries
     is_true true h = refl
     is_true false h = absurd h
 
-exact : (m : Nodes) (dir : List (List ℕ)) → IsExactListing m dir (entries_in m dir)
+pub exact : (m : Nodes) (dir : List (List ℕ)) → IsExactListing m dir (entries_in m dir)
 exact m dir = record {
   complete = λ name node found. complete_in (fin.entries m) dir name node (sym (fin.get-entries m (dir ++ name ∷ [])) ∙ found);
   sound = λ line c. let s = sound_in (fin.entries m) dir line (sorted_entries m) c in (s.0, fin.get-entries m (dir ++ line.name ∷ []) ∙ s.1, s.2);

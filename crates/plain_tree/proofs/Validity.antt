@@ -1,9 +1,11 @@
 -- Each call leaves a valid tree valid.
-use Rattle.std.proofs.Common.{◌⊎◌, ◌^◌, ◌≡◌, ◌≢◌, ℕ, zero, suc, ◌+◌, ◌-◌, ◌<◌, ◌≤◌, Bool, true, false, cond, ◌&&◌, not, eqb, nat_lt, List, [], ◌∷◌, ◌++◌, length, take, drop, map, Option, Some, None, is_some, sym, ap, ◌∙◌, refl, subst, arith, ⊎_elim, inl, inr, lit≤, Result, Ok, Err, OnOk, OnErr}
+use Rattle.std.proofs.Common.{IsSome, ◌⊎◌, ◌^◌, ◌≡◌, ◌≢◌, ℕ, zero, suc, ◌+◌, ◌-◌, ◌<◌, ◌≤◌, Bool, true, false, cond, ◌&&◌, not, eqb, nat_lt, get_or, List, [], ◌∷◌, ◌++◌, length, take, drop, map, Option, Some, None, is_some, sym, ap, ◌∙◌, refl, subst, arith, ⊎_elim, inl, inr, lit≤, Result, Ok, Err, OnOk, OnErr}
 use Rattle.std.specs.declared.cmp.Ordering.{Ordering}
 use Rattle.std.specs.declared.cmp.Ordering.TheVariants.{Less, Equal, Greater}
 use Rattle.std.specs.Ordering.{is_eq}
 use Rattle.std.specs.List.{filter_map, cons_option}
+use Rattle.std.specs.Option.{option_map}
+use Rattle.std.proofs.lemmas.Option.{slice_get-get_or}
 use Rattle.std.specs.FinMap as fin
 use Rattle.std.proofs.lemmas.Bool.Decides.{nat_tests}
 use Rattle.std.proofs.lemmas.List.{length-take, length-drop, length-append, drop_at, take-take, take_all, drop-take, length-map}
@@ -14,20 +16,22 @@ use Rattle.plain_tree.specs.declared.nodes.Node.{Node}
 use Rattle.plain_tree.specs.declared.nodes.Kind.{Kind}
 use Rattle.plain_tree.specs.declared.nodes.Kind.TheVariants as kinds
 use Rattle.plain_tree.specs.declared.calls.Entry.{Entry}
+use Rattle.plain_tree.specs.declared.changes.Change.{Change}
+use Rattle.plain_tree.specs.declared.changes.Change.TheVariants as changes
 use Rattle.plain_tree.proofs.PageLemmas.{ltb-is_true}
 use Rattle.plain_tree.specs.declared.calls.Refusal.{Refusal}
 use Rattle.plain_tree.specs.declared.calls.Refusal.TheVariants.{Root, Exists, NotEmpty, Inside}
 use Rattle.plain_tree.specs.declared.calls.Call.{Call}
 use Rattle.plain_tree.specs.declared.calls.Call.TheVariants.{Mkdir, Create, Write, Truncate, Read, Listing, Stat, Rename, Remove, Sync}
 use Rattle.plain_tree.specs.Cells.{Cell, written, resized}
-use Rattle.plain_tree.specs.Paths.{path_cmp, parent_of, same_path, is_at_or_below, is_below, moved_path}
-use Rattle.plain_tree.specs.Tree.{Tree, Nodes, empty_tree, new_node, changed_at, touch, touched, change_noted, file_changed, moved, entry_in, entries_in, cells_at}
+use Rattle.plain_tree.specs.Paths.{path_cmp, name_in, last_name, parent_of, same_path, is_at_or_below, is_below, moved_path}
+use Rattle.plain_tree.specs.Tree.{Tree, sort_of, Nodes, empty_tree, new_node, changed_at, touch, touched, change_noted, file_changed, changed_by, moved, entry_in, entries_in, cells_at}
 use Rattle.plain_tree.specs.Refusals.{first_of, refuse_if, no_node, no_dir, exists_at, at_root, too_many, not_empty, bad_name, new_refusal, rename_refusal, refusal_of}
 use Rattle.plain_tree.specs.Calls.{with_new, with_bytes, with_length, with_rename, without, after, after_done, after_unless}
-use Rattle.plain_tree.specs.Valid.{is_dir, mark_of, mark_at, IsShape, IsValid}
+use Rattle.plain_tree.specs.Valid.{is_dir, mark_of, mark_at, IsShape, AreValid, IsValid}
+use Rattle.plain_tree.specs.Seen.{CanStand, CanLeave, CanMove}
 use Rattle.plain_tree.proofs.NodeLemmas.{path_total, path_exact, changed_found, changed_missing}
-use Rattle.plain_tree.proofs.BelowLemmas.{one_entry}
-use Rattle.plain_tree.proofs.MoveLemmas.{same_is, is_same, below_split, below_Decides, not_true, back, back_below, get_moved}
+use Rattle.plain_tree.proofs.MoveLemmas.{same_is, is_same, below_split, below_join, below_Decides, not_true, back, back_below, get_moved}
 
 -- a shape goes by the marks alone
 same_shape : (m n : List (List ℕ) → Option (ℕ × Bool)) (c d h : ℕ) → ((p : List (List ℕ)) → n p ≡ m p) → d ≤ c → IsShape m c h → IsShape n d h
@@ -49,11 +53,11 @@ remark m p q node new Greater is found same = refl
 remarks : (m : Nodes) (p : List (List ℕ)) (node new : Node) → fin.get m p ≡ Some node → mark_of (Some new) ≡ mark_of (Some node) → (q : List (List ℕ)) → mark_at (fin.insert m p new) q ≡ mark_at m q
 remarks m p node new found same q = ap mark_of (fin.get-insert path_total m p new q) ∙ remark m p q node new (path_cmp q p) refl found same
 
-recount : (m : Nodes) (p : List (List ℕ)) (node new : Node) → fin.get m p ≡ Some node → fin.len (fin.insert m p new) ≡ fin.len m
+pub recount : (m : Nodes) (p : List (List ℕ)) (node new : Node) → fin.get m p ≡ Some node → fin.len (fin.insert m p new) ≡ fin.len m
 recount m p node new found = fin.len-insert path_total m p new ∙ ap (λ o. cond (is_some o) (fin.len m) (fin.len m + 1)) found
 
 -- a change that keeps every node's mark keeps the shape
-changed_keeps : (change : Node → Node) → ((n : Node) → mark_of (Some (change n)) ≡ mark_of (Some n)) → (p : List (List ℕ)) (m : Nodes) (h : ℕ) → IsShape (mark_at m) (fin.len m) h → IsShape (mark_at (changed_at change p m)) (fin.len (changed_at change p m)) h
+pub changed_keeps : (change : Node → Node) → ((n : Node) → mark_of (Some (change n)) ≡ mark_of (Some n)) → (p : List (List ℕ)) (m : Nodes) (h : ℕ) → IsShape (mark_at m) (fin.len m) h → IsShape (mark_at (changed_at change p m)) (fin.len (changed_at change p m)) h
 changed_keeps change keeps p m h s =
     elim (fin.get m p) as (λ o. fin.get m p ≡ o → IsShape (mark_at (changed_at change p m)) (fin.len (changed_at change p m)) h) [
       | None ↦ λ is. subst (λ (n : Nodes). IsShape (mark_at n) (fin.len n) h) (sym (changed_missing change p m is)) s
@@ -64,13 +68,18 @@ changed_keeps change keeps p m h s =
 touch_keeps : (at : Moment) (p : List (List ℕ)) (m : Nodes) (h : ℕ) → IsShape (mark_at m) (fin.len m) h → IsShape (mark_at (touch at p m)) (fin.len (touch at p m)) h
 touch_keeps at p m h s = changed_keeps (touched at) (λ n. refl) p m h s
 
-file_mark : (change : List Cell → List Cell) (at : Moment) (node : Node) → mark_of (Some (file_changed change at node)) ≡ mark_of (Some node)
+pub file_mark : (change : List Cell → List Cell) (at : Moment) (node : Node) → mark_of (Some (file_changed change at node)) ≡ mark_of (Some node)
 file_mark change at node = by node.kind refl
   where
     by : (kind : Kind) → node.kind ≡ kind → mark_of (Some (file_changed change at node)) ≡ mark_of (Some node)
     by kinds.Dir is = rw is refl
     by (kinds.File cells) is = rw is refl
     by (kinds.Link text) is = rw is refl
+
+pub change_mark : (change : Change) (at : Moment) (node : Node) → mark_of (Some (changed_by change at node)) ≡ mark_of (Some node)
+change_mark changes.Touch at node = refl
+change_mark changes.Note at node = refl
+change_mark (changes.Resize size) at node = file_mark (λ cells. resized cells size) at node
 
 file_keeps : (change : List Cell → List Cell) (at : Moment) (p : List (List ℕ)) (m : Nodes) (h : ℕ) → IsShape (mark_at m) (fin.len m) h → IsShape (mark_at (changed_at (file_changed change at) p m)) (fin.len (changed_at (file_changed change at) p m)) h
 file_keeps change at p m h s = changed_keeps (file_changed change at) (file_mark change at) p m h s
@@ -151,27 +160,53 @@ dir_there nodes path none = by (fin.get nodes path) refl
     by None is = let wrong = rw is at none in cc
     by (Some node) is = (node.uid, ap mark_of is ∙ ap (λ b. Some (node.uid, b)) (kind_is node node.kind is refl))
 
+node_there : (nodes : Nodes) (path : List (List ℕ)) → no_node nodes path ≡ None → IsSome (fin.get nodes path)
+node_there nodes path none = by (fin.get nodes path) refl
+  where
+    by : (o : Option Node) → fin.get nodes path ≡ o → IsSome (fin.get nodes path)
+    by None is = let wrong = rw is at none in cc
+    by (Some node) is = ap is_some is
+
 new_mark : (m : Nodes) (p q : List (List ℕ)) (node : Node) (r : Ordering) → path_cmp q p ≡ r → mark_of (cond (is_eq r) (Some node) (fin.get m q)) ≡ cond (is_eq r) (Some (node.uid, is_dir node.kind)) (mark_at m q)
 new_mark m p q node Less is = refl
 new_mark m p q node Equal is = refl
 new_mark m p q node Greater is = refl
 
-create_keeps : (kind : Kind) (t : Tree) (path : List (List ℕ)) (at : Moment) → new_refusal t path ≡ None → IsValid t → IsValid (with_new kind t path at)
-create_keeps kind t path at free s =
+-- a node that may stand at a path leaves the nodes valid
+inserted_shape : (m : Nodes) (path : List (List ℕ)) (new : Node) (can : CanStand m path new) → IsShape (mark_at (fin.insert m path new)) (fin.len (fin.insert m path new)) (can.highest + 1)
+inserted_shape m path new can =
+    extended (mark_at m) (mark_at (fin.insert m path new)) path (is_dir new.kind) (fin.len m) _ can.highest can.up.0
+    (λ q. ap mark_of (fin.get-insert path_total m path new q) ∙ new_mark m path q new (path_cmp q path) refl ∙ ap (λ u. cond (is_eq (path_cmp q path)) (Some (u, is_dir new.kind)) (mark_at m q)) can.next)
+    (ap mark_of can.free) can.named can.up.1 can.room can.space
+    (fin.len-insert path_total m path new ∙ ap (λ o. cond (is_some o) (fin.len m) (fin.len m + 1)) can.free) can.shape
+
+pub can_stand : (kind : Kind) (t : Tree) (path : List (List ℕ)) (at : Moment) → new_refusal t path ≡ None → IsValid t → CanStand t.nodes path (new_node kind (t.highest + 1) at)
+can_stand kind t path at free s =
     let a = first_none (bad_name path) _ free in
     let b = first_none (at_root path) _ a.1 in
     let c = first_none (no_dir t.nodes (parent_of path)) _ b.1 in
     let d = first_none (exists_at t.nodes path) _ c.1 in
     let e = first_none (too_many t) _ d.1 in
-    let absent : fin.get t.nodes path ≡ None = not_some _ (not_refused _ Exists d.0) in
     let space = room_of t e.0 in
-    let parent = dir_there t.nodes (parent_of path) c.0 in
-    let node = new_node kind (t.highest + 1) at in
+    record {
+      highest = t.highest;
+      shape = s;
+      next = refl;
+      room = space.1;
+      space = space.0;
+      named = not_root path b.0;
+      free = not_some _ (not_refused _ Exists d.0);
+      up = dir_there t.nodes (parent_of path) c.0;
+    }
+
+create_keeps : (kind : Kind) (t : Tree) (path : List (List ℕ)) (at : Moment) → new_refusal t path ≡ None → IsValid t → IsValid (with_new kind t path at)
+unfolding can_stand
+create_keeps kind t path at free s =
     touch_keeps at (parent_of path) (fin.insert t.nodes path (new_node kind (t.highest + 1) at)) (t.highest + 1)
-    (extended (mark_at t.nodes) (mark_at (fin.insert t.nodes path (new_node kind (t.highest + 1) at))) path (is_dir kind) (fin.len t.nodes) _ t.highest parent.0
-    (λ q. ap mark_of (fin.get-insert path_total t.nodes path (new_node kind (t.highest + 1) at) q) ∙ new_mark t.nodes path q (new_node kind (t.highest + 1) at) (path_cmp q path) refl)
-    (ap mark_of absent) (not_root path b.0) parent.1 space.1 space.0
-    (fin.len-insert path_total t.nodes path (new_node kind (t.highest + 1) at) ∙ ap (λ o. cond (is_some o) (fin.len t.nodes) (fin.len t.nodes + 1)) absent) s)
+    (inserted_shape t.nodes path (new_node kind (t.highest + 1) at) (can_stand kind t path at free s))
+
+pub inserted_keeps : (m : Nodes) (path : List (List ℕ)) (new : Node) → CanStand m path new → AreValid (fin.insert m path new)
+inserted_keeps m path new can = (can.highest + 1, inserted_shape m path new can)
 
 -- paths below another, and their parents
 pub below_parent : (d p : List (List ℕ)) → is_at_or_below d p ≡ true → length d < length p → is_at_or_below d (parent_of p) ≡ true
@@ -208,8 +243,27 @@ free_below m c h s to none (suc n) p long e =
           (free_below m c h s to none n (parent_of p) (omega (arith, length-take (length p - 1) p)) (below_parent to p e (omega arith))))
     ] refl
 
+-- where the parent of a path isn't there, the path isn't
+pub parent_missing : (m : Nodes) → AreValid m → (path : List (List ℕ)) → path ≢ [] → fin.get m (parent_of path) ≡ None → fin.get m path ≡ None
+parent_missing m valid path some none =
+    elim (fin.get m path) as (λ o. fin.get m path ≡ o → o ≡ None) [
+      | None ↦ λ _. refl
+      | Some node ↦ λ is.
+          let up = valid.1.parents path node.uid (is_dir node.kind) (ap mark_of is) some in
+          absurd (mark_some m (parent_of path) (up.0, true) up.1 none)
+    ] refl
+
 pub valid_free : (t : Tree) → IsValid t → (to : List (List ℕ)) → fin.get t.nodes to ≡ None → (p : List (List ℕ)) → is_at_or_below to p ≡ true → fin.get t.nodes p ≡ None
 valid_free t s to none p e = free_below t.nodes (fin.len t.nodes) t.highest s to none (length p - length to) p (omega (arith, below_length to p e)) e
+
+-- a path of one name more than a directory's, below it, is a line of its listing
+pub one_entry : (dir p : List (List ℕ)) (node : Node) (rest : List Entry) → is_at_or_below dir p ≡ true → length p ≡ length dir + 1 → true ≡ nat_lt 0 (length (cons_option (entry_in dir (p, node)) rest))
+one_entry dir p node rest is long =
+    let other : eqb (length p) (length dir) ≡ false = grind (arith, nat_tests) in
+    let one : eqb (length p) (length dir + 1) ≡ true = grind (arith, nat_tests) in
+    let test : (is_at_or_below dir p && not (eqb (length p) (length dir)) && eqb (length p) (length dir + 1)) ≡ true = ap (λ b. b && not (eqb (length p) (length dir)) && eqb (length p) (length dir + 1)) is ∙ ap (λ b. not b && eqb (length p) (length dir + 1)) other ∙ one in
+    let name : name_in dir p ≡ Some (get_or p (length p - 1) []) = ap (λ b. cond b (last_name p) None) test ∙ slice_get-get_or p (length p - 1) [] (omega arith) in
+    sym (ap (λ o. nat_lt 0 (length (cons_option (option_map (λ name. record { sort = sort_of node.kind; name = name }) o) rest))) name ∙ ltb-is_true 0 (suc (length rest)) (omega arith))
 
 -- a child of a directory is in its listing
 more_listed : (o : Option Entry) (rest : List Entry) → true ≡ nat_lt 0 (length rest) → true ≡ nat_lt 0 (length (cons_option o rest))
@@ -242,45 +296,69 @@ left_mark m p q v is =
       | false ↦ λ other. (refl, sym (removed_mark m p q other) ∙ is)
     ] refl
 
-remove_keeps : (t : Tree) (path : List (List ℕ)) (at : Moment) → refusal_of t (Remove path) ≡ None → IsValid t → IsValid (without t path at)
-remove_keeps t path at free s =
+module _ (m : Nodes) (path : List (List ℕ)) (h : ℕ) (s : IsShape (mark_at m) (fin.len m) h) (can : CanLeave m path) where
+  childless : (q : List (List ℕ)) (uid : ℕ) (dir : Bool) → mark_at m q ≡ Some (uid, dir) → q ≢ [] → parent_of q ≡ path → ⊥
+  childless q uid dir is nonempty parent =
+      elim (fin.get m q) as (λ o. fin.get m q ≡ o → ⊥) [
+        | None ↦ λ none. mark_some m q (uid, dir) is none
+        | Some node ↦ λ found. let wrong : true ≡ false = child_listed m path q node found nonempty parent ∙ can.bare in cc
+      ] refl
+
+  fewer : (b : Bool) (n k : ℕ) → k ≡ cond b (n - 1) n → k ≤ n
+  fewer true n k e = omega arith
+  fewer false n k e = omega arith
+
+  removed_shape : IsShape (mark_at (fin.remove m path)) (fin.len (fin.remove m path)) h
+  removed_shape = record {
+    root = removed_mark m path [] (not_true (same_path [] path) (λ e. can.named (sym (same_is [] path e)))) ∙ s.root;
+    parents = λ q uid dir is nonempty.
+        let was = left_mark m path q (uid, dir) is in
+        let up = s.parents q uid dir was.1 nonempty in
+        (up.0, removed_mark m path (parent_of q) (not_true (same_path (parent_of q) path) (λ e. childless q uid dir was.1 nonempty (same_is (parent_of q) path e))) ∙ up.1);
+    given = λ q uid dir is. s.given q uid dir (left_mark m path q (uid, dir) is).1;
+    distinct = λ q r uid d e is to. s.distinct q r uid d e (left_mark m path q (uid, d) is).1 (left_mark m path r (uid, e) to).1;
+    bounded = s.bounded;
+    few = omega (arith, s.few, fewer (fin.contains_key m path) (fin.len m) (fin.len (fin.remove m path)) (fin.len-remove path_total m path));
+  }
+
+pub removed_keeps : (m : Nodes) (path : List (List ℕ)) → AreValid m → CanLeave m path → AreValid (fin.remove m path)
+removed_keeps m path valid can = (valid.0, removed_shape m path valid.0 valid.1 can)
+
+-- nothing stands directly in a directory without lines
+pub bare_below : (m : Nodes) (path : List (List ℕ)) → CanLeave m path → (name : List ℕ) → fin.get m (path ++ name ∷ []) ≡ None
+bare_below m path can name =
+    elim (fin.get m (path ++ name ∷ [])) as (λ o. fin.get m (path ++ name ∷ []) ≡ o → o ≡ None) [
+      | None ↦ λ none. refl
+      | Some node ↦ λ found.
+          let wrong : true ≡ false = found_listed (fin.entries m) path (path ++ name ∷ []) node (below_join path (name ∷ [])) (length-append path (name ∷ [])) (sym (fin.get-entries m (path ++ name ∷ [])) ∙ found) ∙ can.bare in cc
+    ] refl
+
+-- the parent of a path that is there is a directory
+parent_there : (m : Nodes) → AreValid m → (path : List (List ℕ)) → IsSome (fin.get m path) → path ≢ [] → (uid : ℕ) × (mark_at m (parent_of path) ≡ Some (uid, true))
+parent_there m valid path there some =
+    elim (fin.get m path) as (λ o. fin.get m path ≡ o → IsSome o → (uid : ℕ) × (mark_at m (parent_of path) ≡ Some (uid, true))) [
+      | None ↦ λ _ wrong. cc
+      | Some node ↦ λ is _. valid.1.parents path node.uid (is_dir node.kind) (ap mark_of is) some
+    ] refl there
+
+pub may_leave : (m : Nodes) (path : List (List ℕ)) → AreValid m → path ≢ [] → no_node m path ≡ None → nat_lt 0 (length (entries_in m path)) ≡ false → CanLeave m path
+may_leave m path valid named there bare = record {
+  there = node_there m path there;
+  named = named;
+  bare = bare;
+  up = parent_there m valid path (node_there m path there) named;
+}
+
+can_leave : (t : Tree) (path : List (List ℕ)) → IsValid t → refusal_of t (Remove path) ≡ None → CanLeave t.nodes path
+can_leave t path s free =
     let a = first_none (at_root path) _ free in
     let b = first_none (no_node t.nodes path) _ a.1 in
     let c = first_none (not_empty t.nodes path) _ b.1 in
-    let some = not_root path a.0 in
-    let empty : nat_lt 0 (length (entries_in t.nodes path)) ≡ false = not_refused _ NotEmpty c.0 in
-    let m = t.nodes in
-    let root_other : same_path [] path ≡ false = not_true (same_path [] path) (λ e. some (sym (same_is [] path e))) in
-    touch_keeps at (parent_of path) (fin.remove m path) t.highest (record {
-      root = removed_mark m path [] root_other ∙ s.root;
-      parents = λ q uid dir is nonempty.
-          let was = left_mark m path q (uid, dir) is in
-          let up = s.parents q uid dir was.1 nonempty in
-          (up.0, removed_mark m path (parent_of q) (not_true (same_path (parent_of q) path) (λ e. childless t.nodes path q uid dir was.1 nonempty (same_is (parent_of q) path e) empty)) ∙ up.1);
-      given = λ q uid dir is. s.given q uid dir (left_mark m path q (uid, dir) is).1;
-      distinct = λ q r uid d e is to. s.distinct q r uid d e (left_mark m path q (uid, d) is).1 (left_mark m path r (uid, e) to).1;
-      bounded = s.bounded;
-      few = omega (arith, s.few, fewer (fin.contains_key m path) (fin.len m) (fin.len (fin.remove m path)) (fin.len-remove path_total m path));
-    })
-  where
-    fewer : (b : Bool) (n k : ℕ) → k ≡ cond b (n - 1) n → k ≤ n
-    fewer true n k e = omega arith
-    fewer false n k e = omega arith
+    may_leave t.nodes path (t.highest, s) (not_root path a.0) b.0 (not_refused _ NotEmpty c.0)
 
-    childless : (m : Nodes) (path q : List (List ℕ)) (uid : ℕ) (dir : Bool) → mark_at m q ≡ Some (uid, dir) → q ≢ [] → parent_of q ≡ path → nat_lt 0 (length (entries_in m path)) ≡ false → ⊥
-    childless m path q uid dir is nonempty parent empty =
-        elim (fin.get m q) as (λ o. fin.get m q ≡ o → ⊥) [
-          | None ↦ λ none. mark_some m q (uid, dir) is none
-          | Some node ↦ λ found. let wrong : true ≡ false = child_listed m path q node found nonempty parent ∙ empty in cc
-        ] refl
-
--- what holds before a node moves
-pub record CanMove (m : Nodes) (from to : List (List ℕ)) : Type 0 where
-  pub from_named : from ≢ []
-  pub to_named : to ≢ []
-  pub free : (x : List (List ℕ)) → is_at_or_below to x ≡ true → fin.get m x ≡ None
-  pub apart : is_at_or_below from to ≡ false
-  pub up : (u : ℕ) × (mark_at m (parent_of to) ≡ Some (u, true))
+remove_keeps : (t : Tree) (path : List (List ℕ)) (at : Moment) → refusal_of t (Remove path) ≡ None → IsValid t → IsValid (without t path at)
+remove_keeps t path at free s =
+    touch_keeps at (parent_of path) (fin.remove t.nodes path) t.highest (removed_shape t.nodes path t.highest s (can_leave t path s free))
 
 marked : (a b : Bool) (x y : Option Node) → mark_of (cond a x (cond b None y)) ≡ cond a (mark_of x) (cond b None (mark_of y))
 marked true b x y = refl
@@ -357,7 +435,7 @@ module _ (m : Nodes) (from to : List (List ℕ)) (can : CanMove m from to) where
       ))
       (came q (uid, dir) is)
 
-  move_keeps : (c d h : ℕ) → d ≤ c → IsShape (mark_at m) c h → IsShape (mark_at (moved from to m)) d h
+  pub move_keeps : (c d h : ℕ) → d ≤ c → IsShape (mark_at m) c h → IsShape (mark_at (moved from to m)) d h
   move_keeps c d h fewer s = record {
     root = moved_not [] (below_root to can.to_named) (below_root from can.from_named) ∙ s.root;
     parents = moved_parents c h s;
@@ -385,7 +463,7 @@ made_of (e ∷ es) = omega (arith, made_of es, one_more (fin.contains_key (fin.f
     one_more true n k e = omega arith
     one_more false n k e = omega arith
 
-fewer_moved : (from to : List (List ℕ)) (m : Nodes) → fin.len (moved from to m) ≤ fin.len m
+pub fewer_moved : (from to : List (List ℕ)) (m : Nodes) → fin.len (moved from to m) ≤ fin.len m
 fewer_moved from to m =
     let moves : List (List (List ℕ) × Node) = map (λ e. (moved_path from to e.0, e.1)) (fin.entries m) in
     let move : (List (List ℕ) × Node) → (List (List ℕ) × Node) = λ e. (moved_path from to e.0, e.1) in
@@ -422,11 +500,13 @@ can_move t from to s free differ =
     let e = first_none (no_dir t.nodes (parent_of to)) _ d.1 in
     let target = rename_target t.nodes from to free differ in
     record {
+      there = node_there t.nodes from d.0;
       from_named = not_root from b.0;
       to_named = not_root to c.0;
       free = valid_free t s to target.0;
       apart = not_at_or_below from to target.1 differ;
       up = dir_there t.nodes (parent_of to) e.0;
+      from_up = parent_there t.nodes (t.highest, s) from (node_there t.nodes from d.0) (not_root from b.0);
     }
 
 rename_keeps : (t : Tree) (from to : List (List ℕ)) (at : Moment) → rename_refusal t.nodes from to ≡ None → IsValid t → IsValid (with_rename t from to at)

@@ -21,7 +21,8 @@ use Rattle.plain_tree.specs.Valid.{IsValid}
 use Rattle.plain_tree.specs.Laws.{holding, holding_at, HasMoved}
 use Rattle.plain_tree.proofs.NodeLemmas.{changed_found, changed_missing}
 use Rattle.plain_tree.proofs.MoveLemmas.{same_is, same_self, not_true, below_Decides, below_join, back, get_moved, here_inserted, other_inserted}
-use Rattle.plain_tree.proofs.Validity.{CanMove, can_move, first_none, below_up}
+use Rattle.plain_tree.specs.Seen.{CanMove}
+use Rattle.plain_tree.proofs.Validity.{can_move, first_none, below_up}
 
 -- what is written at an offset is read there
 some_bytes : (bytes : List ℕ) → bytes_of (map (λ b. Some b) bytes) ≡ Some bytes

@@ -1,12 +1,12 @@
 pub mod Calls
 pub mod Cells
-pub mod Fronts
 pub mod History
 pub mod Laws
-pub mod Moves
+pub mod Links
 pub mod Pages
 pub mod Paths
 pub mod RefusalNames
 pub mod Refusals
+pub mod Seen
 pub mod Tree
 pub mod Valid

@@ -1,10 +1,9 @@
--- Paths, which are lists of names, and finite maps from paths.
-use Rattle.std.specs.Prelude.{ℕ, ◌+◌, ◌-◌, List, ◌++◌, Bool, ◌&&◌, ◌==◌, not, if◌then◌else◌, map, length, take, drop, nat_eq, slice_get, Option, None}
+-- Paths, which are lists of names.
+use Rattle.std.specs.Prelude.{ℕ, ◌+◌, ◌-◌, List, ◌++◌, Bool, ◌&&◌, ◌==◌, not, if◌then◌else◌, length, take, drop, nat_eq, slice_get, Option, None}
 use Rattle.std.specs.List.{starts_with}
 use Rattle.std.specs.declared.cmp.Ordering.{Ordering}
 use Rattle.std.specs.Cmp.Lexicographic.{slice_cmp, pointwise}
 use Rattle.std.specs.Ordering.{nat_cmp, is_eq}
-use Rattle.std.specs.FinMap.{FinMap, from_entries}
 
 -- name by name, by the bytes of the names
 abbrev pub path_cmp : List (List ℕ) → List (List ℕ) → Ordering
@@ -37,7 +36,3 @@ name_in dir path = if is_below dir path && (length path == length dir + 1) then 
 -- where a path stands once `from` has become `to`
 abbrev pub moved_path : List (List ℕ) → List (List ℕ) → List (List ℕ) → List (List ℕ)
 moved_path from to path = if is_at_or_below from path then to ++ drop (length from) path else path
-
--- the map of a list of entries, whose keys show paths
-abbrev pub nodes_of : {K X : Type 0} → (K → List (List ℕ)) → List (K × X) → FinMap path_cmp X
-nodes_of path es = from_entries (map (λ e. (path e.0, e.1)) es)

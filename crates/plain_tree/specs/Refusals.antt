@@ -34,6 +34,12 @@ bad_name path = found (last_name path)
 abbrev pub at_root : List (List ℕ) → Option Refusal
 at_root path = refuse_if (length path == 0) Root
 
+-- why nothing stands where a path goes on below such a node
+abbrev pub missing_below : Kind → Refusal
+missing_below kinds.Dir = NotFound
+missing_below (kinds.File cells) = NotDir
+missing_below (kinds.Link text) = NotDir
+
 -- what stands at the longest front of fewer than n names that is there says why the path isn't
 abbrev pub why_missing : Nodes → List (List ℕ) → ℕ → Refusal
 why_missing nodes path zero = NotFound

@@ -12,7 +12,9 @@ use Rattle.plain_tree.specs.declared.calls.Sort.{Sort}
 use Rattle.plain_tree.specs.declared.calls.Sort.TheVariants as sorts
 use Rattle.plain_tree.specs.declared.calls.Entry.{Entry}
 use Rattle.plain_tree.specs.declared.calls.Facts.{Facts}
-use Rattle.plain_tree.specs.Cells.{Cell}
+use Rattle.plain_tree.specs.declared.changes.Change.{Change}
+use Rattle.plain_tree.specs.declared.changes.Change.TheVariants as changes
+use Rattle.plain_tree.specs.Cells.{Cell, resized}
 use Rattle.plain_tree.specs.Paths.{path_cmp, name_in, moved_path}
 
 -- what stands at each path
@@ -63,6 +65,12 @@ file_changed change at node = of_kind node.kind
     of_kind kinds.Dir = node
     of_kind (kinds.File cells) = touched at (record node { kind = kinds.File (change cells) })
     of_kind (kinds.Link text) = node
+
+-- a node with a change made at a moment
+abbrev pub changed_by : Change → Moment → Node → Node
+changed_by changes.Touch at node = touched at node
+changed_by changes.Note at node = change_noted at node
+changed_by (changes.Resize size) at node = file_changed (λ cells. resized cells size) at node
 
 -- each node at or below `from` stands at or below `to`, and all others stay
 abbrev pub moved : List (List ℕ) → List (List ℕ) → Nodes → Nodes

@@ -2,9 +2,10 @@
 #![tactic(auto)]
 
 mod calls;
+mod changes;
 mod laws;
+mod links;
 mod map_tree;
-mod moves;
 mod node_map;
 mod nodes;
 mod paged;

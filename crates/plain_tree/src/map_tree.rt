@@ -1,19 +1,20 @@
 ghost use Rattle.std.specs.Prelude.{◌≡◌, ◌<◌, ◌+◌, ◌^◌, [], length, None, OnOk, OnErr, IfOk, IfNone};
 ghost use Rattle.std.specs.Result.{result_err};
 ghost use Rattle.plain_tree.specs.Refusals.{new_refusal, rename_refusal, no_file};
-ghost use Rattle.plain_tree.specs.Valid.{IsValid, AreValid};
-ghost use Rattle.plain_tree.specs.Tree.{empty_tree, new_node, facts_of, sort_of, cells_at};
+ghost use Rattle.plain_tree.specs.Valid.{IsValid};
+ghost use Rattle.plain_tree.specs.Tree.{empty_tree, facts_of, sort_of, cells_at};
 ghost use Rattle.plain_tree.specs.Calls.{after, after_unless, answer, answer_unless, with_new, with_length};
 
 use crate::calls::{Answer, Call, Facts, Refusal};
-use crate::node_map::{NodeMap, sort_of};
+use crate::changes::{Change, new_node, sort_of};
+use crate::node_map::NodeMap;
 use crate::nodes::{Kind, Node};
 use crate::paged::PagedFile;
-use crate::paths::{clone_path, is_below, parent, same_path};
-use crate::refusals::{bad_name, no_dir, no_file, no_node, why_missing};
+use crate::paths::{is_below, parent, same_path};
+use crate::refusals::{bad_name, no_dir, no_file, no_node};
 use std::alloc::Global;
 use std::marker::Model;
-use tape_types::{Moment, NoMemory, Text, Times};
+use tape_types::{Moment, NoMemory, Text};
 
 const MOST_NODES: usize = 65536;
 
@@ -51,11 +52,9 @@ impl MapTree {
     pub fn empty(alloc: Global, at: Moment) -> Result<MapTree, NoMemory>
         ensures { IfOk result (λ t. t ≡ empty_tree at) }
     {
-        let mut nodes = NodeMap::new(alloc);
-        nodes.insert(Vec::new(alloc), new_node(Kind::Dir, 1, at))?;
         Ok(MapTree {
             highest: 1,
-            nodes,
+            nodes: NodeMap::new(alloc, at),
             alloc,
         })
     }
@@ -102,9 +101,9 @@ impl MapTree {
             return Ok(Answer::Refused(refusal));
         }
         let uid = self.highest + 1;
-        let key = clone_path(self.alloc, path)?;
-        self.nodes.insert(key, new_node(kind, uid, at))?;
-        self.nodes.touch(parent(path), at);
+        self.nodes
+            .insert(self.alloc, path, new_node(kind, uid, at))?;
+        self.nodes.change(parent(path), Change::Touch, at);
         self.highest = uid;
         Ok(Answer::Done)
     }
@@ -116,7 +115,6 @@ impl MapTree {
         bytes: &[u8],
         at: Moment,
     ) -> Result<Answer, NoMemory>
-        requires { IsValid self.old }
         ensures answer { IfOk result (λ a. a ≡ answer self.old (Call.Write path.now offset bytes.now)) }
         ensures after { OnOk result (self.new ≡ after self.old (Call.Write path.now offset bytes.now) at) }
         ensures err { OnErr result (self.new ≡ self.old) }
@@ -134,7 +132,6 @@ impl MapTree {
     }
 
     fn truncate(&mut self, path: &[Text], size: u64, at: Moment) -> Answer
-        requires { IsValid self.old }
         ensures answer { result ≡ answer self.old (Call.Truncate path.now size) }
         ensures after { self.new ≡ after self.old (Call.Truncate path.now size) at }
     {
@@ -143,7 +140,7 @@ impl MapTree {
             Ok(_) if size > LONGEST => Answer::Refused(Refusal::TooLong),
             Ok(present) => {
                 if size != present {
-                    self.nodes.resize(path, size, at);
+                    self.nodes.change(path, Change::Resize(size), at);
                 }
                 Answer::Done
             }
@@ -151,12 +148,11 @@ impl MapTree {
     }
 
     fn read(&self, path: &[Text], offset: u64, count: u64) -> Result<Answer, NoMemory>
-        requires { IsValid self.now }
         ensures { IfOk result (λ a. a ≡ answer self.now (Call.Read path.now offset count)) }
     {
-        match self.nodes.get(path) {
-            None => Ok(Answer::Refused(why_missing(&self.nodes, path))),
-            Some(node) => match &node.kind {
+        match self.nodes.find(path) {
+            Err(refusal) => Ok(Answer::Refused(refusal)),
+            Ok(node) => match &node.kind {
                 Kind::Dir => Ok(Answer::Refused(Refusal::IsDir)),
                 Kind::Link(_) => Ok(Answer::Refused(Refusal::IsLink)),
                 Kind::File(file) => Ok(Answer::Got(file.read(offset, count)?)),
@@ -165,7 +161,6 @@ impl MapTree {
     }
 
     fn list(&self, path: &[Text]) -> Result<Answer, NoMemory>
-        requires { IsValid self.now }
         ensures { IfOk result (λ a. a ≡ answer self.now (Call.Listing path.now)) }
     {
         match no_dir(&self.nodes, path) {
@@ -188,18 +183,17 @@ impl MapTree {
         if self.nodes.has_entries(path) {
             return Answer::Refused(Refusal::NotEmpty);
         }
-        let _node = self.nodes.remove(path);
-        self.nodes.touch(parent(path), at);
+        self.nodes.remove(path);
+        self.nodes.change(parent(path), Change::Touch, at);
         Answer::Done
     }
 
     fn stat(&self, path: &[Text]) -> Result<Answer, NoMemory>
-        requires { IsValid self.now }
         ensures { IfOk result (λ a. a ≡ answer self.now (Call.Stat path.now)) }
     {
-        match self.nodes.get(path) {
-            None => Ok(Answer::Refused(why_missing(&self.nodes, path))),
-            Some(node) => Ok(Answer::Facts(facts_of(self.alloc, node)?)),
+        match self.nodes.find(path) {
+            Err(refusal) => Ok(Answer::Refused(refusal)),
+            Ok(node) => Ok(Answer::Facts(facts_of(self.alloc, node)?)),
         }
     }
 
@@ -214,16 +208,15 @@ impl MapTree {
         }
         if !same_path(from, to) {
             self.nodes.rename(self.alloc, from, to)?;
-            self.nodes.note_change(to, at);
-            self.nodes.touch(parent(from), at);
-            self.nodes.touch(parent(to), at);
+            self.nodes.change(to, Change::Note, at);
+            self.nodes.change(parent(from), Change::Touch, at);
+            self.nodes.change(parent(to), Change::Touch, at);
         }
         Ok(Answer::Done)
     }
 
     /// Why a node may not move to another path.
     fn rename_refusal(&self, from: &[Text], to: &[Text]) -> Result<Option<Refusal>, NoMemory>
-        requires { IsValid self.now }
         ensures { IfOk result (λ refusal. refusal ≡ rename_refusal self.now.nodes from.now to.now) }
     {
         if let Some(refusal) = bad_name(self.alloc, to)? {
@@ -252,7 +245,6 @@ impl MapTree {
 
     /// Why a new node may not stand at the path.
     fn new_refusal(&self, path: &[Text]) -> Result<Option<Refusal>, NoMemory>
-        requires { IsValid self.now }
         ensures value { IfOk result (λ refusal. refusal ≡ new_refusal self.now path.now) }
         ensures room { IfOk result (λ refusal. IfNone refusal ((0 < length path.now) × (self.now.highest < 2 ^ 62))) }
     {
@@ -275,26 +267,14 @@ impl MapTree {
     }
 }
 
-fn new_node(kind: Kind, uid: u64, at: Moment) -> Node
-    ensures { result ≡ new_node kind uid at }
-{
-    Node {
-        uid,
-        times: Times::all_at(at),
-        readonly: false,
-        kind,
-    }
-}
-
 /// The length of the file at a path, or why it is no file.
 fn file_length(nodes: &NodeMap, path: &[Text]) -> Result<u64, Refusal>
-    requires { AreValid nodes.now }
     ensures refusal { result_err result ≡ no_file nodes.now path.now }
     ensures length { IfOk result (λ n. n ≡ length (cells_at nodes.now path.now)) }
 {
-    match nodes.get(path) {
-        None => Err(why_missing(nodes, path)),
-        Some(node) => match &node.kind {
+    match nodes.find(path) {
+        Err(refusal) => Err(refusal),
+        Ok(node) => match &node.kind {
             Kind::Dir => Err(Refusal::IsDir),
             Kind::File(file) => Ok(file.len()),
             Kind::Link(_) => Err(Refusal::IsLink),

@@ -1,89 +1,123 @@
-ghost use Rattle.std.specs.Prelude.{◌≡◌, ℕ, List, fold, false, None, ◌<◌, ◌+◌, ◌^◌, ◌≤◌, length, map, nat_lt, true, Some, IsSome, OnOk, OnErr, IfOk};
-ghost use Rattle.std.specs.List.{All};
-ghost use Rattle.std.specs.Option.{option_copied};
-ghost use Rattle.std.specs.FinMap as fin;
-ghost use Rattle.plain_tree.specs.Cells.{written, resized};
-ghost use Rattle.plain_tree.specs.Paths.{is_at_or_below, moved_path};
-ghost use Rattle.plain_tree.specs.Moves.{moves_of, is_end, carried};
-ghost use Rattle.plain_tree.specs.Tree.{touched, touch, change_noted, changed_at, file_changed, sort_of, entry_in, entries_in, moved};
+ghost use Rattle.plain_tree.specs.Seen.{Seen, Seen-prop};
 
-use crate::calls::{Entry, Sort};
-use crate::moves::Move;
+use crate::calls::{Entry, Refusal};
+use crate::changes::{Change, change_node, missing_below, new_node, write_node};
+use crate::links::Links;
 use crate::nodes::{Kind, Node};
-use crate::paths::{clone_path, is_at_or_below, join_paths};
 use std::alloc::Global;
-use std::collections::BTreeMap;
 use std::marker::Model;
-use std::ops::Bound;
-use tape_types::{List, Moment, NoMemory, Text, Times};
+use tape_types::{List, Moment, NoMemory, Text};
 
-/// The nodes by their paths.
+/// The nodes by their paths, kept as what stands in each directory under each name.
 #[derive(Drop)]
 pub struct NodeMap {
-    by_path: BTreeMap<Vec<Text>, Node>,
+    root: Node,
+    links: Links,
+    count: usize,
+    ghost seen: { Seen root links } by { Seen-prop root links },
 }
 
 impl Model for NodeMap {
-    ghost use Rattle.std.specs.Prelude.{◌≡◌};
     ghost use Rattle.std.specs.FinMap as fin;
-    ghost use Rattle.std.specs.BTreeMap.{btree_map_len};
     ghost use Rattle.std.specs.Coded.{coded_list, coded_ℕ};
     ghost use Rattle.plain_tree.specs.declared.nodes.Node.{Node};
     ghost use Rattle.plain_tree.specs.contracts.nodes.Node as node;
-    ghost use Rattle.plain_tree.specs.Paths.{path_cmp, nodes_of};
+    ghost use Rattle.plain_tree.specs.Paths.{path_cmp};
+    ghost use Rattle.plain_tree.specs.Seen.{IsKept};
 
     ghost Value = { fin.FinMap path_cmp Node };
 
     ghost coded = { fin.code (coded_list (coded_list coded_ℕ)) node.the_row.coded };
 
-    ghost view = { λ a. nodes_of (λ k. k.items) a.by_path.entries };
+    ghost view = { λ a. a.seen.0 };
 
-    ghost invariant = { λ a. fin.len (nodes_of (λ k. k.items) a.by_path.entries) ≡ btree_map_len a.by_path };
+    ghost invariant = { λ a. IsKept a.seen.0 a.links a.count };
 }
 
 impl NodeMap {
-    pub fn new(alloc: Global) -> NodeMap
-        ensures { result ≡ fin.empty }
+    ghost use Rattle.std.specs.Prelude.{◌≡◌, ◌≢◌, ℕ, List, [], None, Some, ◌<◌, ◌+◌, ◌^◌, ◌≤◌, length, map, nat_lt, IsSome, OnOk, OnErr, IfOk, IfErr, IfSome, IfNone};
+    ghost use Rattle.std.specs.FinMap as fin;
+    ghost use Rattle.plain_tree.specs.Cells.{written};
+    ghost use Rattle.plain_tree.specs.Paths.{parent_of};
+    ghost use Rattle.plain_tree.specs.Tree.{changed_at, changed_by, file_changed, entries_in, empty_tree, moved};
+    ghost use Rattle.plain_tree.specs.Seen.{IsMissing, IsPlace, CanStand, CanLeave, CanMove};
+
+    /// The root alone, which has uid 1.
+    pub fn new(alloc: Global, at: Moment) -> NodeMap
+        ensures { result ≡ (empty_tree at).nodes }
     {
         NodeMap {
-            by_path: BTreeMap::new(alloc),
+            root: new_node(Kind::Dir, 1, at),
+            links: Links::new(alloc),
+            count: 1,
         }
     }
 
     pub fn len(&self) -> usize
         ensures { result ≡ fin.len self.now }
     {
-        self.by_path.len()
+        self.count
     }
 
-    pub fn get(&self, path: &[Text]) -> Option<&Node>
-        ensures { option_copied result ≡ fin.get self.now path.now }
+    /// The node at a path, or why there is none.
+    pub fn find(&self, path: &[Text]) -> Result<&Node, Refusal>
+        ensures found { IfOk result (λ node. fin.get self.now path.now ≡ Some node.now) }
+        ensures missing { IfErr result (λ refusal. IsMissing self.now path.now refusal) }
     {
-        self.by_path.get(path)
+        match self.links.walk(&self.root, path) {
+            Ok(node) => Ok(node),
+            Err(last) => Err(missing_below(&last.kind)),
+        }
     }
 
     pub fn contains(&self, path: &[Text]) -> bool
         ensures { result ≡ fin.contains_key self.now path.now }
     {
-        self.by_path.contains_key(path)
+        match self.find(path) {
+            Ok(_) => true,
+            Err(_) => false,
+        }
+    }
+
+    /// The uid of the directory that a path's last name stands in, and that name.
+    fn place<'a>(&self, path: &'a [Text]) -> Option<(u64, &'a Text)>
+        ensures there { IfSome result (λ p. IsPlace self.now path.now p.0 p.1.now) }
+        ensures missing { IfNone result (path.now ≢ [] → fin.get self.now (parent_of path.now) ≡ None) }
+    {
+        match path.split_last() {
+            Some((name, front)) => match self.find(front) {
+                Ok(dir) => Some((dir.uid, name)),
+                Err(_) => None,
+            },
+            None => None,
+        }
     }
 
     /// Puts a node at a path, or changes nothing.
-    pub fn insert(&mut self, path: Vec<Text>, node: Node) -> Result<(), NoMemory>
-        ensures ok { OnOk result (self.new ≡ fin.insert self.old path.items node) }
+    pub fn insert(&mut self, alloc: Global, path: &[Text], node: Node) -> Result<(), NoMemory>
+        requires { CanStand self.old path.now node }
+        ensures ok { OnOk result (self.new ≡ fin.insert self.old path.now node) }
         ensures err { OnErr result (self.new ≡ self.old) }
     {
-        self.by_path.insert(path, node)?;
+        let Some((uid, name)) = self.place(path) else {
+            unreachable!();
+        };
+        let copy = name.try_clone(alloc)?;
+        self.links.insert(alloc, uid, copy, node)?;
+        self.count += 1;
         Ok(())
     }
 
-    /// Takes out the node at a path, where there is one.
-    pub fn remove(&mut self, path: &[Text]) -> Option<Node>
-        ensures taken { result ≡ fin.get self.old path.now }
-        ensures rest { self.new ≡ fin.remove self.old path.now }
+    /// Takes out the node at a path.
+    pub fn remove(&mut self, path: &[Text])
+        requires { CanLeave self.old path.now }
+        ensures { self.new ≡ fin.remove self.old path.now }
     {
-        let _keys_ascend = self.by_path.len();
-        self.by_path.remove(path)
+        let Some((uid, name)) = self.place(path) else {
+            unreachable!();
+        };
+        let _node = self.links.remove(uid, name);
+        self.count -= 1;
     }
 
     /// What stands directly in the directory at a path, by the bytes of the names.
@@ -91,19 +125,10 @@ impl NodeMap {
         requires { IsSome (fin.get self.now dir.now) }
         ensures { IfOk result (λ entries. entries ≡ entries_in self.now dir.now) }
     {
-        let mut entries = List::new(alloc);
-        let Some((key, _)) = self.by_path.get_key_value(dir) else {
+        let Ok(node) = self.find(dir) else {
             unreachable!();
         };
-        for (path, node) in self.by_path.range((Bound::Included(key), Bound::Unbounded)) {
-            if !is_at_or_below(dir, path) {
-                break;
-            }
-            if let Some(entry) = entry_below(alloc, dir, path, node)? {
-                entries.push(entry)?;
-            }
-        }
-        Ok(entries)
+        self.links.list(alloc, node.uid)
     }
 
     /// Whether anything stands directly in the directory at a path.
@@ -111,112 +136,38 @@ impl NodeMap {
         requires { IsSome (fin.get self.now dir.now) }
         ensures { result ≡ nat_lt 0 (length (entries_in self.now dir.now)) }
     {
-        let Some((key, _)) = self.by_path.get_key_value(dir) else {
+        let Ok(node) = self.find(dir) else {
             unreachable!();
         };
-        for (path, _) in self.by_path.range((Bound::Included(key), Bound::Unbounded)) {
-            if !is_at_or_below(dir, path) {
-                break;
-            }
-            if path.len() == dir.len() + 1 {
-                return true;
-            }
-        }
-        false
+        self.links.has_entries(node.uid)
     }
 
     /// Moves the node at a path, and all below it, to another path. Without memory nothing changes.
     pub fn rename(&mut self, alloc: Global, from: &[Text], to: &[Text]) -> Result<(), NoMemory>
-        requires there { IsSome (fin.get self.old from.now) }
-        requires free { (path : List (List ℕ)) → is_at_or_below to.now path ≡ true → fin.get self.old path ≡ None }
+        requires { CanMove self.old from.now to.now }
         ensures ok { OnOk result (self.new ≡ moved from.now to.now self.old) }
         ensures err { OnErr result (self.new ≡ self.old) }
     {
-        let moves = self.moves(alloc, from, to)?;
-        if let Err(refused) = self.reserve(alloc, &moves) {
-            self.clear(&moves);
-            return Err(refused);
-        }
-        self.carry(&moves);
-        Ok(())
-    }
-
-    /// The moves of all that stands at or below a path, to another one.
-    fn moves(&self, alloc: Global, from: &[Text], to: &[Text]) -> Result<Vec<Move>, NoMemory>
-        requires { IsSome (fin.get self.now from.now) }
-        ensures { IfOk result (λ moves. moves.items ≡ moves_of from.now to.now self.now) }
-    {
-        let mut moves = Vec::new(alloc);
-        let Some((key, _)) = self.by_path.get_key_value(from) else {
+        let Some((old, old_name)) = self.place(from) else {
             unreachable!();
         };
-        for (path, _) in self.by_path.range((Bound::Included(key), Bound::Unbounded)) {
-            if !is_at_or_below(from, path) {
-                break;
-            }
-            moves.push(move_of(alloc, from, to, path)?)?;
-        }
-        Ok(moves)
-    }
-
-    /// Puts a node at the end of each move, which takes the memory that the moves need.
-    fn reserve(&mut self, alloc: Global, moves: &[Move]) -> Result<(), NoMemory>
-        ensures there { OnOk result (All (λ m. IsSome (fin.get self.new m.to)) moves.now) }
-        ensures others { (path : List (List ℕ)) → is_end moves.now path ≡ false → fin.get self.new path ≡ fin.get self.old path }
-    {
-        for m in moves {
-            let key = clone_path(alloc, m.to.as_slice())?;
-            self.insert(key, placeholder())?;
-        }
+        let Some((uid, name)) = self.place(to) else {
+            unreachable!();
+        };
+        self.links.rename(alloc, old, old_name, uid, name)?;
         Ok(())
     }
 
-    /// Takes out what stands at the ends of the moves.
-    fn clear(&mut self, moves: &[Move])
-        ensures gone { (path : List (List ℕ)) → is_end moves.now path ≡ true → fin.get self.new path ≡ None }
-        ensures others { (path : List (List ℕ)) → is_end moves.now path ≡ false → fin.get self.new path ≡ fin.get self.old path }
+    /// Changes the node at a path, where there is one.
+    pub fn change(&mut self, path: &[Text], change: Change, at: Moment)
+        ensures { self.new ≡ changed_at (changed_by change at) path.now self.old }
     {
-        for m in moves {
-            let _node = self.remove(m.to.as_slice());
+        if path.is_empty() {
+            change_node(&mut self.root, change, at);
+            return;
         }
-    }
-
-    /// Takes each node from its start to its end, where something stands.
-    fn carry(&mut self, moves: &[Move])
-        ensures { self.new ≡ fold carried self.old moves.now }
-    {
-        for m in moves {
-            if let Some(node) = self.remove(m.from.as_slice()) {
-                self.replace(m.to.as_slice(), node);
-            }
-        }
-    }
-
-    /// Puts a node in place of the one at a path, where there is one. Takes no memory.
-    fn replace(&mut self, path: &[Text], node: Node)
-        ensures { self.new ≡ changed_at (λ _. node) path.now self.old }
-    {
-        match self.by_path.get_mut(path) {
-            Some(place) => put_node(place, node),
-            None => drop(node),
-        }
-    }
-
-    /// Sets change and modify time of the node at a path, where there is one.
-    pub fn touch(&mut self, path: &[Text], at: Moment)
-        ensures { self.new ≡ touch at path.now self.old }
-    {
-        if let Some(node) = self.by_path.get_mut(path) {
-            touch_node(node, at);
-        }
-    }
-
-    /// Sets the change time of the node at a path, where there is one.
-    pub fn note_change(&mut self, path: &[Text], at: Moment)
-        ensures { self.new ≡ changed_at (change_noted at) path.now self.old }
-    {
-        if let Some(node) = self.by_path.get_mut(path) {
-            note_node_change(node, at);
+        if let Some((uid, name)) = self.place(path) {
+            self.links.change(uid, name, change, at);
         }
     }
 
@@ -233,112 +184,14 @@ impl NodeMap {
         ensures ok { OnOk result (self.new ≡ changed_at (file_changed (λ cells. written cells offset (map Some bytes.now)) at) path.now self.old) }
         ensures err { OnErr result (self.new ≡ self.old) }
     {
-        if let Some(node) = self.by_path.get_mut(path) {
-            write_node(node, offset, bytes, at)?;
+        if path.is_empty() {
+            write_node(&mut self.root, offset, bytes, at)?;
+            return Ok(());
         }
+        let Some((uid, name)) = self.place(path) else {
+            return Ok(());
+        };
+        self.links.write(uid, name, offset, bytes, at)?;
         Ok(())
     }
-
-    /// Sets the length of the file at a path and touches it.
-    pub fn resize(&mut self, path: &[Text], size: u64, at: Moment)
-        ensures { self.new ≡ changed_at (file_changed (λ cells. resized cells size) at) path.now self.old }
-    {
-        if let Some(node) = self.by_path.get_mut(path) {
-            resize_node(node, size, at);
-        }
-    }
-}
-
-fn touch_node(node: &mut Node, at: Moment)
-    ensures { node.new ≡ touched at node.old }
-{
-    node.times.change = at;
-    node.times.modify = at;
-}
-
-fn note_node_change(node: &mut Node, at: Moment)
-    ensures { node.new ≡ change_noted at node.old }
-{
-    node.times.change = at;
-}
-
-fn write_node(node: &mut Node, offset: u64, bytes: &[u8], at: Moment) -> Result<(), NoMemory>
-    requires some { 0 < length bytes.now }
-    requires fits { offset + length bytes.now ≤ 2 ^ 40 }
-    ensures ok { OnOk result (node.new ≡ file_changed (λ cells. written cells offset (map Some bytes.now)) at node.old) }
-    ensures err { OnErr result (node.new ≡ node.old) }
-{
-    if let Kind::File(file) = &mut node.kind {
-        file.write(offset, bytes)?;
-        touch_node(node, at);
-    }
-    Ok(())
-}
-
-fn resize_node(node: &mut Node, size: u64, at: Moment)
-    ensures { node.new ≡ file_changed (λ cells. resized cells size) at node.old }
-{
-    if let Kind::File(file) = &mut node.kind {
-        file.resize(size);
-        touch_node(node, at);
-    }
-}
-
-/// The line of a node that stands directly in a directory. The path is that of the directory, or below it.
-fn entry_below(
-    alloc: Global,
-    dir: &[Text],
-    path: &[Text],
-    node: &Node,
-) -> Result<Option<Entry>, NoMemory>
-    requires { is_at_or_below dir.now path.now ≡ true }
-    ensures { IfOk result (λ entry. entry ≡ entry_in dir.now (path.now, node.now)) }
-{
-    if path.len() != dir.len() + 1 {
-        return Ok(None);
-    }
-    let Some(name) = path.last() else {
-        return Ok(None);
-    };
-    Ok(Some(Entry {
-        sort: sort_of(&node.kind),
-        name: name.try_clone(alloc)?,
-    }))
-}
-
-pub fn sort_of(kind: &Kind) -> Sort
-    ensures { result ≡ sort_of kind.now }
-{
-    match kind {
-        Kind::Dir => Sort::Dir,
-        Kind::File(_) => Sort::File,
-        Kind::Link(_) => Sort::Link,
-    }
-}
-
-fn move_of(alloc: Global, from: &[Text], to: &[Text], path: &[Text]) -> Result<Move, NoMemory>
-    requires { is_at_or_below from.now path.now ≡ true }
-    ensures { IfOk result (λ m. m ≡ record { from = path.now; to = moved_path from.now to.now path.now }) }
-{
-    let below = &path[from.len()..];
-    Ok(Move {
-        from: List::from_vec(clone_path(alloc, path)?),
-        to: List::from_vec(join_paths(alloc, to, below)?),
-    })
-}
-
-/// What stands at the end of a move until the node comes.
-fn placeholder() -> Node {
-    Node {
-        uid: 0,
-        times: Times::all_at(Moment { secs: 0, nanos: 0 }),
-        readonly: false,
-        kind: Kind::Dir,
-    }
-}
-
-fn put_node(place: &mut Node, node: Node)
-    ensures { place.new ≡ node }
-{
-    *place = node;
 }

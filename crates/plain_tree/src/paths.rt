@@ -1,8 +1,7 @@
-ghost use Rattle.std.specs.Prelude.{◌≡◌, ◌++◌, IfOk};
+ghost use Rattle.std.specs.Prelude.{◌≡◌};
 ghost use Rattle.plain_tree.specs.Paths.{parent_of, same_path, is_at_or_below, is_below};
 
-use std::alloc::Global;
-use tape_types::{NoMemory, Text};
+use tape_types::Text;
 
 /// The path without its last name.
 pub fn parent(path: &[Text]) -> &[Text]
@@ -28,25 +27,4 @@ pub fn is_below(front: &[Text], path: &[Text]) -> bool
     ensures { result ≡ is_below front.now path.now }
 {
     is_at_or_below(front, path) && path.len() != front.len()
-}
-
-pub fn clone_path(alloc: Global, path: &[Text]) -> Result<Vec<Text>, NoMemory>
-    ensures { IfOk result (λ copy. copy.items ≡ path.now) }
-{
-    let mut copy = Vec::with_capacity(alloc, path.len())?;
-    for name in path {
-        copy.push(name.try_clone(alloc)?)?;
-    }
-    Ok(copy)
-}
-
-/// A path, gone on from by the names of another.
-pub fn join_paths(alloc: Global, front: &[Text], rest: &[Text]) -> Result<Vec<Text>, NoMemory>
-    ensures { IfOk result (λ path. path.items ≡ front.now ++ rest.now) }
-{
-    let mut path = clone_path(alloc, front)?;
-    for name in rest {
-        path.push(name.try_clone(alloc)?)?;
-    }
-    Ok(path)
 }

@@ -1,18 +1,19 @@
-use Rattle.std.proofs.Common.{sym, ap, ◌∙◌, ◌+◌, cond, is_some}
 use Rattle.std.specs.FinMap as fin
-use Rattle.std.specs.BTreeMap.{btree_map_len}
-use Rattle.plain_tree.specs.Paths.{nodes_of}
-use Rattle.plain_tree.proofs.NodeLemmas.{get_nodes, nodes_remove, len_remove}
+use Rattle.std.proofs.Common.{◌-◌, rules}
+use Rattle.plain_tree.proofs.KeptLemmas.{now_kept, only, still_kept, remove_next, one_there, no_dir_missing}
 use Rattle.plain_tree.proofs.node_map.NodeMap.remove.Goals as goal
 
+pub unreachable-requires : goal.unreachable-requires
+unreachable-requires c = no_dir_missing c.args.self.now c.args.path.now c.requires.up c.requires.named c.in_default.ensures.missing
+
+pub overflow_sub-self : goal.overflow_sub-self
+overflow_sub-self c = one_there c.args.self.now c.args.path.now c.self.inside.count (now_kept c.self.inside.root c.self.inside.links c.self.inside.count c.args.self.now c.self.inside.seen c.self.view_is c.self.invariant).kept.counted c.requires.there
+
+pub invariant_of-self-inside : goal.invariant_of-self-inside
+invariant_of-self-inside c = ((fin.remove c.args.self.now c.args.path.now, (remove_next c.self.inside.root c.self.inside.links c.remove-node.new.self c.self.inside.count c.args.self.now (now_kept c.self.inside.root c.self.inside.links c.self.inside.count c.args.self.now c.self.inside.seen c.self.view_is c.self.invariant) c.args.path.now c.in-Some.uid c.in-Some.name.now c.in-Some.ensures.there c.remove-node.ensures.rest c.requires).shown), tt)
+
 pub invariant_of-self : goal.invariant_of-self
-invariant_of-self c =
-    len_remove (λ k. k.items) c.self.inside.by_path.entries _ c.args.path.now (btree_map_len c.self.inside.by_path) _ c.len-keys_ascend.ensures.ordered c.remove.ensures.entries c.self.invariant
-    (ap (λ o. btree_map_len c.remove.new.self + cond (is_some o) 1 0) (sym c.remove.ensures.value) ∙ c.remove.ensures.len)
+invariant_of-self c = still_kept c.self.inside.root c.remove-node.new.self (c.self.inside.count - 1) (fin.remove c.args.self.now c.args.path.now) _ (search rules) (remove_next c.self.inside.root c.self.inside.links c.remove-node.new.self c.self.inside.count c.args.self.now (now_kept c.self.inside.root c.self.inside.links c.self.inside.count c.args.self.now c.self.inside.seen c.self.view_is c.self.invariant) c.args.path.now c.in-Some.uid c.in-Some.name.now c.in-Some.ensures.there c.remove-node.ensures.rest c.requires)
 
-pub returns-clause-taken : goal.returns-clause-taken
-returns-clause-taken c = c.remove.ensures.value ∙ sym (get_nodes (λ k. k.items) c.self.inside.by_path.entries c.args.path.now) ∙ ap (λ m. fin.get m c.args.path.now) c.self.view_is
-
-pub returns-clause-rest : goal.returns-clause-rest
-returns-clause-rest c =
-    ap (nodes_of (λ k. k.items)) c.remove.ensures.entries ∙ nodes_remove (λ k. k.items) c.self.inside.by_path.entries c.args.path.now c.len-keys_ascend.ensures.ordered ∙ ap (λ m. fin.remove m c.args.path.now) c.self.view_is
+pub returns : goal.returns
+returns c = only c.self.inside.root c.remove-node.new.self (c.self.inside.count - 1) (fin.remove c.args.self.now c.args.path.now) _ (search rules) (remove_next c.self.inside.root c.self.inside.links c.remove-node.new.self c.self.inside.count c.args.self.now (now_kept c.self.inside.root c.self.inside.links c.self.inside.count c.args.self.now c.self.inside.seen c.self.view_is c.self.invariant) c.args.path.now c.in-Some.uid c.in-Some.name.now c.in-Some.ensures.there c.remove-node.ensures.rest c.requires)

@@ -1,0 +1,96 @@
+ghost use Rattle.std.specs.Prelude.{◌≡◌, ◌<◌, ◌+◌, ◌^◌, ◌≤◌, length, map, Some, OnOk, OnErr};
+ghost use Rattle.plain_tree.specs.Cells.{written, resized};
+ghost use Rattle.plain_tree.specs.Tree.{touched, change_noted, file_changed, sort_of, changed_by, new_node};
+ghost use Rattle.plain_tree.specs.Refusals.{missing_below};
+
+use crate::calls::{Refusal, Sort};
+use crate::nodes::{Kind, Node};
+use tape_types::{Moment, NoMemory, Times};
+
+/// A change of a node that takes no memory.
+#[derive(Clone, Copy)]
+pub enum Change {
+    /// Sets change and modify time.
+    Touch,
+    /// Sets the change time.
+    Note,
+    /// Sets the length of a file, and touches it.
+    Resize(u64),
+}
+
+pub fn change_node(node: &mut Node, change: Change, at: Moment)
+    ensures { node.new ≡ changed_by change at node.old }
+{
+    match change {
+        Change::Touch => touch_node(node, at),
+        Change::Note => node.times.change = at,
+        Change::Resize(size) => resize_node(node, size, at),
+    }
+}
+
+fn touch_node(node: &mut Node, at: Moment)
+    ensures { node.new ≡ touched at node.old }
+{
+    node.times.change = at;
+    node.times.modify = at;
+}
+
+/// Puts bytes into a file and touches it, or changes nothing.
+pub fn write_node(node: &mut Node, offset: u64, bytes: &[u8], at: Moment) -> Result<(), NoMemory>
+    requires some { 0 < length bytes.now }
+    requires fits { offset + length bytes.now ≤ 2 ^ 40 }
+    ensures ok { OnOk result (node.new ≡ file_changed (λ cells. written cells offset (map Some bytes.now)) at node.old) }
+    ensures err { OnErr result (node.new ≡ node.old) }
+{
+    if let Kind::File(file) = &mut node.kind {
+        file.write(offset, bytes)?;
+        touch_node(node, at);
+    }
+    Ok(())
+}
+
+fn resize_node(node: &mut Node, size: u64, at: Moment)
+    ensures { node.new ≡ file_changed (λ cells. resized cells size) at node.old }
+{
+    if let Kind::File(file) = &mut node.kind {
+        file.resize(size);
+        touch_node(node, at);
+    }
+}
+
+pub fn put_node(place: &mut Node, node: Node)
+    ensures { place.new ≡ node }
+{
+    *place = node;
+}
+
+pub fn sort_of(kind: &Kind) -> Sort
+    ensures { result ≡ sort_of kind.now }
+{
+    match kind {
+        Kind::Dir => Sort::Dir,
+        Kind::File(_) => Sort::File,
+        Kind::Link(_) => Sort::Link,
+    }
+}
+
+pub fn new_node(kind: Kind, uid: u64, at: Moment) -> Node
+    ensures { result ≡ new_node kind uid at }
+{
+    Node {
+        uid,
+        times: Times::all_at(at),
+        readonly: false,
+        kind,
+    }
+}
+
+/// Why nothing stands where a path goes on below such a node.
+pub fn missing_below(kind: &Kind) -> Refusal
+    ensures { result ≡ missing_below kind.now }
+{
+    match kind {
+        Kind::Dir => Refusal::NotFound,
+        Kind::File(_) | Kind::Link(_) => Refusal::NotDir,
+    }
+}
