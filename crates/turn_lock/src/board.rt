@@ -11,6 +11,7 @@ use std::snapshot::Snapshot;
 use std::sync::Wait;
 use std::thread;
 
+/// A table with three words and one slot.
 pub(crate) struct Board<T: Logged> {
     table: LockTable<T>,
     ghost shape: { (table.shared.table_id.words ≡ 3) × (table.shared.table_id.slots ≡ 1) },

@@ -136,50 +136,47 @@ fn made(alloc: Global, seats: u16) -> Option<(TurnLock<Log>, Pass<Log>)>
 
 #[test]
 fn a_lock_that_is_not_entered(rt: HostRuntime) {
-    if let Some((lock, pass)) = made(rt.alloc(), 1) {
-        let log = lock.close(pass);
-        assert_eq!(&rt; log.title, 7);
-        assert!(&rt; log.entries.is_empty());
-    }
+    let (lock, pass) = made(rt.alloc(), 1).expect(&rt, "there is memory");
+    let log = lock.close(pass);
+    assert_eq!(&rt; log.title, 7);
+    assert!(&rt; log.entries.is_empty());
 }
 
 #[test]
 fn two_passes_in_two_threads(host: HostRuntime) {
     let rt = &host;
-    if let Some((lock, mut one)) = made(rt.alloc(), 2) {
-        let two = lock.split(&mut one);
-        let both = add_in_two_threads(rt, &lock, one, two, 1, 2);
-        let log = lock.close(both);
-        assert_eq!(rt; log.title, 7);
-        assert_eq!(rt; log.entries.len(), 2000);
-        assert!(rt; in_order(&log, 1));
-        assert!(rt; in_order(&log, 2));
-    }
+    let (lock, mut one) = made(rt.alloc(), 2).expect(rt, "there is memory");
+    let two = lock.split(&mut one);
+    let both = add_in_two_threads(rt, &lock, one, two, 1, 2);
+    let log = lock.close(both);
+    assert_eq!(rt; log.title, 7);
+    assert_eq!(rt; log.entries.len(), 2000);
+    assert!(rt; in_order(&log, 1));
+    assert!(rt; in_order(&log, 2));
 }
 
 #[test]
 fn three_passes_in_a_tree(host: HostRuntime) {
     let rt = &host;
-    if let Some((lock, mut one)) = made(rt.alloc(), 3) {
-        let three = lock.split(&mut one);
-        let two = lock.split(&mut one);
-        let shared = &lock;
-        let (mut one, two) = join(
-            rt,
-            move || -> Pass<Log>
-                requires { (one.lock ≡ shared.now) × (one.in_turn ≡ false) × (one.numbers ≡ 1 ∷ []) × (one.seats ≡ 3) }
-                ensures { (result.lock ≡ shared.entry.now) × (result.in_turn ≡ false) × (result.numbers ≡ 1 ∷ []) × (result.seats ≡ 3) }
-            { add_all(rt, shared, one, 1) },
-            move || -> Pass<Log>
-                requires { (two.lock ≡ shared.now) × (two.in_turn ≡ false) × (two.numbers ≡ 2 ∷ []) × (three.lock ≡ shared.now) × (three.in_turn ≡ false) × (three.numbers ≡ 3 ∷ []) }
-                ensures { (result.lock ≡ shared.entry.now) × (result.in_turn ≡ false) × (result.numbers ≡ 2 ∷ 3 ∷ []) }
-            { add_in_two_threads(rt, shared, two, three, 2, 3) },
-        );
-        lock.join(&mut one, two);
-        let log = lock.close(one);
-        assert_eq!(rt; log.entries.len(), 3000);
-        assert!(rt; in_order(&log, 1));
-        assert!(rt; in_order(&log, 2));
-        assert!(rt; in_order(&log, 3));
-    }
+    let (lock, mut one) = made(rt.alloc(), 3).expect(rt, "there is memory");
+    let three = lock.split(&mut one);
+    let two = lock.split(&mut one);
+    let shared = &lock;
+    let (mut one, two) = join(
+        rt,
+        move || -> Pass<Log>
+            requires { (one.lock ≡ shared.now) × (one.in_turn ≡ false) × (one.numbers ≡ 1 ∷ []) × (one.seats ≡ 3) }
+            ensures { (result.lock ≡ shared.entry.now) × (result.in_turn ≡ false) × (result.numbers ≡ 1 ∷ []) × (result.seats ≡ 3) }
+        { add_all(rt, shared, one, 1) },
+        move || -> Pass<Log>
+            requires { (two.lock ≡ shared.now) × (two.in_turn ≡ false) × (two.numbers ≡ 2 ∷ []) × (three.lock ≡ shared.now) × (three.in_turn ≡ false) × (three.numbers ≡ 3 ∷ []) }
+            ensures { (result.lock ≡ shared.entry.now) × (result.in_turn ≡ false) × (result.numbers ≡ 2 ∷ 3 ∷ []) }
+        { add_in_two_threads(rt, shared, two, three, 2, 3) },
+    );
+    lock.join(&mut one, two);
+    let log = lock.close(one);
+    assert_eq!(rt; log.entries.len(), 3000);
+    assert!(rt; in_order(&log, 1));
+    assert!(rt; in_order(&log, 2));
+    assert!(rt; in_order(&log, 3));
 }
