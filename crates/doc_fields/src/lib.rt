@@ -12,6 +12,9 @@ mod texts;
 mod values;
 mod writing;
 
+#[cfg(test)]
+mod tests;
+
 pub use bytes::{byte, skip_space};
 pub use declaration::read_head;
 pub use errors::{FieldErr, Why};
