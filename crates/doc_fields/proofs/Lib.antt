@@ -1,3 +1,4 @@
+pub mod Again
 pub mod Escapes
 pub mod Names
 pub mod NumberLemmas
@@ -5,4 +6,8 @@ pub mod References
 pub mod Runs
 pub mod Shapes
 pub mod SimpleTexts
+pub mod TagsAgain
 pub mod TextSteps
+pub mod TextsAgain
+pub mod ValuesAgain
+pub mod WrittenBytes

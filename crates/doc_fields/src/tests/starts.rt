@@ -59,9 +59,30 @@ fn other_start_tags_stop_at_their_first_wrong_byte(rt: HostRuntime) {
 
 #[test]
 fn versions_are_read(rt: HostRuntime) {
-    assert!(rt; opens(b"<ltfslabel version=\"2.4.0\">", Tag::LtfsLabel, Attribute::Version, 27));
-    assert!(rt; opens(b"<ltfsindex version = '2.0.123' >", Tag::LtfsIndex, Attribute::Version, 32));
-    assert!(rt; is_whole(b"<ltfslabel version='2.4.10'/>", Tag::LtfsLabel, Attribute::Version, 29));
+    assert!(rt;
+        opens(
+            b"<ltfslabel version=\"2.4.0\">",
+            Tag::LtfsLabel,
+            Attribute::Version,
+            27
+        )
+    );
+    assert!(rt;
+        opens(
+            b"<ltfsindex version = '2.0.123' >",
+            Tag::LtfsIndex,
+            Attribute::Version,
+            32
+        )
+    );
+    assert!(rt;
+        is_whole(
+            b"<ltfslabel version='2.4.10'/>",
+            Tag::LtfsLabel,
+            Attribute::Version,
+            29
+        )
+    );
     assert!(rt; stops(b"<ltfslabel>", Why::Version, 0));
     assert!(rt; stops(b"<ltfsindex version=\"2.5.0\">", Why::Version, 0));
     assert!(rt; stops(b"<ltfslabel version=\"1.4.0\">", Why::Version, 0));
@@ -77,7 +98,13 @@ fn a_wrong_version_comes_before_wrong_bytes(rt: HostRuntime) {
     assert!(rt; stops(b"<ltfslabel version=\"9\" x=\"1\">", Why::Unknown, 0));
     assert!(rt; stops(b"<ltfslabel x=\"1\" version=\"9\">", Why::Unknown, 0));
     assert!(rt; stops(b"<ltfslabel version=\"2.4.0\" x=\"1\">", Why::Unknown, 0));
-    assert!(rt; stops(b"<ltfslabel version=\"2.4.0\" version=\"2.4.0\">", Why::Syntax, 27));
+    assert!(rt;
+        stops(
+            b"<ltfslabel version=\"2.4.0\" version=\"2.4.0\">",
+            Why::Syntax,
+            27
+        )
+    );
     assert!(rt; stops(b"<ltfslabel version 9>", Why::Syntax, 19));
     assert!(rt; stops(b"<ltfslabel version=9>", Why::Syntax, 19));
     assert!(rt; stops(b"<ltfslabel version=\"9", Why::Syntax, 21));
@@ -86,14 +113,40 @@ fn a_wrong_version_comes_before_wrong_bytes(rt: HostRuntime) {
 
 #[test]
 fn escaped_names_are_marked(rt: HostRuntime) {
-    assert!(rt; opens(b"<name percentencoded=\"true\">", Tag::Name, Attribute::Percent(true), 28));
-    assert!(rt; is_whole(b"<symlink percentencoded='false'/>", Tag::Symlink, Attribute::Percent(false), 33));
+    assert!(rt;
+        opens(
+            b"<name percentencoded=\"true\">",
+            Tag::Name,
+            Attribute::Percent(true),
+            28
+        )
+    );
+    assert!(rt;
+        is_whole(
+            b"<symlink percentencoded='false'/>",
+            Tag::Symlink,
+            Attribute::Percent(false),
+            33
+        )
+    );
     assert!(rt; stops(b"<name percentencoded=\"x\">", Why::Syntax, 22));
     assert!(rt; stops(b"<name percentencoded=\"x\" y=\"1\">", Why::Syntax, 22));
     assert!(rt; stops(b"<name percentencoded=\"True\">", Why::Syntax, 22));
     assert!(rt; stops(b"<name percentencoded=\"true'>", Why::Syntax, 28));
-    assert!(rt; stops(b"<name percentencoded=\"true\" percentencoded=\"true\">", Why::Syntax, 28));
-    assert!(rt; stops(b"<name percentencoded=\"true\"percentencoded=\"true\">", Why::Syntax, 27));
+    assert!(rt;
+        stops(
+            b"<name percentencoded=\"true\" percentencoded=\"true\">",
+            Why::Syntax,
+            28
+        )
+    );
+    assert!(rt;
+        stops(
+            b"<name percentencoded=\"true\"percentencoded=\"true\">",
+            Why::Syntax,
+            27
+        )
+    );
     assert!(rt; stops(b"<comment percentencoded=\"true\">", Why::Unknown, 0));
 }
 
@@ -139,7 +192,12 @@ fn heads_wrongly(text: &[u8], at: usize) -> bool {
 fn declarations_are_read(rt: HostRuntime) {
     assert!(rt; heads(b"<?xml version=\"1.0\"?>", 21));
     assert!(rt; heads(b"<?xml version=\"1.0\" encoding=\"UTF-8\"?>", 38));
-    assert!(rt; heads(b"<?xml\tversion='1.0' encoding='uTf-8' standalone='yes' ?>", 56));
+    assert!(rt;
+        heads(
+            b"<?xml\tversion='1.0' encoding='uTf-8' standalone='yes' ?>",
+            56
+        )
+    );
     assert!(rt; heads(b"<?xml version=\"1.0\" standalone=\"no\"?>", 37));
     assert!(rt; heads(b"", 0));
     assert!(rt; heads(b"<ltfslabel>", 0));
@@ -159,7 +217,12 @@ fn other_declarations_stop_at_their_first_wrong_byte(rt: HostRuntime) {
     assert!(rt; heads_wrongly(b"<?xml version=\"1.0\"encoding=\"UTF-8\"?>", 19));
     assert!(rt; heads_wrongly(b"<?xml version=\"1.0\" encoding=\"latin1\"?>", 30));
     assert!(rt; heads_wrongly(b"<?xml version=\"1.0\" standalone=\"maybe\"?>", 32));
-    assert!(rt; heads_wrongly(b"<?xml version=\"1.0\" standalone=\"no\" encoding=\"UTF-8\"?>", 36));
+    assert!(rt;
+        heads_wrongly(
+            b"<?xml version=\"1.0\" standalone=\"no\" encoding=\"UTF-8\"?>",
+            36
+        )
+    );
     assert!(rt; heads_wrongly(b"<?xml version=\"1.0\" ? >", 21));
     assert!(rt; heads_wrongly(b"<?xml version=\"1.0", 18));
 }

@@ -1,4 +1,6 @@
-use crate::{FieldErr, LockState, Why, read_bool, read_letter, read_lock, read_time, read_u64, read_uuid};
+use crate::{
+    FieldErr, LockState, Why, read_bool, read_letter, read_lock, read_time, read_u64, read_uuid,
+};
 
 fn syntax<T>(at: usize) -> Result<T, FieldErr> {
     Err(FieldErr {
@@ -107,7 +109,13 @@ fn is_no_time(text: &[u8], at: usize) -> bool {
 #[test]
 fn times_are_read(rt: HostRuntime) {
     assert!(rt; reads_time(b"2024-01-02T03:04:05.000000000Z<", 1_704_164_645, 0));
-    assert!(rt; reads_time(b"2020-01-28T19:39:50.715656751Z", 1_580_240_390, 715_656_751));
+    assert!(rt;
+        reads_time(
+            b"2020-01-28T19:39:50.715656751Z",
+            1_580_240_390,
+            715_656_751
+        )
+    );
     assert!(rt; is_no_time(b"2024-02-30T00:00:00.000000000Z<", 0));
     assert!(rt; is_no_time(b"2024-01-02 03:04:05.000000000Z<", 0));
     assert!(rt; is_no_time(b"2024-01-02T24:00:00.000000000Z<", 0));

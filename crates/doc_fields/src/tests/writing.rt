@@ -11,7 +11,10 @@ fn tags_are_written(rt: HostRuntime) {
     put_start(&mut out, Tag::Name, Attribute::Percent(true)).expect(&rt, "memory");
     put_end(&mut out, Tag::Name).expect(&rt, "memory");
     put_start(&mut out, Tag::DataLetter, Attribute::Absent).expect(&rt, "memory");
-    assert!(rt; out.as_slice() == b"<ltfsindex version=\"2.4.0\"><name percentencoded=\"true\"></name><data>".as_slice());
+    assert!(rt;
+        out.as_slice()
+            == b"<ltfsindex version=\"2.4.0\"><name percentencoded=\"true\"></name><data>".as_slice()
+    );
 }
 
 #[test]
@@ -25,7 +28,9 @@ fn values_are_written(rt: HostRuntime) {
     put_lock(&mut out, LockState::Unlocked).expect(&rt, "memory");
     put_lock(&mut out, LockState::Locked).expect(&rt, "memory");
     put_lock(&mut out, LockState::PermLocked).expect(&rt, "memory");
-    assert!(rt; out.as_slice() == b"18446744073709551615 0truefalseunlockedlockedpermlocked".as_slice());
+    assert!(rt;
+        out.as_slice() == b"18446744073709551615 0truefalseunlockedlockedpermlocked".as_slice()
+    );
 }
 
 #[test]
@@ -34,7 +39,10 @@ fn times_and_identifiers_are_written(rt: HostRuntime) {
     let moment = parse_time(b"2024-01-02T03:04:05.000000000Z").expect(&rt, "a time");
     put_time(&mut out, moment).expect(&rt, "memory");
     put_uuid(&mut out, 0x30a9_1a08_daae_48d1_ae75_6980_4e61_d2ea).expect(&rt, "memory");
-    assert!(rt; out.as_slice() == b"2024-01-02T03:04:05.000000000Z30a91a08-daae-48d1-ae75-69804e61d2ea".as_slice());
+    assert!(rt;
+        out.as_slice()
+            == b"2024-01-02T03:04:05.000000000Z30a91a08-daae-48d1-ae75-69804e61d2ea".as_slice()
+    );
 }
 
 #[test]
