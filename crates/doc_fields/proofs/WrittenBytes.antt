@@ -54,6 +54,7 @@ civil_valid c =
   where
     add : (a b : List ℕ) → IsUtf8 a → IsUtf8 b → IsUtf8 (a ++ b)
     add a b = IsUtf8-append a b
+
     mark : (b : ℕ) → b < 128 → IsUtf8 (b ∷ [])
     mark b lt = one_valid b lt
 
