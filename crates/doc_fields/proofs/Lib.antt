@@ -1,5 +1,6 @@
 pub mod Again
 pub mod Escapes
+pub mod HeadAgain
 pub mod Names
 pub mod NumberLemmas
 pub mod References
