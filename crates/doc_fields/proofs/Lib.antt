@@ -1,8 +1,14 @@
+pub mod Again
 pub mod Escapes
+pub mod HeadAgain
 pub mod Names
 pub mod NumberLemmas
 pub mod References
 pub mod Runs
 pub mod Shapes
 pub mod SimpleTexts
+pub mod TagsAgain
 pub mod TextSteps
+pub mod TextsAgain
+pub mod ValuesAgain
+pub mod WrittenBytes

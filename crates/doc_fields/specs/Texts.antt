@@ -1,6 +1,7 @@
 -- The text of an element: the characters up to the next `<`, with references resolved and each end of a line as a line feed.
-use Rattle.std.specs.Prelude.{ℕ, zero, suc, ◌+◌, ◌-◌, ◌*◌, List, [], ◌∷◌, Bool, false, length, take, drop, codes, not, Option, Some, None, Ok, Err, nat_le, ◌==◌, ◌&&◌, ◌||◌, if◌then◌else◌}
+use Rattle.std.specs.Prelude.{◌≡◌, IsUtf8, true, ℕ, zero, suc, ◌+◌, ◌-◌, ◌*◌, List, [], ◌∷◌, Bool, false, length, take, drop, codes, not, Option, Some, None, Ok, Err, nat_le, ◌==◌, ◌&&◌, ◌||◌, if◌then◌else◌}
 use Rattle.std.specs.Char.{encode_utf8}
+use Rattle.std.specs.List.{list_all}
 use Rattle.std.specs.Str.{chars, encode_utf8_all}
 use Rattle.std.specs.Str.Lossy.{utf8_valid_len}
 use Rattle.doc_fields.specs.Numbers.{is_digit}
@@ -114,3 +115,7 @@ unfoldable pub text_at : List ℕ → ℕ → Read (List ℕ × ℕ)
 text_at text at =
     let end = text_end text at in
     run_text (end == length text) at (between text at end) >>= λ v. Ok (v, end)
+
+-- a text whose characters a document may have
+abbrev pub IsWritable : List ℕ → Type 0
+IsWritable text = IsUtf8 text × (list_all is_allowed (chars text) ≡ true)

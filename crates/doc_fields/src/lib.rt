@@ -5,9 +5,12 @@
 mod bytes;
 mod declaration;
 mod errors;
+mod laws;
 mod numbers;
 mod starts;
 mod tags;
+#[cfg(test)]
+mod tests;
 mod texts;
 mod values;
 mod writing;
@@ -15,6 +18,7 @@ mod writing;
 pub use bytes::{byte, skip_space};
 pub use declaration::read_head;
 pub use errors::{FieldErr, Why};
+pub use laws::{tags_read_back, texts_read_back, values_read_back};
 pub use numbers::read_u64;
 pub use starts::{Attribute, Start, read_end, read_name, read_rest, read_start};
 pub use tags::{Tag, name_of, tag_of};

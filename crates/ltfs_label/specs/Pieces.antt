@@ -1,5 +1,5 @@
 -- The piece that follows: an end tag of the innermost open parent, a start tag of a parent, or a whole leaf.
-use Rattle.std.specs.Prelude.{◌≡◌, ℕ, ◌+◌, List, [], Bool, Option, Some, None, Result, Ok, Err, nat_le, ◌==◌, ◌&&◌, if◌then◌else◌}
+use Rattle.std.specs.Prelude.{◌≡◌, ℕ, ◌+◌, List, [], Bool, Option, Some, None, Result, Ok, Err, length, nat_le, nat_lt, ◌==◌, ◌&&◌, if◌then◌else◌}
 use Rattle.doc_fields.specs.declared.tags.Tag.{Tag}
 use Rattle.doc_fields.specs.declared.errors.Why.{Why}
 use Rattle.doc_fields.specs.declared.errors.Why.TheVariants as why
@@ -65,8 +65,12 @@ in_block_range n = nat_le 4096 n && nat_le n 1048576
 abbrev pub spaced : {A : Type 0} → (A → Val) → List ℕ → Read (A × ℕ) → Result (Val × ℕ) LabelErr
 spaced view text read = lift read >>= λ v. Ok (view v.0, space_end text v.1)
 
-abbrev pub in_range : ℕ → ℕ × ℕ → Result (ℕ × ℕ) LabelErr
-in_range from n = if in_block_range n.0 then Ok n else Err (errors.Number from)
+-- a size that is out of range; where the text ends behind one that is too small, it could go on
+abbrev pub size_fault : List ℕ → ℕ → ℕ × ℕ → LabelErr
+size_fault text from n = if nat_lt n.0 4096 && n.1 == length text then errors.Syntax (length text) else errors.Number from
+
+abbrev pub in_range : List ℕ → ℕ → ℕ × ℕ → Result (ℕ × ℕ) LabelErr
+in_range text from n = if in_block_range n.0 then Ok n else Err (size_fault text from n)
 
 abbrev pub value_at : Form → List ℕ → ℕ → Result (Val × ℕ) LabelErr
 value_at form.Text text at = lift (text_at text at) >>= λ v. Ok (words v.0, v.1)
@@ -76,7 +80,7 @@ value_at form.Letter text at = spaced letter text (letter_at text (space_end tex
 value_at form.Truth text at = spaced truth text (bool_at text (space_end text at))
 value_at form.Size text at = do
   n ← lift (number_at text (space_end text at))
-  m ← in_range (space_end text at) n
+  m ← in_range text (space_end text at) n
   Ok (size m.0, space_end text m.1)
 
 -- only a text may be empty

@@ -22,7 +22,8 @@ pub enum LabelErr {
     Version,
     /// A parent ends, and this child wasn't there: the first of those that it must have.
     Missing(Tag),
-    /// The first digit of a number that is out of range.
+    /// The first digit of a number that is out of range. One that is too small, and behind which
+    /// the text ends, is `Syntax` at the text's length.
     Number(usize),
     /// Memory was refused.
     NoMemory,

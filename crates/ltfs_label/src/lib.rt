@@ -8,6 +8,9 @@ mod schema;
 mod walking;
 mod writing;
 
+#[cfg(test)]
+mod tests;
+
 pub use errors::LabelErr;
 pub use reading::{read_label, texts_are_read_in_one_way};
 use tape_types::{Moment, Text};

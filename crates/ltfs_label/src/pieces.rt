@@ -4,7 +4,7 @@ ghost use Rattle.std.specs.Prelude.{◌≡◌, ◌≤◌, ◌<◌, ◌+◌, List
 ghost use Rattle.doc_fields.specs.declared.tags.Tag.{Tag};
 ghost use Rattle.doc_children.specs.Children.{Holds, first_missing};
 ghost use Rattle.ltfs_label.specs.Values.{val_of};
-ghost use Rattle.ltfs_label.specs.Pieces.{Gives, child_at, close_at, empty_value, in_block_range, leaf_at, made, none_missing, piece_at, piece_of, value_at, verdict};
+ghost use Rattle.ltfs_label.specs.Pieces.{Gives, child_at, close_at, empty_value, in_block_range, leaf_at, made, none_missing, piece_at, piece_of, size_fault, value_at, verdict};
 ghost use Rattle.ltfs_label.specs.Schema.{required};
 
 use crate::errors::LabelErr;
@@ -64,7 +64,7 @@ fn value_of(alloc: Global, form: Form, text: &[u8], at: usize) -> Result<(Value,
         Form::Size => {
             let (size, next) = read_u64(text, from)?;
             if !is_block_size(size) {
-                return Err(LabelErr::Number(from));
+                return Err(size_fault(text, from, size, next));
             }
             Ok((Value::Size(size as u32), skip_space(text, next)))
         }
@@ -79,6 +79,18 @@ fn is_block_size(size: u64) -> bool
     ensures { result ≡ in_block_range size }
 {
     4096 <= size && size <= 1_048_576
+}
+
+/// The refusal of a size that is out of range. Where the text ends behind one that is too small,
+/// it could go on.
+fn size_fault(text: &[u8], from: usize, size: u64, next: usize) -> LabelErr
+    ensures { result ≡ size_fault text.now from (size, next) }
+{
+    if size < 4096 && next == text.len() {
+        LabelErr::Syntax(text.len())
+    } else {
+        LabelErr::Number(from)
+    }
 }
 
 fn empty_value(alloc: Global, form: Form, at: usize) -> Result<(Value, usize), LabelErr>

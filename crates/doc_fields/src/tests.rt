@@ -1,0 +1,4 @@
+mod starts;
+mod texts;
+mod values;
+mod writing;
