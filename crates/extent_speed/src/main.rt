@@ -6,8 +6,7 @@ ghost use Rattle.std.specs.Prelude.{◌<◌, ◌+◌, ◌≤◌, ◌^◌, ◌≡
 ghost use Rattle.extent_map.specs.Laid.{IsLaid};
 
 use extent_map::Extents;
-use std::env;
-use std::io;
+use std::{env, io};
 use tape_types::{Extent, NoMemory, Part};
 
 const BLOCK_SIZE: u32 = 524_288;
@@ -56,7 +55,11 @@ fn main(rt: HostRuntime) -> io::Result<()> {
     };
     let mut file = Extents::new(rt.alloc(), BLOCK_SIZE);
     match run(&mut file, task) {
-        Ok(()) => println!(rt; "{} extents, {:016x}", file.as_slice().len(), sum_of(file.as_slice())),
+        Ok(()) => println!(rt;
+            "{} extents, {:016x}",
+            file.as_slice().len(),
+            sum_of(file.as_slice())
+        ),
         Err(NoMemory) => println!(rt; "memory"),
     }
 }

@@ -5,11 +5,10 @@ mod errors;
 mod pieces;
 mod reading;
 mod schema;
-mod walking;
-mod writing;
-
 #[cfg(test)]
 mod tests;
+mod walking;
+mod writing;
 
 pub use errors::LabelErr;
 pub use reading::{read_label, texts_are_read_in_one_way};

@@ -3,9 +3,11 @@ use doc_fields::Tag;
 use std::alloc::Global;
 use tape_types::{Text, parse_time};
 
-const CANONICAL: &[u8] = b"<?xml version=\"1.0\" encoding=\"UTF-8\"?><ltfslabel version=\"2.4.0\"><creator>ltfs_server 1.0.0</creator><formattime>2024-01-02T03:04:05.000000000Z</formattime><volumeuuid>30a91a08-daae-48d1-ae75-69804e61d2ea</volumeuuid><location><partition>a</partition></location><partitions><index>a</index><data>b</data></partitions><blocksize>4096</blocksize><compression>false</compression></ltfslabel>";
+const CANONICAL: &[u8] =
+    b"<?xml version=\"1.0\" encoding=\"UTF-8\"?><ltfslabel version=\"2.4.0\"><creator>ltfs_server 1.0.0</creator><formattime>2024-01-02T03:04:05.000000000Z</formattime><volumeuuid>30a91a08-daae-48d1-ae75-69804e61d2ea</volumeuuid><location><partition>a</partition></location><partitions><index>a</index><data>b</data></partitions><blocksize>4096</blocksize><compression>false</compression></ltfslabel>";
 
-const OTHER_ORDER: &[u8] = b"\n<ltfslabel version = '2.0.1' >\r\n <compression>\t0 </compression>\n <blocksize> 0004096\n</blocksize><partitions > <data>b</data> <index> a</index>\t</partitions ><location><partition>a\n</partition></location> <volumeuuid> 30A91A08-DAAE-48D1-AE75-69804E61D2EA </volumeuuid><formattime>\n2024-01-02T03:04:05.000000000Z</formattime><creator>ltfs&#95;server &#x31;.0.0</creator></ltfslabel>\n\n";
+const OTHER_ORDER: &[u8] =
+    b"\n<ltfslabel version = '2.0.1' >\r\n <compression>\t0 </compression>\n <blocksize> 0004096\n</blocksize><partitions > <data>b</data> <index> a</index>\t</partitions ><location><partition>a\n</partition></location> <volumeuuid> 30A91A08-DAAE-48D1-AE75-69804E61D2EA </volumeuuid><formattime>\n2024-01-02T03:04:05.000000000Z</formattime><creator>ltfs&#95;server &#x31;.0.0</creator></ltfslabel>\n\n";
 
 fn sample(alloc: Global, creator: &str) -> Option<Label> {
     Some(Label {
@@ -76,13 +78,20 @@ fn a_creator_is_taken_whole(rt: HostRuntime) {
 #[test]
 fn a_cut_text_stops_at_its_end(rt: HostRuntime) {
     for end in 0..CANONICAL.len() {
-        assert!(rt; stops(rt, &CANONICAL[..end], LabelErr::Syntax(end)), "cut at {end}");
+        assert!(rt;
+            stops(rt, &CANONICAL[..end], LabelErr::Syntax(end)),
+            "cut at {end}"
+        );
     }
 }
 
 fn stops_behind(rt: HostRuntime, more: &[u8], at: u8) -> bool {
     match joined(rt.alloc(), CANONICAL, more) {
-        Some(text) => stops(rt, text.as_slice(), LabelErr::Syntax(CANONICAL.len() + at as usize)),
+        Some(text) => stops(
+            rt,
+            text.as_slice(),
+            LabelErr::Syntax(CANONICAL.len() + at as usize),
+        ),
         None => false,
     }
 }
@@ -98,10 +107,22 @@ fn only_white_space_stands_behind_the_root(rt: HostRuntime) {
 
 const CHILDREN: [(Tag, &[u8]); 7] = [
     (Tag::Creator, b"<creator></creator>"),
-    (Tag::FormatTime, b"<formattime>2024-01-02T03:04:05.000000000Z</formattime>"),
-    (Tag::VolumeUuid, b"<volumeuuid>30a91a08-daae-48d1-ae75-69804e61d2ea</volumeuuid>"),
-    (Tag::Location, b"<location><partition>a</partition></location>"),
-    (Tag::Partitions, b"<partitions><index>a</index><data>b</data></partitions>"),
+    (
+        Tag::FormatTime,
+        b"<formattime>2024-01-02T03:04:05.000000000Z</formattime>",
+    ),
+    (
+        Tag::VolumeUuid,
+        b"<volumeuuid>30a91a08-daae-48d1-ae75-69804e61d2ea</volumeuuid>",
+    ),
+    (
+        Tag::Location,
+        b"<location><partition>a</partition></location>",
+    ),
+    (
+        Tag::Partitions,
+        b"<partitions><index>a</index><data>b</data></partitions>",
+    ),
     (Tag::BlockSize, b"<blocksize>4096</blocksize>"),
     (Tag::Compression, b"<compression>true</compression>"),
 ];
@@ -110,14 +131,19 @@ const CHILDREN: [(Tag, &[u8]); 7] = [
 fn each_missing_child_is_named(rt: HostRuntime) {
     for left_out in 0..7usize {
         let mut text = Vec::new(rt.alloc());
-        text.extend_from_slice(b"<ltfslabel version=\"2.4.0\">").expect(&rt, "memory");
+        text.extend_from_slice(b"<ltfslabel version=\"2.4.0\">")
+            .expect(&rt, "memory");
         for k in 0..7usize {
             if k != left_out {
                 text.extend_from_slice(CHILDREN[k].1).expect(&rt, "memory");
             }
         }
-        text.extend_from_slice(b"</ltfslabel>").expect(&rt, "memory");
-        assert!(rt; stops(rt, text.as_slice(), LabelErr::Missing(CHILDREN[left_out].0)), "without {left_out}");
+        text.extend_from_slice(b"</ltfslabel>")
+            .expect(&rt, "memory");
+        assert!(rt;
+            stops(rt, text.as_slice(), LabelErr::Missing(CHILDREN[left_out].0)),
+            "without {left_out}"
+        );
     }
 }
 
@@ -131,13 +157,37 @@ fn stops_inside(rt: HostRuntime, inside: &[u8], want: LabelErr) -> bool {
 
 #[test]
 fn another_missing_child_is_named(rt: HostRuntime) {
-    assert!(rt; stops(rt, b"<ltfslabel version=\"2.4.0\"/>", LabelErr::Missing(Tag::Creator)));
+    assert!(rt;
+        stops(
+            rt,
+            b"<ltfslabel version=\"2.4.0\"/>",
+            LabelErr::Missing(Tag::Creator)
+        )
+    );
     assert!(rt; stops_inside(rt, b"</ltfslabel>", LabelErr::Missing(Tag::Creator)));
-    assert!(rt; stops_inside(rt, b"<location></location>", LabelErr::Missing(Tag::Partition)));
+    assert!(rt;
+        stops_inside(
+            rt,
+            b"<location></location>",
+            LabelErr::Missing(Tag::Partition)
+        )
+    );
     assert!(rt; stops_inside(rt, b"<location/>", LabelErr::Missing(Tag::Partition)));
     assert!(rt; stops_inside(rt, b"<partitions/>", LabelErr::Missing(Tag::IndexLetter)));
-    assert!(rt; stops_inside(rt, b"<partitions><data>b</data></partitions>", LabelErr::Missing(Tag::IndexLetter)));
-    assert!(rt; stops_inside(rt, b"<partitions><index>a</index></partitions>", LabelErr::Missing(Tag::DataLetter)));
+    assert!(rt;
+        stops_inside(
+            rt,
+            b"<partitions><data>b</data></partitions>",
+            LabelErr::Missing(Tag::IndexLetter)
+        )
+    );
+    assert!(rt;
+        stops_inside(
+            rt,
+            b"<partitions><index>a</index></partitions>",
+            LabelErr::Missing(Tag::DataLetter)
+        )
+    );
 }
 
 #[test]
@@ -145,22 +195,46 @@ fn unknown_elements_and_attributes_are_named(rt: HostRuntime) {
     assert!(rt; stops(rt, b"<ltfsindex version=\"2.4.0\">", LabelErr::Unknown(0)));
     assert!(rt; stops(rt, b"<ltfsindex version=\"9\">", LabelErr::Unknown(0)));
     assert!(rt; stops(rt, b" <creator>", LabelErr::Unknown(1)));
-    assert!(rt; stops(rt, b"<ltfslabel version=\"9\" x=\"1\">", LabelErr::Unknown(0)));
+    assert!(rt;
+        stops(
+            rt,
+            b"<ltfslabel version=\"9\" x=\"1\">",
+            LabelErr::Unknown(0)
+        )
+    );
     assert!(rt; stops_inside(rt, b"<name>", LabelErr::Unknown(27)));
     assert!(rt; stops_inside(rt, b"\n<name !>", LabelErr::Unknown(28)));
     assert!(rt; stops_inside(rt, b"<nothing !>", LabelErr::Unknown(27)));
     assert!(rt; stops_inside(rt, b"<partition>", LabelErr::Unknown(27)));
     assert!(rt; stops_inside(rt, b"<location><index>", LabelErr::Unknown(37)));
     assert!(rt; stops_inside(rt, b"<creator x=\"1\">", LabelErr::Unknown(27)));
-    assert!(rt; stops_inside(rt, b"<creator>a</creator><creator x=\"1\">", LabelErr::Unknown(47)));
+    assert!(rt;
+        stops_inside(
+            rt,
+            b"<creator>a</creator><creator x=\"1\">",
+            LabelErr::Unknown(47)
+        )
+    );
 }
 
 #[test]
 fn second_children_are_named(rt: HostRuntime) {
     assert!(rt; stops_inside(rt, b"<creator>a</creator><creator>", LabelErr::Twice(47)));
     assert!(rt; stops_inside(rt, b"<creator/> <creator !>", LabelErr::Twice(38)));
-    assert!(rt; stops_inside(rt, b"<location><partition>a</partition></location><location>", LabelErr::Twice(72)));
-    assert!(rt; stops_inside(rt, b"<location><partition>a</partition><partition>", LabelErr::Twice(61)));
+    assert!(rt;
+        stops_inside(
+            rt,
+            b"<location><partition>a</partition></location><location>",
+            LabelErr::Twice(72)
+        )
+    );
+    assert!(rt;
+        stops_inside(
+            rt,
+            b"<location><partition>a</partition><partition>",
+            LabelErr::Twice(61)
+        )
+    );
 }
 
 #[test]
@@ -175,8 +249,20 @@ fn versions_are_looked_at(rt: HostRuntime) {
 fn block_sizes_have_a_range(rt: HostRuntime) {
     assert!(rt; stops_inside(rt, b"<blocksize>4095</blocksize>", LabelErr::Number(38)));
     assert!(rt; stops_inside(rt, b"<blocksize>\n1048577x", LabelErr::Number(39)));
-    assert!(rt; stops_inside(rt, b"<blocksize>18446744073709551616<", LabelErr::Number(38)));
-    assert!(rt; stops_inside(rt, b"<blocksize>000000000000000004096<", LabelErr::Number(38)));
+    assert!(rt;
+        stops_inside(
+            rt,
+            b"<blocksize>18446744073709551616<",
+            LabelErr::Number(38)
+        )
+    );
+    assert!(rt;
+        stops_inside(
+            rt,
+            b"<blocksize>000000000000000004096<",
+            LabelErr::Number(38)
+        )
+    );
     assert!(rt; stops_inside(rt, b"<blocksize>1048577", LabelErr::Number(38)));
     assert!(rt; stops_inside(rt, b"<blocksize>4095", LabelErr::Syntax(42)));
     assert!(rt; stops_inside(rt, b"<blocksize>4096x", LabelErr::Syntax(42)));
@@ -198,7 +284,19 @@ fn wrong_bytes_are_named(rt: HostRuntime) {
     assert!(rt; stops_inside(rt, b"<compression>truex", LabelErr::Syntax(44)));
     assert!(rt; stops_inside(rt, b"<compression>trux", LabelErr::Syntax(40)));
     assert!(rt; stops_inside(rt, b"<location><partition>A<", LabelErr::Syntax(48)));
-    assert!(rt; stops_inside(rt, b"<location><partition>a</partition></ltfslabel>", LabelErr::Syntax(64)));
-    assert!(rt; stops_inside(rt, b"<formattime>2024-02-30T00:00:00.000000000Z<", LabelErr::Syntax(39)));
+    assert!(rt;
+        stops_inside(
+            rt,
+            b"<location><partition>a</partition></ltfslabel>",
+            LabelErr::Syntax(64)
+        )
+    );
+    assert!(rt;
+        stops_inside(
+            rt,
+            b"<formattime>2024-02-30T00:00:00.000000000Z<",
+            LabelErr::Syntax(39)
+        )
+    );
     assert!(rt; stops_inside(rt, b"<volumeuuid>30a91a08<", LabelErr::Syntax(39)));
 }
