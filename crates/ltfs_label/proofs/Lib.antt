@@ -1,8 +1,11 @@
 pub mod Assembled
 pub mod Inversion
+pub mod Items
 pub mod Once
 pub mod Only
 pub mod Parents
 pub mod Steps
 pub mod Trees
+pub mod ValuesBack
 pub mod Whole
+pub mod Writes

@@ -1,12 +1,16 @@
 -- The one text of a label that is written.
-use Rattle.std.specs.Prelude.{ℕ, List, [], ◌∷◌, ◌++◌, codes}
+use Rattle.std.specs.Prelude.{◌≡◌, ◌≤◌, true, ℕ, List, [], ◌∷◌, ◌++◌, codes}
 use Rattle.std.specs.Fmt.{decimal}
+use Rattle.std.specs.List.{list_all}
+use Rattle.std.specs.Str.{chars}
 use Rattle.tape_types.specs.Times.{civil_text}
 use Rattle.tape_types.specs.Uuids.{uuid_text}
 use Rattle.doc_fields.specs.declared.tags.Tag.{Tag}
 use Rattle.doc_fields.specs.declared.tags.Tag.TheVariants.{LtfsLabel, Creator, FormatTime, VolumeUuid, Location, Partition, Partitions, IndexLetter, DataLetter, BlockSize, Compression}
 use Rattle.doc_fields.specs.declared.starts.Attribute.TheVariants.{Absent, Version}
+use Rattle.doc_fields.specs.Texts.{is_allowed}
 use Rattle.doc_fields.specs.Written.{start_text, end_text, bool_text, escape}
+use Rattle.ltfs_label.specs.Pieces.{in_block_range}
 use Rattle.ltfs_label.specs.Values.{Val, words, time, uuid, letter, size, truth, LabelValue}
 
 abbrev pub content_of : Val → List ℕ
@@ -40,3 +44,12 @@ children_text v =
 
 unfoldable pub canonical : LabelValue → List ℕ
 canonical v = head ++ start_text LtfsLabel Version ++ children_text v ++ end_text LtfsLabel
+
+-- a label that has a text: its creator has only characters that a document may have, its letters are `a` to `z`, and its
+-- blocks have a size that they may have
+pub record IsLabel (v : LabelValue) : Type 0 where
+  pub creator : list_all is_allowed (chars v.creator) ≡ true
+  pub location : (97 ≤ v.location) × (v.location ≤ 122)
+  pub index : (97 ≤ v.index) × (v.index ≤ 122)
+  pub dpart : (97 ≤ v.dpart) × (v.dpart ≤ 122)
+  pub block : in_block_range v.block ≡ true

@@ -2,7 +2,8 @@
 
 ghost use Rattle.std.specs.Prelude.{◌≡◌, ◌++◌, IfOk, OnOk};
 ghost use Rattle.doc_fields.specs.declared.tags.Tag.TheVariants.{DataLetter, IndexLetter, Location, Partition, Partitions};
-ghost use Rattle.ltfs_label.specs.Canonical.{canonical, children_text, element, leaf_text};
+ghost use Rattle.ltfs_label.specs.Canonical.{canonical, children_text, element, IsLabel, leaf_text};
+ghost use Rattle.ltfs_label.specs.Grammar.{LabelText};
 ghost use Rattle.ltfs_label.specs.Values as values;
 ghost use Rattle.ltfs_label.specs.Values.{label_of};
 ghost use Rattle.tape_types.specs.Times.{civil_of};
@@ -93,10 +94,14 @@ fn put_children(out: &mut Vec<u8>, label: &Label) -> Result<(), NoMemory>
     Ok(())
 }
 
-/// The text of a label as it is written: one line, in UTF-8, with version 2.4.0.
+/// The text of a label as it is written: one line, in UTF-8, with version 2.4.0. It is a label's
+/// text, which gives the same label when it is read, where the creator has only characters that a
+/// document may have, the letters are `a` to `z`, and the size of a block is 4,096 to 1,048,576.
 pub fn write_label(alloc: Global, label: &Label) -> Result<Bytes, NoMemory>
     ensures text { IfOk result (λ text. text ≡ canonical (label_of label.now)) }
+    ensures label { IfOk result (λ text. IsLabel (label_of label.now) → LabelText text (label_of label.now)) }
 {
+    let (_creator, _uuid) = (label.creator.as_str(), label.uuid);
     let mut out = Vec::new(alloc);
     out.extend_from_slice(b"<?xml version=\"1.0\" encoding=\"UTF-8\"?>")?;
     put_start(&mut out, Tag::LtfsLabel, Attribute::Version)?;
