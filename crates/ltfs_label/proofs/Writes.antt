@@ -1,6 +1,5 @@
 -- The text that is written is a label's text.
-use Rattle.std.proofs.Common.{◌≡◌, ℕ, suc, ◌+◌, ◌^◌, ◌<◌, Bool, true, false, eqb, ◌&&◌, List, [], ◌∷◌, ◌++◌, length, drop, codes, None, Ok, IsUtf8, refl, sym, ap, subst, ◌∙◌, append_assoc, append-nil, add-zero, arith, length-append}
-use Rattle.std.specs.List.{list_all}
+use Rattle.std.proofs.Common.{◌≡◌, ℕ, ◌+◌, ◌^◌, ◌<◌, false, List, [], ◌∷◌, ◌++◌, length, drop, Ok, IsUtf8, refl, sym, ap, subst, ◌∙◌, append_assoc, append-nil, add-zero, arith, length-append}
 use Rattle.std.proofs.lemmas.Str.{IsUtf8-append, IsUtf8-nil}
 use Rattle.tape_types.specs.declared.moments.Moment.{Moment}
 use Rattle.tape_types.specs.Times.{civil_of}
@@ -8,29 +7,25 @@ use Rattle.doc_fields.specs.declared.tags.Tag.{Tag}
 use Rattle.doc_fields.specs.declared.tags.Tag.TheVariants.{LtfsLabel}
 use Rattle.doc_fields.specs.declared.starts.Attribute.TheVariants.{Absent, Version}
 use Rattle.doc_fields.specs.declared.starts.Start.{Start}
-use Rattle.doc_fields.specs.EndTag.{end_at}
-use Rattle.doc_fields.specs.Reading.{byte}
-use Rattle.doc_fields.specs.Space.{is_space, space_end}
-use Rattle.doc_fields.specs.StartTag.{named_at, rest_at}
+use Rattle.doc_fields.specs.Space.{space_end}
 use Rattle.doc_fields.specs.Tags.{spelled}
 use Rattle.doc_fields.specs.Texts.{IsWritable}
 use Rattle.doc_fields.specs.Written.{end_text, start_text}
 use Rattle.doc_fields.proofs.Again.{next_is, space_again}
 use Rattle.doc_fields.proofs.HeadAgain.{head_again}
 use Rattle.doc_fields.proofs.TagsAgain.{end_again, opened}
-use Rattle.doc_fields.proofs.WrittenBytes.{ascii_valid, is_ascii}
-use Rattle.doc_children.specs.Children.{member, first_missing}
+use Rattle.doc_fields.proofs.WrittenBytes.{ascii_valid}
 use Rattle.ltfs_label.specs.declared.schema.Place.{Place}
 use Rattle.ltfs_label.specs.declared.schema.Place.TheVariants as place
 use Rattle.ltfs_label.specs.declared.schema.Form.{Form}
 use Rattle.ltfs_label.specs.declared.schema.Form.TheVariants as form
 use Rattle.ltfs_label.specs.declared.schema.Child.{Child}
 use Rattle.ltfs_label.specs.declared.schema.Child.TheVariants as child
-use Rattle.ltfs_label.specs.Canonical.{canonical, children_text, content_of, element, head, IsLabel}
+use Rattle.ltfs_label.specs.Canonical.{canonical, content_of, element, head, IsLabel}
 use Rattle.ltfs_label.specs.Grammar.{Item, plain, bare, nested, Items, no_items, item, item_tag, Starts, Spelled, AllSpelled, LabelText}
 use Rattle.ltfs_label.specs.Pieces.{leaf_at}
 use Rattle.ltfs_label.specs.Reading.{root_at}
-use Rattle.ltfs_label.specs.Schema.{rule, required, tag_of}
+use Rattle.ltfs_label.specs.Schema.{rule, tag_of}
 use Rattle.ltfs_label.specs.Values.{Val, LabelValue}
 use Rattle.ltfs_label.proofs.Items.{children_items, GoodItem, GoodItems, HasTags, items_of, ReadsBack, text_of, texts_of}
 use Rattle.ltfs_label.proofs.ValuesBack.{letter_back, size_back, time_back, truth_back, uuid_back, words_back}
@@ -123,14 +118,31 @@ root_again text at rest e =
     rw (o.named, o.rest) refl
 
 good_items : (v : LabelValue) (m : Moment) → v.formatted ≡ civil_of m → IsWritable v.creator → v.uuid < 2 ^ 128 → IsLabel v → GoodItems place.Label [] (items_of v)
-good_items v m when creator fits g =
-    (refl, (form.Text, refl, record { may = refl; name = refl }, words_back v.creator creator),
-    (refl, (form.Time, refl, record { may = refl; name = refl }, rw when (time_back m)),
-    (refl, (form.Uuid, refl, record { may = refl; name = refl }, uuid_back v.uuid fits),
-    (refl, (refl, record { may = refl; name = refl }, (refl, (form.Letter, refl, record { may = refl; name = refl }, letter_back v.location g.location), refl)),
-    (refl, (refl, record { may = refl; name = refl }, (refl, (form.Letter, refl, record { may = refl; name = refl }, letter_back v.index g.index), (refl, (form.Letter, refl, record { may = refl; name = refl }, letter_back v.dpart g.dpart), refl))),
-    (refl, (form.Size, refl, record { may = refl; name = refl }, size_back v.block g.block),
-    (refl, (form.Truth, refl, record { may = refl; name = refl }, truth_back v.compression), refl)))))))
+good_items v m when creator fits g = (
+  refl,
+  (form.Text, refl, record { may = refl; name = refl }, words_back v.creator creator),
+  (
+    refl,
+    (form.Time, refl, record { may = refl; name = refl }, rw when (time_back m)),
+    (
+      refl,
+      (form.Uuid, refl, record { may = refl; name = refl }, uuid_back v.uuid fits),
+      (
+        refl,
+        (refl, record { may = refl; name = refl }, (refl, (form.Letter, refl, record { may = refl; name = refl }, letter_back v.location g.location), refl)),
+        (
+          refl,
+          (refl, record { may = refl; name = refl }, (refl, (form.Letter, refl, record { may = refl; name = refl }, letter_back v.index g.index), (refl, (form.Letter, refl, record { may = refl; name = refl }, letter_back v.dpart g.dpart), refl))),
+          (
+            refl,
+            (form.Size, refl, record { may = refl; name = refl }, size_back v.block g.block),
+            (refl, (form.Truth, refl, record { may = refl; name = refl }, truth_back v.compression), refl),
+          ),
+        ),
+      ),
+    ),
+  ),
+)
 
 all_of_it : (text : List ℕ) (at : ℕ) → drop at text ≡ [] → at ≡ length text → space_end text at ≡ length text
 unfolding space_end
