@@ -14,11 +14,12 @@ use Rattle.index_model.specs.Order.{AreInOrder, LiesIn}
 use Rattle.index_model.specs.Order.LiesIn.{through}
 use Rattle.index_model.specs.Places.{IsAt}
 use Rattle.index_model.specs.Refusals.{IsToldOf}
-use Rattle.index_model.specs.Refusals.Fault.{wrong_uid, taken_name, out_of_bounds, overlapping}
+use Rattle.index_model.specs.declared.faults.Fault.{Fault}
+use Rattle.index_model.specs.declared.faults.Fault.TheVariants as faults
 use Rattle.index_model.specs.Uids.{AreUids, HasBadUid}
 use Rattle.index_model.proofs.Walks.{each, same_element}
 
-pub highest_over : (at : Moment) (times : Times) → IsToldOf (index_of at (2 ^ 62 + 1) (archive_nodes times)) (wrong_uid (2 ^ 62 + 1))
+pub highest_over : (at : Moment) (times : Times) → IsToldOf (index_of at (2 ^ 62 + 1) (archive_nodes times)) (faults.Uid (2 ^ 62 + 1))
 highest_over at times = inl record { over = omega arith; same = refl }
 
 -- the UIDs of the archive are one more than their places
@@ -36,7 +37,7 @@ right_before times highest at small h =
       ]
     ]
 
-pub uid_over : (at : Moment) (times : Times) → IsToldOf (index_of at 3 (archive_nodes times)) (wrong_uid 4)
+pub uid_over : (at : Moment) (times : Times) → IsToldOf (index_of at 3 (archive_nodes times)) (faults.Uid 4)
 uid_over at times = inr (inl record {
   bounded = omega arith;
   at = 3;
@@ -103,7 +104,7 @@ root_fine : (times : Times) (kind : Kind) (before : ℕ) → before < 1 → IsBa
 root_fine times kind before small (inl out) = no_file_at_root times kind before out.bytes out.extents small out.file
 root_fine times kind before small (inr over) = no_file_at_root times kind before over.bytes over.extents small over.file
 
-pub too_long : (at : Moment) (times : Times) → IsToldOf (index_of at 2 (long_file times)) (out_of_bounds 2)
+pub too_long : (at : Moment) (times : Times) → IsToldOf (index_of at 2 (long_file times)) (faults.Extent 2)
 too_long at times =
     let out : IsOutOfBounds (long_file times) 1 = record { bytes = 2 ^ 40 + 1; extents = []; file = record { node = _; is = refl; file = refl }; out = inl (omega arith) } in
     record {
@@ -135,7 +136,7 @@ within times h =
           omega (arith, far.far, each (λ k e. e.offset + e.count ≤ 5) both (omega arith, (omega arith, tt)) far.at far.extent is)
     ]
 
-pub overlap : (at : Moment) (times : Times) → IsToldOf (index_of at 2 (shared_byte times)) (overlapping 2)
+pub overlap : (at : Moment) (times : Times) → IsToldOf (index_of at 2 (shared_byte times)) (faults.Overlap 2)
 overlap at times =
     let shared : ShareOffset both 0 1 4 = record {
       one = _;
@@ -163,7 +164,7 @@ overlap at times =
       overlap = over;
     }
 
-pub name_taken : (at : Moment) (times : Times) → IsToldOf (index_of at 3 (one_name times)) (taken_name 2)
+pub name_taken : (at : Moment) (times : Times) → IsToldOf (index_of at 3 (one_name times)) (faults.SameName 2)
 name_taken at times = record {
   uids = record {
     bounded = omega arith;

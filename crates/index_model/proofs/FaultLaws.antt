@@ -6,8 +6,9 @@ use Rattle.index_model.specs.declared.nodes.Node.{Node}
 use Rattle.index_model.specs.Extents.{AreFiles, HasOverlap, IsBadFile, IsOutOfBounds}
 use Rattle.index_model.specs.Names.{AreNamesApart, HasTakenName}
 use Rattle.index_model.specs.Places.{IsAt, IsFirst}
-use Rattle.index_model.specs.Refusals.{Fault, IsFirstBadFile, IsTold, IsToldOf, RefusesExtent, RefusesOverlap, RefusesUid}
-use Rattle.index_model.specs.Refusals.Fault.{wrong_uid, taken_name, out_of_bounds, overlapping}
+use Rattle.index_model.specs.Refusals.{IsFirstBadFile, IsTold, IsToldOf, RefusesExtent, RefusesOverlap, RefusesUid}
+use Rattle.index_model.specs.declared.faults.Fault.{Fault}
+use Rattle.index_model.specs.declared.faults.Fault.TheVariants as faults
 use Rattle.index_model.specs.Uids.{AreUids, HasBadUid}
 use Rattle.index_model.specs.Valid.{Agrees}
 use Rattle.index_model.proofs.Walks.{all_at, same_element}
@@ -85,25 +86,25 @@ apart_kinds index m n a b =
     b.within (subst (IsOutOfBounds index.nodes) e.0 a.out)
 
 pub one_fault : (index : Index) (a b : Fault) → IsToldOf index a → IsToldOf index b → a ≡ b
-one_fault index (wrong_uid m) (wrong_uid n) h k = ap wrong_uid (same_uid index m n h k)
-one_fault index (wrong_uid m) (taken_name n) h k = absurd (refused_uid index m k.uids h)
-one_fault index (wrong_uid m) (out_of_bounds n) h k = absurd (refused_uid index m k.bad.uids h)
-one_fault index (wrong_uid m) (overlapping n) h k = absurd (refused_uid index m k.bad.uids h)
-one_fault index (taken_name m) (wrong_uid n) h k = absurd (refused_uid index n h.uids k)
-one_fault index (taken_name m) (taken_name n) h k = ap taken_name (told_same index.nodes h.at k.at m n (first_same _ h.at k.at h.first k.first) h.told k.told)
-one_fault index (taken_name m) (out_of_bounds n) h k = absurd (taken_name_no index.nodes h.at k.bad.names h.first.here)
-one_fault index (taken_name m) (overlapping n) h k = absurd (taken_name_no index.nodes h.at k.bad.names h.first.here)
-one_fault index (out_of_bounds m) (wrong_uid n) h k = absurd (refused_uid index n h.bad.uids k)
-one_fault index (out_of_bounds m) (taken_name n) h k = absurd (taken_name_no index.nodes k.at h.bad.names k.first.here)
-one_fault index (out_of_bounds m) (out_of_bounds n) h k = ap out_of_bounds (same_file index h.at k.at m n h.bad k.bad).1
-one_fault index (out_of_bounds m) (overlapping n) h k = absurd (apart_kinds index m n h k)
-one_fault index (overlapping m) (wrong_uid n) h k = absurd (refused_uid index n h.bad.uids k)
-one_fault index (overlapping m) (taken_name n) h k = absurd (taken_name_no index.nodes k.at h.bad.names k.first.here)
-one_fault index (overlapping m) (out_of_bounds n) h k = absurd (apart_kinds index n m k h)
-one_fault index (overlapping m) (overlapping n) h k = ap overlapping (same_file index h.at k.at m n h.bad k.bad).1
+one_fault index (faults.Uid m) (faults.Uid n) h k = ap faults.Uid (same_uid index m n h k)
+one_fault index (faults.Uid m) (faults.SameName n) h k = absurd (refused_uid index m k.uids h)
+one_fault index (faults.Uid m) (faults.Extent n) h k = absurd (refused_uid index m k.bad.uids h)
+one_fault index (faults.Uid m) (faults.Overlap n) h k = absurd (refused_uid index m k.bad.uids h)
+one_fault index (faults.SameName m) (faults.Uid n) h k = absurd (refused_uid index n h.uids k)
+one_fault index (faults.SameName m) (faults.SameName n) h k = ap faults.SameName (told_same index.nodes h.at k.at m n (first_same _ h.at k.at h.first k.first) h.told k.told)
+one_fault index (faults.SameName m) (faults.Extent n) h k = absurd (taken_name_no index.nodes h.at k.bad.names h.first.here)
+one_fault index (faults.SameName m) (faults.Overlap n) h k = absurd (taken_name_no index.nodes h.at k.bad.names h.first.here)
+one_fault index (faults.Extent m) (faults.Uid n) h k = absurd (refused_uid index n h.bad.uids k)
+one_fault index (faults.Extent m) (faults.SameName n) h k = absurd (taken_name_no index.nodes k.at h.bad.names k.first.here)
+one_fault index (faults.Extent m) (faults.Extent n) h k = ap faults.Extent (same_file index h.at k.at m n h.bad k.bad).1
+one_fault index (faults.Extent m) (faults.Overlap n) h k = absurd (apart_kinds index m n h k)
+one_fault index (faults.Overlap m) (faults.Uid n) h k = absurd (refused_uid index n h.bad.uids k)
+one_fault index (faults.Overlap m) (faults.SameName n) h k = absurd (taken_name_no index.nodes k.at h.bad.names k.first.here)
+one_fault index (faults.Overlap m) (faults.Extent n) h k = absurd (apart_kinds index n m k h)
+one_fault index (faults.Overlap m) (faults.Overlap n) h k = ap faults.Overlap (same_file index h.at k.at m n h.bad k.bad).1
 
 pub agrees_no_fault : (index : Index) (a : Fault) → IsToldOf index a → ¬ Agrees index
-agrees_no_fault index (wrong_uid n) h right = refused_uid index n right.uids h
-agrees_no_fault index (taken_name n) h right = taken_name_no index.nodes h.at right.names h.first.here
-agrees_no_fault index (out_of_bounds n) h right = bad_file index.nodes h.at right.files h.bad.first.here
-agrees_no_fault index (overlapping n) h right = bad_file index.nodes h.at right.files h.bad.first.here
+agrees_no_fault index (faults.Uid n) h right = refused_uid index n right.uids h
+agrees_no_fault index (faults.SameName n) h right = taken_name_no index.nodes h.at right.names h.first.here
+agrees_no_fault index (faults.Extent n) h right = bad_file index.nodes h.at right.files h.bad.first.here
+agrees_no_fault index (faults.Overlap n) h right = bad_file index.nodes h.at right.files h.bad.first.here

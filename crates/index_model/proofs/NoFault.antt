@@ -8,8 +8,9 @@ use Rattle.index_model.specs.declared.nodes.RawExtent.{RawExtent}
 use Rattle.index_model.specs.Extents.{AreFiles, EndsTooFar, IsBadFile, IsFileAt, IsOutOfBounds, ShareOffset}
 use Rattle.index_model.specs.Names.{AreNamesApart, HasTakenName, HaveOneName}
 use Rattle.index_model.specs.Places.{IsAt, IsFirst}
-use Rattle.index_model.specs.Refusals.{Fault, IsFirstBadFile, IsToldOf}
-use Rattle.index_model.specs.Refusals.Fault.{wrong_uid, taken_name, out_of_bounds, overlapping}
+use Rattle.index_model.specs.Refusals.{IsFirstBadFile, IsToldOf}
+use Rattle.index_model.specs.declared.faults.Fault.{Fault}
+use Rattle.index_model.specs.declared.faults.Fault.TheVariants as faults
 use Rattle.index_model.specs.Uids.{AreUids, HasBadUid}
 use Rattle.index_model.specs.Valid.{Agrees}
 
@@ -76,17 +77,17 @@ each_end (e ∷ extents) near = (
 
 module _ (index : Index) (none : (a : Fault) → IsToldOf index a → ⊥) where
   bounded : index.highest ≤ 2 ^ 62
-  bounded = not_more index.highest (2 ^ 62) (λ over. none (wrong_uid index.highest) (inl record { over = over; same = refl }))
+  bounded = not_more index.highest (2 ^ 62) (λ over. none (faults.Uid index.highest) (inl record { over = over; same = refl }))
 
   no_bad_uid : (at : ℕ) → HasBadUid index.highest index.nodes at → ⊥
   no_bad_uid = never (HasBadUid index.highest index.nodes)
-      (λ at first. none (wrong_uid first.here.node.uid) (inr (inl record { bounded = bounded; at = at; first = first; told = record { node = first.here.node; is = first.here.is; same = refl } })))
+      (λ at first. none (faults.Uid first.here.node.uid) (inr (inl record { bounded = bounded; at = at; first = first; told = record { node = first.here.node; is = first.here.is; same = refl } })))
 
   root_uid : (node : Node) → IsAt index.nodes 0 node → node.uid ≡ 1
   root_uid node is =
       elim (cases_eq node.uid 1) [
         | inl same ↦ same
-        | inr wrong ↦ absurd (none (wrong_uid node.uid) (inr (inr record { bounded = bounded; others = no_bad_uid; wrong = wrong; told = record { node = node; is = is; same = refl } })))
+        | inr wrong ↦ absurd (none (faults.Uid node.uid) (inr (inr record { bounded = bounded; others = no_bad_uid; wrong = wrong; told = record { node = node; is = is; same = refl } })))
       ]
 
   one_uid : (i j : ℕ) → i < j → HaveOneUid index.nodes i j → ⊥
@@ -104,7 +105,7 @@ module _ (index : Index) (none : (a : Fault) → IsToldOf index a → ⊥) where
 
   no_taken_name : (at : ℕ) → HasTakenName index.nodes at → ⊥
   no_taken_name = never (HasTakenName index.nodes)
-      (λ at first. let h = first.here.taken in none (taken_name h.named.uid) record { uids = uids; at = at; first = first; told = record { node = h.named; is = h.other_is; same = refl } })
+      (λ at first. let h = first.here.taken in none (faults.SameName h.named.uid) record { uids = uids; at = at; first = first; told = record { node = h.named; is = h.other_is; same = refl } })
 
   names : AreNamesApart index.nodes
   names = same_place (HaveOneName index.nodes) (turned_name index.nodes) (λ i j less h. no_taken_name j record { earlier = i; before = less; taken = h })
@@ -114,13 +115,13 @@ module _ (index : Index) (none : (a : Fault) → IsToldOf index a → ⊥) where
   bad at bytes extents first f = record { uids = uids; names = names; first = first; told = record { node = f.node; is = f.is; same = refl } }
 
   not_out : (at : ℕ) → IsFirst (IsBadFile index.nodes) at → IsOutOfBounds index.nodes at → ⊥
-  not_out at first out = none (out_of_bounds out.file.node.uid) record { at = at; bad = bad at out.bytes out.extents first out.file; out = out }
+  not_out at first out = none (faults.Extent out.file.node.uid) record { at = at; bad = bad at out.bytes out.extents first out.file; out = out }
 
   not_first : (at : ℕ) → IsFirst (IsBadFile index.nodes) at → ⊥
   not_first at first =
       elim first.here [
         | inl out ↦ not_out at first out
-        | inr over ↦ none (overlapping over.file.node.uid) record { at = at; bad = bad at over.bytes over.extents first over.file; within = not_out at first; overlap = over }
+        | inr over ↦ none (faults.Overlap over.file.node.uid) record { at = at; bad = bad at over.bytes over.extents first over.file; within = not_out at first; overlap = over }
       ]
 
   no_bad_file : (at : ℕ) → IsBadFile index.nodes at → ⊥

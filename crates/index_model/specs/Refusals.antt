@@ -3,6 +3,8 @@
 use Rattle.std.specs.Prelude.{◌≡◌, ◌≢◌, ◌⊎◌, ℕ, ◌<◌, ◌≤◌, ◌^◌, List}
 use Rattle.index_model.specs.declared.indexes.Index.{Index}
 use Rattle.index_model.specs.declared.nodes.Node.{Node}
+use Rattle.index_model.specs.declared.faults.Fault.{Fault}
+use Rattle.index_model.specs.declared.faults.Fault.TheVariants as faults
 use Rattle.index_model.specs.Extents.{HasOverlap, IsBadFile, IsOutOfBounds}
 use Rattle.index_model.specs.Names.{AreNamesApart, HasTakenName}
 use Rattle.index_model.specs.Places.{IsAt, IsFirst}
@@ -64,16 +66,9 @@ pub record RefusesOverlap (index : Index) (uid : ℕ) : Type 0 where
   pub within : ¬ IsOutOfBounds index.nodes at
   pub overlap : HasOverlap index.nodes at
 
--- what is told: a UID, and what is wrong with the node that has it
-pub data Fault : Type 0 where
-  wrong_uid : ℕ → Fault
-  taken_name : ℕ → Fault
-  out_of_bounds : ℕ → Fault
-  overlapping : ℕ → Fault
-
 -- this is told of the index
 abbrev pub IsToldOf : Index → Fault → Type 0
-IsToldOf index (wrong_uid n) = RefusesUid index n
-IsToldOf index (taken_name n) = RefusesName index n
-IsToldOf index (out_of_bounds n) = RefusesExtent index n
-IsToldOf index (overlapping n) = RefusesOverlap index n
+IsToldOf index (faults.Uid n) = RefusesUid index n
+IsToldOf index (faults.SameName n) = RefusesName index n
+IsToldOf index (faults.Extent n) = RefusesExtent index n
+IsToldOf index (faults.Overlap n) = RefusesOverlap index n

@@ -6,7 +6,7 @@ ghost use Rattle.index_model.specs.Extents.{AreFiles};
 ghost use Rattle.index_model.specs.declared.nodes.Kind.TheVariants as kinds;
 ghost use Rattle.index_model.specs.Order.{AreInOrder};
 ghost use Rattle.index_model.specs.Refusals.{IsToldOf};
-ghost use Rattle.index_model.specs.Refusals.Fault.{wrong_uid, taken_name, out_of_bounds, overlapping};
+ghost use Rattle.index_model.specs.declared.faults.Fault.TheVariants as faults;
 ghost use Rattle.index_model.specs.Valid.{IsValid};
 
 /// The archive is valid, and of each index that is damaged in one way that fault is told.
@@ -15,9 +15,9 @@ fn the_definitions_tell_valid_from_damaged()
     ensures touching { (times : Times) → AreFiles (with_file times (kinds.File 5 touching)) }
     ensures late { (times : Times) → ¬ AreInOrder (late_node times) }
     ensures in_file { (times : Times) → ¬ AreInOrder (node_in_file times) }
-    ensures highest { (at : Moment) (times : Times) → IsToldOf (index_of at (2 ^ 62 + 1) (archive_nodes times)) (wrong_uid (2 ^ 62 + 1)) }
-    ensures uid { (at : Moment) (times : Times) → IsToldOf (index_of at 3 (archive_nodes times)) (wrong_uid 4) }
-    ensures name { (at : Moment) (times : Times) → IsToldOf (index_of at 3 (one_name times)) (taken_name 2) }
-    ensures long { (at : Moment) (times : Times) → IsToldOf (index_of at 2 (long_file times)) (out_of_bounds 2) }
-    ensures overlap { (at : Moment) (times : Times) → IsToldOf (index_of at 2 (shared_byte times)) (overlapping 2) }
+    ensures highest { (at : Moment) (times : Times) → IsToldOf (index_of at (2 ^ 62 + 1) (archive_nodes times)) (faults.Uid (2 ^ 62 + 1)) }
+    ensures uid { (at : Moment) (times : Times) → IsToldOf (index_of at 3 (archive_nodes times)) (faults.Uid 4) }
+    ensures name { (at : Moment) (times : Times) → IsToldOf (index_of at 3 (one_name times)) (faults.SameName 2) }
+    ensures long { (at : Moment) (times : Times) → IsToldOf (index_of at 2 (long_file times)) (faults.Extent 2) }
+    ensures overlap { (at : Moment) (times : Times) → IsToldOf (index_of at 2 (shared_byte times)) (faults.Overlap 2) }
 {}

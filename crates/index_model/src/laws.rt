@@ -1,9 +1,10 @@
 ghost use Rattle.std.specs.Prelude.{◌≡◌, ℕ, ◌<◌, List, Some};
+ghost use Rattle.index_model.specs.declared.faults.Fault.{Fault};
 ghost use Rattle.index_model.specs.declared.indexes.Index.{Index};
 ghost use Rattle.index_model.specs.declared.nodes.Node.{Node};
 ghost use Rattle.index_model.specs.Order.{AreInOrder, LiesIn};
 ghost use Rattle.index_model.specs.Places.{IsAt};
-ghost use Rattle.index_model.specs.Refusals.{Fault, IsToldOf};
+ghost use Rattle.index_model.specs.Refusals.{IsToldOf};
 ghost use Rattle.index_model.specs.Valid.{Agrees};
 
 /// Of an index one fault is told, or none, which is where its nodes agree.

@@ -4,6 +4,7 @@
 
 #[cfg(test)]
 mod examples;
+mod faults;
 mod indexes;
 mod laws;
 mod nodes;
@@ -14,6 +15,7 @@ mod slow;
 #[cfg(test)]
 mod tests;
 
+pub use faults::Fault;
 pub use indexes::{Index, Policy, Spot};
 pub use laws::{directories_stand_together, one_fault_is_told};
 pub use nodes::{Kind, Node, RawExtent};

@@ -26,10 +26,10 @@ pub struct Place {
 #[derive(Clone, Copy, Debug, PartialEq, Eq)]
 pub struct Extent {
     pub offset: u64,
-    pub part: Part,
     pub block: u64,
-    pub byte: u32,
     pub count: u64,
+    pub byte: u32,
+    pub part: Part,
 }
 
 /// What stands at one position of a partition.
