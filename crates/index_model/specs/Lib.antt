@@ -1,9 +1,11 @@
 pub mod Archive
+pub mod Canonical
 pub mod Places
 pub mod Texts
 pub mod Order
 pub mod Names
 pub mod Uids
+pub mod Values
 pub mod Extents
 pub mod Valid
 pub mod Refusals
