@@ -1,11 +1,15 @@
 pub mod Archive
-pub mod Canonical
 pub mod Places
 pub mod Texts
 pub mod Order
 pub mod Names
 pub mod Uids
-pub mod Values
 pub mod Extents
 pub mod Valid
 pub mod Refusals
+pub mod Values
+pub mod Canonical
+pub mod Schema
+pub mod Pieces
+pub mod Documents
+pub mod Grammar

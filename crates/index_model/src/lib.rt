@@ -2,6 +2,7 @@
 //! their bytes stand (LTFS 2.4 on the index).
 #![tactic(auto)]
 
+mod errors;
 #[cfg(test)]
 mod examples;
 mod faults;
@@ -10,12 +11,17 @@ mod laws;
 mod nodes;
 #[cfg(test)]
 mod rows;
+mod schema;
 #[cfg(test)]
 mod slow;
 #[cfg(test)]
 mod tests;
 
+pub use errors::IndexErr;
 pub use faults::Fault;
 pub use indexes::{Index, Policy, Spot};
 pub use laws::{directories_stand_together, one_fault_is_told};
 pub use nodes::{Kind, Node, RawExtent};
+pub use schema::{
+    Child, Form, Place, child_of, excludes, is_node, may_repeat, required, tag_of,
+};

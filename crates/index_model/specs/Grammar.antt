@@ -1,0 +1,221 @@
+-- What the text of an index is: spellings of elements inside one another (LTFS 2.4 on the index).
+use Rattle.std.specs.Prelude.{◌≡◌, ◌⊎◌, ◌≤◌, ℕ, ◌+◌, List, [], ◌∷◌, Bool, length, true, false, Option, Some, None, Ok, IsUtf8, not, ◌==◌, ◌&&◌, if◌then◌else◌}
+use Rattle.std.specs.Option.{option_map}
+use Rattle.doc_fields.specs.declared.tags.Tag.{Tag}
+use Rattle.doc_fields.specs.declared.tags.Tag.TheVariants.{LtfsIndex, Creator, Comment, VolumeUuid, Partition, GenerationNumber, UpdateTime, StartBlock, AllowPolicyUpdate, Size, VolumeLockState, HighestFileUid, FileUid, Name, Length, CreationTime, ChangeTime, ModifyTime, AccessTime, BackupTime, ReadOnly, Symlink, FileOffset, ByteOffset, ByteCount}
+use Rattle.doc_fields.specs.declared.starts.Start.{Start}
+use Rattle.doc_fields.specs.Space.{space_end}
+use Rattle.doc_fields.specs.StartTag.{named_at, rest_at}
+use Rattle.doc_fields.specs.EndTag.{end_at}
+use Rattle.doc_fields.specs.Declaration.{head_at}
+use Rattle.doc_children.specs.Children.{code, member, first_missing}
+use Rattle.index_model.specs.declared.indexes.Index.{Index}
+use Rattle.index_model.specs.declared.indexes.Policy.{Policy}
+use Rattle.index_model.specs.declared.indexes.Spot.{Spot}
+use Rattle.index_model.specs.declared.nodes.RawExtent.{RawExtent}
+use Rattle.index_model.specs.declared.schema.Place.{Place}
+use Rattle.index_model.specs.declared.schema.Place.TheVariants as place
+use Rattle.index_model.specs.declared.schema.Form.{Form}
+use Rattle.index_model.specs.declared.schema.Child.{Child}
+use Rattle.index_model.specs.declared.schema.Child.TheVariants as child
+use Rattle.index_model.specs.declared.errors.IndexErr.{IndexErr}
+use Rattle.index_model.specs.declared.faults.Fault.{Fault}
+use Rattle.index_model.specs.Schema.{rule, required, tag_of, may_repeat, excludes, place_code}
+use Rattle.index_model.specs.Values.{TimesValue, NodeFacts, Nodes, no_nodes, directory, file, link, count, VolumeFacts, IndexValue, Tells}
+use Rattle.index_model.specs.Pieces.{Val, words, time, uuid, letter, number, truth, lock, leaf_at, has_any}
+use Rattle.index_model.specs.Documents.{root_at, readable, StopsAt, fault_told}
+use Rattle.index_model.specs.Refusals.{IsToldOf}
+use Rattle.index_model.specs.Valid.{Agrees}
+
+-- an element: a leaf with its value, a parent as one empty tag, or a parent with its children
+mutual
+  pub data Item : Type 0 where
+    plain : Tag → Val → Item
+    bare : Place → Item
+    nested : Place → Items → Item
+
+  pub data Items : Type 0 where
+    no_items : Items
+    item : Item → Items → Items
+
+abbrev pub item_tag : Item → Tag
+item_tag (plain tag v) = tag
+item_tag (bare p) = tag_of p
+item_tag (nested p is) = tag_of p
+
+-- a start tag of a child that has its place here
+pub record Starts (text : List ℕ) (p : Place) (at : ℕ) (c : Child) (tag : Tag) (start : Start) : Type 0 where
+  pub child : rule p tag ≡ c
+  pub name_end : ℕ
+  pub named : named_at text at ≡ Ok (tag, name_end)
+  pub rest : rest_at tag at text name_end ≡ Ok start
+
+-- an element may stand behind others in a parent: none of it has stood there, unless it may repeat, and none that it excludes
+pub record MayFollow (p : Place) (seen : List Tag) (tag : Tag) : Type 0 where
+  pub alone : has_any (excludes tag) seen ≡ false
+  pub once : (member tag seen && not (may_repeat p tag)) ≡ false
+
+abbrev mutual
+  -- the spelling of a child of p, from one place up to another
+  pub Spelled : List ℕ → Place → ℕ → Item → ℕ → Type 0
+  Spelled text p at (plain tag v) next = (form : Form) × (start : Start) × Starts text p at (child.Leaf form) tag start × (leaf_at form tag at start text ≡ Ok (v, next))
+  Spelled text p at (bare q) next = (start : Start) × Starts text p at (child.Parent q) (tag_of q) start × (start.empty ≡ true) × (start.next ≡ next) × (first_missing (required q) [] ≡ None)
+  Spelled text p at (nested q is) next = (start : Start) × Starts text p at (child.Parent q) (tag_of q) start × (start.empty ≡ false) × (end : ℕ) × AllSpelled text q [] start.next is end × (end_at text end (tag_of q) ≡ Ok next)
+
+  -- the spellings of children of p, behind some that stood there: each may stand there, and each that is required has come
+  pub AllSpelled : List ℕ → Place → List Tag → ℕ → Items → ℕ → Type 0
+  AllSpelled text p seen at no_items end = (end ≡ space_end text at) × (first_missing (required p) seen ≡ None)
+  AllSpelled text p seen at (item i is) end = MayFollow p seen (item_tag i) × (next : ℕ) × Spelled text p (space_end text at) i next × AllSpelled text p (item_tag i ∷ seen) next is end
+
+-- ---- what elements tell
+
+-- the value of a leaf among children, where it is there
+abbrev pub told : Tag → Items → Option Val
+told tag no_items = None
+told tag (item (plain t v) more) = if code t == code tag then Some v else told tag more
+told tag (item (bare p) more) = told tag more
+told tag (item (nested p is) more) = told tag more
+
+-- the children of a parent among children, where it is there
+abbrev pub inside : Place → Items → Option Items
+inside p no_items = None
+inside p (item (plain t v) more) = inside p more
+inside p (item (bare q) more) = if place_code q == place_code p then Some no_items else inside p more
+inside p (item (nested q is) more) = if place_code q == place_code p then Some is else inside p more
+
+-- both are there, and one tells the other, or neither is
+abbrev pub TellsMaybe : {X : Type 0} → (Items → X → Type 0) → Option Items → Option X → Type 0
+TellsMaybe R None None = Unit {0}
+TellsMaybe R (Some is) (Some x) = R is x
+TellsMaybe R _ _ = ⊥
+
+pub record TellsSpot (is : Items) (s : Spot) : Type 0 where
+  pub letter : told Partition is ≡ Some (letter s.letter)
+  pub block : told StartBlock is ≡ Some (number s.block)
+
+-- the names among children, in their order
+abbrev pub names_in : Items → List (List ℕ)
+names_in no_items = []
+names_in (item (plain Name (words text)) more) = text ∷ names_in more
+names_in (item _ more) = names_in more
+
+pub record TellsPolicy (is : Items) (p : Policy) : Type 0 where
+  pub criteria : Items
+  pub are : inside place.Criteria is ≡ Some criteria
+  pub size : told Size criteria ≡ Some (number p.size)
+  pub names : names_in criteria ≡ p.names
+
+pub record TellsVolume (is : Items) (v : VolumeFacts) : Type 0 where
+  pub creator : told Creator is ≡ Some (words v.creator)
+  pub comment : told Comment is ≡ option_map words v.comment
+  pub uuid : told VolumeUuid is ≡ Some (uuid v.uuid)
+  pub generation : told GenerationNumber is ≡ Some (number v.generation)
+  pub updated : told UpdateTime is ≡ Some (time v.updated)
+  pub here : TellsMaybe TellsSpot (inside place.Here is) (Some v.here)
+  pub back : TellsMaybe TellsSpot (inside place.Back is) v.back
+  pub allow : told AllowPolicyUpdate is ≡ Some (truth v.allow)
+  pub policy : TellsMaybe TellsPolicy (inside place.Policy is) v.policy
+  pub lock : told VolumeLockState is ≡ option_map lock v.lock
+  pub highest : told HighestFileUid is ≡ Some (number v.highest)
+
+pub record TellsFacts (is : Items) (f : NodeFacts) : Type 0 where
+  pub uid : told FileUid is ≡ Some (number f.uid)
+  pub name : told Name is ≡ Some (words f.name)
+  pub create : told CreationTime is ≡ Some (time f.times.create)
+  pub change : told ChangeTime is ≡ Some (time f.times.change)
+  pub modify : told ModifyTime is ≡ Some (time f.times.modify)
+  pub access : told AccessTime is ≡ Some (time f.times.access)
+  pub backup : told BackupTime is ≡ Some (time f.times.backup)
+  pub readonly : told ReadOnly is ≡ Some (truth f.readonly)
+
+pub record TellsExtent (is : Items) (e : RawExtent) : Type 0 where
+  pub offset : told FileOffset is ≡ Some (number e.offset)
+  pub letter : told Partition is ≡ Some (letter e.letter)
+  pub block : told StartBlock is ≡ Some (number e.block)
+  pub byte : told ByteOffset is ≡ Some (number e.byte)
+  pub count : told ByteCount is ≡ Some (number e.count)
+
+-- the extents among children, in their order
+abbrev pub TellsExtents : Items → List RawExtent → Type 0
+TellsExtents no_items es = es ≡ []
+TellsExtents (item (nested place.Extent is) more) es = (e : RawExtent) × (behind : List RawExtent) × (es ≡ e ∷ behind) × TellsExtent is e × TellsExtents more behind
+TellsExtents (item _ more) es = TellsExtents more es
+
+-- the extents of a file, which has none where none are told
+abbrev pub HasExtents : Option Items → List RawExtent → Type 0
+HasExtents None es = es ≡ []
+HasExtents (Some is) es = TellsExtents is es
+
+-- a file is a symbolic link where it has the text of one; its length isn't read then
+pub record TellsLink (is : Items) (nodes behind : Nodes) : Type 0 where
+  pub facts : NodeFacts
+  pub text : List ℕ
+  pub node : nodes ≡ link facts text behind
+  pub tells : TellsFacts is facts
+  pub told_text : told Symlink is ≡ Some (words text)
+
+pub record TellsFile (is : Items) (nodes behind : Nodes) : Type 0 where
+  pub facts : NodeFacts
+  pub bytes : ℕ
+  pub extents : List RawExtent
+  pub node : nodes ≡ file facts bytes extents behind
+  pub tells : TellsFacts is facts
+  pub no_text : told Symlink is ≡ None
+  pub length : told Length is ≡ Some (number bytes)
+  pub has : HasExtents (inside place.ExtentInfo is) extents
+
+abbrev mutual
+  -- the nodes among children, in their order
+  pub TellsNodes : Items → Nodes → Type 0
+  TellsNodes no_items nodes = nodes ≡ no_nodes
+  TellsNodes (item (nested place.Directory is) more) nodes =
+      (facts : NodeFacts) × (inner : Nodes) × (behind : Nodes) × (nodes ≡ directory facts inner behind) × TellsFacts is facts × TellsContents is inner × TellsNodes more behind
+  TellsNodes (item (nested place.File is) more) nodes =
+      (behind : Nodes) × (TellsFile is nodes behind ⊎ TellsLink is nodes behind) × TellsNodes more behind
+  TellsNodes (item _ more) nodes = TellsNodes more nodes
+
+  -- the nodes in a directory with these children
+  pub TellsContents : Items → Nodes → Type 0
+  TellsContents no_items nodes = nodes ≡ no_nodes
+  TellsContents (item (nested place.Contents is) more) nodes = TellsNodes is nodes
+  TellsContents (item _ more) nodes = TellsContents more nodes
+
+-- The bytes are a declaration or none, white space, one spelling of the root, and white space; the elements tell this
+-- value, which has 65,536 nodes at most.
+pub record Spells (text : List ℕ) (v : IndexValue) : Type 0 where
+  pub valid : IsUtf8 text
+  pub from : ℕ
+  pub head_is : head_at text 0 ≡ Ok from
+  pub start : ℕ
+  pub root_is : root_at text (space_end text from) ≡ Ok start
+  pub items : Items
+  pub end : ℕ
+  pub children : AllSpelled text place.Index [] start items end
+  pub after : ℕ
+  pub ends : end_at text end LtfsIndex ≡ Ok after
+  pub ended : space_end text after ≡ length text
+  pub volume : TellsVolume items v.volume
+  pub root_items : Items
+  pub root : inside place.Root items ≡ Some root_items
+  pub facts : TellsFacts root_items v.root
+  pub contents : TellsContents root_items v.inside
+  pub few : 1 + count v.inside ≤ 65536
+
+-- the text is that of an index, of which no fault is told
+pub record IndexText (text : List ℕ) (index : Index) : Type 0 where
+  pub value : IndexValue
+  pub spells : Spells text value
+  pub tells : Tells index value
+  pub agrees : Agrees index
+
+-- the text spells an index of which this fault is told
+pub record SpellsFaulty (text : List ℕ) (fault : Fault) : Type 0 where
+  pub value : IndexValue
+  pub spells : Spells text value
+  pub index : Index
+  pub tells : Tells index value
+  pub told : IsToldOf index fault
+
+-- why a text is no index, and where
+abbrev pub Stops : List ℕ → IndexErr → Type 0
+Stops text e = StopsAt text e ⊎ ((fault : Fault) × SpellsFaulty text fault × (e ≡ fault_told fault))
