@@ -20,8 +20,8 @@ use Rattle.index_model.specs.declared.schema.Child.{Child}
 use Rattle.index_model.specs.declared.schema.Child.TheVariants as child
 use Rattle.index_model.specs.declared.errors.IndexErr.{IndexErr}
 use Rattle.index_model.specs.declared.faults.Fault.{Fault}
-use Rattle.index_model.specs.Schema.{rule, required, tag_of, may_repeat, excludes, place_code}
-use Rattle.index_model.specs.Values.{TimesValue, NodeFacts, Nodes, no_nodes, directory, file, link, count, VolumeFacts, IndexValue, Tells}
+use Rattle.index_model.specs.Schema.{rule, required, tag_of, may_repeat, excludes, is_node, place_code}
+use Rattle.index_model.specs.Values.{TimesValue, NodeFacts, Nodes, no_nodes, directory, file, link, VolumeFacts, IndexValue, Tells}
 use Rattle.index_model.specs.Pieces.{Val, words, time, uuid, letter, number, truth, lock, leaf_at, has_any}
 use Rattle.index_model.specs.Documents.{root_at, readable, StopsAt, fault_told}
 use Rattle.index_model.specs.Refusals.{IsToldOf}
@@ -67,21 +67,45 @@ abbrev mutual
   AllSpelled text p seen at no_items end = (end ≡ space_end text at) × (first_missing (required p) seen ≡ None)
   AllSpelled text p seen at (item i is) end = MayFollow p seen (item_tag i) × (next : ℕ) × Spelled text p (space_end text at) i next × AllSpelled text p (item_tag i ∷ seen) next is end
 
+-- how many elements are nodes
+abbrev mutual
+  pub nodes_of : Item → ℕ
+  nodes_of (plain tag v) = 0
+  nodes_of (bare p) = if is_node p then 1 else 0
+  nodes_of (nested p is) = (if is_node p then 1 else 0) + node_count is
+
+  pub node_count : Items → ℕ
+  node_count no_items = 0
+  node_count (item i is) = nodes_of i + node_count is
+
 -- ---- what elements tell
 
--- the value of a leaf among children, where it is there
+-- the first, where it is there, else the second
+abbrev pub or_else : {X : Type 0} → Option X → Option X → Option X
+or_else (Some x) other = Some x
+or_else None other = other
+
+-- the value of an element, where it is a leaf of this name
+abbrev pub own : Tag → Item → Option Val
+own tag (plain t v) = if code t == code tag then Some v else None
+own tag (bare p) = None
+own tag (nested p is) = None
+
+-- the value of a leaf among children, where it is there; of several it is the last
 abbrev pub told : Tag → Items → Option Val
 told tag no_items = None
-told tag (item (plain t v) more) = if code t == code tag then Some v else told tag more
-told tag (item (bare p) more) = told tag more
-told tag (item (nested p is) more) = told tag more
+told tag (item i more) = or_else (told tag more) (own tag i)
 
--- the children of a parent among children, where it is there
+-- the children of an element, where it is this parent
+abbrev pub own_children : Place → Item → Option Items
+own_children p (plain tag v) = None
+own_children p (bare q) = if place_code q == place_code p then Some no_items else None
+own_children p (nested q is) = if place_code q == place_code p then Some is else None
+
+-- the children of a parent among children, where it is there; of several it is the last
 abbrev pub inside : Place → Items → Option Items
 inside p no_items = None
-inside p (item (plain t v) more) = inside p more
-inside p (item (bare q) more) = if place_code q == place_code p then Some no_items else inside p more
-inside p (item (nested q is) more) = if place_code q == place_code p then Some is else inside p more
+inside p (item i more) = or_else (inside p more) (own_children p i)
 
 -- both are there, and one tells the other, or neither is
 abbrev pub TellsMaybe : {X : Type 0} → (Items → X → Type 0) → Option Items → Option X → Type 0
@@ -180,8 +204,8 @@ abbrev mutual
   TellsContents (item (nested place.Contents is) more) nodes = TellsNodes is nodes
   TellsContents (item _ more) nodes = TellsContents more nodes
 
--- The bytes are a declaration or none, white space, one spelling of the root, and white space; the elements tell this
--- value, which has 65,536 nodes at most.
+-- The bytes are a declaration or none, white space, one spelling of the root, and white space; its elements, of which
+-- 65,536 at most are nodes, tell this value.
 pub record Spells (text : List ℕ) (v : IndexValue) : Type 0 where
   pub valid : IsUtf8 text
   pub from : ℕ
@@ -199,7 +223,7 @@ pub record Spells (text : List ℕ) (v : IndexValue) : Type 0 where
   pub root : inside place.Root items ≡ Some root_items
   pub facts : TellsFacts root_items v.root
   pub contents : TellsContents root_items v.inside
-  pub few : 1 + count v.inside ≤ 65536
+  pub few : node_count items ≤ 65536
 
 -- the text is that of an index, of which no fault is told
 pub record IndexText (text : List ℕ) (index : Index) : Type 0 where

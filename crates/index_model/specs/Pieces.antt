@@ -1,8 +1,7 @@
 -- The piece of a document that follows: an end tag of the innermost open parent, a start tag of a parent, or a whole leaf.
 use Rattle.std.specs.Prelude.{◌≡◌, ℕ, ◌+◌, ◌^◌, List, [], ◌∷◌, Bool, true, false, Option, Some, None, Result, Ok, Err, length, nat_le, nat_lt, not, ◌==◌, ◌&&◌, ◌||◌, if◌then◌else◌}
 use Rattle.std.specs.List.{list_any}
-use Rattle.std.specs.Str.{chars}
-use Rattle.std.specs.Str.Lossy.{utf8_valid_len}
+use Rattle.std.specs.Str.{chars, is_utf8}
 use Rattle.tape_types.specs.declared.times.Civil.{Civil}
 use Rattle.tape_types.specs.Names.{has_byte, is_dot}
 use Rattle.doc_fields.specs.declared.errors.Why.{Why}
@@ -97,9 +96,6 @@ number_in f text from = do
   m ← in_range f text from n
   Ok (number m.0, space_end text m.1)
 
-abbrev pub is_utf8 : List ℕ → Bool
-is_utf8 bytes = utf8_valid_len bytes == length bytes
-
 -- up to 255 characters without a slash and a NUL
 abbrev pub is_volume_name : List ℕ → Bool
 is_volume_name name = nat_le (length (chars name)) 255 && not (has_byte 47 name) && not (has_byte 0 name)
@@ -173,20 +169,22 @@ opens_node _ = false
 abbrev pub has_any : List Tag → List Tag → Bool
 has_any tags seen = list_any (λ tag. member tag seen) tags
 
--- Whether an element may stand as a child here, in a document with so many nodes before it: whether it is known beside
--- the others, whether it was there, and whether there are too many nodes.
+-- Whether a known element may stand as a child here, in a document with so many nodes before it: beside the others,
+-- again, and as one node more.
+abbrev pub beside : Frame → ℕ → ℕ → Tag → Child → Result Child IndexErr
+beside f nodes at tag c =
+    if has_any (excludes tag) f.seen then Err (errors.Unknown at)
+    else (if member tag f.seen && not (may_repeat f.place tag) then Err (errors.Twice at)
+    else (if opens_node c && nat_le 65536 nodes then Err errors.TooMany else Ok c))
+
+abbrev pub if_known : Child → ℕ → Result Child IndexErr → Result Child IndexErr
+if_known child.Unknown at r = Err (errors.Unknown at)
+if_known (child.Leaf form) at r = r
+if_known (child.Parent place) at r = r
+
+-- whether an element may stand as a child here
 unfoldable pub verdict : Frame → ℕ → ℕ → Tag → Result Child IndexErr
-verdict f nodes at tag = by (rule f.place tag)
-  where
-    beside : Child → Result Child IndexErr
-    beside c =
-        if has_any (excludes tag) f.seen then Err (errors.Unknown at)
-        else (if member tag f.seen && not (may_repeat f.place tag) then Err (errors.Twice at)
-        else (if opens_node c && nat_le 65536 nodes then Err errors.TooMany else Ok c))
-    by : Child → Result Child IndexErr
-    by child.Unknown = Err (errors.Unknown at)
-    by (child.Leaf form) = beside (child.Leaf form)
-    by (child.Parent place) = beside (child.Parent place)
+verdict f nodes at tag = if_known (rule f.place tag) at (beside f nodes at tag (rule f.place tag))
 
 abbrev pub unknown_by : {A : Type 0} → Why → ℕ → Result A IndexErr → Result A IndexErr
 unknown_by why.Unknown at r = Err (errors.Unknown at)
