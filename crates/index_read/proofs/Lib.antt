@@ -1,2 +1,4 @@
 mod Names
 mod Seen
+mod Changes
+pub mod Steps

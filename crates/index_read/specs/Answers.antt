@@ -1,8 +1,9 @@
 -- What the code's values stand for, and what a call may answer where reading gives a value or a refusal.
-use Rattle.std.specs.Prelude.{◌≡◌, Result, Ok, Err}
+use Rattle.std.specs.Prelude.{◌≡◌, ◌<◌, ℕ, true, Result, Ok, Err}
 use Rattle.tape_types.specs.Times.{civil_of}
 use Rattle.index_model.specs.declared.errors.IndexErr.{IndexErr}
 use Rattle.index_model.specs.declared.errors.IndexErr.TheVariants as errors
+use Rattle.index_model.specs.Schema.{is_node}
 use Rattle.index_model.specs.Pieces.{Val, words, time, uuid, letter, number, truth, lock, Piece as Told, opens, whole, closes, leaf}
 use Rattle.index_read.specs.declared.pieces.Piece.{Piece}
 use Rattle.index_read.specs.declared.pieces.Piece.TheVariants as code_pieces
@@ -23,6 +24,13 @@ piece_of (code_pieces.Opens p) = opens p
 piece_of (code_pieces.Whole p) = whole p
 piece_of code_pieces.Closes = closes
 piece_of (code_pieces.Leaf tag v) = leaf tag (val_of v)
+
+-- there are fewer nodes than there may be, where a piece begins one
+abbrev pub HasRoom : Piece → ℕ → Type 0
+HasRoom (code_pieces.Opens p) nodes = is_node p ≡ true → nodes < 65536
+HasRoom (code_pieces.Whole p) nodes = is_node p ≡ true → nodes < 65536
+HasRoom code_pieces.Closes nodes = Unit {0}
+HasRoom (code_pieces.Leaf tag v) nodes = Unit {0}
 
 -- a refusal is the one that reading gives, unless memory was refused
 abbrev pub Fails : {B : Type 0} → IndexErr → Result B IndexErr → Type 0

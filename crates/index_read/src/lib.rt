@@ -1,5 +1,7 @@
 //! The document of an index, read in one pass.
 #![tactic(auto)]
 
+mod drafts;
 mod pieces;
 mod values;
+mod walking;

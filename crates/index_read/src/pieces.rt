@@ -1,11 +1,11 @@
 //! The piece of a document that follows.
 
-ghost use Rattle.std.specs.Prelude.{◌≡◌, ◌≤◌, ◌<◌, ◌+◌, ℕ, List, length, IfOk};
+ghost use Rattle.std.specs.Prelude.{◌≡◌, ◌≤◌, ◌<◌, ◌+◌, ℕ, true, List, length, IfOk};
 ghost use Rattle.doc_fields.specs.declared.tags.Tag.{Tag};
 ghost use Rattle.doc_children.specs.Children.{Holds, first_missing};
 ghost use Rattle.index_model.specs.Pieces.{beside, child_at, close_at, has_any, made, none_missing, opens_node, piece_at, verdict};
 ghost use Rattle.index_model.specs.Schema.{required};
-ghost use Rattle.index_read.specs.Answers.{Gives, piece_of};
+ghost use Rattle.index_read.specs.Answers.{Gives, HasRoom, piece_of};
 
 use crate::values::{Value, leaf};
 use doc_children::Children;
@@ -59,7 +59,8 @@ fn opens_node(child: Child) -> bool
 /// Whether an element may stand as a child here, with so many nodes before it.
 #[tactic(auto, unfolding(index_model::specs::Pieces::verdict))]
 fn verdict(frame: Frame, nodes: u32, at: usize, tag: Tag) -> Result<Child, IndexErr>
-    ensures { (tags : List Tag) → Holds frame.seen tags → result ≡ verdict (record { place = frame.place; seen = tags }) nodes at tag }
+    ensures room { IfOk result (λ c. opens_node c ≡ true → nodes < 65536) }
+    ensures value { (tags : List Tag) → Holds frame.seen tags → result ≡ verdict (record { place = frame.place; seen = tags }) nodes at tag }
 {
     let child = child_of(frame.place, tag);
     match child {
@@ -70,7 +71,8 @@ fn verdict(frame: Frame, nodes: u32, at: usize, tag: Tag) -> Result<Child, Index
 
 /// The same of an element that is known there.
 fn beside(frame: Frame, nodes: u32, at: usize, tag: Tag, child: Child) -> Result<Child, IndexErr>
-    ensures { (tags : List Tag) → Holds frame.seen tags → result ≡ beside (record { place = frame.place; seen = tags }) nodes at tag child }
+    ensures room { IfOk result (λ c. opens_node c ≡ true → nodes < 65536) }
+    ensures value { (tags : List Tag) → Holds frame.seen tags → result ≡ beside (record { place = frame.place; seen = tags }) nodes at tag child }
 {
     if has_any(excludes(tag), frame.seen) {
         return Err(IndexErr::Unknown(at));
@@ -103,6 +105,7 @@ fn made(
     text: &[u8],
 ) -> Result<(Piece, usize), IndexErr>
     requires { start.next ≤ length text.now }
+    ensures room { IfOk result (λ x. (nodes : ℕ) → (opens_node child ≡ true → nodes < 65536) → HasRoom x.0 nodes) }
     ensures value { Gives (λ x. (piece_of x.0, x.1)) result (made child tag from start text.now) }
     ensures within { IfOk result (λ x. (start.next ≤ x.1) × (x.1 ≤ length text.now)) }
 {
@@ -125,6 +128,7 @@ fn made(
 #[tactic(auto, unfolding(index_model::specs::Pieces::close_at))]
 fn close(frame: Frame, text: &[u8], at: usize) -> Result<(Piece, usize), IndexErr>
     requires { at ≤ length text.now }
+    ensures room { IfOk result (λ x. (nodes : ℕ) → HasRoom x.0 nodes) }
     ensures value { (tags : List Tag) → Holds frame.seen tags → Gives (λ x. (piece_of x.0, x.1)) result (close_at (record { place = frame.place; seen = tags }) text.now at) }
     ensures within { IfOk result (λ x. (at < x.1) × (x.1 ≤ length text.now)) }
 {
@@ -134,8 +138,15 @@ fn close(frame: Frame, text: &[u8], at: usize) -> Result<(Piece, usize), IndexEr
 }
 
 #[tactic(auto, unfolding(index_model::specs::Pieces::child_at))]
-fn child(alloc: Global, frame: Frame, nodes: u32, text: &[u8], at: usize) -> Result<(Piece, usize), IndexErr>
+fn child(
+    alloc: Global,
+    frame: Frame,
+    nodes: u32,
+    text: &[u8],
+    at: usize,
+) -> Result<(Piece, usize), IndexErr>
     requires { at ≤ length text.now }
+    ensures room { IfOk result (λ x. HasRoom x.0 nodes) }
     ensures value { (tags : List Tag) → Holds frame.seen tags → Gives (λ x. (piece_of x.0, x.1)) result (child_at (record { place = frame.place; seen = tags }) nodes text.now at) }
     ensures within { IfOk result (λ x. (at < x.1) × (x.1 ≤ length text.now)) }
 {
@@ -167,6 +178,7 @@ pub fn next_piece(
     at: usize,
 ) -> Result<(Piece, usize), IndexErr>
     requires { at ≤ length text.now }
+    ensures room { IfOk result (λ x. HasRoom x.0 nodes) }
     ensures value { (tags : List Tag) → Holds frame.seen tags → Gives (λ x. (piece_of x.0, x.1)) result (piece_at (record { place = frame.place; seen = tags }) nodes text.now at) }
     ensures within { IfOk result (λ x. (at < x.1) × (x.1 ≤ length text.now)) }
 {

@@ -132,7 +132,13 @@ fn decode(alloc: Global, text: Text, percent: bool) -> Result<Option<Text>, NoMe
 }
 
 /// The name that a text stands for, whose element begins at `from`.
-fn named(alloc: Global, form: Form, from: usize, text: Text, percent: bool) -> Result<Text, IndexErr>
+fn named(
+    alloc: Global,
+    form: Form,
+    from: usize,
+    text: Text,
+    percent: bool,
+) -> Result<Text, IndexErr>
     ensures { Gives (λ name. name) result (named form from (decoded percent text)) }
 {
     match decode(alloc, text, percent)? {
@@ -148,7 +154,13 @@ fn named(alloc: Global, form: Form, from: usize, text: Text, percent: bool) -> R
 }
 
 #[tactic(auto, unfolding(index_model::specs::Pieces::name_in))]
-fn name(alloc: Global, form: Form, from: usize, start: Start, text: &[u8]) -> Result<(Value, usize), IndexErr>
+fn name(
+    alloc: Global,
+    form: Form,
+    from: usize,
+    start: Start,
+    text: &[u8],
+) -> Result<(Value, usize), IndexErr>
     requires { start.next ≤ length text.now }
     ensures value { Gives (λ x. (val_of x.0, x.1)) result (name_in form from start text.now) }
     ensures within { IfOk result (λ x. (start.next ≤ x.1) × (x.1 ≤ length text.now)) }
@@ -162,7 +174,13 @@ fn name(alloc: Global, form: Form, from: usize, start: Start, text: &[u8]) -> Re
 }
 
 /// The value of a leaf behind its start tag, and the place of its end tag.
-fn value_in(alloc: Global, form: Form, from: usize, start: Start, text: &[u8]) -> Result<(Value, usize), IndexErr>
+fn value_in(
+    alloc: Global,
+    form: Form,
+    from: usize,
+    start: Start,
+    text: &[u8],
+) -> Result<(Value, usize), IndexErr>
     requires { start.next ≤ length text.now }
     ensures value { Gives (λ x. (val_of x.0, x.1)) result (value_in form from start text.now) }
     ensures within { IfOk result (λ x. (start.next ≤ x.1) × (x.1 ≤ length text.now)) }
@@ -199,7 +217,12 @@ fn value_in(alloc: Global, form: Form, from: usize, start: Start, text: &[u8]) -
 }
 
 /// The value of a leaf that is one empty tag.
-fn empty_value(alloc: Global, form: Form, from: usize, at: usize) -> Result<(Value, usize), IndexErr>
+fn empty_value(
+    alloc: Global,
+    form: Form,
+    from: usize,
+    at: usize,
+) -> Result<(Value, usize), IndexErr>
     ensures value { Gives (λ x. (val_of x.0, x.1)) result (empty_value form from at) }
     ensures within { IfOk result (λ x. x.1 ≡ at) }
 {

@@ -1,0 +1,205 @@
+-- One piece more.
+use Rattle.std.proofs.Common.{◌≡◌, ℕ, zero, suc, ◌+◌, ◌<◌, ◌≤◌, List, [], ◌∷◌, ◌++◌, map, length, Bool, true, false, Result, Ok, Err, refl, sym, ap, subst, ◌∙◌, arith}
+use Rattle.std.proofs.lemmas.List.{length-append}
+use Rattle.doc_fields.specs.declared.tags.Tag.{Tag}
+use Rattle.index_model.specs.declared.errors.IndexErr.{IndexErr}
+use Rattle.index_model.specs.declared.schema.Place.{Place}
+use Rattle.index_model.specs.declared.schema.Place.TheVariants as place
+use Rattle.index_model.specs.Schema.{is_node}
+use Rattle.index_model.specs.Pieces.{Piece, opens, whole, closes, leaf, Val, Frame, piece_at}
+use Rattle.index_model.specs.Documents.{Point, Reaches, after, counted, fresh}
+use Rattle.index_model.specs.Grammar.{Item, plain}
+use Rattle.index_read.specs.declared.pieces.Piece as code_piece
+use Rattle.index_read.specs.declared.pieces.Piece.TheVariants as code_pieces
+use Rattle.index_read.specs.declared.walking.Level as code_level
+use Rattle.index_model.specs.declared.errors.IndexErr.TheVariants as errors
+use Rattle.index_read.specs.Answers.{HasRoom, Fails, UnlessMemory, piece_of}
+use Rattle.index_read.specs.Told.{State, Level, Tell, blank, outermost, changed, begun, ended, leaf_told, levels_after, piece_told}
+use Rattle.index_read.specs.Walks.{Opened, frames_of, level_of, levels_of, opened_after, coded, stacked, Keeps, Walked, Halted}
+
+-- ---- how many nodes have begun
+
+changed_length : {X : Type 0} (at : ℕ) (f : X → X) (xs : List X) → length (changed at f xs) ≡ length xs
+changed_length at f [] = refl
+changed_length zero f (x ∷ xs) = refl
+changed_length (suc at) f (x ∷ xs) = ap suc (changed_length at f xs)
+
+one_more : {X : Type 0} (xs : List X) (x : X) → suc (length xs) ≡ length (xs ++ x ∷ [])
+one_more xs x = omega (arith, length-append xs (x ∷ []))
+
+begun_count : (p : Place) (node : ℕ) (s : State) → counted (opens p) (length s.nodes) ≡ length (begun p node s).nodes
+begun_count place.Index node s = refl
+begun_count place.Here node s = refl
+begun_count place.Back node s = refl
+begun_count place.Policy node s = refl
+begun_count place.Criteria node s = refl
+begun_count place.Root node s = one_more s.nodes _
+begun_count place.Directory node s = one_more s.nodes _
+begun_count place.Contents node s = refl
+begun_count place.File node s = one_more s.nodes _
+begun_count place.Attributes node s = refl
+begun_count place.ExtentInfo node s = refl
+begun_count place.Extent node s = refl
+
+ended_count : (p : Place) (node : ℕ) (s : State) → length s.nodes ≡ length (ended p node s).nodes
+ended_count place.Index node s = refl
+ended_count place.Here node s = refl
+ended_count place.Back node s = refl
+ended_count place.Policy node s = refl
+ended_count place.Criteria node s = refl
+ended_count place.Root node s = refl
+ended_count place.Directory node s = refl
+ended_count place.Contents node s = refl
+ended_count place.File node s = refl
+ended_count place.Attributes node s = refl
+ended_count place.ExtentInfo node s = refl
+ended_count place.Extent node s = sym (changed_length node _ s.nodes)
+
+leaf_count : (p : Place) (node : ℕ) (i : Item) (s : State) → length s.nodes ≡ length (leaf_told p node i s).nodes
+leaf_count place.Index node i s = refl
+leaf_count place.Here node i s = refl
+leaf_count place.Back node i s = refl
+leaf_count place.Policy node i s = refl
+leaf_count place.Criteria node i s = refl
+leaf_count place.Root node i s = sym (changed_length node _ s.nodes)
+leaf_count place.Directory node i s = sym (changed_length node _ s.nodes)
+leaf_count place.Contents node i s = refl
+leaf_count place.File node i s = sym (changed_length node _ s.nodes)
+leaf_count place.Attributes node i s = refl
+leaf_count place.ExtentInfo node i s = refl
+leaf_count place.Extent node i s = refl
+
+pub told_count : (p : Piece) (l : Level) (s : State) → counted p (length s.nodes) ≡ length (piece_told p l s).nodes
+told_count (opens q) l s = begun_count q l.node s
+told_count (whole q) l s = begun_count q l.node s ∙ ended_count q _ (begun q l.node s)
+told_count closes l s = ended_count l.place l.node s
+told_count (leaf tag v) l s = leaf_count l.place l.node (plain tag v) s
+
+few_opens : (q : Place) (n : ℕ) → (is_node q ≡ true → n < 65536) → n ≤ 65536 → counted (opens q) n ≤ 65536
+few_opens place.Index n room few = few
+few_opens place.Here n room few = few
+few_opens place.Back n room few = few
+few_opens place.Policy n room few = few
+few_opens place.Criteria n room few = few
+few_opens place.Root n room few = omega (arith, room refl)
+few_opens place.Directory n room few = omega (arith, room refl)
+few_opens place.Contents n room few = few
+few_opens place.File n room few = omega (arith, room refl)
+few_opens place.Attributes n room few = few
+few_opens place.ExtentInfo n room few = few
+few_opens place.Extent n room few = few
+
+few_counted : (p : code_piece.Piece) (n : ℕ) → HasRoom p n → n ≤ 65536 → counted (piece_of p) n ≤ 65536
+few_counted (code_pieces.Opens q) n room few = few_opens q n room few
+few_counted (code_pieces.Whole q) n room few = few_opens q n room few
+few_counted code_pieces.Closes n room few = few
+few_counted (code_pieces.Leaf tag v) n room few = few
+
+-- ---- what is open
+
+frames_after : (p : Piece) (o : Opened) (os : List Opened) (s : State) → after p o.frame (frames_of os) ≡ frames_of (opened_after p o os s)
+frames_after (opens q) o os s = refl
+frames_after (whole q) o os s = refl
+frames_after closes o os s = refl
+frames_after (leaf tag v) o os s = refl
+
+levels_after_is : (p : Piece) (o : Opened) (os : List Opened) (s : State) → levels_after p (level_of o) (levels_of os) s ≡ levels_of (opened_after p o os s)
+levels_after_is (opens q) o os s = refl
+levels_after_is (whole q) o os s = refl
+levels_after_is closes o os s = refl
+levels_after_is (leaf tag v) o os s = refl
+
+-- ---- one piece more
+
+abbrev pub point : ℕ → List Frame → ℕ → Point
+point at fs nodes = record { at = at; parents = fs; nodes = nodes }
+
+reaches_more : (text : List ℕ) (ps : List Piece) (a : ℕ) (from : List Frame) (m at : ℕ) (f : Frame) (fs : List Frame) (n : ℕ) (p : Piece) (next : ℕ)
+    → Reaches text ps a from m (point at (f ∷ fs) n) → piece_at f n text at ≡ Ok (p, next) → Reaches text (ps ++ p ∷ []) a from m (point next (after p f fs) (counted p n))
+reaches_more text [] a [] m at f fs n p next h e = absurd (let bad : f ∷ fs ≡ [] = ap (λ (x : Point). x.parents) h in cc)
+reaches_more text [] a (g ∷ gs) m at f fs n p next h e =
+    let all : f ∷ fs ≡ g ∷ gs = ap (λ (x : Point). x.parents) h in
+    let tops : g ≡ f = cc in
+    let rests : gs ≡ fs = cc in
+    let places : a ≡ at = sym (ap (λ (x : Point). x.at) h) in
+    let counts : m ≡ n = sym (ap (λ (x : Point). x.nodes) h) in
+    let here : piece_at g m text a ≡ Ok (p, next) = rw (tops, places, counts) e in
+    let there : point next (after p f fs) (counted p n) ≡ point next (after p g gs) (counted p m) = rw (tops, rests, counts) refl in
+    (next, here, there)
+reaches_more text (q ∷ ps) a [] m at f fs n p next h e = h
+reaches_more text (q ∷ ps) a (g ∷ gs) m at f fs n p next h e = (h.0, h.1, reaches_more text ps h.0 (after q g gs) (counted q m) at f fs n p next h.2 e)
+
+tell_more : (ps : List Piece) (from : List Level) (r : State) (l : Level) (ls : List Level) (s : State) (p : Piece)
+    → Tell ps from r (l ∷ ls) s → Tell (ps ++ p ∷ []) from r (levels_after p l ls s) (piece_told p l s)
+tell_more [] [] r l ls s p h = absurd (cc (h.0))
+tell_more [] (k ∷ ks) r l ls s p h =
+    let tops : k ≡ l = cc (h.0) in
+    let rests : ks ≡ ls = cc (h.0) in
+    let all : levels_after p k ks r ≡ levels_after p l ls s = rw (tops, rests, h.1) refl in
+    let states : piece_told p k r ≡ piece_told p l s = rw (tops, h.1) refl in
+    (all, states)
+tell_more (q ∷ ps) [] r l ls s p h = h
+tell_more (q ∷ ps) (k ∷ ks) r l ls s p h = tell_more ps (levels_after q k ks r) (piece_told q k r) l ls s p h
+
+module _ (text : List ℕ) (inside at next : ℕ) (ps : List Piece) (o : Opened) (os : List Opened) (s t : State) (p : Piece)
+    (reaches : Reaches text ps inside (fresh place.Index ∷ []) 0 (point at (frames_of (o ∷ os)) (length s.nodes)))
+    (tells : Tell ps outermost blank (levels_of (o ∷ os)) s)
+    (here : piece_at o.frame (length s.nodes) text at ≡ Ok (p, next))
+    (told : t ≡ piece_told p (level_of o) s) where
+  pub reaches_next : Reaches text (ps ++ p ∷ []) inside (fresh place.Index ∷ []) 0 (point next (frames_of (opened_after p o os s)) (length t.nodes))
+  reaches_next =
+      let counts : counted p (length s.nodes) ≡ length t.nodes = told_count p (level_of o) s ∙ ap (λ (x : State). length x.nodes) (sym told) in
+      let ends : point next (after p o.frame (frames_of os)) (counted p (length s.nodes)) ≡ point next (frames_of (opened_after p o os s)) (length t.nodes) = rw (frames_after p o os s, counts) refl in
+      subst (Reaches text (ps ++ p ∷ []) inside (fresh place.Index ∷ []) 0) ends
+      (reaches_more text ps inside (fresh place.Index ∷ []) 0 at o.frame (frames_of os) (length s.nodes) p next reaches here)
+
+  pub tells_next : Tell (ps ++ p ∷ []) outermost blank (levels_of (opened_after p o os s)) t
+  tells_next =
+      let levels = levels_after_is p o os s in
+      subst (λ (x : State). Tell (ps ++ p ∷ []) outermost blank (levels_of (opened_after p o os s)) x) (sym told)
+      (subst (λ (ls : List Level). Tell (ps ++ p ∷ []) outermost blank ls (piece_told p (level_of o) s)) levels (tell_more ps outermost blank (level_of o) (levels_of os) s p tells))
+
+pub few_next : (p : code_piece.Piece) (l : Level) (s t : State) → HasRoom p (length s.nodes) → length s.nodes ≤ 65536 → t ≡ piece_told (piece_of p) l s → length t.nodes ≤ 65536
+few_next p l s t room few told =
+    let e : counted (piece_of p) (length s.nodes) ≡ length t.nodes = told_count (piece_of p) l s ∙ ap (λ (x : State). length x.nodes) (sym told) in
+    subst (λ (n : ℕ). n ≤ 65536) e (few_counted p (length s.nodes) room few)
+
+-- ---- the end
+
+pub is_walked : (text : List ℕ) (ps : List Piece) (inside next : ℕ) (os : List Opened) (top : code_level.Level) (outer : List code_level.Level) (done : Bool) (s : State)
+    → Reaches text ps inside (fresh place.Index ∷ []) 0 (point next (frames_of os) (length s.nodes)) → Tell ps outermost blank (levels_of os) s → Keeps os top outer done → done ≡ true → Walked text inside next s
+is_walked text ps inside next [] top outer done s r t k d = record { ps = ps; reaches = r; tells = t }
+is_walked text ps inside next (o ∷ os) top outer done s r t k d = let same : false ≡ true = sym k.0 ∙ d in absurd (cc)
+
+-- what was read inside the parent that the code keeps
+pub at_top : (text : List ℕ) (at n m : ℕ) (top : code_level.Level) (o : Opened) (r : Result (Piece × ℕ) IndexErr) → top ≡ coded o → m ≡ n
+    → piece_at (record { place = top.frame.place; seen = o.frame.seen }) m text at ≡ r → piece_at o.frame n text at ≡ r
+at_top text at n m top o r e c h =
+    subst (λ (k : ℕ). piece_at o.frame k text at ≡ r) c (subst (λ (p : Place). piece_at (record { place = p; seen = o.frame.seen }) m text at ≡ r) (ap (λ (x : code_level.Level). x.frame.place) e) h)
+
+-- ---- what doesn't fit
+
+halted : (text : List ℕ) (inside at nodes : ℕ) (ps : List Piece) (o : Opened) (os : List Opened) (e : IndexErr)
+    → Reaches text ps inside (fresh place.Index ∷ []) 0 (point at (frames_of (o ∷ os)) nodes) → piece_at o.frame nodes text at ≡ Err e → Halted text inside e
+halted text inside at nodes ps o os e r h = record { ps = ps; point = point at (frames_of (o ∷ os)) nodes; reaches = r; f = o.frame; fs = frames_of os; parents = refl; fails = h }
+
+unless_memory : (e : IndexErr) (r : Result (Piece × ℕ) IndexErr) (Q : Type 0) → (r ≡ Err e → Q) → Fails e r → UnlessMemory e Q
+unless_memory (errors.Syntax at) r Q f h = f h
+unless_memory (errors.Unknown at) r Q f h = f h
+unless_memory (errors.Twice at) r Q f h = f h
+unless_memory errors.Version r Q f h = f h
+unless_memory (errors.Missing t) r Q f h = f h
+unless_memory (errors.Number at) r Q f h = f h
+unless_memory (errors.Name at) r Q f h = f h
+unless_memory errors.TooMany r Q f h = f h
+unless_memory (errors.Uid n) r Q f h = f h
+unless_memory (errors.SameName n) r Q f h = f h
+unless_memory (errors.Extent n) r Q f h = f h
+unless_memory (errors.Overlap n) r Q f h = f h
+unless_memory errors.NoMemory r Q f h = tt
+
+pub halted_at : (text : List ℕ) (inside at n m : ℕ) (ps : List Piece) (o : Opened) (os : List Opened) (top : code_level.Level) (e : IndexErr) → top ≡ coded o → m ≡ n
+    → Reaches text ps inside (fresh place.Index ∷ []) 0 (point at (frames_of (o ∷ os)) n) → Fails e (piece_at (record { place = top.frame.place; seen = o.frame.seen }) m text at) → UnlessMemory e (Halted text inside e)
+halted_at text inside at n m ps o os top e is count r h =
+    unless_memory e (piece_at (record { place = top.frame.place; seen = o.frame.seen }) m text at) (Halted text inside e)
+    (λ fails. halted text inside at n ps o os e r (at_top text at n m top o (Err e) is count fails)) h

@@ -1,0 +1,69 @@
+-- What a reader keeps while it goes from piece to piece.
+use Rattle.std.specs.Prelude.{◌≡◌, ℕ, List, [], ◌∷◌, ◌++◌, Bool, true, false, map, length, Err}
+use Rattle.doc_fields.specs.declared.tags.Tag.{Tag}
+use Rattle.doc_children.specs.Children.{children_of}
+use Rattle.index_model.specs.declared.errors.IndexErr.{IndexErr}
+use Rattle.index_model.specs.declared.schema.Place.TheVariants as place
+use Rattle.index_model.specs.Schema.{tag_of}
+use Rattle.index_model.specs.Pieces.{Piece, opens, whole, closes, leaf, Frame, piece_at}
+use Rattle.index_model.specs.Documents.{Point, Reaches, fresh, with_child}
+use Rattle.index_read.specs.declared.pieces.Frame as code_frame
+use Rattle.index_read.specs.declared.walking.Level as code_level
+use Rattle.index_read.specs.Told.{State, Level, Tell, blank, node_in, outermost}
+
+-- an open parent with the children that stood in it, and the node that its children speak of
+pub record Opened : Type 0 where
+  pub frame : Frame
+  pub node : ℕ
+
+abbrev pub frames_of : List Opened → List Frame
+frames_of os = map (λ o. o.frame) os
+
+abbrev pub level_of : Opened → Level
+level_of o = record { place = o.frame.place; node = o.node }
+
+abbrev pub levels_of : List Opened → List Level
+levels_of os = map level_of os
+
+abbrev pub with_tag : Tag → Opened → Opened
+with_tag tag o = record { frame = with_child tag o.frame; node = o.node }
+
+-- what a piece leaves open
+abbrev pub opened_after : Piece → Opened → List Opened → State → List Opened
+opened_after (opens q) o os s = record { frame = fresh q; node = node_in q o.node s } ∷ with_tag (tag_of q) o ∷ os
+opened_after (whole q) o os s = with_tag (tag_of q) o ∷ os
+opened_after closes o os s = os
+opened_after (leaf tag v) o os s = with_tag tag o ∷ os
+
+-- ---- what the code keeps
+
+abbrev pub coded : Opened → code_level.Level
+coded o = record { frame = record { place = o.frame.place; seen = children_of o.frame.seen }; node = o.node }
+
+abbrev pub level_in : code_level.Level → Level
+level_in l = record { place = l.frame.place; node = l.node }
+
+-- the outermost stands first
+abbrev pub stacked : List Opened → List code_level.Level
+stacked [] = []
+stacked (o ∷ os) = stacked os ++ coded o ∷ []
+
+abbrev pub Keeps : List Opened → code_level.Level → List code_level.Level → Bool → Type 0
+Keeps [] top outer done = done ≡ true
+Keeps (o ∷ os) top outer done = (done ≡ false) × (top ≡ coded o) × (outer ≡ stacked os)
+
+-- the pieces from the root's start tag to its end tag, and what they tell
+pub record Walked (text : List ℕ) (inside to : ℕ) (s : State) : Type 0 where
+  pub ps : List Piece
+  pub reaches : Reaches text ps inside (fresh place.Index ∷ []) 0 (record { at = to; parents = []; nodes = length s.nodes })
+  pub tells : Tell ps outermost blank [] s
+
+-- the pieces before the first that doesn't fit
+pub record Halted (text : List ℕ) (inside : ℕ) (e : IndexErr) : Type 0 where
+  pub ps : List Piece
+  pub point : Point
+  pub reaches : Reaches text ps inside (fresh place.Index ∷ []) 0 point
+  pub f : Frame
+  pub fs : List Frame
+  pub parents : point.parents ≡ f ∷ fs
+  pub fails : piece_at f point.nodes text point.at ≡ Err e

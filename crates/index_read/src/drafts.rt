@@ -1,0 +1,420 @@
+//! What has been read of an index.
+
+ghost use Rattle.std.specs.Prelude.{◌≡◌, ◌<◌, true, ◌++◌, ◌∷◌, [], map, length, IfOk, OnOk};
+ghost use Rattle.std.specs.Option.{option_map};
+ghost use Rattle.tape_types.specs.Times.{civil_of};
+ghost use Rattle.doc_fields.specs.declared.tags.Tag.TheVariants as tags;
+ghost use Rattle.index_model.specs.declared.nodes.Kind.TheVariants as kinds;
+ghost use Rattle.index_model.specs.Grammar.{plain};
+ghost use Rattle.index_model.specs.Pieces.{letter, number, words, time, uuid, truth, lock};
+ghost use Rattle.index_model.specs.Values.{facts_of, value_of, volume_of};
+ghost use Rattle.index_read.specs.Answers.{val_of};
+ghost use Rattle.index_read.specs.Drafts.{state_of};
+ghost use Rattle.index_read.specs.Told.{begun, blank, blank_node, blank_volume, changed, ended, epoch, extent_with, facts_with, kind_with, leaf_told, node_with, one_more, policy_with, spot_with, volume_with, with_extent};
+
+use crate::values::Value;
+use doc_fields::{LockState, Tag};
+use index_model::{Index, Kind, Node, Place, Policy, RawExtent, Spot};
+use std::alloc::Global;
+use tape_types::{List, Moment, NoMemory, Text, Times};
+
+const BLANK_SPOT: Spot = Spot {
+    letter: 0,
+    block: 0,
+};
+
+const BLANK_EXTENT: RawExtent = RawExtent {
+    offset: 0,
+    letter: 0,
+    block: 0,
+    byte: 0,
+    count: 0,
+};
+
+fn put_index_text(index: &mut Index, tag: Tag, text: Text)
+    ensures volume { volume_of index.new ≡ volume_with (plain tag (words text)) (volume_of index.old) }
+{
+    match tag {
+        Tag::Creator => index.creator = text,
+        Tag::Comment => index.comment = Some(text),
+        _ => {}
+    }
+}
+
+fn put_index_number(index: &mut Index, tag: Tag, n: u64)
+    ensures volume { volume_of index.new ≡ volume_with (plain tag (number n)) (volume_of index.old) }
+{
+    match tag {
+        Tag::GenerationNumber => index.generation = n,
+        Tag::HighestFileUid => index.highest = n,
+        _ => {}
+    }
+}
+
+fn put_index_time(index: &mut Index, tag: Tag, moment: Moment)
+    ensures volume { volume_of index.new ≡ volume_with (plain tag (time (civil_of moment))) (volume_of index.old) }
+{
+    match tag {
+        Tag::UpdateTime => index.updated = moment,
+        _ => {}
+    }
+}
+
+fn put_index_uuid(index: &mut Index, tag: Tag, number: u128)
+    ensures volume { volume_of index.new ≡ volume_with (plain tag (uuid number)) (volume_of index.old) }
+{
+    match tag {
+        Tag::VolumeUuid => index.uuid = number,
+        _ => {}
+    }
+}
+
+fn put_index_truth(index: &mut Index, tag: Tag, is: bool)
+    ensures volume { volume_of index.new ≡ volume_with (plain tag (truth is)) (volume_of index.old) }
+{
+    match tag {
+        Tag::AllowPolicyUpdate => index.allow = is,
+        _ => {}
+    }
+}
+
+fn put_index_lock(index: &mut Index, tag: Tag, state: LockState)
+    ensures volume { volume_of index.new ≡ volume_with (plain tag (lock state)) (volume_of index.old) }
+{
+    match tag {
+        Tag::VolumeLockState => index.lock = Some(state),
+        _ => {}
+    }
+}
+
+fn put_index(index: &mut Index, tag: Tag, value: Value)
+    ensures volume { volume_of index.new ≡ volume_with (plain tag (val_of value)) (volume_of index.old) }
+{
+    match value {
+        Value::Text(text) => put_index_text(index, tag, text),
+        Value::Number(n) => put_index_number(index, tag, n),
+        Value::Time(moment) => put_index_time(index, tag, moment),
+        Value::Uuid(number) => put_index_uuid(index, tag, number),
+        Value::Truth(is) => put_index_truth(index, tag, is),
+        Value::Lock(state) => put_index_lock(index, tag, state),
+        Value::Letter(_) => {}
+    }
+}
+
+fn put_spot(spot: &mut Spot, tag: Tag, value: &Value)
+    ensures { spot.new ≡ spot_with (plain tag (val_of value.now)) spot.old }
+{
+    match value {
+        Value::Letter(byte) => match tag {
+            Tag::Partition => spot.letter = *byte,
+            _ => {}
+        },
+        Value::Number(n) => match tag {
+            Tag::StartBlock => spot.block = *n,
+            _ => {}
+        },
+        _ => {}
+    }
+}
+
+fn put_extent(extent: &mut RawExtent, tag: Tag, value: &Value)
+    ensures { extent.new ≡ extent_with (plain tag (val_of value.now)) extent.old }
+{
+    match value {
+        Value::Letter(byte) => match tag {
+            Tag::Partition => extent.letter = *byte,
+            _ => {}
+        },
+        Value::Number(n) => put_extent_number(extent, tag, *n),
+        _ => {}
+    }
+}
+
+fn put_extent_number(extent: &mut RawExtent, tag: Tag, n: u64)
+    ensures { extent.new ≡ extent_with (plain tag (number n)) extent.old }
+{
+    match tag {
+        Tag::FileOffset => extent.offset = n,
+        Tag::StartBlock => extent.block = n,
+        Tag::ByteOffset => extent.byte = n,
+        Tag::ByteCount => extent.count = n,
+        _ => {}
+    }
+}
+
+fn put_node_number(node: &mut Node, tag: Tag, n: u64)
+    ensures { value_of node.new ≡ node_with (plain tag (number n)) (value_of node.old) }
+{
+    match tag {
+        Tag::FileUid => node.uid = n,
+        Tag::Length => put_length(&mut node.kind, n),
+        _ => {}
+    }
+}
+
+fn put_length(kind: &mut Kind, n: u64)
+    ensures { kind.new ≡ kind_with (plain tags.Length (number n)) kind.old }
+{
+    match kind {
+        Kind::File { length, .. } => *length = n,
+        _ => {}
+    }
+}
+
+fn put_node_text(node: &mut Node, tag: Tag, text: Text)
+    ensures { value_of node.new ≡ node_with (plain tag (words text)) (value_of node.old) }
+{
+    match tag {
+        Tag::Name => node.name = text,
+        Tag::Symlink => node.kind = Kind::Link { text },
+        _ => {}
+    }
+}
+
+fn put_node_time(node: &mut Node, tag: Tag, moment: Moment)
+    ensures { value_of node.new ≡ node_with (plain tag (time (civil_of moment))) (value_of node.old) }
+{
+    match tag {
+        Tag::CreationTime => node.times.create = moment,
+        Tag::ChangeTime => node.times.change = moment,
+        Tag::ModifyTime => node.times.modify = moment,
+        Tag::AccessTime => node.times.access = moment,
+        Tag::BackupTime => node.times.backup = moment,
+        _ => {}
+    }
+}
+
+fn put_node_truth(node: &mut Node, tag: Tag, is: bool)
+    ensures { value_of node.new ≡ node_with (plain tag (truth is)) (value_of node.old) }
+{
+    match tag {
+        Tag::ReadOnly => node.readonly = is,
+        _ => {}
+    }
+}
+
+fn put_node(node: &mut Node, tag: Tag, value: Value)
+    ensures { value_of node.new ≡ node_with (plain tag (val_of value)) (value_of node.old) }
+{
+    match value {
+        Value::Text(text) => put_node_text(node, tag, text),
+        Value::Number(n) => put_node_number(node, tag, n),
+        Value::Time(moment) => put_node_time(node, tag, moment),
+        Value::Truth(is) => put_node_truth(node, tag, is),
+        _ => {}
+    }
+}
+
+/// An index of which a part has been read: its nodes apart, and the extent that is being read.
+#[derive(Drop)]
+pub struct Draft {
+    pub index: Index,
+    pub nodes: Vec<Node>,
+    pub extent: RawExtent,
+}
+
+fn no_text(alloc: Global) -> Text
+    ensures { result ≡ [] }
+{
+    Text::from_string(String::new(alloc))
+}
+
+fn blank_index(alloc: Global) -> Index
+    ensures { volume_of result ≡ blank_volume }
+{
+    Index {
+        creator: no_text(alloc),
+        comment: None,
+        uuid: 0,
+        generation: 0,
+        updated: Moment { secs: 0, nanos: 0 },
+        here: BLANK_SPOT,
+        back: None,
+        allow: false,
+        policy: None,
+        lock: None,
+        highest: 0,
+        nodes: List::new(alloc),
+    }
+}
+
+/// A node of which nothing has been told.
+fn blank_node(alloc: Global, parent: u32, kind: Kind) -> Node
+    ensures { value_of result ≡ blank_node parent kind }
+{
+    Node {
+        parent,
+        uid: 0,
+        name: no_text(alloc),
+        times: Times::all_at(Moment { secs: 0, nanos: 0 }),
+        readonly: false,
+        kind,
+    }
+}
+
+fn put_policy(policy: &mut Policy, tag: Tag, value: Value) -> Result<(), NoMemory>
+    ensures { OnOk result (policy.new ≡ policy_with (plain tag (val_of value)) policy.old) }
+{
+    match value {
+        Value::Text(text) => put_pattern(policy, tag, text),
+        Value::Number(n) => {
+            put_policy_size(policy, tag, n);
+            Ok(())
+        }
+        _ => Ok(()),
+    }
+}
+
+fn put_policy_size(policy: &mut Policy, tag: Tag, n: u64)
+    ensures { policy.new ≡ policy_with (plain tag (number n)) policy.old }
+{
+    match tag {
+        Tag::Size => policy.size = n,
+        _ => {}
+    }
+}
+
+fn put_pattern(policy: &mut Policy, tag: Tag, text: Text) -> Result<(), NoMemory>
+    ensures { OnOk result (policy.new ≡ policy_with (plain tag (words text)) policy.old) }
+{
+    match tag {
+        Tag::Name => {
+            policy.names.push(text)?;
+            Ok(())
+        }
+        _ => Ok(()),
+    }
+}
+
+/// Changes a node by a leaf of it.
+fn tell_node(nodes: &mut Vec<Node>, at: u32, tag: Tag, value: Value)
+    ensures { map value_of nodes.new.items ≡ changed at (node_with (plain tag (val_of value))) (map value_of nodes.old.items) }
+{
+    match nodes.get_mut(at as usize) {
+        Some(node) => put_node(node, tag, value),
+        None => drop(value),
+    }
+}
+
+fn add_extent(kind: &mut Kind, extent: RawExtent) -> Result<(), NoMemory>
+    ensures { OnOk result (kind.new ≡ one_more extent kind.old) }
+{
+    match kind {
+        Kind::File { extents, .. } => {
+            extents.push(extent)?;
+            Ok(())
+        }
+        _ => Ok(()),
+    }
+}
+
+/// Gives a file one extent more.
+fn tell_extent(nodes: &mut Vec<Node>, at: u32, extent: RawExtent) -> Result<(), NoMemory>
+    ensures { OnOk result (map value_of nodes.new.items ≡ changed at (with_extent extent) (map value_of nodes.old.items)) }
+{
+    match nodes.get_mut(at as usize) {
+        Some(node) => add_extent(&mut node.kind, extent),
+        None => Ok(()),
+    }
+}
+
+fn push_node(alloc: Global, nodes: &mut Vec<Node>, parent: u32, kind: Kind) -> Result<(), NoMemory>
+    ensures { OnOk result (map value_of nodes.new.items ≡ map value_of nodes.old.items ++ blank_node parent kind ∷ []) }
+{
+    nodes.push(blank_node(alloc, parent, kind))?;
+    Ok(())
+}
+
+impl Draft {
+    /// Nothing has been read.
+    pub fn new(alloc: Global) -> Draft
+        ensures { state_of result ≡ blank }
+    {
+        Draft {
+            index: blank_index(alloc),
+            nodes: Vec::new(alloc),
+            extent: BLANK_EXTENT,
+        }
+    }
+
+    /// A parent begins that stands in a node.
+    pub fn begin(&mut self, alloc: Global, place: Place, node: u32) -> Result<(), NoMemory>
+        ensures { OnOk result (state_of self.new ≡ begun place node (state_of self.old)) }
+    {
+        match place {
+            Place::Here => self.index.here = BLANK_SPOT,
+            Place::Back => self.index.back = Some(BLANK_SPOT),
+            Place::Policy => {
+                self.index.policy = Some(Policy {
+                    size: 0,
+                    names: List::new(alloc),
+                });
+            }
+            Place::Root => push_node(alloc, &mut self.nodes, 0, Kind::Dir)?,
+            Place::Directory => push_node(alloc, &mut self.nodes, node, Kind::Dir)?,
+            Place::File => push_file(alloc, &mut self.nodes, node)?,
+            Place::Extent => self.extent = BLANK_EXTENT,
+            _ => {}
+        }
+        Ok(())
+    }
+
+    /// A leaf of a parent, whose children speak of a node.
+    pub fn tell(&mut self, place: Place, node: u32, tag: Tag, value: Value) -> Result<(), NoMemory>
+        ensures { OnOk result (state_of self.new ≡ leaf_told place node (plain tag (val_of value)) (state_of self.old)) }
+    {
+        match place {
+            Place::Index => put_index(&mut self.index, tag, value),
+            Place::Here => put_spot(&mut self.index.here, tag, &value),
+            Place::Back => put_back(&mut self.index.back, tag, &value),
+            Place::Criteria => put_criteria(&mut self.index.policy, tag, value)?,
+            Place::Root | Place::Directory | Place::File => {
+                tell_node(&mut self.nodes, node, tag, value)
+            }
+            Place::Extent => put_extent(&mut self.extent, tag, &value),
+            _ => drop(value),
+        }
+        Ok(())
+    }
+
+    /// A parent ends, whose children spoke of a node.
+    pub fn end(&mut self, place: Place, node: u32) -> Result<(), NoMemory>
+        ensures { OnOk result (state_of self.new ≡ ended place node (state_of self.old)) }
+    {
+        match place {
+            Place::Extent => tell_extent(&mut self.nodes, node, self.extent),
+            _ => Ok(()),
+        }
+    }
+}
+
+fn put_back(back: &mut Option<Spot>, tag: Tag, value: &Value)
+    ensures { back.new ≡ option_map (spot_with (plain tag (val_of value.now))) back.old }
+{
+    match back {
+        Some(spot) => put_spot(spot, tag, value),
+        None => {}
+    }
+}
+
+fn put_criteria(policy: &mut Option<Policy>, tag: Tag, value: Value) -> Result<(), NoMemory>
+    ensures { OnOk result (policy.new ≡ option_map (policy_with (plain tag (val_of value))) policy.old) }
+{
+    match policy {
+        Some(policy) => put_policy(policy, tag, value),
+        None => {
+            drop(value);
+            Ok(())
+        }
+    }
+}
+
+fn push_file(alloc: Global, nodes: &mut Vec<Node>, parent: u32) -> Result<(), NoMemory>
+    ensures { OnOk result (map value_of nodes.new.items ≡ map value_of nodes.old.items ++ blank_node parent (kinds.File 0 []) ∷ []) }
+{
+    let kind = Kind::File {
+        length: 0,
+        extents: List::new(alloc),
+    };
+    push_node(alloc, nodes, parent, kind)
+}

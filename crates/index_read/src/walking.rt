@@ -1,0 +1,137 @@
+//! Pieces one after the other.
+
+ghost use Rattle.std.specs.Prelude.{◌≡◌, ◌≤◌, ◌<◌, ℕ, List, true, length, OnOk, IfOk, IfErr};
+ghost use Rattle.index_model.specs.Schema.{is_node};
+ghost use Rattle.index_read.specs.Answers.{HasRoom, UnlessMemory, piece_of};
+ghost use Rattle.index_read.specs.Drafts.{state_of};
+ghost use Rattle.index_read.specs.Told.{State, blank, node_in, piece_told};
+ghost use Rattle.index_read.specs.Walks.{Halted, Keeps, Opened, Walked, coded, level_in, opened_after, stacked, with_tag};
+
+use crate::drafts::Draft;
+use crate::pieces::{Frame, Piece, next_piece};
+use doc_children::Children;
+use doc_fields::Tag;
+use index_model::{IndexErr, Place, is_node, tag_of};
+use std::alloc::{AllocError, Global};
+use tape_types::NoMemory;
+
+/// An open parent, and the node that its children speak of: its own, or the one that it is in.
+#[derive(Clone, Copy, Debug)]
+pub struct Level {
+    pub frame: Frame,
+    pub node: u32,
+}
+
+/// The node that the children of a parent speak of, which stands in a node; so many nodes have
+/// begun before it.
+fn node_in(place: Place, node: u32, nodes: u32) -> u32
+    ensures { (s : State) → length s.nodes ≡ nodes → result ≡ node_in place node s }
+{
+    if is_node(place) { nodes } else { node }
+}
+
+/// Opens and closes parents as a piece says; true where none is left.
+fn moved(
+    piece: &Piece,
+    nodes: u32,
+    top: &mut Level,
+    outer: &mut Vec<Level>,
+) -> Result<bool, AllocError>
+    ensures { IfOk result (λ done. (s : State) (o : Opened) (os : List Opened) → length s.nodes ≡ nodes → top.old ≡ coded o → outer.old.items ≡ stacked os
+        → Keeps (opened_after (piece_of piece.now) o os s) top.new outer.new.items done) }
+{
+    let level = *top;
+    match piece {
+        Piece::Opens(place) => {
+            outer.push(with_child(level, tag_of(*place)))?;
+            *top = Level {
+                frame: Frame {
+                    place: *place,
+                    seen: Children::none(),
+                },
+                node: node_in(*place, level.node, nodes),
+            };
+            Ok(false)
+        }
+        Piece::Whole(place) => {
+            *top = with_child(level, tag_of(*place));
+            Ok(false)
+        }
+        Piece::Leaf(tag, _) => {
+            *top = with_child(level, *tag);
+            Ok(false)
+        }
+        Piece::Closes => match outer.pop() {
+            None => Ok(true),
+            Some(parent) => {
+                *top = parent;
+                Ok(false)
+            }
+        },
+    }
+}
+
+/// An open parent in which one child more has stood.
+fn with_child(level: Level, tag: Tag) -> Level
+    ensures { (o : Opened) → level ≡ coded o → result ≡ coded (with_tag tag o) }
+{
+    Level {
+        frame: Frame {
+            place: level.frame.place,
+            seen: level.frame.seen.with(tag),
+        },
+        node: level.node,
+    }
+}
+
+/// Takes in what a piece tells, which stands in an open parent.
+fn tell(alloc: Global, draft: &mut Draft, level: Level, piece: Piece) -> Result<(), NoMemory>
+    requires { length draft.old.nodes.items ≤ 65536 }
+    ensures { OnOk result (state_of draft.new ≡ piece_told (piece_of piece) (level_in level) (state_of draft.old)) }
+{
+    match piece {
+        Piece::Opens(place) => draft.begin(alloc, place, level.node),
+        Piece::Whole(place) => {
+            let node = node_in(place, level.node, draft.nodes.len() as u32);
+            draft.begin(alloc, place, level.node)?;
+            draft.end(place, node)
+        }
+        Piece::Closes => draft.end(level.frame.place, level.node),
+        Piece::Leaf(tag, value) => draft.tell(level.frame.place, level.node, tag, value),
+    }
+}
+
+/// What the pieces tell behind the root's start tag, which ends at `inside`, and where its end
+/// tag ends.
+pub fn walk(alloc: Global, text: &[u8], inside: usize) -> Result<(Draft, usize), IndexErr>
+    requires { inside ≤ length text.now }
+    ensures found { IfOk result (λ x. Walked text.now inside x.1 (state_of x.0)) }
+    ensures within { IfOk result (λ x. x.1 ≤ length text.now) }
+    ensures refused { IfErr result (λ e. UnlessMemory e (Halted text.now inside e)) }
+{
+    let mut draft = Draft::new(alloc);
+    let mut outer: Vec<Level> = Vec::new(alloc);
+    let mut top = Level {
+        frame: Frame {
+            place: Place::Index,
+            seen: Children::none(),
+        },
+        node: 0,
+    };
+    let mut at = inside;
+    while at <= text.len() {
+        let nodes = draft.nodes.len() as u32;
+        let level = top;
+        let (piece, next) = match next_piece(alloc, top.frame, nodes, text, at) {
+            Ok(found) => found,
+            Err(fault) => return Err(fault),
+        };
+        at = next;
+        let done = moved(&piece, nodes, &mut top, &mut outer)?;
+        tell(alloc, &mut draft, level, piece)?;
+        if done {
+            return Ok((draft, at));
+        }
+    }
+    unreachable!()
+}
