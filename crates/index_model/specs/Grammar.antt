@@ -87,7 +87,7 @@ or_else None other = other
 
 -- the value of an element, where it is a leaf of this name
 abbrev pub own : Tag → Item → Option Val
-own tag (plain t v) = if code t == code tag then Some v else None
+own tag (plain t v) = if code tag == code t then Some v else None
 own tag (bare p) = None
 own tag (nested p is) = None
 
@@ -99,8 +99,8 @@ told tag (item i more) = or_else (told tag more) (own tag i)
 -- the children of an element, where it is this parent
 abbrev pub own_children : Place → Item → Option Items
 own_children p (plain tag v) = None
-own_children p (bare q) = if place_code q == place_code p then Some no_items else None
-own_children p (nested q is) = if place_code q == place_code p then Some is else None
+own_children p (bare q) = if place_code p == place_code q then Some no_items else None
+own_children p (nested q is) = if place_code p == place_code q then Some is else None
 
 -- the children of a parent among children, where it is there; of several it is the last
 abbrev pub inside : Place → Items → Option Items

@@ -115,11 +115,16 @@ is_encoded _ = false
 abbrev pub named : Form → ℕ → List ℕ → Result (List ℕ) IndexErr
 named f from bytes = if is_utf8 bytes && is_name f bytes then Ok bytes else Err (errors.Name from)
 
--- a name that stands behind its start tag; one that the text ends within could go on
+-- the name that a text stands for, behind which a place is told; one that the document ends within could go on
+abbrev pub name_of : Form → ℕ → Attribute → List ℕ → List ℕ × ℕ → Result (List ℕ) IndexErr
+name_of f from attribute text v =
+    if v.1 == length text then Err (errors.Syntax (length text)) else named f from (decoded (is_encoded attribute) v.0)
+
+-- a name that stands behind its start tag
 unfoldable pub name_in : Form → ℕ → Start → List ℕ → Result (Val × ℕ) IndexErr
 name_in f from start text = do
   v ← lift (text_at text start.next)
-  name ← (if v.1 == length text then Err (errors.Syntax (length text)) else named f from (decoded (is_encoded start.attribute) v.0))
+  name ← name_of f from start.attribute text v
   Ok (words name, v.1)
 
 -- the value of a leaf behind its start tag, which begins at `from`, and the place of its end tag

@@ -5,3 +5,5 @@ pub mod Steps
 pub mod Parents
 pub mod Inversion
 pub mod Trees
+pub mod Once
+pub mod Fits
