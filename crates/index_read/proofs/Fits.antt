@@ -157,7 +157,7 @@ told_form p seen (item i is) t f v fits r e = by (told t is) refl (λ w. told_fo
     by None h later o = own_form p i t f v fits.0 r o
     by (Some w) h later o = let same : w ≡ v = cc (o) in subst (HasForm f) same (later w h)
 
-missing_member : (t : Tag) (ts seen : List Tag) → first_missing ts seen ≡ None → member t ts ≡ true → member t seen ≡ true
+pub missing_member : (t : Tag) (ts seen : List Tag) → first_missing ts seen ≡ None → member t ts ≡ true → member t seen ≡ true
 missing_member t [] seen e h = absurd cc
 missing_member t (u ∷ ts) seen e h = by (member u seen) refl (code t == code u) refl (missing_member t ts seen) e h
   where

@@ -7,3 +7,5 @@ pub mod Inversion
 pub mod Trees
 pub mod Once
 pub mod Fits
+pub mod Volume
+pub mod Within

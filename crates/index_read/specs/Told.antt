@@ -186,7 +186,7 @@ node_in p node s = if is_node p then length s.nodes else node
 abbrev pub begun : Place → ℕ → State → State
 begun place.Here node s = record s { volume = record s.volume { here = blank_spot } }
 begun place.Back node s = record s { volume = record s.volume { back = Some blank_spot } }
-begun place.Policy node s = record s { volume = record s.volume { policy = Some blank_policy } }
+begun place.Criteria node s = record s { volume = record s.volume { policy = Some blank_policy } }
 begun place.Root node s = record s { nodes = s.nodes ++ blank_node 0 kinds.Dir ∷ [] }
 begun place.Directory node s = record s { nodes = s.nodes ++ blank_node node kinds.Dir ∷ [] }
 begun place.File node s = record s { nodes = s.nodes ++ blank_node node (kinds.File 0 []) ∷ [] }

@@ -344,7 +344,7 @@ impl Draft {
         match place {
             Place::Here => self.index.here = BLANK_SPOT,
             Place::Back => self.index.back = Some(BLANK_SPOT),
-            Place::Policy => {
+            Place::Criteria => {
                 self.index.policy = Some(Policy {
                     size: 0,
                     names: List::new(alloc),

@@ -1,0 +1,142 @@
+-- What the elements of a document tell of the volume.
+use Rattle.std.proofs.Common.{◌≡◌, ℕ, List, [], ◌∷◌, ◌++◌, Bool, true, false, ◌==◌, Option, Some, None, if◌then◌else◌, IfSome, refl, sym, ap, subst, ◌∙◌, append_assoc, append-nil}
+use Rattle.std.proofs.lemmas.Bool.{eqb-true}
+use Rattle.std.specs.Option.{option_map}
+use Rattle.tape_types.specs.declared.times.Civil.{Civil}
+use Rattle.doc_fields.specs.declared.tags.Tag.{Tag}
+use Rattle.doc_fields.specs.declared.tags.Tag.TheVariants.{Creator, Comment, VolumeUuid, Partition, GenerationNumber, UpdateTime, StartBlock, AllowPolicyUpdate, Size, VolumeLockState, HighestFileUid, Name, Location}
+use Rattle.doc_fields.specs.declared.values.LockState.{LockState}
+use Rattle.doc_children.specs.Children.{first_missing}
+use Rattle.index_model.specs.declared.indexes.Policy.{Policy}
+use Rattle.index_model.specs.declared.indexes.Spot.{Spot}
+use Rattle.index_model.specs.declared.schema.Place.{Place}
+use Rattle.index_model.specs.declared.schema.Place.TheVariants as place
+use Rattle.index_model.specs.declared.schema.Form.{Form}
+use Rattle.index_model.specs.declared.schema.Form.TheVariants as form
+use Rattle.index_model.specs.declared.schema.Child.{Child}
+use Rattle.index_model.specs.declared.schema.Child.TheVariants as child
+use Rattle.index_model.specs.Schema.{rule, spot_rule, criteria_rule, required, tag_of, place_code}
+use Rattle.index_model.specs.Values.{VolumeFacts}
+use Rattle.index_model.specs.Pieces.{Val, words, time, uuid, letter, number, truth, lock}
+use Rattle.index_model.specs.Grammar.{Item, plain, bare, nested, Items, no_items, item, item_tag, or_else, own, told, own_children, inside, names_in, TellsMaybe, TellsSpot, TellsPolicy, TellsVolume}
+use Rattle.index_read.specs.Told.{State, words_or, words_told, time_or, uuid_or, letter_or, number_or, truth_or, lock_told, name_told, volume_with, spot_with, policy_with, blank_spot, blank_policy, blank_volume, begun, ended, leaf_told, node_in, item_told, items_told}
+use Rattle.index_read.proofs.Fits.{HasForm, Fits, FitsItem, must_tell, told_form}
+
+-- ---- a value told twice
+
+pub words_twice : (a : List ℕ) (o p : Option Val) → IfSome p (λ v. (t : List ℕ) × (v ≡ words t)) → words_or (words_or a o) p ≡ words_or a (or_else p o)
+words_twice a o None h = refl
+words_twice a o (Some v) h = rw (h.1) refl
+
+pub time_twice : (a : Civil) (o p : Option Val) → IfSome p (λ v. (c : Civil) × (v ≡ time c)) → time_or (time_or a o) p ≡ time_or a (or_else p o)
+time_twice a o None h = refl
+time_twice a o (Some v) h = rw (h.1) refl
+
+pub uuid_twice : (a : ℕ) (o p : Option Val) → IfSome p (λ v. (n : ℕ) × (v ≡ uuid n)) → uuid_or (uuid_or a o) p ≡ uuid_or a (or_else p o)
+uuid_twice a o None h = refl
+uuid_twice a o (Some v) h = rw (h.1) refl
+
+letter_twice : (a : ℕ) (o p : Option Val) → IfSome p (λ v. (b : ℕ) × (v ≡ letter b)) → letter_or (letter_or a o) p ≡ letter_or a (or_else p o)
+letter_twice a o None h = refl
+letter_twice a o (Some v) h = rw (h.1) refl
+
+pub number_twice : (a : ℕ) (o p : Option Val) → IfSome p (λ v. (n : ℕ) × (v ≡ number n)) → number_or (number_or a o) p ≡ number_or a (or_else p o)
+number_twice a o None h = refl
+number_twice a o (Some v) h = rw (h.1) refl
+
+pub truth_twice : (a : Bool) (o p : Option Val) → IfSome p (λ v. (is : Bool) × (v ≡ truth is)) → truth_or (truth_or a o) p ≡ truth_or a (or_else p o)
+truth_twice a o None h = refl
+truth_twice a o (Some v) h = rw (h.1) refl
+
+pub lock_twice : (a : Option LockState) (o p : Option Val) → IfSome p (λ v. (state : LockState) × (v ≡ lock state)) → lock_told (lock_told a o) p ≡ lock_told a (or_else p o)
+lock_twice a o None h = refl
+lock_twice a o (Some v) h = rw (h.1) refl
+
+pub words_told_twice : (a : Option (List ℕ)) (o p : Option Val) → IfSome p (λ v. (t : List ℕ) × (v ≡ words t)) → words_told (words_told a o) p ≡ words_told a (or_else p o)
+words_told_twice a o None h = refl
+words_told_twice a o (Some v) h = rw (h.1) refl
+
+-- what is told of a leaf has the leaf's form
+pub has_form : (p : Place) (seen : List Tag) (is : Items) (t : Tag) (f : Form) → Fits p seen is → rule p t ≡ child.Leaf f → IfSome (told t is) (HasForm f)
+has_form p seen is t f fits r = go (told t is) refl
+  where
+    go : (o : Option Val) → told t is ≡ o → IfSome o (HasForm f)
+    go None e = tt
+    go (Some v) e = told_form p seen is t f v fits r e
+
+-- ---- a place on tape
+
+abbrev pub spot_told : Items → Spot → Spot
+spot_told is s = record { letter = letter_or s.letter (told Partition is); block = number_or s.block (told StartBlock is) }
+
+-- a parent all of whose children are a place's letter and block
+abbrev pub IsSpotPlace : Place → Type 0
+IsSpotPlace p = (rule p ≡ spot_rule)
+
+spot_step : (p : Place) (seen : List Tag) (i : Item) (more : Items) (s : Spot) → IsSpotPlace p → Fits p seen more → spot_told more (spot_with i s) ≡ spot_told (item i more) s
+spot_step p seen i more s is fits =
+    let a = letter_twice s.letter (own Partition i) (told Partition more) (has_form p seen more Partition form.Letter fits (ap (λ r. r Partition) is)) in
+    let b = number_twice s.block (own StartBlock i) (told StartBlock more) (has_form p seen more StartBlock form.Bounded fits (ap (λ r. r StartBlock) is)) in
+    λ k. record { letter = a k; block = b k }
+
+no_parent : (tag : Tag) (q : Place) → spot_rule tag ≡ child.Parent q → ⊥
+no_parent Location q e = cc
+no_parent _ q e = cc
+
+not_parent : (p : Place) (q : Place) (tag : Tag) → IsSpotPlace p → rule p tag ≡ child.Parent q → ⊥
+not_parent p q tag is e = no_parent tag q (sym (ap (λ r. r tag) is) ∙ e)
+
+abbrev pub with_here : Spot → State → State
+with_here spot s = record s { volume = record s.volume { here = spot } }
+
+pub here_told : (seen : List Tag) (is : Items) (node : ℕ) (s : State) → Fits place.Here seen is → items_told place.Here node is s ≡ with_here (spot_told is s.volume.here) s
+here_told seen no_items node s fits = refl
+here_told seen (item (plain t v) more) node s fits =
+    here_told (t ∷ seen) more node (leaf_told place.Here node (plain t v) s) fits.2 ∙ ap (λ x. with_here x s) (spot_step place.Here (t ∷ seen) (plain t v) more s.volume.here refl fits.2)
+here_told seen (item (bare q) more) node s fits = absurd (not_parent place.Here q (tag_of q) refl fits.0.0)
+here_told seen (item (nested q is) more) node s fits = absurd (not_parent place.Here q (tag_of q) refl fits.0.0)
+
+abbrev pub with_back : Option Spot → State → State
+with_back spot s = record s { volume = record s.volume { back = spot } }
+
+pub back_told : (seen : List Tag) (is : Items) (node : ℕ) (spot : Spot) (s : State) → Fits place.Back seen is → items_told place.Back node is (with_back (Some spot) s) ≡ with_back (Some (spot_told is spot)) s
+back_told seen no_items node spot s fits = refl
+back_told seen (item (plain t v) more) node spot s fits =
+    back_told (t ∷ seen) more node (spot_with (plain t v) spot) s fits.2 ∙ ap (λ x. with_back (Some x) s) (spot_step place.Back (t ∷ seen) (plain t v) more spot refl fits.2)
+back_told seen (item (bare q) more) node spot s fits = absurd (not_parent place.Back q (tag_of q) refl fits.0.0)
+back_told seen (item (nested q is) more) node spot s fits = absurd (not_parent place.Back q (tag_of q) refl fits.0.0)
+
+-- ---- a policy
+
+abbrev pub policy_told : Items → Policy → Policy
+policy_told is p = record { size = number_or p.size (told Size is); names = p.names ++ names_in is }
+
+no_criteria : (tag : Tag) (q : Place) → criteria_rule tag ≡ child.Parent q → ⊥
+no_criteria Location q e = cc
+no_criteria _ q e = cc
+
+names_step : (tag : Tag) (v : Val) (more : Items) → names_in (item (plain tag v) more) ≡ name_told (own Name (plain tag v)) ++ names_in more
+names_step Name (words t) more = refl
+names_step Name (time c) more = refl
+names_step Name (uuid n) more = refl
+names_step Name (letter b) more = refl
+names_step Name (number n) more = refl
+names_step Name (truth is) more = refl
+names_step Name (lock state) more = refl
+names_step _ v more = refl
+
+policy_step : (seen : List Tag) (tag : Tag) (v : Val) (more : Items) (p : Policy) → Fits place.Criteria seen more → policy_told more (policy_with (plain tag v) p) ≡ policy_told (item (plain tag v) more) p
+policy_step seen tag v more p fits =
+    let a = number_twice p.size (own Size (plain tag v)) (told Size more) (has_form place.Criteria seen more Size form.Bounded fits refl) in
+    let b : (p.names ++ name_told (own Name (plain tag v))) ++ names_in more ≡ p.names ++ names_in (item (plain tag v) more) = append_assoc p.names (name_told (own Name (plain tag v))) (names_in more) ∙ ap (λ l. p.names ++ l) (sym (names_step tag v more)) in
+    λ k. record { size = a k; names = b k }
+
+abbrev pub with_policy : Option Policy → State → State
+with_policy policy s = record s { volume = record s.volume { policy = policy } }
+
+pub criteria_told : (seen : List Tag) (is : Items) (node : ℕ) (p : Policy) (s : State) → Fits place.Criteria seen is → items_told place.Criteria node is (with_policy (Some p) s) ≡ with_policy (Some (policy_told is p)) s
+criteria_told seen no_items node p s fits = ap (λ l. with_policy (Some (record { size = p.size; names = l })) s) (sym (append-nil p.names))
+criteria_told seen (item (plain t v) more) node p s fits =
+    criteria_told (t ∷ seen) more node (policy_with (plain t v) p) s fits.2 ∙ ap (λ x. with_policy (Some x) s) (policy_step (t ∷ seen) t v more p fits.2)
+criteria_told seen (item (bare q) more) node p s fits = absurd (no_criteria (tag_of q) q fits.0.0)
+criteria_told seen (item (nested q is) more) node p s fits = absurd (no_criteria (tag_of q) q fits.0.0)
