@@ -9,3 +9,4 @@ pub mod Once
 pub mod Fits
 pub mod Volume
 pub mod Within
+pub mod Tells
