@@ -10,3 +10,4 @@ pub mod Fits
 pub mod Volume
 pub mod Within
 pub mod Tells
+pub mod Whole

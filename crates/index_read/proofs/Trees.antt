@@ -83,9 +83,11 @@ mutual
       let room : nodes + one_if (is_node q) ≤ 65536 = omega (arith, few) in
       let inner : counted (opens q) nodes + node_count is ≤ 65536 = omega (arith, o, few) in
       let total : counted (opens q) nodes + node_count is ≡ nodes + (one_if (is_node q) + node_count is) = omega (arith, o) in
-      let more = all_reached text q [] (at_place p (tag_of q ∷ seen) ∷ fs) s.0.next (counted (opens q) nodes) is s.3 next s.4 s.5 inner in
-      (s.0.next, is_piece text (at_place p seen) nodes at (opens q) s.0.next (s.0, record { starts = s.1; follows = new }, has_place q nodes room, s.2, refl),
-      subst (λ (n : ℕ). Reaches text (all_pieces is ++ closes ∷ []) s.0.next (at_place q [] ∷ at_place p (tag_of q ∷ seen) ∷ fs) (counted (opens q) nodes) (point next (at_place p (tag_of q ∷ seen) ∷ fs) n)) total more)
+      let more = all_reached text q [] (at_place p (tag_of q ∷ seen) ∷ fs) s.0.next (counted (opens q) nodes) is s.3 next s.4 s.5 inner in (
+        s.0.next,
+        is_piece text (at_place p seen) nodes at (opens q) s.0.next (s.0, record { starts = s.1; follows = new }, has_place q nodes room, s.2, refl),
+        subst (λ (n : ℕ). Reaches text (all_pieces is ++ closes ∷ []) s.0.next (at_place q [] ∷ at_place p (tag_of q ∷ seen) ∷ fs) (counted (opens q) nodes) (point next (at_place p (tag_of q ∷ seen) ∷ fs) n)) total more,
+      )
 
   -- the children of a parent, and its end tag
   pub all_reached : (text : List ℕ) (p : Place) (seen : List Tag) (fs : List Frame) (at nodes : ℕ) (is : Items) (end next : ℕ) → AllSpelled text p seen at is end → end_at text end (tag_of p) ≡ Ok next → nodes + node_count is ≤ 65536

@@ -6,7 +6,7 @@ use Rattle.index_model.specs.declared.errors.IndexErr.{IndexErr}
 use Rattle.index_model.specs.declared.schema.Place.TheVariants as place
 use Rattle.index_model.specs.Schema.{tag_of}
 use Rattle.index_model.specs.Pieces.{Piece, opens, whole, closes, leaf, Frame, piece_at}
-use Rattle.index_model.specs.Documents.{Point, Reaches, fresh, with_child}
+use Rattle.index_model.specs.Documents.{Accepts, Point, Reaches, fresh, with_child}
 use Rattle.index_read.specs.declared.pieces.Frame as code_frame
 use Rattle.index_read.specs.declared.walking.Level as code_level
 use Rattle.index_read.specs.Told.{State, Level, Tell, blank, node_in, outermost}
@@ -67,3 +67,9 @@ pub record Halted (text : List ℕ) (inside : ℕ) (e : IndexErr) : Type 0 where
   pub fs : List Frame
   pub parents : point.parents ≡ f ∷ fs
   pub fails : piece_at f point.nodes text point.at ≡ Err e
+
+-- the text is a whole document, and its pieces tell this
+pub record IsWhole (text : List ℕ) (s : State) : Type 0 where
+  pub ps : List Piece
+  pub accepts : Accepts text ps
+  pub tells : Tell ps outermost blank [] s

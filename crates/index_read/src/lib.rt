@@ -3,5 +3,6 @@
 
 mod drafts;
 mod pieces;
+mod reading;
 mod values;
 mod walking;

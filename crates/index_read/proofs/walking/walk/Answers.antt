@@ -20,7 +20,6 @@ is_kept : (text : List ℕ) (ps : List Piece) (inside next : ℕ) (os : List Ope
 is_kept text ps inside next [] top outer done s r t k d le few = let same : true ≡ false = sym k ∙ d in absurd (cc)
 is_kept text ps inside next (o ∷ os) top outer done s r t k d le few = record { within = le; few = few; ps = ps; o = o; os = os; top_is = k.1; outer_is = k.2; reaches = r; tells = t }
 
-
 pub loop-at-init : goal.loop-at-init
 loop-at-init c =
     let none : length (map value_of c.new-draft.result.nodes.items) ≡ 0 = ap (λ (x : State). length x.nodes) c.new-draft.ensures in

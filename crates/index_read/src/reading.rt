@@ -1,0 +1,101 @@
+//! The text of an index as a whole.
+
+ghost use Rattle.std.specs.Prelude.{◌≡◌, ◌≤◌, ◌<◌, length, map, IfOk, IfErr, IsUtf8};
+ghost use Rattle.index_model.specs.Documents.{Halts, is_index, readable, root_at};
+ghost use Rattle.index_model.specs.Values.{value_of, volume_of};
+ghost use Rattle.index_read.specs.Answers.{UnlessMemory};
+ghost use Rattle.index_read.specs.Drafts.{state_of};
+ghost use Rattle.index_read.specs.Walks.{IsWhole};
+
+use crate::drafts::Draft;
+use crate::walking::walk;
+use doc_fields::{Tag, Why, read_head, read_name, read_rest, skip_space};
+use index_model::{Index, IndexErr};
+use std::alloc::Global;
+use std::str;
+use tape_types::List;
+
+fn is_index(tag: Tag) -> bool
+    ensures { result ≡ is_index tag }
+{
+    match tag {
+        Tag::LtfsIndex => true,
+        _ => false,
+    }
+}
+
+/// Reads the start tag with which the one element begins, and gives the place behind it.
+#[tactic(auto, unfolding(index_model::specs::Documents::root_at))]
+fn root(text: &[u8], at: usize) -> Result<usize, IndexErr>
+    requires { at ≤ length text.now }
+    ensures value { result ≡ root_at text.now at }
+    ensures within { IfOk result (λ x. x ≤ length text.now) }
+{
+    let (tag, next) = read_name(text, at)?;
+    match read_rest(tag, at, text, next) {
+        Ok(start) => {
+            if !is_index(tag) {
+                return Err(IndexErr::Unknown(at));
+            }
+            if start.empty {
+                return Err(IndexErr::Missing(Tag::Creator));
+            }
+            Ok(start.next)
+        }
+        Err(fault) => {
+            match fault.why {
+                Why::Unknown => return Err(IndexErr::Unknown(fault.at)),
+                _ => {}
+            }
+            if !is_index(tag) {
+                return Err(IndexErr::Unknown(at));
+            }
+            Err(IndexErr::from(fault))
+        }
+    }
+}
+
+/// What a text tells, as far as it is UTF-8.
+fn whole(alloc: Global, text: &[u8]) -> Result<Draft, IndexErr>
+    ensures found { IfOk result (λ d. IsWhole text.now (state_of d)) }
+    ensures refused { IfErr result (λ e. UnlessMemory e (Halts text.now e)) }
+{
+    let from = match read_head(text, 0) {
+        Ok(from) => from,
+        Err(fault) => return Err(IndexErr::from(fault)),
+    };
+    let inside = match root(text, skip_space(text, from)) {
+        Ok(inside) => inside,
+        Err(fault) => return Err(fault),
+    };
+    let (draft, at) = match walk(alloc, text, inside) {
+        Ok(walked) => walked,
+        Err(fault) => return Err(fault),
+    };
+    let end = skip_space(text, at);
+    if end != text.len() {
+        return Err(IndexErr::Syntax(end));
+    }
+    Ok(draft)
+}
+
+/// The front of a text that is UTF-8.
+fn readable(text: &[u8]) -> &[u8]
+    ensures front { result.now ≡ readable text.now }
+    ensures valid { length result.now ≡ length text.now → IsUtf8 text.now }
+{
+    match str::from_utf8(text) {
+        Ok(_) => text,
+        Err(fault) => &text[..fault.valid_up_to()],
+    }
+}
+
+fn into_index(draft: Draft) -> Index
+    ensures volume { volume_of result ≡ (state_of draft).volume }
+    ensures nodes { map value_of result.nodes ≡ (state_of draft).nodes }
+{
+    Index {
+        nodes: List::from_vec(draft.nodes),
+        ..draft.index
+    }
+}
