@@ -11,3 +11,6 @@ pub mod Volume
 pub mod Within
 pub mod Tells
 pub mod Whole
+pub mod Assembled
+pub mod Same
+pub mod Exact

@@ -194,7 +194,7 @@ must_have p is q fits r must =
 
 -- ---- what the children of a policy tell
 
-policy_is : (seen : List Tag) (is : Items) (node : ℕ) (s : State) → Fits place.Policy seen is → items_told place.Policy node is s ≡ with_policy (criteria_or s.volume.policy (inside place.Criteria is)) s
+pub policy_is : (seen : List Tag) (is : Items) (node : ℕ) (s : State) → Fits place.Policy seen is → items_told place.Policy node is s ≡ with_policy (criteria_or s.volume.policy (inside place.Criteria is)) s
 policy_is seen no_items node s fits = refl
 policy_is seen (item (plain t v) more) node s fits = absurd (no_leaf t fits.0.0 fits.0.1)
   where
