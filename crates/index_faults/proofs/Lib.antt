@@ -1,0 +1,4 @@
+pub mod Firsts
+pub mod Keys
+pub mod UidSteps
+pub mod NameSteps

@@ -1,0 +1,18 @@
+-- Extents of a file of which one begins before an earlier one ends.
+use Rattle.std.specs.Prelude.{◌≡◌, ℕ, ◌+◌, ◌<◌, ◌≤◌, List}
+use Rattle.index_model.specs.declared.nodes.RawExtent.{RawExtent}
+use Rattle.index_model.specs.Extents.{ShareOffset}
+use Rattle.index_model.specs.Places.{IsAt}
+
+-- some extent begins before an earlier one ends, and both have bytes
+pub record IsCrossed (extents : List RawExtent) : Type 0 where
+  pub earlier : ℕ
+  pub later : ℕ
+  pub two : earlier < later
+  pub one : RawExtent
+  pub is : IsAt extents earlier one
+  pub one_some : 0 < one.count
+  pub other : RawExtent
+  pub other_is : IsAt extents later other
+  pub other_some : 0 < other.count
+  pub crossed : other.offset < one.offset + one.count

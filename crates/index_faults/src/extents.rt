@@ -1,0 +1,103 @@
+ghost use Rattle.std.specs.Prelude.{◌≡◌, ℕ, ◌+◌, ◌≤◌, ◌^◌, true, false, IfOk, ◌↔◌, IsTrue};
+ghost use Rattle.std.specs.List.{AllByRecursion};
+ghost use Rattle.index_model.specs.Extents.{EndsTooFar, Overlap};
+ghost use Rattle.index_faults.specs.Crossings.{IsCrossed};
+ghost use Rattle.index_faults.specs.Firsts.{TellsBad, TellsFile, TellsNode};
+
+use index_model::{Fault, Kind, Node, RawExtent};
+use std::alloc::Global;
+use tape_types::NoMemory;
+
+/// The length of a file, in bytes, is at most this.
+const LONGEST: u64 = 1 << 40;
+
+/// An extent ends at or before this offset.
+const FARTHEST: u64 = 1 << 62;
+
+/// What is wrong with the first file in the order of the document that is out of its bounds, or
+/// of which some extents overlap.
+pub fn first_bad_file(alloc: Global, nodes: &[Node]) -> Result<Option<Fault>, NoMemory>
+    ensures { IfOk result (TellsBad nodes.now) }
+{
+    for node in nodes {
+        let fault = node_fault(alloc, node)?;
+        if let Some(fault) = fault {
+            return Ok(Some(fault));
+        }
+    }
+    Ok(None)
+}
+
+fn node_fault(alloc: Global, node: &Node) -> Result<Option<Fault>, NoMemory>
+    ensures { IfOk result (TellsNode node.now.uid node.now.kind) }
+{
+    match &node.kind {
+        Kind::File { length, extents } => file_fault(alloc, node.uid, *length, extents.as_slice()),
+        _ => Ok(None),
+    }
+}
+
+fn file_fault(
+    alloc: Global,
+    uid: u64,
+    length: u64,
+    extents: &[RawExtent],
+) -> Result<Option<Fault>, NoMemory>
+    ensures { IfOk result (TellsFile uid length extents.now) }
+{
+    if length > LONGEST || !end_in_time(extents) {
+        return Ok(Some(Fault::Extent(uid)));
+    }
+    if overlap(alloc, extents)? {
+        return Ok(Some(Fault::Overlap(uid)));
+    }
+    Ok(None)
+}
+
+/// Whether no extent ends past 2^62.
+fn end_in_time(extents: &[RawExtent]) -> bool
+    ensures yes { result ≡ true → AllByRecursion (λ e. e.offset + e.count ≤ 2 ^ 62) extents.now }
+    ensures fails { result ≡ false → EndsTooFar extents.now }
+{
+    for extent in extents {
+        let RawExtent { offset, count, .. } = *extent;
+        if offset > FARTHEST || count > FARTHEST - offset {
+            return false;
+        }
+    }
+    true
+}
+
+/// Whether some two extents share an offset.
+fn overlap(alloc: Global, extents: &[RawExtent]) -> Result<bool, NoMemory>
+    requires ends { AllByRecursion (λ e. e.offset + e.count ≤ 2 ^ 62) extents.now }
+    ensures yes { IfOk result (λ found. found ≡ true → Overlap extents.now) }
+    ensures fails { IfOk result (λ found. found ≡ false → ¬ Overlap extents.now) }
+{
+    if ascend(extents) {
+        return Ok(false);
+    }
+    let mut sorted = Vec::from_slice(alloc, extents)?;
+    sorted.sort_unstable_by_key(|extent| extent.offset);
+    let apart = ascend(&sorted);
+    Ok(!apart)
+}
+
+/// Whether each extent with bytes begins where the ones before it end, or behind.
+fn ascend(extents: &[RawExtent]) -> bool
+    requires ends { AllByRecursion (λ e. e.offset + e.count ≤ 2 ^ 62) extents.now }
+    ensures yes { result ≡ true → ¬ Overlap extents.now }
+    ensures fails { result ≡ false → IsCrossed extents.now }
+{
+    let mut end = 0;
+    for extent in extents {
+        let RawExtent { offset, count, .. } = *extent;
+        if count > 0 {
+            if offset < end {
+                return false;
+            }
+            end = offset + count;
+        }
+    }
+    true
+}
