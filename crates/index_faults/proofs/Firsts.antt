@@ -23,18 +23,3 @@ nowhere P n within none at h = none at (within at h) h
 
 pub false_true : false ≡ true → ⊥
 false_true e = cc e
-
-none_some : {X : Type 0} (x : X) → None ≡ Some x → ⊥
-none_some x e = cc e
-
--- a place of an element is below the length
-pub within : {X : Type 0} (xs : List X) (at : ℕ) (x : X) → IsAt xs at x → at < length xs
-within [] at x is = absurd (none_some x is)
-within (y ∷ ys) zero x is = omega arith
-within (y ∷ ys) (suc at) x is = let less = within ys at x is in omega (arith, less)
-
--- what stands at a place below the length
-pub there : {X : Type 0} (xs : List X) (at : ℕ) (x : X) → at < length xs → x ≡ get_or xs at x → IsAt xs at x
-there [] at x less is = absurd (omega (arith, less))
-there (y ∷ ys) zero x less is = ap Some (sym is)
-there (y ∷ ys) (suc at) x less is = there ys at x (omega (arith, less)) is

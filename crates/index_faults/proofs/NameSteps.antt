@@ -16,7 +16,8 @@ use Rattle.index_model.specs.Names.{HasTakenName}
 use Rattle.index_model.proofs.Walks.{same_element}
 use Rattle.index_faults.specs.Firsts.{IsNowhereBefore, IsToldFirst}
 use Rattle.index_faults.specs.Keys.{Knows, IsTakenSlot, digest}
-use Rattle.index_faults.proofs.Firsts.{before_more, false_true, nowhere, told_first, within}
+use Rattle.index_faults.proofs.Firsts.{before_more, false_true, nowhere, told_first}
+use Rattle.std.proofs.lemmas.Option.{slice_get_within}
 use Rattle.index_faults.proofs.Keys.{knows_more, knows_none, number_is, number_itself}
 
 -- the number that stands for a name, the place of the directory, the name
@@ -66,7 +67,7 @@ module _ (nodes : List Node) where
   }
 
   pub end : (seen : BTreeSet Slot) (at : ℕ) → IsKept nodes seen at → length nodes ≤ at → (k : ℕ) → HasTakenName nodes k → ⊥
-  end seen at kept all = nowhere (HasTakenName nodes) at (λ k h. omega (arith, all, within nodes k h.taken.named h.taken.other_is)) kept.fine
+  end seen at kept all = nowhere (HasTakenName nodes) at (λ k h. omega (arith, all, slice_get_within nodes k h.taken.named h.taken.other_is)) kept.fine
 
   module _ (seen : BTreeSet Slot) (at : ℕ) (kept : IsKept nodes seen at) (node : Node) (is : IsAt nodes at node) (slot : Slot) (number : slot.0 ≡ digest slot.2.now) (parent : slot.1 ≡ node.parent) (name : slot.2.now ≡ node.name) where
     pub taken_here : contains slot_cmp seen slot ≡ true → IsToldFirst (HasTakenName nodes) nodes node.uid

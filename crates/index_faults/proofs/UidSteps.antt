@@ -10,7 +10,8 @@ use Rattle.index_model.specs.Uids.{HasBadUid, IsTakenUid}
 use Rattle.index_model.proofs.Walks.{same_element}
 use Rattle.index_faults.specs.Firsts.{IsNowhereBefore, IsToldFirst}
 use Rattle.index_faults.specs.Keys.{Knows}
-use Rattle.index_faults.proofs.Firsts.{before_more, false_true, nowhere, told_first, within}
+use Rattle.index_faults.proofs.Firsts.{before_more, false_true, nowhere, told_first}
+use Rattle.std.proofs.lemmas.Option.{slice_get_within}
 use Rattle.index_faults.proofs.Keys.{knows_more, knows_none, number_is, number_itself}
 
 -- no UID is bad before this place, and the set has those that stand there
@@ -26,7 +27,7 @@ module _ (highest : ℕ) (nodes : List Node) where
   }
 
   pub end : (seen : BTreeSet ℕ) (at : ℕ) → IsKept highest nodes seen at → length nodes ≤ at → (k : ℕ) → HasBadUid highest nodes k → ⊥
-  end seen at kept all = nowhere (HasBadUid highest nodes) at (λ k h. omega (arith, all, within nodes k h.node h.is)) kept.fine
+  end seen at kept all = nowhere (HasBadUid highest nodes) at (λ k h. omega (arith, all, slice_get_within nodes k h.node h.is)) kept.fine
 
   module _ (seen : BTreeSet ℕ) (at : ℕ) (kept : IsKept highest nodes seen at) (node : Node) (is : IsAt nodes at node) where
     bad_here : (node.uid ≡ 0) ⊎ (IsTakenUid nodes at node.uid ⊎ (highest < node.uid)) → IsToldFirst (HasBadUid highest nodes) nodes node.uid

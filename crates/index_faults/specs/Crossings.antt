@@ -1,8 +1,12 @@
 -- Extents of a file of which one begins before an earlier one ends.
-use Rattle.std.specs.Prelude.{◌≡◌, ℕ, ◌+◌, ◌<◌, ◌≤◌, List}
+use Rattle.std.specs.Prelude.{◌≡◌, ℕ, ◌+◌, ◌<◌, ◌≤◌, ◌^◌, List}
 use Rattle.index_model.specs.declared.nodes.RawExtent.{RawExtent}
 use Rattle.index_model.specs.Extents.{ShareOffset}
 use Rattle.index_model.specs.Places.{IsAt}
+
+-- the extent ends at or before 2^62
+abbrev pub EndsInTime : RawExtent → Type 0
+EndsInTime e = e.offset + e.count ≤ 2 ^ 62
 
 -- some extent begins before an earlier one ends, and both have bytes
 pub record IsCrossed (extents : List RawExtent) : Type 0 where

@@ -1,7 +1,8 @@
 ghost use Rattle.std.specs.Prelude.{◌≡◌, ℕ, ◌+◌, ◌≤◌, ◌^◌, true, false, IfOk, ◌↔◌, IsTrue};
-ghost use Rattle.std.specs.List.{AllByRecursion};
+ghost use Rattle.std.specs.List.{All};
+ghost use Rattle.std.specs.List.Sorted.{IsNonDecreasingBy, IsPermutation};
 ghost use Rattle.index_model.specs.Extents.{EndsTooFar, Overlap};
-ghost use Rattle.index_faults.specs.Crossings.{IsCrossed};
+ghost use Rattle.index_faults.specs.Crossings.{EndsInTime, IsCrossed};
 ghost use Rattle.index_faults.specs.Firsts.{TellsBad, TellsFile, TellsNode};
 
 use index_model::{Fault, Kind, Node, RawExtent};
@@ -56,7 +57,7 @@ fn file_fault(
 
 /// Whether no extent ends past 2^62.
 fn end_in_time(extents: &[RawExtent]) -> bool
-    ensures yes { result ≡ true → AllByRecursion (λ e. e.offset + e.count ≤ 2 ^ 62) extents.now }
+    ensures yes { result ≡ true → All EndsInTime extents.now }
     ensures fails { result ≡ false → EndsTooFar extents.now }
 {
     for extent in extents {
@@ -68,24 +69,33 @@ fn end_in_time(extents: &[RawExtent]) -> bool
     true
 }
 
-/// Whether some two extents share an offset.
+/// Whether some two extents share an offset. Takes no memory where they stand in order.
 fn overlap(alloc: Global, extents: &[RawExtent]) -> Result<bool, NoMemory>
-    requires ends { AllByRecursion (λ e. e.offset + e.count ≤ 2 ^ 62) extents.now }
+    requires ends { All EndsInTime extents.now }
     ensures yes { IfOk result (λ found. found ≡ true → Overlap extents.now) }
     ensures fails { IfOk result (λ found. found ≡ false → ¬ Overlap extents.now) }
 {
     if ascend(extents) {
         return Ok(false);
     }
-    let mut sorted = Vec::from_slice(alloc, extents)?;
-    sorted.sort_unstable_by_key(|extent| extent.offset);
+    let sorted = sorted(alloc, extents)?;
     let apart = ascend(&sorted);
     Ok(!apart)
 }
 
+/// The extents by their offsets.
+fn sorted(alloc: Global, extents: &[RawExtent]) -> Result<Vec<RawExtent>, NoMemory>
+    ensures moved { IfOk result (λ sorted. IsPermutation extents.now sorted.items) }
+    ensures rises { IfOk result (λ sorted. IsNonDecreasingBy (λ e. e.offset) sorted.items) }
+{
+    let mut sorted = Vec::from_slice(alloc, extents)?;
+    sorted.sort_unstable_by_key(|extent| extent.offset);
+    Ok(sorted)
+}
+
 /// Whether each extent with bytes begins where the ones before it end, or behind.
 fn ascend(extents: &[RawExtent]) -> bool
-    requires ends { AllByRecursion (λ e. e.offset + e.count ≤ 2 ^ 62) extents.now }
+    requires ends { All EndsInTime extents.now }
     ensures yes { result ≡ true → ¬ Overlap extents.now }
     ensures fails { result ≡ false → IsCrossed extents.now }
 {

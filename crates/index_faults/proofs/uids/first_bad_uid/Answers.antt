@@ -1,24 +1,24 @@
-use Rattle.std.proofs.Common.{rules, ◌≡◌, sym, arith}
+use Rattle.std.proofs.Common.{length, refl, arith}
 use Rattle.std.proofs.lemmas.Grind.{common_steps}
-use Rattle.index_faults.proofs.Firsts.{there}
+use Rattle.std.proofs.lemmas.Option.{slice_get_read}
 use Rattle.index_faults.proofs.Keys.{was_free, was_had}
 use Rattle.index_faults.proofs.UidSteps.{begin, out_here, taken_here, step, end}
 use Rattle.index_faults.proofs.uids.first_bad_uid.Goals as goal
 
 pub returns-then-uid-eq0 : goal.returns-then-uid-eq0
 returns-then-uid-eq0 c =
-    let is = there c.args.nodes.now c.loop-node.node-index c.node-item.result c.loop-node-test.true c.node-item.is in
+    let is = slice_get_read c.args.nodes.now (length c.args.nodes.now) c.loop-node.node-index c.node-item.result refl c.loop-node-test.true c.node-item.is in
     out_here c.args.highest c.args.nodes.now c.loop-node.seen c.loop-node.node-index c.loop-node.invariant c.node-item.result is c.then-uid-eq0.either
 
 pub returns-then-not-is_new : goal.returns-then-not-is_new
 returns-then-not-is_new c =
-    let is = there c.args.nodes.now c.loop-node.node-index c.node-item.result c.loop-node-test.true c.node-item.is in
+    let is = slice_get_read c.args.nodes.now (length c.args.nodes.now) c.loop-node.node-index c.node-item.result refl c.loop-node-test.true c.node-item.is in
     taken_here c.args.highest c.args.nodes.now c.loop-node.seen c.loop-node.node-index c.loop-node.invariant c.node-item.result is
     (was_had _ _ c.if-not-is_new.true c.in_ok-is_new.ensures.added)
 
 pub loop-node-preserved : goal.loop-node-preserved
 loop-node-preserved c =
-    let is = there c.args.nodes.now c.loop-node.node-index c.node-item.result c.loop-node-test.true c.node-item.is in
+    let is = slice_get_read c.args.nodes.now (length c.args.nodes.now) c.loop-node.node-index c.node-item.result refl c.loop-node-test.true c.node-item.is in
     step c.args.highest c.args.nodes.now c.loop-node.seen c.loop-node.node-index c.loop-node.invariant c.node-item.result is c.insert.new.self
     c.if-uid-eq0.false (omega arith) (was_free _ _ c.if-not-is_new.false c.in_ok-is_new.ensures.added) c.in_ok-is_new.ensures.updates
 
