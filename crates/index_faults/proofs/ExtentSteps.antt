@@ -1,5 +1,5 @@
 -- What a loop knows of the extents so far.
-use Rattle.std.proofs.Common.{◌≡◌, ◌≢◌, ◌⊎◌, ℕ, ◌+◌, ◌<◌, ◌≤◌, List, length, get_or, inl, inr, refl, sym, ap, subst, ◌∙◌, arith}
+use Rattle.std.proofs.Common.{◌≡◌, ◌⊎◌, ℕ, ◌+◌, ◌<◌, ◌≤◌, List, length, get_or, inl, inr, refl, ap, subst, arith}
 use Rattle.std.proofs.lemmas.Bool.{cases_lt}
 use Rattle.std.proofs.lemmas.Option.{get_or_from_slice_get, slice_get_within}
 use Rattle.std.specs.List.Sorted.{IsNonDecreasingBy}
@@ -7,7 +7,7 @@ use Rattle.index_model.specs.declared.nodes.RawExtent.{RawExtent}
 use Rattle.index_model.specs.Extents.{Covers, Overlap, ShareOffset}
 use Rattle.index_model.specs.Places.{IsAt}
 use Rattle.index_model.proofs.Walks.{same_element}
-use Rattle.index_faults.specs.Crossings.{EndsInTime, IsCrossed}
+use Rattle.index_faults.specs.Crossings.{IsCrossed}
 use Rattle.index_faults.proofs.Exchanged.{overlap_at}
 
 -- an extent with bytes stands before this place and ends here

@@ -6,3 +6,4 @@ pub mod Exchanged
 pub mod ExtentSteps
 pub mod SortedExtents
 pub mod FileSteps
+pub mod Whole

@@ -1,5 +1,5 @@
 -- What a loop knows of the names so far.
-use Rattle.std.proofs.Common.{◌≡◌, ◌≢◌, ◌⊎◌, ℕ, ◌+◌, ◌<◌, ◌≤◌, List, [], length, Bool, true, false, inl, inr, refl, sym, ap, subst, ◌∙◌, arith}
+use Rattle.std.proofs.Common.{◌≡◌, ℕ, ◌+◌, ◌<◌, ◌≤◌, List, [], length, true, false, inl, inr, refl, sym, ap, subst, ◌∙◌, arith}
 use Rattle.std.proofs.lemmas.Bool.{cases_lt}
 use Rattle.std.specs.BTreeMap.{is_at}
 use Rattle.std.specs.BTreeSet.{BTreeSet, contains, Updates}
@@ -18,7 +18,7 @@ use Rattle.index_faults.specs.Firsts.{IsNowhereBefore, IsToldFirst}
 use Rattle.index_faults.specs.Keys.{Knows, IsTakenSlot, digest}
 use Rattle.index_faults.proofs.Firsts.{before_more, false_true, nowhere, told_first}
 use Rattle.std.proofs.lemmas.Option.{slice_get_within}
-use Rattle.index_faults.proofs.Keys.{knows_more, knows_none, number_is, number_itself}
+use Rattle.index_faults.proofs.Keys.{knows_more, knows_none}
 
 -- the number that stands for a name, the place of the directory, the name
 abbrev pub Slot : Type 0
@@ -142,17 +142,17 @@ module _ (nodes : List Node) where
     was_taken k other t =
         elim (cases_lt t.taken.earlier at) [
           | inl less ↦ record {
-              number = t.number;
-              taken = record {
-                earlier = t.taken.earlier;
-                behind_root = t.taken.behind_root;
-                before = less;
-                node = t.taken.node;
-                is = t.taken.is;
-                parent_is = t.taken.parent_is;
-                name_is = t.taken.name_is;
-              };
-            }
+            number = t.number;
+            taken = record {
+              earlier = t.taken.earlier;
+              behind_root = t.taken.behind_root;
+              before = less;
+              node = t.taken.node;
+              is = t.taken.is;
+              parent_is = t.taken.parent_is;
+              name_is = t.taken.name_is;
+            };
+          }
           | inr more ↦
               let here : t.taken.earlier ≡ at = omega (arith, more, t.taken.before) in
               let same = same_element nodes at t.taken.node node (subst (λ k. IsAt nodes k t.taken.node) here t.taken.is) is in

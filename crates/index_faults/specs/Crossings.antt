@@ -1,7 +1,6 @@
 -- Extents of a file of which one begins before an earlier one ends.
-use Rattle.std.specs.Prelude.{◌≡◌, ℕ, ◌+◌, ◌<◌, ◌≤◌, ◌^◌, List}
+use Rattle.std.specs.Prelude.{ℕ, ◌+◌, ◌<◌, ◌≤◌, ◌^◌, List}
 use Rattle.index_model.specs.declared.nodes.RawExtent.{RawExtent}
-use Rattle.index_model.specs.Extents.{ShareOffset}
 use Rattle.index_model.specs.Places.{IsAt}
 
 -- the extent ends at or before 2^62

@@ -1,5 +1,5 @@
 -- What a search through the nodes tells: the UID of the first node that is wrong.
-use Rattle.std.specs.Prelude.{◌≡◌, ◌⊎◌, ⊤, ℕ, ◌<◌, ◌^◌, List, Option, Some, None}
+use Rattle.std.specs.Prelude.{◌≡◌, ◌⊎◌, ℕ, ◌<◌, ◌^◌, List, Option, Some, None}
 use Rattle.index_model.specs.declared.faults.Fault.{Fault}
 use Rattle.index_model.specs.declared.faults.Fault.TheVariants as faults
 use Rattle.index_model.specs.declared.nodes.Kind.{Kind}

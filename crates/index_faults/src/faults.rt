@@ -1,40 +1,28 @@
-ghost use Rattle.std.specs.Prelude.{◌≡◌, IfOk, IfSome, IfNone};
+ghost use Rattle.std.specs.Prelude.{IfOk, IfSome, IfNone};
 ghost use Rattle.index_model.specs.Refusals.{IsToldOf};
 ghost use Rattle.index_model.specs.Valid.{Agrees};
 
 use crate::extents::first_bad_file;
 use crate::names::first_taken_name;
-use crate::uids::first_bad_uid;
+use crate::uids::refused_uid;
 use index_model::{Fault, Index};
 use std::alloc::Global;
 use tape_types::NoMemory;
 
-/// A UID is at most this.
-const LARGEST: u64 = 1 << 62;
-
-/// What is wrong with an index as a whole, told of the node of which it is seen first; or none,
+/// What is wrong with an index as a whole, told of the node at which it is seen first; or none,
 /// where its nodes agree (LTFS 2.4 on the index).
 ///
 /// The UIDs are tested first, then the names, then the files, each in the order of the document.
-/// The nodes may be any, in any order. Takes memory for the nodes, or for the extents of one
+/// The nodes may be any, in any order. It takes memory for all nodes, or for the extents of one
 /// file, and time for sorting them.
 pub fn first_fault(alloc: Global, index: &Index) -> Result<Option<Fault>, NoMemory>
     ensures told { IfOk result (λ fault. IfSome fault (IsToldOf index.now)) }
     ensures agrees { IfOk result (λ fault. IfNone fault (Agrees index.now)) }
 {
-    let highest = index.highest;
-    if highest > LARGEST {
-        return Ok(Some(Fault::Uid(highest)));
-    }
-    let nodes = index.nodes.as_slice();
-    if let Some(uid) = first_bad_uid(alloc, highest, nodes)? {
+    if let Some(uid) = refused_uid(alloc, index)? {
         return Ok(Some(Fault::Uid(uid)));
     }
-    if let Some(root) = nodes.first() {
-        if root.uid != 1 {
-            return Ok(Some(Fault::Uid(root.uid)));
-        }
-    }
+    let nodes = index.nodes.as_slice();
     if let Some(uid) = first_taken_name(alloc, nodes)? {
         return Ok(Some(Fault::SameName(uid)));
     }

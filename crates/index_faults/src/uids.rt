@@ -1,19 +1,49 @@
-ghost use Rattle.std.specs.Prelude.{◌≡◌, IfOk};
-ghost use Rattle.index_model.specs.Uids.{HasBadUid};
+ghost use Rattle.std.specs.Prelude.{◌≡◌, ◌≢◌, IfOk, IfSome, IfNone};
+ghost use Rattle.index_model.specs.declared.nodes.Node.{Node};
+ghost use Rattle.index_model.specs.Places.{IsAt};
+ghost use Rattle.index_model.specs.Refusals.{IsTold, RefusesUid};
+ghost use Rattle.index_model.specs.Uids.{AreUids, HasBadUid};
 ghost use Rattle.index_faults.specs.Firsts.{TellsFirst};
 
-use index_model::Node;
+use index_model::{Index, Node};
 use std::alloc::Global;
 use std::collections::BTreeSet;
 use tape_types::NoMemory;
 
+/// A UID is at most this.
+const LARGEST: u64 = 1 << 62;
+
+/// The UID of an index that may not be: the highest, if it is over 2^62; else the first bad one;
+/// else the root's, if it isn't 1.
+pub fn refused_uid(alloc: Global, index: &Index) -> Result<Option<u64>, NoMemory>
+    ensures told { IfOk result (λ uid. IfSome uid (RefusesUid index.now)) }
+    ensures right { IfOk result (λ uid. IfNone uid (AreUids index.now.highest index.now.nodes)) }
+{
+    let highest = index.highest;
+    if highest > LARGEST {
+        return Ok(Some(highest));
+    }
+    let nodes = index.nodes.as_slice();
+    if let Some(uid) = first_bad_uid(alloc, highest, nodes)? {
+        return Ok(Some(uid));
+    }
+    Ok(wrong_root_uid(nodes))
+}
+
+/// The root's UID, if it isn't 1.
+fn wrong_root_uid(nodes: &[Node]) -> Option<u64>
+    ensures told { IfSome result (λ uid. (uid ≢ 1) × IsTold nodes.now 0 uid) }
+    ensures right { IfNone result ((root : Node) → IsAt nodes.now 0 root → root.uid ≡ 1) }
+{
+    match nodes.first() {
+        Some(root) if root.uid != 1 => Some(root.uid),
+        _ => None,
+    }
+}
+
 /// The first UID in the order of the document that is 0, is there already, or is over the
 /// highest.
-pub fn first_bad_uid(
-    alloc: Global,
-    highest: u64,
-    nodes: &[Node],
-) -> Result<Option<u64>, NoMemory>
+fn first_bad_uid(alloc: Global, highest: u64, nodes: &[Node]) -> Result<Option<u64>, NoMemory>
     ensures { IfOk result (TellsFirst (HasBadUid highest nodes.now) nodes.now) }
 {
     let mut seen = BTreeSet::new(alloc);

@@ -1,4 +1,4 @@
-use Rattle.std.proofs.Common.{ℕ, ◌+◌, length, refl, subst, sym, arith}
+use Rattle.std.proofs.Common.{ℕ, ◌+◌, subst, sym, arith}
 use Rattle.std.proofs.lemmas.Option.{slice_get-get_or}
 use Rattle.index_faults.proofs.ExtentSteps.{IsKept, end, passed, step}
 use Rattle.index_faults.proofs.extents.ascend.Goals.{then-count-gt0+else-offset-end, else-count-gt0}

@@ -1,8 +1,7 @@
 use Rattle.std.proofs.Common.{length, refl, arith}
-use Rattle.std.proofs.lemmas.Grind.{common_steps}
 use Rattle.std.proofs.lemmas.Option.{slice_get_read}
 use Rattle.index_faults.proofs.Keys.{was_free, was_had}
-use Rattle.index_faults.proofs.UidSteps.{begin, out_here, taken_here, step, end}
+use Rattle.index_faults.proofs.UidSteps.{out_here, taken_here, step, end}
 use Rattle.index_faults.proofs.uids.first_bad_uid.Goals as goal
 
 pub returns-then-uid-eq0 : goal.returns-then-uid-eq0
