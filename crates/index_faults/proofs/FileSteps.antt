@@ -49,14 +49,14 @@ module _ (nodes : List Node) (at : ℕ) (node : Node) (is : IsAt nodes at node) 
     tells none (faults.SameName n) h = h
     tells none (faults.Extent n) h =
         let out : IsOutOfBounds nodes at = record { bytes = bytes; extents = extents; file = here; out = h.1 } in
-        record { at = at; first = record { here = inl out; none_before = none }; told = record { node = node; is = is; same = sym h.0 }; out = out }
+        record { at = at; first = record { here = inl out; none_before = none }; told = record { node = node; is = is; same = sym h.0 }; wrong = out }
     tells none (faults.Overlap n) h =
         let over : HasOverlap nodes at = record { bytes = bytes; extents = extents; file = here; overlap = h.1.1 } in
         record {
           at = at;
           first = record { here = inr over; none_before = none };
           told = record { node = node; is = is; same = sym h.0 };
-          out = ((λ out. h.1.0 (out_is out)), over);
+          wrong = ((λ out. h.1.0 (out_is out)), over);
         }
 
   node_right_of : (kind : Kind) → node.kind ≡ kind → TellsNode node.uid kind None → IsBadFile nodes at → ⊥

@@ -5,8 +5,12 @@ use Rattle.std.specs.BTreeMap.{is_at}
 use Rattle.std.specs.BTreeSet.{BTreeSet, contains, Updates}
 use Rattle.std.specs.Ordering.{nat_cmp}
 use Rattle.std.specs.declared.cmp.Ordering.{Ordering}
-use Rattle.index_faults.specs.Keys.{Knows}
 use Rattle.index_faults.proofs.Firsts.{false_true}
+
+-- the set has exactly the keys that there are
+pub record Knows {K : Type 0} (has : K → Bool) (There : K → Type 0) : Type 0 where
+  pub found : (key : K) → has key ≡ true → There key
+  pub there : (key : K) → There key → has key ≡ true
 
 -- an empty set knows that there is no key
 pub knows_none : {K : Type 0} (cmp : K → K → Ordering) (seen : BTreeSet K) (There : K → Type 0) → seen.keys ≡ [] → ((key : K) → There key → ⊥) → Knows (contains cmp seen) There

@@ -15,10 +15,20 @@ use Rattle.index_model.specs.Places.{IsAt}
 use Rattle.index_model.specs.Names.{HasTakenName}
 use Rattle.index_model.proofs.Walks.{same_element}
 use Rattle.index_faults.specs.Firsts.{IsNowhereBefore, IsToldFirst}
-use Rattle.index_faults.specs.Keys.{Knows, IsTakenSlot, digest}
+use Rattle.index_faults.specs.Digest.{digest}
 use Rattle.index_faults.proofs.Firsts.{before_more, false_true, nowhere, told_first}
 use Rattle.std.proofs.lemmas.Option.{slice_get_within}
-use Rattle.index_faults.proofs.Keys.{knows_more, knows_none}
+use Rattle.index_faults.proofs.Keys.{Knows, knows_more, knows_none}
+
+-- a node before this place, and not the root, has this parent and this name
+pub record IsTakenSlot (nodes : List Node) (at parent : ℕ) (name : List ℕ) : Type 0 where
+  pub earlier : ℕ
+  pub behind_root : 0 < earlier
+  pub before : earlier < at
+  pub node : Node
+  pub is : IsAt nodes earlier node
+  pub parent_is : node.parent ≡ parent
+  pub name_is : node.name ≡ name
 
 -- the number that stands for a name, the place of the directory, the name
 abbrev pub Slot : Type 0

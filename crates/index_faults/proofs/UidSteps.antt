@@ -9,10 +9,9 @@ use Rattle.index_model.specs.Places.{IsAt}
 use Rattle.index_model.specs.Uids.{HasBadUid, IsTakenUid}
 use Rattle.index_model.proofs.Walks.{same_element}
 use Rattle.index_faults.specs.Firsts.{IsNowhereBefore, IsToldFirst}
-use Rattle.index_faults.specs.Keys.{Knows}
 use Rattle.index_faults.proofs.Firsts.{before_more, false_true, nowhere, told_first}
 use Rattle.std.proofs.lemmas.Option.{slice_get_within}
-use Rattle.index_faults.proofs.Keys.{knows_more, knows_none, number_is, number_itself}
+use Rattle.index_faults.proofs.Keys.{Knows, knows_more, knows_none, number_is, number_itself}
 
 -- no UID is bad before this place, and the set has those that stand there
 pub record IsKept (highest : ℕ) (nodes : List Node) (seen : BTreeSet ℕ) (at : ℕ) : Type 0 where

@@ -32,13 +32,13 @@ module _ (index : Index) (uids : AreUids index.highest index.nodes) (none : Tell
   fault_told (faults.Extent n) h = record {
     at = h.at;
     bad = record { uids = uids; names = names_are index.nodes none; first = h.first; told = h.told };
-    out = h.out;
+    out = h.wrong;
   }
   fault_told (faults.Overlap n) h = record {
     at = h.at;
     bad = record { uids = uids; names = names_are index.nodes none; first = h.first; told = h.told };
-    within = h.out.0;
-    overlap = h.out.1;
+    within = h.wrong.0;
+    overlap = h.wrong.1;
   }
 
   file_told : (fault : Option Fault) → TellsBad index.nodes fault → IfSome fault (IsToldOf index)

@@ -43,12 +43,12 @@ TellsNode uid kinds.Dir fault = fault ≡ None
 TellsNode uid (kinds.Link text) fault = fault ≡ None
 TellsNode uid (kinds.File bytes extents) fault = TellsFile uid bytes extents fault
 
--- the first bad file is told, and whether it is out of its bounds
-pub record IsToldBad (nodes : List Node) (uid : ℕ) (Out : ℕ → Type 0) : Type 0 where
+-- the first bad file has this UID, and Wrong holds of its place
+pub record IsToldBad (nodes : List Node) (uid : ℕ) (Wrong : ℕ → Type 0) : Type 0 where
   pub at : ℕ
   pub first : IsFirst (IsBadFile nodes) at
   pub told : IsTold nodes at uid
-  pub out : Out at
+  pub wrong : Wrong at
 
 -- what is told of the first bad file, or none where each file is right
 abbrev pub TellsBad : List Node → Option Fault → Type 0

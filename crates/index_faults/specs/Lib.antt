@@ -1,3 +1,3 @@
 pub mod Firsts
-pub mod Keys
+pub mod Digest
 pub mod Crossings

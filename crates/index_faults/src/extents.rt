@@ -1,4 +1,4 @@
-ghost use Rattle.std.specs.Prelude.{◌≡◌, ℕ, ◌+◌, ◌≤◌, ◌^◌, true, false, IfOk, ◌↔◌, IsTrue};
+ghost use Rattle.std.specs.Prelude.{◌≡◌, true, false, IfOk};
 ghost use Rattle.std.specs.List.{All};
 ghost use Rattle.std.specs.List.Sorted.{IsNonDecreasingBy, IsPermutation};
 ghost use Rattle.index_model.specs.Extents.{EndsTooFar, Overlap};
@@ -21,14 +21,14 @@ pub fn first_bad_file(alloc: Global, nodes: &[Node]) -> Result<Option<Fault>, No
     ensures { IfOk result (TellsBad nodes.now) }
 {
     for node in nodes {
-        let fault = node_fault(alloc, node)?;
-        if let Some(fault) = fault {
+        if let Some(fault) = node_fault(alloc, node)? {
             return Ok(Some(fault));
         }
     }
     Ok(None)
 }
 
+/// What is wrong with a node, if it is a file.
 fn node_fault(alloc: Global, node: &Node) -> Result<Option<Fault>, NoMemory>
     ensures { IfOk result (TellsNode node.now.uid node.now.kind) }
 {
@@ -38,6 +38,8 @@ fn node_fault(alloc: Global, node: &Node) -> Result<Option<Fault>, NoMemory>
     }
 }
 
+/// What is wrong with a file of this UID, length and extents: first that it is too long or that
+/// an extent ends too far, then that extents overlap.
 fn file_fault(
     alloc: Global,
     uid: u64,

@@ -5,6 +5,12 @@
 mod extents;
 mod faults;
 mod names;
+#[cfg(test)]
+mod rows;
+#[cfg(test)]
+mod slow;
+#[cfg(test)]
+mod tests;
 mod uids;
 
 pub use faults::first_fault;

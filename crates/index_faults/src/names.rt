@@ -1,7 +1,7 @@
 ghost use Rattle.std.specs.Prelude.{◌≡◌, IfOk};
 ghost use Rattle.index_model.specs.Names.{HasTakenName};
 ghost use Rattle.index_faults.specs.Firsts.{TellsFirst};
-ghost use Rattle.index_faults.specs.Keys.{digest};
+ghost use Rattle.index_faults.specs.Digest.{digest};
 
 use index_model::Node;
 use std::alloc::Global;

@@ -1,5 +1,5 @@
 use Rattle.std.proofs.Common.{rules}
-use Rattle.index_faults.specs.Keys.{digest}
+use Rattle.index_faults.specs.Digest.{digest}
 use Rattle.index_faults.proofs.names.digest.Goals as goal
 
 pub returns : goal.returns
