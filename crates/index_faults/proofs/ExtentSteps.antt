@@ -1,5 +1,5 @@
 -- What a loop knows of the extents so far.
-use Rattle.std.proofs.Common.{◌≡◌, ◌⊎◌, ℕ, ◌+◌, ◌<◌, ◌≤◌, List, length, get_or, inl, inr, refl, ap, subst, arith}
+use Rattle.std.proofs.Common.{◌≡◌, ◌⊎◌, ℕ, ◌+◌, ◌<◌, ◌≤◌, List, length, get_or, inl, inr, refl, ap, subst, arith, sym}
 use Rattle.std.proofs.lemmas.Bool.{cases_lt}
 use Rattle.std.proofs.lemmas.Option.{get_or_from_slice_get, slice_get_within}
 use Rattle.std.specs.List.Sorted.{IsNonDecreasingBy}
@@ -7,7 +7,7 @@ use Rattle.index_model.specs.declared.nodes.RawExtent.{RawExtent}
 use Rattle.index_model.specs.Extents.{Covers, Overlap, ShareOffset}
 use Rattle.index_model.specs.Places.{IsAt}
 use Rattle.index_model.proofs.Walks.{same_element}
-use Rattle.index_faults.specs.Crossings.{IsCrossed}
+use Rattle.index_faults.specs.Crossings.{Follows, IsCrossed}
 use Rattle.index_faults.proofs.Exchanged.{overlap_at}
 
 -- an extent with bytes stands before this place and ends here
@@ -83,7 +83,7 @@ module _ (extents : List RawExtent) where
             | inr higher ↦ (from offset (covers_here place offset e (omega (arith, higher, less)) e_is covers)).1
           ]
 
-    pub passed : extent.count ≡ 0 → IsKept extents last (at + 1)
+    passed : extent.count ≡ 0 → IsKept extents last (at + 1)
     passed none = record {
       apart = apart_more last (omega arith) (λ offset covers. absurd (omega (arith, covers.from, covers.until, none)));
       below = below_more last (omega arith) (λ offset covers. absurd (omega (arith, covers.from, covers.until, none)));
@@ -94,12 +94,16 @@ module _ (extents : List RawExtent) where
         still (inl none) = inl none
         still (inr l) = inr record { place = l.place; before = omega (arith, l.before); extent = l.extent; is = l.is; some = l.some; ends = l.ends }
 
-    pub step : 0 < extent.count → last ≤ extent.offset → IsKept extents (extent.offset + extent.count) (at + 1)
-    step some behind = record {
-      apart = apart_more (extent.offset + extent.count) (omega (arith, behind)) (λ offset covers. (omega (arith, covers.from, behind), covers.until));
-      below = below_more (extent.offset + extent.count) (omega (arith, behind)) (λ offset covers. (omega (arith, covers.from, behind), covers.until));
+    behind : 0 < extent.count → last ≤ extent.offset → IsKept extents (extent.offset + extent.count) (at + 1)
+    behind some from = record {
+      apart = apart_more (extent.offset + extent.count) (omega (arith, from)) (λ offset covers. (omega (arith, covers.from, from), covers.until));
+      below = below_more (extent.offset + extent.count) (omega (arith, from)) (λ offset covers. (omega (arith, covers.from, from), covers.until));
       last = inr record { place = at; before = omega arith; extent = extent; is = is; some = some; ends = refl };
     }
+
+    pub step : (new : ℕ) → Follows last extent new → IsKept extents new (at + 1)
+    step new (inl none) = subst (λ e. IsKept extents e (at + 1)) (sym none.1) (passed none.0)
+    step new (inr some) = subst (λ e. IsKept extents e (at + 1)) (sym some.2) (behind some.0 some.1)
 
   -- where the offsets do not fall, an extent that begins before an earlier one ends shares its offset
   pub overlap_crossed : IsNonDecreasingBy (λ e. e.offset) extents → IsCrossed extents → Overlap extents

@@ -1,5 +1,5 @@
 -- What a loop knows of the UIDs so far.
-use Rattle.std.proofs.Common.{◌≡◌, ◌≢◌, ◌⊎◌, ℕ, ◌+◌, ◌<◌, ◌≤◌, List, [], length, true, false, inl, inr, refl, sym, ap, subst, ◌∙◌, arith}
+use Rattle.std.proofs.Common.{◌≡◌, ◌⊎◌, ℕ, ◌+◌, ◌<◌, ◌≤◌, List, [], length, true, false, inl, inr, refl, sym, ap, subst, ◌∙◌, arith}
 use Rattle.std.proofs.lemmas.Bool.{cases_lt}
 use Rattle.std.specs.BTreeMap.{is_at}
 use Rattle.std.specs.BTreeSet.{BTreeSet, contains, Updates}
@@ -32,9 +32,9 @@ module _ (highest : ℕ) (nodes : List Node) where
     bad_here : (node.uid ≡ 0) ⊎ (IsTakenUid nodes at node.uid ⊎ (highest < node.uid)) → IsToldFirst (HasBadUid highest nodes) nodes node.uid
     bad_here bad = told_first (HasBadUid highest nodes) nodes at node.uid node kept.fine record { node = node; is = is; bad = bad } is refl
 
-    pub out_here : (node.uid ≡ 0) ⊎ ((node.uid ≢ 0) × (highest < node.uid)) → IsToldFirst (HasBadUid highest nodes) nodes node.uid
+    pub out_here : (node.uid ≡ 0) ⊎ (highest < node.uid) → IsToldFirst (HasBadUid highest nodes) nodes node.uid
     out_here (inl none) = bad_here (inl none)
-    out_here (inr over) = bad_here (inr (inr over.1))
+    out_here (inr over) = bad_here (inr (inr over))
 
     pub taken_here : contains nat_cmp seen node.uid ≡ true → IsToldFirst (HasBadUid highest nodes) nodes node.uid
     taken_here has = bad_here (inr (inl (kept.knows.found node.uid has)))
@@ -51,18 +51,18 @@ module _ (highest : ℕ) (nodes : List Node) where
         ]
 
     -- the UID is neither out of its bounds nor taken
-    fine_here : (node.uid ≢ 0) → node.uid ≤ highest → contains nat_cmp seen node.uid ≡ false → HasBadUid highest nodes at → ⊥
+    fine_here : 1 ≤ node.uid → node.uid ≤ highest → contains nat_cmp seen node.uid ≡ false → HasBadUid highest nodes at → ⊥
     fine_here some most free h =
         let uid : h.node.uid ≡ node.uid = ap (λ n. n.uid) (same_element nodes at h.node node h.is is) in
         elim h.bad [
-          | inl none ↦ some (sym uid ∙ none)
+          | inl none ↦ omega (arith, some, uid, none)
           | inr more ↦ elim more [
             | inl taken ↦ false_true (sym free ∙ kept.knows.there node.uid (subst (IsTakenUid nodes at) uid taken))
             | inr over ↦ omega (arith, uid, over, most)
           ]
         ]
 
-    pub step : (new : BTreeSet ℕ) → (node.uid ≢ 0) → node.uid ≤ highest → contains nat_cmp seen node.uid ≡ false → Updates nat_cmp seen new node.uid true → IsKept highest nodes new (at + 1)
+    pub step : (new : BTreeSet ℕ) → 1 ≤ node.uid → node.uid ≤ highest → contains nat_cmp seen node.uid ≡ false → Updates nat_cmp seen new node.uid true → IsKept highest nodes new (at + 1)
     step new some most free put = record {
       fine = before_more (HasBadUid highest nodes) at kept.fine (fine_here some most free);
       knows = knows_more nat_cmp seen new node.uid (IsTakenUid nodes at) (IsTakenUid nodes (at + 1)) put kept.knows

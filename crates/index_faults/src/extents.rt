@@ -1,8 +1,8 @@
-ghost use Rattle.std.specs.Prelude.{◌≡◌, true, false, IfOk};
+ghost use Rattle.std.specs.Prelude.{◌≡◌, ◌<◌, true, false, IfOk, IfSome, IfNone};
 ghost use Rattle.std.specs.List.{All};
 ghost use Rattle.std.specs.List.Sorted.{IsNonDecreasingBy, IsPermutation};
 ghost use Rattle.index_model.specs.Extents.{EndsTooFar, Overlap};
-ghost use Rattle.index_faults.specs.Crossings.{EndsInTime, IsCrossed};
+ghost use Rattle.index_faults.specs.Crossings.{EndsInTime, Follows, IsCrossed};
 ghost use Rattle.index_faults.specs.Firsts.{TellsBad, TellsFile, TellsNode};
 
 use index_model::{Fault, Kind, Node, RawExtent};
@@ -103,13 +103,27 @@ fn ascend(extents: &[RawExtent]) -> bool
 {
     let mut end = 0;
     for extent in extents {
-        let RawExtent { offset, count, .. } = *extent;
-        if count > 0 {
-            if offset < end {
-                return false;
-            }
-            end = offset + count;
+        match end_with(end, extent) {
+            Some(next) => end = next,
+            None => return false,
         }
     }
     true
+}
+
+/// Where the extents up to this one end, if those before it end here. None, if it has bytes and
+/// begins before that end.
+fn end_with(end: u64, extent: &RawExtent) -> Option<u64>
+    requires { EndsInTime extent.now }
+    ensures next { IfSome result (Follows end extent.now) }
+    ensures crossed { IfNone result ((0 < extent.now.count) × (extent.now.offset < end)) }
+{
+    let RawExtent { offset, count, .. } = *extent;
+    if count == 0 {
+        return Some(end);
+    }
+    if offset < end {
+        return None;
+    }
+    Some(offset + count)
 }

@@ -1,4 +1,4 @@
-ghost use Rattle.std.specs.Prelude.{◌≡◌, ◌≢◌, IfOk, IfSome, IfNone};
+ghost use Rattle.std.specs.Prelude.{◌≡◌, ◌≢◌, ◌⊎◌, ◌<◌, ◌≤◌, true, false, IfOk, IfSome, IfNone};
 ghost use Rattle.index_model.specs.declared.nodes.Node.{Node};
 ghost use Rattle.index_model.specs.Places.{IsAt};
 ghost use Rattle.index_model.specs.Refusals.{IsTold, RefusesUid};
@@ -12,6 +12,9 @@ use tape_types::NoMemory;
 
 /// A UID is at most this.
 const LARGEST: u64 = 1 << 62;
+
+/// The root's UID.
+const ROOT: u64 = 1;
 
 /// The UID of an index that may not be: the highest, if it is over 2^62; else the first bad one;
 /// else the root's, if it isn't 1.
@@ -35,10 +38,9 @@ fn wrong_root_uid(nodes: &[Node]) -> Option<u64>
     ensures told { IfSome result (λ uid. (uid ≢ 1) × IsTold nodes.now 0 uid) }
     ensures right { IfNone result ((root : Node) → IsAt nodes.now 0 root → root.uid ≡ 1) }
 {
-    match nodes.first() {
-        Some(root) if root.uid != 1 => Some(root.uid),
-        _ => None,
-    }
+    let root = nodes.first()?;
+    let uid = root.uid;
+    if uid == ROOT { None } else { Some(uid) }
 }
 
 /// The first UID in the order of the document that is 0, is there already, or is over the
@@ -49,7 +51,7 @@ fn first_bad_uid(alloc: Global, highest: u64, nodes: &[Node]) -> Result<Option<u
     let mut seen = BTreeSet::new(alloc);
     for node in nodes {
         let uid = node.uid;
-        if uid == 0 || uid > highest {
+        if is_out(uid, highest) {
             return Ok(Some(uid));
         }
         let is_new = seen.insert(uid)?;
@@ -58,4 +60,12 @@ fn first_bad_uid(alloc: Global, highest: u64, nodes: &[Node]) -> Result<Option<u
         }
     }
     Ok(None)
+}
+
+/// Whether a UID is 0 or over the highest.
+fn is_out(uid: u64, highest: u64) -> bool
+    ensures yes { result ≡ true → (uid ≡ 0) ⊎ (highest < uid) }
+    ensures within { result ≡ false → (1 ≤ uid) × (uid ≤ highest) }
+{
+    uid == 0 || uid > highest
 }

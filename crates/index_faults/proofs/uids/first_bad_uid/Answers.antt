@@ -1,13 +1,13 @@
-use Rattle.std.proofs.Common.{length, refl, arith}
+use Rattle.std.proofs.Common.{length, refl}
 use Rattle.std.proofs.lemmas.Option.{slice_get_read}
 use Rattle.index_faults.proofs.Keys.{was_free, was_had}
 use Rattle.index_faults.proofs.UidSteps.{out_here, taken_here, step, end}
 use Rattle.index_faults.proofs.uids.first_bad_uid.Goals as goal
 
-pub returns-then-uid-eq0 : goal.returns-then-uid-eq0
-returns-then-uid-eq0 c =
+pub returns-then-is_out : goal.returns-then-is_out
+returns-then-is_out c =
     let is = slice_get_read c.args.nodes.now (length c.args.nodes.now) c.loop-node.node-index c.node-item.result refl c.loop-node-test.true c.node-item.is in
-    out_here c.args.highest c.args.nodes.now c.loop-node.seen c.loop-node.node-index c.loop-node.invariant c.node-item.result is c.then-uid-eq0.either
+    out_here c.args.highest c.args.nodes.now c.loop-node.seen c.loop-node.node-index c.loop-node.invariant c.node-item.result is (c.is_out.ensures.yes c.if-is_out.true)
 
 pub returns-then-not-is_new : goal.returns-then-not-is_new
 returns-then-not-is_new c =
@@ -18,8 +18,9 @@ returns-then-not-is_new c =
 pub loop-node-preserved : goal.loop-node-preserved
 loop-node-preserved c =
     let is = slice_get_read c.args.nodes.now (length c.args.nodes.now) c.loop-node.node-index c.node-item.result refl c.loop-node-test.true c.node-item.is in
+    let within = c.is_out.ensures.within c.if-is_out.false in
     step c.args.highest c.args.nodes.now c.loop-node.seen c.loop-node.node-index c.loop-node.invariant c.node-item.result is c.insert.new.self
-    c.if-uid-eq0.false (omega arith) (was_free _ _ c.if-not-is_new.false c.in_ok-is_new.ensures.added) c.in_ok-is_new.ensures.updates
+    within.0 within.1 (was_free _ _ c.if-not-is_new.false c.in_ok-is_new.ensures.added) c.in_ok-is_new.ensures.updates
 
 pub returns : goal.returns
-returns c = end c.args.highest c.args.nodes.now c.loop-node.seen c.loop-node.node-index c.loop-node.invariant (omega arith)
+returns c = end c.args.highest c.args.nodes.now c.loop-node.seen c.loop-node.node-index c.loop-node.invariant c.loop-node-test.false
