@@ -14,7 +14,6 @@ use Rattle.index_model.specs.Order.{AreInOrder, LiesIn}
 use Rattle.index_model.specs.Order.LiesIn.{through}
 use Rattle.index_model.specs.Places.{IsAt}
 use Rattle.index_model.specs.Refusals.{IsToldOf}
-use Rattle.index_model.specs.declared.faults.Fault.{Fault}
 use Rattle.index_model.specs.declared.faults.Fault.TheVariants as faults
 use Rattle.index_model.specs.Uids.{AreUids, HasBadUid}
 use Rattle.index_model.proofs.Walks.{each, same_element}

@@ -75,6 +75,36 @@ each_end (e ∷ extents) near = (
   each_end extents (λ f. near record { at = suc f.at; extent = f.extent; is = f.is; far = f.far }),
 )
 
+-- UIDs of which none is bad are right
+module _ (highest : ℕ) (nodes : List Node) (bounded : highest ≤ 2 ^ 62) (none : (at : ℕ) → HasBadUid highest nodes at → ⊥) where
+  one_uid : (i j : ℕ) → i < j → HaveOneUid nodes i j → ⊥
+  one_uid i j less h =
+      none j record { node = h.named; is = h.other_is; bad = inr (inl record { earlier = i; before = less; node = h.node; is = h.is; same = h.same }) }
+
+  pub uids_are : ((node : Node) → IsAt nodes 0 node → node.uid ≡ 1) → AreUids highest nodes
+  uids_are root = record {
+    bounded = bounded;
+    least = λ at node is. not_more 1 node.uid (λ less. none at record { node = node; is = is; bad = inl (omega (arith, less)) });
+    most = λ at node is. not_more node.uid highest (λ over. none at record { node = node; is = is; bad = inr (inr over) });
+    apart = λ at other node named is other_is same. same_place (HaveOneUid nodes) (turned_uid nodes) one_uid at other record { node = node; is = is; named = named; other_is = other_is; same = same };
+    root = root;
+  }
+
+-- names of which none is taken are apart
+pub names_are : (nodes : List Node) → ((at : ℕ) → HasTakenName nodes at → ⊥) → AreNamesApart nodes
+names_are nodes none = same_place (HaveOneName nodes) (turned_name nodes) (λ i j less h. none j record { earlier = i; before = less; taken = h })
+
+-- files of which none is bad are right
+pub files_are : (nodes : List Node) → ((at : ℕ) → IsBadFile nodes at → ⊥) → AreFiles nodes
+files_are nodes none = record {
+  size = λ at bytes extents f. not_more bytes (2 ^ 40) (λ long. none at (inl record { bytes = bytes; extents = extents; file = f; out = inl long }));
+  ends = λ at bytes extents f. each_end extents (λ far. none at (inl record { bytes = bytes; extents = extents; file = f; out = inr far }));
+  apart = λ at bytes extents f one two offset.
+      same_place (λ i j. ShareOffset extents i j offset) (turned_share extents offset)
+      (λ i j less h. none at (inr record { bytes = bytes; extents = extents; file = f; overlap = record { earlier = i; later = j; two = less; offset = offset; shared = h } }))
+      one two;
+}
+
 module _ (index : Index) (none : (a : Fault) → IsToldOf index a → ⊥) where
   bounded : index.highest ≤ 2 ^ 62
   bounded = not_more index.highest (2 ^ 62) (λ over. none (faults.Uid index.highest) (inl record { over = over; same = refl }))
@@ -90,25 +120,15 @@ module _ (index : Index) (none : (a : Fault) → IsToldOf index a → ⊥) where
         | inr wrong ↦ absurd (none (faults.Uid node.uid) (inr (inr record { bounded = bounded; others = no_bad_uid; wrong = wrong; told = record { node = node; is = is; same = refl } })))
       ]
 
-  one_uid : (i j : ℕ) → i < j → HaveOneUid index.nodes i j → ⊥
-  one_uid i j less h =
-      no_bad_uid j record { node = h.named; is = h.other_is; bad = inr (inl record { earlier = i; before = less; node = h.node; is = h.is; same = h.same }) }
-
   uids : AreUids index.highest index.nodes
-  uids = record {
-    bounded = bounded;
-    least = λ at node is. not_more 1 node.uid (λ less. no_bad_uid at record { node = node; is = is; bad = inl (omega (arith, less)) });
-    most = λ at node is. not_more node.uid index.highest (λ over. no_bad_uid at record { node = node; is = is; bad = inr (inr over) });
-    apart = λ at other node named is other_is same. same_place (HaveOneUid index.nodes) (turned_uid index.nodes) one_uid at other record { node = node; is = is; named = named; other_is = other_is; same = same };
-    root = root_uid;
-  }
+  uids = uids_are index.highest index.nodes bounded no_bad_uid root_uid
 
   no_taken_name : (at : ℕ) → HasTakenName index.nodes at → ⊥
   no_taken_name = never (HasTakenName index.nodes)
       (λ at first. let h = first.here.taken in none (faults.SameName h.named.uid) record { uids = uids; at = at; first = first; told = record { node = h.named; is = h.other_is; same = refl } })
 
   names : AreNamesApart index.nodes
-  names = same_place (HaveOneName index.nodes) (turned_name index.nodes) (λ i j less h. no_taken_name j record { earlier = i; before = less; taken = h })
+  names = names_are index.nodes no_taken_name
 
   -- the first bad file, where its UID is told
   bad : (at bytes : ℕ) (extents : List RawExtent) → IsFirst (IsBadFile index.nodes) at → (f : IsFileAt index.nodes at bytes extents) → IsFirstBadFile index at f.node.uid
@@ -127,18 +147,8 @@ module _ (index : Index) (none : (a : Fault) → IsToldOf index a → ⊥) where
   no_bad_file : (at : ℕ) → IsBadFile index.nodes at → ⊥
   no_bad_file = never (IsBadFile index.nodes) not_first
 
-  files : AreFiles index.nodes
-  files = record {
-    size = λ at bytes extents f. not_more bytes (2 ^ 40) (λ long. no_bad_file at (inl record { bytes = bytes; extents = extents; file = f; out = inl long }));
-    ends = λ at bytes extents f. each_end extents (λ far. no_bad_file at (inl record { bytes = bytes; extents = extents; file = f; out = inr far }));
-    apart = λ at bytes extents f one two offset.
-        same_place (λ i j. ShareOffset extents i j offset) (turned_share extents offset)
-        (λ i j less h. no_bad_file at (inr record { bytes = bytes; extents = extents; file = f; overlap = record { earlier = i; later = j; two = less; offset = offset; shared = h } }))
-        one two;
-  }
-
   agrees : Agrees index
-  agrees = record { uids = uids; names = names; files = files }
+  agrees = record { uids = uids; names = names; files = files_are index.nodes no_bad_file }
 
 pub no_fault_agrees : (index : Index) → ((a : Fault) → ¬ IsToldOf index a) → Agrees index
 no_fault_agrees index none = agrees index none

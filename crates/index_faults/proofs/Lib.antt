@@ -1,0 +1,9 @@
+pub mod Firsts
+pub mod Keys
+pub mod UidSteps
+pub mod NameSteps
+pub mod Exchanged
+pub mod ExtentSteps
+pub mod SortedExtents
+pub mod FileSteps
+pub mod Whole

@@ -1,0 +1,59 @@
+-- What a search through the nodes tells: the UID of the first node that is wrong.
+use Rattle.std.specs.Prelude.{◌≡◌, ◌⊎◌, ℕ, ◌<◌, ◌^◌, List, Option, Some, None}
+use Rattle.index_model.specs.declared.faults.Fault.{Fault}
+use Rattle.index_model.specs.declared.faults.Fault.TheVariants as faults
+use Rattle.index_model.specs.declared.nodes.Kind.{Kind}
+use Rattle.index_model.specs.declared.nodes.Kind.TheVariants as kinds
+use Rattle.index_model.specs.declared.nodes.Node.{Node}
+use Rattle.index_model.specs.declared.nodes.RawExtent.{RawExtent}
+use Rattle.index_model.specs.Extents.{EndsTooFar, HasOverlap, IsBadFile, IsOutOfBounds, Overlap}
+use Rattle.index_model.specs.Places.{IsFirst}
+use Rattle.index_model.specs.Refusals.{IsTold}
+
+-- P holds nowhere before this place
+abbrev pub IsNowhereBefore : (ℕ → Type 0) → ℕ → Type 0
+IsNowhereBefore P at = (before : ℕ) → before < at → ¬ P before
+
+-- the node at the first place where P holds has this UID
+pub record IsToldFirst (P : ℕ → Type 0) (nodes : List Node) (uid : ℕ) : Type 0 where
+  pub at : ℕ
+  pub first : IsFirst P at
+  pub told : IsTold nodes at uid
+
+-- the UID of the node at the first place where P holds, or none where it holds nowhere
+abbrev pub TellsFirst : (ℕ → Type 0) → List Node → Option ℕ → Type 0
+TellsFirst P nodes None = (at : ℕ) → ¬ P at
+TellsFirst P nodes (Some uid) = IsToldFirst P nodes uid
+
+-- a file of so many bytes with these extents is too long, or some extent ends too far
+abbrev pub IsOut : ℕ → List RawExtent → Type 0
+IsOut bytes extents = (2 ^ 40 < bytes) ⊎ EndsTooFar extents
+
+-- what is told of a file with this UID, and none where nothing is wrong with it
+abbrev pub TellsFile : ℕ → ℕ → List RawExtent → Option Fault → Type 0
+TellsFile uid bytes extents None = (¬ IsOut bytes extents) × (¬ Overlap extents)
+TellsFile uid bytes extents (Some (faults.Uid n)) = ⊥
+TellsFile uid bytes extents (Some (faults.SameName n)) = ⊥
+TellsFile uid bytes extents (Some (faults.Extent n)) = (n ≡ uid) × IsOut bytes extents
+TellsFile uid bytes extents (Some (faults.Overlap n)) = (n ≡ uid) × ((¬ IsOut bytes extents) × Overlap extents)
+
+-- what is told of a node with this UID: of a file as above, and of any other node nothing
+abbrev pub TellsNode : ℕ → Kind → Option Fault → Type 0
+TellsNode uid kinds.Dir fault = fault ≡ None
+TellsNode uid (kinds.Link text) fault = fault ≡ None
+TellsNode uid (kinds.File bytes extents) fault = TellsFile uid bytes extents fault
+
+-- the first bad file has this UID, and Wrong holds of its place
+pub record IsToldBad (nodes : List Node) (uid : ℕ) (Wrong : ℕ → Type 0) : Type 0 where
+  pub at : ℕ
+  pub first : IsFirst (IsBadFile nodes) at
+  pub told : IsTold nodes at uid
+  pub wrong : Wrong at
+
+-- what is told of the first bad file, or none where each file is right
+abbrev pub TellsBad : List Node → Option Fault → Type 0
+TellsBad nodes None = (at : ℕ) → ¬ IsBadFile nodes at
+TellsBad nodes (Some (faults.Uid n)) = ⊥
+TellsBad nodes (Some (faults.SameName n)) = ⊥
+TellsBad nodes (Some (faults.Extent n)) = IsToldBad nodes n (IsOutOfBounds nodes)
+TellsBad nodes (Some (faults.Overlap n)) = IsToldBad nodes n (λ at. (¬ IsOutOfBounds nodes at) × HasOverlap nodes at)

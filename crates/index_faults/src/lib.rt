@@ -1,0 +1,16 @@
+//! What is wrong with an index as a whole (LTFS 2.4 on the index): with its UIDs, with its names,
+//! or with the extents of its files.
+#![tactic(auto)]
+
+mod extents;
+mod faults;
+mod names;
+#[cfg(test)]
+mod rows;
+#[cfg(test)]
+mod slow;
+#[cfg(test)]
+mod tests;
+mod uids;
+
+pub use faults::first_fault;
