@@ -1,12 +1,16 @@
 -- What a reader keeps while it goes from piece to piece.
-use Rattle.std.specs.Prelude.{◌≡◌, ℕ, List, [], ◌∷◌, ◌++◌, Bool, true, false, map, length, Err}
+use Rattle.std.specs.Prelude.{◌≡◌, ◌⊎◌, IsUtf8, ℕ, List, [], ◌∷◌, ◌++◌, Bool, true, false, map, length, Err}
 use Rattle.doc_fields.specs.declared.tags.Tag.{Tag}
 use Rattle.doc_children.specs.Children.{children_of}
 use Rattle.index_model.specs.declared.errors.IndexErr.{IndexErr}
 use Rattle.index_model.specs.declared.schema.Place.TheVariants as place
 use Rattle.index_model.specs.Schema.{tag_of}
 use Rattle.index_model.specs.Pieces.{Piece, opens, whole, closes, leaf, Frame, piece_at}
-use Rattle.index_model.specs.Documents.{Accepts, Point, Reaches, fresh, with_child}
+use Rattle.index_model.specs.Documents.{Accepts, Point, Reaches, fresh, with_child, StopsAt, fault_told}
+use Rattle.index_model.specs.declared.faults.Fault.{Fault}
+use Rattle.index_model.specs.declared.indexes.Index.{Index}
+use Rattle.index_model.specs.Refusals.{IsToldOf}
+use Rattle.index_model.specs.Values.{value_of, volume_of}
 use Rattle.index_read.specs.declared.pieces.Frame as code_frame
 use Rattle.index_read.specs.declared.walking.Level as code_level
 use Rattle.index_read.specs.Told.{State, Level, Tell, blank, node_in, outermost}
@@ -73,3 +77,23 @@ pub record IsWhole (text : List ℕ) (s : State) : Type 0 where
   pub ps : List Piece
   pub accepts : Accepts text ps
   pub tells : Tell ps outermost blank [] s
+
+-- the text is a whole document in UTF-8, and its pieces tell this index
+pub record IsReadAs (text : List ℕ) (index : Index) : Type 0 where
+  pub valid : IsUtf8 text
+  pub state : State
+  pub whole : IsWhole text state
+  pub volume : volume_of index ≡ state.volume
+  pub nodes : map value_of index.nodes ≡ state.nodes
+
+-- the same, with a fault of the whole index
+pub record IsFaulty (text : List ℕ) (e : IndexErr) : Type 0 where
+  pub index : Index
+  pub read : IsReadAs text index
+  pub fault : Fault
+  pub told : IsToldOf index fault
+  pub same : e ≡ fault_told fault
+
+-- why a text isn't read
+abbrev pub IsRefused : List ℕ → IndexErr → Type 0
+IsRefused text e = StopsAt text e ⊎ IsFaulty text e

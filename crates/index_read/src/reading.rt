@@ -2,18 +2,20 @@
 
 ghost use Rattle.std.specs.Prelude.{◌≡◌, ◌≤◌, ◌<◌, length, map, IfOk, IfErr, IsUtf8};
 ghost use Rattle.index_model.specs.Documents.{Halts, is_index, readable, root_at};
+ghost use Rattle.index_model.specs.Valid.{Agrees};
 ghost use Rattle.index_model.specs.Values.{value_of, volume_of};
 ghost use Rattle.index_read.specs.Answers.{UnlessMemory};
 ghost use Rattle.index_read.specs.Drafts.{state_of};
-ghost use Rattle.index_read.specs.Walks.{IsWhole};
+ghost use Rattle.index_read.specs.Walks.{IsReadAs, IsRefused, IsWhole};
 
 use crate::drafts::Draft;
 use crate::walking::walk;
 use doc_fields::{Tag, Why, read_head, read_name, read_rest, skip_space};
+use index_faults::first_fault;
 use index_model::{Index, IndexErr};
 use std::alloc::Global;
 use std::str;
-use tape_types::List;
+use tape_types::{List, NoMemory};
 
 fn is_index(tag: Tag) -> bool
     ensures { result ≡ is_index tag }
@@ -97,5 +99,27 @@ fn into_index(draft: Draft) -> Index
     Index {
         nodes: List::from_vec(draft.nodes),
         ..draft.index
+    }
+}
+
+/// Reads all of a text.
+pub fn read(alloc: Global, text: &[u8]) -> Result<Index, IndexErr>
+    ensures found { IfOk result (λ index. IsReadAs text.now index) }
+    ensures agrees { IfOk result (λ index. Agrees index) }
+    ensures refused { IfErr result (λ e. UnlessMemory e (IsRefused text.now e)) }
+{
+    let front = readable(text);
+    let draft = match whole(alloc, front) {
+        Ok(draft) => draft,
+        Err(fault) => return Err(fault),
+    };
+    if front.len() != text.len() {
+        return Err(IndexErr::Syntax(front.len()));
+    }
+    let index = into_index(draft);
+    match first_fault(alloc, &index) {
+        Ok(None) => Ok(index),
+        Ok(Some(fault)) => Err(IndexErr::from(fault)),
+        Err(NoMemory) => Err(IndexErr::NoMemory),
     }
 }

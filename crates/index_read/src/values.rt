@@ -105,7 +105,7 @@ fn is_name(form: Form, name: &str) -> bool
     }
 }
 
-#[tactic(auto, using(crate::proofs::Exact::one_refusal))]
+
 fn is_encoded(attribute: Attribute) -> bool
     ensures { result ≡ is_encoded attribute }
 {
