@@ -7,3 +7,4 @@ pub mod Inversion
 pub mod Trees
 pub mod Once
 pub mod Fits
+pub mod Facts
