@@ -8,3 +8,4 @@ pub mod Trees
 pub mod Once
 pub mod Fits
 pub mod Facts
+pub mod Files
