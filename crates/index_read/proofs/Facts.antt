@@ -79,7 +79,7 @@ not_own p (bare q) t fits unknown = refl
 not_own p (nested q is) t fits unknown = refl
 
 -- what has stood there and may not repeat doesn't follow
-follows_once : (p : Place) (seen : List Tag) (t u : Tag) → MayFollow p seen u → t ≡ u → member t seen ≡ true → may_repeat p t ≡ false → ⊥
+pub follows_once : (p : Place) (seen : List Tag) (t u : Tag) → MayFollow p seen u → t ≡ u → member t seen ≡ true → may_repeat p t ≡ false → ⊥
 follows_once p seen t u follows same there once =
     let h : (member t seen && not (may_repeat p t)) ≡ false = subst (λ (x : Tag). (member x seen && not (may_repeat p x)) ≡ false) (sym same) follows.once in
     let bad : true ≡ false = rw (there, once) at h in

@@ -9,3 +9,4 @@ pub mod Once
 pub mod Fits
 pub mod Facts
 pub mod Files
+pub mod Nodes

@@ -105,7 +105,7 @@ fn is_name(form: Form, name: &str) -> bool
     }
 }
 
-#[tactic(auto, using(crate::proofs::Fits::must_tell, crate::proofs::Facts::one_facts, crate::proofs::Files::only_file))]
+#[tactic(auto, using(crate::proofs::Fits::must_tell, crate::proofs::Facts::one_facts, crate::proofs::Nodes::one_contents, crate::proofs::Nodes::root_tells))]
 fn is_encoded(attribute: Attribute) -> bool
     ensures { result ≡ is_encoded attribute }
 {
