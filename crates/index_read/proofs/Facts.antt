@@ -4,19 +4,18 @@ use Rattle.std.proofs.lemmas.Bool.{eqb-true}
 use Rattle.tape_types.specs.declared.times.Civil.{Civil}
 use Rattle.doc_fields.specs.declared.tags.Tag.{Tag}
 use Rattle.doc_fields.specs.declared.tags.Tag.TheVariants.{FileUid, Name, CreationTime, ChangeTime, ModifyTime, AccessTime, BackupTime, ReadOnly}
-use Rattle.doc_children.specs.Children.{code, member, first_missing}
+use Rattle.doc_children.specs.Children.{code, member}
 use Rattle.index_model.specs.declared.schema.Place.{Place}
 use Rattle.index_model.specs.declared.schema.Place.TheVariants as place
-use Rattle.index_model.specs.declared.schema.Form.{Form}
 use Rattle.index_model.specs.declared.schema.Form.TheVariants as form
 use Rattle.index_model.specs.declared.schema.Child.{Child}
 use Rattle.index_model.specs.declared.schema.Child.TheVariants as child
-use Rattle.index_model.specs.Schema.{rule, required, tag_of, may_repeat, place_code}
+use Rattle.index_model.specs.Schema.{rule, tag_of, may_repeat, place_code}
 use Rattle.index_model.specs.Values.{NodeFacts}
 use Rattle.index_model.specs.Pieces.{Val, words, time, letter, number, truth}
 use Rattle.index_model.specs.Grammar.{Item, plain, bare, nested, Items, no_items, item, item_tag, MayFollow, or_else, own, told, own_children, inside, TellsFacts}
 use Rattle.index_read.specs.Told.{words_or, time_or, letter_or, number_or, truth_or, facts_with, blank_times}
-use Rattle.index_read.proofs.Fits.{HasForm, FitsItem, Fits, same_tag, must_tell, told_form}
+use Rattle.index_read.proofs.Fits.{FitsItem, Fits, same_tag, must_tell, told_form}
 
 -- ---- one value after the other
 
@@ -131,6 +130,7 @@ no_inside p seen (item i is) q fits there once =
     by : (r : Place) (x : Items) → MayFollow p seen (tag_of r) → (b : Bool) → (place_code q == place_code r) ≡ b → (if b then Some x else None) ≡ None
     by r x follows true h = absurd (follows_once p seen (tag_of q) (tag_of r) follows (ap tag_of (same_place q r h)) there once)
     by r x follows false h = refl
+
     now : (i : Item) → MayFollow p seen (item_tag i) → own_children q i ≡ None
     now (plain t v) follows = refl
     now (bare r) follows = by r no_items follows (place_code q == place_code r) refl
@@ -144,10 +144,12 @@ inside_fits p seen (item i is) q x fits e = by (inside q is) refl (λ y. inside_
     one : (r : Place) (y : Items) → Fits r [] y → (b : Bool) → (place_code q == place_code r) ≡ b → (if b then Some y else None) ≡ Some x → Fits q [] x
     one r y f true h o = let same : y ≡ x = cc (o) in subst (λ (z : Items). Fits q [] z) same (subst (λ (s : Place). Fits s [] y) (sym (same_place q r h)) f)
     one r y f false h o = absurd cc
+
     now : (i : Item) → FitsItem p i → own_children q i ≡ Some x → Fits q [] x
     now (plain t v) f o = absurd cc
     now (bare r) f o = one r no_items f.1 (place_code q == place_code r) refl o
     now (nested r y) f o = one r y f.1 (place_code q == place_code r) refl o
+
     by : (o : Option Items) → inside q is ≡ o → ((y : Items) → inside q is ≡ Some y → Fits q [] y) → or_else o (own_children q i) ≡ Some x → Fits q [] x
     by None h later o = now i fits.0 o
     by (Some y) h later o = let same : y ≡ x = cc (o) in subst (λ (z : Items). Fits q [] z) same (later y h)
@@ -212,14 +214,16 @@ file_forms seen is fits = record {
 
 pub facts_step : (i : Item) (is : Items) (f : NodeFacts) → FactForms is → facts_from (item i is) f ≡ facts_from is (facts_with i f)
 facts_step i is f forms =
-    rw (number_step f.uid (own FileUid i) (told FileUid is) forms.uid,
+    rw (
+      number_step f.uid (own FileUid i) (told FileUid is) forms.uid,
       words_step f.name (own Name i) (told Name is) forms.name,
       time_step f.times.create (own CreationTime i) (told CreationTime is) forms.create,
       time_step f.times.change (own ChangeTime i) (told ChangeTime is) forms.change,
       time_step f.times.modify (own ModifyTime i) (told ModifyTime is) forms.modify,
       time_step f.times.access (own AccessTime i) (told AccessTime is) forms.access,
       time_step f.times.backup (own BackupTime i) (told BackupTime is) forms.backup,
-      truth_step f.readonly (own ReadOnly i) (told ReadOnly is) forms.readonly) refl
+      truth_step f.readonly (own ReadOnly i) (told ReadOnly is) forms.readonly,
+    ) refl
 
 -- a parent among the children tells none
 pub facts_parent : (q : Place) (x is : Items) (f : NodeFacts) → facts_from (item (nested q x) is) f ≡ facts_from is f

@@ -8,5 +8,6 @@ pub mod Trees
 pub mod Once
 pub mod Fits
 pub mod Facts
+pub mod Extents
 pub mod Files
 pub mod Nodes

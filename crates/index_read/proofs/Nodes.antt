@@ -1,5 +1,5 @@
 -- What the root directory's children tell is the list of the nodes in it.
-use Rattle.std.proofs.Common.{◌≡◌, ◌⊎◌, ℕ, ◌+◌, List, [], ◌∷◌, ◌++◌, length, Bool, true, false, Option, Some, None, inl, inr, refl, sym, ap, subst, ◌∙◌, append_assoc, length-append, arith}
+use Rattle.std.proofs.Common.{◌≡◌, ℕ, ◌+◌, List, [], ◌∷◌, ◌++◌, length, true, refl, sym, ap, subst, ◌∙◌, append_assoc, length-append, arith}
 use Rattle.std.proofs.lemmas.List.{append-nil}
 use Rattle.doc_fields.specs.declared.tags.Tag.{Tag}
 use Rattle.doc_fields.specs.declared.tags.Tag.TheVariants.{LtfsLabel, Directory, File, Name, Symlink, Contents, ExtendedAttributes}
@@ -10,14 +10,15 @@ use Rattle.index_model.specs.declared.schema.Place.TheVariants as place
 use Rattle.index_model.specs.declared.schema.Form.{Form}
 use Rattle.index_model.specs.declared.schema.Form.TheVariants as form
 use Rattle.index_model.specs.declared.schema.Child.TheVariants as child
-use Rattle.index_model.specs.Schema.{rule, tag_of, contents_rule, directory_rule}
+use Rattle.index_model.specs.Schema.{tag_of, contents_rule, directory_rule}
 use Rattle.index_model.specs.Values.{NodeFacts, NodeValue, Nodes, no_nodes, directory, file, link, value_in, count, listed}
 use Rattle.index_model.specs.Pieces.{Val}
-use Rattle.index_model.specs.Grammar.{Item, plain, bare, nested, Items, no_items, item, item_tag, MayFollow, own, told, TellsFacts, TellsNodes, TellsContents}
+use Rattle.index_model.specs.Grammar.{Item, plain, bare, nested, Items, no_items, item, item_tag, told, TellsFacts, TellsNodes, TellsContents}
 use Rattle.index_read.specs.Told.{State, facts_with, kind_with, link_or, begun, item_told, items_told}
 use Rattle.index_read.proofs.Fits.{HasForm, FitsItem, Fits}
 use Rattle.index_read.proofs.Facts.{not_own, follows_once, member_later, facts_from, facts_in, blank_facts, directory_forms, directory_facts, facts_step, facts_parent, only_facts}
-use Rattle.index_read.proofs.Files.{nodes_with, attributes_told, leaf_changes, file_told, file_in, file_kind, file_listed, file_tells, only_file}
+use Rattle.index_read.proofs.Extents.{nodes_with}
+use Rattle.index_read.proofs.Files.{attributes_told, leaf_changes, file_told, file_in, file_kind, file_listed, file_tells, only_file}
 
 -- the nodes that children tell
 abbrev mutual
