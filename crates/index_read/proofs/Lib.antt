@@ -7,6 +7,10 @@ pub mod Inversion
 pub mod Trees
 pub mod Once
 pub mod Fits
+pub mod Facts
+pub mod Extents
+pub mod Files
+pub mod Nodes
 pub mod Volume
 pub mod Within
 pub mod Tells
