@@ -16,6 +16,7 @@ use Rattle.index_model.specs.Documents.{Accepts, Point, Reaches}
 use Rattle.index_model.specs.Grammar.{Item, plain, bare, nested, Items, no_items, item, item_tag, or_else, own_children, inside, TellsFacts, TellsContents, TellsVolume, Spells}
 use Rattle.index_read.specs.Told.{State, Tell, blank, blank_spot, outermost, begun, ended, item_told, items_told}
 use Rattle.index_read.specs.Walks.{IsWhole}
+use Rattle.index_read.proofs.Nodes.{root_tells}
 use Rattle.index_read.proofs.Fits.{Fits, FitsItem, same_tag, missing_member, all_fit}
 use Rattle.index_read.proofs.Volume.{with_here, here_told, with_back, back_told}
 use Rattle.index_read.proofs.Within.{policy_is, volume_is}
@@ -82,12 +83,6 @@ pub record RootTold (is : Items) (node : ℕ) (s : State) : Type 0 where
   pub contents : TellsContents items nodes
   pub list : (items_told place.Index node is s).nodes ≡ value_in 0 facts kinds.Dir ∷ listed 0 1 nodes
 
--- the children of the root directory tell it, where no node has begun before
-abbrev pub RootTells : Type 0
-RootTells = (is : Items) (node : ℕ) (s : State) → Fits place.Root [] is → s.nodes ≡ []
-    → (root : NodeFacts) × (nodes : Nodes) × TellsFacts is root × TellsContents is nodes
-    × ((items_told place.Root 0 is (begun place.Root node s)).nodes ≡ value_in 0 root kinds.Dir ∷ listed 0 1 nodes)
-
 root_item : (i : Item) → FitsItem place.Index i → (code Directory == code (item_tag i)) ≡ true → (js : Items) × (i ≡ nested place.Root js)
 root_item (plain t v) fits e = absurd (let same = same_tag Directory t e in let bad : ◌≡◌ {A = Child} (child.Parent place.Root) (child.Leaf fits.0) = ap (rule place.Index) same ∙ fits.1 in cc)
 root_item (bare place.Root) fits e = absurd (let bad = fits.1 in cc)
@@ -97,90 +92,89 @@ root_item (nested place.Root js) fits e = (js, refl)
 root_item (nested place.Directory js) fits e = absurd (let bad = fits.0 in cc)
 root_item (nested _ js) fits e = absurd (let bad = e in cc)
 
-module _ (root_tells : RootTells) where
-  first_root : (js : Items) (seen : List Tag) (more : Items) (node : ℕ) (s : State) → Fits place.Index seen (item (nested place.Root js) more) → s.nodes ≡ [] → RootTold (item (nested place.Root js) more) node s
-  first_root js seen more node s fits none =
-      let after = no_root (Directory ∷ seen) more node (item_told place.Index node (nested place.Root js) s) fits.2 refl in
-      let t = root_tells js node s fits.0.1 none in
-      let zero : length s.nodes ≡ 0 = ap (λ l. length l) none in
-      let list : (items_told place.Root (length s.nodes) js (begun place.Root node s)).nodes ≡ value_in 0 t.0 kinds.Dir ∷ listed 0 1 t.1 = subst (λ n. (items_told place.Root n js (begun place.Root node s)).nodes ≡ value_in 0 t.0 kinds.Dir ∷ listed 0 1 t.1) (sym zero) t.4 in
-      record {
-        items = js;
-        children = rw (after.children) refl;
-        facts = t.0;
-        nodes = t.1;
-        tells = t.2;
-        contents = t.3;
-        list = after.nodes ∙ list;
-      }
+first_root : (js : Items) (seen : List Tag) (more : Items) (node : ℕ) (s : State) → Fits place.Index seen (item (nested place.Root js) more) → s.nodes ≡ [] → RootTold (item (nested place.Root js) more) node s
+first_root js seen more node s fits none =
+    let after = no_root (Directory ∷ seen) more node (item_told place.Index node (nested place.Root js) s) fits.2 refl in
+    let t = root_tells js node s fits.0.1 none in
+    let zero : length s.nodes ≡ 0 = ap (λ l. length l) none in
+    let list : (items_told place.Root (length s.nodes) js (begun place.Root node s)).nodes ≡ value_in 0 t.0 kinds.Dir ∷ listed 0 1 t.1 = subst (λ n. (items_told place.Root n js (begun place.Root node s)).nodes ≡ value_in 0 t.0 kinds.Dir ∷ listed 0 1 t.1) (sym zero) t.4 in
+    record {
+      items = js;
+      children = rw (after.children) refl;
+      facts = t.0;
+      nodes = t.1;
+      tells = t.2;
+      contents = t.3;
+      list = after.nodes ∙ list;
+    }
 
-  behind : (i : Item) (is : Items) (node : ℕ) (s : State) → FitsItem place.Index i → (code Directory == code (item_tag i)) ≡ false → RootTold is node (item_told place.Index node i s) → RootTold (item i is) node s
-  behind i is node s fits other r = record {
-    items = r.items;
-    children = rw (r.children) refl;
-    facts = r.facts;
-    nodes = r.nodes;
-    tells = r.tells;
-    contents = r.contents;
-    list = r.list;
-  }
+behind : (i : Item) (is : Items) (node : ℕ) (s : State) → FitsItem place.Index i → (code Directory == code (item_tag i)) ≡ false → RootTold is node (item_told place.Index node i s) → RootTold (item i is) node s
+behind i is node s fits other r = record {
+  items = r.items;
+  children = rw (r.children) refl;
+  facts = r.facts;
+  nodes = r.nodes;
+  tells = r.tells;
+  contents = r.contents;
+  list = r.list;
+}
 
-  pub root_told : (seen : List Tag) (is : Items) (node : ℕ) (s : State) → Fits place.Index seen is → member Directory seen ≡ false → s.nodes ≡ [] → RootTold is node s
-  root_told seen no_items node s fits new none = absurd (let bad : true ≡ false = sym (missing_member Directory (required place.Index) seen fits refl) ∙ new in cc)
-  root_told seen (item i is) node s fits new none =
-      go (code Directory == code (item_tag i)) refl (λ other. root_told (item_tag i ∷ seen) is node (item_told place.Index node i s) fits.2 (rw (other, new) refl) (other_nodes i node s fits.0 other ∙ none))
-    where
-      go : (b : Bool) → (code Directory == code (item_tag i)) ≡ b → ((code Directory == code (item_tag i)) ≡ false → RootTold is node (item_told place.Index node i s)) → RootTold (item i is) node s
-      go false e later = behind i is node s fits.0 e (later e)
-      go true e later =
-          let r = root_item i fits.0 e in
-          subst (λ x. Fits place.Index seen (item x is) → RootTold (item x is) node s) (sym r.1) (λ f. first_root r.0 seen is node s f none) fits
+pub root_told : (seen : List Tag) (is : Items) (node : ℕ) (s : State) → Fits place.Index seen is → member Directory seen ≡ false → s.nodes ≡ [] → RootTold is node s
+root_told seen no_items node s fits new none = absurd (let bad : true ≡ false = sym (missing_member Directory (required place.Index) seen fits refl) ∙ new in cc)
+root_told seen (item i is) node s fits new none =
+    go (code Directory == code (item_tag i)) refl (λ other. root_told (item_tag i ∷ seen) is node (item_told place.Index node i s) fits.2 (rw (other, new) refl) (other_nodes i node s fits.0 other ∙ none))
+  where
+    go : (b : Bool) → (code Directory == code (item_tag i)) ≡ b → ((code Directory == code (item_tag i)) ≡ false → RootTold is node (item_told place.Index node i s)) → RootTold (item i is) node s
+    go false e later = behind i is node s fits.0 e (later e)
+    go true e later =
+        let r = root_item i fits.0 e in
+        subst (λ x. Fits place.Index seen (item x is) → RootTold (item x is) node s) (sym r.1) (λ f. first_root r.0 seen is node s f none) fits
 
-  -- ---- the whole
+-- ---- the whole
 
-  nothing_left : (text : List ℕ) (qs : List Piece) (at n : ℕ) (to : Point) → Reaches text qs at [] n to → (qs ≡ []) × (at ≡ to.at)
-  nothing_left text [] at n to r = (refl, sym (ap (λ (x : Point). x.at) r))
-  nothing_left text (q ∷ qs) at n to r = absurd r
+nothing_left : (text : List ℕ) (qs : List Piece) (at n : ℕ) (to : Point) → Reaches text qs at [] n to → (qs ≡ []) × (at ≡ to.at)
+nothing_left text [] at n to r = (refl, sym (ap (λ (x : Point). x.at) r))
+nothing_left text (q ∷ qs) at n to r = absurd r
 
-  -- what a whole document spells, which is what its pieces tell
-  pub record Assembled (text : List ℕ) (s : State) : Type 0 where
-    pub value : IndexValue
-    pub spells : Spells text value
-    pub volume : value.volume ≡ s.volume
-    pub nodes : all_nodes value ≡ s.nodes
+-- what a whole document spells, which is what its pieces tell
+pub record Assembled (text : List ℕ) (s : State) : Type 0 where
+  pub value : IndexValue
+  pub spells : Spells text value
+  pub volume : value.volume ≡ s.volume
+  pub nodes : all_nodes value ≡ s.nodes
 
-  pub assembled : (text : List ℕ) (s : State) → IsUtf8 text → IsWhole text s → Assembled text s
-  assembled text s valid w =
-      let o = w.accepts.opened in
-      let p = parse (length w.ps) w.ps text place.Index [] [] o.inside 0 w.accepts.point (omega arith) w.accepts.closed o.reaches in
-      let q = nothing_left text p.qs p.next _ w.accepts.point p.rest in
-      let fits = all_fit text place.Index [] o.inside p.items p.end p.children in
-      let r = root_told [] p.items 0 blank fits refl refl in
-      let pieces : w.ps ≡ all_pieces p.items ++ closes ∷ [] = p.split ∙ ap (λ l. all_pieces p.items ++ closes ∷ l) q.0 in
-      let told : Tell w.ps outermost blank [] (items_told place.Index 0 p.items blank) = subst (λ l. Tell l outermost blank [] (items_told place.Index 0 p.items blank)) (sym pieces) (items_tell place.Index 0 [] p.items blank) in
-      let same : items_told place.Index 0 p.items blank ≡ s = tell_same w.ps outermost blank [] _ [] s told w.tells in
-      let volume = volume_is [] p.items 0 blank fits in
-      record {
-        value = record { volume = (items_told place.Index 0 p.items blank).volume; root = r.facts; inside = r.nodes };
-        spells = record {
-          valid = valid;
-          from = o.from;
-          head_is = o.head_is;
-          start = o.inside;
-          root_is = o.root_is;
-          items = p.items;
-          end = p.end;
-          children = p.children;
-          after = p.next;
-          ends = p.ends;
-          ended = ap (space_end text) q.1 ∙ w.accepts.ended;
-          volume = subst (TellsVolume p.items) (sym volume) (volume_tells p.items fits);
-          root_items = r.items;
-          root = r.children;
-          facts = r.tells;
-          contents = r.contents;
-          few = omega (arith, p.few (omega arith));
-        };
-        volume = ap (λ x. x.volume) same;
-        nodes = sym r.list ∙ ap (λ x. x.nodes) same;
-      }
+pub assembled : (text : List ℕ) (s : State) → IsUtf8 text → IsWhole text s → Assembled text s
+assembled text s valid w =
+    let o = w.accepts.opened in
+    let p = parse (length w.ps) w.ps text place.Index [] [] o.inside 0 w.accepts.point (omega arith) w.accepts.closed o.reaches in
+    let q = nothing_left text p.qs p.next _ w.accepts.point p.rest in
+    let fits = all_fit text place.Index [] o.inside p.items p.end p.children in
+    let r = root_told [] p.items 0 blank fits refl refl in
+    let pieces : w.ps ≡ all_pieces p.items ++ closes ∷ [] = p.split ∙ ap (λ l. all_pieces p.items ++ closes ∷ l) q.0 in
+    let told : Tell w.ps outermost blank [] (items_told place.Index 0 p.items blank) = subst (λ l. Tell l outermost blank [] (items_told place.Index 0 p.items blank)) (sym pieces) (items_tell place.Index 0 [] p.items blank) in
+    let same : items_told place.Index 0 p.items blank ≡ s = tell_same w.ps outermost blank [] _ [] s told w.tells in
+    let volume = volume_is [] p.items 0 blank fits in
+    record {
+      value = record { volume = (items_told place.Index 0 p.items blank).volume; root = r.facts; inside = r.nodes };
+      spells = record {
+        valid = valid;
+        from = o.from;
+        head_is = o.head_is;
+        start = o.inside;
+        root_is = o.root_is;
+        items = p.items;
+        end = p.end;
+        children = p.children;
+        after = p.next;
+        ends = p.ends;
+        ended = ap (space_end text) q.1 ∙ w.accepts.ended;
+        volume = subst (TellsVolume p.items) (sym volume) (volume_tells p.items fits);
+        root_items = r.items;
+        root = r.children;
+        facts = r.tells;
+        contents = r.contents;
+        few = omega (arith, p.few (omega arith));
+      };
+      volume = ap (λ x. x.volume) same;
+      nodes = sym r.list ∙ ap (λ x. x.nodes) same;
+    }

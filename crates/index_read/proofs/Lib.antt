@@ -18,3 +18,4 @@ pub mod Whole
 pub mod Assembled
 pub mod Same
 pub mod Exact
+pub mod Answered

@@ -1,6 +1,7 @@
 -- What the code's values stand for, and what a call may answer where reading gives a value or a refusal.
 use Rattle.std.specs.Prelude.{◌≡◌, ◌<◌, ℕ, true, Result, Ok, Err}
 use Rattle.tape_types.specs.Times.{civil_of}
+use Rattle.index_model.specs.declared.indexes.Index.{Index}
 use Rattle.index_model.specs.declared.errors.IndexErr.{IndexErr}
 use Rattle.index_model.specs.declared.errors.IndexErr.TheVariants as errors
 use Rattle.index_model.specs.Schema.{is_node}
@@ -67,3 +68,8 @@ UnlessMemory (errors.SameName n) P = P
 UnlessMemory (errors.Extent n) P = P
 UnlessMemory (errors.Overlap n) P = P
 UnlessMemory errors.NoMemory P = Unit {0}
+
+-- the index was read, or memory was refused
+abbrev pub IsReadOr : Result Index IndexErr → Index → Type 0
+IsReadOr (Ok read) index = read ≡ index
+IsReadOr (Err e) index = e ≡ errors.NoMemory

@@ -1,8 +1,12 @@
-//! The document of an index, read in one pass.
+//! The document of an index, read in one pass (LTFS 2.4 on the index).
 #![tactic(auto)]
 
 mod drafts;
+mod laws;
 mod pieces;
 mod reading;
 mod values;
 mod walking;
+
+pub use laws::texts_are_read_in_one_way;
+pub use reading::read_index;

@@ -4,7 +4,9 @@ ghost use Rattle.std.specs.Prelude.{◌≡◌, ◌≤◌, ◌<◌, length, map, 
 ghost use Rattle.index_model.specs.Documents.{Halts, is_index, readable, root_at};
 ghost use Rattle.index_model.specs.Valid.{Agrees};
 ghost use Rattle.index_model.specs.Values.{value_of, volume_of};
-ghost use Rattle.index_read.specs.Answers.{UnlessMemory};
+ghost use Rattle.index_model.specs.declared.indexes.Index.{Index as IndexOf};
+ghost use Rattle.index_model.specs.Grammar.{IndexText, Stops};
+ghost use Rattle.index_read.specs.Answers.{IsReadOr, UnlessMemory};
 ghost use Rattle.index_read.specs.Drafts.{state_of};
 ghost use Rattle.index_read.specs.Walks.{IsReadAs, IsRefused, IsWhole};
 
@@ -103,7 +105,7 @@ fn into_index(draft: Draft) -> Index
 }
 
 /// Reads all of a text.
-pub fn read(alloc: Global, text: &[u8]) -> Result<Index, IndexErr>
+fn read(alloc: Global, text: &[u8]) -> Result<Index, IndexErr>
     ensures found { IfOk result (λ index. IsReadAs text.now index) }
     ensures agrees { IfOk result (λ index. Agrees index) }
     ensures refused { IfErr result (λ e. UnlessMemory e (IsRefused text.now e)) }
@@ -122,4 +124,22 @@ pub fn read(alloc: Global, text: &[u8]) -> Result<Index, IndexErr>
         Ok(Some(fault)) => Err(IndexErr::from(fault)),
         Err(NoMemory) => Err(IndexErr::NoMemory),
     }
+}
+
+/// Reads the index that a text is (LTFS 2.4 on the index). The index is valid but for its UUID,
+/// its pointers and its extents, which only its volume can tell wrong.
+///
+/// # Errors
+///
+/// What is wrong with the first piece that doesn't fit, a tag of a parent or a whole leaf: the
+/// first variant that holds of it, in the order `Unknown`, `Twice`, `Version`, `TooMany`,
+/// `Missing`, `Number`, `Name`, `Syntax`. Where all of the text is read, the first fault of the
+/// index as a whole: `Uid`, `SameName`, `Extent` or `Overlap`. `NoMemory` where memory is
+/// refused.
+pub fn read_index(alloc: Global, text: &[u8]) -> Result<Index, IndexErr>
+    ensures found { IfOk result (λ index. IndexText text.now index) }
+    ensures only { (index : IndexOf) → IndexText text.now index → IsReadOr result index }
+    ensures refused { IfErr result (λ e. UnlessMemory e (Stops text.now e)) }
+{
+    read(alloc, text)
 }

@@ -105,7 +105,6 @@ fn is_name(form: Form, name: &str) -> bool
     }
 }
 
-
 fn is_encoded(attribute: Attribute) -> bool
     ensures { result ≡ is_encoded attribute }
 {
