@@ -16,7 +16,7 @@ use Rattle.index_model.specs.Values.{NodeFacts, NodeValue, value_in}
 use Rattle.index_model.specs.Grammar.{Item, plain, bare, nested, Items, no_items, item, own, told, TellsExtent, TellsExtents, HasExtents}
 use Rattle.index_read.specs.Told.{State, number_or, letter_or, extent_with, blank_extent, changed, begun, ended, one_more, with_extent, item_told, items_told}
 use Rattle.index_read.proofs.Fits.{Fits, must_tell, told_form}
-use Rattle.index_read.proofs.Facts.{number_step, letter_step, number_known, letter_known}
+use Rattle.index_read.proofs.OfForms.{number_step, letter_step, number_known, letter_known}
 
 pub changed_at : {X : Type 0} (front : List X) (x : X) (behind : List X) (f : X → X) → changed (length front) f (front ++ (x ∷ behind)) ≡ front ++ (f x ∷ behind)
 changed_at [] x behind f = refl

@@ -16,55 +16,7 @@ use Rattle.index_model.specs.Pieces.{Val, words, time, letter, number, truth}
 use Rattle.index_model.specs.Grammar.{Item, plain, bare, nested, Items, no_items, item, item_tag, MayFollow, or_else, own, told, own_children, inside, TellsFacts}
 use Rattle.index_read.specs.Told.{words_or, time_or, letter_or, number_or, truth_or, facts_with, blank_times}
 use Rattle.index_read.proofs.Fits.{FitsItem, Fits, same_tag, must_tell, told_form}
-
--- ---- one value after the other
-
--- where a value is told, it is of this kind
-abbrev pub IsOf : {A : Type 0} → (A → Val) → Option Val → Type 0
-IsOf {A} view o = (v : Val) → o ≡ Some v → (x : A) × (v ≡ view x)
-
-pub or_none : {X : Type 0} (o : Option X) → or_else o None ≡ o
-or_none (Some x) = refl
-or_none None = refl
-
-pub number_step : (a : ℕ) (early late : Option Val) → IsOf number late → number_or a (or_else late early) ≡ number_or (number_or a early) late
-number_step a early None of = refl
-number_step a early (Some v) of = let h = of v refl in rw h.1 refl
-
-pub letter_step : (a : ℕ) (early late : Option Val) → IsOf letter late → letter_or a (or_else late early) ≡ letter_or (letter_or a early) late
-letter_step a early None of = refl
-letter_step a early (Some v) of = let h = of v refl in rw h.1 refl
-
-pub words_step : (a : List ℕ) (early late : Option Val) → IsOf words late → words_or a (or_else late early) ≡ words_or (words_or a early) late
-words_step a early None of = refl
-words_step a early (Some v) of = let h = of v refl in rw h.1 refl
-
-pub time_step : (a : Civil) (early late : Option Val) → IsOf time late → time_or a (or_else late early) ≡ time_or (time_or a early) late
-time_step a early None of = refl
-time_step a early (Some v) of = let h = of v refl in rw h.1 refl
-
-pub truth_step : (a : Bool) (early late : Option Val) → IsOf truth late → truth_or a (or_else late early) ≡ truth_or (truth_or a early) late
-truth_step a early None of = refl
-truth_step a early (Some v) of = let h = of v refl in rw h.1 refl
-
--- a value of this kind is told
-abbrev pub IsTold : {A : Type 0} → (A → Val) → Option Val → Type 0
-IsTold {A} view o = (v : Val) × (o ≡ Some v) × ((x : A) × (v ≡ view x))
-
-pub number_known : (a : ℕ) (o : Option Val) → IsTold number o → o ≡ Some (number (number_or a o))
-number_known a o h = let e : o ≡ Some (number h.2.0) = h.1 ∙ ap (λ (v : Val). Some v) h.2.1 in rw e refl
-
-pub letter_known : (a : ℕ) (o : Option Val) → IsTold letter o → o ≡ Some (letter (letter_or a o))
-letter_known a o h = let e : o ≡ Some (letter h.2.0) = h.1 ∙ ap (λ (v : Val). Some v) h.2.1 in rw e refl
-
-pub words_known : (a : List ℕ) (o : Option Val) → IsTold words o → o ≡ Some (words (words_or a o))
-words_known a o h = let e : o ≡ Some (words h.2.0) = h.1 ∙ ap (λ (v : Val). Some v) h.2.1 in rw e refl
-
-pub time_known : (a : Civil) (o : Option Val) → IsTold time o → o ≡ Some (time (time_or a o))
-time_known a o h = let e : o ≡ Some (time h.2.0) = h.1 ∙ ap (λ (v : Val). Some v) h.2.1 in rw e refl
-
-pub truth_known : (a : Bool) (o : Option Val) → IsTold truth o → o ≡ Some (truth (truth_or a o))
-truth_known a o h = let e : o ≡ Some (truth h.2.0) = h.1 ∙ ap (λ (v : Val). Some v) h.2.1 in rw e refl
+use Rattle.index_read.proofs.OfForms.{IsOf, or_none, number_step, letter_step, words_step, time_step, truth_step, IsTold, number_known, letter_known, words_known, time_known, truth_known}
 
 -- ---- elements that aren't there
 

@@ -15,7 +15,8 @@ use Rattle.index_model.specs.Pieces.{Val, words}
 use Rattle.index_model.specs.Grammar.{Item, plain, bare, nested, Items, no_items, item, or_else, own, told, inside, TellsFile, TellsLink}
 use Rattle.index_read.specs.Told.{State, number_or, link_or, facts_with, kind_with, node_with, changed, item_told, items_told}
 use Rattle.index_read.proofs.Fits.{Fits, must_tell, own_form, told_form}
-use Rattle.index_read.proofs.Facts.{or_none, number_step, number_known, not_now, member_later, not_again, no_inside, inside_fits, facts_from, facts_in, file_forms, file_facts, facts_step, facts_parent, only_facts}
+use Rattle.index_read.proofs.Facts.{not_now, member_later, not_again, no_inside, inside_fits, facts_from, facts_in, file_forms, file_facts, facts_step, facts_parent, only_facts}
+use Rattle.index_read.proofs.OfForms.{or_none, number_step, number_known}
 use Rattle.index_read.proofs.Extents.{changed_at, extents_in, extents_of, extents_told, has_extents, nodes_with, only_has, with_none}
 
 -- ---- extended attributes

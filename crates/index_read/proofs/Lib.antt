@@ -1,5 +1,4 @@
 mod Names
-mod Seen
 mod Changes
 pub mod Steps
 pub mod Parents
@@ -7,6 +6,7 @@ pub mod Inversion
 pub mod Trees
 pub mod Once
 pub mod Fits
+pub mod OfForms
 pub mod Facts
 pub mod Extents
 pub mod Files

@@ -17,43 +17,17 @@ use Rattle.index_model.specs.Pieces.{Val, words, time, uuid, letter, number, tru
 use Rattle.index_model.specs.Grammar.{Items, told, inside, names_in, TellsMaybe, TellsSpot, TellsPolicy, TellsVolume}
 use Rattle.index_read.specs.Told.{words_or, words_told, time_or, uuid_or, letter_or, number_or, truth_or, lock_told, blank_spot, blank_policy, blank_volume}
 use Rattle.index_read.proofs.Fits.{HasForm, Fits, must_tell}
-use Rattle.index_read.proofs.Volume.{has_form, spot_told, policy_told}
-use Rattle.index_read.proofs.Within.{must_have, inside_fits, here_or, back_or, criteria_or, policy_or, volume_told}
-
--- ---- a leaf that must be there tells what is taken from it
-
-pub words_must : (o : Option Val) (a : List ℕ) → (v : Val) × (o ≡ Some v) × ((t : List ℕ) × (v ≡ words t)) → o ≡ Some (words (words_or a o))
-words_must o a h = rw (h.1, h.2.1) refl
-
-pub time_must : (o : Option Val) (a : Civil) → (v : Val) × (o ≡ Some v) × ((c : Civil) × (v ≡ time c)) → o ≡ Some (time (time_or a o))
-time_must o a h = rw (h.1, h.2.1) refl
-
-uuid_must : (o : Option Val) (a : ℕ) → (v : Val) × (o ≡ Some v) × ((n : ℕ) × (v ≡ uuid n)) → o ≡ Some (uuid (uuid_or a o))
-uuid_must o a h = rw (h.1, h.2.1) refl
-
-pub letter_must : (o : Option Val) (a : ℕ) → (v : Val) × (o ≡ Some v) × ((n : ℕ) × (v ≡ letter n)) → o ≡ Some (letter (letter_or a o))
-letter_must o a h = rw (h.1, h.2.1) refl
-
-pub number_must : (o : Option Val) (a : ℕ) → (v : Val) × (o ≡ Some v) × ((n : ℕ) × (v ≡ number n)) → o ≡ Some (number (number_or a o))
-number_must o a h = rw (h.1, h.2.1) refl
-
-pub truth_must : (o : Option Val) (a : Bool) → (v : Val) × (o ≡ Some v) × ((is : Bool) × (v ≡ truth is)) → o ≡ Some (truth (truth_or a o))
-truth_must o a h = rw (h.1, h.2.1) refl
-
-words_may : (o : Option Val) → IfSome o (λ v. (t : List ℕ) × (v ≡ words t)) → o ≡ option_map words (words_told None o)
-words_may None h = refl
-words_may (Some v) h = rw (h.1) refl
-
-lock_may : (o : Option Val) → IfSome o (λ v. (state : LockState) × (v ≡ lock state)) → o ≡ option_map lock (lock_told None o)
-lock_may None h = refl
-lock_may (Some v) h = rw (h.1) refl
+use Rattle.index_read.proofs.Facts.{inside_fits}
+use Rattle.index_read.proofs.OfForms.{has_form, words_known, words_may, time_known, uuid_known, letter_known, number_known, truth_known, lock_may}
+use Rattle.index_read.proofs.Volume.{spot_told, policy_told}
+use Rattle.index_read.proofs.Within.{must_have, here_or, back_or, criteria_or, policy_or, volume_told}
 
 -- ---- places and the policy
 
 spot_tells : (p : Place) (is : Items) → Fits p [] is → (letter_rule : rule p Partition ≡ child.Leaf form.Letter) → (block_rule : rule p StartBlock ≡ child.Leaf form.Bounded) → (required p ≡ Partition ∷ StartBlock ∷ []) → TellsSpot is (spot_told is blank_spot)
 spot_tells p is fits l b r = record {
-  letter = letter_must (told Partition is) 0 (must_tell p is Partition form.Letter fits l (rw r refl));
-  block = number_must (told StartBlock is) 0 (must_tell p is StartBlock form.Bounded fits b (rw r refl));
+  letter = letter_known 0 (told Partition is) (must_tell p is Partition form.Letter fits l (rw r refl));
+  block = number_known 0 (told StartBlock is) (must_tell p is StartBlock form.Bounded fits b (rw r refl));
 }
 
 here_tells : (is : Items) (o : Option Items) → (js : Items) × (o ≡ Some js) × Fits place.Here [] js → TellsMaybe TellsSpot o (Some (here_or blank_spot o))
@@ -68,7 +42,7 @@ criteria_tells js None e h = absurd (let bad : None ≡ Some h.0 = h.1 in cc)
 criteria_tells js (Some d) e h =
     let same : h.0 ≡ d = cc (h.1) in
     let fits : Fits place.Criteria [] d = subst (Fits place.Criteria []) same h.2 in
-    record { criteria = d; are = e; size = number_must (told Size d) 0 (must_tell place.Criteria d Size form.Bounded fits refl refl); names = refl }
+    record { criteria = d; are = e; size = number_known 0 (told Size d) (must_tell place.Criteria d Size form.Bounded fits refl refl); names = refl }
 
 policy_tells : (o : Option Items) → IfSome o (λ js. Fits place.Policy [] js) → TellsMaybe TellsPolicy o (policy_or None o)
 policy_tells None h = tt
@@ -85,17 +59,17 @@ pub volume_tells : (is : Items) → Fits place.Index [] is → TellsVolume is (v
 volume_tells is fits =
     let p = place.Index in
     record {
-      creator = words_must (told Creator is) [] (must_tell p is Creator form.Text fits refl refl);
+      creator = words_known [] (told Creator is) (must_tell p is Creator form.Text fits refl refl);
       comment = words_may (told Comment is) (has_form p [] is Comment form.Text fits refl);
-      uuid = uuid_must (told VolumeUuid is) 0 (must_tell p is VolumeUuid form.Uuid fits refl refl);
-      generation = number_must (told GenerationNumber is) 0 (must_tell p is GenerationNumber form.Generation fits refl refl);
-      updated = time_must (told UpdateTime is) blank_volume.updated (must_tell p is UpdateTime form.Time fits refl refl);
+      uuid = uuid_known 0 (told VolumeUuid is) (must_tell p is VolumeUuid form.Uuid fits refl refl);
+      generation = number_known 0 (told GenerationNumber is) (must_tell p is GenerationNumber form.Generation fits refl refl);
+      updated = time_known blank_volume.updated (told UpdateTime is) (must_tell p is UpdateTime form.Time fits refl refl);
       here = here_tells is (inside place.Here is) (must_have p is place.Here fits refl refl);
       back = back_tells (inside place.Back is) (if_inside is place.Back fits);
-      allow = truth_must (told AllowPolicyUpdate is) blank_volume.allow (must_tell p is AllowPolicyUpdate form.Truth fits refl refl);
+      allow = truth_known blank_volume.allow (told AllowPolicyUpdate is) (must_tell p is AllowPolicyUpdate form.Truth fits refl refl);
       policy = policy_tells (inside place.Policy is) (if_inside is place.Policy fits);
       lock = lock_may (told VolumeLockState is) (has_form p [] is VolumeLockState form.Lock fits refl);
-      highest = number_must (told HighestFileUid is) 0 (must_tell p is HighestFileUid form.Number fits refl refl);
+      highest = number_known 0 (told HighestFileUid is) (must_tell p is HighestFileUid form.Number fits refl refl);
     }
 
 -- ---- what is told is one thing

@@ -20,49 +20,8 @@ use Rattle.index_model.specs.Values.{VolumeFacts}
 use Rattle.index_model.specs.Pieces.{Val, words, time, uuid, letter, number, truth, lock}
 use Rattle.index_model.specs.Grammar.{Item, plain, bare, nested, Items, no_items, item, item_tag, or_else, own, told, own_children, inside, names_in, TellsMaybe, TellsSpot, TellsPolicy, TellsVolume}
 use Rattle.index_read.specs.Told.{State, words_or, words_told, time_or, uuid_or, letter_or, number_or, truth_or, lock_told, name_told, volume_with, spot_with, policy_with, blank_spot, blank_policy, blank_volume, begun, ended, leaf_told, node_in, item_told, items_told}
-use Rattle.index_read.proofs.Fits.{HasForm, Fits, FitsItem, must_tell, told_form}
-
--- ---- a value told twice
-
-pub words_twice : (a : List ℕ) (o p : Option Val) → IfSome p (λ v. (t : List ℕ) × (v ≡ words t)) → words_or (words_or a o) p ≡ words_or a (or_else p o)
-words_twice a o None h = refl
-words_twice a o (Some v) h = rw (h.1) refl
-
-pub time_twice : (a : Civil) (o p : Option Val) → IfSome p (λ v. (c : Civil) × (v ≡ time c)) → time_or (time_or a o) p ≡ time_or a (or_else p o)
-time_twice a o None h = refl
-time_twice a o (Some v) h = rw (h.1) refl
-
-pub uuid_twice : (a : ℕ) (o p : Option Val) → IfSome p (λ v. (n : ℕ) × (v ≡ uuid n)) → uuid_or (uuid_or a o) p ≡ uuid_or a (or_else p o)
-uuid_twice a o None h = refl
-uuid_twice a o (Some v) h = rw (h.1) refl
-
-letter_twice : (a : ℕ) (o p : Option Val) → IfSome p (λ v. (b : ℕ) × (v ≡ letter b)) → letter_or (letter_or a o) p ≡ letter_or a (or_else p o)
-letter_twice a o None h = refl
-letter_twice a o (Some v) h = rw (h.1) refl
-
-pub number_twice : (a : ℕ) (o p : Option Val) → IfSome p (λ v. (n : ℕ) × (v ≡ number n)) → number_or (number_or a o) p ≡ number_or a (or_else p o)
-number_twice a o None h = refl
-number_twice a o (Some v) h = rw (h.1) refl
-
-pub truth_twice : (a : Bool) (o p : Option Val) → IfSome p (λ v. (is : Bool) × (v ≡ truth is)) → truth_or (truth_or a o) p ≡ truth_or a (or_else p o)
-truth_twice a o None h = refl
-truth_twice a o (Some v) h = rw (h.1) refl
-
-pub lock_twice : (a : Option LockState) (o p : Option Val) → IfSome p (λ v. (state : LockState) × (v ≡ lock state)) → lock_told (lock_told a o) p ≡ lock_told a (or_else p o)
-lock_twice a o None h = refl
-lock_twice a o (Some v) h = rw (h.1) refl
-
-pub words_told_twice : (a : Option (List ℕ)) (o p : Option Val) → IfSome p (λ v. (t : List ℕ) × (v ≡ words t)) → words_told (words_told a o) p ≡ words_told a (or_else p o)
-words_told_twice a o None h = refl
-words_told_twice a o (Some v) h = rw (h.1) refl
-
--- what is told of a leaf has the leaf's form
-pub has_form : (p : Place) (seen : List Tag) (is : Items) (t : Tag) (f : Form) → Fits p seen is → rule p t ≡ child.Leaf f → IfSome (told t is) (HasForm f)
-has_form p seen is t f fits r = go (told t is) refl
-  where
-    go : (o : Option Val) → told t is ≡ o → IfSome o (HasForm f)
-    go None e = tt
-    go (Some v) e = told_form p seen is t f v fits r e
+use Rattle.index_read.proofs.Fits.{Fits}
+use Rattle.index_read.proofs.OfForms.{has_form, letter_step, number_step}
 
 -- ---- a place on tape
 
@@ -75,8 +34,8 @@ IsSpotPlace p = (rule p ≡ spot_rule)
 
 spot_step : (p : Place) (seen : List Tag) (i : Item) (more : Items) (s : Spot) → IsSpotPlace p → Fits p seen more → spot_told more (spot_with i s) ≡ spot_told (item i more) s
 spot_step p seen i more s is fits =
-    let a = letter_twice s.letter (own Partition i) (told Partition more) (has_form p seen more Partition form.Letter fits (ap (λ r. r Partition) is)) in
-    let b = number_twice s.block (own StartBlock i) (told StartBlock more) (has_form p seen more StartBlock form.Bounded fits (ap (λ r. r StartBlock) is)) in
+    let a = sym (letter_step s.letter (own Partition i) (told Partition more) (has_form p seen more Partition form.Letter fits (ap (λ r. r Partition) is))) in
+    let b = sym (number_step s.block (own StartBlock i) (told StartBlock more) (has_form p seen more StartBlock form.Bounded fits (ap (λ r. r StartBlock) is))) in
     λ k. record { letter = a k; block = b k }
 
 no_parent : (tag : Tag) (q : Place) → spot_rule tag ≡ child.Parent q → ⊥
@@ -127,7 +86,7 @@ names_step _ v more = refl
 
 policy_step : (seen : List Tag) (tag : Tag) (v : Val) (more : Items) (p : Policy) → Fits place.Criteria seen more → policy_told more (policy_with (plain tag v) p) ≡ policy_told (item (plain tag v) more) p
 policy_step seen tag v more p fits =
-    let a = number_twice p.size (own Size (plain tag v)) (told Size more) (has_form place.Criteria seen more Size form.Bounded fits refl) in
+    let a = sym (number_step p.size (own Size (plain tag v)) (told Size more) (has_form place.Criteria seen more Size form.Bounded fits refl)) in
     let b : (p.names ++ name_told (own Name (plain tag v))) ++ names_in more ≡ p.names ++ names_in (item (plain tag v) more) = append_assoc p.names (name_told (own Name (plain tag v))) (names_in more) ∙ ap (λ l. p.names ++ l) (sym (names_step tag v more)) in
     λ k. record { size = a k; names = b k }
 

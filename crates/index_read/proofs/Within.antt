@@ -18,7 +18,9 @@ use Rattle.index_model.specs.Pieces.{Val}
 use Rattle.index_model.specs.Grammar.{Item, plain, bare, nested, Items, no_items, item, item_tag, or_else, own, told, own_children, inside}
 use Rattle.index_read.specs.Told.{State, words_or, words_told, time_or, uuid_or, number_or, truth_or, lock_told, volume_with, blank_spot, blank_policy, begun, ended, leaf_told, node_in, item_told, items_told}
 use Rattle.index_read.proofs.Fits.{HasForm, Fits, FitsItem, same_tag, missing_member}
-use Rattle.index_read.proofs.Volume.{words_twice, words_told_twice, time_twice, uuid_twice, number_twice, truth_twice, lock_twice, has_form, spot_told, with_here, here_told, with_back, back_told, policy_told, with_policy, criteria_told}
+use Rattle.index_read.proofs.Facts.{inside_fits}
+use Rattle.index_read.proofs.OfForms.{has_form, words_step, words_told_step, time_step, uuid_step, number_step, truth_step, lock_step}
+use Rattle.index_read.proofs.Volume.{spot_told, with_here, here_told, with_back, back_told, policy_told, with_policy, criteria_told}
 
 -- the parents in a directory
 abbrev pub is_within : Place → Bool
@@ -119,48 +121,7 @@ policy_twice : (a : Option Policy) (o p : Option Items) → IfSome p (λ is. (c 
 policy_twice a o None h = refl
 policy_twice a o (Some is) h = rw (h.1) refl
 
--- ---- parents by their numbers
-
-abbrev all_places : List Place
-all_places = place.Index ∷ place.Here ∷ place.Back ∷ place.Policy ∷ place.Criteria ∷ place.Root ∷ place.Directory ∷ place.Contents ∷ place.File ∷ place.Attributes ∷ place.ExtentInfo ∷ place.Extent ∷ []
-
-place_in : ℕ → List Place → Place
-place_in n [] = place.Index
-place_in n (p ∷ ps) = if n == place_code p then p else place_in n ps
-
-back_from_place : (p : Place) → place_in (place_code p) all_places ≡ p
-unfolding place_in
-back_from_place place.Index = refl
-back_from_place _ = refl
-
-pub same_place : (p q : Place) → (place_code p == place_code q) ≡ true → p ≡ q
-same_place p q e = sym (back_from_place p) ∙ ap (λ n. place_in n all_places) (eqb-true (place_code p) (place_code q) e) ∙ back_from_place q
-
-own_children_fit : (p : Place) (i : Item) (q : Place) (is : Items) → FitsItem p i → own_children q i ≡ Some is → Fits q [] is
-own_children_fit p (plain t v) q is fits e = absurd cc
-own_children_fit p (bare r) q is fits e = go (place_code q == place_code r) refl e
-  where
-    go : (b : Bool) → (place_code q == place_code r) ≡ b → (if b then Some no_items else None) ≡ Some is → Fits q [] is
-    go true h o =
-        let same : no_items ≡ is = cc (o) in
-        subst (Fits q []) same (subst (λ x. first_missing (required x) [] ≡ None) (sym (same_place q r h)) fits.1)
-    go false h o = absurd cc
-own_children_fit p (nested r js) q is fits e = go (place_code q == place_code r) refl e
-  where
-    go : (b : Bool) → (place_code q == place_code r) ≡ b → (if b then Some js else None) ≡ Some is → Fits q [] is
-    go true h o =
-        let same : js ≡ is = cc (o) in
-        subst (Fits q []) same (subst (λ x. Fits x [] js) (sym (same_place q r h)) fits.1)
-    go false h o = absurd cc
-
--- the children of a parent among children are its children
-pub inside_fits : (p : Place) (seen : List Tag) (is : Items) (q : Place) (js : Items) → Fits p seen is → inside q is ≡ Some js → Fits q [] js
-inside_fits p seen no_items q js fits e = absurd cc
-inside_fits p seen (item i is) q js fits e = go (inside q is) refl (λ ks. inside_fits p (item_tag i ∷ seen) is q ks fits.2) e
-  where
-    go : (o : Option Items) → inside q is ≡ o → ((ks : Items) → inside q is ≡ Some ks → Fits q [] ks) → or_else o (own_children q i) ≡ Some js → Fits q [] js
-    go None h later o = own_children_fit p i q js fits.0 o
-    go (Some ks) h later o = let same : ks ≡ js = cc (o) in subst (Fits q []) same (later ks h)
+-- ---- parents that must be there
 
 own_parent_there : (p : Place) (i : Item) (q : Place) → FitsItem p i → rule p (tag_of q) ≡ child.Parent q → (code (tag_of q) == code (item_tag i)) ≡ true → (is : Items) × (own_children q i ≡ Some is)
 own_parent_there p (plain u w) q fits r e = absurd (let bad : ◌≡◌ {A = Child} (child.Parent q) (child.Leaf fits.0) = sym r ∙ ap (rule p) (same_tag (tag_of q) u e) ∙ fits.1 in cc)
@@ -253,17 +214,17 @@ has_criteria seen is fits = go (inside place.Policy is) refl
 volume_step : (seen : List Tag) (i : Item) (more : Items) (v : VolumeFacts) → Fits place.Index seen more → volume_told more (volume_by i v) ≡ volume_told (item i more) v
 volume_step seen i more v fits =
     let p = place.Index in
-    let creator = words_twice v.creator (own Creator i) (told Creator more) (has_form p seen more Creator form.Text fits refl) in
-    let comment = words_told_twice v.comment (own Comment i) (told Comment more) (has_form p seen more Comment form.Text fits refl) in
-    let uuid = uuid_twice v.uuid (own VolumeUuid i) (told VolumeUuid more) (has_form p seen more VolumeUuid form.Uuid fits refl) in
-    let generation = number_twice v.generation (own GenerationNumber i) (told GenerationNumber more) (has_form p seen more GenerationNumber form.Generation fits refl) in
-    let updated = time_twice v.updated (own UpdateTime i) (told UpdateTime more) (has_form p seen more UpdateTime form.Time fits refl) in
+    let creator = sym (words_step v.creator (own Creator i) (told Creator more) (has_form p seen more Creator form.Text fits refl)) in
+    let comment = sym (words_told_step v.comment (own Comment i) (told Comment more) (has_form p seen more Comment form.Text fits refl)) in
+    let uuid = sym (uuid_step v.uuid (own VolumeUuid i) (told VolumeUuid more) (has_form p seen more VolumeUuid form.Uuid fits refl)) in
+    let generation = sym (number_step v.generation (own GenerationNumber i) (told GenerationNumber more) (has_form p seen more GenerationNumber form.Generation fits refl)) in
+    let updated = sym (time_step v.updated (own UpdateTime i) (told UpdateTime more) (has_form p seen more UpdateTime form.Time fits refl)) in
     let here = here_twice v.here (own_children place.Here i) (inside place.Here more) in
     let back = back_twice v.back (own_children place.Back i) (inside place.Back more) in
-    let allow = truth_twice v.allow (own AllowPolicyUpdate i) (told AllowPolicyUpdate more) (has_form p seen more AllowPolicyUpdate form.Truth fits refl) in
+    let allow = sym (truth_step v.allow (own AllowPolicyUpdate i) (told AllowPolicyUpdate more) (has_form p seen more AllowPolicyUpdate form.Truth fits refl)) in
     let policy = policy_twice v.policy (own_children place.Policy i) (inside place.Policy more) (has_criteria seen more fits) in
-    let lock = lock_twice v.lock (own VolumeLockState i) (told VolumeLockState more) (has_form p seen more VolumeLockState form.Lock fits refl) in
-    let highest = number_twice v.highest (own HighestFileUid i) (told HighestFileUid more) (has_form p seen more HighestFileUid form.Number fits refl) in
+    let lock = sym (lock_step v.lock (own VolumeLockState i) (told VolumeLockState more) (has_form p seen more VolumeLockState form.Lock fits refl)) in
+    let highest = sym (number_step v.highest (own HighestFileUid i) (told HighestFileUid more) (has_form p seen more HighestFileUid form.Number fits refl)) in
     λ k. record {
       creator = creator k;
       comment = comment k;

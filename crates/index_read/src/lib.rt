@@ -5,6 +5,8 @@ mod drafts;
 mod laws;
 mod pieces;
 mod reading;
+#[cfg(test)]
+mod tests;
 mod values;
 mod walking;
 

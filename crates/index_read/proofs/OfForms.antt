@@ -1,0 +1,90 @@
+-- Values that are told, by their kinds: one after the other, and those that must be there.
+use Rattle.std.proofs.Common.{◌≡◌, ℕ, List, Bool, Option, Some, None, refl, ap, ◌∙◌}
+use Rattle.std.specs.Option.{option_map}
+use Rattle.tape_types.specs.declared.times.Civil.{Civil}
+use Rattle.doc_fields.specs.declared.tags.Tag.{Tag}
+use Rattle.doc_fields.specs.declared.values.LockState.{LockState}
+use Rattle.index_model.specs.declared.schema.Place.{Place}
+use Rattle.index_model.specs.declared.schema.Form.{Form}
+use Rattle.index_model.specs.declared.schema.Child.TheVariants as child
+use Rattle.index_model.specs.Schema.{rule}
+use Rattle.index_model.specs.Pieces.{Val, words, time, uuid, letter, number, truth, lock}
+use Rattle.index_model.specs.Grammar.{Items, or_else, told}
+use Rattle.index_read.specs.Told.{words_or, words_told, time_or, uuid_or, letter_or, number_or, truth_or, lock_told}
+use Rattle.index_read.proofs.Fits.{HasForm, Fits, told_form}
+
+-- where a value is told, it is of this kind
+abbrev pub IsOf : {A : Type 0} → (A → Val) → Option Val → Type 0
+IsOf {A} view o = (v : Val) → o ≡ Some v → (x : A) × (v ≡ view x)
+
+pub or_none : {X : Type 0} (o : Option X) → or_else o None ≡ o
+or_none (Some x) = refl
+or_none None = refl
+
+pub number_step : (a : ℕ) (early late : Option Val) → IsOf number late → number_or a (or_else late early) ≡ number_or (number_or a early) late
+number_step a early None of = refl
+number_step a early (Some v) of = let h = of v refl in rw h.1 refl
+
+pub letter_step : (a : ℕ) (early late : Option Val) → IsOf letter late → letter_or a (or_else late early) ≡ letter_or (letter_or a early) late
+letter_step a early None of = refl
+letter_step a early (Some v) of = let h = of v refl in rw h.1 refl
+
+pub words_step : (a : List ℕ) (early late : Option Val) → IsOf words late → words_or a (or_else late early) ≡ words_or (words_or a early) late
+words_step a early None of = refl
+words_step a early (Some v) of = let h = of v refl in rw h.1 refl
+
+pub time_step : (a : Civil) (early late : Option Val) → IsOf time late → time_or a (or_else late early) ≡ time_or (time_or a early) late
+time_step a early None of = refl
+time_step a early (Some v) of = let h = of v refl in rw h.1 refl
+
+pub truth_step : (a : Bool) (early late : Option Val) → IsOf truth late → truth_or a (or_else late early) ≡ truth_or (truth_or a early) late
+truth_step a early None of = refl
+truth_step a early (Some v) of = let h = of v refl in rw h.1 refl
+
+pub uuid_step : (a : ℕ) (early late : Option Val) → IsOf uuid late → uuid_or a (or_else late early) ≡ uuid_or (uuid_or a early) late
+uuid_step a early None of = refl
+uuid_step a early (Some v) of = let h = of v refl in rw h.1 refl
+
+pub lock_step : (a : Option LockState) (early late : Option Val) → IsOf lock late → lock_told a (or_else late early) ≡ lock_told (lock_told a early) late
+lock_step a early None of = refl
+lock_step a early (Some v) of = let h = of v refl in rw h.1 refl
+
+pub words_told_step : (a : Option (List ℕ)) (early late : Option Val) → IsOf words late → words_told a (or_else late early) ≡ words_told (words_told a early) late
+words_told_step a early None of = refl
+words_told_step a early (Some v) of = let h = of v refl in rw h.1 refl
+
+-- a value of this kind is told
+abbrev pub IsTold : {A : Type 0} → (A → Val) → Option Val → Type 0
+IsTold {A} view o = (v : Val) × (o ≡ Some v) × ((x : A) × (v ≡ view x))
+
+pub number_known : (a : ℕ) (o : Option Val) → IsTold number o → o ≡ Some (number (number_or a o))
+number_known a o h = let e : o ≡ Some (number h.2.0) = h.1 ∙ ap (λ (v : Val). Some v) h.2.1 in rw e refl
+
+pub letter_known : (a : ℕ) (o : Option Val) → IsTold letter o → o ≡ Some (letter (letter_or a o))
+letter_known a o h = let e : o ≡ Some (letter h.2.0) = h.1 ∙ ap (λ (v : Val). Some v) h.2.1 in rw e refl
+
+pub words_known : (a : List ℕ) (o : Option Val) → IsTold words o → o ≡ Some (words (words_or a o))
+words_known a o h = let e : o ≡ Some (words h.2.0) = h.1 ∙ ap (λ (v : Val). Some v) h.2.1 in rw e refl
+
+pub time_known : (a : Civil) (o : Option Val) → IsTold time o → o ≡ Some (time (time_or a o))
+time_known a o h = let e : o ≡ Some (time h.2.0) = h.1 ∙ ap (λ (v : Val). Some v) h.2.1 in rw e refl
+
+pub truth_known : (a : Bool) (o : Option Val) → IsTold truth o → o ≡ Some (truth (truth_or a o))
+truth_known a o h = let e : o ≡ Some (truth h.2.0) = h.1 ∙ ap (λ (v : Val). Some v) h.2.1 in rw e refl
+
+pub uuid_known : (a : ℕ) (o : Option Val) → IsTold uuid o → o ≡ Some (uuid (uuid_or a o))
+uuid_known a o h = let e : o ≡ Some (uuid h.2.0) = h.1 ∙ ap (λ (v : Val). Some v) h.2.1 in rw e refl
+
+-- a value that may be told
+
+pub words_may : (o : Option Val) → IsOf words o → o ≡ option_map words (words_told None o)
+words_may None of = refl
+words_may (Some v) of = let h = of v refl in rw h.1 refl
+
+pub lock_may : (o : Option Val) → IsOf lock o → o ≡ option_map lock (lock_told None o)
+lock_may None of = refl
+lock_may (Some v) of = let h = of v refl in rw h.1 refl
+
+-- what is told of a leaf is of the leaf's kind
+pub has_form : (p : Place) (seen : List Tag) (is : Items) (t : Tag) (f : Form) → Fits p seen is → rule p t ≡ child.Leaf f → (v : Val) → told t is ≡ Some v → HasForm f v
+has_form p seen is t f fits r v e = told_form p seen is t f v fits r e
