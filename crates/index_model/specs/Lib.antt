@@ -13,3 +13,4 @@ pub mod Schema
 pub mod Pieces
 pub mod Documents
 pub mod Grammar
+pub mod Telling

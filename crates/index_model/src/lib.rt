@@ -14,6 +14,7 @@ mod rows;
 mod schema;
 #[cfg(test)]
 mod slow;
+mod telling;
 #[cfg(test)]
 mod tests;
 
@@ -22,6 +23,5 @@ pub use faults::Fault;
 pub use indexes::{Index, Policy, Spot};
 pub use laws::{directories_stand_together, one_fault_is_told};
 pub use nodes::{Kind, Node, RawExtent};
-pub use schema::{
-    Child, Form, Place, child_of, excludes, is_node, may_repeat, required, tag_of,
-};
+pub use schema::{Child, Form, Place, child_of, excludes, is_node, may_repeat, required, tag_of};
+pub use telling::refusal_text;

@@ -85,11 +85,8 @@ fn child_of_node(name: Form, tag: Tag) -> Child
     match tag {
         Tag::FileUid => Child::Leaf(Form::Number),
         Tag::Name => Child::Leaf(name),
-        Tag::CreationTime
-        | Tag::ChangeTime
-        | Tag::ModifyTime
-        | Tag::AccessTime
-        | Tag::BackupTime => Child::Leaf(Form::Time),
+        Tag::CreationTime | Tag::ChangeTime | Tag::ModifyTime | Tag::AccessTime | Tag::BackupTime =>
+            Child::Leaf(Form::Time),
         Tag::ReadOnly => Child::Leaf(Form::Truth),
         Tag::ExtendedAttributes => Child::Parent(Place::Attributes),
         _ => Child::Unknown,
