@@ -1,5 +1,4 @@
 pub mod Headline
-pub mod Inputs
 pub mod Outcomes
 pub mod Sessions
 pub mod Words

@@ -2,7 +2,6 @@
 #![tactic(auto)]
 
 mod ended;
-mod input;
 mod outcomes;
 mod server;
 mod session;

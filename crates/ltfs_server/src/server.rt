@@ -6,14 +6,16 @@ ghost use Rattle.ltfs_server.specs.Headline.{IsPlain, IsPlainLog, IsPrinted, IsO
 ghost use Rattle.ltfs_server.specs.Outcomes.{IsCaused, IsScriptOutcome, IsTold, text_of, log_of};
 
 use crate::ended::PlainEnded;
-use crate::input::{ReadFailure, read_input};
 use crate::outcomes::Outcome;
 use crate::session::run_script;
 use crate::words::read_words;
 use session_script::{ScriptFault, read_script};
 use std::alloc::Global;
-use tape_edge::{Clock, Sink, Source};
+use tape_edge::{Clock, ReadFailure, Sink, Source, read_input};
 use tape_types::{Moment, NoMemory};
+
+/// No script has more bytes.
+const SCRIPT_LIMIT: usize = 16_777_216;
 
 /// Runs the program: reads the words and the script, runs the script's calls on a plain tree, and prints the log.
 pub fn run<S: Source, K: Sink, C: Clock>(
@@ -78,7 +80,7 @@ fn run_plain<S: Source, C: Clock>(
 ) -> Outcome
     ensures { IsScriptOutcome (S.left script.old) (S.left script.new) (S.faults script.old) (S.faults script.new) at (C.next clock) result }
 {
-    let text = match read_input(alloc, script) {
+    let text = match read_input(alloc, script, SCRIPT_LIMIT) {
         Ok(text) => text,
         Err(ReadFailure::Fault(counts)) => return Outcome::Source(counts),
         Err(ReadFailure::NoMemory) => return Outcome::NoMemory(None),

@@ -1,3 +1,4 @@
 pub mod Clocks
 pub mod Devices
 pub mod Streams
+pub mod Inputs

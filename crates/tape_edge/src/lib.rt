@@ -2,6 +2,7 @@
 #![tactic(auto)]
 
 mod clocks;
+mod input;
 mod memory;
 mod streams;
 #[cfg(test)]
@@ -9,6 +10,7 @@ mod tests;
 mod traits;
 
 pub use clocks::{StepClock, SystemClock};
+pub use input::{ReadFailure, read_input};
 pub use memory::{MemSink, MemSource};
 pub use streams::{ReaderSource, WriterSink};
 pub use traits::{Clock, ReadFault, Sink, Source, WriteFault};

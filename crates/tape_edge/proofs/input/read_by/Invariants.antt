@@ -1,6 +1,6 @@
-use Rattle.std.proofs.Common.{◌-◌, ◌≤◌, length}
+use Rattle.std.proofs.Common.{◌+◌, ◌-◌, ◌≤◌, length}
 use Rattle.std.specs.Io.KnownBytes.{Consumes}
-use Rattle.ltfs_server.proofs.input.read_by.Given as goal
+use Rattle.tape_edge.proofs.input.read_by.Given as goal
 
 abbrev pub invariant-loop-text : goal.invariant-loop-text
 invariant-loop-text g l =
@@ -8,4 +8,4 @@ invariant-loop-text g l =
     × (g.S.Source.faults l.initial.source ≤ g.S.Source.faults l.source)
 
 abbrev pub decreases-loop-text : goal.decreases-loop-text
-decreases-loop-text g l = 16777217 - length l.text.items
+decreases-loop-text g l = l.fn.most + 1 - length l.text.items

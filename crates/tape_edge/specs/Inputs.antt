@@ -2,8 +2,8 @@
 use Rattle.std.specs.Prelude.{◌≡◌, ℕ, ◌<◌, List, [], ◌++◌, length, Bool, true, false, Option}
 use Rattle.std.specs.Io.KnownBytes.{Consumes, IsAtEnd}
 use Rattle.tape_types.specs.Counts.{IsRise}
-use Rattle.ltfs_server.specs.declared.input.ReadFailure.{ReadFailure}
-use Rattle.ltfs_server.specs.declared.input.ReadFailure.TheVariants as failures
+use Rattle.tape_edge.specs.declared.input.ReadFailure.{ReadFailure}
+use Rattle.tape_edge.specs.declared.input.ReadFailure.TheVariants as failures
 
 -- a failed read is told by two counts of the source that rose meanwhile; want of memory is free
 abbrev pub IsReadFailure : (before now : ℕ) → ReadFailure → Type 0

@@ -1,13 +1,12 @@
-ghost use Rattle.std.specs.Prelude.{◌≡◌, ◌≤◌, ◌<◌, length, IfOk, IfErr};
+//! An input as a whole.
+
+ghost use Rattle.std.specs.Prelude.{◌≡◌, ◌≤◌, ◌<◌, ◌+◌, ◌^◌, length, IfOk, IfErr};
 ghost use Rattle.std.specs.Io.KnownBytes.{Consumes, IsAtEnd};
-ghost use Rattle.ltfs_server.specs.Inputs.{IsReadFailure, ReadsPiece};
+ghost use Rattle.tape_edge.specs.Inputs.{IsReadFailure, ReadsPiece};
 
+use crate::traits::{ReadFault, Source};
 use std::alloc::{AllocError, Global};
-use tape_edge::{ReadFault, Source};
 use tape_types::Twin;
-
-/// No script has more bytes.
-const SCRIPT_LIMIT: usize = 16777216;
 
 /// How many bytes are read at a time, at most.
 const PIECE: usize = 1048576;
@@ -22,7 +21,7 @@ pub enum ReadFailure {
 
 impl From<AllocError> for ReadFailure {
     ghost use Rattle.std.specs.Prelude.{◌≡◌};
-    ghost use Rattle.ltfs_server.specs.declared.input.ReadFailure.TheVariants as failures;
+    ghost use Rattle.tape_edge.specs.declared.input.ReadFailure.TheVariants as failures;
 
     ghost from_gives = { λ _ e. e ≡ failures.NoMemory };
 
@@ -31,15 +30,20 @@ impl From<AllocError> for ReadFailure {
     }
 }
 
-/// What a source has left: all of it, or one byte more than a script may have.
-pub fn read_input<S: Source>(alloc: Global, source: &mut S) -> Result<Vec<u8>, ReadFailure>
+/// What a source has left: all of it, or one byte more than the most that is wanted.
+pub fn read_input<S: Source>(
+    alloc: Global,
+    source: &mut S,
+    most: usize,
+) -> Result<Vec<u8>, ReadFailure>
+    requires { most + 1 < 2 ^ 64 }
     ensures read { IfOk result (λ text. Consumes (S.left source.old) (S.left source.new) text.items) }
-    ensures whole { IfOk result (λ text. length text.items ≤ 16777216 → IsAtEnd (S.left source.new)) }
+    ensures whole { IfOk result (λ text. length text.items ≤ most → IsAtEnd (S.left source.new)) }
     ensures fault { IfErr result (IsReadFailure (S.faults source.old) (S.faults source.new)) }
     ensures later { S.faults source.old ≤ S.faults source.new }
 {
     let mut buffer = zeros(alloc, PIECE)?;
-    read_by(alloc, source, buffer.as_mut_slice())
+    read_by(alloc, source, buffer.as_mut_slice(), most)
 }
 
 /// A buffer of so many zeros.
@@ -54,16 +58,18 @@ fn read_by<S: Source>(
     alloc: Global,
     source: &mut S,
     buffer: &mut [u8],
+    most: usize,
 ) -> Result<Vec<u8>, ReadFailure>
-    requires { 0 < length buffer.old }
+    requires some { 0 < length buffer.old }
+    requires most { most + 1 < 2 ^ 64 }
     ensures read { IfOk result (λ text. Consumes (S.left source.old) (S.left source.new) text.items) }
-    ensures whole { IfOk result (λ text. length text.items ≤ 16777216 → IsAtEnd (S.left source.new)) }
+    ensures whole { IfOk result (λ text. length text.items ≤ most → IsAtEnd (S.left source.new)) }
     ensures fault { IfErr result (IsReadFailure (S.faults source.old) (S.faults source.new)) }
     ensures later { S.faults source.old ≤ S.faults source.new }
 {
     let mut text = Vec::new(alloc);
-    while text.len() <= SCRIPT_LIMIT {
-        let room = buffer.len().min(SCRIPT_LIMIT + 1 - text.len());
+    while text.len() <= most {
+        let room = buffer.len().min(most + 1 - text.len());
         if !read_piece(source, &mut buffer[..room], &mut text)? {
             return Ok(text);
         }
