@@ -1,0 +1,5 @@
+//! The one text of an index that is written (LTFS 2.4 on the index): one line in UTF-8, without
+//! white space between elements.
+#![tactic(auto)]
+
+mod fields;
