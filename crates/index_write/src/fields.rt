@@ -46,12 +46,7 @@ pub fn put_truth(out: &mut Vec<u8>, start: &[u8], is: bool, end: &[u8]) -> Resul
 
 /// The 30 bytes of a moment's text between these tags.
 #[tactic(auto, unfolding(tape_types::specs::Times::time_text))]
-pub fn put_moment(
-    out: &mut Vec<u8>,
-    start: &[u8],
-    at: Moment,
-    end: &[u8],
-) -> Result<(), NoMemory>
+pub fn put_moment(out: &mut Vec<u8>, start: &[u8], at: Moment, end: &[u8]) -> Result<(), NoMemory>
     ensures ok { OnOk result (out.new.items ≡ out.old.items ++ (start.now ++ civil_text (civil_of at) ++ end.now)) }
     ensures err { OnErr result (Keeps out.old.items out.new.items) }
 {

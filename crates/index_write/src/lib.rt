@@ -3,3 +3,5 @@
 #![tactic(auto)]
 
 mod fields;
+mod nodes;
+mod volume;
