@@ -17,7 +17,7 @@ pub err : (r : Done) {P Q : Type 0} → (P → Q) → OnErr r P → OnErr r Q
 err (Ok _) f p = p
 err (Err _) f p = f p
 
-pub told : (r : Done) {P : Type 0} → P → OnErr r P
+pub told : {T : Type 0} (r : Result T NoMemory) {P : Type 0} → P → OnErr r P
 told (Ok _) p = tt
 told (Err _) p = p
 

@@ -1,1 +1,2 @@
 mod Assembled
+mod Zipper

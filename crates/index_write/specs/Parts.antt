@@ -9,8 +9,8 @@ use Rattle.doc_fields.specs.Written.{start_text, end_text}
 use Rattle.index_model.specs.declared.nodes.Kind.{Kind}
 use Rattle.index_model.specs.declared.nodes.Kind.TheVariants as kinds
 use Rattle.index_model.specs.declared.indexes.Spot.{Spot}
-use Rattle.index_model.specs.Canonical.{element, number, words, time, letter, if_told, policy, name, times, truth, file_front, file_text, link_text}
-use Rattle.index_model.specs.Values.{NodeFacts, NodeValue, VolumeFacts}
+use Rattle.index_model.specs.Canonical.{element, number, words, time, letter, if_told, policy, name, times, truth, file_front, file_text, link_text, directory_text, nodes_text}
+use Rattle.index_model.specs.Values.{IndexValue, NodeFacts, NodeValue, VolumeFacts}
 
 -- a directory, up to its children
 unfoldable pub opening : NodeFacts → List ℕ
@@ -51,3 +51,7 @@ volume_rear v =
 -- what stands of a node where its turn comes
 abbrev pub node_text : NodeValue → List ℕ
 node_text node = kind_text node.facts node.kind
+
+-- the text of all nodes
+unfoldable pub tree_text : IndexValue → List ℕ
+tree_text v = directory_text v.root (nodes_text v.inside)

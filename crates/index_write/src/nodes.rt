@@ -1,11 +1,12 @@
 //! The text of nodes, each directory's children before its end.
 
-ghost use Rattle.std.specs.Prelude.{◌≡◌, ◌++◌, OnOk, OnErr, map};
+ghost use Rattle.std.specs.Prelude.{◌≡◌, ◌++◌, ◌+◌, ◌<◌, ◌≤◌, ℕ, List, IfOk, OnOk, OnErr, length, map};
 ghost use Rattle.std.specs.List.{flat_map};
 ghost use Rattle.doc_fields.specs.Written.{Keeps};
 ghost use Rattle.index_model.specs.Canonical as canonical;
 ghost use Rattle.index_model.specs.Values.{facts_of, times_of, value_of, IndexValue, all_nodes};
-ghost use Rattle.index_write.specs.Parts.{closing, file_start, node_text, opening};
+ghost use Rattle.index_write.specs.Rests.{closings, opened, parent_at, Goes, Rests};
+ghost use Rattle.index_write.specs.Parts.{closing, file_start, node_text, opening, tree_text};
 
 use crate::fields::{put, put_moment, put_name, put_number, put_sign, put_symlink, put_truth};
 use index_model::{Kind, Node, RawExtent};
@@ -108,4 +109,95 @@ fn put_node(out: &mut Vec<u8>, node: &Node) -> Result<(), NoMemory>
         Kind::File { length, extents } => put_file(out, node, *length, extents.as_slice()),
         Kind::Link { text } => put_link(out, node, text),
     }
+}
+
+/// The directory whose children are written, and how many others are open around it.
+#[derive(Clone, Copy)]
+pub struct Open {
+    /// Its place in the list of nodes.
+    pub dir: usize,
+    pub depth: usize,
+}
+
+/// The place of a node's parent.
+fn parent_at(nodes: &[Node], at: usize) -> usize
+    ensures { result ≡ parent_at nodes.now at }
+{
+    match nodes.get(at) {
+        Some(node) => node.parent as usize,
+        None => 0,
+    }
+}
+
+/// Ends open directories until the one at this place is the innermost.
+fn close_to(out: &mut Vec<u8>, nodes: &[Node], inner: Open, dir: usize) -> Result<Open, NoMemory>
+    ensures ok { IfOk result (λ left. (at : ℕ) (text : List ℕ) → at < length nodes.now → parent_at nodes.now at ≡ dir → Rests nodes.now at inner text → Goes nodes.now at left out.old.items out.new.items text × (left.dir ≡ dir)) }
+    ensures depth { IfOk result (λ left. left.depth ≤ inner.depth) }
+    ensures keeps { Keeps out.old.items out.new.items }
+{
+    let mut left = inner;
+    while left.dir != dir && left.depth > 0 {
+        put(out, b"</contents></directory>")?;
+        left = Open {
+            dir: parent_at(nodes, left.dir),
+            depth: left.depth - 1,
+        };
+    }
+    Ok(left)
+}
+
+/// Which directory is open behind a node.
+fn opened(kind: &Kind, at: usize, inner: Open) -> Open
+    requires { inner.depth < at }
+    ensures { result ≡ opened kind.now at inner }
+{
+    match kind {
+        Kind::Dir => Open {
+            dir: at,
+            depth: inner.depth + 1,
+        },
+        Kind::File { .. } => inner,
+        Kind::Link { .. } => inner,
+    }
+}
+
+/// The node at this place, behind the ends of the directories that it isn't in.
+fn put_next(out: &mut Vec<u8>, nodes: &[Node], inner: Open, at: usize) -> Result<Open, NoMemory>
+    requires within { at < length nodes.now }
+    requires depth { inner.depth < at }
+    ensures ok { IfOk result (λ left. (text : List ℕ) → Rests nodes.now at inner text → Goes nodes.now (at + 1) left out.old.items out.new.items text) }
+    ensures depth { IfOk result (λ left. left.depth ≤ at) }
+    ensures keeps { Keeps out.old.items out.new.items }
+{
+    let node = &nodes[at];
+    let left = close_to(out, nodes, inner, node.parent as usize)?;
+    put_node(out, node)?;
+    Ok(opened(&node.kind, at, left))
+}
+
+/// So many ends of directories.
+fn put_ends(out: &mut Vec<u8>, count: usize) -> Result<(), NoMemory>
+    ensures ok { OnOk result (out.new.items ≡ out.old.items ++ closings count) }
+    ensures err { OnErr result (Keeps out.old.items out.new.items) }
+{
+    for _ in 0..count {
+        put(out, b"</contents></directory>")?;
+    }
+    Ok(())
+}
+
+/// All nodes, the root first.
+pub fn put_nodes(out: &mut Vec<u8>, nodes: &[Node]) -> Result<(), NoMemory>
+    ensures ok { OnOk result ((v : IndexValue) → map value_of nodes.now ≡ all_nodes v → out.new.items ≡ out.old.items ++ tree_text v) }
+    ensures err { OnErr result (Keeps out.old.items out.new.items) }
+{
+    let Some(root) = nodes.first() else {
+        return Ok(());
+    };
+    put_node(out, root)?;
+    let mut inner = Open { dir: 0, depth: 0 };
+    for at in 1..nodes.len() {
+        inner = put_next(out, nodes, inner, at)?;
+    }
+    put_ends(out, inner.depth + 1)
 }

@@ -13,8 +13,8 @@ unfolding volume_front volume_rear
 returns-clause-ok c =
     let v = volume_of c.args.index.now in
     let is = volume_joined (words Creator v.creator) (if_told v.comment (words Comment)) (element VolumeUuid (uuid_text v.uuid)) (number GenerationNumber v.generation) (time UpdateTime v.updated)
-        (spot Location v.here) (if_told v.back (spot PreviousGenerationLocation))
-        (truth AllowPolicyUpdate v.allow) (if_told v.policy policy) (if_told v.lock (λ state. element VolumeLockState (lock_word state))) (number HighestFileUid v.highest) in
+    (spot Location v.here) (if_told v.back (spot PreviousGenerationLocation))
+    (truth AllowPolicyUpdate v.allow) (if_told v.policy policy) (if_told v.lock (λ state. element VolumeLockState (lock_word state))) (number HighestFileUid v.highest) in
     ok4 c.put_rules.result _ c.args.out.now.items _ _ _ _ _ _ _ _ c.in_ok-put_facts.ensures.ok c.in_ok-put_here.ensures.ok c.in_ok-put_back.ensures.ok is c.put_rules.ensures.ok
 
 pub returns-clause-err : goal.returns-clause-err
