@@ -71,3 +71,7 @@ policy_joined a b x y c d = simp (append_assoc)
 -- the facts of a volume, in three parts with the pointers between them
 pub volume_joined : (a b c d e f g h i j k : List ℕ) → (a ++ b ++ c ++ d ++ e) ++ f ++ g ++ (h ++ i ++ j ++ k) ≡ a ++ b ++ c ++ d ++ e ++ f ++ g ++ h ++ i ++ j ++ k
 volume_joined a b c d e f g h i j k = simp (append_assoc)
+
+-- a whole document
+pub four : (o a b c d o1 o2 o3 n : List ℕ) → o1 ≡ o ++ a → o2 ≡ o1 ++ b → o3 ≡ o2 ++ c → n ≡ o3 ++ d → n ≡ o ++ (a ++ (b ++ c) ++ d)
+four o a b c d o1 o2 o3 n e1 e2 e3 e4 = rw (e4, e3, e2, e1) (simp (append_assoc))

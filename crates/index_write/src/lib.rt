@@ -5,3 +5,6 @@
 mod fields;
 mod nodes;
 mod volume;
+mod writing;
+
+pub use writing::index_text;

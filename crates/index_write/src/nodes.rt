@@ -178,7 +178,7 @@ fn put_next(out: &mut Vec<u8>, nodes: &[Node], inner: Open, at: usize) -> Result
 /// So many ends of directories.
 fn put_ends(out: &mut Vec<u8>, count: usize) -> Result<(), NoMemory>
     ensures ok { OnOk result (out.new.items ≡ out.old.items ++ closings count) }
-    ensures err { OnErr result (Keeps out.old.items out.new.items) }
+    ensures keeps { Keeps out.old.items out.new.items }
 {
     for _ in 0..count {
         put(out, b"</contents></directory>")?;
@@ -189,7 +189,7 @@ fn put_ends(out: &mut Vec<u8>, count: usize) -> Result<(), NoMemory>
 /// All nodes, the root first.
 pub fn put_nodes(out: &mut Vec<u8>, nodes: &[Node]) -> Result<(), NoMemory>
     ensures ok { OnOk result ((v : IndexValue) → map value_of nodes.now ≡ all_nodes v → out.new.items ≡ out.old.items ++ tree_text v) }
-    ensures err { OnErr result (Keeps out.old.items out.new.items) }
+    ensures keeps { Keeps out.old.items out.new.items }
 {
     let Some(root) = nodes.first() else {
         return Ok(());

@@ -1,5 +1,5 @@
 use Rattle.std.proofs.Common.{arith}
-use Rattle.index_write.proofs.Assembled.{err, join, ok, told}
+use Rattle.index_write.proofs.Assembled.{join, ok}
 use Rattle.index_write.proofs.Zipper.{begins_all, finishes_all, goes_on}
 use Rattle.index_write.proofs.nodes.put_nodes.Goals as goal
 
@@ -10,8 +10,8 @@ loop-at-init c = (
     (_, c.in_ok-put_node.ensures.ok)
   )
 
-pub returns-in_err-inner-clause-err : goal.returns-in_err-inner-clause-err
-returns-in_err-inner-clause-err c = told c.from_residual-in_err-inner.result (join c.args.out.now.items _ _ c.loop-at.invariant.2 c.in_err-inner.ensures.keeps)
+pub returns-in_err-inner-clause-keeps : goal.returns-in_err-inner-clause-keeps
+returns-in_err-inner-clause-keeps c = join c.args.out.now.items _ _ c.loop-at.invariant.2 c.in_err-inner.ensures.keeps
 
 pub loop-at-preserved : goal.loop-at-preserved
 loop-at-preserved c = (
@@ -23,5 +23,5 @@ loop-at-preserved c = (
 pub returns-clause-ok : goal.returns-clause-ok
 returns-clause-ok c = ok c.put_ends.result (λ put v is. finishes_all c.args.nodes.now c.loop-at.at c.loop-at.inner c.args.out.now.items _ _ _ c.loop-at-test.false put (c.loop-at.invariant.0 v is)) c.put_ends.ensures.ok
 
-pub returns-clause-err : goal.returns-clause-err
-returns-clause-err c = err c.put_ends.result (λ k. join c.args.out.now.items _ _ c.loop-at.invariant.2 k) c.put_ends.ensures.err
+pub returns-clause-keeps : goal.returns-clause-keeps
+returns-clause-keeps c = join c.args.out.now.items _ _ c.loop-at.invariant.2 c.put_ends.ensures.keeps
