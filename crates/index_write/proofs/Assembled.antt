@@ -4,6 +4,12 @@ use Rattle.std.specs.List.{flat_map}
 use Rattle.std.proofs.lemmas.Grind.{flat_map-append}
 use Rattle.std.proofs.lemmas.List.{take_more}
 use Rattle.doc_fields.specs.Written.{Keeps}
+use Rattle.doc_fields.specs.declared.tags.Tag.TheVariants.{AllowPolicyUpdate, Comment, Creator, GenerationNumber, HighestFileUid, Location, PreviousGenerationLocation, UpdateTime, VolumeLockState, VolumeUuid}
+use Rattle.doc_fields.specs.Values.{lock_word}
+use Rattle.tape_types.specs.Uuids.{uuid_text}
+use Rattle.index_model.specs.Canonical.{element, if_told, number, policy, spot, time, truth, volume_text, words}
+use Rattle.index_model.specs.Values.{VolumeFacts}
+use Rattle.index_write.specs.Parts.{volume_front, volume_rear}
 use Rattle.tape_types.specs.declared.texts.NoMemory.{NoMemory}
 
 abbrev Done : Type 0
@@ -69,9 +75,15 @@ pub policy_joined : (a b x y c d : List ℕ) → (a ++ b) ++ x ++ y ++ (c ++ d) 
 policy_joined a b x y c d = simp (append_assoc)
 
 -- the facts of a volume, in three parts with the pointers between them
-pub volume_joined : (a b c d e f g h i j k : List ℕ) → (a ++ b ++ c ++ d ++ e) ++ f ++ g ++ (h ++ i ++ j ++ k) ≡ a ++ b ++ c ++ d ++ e ++ f ++ g ++ h ++ i ++ j ++ k
+volume_joined : (a b c d e f g h i j k : List ℕ) → (a ++ b ++ c ++ d ++ e) ++ f ++ g ++ (h ++ i ++ j ++ k) ≡ a ++ b ++ c ++ d ++ e ++ f ++ g ++ h ++ i ++ j ++ k
 volume_joined a b c d e f g h i j k = simp (append_assoc)
 
 -- a whole document
 pub four : (o a b c d o1 o2 o3 n : List ℕ) → o1 ≡ o ++ a → o2 ≡ o1 ++ b → o3 ≡ o2 ++ c → n ≡ o3 ++ d → n ≡ o ++ (a ++ (b ++ c) ++ d)
 four o a b c d o1 o2 o3 n e1 e2 e3 e4 = rw (e4, e3, e2, e1) (simp (append_assoc))
+
+pub volume_parts : (v : VolumeFacts) → volume_front v ++ spot Location v.here ++ if_told v.back (spot PreviousGenerationLocation) ++ volume_rear v ≡ volume_text v
+unfolding volume_front volume_rear
+volume_parts v = volume_joined (words Creator v.creator) (if_told v.comment (words Comment)) (element VolumeUuid (uuid_text v.uuid)) (number GenerationNumber v.generation) (time UpdateTime v.updated)
+    (spot Location v.here) (if_told v.back (spot PreviousGenerationLocation))
+    (truth AllowPolicyUpdate v.allow) (if_told v.policy policy) (if_told v.lock (λ state. element VolumeLockState (lock_word state))) (number HighestFileUid v.highest)

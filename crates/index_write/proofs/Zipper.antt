@@ -240,7 +240,7 @@ begins_all (x ∷ more) root old new v first put is =
     let b = begins x more v is in
     let rest = nodes_text v.inside ++ closing in
     let tree : directory_text v.root (nodes_text v.inside) ≡ opening v.root ++ rest =
-        sym (append-nil (directory_text v.root (nodes_text v.inside))) ∙ directory_parts v.root (nodes_text v.inside) [] ∙ ap (λ (t : List ℕ). opening v.root ++ (nodes_text v.inside ++ t)) (append-nil closing) in
+    sym (append-nil (directory_text v.root (nodes_text v.inside))) ∙ directory_parts v.root (nodes_text v.inside) [] ∙ ap (λ (t : List ℕ). opening v.root ++ (nodes_text v.inside ++ t)) (append-nil closing) in
     let written : new ≡ old ++ opening v.root = put ∙ ap (λ (n : Node). old ++ node_text (value_of n)) same ∙ ap (λ (t : List ℕ). old ++ t) b.front in
     record { rest = rest; rests = b.rests; so_far = ap (λ (t : List ℕ). old ++ t) tree ∙ sym (append_assoc old (opening v.root) rest) ∙ ap (λ (t : List ℕ). t ++ rest) (sym written) }
 

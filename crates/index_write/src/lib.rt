@@ -3,8 +3,10 @@
 #![tactic(auto)]
 
 mod fields;
+mod lengths;
 mod nodes;
 mod volume;
 mod writing;
 
+pub use lengths::index_len;
 pub use writing::index_text;

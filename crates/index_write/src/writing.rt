@@ -6,7 +6,7 @@ ghost use Rattle.index_model.specs.Canonical.{canonical};
 ghost use Rattle.index_model.specs.Values.{IndexValue, Tells};
 
 use crate::fields::put;
-//use crate::lengths::index_len;
+use crate::lengths::index_len;
 use crate::nodes::put_nodes;
 use crate::volume::put_volume;
 use index_model::Index;
@@ -36,7 +36,7 @@ pub fn index_text(index: &Index, out: &mut Vec<u8>) -> Result<(), NoMemory>
     ensures text { OnOk result ((v : IndexValue) → Tells index.now v → out.new.items ≡ out.old.items ++ canonical v) }
     ensures stays { OnErr result (out.new.items ≡ out.old.items) }
 {
-    //out.reserve(index_len(index) as usize)?;
+    out.reserve(index_len(index) as usize)?;
     let before = out.len();
     let done = put_index(out, index);
     if done.is_err() {
