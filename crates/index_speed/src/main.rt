@@ -6,10 +6,11 @@
 mod value;
 
 use index_model::Index;
-use index_write::index_text;
+use index_write::{index_len, index_text};
+use std::alloc::Global;
 use std::io::Write;
-use std::{env, io};
-use tape_types::NoMemory;
+use std::{env, io, mem};
+use tape_types::{List, NoMemory};
 
 #[derive(Clone, Copy, PartialEq, Eq)]
 enum What {
@@ -42,14 +43,11 @@ fn main(rt: HostRuntime) -> io::Result<()> {
     let nodes = number_of(&mut words, 1000);
     let rounds = number_of(&mut words, 1);
     let what = what_of(&mut words);
-    let Ok(index) = value::index_of(rt.alloc(), nodes.min(65_536) as u32) else {
+    let Ok(mut index) = value::index_of(rt.alloc(), nodes.min(65_536) as u32) else {
         return println!(rt; "memory");
     };
     if what == What::Len {
-        let mut length = 0;
-        for _ in 0..rounds {
-            length = rounds;
-        }
+        let length = measure_often(rt.alloc(), &mut index, rounds);
         return println!(rt; "{length} bytes");
     }
     let mut out = Vec::new(rt.alloc());
@@ -60,6 +58,24 @@ fn main(rt: HostRuntime) -> io::Result<()> {
         return rt.stdout().write_all(&out);
     }
     println!(rt; "{} bytes, {:016x}", out.len(), sum_of(&out))
+}
+
+fn measure_often(alloc: Global, index: &mut Index, rounds: u64) -> u64 {
+    let mut length = 0;
+    for _ in 0..rounds {
+        length = index_len(index);
+        touch(alloc, index);
+    }
+    length
+}
+
+/// Writes to the nodes, so that no round can take its answer from the one before.
+fn touch(alloc: Global, index: &mut Index) {
+    let mut nodes = mem::replace(&mut index.nodes, List::new(alloc)).into_vec();
+    if let Some(root) = nodes.first_mut() {
+        root.uid = 1;
+    }
+    index.nodes = List::from_vec(nodes);
 }
 
 fn write_often(index: &Index, out: &mut Vec<u8>, rounds: u64) -> Result<(), NoMemory> {

@@ -5,6 +5,8 @@
 mod fields;
 mod lengths;
 mod nodes;
+#[cfg(test)]
+mod tests;
 mod volume;
 mod writing;
 
