@@ -1,19 +1,18 @@
 -- The nodes of an index in their order, one by one, with the directories that are open.
-use Rattle.std.proofs.Common.{◌≡◌, ◌≢◌, ℕ, zero, suc, ◌+◌, ◌-◌, ◌<◌, ◌≤◌, List, [], ◌∷◌, ◌++◌, length, map, drop, get_or, Option, Some, None, refl, sym, ap, subst, ◌∙◌, append_assoc, append-nil, arith, drop-cons}
+use Rattle.std.proofs.Common.{◌≡◌, ◌≢◌, ℕ, zero, suc, ◌+◌, ◌-◌, ◌<◌, ◌≤◌, List, [], ◌∷◌, ◌++◌, length, map, drop, get_or, Some, refl, sym, ap, subst, ◌∙◌, append_assoc, append-nil, arith, drop-cons}
 use Rattle.std.specs.List.{slice_get}
 use Rattle.std.proofs.lemmas.List.{drop_all}
 use Rattle.std.proofs.lemmas.Option.{slice_get-get_or}
 use Rattle.index_model.specs.declared.nodes.Kind.{Kind}
 use Rattle.index_model.specs.declared.nodes.Kind.TheVariants as kinds
 use Rattle.index_model.specs.declared.nodes.Node.{Node}
-use Rattle.index_model.specs.declared.nodes.RawExtent.{RawExtent}
 use Rattle.index_model.specs.Canonical.{directory_text, name, nodes_text, number, times, truth}
 use Rattle.doc_fields.specs.declared.starts.Attribute.TheVariants.{Absent}
 use Rattle.doc_fields.specs.declared.tags.Tag.TheVariants.{Contents, Directory, FileUid, Name, ReadOnly}
 use Rattle.doc_fields.specs.Written.{end_text, start_text}
-use Rattle.index_model.specs.Values.{IndexValue, Nodes, no_nodes, directory, file, link, NodeFacts, NodeValue, all_nodes, count, facts_of, listed, value_in, value_of}
+use Rattle.index_model.specs.Values.{IndexValue, Nodes, no_nodes, directory, file, link, NodeFacts, NodeValue, all_nodes, count, listed, value_in, value_of}
 use Rattle.index_write.specs.declared.nodes.Open.{Open}
-use Rattle.index_write.specs.Parts.{closing, kind_text, node_text, opening, tree_text}
+use Rattle.index_write.specs.Parts.{closing, node_text, opening, tree_text}
 use Rattle.index_write.specs.Rests.{Behind, Goes, Rests, Within, closings, coming, coming_text, opened, parent_at}
 
 cut : (nodes : List Node) (at : ℕ) (d : Node) → at < length nodes → drop at nodes ≡ get_or nodes at d ∷ drop (at + 1) nodes

@@ -24,11 +24,6 @@ file_start f bytes = start_text File Absent ++ file_front f bytes
 abbrev pub closing : List ℕ
 closing = end_text Contents ++ end_text Directory
 
-abbrev pub kind_text : NodeFacts → Kind → List ℕ
-kind_text f kinds.Dir = opening f
-kind_text f (kinds.File bytes extents) = file_text f bytes extents
-kind_text f (kinds.Link text) = link_text f text
-
 -- what is told of the volume in front of the pointers, and behind them
 unfoldable pub volume_front : VolumeFacts → List ℕ
 volume_front v =
@@ -38,6 +33,7 @@ volume_front v =
     ++ number GenerationNumber v.generation
     ++ time UpdateTime v.updated
 
+-- what stands in a pointer
 abbrev pub spot_text : Spot → List ℕ
 spot_text s = letter Partition s.letter ++ number StartBlock s.block
 
@@ -48,7 +44,13 @@ volume_rear v =
     ++ if_told v.lock (λ state. element VolumeLockState (lock_word state))
     ++ number HighestFileUid v.highest
 
--- what stands of a node where its turn comes
+-- what stands of a node where its turn comes, by what it is
+abbrev pub kind_text : NodeFacts → Kind → List ℕ
+kind_text f kinds.Dir = opening f
+kind_text f (kinds.File bytes extents) = file_text f bytes extents
+kind_text f (kinds.Link text) = link_text f text
+
+-- the same of a node as a whole
 abbrev pub node_text : NodeValue → List ℕ
 node_text node = kind_text node.facts node.kind
 

@@ -1,5 +1,5 @@
 -- Counts of bytes in 64 bits.
-use Rattle.std.specs.Prelude.{ℕ, ◌+◌, ◌-◌, ◌^◌, List, [], ◌++◌, length, map, min}
+use Rattle.std.specs.Prelude.{ℕ, ◌-◌, ◌^◌, List, [], ◌++◌, length, map, min}
 use Rattle.std.specs.List.{sum}
 use Rattle.index_model.specs.declared.nodes.Node.{Node}
 use Rattle.index_model.specs.declared.nodes.Kind.{Kind}
@@ -24,7 +24,7 @@ facts_length f = length (number FileUid f.uid ++ name Name f.name ++ times f.tim
 unfoldable pub directory_length : NodeFacts → ℕ
 directory_length f = length (directory_text f [])
 
--- the bytes of a node, of a directory without its children
+-- the bytes of a node; those of a directory without its children
 abbrev pub node_length : NodeValue → ℕ
 node_length node = by node.kind
   where
@@ -33,5 +33,6 @@ node_length node = by node.kind
     by (kinds.File bytes extents) = length (file_text node.facts bytes extents)
     by (kinds.Link text) = length (link_text node.facts text)
 
+-- the bytes of these nodes
 abbrev pub nodes_sum : List Node → ℕ
 nodes_sum nodes = sum (map node_length (map value_of nodes))

@@ -183,7 +183,8 @@ fn text_is_appended(rt: HostRuntime) {
     let mut out = Vec::from_slice(rt.alloc(), b"in front").expect(&rt, "memory");
     index_text(&index, &mut out).expect(&rt, "memory");
     assert!(rt; out.starts_with(b"in front<?xml version=\"1.0\""));
-    assert_eq!(rt; out.len() as u64, 8 + index_len(&index));
+    let more = out.len().saturating_sub(8);
+    assert_eq!(rt; more as u64, index_len(&index));
 }
 
 /// A file of this name in the root.

@@ -1,4 +1,3 @@
-use Rattle.std.proofs.Common.{List, ℕ, ◌++◌, append_assoc, ap, ◌∙◌}
 use Rattle.index_model.specs.Canonical.{extent}
 use Rattle.index_write.proofs.Assembled.{join, one_more, told}
 use Rattle.index_write.proofs.nodes.put_extents.Goals as goal

@@ -1,4 +1,4 @@
-use Rattle.std.proofs.Common.{refl, length, List, ℕ, ◌≡◌, ◌++◌, ◌∙◌, ap}
+use Rattle.std.proofs.Common.{refl, length, List, ℕ, ◌++◌, ◌∙◌, ap}
 use Rattle.doc_fields.specs.declared.tags.Tag.TheVariants.{Symlink}
 use Rattle.index_model.specs.Canonical.{name}
 use Rattle.index_model.specs.Values.{facts_of}

@@ -1,4 +1,4 @@
-use Rattle.std.proofs.Common.{◌≡◌, ◌++◌, ◌<◌, ◌≤◌, length, map}
+use Rattle.std.proofs.Common.{◌≡◌, ◌<◌, map}
 use Rattle.doc_fields.specs.Written.{Keeps}
 use Rattle.index_model.specs.Values.{IndexValue, all_nodes, value_of}
 use Rattle.index_write.specs.Parts.{tree_text}

@@ -1,9 +1,9 @@
-use Rattle.std.proofs.Common.{List, ℕ, ◌++◌, ◌∙◌, ap, map}
+use Rattle.std.proofs.Common.{List, ◌++◌, ◌∙◌, ap, map}
 use Rattle.index_model.specs.Canonical.{canonical, volume_text}
 use Rattle.index_model.specs.Values.{VolumeFacts, value_of}
 use Rattle.index_model.specs.declared.nodes.Node.{Node}
 use Rattle.index_write.specs.Parts.{tree_text}
-use Rattle.index_write.proofs.Assembled.{err, err2, four, join, ok, told}
+use Rattle.index_write.proofs.Assembled.{err, four, join, ok, told}
 use Rattle.index_write.proofs.writing.put_index.Goals as goal
 
 pub returns-clause-ok : goal.returns-clause-ok
