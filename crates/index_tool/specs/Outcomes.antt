@@ -10,6 +10,7 @@ use Rattle.index_model.specs.declared.indexes.Index.{Index}
 use Rattle.index_model.specs.Canonical.{canonical}
 use Rattle.index_model.specs.Grammar.{IndexText, Stops}
 use Rattle.index_model.specs.Telling.{refusal_text}
+use Rattle.index_model.specs.Values.{IndexValue, Tells}
 use Rattle.index_tool.specs.Tool.{IsCommand, IsKnown}
 use Rattle.index_tool.specs.declared.words.Command.{Command}
 use Rattle.index_tool.specs.declared.words.Command.TheVariants as commands
@@ -73,3 +74,45 @@ IsCaused words left end before now outcome =
 abbrev pub IsTold : Outcome → (old new : Option (List ℕ)) → (before now : ℕ) → ℕ → Type 0
 IsTold outcome old new before now status =
     ((status ≡ status_of outcome) × Appends old new (text_of outcome)) ⊎ ((status ≡ 6) × Rose before now × AppendsFront old new (text_of outcome))
+
+-- ---- the same, as a run promises it: what was printed of the text that the source had left
+
+-- the text is an index's, and its generation and the count of its nodes were printed
+pub record IsChecked (text : List ℕ) (old new : Option (List ℕ)) : Type 0 where
+  pub index : Index
+  pub is : IndexText text index
+  pub printed : Appends old new (ok_text index.generation (length index.nodes))
+
+-- the text is an index's, and its one text was printed
+pub record IsCanon (text : List ℕ) (old new : Option (List ℕ)) : Type 0 where
+  pub index : Index
+  pub is : IndexText text index
+  pub printed : Appends old new (canonical is.value)
+
+-- the text stops, and why was printed
+pub record IsToldWhy (text : List ℕ) (old new : Option (List ℕ)) : Type 0 where
+  pub refusal : IndexErr
+  pub stops : IsRefused text refusal
+  pub printed : Appends old new (refusal_text refusal ++ codes "\n")
+
+-- ---- parts of a run
+
+-- what a text comes to
+abbrev pub IsJudged : Command → List ℕ → Outcome → Type 0
+IsJudged command text (outcomes.Sound generation nodes) = (command ≡ commands.Check) × IsSound text generation nodes
+IsJudged command text (outcomes.Written canon) = (command ≡ commands.Canon) × IsWritten text canon
+IsJudged command text outcomes.Words = ⊥
+IsJudged command text (outcomes.Refused refusal) = IsRefused text refusal
+IsJudged command text (outcomes.Source counts) = ⊥
+IsJudged command text outcomes.NoMemory = Unit {0}
+
+-- what an index comes to that is written
+abbrev pub IsWrittenOf : Index → Outcome → Type 0
+IsWrittenOf index (outcomes.Written canon) = (v : IndexValue) → Tells index v → canon ≡ canonical v
+IsWrittenOf index outcomes.NoMemory = Unit {0}
+IsWrittenOf index _ = ⊥
+
+-- the text was written, and the status stays; or the sink failed
+abbrev pub TellsText : List ℕ → ℕ → (old new : Option (List ℕ)) → (before now : ℕ) → ℕ → Type 0
+TellsText text status old new before now result =
+    ((result ≡ status) × Appends old new text) ⊎ ((result ≡ 6) × Rose before now × AppendsFront old new text)

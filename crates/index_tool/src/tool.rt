@@ -1,12 +1,9 @@
 ghost use Rattle.std.specs.Prelude.{◌≡◌, ◌⊎◌, [], ◌∷◌, IfSome};
-ghost use Rattle.std.specs.Io.KnownBytes.{Appends};
 ghost use Rattle.tape_types.specs.Counts.{Rose};
-ghost use Rattle.index_model.specs.Canonical.{canonical};
-ghost use Rattle.index_model.specs.Grammar.{IndexText};
 ghost use Rattle.index_tool.specs.declared.outcomes.Outcome.{Outcome as Ending};
 ghost use Rattle.index_tool.specs.declared.words.Command.TheVariants as commands;
 ghost use Rattle.index_tool.specs.Tool.{IsCommand, IsKnown, IsOneOf};
-ghost use Rattle.index_tool.specs.Outcomes.{IsCaused, IsOutcomeOf, IsRefused, IsSound, IsTold, IsWritten, ok_text, text_of};
+ghost use Rattle.index_tool.specs.Outcomes.{IsCanon, IsCaused, IsChecked, IsJudged, IsOutcomeOf, IsTold, IsToldWhy, IsWrittenOf, TellsText};
 
 use crate::outcomes::Outcome;
 use crate::words::{Command, read_words};
@@ -54,7 +51,7 @@ fn run_told<S: Source, K: Sink>(alloc: Global, words: &Vec<String>, source: &mut
             let outcome = run_command(alloc, command, source);
             finish(alloc, out, outcome)
         }
-        None => finish(alloc, out, Outcome::Words),
+        None => tell(out, b"words\n", 1),
     }
 }
 
@@ -79,7 +76,7 @@ fn judge(alloc: Global, command: Command, text: &[u8]) -> Outcome
                 generation: index.generation,
                 nodes: index.nodes.len() as u64,
             },
-            Command::Canon => written(&index),
+            Command::Canon => written(alloc, &index),
         },
         Err(IndexErr::NoMemory) => Outcome::NoMemory,
         Err(refusal) => Outcome::Refused(refusal),
@@ -87,7 +84,7 @@ fn judge(alloc: Global, command: Command, text: &[u8]) -> Outcome
 }
 
 /// The one text of an index.
-fn written(index: &Index) -> Outcome
+fn written(alloc: Global, index: &Index) -> Outcome
     ensures { IsWrittenOf index.now result }
 {
     let mut text = Vec::new(alloc);

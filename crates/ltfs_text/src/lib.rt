@@ -6,4 +6,6 @@ mod names;
 #[cfg(test)]
 mod tests;
 
-pub use names::{NameText, ReadNameErr, name_text, names_read_back, read_name};
+pub use names::{
+    ESCAPED, NameText, ReadNameErr, has_special, name_text, names_read_back, read_name,
+};

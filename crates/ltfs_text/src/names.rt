@@ -58,8 +58,9 @@ pub fn name_text(alloc: Global, name: &str) -> Result<NameText, NoMemory>
     })
 }
 
-/// Whether a name has a character that isn't written as it is.
-fn has_special(name: &str) -> bool
+/// Whether a name has a character that isn't written as it is: one below U+0020, or U+007F, U+FFFE
+/// or U+FFFF. Such a name is percent-encoded (LTFS 2.4 on the name format).
+pub fn has_special(name: &str) -> bool
     ensures { result ≡ has_special name.now }
 {
     name.chars().any(|c| c < ' ' || c == '\x7f' || c == '\u{fffe}' || c == '\u{ffff}')

@@ -1,0 +1,3 @@
+mod Assembled
+mod SizeLemmas
+mod Zipper

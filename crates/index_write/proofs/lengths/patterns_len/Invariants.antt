@@ -1,0 +1,9 @@
+use Rattle.std.proofs.Common.{◌≡◌, take}
+use Rattle.std.specs.List.{flat_map}
+use Rattle.doc_fields.specs.declared.tags.Tag.TheVariants.{Name}
+use Rattle.index_model.specs.Canonical.{name}
+use Rattle.index_write.specs.Sizes.{size}
+use Rattle.index_write.proofs.lengths.patterns_len.Given as goal
+
+abbrev pub invariant-loop-name : goal.invariant-loop-name
+invariant-loop-name l = l.sum ≡ size (flat_map (name Name) (take l.name-index l.names))

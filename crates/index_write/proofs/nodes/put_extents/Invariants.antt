@@ -1,0 +1,8 @@
+use Rattle.std.proofs.Common.{◌≡◌, ◌++◌, take}
+use Rattle.std.specs.List.{flat_map}
+use Rattle.doc_fields.specs.Written.{Keeps}
+use Rattle.index_model.specs.Canonical.{extent}
+use Rattle.index_write.proofs.nodes.put_extents.Given as goal
+
+abbrev pub invariant-loop-extent : goal.invariant-loop-extent
+invariant-loop-extent l = (l.out.items ≡ l.fn.out.items ++ flat_map extent (take l.extent-index l.extents)) × Keeps l.fn.out.items l.out.items

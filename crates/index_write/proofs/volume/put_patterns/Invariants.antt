@@ -1,0 +1,9 @@
+use Rattle.std.proofs.Common.{◌≡◌, ◌++◌, take}
+use Rattle.std.specs.List.{flat_map}
+use Rattle.doc_fields.specs.Written.{Keeps}
+use Rattle.doc_fields.specs.declared.tags.Tag.TheVariants.{Name}
+use Rattle.index_model.specs.Canonical.{name}
+use Rattle.index_write.proofs.volume.put_patterns.Given as goal
+
+abbrev pub invariant-loop-name : goal.invariant-loop-name
+invariant-loop-name l = (l.out.items ≡ l.fn.out.items ++ flat_map (name Name) (take l.name-index l.names)) × Keeps l.fn.out.items l.out.items

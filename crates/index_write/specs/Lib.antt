@@ -1,0 +1,3 @@
+pub mod Parts
+pub mod Rests
+pub mod Sizes

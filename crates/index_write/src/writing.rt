@@ -1,0 +1,46 @@
+//! The text of an index as a whole.
+
+ghost use Rattle.std.specs.Prelude.{◌≡◌, ◌++◌, OnOk, OnErr};
+ghost use Rattle.doc_fields.specs.Written.{Keeps};
+ghost use Rattle.index_model.specs.Canonical.{canonical};
+ghost use Rattle.index_model.specs.Values.{IndexValue, Tells};
+
+use crate::fields::put;
+use crate::lengths::index_len;
+use crate::nodes::put_nodes;
+use crate::volume::put_volume;
+use index_model::Index;
+use tape_types::NoMemory;
+
+fn put_index(out: &mut Vec<u8>, index: &Index) -> Result<(), NoMemory>
+    ensures ok { OnOk result ((v : IndexValue) → Tells index.now v → out.new.items ≡ out.old.items ++ canonical v) }
+    ensures err { OnErr result (Keeps out.old.items out.new.items) }
+{
+    put(
+        out,
+        b"<?xml version=\"1.0\" encoding=\"UTF-8\"?><ltfsindex version=\"2.4.0\">",
+    )?;
+    put_volume(out, index)?;
+    put_nodes(out, index.nodes.as_slice())?;
+    put(out, b"</ltfsindex>")
+}
+
+/// Appends the one text of an index that is written (LTFS 2.4 on the index): one line in UTF-8,
+/// version 2.4.0, the children of each element in their order, and no white space between
+/// elements. Where memory is refused nothing is appended; it is asked for once, before the first
+/// byte.
+///
+/// The nodes have to stand in the order of the document, the root, which is a directory, first.
+/// Of an index in which they don't, some text is appended that is no index.
+pub fn index_text(index: &Index, out: &mut Vec<u8>) -> Result<(), NoMemory>
+    ensures text { OnOk result ((v : IndexValue) → Tells index.now v → out.new.items ≡ out.old.items ++ canonical v) }
+    ensures stays { OnErr result (out.new.items ≡ out.old.items) }
+{
+    out.reserve(index_len(index) as usize)?;
+    let before = out.len();
+    let done = put_index(out, index);
+    if done.is_err() {
+        out.truncate(before);
+    }
+    done
+}
