@@ -10,10 +10,7 @@ use tape_types::{Bytes, NoMemory, Twin};
 #[derive(Drop)]
 pub enum Outcome {
     /// The input is the document of an index.
-    Sound {
-        generation: u64,
-        nodes: u64,
-    },
+    Sound { generation: u64, nodes: u64 },
     /// The one text of the index.
     Written(Bytes),
     /// The words are no form of a command.

@@ -20,7 +20,12 @@ const NO_LIMIT: usize = 1 << 63;
 /// Runs the program: reads the words and the input, and says whether that is the document of an
 /// index, or prints the one text of the index. Gives the status with which the program ends: 0
 /// done, 1 other words, 2 a refused document, 5 a failed read, 6 a failed write, 7 want of memory.
-pub fn run<S: Source, K: Sink>(alloc: Global, words: &Vec<String>, source: &mut S, out: &mut K) -> u8
+pub fn run<S: Source, K: Sink>(
+    alloc: Global,
+    words: &Vec<String>,
+    source: &mut S,
+    out: &mut K,
+) -> u8
     // After status 0 the input was the document of an index, and its generation and the count of its nodes were printed,
     ensures checked { result ≡ 0 → IsCommand words.now.items commands.Check → IfSome (S.left source.old) (λ text. IsChecked text (K.written out.old) (K.written out.new)) }
     // or its one text.
@@ -42,7 +47,12 @@ pub fn run<S: Source, K: Sink>(alloc: Global, words: &Vec<String>, source: &mut 
     run_told(alloc, words, source, out)
 }
 
-fn run_told<S: Source, K: Sink>(alloc: Global, words: &Vec<String>, source: &mut S, out: &mut K) -> u8
+fn run_told<S: Source, K: Sink>(
+    alloc: Global,
+    words: &Vec<String>,
+    source: &mut S,
+    out: &mut K,
+) -> u8
     ensures { (o : Ending) × IsCaused words.now.items (S.left source.old) (S.left source.new) (S.faults source.old) (S.faults source.new) o
         × IsTold o (K.written out.old) (K.written out.new) (K.faults out.old) (K.faults out.new) result }
 {
