@@ -16,6 +16,7 @@ use ltfs_text::{ESCAPED, has_special};
 use percent_encoding::percent_encode;
 use tape_types::{Moment, NoMemory};
 
+/// Bytes as they are.
 pub fn put(out: &mut Vec<u8>, bytes: &[u8]) -> Result<(), NoMemory>
     ensures ok { OnOk result (out.new.items ≡ out.old.items ++ bytes.now) }
     ensures err { OnErr result (Keeps out.old.items out.new.items) }

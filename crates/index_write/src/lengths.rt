@@ -306,7 +306,9 @@ fn volume_len(index: &Index) -> u64
     ])
 }
 
-/// The length of the text that `index_text` appends, in bytes; 2^64 - 1 where it is longer.
+/// The length in bytes of the text that `index_text` appends, or 2^64 - 1 where it is longer, without
+/// writing it (LTFS 2.4 on the index). It takes no memory. Where the nodes don't stand in the order of
+/// the document, nothing is said of the number.
 pub fn index_len(index: &Index) -> u64
     ensures { (v : IndexValue) → Tells index.now v → result ≡ min (length (canonical v)) (2 ^ 64 - 1) }
 {

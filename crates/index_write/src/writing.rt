@@ -12,6 +12,7 @@ use crate::volume::put_volume;
 use index_model::Index;
 use tape_types::NoMemory;
 
+/// Appends the text, or a part of it.
 fn put_index(out: &mut Vec<u8>, index: &Index) -> Result<(), NoMemory>
     ensures ok { OnOk result ((v : IndexValue) → Tells index.now v → out.new.items ≡ out.old.items ++ canonical v) }
     ensures err { OnErr result (Keeps out.old.items out.new.items) }
@@ -30,8 +31,8 @@ fn put_index(out: &mut Vec<u8>, index: &Index) -> Result<(), NoMemory>
 /// elements. Where memory is refused nothing is appended; it is asked for once, before the first
 /// byte.
 ///
-/// The nodes have to stand in the order of the document, the root, which is a directory, first.
-/// Of an index in which they don't, some text is appended that is no index.
+/// The nodes have to stand in the order of the document, the root, which is a directory, first. Where
+/// they don't, the call ends as well, but nothing is said of what it appends.
 pub fn index_text(index: &Index, out: &mut Vec<u8>) -> Result<(), NoMemory>
     ensures text { OnOk result ((v : IndexValue) → Tells index.now v → out.new.items ≡ out.old.items ++ canonical v) }
     ensures stays { OnErr result (out.new.items ≡ out.old.items) }
