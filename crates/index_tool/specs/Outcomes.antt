@@ -112,6 +112,19 @@ IsWrittenOf index (outcomes.Written canon) = (v : IndexValue) → Tells index v 
 IsWrittenOf index outcomes.NoMemory = Unit {0}
 IsWrittenOf index _ = ⊥
 
+-- what a command makes of an index
+abbrev pub IsAnswer : Command → Index → Outcome → Type 0
+IsAnswer command index (outcomes.Sound generation nodes) = (command ≡ commands.Check) × (index.generation ≡ generation) × (length index.nodes ≡ nodes)
+IsAnswer command index (outcomes.Written canon) = (command ≡ commands.Canon) × IsWrittenOf index (outcomes.Written canon)
+IsAnswer command index outcomes.NoMemory = Unit {0}
+IsAnswer command index _ = ⊥
+
+-- a refusal as it is, but want of memory
+abbrev pub IsRefusal : IndexErr → Outcome → Type 0
+IsRefusal refusal (outcomes.Refused told) = (told ≡ refusal) × (refusal ≢ errors.NoMemory)
+IsRefusal refusal outcomes.NoMemory = refusal ≡ errors.NoMemory
+IsRefusal refusal _ = ⊥
+
 -- the text was written, and the status stays; or the sink failed
 abbrev pub TellsText : List ℕ → ℕ → (old new : Option (List ℕ)) → (before now : ℕ) → ℕ → Type 0
 TellsText text status old new before now result =

@@ -3,7 +3,7 @@ ghost use Rattle.tape_types.specs.Counts.{Rose};
 ghost use Rattle.index_tool.specs.declared.outcomes.Outcome.{Outcome as Ending};
 ghost use Rattle.index_tool.specs.declared.words.Command.TheVariants as commands;
 ghost use Rattle.index_tool.specs.Tool.{IsCommand, IsKnown, IsOneOf};
-ghost use Rattle.index_tool.specs.Outcomes.{IsCanon, IsCaused, IsChecked, IsJudged, IsOutcomeOf, IsTold, IsToldWhy, IsWrittenOf, TellsText};
+ghost use Rattle.index_tool.specs.Outcomes.{IsAnswer, IsCanon, IsCaused, IsChecked, IsJudged, IsOutcomeOf, IsRefusal, IsTold, IsToldWhy, IsWrittenOf, TellsText};
 
 use crate::outcomes::Outcome;
 use crate::words::{Command, read_words};
@@ -81,15 +81,30 @@ fn judge(alloc: Global, command: Command, text: &[u8]) -> Outcome
     ensures { IsJudged command text.now result }
 {
     match read_index(alloc, text) {
-        Ok(index) => match command {
-            Command::Check => Outcome::Sound {
-                generation: index.generation,
-                nodes: index.nodes.len() as u64,
-            },
-            Command::Canon => written(alloc, &index),
+        Ok(index) => answer(alloc, command, &index),
+        Err(refusal) => refused(refusal),
+    }
+}
+
+/// What the index of a document comes to.
+fn answer(alloc: Global, command: Command, index: &Index) -> Outcome
+    ensures { IsAnswer command index.now result }
+{
+    match command {
+        Command::Check => Outcome::Sound {
+            generation: index.generation,
+            nodes: index.nodes.len() as u64,
         },
-        Err(IndexErr::NoMemory) => Outcome::NoMemory,
-        Err(refusal) => Outcome::Refused(refusal),
+        Command::Canon => written(alloc, index),
+    }
+}
+
+fn refused(refusal: IndexErr) -> Outcome
+    ensures { IsRefusal refusal result }
+{
+    match refusal {
+        IndexErr::NoMemory => Outcome::NoMemory,
+        refusal => Outcome::Refused(refusal),
     }
 }
 
