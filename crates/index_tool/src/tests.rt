@@ -1,0 +1,97 @@
+use crate::tool::run;
+use std::alloc::Global;
+use std::process::Abort;
+use tape_edge::{MemSink, MemSource};
+use tape_types::{Bytes, List};
+
+/// The document of an archive as another program may write it.
+const OTHER: &str =
+    "<?xml version=\"1.0\" encoding=\"UTF-8\"?>\n<ltfsindex version=\"2.4.0\">\n  <creator>Example LTFS 2.4.0.0 - Linux - ltfs</creator>\n  <volumeuuid>30a91a08-daae-48d1-ae75-69804e61d2ea</volumeuuid>\n  <generationnumber>3</generationnumber>\n  <comment>Nightly &amp; weekly</comment>\n  <updatetime>2020-01-28T19:39:57.245954278Z</updatetime>\n  <location>\n    <partition>b</partition>\n    <startblock>9</startblock>\n  </location>\n  <previousgenerationlocation>\n    <partition>b</partition>\n    <startblock>5</startblock>\n  </previousgenerationlocation>\n  <allowpolicyupdate>true</allowpolicyupdate>\n  <volumelockstate>unlocked</volumelockstate>\n  <highestfileuid>4</highestfileuid>\n  <directory>\n    <fileuid>1</fileuid>\n    <name>Archive</name>\n    <creationtime>2020-01-28T19:39:50.715656751Z</creationtime>\n      <changetime>2020-01-28T19:39:50.715656751Z</changetime>\n      <modifytime>2020-01-28T19:39:50.715656751Z</modifytime>\n      <accesstime>2020-01-28T19:39:50.715656751Z</accesstime>\n      <backuptime>2020-01-28T19:39:50.715656751Z</backuptime>\n    <readonly>false</readonly>\n    <contents>\n      <directory>\n        <fileuid>2</fileuid>\n        <name>docs</name>\n        <creationtime>2020-01-28T19:39:50.715656751Z</creationtime>\n      <changetime>2020-01-28T19:39:50.715656751Z</changetime>\n      <modifytime>2020-01-28T19:39:50.715656751Z</modifytime>\n      <accesstime>2020-01-28T19:39:50.715656751Z</accesstime>\n      <backuptime>2020-01-28T19:39:50.715656751Z</backuptime>\n        <readonly>false</readonly>\n        <contents>\n          <file>\n            <fileuid>3</fileuid>\n            <name>read me.txt</name>\n            <length>5</length>\n            <creationtime>2020-01-28T19:39:50.715656751Z</creationtime>\n      <changetime>2020-01-28T19:39:50.715656751Z</changetime>\n      <modifytime>2020-01-28T19:39:50.715656751Z</modifytime>\n      <accesstime>2020-01-28T19:39:50.715656751Z</accesstime>\n      <backuptime>2020-01-28T19:39:50.715656751Z</backuptime>\n            <readonly>false</readonly>\n            <openforwrite>false</openforwrite>\n            <extentinfo>\n              <extent>\n                <fileoffset>0</fileoffset>\n                <partition>b</partition>\n                <startblock>7</startblock>\n                <byteoffset>0</byteoffset>\n                <bytecount>5</bytecount>\n              </extent>\n            </extentinfo>\n          </file>\n        </contents>\n      </directory>\n      <file>\n        <fileuid>4</fileuid>\n        <name>latest</name>\n        <length>16</length>\n        <creationtime>2020-01-28T19:39:50.715656751Z</creationtime>\n      <changetime>2020-01-28T19:39:50.715656751Z</changetime>\n      <modifytime>2020-01-28T19:39:50.715656751Z</modifytime>\n      <accesstime>2020-01-28T19:39:50.715656751Z</accesstime>\n      <backuptime>2020-01-28T19:39:50.715656751Z</backuptime>\n        <readonly>false</readonly>\n        <symlink>docs/read me.txt</symlink>\n      </file>\n    </contents>\n  </directory>\n</ltfsindex>\n";
+
+/// The one text of its index.
+const CANONICAL: &str =
+    "<?xml version=\"1.0\" encoding=\"UTF-8\"?><ltfsindex version=\"2.4.0\"><creator>Example LTFS 2.4.0.0 - Linux - ltfs</creator><comment>Nightly &amp; weekly</comment><volumeuuid>30a91a08-daae-48d1-ae75-69804e61d2ea</volumeuuid><generationnumber>3</generationnumber><updatetime>2020-01-28T19:39:57.245954278Z</updatetime><location><partition>b</partition><startblock>9</startblock></location><previousgenerationlocation><partition>b</partition><startblock>5</startblock></previousgenerationlocation><allowpolicyupdate>true</allowpolicyupdate><volumelockstate>unlocked</volumelockstate><highestfileuid>4</highestfileuid><directory><fileuid>1</fileuid><name>Archive</name><creationtime>2020-01-28T19:39:50.715656751Z</creationtime><changetime>2020-01-28T19:39:50.715656751Z</changetime><modifytime>2020-01-28T19:39:50.715656751Z</modifytime><accesstime>2020-01-28T19:39:50.715656751Z</accesstime><backuptime>2020-01-28T19:39:50.715656751Z</backuptime><readonly>false</readonly><contents><directory><fileuid>2</fileuid><name>docs</name><creationtime>2020-01-28T19:39:50.715656751Z</creationtime><changetime>2020-01-28T19:39:50.715656751Z</changetime><modifytime>2020-01-28T19:39:50.715656751Z</modifytime><accesstime>2020-01-28T19:39:50.715656751Z</accesstime><backuptime>2020-01-28T19:39:50.715656751Z</backuptime><readonly>false</readonly><contents><file><fileuid>3</fileuid><name>read me.txt</name><length>5</length><creationtime>2020-01-28T19:39:50.715656751Z</creationtime><changetime>2020-01-28T19:39:50.715656751Z</changetime><modifytime>2020-01-28T19:39:50.715656751Z</modifytime><accesstime>2020-01-28T19:39:50.715656751Z</accesstime><backuptime>2020-01-28T19:39:50.715656751Z</backuptime><readonly>false</readonly><extentinfo><extent><fileoffset>0</fileoffset><partition>b</partition><startblock>7</startblock><byteoffset>0</byteoffset><bytecount>5</bytecount></extent></extentinfo></file></contents></directory><file><fileuid>4</fileuid><name>latest</name><length>16</length><creationtime>2020-01-28T19:39:50.715656751Z</creationtime><changetime>2020-01-28T19:39:50.715656751Z</changetime><modifytime>2020-01-28T19:39:50.715656751Z</modifytime><accesstime>2020-01-28T19:39:50.715656751Z</accesstime><backuptime>2020-01-28T19:39:50.715656751Z</backuptime><readonly>false</readonly><symlink>docs/read me.txt</symlink></file></contents></directory></ltfsindex>";
+
+fn numbers(rt: &impl Abort, alloc: Global, count: u64) -> List<u64> {
+    let mut list = List::new(alloc);
+    for number in 1..count + 1 {
+        list.push(number).expect(rt, "memory");
+    }
+    list
+}
+
+/// Runs the program with a word on a text; the first so many reads and writes fail.
+fn check_run(
+    rt: &impl Abort,
+    alloc: Global,
+    word: &str,
+    text: &str,
+    reads: u64,
+    writes: u64,
+    status: u8,
+    want: &str,
+)
+    requires reads { reads < 10 }
+    requires writes { writes < 10 }
+{
+    let mut words = Vec::new(alloc);
+    words
+        .push(String::from_str(alloc, word).expect(rt, "memory"))
+        .expect(rt, "memory");
+    let bytes = Vec::from_slice(alloc, text.as_bytes()).expect(rt, "memory");
+    let mut source = MemSource::new(Bytes::from_vec(bytes), numbers(rt, alloc, reads));
+    let mut sink = MemSink::new(alloc, numbers(rt, alloc, writes));
+    let got = run(alloc, &words, &mut source, &mut sink);
+    assert_eq!(rt; got, status);
+    assert!(rt; sink.bytes().as_slice() == want.as_bytes());
+}
+
+#[test]
+fn documents_are_checked(rt: HostRuntime) {
+    check_run(&rt, rt.alloc(), "check", OTHER, 0, 0, 0, "ok 3 4\n");
+    check_run(&rt, rt.alloc(), "check", CANONICAL, 0, 0, 0, "ok 3 4\n");
+    check_run(
+        &rt,
+        rt.alloc(),
+        "check",
+        "<ltfslabel/>",
+        0,
+        0,
+        2,
+        "Unknown 0\n",
+    );
+    check_run(
+        &rt,
+        rt.alloc(),
+        "check",
+        "<ltfsindex version='2.4.0'/>",
+        0,
+        0,
+        2,
+        "Missing creator\n",
+    );
+    check_run(&rt, rt.alloc(), "check", "", 0, 0, 2, "Syntax 0\n");
+}
+
+#[test]
+fn the_one_text_is_written(rt: HostRuntime) {
+    check_run(&rt, rt.alloc(), "canon", OTHER, 0, 0, 0, CANONICAL);
+    check_run(&rt, rt.alloc(), "canon", CANONICAL, 0, 0, 0, CANONICAL);
+    check_run(
+        &rt,
+        rt.alloc(),
+        "canon",
+        "<ltfsindex>",
+        0,
+        0,
+        2,
+        "Version\n",
+    );
+}
+
+#[test]
+fn other_words_and_failed_streams(rt: HostRuntime) {
+    check_run(&rt, rt.alloc(), "chek", OTHER, 0, 0, 1, "words\n");
+    check_run(&rt, rt.alloc(), "check", OTHER, 1, 0, 5, "source 0 1\n");
+    check_run(&rt, rt.alloc(), "check", OTHER, 0, 1, 6, "");
+}
