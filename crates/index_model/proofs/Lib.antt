@@ -4,3 +4,5 @@ pub mod FaultLaws
 pub mod NoFault
 pub mod ArchiveFacts
 pub mod DamagedFacts
+pub mod OneValue
+pub mod SomeValue

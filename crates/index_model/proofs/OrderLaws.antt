@@ -12,7 +12,7 @@ lies_further nodes a b c (itself at) h = h
 lies_further nodes a b c (through at upper node behind is way) h = through at c node behind is (lies_further nodes _ b c way h)
 
 -- a node behind another one that lies in it has its parent there too
-parent_within : (nodes : List Node) (at upper : ℕ) (node : Node) → IsAt nodes at node → upper < at → LiesIn nodes at upper → LiesIn nodes node.parent upper
+pub parent_within : (nodes : List Node) (at upper : ℕ) (node : Node) → IsAt nodes at node → upper < at → LiesIn nodes at upper → LiesIn nodes node.parent upper
 parent_within nodes at upper node is behind (itself same) = absurd (omega (arith, behind))
 parent_within nodes at upper node is behind (through same over other from other_is way) =
     subst (λ n. LiesIn nodes n.parent upper) (same_element nodes at other node other_is is) way

@@ -9,10 +9,10 @@ abbrev pub EachFrom : {X : Type 0} → (ℕ → X → Type 0) → ℕ → List X
 EachFrom P at [] = ⊤
 EachFrom P at (x ∷ xs) = P at x × EachFrom P (suc at) xs
 
-none_some : {X : Type 0} (x : X) → None ≡ Some x → ⊥
+pub none_some : {X : Type 0} (x : X) → None ≡ Some x → ⊥
 none_some x e = cc e
 
-some_same : {X : Type 0} (x y : X) → Some x ≡ Some y → x ≡ y
+pub some_same : {X : Type 0} (x y : X) → Some x ≡ Some y → x ≡ y
 some_same x y e = cc
 
 pub each_from : {X : Type 0} (P : ℕ → X → Type 0) (from : ℕ) (xs : List X) → EachFrom P from xs → (at : ℕ) (x : X) → IsAt xs at x → P (from + at) x

@@ -21,7 +21,7 @@ mod tests;
 pub use errors::IndexErr;
 pub use faults::Fault;
 pub use indexes::{Index, Policy, Spot};
-pub use laws::{directories_stand_together, one_fault_is_told};
+pub use laws::{directories_stand_together, indexes_tell_one_value, one_fault_is_told};
 pub use nodes::{Kind, Node, RawExtent};
 pub use schema::{Child, Form, Place, child_of, excludes, is_node, may_repeat, required, tag_of};
 pub use telling::refusal_text;
