@@ -14,3 +14,7 @@ pub mod Whole
 pub mod Assembled
 pub mod Same
 pub mod Exact
+pub mod WrittenItems
+pub mod WrittenValues
+pub mod WrittenAgain
+pub mod WrittenTexts

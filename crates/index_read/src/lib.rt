@@ -2,6 +2,7 @@
 #![tactic(auto)]
 
 mod drafts;
+mod laws;
 mod pieces;
 mod reading;
 mod values;
