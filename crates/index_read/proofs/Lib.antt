@@ -18,3 +18,5 @@ pub mod WrittenItems
 pub mod WrittenValues
 pub mod WrittenAgain
 pub mod WrittenTexts
+pub mod WrittenGood
+pub mod WrittenTells

@@ -188,12 +188,3 @@ abbrev mutual
   pub GoodItems : Place → Items → Type 0
   GoodItems p no_items = ⊤
   GoodItems p (item i is) = GoodItem p i × GoodItems p is
-
--- ---- facts that may be written
-
-pub record IsMoments (t : TimesValue) : Type 0 where
-  pub create : (m : Moment) × (t.create ≡ civil_of m)
-  pub change : (m : Moment) × (t.change ≡ civil_of m)
-  pub modify : (m : Moment) × (t.modify ≡ civil_of m)
-  pub access : (m : Moment) × (t.access ≡ civil_of m)
-  pub backup : (m : Moment) × (t.backup ≡ civil_of m)

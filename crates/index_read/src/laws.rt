@@ -2,7 +2,7 @@
 
 ghost use Rattle.std.specs.Prelude.{◌≡◌};
 
-#[tactic(auto, using(crate::proofs::WrittenTexts::canonical_is))]
+#[tactic(auto, using(crate::proofs::WrittenTells::all_count))]
 fn tried() -> bool
     ensures { result ≡ result }
 {
