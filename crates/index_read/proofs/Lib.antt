@@ -20,3 +20,4 @@ pub mod WrittenAgain
 pub mod WrittenTexts
 pub mod WrittenGood
 pub mod WrittenTells
+pub mod WrittenIndex

@@ -51,11 +51,11 @@ module _ (v : VolumeFacts) (root : Items) where
       × (inside place.Root is ≡ Some root)
 
   abbrev ToldWith : Option (List ℕ) → Option Spot → Option Policy → Option LockState → Type 0
-  ToldWith comment back policy lock =
-      let w = record v { comment = comment; back = back; policy = policy; lock = lock } in
+  ToldWith comment back policy state =
+      let w = record v { comment = comment; back = back; policy = policy; lock = state } in
       ToldBy (index_items w root) w
 
-  told_with : (comment : Option (List ℕ)) (back : Option Spot) (policy : Option Policy) (lock : Option LockState) → ToldWith comment back policy lock
+  told_with : (comment : Option (List ℕ)) (back : Option Spot) (policy : Option Policy) (state : Option LockState) → ToldWith comment back policy state
   told_with None None None None = (refl, refl, refl, refl, refl, spot_tells v.here, tt, refl, tt, refl, refl, refl)
   told_with None None None (Some l) = (refl, refl, refl, refl, refl, spot_tells v.here, tt, refl, tt, refl, refl, refl)
   told_with None None (Some p) None = (refl, refl, refl, refl, refl, spot_tells v.here, tt, refl, policy_tells p, refl, refl, refl)

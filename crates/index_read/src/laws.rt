@@ -2,7 +2,7 @@
 
 ghost use Rattle.std.specs.Prelude.{◌≡◌};
 
-#[tactic(auto, using(crate::proofs::WrittenTells::all_count))]
+#[tactic(auto, using(crate::proofs::WrittenIndex::document_back))]
 fn tried() -> bool
     ensures { result ≡ result }
 {
