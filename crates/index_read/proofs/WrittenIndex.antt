@@ -169,7 +169,9 @@ spelled_by text v is good few =
 
 pub document_back : (index : Index) (v : IndexValue) → IsValid index → Tells index v → AreLinksShort index.nodes → IndexText (canonical v) index
 document_back index v valid tells short =
-    let few : length (all_nodes v) ≤ 65536 = rw (← tells.nodes, length-map index.nodes value_of) valid.formed.count in
+    let count = valid.formed.count in
+    let same : length (all_nodes v) ≡ length index.nodes = ap length (sym tells.nodes) ∙ length-map index.nodes value_of in
+    let few : length (all_nodes v) ≤ 65536 = omega arith in
     record {
       value = v;
       spells = spelled_by (canonical v) v (canonical_is v) (by_nodes index v valid short tells.volume index.nodes refl tells.nodes) few;
