@@ -21,3 +21,4 @@ pub mod WrittenTexts
 pub mod WrittenGood
 pub mod WrittenTells
 pub mod WrittenIndex
+pub mod WrittenLinks

@@ -1,5 +1,5 @@
 -- Elements that are written are spelled.
-use Rattle.std.proofs.Common.{◌≡◌, ℕ, ◌+◌, Bool, true, false, not, ◌&&◌, List, [], ◌∷◌, ◌++◌, length, drop, Option, Some, None, Ok, IsUtf8, refl, sym, ap, subst, ◌∙◌, append_assoc, append-nil, add-zero, arith, length-append}
+use Rattle.std.proofs.Common.{◌≡◌, ℕ, ◌+◌, Bool, true, false, not, ◌&&◌, List, [], ◌∷◌, ◌++◌, length, drop, Option, Some, None, Ok, IsUtf8, refl, sym, ap, subst, ◌∙◌, append_assoc, add-zero, arith, length-append}
 use Rattle.std.proofs.lemmas.Bool.{and_parts}
 use Rattle.std.proofs.lemmas.Str.{IsUtf8-append, IsUtf8-nil}
 use Rattle.doc_fields.specs.declared.tags.Tag.{Tag}
@@ -12,7 +12,7 @@ use Rattle.doc_fields.specs.Written.{attribute_text, end_text, start_text}
 use Rattle.doc_fields.proofs.Again.{next_is, space_again}
 use Rattle.doc_fields.proofs.TagsAgain.{end_again, opened}
 use Rattle.doc_fields.proofs.WrittenBytes.{ascii_valid}
-use Rattle.doc_children.specs.Children.{member, first_missing}
+use Rattle.doc_children.specs.Children.{member}
 use Rattle.index_model.specs.declared.schema.Place.{Place}
 use Rattle.index_model.specs.declared.schema.Form.{Form}
 use Rattle.index_model.specs.declared.schema.Child.{Child}
@@ -20,7 +20,7 @@ use Rattle.index_model.specs.declared.schema.Child.TheVariants as child
 use Rattle.index_model.specs.Canonical.{element}
 use Rattle.index_model.specs.Grammar.{Item, plain, bare, nested, Items, no_items, item, item_tag, MayFollow, Starts, Spelled, AllSpelled}
 use Rattle.index_model.specs.Pieces.{Val, leaf_at, has_any}
-use Rattle.index_model.specs.Schema.{rule, required, tag_of, may_repeat, excludes}
+use Rattle.index_model.specs.Schema.{rule, tag_of, may_repeat, excludes}
 use Rattle.index_read.proofs.WrittenItems.{attribute_of, content_of, GoodItem, GoodItems, HasTags, is_none, may_follow, ReadsBack, stand, text_of, texts_of}
 
 regroup : (a b c d : List ℕ) → (a ++ b ++ c) ++ d ≡ a ++ (b ++ (c ++ d))

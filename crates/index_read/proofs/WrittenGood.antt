@@ -1,5 +1,5 @@
 -- The elements of a valid index are read where they are written.
-use Rattle.std.proofs.Common.{◌≡◌, ℕ, ◌≤◌, ◌<◌, ◌^◌, Bool, true, false, not, ◌&&◌, List, [], ◌∷◌, length, Option, Some, None, IfSome, IsUtf8, refl, sym, ap, subst, arith}
+use Rattle.std.proofs.Common.{◌≡◌, ℕ, ◌≤◌, ◌<◌, ◌^◌, Bool, true, false, not, ◌&&◌, List, [], ◌∷◌, length, Option, Some, None, IfSome, IsUtf8, refl}
 use Rattle.std.specs.Prelude.{⊤}
 use Rattle.std.specs.List.{AllByRecursion}
 use Rattle.tape_types.specs.declared.moments.Moment.{Moment}
@@ -32,7 +32,7 @@ use Rattle.index_model.specs.Schema.{rule, tag_of}
 use Rattle.index_model.specs.Texts.{IsPlainText}
 use Rattle.index_model.specs.Valid.{IsSpot, IsPolicy}
 use Rattle.index_model.specs.Values.{TimesValue, NodeFacts, Nodes, no_nodes, directory, file, link, VolumeFacts, IndexValue}
-use Rattle.index_read.proofs.WrittenItems.{attribute_of, back_item, comment_item, directory_items, extent_items, extents_items, file_items, GoodItem, GoodItems, HasTags, index_items, items_of, lock_item, maybe, name_items, nodes_items, policy_item, ReadsBack, spot_items, stand, times_items}
+use Rattle.index_read.proofs.WrittenItems.{attribute_of, back_item, comment_item, directory_items, extent_items, extents_items, file_items, GoodItem, GoodItems, index_items, items_of, lock_item, maybe, name_items, nodes_items, policy_item, ReadsBack, spot_items, stand, times_items}
 use Rattle.index_read.proofs.WrittenValues.{bounded_back, comment_back, creator_back, generation_back, letter_back, lock_back, node_name_back, number_back, pattern_back, target_back, time_back, truth_back, uuid_back, volume_name_back}
 
 -- ---- facts that can be told in a document
@@ -143,10 +143,16 @@ lock_good state h = leaf_good place.Index VolumeLockState (lock state) form.Lock
 extent_good : (e : RawExtent) → IsExtent e → GoodItem place.ExtentInfo (nested place.Extent (extent_items e))
 extent_good e h = parent_good place.ExtentInfo place.Extent (extent_items e) refl refl refl refl (
   leaf_good place.Extent FileOffset (number e.offset) form.Bounded refl refl refl (bounded_back FileOffset e.offset h.offset),
-  (leaf_good place.Extent Partition (letter e.letter) form.Letter refl refl refl (letter_back Partition e.letter h.letter),
-  (leaf_good place.Extent StartBlock (number e.block) form.Bounded refl refl refl (bounded_back StartBlock e.block h.block),
-  (leaf_good place.Extent ByteOffset (number e.byte) form.Bounded refl refl refl (bounded_back ByteOffset e.byte h.byte),
-  (leaf_good place.Extent ByteCount (number e.count) form.Bounded refl refl refl (bounded_back ByteCount e.count h.count), tt)))),
+  (
+    leaf_good place.Extent Partition (letter e.letter) form.Letter refl refl refl (letter_back Partition e.letter h.letter),
+    (
+      leaf_good place.Extent StartBlock (number e.block) form.Bounded refl refl refl (bounded_back StartBlock e.block h.block),
+      (
+        leaf_good place.Extent ByteOffset (number e.byte) form.Bounded refl refl refl (bounded_back ByteOffset e.byte h.byte),
+        (leaf_good place.Extent ByteCount (number e.count) form.Bounded refl refl refl (bounded_back ByteCount e.count h.count), tt),
+      ),
+    ),
+  ),
 )
 
 extents_stand : (es : List RawExtent) (seen : List Tag) → stand place.ExtentInfo seen (extents_items es) ≡ true
@@ -170,10 +176,16 @@ pub record HasTimes (p : Place) : Type 0 where
 times_good : (p : Place) (t : TimesValue) (behind : Items) → HasTimes p → AreMoments t → GoodItems p behind → GoodItems p (times_items t behind)
 times_good p t behind r h good = (
   leaf_good p CreationTime (time t.create) form.Time r.create refl refl (time_back CreationTime t.create h.create.0 h.create.1),
-  (leaf_good p ChangeTime (time t.change) form.Time r.change refl refl (time_back ChangeTime t.change h.change.0 h.change.1),
-  (leaf_good p ModifyTime (time t.modify) form.Time r.modify refl refl (time_back ModifyTime t.modify h.modify.0 h.modify.1),
-  (leaf_good p AccessTime (time t.access) form.Time r.access refl refl (time_back AccessTime t.access h.access.0 h.access.1),
-  (leaf_good p BackupTime (time t.backup) form.Time r.backup refl refl (time_back BackupTime t.backup h.backup.0 h.backup.1), good)))),
+  (
+    leaf_good p ChangeTime (time t.change) form.Time r.change refl refl (time_back ChangeTime t.change h.change.0 h.change.1),
+    (
+      leaf_good p ModifyTime (time t.modify) form.Time r.modify refl refl (time_back ModifyTime t.modify h.modify.0 h.modify.1),
+      (
+        leaf_good p AccessTime (time t.access) form.Time r.access refl refl (time_back AccessTime t.access h.access.0 h.access.1),
+        (leaf_good p BackupTime (time t.backup) form.Time r.backup refl refl (time_back BackupTime t.backup h.backup.0 h.backup.1), good),
+      ),
+    ),
+  ),
 )
 
 nodes_stand : (nodes : Nodes) (seen : List Tag) → stand place.Contents seen (nodes_items nodes) ≡ true
@@ -185,36 +197,43 @@ nodes_stand (link f text behind) seen = rw (repeats (member (tag_of place.File) 
 file_good : (f : NodeFacts) (bytes : ℕ) (last : Item) → GoodFacts f → IsNodeName f.name → bytes < 2 ^ 64 → GoodItem place.File last → GoodItems place.File (file_items f bytes last)
 file_good f bytes last h name fits good = (
   leaf_good place.File FileUid (number f.uid) form.Number refl refl refl (number_back FileUid f.uid h.uid),
-  (leaf_good place.File Name (words f.name) form.NodeName refl (may_name f.name) refl (node_name_back f.name name),
-  (leaf_good place.File Length (number bytes) form.Number refl refl refl (number_back Length bytes fits),
-  times_good place.File f.times (item (plain ReadOnly (truth f.readonly)) (item last no_items)) record { create = refl; change = refl; modify = refl; access = refl; backup = refl } h.times
-  (leaf_good place.File ReadOnly (truth f.readonly) form.Truth refl refl refl (truth_back ReadOnly f.readonly), (good, tt)))),
+  (
+    leaf_good place.File Name (words f.name) form.NodeName refl (may_name f.name) refl (node_name_back f.name name),
+    (
+      leaf_good place.File Length (number bytes) form.Number refl refl refl (number_back Length bytes fits),
+      times_good place.File f.times (item (plain ReadOnly (truth f.readonly)) (item last no_items)) record { create = refl; change = refl; modify = refl; access = refl; backup = refl } h.times
+          (leaf_good place.File ReadOnly (truth f.readonly) form.Truth refl refl refl (truth_back ReadOnly f.readonly), (good, tt)),
+    ),
+  ),
 )
 
 directory_good : (p : Place) (f : NodeFacts) (inside : Nodes) → rule p FileUid ≡ child.Leaf form.Number → GoodItem p (plain Name (words f.name)) → HasTimes p → rule p ReadOnly ≡ child.Leaf form.Truth → rule p (tag_of place.Contents) ≡ child.Parent place.Contents → GoodFacts f → GoodItems place.Contents (nodes_items inside) → GoodItems p (directory_items f (nodes_items inside))
 directory_good p f inside uid name times readonly contents h good = (
   leaf_good p FileUid (number f.uid) form.Number uid refl refl (number_back FileUid f.uid h.uid),
-  (name,
-  times_good p f.times (item (plain ReadOnly (truth f.readonly)) (item (nested place.Contents (nodes_items inside)) no_items)) times h.times
-  (leaf_good p ReadOnly (truth f.readonly) form.Truth readonly refl refl (truth_back ReadOnly f.readonly),
-  (parent_good p place.Contents (nodes_items inside) contents refl refl (nodes_stand inside []) good, tt))),
+  (
+    name,
+    times_good p f.times (item (plain ReadOnly (truth f.readonly)) (item (nested place.Contents (nodes_items inside)) no_items)) times h.times (
+      leaf_good p ReadOnly (truth f.readonly) form.Truth readonly refl refl (truth_back ReadOnly f.readonly),
+      (parent_good p place.Contents (nodes_items inside) contents refl refl (nodes_stand inside []) good, tt),
+    ),
+  ),
 )
 
 pub nodes_good : (nodes : Nodes) → GoodNodes nodes → GoodItems place.Contents (nodes_items nodes)
 nodes_good no_nodes h = tt
 nodes_good (directory f inside behind) h = (
   parent_good place.Contents place.Directory (directory_items f (nodes_items inside)) refl refl refl refl
-  (directory_good place.Directory f inside refl (leaf_good place.Directory Name (words f.name) form.NodeName refl (may_name f.name) refl (node_name_back f.name h.1)) record { create = refl; change = refl; modify = refl; access = refl; backup = refl } refl refl h.0 (nodes_good inside h.2)),
+      (directory_good place.Directory f inside refl (leaf_good place.Directory Name (words f.name) form.NodeName refl (may_name f.name) refl (node_name_back f.name h.1)) record { create = refl; change = refl; modify = refl; access = refl; backup = refl } refl refl h.0 (nodes_good inside h.2)),
   nodes_good behind h.3,
 )
 nodes_good (file f bytes extents behind) h = (
   parent_good place.Contents place.File (file_items f bytes (nested place.ExtentInfo (extents_items extents))) refl refl refl refl
-  (file_good f bytes (nested place.ExtentInfo (extents_items extents)) h.0 h.1 h.2 (parent_good place.File place.ExtentInfo (extents_items extents) refl refl refl (extents_stand extents []) (extents_good extents h.3))),
+      (file_good f bytes (nested place.ExtentInfo (extents_items extents)) h.0 h.1 h.2 (parent_good place.File place.ExtentInfo (extents_items extents) refl refl refl (extents_stand extents []) (extents_good extents h.3))),
   nodes_good behind h.4,
 )
 nodes_good (link f text behind) h = (
   parent_good place.Contents place.File (file_items f (length text) (plain Symlink (words text))) refl refl refl refl
-  (file_good f (length text) (plain Symlink (words text)) h.0 h.1 h.3 (leaf_good place.File Symlink (words text) form.AnyName refl (may_link text) refl (target_back text h.2))),
+      (file_good f (length text) (plain Symlink (words text)) h.0 h.1 h.3 (leaf_good place.File Symlink (words text) form.AnyName refl (may_link text) refl (target_back text h.2))),
   nodes_good behind h.4,
 )
 
@@ -267,6 +286,6 @@ pub all_good : (v : IndexValue) → GoodIndex v → GoodItems place.Index (items
 all_good v h =
     let root = directory_items v.root (nodes_items v.inside) in
     index_good v.volume root h.volume (
-      parent_good place.Index place.Root root refl refl refl refl
-      (directory_good place.Root v.root v.inside refl (leaf_good place.Root Name (words v.root.name) form.VolumeName refl (may_name v.root.name) refl (volume_name_back v.root.name h.name)) record { create = refl; change = refl; modify = refl; access = refl; backup = refl } refl refl h.root (nodes_good v.inside h.inside))
+    parent_good place.Index place.Root root refl refl refl refl
+    (directory_good place.Root v.root v.inside refl (leaf_good place.Root Name (words v.root.name) form.VolumeName refl (may_name v.root.name) refl (volume_name_back v.root.name h.name)) record { create = refl; change = refl; modify = refl; access = refl; backup = refl } refl refl h.root (nodes_good v.inside h.inside))
     )

@@ -1,5 +1,5 @@
 -- The document that is written of a valid index is that index's.
-use Rattle.std.proofs.Common.{◌≡◌, ℕ, suc, ◌+◌, ◌≤◌, ◌<◌, ◌^◌, List, [], ◌∷◌, ◌++◌, length, map, drop, Some, Ok, IsUtf8, refl, sym, ap, subst, ◌∙◌, arith, length-append}
+use Rattle.std.proofs.Common.{◌≡◌, ℕ, suc, ◌+◌, ◌≤◌, ◌<◌, ◌^◌, List, [], ◌∷◌, ◌++◌, length, map, drop, Ok, IsUtf8, refl, sym, ap, subst, ◌∙◌, arith, length-append}
 use Rattle.std.specs.Prelude.{⊤}
 use Rattle.std.specs.List.{AllByRecursion}
 use Rattle.std.proofs.lemmas.List.{length-map}
@@ -17,7 +17,6 @@ use Rattle.index_model.specs.declared.indexes.Index.{Index}
 use Rattle.index_model.specs.declared.nodes.Kind.{Kind}
 use Rattle.index_model.specs.declared.nodes.Kind.TheVariants as kinds
 use Rattle.index_model.specs.declared.nodes.Node.{Node}
-use Rattle.index_model.specs.declared.nodes.RawExtent.{RawExtent}
 use Rattle.index_model.specs.declared.schema.Place.TheVariants as place
 use Rattle.index_model.specs.Canonical.{canonical, head}
 use Rattle.index_model.specs.Documents.{root_at}
@@ -25,8 +24,7 @@ use Rattle.index_model.specs.Extents.{AreFiles, IsExtent, IsKind}
 use Rattle.index_model.specs.Grammar.{IndexText, Spells}
 use Rattle.index_model.specs.Names.{IsNodeName, IsVolumeName}
 use Rattle.index_model.specs.Places.{IsAt}
-use Rattle.index_model.specs.Uids.{AreUids}
-use Rattle.index_model.specs.Valid.{IsFormed, IsValid}
+use Rattle.index_model.specs.Valid.{IsValid}
 use Rattle.index_model.specs.Values.{NodeFacts, Nodes, no_nodes, directory, file, link, NodeValue, value_in, IndexValue, count, listed, all_nodes, facts_of, value_of, volume_of, Tells}
 use Rattle.index_model.proofs.Walks.{all_at}
 use Rattle.index_read.specs.Links.{AreLinksShort, IsShortLink}

@@ -1,10 +1,8 @@
 -- The elements of an index as they are written.
-use Rattle.std.proofs.Common.{◌≡◌, ℕ, ◌+◌, ◌≤◌, ◌<◌, ◌^◌, Bool, true, false, not, ◌&&◌, List, [], ◌∷◌, ◌++◌, length, drop, Option, Some, None, Ok, IsUtf8, IfSome}
+use Rattle.std.proofs.Common.{◌≡◌, ℕ, ◌+◌, Bool, true, false, not, ◌&&◌, List, [], ◌∷◌, ◌++◌, length, drop, Option, Some, None, Ok, IsUtf8}
 use Rattle.std.specs.Prelude.{⊤}
 use Rattle.std.specs.Fmt.{decimal}
-use Rattle.tape_types.specs.declared.times.Civil.{Civil}
-use Rattle.tape_types.specs.declared.moments.Moment.{Moment}
-use Rattle.tape_types.specs.Times.{civil_of, civil_text}
+use Rattle.tape_types.specs.Times.{civil_text}
 use Rattle.tape_types.specs.Uuids.{uuid_text}
 use Rattle.doc_fields.specs.declared.tags.Tag.{Tag}
 use Rattle.doc_fields.specs.declared.tags.Tag.TheVariants.{Creator, Comment, VolumeUuid, Partition, GenerationNumber, UpdateTime, StartBlock, AllowPolicyUpdate, Size, VolumeLockState, HighestFileUid, FileUid, Name, Length, CreationTime, ChangeTime, ModifyTime, AccessTime, BackupTime, ReadOnly, Symlink, FileOffset, ByteOffset, ByteCount}

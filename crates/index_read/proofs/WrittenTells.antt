@@ -1,5 +1,5 @@
 -- The elements of an index that are written tell that index.
-use Rattle.std.proofs.Common.{◌≡◌, ℕ, ◌+◌, ◌≤◌, List, [], ◌∷◌, ◌++◌, length, Option, Some, None, inl, inr, refl, sym, ap, subst, ◌∙◌, arith, length-append}
+use Rattle.std.proofs.Common.{◌≡◌, ℕ, ◌+◌, ◌≤◌, List, [], ◌∷◌, length, Option, Some, None, inl, inr, refl, ap, arith, length-append}
 use Rattle.std.specs.Option.{option_map}
 use Rattle.doc_fields.specs.declared.tags.Tag.TheVariants.{Creator, Comment, VolumeUuid, GenerationNumber, UpdateTime, AllowPolicyUpdate, Size, VolumeLockState, HighestFileUid, Symlink}
 use Rattle.doc_fields.specs.declared.values.LockState.{LockState}
@@ -7,10 +7,10 @@ use Rattle.index_model.specs.declared.indexes.Policy.{Policy}
 use Rattle.index_model.specs.declared.indexes.Spot.{Spot}
 use Rattle.index_model.specs.declared.nodes.RawExtent.{RawExtent}
 use Rattle.index_model.specs.declared.schema.Place.TheVariants as place
-use Rattle.index_model.specs.Grammar.{HasExtents, inside, Item, Items, item, names_in, nested, no_items, node_count, nodes_of, plain, told, TellsContents, TellsExtent, TellsExtents, TellsFacts, TellsMaybe, TellsNodes, TellsPolicy, TellsSpot, TellsVolume}
-use Rattle.index_model.specs.Pieces.{words, time, uuid, letter, number, truth, lock}
+use Rattle.index_model.specs.Grammar.{inside, Item, Items, item, names_in, nested, no_items, node_count, nodes_of, plain, told, TellsContents, TellsExtents, TellsFacts, TellsMaybe, TellsNodes, TellsPolicy, TellsSpot, TellsVolume}
+use Rattle.index_model.specs.Pieces.{words, time, uuid, number, truth, lock}
 use Rattle.index_model.specs.Values.{NodeFacts, Nodes, no_nodes, directory, file, link, VolumeFacts, IndexValue, count, listed, all_nodes}
-use Rattle.index_read.proofs.WrittenItems.{back_item, comment_item, directory_items, extent_items, extents_items, file_items, index_items, items_of, lock_item, maybe, name_items, nodes_items, policy_item, spot_items}
+use Rattle.index_read.proofs.WrittenItems.{back_item, comment_item, directory_items, extents_items, file_items, index_items, items_of, lock_item, maybe, name_items, nodes_items, policy_item, spot_items}
 
 -- ---- the volume
 
@@ -36,18 +36,18 @@ policy_tells p = record {
 -- what is told of a volume in which each element may be left out that may
 module _ (v : VolumeFacts) (root : Items) where
   abbrev ToldBy : Items → VolumeFacts → Type 0
-  ToldBy is v =
-      (told Creator is ≡ Some (words v.creator))
-      × (told Comment is ≡ option_map words v.comment)
-      × (told VolumeUuid is ≡ Some (uuid v.uuid))
-      × (told GenerationNumber is ≡ Some (number v.generation))
-      × (told UpdateTime is ≡ Some (time v.updated))
-      × TellsMaybe TellsSpot (inside place.Here is) (Some v.here)
-      × TellsMaybe TellsSpot (inside place.Back is) v.back
-      × (told AllowPolicyUpdate is ≡ Some (truth v.allow))
-      × TellsMaybe TellsPolicy (inside place.Policy is) v.policy
-      × (told VolumeLockState is ≡ option_map lock v.lock)
-      × (told HighestFileUid is ≡ Some (number v.highest))
+  ToldBy is w =
+      (told Creator is ≡ Some (words w.creator))
+      × (told Comment is ≡ option_map words w.comment)
+      × (told VolumeUuid is ≡ Some (uuid w.uuid))
+      × (told GenerationNumber is ≡ Some (number w.generation))
+      × (told UpdateTime is ≡ Some (time w.updated))
+      × TellsMaybe TellsSpot (inside place.Here is) (Some w.here)
+      × TellsMaybe TellsSpot (inside place.Back is) w.back
+      × (told AllowPolicyUpdate is ≡ Some (truth w.allow))
+      × TellsMaybe TellsPolicy (inside place.Policy is) w.policy
+      × (told VolumeLockState is ≡ option_map lock w.lock)
+      × (told HighestFileUid is ≡ Some (number w.highest))
       × (inside place.Root is ≡ Some root)
 
   abbrev ToldWith : Option (List ℕ) → Option Spot → Option Policy → Option LockState → Type 0

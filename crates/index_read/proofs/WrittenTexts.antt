@@ -1,5 +1,5 @@
 -- The text of an index is that of its elements.
-use Rattle.std.proofs.Common.{◌≡◌, ℕ, List, [], ◌∷◌, ◌++◌, length, Option, Some, None, refl, sym, ap, ◌∙◌, append_assoc, append-nil}
+use Rattle.std.proofs.Common.{◌≡◌, ℕ, List, [], ◌∷◌, ◌++◌, length, Option, Some, None, refl, ap, ◌∙◌, append_assoc, append-nil}
 use Rattle.std.specs.List.{flat_map}
 use Rattle.tape_types.specs.Uuids.{uuid_text}
 use Rattle.doc_fields.specs.declared.tags.Tag.TheVariants.{LtfsIndex, Creator, Comment, VolumeUuid, Location, Partition, GenerationNumber, UpdateTime, PreviousGenerationLocation, StartBlock, AllowPolicyUpdate, DataPlacementPolicy, IndexPartitionCriteria, Size, VolumeLockState, HighestFileUid, Directory, File, FileUid, Name, Length, CreationTime, ChangeTime, ModifyTime, AccessTime, BackupTime, ReadOnly, Contents, ExtentInfo, Symlink, Extent, FileOffset, ByteOffset, ByteCount}
@@ -13,9 +13,9 @@ use Rattle.index_model.specs.declared.schema.Place.TheVariants as place
 use Rattle.index_model.specs.Canonical.{canonical, directory_text, element, extent, file_text, head, if_told, letter, link_text, name, nodes_text, number, policy, spot, time, truth, volume_text}
 use Rattle.index_model.specs.Canonical as text
 use Rattle.index_model.specs.Pieces as val
-use Rattle.index_model.specs.Grammar.{Item, plain, nested, Items, no_items, item}
-use Rattle.index_model.specs.Values.{NodeFacts, Nodes, no_nodes, directory, file, link, VolumeFacts, IndexValue}
-use Rattle.index_read.proofs.WrittenItems.{back_item, comment_item, directory_items, extent_items, extents_items, file_items, index_items, items_of, lock_item, maybe, name_items, nodes_items, policy_item, spot_items, text_of, texts_of}
+use Rattle.index_model.specs.Grammar.{Item, plain, nested, Items, item}
+use Rattle.index_model.specs.Values.{NodeFacts, Nodes, no_nodes, directory, file, link, IndexValue}
+use Rattle.index_read.proofs.WrittenItems.{back_item, comment_item, directory_items, extent_items, extents_items, file_items, items_of, lock_item, maybe, name_items, nodes_items, policy_item, spot_items, text_of, texts_of}
 
 -- ---- how texts join
 

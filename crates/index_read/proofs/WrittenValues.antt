@@ -1,9 +1,9 @@
 -- The values of leaves that are written are read again.
-use Rattle.std.proofs.Common.{◌≡◌, ℕ, ◌+◌, ◌^◌, ◌<◌, ◌≤◌, Bool, true, false, eqb, not, nat_le, nat_lt, ◌&&◌, List, [], ◌∷◌, ◌++◌, length, get_or, drop, Ok, IsUtf8, refl, sym, subst, ap, ◌∙◌, inl, inr, arith}
+use Rattle.std.proofs.Common.{◌≡◌, ℕ, ◌+◌, ◌^◌, ◌<◌, ◌≤◌, Bool, true, false, eqb, nat_le, nat_lt, List, [], ◌∷◌, ◌++◌, length, get_or, drop, Ok, IsUtf8, refl, ap, ◌∙◌, inl, inr, arith}
 use Rattle.std.specs.Prelude.{⊤}
 use Rattle.std.specs.Fmt.{decimal}
 use Rattle.std.specs.List.{list_all, list_any}
-use Rattle.std.specs.Str.{chars, is_utf8}
+use Rattle.std.specs.Str.{chars}
 use Rattle.std.proofs.lemmas.Bool.{and_parts, or_parts}
 use Rattle.std.proofs.lemmas.Bool.Decides.{nat_tests}
 use Rattle.std.proofs.lemmas.Str.{IsUtf8-from_ascii, scalars-chars}
@@ -12,7 +12,6 @@ use Rattle.percent_encoding.specs.Percent.{percent_encode}
 use Rattle.percent_encoding.proofs.PercentLemmas.{IsAscii-percent_encode}
 use Rattle.tape_types.specs.declared.moments.Moment.{Moment}
 use Rattle.tape_types.specs.declared.times.Civil.{Civil}
-use Rattle.tape_types.specs.Names.{has_byte, is_dot}
 use Rattle.tape_types.specs.Times.{civil_of, civil_text, time_text}
 use Rattle.tape_types.specs.Uuids.{uuid_text}
 use Rattle.tape_types.proofs.UuidLemmas.{length-uuid}
@@ -37,10 +36,10 @@ use Rattle.index_model.specs.declared.schema.Form.{Form}
 use Rattle.index_model.specs.declared.schema.Form.TheVariants as form
 use Rattle.index_model.specs.Canonical.{encoding}
 use Rattle.index_model.specs.Names.{IsVolumeName, IsNodeName}
-use Rattle.index_model.specs.Pieces.{words, time, uuid, letter, number, truth, lock, in_range, is_encoded, is_name, is_too_great, is_volume_name, least, name_in, named, name_of, number_in, value_in}
+use Rattle.index_model.specs.Pieces.{words, time, uuid, letter, number, truth, lock, is_encoded, is_name, is_too_great, is_volume_name, least, name_in, number_in, value_in}
 use Rattle.index_model.specs.Texts.{IsLetter, IsPlainText}
 use Rattle.index_read.proofs.Names.{utf8_is}
-use Rattle.index_read.proofs.WrittenItems.{ReadsBack, shown}
+use Rattle.index_read.proofs.WrittenItems.{ReadsBack}
 
 -- ---- the text of a name may stand in a document
 

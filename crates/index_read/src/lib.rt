@@ -7,3 +7,5 @@ mod pieces;
 mod reading;
 mod values;
 mod walking;
+
+pub use laws::documents_read_back;
