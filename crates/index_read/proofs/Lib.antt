@@ -18,4 +18,12 @@ pub mod Whole
 pub mod Assembled
 pub mod Same
 pub mod Exact
+pub mod WrittenItems
+pub mod WrittenValues
+pub mod WrittenAgain
+pub mod WrittenTexts
+pub mod WrittenGood
+pub mod WrittenTells
+pub mod WrittenIndex
+pub mod WrittenLinks
 pub mod Answered

@@ -1,0 +1,248 @@
+-- The values of leaves that are written are read again.
+use Rattle.std.proofs.Common.{◌≡◌, ℕ, ◌+◌, ◌^◌, ◌<◌, ◌≤◌, Bool, true, false, eqb, nat_le, nat_lt, List, [], ◌∷◌, ◌++◌, length, get_or, drop, Ok, IsUtf8, refl, ap, ◌∙◌, inl, inr, arith}
+use Rattle.std.specs.Prelude.{⊤}
+use Rattle.std.specs.Fmt.{decimal}
+use Rattle.std.specs.List.{list_all, list_any}
+use Rattle.std.specs.Str.{chars}
+use Rattle.std.proofs.lemmas.Bool.{and_parts, or_parts}
+use Rattle.std.proofs.lemmas.Bool.Decides.{nat_tests}
+use Rattle.std.proofs.lemmas.Str.{IsUtf8-from_ascii, scalars-chars}
+use lib.Utf8.{scalar, scalars, scalar_cases}
+use Rattle.percent_encoding.specs.Percent.{percent_encode}
+use Rattle.percent_encoding.proofs.PercentLemmas.{IsAscii-percent_encode}
+use Rattle.tape_types.specs.declared.moments.Moment.{Moment}
+use Rattle.tape_types.specs.declared.times.Civil.{Civil}
+use Rattle.tape_types.specs.Times.{civil_of, civil_text, time_text}
+use Rattle.tape_types.specs.Uuids.{uuid_text}
+use Rattle.tape_types.proofs.UuidLemmas.{length-uuid}
+use Rattle.doc_fields.specs.declared.starts.Attribute.{Attribute}
+use Rattle.doc_fields.specs.declared.starts.Start.{Start}
+use Rattle.doc_fields.specs.declared.tags.Tag.{Tag}
+use Rattle.doc_fields.specs.declared.tags.Tag.TheVariants.{Creator, Comment, Name, Symlink}
+use Rattle.doc_fields.specs.declared.values.LockState.{LockState}
+use Rattle.doc_fields.specs.declared.values.LockState.TheVariants.{Unlocked, Locked, PermLocked}
+use Rattle.doc_fields.specs.Space.{is_space, space_end}
+use Rattle.doc_fields.specs.Texts.{is_allowed, IsWritable}
+use Rattle.doc_fields.specs.Values.{lock_word}
+use Rattle.doc_fields.specs.Written.{bool_text, escape}
+use Rattle.doc_fields.proofs.Again.{next_is, space_again, within}
+use Rattle.doc_fields.proofs.TextsAgain.{escape_valid, text_again}
+use Rattle.doc_fields.proofs.ValuesAgain.{bool_again, decimal_written, length_time, letter_again, lock_again, number_again, time_again, uuid_again}
+use Rattle.doc_fields.proofs.WrittenBytes.{ascii_valid, civil_valid, decimal_first, decimal_valid, one_valid, space_first, time_first, uuid_first, uuid_valid}
+use Rattle.ltfs_text.specs.declared.names.TheConstants.{ESCAPED}
+use Rattle.ltfs_text.specs.Names.{decoded, has_special, is_special, written}
+use Rattle.ltfs_text.proofs.Texts.{written_back, written_plain}
+use Rattle.index_model.specs.declared.schema.Form.{Form}
+use Rattle.index_model.specs.declared.schema.Form.TheVariants as form
+use Rattle.index_model.specs.Canonical.{encoding}
+use Rattle.index_model.specs.Names.{IsVolumeName, IsNodeName}
+use Rattle.index_model.specs.Pieces.{words, time, uuid, letter, number, truth, lock, is_encoded, is_name, is_too_great, is_volume_name, least, name_in, number_in, value_in}
+use Rattle.index_model.specs.Texts.{IsLetter, IsPlainText}
+use Rattle.index_read.proofs.Names.{utf8_is}
+use Rattle.index_read.proofs.WrittenItems.{ReadsBack}
+
+-- ---- the text of a name may stand in a document
+
+allowed_one : (c : ℕ) → scalar c ≡ true → is_special c ≡ false → is_allowed c ≡ true
+allowed_one c e plain = elim (scalar_cases c e) [
+  | inl low ↦ grind (arith, nat_tests)
+  | inr high ↦ let least = high.0 in let most = high.1 in grind (arith, nat_tests)
+]
+
+all_allowed : (cs : List ℕ) → scalars cs ≡ true → list_any is_special cs ≡ false → list_all is_allowed cs ≡ true
+all_allowed [] e plain = refl
+all_allowed (c ∷ cs) e plain =
+    let x = and_parts (scalar c) (scalars cs) e in
+    let y = or_parts (is_special c) (list_any is_special cs) plain in
+    rw (allowed_one c x.0 y.0) (all_allowed cs x.1 y.1)
+
+written_utf8 : (name : List ℕ) → IsUtf8 name → IsUtf8 (written name).text
+written_utf8 name u =
+    elim (has_special name) as (λ b. has_special name ≡ b → IsUtf8 (written name).text) [
+      | true ↦ λ e. rw e (IsUtf8-from_ascii (percent_encode ESCAPED name) (IsAscii-percent_encode ESCAPED name))
+      | false ↦ λ e. rw e u
+    ] refl
+
+pub name_writable : (name : List ℕ) → IsUtf8 name → IsWritable (written name).text
+name_writable name u =
+    let valid = written_utf8 name u in
+    (valid, all_allowed (chars (written name).text) (scalars-chars (written name).text valid) (written_plain name))
+
+-- ---- names
+
+-- a form that is a name's, whose leaf is read as one
+abbrev pub OfName : Form → Type 0
+OfName form.VolumeName = ⊤
+OfName form.NodeName = ⊤
+OfName form.AnyName = ⊤
+OfName _ = ⊥
+
+encoded_is : (name : List ℕ) → is_encoded (encoding (written name)) ≡ (written name).percent
+encoded_is name = go (written name).percent
+  where
+    go : (b : Bool) → is_encoded (encoding (record { text = []; percent = b })) ≡ b
+    go true = refl
+    go false = refl
+
+name_in_back : (f : Form) (name : List ℕ) → IsUtf8 name → is_name f name ≡ true → (text : List ℕ) (from : ℕ) (start : Start) (rest : List ℕ) → start.attribute ≡ encoding (written name) → drop start.next text ≡ escape (written name).text ++ 60 ∷ rest → name_in f from start text ≡ Ok (words name, start.next + length (escape (written name).text))
+unfolding name_in
+name_in_back f name u good text from start rest a e =
+    let read = text_again text start.next (written name).text rest (name_writable name u) e in
+    let inside = within text (start.next + length (escape (written name).text)) 60 rest (next_is text start.next (escape (written name).text) (60 ∷ rest) e) in
+    let test : eqb (start.next + length (escape (written name).text)) (length text) ≡ false = grind (arith, nat_tests) in
+    let bytes : decoded (is_encoded start.attribute) (written name).text ≡ name = ap (λ (x : Attribute). decoded (is_encoded x) (written name).text) a ∙ ap (λ (b : Bool). decoded b (written name).text) (encoded_is name) ∙ (written_back name u).bytes in
+    rw (read, test, bytes, utf8_is name u, good) refl
+
+valid_name : (name : List ℕ) → IsUtf8 name → IsUtf8 (escape (written name).text)
+valid_name name u = escape_valid (written name).text (name_writable name u)
+
+pub pattern_back : (name : List ℕ) → IsUtf8 name → ReadsBack form.AnyName Name (words name)
+pattern_back name u = record { again = λ text from start rest a e. name_in_back form.AnyName name u refl text from start rest a e; valid = valid_name name u }
+
+pub target_back : (text : List ℕ) → IsUtf8 text → ReadsBack form.AnyName Symlink (words text)
+target_back name u = record { again = λ text from start rest a e. name_in_back form.AnyName name u refl text from start rest a e; valid = valid_name name u }
+
+volume_name_is : (name : List ℕ) → IsVolumeName name → is_volume_name name ≡ true
+volume_name_is name h =
+    let short : nat_le (length (chars name)) 255 ≡ true = let s = h.short in grind (arith, nat_tests) in
+    rw (short, h.no_slash, h.no_nul) refl
+
+pub volume_name_back : (name : List ℕ) → IsVolumeName name → ReadsBack form.VolumeName Name (words name)
+volume_name_back name h = record { again = λ text from start rest a e. name_in_back form.VolumeName name h.utf8 (volume_name_is name h) text from start rest a e; valid = valid_name name h.utf8 }
+
+node_name_is : (name : List ℕ) → IsNodeName name → is_name form.NodeName name ≡ true
+node_name_is name h =
+    let some : nat_lt 0 (length name) ≡ true = let s = h.some in grind (arith, nat_tests) in
+    rw (volume_name_is name h.text, some, h.no_dot) refl
+
+pub node_name_back : (name : List ℕ) → IsNodeName name → ReadsBack form.NodeName Name (words name)
+node_name_back name h = record { again = λ text from start rest a e. name_in_back form.NodeName name h.text.utf8 (node_name_is name h) text from start rest a e; valid = valid_name name h.text.utf8 }
+
+-- ---- the other forms
+
+words_in_back : (t : List ℕ) → IsPlainText t → (text : List ℕ) (from : ℕ) (start : Start) (rest : List ℕ) → drop start.next text ≡ escape t ++ 60 ∷ rest → value_in form.Text from start text ≡ Ok (words t, start.next + length (escape t))
+words_in_back t plain text from start rest e = rw (text_again text start.next t rest (plain.utf8, plain.allowed) e) refl
+
+pub creator_back : (t : List ℕ) → IsPlainText t → ReadsBack form.Text Creator (words t)
+creator_back t plain = record { again = λ text from start rest a e. words_in_back t plain text from start rest e; valid = escape_valid t (plain.utf8, plain.allowed) }
+
+pub comment_back : (t : List ℕ) → IsPlainText t → ReadsBack form.Text Comment (words t)
+comment_back t plain = record { again = λ text from start rest a e. words_in_back t plain text from start rest e; valid = escape_valid t (plain.utf8, plain.allowed) }
+
+-- the `<` behind a value is no white space
+behind : (text : List ℕ) (at : ℕ) (s rest : List ℕ) → drop at text ≡ s ++ 60 ∷ rest → space_end text (at + length s) ≡ at + length s
+behind text at s rest e = space_again text (at + length s) 60 rest (next_is text at s (60 ∷ rest) e) refl
+
+pub time_back : (tag : Tag) (c : Civil) (m : Moment) → c ≡ civil_of m → ReadsBack form.Time tag (time c)
+unfolding time_text
+time_back tag c m when = rw when record {
+  again = λ text from start rest a e.
+      let long : length (civil_text (civil_of m)) ≡ 30 = length_time m in
+      let here = space_first text start.next (civil_text (civil_of m)) (60 ∷ rest) (omega (arith, long)) (time_first m) e in
+      let read = time_again text start.next m (60 ∷ rest) e in
+      let there : start.next + 30 ≡ start.next + length (civil_text (civil_of m)) = omega (arith, long) in
+      let after = behind text start.next (civil_text (civil_of m)) rest e in
+      rw (here, read, there, after) refl;
+  valid = civil_valid (civil_of m);
+}
+
+pub uuid_back : (tag : Tag) (n : ℕ) → n < 2 ^ 128 → ReadsBack form.Uuid tag (uuid n)
+uuid_back tag n fits = record {
+  again = λ text from start rest a e.
+      let long = length-uuid n in
+      let here = space_first text start.next (uuid_text n) (60 ∷ rest) (omega (arith, long)) (uuid_first n) e in
+      let read = uuid_again text start.next n (60 ∷ rest) fits e in
+      let there : start.next + 36 ≡ start.next + length (uuid_text n) = omega (arith, long) in
+      let after = behind text start.next (uuid_text n) rest e in
+      rw (here, read, there, after) refl;
+  valid = uuid_valid n;
+}
+
+letter_stops : (b : ℕ) → 97 ≤ b → is_space b ≡ false
+letter_stops b low = grind (arith, nat_tests)
+
+pub letter_back : (tag : Tag) (b : ℕ) → IsLetter b → ReadsBack form.Letter tag (letter b)
+letter_back tag b good = record {
+  again = λ text from start rest a e.
+      let here = space_again text start.next b (60 ∷ rest) e (letter_stops b good.from_a) in
+      let read = letter_again text start.next b (60 ∷ rest) good.from_a good.to_z e in
+      let after = behind text start.next (b ∷ []) rest e in
+      rw (here, read, after) refl;
+  valid = one_valid b (omega (arith, good.to_z));
+}
+
+-- a number of a form is read as one, if it is within its range
+number_in_back : (f : Form) (n : ℕ) → n < 2 ^ 64 → is_too_great f n ≡ false → nat_lt n (least f) ≡ false → (text : List ℕ) (at : ℕ) (rest : List ℕ) → drop at text ≡ decimal n ++ 60 ∷ rest → number_in f text (space_end text at) ≡ Ok (number n, at + length (decimal n))
+unfolding number_in
+number_in_back f n fits most low text at rest e =
+    let here = space_first text at (decimal n) (60 ∷ rest) (decimal_written n fits).some (decimal_first n fits) e in
+    let read = number_again text at n 60 rest fits refl e in
+    let after = behind text at (decimal n) rest e in
+    rw (here, read, most, low, after) refl
+
+within_64 : (n : ℕ) → n ≤ 2 ^ 62 → n < 2 ^ 64
+within_64 n most = omega arith
+
+pub number_back : (tag : Tag) (n : ℕ) → n < 2 ^ 64 → ReadsBack form.Number tag (number n)
+number_back tag n fits = let enough : nat_lt n 0 ≡ false = grind (arith, nat_tests) in record { again = λ text from start rest a e. number_in_back form.Number n fits refl enough text start.next rest e; valid = decimal_valid n fits }
+
+pub bounded_back : (tag : Tag) (n : ℕ) → n ≤ 2 ^ 62 → ReadsBack form.Bounded tag (number n)
+bounded_back tag n most =
+    let fits = within_64 n most in
+    let within_range : nat_lt (2 ^ 62) n ≡ false = grind (arith, nat_tests) in
+    let enough : nat_lt n 0 ≡ false = grind (arith, nat_tests) in
+    record { again = λ text from start rest a e. number_in_back form.Bounded n fits within_range enough text start.next rest e; valid = decimal_valid n fits }
+
+pub generation_back : (tag : Tag) (n : ℕ) → 1 ≤ n → n ≤ 2 ^ 62 → ReadsBack form.Generation tag (number n)
+generation_back tag n some most =
+    let fits = within_64 n most in
+    let within_range : nat_lt (2 ^ 62) n ≡ false = grind (arith, nat_tests) in
+    let enough : nat_lt n 1 ≡ false = grind (arith, nat_tests) in
+    record { again = λ text from start rest a e. number_in_back form.Generation n fits within_range enough text start.next rest e; valid = decimal_valid n fits }
+
+pub truth_back : (tag : Tag) (is : Bool) → ReadsBack form.Truth tag (truth is)
+truth_back tag is = record {
+  again = λ text from start rest a e.
+      let here = space_first text start.next (bool_text is) (60 ∷ rest) (some is) (first is) e in
+      let read = bool_again text start.next is (60 ∷ rest) e in
+      let after = behind text start.next (bool_text is) rest e in
+      rw (here, read, after) refl;
+  valid = valid is;
+}
+  where
+    some : (is : Bool) → 0 < length (bool_text is)
+    some true = omega arith
+    some false = omega arith
+
+    first : (is : Bool) → is_space (get_or (bool_text is) 0 0) ≡ false
+    first true = refl
+    first false = refl
+
+    valid : (is : Bool) → IsUtf8 (bool_text is)
+    valid true = ascii_valid (bool_text true) refl
+    valid false = ascii_valid (bool_text false) refl
+
+pub lock_back : (tag : Tag) (state : LockState) → ReadsBack form.Lock tag (lock state)
+lock_back tag state = record {
+  again = λ text from start rest a e.
+      let here = space_first text start.next (lock_word state) (60 ∷ rest) (some state) (first state) e in
+      let read = lock_again text start.next state (60 ∷ rest) e in
+      let after = behind text start.next (lock_word state) rest e in
+      rw (here, read, after) refl;
+  valid = valid state;
+}
+  where
+    some : (state : LockState) → 0 < length (lock_word state)
+    some Unlocked = omega arith
+    some Locked = omega arith
+    some PermLocked = omega arith
+
+    first : (state : LockState) → is_space (get_or (lock_word state) 0 0) ≡ false
+    first Unlocked = refl
+    first Locked = refl
+    first PermLocked = refl
+
+    valid : (state : LockState) → IsUtf8 (lock_word state)
+    valid Unlocked = ascii_valid (lock_word Unlocked) refl
+    valid Locked = ascii_valid (lock_word Locked) refl
+    valid PermLocked = ascii_valid (lock_word PermLocked) refl
