@@ -123,8 +123,14 @@ impl<R: Files + AllocGlobal + Drop> Folder<R> {
     fn open(&self, to_write: bool) -> io::Result<Opened<R::File>> {
         let _folder = fs::open(&self.rt, self.path.as_str())?;
         Ok(Opened {
-            ip: Partition::new(self.file("ip.map", to_write)?, self.file("ip.dat", to_write)?),
-            dp: Partition::new(self.file("dp.map", to_write)?, self.file("dp.dat", to_write)?),
+            ip: Partition::new(
+                self.file("ip.map", to_write)?,
+                self.file("ip.dat", to_write)?,
+            ),
+            dp: Partition::new(
+                self.file("dp.map", to_write)?,
+                self.file("dp.dat", to_write)?,
+            ),
             memory: self.file("cm", to_write)?,
         })
     }

@@ -1,5 +1,5 @@
 -- The labels of a volume as they are printed, and why they were not read.
-use Rattle.std.specs.Prelude.{ℕ, List, [], ◌∷◌, ◌++◌, Bool, true, false, codes, decimal}
+use Rattle.std.specs.Prelude.{ℕ, ◌+◌, ◌-◌, ◌^◌, List, [], ◌∷◌, ◌++◌, Bool, true, false, codes, decimal}
 use Rattle.percent_encoding.specs.Percent.{percent_encode}
 use Rattle.tape_types.specs.Times.{time_text}
 use Rattle.tape_types.specs.Uuids.{uuid_text}
@@ -10,7 +10,7 @@ use Rattle.ltfs_label.specs.declared.Label.{Label}
 use Rattle.mount_recover.specs.declared.labels.Labels.{Labels}
 use Rattle.mount_recover.specs.declared.labels.MountErr.{MountErr}
 use Rattle.mount_recover.specs.declared.labels.MountErr.TheVariants as errors
-use Rattle.ltfs_server.specs.declared.labels.TheConstants.{ESCAPED}
+use Rattle.percent_encoding.specs.declared.ascii_set.AsciiSet.{AsciiSet}
 
 abbrev pub part_name : Part → List ℕ
 part_name parts.Ip = codes "ip"
@@ -20,9 +20,13 @@ abbrev pub truth_name : Bool → List ℕ
 truth_name true = codes "true"
 truth_name false = codes "false"
 
+-- controls, the space and the percent sign: a bit for each byte below 128
+unfoldable pub escaped_bytes : AsciiSet
+escaped_bytes = record { mask = 2 ^ 32 - 1 + 2 ^ 32 + 2 ^ 37 + 2 ^ 127 }
+
 -- `PART VOLUME `, the volume's identifier with controls, spaces and percent signs escaped
 abbrev pub volume_text : Part → Vol1 → List ℕ
-volume_text part label = part_name part ++ codes " " ++ percent_encode ESCAPED label.volume ++ codes " "
+volume_text part label = part_name part ++ codes " " ++ percent_encode escaped_bytes label.volume ++ codes " "
 
 -- ` SIZE COMPRESSION `
 abbrev pub facts_text : Label → List ℕ

@@ -58,6 +58,7 @@ fn push_line(
 }
 
 /// The partition and the volume's identifier.
+#[tactic(auto, unfolding(crate::specs::Labels::escaped_bytes))]
 fn volume_words(alloc: Global, part: Part, vol1: &Vol1) -> Result<String, NoMemory>
     ensures { IfOk result (λ words. string_bytes words ≡ volume_text part vol1.now) }
 {

@@ -59,7 +59,8 @@ pub fn run<D: Drive, S: Source, K: Sink, C: Clock>(
         → IfSome (S.left script.old) (λ text. IsOk (script_of text) → IsOneOf result.status (0 ∷ 7 ∷ [])) }
     ensures complete_labels { IsLabel words.now.items → ¬ (Rose (D.faults drive) (D.faults result.drive)) → ¬ (Rose (K.faults out.old) (K.faults out.new))
         → IfSome (D.held drive) (λ c. (l : Found) → HasLabels c l → IsOneOf result.status (0 ∷ 7 ∷ [])) }
-    // Nothing of the cartridge changes, and but for `label` nothing of the drive.
+    // Nothing of the cartridge changes, and nothing of the drive with `plain` or with words of no form.
+    ensures plain_drive { IsPlain words.now.items → result.drive ≡ drive }
     ensures drive { ¬ (IsLabel words.now.items) → result.drive ≡ drive }
     ensures held { D.held result.drive ≡ D.held drive }
     ensures limits { D.limits result.drive ≡ D.limits drive }
