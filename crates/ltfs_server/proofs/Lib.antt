@@ -1,3 +1,4 @@
 pub mod RunLemmas
 pub mod WordLemmas
 pub mod OutcomeLemmas
+pub mod ClauseLemmas

@@ -1,9 +1,14 @@
--- What a run of a script by the plain tree promises.
+-- What the commands promise: a run of a script by the plain tree, and the labels of a cartridge.
 use Rattle.std.specs.Prelude.{◌≡◌, ◌⊎◌, ℕ, List, [], ◌∷◌, ◌++◌, All, map, length, Option, Some, None, Ok, IfSome, codes, decimal, String, string_bytes}
 use Rattle.std.specs.Global.{Global}
 use Rattle.std.specs.Io.KnownBytes.{IsAtEnd, Appends}
 use Rattle.tape_types.specs.Times.{time_text}
 use Rattle.tape_types.specs.declared.moments.Moment.{Moment}
+use Rattle.tape_types.specs.declared.cartridges.Cartridge.{Cartridge}
+use Rattle.mount_recover.specs.Labels.{Fails, HasLabels}
+use Rattle.mount_recover.specs.declared.labels.Labels.{Labels}
+use Rattle.mount_recover.specs.declared.labels.MountErr.{MountErr}
+use Rattle.ltfs_server.specs.Labels.{labels_text, mount_status, mount_text}
 use Rattle.tape_edge.specs.Clocks.{IsSince1970}
 use Rattle.plain_tree.specs.History.{IsInterleaving}
 use Rattle.plain_tree.specs.Tree.{empty_tree}
@@ -58,6 +63,18 @@ done_text log = log_text log ++ codes "done " ++ decimal (length log.history) ++
 abbrev pub IsPrinted : Option (List ℕ) → Option (List ℕ) → Option Log → Type 0
 IsPrinted old new None = ⊥
 IsPrinted old new (Some log) = Appends old new (done_text log)
+
+-- the words are `label` and a text
+abbrev pub IsLabel : List (String Global) → Type 0
+IsLabel words = (folder : List ℕ) × (map string_bytes words ≡ codes "label" ∷ folder ∷ [])
+
+-- lines of labels were printed, and where the drive told a cartridge they are its labels
+abbrev pub AreLabelsPrinted : Option Cartridge → (old new : Option (List ℕ)) → Type 0
+AreLabelsPrinted held old new = (l : Labels) × IfSome held (λ c. HasLabels c l) × Appends old new (labels_text l)
+
+-- the line of a check was printed, and where the drive told a cartridge this is its first check that fails
+abbrev pub IsCheckPrinted : Option Cartridge → (old new : Option (List ℕ)) → Type 0
+IsCheckPrinted held old new = (e : MountErr) × (mount_status e ≡ 3) × IfSome held (λ c. Fails c e) × Appends old new (mount_text e)
 
 -- a status is one of these
 abbrev pub IsOneOf : ℕ → List ℕ → Type 0

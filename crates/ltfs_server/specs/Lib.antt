@@ -1,4 +1,5 @@
 pub mod Headline
+pub mod Labels
 pub mod Outcomes
 pub mod Sessions
 pub mod Words

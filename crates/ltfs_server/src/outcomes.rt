@@ -1,6 +1,8 @@
 ghost use Rattle.std.specs.Prelude.{◌≡◌, ◌++◌, IfOk, string_bytes};
 ghost use Rattle.ltfs_server.specs.Outcomes.{text_of, status_of, log_of};
 
+use crate::labels::{labels_text, mount_status, mount_text};
+use mount_recover::{Labels, MountErr};
 use session_script::{Log, ScriptErr, log_text};
 use std::alloc::Global;
 use tape_types::{Bytes, NoMemory, Twin};
@@ -10,10 +12,14 @@ use tape_types::{Bytes, NoMemory, Twin};
 pub enum Outcome {
     /// The calls were run.
     Done(Log),
+    /// The labels were read.
+    Labels(Labels),
     /// The words are no form of a command.
     Words,
     /// The input is no script.
     Script(ScriptErr),
+    /// The labels were not read.
+    Mount(MountErr),
     /// The source failed: its count of faults before and after.
     Source(Twin),
     /// Memory was refused; with the log, where the calls had been run.
@@ -27,6 +33,8 @@ impl Outcome {
     {
         match self {
             Outcome::Done(log) => done_text(alloc, log),
+            Outcome::Labels(labels) => labels_text(alloc, labels),
+            Outcome::Mount(error) => Ok(bytes_of(mount_text(alloc, *error)?)),
             Outcome::Words => Ok(bytes_of(format!(in alloc; "words\n")?)),
             Outcome::Script(refusal) => {
                 let line = refusal.line;
@@ -49,8 +57,10 @@ impl Outcome {
     {
         match self {
             Outcome::Done(log) => (0, Some(log)),
+            Outcome::Labels(_) => (0, None),
             Outcome::Words => (1, None),
             Outcome::Script(_) => (2, None),
+            Outcome::Mount(error) => (mount_status(error), None),
             Outcome::Source(_) => (5, None),
             Outcome::NoMemory(log) => (7, log),
         }

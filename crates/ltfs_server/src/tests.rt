@@ -1,19 +1,81 @@
-use super::*;
-use crate::ended::PlainEnded;
-use std::alloc::AllocError;
-use std::process::Abort;
-use std::test::Fail;
-use tape_edge::{MemSink, MemSource, StepClock};
-use tape_types::{Bytes, List, Moment};
+ghost use Rattle.std.specs.Prelude.{◌≡◌, ◌≤◌, length, IfOk};
+ghost use Rattle.tape_types.specs.Cartridges.{HoldsAtMost, IsItem};
 
-/// Runs the program with the reads and writes of these numbers failing.
+use super::*;
+use crate::ended::Ended;
+use std::process::Abort;
+use tape_drive::{Cmd, Fail as Listed, MemDrive};
+use tape_edge::{MemSink, MemSource, StepClock};
+use tape_types::{Bytes, Cartridge, Item, Limits, List, Moment, NoMemory, Note};
+
+const VOL1: &[u8] =
+    b"VOL1TAPE01L             LTFS                                                   4";
+
+const IP: &[u8] =
+    b"<?xml version=\"1.0\" encoding=\"UTF-8\"?><ltfslabel version=\"2.4.0\"><creator>ltfs_server 1.0.0</creator><formattime>2024-01-02T03:04:05.000000000Z</formattime><volumeuuid>30a91a08-daae-48d1-ae75-69804e61d2ea</volumeuuid><location><partition>a</partition></location><partitions><index>a</index><data>b</data></partitions><blocksize>4096</blocksize><compression>false</compression></ltfslabel>";
+
+const DP: &[u8] =
+    b"<?xml version=\"1.0\" encoding=\"UTF-8\"?><ltfslabel version=\"2.4.0\"><creator>ltfs_server 1.0.0</creator><formattime>2024-01-02T03:04:05.000000000Z</formattime><volumeuuid>30a91a08-daae-48d1-ae75-69804e61d2ea</volumeuuid><location><partition>b</partition></location><partitions><index>a</index><data>b</data></partitions><blocksize>4096</blocksize><compression>false</compression></ltfslabel>";
+
+/// A partition by letters: `v` is the VOL1 record, `a` and `b` are the labels, and `m` is a mark.
+fn part(alloc: Global, letters: &[u8]) -> Result<List<Item>, NoMemory>
+    requires { length letters.now ≤ 1000 }
+    ensures { IfOk result (HoldsAtMost 1000) }
+{
+    let mut items = Vec::new(alloc);
+    for letter in letters {
+        items.push(item(alloc, *letter)?)?;
+    }
+    Ok(List::from_vec(items))
+}
+
+fn item(alloc: Global, letter: u8) -> Result<Item, NoMemory>
+    ensures { IfOk result IsItem }
+{
+    match letter {
+        b'v' => block(alloc, VOL1),
+        b'a' => block(alloc, IP),
+        b'b' => block(alloc, DP),
+        _ => Ok(Item::Mark),
+    }
+}
+
+fn block(alloc: Global, bytes: &[u8]) -> Result<Item, NoMemory>
+    requires some { 1 ≤ length bytes.now }
+    requires size { length bytes.now ≤ 1048576 }
+    ensures { IfOk result IsItem }
+{
+    Ok(Item::Block(Bytes::from_vec(Vec::from_slice(alloc, bytes)?)))
+}
+
+/// A drive with a cartridge of these partitions. Its reads of these numbers fail.
+fn drive_of(alloc: Global, ip: &[u8], dp: &[u8], fails: List<Listed>) -> Result<MemDrive, NoMemory>
+    requires ip { length ip.now ≤ 1000 }
+    requires dp { length dp.now ≤ 1000 }
+{
+    let held = Cartridge {
+        ip: part(alloc, ip)?,
+        dp: part(alloc, dp)?,
+        vcr: 0,
+        note_ip: Note::Absent,
+        note_dp: Note::Absent,
+    };
+    let limits = Limits {
+        cap_ip: 1000,
+        cap_dp: 1000,
+    };
+    Ok(MemDrive::new(alloc, held, limits, fails))
+}
+
+/// Runs the program on a drive and a script, with the reads and writes of these numbers failing.
 fn ran(
     alloc: Global,
     words: &str,
+    drive: MemDrive,
     script: &str,
     read_fails: &[u64],
     write_fails: &[u64],
-) -> Result<(PlainEnded, MemSink), AllocError> {
+) -> Result<(Ended<MemDrive>, MemSink), NoMemory> {
     let mut all = Vec::new(alloc);
     for word in words.split(' ') {
         all.push(String::from_str(alloc, word)?)?;
@@ -22,7 +84,7 @@ fn ran(
     let mut source = MemSource::new(bytes, List::from_vec(Vec::from_slice(alloc, read_fails)?));
     let mut sink = MemSink::new(alloc, List::from_vec(Vec::from_slice(alloc, write_fails)?));
     let clock = StepClock::new(Moment { secs: 0, nanos: 0 }, 1);
-    let ended = run(alloc, &all, &mut source, &mut sink, clock);
+    let ended = run(alloc, &all, drive, &mut source, &mut sink, clock);
     Ok((ended, sink))
 }
 
@@ -34,8 +96,9 @@ fn check<R: Abort>(
     script: &str,
     status: u8,
     output: &str,
-) -> Result<(), AllocError> {
-    let (ended, sink) = ran(alloc, words, script, &[], &[])?;
+) -> Result<(), NoMemory> {
+    let drive = drive_of(alloc, b"", b"", List::new(alloc))?;
+    let (ended, sink) = ran(alloc, words, drive, script, &[], &[])?;
     assert_eq!(rt; sink.bytes().as_slice(), output.as_bytes());
     assert_eq!(rt; ended.status, status);
     assert_eq!(rt; ended.log.is_some(), status == 0);
@@ -43,7 +106,7 @@ fn check<R: Abort>(
 }
 
 #[test]
-fn scripts_print_their_logs(rt: HostRuntime) -> Result<(), Fail> {
+fn scripts_print_their_logs(rt: HostRuntime) -> Result<(), NoMemory> {
     let alloc = rt.alloc();
     check(
         &rt,
@@ -74,7 +137,7 @@ fn scripts_print_their_logs(rt: HostRuntime) -> Result<(), Fail> {
 }
 
 #[test]
-fn given_moments_are_printed(rt: HostRuntime) -> Result<(), Fail> {
+fn given_moments_are_printed(rt: HostRuntime) -> Result<(), NoMemory> {
     check(
         &rt,
         rt.alloc(),
@@ -87,7 +150,7 @@ fn given_moments_are_printed(rt: HostRuntime) -> Result<(), Fail> {
 }
 
 #[test]
-fn faulty_words_and_scripts_are_told(rt: HostRuntime) -> Result<(), Fail> {
+fn faulty_words_and_scripts_are_told(rt: HostRuntime) -> Result<(), NoMemory> {
     let alloc = rt.alloc();
     let script = "1 mkdir /a\n1 fly /a\n";
     check(&rt, alloc, "plain", script, 2, "script 2 Verb\n")?;
@@ -101,17 +164,111 @@ fn faulty_words_and_scripts_are_told(rt: HostRuntime) -> Result<(), Fail> {
     Ok(())
 }
 
+/// `plain` ends with this status and this output where these reads and writes fail.
+fn check_faults<R: Abort>(
+    rt: &R,
+    alloc: Global,
+    read_fails: &[u64],
+    write_fails: &[u64],
+    status: u8,
+    output: &str,
+) -> Result<(), NoMemory> {
+    let drive = drive_of(alloc, b"", b"", List::new(alloc))?;
+    let (ended, sink) = ran(
+        alloc,
+        "plain",
+        drive,
+        "1 mkdir /a\n",
+        read_fails,
+        write_fails,
+    )?;
+    assert_eq!(rt; sink.bytes().as_slice(), output.as_bytes());
+    assert_eq!(rt; ended.status, status);
+    assert_eq!(rt; ended.log.is_some(), status == 6);
+    Ok(())
+}
+
 #[test]
-fn failed_streams_are_told(rt: HostRuntime) -> Result<(), Fail> {
-    let (ended, sink) = ran(rt.alloc(), "plain", "1 mkdir /a\n", &[1], &[])?;
-    assert_eq!(rt; ended.status, 5);
-    assert_eq!(rt; sink.bytes().as_slice(), b"source 0 1\n".as_slice());
-    let (ended, sink) = ran(rt.alloc(), "plain", "1 mkdir /a\n", &[2], &[])?;
-    assert_eq!(rt; ended.status, 5);
-    assert_eq!(rt; sink.bytes().as_slice(), b"source 0 1\n".as_slice());
-    let (ended, sink) = ran(rt.alloc(), "plain", "1 mkdir /a\n", &[], &[1])?;
-    assert_eq!(rt; ended.status, 6);
-    assert_eq!(rt; sink.bytes().as_slice(), b"".as_slice());
-    assert!(rt; ended.log.is_some());
+fn failed_streams_are_told(rt: HostRuntime) -> Result<(), NoMemory> {
+    let alloc = rt.alloc();
+    check_faults(&rt, alloc, &[1], &[], 5, "source 0 1\n")?;
+    check_faults(&rt, alloc, &[2], &[], 5, "source 0 1\n")?;
+    check_faults(&rt, alloc, &[], &[1], 6, "")?;
+    Ok(())
+}
+
+/// `label`, run on a cartridge of these partitions, ends with this status and this output.
+fn check_label<R: Abort>(
+    rt: &R,
+    alloc: Global,
+    words: &str,
+    ip: &[u8],
+    dp: &[u8],
+    status: u8,
+    output: &str,
+) -> Result<(), NoMemory>
+    requires ip { length ip.now ≤ 1000 }
+    requires dp { length dp.now ≤ 1000 }
+{
+    let drive = drive_of(alloc, ip, dp, List::new(alloc))?;
+    let (ended, sink) = ran(alloc, words, drive, "", &[], &[])?;
+    assert_eq!(rt; sink.bytes().as_slice(), output.as_bytes());
+    assert_eq!(rt; ended.status, status);
+    assert!(rt; ended.log.is_none());
+    Ok(())
+}
+
+#[test]
+fn labels_are_printed(rt: HostRuntime) -> Result<(), NoMemory> {
+    let alloc = rt.alloc();
+    let both =
+        "ip TAPE01 a 30a91a08-daae-48d1-ae75-69804e61d2ea 4096 false 2024-01-02T03:04:05.000000000Z\ndp TAPE01 b 30a91a08-daae-48d1-ae75-69804e61d2ea 4096 false 2024-01-02T03:04:05.000000000Z\n";
+    check_label(&rt, alloc, "label D", b"vmam", b"vmbm", 0, both)?;
+    check_label(&rt, alloc, "label D", b"", b"vmbm", 3, "volume Vol1 ip\n")?;
+    check_label(&rt, alloc, "label D", b"vmam", b"v", 3, "volume Vol1 dp\n")?;
+    check_label(
+        &rt,
+        alloc,
+        "label D",
+        b"vma",
+        b"vmbm",
+        3,
+        "volume Label ip\n",
+    )?;
+    check_label(
+        &rt,
+        alloc,
+        "label D",
+        b"vmam",
+        b"vmvm",
+        3,
+        "volume Label dp\n",
+    )?;
+    check_label(
+        &rt,
+        alloc,
+        "label D",
+        b"vmam",
+        b"vmam",
+        3,
+        "volume LabelsDiffer\n",
+    )?;
+    check_label(&rt, alloc, "label", b"vmam", b"vmbm", 1, "words\n")?;
+    check_label(&rt, alloc, "label a b", b"vmam", b"vmbm", 1, "words\n")?;
+    Ok(())
+}
+
+#[test]
+fn a_failed_drive_is_told(rt: HostRuntime) -> Result<(), NoMemory> {
+    let alloc = rt.alloc();
+    let first = Listed {
+        kind: Cmd::Read,
+        nth: 1,
+    };
+    let fails = List::from_vec(Vec::from_slice(alloc, &[first])?);
+    let drive = drive_of(alloc, b"vmam", b"vmbm", fails)?;
+    let (ended, sink) = ran(alloc, "label D", drive, "", &[], &[])?;
+    assert_eq!(rt; sink.bytes().as_slice(), b"drive 0 1\n".as_slice());
+    assert_eq!(rt; ended.status, 4);
     Ok(())
 }

@@ -1,15 +1,18 @@
 ghost use Rattle.std.specs.Prelude.{◌≡◌, map, string_bytes};
-ghost use Rattle.ltfs_server.specs.Words.{IsSpelledBy, IsMomentOf, form_of};
+ghost use Rattle.ltfs_server.specs.Words.{IsSpelledBy, IsMomentOf, form_of, is_label};
 
 use tape_types::{Moment, parse_time};
 
-/// The words of `plain`, which runs a script on a plain tree. Every moment is the given one, or else the clock's.
+/// What the words of a command line ask for.
 #[derive(Clone, Copy)]
-pub struct PlainWords {
-    pub at: Option<Moment>,
+pub enum Command {
+    /// `plain`, which runs a script on a plain tree. Every moment is the given one, or else the clock's.
+    Plain { at: Option<Moment> },
+    /// `label`, which reads the labels of the cartridge.
+    Label,
 }
 
-/// Which form the words have, before a time among them is read.
+/// Which form of `plain` the words have, before a time among them is read.
 #[derive(Clone, Copy)]
 enum Form {
     Plain,
@@ -18,16 +21,29 @@ enum Form {
 }
 
 /// What the words spell, where they are of a form.
-pub fn read_words(words: &[String]) -> Option<PlainWords>
+#[tactic(auto, using(crate::proofs::WordLemmas::label_words, crate::proofs::WordLemmas::no_label_words))]
+pub fn read_words(words: &[String]) -> Option<Command>
     ensures { IsSpelledBy words.now result }
 {
+    if is_label(words) {
+        return Some(Command::Label);
+    }
     match form_of(words) {
-        Form::Plain => Some(PlainWords { at: None }),
+        Form::Plain => Some(Command::Plain { at: None }),
         Form::PlainAt => match read_moment(words[2].as_str()) {
-            Some(at) => Some(PlainWords { at: Some(at) }),
+            Some(at) => Some(Command::Plain { at: Some(at) }),
             None => None,
         },
         Form::Other => None,
+    }
+}
+
+fn is_label(words: &[String]) -> bool
+    ensures { result ≡ is_label (map string_bytes words.now) }
+{
+    match words {
+        [command, _] => command.as_str() == "label",
+        _ => false,
     }
 }
 

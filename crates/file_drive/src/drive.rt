@@ -1,0 +1,199 @@
+// The drive over a folder, as far as it keeps count.
+ghost use Rattle.std.specs.Prelude.{◌≡◌, ◌≤◌, ◌<◌, ◌^◌, ◌+◌, ◌-◌, length, vec_capacity, None, Some, Ok, IfOk, OnOk, OnErr};
+ghost use Rattle.tape_types.specs.declared.cartridges.Limits.{Limits};
+ghost use Rattle.tape_types.specs.declared.cartridges.Place.{Place};
+ghost use Rattle.tape_types.specs.Counts.{HasCause};
+ghost use Rattle.tape_types.specs.Cartridges.{capacity, next};
+ghost use Rattle.tape_drive.specs.Commands.{after_read, Counted};
+
+use crate::folder::Folder;
+use std::io;
+use std::rt::Files;
+use tape_drive::{Drive, DriveErr, Got};
+use tape_types::{Limits, Note, Part, Place};
+
+const CAP_IP: u64 = 65536;
+
+const CAP_DP: u64 = 1048576;
+
+/// A drive over the files of a folder. It tells no content: what it reads is known when it has been read.
+///
+/// A command fails where the system refuses a call, where a file is damaged beyond what reads as Torn, where a head
+/// is to be moved past the end, and where the volume change reference is at its end.
+#[derive(Drop)]
+pub struct FileDrive<R: Files> {
+    folder: Folder<R>,
+    head: Option<Place>,
+    faults: u64,
+    commands: u64,
+}
+
+impl<R: Files + AllocGlobal + Drop> FileDrive<R> {
+    /// A drive that has had no command. The folder is opened by the first one; a folder that is missing is its fault.
+    pub fn new(rt: R, folder: String) -> FileDrive<R>
+        ensures head { result.head ≡ None }
+        ensures faults { result.faults ≡ 0 }
+        ensures commands { result.commands ≡ 0 }
+    {
+        FileDrive {
+            folder: Folder::new(rt, folder),
+            head: None,
+            faults: 0,
+            commands: 0,
+        }
+    }
+
+    fn begin(&mut self)
+        ensures head { self.new.head ≡ self.old.head }
+        ensures faults { self.new.faults ≡ self.old.faults }
+        ensures count { Counted 1 self.old.commands self.new.commands }
+    {
+        self.commands = self.commands.saturating_add(1);
+    }
+
+    // How a command ended. Where it failed the head is lost.
+    fn ended<T: Drop>(&mut self, outcome: io::Result<T>) -> Result<T, DriveErr>
+        ensures value { IfOk result (λ value. outcome ≡ Ok value) }
+        ensures head { OnOk result (self.new.head ≡ self.old.head) }
+        ensures lost { OnErr result (self.new.head ≡ None) }
+        ensures commands { self.new.commands ≡ self.old.commands }
+        ensures cause { HasCause self.old.faults self.new.faults result }
+    {
+        match outcome {
+            Ok(value) => Ok(value),
+            Err(_) => {
+                self.faults = self.faults.saturating_add(1);
+                self.head = None;
+                Err(DriveErr::Failed)
+            }
+        }
+    }
+}
+
+impl<R: Files + AllocGlobal + Drop> Drive for FileDrive<R> {
+    const MOST: u64 = 1;
+
+    ghost MOST = { 1 };
+
+    ghost held = { λ _. None };
+
+    ghost head = { λ d. d.head };
+
+    ghost limits = { λ _. record { cap_ip = 65536; cap_dp = 1048576 } };
+
+    ghost faults = { λ d. d.faults };
+
+    ghost commands = { λ d. d.commands };
+
+    // Nothing is told: a crash may leave any cartridge.
+    ghost leaves = { λ _ _. Unit {0} };
+
+    ghost left_since = { λ _ _ _. Unit {0} };
+
+    ghost only_now = { λ _ _ _ left. left };
+
+    ghost counts_now = { λ _ _ _ _ left. left };
+
+    ghost lower = { λ _ _ _ _ _ left. left };
+
+    fn limits(&self) -> Limits {
+        Limits {
+            cap_ip: CAP_IP,
+            cap_dp: CAP_DP,
+        }
+    }
+
+    fn faults(&self) -> u64 {
+        self.faults
+    }
+
+    fn commands(&self) -> u64 {
+        self.commands
+    }
+
+    fn locate(&mut self, place: Place) -> Result<(), DriveErr> {
+        self.begin();
+        let found = self.folder.reaches(place);
+        self.ended(found)?;
+        self.head = Some(place);
+        Ok(())
+    }
+
+    fn read(&mut self, buf: &mut Vec<u8>) -> Result<Got, DriveErr> {
+        let Some(at) = self.head else { unreachable!() };
+        self.begin();
+        let found = if capacity_of(at.part) <= at.pos {
+            buf.clear();
+            Ok(Got::End)
+        } else {
+            self.folder.read(at, buf)
+        };
+        let got = self.ended(found)?;
+        match got {
+            Got::Block | Got::Mark => self.head = Some(step(at)),
+            Got::End | Got::Torn => {}
+        }
+        Ok(got)
+    }
+
+    fn write(&mut self, bytes: &[u8]) -> Result<(), DriveErr> {
+        let Some(at) = self.head else { unreachable!() };
+        self.begin();
+        let written = self.folder.write(at, bytes);
+        self.ended(written)?;
+        self.head = Some(step(at));
+        Ok(())
+    }
+
+    fn mark(&mut self) -> Result<(), DriveErr> {
+        let Some(at) = self.head else { unreachable!() };
+        self.begin();
+        let written = self.folder.mark(at);
+        self.ended(written)?;
+        self.head = Some(step(at));
+        Ok(())
+    }
+
+    fn flush(&mut self) -> Result<(), DriveErr> {
+        self.begin();
+        let flushed = self.folder.flush();
+        self.ended(flushed)
+    }
+
+    fn read_note(&mut self, part: Part) -> Result<Note, DriveErr> {
+        self.begin();
+        let found = self.folder.read_note(part);
+        self.ended(found)
+    }
+
+    fn write_note(&mut self, part: Part, note: &[u8; 70]) -> Result<(), DriveErr> {
+        self.begin();
+        let written = self.folder.write_note(part, Note::Kept(*note));
+        self.ended(written)
+    }
+
+    fn vcr(&mut self) -> Result<u64, DriveErr> {
+        self.begin();
+        let found = self.folder.vcr();
+        self.ended(found)
+    }
+}
+
+fn capacity_of(part: Part) -> u64
+    ensures { result ≡ capacity part (record { cap_ip = 65536; cap_dp = 1048576 }) }
+{
+    match part {
+        Part::Ip => CAP_IP,
+        Part::Dp => CAP_DP,
+    }
+}
+
+fn step(at: Place) -> Place
+    requires { at.pos < 2 ^ 40 }
+    ensures { result ≡ next at }
+{
+    Place {
+        part: at.part,
+        pos: at.pos + 1,
+    }
+}

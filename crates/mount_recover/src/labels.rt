@@ -1,0 +1,211 @@
+//! The labels of a volume.
+
+ghost use Rattle.std.specs.Prelude.{◌≡◌, ◌≤◌, Some, length, vec_capacity, IfOk, IfErr, IfSome, IsTrue, ◌↔◌};
+ghost use Rattle.ltfs_label.specs.Values.{label_of};
+ghost use Rattle.mount_recover.specs.Labels.{AreInTheirPlaces, AreOfOneLayout, AreOfOneOrigin, AreOfOneVolume, Fails, HasCounts, HasLabel, HasLabels, HasRecord, HasSomeLabel, HasSomeRecord, IsReadAs, Refuses};
+ghost use Rattle.mount_recover.specs.declared.labels.Labels.{Labels as Found};
+ghost use Rattle.tape_types.specs.Times.{civil_of};
+ghost use Rattle.tape_types.specs.Cartridges.{capacity, items_of};
+ghost use Rattle.tape_types.specs.declared.cartridges.Cartridge.{Cartridge};
+
+use crate::items::{Buffers, Stop, read_label_of, read_record};
+use ltfs_label::Label;
+use std::alloc::{AllocError, Global};
+use tape_drive::Drive;
+use tape_types::{Moment, Part, Twin};
+use vol_label::Vol1;
+
+/// What stands at the beginning of both partitions of a volume (LTFS 2.4 on labels).
+#[derive(Drop)]
+pub struct Labels {
+    /// The VOL1 record of the index partition.
+    pub ip_record: Vol1,
+    /// The label of the index partition.
+    pub ip: Label,
+    /// The VOL1 record of the data partition.
+    pub dp_record: Vol1,
+    /// The label of the data partition.
+    pub dp: Label,
+}
+
+/// Why a cartridge is no volume: the first check that fails.
+#[derive(Clone, Copy, Debug, PartialEq, Eq)]
+pub enum MountErr {
+    /// A partition does not begin with a VOL1 record and a file mark.
+    Vol1(Part),
+    /// A partition's third item is no block with a label, or no file mark stands behind it.
+    Label(Part),
+    /// The labels of the partitions are not of one volume.
+    LabelsDiffer,
+    /// The drive failed: its count of faults before and after.
+    Drive(Twin),
+    /// Memory was refused.
+    NoMemory,
+}
+
+impl From<AllocError> for MountErr {
+    ghost use Rattle.std.specs.Prelude.{◌≡◌};
+    ghost use Rattle.mount_recover.specs.declared.labels.MountErr.TheVariants as errors;
+
+    ghost from_gives = { λ _ e. e ≡ errors.NoMemory };
+
+    fn from(_e: AllocError) -> MountErr {
+        MountErr::NoMemory
+    }
+}
+
+/// Reads the labels of the cartridge in a drive, and writes nothing (LTFS 2.4 on labels).
+///
+/// # Errors
+///
+/// The first check that fails: the VOL1 records, of the index partition first; then the labels; then whether they are
+/// of one volume. `Drive` where the drive failed, and `NoMemory` where memory was refused.
+pub fn read_labels<D: Drive>(alloc: Global, drive: &mut D) -> Result<Labels, MountErr>
+    ensures found { IfOk result (λ l. (c : Cartridge) → D.held drive.old ≡ Some c → HasLabels c l) }
+    ensures refused { IfErr result (λ e. (c : Cartridge) → D.held drive.old ≡ Some c → Fails c e) }
+    ensures only { (c : Cartridge) (l : Found) → D.held drive.old ≡ Some c → HasLabels c l → IsReadAs l result }
+    ensures counts { HasCounts (D.faults drive.old) (D.faults drive.new) result }
+    ensures held { D.held drive.new ≡ D.held drive.old }
+    ensures limits { D.limits drive.new ≡ D.limits drive.old }
+    ensures leaves { (image : Cartridge) → D.leaves drive.new image → D.leaves drive.old image }
+{
+    read_all(alloc, drive)
+}
+
+/// The same, without the clause that follows from the others.
+fn read_all<D: Drive>(alloc: Global, drive: &mut D) -> Result<Labels, MountErr>
+    ensures found { IfOk result (λ l. (c : Cartridge) → D.held drive.old ≡ Some c → HasLabels c l) }
+    ensures refused { IfErr result (λ e. (c : Cartridge) → D.held drive.old ≡ Some c → Fails c e) }
+    ensures counts { HasCounts (D.faults drive.old) (D.faults drive.new) result }
+    ensures held { D.held drive.new ≡ D.held drive.old }
+    ensures limits { D.limits drive.new ≡ D.limits drive.old }
+    ensures leaves { (image : Cartridge) → D.leaves drive.new image → D.leaves drive.old image }
+{
+    let _capacities_are_in_range = drive.limits();
+    let before = drive.faults();
+    let mut buffers = Buffers::new(alloc)?;
+    let ip_record = find_record(drive, Part::Ip, before, &mut buffers)?;
+    let dp_record = find_record(drive, Part::Dp, before, &mut buffers)?;
+    let ip = find_label(alloc, drive, Part::Ip, before, &mut buffers)?;
+    let dp = find_label(alloc, drive, Part::Dp, before, &mut buffers)?;
+    if !are_of_one_volume(&ip, &dp) {
+        return Err(MountErr::LabelsDiffer);
+    }
+    Ok(Labels {
+        ip_record,
+        ip,
+        dp_record,
+        dp,
+    })
+}
+
+/// The VOL1 record of a partition, or why there is none. `before` is an earlier count of the drive's faults.
+fn find_record<D: Drive>(
+    drive: &mut D,
+    part: Part,
+    before: u64,
+    buffers: &mut Buffers,
+) -> Result<Vol1, MountErr>
+    requires room { 4 ≤ capacity part (D.limits drive.old) }
+    requires block { 1048576 ≤ vec_capacity buffers.old.block }
+    requires mark { 1048576 ≤ vec_capacity buffers.old.mark }
+    requires before { before ≤ D.faults drive.old }
+    ensures block { 1048576 ≤ vec_capacity buffers.new.block }
+    ensures mark { 1048576 ≤ vec_capacity buffers.new.mark }
+    ensures found { IfOk result (λ r. (c : Cartridge) → D.held drive.old ≡ Some c → HasRecord (items_of part c) r) }
+    ensures refused { IfErr result (λ e. (c : Cartridge) → D.held drive.old ≡ Some c
+        → Refuses (MountErr.Vol1 part) (¬ HasSomeRecord (items_of part c)) e) }
+    ensures held { D.held drive.new ≡ D.held drive.old }
+    ensures limits { D.limits drive.new ≡ D.limits drive.old }
+    ensures leaves { (image : Cartridge) → D.leaves drive.new image → D.leaves drive.old image }
+    ensures counts { HasCounts before (D.faults drive.new) result }
+{
+    match read_record(drive, part, buffers) {
+        Ok(Some(found)) => Ok(found),
+        Ok(None) => Err(MountErr::Vol1(part)),
+        Err(_) => Err(failed(drive, before)),
+    }
+}
+
+/// The label of a partition with a VOL1 record, or why there is none.
+fn find_label<D: Drive>(
+    alloc: Global,
+    drive: &mut D,
+    part: Part,
+    before: u64,
+    buffers: &mut Buffers,
+) -> Result<Label, MountErr>
+    requires within { IfSome (D.held drive.old) (λ c. HasSomeRecord (items_of part c)) }
+    requires room { 4 ≤ capacity part (D.limits drive.old) }
+    requires block { 1048576 ≤ vec_capacity buffers.old.block }
+    requires mark { 1048576 ≤ vec_capacity buffers.old.mark }
+    requires before { before ≤ D.faults drive.old }
+    ensures block { 1048576 ≤ vec_capacity buffers.new.block }
+    ensures mark { 1048576 ≤ vec_capacity buffers.new.mark }
+    ensures found { IfOk result (λ l. (c : Cartridge) → D.held drive.old ≡ Some c → HasLabel (items_of part c) (label_of l)) }
+    ensures refused { IfErr result (λ e. (c : Cartridge) → D.held drive.old ≡ Some c
+        → Refuses (MountErr.Label part) (¬ HasSomeLabel (items_of part c)) e) }
+    ensures held { D.held drive.new ≡ D.held drive.old }
+    ensures limits { D.limits drive.new ≡ D.limits drive.old }
+    ensures leaves { (image : Cartridge) → D.leaves drive.new image → D.leaves drive.old image }
+    ensures counts { HasCounts before (D.faults drive.new) result }
+{
+    match read_label_of(alloc, drive, part, buffers) {
+        Ok(Some(found)) => Ok(found),
+        Ok(None) => Err(MountErr::Label(part)),
+        Err(Stop::Drive) => Err(failed(drive, before)),
+        Err(Stop::NoMemory) => Err(MountErr::NoMemory),
+    }
+}
+
+/// The error of a drive that failed since it had this count of faults.
+fn failed<D: Drive>(drive: &D, before: u64) -> MountErr
+    ensures { result ≡ MountErr.Drive (record { before = before; after = D.faults drive.now }) }
+{
+    MountErr::Drive(Twin {
+        before,
+        after: drive.faults(),
+    })
+}
+
+/// Whether the labels of both partitions are of one volume.
+fn are_of_one_volume(ip: &Label, dp: &Label) -> bool
+    ensures { IsTrue result ↔ AreOfOneVolume (label_of ip.now) (label_of dp.now) }
+{
+    are_of_one_origin(ip, dp) && are_of_one_layout(ip, dp) && are_in_their_places(ip, dp)
+}
+
+fn are_of_one_origin(ip: &Label, dp: &Label) -> bool
+    ensures { IsTrue result ↔ AreOfOneOrigin (label_of ip.now) (label_of dp.now) }
+{
+    ip.creator == dp.creator && are_at_one_time(ip.formatted, dp.formatted) && ip.uuid == dp.uuid
+}
+
+/// Whether two moments have one date and time of day.
+fn are_at_one_time(ip: Moment, dp: Moment) -> bool
+    ensures { IsTrue result ↔ (civil_of ip ≡ civil_of dp) }
+{
+    are_one(ip, dp)
+}
+
+fn are_one(ip: Moment, dp: Moment) -> bool
+    ensures { IsTrue result ↔ (ip ≡ dp) }
+{
+    ip == dp
+}
+
+fn are_of_one_layout(ip: &Label, dp: &Label) -> bool
+    ensures { IsTrue result ↔ AreOfOneLayout (label_of ip.now) (label_of dp.now) }
+{
+    ip.index == dp.index
+        && ip.dpart == dp.dpart
+        && ip.block == dp.block
+        && ip.compression == dp.compression
+}
+
+/// Whether each label stands in the partition of its location, and the partitions have two letters.
+fn are_in_their_places(ip: &Label, dp: &Label) -> bool
+    ensures { IsTrue result ↔ AreInTheirPlaces (label_of ip.now) (label_of dp.now) }
+{
+    ip.index != ip.dpart && ip.location == ip.index && dp.location == dp.dpart
+}
