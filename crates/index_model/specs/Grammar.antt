@@ -1,5 +1,5 @@
 -- What the text of an index is: spellings of elements inside one another (LTFS 2.4 on the index).
-use Rattle.std.specs.Prelude.{◌≡◌, ◌⊎◌, ◌≤◌, ℕ, ◌+◌, List, [], ◌∷◌, Bool, length, true, false, Option, Some, None, Ok, IsUtf8, not, ◌==◌, ◌&&◌, if◌then◌else◌}
+use Rattle.std.specs.Prelude.{◌≡◌, ◌⊎◌, ◌≤◌, ℕ, ◌+◌, List, [], ◌∷◌, length, true, false, Option, Some, None, Ok, IsUtf8, not, ◌==◌, ◌&&◌, if◌then◌else◌}
 use Rattle.std.specs.Option.{option_map}
 use Rattle.doc_fields.specs.declared.tags.Tag.{Tag}
 use Rattle.doc_fields.specs.declared.tags.Tag.TheVariants.{LtfsIndex, Creator, Comment, VolumeUuid, Partition, GenerationNumber, UpdateTime, StartBlock, AllowPolicyUpdate, Size, VolumeLockState, HighestFileUid, FileUid, Name, Length, CreationTime, ChangeTime, ModifyTime, AccessTime, BackupTime, ReadOnly, Symlink, FileOffset, ByteOffset, ByteCount}
@@ -21,9 +21,9 @@ use Rattle.index_model.specs.declared.schema.Child.TheVariants as child
 use Rattle.index_model.specs.declared.errors.IndexErr.{IndexErr}
 use Rattle.index_model.specs.declared.faults.Fault.{Fault}
 use Rattle.index_model.specs.Schema.{rule, required, tag_of, may_repeat, excludes, is_node, place_code}
-use Rattle.index_model.specs.Values.{TimesValue, NodeFacts, Nodes, no_nodes, directory, file, link, VolumeFacts, IndexValue, Tells}
+use Rattle.index_model.specs.Values.{NodeFacts, Nodes, no_nodes, directory, file, link, VolumeFacts, IndexValue, Tells}
 use Rattle.index_model.specs.Pieces.{Val, words, time, uuid, letter, number, truth, lock, leaf_at, has_any}
-use Rattle.index_model.specs.Documents.{root_at, readable, StopsAt, fault_told}
+use Rattle.index_model.specs.Documents.{root_at, StopsAt, fault_told}
 use Rattle.index_model.specs.Refusals.{IsToldOf}
 use Rattle.index_model.specs.Valid.{Agrees}
 

@@ -1,5 +1,5 @@
 -- Moments that a clock gives.
-use Rattle.std.specs.Prelude.{◌≡◌, ◌⊎◌, ℕ, ℤ, pos, ◌+ℤ◌, ◌≤ℤ◌, ◌<ℤ◌}
+use Rattle.std.specs.Prelude.{◌≡◌, ◌⊎◌, ℕ, pos, ◌+ℤ◌, ◌≤ℤ◌, ◌<ℤ◌}
 use Rattle.tape_types.specs.Moments.{last_second}
 use Rattle.tape_types.specs.declared.moments.Moment.{Moment}
 
