@@ -1,5 +1,5 @@
 -- What a run of `label` promises, from what it came to and what was told of that.
-use Rattle.std.proofs.Common.{◌≡◌, ◌∙◌, ℕ, List, [], ◌∷◌, Option, Some, None, Err, refl, sym, subst, inl, inr, ⊎_elim, String}
+use Rattle.std.proofs.Common.{◌≡◌, ◌∙◌, ℕ, List, [], ◌∷◌, Option, Some, None, Err, refl, sym, subst, inl, inr, String}
 use Rattle.std.specs.Prelude.{IfSome}
 use Rattle.std.specs.Global.{Global}
 use Rattle.tape_types.specs.Counts.{Rose}

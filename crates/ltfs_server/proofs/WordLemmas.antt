@@ -1,5 +1,5 @@
 -- Words of the form with a time, and of `label`.
-use Rattle.std.proofs.Common.{◌≡◌, ℕ, Bool, true, false, cond, ◌&&◌, List, [], ◌∷◌, get_or, map, sym, ap, ◌∙◌, refl, subst, String}
+use Rattle.std.proofs.Common.{◌≡◌, Bool, true, false, cond, ◌&&◌, List, [], ◌∷◌, get_or, map, sym, ap, ◌∙◌, refl, subst, String}
 use Rattle.std.specs.Prelude.{codes, Option, Some, None}
 use Rattle.std.specs.Global.{Global}
 use Rattle.std.specs.String.{string_bytes}
@@ -11,7 +11,6 @@ use Rattle.ltfs_server.specs.Words.{IsSpelledBy, form_of, is_label}
 use Rattle.ltfs_server.specs.declared.words.Command.{Command}
 use Rattle.ltfs_server.specs.declared.words.Command.TheVariants as commands
 use Rattle.tape_types.specs.declared.moments.Moment.{Moment}
-use Rattle.ltfs_server.specs.declared.words.Form.{Form}
 use Rattle.ltfs_server.specs.declared.words.Form.TheVariants as forms
 
 both : (x y : Bool) → cond (x && y) forms.PlainAt forms.Other ≡ forms.PlainAt → (x ≡ true) × (y ≡ true)

@@ -1,4 +1,4 @@
-use Rattle.std.proofs.Common.{◌≡◌, ◌++◌, ◌∷◌, [], Some, sym, ◌∙◌, ap, refl, rules, arith, length, take, get_or, subst}
+use Rattle.std.proofs.Common.{◌≡◌, Some, ◌∙◌, ap, refl, rules, arith, length, take, get_or, subst}
 use Rattle.std.specs.Prelude.{slice_get, IfSome}
 use Rattle.std.proofs.lemmas.Option.{slice_get_read}
 use Rattle.plain_tree.specs.declared.calls.Placed.{Placed}
