@@ -1,3 +1,5 @@
+ghost use Rattle.std.specs.Prelude.{◌<◌, length, IfSome};
+
 use crate::read_index;
 use doc_fields::{LockState, Tag};
 use index_model::{Index, IndexErr, Kind, RawExtent, Spot};
@@ -27,7 +29,9 @@ fn told(want: Want, at: usize) -> IndexErr {
     }
 }
 
-fn place_of(text: &[u8], part: &[u8]) -> Option<usize> {
+fn place_of(text: &[u8], part: &[u8]) -> Option<usize>
+    ensures { IfSome result (λ at. at < length text.now) }
+{
     for at in 0..text.len() {
         if text[at..].starts_with(part) {
             return Some(at);
