@@ -4,7 +4,6 @@ use Rattle.index_model.specs.declared.errors.IndexErr.{IndexErr}
 use Rattle.index_model.specs.declared.errors.IndexErr.TheVariants as errors
 use Rattle.index_model.specs.declared.indexes.Index.{Index}
 use Rattle.index_model.specs.Grammar.{IndexText, Stops}
-use Rattle.index_model.specs.Values.{Tells}
 use Rattle.index_model.specs.Valid.{Agrees}
 use Rattle.index_read.specs.Answers.{IsReadOr, UnlessMemory}
 use Rattle.index_read.specs.Walks.{IsReadAs, IsRefused}

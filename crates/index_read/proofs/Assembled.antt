@@ -1,27 +1,26 @@
 -- A whole document spells what its pieces tell.
-use Rattle.std.proofs.Common.{◌≡◌, ℕ, ◌≤◌, List, [], ◌∷◌, ◌++◌, Bool, true, false, ◌==◌, ◌&&◌, ◌||◌, not, length, Option, Some, None, IsUtf8, Ok, refl, sym, ap, subst, ◌∙◌, arith}
+use Rattle.std.proofs.Common.{◌≡◌, ℕ, List, [], ◌∷◌, ◌++◌, Bool, true, false, ◌==◌, ◌&&◌, not, length, Some, None, IsUtf8, refl, sym, ap, subst, ◌∙◌, arith}
 use Rattle.doc_fields.specs.Space.{space_end}
 use Rattle.doc_fields.specs.declared.tags.Tag.{Tag}
 use Rattle.doc_fields.specs.declared.tags.Tag.TheVariants.{Directory}
-use Rattle.doc_children.specs.Children.{code, member, first_missing}
+use Rattle.doc_children.specs.Children.{code, member}
 use Rattle.index_model.specs.declared.nodes.Kind.TheVariants as kinds
-use Rattle.index_model.specs.declared.schema.Place.{Place}
 use Rattle.index_model.specs.declared.schema.Place.TheVariants as place
 use Rattle.index_model.specs.declared.schema.Child.{Child}
 use Rattle.index_model.specs.declared.schema.Child.TheVariants as child
 use Rattle.index_model.specs.Schema.{rule, required}
 use Rattle.index_model.specs.Values.{NodeFacts, Nodes, value_in, listed, IndexValue, all_nodes}
 use Rattle.index_model.specs.Pieces.{Piece, closes}
-use Rattle.index_model.specs.Documents.{Accepts, Point, Reaches}
+use Rattle.index_model.specs.Documents.{Point, Reaches}
 use Rattle.index_model.specs.Grammar.{Item, plain, bare, nested, Items, no_items, item, item_tag, or_else, own_children, inside, TellsFacts, TellsContents, TellsVolume, Spells}
-use Rattle.index_read.specs.Told.{State, Tell, blank, blank_spot, outermost, begun, ended, item_told, items_told}
+use Rattle.index_read.specs.Told.{State, Tell, blank, blank_spot, outermost, begun, item_told, items_told}
 use Rattle.index_read.specs.Walks.{IsWhole}
 use Rattle.index_read.proofs.Nodes.{root_tells}
 use Rattle.index_read.proofs.Fits.{Fits, FitsItem, same_tag, missing_member, all_fit}
-use Rattle.index_read.proofs.Volume.{with_here, here_told, with_back, back_told}
+use Rattle.index_read.proofs.Volume.{with_here, here_told, back_told}
 use Rattle.index_read.proofs.Within.{policy_is, volume_is}
-use Rattle.index_read.proofs.Tells.{volume_tells, one_volume}
-use Rattle.index_read.proofs.Trees.{all_pieces, Parsed, parse, items_tell, tell_same}
+use Rattle.index_read.proofs.Tells.{volume_tells}
+use Rattle.index_read.proofs.Trees.{all_pieces, parse, items_tell, tell_same}
 
 -- ---- the root directory among the children of an index
 

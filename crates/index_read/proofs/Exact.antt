@@ -1,28 +1,25 @@
 -- A text is an index's, or stops, in one way.
-use Rattle.std.proofs.Common.{◌≡◌, ◌≢◌, ℕ, ◌+◌, ◌≤◌, List, [], ◌∷◌, ◌++◌, Bool, IsUtf8, length, Option, Some, None, Ok, inl, inr, refl, sym, ap, subst, ◌∙◌, arith}
-use Rattle.doc_fields.specs.Space.{space_end}
-use Rattle.index_model.specs.declared.faults.Fault.{Fault}
+use Rattle.std.proofs.Common.{◌≡◌, ℕ, ◌+◌, ◌≤◌, List, [], ◌∷◌, ◌++◌, length, Some, inl, inr, refl, sym, ap, subst, ◌∙◌, arith}
 use Rattle.index_model.specs.declared.indexes.Index.{Index}
 use Rattle.index_model.specs.declared.nodes.Kind.TheVariants as kinds
 use Rattle.index_model.specs.declared.errors.IndexErr.{IndexErr}
-use Rattle.index_model.specs.declared.errors.IndexErr.TheVariants as errors
 use Rattle.index_model.specs.declared.schema.Place.TheVariants as place
-use Rattle.index_model.specs.Values.{NodeFacts, Nodes, value_in, listed, IndexValue, VolumeFacts, all_nodes, Tells}
-use Rattle.index_model.specs.Pieces.{Piece, closes}
-use Rattle.index_model.specs.Documents.{Accepts, Point, fresh, Halts, readable, EndsBadly, StopsAt, fault_told}
-use Rattle.index_model.specs.Grammar.{Items, inside, TellsFacts, TellsContents, Spells, IndexText, SpellsFaulty, Stops, node_count}
+use Rattle.index_model.specs.Values.{value_in, listed, IndexValue, all_nodes, Tells}
+use Rattle.index_model.specs.Pieces.{closes}
+use Rattle.index_model.specs.Documents.{Halts, readable, StopsAt, fault_told}
+use Rattle.index_model.specs.Grammar.{TellsFacts, TellsContents, Spells, IndexText, Stops, node_count}
 use Rattle.index_model.specs.Refusals.{IsToldOf}
 use Rattle.index_model.specs.Valid.{Agrees}
 use Rattle.index_model.proofs.FaultLaws.{one_fault, agrees_no_fault}
 use Rattle.index_read.specs.Told.{State, Tell, blank, items_told, outermost}
 use Rattle.index_read.specs.Walks.{IsWhole}
-use Rattle.index_read.proofs.Fits.{Fits, all_fit}
+use Rattle.index_read.proofs.Fits.{all_fit}
 use Rattle.index_read.proofs.Within.{volume_is, volume_told}
 use Rattle.index_read.proofs.Tells.{volume_tells, one_volume}
 use Rattle.index_read.proofs.Trees.{all_pieces, all_reached, items_tell, tell_same}
 use Rattle.index_read.proofs.Nodes.{one_contents}
 use Rattle.index_read.proofs.Facts.{one_facts}
-use Rattle.index_read.proofs.Once.{SameEnd, one_document, not_both, one_halt}
+use Rattle.index_read.proofs.Once.{one_document, not_both, one_halt}
 use Rattle.index_read.proofs.Whole.{readable_all}
 use Rattle.index_read.proofs.Steps.{point}
 use Rattle.index_read.proofs.Same.{tells_one}

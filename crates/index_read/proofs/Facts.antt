@@ -1,7 +1,6 @@
 -- What the children of a node tell of it: the facts that each node has.
 use Rattle.std.proofs.Common.{◌≡◌, ℕ, List, [], ◌∷◌, Bool, true, false, ◌==◌, ◌&&◌, ◌||◌, not, Option, Some, None, if◌then◌else◌, refl, sym, ap, subst, ◌∙◌}
 use Rattle.std.proofs.lemmas.Bool.{eqb-true}
-use Rattle.tape_types.specs.declared.times.Civil.{Civil}
 use Rattle.doc_fields.specs.declared.tags.Tag.{Tag}
 use Rattle.doc_fields.specs.declared.tags.Tag.TheVariants.{FileUid, Name, CreationTime, ChangeTime, ModifyTime, AccessTime, BackupTime, ReadOnly}
 use Rattle.doc_children.specs.Children.{code, member}
@@ -12,11 +11,11 @@ use Rattle.index_model.specs.declared.schema.Child.{Child}
 use Rattle.index_model.specs.declared.schema.Child.TheVariants as child
 use Rattle.index_model.specs.Schema.{rule, tag_of, may_repeat, place_code}
 use Rattle.index_model.specs.Values.{NodeFacts}
-use Rattle.index_model.specs.Pieces.{Val, words, time, letter, number, truth}
+use Rattle.index_model.specs.Pieces.{words, time, number, truth}
 use Rattle.index_model.specs.Grammar.{Item, plain, bare, nested, Items, no_items, item, item_tag, MayFollow, or_else, own, told, own_children, inside, TellsFacts}
-use Rattle.index_read.specs.Told.{words_or, time_or, letter_or, number_or, truth_or, facts_with, blank_times}
+use Rattle.index_read.specs.Told.{words_or, time_or, number_or, truth_or, facts_with, blank_times}
 use Rattle.index_read.proofs.Fits.{FitsItem, Fits, same_tag, must_tell, told_form}
-use Rattle.index_read.proofs.OfForms.{IsOf, or_none, number_step, letter_step, words_step, time_step, truth_step, IsTold, number_known, letter_known, words_known, time_known, truth_known}
+use Rattle.index_read.proofs.OfForms.{IsOf, or_none, number_step, words_step, time_step, truth_step, number_known, words_known, time_known, truth_known}
 
 -- ---- elements that aren't there
 

@@ -1,5 +1,5 @@
 -- A text is read in one way.
-use Rattle.std.proofs.Common.{◌≡◌, ℕ, List, [], ◌∷◌, length, Result, Ok, Err, refl, sym, ap, subst, ◌∙◌}
+use Rattle.std.proofs.Common.{◌≡◌, ℕ, List, [], ◌∷◌, Result, Ok, Err, refl, sym, ap, subst, ◌∙◌}
 use Rattle.doc_fields.specs.Reading.{Read}
 use Rattle.doc_fields.specs.Space.{space_end}
 use Rattle.doc_fields.specs.Declaration.{head_at}
@@ -8,7 +8,6 @@ use Rattle.index_model.specs.declared.errors.IndexErr.{IndexErr}
 use Rattle.index_model.specs.declared.errors.IndexErr.TheVariants as errors
 use Rattle.index_model.specs.Pieces.{Piece, Frame, piece_at, lift}
 use Rattle.index_model.specs.Documents.{Point, fresh, after, counted, root_at, Reaches, Open, Accepts, Halts, at_head, at_root, at_piece, at_end}
-use Rattle.index_read.proofs.Steps.{point}
 
 -- no piece follows
 abbrev pub Final : List ℕ → ℕ → List Frame → ℕ → Type 0

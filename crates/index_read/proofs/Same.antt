@@ -2,12 +2,11 @@
 use Rattle.std.proofs.Common.{◌≡◌, List, [], ◌∷◌, map, refl, sym, ap, ◌∙◌}
 use Rattle.tape_types.specs.declared.moments.Moment.{Moment}
 use Rattle.tape_types.specs.declared.moments.Times.{Times}
-use Rattle.tape_types.specs.declared.times.Civil.{Civil}
 use Rattle.tape_types.specs.Times.{civil_of, civil_text, time_text}
 use Rattle.tape_types.proofs.CivilLemmas.{time_text_injective}
 use Rattle.index_model.specs.declared.indexes.Index.{Index}
 use Rattle.index_model.specs.declared.nodes.Node.{Node}
-use Rattle.index_model.specs.Values.{TimesValue, NodeFacts, NodeValue, VolumeFacts, IndexValue, all_nodes, times_of, facts_of, value_of, volume_of, Tells}
+use Rattle.index_model.specs.Values.{TimesValue, NodeValue, VolumeFacts, IndexValue, all_nodes, times_of, value_of, volume_of, Tells}
 
 one_moment : (m n : Moment) → civil_of m ≡ civil_of n → m ≡ n
 unfolding time_text

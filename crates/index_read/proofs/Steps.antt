@@ -1,12 +1,11 @@
 -- One piece more.
-use Rattle.std.proofs.Common.{◌≡◌, ℕ, zero, suc, ◌+◌, ◌<◌, ◌≤◌, List, [], ◌∷◌, ◌++◌, map, length, Bool, true, false, Result, Ok, Err, refl, sym, ap, subst, ◌∙◌, arith}
+use Rattle.std.proofs.Common.{◌≡◌, ℕ, zero, suc, ◌<◌, ◌≤◌, List, [], ◌∷◌, ◌++◌, length, Bool, true, false, Result, Ok, Err, refl, sym, ap, subst, ◌∙◌, arith}
 use Rattle.std.proofs.lemmas.List.{length-append}
-use Rattle.doc_fields.specs.declared.tags.Tag.{Tag}
 use Rattle.index_model.specs.declared.errors.IndexErr.{IndexErr}
 use Rattle.index_model.specs.declared.schema.Place.{Place}
 use Rattle.index_model.specs.declared.schema.Place.TheVariants as place
 use Rattle.index_model.specs.Schema.{is_node}
-use Rattle.index_model.specs.Pieces.{Piece, opens, whole, closes, leaf, Val, Frame, piece_at}
+use Rattle.index_model.specs.Pieces.{Piece, opens, whole, closes, leaf, Frame, piece_at}
 use Rattle.index_model.specs.Documents.{Point, Reaches, after, counted, fresh}
 use Rattle.index_model.specs.Grammar.{Item, plain}
 use Rattle.index_read.specs.declared.pieces.Piece as code_piece
@@ -15,7 +14,7 @@ use Rattle.index_read.specs.declared.walking.Level as code_level
 use Rattle.index_model.specs.declared.errors.IndexErr.TheVariants as errors
 use Rattle.index_read.specs.Answers.{HasRoom, Fails, UnlessMemory, piece_of}
 use Rattle.index_read.specs.Told.{State, Level, Tell, blank, outermost, changed, begun, ended, leaf_told, levels_after, piece_told}
-use Rattle.index_read.specs.Walks.{Opened, frames_of, level_of, levels_of, opened_after, coded, stacked, Keeps, Walked, Halted}
+use Rattle.index_read.specs.Walks.{Opened, frames_of, level_of, levels_of, opened_after, coded, Keeps, Walked, Halted}
 
 -- ---- how many nodes have begun
 

@@ -1,8 +1,7 @@
 -- What the elements of a document tell of the volume is one thing, and it is what a reader takes from them.
-use Rattle.std.proofs.Common.{◌≡◌, ℕ, List, [], ◌∷◌, ◌++◌, Bool, Option, Some, None, IfSome, refl, sym, ap, subst, ◌∙◌}
+use Rattle.std.proofs.Common.{◌≡◌, ℕ, List, [], ◌∷◌, Bool, Option, Some, None, IfSome, refl, sym, ap, subst, ◌∙◌}
 use Rattle.std.specs.Option.{option_map}
 use Rattle.tape_types.specs.declared.times.Civil.{Civil}
-use Rattle.doc_fields.specs.declared.tags.Tag.{Tag}
 use Rattle.doc_fields.specs.declared.tags.Tag.TheVariants.{Creator, Comment, VolumeUuid, Partition, GenerationNumber, UpdateTime, StartBlock, AllowPolicyUpdate, Size, VolumeLockState, HighestFileUid}
 use Rattle.doc_fields.specs.declared.values.LockState.{LockState}
 use Rattle.index_model.specs.declared.indexes.Policy.{Policy}
@@ -11,15 +10,15 @@ use Rattle.index_model.specs.declared.schema.Place.{Place}
 use Rattle.index_model.specs.declared.schema.Place.TheVariants as place
 use Rattle.index_model.specs.declared.schema.Form.TheVariants as form
 use Rattle.index_model.specs.declared.schema.Child.TheVariants as child
-use Rattle.index_model.specs.Schema.{rule, spot_rule, required}
+use Rattle.index_model.specs.Schema.{rule, required}
 use Rattle.index_model.specs.Values.{VolumeFacts}
 use Rattle.index_model.specs.Pieces.{Val, words, time, uuid, letter, number, truth, lock}
 use Rattle.index_model.specs.Grammar.{Items, told, inside, names_in, TellsMaybe, TellsSpot, TellsPolicy, TellsVolume}
-use Rattle.index_read.specs.Told.{words_or, words_told, time_or, uuid_or, letter_or, number_or, truth_or, lock_told, blank_spot, blank_policy, blank_volume}
-use Rattle.index_read.proofs.Fits.{HasForm, Fits, must_tell}
+use Rattle.index_read.specs.Told.{blank_spot, blank_volume}
+use Rattle.index_read.proofs.Fits.{Fits, must_tell}
 use Rattle.index_read.proofs.Facts.{inside_fits}
 use Rattle.index_read.proofs.OfForms.{has_form, words_known, words_may, time_known, uuid_known, letter_known, number_known, truth_known, lock_may}
-use Rattle.index_read.proofs.Volume.{spot_told, policy_told}
+use Rattle.index_read.proofs.Volume.{spot_told}
 use Rattle.index_read.proofs.Within.{must_have, here_or, back_or, criteria_or, policy_or, volume_told}
 
 -- ---- places and the policy

@@ -5,13 +5,11 @@ use Rattle.doc_fields.specs.declared.tags.Tag.{Tag}
 use Rattle.doc_fields.specs.Space.{space_end}
 use Rattle.doc_fields.specs.EndTag.{end_at}
 use Rattle.index_model.specs.declared.schema.Place.{Place}
-use Rattle.index_model.specs.declared.schema.Place.TheVariants as place
-use Rattle.index_model.specs.declared.schema.Child.TheVariants as child
 use Rattle.index_model.specs.Schema.{tag_of, is_node}
-use Rattle.index_model.specs.Pieces.{Piece, opens, whole, closes, leaf, Frame, opens_node}
+use Rattle.index_model.specs.Pieces.{Piece, opens, whole, closes, leaf, Frame}
 use Rattle.index_model.specs.Documents.{Point, Reaches, after, counted}
 use Rattle.index_model.specs.Grammar.{Item, plain, bare, nested, Items, no_items, item, item_tag, Spelled, AllSpelled, MayFollow, nodes_of, node_count}
-use Rattle.index_read.specs.Told.{State, Level, Tell, begun, ended, leaf_told, node_in, item_told, items_told, levels_after, piece_told}
+use Rattle.index_read.specs.Told.{State, Level, Tell, begun, ended, node_in, item_told, items_told, levels_after, piece_told}
 use Rattle.index_read.proofs.Inversion.{HasPlace, piece_is, is_piece}
 use Rattle.index_read.proofs.Steps.{point}
 

@@ -1,25 +1,17 @@
 -- What the elements of a document tell of the volume.
-use Rattle.std.proofs.Common.{◌≡◌, ℕ, List, [], ◌∷◌, ◌++◌, Bool, true, false, ◌==◌, Option, Some, None, if◌then◌else◌, IfSome, refl, sym, ap, subst, ◌∙◌, append_assoc, append-nil}
-use Rattle.std.proofs.lemmas.Bool.{eqb-true}
-use Rattle.std.specs.Option.{option_map}
-use Rattle.tape_types.specs.declared.times.Civil.{Civil}
+use Rattle.std.proofs.Common.{◌≡◌, ℕ, List, ◌∷◌, ◌++◌, Option, Some, refl, sym, ap, ◌∙◌, append_assoc, append-nil}
 use Rattle.doc_fields.specs.declared.tags.Tag.{Tag}
-use Rattle.doc_fields.specs.declared.tags.Tag.TheVariants.{Creator, Comment, VolumeUuid, Partition, GenerationNumber, UpdateTime, StartBlock, AllowPolicyUpdate, Size, VolumeLockState, HighestFileUid, Name, Location}
-use Rattle.doc_fields.specs.declared.values.LockState.{LockState}
-use Rattle.doc_children.specs.Children.{first_missing}
+use Rattle.doc_fields.specs.declared.tags.Tag.TheVariants.{Partition, StartBlock, Size, Name, Location}
 use Rattle.index_model.specs.declared.indexes.Policy.{Policy}
 use Rattle.index_model.specs.declared.indexes.Spot.{Spot}
 use Rattle.index_model.specs.declared.schema.Place.{Place}
 use Rattle.index_model.specs.declared.schema.Place.TheVariants as place
-use Rattle.index_model.specs.declared.schema.Form.{Form}
 use Rattle.index_model.specs.declared.schema.Form.TheVariants as form
-use Rattle.index_model.specs.declared.schema.Child.{Child}
 use Rattle.index_model.specs.declared.schema.Child.TheVariants as child
-use Rattle.index_model.specs.Schema.{rule, spot_rule, criteria_rule, required, tag_of, place_code}
-use Rattle.index_model.specs.Values.{VolumeFacts}
+use Rattle.index_model.specs.Schema.{rule, spot_rule, criteria_rule, tag_of}
 use Rattle.index_model.specs.Pieces.{Val, words, time, uuid, letter, number, truth, lock}
-use Rattle.index_model.specs.Grammar.{Item, plain, bare, nested, Items, no_items, item, item_tag, or_else, own, told, own_children, inside, names_in, TellsMaybe, TellsSpot, TellsPolicy, TellsVolume}
-use Rattle.index_read.specs.Told.{State, words_or, words_told, time_or, uuid_or, letter_or, number_or, truth_or, lock_told, name_told, volume_with, spot_with, policy_with, blank_spot, blank_policy, blank_volume, begun, ended, leaf_told, node_in, item_told, items_told}
+use Rattle.index_model.specs.Grammar.{Item, plain, bare, nested, Items, no_items, item, own, told, names_in}
+use Rattle.index_read.specs.Told.{State, letter_or, number_or, name_told, spot_with, policy_with, leaf_told, items_told}
 use Rattle.index_read.proofs.Fits.{Fits}
 use Rattle.index_read.proofs.OfForms.{has_form, letter_step, number_step}
 

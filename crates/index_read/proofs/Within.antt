@@ -1,9 +1,9 @@
 -- What the elements of nodes tell of the volume, which is nothing; and what those of an index tell of it.
-use Rattle.std.proofs.Common.{◌≡◌, ℕ, List, [], ◌∷◌, ◌++◌, Bool, true, false, ◌==◌, Option, Some, None, if◌then◌else◌, IfSome, refl, sym, ap, subst, ◌∙◌}
-use Rattle.std.proofs.lemmas.Bool.{eqb-true, eq-eqb}
+use Rattle.std.proofs.Common.{◌≡◌, ℕ, List, [], ◌∷◌, Bool, true, false, ◌==◌, Option, Some, None, IfSome, refl, sym, ap, subst, ◌∙◌}
+use Rattle.std.proofs.lemmas.Bool.{eq-eqb}
 use Rattle.doc_fields.specs.declared.tags.Tag.{Tag}
-use Rattle.doc_fields.specs.declared.tags.Tag.TheVariants.{Creator, Comment, VolumeUuid, GenerationNumber, UpdateTime, AllowPolicyUpdate, VolumeLockState, HighestFileUid, Partition, StartBlock, Size}
-use Rattle.doc_children.specs.Children.{code, member, first_missing}
+use Rattle.doc_fields.specs.declared.tags.Tag.TheVariants.{Creator, Comment, VolumeUuid, GenerationNumber, UpdateTime, AllowPolicyUpdate, VolumeLockState, HighestFileUid, Size}
+use Rattle.doc_children.specs.Children.{code, member}
 use Rattle.index_model.specs.declared.indexes.Policy.{Policy}
 use Rattle.index_model.specs.declared.indexes.Spot.{Spot}
 use Rattle.index_model.specs.declared.schema.Place.{Place}
@@ -14,13 +14,12 @@ use Rattle.index_model.specs.declared.schema.Child.{Child}
 use Rattle.index_model.specs.declared.schema.Child.TheVariants as child
 use Rattle.index_model.specs.Schema.{rule, required, tag_of, place_code}
 use Rattle.index_model.specs.Values.{VolumeFacts}
-use Rattle.index_model.specs.Pieces.{Val}
 use Rattle.index_model.specs.Grammar.{Item, plain, bare, nested, Items, no_items, item, item_tag, or_else, own, told, own_children, inside}
-use Rattle.index_read.specs.Told.{State, words_or, words_told, time_or, uuid_or, number_or, truth_or, lock_told, volume_with, blank_spot, blank_policy, begun, ended, leaf_told, node_in, item_told, items_told}
-use Rattle.index_read.proofs.Fits.{HasForm, Fits, FitsItem, same_tag, missing_member}
+use Rattle.index_read.specs.Told.{State, words_or, words_told, time_or, uuid_or, number_or, truth_or, lock_told, blank_spot, blank_policy, begun, ended, leaf_told, node_in, item_told, items_told}
+use Rattle.index_read.proofs.Fits.{Fits, FitsItem, same_tag, missing_member}
 use Rattle.index_read.proofs.Facts.{inside_fits}
 use Rattle.index_read.proofs.OfForms.{has_form, words_step, words_told_step, time_step, uuid_step, number_step, truth_step, lock_step}
-use Rattle.index_read.proofs.Volume.{spot_told, with_here, here_told, with_back, back_told, policy_told, with_policy, criteria_told}
+use Rattle.index_read.proofs.Volume.{spot_told, with_here, here_told, back_told, policy_told, with_policy, criteria_told}
 
 -- the parents in a directory
 abbrev pub is_within : Place → Bool

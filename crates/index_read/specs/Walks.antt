@@ -11,7 +11,6 @@ use Rattle.index_model.specs.declared.faults.Fault.{Fault}
 use Rattle.index_model.specs.declared.indexes.Index.{Index}
 use Rattle.index_model.specs.Refusals.{IsToldOf}
 use Rattle.index_model.specs.Values.{value_of, volume_of}
-use Rattle.index_read.specs.declared.pieces.Frame as code_frame
 use Rattle.index_read.specs.declared.walking.Level as code_level
 use Rattle.index_read.specs.Told.{State, Level, Tell, blank, node_in, outermost}
 

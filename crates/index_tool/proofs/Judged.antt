@@ -1,5 +1,5 @@
 -- From what a text comes to, to what a run promises.
-use Rattle.std.proofs.Common.{◌≡◌, ◌≤◌, ℕ, ◌^◌, List, [], ◌∷◌, ◌++◌, length, get_or, map, Option, Some, None, IfSome, Result, Ok, Err, inl, inr, ⊎_elim, String, string_bytes, refl, sym, ap, subst, ◌∙◌, append-nil, arith}
+use Rattle.std.proofs.Common.{◌≡◌, ℕ, List, [], ◌∷◌, ◌++◌, length, get_or, Option, Some, None, IfSome, inl, inr, ⊎_elim, String, refl, sym, ap, subst, ◌∙◌, append-nil, arith}
 use Rattle.std.specs.Global.{Global}
 use Rattle.std.specs.Io.KnownBytes.{Consumes, IsAtEnd, Appends}
 use Rattle.index_model.specs.declared.errors.IndexErr.{IndexErr}
@@ -11,8 +11,8 @@ use Rattle.index_tool.specs.declared.words.Command.{Command}
 use Rattle.index_tool.specs.declared.words.Command.TheVariants as commands
 use Rattle.index_tool.specs.declared.outcomes.Outcome.{Outcome}
 use Rattle.index_tool.specs.declared.outcomes.Outcome.TheVariants as outcomes
-use Rattle.index_tool.specs.Tool.{IsCommand, IsKnown, word_of}
-use Rattle.index_tool.specs.Outcomes.{ok_text, status_of, text_of, IsAnswer, IsCanon, IsCaused, IsChecked, IsJudged, IsOutcomeOf, IsRefusal, IsTold, IsToldWhy}
+use Rattle.index_tool.specs.Tool.{IsCommand, word_of}
+use Rattle.index_tool.specs.Outcomes.{ok_text, status_of, text_of, IsAnswer, IsCanon, IsCaused, IsChecked, IsJudged, IsOutcomeOf, IsRefusal, IsTold}
 
 pub judged_answer : (command : Command) (text : List ℕ) (index : Index) (o : Outcome) → IndexText text index → IsAnswer command index o → IsJudged command text o
 judged_answer command text index (outcomes.Sound generation nodes) is a = (a.0, record { index = index; is = is; generation_is = a.1; nodes_are = a.2 })

@@ -1,8 +1,7 @@
-use Rattle.std.proofs.Common.{◌≡◌, rules, ◌<◌, vec_len, sym, ap, ◌∙◌, map, Some, slice_set}
+use Rattle.std.proofs.Common.{◌≡◌, rules, ◌<◌, vec_len, sym, ap, ◌∙◌, Some}
 use Rattle.std.proofs.lemmas.Option.{slice_get-get_or}
-use Rattle.index_model.specs.declared.nodes.Node.{Node}
-use Rattle.index_model.specs.Values.{NodeValue, value_in, facts_of, value_of}
-use Rattle.index_read.specs.Told.{changed, one_more, with_extent}
+use Rattle.index_model.specs.Values.{value_in, facts_of}
+use Rattle.index_read.specs.Told.{one_more, with_extent}
 use Rattle.index_read.proofs.Changes.{changed_set, changed_none, on_ok}
 use Rattle.index_read.proofs.drafts.tell_extent.Goals as goal
 

@@ -1,4 +1,4 @@
-use Rattle.std.proofs.Common.{◌≡◌, ◌≤◌, ◌^◌, rules, length, List, ℕ, subst}
+use Rattle.std.proofs.Common.{◌≤◌, ◌^◌, rules, length, List, ℕ, subst}
 use Rattle.index_tool.specs.Outcomes.{IsJudged}
 use Rattle.index_tool.proofs.Judged.{outcome_is}
 use Rattle.index_tool.proofs.tool.run_command.Goals as goal
