@@ -1,0 +1,42 @@
+-- A tree that is kept as nodes under names, seen as a map from paths.
+use Rattle.std.specs.Prelude.{◌≡◌, ◌≢◌, ℕ, Bool, true, false, ◌==◌, List, [], ◌∷◌, ◌++◌, Option, Some, None, is_some, slice_get}
+use Rattle.std.specs.List.{list_any}
+use Rattle.std.specs.FinMap as fin
+use Rattle.file_tree.specs.declared.nodes.Node.{Node}
+use Rattle.file_tree.specs.declared.nodes.Spot.{Spot}
+use Rattle.file_tree.specs.Tree.{Nodes, number_at}
+
+-- what is kept at each number
+abbrev pub Held : Type 0
+Held = ℕ → Option Spot
+
+abbrev pub held : List (Option Spot) → Held
+held spots n = found (slice_get spots n)
+  where
+    found : Option (Option Spot) → Option Spot
+    found None = None
+    found (Some spot) = spot
+
+abbrev pub is_number : ℕ → Option Node → Bool
+is_number n None = false
+is_number n (Some node) = node.number == n
+
+-- some path of the map has a node with this number
+abbrev pub has_number : Nodes → ℕ → Bool
+has_number m n = list_any (λ path. is_number n (fin.get m path)) (fin.keys m)
+
+-- The map has what is kept: the root, whose number is 0, and each other node under its name in the node that has the
+-- number of its directory.
+pub record IsShown (at : Held) (m : Nodes) : Type 0 where
+  pub root : number_at m [] ≡ Some 0
+  pub rooted : (node : Node) → fin.get m [] ≡ Some node → at 0 ≡ Some (record { parent = 0; name = []; node = node })
+  pub named : (path : List (List ℕ)) (name : List ℕ) (node : Node) (parent : ℕ) → fin.get m (path ++ name ∷ []) ≡ Some node → number_at m path ≡ Some parent → at node.number ≡ Some (record { parent = parent; name = name; node = node })
+  pub up : (path : List (List ℕ)) (name : List ℕ) (node : Node) → fin.get m (path ++ name ∷ []) ≡ Some node → is_some (fin.get m path) ≡ true
+  pub behind : (path : List (List ℕ)) (name : List ℕ) (node : Node) → fin.get m (path ++ name ∷ []) ≡ Some node → node.number ≢ 0
+  pub numbered : (n : ℕ) (spot : Spot) → at n ≡ Some spot → spot.node.number ≡ n
+  pub complete : (n : ℕ) (spot : Spot) → at n ≡ Some spot → has_number m n ≡ true
+
+-- at one number this is kept now, and at all others what was
+pub record IsKept (before next : Held) (n : ℕ) (spot : Option Spot) : Type 0 where
+  pub here : next n ≡ spot
+  pub others : (k : ℕ) → (k ≡ n → ⊥) → next k ≡ before k

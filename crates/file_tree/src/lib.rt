@@ -1,0 +1,4 @@
+//! The tree of a volume while the server runs: its files as extents (LTFS 2.4 on the index).
+#![tactic(auto)]
+
+mod nodes;
