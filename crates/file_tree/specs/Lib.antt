@@ -1,2 +1,4 @@
 pub mod Tree
 pub mod Seen
+pub mod Changes
+pub mod Places

@@ -1,9 +1,15 @@
 -- A tree that is kept as nodes under names, seen as a map from paths.
-use Rattle.std.specs.Prelude.{◌≡◌, ◌≢◌, ℕ, Bool, true, false, ◌==◌, List, [], ◌∷◌, ◌++◌, Option, Some, None, is_some, slice_get}
+use Rattle.std.specs.Prelude.{◌≡◌, ◌≢◌, ℕ, Bool, true, false, ◌&&◌, not, ◌==◌, if◌then◌else◌, nat_eq, List, [], ◌∷◌, ◌++◌, Option, Some, None, is_some, slice_get}
 use Rattle.std.specs.List.{list_any}
+use Rattle.std.specs.Option.{option_map}
+use Rattle.std.specs.Coded.{Π_prop, coded_option, Coded-set}
+use Rattle.std.specs.Cmp.Lexicographic.{pointwise, lists_total, nat_list_cmp_total}
 use Rattle.std.specs.FinMap as fin
+use mathlib.Core.HLevel.{Σ_prop_path}
+use mathlib.Core.Path.{sym, ◌∙◌}
 use Rattle.file_tree.specs.declared.nodes.Node.{Node}
 use Rattle.file_tree.specs.declared.nodes.Spot.{Spot}
+use Rattle.file_tree.specs.contracts.nodes.Node as node
 use Rattle.file_tree.specs.Tree.{Nodes, number_at}
 
 -- what is kept at each number
@@ -40,3 +46,31 @@ pub record IsShown (at : Held) (m : Nodes) : Type 0 where
 pub record IsKept (before next : Held) (n : ℕ) (spot : Option Spot) : Type 0 where
   pub here : next n ≡ spot
   pub others : (k : ℕ) → (k ≡ n → ⊥) → next k ≡ before k
+
+-- it is kept under this name in the directory with this number
+abbrev pub is_child : ℕ → List ℕ → Option Spot → Bool
+is_child dir name None = false
+is_child dir name (Some spot) = not (spot.node.number == 0) && spot.parent == dir && pointwise nat_eq spot.name name
+
+-- the first that is
+abbrev pub child : List (Option Spot) → ℕ → List ℕ → Option Spot
+child [] dir name = None
+child (spot ∷ spots) dir name = if is_child dir name spot then spot else child spots dir name
+
+abbrev pub node_in : Option Spot → Option Node
+node_in spot = option_map (λ (s : Spot). s.node) spot
+
+-- where a path leads to from a node on
+abbrev pub walk : List (Option Spot) → Option Node → List (List ℕ) → Option Node
+walk spots at [] = at
+walk spots None (name ∷ path) = None
+walk spots (Some node) (name ∷ path) = walk spots (node_in (child spots node.number name)) path
+
+-- the map that has at each path what the path leads to from the root on; there is one at most
+abbrev pub Seen : List (Option Spot) → Type 0
+Seen spots = (nodes : Nodes) × ((path : List (List ℕ)) → fin.get nodes path ≡ walk spots (node_in (held spots 0)) path)
+
+pub Seen-prop : (spots : List (Option Spot)) → IsProp (Seen spots)
+Seen-prop spots a b =
+    Σ_prop_path (λ m. Π_prop (λ p. Coded-set (coded_option node.the_row.coded) _ _))
+    (fin.same_map (lists_total nat_list_cmp_total) (fin.slice_cmp-IsAntisymmetric (fin.slice_cmp-IsAntisymmetric fin.nat_cmp-IsAntisymmetric)) a.0 b.0 (λ p. a.1 p ∙ sym (b.1 p)))

@@ -1,4 +1,7 @@
 //! The tree of a volume while the server runs: its files as extents (LTFS 2.4 on the index).
 #![tactic(auto)]
 
+mod changes;
 mod nodes;
+mod places;
+mod spots;

@@ -1,0 +1,64 @@
+-- What the places keep through each change.
+use Rattle.std.proofs.Common.{Option, ◌⊎◌, ◌≡◌, ◌≢◌, ℕ, zero, suc, ◌+◌, ◌-◌, ◌<◌, ◌≤◌, max, Bool, true, false, cond, List, [], ◌∷◌, ◌++◌, length, Some, None, IsSome, is_some, sym, ap, ◌∙◌, refl, subst, arith}
+use Rattle.std.specs.FinMap as fin
+use Rattle.plain_tree.specs.Paths.{path_cmp, is_at_or_below}
+use Rattle.plain_tree.specs.Seen.{CanLeave, CanMove}
+use Rattle.plain_tree.proofs.NodeLemmas.{path_total}
+use Rattle.file_tree.specs.declared.nodes.Node.{Node}
+use Rattle.file_tree.specs.declared.nodes.Spot.{Spot}
+use Rattle.file_tree.specs.Tree.{Nodes, number_at, moved, plain_nodes, whole}
+use Rattle.file_tree.specs.Seen.{held, IsShown, IsKept}
+use Rattle.file_tree.specs.Places.{used, IsStored, IsSetIn, IsChangedIn}
+use Rattle.file_tree.proofs.PathLemmas.{get_here, number_is, node_at}
+use Rattle.file_tree.proofs.ShownLemmas.{stands, kept_at, dir_of}
+use Rattle.file_tree.proofs.UpdateLemmas.{inserted, updated, removed, moves}
+use Rattle.file_tree.proofs.PlaceLemmas.{kept_node, node_now, held_within}
+use Rattle.file_tree.proofs.PlainLemmas.{none_plain, len_moved, bare_too}
+
+module _ (spots next : List (Option Spot)) (count : ℕ) (m : Nodes) (s : IsStored spots count m) where
+  pub stored_put : (p : List (List ℕ)) (x : List ℕ) (d : ℕ) (node : Node) (place : ℕ) → number_at m p ≡ Some d → fin.get m (p ++ x ∷ []) ≡ None → node.number ≡ place → held spots place ≡ None → place < 65536
+      → IsSetIn spots next place (Some (record { parent = d; name = x; node = node })) → used next ≡ used spots + 1 → IsStored next (count + 1) (fin.insert m (p ++ x ∷ []) node)
+  stored_put p x d node place dir free is empty fits put more = record {
+    shown = inserted (held spots) (held next) m s.shown p x d node dir free (ap (held spots) is ∙ empty) (subst (λ n. IsKept (held spots) (held next) n (Some (record { parent = d; name = x; node = node }))) (sym is) put.kept);
+    counted = ap (λ n. n + 1) s.counted ∙ sym (fin.len-insert path_total m (p ++ x ∷ []) node ∙ ap (λ o. cond (is_some o) (fin.len m) (fin.len m + 1)) free);
+    filled = ap (λ n. n + 1) s.filled ∙ sym more;
+    few = omega (arith, s.few, put.long);
+  }
+
+  pub stored_take : (p : List (List ℕ)) (x : List ℕ) (n : ℕ) → number_at m (p ++ x ∷ []) ≡ Some n → CanLeave (plain_nodes whole m) (p ++ x ∷ []) → IsSetIn spots next n None → used next + 1 ≡ used spots
+      → IsStored next (count - 1) (fin.remove m (p ++ x ∷ []))
+  stored_take p x n is can put less =
+      let node = node_at m (p ++ x ∷ []) n is in
+      let z = kept_node (held spots) m s.shown (p ++ x ∷ []) node.0 node.1 in
+      let long : n < length spots = held_within spots n (ap (λ k. is_some (held spots k)) (sym node.2) ∙ ap is_some z.1) in
+      record {
+        shown = removed (held spots) (held next) m s.shown p x node.0 node.1 (bare_too m (p ++ x ∷ []) can) (subst (λ k. IsKept (held spots) (held next) k None) (sym node.2) put.kept);
+        counted = ap (λ n. n - 1) s.counted ∙ sym (fin.len-remove path_total m (p ++ x ∷ []) ∙ ap (λ o. cond (is_some o) (fin.len m - 1) (fin.len m)) node.1);
+        filled = omega (arith, s.filled, less);
+        few = omega (arith, s.few, put.long, long);
+      }
+
+  pub stored_change : (P : Node → Node → Type 0) (n : ℕ) → (c : IsChangedIn spots next n P) → (p : List (List ℕ)) → number_at m p ≡ Some n → IsStored next count (fin.insert m p c.new)
+  stored_change P n c p is =
+      let there : fin.get m p ≡ Some c.old.node = node_now (held spots) m s.shown n c.old c.was p is in
+      let number : c.old.node.number ≡ n = s.shown.numbered n c.old c.was in
+      record {
+        shown = updated (held spots) (held next) m s.shown p c.old.node c.new c.old there c.same (ap (held spots) number ∙ c.was) (subst (λ k. IsKept (held spots) (held next) k (Some (record { parent = c.old.parent; name = c.old.name; node = c.new }))) (sym number) c.kept);
+        counted = s.counted ∙ sym (fin.len-insert path_total m p c.new ∙ ap (λ o. cond (is_some o) (fin.len m) (fin.len m + 1)) there);
+        filled = s.filled ∙ sym c.filled;
+        few = omega (arith, s.few, c.long);
+      }
+
+  pub stored_shift : (p u : List (List ℕ)) (x y : List ℕ) (n d : ℕ) → number_at m (p ++ x ∷ []) ≡ Some n → number_at m u ≡ Some d → CanMove (plain_nodes whole m) (p ++ x ∷ []) (u ++ y ∷ [])
+      → ((z : Spot) → held spots n ≡ Some z → IsSetIn spots next n (Some (record { parent = d; name = y; node = z.node }))) → used next ≡ used spots → length next ≤ 65536 → IsStored next count (moved (p ++ x ∷ []) (u ++ y ∷ []) m)
+  stored_shift p u x y n d is dir can put same fits =
+      let node = node_at m (p ++ x ∷ []) n is in
+      let z = kept_node (held spots) m s.shown (p ++ x ∷ []) node.0 node.1 in
+      let set = put z.0 (ap (held spots) (sym node.2) ∙ z.1) in
+      record {
+        shown = moves (held spots) (held next) m s.shown p u x y node.0 d node.1 dir (λ q h. none_plain whole m q (can.free q h)) can.apart
+            (subst (λ k. IsKept (held spots) (held next) node.0.number (Some (record { parent = d; name = y; node = k }))) z.2 (subst (λ k. IsKept (held spots) (held next) k (Some (record { parent = d; name = y; node = z.0.node }))) (sym node.2) set.kept));
+        counted = s.counted ∙ sym (len_moved m (p ++ x ∷ []) (u ++ y ∷ []) can);
+        filled = s.filled ∙ sym same;
+        few = fits;
+      }
