@@ -55,8 +55,8 @@ module _ (tape : Tape) where
   plain_entries m =
       let sorted : T (fin.is_sorted path_cmp (map line (fin.entries m))) = is_T _ (sorted_map (fin.entries m) ∙ T_is _ (fin.entries_sorted m)) in
       let same : plain_nodes tape m ≡ fin.from_sorted (map line (fin.entries m)) =
-      same_nodes (plain_nodes tape m) (fin.from_sorted (map line (fin.entries m))) (λ q. fin.get-from_entries path_total (map line (fin.entries m)) q ∙ sym (fin.get-from_sorted (map line (fin.entries m)) q sorted)) in
-      ap fin.entries same ∙ fin.entries-from_sorted (map line (fin.entries m)) sorted
+      same_nodes (plain_nodes tape m) (fin.from_sorted (map line (fin.entries m))) (λ q. fin.get-from_entries path_total (map line (fin.entries m)) q ∙ sym (fin.get-from_sorted path_cmp (map line (fin.entries m)) q sorted)) in
+      ap fin.entries same ∙ fin.entries-from_sorted path_cmp (map line (fin.entries m)) sorted
 
   pub plain_len : (m : Nodes) → fin.len (plain_nodes tape m) ≡ fin.len m
   plain_len m = fin.len-entries (plain_nodes tape m) ∙ ap length (plain_entries m) ∙ length-map (fin.entries m) line ∙ sym (fin.len-entries m)

@@ -1,9 +1,9 @@
-ghost use Rattle.std.specs.Prelude.{◌≡◌, ◌^◌, ◌≤◌, OnOk, OnErr};
+ghost use Rattle.std.specs.Prelude.{◌≡◌, ◌^◌, ◌≤◌, OnOk};
 ghost use Rattle.extent_map.specs.Laid.{IsLaid, resized, overlaid};
-ghost use Rattle.file_tree.specs.Changes.{touched, IsChangedBy, CanChange, IsRelaid};
+ghost use Rattle.file_tree.specs.Changes.{touched, IsChangedBy, CanChange, IsRelaid, IsRoomier, HasRoom};
 
 use crate::nodes::{Kind, Node};
-use tape_types::{Extent, Moment};
+use tape_types::{Extent, Moment, NoMemory};
 
 /// A change of a node that takes no memory.
 #[derive(Clone, Copy)]
@@ -57,5 +57,17 @@ fn overlay_node(node: &mut Node, new: Extent, at: Moment)
     if let Kind::File(extents) = &mut node.kind {
         extents.overlay(new);
         touch_node(node, at);
+    }
+}
+
+/// Makes room for one overlay, where the node is a file.
+pub fn reserve_node(node: &mut Node) -> Result<(), NoMemory>
+    ensures same { IsRoomier node.old node.new }
+    ensures room { OnOk result (HasRoom node.new) }
+    ensures number { node.new.number ≡ node.old.number }
+{
+    match &mut node.kind {
+        Kind::File(extents) => extents.reserve(),
+        Kind::Dir | Kind::Link(_) => Ok(()),
     }
 }

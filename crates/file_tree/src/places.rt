@@ -1,14 +1,12 @@
-ghost use Rattle.std.specs.Prelude.{◌≡◌, ℕ, List, [], ◌∷◌, ◌++◌, None, Some, ◌<◌, ◌≤◌, length, OnOk, IfOk, IfErr, IsSome, slice_get};
-ghost use Rattle.std.specs.Option.{option_map};
-ghost use Rattle.file_tree.specs.declared.nodes.Spot.{Spot};
-ghost use Rattle.file_tree.specs.Seen.{Seen, Seen-prop, held, is_child as is_child_of, child as child_in};
-ghost use Rattle.file_tree.specs.Places.{used};
+ghost use Rattle.std.specs.Prelude.{◌≡◌};
+ghost use Rattle.file_tree.specs.Seen.{Seen, Seen-prop};
 
+use crate::changes::Change;
 use crate::nodes::{Node, Spot};
-use crate::spots::{Spots, child, spot_at};
+use crate::spots::{change_spot, child, first_empty, put_spot, reserve_spot, shift_spot, spot_at, take_spot};
 use std::alloc::Global;
 use std::marker::Model;
-use tape_types::{NoMemory, Text};
+use tape_types::{Moment, NoMemory, Text};
 
 /// The nodes at their numbers, each under its name in its directory. A place is empty where no node has its number.
 #[derive(Drop)]
@@ -38,10 +36,26 @@ impl Model for Places {
 }
 
 impl Places {
-    ghost use Rattle.std.specs.Prelude.{◌≡◌, ℕ, List, [], ◌∷◌, ◌++◌, None, Some, ◌<◌, ◌≤◌, length, OnOk, IfOk, IfErr};
+    ghost use Rattle.std.specs.Prelude.{◌≡◌, ◌≢◌, ℕ, ◌+◌, ◌≤◌, List, [], ◌∷◌, ◌++◌, Some, OnOk, IfOk, IfErr};
     ghost use Rattle.std.specs.FinMap as fin;
-    ghost use Rattle.file_tree.specs.Tree.{number_at};
-    ghost use Rattle.file_tree.specs.Places.{IsThere, IsLast};
+    ghost use Rattle.file_tree.specs.declared.nodes.Node.{Node};
+    ghost use Rattle.file_tree.specs.Tree.{number_at, moved};
+    ghost use Rattle.file_tree.specs.Changes.{CanChange, IsChangedAt, IsChangedBy, IsRoomier, HasRoom};
+    ghost use Rattle.file_tree.specs.Places.{IsThere, IsLast, CanPut, CanTake, CanShift};
+
+    /// The root alone.
+    pub fn new(alloc: Global, root: Node) -> Result<Places, NoMemory>
+        requires { root.number ≡ 0 }
+        ensures { IfOk result (λ t. t.nodes ≡ fin.insert fin.empty [] root) }
+    {
+        let mut spots = Vec::new(alloc);
+        spots.push(Some(Spot {
+            parent: 0,
+            name: Text::from_string(String::new(alloc)),
+            node: root,
+        }))?;
+        Ok(Places { spots, count: 1 })
+    }
 
     pub fn len(&self) -> u32
         ensures { result ≡ fin.len self.now.nodes }
@@ -87,4 +101,78 @@ impl Places {
         }
         Ok(number)
     }
+
+    /// Makes room for one more node.
+    pub fn reserve(&mut self) -> Result<(), NoMemory>
+        ensures same { self.new.nodes ≡ self.old.nodes }
+        ensures room { OnOk result (1 ≤ self.new.spare) }
+    {
+        Ok(self.spots.reserve(1)?)
+    }
+
+    /// Puts a node under a name into a directory, and gives it a number that no node has. Takes no memory.
+    pub fn put(&mut self, dir: u32, name: Text, node: Node) -> u32
+        requires { CanPut self.old dir name }
+        ensures put { (path : List (List ℕ)) → number_at self.old.nodes path ≡ Some dir → self.new.nodes ≡ fin.insert self.old.nodes (path ++ name ∷ []) (record node { number = result }) }
+        ensures fresh { (path : List (List ℕ)) → number_at self.old.nodes path ≢ Some result }
+        ensures room { self.old.spare ≤ self.new.spare + 1 }
+    {
+        let place = first_empty(&self.spots);
+        let number = place as u32;
+        put_spot(
+            &mut self.spots,
+            place,
+            Spot {
+                parent: dir,
+                name,
+                node: numbered(node, number),
+            },
+        );
+        self.count += 1;
+        number
+    }
+
+    /// Takes out a node that has nothing in it.
+    pub fn take(&mut self, number: u32)
+        requires { CanTake self.old.nodes number }
+        ensures taken { (path : List (List ℕ)) → number_at self.old.nodes path ≡ Some number → self.new.nodes ≡ fin.remove self.old.nodes path }
+        ensures room { self.new.spare ≡ self.old.spare }
+    {
+        take_spot(&mut self.spots, number);
+        self.count -= 1;
+    }
+
+    /// Moves a node, and all below it, under a name into a directory. Takes no memory.
+    pub fn shift(&mut self, number: u32, dir: u32, name: Text)
+        requires { CanShift self.old.nodes number dir name }
+        ensures shifted { (from up : List (List ℕ)) → number_at self.old.nodes from ≡ Some number → number_at self.old.nodes up ≡ Some dir → self.new.nodes ≡ moved from (up ++ name ∷ []) self.old.nodes }
+        ensures room { self.new.spare ≡ self.old.spare }
+    {
+        shift_spot(&mut self.spots, number, dir, name);
+    }
+
+    /// Changes a node. Takes no memory.
+    pub fn change(&mut self, number: u32, change: Change, at: Moment)
+        requires there { IsThere self.old.nodes number }
+        requires can { (path : List (List ℕ)) (node : Node) → fin.get self.old.nodes path ≡ Some node → node.number ≡ number → CanChange change node }
+        ensures changed { IsChangedAt self.old.nodes self.new.nodes number (λ a b. IsChangedBy change at a b) }
+        ensures room { self.new.spare ≡ self.old.spare }
+    {
+        change_spot(&mut self.spots, number, change, at);
+    }
+
+    /// Makes room for one overlay of a node that is a file.
+    pub fn reserve_extent(&mut self, number: u32) -> Result<(), NoMemory>
+        requires { IsThere self.old.nodes number }
+        ensures changed { IsChangedAt self.old.nodes self.new.nodes number (λ a b. IsRoomier a b × OnOk result (HasRoom b)) }
+        ensures room { self.new.spare ≡ self.old.spare }
+    {
+        reserve_spot(&mut self.spots, number)
+    }
+}
+
+fn numbered(node: Node, number: u32) -> Node
+    ensures { result ≡ record node { number = number } }
+{
+    Node { number, ..node }
 }

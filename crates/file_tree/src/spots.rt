@@ -1,13 +1,13 @@
-ghost use Rattle.std.specs.Prelude.{◌≡◌, ℕ, ◌+◌, ◌-◌, None, Some, ◌<◌, ◌≤◌, length, IsSome, vec_len, vec_capacity};
+ghost use Rattle.std.specs.Prelude.{◌≡◌, ℕ, ◌+◌, ◌-◌, None, Some, ◌<◌, ◌≤◌, length, IsSome, OnOk, vec_len, vec_capacity};
 ghost use Rattle.std.specs.Option.{option_map};
 ghost use Rattle.file_tree.specs.declared.nodes.Spot.{Spot};
 ghost use Rattle.file_tree.specs.Seen.{held, is_child as is_child_of, child as child_in};
-ghost use Rattle.file_tree.specs.Changes.{CanChange, IsChangedBy};
+ghost use Rattle.file_tree.specs.Changes.{CanChange, IsChangedBy, IsRoomier, HasRoom};
 ghost use Rattle.file_tree.specs.Places.{used, IsChangedIn, IsSetIn};
 
-use crate::changes::{Change, change_node};
+use crate::changes::{Change, change_node, reserve_node};
 use crate::nodes::Spot;
-use tape_types::{Moment, Text};
+use tape_types::{Moment, NoMemory, Text};
 
 /// What is kept at each number.
 pub type Spots = Vec<Option<Spot>>;
@@ -110,6 +110,18 @@ pub fn change_spot(spots: &mut Spots, number: u32, change: Change, at: Moment)
 {
     match &mut spots[number as usize] {
         Some(spot) => change_node(&mut spot.node, change, at),
+        None => unreachable!(),
+    }
+}
+
+/// Makes room for one overlay of a node that is a file.
+pub fn reserve_spot(spots: &mut Spots, number: u32) -> Result<(), NoMemory>
+    requires { IsSome (held spots.old.items number) }
+    ensures changed { IsChangedIn spots.old.items spots.new.items number (λ a b. IsRoomier a b × OnOk result (HasRoom b)) }
+    ensures room { vec_capacity spots.new - vec_len spots.new ≡ vec_capacity spots.old - vec_len spots.old }
+{
+    match &mut spots[number as usize] {
+        Some(spot) => reserve_node(&mut spot.node),
         None => unreachable!(),
     }
 }
