@@ -5,3 +5,5 @@ pub mod WalkLemmas
 pub mod PlaceLemmas
 pub mod PlainLemmas
 pub mod StoredLemmas
+pub mod RefusalLemmas
+pub mod EditLemmas

@@ -9,7 +9,7 @@ use Rattle.file_tree.specs.declared.changes.Change.TheVariants as changes
 use Rattle.file_tree.specs.declared.nodes.Node.{Node}
 use Rattle.file_tree.specs.declared.nodes.Kind.{Kind}
 use Rattle.file_tree.specs.declared.nodes.Kind.TheVariants as kinds
-use Rattle.file_tree.specs.Tree.{Nodes}
+use Rattle.file_tree.specs.Tree.{Nodes, number_at}
 
 -- change and modify time are this moment
 abbrev pub touched : Moment → Node → Node
@@ -92,6 +92,7 @@ pub record IsChangedAt (before next : Nodes) (number : ℕ) (P : Node → Node �
   pub new : Node
   pub there : fin.get before path ≡ Some old
   pub is : old.number ≡ number
+  pub only : (p : List (List ℕ)) → number_at before p ≡ Some number → p ≡ path
   pub kept : new.number ≡ old.number
   pub changed : P old new
   pub now : next ≡ fin.insert before path new

@@ -2,3 +2,5 @@ pub mod Tree
 pub mod Seen
 pub mod Changes
 pub mod Places
+pub mod Valid
+pub mod Edits

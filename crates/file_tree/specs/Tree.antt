@@ -40,10 +40,10 @@ abbrev pub StandsAt : FileTree → List (List ℕ) → ℕ → Type 0
 StandsAt t path number = number_at t.nodes path ≡ Some number
 
 -- the node with this number is a file that lies so
-pub record HasLaid (t : FileTree) (number : ℕ) (laid : Laid) : Type 0 where
+pub record HasLaid (nodes : Nodes) (number : ℕ) (laid : Laid) : Type 0 where
   pub path : List (List ℕ)
   pub node : Node
-  pub there : fin.get t.nodes path ≡ Some node
+  pub there : fin.get nodes path ≡ Some node
   pub is : node.number ≡ number
   pub room : Room
   pub file : node.kind ≡ kinds.File room

@@ -64,6 +64,7 @@ returns-clause-changed c =
       new = ch.new;
       there = node_now (held spots) m s.shown c.args.number ch.old ch.was c.requires.there.0 c.requires.there.1;
       is = s.shown.numbered c.args.number ch.old ch.was;
+      only = λ p stood. one_number (held spots) m s.shown p c.requires.there.0 c.args.number stood c.requires.there.1;
       kept = ch.same;
       changed = ch.changed;
       now = sole next c.self.inside.count now _ (search rules) t;
