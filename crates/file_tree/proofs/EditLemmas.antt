@@ -9,6 +9,7 @@ use Rattle.plain_tree.specs.Paths.{path_cmp, parent_of, is_at_or_below, moved_pa
 use Rattle.plain_tree.specs.Tree as plain
 use Rattle.plain_tree.proofs.NodeLemmas.{changed_found}
 use Rattle.plain_tree.proofs.SeenLemmas.{unlike}
+use Rattle.plain_tree.proofs.MoveLemmas.{below_split, not_true}
 use Rattle.extent_map.specs.Cells.{Tape}
 use Rattle.extent_map.specs.Laid.{Laid, Room, IsLaid}
 use Rattle.file_tree.specs.declared.nodes.Node.{Node}
@@ -118,3 +119,12 @@ module _ (m : Nodes) (from to : List (List ℕ)) (free : (x : List (List ℕ)) �
       (λ (here : (r : List (List ℕ)) × (q ≡ to ++ r) × (fin.get m (from ++ r) ≡ Some n)). all (from ++ here.0) n room here.2 kind)
       (λ (was : (is_at_or_below to q ≡ false) × (is_at_or_below from q ≡ false) × (fin.get m q ≡ Some n)). all q n room was.2 kind)
       (from_where m from to free q n is)
+
+  pub node_moves : (q : List (List ℕ)) (n : Node) → fin.get m q ≡ Some n → fin.get (moved from to m) (moved_path from to q) ≡ Some n
+  node_moves q n is = elim (is_at_or_below from q) as (λ b. is_at_or_below from q ≡ b → fin.get (moved from to m) (cond b (to ++ drop (length from) q) q) ≡ Some n) [
+    | true ↦ λ below. come m from to free (drop (length from) q) ∙ ap (fin.get m) (sym (below_split from q below)) ∙ is
+    | false ↦ λ other. stay m from to free q (not_true (is_at_or_below to q) (λ e. unlike (fin.get m q) n (free q e) is)) other ∙ is
+  ] refl
+
+  pub number_moves : (q : List (List ℕ)) (n : ℕ) → number_at m q ≡ Some n → number_at (moved from to m) (moved_path from to q) ≡ Some n
+  number_moves q n is = let node = node_at m q n is in number_is (moved from to m) (moved_path from to q) node.0 (node_moves q node.0 node.1) ∙ ap (λ k. Some k) node.2

@@ -7,3 +7,5 @@ pub mod PlainLemmas
 pub mod StoredLemmas
 pub mod RefusalLemmas
 pub mod EditLemmas
+pub mod TreeLemmas
+pub mod LeaveLemmas

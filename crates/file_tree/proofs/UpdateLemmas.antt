@@ -257,12 +257,12 @@ module _ (m : Nodes) (from to : List (List ℕ)) (free : (x : List (List ℕ)) �
     ] refl
   ] refl
 
-above_one : (d u : List (List ℕ)) (y : List ℕ) → is_at_or_below d (u ++ y ∷ []) ≡ false → is_at_or_below d u ≡ false
+pub above_one : (d u : List (List ℕ)) (y : List ℕ) → is_at_or_below d (u ++ y ∷ []) ≡ false → is_at_or_below d u ≡ false
 above_one d u y other = not_true (is_at_or_below d u) (λ e.
     let more : u ++ y ∷ [] ≡ d ++ (drop (length d) u ++ y ∷ []) = ap (λ z. z ++ y ∷ []) (below_split d u e) ∙ append_assoc d (drop (length d) u) (y ∷ []) in
     let wrong : true ≡ false = sym (below_join d (drop (length d) u ++ y ∷ [])) ∙ ap (is_at_or_below d) (sym more) ∙ other in cc)
 
-shorter_not : (p q : List (List ℕ)) → length q < length p → is_at_or_below p q ≡ false
+pub shorter_not : (p q : List (List ℕ)) → length q < length p → is_at_or_below p q ≡ false
 shorter_not p q lt = not_true (is_at_or_below p q) (λ e. absurd (omega (arith, below_length p q e)))
 
 join_assoc : (a b : List (List ℕ)) (y : List ℕ) → (a ++ b) ++ y ∷ [] ≡ a ++ (b ++ y ∷ [])

@@ -10,14 +10,16 @@ use Rattle.plain_tree.specs.declared.calls.Refusal.TheVariants as refusals
 use Rattle.plain_tree.specs.declared.calls.Sort.{Sort}
 use Rattle.plain_tree.specs.declared.calls.Sort.TheVariants as sorts
 use Rattle.plain_tree.specs.Refusals.{refusal_of}
-use Rattle.plain_tree.specs.Calls.{after}
+use Rattle.plain_tree.specs.Calls.{after, with_length}
 use Rattle.plain_tree.specs.Cells.{written}
 use Rattle.plain_tree.specs.Tree as plain
-use Rattle.extent_map.specs.Laid.{Laid}
+use Rattle.extent_map.specs.Laid.{Laid, Room}
 use Rattle.extent_map.specs.Cells.{Tape, cells_of}
 use Rattle.file_tree.specs.declared.nodes.Node.{Node}
+use Rattle.file_tree.specs.declared.nodes.Kind.{Kind}
+use Rattle.file_tree.specs.declared.nodes.Kind.TheVariants as kinds
 use Rattle.file_tree.specs.Changes.{CanOverlay}
-use Rattle.file_tree.specs.Tree.{Nodes, FileTree, number_at, StandsAt, HasLaid, plain_of, whole}
+use Rattle.file_tree.specs.Tree.{Nodes, FileTree, number_at, StandsAt, HasExtents, HasLaid, plain_of, whole}
 
 -- the call that makes a node of a sort; none makes a link
 abbrev pub making : Sort → List (List ℕ) → Option Call
@@ -33,6 +35,18 @@ pub record CanMake (t : FileTree) (dir : ℕ) (name : List ℕ) (sort : Sort) : 
   pub made_by : making sort (path ++ name ∷ []) ≡ Some call
   pub free : refusal_of (plain_of whole t) call ≡ None
   pub room : 1 ≤ t.spare
+
+-- what a new node of a sort is: a file has no bytes
+abbrev pub IsNewKind : ℕ → Sort → Kind → Type 0
+IsNewKind size sorts.Dir kind = kind ≡ kinds.Dir
+IsNewKind size sorts.File kind = (room : Room) × (kind ≡ kinds.File room) × (room.laid ≡ record { block_size = size; length = 0; extents = [] })
+IsNewKind size sorts.Link kind = kind ≡ kinds.Dir
+
+-- the extent can be put into the file with this number, for which there is memory
+pub record CanWrite (t : FileTree) (file : ℕ) (new : Extent) : Type 0 where
+  pub room : Room
+  pub extents : HasExtents t.nodes file room
+  pub can : CanOverlay room new
 
 -- the node with this number can be removed
 pub record CanUnlink (t : FileTree) (number : ℕ) : Type 0 where
@@ -52,6 +66,15 @@ pub record CanMoveTo (t : FileTree) (number dir : ℕ) (name : List ℕ) : Type 
 -- whatever stands on tape, the tree is what the plain tree is after the call
 abbrev pub IsAfter : Call → Moment → FileTree → FileTree → Type 0
 IsAfter call at before next = (tape : Tape) → plain_of tape next ≡ after (plain_of tape before) call at
+
+-- whatever stands on tape, the extent's bytes are written into the file at each path that has its number, and it is touched
+abbrev pub IsWritten : ℕ → Extent → Moment → FileTree → FileTree → Type 0
+IsWritten file new at before next = (tape : Tape) (path : List (List ℕ)) → StandsAt before path file
+    → plain_of tape next ≡ record (plain_of tape before) { nodes = plain.changed_at (plain.file_changed (λ cells. written cells new.offset (cells_of tape before.block_size new)) at) path (plain_of tape before).nodes }
+
+-- whatever stands on tape, the file has this length, as a truncation leaves it
+abbrev pub IsTruncated : ℕ → ℕ → Moment → FileTree → FileTree → Type 0
+IsTruncated file length at before next = (tape : Tape) (path : List (List ℕ)) → StandsAt before path file → plain_of tape next ≡ with_length (plain_of tape before) path length at
 
 -- the volume's name and the bytes of a block stay
 pub record KeepsVolume (before next : FileTree) : Type 0 where

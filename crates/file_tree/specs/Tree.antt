@@ -39,6 +39,14 @@ moved from to nodes = fin.from_entries (map (λ e. (moved_path from to e.0, e.1)
 abbrev pub StandsAt : FileTree → List (List ℕ) → ℕ → Type 0
 StandsAt t path number = number_at t.nodes path ≡ Some number
 
+-- the node with this number is a file with these extents
+pub record HasExtents (nodes : Nodes) (number : ℕ) (room : Room) : Type 0 where
+  pub path : List (List ℕ)
+  pub node : Node
+  pub there : fin.get nodes path ≡ Some node
+  pub is : node.number ≡ number
+  pub file : node.kind ≡ kinds.File room
+
 -- the node with this number is a file that lies so
 pub record HasLaid (nodes : Nodes) (number : ℕ) (laid : Laid) : Type 0 where
   pub path : List (List ℕ)

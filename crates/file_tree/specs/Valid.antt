@@ -1,5 +1,5 @@
 -- What is true of every tree that is kept.
-use Rattle.std.specs.Prelude.{◌≡◌, ℕ, List, Some}
+use Rattle.std.specs.Prelude.{◌≡◌, ℕ, ◌≤◌, List, Some}
 use Rattle.std.specs.FinMap as fin
 use Rattle.plain_tree.specs.Valid.{IsValid}
 use Rattle.extent_map.specs.Laid.{Laid, Room, IsLaid}
@@ -19,5 +19,6 @@ AreFilesOf block_size m = (path : List (List ℕ)) (node : Node) (room : Room) �
 
 -- it is a valid plain tree, whatever stands on tape, and its files lie as files of the volume do
 pub record IsGood (t : FileTree) : Type 0 where
+  pub some_block : 1 ≤ t.block_size
   pub valid : (tape : Tape) → IsValid (plain_of tape t)
   pub files : AreFilesOf t.block_size t.nodes
