@@ -9,3 +9,4 @@ pub mod RefusalLemmas
 pub mod EditLemmas
 pub mod TreeLemmas
 pub mod LeaveLemmas
+pub mod WriteLemmas

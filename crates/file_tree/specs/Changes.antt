@@ -35,13 +35,13 @@ pub record LiesNow (at : Moment) (before next : Node) (laid : Laid) : Type 0 whe
   pub good : IsLaid laid
 
 -- a file lies as the change of its extents says, and is touched; another node is as it was
+abbrev pub relaid_as : (Laid → Laid) → Moment → Node → Node → Kind → Type 0
+relaid_as change at before next kinds.Dir = next ≡ before
+relaid_as change at before next (kinds.File room) = LiesNow at before next (change room.laid)
+relaid_as change at before next (kinds.Link text) = next ≡ before
+
 abbrev pub IsRelaid : (Laid → Laid) → Moment → Node → Node → Type 0
-IsRelaid change at before next = of_kind before.kind
-  where
-    of_kind : Kind → Type 0
-    of_kind kinds.Dir = next ≡ before
-    of_kind (kinds.File room) = LiesNow at before next (change room.laid)
-    of_kind (kinds.Link text) = next ≡ before
+IsRelaid change at before next = relaid_as change at before next before.kind
 
 -- the node is changed so at this moment
 abbrev pub IsChangedBy : Change → Moment → Node → Node → Type 0
@@ -50,17 +50,17 @@ IsChangedBy changes.Note at before next = next ≡ change_noted at before
 IsChangedBy (changes.Resize length) at before next = IsRelaid (λ laid. resized laid length) at before next
 IsChangedBy (changes.Overlay new) at before next = IsRelaid (λ laid. overlaid laid new) at before next
 
+abbrev pub can_overlay : Extent → Kind → Type 0
+can_overlay new kinds.Dir = ⊤
+can_overlay new (kinds.File room) = CanOverlay room new
+can_overlay new (kinds.Link text) = ⊤
+
 -- the node can be changed so
 abbrev pub CanChange : Change → Node → Type 0
 CanChange changes.Touch node = ⊤
 CanChange changes.Note node = ⊤
 CanChange (changes.Resize length) node = length ≤ 2 ^ 40
-CanChange (changes.Overlay new) node = of_kind node.kind
-  where
-    of_kind : Kind → Type 0
-    of_kind kinds.Dir = ⊤
-    of_kind (kinds.File room) = CanOverlay room new
-    of_kind (kinds.Link text) = ⊤
+CanChange (changes.Overlay new) node = can_overlay new node.kind
 
 -- a file lies as it did, and there may be memory for more of its extents; another node is as it was
 pub record KeepsLaid (before next : Node) (laid : Laid) : Type 0 where
@@ -68,22 +68,22 @@ pub record KeepsLaid (before next : Node) (laid : Laid) : Type 0 where
   pub is : next ≡ record before { kind = kinds.File room }
   pub lies : room.laid ≡ laid
 
+abbrev pub roomier_as : Node → Node → Kind → Type 0
+roomier_as before next kinds.Dir = next ≡ before
+roomier_as before next (kinds.File room) = KeepsLaid before next room.laid
+roomier_as before next (kinds.Link text) = next ≡ before
+
 abbrev pub IsRoomier : Node → Node → Type 0
-IsRoomier before next = of_kind before.kind
-  where
-    of_kind : Kind → Type 0
-    of_kind kinds.Dir = next ≡ before
-    of_kind (kinds.File room) = KeepsLaid before next room.laid
-    of_kind (kinds.Link text) = next ≡ before
+IsRoomier before next = roomier_as before next before.kind
 
 -- there is memory for an overlay, where it is a file
+abbrev pub kind_has_room : Kind → Type 0
+kind_has_room kinds.Dir = ⊤
+kind_has_room (kinds.File room) = 2 ≤ room.spare
+kind_has_room (kinds.Link text) = ⊤
+
 abbrev pub HasRoom : Node → Type 0
-HasRoom node = of_kind node.kind
-  where
-    of_kind : Kind → Type 0
-    of_kind kinds.Dir = ⊤
-    of_kind (kinds.File room) = 2 ≤ room.spare
-    of_kind (kinds.Link text) = ⊤
+HasRoom node = kind_has_room node.kind
 
 -- the node with this number is changed, and all else is as it was
 pub record IsChangedAt (before next : Nodes) (number : ℕ) (P : Node → Node → Type 0) : Type 0 where

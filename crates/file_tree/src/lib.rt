@@ -5,3 +5,6 @@ mod changes;
 mod nodes;
 mod places;
 mod spots;
+mod tree;
+
+pub use tree::Tree;

@@ -58,7 +58,8 @@ impl Places {
     }
 
     pub fn len(&self) -> u32
-        ensures { result ≡ fin.len self.now.nodes }
+        ensures count { result ≡ fin.len self.now.nodes }
+        ensures apart { (p q : List (List ℕ)) (number : ℕ) → number_at self.now.nodes p ≡ Some number → number_at self.now.nodes q ≡ Some number → p ≡ q }
     {
         self.count
     }
