@@ -55,6 +55,14 @@ good_after t next call at good size done files = record {
   files = subst (λ n. AreFilesOf n next.nodes) (sym size) files;
 }
 
+-- the same tree with other memory is good
+pub good_same : (t : FileTree) (nodes : Nodes) (spare : ℕ) → IsGood t → nodes ≡ t.nodes → IsGood (record { highest = t.highest; name = t.name; block_size = t.block_size; nodes = nodes; spare = spare })
+good_same t nodes spare good is = record {
+  some_block = good.some_block;
+  valid = λ tape. subst (λ (m : Nodes). IsValid (record { highest = t.highest; nodes = plain_nodes tape m })) (sym is) (good.valid tape);
+  files = subst (λ (m : Nodes). AreFilesOf t.block_size m) (sym is) good.files;
+}
+
 -- ---- a new node
 
 abbrev plain_new : Sort → plain_kind.Kind
@@ -162,3 +170,6 @@ module _ (t : FileTree) (good : IsGood t) (dir : ℕ) (name : List ℕ) (sort : 
     pub make_good : IsGood next
     make_good = good_after t next can.call at good size make_plain
         (change_files_same middle next.nodes dir _ ch t.block_size (ap (λ (n : Node). n.kind) ch.changed) (subst (λ m. AreFilesOf t.block_size m) (sym middle_is) (insert_files t.block_size t.nodes q node good.files new_files)))
+
+pub same_call : (t u : FileTree) (dir : ℕ) (name : List ℕ) (sort : Sort) (e : t ≡ u) (own : CanMake u dir name sort) → (subst (λ (t : FileTree). CanMake t dir name sort) (sym e) own).call ≡ own.call
+same_call t u dir name sort e own = refl
