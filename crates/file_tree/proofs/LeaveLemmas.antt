@@ -85,7 +85,7 @@ module _ (t : FileTree) (good : IsGood t) (number : ℕ) (at : Moment) (can : Ca
     dir_middle : number_at middle named.0 ≡ Some dir
     dir_middle = dir_stays dir middle (up named.0 named.1 (ap (number_at t.nodes) (sym named.2) ∙ can.stands)) middle_is
 
-    unlink_here : IsAfter (asks.Remove can.path) at t next
+    pub unlink_here : IsAfter (asks.Remove can.path) at t next
     unlink_here tape =
         let nodes : plain_nodes tape next.nodes ≡ plain.touch at (parent_of can.path) (fin.remove (plain_nodes tape t.nodes) can.path) =
         change_plain middle next.nodes dir (λ a b. b ≡ touched at a) ch tape (plain.touched at) (ap (plain_node_of tape) ch.changed)
@@ -104,14 +104,8 @@ module _ (t : FileTree) (good : IsGood t) (number : ℕ) (at : Moment) (can : Ca
         change_numbers middle next.nodes dir _ ch path ∙ ap (λ m. number_at m path) middle_is
         ∙ ap (option_map (λ (n : Node). n.number)) (gone_other t.nodes can.path path (λ e. apart (some_same k number (sym stands ∙ ap (number_at t.nodes) e ∙ can.stands)))) ∙ stands
 
-    pub unlink_gone : ((p : List (List ℕ)) → number_at t.nodes p ≡ Some number → p ≡ can.path) → (path : List (List ℕ)) → StandsAt next path number → ⊥
-    unlink_gone only path stands =
-        let here : number_at (fin.remove t.nodes can.path) path ≡ Some number = ap (λ m. number_at m path) (sym middle_is) ∙ sym (change_numbers middle next.nodes dir _ ch path) ∙ stands in
-        let node = node_at (fin.remove t.nodes can.path) path number here in
-        ⊎_elim
-        (λ (e : path ≡ can.path). unlike (fin.get (fin.remove t.nodes can.path) path) node.0 (ap (fin.get (fin.remove t.nodes can.path)) e ∙ gone_here t.nodes can.path) node.1)
-        (λ apart. apart (only path (sym (ap (option_map (λ (n : Node). n.number)) (gone_other t.nodes can.path path apart)) ∙ here)))
-        (is_or_not can.path path)
+    pub unlink_gone : ((path : List (List ℕ)) → number_at middle path ≡ Some number → ⊥) → (path : List (List ℕ)) → StandsAt next path number → ⊥
+    unlink_gone gone path stands = gone path (sym (change_numbers middle next.nodes dir _ ch path) ∙ stands)
 
     pub unlink_lies : OthersLie number t next
     unlink_lies k f apart h = change_lies middle next.nodes dir _ ch (ap (λ (n : Node). n.kind) ch.changed) k f (record {

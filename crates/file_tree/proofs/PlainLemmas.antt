@@ -15,7 +15,7 @@ use Rattle.plain_tree.proofs.Validity.{bare_below}
 use Rattle.extent_map.specs.Cells.{Tape}
 use Rattle.file_tree.specs.declared.nodes.Node.{Node}
 use Rattle.file_tree.specs.Tree.{Nodes, number_at, moved, plain_node_of, plain_nodes, whole}
-use Rattle.file_tree.proofs.PathLemmas.{same_nodes, get_here, get_other}
+use Rattle.file_tree.proofs.PathLemmas.{same_nodes, get_here, get_other, is_or_not}
 use Rattle.file_tree.proofs.UpdateLemmas.{get_moved}
 
 is_T : (b : Bool) → b ≡ true → T b
@@ -101,3 +101,10 @@ len_moved m from to can =
 
 pub bare_too : (m : Nodes) (p : List (List ℕ)) → CanLeave (plain_nodes whole m) p → (y : List ℕ) → fin.get m (p ++ y ∷ []) ≡ None
 bare_too m p can y = none_plain whole m (p ++ y ∷ []) (bare_below (plain_nodes whole m) p can y)
+
+-- to put in what is there changes nothing
+pub inserted_same : {X : Type 0} (m : fin.FinMap path_cmp X) (p : List (List ℕ)) (v : X) → fin.get m p ≡ Some v → fin.insert m p v ≡ m
+inserted_same m p v is = same_nodes (fin.insert m p v) m (λ q. ⊎_elim
+    (λ (e : q ≡ p). ap (fin.get (fin.insert m p v)) e ∙ get_here m p v ∙ sym is ∙ ap (fin.get m) (sym e))
+    (λ apart. get_other m p q v apart)
+    (is_or_not p q))

@@ -1,5 +1,6 @@
 -- What the places keep through each change.
 use Rattle.std.proofs.Common.{Option, ◌⊎◌, ◌≡◌, ◌≢◌, ℕ, zero, suc, ◌+◌, ◌-◌, ◌<◌, ◌≤◌, max, Bool, true, false, cond, List, [], ◌∷◌, ◌++◌, length, Some, None, IsSome, is_some, sym, ap, ◌∙◌, refl, subst, arith, ⊎_elim, lit≤}
+use Rattle.std.specs.Option.{option_map}
 use Rattle.std.specs.FinMap as fin
 use Rattle.plain_tree.specs.Paths.{path_cmp, is_at_or_below}
 use Rattle.plain_tree.specs.Seen.{CanLeave, CanMove}
@@ -7,10 +8,10 @@ use Rattle.plain_tree.proofs.NodeLemmas.{path_total}
 use Rattle.file_tree.specs.declared.nodes.Node.{Node}
 use Rattle.file_tree.specs.declared.nodes.Spot.{Spot}
 use Rattle.file_tree.specs.Tree.{Nodes, number_at, moved, plain_nodes, whole}
-use Rattle.file_tree.specs.Seen.{held, IsShown, IsKept, walk, node_in}
+use Rattle.file_tree.specs.Seen.{Held, held, IsShown, IsKept, walk, node_in}
 use Rattle.file_tree.specs.Places.{used, IsStored, IsSetIn, IsChangedIn}
-use Rattle.file_tree.proofs.PathLemmas.{no_name, get_here, get_other, some_same, has_it, number_is, node_at}
-use Rattle.file_tree.proofs.ShownLemmas.{spot, stands, kept_at, dir_of}
+use Rattle.file_tree.proofs.PathLemmas.{gone_here, gone_other, is_or_not, no_name, get_here, get_other, some_same, has_it, number_is, node_at}
+use Rattle.file_tree.proofs.ShownLemmas.{one_number, spot, stands, kept_at, dir_of}
 use Rattle.file_tree.proofs.WalkLemmas.{only}
 use Rattle.plain_tree.proofs.SeenLemmas.{unlike}
 use Rattle.std.proofs.lemmas.Bool.{cases_lt}
@@ -121,3 +122,12 @@ first_stored root spots name zero_is unnamed is =
     numbered : (n : ℕ) (z : Spot) → held (Some (spot 0 [] root) ∷ []) n ≡ Some z → z.node.number ≡ n
     numbered zero z kept = ap (λ (z : Spot). z.node.number) (sym (some_same (spot 0 [] root) z kept)) ∙ zero_is
     numbered (suc n) z kept = cc
+
+-- a number that was taken out stands nowhere
+pub taken_gone : (at : Held) (m : Nodes) → IsShown at m → (p : List (List ℕ)) (n : ℕ) → number_at m p ≡ Some n → (path : List (List ℕ)) → number_at (fin.remove m p) path ≡ Some n → ⊥
+taken_gone at m s p n there path stood =
+    let node = node_at (fin.remove m p) path n stood in
+    ⊎_elim
+    (λ (e : path ≡ p). unlike (fin.get (fin.remove m p) path) node.0 (ap (fin.get (fin.remove m p)) e ∙ gone_here m p) node.1)
+    (λ apart. apart (one_number at m s path p n (sym (ap (option_map (λ (n : Node). n.number)) (gone_other m p path apart)) ∙ stood) there))
+    (is_or_not p path)

@@ -42,6 +42,14 @@ IsNewKind size sorts.Dir kind = kind ≡ kinds.Dir
 IsNewKind size sorts.File kind = (room : Room) × (kind ≡ kinds.File room) × (room.laid ≡ record { block_size = size; length = 0; extents = [] })
 IsNewKind size sorts.Link kind = kind ≡ kinds.Dir
 
+-- at the path stands a file of this length
+pub record IsLongAt (nodes : Nodes) (path : List (List ℕ)) (length : ℕ) : Type 0 where
+  pub node : Node
+  pub room : Room
+  pub there : fin.get nodes path ≡ Some node
+  pub file : node.kind ≡ kinds.File room
+  pub long : room.laid.length ≡ length
+
 -- the extent can be put into the file with this number, for which there is memory
 pub record CanWrite (t : FileTree) (file : ℕ) (new : Extent) : Type 0 where
   pub room : Room

@@ -75,7 +75,8 @@ impl Places {
     /// The number of the directory that a node is in.
     pub fn parent(&self, number: u32) -> u32
         requires { IsThere self.now.nodes number }
-        ensures { (path : List (List ℕ)) (name : List ℕ) → number_at self.now.nodes (path ++ name ∷ []) ≡ Some number → number_at self.now.nodes path ≡ Some result }
+        ensures parent { (path : List (List ℕ)) (name : List ℕ) → number_at self.now.nodes (path ++ name ∷ []) ≡ Some number → number_at self.now.nodes path ≡ Some result }
+        ensures apart { (p q : List (List ℕ)) (n : ℕ) → number_at self.now.nodes p ≡ Some n → number_at self.now.nodes q ≡ Some n → p ≡ q }
     {
         spot_at(&self.spots, number).parent
     }
@@ -136,6 +137,7 @@ impl Places {
     /// Takes out a node that has nothing in it.
     pub fn take(&mut self, number: u32)
         requires { CanTake self.old.nodes number }
+        ensures gone { (path : List (List ℕ)) → number_at self.new.nodes path ≢ Some number }
         ensures taken { (path : List (List ℕ)) → number_at self.old.nodes path ≡ Some number → self.new.nodes ≡ fin.remove self.old.nodes path }
         ensures room { self.new.spare ≡ self.old.spare }
     {

@@ -1,6 +1,8 @@
-ghost use Rattle.std.specs.Prelude.{◌≡◌, ◌≤◌, false};
+ghost use Rattle.std.specs.Prelude.{◌≡◌, ℕ, ◌≤◌, List, Some, false};
+ghost use Rattle.extent_map.specs.Laid.{Room};
 ghost use Rattle.plain_tree.specs.Tree.{times_at};
-ghost use Rattle.file_tree.specs.Edits.{IsNewKind};
+ghost use Rattle.file_tree.specs.Tree.{HasExtents, number_at};
+ghost use Rattle.file_tree.specs.Edits.{IsNewKind, IsLongAt};
 
 use crate::changes::Change;
 use crate::nodes::{Kind, Node};
@@ -45,12 +47,14 @@ impl Model for Tree {
 }
 
 impl Tree {
-    ghost use Rattle.std.specs.Prelude.{◌≡◌, ◌≢◌, ℕ, ◌+◌, ◌^◌, ◌≤◌, List, [], ◌∷◌, ◌++◌, Some, OnOk, IfOk};
+    ghost use Rattle.std.specs.Prelude.{◌≡◌, ◌≢◌, ℕ, ◌+◌, ◌^◌, ◌≤◌, ◌==◌, if◌then◌else◌, List, [], ◌∷◌, ◌++◌, Some, OnOk, IfOk};
     ghost use Rattle.std.specs.FinMap as fin;
     ghost use Rattle.extent_map.specs.Laid.{Laid, Room, overlaid, resized};
+    ghost use Rattle.extent_map.specs.Cells.{Tape};
     ghost use Rattle.plain_tree.specs.declared.calls.Call.TheVariants as asks;
     ghost use Rattle.plain_tree.specs.Paths.{moved_path};
-    ghost use Rattle.file_tree.specs.Tree.{StandsAt, HasExtents, HasLaid};
+    ghost use Rattle.file_tree.specs.Tree.{StandsAt, HasExtents, HasLaid, plain_of};
+    ghost use Rattle.file_tree.specs.Valid.{IsFileOf};
     ghost use Rattle.file_tree.specs.Edits.{CanMake, CanUnlink, CanMoveTo, CanWrite, IsAfter, IsWritten, IsTruncated, NumbersCome, AllLie, OthersLie, KeepsVolume};
 
     /// The highest uid that was ever given.
@@ -97,6 +101,104 @@ impl Tree {
         self.places.change(dir, Change::Touch, at);
         self.highest = uid;
         number
+    }
+
+    /// Takes out a file, a link or an empty directory. Takes no memory.
+    pub fn unlink(&mut self, number: u32, at: Moment)
+        requires { CanUnlink self.old number }
+        ensures plain { (path : List (List ℕ)) → StandsAt self.old path number → IsAfter (asks.Remove path) at self.old self.new }
+        ensures gone { (path : List (List ℕ)) → StandsAt self.new path number → ⊥ }
+        ensures numbers { (path : List (List ℕ)) (other : ℕ) → other ≢ number → StandsAt self.old path other → StandsAt self.new path other }
+        ensures extents { OthersLie number self.old self.new }
+        ensures volume { KeepsVolume self.old self.new }
+        ensures room { self.new.spare ≡ self.old.spare }
+    {
+        let dir = self.places.parent(number);
+        self.places.take(number);
+        self.places.change(dir, Change::Touch, at);
+    }
+
+    /// Moves a node, and all below it, under a name into a directory. Takes no memory.
+    pub fn move_to(&mut self, number: u32, dir: u32, name: Text, at: Moment)
+        requires { CanMoveTo self.old number dir name }
+        ensures plain { (from up : List (List ℕ)) → StandsAt self.old from number → StandsAt self.old up dir → IsAfter (asks.Rename from (up ++ name ∷ [])) at self.old self.new }
+        ensures numbers { (from up : List (List ℕ)) → StandsAt self.old from number → StandsAt self.old up dir → NumbersCome (moved_path from (up ++ name ∷ [])) self.old self.new }
+        ensures extents { AllLie self.old self.new }
+        ensures volume { KeepsVolume self.old self.new }
+        ensures room { self.new.spare ≡ self.old.spare }
+    {
+        let old = self.places.parent(number);
+        self.places.shift(number, dir, name);
+        self.places.change(number, Change::Note, at);
+        self.places.change(old, Change::Touch, at);
+        self.places.change(dir, Change::Touch, at);
+    }
+
+    /// The extents of a file.
+    pub fn extents(&self, file: u32) -> &Extents
+        requires { (room : Room) × HasExtents self.now.nodes file room }
+        ensures extents { HasExtents self.now.nodes file result.now }
+        ensures laid { IsFileOf self.now.block_size result.now.laid }
+    {
+        match &self.places.node(file).kind {
+            Kind::File(extents) => extents,
+            Kind::Dir | Kind::Link(_) => unreachable!(),
+        }
+    }
+
+    /// Makes room for one overlay of a file.
+    pub fn reserve_extent(&mut self, file: u32) -> Result<(), NoMemory>
+        requires { (room : Room) × HasExtents self.old.nodes file room }
+        ensures plain { (tape : Tape) → plain_of tape self.new ≡ plain_of tape self.old }
+        ensures numbers { NumbersCome (λ p. p) self.old self.new }
+        ensures extents { AllLie self.old self.new }
+        ensures room { OnOk result ((room : Room) → HasExtents self.new.nodes file room → 2 ≤ room.spare) }
+        ensures volume { KeepsVolume self.old self.new }
+        ensures spare { self.new.spare ≡ self.old.spare }
+    {
+        self.places.reserve_extent(file)
+    }
+
+    /// Puts an extent in place of what a file has in its range, and makes the file longer where it ends past it. Needs
+    /// one `reserve_extent` before, and takes no memory.
+    pub fn overlay(&mut self, file: u32, new: Extent, at: Moment)
+        requires { CanWrite self.old file new }
+        ensures plain { IsWritten file new at self.old self.new }
+        ensures numbers { NumbersCome (λ p. p) self.old self.new }
+        ensures extents { (laid : Laid) → HasLaid self.old.nodes file laid → HasLaid self.new.nodes file (overlaid laid new) }
+        ensures others { OthersLie file self.old self.new }
+        ensures volume { KeepsVolume self.old self.new }
+        ensures room { self.new.spare ≡ self.old.spare }
+    {
+        let _numbers_differ = self.places.len();
+        self.places.change(file, Change::Overlay(new), at);
+    }
+
+    /// Cuts a file, or makes it longer by bytes that are 0. The length that it has changes nothing. Takes no memory.
+    pub fn set_length(&mut self, file: u32, length: u64, at: Moment)
+        requires file { (room : Room) × HasExtents self.old.nodes file room }
+        requires fits { length ≤ 2 ^ 40 }
+        ensures plain { IsTruncated file length at self.old self.new }
+        ensures numbers { NumbersCome (λ p. p) self.old self.new }
+        ensures extents { (laid : Laid) → HasLaid self.old.nodes file laid → HasLaid self.new.nodes file (if length == laid.length then laid else resized laid length) }
+        ensures others { OthersLie file self.old self.new }
+        ensures volume { KeepsVolume self.old self.new }
+        ensures room { self.new.spare ≡ self.old.spare }
+    {
+        if length_of(&self.places, file) != length {
+            self.places.change(file, Change::Resize(length), at);
+        }
+    }
+}
+
+/// The length of a file, in bytes.
+fn length_of(places: &Places, file: u32) -> u64
+    requires { (room : Room) × HasExtents places.now.nodes file room }
+    ensures { (path : List (List ℕ)) → number_at places.now.nodes path ≡ Some file → IsLongAt places.now.nodes path result }
+{
+    match &places.node(file).kind {
+        Kind::File(extents) => extents.length(),
+        Kind::Dir | Kind::Link(_) => unreachable!(),
     }
 }
 
