@@ -10,3 +10,4 @@ pub mod EditLemmas
 pub mod TreeLemmas
 pub mod LeaveLemmas
 pub mod WriteLemmas
+pub mod ReadLemmas

@@ -19,13 +19,13 @@ use Rattle.file_tree.proofs.ShownLemmas.{spot, root_number, dir_of, kept_at, sta
 name_Decides : (x y : List ℕ) → Decides (pointwise nat_eq x y) (x ≡ y)
 name_Decides x y = slice_eq-Decides unsigned_Decides x y _ refl
 
-eq_is : (a b : ℕ) → eqb a b ≡ true → a ≡ b
+pub eq_is : (a b : ℕ) → eqb a b ≡ true → a ≡ b
 eq_is a b e = grind (arith, nat_tests)
 
-is_eq : (a b : ℕ) → a ≡ b → eqb a b ≡ true
+pub is_eq : (a b : ℕ) → a ≡ b → eqb a b ≡ true
 is_eq a b e = grind (arith, nat_tests)
 
-not_eq : (a b : ℕ) → a ≢ b → eqb a b ≡ false
+pub not_eq : (a b : ℕ) → a ≢ b → eqb a b ≡ false
 not_eq a b e = grind (arith, nat_tests)
 
 -- the test of a child, and what it says

@@ -3,7 +3,7 @@ ghost use Rattle.file_tree.specs.Seen.{Seen, Seen-prop};
 
 use crate::changes::Change;
 use crate::nodes::{Node, Spot};
-use crate::spots::{change_spot, child, first_empty, put_spot, reserve_spot, shift_spot, spot_at, take_spot};
+use crate::spots::{any_in, change_spot, child, first_empty, put_spot, reserve_spot, shift_spot, spot_at, take_spot};
 use std::alloc::Global;
 use std::marker::Model;
 use tape_types::{Moment, NoMemory, Text};
@@ -36,10 +36,11 @@ impl Model for Places {
 }
 
 impl Places {
-    ghost use Rattle.std.specs.Prelude.{◌≡◌, ◌≢◌, ℕ, ◌+◌, ◌≤◌, List, [], ◌∷◌, ◌++◌, Some, OnOk, IfOk, IfErr};
+    ghost use Rattle.std.specs.Prelude.{◌≡◌, ◌≢◌, ℕ, ◌+◌, ◌≤◌, nat_lt, length, List, [], ◌∷◌, ◌++◌, Some, OnOk, IfOk, IfErr};
     ghost use Rattle.std.specs.FinMap as fin;
     ghost use Rattle.file_tree.specs.declared.nodes.Node.{Node};
-    ghost use Rattle.file_tree.specs.Tree.{number_at, moved};
+    ghost use Rattle.file_tree.specs.Tree.{number_at, moved, plain_nodes, whole};
+    ghost use Rattle.plain_tree.specs.Tree.{entries_in};
     ghost use Rattle.file_tree.specs.Changes.{CanChange, IsChangedAt, IsChangedBy, IsRoomier, HasRoom};
     ghost use Rattle.file_tree.specs.Places.{IsThere, IsLast, CanPut, CanTake, CanShift};
 
@@ -87,6 +88,14 @@ impl Places {
         ensures { (path : List (List ℕ)) → number_at self.now.nodes path ≡ Some dir → number_at self.now.nodes (path ++ name.now ∷ []) ≡ result }
     {
         child(&self.spots, dir, name)
+    }
+
+    /// Whether anything stands directly in a directory.
+    pub fn has_entries(&self, dir: u32) -> bool
+        requires { IsThere self.now.nodes dir }
+        ensures { (path : List (List ℕ)) → number_at self.now.nodes path ≡ Some dir → result ≡ nat_lt 0 (length (entries_in (plain_nodes whole self.now.nodes) path)) }
+    {
+        any_in(&self.spots, dir)
     }
 
     /// The number of the node at a path, or of the last one on the way there.

@@ -1,7 +1,7 @@
 ghost use Rattle.std.specs.Prelude.{◌≡◌, ℕ, ◌+◌, ◌-◌, None, Some, ◌<◌, ◌≤◌, length, IsSome, OnOk, vec_len, vec_capacity};
 ghost use Rattle.std.specs.Option.{option_map};
 ghost use Rattle.file_tree.specs.declared.nodes.Spot.{Spot};
-ghost use Rattle.file_tree.specs.Seen.{held, is_child as is_child_of, child as child_in};
+ghost use Rattle.file_tree.specs.Seen.{held, is_child as is_child_of, child as child_in, is_in as is_in_dir, any_in as any_kept};
 ghost use Rattle.file_tree.specs.Changes.{CanChange, IsChangedBy, IsRoomier, HasRoom};
 ghost use Rattle.file_tree.specs.Places.{used, IsChangedIn, IsSetIn};
 
@@ -35,6 +35,26 @@ pub fn child(spots: &[Option<Spot>], dir: u32, name: &Text) -> Option<u32>
         }
     }
     None
+}
+
+/// Whether anything is kept in a directory.
+pub fn any_in(spots: &[Option<Spot>], dir: u32) -> bool
+    ensures { result ≡ any_kept spots.now dir }
+{
+    for spot in spots {
+        if let Some(spot) = spot {
+            if is_in(spot, dir) {
+                return true;
+            }
+        }
+    }
+    false
+}
+
+fn is_in(spot: &Spot, dir: u32) -> bool
+    ensures { result ≡ is_in_dir dir (Some spot.now) }
+{
+    spot.node.number != 0 && spot.parent == dir
 }
 
 fn is_child(spot: &Spot, dir: u32, name: &Text) -> bool

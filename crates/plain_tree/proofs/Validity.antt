@@ -278,7 +278,7 @@ found_listed (e ∷ es) dir q node below long found =
       | false ↦ λ other f. more_listed (entry_in dir (e.0, e.1)) (filter_map (entry_in dir) es) (found_listed es dir q node below long f)
     ] refl found
 
-child_listed : (m : Nodes) (dir q : List (List ℕ)) (node : Node) → fin.get m q ≡ Some node → q ≢ [] → parent_of q ≡ dir → true ≡ nat_lt 0 (length (entries_in m dir))
+pub child_listed : (m : Nodes) (dir q : List (List ℕ)) (node : Node) → fin.get m q ≡ Some node → q ≢ [] → parent_of q ≡ dir → true ≡ nat_lt 0 (length (entries_in m dir))
 child_listed m dir q node is some parent =
     let long : length q ≡ length dir + 1 = omega (arith, some_names q some, ap length parent, length-take (length q - 1) q) in
     found_listed (fin.entries m) dir q node
