@@ -4,3 +4,4 @@ pub mod Changes
 pub mod Places
 pub mod Valid
 pub mod Edits
+pub mod Reads

@@ -2,9 +2,12 @@
 #![tactic(auto)]
 
 mod changes;
+mod checks;
+mod found;
 mod nodes;
 mod places;
 mod spots;
 mod tree;
 
+pub use found::Found;
 pub use tree::Tree;

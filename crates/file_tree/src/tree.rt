@@ -5,10 +5,12 @@ ghost use Rattle.file_tree.specs.Tree.{HasExtents, number_at};
 ghost use Rattle.file_tree.specs.Edits.{IsNewKind, IsLongAt};
 
 use crate::changes::Change;
+use crate::checks::check_call;
+use crate::found::{Found, facts_of, lost_below, sort_of};
 use crate::nodes::{Kind, Node};
 use crate::places::Places;
 use extent_map::Extents;
-use plain_tree::Sort;
+use plain_tree::{Call, Facts, Refusal, Sort};
 use std::alloc::Global;
 use std::marker::Model;
 use tape_types::{Extent, Moment, NoMemory, Text, Times};
@@ -47,13 +49,18 @@ impl Model for Tree {
 }
 
 impl Tree {
-    ghost use Rattle.std.specs.Prelude.{◌≡◌, ◌≢◌, ℕ, ◌+◌, ◌^◌, ◌≤◌, ◌==◌, if◌then◌else◌, List, [], ◌∷◌, ◌++◌, Some, OnOk, IfOk};
+    ghost use Rattle.std.specs.Prelude.{◌≡◌, ◌≢◌, ℕ, ◌+◌, ◌^◌, ◌≤◌, ◌==◌, if◌then◌else◌, nat_lt, length, List, [], ◌∷◌, ◌++◌, Some, OnOk, IfOk};
     ghost use Rattle.std.specs.FinMap as fin;
     ghost use Rattle.extent_map.specs.Laid.{Laid, Room, overlaid, resized};
     ghost use Rattle.extent_map.specs.Cells.{Tape};
     ghost use Rattle.plain_tree.specs.declared.calls.Call.TheVariants as asks;
     ghost use Rattle.plain_tree.specs.Paths.{moved_path};
-    ghost use Rattle.file_tree.specs.Tree.{StandsAt, HasExtents, HasLaid, plain_of};
+    ghost use Rattle.file_tree.specs.Tree.{StandsAt, HasExtents, HasLaid, plain_of, whole};
+    ghost use Rattle.plain_tree.specs.declared.nodes.Node.{Node as PlainNode};
+    ghost use Rattle.plain_tree.specs.Tree.{entries_in, facts_of};
+    ghost use Rattle.plain_tree.specs.Refusals.{no_node, refusal_of};
+    ghost use Rattle.file_tree.specs.Places.{IsThere};
+    ghost use Rattle.file_tree.specs.Reads.{IsFound, refusal_found, IsOfSort};
     ghost use Rattle.file_tree.specs.Valid.{IsFileOf};
     ghost use Rattle.file_tree.specs.Edits.{CanMake, CanUnlink, CanMoveTo, CanWrite, IsAfter, IsWritten, IsTruncated, NumbersCome, AllLie, OthersLie, KeepsVolume};
 
@@ -70,6 +77,48 @@ impl Tree {
         ensures apart { (p q : List (List ℕ)) (number : ℕ) → StandsAt self.now p number → StandsAt self.now q number → p ≡ q }
     {
         self.places.len()
+    }
+
+    /// What a path leads to.
+    pub fn find(&self, path: &[Text]) -> Found
+        ensures number { IsFound self.now path.now result }
+        ensures refusal { (tape : Tape) → no_node (plain_of tape self.now).nodes path.now ≡ refusal_found result }
+    {
+        match self.places.find(path) {
+            Ok(number) => Found::Node(number),
+            Err(last) => lost_below(&self.places.node(last).kind),
+        }
+    }
+
+    /// What a node is.
+    pub fn sort(&self, number: u32) -> Sort
+        requires { IsThere self.now.nodes number }
+        ensures { IsOfSort self.now number result }
+    {
+        sort_of(&self.places.node(number).kind)
+    }
+
+    /// The facts of a node.
+    pub fn facts(&self, alloc: Global, number: u32) -> Result<Facts, NoMemory>
+        requires { IsThere self.now.nodes number }
+        ensures { IfOk result (λ facts. (tape : Tape) (path : List (List ℕ)) (node : PlainNode) → StandsAt self.now path number → fin.get (plain_of tape self.now).nodes path ≡ Some node → facts ≡ facts_of node) }
+    {
+        facts_of(alloc, self.places.node(number))
+    }
+
+    /// Whether anything stands directly in a directory.
+    pub fn has_entries(&self, dir: u32) -> bool
+        requires { IsThere self.now.nodes dir }
+        ensures { (path : List (List ℕ)) → StandsAt self.now path dir → result ≡ nat_lt 0 (length (entries_in (plain_of whole self.now).nodes path)) }
+    {
+        self.places.has_entries(dir)
+    }
+
+    /// Why a call is refused, where no byte is lost on the tape.
+    pub fn check(&self, alloc: Global, call: &Call) -> Result<Option<Refusal>, NoMemory>
+        ensures { IfOk result (λ refusal. refusal ≡ refusal_of (plain_of whole self.now) call.now) }
+    {
+        check_call(self, alloc, call)
     }
 
     /// Makes room for one more node.
