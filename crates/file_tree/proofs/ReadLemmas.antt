@@ -1,5 +1,5 @@
 -- What is read of a tree.
-use Rattle.std.proofs.Common.{Option, ◌⊎◌, ◌≡◌, ◌≢◌, ℕ, zero, suc, ◌+◌, ◌-◌, ◌<◌, ◌≤◌, Bool, true, false, cond, ◌&&◌, not, eqb, nat_lt, List, [], ◌∷◌, ◌++◌, length, take, drop, map, get_or, Some, None, IsSome, is_some, sym, ap, ◌∙◌, refl, subst, arith, inl, inr, ⊎_elim}
+use Rattle.std.proofs.Common.{Option, ◌⊎◌, ◌≡◌, ◌≢◌, ℕ, zero, suc, ◌+◌, ◌-◌, ◌<◌, ◌≤◌, Bool, true, false, cond, ◌&&◌, not, eqb, nat_lt, List, [], ◌∷◌, ◌++◌, length, take, drop, map, get_or, Some, None, IsSome, is_some, sym, ap, ◌∙◌, refl, subst, arith, inl, inr, ⊎_elim, ◌||◌, ◌^◌, nat_le, Result, Ok, Err, IfOk}
 use Rattle.std.specs.Option.{option_map}
 use Rattle.std.specs.List.{Contains}
 use Rattle.std.specs.FinMap as fin
@@ -11,7 +11,7 @@ use Rattle.plain_tree.specs.declared.calls.Entry.{Entry}
 use Rattle.plain_tree.specs.declared.calls.Refusal.{Refusal}
 use Rattle.plain_tree.specs.declared.calls.Refusal.TheVariants as refusals
 use Rattle.plain_tree.specs.Paths.{path_cmp, parent_of, is_at_or_below}
-use Rattle.plain_tree.specs.Refusals.{why_missing, missing_below, no_node, no_dir, no_file}
+use Rattle.plain_tree.specs.Refusals.{why_missing, missing_below, no_node, no_dir, no_file, refuse_if, too_many}
 use Rattle.plain_tree.specs.Tree as plain
 use Rattle.plain_tree.specs.Valid.{AreValid}
 use Rattle.plain_tree.proofs.MoveLemmas.{both_true, below_join}
@@ -22,13 +22,23 @@ use Rattle.plain_tree.proofs.Validity.{child_listed}
 use Rattle.extent_map.specs.Cells.{Tape}
 use Rattle.file_tree.specs.declared.nodes.Node.{Node}
 use Rattle.file_tree.specs.declared.nodes.Spot.{Spot}
-use Rattle.file_tree.specs.Tree.{Nodes, number_at, plain_kind_of, plain_node_of, plain_nodes, whole}
+use Rattle.file_tree.specs.Tree.{Nodes, FileTree, StandsAt, number_at, plain_kind_of, plain_node_of, plain_nodes, plain_of, whole}
+use Rattle.file_tree.specs.declared.nodes.Kind.{Kind}
+use Rattle.file_tree.specs.declared.nodes.Kind.TheVariants as kinds
+use Rattle.file_tree.specs.declared.found.Found.{Found}
+use Rattle.file_tree.specs.Reads.{IsFound, refusal_found, lost_below, sort_in, IsOfSort}
+use Rattle.extent_map.specs.Laid.{Room}
+use Rattle.plain_tree.specs.declared.calls.Facts.{Facts}
+use Rattle.plain_tree.specs.declared.calls.Sort.{Sort}
+use Rattle.plain_tree.specs.declared.calls.Sort.TheVariants as sorts
+use Rattle.std.proofs.lemmas.Bool.Decides.{nat_tests}
+use Rattle.file_tree.proofs.WriteLemmas.{long_as}
 use Rattle.file_tree.specs.Seen.{held, IsShown, is_in, any_in}
 use Rattle.file_tree.specs.Places.{IsLast}
-use Rattle.file_tree.proofs.PathLemmas.{no_name, number_is, node_at}
+use Rattle.file_tree.proofs.PathLemmas.{some_same, no_name, number_is, node_at}
 use Rattle.file_tree.proofs.ShownLemmas.{spot, kept_at, stands, stands_in}
 use Rattle.file_tree.proofs.WalkLemmas.{eq_is, is_eq, not_eq}
-use Rattle.file_tree.proofs.PlainLemmas.{plain_get, plain_none}
+use Rattle.file_tree.proofs.PlainLemmas.{plain_get, plain_none, plain_len}
 use Rattle.file_tree.proofs.EditLemmas.{parent_ends}
 
 -- ---- what is in a directory
@@ -154,3 +164,74 @@ none_checks m path why none is = (same_dir none ∙ is, same_file none ∙ is)
 
     same_file : fin.get m path ≡ None → no_file m path ≡ no_node m path
     same_file none = rw none refl
+
+-- ---- what the calls' checks say
+
+pub lost_found : (t : FileTree) (path : List (List ℕ)) (kind : Kind) (found : Found) → found ≡ lost_below kind → fin.get t.nodes path ≡ None → IsFound t path found
+lost_found t path kinds.Dir found is none = subst (IsFound t path) (sym is) none
+lost_found t path (kinds.File room) found is none = subst (IsFound t path) (sym is) none
+lost_found t path (kinds.Link text) found is none = subst (IsFound t path) (sym is) none
+
+pub lost_refusal : (tape : Tape) (kind : Kind) → Some (missing_below (plain_kind_of tape kind)) ≡ refusal_found (lost_below kind)
+lost_refusal tape kinds.Dir = refl
+lost_refusal tape (kinds.File room) = refl
+lost_refusal tape (kinds.Link text) = refl
+
+pub sort_same : (tape : Tape) (kind : Kind) → plain.sort_of (plain_kind_of tape kind) ≡ sort_in kind
+sort_same tape kinds.Dir = refl
+sort_same tape (kinds.File room) = refl
+sort_same tape (kinds.Link text) = refl
+
+abbrev pub dir_says : Sort → Option Refusal
+dir_says sorts.Dir = None
+dir_says sorts.File = Some refusals.NotDir
+dir_says sorts.Link = Some refusals.NotDir
+
+abbrev pub file_says : Sort → Option Refusal
+file_says sorts.Dir = Some refusals.IsDir
+file_says sorts.File = None
+file_says sorts.Link = Some refusals.IsLink
+
+pub dir_by : (t : FileTree) (path : List (List ℕ)) (number : ℕ) (sort : Sort) → StandsAt t path number → IsOfSort t number sort → dir_says sort ≡ no_dir (plain_nodes whole t.nodes) path
+dir_by t path number sort stands of = by node.0.kind refl
+  where
+    node : (n : Node) × (fin.get t.nodes path ≡ Some n) × (sort_in n.kind ≡ sort)
+    node = of path stands
+
+    by : (k : Kind) → node.0.kind ≡ k → dir_says sort ≡ no_dir (plain_nodes whole t.nodes) path
+    by kinds.Dir e = ap dir_says (sym node.2 ∙ ap sort_in e) ∙ sym (dir_of_kind whole t.nodes path node.0 plain_kinds.Dir node.1 (ap (plain_kind_of whole) e))
+    by (kinds.File room) e = ap dir_says (sym node.2 ∙ ap sort_in e) ∙ sym (dir_of_kind whole t.nodes path node.0 (plain_kind_of whole (kinds.File room)) node.1 (ap (plain_kind_of whole) e))
+    by (kinds.Link text) e = ap dir_says (sym node.2 ∙ ap sort_in e) ∙ sym (dir_of_kind whole t.nodes path node.0 (plain_kinds.Link text) node.1 (ap (plain_kind_of whole) e))
+
+pub file_by : (t : FileTree) (path : List (List ℕ)) (number : ℕ) (sort : Sort) → StandsAt t path number → IsOfSort t number sort → file_says sort ≡ no_file (plain_nodes whole t.nodes) path
+file_by t path number sort stands of = by node.0.kind refl
+  where
+    node : (n : Node) × (fin.get t.nodes path ≡ Some n) × (sort_in n.kind ≡ sort)
+    node = of path stands
+
+    by : (k : Kind) → node.0.kind ≡ k → file_says sort ≡ no_file (plain_nodes whole t.nodes) path
+    by kinds.Dir e = ap file_says (sym node.2 ∙ ap sort_in e) ∙ sym (file_of_kind whole t.nodes path node.0 plain_kinds.Dir node.1 (ap (plain_kind_of whole) e))
+    by (kinds.File room) e = ap file_says (sym node.2 ∙ ap sort_in e) ∙ sym (file_of_kind whole t.nodes path node.0 (plain_kind_of whole (kinds.File room)) node.1 (ap (plain_kind_of whole) e))
+    by (kinds.Link text) e = ap file_says (sym node.2 ∙ ap sort_in e) ∙ sym (file_of_kind whole t.nodes path node.0 (plain_kinds.Link text) node.1 (ap (plain_kind_of whole) e))
+
+pub full_then : (t : FileTree) (n : ℕ) → n ≡ fin.len t.nodes → 65536 ≤ n → refuse_if (nat_le 65536 n) refusals.TooMany ≡ too_many (plain_of whole t)
+full_then t n is le =
+    let e : nat_le 65536 n ≡ true = grind (arith, nat_tests) in
+    ap (λ b. refuse_if b refusals.TooMany) e ∙ sym (ap (λ b. refuse_if (b || nat_le (2 ^ 62) t.highest) refusals.TooMany) (ap (nat_le 65536) (plain_len whole t.nodes ∙ sym is) ∙ e))
+
+pub full_else : (t : FileTree) (n h : ℕ) → n ≡ fin.len t.nodes → n < 65536 → h ≡ t.highest → refuse_if (nat_le (2 ^ 62) h) refusals.TooMany ≡ too_many (plain_of whole t)
+full_else t n h is lt highest =
+    let e : nat_le 65536 n ≡ false = grind (arith, nat_tests) in
+    sym (ap (λ b. refuse_if (b || nat_le (2 ^ 62) t.highest) refusals.TooMany) (ap (nat_le 65536) (plain_len whole t.nodes ∙ sym is) ∙ e) ∙ ap (λ k. refuse_if (nat_le (2 ^ 62) k) refusals.TooMany) (sym highest))
+
+pub if_ok : {A E : Type 0} {P Q : A → Type 0} (r : Result A E) → ((v : A) → P v → Q v) → IfOk r P → IfOk r Q
+if_ok (Ok v) f p = f v p
+if_ok (Err e) f p = p
+
+pub facts_are : (t : FileTree) (number : ℕ) (node : Node) (facts : Facts) → ((path : List (List ℕ)) → StandsAt t path number → fin.get t.nodes path ≡ Some node) → ((tape : Tape) → facts ≡ plain.facts_of (plain_node_of tape node))
+    → (tape : Tape) (path : List (List ℕ)) (n : plain_node.Node) → StandsAt t path number → fin.get (plain_of tape t).nodes path ≡ Some n → facts ≡ plain.facts_of n
+facts_are t number node facts there are tape path n stands is =
+    are tape ∙ ap plain.facts_of (some_same (plain_node_of tape node) n (sym (plain_get tape t.nodes path ∙ ap (option_map (plain_node_of tape)) (there path stands)) ∙ is))
+
+pub length_same : (tape : Tape) (room : Room) → room.laid.length ≡ length (plain.cells_of_kind (plain_kind_of tape (kinds.File room)))
+length_same tape room = sym (long_as tape room.laid)

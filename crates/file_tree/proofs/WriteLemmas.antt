@@ -125,7 +125,7 @@ module _ (t next : FileTree) (good : IsGood t) (file : ℕ) (at : Moment) (room 
 
 -- ---- a length
 
-long_as : (tape : Tape) (f : Laid) → length (file_cells tape f) ≡ f.length
+pub long_as : (tape : Tape) (f : Laid) → length (file_cells tape f) ≡ f.length
 long_as tape f = length-map-range_with_len (cell_at tape f.block_size f.extents) 0 f.length
 
 at_path : (tape : Tape) (m : Nodes) (path : List (List ℕ)) (size : ℕ) → IsLongAt m path size → length (plain.cells_at (plain_nodes tape m) path) ≡ size

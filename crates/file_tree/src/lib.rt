@@ -4,10 +4,12 @@
 mod changes;
 mod checks;
 mod found;
+mod laws;
 mod nodes;
 mod places;
 mod spots;
 mod tree;
 
 pub use found::Found;
+pub use laws::refusals_are_alike;
 pub use tree::Tree;
