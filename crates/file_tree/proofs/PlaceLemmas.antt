@@ -167,3 +167,11 @@ pub held_past : (spots : List (Option Spot)) (n : ℕ) → length spots ≤ n �
 held_past [] n le = refl
 held_past (o ∷ spots) zero le = absurd (omega arith)
 held_past (o ∷ spots) (suc n) le = held_past spots n (omega arith)
+
+pub used_most : (spots : List (Option Spot)) → used spots ≤ length spots
+used_most [] = omega arith
+used_most (None ∷ spots) = omega (arith, used_most spots)
+used_most (Some z ∷ spots) = omega (arith, used_most spots)
+
+pub count_most : (spots : List (Option Spot)) (count : ℕ) (m : Nodes) → IsStored spots count m → count ≤ 65536
+count_most spots count m s = omega (arith, s.filled, used_most spots, s.few)

@@ -16,7 +16,7 @@ use Rattle.file_tree.proofs.WalkLemmas.{only}
 use Rattle.plain_tree.proofs.SeenLemmas.{unlike}
 use Rattle.std.proofs.lemmas.Bool.{cases_lt}
 use Rattle.file_tree.proofs.UpdateLemmas.{inserted, updated, removed, moves}
-use Rattle.file_tree.proofs.PlaceLemmas.{kept_node, node_now, held_within}
+use Rattle.file_tree.proofs.PlaceLemmas.{kept_node, node_now, held_within, held_past, push_in, used_push}
 use Rattle.file_tree.proofs.PlainLemmas.{none_plain, len_moved, bare_too}
 
 module _ (spots next : List (Option Spot)) (count : ℕ) (m : Nodes) (s : IsStored spots count m) where
@@ -131,3 +131,10 @@ taken_gone at m s p n there path stood =
     (λ (e : path ≡ p). unlike (fin.get (fin.remove m p) path) node.0 (ap (fin.get (fin.remove m p)) e ∙ gone_here m p) node.1)
     (λ apart. apart (one_number at m s path p n (sym (ap (option_map (λ (n : Node). n.number)) (gone_other m p path apart)) ∙ stood) there))
     (is_or_not p path)
+
+-- a node behind all others
+pub stored_append : (spots next : List (Option Spot)) (count : ℕ) (m : Nodes) → IsStored spots count m → (p : List (List ℕ)) (x : List ℕ) (d : ℕ) (node : Node) → number_at m p ≡ Some d → fin.get m (p ++ x ∷ []) ≡ None
+    → node.number ≡ length spots → length spots < 65536 → next ≡ spots ++ Some (record { parent = d; name = x; node = node }) ∷ [] → IsStored next (count + 1) (fin.insert m (p ++ x ∷ []) node)
+stored_append spots next count m s p x d node dir free number fits is =
+    let z : Spot = record { parent = d; name = x; node = node } in
+    stored_put spots next count m s p x d node (length spots) dir free number (held_past spots (length spots) (omega arith)) fits (push_in spots next (length spots) z is refl) (ap used is ∙ used_push spots z)

@@ -104,8 +104,8 @@ module _ (t : FileTree) (good : IsGood t) (dir : ℕ) (name : List ℕ) (sort : 
       by : (c : CanStand (plain_nodes whole t.nodes) q (plain.new_node plain_kinds.Dir (t.highest + 1) at)) → t.highest < 2 ^ 62
       by c = omega (arith, c.room, c.next)
 
-  pub can_put : CanPut (record { nodes = t.nodes; spare = t.spare }) dir name
-  can_put = record { path = can.path; stands = can.stands; free = make_free; space = make_space; room = can.room }
+  pub can_put : (slots : ℕ) → CanPut (record { nodes = t.nodes; spare = t.spare; slots = slots }) dir name
+  can_put slots = record { path = can.path; stands = can.stands; free = make_free; space = make_space; room = can.room }
 
   module _ (next : FileTree) (number : ℕ) (node : Node) (kind : Kind) (middle : Nodes)
       (is : node ≡ record { number = number; uid = t.highest + 1; times = plain.times_at at; readonly = false; kind = kind }) (new : IsNewKind t.block_size sort kind)

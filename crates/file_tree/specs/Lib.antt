@@ -5,3 +5,4 @@ pub mod Places
 pub mod Valid
 pub mod Edits
 pub mod Reads
+pub mod Mounts

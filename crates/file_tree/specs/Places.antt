@@ -7,10 +7,11 @@ use Rattle.file_tree.specs.declared.nodes.Spot.{Spot}
 use Rattle.file_tree.specs.Tree.{Nodes, number_at, plain_nodes, whole}
 use Rattle.file_tree.specs.Seen.{held, IsShown, IsKept}
 
--- what stands at each path, and for how many nodes more there is memory
+-- what stands at each path, for how many nodes more there is memory, and how many places there are
 pub record Stored : Type 0 where
   pub nodes : Nodes
   pub spare : ℕ
+  pub slots : ℕ
 
 -- how many places are used
 abbrev pub used : List (Option Spot) → ℕ
@@ -43,6 +44,13 @@ pub record CanPut (t : Stored) (dir : ℕ) (name : List ℕ) : Type 0 where
   pub free : fin.get t.nodes (path ++ name ∷ []) ≡ None
   pub space : fin.len t.nodes < 65536
   pub room : 1 ≤ t.spare
+
+-- a node may be put behind all others, under a name into the directory with this number
+pub record CanAppend (t : Stored) (dir : ℕ) (name : List ℕ) : Type 0 where
+  pub path : List (List ℕ)
+  pub stands : number_at t.nodes path ≡ Some dir
+  pub free : fin.get t.nodes (path ++ name ∷ []) ≡ None
+  pub space : t.slots < 65536
 
 -- the node with this number may be taken out, as in the plain tree
 pub record CanTake (m : Nodes) (number : ℕ) : Type 0 where

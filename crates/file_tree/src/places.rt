@@ -17,7 +17,7 @@ pub struct Places {
 }
 
 impl Model for Places {
-    ghost use Rattle.std.specs.Prelude.{ℕ, ◌-◌, refl, vec_len, vec_capacity};
+    ghost use Rattle.std.specs.Prelude.{ℕ, ◌-◌, refl, length, vec_len, vec_capacity};
     ghost use Rattle.std.specs.FinMap as fin;
     ghost use Rattle.std.specs.Coded.{coded_list, coded_ℕ, coded×, code_by};
     ghost use Rattle.plain_tree.specs.Paths.{path_cmp};
@@ -27,10 +27,10 @@ impl Model for Places {
 
     ghost Value = { Stored };
 
-    ghost coded = { code_by (fin.FinMap path_cmp Node × ℕ) (coded× (fin.code (coded_list (coded_list coded_ℕ)) node.the_row.coded) coded_ℕ)
-        (λ t. (t.nodes, t.spare)) (λ p. record { nodes = p.0; spare = p.1 }) (λ _. refl) };
+    ghost coded = { code_by (fin.FinMap path_cmp Node × (ℕ × ℕ)) (coded× (fin.code (coded_list (coded_list coded_ℕ)) node.the_row.coded) (coded× coded_ℕ coded_ℕ))
+        (λ t. (t.nodes, (t.spare, t.slots))) (λ p. record { nodes = p.0; spare = p.1.0; slots = p.1.1 }) (λ _. refl) };
 
-    ghost view = { λ a. record { nodes = a.seen.0; spare = vec_capacity a.spots - vec_len a.spots } };
+    ghost view = { λ a. record { nodes = a.seen.0; spare = vec_capacity a.spots - vec_len a.spots; slots = length a.spots.items } };
 
     ghost invariant = { λ a. IsStored a.spots.items a.count a.seen.0 };
 }
@@ -42,12 +42,13 @@ impl Places {
     ghost use Rattle.file_tree.specs.Tree.{number_at, moved, plain_nodes, whole};
     ghost use Rattle.plain_tree.specs.Tree.{entries_in};
     ghost use Rattle.file_tree.specs.Changes.{CanChange, IsChangedAt, IsChangedBy, IsRoomier, HasRoom};
-    ghost use Rattle.file_tree.specs.Places.{IsThere, IsLast, CanPut, CanTake, CanShift};
+    ghost use Rattle.file_tree.specs.Places.{IsThere, IsLast, CanPut, CanAppend, CanTake, CanShift};
 
     /// The root alone.
     pub fn new(alloc: Global, root: Node) -> Result<Places, NoMemory>
         requires { root.number ≡ 0 }
-        ensures { IfOk result (λ t. t.nodes ≡ fin.insert fin.empty [] root) }
+        ensures nodes { IfOk result (λ t. t.nodes ≡ fin.insert fin.empty [] root) }
+        ensures slots { IfOk result (λ t. t.slots ≡ 1) }
     {
         let mut spots = Vec::new(alloc);
         spots.push(Some(Spot {
@@ -141,6 +142,22 @@ impl Places {
         );
         self.count += 1;
         number
+    }
+
+    /// Puts a node behind all others, under a name into a directory. Its number is the count of places before.
+    pub fn append(&mut self, dir: u32, name: Text, node: Node) -> Result<(), NoMemory>
+        requires { CanAppend self.old dir name }
+        ensures nodes { OnOk result ((path : List (List ℕ)) → number_at self.old.nodes path ≡ Some dir → self.new.nodes ≡ fin.insert self.old.nodes (path ++ name ∷ []) (record node { number = self.old.slots })) }
+        ensures slots { OnOk result (self.new.slots ≡ self.old.slots + 1) }
+    {
+        let number = self.spots.len() as u32;
+        self.spots.push(Some(Spot {
+            parent: dir,
+            name,
+            node: numbered(node, number),
+        }))?;
+        self.count += 1;
+        Ok(())
     }
 
     /// Takes out a node that has nothing in it.

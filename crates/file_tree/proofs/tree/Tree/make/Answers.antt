@@ -18,7 +18,7 @@ pub put-number-requires : goal.put-number-requires
 put-number-requires c =
     let t : FileTree = record { highest = c.self.inside.highest; name = c.self.inside.volume; block_size = c.self.inside.block_size; nodes = c.self.inside.places.nodes; spare = c.self.inside.places.spare } in
     let can : CanMake t c.args.dir c.args.name c.args.sort = subst (λ (t : FileTree). CanMake t c.args.dir c.args.name c.args.sort) (sym c.self.view_is) c.requires in
-    can_put t c.self.invariant c.args.dir c.args.name c.args.sort c.args.at can
+    can_put t c.self.invariant c.args.dir c.args.name c.args.sort c.args.at can c.self.inside.places.slots
 
 pub change-requires-clause-there : goal.change-requires-clause-there
 change-requires-clause-there c =
