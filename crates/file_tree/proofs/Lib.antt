@@ -11,3 +11,4 @@ pub mod TreeLemmas
 pub mod LeaveLemmas
 pub mod WriteLemmas
 pub mod ReadLemmas
+pub mod RawLemmas

@@ -6,3 +6,4 @@ pub mod Valid
 pub mod Edits
 pub mod Reads
 pub mod Mounts
+pub mod Raws

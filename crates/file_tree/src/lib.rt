@@ -7,6 +7,7 @@ mod found;
 mod laws;
 mod nodes;
 mod places;
+mod raws;
 mod spots;
 mod tree;
 
