@@ -12,3 +12,4 @@ pub mod LeaveLemmas
 pub mod WriteLemmas
 pub mod ReadLemmas
 pub mod RawLemmas
+pub mod MountLemmas

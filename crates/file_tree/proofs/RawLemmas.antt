@@ -28,7 +28,7 @@ all_joined P (x ∷ xs) ys a b = (a.0, all_joined P xs ys a.1 b)
 all_put : (P : Extent → Type 0) (new : Extent) (es : List Extent) → AllByRecursion P es → P new → AllByRecursion P (put_among new es)
 all_put P new es all this = all_joined P (filter (λ e. ltb e.offset new.offset) es) (new ∷ filter (λ e. leb new.offset e.offset) es) (all_filtered P (λ e. ltb e.offset new.offset) es all) (this, all_filtered P (λ e. leb new.offset e.offset) es all)
 
-all_both : {X : Type 0} (P Q R : X → Type 0) → ((x : X) → P x → Q x → R x) → (xs : List X) → AllByRecursion P xs → AllByRecursion Q xs → AllByRecursion R xs
+pub all_both : {X : Type 0} (P Q R : X → Type 0) → ((x : X) → P x → Q x → R x) → (xs : List X) → AllByRecursion P xs → AllByRecursion Q xs → AllByRecursion R xs
 all_both P Q R f [] a b = tt
 all_both P Q R f (x ∷ xs) a b = (f x a.0 b.0, all_both P Q R f xs a.1 b.1)
 

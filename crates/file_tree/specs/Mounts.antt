@@ -77,6 +77,7 @@ pub record IsTold (nodes : List told.Node) (before : ℕ) (path : List (List ℕ
 pub record IsBuilt (letters : Letters) (size : ℕ) (nodes : List told.Node) (before : ℕ) (m : Nodes) : Type 0 where
   pub each : (at : ℕ) (node : told.Node) → at < before → IsAt nodes at node → Stands letters size nodes m at node
   pub others : (path : List (List ℕ)) (n : Node) → fin.get m path ≡ Some n → IsTold nodes before path n
+  pub count : fin.len m ≡ before
 
 -- the extent is on one of the two partitions, and begins within a block, where it has bytes
 abbrev pub IsOnVolume : Letters → ℕ → RawExtent → Type 0
@@ -88,6 +89,16 @@ pub record CanMount (index : Index) (letters : Letters) (size : ℕ) : Type 0 wh
   pub differ : letters.0 ≢ letters.1
   pub some_block : 1 ≤ size
   pub on_volume : (at bytes : ℕ) (raws : List RawExtent) → IsFileAt index.nodes at bytes raws → AllByRecursion (IsOnVolume letters size) raws
+
+-- what is known of the nodes of such an index
+pub record AreTold (letters : Letters) (size : ℕ) (nodes : List told.Node) : Type 0 where
+  pub some_block : 1 ≤ size
+  pub order : AreInOrder nodes
+  pub names : AreNamesApart nodes
+  pub files : AreFiles nodes
+  pub kinds : AllByRecursion (λ node. IsKind node.kind) nodes
+  pub on_volume : (at bytes : ℕ) (raws : List RawExtent) → IsFileAt nodes at bytes raws → AllByRecursion (IsOnVolume letters size) raws
+  pub count : length nodes ≤ 65536
 
 -- the tree is that of the index
 pub record IsTreeOf (letters : Letters) (size : ℕ) (index : Index) (t : FileTree) : Type 0 where

@@ -4,7 +4,12 @@ use Rattle.std.specs.List.{AllByRecursion}
 use Rattle.tape_types.specs.declared.cartridges.Extent.{Extent}
 use Rattle.index_model.specs.declared.nodes.RawExtent.{RawExtent}
 use Rattle.index_model.specs.Extents.{IsExtent}
-use Rattle.extent_map.specs.Laid.{Laid, IsLaid, cut}
+use Rattle.index_model.specs.declared.nodes.Kind as told_kind
+use Rattle.index_model.specs.declared.nodes.Kind.TheVariants as told_kinds
+use Rattle.extent_map.specs.Laid.{Laid, Room, IsLaid, cut}
+use Rattle.file_tree.specs.declared.nodes.Kind.{Kind}
+use Rattle.file_tree.specs.declared.nodes.Kind.TheVariants as kinds
+use Rattle.file_tree.specs.Valid.{IsFileOf}
 use Rattle.file_tree.specs.Mounts.{Letters, extent_of, by_offset, IsOnVolume}
 
 -- the extent can come into a file of a volume with blocks of this size
@@ -41,3 +46,12 @@ pub record AreRaws (letters : Letters) (size length : ℕ) (raws : List RawExten
   pub short : length ≤ 2 ^ 40
   pub each : AllByRecursion (IsRaw letters size) raws
   pub apart : AllApart raws
+
+-- what is told of the node can be kept
+pub record CanKeep (letters : Letters) (size : ℕ) (kind : told_kind.Kind) : Type 0 where
+  pub some_block : 1 ≤ size
+  pub raws : (bytes : ℕ) (raws : List RawExtent) → kind ≡ told_kinds.File bytes raws → AreRaws letters size bytes raws
+
+-- a file lies as files of the volume do
+abbrev pub LiesWell : ℕ → Kind → Type 0
+LiesWell size kind = (room : Room) → kind ≡ kinds.File room → IsFileOf size room.laid

@@ -7,9 +7,12 @@ ghost use Rattle.file_tree.specs.Edits.{IsNewKind, IsLongAt};
 use crate::changes::Change;
 use crate::checks::check_call;
 use crate::found::{Found, facts_of, lost_below, sort_of};
+use crate::mount::place_nodes;
 use crate::nodes::{Kind, Node};
 use crate::places::Places;
+use crate::raws::Letters;
 use extent_map::Extents;
+use index_model::Index;
 use plain_tree::{Call, Facts, Refusal, Sort};
 use std::alloc::Global;
 use std::marker::Model;
@@ -60,9 +63,33 @@ impl Tree {
     ghost use Rattle.plain_tree.specs.Tree.{entries_in, facts_of};
     ghost use Rattle.plain_tree.specs.Refusals.{no_node, refusal_of};
     ghost use Rattle.file_tree.specs.Places.{IsThere};
+    ghost use Rattle.file_tree.specs.Mounts.{CanMount, IsTreeOf};
     ghost use Rattle.file_tree.specs.Reads.{IsFound, refusal_found, IsOfSort};
     ghost use Rattle.file_tree.specs.Valid.{IsFileOf};
     ghost use Rattle.file_tree.specs.Edits.{CanMake, CanUnlink, CanMoveTo, CanWrite, IsAfter, IsWritten, IsTruncated, NumbersCome, AllLie, OthersLie, KeepsVolume};
+
+    /// The tree of a valid index. The letters are those of the index partition and the data partition, and each block of
+    /// the volume has so many bytes. The extents that have bytes are on one of these partitions.
+    pub fn from_index(
+        alloc: Global,
+        index: &Index,
+        letters: Letters,
+        block_size: u32,
+    ) -> Result<Tree, NoMemory>
+        requires { CanMount index.now letters block_size }
+        ensures { IfOk result (λ t. IsTreeOf letters block_size index.now t) }
+    {
+        let nodes = index.nodes.as_slice();
+        let places = place_nodes(alloc, nodes, letters, block_size)?;
+        let volume = nodes[0].name.try_clone(alloc)?;
+        Ok(Tree {
+            places,
+            volume,
+            block_size,
+            highest: index.highest,
+            alloc,
+        })
+    }
 
     /// The highest uid that was ever given.
     pub fn highest(&self) -> u64
