@@ -323,7 +323,7 @@ module _ (index : Index) (letters : Letters) (size : ℕ) (can : CanMount index 
   unmarked p uid d mark = by (fin.get m p) refl
     where
       by : (o : Option Node) → fin.get m p ≡ o → (n : Node) × (fin.get m p ≡ Some n) × (n.uid ≡ uid)
-      by None e = let wrong : None ≡ Some (uid, d) = sym (ap mark_of (plain_get tape m p ∙ ap (option_map (plain_node_of tape)) e)) ∙ mark in cc
+      by None e = absurd (unlike (mark_at (plain_nodes tape m) p) (uid, d) (ap mark_of (plain_get tape m p ∙ ap (option_map (plain_node_of tape)) e)) mark)
       by (Some n) e = (n, e, uid_of n.uid uid (is_dir (plain_kind_of tape n.kind)) d (sym (marked p n e) ∙ mark))
         where
           uid_in : Option (ℕ × Bool) → ℕ
