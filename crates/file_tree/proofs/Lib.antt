@@ -13,3 +13,4 @@ pub mod WriteLemmas
 pub mod ReadLemmas
 pub mod RawLemmas
 pub mod MountLemmas
+pub mod ListingLemmas

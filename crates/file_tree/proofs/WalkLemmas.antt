@@ -16,7 +16,7 @@ use Rattle.file_tree.specs.Seen.{Held, held, IsShown, is_child, child, node_in, 
 use Rattle.file_tree.proofs.PathLemmas.{same_nodes, some_same, number_is, node_at}
 use Rattle.file_tree.proofs.ShownLemmas.{spot, root_number, dir_of, kept_at, stands, stands_in}
 
-name_Decides : (x y : List ℕ) → Decides (pointwise nat_eq x y) (x ≡ y)
+pub name_Decides : (x y : List ℕ) → Decides (pointwise nat_eq x y) (x ≡ y)
 name_Decides x y = slice_eq-Decides unsigned_Decides x y _ refl
 
 pub eq_is : (a b : ℕ) → eqb a b ≡ true → a ≡ b

@@ -7,3 +7,4 @@ pub mod Edits
 pub mod Reads
 pub mod Mounts
 pub mod Raws
+pub mod Listing

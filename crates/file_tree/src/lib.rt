@@ -5,6 +5,7 @@ mod changes;
 mod checks;
 mod found;
 mod laws;
+mod listing;
 mod mount;
 mod nodes;
 mod places;

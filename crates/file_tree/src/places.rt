@@ -2,11 +2,13 @@ ghost use Rattle.std.specs.Prelude.{◌≡◌};
 ghost use Rattle.file_tree.specs.Seen.{Seen, Seen-prop};
 
 use crate::changes::Change;
+use crate::listing::{lines_of, names_in};
 use crate::nodes::{Node, Spot};
 use crate::spots::{any_in, change_spot, child, first_empty, put_spot, reserve_spot, shift_spot, spot_at, take_spot};
+use plain_tree::Entry;
 use std::alloc::Global;
 use std::marker::Model;
-use tape_types::{Moment, NoMemory, Text};
+use tape_types::{List, Moment, NoMemory, Text};
 
 /// The nodes at their numbers, each under its name in its directory. A place is empty where no node has its number.
 #[derive(Drop)]
@@ -40,6 +42,7 @@ impl Places {
     ghost use Rattle.std.specs.FinMap as fin;
     ghost use Rattle.file_tree.specs.declared.nodes.Node.{Node};
     ghost use Rattle.file_tree.specs.Tree.{number_at, moved, plain_nodes, whole};
+    ghost use Rattle.extent_map.specs.Cells.{Tape};
     ghost use Rattle.plain_tree.specs.Tree.{entries_in};
     ghost use Rattle.file_tree.specs.Changes.{CanChange, IsChangedAt, IsChangedBy, IsRoomier, HasRoom};
     ghost use Rattle.file_tree.specs.Places.{IsThere, IsLast, CanPut, CanAppend, CanTake, CanShift};
@@ -97,6 +100,15 @@ impl Places {
         ensures { (path : List (List ℕ)) → number_at self.now.nodes path ≡ Some dir → result ≡ nat_lt 0 (length (entries_in (plain_nodes whole self.now.nodes) path)) }
     {
         any_in(&self.spots, dir)
+    }
+
+    /// What stands directly in a directory, by the bytes of the names.
+    pub fn list(&self, alloc: Global, dir: u32) -> Result<List<Entry>, NoMemory>
+        requires { IsThere self.now.nodes dir }
+        ensures { IfOk result (λ entries. (tape : Tape) (path : List (List ℕ)) → number_at self.now.nodes path ≡ Some dir → entries ≡ entries_in (plain_nodes tape self.now.nodes) path) }
+    {
+        let names = names_in(alloc, &self.spots, dir)?;
+        lines_of(alloc, &names)
     }
 
     /// The number of the node at a path, or of the last one on the way there.

@@ -51,7 +51,7 @@ pub fn any_in(spots: &[Option<Spot>], dir: u32) -> bool
     false
 }
 
-fn is_in(spot: &Spot, dir: u32) -> bool
+pub fn is_in(spot: &Spot, dir: u32) -> bool
     ensures { result ≡ is_in_dir dir (Some spot.now) }
 {
     spot.node.number != 0 && spot.parent == dir

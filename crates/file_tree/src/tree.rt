@@ -13,10 +13,10 @@ use crate::places::Places;
 use crate::raws::Letters;
 use extent_map::Extents;
 use index_model::Index;
-use plain_tree::{Call, Facts, Refusal, Sort};
+use plain_tree::{Call, Entry, Facts, Refusal, Sort};
 use std::alloc::Global;
 use std::marker::Model;
-use tape_types::{Extent, Moment, NoMemory, Text, Times};
+use tape_types::{Extent, List, Moment, NoMemory, Text, Times};
 
 /// The tree of a volume while the server runs: directories, files as extents, and links (LTFS 2.4 on the index). Each
 /// node has a number as long as it is there.
@@ -139,6 +139,14 @@ impl Tree {
         ensures { (path : List (List ℕ)) → StandsAt self.now path dir → result ≡ nat_lt 0 (length (entries_in (plain_of whole self.now).nodes path)) }
     {
         self.places.has_entries(dir)
+    }
+
+    /// What stands directly in a directory, by the bytes of the names.
+    pub fn children(&self, alloc: Global, dir: u32) -> Result<List<Entry>, NoMemory>
+        requires { IsThere self.now.nodes dir }
+        ensures { IfOk result (λ entries. (tape : Tape) (path : List (List ℕ)) → StandsAt self.now path dir → entries ≡ entries_in (plain_of tape self.now).nodes path) }
+    {
+        self.places.list(alloc, dir)
     }
 
     /// Why a call is refused, where no byte is lost on the tape.
