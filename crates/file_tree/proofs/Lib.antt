@@ -14,3 +14,5 @@ pub mod ReadLemmas
 pub mod RawLemmas
 pub mod MountLemmas
 pub mod ListingLemmas
+pub mod CallLemmas
+pub mod BareLemmas

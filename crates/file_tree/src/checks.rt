@@ -202,7 +202,7 @@ fn parent(path: &[Text]) -> &[Text]
     &path[..path.len().saturating_sub(1)]
 }
 
-fn same_path(a: &[Text], b: &[Text]) -> bool
+pub fn same_path(a: &[Text], b: &[Text]) -> bool
     ensures { result ≡ paths.same_path a.now b.now }
 {
     a == b

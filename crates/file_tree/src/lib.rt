@@ -9,8 +9,12 @@ mod listing;
 mod mount;
 mod nodes;
 mod places;
+#[cfg(test)]
+mod play;
 mod raws;
 mod spots;
+#[cfg(test)]
+mod tests;
 mod tree;
 
 pub use found::Found;
