@@ -4,8 +4,6 @@ use Rattle.std.proofs.lemmas.List.Elements.{All-nil}
 use Rattle.std.proofs.lemmas.Str.{IsUtf8-from_ascii, chars-IsAscii}
 use Rattle.std.proofs.lemmas.Str.Ascii.{IsAscii-from_all}
 use Rattle.std.specs.Str.{IsUtf8, chars}
-use Rattle.std.specs.List.{list_all}
-use Rattle.doc_fields.specs.Texts.{is_allowed}
 use Rattle.tape_types.specs.declared.moments.Moment.{Moment}
 use Rattle.tape_types.specs.declared.moments.Times.{Times}
 use Rattle.index_model.specs.declared.indexes.Index.{Index}
@@ -61,7 +59,7 @@ module _ (index : Index) (root : Node) (letters : ℕ × ℕ) (size : ℕ) (node
   valid : IsValid index
   valid = record {
     formed = record {
-      creator = subst Rattle.index_model.specs.Texts.IsPlainText (sym creator) (record { utf8 = utf8; allowed = ap (list_all is_allowed) no_chars });
+      creator = subst Rattle.index_model.specs.Texts.IsPlainText (sym creator) (record { utf8 = utf8; allowed = rw no_chars refl });
       comment = subst (λ o. Rattle.std.specs.Option.IfSome o Rattle.index_model.specs.Texts.IsPlainText) (sym comment) tt;
       uuid = omega (arith, uuid);
       generation_least = omega (arith, generation);
