@@ -1,27 +1,20 @@
 -- What a call needs of the tree, where it isn't refused.
-use Rattle.std.proofs.Common.{Option, ◌≡◌, ◌≢◌, ℕ, ◌+◌, ◌<◌, ◌≤◌, ◌^◌, Bool, true, false, nat_lt, List, [], ◌∷◌, ◌++◌, length, Some, None, sym, ap, ◌∙◌, refl, subst, arith}
-use Rattle.std.specs.Option.{option_map}
+use Rattle.std.proofs.Common.{◌≡◌, ℕ, ◌+◌, ◌≤◌, ◌^◌, false, nat_lt, List, [], ◌∷◌, Some, None, sym, ap, ◌∙◌, refl, arith}
 use Rattle.std.specs.FinMap as fin
 use Rattle.std.proofs.lemmas.Bool.Decides.{nat_tests}
-use Rattle.plain_tree.specs.declared.calls.Call.{Call}
-use Rattle.plain_tree.specs.declared.calls.Call.TheVariants as asks
-use Rattle.plain_tree.specs.declared.calls.Refusal.{Refusal}
 use Rattle.plain_tree.specs.declared.calls.Refusal.TheVariants as refusals
-use Rattle.plain_tree.specs.declared.calls.Sort.{Sort}
 use Rattle.plain_tree.specs.declared.nodes.Kind.TheVariants as plain_kinds
-use Rattle.plain_tree.specs.Paths.{same_path}
-use Rattle.plain_tree.specs.Refusals.{first_of, refuse_if, no_file, too_long, refusal_of}
+use Rattle.plain_tree.specs.Refusals.{first_of, no_file, too_long}
 use Rattle.plain_tree.specs.Tree as plain
-use Rattle.plain_tree.proofs.MoveLemmas.{is_same}
 use Rattle.plain_tree.proofs.Validity.{first_none, not_refused}
 use Rattle.tape_types.specs.declared.cartridges.Extent.{Extent}
 use Rattle.extent_map.specs.Laid.{Room}
 use Rattle.file_tree.specs.declared.nodes.Node.{Node}
 use Rattle.file_tree.specs.declared.nodes.Kind.{Kind}
 use Rattle.file_tree.specs.declared.nodes.Kind.TheVariants as kinds
-use Rattle.file_tree.specs.Tree.{Nodes, FileTree, StandsAt, HasExtents, HasLaid, plain_kind_of, plain_nodes, plain_of, whole}
+use Rattle.file_tree.specs.Tree.{FileTree, StandsAt, HasExtents, plain_kind_of, plain_nodes, whole}
 use Rattle.file_tree.specs.Valid.{IsFileOf}
-use Rattle.file_tree.specs.Edits.{making, CanMake, CanUnlink, CanMoveTo, CanWrite, AllLie}
+use Rattle.file_tree.specs.Edits.{CanWrite, AllLie}
 use Rattle.file_tree.proofs.PathLemmas.{node_at}
 use Rattle.file_tree.proofs.ReadLemmas.{file_of_kind}
 

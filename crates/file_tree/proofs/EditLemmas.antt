@@ -1,25 +1,24 @@
 -- What changes of the map leave of the plain tree, of numbers and of files.
-use Rattle.std.proofs.Common.{Option, ◌⊎◌, ◌≡◌, ◌≢◌, ℕ, zero, suc, ◌+◌, ◌-◌, ◌<◌, ◌≤◌, Bool, true, false, cond, List, [], ◌∷◌, ◌++◌, length, take, drop, map, Some, None, IsSome, is_some, sym, ap, ◌∙◌, refl, subst, arith, inl, inr, ⊎_elim}
+use Rattle.std.proofs.Common.{◌≡◌, ◌≢◌, ℕ, ◌-◌, true, false, cond, List, [], ◌∷◌, ◌++◌, length, drop, Some, None, sym, ap, ◌∙◌, refl, subst, arith, ⊎_elim}
 use Rattle.std.specs.Option.{option_map}
 use Rattle.std.specs.FinMap as fin
-use Rattle.std.proofs.lemmas.List.{length-append, take_at, append-nil}
-use Rattle.tape_types.specs.declared.moments.Moment.{Moment}
+use Rattle.std.proofs.lemmas.List.{length-append, take_at}
 use Rattle.plain_tree.specs.declared.nodes.Node as plain_node
-use Rattle.plain_tree.specs.Paths.{path_cmp, parent_of, is_at_or_below, moved_path}
+use Rattle.plain_tree.specs.Paths.{parent_of, is_at_or_below, moved_path}
 use Rattle.plain_tree.specs.Tree as plain
 use Rattle.plain_tree.proofs.NodeLemmas.{changed_found}
 use Rattle.plain_tree.proofs.SeenLemmas.{unlike}
 use Rattle.plain_tree.proofs.MoveLemmas.{below_split, not_true}
 use Rattle.extent_map.specs.Cells.{Tape}
-use Rattle.extent_map.specs.Laid.{Laid, Room, IsLaid}
+use Rattle.extent_map.specs.Laid.{Laid, Room}
 use Rattle.file_tree.specs.declared.nodes.Node.{Node}
 use Rattle.file_tree.specs.declared.nodes.Kind.TheVariants as kinds
-use Rattle.file_tree.specs.Tree.{Nodes, FileTree, number_at, moved, HasLaid, StandsAt, plain_node_of, plain_nodes, plain_of}
-use Rattle.file_tree.specs.Changes.{IsChangedAt, touched, change_noted}
+use Rattle.file_tree.specs.Tree.{Nodes, number_at, moved, HasLaid, plain_node_of, plain_nodes}
+use Rattle.file_tree.specs.Changes.{IsChangedAt}
 use Rattle.file_tree.specs.Valid.{IsFileOf, AreFilesOf}
 use Rattle.file_tree.proofs.PathLemmas.{get_here, get_other, gone_other, is_or_not, some_same, number_is, node_at}
 use Rattle.file_tree.proofs.PlainLemmas.{plain_get, plain_insert}
-use Rattle.file_tree.proofs.UpdateLemmas.{from_where, get_moved, stay, come}
+use Rattle.file_tree.proofs.UpdateLemmas.{from_where, stay, come}
 
 pub parent_ends : (p : List (List ℕ)) (x : List ℕ) → parent_of (p ++ x ∷ []) ≡ p
 parent_ends p x = take_at p (x ∷ []) (length (p ++ x ∷ []) - 1) (omega (arith, length-append p (x ∷ [])))

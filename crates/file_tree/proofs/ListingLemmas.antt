@@ -1,32 +1,29 @@
 -- The lines of a directory are those of the plain tree's listing.
-use Rattle.std.proofs.Common.{Option, ◌⊎◌, ◌≡◌, ◌≢◌, ℕ, zero, suc, ◌+◌, ◌<◌, ◌≤◌, Bool, true, false, cond, ◌&&◌, not, eqb, nat_eq, List, [], ◌∷◌, ◌++◌, length, take, get_or, map, Some, None, is_some, sym, ap, ◌∙◌, refl, subst, arith}
+use Rattle.std.proofs.Common.{Option, ◌≡◌, ℕ, zero, suc, ◌+◌, ◌<◌, Bool, true, false, cond, List, [], ◌∷◌, ◌++◌, length, take, get_or, map, Some, None, sym, ap, ◌∙◌, refl, subst}
 use Rattle.std.specs.Option.{option_map}
 use Rattle.std.specs.declared.cmp.Ordering.TheVariants.{Less, Equal, Greater}
 use Rattle.std.specs.Ordering.{is_eq}
-use Rattle.std.specs.Cmp.Lexicographic.{pointwise}
 use Rattle.std.specs.BTreeMap.{BTreeMap, get, Updates}
 use Rattle.std.specs.Map.{lookup, keys_of}
 use Rattle.std.specs.List.Sorted.{IsStrictlySortedBy}
 use Rattle.std.specs.FinMap as fin
-use Rattle.std.proofs.lemmas.List.{take_more, take_all}
-use Rattle.plain_tree.specs.declared.nodes.Node as plain_node
+use Rattle.std.proofs.lemmas.List.{take_more}
 use Rattle.plain_tree.specs.declared.calls.Entry.{Entry}
 use Rattle.plain_tree.specs.declared.calls.Sort.{Sort}
 use Rattle.plain_tree.specs.Links.{name_cmp}
 use Rattle.plain_tree.specs.Tree as plain
 use Rattle.plain_tree.proofs.LinkLemmas.{name_exact}
-use Rattle.plain_tree.proofs.ListedLemmas.{pair, pairs, sort_at, listed}
-use Rattle.plain_tree.proofs.SeenLemmas.{unlike}
+use Rattle.plain_tree.proofs.ListedLemmas.{pairs, sort_at, listed}
 use Rattle.extent_map.specs.Cells.{Tape}
 use Rattle.file_tree.specs.declared.nodes.Node.{Node}
 use Rattle.file_tree.specs.declared.nodes.Spot.{Spot}
 use Rattle.file_tree.specs.Tree.{Nodes, number_at, plain_node_of, plain_nodes}
 use Rattle.file_tree.specs.Reads.{sort_in}
-use Rattle.file_tree.specs.Seen.{held, IsShown, is_child, is_in}
-use Rattle.file_tree.specs.Listing.{sort_kept, sort_under, or_later, last_sort, line_of, PutsName}
-use Rattle.file_tree.proofs.PathLemmas.{number_is, node_at}
+use Rattle.file_tree.specs.Seen.{held, IsShown, is_child}
+use Rattle.file_tree.specs.Listing.{sort_kept, or_later, last_sort, line_of, PutsName}
+use Rattle.file_tree.proofs.PathLemmas.{node_at}
 use Rattle.file_tree.proofs.ShownLemmas.{spot, kept_at, stands, stands_in}
-use Rattle.file_tree.proofs.WalkLemmas.{child_says, says_child, name_Decides}
+use Rattle.file_tree.proofs.WalkLemmas.{child_says, says_child}
 use Rattle.file_tree.proofs.PlainLemmas.{plain_get}
 use Rattle.file_tree.proofs.ReadLemmas.{sort_same}
 

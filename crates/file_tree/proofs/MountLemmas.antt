@@ -1,12 +1,12 @@
 -- The nodes of an index, put into a tree one after the other.
-use Rattle.std.proofs.Common.{Option, ◌⊎◌, ◌≡◌, ◌≢◌, ℕ, zero, suc, ◌+◌, ◌-◌, ◌<◌, ◌≤◌, ◌^◌, max, Bool, true, false, cond, List, [], ◌∷◌, ◌++◌, length, map, Some, None, is_some, sym, ap, ◌∙◌, refl, subst, arith, inl, inr, ⊎_elim, slice_get, Result, Ok, Err, OnOk}
+use Rattle.std.proofs.Common.{Option, ◌≡◌, ◌≢◌, ℕ, suc, ◌+◌, ◌<◌, ◌≤◌, max, Bool, true, cond, List, [], ◌∷◌, ◌++◌, length, Some, None, is_some, sym, ap, ◌∙◌, refl, subst, arith, inl, inr, ⊎_elim, Result, OnOk}
 use Rattle.std.specs.Option.{option_map}
 use Rattle.std.specs.List.{AllByRecursion}
 use Rattle.std.specs.FinMap as fin
 use Rattle.std.proofs.lemmas.Bool.{cases_lt}
 use Rattle.std.proofs.lemmas.Option.{slice_get_within}
 use Rattle.plain_tree.specs.Paths.{path_cmp, parent_of}
-use Rattle.plain_tree.specs.Valid.{is_dir, mark_of, mark_at, IsShape, IsValid}
+use Rattle.plain_tree.specs.Valid.{is_dir, mark_of, mark_at, IsShape}
 use Rattle.plain_tree.proofs.NodeLemmas.{path_total}
 use Rattle.plain_tree.proofs.SeenLemmas.{unlike}
 use Rattle.plain_tree.proofs.LinkLemmas.{on_ok}
@@ -15,23 +15,21 @@ use Rattle.index_model.specs.declared.nodes.Node as told
 use Rattle.index_model.specs.declared.nodes.Kind as told_kind
 use Rattle.index_model.specs.declared.nodes.Kind.TheVariants as told_kinds
 use Rattle.index_model.specs.declared.nodes.RawExtent.{RawExtent}
-use Rattle.index_model.specs.Extents.{IsExtent, IsKind, IsFileAt, ShareOffset, Covers}
+use Rattle.index_model.specs.Extents.{IsExtent, IsKind, IsFileAt, ShareOffset}
 use Rattle.index_model.specs.Names.{HaveOneName}
-use Rattle.index_model.specs.Order.{AreInOrder, IsDirAt}
+use Rattle.index_model.specs.Order.{IsDirAt}
 use Rattle.index_model.specs.Places.{IsAt}
 use Rattle.index_model.specs.Uids.{AreUids}
 use Rattle.index_model.proofs.Walks.{all_at}
 use Rattle.extent_map.specs.Cells.{Tape}
-use Rattle.extent_map.specs.Laid.{Laid, Room}
 use Rattle.file_tree.specs.declared.nodes.Node.{Node}
 use Rattle.file_tree.specs.declared.nodes.Kind.{Kind}
-use Rattle.file_tree.specs.declared.nodes.Kind.TheVariants as kinds
-use Rattle.file_tree.specs.Tree.{Nodes, FileTree, number_at, plain_kind_of, plain_node_of, plain_nodes, plain_of}
+use Rattle.file_tree.specs.Tree.{Nodes, number_at, plain_kind_of, plain_node_of, plain_nodes}
 use Rattle.file_tree.specs.Places.{Stored, CanAppend}
 use Rattle.file_tree.specs.Valid.{AreFilesOf, IsGood}
 use Rattle.file_tree.specs.Mounts.{Letters, IsKindOf, IsNodeOf, IsPathOf, Stands, IsTold, IsBuilt, IsOnVolume, AreTold, CanMount}
 use Rattle.file_tree.specs.Mounts.IsPathOf.{root, below}
-use Rattle.file_tree.specs.Raws.{IsRaw, AreApart, AllApart, AreRaws, CanKeep, LiesWell}
+use Rattle.file_tree.specs.Raws.{IsRaw, AreApart, AllApart, CanKeep, LiesWell}
 use Rattle.file_tree.proofs.PathLemmas.{no_name, same_last, by_last, get_here, get_other, is_or_not, some_same, number_is}
 use Rattle.file_tree.proofs.PlainLemmas.{plain_get, plain_len}
 use Rattle.file_tree.proofs.EditLemmas.{parent_ends, insert_files}

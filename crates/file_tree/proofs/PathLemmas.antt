@@ -1,14 +1,13 @@
 -- Paths and their last names, and the nodes at paths.
-use Rattle.std.proofs.Common.{Option, ◌⊎◌, ◌≡◌, ◌≢◌, ℕ, suc, ◌+◌, ◌<◌, ◌≤◌, Bool, true, false, cond, ◌||◌, eqb, List, [], ◌∷◌, ◌++◌, length, take, drop, map, Some, None, is_some, sym, ap, ◌∙◌, refl, subst, arith, inl, inr}
+use Rattle.std.proofs.Common.{Option, ◌⊎◌, ◌≡◌, ℕ, ◌+◌, Bool, true, false, cond, ◌||◌, eqb, List, [], ◌∷◌, ◌++◌, length, drop, Some, None, is_some, sym, ap, ◌∙◌, refl, arith, inl, inr}
 use Rattle.std.specs.Option.{option_map}
 use Rattle.std.specs.List.{list_any}
 use Rattle.std.specs.FinMap as fin
 use Rattle.std.proofs.lemmas.Bool.Decides.{nat_tests}
-use Rattle.std.proofs.lemmas.List.{append-nil, length-append}
-use Rattle.plain_tree.specs.Paths.{path_cmp, same_path, is_at_or_below}
+use Rattle.std.proofs.lemmas.List.{length-append}
+use Rattle.plain_tree.specs.Paths.{path_cmp, same_path}
 use Rattle.plain_tree.proofs.NodeLemmas.{path_total, path_exact}
-use Rattle.plain_tree.proofs.MoveLemmas.{same_is, is_same, not_true, below_join}
-use Rattle.plain_tree.proofs.SeenLemmas.{unlike}
+use Rattle.plain_tree.proofs.MoveLemmas.{same_is, is_same, not_true}
 use Rattle.file_tree.specs.declared.nodes.Node.{Node}
 use Rattle.file_tree.specs.Tree.{Nodes, number_at}
 use Rattle.file_tree.specs.Seen.{is_number, has_number}

@@ -1,18 +1,16 @@
 -- What the places of a tree say of its map.
-use Rattle.std.proofs.Common.{Option, ◌⊎◌, ◌≡◌, ◌≢◌, ℕ, zero, suc, ◌+◌, ◌-◌, ◌<◌, ◌≤◌, Bool, true, false, cond, List, [], ◌∷◌, ◌++◌, length, take, drop, map, get_or, Some, None, IsSome, is_some, is_none, sym, ap, ◌∙◌, refl, subst, arith, inl, inr, ⊎_elim, slice_get, set}
+use Rattle.std.proofs.Common.{Option, ◌⊎◌, ◌≡◌, ℕ, zero, suc, ◌+◌, ◌<◌, ◌≤◌, true, false, List, [], ◌∷◌, ◌++◌, length, take, get_or, Some, None, IsSome, is_some, is_none, sym, ap, ◌∙◌, refl, subst, arith, inl, inr, set}
 use Rattle.std.specs.Option.{option_map}
 use Rattle.std.specs.FinMap as fin
-use Rattle.std.proofs.lemmas.Option.{slice_get_within, slice_get-get_or, slice_get_past}
 use Rattle.std.proofs.lemmas.List.{length-set, length-append, take_more}
-use Rattle.plain_tree.proofs.SeenLemmas.{unlike}
 use Rattle.file_tree.specs.declared.nodes.Node.{Node}
 use Rattle.file_tree.specs.declared.nodes.Spot.{Spot}
 use Rattle.file_tree.specs.Tree.{Nodes, number_at}
 use Rattle.file_tree.specs.Seen.{Held, held, IsShown, IsKept, child, node_in}
-use Rattle.file_tree.specs.Places.{used, IsStored, IsThere, IsLast, IsSetIn}
-use Rattle.file_tree.proofs.PathLemmas.{by_last, some_same, number_is, node_at}
+use Rattle.file_tree.specs.Places.{used, IsStored, IsThere, IsSetIn}
+use Rattle.file_tree.proofs.PathLemmas.{by_last, number_is, node_at}
 use Rattle.file_tree.proofs.ShownLemmas.{spot, same_spot, root_number, dir_of, kept_at, stands}
-use Rattle.file_tree.proofs.WalkLemmas.{child_held, child_is}
+use Rattle.file_tree.proofs.WalkLemmas.{child_is}
 
 pub stored_now : (spots : List (Option Spot)) (count : ℕ) (m n : Nodes) → IsStored spots count m → m ≡ n → IsStored spots count n
 stored_now spots count m n s is = subst (λ k. IsStored spots count k) is s

@@ -1,20 +1,20 @@
 -- The plain tree of a map, after each change.
-use Rattle.std.proofs.Common.{Option, ◌⊎◌, ◌≡◌, ◌≢◌, ℕ, zero, suc, ◌+◌, ◌-◌, ◌<◌, ◌≤◌, Bool, true, false, cond, ◌&&◌, T, List, [], ◌∷◌, ◌++◌, length, take, drop, map, Some, None, IsSome, is_some, sym, ap, ◌∙◌, refl, subst, arith, inl, inr, ⊎_elim}
+use Rattle.std.proofs.Common.{Option, ◌≡◌, ℕ, Bool, true, false, cond, ◌&&◌, T, List, [], ◌∷◌, ◌++◌, length, map, Some, None, sym, ap, ◌∙◌, refl, ⊎_elim}
 use Rattle.std.specs.Option.{option_map}
 use Rattle.std.specs.Ordering.{is_lt}
 use Rattle.std.specs.FinMap as fin
 use Rattle.std.proofs.lemmas.List.{length-map}
 use Rattle.plain_tree.specs.declared.nodes.Node as plain_node
-use Rattle.plain_tree.specs.Paths.{path_cmp, same_path, is_at_or_below, moved_path}
+use Rattle.plain_tree.specs.Paths.{path_cmp, same_path, is_at_or_below}
 use Rattle.plain_tree.specs.Tree as plain
 use Rattle.plain_tree.specs.Seen.{CanLeave, CanMove}
-use Rattle.plain_tree.proofs.NodeLemmas.{path_total, path_exact}
+use Rattle.plain_tree.proofs.NodeLemmas.{path_total}
 use Rattle.plain_tree.proofs.MoveLemmas as moves
 use Rattle.plain_tree.proofs.SeenLemmas.{moved_len}
 use Rattle.plain_tree.proofs.Validity.{bare_below}
 use Rattle.extent_map.specs.Cells.{Tape}
 use Rattle.file_tree.specs.declared.nodes.Node.{Node}
-use Rattle.file_tree.specs.Tree.{Nodes, number_at, moved, plain_node_of, plain_nodes, whole}
+use Rattle.file_tree.specs.Tree.{Nodes, moved, plain_node_of, plain_nodes, whole}
 use Rattle.file_tree.proofs.PathLemmas.{same_nodes, get_here, get_other, is_or_not}
 use Rattle.file_tree.proofs.UpdateLemmas.{get_moved}
 

@@ -1,13 +1,13 @@
 -- The extents that an index tells of a file, one after the other.
 use Rattle.std.proofs.Common.{Option, ◌⊎◌, ◌≡◌, ◌≢◌, ℕ, zero, suc, ◌+◌, ◌-◌, ◌<◌, ◌≤◌, ◌^◌, min, max, Bool, true, false, cond, ltb, leb, List, [], ◌∷◌, ◌++◌, length, take, drop, get_or, map, sym, ap, ◌∙◌, refl, subst, arith, inl, inr, ⊎_elim}
-use Rattle.std.specs.List.{AllByRecursion, flat_map, filter, fold}
+use Rattle.std.specs.List.{AllByRecursion, filter}
 use Rattle.std.proofs.lemmas.List.Sums.{fold-append}
 use Rattle.std.proofs.lemmas.Grind.{flat_map-append}
-use Rattle.std.proofs.lemmas.List.{map-append, take_more, drop_more, append-nil}
+use Rattle.std.proofs.lemmas.List.{map-append, append-nil}
 use Rattle.tape_types.specs.declared.cartridges.Extent.{Extent}
 use Rattle.index_model.specs.declared.nodes.RawExtent.{RawExtent}
 use Rattle.extent_map.specs.Laid.{Laid, IsLaid, AreLaid, front_of, before, past, cut, overlaid, resized, taken_out, put_among}
-use Rattle.extent_map.proofs.LaidLemmas.{before_whole, before_none, before_part, past_none, past_whole, laid_lower}
+use Rattle.extent_map.proofs.LaidLemmas.{before_whole, before_none, before_part, past_none, past_whole}
 use Rattle.extent_map.proofs.TakenLemmas.{overlays_take_out}
 use Rattle.file_tree.specs.Mounts.{Letters, extent_of, by_offset, laid_of}
 use Rattle.file_tree.specs.Raws.{IsRaw, AreApart, AllApart, IsApartFrom, LieApart, IsPlaced, AreRaws}

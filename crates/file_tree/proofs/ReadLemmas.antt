@@ -1,20 +1,19 @@
 -- What is read of a tree.
-use Rattle.std.proofs.Common.{Option, ◌⊎◌, ◌≡◌, ◌≢◌, ℕ, zero, suc, ◌+◌, ◌-◌, ◌<◌, ◌≤◌, Bool, true, false, cond, ◌&&◌, not, eqb, nat_lt, List, [], ◌∷◌, ◌++◌, length, take, drop, map, get_or, Some, None, IsSome, is_some, sym, ap, ◌∙◌, refl, subst, arith, inl, inr, ⊎_elim, ◌||◌, ◌^◌, nat_le, Result, Ok, Err, IfOk}
+use Rattle.std.proofs.Common.{Option, ◌≡◌, ◌≢◌, ℕ, zero, suc, ◌+◌, ◌<◌, ◌≤◌, Bool, true, false, cond, ◌&&◌, not, eqb, nat_lt, List, [], ◌∷◌, ◌++◌, length, take, Some, None, is_some, sym, ap, ◌∙◌, refl, subst, arith, ◌||◌, ◌^◌, nat_le, Result, Ok, Err, IfOk}
 use Rattle.std.specs.Option.{option_map}
 use Rattle.std.specs.List.{Contains}
 use Rattle.std.specs.FinMap as fin
-use Rattle.std.proofs.lemmas.List.{length-append, take_all}
+use Rattle.std.proofs.lemmas.List.{take_all}
 use Rattle.plain_tree.specs.declared.nodes.Node as plain_node
 use Rattle.plain_tree.specs.declared.nodes.Kind as plain_kind
 use Rattle.plain_tree.specs.declared.nodes.Kind.TheVariants as plain_kinds
 use Rattle.plain_tree.specs.declared.calls.Entry.{Entry}
 use Rattle.plain_tree.specs.declared.calls.Refusal.{Refusal}
 use Rattle.plain_tree.specs.declared.calls.Refusal.TheVariants as refusals
-use Rattle.plain_tree.specs.Paths.{path_cmp, parent_of, is_at_or_below}
 use Rattle.plain_tree.specs.Refusals.{why_missing, missing_below, no_node, no_dir, no_file, refuse_if, too_many}
 use Rattle.plain_tree.specs.Tree as plain
 use Rattle.plain_tree.specs.Valid.{AreValid}
-use Rattle.plain_tree.proofs.MoveLemmas.{both_true, below_join}
+use Rattle.plain_tree.proofs.MoveLemmas.{both_true}
 use Rattle.plain_tree.proofs.FrontLemmas.{missing_longer, front_decides}
 use Rattle.plain_tree.proofs.ListingLemmas.{exact}
 use Rattle.plain_tree.proofs.SeenLemmas.{unlike}
@@ -35,7 +34,7 @@ use Rattle.std.proofs.lemmas.Bool.Decides.{nat_tests}
 use Rattle.file_tree.proofs.WriteLemmas.{long_as}
 use Rattle.file_tree.specs.Seen.{held, IsShown, is_in, any_in}
 use Rattle.file_tree.specs.Places.{IsLast}
-use Rattle.file_tree.proofs.PathLemmas.{some_same, no_name, number_is, node_at}
+use Rattle.file_tree.proofs.PathLemmas.{some_same, no_name, node_at}
 use Rattle.file_tree.proofs.ShownLemmas.{spot, kept_at, stands, stands_in}
 use Rattle.file_tree.proofs.WalkLemmas.{eq_is, is_eq, not_eq}
 use Rattle.file_tree.proofs.PlainLemmas.{plain_get, plain_none, plain_len}
@@ -113,9 +112,10 @@ lost tape m valid path n node is there =
     let gone : fin.get (plain_nodes tape m) (take (is.names + 1) path) ≡ None = plain_none tape m (take (is.names + 1) path) is.missing in
     let further : (k : ℕ) → is.names + 1 ≤ k → k ≤ length path → fin.get (plain_nodes tape m) (take k path) ≡ None =
     λ k le within. missing_longer (plain_nodes tape m) path (is.names + 1) k valid (ap is_some gone) le within in
-    let none : fin.get (plain_nodes tape m) path ≡ None = ap (fin.get (plain_nodes tape m)) (sym (take_all (length path) path (omega arith))) ∙ further (length path) (omega (arith, is.shorter)) (omega arith) in
-    (Rattle.file_tree.proofs.PlainLemmas.none_plain tape m path none,
-     opened (plain_nodes tape m) none (front_decides (plain_nodes tape m) path is.names (plain_node_of tape node) is.shorter plain_here (λ k from below. further k (omega arith) (omega arith))))
+    let none : fin.get (plain_nodes tape m) path ≡ None = ap (fin.get (plain_nodes tape m)) (sym (take_all (length path) path (omega arith))) ∙ further (length path) (omega (arith, is.shorter)) (omega arith) in (
+      Rattle.file_tree.proofs.PlainLemmas.none_plain tape m path none,
+      opened (plain_nodes tape m) none (front_decides (plain_nodes tape m) path is.names (plain_node_of tape node) is.shorter plain_here (λ k from below. further k (omega arith) (omega arith))),
+    )
   where
     opened : (m : plain.Nodes) → fin.get m path ≡ None → missing_below (plain_kind_of tape node.kind) ≡ why_missing m path (length path) → no_node m path ≡ Some (missing_below (plain_kind_of tape node.kind))
     opened m none why = rw none (ap (λ r. Some r) (sym why))

@@ -1,21 +1,17 @@
 -- What a call is refused goes by the tape alone where a byte is lost.
-use Rattle.std.proofs.Common.{Option, ◌⊎◌, ◌≡◌, ◌≢◌, ℕ, zero, suc, ◌+◌, ◌-◌, ◌<◌, ◌≤◌, ◌^◌, ◌||◌, Bool, true, false, cond, nat_le, nat_lt, List, [], ◌∷◌, ◌++◌, length, take, drop, map, Some, None, IsSome, is_some, is_none, sym, ap, ◌∙◌, refl, subst, arith, inl, inr, ⊎_elim}
+use Rattle.std.proofs.Common.{Option, ◌⊎◌, ◌≡◌, ℕ, zero, suc, ◌+◌, ◌-◌, ◌^◌, ◌||◌, Bool, true, false, cond, nat_le, nat_lt, List, [], ◌∷◌, length, take, drop, map, Some, None, is_some, is_none, sym, ap, ◌∙◌, refl, subst, inl, inr}
 use Rattle.std.specs.Option.{option_map}
 use Rattle.std.specs.List.{filter_map, cons_option, range_with_len}
 use Rattle.std.specs.FinMap as fin
-use Rattle.plain_tree.specs.declared.nodes.Node as plain_node
-use Rattle.plain_tree.specs.declared.nodes.Kind as plain_kind
-use Rattle.plain_tree.specs.declared.nodes.Kind.TheVariants as plain_kinds
 use Rattle.plain_tree.specs.declared.calls.Call.{Call}
 use Rattle.plain_tree.specs.declared.calls.Call.TheVariants.{Mkdir, Create, Write, Truncate, Read, Listing, Stat, Rename, Remove, Sync}
 use Rattle.plain_tree.specs.declared.calls.Refusal.{Refusal}
 use Rattle.plain_tree.specs.declared.calls.Refusal.TheVariants as refusals
 use Rattle.plain_tree.specs.Cells.{Cell, range_of, bytes_of}
-use Rattle.plain_tree.specs.Paths.{path_cmp, same_path, parent_of, is_below, name_in}
+use Rattle.plain_tree.specs.Paths.{same_path, parent_of, is_below, name_in}
 use Rattle.plain_tree.specs.Refusals.{first_of, refuse_if, bad_name, at_root, why_missing, no_node, no_dir, no_file, exists_at, too_many, not_empty, too_long, damaged, new_refusal, rename_refusal, refusal_of}
 use Rattle.plain_tree.specs.Tree as plain
-use Rattle.extent_map.specs.Cells.{Tape, file_cells, cell_at, cell_of, covers}
-use Rattle.extent_map.specs.Laid.{Laid}
+use Rattle.extent_map.specs.Cells.{Tape, cell_at, cell_of, covers}
 use Rattle.tape_types.specs.declared.cartridges.Extent.{Extent}
 use Rattle.file_tree.specs.declared.nodes.Node.{Node}
 use Rattle.file_tree.specs.declared.nodes.Kind.{Kind}

@@ -1,14 +1,11 @@
 -- The map that is seen of what is kept.
-use Rattle.std.proofs.Common.{Option, ◌⊎◌, ◌≡◌, ◌≢◌, ℕ, zero, suc, ◌+◌, ◌<◌, ◌≤◌, Bool, true, false, cond, List, [], ◌∷◌, ◌++◌, length, take, drop, map, Some, None, IsSome, is_some, sym, ap, ◌∙◌, refl, subst, arith, inl, inr, ⊎_elim}
-use Rattle.std.specs.Option.{option_map}
+use Rattle.std.proofs.Common.{Option, ◌⊎◌, ◌≡◌, ◌≢◌, ℕ, zero, suc, ◌<◌, ◌≤◌, true, false, List, [], ◌∷◌, ◌++◌, length, Some, None, is_some, sym, ap, ◌∙◌, refl, arith, inl, inr, ⊎_elim}
 use Rattle.std.specs.FinMap as fin
-use Rattle.plain_tree.specs.Paths.{path_cmp, same_path, is_at_or_below}
-use Rattle.plain_tree.proofs.SeenLemmas.{unlike}
 use Rattle.file_tree.specs.declared.nodes.Node.{Node}
 use Rattle.file_tree.specs.declared.nodes.Spot.{Spot}
 use Rattle.file_tree.specs.Tree.{Nodes, number_at}
-use Rattle.file_tree.specs.Seen.{Held, has_number, IsShown}
-use Rattle.file_tree.proofs.PathLemmas.{by_last, no_name, same_last, longer, get_here, get_other, gone_here, gone_other, same_nodes, is_or_not, some_same, has_it, path_of, number_is, node_at}
+use Rattle.file_tree.specs.Seen.{Held, IsShown}
+use Rattle.file_tree.proofs.PathLemmas.{by_last, longer, same_nodes, some_same, path_of, number_is, node_at}
 
 abbrev pub spot : ℕ → List ℕ → Node → Spot
 spot parent name node = record { parent = parent; name = name; node = node }

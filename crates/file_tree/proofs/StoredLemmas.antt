@@ -1,8 +1,8 @@
 -- What the places keep through each change.
-use Rattle.std.proofs.Common.{Option, ◌⊎◌, ◌≡◌, ◌≢◌, ℕ, zero, suc, ◌+◌, ◌-◌, ◌<◌, ◌≤◌, max, Bool, true, false, cond, List, [], ◌∷◌, ◌++◌, length, Some, None, IsSome, is_some, sym, ap, ◌∙◌, refl, subst, arith, ⊎_elim, lit≤}
+use Rattle.std.proofs.Common.{Option, ◌≡◌, ℕ, zero, suc, ◌+◌, ◌-◌, ◌<◌, ◌≤◌, cond, List, [], ◌∷◌, ◌++◌, length, Some, None, is_some, sym, ap, ◌∙◌, refl, subst, arith, ⊎_elim, lit≤}
 use Rattle.std.specs.Option.{option_map}
 use Rattle.std.specs.FinMap as fin
-use Rattle.plain_tree.specs.Paths.{path_cmp, is_at_or_below}
+use Rattle.plain_tree.specs.Paths.{path_cmp}
 use Rattle.plain_tree.specs.Seen.{CanLeave, CanMove}
 use Rattle.plain_tree.proofs.NodeLemmas.{path_total}
 use Rattle.file_tree.specs.declared.nodes.Node.{Node}
@@ -11,7 +11,7 @@ use Rattle.file_tree.specs.Tree.{Nodes, number_at, moved, plain_nodes, whole}
 use Rattle.file_tree.specs.Seen.{Held, held, IsShown, IsKept, walk, node_in}
 use Rattle.file_tree.specs.Places.{used, IsStored, IsSetIn, IsChangedIn}
 use Rattle.file_tree.proofs.PathLemmas.{gone_here, gone_other, is_or_not, no_name, get_here, get_other, some_same, has_it, number_is, node_at}
-use Rattle.file_tree.proofs.ShownLemmas.{one_number, spot, stands, kept_at, dir_of}
+use Rattle.file_tree.proofs.ShownLemmas.{one_number, spot}
 use Rattle.file_tree.proofs.WalkLemmas.{only}
 use Rattle.plain_tree.proofs.SeenLemmas.{unlike}
 use Rattle.std.proofs.lemmas.Bool.{cases_lt}

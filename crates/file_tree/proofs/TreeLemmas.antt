@@ -1,41 +1,34 @@
 -- What each call leaves of a tree.
-use Rattle.std.proofs.Common.{Option, ◌⊎◌, ◌≡◌, ◌≢◌, ℕ, zero, suc, ◌+◌, ◌-◌, ◌<◌, ◌≤◌, ◌^◌, Bool, true, false, cond, List, [], ◌∷◌, ◌++◌, length, take, drop, map, Some, None, IsSome, is_some, sym, ap, ◌∙◌, refl, subst, arith, inl, inr, ⊎_elim, eqb}
-use Rattle.std.specs.Option.{option_map}
+use Rattle.std.proofs.Common.{◌≡◌, ℕ, ◌+◌, ◌<◌, ◌≤◌, ◌^◌, false, List, [], ◌∷◌, ◌++◌, Some, None, sym, ap, ◌∙◌, refl, subst, arith}
 use Rattle.std.specs.FinMap as fin
-use Rattle.std.proofs.lemmas.List.{length-append, append-nil}
 use Rattle.tape_types.specs.declared.moments.Moment.{Moment}
-use Rattle.tape_types.specs.declared.cartridges.Extent.{Extent}
-use Rattle.plain_tree.specs.declared.nodes.Node as plain_node
 use Rattle.plain_tree.specs.declared.nodes.Kind as plain_kind
 use Rattle.plain_tree.specs.declared.nodes.Kind.TheVariants as plain_kinds
 use Rattle.plain_tree.specs.declared.calls.Call.{Call}
 use Rattle.plain_tree.specs.declared.calls.Call.TheVariants as asks
 use Rattle.plain_tree.specs.declared.calls.Sort.{Sort}
 use Rattle.plain_tree.specs.declared.calls.Sort.TheVariants as sorts
-use Rattle.plain_tree.specs.Paths.{path_cmp, same_path, parent_of, is_at_or_below, moved_path}
-use Rattle.plain_tree.specs.Refusals.{first_of, refuse_if, no_node, at_root, not_empty, refusal_of, new_refusal, rename_refusal}
-use Rattle.plain_tree.specs.Calls.{after, after_done, after_unless, with_new, without, with_rename, with_length}
-use Rattle.plain_tree.specs.Cells as cells
+use Rattle.plain_tree.specs.Paths.{parent_of}
+use Rattle.plain_tree.specs.Refusals.{refusal_of, new_refusal}
+use Rattle.plain_tree.specs.Calls.{after, after_done, after_unless, with_new}
 use Rattle.plain_tree.specs.Tree as plain
 use Rattle.plain_tree.specs.Valid.{IsValid}
-use Rattle.plain_tree.specs.Seen.{CanStand, CanLeave, CanMove}
-use Rattle.plain_tree.proofs.Validity.{next_valid, can_stand, can_leave, can_move, first_none, not_root, changed_keeps, file_mark}
-use Rattle.plain_tree.proofs.MoveLemmas.{not_same, same_is}
-use Rattle.plain_tree.proofs.SeenLemmas.{unlike}
-use Rattle.extent_map.specs.Cells.{Tape, cells_of, file_cells}
-use Rattle.extent_map.specs.Laid.{Laid, Room, IsLaid, overlaid}
+use Rattle.plain_tree.specs.Seen.{CanStand}
+use Rattle.plain_tree.proofs.Validity.{next_valid, can_stand}
+use Rattle.extent_map.specs.Cells.{Tape, file_cells}
+use Rattle.extent_map.specs.Laid.{Laid, Room}
 use Rattle.file_tree.specs.declared.nodes.Node.{Node}
 use Rattle.file_tree.specs.declared.nodes.Kind.{Kind}
 use Rattle.file_tree.specs.declared.nodes.Kind.TheVariants as kinds
-use Rattle.file_tree.specs.Tree.{Nodes, FileTree, number_at, moved, StandsAt, HasExtents, HasLaid, plain_kind_of, plain_node_of, plain_nodes, plain_of, whole}
-use Rattle.file_tree.specs.Changes.{IsChangedAt, touched, change_noted}
-use Rattle.file_tree.specs.Places.{IsThere, Stored, CanPut, CanTake, CanShift}
+use Rattle.file_tree.specs.Tree.{Nodes, FileTree, number_at, StandsAt, HasLaid, plain_kind_of, plain_node_of, plain_nodes, plain_of, whole}
+use Rattle.file_tree.specs.Changes.{IsChangedAt, touched}
+use Rattle.file_tree.specs.Places.{CanPut}
 use Rattle.file_tree.specs.Valid.{IsFileOf, AreFilesOf, IsGood}
-use Rattle.file_tree.specs.Edits.{making, CanMake, IsNewKind, CanWrite, CanUnlink, CanMoveTo, IsAfter, NumbersCome, OthersLie, AllLie}
-use Rattle.file_tree.proofs.PathLemmas.{by_last, no_name, longer, get_here, gone_other, some_same, number_is, node_at}
-use Rattle.file_tree.proofs.PlainLemmas.{plain_get, plain_insert, plain_remove, plain_moved, plain_len, plain_none, none_plain}
+use Rattle.file_tree.specs.Edits.{making, CanMake, IsNewKind, IsAfter, NumbersCome, AllLie}
+use Rattle.file_tree.proofs.PathLemmas.{get_here, some_same, number_is}
+use Rattle.file_tree.proofs.PlainLemmas.{plain_insert, plain_len, none_plain}
 use Rattle.file_tree.proofs.RefusalLemmas.{alike}
-use Rattle.file_tree.proofs.EditLemmas.{parent_ends, put_numbers, put_lies, insert_files, change_numbers, change_plain, change_others, change_lies, change_files, change_files_same, remove_files}
+use Rattle.file_tree.proofs.EditLemmas.{parent_ends, put_numbers, put_lies, insert_files, change_numbers, change_plain, change_lies, change_files_same}
 
 -- a call that isn't refused
 pub after_free : (t : plain.Tree) (call : Call) (at : Moment) → refusal_of t call ≡ None → after t call at ≡ after_done t call at

@@ -1,22 +1,20 @@
 -- The map that is seen after each change of what is kept.
-use Rattle.std.proofs.Common.{Option, ◌⊎◌, ◌≡◌, ◌≢◌, ℕ, zero, suc, ◌+◌, ◌<◌, ◌≤◌, Bool, true, false, cond, eqb, List, [], ◌∷◌, ◌++◌, length, take, drop, map, Some, None, IsSome, is_some, sym, ap, ◌∙◌, refl, subst, arith, inl, inr, ⊎_elim}
+use Rattle.std.proofs.Common.{◌⊎◌, ◌≡◌, ◌≢◌, ℕ, ◌<◌, true, false, cond, eqb, List, [], ◌∷◌, ◌++◌, length, drop, map, Some, None, is_some, sym, ap, ◌∙◌, refl, arith, inl, inr, ⊎_elim}
 use Rattle.std.specs.Option.{option_map}
-use Rattle.std.specs.List.{list_any}
 use Rattle.std.specs.FinMap as fin
 use Rattle.std.proofs.lemmas.Bool.Decides.{nat_tests}
-use Rattle.std.proofs.lemmas.Bool.{cases_lt}
 use Rattle.std.proofs.lemmas.List.{length-append, append-nil, append_assoc, drop_at}
-use Rattle.plain_tree.specs.Paths.{path_cmp, same_path, is_at_or_below, moved_path}
-use Rattle.plain_tree.proofs.MoveLemmas.{find_moved, back, below_split, below_join, not_true, below_Decides}
+use Rattle.plain_tree.specs.Paths.{path_cmp, is_at_or_below, moved_path}
+use Rattle.plain_tree.proofs.MoveLemmas.{find_moved, back, below_split, below_join, not_true}
 use Rattle.plain_tree.proofs.NodeLemmas.{path_total}
-use Rattle.plain_tree.proofs.SeenLemmas.{unlike, snoc}
+use Rattle.plain_tree.proofs.SeenLemmas.{unlike}
 use Rattle.plain_tree.proofs.Validity.{below_length}
 use Rattle.file_tree.specs.declared.nodes.Node.{Node}
 use Rattle.file_tree.specs.declared.nodes.Spot.{Spot}
 use Rattle.file_tree.specs.Tree.{Nodes, number_at, moved}
-use Rattle.file_tree.specs.Seen.{Held, has_number, IsShown, IsKept}
-use Rattle.file_tree.proofs.PathLemmas.{by_last, no_name, same_last, longer, get_here, get_other, gone_here, gone_other, same_nodes, is_or_not, some_same, has_it, path_of, number_is, node_at}
-use Rattle.file_tree.proofs.ShownLemmas.{spot, same_spot, root_number, dir_of, kept_at, one_path, stands}
+use Rattle.file_tree.specs.Seen.{Held, IsShown, IsKept}
+use Rattle.file_tree.proofs.PathLemmas.{by_last, no_name, same_last, longer, get_here, get_other, gone_here, gone_other, is_or_not, some_same, has_it, number_is, node_at}
+use Rattle.file_tree.proofs.ShownLemmas.{spot, same_spot, root_number, dir_of, one_path, stands}
 
 same_or_not : (a b : ℕ) → (a ≡ b) ⊎ (a ≡ b → ⊥)
 same_or_not a b = elim (eqb a b) as (λ t. eqb a b ≡ t → (a ≡ b) ⊎ (a ≡ b → ⊥)) [

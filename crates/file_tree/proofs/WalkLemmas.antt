@@ -1,6 +1,5 @@
 -- Where paths lead in what is kept is what the map has.
-use Rattle.std.proofs.Common.{Option, ◌⊎◌, ◌≡◌, ◌≢◌, ℕ, zero, suc, ◌+◌, ◌<◌, ◌≤◌, Bool, true, false, cond, ◌&&◌, not, eqb, nat_eq, List, [], ◌∷◌, ◌++◌, length, take, drop, map, get_or, Some, None, is_some, sym, ap, ◌∙◌, refl, subst, arith, inl, inr, ⊎_elim, Decides, slice_get}
-use Rattle.std.specs.Option.{option_map}
+use Rattle.std.proofs.Common.{Option, ◌≡◌, ◌≢◌, ℕ, zero, suc, Bool, true, false, cond, ◌&&◌, not, eqb, nat_eq, List, [], ◌∷◌, ◌++◌, Some, None, sym, ap, ◌∙◌, refl, arith, Decides, slice_get}
 use Rattle.std.specs.Cmp.{unsigned_Decides}
 use Rattle.std.specs.Cmp.Lexicographic.{pointwise}
 use Rattle.std.specs.FinMap as fin
@@ -11,10 +10,10 @@ use Rattle.plain_tree.proofs.MoveLemmas.{both_true}
 use Rattle.plain_tree.proofs.SeenLemmas.{unlike, snoc}
 use Rattle.file_tree.specs.declared.nodes.Node.{Node}
 use Rattle.file_tree.specs.declared.nodes.Spot.{Spot}
-use Rattle.file_tree.specs.Tree.{Nodes, number_at}
-use Rattle.file_tree.specs.Seen.{Held, held, IsShown, is_child, child, node_in, walk, Seen}
-use Rattle.file_tree.proofs.PathLemmas.{same_nodes, some_same, number_is, node_at}
-use Rattle.file_tree.proofs.ShownLemmas.{spot, root_number, dir_of, kept_at, stands, stands_in}
+use Rattle.file_tree.specs.Tree.{Nodes}
+use Rattle.file_tree.specs.Seen.{held, IsShown, is_child, child, node_in, walk, Seen}
+use Rattle.file_tree.proofs.PathLemmas.{same_nodes, number_is, node_at}
+use Rattle.file_tree.proofs.ShownLemmas.{spot, dir_of, kept_at, stands, stands_in}
 
 pub name_Decides : (x y : List ℕ) → Decides (pointwise nat_eq x y) (x ≡ y)
 name_Decides x y = slice_eq-Decides unsigned_Decides x y _ refl

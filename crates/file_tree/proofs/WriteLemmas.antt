@@ -1,8 +1,7 @@
 -- What overlays and lengths leave of a tree.
-use Rattle.std.proofs.Common.{Option, ◌⊎◌, ◌≡◌, ◌≢◌, ℕ, zero, suc, ◌+◌, ◌-◌, ◌<◌, ◌≤◌, ◌^◌, Bool, true, false, cond, List, [], ◌∷◌, ◌++◌, length, map, Some, None, sym, ap, ◌∙◌, refl, subst, arith, eqb, ⊎_elim, Result, Ok, Err, OnOk}
+use Rattle.std.proofs.Common.{◌≡◌, ◌≢◌, ℕ, ◌≤◌, true, false, cond, List, length, Some, sym, ap, ◌∙◌, refl, subst, arith, eqb, ⊎_elim, Result, Ok, Err, OnOk}
 use Rattle.std.specs.Option.{option_map}
 use Rattle.std.specs.FinMap as fin
-use Rattle.std.specs.List.{range_with_len}
 use Rattle.std.proofs.lemmas.Bool.Decides.{nat_tests}
 use Rattle.std.proofs.lemmas.List.FromFn.{length-map-range_with_len}
 use Rattle.tape_types.specs.declared.moments.Moment.{Moment}
@@ -11,7 +10,6 @@ use Rattle.plain_tree.specs.declared.nodes.Node as plain_node
 use Rattle.plain_tree.specs.declared.nodes.Kind.TheVariants as plain_kinds
 use Rattle.plain_tree.specs.Cells as cells
 use Rattle.plain_tree.specs.Cells.{Cell}
-use Rattle.plain_tree.specs.Calls.{with_length}
 use Rattle.plain_tree.specs.Tree as plain
 use Rattle.plain_tree.specs.Valid.{IsValid}
 use Rattle.plain_tree.proofs.Validity.{file_keeps}
@@ -23,10 +21,10 @@ use Rattle.file_tree.specs.declared.nodes.Node.{Node}
 use Rattle.file_tree.specs.declared.nodes.Kind.{Kind}
 use Rattle.file_tree.specs.declared.nodes.Kind.TheVariants as kinds
 use Rattle.file_tree.specs.Tree.{Nodes, FileTree, number_at, StandsAt, HasExtents, HasLaid, plain_kind_of, plain_node_of, plain_nodes, plain_of}
-use Rattle.file_tree.specs.Changes.{IsChangedAt, LiesNow, IsRelaid, relaid_as, IsRoomier, roomier_as, KeepsLaid, HasRoom, kind_has_room, CanOverlay, can_overlay, touched}
+use Rattle.file_tree.specs.Changes.{IsChangedAt, LiesNow, IsRelaid, relaid_as, IsRoomier, roomier_as, KeepsLaid, HasRoom, kind_has_room, CanOverlay, can_overlay}
 use Rattle.file_tree.specs.Valid.{IsFileOf, AreFilesOf, IsGood}
 use Rattle.file_tree.specs.Edits.{IsWritten, IsTruncated, IsLongAt, OthersLie, AllLie}
-use Rattle.file_tree.proofs.PathLemmas.{get_here, get_other, is_or_not, some_same, number_is, node_at}
+use Rattle.file_tree.proofs.PathLemmas.{get_here, get_other, is_or_not, some_same, number_is}
 use Rattle.file_tree.proofs.PlainLemmas.{plain_get, plain_insert, inserted_same}
 use Rattle.file_tree.proofs.TreeLemmas.{same_tree}
 use Rattle.file_tree.proofs.EditLemmas.{change_numbers, change_plain, change_others, change_files}

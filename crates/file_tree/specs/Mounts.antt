@@ -1,5 +1,5 @@
 -- The tree of an index (LTFS 2.4 on the index).
-use Rattle.std.specs.Prelude.{◌≡◌, ◌≢◌, ◌⊎◌, ⊤, ℕ, suc, ◌+◌, ◌<◌, ◌≤◌, ◌^◌, List, [], ◌∷◌, ◌++◌, ◌==◌, if◌then◌else◌, map, fold, length, Some}
+use Rattle.std.specs.Prelude.{◌≡◌, ◌≢◌, ◌⊎◌, ℕ, ◌<◌, ◌≤◌, List, [], ◌∷◌, ◌++◌, ◌==◌, if◌then◌else◌, map, fold, length, Some}
 use Rattle.std.specs.List.{AllByRecursion}
 use Rattle.std.specs.FinMap as fin
 use Rattle.tape_types.specs.declared.cartridges.Extent.{Extent}
@@ -14,7 +14,6 @@ use Rattle.index_model.specs.Extents.{AreFiles, IsKind, IsFileAt}
 use Rattle.index_model.specs.Names.{AreNamesApart}
 use Rattle.index_model.specs.Order.{AreInOrder}
 use Rattle.index_model.specs.Places.{IsAt}
-use Rattle.index_model.specs.Uids.{AreUids}
 use Rattle.index_model.specs.Valid.{IsValid}
 use Rattle.extent_map.specs.Laid.{Laid, Room, cut, put_among}
 use Rattle.file_tree.specs.declared.nodes.Node.{Node}

@@ -1,5 +1,5 @@
 -- The places in which nodes are kept, and what may be done with them.
-use Rattle.std.specs.Prelude.{◌≡◌, ◌≢◌, ℕ, ◌+◌, ◌<◌, ◌≤◌, true, false, max, List, [], ◌∷◌, ◌++◌, length, take, Option, Some, None, nat_lt, is_some}
+use Rattle.std.specs.Prelude.{◌≡◌, ℕ, ◌+◌, ◌<◌, ◌≤◌, max, List, [], ◌∷◌, ◌++◌, length, take, Option, Some, None}
 use Rattle.std.specs.FinMap as fin
 use Rattle.plain_tree.specs.Seen.{CanLeave, CanMove}
 use Rattle.file_tree.specs.declared.nodes.Node.{Node}

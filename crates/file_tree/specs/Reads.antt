@@ -1,5 +1,5 @@
 -- What is read of a tree.
-use Rattle.std.specs.Prelude.{◌≡◌, ℕ, List, [], ◌∷◌, Option, Some, None}
+use Rattle.std.specs.Prelude.{◌≡◌, ℕ, List, Option, Some, None}
 use Rattle.std.specs.FinMap as fin
 use Rattle.plain_tree.specs.declared.calls.Refusal.{Refusal}
 use Rattle.plain_tree.specs.declared.calls.Refusal.TheVariants as refusals
@@ -10,7 +10,7 @@ use Rattle.file_tree.specs.declared.nodes.Kind.TheVariants as kinds
 use Rattle.file_tree.specs.declared.nodes.Node.{Node}
 use Rattle.file_tree.specs.declared.found.Found.{Found}
 use Rattle.file_tree.specs.declared.found.Found.TheVariants as founds
-use Rattle.file_tree.specs.Tree.{Nodes, FileTree, StandsAt}
+use Rattle.file_tree.specs.Tree.{FileTree, StandsAt}
 
 -- the node with the number stands at the path, or nothing does
 abbrev pub IsFound : FileTree → List (List ℕ) → Found → Type 0

@@ -1,6 +1,6 @@
 -- The tree that is kept: what stands at each path, with files as extents, and the plain tree that it is.
-use Rattle.std.specs.Prelude.{◌≡◌, ℕ, List, []}
-use Rattle.std.specs.Prelude.{map, Option, Some, None}
+use Rattle.std.specs.Prelude.{◌≡◌, ℕ, List}
+use Rattle.std.specs.Prelude.{map, Option, Some}
 use Rattle.std.specs.Option.{option_map}
 use Rattle.std.specs.FinMap as fin
 use Rattle.plain_tree.specs.declared.nodes.Node as plain_node

@@ -4,7 +4,9 @@ ghost use Rattle.file_tree.specs.Seen.{Seen, Seen-prop};
 use crate::changes::Change;
 use crate::listing::{lines_of, names_in};
 use crate::nodes::{Node, Spot};
-use crate::spots::{any_in, change_spot, child, first_empty, put_spot, reserve_spot, shift_spot, spot_at, take_spot};
+use crate::spots::{
+    any_in, change_spot, child, first_empty, put_spot, reserve_spot, shift_spot, spot_at, take_spot,
+};
 use plain_tree::Entry;
 use std::alloc::Global;
 use std::marker::Model;

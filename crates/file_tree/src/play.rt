@@ -52,7 +52,13 @@ pub fn apply(
     Ok(Answer::Done)
 }
 
-fn make(alloc: Global, tree: &mut Tree, path: &[Text], sort: Sort, at: Moment) -> Result<(), NoMemory>
+fn make(
+    alloc: Global,
+    tree: &mut Tree,
+    path: &[Text],
+    sort: Sort,
+    at: Moment,
+) -> Result<(), NoMemory>
     requires { (call : Asked) × (making sort path.now ≡ Some call) × (refusal_of (plain_of whole tree.old) call ≡ None) }
 {
     tree.reserve()?;
@@ -166,7 +172,13 @@ fn stat(alloc: Global, tree: &Tree, path: &[Text]) -> Result<Answer, NoMemory> {
     }
 }
 
-fn rename(alloc: Global, tree: &mut Tree, from: &[Text], to: &[Text], at: Moment) -> Result<(), NoMemory>
+fn rename(
+    alloc: Global,
+    tree: &mut Tree,
+    from: &[Text],
+    to: &[Text],
+    at: Moment,
+) -> Result<(), NoMemory>
     requires { refusal_of (plain_of whole tree.old) (Call.Rename from.now to.now) ≡ None }
 {
     if same_path(from, to) {

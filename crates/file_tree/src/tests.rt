@@ -131,11 +131,18 @@ fn is_wanted(answer: &Answer, want: &Want) -> bool {
 }
 
 fn same_entries(a: &[Entry], b: &[Entry]) -> bool {
-    a.len() == b.len() && a.iter().zip(b).all(|(x, y)| x.sort == y.sort && x.name == y.name)
+    a.len() == b.len()
+        && a.iter()
+            .zip(b)
+            .all(|(x, y)| x.sort == y.sort && x.name == y.name)
 }
 
 fn same_facts(a: &Facts, b: &Facts) -> bool {
-    a.sort == b.sort && a.uid == b.uid && a.length == b.length && a.text == b.text && a.times == b.times
+    a.sort == b.sort
+        && a.uid == b.uid
+        && a.length == b.length
+        && a.text == b.text
+        && a.times == b.times
 }
 
 fn same_answer(a: &Answer, b: &Answer) -> bool {
@@ -312,7 +319,10 @@ fn call_by(alloc: Global, pick: u64) -> Result<Call, NoMemory> {
         4 => Call::Write {
             path,
             offset: at,
-            bytes: Bytes::from_vec(Vec::from_slice(alloc, &[b'x', (pick >> 40 & 255) as u8, b'y'])?),
+            bytes: Bytes::from_vec(Vec::from_slice(
+                alloc,
+                &[b'x', (pick >> 40 & 255) as u8, b'y'],
+            )?),
         },
         5 => Call::Truncate { path, length: size },
         6 => Call::Read {

@@ -13,4 +13,3 @@ returns-in-File c = file_by c.args.tree.now c.args.path.now c.in-Node.number sor
 
 pub returns-in-Link : goal.returns-in-Link
 returns-in-Link c = file_by c.args.tree.now c.args.path.now c.in-Node.number sorts.Link c.in-Node.ensures.number (subst (λ (s : Sort). IsOfSort c.args.tree.now c.in-Node.number s) c.in-Link.is c.sort.ensures)
-

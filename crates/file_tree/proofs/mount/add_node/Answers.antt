@@ -1,7 +1,6 @@
-use Rattle.std.proofs.Common.{◌≡◌, sym, ap, ◌∙◌, subst, refl, length, List, []}
+use Rattle.std.proofs.Common.{sym, subst, refl, length}
 use Rattle.std.proofs.lemmas.Option.{slice_get_read}
 use Rattle.index_model.specs.Places.{IsAt}
-use Rattle.file_tree.specs.declared.nodes.Node.{Node}
 use Rattle.file_tree.specs.Places.{CanAppend}
 use Rattle.file_tree.proofs.MountLemmas.{can_keep, can_append, appended_built, appended_files}
 use Rattle.file_tree.proofs.mount.add_node.Goals as goal

@@ -1,9 +1,7 @@
-use Rattle.std.proofs.Common.{◌≡◌, sym, ap, ◌∙◌, arith, subst, List, [], length, take, drop, rules}
+use Rattle.std.proofs.Common.{subst, [], drop}
 use Rattle.std.proofs.lemmas.List.{take_all, drop_all}
-use Rattle.index_model.specs.declared.nodes.RawExtent.{RawExtent}
-use Rattle.extent_map.specs.Laid.{Laid}
 use Rattle.file_tree.specs.Raws.{IsPlaced}
-use Rattle.file_tree.proofs.RawLemmas.{placed_all, placed_first, placed_step}
+use Rattle.file_tree.proofs.RawLemmas.{placed_all, placed_step}
 use Rattle.file_tree.proofs.raws.extents_from.Goals as goal
 
 pub loop-raw-preserved : goal.loop-raw-preserved

@@ -1,6 +1,6 @@
-use Rattle.std.proofs.Common.{◌<◌, sym, ap, ◌∙◌, arith, subst, List, [], ◌∷◌, ◌++◌}
+use Rattle.std.proofs.Common.{◌<◌, ap, ◌∙◌, arith}
 use Rattle.extent_map.specs.Laid.{Laid, overlaid}
-use Rattle.file_tree.proofs.RawLemmas.{placed_none, placed_more}
+use Rattle.file_tree.proofs.RawLemmas.{placed_more}
 use Rattle.file_tree.proofs.raws.put_raw.Goals as goal
 
 pub extent_of-requires-clause-byte : goal.extent_of-requires-clause-byte

@@ -1,8 +1,6 @@
 use Rattle.std.proofs.Common.{rules}
 use Rattle.file_tree.proofs.PlaceLemmas.{used_step, held_past}
-use Rattle.std.proofs.Common.{◌≡◌, None, Option, sym, ◌∙◌, ap, arith}
-use Rattle.file_tree.specs.declared.nodes.Spot.{Spot}
-use Rattle.file_tree.specs.Seen.{held}
+use Rattle.std.proofs.Common.{arith}
 use Rattle.file_tree.proofs.spots.first_empty.Goals as goal
 
 pub loop-spot-preserved : goal.loop-spot-preserved

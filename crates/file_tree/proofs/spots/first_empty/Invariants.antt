@@ -1,4 +1,4 @@
-use Rattle.std.proofs.Common.{◌≡◌, take, length}
+use Rattle.std.proofs.Common.{◌≡◌, take}
 use Rattle.file_tree.specs.Places.{used}
 use Rattle.file_tree.proofs.spots.first_empty.Given as goal
 

@@ -1,8 +1,7 @@
-use Rattle.std.proofs.Common.{◌≡◌, [], ◌∷◌, ◌++◌, ◌+◌, max, sym, ap, ◌∙◌, Some, arith, subst, length, List, Option, rules}
-use Rattle.std.proofs.lemmas.List.{length-set, length-append}
+use Rattle.std.proofs.Common.{◌≡◌, [], ◌∷◌, ◌++◌, ◌+◌, ap, ◌∙◌, Some, List, Option, rules}
 use Rattle.file_tree.specs.declared.nodes.Spot.{Spot}
-use Rattle.file_tree.specs.Places.{used, IsSetIn}
-use Rattle.file_tree.proofs.PlaceLemmas.{set_kept, push_kept, used_more, used_push, set_in, push_in}
+use Rattle.file_tree.specs.Places.{used}
+use Rattle.file_tree.proofs.PlaceLemmas.{used_more, used_push, set_in, push_in}
 use Rattle.file_tree.proofs.spots.put_spot.Goals as goal
 
 pub returns-then-place-len-clause-set : goal.returns-then-place-len-clause-set

@@ -1,4 +1,4 @@
-use Rattle.std.proofs.Common.{sym, ap, ◌∙◌, Some}
+use Rattle.std.proofs.Common.{◌∙◌}
 use Rattle.file_tree.proofs.PlaceLemmas.{held_or, held_within, used_same}
 use Rattle.file_tree.proofs.spots.shift_spot.Goals as goal
 

@@ -1,5 +1,3 @@
-use Rattle.file_tree.specs.declared.nodes.Spot.{Spot}
-use Rattle.file_tree.specs.Seen.{held}
 use Rattle.file_tree.proofs.PlaceLemmas.{used_taken}
 use Rattle.file_tree.proofs.spots.take_spot.Goals as goal
 

@@ -1,16 +1,12 @@
-use Rattle.std.proofs.Common.{◌≡◌, ℕ, ◌+◌, ◌-◌, sym, ap, ◌∙◌, subst, Some, IsSome, List, [], ◌∷◌, ◌++◌, Option, length, refl, arith, rules}
+use Rattle.std.proofs.Common.{◌≡◌, ◌+◌, ap, ◌∙◌, Some, [], ◌∷◌, ◌++◌, length, arith, rules}
 use Rattle.std.specs.FinMap as fin
 use Rattle.file_tree.specs.declared.nodes.Node.{Node}
-use Rattle.file_tree.specs.declared.nodes.Spot.{Spot}
-use Rattle.file_tree.specs.Tree.{Nodes, number_at, moved}
 use Rattle.file_tree.specs.Seen.{held}
-use Rattle.file_tree.specs.Changes.{IsChangedBy}
-use Rattle.file_tree.specs.Places.{Stored, used}
-use Rattle.file_tree.proofs.PathLemmas.{node_at}
-use Rattle.file_tree.proofs.ShownLemmas.{one_number, stands}
+use Rattle.file_tree.specs.Places.{Stored}
+use Rattle.file_tree.proofs.ShownLemmas.{one_number}
 use Rattle.file_tree.proofs.WalkLemmas.{seen}
-use Rattle.file_tree.proofs.PlaceLemmas.{count_most, stored_now, there_held, node_now}
-use Rattle.file_tree.proofs.StoredLemmas.{stored_append, stored_put, stored_take, stored_change, stored_shift, sole, still, stored_same, place_fits, fresh, first_stored}
+use Rattle.file_tree.proofs.PlaceLemmas.{count_most, stored_now}
+use Rattle.file_tree.proofs.StoredLemmas.{stored_append, sole, still, stored_same}
 use Rattle.file_tree.proofs.places.Places.append.Goals as goal
 
 pub invariant_of-self-inside : goal.invariant_of-self-inside
@@ -83,4 +79,3 @@ returns-clause-nodes c path stood =
     sole next (c.self.inside.count + 1) now _ (search rules) t
     ∙ ap (λ p. fin.insert m (p ++ c.args.name ∷ []) node) (one_number (held spots) m s.shown c.requires.path path c.args.dir c.requires.stands stood)
     ∙ ap (fin.insert m (path ++ c.args.name ∷ [])) (c.numbered.ensures ∙ ap (λ k. record c.args.node { number = k }) (place ∙ slots))
-

@@ -1,6 +1,5 @@
-use Rattle.std.proofs.Common.{sym, ap, ◌∙◌, subst, Some, IsSome, List, [], Option}
+use Rattle.std.proofs.Common.{ap, ◌∙◌}
 use Rattle.file_tree.specs.declared.nodes.Spot.{Spot}
-use Rattle.file_tree.specs.Seen.{held}
 use Rattle.file_tree.specs.Places.{Stored}
 use Rattle.std.specs.Option.{option_map}
 use Rattle.file_tree.specs.Seen.{child as child_in}

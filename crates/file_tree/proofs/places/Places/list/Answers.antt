@@ -1,6 +1,4 @@
-use Rattle.std.proofs.Common.{ap, ◌∙◌, ◌≡◌, ℕ, List, subst}
-use Rattle.std.specs.BTreeMap.{get}
-use Rattle.plain_tree.specs.Links.{name_cmp}
+use Rattle.std.proofs.Common.{ap, ◌∙◌}
 use Rattle.file_tree.specs.Listing.{last_sort}
 use Rattle.file_tree.specs.Places.{Stored}
 use Rattle.file_tree.proofs.PlaceLemmas.{stored_now}

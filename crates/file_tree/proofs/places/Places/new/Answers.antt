@@ -1,16 +1,7 @@
-use Rattle.std.proofs.Common.{◌≡◌, ℕ, ◌+◌, ◌-◌, sym, ap, ◌∙◌, subst, Some, IsSome, List, [], ◌∷◌, ◌++◌, Option, length, refl, arith, rules}
+use Rattle.std.proofs.Common.{[], rules}
 use Rattle.std.specs.FinMap as fin
-use Rattle.file_tree.specs.declared.nodes.Node.{Node}
-use Rattle.file_tree.specs.declared.nodes.Spot.{Spot}
-use Rattle.file_tree.specs.Tree.{Nodes, number_at, moved}
-use Rattle.file_tree.specs.Seen.{held}
-use Rattle.file_tree.specs.Changes.{IsChangedBy}
-use Rattle.file_tree.specs.Places.{Stored, used}
-use Rattle.file_tree.proofs.PathLemmas.{node_at}
-use Rattle.file_tree.proofs.ShownLemmas.{one_number, stands}
 use Rattle.file_tree.proofs.WalkLemmas.{seen}
-use Rattle.file_tree.proofs.PlaceLemmas.{stored_now, there_held, node_now}
-use Rattle.file_tree.proofs.StoredLemmas.{stored_put, stored_take, stored_change, stored_shift, sole, still, stored_same, place_fits, fresh, first_stored}
+use Rattle.file_tree.proofs.StoredLemmas.{sole, still, first_stored}
 use Rattle.file_tree.proofs.places.Places.new.Goals as goal
 
 pub invariant_of-result : goal.invariant_of-result

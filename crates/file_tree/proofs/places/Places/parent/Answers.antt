@@ -1,5 +1,4 @@
-use Rattle.std.proofs.Common.{sym, ap, ◌∙◌, subst, Some, IsSome, List, [], Option}
-use Rattle.file_tree.specs.declared.nodes.Spot.{Spot}
+use Rattle.std.proofs.Common.{sym, ap, ◌∙◌, subst, IsSome}
 use Rattle.file_tree.specs.Seen.{held}
 use Rattle.file_tree.specs.Places.{Stored}
 use Rattle.file_tree.proofs.ShownLemmas.{one_number}

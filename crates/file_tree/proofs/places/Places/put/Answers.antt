@@ -1,16 +1,12 @@
-use Rattle.std.proofs.Common.{◌≡◌, ℕ, ◌+◌, ◌-◌, sym, ap, ◌∙◌, subst, Some, IsSome, List, [], ◌∷◌, ◌++◌, Option, length, refl, arith, rules}
+use Rattle.std.proofs.Common.{◌+◌, sym, ap, ◌∙◌, [], ◌∷◌, ◌++◌, rules}
 use Rattle.std.specs.FinMap as fin
 use Rattle.file_tree.specs.declared.nodes.Node.{Node}
-use Rattle.file_tree.specs.declared.nodes.Spot.{Spot}
-use Rattle.file_tree.specs.Tree.{Nodes, number_at, moved}
 use Rattle.file_tree.specs.Seen.{held}
-use Rattle.file_tree.specs.Changes.{IsChangedBy}
-use Rattle.file_tree.specs.Places.{Stored, used}
-use Rattle.file_tree.proofs.PathLemmas.{node_at}
-use Rattle.file_tree.proofs.ShownLemmas.{one_number, stands}
+use Rattle.file_tree.specs.Places.{Stored}
+use Rattle.file_tree.proofs.ShownLemmas.{one_number}
 use Rattle.file_tree.proofs.WalkLemmas.{seen}
-use Rattle.file_tree.proofs.PlaceLemmas.{stored_now, there_held, node_now}
-use Rattle.file_tree.proofs.StoredLemmas.{stored_put, stored_take, stored_change, stored_shift, sole, still, stored_same, place_fits, fresh, first_stored}
+use Rattle.file_tree.proofs.PlaceLemmas.{stored_now}
+use Rattle.file_tree.proofs.StoredLemmas.{stored_put, sole, still, place_fits, fresh}
 use Rattle.file_tree.proofs.places.Places.put.Goals as goal
 
 pub invariant_of-self-inside : goal.invariant_of-self-inside
@@ -63,4 +59,3 @@ returns-clause-fresh c path stood =
     let m = c.args.self.now.nodes in
     let s = stored_now spots c.self.inside.count c.self.inside.seen.0 m c.self.invariant (ap (λ (t : Stored). t.nodes) c.self.view_is) in
     fresh spots c.self.inside.count m c.first_empty-place.result s (ap (λ l. held l c.first_empty-place.result) (sym c.deref.ensures.value) ∙ c.first_empty-place.ensures.empty) path stood
-

@@ -1,16 +1,8 @@
-use Rattle.std.proofs.Common.{◌≡◌, ℕ, ◌+◌, ◌-◌, sym, ap, ◌∙◌, subst, Some, IsSome, List, [], ◌∷◌, ◌++◌, Option, length, refl, arith, rules}
-use Rattle.std.specs.FinMap as fin
-use Rattle.file_tree.specs.declared.nodes.Node.{Node}
-use Rattle.file_tree.specs.declared.nodes.Spot.{Spot}
-use Rattle.file_tree.specs.Tree.{Nodes, number_at, moved}
-use Rattle.file_tree.specs.Seen.{held}
-use Rattle.file_tree.specs.Changes.{IsChangedBy}
-use Rattle.file_tree.specs.Places.{Stored, used}
-use Rattle.file_tree.proofs.PathLemmas.{node_at}
-use Rattle.file_tree.proofs.ShownLemmas.{one_number, stands}
+use Rattle.std.proofs.Common.{ap, rules}
+use Rattle.file_tree.specs.Places.{Stored}
 use Rattle.file_tree.proofs.WalkLemmas.{seen}
-use Rattle.file_tree.proofs.PlaceLemmas.{stored_now, there_held, node_now}
-use Rattle.file_tree.proofs.StoredLemmas.{stored_put, stored_take, stored_change, stored_shift, sole, still, stored_same, place_fits, fresh, first_stored}
+use Rattle.file_tree.proofs.PlaceLemmas.{stored_now}
+use Rattle.file_tree.proofs.StoredLemmas.{sole, still, stored_same}
 use Rattle.file_tree.proofs.places.Places.reserve.Goals as goal
 
 pub invariant_of-self-inside : goal.invariant_of-self-inside
@@ -57,4 +49,3 @@ returns-clause-same c =
     let next = c.reserve.new.self.items in
     let t = stored_same spots next c.self.inside.count m s c.reserve.ensures.items in
     sole next c.self.inside.count m _ (search rules) t
-

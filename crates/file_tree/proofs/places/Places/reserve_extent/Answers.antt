@@ -1,16 +1,12 @@
-use Rattle.std.proofs.Common.{◌≡◌, ℕ, ◌+◌, ◌-◌, sym, ap, ◌∙◌, subst, Some, IsSome, List, [], ◌∷◌, ◌++◌, Option, length, OnOk, refl, arith, rules}
+use Rattle.std.proofs.Common.{ap, OnOk, rules}
 use Rattle.std.specs.FinMap as fin
-use Rattle.file_tree.specs.declared.nodes.Node.{Node}
-use Rattle.file_tree.specs.declared.nodes.Spot.{Spot}
-use Rattle.file_tree.specs.Tree.{Nodes, number_at, moved}
 use Rattle.file_tree.specs.Seen.{held}
 use Rattle.file_tree.specs.Changes.{IsRoomier, HasRoom}
-use Rattle.file_tree.specs.Places.{Stored, used}
-use Rattle.file_tree.proofs.PathLemmas.{node_at}
-use Rattle.file_tree.proofs.ShownLemmas.{one_number, stands}
+use Rattle.file_tree.specs.Places.{Stored}
+use Rattle.file_tree.proofs.ShownLemmas.{one_number}
 use Rattle.file_tree.proofs.WalkLemmas.{seen}
 use Rattle.file_tree.proofs.PlaceLemmas.{stored_now, there_held, node_now}
-use Rattle.file_tree.proofs.StoredLemmas.{stored_put, stored_take, stored_change, stored_shift, sole, still, stored_same, place_fits, fresh, first_stored}
+use Rattle.file_tree.proofs.StoredLemmas.{stored_change, sole, still}
 use Rattle.file_tree.proofs.places.Places.reserve_extent.Goals as goal
 
 pub reserve_spot-requires : goal.reserve_spot-requires
@@ -62,4 +58,3 @@ returns-clause-changed c =
       changed = ch.changed;
       now = sole next c.self.inside.count now _ (search rules) t;
     }
-

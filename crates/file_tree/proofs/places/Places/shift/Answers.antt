@@ -1,16 +1,11 @@
-use Rattle.std.proofs.Common.{◌≡◌, ℕ, ◌+◌, ◌-◌, sym, ap, ◌∙◌, subst, Some, IsSome, List, [], ◌∷◌, ◌++◌, Option, length, refl, arith, rules}
-use Rattle.std.specs.FinMap as fin
-use Rattle.file_tree.specs.declared.nodes.Node.{Node}
-use Rattle.file_tree.specs.declared.nodes.Spot.{Spot}
-use Rattle.file_tree.specs.Tree.{Nodes, number_at, moved}
+use Rattle.std.proofs.Common.{ap, ◌∙◌, [], ◌∷◌, ◌++◌, rules}
+use Rattle.file_tree.specs.Tree.{moved}
 use Rattle.file_tree.specs.Seen.{held}
-use Rattle.file_tree.specs.Changes.{IsChangedBy}
-use Rattle.file_tree.specs.Places.{Stored, used}
-use Rattle.file_tree.proofs.PathLemmas.{node_at}
-use Rattle.file_tree.proofs.ShownLemmas.{one_number, stands}
+use Rattle.file_tree.specs.Places.{Stored}
+use Rattle.file_tree.proofs.ShownLemmas.{one_number}
 use Rattle.file_tree.proofs.WalkLemmas.{seen}
-use Rattle.file_tree.proofs.PlaceLemmas.{stored_now, there_held, node_now}
-use Rattle.file_tree.proofs.StoredLemmas.{stored_put, stored_take, stored_change, stored_shift, sole, still, stored_same, place_fits, fresh, first_stored}
+use Rattle.file_tree.proofs.PlaceLemmas.{stored_now, there_held}
+use Rattle.file_tree.proofs.StoredLemmas.{stored_shift, sole, still}
 use Rattle.file_tree.proofs.places.Places.shift.Goals as goal
 
 pub shift_spot-requires : goal.shift_spot-requires
@@ -54,4 +49,3 @@ returns-clause-shifted c a b stood up_stood =
     sole next c.self.inside.count now _ (search rules) t
     ∙ ap (λ p. moved p (c.requires.up ++ c.args.name ∷ []) m) (one_number (held spots) m s.shown from a c.args.number c.requires.stands stood)
     ∙ ap (λ p. moved a (p ++ c.args.name ∷ []) m) (one_number (held spots) m s.shown c.requires.up b c.args.dir c.requires.dir_stands up_stood)
-

@@ -1,9 +1,9 @@
-use Rattle.std.proofs.Common.{◌≡◌, sym, ap, ◌∙◌, subst, Some, None}
+use Rattle.std.proofs.Common.{sym, ap, ◌∙◌}
 use Rattle.std.specs.FinMap as fin
 use Rattle.extent_map.specs.Cells.{Tape}
 use Rattle.plain_tree.specs.Refusals.{no_node}
-use Rattle.file_tree.specs.Tree.{FileTree, number_at, plain_of, whole}
-use Rattle.file_tree.specs.Reads.{IsFound, refusal_found}
+use Rattle.file_tree.specs.Tree.{FileTree, plain_of, whole}
+use Rattle.file_tree.specs.Reads.{refusal_found}
 use Rattle.file_tree.proofs.ReadLemmas.{lost, found_there, lost_found, lost_refusal}
 use Rattle.file_tree.proofs.tree.Tree.find.Goals as goal
 

@@ -1,16 +1,10 @@
-use Rattle.std.proofs.Common.{◌≡◌, ℕ, ◌+◌, sym, ap, ◌∙◌, subst, Some, List, [], ◌∷◌, ◌++◌, Option, refl, arith, rules}
-use Rattle.std.specs.FinMap as fin
-use Rattle.tape_types.specs.declared.moments.Moment.{Moment}
+use Rattle.std.proofs.Common.{◌≡◌, ◌+◌, sym, ap, ◌∙◌, subst, [], ◌∷◌, ◌++◌, refl}
 use Rattle.plain_tree.specs.declared.calls.Call.{Call}
 use Rattle.file_tree.specs.declared.nodes.Node.{Node}
-use Rattle.file_tree.specs.declared.nodes.Kind.{Kind}
-use Rattle.file_tree.specs.Tree.{FileTree, Nodes, number_at, HasExtents, HasLaid, plain_of}
-use Rattle.file_tree.specs.Valid.{IsGood}
-use Rattle.file_tree.specs.Changes.{IsChangedAt}
-use Rattle.file_tree.specs.Places.{IsThere}
+use Rattle.file_tree.specs.Tree.{FileTree, Nodes, number_at, HasLaid, plain_of}
 use Rattle.file_tree.specs.Edits.{CanMake, IsAfter, NumbersCome, AllLie}
 use Rattle.file_tree.proofs.EditLemmas.{put_numbers}
-use Rattle.file_tree.proofs.TreeLemmas.{can_put, make_free, make_room, make_plain, make_numbers, make_number, make_lies, make_file, make_good, same_call}
+use Rattle.file_tree.proofs.TreeLemmas.{can_put, make_free, make_plain, make_numbers, make_number, make_lies, make_file, make_good, same_call}
 use Rattle.plain_tree.specs.Calls.{after}
 use Rattle.file_tree.proofs.tree.Tree.make.Goals as goal
 

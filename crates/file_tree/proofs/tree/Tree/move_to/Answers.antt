@@ -1,17 +1,8 @@
-use Rattle.std.proofs.Common.{◌≡◌, ℕ, ◌+◌, sym, ap, ◌∙◌, subst, Some, List, [], ◌∷◌, ◌++◌, Option, refl, arith, rules, OnOk, cond, eqb}
-use Rattle.std.specs.FinMap as fin
+use Rattle.std.proofs.Common.{◌≡◌, sym, ap, ◌∙◌, subst, [], ◌∷◌, ◌++◌, refl}
 use Rattle.plain_tree.specs.declared.calls.Call.TheVariants as asks
 use Rattle.plain_tree.specs.Paths.{moved_path}
-use Rattle.plain_tree.specs.Refusals.{refusal_of}
-use Rattle.extent_map.specs.Laid.{Laid, Room, overlaid, resized}
-use Rattle.extent_map.specs.Cells.{Tape}
-use Rattle.file_tree.specs.declared.nodes.Node.{Node}
-use Rattle.file_tree.specs.declared.nodes.Kind.{Kind}
-use Rattle.file_tree.specs.Tree.{FileTree, Nodes, number_at, StandsAt, HasExtents, HasLaid, plain_of, whole}
-use Rattle.file_tree.specs.Valid.{IsGood}
-use Rattle.file_tree.specs.Changes.{IsChangedAt, IsRoomier, HasRoom}
-use Rattle.file_tree.specs.Places.{IsThere}
-use Rattle.file_tree.specs.Edits.{CanMake, CanUnlink, CanMoveTo, CanWrite, IsAfter, IsWritten, IsTruncated, IsLongAt, NumbersCome, AllLie, OthersLie}
+use Rattle.file_tree.specs.Tree.{FileTree, number_at}
+use Rattle.file_tree.specs.Edits.{CanMoveTo, IsAfter, NumbersCome, AllLie}
 use Rattle.file_tree.proofs.LeaveLemmas.{can_shift, shift_there, note_there, leave_there, move_here, move_good, move_numbers, move_lies}
 use Rattle.file_tree.proofs.tree.Tree.move_to.Goals as goal
 
@@ -74,4 +65,3 @@ returns-clause-extents c =
     let can : CanMoveTo t c.args.number c.args.dir c.args.name = subst (λ (t : FileTree). CanMoveTo t c.args.number c.args.dir c.args.name) (sym c.self.view_is) c.requires in
     let next : FileTree = record { highest = c.self.inside.highest; name = c.self.inside.volume; block_size = c.self.inside.block_size; nodes = c.change-3.new.self.nodes; spare = c.change-3.new.self.spare } in
     subst (λ (t : FileTree). AllLie t next) c.self.view_is (move_lies t c.self.invariant c.args.number c.args.dir c.args.name c.args.at can c.shift.new.self.nodes c.shift.ensures.shifted c.parent-old.result c.parent-old.ensures.parent c.change.new.self.nodes c.change.ensures.changed c.change-2.new.self.nodes c.change-2.ensures.changed next c.change-3.ensures.changed refl refl)
-

@@ -1,17 +1,7 @@
-use Rattle.std.proofs.Common.{◌≡◌, ℕ, ◌+◌, sym, ap, ◌∙◌, subst, Some, List, [], ◌∷◌, ◌++◌, Option, refl, arith, rules, OnOk, cond, eqb}
-use Rattle.std.specs.FinMap as fin
-use Rattle.plain_tree.specs.declared.calls.Call.TheVariants as asks
-use Rattle.plain_tree.specs.Paths.{moved_path}
-use Rattle.plain_tree.specs.Refusals.{refusal_of}
-use Rattle.extent_map.specs.Laid.{Laid, Room, overlaid, resized}
-use Rattle.extent_map.specs.Cells.{Tape}
-use Rattle.file_tree.specs.declared.nodes.Node.{Node}
-use Rattle.file_tree.specs.declared.nodes.Kind.{Kind}
-use Rattle.file_tree.specs.Tree.{FileTree, Nodes, number_at, StandsAt, HasExtents, HasLaid, plain_of, whole}
-use Rattle.file_tree.specs.Valid.{IsGood}
-use Rattle.file_tree.specs.Changes.{IsChangedAt, IsRoomier, HasRoom}
-use Rattle.file_tree.specs.Places.{IsThere}
-use Rattle.file_tree.specs.Edits.{CanMake, CanUnlink, CanMoveTo, CanWrite, IsAfter, IsWritten, IsTruncated, IsLongAt, NumbersCome, AllLie, OthersLie}
+use Rattle.std.proofs.Common.{sym, subst, refl}
+use Rattle.extent_map.specs.Laid.{overlaid}
+use Rattle.file_tree.specs.Tree.{FileTree, HasLaid}
+use Rattle.file_tree.specs.Edits.{CanWrite, IsWritten, NumbersCome, OthersLie}
 use Rattle.file_tree.proofs.WriteLemmas.{can_write, overlay_writes, overlay_good, relaid_numbers, relaid_others, relaid_lies}
 use Rattle.file_tree.proofs.tree.Tree.overlay.Goals as goal
 
@@ -55,4 +45,3 @@ returns-clause-others c =
     let can : CanWrite t c.args.file c.args.new = subst (λ (t : FileTree). CanWrite t c.args.file c.args.new) (sym c.self.view_is) c.requires in
     let next : FileTree = record { highest = c.self.inside.highest; name = c.self.inside.volume; block_size = c.self.inside.block_size; nodes = c.change.new.self.nodes; spare = c.change.new.self.spare } in
     subst (λ (t : FileTree). OthersLie c.args.file t next) c.self.view_is (relaid_others t next c.self.invariant c.args.file c.args.at can.room can.extents (λ laid. overlaid laid c.args.new) c.change.ensures.changed refl refl)
-

@@ -1,12 +1,4 @@
-use Rattle.std.proofs.Common.{◌≡◌, ℕ, ◌+◌, sym, ap, ◌∙◌, subst, Some, List, [], ◌∷◌, ◌++◌, Option, refl, arith, rules}
-use Rattle.std.specs.FinMap as fin
-use Rattle.tape_types.specs.declared.moments.Moment.{Moment}
-use Rattle.plain_tree.specs.declared.calls.Call.{Call}
-use Rattle.file_tree.specs.declared.nodes.Node.{Node}
-use Rattle.file_tree.specs.declared.nodes.Kind.{Kind}
-use Rattle.file_tree.specs.Tree.{FileTree, Nodes, number_at, HasExtents, HasLaid}
-use Rattle.file_tree.specs.Valid.{IsGood}
-use Rattle.file_tree.specs.Changes.{IsChangedAt}
+use Rattle.file_tree.specs.Tree.{FileTree}
 use Rattle.file_tree.proofs.TreeLemmas.{good_same}
 use Rattle.file_tree.proofs.tree.Tree.reserve.Goals as goal
 

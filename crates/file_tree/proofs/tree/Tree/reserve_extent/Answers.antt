@@ -1,17 +1,7 @@
-use Rattle.std.proofs.Common.{◌≡◌, ℕ, ◌+◌, sym, ap, ◌∙◌, subst, Some, List, [], ◌∷◌, ◌++◌, Option, refl, arith, rules, OnOk, cond, eqb}
-use Rattle.std.specs.FinMap as fin
-use Rattle.plain_tree.specs.declared.calls.Call.TheVariants as asks
-use Rattle.plain_tree.specs.Paths.{moved_path}
-use Rattle.plain_tree.specs.Refusals.{refusal_of}
-use Rattle.extent_map.specs.Laid.{Laid, Room, overlaid, resized}
-use Rattle.extent_map.specs.Cells.{Tape}
-use Rattle.file_tree.specs.declared.nodes.Node.{Node}
-use Rattle.file_tree.specs.declared.nodes.Kind.{Kind}
-use Rattle.file_tree.specs.Tree.{FileTree, Nodes, number_at, StandsAt, HasExtents, HasLaid, plain_of, whole}
-use Rattle.file_tree.specs.Valid.{IsGood}
-use Rattle.file_tree.specs.Changes.{IsChangedAt, IsRoomier, HasRoom}
-use Rattle.file_tree.specs.Places.{IsThere}
-use Rattle.file_tree.specs.Edits.{CanMake, CanUnlink, CanMoveTo, CanWrite, IsAfter, IsWritten, IsTruncated, IsLongAt, NumbersCome, AllLie, OthersLie}
+use Rattle.std.proofs.Common.{ap, ◌∙◌, subst, refl, OnOk}
+use Rattle.file_tree.specs.Tree.{FileTree, plain_of}
+use Rattle.file_tree.specs.Changes.{HasRoom}
+use Rattle.file_tree.specs.Edits.{NumbersCome, AllLie}
 use Rattle.file_tree.proofs.WriteLemmas.{room_plain, room_numbers, room_lies, room_good, made_room}
 use Rattle.file_tree.proofs.tree.Tree.reserve_extent.Goals as goal
 
@@ -44,4 +34,3 @@ returns-clause-room c =
     let t : FileTree = record { highest = c.self.inside.highest; name = c.self.inside.volume; block_size = c.self.inside.block_size; nodes = c.self.inside.places.nodes; spare = c.self.inside.places.spare } in
     let next : FileTree = record { highest = c.self.inside.highest; name = c.self.inside.volume; block_size = c.self.inside.block_size; nodes = c.reserve_extent.new.self.nodes; spare = c.reserve_extent.new.self.spare } in
     made_room t.nodes next.nodes c.args.file c.reserve_extent.result c.reserve_extent.ensures.changed
-

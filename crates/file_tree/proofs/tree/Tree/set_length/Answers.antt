@@ -1,18 +1,8 @@
-use Rattle.std.proofs.Common.{◌≡◌, ℕ, ◌+◌, sym, ap, ◌∙◌, subst, Some, List, [], ◌∷◌, ◌++◌, Option, refl, arith, rules, OnOk, cond, eqb}
-use Rattle.std.specs.FinMap as fin
-use Rattle.plain_tree.specs.declared.calls.Call.TheVariants as asks
-use Rattle.plain_tree.specs.Paths.{moved_path}
-use Rattle.plain_tree.specs.Refusals.{refusal_of}
-use Rattle.extent_map.specs.Laid.{Laid, Room, overlaid, resized}
-use Rattle.extent_map.specs.Cells.{Tape}
-use Rattle.file_tree.specs.declared.nodes.Node.{Node}
-use Rattle.file_tree.specs.declared.nodes.Kind.{Kind}
-use Rattle.file_tree.specs.Tree.{FileTree, Nodes, number_at, StandsAt, HasExtents, HasLaid, plain_of, whole}
-use Rattle.file_tree.specs.Valid.{IsGood}
-use Rattle.file_tree.specs.Changes.{IsChangedAt, IsRoomier, HasRoom}
-use Rattle.file_tree.specs.Places.{IsThere}
-use Rattle.file_tree.specs.Edits.{CanMake, CanUnlink, CanMoveTo, CanWrite, IsAfter, IsWritten, IsTruncated, IsLongAt, NumbersCome, AllLie, OthersLie}
-use Rattle.file_tree.proofs.WriteLemmas.{length_truncates, length_good, same_length, long_is, same_lies, resized_lies, relaid_numbers, relaid_others, relaid_lies}
+use Rattle.std.proofs.Common.{ℕ, sym, subst, List, refl}
+use Rattle.extent_map.specs.Laid.{resized}
+use Rattle.file_tree.specs.Tree.{FileTree, StandsAt, HasExtents, HasLaid}
+use Rattle.file_tree.specs.Edits.{IsTruncated, IsLongAt, NumbersCome, OthersLie}
+use Rattle.file_tree.proofs.WriteLemmas.{length_truncates, length_good, same_length, long_is, resized_lies, relaid_numbers, relaid_others, relaid_lies}
 use Rattle.file_tree.proofs.tree.Tree.set_length.Goals as goal
 
 pub invariant_of-self : goal.invariant_of-self
@@ -62,4 +52,3 @@ returns-else-length_of-length-clause-plain c =
     let long : (path : List (List ℕ)) → StandsAt t path c.args.file → IsLongAt t.nodes path c.length_of.result = c.length_of.ensures in
     let h : HasExtents t.nodes c.args.file c.requires.file.0 = subst (λ (t : FileTree). HasExtents t.nodes c.args.file c.requires.file.0) (sym c.self.view_is) c.requires.file.1 in
     subst (λ (t : FileTree). IsTruncated c.args.file c.args.length c.args.at t t) c.self.view_is (same_length t c.args.file c.args.length c.args.at (subst (λ n. (path : List (List ℕ)) → StandsAt t path c.args.file → IsLongAt t.nodes path n) c.if-length_of-length.false long))
-

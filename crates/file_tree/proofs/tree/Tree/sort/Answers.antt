@@ -1,4 +1,4 @@
-use Rattle.std.proofs.Common.{sym, ap, ◌∙◌, Some}
+use Rattle.std.proofs.Common.{sym, ap, ◌∙◌}
 use Rattle.std.specs.FinMap as fin
 use Rattle.file_tree.specs.Tree.{FileTree, number_at}
 use Rattle.file_tree.proofs.tree.Tree.sort.Goals as goal

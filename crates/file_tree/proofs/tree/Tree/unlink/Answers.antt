@@ -1,17 +1,7 @@
-use Rattle.std.proofs.Common.{◌≡◌, ℕ, ◌+◌, sym, ap, ◌∙◌, subst, Some, List, [], ◌∷◌, ◌++◌, Option, refl, arith, rules, OnOk, cond, eqb}
-use Rattle.std.specs.FinMap as fin
+use Rattle.std.proofs.Common.{◌≡◌, sym, ap, ◌∙◌, subst, refl}
 use Rattle.plain_tree.specs.declared.calls.Call.TheVariants as asks
-use Rattle.plain_tree.specs.Paths.{moved_path}
-use Rattle.plain_tree.specs.Refusals.{refusal_of}
-use Rattle.extent_map.specs.Laid.{Laid, Room, overlaid, resized}
-use Rattle.extent_map.specs.Cells.{Tape}
-use Rattle.file_tree.specs.declared.nodes.Node.{Node}
-use Rattle.file_tree.specs.declared.nodes.Kind.{Kind}
-use Rattle.file_tree.specs.Tree.{FileTree, Nodes, number_at, StandsAt, HasExtents, HasLaid, plain_of, whole}
-use Rattle.file_tree.specs.Valid.{IsGood}
-use Rattle.file_tree.specs.Changes.{IsChangedAt, IsRoomier, HasRoom}
-use Rattle.file_tree.specs.Places.{IsThere}
-use Rattle.file_tree.specs.Edits.{CanMake, CanUnlink, CanMoveTo, CanWrite, IsAfter, IsWritten, IsTruncated, IsLongAt, NumbersCome, AllLie, OthersLie}
+use Rattle.file_tree.specs.Tree.{FileTree, number_at}
+use Rattle.file_tree.specs.Edits.{CanUnlink, IsAfter, OthersLie}
 use Rattle.file_tree.proofs.LeaveLemmas.{can_take, unlink_there, unlink_here, unlink_good, unlink_numbers, unlink_gone, unlink_lies}
 use Rattle.file_tree.proofs.tree.Tree.unlink.Goals as goal
 
@@ -62,4 +52,3 @@ returns-clause-extents c =
     let can : CanUnlink t c.args.number = subst (λ (t : FileTree). CanUnlink t c.args.number) (sym c.self.view_is) c.requires in
     let next : FileTree = record { highest = c.self.inside.highest; name = c.self.inside.volume; block_size = c.self.inside.block_size; nodes = c.change.new.self.nodes; spare = c.change.new.self.spare } in
     subst (λ (t : FileTree). OthersLie c.args.number t next) c.self.view_is (unlink_lies t c.self.invariant c.args.number c.args.at can next c.parent-dir.result c.take.new.self.nodes c.parent-dir.ensures.parent c.take.ensures.taken c.change.ensures.changed refl refl)
-
