@@ -19,4 +19,5 @@ mod tree;
 
 pub use found::Found;
 pub use laws::refusals_are_alike;
+pub use raws::Letters;
 pub use tree::Tree;
