@@ -18,13 +18,13 @@ use Rattle.plain_tree.proofs.MoveLemmas.{same_is, not_same}
 use Rattle.plain_tree.proofs.LinkLemmas.{name_exact}
 use Rattle.plain_tree.proofs.ListingLemmas.{child_name, line_says, cmp_children, exact}
 
-abbrev pair : Entry → List ℕ × Sort
+abbrev pub pair : Entry → List ℕ × Sort
 pair e = (e.name, e.sort)
 
-abbrev pairs : List Entry → List (List ℕ × Sort)
+abbrev pub pairs : List Entry → List (List ℕ × Sort)
 pairs es = map pair es
 
-abbrev sort_at : Option Node → Option Sort
+abbrev pub sort_at : Option Node → Option Sort
 sort_at o = option_map (λ (n : Node). sort_of n.kind) o
 
 unpaired : (es : List Entry) → map (λ (p : List ℕ × Sort). record { sort = p.1; name = p.0 }) (pairs es) ≡ es
@@ -79,10 +79,14 @@ is_T : (b : Bool) → b ≡ true → T b
 is_T true e = tt
 is_T false e = cc
 
+-- lines that ascend, and show of each name what the map has, are those of the listing
+pub listed : (es : List Entry) (m : Nodes) (dir : List (List ℕ)) → IsStrictlySortedBy name_cmp (map (λ (e : Entry). e.name) es) → ((q : List ℕ) → fin.find name_cmp q (pairs es) ≡ sort_at (fin.get m (dir ++ q ∷ []))) → es ≡ entries_in m dir
+listed es m dir ascend same =
+    let one : pairs es ≡ pairs (entries_in m dir) = fin.Entries.same_entries name_cmp nat_list_cmp_total name_exact (pairs es) (pairs (entries_in m dir))
+    (is_T _ (sorted_pairs es ascend)) (is_T _ (sorted_pairs (entries_in m dir) (exact m dir).ascends))
+    (λ q. same q ∙ ap sort_at (fin.get-entries m (dir ++ q ∷ [])) ∙ sym (found_entry (fin.entries m) dir q)) in
+    sym (unpaired es) ∙ ap (map (λ (p : List ℕ × Sort). record { sort = p.1; name = p.0 })) one ∙ unpaired (entries_in m dir)
+
 -- both have the same lines where they have the same nodes
 pub listed_same : (o : Option Names) (m : Nodes) (dir : List (List ℕ)) → IsStrictlySortedBy name_cmp (map (λ (e : Entry). e.name) (lines o)) → ((name : List ℕ) → fin.get m (dir ++ name ∷ []) ≡ under o name) → lines o ≡ entries_in m dir
-listed_same o m dir ascend same =
-    let one : pairs (lines o) ≡ pairs (entries_in m dir) = fin.Entries.same_entries name_cmp nat_list_cmp_total name_exact (pairs (lines o)) (pairs (entries_in m dir))
-    (is_T _ (sorted_pairs (lines o) ascend)) (is_T _ (sorted_pairs (entries_in m dir) (exact m dir).ascends))
-    (λ q. found_line o q ∙ ap sort_at (sym (same q) ∙ fin.get-entries m (dir ++ q ∷ [])) ∙ sym (found_entry (fin.entries m) dir q)) in
-    sym (unpaired (lines o)) ∙ ap (map (λ (p : List ℕ × Sort). record { sort = p.1; name = p.0 })) one ∙ unpaired (entries_in m dir)
+listed_same o m dir ascend same = listed (lines o) m dir ascend (λ q. found_line o q ∙ ap sort_at (sym (same q)))

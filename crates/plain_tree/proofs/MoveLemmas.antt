@@ -101,22 +101,22 @@ module _ (from to : List (List ℕ)) where
   back_below q = below_join from (drop (length to) q)
 
   -- the map of moved entries, path by path
-  find_moved : (es : List (List (List ℕ) × Node)) (q : List (List ℕ)) → ((x : List (List ℕ)) → list_any (same_path x) (map (λ e. e.0) es) ≡ true → is_at_or_below to x ≡ false)
+  pub find_moved : {X : Type 0} (es : List (List (List ℕ) × X)) (q : List (List ℕ)) → ((x : List (List ℕ)) → list_any (same_path x) (map (λ e. e.0) es) ≡ true → is_at_or_below to x ≡ false)
       → fin.find path_cmp q (map (λ e. (moved_path from to e.0, e.1)) es) ≡ cond (is_at_or_below to q) (fin.find path_cmp (back q) es) (cond (is_at_or_below from q) None (fin.find path_cmp q es))
-  find_moved [] q apart = nothing (is_at_or_below to q) (is_at_or_below from q)
+  find_moved {X} [] q apart = nothing (is_at_or_below to q) (is_at_or_below from q)
     where
-      nothing : (a b : Bool) → ◌≡◌ {A = Option Node} None (cond a None (cond b None None))
+      nothing : (a b : Bool) → ◌≡◌ {A = Option X} None (cond a None (cond b None None))
       nothing true b = refl
       nothing false true = refl
       nothing false false = refl
-  find_moved (e ∷ es) q apart =
+  find_moved {X} (e ∷ es) q apart =
       let away : is_at_or_below to e.0 ≡ false = apart e.0 (ap (λ b. b || list_any (same_path e.0) (map (λ e. e.0) es)) (same_self e.0)) in
       let ih = find_moved es q (λ x h. apart x (or_right (same_path x e.0) (list_any (same_path x) (map (λ e. e.0) es)) h)) in
       let step : (a b : Bool) → is_at_or_below to q ≡ a → is_at_or_below from q ≡ b → same_path q (moved_path from to e.0) ≡ cond a (same_path (back q) e.0) (cond b false (same_path q e.0)) = found e.0 q away in
       ap (cond (same_path q (moved_path from to e.0)) (Some e.1)) ih
       ∙ joined (is_at_or_below to q) (is_at_or_below from q) (same_path (back q) e.0) (same_path q e.0) (same_path q (moved_path from to e.0)) e.1 (fin.find path_cmp (back q) es) (fin.find path_cmp q es) (step (is_at_or_below to q) (is_at_or_below from q) refl refl)
     where
-      joined : (a b t u s : Bool) (v : Node) (x y : Option Node) → s ≡ cond a t (cond b false u) → cond s (Some v) (cond a x (cond b None y)) ≡ cond a (cond t (Some v) x) (cond b None (cond u (Some v) y))
+      joined : (a b t u s : Bool) (v : X) (x y : Option X) → s ≡ cond a t (cond b false u) → cond s (Some v) (cond a x (cond b None y)) ≡ cond a (cond t (Some v) x) (cond b None (cond u (Some v) y))
       joined true b t u s v x y is = ap (λ s. cond s (Some v) x) is
       joined false true t u s v x y is = ap (λ s. cond s (Some v) None) is
       joined false false t u s v x y is = ap (λ s. cond s (Some v) y) is

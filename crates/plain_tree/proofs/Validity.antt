@@ -34,7 +34,7 @@ use Rattle.plain_tree.proofs.NodeLemmas.{path_total, path_exact, changed_found, 
 use Rattle.plain_tree.proofs.MoveLemmas.{same_is, is_same, below_split, below_join, below_Decides, not_true, back, back_below, get_moved}
 
 -- a shape goes by the marks alone
-same_shape : (m n : List (List ℕ) → Option (ℕ × Bool)) (c d h : ℕ) → ((p : List (List ℕ)) → n p ≡ m p) → d ≤ c → IsShape m c h → IsShape n d h
+pub same_shape : (m n : List (List ℕ) → Option (ℕ × Bool)) (c d h : ℕ) → ((p : List (List ℕ)) → n p ≡ m p) → d ≤ c → IsShape m c h → IsShape n d h
 same_shape m n c d h same count s = record {
   root = same [] ∙ s.root;
   parents = λ p uid dir at some. let up = s.parents p uid dir (sym (same p) ∙ at) some in (up.0, same (parent_of p) ∙ up.1);
@@ -81,7 +81,7 @@ change_mark changes.Touch at node = refl
 change_mark changes.Note at node = refl
 change_mark (changes.Resize size) at node = file_mark (λ cells. resized cells size) at node
 
-file_keeps : (change : List Cell → List Cell) (at : Moment) (p : List (List ℕ)) (m : Nodes) (h : ℕ) → IsShape (mark_at m) (fin.len m) h → IsShape (mark_at (changed_at (file_changed change at) p m)) (fin.len (changed_at (file_changed change at) p m)) h
+pub file_keeps : (change : List Cell → List Cell) (at : Moment) (p : List (List ℕ)) (m : Nodes) (h : ℕ) → IsShape (mark_at m) (fin.len m) h → IsShape (mark_at (changed_at (file_changed change at) p m)) (fin.len (changed_at (file_changed change at) p m)) h
 file_keeps change at p m h s = changed_keeps (file_changed change at) (file_mark change at) p m h s
 
 shorter : (p : List (List ℕ)) → p ≢ [] → parent_of p ≢ p
@@ -145,10 +145,10 @@ not_some (Some x) e = cc
 pub not_root : (p : List (List ℕ)) → at_root p ≡ None → p ≢ []
 not_root p e is = let wrong : true ≡ false = sym (ap (λ q. eqb (length q) 0) is) ∙ not_refused (eqb (length p) 0) Root e in cc
 
-room_of : (t : Tree) → too_many t ≡ None → (fin.len t.nodes < 65536) × (t.highest < 2 ^ 62)
+pub room_of : (t : Tree) → too_many t ≡ None → (fin.len t.nodes < 65536) × (t.highest < 2 ^ 62)
 room_of t e = grind (arith, nat_tests)
 
-dir_there : (nodes : Nodes) (path : List (List ℕ)) → no_dir nodes path ≡ None → (up : ℕ) × (mark_at nodes path ≡ Some (up, true))
+pub dir_there : (nodes : Nodes) (path : List (List ℕ)) → no_dir nodes path ≡ None → (up : ℕ) × (mark_at nodes path ≡ Some (up, true))
 dir_there nodes path none = by (fin.get nodes path) refl
   where
     kind_is : (node : Node) (k : Kind) → fin.get nodes path ≡ Some node → node.kind ≡ k → is_dir node.kind ≡ true
@@ -160,7 +160,7 @@ dir_there nodes path none = by (fin.get nodes path) refl
     by None is = let wrong = rw is at none in cc
     by (Some node) is = (node.uid, ap mark_of is ∙ ap (λ b. Some (node.uid, b)) (kind_is node node.kind is refl))
 
-node_there : (nodes : Nodes) (path : List (List ℕ)) → no_node nodes path ≡ None → IsSome (fin.get nodes path)
+pub node_there : (nodes : Nodes) (path : List (List ℕ)) → no_node nodes path ≡ None → IsSome (fin.get nodes path)
 node_there nodes path none = by (fin.get nodes path) refl
   where
     by : (o : Option Node) → fin.get nodes path ≡ o → IsSome (fin.get nodes path)
@@ -278,7 +278,7 @@ found_listed (e ∷ es) dir q node below long found =
       | false ↦ λ other f. more_listed (entry_in dir (e.0, e.1)) (filter_map (entry_in dir) es) (found_listed es dir q node below long f)
     ] refl found
 
-child_listed : (m : Nodes) (dir q : List (List ℕ)) (node : Node) → fin.get m q ≡ Some node → q ≢ [] → parent_of q ≡ dir → true ≡ nat_lt 0 (length (entries_in m dir))
+pub child_listed : (m : Nodes) (dir q : List (List ℕ)) (node : Node) → fin.get m q ≡ Some node → q ≢ [] → parent_of q ≡ dir → true ≡ nat_lt 0 (length (entries_in m dir))
 child_listed m dir q node is some parent =
     let long : length q ≡ length dir + 1 = omega (arith, some_names q some, ap length parent, length-take (length q - 1) q) in
     found_listed (fin.entries m) dir q node
@@ -349,7 +349,7 @@ may_leave m path valid named there bare = record {
   up = parent_there m valid path (node_there m path there) named;
 }
 
-can_leave : (t : Tree) (path : List (List ℕ)) → IsValid t → refusal_of t (Remove path) ≡ None → CanLeave t.nodes path
+pub can_leave : (t : Tree) (path : List (List ℕ)) → IsValid t → refusal_of t (Remove path) ≡ None → CanLeave t.nodes path
 can_leave t path s free =
     let a = first_none (at_root path) _ free in
     let b = first_none (no_node t.nodes path) _ a.1 in

@@ -1,0 +1,129 @@
+-- What changes of the map leave of the plain tree, of numbers and of files.
+use Rattle.std.proofs.Common.{◌≡◌, ◌≢◌, ℕ, ◌-◌, true, false, cond, List, [], ◌∷◌, ◌++◌, length, drop, Some, None, sym, ap, ◌∙◌, refl, subst, arith, ⊎_elim}
+use Rattle.std.specs.Option.{option_map}
+use Rattle.std.specs.FinMap as fin
+use Rattle.std.proofs.lemmas.List.{length-append, take_at}
+use Rattle.plain_tree.specs.declared.nodes.Node as plain_node
+use Rattle.plain_tree.specs.Paths.{parent_of, is_at_or_below, moved_path}
+use Rattle.plain_tree.specs.Tree as plain
+use Rattle.plain_tree.proofs.NodeLemmas.{changed_found}
+use Rattle.plain_tree.proofs.SeenLemmas.{unlike}
+use Rattle.plain_tree.proofs.MoveLemmas.{below_split, not_true}
+use Rattle.extent_map.specs.Cells.{Tape}
+use Rattle.extent_map.specs.Laid.{Laid, Room}
+use Rattle.file_tree.specs.declared.nodes.Node.{Node}
+use Rattle.file_tree.specs.declared.nodes.Kind.TheVariants as kinds
+use Rattle.file_tree.specs.Tree.{Nodes, number_at, moved, HasLaid, plain_node_of, plain_nodes}
+use Rattle.file_tree.specs.Changes.{IsChangedAt}
+use Rattle.file_tree.specs.Valid.{IsFileOf, AreFilesOf}
+use Rattle.file_tree.proofs.PathLemmas.{get_here, get_other, gone_other, is_or_not, some_same, number_is, node_at}
+use Rattle.file_tree.proofs.PlainLemmas.{plain_get, plain_insert}
+use Rattle.file_tree.proofs.UpdateLemmas.{from_where, stay, come}
+
+pub parent_ends : (p : List (List ℕ)) (x : List ℕ) → parent_of (p ++ x ∷ []) ≡ p
+parent_ends p x = take_at p (x ∷ []) (length (p ++ x ∷ []) - 1) (omega (arith, length-append p (x ∷ [])))
+
+-- a node more
+module _ (m : Nodes) (p : List (List ℕ)) (node : Node) (free : fin.get m p ≡ None) where
+  other : (q : List (List ℕ)) (n : Node) → fin.get m q ≡ Some n → fin.get (fin.insert m p node) q ≡ Some n
+  other q n is = get_other m p q node (λ e. unlike (fin.get m p) n free (ap (fin.get m) (sym e) ∙ is)) ∙ is
+
+  pub put_numbers : (q : List (List ℕ)) (n : ℕ) → number_at m q ≡ Some n → number_at (fin.insert m p node) q ≡ Some n
+  put_numbers q n is = let a = node_at m q n is in ap (option_map (λ (n : Node). n.number)) (other q a.0 a.1) ∙ ap (λ k. Some k) a.2
+
+  pub put_lies : (n : ℕ) (f : Laid) → HasLaid m n f → HasLaid (fin.insert m p node) n f
+  put_lies n f h = record { path = h.path; node = h.node; there = other h.path h.node h.there; is = h.is; room = h.room; file = h.file; lies = h.lies }
+
+-- a node that is other now, at its path
+pub insert_files : (size : ℕ) (m : Nodes) (p : List (List ℕ)) (node : Node) → AreFilesOf size m → ((room : Room) → node.kind ≡ kinds.File room → IsFileOf size room.laid) → AreFilesOf size (fin.insert m p node)
+insert_files size m p node all this q n room is kind = ⊎_elim
+    (λ (e : q ≡ p). this room (ap (λ (k : Node). k.kind) (some_same node n (sym (get_here m p node) ∙ ap (fin.get (fin.insert m p node)) (sym e) ∙ is)) ∙ kind))
+    (λ apart. all q n room (sym (get_other m p q node apart) ∙ is) kind)
+    (is_or_not p q)
+
+module _ (m next : Nodes) (n : ℕ) (P : Node → Node → Type 0) (c : IsChangedAt m next n P) where
+  pub change_numbers : (q : List (List ℕ)) → number_at next q ≡ number_at m q
+  change_numbers q = ap (λ k. number_at k q) c.now ∙ ⊎_elim
+      (λ (e : q ≡ c.path). ap (number_at (fin.insert m c.path c.new)) e ∙ number_is (fin.insert m c.path c.new) c.path c.new (get_here m c.path c.new) ∙ ap (λ k. Some k) c.kept ∙ sym (number_is m c.path c.old c.there) ∙ ap (number_at m) (sym e))
+      (λ apart. ap (option_map (λ (n : Node). n.number)) (get_other m c.path q c.new apart))
+      (is_or_not c.path q)
+
+  pub change_plain : (tape : Tape) (g : plain_node.Node → plain_node.Node) → plain_node_of tape c.new ≡ g (plain_node_of tape c.old) → plain_nodes tape next ≡ plain.changed_at g c.path (plain_nodes tape m)
+  change_plain tape g is =
+      ap (plain_nodes tape) c.now ∙ plain_insert tape m c.path c.new ∙ ap (fin.insert (plain_nodes tape m) c.path) is
+      ∙ sym (changed_found g c.path (plain_nodes tape m) (plain_node_of tape c.old) (plain_get tape m c.path ∙ ap (option_map (plain_node_of tape)) c.there))
+
+  -- a file elsewhere lies as it did
+  pub change_others : (k : ℕ) (f : Laid) → k ≢ n → HasLaid m k f → HasLaid next k f
+  change_others k f apart h = record {
+    path = h.path;
+    node = h.node;
+    there = ap (λ l. fin.get l h.path) c.now
+        ∙ get_other m c.path h.path c.new (λ e. apart (sym h.is ∙ ap (λ (k : Node). k.number) (some_same h.node c.old (sym h.there ∙ ap (fin.get m) e ∙ c.there)) ∙ c.is)) ∙ h.there;
+    is = h.is;
+    room = h.room;
+    file = h.file;
+    lies = h.lies;
+  }
+
+  -- and so does the one that is changed, where it stays what it is
+  pub change_lies : c.new.kind ≡ c.old.kind → (k : ℕ) (f : Laid) → HasLaid m k f → HasLaid next k f
+  change_lies same k f h = ⊎_elim
+      (λ (e : h.path ≡ c.path).
+      let old_is : h.node ≡ c.old = some_same h.node c.old (sym h.there ∙ ap (fin.get m) e ∙ c.there) in
+      record {
+        path = h.path;
+        node = c.new;
+        there = ap (λ l. fin.get l h.path) c.now ∙ ap (fin.get (fin.insert m c.path c.new)) e ∙ get_here m c.path c.new;
+        is = c.kept ∙ ap (λ (k : Node). k.number) (sym old_is) ∙ h.is;
+        room = h.room;
+        file = same ∙ ap (λ (k : Node). k.kind) (sym old_is) ∙ h.file;
+        lies = h.lies;
+      })
+      (λ apart. record {
+        path = h.path;
+        node = h.node;
+        there = ap (λ l. fin.get l h.path) c.now ∙ get_other m c.path h.path c.new apart ∙ h.there;
+        is = h.is;
+        room = h.room;
+        file = h.file;
+        lies = h.lies;
+      })
+      (is_or_not c.path h.path)
+
+  pub change_files : (size : ℕ) → AreFilesOf size m → ((room : Room) → c.new.kind ≡ kinds.File room → IsFileOf size room.laid) → AreFilesOf size next
+  change_files size all this = subst (λ l. AreFilesOf size l) (sym c.now) (insert_files size m c.path c.new all this)
+
+  pub change_files_same : (size : ℕ) → c.new.kind ≡ c.old.kind → AreFilesOf size m → AreFilesOf size next
+  change_files_same size same all = change_files size all (λ room is. all c.path c.old room c.there (sym same ∙ is))
+
+-- a node less
+pub remove_files : (size : ℕ) (m : Nodes) (p : List (List ℕ)) → AreFilesOf size m → AreFilesOf size (fin.remove m p)
+remove_files size m p all q n room is kind = ⊎_elim
+    (λ (e : q ≡ p). absurd (unlike (fin.get (fin.remove m p) q) n (ap (fin.get (fin.remove m p)) e ∙ gone m p) is))
+    (λ apart. all q n room (sym (gone_other m p q apart) ∙ is) kind)
+    (is_or_not p q)
+  where
+    gone : (m : Nodes) (p : List (List ℕ)) → fin.get (fin.remove m p) p ≡ None
+    gone m p = Rattle.file_tree.proofs.PathLemmas.gone_here m p
+
+pub remove_numbers : (m : Nodes) (p : List (List ℕ)) (n : ℕ) → ((q : List (List ℕ)) → number_at m q ≡ Some n → q ≡ p) → (q : List (List ℕ)) (k : ℕ) → number_at m p ≡ Some n → number_at m q ≡ Some k → k ≢ n → number_at (fin.remove m p) q ≡ Some k
+remove_numbers m p n only q k there is apart =
+    ap (option_map (λ (n : Node). n.number)) (gone_other m p q (λ e. apart (some_same k n (sym is ∙ ap (number_at m) e ∙ there)))) ∙ is
+
+-- a move
+module _ (m : Nodes) (from to : List (List ℕ)) (free : (x : List (List ℕ)) → is_at_or_below to x ≡ true → fin.get m x ≡ None) where
+  pub move_files : (size : ℕ) → AreFilesOf size m → AreFilesOf size (moved from to m)
+  move_files size all q n room is kind = ⊎_elim
+      (λ (here : (r : List (List ℕ)) × (q ≡ to ++ r) × (fin.get m (from ++ r) ≡ Some n)). all (from ++ here.0) n room here.2 kind)
+      (λ (was : (is_at_or_below to q ≡ false) × (is_at_or_below from q ≡ false) × (fin.get m q ≡ Some n)). all q n room was.2 kind)
+      (from_where m from to free q n is)
+
+  pub node_moves : (q : List (List ℕ)) (n : Node) → fin.get m q ≡ Some n → fin.get (moved from to m) (moved_path from to q) ≡ Some n
+  node_moves q n is = elim (is_at_or_below from q) as (λ b. is_at_or_below from q ≡ b → fin.get (moved from to m) (cond b (to ++ drop (length from) q) q) ≡ Some n) [
+    | true ↦ λ below. come m from to free (drop (length from) q) ∙ ap (fin.get m) (sym (below_split from q below)) ∙ is
+    | false ↦ λ other. stay m from to free q (not_true (is_at_or_below to q) (λ e. unlike (fin.get m q) n (free q e) is)) other ∙ is
+  ] refl
+
+  pub number_moves : (q : List (List ℕ)) (n : ℕ) → number_at m q ≡ Some n → number_at (moved from to m) (moved_path from to q) ≡ Some n
+  number_moves q n is = let node = node_at m q n is in number_is (moved from to m) (moved_path from to q) node.0 (node_moves q node.0 node.1) ∙ ap (λ k. Some k) node.2

@@ -1,0 +1,22 @@
+use Rattle.std.proofs.Common.{◌∙◌, Some}
+use Rattle.std.proofs.lemmas.List.{length-set}
+use Rattle.file_tree.specs.declared.nodes.Spot.{Spot}
+use Rattle.file_tree.proofs.PlaceLemmas.{held_or, held_within, set_kept, used_same}
+use Rattle.file_tree.proofs.spots.change_spot.Goals as goal
+
+pub returns-clause-changed : goal.returns-clause-changed
+returns-clause-changed c =
+    let spots = c.args.spots.now.items in
+    let lt = held_within spots c.args.number c.requires.there in
+    let new : Spot = record { parent = c.in-Some.spot.parent; name = c.in-Some.spot.name; node = c.change_node.new.node } in
+    let was = held_or spots c.args.number c.index_mut.result.now lt c.index_mut.ensures.value ∙ c.in-Some.is in
+    record {
+      old = c.in-Some.spot;
+      new = c.change_node.new.node;
+      was = was;
+      changed = c.change_node.ensures.changed;
+      same = c.change_node.ensures.number;
+      kept = set_kept spots c.args.number (Some new) lt;
+      filled = used_same spots c.args.number c.in-Some.spot new was;
+      long = length-set spots c.args.number (Some new);
+    }

@@ -1,0 +1,107 @@
+-- What calls on the tree need, and what they leave.
+use Rattle.std.specs.Prelude.{◌≡◌, ◌≢◌, ◌⊎◌, ℕ, ◌≤◌, List, [], ◌∷◌, ◌++◌, Option, Some, None}
+use Rattle.std.specs.FinMap as fin
+use Rattle.tape_types.specs.declared.moments.Moment.{Moment}
+use Rattle.tape_types.specs.declared.cartridges.Extent.{Extent}
+use Rattle.plain_tree.specs.declared.calls.Call.{Call}
+use Rattle.plain_tree.specs.declared.calls.Call.TheVariants as asks
+use Rattle.plain_tree.specs.declared.calls.Refusal.TheVariants as refusals
+use Rattle.plain_tree.specs.declared.calls.Sort.{Sort}
+use Rattle.plain_tree.specs.declared.calls.Sort.TheVariants as sorts
+use Rattle.plain_tree.specs.Refusals.{refusal_of}
+use Rattle.plain_tree.specs.Calls.{after, with_length}
+use Rattle.plain_tree.specs.Cells.{written}
+use Rattle.plain_tree.specs.Tree as plain
+use Rattle.extent_map.specs.Laid.{Laid, Room}
+use Rattle.extent_map.specs.Cells.{Tape, cells_of}
+use Rattle.file_tree.specs.declared.nodes.Node.{Node}
+use Rattle.file_tree.specs.declared.nodes.Kind.{Kind}
+use Rattle.file_tree.specs.declared.nodes.Kind.TheVariants as kinds
+use Rattle.file_tree.specs.Changes.{CanOverlay}
+use Rattle.file_tree.specs.Tree.{Nodes, FileTree, StandsAt, HasExtents, HasLaid, plain_of, whole}
+
+-- the call that makes a node of a sort; none makes a link
+abbrev pub making : Sort → List (List ℕ) → Option Call
+making sorts.Dir path = Some (asks.Mkdir path)
+making sorts.File path = Some (asks.Create path)
+making sorts.Link path = None
+
+-- a node of this sort can be made under this name in the directory with this number, for which there is memory
+pub record CanMake (t : FileTree) (dir : ℕ) (name : List ℕ) (sort : Sort) : Type 0 where
+  pub path : List (List ℕ)
+  pub stands : StandsAt t path dir
+  pub call : Call
+  pub made_by : making sort (path ++ name ∷ []) ≡ Some call
+  pub free : refusal_of (plain_of whole t) call ≡ None
+  pub room : 1 ≤ t.spare
+
+-- what a new node of a sort is: a file has no bytes
+abbrev pub IsNewKind : ℕ → Sort → Kind → Type 0
+IsNewKind size sorts.Dir kind = kind ≡ kinds.Dir
+IsNewKind size sorts.File kind = (room : Room) × (kind ≡ kinds.File room) × (room.laid ≡ record { block_size = size; length = 0; extents = [] })
+IsNewKind size sorts.Link kind = kind ≡ kinds.Dir
+
+-- at the path stands a file of this length
+pub record IsLongAt (nodes : Nodes) (path : List (List ℕ)) (length : ℕ) : Type 0 where
+  pub node : Node
+  pub room : Room
+  pub there : fin.get nodes path ≡ Some node
+  pub file : node.kind ≡ kinds.File room
+  pub long : room.laid.length ≡ length
+
+-- the extent can be put into the file with this number, for which there is memory
+pub record CanWrite (t : FileTree) (file : ℕ) (new : Extent) : Type 0 where
+  pub room : Room
+  pub extents : HasExtents t.nodes file room
+  pub can : CanOverlay room new
+
+-- the node with this number can be removed
+pub record CanUnlink (t : FileTree) (number : ℕ) : Type 0 where
+  pub path : List (List ℕ)
+  pub stands : StandsAt t path number
+  pub free : refusal_of (plain_of whole t) (asks.Remove path) ≡ None
+
+-- the node with this number can be renamed to another path, under this name in the directory with this number
+pub record CanMoveTo (t : FileTree) (number dir : ℕ) (name : List ℕ) : Type 0 where
+  pub path : List (List ℕ)
+  pub up : List (List ℕ)
+  pub stands : StandsAt t path number
+  pub dir_stands : StandsAt t up dir
+  pub free : refusal_of (plain_of whole t) (asks.Rename path (up ++ name ∷ [])) ≡ None
+  pub apart : path ≢ up ++ name ∷ []
+
+-- whatever stands on tape, the tree is what the plain tree is after the call
+abbrev pub IsAfter : Call → Moment → FileTree → FileTree → Type 0
+IsAfter call at before next = (tape : Tape) → plain_of tape next ≡ after (plain_of tape before) call at
+
+-- whatever stands on tape, the extent's bytes are written into the file at each path that has its number, and it is touched
+abbrev pub IsWritten : ℕ → Extent → Moment → FileTree → FileTree → Type 0
+IsWritten file new at before next = (tape : Tape) (path : List (List ℕ)) → StandsAt before path file
+    → plain_of tape next ≡ record (plain_of tape before) { nodes = plain.changed_at (plain.file_changed (λ cells. written cells new.offset (cells_of tape before.block_size new)) at) path (plain_of tape before).nodes }
+
+-- whatever stands on tape, the file has this length, as a truncation leaves it
+abbrev pub IsTruncated : ℕ → ℕ → Moment → FileTree → FileTree → Type 0
+IsTruncated file length at before next = (tape : Tape) (path : List (List ℕ)) → StandsAt before path file → plain_of tape next ≡ with_length (plain_of tape before) path length at
+
+-- the volume's name and the bytes of a block stay
+pub record KeepsVolume (before next : FileTree) : Type 0 where
+  pub name : next.name ≡ before.name
+  pub block_size : next.block_size ≡ before.block_size
+
+-- each number that stood at a path stands at the path that it comes to
+abbrev pub NumbersCome : (List (List ℕ) → List (List ℕ)) → FileTree → FileTree → Type 0
+NumbersCome to before next = (path : List (List ℕ)) (number : ℕ) → StandsAt before path number → StandsAt next (to path) number
+
+-- each file lies as it did, but for the one with this number
+abbrev pub OthersLie : ℕ → FileTree → FileTree → Type 0
+OthersLie but before next = (number : ℕ) (laid : Laid) → number ≢ but → HasLaid before.nodes number laid → HasLaid next.nodes number laid
+
+-- each file lies as it did
+abbrev pub AllLie : FileTree → FileTree → Type 0
+AllLie before next = (number : ℕ) (laid : Laid) → HasLaid before.nodes number laid → HasLaid next.nodes number laid
+
+-- a refusal is that of a tape that has lost nothing, or tells of a lost byte where that tape would refuse nothing
+abbrev pub RefusalsAreAlike : Type 0
+RefusalsAreAlike = (tape : Tape) (t : FileTree) (call : Call)
+    → (refusal_of (plain_of tape t) call ≡ refusal_of (plain_of whole t) call)
+    ⊎ ((refusal_of (plain_of tape t) call ≡ Some refusals.Damaged) × (refusal_of (plain_of whole t) call ≡ None))

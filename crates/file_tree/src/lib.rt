@@ -1,0 +1,23 @@
+//! The tree of a volume while the server runs: its files as extents (LTFS 2.4 on the index).
+#![tactic(auto)]
+
+mod changes;
+mod checks;
+mod found;
+mod laws;
+mod listing;
+mod mount;
+mod nodes;
+mod places;
+#[cfg(test)]
+mod play;
+mod raws;
+mod spots;
+#[cfg(test)]
+mod tests;
+mod tree;
+
+pub use found::Found;
+pub use laws::refusals_are_alike;
+pub use raws::Letters;
+pub use tree::Tree;

@@ -1,0 +1,97 @@
+ghost use Rattle.std.specs.Prelude.{◌≡◌, ◌+◌, ◌<◌, length, OnOk, IfOk};
+ghost use Rattle.file_tree.specs.Mounts.{IsKindOf, IsNodeOf, IsBuilt, AreTold};
+ghost use Rattle.file_tree.specs.Raws.{CanKeep, LiesWell};
+ghost use Rattle.file_tree.specs.Valid.{AreFilesOf};
+
+use crate::nodes::{Kind, Node};
+use crate::places::Places;
+use crate::raws::{Letters, extents_from};
+use index_model::{Kind as ToldKind, Node as ToldNode};
+use std::alloc::Global;
+use tape_types::NoMemory;
+
+/// The nodes of an index, each under the number of its place.
+pub fn place_nodes(
+    alloc: Global,
+    nodes: &[ToldNode],
+    letters: Letters,
+    block_size: u32,
+) -> Result<Places, NoMemory>
+    requires { AreTold letters block_size nodes.now }
+    ensures built { IfOk result (λ places. IsBuilt letters block_size nodes.now (length nodes.now) places.nodes) }
+    ensures files { IfOk result (λ places. AreFilesOf block_size places.nodes) }
+{
+    let root = node_from(alloc, &nodes[0], letters, block_size)?;
+    let mut places = Places::new(alloc, root)?;
+    for at in 1..nodes.len() {
+        add_node(&mut places, alloc, nodes, at, letters, block_size)?;
+    }
+    Ok(places)
+}
+
+/// Puts the node at a place of an index behind those before it.
+fn add_node(
+    places: &mut Places,
+    alloc: Global,
+    nodes: &[ToldNode],
+    at: usize,
+    letters: Letters,
+    block_size: u32,
+) -> Result<(), NoMemory>
+    requires told { AreTold letters block_size nodes.now }
+    requires behind { 0 < at }
+    requires within { at < length nodes.now }
+    requires built { IsBuilt letters block_size nodes.now at places.old.nodes }
+    requires slots { places.old.slots ≡ at }
+    requires files { AreFilesOf block_size places.old.nodes }
+    ensures built { OnOk result (IsBuilt letters block_size nodes.now (at + 1) places.new.nodes) }
+    ensures slots { OnOk result (places.new.slots ≡ at + 1) }
+    ensures files { OnOk result (AreFilesOf block_size places.new.nodes) }
+{
+    let told = &nodes[at];
+    let node = node_from(alloc, told, letters, block_size)?;
+    let name = told.name.try_clone(alloc)?;
+    places.append(told.parent, name, node)
+}
+
+/// The node that is told. Its number is given when it is put into the tree, or 0.
+fn node_from(
+    alloc: Global,
+    told: &ToldNode,
+    letters: Letters,
+    block_size: u32,
+) -> Result<Node, NoMemory>
+    requires { CanKeep letters block_size told.now.kind }
+    ensures node { IfOk result (λ node. IsNodeOf letters block_size told.now node) }
+    ensures number { IfOk result (λ node. node.number ≡ 0) }
+    ensures files { IfOk result (λ node. LiesWell block_size node.kind) }
+{
+    let kind = kind_from(alloc, &told.kind, letters, block_size)?;
+    Ok(Node {
+        number: 0,
+        uid: told.uid,
+        times: told.times,
+        readonly: told.readonly,
+        kind,
+    })
+}
+
+fn kind_from(
+    alloc: Global,
+    told: &ToldKind,
+    letters: Letters,
+    block_size: u32,
+) -> Result<Kind, NoMemory>
+    requires { CanKeep letters block_size told.now }
+    ensures kind { IfOk result (λ kind. IsKindOf letters block_size told.now kind) }
+    ensures files { IfOk result (λ kind. LiesWell block_size kind) }
+{
+    match told {
+        ToldKind::Dir => Ok(Kind::Dir),
+        ToldKind::File { length, extents } => {
+            let extents = extents_from(alloc, extents.as_slice(), *length, letters, block_size)?;
+            Ok(Kind::File(extents))
+        }
+        ToldKind::Link { text } => Ok(Kind::Link(text.try_clone(alloc)?)),
+    }
+}

@@ -1,0 +1,310 @@
+ghost use Rattle.std.specs.Prelude.{◌≡◌, ℕ, ◌≤◌, List, Some, false};
+ghost use Rattle.extent_map.specs.Laid.{Room};
+ghost use Rattle.plain_tree.specs.Tree.{times_at};
+ghost use Rattle.file_tree.specs.Tree.{HasExtents, number_at};
+ghost use Rattle.file_tree.specs.Edits.{IsNewKind, IsLongAt};
+
+use crate::changes::Change;
+use crate::checks::check_call;
+use crate::found::{Found, facts_of, lost_below, sort_of};
+use crate::mount::place_nodes;
+use crate::nodes::{Kind, Node};
+use crate::places::Places;
+use crate::raws::Letters;
+use extent_map::Extents;
+use index_model::Index;
+use plain_tree::{Call, Entry, Facts, Refusal, Sort};
+use std::alloc::Global;
+use std::marker::Model;
+use tape_types::{Extent, List, Moment, NoMemory, Text, Times};
+
+/// The tree of a volume while the server runs: directories, files as extents, and links (LTFS 2.4 on the index). Each
+/// node has a number as long as it is there.
+#[derive(Drop)]
+pub struct Tree {
+    places: Places,
+    volume: Text,
+    block_size: u32,
+    highest: u64,
+    alloc: Global,
+}
+
+impl Model for Tree {
+    ghost use Rattle.std.specs.Prelude.{ℕ, List, refl};
+    ghost use Rattle.std.specs.FinMap as fin;
+    ghost use Rattle.std.specs.Coded.{coded_list, coded_ℕ, coded×, code_by};
+    ghost use Rattle.plain_tree.specs.Paths.{path_cmp};
+    ghost use Rattle.file_tree.specs.declared.nodes.Node.{Node};
+    ghost use Rattle.file_tree.specs.contracts.nodes.Node as node;
+    ghost use Rattle.file_tree.specs.Tree.{FileTree};
+    ghost use Rattle.file_tree.specs.Valid.{IsGood};
+
+    ghost Value = { FileTree };
+
+    ghost coded = { code_by (ℕ × (List ℕ × (ℕ × (fin.FinMap path_cmp Node × ℕ))))
+        (coded× coded_ℕ (coded× (coded_list coded_ℕ) (coded× coded_ℕ (coded× (fin.code (coded_list (coded_list coded_ℕ)) node.the_row.coded) coded_ℕ))))
+        (λ t. (t.highest, (t.name, (t.block_size, (t.nodes, t.spare)))))
+        (λ p. record { highest = p.0; name = p.1.0; block_size = p.1.1.0; nodes = p.1.1.1.0; spare = p.1.1.1.1 }) (λ _. refl) };
+
+    ghost view = { λ a. record { highest = a.highest; name = a.volume; block_size = a.block_size; nodes = a.places.nodes; spare = a.places.spare } };
+
+    ghost invariant = { λ a. IsGood (record { highest = a.highest; name = a.volume; block_size = a.block_size; nodes = a.places.nodes; spare = a.places.spare }) };
+}
+
+impl Tree {
+    ghost use Rattle.std.specs.Prelude.{◌≡◌, ◌≢◌, ℕ, ◌+◌, ◌^◌, ◌≤◌, ◌==◌, if◌then◌else◌, nat_lt, length, List, [], ◌∷◌, ◌++◌, Some, OnOk, IfOk};
+    ghost use Rattle.std.specs.FinMap as fin;
+    ghost use Rattle.extent_map.specs.Laid.{Laid, Room, overlaid, resized};
+    ghost use Rattle.extent_map.specs.Cells.{Tape};
+    ghost use Rattle.plain_tree.specs.declared.calls.Call.TheVariants as asks;
+    ghost use Rattle.plain_tree.specs.Paths.{moved_path};
+    ghost use Rattle.file_tree.specs.Tree.{StandsAt, HasExtents, HasLaid, plain_of, whole};
+    ghost use Rattle.plain_tree.specs.declared.nodes.Node.{Node as PlainNode};
+    ghost use Rattle.plain_tree.specs.Tree.{entries_in, facts_of};
+    ghost use Rattle.plain_tree.specs.Refusals.{no_node, refusal_of};
+    ghost use Rattle.file_tree.specs.Places.{IsThere};
+    ghost use Rattle.file_tree.specs.Mounts.{CanMount, IsTreeOf};
+    ghost use Rattle.file_tree.specs.Reads.{IsFound, refusal_found, IsOfSort};
+    ghost use Rattle.file_tree.specs.Valid.{IsFileOf};
+    ghost use Rattle.file_tree.specs.Edits.{CanMake, CanUnlink, CanMoveTo, CanWrite, IsAfter, IsWritten, IsTruncated, NumbersCome, AllLie, OthersLie, KeepsVolume};
+
+    /// The tree of a valid index. The letters are those of the index partition and the data partition, and each block of
+    /// the volume has so many bytes. The extents that have bytes are on one of these partitions.
+    pub fn from_index(
+        alloc: Global,
+        index: &Index,
+        letters: Letters,
+        block_size: u32,
+    ) -> Result<Tree, NoMemory>
+        requires { CanMount index.now letters block_size }
+        ensures { IfOk result (λ t. IsTreeOf letters block_size index.now t) }
+    {
+        let nodes = index.nodes.as_slice();
+        let places = place_nodes(alloc, nodes, letters, block_size)?;
+        let volume = nodes[0].name.try_clone(alloc)?;
+        Ok(Tree {
+            places,
+            volume,
+            block_size,
+            highest: index.highest,
+            alloc,
+        })
+    }
+
+    /// The highest uid that was ever given.
+    pub fn highest(&self) -> u64
+        ensures { result ≡ self.now.highest }
+    {
+        self.highest
+    }
+
+    /// How many nodes there are, the root among them.
+    pub fn count(&self) -> u32
+        ensures count { result ≡ fin.len self.now.nodes }
+        ensures apart { (p q : List (List ℕ)) (number : ℕ) → StandsAt self.now p number → StandsAt self.now q number → p ≡ q }
+    {
+        self.places.len()
+    }
+
+    /// What a path leads to.
+    pub fn find(&self, path: &[Text]) -> Found
+        ensures number { IsFound self.now path.now result }
+        ensures refusal { (tape : Tape) → no_node (plain_of tape self.now).nodes path.now ≡ refusal_found result }
+    {
+        match self.places.find(path) {
+            Ok(number) => Found::Node(number),
+            Err(last) => lost_below(&self.places.node(last).kind),
+        }
+    }
+
+    /// What a node is.
+    pub fn sort(&self, number: u32) -> Sort
+        requires { IsThere self.now.nodes number }
+        ensures { IsOfSort self.now number result }
+    {
+        sort_of(&self.places.node(number).kind)
+    }
+
+    /// The facts of a node.
+    pub fn facts(&self, alloc: Global, number: u32) -> Result<Facts, NoMemory>
+        requires { IsThere self.now.nodes number }
+        ensures { IfOk result (λ facts. (tape : Tape) (path : List (List ℕ)) (node : PlainNode) → StandsAt self.now path number → fin.get (plain_of tape self.now).nodes path ≡ Some node → facts ≡ facts_of node) }
+    {
+        facts_of(alloc, self.places.node(number))
+    }
+
+    /// Whether anything stands directly in a directory.
+    pub fn has_entries(&self, dir: u32) -> bool
+        requires { IsThere self.now.nodes dir }
+        ensures { (path : List (List ℕ)) → StandsAt self.now path dir → result ≡ nat_lt 0 (length (entries_in (plain_of whole self.now).nodes path)) }
+    {
+        self.places.has_entries(dir)
+    }
+
+    /// What stands directly in a directory, by the bytes of the names.
+    pub fn children(&self, alloc: Global, dir: u32) -> Result<List<Entry>, NoMemory>
+        requires { IsThere self.now.nodes dir }
+        ensures { IfOk result (λ entries. (tape : Tape) (path : List (List ℕ)) → StandsAt self.now path dir → entries ≡ entries_in (plain_of tape self.now).nodes path) }
+    {
+        self.places.list(alloc, dir)
+    }
+
+    /// Why a call is refused, where no byte is lost on the tape.
+    pub fn check(&self, alloc: Global, call: &Call) -> Result<Option<Refusal>, NoMemory>
+        ensures { IfOk result (λ refusal. refusal ≡ refusal_of (plain_of whole self.now) call.now) }
+    {
+        check_call(self, alloc, call)
+    }
+
+    /// Makes room for one more node.
+    pub fn reserve(&mut self) -> Result<(), NoMemory>
+        ensures nodes { self.new.nodes ≡ self.old.nodes }
+        ensures highest { self.new.highest ≡ self.old.highest }
+        ensures volume { KeepsVolume self.old self.new }
+        ensures room { OnOk result (1 ≤ self.new.spare) }
+    {
+        self.places.reserve()
+    }
+
+    /// Makes an empty directory or file under a name in a directory, and gives its number. Needs one `reserve` before,
+    /// and takes no memory.
+    pub fn make(&mut self, dir: u32, name: Text, sort: Sort, at: Moment) -> u32
+        requires { CanMake self.old dir name sort }
+        ensures plain { (c : CanMake self.old dir name sort) → IsAfter c.call at self.old self.new }
+        ensures number { (path : List (List ℕ)) → StandsAt self.old path dir → StandsAt self.new (path ++ name ∷ []) result }
+        ensures numbers { NumbersCome (λ p. p) self.old self.new }
+        ensures extents { AllLie self.old self.new }
+        ensures empty { sort ≡ Sort.File → HasLaid self.new.nodes result (record { block_size = self.old.block_size; length = 0; extents = [] }) }
+        ensures volume { KeepsVolume self.old self.new }
+        ensures room { self.old.spare ≤ self.new.spare + 1 }
+    {
+        let uid = self.highest + 1;
+        let kind = new_kind(self.alloc, sort, self.block_size);
+        let node = new_node(uid, kind, at);
+        let number = self.places.put(dir, name, node);
+        self.places.change(dir, Change::Touch, at);
+        self.highest = uid;
+        number
+    }
+
+    /// Takes out a file, a link or an empty directory. Takes no memory.
+    pub fn unlink(&mut self, number: u32, at: Moment)
+        requires { CanUnlink self.old number }
+        ensures plain { (path : List (List ℕ)) → StandsAt self.old path number → IsAfter (asks.Remove path) at self.old self.new }
+        ensures gone { (path : List (List ℕ)) → StandsAt self.new path number → ⊥ }
+        ensures numbers { (path : List (List ℕ)) (other : ℕ) → other ≢ number → StandsAt self.old path other → StandsAt self.new path other }
+        ensures extents { OthersLie number self.old self.new }
+        ensures volume { KeepsVolume self.old self.new }
+        ensures room { self.new.spare ≡ self.old.spare }
+    {
+        let dir = self.places.parent(number);
+        self.places.take(number);
+        self.places.change(dir, Change::Touch, at);
+    }
+
+    /// Moves a node, and all below it, under a name into a directory. Takes no memory.
+    pub fn move_to(&mut self, number: u32, dir: u32, name: Text, at: Moment)
+        requires { CanMoveTo self.old number dir name }
+        ensures plain { (from up : List (List ℕ)) → StandsAt self.old from number → StandsAt self.old up dir → IsAfter (asks.Rename from (up ++ name ∷ [])) at self.old self.new }
+        ensures numbers { (from up : List (List ℕ)) → StandsAt self.old from number → StandsAt self.old up dir → NumbersCome (moved_path from (up ++ name ∷ [])) self.old self.new }
+        ensures extents { AllLie self.old self.new }
+        ensures volume { KeepsVolume self.old self.new }
+        ensures room { self.new.spare ≡ self.old.spare }
+    {
+        let old = self.places.parent(number);
+        self.places.shift(number, dir, name);
+        self.places.change(number, Change::Note, at);
+        self.places.change(old, Change::Touch, at);
+        self.places.change(dir, Change::Touch, at);
+    }
+
+    /// The extents of a file.
+    pub fn extents(&self, file: u32) -> &Extents
+        requires { (room : Room) × HasExtents self.now.nodes file room }
+        ensures extents { HasExtents self.now.nodes file result.now }
+        ensures laid { IsFileOf self.now.block_size result.now.laid }
+    {
+        match &self.places.node(file).kind {
+            Kind::File(extents) => extents,
+            Kind::Dir | Kind::Link(_) => unreachable!(),
+        }
+    }
+
+    /// Makes room for one overlay of a file.
+    pub fn reserve_extent(&mut self, file: u32) -> Result<(), NoMemory>
+        requires { (room : Room) × HasExtents self.old.nodes file room }
+        ensures plain { (tape : Tape) → plain_of tape self.new ≡ plain_of tape self.old }
+        ensures numbers { NumbersCome (λ p. p) self.old self.new }
+        ensures extents { AllLie self.old self.new }
+        ensures room { OnOk result ((room : Room) → HasExtents self.new.nodes file room → 2 ≤ room.spare) }
+        ensures volume { KeepsVolume self.old self.new }
+        ensures spare { self.new.spare ≡ self.old.spare }
+    {
+        self.places.reserve_extent(file)
+    }
+
+    /// Puts an extent in place of what a file has in its range, and makes the file longer where it ends past it. Needs
+    /// one `reserve_extent` before, and takes no memory.
+    pub fn overlay(&mut self, file: u32, new: Extent, at: Moment)
+        requires { CanWrite self.old file new }
+        ensures plain { IsWritten file new at self.old self.new }
+        ensures numbers { NumbersCome (λ p. p) self.old self.new }
+        ensures extents { (laid : Laid) → HasLaid self.old.nodes file laid → HasLaid self.new.nodes file (overlaid laid new) }
+        ensures others { OthersLie file self.old self.new }
+        ensures volume { KeepsVolume self.old self.new }
+        ensures room { self.new.spare ≡ self.old.spare }
+    {
+        let _numbers_differ = self.places.len();
+        self.places.change(file, Change::Overlay(new), at);
+    }
+
+    /// Cuts a file, or makes it longer by bytes that are 0. The length that it has changes nothing. Takes no memory.
+    pub fn set_length(&mut self, file: u32, length: u64, at: Moment)
+        requires file { (room : Room) × HasExtents self.old.nodes file room }
+        requires fits { length ≤ 2 ^ 40 }
+        ensures plain { IsTruncated file length at self.old self.new }
+        ensures numbers { NumbersCome (λ p. p) self.old self.new }
+        ensures extents { (laid : Laid) → HasLaid self.old.nodes file laid → HasLaid self.new.nodes file (if length == laid.length then laid else resized laid length) }
+        ensures others { OthersLie file self.old self.new }
+        ensures volume { KeepsVolume self.old self.new }
+        ensures room { self.new.spare ≡ self.old.spare }
+    {
+        if length_of(&self.places, file) != length {
+            self.places.change(file, Change::Resize(length), at);
+        }
+    }
+}
+
+/// The length of a file, in bytes.
+fn length_of(places: &Places, file: u32) -> u64
+    requires { (room : Room) × HasExtents places.now.nodes file room }
+    ensures { (path : List (List ℕ)) → number_at places.now.nodes path ≡ Some file → IsLongAt places.now.nodes path result }
+{
+    match &places.node(file).kind {
+        Kind::File(extents) => extents.length(),
+        Kind::Dir | Kind::Link(_) => unreachable!(),
+    }
+}
+
+/// What a new node is. Takes no memory.
+fn new_kind(alloc: Global, sort: Sort, block_size: u32) -> Kind
+    requires { 1 ≤ block_size }
+    ensures { IsNewKind block_size sort result }
+{
+    match sort {
+        Sort::Dir | Sort::Link => Kind::Dir,
+        Sort::File => Kind::File(Extents::new(alloc, block_size)),
+    }
+}
+
+fn new_node(uid: u64, kind: Kind, at: Moment) -> Node
+    ensures { result ≡ record { number = 0; uid = uid; times = times_at at; readonly = false; kind = kind } }
+{
+    Node {
+        number: 0,
+        uid,
+        times: Times::all_at(at),
+        readonly: false,
+        kind,
+    }
+}
