@@ -49,4 +49,3 @@ end_closes text at tag next e =
     let o = one_ok 60 text at a.0 a.1 in
     let n = one_ok 47 text (at + 1) b.0 (ap (one_at 47 text) o.1 ∙ b.1) in
     rw (o.0, n.0) refl
-
