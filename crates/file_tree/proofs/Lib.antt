@@ -16,3 +16,4 @@ pub mod MountLemmas
 pub mod ListingLemmas
 pub mod CallLemmas
 pub mod BareLemmas
+pub mod ToldLemmas

@@ -8,3 +8,4 @@ pub mod Reads
 pub mod Mounts
 pub mod Raws
 pub mod Listing
+pub mod Told

@@ -15,6 +15,7 @@ mod raws;
 mod spots;
 #[cfg(test)]
 mod tests;
+mod told;
 mod tree;
 
 pub use found::Found;

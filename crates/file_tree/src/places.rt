@@ -4,11 +4,15 @@ ghost use Rattle.file_tree.specs.Seen.{Seen, Seen-prop};
 use crate::changes::Change;
 use crate::listing::{lines_of, names_in};
 use crate::nodes::{Node, Spot};
+use crate::raws::Letters;
 use crate::spots::{
     any_in, change_spot, child, first_empty, put_spot, reserve_spot, shift_spot, spot_at, take_spot,
 };
+use crate::told::{Paths, numbers_of, places_of, put_path, told_node};
+use index_model::Node as ToldNode;
 use plain_tree::Entry;
 use std::alloc::Global;
+use std::collections::BTreeMap;
 use std::marker::Model;
 use tape_types::{List, Moment, NoMemory, Text};
 
@@ -40,13 +44,16 @@ impl Model for Places {
 }
 
 impl Places {
-    ghost use Rattle.std.specs.Prelude.{◌≡◌, ◌≢◌, ℕ, ◌+◌, ◌≤◌, nat_lt, length, List, [], ◌∷◌, ◌++◌, Some, OnOk, IfOk, IfErr};
+    ghost use Rattle.std.specs.Prelude.{◌≡◌, ◌≢◌, ℕ, ◌+◌, ◌≤◌, nat_lt, length, List, [], ◌∷◌, ◌++◌, map, Some, OnOk, IfOk, IfErr};
     ghost use Rattle.std.specs.FinMap as fin;
     ghost use Rattle.file_tree.specs.declared.nodes.Node.{Node};
     ghost use Rattle.file_tree.specs.Tree.{number_at, moved, plain_nodes, whole};
     ghost use Rattle.extent_map.specs.Cells.{Tape};
     ghost use Rattle.plain_tree.specs.Tree.{entries_in};
     ghost use Rattle.file_tree.specs.Changes.{CanChange, IsChangedAt, IsChangedBy, IsRoomier, HasRoom};
+    ghost use Rattle.std.specs.BTreeMap.{get};
+    ghost use Rattle.plain_tree.specs.Paths.{path_cmp, parent_of, last_name};
+    ghost use Rattle.file_tree.specs.Told.{name_or, told_of, told_in, ArePlaces, PutsPath};
     ghost use Rattle.file_tree.specs.Places.{IsThere, IsLast, CanPut, CanAppend, CanTake, CanShift};
 
     /// The root alone.
@@ -83,9 +90,112 @@ impl Places {
     pub fn parent(&self, number: u32) -> u32
         requires { IsThere self.now.nodes number }
         ensures parent { (path : List (List ℕ)) (name : List ℕ) → number_at self.now.nodes (path ++ name ∷ []) ≡ Some number → number_at self.now.nodes path ≡ Some result }
+        ensures above { (path : List (List ℕ)) → number_at self.now.nodes path ≡ Some number → number_at self.now.nodes (parent_of path) ≡ Some result }
         ensures apart { (p q : List (List ℕ)) (n : ℕ) → number_at self.now.nodes p ≡ Some n → number_at self.now.nodes q ≡ Some n → p ≡ q }
     {
         spot_at(&self.spots, number).parent
+    }
+
+    /// The name under which a node is in its directory.
+    pub fn name(&self, number: u32) -> &Text
+        requires { IsThere self.now.nodes number }
+        ensures { (path : List (List ℕ)) (name : List ℕ) → number_at self.now.nodes (path ++ name ∷ []) ≡ Some number → result.now ≡ name }
+    {
+        &spot_at(&self.spots, number).name
+    }
+
+    /// The path of a node.
+    pub fn path(&self, alloc: Global, number: u32) -> Result<List<Text>, NoMemory>
+        requires { IsThere self.now.nodes number }
+        ensures { IfOk result (λ path. number_at self.now.nodes path ≡ Some number) }
+    {
+        let _shown = &self.spots;
+        let mut names = Vec::new(alloc);
+        let mut at = number;
+        while at != 0 {
+            names.push(self.name(at).try_clone(alloc)?)?;
+            at = self.parent(at);
+        }
+        names.reverse();
+        Ok(List::from_vec(names))
+    }
+
+    /// Puts in the path of a node.
+    fn put_number(&self, paths: &mut Paths, alloc: Global, number: u32) -> Result<(), NoMemory>
+        requires { IsThere self.now.nodes number }
+        ensures { OnOk result ((path : List (List ℕ)) × (number_at self.now.nodes path ≡ Some number) × PutsPath paths.old paths.new path number) }
+    {
+        let path = self.path(alloc, number)?;
+        put_path(paths, path, number)
+    }
+
+    /// The numbers of all nodes, by their paths.
+    fn paths(&self, alloc: Global) -> Result<Paths, NoMemory>
+        ensures { IfOk result (λ paths. (path : List (List ℕ)) → get path_cmp paths path ≡ number_at self.now.nodes path) }
+    {
+        let mut paths = BTreeMap::new(alloc);
+        for spot in &self.spots {
+            if let Some(spot) = spot {
+                self.put_number(&mut paths, alloc, spot.node.number)?;
+            }
+        }
+        Ok(paths)
+    }
+
+    /// The numbers of all nodes, in the order of their paths.
+    fn numbers(&self, alloc: Global) -> Result<Vec<u32>, NoMemory>
+        ensures { IfOk result (λ numbers. numbers.items ≡ map (λ e. e.1.number) (fin.entries self.now.nodes)) }
+    {
+        let paths = self.paths(alloc)?;
+        numbers_of(alloc, &paths)
+    }
+
+    /// The last name of a node's path, or for the root that of the volume.
+    fn name_told(&self, alloc: Global, number: u32, volume: &Text) -> Result<Text, NoMemory>
+        requires { IsThere self.now.nodes number }
+        ensures { IfOk result (λ name. (path : List (List ℕ)) → number_at self.now.nodes path ≡ Some number → name ≡ name_or volume.now (last_name path)) }
+    {
+        let _shown = &self.spots;
+        if number == 0 {
+            return Ok(volume.try_clone(alloc)?);
+        }
+        Ok(self.name(number).try_clone(alloc)?)
+    }
+
+    /// A node as an index tells it, with the places of all nodes at their numbers.
+    fn told(
+        &self,
+        alloc: Global,
+        number: u32,
+        places: &[u32],
+        volume: &Text,
+        letters: Letters,
+    ) -> Result<ToldNode, NoMemory>
+        requires there { IsThere self.now.nodes number }
+        requires places { ArePlaces self.now.nodes places.now }
+        ensures { IfOk result (λ told. (path : List (List ℕ)) (node : Node) → fin.get self.now.nodes path ≡ Some node → node.number ≡ number → told ≡ told_of letters volume.now (fin.keys self.now.nodes) (path, node)) }
+    {
+        let name = self.name_told(alloc, number, volume)?;
+        let parent = places[self.parent(number) as usize];
+        told_node(alloc, self.node(number), parent, name, letters)
+    }
+
+    /// The nodes as an index tells them, in the order of their paths.
+    pub fn to_nodes(
+        &self,
+        alloc: Global,
+        volume: &Text,
+        letters: Letters,
+    ) -> Result<List<ToldNode>, NoMemory>
+        ensures { IfOk result (λ nodes. nodes ≡ told_in letters volume.now self.now.nodes) }
+    {
+        let numbers = self.numbers(alloc)?;
+        let places = places_of(alloc, &numbers, self.spots.len())?;
+        let mut nodes = List::new(alloc);
+        for number in &numbers {
+            nodes.push(self.told(alloc, *number, &places, volume, letters)?)?;
+        }
+        Ok(nodes)
     }
 
     /// The number of the node under a name in a directory.

@@ -3,7 +3,7 @@ ghost use Rattle.file_tree.specs.Mounts.{CanMount};
 
 use crate::Tree;
 use crate::play::{Blocks, apply};
-use index_model::{Index, Kind, Node, Spot};
+use index_model::{Index, Kind, Node, RawExtent, Spot};
 use plain_tree::{Answer, Call, Entry, Facts, Plain, Refusal, Sort};
 use std::alloc::Global;
 use std::test::Fail;
@@ -362,5 +362,91 @@ fn first_apart(alloc: Global, seed: u64, calls: u32) -> Result<Option<u32>, NoMe
 fn answers_as_the_plain_tree(rt: HostRuntime) -> Result<(), Fail> {
     assert_eq!(rt; first_apart(rt.alloc(), 0x9e37_79b9_7f4a_7c15, 2000)?, None);
     assert_eq!(rt; first_apart(rt.alloc(), 0x2545_f491_4f6c_dd1d, 2000)?, None);
+    Ok(())
+}
+
+/// What is wanted of a node: the place of its directory, its uid, its name and its kind.
+type Row<'a> = (u32, u64, &'static str, Told<'a>);
+
+#[derive(Drop)]
+enum Told<'a> {
+    Dir,
+    File(u64, &'a [RawExtent]),
+}
+
+fn is_told(node: &Node, row: &Row) -> bool {
+    node.parent == row.0
+        && node.uid == row.1
+        && node.name.as_str() == row.2
+        && node.times == Times::all_at(AT)
+        && !node.readonly
+        && is_kind(&node.kind, &row.3)
+}
+
+fn is_kind(kind: &Kind, told: &Told) -> bool {
+    match kind {
+        Kind::Dir => matches!(told, Told::Dir),
+        Kind::File { length, extents } => match told {
+            Told::File(bytes, raws) => length == bytes && extents.as_slice() == *raws,
+            Told::Dir => false,
+        },
+        Kind::Link { .. } => false,
+    }
+}
+
+/// Whether these are told of the tree of a bare index, after these calls.
+fn tells(alloc: Global, asks: &[Ask], rows: &[Row]) -> Result<bool, NoMemory> {
+    let mut tree = bare_tree(alloc)?;
+    let mut blocks = Blocks::new(alloc);
+    for ask in asks {
+        let call = call_of(alloc, ask)?;
+        let _answer = apply(alloc, &mut tree, &mut blocks, &call, AT)?;
+    }
+    let nodes = tree.to_nodes(alloc, (b'a', b'b'))?;
+    let nodes = nodes.as_slice();
+    Ok(nodes.len() == rows.len() && nodes.iter().zip(rows).all(|(node, row)| is_told(node, row)))
+}
+
+#[test]
+fn tells_nodes_in_the_order_of_the_document(rt: HostRuntime) -> Result<(), Fail> {
+    let asks = [
+        Ask::Mkdir("/c"),
+        Ask::Create("/c/f"),
+        Ask::Mkdir("/a"),
+        Ask::Create("/B"),
+        Ask::Write("/B", 0, b"xy"),
+        Ask::Write("/B", 6, b"z"),
+        Ask::Rename("/c", "/a/c"),
+    ];
+    let raws = [
+        RawExtent {
+            offset: 0,
+            letter: b'b',
+            block: 0,
+            byte: 0,
+            count: 2,
+        },
+        RawExtent {
+            offset: 6,
+            letter: b'b',
+            block: 1,
+            byte: 0,
+            count: 1,
+        },
+    ];
+    let rows = [
+        (0, 1, "", Told::Dir),
+        (0, 5, "B", Told::File(7, &raws)),
+        (0, 4, "a", Told::Dir),
+        (2, 2, "c", Told::Dir),
+        (3, 3, "f", Told::File(0, &[])),
+    ];
+    assert!(rt; tells(rt.alloc(), &asks, &rows)?);
+    Ok(())
+}
+
+#[test]
+fn tells_the_nodes_of_an_index_again(rt: HostRuntime) -> Result<(), Fail> {
+    assert!(rt; tells(rt.alloc(), &[], &[(0, 1, "", Told::Dir)])?);
     Ok(())
 }

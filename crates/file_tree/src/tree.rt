@@ -65,6 +65,7 @@ impl Tree {
     ghost use Rattle.file_tree.specs.Places.{IsThere};
     ghost use Rattle.file_tree.specs.Mounts.{CanMount, IsTreeOf};
     ghost use Rattle.file_tree.specs.Reads.{IsFound, refusal_found, IsOfSort};
+    ghost use Rattle.file_tree.specs.Told.{told_nodes};
     ghost use Rattle.file_tree.specs.Valid.{IsFileOf};
     ghost use Rattle.file_tree.specs.Edits.{CanMake, CanUnlink, CanMoveTo, CanWrite, IsAfter, IsWritten, IsTruncated, NumbersCome, AllLie, OthersLie, KeepsVolume};
 
@@ -147,6 +148,18 @@ impl Tree {
         ensures { IfOk result (λ entries. (tape : Tape) (path : List (List ℕ)) → StandsAt self.now path dir → entries ≡ entries_in (plain_of tape self.now).nodes path) }
     {
         self.places.list(alloc, dir)
+    }
+
+    /// The nodes in the order of the document (LTFS 2.4 on the index): a directory before what is in it, and children by
+    /// the bytes of their names. The letters are those of the index partition and the data partition.
+    pub fn to_nodes(
+        &self,
+        alloc: Global,
+        letters: Letters,
+    ) -> Result<List<index_model::Node>, NoMemory>
+        ensures { IfOk result (λ nodes. nodes ≡ told_nodes letters self.now) }
+    {
+        self.places.to_nodes(alloc, &self.volume, letters)
     }
 
     /// Why a call is refused, where no byte is lost on the tape.

@@ -1,0 +1,82 @@
+-- The nodes of a tree as an index tells them (LTFS 2.4 on the index).
+use Rattle.std.specs.Prelude.{◌≡◌, ℕ, ◌+◌, List, [], ◌∷◌, ◌==◌, if◌then◌else◌, map, nat_lt, Option, Some, None}
+use Rattle.std.specs.FinMap as fin
+use Rattle.std.specs.BTreeMap.{BTreeMap, get}
+use Rattle.tape_types.specs.declared.cartridges.Extent.{Extent}
+use Rattle.tape_types.specs.declared.cartridges.Part.{Part}
+use Rattle.tape_types.specs.declared.cartridges.Part.TheVariants as parts
+use Rattle.index_model.specs.declared.nodes.Node as told
+use Rattle.index_model.specs.declared.nodes.Kind as told_kind
+use Rattle.index_model.specs.declared.nodes.Kind.TheVariants as told_kinds
+use Rattle.index_model.specs.declared.nodes.RawExtent.{RawExtent}
+use Rattle.index_model.specs.Places.{IsAt}
+use Rattle.plain_tree.specs.Paths.{path_cmp, same_path, parent_of, last_name}
+use Rattle.file_tree.specs.declared.nodes.Node.{Node}
+use Rattle.file_tree.specs.declared.nodes.Kind.{Kind}
+use Rattle.file_tree.specs.declared.nodes.Kind.TheVariants as kinds
+use Rattle.file_tree.specs.Tree.{Nodes, FileTree, number_at}
+use Rattle.file_tree.specs.Mounts.{Letters}
+
+-- the letter of a partition
+abbrev pub letter_of : Letters → Part → ℕ
+letter_of letters parts.Ip = letters.0
+letter_of letters parts.Dp = letters.1
+
+-- an extent, with the letter of its partition
+abbrev pub raw_of : Letters → Extent → RawExtent
+raw_of letters e = record { offset = e.offset; letter = letter_of letters e.part; block = e.block; byte = e.byte; count = e.count }
+
+-- what is told of what a node is: of a file its length and its extents
+abbrev pub told_kind_of : Letters → Kind → told_kind.Kind
+told_kind_of letters kinds.Dir = told_kinds.Dir
+told_kind_of letters (kinds.File room) = told_kinds.File room.laid.length (map (raw_of letters) room.laid.extents)
+told_kind_of letters (kinds.Link text) = told_kinds.Link text
+
+-- what is told of a node, given the place of its directory and its name
+abbrev pub told_node_of : Letters → ℕ → List ℕ → Node → told.Node
+told_node_of letters parent name node = record { parent = parent; uid = node.uid; name = name; times = node.times; readonly = node.readonly; kind = told_kind_of letters node.kind }
+
+-- the place of a path among paths, counted from 0
+abbrev pub place_of : List (List ℕ) → List (List (List ℕ)) → ℕ
+place_of path [] = 0
+place_of path (first ∷ paths) = if same_path path first then 0 else place_of path paths + 1
+
+-- the name, or that of the volume where there is none
+abbrev pub name_or : List ℕ → Option (List ℕ) → List ℕ
+name_or volume None = volume
+name_or volume (Some name) = name
+
+-- What is told of the node at a path: the place of its directory's path among all paths, and the last name of its own.
+-- The root is in itself, and has the name of the volume.
+abbrev pub told_of : Letters → List ℕ → List (List (List ℕ)) → (List (List ℕ) × Node) → told.Node
+told_of letters volume paths e = told_node_of letters (place_of (parent_of e.0) paths) (name_or volume (last_name e.0)) e.1
+
+-- all nodes in the order of their paths, which is that of a document
+abbrev pub told_in : Letters → List ℕ → Nodes → List told.Node
+told_in letters volume nodes = map (told_of letters volume (fin.keys nodes)) (fin.entries nodes)
+
+abbrev pub told_nodes : Letters → FileTree → List told.Node
+told_nodes letters t = told_in letters t.name t.nodes
+
+-- at the number of each path stands the place of the path among all paths
+abbrev pub ArePlaces : Nodes → List ℕ → Type 0
+ArePlaces nodes places = (path : List (List ℕ)) (number : ℕ) → number_at nodes path ≡ Some number → IsAt places number (place_of path (fin.keys nodes))
+
+-- no number stands at two places
+abbrev pub AreApart : List ℕ → Type 0
+AreApart numbers = (a b number : ℕ) → IsAt numbers a number → IsAt numbers b number → a ≡ b
+
+-- the number, where it is below a bound
+abbrev pub below : ℕ → Option ℕ → Option ℕ
+below bound None = None
+below bound (Some number) = if nat_lt number bound then Some number else None
+
+-- the first path of a node with this number
+abbrev pub path_with : ℕ → List (List (List ℕ) × Node) → List (List ℕ)
+path_with number [] = []
+path_with number (e ∷ es) = if e.1.number == number then e.0 else path_with number es
+
+-- under the path stands this number now, and all others are as they were
+pub record PutsPath (before next : BTreeMap (List (List ℕ)) ℕ) (path : List (List ℕ)) (number : ℕ) : Type 0 where
+  pub here : get path_cmp next path ≡ Some number
+  pub others : (q : List (List ℕ)) → (q ≡ path → ⊥) → get path_cmp next q ≡ get path_cmp before q
