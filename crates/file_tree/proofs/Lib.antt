@@ -17,3 +17,5 @@ pub mod ListingLemmas
 pub mod CallLemmas
 pub mod BareLemmas
 pub mod ToldLemmas
+pub mod OrderLemmas
+pub mod AgreeLemmas

@@ -1,7 +1,22 @@
+ghost use Rattle.std.specs.Prelude.{◌≡◌};
+ghost use Rattle.index_model.specs.declared.indexes.Index.{Index};
+ghost use Rattle.index_model.specs.Order.{AreInOrder};
+ghost use Rattle.index_model.specs.Valid.{Agrees};
 ghost use Rattle.file_tree.specs.Edits.{RefusalsAreAlike};
+ghost use Rattle.file_tree.specs.Mounts.{Letters};
+ghost use Rattle.file_tree.specs.Told.{told_nodes};
+ghost use Rattle.file_tree.specs.Tree.{FileTree};
+ghost use Rattle.file_tree.specs.Valid.{IsGood};
 
 /// What a call is refused goes by what stands on tape only where a byte is lost, and then the call would be refused
 /// nothing else.
 pub fn refusals_are_alike()
     ensures { RefusalsAreAlike }
+{}
+
+/// The nodes that a tree tells stand in the order of a document, and agree with one another and with the tree's highest
+/// uid.
+pub fn told_nodes_agree()
+    ensures order { (letters : Letters) (t : FileTree) → IsGood t → AreInOrder (told_nodes letters t) }
+    ensures agrees { (letters : Letters) (t : FileTree) → IsGood t → (index : Index) → index.nodes ≡ told_nodes letters t → index.highest ≡ t.highest → Agrees index }
 {}

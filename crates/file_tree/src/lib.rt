@@ -19,6 +19,6 @@ mod told;
 mod tree;
 
 pub use found::Found;
-pub use laws::refusals_are_alike;
+pub use laws::{refusals_are_alike, told_nodes_agree};
 pub use raws::Letters;
 pub use tree::Tree;
