@@ -33,30 +33,19 @@ slow_reader.KNOWN.update(ORDER)
 
 
 class LabelReader(slow_reader.Reader):
+    ROOT, PLACE = "ltfslabel", "label"
+
     def value(self, form, at):
         return self.digits(4096, 1048576, at) if form == "blocksize" else super().value(form, at)
-
-    def document(self):
-        at = self.space(self.declaration(0))
-
-        def only_label(tag):
-            if tag != "ltfslabel":
-                raise Refuse("Unknown", at)
-        _, _, empty, inside = self.start_tag(at, only_label)
-        if empty:
-            raise Refuse("Missing", "creator")
-        found, at = self.children("label", "ltfslabel", inside)
-        if self.space(at) != len(self.text):
-            raise Refuse("Syntax", at)
-        return {tag: dict(value) if isinstance(value, list) else value for tag, value in found}
 
 
 def read_label(text):
     try:
         text.decode()
-        return LabelReader(text).document()
+        found = LabelReader(text).document()
     except (UnicodeDecodeError, Refuse):
         return None
+    return {tag: dict(value) if isinstance(value, list) else value for tag, value in found}
 
 
 def read_record(block):

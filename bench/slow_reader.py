@@ -71,6 +71,8 @@ def allowed(c):
 
 
 class Reader:
+    ROOT, PLACE = "ltfsindex", "index"
+
     def __init__(self, text):
         self.text = text
         self.count = 0
@@ -384,13 +386,13 @@ class Reader:
     def document(self):
         at = self.space(self.declaration(0))
 
-        def only_index(tag):
-            if tag != "ltfsindex":
+        def only_root(tag):
+            if tag != self.ROOT:
                 raise Refuse("Unknown", at)
-        _, _, empty, inside = self.start_tag(at, only_index)
+        _, _, empty, inside = self.start_tag(at, only_root)
         if empty:
             raise Refuse("Missing", "creator")
-        found, at = self.children("index", "ltfsindex", inside)
+        found, at = self.children(self.PLACE, self.ROOT, inside)
         at = self.space(at)
         if at != len(self.text):
             raise Refuse("Syntax", at)
