@@ -45,7 +45,7 @@ pub record Allowed (f : Frame) (nodes : ℕ) (tag : Tag) (c : Child) : Type 0 wh
   pub follows : MayFollow f.place f.seen tag
   pub room : (opens_node c && nat_le 65536 nodes) ≡ false
 
-unless_ok : {A : Type 0} (b : Bool) (d : IndexErr) (r : Result A IndexErr) (y : A) → cond b (Err d) r ≡ Ok y → (b ≡ false) × (r ≡ Ok y)
+pub unless_ok : {A : Type 0} (b : Bool) (d : IndexErr) (r : Result A IndexErr) (y : A) → cond b (Err d) r ≡ Ok y → (b ≡ false) × (r ≡ Ok y)
 unless_ok true d r y e = absurd cc
 unless_ok false d r y e = (refl, e)
 

@@ -18,6 +18,13 @@ pub mod Whole
 pub mod Assembled
 pub mod Same
 pub mod Exact
+pub mod PlainTexts
+pub mod Uuids
+pub mod Ranges
+pub mod Ranged
+pub mod Formed
+pub mod Listed
+pub mod ValidIndexes
 pub mod WrittenItems
 pub mod WrittenValues
 pub mod WrittenAgain

@@ -102,7 +102,7 @@ rest_told seen (item (nested _ x) is) s front parent f behind fits there at = ab
 
 -- ---- directories and their contents
 
-length_listed : (parent at : ℕ) (nodes : Nodes) → length (listed parent at nodes) ≡ count nodes
+pub length_listed : (parent at : ℕ) (nodes : Nodes) → length (listed parent at nodes) ≡ count nodes
 length_listed parent at no_nodes = refl
 length_listed parent at (directory f inside behind) =
     omega (arith, length-append (listed at (at + 1) inside) (listed parent (at + 1 + count inside) behind), length_listed at (at + 1) inside, length_listed parent (at + 1 + count inside) behind)

@@ -1,4 +1,4 @@
-//! Laws of documents: they are read in one way, and what is written is read back.
+//! Laws of documents: they are read in one way, as valid indexes, and what is written is read back.
 
 ghost use Rattle.std.specs.Prelude.{◌≡◌, ◌<◌, ◌^◌, ℕ, List, length};
 ghost use Rattle.index_model.specs.declared.errors.IndexErr.{IndexErr};
@@ -22,4 +22,9 @@ pub fn texts_are_read_in_one_way()
 pub fn documents_read_back()
     ensures in_memory { (index : Index) (v : IndexValue) → IsValid index → Tells index v → length (canonical v) < 2 ^ 64 → IndexText (canonical v) index }
     ensures short_links { (index : Index) (v : IndexValue) → IsValid index → Tells index v → AreLinksShort index.nodes → IndexText (canonical v) index }
+{}
+
+/// A text that is an index's is a valid index's.
+pub fn indexes_read_are_valid()
+    ensures { (text : List ℕ) (index : Index) → IndexText text index → IsValid index }
 {}

@@ -10,5 +10,5 @@ mod tests;
 mod values;
 mod walking;
 
-pub use laws::{documents_read_back, texts_are_read_in_one_way};
+pub use laws::{documents_read_back, indexes_read_are_valid, texts_are_read_in_one_way};
 pub use reading::read_index;

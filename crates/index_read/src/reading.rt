@@ -126,8 +126,9 @@ fn read(alloc: Global, text: &[u8]) -> Result<Index, IndexErr>
     }
 }
 
-/// Reads the index that a text is (LTFS 2.4 on the index). The index is valid but for its UUID,
-/// its pointers and its extents, which only its volume can tell wrong.
+/// Reads the index that a text is (LTFS 2.4 on the index). The index is valid
+/// (`indexes_read_are_valid`); whether its UUID, its pointers and its extents fit its volume, only
+/// the volume can tell.
 ///
 /// # Errors
 ///

@@ -1,0 +1,177 @@
+-- The values of leaves are in the ranges of their forms.
+use Rattle.std.proofs.Common.{◌≡◌, ℕ, ◌+◌, ◌<◌, ◌≤◌, ◌^◌, List, [], Bool, true, false, cond, nat_le, nat_lt, not, ◌==◌, ◌&&◌, length, Option, Some, None, Result, Ok, Err, IsUtf8, refl, ap, subst, arith}
+use Rattle.std.specs.Prelude.{⊤}
+use Rattle.std.specs.Str.{chars, is_utf8}
+use Rattle.std.proofs.lemmas.Bool.Decides.{nat_tests}
+use Rattle.std.proofs.lemmas.Str.{IsUtf8-from_is_utf8}
+use Rattle.tape_types.specs.Names.{has_byte, is_dot}
+use Rattle.tape_types.specs.Uuids.{uuid_in}
+use Rattle.doc_fields.specs.declared.starts.Start.{Start}
+use Rattle.doc_fields.specs.declared.tags.Tag.{Tag}
+use Rattle.doc_fields.specs.Numbers.{number_at}
+use Rattle.doc_fields.specs.EndTag.{end_at}
+use Rattle.doc_fields.specs.Reading.{between, byte, syntax_at}
+use Rattle.doc_fields.specs.Space.{space_end}
+use Rattle.doc_fields.specs.Texts.{text_at}
+use Rattle.doc_fields.specs.Values.{letter_at, uuid_at, uuid_or_fault}
+use Rattle.doc_fields.proofs.Again.{both}
+use Rattle.ltfs_text.specs.Names.{decoded}
+use Rattle.index_model.specs.declared.errors.IndexErr.{IndexErr}
+use Rattle.index_model.specs.declared.errors.IndexErr.TheVariants as errors
+use Rattle.index_model.specs.declared.schema.Form.{Form}
+use Rattle.index_model.specs.declared.schema.Form.TheVariants as form
+use Rattle.index_model.specs.Names.{IsNodeName, IsVolumeName}
+use Rattle.index_model.specs.Pieces.{Val, words, uuid, letter, number, ◌>>=◌, lift, least, is_too_great, in_range, number_in, is_volume_name, is_name, is_encoded, name_in, name_of, named, value_in, empty_value, leaf_at}
+use Rattle.index_model.specs.Texts.{IsLetter, IsPlainText}
+use Rattle.index_read.proofs.Inversion.{bind_ok, lift_ok, unless_ok}
+use Rattle.index_read.proofs.PlainTexts.{plain_nothing, text_plain}
+use Rattle.index_read.proofs.Uuids.{uuid_fits}
+
+-- what is known of a value, by the form of its leaf
+abbrev pub InRange : Form → Val → Type 0
+InRange form.Text (words t) = IsPlainText t
+InRange form.VolumeName (words t) = IsVolumeName t
+InRange form.NodeName (words t) = IsNodeName t
+InRange form.AnyName (words t) = IsUtf8 t
+InRange form.Uuid (uuid n) = n < 2 ^ 128
+InRange form.Letter (letter b) = IsLetter b
+InRange form.Bounded (number n) = n ≤ 2 ^ 62
+InRange form.Generation (number n) = (1 ≤ n) × (n ≤ 2 ^ 62)
+InRange _ _ = ⊤
+
+not_true : (b : Bool) → not b ≡ true → b ≡ false
+not_true true e = absurd cc
+not_true false e = refl
+
+-- what holds of what was read holds of the value
+as_value : (P : Val → Type 0) (x v : Val) (m n : ℕ) → ◌≡◌ {A = Result (Val × ℕ) IndexErr} (Ok (x, m)) (Ok (v, n)) → P x → P v
+as_value P x v m n e h = let pair : ◌≡◌ {A = Val × ℕ} (x, m) (v, n) = cc in subst P (ap (λ (z : Val × ℕ). z.0) pair) h
+
+-- ---- names
+
+volume_name : (name : List ℕ) → IsUtf8 name → is_volume_name name ≡ true → IsVolumeName name
+volume_name name valid e =
+    let a = both (nat_le (length (chars name)) 255 && not (has_byte 47 name)) (not (has_byte 0 name)) e in
+    let b = both (nat_le (length (chars name)) 255) (not (has_byte 47 name)) a.0 in
+    let short = b.0 in
+    record { utf8 = valid; short = grind (arith, nat_tests); no_slash = not_true (has_byte 47 name) b.1; no_nul = not_true (has_byte 0 name) a.1 }
+
+node_name : (name : List ℕ) → IsUtf8 name → is_name form.NodeName name ≡ true → IsNodeName name
+node_name name valid e =
+    let a = both (is_volume_name name && nat_lt 0 (length name)) (not (is_dot name)) e in
+    let b = both (is_volume_name name) (nat_lt 0 (length name)) a.0 in
+    let some = b.1 in
+    record { text = volume_name name valid b.0; some = grind (arith, nat_tests); no_dot = not_true (is_dot name) a.1 }
+
+any_name : (f : Form) (name : List ℕ) → IsUtf8 name → is_name f name ≡ true → (f ≡ form.Text → ⊥) → InRange f (words name)
+any_name form.Text name valid e other = absurd (other refl)
+any_name form.VolumeName name valid e other = volume_name name valid e
+any_name form.NodeName name valid e other = node_name name valid e
+any_name form.AnyName name valid e other = valid
+any_name _ name valid e other = tt
+
+named_range : (f : Form) (from : ℕ) (bytes name : List ℕ) → (f ≡ form.Text → ⊥) → named f from bytes ≡ Ok name → InRange f (words name)
+named_range f from bytes name other e = by (is_utf8 bytes && is_name f bytes) refl e
+  where
+    by : (b : Bool) → (is_utf8 bytes && is_name f bytes) ≡ b → cond b (Ok bytes) (Err (errors.Name from)) ≡ Ok name → InRange f (words name)
+    by true is h =
+        let parts = both (is_utf8 bytes) (is_name f bytes) is in
+        let same : bytes ≡ name = cc (h) in
+        subst (λ (t : List ℕ). InRange f (words t)) same (any_name f bytes (IsUtf8-from_is_utf8 bytes parts.0) parts.1 other)
+    by false is h = absurd cc
+
+name_range : (f : Form) (from : ℕ) (start : Start) (text : List ℕ) (v : Val) (n : ℕ) → (f ≡ form.Text → ⊥) → name_in f from start text ≡ Ok (v, n) → InRange f v
+unfolding name_in
+name_range f from start text v n other e =
+    let a = bind_ok (lift (text_at text start.next)) _ (v, n) e in
+    let b = bind_ok (name_of f from start.attribute text a.0) _ (v, n) a.2 in
+    let c = unless_ok (a.0.1 == length text) _ (named f from (decoded (is_encoded start.attribute) a.0.0)) b.0 b.1 in
+    as_value (InRange f) (words b.0) v _ n b.2 (named_range f from _ b.0 other c.1)
+
+empty_name : (f : Form) (from at : ℕ) (v : Val) (n : ℕ) → (f ≡ form.Text → ⊥) → ◌>>=◌ {B = Val × ℕ} (named f from []) (λ name. Ok (words name, at)) ≡ Ok (v, n) → InRange f v
+empty_name f from at v n other e = let b = bind_ok (named f from []) _ (v, n) e in as_value (InRange f) (words b.0) v _ n b.2 (named_range f from [] b.0 other b.1)
+
+-- ---- numbers, letters and identifiers
+
+from_tests : (f : Form) (n : ℕ) → nat_lt n (least f) ≡ false → is_too_great f n ≡ false → InRange f (number n)
+from_tests form.Bounded n small great = grind (arith, nat_tests)
+from_tests form.Generation n small great = (grind (arith, nat_tests), grind (arith, nat_tests))
+from_tests form.Text n small great = tt
+from_tests _ n small great = tt
+
+number_range : (f : Form) (text : List ℕ) (from : ℕ) (v : Val) (n : ℕ) → number_in f text from ≡ Ok (v, n) → InRange f v
+unfolding number_in
+number_range f text from v n e =
+    let a = bind_ok (lift (number_at text from)) _ (v, n) e in
+    let b = bind_ok (in_range f text from a.0) _ (v, n) a.2 in
+    let great = unless_ok (is_too_great f a.0.0) _ _ b.0 b.1 in
+    let small = unless_ok (nat_lt a.0.0 (least f)) _ (Ok a.0) b.0 great.1 in
+    let same : a.0 ≡ b.0 = cc (small.1) in
+    as_value (InRange f) (number b.0.0) v _ n b.2 (subst (λ (m : ℕ × ℕ). InRange f (number m.0)) same (from_tests f a.0.0 small.0 great.0))
+
+letter_range : (text : List ℕ) (at : ℕ) (x : ℕ × ℕ) → letter_at text at ≡ Ok x → IsLetter x.0
+unfolding letter_at
+letter_range text at x e = by (nat_le 97 (byte text at) && nat_le (byte text at) 122) refl e
+  where
+    by : (b : Bool) → (nat_le 97 (byte text at) && nat_le (byte text at) 122) ≡ b → cond b (Ok (byte text at, at + 1)) (syntax_at at) ≡ Ok x → IsLetter x.0
+    by true is h =
+        let parts = both (nat_le 97 (byte text at)) (nat_le (byte text at) 122) is in
+        let low = parts.0 in
+        let high = parts.1 in
+        let same : (byte text at, at + 1) ≡ x = cc (h) in
+        subst (λ (y : ℕ × ℕ). IsLetter y.0) same record { from_a = grind (arith, nat_tests); to_z = grind (arith, nat_tests) }
+    by false is h = absurd cc
+
+uuid_range : (text : List ℕ) (at : ℕ) (x : ℕ × ℕ) → uuid_at text at ≡ Ok x → x.0 < 2 ^ 128
+unfolding uuid_at
+uuid_range text at x e = by (nat_le (at + 36) (length text)) e
+  where
+    one : (o : Option ℕ) → uuid_in (between text at (at + 36)) ≡ o → uuid_or_fault text at o ≡ Ok x → x.0 < 2 ^ 128
+    one (Some n) is h =
+        let same : (n, at + 36) ≡ x = cc (h) in
+        subst (λ (y : ℕ × ℕ). y.0 < 2 ^ 128) same (uuid_fits (between text at (at + 36)) n is)
+    one None is h = absurd cc
+
+    by : (b : Bool) → uuid_or_fault text at (cond b (uuid_in (between text at (at + 36))) None) ≡ Ok x → x.0 < 2 ^ 128
+    by true h = one (uuid_in (between text at (at + 36))) refl h
+    by false h = absurd cc
+
+-- ---- leaves
+
+value_range : (f : Form) (from : ℕ) (start : Start) (text : List ℕ) (v : Val) (n : ℕ) → value_in f from start text ≡ Ok (v, n) → InRange f v
+value_range form.Text from start text v n e =
+    let b = bind_ok (lift (text_at text start.next)) _ (v, n) e in
+    as_value (InRange form.Text) (words b.0.0) v _ n b.2 (text_plain text start.next b.0 (lift_ok (text_at text start.next) b.0 b.1))
+value_range form.VolumeName from start text v n e = name_range form.VolumeName from start text v n (λ h. cc h) e
+value_range form.NodeName from start text v n e = name_range form.NodeName from start text v n (λ h. cc h) e
+value_range form.AnyName from start text v n e = name_range form.AnyName from start text v n (λ h. cc h) e
+value_range form.Uuid from start text v n e =
+    let at = space_end text start.next in
+    let b = bind_ok (lift (uuid_at text at)) _ (v, n) e in
+    as_value (InRange form.Uuid) (uuid b.0.0) v _ n b.2 (uuid_range text at b.0 (lift_ok (uuid_at text at) b.0 b.1))
+value_range form.Letter from start text v n e =
+    let at = space_end text start.next in
+    let b = bind_ok (lift (letter_at text at)) _ (v, n) e in
+    as_value (InRange form.Letter) (letter b.0.0) v _ n b.2 (letter_range text at b.0 (lift_ok (letter_at text at) b.0 b.1))
+value_range form.Bounded from start text v n e = number_range form.Bounded text _ v n e
+value_range form.Generation from start text v n e = number_range form.Generation text _ v n e
+value_range form.Number from start text v n e = tt
+value_range _ from start text v n e = tt
+
+empty_range : (f : Form) (from at : ℕ) (v : Val) (n : ℕ) → empty_value f from at ≡ Ok (v, n) → InRange f v
+empty_range form.Text from at v n e = as_value (InRange form.Text) (words []) v _ n e plain_nothing
+empty_range form.VolumeName from at v n e = empty_name form.VolumeName from at v n (λ h. cc h) e
+empty_range form.NodeName from at v n e = empty_name form.NodeName from at v n (λ h. cc h) e
+empty_range form.AnyName from at v n e = empty_name form.AnyName from at v n (λ h. cc h) e
+empty_range _ from at v n e = absurd cc
+
+pub leaf_range : (f : Form) (tag : Tag) (from : ℕ) (start : Start) (text : List ℕ) (v : Val) (n : ℕ) → leaf_at f tag from start text ≡ Ok (v, n) → InRange f v
+unfolding leaf_at
+leaf_range f tag from start text v n e = by start.empty e
+  where
+    by : (b : Bool) → cond b (empty_value f from start.next) (value_in f from start text >>= λ x. lift (end_at text x.1 tag) >>= λ y. Ok (x.0, y)) ≡ Ok (v, n) → InRange f v
+    by true h = empty_range f from start.next v n h
+    by false h =
+        let a = bind_ok (value_in f from start text) _ (v, n) h in
+        let b = bind_ok (lift (end_at text a.0.1 tag)) (λ y. Ok (a.0.0, y)) (v, n) a.2 in
+        as_value (InRange f) a.0.0 v b.0 n b.2 (value_range f from start text a.0.0 a.0.1 a.1)
