@@ -1,3 +1,4 @@
+pub mod ByteLemmas
 pub mod CellLemmas
 pub mod LaidLemmas
 pub mod LawLemmas

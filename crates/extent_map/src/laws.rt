@@ -1,4 +1,4 @@
-ghost use Rattle.extent_map.specs.Laws.{OverlaysWrite, LengthsTruncate, OldBytesStayAway, PlansRead, OverlaysTakeOut};
+ghost use Rattle.extent_map.specs.Laws.{OverlaysWrite, LengthsTruncate, OldBytesStayAway, PlansRead, OverlaysTakeOut, BlocksHaveTheBytes};
 
 /// An overlay writes the bytes of the new extent into the file, whatever stands on tape.
 pub fn overlays_write()
@@ -23,4 +23,10 @@ pub fn plans_read()
 /// An overlay takes its range out of each extent, and puts the new one among what is left.
 pub fn overlays_take_out()
     ensures { OverlaysTakeOut }
+{}
+
+/// A cartridge has a byte exactly where a block has it. Where an item is no block, or too short,
+/// the byte is lost.
+pub fn blocks_have_the_bytes()
+    ensures { BlocksHaveTheBytes }
 {}

@@ -10,6 +10,7 @@ mod tests;
 
 pub use extents::Extents;
 pub use laws::{
-    lengths_truncate, old_bytes_stay_away, overlays_take_out, overlays_write, plans_read,
+    blocks_have_the_bytes, lengths_truncate, old_bytes_stay_away, overlays_take_out,
+    overlays_write, plans_read,
 };
 pub use pieces::Piece;

@@ -114,9 +114,9 @@ fn is_encoded(attribute: Attribute) -> bool
     }
 }
 
-#[tactic(auto, using(crate::proofs::Names::utf8_is, crate::proofs::Names::utf8_none))]
 /// The text that a text stands for, where it is percent-encoded or not; none where that isn't
 /// UTF-8.
+#[tactic(auto, using(crate::proofs::Names::utf8_is, crate::proofs::Names::utf8_none))]
 fn decode(alloc: Global, text: Text, percent: bool) -> Result<Option<Text>, NoMemory>
     ensures { IfOk result (λ found. MatchOption found (is_utf8 (decoded percent text) ≡ false) (λ name. (name ≡ decoded percent text) × (is_utf8 (decoded percent text) ≡ true))) }
 {
