@@ -17,7 +17,7 @@ has_byte c part pos byte value (Some Torn) block there = absurd (let bad : None 
 has_byte c part pos byte value None block there = absurd (let bad : None ≡ Some value = there in cc)
 
 pub blocks_have_the_bytes : BlocksHaveTheBytes
-blocks_have_the_bytes = record
-    { found = λ c part pos byte value there. has_byte c part pos byte value (slice_get (items_of part c) pos) refl there
-    ; only = λ c part pos byte value has. ap (λ item. byte_in item byte) has.block ∙ has.there
-    }
+blocks_have_the_bytes = record {
+  found = λ c part pos byte value there. has_byte c part pos byte value (slice_get (items_of part c) pos) refl there;
+  only = λ c part pos byte value has. ap (λ item. byte_in item byte) has.block ∙ has.there;
+}

@@ -4,4 +4,5 @@ pub mod LaidLemmas
 pub mod LawLemmas
 pub mod PieceLemmas
 pub mod PlaceLemmas
+pub mod TakenBytes
 pub mod TakenLemmas

@@ -1,5 +1,5 @@
 -- The pieces in which a range of a file is read.
-use Rattle.std.specs.Prelude.{ℕ, ◌+◌, ◌-◌, ◌*◌, ◌==◌, ◌≤◌, min, List, [], ◌∷◌, ◌++◌, map, replicate, Some, if◌then◌else◌}
+use Rattle.std.specs.Prelude.{◌≡◌, ℕ, ◌+◌, ◌-◌, ◌*◌, ◌==◌, ◌≤◌, min, Bool, List, [], ◌∷◌, ◌++◌, map, replicate, Option, Some, is_some, unwrap_or, slice_get, if◌then◌else◌}
 use Rattle.std.specs.Int.{div_ceil}
 use Rattle.std.specs.List.{range_with_len}
 use Rattle.tape_types.specs.declared.cartridges.Extent.{Extent}
@@ -35,6 +35,15 @@ planned f offset count = with_gaps f.block_size offset (offset + count) (left_fr
 abbrev pub read_piece : Tape → Piece → List Cell
 read_piece tape (Zeros count) = replicate count (Some 0)
 read_piece tape (Stored place byte count) = map (λ i. tape place.part place.pos (byte + i)) (range_with_len 0 count)
+
+-- the block at the piece's place has these bytes, or there is no block, and these are none
+abbrev pub Shows : Tape → List ℕ → Piece → Type 0
+Shows tape block (Zeros count) = Unit {0}
+Shows tape block (Stored place byte count) = (i : ℕ) → tape place.part place.pos i ≡ slice_get block i
+
+-- the bytes were appended where none is lost, and else nothing
+abbrev pub IsTaken : List ℕ → List ℕ → Bool → Option (List ℕ) → Type 0
+IsTaken old new whole bytes = (whole ≡ is_some bytes) × (new ≡ old ++ unwrap_or bytes [])
 
 -- the piece has a byte or more, and one on tape lies within a block
 abbrev pub IsInOneBlock : ℕ → Piece → Type 0

@@ -5,6 +5,7 @@ mod edits;
 mod extents;
 mod laws;
 mod pieces;
+mod reading;
 #[cfg(test)]
 mod tests;
 

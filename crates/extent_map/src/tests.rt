@@ -298,6 +298,33 @@ fn bytes_that_no_block_has_are_lost(rt: HostRuntime) -> Result<(), Fail> {
     Ok(())
 }
 
+/// Whether a piece of a block, appended to `>`, says so, and leaves these bytes.
+fn is_appended(
+    alloc: Global,
+    piece: Piece,
+    block: &[u8],
+    whole: bool,
+    bytes: &[u8],
+) -> Result<bool, NoMemory> {
+    let mut got = Vec::from_slice(alloc, b">")?;
+    let said = piece.append(&mut got, block)?;
+    Ok(said == whole && got.as_slice() == bytes)
+}
+
+#[test]
+fn a_piece_is_taken_whole_or_not_at_all(rt: HostRuntime) -> Result<(), Fail> {
+    let alloc = rt.alloc();
+    assert!(rt; is_appended(alloc, stored(7, 0, 3), b"abc", true, b">abc")?);
+    assert!(rt; is_appended(alloc, stored(7, 1, 2), b"abc", true, b">bc")?);
+    assert!(rt; is_appended(alloc, stored(7, 1, 3), b"abc", false, b">")?);
+    assert!(rt; is_appended(alloc, stored(7, 3, 1), b"abc", false, b">")?);
+    assert!(rt; is_appended(alloc, stored(7, 0, 1), b"", false, b">")?);
+    assert!(rt; is_appended(alloc, stored(7, 9, 0), b"abc", true, b">")?);
+    assert!(rt; is_appended(alloc, Piece::Zeros { count: 2 }, b"abc", true, b">\0\0")?);
+    assert!(rt; is_appended(alloc, Piece::Zeros { count: 0 }, b"", true, b">")?);
+    Ok(())
+}
+
 // Seven blocks whose bytes all differ.
 const BLOCKS: [&[u8]; 7] = [
     b"abcdefgh",

@@ -8,7 +8,7 @@ ghost use Rattle.file_tree.specs.Edits.{making};
 use crate::checks::same_path;
 use crate::{Found, Tree};
 use extent_map::Piece;
-use plain_tree::{Answer, Call, Sort};
+use plain_tree::{Answer, Call, Refusal, Sort};
 use std::alloc::Global;
 use tape_types::{Bytes, Extent, List, Moment, NoMemory, Part, Text};
 
@@ -124,38 +124,30 @@ fn read(
 ) -> Result<Answer, NoMemory>
     requires { refusal_of (plain_of whole tree.now) (Call.Read path.now offset count) ≡ None }
 {
-    let mut got = Bytes::new(alloc);
+    let mut got = Vec::new(alloc);
     if let Found::Node(file) = tree.find(path) {
         let extents = tree.extents(file);
         let from = offset.min(extents.length());
         let count = count.min(extents.length() - from);
         let pieces = extents.plan(alloc, from, count)?;
         for piece in pieces.as_slice() {
-            append(&mut got, blocks, piece)?;
+            if !piece.append(&mut got, block_of(blocks, piece))? {
+                return Ok(Answer::Refused(Refusal::Damaged));
+            }
         }
     }
-    Ok(Answer::Got(got))
+    Ok(Answer::Got(Bytes::from_vec(got)))
 }
 
-/// Appends the bytes of a piece, or nothing where its block isn't there.
-fn append(got: &mut Bytes, blocks: &Blocks, piece: &Piece) -> Result<(), NoMemory> {
+/// The block at the place of a piece, or no bytes where there is none.
+fn block_of<'a>(blocks: &'a Blocks, piece: &Piece) -> &'a [u8] {
     match piece {
-        Piece::Zeros { count } => {
-            for _ in 0..*count {
-                got.extend(&[0])?;
-            }
-        }
-        Piece::Stored { place, byte, count } => {
-            if let Some(block) = blocks.as_slice().get(place.pos as usize) {
-                if let Some(rest) = block.as_slice().get(*byte as usize..) {
-                    if let Some(bytes) = rest.get(..*count as usize) {
-                        got.extend(bytes)?;
-                    }
-                }
-            }
-        }
+        Piece::Zeros { .. } => b"",
+        Piece::Stored { place, .. } => match blocks.as_slice().get(place.pos as usize) {
+            Some(block) => block.as_slice(),
+            None => b"",
+        },
     }
-    Ok(())
 }
 
 fn list(alloc: Global, tree: &Tree, path: &[Text]) -> Result<Answer, NoMemory> {

@@ -249,6 +249,48 @@ fn moves_and_counts(rt: HostRuntime) -> Result<(), Fail> {
     Ok(())
 }
 
+/// Makes each call on a tree whose blocks are lost after the first calls, and gives the place of the first answer that isn't
+/// the one wanted.
+fn first_wrong_without_blocks(
+    alloc: Global,
+    before: &[Ask],
+    rows: &[(Ask, Want)],
+) -> Result<Option<usize>, NoMemory> {
+    let mut tree = bare_tree(alloc)?;
+    let mut blocks = Blocks::new(alloc);
+    for ask in before {
+        let _answer = apply(alloc, &mut tree, &mut blocks, &call_of(alloc, ask)?, AT)?;
+    }
+    let mut lost = Blocks::new(alloc);
+    for (k, row) in rows.iter().enumerate() {
+        let answer = apply(alloc, &mut tree, &mut lost, &call_of(alloc, &row.0)?, AT)?;
+        if !is_wanted(&answer, &row.1) {
+            return Ok(Some(k));
+        }
+    }
+    Ok(None)
+}
+
+#[test]
+fn lost_bytes_are_refused(rt: HostRuntime) -> Result<(), Fail> {
+    let before = [
+        Ask::Create("/f"),
+        Ask::Write("/f", 2, b"hello"),
+        Ask::Truncate("/f", 9),
+    ];
+    let rows = [
+        (Ask::Read("/f", 0, 2), Want::Bytes(b"\0\0")),
+        (Ask::Read("/f", 0, 3), Want::No(Refusal::Damaged)),
+        (Ask::Read("/f", 6, 9), Want::No(Refusal::Damaged)),
+        (Ask::Read("/f", 7, 9), Want::Bytes(b"\0\0")),
+        (Ask::Read("/f", 3, 0), Want::Bytes(b"")),
+        (Ask::Truncate("/f", 2), Want::Done),
+        (Ask::Read("/f", 0, 9), Want::Bytes(b"\0\0")),
+    ];
+    assert_eq!(rt; first_wrong_without_blocks(rt.alloc(), &before, &rows)?, None);
+    Ok(())
+}
+
 #[test]
 fn gives_no_uid_again(rt: HostRuntime) -> Result<(), Fail> {
     let rows = [

@@ -1,0 +1,62 @@
+#!/usr/bin/env python3
+"""Times `index_tool check` beside programs that read the same document, all in turn.
+
+    compare.py TOOL DOCUMENT [ROUNDS] -- PROGRAM [WORDS..] [-- PROGRAM [WORDS..]]..
+
+Each program gets the document's path as its last word, and prints lines of an engine, a job, a time in ms and more. Of the
+tool the whole run is timed: the least processor time (user and system) of the rounds, and the most memory.
+"""
+import os
+import resource
+import subprocess
+import sys
+
+
+def tool_run(tool, document):
+    with open(document, "rb") as source:
+        done = subprocess.run(["/usr/bin/time", "-f", "%M", tool, "check"], stdin=source, capture_output=True)
+    return done.stdout.decode().strip(), int(done.stderr.split()[-1]) / 1024
+
+
+def tool_time(tool, document):
+    before = resource.getrusage(resource.RUSAGE_CHILDREN)
+    with open(document, "rb") as source:
+        subprocess.run([tool, "check"], stdin=source, stdout=subprocess.DEVNULL)
+    after = resource.getrusage(resource.RUSAGE_CHILDREN)
+    return 1000 * (after.ru_utime + after.ru_stime - before.ru_utime - before.ru_stime)
+
+
+def peer_lines(words, document):
+    printed = subprocess.run(words + [document, "1"], capture_output=True).stdout.decode()
+    for line in printed.splitlines():
+        parts = line.split()
+        if "ms" in parts and "build" in parts:
+            yield " ".join(parts[:2]), float(parts[parts.index("ms") - 1])
+
+
+def main():
+    words = sys.argv[1:]
+    groups, group = [], []
+    for word in words + ["--"]:
+        if word == "--":
+            groups.append(group)
+            group = []
+        else:
+            group.append(word)
+    tool, document, rounds = groups[0][0], groups[0][1], int((groups[0] + ["9"])[2])
+    best = {}
+    for _ in range(rounds):
+        found = [("index_tool check", tool_time(tool, document))]
+        for peer in groups[1:]:
+            found += peer_lines(peer, document)
+        for name, milliseconds in found:
+            best[name] = min(best.get(name, milliseconds), milliseconds)
+    said, memory = tool_run(tool, document)
+    size = os.path.getsize(document)
+    print(f"{document}: {size} bytes, {said}, {memory:.0f} MiB, {memory * (1 << 20) / size:.2f} times the document")
+    for name, milliseconds in best.items():
+        print(f"{name:20} {milliseconds:7.0f} ms {size / milliseconds / 1000:7.0f} MB/s")
+
+
+if __name__ == "__main__":
+    main()
