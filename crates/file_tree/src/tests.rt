@@ -287,7 +287,10 @@ fn lost_bytes_are_refused(rt: HostRuntime) -> Result<(), Fail> {
         (Ask::Truncate("/f", 2), Want::Done),
         (Ask::Read("/f", 0, 9), Want::Bytes(b"\0\0")),
     ];
-    assert_eq!(rt; first_wrong_without_blocks(rt.alloc(), &before, &rows)?, None);
+    assert_eq!(rt;
+        first_wrong_without_blocks(rt.alloc(), &before, &rows)?,
+        None
+    );
     Ok(())
 }
 
