@@ -384,8 +384,24 @@ fn call_by(alloc: Global, pick: u64) -> Result<Call, NoMemory> {
     })
 }
 
-/// Makes so many calls on the tree of a bare index and on the plain tree, and gives the number of the first that they answer
-/// differently.
+/// More bytes than a file of `call_by` has.
+const ALL_BYTES: u64 = 64;
+
+/// Whether the tree and the plain tree answer a call alike.
+fn is_alike(
+    alloc: Global,
+    tree: &mut Tree,
+    blocks: &mut Blocks,
+    plain: &mut Plain,
+    call: &Call,
+) -> Result<bool, NoMemory> {
+    let answer = apply(alloc, tree, blocks, call, AT)?;
+    let wanted = plain.apply(call, AT)?;
+    Ok(same_answer(&answer, &wanted))
+}
+
+/// Makes so many calls on the tree of a bare index and on the plain tree, and reads all bytes at the path of each. Gives the
+/// number of the first that they answer differently.
 fn first_apart(alloc: Global, seed: u64, calls: u32) -> Result<Option<u32>, NoMemory> {
     let mut tree = bare_tree(alloc)?;
     let mut blocks = Blocks::new(alloc);
@@ -394,9 +410,15 @@ fn first_apart(alloc: Global, seed: u64, calls: u32) -> Result<Option<u32>, NoMe
     for k in 0..calls {
         pick = next(pick);
         let call = call_by(alloc, pick)?;
-        let answer = apply(alloc, &mut tree, &mut blocks, &call, AT)?;
-        let wanted = plain.apply(&call, AT)?;
-        if !same_answer(&answer, &wanted) {
+        if !is_alike(alloc, &mut tree, &mut blocks, &mut plain, &call)? {
+            return Ok(Some(k));
+        }
+        let read = Call::Read {
+            path: path_by(alloc, pick >> 8)?,
+            offset: 0,
+            count: ALL_BYTES,
+        };
+        if !is_alike(alloc, &mut tree, &mut blocks, &mut plain, &read)? {
             return Ok(Some(k));
         }
     }
