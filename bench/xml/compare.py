@@ -3,13 +3,15 @@
 
     compare.py TOOL DOCUMENT [ROUNDS] -- PROGRAM [WORDS..] [-- PROGRAM [WORDS..]]..
 
-Each program gets the document's path as its last word, and prints lines of an engine, a job, a time in ms and more. Of the
-tool the whole run is timed: the least processor time (user and system) of the rounds, and the most memory.
+Each program gets the document's path as its last word, and prints lines of an engine, a job, a time in ms by the clock and
+more. Of the tool the whole run is timed, from its start to its end: the least time by the clock, as for the others, the
+least processor time (user and system), and the most memory.
 """
 import os
 import resource
 import subprocess
 import sys
+import time
 
 
 def tool_run(tool, document):
@@ -18,12 +20,15 @@ def tool_run(tool, document):
     return done.stdout.decode().strip(), int(done.stderr.split()[-1]) / 1024
 
 
-def tool_time(tool, document):
+def tool_times(tool, document):
+    """By the clock, and of the processor, in ms."""
     before = resource.getrusage(resource.RUSAGE_CHILDREN)
+    start = time.monotonic()
     with open(document, "rb") as source:
         subprocess.run([tool, "check"], stdin=source, stdout=subprocess.DEVNULL)
+    clock = time.monotonic() - start
     after = resource.getrusage(resource.RUSAGE_CHILDREN)
-    return 1000 * (after.ru_utime + after.ru_stime - before.ru_utime - before.ru_stime)
+    return 1000 * clock, 1000 * (after.ru_utime + after.ru_stime - before.ru_utime - before.ru_stime)
 
 
 def peer_lines(words, document):
@@ -46,7 +51,8 @@ def main():
     tool, document, rounds = groups[0][0], groups[0][1], int((groups[0] + ["9"])[2])
     best = {}
     for _ in range(rounds):
-        found = [("index_tool check", tool_time(tool, document))]
+        clock, processor = tool_times(tool, document)
+        found = [("index_tool check", clock), ("its processor time", processor)]
         for peer in groups[1:]:
             found += peer_lines(peer, document)
         for name, milliseconds in found:
