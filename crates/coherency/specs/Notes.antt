@@ -24,7 +24,8 @@ pub record IsNote (note : List ℕ) (c : Coherency) : Type 0 where
 -- the note that is written for values: letters in lower case, and version 1
 abbrev pub note_of : Coherency → List ℕ
 note_of c =
-    8 ∷ [] ++ to_be_bytes w64 c.vcr ++ to_be_bytes w64 c.generation ++ to_be_bytes w64 c.block ++ 0 ∷ 43 ∷ [] ++ codes "LTFS" ++ 0 ∷ []
+    8 ∷ [] ++ to_be_bytes w64 c.vcr ++ to_be_bytes w64 c.generation ++ to_be_bytes w64 c.block ++ 0 ∷ 43 ∷ []
+    ++ codes "LTFS" ++ 0 ∷ []
     ++ uuid_text c.uuid ++ 0 ∷ 1 ∷ []
 
 -- a partition's note is there and has these values

@@ -8,37 +8,118 @@ use Rattle.turn_lock.specs.Histories.{longer}
 module _ {M F : Type 0} where
   -- with no ticket, these numbers, this history seen
   abbrev pub calm : ℕ → List ℕ → List M → F → Knowledge M F
-  calm seats ns seen f = record { ticket = None; served = false; numbers = ns; seen = seen; joined_numbers = []; joined_seen = []; seats = seats; fixed = Some f }
+  calm seats ns seen f = record {
+    ticket = None;
+    served = false;
+    numbers = ns;
+    seen = seen;
+    joined_numbers = [];
+    joined_seen = [];
+    seats = seats;
+    fixed = Some f;
+  }
 
   -- what is left of a seat that was joined to another
   abbrev pub spent : Knowledge M F
-  spent = record { ticket = None; served = false; numbers = []; seen = []; joined_numbers = []; joined_seen = []; seats = 0; fixed = None }
+  spent = record {
+    ticket = None;
+    served = false;
+    numbers = [];
+    seen = [];
+    joined_numbers = [];
+    joined_seen = [];
+    seats = 0;
+    fixed = None;
+  }
 
   -- with the ticket n
   abbrev pub drew : Knowledge M F → ℕ → Knowledge M F
-  drew v n = record { ticket = Some n; served = false; numbers = v.numbers; seen = v.seen; joined_numbers = []; joined_seen = []; seats = v.seats; fixed = v.fixed }
+  drew v n = record {
+    ticket = Some n;
+    served = false;
+    numbers = v.numbers;
+    seen = v.seen;
+    joined_numbers = [];
+    joined_seen = [];
+    seats = v.seats;
+    fixed = v.fixed;
+  }
 
   -- with its ticket served, and the whole history seen
   abbrev pub in_turn : Knowledge M F → List M → Knowledge M F
-  in_turn v whole = record { ticket = v.ticket; served = true; numbers = v.numbers; seen = whole; joined_numbers = []; joined_seen = []; seats = v.seats; fixed = v.fixed }
+  in_turn v whole = record {
+    ticket = v.ticket;
+    served = true;
+    numbers = v.numbers;
+    seen = whole;
+    joined_numbers = [];
+    joined_seen = [];
+    seats = v.seats;
+    fixed = v.fixed;
+  }
 
   -- with no ticket any more
   abbrev pub ended : Knowledge M F → Knowledge M F
-  ended v = record { ticket = None; served = false; numbers = v.numbers; seen = v.seen; joined_numbers = []; joined_seen = []; seats = v.seats; fixed = v.fixed }
+  ended v = record {
+    ticket = None;
+    served = false;
+    numbers = v.numbers;
+    seen = v.seen;
+    joined_numbers = [];
+    joined_seen = [];
+    seats = v.seats;
+    fixed = v.fixed;
+  }
 
   abbrev pub without_last : Knowledge M F → Knowledge M F
-  without_last v = record { ticket = None; served = false; numbers = take (length v.numbers - 1) v.numbers; seen = v.seen; joined_numbers = []; joined_seen = []; seats = v.seats; fixed = v.fixed }
+  without_last v = record {
+    ticket = None;
+    served = false;
+    numbers = take (length v.numbers - 1) v.numbers;
+    seen = v.seen;
+    joined_numbers = [];
+    joined_seen = [];
+    seats = v.seats;
+    fixed = v.fixed;
+  }
 
   abbrev pub last_alone : Knowledge M F → Knowledge M F
-  last_alone v = record { ticket = None; served = false; numbers = drop (length v.numbers - 1) v.numbers; seen = v.seen; joined_numbers = []; joined_seen = []; seats = v.seats; fixed = v.fixed }
+  last_alone v = record {
+    ticket = None;
+    served = false;
+    numbers = drop (length v.numbers - 1) v.numbers;
+    seen = v.seen;
+    joined_numbers = [];
+    joined_seen = [];
+    seats = v.seats;
+    fixed = v.fixed;
+  }
 
   -- the other's numbers and history beside its own
   abbrev pub beside : Knowledge M F → Knowledge M F → Knowledge M F
-  beside v w = record { ticket = None; served = false; numbers = v.numbers; seen = v.seen; joined_numbers = w.numbers; joined_seen = w.seen; seats = v.seats; fixed = v.fixed }
+  beside v w = record {
+    ticket = None;
+    served = false;
+    numbers = v.numbers;
+    seen = v.seen;
+    joined_numbers = w.numbers;
+    joined_seen = w.seen;
+    seats = v.seats;
+    fixed = v.fixed;
+  }
 
   -- the numbers of both, and the longer history
   abbrev pub merged : Knowledge M F → Knowledge M F
-  merged v = record { ticket = None; served = false; numbers = v.numbers ++ v.joined_numbers; seen = longer v.seen v.joined_seen; joined_numbers = []; joined_seen = []; seats = v.seats; fixed = v.fixed }
+  merged v = record {
+    ticket = None;
+    served = false;
+    numbers = v.numbers ++ v.joined_numbers;
+    seen = longer v.seen v.joined_seen;
+    joined_numbers = [];
+    joined_seen = [];
+    seats = v.seats;
+    fixed = v.fixed;
+  }
 
   -- the same but for its numbers
   pub record SameBut (v w : Knowledge M F) : Type 0 where

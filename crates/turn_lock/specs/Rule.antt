@@ -19,7 +19,8 @@ holds_ticket n None = 0
 holds_ticket n (Some m) = if m == n then 1 else 0
 
 -- what the rule says of one view, where `whole` is the history as it stands
-pub record Fits {M F : Type 0} (names : M → ℕ) (seats serving ticket : ℕ) (whole : List M) (f : F) (v : Knowledge M F) : Type 0 where
+pub record Fits {M F : Type 0} (names : M → ℕ) (seats serving ticket : ℕ) (whole : List M) (f : F)
+    (v : Knowledge M F) : Type 0 where
   -- its ticket was drawn, and has not been served to its end
   pub ranged : (n : ℕ) → v.ticket ≡ Some n → (serving ≤ n) × (n < ticket)
   -- who has a ticket has a number
@@ -32,10 +33,13 @@ pub record Fits {M F : Type 0} (names : M → ℕ) (seats serving ticket : ℕ) 
 
 -- where no view is served, the slot is home, with a state that has this history and this fixed part
 abbrev pub IsHome : {T M F : Type 0} → (T → List M) → (T → F) → List M → F → State (Option T) (Knowledge M F) → Type 0
-IsHome {T} {M} {F} history fixed whole f s = ((i : ℕ) (v : Knowledge M F) → get_elem? s.views i ≡ some v → v.served ≡ false) → (x : T) × (get_elem? s.homes 0 ≡ some (some (Some x))) × (history x ≡ whole) × (fixed x ≡ f)
+IsHome {T} {M} {F} history fixed whole f s =
+    ((i : ℕ) (v : Knowledge M F) → get_elem? s.views i ≡ some v → v.served ≡ false)
+    → (x : T) × (get_elem? s.homes 0 ≡ some (some (Some x))) × (history x ≡ whole) × (fixed x ≡ f)
 
 -- the rule
-pub record IsKept {T M F : Type 0} (history : T → List M) (fixed : T → F) (names : M → ℕ) (seats : ℕ) (f : F) (s : State (Option T) (Knowledge M F)) : Type 0 where
+pub record IsKept {T M F : Type 0} (history : T → List M) (fixed : T → F) (names : M → ℕ) (seats : ℕ) (f : F)
+    (s : State (Option T) (Knowledge M F)) : Type 0 where
   pub ticket : ℕ
   pub serving : ℕ
   pub whole : List M

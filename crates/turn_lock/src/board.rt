@@ -22,7 +22,8 @@ impl<T: Logged> Board<T> {
     pub(crate) fn open(alloc: Global, state: T, seats: u16) -> Result<(Board<T>, LockSeat<T>), T>
         requires some_seat { 1 ≤ seats }
         ensures of { IfOk result (λ r. r.1.table_id ≡ r.0.table.shared.table_id) }
-        ensures seat { IfOk result (λ r. r.1.me ≡ (calm seats (numbers_to seats) (T.history state) (T.fixed state), [])) }
+        ensures seat { IfOk result (λ r.
+            r.1.me ≡ (calm seats (numbers_to seats) (T.history state) (T.fixed state), [])) }
         ensures calm { IfOk result (λ r. IsCalm r.1.me) }
         ensures back { IfErr result (λ s. s ≡ state) }
         ensures short { length (T.history state) < 2 ^ 64 }
@@ -80,7 +81,8 @@ impl<T: Logged> Board<T> {
         requires of { seat.old.table_id ≡ self.now.table.shared.table_id }
         requires waits { IsWaiting ticket seat.old.me }
         ensures of { seat.new.table_id ≡ seat.old.table_id }
-        ensures turn { MatchBool result (Turns T.history T.fixed T.names seat.old.me seat.new.me) (seat.new.me ≡ seat.old.me) }
+        ensures turn { MatchBool result (Turns T.history T.fixed T.names seat.old.me seat.new.me)
+            (seat.new.me ≡ seat.old.me) }
     {
         self.table.shared.load::<Look<T>>(seat, 1) == ticket
     }
@@ -157,7 +159,8 @@ impl<T: Logged> Board<T> {
         requires two { 2 ≤ length seat.old.me.0.numbers }
         ensures of { (seat.new.table_id ≡ seat.old.table_id) × (result.table_id ≡ seat.old.table_id) }
         ensures calm { IsCalm seat.new.me × IsCalm result.me }
-        ensures numbers { (last : ℕ) × (seat.old.me.0.numbers ≡ seat.new.me.0.numbers ++ last ∷ []) × (result.me.0.numbers ≡ last ∷ []) }
+        ensures numbers { (last : ℕ) × (seat.old.me.0.numbers ≡ seat.new.me.0.numbers ++ last ∷ [])
+            × (result.me.0.numbers ≡ last ∷ []) }
         ensures same { SameBut seat.old.me.0 seat.new.me.0 × SameBut seat.old.me.0 result.me.0 }
     {
         self.table.shared.split_seat::<Cut<T>>(seat)
@@ -165,7 +168,8 @@ impl<T: Logged> Board<T> {
 
     /// Takes in the other seat, whose numbers and history then lie beside the seat's own.
     pub(crate) fn tie(&self, seat: &mut LockSeat<T>, other: LockSeat<T>)
-        requires of { (seat.old.table_id ≡ self.now.table.shared.table_id) × (other.table_id ≡ self.now.table.shared.table_id) }
+        requires of { (seat.old.table_id ≡ self.now.table.shared.table_id)
+            × (other.table_id ≡ self.now.table.shared.table_id) }
         requires calm { IsCalm seat.old.me × IsCalm other.me }
         ensures of { seat.new.table_id ≡ seat.old.table_id }
         ensures beside { seat.new.me ≡ (beside seat.old.me.0 other.me.0, []) }
@@ -180,10 +184,14 @@ impl<T: Logged> Board<T> {
         requires both { IsBeside seat.old.me }
         ensures of { seat.new.table_id ≡ seat.old.table_id }
         ensures merged { seat.new.me ≡ (merged seat.old.me.0, []) }
-        ensures sees { Sees T.names seat.old.me.0.seats seat.old.me.0.numbers seat.old.me.0.seen (longer seat.old.me.0.seen seat.old.me.0.joined_seen) }
-        ensures sees_other { Sees T.names seat.old.me.0.seats seat.old.me.0.joined_numbers seat.old.me.0.joined_seen (longer seat.old.me.0.seen seat.old.me.0.joined_seen) }
-        ensures own { own_entries T.names seat.old.me.0.numbers (longer seat.old.me.0.seen seat.old.me.0.joined_seen) ≡ own_entries T.names seat.old.me.0.numbers seat.old.me.0.seen }
-        ensures own_other { own_entries T.names seat.old.me.0.joined_numbers (longer seat.old.me.0.seen seat.old.me.0.joined_seen) ≡ own_entries T.names seat.old.me.0.joined_numbers seat.old.me.0.joined_seen }
+        ensures sees { Sees T.names seat.old.me.0.seats seat.old.me.0.numbers seat.old.me.0.seen
+            (longer seat.old.me.0.seen seat.old.me.0.joined_seen) }
+        ensures sees_other { Sees T.names seat.old.me.0.seats seat.old.me.0.joined_numbers seat.old.me.0.joined_seen
+            (longer seat.old.me.0.seen seat.old.me.0.joined_seen) }
+        ensures own { own_entries T.names seat.old.me.0.numbers (longer seat.old.me.0.seen seat.old.me.0.joined_seen)
+            ≡ own_entries T.names seat.old.me.0.numbers seat.old.me.0.seen }
+        ensures own_other { own_entries T.names seat.old.me.0.joined_numbers (longer seat.old.me.0.seen seat.old.me.0.joined_seen)
+            ≡ own_entries T.names seat.old.me.0.joined_numbers seat.old.me.0.joined_seen }
     {
         self.table.shared.load::<Merge<T>>(seat, 0);
     }

@@ -50,7 +50,8 @@ impl<T: Logged> TurnLock<T> {
         ensures pass { pass.new ≡ entered (T.history result) pass.old }
         ensures fixed { pass.old.fixed ≡ Some (T.fixed result) }
         ensures sees { Sees T.names pass.old.seats pass.old.numbers pass.old.seen (T.history result) }
-        ensures own { own_entries T.names pass.old.numbers (T.history result) ≡ own_entries T.names pass.old.numbers pass.old.seen }
+        ensures own { own_entries T.names pass.old.numbers (T.history result)
+            ≡ own_entries T.names pass.old.numbers pass.old.seen }
     {
         let ticket = self.board.draw(&mut pass.seat);
         self.board.await_turn(rt, &mut pass.seat, ticket);
@@ -79,7 +80,8 @@ impl<T: Logged> TurnLock<T> {
         requires of { pass.old.lock ≡ self.now }
         requires out { pass.old.in_turn ≡ false }
         requires two { 2 ≤ length pass.old.numbers }
-        ensures numbers { (last : ℕ) × (pass.old.numbers ≡ pass.new.numbers ++ last ∷ []) × (result ≡ with_numbers (last ∷ []) pass.old) }
+        ensures numbers { (last : ℕ) × (pass.old.numbers ≡ pass.new.numbers ++ last ∷ [])
+            × (result ≡ with_numbers (last ∷ []) pass.old) }
         ensures same { pass.new ≡ with_numbers pass.new.numbers pass.old }
     {
         let seat = self.board.cut(&mut pass.seat);
@@ -94,8 +96,10 @@ impl<T: Logged> TurnLock<T> {
         ensures pass { pass.new ≡ joined pass.old other }
         ensures sees { Sees T.names pass.old.seats pass.old.numbers pass.old.seen pass.new.seen }
         ensures sees_other { Sees T.names pass.old.seats other.numbers other.seen pass.new.seen }
-        ensures own { own_entries T.names pass.old.numbers pass.new.seen ≡ own_entries T.names pass.old.numbers pass.old.seen }
-        ensures own_other { own_entries T.names other.numbers pass.new.seen ≡ own_entries T.names other.numbers other.seen }
+        ensures own { own_entries T.names pass.old.numbers pass.new.seen
+            ≡ own_entries T.names pass.old.numbers pass.old.seen }
+        ensures own_other { own_entries T.names other.numbers pass.new.seen
+            ≡ own_entries T.names other.numbers other.seen }
     {
         self.board.tie(&mut pass.seat, other.into_seat());
         self.board.merge(&mut pass.seat);

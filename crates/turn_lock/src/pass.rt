@@ -24,7 +24,14 @@ impl<T: Logged> Model for Pass<T> {
 
     ghost Value = { PassView T.Mark T.Fixed };
 
-    ghost view = { λ p. record { lock = p.seat.table_id; seats = p.seat.me.0.seats; numbers = p.seat.me.0.numbers; seen = p.seat.me.0.seen; fixed = p.seat.me.0.fixed; in_turn = p.seat.me.0.served } };
+    ghost view = { λ p. record {
+      lock = p.seat.table_id;
+      seats = p.seat.me.0.seats;
+      numbers = p.seat.me.0.numbers;
+      seen = p.seat.me.0.seen;
+      fixed = p.seat.me.0.fixed;
+      in_turn = p.seat.me.0.served;
+    } };
 
     ghost invariant = { λ p. Stands p.seat.me.0.served p.seat.me };
 }

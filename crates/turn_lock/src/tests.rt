@@ -104,7 +104,8 @@ fn add_in_two_threads<R: Threads + Wait + Sync>(
         rt,
         move || -> Pass<Log>
             requires { (one.lock ≡ lock.now) × (one.in_turn ≡ false) × (one.numbers ≡ who ∷ []) }
-            ensures { (result.lock ≡ lock.entry.now) × (result.in_turn ≡ false) × (result.numbers ≡ who ∷ []) × (result.seats ≡ one.seats) }
+            ensures { (result.lock ≡ lock.entry.now) × (result.in_turn ≡ false) × (result.numbers ≡ who ∷ [])
+                × (result.seats ≡ one.seats) }
         { add_all(rt, lock, one, who) },
         move || -> Pass<Log>
             requires { (other.lock ≡ lock.now) × (other.in_turn ≡ false) × (other.numbers ≡ whom ∷ []) }
@@ -166,10 +167,12 @@ fn three_passes_in_a_tree(host: HostRuntime) {
         rt,
         move || -> Pass<Log>
             requires { (one.lock ≡ shared.now) × (one.in_turn ≡ false) × (one.numbers ≡ 1 ∷ []) × (one.seats ≡ 3) }
-            ensures { (result.lock ≡ shared.entry.now) × (result.in_turn ≡ false) × (result.numbers ≡ 1 ∷ []) × (result.seats ≡ 3) }
+            ensures { (result.lock ≡ shared.entry.now) × (result.in_turn ≡ false) × (result.numbers ≡ 1 ∷ [])
+                × (result.seats ≡ 3) }
         { add_all(rt, shared, one, 1) },
         move || -> Pass<Log>
-            requires { (two.lock ≡ shared.now) × (two.in_turn ≡ false) × (two.numbers ≡ 2 ∷ []) × (three.lock ≡ shared.now) × (three.in_turn ≡ false) × (three.numbers ≡ 3 ∷ []) }
+            requires { (two.lock ≡ shared.now) × (two.in_turn ≡ false) × (two.numbers ≡ 2 ∷ [])
+                × (three.lock ≡ shared.now) × (three.in_turn ≡ false) × (three.numbers ≡ 3 ∷ []) }
             ensures { (result.lock ≡ shared.entry.now) × (result.in_turn ≡ false) × (result.numbers ≡ 2 ∷ 3 ∷ []) }
         { add_in_two_threads(rt, shared, two, three, 2, 3) },
     );

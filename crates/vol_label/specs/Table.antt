@@ -30,7 +30,8 @@ pub record IsRecord (bytes : List ℕ) (label : Vol1) : Type 0 where
 -- the record that is written for a label: its reserved fields are spaces
 abbrev pub record_of : Vol1 → List ℕ
 record_of label =
-    codes "VOL1" ++ label.volume ++ codes "L" ++ replicate 13 32 ++ codes "LTFS" ++ replicate 9 32 ++ label.owner ++ replicate 28 32 ++ codes "4"
+    codes "VOL1" ++ label.volume ++ codes "L" ++ replicate 13 32 ++ codes "LTFS" ++ replicate 9 32 ++ label.owner
+    ++ replicate 28 32 ++ codes "4"
 
 -- whether a byte may stand at an offset of a record
 abbrev pub may_stand : ℕ → ℕ → Bool
@@ -48,4 +49,5 @@ may_stand at byte =
 abbrev pub IsFault : List ℕ → Vol1Err → Type 0
 IsFault bytes Length = length bytes ≢ 80
 IsFault bytes (Byte at) =
-    (length bytes ≡ 80) × (at < 80) × (may_stand at (slice_index bytes at) ≡ false) × ((k : ℕ) → k < at → may_stand k (slice_index bytes k) ≡ true)
+    (length bytes ≡ 80) × (at < 80) × (may_stand at (slice_index bytes at) ≡ false)
+    × ((k : ℕ) → k < at → may_stand k (slice_index bytes k) ≡ true)
