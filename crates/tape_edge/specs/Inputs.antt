@@ -12,5 +12,6 @@ IsReadFailure before now (failures.Fault counts) = IsRise before now counts.befo
 
 -- The text grew by one byte or more that the source has given; or the source is at its end, and has given none.
 abbrev pub ReadsPiece : Bool → (left rest : Option (List ℕ)) → (old new : List ℕ) → Type 0
-ReadsPiece true left rest old new = (piece : List ℕ) × (new ≡ old ++ piece) × (0 < length piece) × Consumes left rest piece
+ReadsPiece true left rest old new =
+    (piece : List ℕ) × (new ≡ old ++ piece) × (0 < length piece) × Consumes left rest piece
 ReadsPiece false left rest old new = (new ≡ old) × Consumes left rest [] × IsAtEnd rest

@@ -43,7 +43,8 @@ impl Clock for StepClock {
 
     fn now(&mut self) -> Moment
         ensures told { result ≡ self.old.next }
-        ensures single { IfSome (if self.old.step == 0 then Some self.old.next else None) (λ m. (result ≡ m) × (self.new ≡ self.old)) }
+        ensures single { IfSome (if self.old.step == 0 then Some self.old.next else None)
+            (λ m. (result ≡ m) × (self.new ≡ self.old)) }
         ensures range { IsSince1970 result }
         ensures exact { GoesOn self.old self.new }
     {

@@ -84,7 +84,8 @@ fn read_piece<S: Source>(
     text: &mut Vec<u8>,
 ) -> Result<bool, ReadFailure>
     requires { 0 < length piece.old }
-    ensures read { IfOk result (λ more. ReadsPiece more (S.left source.old) (S.left source.new) text.old.items text.new.items) }
+    ensures read { IfOk result (λ more.
+        ReadsPiece more (S.left source.old) (S.left source.new) text.old.items text.new.items) }
     ensures fault { IfErr result (IsReadFailure (S.faults source.old) (S.faults source.new)) }
     ensures later { S.faults source.old ≤ S.faults source.new }
 {

@@ -89,7 +89,13 @@ impl Model for MemSink {
 
     ghost Value = { SinkView };
 
-    ghost view = { λ s. record { written = s.bytes; fails = s.fails; calls = s.calls; faults = s.faults; starved = s.starved } };
+    ghost view = { λ s. record {
+      written = s.bytes;
+      fails = s.fails;
+      calls = s.calls;
+      faults = s.faults;
+      starved = s.starved;
+    } };
 }
 
 impl MemSink {
