@@ -59,7 +59,7 @@ interleaving_more script line history p same next so_far who =
     ∙ numbers_go_on (eqb line.who who) (calls_of script who) line.call p.nth (λ is. next ∙ ap (λ w. length (calls_of script w)) (eqb-true line.who who is))
     ∙ ap (λ l. range_with_len 0 (length l)) (sym (shown-push (λ l. l.call) (λ l. eqb l.who who) script line))
 
-some_same : {A : Type 0} (x y : A) → Some x ≡ Some y → x ≡ y
+pub some_same : {A : Type 0} (x y : A) → Some x ≡ Some y → x ≡ y
 some_same x y e = cc
 
 -- the call of a line is the one of its session with as many calls before it
@@ -78,12 +78,12 @@ call_at_line (x ∷ script) (suc k) line found = at (eqb x.who line.who) (call_a
     at true rest = rest
     at false rest = rest
 
-slice_get-append : {A : Type 0} (xs ys : List A) (k : ℕ) → k < length xs → slice_get (xs ++ ys) k ≡ slice_get xs k
+pub slice_get-append : {A : Type 0} (xs ys : List A) (k : ℕ) → k < length xs → slice_get (xs ++ ys) k ≡ slice_get xs k
 slice_get-append [] ys k lt = absurd (omega arith)
 slice_get-append (x ∷ xs) ys zero lt = refl
 slice_get-append (x ∷ xs) ys (suc k) lt = slice_get-append xs ys k (omega arith)
 
-slice_get-seam : {A : Type 0} (xs : List A) (y : A) → slice_get (xs ++ y ∷ []) (length xs) ≡ Some y
+pub slice_get-seam : {A : Type 0} (xs : List A) (y : A) → slice_get (xs ++ y ∷ []) (length xs) ≡ Some y
 slice_get-seam [] y = refl
 slice_get-seam (x ∷ xs) y = slice_get-seam xs y
 

@@ -153,9 +153,9 @@ fn replies(alloc: Global) -> Result<Vec<Reply>, AllocError> {
     Ok(replies)
 }
 
-fn log_of(alloc: Global, replies: Vec<Reply>) -> Result<Log, AllocError> {
+fn log_of(alloc: Global, count: u32, replies: Vec<Reply>) -> Result<Log, AllocError> {
     let mut history = Vec::new(alloc);
-    for nth in 0..replies.len() as u32 {
+    for nth in 0..count {
         let at = Moment { secs: 0, nanos: 0 };
         history.push(Placed {
             who: 3,
@@ -174,7 +174,7 @@ fn log_of(alloc: Global, replies: Vec<Reply>) -> Result<Log, AllocError> {
 
 #[test]
 fn each_reply_has_its_line(rt: HostRuntime) -> Result<(), Fail> {
-    let log = log_of(rt.alloc(), replies(rt.alloc())?)?;
+    let log = log_of(rt.alloc(), 12, replies(rt.alloc())?)?;
     let text = log_text(rt.alloc(), &log).ok().ok_or("no memory")?;
     let expected = "0 3.0 ok\n1 3.1 synced\n2 3.2 bytes 0\n3 3.3 bytes 2 abab\n\
 4 3.4 names 2 d:100%25 l:%C3%A9\n5 3.5 dir 2 1970-01-01T00:00:00.000000007Z\n\
@@ -205,7 +205,7 @@ fn a_name_forges_no_line(rt: HostRuntime) -> Result<(), Fail> {
     })?;
     let mut replies = Vec::new(rt.alloc());
     replies.push(Reply::Answer(Answer::Names(List::from_vec(entries))))?;
-    let log = log_of(rt.alloc(), replies)?;
+    let log = log_of(rt.alloc(), 1, replies)?;
     let text = log_text(rt.alloc(), &log).ok().ok_or("no memory")?;
     let (front, rest) = text.as_slice().split_at_checked(124).ok_or("too short")?;
     assert_eq!(rt;
