@@ -10,7 +10,7 @@ use Rattle.plain_tree.specs.declared.nodes.Kind.TheVariants as kinds
 use Rattle.plain_tree.specs.declared.calls.Entry.{Entry}
 use Rattle.plain_tree.specs.declared.calls.Refusal.{Refusal}
 use Rattle.plain_tree.specs.declared.links.Links.{Links}
-use Rattle.plain_tree.specs.Paths.{path_cmp, parent_of, is_at_or_below}
+use Rattle.plain_tree.specs.Paths.{Path, path_cmp, parent_of, is_at_or_below}
 use Rattle.plain_tree.specs.Refusals.{missing_below}
 use Rattle.plain_tree.specs.Tree.{Nodes, entries_in, changed_at, moved, new_node, empty_tree}
 use Rattle.plain_tree.specs.Valid.{mark_of, mark_at, AreValid}
@@ -26,7 +26,7 @@ use Rattle.plain_tree.proofs.SeenLemmas.{unlike, same_walks, inserted, removed, 
 
 -- the links show this map, and keep it
 pub record Next (root : Node) (links : Links) (count : ℕ) (m : Nodes) : Type 0 where
-  pub shown : (p : List (List ℕ)) → fin.get m p ≡ walk (child links) (Some root) p
+  pub shown : (p : Path) → fin.get m p ≡ walk (child links) (Some root) p
   pub kept : IsKept m links count
 
 pub now_kept : (root : Node) (links : Links) (count : ℕ) (m : Nodes) (s : Seen root links) → s.0 ≡ m → IsKept s.0 links count → Next root links count m
@@ -36,10 +36,10 @@ now_kept root links count m s is kept = record {
 }
 
 -- no other map is shown
-pub only : (root : Node) (links : Links) (count : ℕ) (m n : Nodes) → ((p : List (List ℕ)) → fin.get n p ≡ walk (child links) (Some root) p) → Next root links count m → n ≡ m
+pub only : (root : Node) (links : Links) (count : ℕ) (m n : Nodes) → ((p : Path) → fin.get n p ≡ walk (child links) (Some root) p) → Next root links count m → n ≡ m
 only root links count m n shown next = fin.same_map path_total path_exact n m (λ p. shown p ∙ sym (next.shown p))
 
-pub still_kept : (root : Node) (links : Links) (count : ℕ) (m n : Nodes) → ((p : List (List ℕ)) → fin.get n p ≡ walk (child links) (Some root) p) → Next root links count m → IsKept n links count
+pub still_kept : (root : Node) (links : Links) (count : ℕ) (m n : Nodes) → ((p : Path) → fin.get n p ≡ walk (child links) (Some root) p) → Next root links count m → IsKept n links count
 still_kept root links count m n shown next = subst (λ n. IsKept n links count) (sym (only root links count m n shown next)) next.kept
 
 pub the_root : (root : Node) (links : Links) (at : Moment) → root ≡ new_node kinds.Dir 1 at → ((u : ℕ) (n : List ℕ) → child links u n ≡ None) → Next root links 1 (empty_tree at).nodes
@@ -52,11 +52,11 @@ the_root root links at is none = record {
   };
 }
   where
-    by : (p : List (List ℕ)) → fin.get (empty_tree at).nodes p ≡ walk (child links) (Some root) p
+    by : (p : Path) → fin.get (empty_tree at).nodes p ≡ walk (child links) (Some root) p
     by [] = here_inserted fin.empty [] [] (new_node kinds.Dir 1 at) refl ∙ ap (λ x. Some x) (sym is)
     by (x ∷ p) = other_inserted fin.empty [] (x ∷ p) (new_node kinds.Dir 1 at) refl ∙ fin.get-empty path_cmp (x ∷ p) ∙ sym (ap (λ o. walk (child links) o p) (none root.uid x) ∙ walk_none (child links) p)
 
-changed_len : (change : Node → Node) (path : List (List ℕ)) (m : Nodes) → fin.len (changed_at change path m) ≡ fin.len m
+changed_len : (change : Node → Node) (path : Path) (m : Nodes) → fin.len (changed_at change path m) ≡ fin.len m
 changed_len change path m =
     elim (fin.get m path) as (λ o. fin.get m path ≡ o → fin.len (changed_at change path m) ≡ fin.len m) [
       | None ↦ λ none. ap fin.len (changed_missing change path m none)
@@ -81,7 +81,7 @@ module _ (root : Node) (links next : Links) (count : ℕ) (m : Nodes) (was : Nex
     };
   }
 
-  module _ (front : List (List ℕ)) (x : List ℕ) (dir : Node) (there : fin.get m front ≡ Some dir) where
+  module _ (front : Path) (x : List ℕ) (dir : Node) (there : fin.get m front ≡ Some dir) where
     insert_there : (node : Node) → IsPut (child links) (child next) dir.uid x (Some node) → CanStand m (front ++ x ∷ []) node → Next root next (count + 1) (fin.insert m (front ++ x ∷ []) node)
     insert_there node put can =
         let c = child links in
@@ -148,7 +148,7 @@ module _ (root : Node) (links next : Links) (count : ℕ) (m : Nodes) (was : Nex
               }
         ] refl
 
-  module _ (path : List (List ℕ)) (uid : ℕ) (name : List ℕ) (place : IsPlace m path uid name) where
+  module _ (path : Path) (uid : ℕ) (name : List ℕ) (place : IsPlace m path uid name) where
     pub insert_next : (node : Node) (copy : List ℕ) → copy ≡ name → IsPut (child links) (child next) uid copy (Some node) → CanStand m path node → Next root next (count + 1) (fin.insert m path node)
     insert_next node copy is put can = subst (λ p. CanStand m p node → Next root next (count + 1) (fin.insert m p node)) (sym place.split)
         (insert_there place.front name place.dir place.there node (subst (λ u. IsPut (child links) (child next) u name (Some node)) (sym place.uid_is) (subst (λ n. IsPut (child links) (child next) uid n (Some node)) is put))) can
@@ -162,7 +162,7 @@ module _ (root : Node) (links next : Links) (count : ℕ) (m : Nodes) (was : Nex
         (change_there place.front name place.dir place.there f keeps (subst (λ u. IsPut (child links) (child next) u name (option_map f (child links u name))) (sym place.uid_is) put))
 
 -- the root, changed
-pub change_root : (root new : Node) (links : Links) (count : ℕ) (m : Nodes) (was : Next root links count m) (path : List (List ℕ)) (f : Node → Node) → ((n : Node) → mark_of (Some (f n)) ≡ mark_of (Some n)) → path ≡ [] → new ≡ f root → Next new links count (changed_at f path m)
+pub change_root : (root new : Node) (links : Links) (count : ℕ) (m : Nodes) (was : Next root links count m) (path : Path) (f : Node → Node) → ((n : Node) → mark_of (Some (f n)) ≡ mark_of (Some n)) → path ≡ [] → new ≡ f root → Next new links count (changed_at f path m)
 change_root root new links count m was path f keeps empty is =
     subst (λ p. Next new links count (changed_at f p m)) (sym empty) (subst (λ n. Next n links count (changed_at f [] m)) (sym is) (
     let found : fin.get m [] ≡ Some root = was.shown [] in
@@ -178,11 +178,11 @@ change_root root new links count m was path f keeps empty is =
     }))
 
 -- where even the parent is missing nothing changes
-pub change_missing : (m : Nodes) → AreValid m → (path : List (List ℕ)) (f : Node → Node) → path ≢ [] → fin.get m (parent_of path) ≡ None → m ≡ changed_at f path m
+pub change_missing : (m : Nodes) → AreValid m → (path : Path) (f : Node → Node) → path ≢ [] → fin.get m (parent_of path) ≡ None → m ≡ changed_at f path m
 change_missing m valid path f some none = sym (changed_missing f path m (parent_missing m valid path some none))
 
 module _ (root : Node) (links next : Links) (count : ℕ) (m : Nodes) (was : Next root links count m) where
-  move_there : (front up : List (List ℕ)) (x y : List ℕ) (old dir : Node) → fin.get m front ≡ Some old → fin.get m up ≡ Some dir → IsMovedTo (child links) (child next) old.uid x dir.uid y → CanMove m (front ++ x ∷ []) (up ++ y ∷ []) → Next root next count (moved (front ++ x ∷ []) (up ++ y ∷ []) m)
+  move_there : (front up : Path) (x y : List ℕ) (old dir : Node) → fin.get m front ≡ Some old → fin.get m up ≡ Some dir → IsMovedTo (child links) (child next) old.uid x dir.uid y → CanMove m (front ++ x ∷ []) (up ++ y ∷ []) → Next root next count (moved (front ++ x ∷ []) (up ++ y ∷ []) m)
   move_there front up x y old dir old_there dir_there move can =
       let node = value_of (fin.get m (front ++ x ∷ [])) can.there in
       let len = moved_len m (front ++ x ∷ []) (up ++ y ∷ []) can in
@@ -199,7 +199,7 @@ module _ (root : Node) (links next : Links) (count : ℕ) (m : Nodes) (was : Nex
       value_of None some = cc
       value_of (Some n) some = (n, refl)
 
-  pub move_next : (from to : List (List ℕ)) (old uid : ℕ) (old_name name : List ℕ) → IsPlace m from old old_name → IsPlace m to uid name → IsMovedTo (child links) (child next) old old_name uid name → CanMove m from to → Next root next count (moved from to m)
+  pub move_next : (from to : Path) (old uid : ℕ) (old_name name : List ℕ) → IsPlace m from old old_name → IsPlace m to uid name → IsMovedTo (child links) (child next) old old_name uid name → CanMove m from to → Next root next count (moved from to m)
   move_next from to old uid old_name name a b move can =
       subst (λ p. CanMove m p to → Next root next count (moved p to m)) (sym a.split) (
       subst (λ q. CanMove m (a.front ++ old_name ∷ []) q → Next root next count (moved (a.front ++ old_name ∷ []) q m)) (sym b.split)
@@ -208,11 +208,11 @@ module _ (root : Node) (links next : Links) (count : ℕ) (m : Nodes) (was : Nex
 
 module _ (root : Node) (links : Links) (count : ℕ) (m : Nodes) (was : Next root links count m) where
   -- what the names of two places lead to
-  pub place_child : (path : List (List ℕ)) (uid : ℕ) (name : List ℕ) → IsPlace m path uid name → fin.get m path ≡ child links uid name
+  pub place_child : (path : Path) (uid : ℕ) (name : List ℕ) → IsPlace m path uid name → fin.get m path ≡ child links uid name
   place_child path uid name place =
       ap (fin.get m) place.split ∙ child_shown (child links) root m was.shown place.front place.dir name place.there ∙ ap (λ u. child links u name) place.uid_is
 
-  pub why_lost : (path : List (List ℕ)) (last : Node) (refusal : Refusal) → IsLast (child links) root path last → refusal ≡ missing_below last.kind → IsMissing m path refusal
+  pub why_lost : (path : Path) (last : Node) (refusal : Refusal) → IsLast (child links) root path last → refusal ≡ missing_below last.kind → IsMissing m path refusal
   why_lost path last refusal is by =
       let there : fin.get m (take is.names path) ≡ Some last = was.shown (take is.names path) ∙ is.there in
       let gone : fin.get m (take (is.names + 1) path) ≡ None = was.shown (take (is.names + 1) path) ∙ is.missing in
@@ -222,29 +222,29 @@ module _ (root : Node) (links : Links) (count : ℕ) (m : Nodes) (was : Next roo
         reason = by ∙ front_decides m path is.names last is.shorter there (λ n from below. longer n (omega arith) (omega arith));
       }
 
-pub no_names : (p : List (List ℕ)) → length p ≡ 0 → p ≡ []
+pub no_names : (p : Path) → length p ≡ 0 → p ≡ []
 no_names [] e = refl
 no_names (x ∷ p) e = absurd (omega arith)
 
-pub some_names : (p : List (List ℕ)) → 0 < length p → p ≢ []
+pub some_names : (p : Path) → 0 < length p → p ≢ []
 some_names p lt e = absurd (omega (arith, ap length e))
 
-pub below_self : (p : List (List ℕ)) → is_at_or_below p p ≡ true
+pub below_self : (p : Path) → is_at_or_below p p ≡ true
 below_self p = ap (is_at_or_below p) (sym (append-nil p)) ∙ below_join p []
 
 -- a map that has a node has one at least
-pub one_there : (m : Nodes) (p : List (List ℕ)) (count : ℕ) → count ≡ fin.len m → IsSome (fin.get m p) → 1 ≤ count
+pub one_there : (m : Nodes) (p : Path) (count : ℕ) → count ≡ fin.len m → IsSome (fin.get m p) → 1 ≤ count
 one_there m p count counted some = by (fin.len m) refl
   where
     by : (n : ℕ) → fin.len m ≡ n → 1 ≤ count
     by zero e = let wrong : true ≡ false = sym some ∙ ap (λ (m : Nodes). is_some (fin.get m p)) (fin.empty_of_len m e) ∙ ap is_some (fin.get-empty path_cmp p) in cc
     by (suc n) e = omega (arith, counted)
 
-pub no_dir_missing : (m : Nodes) (path : List (List ℕ)) → (uid : ℕ) × (mark_at m (parent_of path) ≡ Some (uid, true)) → path ≢ [] → (path ≢ [] → fin.get m (parent_of path) ≡ None) → ⊥
+pub no_dir_missing : (m : Nodes) (path : Path) → (uid : ℕ) × (mark_at m (parent_of path) ≡ Some (uid, true)) → path ≢ [] → (path ≢ [] → fin.get m (parent_of path) ≡ None) → ⊥
 no_dir_missing m path up named missing = unlike (mark_at m (parent_of path)) (up.0, true) (ap mark_of (missing named)) up.1
 
 -- the lines that links show of a directory
-pub lines_are : (root : Node) (links : Links) (count : ℕ) (m : Nodes) → Next root links count m → (dir : List (List ℕ)) (node : Node) → fin.get m dir ≡ Some node → IsStrictlySortedBy name_cmp (map (λ (e : Entry). e.name) (lines_of links node.uid)) → lines_of links node.uid ≡ entries_in m dir
+pub lines_are : (root : Node) (links : Links) (count : ℕ) (m : Nodes) → Next root links count m → (dir : Path) (node : Node) → fin.get m dir ≡ Some node → IsStrictlySortedBy name_cmp (map (λ (e : Entry). e.name) (lines_of links node.uid)) → lines_of links node.uid ≡ entries_in m dir
 lines_are root links count m was dir node is ascend = listed_same _ m dir ascend (λ name. child_shown (child links) root m was.shown dir node name is)
 
 pub if_ok_same : {A E : Type 0} {x y : A} (r : Result A E) → x ≡ y → IfOk r (λ v. v ≡ x) → IfOk r (λ v. v ≡ y)

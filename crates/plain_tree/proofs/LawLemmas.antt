@@ -13,7 +13,7 @@ use Rattle.plain_tree.specs.declared.calls.Fate.{Fate}
 use Rattle.plain_tree.specs.declared.calls.Fate.TheVariants as fates
 use Rattle.plain_tree.specs.declared.calls.Refusal.{Refusal}
 use Rattle.plain_tree.specs.Cells.{Cell, written, resized}
-use Rattle.plain_tree.specs.Paths.{parent_of, same_path, is_at_or_below}
+use Rattle.plain_tree.specs.Paths.{Path, parent_of, same_path, is_at_or_below}
 use Rattle.plain_tree.specs.Tree.{Tree, Nodes, new_node, changed_at, touch, touched, change_noted, file_changed, moved, cells_at}
 use Rattle.plain_tree.specs.Laws.{IsUnused}
 use Rattle.plain_tree.specs.Refusals.{refusal_of}
@@ -67,11 +67,11 @@ refused_keeps t call at refusal e =
 -- a tree and a later one: the highest uid has not fallen, and each uid was there or is new
 record IsLater (t next : Tree) : Type 0 where
   rises : t.highest ≤ next.highest
-  known : (path : List (List ℕ)) (node : Node) → fin.get next.nodes path ≡ Some node → ((q : List (List ℕ)) × (old : Node) × (fin.get t.nodes q ≡ Some old) × (node.uid ≡ old.uid)) ⊎ (t.highest < node.uid)
+  known : (path : Path) (node : Node) → fin.get next.nodes path ≡ Some node → ((q : Path) × (old : Node) × (fin.get t.nodes q ≡ Some old) × (node.uid ≡ old.uid)) ⊎ (t.highest < node.uid)
 
 -- each node of a map has the uid of a node of another
 abbrev HasUidsOf : Nodes → Nodes → Type 0
-HasUidsOf next m = (path : List (List ℕ)) (node : Node) → fin.get next path ≡ Some node → (q : List (List ℕ)) × (old : Node) × (fin.get m q ≡ Some old) × (node.uid ≡ old.uid)
+HasUidsOf next m = (path : Path) (node : Node) → fin.get next path ≡ Some node → (q : Path) × (old : Node) × (fin.get m q ≡ Some old) × (node.uid ≡ old.uid)
 
 same_some : (x y : Node) → Some x ≡ Some y → x.uid ≡ y.uid
 same_some x y e = ap (λ o. uid_of o) e
@@ -80,12 +80,12 @@ same_some x y e = ap (λ o. uid_of o) e
     uid_of None = 0
     uid_of (Some n) = n.uid
 
-uids_changed : (change : Node → Node) → ((n : Node) → (change n).uid ≡ n.uid) → (p : List (List ℕ)) (m : Nodes) → HasUidsOf (changed_at change p m) m
+uids_changed : (change : Node → Node) → ((n : Node) → (change n).uid ≡ n.uid) → (p : Path) (m : Nodes) → HasUidsOf (changed_at change p m) m
 uids_changed change keeps p m path node is =
-    elim (fin.get m p) as (λ o. fin.get m p ≡ o → (q : List (List ℕ)) × (old : Node) × (fin.get m q ≡ Some old) × (node.uid ≡ old.uid)) [
+    elim (fin.get m p) as (λ o. fin.get m p ≡ o → (q : Path) × (old : Node) × (fin.get m q ≡ Some old) × (node.uid ≡ old.uid)) [
       | None ↦ λ none. (path, node, sym (ap (λ n. fin.get n path) (changed_missing change p m none)) ∙ is, refl)
       | Some old ↦ λ found.
-          elim (same_path path p) as (λ b. same_path path p ≡ b → (q : List (List ℕ)) × (old : Node) × (fin.get m q ≡ Some old) × (node.uid ≡ old.uid)) [
+          elim (same_path path p) as (λ b. same_path path p ≡ b → (q : Path) × (old : Node) × (fin.get m q ≡ Some old) × (node.uid ≡ old.uid)) [
             | true ↦ λ same. (p, old, found, same_some node (change old) (sym is ∙ ap (λ n. fin.get n path) (changed_found change p m old found) ∙ here_inserted m p path (change old) same) ∙ keeps old)
             | false ↦ λ other. (path, node, sym (ap (λ n. fin.get n path) (changed_found change p m old found) ∙ other_inserted m p path (change old) other) ∙ is, refl)
           ] refl
@@ -97,10 +97,10 @@ uids_of_uids a b c ab bc path node is =
     let two = bc one.0 one.1 one.2 in
     (two.0, two.1, two.2, one.3 ∙ two.3)
 
-uids_touched : (at : Moment) (p : List (List ℕ)) (m : Nodes) → HasUidsOf (touch at p m) m
+uids_touched : (at : Moment) (p : Path) (m : Nodes) → HasUidsOf (touch at p m) m
 uids_touched at p m = uids_changed (touched at) (λ n. refl) p m
 
-uids_file : (change : List Cell → List Cell) (at : Moment) (p : List (List ℕ)) (m : Nodes) → HasUidsOf (changed_at (file_changed change at) p m) m
+uids_file : (change : List Cell → List Cell) (at : Moment) (p : Path) (m : Nodes) → HasUidsOf (changed_at (file_changed change at) p m) m
 uids_file change at p m = uids_changed (file_changed change at) (λ n. by n n.kind refl) p m
   where
     by : (n : Node) (kind : Kind) → n.kind ≡ kind → (file_changed change at n).uid ≡ n.uid
@@ -108,20 +108,20 @@ uids_file change at p m = uids_changed (file_changed change at) (λ n. by n n.ki
     by n (kinds.File cells) is = rw is refl
     by n (kinds.Link text) is = rw is refl
 
-uids_removed : (p : List (List ℕ)) (m : Nodes) → HasUidsOf (fin.remove m p) m
+uids_removed : (p : Path) (m : Nodes) → HasUidsOf (fin.remove m p) m
 uids_removed p m path node is =
-    elim (same_path path p) as (λ b. same_path path p ≡ b → (q : List (List ℕ)) × (old : Node) × (fin.get m q ≡ Some old) × (node.uid ≡ old.uid)) [
+    elim (same_path path p) as (λ b. same_path path p ≡ b → (q : Path) × (old : Node) × (fin.get m q ≡ Some old) × (node.uid ≡ old.uid)) [
       | true ↦ λ same. let wrong : None ≡ Some node = sym (fin.get-remove path_total m p path ∙ ap (λ b. cond b None (fin.get m path)) same) ∙ is in cc
       | false ↦ λ other. (path, node, sym (other_removed m p path other) ∙ is, refl)
     ] refl
 
-uids_moved : (from to : List (List ℕ)) (m : Nodes) → ((x : List (List ℕ)) → is_at_or_below to x ≡ true → fin.get m x ≡ None) → HasUidsOf (moved from to m) m
+uids_moved : (from to : Path) (m : Nodes) → ((x : Path) → is_at_or_below to x ≡ true → fin.get m x ≡ None) → HasUidsOf (moved from to m) m
 uids_moved from to m free path node is =
     let now = sym (get_moved from to m path free) ∙ is in
-    elim (is_at_or_below to path) as (λ a. cond a (fin.get m (back from to path)) (cond (is_at_or_below from path) None (fin.get m path)) ≡ Some node → (q : List (List ℕ)) × (old : Node) × (fin.get m q ≡ Some old) × (node.uid ≡ old.uid)) [
+    elim (is_at_or_below to path) as (λ a. cond a (fin.get m (back from to path)) (cond (is_at_or_below from path) None (fin.get m path)) ≡ Some node → (q : Path) × (old : Node) × (fin.get m q ≡ Some old) × (node.uid ≡ old.uid)) [
       | true ↦ λ e. (back from to path, node, e, refl)
       | false ↦ λ e.
-          elim (is_at_or_below from path) as (λ b. cond b None (fin.get m path) ≡ Some node → (q : List (List ℕ)) × (old : Node) × (fin.get m q ≡ Some old) × (node.uid ≡ old.uid)) [
+          elim (is_at_or_below from path) as (λ b. cond b None (fin.get m path) ≡ Some node → (q : Path) × (old : Node) × (fin.get m q ≡ Some old) × (node.uid ≡ old.uid)) [
             | true ↦ λ e. cc
             | false ↦ λ e. (path, node, e, refl)
           ] e
@@ -134,13 +134,13 @@ later t next uids = record { rises = omega arith; known = λ path node is. inl (
 later_same : (t : Tree) → IsLater t t
 later_same t = record { rises = omega arith; known = λ path node is. inl (path, node, is, refl) }
 
-later_new : (kind : Kind) (t : Tree) (path : List (List ℕ)) (at : Moment) → IsLater t (with_new kind t path at)
+later_new : (kind : Kind) (t : Tree) (path : Path) (at : Moment) → IsLater t (with_new kind t path at)
 later_new kind t path at = record {
   rises = omega arith;
   known = λ q node is.
       let new = new_node kind (t.highest + 1) at in
       let was = uids_touched at (parent_of path) (fin.insert t.nodes path (new_node kind (t.highest + 1) at)) q node is in
-      elim (same_path was.0 path) as (λ b. same_path was.0 path ≡ b → ((p : List (List ℕ)) × (old : Node) × (fin.get t.nodes p ≡ Some old) × (node.uid ≡ old.uid)) ⊎ (t.highest < node.uid)) [
+      elim (same_path was.0 path) as (λ b. same_path was.0 path ≡ b → ((p : Path) × (old : Node) × (fin.get t.nodes p ≡ Some old) × (node.uid ≡ old.uid)) ⊎ (t.highest < node.uid)) [
         | true ↦ λ same. inr (let uid : was.1.uid ≡ t.highest + 1 = same_some was.1 (new_node kind (t.highest + 1) at) (sym was.2 ∙ here_inserted t.nodes path was.0 (new_node kind (t.highest + 1) at) same) in omega (arith, was.3))
         | false ↦ λ other. inl (was.0, was.1, sym (other_inserted t.nodes path was.0 (new_node kind (t.highest + 1) at) other) ∙ was.2, was.3)
       ] refl;

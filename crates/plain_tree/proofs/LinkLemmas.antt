@@ -11,6 +11,7 @@ use Rattle.std.proofs.lemmas.List.{take_more}
 use Rattle.plain_tree.specs.declared.nodes.Node.{Node}
 use Rattle.plain_tree.specs.declared.calls.Entry.{Entry}
 use Rattle.plain_tree.specs.Links.{Child, Names, name_cmp, under, child, walk, lines, line_of, IsPut, IsPutIn, IsMovedTo}
+use Rattle.plain_tree.specs.Paths.{Path}
 
 pub name_exact : fin.IsAntisymmetric name_cmp
 name_exact = fin.slice_cmp-IsAntisymmetric fin.nat_cmp-IsAntisymmetric
@@ -80,16 +81,16 @@ module _ (dirs next : BTreeMap ℕ Names) (uid : ℕ) (new : Names) (name : List
       in_empty n = rw nothing refl
 
 -- a step of a walk
-pub walk_none : (child : Child) (path : List (List ℕ)) → walk child None path ≡ None
+pub walk_none : (child : Child) (path : Path) → walk child None path ≡ None
 walk_none child [] = refl
 walk_none child (x ∷ path) = refl
 
-pub walk_append : (child : Child) (at : Option Node) (p q : List (List ℕ)) → walk child at (p ++ q) ≡ walk child (walk child at p) q
+pub walk_append : (child : Child) (at : Option Node) (p q : Path) → walk child at (p ++ q) ≡ walk child (walk child at p) q
 walk_append child at [] q = refl
 walk_append child None (x ∷ p) q = sym (walk_none child q)
 walk_append child (Some node) (x ∷ p) q = walk_append child (child node.uid x) p q
 
-pub walk_more : (child : Child) (at : Option Node) (path : List (List ℕ)) (k : ℕ) (name : List ℕ) (node : Node) → k < length path → name ≡ get_or path k name → walk child at (take k path) ≡ Some node → walk child at (take (k + 1) path) ≡ child node.uid name
+pub walk_more : (child : Child) (at : Option Node) (path : Path) (k : ℕ) (name : List ℕ) (node : Node) → k < length path → name ≡ get_or path k name → walk child at (take k path) ≡ Some node → walk child at (take (k + 1) path) ≡ child node.uid name
 walk_more child at path k name node lt is there = ap (walk child at) (take_more path k name lt ∙ ap (λ x. take k path ++ x ∷ []) (sym is)) ∙ walk_append child at (take k path) (name ∷ []) ∙ ap (λ o. walk child o (name ∷ [])) there
 
 -- a move in three steps

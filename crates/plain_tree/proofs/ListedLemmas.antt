@@ -11,7 +11,7 @@ use Rattle.std.specs.FinMap as fin
 use Rattle.plain_tree.specs.declared.nodes.Node.{Node}
 use Rattle.plain_tree.specs.declared.calls.Entry.{Entry}
 use Rattle.plain_tree.specs.declared.calls.Sort.{Sort}
-use Rattle.plain_tree.specs.Paths.{path_cmp, same_path, name_in}
+use Rattle.plain_tree.specs.Paths.{Path, path_cmp, same_path, name_in}
 use Rattle.plain_tree.specs.Tree.{Nodes, sort_of, entry_in, entries_in}
 use Rattle.plain_tree.specs.Links.{Names, name_cmp, under, lines, line_of}
 use Rattle.plain_tree.proofs.MoveLemmas.{same_is, not_same}
@@ -53,7 +53,7 @@ found_line (Some names) q = by names.entries
     ]
 
 -- the sort under a name, in the listing of the map
-found_entry : (es : List (List (List ℕ) × Node)) (dir : List (List ℕ)) (q : List ℕ) → fin.find name_cmp q (pairs (filter_map (entry_in dir) es)) ≡ sort_at (fin.find path_cmp (dir ++ q ∷ []) es)
+found_entry : (es : List (Path × Node)) (dir : Path) (q : List ℕ) → fin.find name_cmp q (pairs (filter_map (entry_in dir) es)) ≡ sort_at (fin.find path_cmp (dir ++ q ∷ []) es)
 found_entry [] dir q = refl
 found_entry (e ∷ es) dir q =
     elim (entry_in dir e) as (λ o. entry_in dir e ≡ o → fin.find name_cmp q (pairs (cons_option o (filter_map (entry_in dir) es))) ≡ sort_at (cond (same_path (dir ++ q ∷ []) e.0) (Some e.1) (fin.find path_cmp (dir ++ q ∷ []) es))) [
@@ -80,7 +80,7 @@ is_T true e = tt
 is_T false e = cc
 
 -- lines that ascend, and show of each name what the map has, are those of the listing
-pub listed : (es : List Entry) (m : Nodes) (dir : List (List ℕ)) → IsStrictlySortedBy name_cmp (map (λ (e : Entry). e.name) es) → ((q : List ℕ) → fin.find name_cmp q (pairs es) ≡ sort_at (fin.get m (dir ++ q ∷ []))) → es ≡ entries_in m dir
+pub listed : (es : List Entry) (m : Nodes) (dir : Path) → IsStrictlySortedBy name_cmp (map (λ (e : Entry). e.name) es) → ((q : List ℕ) → fin.find name_cmp q (pairs es) ≡ sort_at (fin.get m (dir ++ q ∷ []))) → es ≡ entries_in m dir
 listed es m dir ascend same =
     let one : pairs es ≡ pairs (entries_in m dir) = fin.Entries.same_entries name_cmp nat_list_cmp_total name_exact (pairs es) (pairs (entries_in m dir))
     (is_T _ (sorted_pairs es ascend)) (is_T _ (sorted_pairs (entries_in m dir) (exact m dir).ascends))
@@ -88,5 +88,5 @@ listed es m dir ascend same =
     sym (unpaired es) ∙ ap (map (λ (p : List ℕ × Sort). record { sort = p.1; name = p.0 })) one ∙ unpaired (entries_in m dir)
 
 -- both have the same lines where they have the same nodes
-pub listed_same : (o : Option Names) (m : Nodes) (dir : List (List ℕ)) → IsStrictlySortedBy name_cmp (map (λ (e : Entry). e.name) (lines o)) → ((name : List ℕ) → fin.get m (dir ++ name ∷ []) ≡ under o name) → lines o ≡ entries_in m dir
+pub listed_same : (o : Option Names) (m : Nodes) (dir : Path) → IsStrictlySortedBy name_cmp (map (λ (e : Entry). e.name) (lines o)) → ((name : List ℕ) → fin.get m (dir ++ name ∷ []) ≡ under o name) → lines o ≡ entries_in m dir
 listed_same o m dir ascend same = listed (lines o) m dir ascend (λ q. found_line o q ∙ ap sort_at (sym (same q)))

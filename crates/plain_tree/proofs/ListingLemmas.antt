@@ -16,7 +16,7 @@ use Rattle.plain_tree.specs.declared.calls.Entry.{Entry}
 use Rattle.plain_tree.specs.declared.calls.Answer.TheVariants as answers
 use Rattle.plain_tree.specs.declared.calls.Call.TheVariants.{Listing}
 use Rattle.plain_tree.specs.declared.calls.Refusal.{Refusal}
-use Rattle.plain_tree.specs.Paths.{path_cmp, same_path, is_at_or_below, is_below, last_name, name_in}
+use Rattle.plain_tree.specs.Paths.{Path, path_cmp, same_path, is_at_or_below, is_below, last_name, name_in}
 use Rattle.plain_tree.specs.Tree.{Tree, Nodes, sort_of, entry_in, entries_in}
 use Rattle.plain_tree.specs.Refusals.{no_dir}
 use Rattle.plain_tree.specs.Calls.{answer, answer_unless}
@@ -24,10 +24,10 @@ use Rattle.plain_tree.specs.Laws.{IsExactListing}
 use Rattle.plain_tree.proofs.MoveLemmas.{both_true, same_is, same_self, not_true, below_split, below_join, none_above}
 
 abbrev Row : Type 0
-Row = List (List ℕ) × Node
+Row = Path × Node
 
 -- the name of a child
-pub child_name : (dir : List (List ℕ)) (name : List ℕ) → name_in dir (dir ++ name ∷ []) ≡ Some name
+pub child_name : (dir : Path) (name : List ℕ) → name_in dir (dir ++ name ∷ []) ≡ Some name
 child_name dir name =
     let p = dir ++ name ∷ [] in
     let long : length (dir ++ name ∷ []) ≡ length dir + 1 = length-append dir (name ∷ []) in
@@ -37,12 +37,12 @@ child_name dir name =
     ∙ ap (λ b. cond (not b && eqb (length p) (length dir + 1)) (last_name p) None) other ∙ ap (λ b. cond b (last_name p) None) one
     ∙ ap (slice_get p) (omega arith) ∙ at_end dir name
   where
-    at_end : (dir : List (List ℕ)) (name : List ℕ) → slice_get (dir ++ name ∷ []) (length dir) ≡ Some name
+    at_end : (dir : Path) (name : List ℕ) → slice_get (dir ++ name ∷ []) (length dir) ≡ Some name
     at_end [] name = refl
     at_end (x ∷ dir) name = at_end dir name
 
 -- a path that has a name in a directory is that of a child
-child_path : (dir p : List (List ℕ)) (name : List ℕ) → name_in dir p ≡ Some name → p ≡ dir ++ name ∷ []
+child_path : (dir p : Path) (name : List ℕ) → name_in dir p ≡ Some name → p ≡ dir ++ name ∷ []
 child_path dir p name e =
     elim (is_below dir p && eqb (length p) (length dir + 1)) as (λ b. (is_below dir p && eqb (length p) (length dir + 1)) ≡ b → cond b (last_name p) None ≡ Some name → p ≡ dir ++ name ∷ []) [
       | true ↦ λ test named.
@@ -58,12 +58,12 @@ child_path dir p name e =
       | false ↦ λ test named. cc
     ] refl e
   where
-    one_name : (r : List (List ℕ)) → length r ≡ 1 → (n : List ℕ) × (r ≡ n ∷ [])
+    one_name : (r : Path) → length r ≡ 1 → (n : List ℕ) × (r ≡ n ∷ [])
     one_name [] e = absurd (omega arith)
     one_name (x ∷ []) e = (x, refl)
     one_name (x ∷ y ∷ r) e = absurd (omega arith)
 
-    at_end : (dir : List (List ℕ)) (name : List ℕ) → slice_get (dir ++ name ∷ []) (length dir) ≡ Some name
+    at_end : (dir : Path) (name : List ℕ) → slice_get (dir ++ name ∷ []) (length dir) ≡ Some name
     at_end [] name = refl
     at_end (x ∷ dir) name = at_end dir name
 
@@ -86,7 +86,7 @@ first_or_rest y xs x c = by c.0 c.1 c.2
     by (suc k) lt e = inr (k, omega arith, e)
 
 -- each child that is found has its line
-complete_in : (es : List Row) (dir : List (List ℕ)) (name : List ℕ) (node : Node) → fin.find path_cmp (dir ++ name ∷ []) es ≡ Some node → Contains (filter_map (entry_in dir) es) (record { sort = sort_of node.kind; name = name })
+complete_in : (es : List Row) (dir : Path) (name : List ℕ) (node : Node) → fin.find path_cmp (dir ++ name ∷ []) es ≡ Some node → Contains (filter_map (entry_in dir) es) (record { sort = sort_of node.kind; name = name })
 complete_in [] dir name node found = cc
 complete_in (e ∷ es) dir name node found =
     elim (same_path (dir ++ name ∷ []) e.0) as (λ b. same_path (dir ++ name ∷ []) e.0 ≡ b → cond b (Some e.1) (fin.find path_cmp (dir ++ name ∷ []) es) ≡ Some node → Contains (cons_option (entry_in dir e) (filter_map (entry_in dir) es)) (record { sort = sort_of node.kind; name = name })) [
@@ -100,7 +100,7 @@ complete_in (e ∷ es) dir name node found =
     ] refl found
 
 -- what a line says
-pub line_says : (dir : List (List ℕ)) (e : Row) (line : Entry) → entry_in dir e ≡ Some line → (e.0 ≡ dir ++ line.name ∷ []) × (line.sort ≡ sort_of e.1.kind)
+pub line_says : (dir : Path) (e : Row) (line : Entry) → entry_in dir e ≡ Some line → (e.0 ≡ dir ++ line.name ∷ []) × (line.sort ≡ sort_of e.1.kind)
 line_says dir e line is = by (name_in dir e.0) refl is
   where
     by : (o : Option (List ℕ)) → name_in dir e.0 ≡ o → option_map (λ name. record { sort = sort_of e.1.kind; name = name }) o ≡ Some line → (e.0 ≡ dir ++ line.name ∷ []) × (line.sort ≡ sort_of e.1.kind)
@@ -110,7 +110,7 @@ line_says dir e line is = by (name_in dir e.0) refl is
         let same : made ≡ line = cc in
         (child_path dir e.0 name named ∙ ap (λ (x : Entry). dir ++ x.name ∷ []) same, sym (ap (λ (x : Entry). x.sort) same))
 
-none_found : (es : List Row) (q : List (List ℕ)) → list_any (same_path q) (map (λ e. e.0) es) ≡ false → fin.find path_cmp q es ≡ None
+none_found : (es : List Row) (q : Path) → list_any (same_path q) (map (λ e. e.0) es) ≡ false → fin.find path_cmp q es ≡ None
 none_found [] q e = refl
 none_found (x ∷ es) q e =
     elim (same_path q x.0) as (λ b. (b || list_any (same_path q) (map (λ e. e.0) es)) ≡ false → cond b (Some x.1) (fin.find path_cmp q es) ≡ None) [
@@ -119,7 +119,7 @@ none_found (x ∷ es) q e =
     ] e
 
 -- each line is of a child that is found
-sound_in : (es : List Row) (dir : List (List ℕ)) (line : Entry) → fin.is_sorted path_cmp es ≡ true → Contains (filter_map (entry_in dir) es) line → (node : Node) × (fin.find path_cmp (dir ++ line.name ∷ []) es ≡ Some node) × (line.sort ≡ sort_of node.kind)
+sound_in : (es : List Row) (dir : Path) (line : Entry) → fin.is_sorted path_cmp es ≡ true → Contains (filter_map (entry_in dir) es) line → (node : Node) × (fin.find path_cmp (dir ++ line.name ∷ []) es ≡ Some node) × (line.sort ≡ sort_of node.kind)
 sound_in [] dir line sorted c = absurd (omega (arith, c.1))
 sound_in (e ∷ es) dir line sorted c =
     let parts = both_true (fin.Entries.below_all path_cmp e.0 es) (fin.is_sorted path_cmp es) sorted in
@@ -138,7 +138,7 @@ sound_in (e ∷ es) dir line sorted c =
     ] refl c
 
 -- children of one directory are in the order of their names
-pub cmp_children : (dir : List (List ℕ)) (a b : List ℕ) → path_cmp (dir ++ a ∷ []) (dir ++ b ∷ []) ≡ slice_cmp nat_cmp a b
+pub cmp_children : (dir : Path) (a b : List ℕ) → path_cmp (dir ++ a ∷ []) (dir ++ b ∷ []) ≡ slice_cmp nat_cmp a b
 cmp_children [] a b = last (slice_cmp nat_cmp a b)
   where
     last : (r : Ordering) → ordering_then r Equal ≡ r
@@ -152,7 +152,7 @@ is_less Less e = refl
 is_less Equal e = cc
 is_less Greater e = cc
 
-names_above : (es : List Row) (dir p : List (List ℕ)) (name : List ℕ) → p ≡ dir ++ name ∷ [] → fin.Entries.below_all path_cmp p es ≡ true → AllByRecursion (λ y. slice_cmp nat_cmp name y ≡ Less) (map (λ (e : Entry). e.name) (filter_map (entry_in dir) es))
+names_above : (es : List Row) (dir p : Path) (name : List ℕ) → p ≡ dir ++ name ∷ [] → fin.Entries.below_all path_cmp p es ≡ true → AllByRecursion (λ y. slice_cmp nat_cmp name y ≡ Less) (map (λ (e : Entry). e.name) (filter_map (entry_in dir) es))
 names_above [] dir p name is above = tt
 names_above (e ∷ es) dir p name is above =
     let parts = both_true (is_lt (path_cmp p e.0)) (fin.Entries.below_all path_cmp p es) above in
@@ -162,7 +162,7 @@ names_above (e ∷ es) dir p name is above =
       | Some line ↦ λ entry. (sym (cmp_children dir name line.name) ∙ ap (λ q. path_cmp q (dir ++ line.name ∷ [])) (sym is) ∙ ap (path_cmp p) (sym (line_says dir e line entry).0) ∙ is_less (path_cmp p e.0) parts.0, rest)
     ] refl
 
-names_ascend : (es : List Row) (dir : List (List ℕ)) → fin.is_sorted path_cmp es ≡ true → IsStrictlySortedBy (slice_cmp nat_cmp) (map (λ (e : Entry). e.name) (filter_map (entry_in dir) es))
+names_ascend : (es : List Row) (dir : Path) → fin.is_sorted path_cmp es ≡ true → IsStrictlySortedBy (slice_cmp nat_cmp) (map (λ (e : Entry). e.name) (filter_map (entry_in dir) es))
 unfolding IsStrictlySortedBy
 names_ascend [] dir sorted = tt
 names_ascend (e ∷ es) dir sorted =
@@ -180,14 +180,14 @@ sorted_entries m = is_true (fin.is_sorted path_cmp (fin.entries m)) (fin.entries
     is_true true h = refl
     is_true false h = absurd h
 
-pub exact : (m : Nodes) (dir : List (List ℕ)) → IsExactListing m dir (entries_in m dir)
+pub exact : (m : Nodes) (dir : Path) → IsExactListing m dir (entries_in m dir)
 exact m dir = record {
   complete = λ name node found. complete_in (fin.entries m) dir name node (sym (fin.get-entries m (dir ++ name ∷ [])) ∙ found);
   sound = λ line c. let s = sound_in (fin.entries m) dir line (sorted_entries m) c in (s.0, fin.get-entries m (dir ++ line.name ∷ []) ∙ s.1, s.2);
   ascends = names_ascend (fin.entries m) dir (sorted_entries m);
 }
 
-pub listing_exact : (t : Tree) (dir : List (List ℕ)) (entries : List Entry) → answer t (Listing dir) ≡ answers.Names entries → IsExactListing t.nodes dir entries
+pub listing_exact : (t : Tree) (dir : Path) (entries : List Entry) → answer t (Listing dir) ≡ answers.Names entries → IsExactListing t.nodes dir entries
 listing_exact t dir entries e =
     elim (no_dir t.nodes dir) as (λ (r : Option Refusal). answer_unless r (answers.Names (entries_in t.nodes dir)) ≡ answers.Names entries → IsExactListing t.nodes dir entries) [
       | None ↦ λ f. let same : entries_in t.nodes dir ≡ entries = cc in subst (λ (l : List Entry). IsExactListing t.nodes dir l) same (exact t.nodes dir)

@@ -7,14 +7,14 @@ use Rattle.std.specs.Cmp.{IsTotalOrder}
 use Rattle.std.specs.Cmp.Lexicographic.{lists_total, nat_list_cmp_total}
 use Rattle.std.specs.FinMap as fin
 use Rattle.plain_tree.specs.declared.nodes.Node.{Node}
-use Rattle.plain_tree.specs.Paths.{path_cmp}
+use Rattle.plain_tree.specs.Paths.{Path, path_cmp}
 use Rattle.plain_tree.specs.Tree.{Nodes, changed_at}
 
 -- a change where there is a node, and where there is none
-pub changed_found : (change : Node → Node) (p : List (List ℕ)) (m : Nodes) (node : Node) → fin.get m p ≡ Some node → changed_at change p m ≡ fin.insert m p (change node)
+pub changed_found : (change : Node → Node) (p : Path) (m : Nodes) (node : Node) → fin.get m p ≡ Some node → changed_at change p m ≡ fin.insert m p (change node)
 changed_found change p m node is = rw is refl
 
-pub changed_missing : (change : Node → Node) (p : List (List ℕ)) (m : Nodes) → fin.get m p ≡ None → changed_at change p m ≡ m
+pub changed_missing : (change : Node → Node) (p : Path) (m : Nodes) → fin.get m p ≡ None → changed_at change p m ≡ m
 changed_missing change p m is = rw is refl
 
 pub path_total : IsTotalOrder path_cmp

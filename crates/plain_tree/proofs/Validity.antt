@@ -24,7 +24,7 @@ use Rattle.plain_tree.specs.declared.calls.Refusal.TheVariants.{Root, Exists, No
 use Rattle.plain_tree.specs.declared.calls.Call.{Call}
 use Rattle.plain_tree.specs.declared.calls.Call.TheVariants.{Mkdir, Create, Write, Truncate, Read, Listing, Stat, Rename, Remove, Sync}
 use Rattle.plain_tree.specs.Cells.{Cell, written, resized}
-use Rattle.plain_tree.specs.Paths.{path_cmp, name_in, last_name, parent_of, same_path, is_at_or_below, is_below, moved_path}
+use Rattle.plain_tree.specs.Paths.{Path, path_cmp, name_in, last_name, parent_of, same_path, is_at_or_below, is_below, moved_path}
 use Rattle.plain_tree.specs.Tree.{Tree, sort_of, Nodes, empty_tree, new_node, changed_at, touch, touched, change_noted, file_changed, changed_by, moved, entry_in, entries_in, cells_at}
 use Rattle.plain_tree.specs.Refusals.{first_of, refuse_if, no_node, no_dir, exists_at, at_root, too_many, not_empty, bad_name, new_refusal, rename_refusal, refusal_of}
 use Rattle.plain_tree.specs.Calls.{with_new, with_bytes, with_length, with_rename, without, after, after_done, after_unless}
@@ -34,7 +34,7 @@ use Rattle.plain_tree.proofs.NodeLemmas.{path_total, path_exact, changed_found, 
 use Rattle.plain_tree.proofs.MoveLemmas.{same_is, is_same, below_split, below_join, below_Decides, not_true, back, back_below, get_moved}
 
 -- a shape goes by the marks alone
-pub same_shape : (m n : List (List ℕ) → Option (ℕ × Bool)) (c d h : ℕ) → ((p : List (List ℕ)) → n p ≡ m p) → d ≤ c → IsShape m c h → IsShape n d h
+pub same_shape : (m n : Path → Option (ℕ × Bool)) (c d h : ℕ) → ((p : Path) → n p ≡ m p) → d ≤ c → IsShape m c h → IsShape n d h
 same_shape m n c d h same count s = record {
   root = same [] ∙ s.root;
   parents = λ p uid dir at some. let up = s.parents p uid dir (sym (same p) ∙ at) some in (up.0, same (parent_of p) ∙ up.1);
@@ -45,19 +45,19 @@ same_shape m n c d h same count s = record {
 }
 
 -- a node that keeps its mark, put in its own place, changes no mark
-remark : (m : Nodes) (p q : List (List ℕ)) (node new : Node) (r : Ordering) → path_cmp q p ≡ r → fin.get m p ≡ Some node → mark_of (Some new) ≡ mark_of (Some node) → mark_of (cond (is_eq r) (Some new) (fin.get m q)) ≡ mark_of (fin.get m q)
+remark : (m : Nodes) (p q : Path) (node new : Node) (r : Ordering) → path_cmp q p ≡ r → fin.get m p ≡ Some node → mark_of (Some new) ≡ mark_of (Some node) → mark_of (cond (is_eq r) (Some new) (fin.get m q)) ≡ mark_of (fin.get m q)
 remark m p q node new Less is found same = refl
 remark m p q node new Equal is found same = same ∙ ap mark_of (sym found ∙ fin.get_tied path_total m q p is)
 remark m p q node new Greater is found same = refl
 
-remarks : (m : Nodes) (p : List (List ℕ)) (node new : Node) → fin.get m p ≡ Some node → mark_of (Some new) ≡ mark_of (Some node) → (q : List (List ℕ)) → mark_at (fin.insert m p new) q ≡ mark_at m q
+remarks : (m : Nodes) (p : Path) (node new : Node) → fin.get m p ≡ Some node → mark_of (Some new) ≡ mark_of (Some node) → (q : Path) → mark_at (fin.insert m p new) q ≡ mark_at m q
 remarks m p node new found same q = ap mark_of (fin.get-insert path_total m p new q) ∙ remark m p q node new (path_cmp q p) refl found same
 
-pub recount : (m : Nodes) (p : List (List ℕ)) (node new : Node) → fin.get m p ≡ Some node → fin.len (fin.insert m p new) ≡ fin.len m
+pub recount : (m : Nodes) (p : Path) (node new : Node) → fin.get m p ≡ Some node → fin.len (fin.insert m p new) ≡ fin.len m
 recount m p node new found = fin.len-insert path_total m p new ∙ ap (λ o. cond (is_some o) (fin.len m) (fin.len m + 1)) found
 
 -- a change that keeps every node's mark keeps the shape
-pub changed_keeps : (change : Node → Node) → ((n : Node) → mark_of (Some (change n)) ≡ mark_of (Some n)) → (p : List (List ℕ)) (m : Nodes) (h : ℕ) → IsShape (mark_at m) (fin.len m) h → IsShape (mark_at (changed_at change p m)) (fin.len (changed_at change p m)) h
+pub changed_keeps : (change : Node → Node) → ((n : Node) → mark_of (Some (change n)) ≡ mark_of (Some n)) → (p : Path) (m : Nodes) (h : ℕ) → IsShape (mark_at m) (fin.len m) h → IsShape (mark_at (changed_at change p m)) (fin.len (changed_at change p m)) h
 changed_keeps change keeps p m h s =
     elim (fin.get m p) as (λ o. fin.get m p ≡ o → IsShape (mark_at (changed_at change p m)) (fin.len (changed_at change p m)) h) [
       | None ↦ λ is. subst (λ (n : Nodes). IsShape (mark_at n) (fin.len n) h) (sym (changed_missing change p m is)) s
@@ -65,7 +65,7 @@ changed_keeps change keeps p m h s =
           (same_shape _ _ _ _ h (remarks m p node (change node) is (keeps node)) (omega (arith, recount m p node (change node) is)) s)
     ] refl
 
-touch_keeps : (at : Moment) (p : List (List ℕ)) (m : Nodes) (h : ℕ) → IsShape (mark_at m) (fin.len m) h → IsShape (mark_at (touch at p m)) (fin.len (touch at p m)) h
+touch_keeps : (at : Moment) (p : Path) (m : Nodes) (h : ℕ) → IsShape (mark_at m) (fin.len m) h → IsShape (mark_at (touch at p m)) (fin.len (touch at p m)) h
 touch_keeps at p m h s = changed_keeps (touched at) (λ n. refl) p m h s
 
 pub file_mark : (change : List Cell → List Cell) (at : Moment) (node : Node) → mark_of (Some (file_changed change at node)) ≡ mark_of (Some node)
@@ -81,15 +81,15 @@ change_mark changes.Touch at node = refl
 change_mark changes.Note at node = refl
 change_mark (changes.Resize size) at node = file_mark (λ cells. resized cells size) at node
 
-pub file_keeps : (change : List Cell → List Cell) (at : Moment) (p : List (List ℕ)) (m : Nodes) (h : ℕ) → IsShape (mark_at m) (fin.len m) h → IsShape (mark_at (changed_at (file_changed change at) p m)) (fin.len (changed_at (file_changed change at) p m)) h
+pub file_keeps : (change : List Cell → List Cell) (at : Moment) (p : Path) (m : Nodes) (h : ℕ) → IsShape (mark_at m) (fin.len m) h → IsShape (mark_at (changed_at (file_changed change at) p m)) (fin.len (changed_at (file_changed change at) p m)) h
 file_keeps change at p m h s = changed_keeps (file_changed change at) (file_mark change at) p m h s
 
-shorter : (p : List (List ℕ)) → p ≢ [] → parent_of p ≢ p
+shorter : (p : Path) → p ≢ [] → parent_of p ≢ p
 shorter [] some e = some refl
 shorter (x ∷ p) some e = absurd (omega (arith, length-take (length (x ∷ p) - 1) (x ∷ p), ap length e))
 
 -- a path is the one that is added, or has its old mark
-cases_at : (mark : List (List ℕ) → Option (ℕ × Bool)) (p q : List (List ℕ)) (now : Option (ℕ × Bool)) (new : ℕ × Bool) (r : Ordering) → path_cmp q p ≡ r → now ≡ cond (is_eq r) (Some new) (mark q) → ((q ≡ p) × (now ≡ Some new)) ⊎ (now ≡ mark q)
+cases_at : (mark : Path → Option (ℕ × Bool)) (p q : Path) (now : Option (ℕ × Bool)) (new : ℕ × Bool) (r : Ordering) → path_cmp q p ≡ r → now ≡ cond (is_eq r) (Some new) (mark q) → ((q ≡ p) × (now ≡ Some new)) ⊎ (now ≡ mark q)
 cases_at mark p q now new Less is e = inr e
 cases_at mark p q now new Equal is e = inl (path_exact q p is, e)
 cases_at mark p q now new Greater is e = inr e
@@ -98,14 +98,14 @@ abbrev uid_in : Option (ℕ × Bool) → ℕ
 uid_in None = 0
 uid_in (Some v) = v.0
 
-module _ (mark more : List (List ℕ) → Option (ℕ × Bool)) (p : List (List ℕ)) (dir : Bool) (c d h up : ℕ)
-    (adds : (q : List (List ℕ)) → more q ≡ cond (is_eq (path_cmp q p)) (Some (h + 1, dir)) (mark q))
+module _ (mark more : Path → Option (ℕ × Bool)) (p : Path) (dir : Bool) (c d h up : ℕ)
+    (adds : (q : Path) → more q ≡ cond (is_eq (path_cmp q p)) (Some (h + 1, dir)) (mark q))
     (free : mark p ≡ None) (some : p ≢ []) (below : mark (parent_of p) ≡ Some (up, true)) (room : h < 2 ^ 62) (space : c < 65536) (count : d ≡ c + 1) where
-  at : (q : List (List ℕ)) → ((q ≡ p) × (more q ≡ Some (h + 1, dir))) ⊎ (more q ≡ mark q)
+  at : (q : Path) → ((q ≡ p) × (more q ≡ Some (h + 1, dir))) ⊎ (more q ≡ mark q)
   at q = cases_at mark p q (more q) (h + 1, dir) (path_cmp q p) refl (adds q)
 
   -- what was there keeps its mark
-  stays : (q : List (List ℕ)) (v : ℕ × Bool) → mark q ≡ Some v → more q ≡ Some v
+  stays : (q : Path) (v : ℕ × Bool) → mark q ≡ Some v → more q ≡ Some v
   stays q v is = ⊎_elim (λ new. let gone : None ≡ Some v = sym free ∙ ap mark (sym new.0) ∙ is in cc) (λ old. old ∙ is) (at q)
 
   extended : IsShape mark c h → IsShape more d (h + 1)
@@ -142,13 +142,13 @@ not_some : {A : Type 0} (o : Option A) → is_some o ≡ false → o ≡ None
 not_some None e = refl
 not_some (Some x) e = cc
 
-pub not_root : (p : List (List ℕ)) → at_root p ≡ None → p ≢ []
+pub not_root : (p : Path) → at_root p ≡ None → p ≢ []
 not_root p e is = let wrong : true ≡ false = sym (ap (λ q. eqb (length q) 0) is) ∙ not_refused (eqb (length p) 0) Root e in cc
 
 pub room_of : (t : Tree) → too_many t ≡ None → (fin.len t.nodes < 65536) × (t.highest < 2 ^ 62)
 room_of t e = grind (arith, nat_tests)
 
-pub dir_there : (nodes : Nodes) (path : List (List ℕ)) → no_dir nodes path ≡ None → (up : ℕ) × (mark_at nodes path ≡ Some (up, true))
+pub dir_there : (nodes : Nodes) (path : Path) → no_dir nodes path ≡ None → (up : ℕ) × (mark_at nodes path ≡ Some (up, true))
 dir_there nodes path none = by (fin.get nodes path) refl
   where
     kind_is : (node : Node) (k : Kind) → fin.get nodes path ≡ Some node → node.kind ≡ k → is_dir node.kind ≡ true
@@ -160,27 +160,27 @@ dir_there nodes path none = by (fin.get nodes path) refl
     by None is = let wrong = rw is at none in cc
     by (Some node) is = (node.uid, ap mark_of is ∙ ap (λ b. Some (node.uid, b)) (kind_is node node.kind is refl))
 
-pub node_there : (nodes : Nodes) (path : List (List ℕ)) → no_node nodes path ≡ None → IsSome (fin.get nodes path)
+pub node_there : (nodes : Nodes) (path : Path) → no_node nodes path ≡ None → IsSome (fin.get nodes path)
 node_there nodes path none = by (fin.get nodes path) refl
   where
     by : (o : Option Node) → fin.get nodes path ≡ o → IsSome (fin.get nodes path)
     by None is = let wrong = rw is at none in cc
     by (Some node) is = ap is_some is
 
-new_mark : (m : Nodes) (p q : List (List ℕ)) (node : Node) (r : Ordering) → path_cmp q p ≡ r → mark_of (cond (is_eq r) (Some node) (fin.get m q)) ≡ cond (is_eq r) (Some (node.uid, is_dir node.kind)) (mark_at m q)
+new_mark : (m : Nodes) (p q : Path) (node : Node) (r : Ordering) → path_cmp q p ≡ r → mark_of (cond (is_eq r) (Some node) (fin.get m q)) ≡ cond (is_eq r) (Some (node.uid, is_dir node.kind)) (mark_at m q)
 new_mark m p q node Less is = refl
 new_mark m p q node Equal is = refl
 new_mark m p q node Greater is = refl
 
 -- a node that may stand at a path leaves the nodes valid
-inserted_shape : (m : Nodes) (path : List (List ℕ)) (new : Node) (can : CanStand m path new) → IsShape (mark_at (fin.insert m path new)) (fin.len (fin.insert m path new)) (can.highest + 1)
+inserted_shape : (m : Nodes) (path : Path) (new : Node) (can : CanStand m path new) → IsShape (mark_at (fin.insert m path new)) (fin.len (fin.insert m path new)) (can.highest + 1)
 inserted_shape m path new can =
     extended (mark_at m) (mark_at (fin.insert m path new)) path (is_dir new.kind) (fin.len m) _ can.highest can.up.0
     (λ q. ap mark_of (fin.get-insert path_total m path new q) ∙ new_mark m path q new (path_cmp q path) refl ∙ ap (λ u. cond (is_eq (path_cmp q path)) (Some (u, is_dir new.kind)) (mark_at m q)) can.next)
     (ap mark_of can.free) can.named can.up.1 can.room can.space
     (fin.len-insert path_total m path new ∙ ap (λ o. cond (is_some o) (fin.len m) (fin.len m + 1)) can.free) can.shape
 
-pub can_stand : (kind : Kind) (t : Tree) (path : List (List ℕ)) (at : Moment) → new_refusal t path ≡ None → IsValid t → CanStand t.nodes path (new_node kind (t.highest + 1) at)
+pub can_stand : (kind : Kind) (t : Tree) (path : Path) (at : Moment) → new_refusal t path ≡ None → IsValid t → CanStand t.nodes path (new_node kind (t.highest + 1) at)
 can_stand kind t path at free s =
     let a = first_none (bad_name path) _ free in
     let b = first_none (at_root path) _ a.1 in
@@ -199,40 +199,40 @@ can_stand kind t path at free s =
       up = dir_there t.nodes (parent_of path) c.0;
     }
 
-create_keeps : (kind : Kind) (t : Tree) (path : List (List ℕ)) (at : Moment) → new_refusal t path ≡ None → IsValid t → IsValid (with_new kind t path at)
+create_keeps : (kind : Kind) (t : Tree) (path : Path) (at : Moment) → new_refusal t path ≡ None → IsValid t → IsValid (with_new kind t path at)
 unfolding can_stand
 create_keeps kind t path at free s =
     touch_keeps at (parent_of path) (fin.insert t.nodes path (new_node kind (t.highest + 1) at)) (t.highest + 1)
     (inserted_shape t.nodes path (new_node kind (t.highest + 1) at) (can_stand kind t path at free s))
 
-pub inserted_keeps : (m : Nodes) (path : List (List ℕ)) (new : Node) → CanStand m path new → AreValid (fin.insert m path new)
+pub inserted_keeps : (m : Nodes) (path : Path) (new : Node) → CanStand m path new → AreValid (fin.insert m path new)
 inserted_keeps m path new can = (can.highest + 1, inserted_shape m path new can)
 
 -- paths below another, and their parents
-pub below_parent : (d p : List (List ℕ)) → is_at_or_below d p ≡ true → length d < length p → is_at_or_below d (parent_of p) ≡ true
+pub below_parent : (d p : Path) → is_at_or_below d p ≡ true → length d < length p → is_at_or_below d (parent_of p) ≡ true
 below_parent d p e lt = (below_Decides d (parent_of p)).1 ((below_Decides d p).0 e ∙ sym (take-take (length d) (length p - 1) p (omega arith)))
 
-pub below_length : (d p : List (List ℕ)) → is_at_or_below d p ≡ true → length d ≤ length p
+pub below_length : (d p : Path) → is_at_or_below d p ≡ true → length d ≤ length p
 below_length d p e = omega (arith, ap length ((below_Decides d p).0 e), length-take (length d) p)
 
-pub below_up : (d p : List (List ℕ)) → is_at_or_below d (parent_of p) ≡ true → is_at_or_below d p ≡ true
+pub below_up : (d p : Path) → is_at_or_below d (parent_of p) ≡ true → is_at_or_below d p ≡ true
 below_up d p e =
     let fits = below_length d (parent_of p) e in
     (below_Decides d p).1 ((below_Decides d (parent_of p)).0 e ∙ take-take (length d) (length p - 1) p (omega (arith, fits, length-take (length p - 1) p)))
 
-below_root : (d : List (List ℕ)) → d ≢ [] → is_at_or_below d [] ≡ false
+below_root : (d : Path) → d ≢ [] → is_at_or_below d [] ≡ false
 below_root [] some = absurd (some refl)
 below_root (x ∷ d) some = refl
 
-some_names : (p : List (List ℕ)) → p ≢ [] → 0 < length p
+some_names : (p : Path) → p ≢ [] → 0 < length p
 some_names [] some = absurd (some refl)
 some_names (x ∷ p) some = omega arith
 
-mark_some : (m : Nodes) (p : List (List ℕ)) (v : ℕ × Bool) → mark_at m p ≡ Some v → fin.get m p ≡ None → ⊥
+mark_some : (m : Nodes) (p : Path) (v : ℕ × Bool) → mark_at m p ≡ Some v → fin.get m p ≡ None → ⊥
 mark_some m p v is none = let wrong : None ≡ Some v = sym (ap mark_of none) ∙ is in cc
 
 -- where a path isn't there, nothing is below it
-pub free_below : (m : Nodes) (c h : ℕ) → IsShape (mark_at m) c h → (to : List (List ℕ)) → fin.get m to ≡ None → (n : ℕ) (p : List (List ℕ)) → length p ≡ length to + n → is_at_or_below to p ≡ true → fin.get m p ≡ None
+pub free_below : (m : Nodes) (c h : ℕ) → IsShape (mark_at m) c h → (to : Path) → fin.get m to ≡ None → (n : ℕ) (p : Path) → length p ≡ length to + n → is_at_or_below to p ≡ true → fin.get m p ≡ None
 free_below m c h s to none zero p long e = ap (fin.get m) (sym ((below_Decides to p).0 e ∙ take_all (length to) p (omega arith))) ∙ none
 free_below m c h s to none (suc n) p long e =
     elim (fin.get m p) as (λ o. fin.get m p ≡ o → o ≡ None) [
@@ -244,7 +244,7 @@ free_below m c h s to none (suc n) p long e =
     ] refl
 
 -- where the parent of a path isn't there, the path isn't
-pub parent_missing : (m : Nodes) → AreValid m → (path : List (List ℕ)) → path ≢ [] → fin.get m (parent_of path) ≡ None → fin.get m path ≡ None
+pub parent_missing : (m : Nodes) → AreValid m → (path : Path) → path ≢ [] → fin.get m (parent_of path) ≡ None → fin.get m path ≡ None
 parent_missing m valid path some none =
     elim (fin.get m path) as (λ o. fin.get m path ≡ o → o ≡ None) [
       | None ↦ λ _. refl
@@ -253,11 +253,11 @@ parent_missing m valid path some none =
           absurd (mark_some m (parent_of path) (up.0, true) up.1 none)
     ] refl
 
-pub valid_free : (t : Tree) → IsValid t → (to : List (List ℕ)) → fin.get t.nodes to ≡ None → (p : List (List ℕ)) → is_at_or_below to p ≡ true → fin.get t.nodes p ≡ None
+pub valid_free : (t : Tree) → IsValid t → (to : Path) → fin.get t.nodes to ≡ None → (p : Path) → is_at_or_below to p ≡ true → fin.get t.nodes p ≡ None
 valid_free t s to none p e = free_below t.nodes (fin.len t.nodes) t.highest s to none (length p - length to) p (omega (arith, below_length to p e)) e
 
 -- a path of one name more than a directory's, below it, is a line of its listing
-pub one_entry : (dir p : List (List ℕ)) (node : Node) (rest : List Entry) → is_at_or_below dir p ≡ true → length p ≡ length dir + 1 → true ≡ nat_lt 0 (length (cons_option (entry_in dir (p, node)) rest))
+pub one_entry : (dir p : Path) (node : Node) (rest : List Entry) → is_at_or_below dir p ≡ true → length p ≡ length dir + 1 → true ≡ nat_lt 0 (length (cons_option (entry_in dir (p, node)) rest))
 one_entry dir p node rest is long =
     let other : eqb (length p) (length dir) ≡ false = grind (arith, nat_tests) in
     let one : eqb (length p) (length dir + 1) ≡ true = grind (arith, nat_tests) in
@@ -270,7 +270,7 @@ more_listed : (o : Option Entry) (rest : List Entry) → true ≡ nat_lt 0 (leng
 more_listed None rest e = e
 more_listed (Some x) rest e = sym (ltb-is_true 0 (suc (length rest)) (omega arith))
 
-found_listed : (es : List (List (List ℕ) × Node)) (dir q : List (List ℕ)) (node : Node) → is_at_or_below dir q ≡ true → length q ≡ length dir + 1 → fin.find path_cmp q es ≡ Some node → true ≡ nat_lt 0 (length (filter_map (entry_in dir) es))
+found_listed : (es : List (Path × Node)) (dir q : Path) (node : Node) → is_at_or_below dir q ≡ true → length q ≡ length dir + 1 → fin.find path_cmp q es ≡ Some node → true ≡ nat_lt 0 (length (filter_map (entry_in dir) es))
 found_listed [] dir q node below long found = cc
 found_listed (e ∷ es) dir q node below long found =
     elim (same_path q e.0) as (λ b. same_path q e.0 ≡ b → cond b (Some e.1) (fin.find path_cmp q es) ≡ Some node → true ≡ nat_lt 0 (length (cons_option (entry_in dir (e.0, e.1)) (filter_map (entry_in dir) es)))) [
@@ -278,7 +278,7 @@ found_listed (e ∷ es) dir q node below long found =
       | false ↦ λ other f. more_listed (entry_in dir (e.0, e.1)) (filter_map (entry_in dir) es) (found_listed es dir q node below long f)
     ] refl found
 
-pub child_listed : (m : Nodes) (dir q : List (List ℕ)) (node : Node) → fin.get m q ≡ Some node → q ≢ [] → parent_of q ≡ dir → true ≡ nat_lt 0 (length (entries_in m dir))
+pub child_listed : (m : Nodes) (dir q : Path) (node : Node) → fin.get m q ≡ Some node → q ≢ [] → parent_of q ≡ dir → true ≡ nat_lt 0 (length (entries_in m dir))
 child_listed m dir q node is some parent =
     let long : length q ≡ length dir + 1 = omega (arith, some_names q some, ap length parent, length-take (length q - 1) q) in
     found_listed (fin.entries m) dir q node
@@ -286,18 +286,18 @@ child_listed m dir q node is some parent =
     (sym (fin.get-entries m q) ∙ is)
 
 -- the shape of a map without a node that has no children
-removed_mark : (m : Nodes) (p q : List (List ℕ)) → same_path q p ≡ false → mark_at (fin.remove m p) q ≡ mark_at m q
+removed_mark : (m : Nodes) (p q : Path) → same_path q p ≡ false → mark_at (fin.remove m p) q ≡ mark_at m q
 removed_mark m p q other = ap mark_of (fin.get-remove path_total m p q ∙ ap (λ b. cond b None (fin.get m q)) other)
 
-left_mark : (m : Nodes) (p q : List (List ℕ)) (v : ℕ × Bool) → mark_at (fin.remove m p) q ≡ Some v → (same_path q p ≡ false) × (mark_at m q ≡ Some v)
+left_mark : (m : Nodes) (p q : Path) (v : ℕ × Bool) → mark_at (fin.remove m p) q ≡ Some v → (same_path q p ≡ false) × (mark_at m q ≡ Some v)
 left_mark m p q v is =
     elim (same_path q p) as (λ b. same_path q p ≡ b → (b ≡ false) × (mark_at m q ≡ Some v)) [
       | true ↦ λ same. let wrong : None ≡ Some v = sym (ap mark_of (fin.get-remove path_total m p q ∙ ap (λ b. cond b None (fin.get m q)) same)) ∙ is in cc
       | false ↦ λ other. (refl, sym (removed_mark m p q other) ∙ is)
     ] refl
 
-module _ (m : Nodes) (path : List (List ℕ)) (h : ℕ) (s : IsShape (mark_at m) (fin.len m) h) (can : CanLeave m path) where
-  childless : (q : List (List ℕ)) (uid : ℕ) (dir : Bool) → mark_at m q ≡ Some (uid, dir) → q ≢ [] → parent_of q ≡ path → ⊥
+module _ (m : Nodes) (path : Path) (h : ℕ) (s : IsShape (mark_at m) (fin.len m) h) (can : CanLeave m path) where
+  childless : (q : Path) (uid : ℕ) (dir : Bool) → mark_at m q ≡ Some (uid, dir) → q ≢ [] → parent_of q ≡ path → ⊥
   childless q uid dir is nonempty parent =
       elim (fin.get m q) as (λ o. fin.get m q ≡ o → ⊥) [
         | None ↦ λ none. mark_some m q (uid, dir) is none
@@ -321,11 +321,11 @@ module _ (m : Nodes) (path : List (List ℕ)) (h : ℕ) (s : IsShape (mark_at m)
     few = omega (arith, s.few, fewer (fin.contains_key m path) (fin.len m) (fin.len (fin.remove m path)) (fin.len-remove path_total m path));
   }
 
-pub removed_keeps : (m : Nodes) (path : List (List ℕ)) → AreValid m → CanLeave m path → AreValid (fin.remove m path)
+pub removed_keeps : (m : Nodes) (path : Path) → AreValid m → CanLeave m path → AreValid (fin.remove m path)
 removed_keeps m path valid can = (valid.0, removed_shape m path valid.0 valid.1 can)
 
 -- nothing stands directly in a directory without lines
-pub bare_below : (m : Nodes) (path : List (List ℕ)) → CanLeave m path → (name : List ℕ) → fin.get m (path ++ name ∷ []) ≡ None
+pub bare_below : (m : Nodes) (path : Path) → CanLeave m path → (name : List ℕ) → fin.get m (path ++ name ∷ []) ≡ None
 bare_below m path can name =
     elim (fin.get m (path ++ name ∷ [])) as (λ o. fin.get m (path ++ name ∷ []) ≡ o → o ≡ None) [
       | None ↦ λ none. refl
@@ -334,14 +334,14 @@ bare_below m path can name =
     ] refl
 
 -- the parent of a path that is there is a directory
-parent_there : (m : Nodes) → AreValid m → (path : List (List ℕ)) → IsSome (fin.get m path) → path ≢ [] → (uid : ℕ) × (mark_at m (parent_of path) ≡ Some (uid, true))
+parent_there : (m : Nodes) → AreValid m → (path : Path) → IsSome (fin.get m path) → path ≢ [] → (uid : ℕ) × (mark_at m (parent_of path) ≡ Some (uid, true))
 parent_there m valid path there some =
     elim (fin.get m path) as (λ o. fin.get m path ≡ o → IsSome o → (uid : ℕ) × (mark_at m (parent_of path) ≡ Some (uid, true))) [
       | None ↦ λ _ wrong. cc
       | Some node ↦ λ is _. valid.1.parents path node.uid (is_dir node.kind) (ap mark_of is) some
     ] refl there
 
-pub may_leave : (m : Nodes) (path : List (List ℕ)) → AreValid m → path ≢ [] → no_node m path ≡ None → nat_lt 0 (length (entries_in m path)) ≡ false → CanLeave m path
+pub may_leave : (m : Nodes) (path : Path) → AreValid m → path ≢ [] → no_node m path ≡ None → nat_lt 0 (length (entries_in m path)) ≡ false → CanLeave m path
 may_leave m path valid named there bare = record {
   there = node_there m path there;
   named = named;
@@ -349,14 +349,14 @@ may_leave m path valid named there bare = record {
   up = parent_there m valid path (node_there m path there) named;
 }
 
-pub can_leave : (t : Tree) (path : List (List ℕ)) → IsValid t → refusal_of t (Remove path) ≡ None → CanLeave t.nodes path
+pub can_leave : (t : Tree) (path : Path) → IsValid t → refusal_of t (Remove path) ≡ None → CanLeave t.nodes path
 can_leave t path s free =
     let a = first_none (at_root path) _ free in
     let b = first_none (no_node t.nodes path) _ a.1 in
     let c = first_none (not_empty t.nodes path) _ b.1 in
     may_leave t.nodes path (t.highest, s) (not_root path a.0) b.0 (not_refused _ NotEmpty c.0)
 
-remove_keeps : (t : Tree) (path : List (List ℕ)) (at : Moment) → refusal_of t (Remove path) ≡ None → IsValid t → IsValid (without t path at)
+remove_keeps : (t : Tree) (path : Path) (at : Moment) → refusal_of t (Remove path) ≡ None → IsValid t → IsValid (without t path at)
 remove_keeps t path at free s =
     touch_keeps at (parent_of path) (fin.remove t.nodes path) t.highest (removed_shape t.nodes path t.highest s (can_leave t path s free))
 
@@ -365,20 +365,20 @@ marked true b x y = refl
 marked false true x y = refl
 marked false false x y = refl
 
-module _ (m : Nodes) (from to : List (List ℕ)) (can : CanMove m from to) where
-  after_move : (q : List (List ℕ)) → mark_at (moved from to m) q ≡ cond (is_at_or_below to q) (mark_at m (back from to q)) (cond (is_at_or_below from q) None (mark_at m q))
+module _ (m : Nodes) (from to : Path) (can : CanMove m from to) where
+  after_move : (q : Path) → mark_at (moved from to m) q ≡ cond (is_at_or_below to q) (mark_at m (back from to q)) (cond (is_at_or_below from q) None (mark_at m q))
   after_move q = ap mark_of (get_moved from to m q can.free) ∙ marked (is_at_or_below to q) (is_at_or_below from q) (fin.get m (back from to q)) (fin.get m q)
 
-  moved_here : (q : List (List ℕ)) → is_at_or_below to q ≡ true → mark_at (moved from to m) q ≡ mark_at m (back from to q)
+  moved_here : (q : Path) → is_at_or_below to q ≡ true → mark_at (moved from to m) q ≡ mark_at m (back from to q)
   moved_here q at = after_move q ∙ ap (λ b. cond b (mark_at m (back from to q)) (cond (is_at_or_below from q) None (mark_at m q))) at
 
-  moved_not : (q : List (List ℕ)) → is_at_or_below to q ≡ false → is_at_or_below from q ≡ false → mark_at (moved from to m) q ≡ mark_at m q
+  moved_not : (q : Path) → is_at_or_below to q ≡ false → is_at_or_below from q ≡ false → mark_at (moved from to m) q ≡ mark_at m q
   moved_not q away other =
       after_move q ∙ ap (λ b. cond b (mark_at m (back from to q)) (cond (is_at_or_below from q) None (mark_at m q))) away
       ∙ ap (λ b. cond b None (mark_at m q)) other
 
   -- a node that is there has moved, or was there
-  came : (q : List (List ℕ)) (v : ℕ × Bool) → mark_at (moved from to m) q ≡ Some v
+  came : (q : Path) (v : ℕ × Bool) → mark_at (moved from to m) q ≡ Some v
       → ((is_at_or_below to q ≡ true) × (mark_at m (back from to q) ≡ Some v)) ⊎ ((is_at_or_below to q ≡ false) × (is_at_or_below from q ≡ false) × (mark_at m q ≡ Some v))
   came q v is =
       elim (is_at_or_below to q) as (λ a. is_at_or_below to q ≡ a → ((a ≡ true) × (mark_at m (back from to q) ≡ Some v)) ⊎ ((a ≡ false) × (is_at_or_below from q ≡ false) × (mark_at m q ≡ Some v))) [
@@ -390,26 +390,26 @@ module _ (m : Nodes) (from to : List (List ℕ)) (can : CanMove m from to) where
         ] refl)
       ] refl
 
-  length_back : (q : List (List ℕ)) → length (back from to q) ≡ length from + (length q - length to)
+  length_back : (q : Path) → length (back from to q) ≡ length from + (length q - length to)
   length_back q = length-append from (drop (length to) q) ∙ ap (λ n. length from + n) (length-drop (length to) q)
 
   -- the parent of where a path came from
-  parent_back : (q : List (List ℕ)) → length to < length q → parent_of (back from to q) ≡ back from to (parent_of q)
+  parent_back : (q : Path) → length to < length q → parent_of (back from to q) ≡ back from to (parent_of q)
   parent_back q lt =
       let r = drop (length to) q in
       let n = length q - 1 - length to in
       ap (λ k. take k (from ++ r)) (omega (arith, length_back q)) ∙ take-append-add from r n
       ∙ ap (λ x. from ++ x) (sym (drop-take (length to) n q) ∙ ap (λ k. drop (length to) (take k q)) (omega arith))
 
-  same_back : (p q : List (List ℕ)) → is_at_or_below to p ≡ true → is_at_or_below to q ≡ true → back from to p ≡ back from to q → p ≡ q
+  same_back : (p q : Path) → is_at_or_below to p ≡ true → is_at_or_below to q ≡ true → back from to p ≡ back from to q → p ≡ q
   same_back p q at to_q e =
       below_split to p at ∙ ap (λ r. to ++ r) (sym (drop_at from (drop (length to) p) (length from) refl) ∙ ap (drop (length from)) e ∙ drop_at from (drop (length to) q) (length from) refl)
       ∙ sym (below_split to q to_q)
 
-  not_back : (p q : List (List ℕ)) → is_at_or_below from q ≡ false → back from to p ≡ q → ⊥
+  not_back : (p q : Path) → is_at_or_below from q ≡ false → back from to p ≡ q → ⊥
   not_back p q other e = let wrong : true ≡ false = sym (back_below from to p) ∙ ap (is_at_or_below from) e ∙ other in cc
 
-  moved_parents : (c h : ℕ) → IsShape (mark_at m) c h → (q : List (List ℕ)) (uid : ℕ) (dir : Bool) → mark_at (moved from to m) q ≡ Some (uid, dir) → q ≢ [] → (parent : ℕ) × (mark_at (moved from to m) (parent_of q) ≡ Some (parent, true))
+  moved_parents : (c h : ℕ) → IsShape (mark_at m) c h → (q : Path) (uid : ℕ) (dir : Bool) → mark_at (moved from to m) q ≡ Some (uid, dir) → q ≢ [] → (parent : ℕ) × (mark_at (moved from to m) (parent_of q) ≡ Some (parent, true))
   moved_parents c h s q uid dir is some = ⊎_elim
       (λ here. ⊎_elim
       (λ lt.
@@ -455,7 +455,7 @@ module _ (m : Nodes) (from to : List (List ℕ)) (can : CanMove m from to) where
   }
 
 -- a map has at most as many nodes as the list that it is made of
-made_of : (es : List (List (List ℕ) × Node)) → fin.len (fin.from_entries {R = path_cmp} es) ≤ length es
+made_of : (es : List (Path × Node)) → fin.len (fin.from_entries {R = path_cmp} es) ≤ length es
 made_of [] = omega (arith, fin.len-empty path_cmp Node)
 made_of (e ∷ es) = omega (arith, made_of es, one_more (fin.contains_key (fin.from_entries {R = path_cmp} es) e.0) (fin.len (fin.from_entries {R = path_cmp} es)) _ (fin.len-insert path_total (fin.from_entries es) e.0 e.1))
   where
@@ -463,15 +463,15 @@ made_of (e ∷ es) = omega (arith, made_of es, one_more (fin.contains_key (fin.f
     one_more true n k e = omega arith
     one_more false n k e = omega arith
 
-pub fewer_moved : (from to : List (List ℕ)) (m : Nodes) → fin.len (moved from to m) ≤ fin.len m
+pub fewer_moved : (from to : Path) (m : Nodes) → fin.len (moved from to m) ≤ fin.len m
 fewer_moved from to m =
-    let moves : List (List (List ℕ) × Node) = map (λ e. (moved_path from to e.0, e.1)) (fin.entries m) in
-    let move : (List (List ℕ) × Node) → (List (List ℕ) × Node) = λ e. (moved_path from to e.0, e.1) in
+    let moves : List (Path × Node) = map (λ e. (moved_path from to e.0, e.1)) (fin.entries m) in
+    let move : (Path × Node) → (Path × Node) = λ e. (moved_path from to e.0, e.1) in
     let long : length moves ≡ length (fin.entries m) = length-map (fin.entries m) move in
     omega (arith, made_of moves, fin.len-entries m)
 
 -- what the checks of a rename leave
-pub rename_target : (m : Nodes) (from to : List (List ℕ)) → rename_refusal m from to ≡ None → same_path from to ≡ false → (fin.get m to ≡ None) × (is_below from to ≡ false)
+pub rename_target : (m : Nodes) (from to : Path) → rename_refusal m from to ≡ None → same_path from to ≡ false → (fin.get m to ≡ None) × (is_below from to ≡ false)
 rename_target m from to free differ =
     let a = first_none (bad_name to) _ free in
     let b = first_none (at_root from) _ a.1 in
@@ -484,14 +484,14 @@ rename_target m from to free differ =
     let i = first_none (exists_at m to) _ g in
     (not_some _ (not_refused _ Exists i.0), not_refused _ Inside (first_none (refuse_if (is_below from to) Inside) _ i.1).0)
 
-not_at_or_below : (from to : List (List ℕ)) → is_below from to ≡ false → same_path from to ≡ false → is_at_or_below from to ≡ false
+not_at_or_below : (from to : Path) → is_below from to ≡ false → same_path from to ≡ false → is_at_or_below from to ≡ false
 not_at_or_below from to below differ = not_true (is_at_or_below from to) (λ e.
     let longer : not (eqb (length to) (length from)) ≡ false = sym (ap (λ b. b && not (eqb (length to) (length from))) e) ∙ below in
     let long : length to ≡ length from = grind (arith, nat_tests) in
     let same : from ≡ to = (below_Decides from to).0 e ∙ take_all (length from) to (omega arith) in
     let wrong : true ≡ false = sym (is_same from to same) ∙ differ in cc)
 
-pub can_move : (t : Tree) (from to : List (List ℕ)) → IsValid t → rename_refusal t.nodes from to ≡ None → same_path from to ≡ false → CanMove t.nodes from to
+pub can_move : (t : Tree) (from to : Path) → IsValid t → rename_refusal t.nodes from to ≡ None → same_path from to ≡ false → CanMove t.nodes from to
 can_move t from to s free differ =
     let a = first_none (bad_name to) _ free in
     let b = first_none (at_root from) _ a.1 in
@@ -509,7 +509,7 @@ can_move t from to s free differ =
       from_up = parent_there t.nodes (t.highest, s) from (node_there t.nodes from d.0) (not_root from b.0);
     }
 
-rename_keeps : (t : Tree) (from to : List (List ℕ)) (at : Moment) → rename_refusal t.nodes from to ≡ None → IsValid t → IsValid (with_rename t from to at)
+rename_keeps : (t : Tree) (from to : Path) (at : Moment) → rename_refusal t.nodes from to ≡ None → IsValid t → IsValid (with_rename t from to at)
 rename_keeps t from to at free s =
     elim (same_path from to) as (λ b. same_path from to ≡ b → IsValid (cond b t (record t { nodes = touch at (parent_of to) (touch at (parent_of from) (changed_at (change_noted at) to (moved from to t.nodes))) }))) [
       | true ↦ λ same. s
@@ -520,11 +520,11 @@ rename_keeps t from to at free s =
           (move_keeps t.nodes from to can (fin.len t.nodes) (fin.len (moved from to t.nodes)) t.highest (fewer_moved from to t.nodes) s)))
     ] refl
 
-write_keeps : (t : Tree) (path : List (List ℕ)) (offset : ℕ) (bytes : List ℕ) (at : Moment) → IsValid t → IsValid (with_bytes t path offset bytes at)
+write_keeps : (t : Tree) (path : Path) (offset : ℕ) (bytes : List ℕ) (at : Moment) → IsValid t → IsValid (with_bytes t path offset bytes at)
 write_keeps t path offset [] at s = s
 write_keeps t path offset (b ∷ bytes) at s = file_keeps (λ cells. written cells offset (map (λ x. Some x) (b ∷ bytes))) at path t.nodes t.highest s
 
-length_keeps : (t : Tree) (path : List (List ℕ)) (n : ℕ) (at : Moment) → IsValid t → IsValid (with_length t path n at)
+length_keeps : (t : Tree) (path : Path) (n : ℕ) (at : Moment) → IsValid t → IsValid (with_length t path n at)
 length_keeps t path n at s =
     elim (eqb n (length (cells_at t.nodes path))) as (λ b. IsValid (cond b t (record t { nodes = changed_at (file_changed (λ cells. resized cells n) at) path t.nodes }))) [
       | true ↦ s
@@ -551,14 +551,14 @@ next_valid t call at s =
     ] refl
 
 -- the root alone
-root_mark : (at : Moment) (q : List (List ℕ)) → mark_at (empty_tree at).nodes q ≡ cond (is_eq (path_cmp q [])) (Some (1, true)) None
+root_mark : (at : Moment) (q : Path) → mark_at (empty_tree at).nodes q ≡ cond (is_eq (path_cmp q [])) (Some (1, true)) None
 root_mark at q = ap mark_of (fin.get-insert path_total fin.empty [] (new_node kinds.Dir 1 at) q ∙ ap (cond (is_eq (path_cmp q [])) (Some (new_node kinds.Dir 1 at))) (fin.get-empty path_cmp q)) ∙ by (is_eq (path_cmp q []))
   where
     by : (b : Bool) → mark_of (cond b (Some (new_node kinds.Dir 1 at)) None) ≡ cond b (Some (1, true)) None
     by true = refl
     by false = refl
 
-only_root : (q : List (List ℕ)) (uid : ℕ) (dir : Bool) → cond {A = Option (ℕ × Bool)} (is_eq (path_cmp q [])) (Some (1, true)) None ≡ Some (uid, dir) → (q ≡ []) × (1 ≡ uid)
+only_root : (q : Path) (uid : ℕ) (dir : Bool) → cond {A = Option (ℕ × Bool)} (is_eq (path_cmp q [])) (Some (1, true)) None ≡ Some (uid, dir) → (q ≡ []) × (1 ≡ uid)
 only_root [] uid dir e = (refl, ap uid_in e)
 only_root (x ∷ q) uid dir e = cc
 

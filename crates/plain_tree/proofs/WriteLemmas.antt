@@ -13,7 +13,7 @@ use Rattle.plain_tree.specs.declared.calls.Call.TheVariants.{Write, Read, Rename
 use Rattle.plain_tree.specs.declared.calls.Refusal.{Refusal}
 use Rattle.plain_tree.specs.declared.calls.Refusal.TheVariants.{Damaged}
 use Rattle.plain_tree.specs.Cells.{Cell, padded_to, written, range_of, bytes_of}
-use Rattle.plain_tree.specs.Paths.{parent_of, same_path, is_at_or_below}
+use Rattle.plain_tree.specs.Paths.{Path, parent_of, same_path, is_at_or_below}
 use Rattle.plain_tree.specs.Tree.{Tree, Nodes, changed_at, touch, touched, change_noted, file_changed, moved, cells_at}
 use Rattle.plain_tree.specs.Refusals.{first_of, refuse_if, no_file, no_node, bad_name, at_root, refusal_of}
 use Rattle.plain_tree.specs.Calls.{answer, answer_unless, after, after_unless, with_bytes, with_rename}
@@ -39,13 +39,13 @@ range_written cells new offset =
     ∙ ap (take (length new)) (drop_at pad (new ++ rest) offset long) ∙ take_at new rest (length new) refl
 
 -- a path where a file stands
-record HoldsFile (nodes : Nodes) (path : List (List ℕ)) : Type 0 where
+record HoldsFile (nodes : Nodes) (path : Path) : Type 0 where
   node : Node
   cells : List Cell
   found : fin.get nodes path ≡ Some node
   is_file : node.kind ≡ kinds.File cells
 
-file_there : (nodes : Nodes) (path : List (List ℕ)) → no_file nodes path ≡ None → HoldsFile nodes path
+file_there : (nodes : Nodes) (path : Path) → no_file nodes path ≡ None → HoldsFile nodes path
 file_there nodes path none = by (fin.get nodes path) refl
   where
     by_kind : (node : Node) (kind : Kind) → fin.get nodes path ≡ Some node → node.kind ≡ kind → HoldsFile nodes path
@@ -57,24 +57,24 @@ file_there nodes path none = by (fin.get nodes path) refl
     by None is = let wrong = rw is at none in cc
     by (Some node) is = by_kind node node.kind is refl
 
-no_file_none : (nodes : Nodes) (path : List (List ℕ)) (node : Node) (cells : List Cell) → fin.get nodes path ≡ Some node → node.kind ≡ kinds.File cells → no_file nodes path ≡ None
+no_file_none : (nodes : Nodes) (path : Path) (node : Node) (cells : List Cell) → fin.get nodes path ≡ Some node → node.kind ≡ kinds.File cells → no_file nodes path ≡ None
 no_file_none nodes path node cells found is_file = rw (found, is_file) refl
 
-cells_there : (nodes : Nodes) (path : List (List ℕ)) (node : Node) (cells : List Cell) → fin.get nodes path ≡ Some node → node.kind ≡ kinds.File cells → cells_at nodes path ≡ cells
+cells_there : (nodes : Nodes) (path : Path) (node : Node) (cells : List Cell) → fin.get nodes path ≡ Some node → node.kind ≡ kinds.File cells → cells_at nodes path ≡ cells
 cells_there nodes path node cells found is_file = rw (found, is_file) refl
 
-changed_here : (nodes : Nodes) (path : List (List ℕ)) (change : Node → Node) (node : Node) → fin.get nodes path ≡ Some node → fin.get (changed_at change path nodes) path ≡ Some (change node)
+changed_here : (nodes : Nodes) (path : Path) (change : Node → Node) (node : Node) → fin.get nodes path ≡ Some node → fin.get (changed_at change path nodes) path ≡ Some (change node)
 changed_here nodes path change node found = ap (λ n. fin.get n path) (changed_found change path nodes node found) ∙ here_inserted nodes path path (change node) (same_self path)
 
 file_kind : (change : List Cell → List Cell) (at : Moment) (node : Node) (cells : List Cell) → node.kind ≡ kinds.File cells → (file_changed change at node).kind ≡ kinds.File (change cells)
 file_kind change at node cells is = rw is refl
 
-got : (t : Tree) (path : List (List ℕ)) (offset count : ℕ) (bytes : List ℕ) → no_file t.nodes path ≡ None → bytes_of (range_of (cells_at t.nodes path) offset count) ≡ Some bytes → answer t (Read path offset count) ≡ answers.Got bytes
+got : (t : Tree) (path : Path) (offset count : ℕ) (bytes : List ℕ) → no_file t.nodes path ≡ None → bytes_of (range_of (cells_at t.nodes path) offset count) ≡ Some bytes → answer t (Read path offset count) ≡ answers.Got bytes
 got t path offset count bytes file read =
     ap (λ (o : Option Refusal). answer_unless (first_of (o ∷ refuse_if (is_none (bytes_of (range_of (cells_at t.nodes path) offset count))) Damaged ∷ [])) (answers.Got (unwrap_or (bytes_of (range_of (cells_at t.nodes path) offset count)) []))) file
     ∙ ap (λ (o : Option (List ℕ)). answer_unless (first_of (None ∷ refuse_if (is_none o) Damaged ∷ [])) (answers.Got (unwrap_or o []))) read
 
-pub read_written : (t : Tree) (path : List (List ℕ)) (offset : ℕ) (bytes : List ℕ) (at : Moment) → 0 < length bytes → refusal_of t (Write path offset bytes) ≡ None
+pub read_written : (t : Tree) (path : Path) (offset : ℕ) (bytes : List ℕ) (at : Moment) → 0 < length bytes → refusal_of t (Write path offset bytes) ≡ None
     → answer (after t (Write path offset bytes) at) (Read path offset (length bytes)) ≡ answers.Got bytes
 read_written t path offset [] at some free = absurd (omega arith)
 read_written t path offset (b ∷ bytes) at some free =
@@ -92,7 +92,7 @@ read_written t path offset (b ∷ bytes) at some free =
 
 -- ---- renames
 
-holding_changed : (change : Node → Node) → ((n : Node) → holding (Some (change n)) ≡ holding (Some n)) → (p : List (List ℕ)) (m : Nodes) (q : List (List ℕ)) → holding (fin.get (changed_at change p m) q) ≡ holding (fin.get m q)
+holding_changed : (change : Node → Node) → ((n : Node) → holding (Some (change n)) ≡ holding (Some n)) → (p : Path) (m : Nodes) (q : Path) → holding (fin.get (changed_at change p m) q) ≡ holding (fin.get m q)
 holding_changed change keeps p m q =
     elim (fin.get m p) as (λ o. fin.get m p ≡ o → holding (fin.get (changed_at change p m) q) ≡ holding (fin.get m q)) [
       | None ↦ λ none. ap (λ n. holding (fin.get n q)) (changed_missing change p m none)
@@ -103,7 +103,7 @@ holding_changed change keeps p m q =
           ] refl
     ] refl
 
-changed_elsewhere : (change : Node → Node) (p : List (List ℕ)) (m : Nodes) (q : List (List ℕ)) → same_path q p ≡ false → fin.get (changed_at change p m) q ≡ fin.get m q
+changed_elsewhere : (change : Node → Node) (p : Path) (m : Nodes) (q : Path) → same_path q p ≡ false → fin.get (changed_at change p m) q ≡ fin.get m q
 changed_elsewhere change p m q other =
     elim (fin.get m p) as (λ o. fin.get m p ≡ o → fin.get (changed_at change p m) q ≡ fin.get m q) [
       | None ↦ λ none. ap (λ n. fin.get n q) (changed_missing change p m none)
@@ -111,7 +111,7 @@ changed_elsewhere change p m q other =
     ] refl
 
 -- of two fronts of a path one is a front of the other
-fronts : (from to x : List (List ℕ)) → is_at_or_below to (from ++ x) ≡ true → (is_at_or_below to from ≡ true) ⊎ (is_at_or_below from to ≡ true)
+fronts : (from to x : Path) → is_at_or_below to (from ++ x) ≡ true → (is_at_or_below to from ≡ true) ⊎ (is_at_or_below from to ≡ true)
 fronts from to x e =
     let front = (below_Decides to (from ++ x)).0 e in
     ⊎_elim
@@ -123,46 +123,46 @@ nothing_held : (o : Option Node) → holding o ≡ None → o ≡ None
 nothing_held None e = refl
 nothing_held (Some node) e = cc
 
-node_there : (nodes : Nodes) (path : List (List ℕ)) → no_node nodes path ≡ None → fin.get nodes path ≡ None → ⊥
+node_there : (nodes : Nodes) (path : Path) → no_node nodes path ≡ None → fin.get nodes path ≡ None → ⊥
 node_there nodes path none missing = let wrong = rw missing at none in cc
 
-module _ (m : Nodes) (from to : List (List ℕ)) (at : Moment) where
+module _ (m : Nodes) (from to : Path) (at : Moment) where
   abbrev noted : Nodes
   noted = changed_at (change_noted at) to (moved from to m)
 
   abbrev renamed : Nodes
   renamed = touch at (parent_of to) (touch at (parent_of from) noted)
 
-  holding_renamed : (q : List (List ℕ)) → holding (fin.get renamed q) ≡ holding (fin.get (moved from to m) q)
+  holding_renamed : (q : Path) → holding (fin.get renamed q) ≡ holding (fin.get (moved from to m) q)
   holding_renamed q =
       holding_changed (touched at) (λ n. refl) (parent_of to) (touch at (parent_of from) noted) q
       ∙ holding_changed (touched at) (λ n. refl) (parent_of from) noted q ∙ holding_changed (change_noted at) (λ n. refl) to (moved from to m) q
 
-module _ (m : Nodes) (from to : List (List ℕ)) (can : CanMove m from to) where
-  moved_to : (x : List (List ℕ)) → fin.get (moved from to m) (to ++ x) ≡ fin.get m (from ++ x)
+module _ (m : Nodes) (from to : Path) (can : CanMove m from to) where
+  moved_to : (x : Path) → fin.get (moved from to m) (to ++ x) ≡ fin.get m (from ++ x)
   moved_to x =
       get_moved from to m (to ++ x) can.free
       ∙ ap (λ b. cond b (fin.get m (back from to (to ++ x))) (cond (is_at_or_below from (to ++ x)) None (fin.get m (to ++ x)))) (below_join to x)
       ∙ ap (λ r. fin.get m (from ++ r)) (drop_at to x (length to) refl)
 
-  stayed : (q : List (List ℕ)) → is_at_or_below from q ≡ false → is_at_or_below to q ≡ false → fin.get (moved from to m) q ≡ fin.get m q
+  stayed : (q : Path) → is_at_or_below from q ≡ false → is_at_or_below to q ≡ false → fin.get (moved from to m) q ≡ fin.get m q
   stayed q other away =
       get_moved from to m q can.free
       ∙ ap (λ b. cond b (fin.get m (back from to q)) (cond (is_at_or_below from q) None (fin.get m q))) away
       ∙ ap (λ b. cond b None (fin.get m q)) other
 
-module _ (m : Nodes) (from to : List (List ℕ)) (can : CanMove m from to) (there : fin.get m from ≡ None → ⊥) where
+module _ (m : Nodes) (from to : Path) (can : CanMove m from to) (there : fin.get m from ≡ None → ⊥) where
   from_apart : is_at_or_below to from ≡ true → ⊥
   from_apart e = there (can.free from e)
 
-  gone_from : (x : List (List ℕ)) → fin.get (moved from to m) (from ++ x) ≡ None
+  gone_from : (x : Path) → fin.get (moved from to m) (from ++ x) ≡ None
   gone_from x =
       get_moved from to m (from ++ x) can.free
       ∙ ap (λ b. cond b (fin.get m (back from to (from ++ x))) (cond (is_at_or_below from (from ++ x)) None (fin.get m (from ++ x))))
       (not_true (is_at_or_below to (from ++ x)) (λ e. ⊎_elim from_apart (λ e. let wrong : true ≡ false = sym e ∙ can.apart in cc) (fronts from to x e)))
       ∙ ap (λ b. cond b None (fin.get m (from ++ x))) (below_join from x)
 
-  below_same : (at : Moment) (x : List (List ℕ)) → x ≢ [] → fin.get (renamed m from to at) (to ++ x) ≡ fin.get m (from ++ x)
+  below_same : (at : Moment) (x : Path) → x ≢ [] → fin.get (renamed m from to at) (to ++ x) ≡ fin.get m (from ++ x)
   below_same at x some =
       let long : length to < length (to ++ x) = omega (arith, length-append to x, names x some) in
       changed_elsewhere (touched at) (parent_of to) (touch at (parent_of from) (noted m from to at)) (to ++ x)
@@ -173,11 +173,11 @@ module _ (m : Nodes) (from to : List (List ℕ)) (can : CanMove m from to) (ther
       (not_true (same_path (to ++ x) to) (λ e. absurd (omega (arith, ap length (same_is (to ++ x) to e)))))
       ∙ moved_to m from to can x
     where
-      names : (x : List (List ℕ)) → x ≢ [] → 0 < length x
+      names : (x : Path) → x ≢ [] → 0 < length x
       names [] some = absurd (some refl)
       names (y ∷ x) some = omega arith
 
-pub rename_keeps_nodes : (t : Tree) (from to : List (List ℕ)) (at : Moment) → IsValid t → refusal_of t (Rename from to) ≡ None → HasMoved t (after t (Rename from to) at) from to
+pub rename_keeps_nodes : (t : Tree) (from to : Path) (at : Moment) → IsValid t → refusal_of t (Rename from to) ≡ None → HasMoved t (after t (Rename from to) at) from to
 rename_keeps_nodes t from to at s free =
     subst (λ (r : Option Refusal). HasMoved t (after_unless r (with_rename t from to at) t) from to) (sym free)
     (elim (same_path from to) as (λ b. same_path from to ≡ b → HasMoved t (cond b t (record t { nodes = renamed t.nodes from to at })) from to) [

@@ -10,39 +10,42 @@ use Rattle.plain_tree.specs.declared.calls.Answer.TheVariants as answers
 use Rattle.plain_tree.specs.declared.calls.Call.{Call}
 use Rattle.plain_tree.specs.declared.calls.Call.TheVariants.{Mkdir, Create, Write, Truncate, Read, Listing, Stat, Rename, Remove, Sync}
 use Rattle.plain_tree.specs.declared.calls.Refusal.{Refusal}
-use Rattle.plain_tree.specs.Cells.{written, resized, range_of, bytes_of}
-use Rattle.plain_tree.specs.Paths.{same_path, parent_of}
+use Rattle.plain_tree.specs.Cells.{resized, range_of, bytes_of}
+use Rattle.plain_tree.specs.Paths.{Path, same_path, parent_of}
 use Rattle.plain_tree.specs.Refusals.{refusal_of}
-use Rattle.plain_tree.specs.Tree.{Tree, new_node, changed_at, touch, change_noted, file_changed, moved, cells_at, facts_of, entries_in}
+use Rattle.plain_tree.specs.Tree.{Tree, new_node, changed_at, touch, change_noted, file_changed, written_to, moved, cells_at, facts_of, entries_in}
 
 -- a new node with the next uid stands at the path, and its parent is touched
-abbrev pub with_new : Kind → Tree → List (List ℕ) → Moment → Tree
+abbrev pub with_new : Kind → Tree → Path → Moment → Tree
 with_new kind t path at = record {
   highest = t.highest + 1;
   nodes = touch at (parent_of path) (fin.insert t.nodes path (new_node kind (t.highest + 1) at));
 }
 
 -- the bytes stand in the file from the offset on, and it is touched; no bytes change nothing
-abbrev pub with_bytes : Tree → List (List ℕ) → ℕ → List ℕ → Moment → Tree
+abbrev pub with_bytes : Tree → Path → ℕ → List ℕ → Moment → Tree
 with_bytes t path offset [] at = t
 with_bytes t path offset (b ∷ bytes) at =
-    record t { nodes = changed_at (file_changed (λ cells. written cells offset (map Some (b ∷ bytes))) at) path t.nodes }
+    record t { nodes = changed_at (written_to offset (b ∷ bytes) at) path t.nodes }
 
 -- the file has this length, and it is touched; the length that it has changes nothing
-abbrev pub with_length : Tree → List (List ℕ) → ℕ → Moment → Tree
+abbrev pub with_length : Tree → Path → ℕ → Moment → Tree
 with_length t path n at =
     if n == length (cells_at t.nodes path) then t
     else record t { nodes = changed_at (file_changed (λ cells. resized cells n) at) path t.nodes }
 
 -- the node and all below it stand at the new path, its change time is noted, and both parents are touched;
 -- the path that it has changes nothing
-abbrev pub with_rename : Tree → List (List ℕ) → List (List ℕ) → Moment → Tree
+abbrev pub with_rename : Tree → Path → Path → Moment → Tree
 with_rename t from to at =
     if same_path from to then t
-    else record t { nodes = touch at (parent_of to) (touch at (parent_of from) (changed_at (change_noted at) to (moved from to t.nodes))) }
+    else record t {
+      nodes = touch at (parent_of to) (touch at (parent_of from)
+          (changed_at (change_noted at) to (moved from to t.nodes)));
+    }
 
 -- the node is gone, and its parent is touched
-abbrev pub without : Tree → List (List ℕ) → Moment → Tree
+abbrev pub without : Tree → Path → Moment → Tree
 without t path at = record t { nodes = touch at (parent_of path) (fin.remove t.nodes path) }
 
 -- what a call leaves where it isn't refused
@@ -72,7 +75,8 @@ value_of t (Mkdir path) = answers.Done
 value_of t (Create path) = answers.Done
 value_of t (Write path offset bytes) = answers.Done
 value_of t (Truncate path length) = answers.Done
-value_of t (Read path offset count) = answers.Got (unwrap_or (bytes_of (range_of (cells_at t.nodes path) offset count)) [])
+value_of t (Read path offset count) =
+    answers.Got (unwrap_or (bytes_of (range_of (cells_at t.nodes path) offset count)) [])
 value_of t (Listing path) = answers.Names (entries_in t.nodes path)
 value_of t (Stat path) = facts_found (fin.get t.nodes path)
   where

@@ -10,7 +10,7 @@ use Rattle.plain_tree.specs.declared.calls.Call.TheVariants.{Mkdir, Create, Writ
 use Rattle.plain_tree.specs.declared.calls.Refusal.{Refusal}
 use Rattle.plain_tree.specs.declared.calls.Refusal.TheVariants.{BadName, Root, NotFound, NotDir, IsDir, IsLink, Exists, Inside, NotEmpty, TooLong, TooMany, Damaged}
 use Rattle.plain_tree.specs.Cells.{range_of, bytes_of}
-use Rattle.plain_tree.specs.Paths.{same_path, parent_of, last_name, is_below}
+use Rattle.plain_tree.specs.Paths.{Name, Path, same_path, parent_of, last_name, is_below}
 use Rattle.plain_tree.specs.Tree.{Tree, Nodes, cells_at, entries_in}
 
 -- the first check that fails
@@ -24,14 +24,14 @@ refuse_if true refusal = Some refusal
 refuse_if false refusal = None
 
 -- the last name is one that no node may have
-abbrev pub bad_name : List (List ℕ) → Option Refusal
+abbrev pub bad_name : Path → Option Refusal
 bad_name path = found (last_name path)
   where
-    found : Option (List ℕ) → Option Refusal
+    found : Option Name → Option Refusal
     found None = None
     found (Some name) = refuse_if (is_some (name_fault name)) BadName
 
-abbrev pub at_root : List (List ℕ) → Option Refusal
+abbrev pub at_root : Path → Option Refusal
 at_root path = refuse_if (length path == 0) Root
 
 -- why nothing stands where a path goes on below such a node
@@ -41,7 +41,7 @@ missing_below (kinds.File cells) = NotDir
 missing_below (kinds.Link text) = NotDir
 
 -- what stands at the longest front of fewer than n names that is there says why the path isn't
-abbrev pub why_missing : Nodes → List (List ℕ) → ℕ → Refusal
+abbrev pub why_missing : Nodes → Path → ℕ → Refusal
 why_missing nodes path zero = NotFound
 why_missing nodes path (suc n) = found (fin.get nodes (take n path)) (why_missing nodes path n)
   where
@@ -55,7 +55,7 @@ why_missing nodes path (suc n) = found (fin.get nodes (take n path)) (why_missin
     found None shorter = shorter
 
 -- the check of what stands at a path
-abbrev pub checked_at : (Kind → Option Refusal) → Nodes → List (List ℕ) → Option Refusal
+abbrev pub checked_at : (Kind → Option Refusal) → Nodes → Path → Option Refusal
 checked_at check nodes path = found (fin.get nodes path)
   where
     found : Option Node → Option Refusal
@@ -63,11 +63,11 @@ checked_at check nodes path = found (fin.get nodes path)
     found (Some node) = check node.kind
 
 -- something stands at the path
-abbrev pub no_node : Nodes → List (List ℕ) → Option Refusal
+abbrev pub no_node : Nodes → Path → Option Refusal
 no_node nodes path = checked_at (λ _. None) nodes path
 
 -- a directory does
-abbrev pub no_dir : Nodes → List (List ℕ) → Option Refusal
+abbrev pub no_dir : Nodes → Path → Option Refusal
 no_dir nodes path = checked_at check nodes path
   where
     check : Kind → Option Refusal
@@ -76,7 +76,7 @@ no_dir nodes path = checked_at check nodes path
     check (kinds.Link text) = Some NotDir
 
 -- a file does
-abbrev pub no_file : Nodes → List (List ℕ) → Option Refusal
+abbrev pub no_file : Nodes → Path → Option Refusal
 no_file nodes path = checked_at check nodes path
   where
     check : Kind → Option Refusal
@@ -84,7 +84,7 @@ no_file nodes path = checked_at check nodes path
     check (kinds.File cells) = None
     check (kinds.Link text) = Some IsLink
 
-abbrev pub exists_at : Nodes → List (List ℕ) → Option Refusal
+abbrev pub exists_at : Nodes → Path → Option Refusal
 exists_at nodes path = refuse_if (fin.contains_key nodes path) Exists
 
 -- a file has at most 2^40 bytes
@@ -95,21 +95,23 @@ too_long length = refuse_if (nat_lt (2 ^ 40) length) TooLong
 abbrev pub too_many : Tree → Option Refusal
 too_many t = refuse_if (nat_le 65536 (fin.len t.nodes) || nat_le (2 ^ 62) t.highest) TooMany
 
-abbrev pub not_empty : Nodes → List (List ℕ) → Option Refusal
+abbrev pub not_empty : Nodes → Path → Option Refusal
 not_empty nodes path = refuse_if (nat_lt 0 (length (entries_in nodes path))) NotEmpty
 
 -- a byte of the range is lost
-abbrev pub damaged : Nodes → List (List ℕ) → ℕ → ℕ → Option Refusal
+abbrev pub damaged : Nodes → Path → ℕ → ℕ → Option Refusal
 damaged nodes path offset count = refuse_if (is_none (bytes_of (range_of (cells_at nodes path) offset count))) Damaged
 
 -- a new node at the path
-abbrev pub new_refusal : Tree → List (List ℕ) → Option Refusal
-new_refusal t path = first_of (bad_name path ∷ at_root path ∷ no_dir t.nodes (parent_of path) ∷ exists_at t.nodes path ∷ too_many t ∷ [])
+abbrev pub new_refusal : Tree → Path → Option Refusal
+new_refusal t path =
+    first_of (bad_name path ∷ at_root path ∷ no_dir t.nodes (parent_of path) ∷ exists_at t.nodes path ∷ too_many t ∷ [])
 
-abbrev pub rename_refusal : Nodes → List (List ℕ) → List (List ℕ) → Option Refusal
+abbrev pub rename_refusal : Nodes → Path → Path → Option Refusal
 rename_refusal nodes from to =
     first_of (bad_name to ∷ at_root from ∷ at_root to ∷ no_node nodes from ∷ no_dir nodes (parent_of to)
-    ∷ (if same_path from to then None else first_of (exists_at nodes to ∷ refuse_if (is_below from to) Inside ∷ [])) ∷ [])
+    ∷ (if same_path from to then None else first_of (exists_at nodes to ∷ refuse_if (is_below from to) Inside ∷ []))
+    ∷ [])
 
 -- the first refusal of a call, where it is refused
 abbrev pub refusal_of : Tree → Call → Option Refusal

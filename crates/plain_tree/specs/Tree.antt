@@ -14,8 +14,8 @@ use Rattle.plain_tree.specs.declared.calls.Entry.{Entry}
 use Rattle.plain_tree.specs.declared.calls.Facts.{Facts}
 use Rattle.plain_tree.specs.declared.changes.Change.{Change}
 use Rattle.plain_tree.specs.declared.changes.Change.TheVariants as changes
-use Rattle.plain_tree.specs.Cells.{Cell, resized}
-use Rattle.plain_tree.specs.Paths.{path_cmp, name_in, moved_path}
+use Rattle.plain_tree.specs.Cells.{Cell, written, resized}
+use Rattle.plain_tree.specs.Paths.{Path, path_cmp, name_in, moved_path}
 
 -- what stands at each path
 abbrev pub Nodes : Type 0
@@ -38,7 +38,7 @@ abbrev pub empty_tree : Moment → Tree
 empty_tree at = record { highest = 1; nodes = fin.insert fin.empty [] (new_node kinds.Dir 1 at) }
 
 -- the map with the node at a path changed, where there is one
-abbrev pub changed_at : (Node → Node) → List (List ℕ) → Nodes → Nodes
+abbrev pub changed_at : (Node → Node) → Path → Nodes → Nodes
 changed_at change path nodes = found (fin.get nodes path)
   where
     found : Option Node → Nodes
@@ -54,7 +54,7 @@ abbrev pub change_noted : Moment → Node → Node
 change_noted at node = record node { times = record node.times { change = at } }
 
 -- the map with the node at a path touched
-abbrev pub touch : Moment → List (List ℕ) → Nodes → Nodes
+abbrev pub touch : Moment → Path → Nodes → Nodes
 touch at path nodes = changed_at (touched at) path nodes
 
 -- a file with its cells changed, touched; another node as it is
@@ -66,6 +66,10 @@ file_changed change at node = of_kind node.kind
     of_kind (kinds.File cells) = touched at (record node { kind = kinds.File (change cells) })
     of_kind (kinds.Link text) = node
 
+-- a file with these bytes from the offset on, touched; another node as it is
+abbrev pub written_to : ℕ → List ℕ → Moment → Node → Node
+written_to offset bytes at = file_changed (λ cells. written cells offset (map Some bytes)) at
+
 -- a node with a change made at a moment
 abbrev pub changed_by : Change → Moment → Node → Node
 changed_by changes.Touch at node = touched at node
@@ -73,7 +77,7 @@ changed_by changes.Note at node = change_noted at node
 changed_by (changes.Resize size) at node = file_changed (λ cells. resized cells size) at node
 
 -- each node at or below `from` stands at or below `to`, and all others stay
-abbrev pub moved : List (List ℕ) → List (List ℕ) → Nodes → Nodes
+abbrev pub moved : Path → Path → Nodes → Nodes
 moved from to nodes = fin.from_entries (map (λ e. (moved_path from to e.0, e.1)) (fin.entries nodes))
 
 abbrev pub sort_of : Kind → Sort
@@ -94,7 +98,7 @@ text_of_kind (kinds.File cells) = []
 text_of_kind (kinds.Link text) = text
 
 -- the cells of the file at a path
-abbrev pub cells_at : Nodes → List (List ℕ) → List Cell
+abbrev pub cells_at : Nodes → Path → List Cell
 cells_at nodes path = found (fin.get nodes path)
   where
     found : Option Node → List Cell
@@ -102,12 +106,19 @@ cells_at nodes path = found (fin.get nodes path)
     found (Some node) = cells_of_kind node.kind
 
 abbrev pub facts_of : Node → Facts
-facts_of node = record { sort = sort_of node.kind; uid = node.uid; length = length (cells_of_kind node.kind); text = text_of_kind node.kind; times = node.times }
+facts_of node =
+    record {
+      sort = sort_of node.kind;
+      uid = node.uid;
+      length = length (cells_of_kind node.kind);
+      text = text_of_kind node.kind;
+      times = node.times;
+    }
 
 -- the line of a node that stands directly in a directory
-abbrev pub entry_in : List (List ℕ) → (List (List ℕ) × Node) → Option Entry
+abbrev pub entry_in : Path → (Path × Node) → Option Entry
 entry_in dir e = option_map (λ name. record { sort = sort_of e.1.kind; name = name }) (name_in dir e.0)
 
 -- what stands directly in a directory, by the bytes of the names
-abbrev pub entries_in : Nodes → List (List ℕ) → List Entry
+abbrev pub entries_in : Nodes → Path → List Entry
 entries_in nodes dir = filter_map (entry_in dir) (fin.entries nodes)

@@ -4,7 +4,7 @@ use Rattle.std.specs.FinMap as fin
 use Rattle.plain_tree.specs.declared.nodes.Node.{Node}
 use Rattle.plain_tree.specs.declared.nodes.Kind.{Kind}
 use Rattle.plain_tree.specs.declared.nodes.Kind.TheVariants as kinds
-use Rattle.plain_tree.specs.Paths.{parent_of}
+use Rattle.plain_tree.specs.Paths.{Path, parent_of}
 use Rattle.plain_tree.specs.Tree.{Tree, Nodes}
 
 abbrev pub is_dir : Kind → Bool
@@ -17,16 +17,17 @@ abbrev pub mark_of : Option Node → Option (ℕ × Bool)
 mark_of None = None
 mark_of (Some node) = Some (node.uid, is_dir node.kind)
 
-abbrev pub mark_at : Nodes → List (List ℕ) → Option (ℕ × Bool)
+abbrev pub mark_at : Nodes → Path → Option (ℕ × Bool)
 mark_at nodes path = mark_of (fin.get nodes path)
 
 -- The root is a directory with uid 1, and each other node stands in a directory. No uid is given twice; uids are at
 -- least 1 and at most the highest, which is at most 2^62. There are at most 65,536 nodes.
-pub record IsShape (mark : List (List ℕ) → Option (ℕ × Bool)) (count highest : ℕ) : Type 0 where
+pub record IsShape (mark : Path → Option (ℕ × Bool)) (count highest : ℕ) : Type 0 where
   pub root : mark [] ≡ Some (1, true)
-  pub parents : (p : List (List ℕ)) (uid : ℕ) (dir : Bool) → mark p ≡ Some (uid, dir) → p ≢ [] → (parent : ℕ) × (mark (parent_of p) ≡ Some (parent, true))
-  pub given : (p : List (List ℕ)) (uid : ℕ) (dir : Bool) → mark p ≡ Some (uid, dir) → (1 ≤ uid) × (uid ≤ highest)
-  pub distinct : (p q : List (List ℕ)) (uid : ℕ) (d e : Bool) → mark p ≡ Some (uid, d) → mark q ≡ Some (uid, e) → p ≡ q
+  pub parents : (p : Path) (uid : ℕ) (dir : Bool) → mark p ≡ Some (uid, dir) → p ≢ []
+      → (parent : ℕ) × (mark (parent_of p) ≡ Some (parent, true))
+  pub given : (p : Path) (uid : ℕ) (dir : Bool) → mark p ≡ Some (uid, dir) → (1 ≤ uid) × (uid ≤ highest)
+  pub distinct : (p q : Path) (uid : ℕ) (d e : Bool) → mark p ≡ Some (uid, d) → mark q ≡ Some (uid, e) → p ≡ q
   pub bounded : highest ≤ 2 ^ 62
   pub few : count ≤ 65536
 

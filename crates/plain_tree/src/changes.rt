@@ -1,6 +1,6 @@
-ghost use Rattle.std.specs.Prelude.{◌≡◌, ◌<◌, ◌+◌, ◌^◌, ◌≤◌, length, map, Some, OnOk, OnErr};
-ghost use Rattle.plain_tree.specs.Cells.{written, resized};
-ghost use Rattle.plain_tree.specs.Tree.{touched, change_noted, file_changed, sort_of, changed_by, new_node};
+ghost use Rattle.std.specs.Prelude.{◌≡◌, ◌<◌, ◌+◌, ◌^◌, ◌≤◌, length, OnOk, OnErr};
+ghost use Rattle.plain_tree.specs.Cells.{resized};
+ghost use Rattle.plain_tree.specs.Tree.{touched, change_noted, file_changed, written_to, sort_of, changed_by, new_node};
 ghost use Rattle.plain_tree.specs.Refusals.{missing_below};
 
 use crate::calls::{Refusal, Sort};
@@ -39,7 +39,7 @@ fn touch_node(node: &mut Node, at: Moment)
 pub fn write_node(node: &mut Node, offset: u64, bytes: &[u8], at: Moment) -> Result<(), NoMemory>
     requires some { 0 < length bytes.now }
     requires fits { offset + length bytes.now ≤ 2 ^ 40 }
-    ensures ok { OnOk result (node.new ≡ file_changed (λ cells. written cells offset (map Some bytes.now)) at node.old) }
+    ensures ok { OnOk result (node.new ≡ written_to offset bytes.now at node.old) }
     ensures err { OnErr result (node.new ≡ node.old) }
 {
     if let Kind::File(file) = &mut node.kind {

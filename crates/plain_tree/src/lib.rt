@@ -3,6 +3,7 @@
 
 mod calls;
 mod changes;
+mod copies;
 mod laws;
 mod links;
 mod map_tree;

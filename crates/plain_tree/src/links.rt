@@ -3,9 +3,9 @@ ghost use Rattle.std.specs.List.Sorted.{IsStrictlySortedBy};
 ghost use Rattle.std.specs.Option.{option_copied, option_map};
 ghost use Rattle.std.specs.Ordering.{nat_cmp};
 ghost use Rattle.std.specs.BTreeMap.{get, IsUnchanged};
-ghost use Rattle.plain_tree.specs.Cells.{written};
-ghost use Rattle.plain_tree.specs.Tree.{changed_by, file_changed, sort_of};
+ghost use Rattle.plain_tree.specs.Tree.{changed_by, sort_of, written_to};
 ghost use Rattle.plain_tree.specs.Links.{child, walk, name_cmp, lines, lines_of, IsPut, IsPutIn, IsMovedTo, IsSame, IsLast};
+ghost use Rattle.plain_tree.specs.Paths.{Name};
 
 use crate::calls::Entry;
 use crate::changes::{Change, change_node, put_node, sort_of, write_node};
@@ -24,7 +24,7 @@ pub struct Links {
 
 impl Links {
     pub fn new(alloc: Global) -> Links
-        ensures { (u : ℕ) (n : List ℕ) → child result u n ≡ None }
+        ensures { (u : ℕ) (n : Name) → child result u n ≡ None }
     {
         Links {
             dirs: BTreeMap::new(alloc),
@@ -113,7 +113,8 @@ impl Links {
 
     /// Changes what stands under a name of a directory.
     pub fn change(&mut self, uid: u64, name: &Text, change: Change, at: Moment)
-        ensures { IsPut (child self.old) (child self.new) uid name.now (option_map (changed_by change at) (child self.old uid name.now)) }
+        ensures { IsPut (child self.old) (child self.new) uid name.now
+            (option_map (changed_by change at) (child self.old uid name.now)) }
     {
         if let Some(names) = self.dirs.get_mut(&uid) {
             change_name(names, name, change, at);
@@ -131,7 +132,8 @@ impl Links {
     ) -> Result<(), NoMemory>
         requires some { 0 < length bytes.now }
         requires fits { offset + length bytes.now ≤ 2 ^ 40 }
-        ensures ok { OnOk result (IsPut (child self.old) (child self.new) uid name.now (option_map (file_changed (λ cells. written cells offset (map Some bytes.now)) at) (child self.old uid name.now))) }
+        ensures ok { OnOk result (IsPut (child self.old) (child self.new) uid name.now
+            (option_map (written_to offset bytes.now at) (child self.old uid name.now))) }
         ensures err { OnErr result (IsSame (child self.old) (child self.new)) }
     {
         match self.dirs.get_mut(&uid) {
@@ -142,7 +144,8 @@ impl Links {
 
     /// Puts a node in place of what stands under a name of a directory. Takes no memory.
     fn replace(&mut self, uid: u64, name: &Text, node: Node)
-        ensures { IsPut (child self.old) (child self.new) uid name.now (option_map (λ _. node) (child self.old uid name.now)) }
+        ensures { IsPut (child self.old) (child self.new) uid name.now
+            (option_map (λ _. node) (child self.old uid name.now)) }
     {
         match self.dirs.get_mut(&uid) {
             Some(names) => replace_name(names, name, node),
@@ -197,7 +200,8 @@ fn put_name(names: &mut Names, name: Text, node: Node) -> Result<(), NoMemory>
 }
 
 fn change_name(names: &mut Names, name: &Text, change: Change, at: Moment)
-    ensures { IsPutIn names.old names.new name.now (option_map (changed_by change at) (get name_cmp names.old name.now)) }
+    ensures { IsPutIn names.old names.new name.now
+        (option_map (changed_by change at) (get name_cmp names.old name.now)) }
 {
     if let Some(node) = names.get_mut(name) {
         change_node(node, change, at);
@@ -213,8 +217,9 @@ fn write_name(
 ) -> Result<(), NoMemory>
     requires some { 0 < length bytes.now }
     requires fits { offset + length bytes.now ≤ 2 ^ 40 }
-    ensures ok { OnOk result (IsPutIn names.old names.new name.now (option_map (file_changed (λ cells. written cells offset (map Some bytes.now)) at) (get name_cmp names.old name.now))) }
-    ensures err { OnErr result ((n : List ℕ) → get name_cmp names.new n ≡ get name_cmp names.old n) }
+    ensures ok { OnOk result (IsPutIn names.old names.new name.now
+        (option_map (written_to offset bytes.now at) (get name_cmp names.old name.now))) }
+    ensures err { OnErr result ((n : Name) → get name_cmp names.new n ≡ get name_cmp names.old n) }
 {
     match names.get_mut(name) {
         Some(node) => write_node(node, offset, bytes, at),
@@ -223,7 +228,8 @@ fn write_name(
 }
 
 fn replace_name(names: &mut Names, name: &Text, node: Node)
-    ensures { IsPutIn names.old names.new name.now (option_map (λ _. node) (get name_cmp names.old name.now)) }
+    ensures { IsPutIn names.old names.new name.now
+        (option_map (λ _. node) (get name_cmp names.old name.now)) }
 {
     match names.get_mut(name) {
         Some(place) => put_node(place, node),

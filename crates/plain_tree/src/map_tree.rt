@@ -41,7 +41,8 @@ impl Model for MapTree {
 
     ghost Value = { Tree };
 
-    ghost coded = { code_by (ℕ × fin.FinMap path_cmp Node) (coded× coded_ℕ (fin.code (coded_list (coded_list coded_ℕ)) node.the_row.coded))
+    ghost coded = { code_by (ℕ × fin.FinMap path_cmp Node)
+        (coded× coded_ℕ (fin.code (coded_list (coded_list coded_ℕ)) node.the_row.coded))
         (λ t. (t.highest, t.nodes)) (λ p. record { highest = p.0; nodes = p.1 }) (λ _. refl) };
 
     ghost view = { λ a. record { highest = a.highest; nodes = a.nodes } };
@@ -94,7 +95,8 @@ impl MapTree {
     fn create(&mut self, path: &[Text], kind: Kind, at: Moment) -> Result<Answer, NoMemory>
         requires { IsValid self.old }
         ensures answer { IfOk result (λ a. a ≡ answer_unless (new_refusal self.old path.now) Answer.Done) }
-        ensures after { OnOk result (self.new ≡ after_unless (new_refusal self.old path.now) (with_new kind self.old path.now at) self.old) }
+        ensures after { OnOk result (self.new
+            ≡ after_unless (new_refusal self.old path.now) (with_new kind self.old path.now at) self.old) }
         ensures err { OnErr result (self.new ≡ self.old) }
     {
         if let Some(refusal) = self.new_refusal(path)? {

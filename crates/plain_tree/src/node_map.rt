@@ -37,9 +37,8 @@ impl Model for NodeMap {
 impl NodeMap {
     ghost use Rattle.std.specs.Prelude.{◌≡◌, ◌≢◌, ℕ, List, [], None, Some, ◌<◌, ◌+◌, ◌^◌, ◌≤◌, length, map, nat_lt, IsSome, OnOk, OnErr, IfOk, IfErr, IfSome, IfNone};
     ghost use Rattle.std.specs.FinMap as fin;
-    ghost use Rattle.plain_tree.specs.Cells.{written};
     ghost use Rattle.plain_tree.specs.Paths.{parent_of};
-    ghost use Rattle.plain_tree.specs.Tree.{changed_at, changed_by, file_changed, entries_in, empty_tree, moved};
+    ghost use Rattle.plain_tree.specs.Tree.{changed_at, changed_by, written_to, entries_in, empty_tree, moved};
     ghost use Rattle.plain_tree.specs.Seen.{IsMissing, IsPlace, CanStand, CanLeave, CanMove};
 
     /// The root alone, which has uid 1.
@@ -181,7 +180,7 @@ impl NodeMap {
     ) -> Result<(), NoMemory>
         requires some { 0 < length bytes.now }
         requires fits { offset + length bytes.now ≤ 2 ^ 40 }
-        ensures ok { OnOk result (self.new ≡ changed_at (file_changed (λ cells. written cells offset (map Some bytes.now)) at) path.now self.old) }
+        ensures ok { OnOk result (self.new ≡ changed_at (written_to offset bytes.now at) path.now self.old) }
         ensures err { OnErr result (self.new ≡ self.old) }
     {
         if path.is_empty() {

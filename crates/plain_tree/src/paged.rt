@@ -93,7 +93,8 @@ impl PagedFile {
 /// The bytes from one offset up to another.
 fn bytes_between(pages: &Pages, alloc: Global, from: u64, end: u64) -> Result<Vec<u8>, AllocError>
     requires { from ≤ end }
-    ensures { IfOk result (λ bytes. bytes.items ≡ map (byte_at (λ b. b.value) pages.now.entries) (range_with_len from (end - from))) }
+    ensures { IfOk result (λ bytes. bytes.items
+        ≡ map (byte_at (λ b. b.value) pages.now.entries) (range_with_len from (end - from))) }
 {
     let mut bytes = Vec::with_capacity(alloc, (end - from) as usize)?;
     let mut at = from;
@@ -108,7 +109,8 @@ fn bytes_between(pages: &Pages, alloc: Global, from: u64, end: u64) -> Result<Ve
 /// Appends bytes that lie in one page.
 fn append_piece(bytes: &mut Vec<u8>, pages: &Pages, at: u64, count: u64) -> Result<(), AllocError>
     requires within { at % 4096 + count ≤ 4096 }
-    ensures { OnOk result (bytes.new.items ≡ bytes.old.items ++ map (byte_at (λ b. b.value) pages.now.entries) (range_with_len at count)) }
+    ensures { OnOk result (bytes.new.items
+        ≡ bytes.old.items ++ map (byte_at (λ b. b.value) pages.now.entries) (range_with_len at count)) }
 {
     let size = count as usize;
     match pages.get(&(at / PAGE)) {
@@ -124,7 +126,8 @@ fn append_part(
     size: usize,
 ) -> Result<(), AllocError>
     requires { from + size ≤ 4096 }
-    ensures { OnOk result (bytes.new.items ≡ bytes.old.items ++ map (λ i. slice_index page.now i) (range_with_len from size)) }
+    ensures { OnOk result (bytes.new.items
+        ≡ bytes.old.items ++ map (λ i. slice_index page.now i) (range_with_len from size)) }
 {
     bytes.extend_from_slice(&page[from..from + size])
 }
@@ -152,7 +155,8 @@ fn add_pages(pages: &mut Pages, alloc: Global, first: u64, last: u64) -> Result<
 fn add_page(pages: &mut Pages, alloc: Global, number: u64) -> Result<(), AllocError>
     ensures same { (i : ℕ) → byte_at (λ b. b.value) pages.new.entries i ≡ byte_at (λ b. b.value) pages.old.entries i }
     ensures there { OnOk result (is_some (page_at pages.new.entries number) ≡ true) }
-    ensures kept { (q : ℕ) → is_some (page_at pages.old.entries q) ≡ true → is_some (page_at pages.new.entries q) ≡ true }
+    ensures kept { (q : ℕ) → is_some (page_at pages.old.entries q) ≡ true
+        → is_some (page_at pages.new.entries q) ≡ true }
 {
     if pages.contains_key(&number) {
         return Ok(());
@@ -166,10 +170,14 @@ fn add_page(pages: &mut Pages, alloc: Global, number: u64) -> Result<(), AllocEr
 fn put_bytes(pages: &mut Pages, offset: u64, bytes: &[u8])
     requires some { 0 < length bytes.now }
     requires fits { offset + length bytes.now ≤ 2 ^ 40 }
-    requires there { (q : ℕ) → offset / 4096 ≤ q → q ≤ (offset + length bytes.now - 1) / 4096 → is_some (page_at pages.old.entries q) ≡ true }
-    ensures inside { (k : ℕ) → k < length bytes.now → byte_at (λ b. b.value) pages.new.entries (offset + k) ≡ slice_index bytes.now k }
-    ensures below { (i : ℕ) → i < offset → byte_at (λ b. b.value) pages.new.entries i ≡ byte_at (λ b. b.value) pages.old.entries i }
-    ensures above { (i : ℕ) → offset + length bytes.now ≤ i → byte_at (λ b. b.value) pages.new.entries i ≡ byte_at (λ b. b.value) pages.old.entries i }
+    requires there { (q : ℕ) → offset / 4096 ≤ q → q ≤ (offset + length bytes.now - 1) / 4096
+        → is_some (page_at pages.old.entries q) ≡ true }
+    ensures inside { (k : ℕ) → k < length bytes.now
+        → byte_at (λ b. b.value) pages.new.entries (offset + k) ≡ slice_index bytes.now k }
+    ensures below { (i : ℕ) → i < offset
+        → byte_at (λ b. b.value) pages.new.entries i ≡ byte_at (λ b. b.value) pages.old.entries i }
+    ensures above { (i : ℕ) → offset + length bytes.now ≤ i
+        → byte_at (λ b. b.value) pages.new.entries i ≡ byte_at (λ b. b.value) pages.old.entries i }
 {
     let mut done = 0;
     while done < bytes.len() {
@@ -184,9 +192,12 @@ fn put_bytes(pages: &mut Pages, offset: u64, bytes: &[u8])
 fn put_piece(pages: &mut Pages, at: u64, piece: &[u8])
     requires there { is_some (page_at pages.old.entries (at / 4096)) ≡ true }
     requires within { at % 4096 + length piece.now ≤ 4096 }
-    ensures inside { (k : ℕ) → k < length piece.now → byte_at (λ b. b.value) pages.new.entries (at + k) ≡ slice_index piece.now k }
-    ensures others { (i : ℕ) → (i < at) ⊎ (at + length piece.now ≤ i) → byte_at (λ b. b.value) pages.new.entries i ≡ byte_at (λ b. b.value) pages.old.entries i }
-    ensures kept { (q : ℕ) → is_some (page_at pages.old.entries q) ≡ true → is_some (page_at pages.new.entries q) ≡ true }
+    ensures inside { (k : ℕ) → k < length piece.now
+        → byte_at (λ b. b.value) pages.new.entries (at + k) ≡ slice_index piece.now k }
+    ensures others { (i : ℕ) → (i < at) ⊎ (at + length piece.now ≤ i)
+        → byte_at (λ b. b.value) pages.new.entries i ≡ byte_at (λ b. b.value) pages.old.entries i }
+    ensures kept { (q : ℕ) → is_some (page_at pages.old.entries q) ≡ true
+        → is_some (page_at pages.new.entries q) ≡ true }
 {
     if let Some(page) = pages.get_mut(&(at / PAGE)) {
         put_part(page, (at % PAGE) as usize, piece);
@@ -196,7 +207,8 @@ fn put_piece(pages: &mut Pages, at: u64, piece: &[u8])
 fn put_part(page: &mut [u8; 4096], from: usize, piece: &[u8])
     requires { from + length piece.now ≤ 4096 }
     ensures inside { (k : ℕ) → k < length piece.now → slice_index page.new (from + k) ≡ slice_index piece.now k }
-    ensures others { (k : ℕ) → (k < from) ⊎ (from + length piece.now ≤ k) → slice_index page.new k ≡ slice_index page.old k }
+    ensures others { (k : ℕ) → (k < from) ⊎ (from + length piece.now ≤ k)
+        → slice_index page.new k ≡ slice_index page.old k }
 {
     page[from..from + piece.len()].copy_from_slice(piece);
 }
@@ -212,8 +224,10 @@ fn drop_pages(pages: &mut Pages, first: u64)
 /// Clears the bytes of the page of an offset, from that offset on.
 fn clear_tail(pages: &mut Pages, offset: u64)
     ensures tail { (i : ℕ) → offset ≤ i → i / 4096 ≡ offset / 4096 → byte_at (λ b. b.value) pages.new.entries i ≡ 0 }
-    ensures below { (i : ℕ) → i < offset → byte_at (λ b. b.value) pages.new.entries i ≡ byte_at (λ b. b.value) pages.old.entries i }
-    ensures others { (i : ℕ) → (i / 4096 ≡ offset / 4096 → ⊥) → byte_at (λ b. b.value) pages.new.entries i ≡ byte_at (λ b. b.value) pages.old.entries i }
+    ensures below { (i : ℕ) → i < offset
+        → byte_at (λ b. b.value) pages.new.entries i ≡ byte_at (λ b. b.value) pages.old.entries i }
+    ensures others { (i : ℕ) → (i / 4096 ≡ offset / 4096 → ⊥)
+        → byte_at (λ b. b.value) pages.new.entries i ≡ byte_at (λ b. b.value) pages.old.entries i }
 {
     if let Some(page) = pages.get_mut(&(offset / PAGE)) {
         clear_part(page, (offset % PAGE) as usize);

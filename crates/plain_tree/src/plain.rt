@@ -26,7 +26,8 @@ impl Model for Plain {
 
     ghost Value = { Tree };
 
-    ghost coded = { code_by (ℕ × fin.FinMap path_cmp Node) (coded× coded_ℕ (fin.code (coded_list (coded_list coded_ℕ)) node.the_row.coded))
+    ghost coded = { code_by (ℕ × fin.FinMap path_cmp Node)
+        (coded× coded_ℕ (fin.code (coded_list (coded_list coded_ℕ)) node.the_row.coded))
         (λ t. (t.highest, t.nodes)) (λ p. record { highest = p.0; nodes = p.1 }) (λ _. refl) };
 
     ghost view = { λ a. a.tree };

@@ -119,7 +119,7 @@ fn is_wanted(answer: &Answer, want: &Want) -> bool {
     }
 }
 
-/// Makes each call on the empty tree, and gives the place of the first answer that isn't the one wanted.
+/// Makes each call on the empty tree, and gives the place of the first answer of which a copy isn't the one wanted.
 fn first_wrong(alloc: Global, rows: &[(Ask, Want)]) -> Result<Option<usize>, NoMemory> {
     let at = Moment {
         secs: 1704164645,
@@ -128,7 +128,7 @@ fn first_wrong(alloc: Global, rows: &[(Ask, Want)]) -> Result<Option<usize>, NoM
     let mut tree = Plain::empty(alloc, at)?;
     for (k, row) in rows.iter().enumerate() {
         let call = call_of(alloc, &row.0)?;
-        let answer = tree.apply(&call, at)?;
+        let answer = tree.apply(&call, at)?.try_clone(alloc)?;
         if !is_wanted(&answer, &row.1) {
             return Ok(Some(k));
         }

@@ -13,7 +13,7 @@ use Rattle.plain_tree.specs.declared.calls.Placed.{Placed}
 use Rattle.plain_tree.specs.History.{Calls, call_at, after_placement, replay, IsInterleaving}
 use Rattle.plain_tree.specs.Tree.{Tree}
 use Rattle.session_script.specs.Grammar.{calls_of}
-use Rattle.session_script.specs.Replies.{IsReply, AreReplies}
+use Rattle.session_script.specs.Replies.{AreReplies, IsPlainReply, IsReply, MayCome}
 use Rattle.session_script.specs.declared.logs.Reply.{Reply}
 use Rattle.session_script.specs.declared.scripts.ScriptLine.{ScriptLine}
 
@@ -59,7 +59,7 @@ interleaving_more script line history p same next so_far who =
     ∙ numbers_go_on (eqb line.who who) (calls_of script who) line.call p.nth (λ is. next ∙ ap (λ w. length (calls_of script w)) (eqb-true line.who who is))
     ∙ ap (λ l. range_with_len 0 (length l)) (sym (shown-push (λ l. l.call) (λ l. eqb l.who who) script line))
 
-some_same : {A : Type 0} (x y : A) → Some x ≡ Some y → x ≡ y
+pub some_same : {A : Type 0} (x y : A) → Some x ≡ Some y → x ≡ y
 some_same x y e = cc
 
 -- the call of a line is the one of its session with as many calls before it
@@ -78,32 +78,45 @@ call_at_line (x ∷ script) (suc k) line found = at (eqb x.who line.who) (call_a
     at true rest = rest
     at false rest = rest
 
-slice_get-append : {A : Type 0} (xs ys : List A) (k : ℕ) → k < length xs → slice_get (xs ++ ys) k ≡ slice_get xs k
+pub slice_get-append : {A : Type 0} (xs ys : List A) (k : ℕ) → k < length xs → slice_get (xs ++ ys) k ≡ slice_get xs k
 slice_get-append [] ys k lt = absurd (omega arith)
 slice_get-append (x ∷ xs) ys zero lt = refl
 slice_get-append (x ∷ xs) ys (suc k) lt = slice_get-append xs ys k (omega arith)
 
-slice_get-seam : {A : Type 0} (xs : List A) (y : A) → slice_get (xs ++ y ∷ []) (length xs) ≡ Some y
+pub slice_get-seam : {A : Type 0} (xs : List A) (y : A) → slice_get (xs ++ y ∷ []) (length xs) ≡ Some y
 slice_get-seam [] y = refl
 slice_get-seam (x ∷ xs) y = slice_get-seam xs y
 
--- one more placement with its reply
-pub replies_more : (calls : Calls) (first : Tree) (history : List Placed) (answered : List Reply) (p : Placed) (call : Call) (reply : Reply)
-    → AreReplies calls first history answered → call_at calls p ≡ Some call → IsReply p.fate (replay calls first history) call reply
-    → AreReplies calls first (history ++ p ∷ []) (answered ++ reply ∷ [])
-replies_more calls first history answered p call reply so_far is answers = record {
+-- one more placement with its reply, where what may come to the placements before it may come still
+replies_go_on : (calls : Calls) (may_come : MayCome) (history : List Placed) (answered : List Reply) (p : Placed) (call : Call) (reply : Reply)
+    → ((place : ℕ) (q : Placed) (asked : Call) (r : Reply) → place < length history → may_come history place q asked r → may_come (history ++ p ∷ []) place q asked r)
+    → AreReplies calls may_come history answered → call_at calls p ≡ Some call → may_come (history ++ p ∷ []) (length history) p call reply
+    → AreReplies calls may_come (history ++ p ∷ []) (answered ++ reply ∷ [])
+replies_go_on calls may_come history answered p call reply stays so_far is answers = record {
   count = length_push answered reply ∙ ap (λ n. n + 1) so_far.count ∙ sym (length_push history p);
   each = λ place q r at_q at_r. ⊎_elim
       (λ lt.
-      let before : take place (history ++ p ∷ []) ≡ take place history = take-append-le place history (p ∷ []) (omega arith) in
       let there = so_far.each place q r (sym (slice_get-append history (p ∷ []) place lt) ∙ at_q) (sym (slice_get-append answered (reply ∷ []) place (omega (arith, so_far.count))) ∙ at_r) in
-      (there.0, there.1, subst (λ h. IsReply q.fate (replay calls first h) there.0 r) (sym before) there.2))
+      (there.0, there.1, stays place q there.0 r lt there.2))
       (λ ge.
       let within : place < length (history ++ p ∷ []) = slice_get_within (history ++ p ∷ []) place q at_q in
       let last : place ≡ length history = omega (arith, length_push history p) in
       let is_p : p ≡ q = some_same p q (sym (slice_get-seam history p) ∙ ap (slice_get (history ++ p ∷ [])) (sym last) ∙ at_q) in
-      let is_reply : reply ≡ r = some_same reply r (sym (slice_get-seam answered reply) ∙ ap (slice_get (answered ++ reply ∷ [])) (so_far.count ∙ sym last) ∙ at_r) in
-      let before : take place (history ++ p ∷ []) ≡ history = take-append-le place history (p ∷ []) (omega arith) ∙ take_all place history (omega arith) in
-      (call, ap (call_at calls) (sym is_p) ∙ is, subst (λ h. IsReply q.fate (replay calls first h) call r) (sym before) (subst (λ x. IsReply x.fate (replay calls first history) call r) is_p (subst (IsReply p.fate (replay calls first history) call) is_reply answers))))
+      let is_reply : reply ≡ r = some_same reply r (sym (slice_get-seam answered reply) ∙ ap (slice_get (answered ++ reply ∷ [])) (so_far.count ∙ sym last) ∙ at_r) in (
+        call,
+        ap (call_at calls) (sym is_p) ∙ is,
+        subst (λ k. may_come (history ++ p ∷ []) k q call r) (sym last)
+            (subst (λ x. may_come (history ++ p ∷ []) (length history) x call r) is_p (subst (may_come (history ++ p ∷ []) (length history) p call) is_reply answers)),
+      ))
       (cases_lt place (length history));
 }
+
+-- the same on the plain tree
+pub replies_more : (calls : Calls) (first : Tree) (history : List Placed) (answered : List Reply) (p : Placed) (call : Call) (reply : Reply)
+    → AreReplies calls (IsPlainReply calls first) history answered → call_at calls p ≡ Some call → IsReply p.fate (replay calls first history) call reply
+    → AreReplies calls (IsPlainReply calls first) (history ++ p ∷ []) (answered ++ reply ∷ [])
+replies_more calls first history answered p call reply so_far is answers =
+    replies_go_on calls (IsPlainReply calls first) history answered p call reply
+    (λ place q asked r lt may. subst (λ h. IsReply q.fate (replay calls first h) asked r) (sym (take-append-le place history (p ∷ []) (omega arith))) may)
+    so_far is
+    (subst (λ h. IsReply p.fate (replay calls first h) call reply) (sym (take-append-le (length history) history (p ∷ []) (omega arith) ∙ take_all (length history) history (omega arith))) answers)

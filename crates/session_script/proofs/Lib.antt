@@ -2,6 +2,7 @@ pub mod Arguments
 pub mod Bounds
 pub mod BytesLaws
 pub mod CallLaws
+pub mod EscapedBytes
 pub mod GrammarLaws
 pub mod HexBytes
 pub mod HexText

@@ -29,11 +29,13 @@ abbrev pub call_by : Verb → List (List ℕ) → Result Call ScriptWhy
 call_by verbs.Mkdir (p ∷ []) = read_as (path_of p) reasons.Path (λ path. Ok (Mkdir path))
 call_by verbs.Create (p ∷ []) = read_as (path_of p) reasons.Path (λ path. Ok (Create path))
 call_by verbs.Write (p ∷ n ∷ b ∷ []) =
-    read_as (path_of p) reasons.Path (λ path. read_as (number_of n) reasons.Number (λ offset. read_as (bytes_of b) reasons.Bytes (λ bytes. Ok (Write path offset bytes))))
+    read_as (path_of p) reasons.Path (λ path. read_as (number_of n) reasons.Number (λ offset.
+    read_as (bytes_of b) reasons.Bytes (λ bytes. Ok (Write path offset bytes))))
 call_by verbs.Truncate (p ∷ n ∷ []) =
     read_as (path_of p) reasons.Path (λ path. read_as (number_of n) reasons.Number (λ length. Ok (Truncate path length)))
 call_by verbs.Read (p ∷ n ∷ m ∷ []) =
-    read_as (path_of p) reasons.Path (λ path. read_as (number_of n) reasons.Number (λ offset. read_as (number_of m) reasons.Number (λ count. Ok (Read path offset count))))
+    read_as (path_of p) reasons.Path (λ path. read_as (number_of n) reasons.Number (λ offset.
+    read_as (number_of m) reasons.Number (λ count. Ok (Read path offset count))))
 call_by verbs.List (p ∷ []) = read_as (path_of p) reasons.Path (λ path. Ok (Listing path))
 call_by verbs.Stat (p ∷ []) = read_as (path_of p) reasons.Path (λ path. Ok (Stat path))
 call_by verbs.Rename (p ∷ q ∷ []) =
@@ -107,7 +109,8 @@ with_line number before (Ok (Some spelled)) = Ok (before ++ spelled ∷ [])
 with_line number before (Err reason) = Err (record { line = number; why = reason })
 
 -- what was read goes on to the next line
-abbrev pub and_then : Result (List ScriptLine) ScriptErr → (List ScriptLine → Result (List ScriptLine) ScriptErr) → Result (List ScriptLine) ScriptErr
+abbrev pub and_then : Result (List ScriptLine) ScriptErr → (List ScriptLine → Result (List ScriptLine) ScriptErr)
+    → Result (List ScriptLine) ScriptErr
 and_then (Ok script) next = next script
 and_then (Err refusal) next = Err refusal
 
@@ -124,7 +127,8 @@ lines_of text = slice_split (λ b. b == 10) text
 -- the script of a text, or its first refusal
 abbrev pub script_of : List ℕ → Result (List ScriptLine) ScriptErr
 script_of text =
-    if nat_lt 16777216 (length text) then Err (record { line = 0; why = reasons.Long }) else script_from 1 [] (lines_of text)
+    if nat_lt 16777216 (length text) then Err (record { line = 0; why = reasons.Long })
+    else script_from 1 [] (lines_of text)
 
 -- a fault of reading is the text's first refusal, or want of memory
 abbrev pub IsFault : ScriptFault → Result (List ScriptLine) ScriptErr → Type 0

@@ -2,7 +2,6 @@
 use Rattle.std.specs.Prelude.{ℕ, ◌/◌, ◌%◌, List, [], ◌∷◌, ◌++◌, length, codes, decimal, false}
 use Rattle.std.specs.List.{flat_map, enumerate_from, zip}
 use Rattle.std.specs.Fmt.{digit_glyph}
-use Rattle.percent_encoding.specs.Percent.{percent_encode}
 use Rattle.tape_types.specs.Times.{time_text}
 use Rattle.plain_tree.specs.RefusalNames.{refusal_name}
 use Rattle.plain_tree.specs.declared.calls.Answer.{Answer}
@@ -12,7 +11,7 @@ use Rattle.plain_tree.specs.declared.calls.Facts.{Facts}
 use Rattle.plain_tree.specs.declared.calls.Placed.{Placed}
 use Rattle.plain_tree.specs.declared.calls.Sort.{Sort}
 use Rattle.plain_tree.specs.declared.calls.Sort.TheVariants as sorts
-use Rattle.session_script.specs.declared.logs.TheConstants.{ESCAPED}
+use Rattle.session_script.specs.Escapes.{escaped}
 use Rattle.session_script.specs.declared.logs.Reply.{Reply}
 use Rattle.session_script.specs.declared.logs.Reply.TheVariants as replies
 use Rattle.session_script.specs.declared.logs.Log.{Log}
@@ -20,10 +19,6 @@ use Rattle.session_script.specs.declared.logs.Log.{Log}
 -- a byte as two hexadecimal digits in lower case
 abbrev pub hex_byte : ℕ → List ℕ
 hex_byte b = digit_glyph false (b / 16) ∷ digit_glyph false (b % 16) ∷ []
-
--- a name or a text, with controls, spaces, percent signs and all past ASCII escaped
-abbrev pub escaped : List ℕ → List ℕ
-escaped text = percent_encode ESCAPED text
 
 -- a space and the bytes in hexadecimal, where there are any
 abbrev pub hex_text : List ℕ → List ℕ
@@ -68,7 +63,9 @@ reply_text replies.NoMemory = codes "nomemory"
 
 -- `PLACE WHO.NTH REPLY`
 abbrev pub line_text : ℕ → Placed → Reply → List ℕ
-line_text place placed reply = decimal place ++ codes " " ++ decimal placed.who ++ codes "." ++ decimal placed.nth ++ codes " " ++ reply_text reply ++ codes "\n"
+line_text place placed reply =
+    decimal place ++ codes " " ++ decimal placed.who ++ codes "." ++ decimal placed.nth ++ codes " "
+    ++ reply_text reply ++ codes "\n"
 
 -- a line for each placement and its reply, in order
 abbrev pub log_text : Log → List ℕ

@@ -2,6 +2,7 @@
 use Rattle.std.specs.Prelude.{◌≡◌, ◌⊎◌, ℕ, ◌+◌, ◌<◌, ◌≤◌, List, ◌∷◌, ◌++◌, Err, codes, length, take, drop, sum_by}
 use Rattle.std.specs.List.{AllByRecursion}
 use Rattle.std.specs.Str.{IsUtf8}
+use Rattle.plain_tree.specs.Paths.{Path}
 use Rattle.session_script.specs.declared.scripts.ScriptErr.{ScriptErr}
 use Rattle.session_script.specs.declared.scripts.ScriptLine.{ScriptLine}
 use Rattle.session_script.specs.declared.scripts.ScriptWhy.{ScriptWhy}
@@ -49,45 +50,59 @@ pub record HasWords (verb : Verb) (words : List (List ℕ)) : Type 0 where
 
 -- each word that stands for a path spells one
 abbrev pub HasPaths : Verb → List (List ℕ) → Type 0
-HasPaths verb words = AllByRecursion (λ w. (path : List (List ℕ)) × SpellsPath w path) (take (path_count verb) words)
+HasPaths verb words = AllByRecursion (λ w. (path : Path) × SpellsPath w path) (take (path_count verb) words)
 
 -- each word that stands for a number spells one
 abbrev pub HasNumbers : Verb → List (List ℕ) → Type 0
-HasNumbers verb words = AllByRecursion (λ w. (n : ℕ) × SpellsNumber w n) (take (number_count verb) (drop (path_count verb) words))
+HasNumbers verb words =
+    AllByRecursion (λ w. (n : ℕ) × SpellsNumber w n) (take (number_count verb) (drop (path_count verb) words))
 
 -- each word that stands for the bytes of a write spells such
 abbrev pub HasContent : Verb → List (List ℕ) → Type 0
-HasContent verb words = AllByRecursion (λ w. (bytes : List ℕ) × SpellsBytes w bytes) (drop (number_count verb) (drop (path_count verb) words))
+HasContent verb words =
+    AllByRecursion (λ w. (bytes : List ℕ) × SpellsBytes w bytes)
+    (drop (number_count verb) (drop (path_count verb) words))
 
 -- the first form that the words behind a session lack: they name a call, are as many as it takes, and spell its paths, its
 -- numbers and its bytes
 abbrev pub LacksForm : List (List ℕ) → ScriptWhy → Type 0
 LacksForm words reasons.Verb = (verb : Verb) (rest : List (List ℕ)) → words ≡ verb_text verb ∷ rest → ⊥
-LacksForm words reasons.Words = (verb : Verb) × (rest : List (List ℕ)) × (words ≡ verb_text verb ∷ rest) × (HasWords verb rest → ⊥)
-LacksForm words reasons.Path = (verb : Verb) × (rest : List (List ℕ)) × (words ≡ verb_text verb ∷ rest) × HasWords verb rest × (HasPaths verb rest → ⊥)
+LacksForm words reasons.Words =
+    (verb : Verb) × (rest : List (List ℕ)) × (words ≡ verb_text verb ∷ rest) × (HasWords verb rest → ⊥)
+LacksForm words reasons.Path =
+    (verb : Verb) × (rest : List (List ℕ)) × (words ≡ verb_text verb ∷ rest) × HasWords verb rest
+    × (HasPaths verb rest → ⊥)
 LacksForm words reasons.Number =
-    (verb : Verb) × (rest : List (List ℕ)) × (words ≡ verb_text verb ∷ rest) × HasWords verb rest × HasPaths verb rest × (HasNumbers verb rest → ⊥)
+    (verb : Verb) × (rest : List (List ℕ)) × (words ≡ verb_text verb ∷ rest) × HasWords verb rest × HasPaths verb rest
+    × (HasNumbers verb rest → ⊥)
 LacksForm words reasons.Bytes =
-    (verb : Verb) × (rest : List (List ℕ)) × (words ≡ verb_text verb ∷ rest) × HasWords verb rest × HasPaths verb rest × HasNumbers verb rest × (HasContent verb rest → ⊥)
+    (verb : Verb) × (rest : List (List ℕ)) × (words ≡ verb_text verb ∷ rest) × HasWords verb rest × HasPaths verb rest
+    × HasNumbers verb rest × (HasContent verb rest → ⊥)
 LacksForm words _ = ⊥
 
 -- the first limit that a call passes behind the lines before it: the calls of its session, the bytes of the call, and those
 -- of all writes or of all reads
 abbrev pub PassesLimit : List ScriptLine → ScriptLine → ScriptWhy → Type 0
 PassesLimit before line reasons.Calls = 1024 ≤ length (calls_of before line.who)
-PassesLimit before line reasons.Big = (length (calls_of before line.who) < 1024) × ((65536 < bytes_written line.call) ⊎ (1048576 < bytes_asked line.call))
+PassesLimit before line reasons.Big =
+    (length (calls_of before line.who) < 1024) × ((65536 < bytes_written line.call) ⊎ (1048576 < bytes_asked line.call))
 PassesLimit before line reasons.Sum =
     (length (calls_of before line.who) < 1024) × (bytes_written line.call ≤ 65536) × (bytes_asked line.call ≤ 1048576)
-    × ((67108864 < sum_by (λ l. bytes_written l.call) before + bytes_written line.call) ⊎ (67108864 < sum_by (λ l. bytes_asked l.call) before + bytes_asked line.call))
+    × ((67108864 < sum_by (λ l. bytes_written l.call) before + bytes_written line.call)
+    ⊎ (67108864 < sum_by (λ l. bytes_asked l.call) before + bytes_asked line.call))
 PassesLimit before line _ = ⊥
 
 -- the first word of a line names no session
 abbrev pub LacksSession : List ℕ → Type 0
-LacksSession line = (word : List ℕ) × (words : List (List ℕ)) × IsJoined 32 (word ∷ words) line × ((who : ℕ) → SpellsSession word who → ⊥)
+LacksSession line =
+    (word : List ℕ) × (words : List (List ℕ)) × IsJoined 32 (word ∷ words) line
+    × ((who : ℕ) → SpellsSession word who → ⊥)
 
 -- the first word names a session, and the words behind it lack a form
 abbrev pub LacksCall : List ℕ → ScriptWhy → Type 0
-LacksCall line reason = (word : List ℕ) × (words : List (List ℕ)) × (who : ℕ) × IsJoined 32 (word ∷ words) line × SpellsSession word who × LacksForm words reason
+LacksCall line reason =
+    (word : List ℕ) × (words : List (List ℕ)) × (who : ℕ) × IsJoined 32 (word ∷ words) line × SpellsSession word who
+    × LacksForm words reason
 
 -- a line is refused behind the script of those before it: it isn't UTF-8, or it isn't skipped and lacks a form, or
 -- it spells a call that passes a limit
@@ -95,7 +110,8 @@ abbrev pub IsRefusedLine : List ScriptLine → List ℕ → ScriptWhy → Type 0
 IsRefusedLine before line reasons.Utf8 = IsUtf8 line → ⊥
 IsRefusedLine before line reasons.Who = IsUtf8 line × (IsSkippedLine line → ⊥) × LacksSession line
 IsRefusedLine before line reason =
-    IsUtf8 line × (IsSkippedLine line → ⊥) × (LacksCall line reason ⊎ ((spelled : ScriptLine) × IsCallLine line spelled × PassesLimit before spelled reason))
+    IsUtf8 line × (IsSkippedLine line → ⊥)
+    × (LacksCall line reason ⊎ ((spelled : ScriptLine) × IsCallLine line spelled × PassesLimit before spelled reason))
 
 -- the lines before one are a script by themselves, and that line is refused behind them; lines are counted from 1
 pub record IsRefusedText (text : List ℕ) (e : ScriptErr) : Type 0 where

@@ -5,6 +5,7 @@ use Rattle.std.specs.Str.{IsUtf8}
 use Rattle.percent_encoding.specs.Percent.{percent_decode}
 use Rattle.plain_tree.specs.declared.calls.Call.{Call}
 use Rattle.plain_tree.specs.declared.calls.Call.TheVariants.{Mkdir, Create, Write, Truncate, Read, Listing, Stat, Rename, Remove, Sync}
+use Rattle.plain_tree.specs.Paths.{Name, Path}
 use Rattle.session_script.specs.declared.scripts.ScriptLine.{ScriptLine}
 use Rattle.session_script.specs.Grammar.{calls_of, bytes_written, bytes_asked, script_of}
 
@@ -41,25 +42,27 @@ pub record SpellsSession (word : List ℕ) (who : ℕ) : Type 0 where
   pub no_zero : slice_index word 0 ≢ 48
 
 -- a name isn't empty, has no slash, and is UTF-8 once its escapes are decoded
-pub record SpellsName (piece name : List ℕ) : Type 0 where
+pub record SpellsName (piece : List ℕ) (name : Name) : Type 0 where
   pub some : 1 ≤ length piece
   pub no_slash : Lacks 47 piece
   pub decoded : percent_decode piece ≡ name
   pub text : IsUtf8 name
 
 -- a slash before each name
-abbrev pub SpellsNames : List ℕ → List (List ℕ) → Type 0
+abbrev pub SpellsNames : List ℕ → Path → Type 0
 SpellsNames word [] = word ≡ []
-SpellsNames word (name ∷ names) = (piece : List ℕ) × (rest : List ℕ) × (word ≡ 47 ∷ (piece ++ rest)) × SpellsName piece name × SpellsNames rest names
+SpellsNames word (name ∷ names) =
+    (piece : List ℕ) × (rest : List ℕ) × (word ≡ 47 ∷ (piece ++ rest)) × SpellsName piece name × SpellsNames rest names
 
 -- a slash alone for the root, else a slash before each name
-abbrev pub SpellsPath : List ℕ → List (List ℕ) → Type 0
+abbrev pub SpellsPath : List ℕ → Path → Type 0
 SpellsPath word [] = word ≡ codes "/"
 SpellsPath word (name ∷ names) = SpellsNames word (name ∷ names)
 
 -- a hexadecimal digit of either case
 abbrev pub IsHexDigit : ℕ → ℕ → Type 0
-IsHexDigit c v = ((v < 10) × (c ≡ 48 + v)) ⊎ (((10 ≤ v) × (v < 16) × (c ≡ 87 + v)) ⊎ ((10 ≤ v) × (v < 16) × (c ≡ 55 + v)))
+IsHexDigit c v =
+    ((v < 10) × (c ≡ 48 + v)) ⊎ (((10 ≤ v) × (v < 16) × (c ≡ 87 + v)) ⊎ ((10 ≤ v) × (v < 16) × (c ≡ 55 + v)))
 
 -- two hexadecimal digits, the higher first
 abbrev pub SpellsByte : ℕ → ℕ → ℕ → Type 0
@@ -68,7 +71,9 @@ SpellsByte high low byte = (h : ℕ) × (l : ℕ) × IsHexDigit high h × IsHexD
 -- two hexadecimal digits for each byte
 abbrev pub SpellsHex : List ℕ → List ℕ → Type 0
 SpellsHex word [] = word ≡ []
-SpellsHex word (byte ∷ bytes) = (high : ℕ) × (low : ℕ) × (rest : List ℕ) × (word ≡ high ∷ low ∷ rest) × SpellsByte high low byte × SpellsHex rest bytes
+SpellsHex word (byte ∷ bytes) =
+    (high : ℕ) × (low : ℕ) × (rest : List ℕ) × (word ≡ high ∷ low ∷ rest) × SpellsByte high low byte
+    × SpellsHex rest bytes
 
 -- `hex:` and two digits for each byte
 abbrev pub IsHexWord : List ℕ → List ℕ → Type 0
@@ -81,7 +86,8 @@ IsTextWord word bytes = (word ≡ codes "text:" ++ bytes) × (1 ≤ length bytes
 -- `fill:`, a byte, `:` and how many there are of it
 abbrev pub IsFillWord : List ℕ → List ℕ → Type 0
 IsFillWord word bytes =
-    (high : ℕ) × (low : ℕ) × (count : List ℕ) × (byte : ℕ) × (n : ℕ) × (word ≡ codes "fill:" ++ high ∷ low ∷ 58 ∷ count) × SpellsByte high low byte × SpellsNumber count n
+    (high : ℕ) × (low : ℕ) × (count : List ℕ) × (byte : ℕ) × (n : ℕ)
+    × (word ≡ codes "fill:" ++ high ∷ low ∷ 58 ∷ count) × SpellsByte high low byte × SpellsNumber count n
     × (bytes ≡ replicate n byte)
 
 -- the bytes of a write
@@ -93,13 +99,17 @@ abbrev pub SpellsCall : List (List ℕ) → Call → Type 0
 SpellsCall words (Mkdir path) = (p : List ℕ) × (words ≡ codes "mkdir" ∷ p ∷ []) × SpellsPath p path
 SpellsCall words (Create path) = (p : List ℕ) × (words ≡ codes "create" ∷ p ∷ []) × SpellsPath p path
 SpellsCall words (Write path offset bytes) =
-    (p : List ℕ) × (n : List ℕ) × (b : List ℕ) × (words ≡ codes "write" ∷ p ∷ n ∷ b ∷ []) × SpellsPath p path × SpellsNumber n offset × SpellsBytes b bytes
-SpellsCall words (Truncate path length) = (p : List ℕ) × (n : List ℕ) × (words ≡ codes "truncate" ∷ p ∷ n ∷ []) × SpellsPath p path × SpellsNumber n length
+    (p : List ℕ) × (n : List ℕ) × (b : List ℕ) × (words ≡ codes "write" ∷ p ∷ n ∷ b ∷ []) × SpellsPath p path
+    × SpellsNumber n offset × SpellsBytes b bytes
+SpellsCall words (Truncate path length) =
+    (p : List ℕ) × (n : List ℕ) × (words ≡ codes "truncate" ∷ p ∷ n ∷ []) × SpellsPath p path × SpellsNumber n length
 SpellsCall words (Read path offset count) =
-    (p : List ℕ) × (n : List ℕ) × (m : List ℕ) × (words ≡ codes "read" ∷ p ∷ n ∷ m ∷ []) × SpellsPath p path × SpellsNumber n offset × SpellsNumber m count
+    (p : List ℕ) × (n : List ℕ) × (m : List ℕ) × (words ≡ codes "read" ∷ p ∷ n ∷ m ∷ []) × SpellsPath p path
+    × SpellsNumber n offset × SpellsNumber m count
 SpellsCall words (Listing path) = (p : List ℕ) × (words ≡ codes "list" ∷ p ∷ []) × SpellsPath p path
 SpellsCall words (Stat path) = (p : List ℕ) × (words ≡ codes "stat" ∷ p ∷ []) × SpellsPath p path
-SpellsCall words (Rename from to) = (p : List ℕ) × (q : List ℕ) × (words ≡ codes "rename" ∷ p ∷ q ∷ []) × SpellsPath p from × SpellsPath q to
+SpellsCall words (Rename from to) =
+    (p : List ℕ) × (q : List ℕ) × (words ≡ codes "rename" ∷ p ∷ q ∷ []) × SpellsPath p from × SpellsPath q to
 SpellsCall words (Remove path) = (p : List ℕ) × (words ≡ codes "remove" ∷ p ∷ []) × SpellsPath p path
 SpellsCall words Sync = words ≡ codes "sync" ∷ []
 
@@ -121,7 +131,9 @@ abbrev pub SpellLines : List (List ℕ) → List ScriptLine → Type 0
 SpellLines [] [] = Unit {0}
 SpellLines [] (spelled ∷ script) = ⊥
 SpellLines (line ∷ lines) [] = IsUtf8 line × IsSkippedLine line × SpellLines lines []
-SpellLines (line ∷ lines) (spelled ∷ script) = IsUtf8 line × ((IsSkippedLine line × SpellLines lines (spelled ∷ script)) ⊎ (IsCallLine line spelled × SpellLines lines script))
+SpellLines (line ∷ lines) (spelled ∷ script) =
+    IsUtf8 line
+    × ((IsSkippedLine line × SpellLines lines (spelled ∷ script)) ⊎ (IsCallLine line spelled × SpellLines lines script))
 
 -- 1,024 calls a session, 65,536 bytes a write and 1,048,576 a read, and 67,108,864 bytes in all for either
 pub record IsWithinLimits (script : List ScriptLine) : Type 0 where

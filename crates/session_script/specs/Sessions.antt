@@ -19,7 +19,8 @@ HasSessions script = All (λ l. (1 ≤ l.who) × (l.who ≤ 16)) script
 -- the places of a session's lines, of which the first line of the list has this place
 abbrev pub places_from : ℕ → List ScriptLine → ℕ → List ℕ
 places_from place [] who = []
-places_from place (line ∷ lines) who = if line.who == who then place ∷ places_from (place + 1) lines who else places_from (place + 1) lines who
+places_from place (line ∷ lines) who =
+    if line.who == who then place ∷ places_from (place + 1) lines who else places_from (place + 1) lines who
 
 -- the numbers of the lines' calls, the places of each session's lines, and the greatest session
 pub record IsIndexed (lines : List ScriptLine) (nths : List ℕ) (places : List (List ℕ)) (sessions : ℕ) : Type 0 where

@@ -5,6 +5,7 @@ use Rattle.std.specs.Option.{option_map}
 use Rattle.std.specs.Str.{bytes_eq, is_utf8}
 use Rattle.std.specs.Char.{digit_value, is_digit}
 use Rattle.percent_encoding.specs.Percent.{percent_decode}
+use Rattle.plain_tree.specs.Paths.{Name, Path}
 use Rattle.session_script.specs.declared.words.Verb.{Verb}
 use Rattle.session_script.specs.declared.words.Verb.TheVariants as verbs
 
@@ -22,13 +23,16 @@ decimal_value digits = fold (λ n d. n * 10 + (d - 48)) 0 digits
 -- a number is 1 to 20 decimal digits, below 2^64
 abbrev pub number_of : List ℕ → Option ℕ
 number_of word =
-    if nat_le 1 (length word) && nat_le (length word) 20 && list_all (λ d. is_digit d 10) word && nat_lt (decimal_value word) (2 ^ 64)
+    if nat_le 1 (length word) && nat_le (length word) 20 && list_all (λ d. is_digit d 10) word
+    && nat_lt (decimal_value word) (2 ^ 64)
     then Some (decimal_value word) else None
 
 -- a session is a number from 1 to 16 with no zero in front
 abbrev pub session_of : List ℕ → Option ℕ
 session_of word =
-    option_and_then (λ who. if nat_le 1 who && nat_le who 16 && not (starts_with nat_eq word (codes "0")) then Some who else None) (number_of word)
+    option_and_then
+    (λ who. if nat_le 1 who && nat_le who 16 && not (starts_with nat_eq word (codes "0")) then Some who else None)
+    (number_of word)
 
 abbrev pub verb_of : List ℕ → Option Verb
 verb_of word =
@@ -49,29 +53,32 @@ abbrev pub text_of : List ℕ → Option (List ℕ)
 text_of bytes = if is_utf8 bytes then Some bytes else None
 
 -- a name isn't empty, and is UTF-8 once its escapes are decoded
-abbrev pub name_of : List ℕ → Option (List ℕ)
+abbrev pub name_of : List ℕ → Option Name
 name_of piece = if is_empty piece then None else text_of (percent_decode piece)
 
 -- the names of pieces that are all names
-abbrev pub names_of : List (List ℕ) → Option (List (List ℕ))
+abbrev pub names_of : List (List ℕ) → Option Path
 names_of [] = Some []
-names_of (piece ∷ pieces) = option_and_then (λ name. option_map (λ names. name ∷ names) (names_of pieces)) (name_of piece)
+names_of (piece ∷ pieces) =
+    option_and_then (λ name. option_map (λ names. name ∷ names) (names_of pieces)) (name_of piece)
 
 -- a path is a slash, or a slash and a name one or more times
-abbrev pub path_of : List ℕ → Option (List (List ℕ))
+abbrev pub path_of : List ℕ → Option Path
 path_of [] = None
 path_of (c ∷ rest) =
     if c == 47 then (if is_empty rest then Some [] else names_of (slice_split (λ b. b == 47) rest)) else None
 
 -- the byte that two hexadecimal digits spell
 abbrev pub hex_value : ℕ → ℕ → Option ℕ
-hex_value high low = if is_digit high 16 && is_digit low 16 then Some (16 * digit_value high + digit_value low) else None
+hex_value high low =
+    if is_digit high 16 && is_digit low 16 then Some (16 * digit_value high + digit_value low) else None
 
 -- pairs of hexadecimal digits, possibly none
 abbrev pub hex_bytes : List ℕ → Option (List ℕ)
 hex_bytes [] = Some []
 hex_bytes (high ∷ []) = None
-hex_bytes (high ∷ low ∷ rest) = option_and_then (λ byte. option_map (λ bytes. byte ∷ bytes) (hex_bytes rest)) (hex_value high low)
+hex_bytes (high ∷ low ∷ rest) =
+    option_and_then (λ byte. option_map (λ bytes. byte ∷ bytes) (hex_bytes rest)) (hex_value high low)
 
 -- one byte or more, taken as they are
 abbrev pub text_bytes : List ℕ → Option (List ℕ)
@@ -80,7 +87,9 @@ text_bytes bytes = if is_empty bytes then None else Some bytes
 -- two hexadecimal digits, a colon and a number: so many bytes of that value
 abbrev pub fill_bytes : List ℕ → Option (List ℕ)
 fill_bytes (high ∷ low ∷ colon ∷ count) =
-    if colon == 58 then option_and_then (λ byte. option_map (λ n. replicate n byte) (number_of count)) (hex_value high low) else None
+    if colon == 58
+    then option_and_then (λ byte. option_map (λ n. replicate n byte) (number_of count)) (hex_value high low)
+    else None
 fill_bytes _ = None
 
 -- the bytes of a write

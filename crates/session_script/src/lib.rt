@@ -3,6 +3,7 @@
 
 mod bytes;
 mod drafts;
+mod escapes;
 mod faults;
 mod laws;
 mod logs;
@@ -15,6 +16,7 @@ mod scripts;
 mod tests;
 mod words;
 
+pub use escapes::push_escaped;
 pub use laws::{reads_the_grammar, refuses_the_first};
 pub use logs::{Ack, Event, Log, Reply};
 pub use printing::log_text;

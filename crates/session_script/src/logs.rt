@@ -1,9 +1,8 @@
-use percent_encoding::{AsciiSet, CONTROLS, ascii_set};
-use plain_tree::{Answer, Placed};
-use tape_types::{List, Place, Twin};
+ghost use Rattle.std.specs.Prelude.{◌≡◌, IfOk};
 
-/// The bytes that a name or a text in the output escapes, beside those past ASCII.
-pub const ESCAPED: AsciiSet = ascii_set!(CONTROLS.add(b' ').add(b'%'));
+use plain_tree::{Answer, Placed};
+use std::alloc::Global;
+use tape_types::{List, NoMemory, Place, Twin};
 
 /// What a session is told of a call.
 #[derive(Drop)]
@@ -15,6 +14,23 @@ pub enum Reply {
     /// The drive failed: its count of faults before and after.
     Fault(Twin),
     NoMemory,
+}
+
+impl Reply {
+    /// A second reply that equals this one.
+    pub fn try_clone(&self, alloc: Global) -> Result<Reply, NoMemory>
+        ensures { IfOk result (λ copy. copy ≡ self.now) }
+    {
+        match self {
+            Reply::Answer(answer) => Ok(Reply::Answer(answer.try_clone(alloc)?)),
+            Reply::Full { need, limit } => Ok(Reply::Full {
+                need: *need,
+                limit: *limit,
+            }),
+            Reply::Fault(counts) => Ok(Reply::Fault(*counts)),
+            Reply::NoMemory => Ok(Reply::NoMemory),
+        }
+    }
 }
 
 /// The place of a sync, and the drive's count of commands when the sync was answered.

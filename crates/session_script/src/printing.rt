@@ -1,9 +1,9 @@
 ghost use Rattle.std.specs.Prelude.{◌≡◌, ◌++◌, codes, decimal, length, OnOk, IfOk, string_bytes};
 ghost use Rattle.std.specs.List.{flat_map};
-ghost use Rattle.session_script.specs.LogText.{answer_text, bytes_text, entry_text, escaped, facts_text, hex_byte, hex_text, line_text, log_text, reply_text, sort_letter, sort_text};
+ghost use Rattle.session_script.specs.LogText.{answer_text, bytes_text, entry_text, facts_text, hex_byte, hex_text, line_text, log_text, reply_text, sort_letter, sort_text};
 
-use crate::logs::{ESCAPED, Log, Reply};
-use percent_encoding::percent_encode;
+use crate::escapes::push_escaped;
+use crate::logs::{Log, Reply};
 use plain_tree::{Answer, Entry, Facts, Placed, Sort};
 use std::alloc::Global;
 use tape_types::{Bytes, NoMemory, time_text};
@@ -42,7 +42,8 @@ fn push_line(
 
 /// The place of a call, and whose it is.
 fn place_words(alloc: Global, place: usize, placed: &Placed) -> Result<String, NoMemory>
-    ensures { IfOk result (λ words. string_bytes words ≡ decimal place ++ codes " " ++ decimal placed.now.who ++ codes "." ++ decimal placed.now.nth ++ codes " ") }
+    ensures { IfOk result (λ words. string_bytes words
+        ≡ decimal place ++ codes " " ++ decimal placed.now.who ++ codes "." ++ decimal placed.now.nth ++ codes " ") }
 {
     let who = placed.who;
     let nth = placed.nth;
@@ -117,7 +118,8 @@ fn hex_words(alloc: Global, bytes: &[u8]) -> Result<String, NoMemory>
 
 /// How many entries there are, and each of them.
 fn names_words(alloc: Global, entries: &[Entry]) -> Result<String, NoMemory>
-    ensures { IfOk result (λ words. string_bytes words ≡ codes "names " ++ decimal (length entries.now) ++ flat_map entry_text entries.now) }
+    ensures { IfOk result (λ words. string_bytes words
+        ≡ codes "names " ++ decimal (length entries.now) ++ flat_map entry_text entries.now) }
 {
     let count = entries.len();
     let mut words = format!(in alloc; "names {count}")?;
@@ -132,14 +134,7 @@ fn push_entry(words: &mut String, entry: &Entry) -> Result<(), NoMemory>
 {
     let letter = sort_letter(entry.sort);
     write!(words, " {letter}:")?;
-    push_escaped(words, entry.name.as_str())
-}
-
-fn push_escaped(words: &mut String, text: &str) -> Result<(), NoMemory>
-    ensures { OnOk result (string_bytes words.new ≡ string_bytes words.old ++ escaped text.now) }
-{
-    percent_encode(text.as_bytes(), ESCAPED).append_to(words)?;
-    Ok(())
+    push_escaped(words, entry.name.as_str().as_bytes())
 }
 
 fn sort_letter(sort: Sort) -> &'static str
@@ -171,7 +166,7 @@ fn sort_words(alloc: Global, facts: &Facts) -> Result<String, NoMemory>
         Sort::File => numbers_words(alloc, "file", uid, facts.length),
         Sort::Link => {
             let mut words = format!(in alloc; "link {uid} ")?;
-            push_escaped(&mut words, facts.text.as_str())?;
+            push_escaped(&mut words, facts.text.as_str().as_bytes())?;
             Ok(words)
         }
     }
@@ -179,7 +174,8 @@ fn sort_words(alloc: Global, facts: &Facts) -> Result<String, NoMemory>
 
 /// A word and two numbers.
 fn numbers_words(alloc: Global, word: &str, first: u64, second: u64) -> Result<String, NoMemory>
-    ensures { IfOk result (λ words. string_bytes words ≡ word.now ++ codes " " ++ decimal first ++ codes " " ++ decimal second) }
+    ensures { IfOk result (λ words. string_bytes words
+        ≡ word.now ++ codes " " ++ decimal first ++ codes " " ++ decimal second) }
 {
     let mut words = String::new(alloc);
     write!(words, "{word} {first} {second}")?;

@@ -12,7 +12,8 @@ const MOST_BYTES: usize = 16777216;
 
 /// The script that a text spells, or the first line that is refused.
 pub fn read_script(alloc: Global, text: &[u8]) -> Result<Script, ScriptFault>
-    ensures read { MatchResult result (λ script. script_of text.now ≡ Ok script) (λ fault. IsFault fault (script_of text.now)) }
+    ensures read { MatchResult result (λ script. script_of text.now ≡ Ok script)
+        (λ fault. IsFault fault (script_of text.now)) }
     ensures few { IfOk result (λ script. length script ≤ 16384) }
 {
     if text.len() > MOST_BYTES {
@@ -26,7 +27,8 @@ pub fn read_script(alloc: Global, text: &[u8]) -> Result<Script, ScriptFault>
 
 fn read_lines(alloc: Global, text: &[u8]) -> Result<Script, ScriptFault>
     requires { length text.now ≤ 16777216 }
-    ensures read { MatchResult result (λ script. script_from 1 [] (lines_of text.now) ≡ Ok script) (λ fault. IsFault fault (script_from 1 [] (lines_of text.now))) }
+    ensures read { MatchResult result (λ script. script_from 1 [] (lines_of text.now) ≡ Ok script)
+        (λ fault. IsFault fault (script_from 1 [] (lines_of text.now))) }
     ensures few { IfOk result (λ script. length script ≤ 16384) }
 {
     let mut progress = Progress::new(alloc)?;

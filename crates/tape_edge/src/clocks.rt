@@ -1,5 +1,6 @@
-ghost use Rattle.std.specs.Prelude.{◌≡◌, Some, None, if◌then◌else◌, ◌==◌, IfSome};
-ghost use Rattle.tape_edge.specs.Clocks.{IsSince1970, GoesOn};
+ghost use Rattle.std.specs.Prelude.{◌≡◌, ⊤, ℕ, ◌+◌, Some, None, if◌then◌else◌, ◌==◌, IfSome};
+ghost use Rattle.tape_edge.specs.Clocks.{IsSince1970, IsGiven, GoesOn};
+ghost use Rattle.tape_types.specs.declared.moments.Moment.{Moment as Instant};
 
 use crate::traits::Clock;
 use std::marker::Model;
@@ -41,7 +42,11 @@ impl Clock for StepClock {
 
     ghost one = { λ c. if c.step == 0 then Some c.next else None };
 
+    ghost gives = { λ c n m. IsGiven c n m };
+
     fn now(&mut self) -> Moment
+        ensures given { IsGiven self.old 0 result }
+        ensures later { (n : ℕ) (m : Instant) → IsGiven self.new n m → IsGiven self.old (n + 1) m }
         ensures told { result ≡ self.old.next }
         ensures single { IfSome (if self.old.step == 0 then Some self.old.next else None)
             (λ m. (result ≡ m) × (self.new ≡ self.old)) }
@@ -76,6 +81,8 @@ impl<R: rt::Clock + Drop> Clock for SystemClock<R> {
     ghost next = { λ _. None };
 
     ghost one = { λ _. None };
+
+    ghost gives = { λ _ _ _. ⊤ };
 
     fn now(&mut self) -> Moment {
         let Ok(time) = SystemTime::now(&self.rt) else {

@@ -1,4 +1,4 @@
-ghost use Rattle.std.specs.Prelude.{◌≡◌, ℕ, ◌<◌, List, length, OnOk, OnErr, IfSome, Option};
+ghost use Rattle.std.specs.Prelude.{◌≡◌, ℕ, ◌+◌, ◌<◌, List, length, OnOk, OnErr, IfSome, Option};
 ghost use Rattle.std.specs.Io.{ReadsAtMost};
 ghost use Rattle.std.specs.Io.KnownBytes.{ReadConsumes, Appends};
 ghost use Rattle.tape_types.specs.Counts.{HasCause};
@@ -59,9 +59,13 @@ pub trait Clock: Drop {
     ghost next: { Self → Option Instant };
     /// What each of its calls gives, where that is one moment.
     ghost one: { Self → Option Instant };
+    /// What the nth of its calls from now on may give, counted from 0.
+    ghost gives: { Self → ℕ → Instant → Type 0 };
 
     /// The present moment.
     fn now(&mut self) -> Moment
+        ensures given { gives self.old 0 result }
+        ensures later { (n : ℕ) (m : Instant) → gives self.new n m → gives self.old (n + 1) m }
         ensures told { IfSome (next self.old) (λ m. result ≡ m) }
         ensures single { IfSome (one self.old) (λ m. (result ≡ m) × (self.new ≡ self.old)) }
         ensures range { IsSince1970 result };
