@@ -7,6 +7,7 @@ pub mod References
 pub mod Runs
 pub mod Shapes
 pub mod SimpleTexts
+pub mod Spelled
 pub mod TagsAgain
 pub mod TextSteps
 pub mod TextsAgain

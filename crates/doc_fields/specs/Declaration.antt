@@ -1,4 +1,5 @@
--- The declaration with which a document may begin: `<?xml`, its version, and then its encoding and whether it stands alone, if they are told.
+-- The declaration with which a document may begin: `<?xml`, its version, and then its encoding and whether it stands
+-- alone, if they are told.
 use Rattle.std.specs.Prelude.{ℕ, ◌+◌, List, Bool, length, drop, codes, Ok, nat_lt, ◌==◌, ◌&&◌, ◌||◌, if◌then◌else◌, map}
 use Rattle.std.specs.Char.{to_ascii_lowercase}
 use Rattle.doc_fields.specs.declared.declaration.Told.{Told}
@@ -35,18 +36,27 @@ abbrev pub follows : ℕ → List ℕ → ℕ → Bool
 follows letter text at = nat_lt at (space_end text at) && byte text (space_end text at) == letter
 
 unfoldable pub standalone_at : List ℕ → ℕ → Read ℕ
-standalone_at text at = if follows 115 text at then (told_at told.Standalone text (space_end text at) >>= close_at text) else close_at text at
+standalone_at text at =
+    if follows 115 text at then (told_at told.Standalone text (space_end text at) >>= close_at text)
+    else close_at text at
 
 unfoldable pub encoding_at : List ℕ → ℕ → Read ℕ
-encoding_at text at = if follows 101 text at then (told_at told.Encoding text (space_end text at) >>= standalone_at text) else standalone_at text at
+encoding_at text at =
+    if follows 101 text at then (told_at told.Encoding text (space_end text at) >>= standalone_at text)
+    else standalone_at text at
 
 -- what stands behind `<?xml`
 unfoldable pub parts_at : List ℕ → ℕ → Read ℕ
 parts_at text at =
-    if nat_lt at (space_end text at) then (told_at told.Version text (space_end text at) >>= encoding_at text) else syntax_at at
+    if nat_lt at (space_end text at) then (told_at told.Version text (space_end text at) >>= encoding_at text)
+    else syntax_at at
 
--- Where a declaration stands at a place, the place behind it; else that place. A text that ends within `<?xml` ends too early.
+-- Where a declaration stands at a place, the place behind it; else that place. A text that ends within `<?xml` ends
+-- too early.
 unfoldable pub head_at : List ℕ → ℕ → Read ℕ
 head_at text at =
-    if begins (codes "<?xml") (drop at text) then (if in_name (byte text (at + 5)) then Ok at else parts_at text (at + 5))
-    else (if nat_lt (at + 1) (length text) && begins (drop at text) (codes "<?xml") then syntax_at (length text) else Ok at)
+    if begins (codes "<?xml") (drop at text)
+    then (if in_name (byte text (at + 5)) then Ok at else parts_at text (at + 5))
+    else (if nat_lt (at + 1) (length text) && begins (drop at text) (codes "<?xml")
+    then syntax_at (length text)
+    else Ok at)

@@ -4,6 +4,7 @@ pub mod Likely
 pub mod Numbers
 pub mod Reading
 pub mod Space
+pub mod Spelled
 pub mod StartTag
 pub mod Tags
 pub mod Texts

@@ -1,36 +1,65 @@
 -- The one element whose name can have a length, a first byte and a last byte.
-use Rattle.std.specs.Prelude.{ℕ, ◌==◌, if◌then◌else◌}
+use Rattle.std.specs.Prelude.{ℕ, ◌==◌, List, [], ◌∷◌, if◌then◌else◌}
 use Rattle.doc_fields.specs.declared.tags.Tag.{Tag}
-use Rattle.doc_fields.specs.declared.tags.Tag.TheVariants.{LtfsLabel, LtfsIndex, Creator, Comment, FormatTime, VolumeUuid, Location, Partition, Partitions, IndexLetter, DataLetter, BlockSize, Compression, GenerationNumber, UpdateTime, PreviousGenerationLocation, StartBlock, AllowPolicyUpdate, DataPlacementPolicy, IndexPartitionCriteria, Size, VolumeLockState, HighestFileUid, Directory, File, FileUid, Name, Length, CreationTime, ChangeTime, ModifyTime, AccessTime, BackupTime, ReadOnly, OpenForWrite, ExtendedAttributes, Contents, ExtentInfo, Symlink, Extent, FileOffset, ByteOffset, ByteCount}
+use Rattle.doc_fields.specs.declared.tags.Tag.TheVariants as tag
+
+-- what stands beside a key in a table, or else this
+abbrev pub found : {A : Type 0} → ℕ → List (ℕ × A) → A → A
+found key [] other = other
+found key (row ∷ rows) other = if key == row.0 then row.1 else found key rows other
 
 abbrev pub of_four : ℕ → Tag
-of_four first =
-    if first == 100 then DataLetter else (if first == 115 then Size else (if first == 102 then File else Name))
+of_four first = found first ((100, tag.DataLetter) ∷ (115, tag.Size) ∷ (102, tag.File) ∷ []) tag.Name
 
 abbrev pub of_six : ℕ → Tag
-of_six first =
-    if first == 108 then Length else Extent
+of_six first = found first ((108, tag.Length) ∷ []) tag.Extent
 
 abbrev pub of_seven : ℕ → ℕ → Tag
 of_seven first last =
-    if first == 99 then (if last == 114 then Creator else Comment) else (if first == 102 then FileUid else Symlink)
+    found first ((99, found last ((114, tag.Creator) ∷ []) tag.Comment) ∷ (102, tag.FileUid) ∷ []) tag.Symlink
 
 abbrev pub of_eight : ℕ → Tag
-of_eight first =
-    if first == 108 then Location else (if first == 114 then ReadOnly else Contents)
+of_eight first = found first ((108, tag.Location) ∷ (114, tag.ReadOnly) ∷ []) tag.Contents
 
 abbrev pub of_nine : ℕ → ℕ → Tag
-of_nine first last =
-    if first == 108 then (if last == 108 then LtfsLabel else LtfsIndex) else (if first == 112 then Partition else (if first == 98 then (if last == 101 then BlockSize else ByteCount) else Directory))
+of_nine first last = found first (
+    (108, found last ((108, tag.LtfsLabel) ∷ []) tag.LtfsIndex)
+    ∷ (112, tag.Partition)
+    ∷ (98, found last ((101, tag.BlockSize) ∷ []) tag.ByteCount)
+    ∷ []) tag.Directory
 
 abbrev pub of_ten : ℕ → ℕ → Tag
-of_ten first last =
-    if first == 102 then (if last == 101 then FormatTime else FileOffset) else (if first == 118 then VolumeUuid else (if first == 112 then Partitions else (if first == 117 then UpdateTime else (if first == 115 then StartBlock else (if first == 99 then ChangeTime else (if first == 109 then ModifyTime else (if first == 97 then AccessTime else (if first == 98 then (if last == 101 then BackupTime else ByteOffset) else ExtentInfo))))))))
+of_ten first last = found first (
+    (102, found last ((101, tag.FormatTime) ∷ []) tag.FileOffset)
+    ∷ (118, tag.VolumeUuid)
+    ∷ (112, tag.Partitions)
+    ∷ (117, tag.UpdateTime)
+    ∷ (115, tag.StartBlock)
+    ∷ (99, tag.ChangeTime)
+    ∷ (109, tag.ModifyTime)
+    ∷ (97, tag.AccessTime)
+    ∷ (98, found last ((101, tag.BackupTime) ∷ []) tag.ByteOffset)
+    ∷ []) tag.ExtentInfo
 
 abbrev pub of_twelve : ℕ → Tag
-of_twelve first =
-    if first == 99 then CreationTime else OpenForWrite
+of_twelve first = found first ((99, tag.CreationTime) ∷ []) tag.OpenForWrite
 
 abbrev pub likely : ℕ → ℕ → ℕ → Tag
-likely length first last =
-    if length == 4 then of_four first else (if length == 5 then IndexLetter else (if length == 6 then of_six first else (if length == 7 then of_seven first last else (if length == 8 then of_eight first else (if length == 9 then of_nine first last else (if length == 10 then of_ten first last else (if length == 11 then Compression else (if length == 12 then of_twelve first else (if length == 14 then HighestFileUid else (if length == 15 then VolumeLockState else (if length == 16 then GenerationNumber else (if length == 17 then AllowPolicyUpdate else (if length == 18 then ExtendedAttributes else (if length == 19 then DataPlacementPolicy else (if length == 22 then IndexPartitionCriteria else PreviousGenerationLocation)))))))))))))))
+likely length first last = found length (
+    (4, of_four first)
+    ∷ (5, tag.IndexLetter)
+    ∷ (6, of_six first)
+    ∷ (7, of_seven first last)
+    ∷ (8, of_eight first)
+    ∷ (9, of_nine first last)
+    ∷ (10, of_ten first last)
+    ∷ (11, tag.Compression)
+    ∷ (12, of_twelve first)
+    ∷ (14, tag.HighestFileUid)
+    ∷ (15, tag.VolumeLockState)
+    ∷ (16, tag.GenerationNumber)
+    ∷ (17, tag.AllowPolicyUpdate)
+    ∷ (18, tag.ExtendedAttributes)
+    ∷ (19, tag.DataPlacementPolicy)
+    ∷ (22, tag.IndexPartitionCriteria)
+    ∷ []) tag.PreviousGenerationLocation

@@ -1,5 +1,5 @@
 -- Reading from left to right: a value and the place behind it, or the first place that doesn't fit, and why.
-use Rattle.std.specs.Prelude.{◌≡◌, ℕ, ◌+◌, ◌-◌, List, [], ◌∷◌, Bool, true, get_or, take, drop, Result, Ok, Err, ◌==◌, nat_eq, nat_lt, ◌&&◌, if◌then◌else◌}
+use Rattle.std.specs.Prelude.{◌≡◌, ℕ, ◌+◌, ◌-◌, List, [], ◌∷◌, ◌++◌, length, Bool, true, get_or, take, drop, Result, Ok, Err, ◌==◌, nat_eq, nat_lt, ◌&&◌, if◌then◌else◌}
 use Rattle.std.specs.List.{starts_with}
 use Rattle.doc_fields.specs.declared.errors.FieldErr.{FieldErr}
 use Rattle.doc_fields.specs.declared.errors.Why.{Why}
@@ -38,6 +38,11 @@ one_at b text at = if byte text at == b then Ok (at + 1) else syntax_at at
 abbrev pub literal_at : List ℕ → List ℕ → ℕ → Read ℕ
 literal_at [] text at = Ok at
 literal_at (b ∷ bytes) text at = if byte text at == b then literal_at bytes text (at + 1) else syntax_at at
+
+-- wherever these bytes stand, a reader gives this value and the place behind them
+abbrev pub ReadsBack : {A : Type 0} → (List ℕ → ℕ → Read (A × ℕ)) → List ℕ → A → Type 0
+ReadsBack read bytes x =
+    (text rest : List ℕ) (at : ℕ) → drop at text ≡ bytes ++ rest → read text at ≡ Ok (x, at + length bytes)
 
 -- no byte is 0
 abbrev pub has_no_zero : List ℕ → Bool

@@ -39,8 +39,10 @@ quoted_at text at =
 
 -- a version that is read: 2., a digit up to 4, a point, and one to three digits
 unfoldable pub is_version : List ℕ → Bool
-is_version v = in_range 5 7 (length v) && byte v 0 == 50 && byte v 1 == 46 && in_range 48 52 (byte v 2) && byte v 3 == 46
-    && in_range 48 57 (byte v 4) && (nat_le (length v) 5 || in_range 48 57 (byte v 5)) && (nat_le (length v) 6 || in_range 48 57 (byte v 6))
+is_version v =
+    in_range 5 7 (length v) && byte v 0 == 50 && byte v 1 == 46 && in_range 48 52 (byte v 2) && byte v 3 == 46
+    && in_range 48 57 (byte v 4) && (nat_le (length v) 5 || in_range 48 57 (byte v 5))
+    && (nat_le (length v) 6 || in_range 48 57 (byte v 6))
 
 -- whether an element may have an attribute
 abbrev pub is_known : Tag → List ℕ → Bool
@@ -64,13 +66,16 @@ value_at text at = do
 
 -- of a value that begins at a place
 abbrev pub percent_of : List ℕ → ℕ → Read Attribute
-percent_of v at = if same v (codes "true") then Ok (attribute.Percent true) else (if same v (codes "false") then Ok (attribute.Percent false) else syntax_at at)
+percent_of v at =
+    if same v (codes "true") then Ok (attribute.Percent true)
+    else (if same v (codes "false") then Ok (attribute.Percent false) else syntax_at at)
 
 -- the end of a start tag
 unfoldable pub closes_at : Tag → Attribute → List ℕ → ℕ → Read Start
 closes_at tag a text at =
     if byte text at == 62 then Ok (record { tag = tag; attribute = a; empty = false; next = at + 1 })
-    else (if byte text at == 47 then (one_at 62 text (at + 1) >>= λ next. Ok (record { tag = tag; attribute = a; empty = true; next = next }))
+    else (if byte text at == 47
+    then (one_at 62 text (at + 1) >>= λ next. Ok (record { tag = tag; attribute = a; empty = true; next = next }))
     else syntax_at at)
 
 -- an element has one attribute at most, so a second one is there twice
@@ -105,13 +110,15 @@ abbrev pub versioned : Bool → ℕ → Read Start → Read Start
 versioned right from rest = if right then rest else Err (no_version from rest)
 
 abbrev pub version_at : Tag → ℕ → List ℕ → ℕ → Option (ℕ × ℕ) → Read Start
-version_at tag from text at None = closes_at tag attribute.Absent text (space_end text at) >>= λ _. fault why.Version from
+version_at tag from text at None =
+    closes_at tag attribute.Absent text (space_end text at) >>= λ _. fault why.Version from
 version_at tag from text at (Some name) = value_at text name.1 >>= λ v.
     versioned (is_version (between text v.0 v.1)) from (behind_at tag attribute.Version from text (v.1 + 1))
 
 -- the rest of a start tag whose `<` stands at `from`, behind its name
 unfoldable pub rest_at : Tag → ℕ → List ℕ → ℕ → Read Start
-rest_at tag from text at = attribute_at tag from text at >>= λ first. if is_root tag then version_at tag from text at first else first_at tag from text at first
+rest_at tag from text at = attribute_at tag from text at >>= λ first.
+    if is_root tag then version_at tag from text at first else first_at tag from text at first
 
 abbrev pub tag_or_unknown : ℕ → Option Tag → Read Tag
 tag_or_unknown from None = unknown_at from

@@ -51,7 +51,13 @@ spelled ByteOffset = codes "byteoffset"
 spelled ByteCount = codes "bytecount"
 
 abbrev pub all_tags : List Tag
-all_tags = LtfsLabel ∷ LtfsIndex ∷ Creator ∷ Comment ∷ FormatTime ∷ VolumeUuid ∷ Location ∷ Partition ∷ Partitions ∷ IndexLetter ∷ DataLetter ∷ BlockSize ∷ Compression ∷ GenerationNumber ∷ UpdateTime ∷ PreviousGenerationLocation ∷ StartBlock ∷ AllowPolicyUpdate ∷ DataPlacementPolicy ∷ IndexPartitionCriteria ∷ Size ∷ VolumeLockState ∷ HighestFileUid ∷ Directory ∷ File ∷ FileUid ∷ Name ∷ Length ∷ CreationTime ∷ ChangeTime ∷ ModifyTime ∷ AccessTime ∷ BackupTime ∷ ReadOnly ∷ OpenForWrite ∷ ExtendedAttributes ∷ Contents ∷ ExtentInfo ∷ Symlink ∷ Extent ∷ FileOffset ∷ ByteOffset ∷ ByteCount ∷ []
+all_tags =
+    LtfsLabel ∷ LtfsIndex ∷ Creator ∷ Comment ∷ FormatTime ∷ VolumeUuid ∷ Location ∷ Partition ∷ Partitions
+    ∷ IndexLetter ∷ DataLetter ∷ BlockSize ∷ Compression ∷ GenerationNumber ∷ UpdateTime
+    ∷ PreviousGenerationLocation ∷ StartBlock ∷ AllowPolicyUpdate ∷ DataPlacementPolicy ∷ IndexPartitionCriteria
+    ∷ Size ∷ VolumeLockState ∷ HighestFileUid ∷ Directory ∷ File ∷ FileUid ∷ Name ∷ Length ∷ CreationTime
+    ∷ ChangeTime ∷ ModifyTime ∷ AccessTime ∷ BackupTime ∷ ReadOnly ∷ OpenForWrite ∷ ExtendedAttributes
+    ∷ Contents ∷ ExtentInfo ∷ Symlink ∷ Extent ∷ FileOffset ∷ ByteOffset ∷ ByteCount ∷ []
 
 -- whether two lists of bytes are the same
 abbrev pub same : List ℕ → List ℕ → Bool

@@ -1,4 +1,5 @@
--- The text of an element: the characters up to the next `<`, with references resolved and each end of a line as a line feed.
+-- The text of an element: the characters up to the next `<`, with references resolved and each end of a line as a line
+-- feed.
 use Rattle.std.specs.Prelude.{◌≡◌, IsUtf8, true, ℕ, zero, suc, ◌+◌, ◌-◌, ◌*◌, List, [], ◌∷◌, Bool, false, length, take, drop, codes, not, Option, Some, None, Ok, Err, nat_le, ◌==◌, ◌&&◌, ◌||◌, if◌then◌else◌}
 use Rattle.std.specs.Char.{encode_utf8}
 use Rattle.std.specs.List.{list_all}
@@ -12,7 +13,8 @@ use Rattle.doc_fields.specs.StartTag.{in_range}
 
 -- the characters that a document may have
 abbrev pub is_allowed : ℕ → Bool
-is_allowed c = c == 9 || c == 10 || c == 13 || in_range 32 0xD7FF c || in_range 0xE000 0xFFFD c || in_range 0x10000 0x10FFFF c
+is_allowed c =
+    c == 9 || c == 10 || c == 13 || in_range 32 0xD7FF c || in_range 0xE000 0xFFFD c || in_range 0x10000 0x10FFFF c
 
 -- the characters with a name, by what stands behind the `&`
 abbrev pub named : List (List ℕ × ℕ)
@@ -40,7 +42,9 @@ finished n k = if is_allowed n then Some (n, k) else None
 -- that takes beside k
 abbrev pub numbered : ℕ → ℕ → ℕ → List ℕ → Option (ℕ × ℕ)
 numbered base n k [] = None
-numbered base n k (b ∷ rest) = if b == 59 then finished n (k + 1) else and_then (digit_of base b) (λ d. numbered base (n * base + d) (k + 1) rest)
+numbered base n k (b ∷ rest) =
+    if b == 59 then finished n (k + 1)
+    else and_then (digit_of base b) (λ d. numbered base (n * base + d) (k + 1) rest)
 
 -- the text may end within such a number
 abbrev pub is_cut_number : ℕ → ℕ → List ℕ → Bool
@@ -89,7 +93,8 @@ with_unit (Err e) more = Err e
 abbrev pub resolved : Bool → ℕ → ℕ → List ℕ → Read (List ℕ)
 resolved cut skip at [] = Ok []
 resolved cut (suc skip) at (c ∷ rest) = resolved cut skip (at + length (encode_utf8 c)) rest
-resolved cut zero at (c ∷ rest) = with_unit (unit_at cut at c (encode_utf8_all rest)) (λ skip. resolved cut skip (at + length (encode_utf8 c)) rest)
+resolved cut zero at (c ∷ rest) =
+    with_unit (unit_at cut at c (encode_utf8_all rest)) (λ skip. resolved cut skip (at + length (encode_utf8 c)) rest)
 
 -- the same of a text in UTF-8
 unfoldable pub resolved_text : Bool → ℕ → List ℕ → Read (List ℕ)

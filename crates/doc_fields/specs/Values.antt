@@ -34,7 +34,8 @@ abbrev pub word_at : {A : Type 0} → List (List ℕ × A) → List ℕ → ℕ 
 word_at words text at = word_or_fault words text at (first_word words (drop at text))
 
 unfoldable pub bool_at : List ℕ → ℕ → Read (Bool × ℕ)
-bool_at text at = word_at ((codes "true", true) ∷ (codes "false", false) ∷ (codes "1", true) ∷ (codes "0", false) ∷ []) text at
+bool_at text at =
+    word_at ((codes "true", true) ∷ (codes "false", false) ∷ (codes "1", true) ∷ (codes "0", false) ∷ []) text at
 
 abbrev pub lock_word : LockState → List ℕ
 lock_word Unlocked = codes "unlocked"
@@ -42,16 +43,20 @@ lock_word Locked = codes "locked"
 lock_word PermLocked = codes "permlocked"
 
 unfoldable pub lock_at : List ℕ → ℕ → Read (LockState × ℕ)
-lock_at text at = word_at ((lock_word Unlocked, Unlocked) ∷ (lock_word Locked, Locked) ∷ (lock_word PermLocked, PermLocked) ∷ []) text at
+lock_at text at =
+    let words = (lock_word Unlocked, Unlocked) ∷ (lock_word Locked, Locked) ∷ (lock_word PermLocked, PermLocked) ∷ [] in
+    word_at words text at
 
 -- a partition's letter
 unfoldable pub letter_at : List ℕ → ℕ → Read (ℕ × ℕ)
-letter_at text at = if nat_le 97 (byte text at) && nat_le (byte text at) 122 then Ok (byte text at, at + 1) else syntax_at at
+letter_at text at =
+    if nat_le 97 (byte text at) && nat_le (byte text at) 122 then Ok (byte text at, at + 1) else syntax_at at
 
 abbrev pub is_hex_digit : ℕ → Bool
 is_hex_digit b = is_digit b || (nat_le 97 b && nat_le b 102 || nat_le 65 b && nat_le b 70)
 
--- a byte fits a place of a shape: `0` is a place for a decimal digit, `h` one for a hexadecimal digit, all others are themselves
+-- a byte fits a place of a shape: `0` is a place for a decimal digit, `h` one for a hexadecimal digit, all others are
+-- themselves
 abbrev pub fits_place : ℕ → ℕ → Bool
 fits_place place b = if place == 48 then is_digit b else (if place == 104 then is_hex_digit b else b == place)
 

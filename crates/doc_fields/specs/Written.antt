@@ -13,8 +13,8 @@ attribute_text Version = codes " version=\"2.4.0\""
 attribute_text (Percent true) = codes " percentencoded=\"true\""
 attribute_text (Percent false) = codes " percentencoded=\"false\""
 
--- the attribute that is written with an element: a root has its version, and only a name and the text of a symbolic link
--- may say whether they have escapes of percent signs
+-- the attribute that is written with an element: a root has its version, and only a name and the text of a symbolic
+-- link may say whether they have escapes of percent signs
 abbrev pub may_have : Tag → Attribute → Bool
 may_have tag Absent = not (is_root tag)
 may_have tag Version = is_root tag
@@ -31,7 +31,11 @@ bool_text true = codes "true"
 bool_text false = codes "false"
 
 abbrev pub escaped : ℕ → List ℕ
-escaped b = if b == 38 then codes "&amp;" else (if b == 60 then codes "&lt;" else (if b == 62 then codes "&gt;" else (if b == 13 then codes "&#13;" else b ∷ [])))
+escaped b =
+    if b == 38 then codes "&amp;"
+    else (if b == 60 then codes "&lt;"
+    else (if b == 62 then codes "&gt;"
+    else (if b == 13 then codes "&#13;" else b ∷ [])))
 
 -- a text with escapes for what can't stand raw
 abbrev pub escape : List ℕ → List ℕ

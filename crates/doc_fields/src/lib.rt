@@ -18,7 +18,9 @@ mod writing;
 pub use bytes::{byte, skip_space};
 pub use declaration::read_head;
 pub use errors::{FieldErr, Why};
-pub use laws::{tags_read_back, texts_read_back, values_read_back};
+pub use laws::{
+    references_are_spelled, tags_read_back, texts_read_back, values_read_back, versions_are_spelled,
+};
 pub use numbers::read_u64;
 pub use starts::{Attribute, Start, read_end, read_name, read_rest, read_start};
 pub use tags::{Tag, name_of, tag_of};

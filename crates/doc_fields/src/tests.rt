@@ -1,3 +1,4 @@
+mod names;
 mod starts;
 mod texts;
 mod values;

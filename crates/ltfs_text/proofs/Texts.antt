@@ -1,5 +1,5 @@
 -- The text of a name stands for that name, and has no special character.
-use Rattle.std.proofs.Common.{◌≡◌, ℕ, ◌+◌, ◌/◌, ◌%◌, ◌<◌, ltb, true, false, ◌||◌, cond, ◌==◌, List, [], ◌∷◌, IsUtf8, All, refl, sym, ◌∙◌, inl, inr, arith}
+use Rattle.std.proofs.Common.{◌≡◌, ℕ, ◌+◌, ◌/◌, ◌%◌, ◌<◌, ltb, Bool, true, false, ◌||◌, cond, ◌==◌, List, [], ◌∷◌, ◌++◌, ap, IsUtf8, All, refl, sym, ◌∙◌, inl, inr, arith}
 use Rattle.std.specs.Char.{is_ascii_control}
 use Rattle.std.proofs.lemmas.Bool.{cond_both, and_parts, agree_below, agree_below_at}
 use Rattle.std.proofs.lemmas.Bool.Decides.{nat_tests}
@@ -8,11 +8,11 @@ use Rattle.std.proofs.lemmas.List.Folds.{list_any_none}
 use Rattle.std.proofs.lemmas.Str.{chars-IsAscii}
 use lib.Utf8.{scalar, scalars, encode, encodes, scalar_cases}
 use Rattle.percent_encoding.specs.AsciiSet.{contains, should_percent_encode}
-use Rattle.percent_encoding.specs.Percent.{percent_encode}
+use Rattle.percent_encoding.specs.Percent.{percent_encode, percent_encode_byte}
 use Rattle.percent_encoding.proofs.AsciiSetLemmas.{ascii_from_kept, outside_from_kept}
 use Rattle.percent_encoding.proofs.PercentLemmas.{IsByte, IsEscapeByte, All-percent_encode, IsAscii-percent_encode, round_trip}
 use Rattle.ltfs_text.specs.declared.names.TheConstants.{ESCAPED}
-use Rattle.ltfs_text.specs.Names.{IsTextOf, has_special, is_special, written}
+use Rattle.ltfs_text.specs.Names.{IsTextOf, encoded, has_special, is_escaped, is_special, written}
 
 one_char : (c : ℕ) → scalar c ≡ true → All IsByte (encode c)
 unfolding encode
@@ -42,19 +42,34 @@ all_chars (c ∷ cs) e =
 utf8_bytes : (name : List ℕ) → IsUtf8 name → All IsByte name
 utf8_bytes name u = rw (← u.1.1) (all_chars u.0 u.1.0)
 
-pub written_back : (name : List ℕ) → IsUtf8 name → IsTextOf (written name).percent (written name).text name
-written_back name u =
-    elim (has_special name) as (λ b. has_special name ≡ b → IsTextOf (written name).percent (written name).text name) [
-      | true ↦ λ e. rw e record { bytes = round_trip ESCAPED name refl (utf8_bytes name u); utf8 = u }
-      | false ↦ λ e. rw e record { bytes = refl; utf8 = u }
-    ] refl
-
--- the ASCII bytes that are escaped
+-- the bytes that are escaped are those of the set
 escaped : agree_below (contains ESCAPED) (λ b. is_ascii_control b || (b == 37)) 128 ≡ true
 escaped = refl
 
 pub escaped_at : (b : ℕ) → b < 128 → contains ESCAPED b ≡ (is_ascii_control b || (b == 37))
 escaped_at b ascii = agree_below_at (contains ESCAPED) (λ k. is_ascii_control k || (k == 37)) 128 b escaped ascii
+
+pub escapes : (b : ℕ) → should_percent_encode ESCAPED b ≡ is_escaped b
+unfolding should_percent_encode
+escapes b =
+    elim (ltb b 128) as (λ (v : Bool). ltb b 128 ≡ v → should_percent_encode ESCAPED b ≡ is_escaped b) [
+      | true ↦ λ e. let within = escaped_at b (grind (arith, nat_tests)) in rw within (grind (arith, nat_tests))
+      | false ↦ λ e. grind (arith, nat_tests)
+    ] refl
+
+pub encodes_as : (name : List ℕ) → percent_encode ESCAPED name ≡ encoded name
+unfolding percent_encode
+encodes_as [] = refl
+encodes_as (b ∷ name) =
+    ap (λ (v : Bool). cond v (percent_encode_byte b) (b ∷ []) ++ percent_encode ESCAPED name) (escapes b)
+    ∙ ap (λ (s : List ℕ). cond (is_escaped b) (percent_encode_byte b) (b ∷ []) ++ s) (encodes_as name)
+
+pub written_back : (name : List ℕ) → IsUtf8 name → IsTextOf (written name).percent (written name).text name
+written_back name u =
+    elim (has_special name) as (λ b. has_special name ≡ b → IsTextOf (written name).percent (written name).text name) [
+      | true ↦ λ e. rw (e, ← encodes_as name) record { bytes = round_trip ESCAPED name refl (utf8_bytes name u); utf8 = u }
+      | false ↦ λ e. rw e record { bytes = refl; utf8 = u }
+    ] refl
 
 kept_plain : (b : ℕ) → should_percent_encode ESCAPED b ≡ false → is_special b ≡ false
 kept_plain b kept =
@@ -73,6 +88,6 @@ encoded_plain name =
 pub written_plain : (name : List ℕ) → has_special (written name).text ≡ false
 written_plain name =
     elim (has_special name) as (λ b. has_special name ≡ b → has_special (written name).text ≡ false) [
-      | true ↦ λ e. rw e (encoded_plain name)
+      | true ↦ λ e. rw (e, ← encodes_as name) (encoded_plain name)
       | false ↦ λ e. rw e e
     ] refl

@@ -1,9 +1,9 @@
--- Names, patterns and texts of symbolic links in a document (LTFS 2.4 on the name format). A text is given by its bytes in UTF-8.
-use Rattle.std.specs.Prelude.{◌≡◌, ⊤, ℕ, List, Bool, true, false, nat_lt, ◌==◌, ◌||◌, if◌then◌else◌, Result, Ok, Err}
-use Rattle.std.specs.List.{list_any}
+-- Names, patterns and texts of symbolic links in a document (LTFS 2.4 on the name format). A text is given by its bytes
+-- in UTF-8.
+use Rattle.std.specs.Prelude.{◌≡◌, ⊤, ℕ, List, [], ◌∷◌, Bool, true, false, nat_le, nat_lt, ◌==◌, ◌||◌, if◌then◌else◌, Result, Ok, Err}
+use Rattle.std.specs.List.{flat_map, list_any}
 use Rattle.std.specs.Str.{IsUtf8, chars}
-use Rattle.percent_encoding.specs.Percent.{percent_encode, percent_decode}
-use Rattle.ltfs_text.specs.declared.names.TheConstants.{ESCAPED}
+use Rattle.percent_encoding.specs.Percent.{percent_encode_byte, percent_decode}
 use Rattle.ltfs_text.specs.declared.names.NameText.{NameText}
 use Rattle.ltfs_text.specs.declared.names.ReadNameErr.{ReadNameErr}
 use Rattle.ltfs_text.specs.declared.names.ReadNameErr.TheVariants as faults
@@ -16,12 +16,19 @@ is_special c = nat_lt c 32 || (c == 0x7F) || (c == 0xFFFE) || (c == 0xFFFF)
 abbrev pub has_special : List ℕ → Bool
 has_special name = list_any is_special (chars name)
 
--- The text of a name: the name itself, or, where it has a special character, the name with ASCII's controls, `%` and
--- all past ASCII as `%` and two hexadecimal digits for each byte.
+-- the bytes that are escaped in a text that is percent-encoded: ASCII's controls, `%`, and all past ASCII
+abbrev pub is_escaped : ℕ → Bool
+is_escaped b = nat_lt b 32 || (b == 0x7F) || (b == 37) || nat_le 128 b
+
+-- a name with `%` and two hexadecimal digits for each of these bytes
+abbrev pub encoded : List ℕ → List ℕ
+encoded name = flat_map (λ b. if is_escaped b then percent_encode_byte b else b ∷ []) name
+
+-- the text of a name: the name itself, or, where it has a special character, its percent-encoded form
 abbrev pub written : List ℕ → NameText
 written name =
     if has_special name
-    then record { text = percent_encode ESCAPED name; percent = true }
+    then record { text = encoded name; percent = true }
     else record { text = name; percent = false }
 
 -- the bytes that a text stands for: where it is percent-encoded, each escape is its byte, and any other `%` stays

@@ -42,6 +42,7 @@ impl From<AllocError> for ReadNameErr {
 
 /// The text of a name: the name itself, or, where it has a character below U+0020, or U+007F,
 /// U+FFFE or U+FFFF, the percent-encoded form.
+#[tactic(auto, using(crate::proofs::Texts::encodes_as))]
 pub fn name_text(alloc: Global, name: &str) -> Result<NameText, NoMemory>
     ensures { IfOk result (λ t. t ≡ written name.now) }
 {

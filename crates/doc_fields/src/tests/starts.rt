@@ -90,6 +90,9 @@ fn versions_are_read(rt: HostRuntime) {
     assert!(rt; stops(b"<ltfslabel version=\"2.4.1234\">", Why::Version, 0));
     assert!(rt; stops(b"<ltfslabel version=\"2.4.0a\">", Why::Version, 0));
     assert!(rt; stops(b"<ltfslabel version=\"\">", Why::Version, 0));
+    assert!(rt; stops(b"<ltfslabel version=\"2.4\">", Why::Version, 0));
+    assert!(rt; stops(b"<ltfslabel version=\"2.10.0\">", Why::Version, 0));
+    assert!(rt; stops(b"<ltfslabel version=\"2.4.0 \">", Why::Version, 0));
 }
 
 #[test]
@@ -224,5 +227,10 @@ fn other_declarations_stop_at_their_first_wrong_byte(rt: HostRuntime) {
         )
     );
     assert!(rt; heads_wrongly(b"<?xml version=\"1.0\" ? >", 21));
+    assert!(rt; heads_wrongly(b"<?xml\x0cversion=\"1.0\"?>", 5));
+    assert!(rt; heads_wrongly(b"<?xml version=\"1.0\" encoding=\"UTF8\"?>", 30));
+    assert!(rt; heads_wrongly(b"<?xml version=\"1.0\" standalone=\"Yes\"?>", 32));
+    assert!(rt; heads_wrongly(b"<?xml version=\"1.0\" version=\"1.0\"?>", 20));
+    assert!(rt; heads_wrongly(b"<?xml version=\"1.0'?>", 21));
     assert!(rt; heads_wrongly(b"<?xml version=\"1.0", 18));
 }

@@ -30,6 +30,7 @@ fn references_are_resolved(rt: HostRuntime) {
     assert!(rt; reads(rt, b"&#x1F600;&#9;<", "\u{1f600}\t", 13));
     assert!(rt; reads(rt, b"&#1114111;<", "\u{10ffff}", 10));
     assert!(rt; reads(rt, b"&amp;amp;<", "&amp;", 9));
+    assert!(rt; reads(rt, b"&#00065;&#x0000000041;<", "AA", 22));
 }
 
 #[test]
@@ -53,6 +54,12 @@ fn other_references_are_refused(rt: HostRuntime) {
     assert!(rt; stops(rt, b"&#xD800;<", 0));
     assert!(rt; stops(rt, b"&#x110000;<", 0));
     assert!(rt; stops(rt, b"&#4294967361;<", 0));
+    assert!(rt; stops(rt, b"&#x;<", 0));
+    assert!(rt; stops(rt, b"&# 65;<", 0));
+    assert!(rt; stops(rt, b"&#+65;<", 0));
+    assert!(rt; stops(rt, b"&#x4G;<", 0));
+    assert!(rt; stops(rt, b"&AMP;<", 0));
+    assert!(rt; stops(rt, b"&nbsp;<", 0));
 }
 
 #[test]

@@ -4,9 +4,9 @@ use Rattle.doc_fields.proofs.laws.values_read_back.Goals as goal
 pub returns : goal.returns
 returns c = record {
   numbers = λ text rest at n b lt stop e. number_again text at n b rest lt stop e;
-  truths = λ text rest at is e. bool_again text at is rest e;
-  letters = λ text rest at b low high e. letter_again text at b rest low high e;
-  locks = λ text rest at state e. lock_again text at state rest e;
+  truths = λ is text rest at e. bool_again text at is rest e;
+  letters = λ b low high text rest at e. letter_again text at b rest low high e;
+  locks = λ state text rest at e. lock_again text at state rest e;
   times = λ text rest at m e. time_again text at m rest e;
   uuids = λ text rest at uuid fits e. uuid_again text at uuid rest fits e;
 }
