@@ -1,0 +1,4 @@
+pub mod Computed
+pub mod Patterns
+pub mod Policies
+pub mod Walks

@@ -1,0 +1,12 @@
+//! Which files a volume's policy puts on the index partition (LTFS 2.4 on the data placement policy).
+#![tactic(auto)]
+
+mod laws;
+mod patterns;
+mod policies;
+#[cfg(test)]
+mod tests;
+
+pub use laws::choices_are_computed;
+pub use patterns::matches;
+pub use policies::chooses_ip;

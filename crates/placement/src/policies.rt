@@ -1,0 +1,37 @@
+ghost use Rattle.std.specs.Prelude.{◌≡◌, ◌↔◌, IsTrue};
+ghost use Rattle.std.specs.List.{list_any};
+ghost use Rattle.placement.specs.Computed as computed;
+ghost use Rattle.placement.specs.Policies.{ChoosesIp};
+
+use crate::patterns::matches;
+use index_model::Policy;
+use tape_types::Text;
+
+/// Whether a file may go to the index partition: there is a policy, a file of this length isn't too long for it, and
+/// it has no patterns or one that matches the file's name. Takes no memory.
+#[tactic(auto, using(crate::proofs::Computing::same_choice))]
+pub fn chooses_ip(policy: &Option<Policy>, name: &str, length: u64) -> bool
+    ensures chosen { IsTrue result ↔ ChoosesIp policy.now name.now length }
+    ensures value { result ≡ computed.chooses_ip policy.now name.now length }
+{
+    may_go(policy, name, length)
+}
+
+fn may_go(policy: &Option<Policy>, name: &str, length: u64) -> bool
+    ensures { result ≡ computed.chooses_ip policy.now name.now length }
+{
+    let Some(policy) = policy else {
+        return false;
+    };
+    let names = policy.names.as_slice();
+    length <= policy.size && (names.is_empty() || any_matches(names, name))
+}
+
+/// Whether one of the patterns stands for a name.
+fn any_matches(patterns: &[Text], name: &str) -> bool
+    ensures { result ≡ list_any (λ pattern. computed.matches pattern name.now) patterns.now }
+{
+    patterns
+        .iter()
+        .any(|pattern| matches(pattern.as_str(), name))
+}
