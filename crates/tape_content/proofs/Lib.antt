@@ -1,0 +1,4 @@
+pub mod Folded
+pub mod OneForm
+pub mod ReadForms
+pub mod SomeForm

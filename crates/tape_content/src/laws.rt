@@ -7,7 +7,8 @@ ghost use Rattle.tape_content.specs.Content.{Bad, content, content_of};
 
 /// Each partition has the form in one way, or lacks it at one place, and never both.
 pub fn partitions_are_read_in_one_way()
-    ensures one_form { (items : List Item) (r s : HasForm items) → (r.groups ≡ s.groups) × (r.lead ≡ s.lead) × (r.begun ≡ s.begun) }
+    ensures one_form { (items : List Item) (r s : HasForm items)
+        → (r.groups ≡ s.groups) × (r.lead ≡ s.lead) × (r.begun ≡ s.begun) }
     ensures one_place { (items : List Item) (at other : ℕ) → LacksForm items at → LacksForm items other → at ≡ other }
     ensures never_both { (items : List Item) (at : ℕ) → HasForm items → LacksForm items at → ⊥ }
     ensures either { (items : List Item) → HasForm items ⊎ ((at : ℕ) × LacksForm items at) }
