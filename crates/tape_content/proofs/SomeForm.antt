@@ -1,29 +1,11 @@
 -- A list without a torn item has the form of a partition, or lacks it at a place.
-use Rattle.std.proofs.Common.{ℕ, zero, suc, ◌+◌, ◌≡◌, ◌⊎◌, inl, inr, List, [], ◌∷◌, ◌++◌, length, map, drop, Option, Some, None, refl, sym, ◌∙◌, ap, subst}
-use Rattle.std.specs.List.{AllByRecursion, flat_map}
+use Rattle.std.proofs.Common.{ℕ, ◌+◌, ◌≡◌, ◌⊎◌, inl, inr, List, [], ◌∷◌, ◌++◌, length, map, Option, Some, None, refl, sym, ◌∙◌, ap, subst}
+use Rattle.std.specs.List.{flat_map}
 use Rattle.tape_types.specs.declared.cartridges.Item.{Item}
 use Rattle.tape_types.specs.declared.cartridges.Item.TheVariants.{Block, Mark, Torn}
 use Rattle.tape_content.specs.Readings.{Group, HasForm, HaveBlocks, LacksForm, Reading, front, items_of_group, items_of_tail, readable}
 use Rattle.tape_content.proofs.Folded.{unrolled}
-
-abbrev IsWhole : Item → Type 0
-IsWhole (Block bytes) = Unit {0}
-IsWhole Mark = Unit {0}
-IsWhole Torn = ⊥
-
-abbrev AreWhole : List Item → Type 0
-AreWhole items = AllByRecursion IsWhole items
-
-front_whole : (items : List Item) → AreWhole (front items)
-front_whole [] = tt
-front_whole (Block bytes ∷ items) = (tt, front_whole items)
-front_whole (Mark ∷ items) = (tt, front_whole items)
-front_whole (Torn ∷ items) = tt
-
-whole_behind : (n : ℕ) (items : List Item) → AreWhole items → AreWhole (drop n items)
-whole_behind zero items whole = whole
-whole_behind (suc n) [] whole = tt
-whole_behind (suc n) (x ∷ items) whole = whole_behind n items whole.1
+use Rattle.tape_content.proofs.Whole.{AreWhole, front_whole, whole_behind}
 
 -- an index without a block stands behind these groups and blocks
 record Empty (items : List Item) : Type 0 where
