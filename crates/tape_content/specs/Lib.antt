@@ -1,0 +1,4 @@
+pub mod Content
+pub mod Ends
+pub mod Readings
+pub mod Worked
