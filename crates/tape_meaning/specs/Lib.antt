@@ -1,0 +1,7 @@
+pub mod Carried
+pub mod Faults
+pub mod Labels
+pub mod Meaning
+pub mod Mounts
+pub mod Notes
+pub mod Pointers
