@@ -1,0 +1,14 @@
+use Rattle.tape_meaning.proofs.OneWay.{same_labels, same_on_dp, same_on_ip, same_index}
+use Rattle.tape_meaning.proofs.laws.cartridges_read_in_one_way.Goals as goal
+
+pub returns-clause-labels : goal.returns-clause-labels
+returns-clause-labels c = same_labels
+
+pub returns-clause-on_dp : goal.returns-clause-on_dp
+returns-clause-on_dp c = same_on_dp
+
+pub returns-clause-on_ip : goal.returns-clause-on_ip
+returns-clause-on_ip c = same_on_ip
+
+pub returns-clause-index : goal.returns-clause-index
+returns-clause-index c = same_index
