@@ -6,6 +6,8 @@ use Rattle.tape_types.specs.declared.cartridges.Item.TheVariants.{Block}
 use Rattle.tape_types.specs.declared.moments.Moment.{Moment}
 use Rattle.tape_types.specs.Times.{civil_of, civil_text, time_text}
 use Rattle.tape_types.proofs.CivilLemmas.{time_text_injective}
+use Rattle.plain_tree.specs.Tree.{Tree}
+use Rattle.extent_map.specs.Cells.{tape_of}
 use Rattle.vol_label.specs.Table.{IsRecord}
 use Rattle.vol_label.specs.declared.Vol1.{Vol1}
 use Rattle.ltfs_label.specs.declared.Label.{Label}
@@ -17,9 +19,11 @@ use Rattle.index_model.specs.declared.indexes.Index.{Index}
 use Rattle.index_read.proofs.Exact.{one_index_text}
 use Rattle.tape_content.specs.Readings.{Construct}
 use Rattle.tape_meaning.specs.Labels.{HasLabel, HasLabels, HasRecord, IsMarkedBlock}
-use Rattle.tape_meaning.specs.Meaning.{Found}
+use Rattle.tape_meaning.specs.Carried.{Carried, carried}
+use Rattle.tape_meaning.specs.Meaning.{Found, IsTreeOf, Reads}
 use Rattle.tape_meaning.specs.Pointers.{IsLastOnDp, IsLastOnIp, chosen, indexes_of, text_of}
 use Rattle.tape_meaning.specs.declared.labels.Labels.{Labels}
+use Rattle.tape_meaning.proofs.OneTree.{tree_once}
 
 -- ---- labels
 
@@ -111,3 +115,26 @@ module _ (c : Cartridge) (a b : Found c) where
       let choice : Some a.index ≡ Some b.index =
       sym a.choice ∙ ap (λ (o : Option Index). chosen o a.on_dp) same_on_ip ∙ ap (λ (o : Option Index). chosen b.on_ip o) same_on_dp ∙ b.choice in
       cc
+
+-- ---- how it reads
+
+tree_is_once : (c : Cartridge) (label : Label) (index : Index) (tree other : Tree) → IsTreeOf label c index tree → IsTreeOf label c index other → tree ≡ other
+tree_is_once c label index tree other h k =
+    h.2 ∙ tree_once (tape_of c) (label.index, label.dpart) label.block index h.0 k.0 h.1 k.1 ∙ sym k.2
+
+module _ (c : Cartridge) (facts others : Carried) (tree other : Tree) (generation another : ℕ)
+    (a : Reads c facts tree generation) (b : Reads c others other another) where
+  index_is : a.found.index ≡ b.found.index
+  index_is = same_index c a.found b.found
+
+  pub same_facts : facts ≡ others
+  same_facts = a.facts_are ∙ ap carried index_is ∙ sym b.facts_are
+
+  pub same_tree : tree ≡ other
+  same_tree =
+      let here = subst (λ (l : Labels). IsTreeOf l.ip c a.found.index tree) (same_labels c a.found b.found) a.tree_is in
+      let there = subst (λ (x : Index). IsTreeOf b.found.labels.ip c x tree) index_is here in
+      tree_is_once c b.found.labels.ip b.found.index tree other there b.tree_is
+
+  pub same_generation : generation ≡ another
+  same_generation = a.generation_is ∙ ap (λ (x : Index). x.generation) index_is ∙ sym b.generation_is
