@@ -1,2 +1,4 @@
+pub mod Extents
+pub mod OneFault
 pub mod OneTree
 pub mod OneWay

@@ -4,7 +4,9 @@ ghost use Rattle.std.specs.Prelude.{◌≡◌, ℕ};
 ghost use Rattle.tape_types.specs.declared.cartridges.Cartridge.{Cartridge};
 ghost use Rattle.plain_tree.specs.Tree.{Tree};
 ghost use Rattle.tape_meaning.specs.Carried.{Carried};
+ghost use Rattle.tape_meaning.specs.Faults.{MountFault};
 ghost use Rattle.tape_meaning.specs.Meaning.{Found, Reads};
+ghost use Rattle.tape_meaning.specs.declared.errors.MountErr.{MountErr};
 
 /// A cartridge is read in one way: it has one pair of labels, one last index of each partition, one that is chosen, and
 /// it stands for one tree.
@@ -19,4 +21,10 @@ pub fn cartridges_read_in_one_way()
         → Reads c facts tree generation → Reads c others other another → tree ≡ other }
     ensures generation { (c : Cartridge) (facts others : Carried) (tree other : Tree) (generation another : ℕ)
         → Reads c facts tree generation → Reads c others other another → generation ≡ another }
+{}
+
+/// A cartridge that doesn't mount is refused for one reason.
+pub fn faults_are_told_in_one_way()
+    ensures one_fault { (c : Cartridge) (e f : MountErr) → MountFault c e → MountFault c f → e ≡ f }
+    ensures never_both { (c : Cartridge) (e : MountErr) → Found c → MountFault c e → ⊥ }
 {}
