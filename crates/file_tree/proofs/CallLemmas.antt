@@ -34,7 +34,7 @@ file_there t path file stands free = by node.0.kind refl
 pub still_file : (a b : FileTree) (file : ℕ) → ((room : Room) × HasExtents a.nodes file room) → AllLie a b → (room : Room) × HasExtents b.nodes file room
 still_file a b file was lie =
     let h = was.1 in
-    let now = lie file was.0.laid (record { path = h.path; node = h.node; there = h.there; is = h.is; room = was.0; file = h.file; lies = refl }) in
+    let now = (lie file was.0.laid).0 (record { path = h.path; node = h.node; there = h.there; is = h.is; room = was.0; file = h.file; lies = refl }) in
     (now.room, record { path = now.path; node = now.node; there = now.there; is = now.is; file = now.file })
 
 -- what the checks of a write and of a truncation leave

@@ -25,3 +25,4 @@ pub mod ToldLemmas
 pub mod OrderLemmas
 pub mod AgreeLemmas
 pub mod BytesLemmas
+pub mod IndexLemmas

@@ -12,3 +12,4 @@ pub mod Raws
 pub mod Listing
 pub mod Told
 pub mod Writes
+pub mod Indexes

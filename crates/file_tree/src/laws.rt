@@ -4,6 +4,7 @@ ghost use Rattle.index_model.specs.Order.{AreInOrder};
 ghost use Rattle.index_model.specs.Valid.{Agrees};
 ghost use Rattle.file_tree.specs.Blocks.{BlocksMakeTheTree, EndsHold};
 ghost use Rattle.file_tree.specs.Edits.{RefusalsAreAlike};
+ghost use Rattle.file_tree.specs.Indexes.{IndexesComeBack};
 ghost use Rattle.file_tree.specs.Mounts.{Letters};
 ghost use Rattle.file_tree.specs.Told.{told_nodes};
 ghost use Rattle.file_tree.specs.Tree.{FileTree};
@@ -37,4 +38,9 @@ pub fn ends_hold()
 /// An overlay over new blocks that hold the bytes of a write is the plain tree's write.
 pub fn writes_are_writes()
     ensures { WritesAreWrites }
+{}
+
+/// The index that tells a tree is valid, can be mounted, and is mounted as that tree.
+pub fn indexes_come_back()
+    ensures { IndexesComeBack }
 {}

@@ -20,7 +20,8 @@ mod tree;
 
 pub use found::Found;
 pub use laws::{
-    blocks_make_the_tree, ends_hold, refusals_are_alike, told_nodes_agree, writes_are_writes,
+    blocks_make_the_tree, ends_hold, indexes_come_back, refusals_are_alike, told_nodes_agree,
+    writes_are_writes,
 };
 pub use raws::Letters;
 pub use tree::Tree;
