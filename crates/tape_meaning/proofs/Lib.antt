@@ -1,4 +1,5 @@
 pub mod Extents
+pub mod Frame
 pub mod OneFault
 pub mod OneTree
 pub mod OneWay

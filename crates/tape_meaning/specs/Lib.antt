@@ -1,5 +1,6 @@
 pub mod Carried
 pub mod Faults
+pub mod Kept
 pub mod Labels
 pub mod Meaning
 pub mod Mounts

@@ -1,12 +1,21 @@
 //! Laws of what a cartridge stands for.
 
-ghost use Rattle.std.specs.Prelude.{◌≡◌, ℕ};
+ghost use Rattle.std.specs.Prelude.{◌≡◌, ◌≢◌, ◌≤◌, ◌<◌, ℕ, List, [], ◌++◌, Some, take};
+ghost use Rattle.std.specs.List.{AllByRecursion};
 ghost use Rattle.tape_types.specs.declared.cartridges.Cartridge.{Cartridge};
 ghost use Rattle.plain_tree.specs.Tree.{Tree};
+ghost use Rattle.index_model.specs.declared.indexes.Index.{Index};
+ghost use Rattle.index_model.specs.declared.nodes.Node.{Node};
+ghost use Rattle.ltfs_label.specs.declared.Label.{Label};
+ghost use Rattle.tape_content.specs.Readings.{Construct};
 ghost use Rattle.tape_meaning.specs.Carried.{Carried};
 ghost use Rattle.tape_meaning.specs.Faults.{MountFault};
-ghost use Rattle.tape_meaning.specs.Meaning.{Found, Reads};
+ghost use Rattle.tape_meaning.specs.Kept.{Keeps};
+ghost use Rattle.tape_meaning.specs.Labels.{HasLabels};
+ghost use Rattle.tape_meaning.specs.Meaning.{FitsNode, Found, IsTreeOf, Reads};
+ghost use Rattle.tape_meaning.specs.Pointers.{PointsBack};
 ghost use Rattle.tape_meaning.specs.declared.errors.MountErr.{MountErr};
+ghost use Rattle.tape_meaning.specs.declared.labels.Labels.{Labels};
 
 /// A cartridge is read in one way: it has one pair of labels, one last index of each partition, one that is chosen, and
 /// it stands for one tree.
@@ -27,4 +36,21 @@ pub fn cartridges_read_in_one_way()
 pub fn faults_are_told_in_one_way()
     ensures one_fault { (c : Cartridge) (e f : MountErr) → MountFault c e → MountFault c f → e ≡ f }
     ensures never_both { (c : Cartridge) (e : MountErr) → Found c → MountFault c e → ⊥ }
+{}
+
+/// What a cartridge stands for goes by its labels, its indexes, and what stands below its ends. So a cartridge that keeps
+/// these reads alike, whatever else it has; and each piece of that by itself.
+pub fn cartridges_alike_read_alike()
+    ensures reads { (c d : Cartridge) (facts : Carried) (tree : Tree) (generation : ℕ)
+        → Keeps c d → Reads c facts tree generation → Reads d facts tree generation }
+    ensures labels { (c d : Cartridge) (labels : Labels)
+        → take 4 c.ip ≡ take 4 d.ip → take 4 c.dp ≡ take 4 d.dp → HasLabels c labels → HasLabels d labels }
+    ensures trees { (label : Label) (ip dp : ℕ) → label.index ≢ label.dpart → (c d : Cartridge) (index : Index) (tree : Tree)
+        → AllByRecursion (FitsNode label ip dp) index.nodes → take ip c.ip ≡ take ip d.ip → take dp c.dp ≡ take dp d.dp
+        → IsTreeOf label c index tree → IsTreeOf label d index tree }
+    ensures extents { (label : Label) (ip dp further_ip further_dp : ℕ) → ip ≤ further_ip → dp ≤ further_dp → (nodes : List Node)
+        → AllByRecursion (FitsNode label ip dp) nodes → AllByRecursion (FitsNode label further_ip further_dp) nodes }
+    ensures pointers { (label : Label) (index old new : Index) (more dps : List Construct)
+        → dps ≢ [] → index.generation < new.generation
+        → PointsBack label index dps (Some old) → PointsBack label index (more ++ dps) (Some new) }
 {}

@@ -9,5 +9,5 @@ mod mounted;
 
 pub use errors::MountErr;
 pub use labels::Labels;
-pub use laws::{cartridges_read_in_one_way, faults_are_told_in_one_way};
+pub use laws::{cartridges_alike_read_alike, cartridges_read_in_one_way, faults_are_told_in_one_way};
 pub use mounted::Mounted;
