@@ -155,7 +155,7 @@ module _ (c d : Cartridge) (k : Keeps c d) where
     dp_last = subst (λ (ks : List Construct). IsLastOnDp f.labels.ip ks f.on_dp) k.dp_indexes f.dp_last;
     on_ip = f.on_ip;
     ip_last = subst (λ (ks : List Construct). IsLastOnIp f.labels.ip ks (indexes_of d.dp) f.on_dp f.on_ip) k.ip_indexes
-    (subst (λ (ks : List Construct). IsLastOnIp f.labels.ip (indexes_of c.ip) ks f.on_dp f.on_ip) k.dp_indexes f.ip_last);
+        (subst (λ (ks : List Construct). IsLastOnIp f.labels.ip (indexes_of c.ip) ks f.on_dp f.on_ip) k.dp_indexes f.ip_last);
     index = f.index;
     choice = f.choice;
     within = nodes_further f.labels.ip (ip_end c) (dp_end c) (ip_end d) (dp_end d) k.ip_further ends_further f.index.nodes f.within;

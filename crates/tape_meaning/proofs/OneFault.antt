@@ -372,16 +372,19 @@ module _ (c : Cartridge) where
   comes Ip pos S e h bad =
       from_forms h.labels h.forms e (inr (
         λ no_ip no_dp. let wrong : h.last ∷ h.older ≡ [] = sym h.stands ∙ no_ip in cc,
-        inr (record { labels = h.labels; has = h.forms.has; on_dp = h.on_dp; last = h.dp_before refl }, inl (record {
-          labels = h.labels;
-          has = h.forms.has;
-          on_dp = h.on_dp;
-          dp_last = h.dp_before refl;
-          last = h.last;
-          older = h.older;
-          stands = h.stands;
-          bad = subst (λ (n : ℕ). IsBad h.labels.ip (record { part = Ip; pos = n }) h.last (PointsOnIp h.labels.ip h.last dps h.on_dp) e) h.first bad;
-        })),
+        inr (
+          record { labels = h.labels; has = h.forms.has; on_dp = h.on_dp; last = h.dp_before refl },
+          inl (record {
+            labels = h.labels;
+            has = h.forms.has;
+            on_dp = h.on_dp;
+            dp_last = h.dp_before refl;
+            last = h.last;
+            older = h.older;
+            stands = h.stands;
+            bad = subst (λ (n : ℕ). IsBad h.labels.ip (record { part = Ip; pos = n }) h.last (PointsOnIp h.labels.ip h.last dps h.on_dp) e) h.first bad;
+          }),
+        ),
       ))
 
   pub told_chain : (e : MountErr) → MountFault c e → Chain e
@@ -397,10 +400,13 @@ module _ (c : Cartridge) where
   told_chain (errors.WrongPointer place) h = comes place.part place.pos _ (errors.WrongPointer place) h (inr (inr (refl, h.says)))
   told_chain (errors.BadExtent uid) h = from_forms h.labels h.forms (errors.BadExtent uid) (inr (
     some_index h.labels h.index (told_chosen uid h),
-    inr (record { labels = h.labels; has = h.forms.has; on_dp = h.on_dp; last = h.dp_last }, inr (
-      record { labels = h.labels; has = h.forms.has; on_dp = h.on_dp; dp_last = h.dp_last; on_ip = h.on_ip; last = h.ip_last },
-      (uid, refl, h),
-    )),
+    inr (
+      record { labels = h.labels; has = h.forms.has; on_dp = h.on_dp; last = h.dp_last },
+      inr (
+        record { labels = h.labels; has = h.forms.has; on_dp = h.on_dp; dp_last = h.dp_last; on_ip = h.on_ip; last = h.ip_last },
+        (uid, refl, h),
+      ),
+    ),
   ))
   told_chain (errors.Drive counts) h = absurd h
   told_chain errors.NoMemory h = absurd h

@@ -6,3 +6,4 @@ pub mod Meaning
 pub mod Mounts
 pub mod Notes
 pub mod Pointers
+pub mod Worked

@@ -1,8 +1,13 @@
 //! Laws of what a cartridge stands for.
 
-ghost use Rattle.std.specs.Prelude.{◌≡◌, ◌≢◌, ◌≤◌, ◌<◌, ℕ, List, [], ◌++◌, Some, take};
+ghost use Rattle.std.specs.Prelude.{◌≡◌, ◌≢◌, ◌≤◌, ◌<◌, ℕ, List, [], ◌++◌, Some, IfSome, take};
 ghost use Rattle.std.specs.List.{AllByRecursion};
 ghost use Rattle.tape_types.specs.declared.cartridges.Cartridge.{Cartridge};
+ghost use Rattle.tape_types.specs.declared.cartridges.Part.{Part};
+ghost use Rattle.tape_types.specs.declared.cartridges.Place.{Place};
+ghost use Rattle.tape_types.specs.Cartridges.{note_of};
+ghost use Rattle.coherency.specs.Notes.{HasValues};
+ghost use Rattle.coherency.specs.declared.Coherency.{Coherency};
 ghost use Rattle.plain_tree.specs.Tree.{Tree};
 ghost use Rattle.index_model.specs.declared.indexes.Index.{Index};
 ghost use Rattle.index_model.specs.declared.nodes.Node.{Node};
@@ -13,7 +18,9 @@ ghost use Rattle.tape_meaning.specs.Faults.{MountFault};
 ghost use Rattle.tape_meaning.specs.Kept.{Keeps};
 ghost use Rattle.tape_meaning.specs.Labels.{HasLabels};
 ghost use Rattle.tape_meaning.specs.Meaning.{FitsNode, Found, IsTreeOf, Reads};
-ghost use Rattle.tape_meaning.specs.Pointers.{PointsBack};
+ghost use Rattle.tape_meaning.specs.Mounts.{chosen_place};
+ghost use Rattle.tape_meaning.specs.Notes.{AreNoted, IsCoherent, IsHonest, IsHonestNote, TellsOfLast};
+ghost use Rattle.tape_meaning.specs.Pointers.{PointsBack, letter_of};
 ghost use Rattle.tape_meaning.specs.declared.errors.MountErr.{MountErr};
 ghost use Rattle.tape_meaning.specs.declared.labels.Labels.{Labels};
 
@@ -53,4 +60,28 @@ pub fn cartridges_alike_read_alike()
     ensures pointers { (label : Label) (index old new : Index) (more dps : List Construct)
         → dps ≢ [] → index.generation < new.generation
         → PointsBack label index dps (Some old) → PointsBack label index (more ++ dps) (Some new) }
+{}
+
+/// The newest index is chosen, on a tie that of the data partition, and it points to the place where it stands.
+pub fn the_newest_index_is_chosen()
+    ensures on_ip { (c : Cartridge) (f : Found c) → IfSome f.on_ip (λ index. index.generation ≤ f.index.generation) }
+    ensures on_dp { (c : Cartridge) (f : Found c) → IfSome f.on_dp (λ index. index.generation ≤ f.index.generation) }
+    ensures tie { (c : Cartridge) (f : Found c) (index : Index)
+        → f.on_dp ≡ Some index → index.generation ≡ f.index.generation → f.index ≡ index }
+    ensures place { (c : Cartridge) (f : Found c) (place : Place) → chosen_place f.on_ip f.on_dp c ≡ Some place
+        → f.index.here ≡ record { letter = letter_of f.labels.ip place.part; block = place.pos } }
+{}
+
+/// Notes tell of one index of each partition, honest ones none too many changes, and where they are honest and
+/// coherent they tell of the last indexes.
+pub fn notes_tell_of_the_last_indexes()
+    ensures generation { (c : Cartridge) (label : Label) (part : Part) (note other : Coherency)
+        → TellsOfLast c label part note → TellsOfLast c label part other → note.generation ≡ other.generation }
+    ensures block { (c : Cartridge) (label : Label) (part : Part) (note other : Coherency)
+        → TellsOfLast c label part note → TellsOfLast c label part other → note.block ≡ other.block }
+    ensures ahead { (c : Cartridge) (label : Label) (part : Part) (note : Coherency)
+        → HasValues (note_of part c) note → note.uuid ≡ label.uuid → c.vcr < note.vcr → ¬ IsHonestNote c label part }
+    ensures honest { (c : Cartridge) (labels : Labels)
+        → HasLabels c labels → IsHonest c → IsCoherent c → AreNoted c labels.ip }
+    ensures coherent { (c : Cartridge) (labels : Labels) → HasLabels c labels → AreNoted c labels.ip → IsCoherent c }
 {}
