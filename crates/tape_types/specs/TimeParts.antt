@@ -15,5 +15,6 @@ pub record HasPlaces (c : Civil) : Type 0 where
 -- the marks between the numbers of such a text stand at their places
 abbrev pub has_marks : List ℕ → Bool
 has_marks text =
-    (slice_index text 4 == 45) && (slice_index text 7 == 45) && (slice_index text 10 == 84) && (slice_index text 13 == 58)
+    (slice_index text 4 == 45) && (slice_index text 7 == 45) && (slice_index text 10 == 84)
+    && (slice_index text 13 == 58)
     && (slice_index text 16 == 58) && (slice_index text 19 == 46) && (slice_index text 29 == 90)

@@ -32,7 +32,15 @@ unfoldable pub civil_of : Moment → Civil
 civil_of m =
     let day = day_number m.secs in
     let second = second_of_day m.secs in
-    record { year = year_of day; month = month_of day; day = day_of day; hour = second / 3600; minute = second / 60 % 60; second = second % 60; nanos = m.nanos }
+    record {
+      year = year_of day;
+      month = month_of day;
+      day = day_of day;
+      hour = second / 3600;
+      minute = second / 60 % 60;
+      second = second % 60;
+      nanos = m.nanos;
+    }
 
 -- the last `width` decimal digits of a number
 abbrev pub digits : ℕ → ℕ → List ℕ
@@ -57,7 +65,8 @@ pub record IsCivil (m : Moment) (c : Civil) : Type 0 where
   pub hour : c.hour < 24
   pub minute : c.minute < 60
   pub second : c.second < 60
-  pub secs : m.secs ≡ days_from_civil (pos c.year) c.month c.day *ℤ pos 86400 +ℤ pos (c.hour * 3600 + c.minute * 60 + c.second)
+  pub secs : m.secs
+      ≡ days_from_civil (pos c.year) c.month c.day *ℤ pos 86400 +ℤ pos (c.hour * 3600 + c.minute * 60 + c.second)
   pub nanos : m.nanos ≡ c.nanos
 
 -- the number that decimal digits show, behind others that show n
@@ -69,12 +78,23 @@ number_from n (b ∷ bytes) = number_from (n * 10 + (b - 48)) bytes
 abbrev pub numbers_in : List ℕ → Civil
 numbers_in text =
     let part = λ (from to : ℕ). number_from 0 (slice_range text from to) in
-    record { year = part 0 4; month = part 5 7; day = part 8 10; hour = part 11 13; minute = part 14 16; second = part 17 19; nanos = part 20 29 }
+    record {
+      year = part 0 4;
+      month = part 5 7;
+      day = part 8 10;
+      hour = part 11 13;
+      minute = part 14 16;
+      second = part 17 19;
+      nanos = part 20 29;
+    }
 
 -- whether the calendar has this date, and the day this time
 abbrev pub is_civil : Civil → Bool
-is_civil c = nat_le 1 c.month && nat_le c.month 12 && nat_le 1 c.day && nat_le c.day (days_in_month (pos c.year) c.month) && nat_lt c.hour 24 && nat_lt c.minute 60 && nat_lt c.second 60
+is_civil c =
+    nat_le 1 c.month && nat_le c.month 12 && nat_le 1 c.day && nat_le c.day (days_in_month (pos c.year) c.month)
+    && nat_lt c.hour 24 && nat_lt c.minute 60 && nat_lt c.second 60
 
 -- the date and the time of day that a text shows, where there are such
 unfoldable pub civil_in : List ℕ → Option Civil
-civil_in text = if bytes_eq text (civil_text (numbers_in text)) && is_civil (numbers_in text) then Some (numbers_in text) else None
+civil_in text =
+    if bytes_eq text (civil_text (numbers_in text)) && is_civil (numbers_in text) then Some (numbers_in text) else None
