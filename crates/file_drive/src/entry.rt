@@ -48,6 +48,37 @@ pub fn entry_from(bytes: &[u8; 16]) -> Entry
     Entry::Torn { place }
 }
 
+/// Where the bytes of a position end.
+pub fn end_of(entry: &Entry) -> u64 {
+    match entry {
+        Entry::Block { place, length } => place.saturating_add(u64::from(*length)),
+        Entry::Mark { place } | Entry::Torn { place } => *place,
+    }
+}
+
+/// What stands for a block whose bytes aren't all there. A file mark has none.
+pub fn torn_in_place_of(entry: Entry) -> Entry
+    requires { IsEntry entry }
+    ensures size { IsEntry result }
+{
+    match entry {
+        Entry::Block { place, .. } => Entry::Torn { place },
+        Entry::Mark { .. } | Entry::Torn { .. } => entry,
+    }
+}
+
+pub fn is_torn(entry: &Entry) -> bool {
+    matches!(entry, Entry::Torn { .. })
+}
+
+/// Whether an item begins below the end of the item before it. What reads as Torn has neither a beginning nor an end.
+pub fn is_below(entry: &Entry, before: &Entry) -> bool {
+    match (entry, before) {
+        (Entry::Torn { .. }, _) | (_, Entry::Torn { .. }) => false,
+        (Entry::Block { place, .. } | Entry::Mark { place }, _) => *place < end_of(before),
+    }
+}
+
 /// One byte for the kind, three zeros, the length and the place. Both numbers begin with their highest byte.
 pub fn entry_bytes(entry: Entry) -> [u8; 16] {
     let (kind, length, place) = match entry {

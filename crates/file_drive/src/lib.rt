@@ -15,4 +15,6 @@ mod partition;
 pub use drive::FileDrive;
 
 #[cfg(test)]
+mod recorded;
+#[cfg(test)]
 mod tests;

@@ -3,7 +3,9 @@ ghost use Rattle.std.specs.Prelude.{◌≡◌, ◌≤◌, ◌<◌, ◌^◌, leng
 ghost use Rattle.file_drive.specs.Entries.{IsEntry};
 ghost use Rattle.tape_drive.specs.Commands.{FillsBuffer};
 
-use crate::entry::{ENTRY, Entry, entry_bytes, entry_from};
+use crate::entry::{
+    ENTRY, Entry, end_of, entry_bytes, entry_from, is_below, is_torn, torn_in_place_of,
+};
 use crate::files::{len, read_at, shorten, sync, write_at};
 use std::fs::OpenFile;
 use std::io::{self, ErrorKind, Read, Seek, Write};
@@ -14,11 +16,17 @@ use tape_drive::Got;
 pub struct Partition<F> {
     map: Option<F>,
     dat: Option<F>,
+    /// How many positions, from the first one on, are in order and have all their bytes, or are put down as Torn.
+    settled: u64,
 }
 
 impl<F: Read + Write + Seek + OpenFile> Partition<F> {
     pub fn new(map: Option<F>, dat: Option<F>) -> Partition<F> {
-        Partition { map, dat }
+        Partition {
+            map,
+            dat,
+            settled: 0,
+        }
     }
 
     /// How many positions have an item. A ragged end of the map counts for nothing.
@@ -72,18 +80,28 @@ impl<F: Read + Write + Seek + OpenFile> Partition<F> {
         sync(&self.map)
     }
 
-    // What the map says of a position that it has. A block whose bytes aren't all there is Torn.
+    // What the map says of a position that it has. A place below the end of what is before it is a fault.
     fn entry(&mut self, pos: u64) -> io::Result<Entry>
+        requires inside { pos < 2 ^ 40 }
+        ensures size { IfOk result IsEntry }
+    {
+        let entry = self.found(pos)?;
+        if pos > 0 && is_below(&entry, &self.found(pos - 1)?) {
+            return Err(ErrorKind::InvalidData.into());
+        }
+        Ok(entry)
+    }
+
+    // The same by itself. A block whose bytes aren't all there is Torn.
+    fn found(&mut self, pos: u64) -> io::Result<Entry>
         requires inside { pos < 2 ^ 40 }
         ensures size { IfOk result IsEntry }
     {
         let mut bytes = [0u8; 16];
         read_at(&mut self.map, pos * ENTRY, &mut bytes)?;
         let entry = entry_from(&bytes);
-        if let Entry::Block { place, length } = entry {
-            if len(&self.dat)? < place.saturating_add(u64::from(length)) {
-                return Ok(Entry::Torn { place });
-            }
+        if len(&self.dat)? < end_of(&entry) {
+            return Ok(torn_in_place_of(entry));
         }
         Ok(entry)
     }
@@ -120,21 +138,50 @@ impl<F: Read + Write + Seek + OpenFile> Partition<F> {
         Ok(end)
     }
 
-    // Where the bytes before a position end. Behind one that reads as Torn nothing may fill up its bytes, so it is
-    // put down as Torn, with no bytes, at the end of the file.
+    // Where the bytes before a position end. Each position before it is gone through once.
     fn end_before(&mut self, pos: u64) -> io::Result<u64>
+        requires inside { pos < 2 ^ 40 }
+    {
+        let settled = self.settled.min(pos);
+        let mut end = self.end_at(settled)?;
+        let mut is_mended = false;
+        for at in settled..pos {
+            let entry = self.found(at)?;
+            is_mended = is_mended || is_torn(&entry);
+            end = self.settle(at, entry, end)?;
+        }
+        if is_mended {
+            sync(&self.map)?;
+        }
+        self.settled = pos;
+        Ok(end)
+    }
+
+    // Where what is before a position ends that is settled up to it.
+    fn end_at(&mut self, pos: u64) -> io::Result<u64>
         requires inside { pos < 2 ^ 40 }
     {
         if pos == 0 {
             return Ok(0);
         }
-        match self.entry(pos - 1)? {
-            Entry::Block { place, length } => Ok(place.saturating_add(u64::from(length))),
-            Entry::Mark { place } => Ok(place),
+        Ok(end_of(&self.found(pos - 1)?))
+    }
+
+    // Where a position ends, of which what is before it ends at a place. One that reads as Torn is put down as Torn,
+    // with no bytes, so that nothing that is written behind it fills it up.
+    fn settle(&mut self, pos: u64, entry: Entry, end: u64) -> io::Result<u64>
+        requires inside { pos < 2 ^ 40 }
+    {
+        match entry {
             Entry::Torn { .. } => {
-                let place = len(&self.dat)?;
-                self.put(pos - 1, Entry::Torn { place })?;
-                Ok(place)
+                self.put(pos, Entry::Torn { place: end })?;
+                Ok(end)
+            }
+            Entry::Block { place, .. } | Entry::Mark { place } => {
+                if place < end {
+                    return Err(ErrorKind::InvalidData.into());
+                }
+                Ok(end_of(&entry))
             }
         }
     }

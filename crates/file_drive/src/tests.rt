@@ -1,32 +1,65 @@
-// The drive over folders that the tests make.
-ghost use Rattle.std.specs.Prelude.{◌≡◌, ◌≤◌, ◌<◌, ◌+◌, IfSome, length};
+// The drive over folders that the tests make and remove.
+ghost use Rattle.std.specs.Prelude.{◌≡◌, ◌≤◌, ◌<◌, ◌+◌, IfOk, IfSome, length};
 ghost use Rattle.tape_types.specs.Cartridges.{capacity, items_of};
 
 use crate::FileDrive;
-use std::fs;
+use crate::recorded::Recorded;
+use mount_recover::read_labels;
+use std::alloc::Global;
+use std::cell::RefCell;
+use std::io::ErrorKind;
+use std::process::Abort;
+use std::rc::Rc;
 use std::test::Fail;
+use std::{env, fs};
 use tape_drive::{Drive, DriveErr, Got};
 use tape_types::{Note, Part, Place};
 
-fn make_folder(rt: &HostRuntime, folder: &str) -> Result<(), Fail> {
-    let _ = fs::remove_dir_all(rt, folder);
-    fs::create_dir(rt, folder)?;
-    Ok(())
+// A new folder among the system's temporary ones.
+fn make_folder(rt: &HostRuntime) -> Result<String, Fail> {
+    let parent = env::temp_dir(rt)?;
+    for n in 0..10_000u32 {
+        let folder = format!(in rt.alloc(); "{}/file_drive_test_{n}", parent.as_str())?;
+        match fs::create_dir(rt, folder.as_str()) {
+            Ok(()) => return Ok(folder),
+            Err(error) if error.kind() == ErrorKind::AlreadyExists => {}
+            Err(error) => return Err(error.into()),
+        }
+    }
+    Err("there are too many folders".into())
+}
+
+fn expect(holds: bool, what: &str) -> Result<(), Fail> {
+    if holds {
+        return Ok(());
+    }
+    Err(what.into())
+}
+
+// Ends a test in its folder.
+fn end_in(rt: &HostRuntime, folder: &str, outcome: Result<(), Fail>) -> Result<(), Fail> {
+    let removed = fs::remove_dir_all(rt, folder);
+    outcome?;
+    Ok(removed?)
 }
 
 fn open(rt: &HostRuntime, folder: &str) -> Result<FileDrive<HostRuntime>, Fail> {
     Ok(FileDrive::new(rt.clone()?, String::from_str(rt.alloc(), folder)?))
 }
 
-// Whether a drive that has just been made finds this at a place.
-fn reads(rt: &HostRuntime, folder: &str, place: Place, got: Got, bytes: &[u8]) -> Result<bool, Fail>
-    requires { place.pos < capacity place.part (record { cap_ip = 65536; cap_dp = 1048576 }) }
-{
-    let mut drive = open(rt, folder)?;
-    let mut buf = Vec::with_capacity(rt.alloc(), 1_048_576)?;
-    drive.locate(place)?;
-    let answer = drive.read(&mut buf)?;
-    Ok(answer == got && buf.as_slice() == bytes)
+fn file(rt: &HostRuntime, folder: &str, name: &str) -> Result<Vec<u8>, Fail> {
+    let path = format!(in rt.alloc(); "{folder}/{name}")?;
+    Ok(fs::read(rt, path.as_str())?)
+}
+
+fn put_file(rt: &HostRuntime, folder: &str, name: &str, bytes: &[u8]) -> Result<(), Fail> {
+    let path = format!(in rt.alloc(); "{folder}/{name}")?;
+    Ok(fs::write(rt, path.as_str(), bytes)?)
+}
+
+fn is_missing(rt: &HostRuntime, folder: &str, name: &str) -> Result<bool, Fail> {
+    let path = format!(in rt.alloc(); "{folder}/{name}")?;
+    Ok(fs::symlink_metadata(rt, path.as_str()).is_err())
 }
 
 fn ip(pos: u64) -> Place
@@ -49,6 +82,52 @@ fn dp(pos: u64) -> Place
     }
 }
 
+// What stands at a place: a block's bytes, `m`, `t`, or `!` where it can't be read; at the end nothing.
+fn show(
+    alloc: Global,
+    drive: &mut FileDrive<HostRuntime>,
+    place: Place,
+    text: &mut String,
+) -> Result<(), Fail>
+    requires { place.pos < capacity place.part (record { cap_ip = 65536; cap_dp = 1048576 }) }
+{
+    let mut buf = Vec::with_capacity(alloc, 1_048_576)?;
+    match drive.locate(place) {
+        Ok(()) => match drive.read(&mut buf) {
+            Ok(Got::Block) => show_bytes(buf.as_slice(), text),
+            Ok(Got::Mark) => Ok(text.push_str("m ")?),
+            Ok(Got::Torn) => Ok(text.push_str("t ")?),
+            Ok(Got::End) => Ok(()),
+            Err(_) => Ok(text.push_str("! ")?),
+        },
+        Err(_) => Ok(()),
+    }
+}
+
+fn show_bytes(bytes: &[u8], text: &mut String) -> Result<(), Fail> {
+    for byte in bytes {
+        text.push(char::from(*byte))?;
+    }
+    text.push(' ')?;
+    Ok(())
+}
+
+// What a drive that has just been made reads in a partition, at its first six positions.
+fn reading(rt: &HostRuntime, folder: &str, part: Part) -> Result<String, Fail> {
+    let mut drive = open(rt, folder)?;
+    let mut text = String::new(rt.alloc());
+    for pos in 0..6u64 {
+        show(rt.alloc(), &mut drive, Place { part, pos }, &mut text)?;
+    }
+    Ok(text)
+}
+
+fn expect_reading(rt: &HostRuntime, folder: &str, part: Part, want: &str) -> Result<(), Fail> {
+    let found = reading(rt, folder, part)?;
+    expect(found.as_str() == want, want)?;
+    Ok(())
+}
+
 // A block, a mark and a block, from a place on.
 fn write_three<D: Drive>(drive: &mut D, place: Place) -> Result<(), DriveErr>
     requires within { IfSome (D.held drive.old) (λ c. place.pos ≤ length (items_of place.part c)) }
@@ -60,55 +139,69 @@ fn write_three<D: Drive>(drive: &mut D, place: Place) -> Result<(), DriveErr>
     drive.write(b"three")
 }
 
-fn cut_at_one(drive: &mut FileDrive<HostRuntime>) -> Result<(), DriveErr> {
-    drive.locate(Place {
-        part: Part::Dp,
-        pos: 1,
-    })?;
-    drive.write(b"two")?;
-    drive.flush()
+// A block at a place.
+fn write_at<D: Drive>(drive: &mut D, place: Place, bytes: &[u8]) -> Result<(), DriveErr>
+    requires within { IfSome (D.held drive.old) (λ c. place.pos ≤ length (items_of place.part c)) }
+    requires room { place.pos < capacity place.part (D.limits drive.old) }
+    requires some { 1 ≤ length bytes.now }
+    requires size { length bytes.now ≤ 1048576 }
+{
+    drive.locate(place)?;
+    drive.write(bytes)
 }
 
-const KEPT: &str = "file_drive_kept";
+fn keep_and_cut(rt: &HostRuntime, folder: &str) -> Result<(), Fail> {
+    let mut drive = open(rt, folder)?;
+    write_three(&mut drive, ip(0))?;
+    write_three(&mut drive, dp(0))?;
+    expect(drive.vcr()? == 6, "the reference after six items")?;
+    expect_reading(rt, folder, Part::Ip, "one m three ")?;
+    expect_reading(rt, folder, Part::Dp, "one m three ")?;
+    write_at(&mut drive, dp(1), b"two")?;
+    drive.flush()?;
+    expect(drive.vcr()? == 7, "the reference after seven items")?;
+    expect(drive.commands() == 13, "the number of commands")?;
+    expect(drive.faults() == 0, "no fault")?;
+    expect_reading(rt, folder, Part::Ip, "one m three ")?;
+    expect_reading(rt, folder, Part::Dp, "one two ")
+}
 
 #[test]
 fn items_are_kept_and_cut(rt: HostRuntime) -> Result<(), Fail> {
-    make_folder(&rt, KEPT)?;
-    let mut drive = open(&rt, KEPT)?;
-    write_three(&mut drive, ip(0))?;
+    let folder = make_folder(&rt)?;
+    let outcome = keep_and_cut(&rt, folder.as_str());
+    end_in(&rt, folder.as_str(), outcome)
+}
+
+const MAP: &[u8] =
+    b"B\0\0\0\0\0\0\x03\0\0\0\0\0\0\0\0M\0\0\0\0\0\0\0\0\0\0\0\0\0\0\x03B\0\0\0\0\0\0\x05\0\0\0\0\0\0\0\x03";
+
+fn check_format(rt: &HostRuntime, folder: &str) -> Result<(), Fail> {
+    let mut drive = open(rt, folder)?;
     write_three(&mut drive, dp(0))?;
-    assert_eq!(rt; drive.vcr()?, 6);
-    assert!(rt; reads(&rt, KEPT, ip(0), Got::Block, b"one")?);
-    assert!(rt; reads(&rt, KEPT, ip(1), Got::Mark, b"")?);
-    assert!(rt; reads(&rt, KEPT, dp(2), Got::Block, b"three")?);
-    cut_at_one(&mut drive)?;
-    assert_eq!(rt; drive.vcr()?, 7);
-    assert_eq!(rt; drive.commands(), 13);
-    assert_eq!(rt; drive.faults(), 0);
-    assert!(rt; reads(&rt, KEPT, dp(0), Got::Block, b"one")?);
-    assert!(rt; reads(&rt, KEPT, dp(1), Got::Block, b"two")?);
-    assert!(rt; reads(&rt, KEPT, dp(2), Got::End, b"")?);
-    assert!(rt; reads(&rt, KEPT, ip(2), Got::Block, b"three")?);
+    drive.write_note(Part::Dp, &[8; 70])?;
+    expect(file(rt, folder, "dp.map")?.as_slice() == MAP, "the map")?;
+    expect(
+        file(rt, folder, "dp.dat")?.as_slice() == b"onethree".as_slice(),
+        "the bytes of the blocks",
+    )?;
+    let cm = file(rt, folder, "cm")?;
+    expect(
+        cm.len() == 150 && cm.as_slice().starts_with(b"\0\0\0\0\0\0\0\x03\0"),
+        "the reference and no first attribute",
+    )?;
+    expect(
+        cm.as_slice().ends_with(&[8; 70]) && cm.as_slice().get(79).copied() == Some(1),
+        "the second attribute",
+    )?;
     Ok(())
 }
 
-// The bytes of the files after the test above.
 #[test]
 fn files_are_of_their_format(rt: HostRuntime) -> Result<(), Fail> {
-    make_folder(&rt, "file_drive_format")?;
-    let mut drive = open(&rt, "file_drive_format")?;
-    write_three(&mut drive, dp(0))?;
-    drive.write_note(Part::Dp, &[8; 70])?;
-    let map = fs::read(&rt, "file_drive_format/dp.map")?;
-    let want =
-        b"B\0\0\0\0\0\0\x03\0\0\0\0\0\0\0\0M\0\0\0\0\0\0\0\0\0\0\0\0\0\0\x03B\0\0\0\0\0\0\x05\0\0\0\0\0\0\0\x03";
-    assert!(rt; map.as_slice() == want.as_slice());
-    let dat = fs::read(&rt, "file_drive_format/dp.dat")?;
-    assert!(rt; dat.as_slice() == b"onethree".as_slice());
-    let cm = fs::read(&rt, "file_drive_format/cm")?;
-    assert!(rt; cm.len() == 150 && cm.as_slice().starts_with(b"\0\0\0\0\0\0\0\x03\0"));
-    assert!(rt; cm.as_slice().ends_with(&[8; 70]) && cm[79] == 1);
-    Ok(())
+    let folder = make_folder(&rt)?;
+    let outcome = check_format(&rt, folder.as_str());
+    end_in(&rt, folder.as_str(), outcome)
 }
 
 fn is_note(note: Note, want: u8) -> bool {
@@ -118,129 +211,379 @@ fn is_note(note: Note, want: u8) -> bool {
     }
 }
 
+fn check_notes(rt: &HostRuntime, folder: &str) -> Result<(), Fail> {
+    let mut drive = open(rt, folder)?;
+    expect(
+        is_note(drive.read_note(Part::Ip)?, 0),
+        "no attribute at first",
+    )?;
+    drive.write_note(Part::Ip, &[7; 70])?;
+    expect(
+        is_note(drive.read_note(Part::Dp)?, 0),
+        "one attribute alone",
+    )?;
+    drive.write_note(Part::Dp, &[8; 70])?;
+    let mut again = open(rt, folder)?;
+    expect(
+        is_note(again.read_note(Part::Ip)?, 7),
+        "the first attribute",
+    )?;
+    expect(is_note(again.read_note(Part::Dp)?, 8), "the second one")?;
+    expect(again.vcr()? == 0, "the reference")?;
+    Ok(())
+}
+
 #[test]
 fn attributes_are_kept_by_partition(rt: HostRuntime) -> Result<(), Fail> {
-    make_folder(&rt, "file_drive_notes")?;
-    let mut drive = open(&rt, "file_drive_notes")?;
-    assert!(rt; is_note(drive.read_note(Part::Ip)?, 0));
-    drive.write_note(Part::Ip, &[7; 70])?;
-    assert!(rt; is_note(drive.read_note(Part::Dp)?, 0));
-    drive.write_note(Part::Dp, &[8; 70])?;
-    let mut again = open(&rt, "file_drive_notes")?;
-    assert!(rt; is_note(again.read_note(Part::Ip)?, 7));
-    assert!(rt; is_note(again.read_note(Part::Dp)?, 8));
-    assert_eq!(rt; again.vcr()?, 0);
-    Ok(())
+    let folder = make_folder(&rt)?;
+    let outcome = check_notes(&rt, folder.as_str());
+    end_in(&rt, folder.as_str(), outcome)
 }
 
 #[test]
 fn a_missing_folder_is_a_fault_of_the_first_command(rt: HostRuntime) -> Result<(), Fail> {
-    let _ = fs::remove_dir_all(&rt, "file_drive_late");
-    let mut drive = open(&rt, "file_drive_late")?;
+    let folder = make_folder(&rt)?;
+    fs::remove_dir(&rt, folder.as_str())?;
+    let mut drive = open(&rt, folder.as_str())?;
     assert!(rt; drive.vcr().is_err());
     assert_eq!(rt; drive.faults(), 1);
     assert_eq!(rt; drive.commands(), 1);
-    fs::create_dir(&rt, "file_drive_late")?;
-    assert_eq!(rt; drive.vcr()?, 0);
-    assert!(rt; drive.locate(dp(1)).is_err());
+    fs::create_dir(&rt, folder.as_str())?;
+    let found = drive.vcr();
+    let past_the_end = drive.locate(dp(1));
+    fs::remove_dir(&rt, folder.as_str())?;
+    assert_eq!(rt; found, Ok(0));
+    assert!(rt; past_the_end.is_err());
     assert_eq!(rt; drive.faults(), 2);
-    Ok(())
-}
-
-#[test]
-fn reading_makes_no_file(rt: HostRuntime) -> Result<(), Fail> {
-    make_folder(&rt, "file_drive_read")?;
-    let mut drive = open(&rt, "file_drive_read")?;
-    assert_eq!(rt; drive.vcr()?, 0);
-    drive.locate(dp(0))?;
-    assert!(rt; reads(&rt, "file_drive_read", ip(0), Got::End, b"")?);
-    assert!(rt; fs::read(&rt, "file_drive_read/cm").is_err());
-    assert!(rt; fs::read(&rt, "file_drive_read/dp.map").is_err());
-    drive.flush()?;
-    assert!(rt; fs::read(&rt, "file_drive_read/dp.map")?.is_empty());
     let mut nowhere = open(&rt, "")?;
     assert!(rt; nowhere.vcr().is_err());
     Ok(())
 }
 
-const DAMAGED: &str = "file_drive_damaged";
+// What a map says of each position: the first byte, the length and the place; and how many bytes stand behind that.
+type Map = (&'static [(u8, u32, u64)], u8);
 
-const TORN: &str = "file_drive_torn";
+fn map_bytes(alloc: Global, map: &Map) -> Result<Vec<u8>, Fail> {
+    let mut bytes = Vec::new(alloc);
+    for (kind, length, place) in map.0 {
+        bytes.extend_from_slice(&[*kind, 0, 0, 0])?;
+        bytes.extend_from_slice(&length.to_be_bytes())?;
+        bytes.extend_from_slice(&place.to_be_bytes())?;
+    }
+    for _ in 0..map.1 {
+        bytes.push(b'B')?;
+    }
+    Ok(bytes)
+}
 
-// Whether a drive finds this at position 1 of these files.
-fn reads_files(
+const B: u8 = b'B';
+
+const M: u8 = b'M';
+
+// A map and the bytes of the blocks; what stands there, and how many positions there are; and what stands there after
+// a block of nine bytes was to be written behind them, once and once more.
+const DAMAGED: [(Map, &[u8], &str, u64, &str); 14] = [
+    (
+        (&[(B, 3, 0), (M, 0, 3)], 0),
+        b"abc",
+        "abc m ",
+        2,
+        "abc m 123456789 ",
+    ),
+    (
+        (&[(M, 0, 0), (B, 2, 1)], 15),
+        b"abc",
+        "m bc ",
+        2,
+        "m bc 123456789 ",
+    ),
+    // a place below the end of the block before it
+    ((&[(B, 3, 0), (M, 0, 0)], 0), b"abc", "abc ! ", 2, "abc ! "),
+    ((&[(B, 3, 0), (B, 1, 2)], 0), b"abc", "abc ! ", 2, "abc ! "),
+    (
+        (&[(B, 3, 0), (0, 0, 9), (M, 0, 2)], 0),
+        b"abc",
+        "abc t m ",
+        3,
+        "abc t m ",
+    ),
+    ((&[(M, 0, 2), (M, 0, 1)], 0), b"abc", "m ! ", 2, "m ! "),
+    // a file mark behind the end of the file
+    ((&[(B, 1, 0), (M, 0, 9)], 0), b"abc", "a m ", 2, "a m "),
+    // missing bytes
+    (
+        (&[(B, 3, 0), (B, 3, 3)], 0),
+        b"a",
+        "t t ",
+        2,
+        "t t 123456789 ",
+    ),
+    (
+        (&[(B, 1, 0), (B, 3, 1), (B, 2, 4)], 0),
+        b"ab",
+        "a t t ",
+        3,
+        "a t t 123456789 ",
+    ),
+    (
+        (&[(M, 0, 0), (B, 2, 1)], 0),
+        b"ab",
+        "m t ",
+        2,
+        "m t 123456789 ",
+    ),
+    // an unknown first byte, lengths out of range, a place past all files
+    (
+        (&[(M, 0, 0), (98, 2, 1)], 0),
+        b"abc",
+        "m t ",
+        2,
+        "m t 123456789 ",
+    ),
+    (
+        (&[(M, 0, 0), (B, 0, 1)], 0),
+        b"abc",
+        "m t ",
+        2,
+        "m t 123456789 ",
+    ),
+    (
+        (&[(M, 0, 0), (B, 1048577, 1)], 0),
+        b"abc",
+        "m t ",
+        2,
+        "m t 123456789 ",
+    ),
+    (
+        (&[(M, 0, 0), (B, 2, 0xffff_ffff_ffff_ffff)], 0),
+        b"abc",
+        "m t ",
+        2,
+        "m t 123456789 ",
+    ),
+];
+
+fn expect_damage(
     rt: &HostRuntime,
     folder: &str,
-    map: &[u8],
-    dat: &[u8],
-    got: Got,
-    bytes: &[u8],
-) -> Result<bool, Fail> {
-    make_folder(rt, folder)?;
-    fs::write(rt, format!(in rt.alloc(); "{folder}/dp.map")?.as_str(), map)?;
-    fs::write(rt, format!(in rt.alloc(); "{folder}/dp.dat")?.as_str(), dat)?;
-    reads(rt, folder, dp(1), got, bytes)
+    row: &(Map, &[u8], &str, u64, &str),
+) -> Result<(), Fail> {
+    put_file(
+        rt,
+        folder,
+        "dp.map",
+        map_bytes(rt.alloc(), &row.0)?.as_slice(),
+    )?;
+    put_file(rt, folder, "dp.dat", row.1)?;
+    expect_reading(rt, folder, Part::Dp, row.2)?;
+    let mut drive = open(rt, folder)?;
+    let place = dp(row.3.min(9));
+    let is_written = write_at(&mut drive, place, b"123456789").is_ok();
+    expect_reading(rt, folder, Part::Dp, row.4)?;
+    let is_written_again = write_at(&mut drive, place, b"123456789").is_ok();
+    expect(
+        is_written == (row.2 != row.4) && is_written_again == is_written,
+        row.2,
+    )?;
+    expect_reading(rt, folder, Part::Dp, row.4)
 }
 
-// An entry for a mark, and one whose bytes are given by the row.
-const ONE: &[u8] = b"M\0\0\0\0\0\0\0\0\0\0\0\0\0\0\0B\0\0\0\0\0\0\x02\0\0\0\0\0\0\0\x01";
-
-const KIND: &[u8] = b"M\0\0\0\0\0\0\0\0\0\0\0\0\0\0\0b\0\0\0\0\0\0\x02\0\0\0\0\0\0\0\x01";
-
-const NONE: &[u8] = b"M\0\0\0\0\0\0\0\0\0\0\0\0\0\0\0B\0\0\0\0\0\0\0\0\0\0\0\0\0\0\x01";
-
-const LONG: &[u8] = b"M\0\0\0\0\0\0\0\0\0\0\0\0\0\0\0B\0\0\0\0\x10\0\x01\0\0\0\0\0\0\0\x01";
-
-const AFAR: &[u8] =
-    b"M\0\0\0\0\0\0\0\0\0\0\0\0\0\0\0B\0\0\0\0\0\0\x02\xff\xff\xff\xff\xff\xff\xff\xff";
-
-#[test]
-fn damaged_entries_read_as_torn(rt: HostRuntime) -> Result<(), Fail> {
-    assert!(rt; reads_files(&rt, DAMAGED, ONE, b"abc", Got::Block, b"bc")?);
-    assert!(rt; reads_files(&rt, DAMAGED, &ONE[..31], b"abc", Got::End, b"")?);
-    assert!(rt; reads_files(&rt, DAMAGED, ONE, b"ab", Got::Torn, b"")?);
-    assert!(rt; reads_files(&rt, DAMAGED, KIND, b"abc", Got::Torn, b"")?);
-    assert!(rt; reads_files(&rt, DAMAGED, NONE, b"abc", Got::Torn, b"")?);
-    assert!(rt; reads_files(&rt, DAMAGED, LONG, b"abc", Got::Torn, b"")?);
-    assert!(rt; reads_files(&rt, DAMAGED, AFAR, b"abc", Got::Torn, b"")?);
-    Ok(())
-}
-
-fn write_two_at_two(drive: &mut FileDrive<HostRuntime>) -> Result<(), DriveErr> {
-    drive.locate(Place {
-        part: Part::Dp,
-        pos: 2,
-    })?;
-    drive.write(b"xy")
-}
-
-#[test]
-fn a_write_behind_a_torn_does_not_mend_it(rt: HostRuntime) -> Result<(), Fail> {
-    assert!(rt; reads_files(&rt, TORN, ONE, b"ab", Got::Torn, b"")?);
-    let mut drive = open(&rt, TORN)?;
-    write_two_at_two(&mut drive)?;
-    assert!(rt; reads(&rt, TORN, dp(1), Got::Torn, b"")?);
-    assert!(rt; reads(&rt, TORN, dp(2), Got::Block, b"xy")?);
+fn expect_damages(rt: &HostRuntime, folder: &str) -> Result<(), Fail> {
+    for row in &DAMAGED {
+        expect_damage(rt, folder, row)?;
+    }
     Ok(())
 }
 
 #[test]
-fn a_faulty_memory_is_a_fault(rt: HostRuntime) -> Result<(), Fail> {
-    make_folder(&rt, "file_drive_memory")?;
-    fs::write(&rt, "file_drive_memory/cm", [0u8; 149].as_slice())?;
-    let mut drive = open(&rt, "file_drive_memory")?;
-    assert!(rt; drive.vcr().is_err());
+fn a_damaged_map_is_told_and_not_made_worse(rt: HostRuntime) -> Result<(), Fail> {
+    let folder = make_folder(&rt)?;
+    let outcome = expect_damages(&rt, folder.as_str());
+    end_in(&rt, folder.as_str(), outcome)
+}
+
+// A damaged memory is told by the first command that reads or changes it, and by no other.
+fn check_memory(rt: &HostRuntime, folder: &str) -> Result<(), Fail> {
+    put_file(rt, folder, "cm", &[0u8; 149])?;
+    let mut drive = open(rt, folder)?;
+    drive.locate(dp(0))?;
+    drive.flush()?;
+    expect(drive.faults() == 0, "no fault")?;
+    expect(drive.vcr().is_err(), "the reference is read")?;
+    expect(drive.read_note(Part::Ip).is_err(), "an attribute is read")?;
+    expect(
+        drive.write_note(Part::Ip, &[7; 70]).is_err(),
+        "an attribute is written",
+    )?;
+    expect(
+        write_three(&mut drive, dp(0)).is_err(),
+        "a block is written",
+    )?;
+    expect(drive.faults() == 4, "four commands have failed")?;
     let mut last = [0u8; 150];
     last[..8].copy_from_slice(&[255; 8]);
-    fs::write(&rt, "file_drive_memory/cm", last.as_slice())?;
-    assert_eq!(rt; drive.vcr()?, u64::MAX);
-    assert!(rt; write_three(&mut drive, dp(0)).is_err());
-    assert_eq!(rt; drive.faults(), 2);
-    assert_eq!(rt; drive.vcr()?, u64::MAX);
-    assert!(rt; reads(&rt, "file_drive_memory", dp(0), Got::End, b"")?);
-    fs::remove_file(&rt, "file_drive_memory/ip.map")?;
-    fs::create_dir(&rt, "file_drive_memory/ip.map")?;
-    let mut other = open(&rt, "file_drive_memory")?;
-    assert!(rt; other.flush().is_err());
+    put_file(rt, folder, "cm", &last)?;
+    expect(drive.vcr()? == u64::MAX, "the reference at its end")?;
+    expect(
+        write_three(&mut drive, dp(0)).is_err(),
+        "a block is written",
+    )?;
+    expect(drive.vcr()? == u64::MAX, "the reference at its end")?;
+    expect_reading(rt, folder, Part::Dp, "")?;
+    last[8] = 2;
+    put_file(rt, folder, "cm", &last)?;
+    expect(drive.vcr().is_err(), "the reference is read")?;
     Ok(())
+}
+
+#[test]
+fn a_damaged_memory_is_told(rt: HostRuntime) -> Result<(), Fail> {
+    let folder = make_folder(&rt)?;
+    let outcome = check_memory(&rt, folder.as_str());
+    end_in(&rt, folder.as_str(), outcome)
+}
+
+fn check_no_file(rt: &HostRuntime, folder: &str) -> Result<(), Fail> {
+    let path = format!(in rt.alloc(); "{folder}/ip.map")?;
+    fs::create_dir(rt, path.as_str())?;
+    let mut drive = open(rt, folder)?;
+    expect(drive.flush().is_err(), "a folder in place of a file")?;
+    fs::remove_dir(rt, path.as_str())?;
+    drive.flush()?;
+    expect(file(rt, folder, "dp.map")?.is_empty(), "an empty map")?;
+    Ok(())
+}
+
+#[test]
+fn what_is_no_file_is_a_fault(rt: HostRuntime) -> Result<(), Fail> {
+    let folder = make_folder(&rt)?;
+    let outcome = check_no_file(&rt, folder.as_str());
+    end_in(&rt, folder.as_str(), outcome)
+}
+
+const VOL1: &[u8] =
+    b"VOL1TAPE01L             LTFS                                                   4";
+
+const HEAD: &[u8] = b"<ltfslabel version=\"2.4.0\"><creator>ltfs_server 1.0.0</creator>";
+
+const TIME: &[u8] = b"<formattime>2024-01-02T03:04:05.000000000Z</formattime>";
+
+const UUID: &[u8] =
+    b"<volumeuuid>30a91a08-daae-48d1-ae75-69804e61d2ea</volumeuuid><location><partition>";
+
+const LETTERS: &[u8] =
+    b"</partition></location><partitions><index>a</index><data>b</data></partitions>";
+
+const TAIL: &[u8] = b"<blocksize>4096</blocksize><compression>false</compression></ltfslabel>";
+
+fn label(alloc: Global, letter: u8) -> Result<Vec<u8>, Fail>
+    ensures some { IfOk result (λ v. 1 ≤ length v.items) }
+    ensures size { IfOk result (λ v. length v.items ≤ 1048576) }
+{
+    let mut text = Vec::from_slice(alloc, HEAD)?;
+    text.extend_from_slice(TIME)?;
+    text.extend_from_slice(UUID)?;
+    text.push(letter)?;
+    text.extend_from_slice(LETTERS)?;
+    text.extend_from_slice(TAIL)?;
+    Ok(text)
+}
+
+fn write_label<D: Drive>(drive: &mut D, place: Place, label: &[u8]) -> Result<(), DriveErr>
+    requires within { IfSome (D.held drive.old) (λ c. place.pos ≤ length (items_of place.part c)) }
+    requires room { place.pos + 4 ≤ capacity place.part (D.limits drive.old) }
+    requires some { 1 ≤ length label.now }
+    requires size { length label.now ≤ 1048576 }
+{
+    drive.locate(place)?;
+    drive.write(VOL1)?;
+    drive.mark()?;
+    drive.write(label)?;
+    drive.mark()
+}
+
+fn expect_same(rt: &HostRuntime, folder: &str, name: &str, was: &[u8]) -> Result<(), Fail> {
+    expect(file(rt, folder, name)?.as_slice() == was, name)?;
+    Ok(())
+}
+
+// The files of a volume whose memory is missing are the same after its labels were read, and none is made.
+fn check_labels(rt: &HostRuntime, folder: &str) -> Result<(), Fail> {
+    let alloc = rt.alloc();
+    let mut drive = open(rt, folder)?;
+    write_label(&mut drive, ip(0), label(alloc, b'a')?.as_slice())?;
+    write_label(&mut drive, dp(0), label(alloc, b'b')?.as_slice())?;
+    fs::remove_file(rt, format!(in alloc; "{folder}/cm")?.as_str())?;
+    let ip_map = file(rt, folder, "ip.map")?;
+    let ip_dat = file(rt, folder, "ip.dat")?;
+    let dp_map = file(rt, folder, "dp.map")?;
+    let dp_dat = file(rt, folder, "dp.dat")?;
+    let mut other = open(rt, folder)?;
+    expect(
+        read_labels(alloc, &mut other).is_ok(),
+        "the labels are read",
+    )?;
+    expect_same(rt, folder, "ip.map", ip_map.as_slice())?;
+    expect_same(rt, folder, "ip.dat", ip_dat.as_slice())?;
+    expect_same(rt, folder, "dp.map", dp_map.as_slice())?;
+    expect_same(rt, folder, "dp.dat", dp_dat.as_slice())?;
+    expect(is_missing(rt, folder, "cm")?, "no memory is made")?;
+    Ok(())
+}
+
+#[test]
+fn reading_labels_changes_no_file(rt: HostRuntime) -> Result<(), Fail> {
+    let folder = make_folder(&rt)?;
+    let outcome = check_labels(&rt, folder.as_str());
+    end_in(&rt, folder.as_str(), outcome)
+}
+
+// The changes that were recorded since the last time.
+fn expect_changes(rt: &HostRuntime, record: &Rc<RefCell<Vec<u8>>>, want: &str) -> Result<(), Fail> {
+    match record.try_borrow_mut() {
+        Ok(mut record) => {
+            expect(record.as_slice() == want.as_bytes(), want)?;
+            record.clear();
+            Ok(())
+        }
+        Err(_) => Err("the record is lent".into()),
+    }
+}
+
+fn check_syncs(rt: &HostRuntime, folder: &str) -> Result<(), Fail> {
+    let alloc = rt.alloc();
+    let record = Rc::new(alloc, RefCell::new(Vec::new(alloc)))?;
+    let files = Recorded::new(rt.clone()?, record.clone()?);
+    let mut drive = FileDrive::new(files, String::from_str(alloc, folder)?);
+    expect(drive.vcr()? == 0, "the reference at first")?;
+    drive.locate(dp(0))?;
+    expect_changes(rt, &record, "")?;
+    // All is durable before the first change; the reference, before what it counts.
+    drive.write(b"one")?;
+    expect_changes(rt, &record, "sI si sD sd sm sf wm sm wD wd ")?;
+    drive.mark()?;
+    expect_changes(rt, &record, "wm sm wd ")?;
+    drive.flush()?;
+    expect_changes(rt, &record, "sI si sD sd sm ")?;
+    // What is cut off is gone for good before anything is put in its place.
+    write_at(&mut drive, dp(0), b"two")?;
+    expect_changes(rt, &record, "wm sm cd sd cD sD wD wd ")?;
+    drive.write_note(Part::Ip, &[7; 70])?;
+    expect_changes(rt, &record, "wm sm ")?;
+    // What reads as Torn is so for good before anything is written behind it.
+    put_file(
+        rt,
+        folder,
+        "ip.map",
+        map_bytes(alloc, &(&[(B, 3, 0), (B, 3, 3)], 0))?.as_slice(),
+    )?;
+    write_at(&mut drive, ip(2), b"three")?;
+    expect_changes(rt, &record, "wm sm wi wi si wI wi ")
+}
+
+#[test]
+fn what_has_to_be_durable_is_so_in_time(rt: HostRuntime) -> Result<(), Fail> {
+    let folder = make_folder(&rt)?;
+    let outcome = check_syncs(&rt, folder.as_str());
+    end_in(&rt, folder.as_str(), outcome)
 }
