@@ -1,4 +1,5 @@
+pub mod LabelClauses
+pub mod OutcomeLemmas
+pub mod PlainClauses
 pub mod RunLemmas
 pub mod WordLemmas
-pub mod OutcomeLemmas
-pub mod ClauseLemmas

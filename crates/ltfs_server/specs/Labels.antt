@@ -1,16 +1,15 @@
 -- The labels of a volume as they are printed, and why they were not read.
-use Rattle.std.specs.Prelude.{ℕ, ◌+◌, ◌-◌, ◌^◌, List, [], ◌∷◌, ◌++◌, Bool, true, false, codes, decimal}
-use Rattle.percent_encoding.specs.Percent.{percent_encode}
+use Rattle.std.specs.Prelude.{ℕ, List, [], ◌∷◌, ◌++◌, Bool, true, false, codes, decimal}
 use Rattle.tape_types.specs.Times.{time_text}
 use Rattle.tape_types.specs.Uuids.{uuid_text}
 use Rattle.tape_types.specs.declared.cartridges.Part.{Part}
 use Rattle.tape_types.specs.declared.cartridges.Part.TheVariants as parts
+use Rattle.session_script.specs.Escapes.{escaped}
 use Rattle.vol_label.specs.declared.Vol1.{Vol1}
 use Rattle.ltfs_label.specs.declared.Label.{Label}
 use Rattle.mount_recover.specs.declared.labels.Labels.{Labels}
 use Rattle.mount_recover.specs.declared.labels.MountErr.{MountErr}
 use Rattle.mount_recover.specs.declared.labels.MountErr.TheVariants as errors
-use Rattle.percent_encoding.specs.declared.ascii_set.AsciiSet.{AsciiSet}
 
 abbrev pub part_name : Part → List ℕ
 part_name parts.Ip = codes "ip"
@@ -20,13 +19,9 @@ abbrev pub truth_name : Bool → List ℕ
 truth_name true = codes "true"
 truth_name false = codes "false"
 
--- controls, the space and the percent sign: a bit for each byte below 128
-unfoldable pub escaped_bytes : AsciiSet
-escaped_bytes = record { mask = 2 ^ 32 - 1 + 2 ^ 32 + 2 ^ 37 + 2 ^ 127 }
-
 -- `PART VOLUME `, the volume's identifier with controls, spaces and percent signs escaped
 abbrev pub volume_text : Part → Vol1 → List ℕ
-volume_text part label = part_name part ++ codes " " ++ percent_encode escaped_bytes label.volume ++ codes " "
+volume_text part label = part_name part ++ codes " " ++ escaped label.volume ++ codes " "
 
 -- ` SIZE COMPRESSION `
 abbrev pub facts_text : Label → List ℕ
@@ -35,7 +30,8 @@ facts_text label = codes " " ++ decimal label.block ++ codes " " ++ truth_name l
 -- `PART VOLUME LETTER UUID SIZE COMPRESSION TIME`
 abbrev pub label_line : Part → Vol1 → Label → List ℕ
 label_line part vol1 label =
-    volume_text part vol1 ++ (label.location ∷ []) ++ codes " " ++ uuid_text label.uuid ++ facts_text label ++ time_text label.formatted ++ codes "\n"
+    volume_text part vol1 ++ (label.location ∷ []) ++ codes " " ++ uuid_text label.uuid ++ facts_text label
+    ++ time_text label.formatted ++ codes "\n"
 
 -- the line of the index partition, and that of the data partition
 abbrev pub labels_text : Labels → List ℕ
@@ -46,7 +42,8 @@ abbrev pub mount_text : MountErr → List ℕ
 mount_text (errors.Vol1 part) = codes "volume Vol1 " ++ part_name part ++ codes "\n"
 mount_text (errors.Label part) = codes "volume Label " ++ part_name part ++ codes "\n"
 mount_text errors.LabelsDiffer = codes "volume LabelsDiffer\n"
-mount_text (errors.Drive counts) = codes "drive " ++ (decimal counts.before ++ (codes " " ++ (decimal counts.after ++ codes "\n")))
+mount_text (errors.Drive counts) =
+    codes "drive " ++ (decimal counts.before ++ (codes " " ++ (decimal counts.after ++ codes "\n")))
 mount_text errors.NoMemory = codes "memory\n"
 
 -- 3 for a check that failed, 4 for a drive that failed, 7 for want of memory

@@ -5,7 +5,7 @@ use Rattle.std.specs.Str.{bytes_eq}
 use Rattle.tape_types.specs.Times.{time_text}
 use Rattle.tape_types.specs.declared.moments.Moment.{Moment}
 use Rattle.tape_edge.specs.Clocks.{IsSince1970}
-use Rattle.ltfs_server.specs.Headline.{IsLabel, IsPlain, IsPlainWords}
+use Rattle.ltfs_server.specs.Headline.{HasNoForm, IsLabel, IsPlainWords}
 use Rattle.ltfs_server.specs.declared.words.Command.{Command}
 use Rattle.ltfs_server.specs.declared.words.Command.TheVariants as commands
 use Rattle.ltfs_server.specs.declared.words.Form.{Form}
@@ -13,7 +13,7 @@ use Rattle.ltfs_server.specs.declared.words.Form.TheVariants as forms
 
 -- the words are those of `plain` with this moment, those of `label`, or of no form
 abbrev pub IsSpelledBy : List (String Global) → Option Command → Type 0
-IsSpelledBy words None = ¬ (IsPlain words) × ¬ (IsLabel words)
+IsSpelledBy words None = HasNoForm words
 IsSpelledBy words (Some (commands.Plain at)) = IsPlainWords words at
 IsSpelledBy words (Some commands.Label) = IsLabel words
 
@@ -30,5 +30,6 @@ is_label _ = false
 -- which form of `plain` words have
 abbrev pub form_of : List (List ℕ) → Form
 form_of (command ∷ []) = if bytes_eq command (codes "plain") then forms.Plain else forms.Other
-form_of (command ∷ option ∷ time ∷ []) = if bytes_eq command (codes "plain") && bytes_eq option (codes "--at") then forms.PlainAt else forms.Other
+form_of (command ∷ option ∷ time ∷ []) =
+    if bytes_eq command (codes "plain") && bytes_eq option (codes "--at") then forms.PlainAt else forms.Other
 form_of _ = forms.Other

@@ -1,30 +1,62 @@
 ghost use Rattle.std.specs.Prelude.{◌≡◌, ◌++◌, codes, IfOk, OnOk, string_bytes};
 ghost use Rattle.tape_types.specs.declared.cartridges.Cartridge.{Cartridge};
 ghost use Rattle.ltfs_server.specs.Labels.{facts_text, label_line, labels_text, mount_status, mount_text, part_name, truth_name, volume_text};
-ghost use Rattle.ltfs_server.specs.Outcomes.{IsLabelOutcome};
+ghost use Rattle.ltfs_server.specs.Outcomes.{IsLabelEnd, label_status, label_text};
 
-use crate::outcomes::Outcome;
+use crate::outcomes::bytes_of;
 use ltfs_label::Label;
 use mount_recover::{Labels, MountErr, read_labels};
-use percent_encoding::{AsciiSet, CONTROLS, ascii_set, percent_encode};
+use session_script::push_escaped;
 use std::alloc::Global;
 use tape_drive::Drive;
 use tape_types::{Bytes, NoMemory, Part, time_text, uuid_text};
 use vol_label::Vol1;
 
-/// The bytes of a volume's identifier that are escaped, beside those past ASCII.
-pub const ESCAPED: AsciiSet = ascii_set!(CONTROLS.add(b' ').add(b'%'));
+/// What `label` comes to.
+#[derive(Drop)]
+pub enum LabelEnd {
+    /// The labels were read.
+    Done(Labels),
+    /// They were not.
+    Mount(MountErr),
+}
+
+impl LabelEnd {
+    /// What is printed.
+    pub fn text(&self, alloc: Global) -> Result<Bytes, NoMemory>
+        ensures { IfOk result (λ text. text ≡ label_text self.now) }
+    {
+        match self {
+            LabelEnd::Done(labels) => labels_text(alloc, labels),
+            LabelEnd::Mount(error) => Ok(bytes_of(mount_text(alloc, *error)?)),
+        }
+    }
+
+    /// The status with which the program ends.
+    pub fn status(&self) -> u8
+        ensures { result ≡ label_status self.now }
+    {
+        match self {
+            LabelEnd::Done(_) => 0,
+            LabelEnd::Mount(error) => mount_status(*error),
+        }
+    }
+}
 
 /// Reads the labels of the cartridge, and writes nothing.
-pub fn run_label<D: Drive>(alloc: Global, drive: &mut D) -> Outcome
-    ensures outcome { IsLabelOutcome (D.held drive.old) (D.faults drive.old) (D.faults drive.new) result }
+pub fn run_label<D: Drive>(alloc: Global, drive: &mut D) -> LabelEnd
+    ensures end { IsLabelEnd (record {
+      held = D.held drive.old;
+      before = D.faults drive.old;
+      now = D.faults drive.new;
+    }) result }
     ensures held { D.held drive.new ≡ D.held drive.old }
     ensures limits { D.limits drive.new ≡ D.limits drive.old }
     ensures leaves { (image : Cartridge) → D.leaves drive.new image → D.leaves drive.old image }
 {
     match read_labels(alloc, drive) {
-        Ok(labels) => Outcome::Labels(labels),
-        Err(error) => Outcome::Mount(error),
+        Ok(labels) => LabelEnd::Done(labels),
+        Err(error) => LabelEnd::Mount(error),
     }
 }
 
@@ -58,13 +90,12 @@ fn push_line(
 }
 
 /// The partition and the volume's identifier.
-#[tactic(auto, unfolding(crate::specs::Labels::escaped_bytes))]
 fn volume_words(alloc: Global, part: Part, vol1: &Vol1) -> Result<String, NoMemory>
     ensures { IfOk result (λ words. string_bytes words ≡ volume_text part vol1.now) }
 {
     let name = part_name(part);
     let mut words = format!(in alloc; "{name} ")?;
-    percent_encode(&vol1.volume, ESCAPED).append_to(&mut words)?;
+    push_escaped(&mut words, &vol1.volume)?;
     words.push(' ')?;
     Ok(words)
 }

@@ -4,6 +4,7 @@
 mod ended;
 mod labels;
 mod outcomes;
+mod plain;
 mod server;
 mod session;
 #[cfg(test)]

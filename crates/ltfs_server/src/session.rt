@@ -1,7 +1,8 @@
-ghost use Rattle.std.specs.Prelude.{◌≡◌, ◌<◌, ◌^◌, length, IfOk, IfSome};
+ghost use Rattle.std.specs.Prelude.{◌≡◌, ℕ, ◌+◌, ◌<◌, ◌^◌, length, None, IfOk};
+ghost use Rattle.tape_types.specs.declared.moments.Moment.{Moment as Instant};
 ghost use Rattle.plain_tree.specs.Calls.{after};
 ghost use Rattle.session_script.specs.Replies.{IsReply};
-ghost use Rattle.ltfs_server.specs.Headline.{IsPlainRun, IsFirstMoment};
+ghost use Rattle.ltfs_server.specs.Headline.{IsMoment, IsPlainRun};
 ghost use Rattle.ltfs_server.specs.Sessions.{after_fate};
 
 use plain_tree::{Call, Fate, Placed, Plain};
@@ -19,9 +20,10 @@ pub fn run_script<C: Clock>(
     mut clock: C,
 ) -> Result<Log, NoMemory>
     requires { length script.now < 2 ^ 32 }
-    ensures { IfOk result (IsPlainRun script.now at (C.next clock)) }
+    ensures { IfOk result (IsPlainRun at (C.gives clock) script.now) }
 {
-    let mut tree = Plain::empty(alloc, moment(at, &mut clock))?;
+    let first = moment(at, &mut clock);
+    let mut tree = Plain::empty(alloc, first)?;
     let lines = script.lines();
     let mut history = Vec::with_capacity(alloc, lines.len())?;
     let mut replies = Vec::with_capacity(alloc, lines.len())?;
@@ -46,8 +48,8 @@ pub fn run_script<C: Clock>(
 
 /// The given moment, or else the clock's next.
 fn moment<C: Clock>(at: Option<Moment>, clock: &mut C) -> Moment
-    ensures first { IsFirstMoment at (C.next clock.old) result }
-    ensures given { IfSome at (λ m. result ≡ m) }
+    ensures given { IsMoment at (C.gives clock.old) 0 result }
+    ensures later { at ≡ None → (n : ℕ) (m : Instant) → C.gives clock.new n m → C.gives clock.old (n + 1) m }
 {
     match at {
         Some(at) => at,

@@ -11,11 +11,17 @@ use tape_types::{Bytes, Cartridge, Item, Limits, List, Moment, NoMemory, Note};
 const VOL1: &[u8] =
     b"VOL1TAPE01L             LTFS                                                   4";
 
-const IP: &[u8] =
-    b"<?xml version=\"1.0\" encoding=\"UTF-8\"?><ltfslabel version=\"2.4.0\"><creator>ltfs_server 1.0.0</creator><formattime>2024-01-02T03:04:05.000000000Z</formattime><volumeuuid>30a91a08-daae-48d1-ae75-69804e61d2ea</volumeuuid><location><partition>a</partition></location><partitions><index>a</index><data>b</data></partitions><blocksize>4096</blocksize><compression>false</compression></ltfslabel>";
+const IP: &[u8] = b"<?xml version=\"1.0\" encoding=\"UTF-8\"?><ltfslabel version=\"2.4.0\">\
+<creator>ltfs_server 1.0.0</creator><formattime>2024-01-02T03:04:05.000000000Z</formattime>\
+<volumeuuid>30a91a08-daae-48d1-ae75-69804e61d2ea</volumeuuid>\
+<location><partition>a</partition></location><partitions><index>a</index><data>b</data></partitions>\
+<blocksize>4096</blocksize><compression>false</compression></ltfslabel>";
 
-const DP: &[u8] =
-    b"<?xml version=\"1.0\" encoding=\"UTF-8\"?><ltfslabel version=\"2.4.0\"><creator>ltfs_server 1.0.0</creator><formattime>2024-01-02T03:04:05.000000000Z</formattime><volumeuuid>30a91a08-daae-48d1-ae75-69804e61d2ea</volumeuuid><location><partition>b</partition></location><partitions><index>a</index><data>b</data></partitions><blocksize>4096</blocksize><compression>false</compression></ltfslabel>";
+const DP: &[u8] = b"<?xml version=\"1.0\" encoding=\"UTF-8\"?><ltfslabel version=\"2.4.0\">\
+<creator>ltfs_server 1.0.0</creator><formattime>2024-01-02T03:04:05.000000000Z</formattime>\
+<volumeuuid>30a91a08-daae-48d1-ae75-69804e61d2ea</volumeuuid>\
+<location><partition>b</partition></location><partitions><index>a</index><data>b</data></partitions>\
+<blocksize>4096</blocksize><compression>false</compression></ltfslabel>";
 
 /// A partition by letters: `v` is the VOL1 record, `a` and `b` are the labels, and `m` is a mark.
 fn part(alloc: Global, letters: &[u8]) -> Result<List<Item>, NoMemory>
@@ -120,7 +126,8 @@ fn scripts_print_their_logs(rt: HostRuntime) -> Result<(), NoMemory> {
         &rt,
         alloc,
         "plain",
-        "1 create /f\n1 write /f 0 text:abcdefghij\n1 write /f 3 text:XY\n1 truncate /f 4\n1 truncate /f 8\n1 read /f 0 20\n",
+        "1 create /f\n1 write /f 0 text:abcdefghij\n1 write /f 3 text:XY\n1 truncate /f 4\n\
+1 truncate /f 8\n1 read /f 0 20\n",
         0,
         "0 1.0 ok\n1 1.1 ok\n2 1.2 ok\n3 1.3 ok\n4 1.4 ok\n5 1.5 bytes 8 6162635800000000\ndone 6\n",
     )?;
@@ -145,6 +152,29 @@ fn given_moments_are_printed(rt: HostRuntime) -> Result<(), NoMemory> {
         "1 create /a\n1 remove /a\n1 create /b\n1 write /b 10 text:hi\n1 stat /b\n",
         0,
         "0 1.0 ok\n1 1.1 ok\n2 1.2 ok\n3 1.3 ok\n4 1.4 file 3 12 2024-01-02T03:04:05.000000000Z\ndone 5\n",
+    )?;
+    Ok(())
+}
+
+#[test]
+fn moments_of_a_clock_are_printed(rt: HostRuntime) -> Result<(), NoMemory> {
+    let alloc = rt.alloc();
+    check(
+        &rt,
+        alloc,
+        "plain",
+        "1 stat /\n",
+        0,
+        "0 1.0 dir 1 1970-01-01T00:00:00.000000000Z\ndone 1\n",
+    )?;
+    check(
+        &rt,
+        alloc,
+        "plain",
+        "1 create /a\n2 create /b\n1 stat /a\n2 write /b 0 text:x\n2 stat /b\n1 stat /\n",
+        0,
+        "0 1.0 ok\n1 2.0 ok\n2 1.1 file 2 0 1970-01-01T00:00:01.000000000Z\n3 2.1 ok\n\
+4 2.2 file 3 1 1970-01-01T00:00:04.000000000Z\n5 1.2 dir 1 1970-01-01T00:00:02.000000000Z\ndone 6\n",
     )?;
     Ok(())
 }
@@ -222,7 +252,8 @@ fn check_label<R: Abort>(
 fn labels_are_printed(rt: HostRuntime) -> Result<(), NoMemory> {
     let alloc = rt.alloc();
     let both =
-        "ip TAPE01 a 30a91a08-daae-48d1-ae75-69804e61d2ea 4096 false 2024-01-02T03:04:05.000000000Z\ndp TAPE01 b 30a91a08-daae-48d1-ae75-69804e61d2ea 4096 false 2024-01-02T03:04:05.000000000Z\n";
+        "ip TAPE01 a 30a91a08-daae-48d1-ae75-69804e61d2ea 4096 false 2024-01-02T03:04:05.000000000Z\n\
+dp TAPE01 b 30a91a08-daae-48d1-ae75-69804e61d2ea 4096 false 2024-01-02T03:04:05.000000000Z\n";
     check_label(&rt, alloc, "label D", b"vmam", b"vmbm", 0, both)?;
     check_label(&rt, alloc, "label D", b"", b"vmbm", 3, "volume Vol1 ip\n")?;
     check_label(&rt, alloc, "label D", b"vmam", b"v", 3, "volume Vol1 dp\n")?;

@@ -1,0 +1,102 @@
+ghost use Rattle.std.specs.Prelude.{◌≡◌, ◌++◌, IfOk, string_bytes};
+ghost use Rattle.ltfs_server.specs.Headline.{done_text};
+ghost use Rattle.ltfs_server.specs.Outcomes.{IsPlainEnd, plain_log, plain_status, plain_text};
+
+use crate::outcomes::bytes_of;
+use crate::session::run_script;
+use session_script::{Log, ScriptErr, ScriptFault, log_text, read_script};
+use std::alloc::Global;
+use tape_edge::{Clock, ReadFailure, Source, read_input};
+use tape_types::{Bytes, Moment, NoMemory, Twin};
+
+/// No script has more bytes.
+const SCRIPT_LIMIT: usize = 16_777_216;
+
+/// What `plain` comes to.
+#[derive(Drop)]
+pub enum PlainEnd {
+    /// The calls were run.
+    Done(Log),
+    /// The input is no script.
+    Script(ScriptErr),
+    /// The source failed: its count of faults before and after.
+    Source(Twin),
+    /// Memory was refused; with the log, where the calls had been run.
+    NoMemory(Option<Log>),
+}
+
+impl PlainEnd {
+    /// What is printed.
+    pub fn text(&self, alloc: Global) -> Result<Bytes, NoMemory>
+        ensures { IfOk result (λ text. text ≡ plain_text self.now) }
+    {
+        match self {
+            PlainEnd::Done(log) => done_text(alloc, log),
+            PlainEnd::Script(refusal) => {
+                let line = refusal.line;
+                let why = refusal.why;
+                Ok(bytes_of(format!(in alloc; "script {line} {why}\n")?))
+            }
+            PlainEnd::Source(counts) => {
+                let before = counts.before;
+                let after = counts.after;
+                Ok(bytes_of(format!(in alloc; "source {before} {after}\n")?))
+            }
+            PlainEnd::NoMemory(_) => Ok(bytes_of(format!(in alloc; "memory\n")?)),
+        }
+    }
+
+    /// The status with which the program ends, and the log, where the calls were run.
+    pub fn into_parts(self) -> (u8, Option<Log>)
+        ensures status { result.0 ≡ plain_status self }
+        ensures log { result.1 ≡ plain_log self }
+    {
+        match self {
+            PlainEnd::Done(log) => (0, Some(log)),
+            PlainEnd::Script(_) => (2, None),
+            PlainEnd::Source(_) => (5, None),
+            PlainEnd::NoMemory(log) => (7, log),
+        }
+    }
+}
+
+fn done_text(alloc: Global, log: &Log) -> Result<Bytes, NoMemory>
+    ensures { IfOk result (λ text. text ≡ done_text log.now) }
+{
+    let mut text = log_text(alloc, log)?;
+    let count = log.history.len();
+    let last = format!(in alloc; "done {count}\n")?;
+    text.extend(last.as_bytes())?;
+    Ok(text)
+}
+
+/// Reads the script to its end and runs it.
+pub fn run_plain<S: Source, C: Clock>(
+    alloc: Global,
+    at: Option<Moment>,
+    script: &mut S,
+    clock: C,
+) -> PlainEnd
+    ensures { IsPlainEnd (record {
+      left = S.left script.old;
+      rest = S.left script.new;
+      before = S.faults script.old;
+      now = S.faults script.new;
+    })
+        (C.gives clock) at result }
+{
+    let text = match read_input(alloc, script, SCRIPT_LIMIT) {
+        Ok(text) => text,
+        Err(ReadFailure::Fault(counts)) => return PlainEnd::Source(counts),
+        Err(ReadFailure::NoMemory) => return PlainEnd::NoMemory(None),
+    };
+    let script = match read_script(alloc, text.as_slice()) {
+        Ok(script) => script,
+        Err(ScriptFault::Bad(refusal)) => return PlainEnd::Script(refusal),
+        Err(ScriptFault::NoMemory) => return PlainEnd::NoMemory(None),
+    };
+    match run_script(alloc, &script, at, clock) {
+        Ok(log) => PlainEnd::Done(log),
+        Err(NoMemory) => PlainEnd::NoMemory(None),
+    }
+}
