@@ -75,7 +75,6 @@ pub fn put_words(out: &mut Vec<u8>, start: &[u8], text: &str, end: &[u8]) -> Res
 }
 
 /// The percent-encoded form of a text, with escapes.
-#[tactic(auto, using(ltfs_text::proofs::Texts::encodes_as))]
 fn put_encoded(out: &mut Vec<u8>, text: &str) -> Result<(), NoMemory>
     ensures ok { OnOk result (out.new.items ≡ out.old.items ++ escape (encoded text.now)) }
     ensures err { OnErr result (Keeps out.old.items out.new.items) }
