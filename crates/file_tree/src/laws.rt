@@ -3,6 +3,7 @@ ghost use Rattle.index_model.specs.declared.indexes.Index.{Index};
 ghost use Rattle.index_model.specs.Order.{AreInOrder};
 ghost use Rattle.index_model.specs.Valid.{Agrees};
 ghost use Rattle.file_tree.specs.Blocks.{BlocksMakeTheTree, EndsHold};
+ghost use Rattle.file_tree.specs.Carried.{FactsAreCarried};
 ghost use Rattle.file_tree.specs.Edits.{RefusalsAreAlike};
 ghost use Rattle.file_tree.specs.Indexes.{IndexesComeBack};
 ghost use Rattle.file_tree.specs.Mounts.{Letters};
@@ -43,4 +44,9 @@ pub fn writes_are_writes()
 /// The index that tells a tree is valid, can be mounted, and is mounted as that tree.
 pub fn indexes_come_back()
     ensures { IndexesComeBack }
+{}
+
+/// The index that tells a tree carries the volume's facts on, unchanged.
+pub fn facts_are_carried()
+    ensures { FactsAreCarried }
 {}
