@@ -6,9 +6,9 @@ ghost use Rattle.file_tree.specs.Blocks.{BlocksMakeTheTree, EndsHold};
 ghost use Rattle.file_tree.specs.Carried.{FactsAreCarried};
 ghost use Rattle.file_tree.specs.Edits.{RefusalsAreAlike};
 ghost use Rattle.file_tree.specs.Indexes.{IndexesComeBack};
-ghost use Rattle.file_tree.specs.Mounts.{Letters};
+ghost use Rattle.file_tree.specs.Mounts.{Letters, MountsLieBelow};
 ghost use Rattle.file_tree.specs.Told.{told_nodes};
-ghost use Rattle.file_tree.specs.Tree.{FileTree};
+ghost use Rattle.file_tree.specs.Tree.{FileTree, PlainNodesAgree};
 ghost use Rattle.file_tree.specs.Valid.{IsGood};
 ghost use Rattle.file_tree.specs.Writes.{WritesAreWrites};
 
@@ -49,4 +49,14 @@ pub fn indexes_come_back()
 /// The index that tells a tree carries the volume's facts on, unchanged.
 pub fn facts_are_carried()
     ensures { FactsAreCarried }
+{}
+
+/// The tree of an index stands in blocks of the index alone, below the ends where the index's extents end before them.
+pub fn mounts_lie_below()
+    ensures { MountsLieBelow }
+{}
+
+/// The nodes of the plain tree are those that are kept, with the bytes of their files.
+pub fn plain_nodes_agree()
+    ensures { PlainNodesAgree }
 {}
