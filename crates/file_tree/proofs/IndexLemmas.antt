@@ -206,14 +206,16 @@ module _ (letters : Letters) (t : FileTree) (good : IsGood t) where
   extents_told size low high [] are laid short small near = tt
   extents_told size low high (e ∷ es) are laid short small near =
       let most : e.offset + e.count ≤ high = laid_le size (e.offset + e.count) high es laid.4 in
-      let first : e.block + (e.byte + 0) / size ≤ 2 ^ 62 = near e.part (e.block + (e.byte + 0) / size) (inl (record { byte = 0; within = omega (arith, laid.1); on = refl; here = refl })) in
-      (record {
-        offset = omega (arith, most, short);
-        letter = letter_told e.part;
-        block = omega (arith, first);
-        byte = omega (arith, laid.2, small);
-        count = omega (arith, most, short);
-      }, extents_told size (e.offset + e.count) high es are laid.4 short small (λ part pos h. near part pos (inr h)))
+      let first : e.block + (e.byte + 0) / size ≤ 2 ^ 62 = near e.part (e.block + (e.byte + 0) / size) (inl (record { byte = 0; within = omega (arith, laid.1); on = refl; here = refl })) in (
+        record {
+          offset = omega (arith, most, short);
+          letter = letter_told e.part;
+          block = omega (arith, first);
+          byte = omega (arith, laid.2, small);
+          count = omega (arith, most, short);
+        },
+        extents_told size (e.offset + e.count) high es are laid.4 short small (λ part pos h. near part pos (inr h)),
+      )
     where
       letter_told : (part : Part) → IsLetter (letter_of letters part)
       letter_told parts.Ip = are.ip

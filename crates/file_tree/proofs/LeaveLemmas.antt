@@ -233,21 +233,21 @@ module _ (t : FileTree) (good : IsGood t) (number dir : ℕ) (name : List ℕ) (
           pub move_lies : AllLie t next
           move_lies n f = (
             λ h. (change_lies_both left next.nodes dir _ enter (ap (λ (n : Node). n.kind) enter.changed) n f).0
-            ((change_lies_both noted left old _ leave (ap (λ (n : Node). n.kind) leave.changed) n f).0
-            ((change_lies_both shifted noted number _ note (ap (λ (n : Node). n.kind) note.changed) n f).0
-            (record {
-              path = moved_path from to h.path;
-              node = h.node;
-              there = ap (λ m. fin.get m (moved_path from to h.path)) shifted_is ∙ node_moves t.nodes from to free h.path h.node h.there;
-              is = h.is;
-              room = h.room;
-              file = h.file;
-              lies = h.lies;
-            }))),
+                ((change_lies_both noted left old _ leave (ap (λ (n : Node). n.kind) leave.changed) n f).0
+                ((change_lies_both shifted noted number _ note (ap (λ (n : Node). n.kind) note.changed) n f).0
+                (record {
+                  path = moved_path from to h.path;
+                  node = h.node;
+                  there = ap (λ m. fin.get m (moved_path from to h.path)) shifted_is ∙ node_moves t.nodes from to free h.path h.node h.there;
+                  is = h.is;
+                  room = h.room;
+                  file = h.file;
+                  lies = h.lies;
+                }))),
             λ h. move_back t.nodes from to free n f (subst (λ m. HasLaid m n f) shifted_is
-            ((change_lies_both shifted noted number _ note (ap (λ (n : Node). n.kind) note.changed) n f).1
-            ((change_lies_both noted left old _ leave (ap (λ (n : Node). n.kind) leave.changed) n f).1
-            ((change_lies_both left next.nodes dir _ enter (ap (λ (n : Node). n.kind) enter.changed) n f).1 h)))),
+                ((change_lies_both shifted noted number _ note (ap (λ (n : Node). n.kind) note.changed) n f).1
+                ((change_lies_both noted left old _ leave (ap (λ (n : Node). n.kind) leave.changed) n f).1
+                ((change_lies_both left next.nodes dir _ enter (ap (λ (n : Node). n.kind) enter.changed) n f).1 h)))),
           )
 
           move_named : IsUtf8 name → IsNodeName name

@@ -26,3 +26,5 @@ pub mod OrderLemmas
 pub mod AgreeLemmas
 pub mod BytesLemmas
 pub mod IndexLemmas
+pub mod CarriedLemmas
+pub mod OnVolumeLemmas

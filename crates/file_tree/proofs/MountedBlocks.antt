@@ -1,7 +1,9 @@
 -- Which blocks the tree of an index stands in.
-use Rattle.std.proofs.Common.{◌≡◌, ◌⊎◌, ℕ, zero, suc, ◌≤◌, ◌^◌, Bool, true, false, cond, ltb, leb, List, [], ◌∷◌, ◌++◌, map, fold, length, Some, sym, ap, ◌∙◌, refl, subst, inl, inr, ⊎_elim}
+use Rattle.std.proofs.Common.{◌≡◌, ◌⊎◌, ℕ, zero, suc, ◌+◌, ◌*◌, ◌/◌, ◌<◌, ◌≤◌, ◌^◌, Bool, true, false, cond, ltb, leb, List, [], ◌∷◌, ◌++◌, map, fold, length, Some, sym, ap, ◌∙◌, refl, subst, inl, inr, ⊎_elim, arith}
 use Rattle.std.specs.List.{AllByRecursion, filter}
 use Rattle.std.specs.FinMap as fin
+use Rattle.std.proofs.Math.Nat.{div-mul-le_self, mul-le-mul_right, add-mul}
+use Rattle.std.proofs.lemmas.Bool.{cases_lt}
 use Rattle.tape_types.specs.declared.cartridges.Extent.{Extent}
 use Rattle.tape_types.specs.declared.cartridges.Part.{Part}
 use Rattle.index_model.specs.declared.nodes.Node as told
@@ -19,7 +21,7 @@ use Rattle.file_tree.specs.declared.nodes.Kind.TheVariants as kinds
 use Rattle.file_tree.specs.Tree.{Nodes, FileTree, HasLaid}
 use Rattle.file_tree.specs.Blocks.{TreeStandsIn}
 use Rattle.file_tree.proofs.MountLemmas.{told_at}
-use Rattle.file_tree.specs.Mounts.{Letters, extent_of, by_offset, laid_of, IsKindOf, IsBuilt, EndsNear, IndexStandsIn}
+use Rattle.file_tree.specs.Mounts.{Letters, extent_of, by_offset, laid_of, IsKindOf, part_of, IsBuilt, EndsNear, IndexStandsIn, EndsBelow, MountsLieBelow}
 
 module _ (size : ℕ) (part : Part) (pos : ℕ) where
   in_filtered : (t : Extent → Bool) (es : List Extent) → SomeStandsIn size (filter t es) part pos → SomeStandsIn size es part pos
@@ -87,3 +89,26 @@ pub built_near : (letters : Letters) (size : ℕ) (nodes : List told.Node) (befo
 built_near letters size nodes before m built near number laid part pos h block =
     let s = built_stands letters size nodes before m built number laid part pos h block in
     all_at (EndsNear letters size) s.raws (near s.at s.bytes s.raws s.file) s.which s.raw s.is part pos s.block
+
+-- a byte of an extent that ends below stands below
+ends_below : (end size block byte count i pos : ℕ) → i < count → block * size + byte + count ≤ end * size → block + (byte + i) / size ≡ pos → pos < end
+ends_below end size block byte count i pos lt ends is = ⊎_elim
+    (λ (low : pos < end). low)
+    (λ (high : end ≤ pos).
+    let q : ℕ = (byte + i) / size in
+    let whole : q * size ≤ byte + i = div-mul-le_self (byte + i) size in
+    let more : end * size ≤ (block + q) * size = mul-le-mul_right size (omega (arith, high, is)) in
+    let split : (block + q) * size ≡ block * size + q * size = add-mul block q size in
+    absurd (omega (arith, whole, more, split, lt, ends)))
+    (cases_lt pos end)
+
+pub mounts_lie_below : MountsLieBelow
+mounts_lie_below = record {
+  blocks = λ letters size index t part pos is h. built_stands letters size index.nodes (length index.nodes) t.nodes is.nodes h.number h.laid part pos h.file h.block;
+  below = λ ends letters size index t all is part pos h.
+      let s = built_stands letters size index.nodes (length index.nodes) t.nodes is.nodes h.number h.laid part pos h.file h.block in
+      let some : 0 < s.raw.count = omega (arith, s.block.within) in
+      let end : s.raw.block * size + s.raw.byte + s.raw.count ≤ ends (part_of letters s.raw.letter) * size =
+      all_at (EndsBelow ends letters size) s.raws (all s.at s.bytes s.raws s.file) s.which s.raw s.is some in
+      subst (λ p. pos < ends p) s.block.on (ends_below (ends (part_of letters s.raw.letter)) size s.raw.block s.raw.byte s.raw.count s.block.byte pos s.block.within end s.block.here);
+}

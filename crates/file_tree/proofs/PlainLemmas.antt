@@ -14,7 +14,7 @@ use Rattle.plain_tree.proofs.SeenLemmas.{moved_len}
 use Rattle.plain_tree.proofs.Validity.{bare_below}
 use Rattle.extent_map.specs.Cells.{Tape}
 use Rattle.file_tree.specs.declared.nodes.Node.{Node}
-use Rattle.file_tree.specs.Tree.{Nodes, moved, plain_node_of, plain_nodes, whole}
+use Rattle.file_tree.specs.Tree.{Nodes, moved, plain_kind_of, plain_node_of, plain_nodes, whole, PlainNodesAgree}
 use Rattle.file_tree.proofs.PathLemmas.{same_nodes, get_here, get_other, is_or_not}
 use Rattle.file_tree.proofs.UpdateLemmas.{get_moved}
 
@@ -108,3 +108,13 @@ inserted_same m p v is = same_nodes (fin.insert m p v) m (λ q. ⊎_elim
     (λ (e : q ≡ p). ap (fin.get (fin.insert m p v)) e ∙ get_here m p v ∙ sym is ∙ ap (fin.get m) (sym e))
     (λ apart. get_other m p q v apart)
     (is_or_not p q))
+
+pub plain_nodes_agree : PlainNodesAgree
+plain_nodes_agree = record {
+  uid = λ tape node. refl;
+  times = λ tape node. refl;
+  readonly = λ tape node. refl;
+  dir = λ tape node is. ap (plain_kind_of tape) is;
+  link = λ tape node text is. ap (plain_kind_of tape) is;
+  file = λ tape node room is. ap (plain_kind_of tape) is;
+}

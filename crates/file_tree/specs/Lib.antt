@@ -13,3 +13,5 @@ pub mod Listing
 pub mod Told
 pub mod Writes
 pub mod Indexes
+pub mod Carried
+pub mod OnVolume

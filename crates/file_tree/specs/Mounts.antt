@@ -1,5 +1,5 @@
 -- The tree of an index (LTFS 2.4 on the index).
-use Rattle.std.specs.Prelude.{◌≡◌, ◌≢◌, ◌⊎◌, ℕ, ◌<◌, ◌≤◌, ◌^◌, List, [], ◌∷◌, ◌++◌, ◌==◌, if◌then◌else◌, map, fold, length, Some}
+use Rattle.std.specs.Prelude.{◌≡◌, ◌≢◌, ◌⊎◌, ℕ, ◌+◌, ◌*◌, ◌<◌, ◌≤◌, ◌^◌, List, [], ◌∷◌, ◌++◌, ◌==◌, if◌then◌else◌, map, fold, length, Some}
 use Rattle.std.specs.List.{AllByRecursion}
 use Rattle.std.specs.FinMap as fin
 use Rattle.tape_types.specs.declared.cartridges.Extent.{Extent}
@@ -21,6 +21,7 @@ use Rattle.file_tree.specs.declared.nodes.Node.{Node}
 use Rattle.file_tree.specs.declared.nodes.Kind.{Kind}
 use Rattle.file_tree.specs.declared.nodes.Kind.TheVariants as kinds
 use Rattle.file_tree.specs.Tree.{Nodes, FileTree}
+use Rattle.file_tree.specs.Blocks.{Ends, TreeStandsIn, LiesBelow}
 use Rattle.file_tree.specs.Paths.{Path}
 
 -- the letters of the index partition and the data partition
@@ -123,3 +124,17 @@ pub record IndexStandsIn (letters : Letters) (size : ℕ) (nodes : List told.Nod
   pub raw : RawExtent
   pub is : IsAt raws which raw
   pub block : StandsIn size (extent_of letters raw) part pos
+
+-- an extent that has bytes ends before the end of its partition
+abbrev pub EndsBelow : Ends → Letters → ℕ → RawExtent → Type 0
+EndsBelow ends letters size raw =
+    0 < raw.count → raw.block * size + raw.byte + raw.count ≤ ends (part_of letters raw.letter) * size
+
+-- The tree of an index stands in blocks of the index alone; and where each extent ends before the end of its partition, the
+-- tree lies below the ends.
+pub record MountsLieBelow : Type 0 where
+  pub blocks : (letters : Letters) (size : ℕ) (index : Index) (t : FileTree) (part : Part) (pos : ℕ)
+      → IsTreeOf letters size index t → TreeStandsIn t part pos → IndexStandsIn letters size index.nodes part pos
+  pub below : (ends : Ends) (letters : Letters) (size : ℕ) (index : Index) (t : FileTree)
+      → ((at bytes : ℕ) (raws : List RawExtent) → IsFileAt index.nodes at bytes raws → AllByRecursion (EndsBelow ends letters size) raws)
+      → IsTreeOf letters size index t → LiesBelow ends t

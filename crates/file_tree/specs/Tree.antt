@@ -77,3 +77,13 @@ plain_of tape t = record { highest = t.highest; nodes = plain_nodes tape t.nodes
 -- a tape that has lost nothing
 abbrev pub whole : Tape
 whole part block byte = Some 0
+
+-- a node of the plain tree has the uid, the times and the readonly flag of the node that is kept; a directory is one, and so
+-- is a link, with its text; a file has its cells
+pub record PlainNodesAgree : Type 0 where
+  pub uid : (tape : Tape) (node : Node) → (plain_node_of tape node).uid ≡ node.uid
+  pub times : (tape : Tape) (node : Node) → (plain_node_of tape node).times ≡ node.times
+  pub readonly : (tape : Tape) (node : Node) → (plain_node_of tape node).readonly ≡ node.readonly
+  pub dir : (tape : Tape) (node : Node) → node.kind ≡ kinds.Dir → (plain_node_of tape node).kind ≡ plain_kinds.Dir
+  pub link : (tape : Tape) (node : Node) (text : List ℕ) → node.kind ≡ kinds.Link text → (plain_node_of tape node).kind ≡ plain_kinds.Link text
+  pub file : (tape : Tape) (node : Node) (room : Room) → node.kind ≡ kinds.File room → (plain_node_of tape node).kind ≡ plain_kinds.File (file_cells tape room.laid)

@@ -3,11 +3,12 @@ ghost use Rattle.index_model.specs.declared.indexes.Index.{Index};
 ghost use Rattle.index_model.specs.Order.{AreInOrder};
 ghost use Rattle.index_model.specs.Valid.{Agrees};
 ghost use Rattle.file_tree.specs.Blocks.{BlocksMakeTheTree, EndsHold};
+ghost use Rattle.file_tree.specs.Carried.{FactsAreCarried};
 ghost use Rattle.file_tree.specs.Edits.{RefusalsAreAlike};
 ghost use Rattle.file_tree.specs.Indexes.{IndexesComeBack};
-ghost use Rattle.file_tree.specs.Mounts.{Letters};
+ghost use Rattle.file_tree.specs.Mounts.{Letters, MountsLieBelow};
 ghost use Rattle.file_tree.specs.Told.{told_nodes};
-ghost use Rattle.file_tree.specs.Tree.{FileTree};
+ghost use Rattle.file_tree.specs.Tree.{FileTree, PlainNodesAgree};
 ghost use Rattle.file_tree.specs.Valid.{IsGood};
 ghost use Rattle.file_tree.specs.Writes.{WritesAreWrites};
 
@@ -43,4 +44,19 @@ pub fn writes_are_writes()
 /// The index that tells a tree is valid, can be mounted, and is mounted as that tree.
 pub fn indexes_come_back()
     ensures { IndexesComeBack }
+{}
+
+/// The index that tells a tree carries the volume's facts on, unchanged.
+pub fn facts_are_carried()
+    ensures { FactsAreCarried }
+{}
+
+/// The tree of an index stands in blocks of the index alone, below the ends where the index's extents end before them.
+pub fn mounts_lie_below()
+    ensures { MountsLieBelow }
+{}
+
+/// The nodes of the plain tree are those that are kept, with the bytes of their files.
+pub fn plain_nodes_agree()
+    ensures { PlainNodesAgree }
 {}

@@ -1,6 +1,7 @@
 //! The tree of a volume while the server runs: its files as extents (LTFS 2.4 on the index).
 #![tactic(auto)]
 
+mod carried;
 mod changes;
 mod checks;
 mod found;
@@ -8,6 +9,8 @@ mod laws;
 mod listing;
 mod mount;
 mod nodes;
+#[cfg(test)]
+mod outside;
 mod places;
 #[cfg(test)]
 mod play;
@@ -18,10 +21,11 @@ mod tests;
 mod told;
 mod tree;
 
+pub use carried::{Carried, Heading};
 pub use found::Found;
 pub use laws::{
-    blocks_make_the_tree, ends_hold, indexes_come_back, refusals_are_alike, told_nodes_agree,
-    writes_are_writes,
+    blocks_make_the_tree, ends_hold, facts_are_carried, indexes_come_back, mounts_lie_below,
+    plain_nodes_agree, refusals_are_alike, told_nodes_agree, writes_are_writes,
 };
 pub use raws::Letters;
 pub use tree::Tree;

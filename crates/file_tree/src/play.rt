@@ -12,8 +12,21 @@ use plain_tree::{Answer, Call, Refusal, Sort};
 use std::alloc::Global;
 use tape_types::{Bytes, Extent, List, Moment, NoMemory, Part, Text};
 
-/// The bytes of each block.
-pub type Blocks = List<Bytes>;
+/// The bytes of each block, by its position on the index partition and on the data partition.
+#[derive(Drop)]
+pub struct Blocks {
+    pub ip: List<Bytes>,
+    pub dp: List<Bytes>,
+}
+
+impl Blocks {
+    pub fn new(alloc: Global) -> Blocks {
+        Blocks {
+            ip: List::new(alloc),
+            dp: List::new(alloc),
+        }
+    }
+}
 
 /// More blocks than any test writes.
 const MOST_BLOCKS: usize = 1 << 20;
@@ -88,12 +101,12 @@ fn write(
         return Ok(());
     };
     tree.reserve_extent(file)?;
-    let block = blocks.len();
+    let block = blocks.dp.len();
     let count = bytes.len() as u64;
     if count == 0 || block >= MOST_BLOCKS {
         return Ok(());
     }
-    blocks.push(bytes.try_clone(alloc)?)?;
+    blocks.dp.push(bytes.try_clone(alloc)?)?;
     let _there = tree.extents(file).length();
     let new = Extent {
         offset,
@@ -143,10 +156,17 @@ fn read(
 fn block_of<'a>(blocks: &'a Blocks, piece: &Piece) -> &'a [u8] {
     match piece {
         Piece::Zeros { .. } => b"",
-        Piece::Stored { place, .. } => match blocks.as_slice().get(place.pos as usize) {
-            Some(block) => block.as_slice(),
-            None => b"",
+        Piece::Stored { place, .. } => match place.part {
+            Part::Ip => bytes_at(&blocks.ip, place.pos),
+            Part::Dp => bytes_at(&blocks.dp, place.pos),
         },
+    }
+}
+
+fn bytes_at(blocks: &List<Bytes>, pos: u64) -> &[u8] {
+    match blocks.as_slice().get(pos as usize) {
+        Some(block) => block.as_slice(),
+        None => b"",
     }
 }
 

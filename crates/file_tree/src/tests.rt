@@ -39,6 +39,8 @@ enum Want {
     Bytes(&'static [u8]),
     Names(&'static str),
     Uid(u64),
+    /// A file with this uid and length.
+    File(u64, u64),
     No(Refusal),
 }
 
@@ -121,6 +123,9 @@ fn is_wanted(answer: &Answer, want: &Want) -> bool {
         },
         Answer::Facts(facts) => match want {
             Want::Uid(uid) => facts.uid == *uid,
+            Want::File(uid, length) => {
+                facts.sort == Sort::File && facts.uid == *uid && facts.length == *length
+            }
             _ => false,
         },
         Answer::Refused(why) => match want {
@@ -233,6 +238,22 @@ fn reads_what_was_written(rt: HostRuntime) -> Result<(), Fail> {
 }
 
 #[test]
+fn fills_a_gap_with_zeros(rt: HostRuntime) -> Result<(), Fail> {
+    let rows = [
+        (Ask::Create("/s"), Want::Done),
+        (Ask::Write("/s", 10, b"hi"), Want::Done),
+        (
+            Ask::Read("/s", 0, 12),
+            Want::Bytes(b"\0\0\0\0\0\0\0\0\0\0hi"),
+        ),
+        (Ask::Write("/s", 20, b""), Want::Done),
+        (Ask::Stat("/s"), Want::File(2, 12)),
+    ];
+    assert_eq!(rt; first_wrong(rt.alloc(), &rows)?, None);
+    Ok(())
+}
+
+#[test]
 fn moves_and_counts(rt: HostRuntime) -> Result<(), Fail> {
     let rows = [
         (Ask::Mkdir("/a"), Want::Done),
@@ -325,6 +346,7 @@ fn refuses(rt: HostRuntime) -> Result<(), Fail> {
         ),
         (Ask::Truncate("/f", 1099511627776), Want::Done),
         (Ask::Create("/.."), Want::No(Refusal::BadName)),
+        (Ask::Read("/f", 1099511627775, 5), Want::Bytes(b"\0")),
         (Ask::List("/"), Want::Names("d:d f:f")),
     ];
     assert_eq!(rt; first_wrong(rt.alloc(), &rows)?, None);

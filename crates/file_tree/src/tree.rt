@@ -5,6 +5,7 @@ ghost use Rattle.file_tree.specs.Paths.{Path};
 ghost use Rattle.file_tree.specs.Tree.{HasExtents, number_at};
 ghost use Rattle.file_tree.specs.Edits.{IsNewKind, IsLongAt};
 
+use crate::carried::{Carried, Heading};
 use crate::changes::Change;
 use crate::checks::check_call;
 use crate::found::{Found, facts_of, lost_below, sort_of};
@@ -67,6 +68,7 @@ impl Tree {
     ghost use Rattle.file_tree.specs.Places.{IsThere};
     ghost use Rattle.file_tree.specs.Mounts.{CanMount, IsTreeOf};
     ghost use Rattle.file_tree.specs.Reads.{IsFound, refusal_found, IsOfSort};
+    ghost use Rattle.file_tree.specs.Carried.{index_of_tree};
     ghost use Rattle.file_tree.specs.Told.{told_nodes};
     ghost use Rattle.file_tree.specs.Valid.{IsFileOf, IsGood};
     ghost use Rattle.file_tree.specs.Blocks.{AddsNoBlock, AddsBlocksOf};
@@ -163,6 +165,20 @@ impl Tree {
         ensures { IfOk result (λ nodes. nodes ≡ told_nodes letters self.now) }
     {
         self.places.to_nodes(alloc, &self.volume, letters)
+    }
+
+    /// The index that tells the tree, with this heading and the facts that the volume's indexes carry on.
+    pub fn to_index(
+        &self,
+        alloc: Global,
+        letters: Letters,
+        heading: Heading,
+        carried: &Carried,
+    ) -> Result<Index, NoMemory>
+        ensures { IfOk result (λ index. index ≡ index_of_tree letters heading carried.now self.now) }
+    {
+        let nodes = self.to_nodes(alloc, letters)?;
+        carried.to_index(alloc, heading, self.highest, nodes)
     }
 
     /// Why a call is refused, where no byte is lost on the tape.

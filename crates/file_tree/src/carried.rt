@@ -1,0 +1,103 @@
+ghost use Rattle.std.specs.Prelude.{◌≡◌, IfOk};
+ghost use Rattle.file_tree.specs.Carried.{carried_of, index_of};
+
+use doc_fields::LockState;
+use index_model::{Index, Node, Policy, Spot};
+use std::alloc::Global;
+use tape_types::{List, Moment, NoMemory, Text};
+
+/// What each index of a volume tells as the one before it did, beside the tree: no call changes it.
+#[derive(Drop)]
+pub struct Carried {
+    pub comment: Option<Text>,
+    /// Whether the policy may be changed.
+    pub allow: bool,
+    pub policy: Option<Policy>,
+    pub lock: Option<LockState>,
+}
+
+/// What an index tells of itself: who wrote it, of which volume, when, and where it stands.
+#[derive(Drop)]
+pub struct Heading {
+    pub creator: Text,
+    pub uuid: u128,
+    pub generation: u64,
+    pub updated: Moment,
+    pub here: Spot,
+    pub back: Option<Spot>,
+}
+
+impl Carried {
+    /// What an index carries on.
+    pub fn of_index(alloc: Global, index: &Index) -> Result<Carried, NoMemory>
+        ensures { IfOk result (λ carried. carried ≡ carried_of index.now) }
+    {
+        let comment = text_copy(alloc, &index.comment)?;
+        let policy = policy_copy(alloc, &index.policy)?;
+        Ok(Carried {
+            comment,
+            allow: index.allow,
+            policy,
+            lock: index.lock,
+        })
+    }
+
+    /// The index with this heading, these facts and these nodes.
+    pub fn to_index(
+        &self,
+        alloc: Global,
+        heading: Heading,
+        highest: u64,
+        nodes: List<Node>,
+    ) -> Result<Index, NoMemory>
+        ensures { IfOk result (λ index. index ≡ index_of heading self.now highest nodes) }
+    {
+        let comment = text_copy(alloc, &self.comment)?;
+        let policy = policy_copy(alloc, &self.policy)?;
+        Ok(Index {
+            creator: heading.creator,
+            comment,
+            uuid: heading.uuid,
+            generation: heading.generation,
+            updated: heading.updated,
+            here: heading.here,
+            back: heading.back,
+            allow: self.allow,
+            policy,
+            lock: self.lock,
+            highest,
+            nodes,
+        })
+    }
+}
+
+fn text_copy(alloc: Global, text: &Option<Text>) -> Result<Option<Text>, NoMemory>
+    ensures { IfOk result (λ copy. copy ≡ text.now) }
+{
+    match text {
+        Some(text) => Ok(Some(text.try_clone(alloc)?)),
+        None => Ok(None),
+    }
+}
+
+fn policy_copy(alloc: Global, policy: &Option<Policy>) -> Result<Option<Policy>, NoMemory>
+    ensures { IfOk result (λ copy. copy ≡ policy.now) }
+{
+    match policy {
+        Some(policy) => Ok(Some(Policy {
+            size: policy.size,
+            names: names_copy(alloc, policy.names.as_slice())?,
+        })),
+        None => Ok(None),
+    }
+}
+
+fn names_copy(alloc: Global, names: &[Text]) -> Result<List<Text>, NoMemory>
+    ensures { IfOk result (λ copy. copy ≡ names.now) }
+{
+    let mut copy = List::new(alloc);
+    for name in names {
+        copy.push(name.try_clone(alloc)?)?;
+    }
+    Ok(copy)
+}
