@@ -160,3 +160,22 @@ six_is_none (outcomes.Label (labels.Mount e)) six = mount_isnt e 6 (λ x. cc) (�
 pub only_write : (o : Outcome) (sink : Written) (status : ℕ) (log : Option Log) → IsTold o sink status log → status ≡ 6 → Rose sink.before sink.now
 only_write o sink status log told =
     by_status (λ n. n ≡ 6 → Rose sink.before sink.now) o sink status log told (λ six. absurd (six_is_none o six)) (λ rose six. rose)
+
+known : (o : Outcome) → IsOneOf (status_of o) (0 ∷ 1 ∷ 2 ∷ 3 ∷ 4 ∷ 5 ∷ 6 ∷ 7 ∷ [])
+known outcomes.Words = inr (inl refl)
+known (outcomes.Plain (plains.Done l)) = inl refl
+known (outcomes.Plain (plains.Script refusal)) = inr (inr (inl refl))
+known (outcomes.Plain (plains.Source counts)) = inr (inr (inr (inr (inr (inl refl)))))
+known (outcomes.Plain (plains.NoMemory l)) = inr (inr (inr (inr (inr (inr (inr (inl refl)))))))
+known (outcomes.Label (labels.Done found)) = inl refl
+known (outcomes.Label (labels.Mount (errors.Vol1 part))) = inr (inr (inr (inl refl)))
+known (outcomes.Label (labels.Mount (errors.Label part))) = inr (inr (inr (inl refl)))
+known (outcomes.Label (labels.Mount errors.LabelsDiffer)) = inr (inr (inr (inl refl)))
+known (outcomes.Label (labels.Mount (errors.Drive counts))) = inr (inr (inr (inr (inl refl))))
+known (outcomes.Label (labels.Mount errors.NoMemory)) = inr (inr (inr (inr (inr (inr (inr (inl refl)))))))
+
+pub statuses : (o : Outcome) (sink : Written) (status : ℕ) (log : Option Log) → IsTold o sink status log
+    → IsOneOf status (0 ∷ 1 ∷ 2 ∷ 3 ∷ 4 ∷ 5 ∷ 6 ∷ 7 ∷ [])
+statuses o sink status log told =
+    by_status (λ n. IsOneOf n (0 ∷ 1 ∷ 2 ∷ 3 ∷ 4 ∷ 5 ∷ 6 ∷ 7 ∷ [])) o sink status log told (known o)
+    (λ rose. inr (inr (inr (inr (inr (inr (inl refl)))))))

@@ -46,28 +46,27 @@ printed r (outcomes.Plain (plains.Source counts)) sink status log is (same, inl 
 printed r (outcomes.Plain (plains.NoMemory l)) sink status log is (same, inl (seven, text)) plain zero = absurd (let bad : 7 ≡ 0 = sym seven ∙ zero in cc bad)
 printed r (outcomes.Label end) sink status log is (same, inl (some, text)) plain zero = absurd (one_command r.words plain is.0)
 
-refused_none : (o : Outcome) → IsOneOf (status_of o) (2 ∷ 5 ∷ []) → log_of o ≡ None
+-- a number that is none of these
+isnt_refused : (n : ℕ) → (n ≡ 1 → ⊥) → (n ≡ 2 → ⊥) → (n ≡ 3 → ⊥) → (n ≡ 5 → ⊥) → IsOneOf n (1 ∷ 2 ∷ 3 ∷ 5 ∷ []) → ⊥
+isnt_refused n one two three five (inl e) = one e
+isnt_refused n one two three five (inr (inl e)) = two e
+isnt_refused n one two three five (inr (inr (inl e))) = three e
+isnt_refused n one two three five (inr (inr (inr (inl e)))) = five e
+isnt_refused n one two three five (inr (inr (inr (inr e)))) = e
+
+refused_none : (o : Outcome) → IsOneOf (status_of o) (1 ∷ 2 ∷ 3 ∷ 5 ∷ []) → log_of o ≡ None
 refused_none outcomes.Words one = refl
-refused_none (outcomes.Plain (plains.Done l)) (inl e) = cc
-refused_none (outcomes.Plain (plains.Done l)) (inr (inl e)) = cc
-refused_none (outcomes.Plain (plains.Done l)) (inr (inr e)) = absurd e
+refused_none (outcomes.Plain (plains.Done l)) one = absurd (isnt_refused 0 (λ e. cc) (λ e. cc) (λ e. cc) (λ e. cc) one)
 refused_none (outcomes.Plain (plains.Script refusal)) one = refl
 refused_none (outcomes.Plain (plains.Source counts)) one = refl
-refused_none (outcomes.Plain (plains.NoMemory l)) (inl e) = cc
-refused_none (outcomes.Plain (plains.NoMemory l)) (inr (inl e)) = cc
-refused_none (outcomes.Plain (plains.NoMemory l)) (inr (inr e)) = absurd e
+refused_none (outcomes.Plain (plains.NoMemory l)) one = absurd (isnt_refused 7 (λ e. cc) (λ e. cc) (λ e. cc) (λ e. cc) one)
 refused_none (outcomes.Label end) one = refl
 
-six_refused : IsOneOf 6 (2 ∷ 5 ∷ []) → ⊥
-six_refused (inl e) = cc
-six_refused (inr (inl e)) = cc
-six_refused (inr (inr e)) = e
-
 pub refused : (o : Outcome) (sink : Written) (status : ℕ) (log : Option Log)
-    → IsTold o sink status log → IsOneOf status (2 ∷ 5 ∷ []) → log ≡ None
+    → IsTold o sink status log → IsOneOf status (1 ∷ 2 ∷ 3 ∷ 5 ∷ []) → log ≡ None
 refused o sink status log told =
-    by_status (λ n. IsOneOf n (2 ∷ 5 ∷ []) → log ≡ None) o sink status log told
-    (λ one. told.0 ∙ refused_none o one) (λ rose one. absurd (six_refused one))
+    by_status (λ n. IsOneOf n (1 ∷ 2 ∷ 3 ∷ 5 ∷ []) → log ≡ None) o sink status log told
+    (λ one. told.0 ∙ refused_none o one) (λ rose one. absurd (isnt_refused 6 (λ e. cc) (λ e. cc) (λ e. cc) (λ e. cc) one))
 
 plain_status_is : (r : Run) (o : Outcome) → IsCaused r o → IsPlain r.words → IsOneOf (status_of o) (0 ∷ 2 ∷ 5 ∷ 6 ∷ 7 ∷ [])
 plain_status_is r outcomes.Words is plain = absurd (is.0.no_plain plain)

@@ -38,10 +38,11 @@ pub fn run<D: Drive, S: Source, K: Sink, C: Clock>(
       now = S.faults script.new;
     }) (C.gives clock)) }
     ensures no_log { ¬ (IsPlain words.now.items) → result.log ≡ None }
-    // After status 0 of `plain` there is such a log, and it was printed; an input that is refused has none.
+    ensures refused { IsOneOf result.status (1 ∷ 2 ∷ 3 ∷ 5 ∷ []) → result.log ≡ None }
+    ensures statuses { IsOneOf result.status (0 ∷ 1 ∷ 2 ∷ 3 ∷ 4 ∷ 5 ∷ 6 ∷ 7 ∷ []) }
+    // After status 0 of `plain` there is such a log, and it was printed.
     ensures printed { IsPlain words.now.items → result.status ≡ 0
         → IsPrinted (K.written out.old) (K.written out.new) result.log }
-    ensures refused { IsPlain words.now.items → IsOneOf result.status (2 ∷ 5 ∷ []) → result.log ≡ None }
     ensures plain_statuses { IsPlain words.now.items → IsOneOf result.status (0 ∷ 2 ∷ 5 ∷ 6 ∷ 7 ∷ []) }
     // An input that is no script is told, unless a stream fails or memory is refused, and only such an input.
     ensures script { IsPlain words.now.items → IfSome (S.left script.old)

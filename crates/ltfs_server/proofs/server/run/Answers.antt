@@ -1,4 +1,4 @@
-use Rattle.ltfs_server.proofs.LabelClauses.{labels_done, labels_printed, label_statuses, only_drive, only_volume, only_words, only_write, volume_refused, words_told}
+use Rattle.ltfs_server.proofs.LabelClauses.{labels_done, labels_printed, label_statuses, only_drive, only_volume, only_words, only_write, statuses, volume_refused, words_told}
 use Rattle.ltfs_server.proofs.PlainClauses.{complete, logged, no_log, only_read, only_script, plain_statuses, printed, refused, script_refused}
 use Rattle.ltfs_server.proofs.WordLemmas.{one_command}
 use Rattle.ltfs_server.proofs.server.run.Goals as goal
@@ -52,10 +52,13 @@ pub returns-clause-only_read : goal.returns-clause-only_read
 returns-clause-only_read g c = let t = c.run_told.ensures.told in only_read _ t.0 _ _ _ t.1 t.2
 
 pub returns-clause-refused : goal.returns-clause-refused
-returns-clause-refused g c = let t = c.run_told.ensures.told in λ plain. refused t.0 _ _ _ t.2
+returns-clause-refused g c = let t = c.run_told.ensures.told in refused t.0 _ _ _ t.2
 
 pub returns-clause-only_write : goal.returns-clause-only_write
 returns-clause-only_write g c = let t = c.run_told.ensures.told in only_write t.0 _ _ _ t.2
 
 pub returns-clause-plain_drive : goal.returns-clause-plain_drive
 returns-clause-plain_drive g c = λ plain. c.run_told.ensures.drive (one_command c.args.words.now.items plain)
+
+pub returns-clause-statuses : goal.returns-clause-statuses
+returns-clause-statuses g c = let t = c.run_told.ensures.told in statuses t.0 _ _ _ t.2
