@@ -1,0 +1,4 @@
+pub mod Lists
+pub mod Leads
+pub mod Finds
+pub mod Admitting

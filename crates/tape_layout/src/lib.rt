@@ -1,0 +1,15 @@
+//! The space of a volume: what fits, where it goes, and the ops that are to be done on tape.
+#![tactic(auto)]
+
+mod drafts;
+mod errors;
+mod layouts;
+mod ops;
+mod standing;
+#[cfg(test)]
+mod tests;
+
+pub use errors::AdmitErr;
+pub use layouts::Layout;
+pub use ops::Op;
+pub use standing::Ends;

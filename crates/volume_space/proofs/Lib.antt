@@ -1,0 +1,5 @@
+pub mod Steps
+pub mod TreeLaw
+pub mod SpaceFacts
+pub mod IndexFacts
+pub mod HistoryFacts
