@@ -29,3 +29,4 @@ pub mod BytesLemmas
 pub mod IndexLemmas
 pub mod CarriedLemmas
 pub mod OnVolumeLemmas
+pub mod AgainLemmas
