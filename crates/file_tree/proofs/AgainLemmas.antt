@@ -1,12 +1,12 @@
 -- That an index whose nodes stand by their names is told again by its tree.
-use Rattle.std.proofs.Common.{Option, ◌≡◌, ◌≢◌, ◌⊎◌, ℕ, zero, suc, ◌+◌, ◌<◌, ◌≤◌, List, [], ◌∷◌, ◌++◌, length, map, Some, None, sym, ap, ◌∙◌, refl, subst, arith, inl, inr, ⊎_elim}
+use Rattle.std.proofs.Common.{Option, ◌≡◌, ◌⊎◌, ℕ, zero, suc, ◌+◌, ◌<◌, ◌≤◌, List, [], ◌∷◌, ◌++◌, length, map, Some, None, sym, ap, ◌∙◌, refl, subst, arith, inl, inr, ⊎_elim}
 use Rattle.std.specs.List.{slice_get}
 use Rattle.std.specs.Option.{option_map}
 use Rattle.std.specs.Ordering.{ordering_reverse, ordering_then}
 use Rattle.std.specs.declared.cmp.Ordering.TheVariants.{Less, Equal, Greater}
 use Rattle.std.specs.Cmp.Lexicographic.{nat_list_cmp_total}
 use Rattle.std.specs.FinMap as fin
-use Rattle.std.proofs.lemmas.Bool.{cases_lt, cases_order}
+use Rattle.std.proofs.lemmas.Bool.{cases_lt}
 use Rattle.std.proofs.lemmas.Cmp.{tied_itself}
 use Rattle.std.proofs.lemmas.List.{append-nil}
 use Rattle.std.proofs.lemmas.Option.{slice_get_within}
@@ -19,20 +19,19 @@ use Rattle.index_model.specs.Places.{IsAt}
 use Rattle.plain_tree.specs.Links.{name_cmp}
 use Rattle.plain_tree.specs.Paths.{path_cmp, parent_of, last_name}
 use Rattle.plain_tree.proofs.NodeLemmas.{path_total}
-use Rattle.extent_map.specs.Laid.{Laid, Room}
+use Rattle.extent_map.specs.Laid.{Laid}
 use Rattle.file_tree.specs.declared.nodes.Node.{Node}
 use Rattle.file_tree.specs.declared.nodes.Kind.{Kind}
-use Rattle.file_tree.specs.declared.nodes.Kind.TheVariants as kinds
 use Rattle.file_tree.specs.Paths.{Name, Path}
 use Rattle.file_tree.specs.Tree.{Nodes, FileTree}
-use Rattle.file_tree.specs.Mounts.{Letters, laid_of, IsKindOf, IsNodeOf, IsPathOf, IsBuilt, CanMount, IsTreeOf}
+use Rattle.file_tree.specs.Mounts.{Letters, IsKindOf, IsNodeOf, IsPathOf, IsBuilt, CanMount, IsTreeOf}
 use Rattle.file_tree.specs.Mounts.IsPathOf.{root, below}
 use Rattle.file_tree.specs.Told.{raw_of, place_of, name_or, told_kind_of, told_of, told_nodes}
 use Rattle.file_tree.specs.Indexes.{NamesAscend, kind_in_order, node_in_order, IndexesAreToldAgain}
 use Rattle.file_tree.proofs.PathLemmas.{by_last, no_name, some_same}
 use Rattle.file_tree.proofs.ToldLemmas.{entry_get, get_entry, entry_place, sorted_map_entries, last_is, parent_is}
 use Rattle.file_tree.proofs.OrderLemmas.{parent_less, ascends}
-use Rattle.file_tree.proofs.MountLemmas.{at_path, told_at, path_once, ends, Ends}
+use Rattle.file_tree.proofs.MountLemmas.{at_path, told_at, path_once, ends}
 
 -- ---- lists
 

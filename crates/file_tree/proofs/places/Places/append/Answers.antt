@@ -5,7 +5,7 @@ use Rattle.file_tree.specs.Seen.{held}
 use Rattle.file_tree.specs.Places.{Stored}
 use Rattle.file_tree.proofs.ShownLemmas.{one_number}
 use Rattle.file_tree.proofs.WalkLemmas.{seen}
-use Rattle.file_tree.proofs.PlaceLemmas.{count_most, stored_now}
+use Rattle.file_tree.proofs.PlaceLemmas.{count_most}
 use Rattle.file_tree.proofs.StoredLemmas.{stored_append, sole, still, stored_same}
 use Rattle.file_tree.proofs.KeptLemmas.{kept_now}
 use Rattle.file_tree.proofs.places.Places.append.Goals as goal

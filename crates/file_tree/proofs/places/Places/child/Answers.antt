@@ -1,9 +1,8 @@
 use Rattle.std.proofs.Common.{ap, ◌∙◌}
 use Rattle.file_tree.specs.declared.nodes.Spot.{Spot}
-use Rattle.file_tree.specs.Places.{Stored}
 use Rattle.std.specs.Option.{option_map}
 use Rattle.file_tree.specs.Seen.{child as child_in}
-use Rattle.file_tree.proofs.PlaceLemmas.{stored_now, child_now}
+use Rattle.file_tree.proofs.PlaceLemmas.{child_now}
 use Rattle.file_tree.proofs.KeptLemmas.{kept_now}
 use Rattle.file_tree.proofs.places.Places.child.Goals as goal
 

@@ -1,8 +1,7 @@
 use Rattle.std.proofs.Common.{sym, ap, ◌∙◌, subst, IsSome, []}
 use Rattle.file_tree.specs.Seen.{held}
-use Rattle.file_tree.specs.Places.{Stored}
 use Rattle.file_tree.proofs.PathLemmas.{number_is}
-use Rattle.file_tree.proofs.PlaceLemmas.{stored_now, there_held, node_now}
+use Rattle.file_tree.proofs.PlaceLemmas.{there_held, node_now}
 use Rattle.file_tree.proofs.KeptLemmas.{kept_now}
 use Rattle.file_tree.proofs.places.Places.find.Goals as goal
 

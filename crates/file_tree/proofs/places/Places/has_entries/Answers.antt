@@ -1,7 +1,5 @@
 use Rattle.std.proofs.Common.{ap, ◌∙◌}
 use Rattle.file_tree.specs.Seen.{any_in as any_kept}
-use Rattle.file_tree.specs.Places.{Stored}
-use Rattle.file_tree.proofs.PlaceLemmas.{stored_now}
 use Rattle.file_tree.proofs.ReadLemmas.{entries_any}
 use Rattle.file_tree.proofs.KeptLemmas.{kept_now}
 use Rattle.file_tree.proofs.places.Places.has_entries.Goals as goal

@@ -1,7 +1,5 @@
 use Rattle.std.proofs.Common.{ap, ◌∙◌}
 use Rattle.file_tree.specs.Listing.{last_sort}
-use Rattle.file_tree.specs.Places.{Stored}
-use Rattle.file_tree.proofs.PlaceLemmas.{stored_now}
 use Rattle.file_tree.proofs.ReadLemmas.{if_ok}
 use Rattle.file_tree.proofs.ListingLemmas.{lines_are}
 use Rattle.file_tree.proofs.KeptLemmas.{kept_now}

@@ -1,7 +1,6 @@
 use Rattle.std.proofs.Common.{sym, ap, ◌∙◌, subst, IsSome}
 use Rattle.file_tree.specs.Seen.{held}
-use Rattle.file_tree.specs.Places.{Stored}
-use Rattle.file_tree.proofs.PlaceLemmas.{stored_now, there_held, name_now}
+use Rattle.file_tree.proofs.PlaceLemmas.{there_held, name_now}
 use Rattle.file_tree.proofs.KeptLemmas.{kept_now}
 use Rattle.file_tree.proofs.places.Places.name.Goals as goal
 

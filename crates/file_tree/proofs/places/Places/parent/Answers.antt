@@ -1,8 +1,7 @@
 use Rattle.std.proofs.Common.{sym, ap, ◌∙◌, subst, IsSome}
 use Rattle.file_tree.specs.Seen.{held}
-use Rattle.file_tree.specs.Places.{Stored}
 use Rattle.file_tree.proofs.ShownLemmas.{one_number}
-use Rattle.file_tree.proofs.PlaceLemmas.{stored_now, there_held, parent_now}
+use Rattle.file_tree.proofs.PlaceLemmas.{there_held, parent_now}
 use Rattle.file_tree.proofs.ToldLemmas.{above_now}
 use Rattle.file_tree.proofs.KeptLemmas.{kept_now}
 use Rattle.file_tree.proofs.places.Places.parent.Goals as goal

@@ -1,9 +1,7 @@
 use Rattle.std.proofs.Common.{sym, ap, ◌∙◌, subst, [], ◌∷◌, ◌++◌}
 use Rattle.file_tree.specs.Seen.{held}
 use Rattle.file_tree.specs.Tree.{number_at}
-use Rattle.file_tree.specs.Places.{Stored}
 use Rattle.file_tree.proofs.ShownLemmas.{one_number}
-use Rattle.file_tree.proofs.PlaceLemmas.{stored_now}
 use Rattle.file_tree.proofs.ToldLemmas.{Climbs, climb_ends, climb_steps, climb_shorter}
 use Rattle.file_tree.proofs.KeptLemmas.{kept_now}
 use Rattle.file_tree.proofs.places.Places.path.Goals as goal

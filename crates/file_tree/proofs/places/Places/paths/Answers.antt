@@ -1,7 +1,6 @@
 use Rattle.std.proofs.Common.{sym, ap, ◌∙◌, subst, arith, ◌+◌, length}
 use Rattle.file_tree.specs.Seen.{held}
-use Rattle.file_tree.specs.Places.{Stored}
-use Rattle.file_tree.proofs.PlaceLemmas.{stored_now, held_or}
+use Rattle.file_tree.proofs.PlaceLemmas.{held_or}
 use Rattle.file_tree.proofs.ToldLemmas.{spot_there, step_some, step_none, all_below, IsBelow}
 use Rattle.file_tree.proofs.KeptLemmas.{kept_now}
 use Rattle.file_tree.proofs.places.Places.paths.Goals as goal

@@ -2,10 +2,8 @@ use Rattle.std.proofs.Common.{◌+◌, sym, ap, ◌∙◌, [], ◌∷◌, ◌++�
 use Rattle.std.specs.FinMap as fin
 use Rattle.file_tree.specs.declared.nodes.Node.{Node}
 use Rattle.file_tree.specs.Seen.{held}
-use Rattle.file_tree.specs.Places.{Stored}
 use Rattle.file_tree.proofs.ShownLemmas.{one_number}
 use Rattle.file_tree.proofs.WalkLemmas.{seen}
-use Rattle.file_tree.proofs.PlaceLemmas.{stored_now}
 use Rattle.file_tree.proofs.StoredLemmas.{stored_put, sole, still, place_fits, fresh}
 use Rattle.file_tree.proofs.KeptLemmas.{kept_now}
 use Rattle.file_tree.proofs.places.Places.put.Goals as goal

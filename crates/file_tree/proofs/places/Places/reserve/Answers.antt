@@ -1,7 +1,5 @@
-use Rattle.std.proofs.Common.{ap, rules}
-use Rattle.file_tree.specs.Places.{Stored}
+use Rattle.std.proofs.Common.{rules}
 use Rattle.file_tree.proofs.WalkLemmas.{seen}
-use Rattle.file_tree.proofs.PlaceLemmas.{stored_now}
 use Rattle.file_tree.proofs.StoredLemmas.{sole, still, stored_same}
 use Rattle.file_tree.proofs.KeptLemmas.{kept_now}
 use Rattle.file_tree.proofs.places.Places.reserve.Goals as goal

@@ -1,11 +1,10 @@
-use Rattle.std.proofs.Common.{ap, OnOk, rules}
+use Rattle.std.proofs.Common.{OnOk, rules}
 use Rattle.std.specs.FinMap as fin
 use Rattle.file_tree.specs.Seen.{held}
 use Rattle.file_tree.specs.Changes.{IsRoomier, HasRoom}
-use Rattle.file_tree.specs.Places.{Stored}
 use Rattle.file_tree.proofs.ShownLemmas.{one_number}
 use Rattle.file_tree.proofs.WalkLemmas.{seen}
-use Rattle.file_tree.proofs.PlaceLemmas.{stored_now, there_held, node_now}
+use Rattle.file_tree.proofs.PlaceLemmas.{there_held, node_now}
 use Rattle.file_tree.proofs.StoredLemmas.{stored_change, sole, still}
 use Rattle.file_tree.proofs.KeptLemmas.{kept_now}
 use Rattle.file_tree.proofs.places.Places.reserve_extent.Goals as goal

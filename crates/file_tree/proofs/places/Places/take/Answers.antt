@@ -2,10 +2,9 @@ use Rattle.std.proofs.Common.{◌-◌, sym, ap, ◌∙◌, [], ◌∷◌, ◌++�
 use Rattle.std.specs.FinMap as fin
 use Rattle.file_tree.specs.Tree.{Nodes, number_at}
 use Rattle.file_tree.specs.Seen.{held}
-use Rattle.file_tree.specs.Places.{Stored}
 use Rattle.file_tree.proofs.ShownLemmas.{one_number}
 use Rattle.file_tree.proofs.WalkLemmas.{seen}
-use Rattle.file_tree.proofs.PlaceLemmas.{stored_now, there_held}
+use Rattle.file_tree.proofs.PlaceLemmas.{there_held}
 use Rattle.file_tree.proofs.StoredLemmas.{taken_gone, stored_take, sole, still}
 use Rattle.file_tree.proofs.KeptLemmas.{kept_now}
 use Rattle.file_tree.proofs.places.Places.take.Goals as goal

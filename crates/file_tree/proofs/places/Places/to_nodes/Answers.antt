@@ -1,12 +1,11 @@
 use Rattle.std.proofs.Common.{◌≡◌, ◌<◌, ap, ◌∙◌, length, arith, rules, vec_len}
 use Rattle.std.specs.FinMap as fin
 use Rattle.file_tree.specs.Seen.{held}
-use Rattle.file_tree.specs.Places.{Stored}
 use Rattle.file_tree.specs.Told.{told_of}
 use Rattle.std.specs.List.{slice_get}
 use Rattle.std.proofs.lemmas.Option.{slice_get-get_or}
 use Rattle.file_tree.proofs.ShownLemmas.{one_number}
-use Rattle.file_tree.proofs.PlaceLemmas.{stored_now, used_most}
+use Rattle.file_tree.proofs.PlaceLemmas.{used_most}
 use Rattle.file_tree.proofs.ToldLemmas.{few, count_most, numbers_there, numbers_apart, are_places, told_step}
 use Rattle.file_tree.proofs.KeptLemmas.{kept_now}
 use Rattle.file_tree.proofs.places.Places.to_nodes.Goals as goal
