@@ -291,9 +291,12 @@ module _ (letters : Letters) (size : ℕ) (index : Index) (can : CanMount index 
       let told = told_entry i e is in
       let number : e.1.number ≡ i = in_place i e is in
       let at : IsAt nodes i told.0 = subst (λ k. IsAt nodes k told.0) number told.1 in
-      let placed = placed_so i e is told.0 at (subst (λ k. IsPathOf nodes k e.0) number told.2) in
-      (told.0, at, same (tell e).parent told.0.parent e.1.uid told.0.uid (tell e).name told.0.name e.1.times told.0.times e.1.readonly told.0.readonly (told_kind_of letters e.1.kind) (kind_in_order letters size told.0.kind)
-      placed.parent told.3.uid placed.name told.3.times told.3.readonly (kind_again told.0.kind e.1.kind told.3.kind))
+      let placed = placed_so i e is told.0 at (subst (λ k. IsPathOf nodes k e.0) number told.2) in (
+        told.0,
+        at,
+        same (tell e).parent told.0.parent e.1.uid told.0.uid (tell e).name told.0.name e.1.times told.0.times e.1.readonly told.0.readonly (told_kind_of letters e.1.kind) (kind_in_order letters size told.0.kind)
+            placed.parent told.3.uid placed.name told.3.times told.3.readonly (kind_again told.0.kind e.1.kind told.3.kind),
+      )
     where
       same : (a b c d : ℕ) (x y : Name) (f g : _) (h j : _) (k l : told_kind.Kind) → a ≡ b → c ≡ d → x ≡ y → f ≡ g → h ≡ j → k ≡ l
           → ◌≡◌ {A = told.Node} (record { parent = a; uid = c; name = x; times = f; readonly = h; kind = k }) (record { parent = b; uid = d; name = y; times = g; readonly = j; kind = l })
