@@ -1,13 +1,13 @@
 -- What calls make of the blocks of a file.
-use Rattle.std.proofs.Common.{◌≡◌, ◌⊎◌, ℕ, ◌+◌, ◌-◌, ◌*◌, ◌/◌, ◌%◌, ◌<◌, ◌≤◌, Bool, true, false, cond, eqb, List, [], ◌∷◌, ◌++◌, map, Some, sym, ap, ◌∙◌, refl, subst, arith, ⊎_elim, inl, inr}
+use Rattle.std.proofs.Common.{◌≡◌, ◌⊎◌, ℕ, ◌+◌, ◌-◌, ◌/◌, ◌%◌, ◌<◌, ◌≤◌, Bool, true, false, cond, eqb, List, [], ◌∷◌, ◌++◌, map, ap, ◌∙◌, refl, arith, ⊎_elim, inl, inr}
 use Rattle.std.specs.List.{range_with_len}
 use Rattle.std.proofs.lemmas.Bool.Decides.{nat_tests}
 use Rattle.tape_types.specs.declared.cartridges.Extent.{Extent}
 use Rattle.tape_types.specs.declared.cartridges.Part.{Part}
 use Rattle.plain_tree.specs.Cells.{Cell}
-use Rattle.extent_map.specs.Laid.{Laid, unless_empty, front_of, rest_of, before, past, cut, left_from, overlaid}
+use Rattle.extent_map.specs.Laid.{unless_empty, front_of, rest_of, before, past, cut, left_from}
 use Rattle.extent_map.specs.Cells.{Tape, cell_of, covers, cell_at}
-use Rattle.extent_map.specs.Blocks.{StandsIn, SomeStandsIn, FileStandsIn, AreAlikeIn, BlocksMakeTheFile, NoOtherBlocks}
+use Rattle.extent_map.specs.Blocks.{StandsIn, SomeStandsIn, AreAlikeIn, BlocksMakeTheFile, NoOtherBlocks}
 use Rattle.extent_map.proofs.CellLemmas.{div_on}
 
 module _ (size : ℕ) (part : Part) (pos : ℕ) where

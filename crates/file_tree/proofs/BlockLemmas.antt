@@ -4,7 +4,6 @@ use Rattle.std.specs.Option.{option_map}
 use Rattle.std.specs.FinMap as fin
 use Rattle.tape_types.specs.declared.cartridges.Extent.{Extent}
 use Rattle.tape_types.specs.declared.cartridges.Part.{Part}
-use Rattle.plain_tree.specs.declared.nodes.Node as plain_node
 use Rattle.plain_tree.specs.declared.nodes.Kind.TheVariants as plain_kinds
 use Rattle.std.proofs.lemmas.Bool.{cases_order}
 use Rattle.extent_map.specs.Laid.{Laid, Room, IsLaid, overlaid, resized}
@@ -16,7 +15,7 @@ use Rattle.file_tree.specs.declared.nodes.Kind.{Kind}
 use Rattle.file_tree.specs.declared.nodes.Kind.TheVariants as kinds
 use Rattle.file_tree.specs.Paths.{Path}
 use Rattle.file_tree.specs.Tree.{Nodes, FileTree, HasLaid, plain_kind_of, plain_node_of, plain_nodes, plain_of}
-use Rattle.file_tree.specs.Edits.{LiesAlike, OthersLie, AllLie}
+use Rattle.file_tree.specs.Edits.{OthersLie, AllLie}
 use Rattle.file_tree.specs.Blocks.{TreeStandsIn, AddsNoBlock, AddsBlocksOf, BlocksMakeTheTree, EndsHold}
 use Rattle.file_tree.specs.Valid.{NumbersDiffer}
 use Rattle.file_tree.proofs.PathLemmas.{same_nodes, some_same, number_is}

@@ -1,25 +1,19 @@
 -- A write of bytes is an overlay over new blocks that hold them.
-use Rattle.std.proofs.Common.{◌≡◌, ℕ, zero, suc, ◌+◌, ◌-◌, ◌*◌, ◌/◌, ◌%◌, ◌<◌, ◌≤◌, min, List, [], ◌∷◌, length, take, drop, get_or, map, Some, None, Option, sym, ap, ◌∙◌, refl, subst, arith}
-use Rattle.std.specs.List.{range_with_len, slice_get}
-use Rattle.std.proofs.lemmas.List.{same_lists, length-map, length-drop}
+use Rattle.std.proofs.Common.{◌≡◌, ℕ, zero, suc, ◌+◌, ◌*◌, ◌/◌, ◌%◌, ◌<◌, ◌≤◌, List, [], ◌∷◌, length, take, drop, get_or, map, Some, sym, ap, ◌∙◌, refl, arith}
+use Rattle.std.specs.List.{slice_get}
+use Rattle.std.proofs.lemmas.List.{same_lists, length-map}
 use Rattle.std.proofs.lemmas.List.FromFn.{length-map-range_with_len, get_or-map-range_with_len}
 use Rattle.std.proofs.lemmas.Nat.{div-add-mod', mod_below}
 use Rattle.tape_types.specs.declared.moments.Moment.{Moment}
 use Rattle.tape_types.specs.declared.cartridges.Cartridge.{Cartridge}
 use Rattle.tape_types.specs.declared.cartridges.Extent.{Extent}
-use Rattle.tape_types.specs.declared.cartridges.Item.TheVariants.{Block}
-use Rattle.tape_types.specs.Cartridges.{items_of}
 use Rattle.plain_tree.specs.declared.calls.Call.TheVariants as asks
-use Rattle.plain_tree.specs.Calls.{after, with_bytes}
+use Rattle.plain_tree.specs.Calls.{with_bytes}
 use Rattle.plain_tree.specs.Cells.{Cell, written}
-use Rattle.plain_tree.specs.Refusals.{refusal_of}
 use Rattle.plain_tree.specs.Tree as plain
 use Rattle.extent_map.specs.Cells.{Tape, byte_in, tape_of, cell_of, cells_of}
-use Rattle.extent_map.specs.Blocks.{AreAlikeIn}
 use Rattle.file_tree.specs.Paths.{Path}
-use Rattle.file_tree.specs.Tree.{FileTree, StandsAt, plain_of, plain_nodes, whole}
-use Rattle.file_tree.specs.Blocks.{TreeStandsIn}
-use Rattle.file_tree.specs.Edits.{IsWritten}
+use Rattle.file_tree.specs.Tree.{plain_of}
 use Rattle.file_tree.specs.Writes.{HoldsBytes, HoldsBlocks, WritesAreWrites}
 use Rattle.file_tree.proofs.TreeLemmas.{after_free, free_too}
 use Rattle.file_tree.proofs.BlockLemmas.{blocks_make_the_tree}

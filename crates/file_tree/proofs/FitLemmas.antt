@@ -1,15 +1,14 @@
 -- Names and texts of links stay such as an index may tell.
-use Rattle.std.proofs.Common.{Option, Result, ◌≡◌, ◌⊎◌, ℕ, ◌<◌, ◌≤◌, Bool, true, false, cond, not, eqb, ltb, List, [], ◌∷◌, ◌++◌, length, Some, None, is_some, sym, ap, ◌∙◌, refl, subst, arith, ⊎_elim}
+use Rattle.std.proofs.Common.{Option, ◌≡◌, ◌⊎◌, ℕ, ◌≤◌, Bool, true, false, cond, eqb, ltb, List, [], ◌∷◌, ◌++◌, length, Some, None, is_some, sym, ap, ◌∙◌, refl, subst, arith, ⊎_elim}
 use Rattle.std.specs.FinMap as fin
 use Rattle.std.specs.Str.{IsUtf8, chars}
 use Rattle.std.proofs.lemmas.Bool.Decides.{nat_tests}
 use Rattle.tape_types.specs.Names.{name_fault, has_byte, is_dot}
 use Rattle.tape_types.specs.declared.names.NameErr.{NameErr}
 use Rattle.tape_types.specs.declared.names.NameErr.TheVariants as faults
-use Rattle.index_model.specs.Names.{IsVolumeName, IsNodeName}
-use Rattle.plain_tree.specs.declared.calls.Refusal.{Refusal}
+use Rattle.index_model.specs.Names.{IsNodeName}
 use Rattle.plain_tree.specs.declared.calls.Refusal.TheVariants as refusals
-use Rattle.plain_tree.specs.Paths.{last_name, is_at_or_below}
+use Rattle.plain_tree.specs.Paths.{is_at_or_below}
 use Rattle.plain_tree.specs.Refusals.{bad_name, refuse_if}
 use Rattle.file_tree.specs.declared.nodes.Node.{Node}
 use Rattle.file_tree.specs.declared.nodes.Kind.TheVariants as kinds
@@ -17,7 +16,7 @@ use Rattle.file_tree.specs.Paths.{Name, Path}
 use Rattle.file_tree.specs.Tree.{Nodes, moved}
 use Rattle.file_tree.specs.Changes.{IsChangedAt}
 use Rattle.file_tree.specs.Valid.{IsFit, AreFit}
-use Rattle.file_tree.proofs.PathLemmas.{by_last, no_name, same_last, get_here, get_other, is_or_not, some_same}
+use Rattle.file_tree.proofs.PathLemmas.{by_last, same_last, get_here, get_other, is_or_not, some_same}
 use Rattle.file_tree.proofs.EditLemmas.{was_there}
 use Rattle.file_tree.proofs.UpdateLemmas.{from_where}
 use Rattle.file_tree.proofs.ToldLemmas.{last_is}

@@ -1,5 +1,5 @@
 -- That the index that tells a tree is valid, and that the tree comes back of it.
-use Rattle.std.proofs.Common.{Option, ◌≡◌, ◌≢◌, ◌⊎◌, ℕ, zero, suc, ◌+◌, ◌-◌, ◌/◌, ◌<◌, ◌≤◌, ◌^◌, Bool, true, false, cond, eqb, ltb, leb, List, [], ◌∷◌, ◌++◌, length, map, fold, Some, None, sym, ap, ◌∙◌, refl, subst, arith, inl, inr, ⊎_elim}
+use Rattle.std.proofs.Common.{Option, ◌≡◌, ◌≢◌, ◌⊎◌, ℕ, zero, suc, ◌+◌, ◌/◌, ◌<◌, ◌≤◌, ◌^◌, Bool, true, false, cond, eqb, ltb, leb, List, [], ◌∷◌, ◌++◌, length, map, fold, Some, None, sym, ap, ◌∙◌, refl, subst, arith, inl, inr, ⊎_elim}
 use Rattle.std.specs.Option.{option_map}
 use Rattle.std.specs.List.{AllByRecursion, filter, slice_get}
 use Rattle.std.specs.FinMap as fin
@@ -10,30 +10,25 @@ use Rattle.tape_types.specs.declared.cartridges.Part.{Part}
 use Rattle.tape_types.specs.declared.cartridges.Part.TheVariants as parts
 use Rattle.index_model.specs.declared.indexes.Index.{Index}
 use Rattle.index_model.specs.declared.nodes.Node as told
-use Rattle.index_model.specs.declared.nodes.Kind as told_kind
-use Rattle.index_model.specs.declared.nodes.Kind.TheVariants as told_kinds
 use Rattle.index_model.specs.declared.nodes.RawExtent.{RawExtent}
 use Rattle.index_model.specs.Extents.{IsExtent, IsKind, IsFileAt}
 use Rattle.index_model.specs.Names.{IsNodeName, IsVolumeName, AreNames}
 use Rattle.index_model.specs.Places.{IsAt}
 use Rattle.index_model.specs.Texts.{IsLetter}
 use Rattle.index_model.specs.Valid.{IsValid}
-use Rattle.plain_tree.specs.declared.nodes.Node as plain_node
-use Rattle.extent_map.specs.Laid.{Laid, Room, IsLaid, AreLaid, cut, put_among}
+use Rattle.extent_map.specs.Laid.{Laid, Room, AreLaid, cut, put_among}
 use Rattle.extent_map.specs.Cells.{Tape}
-use Rattle.extent_map.specs.Blocks.{StandsIn, SomeStandsIn, FileStandsIn}
+use Rattle.extent_map.specs.Blocks.{SomeStandsIn, FileStandsIn}
 use Rattle.extent_map.proofs.LaidLemmas.{laid_le}
-use Rattle.plain_tree.specs.Valid.{mark_at}
 use Rattle.file_tree.specs.declared.nodes.Node.{Node}
 use Rattle.file_tree.specs.declared.nodes.Kind.{Kind}
 use Rattle.file_tree.specs.declared.nodes.Kind.TheVariants as kinds
 use Rattle.file_tree.specs.Paths.{Name, Path}
 use Rattle.file_tree.specs.Tree.{Nodes, FileTree, plain_kind_of, plain_node_of, plain_nodes, plain_of, whole}
-use Rattle.file_tree.specs.Blocks.{TreeStandsIn}
-use Rattle.file_tree.specs.Mounts.{Letters, part_of, extent_of, by_offset, laid_of, IsKindOf, IsNodeOf, IsPathOf, IsBuilt, IsOnVolume, EndsNear, CanMount, IsTreeOf}
+use Rattle.file_tree.specs.Mounts.{Letters, part_of, extent_of, by_offset, laid_of, IsKindOf, IsNodeOf, IsPathOf, IsBuilt, IsOnVolume, EndsNear, CanMount}
 use Rattle.file_tree.specs.Mounts.IsPathOf.{root, below}
-use Rattle.file_tree.specs.Told.{letter_of, raw_of, told_kind_of, name_or, told_of, told_in, told_nodes}
-use Rattle.file_tree.specs.Valid.{IsGood, IsFileOf, IsFit}
+use Rattle.file_tree.specs.Told.{letter_of, raw_of, told_kind_of, name_or, told_of, told_nodes}
+use Rattle.file_tree.specs.Valid.{IsGood, IsFileOf}
 use Rattle.file_tree.specs.Indexes.{TellsTree, IsFitVolume, AreLetters, without_room, as_told, IsSameTree, IndexesComeBack}
 use Rattle.file_tree.proofs.PathLemmas.{by_last, same_nodes, some_same}
 use Rattle.file_tree.proofs.PlainLemmas.{plain_get, plain_len}

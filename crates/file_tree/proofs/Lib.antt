@@ -4,6 +4,7 @@ pub mod ShownLemmas
 pub mod UpdateLemmas
 pub mod WalkLemmas
 pub mod PlaceLemmas
+pub mod KeptLemmas
 pub mod PlainLemmas
 pub mod StoredLemmas
 pub mod RefusalLemmas
@@ -28,3 +29,4 @@ pub mod BytesLemmas
 pub mod IndexLemmas
 pub mod CarriedLemmas
 pub mod OnVolumeLemmas
+pub mod AgainLemmas

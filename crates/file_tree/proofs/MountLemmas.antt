@@ -26,7 +26,7 @@ use Rattle.file_tree.specs.declared.nodes.Node.{Node}
 use Rattle.file_tree.specs.declared.nodes.Kind.{Kind}
 use Rattle.file_tree.specs.Tree.{Nodes, number_at, plain_kind_of, plain_node_of, plain_nodes}
 use Rattle.file_tree.specs.Places.{Stored, CanAppend}
-use Rattle.file_tree.specs.Valid.{AreFilesOf, IsGood}
+use Rattle.file_tree.specs.Valid.{AreFilesOf}
 use Rattle.file_tree.specs.Mounts.{Letters, IsKindOf, IsNodeOf, IsPathOf, Stands, IsTold, IsBuilt, IsOnVolume, AreTold, CanMount}
 use Rattle.file_tree.specs.Mounts.IsPathOf.{root, below}
 use Rattle.file_tree.specs.Raws.{IsRaw, AreApart, AllApart, CanKeep, LiesWell}

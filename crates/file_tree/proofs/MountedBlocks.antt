@@ -1,7 +1,6 @@
 -- Which blocks the tree of an index stands in.
-use Rattle.std.proofs.Common.{◌≡◌, ◌⊎◌, ℕ, zero, suc, ◌+◌, ◌*◌, ◌/◌, ◌<◌, ◌≤◌, ◌^◌, Bool, true, false, cond, ltb, leb, List, [], ◌∷◌, ◌++◌, map, fold, length, Some, sym, ap, ◌∙◌, refl, subst, inl, inr, ⊎_elim, arith}
+use Rattle.std.proofs.Common.{◌≡◌, ◌⊎◌, ℕ, suc, ◌+◌, ◌*◌, ◌/◌, ◌<◌, ◌≤◌, ◌^◌, Bool, true, false, cond, ltb, leb, List, [], ◌∷◌, map, fold, length, sym, ap, ◌∙◌, refl, subst, inl, inr, ⊎_elim, arith}
 use Rattle.std.specs.List.{AllByRecursion, filter}
-use Rattle.std.specs.FinMap as fin
 use Rattle.std.proofs.Math.Nat.{div-mul-le_self, mul-le-mul_right, add-mul}
 use Rattle.std.proofs.lemmas.Bool.{cases_lt}
 use Rattle.tape_types.specs.declared.cartridges.Extent.{Extent}
@@ -18,8 +17,7 @@ use Rattle.extent_map.specs.Blocks.{StandsIn, SomeStandsIn, FileStandsIn}
 use Rattle.extent_map.proofs.BlockLemmas.{in_joined, in_cut}
 use Rattle.file_tree.specs.declared.nodes.Kind.{Kind}
 use Rattle.file_tree.specs.declared.nodes.Kind.TheVariants as kinds
-use Rattle.file_tree.specs.Tree.{Nodes, FileTree, HasLaid}
-use Rattle.file_tree.specs.Blocks.{TreeStandsIn}
+use Rattle.file_tree.specs.Tree.{Nodes, HasLaid}
 use Rattle.file_tree.proofs.MountLemmas.{told_at}
 use Rattle.file_tree.specs.Mounts.{Letters, extent_of, by_offset, laid_of, IsKindOf, part_of, IsBuilt, EndsNear, IndexStandsIn, EndsBelow, MountsLieBelow}
 

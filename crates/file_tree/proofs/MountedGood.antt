@@ -1,6 +1,5 @@
 -- That the tree of an index is good.
-use Rattle.std.proofs.Common.{Option, ◌≡◌, ℕ, ◌<◌, ◌^◌, List, [], ◌∷◌, ◌++◌, length, Some, sym, ap, ◌∙◌, refl, subst, arith}
-use Rattle.std.specs.FinMap as fin
+use Rattle.std.proofs.Common.{◌≡◌, ℕ, ◌<◌, ◌^◌, List, length, sym, ◌∙◌, subst}
 use Rattle.std.specs.Str.{IsUtf8}
 use Rattle.index_model.specs.declared.indexes.Index.{Index}
 use Rattle.index_model.specs.declared.nodes.Node as told
@@ -10,15 +9,14 @@ use Rattle.index_model.specs.Extents.{IsKind}
 use Rattle.index_model.specs.Names.{IsVolumeName, IsNodeName}
 use Rattle.index_model.specs.Places.{IsAt}
 use Rattle.index_model.proofs.Walks.{all_at}
-use Rattle.file_tree.specs.declared.nodes.Node.{Node}
 use Rattle.file_tree.specs.declared.nodes.Kind.{Kind}
 use Rattle.file_tree.specs.declared.nodes.Kind.TheVariants as kinds
-use Rattle.file_tree.specs.Paths.{Name, Path}
-use Rattle.file_tree.specs.Tree.{Nodes, number_at}
-use Rattle.file_tree.specs.Valid.{AreFilesOf, NumbersDiffer, IsFit, AreFit, IsGood}
+use Rattle.file_tree.specs.Paths.{Name}
+use Rattle.file_tree.specs.Tree.{Nodes}
+use Rattle.file_tree.specs.Valid.{AreFilesOf, NumbersDiffer, AreFit, IsGood}
 use Rattle.file_tree.specs.Mounts.{Letters, IsKindOf, IsBuilt, CanMount}
 use Rattle.file_tree.proofs.PathLemmas.{node_at}
-use Rattle.file_tree.proofs.MountLemmas.{told_at, path_once, ends, one_node, shape}
+use Rattle.file_tree.proofs.MountLemmas.{told_at, path_once, ends, shape}
 use Rattle.file_tree.proofs.MountedBlocks.{built_near}
 
 -- no two nodes have one number

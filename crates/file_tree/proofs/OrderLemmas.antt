@@ -40,7 +40,7 @@ less_is Equal e = cc
 less_is Greater e = cc
 
 -- a path is before those that go on from it
-parent_less : (u : Path) (x : List ℕ) → path_cmp u (u ++ x ∷ []) ≡ Less
+pub parent_less : (u : Path) (x : List ℕ) → path_cmp u (u ++ x ∷ []) ≡ Less
 parent_less [] x = refl
 parent_less (y ∷ u) x = ap (λ r. ordering_then r (path_cmp u (u ++ x ∷ []))) (tied_itself nat_list_cmp_total y) ∙ parent_less u x
 
@@ -71,7 +71,7 @@ module _ {X : Type 0} where
   first_below (e ∷ es) k p x (suc j) below is = first_below es k p x j (both_true (is_lt (path_cmp k e.0)) (fin.Entries.below_all path_cmp k es) below).1 is
 
   -- of two entries the earlier one has the earlier path
-  ascends : (es : List (Path × X)) (i j : ℕ) (p q : Path) (x y : X) → fin.is_sorted path_cmp es ≡ true → i < j → slice_get es i ≡ Some (p, x) → slice_get es j ≡ Some (q, y) → path_cmp p q ≡ Less
+  pub ascends : (es : List (Path × X)) (i j : ℕ) (p q : Path) (x y : X) → fin.is_sorted path_cmp es ≡ true → i < j → slice_get es i ≡ Some (p, x) → slice_get es j ≡ Some (q, y) → path_cmp p q ≡ Less
   ascends [] i j p q x y sorted lt is_i is_j = cc
   ascends (e ∷ es) zero zero p q x y sorted lt is_i is_j = absurd (omega (arith, lt))
   ascends (e ∷ es) zero (suc j) p q x y sorted lt is_i is_j =

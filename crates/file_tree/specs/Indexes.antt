@@ -1,8 +1,14 @@
 -- The index that tells a tree: that it is valid, and that the tree comes back of it.
-use Rattle.std.specs.Prelude.{◌≡◌, ◌≢◌, ℕ, ◌<◌, ◌≤◌, ◌^◌, Option, IfSome}
+use Rattle.std.specs.Prelude.{◌≡◌, ◌≢◌, ℕ, ◌<◌, ◌≤◌, ◌^◌, List, map, IfSome}
 use Rattle.std.specs.Option.{option_map}
 use Rattle.std.specs.FinMap as fin
 use Rattle.index_model.specs.declared.indexes.Index.{Index}
+use Rattle.std.specs.declared.cmp.Ordering.TheVariants.{Less}
+use Rattle.index_model.specs.declared.nodes.Node as told
+use Rattle.index_model.specs.declared.nodes.Kind as told_kind
+use Rattle.index_model.specs.declared.nodes.Kind.TheVariants as told_kinds
+use Rattle.index_model.specs.Places.{IsAt}
+use Rattle.plain_tree.specs.Links.{name_cmp}
 use Rattle.index_model.specs.Texts.{IsLetter, IsPlainText}
 use Rattle.index_model.specs.Valid.{IsSpot, IsPolicy, IsValid}
 use Rattle.extent_map.specs.Cells.{Tape}
@@ -11,8 +17,8 @@ use Rattle.file_tree.specs.declared.nodes.Kind.{Kind}
 use Rattle.file_tree.specs.declared.nodes.Kind.TheVariants as kinds
 use Rattle.file_tree.specs.Paths.{Path}
 use Rattle.file_tree.specs.Tree.{FileTree, plain_of}
-use Rattle.file_tree.specs.Mounts.{Letters, CanMount, IsTreeOf}
-use Rattle.file_tree.specs.Told.{told_nodes}
+use Rattle.file_tree.specs.Mounts.{Letters, laid_of, CanMount, IsTreeOf}
+use Rattle.file_tree.specs.Told.{raw_of, told_nodes}
 use Rattle.file_tree.specs.Valid.{IsGood}
 
 -- the index has the nodes of the tree, and its highest uid
@@ -62,3 +68,23 @@ pub record IndexesComeBack : Type 0 where
   pub same : (letters : Letters) (t other : FileTree) (index : Index)
       → IsGood t → letters.0 ≢ letters.1 → TellsTree letters t index → IsTreeOf letters t.block_size index other → IsSameTree t other
   pub plain : (tape : Tape) (t other : FileTree) → IsSameTree t other → plain_of tape other ≡ plain_of tape t
+
+-- in each directory the nodes stand by the bytes of their names
+abbrev pub NamesAscend : List told.Node → Type 0
+NamesAscend nodes = (at later : ℕ) (node other : told.Node) → 0 < at → at < later
+    → IsAt nodes at node → IsAt nodes later other → node.parent ≡ other.parent → name_cmp node.name other.name ≡ Less
+
+-- a file's extents by their offsets, cut at its length, without those of no bytes
+abbrev pub kind_in_order : Letters → ℕ → told_kind.Kind → told_kind.Kind
+kind_in_order letters size told_kinds.Dir = told_kinds.Dir
+kind_in_order letters size (told_kinds.File bytes raws) = told_kinds.File bytes (map (raw_of letters) (laid_of letters size bytes raws).extents)
+kind_in_order letters size (told_kinds.Link text) = told_kinds.Link text
+
+abbrev pub node_in_order : Letters → ℕ → told.Node → told.Node
+node_in_order letters size node = record node { kind = kind_in_order letters size node.kind }
+
+-- the tree of an index whose nodes stand by their names tells these nodes again, each file's extents by their offsets
+abbrev pub IndexesAreToldAgain : Type 0
+IndexesAreToldAgain = (letters : Letters) (size : ℕ) (index : Index) (t : FileTree)
+    → CanMount index letters size → NamesAscend index.nodes → IsTreeOf letters size index t
+    → told_nodes letters t ≡ map (node_in_order letters size) index.nodes

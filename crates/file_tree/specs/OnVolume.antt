@@ -4,7 +4,6 @@ use Rattle.std.specs.List.{list_all}
 use Rattle.index_model.specs.declared.nodes.RawExtent.{RawExtent}
 use Rattle.index_model.specs.declared.nodes.Kind.{Kind}
 use Rattle.index_model.specs.declared.nodes.Kind.TheVariants as kinds
-use Rattle.index_model.specs.declared.nodes.Node.{Node}
 use Rattle.file_tree.specs.Mounts.{Letters}
 
 -- the extent has a letter of the volume, begins within a block, and ends far before the last position

@@ -1,5 +1,5 @@
 -- What is read of a tree.
-use Rattle.std.specs.Prelude.{◌≡◌, ℕ, List, Option, Some, None}
+use Rattle.std.specs.Prelude.{◌≡◌, ℕ, Option, Some, None}
 use Rattle.std.specs.FinMap as fin
 use Rattle.plain_tree.specs.declared.calls.Refusal.{Refusal}
 use Rattle.plain_tree.specs.declared.calls.Refusal.TheVariants as refusals

@@ -5,7 +5,7 @@ ghost use Rattle.index_model.specs.Valid.{Agrees};
 ghost use Rattle.file_tree.specs.Blocks.{BlocksMakeTheTree, EndsHold};
 ghost use Rattle.file_tree.specs.Carried.{FactsAreCarried};
 ghost use Rattle.file_tree.specs.Edits.{RefusalsAreAlike};
-ghost use Rattle.file_tree.specs.Indexes.{IndexesComeBack};
+ghost use Rattle.file_tree.specs.Indexes.{IndexesAreToldAgain, IndexesComeBack};
 ghost use Rattle.file_tree.specs.Mounts.{Letters, MountsLieBelow};
 ghost use Rattle.file_tree.specs.Told.{told_nodes};
 ghost use Rattle.file_tree.specs.Tree.{FileTree, PlainNodesAgree};
@@ -59,4 +59,9 @@ pub fn mounts_lie_below()
 /// The nodes of the plain tree are those that are kept, with the bytes of their files.
 pub fn plain_nodes_agree()
     ensures { PlainNodesAgree }
+{}
+
+/// The tree of an index whose nodes stand by their names tells these nodes again.
+pub fn indexes_are_told_again()
+    ensures { IndexesAreToldAgain }
 {}

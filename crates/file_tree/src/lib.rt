@@ -24,8 +24,8 @@ mod tree;
 pub use carried::{Carried, Heading};
 pub use found::Found;
 pub use laws::{
-    blocks_make_the_tree, ends_hold, facts_are_carried, indexes_come_back, mounts_lie_below,
-    plain_nodes_agree, refusals_are_alike, told_nodes_agree, writes_are_writes,
+    blocks_make_the_tree, ends_hold, facts_are_carried, indexes_are_told_again, indexes_come_back,
+    mounts_lie_below, plain_nodes_agree, refusals_are_alike, told_nodes_agree, writes_are_writes,
 };
 pub use raws::Letters;
 pub use tree::Tree;

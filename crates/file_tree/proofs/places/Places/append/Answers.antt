@@ -5,15 +5,16 @@ use Rattle.file_tree.specs.Seen.{held}
 use Rattle.file_tree.specs.Places.{Stored}
 use Rattle.file_tree.proofs.ShownLemmas.{one_number}
 use Rattle.file_tree.proofs.WalkLemmas.{seen}
-use Rattle.file_tree.proofs.PlaceLemmas.{count_most, stored_now}
+use Rattle.file_tree.proofs.PlaceLemmas.{count_most}
 use Rattle.file_tree.proofs.StoredLemmas.{stored_append, sole, still, stored_same}
+use Rattle.file_tree.proofs.KeptLemmas.{kept_now}
 use Rattle.file_tree.proofs.places.Places.append.Goals as goal
 
 pub invariant_of-self-inside : goal.invariant_of-self-inside
 invariant_of-self-inside c =
     let spots = c.self.inside.spots.items in
     let m = c.args.self.now.nodes in
-    let s = stored_now spots c.self.inside.count c.self.inside.seen.0 m c.self.invariant (ap (λ (t : Stored). t.nodes) c.self.view_is) in
+    let s = kept_now c.self.inside c.args.self.now c.self.invariant c.self.view_is in
     let next = c.push.new.self.items in
     let same : next ≡ spots = search rules in
     let t = stored_same spots next c.self.inside.count m s same in
@@ -23,7 +24,7 @@ pub invariant_of-self : goal.invariant_of-self
 invariant_of-self c =
     let spots = c.self.inside.spots.items in
     let m = c.args.self.now.nodes in
-    let s = stored_now spots c.self.inside.count c.self.inside.seen.0 m c.self.invariant (ap (λ (t : Stored). t.nodes) c.self.view_is) in
+    let s = kept_now c.self.inside c.args.self.now c.self.invariant c.self.view_is in
     let next = c.push.new.self.items in
     let same : next ≡ spots = search rules in
     let t = stored_same spots next c.self.inside.count m s same in
@@ -33,14 +34,14 @@ pub overflow_add-self : goal.overflow_add-self
 overflow_add-self c =
     let spots = c.self.inside.spots.items in
     let m = c.args.self.now.nodes in
-    let s = stored_now spots c.self.inside.count c.self.inside.seen.0 m c.self.invariant (ap (λ (t : Stored). t.nodes) c.self.view_is) in
+    let s = kept_now c.self.inside c.args.self.now c.self.invariant c.self.view_is in
     omega (arith, count_most spots c.self.inside.count m s)
 
 pub invariant_of-self-inside-2 : goal.invariant_of-self-inside-2
 invariant_of-self-inside-2 c =
     let spots = c.self.inside.spots.items in
     let m = c.args.self.now.nodes in
-    let s = stored_now spots c.self.inside.count c.self.inside.seen.0 m c.self.invariant (ap (λ (t : Stored). t.nodes) c.self.view_is) in
+    let s = kept_now c.self.inside c.args.self.now c.self.invariant c.self.view_is in
     let next = c.push.new.self.items in
     let node = c.numbered.result in
     let slots : length spots ≡ c.args.self.now.slots = ap (λ (t : Stored). t.slots) c.self.view_is in
@@ -54,7 +55,7 @@ pub invariant_of-self-2 : goal.invariant_of-self-2
 invariant_of-self-2 c =
     let spots = c.self.inside.spots.items in
     let m = c.args.self.now.nodes in
-    let s = stored_now spots c.self.inside.count c.self.inside.seen.0 m c.self.invariant (ap (λ (t : Stored). t.nodes) c.self.view_is) in
+    let s = kept_now c.self.inside c.args.self.now c.self.invariant c.self.view_is in
     let next = c.push.new.self.items in
     let node = c.numbered.result in
     let slots : length spots ≡ c.args.self.now.slots = ap (λ (t : Stored). t.slots) c.self.view_is in
@@ -68,7 +69,7 @@ pub returns-clause-nodes : goal.returns-clause-nodes
 returns-clause-nodes c path stood =
     let spots = c.self.inside.spots.items in
     let m = c.args.self.now.nodes in
-    let s = stored_now spots c.self.inside.count c.self.inside.seen.0 m c.self.invariant (ap (λ (t : Stored). t.nodes) c.self.view_is) in
+    let s = kept_now c.self.inside c.args.self.now c.self.invariant c.self.view_is in
     let next = c.push.new.self.items in
     let node = c.numbered.result in
     let slots : length spots ≡ c.args.self.now.slots = ap (λ (t : Stored). t.slots) c.self.view_is in

@@ -1,33 +1,33 @@
-use Rattle.std.proofs.Common.{ap, rules}
+use Rattle.std.proofs.Common.{rules}
 use Rattle.std.specs.FinMap as fin
 use Rattle.file_tree.specs.Seen.{held}
 use Rattle.file_tree.specs.Changes.{IsChangedBy}
-use Rattle.file_tree.specs.Places.{Stored}
 use Rattle.file_tree.proofs.ShownLemmas.{one_number, stands}
 use Rattle.file_tree.proofs.WalkLemmas.{seen}
-use Rattle.file_tree.proofs.PlaceLemmas.{stored_now, there_held, node_now}
+use Rattle.file_tree.proofs.PlaceLemmas.{there_held, node_now}
 use Rattle.file_tree.proofs.StoredLemmas.{stored_change, sole, still}
+use Rattle.file_tree.proofs.KeptLemmas.{kept_now}
 use Rattle.file_tree.proofs.places.Places.change.Goals as goal
 
 pub change_spot-requires-clause-there : goal.change_spot-requires-clause-there
 change_spot-requires-clause-there c =
     let spots = c.self.inside.spots.items in
     let m = c.args.self.now.nodes in
-    let s = stored_now spots c.self.inside.count c.self.inside.seen.0 m c.self.invariant (ap (λ (t : Stored). t.nodes) c.self.view_is) in
+    let s = kept_now c.self.inside c.args.self.now c.self.invariant c.self.view_is in
     there_held (held spots) m s.shown c.args.number c.requires.there
 
 pub change_spot-requires-clause-can : goal.change_spot-requires-clause-can
 change_spot-requires-clause-can c z is =
     let spots = c.self.inside.spots.items in
     let m = c.args.self.now.nodes in
-    let s = stored_now spots c.self.inside.count c.self.inside.seen.0 m c.self.invariant (ap (λ (t : Stored). t.nodes) c.self.view_is) in
+    let s = kept_now c.self.inside c.args.self.now c.self.invariant c.self.view_is in
     let at = stands (held spots) m s.shown c.args.number z is in c.requires.can at.0 z.node at.1 at.2
 
 pub invariant_of-self-inside : goal.invariant_of-self-inside
 invariant_of-self-inside c =
     let spots = c.self.inside.spots.items in
     let m = c.args.self.now.nodes in
-    let s = stored_now spots c.self.inside.count c.self.inside.seen.0 m c.self.invariant (ap (λ (t : Stored). t.nodes) c.self.view_is) in
+    let s = kept_now c.self.inside c.args.self.now c.self.invariant c.self.view_is in
     let ch = c.change_spot.ensures.changed in
     let next = c.change_spot.new.spots.items in
     let now = fin.insert m c.requires.there.0 ch.new in
@@ -38,7 +38,7 @@ pub invariant_of-self : goal.invariant_of-self
 invariant_of-self c =
     let spots = c.self.inside.spots.items in
     let m = c.args.self.now.nodes in
-    let s = stored_now spots c.self.inside.count c.self.inside.seen.0 m c.self.invariant (ap (λ (t : Stored). t.nodes) c.self.view_is) in
+    let s = kept_now c.self.inside c.args.self.now c.self.invariant c.self.view_is in
     let ch = c.change_spot.ensures.changed in
     let next = c.change_spot.new.spots.items in
     let now = fin.insert m c.requires.there.0 ch.new in
@@ -49,7 +49,7 @@ pub returns-clause-changed : goal.returns-clause-changed
 returns-clause-changed c =
     let spots = c.self.inside.spots.items in
     let m = c.args.self.now.nodes in
-    let s = stored_now spots c.self.inside.count c.self.inside.seen.0 m c.self.invariant (ap (λ (t : Stored). t.nodes) c.self.view_is) in
+    let s = kept_now c.self.inside c.args.self.now c.self.invariant c.self.view_is in
     let ch = c.change_spot.ensures.changed in
     let next = c.change_spot.new.spots.items in
     let now = fin.insert m c.requires.there.0 ch.new in

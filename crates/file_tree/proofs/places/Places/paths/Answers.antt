@@ -1,20 +1,20 @@
 use Rattle.std.proofs.Common.{sym, ap, ◌∙◌, subst, arith, ◌+◌, length}
 use Rattle.file_tree.specs.Seen.{held}
-use Rattle.file_tree.specs.Places.{Stored}
-use Rattle.file_tree.proofs.PlaceLemmas.{stored_now, held_or}
+use Rattle.file_tree.proofs.PlaceLemmas.{held_or}
 use Rattle.file_tree.proofs.ToldLemmas.{spot_there, step_some, step_none, all_below, IsBelow}
+use Rattle.file_tree.proofs.KeptLemmas.{kept_now}
 use Rattle.file_tree.proofs.places.Places.paths.Goals as goal
 use Rattle.file_tree.proofs.places.Places.paths.Goals.{in-Some+in_ok-put_number, in_default}
 
 pub put_number-requires : goal.put_number-requires
 put_number-requires c =
-    let s = stored_now c.self.inside.spots.items c.self.inside.count c.self.inside.seen.0 c.args.self.now.nodes c.self.invariant (ap (λ (t : Stored). t.nodes) c.self.view_is) in
+    let s = kept_now c.self.inside c.args.self.now c.self.invariant c.self.view_is in
     let here = ap (λ l. held l c.loop-spot.spot-index) (sym c.deref-spot-items.ensures.value) ∙ held_or c.deref-spot-items.result.now c.loop-spot.spot-index c.spot-item.result c.loop-spot-test.true c.spot-item.is in
     spot_there (held c.self.inside.spots.items) c.args.self.now.nodes s.shown c.loop-spot.spot-index c.in-Some.spot (here ∙ c.in-Some.is)
 
 pub loop-spot-preserved : goal.loop-spot-preserved
 loop-spot-preserved c =
-    let s = stored_now c.self.inside.spots.items c.self.inside.count c.self.inside.seen.0 c.args.self.now.nodes c.self.invariant (ap (λ (t : Stored). t.nodes) c.self.view_is) in
+    let s = kept_now c.self.inside c.args.self.now c.self.invariant c.self.view_is in
     let here = ap (λ l. held l c.loop-spot.spot-index) (sym c.deref-spot-items.ensures.value) ∙ held_or c.deref-spot-items.result.now c.loop-spot.spot-index c.spot-item.result c.loop-spot-test.true c.spot-item.is in
     elim c.match-spot.branch [
       | in-Some+in_ok-put_number w ↦
@@ -28,5 +28,5 @@ loop-spot-preserved c =
 
 pub returns : goal.returns
 returns c path =
-    let s = stored_now c.self.inside.spots.items c.self.inside.count c.self.inside.seen.0 c.args.self.now.nodes c.self.invariant (ap (λ (t : Stored). t.nodes) c.self.view_is) in
+    let s = kept_now c.self.inside c.args.self.now c.self.invariant c.self.view_is in
     c.loop-spot.invariant path ∙ all_below c.self.inside.spots.items c.args.self.now.nodes s.shown c.loop-spot.spot-index (omega (arith, ap length c.deref-spot-items.ensures.value, c.loop-spot-test.false)) path

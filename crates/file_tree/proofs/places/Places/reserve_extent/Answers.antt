@@ -1,26 +1,26 @@
-use Rattle.std.proofs.Common.{ap, OnOk, rules}
+use Rattle.std.proofs.Common.{OnOk, rules}
 use Rattle.std.specs.FinMap as fin
 use Rattle.file_tree.specs.Seen.{held}
 use Rattle.file_tree.specs.Changes.{IsRoomier, HasRoom}
-use Rattle.file_tree.specs.Places.{Stored}
 use Rattle.file_tree.proofs.ShownLemmas.{one_number}
 use Rattle.file_tree.proofs.WalkLemmas.{seen}
-use Rattle.file_tree.proofs.PlaceLemmas.{stored_now, there_held, node_now}
+use Rattle.file_tree.proofs.PlaceLemmas.{there_held, node_now}
 use Rattle.file_tree.proofs.StoredLemmas.{stored_change, sole, still}
+use Rattle.file_tree.proofs.KeptLemmas.{kept_now}
 use Rattle.file_tree.proofs.places.Places.reserve_extent.Goals as goal
 
 pub reserve_spot-requires : goal.reserve_spot-requires
 reserve_spot-requires c =
     let spots = c.self.inside.spots.items in
     let m = c.args.self.now.nodes in
-    let s = stored_now spots c.self.inside.count c.self.inside.seen.0 m c.self.invariant (ap (λ (t : Stored). t.nodes) c.self.view_is) in
+    let s = kept_now c.self.inside c.args.self.now c.self.invariant c.self.view_is in
     there_held (held spots) m s.shown c.args.number c.requires
 
 pub invariant_of-self-inside : goal.invariant_of-self-inside
 invariant_of-self-inside c =
     let spots = c.self.inside.spots.items in
     let m = c.args.self.now.nodes in
-    let s = stored_now spots c.self.inside.count c.self.inside.seen.0 m c.self.invariant (ap (λ (t : Stored). t.nodes) c.self.view_is) in
+    let s = kept_now c.self.inside c.args.self.now c.self.invariant c.self.view_is in
     let ch = c.reserve_spot.ensures.changed in
     let next = c.reserve_spot.new.spots.items in
     let now = fin.insert m c.requires.0 ch.new in
@@ -31,7 +31,7 @@ pub invariant_of-self : goal.invariant_of-self
 invariant_of-self c =
     let spots = c.self.inside.spots.items in
     let m = c.args.self.now.nodes in
-    let s = stored_now spots c.self.inside.count c.self.inside.seen.0 m c.self.invariant (ap (λ (t : Stored). t.nodes) c.self.view_is) in
+    let s = kept_now c.self.inside c.args.self.now c.self.invariant c.self.view_is in
     let ch = c.reserve_spot.ensures.changed in
     let next = c.reserve_spot.new.spots.items in
     let now = fin.insert m c.requires.0 ch.new in
@@ -42,7 +42,7 @@ pub returns-clause-changed : goal.returns-clause-changed
 returns-clause-changed c =
     let spots = c.self.inside.spots.items in
     let m = c.args.self.now.nodes in
-    let s = stored_now spots c.self.inside.count c.self.inside.seen.0 m c.self.invariant (ap (λ (t : Stored). t.nodes) c.self.view_is) in
+    let s = kept_now c.self.inside c.args.self.now c.self.invariant c.self.view_is in
     let ch = c.reserve_spot.ensures.changed in
     let next = c.reserve_spot.new.spots.items in
     let now = fin.insert m c.requires.0 ch.new in

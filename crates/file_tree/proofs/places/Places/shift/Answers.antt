@@ -1,25 +1,25 @@
 use Rattle.std.proofs.Common.{ap, ◌∙◌, [], ◌∷◌, ◌++◌, rules}
 use Rattle.file_tree.specs.Tree.{moved}
 use Rattle.file_tree.specs.Seen.{held}
-use Rattle.file_tree.specs.Places.{Stored}
 use Rattle.file_tree.proofs.ShownLemmas.{one_number}
 use Rattle.file_tree.proofs.WalkLemmas.{seen}
-use Rattle.file_tree.proofs.PlaceLemmas.{stored_now, there_held}
+use Rattle.file_tree.proofs.PlaceLemmas.{there_held}
 use Rattle.file_tree.proofs.StoredLemmas.{stored_shift, sole, still}
+use Rattle.file_tree.proofs.KeptLemmas.{kept_now}
 use Rattle.file_tree.proofs.places.Places.shift.Goals as goal
 
 pub shift_spot-requires : goal.shift_spot-requires
 shift_spot-requires c =
     let spots = c.self.inside.spots.items in
     let m = c.args.self.now.nodes in
-    let s = stored_now spots c.self.inside.count c.self.inside.seen.0 m c.self.invariant (ap (λ (t : Stored). t.nodes) c.self.view_is) in
+    let s = kept_now c.self.inside c.args.self.now c.self.invariant c.self.view_is in
     there_held (held spots) m s.shown c.args.number (c.requires.front ++ c.requires.old_name ∷ [], c.requires.stands)
 
 pub invariant_of-self-inside : goal.invariant_of-self-inside
 invariant_of-self-inside c =
     let spots = c.self.inside.spots.items in
     let m = c.args.self.now.nodes in
-    let s = stored_now spots c.self.inside.count c.self.inside.seen.0 m c.self.invariant (ap (λ (t : Stored). t.nodes) c.self.view_is) in
+    let s = kept_now c.self.inside c.args.self.now c.self.invariant c.self.view_is in
     let next = c.shift_spot.new.spots.items in
     let from = c.requires.front ++ c.requires.old_name ∷ [] in
     let now = moved from (c.requires.up ++ c.args.name ∷ []) m in
@@ -30,7 +30,7 @@ pub invariant_of-self : goal.invariant_of-self
 invariant_of-self c =
     let spots = c.self.inside.spots.items in
     let m = c.args.self.now.nodes in
-    let s = stored_now spots c.self.inside.count c.self.inside.seen.0 m c.self.invariant (ap (λ (t : Stored). t.nodes) c.self.view_is) in
+    let s = kept_now c.self.inside c.args.self.now c.self.invariant c.self.view_is in
     let next = c.shift_spot.new.spots.items in
     let from = c.requires.front ++ c.requires.old_name ∷ [] in
     let now = moved from (c.requires.up ++ c.args.name ∷ []) m in
@@ -41,7 +41,7 @@ pub returns-clause-shifted : goal.returns-clause-shifted
 returns-clause-shifted c a b stood up_stood =
     let spots = c.self.inside.spots.items in
     let m = c.args.self.now.nodes in
-    let s = stored_now spots c.self.inside.count c.self.inside.seen.0 m c.self.invariant (ap (λ (t : Stored). t.nodes) c.self.view_is) in
+    let s = kept_now c.self.inside c.args.self.now c.self.invariant c.self.view_is in
     let next = c.shift_spot.new.spots.items in
     let from = c.requires.front ++ c.requires.old_name ∷ [] in
     let now = moved from (c.requires.up ++ c.args.name ∷ []) m in

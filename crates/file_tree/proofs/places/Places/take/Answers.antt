@@ -2,25 +2,25 @@ use Rattle.std.proofs.Common.{◌-◌, sym, ap, ◌∙◌, [], ◌∷◌, ◌++�
 use Rattle.std.specs.FinMap as fin
 use Rattle.file_tree.specs.Tree.{Nodes, number_at}
 use Rattle.file_tree.specs.Seen.{held}
-use Rattle.file_tree.specs.Places.{Stored}
 use Rattle.file_tree.proofs.ShownLemmas.{one_number}
 use Rattle.file_tree.proofs.WalkLemmas.{seen}
-use Rattle.file_tree.proofs.PlaceLemmas.{stored_now, there_held}
+use Rattle.file_tree.proofs.PlaceLemmas.{there_held}
 use Rattle.file_tree.proofs.StoredLemmas.{taken_gone, stored_take, sole, still}
+use Rattle.file_tree.proofs.KeptLemmas.{kept_now}
 use Rattle.file_tree.proofs.places.Places.take.Goals as goal
 
 pub take_spot-requires : goal.take_spot-requires
 take_spot-requires c =
     let spots = c.self.inside.spots.items in
     let m = c.args.self.now.nodes in
-    let s = stored_now spots c.self.inside.count c.self.inside.seen.0 m c.self.invariant (ap (λ (t : Stored). t.nodes) c.self.view_is) in
+    let s = kept_now c.self.inside c.args.self.now c.self.invariant c.self.view_is in
     there_held (held spots) m s.shown c.args.number (c.requires.front ++ c.requires.name ∷ [], c.requires.stands)
 
 pub invariant_of-self-inside : goal.invariant_of-self-inside
 invariant_of-self-inside c =
     let spots = c.self.inside.spots.items in
     let m = c.args.self.now.nodes in
-    let s = stored_now spots c.self.inside.count c.self.inside.seen.0 m c.self.invariant (ap (λ (t : Stored). t.nodes) c.self.view_is) in
+    let s = kept_now c.self.inside c.args.self.now c.self.invariant c.self.view_is in
     let next = c.take_spot.new.spots.items in
     let from = c.requires.front ++ c.requires.name ∷ [] in
     let now = fin.remove m from in
@@ -31,7 +31,7 @@ pub invariant_of-self : goal.invariant_of-self
 invariant_of-self c =
     let spots = c.self.inside.spots.items in
     let m = c.args.self.now.nodes in
-    let s = stored_now spots c.self.inside.count c.self.inside.seen.0 m c.self.invariant (ap (λ (t : Stored). t.nodes) c.self.view_is) in
+    let s = kept_now c.self.inside c.args.self.now c.self.invariant c.self.view_is in
     let next = c.take_spot.new.spots.items in
     let from = c.requires.front ++ c.requires.name ∷ [] in
     let now = fin.remove m from in
@@ -42,7 +42,7 @@ pub returns-clause-taken : goal.returns-clause-taken
 returns-clause-taken c path stood =
     let spots = c.self.inside.spots.items in
     let m = c.args.self.now.nodes in
-    let s = stored_now spots c.self.inside.count c.self.inside.seen.0 m c.self.invariant (ap (λ (t : Stored). t.nodes) c.self.view_is) in
+    let s = kept_now c.self.inside c.args.self.now c.self.invariant c.self.view_is in
     let next = c.take_spot.new.spots.items in
     let from = c.requires.front ++ c.requires.name ∷ [] in
     let now = fin.remove m from in
@@ -53,7 +53,7 @@ pub returns-clause-gone : goal.returns-clause-gone
 returns-clause-gone c path stood =
     let spots = c.self.inside.spots.items in
     let m = c.args.self.now.nodes in
-    let s = stored_now spots c.self.inside.count c.self.inside.seen.0 m c.self.invariant (ap (λ (t : Stored). t.nodes) c.self.view_is) in
+    let s = kept_now c.self.inside c.args.self.now c.self.invariant c.self.view_is in
     let next = c.take_spot.new.spots.items in
     let from = c.requires.front ++ c.requires.name ∷ [] in
     let now = fin.remove m from in

@@ -1,23 +1,23 @@
 use Rattle.std.proofs.Common.{◌≡◌, ◌<◌, ap, ◌∙◌, length, arith, rules, vec_len}
 use Rattle.std.specs.FinMap as fin
 use Rattle.file_tree.specs.Seen.{held}
-use Rattle.file_tree.specs.Places.{Stored}
 use Rattle.file_tree.specs.Told.{told_of}
 use Rattle.std.specs.List.{slice_get}
 use Rattle.std.proofs.lemmas.Option.{slice_get-get_or}
 use Rattle.file_tree.proofs.ShownLemmas.{one_number}
-use Rattle.file_tree.proofs.PlaceLemmas.{stored_now, used_most}
+use Rattle.file_tree.proofs.PlaceLemmas.{used_most}
 use Rattle.file_tree.proofs.ToldLemmas.{few, count_most, numbers_there, numbers_apart, are_places, told_step}
+use Rattle.file_tree.proofs.KeptLemmas.{kept_now}
 use Rattle.file_tree.proofs.places.Places.to_nodes.Goals as goal
 
 pub places_of-requires-clause-few : goal.places_of-requires-clause-few
 places_of-requires-clause-few c =
-    let s = stored_now c.self.inside.spots.items c.self.inside.count c.self.inside.seen.0 c.args.self.now.nodes c.self.invariant (ap (λ (t : Stored). t.nodes) c.self.view_is) in
+    let s = kept_now c.self.inside c.args.self.now c.self.invariant c.self.view_is in
     omega (arith, count_most c.args.self.now.nodes c.deref.result.now (c.deref.ensures.value ∙ c.in_ok-numbers.ensures), s.counted, s.filled, used_most c.self.inside.spots.items, s.few)
 
 pub places_of-requires-clause-below : goal.places_of-requires-clause-below
 places_of-requires-clause-below c place number at =
-    let s = stored_now c.self.inside.spots.items c.self.inside.count c.self.inside.seen.0 c.args.self.now.nodes c.self.invariant (ap (λ (t : Stored). t.nodes) c.self.view_is) in
+    let s = kept_now c.self.inside c.args.self.now c.self.invariant c.self.view_is in
     let there = numbers_there c.args.self.now.nodes c.deref.result.now (c.deref.ensures.value ∙ c.in_ok-numbers.ensures) place number at in
     let less : number < length c.self.inside.spots.items = few c.self.inside.spots.items c.args.self.now.nodes s.shown there.0 number there.1 in
     let long : vec_len c.self.inside.spots ≡ length c.self.inside.spots.items = search rules in
@@ -25,7 +25,7 @@ places_of-requires-clause-below c place number at =
 
 pub places_of-requires-clause-apart : goal.places_of-requires-clause-apart
 places_of-requires-clause-apart c =
-    let s = stored_now c.self.inside.spots.items c.self.inside.count c.self.inside.seen.0 c.args.self.now.nodes c.self.invariant (ap (λ (t : Stored). t.nodes) c.self.view_is) in
+    let s = kept_now c.self.inside c.args.self.now c.self.invariant c.self.view_is in
     numbers_apart c.args.self.now.nodes c.deref.result.now (c.deref.ensures.value ∙ c.in_ok-numbers.ensures) (one_number (held c.self.inside.spots.items) c.args.self.now.nodes s.shown)
 
 pub told-requires-clause-there : goal.told-requires-clause-there
@@ -34,7 +34,7 @@ told-requires-clause-there c =
 
 pub told-requires-clause-places : goal.told-requires-clause-places
 told-requires-clause-places c =
-    let s = stored_now c.self.inside.spots.items c.self.inside.count c.self.inside.seen.0 c.args.self.now.nodes c.self.invariant (ap (λ (t : Stored). t.nodes) c.self.view_is) in
+    let s = kept_now c.self.inside c.args.self.now c.self.invariant c.self.view_is in
     are_places c.args.self.now.nodes c.in_ok-numbers.numbers.items c.in_ok-numbers.ensures (one_number (held c.self.inside.spots.items) c.args.self.now.nodes s.shown) c.deref-in-loop-number.result.now
     (λ place n at. ap (λ l. slice_get l n) c.deref-in-loop-number.ensures.value ∙ c.in_ok-places.ensures place n (ap (λ l. slice_get l place) c.deref.ensures.value ∙ at))
 
