@@ -1,7 +1,7 @@
 -- Where the reading of a partition begins.
 use Rattle.std.proofs.Common.{◌≤◌, ◌≡◌, [], length, Option, Some, None, subst, arith}
 use Rattle.std.specs.Prelude.{IfSome}
-use Rattle.tape_types.specs.Cartridges.{FitsLimits, capacity, items_of}
+use Rattle.tape_types.specs.Cartridges.{FitsLimits, IsLimits, capacity, items_of}
 use Rattle.tape_types.specs.declared.cartridges.Cartridge.{Cartridge}
 use Rattle.tape_types.specs.declared.cartridges.Limits.{Limits}
 use Rattle.tape_types.specs.declared.cartridges.Part.{Part}
@@ -26,6 +26,10 @@ labels_there (Some c) part long = omega (arith, long, front_within (items_of par
 fits : (part : Part) (limits : Limits) (c : Cartridge) → FitsLimits limits c → length (items_of part c) ≤ capacity part limits
 fits Ip limits c f = f.ip.count
 fits Dp limits c f = f.dp.count
+
+pub least : (part : Part) (limits : Limits) → IsLimits limits → 4 ≤ capacity part limits
+least Ip limits range = range.ip_least
+least Dp limits range = range.dp_least
 
 module _ (o : Option Cartridge) (part : Part) (limits : Limits) (r : Reading)
     (long : IfSome o (λ c. 4 ≤ length (front (items_of part c)))) (fit : IfSome o (λ c. FitsLimits limits c))

@@ -1,5 +1,6 @@
 -- A reading of a drive goes on.
-use Rattle.std.proofs.Common.{ℕ, true, false, ◌+◌, ◌*◌, ◌≤◌, ◌<◌, ◌≡◌, List, length, slice_get, Option, Some, Err, refl, sym, ◌∙◌, ap, subst, arith}
+use Rattle.std.proofs.Common.{ℕ, true, false, ◌+◌, ◌*◌, ◌-◌, ◌≤◌, ◌<◌, ◌≡◌, List, length, slice_get, Option, Some, Err, refl, sym, ◌∙◌, ap, subst, arith}
+use Rattle.std.proofs.Math.Nat.{mul-le-mul_right}
 use Rattle.tape_types.specs.Cartridges.{items_of, next}
 use Rattle.tape_types.specs.declared.cartridges.Cartridge.{Cartridge}
 use Rattle.tape_types.specs.declared.cartridges.Item.{Item}
@@ -10,7 +11,7 @@ use Rattle.tape_content.specs.Content.{Bad}
 use Rattle.tape_content.proofs.Whole.{front_within}
 use Rattle.tape_drive.specs.Commands.{IsRead, after_read, item_at}
 use Rattle.tape_drive.specs.Looks.{Looks}
-use Rattle.tape_drive.proofs.Looking.{then_looks}
+use Rattle.tape_drive.proofs.Looking.{more_looks, then_looks}
 use Rattle.tape_drive.specs.declared.drive.Drive.{Ghosts}
 use Rattle.tape_drive.specs.declared.drive.Got.{Got}
 use Rattle.tape_drive.specs.declared.drive.Got.TheVariants as got
@@ -25,7 +26,7 @@ use Rattle.volume_scan.proofs.Going.{all_read, behind_labels, ended_at, goes_in_
 
 -- what a reading keeps from one item to the next
 pub record Going {D : Type 0} (drive : Ghosts D) (first now : D) (part : Part) (positions before : ℕ) (r : Reading) : Type 0 where
-  pub looks : Looks drive (r.pos * drive.MOST) first now
+  pub looks : Looks drive ((r.pos - 4) * drive.MOST) first now
   pub head : drive.head now ≡ Some (record { part = part; pos = r.pos })
   pub later : before ≤ drive.faults now
   pub order : IsInOrder positions r
@@ -45,8 +46,28 @@ after_more got.Mark at e = refl
 after_more got.End at e = absurd (cc)
 after_more got.Torn at e = absurd (cc)
 
+one_more : (n most : ℕ) → n * most + most ≡ (n + 1) * most
+one_more n most = omega arith
+
+times : (m n most : ℕ) → m ≤ n → m * most ≤ n * most
+times m n most le = mul-le-mul_right most le
+
+pub one_of : (n most : ℕ) → 1 ≤ n → most ≤ n * most
+one_of n most le = omega (arith, times 1 n most le)
+
 module _ {D : Type 0} (drive : Ghosts D) (first now : D) (part : Part) (positions before : ℕ) (r : Reading)
     (going : Going drive first now part positions before r) where
+  pub looks_now : r.pos ≤ positions → Looks drive ((positions - 4) * drive.MOST) first now
+  looks_now le = more_looks drive ((r.pos - 4) * drive.MOST) ((positions - 4) * drive.MOST) first now (times (r.pos - 4) (positions - 4) drive.MOST (omega arith)) going.looks
+
+  pub looks_after : (after : D) → r.pos < positions → Looks drive drive.MOST now after → Looks drive ((positions - 4) * drive.MOST) first after
+  looks_after after lt look =
+      let count : r.pos - 4 + 1 ≤ positions - 4 = omega (arith, lt, behind_labels positions r going.order) in
+      let le : (r.pos - 4) * drive.MOST + drive.MOST ≤ (positions - 4) * drive.MOST =
+      subst (λ (n : ℕ). n ≤ (positions - 4) * drive.MOST) (sym (one_more (r.pos - 4) drive.MOST)) (times (r.pos - 4 + 1) (positions - 4) drive.MOST count) in
+      more_looks drive ((r.pos - 4) * drive.MOST + drive.MOST) ((positions - 4) * drive.MOST) first after le
+      (then_looks drive ((r.pos - 4) * drive.MOST) drive.MOST first now after going.looks look)
+
   -- at the end of the partition
   pub told_at_capacity : (found : Content) → positions ≤ r.pos → found.constructs ≡ r.constructs → found.lead ≡ lead_at r.opened r.pos
       → found.front ≡ r.pos → (c : Cartridge) → drive.held first ≡ Some c → IsContent (items_of part c) found
@@ -82,9 +103,10 @@ module _ {D : Type 0} (drive : Ghosts D) (first now : D) (part : Part) (position
         → drive.faults now ≤ drive.faults after → Looks drive drive.MOST now after → Going drive first after part positions before new
     goes_on after new more lt goes head faults look =
         let at : new.pos ≡ r.pos + 1 = moved_pos answer r new goes in
-        let most : r.pos * drive.MOST + drive.MOST ≡ new.pos * drive.MOST = omega (arith, ap (λ (n : ℕ). n * drive.MOST) at) in
+        let count : r.pos - 4 + 1 ≡ new.pos - 4 = omega (arith, at, behind_labels positions r going.order) in
+        let most : (r.pos - 4) * drive.MOST + drive.MOST ≡ (new.pos - 4) * drive.MOST = one_more (r.pos - 4) drive.MOST ∙ ap (λ (n : ℕ). n * drive.MOST) count in
         record {
-          looks = subst (λ (n : ℕ). Looks drive n first after) most (then_looks drive (r.pos * drive.MOST) drive.MOST first now after going.looks look);
+          looks = subst (λ (n : ℕ). Looks drive n first after) most (then_looks drive ((r.pos - 4) * drive.MOST) drive.MOST first now after going.looks look);
           head = head (record { part = part; pos = r.pos }) going.head
               ∙ ap Some (after_more answer (record { part = part; pos = r.pos }) more)
               ∙ ap (λ (n : ℕ). Some (record { part = part; pos = n })) (sym at);

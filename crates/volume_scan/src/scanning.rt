@@ -30,7 +30,7 @@ pub fn scan<D: Drive>(alloc: Global, drive: &mut D, part: Part) -> Result<Conten
     ensures told { (c : Cartridge) → D.held drive.old ≡ Some c → IsScanned (items_of part c) result }
     ensures places { IfOk result (IsInPlaces (capacity part (D.limits drive.old))) }
     ensures counts { HasCounts (D.faults drive.old) (D.faults drive.new) result }
-    ensures looks { Looks D.Drive ((1 + capacity part (D.limits drive.old)) * D.MOST) drive.old drive.new }
+    ensures looks { Looks D.Drive ((capacity part (D.limits drive.old) - 3) * D.MOST) drive.old drive.new }
 {
     let _count_is_in_range = drive.commands();
     let before = drive.faults();
@@ -64,13 +64,14 @@ fn read_to_end<D: Drive>(
     requires before { before ≤ D.faults drive.old }
     requires commands { D.commands drive.old ≤ 2 ^ 64 - 1 }
     requires buffer { 1048576 ≤ vec_capacity buffer.old }
+    requires begun { reading.pos ≡ 4 }
     requires order { IsInOrder positions reading }
     requires read { (c : Cartridge) → D.held drive.old ≡ Some c
         → (length (items_of part c) ≤ positions) × IsReadTo (items_of part c) reading }
     ensures told { (c : Cartridge) → D.held drive.old ≡ Some c → IsScanned (items_of part c) result }
     ensures places { IfOk result (IsInPlaces positions) }
     ensures counts { HasCounts before (D.faults drive.new) result }
-    ensures looks { Looks D.Drive (positions * D.MOST) drive.old drive.new }
+    ensures looks { Looks D.Drive ((positions - 4) * D.MOST) drive.old drive.new }
 {
     while reading.pos < positions {
         let answer = match drive.read(buffer) {

@@ -8,7 +8,7 @@ use crate::{Content, ScanErr, scan};
 use std::alloc::Global;
 use std::fmt::Write;
 use std::process::Abort;
-use tape_drive::{Cmd, Fail as Listed, MemDrive};
+use tape_drive::{Cmd, Drive, Fail as Listed, MemDrive};
 use tape_types::{Bytes, Cartridge, Item, Limits, List, NoMemory, Note, Part};
 
 fn block(alloc: Global, byte: u8) -> Result<Item, NoMemory>
@@ -218,5 +218,20 @@ fn a_failed_command_is_told(rt: HostRuntime) -> Result<(), NoMemory> {
     check_fault(&rt, alloc, Cmd::Locate, 1)?;
     check_fault(&rt, alloc, Cmd::Read, 1)?;
     check_fault(&rt, alloc, Cmd::Read, 4)?;
+    Ok(())
+}
+
+/// One command locates the head; of the index partition, which is full, its three items are read, of the data partition
+/// the end behind them too.
+#[test]
+fn each_item_is_read_once(rt: HostRuntime) -> Result<(), NoMemory> {
+    let alloc = rt.alloc();
+    let mut drive = drive(alloc, b"mbm", List::new(alloc))?;
+    let ip = text_of(alloc, &scan(alloc, &mut drive, Part::Ip))?;
+    assert_eq!(rt; ip.as_str(), "4 5 7; 7 7");
+    assert_eq!(rt; drive.commands(), 4);
+    let dp = text_of(alloc, &scan(alloc, &mut drive, Part::Dp))?;
+    assert_eq!(rt; dp.as_str(), "4 5 7; 7 7");
+    assert_eq!(rt; drive.commands(), 9);
     Ok(())
 }
