@@ -1,7 +1,17 @@
+pub mod Decided
 pub mod Extents
+pub mod Faulty
+pub mod Forward
 pub mod Frame
+pub mod IndexOrStops
+pub mod IndexTexts
+pub mod Judged
+pub mod Known
+pub mod LabelTexts
+pub mod Moments
 pub mod Newest
 pub mod Noted
 pub mod OneFault
 pub mod OneTree
 pub mod OneWay
+pub mod Timed

@@ -1,6 +1,6 @@
 //! Laws of what a cartridge stands for.
 
-ghost use Rattle.std.specs.Prelude.{◌≡◌, ◌≢◌, ◌≤◌, ◌<◌, ℕ, List, [], ◌++◌, Some, IfSome, take};
+ghost use Rattle.std.specs.Prelude.{◌≡◌, ◌≢◌, ◌⊎◌, ◌≤◌, ◌<◌, ℕ, List, [], ◌++◌, Some, IfSome, take};
 ghost use Rattle.std.specs.List.{AllByRecursion};
 ghost use Rattle.tape_types.specs.declared.cartridges.Cartridge.{Cartridge};
 ghost use Rattle.tape_types.specs.declared.cartridges.Part.{Part};
@@ -9,7 +9,13 @@ ghost use Rattle.tape_types.specs.Cartridges.{note_of};
 ghost use Rattle.coherency.specs.Notes.{HasValues};
 ghost use Rattle.coherency.specs.declared.Coherency.{Coherency};
 ghost use Rattle.plain_tree.specs.Tree.{Tree};
+ghost use Rattle.index_model.specs.Grammar.{IndexText, Stops as StopsIndex};
+ghost use Rattle.index_model.specs.declared.errors.IndexErr.{IndexErr};
 ghost use Rattle.index_model.specs.declared.indexes.Index.{Index};
+ghost use Rattle.ltfs_label.specs.Grammar.{LabelText};
+ghost use Rattle.ltfs_label.specs.Reading.{Stops as StopsLabel};
+ghost use Rattle.ltfs_label.specs.Values.{LabelValue};
+ghost use Rattle.ltfs_label.specs.declared.errors.LabelErr.{LabelErr};
 ghost use Rattle.index_model.specs.declared.nodes.Node.{Node};
 ghost use Rattle.ltfs_label.specs.declared.Label.{Label};
 ghost use Rattle.tape_content.specs.Readings.{Construct};
@@ -84,4 +90,15 @@ pub fn notes_tell_of_the_last_indexes()
     ensures honest { (c : Cartridge) (labels : Labels)
         → HasLabels c labels → IsHonest c → IsCoherent c → AreNoted c labels.ip }
     ensures coherent { (c : Cartridge) (labels : Labels) → HasLabels c labels → AreNoted c labels.ip → IsCoherent c }
+{}
+
+/// Each text is that of an index or stops, and that of a label or stops.
+pub fn texts_are_read_or_stop()
+    ensures index { (text : List ℕ) → ((index : Index) × IndexText text index) ⊎ ((e : IndexErr) × StopsIndex text e) }
+    ensures label { (text : List ℕ) → ((label : LabelValue) × LabelText text label) ⊎ ((e : LabelErr) × StopsLabel text e) }
+{}
+
+/// Each cartridge is read, or refused: one of the checks of a mount fails, or none does.
+pub fn each_cartridge_reads_or_is_refused()
+    ensures { (c : Cartridge) → Found c ⊎ ((e : MountErr) × MountFault c e) }
 {}

@@ -15,7 +15,8 @@ pub use examples::{
 };
 pub use labels::Labels;
 pub use laws::{
-    cartridges_alike_read_alike, cartridges_read_in_one_way, faults_are_told_in_one_way,
-    notes_tell_of_the_last_indexes, the_newest_index_is_chosen,
+    cartridges_alike_read_alike, cartridges_read_in_one_way, each_cartridge_reads_or_is_refused,
+    faults_are_told_in_one_way, notes_tell_of_the_last_indexes, texts_are_read_or_stop,
+    the_newest_index_is_chosen,
 };
 pub use mounted::Mounted;
