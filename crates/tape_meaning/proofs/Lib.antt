@@ -12,6 +12,7 @@ pub mod Moments
 pub mod Newest
 pub mod Noted
 pub mod OneFault
+pub mod OneMount
 pub mod OneTree
 pub mod OneWay
 pub mod Timed

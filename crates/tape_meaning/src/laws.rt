@@ -11,6 +11,7 @@ ghost use Rattle.coherency.specs.declared.Coherency.{Coherency};
 ghost use Rattle.plain_tree.specs.Tree.{Tree};
 ghost use Rattle.index_model.specs.Grammar.{IndexText, Stops as StopsIndex};
 ghost use Rattle.index_model.specs.declared.errors.IndexErr.{IndexErr};
+ghost use Rattle.index_model.specs.Valid.{IsValid};
 ghost use Rattle.index_model.specs.declared.indexes.Index.{Index};
 ghost use Rattle.ltfs_label.specs.Grammar.{LabelText};
 ghost use Rattle.ltfs_label.specs.Reading.{Stops as StopsLabel};
@@ -23,12 +24,13 @@ ghost use Rattle.tape_meaning.specs.Carried.{Carried};
 ghost use Rattle.tape_meaning.specs.Faults.{MountFault};
 ghost use Rattle.tape_meaning.specs.Kept.{Keeps};
 ghost use Rattle.tape_meaning.specs.Labels.{HasLabels};
-ghost use Rattle.tape_meaning.specs.Meaning.{FitsNode, Found, IsTreeOf, Reads};
-ghost use Rattle.tape_meaning.specs.Mounts.{chosen_place};
+ghost use Rattle.tape_meaning.specs.Meaning.{FitsNode, Found, IsConsistent, IsTreeOf, Reads};
+ghost use Rattle.tape_meaning.specs.Mounts.{IsDpDone, IsIpDone, Mounts, chosen_place};
 ghost use Rattle.tape_meaning.specs.Notes.{AreNoted, IsCoherent, IsHonest, IsHonestNote, TellsOfLast};
 ghost use Rattle.tape_meaning.specs.Pointers.{PointsBack, letter_of};
 ghost use Rattle.tape_meaning.specs.declared.errors.MountErr.{MountErr};
 ghost use Rattle.tape_meaning.specs.declared.labels.Labels.{Labels};
+ghost use Rattle.tape_meaning.specs.declared.mounted.Mounted.{Mounted};
 
 /// A cartridge is read in one way: it has one pair of labels, one last index of each partition, one that is chosen, and
 /// it stands for one tree.
@@ -101,4 +103,16 @@ pub fn texts_are_read_or_stop()
 /// Each cartridge is read, or refused: one of the checks of a mount fails, or none does.
 pub fn each_cartridge_reads_or_is_refused()
     ensures { (c : Cartridge) → Found c ⊎ ((e : MountErr) × MountFault c e) }
+{}
+
+/// A mount has one outcome.
+pub fn cartridges_mount_in_one_way()
+    ensures { (c : Cartridge) (m n : Mounted) → Mounts c m → Mounts c n → m ≡ n }
+{}
+
+/// The chosen index is a valid one of the volume, and where a close has nothing left to do the cartridge is consistent.
+pub fn what_is_found_is_right()
+    ensures valid { (c : Cartridge) (f : Found c) → IsValid f.index }
+    ensures uuid { (c : Cartridge) (f : Found c) → f.index.uuid ≡ f.labels.ip.uuid }
+    ensures done { (c : Cartridge) (f : Found c) → IsDpDone c f → IsIpDone c f → IsConsistent c }
 {}
