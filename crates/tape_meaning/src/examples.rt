@@ -1,13 +1,16 @@
 //! Indexes and extents by hand, on which the definitions are tried.
 
-ghost use Rattle.std.specs.Prelude.{◌≡◌, [], ◌∷◌, Some, None};
+ghost use Rattle.std.specs.Prelude.{◌≡◌, ℕ, List, [], ◌∷◌, true, Some, None};
+ghost use Rattle.tape_types.specs.declared.cartridges.Item.TheVariants.{Block, Mark, Torn};
+ghost use Rattle.ltfs_label.specs.Values.{label_of};
+ghost use Rattle.tape_meaning.specs.Labels.{AreOfOneVolume, HasSomeLabel, HasSomeRecord};
 ghost use Rattle.tape_types.specs.declared.cartridges.Part.TheVariants.{Ip, Dp};
 ghost use Rattle.index_model.specs.declared.nodes.Kind.TheVariants.{File};
 ghost use Rattle.tape_meaning.specs.Meaning.{Fits, FitsKind};
 ghost use Rattle.tape_meaning.specs.Mounts.{chosen_place, last_place};
 ghost use Rattle.tape_meaning.specs.Pointers.{PointsBack, PointsOnDp, PointsOnIp, chosen, last_block, newest_spot};
 ghost use Rattle.tape_content.specs.Worked.{first_index, second_index};
-ghost use Rattle.tape_meaning.specs.Worked.{cartridge, extent, index, label, last, on_a, on_b, third_index, two};
+ghost use Rattle.tape_meaning.specs.Worked.{cartridge, extent, in_data, index, label, last, on_a, on_b, third_index, two};
 
 /// Which index is chosen, and where it stands: that of the greater generation, and on a tie the data partition's.
 pub fn the_definitions_tell_the_choice()
@@ -66,4 +69,21 @@ pub fn the_definitions_tell_extents()
     ensures other_letter { ¬ Fits label 8 11 (extent 99 4 0 1) }
     ensures no_bytes { FitsKind label 8 11 (File 0 (extent 99 3 4096 0 ∷ [])) }
     ensures some_byte { ¬ FitsKind label 8 11 (File 0 (extent 99 3 4096 1 ∷ [])) }
+{}
+
+/// Which labels are of one volume: those that differ in their location alone.
+pub fn the_definitions_tell_labels()
+    ensures both { AreOfOneVolume (label_of label) (in_data (label_of label)) }
+    ensures both_in_index { ¬ AreOfOneVolume (label_of label) (label_of label) }
+    ensures turned { ¬ AreOfOneVolume (in_data (label_of label)) (label_of label) }
+    ensures one_letter { ¬ AreOfOneVolume (record (label_of label) { dpart = 97 }) (record (label_of label) { dpart = 97 }) }
+    ensures other_uuid { ¬ AreOfOneVolume (label_of label) (record (in_data (label_of label)) { uuid = 8 }) }
+    ensures other_blocks { ¬ AreOfOneVolume (label_of label) (record (in_data (label_of label)) { block = 8192 }) }
+    ensures other_index { ¬ AreOfOneVolume (label_of label) (record (in_data (label_of label)) { index = 99 }) }
+    ensures other_data { ¬ AreOfOneVolume (label_of label) (record (in_data (label_of label)) { dpart = 99; location = 99 }) }
+    ensures other_compression { ¬ AreOfOneVolume (label_of label) (record (in_data (label_of label)) { compression = true }) }
+    ensures other_creator { ¬ AreOfOneVolume (label_of label) (record (in_data (label_of label)) { creator = 65 ∷ [] }) }
+    ensures no_mark { (bytes text : List ℕ) → ¬ HasSomeLabel (Block bytes ∷ Mark ∷ Block text ∷ Block text ∷ []) }
+    ensures no_label { (bytes : List ℕ) → ¬ HasSomeLabel (Block bytes ∷ Mark ∷ Mark ∷ Mark ∷ []) }
+    ensures no_first_mark { (bytes : List ℕ) → ¬ HasSomeRecord (Block bytes ∷ Torn ∷ []) }
 {}

@@ -1,6 +1,6 @@
 //! Laws of what a cartridge stands for.
 
-ghost use Rattle.std.specs.Prelude.{◌≡◌, ◌≢◌, ◌≤◌, ◌<◌, ℕ, List, [], ◌++◌, Some, IfSome, take};
+ghost use Rattle.std.specs.Prelude.{◌≡◌, ◌≢◌, ◌⊎◌, ◌≤◌, ◌<◌, ℕ, List, [], ◌++◌, Some, IfSome, take};
 ghost use Rattle.std.specs.List.{AllByRecursion};
 ghost use Rattle.tape_types.specs.declared.cartridges.Cartridge.{Cartridge};
 ghost use Rattle.tape_types.specs.declared.cartridges.Part.{Part};
@@ -9,7 +9,14 @@ ghost use Rattle.tape_types.specs.Cartridges.{note_of};
 ghost use Rattle.coherency.specs.Notes.{HasValues};
 ghost use Rattle.coherency.specs.declared.Coherency.{Coherency};
 ghost use Rattle.plain_tree.specs.Tree.{Tree};
+ghost use Rattle.index_model.specs.Grammar.{IndexText, Stops as StopsIndex};
+ghost use Rattle.index_model.specs.declared.errors.IndexErr.{IndexErr};
+ghost use Rattle.index_model.specs.Valid.{IsValid};
 ghost use Rattle.index_model.specs.declared.indexes.Index.{Index};
+ghost use Rattle.ltfs_label.specs.Grammar.{LabelText};
+ghost use Rattle.ltfs_label.specs.Reading.{Stops as StopsLabel};
+ghost use Rattle.ltfs_label.specs.Values.{LabelValue};
+ghost use Rattle.ltfs_label.specs.declared.errors.LabelErr.{LabelErr};
 ghost use Rattle.index_model.specs.declared.nodes.Node.{Node};
 ghost use Rattle.ltfs_label.specs.declared.Label.{Label};
 ghost use Rattle.tape_content.specs.Readings.{Construct};
@@ -17,12 +24,13 @@ ghost use Rattle.tape_meaning.specs.Carried.{Carried};
 ghost use Rattle.tape_meaning.specs.Faults.{MountFault};
 ghost use Rattle.tape_meaning.specs.Kept.{Keeps};
 ghost use Rattle.tape_meaning.specs.Labels.{HasLabels};
-ghost use Rattle.tape_meaning.specs.Meaning.{FitsNode, Found, IsTreeOf, Reads};
-ghost use Rattle.tape_meaning.specs.Mounts.{chosen_place};
+ghost use Rattle.tape_meaning.specs.Meaning.{FitsNode, Found, IsConsistent, IsTreeOf, Reads};
+ghost use Rattle.tape_meaning.specs.Mounts.{IsDpDone, IsIpDone, Mounts, chosen_place};
 ghost use Rattle.tape_meaning.specs.Notes.{AreNoted, IsCoherent, IsHonest, IsHonestNote, TellsOfLast};
 ghost use Rattle.tape_meaning.specs.Pointers.{PointsBack, letter_of};
 ghost use Rattle.tape_meaning.specs.declared.errors.MountErr.{MountErr};
 ghost use Rattle.tape_meaning.specs.declared.labels.Labels.{Labels};
+ghost use Rattle.tape_meaning.specs.declared.mounted.Mounted.{Mounted};
 
 /// A cartridge is read in one way: it has one pair of labels, one last index of each partition, one that is chosen, and
 /// it stands for one tree.
@@ -84,4 +92,27 @@ pub fn notes_tell_of_the_last_indexes()
     ensures honest { (c : Cartridge) (labels : Labels)
         → HasLabels c labels → IsHonest c → IsCoherent c → AreNoted c labels.ip }
     ensures coherent { (c : Cartridge) (labels : Labels) → HasLabels c labels → AreNoted c labels.ip → IsCoherent c }
+{}
+
+/// Each text is that of an index or stops, and that of a label or stops.
+pub fn texts_are_read_or_stop()
+    ensures index { (text : List ℕ) → ((index : Index) × IndexText text index) ⊎ ((e : IndexErr) × StopsIndex text e) }
+    ensures label { (text : List ℕ) → ((label : LabelValue) × LabelText text label) ⊎ ((e : LabelErr) × StopsLabel text e) }
+{}
+
+/// Each cartridge is read, or refused: one of the checks of a mount fails, or none does.
+pub fn each_cartridge_reads_or_is_refused()
+    ensures { (c : Cartridge) → Found c ⊎ ((e : MountErr) × MountFault c e) }
+{}
+
+/// A mount has one outcome.
+pub fn cartridges_mount_in_one_way()
+    ensures { (c : Cartridge) (m n : Mounted) → Mounts c m → Mounts c n → m ≡ n }
+{}
+
+/// The chosen index is a valid one of the volume, and where a close has nothing left to do the cartridge is consistent.
+pub fn what_is_found_is_right()
+    ensures valid { (c : Cartridge) (f : Found c) → IsValid f.index }
+    ensures uuid { (c : Cartridge) (f : Found c) → f.index.uuid ≡ f.labels.ip.uuid }
+    ensures done { (c : Cartridge) (f : Found c) → IsDpDone c f → IsIpDone c f → IsConsistent c }
 {}
