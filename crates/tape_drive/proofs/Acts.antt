@@ -1,5 +1,5 @@
 -- What a crash may leave after a command of the drive in memory.
-use Rattle.std.proofs.Common.{ℕ, ◌+◌, ◌-◌, ◌^◌, ◌≤◌, ◌<◌, ◌≡◌, ◌⊎◌, ⊎_elim, inl, inr, Bool, List, [], ◌∷◌, ◌++◌, take, refl, ◌∙◌, ap, subst, arith}
+use Rattle.std.proofs.Common.{ℕ, ◌+◌, ◌-◌, ◌^◌, ◌≤◌, ◌<◌, ◌≡◌, ◌⊎◌, ⊎_elim, inl, inr, Bool, List, [], ◌∷◌, ◌++◌, take, refl, sym, ◌∙◌, ap, subst, arith}
 use Rattle.std.proofs.lemmas.Bool.{cases_lt}
 use Rattle.tape_types.specs.declared.cartridges.Part.{Part}
 use Rattle.tape_types.specs.declared.cartridges.Part.TheVariants.{Ip, Dp}
@@ -9,58 +9,94 @@ use Rattle.tape_types.specs.declared.cartridges.Item.TheVariants as item
 use Rattle.tape_types.specs.declared.cartridges.Note.{Note}
 use Rattle.tape_types.specs.declared.cartridges.Cartridge.{Cartridge}
 use Rattle.tape_types.specs.Cartridges.{items_of}
-use Rattle.tape_drive.specs.declared.record.Act.TheVariants.{Put, Noted}
+use Rattle.tape_types.specs.Counts.{Rose}
+use Rattle.tape_drive.specs.declared.record.Act.{Act}
+use Rattle.tape_drive.specs.declared.record.Act.TheVariants.{Put, Flushed, Noted, Settled}
 use Rattle.tape_drive.specs.declared.record.Entry.{Entry}
 use Rattle.tape_drive.specs.Commands.{KeepsRest, VcrRose, IsWritten, IsBroken, IsNoted}
 use Rattle.tape_drive.specs.Crashes.{IsCut, WithinWrite, WithinNote, Crashes}
 use Rattle.tape_drive.specs.Memory.{with_item}
-use Rattle.tape_drive.specs.Record.{front, with_items, with_note, undo, IsStage, During, Leaves, LeftFrom, LeftSince, Numbered}
+use Rattle.tape_drive.specs.Record.{front, with_items, with_note, undo, IsStage, During, Leaves, LeftWithin, LeftSince, Numbered}
 use Rattle.tape_drive.proofs.Sound.{front_of}
 
 -- since a number that no act has reached there is no other moment than now
-recent : (count : ℕ) (held : Cartridge) (es : List Entry) (image : Cartridge) → count < 2 ^ 64 - 1 → Numbered count es → LeftFrom held es count image → Leaves held es image
-recent count held [] image lt numbered h = h
-recent count held (e ∷ es) image lt numbered (inl now) = now
-recent count held (e ∷ es) image lt numbered (inr past) = absurd (omega (arith, numbered.0 lt, past.0))
+none_within : (count : ℕ) (held : Cartridge) (es : List Entry) (image : Cartridge) → count < 2 ^ 64 - 1 → Numbered count es
+    → LeftWithin held es count image → ⊥
+none_within count held [] image lt numbered h = h
+none_within count held (e ∷ es) image lt numbered (inl h) = absurd (omega (arith, numbered.0 lt, h.0))
+none_within count held (e ∷ es) image lt numbered (inr h) = none_within count (undo e.act held) es image lt numbered.1 h
 
-since_at : (count t : ℕ) (held : Cartridge) (es : List Entry) (image : Cartridge) → Numbered count es → t ≤ count → LeftFrom held es t image → LeftSince count held es t image
+pub since_at : (count t : ℕ) (held : Cartridge) (es : List Entry) (image : Cartridge) → Numbered count es → t ≤ count
+    → LeftWithin held es t image → LeftSince count held es t image
 since_at count t held es image numbered le h = ⊎_elim
     (λ (lt : count < 2 ^ 64 - 1). ⊎_elim
     (λ (less : t < count). inr (inl less, h))
-    (λ (more : count ≤ t). let same : t ≡ count = omega arith in inl (recent count held es image lt numbered (subst (λ (n : ℕ). LeftFrom held es n image) same h)))
+    (λ (more : count ≤ t). let same : t ≡ count = omega arith in
+    absurd (none_within count held es image lt numbered (subst (λ (n : ℕ). LeftWithin held es n image) same h)))
     (cases_lt t count))
     (λ (most : 2 ^ 64 - 1 ≤ count). inr (inr most, h))
     (cases_lt count (2 ^ 64 - 1))
 
-module _ (held : Cartridge) (es : List Entry) (count count2 : ℕ) (numbered : Numbered count es) (step : Cartridge → Cartridge → Type 0) where
+-- a number that was reached counts after one command more
+still_reached : (t count count2 : ℕ) → t ≤ count → Rose count count2 → (t < count2) ⊎ (2 ^ 64 - 1 ≤ count2)
+still_reached t count count2 le rose =
+    ⊎_elim (λ (less : t < count2). inl less) (λ (more : count2 ≤ t). inr (omega (arith, rose))) (cases_lt t count2)
+
+-- an act may leave all as it was
+pub during_same : (act : Act) (after image : Cartridge) → During act after image image
+during_same (Put part gone failed) after image =
+    record { items = inl (refl, inl refl); rest = record { other_part = refl; note_ip = refl; note_dp = refl } }
+during_same Flushed after image = refl
+during_same (Noted part before) after image = inl refl
+during_same Settled after image = refl
+
+module _ (held : Cartridge) (es : List Entry) (count count2 : ℕ) (numbered : Numbered count es) (rose : Rose count count2)
+    (step : Cartridge → Cartridge → Type 0) where
   -- a command that leaves no entry
-  pub quiet : ((image : Cartridge) → step image image) → Crashes step count (Leaves held es) (Leaves held es) (LeftSince count held es) (LeftSince count2 held es)
+  pub quiet : ((image : Cartridge) → step image image)
+      → Crashes step count (Leaves held es) (Leaves held es) (LeftSince count held es) (LeftSince count2 held es)
   quiet same = record {
     now = λ image h. (image, h, same image);
     since = λ t image le h. ⊎_elim
         (λ (now : Leaves held es image). inl (inl now))
-        (λ (past : ((t < count2) ⊎ (2 ^ 64 - 1 ≤ count2)) × LeftFrom held es t image). inl (since_at count t held es image numbered le past.1))
+        (λ (past : ((t < count2) ⊎ (2 ^ 64 - 1 ≤ count2)) × LeftWithin held es t image).
+        inl (since_at count t held es image numbered le past.1))
+        h;
+    kept = λ t image le h. ⊎_elim
+        (λ (now : Leaves held es image). inl now)
+        (λ (past : ((t < count) ⊎ (2 ^ 64 - 1 ≤ count)) × LeftWithin held es t image).
+        inr (still_reached t count count2 le rose, past.1))
         h;
   }
 
-  -- one that leaves an entry
-  pub acts : (new : Cartridge) (e : Entry) → undo e.act new ≡ held → ((before image : Cartridge) → During e.act new before image → step before image)
-      → Crashes step count (Leaves held es) (Leaves new (e ∷ es)) (LeftSince count held es) (LeftSince count2 new (e ∷ es))
-  acts new e undone within =
-      let back : (image : Cartridge) → (before : Cartridge) × Leaves (undo e.act new) es before × During e.act new before image → (before : Cartridge) × Leaves held es before × step before image =
+  -- one that leaves an entry with its number
+  pub acts : (new : Cartridge) (act : Act) → undo act new ≡ held
+      → ((before image : Cartridge) → During act new before image → step before image)
+      → Crashes step count (Leaves held es) (Leaves new (record { number = count; act = act } ∷ es))
+      (LeftSince count held es) (LeftSince count2 new (record { number = count; act = act } ∷ es))
+  acts new act undone within =
+      let Went : Cartridge → Type 0 = λ image. (before : Cartridge) × Leaves (undo act new) es before × During act new before image in
+      let back : (image : Cartridge) → Went image → (before : Cartridge) × Leaves held es before × step before image =
       λ image h. (h.0, subst (λ (c : Cartridge). Leaves c es h.0) undone h.1, within h.0 image h.2) in
       record {
         now = λ image h. back image h.1;
         since = λ t image le h. ⊎_elim
-            (λ (now : Leaves new (e ∷ es) image). inr (back image now.1))
-            (λ (past : ((t < count2) ⊎ (2 ^ 64 - 1 ≤ count2)) × LeftFrom new (e ∷ es) t image). ⊎_elim
-            (λ (now : Leaves new (e ∷ es) image). inr (back image now.1))
-            (λ (p : (t ≤ e.number) × (((before : Cartridge) × Leaves (undo e.act new) es before × During e.act new before image) ⊎ LeftFrom (undo e.act new) es t image)). ⊎_elim
-            (λ (d : (before : Cartridge) × Leaves (undo e.act new) es before × During e.act new before image). inr (back image d))
-            (λ (old : LeftFrom (undo e.act new) es t image). inl (since_at count t held es image numbered le (subst (λ (c : Cartridge). LeftFrom c es t image) undone old)))
-            p.1)
+            (λ (now : Leaves new (record { number = count; act = act } ∷ es) image). inr (back image now.1))
+            (λ (past : ((t < count2) ⊎ (2 ^ 64 - 1 ≤ count2)) × LeftWithin new (record { number = count; act = act } ∷ es) t image). ⊎_elim
+            (λ (went : (t ≤ count) × Went image). inr (back image went.1))
+            (λ (old : LeftWithin (undo act new) es t image).
+            inl (since_at count t held es image numbered le (subst (λ (c : Cartridge). LeftWithin c es t image) undone old)))
             past.1)
             h;
+        kept = λ t image le h. inr (
+          still_reached t count count2 le rose,
+          ⊎_elim
+              (λ (now : Leaves held es image).
+              inl (le, (image, subst (λ (c : Cartridge). Leaves c es image) (sym undone) now, during_same act new image)))
+              (λ (past : ((t < count) ⊎ (2 ^ 64 - 1 ≤ count)) × LeftWithin held es t image).
+              inr (subst (λ (c : Cartridge). LeftWithin c es t image) (sym undone) past.1))
+              h,
+        );
       }
 
 -- the parts of a cartridge with other items in a partition

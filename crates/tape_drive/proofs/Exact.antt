@@ -192,7 +192,7 @@ put_same : (failed : Bool) (part : Part) (gone : List Item) (held : Cartridge) (
 put_same true part gone held es number before image settles was is past = inr (tt, subst (λ (c : Cartridge). WasPast (undo (Put part gone true) held) es c) (sym is) was)
 put_same false part gone held es number before image settles was is past = inl (past settles)
 
-was_put : (part : Part) (gone : List Item) (failed : Bool) (held : Cartridge) (es : List Entry) (number : ℕ) (before image : Cartridge)
+pub was_put : (part : Part) (gone : List Item) (failed : Bool) (held : Cartridge) (es : List Entry) (number : ℕ) (before image : Cartridge)
     → Settles (Put part gone failed) held image → WasPast (undo (Put part gone failed) held) es before → DuringPut part held before image
     → IsPast held (record { number = number; act = Put part gone failed } ∷ es) image ⊎ (IsFailure (Put part gone failed) × WasPast (undo (Put part gone failed) held) es image)
 was_put Ip gone failed held es number before image settles was during =
@@ -282,7 +282,7 @@ gave_left held [] image gave = past_left held [] image (gives_past held [] image
 gave_left held (e ∷ es) image (inl gives) = past_left held (e ∷ es) image (gives_past held (e ∷ es) image gives)
 gave_left held (e ∷ es) image (inr earlier) = failed_left e.act held es image earlier.0 (gave_left (undo e.act held) es image earlier.1)
 
-was_gave : (held : Cartridge) (es : List Entry) (image : Cartridge) → WasPast held es image → Gave held es image
+pub was_gave : (held : Cartridge) (es : List Entry) (image : Cartridge) → WasPast held es image → Gave held es image
 was_gave held [] image past = past_gives held [] image past
 was_gave held (e ∷ es) image (inl past) = inl (past_gives held (e ∷ es) image past)
 was_gave held (e ∷ es) image (inr earlier) = inr (earlier.0, was_gave (undo e.act held) es image earlier.1)

@@ -1,6 +1,8 @@
 pub mod Acts
 pub mod Exact
+pub mod Looking
 pub mod Meets
+pub mod Since
 pub mod Sizes
 pub mod Sound
 pub mod Stood

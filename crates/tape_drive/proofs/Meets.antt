@@ -44,7 +44,7 @@ module _ (T E : Type 0) (step : Cartridge → Cartridge → Type 0) (old : View)
     count = counted_up old.commands sane.commands;
     cause = record { later = omega arith; failed = tt };
     lost = tt;
-    crash = quiet old.held old.acts old.commands _ sane.sound.numbers step same;
+    crash = quiet old.held old.acts old.commands _ sane.sound.numbers (omega arith) step same;
   }
 
   pub meets_failed : (e : E) (kind : Cmd) → ((image : Cartridge) → step image image) → Meets {T = T} {E = E} (Err e) step old (failed (begun kind old))
@@ -53,7 +53,7 @@ module _ (T E : Type 0) (step : Cartridge → Cartridge → Type 0) (old : View)
     count = counted_up old.commands sane.commands;
     cause = record { later = omega (arith, sane.faults); failed = omega arith };
     lost = refl;
-    crash = quiet old.held old.acts old.commands _ sane.sound.numbers step same;
+    crash = quiet old.held old.acts old.commands _ sane.sound.numbers (omega arith) step same;
   }
 
   pub meets_starved : (e : E) (kind : Cmd) → ((image : Cartridge) → step image image) → Meets {T = T} {E = E} (Err e) step old (starved_out (begun kind old))
@@ -62,7 +62,7 @@ module _ (T E : Type 0) (step : Cartridge → Cartridge → Type 0) (old : View)
     count = counted_up old.commands sane.commands;
     cause = record { later = omega (arith, sane.faults); failed = omega arith };
     lost = refl;
-    crash = quiet old.held old.acts old.commands _ sane.sound.numbers step same;
+    crash = quiet old.held old.acts old.commands _ sane.sound.numbers (omega arith) step same;
   }
 
   -- one that left an entry
@@ -73,7 +73,7 @@ module _ (T E : Type 0) (step : Cartridge → Cartridge → Type 0) (old : View)
     count = counted_up old.commands sane.commands;
     cause = record { later = omega arith; failed = tt };
     lost = tt;
-    crash = acts old.held old.acts old.commands _ sane.sound.numbers step held (record { number = old.commands; act = act }) undone within;
+    crash = acts old.held old.acts old.commands _ sane.sound.numbers (omega arith) step held act undone within;
   }
 
   pub meets_broken : (e : E) (kind : Cmd) (act : Act) (held : Cartridge) → undo act held ≡ old.held → ((before image : Cartridge) → During act held before image → step before image)
@@ -83,7 +83,7 @@ module _ (T E : Type 0) (step : Cartridge → Cartridge → Type 0) (old : View)
     count = counted_up old.commands sane.commands;
     cause = record { later = omega (arith, sane.faults); failed = omega arith };
     lost = refl;
-    crash = acts old.held old.acts old.commands _ sane.sound.numbers step held (record { number = old.commands; act = act }) undone within;
+    crash = acts old.held old.acts old.commands _ sane.sound.numbers (omega arith) step held act undone within;
   }
 
 -- a flush, or a command on an attribute or the volume change reference

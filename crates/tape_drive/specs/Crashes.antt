@@ -1,5 +1,5 @@
 -- What a crash may leave of a cartridge.
-use Rattle.std.specs.Prelude.{ℕ, ◌≤◌, ◌≡◌, ◌⊎◌, List, [], ◌∷◌, ◌++◌, take, Option, Some, None}
+use Rattle.std.specs.Prelude.{ℕ, ◌+◌, ◌-◌, ◌^◌, ◌≤◌, ◌≡◌, ◌⊎◌, min, List, [], ◌∷◌, ◌++◌, take, Option, Some, None}
 use Rattle.tape_types.specs.declared.cartridges.Part.{Part}
 use Rattle.tape_types.specs.declared.cartridges.Item.{Item}
 use Rattle.tape_types.specs.declared.cartridges.Note.{Note}
@@ -27,14 +27,25 @@ WithinNote part note before image = (image ≡ before) ⊎ IsNoted part note bef
 abbrev pub NothingNew : Cartridge → Cartridge → Type 0
 NothingNew before image = image ≡ before
 
--- What a crash may leave after a command is what it could leave before, after a step that the command allows.
--- What it may have left since a number that the commands had reached before is no more than what it could have
--- left by then, and such a step.
+-- What a crash may leave after a command is what it could leave before, after a step that the command allows. What
+-- it may have left since a number that the commands had reached before is all that it could have left by then, and no
+-- more than that and such a step.
 pub record Crashes (step : Cartridge → Cartridge → Type 0) (count : ℕ) (leaves_old leaves_new : Cartridge → Type 0)
     (since_old since_new : ℕ → Cartridge → Type 0) : Type 0 where
   pub now : (image : Cartridge) → leaves_new image → (before : Cartridge) × leaves_old before × step before image
   pub since : (t : ℕ) (image : Cartridge) → t ≤ count → since_new t image
       → since_old t image ⊎ ((before : Cartridge) × leaves_old before × step before image)
+  pub kept : (t : ℕ) (image : Cartridge) → t ≤ count → since_old t image → since_new t image
+
+-- What a run of commands that only read leaves to a crash: nothing that it couldn't leave before, and since a number
+-- that the commands had reached before, just what it could have left by then. It has at most so many commands.
+pub record OnlyReads (most count_old count_new : ℕ) (leaves_old leaves_new : Cartridge → Type 0)
+    (since_old since_new : ℕ → Cartridge → Type 0) : Type 0 where
+  pub later : count_old ≤ count_new
+  pub bound : count_new ≤ min (count_old + most) (2 ^ 64 - 1)
+  pub leaves : (image : Cartridge) → leaves_new image → leaves_old image
+  pub since : (t : ℕ) (image : Cartridge) → t ≤ count_old → since_new t image → since_old t image
+  pub kept : (t : ℕ) (image : Cartridge) → t ≤ count_old → since_old t image → since_new t image
 
 -- nothing is pending: where the cartridge is told, every crash leaves it as it reads
 abbrev pub IsSure : Option Cartridge → (Cartridge → Type 0) → Type 0
@@ -47,7 +58,8 @@ pub record HasState (held image : Cartridge) : Type 0 where
   pub note_ip : image.note_ip ≡ held.note_ip
   pub note_dp : image.note_dp ≡ held.note_dp
 
--- no earlier volume change reference or attribute comes back: where the cartridge is told, every image has them as they read
+-- no earlier volume change reference or attribute comes back: where the cartridge is told, every image has them as
+-- they read
 abbrev pub IsSettled : Option Cartridge → (Cartridge → Type 0) → Type 0
 IsSettled None leaves = Unit {0}
 IsSettled (Some held) leaves = (image : Cartridge) → leaves image → HasState held image

@@ -1,5 +1,6 @@
 -- The cartridges that the drive in memory gives as those that a crash may leave.
-use Rattle.std.specs.Prelude.{ℕ, ◌+◌, ◌-◌, ◌<◌, ◌≡◌, ◌⊎◌, Bool, true, false, nat_lt, if◌then◌else◌, List, [], ◌∷◌, ◌++◌, take, length, Option, Some, None}
+use Rattle.std.specs.Prelude.{ℕ, ◌+◌, ◌-◌, ◌<◌, ◌≡◌, ◌⊎◌, Bool, true, false, nat_lt, if◌then◌else◌, List, [], ◌∷◌}
+use Rattle.std.specs.Prelude.{◌++◌, take, length, Option, Some, None}
 use Rattle.tape_types.specs.declared.cartridges.Part.{Part}
 use Rattle.tape_types.specs.declared.cartridges.Part.TheVariants.{Ip, Dp}
 use Rattle.tape_types.specs.declared.cartridges.Item.{Item}
@@ -38,10 +39,12 @@ undone part Flushed items = items
 undone part (Noted p before) items = items
 undone part Settled items = items
 
--- What stood at a moment, by an act of which there were n moments before: after its item, or within its cut, or earlier.
+-- What stood at a moment, by an act of which there were n moments before: after its item, or within its cut, or
+-- earlier.
 abbrev pub stood_by : Part → Act → ℕ → ℕ → List Item → List Item → List Item
 stood_by part (Put p gone failed) n moment items earlier =
-    if nat_lt n moment then items else if nat_lt moment n then earlier else if is_same part p then front items else items
+    if nat_lt n moment then items else if nat_lt moment n then earlier
+    else if is_same part p then front items else items
 stood_by part Flushed n moment items earlier = items
 stood_by part (Noted p before) n moment items earlier = earlier
 stood_by part Settled n moment items earlier = earlier
@@ -49,7 +52,8 @@ stood_by part Settled n moment items earlier = earlier
 -- what stood in a partition at a moment
 abbrev pub stood : Part → List Item → List Entry → ℕ → List Item
 stood part items [] moment = items
-stood part items (e ∷ es) moment = stood_by part e.act (moments es) moment items (stood part (undone part e.act items) es moment)
+stood part items (e ∷ es) moment =
+    stood_by part e.act (moments es) moment items (stood part (undone part e.act items) es moment)
 
 -- the earlier one, where there is one
 abbrev pub earlier_or : Option ℕ → Option ℕ → Option ℕ
@@ -67,7 +71,8 @@ next_by part Settled n moment items earlier = earlier
 -- the position of the item that was written next in a partition after a moment
 abbrev pub next_put : Part → List Item → List Entry → ℕ → Option ℕ
 next_put part items [] moment = None
-next_put part items (e ∷ es) moment = next_by part e.act (moments es) moment items (next_put part (undone part e.act items) es moment)
+next_put part items (e ∷ es) moment =
+    next_by part e.act (moments es) moment items (next_put part (undone part e.act items) es moment)
 
 -- a list cut at a position, with a Torn at its end
 abbrev pub torn_at : Option ℕ → List Item → List Item
@@ -77,7 +82,8 @@ torn_at (Some pos) items = take pos items ++ item.Torn ∷ []
 -- A partition's image by a cut: what stood at its moment; or that, cut at the position of the item that was written
 -- next, with a Torn at its end.
 abbrev pub image_of : Part → List Item → List Entry → ℕ → Bool → List Item
-image_of part items es moment torn = torn_at (if torn then next_put part items es moment else None) (stood part items es moment)
+image_of part items es moment torn =
+    torn_at (if torn then next_put part items es moment else None) (stood part items es moment)
 
 -- an image by a cut of each partition, with the volume change reference and the attributes as they read
 abbrev pub crash_image : Cartridge → List Entry → Cut → Cut → Cartridge
@@ -91,7 +97,8 @@ crash_image held es ip dp = record {
 
 -- some two cuts give this image
 abbrev pub Gives : Cartridge → List Entry → Cartridge → Type 0
-Gives held es image = (ip : Cut) × (dp : Cut) × (ip.moment < moments es) × (dp.moment < moments es) × (image ≡ crash_image held es ip dp)
+Gives held es image =
+    (ip : Cut) × (dp : Cut) × (ip.moment < moments es) × (dp.moment < moments es) × (image ≡ crash_image held es ip dp)
 
 -- a write or mark that failed after its cut
 abbrev pub IsFailure : Act → Type 0

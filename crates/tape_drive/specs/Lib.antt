@@ -2,8 +2,10 @@ pub mod Commands
 pub mod Crashes
 pub mod Images
 pub mod Laws
+pub mod Looks
 pub mod Memory
 pub mod Placed
 pub mod Record
 pub mod Schedule
+pub mod Since
 pub mod Walks

@@ -1,5 +1,6 @@
 -- What contracts see of a drive in memory, and what each of its commands does.
-use Rattle.std.specs.Prelude.{ℕ, ◌+◌, ◌-◌, ◌^◌, ◌≤◌, ◌<◌, ◌≡◌, ◌⊎◌, Bool, true, false, List, [], ◌∷◌, ◌++◌, take, drop, Option, Some, None, Result, Ok, Err}
+use Rattle.std.specs.Prelude.{ℕ, ◌+◌, ◌-◌, ◌^◌, ◌≤◌, ◌<◌, ◌≡◌, ◌⊎◌, Bool, true, false, List, [], ◌∷◌, ◌++◌, take}
+use Rattle.std.specs.Prelude.{drop, Option, Some, None, Result, Ok, Err}
 use Rattle.tape_types.specs.declared.cartridges.Place.{Place}
 use Rattle.tape_types.specs.declared.cartridges.Item.{Item}
 use Rattle.tape_types.specs.declared.cartridges.Item.TheVariants as item
@@ -147,11 +148,12 @@ RanLocate (Err _) at old new = MustFail cmd.Locate old × (new ≡ failed (begun
 -- What a read at a place does: it fails where it has to, and then changes nothing; else it answers what stands there.
 abbrev pub RanRead : {E : Type 0} → Result Got E → Place → List ℕ → View → View → Type 0
 RanRead (Ok answer) at buf old new =
-    (¬ (MustFail cmd.Read old)) × IsRead (item_at at old.held) answer buf × (new ≡ moved (Some (after_read answer at)) (begun cmd.Read old))
+    (¬ (MustFail cmd.Read old)) × IsRead (item_at at old.held) answer buf
+    × (new ≡ moved (Some (after_read answer at)) (begun cmd.Read old))
 RanRead (Err _) at buf old new = MustFail cmd.Read old × (new ≡ failed (begun cmd.Read old))
 
--- What a command of another kind does that is no write or mark: it fails where it has to or for want of memory, and then
--- changes nothing; else it does this act, and the cartridge reads so.
+-- What a command of another kind does that is no write or mark: it fails where it has to or for want of memory, and
+-- then changes nothing; else it does this act, and the cartridge reads so.
 abbrev pub Ran : {T E : Type 0} → Result T E → Cmd → Act → Cartridge → View → View → Type 0
 Ran (Ok _) kind act held old new = (¬ (MustFail kind old)) × (new ≡ acted old.commands act held (begun kind old))
 Ran (Err _) kind act held old new = (MustFail kind old × (new ≡ failed (begun kind old)))
@@ -160,10 +162,12 @@ Ran (Err _) kind act held old new = (MustFail kind old × (new ≡ failed (begun
 -- What a write or mark does at a place: it fails where it has to or for want of memory, and then changes nothing
 -- unless it is listed; a listed one leaves a Torn in place of the item.
 abbrev pub RanPut : {T E : Type 0} → Result T E → Cmd → Place → Item → View → View → Type 0
-RanPut (Ok _) kind at x old new = (¬ (MustFailToWrite kind old)) × (new ≡ moved (Some (next at)) (put at x false kind old))
+RanPut (Ok _) kind at x old new =
+    (¬ (MustFailToWrite kind old)) × (new ≡ moved (Some (next at)) (put at x false kind old))
 RanPut (Err _) kind at x old new =
     ((IsStopped old.schedule ⊎ (2 ^ 64 - 1 ≤ old.held.vcr)) × (new ≡ failed (begun kind old)))
-    ⊎ ((¬ (IsStopped old.schedule)) × (old.held.vcr < 2 ^ 64 - 1) × IsListed kind old.schedule × (new ≡ failed (put at item.Torn true kind old)))
+    ⊎ ((¬ (IsStopped old.schedule)) × (old.held.vcr < 2 ^ 64 - 1) × IsListed kind old.schedule
+    × (new ≡ failed (put at item.Torn true kind old)))
     ⊎ ((¬ (IsStopped old.schedule)) × (old.held.vcr < 2 ^ 64 - 1) × (new ≡ starved_out (begun kind old)))
 
 -- the counts are those of a u64, and the record is sound

@@ -35,7 +35,8 @@ undo Flushed c = c
 undo (Noted part before) c = with_note part before c
 undo Settled c = c
 
--- a partition that was cut and got an item, as a crash may find it: cut, with a Torn in place of the item, or with the item
+-- a partition that was cut and got an item, as a crash may find it: cut, with a Torn in place of the item, or with the
+-- item
 abbrev pub IsStage : List Item → List Item → Type 0
 IsStage after image = (image ≡ front after) ⊎ (image ≡ front after ++ item.Torn ∷ []) ⊎ (image ≡ after)
 
@@ -65,19 +66,21 @@ Settles Settled held image = HasState held image
 abbrev pub Leaves : Cartridge → List Entry → Cartridge → Type 0
 Leaves held [] image = image ≡ held
 Leaves held (e ∷ es) image =
-    Settles e.act held image × ((before : Cartridge) × Leaves (undo e.act held) es before × During e.act held before image)
+    Settles e.act held image
+    × ((before : Cartridge) × Leaves (undo e.act held) es before × During e.act held before image)
 
--- what a crash may have left since the number was t: now, while an act went on that began at that number or later, or before it
-abbrev pub LeftFrom : Cartridge → List Entry → ℕ → Cartridge → Type 0
-LeftFrom held [] t image = Leaves held [] image
-LeftFrom held (e ∷ es) t image = Leaves held (e ∷ es) image
-    ⊎ ((t ≤ e.number) × (((before : Cartridge) × Leaves (undo e.act held) es before × During e.act held before image)
-    ⊎ LeftFrom (undo e.act held) es t image))
+-- what a crash may have left while an act went on that had begun at the number t or later
+abbrev pub LeftWithin : Cartridge → List Entry → ℕ → Cartridge → Type 0
+LeftWithin held [] t image = ⊥
+LeftWithin held (e ∷ es) t image =
+    ((t ≤ e.number) × ((before : Cartridge) × Leaves (undo e.act held) es before × During e.act held before image))
+    ⊎ LeftWithin (undo e.act held) es t image
 
--- the same where the number stands at `count`: since that number there is no other moment than now
+-- What a crash may have left since the number was t: now, or while such an act went on. The number stands at `count`,
+-- and since that number there is no other moment than now.
 abbrev pub LeftSince : ℕ → Cartridge → List Entry → ℕ → Cartridge → Type 0
 LeftSince count held es t image =
-    Leaves held es image ⊎ (((t < count) ⊎ (2 ^ 64 - 1 ≤ count)) × LeftFrom held es t image)
+    Leaves held es image ⊎ (((t < count) ⊎ (2 ^ 64 - 1 ≤ count)) × LeftWithin held es t image)
 
 -- each act began at a smaller number than now, unless the number stands at its end
 abbrev pub Numbered : ℕ → List Entry → Type 0

@@ -1,5 +1,6 @@
 -- Which commands of a drive in memory are to fail.
-use Rattle.std.specs.Prelude.{ℕ, ◌+◌, ◌-◌, ◌^◌, ◌≡◌, min, List, Option, Some, None, Contains, slice_index, slice_set, replicate}
+use Rattle.std.specs.Prelude.{ℕ, ◌+◌, ◌-◌, ◌^◌, ◌≡◌, min, List, Option, Some, None, Contains, slice_index, slice_set}
+use Rattle.std.specs.Prelude.{replicate}
 use Rattle.tape_drive.specs.declared.schedule.Cmd.{Cmd}
 use Rattle.tape_drive.specs.declared.schedule.Cmd.TheVariants as cmd
 use Rattle.tape_drive.specs.declared.schedule.Fail.{Fail}

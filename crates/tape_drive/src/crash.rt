@@ -1,8 +1,11 @@
 // What a crash of the drive in memory may leave, by choice.
-ghost use Rattle.std.specs.Prelude.{◌≡◌, ◌≤◌, ◌<◌, ◌+◌, ◌-◌, ◌*◌, ◌^◌, ◌++◌, ◌↔◌, if◌then◌else◌, reverse, OnOk, IfOk, Option, Some, None};
+ghost use Rattle.std.specs.Prelude.{ℕ, ◌≡◌, ◌≤◌, ◌<◌, ◌+◌, ◌-◌, ◌*◌, ◌^◌, ◌++◌, ◌↔◌, if◌then◌else◌, reverse, OnOk};
+ghost use Rattle.std.specs.Prelude.{IfOk, Option, Some, None};
 ghost use Rattle.tape_types.specs.declared.cartridges.Cartridge.{Cartridge};
 ghost use Rattle.tape_types.specs.Cartridges.{items_of, capacity, HoldsAtMost, FitsLimits};
-ghost use Rattle.tape_drive.specs.Images.{moments_after, moments, stood, earlier_or, next_put, torn_at, image_of, crash_image, Gave};
+ghost use Rattle.tape_drive.specs.Since.{GaveSince};
+ghost use Rattle.tape_drive.specs.Images.{moments_after, moments, stood, earlier_or, next_put, torn_at, image_of};
+ghost use Rattle.tape_drive.specs.Images.{crash_image, Gave};
 
 use crate::drive::Drive;
 use crate::memory::MemDrive;
@@ -53,7 +56,8 @@ impl MemDrive {
 
     fn image(&self, part: Part, cut: Cut) -> Result<List<Item>, NoMemory>
         requires { cut.moment < moments self.now.acts }
-        ensures image { IfOk result (λ l. l ≡ image_of part (items_of part self.now.held) self.now.acts cut.moment cut.torn) }
+        ensures image { IfOk result (λ l. l
+            ≡ image_of part (items_of part self.now.held) self.now.acts cut.moment cut.torn) }
         ensures fits { IfOk result (λ l. HoldsAtMost (capacity part self.now.limits) l) }
     {
         let mut items = Vec::new(self.alloc());
@@ -77,9 +81,20 @@ impl MemDrive {
 /// What a crash may leave now is what `crash` gives by some two cuts, or gave before the failed writes and marks that
 /// no command which settles the volume change reference has succeeded after.
 pub fn crash_gives_all(drive: &MemDrive)
-    ensures { (image : Cartridge) → ⟦<MemDrive as Drive>⟧.leaves drive.now image ↔ Gave drive.now.held drive.now.acts image }
+    ensures { (image : Cartridge)
+        → ⟦<MemDrive as Drive>⟧.leaves drive.now image ↔ Gave drive.now.held drive.now.acts image }
 {
     let _ = drive;
+}
+
+/// What a crash may have left since the number of commands was t is what it may leave now, and what it left while an
+/// act of the record went on that had begun at that number or later: what choices gave before that act, and what they
+/// show of it.
+pub fn since_gives_all(drive: &MemDrive)
+    ensures { (t : ℕ) (image : Cartridge)
+        → ⟦<MemDrive as Drive>⟧.left_since drive.now t image ↔ GaveSince drive.now.held drive.now.acts t image }
+{
+    let _sound = drive.acts();
 }
 
 fn count_moments(acts: &[Entry]) -> u64
@@ -158,7 +173,8 @@ impl Walk {
         requires count { self.old.count ≡ moments (reverse acts.now) }
         requires moment { moment < self.old.count }
         ensures items { OnOk result (self.new.items.items ≡ stood part self.old.items.items (reverse acts.now) moment) }
-        ensures next { OnOk result (self.new.next ≡ earlier_or (next_put part self.old.items.items (reverse acts.now) moment) self.old.next) }
+        ensures next { OnOk result (self.new.next
+            ≡ earlier_or (next_put part self.old.items.items (reverse acts.now) moment) self.old.next) }
     {
         let mut left = acts.len();
         while left > 0 {

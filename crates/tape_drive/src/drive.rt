@@ -1,5 +1,6 @@
 // The trait of a drive.
-ghost use Rattle.std.specs.Prelude.{◌≡◌, ◌≤◌, ◌<◌, ◌^◌, ◌-◌, ℕ, Option, Some, None, length, vec_capacity, IsErr, IfOk, IfSome, OnOk, OnErr};
+ghost use Rattle.std.specs.Prelude.{◌≡◌, ◌≤◌, ◌<◌, ◌^◌, ◌-◌, ℕ, Option, Some, None, length, vec_capacity, IsErr};
+ghost use Rattle.std.specs.Prelude.{IfOk, IfSome, OnOk, OnErr};
 ghost use Rattle.tape_types.specs.declared.cartridges.Cartridge.{Cartridge};
 ghost use Rattle.tape_types.specs.declared.cartridges.Limits.{Limits};
 ghost use Rattle.tape_types.specs.declared.cartridges.Place.{Place};
@@ -7,7 +8,8 @@ ghost use Rattle.tape_types.specs.declared.cartridges.Item.TheVariants as item;
 ghost use Rattle.tape_types.specs.declared.cartridges.Note.TheVariants as kind;
 ghost use Rattle.tape_types.specs.Cartridges.{items_of, note_of, capacity, next, IsLimits, FitsLimits};
 ghost use Rattle.tape_types.specs.Counts.{HasCause};
-ghost use Rattle.tape_drive.specs.Commands.{HasRoom, Counted, item_at, IsRead, FillsBuffer, after_read, AfterWrite, AfterNote};
+ghost use Rattle.tape_drive.specs.Commands.{HasRoom, Counted, item_at, IsRead, FillsBuffer, after_read, AfterWrite};
+ghost use Rattle.tape_drive.specs.Commands.{AfterNote};
 ghost use Rattle.tape_drive.specs.Crashes.{WithinWrite, WithinNote, NothingNew, Crashes, IsSure, IsSettled};
 
 use tape_types::{Limits, Note, Part, Place};
@@ -205,7 +207,8 @@ pub trait Drive: Drop {
         → left_since d (commands d) image → leaves d image };
 
     // This moment is one of those since an earlier number.
-    ghost counts_now: { (d : Self) (t : ℕ) (image : Cartridge) → t ≤ commands d → leaves d image → left_since d t image };
+    ghost counts_now: { (d : Self) (t : ℕ) (image : Cartridge) → t ≤ commands d → leaves d image
+        → left_since d t image };
 
     // There is no more since a greater number than since a smaller one.
     ghost lower: { (d : Self) (t u : ℕ) (image : Cartridge) → t ≤ u → left_since d u image → left_since d t image };

@@ -9,7 +9,7 @@ mod memory;
 mod record;
 mod schedule;
 
-pub use crash::{Cut, crash_gives_all};
+pub use crash::{Cut, crash_gives_all, since_gives_all};
 pub use drive::{Drive, DriveErr, Got};
 pub use durable::write_durably;
 pub use memory::MemDrive;

@@ -1,5 +1,6 @@
 // A drive in memory.
-ghost use Rattle.std.specs.Prelude.{◌≡◌, ◌≤◌, ◌<◌, ◌+◌, ◌-◌, ◌^◌, ◌++◌, [], ◌∷◌, length, take, drop, OnOk, OnErr, IfOk, IsTrue, All, ◌↔◌, reverse, Option, Some};
+ghost use Rattle.std.specs.Prelude.{◌≡◌, ◌≤◌, ◌<◌, ◌+◌, ◌-◌, ◌^◌, ◌++◌, [], ◌∷◌, length, take, drop, OnOk, OnErr};
+ghost use Rattle.std.specs.Prelude.{IfOk, IsTrue, All, ◌↔◌, reverse, Option, Some};
 ghost use Rattle.std.specs.Option.{option_copied};
 ghost use Rattle.tape_drive.specs.Commands.{item_at};
 ghost use Rattle.tape_types.specs.declared.cartridges.Place.{Place};
@@ -42,9 +43,19 @@ impl Model for MemDrive {
 
     ghost Value = { View };
 
-    ghost view = { λ m. record { held = reads_as m.ip.items m.dp.items m.vcr m.note_ip m.note_dp; acts = reverse m.acts.items; head = m.head; limits = m.limits; commands = m.commands; faults = m.faults; starved = m.starved; schedule = m.schedule } };
+    ghost view = { λ m. record {
+      held = reads_as m.ip.items m.dp.items m.vcr m.note_ip m.note_dp;
+      acts = reverse m.acts.items;
+      head = m.head;
+      limits = m.limits;
+      commands = m.commands;
+      faults = m.faults;
+      starved = m.starved;
+      schedule = m.schedule;
+    } };
 
-    ghost invariant = { λ m. IsSound m.limits m.commands (reads_as m.ip.items m.dp.items m.vcr m.note_ip m.note_dp) (reverse m.acts.items) };
+    ghost invariant = { λ m. IsSound m.limits m.commands
+        (reads_as m.ip.items m.dp.items m.vcr m.note_ip m.note_dp) (reverse m.acts.items) };
 }
 
 impl MemDrive {
@@ -235,7 +246,9 @@ impl MemDrive {
         requires room { at.pos < capacity at.part self.old.limits }
         requires size { IsItem item }
         requires vcr { self.old.held.vcr < 2 ^ 64 - 1 }
-        ensures ok { OnOk result (self.new ≡ acted number (Put at.part (drop at.pos (items_of at.part self.old.held)) failed) (with_item at item self.old.held) self.old) }
+        ensures ok { OnOk result (self.new
+            ≡ acted number (Put at.part (drop at.pos (items_of at.part self.old.held)) failed)
+            (with_item at item self.old.held) self.old) }
         ensures err { OnErr result (self.new ≡ self.old) }
     {
         self.acts.reserve(1)?;
@@ -254,7 +267,8 @@ impl MemDrive {
 
     pub(crate) fn set_note(&mut self, number: u64, part: Part, note: Note) -> Result<(), NoMemory>
         requires number { self.old.commands < 2 ^ 64 - 1 → number < self.old.commands }
-        ensures ok { OnOk result (self.new ≡ acted number (Noted part (note_of part self.old.held)) (with_note part note self.old.held) self.old) }
+        ensures ok { OnOk result (self.new
+            ≡ acted number (Noted part (note_of part self.old.held)) (with_note part note self.old.held) self.old) }
         ensures err { OnErr result (self.new ≡ self.old) }
     {
         self.acts.reserve(1)?;
@@ -295,7 +309,8 @@ fn put_at(
     at: Place,
     item: Item,
 ) -> Result<List<Item>, NoMemory>
-    ensures ok { IfOk result (λ gone. IsPlaced at.part at.pos item gone ip.old.items dp.old.items ip.new.items dp.new.items) }
+    ensures ok { IfOk result (λ gone.
+        IsPlaced at.part at.pos item gone ip.old.items dp.old.items ip.new.items dp.new.items) }
     ensures err { OnErr result ((ip.new.items ≡ ip.old.items) × (dp.new.items ≡ dp.old.items)) }
 {
     match at.part {

@@ -1,5 +1,6 @@
 // The drive in memory, by tables of what its crashes leave and where its commands fail.
-ghost use Rattle.std.specs.Prelude.{◌≡◌, ◌≤◌, ◌<◌, ◌+◌, length, vec_capacity, IfOk, IfSome};
+ghost use Rattle.std.specs.Prelude.{◌≡◌, ◌≤◌, ◌<◌, ◌+◌, ◌*◌, length, vec_capacity, IfOk, IfSome};
+ghost use Rattle.tape_drive.specs.Looks.{Looks};
 ghost use Rattle.tape_types.specs.Cartridges.{items_of, capacity, IsItem, HoldsAtMost};
 
 use crate::{Cmd, Cut, Drive, DriveErr, Fail as Listed, Got, MemDrive, write_durably};
@@ -198,13 +199,17 @@ fn a_command_fails_where_it_has_to(rt: HostRuntime) -> Result<(), Fail> {
     Ok(())
 }
 
+#[tactic(auto, using(crate::proofs::Looking::one_look, crate::proofs::Looking::then_looks, crate::proofs::Looking::more_looks,))]
 fn read_one<D: Drive>(drive: &mut D, place: Place, buf: &mut Vec<u8>) -> Result<Got, DriveErr>
     requires within { IfSome (D.held drive.old) (λ c. place.pos ≤ length (items_of place.part c)) }
     requires room { place.pos < capacity place.part (D.limits drive.old) }
     requires buffer { 1048576 ≤ vec_capacity buf.old }
+    ensures looks { Looks D.Drive (2 * D.MOST) drive.old drive.new }
 {
-    drive.locate(place)?;
-    drive.read(buf)
+    match drive.locate(place) {
+        Ok(()) => drive.read(buf),
+        Err(failed) => Err(failed),
+    }
 }
 
 fn expect_read(rt: &impl Abort, alloc: Global, pos: u64, got: Got, bytes: &[u8]) -> Result<(), Fail>
