@@ -54,7 +54,8 @@ pub record Reading (items : List Item) : Type 0 where
 abbrev pub constructs_from : ℕ → List Group → List Construct
 constructs_from at [] = []
 constructs_from at (g ∷ gs) =
-    record { mark = at + length g.data_blocks; blocks = g.index_blocks } ∷ constructs_from (at + length (items_of_group g)) gs
+    record { mark = at + length g.data_blocks; blocks = g.index_blocks }
+    ∷ constructs_from (at + length (items_of_group g)) gs
 
 -- items have not that form, since at this position, counted from the first item's, a mark stands directly behind the mark that
 -- opens an index

@@ -2,6 +2,11 @@
 //! laws; no code.
 #![tactic(auto)]
 
+mod examples;
 mod laws;
 
-pub use laws::{partitions_are_read_in_one_way, what_is_read_is_the_form};
+pub use examples::{the_definitions_tell_content, the_definitions_tell_ends};
+pub use laws::{
+    content_grows, ends_are_within, indexes_stay, partitions_are_read_in_one_way,
+    what_is_read_is_the_form,
+};

@@ -1,0 +1,12 @@
+use Rattle.tape_content.proofs.Grown.{content_torn}
+use Rattle.tape_content.proofs.Cuts.{agree_up_to_index, cut_keeps}
+use Rattle.tape_content.proofs.laws.indexes_stay.Goals as goal
+
+pub returns-clause-torn : goal.returns-clause-torn
+returns-clause-torn c = content_torn
+
+pub returns-clause-cut : goal.returns-clause-cut
+returns-clause-cut c = cut_keeps
+
+pub returns-clause-agreed : goal.returns-clause-agreed
+returns-clause-agreed c = agree_up_to_index
