@@ -11,7 +11,7 @@ use Rattle.extent_map.proofs.LaidLemmas.{laid_le}
 
 -- ---- division
 
-div_on : (a m s : ℕ) → 1 ≤ s → a / s + (a % s + m) / s ≡ (a + m) / s
+pub div_on : (a m s : ℕ) → 1 ≤ s → a / s + (a % s + m) / s ≡ (a + m) / s
 div_on a m s some =
     let whole : a / s * s + a % s ≡ a = div-add-mod' a s in
     let next : (a % s + m) / s * s + (a % s + m) % s ≡ a % s + m = div-add-mod' (a % s + m) s in

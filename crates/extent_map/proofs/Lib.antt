@@ -1,3 +1,4 @@
+pub mod BlockLemmas
 pub mod ByteLemmas
 pub mod CellLemmas
 pub mod LaidLemmas

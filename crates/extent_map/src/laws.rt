@@ -1,3 +1,4 @@
+ghost use Rattle.extent_map.specs.Blocks.{BlocksMakeTheFile, NoOtherBlocks};
 ghost use Rattle.extent_map.specs.Laws.{OverlaysWrite, LengthsTruncate, OldBytesStayAway, PlansRead, OverlaysTakeOut, BlocksHaveTheBytes};
 
 /// An overlay writes the bytes of the new extent into the file, whatever stands on tape.
@@ -29,4 +30,14 @@ pub fn overlays_take_out()
 /// the byte is lost.
 pub fn blocks_have_the_bytes()
     ensures { BlocksHaveTheBytes }
+{}
+
+/// Two tapes that have the same bytes in the blocks of a file have the same file.
+pub fn blocks_make_the_file()
+    ensures { BlocksMakeTheFile }
+{}
+
+/// An overlay adds the blocks of its extent to those of a file, and a new length adds none.
+pub fn no_other_blocks()
+    ensures { NoOtherBlocks }
 {}

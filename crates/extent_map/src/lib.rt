@@ -11,7 +11,7 @@ mod tests;
 
 pub use extents::Extents;
 pub use laws::{
-    blocks_have_the_bytes, lengths_truncate, old_bytes_stay_away, overlays_take_out,
-    overlays_write, plans_read,
+    blocks_have_the_bytes, blocks_make_the_file, lengths_truncate, no_other_blocks,
+    old_bytes_stay_away, overlays_take_out, overlays_write, plans_read,
 };
 pub use pieces::Piece;

@@ -4,8 +4,10 @@
 
 mod errors;
 mod labels;
+mod laws;
 mod mounted;
 
 pub use errors::MountErr;
 pub use labels::Labels;
+pub use laws::cartridges_read_in_one_way;
 pub use mounted::Mounted;
