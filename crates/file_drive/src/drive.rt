@@ -1,5 +1,6 @@
 // The drive over a folder, as far as it keeps count.
-ghost use Rattle.std.specs.Prelude.{◌≡◌, ◌≤◌, ◌<◌, ◌^◌, ◌+◌, ◌-◌, length, vec_capacity, None, Some, Ok, IfOk, OnOk, OnErr};
+ghost use Rattle.std.specs.Prelude.{◌≡◌, ◌≤◌, ◌<◌, ◌^◌, ◌+◌, ◌-◌, length, vec_capacity, None, Some, Ok, IfOk, OnOk};
+ghost use Rattle.std.specs.Prelude.{OnErr};
 ghost use Rattle.tape_types.specs.declared.cartridges.Limits.{Limits};
 ghost use Rattle.tape_types.specs.declared.cartridges.Place.{Place};
 ghost use Rattle.tape_types.specs.Counts.{HasCause};

@@ -1,7 +1,9 @@
 //! Items at the beginning of a partition.
 
-ghost use Rattle.std.specs.Prelude.{◌≡◌, ◌≢◌, ◌≤◌, ◌<◌, ◌+◌, ℕ, List, true, length, Some, vec_capacity, IfOk, IfSome, IfNone, MatchBool, MatchOption};
+ghost use Rattle.std.specs.Prelude.{◌≡◌, ◌≢◌, ◌≤◌, ◌<◌, ◌+◌, ◌*◌, ℕ, List, true, length, vec_capacity};
+ghost use Rattle.std.specs.Prelude.{Some, IfOk, IfSome, IfNone, MatchBool, MatchOption};
 ghost use Rattle.tape_drive.specs.Commands.{item_at};
+ghost use Rattle.tape_drive.specs.Looks.{Looks};
 ghost use Rattle.tape_types.specs.Cartridges.{capacity, items_of, next};
 ghost use Rattle.tape_types.specs.declared.cartridges.Item.TheVariants as items;
 ghost use Rattle.tape_types.specs.Counts.{HasCause};
@@ -9,7 +11,8 @@ ghost use Rattle.tape_types.specs.declared.cartridges.Cartridge.{Cartridge};
 ghost use Rattle.vol_label.specs.declared.Vol1.{Vol1};
 ghost use Rattle.ltfs_label.specs.Values.{LabelValue, label_of};
 ghost use Rattle.ltfs_label.specs.Grammar.{LabelText};
-ghost use Rattle.mount_recover.specs.Labels.{HasLabel, HasRecord, HasSomeLabel, HasSomeRecord, IsMarkedBlock, IsStopped, is_block, is_mark, is_no_memory};
+ghost use Rattle.mount_recover.specs.Labels.{HasLabel, HasRecord, HasSomeLabel, HasSomeRecord, IsMarkedBlock};
+ghost use Rattle.mount_recover.specs.Labels.{IsStopped, is_block, is_mark, is_no_memory};
 
 use ltfs_label::{Label, LabelErr, read_label};
 use std::alloc::{AllocError, Global};
@@ -32,6 +35,8 @@ pub enum Stop {
 pub struct Buffers {
     pub block: Vec<u8>,
     pub mark: Vec<u8>,
+    ghost block_room: { 1048576 ≤ vec_capacity block },
+    ghost mark_room: { 1048576 ≤ vec_capacity mark },
 }
 
 fn buffer(alloc: Global) -> Result<Vec<u8>, AllocError>
@@ -43,10 +48,7 @@ fn buffer(alloc: Global) -> Result<Vec<u8>, AllocError>
 }
 
 impl Buffers {
-    pub fn new(alloc: Global) -> Result<Buffers, AllocError>
-        ensures block { IfOk result (λ b. 1048576 ≤ vec_capacity b.block) }
-        ensures mark { IfOk result (λ b. 1048576 ≤ vec_capacity b.mark) }
-    {
+    pub fn new(alloc: Global) -> Result<Buffers, AllocError> {
         Ok(Buffers {
             block: buffer(alloc)?,
             mark: buffer(alloc)?,
@@ -56,18 +58,17 @@ impl Buffers {
 
 /// Whether a block stands at a place. Then its bytes are in the buffer, and the head stands
 /// behind it.
-#[tactic(auto, using(crate::proofs::ReadLemmas::block_is, crate::proofs::ReadLemmas::no_block))]
+#[tactic(auto, using(crate::proofs::ReadLemmas::block_is, crate::proofs::ReadLemmas::no_block, tape_drive::proofs::Looking::one_look, tape_drive::proofs::Looking::then_looks, tape_drive::proofs::Looking::more_looks,))]
 fn read_block<D: Drive>(drive: &mut D, place: Place, buffer: &mut Vec<u8>) -> Result<bool, DriveErr>
     requires within { IfSome (D.held drive.old) (λ c. place.pos ≤ length (items_of place.part c)) }
     requires room { place.pos < capacity place.part (D.limits drive.old) }
     requires buffer { 1048576 ≤ vec_capacity buffer.old }
     ensures buffer { 1048576 ≤ vec_capacity buffer.new }
     ensures told { IfOk result (λ yes. (c : Cartridge) → D.held drive.old ≡ Some c
-        → MatchBool yes (item_at place c ≡ Some (items.Block buffer.new.items)) ((bytes : List ℕ) → item_at place c ≢ Some (items.Block bytes))) }
+        → MatchBool yes (item_at place c ≡ Some (items.Block buffer.new.items))
+        ((bytes : List ℕ) → item_at place c ≢ Some (items.Block bytes))) }
     ensures head { IfOk result (λ yes. yes ≡ true → D.head drive.new ≡ Some (next place)) }
-    ensures held { D.held drive.new ≡ D.held drive.old }
-    ensures limits { D.limits drive.new ≡ D.limits drive.old }
-    ensures leaves { (image : Cartridge) → D.leaves drive.new image → D.leaves drive.old image }
+    ensures looks { Looks D.Drive (2 * D.MOST) drive.old drive.new }
     ensures cause { HasCause (D.faults drive.old) (D.faults drive.new) result }
 {
     match drive.locate(place) {
@@ -98,16 +99,14 @@ fn is_mark(got: Got) -> bool
 }
 
 /// Whether a file mark stands at the head.
-#[tactic(auto, using(crate::proofs::ReadLemmas::mark_is, crate::proofs::ReadLemmas::no_mark))]
+#[tactic(auto, using(crate::proofs::ReadLemmas::mark_is, crate::proofs::ReadLemmas::no_mark, tape_drive::proofs::Looking::one_look,))]
 fn read_mark<D: Drive>(drive: &mut D, buffer: &mut Vec<u8>) -> Result<bool, DriveErr>
     requires located { (at : Place) × (D.head drive.old ≡ Some at) }
     requires buffer { 1048576 ≤ vec_capacity buffer.old }
     ensures buffer { 1048576 ≤ vec_capacity buffer.new }
-    ensures told { IfOk result (λ yes. (at : Place) (c : Cartridge) → D.head drive.old ≡ Some at → D.held drive.old ≡ Some c
-        → MatchBool yes (item_at at c ≡ Some items.Mark) (item_at at c ≢ Some items.Mark)) }
-    ensures held { D.held drive.new ≡ D.held drive.old }
-    ensures limits { D.limits drive.new ≡ D.limits drive.old }
-    ensures leaves { (image : Cartridge) → D.leaves drive.new image → D.leaves drive.old image }
+    ensures told { IfOk result (λ yes. (at : Place) (c : Cartridge) → D.head drive.old ≡ Some at
+        → D.held drive.old ≡ Some c → MatchBool yes (item_at at c ≡ Some items.Mark) (item_at at c ≢ Some items.Mark)) }
+    ensures looks { Looks D.Drive D.MOST drive.old drive.new }
     ensures cause { HasCause (D.faults drive.old) (D.faults drive.new) result }
 {
     match drive.read(buffer) {
@@ -125,15 +124,10 @@ fn read_marked<D: Drive>(
 ) -> Result<bool, DriveErr>
     requires within { IfSome (D.held drive.old) (λ c. place.pos ≤ length (items_of place.part c)) }
     requires room { place.pos < capacity place.part (D.limits drive.old) }
-    requires block { 1048576 ≤ vec_capacity buffers.old.block }
-    requires mark { 1048576 ≤ vec_capacity buffers.old.mark }
-    ensures block { 1048576 ≤ vec_capacity buffers.new.block }
-    ensures mark { 1048576 ≤ vec_capacity buffers.new.mark }
     ensures told { IfOk result (λ yes. (c : Cartridge) → D.held drive.old ≡ Some c
-        → MatchBool yes (IsMarkedBlock (items_of place.part c) place.pos buffers.new.block.items) ((bytes : List ℕ) → ¬ IsMarkedBlock (items_of place.part c) place.pos bytes)) }
-    ensures held { D.held drive.new ≡ D.held drive.old }
-    ensures limits { D.limits drive.new ≡ D.limits drive.old }
-    ensures leaves { (image : Cartridge) → D.leaves drive.new image → D.leaves drive.old image }
+        → MatchBool yes (IsMarkedBlock (items_of place.part c) place.pos buffers.new.block.items)
+        ((bytes : List ℕ) → ¬ IsMarkedBlock (items_of place.part c) place.pos bytes)) }
+    ensures looks { Looks D.Drive (3 * D.MOST) drive.old drive.new }
     ensures cause { HasCause (D.faults drive.old) (D.faults drive.new) result }
 {
     match read_block(drive, place, &mut buffers.block) {
@@ -150,15 +144,9 @@ pub fn read_record<D: Drive>(
     buffers: &mut Buffers,
 ) -> Result<Option<Vol1>, DriveErr>
     requires room { 4 ≤ capacity part (D.limits drive.old) }
-    requires block { 1048576 ≤ vec_capacity buffers.old.block }
-    requires mark { 1048576 ≤ vec_capacity buffers.old.mark }
-    ensures block { 1048576 ≤ vec_capacity buffers.new.block }
-    ensures mark { 1048576 ≤ vec_capacity buffers.new.mark }
     ensures told { IfOk result (λ found. (c : Cartridge) → D.held drive.old ≡ Some c
         → MatchOption found (¬ HasSomeRecord (items_of part c)) (HasRecord (items_of part c))) }
-    ensures held { D.held drive.new ≡ D.held drive.old }
-    ensures limits { D.limits drive.new ≡ D.limits drive.old }
-    ensures leaves { (image : Cartridge) → D.leaves drive.new image → D.leaves drive.old image }
+    ensures looks { Looks D.Drive (3 * D.MOST) drive.old drive.new }
     ensures cause { HasCause (D.faults drive.old) (D.faults drive.new) result }
 {
     match read_marked(drive, Place { part, pos: 0 }, buffers) {
@@ -183,7 +171,8 @@ fn is_no_memory(fault: LabelErr) -> bool
 /// The label that a text is, where it is one.
 #[tactic(auto, using(crate::proofs::ReadLemmas::not_given))]
 fn label_in(alloc: Global, text: &[u8]) -> Result<Option<Label>, NoMemory>
-    ensures { IfOk result (λ found. MatchOption found ((v : LabelValue) → LabelText text.now v → ⊥) (λ label. LabelText text.now (label_of label))) }
+    ensures { IfOk result (λ found. MatchOption found ((v : LabelValue) → LabelText text.now v → ⊥)
+        (λ label. LabelText text.now (label_of label))) }
 {
     match read_label(alloc, text) {
         Ok(label) => Ok(Some(label)),
@@ -206,15 +195,9 @@ pub fn read_label_of<D: Drive>(
 ) -> Result<Option<Label>, Stop>
     requires within { IfSome (D.held drive.old) (λ c. 2 ≤ length (items_of part c)) }
     requires room { 4 ≤ capacity part (D.limits drive.old) }
-    requires block { 1048576 ≤ vec_capacity buffers.old.block }
-    requires mark { 1048576 ≤ vec_capacity buffers.old.mark }
-    ensures block { 1048576 ≤ vec_capacity buffers.new.block }
-    ensures mark { 1048576 ≤ vec_capacity buffers.new.mark }
     ensures told { IfOk result (λ found. (c : Cartridge) → D.held drive.old ≡ Some c
         → MatchOption found (¬ HasSomeLabel (items_of part c)) (λ label. HasLabel (items_of part c) (label_of label))) }
-    ensures held { D.held drive.new ≡ D.held drive.old }
-    ensures limits { D.limits drive.new ≡ D.limits drive.old }
-    ensures leaves { (image : Cartridge) → D.leaves drive.new image → D.leaves drive.old image }
+    ensures looks { Looks D.Drive (3 * D.MOST) drive.old drive.new }
     ensures cause { IsStopped (D.faults drive.old) (D.faults drive.new) result }
 {
     match read_marked(drive, Place { part, pos: 2 }, buffers) {

@@ -1,8 +1,11 @@
 //! The labels of a volume.
 
-ghost use Rattle.std.specs.Prelude.{◌≡◌, ◌≤◌, Some, length, vec_capacity, IfOk, IfErr, IfSome, IsTrue, ◌↔◌};
+ghost use Rattle.std.specs.Prelude.{◌≡◌, ◌≤◌, ◌*◌, Some, length, IfOk, IfErr, IfSome, IsTrue, ◌↔◌};
 ghost use Rattle.ltfs_label.specs.Values.{label_of};
-ghost use Rattle.mount_recover.specs.Labels.{AreInTheirPlaces, AreOfOneLayout, AreOfOneOrigin, AreOfOneVolume, Fails, HasCounts, HasLabel, HasLabels, HasRecord, HasSomeLabel, HasSomeRecord, IsReadAs, Refuses};
+ghost use Rattle.tape_drive.specs.Looks.{Looks};
+ghost use Rattle.mount_recover.specs.Labels.{AreInTheirPlaces, AreOfOneLayout, AreOfOneOrigin, AreOfOneVolume, Fails};
+ghost use Rattle.mount_recover.specs.Labels.{HasCounts, HasLabel, HasLabels, HasRecord, HasSomeLabel, HasSomeRecord};
+ghost use Rattle.mount_recover.specs.Labels.{IsReadAs, Refuses};
 ghost use Rattle.mount_recover.specs.declared.labels.Labels.{Labels as Found};
 ghost use Rattle.tape_types.specs.Times.{civil_of};
 ghost use Rattle.tape_types.specs.Cartridges.{capacity, items_of};
@@ -65,9 +68,7 @@ pub fn read_labels<D: Drive>(alloc: Global, drive: &mut D) -> Result<Labels, Mou
     ensures refused { IfErr result (λ e. (c : Cartridge) → D.held drive.old ≡ Some c → Fails c e) }
     ensures only { (c : Cartridge) (l : Found) → D.held drive.old ≡ Some c → HasLabels c l → IsReadAs l result }
     ensures counts { HasCounts (D.faults drive.old) (D.faults drive.new) result }
-    ensures held { D.held drive.new ≡ D.held drive.old }
-    ensures limits { D.limits drive.new ≡ D.limits drive.old }
-    ensures leaves { (image : Cartridge) → D.leaves drive.new image → D.leaves drive.old image }
+    ensures looks { Looks D.Drive (12 * D.MOST) drive.old drive.new }
 {
     read_all(alloc, drive)
 }
@@ -77,11 +78,10 @@ fn read_all<D: Drive>(alloc: Global, drive: &mut D) -> Result<Labels, MountErr>
     ensures found { IfOk result (λ l. (c : Cartridge) → D.held drive.old ≡ Some c → HasLabels c l) }
     ensures refused { IfErr result (λ e. (c : Cartridge) → D.held drive.old ≡ Some c → Fails c e) }
     ensures counts { HasCounts (D.faults drive.old) (D.faults drive.new) result }
-    ensures held { D.held drive.new ≡ D.held drive.old }
-    ensures limits { D.limits drive.new ≡ D.limits drive.old }
-    ensures leaves { (image : Cartridge) → D.leaves drive.new image → D.leaves drive.old image }
+    ensures looks { Looks D.Drive (12 * D.MOST) drive.old drive.new }
 {
     let _capacities_are_in_range = drive.limits();
+    let _commands_are_in_range = drive.commands();
     let before = drive.faults();
     let mut buffers = Buffers::new(alloc)?;
     let ip_record = find_record(drive, Part::Ip, before, &mut buffers)?;
@@ -107,17 +107,11 @@ fn find_record<D: Drive>(
     buffers: &mut Buffers,
 ) -> Result<Vol1, MountErr>
     requires room { 4 ≤ capacity part (D.limits drive.old) }
-    requires block { 1048576 ≤ vec_capacity buffers.old.block }
-    requires mark { 1048576 ≤ vec_capacity buffers.old.mark }
     requires before { before ≤ D.faults drive.old }
-    ensures block { 1048576 ≤ vec_capacity buffers.new.block }
-    ensures mark { 1048576 ≤ vec_capacity buffers.new.mark }
     ensures found { IfOk result (λ r. (c : Cartridge) → D.held drive.old ≡ Some c → HasRecord (items_of part c) r) }
     ensures refused { IfErr result (λ e. (c : Cartridge) → D.held drive.old ≡ Some c
         → Refuses (MountErr.Vol1 part) (¬ HasSomeRecord (items_of part c)) e) }
-    ensures held { D.held drive.new ≡ D.held drive.old }
-    ensures limits { D.limits drive.new ≡ D.limits drive.old }
-    ensures leaves { (image : Cartridge) → D.leaves drive.new image → D.leaves drive.old image }
+    ensures looks { Looks D.Drive (3 * D.MOST) drive.old drive.new }
     ensures counts { HasCounts before (D.faults drive.new) result }
 {
     match read_record(drive, part, buffers) {
@@ -137,17 +131,12 @@ fn find_label<D: Drive>(
 ) -> Result<Label, MountErr>
     requires within { IfSome (D.held drive.old) (λ c. HasSomeRecord (items_of part c)) }
     requires room { 4 ≤ capacity part (D.limits drive.old) }
-    requires block { 1048576 ≤ vec_capacity buffers.old.block }
-    requires mark { 1048576 ≤ vec_capacity buffers.old.mark }
     requires before { before ≤ D.faults drive.old }
-    ensures block { 1048576 ≤ vec_capacity buffers.new.block }
-    ensures mark { 1048576 ≤ vec_capacity buffers.new.mark }
-    ensures found { IfOk result (λ l. (c : Cartridge) → D.held drive.old ≡ Some c → HasLabel (items_of part c) (label_of l)) }
+    ensures found { IfOk result (λ l. (c : Cartridge) → D.held drive.old ≡ Some c
+        → HasLabel (items_of part c) (label_of l)) }
     ensures refused { IfErr result (λ e. (c : Cartridge) → D.held drive.old ≡ Some c
         → Refuses (MountErr.Label part) (¬ HasSomeLabel (items_of part c)) e) }
-    ensures held { D.held drive.new ≡ D.held drive.old }
-    ensures limits { D.limits drive.new ≡ D.limits drive.old }
-    ensures leaves { (image : Cartridge) → D.leaves drive.new image → D.leaves drive.old image }
+    ensures looks { Looks D.Drive (3 * D.MOST) drive.old drive.new }
     ensures counts { HasCounts before (D.faults drive.new) result }
 {
     match read_label_of(alloc, drive, part, buffers) {

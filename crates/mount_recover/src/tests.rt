@@ -4,7 +4,7 @@ ghost use Rattle.tape_types.specs.Cartridges.{HoldsAtMost, IsItem};
 use crate::{MountErr, read_labels};
 use std::alloc::Global;
 use std::process::Abort;
-use tape_drive::{Cmd, Fail as Listed, MemDrive};
+use tape_drive::{Cmd, Drive, Fail as Listed, MemDrive};
 use tape_types::{Bytes, Cartridge, Item, Limits, List, NoMemory, Note, Part, Twin};
 
 const VOL1: &[u8] =
@@ -23,8 +23,8 @@ const DP: &[u8] =
 const CUT: &[u8] =
     b"<?xml version=\"1.0\" encoding=\"UTF-8\"?><ltfslabel version=\"2.4.0\"><creator>ltfs_server 1.0.0</creator><formattime>2024-01-02T03:04:05.000000000Z</formattime><volumeuuid>30a91a08-daae-48d1-ae75-69804e61d2ea</volumeuuid><location><partition>b</partition></location><partitions><index>a</index><data>b</data></partitions><blocksize>4096</blocksize><compression>false</compression></ltfslabel";
 
-/// A partition by letters: `v` is the VOL1 record, `x` the damaged one, `a` and `b` are the labels, `c` is the one that is
-/// cut, and `m` is a mark.
+/// A partition by letters: `v` is the VOL1 record, `x` the damaged one, `a` and `b` are the labels, `c` is the one that
+/// is cut, and `m` is a mark.
 fn part(alloc: Global, letters: &[u8]) -> Result<List<Item>, NoMemory>
     requires { length letters.now ≤ 1000 }
     ensures { IfOk result (HoldsAtMost 1000) }
@@ -97,6 +97,7 @@ fn both_labels_are_read(rt: HostRuntime) -> Result<(), NoMemory> {
     assert_eq!(rt; labels.ip.location, b'a');
     assert_eq!(rt; labels.dp.location, b'b');
     assert_eq!(rt; labels.dp.block, 4096);
+    assert_eq!(rt; drive.commands(), 12);
     Ok(())
 }
 

@@ -1,5 +1,6 @@
 -- What contracts see of the devices in memory, and what a call of each leaves.
-use Rattle.std.specs.Prelude.{◌≡◌, ◌⊎◌, ℕ, ◌+◌, ◌-◌, ◌^◌, min, List, ◌++◌, ◌==◌, Bool, true, false, length, take, drop, Result, Ok, Err}
+use Rattle.std.specs.Prelude.{◌≡◌, ◌⊎◌, ℕ, ◌+◌, ◌-◌, ◌^◌, min, List, ◌++◌, ◌==◌, Bool, true, false, length, take}
+use Rattle.std.specs.Prelude.{drop, Result, Ok, Err}
 use Rattle.std.specs.List.{list_any}
 
 -- the next value of a count that stands still at 2^64 - 1
