@@ -6,4 +6,5 @@ mod labels;
 #[cfg(test)]
 mod tests;
 
-pub use labels::{Labels, MountErr, read_labels};
+pub use labels::read_labels;
+pub use tape_meaning::{Labels, MountErr, Mounted};
