@@ -6,3 +6,4 @@ pub mod SomeForm
 pub mod Grown
 pub mod Placed
 pub mod Cuts
+pub mod IpEnds

@@ -27,6 +27,17 @@ end_ip_in pos (Bad at) ks = at
 abbrev pub end_ip : Content → ℕ
 end_ip s = end_ip_in s.pos s.phase s.constructs
 
+-- the indexes below the end of the index partition
+abbrev pub kept_in : Phase → List Construct → List Construct
+kept_in (Data zero) (k ∷ older) = older
+kept_in (Data zero) [] = []
+kept_in (Data (suc n)) ks = ks
+kept_in (Index mark blocks) ks = ks
+kept_in (Bad at) ks = ks
+
+abbrev pub kept_on_ip : Content → List Construct
+kept_on_ip s = kept_in s.phase s.constructs
+
 -- the items of a partition end with this index
 abbrev pub EndsWith : List Item → Construct → Type 0
 EndsWith items k = length items ≡ after_of k

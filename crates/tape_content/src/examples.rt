@@ -2,7 +2,7 @@
 
 ghost use Rattle.std.specs.Prelude.{◌≡◌, [], ◌∷◌, map};
 ghost use Rattle.tape_content.specs.Content.{Bad, content};
-ghost use Rattle.tape_content.specs.Ends.{EndsWith, EndsWithLast, IsOneAtMost, end_dp, end_ip, lead_of};
+ghost use Rattle.tape_content.specs.Ends.{EndsWith, EndsWithLast, IsOneAtMost, end_dp, end_ip, kept_on_ip, lead_of};
 ghost use Rattle.tape_content.specs.Readings.{after_of, first_of};
 ghost use Rattle.tape_content.specs.Worked.{bad_dp, behind_torn, data_ip, empty_dp, first_index, half_dp, labels, second_index, synced_dp, torn_behind, torn_dp, torn_ip};
 
@@ -33,6 +33,9 @@ pub fn the_definitions_tell_ends()
     ensures ip_second { end_ip (content synced_dp) ≡ 8 }
     ensures ip_data { end_ip (content data_ip) ≡ 8 }
     ensures ip_torn { end_ip (content torn_ip) ≡ 5 }
+    ensures ip_kept_index { kept_on_ip (content synced_dp) ≡ first_index ∷ [] }
+    ensures ip_kept_data { kept_on_ip (content data_ip) ≡ first_index ∷ [] }
+    ensures ip_kept_half { kept_on_ip (content half_dp) ≡ first_index ∷ [] }
     ensures ends { EndsWith synced_dp second_index }
     ensures ends_last { EndsWithLast synced_dp (second_index ∷ first_index ∷ []) }
     ensures ends_torn { ¬ EndsWithLast torn_behind (first_index ∷ []) }

@@ -5,7 +5,7 @@ ghost use Rattle.tape_types.specs.declared.cartridges.Item.{Item};
 ghost use Rattle.tape_types.specs.declared.cartridges.Item.TheVariants.{Block, Mark, Torn};
 ghost use Rattle.tape_content.specs.Readings.{Construct, HasForm, LacksForm, after_of, front};
 ghost use Rattle.tape_content.specs.Content.{Bad, Data, content, content_of};
-ghost use Rattle.tape_content.specs.Ends.{end_dp, end_ip};
+ghost use Rattle.tape_content.specs.Ends.{end_dp, end_ip, kept_on_ip};
 
 /// Each partition has the form in one way, or lacks it at one place, and never both.
 pub fn partitions_are_read_in_one_way()
@@ -30,6 +30,12 @@ pub fn indexes_stay()
     ensures agreed { (items others : List Item) (k : Construct) (newer older : List Construct) (at : ℕ)
         → (content items).constructs ≡ newer ++ k ∷ older → after_of k ≤ at → take at items ≡ take at others
         → (more : List Construct) × ((content others).constructs ≡ more ++ k ∷ older) }
+    ensures replaced { (items : List Item) → ((at : ℕ) → (content items).phase ≢ Bad at)
+        → (since : ℕ) × (content (take (end_ip (content items)) items) ≡ record {
+          pos = end_ip (content items);
+          phase = Data since;
+          constructs = kept_on_ip (content items);
+        }) }
 {}
 
 /// What is appended behind data.
