@@ -39,7 +39,8 @@ pub struct Buffers {
     ghost mark_room: { 1048576 ≤ vec_capacity mark },
 }
 
-fn buffer(alloc: Global) -> Result<Vec<u8>, AllocError>
+/// Room for the longest block.
+pub fn buffer(alloc: Global) -> Result<Vec<u8>, AllocError>
     ensures { IfOk result (λ v. 1048576 ≤ vec_capacity v) }
 {
     let mut bytes = Vec::new(alloc);
