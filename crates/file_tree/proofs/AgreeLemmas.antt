@@ -84,13 +84,13 @@ uid_of None = 0
 uid_of (Some v) = v.0
 
 -- a file that is told is one that lies so
-record IsToldFile (letters : Letters) (kind : Kind) (bytes : ℕ) (raws : List RawExtent) : Type 0 where
-  room : Room
-  is : kind ≡ kinds.File room
-  long : room.laid.length ≡ bytes
-  extents : map (raw_of letters) room.laid.extents ≡ raws
+pub record IsToldFile (letters : Letters) (kind : Kind) (bytes : ℕ) (raws : List RawExtent) : Type 0 where
+  pub room : Room
+  pub is : kind ≡ kinds.File room
+  pub long : room.laid.length ≡ bytes
+  pub extents : map (raw_of letters) room.laid.extents ≡ raws
 
-told_file : (letters : Letters) (kind : Kind) (bytes : ℕ) (raws : List RawExtent) → told_kind_of letters kind ≡ told_kinds.File bytes raws → IsToldFile letters kind bytes raws
+pub told_file : (letters : Letters) (kind : Kind) (bytes : ℕ) (raws : List RawExtent) → told_kind_of letters kind ≡ told_kinds.File bytes raws → IsToldFile letters kind bytes raws
 told_file letters kinds.Dir bytes raws e = cc
 told_file letters (kinds.Link text) bytes raws e = cc
 told_file letters (kinds.File room) bytes raws e = record { room = room; is = refl; long = ap bytes_of e; extents = ap raws_of e }

@@ -95,4 +95,5 @@ module _ (index : Index) (root : Node) (letters : ℕ × ℕ) (size : ℕ) (node
     differ = differ;
     some_block = some;
     on_volume = λ at bytes raws file. let wrong : kinds.Dir ≡ kinds.File bytes raws = sym (is_dir file.node (at_root at file.node file.is).1) ∙ file.file in cc;
+    near = λ at bytes raws file. let wrong : kinds.Dir ≡ kinds.File bytes raws = sym (is_dir file.node (at_root at file.node file.is).1) ∙ file.file in cc;
   }

@@ -1,5 +1,5 @@
 -- What a call needs of the tree, where it isn't refused.
-use Rattle.std.proofs.Common.{◌≡◌, ℕ, ◌+◌, ◌≤◌, ◌^◌, false, nat_lt, List, [], ◌∷◌, Some, None, sym, ap, ◌∙◌, refl, arith}
+use Rattle.std.proofs.Common.{◌≡◌, ℕ, ◌+◌, ◌/◌, ◌≤◌, ◌^◌, false, nat_lt, List, [], ◌∷◌, Some, None, sym, ap, ◌∙◌, refl, arith}
 use Rattle.std.specs.FinMap as fin
 use Rattle.std.proofs.lemmas.Bool.Decides.{nat_tests}
 use Rattle.plain_tree.specs.declared.calls.Refusal.TheVariants as refusals
@@ -13,6 +13,7 @@ use Rattle.file_tree.specs.declared.nodes.Node.{Node}
 use Rattle.file_tree.specs.declared.nodes.Kind.{Kind}
 use Rattle.file_tree.specs.declared.nodes.Kind.TheVariants as kinds
 use Rattle.file_tree.specs.Tree.{FileTree, StandsAt, HasExtents, plain_kind_of, plain_nodes, whole}
+use Rattle.std.proofs.Math.Nat.{div-le_self}
 use Rattle.file_tree.specs.Valid.{IsFileOf}
 use Rattle.file_tree.specs.Edits.{CanWrite, AllLie}
 use Rattle.file_tree.proofs.PathLemmas.{node_at}
@@ -33,7 +34,7 @@ file_there t path file stands free = by node.0.kind refl
 pub still_file : (a b : FileTree) (file : ℕ) → ((room : Room) × HasExtents a.nodes file room) → AllLie a b → (room : Room) × HasExtents b.nodes file room
 still_file a b file was lie =
     let h = was.1 in
-    let now = lie file was.0.laid (record { path = h.path; node = h.node; there = h.there; is = h.is; room = was.0; file = h.file; lies = refl }) in
+    let now = (lie file was.0.laid).0 (record { path = h.path; node = h.node; there = h.there; is = h.is; room = was.0; file = h.file; lies = refl }) in
     (now.room, record { path = now.path; node = now.node; there = now.there; is = now.is; file = now.file })
 
 -- what the checks of a write and of a truncation leave
@@ -48,9 +49,10 @@ long_free p path n free =
     within n e = grind (arith, nat_tests)
 
 pub can_write : (t : FileTree) (file : ℕ) (room : Room) (new : Extent) → HasExtents t.nodes file room → IsFileOf t.block_size room.laid → ((room : Room) → HasExtents t.nodes file room → 2 ≤ room.spare)
-    → 1 ≤ new.count → new.offset + new.count ≤ 2 ^ 40 → new.byte ≡ 0 → new.block ≤ 2 ^ 62 → CanWrite t file new
-can_write t file room new h good space some fits byte block = record {
+    → 1 ≤ new.count → new.offset + new.count ≤ 2 ^ 40 → new.byte ≡ 0 → new.block + new.count ≤ 2 ^ 62 → CanWrite t file new
+can_write t file room new h good space some fits byte last = record {
   room = room;
   extents = h;
-  can = record { space = space room h; some = some; fits = fits; byte = omega (arith, byte, good.lies.some_block); block = block };
+  can = record { space = space room h; some = some; fits = fits; byte = omega (arith, byte, good.lies.some_block); block = omega (arith, last) };
+  near = λ part pos h. let least : (new.byte + h.byte) / t.block_size ≤ new.byte + h.byte = div-le_self (new.byte + h.byte) t.block_size in omega (arith, least, h.within, h.here, byte, last);
 }

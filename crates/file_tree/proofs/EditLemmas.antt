@@ -1,5 +1,6 @@
 -- What changes of the map leave of the plain tree, of numbers and of files.
-use Rattle.std.proofs.Common.{◌≡◌, ◌≢◌, ℕ, ◌-◌, true, false, cond, List, [], ◌∷◌, ◌++◌, length, drop, Some, None, sym, ap, ◌∙◌, refl, subst, arith, ⊎_elim}
+use Rattle.std.proofs.Common.{◌≡◌, ◌≢◌, ◌⊎◌, ℕ, ◌-◌, true, false, cond, List, [], ◌∷◌, ◌++◌, length, drop, Some, None, sym, ap, ◌∙◌, refl, subst, arith, inl, inr, ⊎_elim}
+use Rattle.std.specs.Prelude.{◌↔◌}
 use Rattle.std.specs.Option.{option_map}
 use Rattle.std.specs.FinMap as fin
 use Rattle.std.proofs.lemmas.List.{length-append, take_at}
@@ -8,15 +9,16 @@ use Rattle.plain_tree.specs.Paths.{parent_of, is_at_or_below, moved_path}
 use Rattle.plain_tree.specs.Tree as plain
 use Rattle.plain_tree.proofs.NodeLemmas.{changed_found}
 use Rattle.plain_tree.proofs.SeenLemmas.{unlike}
-use Rattle.plain_tree.proofs.MoveLemmas.{below_split, not_true}
+use Rattle.plain_tree.proofs.MoveLemmas.{below_split, below_join, not_true}
 use Rattle.extent_map.specs.Cells.{Tape}
 use Rattle.extent_map.specs.Laid.{Laid, Room}
 use Rattle.file_tree.specs.declared.nodes.Node.{Node}
 use Rattle.file_tree.specs.declared.nodes.Kind.TheVariants as kinds
 use Rattle.file_tree.specs.Tree.{Nodes, number_at, moved, HasLaid, plain_node_of, plain_nodes}
 use Rattle.file_tree.specs.Changes.{IsChangedAt}
-use Rattle.file_tree.specs.Valid.{IsFileOf, AreFilesOf}
-use Rattle.file_tree.proofs.PathLemmas.{get_here, get_other, gone_other, is_or_not, some_same, number_is, node_at}
+use Rattle.file_tree.specs.Paths.{Path}
+use Rattle.file_tree.specs.Valid.{IsFileOf, AreFilesOf, NumbersDiffer}
+use Rattle.file_tree.proofs.PathLemmas.{same_nodes, get_here, get_other, gone_here, gone_other, is_or_not, some_same, number_is, node_at}
 use Rattle.file_tree.proofs.PlainLemmas.{plain_get, plain_insert}
 use Rattle.file_tree.proofs.UpdateLemmas.{from_where, stay, come}
 
@@ -33,6 +35,28 @@ module _ (m : Nodes) (p : List (List ℕ)) (node : Node) (free : fin.get m p ≡
 
   pub put_lies : (n : ℕ) (f : Laid) → HasLaid m n f → HasLaid (fin.insert m p node) n f
   put_lies n f h = record { path = h.path; node = h.node; there = other h.path h.node h.there; is = h.is; room = h.room; file = h.file; lies = h.lies }
+
+  -- a file that lies so now did before, or is the new node
+  pub put_back : (n : ℕ) (f : Laid) → HasLaid (fin.insert m p node) n f → HasLaid m n f ⊎ ((node.number ≡ n) × (room : Room) × (node.kind ≡ kinds.File room) × (room.laid ≡ f))
+  put_back n f h = ⊎_elim
+      (λ (e : h.path ≡ p).
+      let same : node ≡ h.node = some_same node h.node (sym (get_here m p node) ∙ ap (fin.get (fin.insert m p node)) (sym e) ∙ h.there) in
+      inr (ap (λ (k : Node). k.number) same ∙ h.is, h.room, ap (λ (k : Node). k.kind) same ∙ h.file, h.lies))
+      (λ apart. inl (record { path = h.path; node = h.node; there = sym (get_other m p h.path node apart) ∙ h.there; is = h.is; room = h.room; file = h.file; lies = h.lies }))
+      (is_or_not p h.path)
+
+  -- no two nodes have one number, where the new one has another
+  pub put_differ : NumbersDiffer m → ((q : Path) → number_at m q ≡ Some node.number → ⊥) → NumbersDiffer (fin.insert m p node)
+  put_differ differ fresh q r k is also = ⊎_elim
+      (λ (e : q ≡ p). ⊎_elim (λ (f : r ≡ p). e ∙ sym f) (λ apart. absurd (fresh r (sym (at_other r apart) ∙ also ∙ sym (at_new q e is)))) (is_or_not p r))
+      (λ away. ⊎_elim (λ (f : r ≡ p). absurd (fresh q (sym (at_other q away) ∙ is ∙ sym (at_new r f also)))) (λ apart. differ q r k (sym (at_other q away) ∙ is) (sym (at_other r apart) ∙ also)) (is_or_not p r))
+      (is_or_not p q)
+    where
+      at_other : (q : Path) → (q ≡ p → ⊥) → number_at (fin.insert m p node) q ≡ number_at m q
+      at_other q apart = ap (option_map (λ (n : Node). n.number)) (get_other m p q node apart)
+
+      at_new : (q : Path) → q ≡ p → number_at (fin.insert m p node) q ≡ Some k → Some node.number ≡ Some k
+      at_new q e is = sym (number_is (fin.insert m p node) p node (get_here m p node)) ∙ ap (number_at (fin.insert m p node)) (sym e) ∙ is
 
 -- a node that is other now, at its path
 pub insert_files : (size : ℕ) (m : Nodes) (p : List (List ℕ)) (node : Node) → AreFilesOf size m → ((room : Room) → node.kind ≡ kinds.File room → IsFileOf size room.laid) → AreFilesOf size (fin.insert m p node)
@@ -91,11 +115,39 @@ module _ (m next : Nodes) (n : ℕ) (P : Node → Node → Type 0) (c : IsChange
       })
       (is_or_not c.path h.path)
 
+  pub change_back : IsChangedAt next m n (λ a b. P b a)
+  change_back = record {
+    path = c.path;
+    old = c.new;
+    new = c.old;
+    there = ap (λ k. fin.get k c.path) c.now ∙ get_here m c.path c.new;
+    is = c.kept ∙ c.is;
+    only = λ p h. c.only p (sym (change_numbers p) ∙ h);
+    kept = sym c.kept;
+    changed = c.changed;
+    now = same_nodes m (fin.insert next c.path c.old) (λ q. ⊎_elim
+        (λ (e : q ≡ c.path). ap (fin.get m) e ∙ c.there ∙ sym (get_here next c.path c.old) ∙ ap (fin.get (fin.insert next c.path c.old)) (sym e))
+        (λ apart. sym (get_other m c.path q c.new apart) ∙ ap (λ k. fin.get k q) (sym c.now) ∙ sym (get_other next c.path q c.old apart))
+        (is_or_not c.path q));
+  }
+
+  pub change_differ : NumbersDiffer m → NumbersDiffer next
+  change_differ differ p q k is also = differ p q k (sym (change_numbers p) ∙ is) (sym (change_numbers q) ∙ also)
+
   pub change_files : (size : ℕ) → AreFilesOf size m → ((room : Room) → c.new.kind ≡ kinds.File room → IsFileOf size room.laid) → AreFilesOf size next
   change_files size all this = subst (λ l. AreFilesOf size l) (sym c.now) (insert_files size m c.path c.new all this)
 
   pub change_files_same : (size : ℕ) → c.new.kind ≡ c.old.kind → AreFilesOf size m → AreFilesOf size next
   change_files_same size same all = change_files size all (λ room is. all c.path c.old room c.there (sym same ∙ is))
+
+-- both ways
+module _ (m next : Nodes) (n : ℕ) (P : Node → Node → Type 0) (c : IsChangedAt m next n P) where
+  pub change_others_both : (k : ℕ) (f : Laid) → k ≢ n → HasLaid m k f ↔ HasLaid next k f
+  change_others_both k f apart = (change_others m next n P c k f apart, change_others next m n (λ a b. P b a) (change_back m next n P c) k f apart)
+
+  pub change_lies_both : c.new.kind ≡ c.old.kind → (k : ℕ) (f : Laid) → HasLaid m k f ↔ HasLaid next k f
+  unfolding change_back
+  change_lies_both same k f = (change_lies m next n P c same k f, change_lies next m n (λ a b. P b a) (change_back m next n P c) (sym same) k f)
 
 -- a node less
 pub remove_files : (size : ℕ) (m : Nodes) (p : List (List ℕ)) → AreFilesOf size m → AreFilesOf size (fin.remove m p)
@@ -110,6 +162,23 @@ remove_files size m p all q n room is kind = ⊎_elim
 pub remove_numbers : (m : Nodes) (p : List (List ℕ)) (n : ℕ) → ((q : List (List ℕ)) → number_at m q ≡ Some n → q ≡ p) → (q : List (List ℕ)) (k : ℕ) → number_at m p ≡ Some n → number_at m q ≡ Some k → k ≢ n → number_at (fin.remove m p) q ≡ Some k
 remove_numbers m p n only q k there is apart =
     ap (option_map (λ (n : Node). n.number)) (gone_other m p q (λ e. apart (some_same k n (sym is ∙ ap (number_at m) e ∙ there)))) ∙ is
+
+module _ (m : Nodes) (p : Path) where
+  -- what is there now was there before
+  pub was_there : (q : Path) (node : Node) → fin.get (fin.remove m p) q ≡ Some node → fin.get m q ≡ Some node
+  was_there q node is = ⊎_elim
+      (λ (e : q ≡ p). absurd (unlike (fin.get (fin.remove m p) q) node (ap (fin.get (fin.remove m p)) e ∙ gone_here m p) is))
+      (λ apart. sym (gone_other m p q apart) ∙ is)
+      (is_or_not p q)
+
+  pub remove_back : (n : ℕ) (f : Laid) → HasLaid (fin.remove m p) n f → HasLaid m n f
+  remove_back n f h = record { path = h.path; node = h.node; there = was_there h.path h.node h.there; is = h.is; room = h.room; file = h.file; lies = h.lies }
+
+  pub remove_differ : NumbersDiffer m → NumbersDiffer (fin.remove m p)
+  remove_differ differ q r k is also = differ q r k (number_was q is) (number_was r also)
+    where
+      number_was : (q : Path) → number_at (fin.remove m p) q ≡ Some k → number_at m q ≡ Some k
+      number_was q is = let node = node_at (fin.remove m p) q k is in number_is m q node.0 (was_there q node.0 node.1) ∙ ap (λ n. Some n) node.2
 
 -- a move
 module _ (m : Nodes) (from to : List (List ℕ)) (free : (x : List (List ℕ)) → is_at_or_below to x ≡ true → fin.get m x ≡ None) where
@@ -127,3 +196,43 @@ module _ (m : Nodes) (from to : List (List ℕ)) (free : (x : List (List ℕ)) �
 
   pub number_moves : (q : List (List ℕ)) (n : ℕ) → number_at m q ≡ Some n → number_at (moved from to m) (moved_path from to q) ≡ Some n
   number_moves q n is = let node = node_at m q n is in number_is (moved from to m) (moved_path from to q) node.0 (node_moves q node.0 node.1) ∙ ap (λ k. Some k) node.2
+
+  -- a node stood where it came from
+  pub node_back : (q : Path) (n : Node) → fin.get (moved from to m) q ≡ Some n → (r : Path) × (fin.get m r ≡ Some n)
+  node_back q n is = ⊎_elim
+      (λ (here : (r : Path) × (q ≡ to ++ r) × (fin.get m (from ++ r) ≡ Some n)). (from ++ here.0, here.2))
+      (λ (was : (is_at_or_below to q ≡ false) × (is_at_or_below from q ≡ false) × (fin.get m q ≡ Some n)). (q, was.2))
+      (from_where m from to free q n is)
+
+  pub move_back : (n : ℕ) (f : Laid) → HasLaid (moved from to m) n f → HasLaid m n f
+  move_back n f h = let was = node_back h.path h.node h.there in record { path = was.0; node = h.node; there = was.1; is = h.is; room = h.room; file = h.file; lies = h.lies }
+
+  pub move_differ : NumbersDiffer m → NumbersDiffer (moved from to m)
+  move_differ differ p q k is also =
+      let a = node_at (moved from to m) p k is in
+      let b = node_at (moved from to m) q k also in
+      ⊎_elim
+      (λ (here : (r : Path) × (p ≡ to ++ r) × (fin.get m (from ++ r) ≡ Some a.0)). ⊎_elim
+      (λ (there : (r : Path) × (q ≡ to ++ r) × (fin.get m (from ++ r) ≡ Some b.0)).
+      let same : from ++ here.0 ≡ from ++ there.0 = differ (from ++ here.0) (from ++ there.0) k (numbered (from ++ here.0) a.0 here.2 a.2) (numbered (from ++ there.0) b.0 there.2 b.2) in
+      here.1 ∙ ap (λ r. to ++ r) (sym (drop_front from here.0) ∙ ap (drop (length from)) same ∙ drop_front from there.0) ∙ sym there.1)
+      (λ (stayed : (is_at_or_below to q ≡ false) × (is_at_or_below from q ≡ false) × (fin.get m q ≡ Some b.0)).
+      absurd (apart_from q here.0 stayed.1 (differ q (from ++ here.0) k (numbered q b.0 stayed.2 b.2) (numbered (from ++ here.0) a.0 here.2 a.2))))
+      (from_where m from to free q b.0 b.1))
+      (λ (was : (is_at_or_below to p ≡ false) × (is_at_or_below from p ≡ false) × (fin.get m p ≡ Some a.0)). ⊎_elim
+      (λ (there : (r : Path) × (q ≡ to ++ r) × (fin.get m (from ++ r) ≡ Some b.0)).
+      absurd (apart_from p there.0 was.1 (differ p (from ++ there.0) k (numbered p a.0 was.2 a.2) (numbered (from ++ there.0) b.0 there.2 b.2))))
+      (λ (stayed : (is_at_or_below to q ≡ false) × (is_at_or_below from q ≡ false) × (fin.get m q ≡ Some b.0)).
+      differ p q k (numbered p a.0 was.2 a.2) (numbered q b.0 stayed.2 b.2))
+      (from_where m from to free q b.0 b.1))
+      (from_where m from to free p a.0 a.1)
+    where
+      numbered : (p : Path) (node : Node) → fin.get m p ≡ Some node → node.number ≡ k → number_at m p ≡ Some k
+      numbered p node there is = number_is m p node there ∙ ap (λ n. Some n) is
+
+      drop_front : (front r : Path) → drop (length front) (front ++ r) ≡ r
+      drop_front [] r = refl
+      drop_front (x ∷ front) r = drop_front front r
+
+      apart_from : (q r : Path) → is_at_or_below from q ≡ false → q ≡ from ++ r → ⊥
+      apart_from q r other e = let wrong : true ≡ false = sym (below_join from r) ∙ ap (is_at_or_below from) (sym e) ∙ other in cc

@@ -9,20 +9,27 @@ use Rattle.plain_tree.specs.Paths.{same_path, parent_of, is_at_or_below, moved_p
 use Rattle.plain_tree.specs.Calls.{without, with_rename}
 use Rattle.plain_tree.specs.Tree as plain
 use Rattle.plain_tree.specs.Seen.{CanLeave, CanMove}
-use Rattle.plain_tree.proofs.Validity.{can_leave, can_move}
+use Rattle.plain_tree.proofs.Validity.{can_leave, can_move, first_none}
 use Rattle.plain_tree.proofs.MoveLemmas.{not_same, same_is, not_true}
 use Rattle.plain_tree.proofs.SeenLemmas.{unlike}
+use Rattle.std.specs.Str.{IsUtf8}
+use Rattle.index_model.specs.Names.{IsNodeName}
+use Rattle.plain_tree.specs.Refusals.{bad_name}
+use Rattle.extent_map.specs.Laid.{Laid}
 use Rattle.extent_map.specs.Cells.{Tape}
 use Rattle.file_tree.specs.declared.nodes.Node.{Node}
-use Rattle.file_tree.specs.Tree.{Nodes, FileTree, number_at, moved, StandsAt, plain_node_of, plain_nodes, plain_of, whole}
+use Rattle.file_tree.specs.Tree.{Nodes, FileTree, number_at, moved, StandsAt, HasLaid, plain_node_of, plain_nodes, plain_of, whole}
 use Rattle.file_tree.specs.Changes.{IsChangedAt, touched, change_noted}
 use Rattle.file_tree.specs.Places.{IsThere, CanTake, CanShift}
-use Rattle.file_tree.specs.Valid.{AreFilesOf, IsGood}
+use Rattle.file_tree.specs.Valid.{AreFilesOf, NumbersDiffer, AreFit, IsGood}
+use Rattle.file_tree.specs.Blocks.{AddsNoBlock}
 use Rattle.file_tree.specs.Edits.{CanUnlink, CanMoveTo, IsAfter, NumbersCome, OthersLie, AllLie}
 use Rattle.file_tree.proofs.PathLemmas.{by_last, longer, gone_other, some_same, number_is, node_at}
 use Rattle.file_tree.proofs.PlainLemmas.{plain_remove, plain_moved, none_plain}
 use Rattle.file_tree.proofs.TreeLemmas.{after_free, free_too, same_tree, good_after}
-use Rattle.file_tree.proofs.EditLemmas.{move_files, node_moves, number_moves, parent_ends, change_numbers, change_plain, change_lies, change_files_same, remove_files}
+use Rattle.file_tree.proofs.EditLemmas.{move_files, move_back, move_differ, node_moves, number_moves, parent_ends, change_numbers, change_plain, change_lies_both, change_differ, change_files_same, remove_files, remove_back, remove_differ}
+use Rattle.file_tree.proofs.BlockLemmas.{all_lie_adds}
+use Rattle.file_tree.proofs.FitLemmas.{fit_name, not_bad, fit_same, fit_remove, fit_move}
 use Rattle.file_tree.proofs.UpdateLemmas.{stay, come, shorter_not, above_one}
 
 not_read_remove : (p : List (List ℕ)) (path : List (List ℕ)) (offset count : ℕ) → asks.Remove p ≡ asks.Read path offset count → ⊥
@@ -80,9 +87,18 @@ module _ (t : FileTree) (good : IsGood t) (number : ℕ) (at : Moment) (can : Ca
         same_tree (plain_of tape next) (without (plain_of tape t) can.path at) highest nodes
         ∙ sym (after_free (plain_of tape t) (asks.Remove can.path) at (free_too tape t (asks.Remove can.path) (not_read_remove can.path) can.free))
 
-    pub unlink_good : IsGood next
-    unlink_good = good_after t next (asks.Remove can.path) at good size unlink_here
+    unlink_back : (k : ℕ) (f : Laid) → HasLaid next.nodes k f → HasLaid t.nodes k f
+    unlink_back k f h = remove_back t.nodes can.path k f (subst (λ m. HasLaid m k f) middle_is ((change_lies_both middle next.nodes dir _ ch (ap (λ (n : Node). n.kind) ch.changed) k f).1 h))
+
+    pub unlink_adds : AddsNoBlock t next
+    unlink_adds part pos h = record { number = h.number; laid = h.laid; file = unlink_back h.number h.laid h.file; block = h.block }
+
+    pub unlink_good : next.name ≡ t.name → IsGood next
+    unlink_good name_is = good_after t next (asks.Remove can.path) at good size name_is unlink_here
         (change_files_same middle next.nodes dir _ ch t.block_size (ap (λ (n : Node). n.kind) ch.changed) (subst (λ m. AreFilesOf t.block_size m) (sym middle_is) (remove_files t.block_size t.nodes can.path good.files)))
+        (change_differ middle next.nodes dir _ ch (subst NumbersDiffer (sym middle_is) (remove_differ t.nodes can.path good.differ)))
+        (fit_same middle next.nodes dir _ ch (ap (λ (n : Node). n.kind) ch.changed) (subst AreFit (sym middle_is) (fit_remove t.nodes can.path good.fit)))
+        unlink_adds
 
     pub unlink_numbers : (path : List (List ℕ)) (k : ℕ) → k ≢ number → StandsAt t path k → StandsAt next path k
     unlink_numbers path k apart stands =
@@ -93,16 +109,19 @@ module _ (t : FileTree) (good : IsGood t) (number : ℕ) (at : Moment) (can : Ca
     unlink_gone gone path stands = gone path (sym (change_numbers middle next.nodes dir _ ch path) ∙ stands)
 
     pub unlink_lies : OthersLie number t next
-    unlink_lies k f apart h = change_lies middle next.nodes dir _ ch (ap (λ (n : Node). n.kind) ch.changed) k f (record {
-      path = h.path;
-      node = h.node;
-      there = ap (λ m. fin.get m h.path) middle_is
-          ∙ gone_other t.nodes can.path h.path (λ e. apart (some_same k number (ap (λ n. Some n) (sym h.is) ∙ sym (number_is t.nodes h.path h.node h.there) ∙ ap (number_at t.nodes) e ∙ can.stands))) ∙ h.there;
-      is = h.is;
-      room = h.room;
-      file = h.file;
-      lies = h.lies;
-    })
+    unlink_lies k apart f = (
+      λ h. (change_lies_both middle next.nodes dir _ ch (ap (λ (n : Node). n.kind) ch.changed) k f).0 (record {
+        path = h.path;
+        node = h.node;
+        there = ap (λ m. fin.get m h.path) middle_is
+            ∙ gone_other t.nodes can.path h.path (λ e. apart (some_same k number (ap (λ n. Some n) (sym h.is) ∙ sym (number_is t.nodes h.path h.node h.there) ∙ ap (number_at t.nodes) e ∙ can.stands))) ∙ h.there;
+        is = h.is;
+        room = h.room;
+        file = h.file;
+        lies = h.lies;
+      }),
+      unlink_back k f,
+    )
 
 -- ---- a rename
 
@@ -211,12 +230,43 @@ module _ (t : FileTree) (good : IsGood t) (number dir : ℕ) (name : List ℕ) (
               same_tree (plain_of tape next) (record { highest = t.highest; nodes = plain.touch at (parent_of to) (plain.touch at (parent_of can.path) (plain.changed_at (plain.change_noted at) to (plain.moved can.path to (plain_nodes tape t.nodes)))) }) highest nodes
               ∙ sym (after_free (plain_of tape t) (asks.Rename can.path to) at (free_too tape t (asks.Rename can.path to) (not_read_rename can.path to) can.free) ∙ renamed tape)
 
-          pub move_good : IsGood next
-          move_good = good_after t next (asks.Rename can.path to) at good size move_here
-              (change_files_same left next.nodes dir _ enter t.block_size (ap (λ (n : Node). n.kind) enter.changed)
-              (change_files_same noted left old _ leave t.block_size (ap (λ (n : Node). n.kind) leave.changed)
-              (change_files_same shifted noted number _ note t.block_size (ap (λ (n : Node). n.kind) note.changed)
-              (subst (λ m. AreFilesOf t.block_size m) (sym shifted_is) (move_files t.nodes from to free t.block_size good.files)))))
+          pub move_lies : AllLie t next
+          move_lies n f = (
+            λ h. (change_lies_both left next.nodes dir _ enter (ap (λ (n : Node). n.kind) enter.changed) n f).0
+            ((change_lies_both noted left old _ leave (ap (λ (n : Node). n.kind) leave.changed) n f).0
+            ((change_lies_both shifted noted number _ note (ap (λ (n : Node). n.kind) note.changed) n f).0
+            (record {
+              path = moved_path from to h.path;
+              node = h.node;
+              there = ap (λ m. fin.get m (moved_path from to h.path)) shifted_is ∙ node_moves t.nodes from to free h.path h.node h.there;
+              is = h.is;
+              room = h.room;
+              file = h.file;
+              lies = h.lies;
+            }))),
+            λ h. move_back t.nodes from to free n f (subst (λ m. HasLaid m n f) shifted_is
+            ((change_lies_both shifted noted number _ note (ap (λ (n : Node). n.kind) note.changed) n f).1
+            ((change_lies_both noted left old _ leave (ap (λ (n : Node). n.kind) leave.changed) n f).1
+            ((change_lies_both left next.nodes dir _ enter (ap (λ (n : Node). n.kind) enter.changed) n f).1 h)))),
+          )
+
+          move_named : IsUtf8 name → IsNodeName name
+          move_named utf8 = fit_name name utf8 (not_bad can.up name (first_none (bad_name to) _ can.free).0)
+
+          pub move_good : next.name ≡ t.name → IsUtf8 name → IsGood next
+          move_good name_is utf8 = good_after t next (asks.Rename can.path to) at good size name_is move_here files
+              (change_differ left next.nodes dir _ enter (change_differ noted left old _ leave (change_differ shifted noted number _ note (subst NumbersDiffer (sym shifted_is) (move_differ t.nodes from to free good.differ)))))
+              (fit_same left next.nodes dir _ enter (ap (λ (n : Node). n.kind) enter.changed)
+              (fit_same noted left old _ leave (ap (λ (n : Node). n.kind) leave.changed)
+              (fit_same shifted noted number _ note (ap (λ (n : Node). n.kind) note.changed)
+              (subst AreFit (sym shifted_is) (fit_move t.nodes from can.up name free (move_named utf8) good.fit)))))
+              (all_lie_adds t next move_lies)
+            where
+              files : AreFilesOf t.block_size next.nodes
+              files = change_files_same left next.nodes dir _ enter t.block_size (ap (λ (n : Node). n.kind) enter.changed)
+                  (change_files_same noted left old _ leave t.block_size (ap (λ (n : Node). n.kind) leave.changed)
+                  (change_files_same shifted noted number _ note t.block_size (ap (λ (n : Node). n.kind) note.changed)
+                  (subst (λ m. AreFilesOf t.block_size m) (sym shifted_is) (move_files t.nodes from to free t.block_size good.files))))
 
           same_after : (path : List (List ℕ)) → number_at next.nodes path ≡ number_at shifted path
           same_after path = change_numbers left next.nodes dir _ enter path ∙ change_numbers noted left old _ leave path ∙ change_numbers shifted noted number _ note path
@@ -225,18 +275,3 @@ module _ (t : FileTree) (good : IsGood t) (number dir : ℕ) (name : List ℕ) (
           move_numbers path n stands =
               same_after (moved_path can.path to path) ∙ ap (λ m. number_at m (moved_path can.path to path)) shifted_is ∙ ap (λ p. number_at (moved from to t.nodes) (moved_path p to path)) from_named.2
               ∙ number_moves t.nodes from to free path n stands
-
-          pub move_lies : AllLie t next
-          move_lies n f h =
-              change_lies left next.nodes dir _ enter (ap (λ (n : Node). n.kind) enter.changed) n f
-              (change_lies noted left old _ leave (ap (λ (n : Node). n.kind) leave.changed) n f
-              (change_lies shifted noted number _ note (ap (λ (n : Node). n.kind) note.changed) n f
-              (record {
-                path = moved_path from to h.path;
-                node = h.node;
-                there = ap (λ m. fin.get m (moved_path from to h.path)) shifted_is ∙ node_moves t.nodes from to free h.path h.node h.there;
-                is = h.is;
-                room = h.room;
-                file = h.file;
-                lies = h.lies;
-              })))

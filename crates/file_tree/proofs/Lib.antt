@@ -1,3 +1,4 @@
+pub mod InsideLemmas
 pub mod PathLemmas
 pub mod ShownLemmas
 pub mod UpdateLemmas
@@ -7,15 +8,21 @@ pub mod PlainLemmas
 pub mod StoredLemmas
 pub mod RefusalLemmas
 pub mod EditLemmas
+pub mod BlockLemmas
+pub mod FitLemmas
 pub mod TreeLemmas
 pub mod LeaveLemmas
 pub mod WriteLemmas
 pub mod ReadLemmas
 pub mod RawLemmas
 pub mod MountLemmas
+pub mod MountedBlocks
+pub mod MountedGood
 pub mod ListingLemmas
 pub mod CallLemmas
 pub mod BareLemmas
 pub mod ToldLemmas
 pub mod OrderLemmas
 pub mod AgreeLemmas
+pub mod BytesLemmas
+pub mod IndexLemmas

@@ -83,11 +83,11 @@ can_keep letters size nodes t at node is = record {
 
 -- ---- paths of an index
 
-one_node : (nodes : List told.Node) (at : ℕ) (a b : told.Node) → IsAt nodes at a → IsAt nodes at b → a ≡ b
+pub one_node : (nodes : List told.Node) (at : ℕ) (a b : told.Node) → IsAt nodes at a → IsAt nodes at b → a ≡ b
 one_node nodes at a b is also = some_same a b (sym is ∙ also)
 
 -- a place has one path
-path_once : (nodes : List told.Node) (at to : ℕ) (p q : List (List ℕ)) → at ≡ to → IsPathOf nodes at p → IsPathOf nodes to q → p ≡ q
+pub path_once : (nodes : List told.Node) (at to : ℕ) (p q : List (List ℕ)) → at ≡ to → IsPathOf nodes at p → IsPathOf nodes to q → p ≡ q
 path_once nodes _ _ _ _ e root root = refl
 path_once nodes _ _ _ _ e root (below to node front some is way) = absurd (omega (arith, some, e))
 path_once nodes _ _ _ _ e (below at node front some is way) root = absurd (omega (arith, some, e))
@@ -96,14 +96,14 @@ path_once nodes _ _ _ _ e (below at node front some is way) (below to other back
     ap (λ p. p ++ node.name ∷ []) (path_once nodes node.parent other.parent front back (ap (λ (n : told.Node). n.parent) same) way path) ∙ ap (λ (n : told.Node). back ++ n.name ∷ []) same
 
 -- what a path that ends by a name says of its place
-record Ends (nodes : List told.Node) (at : ℕ) (p : List (List ℕ)) (x : List ℕ) : Type 0 where
-  node : told.Node
-  is : IsAt nodes at node
-  behind : 0 < at
-  way : IsPathOf nodes node.parent p
-  named : node.name ≡ x
+pub record Ends (nodes : List told.Node) (at : ℕ) (p : List (List ℕ)) (x : List ℕ) : Type 0 where
+  pub node : told.Node
+  pub is : IsAt nodes at node
+  pub behind : 0 < at
+  pub way : IsPathOf nodes node.parent p
+  pub named : node.name ≡ x
 
-ends : (nodes : List told.Node) (at : ℕ) (q p : List (List ℕ)) (x : List ℕ) → IsPathOf nodes at q → q ≡ p ++ x ∷ [] → Ends nodes at p x
+pub ends : (nodes : List told.Node) (at : ℕ) (q p : List (List ℕ)) (x : List ℕ) → IsPathOf nodes at q → q ≡ p ++ x ∷ [] → Ends nodes at p x
 ends nodes _ _ p x root e = absurd (no_name p x (sym e))
 ends nodes _ _ p x (below at node front some is way) e =
     let parts = same_last front p node.name x e in
@@ -111,13 +111,13 @@ ends nodes _ _ p x (below at node front some is way) e =
 
 module _ (letters : Letters) (size : ℕ) (nodes : List told.Node) (before : ℕ) (m : Nodes) (b : IsBuilt letters size nodes before m) where
   -- the node at a place is that of its path
-  at_path : (at : ℕ) (node : told.Node) (p : List (List ℕ)) → at < before → IsAt nodes at node → IsPathOf nodes at p → (n : Node) × (fin.get m p ≡ Some n) × (n.number ≡ at) × IsNodeOf letters size node n
+  pub at_path : (at : ℕ) (node : told.Node) (p : List (List ℕ)) → at < before → IsAt nodes at node → IsPathOf nodes at p → (n : Node) × (fin.get m p ≡ Some n) × (n.number ≡ at) × IsNodeOf letters size node n
   at_path at node p early is way =
       let s = b.each at node early is in
       (s.n, ap (fin.get m) (sym (path_once nodes at at s.path p refl s.path_is way)) ∙ s.there, s.number, s.same)
 
   -- what is told of the node at a path
-  told_at : (p : List (List ℕ)) (n : Node) → fin.get m p ≡ Some n → (node : told.Node) × IsAt nodes n.number node × IsPathOf nodes n.number p × IsNodeOf letters size node n
+  pub told_at : (p : List (List ℕ)) (n : Node) → fin.get m p ≡ Some n → (node : told.Node) × IsAt nodes n.number node × IsPathOf nodes n.number p × IsNodeOf letters size node n
   told_at p n is =
       let t = b.others p n is in
       let found = at_path n.number t.node p t.early t.is t.path_is in
@@ -343,7 +343,7 @@ module _ (index : Index) (letters : Letters) (size : ℕ) (can : CanMount index 
       let found = at_path letters size nodes (length nodes) m b 0 o.root [] (slice_get_within nodes 0 o.root o.first) o.first root in
       marked [] found.0 found.1 ∙ ap (λ d. Some (found.0.uid, d)) (dir_same letters size tape o.root.kind found.0.kind found.3.kind o.is_root.dir) ∙ ap (λ u. Some (u, true)) (found.3.uid ∙ uids.root o.root o.first)
 
-  shape : IsShape (mark_at (plain_nodes tape m)) (fin.len (plain_nodes tape m)) index.highest
+  pub shape : IsShape (mark_at (plain_nodes tape m)) (fin.len (plain_nodes tape m)) index.highest
   shape = record {
     root = root_there;
     parents = λ p uid d mark some.
@@ -368,7 +368,3 @@ module _ (index : Index) (letters : Letters) (size : ℕ) (can : CanMount index 
     bounded = uids.bounded;
     few = omega (arith, plain_len tape m, b.count, can.valid.formed.count);
   }
-
-pub built_good : (index : Index) (letters : Letters) (size : ℕ) (can : CanMount index letters size) (m : Nodes) (b : IsBuilt letters size index.nodes (length index.nodes) m) → AreFilesOf size m → (name : List ℕ) (spare : ℕ)
-    → IsGood (record { highest = index.highest; name = name; block_size = size; nodes = m; spare = spare })
-built_good index letters size can m b files name spare = record { some_block = can.some_block; valid = λ tape. shape index letters size can m b tape; files = files }

@@ -180,7 +180,7 @@ module _ (letters : Letters) (volume : List ℕ) (m : Nodes) (count highest : �
           let first = some_first (fin.entries m) (suc i) ([], node) is in
           absurd (none_less first.0.0 (ascends (fin.entries m) 0 (suc i) first.0.0 [] first.0.1 node (sorted_map_entries m) (omega arith) first.1 is))
 
-  root_place : (at : ℕ) (p : Path) (n : Node) → slice_get (fin.entries m) at ≡ Some (p, n) → p ≡ [] → at ≡ 0
+  pub root_place : (at : ℕ) (p : Path) (n : Node) → slice_get (fin.entries m) at ≡ Some (p, n) → p ≡ [] → at ≡ 0
   root_place at p n is e =
       sym (entry_place m at p n is) ∙ ap (λ q. place_of q (fin.keys m)) e ∙ entry_place m 0 [] root_entry.0 root_entry.1
 

@@ -43,7 +43,7 @@ nothing_taken size low high from end (e ∷ es) laid lt apart =
     one (inr begins) = ap (λ l. l ++ past size end e) (before_none from e (omega (arith, begins, lt))) ∙ past_whole size end e laid.1 laid.2 begins
 
 -- extents that end within a length are not cut at it
-nothing_cut : (size low high at : ℕ) (es : List Extent) → AreLaid size low high es → high ≤ at → cut at es ≡ es
+pub nothing_cut : (size low high at : ℕ) (es : List Extent) → AreLaid size low high es → high ≤ at → cut at es ≡ es
 nothing_cut size low high at [] laid le = refl
 nothing_cut size low high at (e ∷ es) laid le =
     ap (λ l. l ++ cut at es) (before_whole at e laid.1 (omega (arith, le, later (e.offset + e.count) es laid.4))) ∙ ap (λ l. e ∷ l) (nothing_cut size (e.offset + e.count) high at es laid.4 le)

@@ -1,5 +1,5 @@
 -- What each call leaves of a tree.
-use Rattle.std.proofs.Common.{◌≡◌, ℕ, ◌+◌, ◌<◌, ◌≤◌, ◌^◌, false, List, [], ◌∷◌, ◌++◌, Some, None, sym, ap, ◌∙◌, refl, subst, arith}
+use Rattle.std.proofs.Common.{◌≡◌, ◌≢◌, ◌⊎◌, ℕ, ◌+◌, ◌<◌, ◌≤◌, ◌^◌, false, List, [], ◌∷◌, ◌++◌, Some, None, sym, ap, ◌∙◌, refl, subst, arith, ⊎_elim}
 use Rattle.std.specs.FinMap as fin
 use Rattle.tape_types.specs.declared.moments.Moment.{Moment}
 use Rattle.plain_tree.specs.declared.nodes.Kind as plain_kind
@@ -9,13 +9,16 @@ use Rattle.plain_tree.specs.declared.calls.Call.TheVariants as asks
 use Rattle.plain_tree.specs.declared.calls.Sort.{Sort}
 use Rattle.plain_tree.specs.declared.calls.Sort.TheVariants as sorts
 use Rattle.plain_tree.specs.Paths.{parent_of}
-use Rattle.plain_tree.specs.Refusals.{refusal_of, new_refusal}
+use Rattle.plain_tree.specs.Refusals.{refusal_of, new_refusal, bad_name}
 use Rattle.plain_tree.specs.Calls.{after, after_done, after_unless, with_new}
 use Rattle.plain_tree.specs.Tree as plain
 use Rattle.plain_tree.specs.Valid.{IsValid}
 use Rattle.plain_tree.specs.Seen.{CanStand}
-use Rattle.plain_tree.proofs.Validity.{next_valid, can_stand}
+use Rattle.plain_tree.proofs.Validity.{next_valid, can_stand, first_none}
 use Rattle.extent_map.specs.Cells.{Tape, file_cells}
+use Rattle.std.specs.Str.{IsUtf8}
+use Rattle.index_model.specs.Names.{IsVolumeName, IsNodeName}
+use Rattle.extent_map.specs.Blocks.{FileStandsIn}
 use Rattle.extent_map.specs.Laid.{Laid, Room}
 use Rattle.file_tree.specs.declared.nodes.Node.{Node}
 use Rattle.file_tree.specs.declared.nodes.Kind.{Kind}
@@ -23,12 +26,15 @@ use Rattle.file_tree.specs.declared.nodes.Kind.TheVariants as kinds
 use Rattle.file_tree.specs.Tree.{Nodes, FileTree, number_at, StandsAt, HasLaid, plain_kind_of, plain_node_of, plain_nodes, plain_of, whole}
 use Rattle.file_tree.specs.Changes.{IsChangedAt, touched}
 use Rattle.file_tree.specs.Places.{CanPut}
-use Rattle.file_tree.specs.Valid.{IsFileOf, AreFilesOf, IsGood}
-use Rattle.file_tree.specs.Edits.{making, CanMake, IsNewKind, IsAfter, NumbersCome, AllLie}
-use Rattle.file_tree.proofs.PathLemmas.{get_here, some_same, number_is}
+use Rattle.file_tree.specs.Paths.{Path}
+use Rattle.file_tree.specs.Valid.{IsFileOf, AreFilesOf, NumbersDiffer, AreFit, IsGood}
+use Rattle.file_tree.specs.Blocks.{AddsNoBlock}
+use Rattle.file_tree.specs.Edits.{making, CanMake, IsNewKind, IsAfter, NumbersCome, OthersLie}
+use Rattle.file_tree.proofs.PathLemmas.{same_last, get_here, some_same, number_is}
 use Rattle.file_tree.proofs.PlainLemmas.{plain_insert, plain_len, none_plain}
 use Rattle.file_tree.proofs.RefusalLemmas.{alike}
-use Rattle.file_tree.proofs.EditLemmas.{parent_ends, put_numbers, put_lies, insert_files, change_numbers, change_plain, change_lies, change_files_same}
+use Rattle.file_tree.proofs.EditLemmas.{parent_ends, put_numbers, put_lies, put_back, put_differ, insert_files, change_numbers, change_plain, change_lies, change_lies_both, change_differ, change_files_same}
+use Rattle.file_tree.proofs.FitLemmas.{fit_name, not_bad, fit_insert, fit_same}
 
 -- a call that isn't refused
 pub after_free : (t : plain.Tree) (call : Call) (at : Moment) → refusal_of t call ≡ None → after t call at ≡ after_done t call at
@@ -41,20 +47,31 @@ pub same_tree : (a b : plain.Tree) → a.highest ≡ b.highest → a.nodes ≡ b
 same_tree a b h n = ap (λ k. record { highest = k; nodes = a.nodes }) h ∙ ap (λ k. record { highest = b.highest; nodes = k }) n
 
 -- a tree that is what the plain tree is after a call is good
-pub good_after : (t next : FileTree) (call : Call) (at : Moment) → IsGood t → next.block_size ≡ t.block_size → IsAfter call at t next → AreFilesOf t.block_size next.nodes → IsGood next
-good_after t next call at good size done files = record {
+pub good_after : (t next : FileTree) (call : Call) (at : Moment) → IsGood t → next.block_size ≡ t.block_size → next.name ≡ t.name → IsAfter call at t next
+    → AreFilesOf t.block_size next.nodes → NumbersDiffer next.nodes → AreFit next.nodes → AddsNoBlock t next → IsGood next
+good_after t next call at good size name done files differ fit adds = record {
   some_block = subst (λ n. 1 ≤ n) (sym size) good.some_block;
+  small_block = subst (λ n. n < 2 ^ 32) (sym size) good.small_block;
   valid = λ tape. subst (λ (p : plain.Tree). IsValid p) (sym (done tape)) (next_valid (plain_of tape t) call at (good.valid tape));
   files = subst (λ n. AreFilesOf n next.nodes) (sym size) files;
+  differ = differ;
+  volume = subst IsVolumeName (sym name) good.volume;
+  fit = fit;
+  near = λ part pos h. good.near part pos (adds part pos h);
 }
 
 -- the same tree with other memory is good
 pub good_same : (t : FileTree) (nodes : Nodes) (spare : ℕ) → IsGood t → nodes ≡ t.nodes → IsGood (record { highest = t.highest; name = t.name; block_size = t.block_size; nodes = nodes; spare = spare })
-good_same t nodes spare good is = record {
+good_same t nodes spare good is = subst (λ (m : Nodes). IsGood (record { highest = t.highest; name = t.name; block_size = t.block_size; nodes = m; spare = spare })) (sym is) (record {
   some_block = good.some_block;
-  valid = λ tape. subst (λ (m : Nodes). IsValid (record { highest = t.highest; nodes = plain_nodes tape m })) (sym is) (good.valid tape);
-  files = subst (λ (m : Nodes). AreFilesOf t.block_size m) (sym is) good.files;
-}
+  small_block = good.small_block;
+  valid = good.valid;
+  files = good.files;
+  differ = good.differ;
+  volume = good.volume;
+  fit = good.fit;
+  near = λ part pos h. good.near part pos (record { number = h.number; laid = h.laid; file = h.file; block = h.block });
+})
 
 -- ---- a new node
 
@@ -100,10 +117,14 @@ module _ (t : FileTree) (good : IsGood t) (dir : ℕ) (name : List ℕ) (sort : 
   pub can_put : (slots : ℕ) → CanPut (record { nodes = t.nodes; spare = t.spare; slots = slots }) dir name
   can_put slots = record { path = can.path; stands = can.stands; free = make_free; space = make_space; room = can.room }
 
+  pub make_named : IsUtf8 name → IsNodeName name
+  make_named utf8 = fit_name name utf8 (not_bad can.path name (first_none (bad_name q) _ (sym (made_by sort q can.call (plain_of whole t) at can.made_by).0 ∙ can.free)).0)
+
   module _ (next : FileTree) (number : ℕ) (node : Node) (kind : Kind) (middle : Nodes)
       (is : node ≡ record { number = number; uid = t.highest + 1; times = plain.times_at at; readonly = false; kind = kind }) (new : IsNewKind t.block_size sort kind)
       (put : (path : List (List ℕ)) → number_at t.nodes path ≡ Some dir → middle ≡ fin.insert t.nodes (path ++ name ∷ []) node)
-      (ch : IsChangedAt middle next.nodes dir (λ a b. b ≡ touched at a)) (highest : next.highest ≡ t.highest + 1) (size : next.block_size ≡ t.block_size) where
+      (ch : IsChangedAt middle next.nodes dir (λ a b. b ≡ touched at a)) (highest : next.highest ≡ t.highest + 1) (size : next.block_size ≡ t.block_size)
+      (fresh : (path : Path) → number_at t.nodes path ≢ Some number) where
     middle_is : middle ≡ fin.insert t.nodes q node
     middle_is = put can.path can.stands
 
@@ -130,9 +151,19 @@ module _ (t : FileTree) (good : IsGood t) (dir : ℕ) (name : List ℕ) (sort : 
         change_numbers middle next.nodes dir _ ch (path ++ name ∷ []) ∙ ap (λ m. number_at m (path ++ name ∷ [])) (put path stands)
         ∙ number_is (fin.insert t.nodes (path ++ name ∷ []) node) (path ++ name ∷ []) node (get_here t.nodes (path ++ name ∷ []) node) ∙ ap (λ (n : Node). Some n.number) is
 
-    pub make_lies : AllLie t next
-    make_lies n f h =
-        change_lies middle next.nodes dir _ ch (ap (λ (n : Node). n.kind) ch.changed) n f (subst (λ m. HasLaid m n f) (sym middle_is) (put_lies t.nodes q node make_free n f h))
+    numbered : node.number ≡ number
+    numbered = ap (λ (n : Node). n.number) is
+
+    -- a file of the tree after is one of the tree before, or the new one
+    made_back : (n : ℕ) (f : Laid) → HasLaid next.nodes n f → HasLaid t.nodes n f ⊎ ((node.number ≡ n) × (room : Room) × (node.kind ≡ kinds.File room) × (room.laid ≡ f))
+    made_back n f h =
+        put_back t.nodes q node make_free n f (subst (λ m. HasLaid m n f) middle_is ((change_lies_both middle next.nodes dir _ ch (ap (λ (n : Node). n.kind) ch.changed) n f).1 h))
+
+    pub make_lies : OthersLie number t next
+    make_lies n apart f = (
+      λ h. (change_lies_both middle next.nodes dir _ ch (ap (λ (n : Node). n.kind) ch.changed) n f).0 (subst (λ m. HasLaid m n f) (sym middle_is) (put_lies t.nodes q node make_free n f h)),
+      λ h. ⊎_elim (λ was. was) (λ (new : (node.number ≡ n) × (room : Room) × (node.kind ≡ kinds.File room) × (room.laid ≡ f)). absurd (apart (sym new.0 ∙ numbered))) (made_back n f h),
+    )
 
     pub make_file : sort ≡ sorts.File → HasLaid next.nodes number (record { block_size = t.block_size; length = 0; extents = [] })
     make_file file =
@@ -160,9 +191,43 @@ module _ (t : FileTree) (good : IsGood t) (dir : ℕ) (name : List ℕ) (sort : 
             one_room a b f = cc
         by sorts.Link dir_is e = let wrong : kinds.Dir ≡ kinds.File room = sym dir_is ∙ e in cc
 
-    pub make_good : IsGood next
-    make_good = good_after t next can.call at good size make_plain
-        (change_files_same middle next.nodes dir _ ch t.block_size (ap (λ (n : Node). n.kind) ch.changed) (subst (λ m. AreFilesOf t.block_size m) (sym middle_is) (insert_files t.block_size t.nodes q node good.files new_files)))
+    new_kind_is : (room : Room) → node.kind ≡ kinds.File room → room.laid ≡ record { block_size = t.block_size; length = 0; extents = [] }
+    new_kind_is room file = by sort new (sym (ap (λ (n : Node). n.kind) is) ∙ file)
+      where
+        one_room : (a b : Room) → ◌≡◌ {A = Kind} (kinds.File a) (kinds.File b) → a ≡ b
+        one_room a b f = cc
+
+        by : (s : Sort) → IsNewKind t.block_size s kind → kind ≡ kinds.File room → room.laid ≡ record { block_size = t.block_size; length = 0; extents = [] }
+        by sorts.Dir dir_is e = let wrong : kinds.Dir ≡ kinds.File room = sym dir_is ∙ e in cc
+        by sorts.File k e = ap (λ (r : Room). r.laid) (one_room room k.0 (sym e ∙ k.1)) ∙ k.2
+        by sorts.Link dir_is e = let wrong : kinds.Dir ≡ kinds.File room = sym dir_is ∙ e in cc
+
+    new_no_link : (text : List ℕ) → node.kind ≡ kinds.Link text → ⊥
+    new_no_link text link = by sort new (sym (ap (λ (n : Node). n.kind) is) ∙ link)
+      where
+        by : (s : Sort) → IsNewKind t.block_size s kind → kind ≡ kinds.Link text → ⊥
+        by sorts.Dir dir_is e = let wrong : kinds.Dir ≡ kinds.Link text = sym dir_is ∙ e in cc
+        by sorts.File k e = let wrong : kinds.File k.0 ≡ kinds.Link text = sym k.1 ∙ e in cc
+        by sorts.Link dir_is e = let wrong : kinds.Dir ≡ kinds.Link text = sym dir_is ∙ e in cc
+
+    pub make_adds : AddsNoBlock t next
+    make_adds part pos h = ⊎_elim
+        (λ was. record { number = h.number; laid = h.laid; file = was; block = h.block })
+        (λ (made : (node.number ≡ h.number) × (room : Room) × (node.kind ≡ kinds.File room) × (room.laid ≡ h.laid)).
+        absurd (subst (λ f. FileStandsIn f part pos) (sym made.3 ∙ new_kind_is made.1 made.2) h.block))
+        (made_back h.number h.laid h.file)
+
+    pub make_good : next.name ≡ t.name → IsUtf8 name → IsGood next
+    make_good name_is utf8 = good_after t next can.call at good size name_is make_plain files
+        (change_differ middle next.nodes dir _ ch (subst NumbersDiffer (sym middle_is) (put_differ t.nodes q node make_free good.differ (λ path stands. fresh path (stands ∙ ap (λ n. Some n) numbered)))))
+        (fit_same middle next.nodes dir _ ch (ap (λ (n : Node). n.kind) ch.changed) (subst AreFit (sym middle_is) (fit_insert t.nodes q node good.fit (record {
+          named = λ front other e. subst IsNodeName (same_last can.path front name other e).1 (make_named utf8);
+          text = λ text link. absurd (new_no_link text link);
+        }))))
+        make_adds
+      where
+        files : AreFilesOf t.block_size next.nodes
+        files = change_files_same middle next.nodes dir _ ch t.block_size (ap (λ (n : Node). n.kind) ch.changed) (subst (λ m. AreFilesOf t.block_size m) (sym middle_is) (insert_files t.block_size t.nodes q node good.files new_files))
 
 pub same_call : (t u : FileTree) (dir : ℕ) (name : List ℕ) (sort : Sort) (e : t ≡ u) (own : CanMake u dir name sort) → (subst (λ (t : FileTree). CanMake t dir name sort) (sym e) own).call ≡ own.call
 same_call t u dir name sort e own = refl

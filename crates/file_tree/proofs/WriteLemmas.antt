@@ -1,11 +1,13 @@
 -- What overlays and lengths leave of a tree.
-use Rattle.std.proofs.Common.{◌≡◌, ◌≢◌, ℕ, ◌≤◌, true, false, cond, List, length, Some, sym, ap, ◌∙◌, refl, subst, arith, eqb, ⊎_elim, Result, Ok, Err, OnOk}
+use Rattle.std.proofs.Common.{◌≡◌, ◌≢◌, ℕ, ◌<◌, ◌≤◌, ◌^◌, true, false, cond, List, length, Some, sym, ap, ◌∙◌, refl, subst, arith, eqb, ⊎_elim, Result, Ok, Err, OnOk}
 use Rattle.std.specs.Option.{option_map}
 use Rattle.std.specs.FinMap as fin
 use Rattle.std.proofs.lemmas.Bool.Decides.{nat_tests}
 use Rattle.std.proofs.lemmas.List.FromFn.{length-map-range_with_len}
 use Rattle.tape_types.specs.declared.moments.Moment.{Moment}
 use Rattle.tape_types.specs.declared.cartridges.Extent.{Extent}
+use Rattle.tape_types.specs.declared.cartridges.Part.{Part}
+use Rattle.index_model.specs.Names.{IsVolumeName}
 use Rattle.plain_tree.specs.declared.nodes.Node as plain_node
 use Rattle.plain_tree.specs.declared.nodes.Kind.TheVariants as plain_kinds
 use Rattle.plain_tree.specs.Cells as cells
@@ -22,12 +24,15 @@ use Rattle.file_tree.specs.declared.nodes.Kind.{Kind}
 use Rattle.file_tree.specs.declared.nodes.Kind.TheVariants as kinds
 use Rattle.file_tree.specs.Tree.{Nodes, FileTree, number_at, StandsAt, HasExtents, HasLaid, plain_kind_of, plain_node_of, plain_nodes, plain_of}
 use Rattle.file_tree.specs.Changes.{IsChangedAt, LiesNow, IsRelaid, relaid_as, IsRoomier, roomier_as, KeepsLaid, HasRoom, kind_has_room, CanOverlay, can_overlay}
-use Rattle.file_tree.specs.Valid.{IsFileOf, AreFilesOf, IsGood}
-use Rattle.file_tree.specs.Edits.{IsWritten, IsTruncated, IsLongAt, OthersLie, AllLie}
+use Rattle.file_tree.specs.Valid.{IsFileOf, AreFilesOf, NumbersDiffer, AreFit, IsGood}
+use Rattle.file_tree.specs.Blocks.{TreeStandsIn, AddsNoBlock, AddsBlocksOf}
+use Rattle.file_tree.specs.Edits.{IsWritten, IsTruncated, IsLongAt, IsNear, OthersLie, AllLie}
 use Rattle.file_tree.proofs.PathLemmas.{get_here, get_other, is_or_not, some_same, number_is}
 use Rattle.file_tree.proofs.PlainLemmas.{plain_get, plain_insert, inserted_same}
 use Rattle.file_tree.proofs.TreeLemmas.{same_tree}
-use Rattle.file_tree.proofs.EditLemmas.{change_numbers, change_plain, change_others, change_files}
+use Rattle.file_tree.proofs.EditLemmas.{change_numbers, change_plain, change_others_both, change_differ, change_files}
+use Rattle.file_tree.proofs.BlockLemmas.{all_lie_adds, overlay_adds as adds_overlay, length_adds as adds_length}
+use Rattle.file_tree.proofs.FitLemmas.{fit_change}
 
 one_room : (a b : Room) → ◌≡◌ {A = Kind} (kinds.File a) (kinds.File b) → a ≡ b
 one_room a b e = cc
@@ -73,7 +78,16 @@ module _ (t next : FileTree) (good : IsGood t) (file : ℕ) (at : Moment) (room 
   relaid_numbers path n stands = change_numbers t.nodes next.nodes file _ ch path ∙ stands
 
   pub relaid_others : OthersLie file t next
-  relaid_others k f apart has = change_others t.nodes next.nodes file _ ch k f apart has
+  relaid_others k apart f = change_others_both t.nodes next.nodes file _ ch k f apart
+
+  pub relaid_differ : NumbersDiffer next.nodes
+  relaid_differ = change_differ t.nodes next.nodes file _ ch good.differ
+
+  pub was_laid : HasLaid t.nodes file room.laid
+  was_laid = record { path = h.path; node = h.node; there = h.there; is = h.is; room = room; file = h.file; lies = refl }
+
+  relaid_fit : AreFit next.nodes
+  relaid_fit = fit_change t.nodes next.nodes file _ ch good.fit (λ text link. let wrong : kinds.File done.room ≡ kinds.Link text = sym (ap (λ (n : Node). n.kind) done.is) ∙ link in cc)
 
   pub relaid_lies : (f : Laid) → HasLaid t.nodes file f → HasLaid next.nodes file (change f)
   relaid_lies f has =
@@ -97,9 +111,15 @@ module _ (t next : FileTree) (good : IsGood t) (file : ℕ) (at : Moment) (room 
       (change_plain t.nodes next.nodes file (λ a b. IsRelaid change at a b) ch tape (plain.file_changed g at) (plain_relaid tape g at ch.old ch.new room (change room.laid) kind_is done cells_are)
       ∙ ap (λ p. plain.changed_at (plain.file_changed g at) p (plain_nodes tape t.nodes)) (sym (ch.only path stands)))
 
-  pub relaid_good : ((tape : Tape) → (g : List Cell → List Cell) × (file_cells tape (change room.laid) ≡ g (file_cells tape room.laid))) → (change room.laid).block_size ≡ t.block_size → IsGood next
-  relaid_good cells_are same_size = record {
+  pub relaid_good : ((tape : Tape) → (g : List Cell → List Cell) × (file_cells tape (change room.laid) ≡ g (file_cells tape room.laid))) → (change room.laid).block_size ≡ t.block_size
+      → next.name ≡ t.name → ((part : Part) (pos : ℕ) → TreeStandsIn next part pos → pos ≤ 2 ^ 62) → IsGood next
+  relaid_good cells_are same_size name near = record {
     some_block = subst (λ n. 1 ≤ n) (sym size) good.some_block;
+    small_block = subst (λ n. n < 2 ^ 32) (sym size) good.small_block;
+    differ = relaid_differ;
+    volume = subst IsVolumeName (sym name) good.volume;
+    fit = relaid_fit;
+    near = near;
     valid = λ tape. subst (λ (p : plain.Tree). IsValid p) (sym (relaid_plain tape (cells_are tape).0 (cells_are tape).1 h.path (number_is t.nodes h.path h.node h.there ∙ ap (λ n. Some n) h.is)))
         (file_keeps (cells_are tape).0 at h.path (plain_nodes tape t.nodes) t.highest (good.valid tape));
     files = subst (λ n. AreFilesOf n next.nodes) (sym size) (change_files t.nodes next.nodes file _ ch t.block_size good.files (λ r is. new_file r same_size is));
@@ -118,8 +138,14 @@ module _ (t next : FileTree) (good : IsGood t) (file : ℕ) (at : Moment) (room 
   pub overlay_writes : IsWritten file new at t next
   overlay_writes tape path stands = relaid_plain t next good file at room h (λ laid. overlaid laid new) ch highest size tape (λ c. cells.written c new.offset (cells_of tape t.block_size new)) (written tape) path stands
 
-  pub overlay_good : IsGood next
-  overlay_good = relaid_good t next good file at room h (λ laid. overlaid laid new) ch highest size (λ tape. (λ c. cells.written c new.offset (cells_of tape t.block_size new), written tape)) was.size
+  pub overlay_adds : AddsBlocksOf new t next
+  overlay_adds = adds_overlay t next file room.laid new (relaid_differ t next good file at room h (λ laid. overlaid laid new) ch highest size) (relaid_others t next good file at room h (λ laid. overlaid laid new) ch highest size)
+      (was_laid t next good file at room h (λ laid. overlaid laid new) ch highest size) was.lies was.size
+      (relaid_lies t next good file at room h (λ laid. overlaid laid new) ch highest size room.laid (was_laid t next good file at room h (λ laid. overlaid laid new) ch highest size))
+
+  pub overlay_good : next.name ≡ t.name → IsNear t.block_size new → IsGood next
+  overlay_good name near = relaid_good t next good file at room h (λ laid. overlaid laid new) ch highest size (λ tape. (λ c. cells.written c new.offset (cells_of tape t.block_size new), written tape)) was.size name
+      (λ part pos k. ⊎_elim (λ old. good.near part pos old) (λ this. near part pos this) (overlay_adds part pos k))
 
 -- ---- a length
 
@@ -158,8 +184,13 @@ module _ (t next : FileTree) (good : IsGood t) (file : ℕ) (at : Moment) (room 
       eq_false : (a b : ℕ) → a ≢ b → eqb a b ≡ false
       eq_false a b e = grind (arith, nat_tests)
 
-  pub length_good : IsGood next
-  length_good = relaid_good t next good file at room h (λ laid. resized laid n) ch highest size (λ tape. (λ c. cells.resized c n, truncated tape)) before_file.size
+  pub length_adds : AddsNoBlock t next
+  length_adds = adds_length t next file n room.laid (relaid_differ t next good file at room h (λ laid. resized laid n) ch highest size) (relaid_others t next good file at room h (λ laid. resized laid n) ch highest size)
+      (was_laid t next good file at room h (λ laid. resized laid n) ch highest size)
+      (relaid_lies t next good file at room h (λ laid. resized laid n) ch highest size room.laid (was_laid t next good file at room h (λ laid. resized laid n) ch highest size))
+
+  pub length_good : next.name ≡ t.name → IsGood next
+  length_good name = relaid_good t next good file at room h (λ laid. resized laid n) ch highest size (λ tape. (λ c. cells.resized c n, truncated tape)) before_file.size name (λ part pos k. good.near part pos (length_adds part pos k))
 
 -- what a file's new extents are, where its length is another
 pub resized_lies : (m : Nodes) (file n present : ℕ) (laid f : Laid) → HasLaid m file f → n ≢ present → laid.length ≡ present → f ≡ resized laid n → HasLaid m file (cond (eqb n laid.length) laid (resized laid n))
@@ -208,8 +239,8 @@ module _ (t next : FileTree) (good : IsGood t) (file : ℕ) (Q : Node → Type 0
   room_numbers path n stands = change_numbers t.nodes next.nodes file _ ch path ∙ stands
 
   -- the file that is changed lies as it did
-  was_laid : (room : Room) → ch.new.kind ≡ kinds.File room → (old : Room) × (ch.old.kind ≡ kinds.File old) × (room.laid ≡ old.laid)
-  was_laid room is = by ch.old.kind refl ch.changed.0
+  was_laid_so : (room : Room) → ch.new.kind ≡ kinds.File room → (old : Room) × (ch.old.kind ≡ kinds.File old) × (room.laid ≡ old.laid)
+  was_laid_so room is = by ch.old.kind refl ch.changed.0
     where
       by : (k : Kind) → ch.old.kind ≡ k → IsRoomier ch.old ch.new → (old : Room) × (ch.old.kind ≡ kinds.File old) × (room.laid ≡ old.laid)
       by kinds.Dir e r = let wrong : kinds.Dir ≡ kinds.File room = sym e ∙ ap (λ (n : Node). n.kind) (sym (subst (roomier_as ch.old ch.new) e r)) ∙ is in cc
@@ -223,8 +254,8 @@ module _ (t next : FileTree) (good : IsGood t) (file : ℕ) (Q : Node → Type 0
       let keeps : KeepsLaid ch.old ch.new old.laid = subst (roomier_as ch.old ch.new) e ch.changed.0 in
       (keeps.room, ap (λ (n : Node). n.kind) keeps.is, keeps.lies)
 
-  pub room_lies : AllLie t next
-  room_lies k f h = ⊎_elim
+  room_forth : (k : ℕ) (f : Laid) → HasLaid t.nodes k f → HasLaid next.nodes k f
+  room_forth k f h = ⊎_elim
       (λ (e : h.path ≡ ch.path).
       let node_is : h.node ≡ ch.old = some_same h.node ch.old (sym h.there ∙ ap (fin.get t.nodes) e ∙ ch.there) in
       let now = still_laid h.room (ap (λ (n : Node). n.kind) (sym node_is) ∙ h.file) in
@@ -248,12 +279,59 @@ module _ (t next : FileTree) (good : IsGood t) (file : ℕ) (Q : Node → Type 0
       })
       (is_or_not ch.path h.path)
 
-  pub room_good : IsGood next
-  room_good = record {
+  room_back : (k : ℕ) (f : Laid) → HasLaid next.nodes k f → HasLaid t.nodes k f
+  room_back k f h = ⊎_elim
+      (λ (e : h.path ≡ ch.path).
+      let node_is : h.node ≡ ch.new = some_same h.node ch.new (sym h.there ∙ ap (fin.get next.nodes) e ∙ ap (λ m. fin.get m ch.path) ch.now ∙ get_here t.nodes ch.path ch.new) in
+      let was = was_laid_so h.room (ap (λ (n : Node). n.kind) (sym node_is) ∙ h.file) in
+      record {
+        path = ch.path;
+        node = ch.old;
+        there = ch.there;
+        is = sym ch.kept ∙ ap (λ (n : Node). n.number) (sym node_is) ∙ h.is;
+        room = was.0;
+        file = was.1;
+        lies = sym was.2 ∙ h.lies;
+      })
+      (λ apart. record {
+        path = h.path;
+        node = h.node;
+        there = sym (get_other t.nodes ch.path h.path ch.new apart) ∙ ap (λ m. fin.get m h.path) (sym ch.now) ∙ h.there;
+        is = h.is;
+        room = h.room;
+        file = h.file;
+        lies = h.lies;
+      })
+      (is_or_not ch.path h.path)
+
+  pub room_lies : AllLie t next
+  room_lies k f = (room_forth k f, room_back k f)
+
+  -- a link stays what it is
+  was_link : (text : List ℕ) → ch.new.kind ≡ kinds.Link text → ch.old.kind ≡ kinds.Link text
+  was_link text is = by ch.old.kind refl ch.changed.0
+    where
+      by : (k : Kind) → ch.old.kind ≡ k → IsRoomier ch.old ch.new → ch.old.kind ≡ kinds.Link text
+      by kinds.Dir e r = ap (λ (n : Node). n.kind) (sym (subst (roomier_as ch.old ch.new) e r)) ∙ is
+      by (kinds.Link text) e r = ap (λ (n : Node). n.kind) (sym (subst (roomier_as ch.old ch.new) e r)) ∙ is
+      by (kinds.File old) e r =
+          let keeps : KeepsLaid ch.old ch.new old.laid = subst (roomier_as ch.old ch.new) e r in
+          let wrong : kinds.File keeps.room ≡ kinds.Link text = sym (ap (λ (n : Node). n.kind) keeps.is) ∙ is in cc
+
+  pub room_adds : AddsNoBlock t next
+  room_adds = all_lie_adds t next room_lies
+
+  pub room_good : next.name ≡ t.name → IsGood next
+  room_good name = record {
     some_block = subst (λ n. 1 ≤ n) (sym size) good.some_block;
+    small_block = subst (λ n. n < 2 ^ 32) (sym size) good.small_block;
+    differ = change_differ t.nodes next.nodes file _ ch good.differ;
+    volume = subst IsVolumeName (sym name) good.volume;
+    fit = fit_change t.nodes next.nodes file _ ch good.fit was_link;
+    near = λ part pos k. good.near part pos (room_adds part pos k);
     valid = λ tape. subst (λ (p : plain.Tree). IsValid p) (sym (room_plain tape)) (good.valid tape);
     files = subst (λ n. AreFilesOf n next.nodes) (sym size) (change_files t.nodes next.nodes file _ ch t.block_size good.files
-        (λ room is. let was = was_laid room is in subst (λ f. IsFileOf t.block_size f) (sym was.2) (good.files ch.path ch.old was.0 ch.there was.1)));
+        (λ room is. let was = was_laid_so room is in subst (λ f. IsFileOf t.block_size f) (sym was.2) (good.files ch.path ch.old was.0 ch.there was.1)));
   }
 
 -- the room that was made is that of the file

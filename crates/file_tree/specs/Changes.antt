@@ -10,6 +10,7 @@ use Rattle.file_tree.specs.declared.nodes.Node.{Node}
 use Rattle.file_tree.specs.declared.nodes.Kind.{Kind}
 use Rattle.file_tree.specs.declared.nodes.Kind.TheVariants as kinds
 use Rattle.file_tree.specs.Tree.{Nodes, number_at}
+use Rattle.file_tree.specs.Paths.{Path}
 
 -- change and modify time are this moment
 abbrev pub touched : Moment → Node → Node
@@ -87,12 +88,12 @@ HasRoom node = kind_has_room node.kind
 
 -- the node with this number is changed, and all else is as it was
 pub record IsChangedAt (before next : Nodes) (number : ℕ) (P : Node → Node → Type 0) : Type 0 where
-  pub path : List (List ℕ)
+  pub path : Path
   pub old : Node
   pub new : Node
   pub there : fin.get before path ≡ Some old
   pub is : old.number ≡ number
-  pub only : (p : List (List ℕ)) → number_at before p ≡ Some number → p ≡ path
+  pub only : (p : Path) → number_at before p ≡ Some number → p ≡ path
   pub kept : new.number ≡ old.number
   pub changed : P old new
   pub now : next ≡ fin.insert before path new

@@ -1,8 +1,9 @@
 -- What calls on the tree need, and what they leave.
-use Rattle.std.specs.Prelude.{◌≡◌, ◌≢◌, ◌⊎◌, ℕ, ◌≤◌, List, [], ◌∷◌, ◌++◌, Option, Some, None}
+use Rattle.std.specs.Prelude.{◌≡◌, ◌≢◌, ◌⊎◌, ◌↔◌, ℕ, ◌≤◌, ◌^◌, List, [], ◌∷◌, ◌++◌, Option, Some, None}
 use Rattle.std.specs.FinMap as fin
 use Rattle.tape_types.specs.declared.moments.Moment.{Moment}
 use Rattle.tape_types.specs.declared.cartridges.Extent.{Extent}
+use Rattle.tape_types.specs.declared.cartridges.Part.{Part}
 use Rattle.plain_tree.specs.declared.calls.Call.{Call}
 use Rattle.plain_tree.specs.declared.calls.Call.TheVariants as asks
 use Rattle.plain_tree.specs.declared.calls.Refusal.TheVariants as refusals
@@ -14,21 +15,23 @@ use Rattle.plain_tree.specs.Cells.{written}
 use Rattle.plain_tree.specs.Tree as plain
 use Rattle.extent_map.specs.Laid.{Laid, Room}
 use Rattle.extent_map.specs.Cells.{Tape, cells_of}
+use Rattle.extent_map.specs.Blocks.{StandsIn}
 use Rattle.file_tree.specs.declared.nodes.Node.{Node}
 use Rattle.file_tree.specs.declared.nodes.Kind.{Kind}
 use Rattle.file_tree.specs.declared.nodes.Kind.TheVariants as kinds
 use Rattle.file_tree.specs.Changes.{CanOverlay}
 use Rattle.file_tree.specs.Tree.{Nodes, FileTree, StandsAt, HasExtents, HasLaid, plain_of, whole}
+use Rattle.file_tree.specs.Paths.{Path}
 
 -- the call that makes a node of a sort; none makes a link
-abbrev pub making : Sort → List (List ℕ) → Option Call
+abbrev pub making : Sort → Path → Option Call
 making sorts.Dir path = Some (asks.Mkdir path)
 making sorts.File path = Some (asks.Create path)
 making sorts.Link path = None
 
 -- a node of this sort can be made under this name in the directory with this number, for which there is memory
 pub record CanMake (t : FileTree) (dir : ℕ) (name : List ℕ) (sort : Sort) : Type 0 where
-  pub path : List (List ℕ)
+  pub path : Path
   pub stands : StandsAt t path dir
   pub call : Call
   pub made_by : making sort (path ++ name ∷ []) ≡ Some call
@@ -42,29 +45,34 @@ IsNewKind size sorts.File kind = (room : Room) × (kind ≡ kinds.File room) × 
 IsNewKind size sorts.Link kind = kind ≡ kinds.Dir
 
 -- at the path stands a file of this length
-pub record IsLongAt (nodes : Nodes) (path : List (List ℕ)) (length : ℕ) : Type 0 where
+pub record IsLongAt (nodes : Nodes) (path : Path) (length : ℕ) : Type 0 where
   pub node : Node
   pub room : Room
   pub there : fin.get nodes path ≡ Some node
   pub file : node.kind ≡ kinds.File room
   pub long : room.laid.length ≡ length
 
+-- each block of the extent stands where an index may tell it
+abbrev pub IsNear : ℕ → Extent → Type 0
+IsNear block_size new = (part : Part) (pos : ℕ) → StandsIn block_size new part pos → pos ≤ 2 ^ 62
+
 -- the extent can be put into the file with this number, for which there is memory
 pub record CanWrite (t : FileTree) (file : ℕ) (new : Extent) : Type 0 where
   pub room : Room
   pub extents : HasExtents t.nodes file room
   pub can : CanOverlay room new
+  pub near : IsNear t.block_size new
 
 -- the node with this number can be removed
 pub record CanUnlink (t : FileTree) (number : ℕ) : Type 0 where
-  pub path : List (List ℕ)
+  pub path : Path
   pub stands : StandsAt t path number
   pub free : refusal_of (plain_of whole t) (asks.Remove path) ≡ None
 
 -- the node with this number can be renamed to another path, under this name in the directory with this number
 pub record CanMoveTo (t : FileTree) (number dir : ℕ) (name : List ℕ) : Type 0 where
-  pub path : List (List ℕ)
-  pub up : List (List ℕ)
+  pub path : Path
+  pub up : Path
   pub stands : StandsAt t path number
   pub dir_stands : StandsAt t up dir
   pub free : refusal_of (plain_of whole t) (asks.Rename path (up ++ name ∷ [])) ≡ None
@@ -76,12 +84,12 @@ IsAfter call at before next = (tape : Tape) → plain_of tape next ≡ after (pl
 
 -- whatever stands on tape, the extent's bytes are written into the file at each path that has its number, and it is touched
 abbrev pub IsWritten : ℕ → Extent → Moment → FileTree → FileTree → Type 0
-IsWritten file new at before next = (tape : Tape) (path : List (List ℕ)) → StandsAt before path file
+IsWritten file new at before next = (tape : Tape) (path : Path) → StandsAt before path file
     → plain_of tape next ≡ record (plain_of tape before) { nodes = plain.changed_at (plain.file_changed (λ cells. written cells new.offset (cells_of tape before.block_size new)) at) path (plain_of tape before).nodes }
 
 -- whatever stands on tape, the file has this length, as a truncation leaves it
 abbrev pub IsTruncated : ℕ → ℕ → Moment → FileTree → FileTree → Type 0
-IsTruncated file length at before next = (tape : Tape) (path : List (List ℕ)) → StandsAt before path file → plain_of tape next ≡ with_length (plain_of tape before) path length at
+IsTruncated file length at before next = (tape : Tape) (path : Path) → StandsAt before path file → plain_of tape next ≡ with_length (plain_of tape before) path length at
 
 -- the volume's name and the bytes of a block stay
 pub record KeepsVolume (before next : FileTree) : Type 0 where
@@ -89,16 +97,20 @@ pub record KeepsVolume (before next : FileTree) : Type 0 where
   pub block_size : next.block_size ≡ before.block_size
 
 -- each number that stood at a path stands at the path that it comes to
-abbrev pub NumbersCome : (List (List ℕ) → List (List ℕ)) → FileTree → FileTree → Type 0
-NumbersCome to before next = (path : List (List ℕ)) (number : ℕ) → StandsAt before path number → StandsAt next (to path) number
+abbrev pub NumbersCome : (Path → Path) → FileTree → FileTree → Type 0
+NumbersCome to before next = (path : Path) (number : ℕ) → StandsAt before path number → StandsAt next (to path) number
 
--- each file lies as it did, but for the one with this number
+-- the file with this number lies as it did, or there is none before and after
+abbrev pub LiesAlike : ℕ → FileTree → FileTree → Type 0
+LiesAlike number before next = (laid : Laid) → HasLaid before.nodes number laid ↔ HasLaid next.nodes number laid
+
+-- each file lies as it did, and none is gone or new, but for the one with this number
 abbrev pub OthersLie : ℕ → FileTree → FileTree → Type 0
-OthersLie but before next = (number : ℕ) (laid : Laid) → number ≢ but → HasLaid before.nodes number laid → HasLaid next.nodes number laid
+OthersLie but before next = (number : ℕ) → number ≢ but → LiesAlike number before next
 
--- each file lies as it did
+-- each file lies as it did, and none is gone or new
 abbrev pub AllLie : FileTree → FileTree → Type 0
-AllLie before next = (number : ℕ) (laid : Laid) → HasLaid before.nodes number laid → HasLaid next.nodes number laid
+AllLie before next = (number : ℕ) → LiesAlike number before next
 
 -- a refusal is that of a tape that has lost nothing, or tells of a lost byte where that tape would refuse nothing
 abbrev pub RefusalsAreAlike : Type 0

@@ -1,3 +1,5 @@
+pub mod Paths
+pub mod Blocks
 pub mod Tree
 pub mod Seen
 pub mod Changes
@@ -9,3 +11,5 @@ pub mod Mounts
 pub mod Raws
 pub mod Listing
 pub mod Told
+pub mod Writes
+pub mod Indexes

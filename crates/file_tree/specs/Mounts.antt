@@ -1,5 +1,5 @@
 -- The tree of an index (LTFS 2.4 on the index).
-use Rattle.std.specs.Prelude.{◌≡◌, ◌≢◌, ◌⊎◌, ℕ, ◌<◌, ◌≤◌, List, [], ◌∷◌, ◌++◌, ◌==◌, if◌then◌else◌, map, fold, length, Some}
+use Rattle.std.specs.Prelude.{◌≡◌, ◌≢◌, ◌⊎◌, ℕ, ◌<◌, ◌≤◌, ◌^◌, List, [], ◌∷◌, ◌++◌, ◌==◌, if◌then◌else◌, map, fold, length, Some}
 use Rattle.std.specs.List.{AllByRecursion}
 use Rattle.std.specs.FinMap as fin
 use Rattle.tape_types.specs.declared.cartridges.Extent.{Extent}
@@ -16,10 +16,12 @@ use Rattle.index_model.specs.Order.{AreInOrder}
 use Rattle.index_model.specs.Places.{IsAt}
 use Rattle.index_model.specs.Valid.{IsValid}
 use Rattle.extent_map.specs.Laid.{Laid, Room, cut, put_among}
+use Rattle.extent_map.specs.Blocks.{StandsIn}
 use Rattle.file_tree.specs.declared.nodes.Node.{Node}
 use Rattle.file_tree.specs.declared.nodes.Kind.{Kind}
 use Rattle.file_tree.specs.declared.nodes.Kind.TheVariants as kinds
 use Rattle.file_tree.specs.Tree.{Nodes, FileTree}
+use Rattle.file_tree.specs.Paths.{Path}
 
 -- the letters of the index partition and the data partition
 abbrev pub Letters : Type 0
@@ -52,13 +54,13 @@ pub record IsNodeOf (letters : Letters) (size : ℕ) (node : told.Node) (n : Nod
   pub kind : IsKindOf letters size node.kind n.kind
 
 -- the path of the node at a place: the names from the root down, but for the root's
-pub data IsPathOf (nodes : List told.Node) : ℕ → List (List ℕ) → Type 0 where
+pub data IsPathOf (nodes : List told.Node) : ℕ → Path → Type 0 where
   root : IsPathOf nodes 0 []
-  below : (at : ℕ) (node : told.Node) (front : List (List ℕ)) → 0 < at → IsAt nodes at node → IsPathOf nodes node.parent front → IsPathOf nodes at (front ++ node.name ∷ [])
+  below : (at : ℕ) (node : told.Node) (front : Path) → 0 < at → IsAt nodes at node → IsPathOf nodes node.parent front → IsPathOf nodes at (front ++ node.name ∷ [])
 
 -- the node at a place stands at its path, and the place is its number
 pub record Stands (letters : Letters) (size : ℕ) (nodes : List told.Node) (m : Nodes) (at : ℕ) (node : told.Node) : Type 0 where
-  pub path : List (List ℕ)
+  pub path : Path
   pub path_is : IsPathOf nodes at path
   pub n : Node
   pub there : fin.get m path ≡ Some n
@@ -66,7 +68,7 @@ pub record Stands (letters : Letters) (size : ℕ) (nodes : List told.Node) (m :
   pub same : IsNodeOf letters size node n
 
 -- what stands at a path is the node at some place before this one
-pub record IsTold (nodes : List told.Node) (before : ℕ) (path : List (List ℕ)) (n : Node) : Type 0 where
+pub record IsTold (nodes : List told.Node) (before : ℕ) (path : Path) (n : Node) : Type 0 where
   pub node : told.Node
   pub is : IsAt nodes n.number node
   pub early : n.number < before
@@ -75,12 +77,16 @@ pub record IsTold (nodes : List told.Node) (before : ℕ) (path : List (List ℕ
 -- the map has the nodes at the first places, each at its path, and no others
 pub record IsBuilt (letters : Letters) (size : ℕ) (nodes : List told.Node) (before : ℕ) (m : Nodes) : Type 0 where
   pub each : (at : ℕ) (node : told.Node) → at < before → IsAt nodes at node → Stands letters size nodes m at node
-  pub others : (path : List (List ℕ)) (n : Node) → fin.get m path ≡ Some n → IsTold nodes before path n
+  pub others : (path : Path) (n : Node) → fin.get m path ≡ Some n → IsTold nodes before path n
   pub count : fin.len m ≡ before
 
 -- the extent is on one of the two partitions, and begins within a block, where it has bytes
 abbrev pub IsOnVolume : Letters → ℕ → RawExtent → Type 0
 IsOnVolume letters size raw = 0 < raw.count → ((raw.letter ≡ letters.0) ⊎ (raw.letter ≡ letters.1)) × (raw.byte < size)
+
+-- each of its blocks stands where an index may tell it
+abbrev pub EndsNear : Letters → ℕ → RawExtent → Type 0
+EndsNear letters size raw = (part : Part) (pos : ℕ) → StandsIn size (extent_of letters raw) part pos → pos ≤ 2 ^ 62
 
 -- a valid index, of which the extents are on the volume with these partitions and blocks of this size
 pub record CanMount (index : Index) (letters : Letters) (size : ℕ) : Type 0 where
@@ -88,6 +94,7 @@ pub record CanMount (index : Index) (letters : Letters) (size : ℕ) : Type 0 wh
   pub differ : letters.0 ≢ letters.1
   pub some_block : 1 ≤ size
   pub on_volume : (at bytes : ℕ) (raws : List RawExtent) → IsFileAt index.nodes at bytes raws → AllByRecursion (IsOnVolume letters size) raws
+  pub near : (at bytes : ℕ) (raws : List RawExtent) → IsFileAt index.nodes at bytes raws → AllByRecursion (EndsNear letters size) raws
 
 -- what is known of the nodes of such an index
 pub record AreTold (letters : Letters) (size : ℕ) (nodes : List told.Node) : Type 0 where
@@ -105,3 +112,14 @@ pub record IsTreeOf (letters : Letters) (size : ℕ) (index : Index) (t : FileTr
   pub name : (root : told.Node) → IsAt index.nodes 0 root → t.name ≡ root.name
   pub block_size : t.block_size ≡ size
   pub nodes : IsBuilt letters size index.nodes (length index.nodes) t.nodes
+
+-- a byte of some extent of some file that is told stands in the block at this position of a partition
+pub record IndexStandsIn (letters : Letters) (size : ℕ) (nodes : List told.Node) (part : Part) (pos : ℕ) : Type 0 where
+  pub at : ℕ
+  pub bytes : ℕ
+  pub raws : List RawExtent
+  pub file : IsFileAt nodes at bytes raws
+  pub which : ℕ
+  pub raw : RawExtent
+  pub is : IsAt raws which raw
+  pub block : StandsIn size (extent_of letters raw) part pos

@@ -6,6 +6,7 @@ use Rattle.file_tree.specs.declared.nodes.Node.{Node}
 use Rattle.file_tree.specs.declared.nodes.Spot.{Spot}
 use Rattle.file_tree.specs.Tree.{Nodes, number_at, plain_nodes, whole}
 use Rattle.file_tree.specs.Seen.{held, IsShown, IsKept}
+use Rattle.file_tree.specs.Paths.{Path}
 
 -- what stands at each path, for how many nodes more there is memory, and how many places there are
 pub record Stored : Type 0 where
@@ -28,10 +29,10 @@ pub record IsStored (spots : List (Option Spot)) (count : ℕ) (m : Nodes) : Typ
 
 -- some path has this number
 abbrev pub IsThere : Nodes → ℕ → Type 0
-IsThere m number = (path : List (List ℕ)) × (number_at m path ≡ Some number)
+IsThere m number = (path : Path) × (number_at m path ≡ Some number)
 
 -- a path leads nowhere, and the last node on its way has this number
-pub record IsLast (m : Nodes) (path : List (List ℕ)) (number : ℕ) : Type 0 where
+pub record IsLast (m : Nodes) (path : Path) (number : ℕ) : Type 0 where
   pub names : ℕ
   pub shorter : names < length path
   pub there : number_at m (take names path) ≡ Some number
@@ -39,7 +40,7 @@ pub record IsLast (m : Nodes) (path : List (List ℕ)) (number : ℕ) : Type 0 w
 
 -- a node may be put under a name into the directory with this number
 pub record CanPut (t : Stored) (dir : ℕ) (name : List ℕ) : Type 0 where
-  pub path : List (List ℕ)
+  pub path : Path
   pub stands : number_at t.nodes path ≡ Some dir
   pub free : fin.get t.nodes (path ++ name ∷ []) ≡ None
   pub space : fin.len t.nodes < 65536
@@ -47,23 +48,23 @@ pub record CanPut (t : Stored) (dir : ℕ) (name : List ℕ) : Type 0 where
 
 -- a node may be put behind all others, under a name into the directory with this number
 pub record CanAppend (t : Stored) (dir : ℕ) (name : List ℕ) : Type 0 where
-  pub path : List (List ℕ)
+  pub path : Path
   pub stands : number_at t.nodes path ≡ Some dir
   pub free : fin.get t.nodes (path ++ name ∷ []) ≡ None
   pub space : t.slots < 65536
 
 -- the node with this number may be taken out, as in the plain tree
 pub record CanTake (m : Nodes) (number : ℕ) : Type 0 where
-  pub front : List (List ℕ)
+  pub front : Path
   pub name : List ℕ
   pub stands : number_at m (front ++ name ∷ []) ≡ Some number
   pub can : CanLeave (plain_nodes whole m) (front ++ name ∷ [])
 
 -- the node with this number may come under this name into a directory, as in the plain tree
 pub record CanShift (m : Nodes) (number dir : ℕ) (name : List ℕ) : Type 0 where
-  pub front : List (List ℕ)
+  pub front : Path
   pub old_name : List ℕ
-  pub up : List (List ℕ)
+  pub up : Path
   pub stands : number_at m (front ++ old_name ∷ []) ≡ Some number
   pub dir_stands : number_at m up ≡ Some dir
   pub can : CanMove (plain_nodes whole m) (front ++ old_name ∷ []) (up ++ name ∷ [])

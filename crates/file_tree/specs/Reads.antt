@@ -11,9 +11,10 @@ use Rattle.file_tree.specs.declared.nodes.Node.{Node}
 use Rattle.file_tree.specs.declared.found.Found.{Found}
 use Rattle.file_tree.specs.declared.found.Found.TheVariants as founds
 use Rattle.file_tree.specs.Tree.{FileTree, StandsAt}
+use Rattle.file_tree.specs.Paths.{Path}
 
 -- the node with the number stands at the path, or nothing does
-abbrev pub IsFound : FileTree → List (List ℕ) → Found → Type 0
+abbrev pub IsFound : FileTree → Path → Found → Type 0
 IsFound t path (founds.Node number) = StandsAt t path number
 IsFound t path founds.Missing = fin.get t.nodes path ≡ None
 IsFound t path founds.NotDir = fin.get t.nodes path ≡ None
@@ -37,4 +38,4 @@ sort_in (kinds.Link text) = sorts.Link
 
 -- the node with the number is of the sort
 abbrev pub IsOfSort : FileTree → ℕ → Sort → Type 0
-IsOfSort t number sort = (path : List (List ℕ)) → StandsAt t path number → (node : Node) × (fin.get t.nodes path ≡ Some node) × (sort_in node.kind ≡ sort)
+IsOfSort t number sort = (path : Path) → StandsAt t path number → (node : Node) × (fin.get t.nodes path ≡ Some node) × (sort_in node.kind ≡ sort)

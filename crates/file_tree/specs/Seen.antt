@@ -11,6 +11,7 @@ use Rattle.file_tree.specs.declared.nodes.Node.{Node}
 use Rattle.file_tree.specs.declared.nodes.Spot.{Spot}
 use Rattle.file_tree.specs.contracts.nodes.Node as node
 use Rattle.file_tree.specs.Tree.{Nodes, number_at}
+use Rattle.file_tree.specs.Paths.{Path}
 
 -- what is kept at each number
 abbrev pub Held : Type 0
@@ -36,9 +37,9 @@ has_number m n = list_any (λ path. is_number n (fin.get m path)) (fin.keys m)
 pub record IsShown (at : Held) (m : Nodes) : Type 0 where
   pub root : number_at m [] ≡ Some 0
   pub rooted : (node : Node) → fin.get m [] ≡ Some node → at 0 ≡ Some (record { parent = 0; name = []; node = node })
-  pub named : (path : List (List ℕ)) (name : List ℕ) (node : Node) (parent : ℕ) → fin.get m (path ++ name ∷ []) ≡ Some node → number_at m path ≡ Some parent → at node.number ≡ Some (record { parent = parent; name = name; node = node })
-  pub up : (path : List (List ℕ)) (name : List ℕ) (node : Node) → fin.get m (path ++ name ∷ []) ≡ Some node → is_some (fin.get m path) ≡ true
-  pub behind : (path : List (List ℕ)) (name : List ℕ) (node : Node) → fin.get m (path ++ name ∷ []) ≡ Some node → node.number ≢ 0
+  pub named : (path : Path) (name : List ℕ) (node : Node) (parent : ℕ) → fin.get m (path ++ name ∷ []) ≡ Some node → number_at m path ≡ Some parent → at node.number ≡ Some (record { parent = parent; name = name; node = node })
+  pub up : (path : Path) (name : List ℕ) (node : Node) → fin.get m (path ++ name ∷ []) ≡ Some node → is_some (fin.get m path) ≡ true
+  pub behind : (path : Path) (name : List ℕ) (node : Node) → fin.get m (path ++ name ∷ []) ≡ Some node → node.number ≢ 0
   pub numbered : (n : ℕ) (spot : Spot) → at n ≡ Some spot → spot.node.number ≡ n
   pub complete : (n : ℕ) (spot : Spot) → at n ≡ Some spot → has_number m n ≡ true
 
@@ -71,14 +72,14 @@ abbrev pub node_in : Option Spot → Option Node
 node_in spot = option_map (λ (s : Spot). s.node) spot
 
 -- where a path leads to from a node on
-abbrev pub walk : List (Option Spot) → Option Node → List (List ℕ) → Option Node
+abbrev pub walk : List (Option Spot) → Option Node → Path → Option Node
 walk spots at [] = at
 walk spots None (name ∷ path) = None
 walk spots (Some node) (name ∷ path) = walk spots (node_in (child spots node.number name)) path
 
 -- the map that has at each path what the path leads to from the root on; there is one at most
 abbrev pub Seen : List (Option Spot) → Type 0
-Seen spots = (nodes : Nodes) × ((path : List (List ℕ)) → fin.get nodes path ≡ walk spots (node_in (held spots 0)) path)
+Seen spots = (nodes : Nodes) × ((path : Path) → fin.get nodes path ≡ walk spots (node_in (held spots 0)) path)
 
 pub Seen-prop : (spots : List (Option Spot)) → IsProp (Seen spots)
 Seen-prop spots a b =

@@ -16,6 +16,7 @@ use Rattle.file_tree.specs.declared.nodes.Kind.{Kind}
 use Rattle.file_tree.specs.declared.nodes.Kind.TheVariants as kinds
 use Rattle.file_tree.specs.Tree.{Nodes, FileTree, number_at}
 use Rattle.file_tree.specs.Mounts.{Letters}
+use Rattle.file_tree.specs.Paths.{Path}
 
 -- the letter of a partition
 abbrev pub letter_of : Letters → Part → ℕ
@@ -37,7 +38,7 @@ abbrev pub told_node_of : Letters → ℕ → List ℕ → Node → told.Node
 told_node_of letters parent name node = record { parent = parent; uid = node.uid; name = name; times = node.times; readonly = node.readonly; kind = told_kind_of letters node.kind }
 
 -- the place of a path among paths, counted from 0
-abbrev pub place_of : List (List ℕ) → List (List (List ℕ)) → ℕ
+abbrev pub place_of : Path → List Path → ℕ
 place_of path [] = 0
 place_of path (first ∷ paths) = if same_path path first then 0 else place_of path paths + 1
 
@@ -48,7 +49,7 @@ name_or volume (Some name) = name
 
 -- What is told of the node at a path: the place of its directory's path among all paths, and the last name of its own.
 -- The root is in itself, and has the name of the volume.
-abbrev pub told_of : Letters → List ℕ → List (List (List ℕ)) → (List (List ℕ) × Node) → told.Node
+abbrev pub told_of : Letters → List ℕ → List Path → (Path × Node) → told.Node
 told_of letters volume paths e = told_node_of letters (place_of (parent_of e.0) paths) (name_or volume (last_name e.0)) e.1
 
 -- all nodes in the order of their paths, which is that of a document
@@ -60,7 +61,7 @@ told_nodes letters t = told_in letters t.name t.nodes
 
 -- at the number of each path stands the place of the path among all paths
 abbrev pub ArePlaces : Nodes → List ℕ → Type 0
-ArePlaces nodes places = (path : List (List ℕ)) (number : ℕ) → number_at nodes path ≡ Some number → IsAt places number (place_of path (fin.keys nodes))
+ArePlaces nodes places = (path : Path) (number : ℕ) → number_at nodes path ≡ Some number → IsAt places number (place_of path (fin.keys nodes))
 
 -- no number stands at two places
 abbrev pub AreApart : List ℕ → Type 0
@@ -72,11 +73,11 @@ below bound None = None
 below bound (Some number) = if nat_lt number bound then Some number else None
 
 -- the first path of a node with this number
-abbrev pub path_with : ℕ → List (List (List ℕ) × Node) → List (List ℕ)
+abbrev pub path_with : ℕ → List (Path × Node) → Path
 path_with number [] = []
 path_with number (e ∷ es) = if e.1.number == number then e.0 else path_with number es
 
 -- under the path stands this number now, and all others are as they were
-pub record PutsPath (before next : BTreeMap (List (List ℕ)) ℕ) (path : List (List ℕ)) (number : ℕ) : Type 0 where
+pub record PutsPath (before next : BTreeMap (Path) ℕ) (path : Path) (number : ℕ) : Type 0 where
   pub here : get path_cmp next path ≡ Some number
-  pub others : (q : List (List ℕ)) → (q ≡ path → ⊥) → get path_cmp next q ≡ get path_cmp before q
+  pub others : (q : Path) → (q ≡ path → ⊥) → get path_cmp next q ≡ get path_cmp before q

@@ -13,6 +13,7 @@ use Rattle.extent_map.specs.Cells.{Tape, file_cells}
 use Rattle.file_tree.specs.declared.nodes.Node.{Node}
 use Rattle.file_tree.specs.declared.nodes.Kind.{Kind}
 use Rattle.file_tree.specs.declared.nodes.Kind.TheVariants as kinds
+use Rattle.file_tree.specs.Paths.{Path}
 
 -- what stands at each path
 abbrev pub Nodes : Type 0
@@ -28,20 +29,20 @@ pub record FileTree : Type 0 where
   pub spare : ℕ
 
 -- the number of the node at a path
-abbrev pub number_at : Nodes → List (List ℕ) → Option ℕ
+abbrev pub number_at : Nodes → Path → Option ℕ
 number_at nodes path = option_map (λ (n : Node). n.number) (fin.get nodes path)
 
 -- each node at or below `from` stands at or below `to`, and all others stay
-abbrev pub moved : List (List ℕ) → List (List ℕ) → Nodes → Nodes
+abbrev pub moved : Path → Path → Nodes → Nodes
 moved from to nodes = fin.from_entries (map (λ e. (moved_path from to e.0, e.1)) (fin.entries nodes))
 
 -- at this path stands the node with this number
-abbrev pub StandsAt : FileTree → List (List ℕ) → ℕ → Type 0
+abbrev pub StandsAt : FileTree → Path → ℕ → Type 0
 StandsAt t path number = number_at t.nodes path ≡ Some number
 
 -- the node with this number is a file with these extents
 pub record HasExtents (nodes : Nodes) (number : ℕ) (room : Room) : Type 0 where
-  pub path : List (List ℕ)
+  pub path : Path
   pub node : Node
   pub there : fin.get nodes path ≡ Some node
   pub is : node.number ≡ number
@@ -49,7 +50,7 @@ pub record HasExtents (nodes : Nodes) (number : ℕ) (room : Room) : Type 0 wher
 
 -- the node with this number is a file that lies so
 pub record HasLaid (nodes : Nodes) (number : ℕ) (laid : Laid) : Type 0 where
-  pub path : List (List ℕ)
+  pub path : Path
   pub node : Node
   pub there : fin.get nodes path ≡ Some node
   pub is : node.number ≡ number

@@ -2,11 +2,14 @@ ghost use Rattle.std.specs.Prelude.{◌≡◌};
 ghost use Rattle.index_model.specs.declared.indexes.Index.{Index};
 ghost use Rattle.index_model.specs.Order.{AreInOrder};
 ghost use Rattle.index_model.specs.Valid.{Agrees};
+ghost use Rattle.file_tree.specs.Blocks.{BlocksMakeTheTree, EndsHold};
 ghost use Rattle.file_tree.specs.Edits.{RefusalsAreAlike};
+ghost use Rattle.file_tree.specs.Indexes.{IndexesComeBack};
 ghost use Rattle.file_tree.specs.Mounts.{Letters};
 ghost use Rattle.file_tree.specs.Told.{told_nodes};
 ghost use Rattle.file_tree.specs.Tree.{FileTree};
 ghost use Rattle.file_tree.specs.Valid.{IsGood};
+ghost use Rattle.file_tree.specs.Writes.{WritesAreWrites};
 
 /// What a call is refused goes by what stands on tape only where a byte is lost, and then the call would be refused
 /// nothing else.
@@ -19,4 +22,25 @@ pub fn refusals_are_alike()
 pub fn told_nodes_agree()
     ensures order { (letters : Letters) (t : FileTree) → IsGood t → AreInOrder (told_nodes letters t) }
     ensures agrees { (letters : Letters) (t : FileTree) → IsGood t → (index : Index) → index.nodes ≡ told_nodes letters t → index.highest ≡ t.highest → Agrees index }
+{}
+
+/// Two tapes that have the same bytes in the blocks of a tree give the same plain tree.
+pub fn blocks_make_the_tree()
+    ensures { BlocksMakeTheTree }
+{}
+
+/// What stands behind the ends of a tree's blocks isn't seen, and calls that are given blocks below the ends leave the
+/// tree below them.
+pub fn ends_hold()
+    ensures { EndsHold }
+{}
+
+/// An overlay over new blocks that hold the bytes of a write is the plain tree's write.
+pub fn writes_are_writes()
+    ensures { WritesAreWrites }
+{}
+
+/// The index that tells a tree is valid, can be mounted, and is mounted as that tree.
+pub fn indexes_come_back()
+    ensures { IndexesComeBack }
 {}

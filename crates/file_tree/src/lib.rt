@@ -19,6 +19,9 @@ mod told;
 mod tree;
 
 pub use found::Found;
-pub use laws::{refusals_are_alike, told_nodes_agree};
+pub use laws::{
+    blocks_make_the_tree, ends_hold, indexes_come_back, refusals_are_alike, told_nodes_agree,
+    writes_are_writes,
+};
 pub use raws::Letters;
 pub use tree::Tree;

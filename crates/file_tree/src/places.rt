@@ -47,6 +47,7 @@ impl Places {
     ghost use Rattle.std.specs.Prelude.{◌≡◌, ◌≢◌, ℕ, ◌+◌, ◌≤◌, nat_lt, length, List, [], ◌∷◌, ◌++◌, map, Some, OnOk, IfOk, IfErr};
     ghost use Rattle.std.specs.FinMap as fin;
     ghost use Rattle.file_tree.specs.declared.nodes.Node.{Node};
+    ghost use Rattle.file_tree.specs.Paths.{Path};
     ghost use Rattle.file_tree.specs.Tree.{number_at, moved, plain_nodes, whole};
     ghost use Rattle.extent_map.specs.Cells.{Tape};
     ghost use Rattle.plain_tree.specs.Tree.{entries_in};
@@ -73,7 +74,7 @@ impl Places {
 
     pub fn len(&self) -> u32
         ensures count { result ≡ fin.len self.now.nodes }
-        ensures apart { (p q : List (List ℕ)) (number : ℕ) → number_at self.now.nodes p ≡ Some number → number_at self.now.nodes q ≡ Some number → p ≡ q }
+        ensures apart { (p q : Path) (number : ℕ) → number_at self.now.nodes p ≡ Some number → number_at self.now.nodes q ≡ Some number → p ≡ q }
     {
         self.count
     }
@@ -81,7 +82,7 @@ impl Places {
     /// The node with a number.
     pub fn node(&self, number: u32) -> &Node
         requires { IsThere self.now.nodes number }
-        ensures { (path : List (List ℕ)) → number_at self.now.nodes path ≡ Some number → fin.get self.now.nodes path ≡ Some result.now }
+        ensures { (path : Path) → number_at self.now.nodes path ≡ Some number → fin.get self.now.nodes path ≡ Some result.now }
     {
         &spot_at(&self.spots, number).node
     }
@@ -89,9 +90,9 @@ impl Places {
     /// The number of the directory that a node is in.
     pub fn parent(&self, number: u32) -> u32
         requires { IsThere self.now.nodes number }
-        ensures parent { (path : List (List ℕ)) (name : List ℕ) → number_at self.now.nodes (path ++ name ∷ []) ≡ Some number → number_at self.now.nodes path ≡ Some result }
-        ensures above { (path : List (List ℕ)) → number_at self.now.nodes path ≡ Some number → number_at self.now.nodes (parent_of path) ≡ Some result }
-        ensures apart { (p q : List (List ℕ)) (n : ℕ) → number_at self.now.nodes p ≡ Some n → number_at self.now.nodes q ≡ Some n → p ≡ q }
+        ensures parent { (path : Path) (name : List ℕ) → number_at self.now.nodes (path ++ name ∷ []) ≡ Some number → number_at self.now.nodes path ≡ Some result }
+        ensures above { (path : Path) → number_at self.now.nodes path ≡ Some number → number_at self.now.nodes (parent_of path) ≡ Some result }
+        ensures apart { (p q : Path) (n : ℕ) → number_at self.now.nodes p ≡ Some n → number_at self.now.nodes q ≡ Some n → p ≡ q }
     {
         spot_at(&self.spots, number).parent
     }
@@ -99,7 +100,7 @@ impl Places {
     /// The name under which a node is in its directory.
     pub fn name(&self, number: u32) -> &Text
         requires { IsThere self.now.nodes number }
-        ensures { (path : List (List ℕ)) (name : List ℕ) → number_at self.now.nodes (path ++ name ∷ []) ≡ Some number → result.now ≡ name }
+        ensures { (path : Path) (name : List ℕ) → number_at self.now.nodes (path ++ name ∷ []) ≡ Some number → result.now ≡ name }
     {
         &spot_at(&self.spots, number).name
     }
@@ -123,7 +124,7 @@ impl Places {
     /// Puts in the path of a node.
     fn put_number(&self, paths: &mut Paths, alloc: Global, number: u32) -> Result<(), NoMemory>
         requires { IsThere self.now.nodes number }
-        ensures { OnOk result ((path : List (List ℕ)) × (number_at self.now.nodes path ≡ Some number) × PutsPath paths.old paths.new path number) }
+        ensures { OnOk result ((path : Path) × (number_at self.now.nodes path ≡ Some number) × PutsPath paths.old paths.new path number) }
     {
         let path = self.path(alloc, number)?;
         put_path(paths, path, number)
@@ -131,7 +132,7 @@ impl Places {
 
     /// The numbers of all nodes, by their paths.
     fn paths(&self, alloc: Global) -> Result<Paths, NoMemory>
-        ensures { IfOk result (λ paths. (path : List (List ℕ)) → get path_cmp paths path ≡ number_at self.now.nodes path) }
+        ensures { IfOk result (λ paths. (path : Path) → get path_cmp paths path ≡ number_at self.now.nodes path) }
     {
         let mut paths = BTreeMap::new(alloc);
         for spot in &self.spots {
@@ -153,7 +154,7 @@ impl Places {
     /// The last name of a node's path, or for the root that of the volume.
     fn name_told(&self, alloc: Global, number: u32, volume: &Text) -> Result<Text, NoMemory>
         requires { IsThere self.now.nodes number }
-        ensures { IfOk result (λ name. (path : List (List ℕ)) → number_at self.now.nodes path ≡ Some number → name ≡ name_or volume.now (last_name path)) }
+        ensures { IfOk result (λ name. (path : Path) → number_at self.now.nodes path ≡ Some number → name ≡ name_or volume.now (last_name path)) }
     {
         let _shown = &self.spots;
         if number == 0 {
@@ -173,7 +174,7 @@ impl Places {
     ) -> Result<ToldNode, NoMemory>
         requires there { IsThere self.now.nodes number }
         requires places { ArePlaces self.now.nodes places.now }
-        ensures { IfOk result (λ told. (path : List (List ℕ)) (node : Node) → fin.get self.now.nodes path ≡ Some node → node.number ≡ number → told ≡ told_of letters volume.now (fin.keys self.now.nodes) (path, node)) }
+        ensures { IfOk result (λ told. (path : Path) (node : Node) → fin.get self.now.nodes path ≡ Some node → node.number ≡ number → told ≡ told_of letters volume.now (fin.keys self.now.nodes) (path, node)) }
     {
         let name = self.name_told(alloc, number, volume)?;
         let parent = places[self.parent(number) as usize];
@@ -201,7 +202,7 @@ impl Places {
     /// The number of the node under a name in a directory.
     pub fn child(&self, dir: u32, name: &Text) -> Option<u32>
         requires { IsThere self.now.nodes dir }
-        ensures { (path : List (List ℕ)) → number_at self.now.nodes path ≡ Some dir → number_at self.now.nodes (path ++ name.now ∷ []) ≡ result }
+        ensures { (path : Path) → number_at self.now.nodes path ≡ Some dir → number_at self.now.nodes (path ++ name.now ∷ []) ≡ result }
     {
         child(&self.spots, dir, name)
     }
@@ -209,7 +210,7 @@ impl Places {
     /// Whether anything stands directly in a directory.
     pub fn has_entries(&self, dir: u32) -> bool
         requires { IsThere self.now.nodes dir }
-        ensures { (path : List (List ℕ)) → number_at self.now.nodes path ≡ Some dir → result ≡ nat_lt 0 (length (entries_in (plain_nodes whole self.now.nodes) path)) }
+        ensures { (path : Path) → number_at self.now.nodes path ≡ Some dir → result ≡ nat_lt 0 (length (entries_in (plain_nodes whole self.now.nodes) path)) }
     {
         any_in(&self.spots, dir)
     }
@@ -217,7 +218,7 @@ impl Places {
     /// What stands directly in a directory, by the bytes of the names.
     pub fn list(&self, alloc: Global, dir: u32) -> Result<List<Entry>, NoMemory>
         requires { IsThere self.now.nodes dir }
-        ensures { IfOk result (λ entries. (tape : Tape) (path : List (List ℕ)) → number_at self.now.nodes path ≡ Some dir → entries ≡ entries_in (plain_nodes tape self.now.nodes) path) }
+        ensures { IfOk result (λ entries. (tape : Tape) (path : Path) → number_at self.now.nodes path ≡ Some dir → entries ≡ entries_in (plain_nodes tape self.now.nodes) path) }
     {
         let names = names_in(alloc, &self.spots, dir)?;
         lines_of(alloc, &names)
@@ -249,8 +250,8 @@ impl Places {
     /// Puts a node under a name into a directory, and gives it a number that no node has. Takes no memory.
     pub fn put(&mut self, dir: u32, name: Text, node: Node) -> u32
         requires { CanPut self.old dir name }
-        ensures put { (path : List (List ℕ)) → number_at self.old.nodes path ≡ Some dir → self.new.nodes ≡ fin.insert self.old.nodes (path ++ name ∷ []) (record node { number = result }) }
-        ensures fresh { (path : List (List ℕ)) → number_at self.old.nodes path ≢ Some result }
+        ensures put { (path : Path) → number_at self.old.nodes path ≡ Some dir → self.new.nodes ≡ fin.insert self.old.nodes (path ++ name ∷ []) (record node { number = result }) }
+        ensures fresh { (path : Path) → number_at self.old.nodes path ≢ Some result }
         ensures room { self.old.spare ≤ self.new.spare + 1 }
     {
         let place = first_empty(&self.spots);
@@ -271,7 +272,7 @@ impl Places {
     /// Puts a node behind all others, under a name into a directory. Its number is the count of places before.
     pub fn append(&mut self, dir: u32, name: Text, node: Node) -> Result<(), NoMemory>
         requires { CanAppend self.old dir name }
-        ensures nodes { OnOk result ((path : List (List ℕ)) → number_at self.old.nodes path ≡ Some dir → self.new.nodes ≡ fin.insert self.old.nodes (path ++ name ∷ []) (record node { number = self.old.slots })) }
+        ensures nodes { OnOk result ((path : Path) → number_at self.old.nodes path ≡ Some dir → self.new.nodes ≡ fin.insert self.old.nodes (path ++ name ∷ []) (record node { number = self.old.slots })) }
         ensures slots { OnOk result (self.new.slots ≡ self.old.slots + 1) }
     {
         let number = self.spots.len() as u32;
@@ -287,8 +288,8 @@ impl Places {
     /// Takes out a node that has nothing in it.
     pub fn take(&mut self, number: u32)
         requires { CanTake self.old.nodes number }
-        ensures gone { (path : List (List ℕ)) → number_at self.new.nodes path ≢ Some number }
-        ensures taken { (path : List (List ℕ)) → number_at self.old.nodes path ≡ Some number → self.new.nodes ≡ fin.remove self.old.nodes path }
+        ensures gone { (path : Path) → number_at self.new.nodes path ≢ Some number }
+        ensures taken { (path : Path) → number_at self.old.nodes path ≡ Some number → self.new.nodes ≡ fin.remove self.old.nodes path }
         ensures room { self.new.spare ≡ self.old.spare }
     {
         take_spot(&mut self.spots, number);
@@ -298,7 +299,7 @@ impl Places {
     /// Moves a node, and all below it, under a name into a directory. Takes no memory.
     pub fn shift(&mut self, number: u32, dir: u32, name: Text)
         requires { CanShift self.old.nodes number dir name }
-        ensures shifted { (from up : List (List ℕ)) → number_at self.old.nodes from ≡ Some number → number_at self.old.nodes up ≡ Some dir → self.new.nodes ≡ moved from (up ++ name ∷ []) self.old.nodes }
+        ensures shifted { (from up : Path) → number_at self.old.nodes from ≡ Some number → number_at self.old.nodes up ≡ Some dir → self.new.nodes ≡ moved from (up ++ name ∷ []) self.old.nodes }
         ensures room { self.new.spare ≡ self.old.spare }
     {
         shift_spot(&mut self.spots, number, dir, name);
@@ -307,7 +308,7 @@ impl Places {
     /// Changes a node. Takes no memory.
     pub fn change(&mut self, number: u32, change: Change, at: Moment)
         requires there { IsThere self.old.nodes number }
-        requires can { (path : List (List ℕ)) (node : Node) → fin.get self.old.nodes path ≡ Some node → node.number ≡ number → CanChange change node }
+        requires can { (path : Path) (node : Node) → fin.get self.old.nodes path ≡ Some node → node.number ≡ number → CanChange change node }
         ensures changed { IsChangedAt self.old.nodes self.new.nodes number (λ a b. IsChangedBy change at a b) }
         ensures room { self.new.spare ≡ self.old.spare }
     {

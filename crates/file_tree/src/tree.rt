@@ -1,6 +1,7 @@
 ghost use Rattle.std.specs.Prelude.{◌≡◌, ℕ, ◌≤◌, List, Some, false};
 ghost use Rattle.extent_map.specs.Laid.{Room};
 ghost use Rattle.plain_tree.specs.Tree.{times_at};
+ghost use Rattle.file_tree.specs.Paths.{Path};
 ghost use Rattle.file_tree.specs.Tree.{HasExtents, number_at};
 ghost use Rattle.file_tree.specs.Edits.{IsNewKind, IsLongAt};
 
@@ -58,6 +59,7 @@ impl Tree {
     ghost use Rattle.extent_map.specs.Cells.{Tape};
     ghost use Rattle.plain_tree.specs.declared.calls.Call.TheVariants as asks;
     ghost use Rattle.plain_tree.specs.Paths.{moved_path};
+    ghost use Rattle.file_tree.specs.Paths.{Path};
     ghost use Rattle.file_tree.specs.Tree.{StandsAt, HasExtents, HasLaid, plain_of, whole};
     ghost use Rattle.plain_tree.specs.declared.nodes.Node.{Node as PlainNode};
     ghost use Rattle.plain_tree.specs.Tree.{entries_in, facts_of};
@@ -66,7 +68,8 @@ impl Tree {
     ghost use Rattle.file_tree.specs.Mounts.{CanMount, IsTreeOf};
     ghost use Rattle.file_tree.specs.Reads.{IsFound, refusal_found, IsOfSort};
     ghost use Rattle.file_tree.specs.Told.{told_nodes};
-    ghost use Rattle.file_tree.specs.Valid.{IsFileOf};
+    ghost use Rattle.file_tree.specs.Valid.{IsFileOf, IsGood};
+    ghost use Rattle.file_tree.specs.Blocks.{AddsNoBlock, AddsBlocksOf};
     ghost use Rattle.file_tree.specs.Edits.{CanMake, CanUnlink, CanMoveTo, CanWrite, IsAfter, IsWritten, IsTruncated, NumbersCome, AllLie, OthersLie, KeepsVolume};
 
     /// The tree of a valid index. The letters are those of the index partition and the data partition, and each block of
@@ -102,7 +105,7 @@ impl Tree {
     /// How many nodes there are, the root among them.
     pub fn count(&self) -> u32
         ensures count { result ≡ fin.len self.now.nodes }
-        ensures apart { (p q : List (List ℕ)) (number : ℕ) → StandsAt self.now p number → StandsAt self.now q number → p ≡ q }
+        ensures good { IsGood self.now }
     {
         self.places.len()
     }
@@ -129,7 +132,7 @@ impl Tree {
     /// The facts of a node.
     pub fn facts(&self, alloc: Global, number: u32) -> Result<Facts, NoMemory>
         requires { IsThere self.now.nodes number }
-        ensures { IfOk result (λ facts. (tape : Tape) (path : List (List ℕ)) (node : PlainNode) → StandsAt self.now path number → fin.get (plain_of tape self.now).nodes path ≡ Some node → facts ≡ facts_of node) }
+        ensures { IfOk result (λ facts. (tape : Tape) (path : Path) (node : PlainNode) → StandsAt self.now path number → fin.get (plain_of tape self.now).nodes path ≡ Some node → facts ≡ facts_of node) }
     {
         facts_of(alloc, self.places.node(number))
     }
@@ -137,7 +140,7 @@ impl Tree {
     /// Whether anything stands directly in a directory.
     pub fn has_entries(&self, dir: u32) -> bool
         requires { IsThere self.now.nodes dir }
-        ensures { (path : List (List ℕ)) → StandsAt self.now path dir → result ≡ nat_lt 0 (length (entries_in (plain_of whole self.now).nodes path)) }
+        ensures { (path : Path) → StandsAt self.now path dir → result ≡ nat_lt 0 (length (entries_in (plain_of whole self.now).nodes path)) }
     {
         self.places.has_entries(dir)
     }
@@ -145,7 +148,7 @@ impl Tree {
     /// What stands directly in a directory, by the bytes of the names.
     pub fn children(&self, alloc: Global, dir: u32) -> Result<List<Entry>, NoMemory>
         requires { IsThere self.now.nodes dir }
-        ensures { IfOk result (λ entries. (tape : Tape) (path : List (List ℕ)) → StandsAt self.now path dir → entries ≡ entries_in (plain_of tape self.now).nodes path) }
+        ensures { IfOk result (λ entries. (tape : Tape) (path : Path) → StandsAt self.now path dir → entries ≡ entries_in (plain_of tape self.now).nodes path) }
     {
         self.places.list(alloc, dir)
     }
@@ -184,13 +187,16 @@ impl Tree {
     pub fn make(&mut self, dir: u32, name: Text, sort: Sort, at: Moment) -> u32
         requires { CanMake self.old dir name sort }
         ensures plain { (c : CanMake self.old dir name sort) → IsAfter c.call at self.old self.new }
-        ensures number { (path : List (List ℕ)) → StandsAt self.old path dir → StandsAt self.new (path ++ name ∷ []) result }
+        ensures number { (path : Path) → StandsAt self.old path dir → StandsAt self.new (path ++ name ∷ []) result }
         ensures numbers { NumbersCome (λ p. p) self.old self.new }
-        ensures extents { AllLie self.old self.new }
+        ensures fresh { (path : Path) → StandsAt self.old path result → ⊥ }
+        ensures extents { OthersLie result self.old self.new }
+        ensures blocks { AddsNoBlock self.old self.new }
         ensures empty { sort ≡ Sort.File → HasLaid self.new.nodes result (record { block_size = self.old.block_size; length = 0; extents = [] }) }
         ensures volume { KeepsVolume self.old self.new }
         ensures room { self.old.spare ≤ self.new.spare + 1 }
     {
+        let _is_text = name.as_str();
         let uid = self.highest + 1;
         let kind = new_kind(self.alloc, sort, self.block_size);
         let node = new_node(uid, kind, at);
@@ -203,10 +209,11 @@ impl Tree {
     /// Takes out a file, a link or an empty directory. Takes no memory.
     pub fn unlink(&mut self, number: u32, at: Moment)
         requires { CanUnlink self.old number }
-        ensures plain { (path : List (List ℕ)) → StandsAt self.old path number → IsAfter (asks.Remove path) at self.old self.new }
-        ensures gone { (path : List (List ℕ)) → StandsAt self.new path number → ⊥ }
-        ensures numbers { (path : List (List ℕ)) (other : ℕ) → other ≢ number → StandsAt self.old path other → StandsAt self.new path other }
+        ensures plain { (path : Path) → StandsAt self.old path number → IsAfter (asks.Remove path) at self.old self.new }
+        ensures gone { (path : Path) → StandsAt self.new path number → ⊥ }
+        ensures numbers { (path : Path) (other : ℕ) → other ≢ number → StandsAt self.old path other → StandsAt self.new path other }
         ensures extents { OthersLie number self.old self.new }
+        ensures blocks { AddsNoBlock self.old self.new }
         ensures volume { KeepsVolume self.old self.new }
         ensures room { self.new.spare ≡ self.old.spare }
     {
@@ -218,12 +225,14 @@ impl Tree {
     /// Moves a node, and all below it, under a name into a directory. Takes no memory.
     pub fn move_to(&mut self, number: u32, dir: u32, name: Text, at: Moment)
         requires { CanMoveTo self.old number dir name }
-        ensures plain { (from up : List (List ℕ)) → StandsAt self.old from number → StandsAt self.old up dir → IsAfter (asks.Rename from (up ++ name ∷ [])) at self.old self.new }
-        ensures numbers { (from up : List (List ℕ)) → StandsAt self.old from number → StandsAt self.old up dir → NumbersCome (moved_path from (up ++ name ∷ [])) self.old self.new }
+        ensures plain { (from up : Path) → StandsAt self.old from number → StandsAt self.old up dir → IsAfter (asks.Rename from (up ++ name ∷ [])) at self.old self.new }
+        ensures numbers { (from up : Path) → StandsAt self.old from number → StandsAt self.old up dir → NumbersCome (moved_path from (up ++ name ∷ [])) self.old self.new }
         ensures extents { AllLie self.old self.new }
+        ensures blocks { AddsNoBlock self.old self.new }
         ensures volume { KeepsVolume self.old self.new }
         ensures room { self.new.spare ≡ self.old.spare }
     {
+        let _is_text = name.as_str();
         let old = self.places.parent(number);
         self.places.shift(number, dir, name);
         self.places.change(number, Change::Note, at);
@@ -249,6 +258,7 @@ impl Tree {
         ensures plain { (tape : Tape) → plain_of tape self.new ≡ plain_of tape self.old }
         ensures numbers { NumbersCome (λ p. p) self.old self.new }
         ensures extents { AllLie self.old self.new }
+        ensures blocks { AddsNoBlock self.old self.new }
         ensures room { OnOk result ((room : Room) → HasExtents self.new.nodes file room → 2 ≤ room.spare) }
         ensures volume { KeepsVolume self.old self.new }
         ensures spare { self.new.spare ≡ self.old.spare }
@@ -264,6 +274,7 @@ impl Tree {
         ensures numbers { NumbersCome (λ p. p) self.old self.new }
         ensures extents { (laid : Laid) → HasLaid self.old.nodes file laid → HasLaid self.new.nodes file (overlaid laid new) }
         ensures others { OthersLie file self.old self.new }
+        ensures blocks { AddsBlocksOf new self.old self.new }
         ensures volume { KeepsVolume self.old self.new }
         ensures room { self.new.spare ≡ self.old.spare }
     {
@@ -279,6 +290,7 @@ impl Tree {
         ensures numbers { NumbersCome (λ p. p) self.old self.new }
         ensures extents { (laid : Laid) → HasLaid self.old.nodes file laid → HasLaid self.new.nodes file (if length == laid.length then laid else resized laid length) }
         ensures others { OthersLie file self.old self.new }
+        ensures blocks { AddsNoBlock self.old self.new }
         ensures volume { KeepsVolume self.old self.new }
         ensures room { self.new.spare ≡ self.old.spare }
     {
@@ -291,7 +303,7 @@ impl Tree {
 /// The length of a file, in bytes.
 fn length_of(places: &Places, file: u32) -> u64
     requires { (room : Room) × HasExtents places.now.nodes file room }
-    ensures { (path : List (List ℕ)) → number_at places.now.nodes path ≡ Some file → IsLongAt places.now.nodes path result }
+    ensures { (path : Path) → number_at places.now.nodes path ≡ Some file → IsLongAt places.now.nodes path result }
 {
     match &places.node(file).kind {
         Kind::File(extents) => extents.length(),

@@ -1,34 +1,22 @@
 -- An index has one plain tree.
-use Rattle.std.proofs.Common.{◌≡◌, ℕ, ◌<◌, List, [], ◌∷◌, ◌++◌, Option, Some, None, length, refl, sym, ap, subst, ◌∙◌, arith}
+use Rattle.std.proofs.Common.{◌≡◌, ℕ, List, Option, Some, None, length, refl, sym, ap, ◌∙◌}
 use Rattle.std.specs.FinMap as fin
 use Rattle.std.specs.Option.{option_map}
 use Rattle.index_model.specs.declared.indexes.Index.{Index}
 use Rattle.index_model.specs.declared.nodes.Kind as told_kind
 use Rattle.index_model.specs.declared.nodes.Kind.TheVariants as told_kinds
 use Rattle.index_model.specs.declared.nodes.Node as told
-use Rattle.index_model.specs.Places.{IsAt}
-use Rattle.plain_tree.specs.declared.nodes.Kind as plain_kind
 use Rattle.plain_tree.specs.declared.nodes.Kind.TheVariants as plain_kinds
 use Rattle.plain_tree.specs.declared.nodes.Node as plain_node
-use Rattle.extent_map.specs.Laid.{Laid, Room}
+use Rattle.extent_map.specs.Laid.{Laid}
 use Rattle.extent_map.specs.Cells.{Tape, file_cells}
 use Rattle.file_tree.specs.declared.nodes.Kind.{Kind}
 use Rattle.file_tree.specs.declared.nodes.Node.{Node}
-use Rattle.file_tree.specs.Mounts.{Letters, IsBuilt, IsKindOf, IsNodeOf, IsPathOf, IsTreeOf, root, below}
+use Rattle.file_tree.specs.Mounts.{Letters, IsBuilt, IsKindOf, IsNodeOf, IsTreeOf}
 use Rattle.file_tree.specs.Tree.{FileTree, Nodes, plain_kind_of, plain_node_of, plain_nodes, plain_of}
-use Rattle.file_tree.proofs.PathLemmas.{same_nodes, some_same}
+use Rattle.file_tree.proofs.MountLemmas.{at_path, told_at}
+use Rattle.file_tree.proofs.PathLemmas.{same_nodes}
 use Rattle.file_tree.proofs.PlainLemmas.{plain_get}
-
--- a place has one path
-path_once : (nodes : List told.Node) (at to : ℕ) (p q : List (List ℕ)) → at ≡ to → IsPathOf nodes at p → IsPathOf nodes to q → p ≡ q
-path_once nodes _ _ _ _ e root root = refl
-path_once nodes _ _ _ _ e root (below to node front some is way) = absurd (omega (arith, some, e))
-path_once nodes _ _ _ _ e (below at node front some is way) root = absurd (omega (arith, some, e))
-path_once nodes _ _ _ _ e (below at node front some is way) (below to other back more also path) =
-    let same : node ≡ other = some_same node other (sym (subst (λ k. IsAt nodes k node) e is) ∙ also) in
-    let parents : node.parent ≡ other.parent = ap (λ (n : told.Node). n.parent) same in
-    ap (λ p. p ++ node.name ∷ []) (path_once nodes node.parent other.parent front back parents way path)
-    ∙ ap (λ (n : told.Node). back ++ n.name ∷ []) same
 
 module _ (tape : Tape) (letters : Letters) (size : ℕ) where
   kind_once : (kind : told_kind.Kind) (a b : Kind) → IsKindOf letters size kind a → IsKindOf letters size kind b
@@ -48,22 +36,14 @@ module _ (tape : Tape) (letters : Letters) (size : ℕ) where
       λ i. record { uid = uid i; times = times i; readonly = readonly i; kind = kind i }
 
   module _ (nodes : List told.Node) (before : ℕ) where
-    -- the node at a place stands at its path
-    at_path : (m : Nodes) → IsBuilt letters size nodes before m → (at : ℕ) (node : told.Node) (p : List (List ℕ)) → at < before
-        → IsAt nodes at node → IsPathOf nodes at p → (n : Node) × (fin.get m p ≡ Some n) × IsNodeOf letters size node n
-    at_path m b at node p early is way =
-        let s = b.each at node early is in
-        (s.n, ap (fin.get m) (sym (path_once nodes at at s.path p refl s.path_is way)) ∙ s.there, s.same)
-
     -- what stands at a path in one map stands there in another
     there_too : (m o : Nodes) → IsBuilt letters size nodes before m → IsBuilt letters size nodes before o → (p : List (List ℕ)) (n : Node)
         → fin.get m p ≡ Some n → (k : Node) × (fin.get o p ≡ Some k) × (plain_node_of tape n ≡ plain_node_of tape k)
     there_too m o b c p n is =
         let t = b.others p n is in
-        let here = at_path m b n.number t.node p t.early t.is t.path_is in
-        let there = at_path o c n.number t.node p t.early t.is t.path_is in
-        let same : here.0 ≡ n = some_same here.0 n (sym here.1 ∙ is) in
-        (there.0, there.1, ap (plain_node_of tape) (sym same) ∙ node_once t.node here.0 there.0 here.2 there.2)
+        let here = told_at letters size nodes before m b p n is in
+        let there = at_path letters size nodes before o c n.number here.0 p t.early here.1 here.2 in
+        (there.0, there.1, node_once here.0 n there.0 here.3 there.3)
 
     get_once : (m o : Nodes) → IsBuilt letters size nodes before m → IsBuilt letters size nodes before o → (p : List (List ℕ))
         → option_map (plain_node_of tape) (fin.get m p) ≡ option_map (plain_node_of tape) (fin.get o p)

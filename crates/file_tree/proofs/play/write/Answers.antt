@@ -20,4 +20,4 @@ overlay-requires c =
     let long : c.len-count.result ≡ length c.args.bytes.now = search rules in
     let some : 1 ≤ c.len-count.result = omega (arith, c.if-count-eq0.false) in
     let fits = (long_free (plain_of whole c.args.tree.now) c.args.path.now (c.args.offset + length c.args.bytes.now) c.requires).1 in
-    can_write c.reserve_extent.new.self c.in-Node.file c.extents.result.now new c.extents.ensures.extents c.extents.ensures.laid c.in_ok-reserve_extent.ensures.room some (omega (arith, long, fits)) (search rules) (omega (arith, c.if-block-ge-MOST_BLOCKS.false))
+    can_write c.reserve_extent.new.self c.in-Node.file c.extents.result.now new c.extents.ensures.extents c.extents.ensures.laid c.in_ok-reserve_extent.ensures.room some (omega (arith, long, fits)) (search rules) (omega (arith, c.if-block-ge-MOST_BLOCKS.false, long, fits))

@@ -1,0 +1,64 @@
+-- The index that tells a tree: that it is valid, and that the tree comes back of it.
+use Rattle.std.specs.Prelude.{◌≡◌, ◌≢◌, ℕ, ◌<◌, ◌≤◌, ◌^◌, Option, IfSome}
+use Rattle.std.specs.Option.{option_map}
+use Rattle.std.specs.FinMap as fin
+use Rattle.index_model.specs.declared.indexes.Index.{Index}
+use Rattle.index_model.specs.Texts.{IsLetter, IsPlainText}
+use Rattle.index_model.specs.Valid.{IsSpot, IsPolicy, IsValid}
+use Rattle.extent_map.specs.Cells.{Tape}
+use Rattle.file_tree.specs.declared.nodes.Node.{Node}
+use Rattle.file_tree.specs.declared.nodes.Kind.{Kind}
+use Rattle.file_tree.specs.declared.nodes.Kind.TheVariants as kinds
+use Rattle.file_tree.specs.Paths.{Path}
+use Rattle.file_tree.specs.Tree.{FileTree, plain_of}
+use Rattle.file_tree.specs.Mounts.{Letters, CanMount, IsTreeOf}
+use Rattle.file_tree.specs.Told.{told_nodes}
+use Rattle.file_tree.specs.Valid.{IsGood}
+
+-- the index has the nodes of the tree, and its highest uid
+pub record TellsTree (letters : Letters) (t : FileTree) (index : Index) : Type 0 where
+  pub nodes : index.nodes ≡ told_nodes letters t
+  pub highest : index.highest ≡ t.highest
+
+-- what an index tells of its volume besides is such as it may be
+pub record IsFitVolume (index : Index) : Type 0 where
+  pub creator : IsPlainText index.creator
+  pub comment : IfSome index.comment IsPlainText
+  pub uuid : index.uuid < 2 ^ 128
+  pub generation_least : 1 ≤ index.generation
+  pub generation_most : index.generation ≤ 2 ^ 62
+  pub here : IsSpot index.here
+  pub back : IfSome index.back IsSpot
+  pub policy : IfSome index.policy IsPolicy
+
+-- two letters of partitions
+pub record AreLetters (letters : Letters) : Type 0 where
+  pub ip : IsLetter letters.0
+  pub dp : IsLetter letters.1
+
+abbrev pub without_room : Kind → Kind
+without_room kinds.Dir = kinds.Dir
+without_room (kinds.File room) = kinds.File (record { laid = room.laid; spare = 0 })
+without_room (kinds.Link text) = kinds.Link text
+
+-- a node without what an index doesn't tell: its number, and for how many extents more there is memory
+abbrev pub as_told : Node → Node
+as_told node = record node { number = 0; kind = without_room node.kind }
+
+-- both trees have the same name and blocks, and at each path the same node, but for its number
+pub record IsSameTree (t other : FileTree) : Type 0 where
+  pub highest : other.highest ≡ t.highest
+  pub name : other.name ≡ t.name
+  pub block_size : other.block_size ≡ t.block_size
+  pub nodes : (path : Path) → option_map as_told (fin.get other.nodes path) ≡ option_map as_told (fin.get t.nodes path)
+
+-- The index that tells a tree is valid, can be mounted, and is mounted as that tree: also its plain tree is the same,
+-- whatever stands on tape.
+pub record IndexesComeBack : Type 0 where
+  pub valid : (letters : Letters) (t : FileTree) (index : Index)
+      → IsGood t → AreLetters letters → TellsTree letters t index → IsFitVolume index → IsValid index
+  pub mounts : (letters : Letters) (t : FileTree) (index : Index)
+      → IsGood t → letters.0 ≢ letters.1 → TellsTree letters t index → IsValid index → CanMount index letters t.block_size
+  pub same : (letters : Letters) (t other : FileTree) (index : Index)
+      → IsGood t → letters.0 ≢ letters.1 → TellsTree letters t index → IsTreeOf letters t.block_size index other → IsSameTree t other
+  pub plain : (tape : Tape) (t other : FileTree) → IsSameTree t other → plain_of tape other ≡ plain_of tape t

@@ -1,0 +1,71 @@
+-- Labels, indexes and extents by hand, on which the definitions are tried.
+use Rattle.std.specs.Prelude.{ℕ, List, [], ◌∷◌, false, Option, Some, None}
+use Rattle.tape_types.specs.declared.cartridges.Cartridge.{Cartridge}
+use Rattle.tape_types.specs.declared.cartridges.Note.TheVariants.{Absent}
+use Rattle.tape_content.specs.Readings.{Construct}
+use Rattle.tape_content.specs.Worked.{empty_dp, first_index, second_index, synced_dp}
+use Rattle.index_model.specs.declared.indexes.Index.{Index}
+use Rattle.index_model.specs.declared.indexes.Spot.{Spot}
+use Rattle.index_model.specs.declared.nodes.RawExtent.{RawExtent}
+use Rattle.ltfs_label.specs.declared.Label.{Label}
+use Rattle.ltfs_label.specs.Values.{LabelValue, epoch}
+
+-- the volume of the index partition `a` and the data partition `b`, with blocks of 4,096 bytes
+abbrev pub label : Label
+label = record {
+  creator = [];
+  formatted = epoch;
+  uuid = 7;
+  location = 97;
+  index = 97;
+  dpart = 98;
+  block = 4096;
+  compression = false;
+}
+
+-- the block at a position of the one or the other partition
+abbrev pub on_a : ℕ → Spot
+on_a block = record { letter = 97; block = block }
+
+abbrev pub on_b : ℕ → Spot
+on_b block = record { letter = 98; block = block }
+
+-- an index of this generation, which says that it stands there, and points back
+abbrev pub index : ℕ → Spot → Option Spot → Index
+index generation here back = record {
+  creator = [];
+  comment = None;
+  uuid = 7;
+  generation = generation;
+  updated = epoch;
+  here = here;
+  back = back;
+  allow = false;
+  policy = None;
+  lock = None;
+  highest = 1;
+  nodes = [];
+}
+
+-- the indexes of a data partition that has two, and what the last of them reads as
+abbrev pub two : List Construct
+two = second_index ∷ first_index ∷ []
+
+abbrev pub last : Index
+last = index 2 (on_b 9) (Some (on_b 5))
+
+-- a third index
+abbrev pub third_index : Construct
+third_index = record { mark = 11; blocks = (7 ∷ []) ∷ [] }
+
+-- an index partition with one index, and a data partition with two
+abbrev pub cartridge : Cartridge
+cartridge = record { ip = empty_dp; dp = synced_dp; vcr = 3; note_ip = Absent; note_dp = Absent }
+
+-- an extent at a byte of a block of the partition with this letter
+abbrev pub extent : (letter block byte count : ℕ) → RawExtent
+extent letter block byte count = record { offset = 0; letter = letter; block = block; byte = byte; count = count }
+
+-- the same label in the data partition
+abbrev pub in_data : LabelValue → LabelValue
+in_data v = record v { location = 98 }

@@ -1,0 +1,89 @@
+//! Indexes and extents by hand, on which the definitions are tried.
+
+ghost use Rattle.std.specs.Prelude.{◌≡◌, ℕ, List, [], ◌∷◌, true, Some, None};
+ghost use Rattle.tape_types.specs.declared.cartridges.Item.TheVariants.{Block, Mark, Torn};
+ghost use Rattle.ltfs_label.specs.Values.{label_of};
+ghost use Rattle.tape_meaning.specs.Labels.{AreOfOneVolume, HasSomeLabel, HasSomeRecord};
+ghost use Rattle.tape_types.specs.declared.cartridges.Part.TheVariants.{Ip, Dp};
+ghost use Rattle.index_model.specs.declared.nodes.Kind.TheVariants.{File};
+ghost use Rattle.tape_meaning.specs.Meaning.{Fits, FitsKind};
+ghost use Rattle.tape_meaning.specs.Mounts.{chosen_place, last_place};
+ghost use Rattle.tape_meaning.specs.Pointers.{PointsBack, PointsOnDp, PointsOnIp, chosen, last_block, newest_spot};
+ghost use Rattle.tape_content.specs.Worked.{first_index, second_index};
+ghost use Rattle.tape_meaning.specs.Worked.{cartridge, extent, in_data, index, label, last, on_a, on_b, third_index, two};
+
+/// Which index is chosen, and where it stands: that of the greater generation, and on a tie the data partition's.
+pub fn the_definitions_tell_the_choice()
+    ensures tie { chosen (Some (index 2 (on_a 5) None)) (Some last) ≡ Some last }
+    ensures newer_ip { chosen (Some (index 3 (on_a 5) None)) (Some last) ≡ Some (index 3 (on_a 5) None) }
+    ensures newer_dp { chosen (Some (index 1 (on_a 5) None)) (Some last) ≡ Some last }
+    ensures no_ip { chosen None (Some last) ≡ Some last }
+    ensures no_dp { chosen (Some (index 2 (on_a 5) None)) None ≡ Some (index 2 (on_a 5) None) }
+    ensures tie_place { chosen_place (Some (index 2 (on_a 5) None)) (Some last) cartridge
+        ≡ Some (record { part = Dp; pos = 9 }) }
+    ensures newer_ip_place { chosen_place (Some (index 3 (on_a 5) None)) (Some last) cartridge
+        ≡ Some (record { part = Ip; pos = 5 }) }
+    ensures no_ip_place { chosen_place None (Some last) cartridge ≡ Some (record { part = Dp; pos = 9 }) }
+    ensures no_dp_place { chosen_place (Some (index 2 (on_a 5) None)) None cartridge ≡ Some (record { part = Ip; pos = 5 }) }
+{}
+
+/// Where an index points to.
+pub fn the_definitions_tell_pointers()
+    ensures last { last_block two ≡ Some 9 }
+    ensures newest { newest_spot label two ≡ Some (on_b 9) }
+    ensures dp { PointsOnDp label second_index (first_index ∷ []) (index 2 (on_b 9) (Some (on_b 5))) }
+    ensures dp_first { PointsOnDp label first_index [] (index 1 (on_b 5) None) }
+    ensures dp_elsewhere { ¬ PointsOnDp label second_index (first_index ∷ []) (index 2 (on_b 8) (Some (on_b 5))) }
+    ensures dp_on_ip { ¬ PointsOnDp label second_index (first_index ∷ []) (index 2 (on_a 9) (Some (on_b 5))) }
+    ensures dp_skips { ¬ PointsOnDp label third_index two (index 3 (on_b 12) (Some (on_b 5))) }
+    ensures dp_none { ¬ PointsOnDp label second_index (first_index ∷ []) (index 2 (on_b 9) None) }
+    ensures ip { PointsOnIp label first_index two (Some last) (index 2 (on_a 5) (Some (on_b 9))) }
+    ensures ip_on_dp { ¬ PointsOnIp label first_index two (Some last) (index 2 (on_b 5) (Some (on_b 9))) }
+{}
+
+/// Where an index of the index partition points back to, by its generation.
+pub fn the_definitions_tell_back_pointers()
+    ensures equal { PointsBack label (index 2 (on_a 5) (Some (on_b 9))) two (Some last) }
+    ensures equal_older { ¬ PointsBack label (index 2 (on_a 5) (Some (on_b 5))) two (Some last) }
+    ensures newer { PointsBack label (index 3 (on_a 5) (Some (on_b 9))) two (Some last) }
+    ensures newer_older { ¬ PointsBack label (index 3 (on_a 5) (Some (on_b 5))) two (Some last) }
+    ensures older { PointsBack label (index 1 (on_a 5) (Some (on_b 5))) two (Some last) }
+    ensures older_last { PointsBack label (index 1 (on_a 5) (Some (on_b 9))) two (Some last) }
+    ensures older_mark { ¬ PointsBack label (index 1 (on_a 5) (Some (on_b 8))) two (Some last) }
+    ensures older_on_ip { ¬ PointsBack label (index 1 (on_a 5) (Some (on_a 5))) two (Some last) }
+    ensures older_none { ¬ PointsBack label (index 1 (on_a 5) None) two (Some last) }
+    ensures no_dp { PointsBack label (index 1 (on_a 5) None) [] None }
+    ensures no_dp_back { ¬ PointsBack label (index 1 (on_a 5) (Some (on_b 5))) [] None }
+{}
+
+/// Which extents lie before the ends, 8 of the index partition and 11 of the data partition.
+pub fn the_definitions_tell_extents()
+    ensures to_the_end { Fits label 8 11 (extent 98 9 0 8192) }
+    ensures past_the_end { ¬ Fits label 8 11 (extent 98 9 0 8193) }
+    ensures begun_later { ¬ Fits label 8 11 (extent 98 9 1 8192) }
+    ensures to_its_own_end { Fits label 8 11 (extent 97 7 0 4096) }
+    ensures to_the_other_end { ¬ Fits label 8 11 (extent 97 9 0 8192) }
+    ensures behind_labels { Fits label 8 11 (extent 98 4 0 1) }
+    ensures in_labels { ¬ Fits label 8 11 (extent 98 3 0 1) }
+    ensures past_a_block { ¬ Fits label 8 11 (extent 98 4 4096 1) }
+    ensures other_letter { ¬ Fits label 8 11 (extent 99 4 0 1) }
+    ensures no_bytes { FitsKind label 8 11 (File 0 (extent 99 3 4096 0 ∷ [])) }
+    ensures some_byte { ¬ FitsKind label 8 11 (File 0 (extent 99 3 4096 1 ∷ [])) }
+{}
+
+/// Which labels are of one volume: those that differ in their location alone.
+pub fn the_definitions_tell_labels()
+    ensures both { AreOfOneVolume (label_of label) (in_data (label_of label)) }
+    ensures both_in_index { ¬ AreOfOneVolume (label_of label) (label_of label) }
+    ensures turned { ¬ AreOfOneVolume (in_data (label_of label)) (label_of label) }
+    ensures one_letter { ¬ AreOfOneVolume (record (label_of label) { dpart = 97 }) (record (label_of label) { dpart = 97 }) }
+    ensures other_uuid { ¬ AreOfOneVolume (label_of label) (record (in_data (label_of label)) { uuid = 8 }) }
+    ensures other_blocks { ¬ AreOfOneVolume (label_of label) (record (in_data (label_of label)) { block = 8192 }) }
+    ensures other_index { ¬ AreOfOneVolume (label_of label) (record (in_data (label_of label)) { index = 99 }) }
+    ensures other_data { ¬ AreOfOneVolume (label_of label) (record (in_data (label_of label)) { dpart = 99; location = 99 }) }
+    ensures other_compression { ¬ AreOfOneVolume (label_of label) (record (in_data (label_of label)) { compression = true }) }
+    ensures other_creator { ¬ AreOfOneVolume (label_of label) (record (in_data (label_of label)) { creator = 65 ∷ [] }) }
+    ensures no_mark { (bytes text : List ℕ) → ¬ HasSomeLabel (Block bytes ∷ Mark ∷ Block text ∷ Block text ∷ []) }
+    ensures no_label { (bytes : List ℕ) → ¬ HasSomeLabel (Block bytes ∷ Mark ∷ Mark ∷ Mark ∷ []) }
+    ensures no_first_mark { (bytes : List ℕ) → ¬ HasSomeRecord (Block bytes ∷ Torn ∷ []) }
+{}
