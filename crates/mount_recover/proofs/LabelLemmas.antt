@@ -13,10 +13,11 @@ use Rattle.ltfs_label.proofs.Once.{one_value}
 use Rattle.ltfs_label.proofs.Trees.{spelled_read}
 use Rattle.ltfs_label.specs.Grammar.{LabelText}
 use Rattle.ltfs_label.specs.Values.{LabelValue, label_of}
-use Rattle.mount_recover.specs.declared.labels.Labels.{Labels}
-use Rattle.mount_recover.specs.declared.labels.MountErr.{MountErr}
-use Rattle.mount_recover.specs.declared.labels.MountErr.TheVariants as errors
-use Rattle.mount_recover.specs.Labels.{AreOfOneVolume, Fails, HasLabel, HasLabels, HasRecord, HasSomeLabel, HasSomeRecord, IsReadAs, Refuses}
+use Rattle.tape_meaning.specs.declared.labels.Labels.{Labels}
+use Rattle.tape_meaning.specs.declared.errors.MountErr.{MountErr}
+use Rattle.tape_meaning.specs.declared.errors.MountErr.TheVariants as errors
+use Rattle.tape_meaning.specs.Labels.{AreOfOneVolume, HasLabel, HasLabels, HasRecord}
+use Rattle.mount_recover.specs.Labels.{Fails, IsReadAs, Refuses}
 use Rattle.mount_recover.proofs.ReadLemmas.{same_block}
 
 -- two moments of one date and time of day have one text, and so are one
@@ -29,29 +30,11 @@ pub where_told : (o : Option Cartridge) (P : Cartridge → Type 0) → ((c : Car
 where_told None P holds = tt
 where_told (Some c) P holds = holds c refl
 
-pub dp_record_fails : (c : Cartridge) (e : MountErr) → HasSomeRecord c.ip → Refuses (errors.Vol1 parts.Dp) (¬ HasSomeRecord c.dp) e → Fails c e
-dp_record_fails c (errors.Vol1 parts.Ip) first r = absurd (let bad = r.0 in cc bad)
-dp_record_fails c (errors.Vol1 parts.Dp) first r = (first, r.1)
-dp_record_fails c (errors.Label part) first r = absurd (let bad = r.0 in cc bad)
-dp_record_fails c errors.LabelsDiffer first r = absurd (let bad = r.0 in cc bad)
-dp_record_fails c (errors.Drive counts) first r = tt
-dp_record_fails c errors.NoMemory first r = tt
-
-pub ip_label_fails : (c : Cartridge) (e : MountErr) → HasSomeRecord c.ip → HasSomeRecord c.dp → Refuses (errors.Label parts.Ip) (¬ HasSomeLabel c.ip) e → Fails c e
-ip_label_fails c (errors.Vol1 part) first second r = absurd (let bad = r.0 in cc bad)
-ip_label_fails c (errors.Label parts.Ip) first second r = (first, second, r.1)
-ip_label_fails c (errors.Label parts.Dp) first second r = absurd (let bad = r.0 in cc bad)
-ip_label_fails c errors.LabelsDiffer first second r = absurd (let bad = r.0 in cc bad)
-ip_label_fails c (errors.Drive counts) first second r = tt
-ip_label_fails c errors.NoMemory first second r = tt
-
-pub dp_label_fails : (c : Cartridge) (e : MountErr) → HasSomeRecord c.ip → HasSomeRecord c.dp → HasSomeLabel c.ip → Refuses (errors.Label parts.Dp) (¬ HasSomeLabel c.dp) e → Fails c e
-dp_label_fails c (errors.Vol1 part) first second third r = absurd (let bad = r.0 in cc bad)
-dp_label_fails c (errors.Label parts.Ip) first second third r = absurd (let bad = r.0 in cc bad)
-dp_label_fails c (errors.Label parts.Dp) first second third r = (first, second, third, r.1)
-dp_label_fails c errors.LabelsDiffer first second third r = absurd (let bad = r.0 in cc bad)
-dp_label_fails c (errors.Drive counts) first second third r = tt
-dp_label_fails c errors.NoMemory first second third r = tt
+-- where this check failed, and all before it hold, it is the first that fails
+pub refused : (c : Cartridge) (check e : MountErr) (cause : Type 0) → Refuses check cause e → (cause → Fails c check) → Fails c e
+refused c check (errors.Drive counts) cause r fails = tt
+refused c check errors.NoMemory cause r fails = tt
+refused c check e cause r fails = subst (λ (x : MountErr). Fails c x) (sym r.0) (fails r.1)
 
 -- one record and one label at most stands at its place
 one_record : (items : List Item) (v w : Vol1) → HasRecord items v → HasRecord items w → v ≡ w
@@ -77,9 +60,15 @@ pub is_read_as : (c : Cartridge) (l : Labels) (r : Result Labels MountErr) → I
 is_read_as c l (Ok m) found fails h = (one_record c.ip m.ip_record l.ip_record found.ip_record h.ip_record, one_record c.dp m.dp_record l.dp_record found.dp_record h.dp_record, one_label c.ip (label_of m.ip) (label_of l.ip) found.ip h.ip, one_label c.dp (label_of m.dp) (label_of l.dp) found.dp h.dp)
 is_read_as c l (Err (errors.Vol1 parts.Ip)) found fails h = fails (l.ip_record, h.ip_record)
 is_read_as c l (Err (errors.Vol1 parts.Dp)) found fails h = fails.1 (l.dp_record, h.dp_record)
-is_read_as c l (Err (errors.Label parts.Ip)) found fails h = fails.2 (label_of l.ip, h.ip)
-is_read_as c l (Err (errors.Label parts.Dp)) found fails h = fails.3 (label_of l.dp, h.dp)
-is_read_as c l (Err errors.LabelsDiffer) found fails h = differ_not c l fails.2 fails.3 h fails.4 fails.5 fails.6
+is_read_as c l (Err (errors.Label parts.Ip)) found fails h = fails.1 (label_of l.ip, h.ip)
+is_read_as c l (Err (errors.Label parts.Dp)) found fails h = fails.2 (label_of l.dp, h.dp)
+is_read_as c l (Err errors.LabelsDiffer) found fails h = differ_not c l fails.ip fails.dp h fails.ip_is fails.dp_is fails.differ
+is_read_as c l (Err (errors.Layout place)) found fails h = fails
+is_read_as c l (Err errors.NoIndex) found fails h = fails
+is_read_as c l (Err (errors.BadIndex place e)) found fails h = fails
+is_read_as c l (Err (errors.WrongVolume place)) found fails h = fails
+is_read_as c l (Err (errors.WrongPointer place)) found fails h = fails
+is_read_as c l (Err (errors.BadExtent uid)) found fails h = fails
 is_read_as c l (Err (errors.Drive counts)) found fails h = tt
 is_read_as c l (Err errors.NoMemory) found fails h = tt
 

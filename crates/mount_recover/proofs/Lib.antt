@@ -1,2 +1,12 @@
+pub mod ChoiceLemmas
+pub mod DocumentLemmas
+pub mod ExtentLemmas
+pub mod FlagLemmas
 pub mod LabelLemmas
+pub mod LastLemmas
+pub mod MountLemmas
+pub mod PointerLemmas
 pub mod ReadLemmas
+pub mod ScanLemmas
+pub mod StandLemmas
+pub mod StepLemmas

@@ -2,6 +2,7 @@
 use Rattle.std.proofs.Common.{◌≡◌, ℕ, List, Bool, true, false, Option, Some, None, Result, Ok, Err, IfOk, refl, sym, ap, subst, ◌∙◌, slice_get}
 use Rattle.std.specs.Bool.{MatchBool}
 use Rattle.std.specs.Option.{MatchOption}
+use Rattle.std.specs.Prelude.{IfSome}
 use Rattle.tape_types.specs.Cartridges.{items_of, next}
 use Rattle.tape_types.specs.declared.cartridges.Cartridge.{Cartridge}
 use Rattle.tape_types.specs.declared.cartridges.Place.{Place}
@@ -19,7 +20,8 @@ use Rattle.ltfs_label.specs.Pieces.{Gives}
 use Rattle.ltfs_label.specs.declared.Label.{Label}
 use Rattle.ltfs_label.specs.declared.errors.LabelErr.{LabelErr}
 use Rattle.ltfs_label.specs.declared.errors.LabelErr.TheVariants as errors
-use Rattle.mount_recover.specs.Labels.{HasLabel, HasSomeLabel, HasSomeRecord, IsMarkedBlock, is_block, is_mark, is_no_memory}
+use Rattle.tape_meaning.specs.Labels.{HasLabel, HasSomeLabel, HasSomeRecord, IsMarkedBlock}
+use Rattle.mount_recover.specs.Labels.{IsSpelled, is_block, is_mark, is_no_memory}
 
 pub block_is : (x : Option Item) (answer : Got) (buf : List ℕ) → IsRead x answer buf → is_block answer ≡ true → x ≡ Some (Block buf)
 block_is None answer buf r e = absurd (let bad : false ≡ true = sym (ap is_block r.0) ∙ e in cc bad)
@@ -83,3 +85,8 @@ pub label_found : (items : List Item) (buf : List ℕ) (found : Option Label) �
     → MatchOption found ((v : LabelValue) → LabelText buf v → ⊥) (λ label. LabelText buf (label_of label)) → MatchOption found (¬ HasSomeLabel items) (λ label. HasLabel items (label_of label))
 label_found items buf None m text = no_label items buf m text
 label_found items buf (Some label) m text = record { bytes = buf; stands = m; spelled = text }
+
+pub spelled_found : (buf : List ℕ) (found : Option Label)
+    → MatchOption found ((v : LabelValue) → LabelText buf v → ⊥) (λ label. LabelText buf (label_of label)) → IfSome found IsSpelled
+spelled_found buf None text = tt
+spelled_found buf (Some label) text = (buf, text)

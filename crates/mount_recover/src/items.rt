@@ -1,7 +1,7 @@
 //! Items at the beginning of a partition.
 
-ghost use Rattle.std.specs.Prelude.{◌≡◌, ◌≢◌, ◌≤◌, ◌<◌, ◌+◌, ◌*◌, ℕ, List, true, length, vec_capacity};
-ghost use Rattle.std.specs.Prelude.{Some, IfOk, IfSome, IfNone, MatchBool, MatchOption};
+ghost use Rattle.std.specs.Prelude.{◌≡◌, ◌≢◌, ◌≤◌, ◌<◌, ◌+◌, ◌*◌, ℕ, List, true, length, Some, vec_capacity, IfOk, IfSome};
+ghost use Rattle.std.specs.Prelude.{IfNone, MatchBool, MatchOption};
 ghost use Rattle.tape_drive.specs.Commands.{item_at};
 ghost use Rattle.tape_drive.specs.Looks.{Looks};
 ghost use Rattle.tape_types.specs.Cartridges.{capacity, items_of, next};
@@ -11,8 +11,8 @@ ghost use Rattle.tape_types.specs.declared.cartridges.Cartridge.{Cartridge};
 ghost use Rattle.vol_label.specs.declared.Vol1.{Vol1};
 ghost use Rattle.ltfs_label.specs.Values.{LabelValue, label_of};
 ghost use Rattle.ltfs_label.specs.Grammar.{LabelText};
-ghost use Rattle.mount_recover.specs.Labels.{HasLabel, HasRecord, HasSomeLabel, HasSomeRecord, IsMarkedBlock};
-ghost use Rattle.mount_recover.specs.Labels.{IsStopped, is_block, is_mark, is_no_memory};
+ghost use Rattle.tape_meaning.specs.Labels.{HasLabel, HasRecord, HasSomeLabel, HasSomeRecord, IsMarkedBlock};
+ghost use Rattle.mount_recover.specs.Labels.{IsSpelled, IsStopped, is_block, is_mark, is_no_memory};
 
 use ltfs_label::{Label, LabelErr, read_label};
 use std::alloc::{AllocError, Global};
@@ -39,7 +39,8 @@ pub struct Buffers {
     ghost mark_room: { 1048576 ≤ vec_capacity mark },
 }
 
-fn buffer(alloc: Global) -> Result<Vec<u8>, AllocError>
+/// Room for the longest block.
+pub fn buffer(alloc: Global) -> Result<Vec<u8>, AllocError>
     ensures { IfOk result (λ v. 1048576 ≤ vec_capacity v) }
 {
     let mut bytes = Vec::new(alloc);
@@ -197,6 +198,7 @@ pub fn read_label_of<D: Drive>(
     requires room { 4 ≤ capacity part (D.limits drive.old) }
     ensures told { IfOk result (λ found. (c : Cartridge) → D.held drive.old ≡ Some c
         → MatchOption found (¬ HasSomeLabel (items_of part c)) (λ label. HasLabel (items_of part c) (label_of label))) }
+    ensures spelled { IfOk result (λ found. IfSome found IsSpelled) }
     ensures looks { Looks D.Drive (3 * D.MOST) drive.old drive.new }
     ensures cause { IsStopped (D.faults drive.old) (D.faults drive.new) result }
 {

@@ -3,59 +3,22 @@
 ghost use Rattle.std.specs.Prelude.{◌≡◌, ◌≤◌, ◌*◌, Some, length, IfOk, IfErr, IfSome, IsTrue, ◌↔◌};
 ghost use Rattle.ltfs_label.specs.Values.{label_of};
 ghost use Rattle.tape_drive.specs.Looks.{Looks};
-ghost use Rattle.mount_recover.specs.Labels.{AreInTheirPlaces, AreOfOneLayout, AreOfOneOrigin, AreOfOneVolume, Fails};
-ghost use Rattle.mount_recover.specs.Labels.{HasCounts, HasLabel, HasLabels, HasRecord, HasSomeLabel, HasSomeRecord};
-ghost use Rattle.mount_recover.specs.Labels.{IsReadAs, Refuses};
-ghost use Rattle.mount_recover.specs.declared.labels.Labels.{Labels as Found};
+ghost use Rattle.tape_meaning.specs.Labels.{AreInTheirPlaces, AreOfOneLayout, AreOfOneOrigin, AreOfOneVolume};
+ghost use Rattle.tape_meaning.specs.Labels.{HasLabel, HasLabels, HasRecord, HasSomeLabel, HasSomeRecord};
+ghost use Rattle.tape_meaning.specs.declared.labels.Labels.{Labels as Found};
+ghost use Rattle.tape_meaning.specs.declared.errors.MountErr.TheVariants as errors;
+ghost use Rattle.mount_recover.specs.Labels.{AreLabels, Fails, HasCounts, IsReadAs, IsSpelled, Refuses};
 ghost use Rattle.tape_types.specs.Times.{civil_of};
 ghost use Rattle.tape_types.specs.Cartridges.{capacity, items_of};
 ghost use Rattle.tape_types.specs.declared.cartridges.Cartridge.{Cartridge};
 
 use crate::items::{Buffers, Stop, read_label_of, read_record};
 use ltfs_label::Label;
-use std::alloc::{AllocError, Global};
+use std::alloc::Global;
 use tape_drive::Drive;
+use tape_meaning::{Labels, MountErr};
 use tape_types::{Moment, Part, Twin};
 use vol_label::Vol1;
-
-/// What stands at the beginning of both partitions of a volume (LTFS 2.4 on labels).
-#[derive(Drop)]
-pub struct Labels {
-    /// The VOL1 record of the index partition.
-    pub ip_record: Vol1,
-    /// The label of the index partition.
-    pub ip: Label,
-    /// The VOL1 record of the data partition.
-    pub dp_record: Vol1,
-    /// The label of the data partition.
-    pub dp: Label,
-}
-
-/// Why a cartridge is no volume: the first check that fails.
-#[derive(Clone, Copy, Debug, PartialEq, Eq)]
-pub enum MountErr {
-    /// A partition does not begin with a VOL1 record and a file mark.
-    Vol1(Part),
-    /// A partition's third item is no block with a label, or no file mark stands behind it.
-    Label(Part),
-    /// The labels of the partitions are not of one volume.
-    LabelsDiffer,
-    /// The drive failed: its count of faults before and after.
-    Drive(Twin),
-    /// Memory was refused.
-    NoMemory,
-}
-
-impl From<AllocError> for MountErr {
-    ghost use Rattle.std.specs.Prelude.{◌≡◌};
-    ghost use Rattle.mount_recover.specs.declared.labels.MountErr.TheVariants as errors;
-
-    ghost from_gives = { λ _ e. e ≡ errors.NoMemory };
-
-    fn from(_e: AllocError) -> MountErr {
-        MountErr::NoMemory
-    }
-}
 
 /// Reads the labels of the cartridge in a drive, and writes nothing (LTFS 2.4 on labels).
 ///
@@ -67,6 +30,7 @@ pub fn read_labels<D: Drive>(alloc: Global, drive: &mut D) -> Result<Labels, Mou
     ensures found { IfOk result (λ l. (c : Cartridge) → D.held drive.old ≡ Some c → HasLabels c l) }
     ensures refused { IfErr result (λ e. (c : Cartridge) → D.held drive.old ≡ Some c → Fails c e) }
     ensures only { (c : Cartridge) (l : Found) → D.held drive.old ≡ Some c → HasLabels c l → IsReadAs l result }
+    ensures any { IfOk result AreLabels }
     ensures counts { HasCounts (D.faults drive.old) (D.faults drive.new) result }
     ensures looks { Looks D.Drive (12 * D.MOST) drive.old drive.new }
 {
@@ -77,6 +41,7 @@ pub fn read_labels<D: Drive>(alloc: Global, drive: &mut D) -> Result<Labels, Mou
 fn read_all<D: Drive>(alloc: Global, drive: &mut D) -> Result<Labels, MountErr>
     ensures found { IfOk result (λ l. (c : Cartridge) → D.held drive.old ≡ Some c → HasLabels c l) }
     ensures refused { IfErr result (λ e. (c : Cartridge) → D.held drive.old ≡ Some c → Fails c e) }
+    ensures any { IfOk result AreLabels }
     ensures counts { HasCounts (D.faults drive.old) (D.faults drive.new) result }
     ensures looks { Looks D.Drive (12 * D.MOST) drive.old drive.new }
 {
@@ -110,7 +75,7 @@ fn find_record<D: Drive>(
     requires before { before ≤ D.faults drive.old }
     ensures found { IfOk result (λ r. (c : Cartridge) → D.held drive.old ≡ Some c → HasRecord (items_of part c) r) }
     ensures refused { IfErr result (λ e. (c : Cartridge) → D.held drive.old ≡ Some c
-        → Refuses (MountErr.Vol1 part) (¬ HasSomeRecord (items_of part c)) e) }
+        → Refuses (errors.Vol1 part) (¬ HasSomeRecord (items_of part c)) e) }
     ensures looks { Looks D.Drive (3 * D.MOST) drive.old drive.new }
     ensures counts { HasCounts before (D.faults drive.new) result }
 {
@@ -135,7 +100,8 @@ fn find_label<D: Drive>(
     ensures found { IfOk result (λ l. (c : Cartridge) → D.held drive.old ≡ Some c
         → HasLabel (items_of part c) (label_of l)) }
     ensures refused { IfErr result (λ e. (c : Cartridge) → D.held drive.old ≡ Some c
-        → Refuses (MountErr.Label part) (¬ HasSomeLabel (items_of part c)) e) }
+        → Refuses (errors.Label part) (¬ HasSomeLabel (items_of part c)) e) }
+    ensures spelled { IfOk result IsSpelled }
     ensures looks { Looks D.Drive (3 * D.MOST) drive.old drive.new }
     ensures counts { HasCounts before (D.faults drive.new) result }
 {
@@ -148,8 +114,8 @@ fn find_label<D: Drive>(
 }
 
 /// The error of a drive that failed since it had this count of faults.
-fn failed<D: Drive>(drive: &D, before: u64) -> MountErr
-    ensures { result ≡ MountErr.Drive (record { before = before; after = D.faults drive.now }) }
+pub fn failed<D: Drive>(drive: &D, before: u64) -> MountErr
+    ensures { result ≡ errors.Drive (record { before = before; after = D.faults drive.now }) }
 {
     MountErr::Drive(Twin {
         before,

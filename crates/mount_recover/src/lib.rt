@@ -1,9 +1,20 @@
 //! Mounting: what a cartridge stands for.
 #![tactic(auto)]
 
+mod choices;
+mod documents;
+mod extents;
+mod flags;
 mod items;
 mod labels;
+mod lasts;
+mod mounting;
+mod pointers;
+mod scans;
+mod starts;
 #[cfg(test)]
 mod tests;
 
-pub use labels::{Labels, MountErr, read_labels};
+pub use labels::read_labels;
+pub use mounting::mount;
+pub use tape_meaning::{Labels, MountErr, Mounted};

@@ -1,0 +1,212 @@
+-- The chosen index, and the ends of the partitions.
+use Rattle.std.proofs.Common.{ℕ, zero, suc, ◌+◌, ◌≤◌, ◌<◌, ◌≡◌, ◌≢◌, ◌⊎◌, ⊎_elim, inl, inr, List, [], ◌∷◌, ◌++◌, length, map, reverse, Option, Some, None, Result, Ok, Err, IfOk, IfErr, refl, sym, ◌∙◌, ap, subst, arith}
+use Rattle.std.specs.Prelude.{IfSome, Bool, true, false, cond, nat_lt}
+use Rattle.std.specs.List.{AllByRecursion}
+use Rattle.tape_types.specs.declared.cartridges.Cartridge.{Cartridge}
+use Rattle.tape_types.specs.declared.cartridges.Item.{Item}
+use Rattle.tape_types.specs.declared.cartridges.Limits.{Limits}
+use Rattle.index_model.specs.declared.indexes.Index.{Index}
+use Rattle.index_model.specs.declared.nodes.Node.{Node}
+use Rattle.ltfs_label.specs.declared.Label.{Label}
+use Rattle.tape_content.specs.Readings as readings
+use Rattle.tape_content.specs.Readings.{HasForm, after_of, front}
+use Rattle.tape_content.specs.Content.{Phase, Data, Index as InIndex, Bad, content}
+use Rattle.tape_content.specs.Ends.{end_dp, end_ip, end_ip_in, lead_of}
+use Rattle.tape_content.proofs.Placed.{EndsAt, content_placed, pos_is}
+use Rattle.tape_content.proofs.ReadForms.{never_both}
+use Rattle.tape_meaning.specs.Faults.{HasBadExtent, HasNoIndex}
+use Rattle.tape_meaning.specs.Meaning.{AreWithin, FitsNode, HasForms, dp_end, ip_end}
+use Rattle.tape_meaning.specs.Pointers.{IsLastOnDp, IsLastOnIp, chosen, indexes_of}
+use Rattle.tape_meaning.specs.declared.errors.MountErr.{MountErr}
+use Rattle.tape_meaning.specs.declared.errors.MountErr.TheVariants as errors
+use Rattle.tape_meaning.specs.declared.labels.Labels.{Labels}
+use Rattle.volume_scan.specs.declared.content.Construct.{Construct}
+use Rattle.volume_scan.specs.declared.content.Content.{Content}
+use Rattle.volume_scan.specs.Scans.{AreBetween, IsInPlaces, places_of}
+use Rattle.mount_recover.specs.Lasts.{AreInPlaces, AreLasts, AreSoundLasts, HasNone, IsChosen, IsDecided, IsFirstOutside, IsInPlace, IsIpEnd, IsScan, IsSeen, IsSound, IsSoundChoice, IsSoundLast, dp_ends, index_in, newest, place_in, standing_of}
+use Rattle.mount_recover.specs.Labels.{AreCounts}
+use Rattle.mount_recover.specs.Steps.{Blames}
+use Rattle.mount_recover.specs.declared.choices.Choice.{Choice}
+use Rattle.mount_recover.specs.declared.choices.Standing.{Standing}
+use Rattle.mount_recover.specs.declared.lasts.Last.{Last}
+use Rattle.mount_recover.specs.declared.lasts.Lasts.{Lasts}
+use Rattle.mount_recover.specs.declared.scans.Scans.{Scans}
+use Rattle.volume_scan.proofs.Told.{lacks_form}
+
+-- ---- where the next items go
+
+pub place_is : (l : Last) (k : readings.Construct) (older : List readings.Construct) → place_in (Some l) ≡ newest (k ∷ older) → l.place ≡ places_of k
+place_is l k older is = cc
+
+pub none_newest : (ks : List readings.Construct) → None ≡ newest ks → ks ≡ []
+none_newest [] is = refl
+none_newest (k ∷ older) is = absurd (cc is)
+
+ends_in : (pos : ℕ) (phase : Phase) (ks : List readings.Construct) (last : Option Last) (found : Content) (end : ℕ) → EndsAt pos phase ks
+    → ((at : ℕ) → phase ≢ Bad at) → found.lead ≡ lead_of pos phase → found.front ≡ pos → place_in last ≡ newest ks → IsIpEnd found (standing_of last) end
+    → end ≡ end_ip_in pos phase ks
+ends_in pos (Data zero) [] None found end at sound lead front_is is ends = ends ∙ lead
+ends_in pos (Data (suc n)) [] None found end at sound lead front_is is ends = ends ∙ lead
+ends_in pos (InIndex mark blocks) [] None found end at sound lead front_is is ends = ends ∙ lead
+ends_in pos (Bad n) ks last found end at sound lead front_is is ends = absurd (sound n refl)
+ends_in pos phase [] (Some l) found end at sound lead front_is is ends = absurd (cc is)
+ends_in pos phase (k ∷ older) None found end at sound lead front_is is ends = absurd (cc is)
+ends_in pos (Data zero) (k ∷ older) (Some l) found end at sound lead front_is is (inl ends) =
+    ends.1 ∙ ap (λ (p : Construct). p.mark) (place_is l k older is)
+ends_in pos (Data zero) (k ∷ older) (Some l) found end at sound lead front_is is (inr ends) =
+    absurd (ends.0 (omega (arith, ap (λ (p : Construct). p.after) (place_is l k older is), front_is, at)))
+ends_in pos (Data (suc n)) (k ∷ older) (Some l) found end at sound lead front_is is (inl ends) =
+    absurd (omega (arith, ends.0, ap (λ (p : Construct). p.after) (place_is l k older is), front_is, at))
+ends_in pos (Data (suc n)) (k ∷ older) (Some l) found end at sound lead front_is is (inr ends) = ends.1 ∙ lead
+ends_in pos (InIndex mark blocks) (k ∷ older) (Some l) found end at sound lead front_is is (inl ends) =
+    absurd (omega (arith, ends.0, ap (λ (p : Construct). p.after) (place_is l k older is), front_is, at.0, at.1))
+ends_in pos (InIndex mark blocks) (k ∷ older) (Some l) found end at sound lead front_is is (inr ends) = ends.1 ∙ lead
+
+sound_phase : (items : List Item) → HasForm items → (at : ℕ) → (content items).phase ≢ Bad at
+sound_phase items form at bad = never_both items at form (lacks_form items at bad)
+
+pub ends_ip : (items : List Item) (last : Option Last) (found : Content) (end : ℕ) → IsSeen items found → place_in last ≡ newest (indexes_of items)
+    → IsIpEnd found (standing_of last) end → end ≡ end_ip (content items)
+ends_ip items last found end seen is ends =
+    ends_in (content items).pos (content items).phase (content items).constructs last found end (content_placed items).ends (sound_phase items seen.form)
+    seen.lead (seen.front ∙ sym (pos_is items seen.long (sound_phase items seen.form))) is ends
+
+pub ends_dp : (ks : List readings.Construct) (last : Option Last) → place_in last ≡ newest ks → dp_ends (standing_of last) ≡ end_dp ks
+ends_dp [] None is = refl
+ends_dp [] (Some l) is = absurd (cc is)
+ends_dp (k ∷ older) None is = absurd (cc is)
+ends_dp (k ∷ older) (Some l) is = ap (λ (p : Construct). p.after) (place_is l k older is)
+
+from_four : (ks : List Construct) (from to : ℕ) → AreBetween from to ks → from ≤ to
+from_four [] from to b = b
+from_four (k ∷ ks) from to b = omega (arith, b.0, b.1, b.2, from_four ks k.after to b.3)
+
+ip_in_range : (capacity : ℕ) (label : Label) (last : Option Last) (found : Content) (end : ℕ) → IsInPlaces capacity found → IfSome last (IsSoundLast label capacity)
+    → IsIpEnd found (standing_of last) end → (4 ≤ end) × (end ≤ capacity)
+ip_in_range capacity label None found end places sound ends =
+    (omega (arith, ends, from_four found.constructs 4 found.lead places.constructs), omega (arith, ends, places.lead, places.front))
+ip_in_range capacity label (Some l) found end places sound (inl ends) =
+    (omega (arith, ends.1, sound.place.mark), omega (arith, ends.1, sound.place.first, sound.place.block, sound.place.after))
+ip_in_range capacity label (Some l) found end places sound (inr ends) =
+    (omega (arith, ends.1, from_four found.constructs 4 found.lead places.constructs), omega (arith, ends.1, places.lead, places.front))
+
+dp_in_range : (capacity : ℕ) (label : Label) (last : Option Last) (end : ℕ) → 4 ≤ capacity → IfSome last (IsSoundLast label capacity)
+    → end ≡ dp_ends (standing_of last) → (4 ≤ end) × (end ≤ capacity) × IfSome (standing_of last) (λ s. s.place.first < end)
+dp_in_range capacity label None end least sound ends = (omega (arith, ends), omega (arith, ends, least), tt)
+dp_in_range capacity label (Some l) end least sound ends = (
+  omega (arith, ends, sound.place.mark, sound.place.first, sound.place.block),
+  omega (arith, ends, sound.place.after),
+  omega (arith, ends, sound.place.block),
+)
+
+-- ---- what is decided
+
+module _ (c : Cartridge) (labels : Labels) (s : Scans) (lasts : Lasts) (scan : IsScan labels s c) (are : AreLasts labels.ip lasts c) where
+  forms : HasForms c labels
+  forms = record { has = scan.has; ip = scan.ip.form; dp = scan.dp.form }
+
+  pub no_index : HasNone lasts → Blames errors.NoIndex c
+  no_index none = record {
+    labels = labels;
+    forms = forms;
+    ip = none_newest (indexes_of c.ip) (ap place_in (sym none.0) ∙ are.ip.place);
+    dp = none_newest (indexes_of c.dp) (ap place_in (sym none.1) ∙ are.dp.place);
+  }
+
+  module _ (choice : Choice) (is : IsChosen lasts choice) (ip : IsIpEnd s.ip (standing_of lasts.ip) choice.ends.ip)
+      (dp : choice.ends.dp ≡ dp_ends (standing_of lasts.dp)) where
+    ip_is : choice.ends.ip ≡ ip_end c
+    ip_is = ends_ip c.ip lasts.ip s.ip choice.ends.ip scan.ip are.ip.place ip
+
+    dp_is : choice.ends.dp ≡ dp_end c
+    dp_is = dp ∙ ends_dp (indexes_of c.dp) lasts.dp are.dp.place
+
+    pub decided : AllByRecursion (FitsNode labels.ip choice.ends.ip choice.ends.dp) choice.index.nodes → IsDecided labels lasts choice c
+    decided fits = record {
+      forms = forms;
+      lasts_are = are;
+      choice_is = is;
+      end_ip = ip_is;
+      end_dp = dp_is;
+      within =
+          subst (λ (n : ℕ). AllByRecursion (FitsNode labels.ip n (dp_end c)) choice.index.nodes) ip_is
+          (subst (λ (n : ℕ). AllByRecursion (FitsNode labels.ip choice.ends.ip n) choice.index.nodes) dp_is fits);
+    }
+
+    pub bad_extent : (uid : ℕ) → IsFirstOutside labels.ip choice.ends.ip choice.ends.dp choice.index.nodes uid → Blames (errors.BadExtent uid) c
+    bad_extent uid out =
+        let o = subst (λ (n : ℕ). IsFirstOutside labels.ip n (dp_end c) choice.index.nodes uid) ip_is
+        (subst (λ (n : ℕ). IsFirstOutside labels.ip choice.ends.ip n choice.index.nodes uid) dp_is out) in
+        record {
+          labels = labels;
+          forms = forms;
+          on_dp = index_in lasts.dp;
+          dp_last = are.dp.index;
+          on_ip = index_in lasts.ip;
+          ip_last = are.ip.index;
+          index = choice.index;
+          choice = is.picked.index ∙ ap (λ (x : Index). Some x) (sym is.index);
+          before = o.before;
+          node = o.node;
+          behind = o.behind;
+          nodes = o.parts;
+          within = o.within;
+          outside = o.outside;
+          told = o.told;
+        }
+
+-- the chosen index is one of the last ones
+sound_index : (label : Label) (ip dp : Option Last) (capacity other : ℕ) (index : Index) → IfSome ip (IsSoundLast label capacity) → IfSome dp (IsSoundLast label other)
+    → chosen (index_in ip) (index_in dp) ≡ Some index → IsSound label index
+sound_index label None None capacity other index ip dp is = absurd (cc is)
+sound_index label None (Some d) capacity other index ip dp is = let same : d.index ≡ index = cc is in subst (IsSound label) same dp.index
+sound_index label (Some i) None capacity other index ip dp is = let same : i.index ≡ index = cc is in subst (IsSound label) same ip.index
+sound_index label (Some i) (Some d) capacity other index ip dp is = either (nat_lt d.index.generation i.index.generation) is
+  where
+    either : (b : Bool) → ◌≡◌ {A = Option Index} (Some (cond b i.index d.index)) (Some index) → IsSound label index
+    either true e = let same : i.index ≡ index = cc e in subst (IsSound label) same ip.index
+    either false e = let same : d.index ≡ index = cc e in subst (IsSound label) same dp.index
+
+pub sound_choice : (label : Label) (s : Scans) (lasts : Lasts) (choice : Choice) (limits : Limits) → IsChosen lasts choice
+    → IsIpEnd s.ip (standing_of lasts.ip) choice.ends.ip → choice.ends.dp ≡ dp_ends (standing_of lasts.dp)
+    → AllByRecursion (FitsNode label choice.ends.ip choice.ends.dp) choice.index.nodes → AreInPlaces limits s → AreSoundLasts label limits lasts
+    → IsSoundChoice label limits choice
+sound_choice label s lasts choice limits is ip dp fits places sound =
+    let least : 4 ≤ limits.cap_dp = omega (arith, from_four s.dp.constructs 4 s.dp.lead places.1.constructs, places.1.lead, places.1.front) in
+    let d = dp_in_range limits.cap_dp label lasts.dp choice.ends.dp least sound.dp dp in
+    record {
+      index = subst (IsSound label) (sym is.index) (sound_index label lasts.ip lasts.dp limits.cap_ip limits.cap_dp is.last.index sound.ip sound.dp is.picked.index);
+      fits = fits;
+      last_dp = subst (λ (o : Option Standing). IfSome o (λ s. s.place.first < choice.ends.dp)) (sym is.dp) d.2;
+      ip = ip_in_range limits.cap_ip label lasts.ip s.ip choice.ends.ip places.0 sound.ip ip;
+      dp = (d.0, d.1);
+    }
+
+-- what a check of the extents answers
+module _ (labels : Labels) (s : Scans) (lasts : Lasts) (choice : Choice) (is : IsChosen lasts choice) (ip : IsIpEnd s.ip (standing_of lasts.ip) choice.ends.ip)
+    (dp : choice.ends.dp ≡ dp_ends (standing_of lasts.dp)) where
+  pub ok_decided : (r : Result Choice MountErr)
+      → IfOk r (λ x. (x ≡ choice) × AllByRecursion (FitsNode labels.ip choice.ends.ip choice.ends.dp) choice.index.nodes)
+      → IfOk r (λ x. (c : Cartridge) → IsScan labels s c → AreLasts labels.ip lasts c → IsDecided labels lasts x c)
+  ok_decided (Ok x) fits =
+      λ c scan are. subst (λ (y : Choice). IsDecided labels lasts y c) (sym fits.0) (decided c labels s lasts scan are choice is ip dp fits.1)
+  ok_decided (Err e) fits = tt
+
+  pub ok_sound : (r : Result Choice MountErr)
+      → IfOk r (λ x. (x ≡ choice) × AllByRecursion (FitsNode labels.ip choice.ends.ip choice.ends.dp) choice.index.nodes)
+      → IfOk r (λ x. (limits : Limits) → AreInPlaces limits s → AreSoundLasts labels.ip limits lasts → IsSoundChoice labels.ip limits x)
+  ok_sound (Ok x) fits =
+      λ limits places sound. subst (λ (y : Choice). IsSoundChoice labels.ip limits y) (sym fits.0) (sound_choice labels.ip s lasts choice limits is ip dp fits.1 places sound)
+  ok_sound (Err e) fits = tt
+
+  pub err_blames : (r : Result Choice MountErr)
+      → IfErr r (λ e. (uid : ℕ) × (e ≡ errors.BadExtent uid) × IsFirstOutside labels.ip choice.ends.ip choice.ends.dp choice.index.nodes uid)
+      → IfErr r (λ e. (c : Cartridge) → IsScan labels s c → AreLasts labels.ip lasts c → Blames e c)
+  err_blames (Ok x) out = tt
+  err_blames (Err e) out =
+      λ c scan are. subst (λ (x : MountErr). Blames x c) (sym out.1) (bad_extent c labels s lasts scan are choice is ip dp out.0 out.2)
+
+pub err_counts : (r : Result Choice MountErr) (P : ℕ → Type 0) → IfErr r (λ e. (uid : ℕ) × (e ≡ errors.BadExtent uid) × P uid)
+    → IfErr r (λ e. (before now : ℕ) → AreCounts before now e)
+err_counts (Ok x) P out = tt
+err_counts (Err e) P out = λ before now. subst (λ (x : MountErr). AreCounts before now x) (sym out.1) tt

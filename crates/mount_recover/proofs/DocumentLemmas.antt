@@ -1,0 +1,196 @@
+-- Reading the document of an index.
+use Rattle.std.proofs.Common.{Vec, Global, ℕ, zero, suc, ◌+◌, ◌*◌, ◌-◌, ◌^◌, ◌≤◌, ◌<◌, ◌≡◌, List, [], ◌∷◌, ◌++◌, length, take, slice_get, get_or, Option, Some, None, Result, Ok, Err, refl, sym, ◌∙◌, ap, subst, arith, append_assoc}
+use Rattle.std.specs.List.{concat}
+use Rattle.std.proofs.lemmas.Option.{slice_get-get_or}
+use Rattle.tape_types.specs.declared.cartridges.Cartridge.{Cartridge}
+use Rattle.tape_types.specs.declared.cartridges.Item.{Item}
+use Rattle.tape_types.specs.declared.cartridges.Item.TheVariants.{Block, Mark, Torn}
+use Rattle.tape_types.specs.declared.cartridges.Place.{Place}
+use Rattle.tape_types.specs.Cartridges.{items_of, next}
+use Rattle.tape_drive.specs.Commands.{IsRead, after_read, item_at}
+use Rattle.tape_drive.specs.Looks.{Looks}
+use Rattle.tape_drive.specs.declared.drive.Drive.{Ghosts}
+use Rattle.tape_drive.specs.declared.drive.Got.{Got}
+use Rattle.tape_drive.specs.declared.drive.Got.TheVariants as got
+use Rattle.tape_drive.proofs.Looking.{no_looks, then_looks}
+use Rattle.std.specs.Prelude.{IfSome}
+use Rattle.tape_types.specs.declared.cartridges.Part.{Part}
+use Rattle.tape_types.specs.Cartridges.{capacity}
+use Rattle.index_model.specs.Grammar.{Stops}
+use Rattle.index_model.specs.declared.errors.IndexErr.{IndexErr}
+use Rattle.index_model.specs.declared.errors.IndexErr.TheVariants as index_errors
+use Rattle.index_read.specs.Answers.{UnlessMemory}
+use Rattle.tape_content.specs.Readings as readings
+use Rattle.tape_content.specs.Readings.{after_of, first_of, front}
+use Rattle.tape_content.specs.Ends.{end_dp}
+use Rattle.tape_content.proofs.Placed.{end_dp_within}
+use Rattle.tape_content.proofs.Whole.{front_within}
+use Rattle.tape_meaning.specs.Pointers.{indexes_of}
+use Rattle.tape_meaning.specs.declared.errors.MountErr.{MountErr}
+use Rattle.volume_scan.specs.declared.content.Construct.{Construct}
+use Rattle.volume_scan.specs.Scans.{places_of}
+use Rattle.mount_recover.specs.Lasts.{IsBadText, IsDocument, IsInPlace, IsNewest, StandAt, newest, told}
+use Rattle.mount_recover.specs.Steps.{IsFree, IsSince, IsStep}
+use Rattle.mount_recover.specs.declared.starts.Start.{Start}
+use Rattle.mount_recover.proofs.StandLemmas.{newest_stands}
+use Rattle.mount_recover.proofs.StepLemmas.{at_told, looks_more, since_next}
+
+-- what a read of a block leaves
+pub block_read : (x : Option Item) (answer : Got) (buf b : List ℕ) → IsRead x answer buf → x ≡ Some (Block b) → (answer ≡ got.Block) × (buf ≡ b)
+block_read None answer buf b read is = absurd (cc is)
+block_read (Some Mark) answer buf b read is = absurd (cc is)
+block_read (Some Torn) answer buf b read is = absurd (cc is)
+block_read (Some (Block d)) answer buf b read is = let same : d ≡ b = cc is in (read.0, read.1 ∙ same)
+
+pub after_block_read : (answer : Got) (at : Place) → answer ≡ got.Block → after_read answer at ≡ next at
+after_block_read answer at is = subst (λ (a : Got). after_read a at ≡ next at) (sym is) refl
+
+concat_more : (bs : List (List ℕ)) (n : ℕ) (b : List ℕ) → slice_get bs n ≡ Some b → concat (take (suc n) bs) ≡ concat (take n bs) ++ b
+concat_more [] n b is = absurd (cc is)
+concat_more (x ∷ bs) zero b is = let same : x ≡ b = cc is in append_nil x ∙ same
+  where
+    append_nil : (x : List ℕ) → x ++ [] ≡ x
+    append_nil [] = refl
+    append_nil (a ∷ x) = ap (λ (l : List ℕ). a ∷ l) (append_nil x)
+concat_more (x ∷ bs) (suc n) b is = ap (λ (l : List ℕ). x ++ l) (concat_more bs n b is) ∙ sym (append_assoc x (concat (take n bs)) b)
+
+take_whole : (n : ℕ) (bs : List (List ℕ)) → length bs ≡ n → take n bs ≡ bs
+take_whole zero [] is = refl
+take_whole zero (b ∷ bs) is = absurd (omega (arith, is))
+take_whole (suc n) [] is = absurd (omega (arith, is))
+take_whole (suc n) (b ∷ bs) is = ap (λ (l : List (List ℕ)). b ∷ l) (take_whole n bs (omega (arith, is)))
+
+module _ {D : Type 0} (drive : Ghosts D) where
+  -- so many blocks have been read
+  pub record Going (first now : D) (before document : List ℕ) (blocks done : ℕ) : Type 0 where
+    pub looks : Looks drive (done * drive.MOST) first now
+    pub head : (at : Place) × (drive.head now ≡ Some at)
+    pub later : drive.faults first ≤ drive.faults now
+    pub within : done ≤ blocks
+    pub told : (at : Place) (c : Cartridge) (bs : List (List ℕ)) → drive.head first ≡ Some at → drive.held first ≡ Some c → length bs ≡ blocks
+        → StandAt (items_of at.part c) at.pos bs
+        → (drive.head now ≡ Some (record { part = at.part; pos = at.pos + done })) × (document ≡ before ++ concat (take done bs))
+
+  pub begun : (first : D) (before : List ℕ) (blocks : ℕ) → drive.commands first ≤ 2 ^ 64 - 1 → (at : Place) × (drive.head first ≡ Some at)
+      → Going first first before before blocks 0
+  begun first before blocks commands head = record {
+    looks = subst (λ (most : ℕ). Looks drive most first first) (none drive.MOST) (no_looks drive first commands);
+    head = head;
+    later = omega arith;
+    within = omega arith;
+    told = λ at c bs h k len stand. (h ∙ ap Some (place_same at), sym (append_nil before));
+  }
+    where
+      none : (k : ℕ) → 0 ≡ 0 * k
+      none k = omega arith
+
+      place_same : (at : Place) → at ≡ record { part = at.part; pos = at.pos + 0 }
+      place_same at = let same : at.pos ≡ at.pos + 0 = omega arith in λ i. record { part = at.part; pos = same i }
+
+      append_nil : (x : List ℕ) → x ++ [] ≡ x
+      append_nil [] = refl
+      append_nil (a ∷ x) = ap (λ (l : List ℕ). a ∷ l) (append_nil x)
+
+  pub goes_on : (first now after : D) (before document more : List ℕ) (blocks done : ℕ) → Going first now before document blocks done → done < blocks
+      → (at : Place) × (drive.head after ≡ Some at) → drive.faults now ≤ drive.faults after → Looks drive drive.MOST now after
+      → ((at : Place) (c : Cartridge) (b : List ℕ) → drive.head now ≡ Some at → drive.held now ≡ Some c → item_at at c ≡ Some (Block b)
+      → (drive.head after ≡ Some (next at)) × (more ≡ document ++ b))
+      → Going first after before more blocks (done + 1)
+  goes_on first now after before document more blocks done going lt head later look step = record {
+    looks =
+        subst (λ (most : ℕ). Looks drive most first after) (one_more done drive.MOST)
+        (then_looks drive (done * drive.MOST) drive.MOST first now after going.looks look);
+    head = head;
+    later = omega (arith, going.later, later);
+    within = omega (arith, lt);
+    told = λ at c bs h k len stand.
+        let t = going.told at c bs h k len stand in
+        let is : slice_get bs done ≡ Some (get_or bs done []) = slice_get-get_or bs done [] (omega (arith, len, lt)) in
+        let s = step (record { part = at.part; pos = at.pos + done }) c (get_or bs done []) t.0 (going.looks.held ∙ k) (stand done (get_or bs done []) is) in (
+          s.0 ∙ ap Some (place_more at),
+          s.1
+              ∙ ap (λ (l : List ℕ). l ++ get_or bs done []) t.1
+              ∙ append_assoc before (concat (take done bs)) (get_or bs done [])
+              ∙ ap (λ (l : List ℕ). before ++ l) (sym (concat_more bs done (get_or bs done []) is) ∙ ap (λ (n : ℕ). concat (take n bs)) next_is),
+        );
+  }
+    where
+      next_is : suc done ≡ done + 1
+      next_is = omega arith
+
+      one_more : (n k : ℕ) → n * k + k ≡ (n + 1) * k
+      one_more n k = omega arith
+
+      place_more : (at : Place) → next (record { part = at.part; pos = at.pos + done }) ≡ record { part = at.part; pos = at.pos + (done + 1) }
+      place_more at = let same : at.pos + done + 1 ≡ at.pos + (done + 1) = omega arith in λ i. record { part = at.part; pos = same i }
+
+  pub all_read : (first now : D) (before document : List ℕ) (blocks done : ℕ) → Going first now before document blocks done → blocks ≤ done
+      → (at : Place) (c : Cartridge) (bs : List (List ℕ)) → drive.head first ≡ Some at → drive.held first ≡ Some c → length bs ≡ blocks
+      → StandAt (items_of at.part c) at.pos bs → document ≡ before ++ concat bs
+  all_read first now before document blocks done going le at c bs h k len stand =
+      (going.told at c bs h k len stand).1 ∙ ap (λ (l : List (List ℕ)). before ++ concat l) (take_whole done bs (omega (arith, going.within, le, len)))
+
+  pub all_looks : (first now : D) (before document : List ℕ) (blocks done : ℕ) → Going first now before document blocks done → blocks ≤ done
+      → Looks drive (blocks * drive.MOST) first now
+  all_looks first now before document blocks done going le =
+      let same : done ≡ blocks = omega (arith, going.within, le) in subst (λ (n : ℕ). Looks drive (n * drive.MOST) first now) same going.looks
+
+-- ---- where the newest index of a partition stands
+
+newest_is : (k : readings.Construct) (older : List readings.Construct) (place : Construct) → newest (k ∷ older) ≡ Some place → places_of k ≡ place
+newest_is k older place is = cc
+
+pub newest_within : (items : List Item) (place : Construct) → IsNewest items place → place.first ≤ length items
+newest_within items place known = within (indexes_of items) known.stands (end_dp_within items known.long)
+  where
+    within : (ks : List readings.Construct) → newest ks ≡ Some place → end_dp ks ≤ length (front items) → place.first ≤ length items
+    within [] is le = absurd (cc is)
+    within (k ∷ older) is le = omega (arith, ap (λ (p : Construct). p.first) (newest_is k older place is), le, front_within items)
+
+pub newests_within : (part : Part) (place : Construct) (o : Option Cartridge) → IfSome o (λ c. IsNewest (items_of part c) place)
+    → IfSome o (λ c. place.first ≤ length (items_of part c))
+newests_within part place None known = tt
+newests_within part place (Some c) known = newest_within (items_of part c) place known
+
+document_told : (items : List Item) (place : Construct) (blocks : ℕ) (document : List ℕ) → IsNewest items place → blocks ≡ place.after - place.first - 1
+    → ((bs : List (List ℕ)) → length bs ≡ blocks → StandAt items place.first bs → document ≡ [] ++ concat bs) → IsDocument document (indexes_of items)
+document_told items place blocks document known count read = is_document (indexes_of items) refl known.stands
+  where
+    is_document : (ks : List readings.Construct) → indexes_of items ≡ ks → newest ks ≡ Some place → IsDocument document ks
+    is_document [] are is = absurd (cc is)
+    is_document (k ∷ older) are is =
+        let same = newest_is k older place is in
+        read k.blocks
+        (omega (arith, count, ap (λ (p : Construct). p.first) same, ap (λ (p : Construct). p.after) same))
+        (subst (λ (n : ℕ). StandAt items n k.blocks) (ap (λ (p : Construct). p.first) same) (newest_stands items k older known.form are))
+
+-- the document was read
+pub document_step : {D : Type 0} (drive : Ghosts D) (start : Start) (a b d : D) (part : Part) (place : Construct) (blocks : ℕ) (before : List ℕ) (document : Vec ℕ Global)
+    → before ≡ [] → IsSince drive start a → IsInPlace (capacity part start.limits) place → IfSome (drive.held a) (λ c. IsNewest (items_of part c) place)
+    → blocks ≡ place.after - place.first - 1 → Looks drive drive.MOST a b → drive.faults a ≤ drive.faults b
+    → drive.head b ≡ Some (record { part = part; pos = place.first }) → Looks drive (blocks * drive.MOST) b d → drive.faults b ≤ drive.faults d
+    → ((at : Place) (c : Cartridge) (bs : List (List ℕ)) → drive.head b ≡ Some at → drive.held b ≡ Some c → length bs ≡ blocks
+    → StandAt (items_of at.part c) at.pos bs → document.items ≡ before ++ concat bs)
+    → IsStep drive start (1 + capacity part start.limits) a d (λ document c. IsDocument document.items (indexes_of (items_of part c))) (λ document. Unit {0}) IsFree (Ok document)
+document_step drive start a b d part place blocks before document empty since in_place known count look later head looks more read =
+    let both = looks_more drive start (1 + blocks) (1 + capacity part start.limits) a d (omega (arith, count, in_place.after))
+    (subst (λ (most : ℕ). Looks drive most a d) (one_first blocks drive.MOST) (then_looks drive drive.MOST (blocks * drive.MOST) a b d look looks)) in
+    let now : start.faults ≤ drive.faults d = omega (arith, since.faults, later, more) in
+    record {
+      found = λ c h. document_told (items_of part c) place blocks document.items (at_told (λ c. IsNewest (items_of part c) place) h known) count
+          (λ bs len stand. read (record { part = part; pos = place.first }) c bs head (look.held ∙ h) len stand ∙ ap (λ (l : List ℕ). l ++ concat bs) empty);
+      any = tt;
+      refused = tt;
+      counts = record { later = now; told = tt };
+      looks = both;
+      since = since_next drive start _ a d since both now;
+    }
+  where
+    one_first : (n k : ℕ) → k + n * k ≡ (1 + n) * k
+    one_first n k = omega arith
+
+-- a document that is none of an index
+pub bad_text : (text : List ℕ) (uuid : ℕ) (place : Place) (fault : IndexErr) → UnlessMemory fault (Stops text fault) → IsBadText text uuid place (told place fault)
+bad_text text uuid place index_errors.NoMemory stops = tt
+bad_text text uuid place index_errors.Version stops = (refl, stops)
+bad_text text uuid place fault stops = (refl, stops)

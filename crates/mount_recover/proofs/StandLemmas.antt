@@ -1,0 +1,111 @@
+-- Where the blocks of the indexes of a partition stand.
+use Rattle.std.proofs.Common.{ℕ, zero, suc, ◌+◌, ◌*◌, ◌-◌, ◌≤◌, ◌<◌, ◌≡◌, ◌≢◌, List, [], ◌∷◌, ◌++◌, length, map, reverse, drop, take, slice_get, Option, Some, None, refl, sym, ◌∙◌, ap, subst, arith, length-append}
+use Rattle.std.specs.List.{AllByRecursion, concat, flat_map}
+use Rattle.std.proofs.lemmas.List.{append_assoc, length-map, reverse-append, reverse-reverse}
+use Rattle.std.proofs.lemmas.Option.{slice_get-map}
+use Rattle.std.specs.Option.{option_map}
+use Rattle.tape_types.specs.declared.cartridges.Item.{Item}
+use Rattle.tape_types.specs.declared.cartridges.Item.TheVariants.{Block, Mark, Torn}
+use Rattle.tape_content.specs.Readings.{Construct, Group, HasForm, after_of, constructs_from, first_of, front, items_of_group, items_of_tail, readable}
+use Rattle.tape_content.specs.Content.{content}
+use Rattle.tape_content.specs.Content as content
+use Rattle.tape_content.proofs.ReadForms.{form}
+use Rattle.tape_meaning.specs.Pointers.{indexes_of}
+use Rattle.mount_recover.specs.Lasts.{StandAt}
+
+-- an item of a list stands in it also where it is a part of a longer list
+get_front : (items : List Item) (i : ℕ) (x : Item) → slice_get (front items) i ≡ Some x → slice_get items i ≡ Some x
+get_front [] i x is = is
+get_front (Torn ∷ items) i x is = absurd (cc is)
+get_front (Block b ∷ items) zero x is = is
+get_front (Block b ∷ items) (suc i) x is = get_front items i x is
+get_front (Mark ∷ items) zero x is = is
+get_front (Mark ∷ items) (suc i) x is = get_front items i x is
+
+get_drop : (n : ℕ) (items : List Item) (i : ℕ) (x : Item) → slice_get (drop n items) i ≡ Some x → slice_get items (n + i) ≡ Some x
+get_drop zero items i x is = subst (λ (k : ℕ). slice_get items k ≡ Some x) (zero_plus i) is
+  where
+    zero_plus : (i : ℕ) → i ≡ 0 + i
+    zero_plus i = omega arith
+get_drop (suc n) [] i x is = absurd (cc is)
+get_drop (suc n) (y ∷ items) i x is = subst (λ (k : ℕ). slice_get (y ∷ items) k ≡ Some x) (one_more n i) (get_drop n items i x is)
+  where
+    one_more : (n i : ℕ) → suc (n + i) ≡ suc n + i
+    one_more n i = omega arith
+
+get_behind : (xs ys : List Item) (i : ℕ) (x : Item) → slice_get ys i ≡ Some x → slice_get (xs ++ ys) (length xs + i) ≡ Some x
+get_behind [] ys i x is = subst (λ (k : ℕ). slice_get ys k ≡ Some x) (zero_plus i) is
+  where
+    zero_plus : (i : ℕ) → i ≡ 0 + i
+    zero_plus i = omega arith
+get_behind (y ∷ xs) ys i x is = subst (λ (k : ℕ). slice_get (y ∷ (xs ++ ys)) k ≡ Some x) (one_more (length xs) i) (get_behind xs ys i x is)
+  where
+    one_more : (n i : ℕ) → suc (n + i) ≡ suc n + i
+    one_more n i = omega arith
+
+get_before : (xs ys : List Item) (i : ℕ) (x : Item) → slice_get xs i ≡ Some x → slice_get (xs ++ ys) i ≡ Some x
+get_before [] ys i x is = absurd (cc is)
+get_before (y ∷ xs) ys zero x is = is
+get_before (y ∷ xs) ys (suc i) x is = get_before xs ys i x is
+
+-- the blocks of an index stand from its first on
+abbrev IsStood : ℕ → List Item → Construct → Type 0
+IsStood at items k = (at ≤ k.mark) × StandAt items (k.mark + 1 - at) k.blocks
+
+in_group : (g : Group) (rest : List Item) (at : ℕ) → IsStood at (items_of_group g ++ rest) (record { mark = at + length g.data_blocks; blocks = g.index_blocks })
+in_group g rest at = (omega arith, stand)
+  where
+    behind : List Item
+    behind = map Block g.index_blocks ++ Mark ∷ []
+
+    stand : StandAt (items_of_group g ++ rest) (at + length g.data_blocks + 1 - at) g.index_blocks
+    stand i b is =
+        let block : slice_get (map Block g.index_blocks) i ≡ Some (Block b) = slice_get-map Block g.index_blocks i ∙ ap (λ (o : Option (List ℕ)). option_map Block o) is in
+        let marked : slice_get (Mark ∷ behind) (suc i) ≡ Some (Block b) = get_before (map Block g.index_blocks) (Mark ∷ []) i (Block b) block in
+        let all = get_before (items_of_group g) rest _ (Block b) (get_behind (map Block g.data_blocks) (Mark ∷ behind) (suc i) (Block b) marked) in
+        subst (λ (k : ℕ). slice_get (items_of_group g ++ rest) k ≡ Some (Block b)) (omega (arith, length-map g.data_blocks Block)) all
+
+moved : (xs rest : List Item) (at : ℕ) (k : Construct) → IsStood (at + length xs) rest k → IsStood at (xs ++ rest) k
+moved xs rest at k s = (
+  omega (arith, s.0),
+  λ i b is.
+      subst (λ (n : ℕ). slice_get (xs ++ rest) n ≡ Some (Block b)) (omega (arith, s.0)) (get_behind xs rest _ (Block b) (s.1 i b is)),
+)
+
+all_moved : (xs rest : List Item) (at : ℕ) (ks : List Construct) → AllByRecursion (IsStood (at + length xs) rest) ks → AllByRecursion (IsStood at (xs ++ rest)) ks
+all_moved xs rest at [] all = tt
+all_moved xs rest at (k ∷ ks) all = (moved xs rest at k all.0, all_moved xs rest at ks all.1)
+
+all_stand : (gs : List Group) (tail : List Item) (at : ℕ) → AllByRecursion (IsStood at (flat_map items_of_group gs ++ tail)) (constructs_from at gs)
+all_stand [] tail at = tt
+all_stand (g ∷ gs) tail at =
+    subst (λ (l : List Item). AllByRecursion (IsStood at l) (constructs_from at (g ∷ gs)))
+    (sym (append_assoc (items_of_group g) (flat_map items_of_group gs) tail)) (
+      in_group g (flat_map items_of_group gs ++ tail) at,
+      all_moved (items_of_group g) (flat_map items_of_group gs ++ tail) at (constructs_from (at + length (items_of_group g)) gs) (all_stand gs tail (at + length (items_of_group g))),
+    )
+
+-- the first of a reversed list is one of the list
+last_of_all : (P : Construct → Type 0) (ks : List Construct) (k : Construct) (older : List Construct) → ks ≡ reverse (k ∷ older) → AllByRecursion P ks → P k
+last_of_all P ks k older is all = in_end (reverse older) (subst (AllByRecursion P) (is ∙ reverse-append (k ∷ []) older) all)
+  where
+    in_end : (xs : List Construct) → AllByRecursion P (xs ++ k ∷ []) → P k
+    in_end [] both = both.0
+    in_end (x ∷ xs) both = in_end xs both.1
+
+-- the blocks of the newest index of a partition stand there
+pub newest_stands : (items : List Item) (k : Construct) (older : List Construct) → HasForm items → indexes_of items ≡ k ∷ older
+    → StandAt items (first_of k) k.blocks
+newest_stands items k older f is = λ i b at.
+    subst (λ (n : ℕ). slice_get items n ≡ Some (Block b)) (omega (arith, stood.0))
+    (get_front items _ (Block b) (get_drop 4 (front items) _ (Block b)
+    (subst (λ (l : List Item). slice_get l (k.mark + 1 - 4 + i) ≡ Some (Block b)) (sym f.spelled) (stood.1 i b at))))
+  where
+    ordered : constructs_from 4 f.groups ≡ reverse (k ∷ older)
+    ordered =
+        sym (reverse-reverse (constructs_from 4 f.groups))
+        ∙ ap (λ (ks : List Construct). reverse ks) (sym (ap (λ (s : content.Content). s.constructs) (form items f)) ∙ is)
+
+    stood : IsStood 4 (flat_map items_of_group f.groups ++ items_of_tail f.lead f.begun) k
+    stood = last_of_all (IsStood 4 (flat_map items_of_group f.groups ++ items_of_tail f.lead f.begun)) (constructs_from 4 f.groups) k older ordered
+        (all_stand f.groups (items_of_tail f.lead f.begun) 4)

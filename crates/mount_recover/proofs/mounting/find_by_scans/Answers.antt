@@ -1,0 +1,18 @@
+use Rattle.std.proofs.Common.{arith}
+use Rattle.mount_recover.specs.Lasts.{AreLasts, IsScan}
+use Rattle.mount_recover.proofs.StepLemmas.{at_told, given_step, known, stops, then_step}
+use Rattle.mount_recover.proofs.mounting.find_by_scans.Goals as goal
+
+pub returns-in_err-lasts : goal.returns-in_err-lasts
+returns-in_err-lasts g c =
+    given_step g.D.Drive c.args.start c.from_residual.ensures.1
+    (stops g.D.Drive c.args.start (omega arith) c.in_err-lasts.ensures (λ held h blames. blames))
+
+pub find_by_lasts-requires-clause-known : goal.find_by_lasts-requires-clause-known
+find_by_lasts-requires-clause-known g c =
+    known g.D.Drive c.args.start c.in_ok-lasts.ensures (λ held. IsScan c.args.labels c.args.scans.now held × AreLasts c.args.labels.ip c.in_ok-lasts.lasts held)
+    (λ held h are. (at_told (IsScan c.args.labels c.args.scans.now) h c.requires.known, are))
+
+pub returns : goal.returns
+returns g c =
+    then_step g.D.Drive c.args.start c.in_ok-lasts.ensures c.find_by_lasts.ensures (λ held h are m mounts. mounts) (λ are m sound. sound) (λ held h are e blames. blames)

@@ -1,0 +1,143 @@
+//! The documents of indexes.
+
+ghost use Rattle.std.specs.Prelude.{◌≡◌, ◌≤◌, ◌<◌, ◌+◌, ◌++◌, ◌*◌, ◌^◌, ◌-◌, ℕ, List, length, Some, vec_capacity, OnOk, IfOk, IfErr, IfSome};
+ghost use Rattle.std.specs.List.{concat};
+ghost use Rattle.tape_drive.specs.Commands.{item_at};
+ghost use Rattle.tape_drive.specs.Looks.{Looks};
+ghost use Rattle.tape_types.specs.Cartridges.{capacity, items_of, next};
+ghost use Rattle.tape_types.specs.declared.cartridges.Cartridge.{Cartridge};
+ghost use Rattle.tape_types.specs.declared.cartridges.Item.TheVariants as items;
+ghost use Rattle.index_model.specs.Grammar.{IndexText};
+ghost use Rattle.tape_meaning.specs.Pointers.{indexes_of};
+ghost use Rattle.mount_recover.specs.Labels.{IsStopped};
+ghost use Rattle.mount_recover.specs.Lasts.{IsBadText, IsDocument, IsInPlace, IsNewest, StandAt, told};
+ghost use Rattle.mount_recover.specs.Steps.{IsFree, IsSince, IsStep};
+
+use crate::items::{Stop, buffer};
+use crate::labels::failed;
+use crate::starts::Start;
+use index_model::{Index, IndexErr};
+use index_read::read_index;
+use ltfs_label::Label;
+use std::alloc::Global;
+use tape_drive::Drive;
+use tape_meaning::MountErr;
+use tape_types::{Part, Place};
+use volume_scan::Construct;
+
+/// The document of the last index of a partition, which stands there.
+pub fn read_document<D: Drive>(
+    alloc: Global,
+    drive: &mut D,
+    start: Start,
+    part: Part,
+    place: Construct,
+    block: u32,
+) -> Result<Vec<u8>, MountErr>
+    requires since { IsSince D.Drive start drive.old }
+    requires place { IsInPlace (capacity part start.limits) place }
+    requires known { IfSome (D.held drive.old) (λ c. IsNewest (items_of part c) place) }
+    ensures { IsStep D.Drive start (1 + capacity part start.limits) drive.old drive.new
+        (λ document c. IsDocument document.items (indexes_of (items_of part c))) (λ document. Unit {0}) IsFree result }
+{
+    let blocks = place.after - place.first - 1;
+    let mut buffer = buffer(alloc)?;
+    let mut document = Vec::new(alloc);
+    document.reserve(blocks.saturating_mul(u64::from(block)) as usize)?;
+    match drive.locate(Place {
+        part,
+        pos: place.first,
+    }) {
+        Ok(()) => {}
+        Err(_) => return Err(failed(drive, start.faults)),
+    }
+    match read_blocks(drive, blocks, &mut buffer, &mut document) {
+        Ok(()) => Ok(document),
+        Err(Stop::Drive) => Err(failed(drive, start.faults)),
+        Err(Stop::NoMemory) => Err(MountErr::NoMemory),
+    }
+}
+
+/// Appends the bytes of so many blocks from the head on.
+fn read_blocks<D: Drive>(
+    drive: &mut D,
+    blocks: u64,
+    buffer: &mut Vec<u8>,
+    document: &mut Vec<u8>,
+) -> Result<(), Stop>
+    requires located { (at : Place) × (D.head drive.old ≡ Some at) }
+    requires room { 1048576 ≤ vec_capacity buffer.old }
+    requires commands { D.commands drive.old ≤ 2 ^ 64 - 1 }
+    ensures told { OnOk result ((at : Place) (c : Cartridge) (bs : List (List ℕ)) → D.head drive.old ≡ Some at
+        → D.held drive.old ≡ Some c → length bs ≡ blocks → StandAt (items_of at.part c) at.pos bs
+        → document.new.items ≡ document.old.items ++ concat bs) }
+    ensures looks { Looks D.Drive (blocks * D.MOST) drive.old drive.new }
+    ensures cause { IsStopped (D.faults drive.old) (D.faults drive.new) result }
+{
+    let mut done = 0;
+    while done < blocks {
+        match append_block(drive, buffer, document) {
+            Ok(()) => {}
+            Err(stop) => return Err(stop),
+        }
+        done += 1;
+    }
+    Ok(())
+}
+
+/// Appends the bytes of the block at the head.
+fn append_block<D: Drive>(
+    drive: &mut D,
+    buffer: &mut Vec<u8>,
+    document: &mut Vec<u8>,
+) -> Result<(), Stop>
+    requires located { (at : Place) × (D.head drive.old ≡ Some at) }
+    requires room { 1048576 ≤ vec_capacity buffer.old }
+    ensures room { 1048576 ≤ vec_capacity buffer.new }
+    ensures head { OnOk result ((at : Place) × (D.head drive.new ≡ Some at)) }
+    ensures told { OnOk result ((at : Place) (c : Cartridge) (b : List ℕ) → D.head drive.old ≡ Some at
+        → D.held drive.old ≡ Some c → item_at at c ≡ Some (items.Block b)
+        → (D.head drive.new ≡ Some (next at)) × (document.new.items ≡ document.old.items ++ b)) }
+    ensures looks { Looks D.Drive D.MOST drive.old drive.new }
+    ensures cause { IsStopped (D.faults drive.old) (D.faults drive.new) result }
+{
+    match drive.read(buffer) {
+        Ok(_) => match document.extend_from_slice(buffer.as_slice()) {
+            Ok(()) => Ok(()),
+            Err(_) => Err(Stop::NoMemory),
+        },
+        Err(_) => Err(Stop::Drive),
+    }
+}
+
+/// The index of the volume with this label that a document is, which stands there.
+pub fn read_text(
+    alloc: Global,
+    document: &[u8],
+    label: &Label,
+    place: Place,
+) -> Result<Index, MountErr>
+    ensures found { IfOk result (λ index. IndexText document.now index × (index.uuid ≡ label.now.uuid)) }
+    ensures refused { IfErr result (IsBadText document.now label.now.uuid place) }
+{
+    match read_index(alloc, document) {
+        Ok(index) => {
+            if index.uuid == label.uuid {
+                Ok(index)
+            } else {
+                Err(MountErr::WrongVolume(place))
+            }
+        }
+        Err(fault) => Err(told(place, fault)),
+    }
+}
+
+/// Why a document is no index, which stands there.
+fn told(place: Place, fault: IndexErr) -> MountErr
+    ensures { result ≡ told place fault }
+{
+    match fault {
+        IndexErr::NoMemory => MountErr::NoMemory,
+        _ => MountErr::BadIndex(place, fault),
+    }
+}

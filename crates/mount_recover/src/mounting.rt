@@ -1,0 +1,171 @@
+//! Mounting a cartridge.
+
+ghost use Rattle.std.specs.Prelude.{◌≡◌, ◌+◌, ◌*◌, ◌↔◌, true, Some, IfOk, IfErr, IfSome, IsTrue};
+ghost use Rattle.tape_drive.specs.Looks.{Looks};
+ghost use Rattle.tape_types.specs.declared.cartridges.Cartridge.{Cartridge};
+ghost use Rattle.tape_meaning.specs.Labels.{HasLabels};
+ghost use Rattle.tape_meaning.specs.Meaning.{Found};
+ghost use Rattle.tape_meaning.specs.Mounts.{Mounts};
+ghost use Rattle.mount_recover.specs.Labels.{AreLabels, HasCounts};
+ghost use Rattle.std.specs.Option.{option_map};
+ghost use Rattle.mount_recover.specs.declared.choices.Standing.{Standing as StandingOf};
+ghost use Rattle.mount_recover.specs.Lasts.{Agrees, AreInPlaces, AreLasts, AreSoundLasts, IsMountedAs, IsScan, IsSoundMount};
+ghost use Rattle.mount_recover.specs.Steps.{Blames, IsSince, IsStep};
+
+use crate::choices::{Choice, Standing, decide};
+use crate::flags::{Flags, read_flags};
+use crate::labels::read_labels;
+use crate::lasts::{Lasts, read_lasts};
+use crate::scans::{Scans, scan_both};
+use crate::starts::{Start, begin};
+use index_model::Spot;
+use ltfs_label::Label;
+use std::alloc::Global;
+use tape_drive::Drive;
+use tape_meaning::{Labels, MountErr, Mounted};
+use tape_types::Part;
+
+/// Reads what the cartridge in a drive stands for, and writes nothing (LTFS 2.4 on mounting).
+///
+/// # Errors
+///
+/// The first check that fails, in the order of `MountErr`. `Drive` where the drive failed, and `NoMemory` where memory
+/// was refused.
+pub fn mount<D: Drive>(alloc: Global, drive: &mut D) -> Result<Mounted, MountErr>
+    ensures found { IfOk result (λ m. (c : Cartridge) → D.held drive.old ≡ Some c → Mounts c m) }
+    ensures refused { IfErr result (λ e. (c : Cartridge) → D.held drive.old ≡ Some c → Blames e c) }
+    ensures any { IfOk result (IsSoundMount (D.limits drive.old)) }
+    ensures counts { HasCounts (D.faults drive.old) (D.faults drive.new) result }
+    ensures looks { Looks D.Drive
+        ((23 + 2 * (D.limits drive.old).cap_ip + 2 * (D.limits drive.old).cap_dp) * D.MOST) drive.old drive.new }
+{
+    let start = begin(drive);
+    find(alloc, drive, start)
+}
+
+/// The checks in their order, the labels first.
+fn find<D: Drive>(alloc: Global, drive: &mut D, start: Start) -> Result<Mounted, MountErr>
+    requires since { IsSince D.Drive start drive.old }
+    requires now { start.faults ≡ D.faults drive.old }
+    ensures { IsStep D.Drive start (12 + (((1 + start.limits.cap_ip) + (1 + start.limits.cap_dp))
+        + (((1 + start.limits.cap_dp) + (1 + start.limits.cap_ip)) + 7)))
+        drive.old drive.new (λ m c. Mounts c m) (IsSoundMount start.limits) Blames result }
+{
+    let labels = find_labels(alloc, drive, start)?;
+    find_by_labels(alloc, drive, start, labels)
+}
+
+fn find_labels<D: Drive>(alloc: Global, drive: &mut D, start: Start) -> Result<Labels, MountErr>
+    requires since { IsSince D.Drive start drive.old }
+    requires now { start.faults ≡ D.faults drive.old }
+    ensures { IsStep D.Drive start 12 drive.old drive.new (λ l c. HasLabels c l) AreLabels Blames result }
+{
+    read_labels(alloc, drive)
+}
+
+/// Where the labels are known.
+fn find_by_labels<D: Drive>(
+    alloc: Global,
+    drive: &mut D,
+    start: Start,
+    labels: Labels,
+) -> Result<Mounted, MountErr>
+    requires since { IsSince D.Drive start drive.old }
+    requires sound { AreLabels labels }
+    requires known { IfSome (D.held drive.old) (λ c. HasLabels c labels) }
+    ensures { IsStep D.Drive start (((1 + start.limits.cap_ip) + (1 + start.limits.cap_dp))
+        + (((1 + start.limits.cap_dp) + (1 + start.limits.cap_ip)) + 7))
+        drive.old drive.new (λ m c. Mounts c m) (IsSoundMount start.limits) Blames result }
+{
+    let scans = scan_both(alloc, drive, start)?;
+    find_by_scans(alloc, drive, start, labels, &scans)
+}
+
+/// Where both partitions are scanned.
+fn find_by_scans<D: Drive>(
+    alloc: Global,
+    drive: &mut D,
+    start: Start,
+    labels: Labels,
+    scans: &Scans,
+) -> Result<Mounted, MountErr>
+    requires since { IsSince D.Drive start drive.old }
+    requires sound { AreLabels labels }
+    requires places { AreInPlaces start.limits scans.now }
+    requires known { IfSome (D.held drive.old) (IsScan labels scans.now) }
+    ensures { IsStep D.Drive start (((1 + start.limits.cap_dp) + (1 + start.limits.cap_ip)) + 7)
+        drive.old drive.new (λ m c. Mounts c m) (IsSoundMount start.limits) Blames result }
+{
+    let lasts = read_lasts(alloc, drive, start, &labels, scans)?;
+    find_by_lasts(alloc, drive, start, labels, scans, lasts)
+}
+
+/// Where the last indexes are read.
+fn find_by_lasts<D: Drive>(
+    alloc: Global,
+    drive: &mut D,
+    start: Start,
+    labels: Labels,
+    scans: &Scans,
+    lasts: Lasts,
+) -> Result<Mounted, MountErr>
+    requires since { IsSince D.Drive start drive.old }
+    requires sound { AreLabels labels }
+    requires places { AreInPlaces start.limits scans.now }
+    requires sound_lasts { AreSoundLasts labels.ip start.limits lasts }
+    requires known { IfSome (D.held drive.old) (λ c. IsScan labels scans.now c × AreLasts labels.ip lasts c) }
+    ensures { IsStep D.Drive start 7 drive.old drive.new (λ m c. Mounts c m) (IsSoundMount start.limits) Blames result }
+{
+    let choice = match decide(&labels, scans, lasts) {
+        Ok(choice) => choice,
+        Err(fault) => return Err(fault),
+    };
+    let flags = read_flags(alloc, drive, start, labels.ip.uuid, scans, &choice)?;
+    Ok(mounted(labels.ip, choice, flags))
+}
+
+/// What is found, with what a close has to do.
+fn mounted(label: Label, choice: Choice, flags: Flags) -> Mounted
+    ensures { IsMountedAs label choice flags result }
+{
+    let ip_on = choice.chosen.part == Part::Dp;
+    Mounted {
+        newest: choice.index.generation,
+        end_ip: choice.ends.ip,
+        end_dp: choice.ends.dp,
+        last_dp: first_of(choice.dp),
+        ip_on,
+        dp_done: ip_on && flags.dp_ends,
+        ip_done: flags.ip_ends && agrees(label.dpart, &choice),
+        noted: flags.noted,
+        chosen: choice.chosen,
+        label,
+        index: choice.index,
+    }
+}
+
+fn first_of(last: Option<Standing>) -> Option<u64>
+    ensures { result ≡ option_map (λ (s : StandingOf). s.place.first) last }
+{
+    match last {
+        None => None,
+        Some(last) => Some(last.place.first),
+    }
+}
+
+/// Whether the last index of the index partition is of the chosen generation, and points back to that of the data
+/// partition with this letter.
+fn agrees(dpart: u8, choice: &Choice) -> bool
+    ensures { IsTrue result ↔ Agrees dpart choice.now }
+{
+    match (choice.ip, choice.dp) {
+        (Some(ip), Some(dp)) => {
+            let last = Spot {
+                letter: dpart,
+                block: dp.place.first,
+            };
+            ip.generation == choice.index.generation && ip.back == Some(last)
+        }
+        _ => false,
+    }
+}
