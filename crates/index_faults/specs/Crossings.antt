@@ -7,7 +7,8 @@ use Rattle.index_model.specs.Places.{IsAt}
 abbrev pub EndsInTime : RawExtent → Type 0
 EndsInTime e = e.offset + e.count ≤ 2 ^ 62
 
--- The end after an extent: the old one where it has no bytes, else its own, and then it begins at or behind the old one.
+-- The end after an extent: the old one where it has no bytes, else its own, and then it begins at or behind the old
+-- one.
 abbrev pub Follows : ℕ → RawExtent → ℕ → Type 0
 Follows end e next = ((e.count ≡ 0) × (next ≡ end)) ⊎ ((0 < e.count) × (end ≤ e.offset) × (next ≡ e.offset + e.count))
 

@@ -1,3 +1,4 @@
+pub mod Cuts
 pub mod Walks
 pub mod OrderLaws
 pub mod FaultLaws

@@ -14,7 +14,8 @@ abbrev pub hello : RawExtent
 hello = record { offset = 0; letter = 98; block = 7; byte = 0; count = 5 }
 
 abbrev pub node : Times → ℕ → ℕ → List ℕ → Kind → Node
-node times parent uid name kind = record { parent = parent; uid = uid; name = name; times = times; readonly = false; kind = kind }
+node times parent uid name kind =
+    record { parent = parent; uid = uid; name = name; times = times; readonly = false; kind = kind }
 
 -- what stands behind the root
 abbrev pub archive_rest : Times → List Node
@@ -55,7 +56,9 @@ with_file times kind = node times 0 1 [] kinds.Dir ∷ node times 0 2 (codes "f"
 
 -- two nodes of one directory with one name
 abbrev pub one_name : Times → List Node
-one_name times = node times 0 1 [] kinds.Dir ∷ node times 0 3 (codes "docs") kinds.Dir ∷ node times 0 2 (codes "docs") kinds.Dir ∷ []
+one_name times =
+    node times 0 1 [] kinds.Dir ∷ node times 0 3 (codes "docs") kinds.Dir ∷ node times 0 2 (codes "docs") kinds.Dir
+    ∷ []
 
 -- a file a byte too long
 abbrev pub long_file : Times → List Node
@@ -71,13 +74,17 @@ touching =
 
 -- two extents that share a byte
 abbrev pub shared_byte : Times → List Node
-shared_byte times = with_file times (kinds.File 5 (hello ∷ record { offset = 4; letter = 98; block = 9; byte = 0; count = 1 } ∷ []))
+shared_byte times =
+    with_file times (kinds.File 5 (hello ∷ record { offset = 4; letter = 98; block = 9; byte = 0; count = 1 } ∷ []))
 
 -- a node behind its directory's sibling
 abbrev pub late_node : Times → List Node
 late_node times =
-    node times 0 1 [] kinds.Dir ∷ node times 0 2 (codes "a") kinds.Dir ∷ node times 0 3 (codes "b") kinds.Dir ∷ node times 1 4 (codes "c") kinds.Dir ∷ []
+    node times 0 1 [] kinds.Dir ∷ node times 0 2 (codes "a") kinds.Dir ∷ node times 0 3 (codes "b") kinds.Dir
+    ∷ node times 1 4 (codes "c") kinds.Dir ∷ []
 
 -- a node in a file
 abbrev pub node_in_file : Times → List Node
-node_in_file times = node times 0 1 [] kinds.Dir ∷ node times 0 2 (codes "f") (kinds.File 0 []) ∷ node times 1 3 (codes "g") kinds.Dir ∷ []
+node_in_file times =
+    node times 0 1 [] kinds.Dir ∷ node times 0 2 (codes "f") (kinds.File 0 []) ∷ node times 1 3 (codes "g") kinds.Dir
+    ∷ []

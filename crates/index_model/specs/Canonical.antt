@@ -58,10 +58,13 @@ abbrev pub spot : Tag → Spot → List ℕ
 spot tag s = element tag (letter Partition s.letter ++ number StartBlock s.block)
 
 abbrev pub policy : Policy → List ℕ
-policy p = element DataPlacementPolicy (element IndexPartitionCriteria (number Size p.size ++ flat_map (name Name) p.names))
+policy p =
+    element DataPlacementPolicy (element IndexPartitionCriteria (number Size p.size ++ flat_map (name Name) p.names))
 
 abbrev pub times : TimesValue → List ℕ
-times t = time CreationTime t.create ++ time ChangeTime t.change ++ time ModifyTime t.modify ++ time AccessTime t.access ++ time BackupTime t.backup
+times t =
+    time CreationTime t.create ++ time ChangeTime t.change ++ time ModifyTime t.modify ++ time AccessTime t.access
+    ++ time BackupTime t.backup
 
 abbrev pub extent : RawExtent → List ℕ
 extent e = element Extent (
@@ -73,10 +76,13 @@ extent e = element Extent (
 
 -- a directory, a file and a symbolic link; the length of a link is that of its text in bytes
 abbrev pub directory_text : NodeFacts → List ℕ → List ℕ
-directory_text f inside = element Directory (number FileUid f.uid ++ name Name f.name ++ times f.times ++ truth ReadOnly f.readonly ++ element Contents inside)
+directory_text f inside =
+    element Directory (number FileUid f.uid ++ name Name f.name ++ times f.times ++ truth ReadOnly f.readonly
+    ++ element Contents inside)
 
 abbrev pub file_front : NodeFacts → ℕ → List ℕ
-file_front f bytes = number FileUid f.uid ++ name Name f.name ++ number Length bytes ++ times f.times ++ truth ReadOnly f.readonly
+file_front f bytes =
+    number FileUid f.uid ++ name Name f.name ++ number Length bytes ++ times f.times ++ truth ReadOnly f.readonly
 
 abbrev pub file_text : NodeFacts → ℕ → List RawExtent → List ℕ
 file_text f bytes extents = element File (file_front f bytes ++ element ExtentInfo (flat_map extent extents))
@@ -109,4 +115,6 @@ abbrev pub head : List ℕ
 head = codes "<?xml version=\"1.0\" encoding=\"UTF-8\"?>"
 
 unfoldable pub canonical : IndexValue → List ℕ
-canonical v = head ++ start_text LtfsIndex Version ++ (volume_text v.volume ++ directory_text v.root (nodes_text v.inside)) ++ end_text LtfsIndex
+canonical v =
+    head ++ start_text LtfsIndex Version ++ (volume_text v.volume ++ directory_text v.root (nodes_text v.inside))
+    ++ end_text LtfsIndex

@@ -85,9 +85,12 @@ pub record Accepts (text : List ℕ) (ps : List Piece) : Type 0 where
 -- where and why it doesn't go on: at its declaration, at its root, at a piece, or behind its root
 pub data Halts (text : List ℕ) : IndexErr → Type 0 where
   at_head : {e : IndexErr} → lift (head_at text 0) ≡ Err e → Halts text e
-  at_root : {e : IndexErr} (from : ℕ) → head_at text 0 ≡ Ok from → root_at text (space_end text from) ≡ Err e → Halts text e
-  at_piece : {e : IndexErr} (ps : List Piece) (point : Point) (f : Frame) (fs : List Frame) → Open text ps point → point.parents ≡ f ∷ fs → piece_at f point.nodes text point.at ≡ Err e → Halts text e
-  at_end : (ps : List Piece) (point : Point) → Open text ps point → point.parents ≡ [] → space_end text point.at ≢ length text → Halts text (errors.Syntax (space_end text point.at))
+  at_root : {e : IndexErr} (from : ℕ) → head_at text 0 ≡ Ok from → root_at text (space_end text from) ≡ Err e →
+      Halts text e
+  at_piece : {e : IndexErr} (ps : List Piece) (point : Point) (f : Frame) (fs : List Frame) → Open text ps point →
+      point.parents ≡ f ∷ fs → piece_at f point.nodes text point.at ≡ Err e → Halts text e
+  at_end : (ps : List Piece) (point : Point) → Open text ps point → point.parents ≡ [] →
+      space_end text point.at ≢ length text → Halts text (errors.Syntax (space_end text point.at))
 
 -- ---- the text in UTF-8
 

@@ -47,8 +47,10 @@ pub record ShareOffset (extents : List RawExtent) (at other offset : ℕ) : Type
 -- bytes shares none.
 pub record AreFiles (nodes : List Node) : Type 0 where
   pub size : (at bytes : ℕ) (extents : List RawExtent) → IsFileAt nodes at bytes extents → bytes ≤ 2 ^ 40
-  pub ends : (at bytes : ℕ) (extents : List RawExtent) → IsFileAt nodes at bytes extents → AllByRecursion (λ e. e.offset + e.count ≤ 2 ^ 62) extents
-  pub apart : (at bytes : ℕ) (extents : List RawExtent) → IsFileAt nodes at bytes extents → (one two offset : ℕ) → ShareOffset extents one two offset → one ≡ two
+  pub ends : (at bytes : ℕ) (extents : List RawExtent) → IsFileAt nodes at bytes extents →
+      AllByRecursion (λ e. e.offset + e.count ≤ 2 ^ 62) extents
+  pub apart : (at bytes : ℕ) (extents : List RawExtent) → IsFileAt nodes at bytes extents → (one two offset : ℕ) →
+      ShareOffset extents one two offset → one ≡ two
 
 -- some extent ends past 2^62
 pub record EndsTooFar (extents : List RawExtent) : Type 0 where

@@ -50,7 +50,8 @@ pub record Starts (text : List ℕ) (p : Place) (at : ℕ) (c : Child) (tag : Ta
   pub named : named_at text at ≡ Ok (tag, name_end)
   pub rest : rest_at tag at text name_end ≡ Ok start
 
--- an element may stand behind others in a parent: none of it has stood there, unless it may repeat, and none that it excludes
+-- an element may stand behind others in a parent: none of it has stood there, unless it may repeat, and none that it
+-- excludes
 pub record MayFollow (p : Place) (seen : List Tag) (tag : Tag) : Type 0 where
   pub alone : has_any (excludes tag) seen ≡ false
   pub once : (member tag seen && not (may_repeat p tag)) ≡ false
@@ -58,14 +59,23 @@ pub record MayFollow (p : Place) (seen : List Tag) (tag : Tag) : Type 0 where
 abbrev mutual
   -- the spelling of a child of p, from one place up to another
   pub Spelled : List ℕ → Place → ℕ → Item → ℕ → Type 0
-  Spelled text p at (plain tag v) next = (form : Form) × (start : Start) × Starts text p at (child.Leaf form) tag start × (leaf_at form tag at start text ≡ Ok (v, next))
-  Spelled text p at (bare q) next = (start : Start) × Starts text p at (child.Parent q) (tag_of q) start × (start.empty ≡ true) × (start.next ≡ next) × (first_missing (required q) [] ≡ None)
-  Spelled text p at (nested q is) next = (start : Start) × Starts text p at (child.Parent q) (tag_of q) start × (start.empty ≡ false) × (end : ℕ) × AllSpelled text q [] start.next is end × (end_at text end (tag_of q) ≡ Ok next)
+  Spelled text p at (plain tag v) next =
+      (form : Form) × (start : Start) × Starts text p at (child.Leaf form) tag start
+      × (leaf_at form tag at start text ≡ Ok (v, next))
+  Spelled text p at (bare q) next =
+      (start : Start) × Starts text p at (child.Parent q) (tag_of q) start × (start.empty ≡ true)
+      × (start.next ≡ next) × (first_missing (required q) [] ≡ None)
+  Spelled text p at (nested q is) next =
+      (start : Start) × Starts text p at (child.Parent q) (tag_of q) start × (start.empty ≡ false) × (end : ℕ)
+      × AllSpelled text q [] start.next is end × (end_at text end (tag_of q) ≡ Ok next)
 
-  -- the spellings of children of p, behind some that stood there: each may stand there, and each that is required has come
+  -- the spellings of children of p, behind some that stood there: each may stand there, and each that is required has
+  -- come
   pub AllSpelled : List ℕ → Place → List Tag → ℕ → Items → ℕ → Type 0
   AllSpelled text p seen at no_items end = (end ≡ space_end text at) × (first_missing (required p) seen ≡ None)
-  AllSpelled text p seen at (item i is) end = MayFollow p seen (item_tag i) × (next : ℕ) × Spelled text p (space_end text at) i next × AllSpelled text p (item_tag i ∷ seen) next is end
+  AllSpelled text p seen at (item i is) end =
+      MayFollow p seen (item_tag i) × (next : ℕ) × Spelled text p (space_end text at) i next
+      × AllSpelled text p (item_tag i ∷ seen) next is end
 
 -- how many elements are nodes
 abbrev mutual
@@ -162,7 +172,8 @@ pub record TellsExtent (is : Items) (e : RawExtent) : Type 0 where
 -- the extents among children, in their order
 abbrev pub TellsExtents : Items → List RawExtent → Type 0
 TellsExtents no_items es = es ≡ []
-TellsExtents (item (nested place.Extent is) more) es = (e : RawExtent) × (behind : List RawExtent) × (es ≡ e ∷ behind) × TellsExtent is e × TellsExtents more behind
+TellsExtents (item (nested place.Extent is) more) es =
+    (e : RawExtent) × (behind : List RawExtent) × (es ≡ e ∷ behind) × TellsExtent is e × TellsExtents more behind
 TellsExtents (item _ more) es = TellsExtents more es
 
 -- the extents of a file, which has none where none are told
@@ -193,7 +204,8 @@ abbrev mutual
   pub TellsNodes : Items → Nodes → Type 0
   TellsNodes no_items nodes = nodes ≡ no_nodes
   TellsNodes (item (nested place.Directory is) more) nodes =
-      (facts : NodeFacts) × (inner : Nodes) × (behind : Nodes) × (nodes ≡ directory facts inner behind) × TellsFacts is facts × TellsContents is inner × TellsNodes more behind
+      (facts : NodeFacts) × (inner : Nodes) × (behind : Nodes) × (nodes ≡ directory facts inner behind)
+      × TellsFacts is facts × TellsContents is inner × TellsNodes more behind
   TellsNodes (item (nested place.File is) more) nodes =
       (behind : Nodes) × (TellsFile is nodes behind ⊎ TellsLink is nodes behind) × TellsNodes more behind
   TellsNodes (item _ more) nodes = TellsNodes more nodes

@@ -9,6 +9,7 @@ pub mod Valid
 pub mod Refusals
 pub mod Values
 pub mod Canonical
+pub mod Cuts
 pub mod Schema
 pub mod Pieces
 pub mod Documents

@@ -14,7 +14,8 @@ pub record IsDirAt (nodes : List Node) (at : ℕ) : Type 0 where
 -- the node at a place is the one at this upper place, or is in it, or in a directory that is, and so on
 pub data LiesIn (nodes : List Node) : ℕ → ℕ → Type 0 where
   itself : (at : ℕ) → LiesIn nodes at at
-  through : (at upper : ℕ) (node : Node) → 0 < at → IsAt nodes at node → LiesIn nodes node.parent upper → LiesIn nodes at upper
+  through : (at upper : ℕ) (node : Node) → 0 < at → IsAt nodes at node → LiesIn nodes node.parent upper →
+      LiesIn nodes at upper
 
 -- the root: a directory, whose parent is given as place 0
 pub record IsRoot (node : Node) : Type 0 where

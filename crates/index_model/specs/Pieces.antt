@@ -1,4 +1,5 @@
--- The piece of a document that follows: an end tag of the innermost open parent, a start tag of a parent, or a whole leaf.
+-- The piece of a document that follows: an end tag of the innermost open parent, a start tag of a parent, or a whole
+-- leaf.
 use Rattle.std.specs.Prelude.{ℕ, ◌+◌, ◌^◌, List, [], Bool, true, false, Option, Some, None, Result, Ok, Err, length, nat_le, nat_lt, not, ◌==◌, ◌&&◌, if◌then◌else◌}
 use Rattle.std.specs.List.{list_any}
 use Rattle.std.specs.Str.{chars, is_utf8}
@@ -82,12 +83,14 @@ is_too_great form.Generation n = nat_lt (2 ^ 62) n
 is_too_great form.Bounded n = nat_lt (2 ^ 62) n
 is_too_great _ n = false
 
--- a number, behind which the place is told, within its range; where the text ends behind one that is too small, it could
--- go on
+-- A number, behind which the place is told, within its range. Of one that is too small and ends with the text that
+-- end is told: a digit more could still make it great enough, but for one of 20 digits, which is told in the same
+-- way.
 abbrev pub in_range : Form → List ℕ → ℕ → ℕ × ℕ → Result (ℕ × ℕ) IndexErr
 in_range f text from n =
     if is_too_great f n.0 then Err (errors.Number from)
-    else (if nat_lt n.0 (least f) then Err (if n.1 == length text then errors.Syntax (length text) else errors.Number from)
+    else (if nat_lt n.0 (least f)
+    then Err (if n.1 == length text then errors.Syntax (length text) else errors.Number from)
     else Ok n)
 
 unfoldable pub number_in : Form → List ℕ → ℕ → Result (Val × ℕ) IndexErr
@@ -223,8 +226,10 @@ close_at f text at = do
   _ ← none_missing (first_missing (required f.place) f.seen)
   Ok (closes, next)
 
--- the piece that follows inside an open parent, in a document with so many nodes before it, and the place behind the piece
+-- the piece that follows inside an open parent, in a document with so many nodes before it, and the place behind the
+-- piece
 unfoldable pub piece_at : Frame → ℕ → List ℕ → ℕ → Result (Piece × ℕ) IndexErr
 piece_at f nodes text at =
-    if byte text (space_end text at) == 60 && byte text (space_end text at + 1) == 47 then close_at f text (space_end text at)
+    if byte text (space_end text at) == 60 && byte text (space_end text at + 1) == 47
+    then close_at f text (space_end text at)
     else child_at f nodes text (space_end text at)

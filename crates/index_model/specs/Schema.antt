@@ -97,15 +97,20 @@ rule place.Extent tag = extent_rule tag
 
 -- the children that a parent must have
 abbrev pub required : Place → List Tag
-required place.Index = Creator ∷ VolumeUuid ∷ GenerationNumber ∷ UpdateTime ∷ Location ∷ AllowPolicyUpdate ∷ HighestFileUid ∷ Directory ∷ []
+required place.Index =
+    Creator ∷ VolumeUuid ∷ GenerationNumber ∷ UpdateTime ∷ Location ∷ AllowPolicyUpdate ∷ HighestFileUid ∷ Directory
+    ∷ []
 required place.Here = Partition ∷ StartBlock ∷ []
 required place.Back = Partition ∷ StartBlock ∷ []
 required place.Policy = IndexPartitionCriteria ∷ []
 required place.Criteria = Size ∷ []
-required place.Root = FileUid ∷ Name ∷ CreationTime ∷ ChangeTime ∷ ModifyTime ∷ AccessTime ∷ BackupTime ∷ ReadOnly ∷ Contents ∷ []
-required place.Directory = FileUid ∷ Name ∷ CreationTime ∷ ChangeTime ∷ ModifyTime ∷ AccessTime ∷ BackupTime ∷ ReadOnly ∷ Contents ∷ []
+required place.Root =
+    FileUid ∷ Name ∷ CreationTime ∷ ChangeTime ∷ ModifyTime ∷ AccessTime ∷ BackupTime ∷ ReadOnly ∷ Contents ∷ []
+required place.Directory =
+    FileUid ∷ Name ∷ CreationTime ∷ ChangeTime ∷ ModifyTime ∷ AccessTime ∷ BackupTime ∷ ReadOnly ∷ Contents ∷ []
 required place.Contents = []
-required place.File = FileUid ∷ Name ∷ Length ∷ CreationTime ∷ ChangeTime ∷ ModifyTime ∷ AccessTime ∷ BackupTime ∷ ReadOnly ∷ []
+required place.File =
+    FileUid ∷ Name ∷ Length ∷ CreationTime ∷ ChangeTime ∷ ModifyTime ∷ AccessTime ∷ BackupTime ∷ ReadOnly ∷ []
 required place.Attributes = []
 required place.ExtentInfo = []
 required place.Extent = FileOffset ∷ Partition ∷ StartBlock ∷ ByteOffset ∷ ByteCount ∷ []

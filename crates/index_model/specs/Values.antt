@@ -77,7 +77,8 @@ abbrev pub listed : (parent at : ℕ) → Nodes → List NodeValue
 listed parent at no_nodes = []
 listed parent at (directory facts inside behind) =
     value_in parent facts kinds.Dir ∷ (listed at (at + 1) inside ++ listed parent (at + 1 + count inside) behind)
-listed parent at (file facts bytes extents behind) = value_in parent facts (kinds.File bytes extents) ∷ listed parent (at + 1) behind
+listed parent at (file facts bytes extents behind) =
+    value_in parent facts (kinds.File bytes extents) ∷ listed parent (at + 1) behind
 listed parent at (link facts text behind) = value_in parent facts (kinds.Link text) ∷ listed parent (at + 1) behind
 
 -- all nodes, the root first

@@ -15,7 +15,8 @@ fn the_definitions_tell_valid_from_damaged()
     ensures touching { (times : Times) → AreFiles (with_file times (kinds.File 5 touching)) }
     ensures late { (times : Times) → ¬ AreInOrder (late_node times) }
     ensures in_file { (times : Times) → ¬ AreInOrder (node_in_file times) }
-    ensures highest { (at : Moment) (times : Times) → IsToldOf (index_of at (2 ^ 62 + 1) (archive_nodes times)) (faults.Uid (2 ^ 62 + 1)) }
+    ensures highest { (at : Moment) (times : Times) →
+        IsToldOf (index_of at (2 ^ 62 + 1) (archive_nodes times)) (faults.Uid (2 ^ 62 + 1)) }
     ensures uid { (at : Moment) (times : Times) → IsToldOf (index_of at 3 (archive_nodes times)) (faults.Uid 4) }
     ensures name { (at : Moment) (times : Times) → IsToldOf (index_of at 3 (one_name times)) (faults.SameName 2) }
     ensures long { (at : Moment) (times : Times) → IsToldOf (index_of at 2 (long_file times)) (faults.Extent 2) }

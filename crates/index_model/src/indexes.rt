@@ -1,4 +1,5 @@
 use crate::nodes::Node;
+use crate::text_list::TextList;
 use doc_fields::LockState;
 use tape_types::{List, Moment, Text};
 
@@ -21,8 +22,9 @@ pub struct Policy {
     /// In bytes, at most 2^62 in a valid index.
     pub size: u64,
     /// The patterns, in the order of the document. Each may be any text, an empty one too.
-    pub names: List<Text>,
+    pub names: TextList,
 }
+
 /// An index of a volume (LTFS 2.4 on the index).
 #[derive(Drop)]
 pub struct Index {

@@ -18,7 +18,8 @@ pub fn one_fault_is_told()
 /// In the order of the document all that lies in a directory stands together, directly behind
 /// it.
 pub fn directories_stand_together()
-    ensures { (nodes : List Node) (upper at later : ℕ) (node : Node) → AreInOrder nodes → upper < at → at < later → IsAt nodes later node → LiesIn nodes later upper → LiesIn nodes at upper }
+    ensures { (nodes : List Node) (upper at later : ℕ) (node : Node) → AreInOrder nodes → upper < at → at < later →
+        IsAt nodes later node → LiesIn nodes later upper → LiesIn nodes at upper }
 {}
 
 /// An index whose nodes stand in the order of the document tells one value.

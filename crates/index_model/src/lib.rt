@@ -17,6 +17,7 @@ mod slow;
 mod telling;
 #[cfg(test)]
 mod tests;
+mod text_list;
 
 pub use errors::IndexErr;
 pub use faults::Fault;
@@ -25,3 +26,4 @@ pub use laws::{directories_stand_together, indexes_tell_one_value, one_fault_is_
 pub use nodes::{Kind, Node, RawExtent};
 pub use schema::{Child, Form, Place, child_of, excludes, is_node, may_repeat, required, tag_of};
 pub use telling::refusal_text;
+pub use text_list::TextList;

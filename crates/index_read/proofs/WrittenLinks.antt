@@ -7,8 +7,7 @@ use Rattle.percent_encoding.specs.AsciiSet.{should_percent_encode}
 use Rattle.doc_fields.specs.declared.tags.Tag.TheVariants.{LtfsIndex, Directory, File, FileUid, Name, ReadOnly, Contents, Symlink}
 use Rattle.doc_fields.specs.declared.starts.Attribute.TheVariants.{Absent, Version}
 use Rattle.doc_fields.specs.Written.{end_text, escape, escaped, start_text}
-use Rattle.ltfs_text.specs.declared.names.TheConstants.{ESCAPED}
-use Rattle.ltfs_text.specs.Names.{has_special, written}
+use Rattle.ltfs_text.specs.Names.{encoded, has_special, is_escaped, written}
 use Rattle.index_model.specs.declared.indexes.Index.{Index}
 use Rattle.index_model.specs.Canonical.{canonical, directory_text, element, encoding, file_front, file_text, head, link_text, name, nodes_text, number, times, truth, volume_text}
 use Rattle.index_model.specs.Grammar.{IndexText}
@@ -40,13 +39,12 @@ some_escaped b =
     (some_if (b == 62) (codes "&gt;") _ (omega arith)
     (some_if (b == 13) (codes "&#13;") (b ∷ []) (omega arith) (one_byte b))))
 
-some_encoded : (b : ℕ) → 1 ≤ length (encode_byte ESCAPED b)
+some_encoded : (b : ℕ) → 1 ≤ length (if is_escaped b then percent_encode_byte b else b ∷ [])
 unfolding percent_encode_byte
-some_encoded b = some_if (should_percent_encode ESCAPED b) (percent_encode_byte b) (b ∷ []) (omega arith) (one_byte b)
+some_encoded b = some_if (is_escaped b) (percent_encode_byte b) (b ∷ []) (omega arith) (one_byte b)
 
-encoded_longer : (text : List ℕ) → length text ≤ length (percent_encode ESCAPED text)
-unfolding percent_encode
-encoded_longer text = flat_longer (encode_byte ESCAPED) some_encoded text
+encoded_longer : (text : List ℕ) → length text ≤ length (encoded text)
+encoded_longer text = flat_longer (λ (b : ℕ). if is_escaped b then percent_encode_byte b else b ∷ []) some_encoded text
 
 written_longer : (text : List ℕ) → length text ≤ length (written text).text
 written_longer text =

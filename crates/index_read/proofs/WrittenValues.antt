@@ -31,7 +31,7 @@ use Rattle.doc_fields.proofs.ValuesAgain.{bool_again, decimal_written, length_ti
 use Rattle.doc_fields.proofs.WrittenBytes.{ascii_valid, civil_valid, decimal_first, decimal_valid, one_valid, space_first, time_first, uuid_first, uuid_valid}
 use Rattle.ltfs_text.specs.declared.names.TheConstants.{ESCAPED}
 use Rattle.ltfs_text.specs.Names.{decoded, has_special, is_special, written}
-use Rattle.ltfs_text.proofs.Texts.{written_back, written_plain}
+use Rattle.ltfs_text.proofs.Texts.{encodes_as, written_back, written_plain}
 use Rattle.index_model.specs.declared.schema.Form.{Form}
 use Rattle.index_model.specs.declared.schema.Form.TheVariants as form
 use Rattle.index_model.specs.Canonical.{encoding}
@@ -59,7 +59,7 @@ all_allowed (c ∷ cs) e plain =
 written_utf8 : (name : List ℕ) → IsUtf8 name → IsUtf8 (written name).text
 written_utf8 name u =
     elim (has_special name) as (λ b. has_special name ≡ b → IsUtf8 (written name).text) [
-      | true ↦ λ e. rw e (IsUtf8-from_ascii (percent_encode ESCAPED name) (IsAscii-percent_encode ESCAPED name))
+      | true ↦ λ e. rw (e, ← encodes_as name) (IsUtf8-from_ascii (percent_encode ESCAPED name) (IsAscii-percent_encode ESCAPED name))
       | false ↦ λ e. rw e u
     ] refl
 

@@ -128,7 +128,13 @@ extent_with i e = record {
 
 -- the first moment of 1970
 abbrev pub epoch : Moment
-epoch = record { secs = pos 0; nanos = 0; not_before = record { le = tt }; not_after = record { le = tt }; within_second = lit< tt }
+epoch = record {
+  secs = pos 0;
+  nanos = 0;
+  not_before = record { le = tt };
+  not_after = record { le = tt };
+  within_second = lit< tt;
+}
 
 abbrev pub blank_spot : Spot
 blank_spot = record { letter = 0; block = 0 }
@@ -155,10 +161,20 @@ blank_volume = record {
 }
 
 abbrev pub blank_times : TimesValue
-blank_times = record { create = civil_of epoch; change = civil_of epoch; modify = civil_of epoch; access = civil_of epoch; backup = civil_of epoch }
+blank_times = record {
+  create = civil_of epoch;
+  change = civil_of epoch;
+  modify = civil_of epoch;
+  access = civil_of epoch;
+  backup = civil_of epoch;
+}
 
 abbrev pub blank_node : ℕ → Kind → NodeValue
-blank_node parent kind = record { parent = parent; facts = record { uid = 0; name = []; times = blank_times; readonly = false }; kind = kind }
+blank_node parent kind = record {
+  parent = parent;
+  facts = record { uid = 0; name = []; times = blank_times; readonly = false };
+  kind = kind;
+}
 
 -- ---- a document up to a place
 
@@ -197,7 +213,8 @@ abbrev pub leaf_told : Place → ℕ → Item → State → State
 leaf_told place.Index node i s = record s { volume = volume_with i s.volume }
 leaf_told place.Here node i s = record s { volume = record s.volume { here = spot_with i s.volume.here } }
 leaf_told place.Back node i s = record s { volume = record s.volume { back = option_map (spot_with i) s.volume.back } }
-leaf_told place.Criteria node i s = record s { volume = record s.volume { policy = option_map (policy_with i) s.volume.policy } }
+leaf_told place.Criteria node i s =
+    record s { volume = record s.volume { policy = option_map (policy_with i) s.volume.policy } }
 leaf_told place.Root node i s = record s { nodes = changed node (node_with i) s.nodes }
 leaf_told place.Directory node i s = record s { nodes = changed node (node_with i) s.nodes }
 leaf_told place.File node i s = record s { nodes = changed node (node_with i) s.nodes }

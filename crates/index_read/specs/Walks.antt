@@ -58,7 +58,8 @@ Keeps (o ∷ os) top outer done = (done ≡ false) × (top ≡ coded o) × (oute
 -- the pieces from the root's start tag to its end tag, and what they tell
 pub record Walked (text : List ℕ) (inside to : ℕ) (s : State) : Type 0 where
   pub ps : List Piece
-  pub reaches : Reaches text ps inside (fresh place.Index ∷ []) 0 (record { at = to; parents = []; nodes = length s.nodes })
+  pub reaches :
+      Reaches text ps inside (fresh place.Index ∷ []) 0 (record { at = to; parents = []; nodes = length s.nodes })
   pub tells : Tell ps outermost blank [] s
 
 -- the pieces before the first that doesn't fit

@@ -14,7 +14,7 @@ ghost use Rattle.index_read.specs.Told.{begun, blank, blank_node, blank_volume, 
 
 use crate::values::Value;
 use doc_fields::{LockState, Tag};
-use index_model::{Index, Kind, Node, Place, Policy, RawExtent, Spot};
+use index_model::{Index, Kind, Node, Place, Policy, RawExtent, Spot, TextList};
 use std::alloc::Global;
 use tape_types::{List, Moment, NoMemory, Text, Times};
 
@@ -279,7 +279,7 @@ fn put_pattern(policy: &mut Policy, tag: Tag, text: Text) -> Result<(), NoMemory
 {
     match tag {
         Tag::Name => {
-            policy.names.push(text)?;
+            policy.names.push(text.as_str())?;
             Ok(())
         }
         _ => Ok(()),
@@ -288,7 +288,8 @@ fn put_pattern(policy: &mut Policy, tag: Tag, text: Text) -> Result<(), NoMemory
 
 /// Changes a node by a leaf of it.
 fn tell_node(nodes: &mut Vec<Node>, at: u32, tag: Tag, value: Value)
-    ensures { map value_of nodes.new.items ≡ changed at (node_with (plain tag (val_of value))) (map value_of nodes.old.items) }
+    ensures { map value_of nodes.new.items
+        ≡ changed at (node_with (plain tag (val_of value))) (map value_of nodes.old.items) }
 {
     match nodes.get_mut(at as usize) {
         Some(node) => put_node(node, tag, value),
@@ -310,7 +311,8 @@ fn add_extent(kind: &mut Kind, extent: RawExtent) -> Result<(), NoMemory>
 
 /// Gives a file one extent more.
 fn tell_extent(nodes: &mut Vec<Node>, at: u32, extent: RawExtent) -> Result<(), NoMemory>
-    ensures { OnOk result (map value_of nodes.new.items ≡ changed at (with_extent extent) (map value_of nodes.old.items)) }
+    ensures { OnOk result (map value_of nodes.new.items
+        ≡ changed at (with_extent extent) (map value_of nodes.old.items)) }
 {
     match nodes.get_mut(at as usize) {
         Some(node) => add_extent(&mut node.kind, extent),
@@ -347,7 +349,7 @@ impl Draft {
             Place::Criteria => {
                 self.index.policy = Some(Policy {
                     size: 0,
-                    names: List::new(alloc),
+                    names: TextList::new(alloc),
                 });
             }
             Place::Root => push_node(alloc, &mut self.nodes, 0, Kind::Dir)?,
@@ -361,7 +363,8 @@ impl Draft {
 
     /// A leaf of a parent, whose children speak of a node.
     pub fn tell(&mut self, place: Place, node: u32, tag: Tag, value: Value) -> Result<(), NoMemory>
-        ensures { OnOk result (state_of self.new ≡ leaf_told place node (plain tag (val_of value)) (state_of self.old)) }
+        ensures { OnOk result (state_of self.new
+            ≡ leaf_told place node (plain tag (val_of value)) (state_of self.old)) }
     {
         match place {
             Place::Index => put_index(&mut self.index, tag, value),
@@ -410,7 +413,8 @@ fn put_criteria(policy: &mut Option<Policy>, tag: Tag, value: Value) -> Result<(
 }
 
 fn push_file(alloc: Global, nodes: &mut Vec<Node>, parent: u32) -> Result<(), NoMemory>
-    ensures { OnOk result (map value_of nodes.new.items ≡ map value_of nodes.old.items ++ blank_node parent (kinds.File 0 []) ∷ []) }
+    ensures { OnOk result (map value_of nodes.new.items ≡ map value_of nodes.old.items
+        ++ blank_node parent (kinds.File 0 []) ∷ []) }
 {
     let kind = Kind::File {
         length: 0,

@@ -20,8 +20,10 @@ pub fn texts_are_read_in_one_way()
 /// The document that is written of a valid index is that index's (LTFS 2.4 on the index), where
 /// it has fewer than 2^64 bytes, as each in memory has; and also where the text of each link has.
 pub fn documents_read_back()
-    ensures in_memory { (index : Index) (v : IndexValue) → IsValid index → Tells index v → length (canonical v) < 2 ^ 64 → IndexText (canonical v) index }
-    ensures short_links { (index : Index) (v : IndexValue) → IsValid index → Tells index v → AreLinksShort index.nodes → IndexText (canonical v) index }
+    ensures in_memory { (index : Index) (v : IndexValue) → IsValid index → Tells index v →
+        length (canonical v) < 2 ^ 64 → IndexText (canonical v) index }
+    ensures short_links { (index : Index) (v : IndexValue) → IsValid index → Tells index v →
+        AreLinksShort index.nodes → IndexText (canonical v) index }
 {}
 
 /// A text that is an index's is a valid index's.

@@ -60,7 +60,8 @@ fn opens_node(child: Child) -> bool
 #[tactic(auto, unfolding(index_model::specs::Pieces::verdict))]
 fn verdict(frame: Frame, nodes: u32, at: usize, tag: Tag) -> Result<Child, IndexErr>
     ensures room { IfOk result (λ c. opens_node c ≡ true → nodes < 65536) }
-    ensures value { (tags : List Tag) → Holds frame.seen tags → result ≡ verdict (record { place = frame.place; seen = tags }) nodes at tag }
+    ensures value { (tags : List Tag) → Holds frame.seen tags →
+        result ≡ verdict (record { place = frame.place; seen = tags }) nodes at tag }
 {
     let child = child_of(frame.place, tag);
     match child {
@@ -72,7 +73,8 @@ fn verdict(frame: Frame, nodes: u32, at: usize, tag: Tag) -> Result<Child, Index
 /// The same of an element that is known there.
 fn beside(frame: Frame, nodes: u32, at: usize, tag: Tag, child: Child) -> Result<Child, IndexErr>
     ensures room { IfOk result (λ c. opens_node c ≡ true → nodes < 65536) }
-    ensures value { (tags : List Tag) → Holds frame.seen tags → result ≡ beside (record { place = frame.place; seen = tags }) nodes at tag child }
+    ensures value { (tags : List Tag) → Holds frame.seen tags →
+        result ≡ beside (record { place = frame.place; seen = tags }) nodes at tag child }
 {
     if has_any(excludes(tag), frame.seen) {
         return Err(IndexErr::Unknown(at));
@@ -87,7 +89,8 @@ fn beside(frame: Frame, nodes: u32, at: usize, tag: Tag, child: Child) -> Result
 }
 
 fn none_missing(place: Place, seen: Children) -> Result<(), IndexErr>
-    ensures { (tags : List Tag) → Holds seen tags → Gives (λ _. tt) result (none_missing (first_missing (required place) tags)) }
+    ensures { (tags : List Tag) → Holds seen tags →
+        Gives (λ _. tt) result (none_missing (first_missing (required place) tags)) }
 {
     match seen.first_missing(required(place)) {
         None => Ok(()),
@@ -129,7 +132,8 @@ fn made(
 fn close(frame: Frame, text: &[u8], at: usize) -> Result<(Piece, usize), IndexErr>
     requires { at ≤ length text.now }
     ensures room { IfOk result (λ x. (nodes : ℕ) → HasRoom x.0 nodes) }
-    ensures value { (tags : List Tag) → Holds frame.seen tags → Gives (λ x. (piece_of x.0, x.1)) result (close_at (record { place = frame.place; seen = tags }) text.now at) }
+    ensures value { (tags : List Tag) → Holds frame.seen tags →
+        Gives (λ x. (piece_of x.0, x.1)) result (close_at (record { place = frame.place; seen = tags }) text.now at) }
     ensures within { IfOk result (λ x. (at < x.1) × (x.1 ≤ length text.now)) }
 {
     let next = read_end(text, at, tag_of(frame.place))?;
@@ -147,7 +151,8 @@ fn child(
 ) -> Result<(Piece, usize), IndexErr>
     requires { at ≤ length text.now }
     ensures room { IfOk result (λ x. HasRoom x.0 nodes) }
-    ensures value { (tags : List Tag) → Holds frame.seen tags → Gives (λ x. (piece_of x.0, x.1)) result (child_at (record { place = frame.place; seen = tags }) nodes text.now at) }
+    ensures value { (tags : List Tag) → Holds frame.seen tags → Gives (λ x. (piece_of x.0, x.1)) result
+        (child_at (record { place = frame.place; seen = tags }) nodes text.now at) }
     ensures within { IfOk result (λ x. (at < x.1) × (x.1 ≤ length text.now)) }
 {
     let (tag, next) = read_name(text, at)?;
@@ -179,7 +184,8 @@ pub fn next_piece(
 ) -> Result<(Piece, usize), IndexErr>
     requires { at ≤ length text.now }
     ensures room { IfOk result (λ x. HasRoom x.0 nodes) }
-    ensures value { (tags : List Tag) → Holds frame.seen tags → Gives (λ x. (piece_of x.0, x.1)) result (piece_at (record { place = frame.place; seen = tags }) nodes text.now at) }
+    ensures value { (tags : List Tag) → Holds frame.seen tags → Gives (λ x. (piece_of x.0, x.1)) result
+        (piece_at (record { place = frame.place; seen = tags }) nodes text.now at) }
     ensures within { IfOk result (λ x. (at < x.1) × (x.1 ≤ length text.now)) }
 {
     let start = skip_space(text, at);

@@ -1,5 +1,8 @@
 ghost use Rattle.std.specs.Prelude.{◌<◌, length, IfSome};
 
+mod distinct;
+mod rows;
+
 use crate::read_index;
 use doc_fields::{LockState, Tag};
 use index_model::{Index, IndexErr, Kind, RawExtent, Spot};

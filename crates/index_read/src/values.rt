@@ -118,7 +118,8 @@ fn is_encoded(attribute: Attribute) -> bool
 /// UTF-8.
 #[tactic(auto, using(crate::proofs::Names::utf8_is, crate::proofs::Names::utf8_none))]
 fn decode(alloc: Global, text: Text, percent: bool) -> Result<Option<Text>, NoMemory>
-    ensures { IfOk result (λ found. MatchOption found (is_utf8 (decoded percent text) ≡ false) (λ name. (name ≡ decoded percent text) × (is_utf8 (decoded percent text) ≡ true))) }
+    ensures { IfOk result (λ found. MatchOption found (is_utf8 (decoded percent text) ≡ false)
+        (λ name. (name ≡ decoded percent text) × (is_utf8 (decoded percent text) ≡ true))) }
 {
     if !percent {
         let _utf8 = text.as_str();

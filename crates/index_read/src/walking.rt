@@ -37,7 +37,8 @@ fn moved(
     top: &mut Level,
     outer: &mut Vec<Level>,
 ) -> Result<bool, AllocError>
-    ensures { IfOk result (λ done. (s : State) (o : Opened) (os : List Opened) → length s.nodes ≡ nodes → top.old ≡ coded o → outer.old.items ≡ stacked os
+    ensures { IfOk result (λ done. (s : State) (o : Opened) (os : List Opened) → length s.nodes ≡ nodes →
+        top.old ≡ coded o → outer.old.items ≡ stacked os
         → Keeps (opened_after (piece_of piece.now) o os s) top.new outer.new.items done) }
 {
     let level = *top;

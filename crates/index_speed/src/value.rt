@@ -1,5 +1,5 @@
 use doc_fields::LockState;
-use index_model::{Index, Kind, Node, Policy, RawExtent, Spot};
+use index_model::{Index, Kind, Node, Policy, RawExtent, Spot, TextList};
 use std::alloc::Global;
 use tape_types::{List, Moment, NoMemory, Text, Times};
 
@@ -90,8 +90,8 @@ fn node_of(alloc: Global, at: u32) -> Result<Node, NoMemory> {
 }
 
 fn policy_of(alloc: Global) -> Result<Policy, NoMemory> {
-    let mut names = List::new(alloc);
-    names.push(text_of(alloc, "*.txt")?)?;
+    let mut names = TextList::new(alloc);
+    names.push("*.txt")?;
     Ok(Policy {
         size: 1_000_000,
         names,

@@ -34,7 +34,8 @@ text_of (outcomes.Sound generation nodes) = ok_text generation nodes
 text_of (outcomes.Written text) = text
 text_of outcomes.Words = codes "words\n"
 text_of (outcomes.Refused refusal) = refusal_text refusal ++ codes "\n"
-text_of (outcomes.Source counts) = codes "source " ++ (decimal counts.before ++ (codes " " ++ (decimal counts.after ++ codes "\n")))
+text_of (outcomes.Source counts) =
+    codes "source " ++ (decimal counts.before ++ (codes " " ++ (decimal counts.after ++ codes "\n")))
 text_of outcomes.NoMemory = codes "memory\n"
 
 -- the text is an index's of this generation with so many nodes
@@ -57,10 +58,13 @@ IsRefused text refusal = Stops text refusal × (refusal ≢ errors.NoMemory)
 -- When a command comes to this: `left` and `end` are what the source has left before and after, `before` and `now` its
 -- counts of faults.
 abbrev pub IsOutcomeOf : Command → (left end : Option (List ℕ)) → (before now : ℕ) → Outcome → Type 0
-IsOutcomeOf command left end before now (outcomes.Sound generation nodes) = (command ≡ commands.Check) × IfSome left (λ text. IsSound text generation nodes) × IsAtEnd end
-IsOutcomeOf command left end before now (outcomes.Written canon) = (command ≡ commands.Canon) × IfSome left (λ text. IsWritten text canon) × IsAtEnd end
+IsOutcomeOf command left end before now (outcomes.Sound generation nodes) =
+    (command ≡ commands.Check) × IfSome left (λ text. IsSound text generation nodes) × IsAtEnd end
+IsOutcomeOf command left end before now (outcomes.Written canon) =
+    (command ≡ commands.Canon) × IfSome left (λ text. IsWritten text canon) × IsAtEnd end
 IsOutcomeOf command left end before now outcomes.Words = ⊥
-IsOutcomeOf command left end before now (outcomes.Refused refusal) = IfSome left (λ text. IsRefused text refusal) × IsAtEnd end
+IsOutcomeOf command left end before now (outcomes.Refused refusal) =
+    IfSome left (λ text. IsRefused text refusal) × IsAtEnd end
 IsOutcomeOf command left end before now (outcomes.Source counts) = IsRise before now counts.before counts.after
 IsOutcomeOf command left end before now outcomes.NoMemory = Unit {0}
 
@@ -73,7 +77,8 @@ IsCaused words left end before now outcome =
 -- What it comes to is told by its status and its text; or the sink's count rose, and a front of that text was written.
 abbrev pub IsTold : Outcome → (old new : Option (List ℕ)) → (before now : ℕ) → ℕ → Type 0
 IsTold outcome old new before now status =
-    ((status ≡ status_of outcome) × Appends old new (text_of outcome)) ⊎ ((status ≡ 6) × Rose before now × AppendsFront old new (text_of outcome))
+    ((status ≡ status_of outcome) × Appends old new (text_of outcome))
+    ⊎ ((status ≡ 6) × Rose before now × AppendsFront old new (text_of outcome))
 
 -- ---- the same, as a run promises it: what was printed of the text that the source had left
 
@@ -114,8 +119,10 @@ IsWrittenOf index _ = ⊥
 
 -- what a command makes of an index
 abbrev pub IsAnswer : Command → Index → Outcome → Type 0
-IsAnswer command index (outcomes.Sound generation nodes) = (command ≡ commands.Check) × (index.generation ≡ generation) × (length index.nodes ≡ nodes)
-IsAnswer command index (outcomes.Written canon) = (command ≡ commands.Canon) × IsWrittenOf index (outcomes.Written canon)
+IsAnswer command index (outcomes.Sound generation nodes) =
+    (command ≡ commands.Check) × (index.generation ≡ generation) × (length index.nodes ≡ nodes)
+IsAnswer command index (outcomes.Written canon) =
+    (command ≡ commands.Canon) × IsWrittenOf index (outcomes.Written canon)
 IsAnswer command index outcomes.NoMemory = Unit {0}
 IsAnswer command index _ = ⊥
 

@@ -27,11 +27,14 @@ pub fn run<S: Source, K: Sink>(
     out: &mut K,
 ) -> u8
     // After status 0 the input was the document of an index, and its generation and the count of its nodes were printed,
-    ensures checked { result ≡ 0 → IsCommand words.now.items commands.Check → IfSome (S.left source.old) (λ text. IsChecked text (K.written out.old) (K.written out.new)) }
+    ensures checked { result ≡ 0 → IsCommand words.now.items commands.Check →
+        IfSome (S.left source.old) (λ text. IsChecked text (K.written out.old) (K.written out.new)) }
     // or its one text.
-    ensures canon { result ≡ 0 → IsCommand words.now.items commands.Canon → IfSome (S.left source.old) (λ text. IsCanon text (K.written out.old) (K.written out.new)) }
+    ensures canon { result ≡ 0 → IsCommand words.now.items commands.Canon →
+        IfSome (S.left source.old) (λ text. IsCanon text (K.written out.old) (K.written out.new)) }
     // After status 2 the input was no such document, and why was printed.
-    ensures refused { result ≡ 2 → IsKnown words.now.items × IfSome (S.left source.old) (λ text. IsToldWhy text (K.written out.old) (K.written out.new)) }
+    ensures refused { result ≡ 2 → IsKnown words.now.items
+        × IfSome (S.left source.old) (λ text. IsToldWhy text (K.written out.old) (K.written out.new)) }
 
     // Other words are told, and only these.
     ensures words { ¬ (IsKnown words.now.items) → IsOneOf result (1 ∷ 6 ∷ []) }
@@ -41,7 +44,8 @@ pub fn run<S: Source, K: Sink>(
     ensures only_write { result ≡ 6 → Rose (K.faults out.old) (K.faults out.new) }
     ensures statuses { IsOneOf result (0 ∷ 1 ∷ 2 ∷ 5 ∷ 6 ∷ 7 ∷ []) }
     // What is printed is the text of what the run came to, or a front of it where the sink failed.
-    ensures told { (o : Ending) × IsCaused words.now.items (S.left source.old) (S.left source.new) (S.faults source.old) (S.faults source.new) o
+    ensures told { (o : Ending)
+        × IsCaused words.now.items (S.left source.old) (S.left source.new) (S.faults source.old) (S.faults source.new) o
         × IsTold o (K.written out.old) (K.written out.new) (K.faults out.old) (K.faults out.new) result }
 {
     run_told(alloc, words, source, out)
@@ -53,7 +57,8 @@ fn run_told<S: Source, K: Sink>(
     source: &mut S,
     out: &mut K,
 ) -> u8
-    ensures { (o : Ending) × IsCaused words.now.items (S.left source.old) (S.left source.new) (S.faults source.old) (S.faults source.new) o
+    ensures { (o : Ending)
+        × IsCaused words.now.items (S.left source.old) (S.left source.new) (S.faults source.old) (S.faults source.new) o
         × IsTold o (K.written out.old) (K.written out.new) (K.faults out.old) (K.faults out.new) result }
 {
     match read_words(words.as_slice()) {
@@ -67,20 +72,23 @@ fn run_told<S: Source, K: Sink>(
 
 /// Reads the input to its end, and does what is asked for.
 fn run_command<S: Source>(alloc: Global, command: Command, source: &mut S) -> Outcome
-    ensures { IsOutcomeOf command (S.left source.old) (S.left source.new) (S.faults source.old) (S.faults source.new) result }
+    ensures { IsOutcomeOf command
+        (S.left source.old) (S.left source.new) (S.faults source.old) (S.faults source.new) result }
 {
     match read_input(alloc, source, NO_LIMIT) {
-        Ok(text) => judge(alloc, command, text.as_slice()),
+        Ok(text) => judge(alloc, command, text),
         Err(ReadFailure::Fault(counts)) => Outcome::Source(counts),
         Err(ReadFailure::NoMemory) => Outcome::NoMemory,
     }
 }
 
-/// What a text comes to.
-fn judge(alloc: Global, command: Command, text: &[u8]) -> Outcome
-    ensures { IsJudged command text.now result }
+/// What a text comes to. It is given back before the one text is made.
+fn judge(alloc: Global, command: Command, text: Vec<u8>) -> Outcome
+    ensures { IsJudged command text.items result }
 {
-    match read_index(alloc, text) {
+    let read = read_index(alloc, text.as_slice());
+    drop(text);
+    match read {
         Ok(index) => answer(alloc, command, &index),
         Err(refusal) => refused(refusal),
     }
@@ -132,7 +140,8 @@ fn finish<K: Sink>(alloc: Global, out: &mut K, outcome: Outcome) -> u8
 }
 
 fn tell<K: Sink>(out: &mut K, text: &[u8], status: u8) -> u8
-    ensures { TellsText text.now status (K.written out.old) (K.written out.new) (K.faults out.old) (K.faults out.new) result }
+    ensures { TellsText text.now status
+        (K.written out.old) (K.written out.new) (K.faults out.old) (K.faults out.new) result }
 {
     match out.write(text) {
         Ok(()) => status,

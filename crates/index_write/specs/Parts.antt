@@ -14,7 +14,10 @@ use Rattle.index_model.specs.Values.{IndexValue, NodeFacts, NodeValue, VolumeFac
 
 -- a directory, up to its children
 unfoldable pub opening : NodeFacts → List ℕ
-opening f = start_text Directory Absent ++ (number FileUid f.uid ++ name Name f.name ++ times f.times ++ truth ReadOnly f.readonly) ++ start_text Contents Absent
+opening f =
+    start_text Directory Absent
+    ++ (number FileUid f.uid ++ name Name f.name ++ times f.times ++ truth ReadOnly f.readonly)
+    ++ start_text Contents Absent
 
 -- a file or a link of so many bytes, up to its own last element
 unfoldable pub file_start : NodeFacts → ℕ → List ℕ

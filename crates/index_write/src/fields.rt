@@ -6,9 +6,7 @@ ghost use Rattle.std.specs.Fmt.{decimal};
 ghost use Rattle.doc_fields.specs.Written.{bool_text, escape, Keeps};
 ghost use Rattle.doc_fields.specs.declared.tags.Tag.TheVariants.{Name, Symlink};
 ghost use Rattle.index_model.specs.Canonical as canonical;
-ghost use Rattle.percent_encoding.specs.Percent as percents;
-ghost use Rattle.ltfs_text.specs.Names.{written};
-ghost use Rattle.ltfs_text.specs.declared.names.TheConstants as constants;
+ghost use Rattle.ltfs_text.specs.Names.{encoded, written};
 ghost use Rattle.tape_types.specs.Times.{civil_of, civil_text};
 
 use doc_fields::{put_bool, put_letter, put_text, put_time, put_u64};
@@ -78,7 +76,7 @@ pub fn put_words(out: &mut Vec<u8>, start: &[u8], text: &str, end: &[u8]) -> Res
 
 /// The percent-encoded form of a text, with escapes.
 fn put_encoded(out: &mut Vec<u8>, text: &str) -> Result<(), NoMemory>
-    ensures ok { OnOk result (out.new.items ≡ out.old.items ++ escape (percents.percent_encode constants.ESCAPED text.now)) }
+    ensures ok { OnOk result (out.new.items ≡ out.old.items ++ escape (encoded text.now)) }
     ensures err { OnErr result (Keeps out.old.items out.new.items) }
 {
     for piece in percent_encode(text.as_bytes(), ESCAPED) {

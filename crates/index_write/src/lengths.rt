@@ -11,11 +11,10 @@ ghost use Rattle.index_model.specs.Canonical.{canonical};
 ghost use Rattle.index_model.specs.Values.{facts_of, value_of, volume_of, IndexValue, Tells};
 ghost use Rattle.index_write.specs.Parts.{spot_text, volume_front, volume_rear};
 ghost use Rattle.index_write.specs.Sizes.{bounded, directory_length, facts_length, node_length, nodes_sum, size};
-ghost use Rattle.ltfs_text.specs.declared.names.TheConstants as constants;
-ghost use Rattle.percent_encoding.specs.Percent as percents;
+ghost use Rattle.ltfs_text.specs.Names.{encoded};
 
 use doc_fields::LockState;
-use index_model::{Index, Kind, Node, Policy, RawExtent, Spot};
+use index_model::{Index, Kind, Node, Policy, RawExtent, Spot, TextList};
 use itoa::Buffer;
 use ltfs_text::{ESCAPED, has_special};
 use percent_encoding::percent_encode;
@@ -70,8 +69,9 @@ fn escape_len(text: &[u8]) -> u64
 }
 
 /// The length of the percent-encoded form of a text, with escapes.
+#[tactic(auto, using(ltfs_text::proofs::Texts::encodes_as))]
 fn encoded_len(text: &str) -> u64
-    ensures { result ≡ size (escape (percents.percent_encode constants.ESCAPED text.now)) }
+    ensures { result ≡ size (escape (encoded text.now)) }
 {
     let mut sum: u64 = 0;
     for piece in percent_encode(text.as_bytes(), ESCAPED) {
@@ -230,12 +230,12 @@ fn back_len(back: Option<Spot>) -> u64
     }
 }
 
-fn patterns_len(names: &[Text]) -> u64
+fn patterns_len(names: &TextList) -> u64
     ensures { result ≡ size (flat_map (canonical.name Name) names.now) }
 {
     let mut sum: u64 = 0;
-    for name in names {
-        sum = sum.saturating_add(name_len(name.as_str()));
+    for at in 0..names.len() {
+        sum = sum.saturating_add(name_len(names.get(at)));
     }
     sum
 }
@@ -248,7 +248,7 @@ fn policy_len(policy: &Option<Policy>) -> u64
             b"<dataplacementpolicy><indexpartitioncriteria><size></size>".len() as u64,
             b"</indexpartitioncriteria></dataplacementpolicy>".len() as u64,
             digits_len(policy.size),
-            patterns_len(policy.names.as_slice()),
+            patterns_len(&policy.names),
         ]),
         None => 0,
     }

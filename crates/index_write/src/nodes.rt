@@ -80,7 +80,8 @@ fn put_file(
     length: u64,
     extents: &[RawExtent],
 ) -> Result<(), NoMemory>
-    ensures ok { OnOk result (out.new.items ≡ out.old.items ++ canonical.file_text (facts_of node.now) length extents.now) }
+    ensures ok { OnOk result (out.new.items ≡ out.old.items
+        ++ canonical.file_text (facts_of node.now) length extents.now) }
     ensures err { OnErr result (Keeps out.old.items out.new.items) }
 {
     put_front(out, node, length)?;
@@ -131,7 +132,9 @@ fn parent_at(nodes: &[Node], at: usize) -> usize
 
 /// Ends open directories until the one at this place is the innermost.
 fn close_to(out: &mut Vec<u8>, nodes: &[Node], inner: Open, dir: usize) -> Result<Open, NoMemory>
-    ensures ok { IfOk result (λ left. (at : ℕ) (text : List ℕ) → at < length nodes.now → parent_at nodes.now at ≡ dir → Rests nodes.now at inner text → Goes nodes.now at left out.old.items out.new.items text × (left.dir ≡ dir)) }
+    ensures ok { IfOk result (λ left. (at : ℕ) (text : List ℕ) → at < length nodes.now →
+        parent_at nodes.now at ≡ dir → Rests nodes.now at inner text →
+        Goes nodes.now at left out.old.items out.new.items text × (left.dir ≡ dir)) }
     ensures depth { IfOk result (λ left. left.depth ≤ inner.depth) }
     ensures keeps { Keeps out.old.items out.new.items }
 {
@@ -165,7 +168,8 @@ fn opened(kind: &Kind, at: usize, inner: Open) -> Open
 fn put_next(out: &mut Vec<u8>, nodes: &[Node], inner: Open, at: usize) -> Result<Open, NoMemory>
     requires within { at < length nodes.now }
     requires depth { inner.depth < at }
-    ensures ok { IfOk result (λ left. (text : List ℕ) → Rests nodes.now at inner text → Goes nodes.now (at + 1) left out.old.items out.new.items text) }
+    ensures ok { IfOk result (λ left. (text : List ℕ) → Rests nodes.now at inner text →
+        Goes nodes.now (at + 1) left out.old.items out.new.items text) }
     ensures depth { IfOk result (λ left. left.depth ≤ at) }
     ensures keeps { Keeps out.old.items out.new.items }
 {
@@ -188,7 +192,8 @@ fn put_ends(out: &mut Vec<u8>, count: usize) -> Result<(), NoMemory>
 
 /// All nodes, the root first.
 pub fn put_nodes(out: &mut Vec<u8>, nodes: &[Node]) -> Result<(), NoMemory>
-    ensures ok { OnOk result ((v : IndexValue) → map value_of nodes.now ≡ all_nodes v → out.new.items ≡ out.old.items ++ tree_text v) }
+    ensures ok { OnOk result ((v : IndexValue) → map value_of nodes.now ≡ all_nodes v → out.new.items ≡ out.old.items
+        ++ tree_text v) }
     ensures keeps { Keeps out.old.items out.new.items }
 {
     let Some(root) = nodes.first() else {

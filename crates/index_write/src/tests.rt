@@ -1,6 +1,6 @@
 use crate::{index_len, index_text};
 use doc_fields::LockState;
-use index_model::{Index, Kind, Node, Policy, RawExtent, Spot};
+use index_model::{Index, Kind, Node, Policy, RawExtent, Spot, TextList};
 use std::alloc::Global;
 use tape_types::{List, Text, Times, parse_time};
 
@@ -238,13 +238,9 @@ fn names(rt: HostRuntime) {
 fn a_policy_of_two_patterns(rt: HostRuntime) {
     let rows = [(0, 1, "Archive", What::Dir)];
     let mut index = bare(rt.alloc(), &rows).expect(&rt, "an index");
-    let mut names = List::new(rt.alloc());
-    names
-        .push(text_of(rt.alloc(), "*.txt").expect(&rt, "memory"))
-        .expect(&rt, "memory");
-    names
-        .push(text_of(rt.alloc(), "").expect(&rt, "memory"))
-        .expect(&rt, "memory");
+    let mut names = TextList::new(rt.alloc());
+    names.push("*.txt").expect(&rt, "memory");
+    names.push("").expect(&rt, "memory");
     index.policy = Some(Policy {
         size: 1_048_576,
         names,

@@ -12,11 +12,12 @@ ghost use Rattle.tape_types.specs.Uuids as uuids;
 
 use crate::fields::{put, put_moment, put_name, put_number, put_sign, put_truth, put_words};
 use doc_fields::{LockState, put_lock, put_uuid};
-use index_model::{Index, Policy, Spot};
+use index_model::{Index, Policy, Spot, TextList};
 use tape_types::{NoMemory, Text};
 
 fn put_comment(out: &mut Vec<u8>, comment: &Option<Text>) -> Result<(), NoMemory>
-    ensures ok { OnOk result (out.new.items ≡ out.old.items ++ canonical.if_told comment.now (canonical.words Comment)) }
+    ensures ok { OnOk result (out.new.items ≡ out.old.items
+        ++ canonical.if_told comment.now (canonical.words Comment)) }
     ensures err { OnErr result (Keeps out.old.items out.new.items) }
 {
     match comment {
@@ -53,7 +54,8 @@ fn put_here(out: &mut Vec<u8>, here: Spot) -> Result<(), NoMemory>
 }
 
 fn put_back(out: &mut Vec<u8>, back: Option<Spot>) -> Result<(), NoMemory>
-    ensures ok { OnOk result (out.new.items ≡ out.old.items ++ canonical.if_told back (canonical.spot PreviousGenerationLocation)) }
+    ensures ok { OnOk result (out.new.items ≡ out.old.items
+        ++ canonical.if_told back (canonical.spot PreviousGenerationLocation)) }
     ensures err { OnErr result (Keeps out.old.items out.new.items) }
 {
     let Some(spot) = back else {
@@ -64,12 +66,12 @@ fn put_back(out: &mut Vec<u8>, back: Option<Spot>) -> Result<(), NoMemory>
     put(out, b"</previousgenerationlocation>")
 }
 
-fn put_patterns(out: &mut Vec<u8>, names: &[Text]) -> Result<(), NoMemory>
+fn put_patterns(out: &mut Vec<u8>, names: &TextList) -> Result<(), NoMemory>
     ensures ok { OnOk result (out.new.items ≡ out.old.items ++ flat_map (canonical.name Name) names.now) }
     ensures err { OnErr result (Keeps out.old.items out.new.items) }
 {
-    for name in names {
-        put_name(out, name.as_str())?;
+    for at in 0..names.len() {
+        put_name(out, names.get(at))?;
     }
     Ok(())
 }
@@ -80,7 +82,7 @@ fn put_policy(out: &mut Vec<u8>, policy: &Policy) -> Result<(), NoMemory>
 {
     put(out, b"<dataplacementpolicy><indexpartitioncriteria>")?;
     put_number(out, b"<size>", policy.size, b"</size>")?;
-    put_patterns(out, policy.names.as_slice())?;
+    put_patterns(out, &policy.names)?;
     put(out, b"</indexpartitioncriteria></dataplacementpolicy>")
 }
 
@@ -95,7 +97,8 @@ fn put_any_policy(out: &mut Vec<u8>, policy: &Option<Policy>) -> Result<(), NoMe
 }
 
 fn put_state(out: &mut Vec<u8>, lock: Option<LockState>) -> Result<(), NoMemory>
-    ensures ok { OnOk result (out.new.items ≡ out.old.items ++ canonical.if_told lock (λ state. canonical.element VolumeLockState (lock_word state))) }
+    ensures ok { OnOk result (out.new.items ≡ out.old.items
+        ++ canonical.if_told lock (λ state. canonical.element VolumeLockState (lock_word state))) }
     ensures err { OnErr result (Keeps out.old.items out.new.items) }
 {
     let Some(state) = lock else {

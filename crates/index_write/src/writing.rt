@@ -28,8 +28,7 @@ fn put_index(out: &mut Vec<u8>, index: &Index) -> Result<(), NoMemory>
 
 /// Appends the one text of an index that is written (LTFS 2.4 on the index): one line in UTF-8,
 /// version 2.4.0, the children of each element in their order, and no white space between
-/// elements. Where memory is refused nothing is appended; it is asked for once, before the first
-/// byte.
+/// elements. Where memory is refused nothing is appended.
 ///
 /// The nodes have to stand in the order of the document, the root, which is a directory, first. Where
 /// they don't, the call ends as well, but nothing is said of what it appends.

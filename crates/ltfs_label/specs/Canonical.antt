@@ -45,8 +45,8 @@ children_text v =
 unfoldable pub canonical : LabelValue → List ℕ
 canonical v = head ++ start_text LtfsLabel Version ++ children_text v ++ end_text LtfsLabel
 
--- a label that has a text: its creator has only characters that a document may have, its letters are `a` to `z`, and its
--- blocks have a size that they may have
+-- a label that has a text: its creator has only characters that a document may have, its letters are `a` to `z`, and
+-- its blocks have a size that they may have
 pub record IsLabel (v : LabelValue) : Type 0 where
   pub creator : list_all is_allowed (chars v.creator) ≡ true
   pub location : (97 ≤ v.location) × (v.location ≤ 122)

@@ -44,14 +44,22 @@ pub record Starts (text : List ℕ) (p : Place) (at : ℕ) (c : Child) (tag : Ta
 abbrev mutual
   -- the spelling of a child of p, from one place up to another
   pub Spelled : List ℕ → Place → ℕ → Item → ℕ → Type 0
-  Spelled text p at (plain tag v) next = (form : Form) × (start : Start) × Starts text p at (child.Leaf form) tag start × (leaf_at form tag start text ≡ Ok (v, next))
-  Spelled text p at (bare q) next = (start : Start) × Starts text p at (child.Parent q) (tag_of q) start × (start.empty ≡ true) × (start.next ≡ next) × (first_missing (required q) [] ≡ None)
-  Spelled text p at (nested q is) next = (start : Start) × Starts text p at (child.Parent q) (tag_of q) start × (start.empty ≡ false) × (end : ℕ) × AllSpelled text q [] start.next is end × (end_at text end (tag_of q) ≡ Ok next)
+  Spelled text p at (plain tag v) next =
+      (form : Form) × (start : Start) × Starts text p at (child.Leaf form) tag start
+      × (leaf_at form tag start text ≡ Ok (v, next))
+  Spelled text p at (bare q) next =
+      (start : Start) × Starts text p at (child.Parent q) (tag_of q) start × (start.empty ≡ true)
+      × (start.next ≡ next) × (first_missing (required q) [] ≡ None)
+  Spelled text p at (nested q is) next =
+      (start : Start) × Starts text p at (child.Parent q) (tag_of q) start × (start.empty ≡ false) × (end : ℕ)
+      × AllSpelled text q [] start.next is end × (end_at text end (tag_of q) ≡ Ok next)
 
   -- the spellings of children of p, behind some that stood there: none comes twice, and each that is required has come
   pub AllSpelled : List ℕ → Place → List Tag → ℕ → Items → ℕ → Type 0
   AllSpelled text p seen at no_items end = (end ≡ space_end text at) × (first_missing (required p) seen ≡ None)
-  AllSpelled text p seen at (item i is) end = (member (item_tag i) seen ≡ false) × (next : ℕ) × Spelled text p (space_end text at) i next × AllSpelled text p (item_tag i ∷ seen) next is end
+  AllSpelled text p seen at (item i is) end =
+      (member (item_tag i) seen ≡ false) × (next : ℕ) × Spelled text p (space_end text at) i next
+      × AllSpelled text p (item_tag i ∷ seen) next is end
 
 -- the pieces of elements in the order of the text
 abbrev mutual

@@ -67,7 +67,8 @@ spaced view text read = lift read >>= λ v. Ok (view v.0, space_end text v.1)
 
 -- a size that is out of range; where the text ends behind one that is too small, it could go on
 abbrev pub size_fault : List ℕ → ℕ → ℕ × ℕ → LabelErr
-size_fault text from n = if nat_lt n.0 4096 && n.1 == length text then errors.Syntax (length text) else errors.Number from
+size_fault text from n =
+    if nat_lt n.0 4096 && n.1 == length text then errors.Syntax (length text) else errors.Number from
 
 abbrev pub in_range : List ℕ → ℕ → ℕ × ℕ → Result (ℕ × ℕ) LabelErr
 in_range text from n = if in_block_range n.0 then Ok n else Err (size_fault text from n)
@@ -148,7 +149,8 @@ close_at f text at = do
 
 unfoldable pub piece_at : Frame → List ℕ → ℕ → Result (Piece × ℕ) LabelErr
 piece_at f text at =
-    if byte text (space_end text at) == 60 && byte text (space_end text at + 1) == 47 then close_at f text (space_end text at)
+    if byte text (space_end text at) == 60 && byte text (space_end text at + 1) == 47
+    then close_at f text (space_end text at)
     else child_at f text (space_end text at)
 
 -- What a call answered is what reading gives, where its result is seen by a view; or memory was refused.

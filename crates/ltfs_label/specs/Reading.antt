@@ -35,7 +35,8 @@ after (leaf tag v) f fs = with_child tag f ∷ fs
 abbrev pub Reaches : List ℕ → List Piece → ℕ → List Frame → ℕ → List Frame → Type 0
 Reaches text [] at fs to gs = (at ≡ to) × (fs ≡ gs)
 Reaches text (p ∷ ps) at [] to gs = ⊥
-Reaches text (p ∷ ps) at (f ∷ fs) to gs = (next : ℕ) × (piece_at f text at ≡ Ok (p, next)) × Reaches text ps next (after p f fs) to gs
+Reaches text (p ∷ ps) at (f ∷ fs) to gs =
+    (next : ℕ) × (piece_at f text at ≡ Ok (p, next)) × Reaches text ps next (after p f fs) to gs
 
 -- ---- the text as a whole
 
@@ -71,9 +72,12 @@ pub record Accepts (text : List ℕ) (ps : List Piece) : Type 0 where
 -- where and why it doesn't go on: at its declaration, at its root, at a piece, or behind its root
 pub data Halts (text : List ℕ) : LabelErr → Type 0 where
   at_head : {e : LabelErr} → lift (head_at text 0) ≡ Err e → Halts text e
-  at_root : {e : LabelErr} (from : ℕ) → head_at text 0 ≡ Ok from → root_at text (space_end text from) ≡ Err e → Halts text e
-  at_piece : {e : LabelErr} (ps : List Piece) (at : ℕ) (f : Frame) (fs : List Frame) → Open text ps at (f ∷ fs) → piece_at f text at ≡ Err e → Halts text e
-  at_end : (ps : List Piece) (at : ℕ) → Open text ps at [] → space_end text at ≢ length text → Halts text (errors.Syntax (space_end text at))
+  at_root : {e : LabelErr} (from : ℕ) → head_at text 0 ≡ Ok from → root_at text (space_end text from) ≡ Err e →
+      Halts text e
+  at_piece : {e : LabelErr} (ps : List Piece) (at : ℕ) (f : Frame) (fs : List Frame) → Open text ps at (f ∷ fs) →
+      piece_at f text at ≡ Err e → Halts text e
+  at_end : (ps : List Piece) (at : ℕ) → Open text ps at [] → space_end text at ≢ length text →
+      Halts text (errors.Syntax (space_end text at))
 
 -- ---- the value
 
@@ -106,7 +110,10 @@ IsRead text v = IsUtf8 text × Reads text v
 
 -- Where and why a text is no label. A byte that isn't UTF-8 ends the text, and may not stand behind a whole label.
 abbrev pub Stops : List ℕ → LabelErr → Type 0
-Stops text e = Halts (readable text) e ⊎ ((v : LabelValue) × Reads (readable text) v × (length (readable text) ≢ length text) × (e ≡ errors.Syntax (length (readable text))))
+Stops text e =
+    Halts (readable text) e
+    ⊎ ((v : LabelValue) × Reads (readable text) v × (length (readable text) ≢ length text)
+    × (e ≡ errors.Syntax (length (readable text))))
 
 -- ---- what the code keeps
 

@@ -39,15 +39,39 @@ pub record LabelValue : Type 0 where
   pub compression : Bool
 
 abbrev pub label_of : Label → LabelValue
-label_of l = record { creator = l.creator; formatted = civil_of l.formatted; uuid = l.uuid; location = l.location; index = l.index; dpart = l.dpart; block = l.block; compression = l.compression }
+label_of l = record {
+  creator = l.creator;
+  formatted = civil_of l.formatted;
+  uuid = l.uuid;
+  location = l.location;
+  index = l.index;
+  dpart = l.dpart;
+  block = l.block;
+  compression = l.compression;
+}
 
 -- the first moment of 1970
 abbrev pub epoch : Moment
-epoch = record { secs = pos 0; nanos = 0; not_before = record { le = tt }; not_after = record { le = tt }; within_second = lit< tt }
+epoch = record {
+  secs = pos 0;
+  nanos = 0;
+  not_before = record { le = tt };
+  not_after = record { le = tt };
+  within_second = lit< tt;
+}
 
 -- what stands there before any child has told a value; a label has all its children
 abbrev pub blank : LabelValue
-blank = record { creator = []; formatted = civil_of epoch; uuid = 0; location = 0; index = 0; dpart = 0; block = 0; compression = false }
+blank = record {
+  creator = [];
+  formatted = civil_of epoch;
+  uuid = 0;
+  location = 0;
+  index = 0;
+  dpart = 0;
+  block = 0;
+  compression = false;
+}
 
 -- a leaf tells one of the label's values
 abbrev pub set_leaf : Tag → Val → LabelValue → LabelValue

@@ -142,7 +142,8 @@ fn verdict(place: Place, seen: Children, at: usize, tag: Tag) -> Result<Child, L
 }
 
 fn none_missing(place: Place, seen: Children) -> Result<(), LabelErr>
-    ensures { (tags : List Tag) → Holds seen tags → Gives (λ _. tt) result (none_missing (first_missing (required place) tags)) }
+    ensures { (tags : List Tag) → Holds seen tags →
+        Gives (λ _. tt) result (none_missing (first_missing (required place) tags)) }
 {
     match seen.first_missing(required(place)) {
         None => Ok(()),
@@ -181,7 +182,8 @@ fn made(
 #[tactic(auto, unfolding(crate::specs::Pieces::close_at))]
 fn close(place: Place, seen: Children, text: &[u8], at: usize) -> Result<(Piece, usize), LabelErr>
     requires { at ≤ length text.now }
-    ensures value { (tags : List Tag) → Holds seen tags → Gives (λ x. (piece_of x.0, x.1)) result (close_at (record { place = place; seen = tags }) text.now at) }
+    ensures value { (tags : List Tag) → Holds seen tags →
+        Gives (λ x. (piece_of x.0, x.1)) result (close_at (record { place = place; seen = tags }) text.now at) }
     ensures within { IfOk result (λ x. (at < x.1) × (x.1 ≤ length text.now)) }
 {
     let next = read_end(text, at, tag_of(place))?;
@@ -198,7 +200,8 @@ fn child(
     at: usize,
 ) -> Result<(Piece, usize), LabelErr>
     requires { at ≤ length text.now }
-    ensures value { (tags : List Tag) → Holds seen tags → Gives (λ x. (piece_of x.0, x.1)) result (child_at (record { place = place; seen = tags }) text.now at) }
+    ensures value { (tags : List Tag) → Holds seen tags →
+        Gives (λ x. (piece_of x.0, x.1)) result (child_at (record { place = place; seen = tags }) text.now at) }
     ensures within { IfOk result (λ x. (at < x.1) × (x.1 ≤ length text.now)) }
 {
     let (tag, next) = read_name(text, at)?;
@@ -228,7 +231,8 @@ pub fn next_piece(
     at: usize,
 ) -> Result<(Piece, usize), LabelErr>
     requires { at ≤ length text.now }
-    ensures value { (tags : List Tag) → Holds seen tags → Gives (λ x. (piece_of x.0, x.1)) result (piece_at (record { place = place; seen = tags }) text.now at) }
+    ensures value { (tags : List Tag) → Holds seen tags →
+        Gives (λ x. (piece_of x.0, x.1)) result (piece_at (record { place = place; seen = tags }) text.now at) }
     ensures within { IfOk result (λ x. (at < x.1) × (x.1 ≤ length text.now)) }
 {
     let start = skip_space(text, at);

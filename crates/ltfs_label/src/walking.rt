@@ -26,7 +26,8 @@ pub struct Frame {
 
 /// Opens and closes parents as a piece says; true where none is left.
 fn moved(piece: &Piece, top: &mut Frame, outer: &mut Vec<Frame>) -> Result<bool, AllocError>
-    ensures { IfOk result (λ done. (f : pieces.Frame) (fs : List pieces.Frame) → top.old ≡ coded f → outer.old.items ≡ stacked fs
+    ensures { IfOk result (λ done. (f : pieces.Frame) (fs : List pieces.Frame) → top.old ≡ coded f →
+        outer.old.items ≡ stacked fs
         → Keeps (after (piece_of piece.now) f fs) top.new outer.new.items done) }
 {
     match piece {

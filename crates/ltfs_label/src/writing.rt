@@ -65,7 +65,8 @@ fn put_truth(out: &mut Vec<u8>, tag: Tag, truth: bool) -> Result<(), NoMemory>
 }
 
 fn put_location(out: &mut Vec<u8>, location: u8) -> Result<(), NoMemory>
-    ensures { OnOk result (out.new.items ≡ out.old.items ++ element Location (leaf_text Partition (values.letter location))) }
+    ensures { OnOk result (out.new.items ≡ out.old.items
+        ++ element Location (leaf_text Partition (values.letter location))) }
 {
     put_start(out, Tag::Location, Attribute::Absent)?;
     put_sign(out, Tag::Partition, location)?;
@@ -73,7 +74,9 @@ fn put_location(out: &mut Vec<u8>, location: u8) -> Result<(), NoMemory>
 }
 
 fn put_partitions(out: &mut Vec<u8>, index: u8, dpart: u8) -> Result<(), NoMemory>
-    ensures { OnOk result (out.new.items ≡ out.old.items ++ element Partitions (leaf_text IndexLetter (values.letter index) ++ leaf_text DataLetter (values.letter dpart))) }
+    ensures { OnOk result (out.new.items ≡ out.old.items
+        ++ element Partitions (leaf_text IndexLetter (values.letter index)
+        ++ leaf_text DataLetter (values.letter dpart))) }
 {
     put_start(out, Tag::Partitions, Attribute::Absent)?;
     put_sign(out, Tag::IndexLetter, index)?;

@@ -27,6 +27,13 @@ fn names_are_written_and_read(rt: HostRuntime) {
     check_row(&rt, alloc, "\0", "%00", true);
     check_row(&rt, alloc, "\x1f ~", "%1F ~", true);
     check_row(&rt, alloc, "\x7f", "%7F", true);
+    check_row(
+        &rt,
+        alloc,
+        "\x01 !\"#$%&'()*+,-./09:;<=>?@AZ[\\]^_`az{|}~\x7f",
+        "%01 !\"#$%25&'()*+,-./09:;<=>?@AZ[\\]^_`az{|}~%7F",
+        true,
+    );
     check_row(&rt, alloc, "\u{80}\u{fffd}", "\u{80}\u{fffd}", false);
     check_row(&rt, alloc, "\u{fffe}", "%EF%BF%BE", true);
     check_row(&rt, alloc, "a\u{ffff}", "a%EF%BF%BF", true);

@@ -1,9 +1,8 @@
 use Rattle.std.proofs.Common.{◌≡◌, ◌++◌}
 use Rattle.percent_encoding.specs.Iter.{encoded_text}
-use Rattle.percent_encoding.specs.Percent.{percent_encode}
-use Rattle.ltfs_text.specs.declared.names.TheConstants.{ESCAPED}
+use Rattle.ltfs_text.specs.Names.{encoded}
 use Rattle.doc_fields.specs.Written.{escape, Keeps}
 use Rattle.index_write.proofs.fields.put_encoded.Given as goal
 
 abbrev pub invariant-loop-piece : goal.invariant-loop-piece
-invariant-loop-piece l = (l.out.items ++ escape (encoded_text l.piece-iterator) ≡ l.fn.out.items ++ escape (percent_encode ESCAPED l.text)) × Keeps l.fn.out.items l.out.items
+invariant-loop-piece l = (l.out.items ++ escape (encoded_text l.piece-iterator) ≡ l.fn.out.items ++ escape (encoded l.text)) × Keeps l.fn.out.items l.out.items

@@ -5,5 +5,5 @@ use Rattle.index_model.specs.Canonical.{name}
 use Rattle.index_write.specs.Sizes.{size}
 use Rattle.index_write.proofs.lengths.patterns_len.Given as goal
 
-abbrev pub invariant-loop-name : goal.invariant-loop-name
-invariant-loop-name l = l.sum ≡ size (flat_map (name Name) (take l.name-index l.names))
+abbrev pub invariant-loop-at : goal.invariant-loop-at
+invariant-loop-at l = l.sum ≡ size (flat_map (name Name) (take l.at l.names))

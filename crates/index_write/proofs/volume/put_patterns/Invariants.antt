@@ -5,5 +5,5 @@ use Rattle.doc_fields.specs.declared.tags.Tag.TheVariants.{Name}
 use Rattle.index_model.specs.Canonical.{name}
 use Rattle.index_write.proofs.volume.put_patterns.Given as goal
 
-abbrev pub invariant-loop-name : goal.invariant-loop-name
-invariant-loop-name l = (l.out.items ≡ l.fn.out.items ++ flat_map (name Name) (take l.name-index l.names)) × Keeps l.fn.out.items l.out.items
+abbrev pub invariant-loop-at : goal.invariant-loop-at
+invariant-loop-at l = (l.out.items ≡ l.fn.out.items ++ flat_map (name Name) (take l.at l.names)) × Keeps l.fn.out.items l.out.items

@@ -8,6 +8,6 @@ use Rattle.index_write.proofs.volume.put_policy.Goals as goal
 pub returns-clause-ok : goal.returns-clause-ok
 returns-clause-ok c =
     let p = c.args.policy.now in
-    let named = c.in_ok-put_patterns.ensures.ok ∙ ap (λ (xs : List (List ℕ)). c.put_number.new.out.items ++ flat_map (name Name) xs) c.as_slice.ensures in
+    let named = c.in_ok-put_patterns.ensures.ok in
     ok4 c.put-2.result _ c.args.out.now.items _ _ _ _ _ _ _ _ c.in_ok-put.ensures.ok c.in_ok-put_number.ensures.ok named
     (policy_joined (codes "<dataplacementpolicy>") (codes "<indexpartitioncriteria>") (number Size p.size) (flat_map (name Name) p.names) (codes "</indexpartitioncriteria>") (codes "</dataplacementpolicy>")) c.put-2.ensures.ok

@@ -1,0 +1,12 @@
+use Rattle.std.proofs.Common.{rules, ◌≡◌, ◌++◌, ◌∙◌, List, ℕ, [], sym, ap, append-nil}
+use Rattle.percent_encoding.specs.Iter.{encoded_text}
+use Rattle.percent_encoding.specs.Percent.{percent_encode}
+use Rattle.doc_fields.specs.Written.{escape}
+use Rattle.ltfs_text.proofs.Texts.{encodes_as}
+use Rattle.ltfs_text.specs.declared.names.TheConstants.{ESCAPED}
+use Rattle.index_write.proofs.fields.put_encoded.Goals as goal
+
+pub loop-piece-init : goal.loop-piece-init
+loop-piece-init c =
+    let pieces : encoded_text c.into_iter-piece-iterator.result ≡ percent_encode ESCAPED c.args.text.now = search rules in
+    (ap (λ (s : List ℕ). c.args.out.now.items ++ escape s) (pieces ∙ encodes_as c.args.text.now), ([], sym (append-nil c.args.out.now.items)))
