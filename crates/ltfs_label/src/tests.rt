@@ -68,6 +68,24 @@ fn order_and_white_space_are_free(rt: HostRuntime) {
     assert!(rt; reads(rt, OTHER_ORDER, &label));
 }
 
+/// A label in which each value differs from every other.
+const DISTINCT: &[u8] =
+    b"<?xml version=\"1.0\" encoding=\"UTF-8\"?><ltfslabel version=\"2.4.0\"><creator>Maker 7</creator><formattime>1965-06-08T11:13:17.400001029Z</formattime><volumeuuid>0123abcd-4567-89ef-fedc-ba9876543210</volumeuuid><location><partition>c</partition></location><partitions><index>d</index><data>e</data></partitions><blocksize>65537</blocksize><compression>true</compression></ltfslabel>";
+
+#[test]
+fn each_value_is_told_where_it_belongs(rt: HostRuntime) {
+    let label = read_label(rt.alloc(), DISTINCT).expect(&rt, "a label");
+    assert!(rt; label.creator.as_str() == "Maker 7");
+    assert_eq!(rt; label.formatted.secs, -144_074_803);
+    assert_eq!(rt; label.formatted.nanos, 400_001_029);
+    assert_eq!(rt; label.uuid, 0x0123_abcd_4567_89ef_fedc_ba98_7654_3210);
+    assert_eq!(rt; (label.location, label.index), (b'c', b'd'));
+    assert_eq!(rt; (label.dpart, label.block), (b'e', 65_537));
+    assert!(rt; label.compression);
+    let text = write_label(rt.alloc(), &label).expect(&rt, "memory");
+    assert!(rt; text.as_slice() == DISTINCT);
+}
+
 #[test]
 fn a_creator_is_taken_whole(rt: HostRuntime) {
     let label = sample(rt.alloc(), " <é> & \r\n").expect(&rt, "a label");
