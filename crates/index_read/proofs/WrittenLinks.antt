@@ -2,8 +2,7 @@
 use Rattle.std.proofs.Common.{◌≡◌, ℕ, ◌+◌, ◌≤◌, ◌<◌, ◌^◌, Bool, true, false, ◌==◌, List, [], ◌∷◌, ◌++◌, length, map, codes, refl, sym, subst, arith, length-append}
 use Rattle.std.specs.Prelude.{if◌then◌else◌}
 use Rattle.std.specs.List.{AllByRecursion, flat_map}
-use Rattle.percent_encoding.specs.Percent.{encode_byte, percent_encode, percent_encode_byte}
-use Rattle.percent_encoding.specs.AsciiSet.{should_percent_encode}
+use Rattle.percent_encoding.specs.Percent.{percent_encode_byte}
 use Rattle.doc_fields.specs.declared.tags.Tag.TheVariants.{LtfsIndex, Directory, File, FileUid, Name, ReadOnly, Contents, Symlink}
 use Rattle.doc_fields.specs.declared.starts.Attribute.TheVariants.{Absent, Version}
 use Rattle.doc_fields.specs.Written.{end_text, escape, escaped, start_text}

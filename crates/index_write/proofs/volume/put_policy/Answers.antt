@@ -1,4 +1,4 @@
-use Rattle.std.proofs.Common.{codes, List, ℕ, ◌++◌, ◌∙◌, ap}
+use Rattle.std.proofs.Common.{codes}
 use Rattle.std.specs.List.{flat_map}
 use Rattle.doc_fields.specs.declared.tags.Tag.TheVariants.{Name, Size}
 use Rattle.index_model.specs.Canonical.{name, number}
