@@ -1,5 +1,5 @@
 -- What is found of a cartridge that mounts.
-use Rattle.std.proofs.Common.{ℕ, ◌+◌, ◌*◌, ◌-◌, ◌^◌, ◌≤◌, ◌<◌, ◌≡◌, ◌≢◌, Bool, true, false, List, [], ◌∷◌, length, Option, Some, None, Result, Ok, Err, IfOk, IfErr, refl, sym, ◌∙◌, ap, subst, arith}
+use Rattle.std.proofs.Common.{ℕ, ◌*◌, ◌<◌, ◌≡◌, ◌≢◌, Bool, true, false, List, [], ◌∷◌, Option, Some, None, Result, Ok, Err, IfOk, IfErr, refl, sym, ◌∙◌, ap, subst, arith}
 use Rattle.std.specs.Prelude.{IfSome, ◌↔◌, cond, nat_lt}
 use Rattle.std.specs.Option.{option_map}
 use Rattle.tape_types.specs.declared.cartridges.Cartridge.{Cartridge}
@@ -8,9 +8,7 @@ use Rattle.tape_types.specs.declared.cartridges.Part.{Part}
 use Rattle.tape_types.specs.declared.cartridges.Part.TheVariants.{Ip, Dp}
 use Rattle.tape_types.specs.declared.cartridges.Place.{Place}
 use Rattle.tape_types.specs.Cartridges.{items_of, note_of}
-use Rattle.coherency.specs.declared.Coherency.{Coherency}
 use Rattle.index_model.specs.declared.indexes.Index.{Index}
-use Rattle.index_model.specs.declared.indexes.Spot.{Spot}
 use Rattle.ltfs_label.specs.declared.Label.{Label}
 use Rattle.tape_content.specs.Readings as readings
 use Rattle.tape_content.specs.Ends.{EndsWithLast}
@@ -23,7 +21,6 @@ use Rattle.tape_meaning.specs.declared.mounted.Mounted.{Mounted}
 use Rattle.tape_meaning.proofs.OneFault.{found_no_fault}
 use Rattle.tape_meaning.proofs.OneWay.{last_dp_once, last_ip_once}
 use Rattle.volume_scan.specs.declared.content.Construct.{Construct}
-use Rattle.volume_scan.specs.Scans.{places_of}
 use Rattle.std.specs.List.{AllByRecursion}
 use Rattle.tape_types.specs.declared.cartridges.Limits.{Limits}
 use Rattle.index_model.specs.Valid.{IsValid}

@@ -9,7 +9,8 @@ ghost use Rattle.tape_meaning.specs.Mounts.{Mounts};
 ghost use Rattle.mount_recover.specs.Labels.{AreLabels, HasCounts};
 ghost use Rattle.std.specs.Option.{option_map};
 ghost use Rattle.mount_recover.specs.declared.choices.Standing.{Standing as StandingOf};
-ghost use Rattle.mount_recover.specs.Lasts.{Agrees, AreInPlaces, AreLasts, AreSoundLasts, IsMounted, IsMountedAs, IsScan, IsSoundMount};
+ghost use Rattle.mount_recover.specs.Lasts.{Agrees, AreInPlaces, AreLasts, AreSoundLasts, IsMounted, IsMountedAs};
+ghost use Rattle.mount_recover.specs.Lasts.{IsScan, IsSoundMount};
 ghost use Rattle.mount_recover.specs.Steps.{Blames, IsSince, IsStep};
 
 use crate::choices::{Choice, Standing, decide};
