@@ -2,7 +2,7 @@ ghost use Rattle.std.specs.Prelude.{◌≡◌, IfOk};
 ghost use Rattle.file_tree.specs.Carried.{carried_of, index_of};
 
 use doc_fields::LockState;
-use index_model::{Index, Node, Policy, Spot};
+use index_model::{Index, Node, Policy, Spot, TextList};
 use std::alloc::Global;
 use tape_types::{List, Moment, NoMemory, Text};
 
@@ -86,18 +86,18 @@ fn policy_copy(alloc: Global, policy: &Option<Policy>) -> Result<Option<Policy>,
     match policy {
         Some(policy) => Ok(Some(Policy {
             size: policy.size,
-            names: names_copy(alloc, policy.names.as_slice())?,
+            names: names_copy(alloc, &policy.names)?,
         })),
         None => Ok(None),
     }
 }
 
-fn names_copy(alloc: Global, names: &[Text]) -> Result<List<Text>, NoMemory>
+fn names_copy(alloc: Global, names: &TextList) -> Result<TextList, NoMemory>
     ensures { IfOk result (λ copy. copy ≡ names.now) }
 {
-    let mut copy = List::new(alloc);
-    for name in names {
-        copy.push(name.try_clone(alloc)?)?;
+    let mut copy = TextList::new(alloc);
+    for at in 0..names.len() {
+        copy.push(names.get(at))?;
     }
     Ok(copy)
 }

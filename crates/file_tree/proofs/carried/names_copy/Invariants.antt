@@ -1,5 +1,5 @@
 use Rattle.std.proofs.Common.{◌≡◌, ◌++◌, drop}
 use Rattle.file_tree.proofs.carried.names_copy.Given as goal
 
-abbrev pub invariant-loop-name : goal.invariant-loop-name
-invariant-loop-name l = l.copy ++ drop l.name-index l.names ≡ l.names
+abbrev pub invariant-loop-at : goal.invariant-loop-at
+invariant-loop-at l = l.copy ++ drop l.at l.names ≡ l.names
