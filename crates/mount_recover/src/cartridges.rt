@@ -48,6 +48,22 @@ fn file(alloc: Global, block: u64, byte: u64, count: u64) -> Result<String, NoMe
     )?)
 }
 
+const LONG_AGO: &str =
+    "<creationtime>2020-01-28T19:39:50.715656751Z</creationtime>\n<changetime>2020-01-28T19:39:50.715656751Z</changetime>\n<modifytime>2020-01-28T19:39:50.715656751Z</modifytime>\n<accesstime>2020-01-28T19:39:50.715656751Z</accesstime>\n<backuptime>2020-01-28T19:39:50.715656751Z</backuptime>\n    <readonly>false</readonly>";
+
+/// The third index of a volume of another writer: a folder with a file, and a link beside it.
+fn archive(alloc: Global, here: (char, u8), back: u8) -> Result<String, NoMemory> {
+    let (letter, block) = here;
+    let mut text = format!(in alloc;
+        "<?xml version=\"1.0\" encoding=\"UTF-8\"?>\n<ltfsindex version=\"2.4.0\">\n  <creator>Example LTFS 2.4.0.0 - Linux - ltfs</creator>\n  <volumeuuid>{UUID}</volumeuuid>\n  <generationnumber>3</generationnumber>\n  <comment>Nightly &amp; weekly</comment>\n  <updatetime>2020-01-28T19:39:57.245954278Z</updatetime>\n  <location>\n    <partition>{letter}</partition>\n    <startblock>{block}</startblock>\n  </location>\n  <previousgenerationlocation>\n    <partition>b</partition>\n    <startblock>{back}</startblock>\n  </previousgenerationlocation>\n  <allowpolicyupdate>true</allowpolicyupdate>\n  <volumelockstate>unlocked</volumelockstate>\n  <highestfileuid>4</highestfileuid>\n"
+    )?;
+    let tree = format!(in alloc;
+        "  <directory>\n    <fileuid>1</fileuid>\n    <name>Archive</name>\n{LONG_AGO}\n    <contents>\n      <directory>\n        <fileuid>2</fileuid>\n        <name>docs</name>\n{LONG_AGO}\n        <contents>\n          <file>\n            <fileuid>3</fileuid>\n            <name>read me.txt</name>\n            <length>5</length>\n{LONG_AGO}\n            <openforwrite>false</openforwrite>\n            <extentinfo>\n              <extent>\n                <fileoffset>0</fileoffset>\n                <partition>b</partition>\n                <startblock>7</startblock>\n                <byteoffset>0</byteoffset>\n                <bytecount>5</bytecount>\n              </extent>\n            </extentinfo>\n          </file>\n        </contents>\n      </directory>\n      <file>\n        <fileuid>4</fileuid>\n        <name>latest</name>\n        <length>16</length>\n{LONG_AGO}\n        <symlink>docs/read me.txt</symlink>\n      </file>\n    </contents>\n  </directory>\n</ltfsindex>\n"
+    )?;
+    text.push_str(tree.as_str())?;
+    Ok(text)
+}
+
 /// The document with this letter: `p` and `q` are those of an empty volume, on the data and on the index partition.
 fn document(alloc: Global, letter: u8) -> Result<String, NoMemory> {
     match letter {
@@ -77,6 +93,8 @@ fn document(alloc: Global, letter: u8) -> Result<String, NoMemory> {
         b'g' => text(alloc, UUID, 2, ('b', 8), None, ""),
         b'i' => text(alloc, UUID, 2, ('a', 5), Some(5), ""),
         b'j' => text(alloc, UUID, 2, ('a', 5), Some(8), ""),
+        b'x' => archive(alloc, ('b', 9), 5),
+        b'c' => archive(alloc, ('a', 5), 9),
         _ => wider(alloc, letter),
     }
 }
@@ -167,7 +185,7 @@ fn wider(alloc: Global, letter: u8) -> Result<String, NoMemory> {
     }
 }
 
-/// An item by its letter: `v` is the VOL1 record, `a` and `b` are the labels, `m` is a mark, `t` a Torn, `d` a block of
+/// An item by its letter: `v` is the VOL1 record, `a` and `b` are the labels, `m` is a mark, `t` a Torn, `d` and `h` blocks of
 /// data, `z` the document of an empty volume without its last byte; other letters are documents.
 fn item(alloc: Global, letter: u8) -> Result<Item, NoMemory>
     ensures { IfOk result IsItem }
@@ -179,6 +197,7 @@ fn item(alloc: Global, letter: u8) -> Result<Item, NoMemory>
         b'm' => Ok(Item::Mark),
         b't' => Ok(Item::Torn),
         b'd' => block(alloc, b"abc"),
+        b'h' => block(alloc, b"hello"),
         b'z' => {
             let whole = document(alloc, b'p')?;
             let bytes = whole.as_str().as_bytes();

@@ -268,6 +268,27 @@ fn cartridges_mount(rt: HostRuntime) -> Result<(), NoMemory> {
     Ok(())
 }
 
+#[test]
+fn a_volume_of_another_writer_mounts(rt: HostRuntime) -> Result<(), NoMemory> {
+    let alloc = rt.alloc();
+    let mut drive = drive(
+        alloc,
+        b"vmammcm",
+        b"vmbmmpmhmxm",
+        (Note::Absent, Note::Absent),
+        List::new(alloc),
+    )?;
+    let Ok(found) = mount(alloc, &mut drive) else {
+        panic!(rt; "refused");
+    };
+    assert_eq!(rt; found.chosen, place(Part::Dp, 9));
+    assert_eq!(rt; found.newest, 3);
+    assert_eq!(rt; found.end_dp, 11);
+    assert_eq!(rt; found.index.nodes.len(), 4);
+    assert!(rt; found.dp_done && found.ip_done);
+    Ok(())
+}
+
 /// The note of the volume with generation 1 at block 5 for a reference of 14.
 const NOTE: [u8; 70] =
     *b"\x08\0\0\0\0\0\0\0\x0e\0\0\0\0\0\0\0\x01\0\0\0\0\0\0\0\x05\0\x2bLTFS\030a91a08-daae-48d1-ae75-69804e61d2ea\0\x01";
