@@ -4,10 +4,11 @@ use Rattle.std.specs.Prelude.{IfSome}
 use Rattle.tape_types.specs.Counts.{Rose}
 use Rattle.tape_types.specs.declared.cartridges.Cartridge.{Cartridge}
 use Rattle.session_script.specs.declared.logs.Log.{Log}
-use Rattle.mount_recover.specs.Labels.{AreCounts, Fails, HasLabels}
-use Rattle.mount_recover.specs.declared.labels.Labels.{Labels}
-use Rattle.mount_recover.specs.declared.labels.MountErr.{MountErr}
-use Rattle.mount_recover.specs.declared.labels.MountErr.TheVariants as errors
+use Rattle.mount_recover.specs.Labels.{AreCounts, Fails}
+use Rattle.tape_meaning.specs.Labels.{HasLabels}
+use Rattle.tape_meaning.specs.declared.labels.Labels.{Labels}
+use Rattle.tape_meaning.specs.declared.errors.MountErr.{MountErr}
+use Rattle.tape_meaning.specs.declared.errors.MountErr.TheVariants as errors
 use Rattle.ltfs_server.specs.Headline.{AreLabelsPrinted, HasNoForm, IsCheckPrinted, IsLabel}
 use Rattle.ltfs_server.specs.Labels.{mount_status}
 use Rattle.ltfs_server.specs.Outcomes.{IsCaused, IsTold, status_of}
@@ -32,6 +33,12 @@ mount_among : (e : MountErr) → IsOneOf (mount_status e) (0 ∷ 3 ∷ 4 ∷ 6 �
 mount_among (errors.Vol1 part) = inr (inl refl)
 mount_among (errors.Label part) = inr (inl refl)
 mount_among errors.LabelsDiffer = inr (inl refl)
+mount_among (errors.Layout place) = inr (inl refl)
+mount_among errors.NoIndex = inr (inl refl)
+mount_among (errors.BadIndex place why) = inr (inl refl)
+mount_among (errors.WrongVolume place) = inr (inl refl)
+mount_among (errors.WrongPointer place) = inr (inl refl)
+mount_among (errors.BadExtent uid) = inr (inl refl)
 mount_among (errors.Drive counts) = inr (inr (inl refl))
 mount_among errors.NoMemory = inr (inr (inr (inr (inl refl))))
 
@@ -50,6 +57,12 @@ mount_refused : (e : MountErr) → IsOneOf (mount_status e) (3 ∷ 4 ∷ 6 ∷ 7
 mount_refused (errors.Vol1 part) = inl refl
 mount_refused (errors.Label part) = inl refl
 mount_refused errors.LabelsDiffer = inl refl
+mount_refused (errors.Layout place) = inl refl
+mount_refused errors.NoIndex = inl refl
+mount_refused (errors.BadIndex place why) = inl refl
+mount_refused (errors.WrongVolume place) = inl refl
+mount_refused (errors.WrongPointer place) = inl refl
+mount_refused (errors.BadExtent uid) = inl refl
 mount_refused (errors.Drive counts) = inr (inl refl)
 mount_refused errors.NoMemory = inr (inr (inr (inl refl)))
 
@@ -88,6 +101,12 @@ mount_done : (c : Cartridge) (l : Labels) (drive : Looked) (e : MountErr)
 mount_done c l drive (errors.Vol1 part) fails counts has still = absurd (is_read_as c l (Err (errors.Vol1 part)) tt fails has)
 mount_done c l drive (errors.Label part) fails counts has still = absurd (is_read_as c l (Err (errors.Label part)) tt fails has)
 mount_done c l drive errors.LabelsDiffer fails counts has still = absurd (is_read_as c l (Err errors.LabelsDiffer) tt fails has)
+mount_done c l drive (errors.Layout place) fails counts has still = absurd fails
+mount_done c l drive errors.NoIndex fails counts has still = absurd fails
+mount_done c l drive (errors.BadIndex place why) fails counts has still = absurd fails
+mount_done c l drive (errors.WrongVolume place) fails counts has still = absurd fails
+mount_done c l drive (errors.WrongPointer place) fails counts has still = absurd fails
+mount_done c l drive (errors.BadExtent uid) fails counts has still = absurd fails
 mount_done c l drive (errors.Drive told) fails counts has still = absurd (still counts.2)
 mount_done c l drive errors.NoMemory fails counts has still = inr (inl refl)
 
@@ -116,6 +135,12 @@ four_is_drive r (outcomes.Label (labels.Done found)) is four = cc
 four_is_drive r (outcomes.Label (labels.Mount (errors.Vol1 part))) is four = cc
 four_is_drive r (outcomes.Label (labels.Mount (errors.Label part))) is four = cc
 four_is_drive r (outcomes.Label (labels.Mount errors.LabelsDiffer)) is four = cc
+four_is_drive r (outcomes.Label (labels.Mount (errors.Layout place))) is four = cc
+four_is_drive r (outcomes.Label (labels.Mount errors.NoIndex)) is four = cc
+four_is_drive r (outcomes.Label (labels.Mount (errors.BadIndex place why))) is four = cc
+four_is_drive r (outcomes.Label (labels.Mount (errors.WrongVolume place))) is four = cc
+four_is_drive r (outcomes.Label (labels.Mount (errors.WrongPointer place))) is four = cc
+four_is_drive r (outcomes.Label (labels.Mount (errors.BadExtent uid))) is four = cc
 four_is_drive r (outcomes.Label (labels.Mount (errors.Drive counts))) (words, nothing, is) four = (words, is.1.2)
 four_is_drive r (outcomes.Label (labels.Mount errors.NoMemory)) is four = cc
 
@@ -171,6 +196,12 @@ known (outcomes.Label (labels.Done found)) = inl refl
 known (outcomes.Label (labels.Mount (errors.Vol1 part))) = inr (inr (inr (inl refl)))
 known (outcomes.Label (labels.Mount (errors.Label part))) = inr (inr (inr (inl refl)))
 known (outcomes.Label (labels.Mount errors.LabelsDiffer)) = inr (inr (inr (inl refl)))
+known (outcomes.Label (labels.Mount (errors.Layout place))) = inr (inr (inr (inl refl)))
+known (outcomes.Label (labels.Mount errors.NoIndex)) = inr (inr (inr (inl refl)))
+known (outcomes.Label (labels.Mount (errors.BadIndex place why))) = inr (inr (inr (inl refl)))
+known (outcomes.Label (labels.Mount (errors.WrongVolume place))) = inr (inr (inr (inl refl)))
+known (outcomes.Label (labels.Mount (errors.WrongPointer place))) = inr (inr (inr (inl refl)))
+known (outcomes.Label (labels.Mount (errors.BadExtent uid))) = inr (inr (inr (inl refl)))
 known (outcomes.Label (labels.Mount (errors.Drive counts))) = inr (inr (inr (inr (inl refl))))
 known (outcomes.Label (labels.Mount errors.NoMemory)) = inr (inr (inr (inr (inr (inr (inr (inl refl)))))))
 

@@ -5,8 +5,8 @@ use Rattle.tape_types.specs.Counts.{Rose}
 use Rattle.tape_types.specs.declared.moments.Moment.{Moment}
 use Rattle.session_script.specs.declared.logs.Log.{Log}
 use Rattle.mount_recover.specs.Labels.{Fails}
-use Rattle.mount_recover.specs.declared.labels.MountErr.{MountErr}
-use Rattle.mount_recover.specs.declared.labels.MountErr.TheVariants as errors
+use Rattle.tape_meaning.specs.declared.errors.MountErr.{MountErr}
+use Rattle.tape_meaning.specs.declared.errors.MountErr.TheVariants as errors
 use Rattle.ltfs_server.specs.Labels.{mount_status}
 use Rattle.ltfs_server.specs.Outcomes.{IsCaused, IsPlainEnd, IsTold, plain_log, status_of, without_memory}
 use Rattle.ltfs_server.specs.Runs.{Gives, IsOneOf, Run, Taken, Written}
@@ -46,6 +46,12 @@ pub mount_known : (e : MountErr) → IsOneOf (mount_status e) (3 ∷ 4 ∷ 7 ∷
 mount_known (errors.Vol1 part) = inl refl
 mount_known (errors.Label part) = inl refl
 mount_known errors.LabelsDiffer = inl refl
+mount_known (errors.Layout place) = inl refl
+mount_known errors.NoIndex = inl refl
+mount_known (errors.BadIndex place why) = inl refl
+mount_known (errors.WrongVolume place) = inl refl
+mount_known (errors.WrongPointer place) = inl refl
+mount_known (errors.BadExtent uid) = inl refl
 mount_known (errors.Drive counts) = inr (inl refl)
 mount_known errors.NoMemory = inr (inr (inl refl))
 
@@ -54,5 +60,11 @@ pub mount_isnt : (e : MountErr) (n : ℕ) → (3 ≡ n → ⊥) → (4 ≡ n →
 mount_isnt (errors.Vol1 part) n three four seven is = three is
 mount_isnt (errors.Label part) n three four seven is = three is
 mount_isnt errors.LabelsDiffer n three four seven is = three is
+mount_isnt (errors.Layout place) n three four seven is = three is
+mount_isnt errors.NoIndex n three four seven is = three is
+mount_isnt (errors.BadIndex place why) n three four seven is = three is
+mount_isnt (errors.WrongVolume place) n three four seven is = three is
+mount_isnt (errors.WrongPointer place) n three four seven is = three is
+mount_isnt (errors.BadExtent uid) n three four seven is = three is
 mount_isnt (errors.Drive counts) n three four seven is = four is
 mount_isnt errors.NoMemory n three four seven is = seven is

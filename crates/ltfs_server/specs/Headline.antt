@@ -5,9 +5,10 @@ use Rattle.std.specs.Io.KnownBytes.{Appends}
 use Rattle.tape_types.specs.Times.{time_text}
 use Rattle.tape_types.specs.declared.moments.Moment.{Moment}
 use Rattle.tape_types.specs.declared.cartridges.Cartridge.{Cartridge}
-use Rattle.mount_recover.specs.Labels.{Fails, HasLabels}
-use Rattle.mount_recover.specs.declared.labels.Labels.{Labels}
-use Rattle.mount_recover.specs.declared.labels.MountErr.{MountErr}
+use Rattle.mount_recover.specs.Labels.{Fails}
+use Rattle.tape_meaning.specs.Labels.{HasLabels}
+use Rattle.tape_meaning.specs.declared.labels.Labels.{Labels}
+use Rattle.tape_meaning.specs.declared.errors.MountErr.{MountErr}
 use Rattle.ltfs_server.specs.Labels.{labels_text, mount_status, mount_text}
 use Rattle.ltfs_server.specs.Runs.{Gives, IsRunOf, Taken}
 use Rattle.tape_edge.specs.Clocks.{IsSince1970}

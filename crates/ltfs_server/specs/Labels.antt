@@ -7,9 +7,11 @@ use Rattle.tape_types.specs.declared.cartridges.Part.TheVariants as parts
 use Rattle.session_script.specs.Escapes.{escaped}
 use Rattle.vol_label.specs.declared.Vol1.{Vol1}
 use Rattle.ltfs_label.specs.declared.Label.{Label}
-use Rattle.mount_recover.specs.declared.labels.Labels.{Labels}
-use Rattle.mount_recover.specs.declared.labels.MountErr.{MountErr}
-use Rattle.mount_recover.specs.declared.labels.MountErr.TheVariants as errors
+use Rattle.tape_types.specs.declared.cartridges.Place.{Place}
+use Rattle.index_model.specs.Telling.{refusal_text}
+use Rattle.tape_meaning.specs.declared.labels.Labels.{Labels}
+use Rattle.tape_meaning.specs.declared.errors.MountErr.{MountErr}
+use Rattle.tape_meaning.specs.declared.errors.MountErr.TheVariants as errors
 
 abbrev pub part_name : Part → List ℕ
 part_name parts.Ip = codes "ip"
@@ -37,11 +39,23 @@ label_line part vol1 label =
 abbrev pub labels_text : Labels → List ℕ
 labels_text labels = label_line parts.Ip labels.ip_record labels.ip ++ label_line parts.Dp labels.dp_record labels.dp
 
+-- a place of a cartridge, behind the name of a check
+abbrev pub place_line : List ℕ → Place → List ℕ
+place_line check place = check ++ (part_name place.part ++ (codes " " ++ (decimal place.pos ++ codes "\n")))
+
 -- the line of a check that failed, of a drive that failed, and of memory that was refused
 abbrev pub mount_text : MountErr → List ℕ
 mount_text (errors.Vol1 part) = codes "volume Vol1 " ++ part_name part ++ codes "\n"
 mount_text (errors.Label part) = codes "volume Label " ++ part_name part ++ codes "\n"
 mount_text errors.LabelsDiffer = codes "volume LabelsDiffer\n"
+mount_text (errors.Layout place) = place_line (codes "volume Layout ") place
+mount_text errors.NoIndex = codes "volume NoIndex\n"
+mount_text (errors.BadIndex place why) =
+    codes "volume BadIndex " ++ (part_name place.part ++ (codes " " ++ (decimal place.pos ++ codes " ")))
+    ++ refusal_text why ++ codes "\n"
+mount_text (errors.WrongVolume place) = place_line (codes "volume WrongVolume ") place
+mount_text (errors.WrongPointer place) = place_line (codes "volume WrongPointer ") place
+mount_text (errors.BadExtent uid) = codes "volume BadExtent " ++ (decimal uid ++ codes "\n")
 mount_text (errors.Drive counts) =
     codes "drive " ++ (decimal counts.before ++ (codes " " ++ (decimal counts.after ++ codes "\n")))
 mount_text errors.NoMemory = codes "memory\n"
@@ -51,5 +65,11 @@ abbrev pub mount_status : MountErr → ℕ
 mount_status (errors.Vol1 part) = 3
 mount_status (errors.Label part) = 3
 mount_status errors.LabelsDiffer = 3
+mount_status (errors.Layout place) = 3
+mount_status errors.NoIndex = 3
+mount_status (errors.BadIndex place why) = 3
+mount_status (errors.WrongVolume place) = 3
+mount_status (errors.WrongPointer place) = 3
+mount_status (errors.BadExtent uid) = 3
 mount_status (errors.Drive counts) = 4
 mount_status errors.NoMemory = 7

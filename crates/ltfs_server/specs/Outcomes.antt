@@ -7,8 +7,9 @@ use Rattle.tape_edge.specs.Streams.{AppendsFront}
 use Rattle.session_script.specs.Grammar.{script_of}
 use Rattle.session_script.specs.ReasonNames.{reason_name}
 use Rattle.session_script.specs.declared.logs.Log.{Log}
-use Rattle.mount_recover.specs.Labels.{AreCounts, Fails, HasLabels}
-use Rattle.mount_recover.specs.declared.labels.MountErr.TheVariants as errors
+use Rattle.mount_recover.specs.Labels.{AreCounts, Fails}
+use Rattle.tape_meaning.specs.Labels.{HasLabels}
+use Rattle.tape_meaning.specs.declared.errors.MountErr.TheVariants as errors
 use Rattle.ltfs_server.specs.Labels.{labels_text, mount_status, mount_text}
 use Rattle.ltfs_server.specs.Headline.{HasNoForm, IsLabel, IsPlainRun, IsPlainWords, done_text}
 use Rattle.ltfs_server.specs.Runs.{Gives, IsRunOf, Looked, Run, Taken, TakesNothing, Written}

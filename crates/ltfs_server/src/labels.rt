@@ -1,15 +1,16 @@
 ghost use Rattle.std.specs.Prelude.{◌≡◌, ◌++◌, codes, IfOk, OnOk, string_bytes};
 ghost use Rattle.tape_types.specs.declared.cartridges.Cartridge.{Cartridge};
-ghost use Rattle.ltfs_server.specs.Labels.{facts_text, label_line, labels_text, mount_status, mount_text, part_name, truth_name, volume_text};
+ghost use Rattle.ltfs_server.specs.Labels.{facts_text, label_line, labels_text, mount_status, mount_text, part_name, place_line, truth_name, volume_text};
 ghost use Rattle.ltfs_server.specs.Outcomes.{IsLabelEnd, label_status, label_text};
 
 use crate::outcomes::bytes_of;
+use index_model::{IndexErr, refusal_text};
 use ltfs_label::Label;
 use mount_recover::{Labels, MountErr, read_labels};
 use session_script::push_escaped;
 use std::alloc::Global;
 use tape_drive::Drive;
-use tape_types::{Bytes, NoMemory, Part, time_text, uuid_text};
+use tape_types::{Bytes, NoMemory, Part, Place, Twin, time_text, uuid_text};
 use vol_label::Vol1;
 
 /// What `label` comes to.
@@ -28,7 +29,7 @@ impl LabelEnd {
     {
         match self {
             LabelEnd::Done(labels) => labels_text(alloc, labels),
-            LabelEnd::Mount(error) => Ok(bytes_of(mount_text(alloc, *error)?)),
+            LabelEnd::Mount(error) => mount_text(alloc, *error),
         }
     }
 
@@ -124,26 +125,58 @@ fn truth_name(truth: bool) -> &'static str
     if truth { "true" } else { "false" }
 }
 
+/// Why an index is none, which stands at a place.
+fn bad_index_text(alloc: Global, place: Place, why: IndexErr) -> Result<Bytes, NoMemory>
+    ensures { IfOk result (λ text. text ≡ mount_text (MountErr.BadIndex place why)) }
+{
+    let part = part_name(place.part);
+    let pos = place.pos;
+    let mut text = bytes_of(format!(in alloc; "volume BadIndex {part} {pos} ")?);
+    text.extend(refusal_text(alloc, why)?.as_slice())?;
+    text.extend(b"\n")?;
+    Ok(text)
+}
+
+/// Which check of an index's place fails.
+fn place_text(alloc: Global, check: &str, place: Place) -> Result<Bytes, NoMemory>
+    ensures { IfOk result (λ text. text ≡ place_line check.now place) }
+{
+    let part = part_name(place.part);
+    let pos = place.pos;
+    Ok(bytes_of(format!(in alloc; "{check}{part} {pos}\n")?))
+}
+
 /// Why the labels were not read.
-pub fn mount_text(alloc: Global, error: MountErr) -> Result<String, NoMemory>
-    ensures { IfOk result (λ words. string_bytes words ≡ mount_text error) }
+fn label_check_text(alloc: Global, check: &str, part: Part) -> Result<Bytes, NoMemory>
+    ensures { IfOk result (λ text. text ≡ check.now ++ part_name part ++ codes "\n") }
+{
+    let part = part_name(part);
+    Ok(bytes_of(format!(in alloc; "{check}{part}\n")?))
+}
+
+fn drive_text(alloc: Global, counts: Twin) -> Result<Bytes, NoMemory>
+    ensures { IfOk result (λ text. text ≡ mount_text (MountErr.Drive counts)) }
+{
+    let Twin { before, after } = counts;
+    Ok(bytes_of(format!(in alloc; "drive {before} {after}\n")?))
+}
+
+/// Why a cartridge isn't read.
+pub fn mount_text(alloc: Global, error: MountErr) -> Result<Bytes, NoMemory>
+    ensures { IfOk result (λ text. text ≡ mount_text error) }
 {
     match error {
-        MountErr::Vol1(part) => {
-            let name = part_name(part);
-            Ok(format!(in alloc; "volume Vol1 {name}\n")?)
-        }
-        MountErr::Label(part) => {
-            let name = part_name(part);
-            Ok(format!(in alloc; "volume Label {name}\n")?)
-        }
-        MountErr::LabelsDiffer => Ok(format!(in alloc; "volume LabelsDiffer\n")?),
-        MountErr::Drive(counts) => {
-            let before = counts.before;
-            let after = counts.after;
-            Ok(format!(in alloc; "drive {before} {after}\n")?)
-        }
-        MountErr::NoMemory => Ok(format!(in alloc; "memory\n")?),
+        MountErr::Vol1(part) => label_check_text(alloc, "volume Vol1 ", part),
+        MountErr::Label(part) => label_check_text(alloc, "volume Label ", part),
+        MountErr::LabelsDiffer => Ok(bytes_of(format!(in alloc; "volume LabelsDiffer\n")?)),
+        MountErr::Layout(place) => place_text(alloc, "volume Layout ", place),
+        MountErr::NoIndex => Ok(bytes_of(format!(in alloc; "volume NoIndex\n")?)),
+        MountErr::BadIndex(place, why) => bad_index_text(alloc, place, why),
+        MountErr::WrongVolume(place) => place_text(alloc, "volume WrongVolume ", place),
+        MountErr::WrongPointer(place) => place_text(alloc, "volume WrongPointer ", place),
+        MountErr::BadExtent(uid) => Ok(bytes_of(format!(in alloc; "volume BadExtent {uid}\n")?)),
+        MountErr::Drive(counts) => drive_text(alloc, counts),
+        MountErr::NoMemory => Ok(bytes_of(format!(in alloc; "memory\n")?)),
     }
 }
 
@@ -151,8 +184,8 @@ pub fn mount_status(error: MountErr) -> u8
     ensures { result ≡ mount_status error }
 {
     match error {
-        MountErr::Vol1(_) | MountErr::Label(_) | MountErr::LabelsDiffer => 3,
         MountErr::Drive(_) => 4,
         MountErr::NoMemory => 7,
+        _ => 3,
     }
 }

@@ -1,6 +1,6 @@
 ghost use Rattle.std.specs.Prelude.{◌≡◌, ◌⊎◌, [], ◌∷◌, IsErr, IsOk, IfSome, None};
-ghost use Rattle.mount_recover.specs.Labels.{HasLabels};
-ghost use Rattle.mount_recover.specs.declared.labels.Labels.{Labels as Found};
+ghost use Rattle.tape_meaning.specs.Labels.{HasLabels};
+ghost use Rattle.tape_meaning.specs.declared.labels.Labels.{Labels as Found};
 ghost use Rattle.tape_types.specs.declared.cartridges.Cartridge.{Cartridge};
 ghost use Rattle.tape_types.specs.Counts.{Rose};
 ghost use Rattle.session_script.specs.Grammar.{script_of};

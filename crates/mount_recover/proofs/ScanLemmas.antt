@@ -1,5 +1,5 @@
 -- What a scan tells of a partition.
-use Rattle.std.proofs.Common.{ℕ, suc, ◌+◌, ◌*◌, ◌≤◌, ◌≡◌, ◌≢◌, List, [], ◌∷◌, ◌++◌, length, map, reverse, drop, slice_get, Option, Some, None, Result, Ok, refl, sym, ◌∙◌, ap, subst, arith, length-append}
+use Rattle.std.proofs.Common.{ℕ, suc, ◌+◌, ◌-◌, ◌*◌, ◌≤◌, ◌≡◌, ◌≢◌, List, [], ◌∷◌, ◌++◌, length, map, reverse, drop, slice_get, Option, Some, None, Result, Ok, refl, sym, ◌∙◌, ap, subst, arith, length-append}
 use Rattle.std.specs.Prelude.{IfSome}
 use Rattle.std.specs.List.{flat_map}
 use Rattle.std.proofs.lemmas.List.{length-map, map-append, reverse-append, reverse-reverse}
@@ -31,15 +31,17 @@ use Rattle.vol_label.specs.declared.Vol1.{Vol1}
 use Rattle.mount_recover.specs.Lasts.{HasSomeLabels, IsSeen, LacksLayout}
 use Rattle.mount_recover.specs.Steps.{Blames, IsSince, IsStep}
 use Rattle.mount_recover.specs.declared.starts.Start.{Start}
-use Rattle.mount_recover.proofs.StepLemmas.{since_next}
+use Rattle.mount_recover.proofs.StepLemmas.{looks_more, since_next}
 
 -- what a scan answers, as a step of a mount
 pub scanned : {D : Type 0} (drive : Ghosts D) (start : Start) (a b : D) (part : Part) (found : Content) (r : Result Content ScanErr) → IsSince drive start a
     → ((c : Cartridge) → drive.held a ≡ Some c → IsContent (items_of part c) found) → IsInPlaces (capacity part (drive.limits a)) found
-    → HasCounts (drive.faults a) (drive.faults b) r → Looks drive ((1 + capacity part (drive.limits a)) * drive.MOST) a b
+    → HasCounts (drive.faults a) (drive.faults b) r → Looks drive ((capacity part (drive.limits a) - 3) * drive.MOST) a b
     → IsStep drive start (1 + capacity part start.limits) a b (λ found c. IsContent (items_of part c) found) (IsInPlaces (capacity part start.limits)) (LacksLayout part) (Ok found)
 scanned drive start a b part found r since told places counts looks =
-    let within = subst (λ (l : Limits). Looks drive ((1 + capacity part l) * drive.MOST) a b) since.limits looks in
+    let some = capacity part (drive.limits a) in
+    let wide = looks_more drive start (some - 3) (1 + some) a b (omega arith) looks in
+    let within = subst (λ (l : Limits). Looks drive ((1 + capacity part l) * drive.MOST) a b) since.limits wide in
     let later : start.faults ≤ drive.faults b = omega (arith, since.faults, counts.later) in
     record {
       found = told;

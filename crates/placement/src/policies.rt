@@ -4,8 +4,7 @@ ghost use Rattle.placement.specs.Computed as computed;
 ghost use Rattle.placement.specs.Policies.{ChoosesIp};
 
 use crate::patterns::matches;
-use index_model::Policy;
-use tape_types::Text;
+use index_model::{Policy, TextList};
 
 /// Whether a file may go to the index partition: there is a policy, a file of this length isn't too long for it, and
 /// it has no patterns or one that matches the file's name. Takes no memory.
@@ -23,15 +22,18 @@ fn may_go(policy: &Option<Policy>, name: &str, length: u64) -> bool
     let Some(policy) = policy else {
         return false;
     };
-    let names = policy.names.as_slice();
-    length <= policy.size && (names.is_empty() || any_matches(names, name))
+    let names = &policy.names;
+    length <= policy.size && (names.len() == 0 || any_matches(names, name))
 }
 
 /// Whether one of the patterns stands for a name.
-fn any_matches(patterns: &[Text], name: &str) -> bool
+fn any_matches(patterns: &TextList, name: &str) -> bool
     ensures { result ≡ list_any (λ pattern. computed.matches pattern name.now) patterns.now }
 {
-    patterns
-        .iter()
-        .any(|pattern| matches(pattern.as_str(), name))
+    for at in 0..patterns.len() {
+        if matches(patterns.get(at), name) {
+            return true;
+        }
+    }
+    false
 }

@@ -1,7 +1,7 @@
 use crate::{chooses_ip, matches};
-use index_model::Policy;
+use index_model::{Policy, TextList};
 use std::alloc::Global;
-use tape_types::{List, NoMemory, Text};
+use tape_types::NoMemory;
 
 #[test]
 fn patterns_stand_for_names(rt: HostRuntime) {
@@ -49,14 +49,10 @@ fn many_stars_take_no_long_time(rt: HostRuntime) {
     );
 }
 
-fn text(alloc: Global, text: &str) -> Result<Text, NoMemory> {
-    Ok(Text::from_string(String::from_str(alloc, text)?))
-}
-
 fn policy(alloc: Global, size: u64, names: &[&str]) -> Result<Option<Policy>, NoMemory> {
-    let mut patterns = List::new(alloc);
+    let mut patterns = TextList::new(alloc);
     for name in names {
-        patterns.push(text(alloc, name)?)?;
+        patterns.push(name)?;
     }
     Ok(Some(Policy {
         size,
