@@ -1,0 +1,12 @@
+//! The lines of a tree, as they are printed.
+#![tactic(auto)]
+
+mod errors;
+mod lines;
+mod listing;
+#[cfg(test)]
+mod tests;
+mod texts;
+
+pub use errors::ListErr;
+pub use listing::write_listing;
