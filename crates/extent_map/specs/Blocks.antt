@@ -31,10 +31,12 @@ AreAlikeIn blocks one other = (part : Part) (pos byte : ℕ) → blocks part pos
 
 -- two tapes that have the same bytes in the blocks of a file have the same file
 abbrev pub BlocksMakeTheFile : Type 0
-BlocksMakeTheFile = (one other : Tape) (f : Laid) → AreAlikeIn (FileStandsIn f) one other → file_cells one f ≡ file_cells other f
+BlocksMakeTheFile = (one other : Tape) (f : Laid) → AreAlikeIn (FileStandsIn f) one other
+    → file_cells one f ≡ file_cells other f
 
 -- an overlay adds the blocks of the new extent alone, and a new length adds none
 pub record NoOtherBlocks : Type 0 where
   pub overlays : (f : Laid) (new : Extent) (part : Part) (pos : ℕ) → IsLaid f
       → FileStandsIn (overlaid f new) part pos → FileStandsIn f part pos ⊎ StandsIn f.block_size new part pos
-  pub lengths : (f : Laid) (length : ℕ) (part : Part) (pos : ℕ) → FileStandsIn (resized f length) part pos → FileStandsIn f part pos
+  pub lengths : (f : Laid) (length : ℕ) (part : Part) (pos : ℕ) → FileStandsIn (resized f length) part pos
+      → FileStandsIn f part pos

@@ -19,7 +19,8 @@ pub record Room : Type 0 where
 abbrev pub AreLaid : ℕ → ℕ → ℕ → List Extent → Type 0
 AreLaid block_size from end [] = from ≤ end
 AreLaid block_size from end (e ∷ es) =
-    (from ≤ e.offset) × (1 ≤ e.count) × (e.byte < block_size) × (e.block + e.count ≤ 2 ^ 62 + 2 ^ 40) × AreLaid block_size (e.offset + e.count) end es
+    (from ≤ e.offset) × (1 ≤ e.count) × (e.byte < block_size) × (e.block + e.count ≤ 2 ^ 62 + 2 ^ 40)
+    × AreLaid block_size (e.offset + e.count) end es
 
 -- blocks have bytes, the length is one that a file can have, and the extents lie within it
 pub record IsLaid (f : Laid) : Type 0 where

@@ -18,24 +18,29 @@ OverlaysWrite = (tape : Tape) (f : Laid) (new : Extent) → IsLaid f
 
 -- a new length truncates the file
 abbrev pub LengthsTruncate : Type 0
-LengthsTruncate = (tape : Tape) (f : Laid) (length : ℕ) → IsLaid f → file_cells tape (resized f length) ≡ plain.resized (file_cells tape f) length
+LengthsTruncate = (tape : Tape) (f : Laid) (length : ℕ) → IsLaid f
+    → file_cells tape (resized f length) ≡ plain.resized (file_cells tape f) length
 
 -- what was cut off never comes back, whatever stands on tape: past the shorter length the bytes are zeros when the file grows
 -- again, by a length or by an overlay further on
 pub record OldBytesStayAway : Type 0 where
   pub longer : (tape : Tape) (f : Laid) (short long : ℕ) → short ≤ long
-      → plain.range_of (file_cells tape (resized (resized f short) long)) short (long - short) ≡ replicate (long - short) (Some 0)
+      → plain.range_of (file_cells tape (resized (resized f short) long)) short (long - short)
+      ≡ replicate (long - short) (Some 0)
   pub further : (tape : Tape) (f : Laid) (short : ℕ) (new : Extent) → short ≤ new.offset
-      → plain.range_of (file_cells tape (overlaid (resized f short) new)) short (new.offset - short) ≡ replicate (new.offset - short) (Some 0)
+      → plain.range_of (file_cells tape (overlaid (resized f short) new)) short (new.offset - short)
+      ≡ replicate (new.offset - short) (Some 0)
 
 -- the pieces of a range read the bytes of the range; each has a byte or more, and lies within a block
 pub record PlansRead : Type 0 where
-  pub read : (tape : Tape) (f : Laid) (offset count : ℕ) → IsLaid f → offset + count ≤ f.length → flat_map (read_piece tape) (planned f offset count) ≡ plain.range_of (file_cells tape f) offset count
+  pub read : (tape : Tape) (f : Laid) (offset count : ℕ) → IsLaid f → offset + count ≤ f.length
+      → flat_map (read_piece tape) (planned f offset count) ≡ plain.range_of (file_cells tape f) offset count
   pub in_one_block : (f : Laid) (offset count : ℕ) → IsLaid f → All (IsInOneBlock f.block_size) (planned f offset count)
 
 -- an overlay takes its range out of each extent and puts the new one among what is left, by its offset
 abbrev pub OverlaysTakeOut : Type 0
-OverlaysTakeOut = (f : Laid) (new : Extent) → (overlaid f new).extents ≡ put_among new (taken_out f.block_size new.offset (new.offset + new.count) f.extents)
+OverlaysTakeOut = (f : Laid) (new : Extent)
+    → (overlaid f new).extents ≡ put_among new (taken_out f.block_size new.offset (new.offset + new.count) f.extents)
 
 -- a block stands at a position of a partition, and has this byte at this place
 pub record HasByte (c : Cartridge) (part : Part) (pos byte value : ℕ) : Type 0 where
@@ -45,5 +50,7 @@ pub record HasByte (c : Cartridge) (part : Part) (pos byte value : ℕ) : Type 0
 
 -- what stands on a cartridge is the bytes of its blocks, and every other byte is lost
 pub record BlocksHaveTheBytes : Type 0 where
-  pub found : (c : Cartridge) (part : Part) (pos byte value : ℕ) → tape_of c part pos byte ≡ Some value → HasByte c part pos byte value
-  pub only : (c : Cartridge) (part : Part) (pos byte value : ℕ) → HasByte c part pos byte value → tape_of c part pos byte ≡ Some value
+  pub found : (c : Cartridge) (part : Part) (pos byte value : ℕ) → tape_of c part pos byte ≡ Some value
+      → HasByte c part pos byte value
+  pub only : (c : Cartridge) (part : Part) (pos byte value : ℕ) → HasByte c part pos byte value
+      → tape_of c part pos byte ≡ Some value

@@ -16,7 +16,8 @@ zeros n = if n == 0 then [] else Zeros n ∷ []
 -- what of an extent lies in its k-th block, counted from 0
 abbrev pub piece_in : ℕ → Extent → ℕ → Piece
 piece_in block_size e k =
-    Stored (record { part = e.part; pos = e.block + k }) (e.byte - k * block_size) (min block_size (e.byte + e.count - k * block_size) - (e.byte - k * block_size))
+    Stored (record { part = e.part; pos = e.block + k }) (e.byte - k * block_size)
+    (min block_size (e.byte + e.count - k * block_size) - (e.byte - k * block_size))
 
 -- an extent, cut at the ends of blocks
 abbrev pub pieces_of : ℕ → Extent → List Piece
@@ -25,11 +26,13 @@ pieces_of block_size e = map (piece_in block_size e) (range_with_len 0 (div_ceil
 -- the extents from a byte of the file up to another, with zeros in the gaps
 abbrev pub with_gaps : ℕ → ℕ → ℕ → List Extent → List Piece
 with_gaps block_size from end [] = zeros (end - from)
-with_gaps block_size from end (e ∷ es) = zeros (e.offset - from) ++ pieces_of block_size e ++ with_gaps block_size (e.offset + e.count) end es
+with_gaps block_size from end (e ∷ es) = zeros (e.offset - from) ++ pieces_of block_size e
+    ++ with_gaps block_size (e.offset + e.count) end es
 
 -- what lies in a range of the file, piece by piece
 abbrev pub planned : Laid → ℕ → ℕ → List Piece
-planned f offset count = with_gaps f.block_size offset (offset + count) (left_from f.block_size offset (cut (offset + count) f.extents))
+planned f offset count =
+    with_gaps f.block_size offset (offset + count) (left_from f.block_size offset (cut (offset + count) f.extents))
 
 -- the cells that a piece reads
 abbrev pub read_piece : Tape → Piece → List Cell

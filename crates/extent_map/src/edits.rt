@@ -13,7 +13,8 @@ pub fn put(extents: &mut Vec<Extent>, new: Extent, block_size: u32)
     requires some { 1 ≤ new.count }
     requires fits { new.offset + new.count ≤ 2 ^ 40 }
     requires room { vec_len extents.old + 2 ≤ vec_capacity extents.old }
-    ensures { extents.new.items ≡ cut new.offset extents.old.items ++ new ∷ left_from block_size (new.offset + new.count) extents.old.items }
+    ensures { extents.new.items ≡ cut new.offset extents.old.items
+        ++ new ∷ left_from block_size (new.offset + new.count) extents.old.items }
 {
     let end = new.offset + new.count;
     let first = ended_by(extents, new.offset);
@@ -36,7 +37,9 @@ pub fn cut_off(extents: &mut Vec<Extent>, at: u64)
 /// How many of a file's first extents end at or before an offset.
 pub fn ended_by(extents: &[Extent], at: u64) -> usize
     ensures bound { result ≤ length extents.now }
-    ensures parts { IsPartitionedBy (λ (e : Extent). nat_le e.count (at - e.offset)) extents.now → IsPartitionPoint (λ (e : Extent). nat_le e.count (at - e.offset) ≡ true) (λ (e : Extent). nat_le e.count (at - e.offset) ≡ false) extents.now result }
+    ensures parts { IsPartitionedBy (λ (e : Extent). nat_le e.count (at - e.offset)) extents.now
+        → IsPartitionPoint (λ (e : Extent). nat_le e.count (at - e.offset) ≡ true)
+        (λ (e : Extent). nat_le e.count (at - e.offset) ≡ false) extents.now result }
 {
     extents.partition_point(|extent| extent.count <= at.saturating_sub(extent.offset))
 }
@@ -44,7 +47,9 @@ pub fn ended_by(extents: &[Extent], at: u64) -> usize
 /// How many of a file's first extents begin before an offset.
 pub fn begun_by(extents: &[Extent], at: u64) -> usize
     ensures bound { result ≤ length extents.now }
-    ensures parts { IsPartitionedBy (λ (e : Extent). nat_lt e.offset at) extents.now → IsPartitionPoint (λ (e : Extent). nat_lt e.offset at ≡ true) (λ (e : Extent). nat_lt e.offset at ≡ false) extents.now result }
+    ensures parts { IsPartitionedBy (λ (e : Extent). nat_lt e.offset at) extents.now
+        → IsPartitionPoint (λ (e : Extent). nat_lt e.offset at ≡ true)
+        (λ (e : Extent). nat_lt e.offset at ≡ false) extents.now result }
 {
     extents.partition_point(|extent| extent.offset < at)
 }
@@ -95,7 +100,8 @@ fn front_before(extents: &[Extent], place: usize, at: u64) -> Option<Extent>
 /// Cuts off what the extent at a place has before an offset. It is the first that ends past the offset.
 fn begin_at(extents: &mut Vec<Extent>, place: usize, at: u64, block_size: u32)
     requires laid { AreLaid block_size 0 (2 ^ 40) extents.old.items }
-    requires place { IsPartitionPoint (λ (e : Extent). nat_le e.count (at - e.offset) ≡ true) (λ (e : Extent). nat_le e.count (at - e.offset) ≡ false) extents.old.items place }
+    requires place { IsPartitionPoint (λ (e : Extent). nat_le e.count (at - e.offset) ≡ true)
+        (λ (e : Extent). nat_le e.count (at - e.offset) ≡ false) extents.old.items place }
     requires within { place ≤ vec_len extents.old }
     ensures items { extents.new.items ≡ take place extents.old.items ++ left_from block_size at extents.old.items }
     ensures len { vec_len extents.new ≡ vec_len extents.old }
@@ -118,7 +124,8 @@ fn put_between(
     requires order { first ≤ last }
     requires within { last ≤ vec_len extents.old }
     requires room { vec_len extents.old + 2 ≤ vec_capacity extents.old }
-    ensures { extents.new.items ≡ take first extents.old.items ++ option_to_list front ++ new ∷ drop last extents.old.items }
+    ensures { extents.new.items ≡ take first extents.old.items ++ option_to_list front
+        ++ new ∷ drop last extents.old.items }
 {
     match front {
         None => make_gap(extents, first, last, 1, new),
@@ -135,7 +142,8 @@ fn make_gap(extents: &mut Vec<Extent>, first: usize, last: usize, count: usize, 
     requires within { last ≤ vec_len extents.old }
     requires some { 1 ≤ count }
     requires room { vec_len extents.old + count ≤ vec_capacity extents.old }
-    ensures { extents.new.items ≡ take first extents.old.items ++ replicate count filler ++ drop last extents.old.items }
+    ensures { extents.new.items ≡ take first extents.old.items ++ replicate count filler
+        ++ drop last extents.old.items }
 {
     move_rest(extents, last, first + count, filler);
     extents[first..first + count].fill(filler);

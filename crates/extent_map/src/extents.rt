@@ -25,9 +25,20 @@ impl Model for Extents {
 
     ghost Value = { Room };
 
-    ghost view = { λ a. record { laid = record { block_size = a.block_size; length = a.length; extents = a.extents.items }; spare = vec_capacity a.extents - vec_len a.extents } };
+    ghost view = { λ a. record {
+      laid = record {
+        block_size = a.block_size;
+        length = a.length;
+        extents = a.extents.items;
+      };
+      spare = vec_capacity a.extents - vec_len a.extents;
+    } };
 
-    ghost invariant = { λ a. IsLaid (record { block_size = a.block_size; length = a.length; extents = a.extents.items }) };
+    ghost invariant = { λ a. IsLaid (record {
+      block_size = a.block_size;
+      length = a.length;
+      extents = a.extents.items;
+    }) };
 }
 
 impl Extents {
@@ -61,7 +72,9 @@ impl Extents {
         requires block { new.block ≤ 2 ^ 62 }
         ensures extents { self.new.laid ≡ overlaid self.old.laid new }
         ensures laid { IsLaid self.new.laid }
-        ensures bytes { (tape : Tape) → file_cells tape self.new.laid ≡ plain.written (file_cells tape self.old.laid) new.offset (cells_of tape self.old.laid.block_size new) }
+        ensures bytes { (tape : Tape)
+            → file_cells tape self.new.laid
+            ≡ plain.written (file_cells tape self.old.laid) new.offset (cells_of tape self.old.laid.block_size new) }
     {
         put(&mut self.extents, new, self.block_size);
         self.length = self.length.max(new.offset + new.count);
@@ -72,7 +85,8 @@ impl Extents {
         requires { length ≤ 2 ^ 40 }
         ensures extents { self.new.laid ≡ resized self.old.laid length }
         ensures laid { IsLaid self.new.laid }
-        ensures bytes { (tape : Tape) → file_cells tape self.new.laid ≡ plain.resized (file_cells tape self.old.laid) length }
+        ensures bytes { (tape : Tape)
+            → file_cells tape self.new.laid ≡ plain.resized (file_cells tape self.old.laid) length }
     {
         cut_off(&mut self.extents, length);
         self.length = length;
@@ -105,7 +119,8 @@ impl Extents {
         requires { offset + count ≤ self.now.laid.length }
         ensures pieces { IfOk result (λ pieces. pieces ≡ planned self.now.laid offset count) }
         ensures blocks { IfOk result (All (IsInOneBlock self.now.laid.block_size)) }
-        ensures bytes { IfOk result (λ pieces. (tape : Tape) → flat_map (read_piece tape) pieces ≡ plain.range_of (file_cells tape self.now.laid) offset count) }
+        ensures bytes { IfOk result (λ pieces. (tape : Tape)
+            → flat_map (read_piece tape) pieces ≡ plain.range_of (file_cells tape self.now.laid) offset count) }
     {
         let first = ended_by(&self.extents, offset);
         let end = offset + count;

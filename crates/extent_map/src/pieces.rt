@@ -29,7 +29,8 @@ pub fn push_range(
     requires byte { All (λ (e : Extent). e.byte < block_size) extents.now }
     requires far { All (λ (e : Extent). e.block + e.count ≤ 2 ^ 62 + 2 ^ 40) extents.now }
     requires range { end ≤ 2 ^ 40 }
-    ensures { OnOk result (pieces.new.items ≡ pieces.old.items ++ with_gaps block_size from end (left_from block_size from (cut end extents.now))) }
+    ensures { OnOk result (pieces.new.items ≡ pieces.old.items
+        ++ with_gaps block_size from end (left_from block_size from (cut end extents.now))) }
 {
     let mut at = from;
     for extent in extents {
@@ -51,7 +52,9 @@ fn push_next(
     requires byte { extent.byte < block_size }
     requires far { extent.block + extent.count ≤ 2 ^ 62 + 2 ^ 40 }
     requires range { end ≤ 2 ^ 40 }
-    ensures { IfOk result (λ next. (more : List Extent) → pieces.old.items ++ with_gaps block_size at end (flat_map (past block_size from) (before end extent) ++ more) ≡ pieces.new.items ++ with_gaps block_size next end more) }
+    ensures { IfOk result (λ next. (more : List Extent) → pieces.old.items
+        ++ with_gaps block_size at end (flat_map (past block_size from) (before end extent) ++ more)
+        ≡ pieces.new.items ++ with_gaps block_size next end more) }
 {
     match clip(extent, from, end, block_size) {
         None => Ok(at),

@@ -22,7 +22,7 @@ use Rattle.plain_tree.proofs.NodeLemmas.{path_total}
 use Rattle.extent_map.specs.Laid.{Laid}
 use Rattle.file_tree.specs.declared.nodes.Node.{Node}
 use Rattle.file_tree.specs.declared.nodes.Kind.{Kind}
-use Rattle.file_tree.specs.Paths.{Name, Path}
+use Rattle.plain_tree.specs.Paths.{Name, Path}
 use Rattle.file_tree.specs.Tree.{Nodes, FileTree}
 use Rattle.file_tree.specs.Mounts.{Letters, IsKindOf, IsNodeOf, IsPathOf, IsBuilt, CanMount, IsTreeOf}
 use Rattle.file_tree.specs.Mounts.IsPathOf.{root, below}

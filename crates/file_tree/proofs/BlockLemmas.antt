@@ -13,7 +13,7 @@ use Rattle.extent_map.proofs.BlockLemmas.{blocks_make_the_file, no_other_blocks}
 use Rattle.file_tree.specs.declared.nodes.Node.{Node}
 use Rattle.file_tree.specs.declared.nodes.Kind.{Kind}
 use Rattle.file_tree.specs.declared.nodes.Kind.TheVariants as kinds
-use Rattle.file_tree.specs.Paths.{Path}
+use Rattle.plain_tree.specs.Paths.{Path}
 use Rattle.file_tree.specs.Tree.{Nodes, FileTree, HasLaid, plain_kind_of, plain_node_of, plain_nodes, plain_of}
 use Rattle.file_tree.specs.Edits.{OthersLie, AllLie}
 use Rattle.file_tree.specs.Blocks.{TreeStandsIn, AddsNoBlock, AddsBlocksOf, BlocksMakeTheTree, EndsHold}

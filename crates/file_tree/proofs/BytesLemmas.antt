@@ -12,7 +12,7 @@ use Rattle.plain_tree.specs.Calls.{with_bytes}
 use Rattle.plain_tree.specs.Cells.{Cell, written}
 use Rattle.plain_tree.specs.Tree as plain
 use Rattle.extent_map.specs.Cells.{Tape, byte_in, tape_of, cell_of, cells_of}
-use Rattle.file_tree.specs.Paths.{Path}
+use Rattle.plain_tree.specs.Paths.{Path}
 use Rattle.file_tree.specs.Tree.{plain_of}
 use Rattle.file_tree.specs.Writes.{HoldsBytes, HoldsBlocks, WritesAreWrites}
 use Rattle.file_tree.proofs.TreeLemmas.{after_free, free_too}

@@ -16,7 +16,7 @@ use Rattle.file_tree.specs.declared.nodes.Node.{Node}
 use Rattle.file_tree.specs.declared.nodes.Kind.TheVariants as kinds
 use Rattle.file_tree.specs.Tree.{Nodes, number_at, moved, HasLaid, plain_node_of, plain_nodes}
 use Rattle.file_tree.specs.Changes.{IsChangedAt}
-use Rattle.file_tree.specs.Paths.{Path}
+use Rattle.plain_tree.specs.Paths.{Path}
 use Rattle.file_tree.specs.Valid.{IsFileOf, AreFilesOf, NumbersDiffer}
 use Rattle.file_tree.proofs.PathLemmas.{same_nodes, get_here, get_other, gone_here, gone_other, is_or_not, some_same, number_is, node_at}
 use Rattle.file_tree.proofs.PlainLemmas.{plain_get, plain_insert}

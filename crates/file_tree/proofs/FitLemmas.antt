@@ -12,7 +12,7 @@ use Rattle.plain_tree.specs.Paths.{is_at_or_below}
 use Rattle.plain_tree.specs.Refusals.{bad_name, refuse_if}
 use Rattle.file_tree.specs.declared.nodes.Node.{Node}
 use Rattle.file_tree.specs.declared.nodes.Kind.TheVariants as kinds
-use Rattle.file_tree.specs.Paths.{Name, Path}
+use Rattle.plain_tree.specs.Paths.{Name, Path}
 use Rattle.file_tree.specs.Tree.{Nodes, moved}
 use Rattle.file_tree.specs.Changes.{IsChangedAt}
 use Rattle.file_tree.specs.Valid.{IsFit, AreFit}

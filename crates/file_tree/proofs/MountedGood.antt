@@ -11,7 +11,7 @@ use Rattle.index_model.specs.Places.{IsAt}
 use Rattle.index_model.proofs.Walks.{all_at}
 use Rattle.file_tree.specs.declared.nodes.Kind.{Kind}
 use Rattle.file_tree.specs.declared.nodes.Kind.TheVariants as kinds
-use Rattle.file_tree.specs.Paths.{Name}
+use Rattle.plain_tree.specs.Paths.{Name}
 use Rattle.file_tree.specs.Tree.{Nodes}
 use Rattle.file_tree.specs.Valid.{AreFilesOf, NumbersDiffer, AreFit, IsGood}
 use Rattle.file_tree.specs.Mounts.{Letters, IsKindOf, IsBuilt, CanMount}

@@ -41,12 +41,14 @@ AgreeBelow ends one other = AreAlikeIn (λ part pos. pos < ends part) one other
 
 -- two tapes that have the same bytes in the blocks of a tree give the same plain tree
 abbrev pub BlocksMakeTheTree : Type 0
-BlocksMakeTheTree = (one other : Tape) (t : FileTree) → AreAlikeIn (TreeStandsIn t) one other → plain_of one t ≡ plain_of other t
+BlocksMakeTheTree = (one other : Tape) (t : FileTree) → AreAlikeIn (TreeStandsIn t) one other
+    → plain_of one t ≡ plain_of other t
 
 -- Below its ends a tree doesn't see what changes behind them, and what is given blocks below the ends stays below.
 pub record EndsHold : Type 0 where
   pub unseen : (ends : Ends) (one other : Tape) (t : FileTree)
       → LiesBelow ends t → AgreeBelow ends one other → plain_of one t ≡ plain_of other t
-  pub kept : (ends : Ends) (before next : FileTree) → AddsNoBlock before next → LiesBelow ends before → LiesBelow ends next
+  pub kept : (ends : Ends) (before next : FileTree) → AddsNoBlock before next → LiesBelow ends before
+      → LiesBelow ends next
   pub given : (ends : Ends) (new : Extent) (before next : FileTree) → AddsBlocksOf new before next
       → LiesBelow ends before → ExtentLiesBelow ends before.block_size new → LiesBelow ends next

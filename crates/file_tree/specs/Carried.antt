@@ -49,7 +49,9 @@ pub record AreFitFacts (carried : Carried) : Type 0 where
 
 -- The index that tells a tree tells it with what it carries on, and nothing of that is lost; it is such as it may be.
 pub record FactsAreCarried : Type 0 where
-  pub tells : (letters : Letters) (heading : Heading) (carried : Carried) (t : FileTree) → TellsTree letters t (index_of_tree letters heading carried t)
-  pub same : (letters : Letters) (heading : Heading) (carried : Carried) (t : FileTree) → carried_of (index_of_tree letters heading carried t) ≡ carried
+  pub tells : (letters : Letters) (heading : Heading) (carried : Carried) (t : FileTree)
+      → TellsTree letters t (index_of_tree letters heading carried t)
+  pub same : (letters : Letters) (heading : Heading) (carried : Carried) (t : FileTree)
+      → carried_of (index_of_tree letters heading carried t) ≡ carried
   pub fit : (letters : Letters) (heading : Heading) (carried : Carried) (t : FileTree)
       → IsFitHeading heading → AreFitFacts carried → IsFitVolume (index_of_tree letters heading carried t)

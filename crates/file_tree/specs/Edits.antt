@@ -21,7 +21,7 @@ use Rattle.file_tree.specs.declared.nodes.Kind.{Kind}
 use Rattle.file_tree.specs.declared.nodes.Kind.TheVariants as kinds
 use Rattle.file_tree.specs.Changes.{CanOverlay}
 use Rattle.file_tree.specs.Tree.{Nodes, FileTree, StandsAt, HasExtents, HasLaid, plain_of, whole}
-use Rattle.file_tree.specs.Paths.{Path}
+use Rattle.plain_tree.specs.Paths.{Path}
 
 -- the call that makes a node of a sort; none makes a link
 abbrev pub making : Sort → Path → Option Call
@@ -41,7 +41,8 @@ pub record CanMake (t : FileTree) (dir : ℕ) (name : List ℕ) (sort : Sort) : 
 -- what a new node of a sort is: a file has no bytes
 abbrev pub IsNewKind : ℕ → Sort → Kind → Type 0
 IsNewKind size sorts.Dir kind = kind ≡ kinds.Dir
-IsNewKind size sorts.File kind = (room : Room) × (kind ≡ kinds.File room) × (room.laid ≡ record { block_size = size; length = 0; extents = [] })
+IsNewKind size sorts.File kind = (room : Room) × (kind ≡ kinds.File room)
+    × (room.laid ≡ record { block_size = size; length = 0; extents = [] })
 IsNewKind size sorts.Link kind = kind ≡ kinds.Dir
 
 -- at the path stands a file of this length
@@ -85,11 +86,17 @@ IsAfter call at before next = (tape : Tape) → plain_of tape next ≡ after (pl
 -- whatever stands on tape, the extent's bytes are written into the file at each path that has its number, and it is touched
 abbrev pub IsWritten : ℕ → Extent → Moment → FileTree → FileTree → Type 0
 IsWritten file new at before next = (tape : Tape) (path : Path) → StandsAt before path file
-    → plain_of tape next ≡ record (plain_of tape before) { nodes = plain.changed_at (plain.file_changed (λ cells. written cells new.offset (cells_of tape before.block_size new)) at) path (plain_of tape before).nodes }
+    → plain_of tape next
+    ≡ record (plain_of tape before) {
+      nodes = plain.changed_at
+          (plain.file_changed (λ cells. written cells new.offset (cells_of tape before.block_size new)) at)
+          path (plain_of tape before).nodes;
+    }
 
 -- whatever stands on tape, the file has this length, as a truncation leaves it
 abbrev pub IsTruncated : ℕ → ℕ → Moment → FileTree → FileTree → Type 0
-IsTruncated file length at before next = (tape : Tape) (path : Path) → StandsAt before path file → plain_of tape next ≡ with_length (plain_of tape before) path length at
+IsTruncated file length at before next = (tape : Tape) (path : Path) → StandsAt before path file
+    → plain_of tape next ≡ with_length (plain_of tape before) path length at
 
 -- the volume's name and the bytes of a block stay
 pub record KeepsVolume (before next : FileTree) : Type 0 where

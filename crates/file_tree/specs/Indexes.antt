@@ -15,7 +15,7 @@ use Rattle.extent_map.specs.Cells.{Tape}
 use Rattle.file_tree.specs.declared.nodes.Node.{Node}
 use Rattle.file_tree.specs.declared.nodes.Kind.{Kind}
 use Rattle.file_tree.specs.declared.nodes.Kind.TheVariants as kinds
-use Rattle.file_tree.specs.Paths.{Path}
+use Rattle.plain_tree.specs.Paths.{Path}
 use Rattle.file_tree.specs.Tree.{FileTree, plain_of}
 use Rattle.file_tree.specs.Mounts.{Letters, laid_of, CanMount, IsTreeOf}
 use Rattle.file_tree.specs.Told.{raw_of, told_nodes}
@@ -64,9 +64,11 @@ pub record IndexesComeBack : Type 0 where
   pub valid : (letters : Letters) (t : FileTree) (index : Index)
       → IsGood t → AreLetters letters → TellsTree letters t index → IsFitVolume index → IsValid index
   pub mounts : (letters : Letters) (t : FileTree) (index : Index)
-      → IsGood t → letters.0 ≢ letters.1 → TellsTree letters t index → IsValid index → CanMount index letters t.block_size
+      → IsGood t → letters.0 ≢ letters.1 → TellsTree letters t index → IsValid index
+      → CanMount index letters t.block_size
   pub same : (letters : Letters) (t other : FileTree) (index : Index)
-      → IsGood t → letters.0 ≢ letters.1 → TellsTree letters t index → IsTreeOf letters t.block_size index other → IsSameTree t other
+      → IsGood t → letters.0 ≢ letters.1 → TellsTree letters t index → IsTreeOf letters t.block_size index other
+      → IsSameTree t other
   pub plain : (tape : Tape) (t other : FileTree) → IsSameTree t other → plain_of tape other ≡ plain_of tape t
 
 -- in each directory the nodes stand by the bytes of their names
@@ -77,7 +79,8 @@ NamesAscend nodes = (at later : ℕ) (node other : told.Node) → 0 < at → at 
 -- a file's extents by their offsets, cut at its length, without those of no bytes
 abbrev pub kind_in_order : Letters → ℕ → told_kind.Kind → told_kind.Kind
 kind_in_order letters size told_kinds.Dir = told_kinds.Dir
-kind_in_order letters size (told_kinds.File bytes raws) = told_kinds.File bytes (map (raw_of letters) (laid_of letters size bytes raws).extents)
+kind_in_order letters size (told_kinds.File bytes raws) =
+    told_kinds.File bytes (map (raw_of letters) (laid_of letters size bytes raws).extents)
 kind_in_order letters size (told_kinds.Link text) = told_kinds.Link text
 
 abbrev pub node_in_order : Letters → ℕ → told.Node → told.Node

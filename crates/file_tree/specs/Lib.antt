@@ -1,4 +1,3 @@
-pub mod Paths
 pub mod Blocks
 pub mod Tree
 pub mod Seen

@@ -22,7 +22,7 @@ use Rattle.file_tree.specs.declared.nodes.Kind.{Kind}
 use Rattle.file_tree.specs.declared.nodes.Kind.TheVariants as kinds
 use Rattle.file_tree.specs.Tree.{Nodes, FileTree}
 use Rattle.file_tree.specs.Blocks.{Ends, TreeStandsIn, LiesBelow}
-use Rattle.file_tree.specs.Paths.{Path}
+use Rattle.plain_tree.specs.Paths.{Path}
 
 -- the letters of the index partition and the data partition
 abbrev pub Letters : Type 0
@@ -32,7 +32,13 @@ abbrev pub part_of : Letters → ℕ → Part
 part_of letters letter = if letter == letters.0 then parts.Ip else parts.Dp
 
 abbrev pub extent_of : Letters → RawExtent → Extent
-extent_of letters raw = record { offset = raw.offset; part = part_of letters raw.letter; block = raw.block; byte = raw.byte; count = raw.count }
+extent_of letters raw = record {
+  offset = raw.offset;
+  part = part_of letters raw.letter;
+  block = raw.block;
+  byte = raw.byte;
+  count = raw.count;
+}
 
 -- extents, by their offsets
 abbrev pub by_offset : List Extent → List Extent
@@ -40,12 +46,17 @@ by_offset es = fold (λ sorted e. put_among e sorted) [] es
 
 -- how a file lies of which these extents are told: they are cut at its length, and those of no bytes are left out
 abbrev pub laid_of : Letters → ℕ → ℕ → List RawExtent → Laid
-laid_of letters size length raws = record { block_size = size; length = length; extents = by_offset (cut length (map (extent_of letters) raws)) }
+laid_of letters size length raws = record {
+  block_size = size;
+  length = length;
+  extents = by_offset (cut length (map (extent_of letters) raws));
+}
 
 -- a node is what is told of one
 abbrev pub IsKindOf : Letters → ℕ → told_kind.Kind → Kind → Type 0
 IsKindOf letters size told_kinds.Dir kind = kind ≡ kinds.Dir
-IsKindOf letters size (told_kinds.File length raws) kind = (room : Room) × (kind ≡ kinds.File room) × (room.laid ≡ laid_of letters size length raws)
+IsKindOf letters size (told_kinds.File length raws) kind = (room : Room) × (kind ≡ kinds.File room)
+    × (room.laid ≡ laid_of letters size length raws)
 IsKindOf letters size (told_kinds.Link text) kind = kind ≡ kinds.Link text
 
 pub record IsNodeOf (letters : Letters) (size : ℕ) (node : told.Node) (n : Node) : Type 0 where
@@ -57,10 +68,12 @@ pub record IsNodeOf (letters : Letters) (size : ℕ) (node : told.Node) (n : Nod
 -- the path of the node at a place: the names from the root down, but for the root's
 pub data IsPathOf (nodes : List told.Node) : ℕ → Path → Type 0 where
   root : IsPathOf nodes 0 []
-  below : (at : ℕ) (node : told.Node) (front : Path) → 0 < at → IsAt nodes at node → IsPathOf nodes node.parent front → IsPathOf nodes at (front ++ node.name ∷ [])
+  below : (at : ℕ) (node : told.Node) (front : Path) → 0 < at → IsAt nodes at node → IsPathOf nodes node.parent front
+      → IsPathOf nodes at (front ++ node.name ∷ [])
 
 -- the node at a place stands at its path, and the place is its number
-pub record Stands (letters : Letters) (size : ℕ) (nodes : List told.Node) (m : Nodes) (at : ℕ) (node : told.Node) : Type 0 where
+pub record Stands (letters : Letters) (size : ℕ) (nodes : List told.Node) (m : Nodes) (at : ℕ)
+    (node : told.Node) : Type 0 where
   pub path : Path
   pub path_is : IsPathOf nodes at path
   pub n : Node
@@ -94,8 +107,10 @@ pub record CanMount (index : Index) (letters : Letters) (size : ℕ) : Type 0 wh
   pub valid : IsValid index
   pub differ : letters.0 ≢ letters.1
   pub some_block : 1 ≤ size
-  pub on_volume : (at bytes : ℕ) (raws : List RawExtent) → IsFileAt index.nodes at bytes raws → AllByRecursion (IsOnVolume letters size) raws
-  pub near : (at bytes : ℕ) (raws : List RawExtent) → IsFileAt index.nodes at bytes raws → AllByRecursion (EndsNear letters size) raws
+  pub on_volume : (at bytes : ℕ) (raws : List RawExtent) → IsFileAt index.nodes at bytes raws
+      → AllByRecursion (IsOnVolume letters size) raws
+  pub near : (at bytes : ℕ) (raws : List RawExtent) → IsFileAt index.nodes at bytes raws
+      → AllByRecursion (EndsNear letters size) raws
 
 -- what is known of the nodes of such an index
 pub record AreTold (letters : Letters) (size : ℕ) (nodes : List told.Node) : Type 0 where
@@ -104,7 +119,8 @@ pub record AreTold (letters : Letters) (size : ℕ) (nodes : List told.Node) : T
   pub names : AreNamesApart nodes
   pub files : AreFiles nodes
   pub kinds : AllByRecursion (λ node. IsKind node.kind) nodes
-  pub on_volume : (at bytes : ℕ) (raws : List RawExtent) → IsFileAt nodes at bytes raws → AllByRecursion (IsOnVolume letters size) raws
+  pub on_volume : (at bytes : ℕ) (raws : List RawExtent) → IsFileAt nodes at bytes raws
+      → AllByRecursion (IsOnVolume letters size) raws
   pub count : length nodes ≤ 65536
 
 -- the tree is that of the index
@@ -136,5 +152,6 @@ pub record MountsLieBelow : Type 0 where
   pub blocks : (letters : Letters) (size : ℕ) (index : Index) (t : FileTree) (part : Part) (pos : ℕ)
       → IsTreeOf letters size index t → TreeStandsIn t part pos → IndexStandsIn letters size index.nodes part pos
   pub below : (ends : Ends) (letters : Letters) (size : ℕ) (index : Index) (t : FileTree)
-      → ((at bytes : ℕ) (raws : List RawExtent) → IsFileAt index.nodes at bytes raws → AllByRecursion (EndsBelow ends letters size) raws)
+      → ((at bytes : ℕ) (raws : List RawExtent) → IsFileAt index.nodes at bytes raws
+      → AllByRecursion (EndsBelow ends letters size) raws)
       → IsTreeOf letters size index t → LiesBelow ends t

@@ -9,7 +9,8 @@ use Rattle.file_tree.specs.Mounts.{Letters}
 -- the extent has a letter of the volume, begins within a block, and ends far before the last position
 abbrev pub on_volume : Letters → ℕ → RawExtent → Bool
 on_volume letters size raw =
-    (raw.letter == letters.0 || raw.letter == letters.1) && nat_lt raw.byte size && nat_lt raw.block (2 ^ 40) && nat_lt raw.count (2 ^ 40)
+    (raw.letter == letters.0 || raw.letter == letters.1) && nat_lt raw.byte size && nat_lt raw.block (2 ^ 40)
+    && nat_lt raw.count (2 ^ 40)
 
 abbrev pub kind_on_volume : Letters → ℕ → Kind → Bool
 kind_on_volume letters size kinds.Dir = true

@@ -6,7 +6,7 @@ use Rattle.file_tree.specs.declared.nodes.Node.{Node}
 use Rattle.file_tree.specs.declared.nodes.Spot.{Spot}
 use Rattle.file_tree.specs.Tree.{Nodes, number_at, plain_nodes, whole}
 use Rattle.file_tree.specs.Seen.{held, IsShown, IsKept}
-use Rattle.file_tree.specs.Paths.{Path}
+use Rattle.plain_tree.specs.Paths.{Path}
 
 -- what stands at each path, for how many nodes more there is memory, and how many places there are
 pub record Stored : Type 0 where

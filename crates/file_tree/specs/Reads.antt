@@ -11,7 +11,7 @@ use Rattle.file_tree.specs.declared.nodes.Node.{Node}
 use Rattle.file_tree.specs.declared.found.Found.{Found}
 use Rattle.file_tree.specs.declared.found.Found.TheVariants as founds
 use Rattle.file_tree.specs.Tree.{FileTree, StandsAt}
-use Rattle.file_tree.specs.Paths.{Path}
+use Rattle.plain_tree.specs.Paths.{Path}
 
 -- the node with the number stands at the path, or nothing does
 abbrev pub IsFound : FileTree → Path → Found → Type 0
@@ -38,4 +38,5 @@ sort_in (kinds.Link text) = sorts.Link
 
 -- the node with the number is of the sort
 abbrev pub IsOfSort : FileTree → ℕ → Sort → Type 0
-IsOfSort t number sort = (path : Path) → StandsAt t path number → (node : Node) × (fin.get t.nodes path ≡ Some node) × (sort_in node.kind ≡ sort)
+IsOfSort t number sort = (path : Path) → StandsAt t path number
+    → (node : Node) × (fin.get t.nodes path ≡ Some node) × (sort_in node.kind ≡ sort)

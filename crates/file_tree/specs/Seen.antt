@@ -11,7 +11,7 @@ use Rattle.file_tree.specs.declared.nodes.Node.{Node}
 use Rattle.file_tree.specs.declared.nodes.Spot.{Spot}
 use Rattle.file_tree.specs.contracts.nodes.Node as node
 use Rattle.file_tree.specs.Tree.{Nodes, number_at}
-use Rattle.file_tree.specs.Paths.{Path}
+use Rattle.plain_tree.specs.Paths.{Path}
 
 -- what is kept at each number
 abbrev pub Held : Type 0
@@ -37,8 +37,10 @@ has_number m n = list_any (λ path. is_number n (fin.get m path)) (fin.keys m)
 pub record IsShown (at : Held) (m : Nodes) : Type 0 where
   pub root : number_at m [] ≡ Some 0
   pub rooted : (node : Node) → fin.get m [] ≡ Some node → at 0 ≡ Some (record { parent = 0; name = []; node = node })
-  pub named : (path : Path) (name : List ℕ) (node : Node) (parent : ℕ) → fin.get m (path ++ name ∷ []) ≡ Some node → number_at m path ≡ Some parent → at node.number ≡ Some (record { parent = parent; name = name; node = node })
-  pub up : (path : Path) (name : List ℕ) (node : Node) → fin.get m (path ++ name ∷ []) ≡ Some node → is_some (fin.get m path) ≡ true
+  pub named : (path : Path) (name : List ℕ) (node : Node) (parent : ℕ) → fin.get m (path ++ name ∷ []) ≡ Some node
+      → number_at m path ≡ Some parent → at node.number ≡ Some (record { parent = parent; name = name; node = node })
+  pub up : (path : Path) (name : List ℕ) (node : Node) → fin.get m (path ++ name ∷ []) ≡ Some node
+      → is_some (fin.get m path) ≡ true
   pub behind : (path : Path) (name : List ℕ) (node : Node) → fin.get m (path ++ name ∷ []) ≡ Some node → node.number ≢ 0
   pub numbered : (n : ℕ) (spot : Spot) → at n ≡ Some spot → spot.node.number ≡ n
   pub complete : (n : ℕ) (spot : Spot) → at n ≡ Some spot → has_number m n ≡ true
@@ -84,4 +86,6 @@ Seen spots = (nodes : Nodes) × ((path : Path) → fin.get nodes path ≡ walk s
 pub Seen-prop : (spots : List (Option Spot)) → IsProp (Seen spots)
 Seen-prop spots a b =
     Σ_prop_path (λ m. Π_prop (λ p. Coded-set (coded_option node.the_row.coded) _ _))
-    (fin.same_map (lists_total nat_list_cmp_total) (fin.slice_cmp-IsAntisymmetric (fin.slice_cmp-IsAntisymmetric fin.nat_cmp-IsAntisymmetric)) a.0 b.0 (λ p. a.1 p ∙ sym (b.1 p)))
+    (fin.same_map (lists_total nat_list_cmp_total)
+    (fin.slice_cmp-IsAntisymmetric (fin.slice_cmp-IsAntisymmetric fin.nat_cmp-IsAntisymmetric))
+    a.0 b.0 (λ p. a.1 p ∙ sym (b.1 p)))

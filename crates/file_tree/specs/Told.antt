@@ -16,7 +16,7 @@ use Rattle.file_tree.specs.declared.nodes.Kind.{Kind}
 use Rattle.file_tree.specs.declared.nodes.Kind.TheVariants as kinds
 use Rattle.file_tree.specs.Tree.{Nodes, FileTree, number_at}
 use Rattle.file_tree.specs.Mounts.{Letters}
-use Rattle.file_tree.specs.Paths.{Path}
+use Rattle.plain_tree.specs.Paths.{Path}
 
 -- the letter of a partition
 abbrev pub letter_of : Letters → Part → ℕ
@@ -25,7 +25,13 @@ letter_of letters parts.Dp = letters.1
 
 -- an extent, with the letter of its partition
 abbrev pub raw_of : Letters → Extent → RawExtent
-raw_of letters e = record { offset = e.offset; letter = letter_of letters e.part; block = e.block; byte = e.byte; count = e.count }
+raw_of letters e = record {
+  offset = e.offset;
+  letter = letter_of letters e.part;
+  block = e.block;
+  byte = e.byte;
+  count = e.count;
+}
 
 -- what is told of what a node is: of a file its length and its extents
 abbrev pub told_kind_of : Letters → Kind → told_kind.Kind
@@ -35,7 +41,15 @@ told_kind_of letters (kinds.Link text) = told_kinds.Link text
 
 -- what is told of a node, given the place of its directory and its name
 abbrev pub told_node_of : Letters → ℕ → List ℕ → Node → told.Node
-told_node_of letters parent name node = record { parent = parent; uid = node.uid; name = name; times = node.times; readonly = node.readonly; kind = told_kind_of letters node.kind }
+told_node_of letters parent name node =
+    record {
+      parent = parent;
+      uid = node.uid;
+      name = name;
+      times = node.times;
+      readonly = node.readonly;
+      kind = told_kind_of letters node.kind;
+    }
 
 -- the place of a path among paths, counted from 0
 abbrev pub place_of : Path → List Path → ℕ
@@ -50,7 +64,8 @@ name_or volume (Some name) = name
 -- What is told of the node at a path: the place of its directory's path among all paths, and the last name of its own.
 -- The root is in itself, and has the name of the volume.
 abbrev pub told_of : Letters → List ℕ → List Path → (Path × Node) → told.Node
-told_of letters volume paths e = told_node_of letters (place_of (parent_of e.0) paths) (name_or volume (last_name e.0)) e.1
+told_of letters volume paths e =
+    told_node_of letters (place_of (parent_of e.0) paths) (name_or volume (last_name e.0)) e.1
 
 -- all nodes in the order of their paths, which is that of a document
 abbrev pub told_in : Letters → List ℕ → Nodes → List told.Node
@@ -61,7 +76,8 @@ told_nodes letters t = told_in letters t.name t.nodes
 
 -- at the number of each path stands the place of the path among all paths
 abbrev pub ArePlaces : Nodes → List ℕ → Type 0
-ArePlaces nodes places = (path : Path) (number : ℕ) → number_at nodes path ≡ Some number → IsAt places number (place_of path (fin.keys nodes))
+ArePlaces nodes places = (path : Path) (number : ℕ) → number_at nodes path ≡ Some number
+    → IsAt places number (place_of path (fin.keys nodes))
 
 -- no number stands at two places
 abbrev pub AreApart : List ℕ → Type 0

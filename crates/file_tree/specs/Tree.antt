@@ -13,7 +13,7 @@ use Rattle.extent_map.specs.Cells.{Tape, file_cells}
 use Rattle.file_tree.specs.declared.nodes.Node.{Node}
 use Rattle.file_tree.specs.declared.nodes.Kind.{Kind}
 use Rattle.file_tree.specs.declared.nodes.Kind.TheVariants as kinds
-use Rattle.file_tree.specs.Paths.{Path}
+use Rattle.plain_tree.specs.Paths.{Path}
 
 -- what stands at each path
 abbrev pub Nodes : Type 0
@@ -65,7 +65,12 @@ plain_kind_of tape (kinds.File room) = plain_kinds.File (file_cells tape room.la
 plain_kind_of tape (kinds.Link text) = plain_kinds.Link text
 
 abbrev pub plain_node_of : Tape → Node → plain_node.Node
-plain_node_of tape node = record { uid = node.uid; times = node.times; readonly = node.readonly; kind = plain_kind_of tape node.kind }
+plain_node_of tape node = record {
+  uid = node.uid;
+  times = node.times;
+  readonly = node.readonly;
+  kind = plain_kind_of tape node.kind;
+}
 
 abbrev pub plain_nodes : Tape → Nodes → plain.Nodes
 plain_nodes tape nodes = fin.from_entries (map (λ e. (e.0, plain_node_of tape e.1)) (fin.entries nodes))
@@ -85,5 +90,7 @@ pub record PlainNodesAgree : Type 0 where
   pub times : (tape : Tape) (node : Node) → (plain_node_of tape node).times ≡ node.times
   pub readonly : (tape : Tape) (node : Node) → (plain_node_of tape node).readonly ≡ node.readonly
   pub dir : (tape : Tape) (node : Node) → node.kind ≡ kinds.Dir → (plain_node_of tape node).kind ≡ plain_kinds.Dir
-  pub link : (tape : Tape) (node : Node) (text : List ℕ) → node.kind ≡ kinds.Link text → (plain_node_of tape node).kind ≡ plain_kinds.Link text
-  pub file : (tape : Tape) (node : Node) (room : Room) → node.kind ≡ kinds.File room → (plain_node_of tape node).kind ≡ plain_kinds.File (file_cells tape room.laid)
+  pub link : (tape : Tape) (node : Node) (text : List ℕ) → node.kind ≡ kinds.Link text
+      → (plain_node_of tape node).kind ≡ plain_kinds.Link text
+  pub file : (tape : Tape) (node : Node) (room : Room) → node.kind ≡ kinds.File room
+      → (plain_node_of tape node).kind ≡ plain_kinds.File (file_cells tape room.laid)

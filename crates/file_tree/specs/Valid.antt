@@ -9,7 +9,7 @@ use Rattle.extent_map.specs.Laid.{Laid, Room, IsLaid}
 use Rattle.extent_map.specs.Cells.{Tape}
 use Rattle.file_tree.specs.declared.nodes.Node.{Node}
 use Rattle.file_tree.specs.declared.nodes.Kind.TheVariants as kinds
-use Rattle.file_tree.specs.Paths.{Name, Path}
+use Rattle.plain_tree.specs.Paths.{Name, Path}
 use Rattle.file_tree.specs.Tree.{Nodes, FileTree, number_at, plain_of}
 use Rattle.file_tree.specs.Blocks.{TreeStandsIn}
 
@@ -20,7 +20,8 @@ pub record IsFileOf (block_size : ℕ) (laid : Laid) : Type 0 where
 
 -- each file does
 abbrev pub AreFilesOf : ℕ → Nodes → Type 0
-AreFilesOf block_size m = (path : Path) (node : Node) (room : Room) → fin.get m path ≡ Some node → node.kind ≡ kinds.File room → IsFileOf block_size room.laid
+AreFilesOf block_size m = (path : Path) (node : Node) (room : Room) → fin.get m path ≡ Some node
+    → node.kind ≡ kinds.File room → IsFileOf block_size room.laid
 
 -- no two nodes have one number
 abbrev pub NumbersDiffer : Nodes → Type 0

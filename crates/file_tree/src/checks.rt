@@ -103,7 +103,8 @@ fn exists(tree: &Tree, path: &[Text]) -> bool
 
 /// Why a file can't be as long as to the end of a range.
 fn write_refusal(tree: &Tree, path: &[Text], offset: u64, count: u64) -> Option<Refusal>
-    ensures { result ≡ first_of (why_no_file (plain_of whole tree.now).nodes path.now ∷ why_too_long (offset + count) ∷ []) }
+    ensures { result
+        ≡ first_of (why_no_file (plain_of whole tree.now).nodes path.now ∷ why_too_long (offset + count) ∷ []) }
 {
     if let Some(refusal) = no_file(tree, path) {
         return Some(refusal);

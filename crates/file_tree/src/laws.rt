@@ -22,7 +22,8 @@ pub fn refusals_are_alike()
 /// uid.
 pub fn told_nodes_agree()
     ensures order { (letters : Letters) (t : FileTree) → IsGood t → AreInOrder (told_nodes letters t) }
-    ensures agrees { (letters : Letters) (t : FileTree) → IsGood t → (index : Index) → index.nodes ≡ told_nodes letters t → index.highest ≡ t.highest → Agrees index }
+    ensures agrees { (letters : Letters) (t : FileTree) → IsGood t → (index : Index)
+        → index.nodes ≡ told_nodes letters t → index.highest ≡ t.highest → Agrees index }
 {}
 
 /// Two tapes that have the same bytes in the blocks of a tree give the same plain tree.

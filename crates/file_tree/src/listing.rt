@@ -28,7 +28,8 @@ pub fn names_in(alloc: Global, spots: &[Option<Spot>], dir: u32) -> Result<Names
 
 /// Puts in the name of what is kept, where it is in the directory.
 fn put_kept(names: &mut Names, alloc: Global, spot: &Option<Spot>, dir: u32) -> Result<(), NoMemory>
-    ensures { OnOk result ((q : List ℕ) → get name_cmp names.new q ≡ or_later (sort_under dir q spot.now) (get name_cmp names.old q)) }
+    ensures { OnOk result ((q : List ℕ)
+        → get name_cmp names.new q ≡ or_later (sort_under dir q spot.now) (get name_cmp names.old q)) }
 {
     let Some(spot) = spot else {
         return Ok(());

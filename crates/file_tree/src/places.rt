@@ -35,10 +35,15 @@ impl Model for Places {
 
     ghost Value = { Stored };
 
-    ghost coded = { code_by (fin.FinMap path_cmp Node × (ℕ × ℕ)) (coded× (fin.code (coded_list (coded_list coded_ℕ)) node.the_row.coded) (coded× coded_ℕ coded_ℕ))
+    ghost coded = { code_by (fin.FinMap path_cmp Node × (ℕ × ℕ))
+        (coded× (fin.code (coded_list (coded_list coded_ℕ)) node.the_row.coded) (coded× coded_ℕ coded_ℕ))
         (λ t. (t.nodes, (t.spare, t.slots))) (λ p. record { nodes = p.0; spare = p.1.0; slots = p.1.1 }) (λ _. refl) };
 
-    ghost view = { λ a. record { nodes = a.seen.0; spare = vec_capacity a.spots - vec_len a.spots; slots = length a.spots.items } };
+    ghost view = { λ a. record {
+      nodes = a.seen.0;
+      spare = vec_capacity a.spots - vec_len a.spots;
+      slots = length a.spots.items;
+    } };
 
     ghost invariant = { λ a. IsStored a.spots.items a.count a.seen.0 };
 }
@@ -47,7 +52,7 @@ impl Places {
     ghost use Rattle.std.specs.Prelude.{◌≡◌, ◌≢◌, ℕ, ◌+◌, ◌≤◌, nat_lt, length, List, [], ◌∷◌, ◌++◌, map, Some, OnOk, IfOk, IfErr};
     ghost use Rattle.std.specs.FinMap as fin;
     ghost use Rattle.file_tree.specs.declared.nodes.Node.{Node};
-    ghost use Rattle.file_tree.specs.Paths.{Path};
+    ghost use Rattle.plain_tree.specs.Paths.{Path};
     ghost use Rattle.file_tree.specs.Tree.{number_at, moved, plain_nodes, whole};
     ghost use Rattle.extent_map.specs.Cells.{Tape};
     ghost use Rattle.plain_tree.specs.Tree.{entries_in};
@@ -74,7 +79,8 @@ impl Places {
 
     pub fn len(&self) -> u32
         ensures count { result ≡ fin.len self.now.nodes }
-        ensures apart { (p q : Path) (number : ℕ) → number_at self.now.nodes p ≡ Some number → number_at self.now.nodes q ≡ Some number → p ≡ q }
+        ensures apart { (p q : Path) (number : ℕ) → number_at self.now.nodes p ≡ Some number
+            → number_at self.now.nodes q ≡ Some number → p ≡ q }
     {
         self.count
     }
@@ -82,7 +88,8 @@ impl Places {
     /// The node with a number.
     pub fn node(&self, number: u32) -> &Node
         requires { IsThere self.now.nodes number }
-        ensures { (path : Path) → number_at self.now.nodes path ≡ Some number → fin.get self.now.nodes path ≡ Some result.now }
+        ensures { (path : Path) → number_at self.now.nodes path ≡ Some number
+            → fin.get self.now.nodes path ≡ Some result.now }
     {
         &spot_at(&self.spots, number).node
     }
@@ -90,9 +97,12 @@ impl Places {
     /// The number of the directory that a node is in.
     pub fn parent(&self, number: u32) -> u32
         requires { IsThere self.now.nodes number }
-        ensures parent { (path : Path) (name : List ℕ) → number_at self.now.nodes (path ++ name ∷ []) ≡ Some number → number_at self.now.nodes path ≡ Some result }
-        ensures above { (path : Path) → number_at self.now.nodes path ≡ Some number → number_at self.now.nodes (parent_of path) ≡ Some result }
-        ensures apart { (p q : Path) (n : ℕ) → number_at self.now.nodes p ≡ Some n → number_at self.now.nodes q ≡ Some n → p ≡ q }
+        ensures parent { (path : Path) (name : List ℕ) → number_at self.now.nodes (path ++ name ∷ []) ≡ Some number
+            → number_at self.now.nodes path ≡ Some result }
+        ensures above { (path : Path) → number_at self.now.nodes path ≡ Some number
+            → number_at self.now.nodes (parent_of path) ≡ Some result }
+        ensures apart { (p q : Path) (n : ℕ) → number_at self.now.nodes p ≡ Some n
+            → number_at self.now.nodes q ≡ Some n → p ≡ q }
     {
         spot_at(&self.spots, number).parent
     }
@@ -100,7 +110,8 @@ impl Places {
     /// The name under which a node is in its directory.
     pub fn name(&self, number: u32) -> &Text
         requires { IsThere self.now.nodes number }
-        ensures { (path : Path) (name : List ℕ) → number_at self.now.nodes (path ++ name ∷ []) ≡ Some number → result.now ≡ name }
+        ensures { (path : Path) (name : List ℕ) → number_at self.now.nodes (path ++ name ∷ []) ≡ Some number
+            → result.now ≡ name }
     {
         &spot_at(&self.spots, number).name
     }
@@ -124,7 +135,8 @@ impl Places {
     /// Puts in the path of a node.
     fn put_number(&self, paths: &mut Paths, alloc: Global, number: u32) -> Result<(), NoMemory>
         requires { IsThere self.now.nodes number }
-        ensures { OnOk result ((path : Path) × (number_at self.now.nodes path ≡ Some number) × PutsPath paths.old paths.new path number) }
+        ensures { OnOk result ((path : Path) × (number_at self.now.nodes path ≡ Some number)
+            × PutsPath paths.old paths.new path number) }
     {
         let path = self.path(alloc, number)?;
         put_path(paths, path, number)
@@ -154,7 +166,8 @@ impl Places {
     /// The last name of a node's path, or for the root that of the volume.
     fn name_told(&self, alloc: Global, number: u32, volume: &Text) -> Result<Text, NoMemory>
         requires { IsThere self.now.nodes number }
-        ensures { IfOk result (λ name. (path : Path) → number_at self.now.nodes path ≡ Some number → name ≡ name_or volume.now (last_name path)) }
+        ensures { IfOk result (λ name. (path : Path) → number_at self.now.nodes path ≡ Some number
+            → name ≡ name_or volume.now (last_name path)) }
     {
         let _shown = &self.spots;
         if number == 0 {
@@ -174,7 +187,8 @@ impl Places {
     ) -> Result<ToldNode, NoMemory>
         requires there { IsThere self.now.nodes number }
         requires places { ArePlaces self.now.nodes places.now }
-        ensures { IfOk result (λ told. (path : Path) (node : Node) → fin.get self.now.nodes path ≡ Some node → node.number ≡ number → told ≡ told_of letters volume.now (fin.keys self.now.nodes) (path, node)) }
+        ensures { IfOk result (λ told. (path : Path) (node : Node) → fin.get self.now.nodes path ≡ Some node
+            → node.number ≡ number → told ≡ told_of letters volume.now (fin.keys self.now.nodes) (path, node)) }
     {
         let name = self.name_told(alloc, number, volume)?;
         let parent = places[self.parent(number) as usize];
@@ -202,7 +216,8 @@ impl Places {
     /// The number of the node under a name in a directory.
     pub fn child(&self, dir: u32, name: &Text) -> Option<u32>
         requires { IsThere self.now.nodes dir }
-        ensures { (path : Path) → number_at self.now.nodes path ≡ Some dir → number_at self.now.nodes (path ++ name.now ∷ []) ≡ result }
+        ensures { (path : Path) → number_at self.now.nodes path ≡ Some dir
+            → number_at self.now.nodes (path ++ name.now ∷ []) ≡ result }
     {
         child(&self.spots, dir, name)
     }
@@ -210,7 +225,8 @@ impl Places {
     /// Whether anything stands directly in a directory.
     pub fn has_entries(&self, dir: u32) -> bool
         requires { IsThere self.now.nodes dir }
-        ensures { (path : Path) → number_at self.now.nodes path ≡ Some dir → result ≡ nat_lt 0 (length (entries_in (plain_nodes whole self.now.nodes) path)) }
+        ensures { (path : Path) → number_at self.now.nodes path ≡ Some dir
+            → result ≡ nat_lt 0 (length (entries_in (plain_nodes whole self.now.nodes) path)) }
     {
         any_in(&self.spots, dir)
     }
@@ -218,7 +234,8 @@ impl Places {
     /// What stands directly in a directory, by the bytes of the names.
     pub fn list(&self, alloc: Global, dir: u32) -> Result<List<Entry>, NoMemory>
         requires { IsThere self.now.nodes dir }
-        ensures { IfOk result (λ entries. (tape : Tape) (path : Path) → number_at self.now.nodes path ≡ Some dir → entries ≡ entries_in (plain_nodes tape self.now.nodes) path) }
+        ensures { IfOk result (λ entries. (tape : Tape) (path : Path) → number_at self.now.nodes path ≡ Some dir
+            → entries ≡ entries_in (plain_nodes tape self.now.nodes) path) }
     {
         let names = names_in(alloc, &self.spots, dir)?;
         lines_of(alloc, &names)
@@ -250,7 +267,8 @@ impl Places {
     /// Puts a node under a name into a directory, and gives it a number that no node has. Takes no memory.
     pub fn put(&mut self, dir: u32, name: Text, node: Node) -> u32
         requires { CanPut self.old dir name }
-        ensures put { (path : Path) → number_at self.old.nodes path ≡ Some dir → self.new.nodes ≡ fin.insert self.old.nodes (path ++ name ∷ []) (record node { number = result }) }
+        ensures put { (path : Path) → number_at self.old.nodes path ≡ Some dir
+            → self.new.nodes ≡ fin.insert self.old.nodes (path ++ name ∷ []) (record node { number = result }) }
         ensures fresh { (path : Path) → number_at self.old.nodes path ≢ Some result }
         ensures room { self.old.spare ≤ self.new.spare + 1 }
     {
@@ -272,7 +290,9 @@ impl Places {
     /// Puts a node behind all others, under a name into a directory. Its number is the count of places before.
     pub fn append(&mut self, dir: u32, name: Text, node: Node) -> Result<(), NoMemory>
         requires { CanAppend self.old dir name }
-        ensures nodes { OnOk result ((path : Path) → number_at self.old.nodes path ≡ Some dir → self.new.nodes ≡ fin.insert self.old.nodes (path ++ name ∷ []) (record node { number = self.old.slots })) }
+        ensures nodes { OnOk result ((path : Path) → number_at self.old.nodes path ≡ Some dir
+            → self.new.nodes
+            ≡ fin.insert self.old.nodes (path ++ name ∷ []) (record node { number = self.old.slots })) }
         ensures slots { OnOk result (self.new.slots ≡ self.old.slots + 1) }
     {
         let number = self.spots.len() as u32;
@@ -289,7 +309,8 @@ impl Places {
     pub fn take(&mut self, number: u32)
         requires { CanTake self.old.nodes number }
         ensures gone { (path : Path) → number_at self.new.nodes path ≢ Some number }
-        ensures taken { (path : Path) → number_at self.old.nodes path ≡ Some number → self.new.nodes ≡ fin.remove self.old.nodes path }
+        ensures taken { (path : Path) → number_at self.old.nodes path ≡ Some number
+            → self.new.nodes ≡ fin.remove self.old.nodes path }
         ensures room { self.new.spare ≡ self.old.spare }
     {
         take_spot(&mut self.spots, number);
@@ -299,7 +320,8 @@ impl Places {
     /// Moves a node, and all below it, under a name into a directory. Takes no memory.
     pub fn shift(&mut self, number: u32, dir: u32, name: Text)
         requires { CanShift self.old.nodes number dir name }
-        ensures shifted { (from up : Path) → number_at self.old.nodes from ≡ Some number → number_at self.old.nodes up ≡ Some dir → self.new.nodes ≡ moved from (up ++ name ∷ []) self.old.nodes }
+        ensures shifted { (from up : Path) → number_at self.old.nodes from ≡ Some number
+            → number_at self.old.nodes up ≡ Some dir → self.new.nodes ≡ moved from (up ++ name ∷ []) self.old.nodes }
         ensures room { self.new.spare ≡ self.old.spare }
     {
         shift_spot(&mut self.spots, number, dir, name);
@@ -308,7 +330,8 @@ impl Places {
     /// Changes a node. Takes no memory.
     pub fn change(&mut self, number: u32, change: Change, at: Moment)
         requires there { IsThere self.old.nodes number }
-        requires can { (path : Path) (node : Node) → fin.get self.old.nodes path ≡ Some node → node.number ≡ number → CanChange change node }
+        requires can { (path : Path) (node : Node) → fin.get self.old.nodes path ≡ Some node → node.number ≡ number
+            → CanChange change node }
         ensures changed { IsChangedAt self.old.nodes self.new.nodes number (λ a b. IsChangedBy change at a b) }
         ensures room { self.new.spare ≡ self.old.spare }
     {
@@ -318,7 +341,8 @@ impl Places {
     /// Makes room for one overlay of a node that is a file.
     pub fn reserve_extent(&mut self, number: u32) -> Result<(), NoMemory>
         requires { IsThere self.old.nodes number }
-        ensures changed { IsChangedAt self.old.nodes self.new.nodes number (λ a b. IsRoomier a b × OnOk result (HasRoom b)) }
+        ensures changed { IsChangedAt self.old.nodes self.new.nodes number
+            (λ a b. IsRoomier a b × OnOk result (HasRoom b)) }
         ensures room { self.new.spare ≡ self.old.spare }
     {
         reserve_spot(&mut self.spots, number)

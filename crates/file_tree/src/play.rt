@@ -72,7 +72,8 @@ fn make(
     sort: Sort,
     at: Moment,
 ) -> Result<(), NoMemory>
-    requires { (call : Asked) × (making sort path.now ≡ Some call) × (refusal_of (plain_of whole tree.old) call ≡ None) }
+    requires { (call : Asked) × (making sort path.now ≡ Some call)
+        × (refusal_of (plain_of whole tree.old) call ≡ None) }
 {
     tree.reserve()?;
     let Some((name, front)) = path.split_last() else {

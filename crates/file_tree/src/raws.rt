@@ -43,7 +43,10 @@ fn put_raw(
     requires short { length ≤ 2 ^ 40 }
     requires size { extents.old.laid.block_size < 2 ^ 32 }
     requires raw { IsRaw letters extents.old.laid.block_size raw }
-    ensures { OnOk result ((front rest : List RawExtent) → IsPlaced letters extents.old.laid.block_size length front (raw ∷ rest) extents.old.laid → AllByRecursion (AreApart raw) rest → IsPlaced letters extents.old.laid.block_size length (front ++ raw ∷ []) rest extents.new.laid) }
+    ensures { OnOk result ((front rest : List RawExtent)
+        → IsPlaced letters extents.old.laid.block_size length front (raw ∷ rest) extents.old.laid
+        → AllByRecursion (AreApart raw) rest
+        → IsPlaced letters extents.old.laid.block_size length (front ++ raw ∷ []) rest extents.new.laid) }
 {
     if raw.count == 0 || raw.offset >= length {
         return Ok(());

@@ -108,7 +108,8 @@ pub fn take_spot(spots: &mut Spots, number: u32)
 /// Keeps a node in another directory, under another name.
 pub fn shift_spot(spots: &mut Spots, number: u32, dir: u32, name: Text)
     requires { IsSome (held spots.old.items number) }
-    ensures set { (s : Spot) → held spots.old.items number ≡ Some s → IsSetIn spots.old.items spots.new.items number (Some (record { parent = dir; name = name; node = s.node })) }
+    ensures set { (s : Spot) → held spots.old.items number ≡ Some s
+        → IsSetIn spots.old.items spots.new.items number (Some (record { parent = dir; name = name; node = s.node })) }
     ensures filled { used spots.new.items ≡ used spots.old.items }
     ensures room { vec_capacity spots.new - vec_len spots.new ≡ vec_capacity spots.old - vec_len spots.old }
 {
@@ -137,7 +138,8 @@ pub fn change_spot(spots: &mut Spots, number: u32, change: Change, at: Moment)
 /// Makes room for one overlay of a node that is a file.
 pub fn reserve_spot(spots: &mut Spots, number: u32) -> Result<(), NoMemory>
     requires { IsSome (held spots.old.items number) }
-    ensures changed { IsChangedIn spots.old.items spots.new.items number (λ a b. IsRoomier a b × OnOk result (HasRoom b)) }
+    ensures changed { IsChangedIn spots.old.items spots.new.items number
+        (λ a b. IsRoomier a b × OnOk result (HasRoom b)) }
     ensures room { vec_capacity spots.new - vec_len spots.new ≡ vec_capacity spots.old - vec_len spots.old }
 {
     match &mut spots[number as usize] {

@@ -40,7 +40,8 @@ pub fn places_of(alloc: Global, numbers: &[u32], count: usize) -> Result<Vec<u32
     requires few { length numbers.now ≤ 65536 }
     requires below { (place number : ℕ) → IsAt numbers.now place number → number < count }
     requires apart { AreApart numbers.now }
-    ensures { IfOk result (λ places. (place number : ℕ) → IsAt numbers.now place number → IsAt places.items number place) }
+    ensures { IfOk result (λ places. (place number : ℕ) → IsAt numbers.now place number
+        → IsAt places.items number place) }
 {
     let mut places = vec![in alloc; 0u32; count]?;
     for place in 0..numbers.len() {

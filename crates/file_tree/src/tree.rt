@@ -1,7 +1,7 @@
 ghost use Rattle.std.specs.Prelude.{◌≡◌, ℕ, ◌≤◌, List, Some, false};
 ghost use Rattle.extent_map.specs.Laid.{Room};
 ghost use Rattle.plain_tree.specs.Tree.{times_at};
-ghost use Rattle.file_tree.specs.Paths.{Path};
+ghost use Rattle.plain_tree.specs.Paths.{Path};
 ghost use Rattle.file_tree.specs.Tree.{HasExtents, number_at};
 ghost use Rattle.file_tree.specs.Edits.{IsNewKind, IsLongAt};
 
@@ -44,13 +44,32 @@ impl Model for Tree {
     ghost Value = { FileTree };
 
     ghost coded = { code_by (ℕ × (List ℕ × (ℕ × (fin.FinMap path_cmp Node × ℕ))))
-        (coded× coded_ℕ (coded× (coded_list coded_ℕ) (coded× coded_ℕ (coded× (fin.code (coded_list (coded_list coded_ℕ)) node.the_row.coded) coded_ℕ))))
+        (coded× coded_ℕ (coded× (coded_list coded_ℕ) (coded× coded_ℕ
+        (coded× (fin.code (coded_list (coded_list coded_ℕ)) node.the_row.coded) coded_ℕ))))
         (λ t. (t.highest, (t.name, (t.block_size, (t.nodes, t.spare)))))
-        (λ p. record { highest = p.0; name = p.1.0; block_size = p.1.1.0; nodes = p.1.1.1.0; spare = p.1.1.1.1 }) (λ _. refl) };
+        (λ p. record {
+          highest = p.0;
+          name = p.1.0;
+          block_size = p.1.1.0;
+          nodes = p.1.1.1.0;
+          spare = p.1.1.1.1;
+        }) (λ _. refl) };
 
-    ghost view = { λ a. record { highest = a.highest; name = a.volume; block_size = a.block_size; nodes = a.places.nodes; spare = a.places.spare } };
+    ghost view = { λ a. record {
+      highest = a.highest;
+      name = a.volume;
+      block_size = a.block_size;
+      nodes = a.places.nodes;
+      spare = a.places.spare;
+    } };
 
-    ghost invariant = { λ a. IsGood (record { highest = a.highest; name = a.volume; block_size = a.block_size; nodes = a.places.nodes; spare = a.places.spare }) };
+    ghost invariant = { λ a. IsGood (record {
+      highest = a.highest;
+      name = a.volume;
+      block_size = a.block_size;
+      nodes = a.places.nodes;
+      spare = a.places.spare;
+    }) };
 }
 
 impl Tree {
@@ -60,7 +79,7 @@ impl Tree {
     ghost use Rattle.extent_map.specs.Cells.{Tape};
     ghost use Rattle.plain_tree.specs.declared.calls.Call.TheVariants as asks;
     ghost use Rattle.plain_tree.specs.Paths.{moved_path};
-    ghost use Rattle.file_tree.specs.Paths.{Path};
+    ghost use Rattle.plain_tree.specs.Paths.{Path};
     ghost use Rattle.file_tree.specs.Tree.{StandsAt, HasExtents, HasLaid, plain_of, whole};
     ghost use Rattle.plain_tree.specs.declared.nodes.Node.{Node as PlainNode};
     ghost use Rattle.plain_tree.specs.Tree.{entries_in, facts_of};
@@ -134,7 +153,9 @@ impl Tree {
     /// The facts of a node.
     pub fn facts(&self, alloc: Global, number: u32) -> Result<Facts, NoMemory>
         requires { IsThere self.now.nodes number }
-        ensures { IfOk result (λ facts. (tape : Tape) (path : Path) (node : PlainNode) → StandsAt self.now path number → fin.get (plain_of tape self.now).nodes path ≡ Some node → facts ≡ facts_of node) }
+        ensures { IfOk result (λ facts. (tape : Tape) (path : Path) (node : PlainNode)
+            → StandsAt self.now path number → fin.get (plain_of tape self.now).nodes path ≡ Some node
+            → facts ≡ facts_of node) }
     {
         facts_of(alloc, self.places.node(number))
     }
@@ -142,7 +163,8 @@ impl Tree {
     /// Whether anything stands directly in a directory.
     pub fn has_entries(&self, dir: u32) -> bool
         requires { IsThere self.now.nodes dir }
-        ensures { (path : Path) → StandsAt self.now path dir → result ≡ nat_lt 0 (length (entries_in (plain_of whole self.now).nodes path)) }
+        ensures { (path : Path) → StandsAt self.now path dir
+            → result ≡ nat_lt 0 (length (entries_in (plain_of whole self.now).nodes path)) }
     {
         self.places.has_entries(dir)
     }
@@ -150,7 +172,8 @@ impl Tree {
     /// What stands directly in a directory, by the bytes of the names.
     pub fn children(&self, alloc: Global, dir: u32) -> Result<List<Entry>, NoMemory>
         requires { IsThere self.now.nodes dir }
-        ensures { IfOk result (λ entries. (tape : Tape) (path : Path) → StandsAt self.now path dir → entries ≡ entries_in (plain_of tape self.now).nodes path) }
+        ensures { IfOk result (λ entries. (tape : Tape) (path : Path) → StandsAt self.now path dir
+            → entries ≡ entries_in (plain_of tape self.now).nodes path) }
     {
         self.places.list(alloc, dir)
     }
@@ -208,7 +231,8 @@ impl Tree {
         ensures fresh { (path : Path) → StandsAt self.old path result → ⊥ }
         ensures extents { OthersLie result self.old self.new }
         ensures blocks { AddsNoBlock self.old self.new }
-        ensures empty { sort ≡ Sort.File → HasLaid self.new.nodes result (record { block_size = self.old.block_size; length = 0; extents = [] }) }
+        ensures empty { sort ≡ Sort.File
+            → HasLaid self.new.nodes result (record { block_size = self.old.block_size; length = 0; extents = [] }) }
         ensures volume { KeepsVolume self.old self.new }
         ensures room { self.old.spare ≤ self.new.spare + 1 }
     {
@@ -225,9 +249,11 @@ impl Tree {
     /// Takes out a file, a link or an empty directory. Takes no memory.
     pub fn unlink(&mut self, number: u32, at: Moment)
         requires { CanUnlink self.old number }
-        ensures plain { (path : Path) → StandsAt self.old path number → IsAfter (asks.Remove path) at self.old self.new }
+        ensures plain { (path : Path) → StandsAt self.old path number
+            → IsAfter (asks.Remove path) at self.old self.new }
         ensures gone { (path : Path) → StandsAt self.new path number → ⊥ }
-        ensures numbers { (path : Path) (other : ℕ) → other ≢ number → StandsAt self.old path other → StandsAt self.new path other }
+        ensures numbers { (path : Path) (other : ℕ) → other ≢ number → StandsAt self.old path other
+            → StandsAt self.new path other }
         ensures extents { OthersLie number self.old self.new }
         ensures blocks { AddsNoBlock self.old self.new }
         ensures volume { KeepsVolume self.old self.new }
@@ -241,8 +267,10 @@ impl Tree {
     /// Moves a node, and all below it, under a name into a directory. Takes no memory.
     pub fn move_to(&mut self, number: u32, dir: u32, name: Text, at: Moment)
         requires { CanMoveTo self.old number dir name }
-        ensures plain { (from up : Path) → StandsAt self.old from number → StandsAt self.old up dir → IsAfter (asks.Rename from (up ++ name ∷ [])) at self.old self.new }
-        ensures numbers { (from up : Path) → StandsAt self.old from number → StandsAt self.old up dir → NumbersCome (moved_path from (up ++ name ∷ [])) self.old self.new }
+        ensures plain { (from up : Path) → StandsAt self.old from number → StandsAt self.old up dir
+            → IsAfter (asks.Rename from (up ++ name ∷ [])) at self.old self.new }
+        ensures numbers { (from up : Path) → StandsAt self.old from number → StandsAt self.old up dir
+            → NumbersCome (moved_path from (up ++ name ∷ [])) self.old self.new }
         ensures extents { AllLie self.old self.new }
         ensures blocks { AddsNoBlock self.old self.new }
         ensures volume { KeepsVolume self.old self.new }
@@ -288,7 +316,8 @@ impl Tree {
         requires { CanWrite self.old file new }
         ensures plain { IsWritten file new at self.old self.new }
         ensures numbers { NumbersCome (λ p. p) self.old self.new }
-        ensures extents { (laid : Laid) → HasLaid self.old.nodes file laid → HasLaid self.new.nodes file (overlaid laid new) }
+        ensures extents { (laid : Laid) → HasLaid self.old.nodes file laid
+            → HasLaid self.new.nodes file (overlaid laid new) }
         ensures others { OthersLie file self.old self.new }
         ensures blocks { AddsBlocksOf new self.old self.new }
         ensures volume { KeepsVolume self.old self.new }
@@ -304,7 +333,8 @@ impl Tree {
         requires fits { length ≤ 2 ^ 40 }
         ensures plain { IsTruncated file length at self.old self.new }
         ensures numbers { NumbersCome (λ p. p) self.old self.new }
-        ensures extents { (laid : Laid) → HasLaid self.old.nodes file laid → HasLaid self.new.nodes file (if length == laid.length then laid else resized laid length) }
+        ensures extents { (laid : Laid) → HasLaid self.old.nodes file laid
+            → HasLaid self.new.nodes file (if length == laid.length then laid else resized laid length) }
         ensures others { OthersLie file self.old self.new }
         ensures blocks { AddsNoBlock self.old self.new }
         ensures volume { KeepsVolume self.old self.new }

@@ -1,12 +1,11 @@
 -- The chosen index, and the ends of the partitions.
-use Rattle.std.proofs.Common.{ℕ, zero, suc, ◌+◌, ◌≤◌, ◌<◌, ◌≡◌, ◌≢◌, ◌⊎◌, ⊎_elim, inl, inr, List, [], ◌∷◌, ◌++◌, length, map, reverse, Option, Some, None, Result, Ok, Err, IfOk, IfErr, refl, sym, ◌∙◌, ap, subst, arith}
+use Rattle.std.proofs.Common.{ℕ, zero, suc, ◌≤◌, ◌<◌, ◌≡◌, ◌≢◌, inl, inr, List, [], ◌∷◌, Option, Some, None, Result, Ok, Err, IfOk, IfErr, refl, sym, ◌∙◌, ap, subst, arith}
 use Rattle.std.specs.Prelude.{IfSome, Bool, true, false, cond, nat_lt}
 use Rattle.std.specs.List.{AllByRecursion}
 use Rattle.tape_types.specs.declared.cartridges.Cartridge.{Cartridge}
 use Rattle.tape_types.specs.declared.cartridges.Item.{Item}
 use Rattle.tape_types.specs.declared.cartridges.Limits.{Limits}
 use Rattle.index_model.specs.declared.indexes.Index.{Index}
-use Rattle.index_model.specs.declared.nodes.Node.{Node}
 use Rattle.ltfs_label.specs.declared.Label.{Label}
 use Rattle.tape_content.specs.Readings as readings
 use Rattle.tape_content.specs.Readings.{HasForm, after_of, front}
@@ -14,16 +13,15 @@ use Rattle.tape_content.specs.Content.{Phase, Data, Index as InIndex, Bad, conte
 use Rattle.tape_content.specs.Ends.{end_dp, end_ip, end_ip_in, lead_of}
 use Rattle.tape_content.proofs.Placed.{EndsAt, content_placed, pos_is}
 use Rattle.tape_content.proofs.ReadForms.{never_both}
-use Rattle.tape_meaning.specs.Faults.{HasBadExtent, HasNoIndex}
-use Rattle.tape_meaning.specs.Meaning.{AreWithin, FitsNode, HasForms, dp_end, ip_end}
-use Rattle.tape_meaning.specs.Pointers.{IsLastOnDp, IsLastOnIp, chosen, indexes_of}
+use Rattle.tape_meaning.specs.Meaning.{FitsNode, HasForms, dp_end, ip_end}
+use Rattle.tape_meaning.specs.Pointers.{chosen, indexes_of}
 use Rattle.tape_meaning.specs.declared.errors.MountErr.{MountErr}
 use Rattle.tape_meaning.specs.declared.errors.MountErr.TheVariants as errors
 use Rattle.tape_meaning.specs.declared.labels.Labels.{Labels}
 use Rattle.volume_scan.specs.declared.content.Construct.{Construct}
 use Rattle.volume_scan.specs.declared.content.Content.{Content}
 use Rattle.volume_scan.specs.Scans.{AreBetween, IsInPlaces, places_of}
-use Rattle.mount_recover.specs.Lasts.{AreInPlaces, AreLasts, AreSoundLasts, HasNone, IsChosen, IsDecided, IsFirstOutside, IsInPlace, IsIpEnd, IsScan, IsSeen, IsSound, IsSoundChoice, IsSoundLast, dp_ends, index_in, newest, place_in, standing_of}
+use Rattle.mount_recover.specs.Lasts.{AreInPlaces, AreLasts, AreSoundLasts, HasNone, IsChosen, IsDecided, IsFirstOutside, IsIpEnd, IsScan, IsSeen, IsSound, IsSoundChoice, IsSoundLast, dp_ends, index_in, newest, place_in, standing_of}
 use Rattle.mount_recover.specs.Labels.{AreCounts}
 use Rattle.mount_recover.specs.Steps.{Blames}
 use Rattle.mount_recover.specs.declared.choices.Choice.{Choice}

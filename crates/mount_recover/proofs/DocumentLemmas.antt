@@ -1,5 +1,5 @@
 -- Reading the document of an index.
-use Rattle.std.proofs.Common.{Vec, Global, ℕ, zero, suc, ◌+◌, ◌*◌, ◌-◌, ◌^◌, ◌≤◌, ◌<◌, ◌≡◌, List, [], ◌∷◌, ◌++◌, length, take, slice_get, get_or, Option, Some, None, Result, Ok, Err, refl, sym, ◌∙◌, ap, subst, arith, append_assoc}
+use Rattle.std.proofs.Common.{Vec, Global, ℕ, zero, suc, ◌+◌, ◌*◌, ◌-◌, ◌^◌, ◌≤◌, ◌<◌, ◌≡◌, List, [], ◌∷◌, ◌++◌, length, take, slice_get, get_or, Option, Some, None, Ok, refl, sym, ◌∙◌, ap, subst, arith, append_assoc}
 use Rattle.std.specs.List.{concat}
 use Rattle.std.proofs.lemmas.Option.{slice_get-get_or}
 use Rattle.tape_types.specs.declared.cartridges.Cartridge.{Cartridge}
@@ -26,7 +26,6 @@ use Rattle.tape_content.specs.Ends.{end_dp}
 use Rattle.tape_content.proofs.Placed.{end_dp_within}
 use Rattle.tape_content.proofs.Whole.{front_within}
 use Rattle.tape_meaning.specs.Pointers.{indexes_of}
-use Rattle.tape_meaning.specs.declared.errors.MountErr.{MountErr}
 use Rattle.volume_scan.specs.declared.content.Construct.{Construct}
 use Rattle.volume_scan.specs.Scans.{places_of}
 use Rattle.mount_recover.specs.Lasts.{IsBadText, IsDocument, IsInPlace, IsNewest, StandAt, newest, told}

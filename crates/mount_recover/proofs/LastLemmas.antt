@@ -1,7 +1,5 @@
 -- The last indexes of a cartridge.
-use Rattle.std.proofs.Common.{ℕ, ◌+◌, ◌≤◌, ◌<◌, ◌≡◌, ◌≢◌, List, [], ◌∷◌, ◌++◌, length, map, reverse, Option, Some, None, Result, Ok, Err, IfOk, IfErr, refl, sym, ◌∙◌, ap, subst, arith, Bool, true, false}
-use Rattle.std.specs.Prelude.{IfSome, ◌↔◌, IsTrue}
-use Rattle.std.specs.Option.{MatchOption}
+use Rattle.std.proofs.Common.{ℕ, ◌≤◌, ◌≡◌, ◌≢◌, List, [], ◌∷◌, ◌++◌, length, map, reverse, Option, Some, None, refl, sym, ◌∙◌, ap, subst, arith}
 use Rattle.tape_types.specs.declared.cartridges.Cartridge.{Cartridge}
 use Rattle.tape_types.specs.declared.cartridges.Item.{Item}
 use Rattle.tape_types.specs.declared.cartridges.Part.{Part}
@@ -13,7 +11,7 @@ use Rattle.index_model.specs.declared.indexes.Index.{Index}
 use Rattle.ltfs_label.specs.declared.Label.{Label}
 use Rattle.tape_content.specs.Readings as readings
 use Rattle.tape_content.specs.Readings.{first_of}
-use Rattle.tape_meaning.specs.Faults.{ComesTo, HasBadIndex, HasOtherVolume, HasWrongPointer, Points}
+use Rattle.tape_meaning.specs.Faults.{ComesTo, HasBadIndex, HasOtherVolume, Points}
 use Rattle.tape_meaning.specs.Meaning.{HasForms}
 use Rattle.tape_meaning.specs.Pointers.{IsLastOnDp, IsLastOnIp, IsOfVolume, PointsOnDp, PointsOnIp, indexes_of, text_of}
 use Rattle.tape_meaning.specs.declared.errors.MountErr.{MountErr}

@@ -1,5 +1,5 @@
 -- What is found of a cartridge that mounts.
-use Rattle.std.proofs.Common.{ℕ, ◌+◌, ◌*◌, ◌-◌, ◌^◌, ◌≤◌, ◌<◌, ◌≡◌, ◌≢◌, Bool, true, false, List, [], ◌∷◌, length, Option, Some, None, Result, Ok, Err, IfOk, IfErr, refl, sym, ◌∙◌, ap, subst, arith}
+use Rattle.std.proofs.Common.{ℕ, ◌*◌, ◌<◌, ◌≡◌, ◌≢◌, Bool, true, false, List, [], ◌∷◌, Option, Some, None, Result, Ok, Err, IfOk, IfErr, refl, sym, ◌∙◌, ap, subst, arith}
 use Rattle.std.specs.Prelude.{IfSome, ◌↔◌, cond, nat_lt}
 use Rattle.std.specs.Option.{option_map}
 use Rattle.tape_types.specs.declared.cartridges.Cartridge.{Cartridge}
@@ -8,9 +8,7 @@ use Rattle.tape_types.specs.declared.cartridges.Part.{Part}
 use Rattle.tape_types.specs.declared.cartridges.Part.TheVariants.{Ip, Dp}
 use Rattle.tape_types.specs.declared.cartridges.Place.{Place}
 use Rattle.tape_types.specs.Cartridges.{items_of, note_of}
-use Rattle.coherency.specs.declared.Coherency.{Coherency}
 use Rattle.index_model.specs.declared.indexes.Index.{Index}
-use Rattle.index_model.specs.declared.indexes.Spot.{Spot}
 use Rattle.ltfs_label.specs.declared.Label.{Label}
 use Rattle.tape_content.specs.Readings as readings
 use Rattle.tape_content.specs.Ends.{EndsWithLast}
@@ -20,9 +18,9 @@ use Rattle.tape_meaning.specs.Notes.{AreNoted, IsNoted, LastReads}
 use Rattle.tape_meaning.specs.Pointers.{IsLastOnDp, IsLastOnIp, indexes_of, last_block, newest_spot}
 use Rattle.tape_meaning.specs.declared.labels.Labels.{Labels}
 use Rattle.tape_meaning.specs.declared.mounted.Mounted.{Mounted}
+use Rattle.tape_meaning.proofs.OneFault.{found_no_fault}
 use Rattle.tape_meaning.proofs.OneWay.{last_dp_once, last_ip_once}
 use Rattle.volume_scan.specs.declared.content.Construct.{Construct}
-use Rattle.volume_scan.specs.Scans.{places_of}
 use Rattle.std.specs.List.{AllByRecursion}
 use Rattle.tape_types.specs.declared.cartridges.Limits.{Limits}
 use Rattle.index_model.specs.Valid.{IsValid}
@@ -38,7 +36,7 @@ use Rattle.mount_recover.specs.declared.scans.Scans.{Scans}
 use Rattle.mount_recover.specs.declared.starts.Start.{Start}
 use Rattle.mount_recover.proofs.ScanLemmas.{long_front, seen}
 use Rattle.mount_recover.proofs.StepLemmas.{since_next}
-use Rattle.mount_recover.specs.Lasts.{Agrees, AreScanned, IsScan, IsSoundChoice, IsSoundMount, EndsAs, IsDecided, IsMountedAs, TellsBoth, TellsStanding, index_in, newest, place_in, side, last_on, standing_of}
+use Rattle.mount_recover.specs.Lasts.{Agrees, AreScanned, IsMounted, IsScan, IsSoundChoice, IsSoundMount, EndsAs, IsDecided, IsMountedAs, TellsBoth, TellsStanding, index_in, newest, place_in, side, last_on, standing_of}
 use Rattle.mount_recover.specs.declared.choices.Choice.{Choice}
 use Rattle.mount_recover.specs.declared.choices.Standing.{Standing}
 use Rattle.mount_recover.specs.declared.flags.Flags.{Flags}
@@ -342,3 +340,18 @@ sound_mount limits labels choice flags m are sound made = record {
     below : (o : Option Standing) → IfSome o (λ s. s.place.first < choice.ends.dp) → IfSome (option_map (λ (s : Standing). s.place.first) o) (λ pos. pos < m.end_dp)
     below None is = tt
     below (Some s) is = omega (arith, is, made.end_dp)
+
+-- a cartridge of which something is found is not refused
+pub only_mounts : (r : Result Mounted MountErr) (A : Cartridge → Type 0) → IfErr r (λ e. (c : Cartridge) → A c → Blames e c) → (c : Cartridge) → A c → Found c → IsMounted r
+only_mounts (Ok m) A refused c h f = tt
+only_mounts (Err (errors.Vol1 part)) A refused c h f = found_no_fault c (errors.Vol1 part) f (refused c h)
+only_mounts (Err (errors.Label part)) A refused c h f = found_no_fault c (errors.Label part) f (refused c h)
+only_mounts (Err errors.LabelsDiffer) A refused c h f = found_no_fault c errors.LabelsDiffer f (refused c h)
+only_mounts (Err (errors.Layout place)) A refused c h f = found_no_fault c (errors.Layout place) f (refused c h)
+only_mounts (Err errors.NoIndex) A refused c h f = found_no_fault c errors.NoIndex f (refused c h)
+only_mounts (Err (errors.BadIndex place e)) A refused c h f = found_no_fault c (errors.BadIndex place e) f (refused c h)
+only_mounts (Err (errors.WrongVolume place)) A refused c h f = found_no_fault c (errors.WrongVolume place) f (refused c h)
+only_mounts (Err (errors.WrongPointer place)) A refused c h f = found_no_fault c (errors.WrongPointer place) f (refused c h)
+only_mounts (Err (errors.BadExtent uid)) A refused c h f = found_no_fault c (errors.BadExtent uid) f (refused c h)
+only_mounts (Err (errors.Drive counts)) A refused c h f = tt
+only_mounts (Err errors.NoMemory) A refused c h f = tt

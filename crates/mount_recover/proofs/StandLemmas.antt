@@ -1,12 +1,12 @@
 -- Where the blocks of the indexes of a partition stand.
-use Rattle.std.proofs.Common.{ℕ, zero, suc, ◌+◌, ◌*◌, ◌-◌, ◌≤◌, ◌<◌, ◌≡◌, ◌≢◌, List, [], ◌∷◌, ◌++◌, length, map, reverse, drop, take, slice_get, Option, Some, None, refl, sym, ◌∙◌, ap, subst, arith, length-append}
-use Rattle.std.specs.List.{AllByRecursion, concat, flat_map}
+use Rattle.std.proofs.Common.{ℕ, zero, suc, ◌+◌, ◌-◌, ◌≤◌, ◌≡◌, List, [], ◌∷◌, ◌++◌, length, map, reverse, drop, slice_get, Option, Some, sym, ◌∙◌, ap, subst, arith}
+use Rattle.std.specs.List.{AllByRecursion, flat_map}
 use Rattle.std.proofs.lemmas.List.{append_assoc, length-map, reverse-append, reverse-reverse}
 use Rattle.std.proofs.lemmas.Option.{slice_get-map}
 use Rattle.std.specs.Option.{option_map}
 use Rattle.tape_types.specs.declared.cartridges.Item.{Item}
 use Rattle.tape_types.specs.declared.cartridges.Item.TheVariants.{Block, Mark, Torn}
-use Rattle.tape_content.specs.Readings.{Construct, Group, HasForm, after_of, constructs_from, first_of, front, items_of_group, items_of_tail, readable}
+use Rattle.tape_content.specs.Readings.{Construct, Group, HasForm, constructs_from, first_of, front, items_of_group, items_of_tail}
 use Rattle.tape_content.specs.Content.{content}
 use Rattle.tape_content.specs.Content as content
 use Rattle.tape_content.proofs.ReadForms.{form}

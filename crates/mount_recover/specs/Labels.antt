@@ -4,7 +4,6 @@ use Rattle.tape_types.specs.Counts.{Rose}
 use Rattle.tape_types.specs.declared.cartridges.Cartridge.{Cartridge}
 use Rattle.tape_drive.specs.declared.drive.Got.{Got}
 use Rattle.tape_drive.specs.declared.drive.Got.TheVariants as got
-use Rattle.vol_label.specs.declared.Vol1.{Vol1}
 use Rattle.ltfs_label.specs.declared.errors.LabelErr.{LabelErr}
 use Rattle.ltfs_label.specs.declared.errors.LabelErr.TheVariants as label_errors
 use Rattle.ltfs_label.specs.Grammar.{LabelText}

@@ -1,6 +1,6 @@
 -- What a mount finds of the indexes of a cartridge.
 use Rattle.std.specs.Prelude.{ℕ, ◌+◌, ◌*◌, ◌≤◌, ◌<◌, ◌≡◌, ◌≢◌, ◌↔◌, ◌⊎◌, nat_lt, cond, true, List, [], ◌∷◌, ◌++◌, length, map, reverse}
-use Rattle.std.specs.Prelude.{Option, Some, None, IfSome, slice_get}
+use Rattle.std.specs.Prelude.{Option, Some, None, IfSome, Result, Ok, Err, slice_get}
 use Rattle.std.specs.List.{AllByRecursion}
 use Rattle.std.specs.Option.{option_map}
 use Rattle.tape_types.specs.declared.cartridges.Cartridge.{Cartridge}
@@ -331,3 +331,10 @@ pub record IsSoundMount (limits : Limits) (m : Mounted) : Type 0 where
   pub last_dp : IfSome m.last_dp (λ pos. pos < m.end_dp)
   pub ip_end : (4 ≤ m.end_ip) × (m.end_ip ≤ limits.cap_ip)
   pub dp_end : (4 ≤ m.end_dp) × (m.end_dp ≤ limits.cap_dp)
+
+-- it was mounted, or the drive failed or memory was refused
+abbrev pub IsMounted : Result Mounted MountErr → Type 0
+IsMounted (Ok m) = Unit {0}
+IsMounted (Err (errors.Drive counts)) = Unit {0}
+IsMounted (Err errors.NoMemory) = Unit {0}
+IsMounted (Err e) = ⊥

@@ -3,7 +3,8 @@
 ghost use Rattle.std.specs.Prelude.{◌≡◌, ℕ, None, Some, IfOk, IfErr, IfSome, IfNone, MatchOption};
 ghost use Rattle.tape_types.specs.declared.cartridges.Cartridge.{Cartridge};
 ghost use Rattle.tape_types.specs.declared.cartridges.Limits.{Limits as LimitsOf};
-ghost use Rattle.mount_recover.specs.Lasts.{AreInPlaces, AreLasts, AreSoundLasts, HasNone, IsChosen, IsDecided, IsPicked, IsScan, IsSoundChoice};
+ghost use Rattle.mount_recover.specs.Lasts.{AreInPlaces, AreLasts, AreSoundLasts, HasNone, IsChosen, IsDecided};
+ghost use Rattle.mount_recover.specs.Lasts.{IsPicked, IsScan, IsSoundChoice};
 ghost use Rattle.mount_recover.specs.Lasts.{IsFirstOutside, IsIpEnd, dp_ends, standing_of};
 ghost use Rattle.mount_recover.specs.Labels.{AreCounts};
 ghost use Rattle.std.specs.List.{AllByRecursion};

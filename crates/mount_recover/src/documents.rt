@@ -1,6 +1,7 @@
 //! The documents of indexes.
 
-ghost use Rattle.std.specs.Prelude.{◌≡◌, ◌≤◌, ◌<◌, ◌+◌, ◌++◌, ◌*◌, ◌^◌, ◌-◌, ℕ, List, length, Some, vec_capacity, OnOk, IfOk, IfErr, IfSome};
+ghost use Rattle.std.specs.Prelude.{◌≡◌, ◌≤◌, ◌<◌, ◌+◌, ◌++◌, ◌*◌, ◌^◌, ◌-◌, ℕ, List, length, Some, vec_capacity};
+ghost use Rattle.std.specs.Prelude.{OnOk, IfOk, IfErr, IfSome};
 ghost use Rattle.std.specs.List.{concat};
 ghost use Rattle.tape_drive.specs.Commands.{item_at};
 ghost use Rattle.tape_drive.specs.Looks.{Looks};

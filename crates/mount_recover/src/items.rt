@@ -1,6 +1,7 @@
 //! Items at the beginning of a partition.
 
-ghost use Rattle.std.specs.Prelude.{◌≡◌, ◌≢◌, ◌≤◌, ◌<◌, ◌+◌, ◌*◌, ℕ, List, true, length, Some, vec_capacity, IfOk, IfSome};
+ghost use Rattle.std.specs.Prelude.{◌≡◌, ◌≢◌, ◌≤◌, ◌<◌, ◌+◌, ◌*◌, ℕ, List, true, length, Some, vec_capacity, IfOk};
+ghost use Rattle.std.specs.Prelude.{IfSome};
 ghost use Rattle.std.specs.Prelude.{IfNone, MatchBool, MatchOption};
 ghost use Rattle.tape_drive.specs.Commands.{item_at};
 ghost use Rattle.tape_drive.specs.Looks.{Looks};

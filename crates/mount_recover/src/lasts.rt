@@ -3,8 +3,10 @@
 ghost use Rattle.std.specs.Prelude.{◌≡◌, ◌+◌, IfSome};
 ghost use Rattle.tape_meaning.specs.Pointers.{indexes_of};
 ghost use Rattle.tape_types.specs.Cartridges.{capacity, items_of};
-ghost use Rattle.mount_recover.specs.Lasts.{AreInPlaces, AreLasts, AreSoundLasts, IsBadNewest, IsInPlace, IsKnownDp, IsKnownIp};
-ghost use Rattle.mount_recover.specs.Lasts.{IsLastDp, IsLastIp, IsNewest, IsOfNewest, IsScan, IsSound, IsSoundLast, index_in};
+ghost use Rattle.mount_recover.specs.Lasts.{AreInPlaces, AreLasts, AreSoundLasts, IsBadNewest, IsInPlace, IsKnownDp};
+ghost use Rattle.mount_recover.specs.Lasts.{IsKnownIp};
+ghost use Rattle.mount_recover.specs.Lasts.{IsLastDp, IsLastIp, IsNewest, IsOfNewest, IsScan, IsSound, IsSoundLast};
+ghost use Rattle.mount_recover.specs.Lasts.{index_in};
 ghost use Rattle.mount_recover.specs.Steps.{Blames, IsSince, IsStep};
 
 use crate::documents::{read_document, read_text};

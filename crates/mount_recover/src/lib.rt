@@ -1,6 +1,8 @@
 //! Mounting: what a cartridge stands for.
 #![tactic(auto)]
 
+#[cfg(test)]
+mod cartridges;
 mod choices;
 mod documents;
 mod extents;
@@ -10,6 +12,8 @@ mod labels;
 mod lasts;
 mod mounting;
 mod pointers;
+#[cfg(test)]
+mod rows;
 mod scans;
 mod starts;
 #[cfg(test)]

@@ -9,7 +9,8 @@ ghost use Rattle.tape_meaning.specs.Mounts.{Mounts};
 ghost use Rattle.mount_recover.specs.Labels.{AreLabels, HasCounts};
 ghost use Rattle.std.specs.Option.{option_map};
 ghost use Rattle.mount_recover.specs.declared.choices.Standing.{Standing as StandingOf};
-ghost use Rattle.mount_recover.specs.Lasts.{Agrees, AreInPlaces, AreLasts, AreSoundLasts, IsMountedAs, IsScan, IsSoundMount};
+ghost use Rattle.mount_recover.specs.Lasts.{Agrees, AreInPlaces, AreLasts, AreSoundLasts, IsMounted, IsMountedAs};
+ghost use Rattle.mount_recover.specs.Lasts.{IsScan, IsSoundMount};
 ghost use Rattle.mount_recover.specs.Steps.{Blames, IsSince, IsStep};
 
 use crate::choices::{Choice, Standing, decide};
@@ -34,6 +35,7 @@ use tape_types::Part;
 pub fn mount<D: Drive>(alloc: Global, drive: &mut D) -> Result<Mounted, MountErr>
     ensures found { IfOk result (λ m. (c : Cartridge) → D.held drive.old ≡ Some c → Mounts c m) }
     ensures refused { IfErr result (λ e. (c : Cartridge) → D.held drive.old ≡ Some c → Blames e c) }
+    ensures only { (c : Cartridge) → D.held drive.old ≡ Some c → Found c → IsMounted result }
     ensures any { IfOk result (IsSoundMount (D.limits drive.old)) }
     ensures counts { HasCounts (D.faults drive.old) (D.faults drive.new) result }
     ensures looks { Looks D.Drive

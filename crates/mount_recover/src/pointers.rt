@@ -103,7 +103,8 @@ fn points_back_from(label: &Label, index: &Index, dps: &[Construct], generation:
 /// Whether a pointer names one of these indexes of the data partition.
 #[tactic(auto, using(crate::proofs::PointerLemmas::names, crate::proofs::PointerLemmas::none_named))]
 fn names_one_of(label: &Label, back: Option<Spot>, dps: &[Construct]) -> bool
-    ensures { (ks : List ConstructOf) → dps.now ≡ map places_of (reverse ks) → IsTrue result ↔ NamesOneOf label.now back ks }
+    ensures { (ks : List ConstructOf) → dps.now ≡ map places_of (reverse ks)
+        → IsTrue result ↔ NamesOneOf label.now back ks }
 {
     match back {
         None => false,

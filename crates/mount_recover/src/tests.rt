@@ -7,16 +7,16 @@ use std::process::Abort;
 use tape_drive::{Cmd, Drive, Fail as Listed, MemDrive};
 use tape_types::{Bytes, Cartridge, Item, Limits, List, NoMemory, Note, Part, Twin};
 
-const VOL1: &[u8] =
+pub const VOL1: &[u8] =
     b"VOL1TAPE01L             LTFS                                                   4";
 
 const DAMAGED: &[u8] =
     b"VOL1TAPE01M             LTFS                                                   4";
 
-const IP: &[u8] =
+pub const IP: &[u8] =
     b"<?xml version=\"1.0\" encoding=\"UTF-8\"?><ltfslabel version=\"2.4.0\"><creator>ltfs_server 1.0.0</creator><formattime>2024-01-02T03:04:05.000000000Z</formattime><volumeuuid>30a91a08-daae-48d1-ae75-69804e61d2ea</volumeuuid><location><partition>a</partition></location><partitions><index>a</index><data>b</data></partitions><blocksize>4096</blocksize><compression>false</compression></ltfslabel>";
 
-const DP: &[u8] =
+pub const DP: &[u8] =
     b"<?xml version=\"1.0\" encoding=\"UTF-8\"?><ltfslabel version=\"2.4.0\"><creator>ltfs_server 1.0.0</creator><formattime>2024-01-02T03:04:05.000000000Z</formattime><volumeuuid>30a91a08-daae-48d1-ae75-69804e61d2ea</volumeuuid><location><partition>b</partition></location><partitions><index>a</index><data>b</data></partitions><blocksize>4096</blocksize><compression>false</compression></ltfslabel>";
 
 /// The DP's label without its last byte.

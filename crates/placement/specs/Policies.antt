@@ -16,4 +16,5 @@ ChoosesIp (Some policy) name size = IsChosen policy name size
 
 -- the test tells which files are chosen
 abbrev pub IsComputed : Type 0
-IsComputed = (policy : Option Policy) (name : List ℕ) (size : ℕ) → IsTrue (chooses_ip policy name size) ↔ ChoosesIp policy name size
+IsComputed = (policy : Option Policy) (name : List ℕ) (size : ℕ)
+    → IsTrue (chooses_ip policy name size) ↔ ChoosesIp policy name size

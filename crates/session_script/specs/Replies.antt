@@ -29,4 +29,5 @@ IsReply fates.Void tree call reply = reply ≡ replies.NoMemory
 
 -- so it is at the plain tree that the placements before it leave
 abbrev pub IsPlainReply : Calls → Tree → MayCome
-IsPlainReply calls first history place p call reply = IsReply p.fate (replay calls first (take place history)) call reply
+IsPlainReply calls first history place p call reply =
+    IsReply p.fate (replay calls first (take place history)) call reply

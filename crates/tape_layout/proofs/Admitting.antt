@@ -8,19 +8,20 @@ use Rattle.tape_layout.specs.declared.ops.Op.{Op}
 use Rattle.tape_layout.specs.declared.standing.Ends.{Ends}
 use Rattle.tape_layout.specs.Admissions.{data_limit, with_ops}
 use Rattle.tape_layout.specs.Ops.{after_ops, construct, end_of, puts, with_end}
-use Rattle.tape_layout.specs.Plans.{CanBe, Drafted, Lead, Plan}
+use Rattle.tape_layout.specs.Plans.{CanAdmit, CanBe, Drafted, Lead, Plan}
 use Rattle.tape_layout.proofs.Leads.{can_end, data_leads, index_leads, lead_append}
 
 -- ops are ready to be admitted, up to these ends
 pub record IsReady (p : Plan) (to : Ends) (ops : List Op) : Type 0 where
-  pub lead : Lead p.limits p.block_size p.ends (after_ops p.ends ops) ops
-  pub can_be : CanBe p.limits p.block_size (after_ops p.ends ops)
+  pub can : CanAdmit p ops
   pub ends_are : after_ops p.ends ops ≡ to
 
 ready : (p : Plan) (to : Ends) (ops : List Op) → Lead p.limits p.block_size p.ends to ops → CanBe p.limits p.block_size to → IsReady p to ops
 ready p to ops lead can = record {
-  lead = subst (λ e. Lead p.limits p.block_size p.ends e ops) (sym lead.ends_are) lead;
-  can_be = subst (CanBe p.limits p.block_size) (sym lead.ends_are) can;
+  can = record {
+    lead = subst (λ e. Lead p.limits p.block_size p.ends e ops) (sym lead.ends_are) lead;
+    can_be = subst (CanBe p.limits p.block_size) (sym lead.ends_are) can;
+  };
   ends_are = lead.ends_are;
 }
 

@@ -10,7 +10,7 @@ use Rattle.tape_layout.specs.declared.ops.Op.TheVariants.{Flush}
 use Rattle.tape_layout.specs.declared.errors.AdmitErr.{AdmitErr}
 use Rattle.tape_layout.specs.declared.errors.AdmitErr.TheVariants.{Full, NoMemory}
 use Rattle.tape_layout.specs.declared.standing.Ends.{Ends}
-use Rattle.tape_layout.specs.Ops.{end_of, with_end, puts, construct}
+use Rattle.tape_layout.specs.Ops.{after_ops, construct, end_of, puts, with_end}
 use Rattle.tape_layout.specs.Plans.{Plan}
 
 -- a partition's capacity less what is reserved for indexes
@@ -19,7 +19,8 @@ data_limit cap = cap - (8 + cap / 16)
 
 -- bytes go to the index partition where they are wanted there, that is on, and they fit there; else to the data partition
 abbrev pub part_for : Plan → Bool → ℕ → Part
-part_for p wanted count = if wanted && p.ip_on && nat_le (p.ends.ip + count) (data_limit p.limits.cap_ip) then Ip else Dp
+part_for p wanted count =
+    if wanted && p.ip_on && nat_le (p.ends.ip + count) (data_limit p.limits.cap_ip) then Ip else Dp
 
 -- What is asked needs so many positions, or generations, of which there are so many. It gets this place, and leaves this.
 pub record Admission : Type 0 where
@@ -43,6 +44,10 @@ with_ops p ops ends due = record {
   flush_due = due;
   ip_on = p.ip_on;
 }
+
+-- with more ops, up to the ends to which they lead
+abbrev pub with_more : Plan → List Op → Bool → Plan
+with_more p ops due = with_ops p ops (after_ops p.ends ops) due
 
 -- data on a partition: their blocks at its end
 abbrev pub data_on : Plan → Part → List ℕ → Admission

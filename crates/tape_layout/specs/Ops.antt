@@ -1,7 +1,8 @@
 -- Ops in the order of their admission, each at the end of a partition.
-use Rattle.std.specs.Prelude.{◌≡◌, ℕ, ◌+◌, ◌<◌, ◌≤◌, List, [], ◌∷◌, ◌++◌, Option, Some, None, length, map, if◌then◌else◌, Bool, ◌==◌, ◌&&◌, true, false}
+use Rattle.std.specs.Prelude.{◌≡◌, ℕ, ◌+◌, ◌<◌, ◌≤◌, List, [], ◌∷◌, ◌++◌, Option, Some, None, length, map, if◌then◌else◌, Bool, ◌==◌, ◌&&◌, true, false, nat_le}
 use Rattle.std.specs.Int.{div_ceil}
 use Rattle.std.specs.List.{range_with_len}
+use Rattle.std.specs.List.Sorted.{IsPartitionedBy, IsPartitionPoint}
 use Rattle.tape_types.specs.declared.cartridges.Part.{Part}
 use Rattle.tape_types.specs.declared.cartridges.Part.TheVariants.{Ip, Dp}
 use Rattle.tape_types.specs.declared.cartridges.Place.{Place}
@@ -43,19 +44,22 @@ AreNext e (op ∷ ops) = ((place_of op).pos ≡ end_of (place_of op).part e) × 
 
 -- an item has a position of its partition, and a block has bytes, of which there are no more than a block of the volume has
 abbrev pub HasRoom : Limits → ℕ → Op → Type 0
-HasRoom limits size (Put place bytes) = (place.pos < capacity place.part limits) × (1 ≤ length bytes) × (length bytes ≤ size)
+HasRoom limits size (Put place bytes) =
+    (place.pos < capacity place.part limits) × (1 ≤ length bytes) × (length bytes ≤ size)
 HasRoom limits size (Mark place) = place.pos < capacity place.part limits
 HasRoom limits size (Flush place) = place.pos ≤ capacity place.part limits
 
 -- the blocks of a document, one after the other from a position on
 abbrev pub puts : ℕ → Part → ℕ → List ℕ → List Op
 puts size part pos doc =
-    map (λ k. Put (record { part = part; pos = pos + k }) (block_at size doc k)) (range_with_len 0 (div_ceil (length doc) size))
+    map (λ k. Put (record { part = part; pos = pos + k }) (block_at size doc k))
+    (range_with_len 0 (div_ceil (length doc) size))
 
 -- an index with this text: a mark, its blocks and a mark, and then a flush
 abbrev pub construct : ℕ → Part → ℕ → List ℕ → List Op
 construct size part pos doc =
-    Mark (record { part = part; pos = pos }) ∷ [] ++ puts size part (pos + 1) doc
+    Mark (record { part = part; pos = pos }) ∷ []
+    ++ puts size part (pos + 1) doc
     ++ Mark (record { part = part; pos = pos + 1 + div_ceil (length doc) size }) ∷ []
     ++ Flush (record { part = part; pos = pos + 2 + div_ceil (length doc) size }) ∷ []
 
@@ -79,7 +83,25 @@ abbrev pub held_in : Place → List Op → Option (List ℕ)
 held_in at [] = None
 held_in at (op ∷ ops) = or_later (held_by at op) (held_in at ops)
 
+-- the ops of those that are kept
+abbrev pub ops_of : List Standing → List Op
+ops_of items = map (λ (s : Standing). s.op) items
+
 -- each op with the ends after it
 abbrev pub counted : Ends → List Op → List Standing
 counted e [] = []
 counted e (op ∷ ops) = record { op = op; ends = after_op e op } ∷ counted (after_op e op) ops
+
+-- this is held at a place by the ops that are kept, where they stand one after the other
+abbrev pub IsHeld : Place → List Standing → Option (List ℕ) → Type 0
+IsHeld at items held = (from : Ends) (ops : List Op) → items ≡ counted from ops → AreNext from ops → held ≡ held_in at ops
+
+-- behind an op the partition doesn't reach past a place
+abbrev pub is_before : Place → Standing → Bool
+is_before at s = nat_le (end_of at.part s.ends) at.pos
+
+-- it reaches past the place behind each op from this one on, and behind none before it
+abbrev pub IsFirstPast : Place → List Standing → ℕ → Type 0
+IsFirstPast at items k =
+    IsPartitionedBy (is_before at) items
+    → IsPartitionPoint (λ s. is_before at s ≡ true) (λ s. is_before at s ≡ false) items k

@@ -1,12 +1,12 @@
 -- What a layout holds.
-use Rattle.std.specs.Prelude.{◌≡◌, ℕ, ◌≤◌, Bool, List, map}
+use Rattle.std.specs.Prelude.{◌≡◌, ℕ, ◌≤◌, ◌++◌, Bool, List}
 use Rattle.std.specs.List.{All}
 use Rattle.tape_types.specs.declared.cartridges.Limits.{Limits}
 use Rattle.tape_types.specs.Cartridges.{IsLimits}
 use Rattle.tape_layout.specs.declared.ops.Op.{Op}
 use Rattle.tape_layout.specs.declared.standing.Ends.{Ends}
 use Rattle.tape_layout.specs.declared.standing.Standing.{Standing}
-use Rattle.tape_layout.specs.Ops.{AreNext, HasRoom, after_ops, counted}
+use Rattle.tape_layout.specs.Ops.{AreNext, HasRoom, after_ops, counted, ops_of}
 
 -- The capacities, the bytes of a block, where the next item of each partition goes, the ops that stand, whether a block was put
 -- on the index partition since the last flush was admitted, and whether files may go there.
@@ -17,6 +17,10 @@ pub record Plan : Type 0 where
   pub ops : List Op
   pub flush_due : Bool
   pub ip_on : Bool
+
+abbrev pub plan : Limits → ℕ → Ends → List Op → Bool → Bool → Plan
+plan limits size ends ops due on =
+    record { limits = limits; block_size = size; ends = ends; ops = ops; flush_due = due; ip_on = on }
 
 -- an end lies behind the label, and within the capacity
 pub record IsEnd (cap end : ℕ) : Type 0 where
@@ -43,15 +47,27 @@ pub record AreStanding (limits : Limits) (size : ℕ) (ends : Ends) (ops : List 
   pub lead : Lead limits size from ends ops
   pub can_be : CanBe limits size ends
 
+-- ops can be admitted: they lead from the ends to others that there can be
+pub record CanAdmit (p : Plan) (ops : List Op) : Type 0 where
+  pub lead : Lead p.limits p.block_size p.ends (after_ops p.ends ops) ops
+  pub can_be : CanBe p.limits p.block_size (after_ops p.ends ops)
+
 -- each op is kept with the ends after it
 pub record AreKept (limits : Limits) (size : ℕ) (ends : Ends) (items : List Standing) : Type 0 where
-  pub standing : AreStanding limits size ends (map (λ (s : Standing). s.op) items)
-  pub kept : items ≡ counted standing.from (map (λ (s : Standing). s.op) items)
+  pub standing : AreStanding limits size ends (ops_of items)
+  pub kept : items ≡ counted standing.from (ops_of items)
 
 -- ops that are made from some ends on, to be admitted together
 pub record Drafted : Type 0 where
   pub start : Ends
   pub ops : List Op
+
+abbrev pub drafted : Ends → List Op → Drafted
+drafted start ops = record { start = start; ops = ops }
+
+-- with more ops behind them
+abbrev pub more : Drafted → List Op → Drafted
+more d ops = drafted d.start (d.ops ++ ops)
 
 pub record IsDraft (d : Drafted) (ends : Ends) (items : List Standing) : Type 0 where
   pub kept : items ≡ counted d.start d.ops

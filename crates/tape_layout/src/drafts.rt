@@ -1,7 +1,7 @@
 ghost use Rattle.std.specs.Prelude.{◌≡◌, ◌+◌, ◌*◌, ◌<◌, ◌≤◌, ◌^◌, [], ◌∷◌, ◌++◌, length, OnOk};
 ghost use Rattle.std.specs.Int.{div_ceil};
 ghost use Rattle.tape_layout.specs.Ops.{construct, place_of, puts};
-ghost use Rattle.tape_layout.specs.Plans.{Drafted};
+ghost use Rattle.tape_layout.specs.Plans.{drafted, more};
 
 use crate::ops::Op;
 use crate::standing::{Ends, Standing};
@@ -20,21 +20,20 @@ pub struct Draft {
 }
 
 impl Model for Draft {
-    ghost use Rattle.std.specs.Prelude.{map};
-    ghost use Rattle.tape_layout.specs.declared.standing.Standing.{Standing};
-    ghost use Rattle.tape_layout.specs.Plans.{Drafted, IsDraft};
+    ghost use Rattle.tape_layout.specs.Ops.{ops_of};
+    ghost use Rattle.tape_layout.specs.Plans.{Drafted, IsDraft, drafted};
 
     ghost Value = { Drafted };
 
-    ghost view = { λ a. record { start = a.start; ops = map (λ (s : Standing). s.op) a.items.items } };
+    ghost view = { λ a. drafted a.start (ops_of a.items.items) };
 
-    ghost invariant = { λ a. IsDraft (record { start = a.start; ops = map (λ (s : Standing). s.op) a.items.items }) a.ends a.items.items };
+    ghost invariant = { λ a. IsDraft (drafted a.start (ops_of a.items.items)) a.ends a.items.items };
 }
 
 impl Draft {
     /// No ops, to be admitted at these ends.
     pub fn new(alloc: Global, start: Ends) -> Draft
-        ensures { result ≡ record { start = start; ops = [] } }
+        ensures { result ≡ drafted start [] }
     {
         Draft {
             start,
@@ -46,7 +45,7 @@ impl Draft {
     /// Appends an op.
     pub fn push(&mut self, op: Op) -> Result<(), NoMemory>
         requires { (place_of op).pos + 1 < 2 ^ 64 }
-        ensures { OnOk result (self.new ≡ record { start = self.old.start; ops = self.old.ops ++ op ∷ [] }) }
+        ensures { OnOk result (self.new ≡ more self.old (op ∷ [])) }
     {
         let ends = self.ends.after(&op);
         match self.items.push_back(Standing { op, ends }) {
@@ -68,7 +67,7 @@ impl Draft {
     ) -> Result<(), NoMemory>
         requires size { 1 ≤ block }
         requires room { place.pos + div_ceil (length doc.now) block < 2 ^ 64 }
-        ensures { OnOk result (self.new ≡ record { start = self.old.start; ops = self.old.ops ++ puts block place.part place.pos doc.now }) }
+        ensures { OnOk result (self.new ≡ more self.old (puts block place.part place.pos doc.now)) }
     {
         for k in 0..blocks(doc.len() as u64, block) {
             let mut bytes = Bytes::new(alloc);
@@ -92,7 +91,7 @@ impl Draft {
     ) -> Result<(), NoMemory>
         requires size { 1 ≤ block }
         requires room { place.pos + 3 + div_ceil (length doc.now) block < 2 ^ 64 }
-        ensures { OnOk result (self.new ≡ record { start = self.old.start; ops = self.old.ops ++ construct block place.part place.pos doc.now }) }
+        ensures { OnOk result (self.new ≡ more self.old (construct block place.part place.pos doc.now)) }
     {
         let first = place.pos + 1;
         let last = first + blocks(doc.len() as u64, block);

@@ -9,8 +9,8 @@ ghost use Rattle.std.specs.List.Sorted.{IsPartitionedBy, IsPartitionPoint};
 ghost use Rattle.tape_layout.specs.declared.ops.Op.{Op};
 ghost use Rattle.tape_layout.specs.declared.standing.Ends.{Ends};
 ghost use Rattle.tape_layout.specs.declared.standing.Standing.{Standing};
-ghost use Rattle.tape_layout.specs.Ops.{AreNext, HasRoom, after_ops, counted, end_of, held_by, held_in};
-ghost use Rattle.tape_layout.specs.Plans.{AreStanding, CanBe, Lead};
+ghost use Rattle.tape_layout.specs.Ops.{AreNext, HasRoom, after_ops, counted, end_of, held_by, held_in, IsFirstPast, IsHeld};
+ghost use Rattle.tape_layout.specs.Plans.{AreStanding, CanAdmit, CanBe, Lead, plan};
 
 use crate::drafts::Draft;
 use crate::errors::AdmitErr;
@@ -37,13 +37,12 @@ pub struct Layout {
 }
 
 impl Model for Layout {
-    ghost use Rattle.std.specs.Prelude.{map};
-    ghost use Rattle.tape_layout.specs.declared.standing.Standing.{Standing};
-    ghost use Rattle.tape_layout.specs.Plans.{Plan, AreKept};
+    ghost use Rattle.tape_layout.specs.Ops.{ops_of};
+    ghost use Rattle.tape_layout.specs.Plans.{AreKept, Plan, plan};
 
     ghost Value = { Plan };
 
-    ghost view = { λ a. record { limits = a.limits; block_size = a.block; ends = a.ends; ops = map (λ (s : Standing). s.op) a.todo.items; flush_due = a.flush_due; ip_on = a.ip_on } };
+    ghost view = { λ a. plan a.limits a.block a.ends (ops_of a.todo.items) a.flush_due a.ip_on };
 
     ghost invariant = { λ a. AreKept a.limits a.block a.ends a.todo.items };
 }
@@ -60,7 +59,7 @@ impl Layout {
         ip_on: bool,
     ) -> Layout
         requires { CanBe limits block (record { ip = end_ip; dp = end_dp }) }
-        ensures { result ≡ record { limits = limits; block_size = block; ends = record { ip = end_ip; dp = end_dp }; ops = []; flush_due = false; ip_on = ip_on } }
+        ensures { result ≡ plan limits block (record { ip = end_ip; dp = end_dp }) [] false ip_on }
     {
         Layout {
             limits,
@@ -208,9 +207,8 @@ impl Layout {
     /// Admits ops that were made from the ends on.
     fn admit(&mut self, draft: Draft, flush_due: bool) -> Result<(), NoMemory>
         requires start { draft.start ≡ self.old.ends }
-        requires lead { Lead self.old.limits self.old.block_size self.old.ends (after_ops self.old.ends draft.ops) draft.ops }
-        requires can_be { CanBe self.old.limits self.old.block_size (after_ops self.old.ends draft.ops) }
-        ensures ok { OnOk result (self.new ≡ admissions.with_ops self.old draft.ops (after_ops self.old.ends draft.ops) flush_due) }
+        requires ready { CanAdmit self.old draft.ops }
+        ensures ok { OnOk result (self.new ≡ admissions.with_more self.old draft.ops flush_due) }
         ensures err { OnErr result (self.new ≡ self.old) }
     {
         let ends = draft.ends;
@@ -277,7 +275,7 @@ fn data_limit(capacity: u64) -> u64
 
 /// The bytes that stand to be written at a place.
 fn find(todo: &VecDeque<Standing>, place: Place) -> Option<&Bytes>
-    ensures { (from : Ends) (ops : List Op) → todo.now.items ≡ counted from ops → AreNext from ops → option_map (λ b. b.now) result ≡ held_in place ops }
+    ensures { IsHeld place todo.now.items (option_map (λ b. b.now) result) }
 {
     match todo.get(first_past(todo, place)) {
         Some(standing) => bytes_at(&standing.op, place),
@@ -288,7 +286,7 @@ fn find(todo: &VecDeque<Standing>, place: Place) -> Option<&Bytes>
 /// The first of the ops behind which its partition reaches past a place.
 fn first_past(todo: &VecDeque<Standing>, place: Place) -> usize
     ensures bound { result ≤ length todo.now.items }
-    ensures parts { IsPartitionedBy (λ (s : Standing). nat_le (end_of place.part s.ends) place.pos) todo.now.items → IsPartitionPoint (λ (s : Standing). nat_le (end_of place.part s.ends) place.pos ≡ true) (λ (s : Standing). nat_le (end_of place.part s.ends) place.pos ≡ false) todo.now.items result }
+    ensures parts { IsFirstPast place todo.now.items result }
 {
     todo.partition_point(|standing| standing.ends.of(place.part) <= place.pos)
 }

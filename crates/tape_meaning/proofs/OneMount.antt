@@ -75,6 +75,11 @@ mounted_once c m n h k =
       noted = noted i;
     }
 
+pub mounted_label : (c : Cartridge) (m : Mounted) → Mounts c m → m.label.location ≡ m.label.index
+mounted_label c m h =
+    let place : h.found.labels.ip.location ≡ h.found.labels.ip.index = h.found.forms.has.one_volume.places.in_index in
+    subst (λ (l : Label). l.location ≡ l.index) (sym h.label) place
+
 -- ---- what is done
 
 -- the last of these indexes ends the items

@@ -8,7 +8,7 @@ use Rattle.index_model.specs.declared.indexes.Index.{Index}
 use Rattle.index_model.specs.declared.indexes.Spot.{Spot}
 use Rattle.index_model.specs.declared.nodes.RawExtent.{RawExtent}
 use Rattle.ltfs_label.specs.declared.Label.{Label}
-use Rattle.ltfs_label.specs.Values.{LabelValue, epoch}
+use Rattle.ltfs_label.specs.Values.{LabelValue, epoch, label_of}
 
 -- the volume of the index partition `a` and the data partition `b`, with blocks of 4,096 bytes
 abbrev pub label : Label
@@ -66,6 +66,9 @@ cartridge = record { ip = empty_dp; dp = synced_dp; vcr = 3; note_ip = Absent; n
 abbrev pub extent : (letter block byte count : ℕ) → RawExtent
 extent letter block byte count = record { offset = 0; letter = letter; block = block; byte = byte; count = count }
 
--- the same label in the data partition
-abbrev pub in_data : LabelValue → LabelValue
-in_data v = record v { location = 98 }
+-- what the label says in the index partition, and in the data partition
+abbrev pub in_index : LabelValue
+in_index = label_of label
+
+abbrev pub in_data : LabelValue
+in_data = record (label_of label) { location = 98 }

@@ -2,17 +2,17 @@
 
 ghost use Rattle.std.specs.Prelude.{◌≡◌, ℕ, List, [], ◌∷◌, true, Some, None};
 ghost use Rattle.tape_types.specs.declared.cartridges.Item.TheVariants.{Block, Mark, Torn};
-ghost use Rattle.ltfs_label.specs.Values.{label_of};
 ghost use Rattle.tape_meaning.specs.Labels.{AreOfOneVolume, HasSomeLabel, HasSomeRecord};
 ghost use Rattle.tape_types.specs.declared.cartridges.Part.TheVariants.{Ip, Dp};
 ghost use Rattle.index_model.specs.declared.nodes.Kind.TheVariants.{File};
-ghost use Rattle.tape_meaning.specs.Meaning.{Fits, FitsKind};
+ghost use Rattle.tape_meaning.specs.Meaning.{Fits, FitsKind, dp_end, ip_end};
 ghost use Rattle.tape_meaning.specs.Mounts.{chosen_place, last_place};
 ghost use Rattle.tape_meaning.specs.Pointers.{PointsBack, PointsOnDp, PointsOnIp, chosen, last_block, newest_spot};
 ghost use Rattle.tape_content.specs.Worked.{first_index, second_index};
-ghost use Rattle.tape_meaning.specs.Worked.{cartridge, extent, in_data, index, label, last, on_a, on_b, third_index, two};
+ghost use Rattle.tape_meaning.specs.Worked.{cartridge, extent, in_data, in_index, index, label, last, on_a, on_b, third_index, two};
 
-/// Which index is chosen, and where it stands: that of the greater generation, and on a tie the data partition's.
+/// Which index is chosen, and where it stands: that of the greater generation, and on a tie the data partition's. Where
+/// the partitions end.
 pub fn the_definitions_tell_the_choice()
     ensures tie { chosen (Some (index 2 (on_a 5) None)) (Some last) ≡ Some last }
     ensures newer_ip { chosen (Some (index 3 (on_a 5) None)) (Some last) ≡ Some (index 3 (on_a 5) None) }
@@ -24,7 +24,10 @@ pub fn the_definitions_tell_the_choice()
     ensures newer_ip_place { chosen_place (Some (index 3 (on_a 5) None)) (Some last) cartridge
         ≡ Some (record { part = Ip; pos = 5 }) }
     ensures no_ip_place { chosen_place None (Some last) cartridge ≡ Some (record { part = Dp; pos = 9 }) }
-    ensures no_dp_place { chosen_place (Some (index 2 (on_a 5) None)) None cartridge ≡ Some (record { part = Ip; pos = 5 }) }
+    ensures no_dp_place { chosen_place (Some (index 2 (on_a 5) None)) None cartridge
+        ≡ Some (record { part = Ip; pos = 5 }) }
+    ensures ip_end { ip_end cartridge ≡ 4 }
+    ensures dp_end { dp_end cartridge ≡ 11 }
 {}
 
 /// Where an index points to.
@@ -73,16 +76,16 @@ pub fn the_definitions_tell_extents()
 
 /// Which labels are of one volume: those that differ in their location alone.
 pub fn the_definitions_tell_labels()
-    ensures both { AreOfOneVolume (label_of label) (in_data (label_of label)) }
-    ensures both_in_index { ¬ AreOfOneVolume (label_of label) (label_of label) }
-    ensures turned { ¬ AreOfOneVolume (in_data (label_of label)) (label_of label) }
-    ensures one_letter { ¬ AreOfOneVolume (record (label_of label) { dpart = 97 }) (record (label_of label) { dpart = 97 }) }
-    ensures other_uuid { ¬ AreOfOneVolume (label_of label) (record (in_data (label_of label)) { uuid = 8 }) }
-    ensures other_blocks { ¬ AreOfOneVolume (label_of label) (record (in_data (label_of label)) { block = 8192 }) }
-    ensures other_index { ¬ AreOfOneVolume (label_of label) (record (in_data (label_of label)) { index = 99 }) }
-    ensures other_data { ¬ AreOfOneVolume (label_of label) (record (in_data (label_of label)) { dpart = 99; location = 99 }) }
-    ensures other_compression { ¬ AreOfOneVolume (label_of label) (record (in_data (label_of label)) { compression = true }) }
-    ensures other_creator { ¬ AreOfOneVolume (label_of label) (record (in_data (label_of label)) { creator = 65 ∷ [] }) }
+    ensures both { AreOfOneVolume in_index in_data }
+    ensures both_in_index { ¬ AreOfOneVolume in_index in_index }
+    ensures turned { ¬ AreOfOneVolume in_data in_index }
+    ensures one_letter { ¬ AreOfOneVolume (record in_index { dpart = 97 }) (record in_index { dpart = 97 }) }
+    ensures other_uuid { ¬ AreOfOneVolume in_index (record in_data { uuid = 8 }) }
+    ensures other_blocks { ¬ AreOfOneVolume in_index (record in_data { block = 8192 }) }
+    ensures other_index { ¬ AreOfOneVolume in_index (record in_data { index = 99 }) }
+    ensures other_data { ¬ AreOfOneVolume in_index (record in_data { dpart = 99; location = 99 }) }
+    ensures other_compression { ¬ AreOfOneVolume in_index (record in_data { compression = true }) }
+    ensures other_creator { ¬ AreOfOneVolume in_index (record in_data { creator = 65 ∷ [] }) }
     ensures no_mark { (bytes text : List ℕ) → ¬ HasSomeLabel (Block bytes ∷ Mark ∷ Block text ∷ Block text ∷ []) }
     ensures no_label { (bytes : List ℕ) → ¬ HasSomeLabel (Block bytes ∷ Mark ∷ Mark ∷ Mark ∷ []) }
     ensures no_first_mark { (bytes : List ℕ) → ¬ HasSomeRecord (Block bytes ∷ Torn ∷ []) }

@@ -53,17 +53,19 @@ pub fn faults_are_told_in_one_way()
     ensures never_both { (c : Cartridge) (e : MountErr) → Found c → MountFault c e → ⊥ }
 {}
 
-/// What a cartridge stands for goes by its labels, its indexes, and what stands below its ends. So a cartridge that keeps
-/// these reads alike, whatever else it has; and each piece of that by itself.
+/// What a cartridge stands for goes by its labels, its indexes, and what stands below its ends. So a cartridge that
+/// keeps these reads alike, whatever else it has; and each piece of that by itself.
 pub fn cartridges_alike_read_alike()
     ensures reads { (c d : Cartridge) (facts : Carried) (tree : Tree) (generation : ℕ)
         → Keeps c d → Reads c facts tree generation → Reads d facts tree generation }
     ensures labels { (c d : Cartridge) (labels : Labels)
         → take 4 c.ip ≡ take 4 d.ip → take 4 c.dp ≡ take 4 d.dp → HasLabels c labels → HasLabels d labels }
-    ensures trees { (label : Label) (ip dp : ℕ) → label.index ≢ label.dpart → (c d : Cartridge) (index : Index) (tree : Tree)
+    ensures trees { (label : Label) (ip dp : ℕ) → label.index ≢ label.dpart
+        → (c d : Cartridge) (index : Index) (tree : Tree)
         → AllByRecursion (FitsNode label ip dp) index.nodes → take ip c.ip ≡ take ip d.ip → take dp c.dp ≡ take dp d.dp
         → IsTreeOf label c index tree → IsTreeOf label d index tree }
-    ensures extents { (label : Label) (ip dp further_ip further_dp : ℕ) → ip ≤ further_ip → dp ≤ further_dp → (nodes : List Node)
+    ensures extents { (label : Label) (ip dp further_ip further_dp : ℕ) → ip ≤ further_ip → dp ≤ further_dp
+        → (nodes : List Node)
         → AllByRecursion (FitsNode label ip dp) nodes → AllByRecursion (FitsNode label further_ip further_dp) nodes }
     ensures pointers { (label : Label) (index old new : Index) (more dps : List Construct)
         → dps ≢ [] → index.generation < new.generation
@@ -80,8 +82,8 @@ pub fn the_newest_index_is_chosen()
         → f.index.here ≡ record { letter = letter_of f.labels.ip place.part; block = place.pos } }
 {}
 
-/// Notes tell of one index of each partition, honest ones none too many changes, and where they are honest and
-/// coherent they tell of the last indexes.
+/// Notes tell of one index of each partition. One that is ahead of its cartridge isn't honest, and notes that are honest
+/// and coherent tell of the last indexes.
 pub fn notes_tell_of_the_last_indexes()
     ensures generation { (c : Cartridge) (label : Label) (part : Part) (note other : Coherency)
         → TellsOfLast c label part note → TellsOfLast c label part other → note.generation ≡ other.generation }
@@ -97,7 +99,8 @@ pub fn notes_tell_of_the_last_indexes()
 /// Each text is that of an index or stops, and that of a label or stops.
 pub fn texts_are_read_or_stop()
     ensures index { (text : List ℕ) → ((index : Index) × IndexText text index) ⊎ ((e : IndexErr) × StopsIndex text e) }
-    ensures label { (text : List ℕ) → ((label : LabelValue) × LabelText text label) ⊎ ((e : LabelErr) × StopsLabel text e) }
+    ensures label { (text : List ℕ) → ((label : LabelValue) × LabelText text label)
+        ⊎ ((e : LabelErr) × StopsLabel text e) }
 {}
 
 /// Each cartridge is read, or refused: one of the checks of a mount fails, or none does.
@@ -105,9 +108,10 @@ pub fn each_cartridge_reads_or_is_refused()
     ensures { (c : Cartridge) → Found c ⊎ ((e : MountErr) × MountFault c e) }
 {}
 
-/// A mount has one outcome.
+/// A mount has one outcome, with the label of the index partition.
 pub fn cartridges_mount_in_one_way()
-    ensures { (c : Cartridge) (m n : Mounted) → Mounts c m → Mounts c n → m ≡ n }
+    ensures one { (c : Cartridge) (m n : Mounted) → Mounts c m → Mounts c n → m ≡ n }
+    ensures label { (c : Cartridge) (m : Mounted) → Mounts c m → m.label.location ≡ m.label.index }
 {}
 
 /// The chosen index is a valid one of the volume, and where a close has nothing left to do the cartridge is consistent.

@@ -21,7 +21,8 @@ abbrev pub closing : Given → Option ℕ → List Placed → Moment → Standin
 closing g on history at = by (standing g on history (length history))
   where
     by : Standing → Standing
-    by st = record st { space = space.after (rules g) (is_on g.mounted on (length history)) st.space (close_ask g st at) }
+    by st =
+        record st { space = space.after (rules g) (is_on g.mounted on (length history)) st.space (close_ask g st at) }
 
 -- an index of this generation is due on the index partition
 abbrev pub is_ip_due : Given → Space → Bool
@@ -29,7 +30,8 @@ is_ip_due g s = s.admitted || not g.mounted.ip_done
 
 -- the text of the close's index on the index partition, which has the data partition's generation and points back to it
 abbrev pub close_text : Given → Standing → Moment → List ℕ
-close_text g st at = canon (index_at g.mounted st.tree st.files st.space.newest at Ip (st.space.ends.ip + 1) st.space.last_dp)
+close_text g st at =
+    canon (index_at g.mounted st.tree st.files st.space.newest at Ip (st.space.ends.ip + 1) st.space.last_dp)
 
 -- what that index needs, and how many positions there are for it: it has no new generation
 abbrev pub close_need : Given → Standing → Moment → ℕ

@@ -108,7 +108,11 @@ nodes_in (suc depth) all parent = gathered (nodes_in depth all) (filter (λ e. e
 
 abbrev pub with_root : Index → List Node → Option IndexValue
 with_root index [] = None
-with_root index (root ∷ more) = Some record { volume = volume_of index; root = facts_of root; inside = nodes_in (length (root ∷ more)) (enumerate_from 0 (root ∷ more)) 0 }
+with_root index (root ∷ more) = Some record {
+  volume = volume_of index;
+  root = facts_of root;
+  inside = nodes_in (length (root ∷ more)) (enumerate_from 0 (root ∷ more)) 0;
+}
 
 -- what an index tells, where it has a root
 abbrev pub value_of : Index → Option IndexValue

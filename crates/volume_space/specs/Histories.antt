@@ -17,7 +17,10 @@ abbrev pub path : List (List ℕ)
 path = codes "a" ∷ []
 
 abbrev pub with_a : Moment → Tree
-with_a at = record { highest = 2; nodes = fin.insert (fin.insert fin.empty [] (new_node kinds.Dir 1 at)) path (new_node (kinds.File []) 2 at) }
+with_a at = record {
+  highest = 2;
+  nodes = fin.insert (fin.insert fin.empty [] (new_node kinds.Dir 1 at)) path (new_node (kinds.File []) 2 at);
+}
 
 abbrev pub given : Moment → MountFacts → List Call → Given
 given at m calls = record {
@@ -32,7 +35,8 @@ with_blocks size m = record m { label = record m.label { block = size } }
 
 -- with a policy that wants files of at most so many bytes
 abbrev pub with_policy : ℕ → Bool → MountFacts → MountFacts
-with_policy size on m = record m { ip_on = on; index = record m.index { policy = Some record { size = size; names = [] } } }
+with_policy size on m =
+    record m { ip_on = on; index = record m.index { policy = Some record { size = size; names = [] } } }
 
 abbrev pub placed : Moment → ℕ → Fate → Placed
 placed at nth fate = record { who = 1; nth = nth; at = at; fate = fate }
@@ -43,7 +47,8 @@ done at = placed at 0 fates.Done ∷ placed at 1 fates.Done ∷ placed at 2 fate
 
 -- three writes that fill the data partition but for its reserve, and one of a byte
 abbrev pub filling : List Call
-filling = Write path 0 (replicate 64 97) ∷ Write path 64 (replicate 64 98) ∷ Write path 128 (replicate 52 99) ∷ Write path 180 (100 ∷ []) ∷ []
+filling =
+    Write path 0 (replicate 64 97) ∷ Write path 64 (replicate 64 98) ∷ Write path 128 (replicate 52 99) ∷ Write path 180 (100 ∷ []) ∷ []
 
 -- a write, one within it, and a truncation behind the second one's first byte
 abbrev pub overwriting : List Call

@@ -6,3 +6,4 @@ pub mod Closing
 pub mod Laws
 pub mod Trials
 pub mod Histories
+pub mod Examples

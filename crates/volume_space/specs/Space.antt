@@ -26,7 +26,8 @@ pub record Space : Type 0 where
 
 -- as it was mounted
 abbrev pub first_space : MountFacts → Space
-first_space m = record { ends = m.ends; newest = m.newest; last_dp = m.last_dp; changed = false; flush_due = false; admitted = false }
+first_space m =
+    record { ends = m.ends; newest = m.newest; last_dp = m.last_dp; changed = false; flush_due = false; admitted = false }
 
 -- what doesn't change: the capacities, and the bytes of a block
 pub record Rules : Type 0 where
@@ -47,7 +48,8 @@ blocks v bytes = div_ceil (length bytes) v.block_size
 
 -- what a layout holds in this space, with these ops, where files may go to the index partition or not
 abbrev pub plan_of : Rules → Bool → Space → List Op → Plan
-plan_of v on s ops = record { limits = v.limits; block_size = v.block_size; ends = s.ends; ops = ops; flush_due = s.flush_due; ip_on = on }
+plan_of v on s ops =
+    record { limits = v.limits; block_size = v.block_size; ends = s.ends; ops = ops; flush_due = s.flush_due; ip_on = on }
 
 -- the partition to which bytes go
 abbrev pub part_for : Rules → Bool → Space → Bool → List ℕ → Part
@@ -86,7 +88,11 @@ ops_of v on s (index text) = flush_first s.flush_due s.ends.ip ++ construct v.bl
 
 -- data on a partition
 abbrev pub with_data : Rules → Part → List ℕ → Space → Space
-with_data v part bytes s = record s { ends = with_end part (end_of part s.ends + blocks v bytes) s.ends; changed = true; flush_due = due_after s.flush_due part }
+with_data v part bytes s = record s {
+  ends = with_end part (end_of part s.ends + blocks v bytes) s.ends;
+  changed = true;
+  flush_due = due_after s.flush_due part;
+}
 
 -- an index on the data partition
 abbrev pub with_index : Rules → List ℕ → Space → Space

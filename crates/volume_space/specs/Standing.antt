@@ -5,6 +5,7 @@ use Rattle.std.specs.List.{enumerate_from, flat_map}
 use Rattle.std.specs.FinMap as fin
 use Rattle.tape_types.specs.declared.moments.Moment.{Moment}
 use Rattle.tape_types.specs.declared.cartridges.Part.{Part}
+use Rattle.tape_types.specs.declared.cartridges.Extent.{Extent}
 use Rattle.tape_types.specs.declared.cartridges.Part.TheVariants.{Dp}
 use Rattle.tape_types.specs.declared.cartridges.Limits.{Limits}
 use Rattle.plain_tree.specs.Calls.{after}
@@ -65,7 +66,12 @@ uid_at nodes path = found (fin.get nodes path)
 
 -- the text of the index that a sync writes
 abbrev pub sync_text : Given → Standing → Moment → List ℕ
-sync_text g st at = canon (index_at g.mounted st.tree st.files (st.space.newest + 1) at Dp (st.space.ends.dp + 1) st.space.last_dp)
+sync_text g st at =
+    canon (index_at g.mounted st.tree st.files (st.space.newest + 1) at Dp (st.space.ends.dp + 1) st.space.last_dp)
+
+-- the length of a file once bytes were written up to an offset
+abbrev pub length_after : Standing → List (List ℕ) → ℕ → ℕ
+length_after st path end = max (length (cells_at st.tree.nodes path)) end
 
 -- what a call asks of the tape where the tree doesn't refuse it
 abbrev pub ask_unrefused : Given → Standing → Call → Moment → Ask
@@ -73,7 +79,7 @@ ask_unrefused g st (Mkdir path) at = change
 ask_unrefused g st (Create path) at = change
 ask_unrefused g st (Write path offset []) at = nothing
 ask_unrefused g st (Write path offset (b ∷ bytes)) at =
-    store (chooses_ip g.mounted.index.policy (unwrap_or (last_name path) []) (max (length (cells_at st.tree.nodes path)) (offset + length (b ∷ bytes)))) (b ∷ bytes)
+    store (chooses_ip g.mounted.index.policy (unwrap_or (last_name path) []) (length_after st path (offset + length (b ∷ bytes)))) (b ∷ bytes)
 ask_unrefused g st (Truncate path size) at = cond (size == length (cells_at st.tree.nodes path)) nothing change
 ask_unrefused g st (Read path offset count) at = nothing
 ask_unrefused g st (Listing path) at = nothing
@@ -94,8 +100,12 @@ ask_of g st call at = ask_unless (refusal_of st.tree call) (ask_unrefused g st c
 abbrev pub stored : Given → Bool → Standing → List (List ℕ) → ℕ → Ask → Files
 stored g on st path offset (store on_ip bytes) = laid (part_for (rules g) on st.space on_ip bytes)
   where
+    new_run : Part → Extent
+    new_run part =
+        record { offset = offset; part = part; block = end_of part st.space.ends; byte = 0; count = length bytes }
+
     laid : Part → Files
-    laid part = with_file (uid_at st.tree.nodes path) (λ f. overlaid f (record { offset = offset; part = part; block = end_of part st.space.ends; byte = 0; count = length bytes })) st.files
+    laid part = with_file (uid_at st.tree.nodes path) (λ f. overlaid f (new_run part)) st.files
 stored g on st path offset _ = st.files
 
 -- a file that is cut, where anything changes
@@ -113,7 +123,11 @@ abbrev pub after_done : Given → Bool → Standing → Call → Moment → Stan
 after_done g on st call at = by (ask_of g st call at)
   where
     by : Ask → Standing
-    by ask = record { tree = after st.tree call at; files = files_after g on st call ask; space = space.after (rules g) on st.space ask }
+    by ask = record {
+      tree = after st.tree call at;
+      files = files_after g on st call ask;
+      space = space.after (rules g) on st.space ask;
+    }
 
 -- what a placement leaves: a void one leaves all as it is
 abbrev pub after_placed : Given → Bool → Standing → Placed → Standing
@@ -126,7 +140,8 @@ after_placed g on st p = by p.fate (call_at g.calls p)
 
 -- what stands after the first k placements, where placement on the index partition is on from a place on
 abbrev pub standing : Given → Option ℕ → List Placed → ℕ → Standing
-standing g on history k = fold (λ st e. after_placed g (is_on g.mounted on e.0) st e.1) (first_standing g) (enumerate_from 0 (take k history))
+standing g on history k =
+    fold (λ st e. after_placed g (is_on g.mounted on e.0) st e.1) (first_standing g) (enumerate_from 0 (take k history))
 
 -- ---- what the placement at a place asks, needs and admits
 
@@ -135,10 +150,12 @@ abbrev pub asked : Given → Option ℕ → List Placed → ℕ → Call → Mom
 asked g on history k call at = ask_of g (standing g on history k) call at
 
 abbrev pub need_at : Given → Option ℕ → List Placed → ℕ → Call → Moment → ℕ
-need_at g on history k call at = need_of (rules g) (is_on g.mounted on k) (standing g on history k).space (asked g on history k call at)
+need_at g on history k call at =
+    need_of (rules g) (is_on g.mounted on k) (standing g on history k).space (asked g on history k call at)
 
 abbrev pub limit_at : Given → Option ℕ → List Placed → ℕ → Call → Moment → ℕ
-limit_at g on history k call at = limit_of (rules g) (is_on g.mounted on k) (standing g on history k).space (asked g on history k call at)
+limit_at g on history k call at =
+    limit_of (rules g) (is_on g.mounted on k) (standing g on history k).space (asked g on history k call at)
 
 -- what the placement at k admits: a void one nothing
 abbrev pub admitted_at : Given → Option ℕ → List Placed → ℕ → Placed → List Op
@@ -147,7 +164,8 @@ admitted_at g on history k p = by p.fate (call_at g.calls p)
     by : Fate → Option Call → List Op
     by fates.Void call = []
     by fates.Done None = []
-    by fates.Done (Some call) = ops_of (rules g) (is_on g.mounted on k) (standing g on history k).space (asked g on history k call p.at)
+    by fates.Done (Some call) =
+        ops_of (rules g) (is_on g.mounted on k) (standing g on history k).space (asked g on history k call p.at)
 
 -- all ops of the history in the order of their admission
 abbrev pub admitted : Given → Option ℕ → List Placed → List Op

@@ -36,7 +36,16 @@ first_index at = record {
 -- an empty volume as it is mounted
 abbrev pub empty_volume : Moment → MountFacts
 empty_volume at = record {
-  label = record { creator = codes "ltfs_server 1.0.0"; formatted = at; uuid = 0x30a91a08daae48d1ae7569804e61d2ea; location = 97; index = 97; dpart = 98; block = 4096; compression = false };
+  label = record {
+    creator = codes "ltfs_server 1.0.0";
+    formatted = at;
+    uuid = 0x30a91a08daae48d1ae7569804e61d2ea;
+    location = 97;
+    index = 97;
+    dpart = 98;
+    block = 4096;
+    compression = false;
+  };
   index = first_index at;
   newest = 1;
   ends = record { ip = 4; dp = 7 };
@@ -51,7 +60,8 @@ abbrev pub small : ℕ → Rules
 small block_size = record { limits = record { cap_ip = 64; cap_dp = 64 }; block_size = block_size }
 
 abbrev pub empty_space : Space
-empty_space = record { ends = record { ip = 4; dp = 7 }; newest = 1; last_dp = Some 5; changed = false; flush_due = false; admitted = false }
+empty_space =
+    record { ends = record { ip = 4; dp = 7 }; newest = 1; last_dp = Some 5; changed = false; flush_due = false; admitted = false }
 
 -- what is left after these
 abbrev pub after_asks : Rules → Bool → List Ask → Space

@@ -1,4 +1,4 @@
-use Rattle.std.proofs.Common.{◌≡◌, ◌∙◌, ◌<◌, get_or, refl, sym}
+use Rattle.std.proofs.Common.{◌∙◌, ◌<◌, get_or, refl, sym}
 use Rattle.std.proofs.lemmas.Option.{slice_get-get_or}
 use Rattle.index_model.specs.declared.nodes.RawExtent.{RawExtent}
 use Rattle.tape_meaning.specs.Meaning.{Fits}

@@ -2,7 +2,7 @@ use Rattle.std.proofs.Common.{arith}
 use Rattle.tape_types.specs.Cartridges.{items_of}
 use Rattle.mount_recover.specs.Lasts.{IsFront}
 use Rattle.mount_recover.proofs.FlagLemmas.{ends_before}
-use Rattle.mount_recover.proofs.StepLemmas.{at_told, more_step, no_step, told_then}
+use Rattle.mount_recover.proofs.StepLemmas.{at_told, more_step, no_step}
 use Rattle.mount_recover.proofs.flags.ends_with.Goals as goal
 
 pub returns-else-last-count : goal.returns-else-last-count

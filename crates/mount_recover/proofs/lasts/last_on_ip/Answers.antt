@@ -1,8 +1,6 @@
-use Rattle.std.proofs.Common.{◌≡◌, Option, Some, List, sym, subst, ◌∙◌}
-use Rattle.std.specs.Prelude.{IfSome}
-use Rattle.tape_types.specs.declared.cartridges.Cartridge.{Cartridge}
+use Rattle.std.proofs.Common.{List, sym, subst, ◌∙◌}
 use Rattle.volume_scan.specs.declared.content.Construct.{Construct}
-use Rattle.mount_recover.specs.Lasts.{IsKnownIp, IsLastDp, IsScan, index_in}
+use Rattle.mount_recover.specs.Lasts.{IsKnownIp, index_in}
 use Rattle.mount_recover.proofs.LastLemmas.{known_ip, last_in_place}
 use Rattle.mount_recover.proofs.StepLemmas.{both_told}
 use Rattle.mount_recover.proofs.lasts.last_on_ip.Goals as goal

@@ -1,4 +1,4 @@
-use Rattle.std.proofs.Common.{◌∙◌, sym, subst, Option, arith}
+use Rattle.std.proofs.Common.{sym, subst, Option, arith}
 use Rattle.std.specs.Prelude.{IfSome}
 use Rattle.tape_types.specs.declared.cartridges.Cartridge.{Cartridge}
 use Rattle.tape_types.specs.declared.cartridges.Part.TheVariants.{Ip, Dp}

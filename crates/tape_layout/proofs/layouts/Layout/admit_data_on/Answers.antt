@@ -6,11 +6,8 @@ has c =
     has_data c.args.self.now _ c.args.part c.args.bytes.now c.blocks-2.result c.capacity.result c.data_limit-limit.result c.place_on-place.result _ c.new-draft.result c.put_all.new.self
     c.self.view_is c.self.invariant.standing.can_be c.place_on-place.ensures.place c.blocks-2.ensures.count c.capacity.ensures c.data_limit-limit.ensures c.if-need-limit.false c.new-draft.ensures c.in_ok-put_all.ensures
 
-pub admit-requires-clause-lead : goal.admit-requires-clause-lead
-admit-requires-clause-lead c = (has c).is_ready.lead
-
-pub admit-requires-clause-can_be : goal.admit-requires-clause-can_be
-admit-requires-clause-can_be c = (has c).is_ready.can_be
+pub admit-requires-clause-ready : goal.admit-requires-clause-ready
+admit-requires-clause-ready c = (has c).is_ready.can
 
 pub returns : goal.returns
 returns c =

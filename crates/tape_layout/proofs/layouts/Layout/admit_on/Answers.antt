@@ -8,11 +8,8 @@ has c =
     has_index c.args.self.now _ c.args.part c.args.doc.now c.blocks-2.result c.capacity-limit.result c.place_on-place.result c.args.first c.put_index.new.self
     c.self.view_is c.self.invariant.standing.can_be c.place_on-place.ensures.place c.blocks-2.ensures.count c.capacity-limit.ensures c.if-need-limit.false c.requires.lead c.in_ok-put_index.ensures
 
-pub admit-requires-clause-lead : goal.admit-requires-clause-lead
-admit-requires-clause-lead c = (has c).is_ready.lead
-
-pub admit-requires-clause-can_be : goal.admit-requires-clause-can_be
-admit-requires-clause-can_be c = (has c).is_ready.can_be
+pub admit-requires-clause-ready : goal.admit-requires-clause-ready
+admit-requires-clause-ready c = (has c).is_ready.can
 
 pub returns : goal.returns
 returns c =
