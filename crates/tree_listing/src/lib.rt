@@ -7,6 +7,8 @@ mod listing;
 #[cfg(test)]
 mod tests;
 mod texts;
+mod trees;
 
 pub use errors::ListErr;
 pub use listing::write_listing;
+pub use trees::write_tree;

@@ -99,13 +99,7 @@ fn check<R: Abort>(
 #[test]
 fn trees_are_listed(rt: HostRuntime) -> Result<(), NoMemory> {
     let alloc = rt.alloc();
-    check(
-        &rt,
-        alloc,
-        "D|1||/",
-        &[],
-        "d 1 /\ngeneration 3 b 9\n",
-    )?;
+    check(&rt, alloc, "D|1||/", &[], "d 1 /\ngeneration 3 b 9\n")?;
     check(
         &rt,
         alloc,
