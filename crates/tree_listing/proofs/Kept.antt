@@ -1,12 +1,11 @@
 -- That the nodes that a kept tree tells are those of the plain tree.
-use Rattle.std.proofs.Common.{◌≡◌, ℕ, List, [], ◌∷◌, ◌++◌, length, map, Option, Some, sym, ap, ◌∙◌, refl, subst}
+use Rattle.std.proofs.Common.{◌≡◌, ℕ, [], ◌∷◌, ◌++◌, length, Some, sym, ap, ◌∙◌, refl, subst}
 use Rattle.std.specs.List.{slice_get}
 use Rattle.std.specs.Option.{option_map}
 use Rattle.std.specs.FinMap as fin
 use Rattle.std.proofs.lemmas.List.{length-map}
 use Rattle.std.proofs.lemmas.Option.{slice_get-map}
 use Rattle.extent_map.specs.Cells.{Tape}
-use Rattle.index_model.specs.Places.{IsAt}
 use Rattle.index_model.specs.declared.nodes.Node as told
 use Rattle.plain_tree.specs.Paths.{Path, last_name}
 use Rattle.plain_tree.specs.declared.nodes.Node as plain_node

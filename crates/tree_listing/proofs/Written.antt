@@ -1,5 +1,5 @@
 -- What was written of a listing, as it goes on.
-use Rattle.std.proofs.Common.{◌≡◌, ◌⊎◌, ℕ, zero, suc, ◌+◌, ◌<◌, ◌≤◌, min, List, [], ◌∷◌, ◌++◌, length, take, drop, map, get_or, Option, Some, None, inl, inr, sym, ap, ◌∙◌, refl, subst, arith, append_assoc, length-append, take_all}
+use Rattle.std.proofs.Common.{◌≡◌, ℕ, zero, suc, ◌+◌, ◌≤◌, min, List, [], ◌∷◌, ◌++◌, length, take, drop, Option, Some, None, inl, inr, sym, ap, ◌∙◌, refl, subst, arith, append_assoc, take_all}
 use Rattle.std.specs.List.{flat_map, slice_get}
 use Rattle.std.specs.FinMap as fin
 use Rattle.std.specs.Io.KnownBytes.{Appends}
