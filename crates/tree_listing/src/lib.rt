@@ -1,0 +1,14 @@
+//! The lines of a tree, as they are printed.
+#![tactic(auto)]
+
+mod errors;
+mod lines;
+mod listing;
+#[cfg(test)]
+mod tests;
+mod texts;
+mod trees;
+
+pub use errors::ListErr;
+pub use listing::write_listing;
+pub use trees::write_tree;
