@@ -66,8 +66,8 @@ TellsKind (told_kinds.File size extents) (kinds.File cells) = size ≡ length ce
 TellsKind (told_kinds.Link text) (kinds.Link same) = text ≡ same
 TellsKind told kind = ⊥
 
--- An index tells a node of a tree: its uid and what it is, and, but of the root, its last name and the place of its directory
--- among the paths of the tree.
+-- An index tells a node of a tree: its uid and what it is, and, but of the root, its last name and the place of its
+-- directory among the paths of the tree.
 pub record Tells (tree : Tree) (node : told.Node) (e : Path × Node) : Type 0 where
   pub uid : node.uid ≡ e.1.uid
   pub kind : TellsKind node.kind e.1.kind
@@ -81,8 +81,8 @@ pub record AreNodesOf (nodes : List told.Node) (tree : Tree) : Type 0 where
   pub each : (at : ℕ) (node : told.Node) (e : Path × Node) → IsAt nodes at node → IsAt (fin.entries tree.nodes) at e
       → Tells tree node e
 
--- What was written where not all of the text was: a front of it where the sink failed, and whole lines from its front where
--- memory was refused.
+-- What was written where not all of the text was: a front of it where the sink failed, and whole lines from its front
+-- where memory was refused.
 abbrev pub IsCutShort : ListErr → (text : List ℕ) → Tree → (old new : Option (List ℕ)) → Type 0
 IsCutShort errors.Sink text tree old new = AppendsFront old new text
 IsCutShort errors.NoMemory text tree old new = (count : ℕ) × Appends old new (first_lines count tree)

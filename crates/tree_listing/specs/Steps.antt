@@ -1,5 +1,6 @@
 -- What a listing is made of, node by node.
-use Rattle.std.specs.Prelude.{◌≡◌, ◌⊎◌, ℕ, suc, ◌≤◌, List, [], ◌∷◌, ◌++◌, length, map, take, codes, decimal, get_or, Option, Some, Result, IfErr}
+use Rattle.std.specs.Prelude.{◌≡◌, ◌⊎◌, ℕ, suc, ◌≤◌, List, [], ◌∷◌, ◌++◌, length, map, take, codes, decimal, get_or}
+use Rattle.std.specs.Prelude.{Option, Some, Result, IfErr}
 use Rattle.std.specs.List.{flat_map, slice_get}
 use Rattle.std.specs.FinMap as fin
 use Rattle.std.specs.Io.KnownBytes.{Appends}
@@ -33,8 +34,8 @@ told_line_of path uid (told_kinds.Link text) =
 abbrev pub told_line : (names : List ℕ) → told.Node → List ℕ
 told_line names node = told_line_of (shown names) node.uid node.kind
 
--- The text of the names of a node's path: that of its directory's, cut from the text of the node before, and its own name.
--- Where the text of each node before ends is told by place. The first node has no name.
+-- The text of the names of a node's path: that of its directory's, cut from the text of the node before, and its own
+-- name. Where the text of each node before ends is told by place. The first node has no name.
 abbrev pub next_names : (ends names : List ℕ) → told.Node → List ℕ
 next_names [] names node = names
 next_names (end ∷ ends) names node =
@@ -50,7 +51,8 @@ pub record IsPut (old new : Lines) (node : told.Node) : Type 0 where
 abbrev pub IsPassedOn : (old new : Option (List ℕ)) (text left : List ℕ) → Type 0
 IsPassedOn old new text left = ((new ≡ old) × (left ≡ text)) ⊎ (Appends old new text × (left ≡ []))
 
--- The lines of the first nodes of a tree are put together: those of the first of them were written, and the others are held.
+-- The lines of the first nodes of a tree are put together: those of the first of them were written, and the others are
+-- held.
 pub record AreListed (es : List (Path × Node)) (count : ℕ) (old now : Option (List ℕ)) (held : List ℕ) : Type 0 where
   pub passed : ℕ
   pub written : Appends old now (flat_map line_of (take passed es))

@@ -41,7 +41,7 @@ impl Lines {
         })
     }
 
-    /// Puts the line of the next node behind the others. The nodes come with each one behind its directory, and all of a
+    /// Puts the line of the next node behind the others. The nodes come each behind its directory, and all of a
     /// directory's together.
     pub fn put(&mut self, alloc: Global, node: &Node) -> Result<(), NoMemory>
         ensures { OnOk result (IsPut self.old self.new node.now) }
@@ -53,7 +53,8 @@ impl Lines {
 
     /// Writes the lines that are held, where there are enough of them.
     pub fn pass_on<K: Sink>(&mut self, out: &mut K) -> Result<(), WriteFault>
-        ensures ok { OnOk result (IsPassedOn (K.written out.old) (K.written out.new) self.old.text.items self.new.text.items) }
+        ensures ok { OnOk result
+            (IsPassedOn (K.written out.old) (K.written out.new) self.old.text.items self.new.text.items) }
         ensures err { OnErr result (AppendsFront (K.written out.old) (K.written out.new) self.old.text.items) }
         ensures cause { HasCause (K.faults out.old) (K.faults out.new) result }
         ensures names { self.new.names ≡ self.old.names }

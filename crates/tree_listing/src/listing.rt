@@ -51,7 +51,8 @@ pub fn write_listing<K: Sink>(
 fn write_nodes<K: Sink>(alloc: Global, nodes: &[Node], out: &mut K) -> Result<Vec<u8>, ListErr>
     requires { AreInOrder nodes.now }
     ensures left { IfOk result (λ left. (tree : Tree) → AreNodesOf nodes.now tree
-        → AreListed (fin.entries tree.nodes) (length (fin.entries tree.nodes)) (K.written out.old) (K.written out.new) left.items) }
+        → AreListed (fin.entries tree.nodes) (length (fin.entries tree.nodes))
+        (K.written out.old) (K.written out.new) left.items) }
     ensures stopped { IfErr result (λ e. (tree : Tree) → AreNodesOf nodes.now tree
         → IsStopped e (fin.entries tree.nodes) (K.written out.old) (K.written out.new)) }
     ensures cause { HasListCause (K.faults out.old) (K.faults out.new) result }

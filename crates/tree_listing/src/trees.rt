@@ -30,7 +30,8 @@ pub fn write_tree<K: Sink>(
     ensures done { OnOk result ((tape : Tape)
         → Appends (K.written out.old) (K.written out.new) (listing_text generation spot (plain_of tape tree.now))) }
     ensures cut_short { IfErr result (λ e. (tape : Tape)
-        → IsCutShort e (listing_text generation spot (plain_of tape tree.now)) (plain_of tape tree.now) (K.written out.old) (K.written out.new)) }
+        → IsCutShort e (listing_text generation spot (plain_of tape tree.now)) (plain_of tape tree.now)
+        (K.written out.old) (K.written out.new)) }
     ensures cause { HasListCause (K.faults out.old) (K.faults out.new) result }
 {
     let _count = tree.count();
