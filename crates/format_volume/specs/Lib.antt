@@ -1,0 +1,5 @@
+pub mod Refusals
+pub mod Steps
+pub mod Texts
+pub mod Volumes
+pub mod Writes
