@@ -4,7 +4,6 @@ ghost use Rattle.tape_types.specs.Cartridges.{capacity, items_of};
 
 use crate::FileDrive;
 use crate::recorded::Recorded;
-use mount_recover::read_labels;
 use std::alloc::Global;
 use std::cell::RefCell;
 use std::io::ErrorKind;
@@ -458,83 +457,6 @@ fn check_no_file(rt: &HostRuntime, folder: &str) -> Result<(), Fail> {
 fn what_is_no_file_is_a_fault(rt: HostRuntime) -> Result<(), Fail> {
     let folder = make_folder(&rt)?;
     let outcome = check_no_file(&rt, folder.as_str());
-    end_in(&rt, folder.as_str(), outcome)
-}
-
-const VOL1: &[u8] =
-    b"VOL1TAPE01L             LTFS                                                   4";
-
-const HEAD: &[u8] = b"<ltfslabel version=\"2.4.0\"><creator>ltfs_server 1.0.0</creator>";
-
-const TIME: &[u8] = b"<formattime>2024-01-02T03:04:05.000000000Z</formattime>";
-
-const UUID: &[u8] =
-    b"<volumeuuid>30a91a08-daae-48d1-ae75-69804e61d2ea</volumeuuid><location><partition>";
-
-const LETTERS: &[u8] =
-    b"</partition></location><partitions><index>a</index><data>b</data></partitions>";
-
-const TAIL: &[u8] = b"<blocksize>4096</blocksize><compression>false</compression></ltfslabel>";
-
-fn label(alloc: Global, letter: u8) -> Result<Vec<u8>, Fail>
-    ensures some { IfOk result (λ v. 1 ≤ length v.items) }
-    ensures size { IfOk result (λ v. length v.items ≤ 1048576) }
-{
-    let mut text = Vec::from_slice(alloc, HEAD)?;
-    text.extend_from_slice(TIME)?;
-    text.extend_from_slice(UUID)?;
-    text.push(letter)?;
-    text.extend_from_slice(LETTERS)?;
-    text.extend_from_slice(TAIL)?;
-    Ok(text)
-}
-
-fn write_label<D: Drive>(drive: &mut D, place: Place, label: &[u8]) -> Result<(), DriveErr>
-    requires within { IfSome (D.held drive.old) (λ c. place.pos ≤ length (items_of place.part c)) }
-    requires room { place.pos + 4 ≤ capacity place.part (D.limits drive.old) }
-    requires some { 1 ≤ length label.now }
-    requires size { length label.now ≤ 1048576 }
-{
-    drive.locate(place)?;
-    drive.write(VOL1)?;
-    drive.mark()?;
-    drive.write(label)?;
-    drive.mark()
-}
-
-fn expect_same(rt: &HostRuntime, folder: &str, name: &str, was: &[u8]) -> Result<(), Fail> {
-    expect(file(rt, folder, name)?.as_slice() == was, name)?;
-    Ok(())
-}
-
-// The files of a volume whose memory is missing are the same after its labels were read, and none is made.
-fn check_labels(rt: &HostRuntime, folder: &str) -> Result<(), Fail> {
-    let alloc = rt.alloc();
-    let mut drive = open(rt, folder)?;
-    write_label(&mut drive, ip(0), label(alloc, b'a')?.as_slice())?;
-    write_label(&mut drive, dp(0), label(alloc, b'b')?.as_slice())?;
-    fs::remove_file(rt, format!(in alloc; "{folder}/cm")?.as_str())?;
-    let ip_map = file(rt, folder, "ip.map")?;
-    let ip_dat = file(rt, folder, "ip.dat")?;
-    let dp_map = file(rt, folder, "dp.map")?;
-    let dp_dat = file(rt, folder, "dp.dat")?;
-    let mut other = open(rt, folder)?;
-    expect(
-        read_labels(alloc, &mut other).is_ok(),
-        "the labels are read",
-    )?;
-    expect_same(rt, folder, "ip.map", ip_map.as_slice())?;
-    expect_same(rt, folder, "ip.dat", ip_dat.as_slice())?;
-    expect_same(rt, folder, "dp.map", dp_map.as_slice())?;
-    expect_same(rt, folder, "dp.dat", dp_dat.as_slice())?;
-    expect(is_missing(rt, folder, "cm")?, "no memory is made")?;
-    Ok(())
-}
-
-#[test]
-fn reading_labels_changes_no_file(rt: HostRuntime) -> Result<(), Fail> {
-    let folder = make_folder(&rt)?;
-    let outcome = check_labels(&rt, folder.as_str());
     end_in(&rt, folder.as_str(), outcome)
 }
 
