@@ -1,5 +1,5 @@
 -- What a command on an attribute of the medium leaves (LTFS 2.4 on medium auxiliary memory).
-use Rattle.std.specs.Prelude.{ℕ, ◌≤◌, ◌≡◌, Option, Some, None, Result, Ok, Err, OnOk}
+use Rattle.std.specs.Prelude.{ℕ, ◌≤◌, ◌≡◌, Option, None, Result, Ok, Err, OnOk}
 use Rattle.tape_types.specs.declared.cartridges.Place.{Place}
 use Rattle.tape_types.specs.declared.cartridges.Twin.{Twin}
 use Rattle.tape_types.specs.Counts.{Rose}

@@ -8,7 +8,7 @@ ghost use Rattle.tape_drive.specs.Crashes.{Crashes, NothingNew, WithinNote};
 ghost use Rattle.head_core.specs.Attributes.{IsAttributeCommand};
 ghost use Rattle.head_core.specs.Steps.{CanStep, IsBlockAfter, IsFound, IsStep};
 
-use crate::transfers::{do_op, read_at};
+use crate::transfers::{counts, do_op, read_at};
 use crate::work::{StepDone, Work};
 use std::alloc::Global;
 use std::marker::Model;
@@ -95,10 +95,7 @@ impl<D: Drive> Head<D> {
         let before = self.drive.faults();
         match self.drive.vcr() {
             Ok(value) => Ok(value),
-            Err(_) => Err(Twin {
-                before,
-                after: self.drive.faults(),
-            }),
+            Err(_) => Err(counts(before, &self.drive)),
         }
     }
 
@@ -116,10 +113,7 @@ impl<D: Drive> Head<D> {
         let before = self.drive.faults();
         match self.drive.write_note(part, note) {
             Ok(()) => Ok(()),
-            Err(_) => Err(Twin {
-                before,
-                after: self.drive.faults(),
-            }),
+            Err(_) => Err(counts(before, &self.drive)),
         }
     }
 

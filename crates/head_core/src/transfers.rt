@@ -2,9 +2,7 @@
 
 ghost use Rattle.std.specs.Prelude.{◌≡◌, ◌≤◌, length, vec_capacity, IfSome, Some};
 ghost use Rattle.tape_types.specs.declared.cartridges.Cartridge.{Cartridge};
-ghost use Rattle.tape_types.specs.declared.cartridges.Twin.{Twin};
 ghost use Rattle.tape_layout.specs.declared.ops.Op.TheVariants as kind;
-ghost use Rattle.head_core.specs.declared.work.StepDone.TheVariants as done;
 ghost use Rattle.head_core.specs.Steps.{CanDo, IsBlockRead, IsFoundAt, IsInReach, IsOpStep, IsReadStep};
 
 use crate::work::StepDone;
@@ -27,12 +25,12 @@ pub(crate) fn read_at<D: Drive>(drive: &mut D, place: Place, buffer: &mut Vec<u8
             Ok(answer) => StepDone::Read(answer),
             Err(_) => {
                 buffer.clear();
-                failed(before, drive)
+                StepDone::Failed(counts(before, drive))
             }
         },
         Err(_) => {
             buffer.clear();
-            failed(before, drive)
+            StepDone::Failed(counts(before, drive))
         }
     }
 }
@@ -50,6 +48,7 @@ pub(crate) fn do_op<D: Drive>(drive: &mut D, op: &Op) -> StepDone
 }
 
 /// Writes a block of 1 to 1,048,576 bytes at a place.
+#[tactic(auto, using(crate::proofs::Runs::lost_crashes))]
 fn write_at<D: Drive>(drive: &mut D, place: Place, bytes: &[u8]) -> StepDone
     requires place { IsInReach place (D.limits drive.old) (D.held drive.old) }
     requires some { 1 ≤ length bytes.now }
@@ -60,13 +59,14 @@ fn write_at<D: Drive>(drive: &mut D, place: Place, bytes: &[u8]) -> StepDone
     match drive.locate(place) {
         Ok(()) => match drive.write(bytes) {
             Ok(()) => StepDone::Wrote,
-            Err(_) => failed(before, drive),
+            Err(_) => StepDone::Failed(counts(before, drive)),
         },
-        Err(_) => failed(before, drive),
+        Err(_) => StepDone::Failed(counts(before, drive)),
     }
 }
 
 /// Writes a mark at a place.
+#[tactic(auto, using(crate::proofs::Runs::lost_crashes))]
 fn mark_at<D: Drive>(drive: &mut D, place: Place) -> StepDone
     requires { IsInReach place (D.limits drive.old) (D.held drive.old) }
     ensures { IsOpStep D.Drive (Op.Mark place) result drive.old drive.new }
@@ -75,9 +75,9 @@ fn mark_at<D: Drive>(drive: &mut D, place: Place) -> StepDone
     match drive.locate(place) {
         Ok(()) => match drive.mark() {
             Ok(()) => StepDone::Wrote,
-            Err(_) => failed(before, drive),
+            Err(_) => StepDone::Failed(counts(before, drive)),
         },
-        Err(_) => failed(before, drive),
+        Err(_) => StepDone::Failed(counts(before, drive)),
     }
 }
 
@@ -88,16 +88,16 @@ fn flush<D: Drive>(drive: &mut D, place: Place) -> StepDone
     let before = drive.faults();
     match drive.flush() {
         Ok(()) => StepDone::Flushed,
-        Err(_) => failed(before, drive),
+        Err(_) => StepDone::Failed(counts(before, drive)),
     }
 }
 
-/// The drive failed since it had this count of faults.
-fn failed<D: Drive>(before: u64, drive: &D) -> StepDone
-    ensures { result ≡ done.Failed (record { before = before; after = D.faults drive.now }) }
+/// The drive's count of faults before its failure, and now.
+pub(crate) fn counts<D: Drive>(before: u64, drive: &D) -> Twin
+    ensures { result ≡ record { before = before; after = D.faults drive.now } }
 {
-    StepDone::Failed(Twin {
+    Twin {
         before,
         after: drive.faults(),
-    })
+    }
 }

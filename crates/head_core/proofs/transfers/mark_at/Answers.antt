@@ -1,0 +1,22 @@
+use Rattle.std.proofs.Common.{rules, ◌∙◌}
+use Rattle.tape_types.specs.declared.cartridges.Item.TheVariants as item
+use Rattle.head_core.proofs.Runs.{put_crashes}
+use Rattle.head_core.proofs.transfers.mark_at.Goals as goal
+
+pub returns-in-Ok-mark : goal.returns-in-Ok-mark
+returns-in-Ok-mark g c = record {
+  ends = tt;
+  made = search rules;
+  told = λ h is. c.in-Ok-mark.ensures.told c.args.place h c.in-Ok.ensures.head (c.in-Ok.ensures.held ∙ is);
+  crash = put_crashes g.D.Drive c.args.place item.Mark _ _ _ c.in-Ok.ensures.held c.in-Ok.ensures.head
+      c.in-Ok.ensures.count.later c.in-Ok.ensures.crash c.in-Ok-mark.ensures.crash;
+}
+
+pub returns-in-Err-mark : goal.returns-in-Err-mark
+returns-in-Err-mark g c = record {
+  ends = tt;
+  made = search rules;
+  told = λ h is. c.in-Err-mark.ensures.told c.args.place h c.in-Ok.ensures.head (c.in-Ok.ensures.held ∙ is);
+  crash = put_crashes g.D.Drive c.args.place item.Mark _ _ _ c.in-Ok.ensures.held c.in-Ok.ensures.head
+      c.in-Ok.ensures.count.later c.in-Ok.ensures.crash c.in-Err-mark.ensures.crash;
+}
