@@ -2,8 +2,10 @@
 #![tactic(auto)]
 
 mod head;
+mod laws;
 mod transfers;
 mod work;
 
 pub use head::Head;
+pub use laws::{crashes_keep_what_stands_in_front, ops_keep_what_stands_in_front};
 pub use work::{StepDone, Work};
