@@ -54,12 +54,15 @@ impl<D: Drive> Head<D> {
     ///
     /// A failure tells the drive's count of faults before the step and after it. The head has to be located again
     /// then, which the next step does anyway.
-    pub fn step(&mut self, work: Work) -> StepDone
+    #[tactic(auto, using(crate::proofs::Reach::can_do_again, crate::proofs::Reach::can_read_again))]
+    pub fn step(&mut self, work: Work<'_>) -> StepDone
         requires { CanStep work (D.limits self.old.drive) (D.held self.old.drive) }
         ensures step { IsStep D.Drive work.entry result self.old.drive self.new.drive }
         ensures block { IsBlockAfter work.entry result self.old.block self.new.block }
         ensures found { (c : Cartridge) → D.held self.old.drive ≡ Some c
             → IsFound work.entry result self.new.block c }
+        // The same work can be asked again, however it ended.
+        ensures again { CanStep work.entry (D.limits self.new.drive) (D.held self.new.drive) }
     {
         match work {
             Work::Read(place) => read_at(&mut self.drive, place, &mut self.buffer),
