@@ -58,3 +58,30 @@ module _ {D : Type 0} (drive : Ghosts D) where
     room = subst (λ (l : Limits). at.pos < capacity at.part l) (sym step.made.limits) reach.room;
     within = subst (λ (h : Option Cartridge). IfSome h (λ c. at.pos ≤ length (items_of at.part c))) (sym step.looks.held) reach.within;
   }
+
+  -- the place behind a block or a mark that was written is in reach, where it lies below the capacity
+  next_in_reach : (at : Place) (a b : D) → drive.limits b ≡ drive.limits a → at.pos + 1 < capacity at.part (drive.limits a)
+      → IsInReach at (drive.limits a) (drive.held a) → (drive.held a ≡ None → drive.held b ≡ None)
+      → ((c : Cartridge) → drive.held a ≡ Some c → (d : Cartridge) × (drive.held b ≡ Some d)
+      × (IsWithin at c → length (items_of at.part d) ≡ at.pos + 1))
+      → IsInReach (next at) (drive.limits b) (drive.held b)
+  next_in_reach at a b limits room reach untold told = record {
+    room = subst (λ (l : Limits). at.pos + 1 < capacity at.part l) (sym limits) room;
+    within = told_on (λ c. IsWithin at c) (λ c. at.pos + 1 ≤ length (items_of at.part c)) a b (drive.held a) refl reach.within
+        untold
+        (λ (c : Cartridge) is. let now = told c is in (now.0, now.1, λ within. omega (arith, now.2 within)));
+  }
+
+  pub put_then : (at : Place) (bytes : List ℕ) (a b : D) → IsOpStep drive (op.Put at bytes) done.Wrote a b
+      → at.pos + 1 < capacity at.part (drive.limits a) → IsInReach at (drive.limits a) (drive.held a)
+      → IsInReach (next at) (drive.limits b) (drive.held b)
+  put_then at bytes a b step room reach = next_in_reach at a b step.made.limits room reach step.made.untold
+      (λ (c : Cartridge) is. let now = step.told c is in
+      (now.0, now.1, λ within. (ops_keep.put at bytes c now.0 within now.2).last))
+
+  pub mark_then : (at : Place) (a b : D) → IsOpStep drive (op.Mark at) done.Wrote a b
+      → at.pos + 1 < capacity at.part (drive.limits a) → IsInReach at (drive.limits a) (drive.held a)
+      → IsInReach (next at) (drive.limits b) (drive.held b)
+  mark_then at a b step room reach = next_in_reach at a b step.made.limits room reach step.made.untold
+      (λ (c : Cartridge) is. let now = step.told c is in
+      (now.0, now.1, λ within. (ops_keep.mark at c now.0 within now.2).last))

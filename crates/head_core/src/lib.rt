@@ -3,6 +3,8 @@
 
 mod head;
 mod laws;
+#[cfg(test)]
+mod tests;
 mod transfers;
 mod work;
 
