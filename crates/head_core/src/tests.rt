@@ -41,7 +41,12 @@ fn part(alloc: Global, letters: &[u8]) -> Result<List<Item>, NoMemory>
 
 // A head over a drive whose partitions have room for 1,000 items each. The index partition holds seven, the data
 // partition those of the letters.
-fn head(alloc: Global, dp: &[u8], fails: List<Listed>, passing: u64) -> Result<Head<MemDrive>, NoMemory>
+fn head(
+    alloc: Global,
+    dp: &[u8],
+    fails: List<Listed>,
+    passing: u64,
+) -> Result<Head<MemDrive>, NoMemory>
     requires { length dp.now ≤ 1000 }
     ensures ip { IfOk result (λ h. length h.drive.held.ip ≡ 7) }
     ensures dp { IfOk result (λ h. length h.drive.held.dp ≡ length dp.now) }
@@ -234,7 +239,7 @@ fn write_items<D: Drive>(
     requires reach { IsInReach (record { part = parts.Dp; pos = pos }) (D.limits head.old.drive)
         (D.held head.old.drive) }
     requires room { pos + 4 < capacity parts.Dp (D.limits head.old.drive) }
-    requires small { pos < 2 ^ 40 }
+    requires small { pos < 1000 }
 {
     if !put(head, alloc, at(pos), b'h', told)? {
         return Ok(false);
@@ -307,7 +312,9 @@ fn expect_read<D: Drive>(
     commands: u64,
 ) -> Result<(), Fail>
     requires { IsInReach (record { part = parts.Dp; pos = pos }) (D.limits head.old.drive) (D.held head.old.drive) }
-    ensures { IsInReach (record { part = parts.Dp; pos = pos }) (D.limits head.new.drive) (D.held head.new.drive) }
+    ensures limits { D.limits head.new.drive ≡ D.limits head.old.drive }
+    ensures again { IsInReach (record { part = parts.Dp; pos = pos }) (D.limits head.new.drive)
+        (D.held head.new.drive) }
 {
     let read = head.step(Work::Read(at(pos)));
     assert!(rt; read == end);
@@ -346,7 +353,9 @@ fn what_stands_at_a_place_is_read(rt: HostRuntime) -> Result<(), Fail> {
 }
 
 // A read of a block, a flush, and reads that fail at this command of a kind and then don't.
-fn expect_lost(rt: &impl Abort, alloc: Global, kind: Cmd, commands: u64) -> Result<(), Fail> {
+fn expect_lost(rt: &impl Abort, alloc: Global, kind: Cmd, commands: u64) -> Result<(), Fail>
+    requires { commands < 100 }
+{
     let mut head = head(alloc, b"c", listed(alloc, kind, 2)?, 99)?;
     expect_read(rt, &mut head, 0, StepDone::Read(Got::Block), b"c", 2)?;
     let failed = StepDone::Failed(Twin {
@@ -354,7 +363,14 @@ fn expect_lost(rt: &impl Abort, alloc: Global, kind: Cmd, commands: u64) -> Resu
         after: 1,
     });
     expect_read(rt, &mut head, 0, failed, b"", commands)?;
-    expect_read(rt, &mut head, 0, StepDone::Read(Got::Block), b"c", commands + 2)
+    expect_read(
+        rt,
+        &mut head,
+        0,
+        StepDone::Read(Got::Block),
+        b"c",
+        commands + 2,
+    )
 }
 
 #[test]
@@ -371,11 +387,12 @@ fn an_op_keeps_the_block_that_was_read(rt: HostRuntime) -> Result<(), Fail> {
     assert!(rt; head.block().is_empty());
     expect_read(&rt, &mut head, 0, StepDone::Read(Got::Block), b"c", 2)?;
     let mut told = String::new(alloc);
-    flush(&mut head, at(1), &mut told)?;
-    assert!(rt; head.block() == b"c".as_slice());
     put_once(&mut head, alloc, at(0), b'd', &mut told)?;
     assert!(rt; head.block() == b"c".as_slice());
-    expect_read(&rt, &mut head, 0, StepDone::Read(Got::Block), b"d", 7)
+    expect_read(&rt, &mut head, 0, StepDone::Read(Got::Block), b"d", 6)?;
+    flush(&mut head, at(1), &mut told)?;
+    assert!(rt; head.block() == b"d".as_slice());
+    Ok(())
 }
 
 // So many bytes, all the same.
