@@ -1,5 +1,5 @@
 -- What stands in front of an op stays.
-use Rattle.std.proofs.Common.{ℕ, ◌+◌, ◌-◌, ◌^◌, ◌≤◌, ◌<◌, ◌≡◌, ◌⊎◌, ◌∙◌, ⊎_elim, inl, inr, List, [], ◌∷◌, ◌++◌, take, length, get_or, Option, Some, refl, sym, ap, subst, arith}
+use Rattle.std.proofs.Common.{ℕ, ◌+◌, ◌-◌, ◌^◌, ◌≤◌, ◌≡◌, ◌⊎◌, ◌∙◌, ⊎_elim, inl, inr, List, [], ◌∷◌, ◌++◌, take, length, get_or, Some, refl, sym, ap, subst, arith}
 use Rattle.std.specs.Prelude.{slice_get}
 use Rattle.std.proofs.lemmas.List.{length-append, length-take-le, take-append-le, take_all}
 use Rattle.std.proofs.Math.Seq.{get_or-append_seam}
@@ -12,7 +12,7 @@ use Rattle.tape_types.specs.declared.cartridges.Part.TheVariants.{Ip, Dp}
 use Rattle.tape_types.specs.declared.cartridges.Place.{Place}
 use Rattle.tape_types.specs.declared.cartridges.Twin.{Twin}
 use Rattle.tape_types.specs.Cartridges.{items_of}
-use Rattle.tape_drive.specs.Commands.{IsBroken, IsCutShort, IsWritten, KeepsRest, VcrRose, item_at}
+use Rattle.tape_drive.specs.Commands.{IsBroken, IsCutShort, IsWritten, KeepsRest, VcrRose}
 use Rattle.tape_drive.specs.Crashes.{IsCut, WithinWrite}
 use Rattle.tape_layout.specs.declared.ops.Op.{Op}
 use Rattle.tape_layout.specs.declared.ops.Op.TheVariants as op

@@ -1,5 +1,5 @@
 -- Which places are in reach after a step.
-use Rattle.std.proofs.Common.{ℕ, ◌+◌, ◌≤◌, ◌<◌, ◌≡◌, ◌∙◌, List, take, length, Option, Some, None, refl, sym, ap, subst, arith}
+use Rattle.std.proofs.Common.{ℕ, ◌+◌, ◌≤◌, ◌<◌, ◌≡◌, ◌∙◌, List, length, Option, Some, None, refl, sym, ap, subst, arith}
 use Rattle.std.specs.Prelude.{IfSome}
 use Rattle.std.proofs.lemmas.List.{length-take, length-take-le}
 use Rattle.tape_types.specs.declared.cartridges.Cartridge.{Cartridge}
@@ -13,8 +13,8 @@ use Rattle.tape_layout.specs.declared.ops.Op.TheVariants as op
 use Rattle.tape_layout.specs.Ops.{place_of}
 use Rattle.head_core.specs.declared.work.StepDone.{StepDone}
 use Rattle.head_core.specs.declared.work.StepDone.TheVariants as done
-use Rattle.head_core.specs.Laws.{IsLast, IsWithin, KeepsFront, front_of}
-use Rattle.head_core.specs.Steps.{AfterOp, CanDo, IsInReach, IsOpStep, IsReadStep}
+use Rattle.head_core.specs.Laws.{IsWithin, front_of}
+use Rattle.head_core.specs.Steps.{CanDo, IsInReach, IsOpStep, IsReadStep}
 use Rattle.head_core.proofs.Fronts.{ops_keep}
 
 -- a cartridge whose front of a place is that of another one reaches as far

@@ -1,5 +1,5 @@
 -- What the definitions of a step say together.
-use Rattle.std.specs.Prelude.{ℕ, ◌+◌, ◌-◌, ◌^◌, ◌≤◌, ◌≡◌, List, take, length, Some}
+use Rattle.std.specs.Prelude.{ℕ, ◌+◌, ◌-◌, ◌^◌, ◌≤◌, ◌<◌, ◌≡◌, List, take, length, Some}
 use Rattle.tape_types.specs.declared.cartridges.Cartridge.{Cartridge}
 use Rattle.tape_types.specs.declared.cartridges.Item.{Item}
 use Rattle.tape_types.specs.declared.cartridges.Item.TheVariants as item
@@ -7,12 +7,13 @@ use Rattle.tape_types.specs.declared.cartridges.Place.{Place}
 use Rattle.tape_types.specs.declared.cartridges.Twin.{Twin}
 use Rattle.tape_types.specs.Cartridges.{items_of}
 use Rattle.tape_drive.specs.Commands.{KeepsRest, item_at}
+use Rattle.tape_drive.specs.declared.drive.Drive.{Ghosts}
 use Rattle.tape_layout.specs.declared.ops.Op.{Op}
 use Rattle.tape_layout.specs.declared.ops.Op.TheVariants as op
 use Rattle.tape_layout.specs.Ops.{place_of}
 use Rattle.head_core.specs.declared.work.StepDone.{StepDone}
 use Rattle.head_core.specs.declared.work.StepDone.TheVariants as done
-use Rattle.head_core.specs.Steps.{AfterOp, WithinOp}
+use Rattle.head_core.specs.Steps.{AfterOp, IsOpStep, WithinOp}
 
 -- a place is at most behind the last item
 abbrev pub IsWithin : Place → Cartridge → Type 0
@@ -59,3 +60,17 @@ pub record CrashesKeepFronts : Type 0 where
       → front_of (place_of o) image ≡ front_of (place_of o) held
   pub rest : (o : Op) (held before image : Cartridge) → WithinOp o held before image
       → KeepsRest (place_of o).part before image
+
+-- Where a flush succeeds on a drive that tells its cartridge, a crash from then on leaves that one, until the next step.
+abbrev pub FlushesMakeSure : {D : Type 0} → Ghosts D → Type 0
+FlushesMakeSure {D = D} drive = (at : Place) (old new : D) (c image : Cartridge)
+    → IsOpStep drive (op.Flush at) done.Flushed old new → drive.held old ≡ Some c → drive.commands new < 2 ^ 64 - 1
+    → drive.left_since new (drive.commands new) image → image ≡ c
+
+-- What stands in front of an op stays sure over its step, however it ends: where each image of a crash since a number of
+-- commands has the front as the cartridge has it, so has each image since that number after the step.
+abbrev pub FrontsStaySure : {D : Type 0} → Ghosts D → Type 0
+FrontsStaySure {D = D} drive = (o : Op) (end : StepDone) (old new : D) (c : Cartridge) (t : ℕ)
+    → IsOpStep drive o end old new → drive.held old ≡ Some c → IsWithin (place_of o) c → t ≤ drive.commands old
+    → ((image : Cartridge) → drive.left_since old t image → front_of (place_of o) image ≡ front_of (place_of o) c)
+    → (image : Cartridge) → drive.left_since new t image → front_of (place_of o) image ≡ front_of (place_of o) c

@@ -1,4 +1,6 @@
-ghost use Rattle.head_core.specs.Laws.{CrashesKeepFronts, OpsKeepFronts};
+ghost use Rattle.head_core.specs.Laws.{CrashesKeepFronts, FlushesMakeSure, FrontsStaySure, OpsKeepFronts};
+
+use tape_drive::Drive;
 
 /// An op that was written stands last at its place, and what stands in front of it stays, however the op ends.
 #[tactic(auto, using(crate::proofs::Fronts::ops_keep))]
@@ -11,4 +13,11 @@ pub fn ops_keep_what_stands_in_front()
 #[tactic(auto, using(crate::proofs::Fronts::crashes_keep))]
 pub fn crashes_keep_what_stands_in_front()
     ensures { CrashesKeepFronts }
+{}
+
+/// Over any drive that tells its cartridge: a flush makes it sure, and what stands in front of an op stays so over its
+/// step.
+pub fn what_is_sure_stays_sure<D: Drive>()
+    ensures flushed { FlushesMakeSure D.Drive }
+    ensures kept { FrontsStaySure D.Drive }
 {}

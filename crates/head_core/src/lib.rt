@@ -9,5 +9,7 @@ mod transfers;
 mod work;
 
 pub use head::Head;
-pub use laws::{crashes_keep_what_stands_in_front, ops_keep_what_stands_in_front};
+pub use laws::{
+    crashes_keep_what_stands_in_front, ops_keep_what_stands_in_front, what_is_sure_stays_sure,
+};
 pub use work::{StepDone, Work};
