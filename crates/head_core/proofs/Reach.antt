@@ -10,7 +10,7 @@ use Rattle.tape_types.specs.Cartridges.{capacity, items_of, next}
 use Rattle.tape_drive.specs.declared.drive.Drive.{Ghosts}
 use Rattle.tape_layout.specs.declared.ops.Op.{Op}
 use Rattle.tape_layout.specs.declared.ops.Op.TheVariants as op
-use Rattle.tape_layout.specs.Ops.{place_of}
+use Rattle.tape_layout.specs.Ops.{HasRoom, place_of}
 use Rattle.head_core.specs.declared.work.StepDone.{StepDone}
 use Rattle.head_core.specs.declared.work.StepDone.TheVariants as done
 use Rattle.head_core.specs.Laws.{IsWithin, front_of}
@@ -23,6 +23,15 @@ as_far at c d within same =
     let long : length (front_of at d) ≡ at.pos =
     ap (λ (l : List Item). length l) same ∙ length-take-le at.pos (items_of at.part c) within in
     omega (arith, long, length-take at.pos (items_of at.part d))
+
+-- an op that a layout gives, of a volume whose blocks have at most 1,048,576 bytes, can be done where its place is at most
+-- behind the last item
+pub can_do : (o : Op) (size : ℕ) (limits : Limits) (held : Option Cartridge) → HasRoom limits size o → size ≤ 1048576
+    → IfSome held (λ c. IsWithin (place_of o) c) → CanDo o limits held
+can_do (op.Put at bytes) size limits held room small within =
+    (record { room = room.0; within = within }, room.1, omega (arith, room.2, small))
+can_do (op.Mark at) size limits held room small within = record { room = room; within = within }
+can_do (op.Flush at) size limits held room small within = tt
 
 module _ {D : Type 0} (drive : Ghosts D) where
   -- what holds of the cartridge that a drive tells now, from the one that it told before

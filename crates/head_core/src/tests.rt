@@ -447,6 +447,12 @@ fn small_head(alloc: Global) -> Result<Head<MemDrive>, NoMemory>
     }
 }
 
+fn hand_over<T: Send>(value: T) -> T
+    ensures { result ≡ value }
+{
+    value
+}
+
 #[test]
 fn an_op_leaves_the_other_partition(rt: HostRuntime) -> Result<(), Fail> {
     let alloc = rt.alloc();
@@ -459,7 +465,7 @@ fn an_op_leaves_the_other_partition(rt: HostRuntime) -> Result<(), Fail> {
     put_once(&mut head, alloc, place, b'a', &mut told)?;
     flush(&mut head, place, &mut told)?;
     assert!(rt; told.as_str() == "wf" && head.commands() == 3);
-    let drive = head.into_drive();
+    let drive = hand_over(head).into_drive();
     let image = now(&drive)?;
     assert!(rt; text(alloc, &image.ip)?.as_str() == "bmbmb");
     assert!(rt; text(alloc, &image.dp)?.as_str() == "bmbmmbm");
