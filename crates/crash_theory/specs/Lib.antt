@@ -1,0 +1,7 @@
+pub mod Made
+pub mod Images
+pub mod Fine
+pub mod Plans
+pub mod Events
+pub mod Kept
+pub mod Starts
