@@ -1,2 +1,3 @@
-pub mod Pointing
-pub mod Fines
+pub mod Cut
+pub mod Growth
+pub mod Starts
