@@ -143,6 +143,6 @@ module _ (v : Volume) (old new : Trees) (more : GoesOn old new) where
       → space.changed ≡ false → IsSame new (least s.base) new.count
   still_covered s space h still unchanged j low high = ⊎_elim
       (λ (before : j < old.count). same_on (least s.base) old.count (omega arith) (h.covered unchanged) j low (omega (arith, before))
-          ∙ still old.count (omega arith) more.longer)
+      ∙ still old.count (omega arith) more.longer)
       (λ (later : old.count ≤ j). still j later high)
       (cases_lt j old.count)

@@ -47,6 +47,12 @@ pub record TellsIp (s : Made) : Type 0 where
 
 -- the index of the index partition stays ahead until a newer one is flushed
 pub record TellsAhead (index : Index) : Type 0 where
-  pub stays : (so_far (mounted (entry index 1 0) (Some (entry index 2 0))) (write_and_sync (entry index 3 2)) 4).base.ahead ≡ Some (entry index 2 0)
-  pub passed : (so_far (mounted (entry index 1 0) (Some (entry index 2 0))) (write_and_sync (entry index 3 2)) 5).base.ahead ≡ None
-  pub older : (so_far (mounted (entry index 1 0) (Some (entry index 2 0))) (write_and_sync (entry index 2 2)) 5).base.ahead ≡ Some (entry index 2 0)
+  pub stays :
+      (so_far (mounted (entry index 1 0) (Some (entry index 2 0))) (write_and_sync (entry index 3 2)) 4).base.ahead
+      ≡ Some (entry index 2 0)
+  pub passed :
+      (so_far (mounted (entry index 1 0) (Some (entry index 2 0))) (write_and_sync (entry index 3 2)) 5).base.ahead
+      ≡ None
+  pub older :
+      (so_far (mounted (entry index 1 0) (Some (entry index 2 0))) (write_and_sync (entry index 2 2)) 5).base.ahead
+      ≡ Some (entry index 2 0)

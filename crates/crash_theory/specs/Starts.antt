@@ -38,8 +38,8 @@ made_of c on_ip on_dp = record {
   };
 }
 
--- The premises: the cartridge has the volume's labels and stands for a tree, its index partition has one index at most, its notes are honest,
--- and nothing is pending since a number of commands that the drive had reached.
+-- The premises: the cartridge has the volume's labels and stands for a tree, its index partition has one index at
+-- most, its notes are honest, and nothing is pending since a number of commands that the drive had reached.
 pub record CanStart (v : Volume) (d : Moment) (since : ℕ) (tree : Tree) (generation : ℕ) : Type 0 where
   pub stands : Stands d.held v.facts tree generation
   pub labels : HasLabels d.held v.labels

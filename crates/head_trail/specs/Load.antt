@@ -25,4 +25,5 @@ IsSubmitted _ = ⊥
 
 -- Each step of the head takes one away at least, and no answer adds to it.
 abbrev pub StepsLowerTheLoad : Type 0
-StepsLowerTheLoad = (st : State) (e : Event) → allows st e ≡ true → (IsSubmitted e → ⊥) → load (after st e) + lowers e ≤ load st
+StepsLowerTheLoad = (st : State) (e : Event) → allows st e ≡ true → (IsSubmitted e → ⊥)
+    → load (after st e) + lowers e ≤ load st

@@ -34,9 +34,12 @@ pub fn the_definitions_tell_trails()
     ensures backwards { is_trail_from (with_requests 20 []) reads_backwards ≡ false }
     ensures picks_50 { is_least (request_key (dp 30) (request 3 50 2)) (keys (with_requests 30 three_requests)) ≡ true }
     ensures not_90 { is_least (request_key (dp 30) (request 1 90 0)) (keys (with_requests 30 three_requests)) ≡ false }
-    ensures then_90 { is_least (request_key (dp 51) (request 1 90 0)) (keys (with_requests 51 (request 1 90 0 ∷ request 2 20 1 ∷ []))) ≡ true }
-    ensures earlier_first { is_least (request_key (dp 30) (request 1 50 0)) (keys (with_requests 30 (request 1 50 0 ∷ request 2 50 1 ∷ []))) ≡ true }
-    ensures not_the_later { is_least (request_key (dp 30) (request 2 50 1)) (keys (with_requests 30 (request 1 50 0 ∷ request 2 50 1 ∷ []))) ≡ false }
+    ensures then_90 { is_least (request_key (dp 51) (request 1 90 0))
+        (keys (with_requests 51 (request 1 90 0 ∷ request 2 20 1 ∷ []))) ≡ true }
+    ensures earlier_first { is_least (request_key (dp 30) (request 1 50 0))
+        (keys (with_requests 30 (request 1 50 0 ∷ request 2 50 1 ∷ []))) ≡ true }
+    ensures not_the_later { is_least (request_key (dp 30) (request 2 50 1))
+        (keys (with_requests 30 (request 1 50 0 ∷ request 2 50 1 ∷ []))) ≡ false }
     ensures write_owned { owned failed_write ≡ (of_call 2, twin 0 1) ∷ [] }
     ensures drain_owned { owned failed_drain ≡ (of_session 1, twin 0 1) ∷ [] }
     ensures each_its_own { owned two_faults ≡ (of_call 2, twin 0 1) ∷ (of_call 3, twin 1 2) ∷ [] }
@@ -45,7 +48,9 @@ pub fn the_definitions_tell_trails()
     ensures sync_before_session { owned both_wait ≡ (of_call 3, twin 0 1) ∷ (of_session 2, twin 1 2) ∷ [] }
     ensures op_before_request { is_least (op_key (dp 30) (put_at (dp 50))) (keys (with_op (dp 30) (dp 50))) ≡ true }
     ensures request_after_op { is_least (request_key (dp 30) (request 1 50 0)) (keys (with_op (dp 30) (dp 50))) ≡ false }
-    ensures same_partition_first { is_least (request_key (ip 3) (record { ticket = 1; place = ip 2; arrival = 0 })) (op_key (ip 3) (put_at (dp 5)) ∷ request_key (ip 3) (record { ticket = 1; place = ip 2; arrival = 0 }) ∷ []) ≡ true }
+    ensures same_partition_first { is_least (request_key (ip 3) (record { ticket = 1; place = ip 2; arrival = 0 }))
+        (op_key (ip 3) (put_at (dp 5)) ∷ request_key (ip 3) (record { ticket = 1; place = ip 2; arrival = 0 })
+        ∷ []) ≡ true }
 {}
 
 /// A trail is a list of which each event may come in the state that the events before it leave.

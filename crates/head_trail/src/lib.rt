@@ -3,4 +3,6 @@
 
 mod examples;
 
-pub use examples::{each_step_lowers_the_load, the_definitions_tell_trails, trails_allow_each_event};
+pub use examples::{
+    each_step_lowers_the_load, the_definitions_tell_trails, trails_allow_each_event,
+};

@@ -6,8 +6,8 @@ use Rattle.tape_meaning.specs.Carried.{Carried}
 use Rattle.tape_meaning.specs.declared.mounted.Mounted.{Mounted}
 use Rattle.session_script.specs.declared.logs.Ack.{Ack}
 
--- What a cartridge stands for, and what is asked of it beside: it is said of the cartridge alone, by its volume's labels,
--- content, indexes and notes.
+-- What a cartridge stands for, and what is asked of it beside: it is said of the cartridge alone, by its volume's
+-- labels, content, indexes and notes.
 pub record Meaning : Type 1 where
   pub Mounts : Cartridge → Mounted → Type 0
   pub Reads : Cartridge → Carried → Tree → ℕ → Type 0
@@ -26,7 +26,8 @@ pub record Leavings : Type 1 where
 module _ (m : Meaning) where
   open m use {Stands, HasOneIndex, IsHonest, IsConsistent, HasNotes}
 
-  -- The cartridge stands for the tree after some count of placements, of at least so many and at most so many, with what is carried over.
+  -- The cartridge stands for the tree after some count of placements, of at least so many and at most so many, with
+  -- what is carried over.
   pub record StandsWithin (facts : Carried) (tree : ℕ → Tree) (least most : ℕ) (c : Cartridge) : Type 0 where
     pub count : ℕ
     pub not_before : least ≤ count
@@ -39,16 +40,19 @@ module _ (m : Meaning) where
     pub one_index : HasOneIndex c
     pub honest : IsHonest c
 
-  -- Every image that a crash may have left since a number stands for the tree after some front of the history, and is sound;
-  -- and every image that it may have left since an acknowledgement has all that was placed before the sync.
-  pub record SurvivesCrashes (facts : Carried) (tree : ℕ → Tree) (placed : ℕ) (acks : List Ack) (leaves : Leavings) (start : ℕ) : Type 0 where
+  -- Every image that a crash may have left since a number stands for the tree after some front of the history, and is
+  -- sound; and every image that it may have left since an acknowledgement has all that was placed before the sync.
+  pub record SurvivesCrashes (facts : Carried) (tree : ℕ → Tree) (placed : ℕ) (acks : List Ack) (leaves : Leavings)
+      (start : ℕ) : Type 0 where
     pub always : (image : Cartridge) → leaves.since start image → StandsWithin facts tree 0 placed image
     pub sound : (image : Cartridge) → leaves.since start image → IsSound image
-    pub acknowledged : (ack : Ack) → Contains acks ack → ack.command < 2 ^ 64 - 1 → (image : Cartridge) → leaves.since ack.command image → StandsWithin facts tree ack.place placed image
+    pub acknowledged : (ack : Ack) → Contains acks ack → ack.command < 2 ^ 64 - 1 → (image : Cartridge)
+        → leaves.since ack.command image → StandsWithin facts tree ack.place placed image
 
-  -- After a close: the cartridge stands for the tree of the whole history, both partitions end with their last indexes, the notes
-  -- say so, and a crash leaves it as it is.
-  pub record IsClosed (facts : Carried) (tree : Tree) (generation : ℕ) (c : Cartridge) (leaves : Leavings) : Type 0 where
+  -- After a close: the cartridge stands for the tree of the whole history, both partitions end with their last
+  -- indexes, the notes say so, and a crash leaves it as it is.
+  pub record IsClosed (facts : Carried) (tree : Tree) (generation : ℕ) (c : Cartridge)
+      (leaves : Leavings) : Type 0 where
     pub stands : Stands c facts tree generation
     pub consistent : IsConsistent c
     pub notes : HasNotes c

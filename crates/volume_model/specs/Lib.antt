@@ -4,6 +4,7 @@ pub mod Acks
 pub mod Faults
 pub mod Marks
 pub mod Crash
+pub mod Meanings
 pub mod Served
 pub mod Submits
 pub mod Steps

@@ -42,8 +42,8 @@ pub record Drive : Type 1 where
   pub faults : ℕ
   pub leavings : Leavings
 
--- what no call changes: the script, the tree at the start, what was found at the mount, the drive as it was at the start, the
--- one moment of the clock where it has one, and the number of commands since which a crash is spoken of
+-- what no call changes: the script, the tree at the start, what was found at the mount, the drive as it was at the
+-- start, the one moment of the clock where it has one, and the number of commands since which a crash is spoken of
 pub record Fixed (D : Type 0) : Type 0 where
   pub script : List ScriptLine
   pub tree : Tree
@@ -52,8 +52,9 @@ pub record Fixed (D : Type 0) : Type 0 where
   pub moment : Option Moment
   pub since : ℕ
 
--- A reply stands at the place of its placement once it is there; a fault is kept for a session that drained. Placement on
--- the index partition is on from a place on. The clock gives this moment next, where it tells. The ops are those that stand.
+-- A reply stands at the place of its placement once it is there; a fault is kept for a session that drained.
+-- Placement on the index partition is on from a place on. The clock gives this moment next, where it tells. The ops
+-- are those that stand.
 pub record View (D : Type 0) : Type 0 where
   pub fixed : Fixed D
   pub drive : D
@@ -98,12 +99,15 @@ AreStanding g on history events ops = ops ≡ drop (after_all events).done (admi
 abbrev pub is_waiting : State → ℕ → Bool
 is_waiting st ticket = list_any (λ r. r.ticket == ticket) st.requests || list_any (λ s. s.ticket == ticket) st.syncs
 
--- The marks are those of the script's sessions. They name each placement with its place, and each reply that was handed out is
--- the one that stands at its place. A session drains as the events say, or has a fault kept for it, which is one.
-pub record AreMarks (sessions : ℕ) (history : List Placed) (replies : List (Option Reply)) (st : State) (kept : List (ℕ × Twin)) (marks : List Mark) : Type 0 where
+-- The marks are those of the script's sessions. They name each placement with its place, and each reply that was
+-- handed out is the one that stands at its place. A session drains as the events say, or has a fault kept for it,
+-- which is one.
+pub record AreMarks (sessions : ℕ) (history : List Placed) (replies : List (Option Reply)) (st : State)
+    (kept : List (ℕ × Twin)) (marks : List Mark) : Type 0 where
   pub sessions_are : All (λ m. (1 ≤ m.who) × (m.who ≤ sessions)) marks
   pub places : (who : ℕ) → places_of who marks ≡ placed_by who history
-  pub hands : (who k : ℕ) (reply : Reply) → Contains (hands_of who marks) (k, reply) → slice_get replies k ≡ Some (Some reply)
+  pub hands : (who k : ℕ) (reply : Reply) → Contains (hands_of who marks) (k, reply)
+      → slice_get replies k ≡ Some (Some reply)
   pub drains : (who : ℕ) → phase who marks ≡ draining → (drains_now st who ≡ true) ⊎ (length (kept_for who kept) ≡ 1)
   pub drained : (who : ℕ) → (drains_now st who ≡ true) ⊎ (1 ≤ length (kept_for who kept)) → phase who marks ≡ draining
 
@@ -122,7 +126,8 @@ pub record CanTell (reads : Cartridge → Type 0) (since : ℕ) (first : Drive) 
 
 -- what the definitions of space start from: the script, the tree and the mount, and the capacities of the drive
 abbrev pub given_of : List ScriptLine → Tree → Mounted → Drive → Given
-given_of script tree mounted first = record { calls = calls_of script; tree = tree; mounted = facts_of mounted; limits = first.limits }
+given_of script tree mounted first = record
+    { calls = calls_of script; tree = tree; mounted = facts_of mounted; limits = first.limits }
 
 abbrev pub given : {D : Type 0} → View D → Drive → Given
 given v first = given_of v.fixed.script v.fixed.tree v.fixed.mounted first
@@ -130,8 +135,9 @@ given v first = given_of v.fixed.script v.fixed.tree v.fixed.mounted first
 abbrev pub tree_after : {D : Type 0} → View D → ℕ → Tree
 tree_after v k = replay (calls_of v.fixed.script) v.fixed.tree (take k v.history)
 
--- What is true over every drive: one history so far, with the moments of the clock where it has one; the events are a trail,
--- whose syncs are those that are done, and whose faults those that are told; the acks are those of the syncs; the marks tell of each session.
+-- What is true over every drive: one history so far, with the moments of the clock where it has one; the events are a
+-- trail, whose syncs are those that are done, and whose faults those that are told; the acks are those of the syncs;
+-- the marks tell of each session.
 pub record IsOrderly {D : Type 0} (first now : Drive) (v : View D) : Type 0 where
   pub placed : IsPlacedSoFar (calls_of v.fixed.script) v.history
   pub moments : IfSome v.fixed.moment (λ m. All (λ p. p.at ≡ m) v.history)
@@ -146,17 +152,22 @@ pub record IsOrderly {D : Type 0} (first now : Drive) (v : View D) : Type 0 wher
   pub limits : now.limits ≡ first.limits
   pub untold : first.held ≡ None → now.held ≡ None
 
--- What is true where the drive told a cartridge that reads as the tree: the replies are those of the tree or caused, and the
--- ops that were queued are those that the history admits, with the bytes that it admits.
+-- What is true where the drive told a cartridge that reads as the tree: the replies are those of the tree or caused,
+-- and the ops that were queued are those that the history admits, with the bytes that it admits.
 pub record IsTrue {D : Type 0} (first : Drive) (v : View D) : Type 0 where
   pub replies : AreReplies (given v first) v.on v.history v.events v.replies
   pub ops : filter_map queued v.events ≡ map place_of (admitted (given v first) v.on v.history)
   pub standing : AreStanding (given v first) v.on v.history v.events v.ops
 
--- The volume's own invariant as its callers see it. What a crash leaves is said where the cartridge stood for the tree and was
--- sound at the start.
+-- The volume's own invariant as its callers see it. What a crash leaves is said where the cartridge stood for the
+-- tree and was sound at the start.
 pub record IsServed {D : Type 0} (m : Meaning) (first now : Drive) (v : View D) : Type 0 where
   pub orderly : IsOrderly first now v
-  pub truly : CanTell (λ c. m.Reads c (carried v.fixed.mounted.index) v.fixed.tree v.fixed.mounted.newest) v.fixed.since first → IsTrue first v
-  pub crash : CanTell (λ c. m.Stands c (carried v.fixed.mounted.index) v.fixed.tree v.fixed.mounted.newest × IsSound m c) v.fixed.since first
-      → SurvivesCrashes m (carried v.fixed.mounted.index) (tree_after v) (length v.history) v.acks now.leavings v.fixed.since
+  pub truly : CanTell
+      (λ c. m.Reads c (carried v.fixed.mounted.index) v.fixed.tree v.fixed.mounted.newest) v.fixed.since first
+      → IsTrue first v
+  pub crash : CanTell
+      (λ c. m.Stands c (carried v.fixed.mounted.index) v.fixed.tree v.fixed.mounted.newest × IsSound m c)
+      v.fixed.since first
+      → SurvivesCrashes m (carried v.fixed.mounted.index) (tree_after v)
+      (length v.history) v.acks now.leavings v.fixed.since

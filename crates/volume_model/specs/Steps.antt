@@ -35,11 +35,13 @@ is_step e = is_some (step_to e)
 -- a step of the head, and behind it the answers of the syncs that it was the last to wait for; or no event
 pub data AreOfStep : List Event → Type 0 where
   no_step : AreOfStep []
-  one_step : (e : Event) (answers : List Event) → is_step e ≡ true → All (λ a. is_answer a ≡ true) answers → AreOfStep (e ∷ answers)
+  one_step : (e : Event) (answers : List Event) → is_step e ≡ true → All (λ a. is_answer a ≡ true) answers
+      → AreOfStep (e ∷ answers)
 
--- The counts of the drive rise by what one step makes, which is a command at least, and never fall; without a step the drive is
--- as it was.
-pub record StepCounts {D : Type 0} (most : ℕ) (before now : Drive) (old new : View D) (added : List Event) : Type 0 where
+-- The counts of the drive rise by what one step makes, which is a command at least, and never fall; without a step
+-- the drive is as it was.
+pub record StepCounts {D : Type 0} (most : ℕ) (before now : Drive) (old new : View D)
+    (added : List Event) : Type 0 where
   pub still : steps added ≡ 0 → new.drive ≡ old.drive
   pub later : before.commands ≤ now.commands
   pub at_least : min (before.commands + steps added) (2 ^ 64 - 1) ≤ now.commands
@@ -96,7 +98,8 @@ on_after old added = by old.on
 -- the replies that were there stay
 pub record KeepsReplies {D : Type 0} (old new : View D) : Type 0 where
   pub count : length new.replies ≡ length old.replies
-  pub each : (k : ℕ) (reply : Reply) → slice_get old.replies k ≡ Some (Some reply) → slice_get new.replies k ≡ Some (Some reply)
+  pub each : (k : ℕ) (reply : Reply) → slice_get old.replies k ≡ Some (Some reply)
+      → slice_get new.replies k ≡ Some (Some reply)
 
 -- nothing is placed, and a step may bring the reply of a read or a sync that waits
 pub record OnlyAnswers {D : Type 0} (old new : View D) : Type 0 where
@@ -120,7 +123,8 @@ IsTurn new ticket added (turns.Ready reply) = slice_get new.replies ticket ≡ S
 IsTurn new ticket added turns.More = (slice_get new.replies ticket ≡ Some None) × (steps added ≡ 1)
 
 -- A turn of a session that waits for a ticket. Where the reply is there it makes no step.
-pub record Turns {D : Type 0} (most : ℕ) (before now : Drive) (old new : View D) (who ticket : ℕ) (answer : Turn) : Type 0 where
+pub record Turns {D : Type 0} (most : ℕ) (before now : Drive) (old new : View D) (who ticket : ℕ)
+    (answer : Turn) : Type 0 where
   pub fixed : new.fixed ≡ old.fixed
   pub history : new.history ≡ old.history
   pub next : new.next ≡ old.next
@@ -144,8 +148,10 @@ abbrev pub IsDrained : {D : Type 0} → View D → View D → ℕ → List Event
 IsDrained old new who made (drained.Fault counts) =
     (kept_for who (old.kept ++ drain_faults old made) ≡ counts ∷ [])
     × Places old new who (length (places_of who old.marks)) fates.Void (Some (replies.Fault counts))
-IsDrained old new who made drained.Room = (kept_for who (old.kept ++ drain_faults old made) ≡ []) × (standing_ops new ≤ 64) × OnlyAnswers old new
-IsDrained old new who made drained.More = (kept_for who new.kept ≡ []) × (64 < standing_ops new) × (steps made ≡ 1) × OnlyAnswers old new
+IsDrained old new who made drained.Room = (kept_for who (old.kept ++ drain_faults old made) ≡ [])
+    × (standing_ops new ≤ 64) × OnlyAnswers old new
+IsDrained old new who made drained.More = (kept_for who new.kept ≡ []) × (64 < standing_ops new) × (steps made ≡ 1)
+    × OnlyAnswers old new
 
 -- the event with which a session rests
 abbrev pub rest_of : ℕ → Drained → List Event
@@ -154,7 +160,8 @@ rest_of who drained.More = []
 rest_of who (drained.Fault counts) = []
 
 -- A turn of a session that drains. Its write is placed void with the fault that it owns.
-pub record DrainsOnce {D : Type 0} (most : ℕ) (before now : Drive) (old new : View D) (who : ℕ) (answer : Drained) : Type 0 where
+pub record DrainsOnce {D : Type 0} (most : ℕ) (before now : Drive) (old new : View D) (who : ℕ)
+    (answer : Drained) : Type 0 where
   pub fixed : new.fixed ≡ old.fixed
   pub made : List Event
   pub adds : Adds now old new (made ++ rest_of who answer)

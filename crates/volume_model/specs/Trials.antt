@@ -37,7 +37,11 @@ abbrev pub path : List (List ℕ)
 path = codes "a" ∷ []
 
 abbrev pub with_a : Moment → List ℕ → Tree
-with_a at bytes = record { highest = 2; nodes = fin.insert (fin.insert fin.empty [] (new_node kinds.Dir 1 at)) path (new_node (kinds.File (map Some bytes)) 2 at) }
+with_a at bytes = record {
+  highest = 2;
+  nodes = fin.insert (fin.insert fin.empty [] (new_node kinds.Dir 1 at)) path
+      (new_node (kinds.File (map Some bytes)) 2 at);
+}
 
 abbrev pub write : List ℕ → Call
 write bytes = Write path 0 bytes
@@ -70,7 +74,8 @@ abbrev pub placed : Moment → ℕ → ℕ → Fate → Placed
 placed at who nth fate = record { who = who; nth = nth; at = at; fate = fate }
 
 abbrev pub four_done : Moment → List Placed
-four_done at = placed at 1 0 fates.Done ∷ placed at 1 1 fates.Done ∷ placed at 1 2 fates.Done ∷ placed at 1 3 fates.Done ∷ []
+four_done at = placed at 1 0 fates.Done ∷ placed at 1 1 fates.Done ∷ placed at 1 2 fates.Done
+    ∷ placed at 1 3 fates.Done ∷ []
 
 -- the replies of a run with one sync and a read
 abbrev pub sync_replies : List Reply
@@ -128,7 +133,12 @@ calls_of_one calls who = cond (who == 1) calls []
 
 -- a small volume with an empty file, and one session with these calls
 abbrev pub small_volume : Moment → List Call → Given
-small_volume at calls = record { calls = λ who. cond (who == 1) calls []; tree = with_a at []; mounted = empty_volume at; limits = record { cap_ip = 64; cap_dp = 64 } }
+small_volume at calls = record {
+  calls = λ who. cond (who == 1) calls [];
+  tree = with_a at [];
+  mounted = empty_volume at;
+  limits = record { cap_ip = 64; cap_dp = 64 };
+}
 
 -- ---- a crash, where a cartridge tells by its volume change reference alone which tree it stands for
 
@@ -159,7 +169,8 @@ honest_below n = record by_reference { IsHonest = λ c. c.vcr < n }
 abbrev pub alike_below : ℕ → Meaning
 alike_below n = record by_reference { AreAlike = λ c facts tree generation. c.vcr < n }
 
--- up to the 33rd command a crash leaves the first cartridge or the one after two placements, and since the 34th the latter alone
+-- up to the 33rd command a crash leaves the first cartridge or the one after two placements, and since the 34th the
+-- latter alone
 abbrev pub flushed_at_34 : Leavings
 flushed_at_34 = record {
   now = λ image. image ≡ cartridge 2;
@@ -170,28 +181,42 @@ flushed_at_34 = record {
 
 -- the same with blocks of 4 bytes
 abbrev pub with_small_blocks : Moment → List Call → Given
-with_small_blocks at calls = record { calls = λ who. cond (who == 1) calls []; tree = with_a at []; mounted = small_blocks (empty_volume at); limits = record { cap_ip = 64; cap_dp = 64 } }
+with_small_blocks at calls = record {
+  calls = λ who. cond (who == 1) calls [];
+  tree = with_a at [];
+  mounted = small_blocks (empty_volume at);
+  limits = record { cap_ip = 64; cap_dp = 64 };
+}
   where
     small_blocks : MountFacts → MountFacts
     small_blocks m = record m { label = record m.label { block = 4 } }
 
 -- three writes that fill the partition but for its reserve, and one of a byte
 abbrev pub filling : List Call
-filling = Write path 0 (replicate 64 97) ∷ Write path 64 (replicate 64 98) ∷ Write path 128 (replicate 52 99) ∷ Write path 180 (100 ∷ []) ∷ []
+filling = Write path 0 (replicate 64 97) ∷ Write path 64 (replicate 64 98) ∷ Write path 128 (replicate 52 99)
+    ∷ Write path 180 (100 ∷ []) ∷ []
 
 abbrev pub last_void : Moment → List Placed
-last_void at = placed at 1 0 fates.Done ∷ placed at 1 1 fates.Done ∷ placed at 1 2 fates.Done ∷ placed at 1 3 fates.Void ∷ []
+last_void at = placed at 1 0 fates.Done ∷ placed at 1 1 fates.Done ∷ placed at 1 2 fates.Done
+    ∷ placed at 1 3 fates.Void ∷ []
 
 -- a volume whose policy puts every file on the index partition, where that isn't on yet
 abbrev pub with_policy : Moment → List Call → Given
-with_policy at calls = record { calls = λ who. cond (who == 1) calls []; tree = with_a at []; mounted = chosen (empty_volume at); limits = record { cap_ip = 64; cap_dp = 64 } }
+with_policy at calls = record {
+  calls = λ who. cond (who == 1) calls [];
+  tree = with_a at [];
+  mounted = chosen (empty_volume at);
+  limits = record { cap_ip = 64; cap_dp = 64 };
+}
   where
     chosen : MountFacts → MountFacts
     chosen m = record m { ip_on = false; index = record m.index { policy = Some record { size = 1000; names = [] } } }
 
 -- a volume with blocks of 4 bytes and much space, on which a session writes 65 blocks and then a byte
 abbrev pub long_volume : Moment → Given
-long_volume at = record (with_small_blocks at (Write path 0 (replicate 260 97) ∷ Write path 260 (100 ∷ []) ∷ [])) { limits = record { cap_ip = 400; cap_dp = 400 } }
+long_volume at = record
+    (with_small_blocks at (Write path 0 (replicate 260 97) ∷ Write path 260 (100 ∷ []) ∷ []))
+    { limits = record { cap_ip = 400; cap_dp = 400 } }
 
 -- one op is drained before the second write
 abbrev pub drained_by_one : List Event

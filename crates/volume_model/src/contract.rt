@@ -74,32 +74,37 @@ pub trait Serve {
         requires mount { IsMount (seen drive).limits mounted }
         requires reached { since.value ≤ (seen drive).commands }
         ensures err { IfErr result (λ k. (k.drive ≡ drive) × (k.clock ≡ clock)) }
-        ensures ok { IfOk result (λ v. Starts meaning (seen drive) mounted drive script since.value (next clock) (one clock) (view v)) }
+        ensures ok { IfOk result
+            (λ v. Starts meaning (seen drive) mounted drive script since.value (next clock) (one clock) (view v)) }
         ensures served { IfOk result (λ v. IsServed meaning (seen drive) (seen drive) (view v)) };
 
     /// Places the next call of a session.
     fn submit(&mut self, who: u16, nth: u32) -> Submitted
         requires { CanSubmit (view self.old) who nth }
         ensures served { IsServed meaning (seen (view self.new).fixed.first) (seen (view self.new).drive) (view self.new) }
-        ensures submits { Submits (seen (view self.old).fixed.first) (seen (view self.new).drive) (view self.old) (view self.new) who nth result };
+        ensures submits { Submits (seen (view self.old).fixed.first) (seen (view self.new).drive) (view self.old)
+            (view self.new) who nth result };
 
     /// Makes a head step for a session that waits, unless its reply is there.
     fn turn(&mut self, ticket: u64) -> Turn
         requires { (who : ℕ) × (phase who (view self.old).marks ≡ waits ticket) }
         ensures served { IsServed meaning (seen (view self.new).fixed.first) (seen (view self.new).drive) (view self.new) }
         ensures turns { (who : ℕ) → phase who (view self.old).marks ≡ waits ticket
-            → Turns most (seen (view self.old).drive) (seen (view self.new).drive) (view self.old) (view self.new) who ticket result };
+            → Turns most (seen (view self.old).drive) (seen (view self.new).drive) (view self.old)
+            (view self.new) who ticket result };
 
     /// Makes a head step for a session that drains, unless there is room.
     fn drain_turn(&mut self, who: u16) -> Drained
         requires { phase who (view self.old).marks ≡ draining }
         ensures served { IsServed meaning (seen (view self.new).fixed.first) (seen (view self.new).drive) (view self.new) }
-        ensures drains { DrainsOnce most (seen (view self.old).drive) (seen (view self.new).drive) (view self.old) (view self.new) who result };
+        ensures drains { DrainsOnce most (seen (view self.old).drive) (seen (view self.new).drive) (view self.old)
+            (view self.new) who result };
 
     /// Closes a volume in which nothing waits.
     fn close(self) -> Closed<Self::Device>
         requires { NothingWaits (greatest_session (view self).fixed.script) (view self).marks }
-        ensures { Closes meaning (seen (view self).fixed.first) (seen (view self).drive) (seen result.drive) (view self) result.drive result.log result.outcome result.steps result.travel result.nodes };
+        ensures { Closes meaning (seen (view self).fixed.first) (seen (view self).drive) (seen result.drive)
+            (view self) result.drive result.log result.outcome result.steps result.travel result.nodes };
 
     /// Takes a volume apart in which nothing was placed.
     fn part(self) -> Kept<Self::Device, Self::Watch>

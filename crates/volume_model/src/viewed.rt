@@ -3,8 +3,8 @@ use plain_tree::Placed;
 use session_script::{Ack, Event, ScriptLine};
 use std::marker::Model;
 use std::snapshot::Snapshot;
-use tape_types::List;
 use tape_meaning::Mounted;
+use tape_types::List;
 
 /// What a volume keeps of what contracts see of it. It shows that this is a value that a type can have as its meaning.
 pub struct Viewed<D> {
@@ -32,7 +32,14 @@ impl<D> Model for Viewed<D> {
     ghost coded = { Prim.hlevel (codes, fin.code {R = path_cmp} (coded_list (coded_list coded_ℕ)) node.the_row.coded) };
 
     ghost view = { λ a. record {
-      fixed = record { script = a.script; tree = record { highest = 0; nodes = fin.empty }; mounted = a.mounted; first = a.first.value; moment = None; since = a.since.value };
+      fixed = record {
+        script = a.script;
+        tree = record { highest = 0; nodes = fin.empty };
+        mounted = a.mounted;
+        first = a.first.value;
+        moment = None;
+        since = a.since.value;
+      };
       drive = a.drive;
       next = None;
       history = a.history;
