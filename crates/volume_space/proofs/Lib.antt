@@ -3,3 +3,4 @@ pub mod TreeLaw
 pub mod SpaceFacts
 pub mod IndexFacts
 pub mod HistoryFacts
+pub mod ToldValue

@@ -1,5 +1,5 @@
 -- What the definitions of space say together.
-use Rattle.std.specs.Prelude.{◌≡◌, ℕ, ◌+◌, ◌++◌, Bool, List, take, Option}
+use Rattle.std.specs.Prelude.{◌≡◌, ℕ, ◌+◌, ◌++◌, Bool, List, take, Option, Some}
 use Rattle.tape_types.specs.declared.moments.Moment.{Moment}
 use Rattle.tape_types.specs.declared.cartridges.Part.{Part}
 use Rattle.tape_types.specs.declared.cartridges.Part.TheVariants.{Ip, Dp}
@@ -8,9 +8,13 @@ use Rattle.plain_tree.specs.History.{replay}
 use Rattle.plain_tree.specs.declared.calls.Call.{Call}
 use Rattle.plain_tree.specs.declared.calls.Fate.TheVariants as fates
 use Rattle.plain_tree.specs.declared.calls.Placed.{Placed}
+use Rattle.index_model.specs.Canonical.{canonical}
+use Rattle.index_model.specs.Values.{IndexValue, Tells}
+use Rattle.index_model.specs.declared.indexes.Index.{Index}
 use Rattle.tape_layout.specs.declared.ops.Op.{Op}
 use Rattle.tape_layout.specs.Admissions.{Admission, close_admission, data_admission, index_admission}
 use Rattle.tape_layout.specs.Ops.{construct, end_of}
+use Rattle.volume_space.specs.Files.{canon, value_of}
 use Rattle.volume_space.specs.Space.{Ask, Rules, Space, after, after_close, index, index_need, limit_of, need_of, nothing, ops_of, part_for, plan_of, store}
 use Rattle.volume_space.specs.Standing.{Given, Standing, after_done, after_placed, ask_of, standing}
 
@@ -54,3 +58,8 @@ pub record AreStill : Type 0 where
   pub void : (g : Given) (on : Bool) (st : Standing) (p : Placed) → p.fate ≡ fates.Void → after_placed g on st p ≡ st
   pub nothing_asked : (g : Given) (on : Bool) (st : Standing) (call : Call) (at : Moment)
       → ask_of g st call at ≡ nothing → after_done g on st call at ≡ st
+
+-- the value of an index that tells one is that value, and its text is the one text of that
+pub record ValuesAreTold : Type 0 where
+  pub value : (index : Index) (v : IndexValue) → Tells index v → value_of index ≡ Some v
+  pub text : (index : Index) (v : IndexValue) → Tells index v → canon index ≡ canonical v

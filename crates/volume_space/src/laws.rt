@@ -1,4 +1,4 @@
-ghost use Rattle.volume_space.specs.Laws.{AreSteps, AreStill, TreesAreReplays};
+ghost use Rattle.volume_space.specs.Laws.{AreSteps, AreStill, TreesAreReplays, ValuesAreTold};
 
 /// What a layout admits is one step of the space.
 #[tactic(auto, using(crate::proofs::Steps::are_steps))]
@@ -16,4 +16,10 @@ pub fn trees_are_replays()
 #[tactic(auto, using(crate::proofs::Steps::are_still))]
 pub fn nothing_asked_is_no_step()
     ensures { AreStill }
+{}
+
+/// The value of an index, as it is gathered from the nodes by their parents, is the one that the index tells.
+#[tactic(auto, using(crate::proofs::ToldValue::values_are_told))]
+pub fn values_are_told()
+    ensures { ValuesAreTold }
 {}

@@ -1,0 +1,9 @@
+pub mod Made
+pub mod Images
+pub mod Fine
+pub mod Plans
+pub mod Events
+pub mod Kept
+pub mod Starts
+pub mod Worked
+pub mod Examples

@@ -1,0 +1,47 @@
+-- The index of a sync (LTFS 2.4 on the index and on index constructs).
+use Rattle.std.specs.Prelude.{◌≡◌, ℕ, ◌+◌, false, List, codes, Option, Some, Result, Ok, Err}
+use Rattle.std.specs.Option.{option_map}
+use Rattle.tape_types.specs.declared.cartridges.Place.{Place}
+use Rattle.tape_types.specs.declared.moments.Moment.{Moment}
+use Rattle.index_model.specs.declared.indexes.Index.{Index}
+use Rattle.file_tree.specs.Carried.{index_of_tree}
+use Rattle.file_tree.specs.Mounts.{Letters}
+use Rattle.file_tree.specs.Tree.{FileTree}
+use Rattle.file_tree.specs.declared.carried.Heading.{Heading}
+use Rattle.tape_layout.specs.Admissions.{IsAdmitted, index_admission}
+use Rattle.tape_layout.specs.Plans.{Plan}
+use Rattle.tape_layout.specs.declared.errors.AdmitErr.{AdmitErr}
+use Rattle.volume_space.specs.Files.{canon}
+use Rattle.volume_sync.specs.declared.frames.Frame.{Frame}
+
+abbrev pub letters_of : Frame → Letters
+letters_of f = (f.label.index, f.label.dpart)
+
+-- how the index of a sync is headed: it stands behind the mark at this end of the data partition, is of the next generation, and points back
+-- to the last index that was admitted there
+abbrev pub sync_heading : Frame → (end : ℕ) → Moment → Heading
+sync_heading f end at = record {
+  creator = codes "ltfs_server 1.0.0";
+  uuid = f.label.uuid;
+  generation = f.generation + 1;
+  updated = at;
+  here = record { letter = f.label.dpart; block = end + 1 };
+  back = option_map (λ block. record { letter = f.label.dpart; block = block }) f.last_dp;
+}
+
+-- the index of a tree at a moment
+abbrev pub sync_index : Frame → FileTree → (end : ℕ) → Moment → Index
+sync_index f tree end at = index_of_tree (letters_of f) (sync_heading f end at) f.carried tree
+
+-- once it is admitted, with its first block at a place
+abbrev pub with_sync : Frame → Place → Frame
+with_sync f place = record f { generation = f.generation + 1; last_dp = Some place.pos; changed = false }
+
+abbrev pub after_sync : Frame → Result Place AdmitErr → Frame
+after_sync f (Ok place) = with_sync f place
+after_sync f (Err e) = f
+
+-- Its text is admitted where it fits, and else refused, and then nothing has changed.
+pub record IsSync (tree : FileTree) (at : Moment) (old new : Plan) (before now : Frame) (result : Result Place AdmitErr) : Type 0 where
+  pub admitted : IsAdmitted (index_admission old (before.generation + 1) (canon (sync_index before tree old.ends.dp at))) old new result
+  pub frame : now ≡ after_sync before result
