@@ -1,6 +1,8 @@
 pub mod Again
 pub mod Escapes
+pub mod Forward
 pub mod HeadAgain
+pub mod Moments
 pub mod Names
 pub mod NumberLemmas
 pub mod References

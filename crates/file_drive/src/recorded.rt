@@ -6,7 +6,7 @@ use std::io::{self, ErrorKind, Read, Seek, SeekFrom, Write};
 use std::rc::Rc;
 use std::rt::Files;
 
-type Record = Rc<RefCell<Vec<u8>>>;
+pub type Changes = Rc<RefCell<Vec<u8>>>;
 
 /// The system's files. For each change the record gets `w` for a write, `c` for a cut or `s` for a sync, and a letter
 /// for the file: `i` and `d` for the maps of the index and the data partition, `I` and `D` for their bytes, `m` for the
@@ -14,28 +14,28 @@ type Record = Rc<RefCell<Vec<u8>>>;
 #[derive(Drop)]
 pub struct Recorded {
     rt: HostRuntime,
-    record: Record,
+    changes: Changes,
 }
 
 #[derive(Drop)]
 pub struct RecordedFile {
     file: File,
     letter: u8,
-    record: Record,
+    changes: Changes,
 }
 
 impl Recorded {
-    pub fn new(rt: HostRuntime, record: Record) -> Recorded {
-        Recorded { rt, record }
+    pub fn new(rt: HostRuntime, changes: Changes) -> Recorded {
+        Recorded { rt, changes }
     }
 }
 
-fn note(record: &Record, change: u8, letter: u8) -> io::Result<()> {
-    match record.try_borrow_mut() {
-        Ok(mut record) => {
-            record.push(change)?;
-            record.push(letter)?;
-            record.push(b' ')?;
+fn note(changes: &Changes, change: u8, letter: u8) -> io::Result<()> {
+    match changes.try_borrow_mut() {
+        Ok(mut changes) => {
+            changes.push(change)?;
+            changes.push(letter)?;
+            changes.push(b' ')?;
             Ok(())
         }
         Err(_) => Err(ErrorKind::Other.into()),
@@ -66,7 +66,7 @@ impl Read for RecordedFile {
 
 impl Write for RecordedFile {
     fn write(&mut self, buf: &[u8]) -> io::Result<usize> {
-        note(&self.record, b'w', self.letter)?;
+        note(&self.changes, b'w', self.letter)?;
         self.file.write(buf)
     }
 
@@ -87,12 +87,12 @@ impl OpenFile for RecordedFile {
     }
 
     fn set_len(&self, size: u64) -> io::Result<()> {
-        note(&self.record, b'c', self.letter)?;
+        note(&self.changes, b'c', self.letter)?;
         self.file.set_len(size)
     }
 
     fn sync_all(&self) -> io::Result<()> {
-        note(&self.record, b's', self.letter)?;
+        note(&self.changes, b's', self.letter)?;
         self.file.sync_all()
     }
 
@@ -118,7 +118,7 @@ impl Files for Recorded {
         Ok(RecordedFile {
             file: self.rt.open_file(how, path)?,
             letter: letter_of(path),
-            record: self.record.clone()?,
+            changes: self.changes.clone()?,
         })
     }
 

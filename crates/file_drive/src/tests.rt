@@ -3,7 +3,7 @@ ghost use Rattle.std.specs.Prelude.{◌≡◌, ◌≤◌, ◌<◌, ◌+◌, IfOk
 ghost use Rattle.tape_types.specs.Cartridges.{capacity, items_of};
 
 use crate::FileDrive;
-use crate::recorded::Recorded;
+use crate::recorded::{Changes, Recorded};
 use std::alloc::Global;
 use std::cell::RefCell;
 use std::io::ErrorKind;
@@ -149,18 +149,40 @@ fn write_at<D: Drive>(drive: &mut D, place: Place, bytes: &[u8]) -> Result<(), D
     drive.write(bytes)
 }
 
+fn expect_vcr(drive: &mut FileDrive<HostRuntime>, want: u64, what: &str) -> Result<(), Fail> {
+    let found = drive.vcr()?;
+    expect(found == want, what)
+}
+
+fn expect_no_vcr(drive: &mut FileDrive<HostRuntime>) -> Result<(), Fail> {
+    let failed = drive.vcr().is_err();
+    expect(failed, "the reference is read")
+}
+
+fn expect_counts(drive: &FileDrive<HostRuntime>, commands: u64, faults: u64) -> Result<(), Fail> {
+    expect(drive.commands() == commands, "the number of commands")?;
+    expect(drive.faults() == faults, "the number of faults")
+}
+
+fn write_both(drive: &mut FileDrive<HostRuntime>) -> Result<(), Fail> {
+    write_three(drive, ip(0))?;
+    write_three(drive, dp(0))?;
+    expect_vcr(drive, 6, "the reference after six items")
+}
+
+fn write_and_flush(drive: &mut FileDrive<HostRuntime>) -> Result<(), Fail> {
+    write_at(drive, dp(1), b"two")?;
+    drive.flush()?;
+    expect_vcr(drive, 7, "the reference after seven items")
+}
+
 fn keep_and_cut(rt: &HostRuntime, folder: &str) -> Result<(), Fail> {
     let mut drive = open(rt, folder)?;
-    write_three(&mut drive, ip(0))?;
-    write_three(&mut drive, dp(0))?;
-    expect(drive.vcr()? == 6, "the reference after six items")?;
+    write_both(&mut drive)?;
     expect_reading(rt, folder, Part::Ip, "one m three ")?;
     expect_reading(rt, folder, Part::Dp, "one m three ")?;
-    write_at(&mut drive, dp(1), b"two")?;
-    drive.flush()?;
-    expect(drive.vcr()? == 7, "the reference after seven items")?;
-    expect(drive.commands() == 13, "the number of commands")?;
-    expect(drive.faults() == 0, "no fault")?;
+    write_and_flush(&mut drive)?;
+    expect_counts(&drive, 13, 0)?;
     expect_reading(rt, folder, Part::Ip, "one m three ")?;
     expect_reading(rt, folder, Part::Dp, "one two ")
 }
@@ -175,25 +197,34 @@ fn items_are_kept_and_cut(rt: HostRuntime) -> Result<(), Fail> {
 const MAP: &[u8] =
     b"B\0\0\0\0\0\0\x03\0\0\0\0\0\0\0\0M\0\0\0\0\0\0\0\0\0\0\0\0\0\0\x03B\0\0\0\0\0\0\x05\0\0\0\0\0\0\0\x03";
 
+fn is_of_notes(cm: &[u8]) -> bool {
+    cm.len() == 150 && cm.starts_with(b"\0\0\0\0\0\0\0\x03\0") && cm.ends_with(&[8; 70])
+}
+
+fn expect_file(rt: &HostRuntime, folder: &str, name: &str, want: &[u8]) -> Result<(), Fail> {
+    let found = file(rt, folder, name)?;
+    expect(found.as_slice() == want, name)
+}
+
+fn write_note(drive: &mut FileDrive<HostRuntime>, part: Part, byte: u8) -> Result<(), Fail> {
+    Ok(drive.write_note(part, &[byte; 70])?)
+}
+
 fn check_format(rt: &HostRuntime, folder: &str) -> Result<(), Fail> {
     let mut drive = open(rt, folder)?;
     write_three(&mut drive, dp(0))?;
-    drive.write_note(Part::Dp, &[8; 70])?;
-    expect(file(rt, folder, "dp.map")?.as_slice() == MAP, "the map")?;
-    expect(
-        file(rt, folder, "dp.dat")?.as_slice() == b"onethree".as_slice(),
-        "the bytes of the blocks",
-    )?;
+    write_note(&mut drive, Part::Dp, 8)?;
+    expect_file(rt, folder, "dp.map", MAP)?;
+    expect_file(rt, folder, "dp.dat", b"onethree")?;
     let cm = file(rt, folder, "cm")?;
     expect(
-        cm.len() == 150 && cm.as_slice().starts_with(b"\0\0\0\0\0\0\0\x03\0"),
-        "the reference and no first attribute",
+        is_of_notes(cm.as_slice()),
+        "the reference and the attributes",
     )?;
     expect(
-        cm.as_slice().ends_with(&[8; 70]) && cm.as_slice().get(79).copied() == Some(1),
-        "the second attribute",
-    )?;
-    Ok(())
+        cm.as_slice().get(79).copied() == Some(1),
+        "a second attribute",
+    )
 }
 
 #[test]
@@ -210,26 +241,25 @@ fn is_note(note: Note, want: u8) -> bool {
     }
 }
 
+fn expect_note(drive: &mut FileDrive<HostRuntime>, part: Part, want: u8) -> Result<(), Fail> {
+    let found = drive.read_note(part)?;
+    expect(is_note(found, want), "an attribute")
+}
+
+fn write_notes(drive: &mut FileDrive<HostRuntime>) -> Result<(), Fail> {
+    expect_note(drive, Part::Ip, 0)?;
+    write_note(drive, Part::Ip, 7)?;
+    expect_note(drive, Part::Dp, 0)?;
+    write_note(drive, Part::Dp, 8)
+}
+
 fn check_notes(rt: &HostRuntime, folder: &str) -> Result<(), Fail> {
     let mut drive = open(rt, folder)?;
-    expect(
-        is_note(drive.read_note(Part::Ip)?, 0),
-        "no attribute at first",
-    )?;
-    drive.write_note(Part::Ip, &[7; 70])?;
-    expect(
-        is_note(drive.read_note(Part::Dp)?, 0),
-        "one attribute alone",
-    )?;
-    drive.write_note(Part::Dp, &[8; 70])?;
+    write_notes(&mut drive)?;
     let mut again = open(rt, folder)?;
-    expect(
-        is_note(again.read_note(Part::Ip)?, 7),
-        "the first attribute",
-    )?;
-    expect(is_note(again.read_note(Part::Dp)?, 8), "the second one")?;
-    expect(again.vcr()? == 0, "the reference")?;
-    Ok(())
+    expect_note(&mut again, Part::Ip, 7)?;
+    expect_note(&mut again, Part::Dp, 8)?;
+    expect_vcr(&mut again, 0, "the reference")
 }
 
 #[test]
@@ -239,24 +269,30 @@ fn attributes_are_kept_by_partition(rt: HostRuntime) -> Result<(), Fail> {
     end_in(&rt, folder.as_str(), outcome)
 }
 
+// A drive whose folder isn't there, and then is.
+fn check_folder(rt: &HostRuntime, folder: &str) -> Result<(), Fail> {
+    let mut drive = open(rt, folder)?;
+    fs::remove_dir(rt, folder)?;
+    expect_no_vcr(&mut drive)?;
+    expect_counts(&drive, 1, 1)?;
+    fs::create_dir(rt, folder)?;
+    expect_vcr(&mut drive, 0, "the reference")?;
+    let is_refused = drive.locate(dp(1)).is_err();
+    expect(is_refused, "a place past the end")?;
+    expect_counts(&drive, 3, 2)
+}
+
 #[test]
 fn a_missing_folder_is_a_fault_of_the_first_command(rt: HostRuntime) -> Result<(), Fail> {
     let folder = make_folder(&rt)?;
-    fs::remove_dir(&rt, folder.as_str())?;
-    let mut drive = open(&rt, folder.as_str())?;
-    assert!(rt; drive.vcr().is_err());
-    assert_eq!(rt; drive.faults(), 1);
-    assert_eq!(rt; drive.commands(), 1);
-    fs::create_dir(&rt, folder.as_str())?;
-    let found = drive.vcr();
-    let past_the_end = drive.locate(dp(1));
-    fs::remove_dir(&rt, folder.as_str())?;
-    assert_eq!(rt; found, Ok(0));
-    assert!(rt; past_the_end.is_err());
-    assert_eq!(rt; drive.faults(), 2);
+    let outcome = check_folder(&rt, folder.as_str());
+    end_in(&rt, folder.as_str(), outcome)
+}
+
+#[test]
+fn no_folder_is_a_fault(rt: HostRuntime) -> Result<(), Fail> {
     let mut nowhere = open(&rt, "")?;
-    assert!(rt; nowhere.vcr().is_err());
-    Ok(())
+    expect_no_vcr(&mut nowhere)
 }
 
 // What a map says of each position: the first byte, the length and the place; and how many bytes stand behind that.
@@ -362,29 +398,36 @@ const DAMAGED: [(Map, &[u8], &str, u64, &str); 14] = [
     ),
 ];
 
+// A block behind the positions of a damaged map: whether it is written, and what stands there then.
+fn expect_behind(
+    rt: &HostRuntime,
+    folder: &str,
+    drive: &mut FileDrive<HostRuntime>,
+    count: u64,
+    want: (bool, &str),
+) -> Result<(), Fail> {
+    let is_written = write_at(drive, dp(count.min(9)), b"123456789").is_ok();
+    expect(is_written == want.0, want.1)?;
+    expect_reading(rt, folder, Part::Dp, want.1)
+}
+
+fn put_damage(rt: &HostRuntime, folder: &str, map: &Map, bytes: &[u8]) -> Result<(), Fail> {
+    let map = map_bytes(rt.alloc(), map)?;
+    put_file(rt, folder, "dp.map", map.as_slice())?;
+    put_file(rt, folder, "dp.dat", bytes)
+}
+
 fn expect_damage(
     rt: &HostRuntime,
     folder: &str,
     row: &(Map, &[u8], &str, u64, &str),
 ) -> Result<(), Fail> {
-    put_file(
-        rt,
-        folder,
-        "dp.map",
-        map_bytes(rt.alloc(), &row.0)?.as_slice(),
-    )?;
-    put_file(rt, folder, "dp.dat", row.1)?;
+    put_damage(rt, folder, &row.0, row.1)?;
     expect_reading(rt, folder, Part::Dp, row.2)?;
     let mut drive = open(rt, folder)?;
-    let place = dp(row.3.min(9));
-    let is_written = write_at(&mut drive, place, b"123456789").is_ok();
-    expect_reading(rt, folder, Part::Dp, row.4)?;
-    let is_written_again = write_at(&mut drive, place, b"123456789").is_ok();
-    expect(
-        is_written == (row.2 != row.4) && is_written_again == is_written,
-        row.2,
-    )?;
-    expect_reading(rt, folder, Part::Dp, row.4)
+    let want = (row.2 != row.4, row.4);
+    expect_behind(rt, folder, &mut drive, row.3, want)?;
+    expect_behind(rt, folder, &mut drive, row.3, want)
 }
 
 fn expect_damages(rt: &HostRuntime, folder: &str) -> Result<(), Fail> {
@@ -401,38 +444,59 @@ fn a_damaged_map_is_told_and_not_made_worse(rt: HostRuntime) -> Result<(), Fail>
     end_in(&rt, folder.as_str(), outcome)
 }
 
-// A damaged memory is told by the first command that reads or changes it, and by no other.
-fn check_memory(rt: &HostRuntime, folder: &str) -> Result<(), Fail> {
-    put_file(rt, folder, "cm", &[0u8; 149])?;
-    let mut drive = open(rt, folder)?;
+// Commands that neither read nor change the memory don't see that it is damaged.
+fn pass_by(drive: &mut FileDrive<HostRuntime>) -> Result<(), Fail> {
     drive.locate(dp(0))?;
     drive.flush()?;
-    expect(drive.faults() == 0, "no fault")?;
-    expect(drive.vcr().is_err(), "the reference is read")?;
-    expect(drive.read_note(Part::Ip).is_err(), "an attribute is read")?;
-    expect(
-        drive.write_note(Part::Ip, &[7; 70]).is_err(),
-        "an attribute is written",
-    )?;
-    expect(
-        write_three(&mut drive, dp(0)).is_err(),
-        "a block is written",
-    )?;
-    expect(drive.faults() == 4, "four commands have failed")?;
+    expect(drive.faults() == 0, "no fault")
+}
+
+fn expect_no_notes(drive: &mut FileDrive<HostRuntime>) -> Result<(), Fail> {
+    let is_not_read = drive.read_note(Part::Ip).is_err();
+    expect(is_not_read, "an attribute is read")?;
+    let is_not_written = drive.write_note(Part::Ip, &[7; 70]).is_err();
+    expect(is_not_written, "an attribute is written")
+}
+
+fn expect_no_block(drive: &mut FileDrive<HostRuntime>) -> Result<(), Fail> {
+    let failed = write_three(drive, dp(0)).is_err();
+    expect(failed, "a block is written")
+}
+
+// A damaged memory is told by the first command that reads or changes it, and by no other.
+fn check_short_memory(rt: &HostRuntime, folder: &str) -> Result<(), Fail> {
+    put_file(rt, folder, "cm", &[0u8; 149])?;
+    let mut drive = open(rt, folder)?;
+    pass_by(&mut drive)?;
+    expect_no_vcr(&mut drive)?;
+    expect_no_notes(&mut drive)?;
+    expect_no_block(&mut drive)?;
+    expect(drive.faults() == 4, "four commands have failed")
+}
+
+// The bytes of a memory whose reference is at its end, and the first byte behind it.
+fn last_memory(first: u8) -> [u8; 150] {
     let mut last = [0u8; 150];
     last[..8].copy_from_slice(&[255; 8]);
-    put_file(rt, folder, "cm", &last)?;
-    expect(drive.vcr()? == u64::MAX, "the reference at its end")?;
-    expect(
-        write_three(&mut drive, dp(0)).is_err(),
-        "a block is written",
-    )?;
-    expect(drive.vcr()? == u64::MAX, "the reference at its end")?;
+    last[8] = first;
+    last
+}
+
+// A reference that can't go on counts no item.
+fn check_last_memory(rt: &HostRuntime, folder: &str) -> Result<(), Fail> {
+    put_file(rt, folder, "cm", &last_memory(0))?;
+    let mut drive = open(rt, folder)?;
+    expect_vcr(&mut drive, u64::MAX, "the reference at its end")?;
+    expect_no_block(&mut drive)?;
+    expect_vcr(&mut drive, u64::MAX, "the reference at its end")?;
     expect_reading(rt, folder, Part::Dp, "")?;
-    last[8] = 2;
-    put_file(rt, folder, "cm", &last)?;
-    expect(drive.vcr().is_err(), "the reference is read")?;
-    Ok(())
+    put_file(rt, folder, "cm", &last_memory(2))?;
+    expect_no_vcr(&mut drive)
+}
+
+fn check_memory(rt: &HostRuntime, folder: &str) -> Result<(), Fail> {
+    check_short_memory(rt, folder)?;
+    check_last_memory(rt, folder)
 }
 
 #[test]
@@ -461,46 +525,89 @@ fn what_is_no_file_is_a_fault(rt: HostRuntime) -> Result<(), Fail> {
 }
 
 // The changes that were recorded since the last time.
-fn expect_changes(rt: &HostRuntime, record: &Rc<RefCell<Vec<u8>>>, want: &str) -> Result<(), Fail> {
-    match record.try_borrow_mut() {
-        Ok(mut record) => {
-            expect(record.as_slice() == want.as_bytes(), want)?;
-            record.clear();
+fn expect_changes(changes: &Changes, want: &str) -> Result<(), Fail> {
+    match changes.try_borrow_mut() {
+        Ok(mut changes) => {
+            expect(changes.as_slice() == want.as_bytes(), want)?;
+            changes.clear();
             Ok(())
         }
         Err(_) => Err("the record is lent".into()),
     }
 }
 
+// A block at a place, and the changes that it makes.
+fn expect_block(
+    drive: &mut FileDrive<Recorded>,
+    place: Place,
+    bytes: &[u8],
+    changes: &Changes,
+    want: &str,
+) -> Result<(), Fail>
+    requires room { place.pos < capacity place.part (record { cap_ip = 65536; cap_dp = 1048576 }) }
+    requires some { 1 ≤ length bytes.now }
+    requires size { length bytes.now ≤ 1048576 }
+{
+    write_at(drive, place, bytes)?;
+    expect_changes(changes, want)
+}
+
+// Reading changes nothing.
+fn expect_looking(drive: &mut FileDrive<Recorded>, changes: &Changes) -> Result<(), Fail> {
+    let found = drive.vcr()?;
+    drive.locate(dp(0))?;
+    expect(found == 0, "the reference at first")?;
+    expect_changes(changes, "")
+}
+
+fn expect_mark(drive: &mut FileDrive<Recorded>, changes: &Changes) -> Result<(), Fail> {
+    drive.locate(dp(1))?;
+    drive.mark()?;
+    expect_changes(changes, "wm sm wd ")?;
+    drive.flush()?;
+    expect_changes(changes, "sI si sD sd sm ")
+}
+
+fn expect_noted(drive: &mut FileDrive<Recorded>, changes: &Changes) -> Result<(), Fail> {
+    drive.write_note(Part::Ip, &[7; 70])?;
+    expect_changes(changes, "wm sm ")
+}
+
+fn put_torn(rt: &HostRuntime, folder: &str) -> Result<(), Fail> {
+    let map = map_bytes(rt.alloc(), &(&[(B, 3, 0), (B, 3, 3)], 0))?;
+    put_file(rt, folder, "ip.map", map.as_slice())
+}
+
+fn check_changes(
+    rt: &HostRuntime,
+    folder: &str,
+    drive: &mut FileDrive<Recorded>,
+    changes: &Changes,
+) -> Result<(), Fail> {
+    expect_looking(drive, changes)?;
+    // All is durable before the first change; the reference, before what it counts.
+    expect_block(
+        drive,
+        dp(0),
+        b"one",
+        changes,
+        "sI si sD sd sm sf wm sm wD wd ",
+    )?;
+    expect_mark(drive, changes)?;
+    // What is cut off is gone for good before anything is put in its place.
+    expect_block(drive, dp(0), b"two", changes, "wm sm cd sd cD sD wD wd ")?;
+    expect_noted(drive, changes)?;
+    // What reads as Torn is so for good before anything is written behind it.
+    put_torn(rt, folder)?;
+    expect_block(drive, ip(2), b"three", changes, "wm sm wi wi si wI wi ")
+}
+
 fn check_syncs(rt: &HostRuntime, folder: &str) -> Result<(), Fail> {
     let alloc = rt.alloc();
-    let record = Rc::new(alloc, RefCell::new(Vec::new(alloc)))?;
-    let files = Recorded::new(rt.clone()?, record.clone()?);
+    let changes = Rc::new(alloc, RefCell::new(Vec::new(alloc)))?;
+    let files = Recorded::new(rt.clone()?, changes.clone()?);
     let mut drive = FileDrive::new(files, String::from_str(alloc, folder)?);
-    expect(drive.vcr()? == 0, "the reference at first")?;
-    drive.locate(dp(0))?;
-    expect_changes(rt, &record, "")?;
-    // All is durable before the first change; the reference, before what it counts.
-    drive.write(b"one")?;
-    expect_changes(rt, &record, "sI si sD sd sm sf wm sm wD wd ")?;
-    drive.mark()?;
-    expect_changes(rt, &record, "wm sm wd ")?;
-    drive.flush()?;
-    expect_changes(rt, &record, "sI si sD sd sm ")?;
-    // What is cut off is gone for good before anything is put in its place.
-    write_at(&mut drive, dp(0), b"two")?;
-    expect_changes(rt, &record, "wm sm cd sd cD sD wD wd ")?;
-    drive.write_note(Part::Ip, &[7; 70])?;
-    expect_changes(rt, &record, "wm sm ")?;
-    // What reads as Torn is so for good before anything is written behind it.
-    put_file(
-        rt,
-        folder,
-        "ip.map",
-        map_bytes(alloc, &(&[(B, 3, 0), (B, 3, 3)], 0))?.as_slice(),
-    )?;
-    write_at(&mut drive, ip(2), b"three")?;
-    expect_changes(rt, &record, "wm sm wi wi si wI wi ")
+    check_changes(rt, folder, &mut drive, &changes)
 }
 
 #[test]

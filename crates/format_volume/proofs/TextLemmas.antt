@@ -16,8 +16,8 @@ use Rattle.doc_fields.specs.declared.tags.Tag.{Tag}
 use Rattle.doc_fields.specs.declared.starts.Attribute.TheVariants.{Absent}
 use Rattle.tape_types.proofs.UuidLemmas.{length-uuid}
 use Rattle.ltfs_label.specs.Canonical.{IsLabel, canonical, element, head, leaf_text}
-use Rattle.ltfs_label.specs.Values.{label_of, words, time, uuid, size, truth}
-use Rattle.ltfs_label.specs.Values.{letter as sign}
+use Rattle.doc_elements.specs.Pieces.{letter as sign, number as size, time, truth, uuid, words}
+use Rattle.ltfs_label.specs.Values.{label_of}
 use Rattle.std.specs.Fmt.{decimal}
 use Rattle.std.proofs.lemmas.Fmt.{length-decimal-le}
 use Rattle.tape_types.specs.declared.times.Civil.{Civil}

@@ -14,14 +14,11 @@ use Rattle.doc_fields.specs.Values.{lock_word}
 use Rattle.doc_fields.specs.Written.{start_text, end_text, bool_text, escape}
 use Rattle.ltfs_text.specs.declared.names.NameText.{NameText}
 use Rattle.ltfs_text.specs.Names.{written}
+pub use Rattle.doc_elements.specs.Written.{element, encoding, head}
 use Rattle.index_model.specs.declared.indexes.Policy.{Policy}
 use Rattle.index_model.specs.declared.indexes.Spot.{Spot}
 use Rattle.index_model.specs.declared.nodes.RawExtent.{RawExtent}
 use Rattle.index_model.specs.Values.{TimesValue, NodeFacts, Nodes, no_nodes, directory, file, link, VolumeFacts, IndexValue}
-
--- an element with what stands in it
-abbrev pub element : Tag → List ℕ → List ℕ
-element tag content = start_text tag Absent ++ content ++ end_text tag
 
 abbrev pub number : Tag → ℕ → List ℕ
 number tag n = element tag (decimal n)
@@ -39,13 +36,6 @@ abbrev pub words : Tag → List ℕ → List ℕ
 words tag text = element tag (escape text)
 
 -- a name and its kin are percent-encoded where they have to be, and their element says so
-abbrev pub encoding : NameText → Attribute
-encoding text = by text.percent
-  where
-    by : Bool → Attribute
-    by true = Percent true
-    by false = Absent
-
 abbrev pub name : Tag → List ℕ → List ℕ
 name tag text = start_text tag (encoding (written text)) ++ escape (written text).text ++ end_text tag
 
@@ -110,9 +100,6 @@ volume_text v =
     ++ if_told v.policy policy
     ++ if_told v.lock (λ state. element VolumeLockState (lock_word state))
     ++ number HighestFileUid v.highest
-
-abbrev pub head : List ℕ
-head = codes "<?xml version=\"1.0\" encoding=\"UTF-8\"?>"
 
 unfoldable pub canonical : IndexValue → List ℕ
 canonical v =

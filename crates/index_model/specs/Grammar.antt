@@ -1,94 +1,24 @@
--- What the text of an index is: spellings of elements inside one another (LTFS 2.4 on the index).
-use Rattle.std.specs.Prelude.{◌≡◌, ◌⊎◌, ◌≤◌, ℕ, ◌+◌, List, [], ◌∷◌, length, true, false, Option, Some, None, Ok, IsUtf8, not, ◌==◌, ◌&&◌, if◌then◌else◌}
+-- What the text of an index is, by what its elements tell (LTFS 2.4 on the index).
+use Rattle.std.specs.Prelude.{◌≡◌, ◌⊎◌, ◌≤◌, ℕ, List, [], ◌∷◌, Option, Some, None, ◌==◌, if◌then◌else◌}
 use Rattle.std.specs.Option.{option_map}
 use Rattle.doc_fields.specs.declared.tags.Tag.{Tag}
-use Rattle.doc_fields.specs.declared.tags.Tag.TheVariants.{LtfsIndex, Creator, Comment, VolumeUuid, Partition, GenerationNumber, UpdateTime, StartBlock, AllowPolicyUpdate, Size, VolumeLockState, HighestFileUid, FileUid, Name, Length, CreationTime, ChangeTime, ModifyTime, AccessTime, BackupTime, ReadOnly, Symlink, FileOffset, ByteOffset, ByteCount}
-use Rattle.doc_fields.specs.declared.starts.Start.{Start}
-use Rattle.doc_fields.specs.Space.{space_end}
-use Rattle.doc_fields.specs.StartTag.{named_at, rest_at}
-use Rattle.doc_fields.specs.EndTag.{end_at}
-use Rattle.doc_fields.specs.Declaration.{head_at}
-use Rattle.doc_children.specs.Children.{code, member, first_missing}
+use Rattle.doc_fields.specs.declared.tags.Tag.TheVariants.{Creator, Comment, VolumeUuid, Partition, GenerationNumber, UpdateTime, StartBlock, AllowPolicyUpdate, Size, VolumeLockState, HighestFileUid, FileUid, Name, Length, CreationTime, ChangeTime, ModifyTime, AccessTime, BackupTime, ReadOnly, Symlink, FileOffset, ByteOffset, ByteCount}
+use Rattle.doc_children.specs.Children.{code}
 use Rattle.index_model.specs.declared.indexes.Index.{Index}
 use Rattle.index_model.specs.declared.indexes.Policy.{Policy}
 use Rattle.index_model.specs.declared.indexes.Spot.{Spot}
 use Rattle.index_model.specs.declared.nodes.RawExtent.{RawExtent}
-use Rattle.index_model.specs.declared.schema.Place.{Place}
-use Rattle.index_model.specs.declared.schema.Place.TheVariants as place
-use Rattle.index_model.specs.declared.schema.Form.{Form}
-use Rattle.index_model.specs.declared.schema.Child.{Child}
-use Rattle.index_model.specs.declared.schema.Child.TheVariants as child
+use Rattle.doc_elements.specs.declared.schema.Place.{Place}
+use Rattle.doc_elements.specs.declared.schema.Place.TheVariants as place
 use Rattle.index_model.specs.declared.errors.IndexErr.{IndexErr}
 use Rattle.index_model.specs.declared.faults.Fault.{Fault}
-use Rattle.index_model.specs.Schema.{rule, required, tag_of, may_repeat, excludes, is_node, place_code}
+use Rattle.doc_elements.specs.Schema.{place_code}
 use Rattle.index_model.specs.Values.{NodeFacts, Nodes, no_nodes, directory, file, link, VolumeFacts, IndexValue, Tells}
-use Rattle.index_model.specs.Pieces.{Val, words, time, uuid, letter, number, truth, lock, leaf_at, has_any}
-use Rattle.index_model.specs.Documents.{root_at, StopsAt, fault_told}
+use Rattle.doc_elements.specs.Pieces.{Val, words, time, uuid, letter, number, truth, lock}
+use Rattle.doc_elements.specs.Elements.{Item, plain, bare, nested, Items, no_items, item, DocumentText, node_count}
+use Rattle.index_model.specs.Documents.{StopsAs, fault_told}
 use Rattle.index_model.specs.Refusals.{IsToldOf}
 use Rattle.index_model.specs.Valid.{Agrees}
-
--- an element: a leaf with its value, a parent as one empty tag, or a parent with its children
-mutual
-  pub data Item : Type 0 where
-    plain : Tag → Val → Item
-    bare : Place → Item
-    nested : Place → Items → Item
-
-  pub data Items : Type 0 where
-    no_items : Items
-    item : Item → Items → Items
-
-abbrev pub item_tag : Item → Tag
-item_tag (plain tag v) = tag
-item_tag (bare p) = tag_of p
-item_tag (nested p is) = tag_of p
-
--- a start tag of a child that has its place here
-pub record Starts (text : List ℕ) (p : Place) (at : ℕ) (c : Child) (tag : Tag) (start : Start) : Type 0 where
-  pub child : rule p tag ≡ c
-  pub name_end : ℕ
-  pub named : named_at text at ≡ Ok (tag, name_end)
-  pub rest : rest_at tag at text name_end ≡ Ok start
-
--- an element may stand behind others in a parent: none of it has stood there, unless it may repeat, and none that it
--- excludes
-pub record MayFollow (p : Place) (seen : List Tag) (tag : Tag) : Type 0 where
-  pub alone : has_any (excludes tag) seen ≡ false
-  pub once : (member tag seen && not (may_repeat p tag)) ≡ false
-
-abbrev mutual
-  -- the spelling of a child of p, from one place up to another
-  pub Spelled : List ℕ → Place → ℕ → Item → ℕ → Type 0
-  Spelled text p at (plain tag v) next =
-      (form : Form) × (start : Start) × Starts text p at (child.Leaf form) tag start
-      × (leaf_at form tag at start text ≡ Ok (v, next))
-  Spelled text p at (bare q) next =
-      (start : Start) × Starts text p at (child.Parent q) (tag_of q) start × (start.empty ≡ true)
-      × (start.next ≡ next) × (first_missing (required q) [] ≡ None)
-  Spelled text p at (nested q is) next =
-      (start : Start) × Starts text p at (child.Parent q) (tag_of q) start × (start.empty ≡ false) × (end : ℕ)
-      × AllSpelled text q [] start.next is end × (end_at text end (tag_of q) ≡ Ok next)
-
-  -- the spellings of children of p, behind some that stood there: each may stand there, and each that is required has
-  -- come
-  pub AllSpelled : List ℕ → Place → List Tag → ℕ → Items → ℕ → Type 0
-  AllSpelled text p seen at no_items end = (end ≡ space_end text at) × (first_missing (required p) seen ≡ None)
-  AllSpelled text p seen at (item i is) end =
-      MayFollow p seen (item_tag i) × (next : ℕ) × Spelled text p (space_end text at) i next
-      × AllSpelled text p (item_tag i ∷ seen) next is end
-
--- how many elements are nodes
-abbrev mutual
-  pub nodes_of : Item → ℕ
-  nodes_of (plain tag v) = 0
-  nodes_of (bare p) = if is_node p then 1 else 0
-  nodes_of (nested p is) = (if is_node p then 1 else 0) + node_count is
-
-  pub node_count : Items → ℕ
-  node_count no_items = 0
-  node_count (item i is) = nodes_of i + node_count is
-
--- ---- what elements tell
 
 -- the first, where it is there, else the second
 abbrev pub or_else : {X : Type 0} → Option X → Option X → Option X
@@ -216,20 +146,10 @@ abbrev mutual
   TellsContents (item (nested place.Contents is) more) nodes = TellsNodes is nodes
   TellsContents (item _ more) nodes = TellsContents more nodes
 
--- The bytes are a declaration or none, white space, one spelling of the root, and white space; its elements, of which
--- 65,536 at most are nodes, tell this value.
+-- The text is a document of an index, whose elements, of which 65,536 at most are nodes, tell this value.
 pub record Spells (text : List ℕ) (v : IndexValue) : Type 0 where
-  pub valid : IsUtf8 text
-  pub from : ℕ
-  pub head_is : head_at text 0 ≡ Ok from
-  pub start : ℕ
-  pub root_is : root_at text (space_end text from) ≡ Ok start
   pub items : Items
-  pub end : ℕ
-  pub children : AllSpelled text place.Index [] start items end
-  pub after : ℕ
-  pub ends : end_at text end LtfsIndex ≡ Ok after
-  pub ended : space_end text after ≡ length text
+  pub spelled : DocumentText place.Index text items
   pub volume : TellsVolume items v.volume
   pub root_items : Items
   pub root : inside place.Root items ≡ Some root_items
@@ -254,4 +174,4 @@ pub record SpellsFaulty (text : List ℕ) (fault : Fault) : Type 0 where
 
 -- why a text is no index, and where
 abbrev pub Stops : List ℕ → IndexErr → Type 0
-Stops text e = StopsAt text e ⊎ ((fault : Fault) × SpellsFaulty text fault × (e ≡ fault_told fault))
+Stops text e = StopsAs text e ⊎ ((fault : Fault) × SpellsFaulty text fault × (e ≡ fault_told fault))

@@ -10,8 +10,6 @@ pub mod Refusals
 pub mod Values
 pub mod Canonical
 pub mod Cuts
-pub mod Schema
-pub mod Pieces
 pub mod Documents
 pub mod Grammar
 pub mod Telling

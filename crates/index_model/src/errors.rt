@@ -1,12 +1,9 @@
 ghost use Rattle.std.specs.Prelude.{◌≡◌};
-ghost use Rattle.index_model.specs.declared.errors.IndexErr.TheVariants as errors;
-ghost use Rattle.index_model.specs.Pieces.{refusal};
-ghost use Rattle.index_model.specs.Documents.{fault_told};
+ghost use Rattle.index_model.specs.Documents.{fault_told, refusal_told};
 
 use crate::faults::Fault;
-use doc_fields::{FieldErr, Tag, Why};
-use std::alloc::{AllocError, AllocFailed};
-use tape_types::NoMemory as Refused;
+use doc_elements::PieceErr;
+use doc_fields::Tag;
 
 /// Why a text is no index. A number in brackets of `Syntax`, `Unknown`, `Twice`, `Number` and
 /// `Name` is the place in the text, in bytes from its beginning.
@@ -41,16 +38,20 @@ pub enum IndexErr {
     NoMemory,
 }
 
-impl From<FieldErr> for IndexErr {
-    ghost from_gives = { λ e r. r ≡ refusal e.why e.at };
+impl From<PieceErr> for IndexErr {
+    ghost from_gives = { λ e r. r ≡ refusal_told e };
 
-    fn from(e: FieldErr) -> IndexErr {
-        match e.why {
-            Why::Syntax => IndexErr::Syntax(e.at),
-            Why::Unknown => IndexErr::Unknown(e.at),
-            Why::Version => IndexErr::Version,
-            Why::Number => IndexErr::Number(e.at),
-            Why::NoMemory => IndexErr::NoMemory,
+    fn from(e: PieceErr) -> IndexErr {
+        match e {
+            PieceErr::Syntax(at) => IndexErr::Syntax(at),
+            PieceErr::Unknown(at) => IndexErr::Unknown(at),
+            PieceErr::Twice(at) => IndexErr::Twice(at),
+            PieceErr::Version => IndexErr::Version,
+            PieceErr::Missing(tag) => IndexErr::Missing(tag),
+            PieceErr::Number(at) => IndexErr::Number(at),
+            PieceErr::Name(at) => IndexErr::Name(at),
+            PieceErr::TooMany => IndexErr::TooMany,
+            PieceErr::NoMemory => IndexErr::NoMemory,
         }
     }
 }
@@ -65,29 +66,5 @@ impl From<Fault> for IndexErr {
             Fault::Extent(uid) => IndexErr::Extent(uid),
             Fault::Overlap(uid) => IndexErr::Overlap(uid),
         }
-    }
-}
-
-impl From<Refused> for IndexErr {
-    ghost from_gives = { λ _ e. e ≡ errors.NoMemory };
-
-    fn from(_e: Refused) -> IndexErr {
-        IndexErr::NoMemory
-    }
-}
-
-impl From<AllocError> for IndexErr {
-    ghost from_gives = { λ _ e. e ≡ errors.NoMemory };
-
-    fn from(_e: AllocError) -> IndexErr {
-        IndexErr::NoMemory
-    }
-}
-
-impl<T: Drop> From<AllocFailed<T>> for IndexErr {
-    ghost from_gives = { λ _ e. e ≡ errors.NoMemory };
-
-    fn from(_e: AllocFailed<T>) -> IndexErr {
-        IndexErr::NoMemory
     }
 }

@@ -11,7 +11,6 @@ mod laws;
 mod nodes;
 #[cfg(test)]
 mod rows;
-mod schema;
 #[cfg(test)]
 mod slow;
 mod telling;
@@ -24,6 +23,5 @@ pub use faults::Fault;
 pub use indexes::{Index, Policy, Spot};
 pub use laws::{directories_stand_together, indexes_tell_one_value, one_fault_is_told};
 pub use nodes::{Kind, Node, RawExtent};
-pub use schema::{Child, Form, Place, child_of, excludes, is_node, may_repeat, required, tag_of};
 pub use telling::refusal_text;
 pub use text_list::TextList;

@@ -1,18 +1,16 @@
 -- A whole document spells what its pieces tell.
 use Rattle.std.proofs.Common.{◌≡◌, ℕ, List, [], ◌∷◌, ◌++◌, Bool, true, false, ◌==◌, ◌&&◌, not, length, Some, None, IsUtf8, refl, sym, ap, subst, ◌∙◌, arith}
-use Rattle.doc_fields.specs.Space.{space_end}
 use Rattle.doc_fields.specs.declared.tags.Tag.{Tag}
 use Rattle.doc_fields.specs.declared.tags.Tag.TheVariants.{Directory}
 use Rattle.doc_children.specs.Children.{code, member}
 use Rattle.index_model.specs.declared.nodes.Kind.TheVariants as kinds
-use Rattle.index_model.specs.declared.schema.Place.TheVariants as place
-use Rattle.index_model.specs.declared.schema.Child.{Child}
-use Rattle.index_model.specs.declared.schema.Child.TheVariants as child
-use Rattle.index_model.specs.Schema.{rule, required}
+use Rattle.doc_elements.specs.declared.schema.Place.TheVariants as place
+use Rattle.doc_elements.specs.declared.schema.Child.{Child}
+use Rattle.doc_elements.specs.declared.schema.Child.TheVariants as child
+use Rattle.doc_elements.specs.Schema.{rule, required}
 use Rattle.index_model.specs.Values.{NodeFacts, Nodes, value_in, listed, IndexValue, all_nodes}
-use Rattle.index_model.specs.Pieces.{Piece, closes}
-use Rattle.index_model.specs.Documents.{Point, Reaches}
-use Rattle.index_model.specs.Grammar.{Item, plain, bare, nested, Items, no_items, item, item_tag, or_else, own_children, inside, TellsFacts, TellsContents, TellsVolume, Spells}
+use Rattle.doc_elements.specs.Elements.{Item, plain, bare, nested, Items, no_items, item, item_tag, all_pieces}
+use Rattle.index_model.specs.Grammar.{or_else, own_children, inside, TellsFacts, TellsContents, TellsVolume, Spells}
 use Rattle.index_read.specs.Told.{State, Tell, blank, blank_spot, outermost, begun, item_told, items_told}
 use Rattle.index_read.specs.Walks.{IsWhole}
 use Rattle.index_read.proofs.Nodes.{root_tells}
@@ -20,7 +18,8 @@ use Rattle.index_read.proofs.Fits.{Fits, FitsItem, same_tag, missing_member, all
 use Rattle.index_read.proofs.Volume.{with_here, here_told, back_told}
 use Rattle.index_read.proofs.Within.{policy_is, volume_is}
 use Rattle.index_read.proofs.Tells.{volume_tells}
-use Rattle.index_read.proofs.Trees.{all_pieces, parse, items_tell, tell_same}
+use Rattle.doc_elements.proofs.Trees.{elements_of}
+use Rattle.index_read.proofs.Trees.{items_tell, tell_same}
 
 -- ---- the root directory among the children of an index
 
@@ -131,10 +130,6 @@ root_told seen (item i is) node s fits new none =
 
 -- ---- the whole
 
-nothing_left : (text : List ℕ) (qs : List Piece) (at n : ℕ) (to : Point) → Reaches text qs at [] n to → (qs ≡ []) × (at ≡ to.at)
-nothing_left text [] at n to r = (refl, sym (ap (λ (x : Point). x.at) r))
-nothing_left text (q ∷ qs) at n to r = absurd r
-
 -- what a whole document spells, which is what its pieces tell
 pub record Assembled (text : List ℕ) (s : State) : Type 0 where
   pub value : IndexValue
@@ -144,35 +139,23 @@ pub record Assembled (text : List ℕ) (s : State) : Type 0 where
 
 pub assembled : (text : List ℕ) (s : State) → IsUtf8 text → IsWhole text s → Assembled text s
 assembled text s valid w =
-    let o = w.accepts.opened in
-    let p = parse (length w.ps) w.ps text place.Index [] [] o.inside 0 w.accepts.point (omega arith) w.accepts.closed o.reaches in
-    let q = nothing_left text p.qs p.next _ w.accepts.point p.rest in
-    let fits = all_fit text place.Index [] o.inside p.items p.end p.children in
+    let p = elements_of place.Index text w.ps valid w.accepts in
+    let fits = all_fit text place.Index [] p.spelled.inside p.items p.spelled.end p.spelled.children in
     let r = root_told [] p.items 0 blank fits refl refl in
-    let pieces : w.ps ≡ all_pieces p.items ++ closes ∷ [] = p.split ∙ ap (λ l. all_pieces p.items ++ closes ∷ l) q.0 in
-    let told : Tell w.ps outermost blank [] (items_told place.Index 0 p.items blank) = subst (λ l. Tell l outermost blank [] (items_told place.Index 0 p.items blank)) (sym pieces) (items_tell place.Index 0 [] p.items blank) in
+    let told : Tell w.ps outermost blank [] (items_told place.Index 0 p.items blank) = subst (λ l. Tell l outermost blank [] (items_told place.Index 0 p.items blank)) (sym p.split) (items_tell place.Index 0 [] p.items blank) in
     let same : items_told place.Index 0 p.items blank ≡ s = tell_same w.ps outermost blank [] _ [] s told w.tells in
     let volume = volume_is [] p.items 0 blank fits in
     record {
       value = record { volume = (items_told place.Index 0 p.items blank).volume; root = r.facts; inside = r.nodes };
       spells = record {
-        valid = valid;
-        from = o.from;
-        head_is = o.head_is;
-        start = o.inside;
-        root_is = o.root_is;
         items = p.items;
-        end = p.end;
-        children = p.children;
-        after = p.next;
-        ends = p.ends;
-        ended = ap (space_end text) q.1 ∙ w.accepts.ended;
+        spelled = p.spelled;
         volume = subst (TellsVolume p.items) (sym volume) (volume_tells p.items fits);
         root_items = r.items;
         root = r.children;
         facts = r.tells;
         contents = r.contents;
-        few = omega (arith, p.few (omega arith));
+        few = p.few;
       };
       volume = ap (λ x. x.volume) same;
       nodes = sym r.list ∙ ap (λ x. x.nodes) same;

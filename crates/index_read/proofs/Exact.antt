@@ -1,13 +1,14 @@
 -- A text is an index's, or stops, in one way.
-use Rattle.std.proofs.Common.{◌≡◌, ℕ, ◌+◌, ◌≤◌, List, [], ◌∷◌, ◌++◌, length, Some, inl, inr, refl, sym, ap, subst, ◌∙◌, arith}
+use Rattle.std.proofs.Common.{◌≡◌, ℕ, List, [], ◌∷◌, ◌++◌, Some, inl, inr, refl, sym, ap, subst, ◌∙◌}
 use Rattle.index_model.specs.declared.indexes.Index.{Index}
 use Rattle.index_model.specs.declared.nodes.Kind.TheVariants as kinds
 use Rattle.index_model.specs.declared.errors.IndexErr.{IndexErr}
-use Rattle.index_model.specs.declared.schema.Place.TheVariants as place
+use Rattle.doc_elements.specs.declared.schema.Place.TheVariants as place
 use Rattle.index_model.specs.Values.{value_in, listed, IndexValue, all_nodes, Tells}
-use Rattle.index_model.specs.Pieces.{closes}
-use Rattle.index_model.specs.Documents.{Halts, readable, StopsAt, fault_told}
-use Rattle.index_model.specs.Grammar.{TellsFacts, TellsContents, Spells, IndexText, Stops, node_count}
+use Rattle.doc_elements.specs.Pieces.{closes}
+use Rattle.index_model.specs.Documents.{StopsAs, fault_told, refusal_told}
+use Rattle.index_model.specs.Grammar.{TellsFacts, TellsContents, Spells, IndexText, Stops}
+use Rattle.doc_elements.specs.Elements.{all_pieces}
 use Rattle.index_model.specs.Refusals.{IsToldOf}
 use Rattle.index_model.specs.Valid.{Agrees}
 use Rattle.index_model.proofs.FaultLaws.{one_fault, agrees_no_fault}
@@ -16,12 +17,11 @@ use Rattle.index_read.specs.Walks.{IsWhole}
 use Rattle.index_read.proofs.Fits.{all_fit}
 use Rattle.index_read.proofs.Within.{volume_is, volume_told}
 use Rattle.index_read.proofs.Tells.{volume_tells, one_volume}
-use Rattle.index_read.proofs.Trees.{all_pieces, all_reached, items_tell, tell_same}
+use Rattle.doc_elements.proofs.Trees.{accepted}
+use Rattle.index_read.proofs.Trees.{items_tell, tell_same}
 use Rattle.index_read.proofs.Nodes.{one_contents}
 use Rattle.index_read.proofs.Facts.{one_facts}
-use Rattle.index_read.proofs.Once.{one_document, not_both, one_halt}
-use Rattle.index_read.proofs.Whole.{readable_all}
-use Rattle.index_read.proofs.Steps.{point}
+use Rattle.doc_elements.proofs.Once.{never_both as pieces_go, one_document, one_stop}
 use Rattle.index_read.proofs.Same.{tells_one}
 use Rattle.index_read.proofs.Assembled.{root_told}
 
@@ -34,25 +34,19 @@ pub record Read (text : List ℕ) (v : IndexValue) : Type 0 where
 
 pub spelled_whole : (text : List ℕ) (v : IndexValue) → Spells text v → Read text v
 spelled_whole text v s =
-    let fits = all_fit text place.Index [] s.start s.items s.end s.children in
+    let fits = all_fit text place.Index [] s.spelled.inside s.items s.spelled.end s.spelled.children in
     let r = root_told [] s.items 0 blank fits refl refl in
     let both : Some s.root_items ≡ Some r.items = sym s.root ∙ r.children in
     let same : s.root_items ≡ r.items = cc in
     let facts : v.root ≡ r.facts = one_facts r.items v.root r.facts (subst (λ is. TellsFacts is v.root) same s.facts) r.tells in
     let nodes : v.inside ≡ r.nodes = one_contents r.items v.inside r.nodes (subst (λ is. TellsContents is v.inside) same s.contents) r.contents in
     let volume : v.volume ≡ volume_told s.items blank.volume = one_volume s.items v.volume _ s.volume (volume_tells s.items fits) in
-    let count : 0 + node_count s.items ≤ 65536 = omega (arith, s.few) in
     let list : all_nodes v ≡ value_in 0 r.facts kinds.Dir ∷ listed 0 1 r.nodes = λ i. value_in 0 (facts i) kinds.Dir ∷ listed 0 1 (nodes i) in
     record {
       state = items_told place.Index 0 s.items blank;
       whole = record {
         ps = all_pieces s.items ++ closes ∷ [];
-        accepts = record {
-          point = point s.after [] (0 + node_count s.items);
-          opened = record { from = s.from; head_is = s.head_is; inside = s.start; root_is = s.root_is; reaches = all_reached text place.Index [] [] s.start 0 s.items s.end s.after s.children s.ends count };
-          closed = refl;
-          ended = s.ended;
-        };
+        accepts = accepted place.Index text s.items s.spelled s.few;
         tells = items_tell place.Index 0 [] s.items blank;
       };
       volume = volume ∙ sym (volume_is [] s.items 0 blank fits);
@@ -61,7 +55,7 @@ spelled_whole text v s =
 
 one_whole : (text : List ℕ) (s t : State) → IsWhole text s → IsWhole text t → s ≡ t
 one_whole text s t x y =
-    let same = one_document text x.ps y.ps x.accepts y.accepts in
+    let same = one_document place.Index text x.ps y.ps x.accepts y.accepts in
     tell_same y.ps _ _ [] s [] t (subst (λ ps. Tell ps outermost blank [] s) same.pieces x.tells) y.tells
 
 -- a text spells one value, and so one index
@@ -76,11 +70,10 @@ pub one_index_text : (text : List ℕ) (a b : Index) → IndexText text a → In
 one_index_text text a b h k = one_spelled text a b h.value k.value h.spells k.spells h.tells k.tells
 
 -- a text that is spelled doesn't stop
-spelled_goes : (text : List ℕ) (v : IndexValue) (e : IndexErr) → Spells text v → StopsAt text e → ⊥
-spelled_goes text v e s (inl h) =
+spelled_goes : (text : List ℕ) (v : IndexValue) (e : IndexErr) → Spells text v → StopsAs text e → ⊥
+spelled_goes text v e s stops =
     let x = spelled_whole text v s in
-    not_both text x.whole.ps e x.whole.accepts (subst (λ t. Halts t e) (readable_all text s.valid) h)
-spelled_goes text v e s (inr h) = h.0.more (ap length (readable_all text s.valid))
+    pieces_go place.Index text x.whole.ps stops.why s.spelled.valid x.whole.accepts stops.stops
 
 pub never_both : (text : List ℕ) (index : Index) (e : IndexErr) → IndexText text index → Stops text e → ⊥
 never_both text index e h (inl stops) = spelled_goes text h.value e h.spells stops
@@ -89,14 +82,8 @@ never_both text index e h (inr faulty) =
     let same = one_spelled text index f.index h.value f.value h.spells f.spells h.tells f.tells in
     agrees_no_fault f.index faulty.0 f.told (subst Agrees same h.agrees)
 
-one_stop : (text : List ℕ) (e f : IndexErr) → StopsAt text e → StopsAt text f → e ≡ f
-one_stop text e f (inl h) (inl k) = one_halt (readable text) e f h k
-one_stop text e f (inl h) (inr k) = absurd (not_both (readable text) k.0.ps e k.0.accepts h)
-one_stop text e f (inr h) (inl k) = absurd (not_both (readable text) h.0.ps f h.0.accepts k)
-one_stop text e f (inr h) (inr k) = h.1 ∙ sym k.1
-
 pub one_refusal : (text : List ℕ) (e f : IndexErr) → Stops text e → Stops text f → e ≡ f
-one_refusal text e f (inl h) (inl k) = one_stop text e f h k
+one_refusal text e f (inl h) (inl k) = h.told ∙ ap refusal_told (one_stop place.Index text h.why k.why h.stops k.stops) ∙ sym k.told
 one_refusal text e f (inl h) (inr k) = absurd (spelled_goes text k.1.value e k.1.spells h)
 one_refusal text e f (inr h) (inl k) = absurd (spelled_goes text h.1.value f h.1.spells k)
 one_refusal text e f (inr h) (inr k) =

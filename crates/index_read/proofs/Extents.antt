@@ -6,14 +6,15 @@ use Rattle.doc_fields.specs.declared.tags.Tag.TheVariants.{LtfsLabel, Location, 
 use Rattle.index_model.specs.declared.nodes.Kind.{Kind}
 use Rattle.index_model.specs.declared.nodes.Kind.TheVariants as kinds
 use Rattle.index_model.specs.declared.nodes.RawExtent.{RawExtent}
-use Rattle.index_model.specs.declared.schema.Place.{Place}
-use Rattle.index_model.specs.declared.schema.Place.TheVariants as place
-use Rattle.index_model.specs.declared.schema.Form.{Form}
-use Rattle.index_model.specs.declared.schema.Form.TheVariants as form
-use Rattle.index_model.specs.declared.schema.Child.TheVariants as child
-use Rattle.index_model.specs.Schema.{tag_of, extent_rule, extents_rule}
+use Rattle.doc_elements.specs.declared.schema.Place.{Place}
+use Rattle.doc_elements.specs.declared.schema.Place.TheVariants as place
+use Rattle.doc_elements.specs.declared.schema.Form.{Form}
+use Rattle.doc_elements.specs.declared.schema.Form.TheVariants as form
+use Rattle.doc_elements.specs.declared.schema.Child.TheVariants as child
+use Rattle.doc_elements.specs.Schema.{tag_of, extent_rule, extents_rule}
 use Rattle.index_model.specs.Values.{NodeFacts, NodeValue, value_in}
-use Rattle.index_model.specs.Grammar.{Item, plain, bare, nested, Items, no_items, item, own, told, TellsExtent, TellsExtents, HasExtents}
+use Rattle.doc_elements.specs.Elements.{Item, plain, bare, nested, Items, no_items, item}
+use Rattle.index_model.specs.Grammar.{own, told, TellsExtent, TellsExtents, HasExtents}
 use Rattle.index_read.specs.Told.{State, number_or, letter_or, extent_with, blank_extent, changed, begun, ended, one_more, with_extent, item_told, items_told}
 use Rattle.index_read.proofs.Fits.{Fits, must_tell, told_form}
 use Rattle.index_read.proofs.OfForms.{number_step, letter_step, number_known, letter_known}

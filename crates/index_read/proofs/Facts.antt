@@ -4,15 +4,16 @@ use Rattle.std.proofs.lemmas.Bool.{eqb-true}
 use Rattle.doc_fields.specs.declared.tags.Tag.{Tag}
 use Rattle.doc_fields.specs.declared.tags.Tag.TheVariants.{FileUid, Name, CreationTime, ChangeTime, ModifyTime, AccessTime, BackupTime, ReadOnly}
 use Rattle.doc_children.specs.Children.{code, member}
-use Rattle.index_model.specs.declared.schema.Place.{Place}
-use Rattle.index_model.specs.declared.schema.Place.TheVariants as place
-use Rattle.index_model.specs.declared.schema.Form.TheVariants as form
-use Rattle.index_model.specs.declared.schema.Child.{Child}
-use Rattle.index_model.specs.declared.schema.Child.TheVariants as child
-use Rattle.index_model.specs.Schema.{rule, tag_of, may_repeat, place_code}
+use Rattle.doc_elements.specs.declared.schema.Place.{Place}
+use Rattle.doc_elements.specs.declared.schema.Place.TheVariants as place
+use Rattle.doc_elements.specs.declared.schema.Form.TheVariants as form
+use Rattle.doc_elements.specs.declared.schema.Child.{Child}
+use Rattle.doc_elements.specs.declared.schema.Child.TheVariants as child
+use Rattle.doc_elements.specs.Schema.{rule, tag_of, may_repeat, place_code}
 use Rattle.index_model.specs.Values.{NodeFacts}
-use Rattle.index_model.specs.Pieces.{words, time, number, truth}
-use Rattle.index_model.specs.Grammar.{Item, plain, bare, nested, Items, no_items, item, item_tag, MayFollow, or_else, own, told, own_children, inside, TellsFacts}
+use Rattle.doc_elements.specs.Pieces.{words, time, number, truth}
+use Rattle.doc_elements.specs.Elements.{Item, plain, bare, nested, Items, no_items, item, item_tag, MayFollow}
+use Rattle.index_model.specs.Grammar.{or_else, own, told, own_children, inside, TellsFacts}
 use Rattle.index_read.specs.Told.{words_or, time_or, number_or, truth_or, facts_with, blank_times}
 use Rattle.index_read.proofs.Fits.{FitsItem, Fits, same_tag, must_tell, told_form}
 use Rattle.index_read.proofs.OfForms.{IsOf, or_none, number_step, words_step, time_step, truth_step, number_known, words_known, time_known, truth_known}
@@ -59,7 +60,8 @@ not_again p seen (item i is) t fits there once =
 -- ---- parents by their numbers
 
 places : List Place
-places = place.Index ∷ place.Here ∷ place.Back ∷ place.Policy ∷ place.Criteria ∷ place.Root ∷ place.Directory ∷ place.Contents ∷ place.File ∷ place.Attributes ∷ place.ExtentInfo ∷ place.Extent ∷ []
+places = place.Index ∷ place.Here ∷ place.Back ∷ place.Policy ∷ place.Criteria ∷ place.Root ∷ place.Directory ∷ place.Contents ∷ place.File ∷ place.Attributes ∷ place.ExtentInfo ∷ place.Extent ∷ place.Label ∷ place.Own ∷ place.Letters
+    ∷ []
 
 numbered : ℕ → List Place → Place
 numbered n [] = place.Index

@@ -7,12 +7,13 @@ use Rattle.doc_children.specs.Children.{code, member}
 use Rattle.index_model.specs.declared.nodes.Kind.{Kind}
 use Rattle.index_model.specs.declared.nodes.Kind.TheVariants as kinds
 use Rattle.index_model.specs.declared.nodes.RawExtent.{RawExtent}
-use Rattle.index_model.specs.declared.schema.Place.TheVariants as place
-use Rattle.index_model.specs.declared.schema.Form.TheVariants as form
-use Rattle.index_model.specs.declared.schema.Child.TheVariants as child
+use Rattle.doc_elements.specs.declared.schema.Place.TheVariants as place
+use Rattle.doc_elements.specs.declared.schema.Form.TheVariants as form
+use Rattle.doc_elements.specs.declared.schema.Child.TheVariants as child
 use Rattle.index_model.specs.Values.{NodeFacts, NodeValue, Nodes, file, link, value_in, listed}
-use Rattle.index_model.specs.Pieces.{Val, words}
-use Rattle.index_model.specs.Grammar.{Item, plain, bare, nested, Items, no_items, item, or_else, own, told, inside, TellsFile, TellsLink}
+use Rattle.doc_elements.specs.Pieces.{Val, words}
+use Rattle.doc_elements.specs.Elements.{Item, plain, bare, nested, Items, no_items, item}
+use Rattle.index_model.specs.Grammar.{or_else, own, told, inside, TellsFile, TellsLink}
 use Rattle.index_read.specs.Told.{State, number_or, link_or, facts_with, kind_with, node_with, changed, item_told, items_told}
 use Rattle.index_read.proofs.Fits.{Fits, must_tell, own_form, told_form}
 use Rattle.index_read.proofs.Facts.{not_now, member_later, not_again, no_inside, inside_fits, facts_from, facts_in, file_forms, file_facts, facts_step, facts_parent, only_facts}

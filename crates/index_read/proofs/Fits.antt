@@ -14,16 +14,17 @@ use Rattle.doc_fields.specs.Tags.{all_tags}
 use Rattle.doc_fields.specs.Texts.{text_at}
 use Rattle.doc_fields.specs.Values.{bool_at, letter_at, lock_at, time_at, uuid_at}
 use Rattle.doc_children.specs.Children.{code, member, first_missing}
-use Rattle.index_model.specs.declared.errors.IndexErr.{IndexErr}
-use Rattle.index_model.specs.declared.schema.Place.{Place}
-use Rattle.index_model.specs.declared.schema.Form.{Form}
-use Rattle.index_model.specs.declared.schema.Form.TheVariants as form
-use Rattle.index_model.specs.declared.schema.Child.{Child}
-use Rattle.index_model.specs.declared.schema.Child.TheVariants as child
-use Rattle.index_model.specs.Schema.{rule, required, tag_of}
-use Rattle.index_model.specs.Pieces.{Val, words, time, uuid, letter, number, truth, lock, ◌>>=◌, lift, spaced, in_range, number_in, name_in, name_of, named, value_in, empty_value, leaf_at}
-use Rattle.index_model.specs.Grammar.{Item, plain, bare, nested, Items, no_items, item, item_tag, Spelled, AllSpelled, MayFollow, or_else, own, told}
-use Rattle.index_read.proofs.Inversion.{bind_ok}
+use Rattle.doc_elements.specs.declared.errors.PieceErr.{PieceErr}
+use Rattle.doc_elements.specs.declared.schema.Place.{Place}
+use Rattle.doc_elements.specs.declared.schema.Form.{Form}
+use Rattle.doc_elements.specs.declared.schema.Form.TheVariants as form
+use Rattle.doc_elements.specs.declared.schema.Child.{Child}
+use Rattle.doc_elements.specs.declared.schema.Child.TheVariants as child
+use Rattle.doc_elements.specs.Schema.{rule, required, tag_of}
+use Rattle.doc_elements.specs.Pieces.{Val, words, time, uuid, letter, number, truth, lock, ◌>>=◌, lift, spaced, in_range, number_in, name_in, name_of, named, value_in, empty_value, leaf_at}
+use Rattle.doc_elements.specs.Elements.{Item, plain, bare, nested, Items, no_items, item, item_tag, Spelled, AllSpelled, MayFollow}
+use Rattle.index_model.specs.Grammar.{or_else, own, told}
+use Rattle.doc_elements.proofs.Inversion.{bind_ok}
 
 -- the value is of the form's kind
 abbrev pub HasForm : Form → Val → Type 0
@@ -36,6 +37,7 @@ HasForm form.Uuid v = (n : ℕ) × (v ≡ uuid n)
 HasForm form.Letter v = (b : ℕ) × (v ≡ letter b)
 HasForm form.Truth v = (is : Bool) × (v ≡ truth is)
 HasForm form.Lock v = (state : LockState) × (v ≡ lock state)
+HasForm form.BlockSize v = (n : ℕ) × (v ≡ number n)
 HasForm form.Number v = (n : ℕ) × (v ≡ number n)
 HasForm form.Bounded v = (n : ℕ) × (v ≡ number n)
 HasForm form.Generation v = (n : ℕ) × (v ≡ number n)
@@ -54,7 +56,7 @@ abbrev mutual
 
 -- ---- values have their forms
 
-first_of : {A B : Type 0} (x y : A) (m n : B) → ◌≡◌ {A = Result (A × B) IndexErr} (Ok (x, m)) (Ok (y, n)) → y ≡ x
+first_of : {A B : Type 0} (x y : A) (m n : B) → ◌≡◌ {A = Result (A × B) PieceErr} (Ok (x, m)) (Ok (y, n)) → y ≡ x
 first_of {A = A} {B = B} x y m n e = let pair : ◌≡◌ {A = A × B} (y, n) (x, m) = cc in ap (λ z. z.0) pair
 
 spaced_form : {A : Type 0} (view : A → Val) (text : List ℕ) (read : Read (A × ℕ)) (v : Val) (n : ℕ) → spaced view text read ≡ Ok (v, n) → (x : A) × (v ≡ view x)
@@ -84,6 +86,7 @@ value_form form.Uuid from start text v n e = spaced_form uuid text (uuid_at text
 value_form form.Letter from start text v n e = spaced_form letter text (letter_at text (space_end text start.next)) v n e
 value_form form.Truth from start text v n e = spaced_form truth text (bool_at text (space_end text start.next)) v n e
 value_form form.Lock from start text v n e = spaced_form lock text (lock_at text (space_end text start.next)) v n e
+value_form form.BlockSize from start text v n e = number_form form.BlockSize text _ v n e
 value_form form.Number from start text v n e = number_form form.Number text _ v n e
 value_form form.Bounded from start text v n e = number_form form.Bounded text _ v n e
 value_form form.Generation from start text v n e = number_form form.Generation text _ v n e

@@ -7,15 +7,16 @@ use Rattle.doc_fields.specs.declared.tags.Tag.TheVariants.{Creator, Comment, Vol
 use Rattle.index_model.specs.declared.indexes.Policy.{Policy}
 use Rattle.index_model.specs.declared.indexes.Spot.{Spot}
 use Rattle.index_model.specs.declared.nodes.RawExtent.{RawExtent}
-use Rattle.index_model.specs.declared.schema.Place.{Place}
-use Rattle.index_model.specs.declared.schema.Place.TheVariants as place
-use Rattle.index_model.specs.declared.schema.Form.TheVariants as form
-use Rattle.index_model.specs.declared.schema.Child.TheVariants as child
+use Rattle.doc_elements.specs.declared.schema.Place.{Place}
+use Rattle.doc_elements.specs.declared.schema.Place.TheVariants as place
+use Rattle.doc_elements.specs.declared.schema.Form.TheVariants as form
+use Rattle.doc_elements.specs.declared.schema.Child.TheVariants as child
 use Rattle.index_model.specs.Extents.{IsExtent}
-use Rattle.index_model.specs.Grammar.{Item, plain, bare, nested, Items, no_items, item, told, inside, own_children, or_else, nodes_of, node_count, TellsMaybe, TellsSpot, TellsPolicy, TellsVolume, TellsFacts, TellsExtent, TellsExtents, HasExtents, TellsFile, TellsLink, TellsNodes, TellsContents}
+use Rattle.doc_elements.specs.Elements.{Item, plain, bare, nested, Items, no_items, item, nodes_of, node_count}
+use Rattle.index_model.specs.Grammar.{told, inside, own_children, or_else, TellsMaybe, TellsSpot, TellsPolicy, TellsVolume, TellsFacts, TellsExtent, TellsExtents, HasExtents, TellsFile, TellsLink, TellsNodes, TellsContents}
 use Rattle.index_model.specs.Names.{IsNodeName, IsVolumeName}
-use Rattle.index_model.specs.Pieces.{words, uuid, letter, number}
-use Rattle.index_model.specs.Schema.{rule}
+use Rattle.doc_elements.specs.Pieces.{words, uuid, letter, number}
+use Rattle.doc_elements.specs.Schema.{rule}
 use Rattle.index_model.specs.Texts.{IsPlainText}
 use Rattle.index_model.specs.Valid.{IsPolicy, IsSpot}
 use Rattle.index_model.specs.Values.{NodeFacts, Nodes, no_nodes, directory, file, link, VolumeFacts, count}

@@ -1,10 +1,6 @@
-mod Names
 mod Changes
 pub mod Steps
-pub mod Parents
-pub mod Inversion
 pub mod Trees
-pub mod Once
 pub mod Fits
 pub mod OfForms
 pub mod Facts
@@ -14,6 +10,7 @@ pub mod Nodes
 pub mod Volume
 pub mod Within
 pub mod Tells
+pub mod Timed
 pub mod Whole
 pub mod Assembled
 pub mod Same
@@ -27,7 +24,6 @@ pub mod Listed
 pub mod ValidIndexes
 pub mod WrittenItems
 pub mod WrittenValues
-pub mod WrittenAgain
 pub mod WrittenTexts
 pub mod WrittenGood
 pub mod WrittenTells

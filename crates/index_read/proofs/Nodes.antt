@@ -5,15 +5,16 @@ use Rattle.doc_fields.specs.declared.tags.Tag.{Tag}
 use Rattle.doc_fields.specs.declared.tags.Tag.TheVariants.{LtfsLabel, Directory, File, Name, Symlink, Contents, ExtendedAttributes}
 use Rattle.doc_children.specs.Children.{member}
 use Rattle.index_model.specs.declared.nodes.Kind.TheVariants as kinds
-use Rattle.index_model.specs.declared.schema.Place.{Place}
-use Rattle.index_model.specs.declared.schema.Place.TheVariants as place
-use Rattle.index_model.specs.declared.schema.Form.{Form}
-use Rattle.index_model.specs.declared.schema.Form.TheVariants as form
-use Rattle.index_model.specs.declared.schema.Child.TheVariants as child
-use Rattle.index_model.specs.Schema.{tag_of, contents_rule, directory_rule}
+use Rattle.doc_elements.specs.declared.schema.Place.{Place}
+use Rattle.doc_elements.specs.declared.schema.Place.TheVariants as place
+use Rattle.doc_elements.specs.declared.schema.Form.{Form}
+use Rattle.doc_elements.specs.declared.schema.Form.TheVariants as form
+use Rattle.doc_elements.specs.declared.schema.Child.TheVariants as child
+use Rattle.doc_elements.specs.Schema.{tag_of, contents_rule, directory_rule}
 use Rattle.index_model.specs.Values.{NodeFacts, NodeValue, Nodes, no_nodes, directory, file, link, value_in, count, listed}
-use Rattle.index_model.specs.Pieces.{Val}
-use Rattle.index_model.specs.Grammar.{Item, plain, bare, nested, Items, no_items, item, item_tag, told, TellsFacts, TellsNodes, TellsContents}
+use Rattle.doc_elements.specs.Pieces.{Val}
+use Rattle.doc_elements.specs.Elements.{Item, plain, bare, nested, Items, no_items, item, item_tag}
+use Rattle.index_model.specs.Grammar.{told, TellsFacts, TellsNodes, TellsContents}
 use Rattle.index_read.specs.Told.{State, facts_with, kind_with, link_or, begun, item_told, items_told}
 use Rattle.index_read.proofs.Fits.{HasForm, FitsItem, Fits}
 use Rattle.index_read.proofs.Facts.{not_own, follows_once, member_later, facts_from, facts_in, blank_facts, directory_forms, directory_facts, facts_step, facts_parent, only_facts}

@@ -4,12 +4,13 @@ use Rattle.std.specs.Option.{option_map}
 use Rattle.tape_types.specs.declared.times.Civil.{Civil}
 use Rattle.doc_fields.specs.declared.tags.Tag.{Tag}
 use Rattle.doc_fields.specs.declared.values.LockState.{LockState}
-use Rattle.index_model.specs.declared.schema.Place.{Place}
-use Rattle.index_model.specs.declared.schema.Form.{Form}
-use Rattle.index_model.specs.declared.schema.Child.TheVariants as child
-use Rattle.index_model.specs.Schema.{rule}
-use Rattle.index_model.specs.Pieces.{Val, words, time, uuid, letter, number, truth, lock}
-use Rattle.index_model.specs.Grammar.{Items, or_else, told}
+use Rattle.doc_elements.specs.declared.schema.Place.{Place}
+use Rattle.doc_elements.specs.declared.schema.Form.{Form}
+use Rattle.doc_elements.specs.declared.schema.Child.TheVariants as child
+use Rattle.doc_elements.specs.Schema.{rule}
+use Rattle.doc_elements.specs.Pieces.{Val, words, time, uuid, letter, number, truth, lock}
+use Rattle.doc_elements.specs.Elements.{Items}
+use Rattle.index_model.specs.Grammar.{or_else, told}
 use Rattle.index_read.specs.Told.{words_or, words_told, time_or, uuid_or, letter_or, number_or, truth_or, lock_told}
 use Rattle.index_read.proofs.Fits.{HasForm, Fits, told_form}
 

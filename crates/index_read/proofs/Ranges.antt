@@ -16,14 +16,14 @@ use Rattle.doc_fields.specs.Texts.{text_at}
 use Rattle.doc_fields.specs.Values.{letter_at, uuid_at, uuid_or_fault}
 use Rattle.doc_fields.proofs.Again.{both}
 use Rattle.ltfs_text.specs.Names.{decoded}
-use Rattle.index_model.specs.declared.errors.IndexErr.{IndexErr}
-use Rattle.index_model.specs.declared.errors.IndexErr.TheVariants as errors
-use Rattle.index_model.specs.declared.schema.Form.{Form}
-use Rattle.index_model.specs.declared.schema.Form.TheVariants as form
+use Rattle.doc_elements.specs.declared.errors.PieceErr.{PieceErr}
+use Rattle.doc_elements.specs.declared.errors.PieceErr.TheVariants as errors
+use Rattle.doc_elements.specs.declared.schema.Form.{Form}
+use Rattle.doc_elements.specs.declared.schema.Form.TheVariants as form
 use Rattle.index_model.specs.Names.{IsNodeName, IsVolumeName}
-use Rattle.index_model.specs.Pieces.{Val, words, uuid, letter, number, ◌>>=◌, lift, least, is_too_great, in_range, number_in, is_volume_name, is_name, is_encoded, name_in, name_of, named, value_in, empty_value, leaf_at}
+use Rattle.doc_elements.specs.Pieces.{Val, words, uuid, letter, number, ◌>>=◌, lift, least, is_too_great, in_range, number_in, is_volume_name, is_name, is_encoded, name_in, name_of, named, value_in, empty_value, leaf_at}
 use Rattle.index_model.specs.Texts.{IsLetter, IsPlainText}
-use Rattle.index_read.proofs.Inversion.{bind_ok, lift_ok, unless_ok}
+use Rattle.doc_elements.proofs.Inversion.{bind_ok, lift_ok, unless_ok}
 use Rattle.index_read.proofs.PlainTexts.{plain_nothing, text_plain}
 use Rattle.index_read.proofs.Uuids.{uuid_fits}
 
@@ -44,7 +44,7 @@ not_true true e = absurd cc
 not_true false e = refl
 
 -- what holds of what was read holds of the value
-as_value : (P : Val → Type 0) (x v : Val) (m n : ℕ) → ◌≡◌ {A = Result (Val × ℕ) IndexErr} (Ok (x, m)) (Ok (v, n)) → P x → P v
+as_value : (P : Val → Type 0) (x v : Val) (m n : ℕ) → ◌≡◌ {A = Result (Val × ℕ) PieceErr} (Ok (x, m)) (Ok (v, n)) → P x → P v
 as_value P x v m n e h = let pair : ◌≡◌ {A = Val × ℕ} (x, m) (v, n) = cc in subst P (ap (λ (z : Val × ℕ). z.0) pair) h
 
 -- ---- names

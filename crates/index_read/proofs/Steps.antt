@@ -1,20 +1,18 @@
 -- One piece more.
-use Rattle.std.proofs.Common.{◌≡◌, ℕ, zero, suc, ◌<◌, ◌≤◌, List, [], ◌∷◌, ◌++◌, length, Bool, true, false, Result, Ok, Err, refl, sym, ap, subst, ◌∙◌, arith}
+use Rattle.std.proofs.Common.{◌≡◌, ℕ, zero, suc, ◌≤◌, List, [], ◌∷◌, ◌++◌, length, Bool, true, false, Result, Ok, Err, refl, sym, ap, subst, ◌∙◌, arith}
 use Rattle.std.proofs.lemmas.List.{length-append}
-use Rattle.index_model.specs.declared.errors.IndexErr.{IndexErr}
-use Rattle.index_model.specs.declared.schema.Place.{Place}
-use Rattle.index_model.specs.declared.schema.Place.TheVariants as place
-use Rattle.index_model.specs.Schema.{is_node}
-use Rattle.index_model.specs.Pieces.{Piece, opens, whole, closes, leaf, Frame, piece_at}
-use Rattle.index_model.specs.Documents.{Point, Reaches, after, counted, fresh}
-use Rattle.index_model.specs.Grammar.{Item, plain}
-use Rattle.index_read.specs.declared.pieces.Piece as code_piece
-use Rattle.index_read.specs.declared.pieces.Piece.TheVariants as code_pieces
+use Rattle.doc_elements.specs.declared.errors.PieceErr.{PieceErr}
+use Rattle.doc_elements.specs.declared.schema.Place.{Place}
+use Rattle.doc_elements.specs.declared.schema.Place.TheVariants as place
+use Rattle.doc_elements.specs.Pieces.{Piece, opens, whole, closes, leaf, piece_at}
+use Rattle.doc_elements.specs.Documents.{Halted, Reaches, after, counted, fresh}
+use Rattle.doc_elements.specs.Elements.{Item, plain}
+use Rattle.doc_elements.specs.declared.pieces.Piece as code_piece
+use Rattle.doc_elements.specs.Answers.{HasRoom, Fails, UnlessMemory, piece_of}
+use Rattle.doc_elements.proofs.Steps.{few_counted, point, reaches_more, unless_memory}
 use Rattle.index_read.specs.declared.walking.Level as code_level
-use Rattle.index_model.specs.declared.errors.IndexErr.TheVariants as errors
-use Rattle.index_read.specs.Answers.{HasRoom, Fails, UnlessMemory, piece_of}
 use Rattle.index_read.specs.Told.{State, Level, Tell, blank, outermost, changed, begun, ended, leaf_told, levels_after, piece_told}
-use Rattle.index_read.specs.Walks.{Opened, frames_of, level_of, levels_of, opened_after, coded, Keeps, Walked, Halted}
+use Rattle.index_read.specs.Walks.{Opened, frames_of, level_of, levels_of, opened_after, coded, Keeps, Walked}
 
 -- ---- how many nodes have begun
 
@@ -27,72 +25,26 @@ one_more : {X : Type 0} (xs : List X) (x : X) → suc (length xs) ≡ length (xs
 one_more xs x = omega (arith, length-append xs (x ∷ []))
 
 begun_count : (p : Place) (node : ℕ) (s : State) → counted (opens p) (length s.nodes) ≡ length (begun p node s).nodes
-begun_count place.Index node s = refl
-begun_count place.Here node s = refl
-begun_count place.Back node s = refl
-begun_count place.Policy node s = refl
-begun_count place.Criteria node s = refl
 begun_count place.Root node s = one_more s.nodes _
 begun_count place.Directory node s = one_more s.nodes _
-begun_count place.Contents node s = refl
 begun_count place.File node s = one_more s.nodes _
-begun_count place.Attributes node s = refl
-begun_count place.ExtentInfo node s = refl
-begun_count place.Extent node s = refl
+begun_count _ node s = refl
 
 ended_count : (p : Place) (node : ℕ) (s : State) → length s.nodes ≡ length (ended p node s).nodes
-ended_count place.Index node s = refl
-ended_count place.Here node s = refl
-ended_count place.Back node s = refl
-ended_count place.Policy node s = refl
-ended_count place.Criteria node s = refl
-ended_count place.Root node s = refl
-ended_count place.Directory node s = refl
-ended_count place.Contents node s = refl
-ended_count place.File node s = refl
-ended_count place.Attributes node s = refl
-ended_count place.ExtentInfo node s = refl
 ended_count place.Extent node s = sym (changed_length node _ s.nodes)
+ended_count _ node s = refl
 
 leaf_count : (p : Place) (node : ℕ) (i : Item) (s : State) → length s.nodes ≡ length (leaf_told p node i s).nodes
-leaf_count place.Index node i s = refl
-leaf_count place.Here node i s = refl
-leaf_count place.Back node i s = refl
-leaf_count place.Policy node i s = refl
-leaf_count place.Criteria node i s = refl
 leaf_count place.Root node i s = sym (changed_length node _ s.nodes)
 leaf_count place.Directory node i s = sym (changed_length node _ s.nodes)
-leaf_count place.Contents node i s = refl
 leaf_count place.File node i s = sym (changed_length node _ s.nodes)
-leaf_count place.Attributes node i s = refl
-leaf_count place.ExtentInfo node i s = refl
-leaf_count place.Extent node i s = refl
+leaf_count _ node i s = refl
 
 pub told_count : (p : Piece) (l : Level) (s : State) → counted p (length s.nodes) ≡ length (piece_told p l s).nodes
 told_count (opens q) l s = begun_count q l.node s
 told_count (whole q) l s = begun_count q l.node s ∙ ended_count q _ (begun q l.node s)
 told_count closes l s = ended_count l.place l.node s
 told_count (leaf tag v) l s = leaf_count l.place l.node (plain tag v) s
-
-few_opens : (q : Place) (n : ℕ) → (is_node q ≡ true → n < 65536) → n ≤ 65536 → counted (opens q) n ≤ 65536
-few_opens place.Index n room few = few
-few_opens place.Here n room few = few
-few_opens place.Back n room few = few
-few_opens place.Policy n room few = few
-few_opens place.Criteria n room few = few
-few_opens place.Root n room few = omega (arith, room refl)
-few_opens place.Directory n room few = omega (arith, room refl)
-few_opens place.Contents n room few = few
-few_opens place.File n room few = omega (arith, room refl)
-few_opens place.Attributes n room few = few
-few_opens place.ExtentInfo n room few = few
-few_opens place.Extent n room few = few
-
-few_counted : (p : code_piece.Piece) (n : ℕ) → HasRoom p n → n ≤ 65536 → counted (piece_of p) n ≤ 65536
-few_counted (code_pieces.Opens q) n room few = few_opens q n room few
-few_counted (code_pieces.Whole q) n room few = few_opens q n room few
-few_counted code_pieces.Closes n room few = few
-few_counted (code_pieces.Leaf tag v) n room few = few
 
 -- ---- what is open
 
@@ -109,24 +61,6 @@ levels_after_is closes o os s = refl
 levels_after_is (leaf tag v) o os s = refl
 
 -- ---- one piece more
-
-abbrev pub point : ℕ → List Frame → ℕ → Point
-point at fs nodes = record { at = at; parents = fs; nodes = nodes }
-
-reaches_more : (text : List ℕ) (ps : List Piece) (a : ℕ) (from : List Frame) (m at : ℕ) (f : Frame) (fs : List Frame) (n : ℕ) (p : Piece) (next : ℕ)
-    → Reaches text ps a from m (point at (f ∷ fs) n) → piece_at f n text at ≡ Ok (p, next) → Reaches text (ps ++ p ∷ []) a from m (point next (after p f fs) (counted p n))
-reaches_more text [] a [] m at f fs n p next h e = absurd (let bad : f ∷ fs ≡ [] = ap (λ (x : Point). x.parents) h in cc)
-reaches_more text [] a (g ∷ gs) m at f fs n p next h e =
-    let all : f ∷ fs ≡ g ∷ gs = ap (λ (x : Point). x.parents) h in
-    let tops : g ≡ f = cc in
-    let rests : gs ≡ fs = cc in
-    let places : a ≡ at = sym (ap (λ (x : Point). x.at) h) in
-    let counts : m ≡ n = sym (ap (λ (x : Point). x.nodes) h) in
-    let here : piece_at g m text a ≡ Ok (p, next) = rw (tops, places, counts) e in
-    let there : point next (after p f fs) (counted p n) ≡ point next (after p g gs) (counted p m) = rw (tops, rests, counts) refl in
-    (next, here, there)
-reaches_more text (q ∷ ps) a [] m at f fs n p next h e = h
-reaches_more text (q ∷ ps) a (g ∷ gs) m at f fs n p next h e = (h.0, h.1, reaches_more text ps h.0 (after q g gs) (counted q m) at f fs n p next h.2 e)
 
 tell_more : (ps : List Piece) (from : List Level) (r : State) (l : Level) (ls : List Level) (s : State) (p : Piece)
     → Tell ps from r (l ∷ ls) s → Tell (ps ++ p ∷ []) from r (levels_after p l ls s) (piece_told p l s)
@@ -171,34 +105,19 @@ is_walked text ps inside next [] top outer done s r t k d = record { ps = ps; re
 is_walked text ps inside next (o ∷ os) top outer done s r t k d = let same : false ≡ true = sym k.0 ∙ d in absurd (cc)
 
 -- what was read inside the parent that the code keeps
-pub at_top : (text : List ℕ) (at n m : ℕ) (top : code_level.Level) (o : Opened) (r : Result (Piece × ℕ) IndexErr) → top ≡ coded o → m ≡ n
+pub at_top : (text : List ℕ) (at n m : ℕ) (top : code_level.Level) (o : Opened) (r : Result (Piece × ℕ) PieceErr) → top ≡ coded o → m ≡ n
     → piece_at (record { place = top.frame.place; seen = o.frame.seen }) m text at ≡ r → piece_at o.frame n text at ≡ r
 at_top text at n m top o r e c h =
     subst (λ (k : ℕ). piece_at o.frame k text at ≡ r) c (subst (λ (p : Place). piece_at (record { place = p; seen = o.frame.seen }) m text at ≡ r) (ap (λ (x : code_level.Level). x.frame.place) e) h)
 
 -- ---- what doesn't fit
 
-halted : (text : List ℕ) (inside at nodes : ℕ) (ps : List Piece) (o : Opened) (os : List Opened) (e : IndexErr)
-    → Reaches text ps inside (fresh place.Index ∷ []) 0 (point at (frames_of (o ∷ os)) nodes) → piece_at o.frame nodes text at ≡ Err e → Halted text inside e
+halted : (text : List ℕ) (inside at nodes : ℕ) (ps : List Piece) (o : Opened) (os : List Opened) (e : PieceErr)
+    → Reaches text ps inside (fresh place.Index ∷ []) 0 (point at (frames_of (o ∷ os)) nodes) → piece_at o.frame nodes text at ≡ Err e → Halted place.Index text inside e
 halted text inside at nodes ps o os e r h = record { ps = ps; point = point at (frames_of (o ∷ os)) nodes; reaches = r; f = o.frame; fs = frames_of os; parents = refl; fails = h }
 
-unless_memory : (e : IndexErr) (r : Result (Piece × ℕ) IndexErr) (Q : Type 0) → (r ≡ Err e → Q) → Fails e r → UnlessMemory e Q
-unless_memory (errors.Syntax at) r Q f h = f h
-unless_memory (errors.Unknown at) r Q f h = f h
-unless_memory (errors.Twice at) r Q f h = f h
-unless_memory errors.Version r Q f h = f h
-unless_memory (errors.Missing t) r Q f h = f h
-unless_memory (errors.Number at) r Q f h = f h
-unless_memory (errors.Name at) r Q f h = f h
-unless_memory errors.TooMany r Q f h = f h
-unless_memory (errors.Uid n) r Q f h = f h
-unless_memory (errors.SameName n) r Q f h = f h
-unless_memory (errors.Extent n) r Q f h = f h
-unless_memory (errors.Overlap n) r Q f h = f h
-unless_memory errors.NoMemory r Q f h = tt
-
-pub halted_at : (text : List ℕ) (inside at n m : ℕ) (ps : List Piece) (o : Opened) (os : List Opened) (top : code_level.Level) (e : IndexErr) → top ≡ coded o → m ≡ n
-    → Reaches text ps inside (fresh place.Index ∷ []) 0 (point at (frames_of (o ∷ os)) n) → Fails e (piece_at (record { place = top.frame.place; seen = o.frame.seen }) m text at) → UnlessMemory e (Halted text inside e)
+pub halted_at : (text : List ℕ) (inside at n m : ℕ) (ps : List Piece) (o : Opened) (os : List Opened) (top : code_level.Level) (e : PieceErr) → top ≡ coded o → m ≡ n
+    → Reaches text ps inside (fresh place.Index ∷ []) 0 (point at (frames_of (o ∷ os)) n) → Fails e (piece_at (record { place = top.frame.place; seen = o.frame.seen }) m text at) → UnlessMemory e (Halted place.Index text inside e)
 halted_at text inside at n m ps o os top e is count r h =
-    unless_memory e (piece_at (record { place = top.frame.place; seen = o.frame.seen }) m text at) (Halted text inside e)
+    unless_memory e (piece_at (record { place = top.frame.place; seen = o.frame.seen }) m text at) (Halted place.Index text inside e)
     (λ fails. halted text inside at n ps o os e r (at_top text at n m top o (Err e) is count fails)) h

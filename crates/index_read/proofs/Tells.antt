@@ -6,14 +6,15 @@ use Rattle.doc_fields.specs.declared.tags.Tag.TheVariants.{Creator, Comment, Vol
 use Rattle.doc_fields.specs.declared.values.LockState.{LockState}
 use Rattle.index_model.specs.declared.indexes.Policy.{Policy}
 use Rattle.index_model.specs.declared.indexes.Spot.{Spot}
-use Rattle.index_model.specs.declared.schema.Place.{Place}
-use Rattle.index_model.specs.declared.schema.Place.TheVariants as place
-use Rattle.index_model.specs.declared.schema.Form.TheVariants as form
-use Rattle.index_model.specs.declared.schema.Child.TheVariants as child
-use Rattle.index_model.specs.Schema.{rule, required}
+use Rattle.doc_elements.specs.declared.schema.Place.{Place}
+use Rattle.doc_elements.specs.declared.schema.Place.TheVariants as place
+use Rattle.doc_elements.specs.declared.schema.Form.TheVariants as form
+use Rattle.doc_elements.specs.declared.schema.Child.TheVariants as child
+use Rattle.doc_elements.specs.Schema.{rule, required}
 use Rattle.index_model.specs.Values.{VolumeFacts}
-use Rattle.index_model.specs.Pieces.{Val, words, time, uuid, letter, number, truth, lock}
-use Rattle.index_model.specs.Grammar.{Items, told, inside, names_in, TellsMaybe, TellsSpot, TellsPolicy, TellsVolume}
+use Rattle.doc_elements.specs.Pieces.{Val, words, time, uuid, letter, number, truth, lock}
+use Rattle.doc_elements.specs.Elements.{Items}
+use Rattle.index_model.specs.Grammar.{told, inside, names_in, TellsMaybe, TellsSpot, TellsPolicy, TellsVolume}
 use Rattle.index_read.specs.Told.{blank_spot, blank_volume}
 use Rattle.index_read.proofs.Fits.{Fits, must_tell}
 use Rattle.index_read.proofs.Facts.{inside_fits}

@@ -4,7 +4,7 @@ use Rattle.std.specs.List.{AllByRecursion}
 use Rattle.index_model.specs.declared.indexes.Index.{Index}
 use Rattle.index_model.specs.declared.nodes.Kind.TheVariants as kinds
 use Rattle.index_model.specs.declared.nodes.Node.{Node}
-use Rattle.index_model.specs.declared.schema.Place.TheVariants as place
+use Rattle.doc_elements.specs.declared.schema.Place.TheVariants as place
 use Rattle.index_model.specs.Extents.{IsKind}
 use Rattle.index_model.specs.Grammar.{IndexText}
 use Rattle.index_model.specs.Names.{AreNames, IsNodeName, IsVolumeName}
@@ -67,7 +67,7 @@ pub index_valid : (text : List ℕ) (index : Index) → IndexText text index →
 index_valid text index h =
     let v = h.value in
     let s = h.spells in
-    let ranged = all_ranged text place.Index [] s.start s.items s.end s.children in
+    let ranged = all_ranged text place.Index [] s.spelled.inside s.items s.spelled.end s.spelled.children in
     let rooted = inside_ranged place.Index s.items place.Root s.root_items ranged s.root in
     let volume : IsFormedVolume (volume_of index) = subst IsFormedVolume (sym h.tells.volume) (volume_formed s.items v.volume ranged s.volume) in
     let nodes = nodes_formed index.nodes v h.tells.nodes (root_named s.root_items v.root rooted s.facts) (contents_formed place.Root s.root_items v.inside rooted s.contents) in

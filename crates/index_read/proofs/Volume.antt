@@ -4,13 +4,14 @@ use Rattle.doc_fields.specs.declared.tags.Tag.{Tag}
 use Rattle.doc_fields.specs.declared.tags.Tag.TheVariants.{Partition, StartBlock, Size, Name, Location}
 use Rattle.index_model.specs.declared.indexes.Policy.{Policy}
 use Rattle.index_model.specs.declared.indexes.Spot.{Spot}
-use Rattle.index_model.specs.declared.schema.Place.{Place}
-use Rattle.index_model.specs.declared.schema.Place.TheVariants as place
-use Rattle.index_model.specs.declared.schema.Form.TheVariants as form
-use Rattle.index_model.specs.declared.schema.Child.TheVariants as child
-use Rattle.index_model.specs.Schema.{rule, spot_rule, criteria_rule, tag_of}
-use Rattle.index_model.specs.Pieces.{Val, words, time, uuid, letter, number, truth, lock}
-use Rattle.index_model.specs.Grammar.{Item, plain, bare, nested, Items, no_items, item, own, told, names_in}
+use Rattle.doc_elements.specs.declared.schema.Place.{Place}
+use Rattle.doc_elements.specs.declared.schema.Place.TheVariants as place
+use Rattle.doc_elements.specs.declared.schema.Form.TheVariants as form
+use Rattle.doc_elements.specs.declared.schema.Child.TheVariants as child
+use Rattle.doc_elements.specs.Schema.{rule, spot_rule, criteria_rule, tag_of}
+use Rattle.doc_elements.specs.Pieces.{Val, words, time, uuid, letter, number, truth, lock}
+use Rattle.doc_elements.specs.Elements.{Item, plain, bare, nested, Items, no_items, item}
+use Rattle.index_model.specs.Grammar.{own, told, names_in}
 use Rattle.index_read.specs.Told.{State, letter_or, number_or, name_told, spot_with, policy_with, leaf_told, items_told}
 use Rattle.index_read.proofs.Fits.{Fits}
 use Rattle.index_read.proofs.OfForms.{has_form, letter_step, number_step}

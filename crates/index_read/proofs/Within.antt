@@ -6,15 +6,16 @@ use Rattle.doc_fields.specs.declared.tags.Tag.TheVariants.{Creator, Comment, Vol
 use Rattle.doc_children.specs.Children.{code, member}
 use Rattle.index_model.specs.declared.indexes.Policy.{Policy}
 use Rattle.index_model.specs.declared.indexes.Spot.{Spot}
-use Rattle.index_model.specs.declared.schema.Place.{Place}
-use Rattle.index_model.specs.declared.schema.Place.TheVariants as place
-use Rattle.index_model.specs.declared.schema.Form.{Form}
-use Rattle.index_model.specs.declared.schema.Form.TheVariants as form
-use Rattle.index_model.specs.declared.schema.Child.{Child}
-use Rattle.index_model.specs.declared.schema.Child.TheVariants as child
-use Rattle.index_model.specs.Schema.{rule, required, tag_of, place_code}
+use Rattle.doc_elements.specs.declared.schema.Place.{Place}
+use Rattle.doc_elements.specs.declared.schema.Place.TheVariants as place
+use Rattle.doc_elements.specs.declared.schema.Form.{Form}
+use Rattle.doc_elements.specs.declared.schema.Form.TheVariants as form
+use Rattle.doc_elements.specs.declared.schema.Child.{Child}
+use Rattle.doc_elements.specs.declared.schema.Child.TheVariants as child
+use Rattle.doc_elements.specs.Schema.{rule, required, tag_of, place_code}
 use Rattle.index_model.specs.Values.{VolumeFacts}
-use Rattle.index_model.specs.Grammar.{Item, plain, bare, nested, Items, no_items, item, item_tag, or_else, own, told, own_children, inside}
+use Rattle.doc_elements.specs.Elements.{Item, plain, bare, nested, Items, no_items, item, item_tag}
+use Rattle.index_model.specs.Grammar.{or_else, own, told, own_children, inside}
 use Rattle.index_read.specs.Told.{State, words_or, words_told, time_or, uuid_or, number_or, truth_or, lock_told, blank_spot, blank_policy, begun, ended, leaf_told, node_in, item_told, items_told}
 use Rattle.index_read.proofs.Fits.{Fits, FitsItem, same_tag, missing_member}
 use Rattle.index_read.proofs.Facts.{inside_fits}
@@ -33,6 +34,9 @@ is_within place.Extent = true
 is_within _ = false
 
 child_within : (p q : Place) → rule p (tag_of q) ≡ child.Parent q → is_within p ≡ true → is_within q ≡ true
+child_within place.Label q e h = absurd cc
+child_within place.Own q e h = absurd cc
+child_within place.Letters q e h = absurd cc
 child_within place.Index q e h = absurd cc
 child_within place.Here q e h = absurd cc
 child_within place.Back q e h = absurd cc

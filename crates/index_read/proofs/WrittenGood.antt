@@ -18,22 +18,24 @@ use Rattle.ltfs_text.specs.Names.{written}
 use Rattle.index_model.specs.declared.indexes.Policy.{Policy}
 use Rattle.index_model.specs.declared.indexes.Spot.{Spot}
 use Rattle.index_model.specs.declared.nodes.RawExtent.{RawExtent}
-use Rattle.index_model.specs.declared.schema.Place.{Place}
-use Rattle.index_model.specs.declared.schema.Place.TheVariants as place
-use Rattle.index_model.specs.declared.schema.Form.{Form}
-use Rattle.index_model.specs.declared.schema.Form.TheVariants as form
-use Rattle.index_model.specs.declared.schema.Child.TheVariants as child
+use Rattle.doc_elements.specs.declared.schema.Place.{Place}
+use Rattle.doc_elements.specs.declared.schema.Place.TheVariants as place
+use Rattle.doc_elements.specs.declared.schema.Form.{Form}
+use Rattle.doc_elements.specs.declared.schema.Form.TheVariants as form
+use Rattle.doc_elements.specs.declared.schema.Child.TheVariants as child
 use Rattle.index_model.specs.Canonical.{encoding}
 use Rattle.index_model.specs.Extents.{IsExtent}
-use Rattle.index_model.specs.Grammar.{Item, plain, nested, Items, no_items, item}
+use Rattle.doc_elements.specs.Elements.{Item, plain, nested, Items, no_items, item}
 use Rattle.index_model.specs.Names.{IsVolumeName, IsNodeName}
-use Rattle.index_model.specs.Pieces.{Val, words, time, uuid, letter, number, truth, lock}
-use Rattle.index_model.specs.Schema.{rule, tag_of}
+use Rattle.doc_elements.specs.Pieces.{Val, words, time, uuid, letter, number, truth, lock}
+use Rattle.doc_elements.specs.Schema.{rule, tag_of}
 use Rattle.index_model.specs.Texts.{IsPlainText}
 use Rattle.index_model.specs.Valid.{IsSpot, IsPolicy}
 use Rattle.index_model.specs.Values.{TimesValue, NodeFacts, Nodes, no_nodes, directory, file, link, VolumeFacts, IndexValue}
-use Rattle.index_read.proofs.WrittenItems.{attribute_of, back_item, comment_item, directory_items, extent_items, extents_items, file_items, GoodItem, GoodItems, index_items, items_of, lock_item, maybe, name_items, nodes_items, policy_item, ReadsBack, spot_items, stand, times_items}
-use Rattle.index_read.proofs.WrittenValues.{bounded_back, comment_back, creator_back, generation_back, letter_back, lock_back, node_name_back, number_back, pattern_back, target_back, time_back, truth_back, uuid_back, volume_name_back}
+use Rattle.doc_elements.proofs.WrittenItems.{attribute_of, GoodItem, GoodItems, ReadsBack, stand}
+use Rattle.index_read.proofs.WrittenItems.{back_item, comment_item, directory_items, extent_items, extents_items, file_items, index_items, items_of, lock_item, maybe, name_items, nodes_items, policy_item, spot_items, times_items}
+use Rattle.doc_elements.proofs.WrittenValues.{creator_back, time_back, truth_back, uuid_back}
+use Rattle.index_read.proofs.WrittenValues.{bounded_back, comment_back, generation_back, letter_back, lock_back, node_name_back, number_back, pattern_back, target_back, volume_name_back}
 
 -- ---- facts that can be told in a document
 
@@ -251,7 +253,7 @@ index_good v root h good =
     let generation = leaf_good place.Index GenerationNumber (number v.generation) form.Generation refl refl refl (generation_back GenerationNumber v.generation h.generation_least h.generation_most) in
     let id = leaf_good place.Index VolumeUuid (uuid v.uuid) form.Uuid refl refl refl (uuid_back VolumeUuid v.uuid h.uuid) in
     let commented = maybe_good place.Index comment_item IsPlainText v.comment _ comment_good h.comment (id, (generation, (updated, (here, backed)))) in
-    (leaf_good place.Index Creator (words v.creator) form.Text refl refl refl (creator_back v.creator h.creator), commented)
+    (leaf_good place.Index Creator (words v.creator) form.Text refl refl refl (creator_back v.creator (h.creator.utf8, h.creator.allowed)), commented)
   where
     free : (o : Option LockState) → IfSome o (λ state. ⊤)
     free None = tt

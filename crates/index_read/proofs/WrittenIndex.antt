@@ -3,23 +3,15 @@ use Rattle.std.proofs.Common.{◌≡◌, ℕ, suc, ◌+◌, ◌≤◌, ◌<◌, 
 use Rattle.std.specs.Prelude.{⊤}
 use Rattle.std.specs.List.{AllByRecursion}
 use Rattle.std.proofs.lemmas.List.{length-map}
-use Rattle.std.proofs.lemmas.Str.{IsUtf8-append}
 use Rattle.doc_fields.specs.declared.tags.Tag.TheVariants.{LtfsIndex}
-use Rattle.doc_fields.specs.declared.starts.Attribute.TheVariants.{Version}
-use Rattle.doc_fields.specs.Space.{space_end}
 use Rattle.doc_fields.specs.Tags.{spelled}
-use Rattle.doc_fields.specs.Written.{end_text, start_text}
-use Rattle.doc_fields.proofs.Again.{next_is, space_again}
-use Rattle.doc_fields.proofs.HeadAgain.{head_again}
-use Rattle.doc_fields.proofs.TagsAgain.{end_again, opened}
-use Rattle.doc_fields.proofs.WrittenBytes.{ascii_valid}
 use Rattle.index_model.specs.declared.indexes.Index.{Index}
 use Rattle.index_model.specs.declared.nodes.Kind.{Kind}
 use Rattle.index_model.specs.declared.nodes.Kind.TheVariants as kinds
 use Rattle.index_model.specs.declared.nodes.Node.{Node}
-use Rattle.index_model.specs.declared.schema.Place.TheVariants as place
-use Rattle.index_model.specs.Canonical.{canonical, head}
-use Rattle.index_model.specs.Documents.{root_at}
+use Rattle.doc_elements.specs.declared.schema.Place.TheVariants as place
+use Rattle.index_model.specs.Canonical.{canonical}
+use Rattle.doc_elements.proofs.Written.{framed, inner, written_document}
 use Rattle.index_model.specs.Extents.{AreFiles, IsExtent, IsKind}
 use Rattle.index_model.specs.Grammar.{IndexText, Spells}
 use Rattle.index_model.specs.Names.{IsNodeName, IsVolumeName}
@@ -28,9 +20,10 @@ use Rattle.index_model.specs.Valid.{IsValid}
 use Rattle.index_model.specs.Values.{NodeFacts, Nodes, no_nodes, directory, file, link, NodeValue, value_in, IndexValue, count, listed, all_nodes, facts_of, value_of, volume_of, Tells}
 use Rattle.index_model.proofs.Walks.{all_at}
 use Rattle.index_read.specs.Links.{AreLinksShort, IsShortLink}
-use Rattle.index_read.proofs.WrittenAgain.{all_again, all_valid}
+use Rattle.doc_elements.proofs.WrittenAgain.{all_again, all_valid}
 use Rattle.index_read.proofs.WrittenGood.{all_good, all_stand, GoodFacts, GoodIndex, GoodNodes, GoodVolume}
-use Rattle.index_read.proofs.WrittenItems.{directory_items, items_of, nodes_items, texts_of}
+use Rattle.doc_elements.proofs.WrittenItems.{texts_of}
+use Rattle.index_read.proofs.WrittenItems.{directory_items, items_of, nodes_items}
 use Rattle.index_read.proofs.WrittenTells.{all_count, contents_tell, directory_tells, root_told, volume_tells}
 use Rattle.index_read.proofs.WrittenTexts.{canonical_is}
 
@@ -126,37 +119,14 @@ by_nodes index v valid short volume (root ∷ others) same e =
 
 -- ---- the document
 
-root_again : (text : List ℕ) (at : ℕ) (rest : List ℕ) → drop at text ≡ start_text LtfsIndex Version ++ rest → root_at text at ≡ Ok (at + 27)
-unfolding root_at
-root_again text at rest e =
-    let o = opened text LtfsIndex Version at rest refl e in
-    rw (o.named, o.rest) refl
-
-all_of_it : (text : List ℕ) (at : ℕ) → drop at text ≡ [] → at ≡ length text → space_end text at ≡ length text
-unfolding space_end
-all_of_it text at e f = rw (e, f) refl
-
-spelled_by : (text : List ℕ) (v : IndexValue) → text ≡ head ++ (start_text LtfsIndex Version ++ (texts_of (items_of v) ++ end_text LtfsIndex)) → GoodIndex v → length (all_nodes v) ≤ 65536 → Spells text v
+spelled_by : (text : List ℕ) (v : IndexValue) → text ≡ framed place.Index (texts_of (items_of v)) → GoodIndex v → length (all_nodes v) ≤ 65536 → Spells text v
 spelled_by text v is good few =
     let body = texts_of (items_of v) in
     let items = all_good v good in
-    let start = next_is text 0 head (start_text LtfsIndex Version ++ (body ++ end_text LtfsIndex)) is in
-    let inner = next_is text 38 (start_text LtfsIndex Version) (body ++ end_text LtfsIndex) start in
-    let whole : drop (65 + length body) text ≡ end_text LtfsIndex ++ [] = next_is text 65 body (end_text LtfsIndex) inner in
-    let left = next_is text (65 + length body) (end_text LtfsIndex) [] whole in
-    let long : 65 + length body + 12 ≡ length text = omega (arith, ap length is, length-append body (end_text LtfsIndex)) in
     record {
-      valid = subst IsUtf8 (sym is) (IsUtf8-append head _ (ascii_valid head refl) (IsUtf8-append (start_text LtfsIndex Version) _ (ascii_valid (start_text LtfsIndex Version) refl) (IsUtf8-append body (end_text LtfsIndex) (all_valid place.Index (items_of v) items) (ascii_valid (end_text LtfsIndex) refl))));
-      from = 38;
-      head_is = head_again text (start_text LtfsIndex Version ++ (body ++ end_text LtfsIndex)) is;
-      start = 65;
-      root_is = ap (root_at text) (space_again text 38 60 _ start refl) ∙ root_again text 38 (body ++ end_text LtfsIndex) start;
       items = items_of v;
-      end = 65 + length body;
-      children = all_again text place.Index [] 65 (items_of v) (47 ∷ (spelled LtfsIndex ++ 62 ∷ [])) (all_stand v) items inner;
-      after = 65 + length body + 12;
-      ends = end_again text (65 + length body) LtfsIndex [] whole;
-      ended = all_of_it text (65 + length body + 12) left long;
+      spelled = written_document place.Index text body (items_of v) refl is (all_valid place.Index (items_of v) items)
+          (λ inside. all_again text place.Index [] (inner place.Index) (items_of v) (47 ∷ (spelled LtfsIndex ++ 62 ∷ [])) (all_stand v) items inside);
       volume = volume_tells v.volume (directory_items v.root (nodes_items v.inside));
       root_items = directory_items v.root (nodes_items v.inside);
       root = root_told v.volume (directory_items v.root (nodes_items v.inside));

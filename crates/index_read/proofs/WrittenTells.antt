@@ -6,9 +6,10 @@ use Rattle.doc_fields.specs.declared.values.LockState.{LockState}
 use Rattle.index_model.specs.declared.indexes.Policy.{Policy}
 use Rattle.index_model.specs.declared.indexes.Spot.{Spot}
 use Rattle.index_model.specs.declared.nodes.RawExtent.{RawExtent}
-use Rattle.index_model.specs.declared.schema.Place.TheVariants as place
-use Rattle.index_model.specs.Grammar.{inside, Item, Items, item, names_in, nested, no_items, node_count, nodes_of, plain, told, TellsContents, TellsExtents, TellsFacts, TellsMaybe, TellsNodes, TellsPolicy, TellsSpot, TellsVolume}
-use Rattle.index_model.specs.Pieces.{words, time, uuid, number, truth, lock}
+use Rattle.doc_elements.specs.declared.schema.Place.TheVariants as place
+use Rattle.index_model.specs.Grammar.{inside, names_in, told, TellsContents, TellsExtents, TellsFacts, TellsMaybe, TellsNodes, TellsPolicy, TellsSpot, TellsVolume}
+use Rattle.doc_elements.specs.Elements.{Item, Items, item, nested, no_items, node_count, nodes_of, plain}
+use Rattle.doc_elements.specs.Pieces.{words, time, uuid, number, truth, lock}
 use Rattle.index_model.specs.Values.{NodeFacts, Nodes, no_nodes, directory, file, link, VolumeFacts, IndexValue, count, listed, all_nodes}
 use Rattle.index_read.proofs.WrittenItems.{back_item, comment_item, directory_items, extents_items, file_items, index_items, items_of, lock_item, maybe, name_items, nodes_items, policy_item, spot_items}
 

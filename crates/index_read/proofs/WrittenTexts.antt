@@ -9,13 +9,14 @@ use Rattle.doc_fields.specs.Written.{start_text, end_text}
 use Rattle.index_model.specs.declared.indexes.Policy.{Policy}
 use Rattle.index_model.specs.declared.indexes.Spot.{Spot}
 use Rattle.index_model.specs.declared.nodes.RawExtent.{RawExtent}
-use Rattle.index_model.specs.declared.schema.Place.TheVariants as place
+use Rattle.doc_elements.specs.declared.schema.Place.TheVariants as place
 use Rattle.index_model.specs.Canonical.{canonical, directory_text, element, extent, file_text, head, if_told, letter, link_text, name, nodes_text, number, policy, spot, time, truth, volume_text}
 use Rattle.index_model.specs.Canonical as text
-use Rattle.index_model.specs.Pieces as val
-use Rattle.index_model.specs.Grammar.{Item, plain, nested, Items, item}
+use Rattle.doc_elements.specs.Pieces as val
+use Rattle.doc_elements.specs.Elements.{Item, plain, nested, Items, item}
 use Rattle.index_model.specs.Values.{NodeFacts, Nodes, no_nodes, directory, file, link, IndexValue}
-use Rattle.index_read.proofs.WrittenItems.{back_item, comment_item, directory_items, extent_items, extents_items, file_items, items_of, lock_item, maybe, name_items, nodes_items, policy_item, spot_items, text_of, texts_of}
+use Rattle.doc_elements.proofs.WrittenItems.{text_of, texts_of}
+use Rattle.index_read.proofs.WrittenItems.{back_item, comment_item, directory_items, extent_items, extents_items, file_items, items_of, lock_item, maybe, name_items, nodes_items, policy_item, spot_items}
 
 -- ---- how texts join
 

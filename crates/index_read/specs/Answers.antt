@@ -1,59 +1,10 @@
--- What the code's values stand for, and what a call may answer where reading gives a value or a refusal.
-use Rattle.std.specs.Prelude.{◌≡◌, ◌<◌, ℕ, true, Result, Ok, Err}
-use Rattle.tape_types.specs.Times.{civil_of}
+-- What a call answers where reading gives an index or a refusal.
+use Rattle.std.specs.Prelude.{◌≡◌, Result, Ok, Err}
 use Rattle.index_model.specs.declared.indexes.Index.{Index}
 use Rattle.index_model.specs.declared.errors.IndexErr.{IndexErr}
 use Rattle.index_model.specs.declared.errors.IndexErr.TheVariants as errors
-use Rattle.index_model.specs.Schema.{is_node}
-use Rattle.index_model.specs.Pieces.{Val, words, time, uuid, letter, number, truth, lock, Piece as Told, opens, whole, closes, leaf}
-use Rattle.index_read.specs.declared.pieces.Piece.{Piece}
-use Rattle.index_read.specs.declared.pieces.Piece.TheVariants as code_pieces
-use Rattle.index_read.specs.declared.values.Value.{Value}
-use Rattle.index_read.specs.declared.values.Value.TheVariants as code
 
-abbrev pub val_of : Value → Val
-val_of (code.Text text) = words text
-val_of (code.Time moment) = time (civil_of moment)
-val_of (code.Uuid n) = uuid n
-val_of (code.Letter byte) = letter byte
-val_of (code.Number n) = number n
-val_of (code.Truth is) = truth is
-val_of (code.Lock state) = lock state
-
-abbrev pub piece_of : Piece → Told
-piece_of (code_pieces.Opens p) = opens p
-piece_of (code_pieces.Whole p) = whole p
-piece_of code_pieces.Closes = closes
-piece_of (code_pieces.Leaf tag v) = leaf tag (val_of v)
-
--- there are fewer nodes than there may be, where a piece begins one
-abbrev pub HasRoom : Piece → ℕ → Type 0
-HasRoom (code_pieces.Opens p) nodes = is_node p ≡ true → nodes < 65536
-HasRoom (code_pieces.Whole p) nodes = is_node p ≡ true → nodes < 65536
-HasRoom code_pieces.Closes nodes = Unit {0}
-HasRoom (code_pieces.Leaf tag v) nodes = Unit {0}
-
--- a refusal is the one that reading gives, unless memory was refused
-abbrev pub Fails : {B : Type 0} → IndexErr → Result B IndexErr → Type 0
-Fails (errors.Syntax at) read = read ≡ Err (errors.Syntax at)
-Fails (errors.Unknown at) read = read ≡ Err (errors.Unknown at)
-Fails (errors.Twice at) read = read ≡ Err (errors.Twice at)
-Fails errors.Version read = read ≡ Err errors.Version
-Fails (errors.Missing t) read = read ≡ Err (errors.Missing t)
-Fails (errors.Number at) read = read ≡ Err (errors.Number at)
-Fails (errors.Name at) read = read ≡ Err (errors.Name at)
-Fails errors.TooMany read = read ≡ Err errors.TooMany
-Fails (errors.Uid n) read = read ≡ Err (errors.Uid n)
-Fails (errors.SameName n) read = read ≡ Err (errors.SameName n)
-Fails (errors.Extent n) read = read ≡ Err (errors.Extent n)
-Fails (errors.Overlap n) read = read ≡ Err (errors.Overlap n)
-Fails errors.NoMemory read = Unit {0}
-
--- what a call answered, seen by a view, is what reading gives; or memory was refused
-abbrev pub Gives : {A B : Type 0} → (A → B) → Result A IndexErr → Result B IndexErr → Type 0
-Gives view (Ok x) read = read ≡ Ok (view x)
-Gives view (Err e) read = Fails e read
-
+-- a refusal is due, unless memory was refused
 abbrev pub UnlessMemory : IndexErr → Type 0 → Type 0
 UnlessMemory (errors.Syntax at) P = P
 UnlessMemory (errors.Unknown at) P = P

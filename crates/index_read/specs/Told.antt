@@ -12,12 +12,13 @@ use Rattle.index_model.specs.declared.indexes.Spot.{Spot}
 use Rattle.index_model.specs.declared.nodes.Kind.{Kind}
 use Rattle.index_model.specs.declared.nodes.Kind.TheVariants as kinds
 use Rattle.index_model.specs.declared.nodes.RawExtent.{RawExtent}
-use Rattle.index_model.specs.declared.schema.Place.{Place}
-use Rattle.index_model.specs.declared.schema.Place.TheVariants as place
-use Rattle.index_model.specs.Schema.{is_node}
+use Rattle.doc_elements.specs.declared.schema.Place.{Place}
+use Rattle.doc_elements.specs.declared.schema.Place.TheVariants as place
+use Rattle.doc_elements.specs.Schema.{is_node}
 use Rattle.index_model.specs.Values.{NodeFacts, TimesValue, NodeValue, VolumeFacts}
-use Rattle.index_model.specs.Pieces.{Val, words, time, uuid, letter, number, truth, lock, Piece, opens, whole, closes, leaf}
-use Rattle.index_model.specs.Grammar.{Item, plain, bare, nested, Items, no_items, item, own}
+use Rattle.doc_elements.specs.Pieces.{Val, words, time, uuid, letter, number, truth, lock, Piece, opens, whole, closes, leaf}
+use Rattle.doc_elements.specs.Elements.{Item, plain, bare, nested, Items, no_items, item}
+use Rattle.index_model.specs.Grammar.{own}
 
 -- ---- a value, where one of its kind is told, else the one that was there
 

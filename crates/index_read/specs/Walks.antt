@@ -1,12 +1,13 @@
 -- What a reader keeps while it goes from piece to piece.
-use Rattle.std.specs.Prelude.{◌≡◌, ◌⊎◌, IsUtf8, ℕ, List, [], ◌∷◌, ◌++◌, Bool, true, false, map, length, Err}
+use Rattle.std.specs.Prelude.{◌≡◌, ◌⊎◌, IsUtf8, ℕ, List, [], ◌∷◌, ◌++◌, Bool, true, false, map, length}
 use Rattle.doc_fields.specs.declared.tags.Tag.{Tag}
 use Rattle.doc_children.specs.Children.{children_of}
 use Rattle.index_model.specs.declared.errors.IndexErr.{IndexErr}
-use Rattle.index_model.specs.declared.schema.Place.TheVariants as place
-use Rattle.index_model.specs.Schema.{tag_of}
-use Rattle.index_model.specs.Pieces.{Piece, opens, whole, closes, leaf, Frame, piece_at}
-use Rattle.index_model.specs.Documents.{Accepts, Point, Reaches, fresh, with_child, StopsAt, fault_told}
+use Rattle.doc_elements.specs.declared.schema.Place.TheVariants as place
+use Rattle.doc_elements.specs.Schema.{tag_of}
+use Rattle.doc_elements.specs.Pieces.{Piece, opens, whole, closes, leaf, Frame}
+use Rattle.doc_elements.specs.Documents.{Accepts, Reaches, fresh, with_child}
+use Rattle.index_model.specs.Documents.{StopsAs, fault_told}
 use Rattle.index_model.specs.declared.faults.Fault.{Fault}
 use Rattle.index_model.specs.declared.indexes.Index.{Index}
 use Rattle.index_model.specs.Refusals.{IsToldOf}
@@ -62,20 +63,10 @@ pub record Walked (text : List ℕ) (inside to : ℕ) (s : State) : Type 0 where
       Reaches text ps inside (fresh place.Index ∷ []) 0 (record { at = to; parents = []; nodes = length s.nodes })
   pub tells : Tell ps outermost blank [] s
 
--- the pieces before the first that doesn't fit
-pub record Halted (text : List ℕ) (inside : ℕ) (e : IndexErr) : Type 0 where
-  pub ps : List Piece
-  pub point : Point
-  pub reaches : Reaches text ps inside (fresh place.Index ∷ []) 0 point
-  pub f : Frame
-  pub fs : List Frame
-  pub parents : point.parents ≡ f ∷ fs
-  pub fails : piece_at f point.nodes text point.at ≡ Err e
-
 -- the text is a whole document, and its pieces tell this
 pub record IsWhole (text : List ℕ) (s : State) : Type 0 where
   pub ps : List Piece
-  pub accepts : Accepts text ps
+  pub accepts : Accepts place.Index text ps
   pub tells : Tell ps outermost blank [] s
 
 -- the text is a whole document in UTF-8, and its pieces tell this index
@@ -96,4 +87,4 @@ pub record IsFaulty (text : List ℕ) (e : IndexErr) : Type 0 where
 
 -- why a text isn't read
 abbrev pub IsRefused : List ℕ → IndexErr → Type 0
-IsRefused text e = StopsAt text e ⊎ IsFaulty text e
+IsRefused text e = StopsAs text e ⊎ IsFaulty text e

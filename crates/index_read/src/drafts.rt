@@ -5,16 +5,16 @@ ghost use Rattle.std.specs.Option.{option_map};
 ghost use Rattle.tape_types.specs.Times.{civil_of};
 ghost use Rattle.doc_fields.specs.declared.tags.Tag.TheVariants as tags;
 ghost use Rattle.index_model.specs.declared.nodes.Kind.TheVariants as kinds;
-ghost use Rattle.index_model.specs.Grammar.{plain};
-ghost use Rattle.index_model.specs.Pieces.{letter, number, words, time, uuid, truth, lock};
+ghost use Rattle.doc_elements.specs.Elements.{plain};
+ghost use Rattle.doc_elements.specs.Pieces.{letter, number, words, time, uuid, truth, lock};
 ghost use Rattle.index_model.specs.Values.{facts_of, value_of, volume_of};
-ghost use Rattle.index_read.specs.Answers.{val_of};
+ghost use Rattle.doc_elements.specs.Answers.{val_of};
 ghost use Rattle.index_read.specs.Drafts.{state_of};
 ghost use Rattle.index_read.specs.Told.{begun, blank, blank_node, blank_volume, changed, ended, epoch, extent_with, facts_with, kind_with, leaf_told, node_with, one_more, policy_with, spot_with, volume_with, with_extent};
 
-use crate::values::Value;
+use doc_elements::{Place, Value};
 use doc_fields::{LockState, Tag};
-use index_model::{Index, Kind, Node, Place, Policy, RawExtent, Spot, TextList};
+use index_model::{Index, Kind, Node, Policy, RawExtent, Spot, TextList};
 use std::alloc::Global;
 use tape_types::{List, Moment, NoMemory, Text, Times};
 

@@ -3,11 +3,9 @@
 
 mod drafts;
 mod laws;
-mod pieces;
 mod reading;
 #[cfg(test)]
 mod tests;
-mod values;
 mod walking;
 
 pub use laws::{documents_read_back, indexes_read_are_valid, texts_are_read_in_one_way};

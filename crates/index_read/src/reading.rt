@@ -1,7 +1,9 @@
 //! The text of an index as a whole.
 
-ghost use Rattle.std.specs.Prelude.{◌≡◌, ◌≤◌, ◌<◌, length, map, IfOk, IfErr, IsUtf8};
-ghost use Rattle.index_model.specs.Documents.{Halts, is_index, readable, root_at};
+ghost use Rattle.std.specs.Prelude.{◌≡◌, map, IfOk, IfErr};
+ghost use Rattle.doc_elements.specs.declared.schema.Place.TheVariants as place;
+ghost use Rattle.doc_elements.specs.Answers as pieces;
+ghost use Rattle.doc_elements.specs.Documents.{Halts};
 ghost use Rattle.index_model.specs.Valid.{Agrees};
 ghost use Rattle.index_model.specs.Values.{value_of, volume_of};
 ghost use Rattle.index_model.specs.declared.indexes.Index.{Index as IndexOf};
@@ -12,63 +14,19 @@ ghost use Rattle.index_read.specs.Walks.{IsReadAs, IsRefused, IsWhole};
 
 use crate::drafts::Draft;
 use crate::walking::walk;
-use doc_fields::{Tag, Why, read_head, read_name, read_rest, skip_space};
+use doc_elements::{PieceErr, Place, readable, skip_head};
+use doc_fields::skip_space;
 use index_faults::first_fault;
 use index_model::{Index, IndexErr};
 use std::alloc::Global;
-use std::str;
 use tape_types::{List, NoMemory};
 
-fn is_index(tag: Tag) -> bool
-    ensures { result ≡ is_index tag }
-{
-    match tag {
-        Tag::LtfsIndex => true,
-        _ => false,
-    }
-}
-
-/// Reads the start tag with which the one element begins, and gives the place behind it.
-#[tactic(auto, unfolding(index_model::specs::Documents::root_at))]
-fn root(text: &[u8], at: usize) -> Result<usize, IndexErr>
-    requires { at ≤ length text.now }
-    ensures value { result ≡ root_at text.now at }
-    ensures within { IfOk result (λ x. x ≤ length text.now) }
-{
-    let (tag, next) = read_name(text, at)?;
-    match read_rest(tag, at, text, next) {
-        Ok(start) => {
-            if !is_index(tag) {
-                return Err(IndexErr::Unknown(at));
-            }
-            if start.empty {
-                return Err(IndexErr::Missing(Tag::Creator));
-            }
-            Ok(start.next)
-        }
-        Err(fault) => {
-            match fault.why {
-                Why::Unknown => return Err(IndexErr::Unknown(fault.at)),
-                _ => {}
-            }
-            if !is_index(tag) {
-                return Err(IndexErr::Unknown(at));
-            }
-            Err(IndexErr::from(fault))
-        }
-    }
-}
-
 /// What a text tells, as far as it is UTF-8.
-fn whole(alloc: Global, text: &[u8]) -> Result<Draft, IndexErr>
+fn whole(alloc: Global, text: &[u8]) -> Result<Draft, PieceErr>
     ensures found { IfOk result (λ d. IsWhole text.now (state_of d)) }
-    ensures refused { IfErr result (λ e. UnlessMemory e (Halts text.now e)) }
+    ensures refused { IfErr result (λ e. pieces.UnlessMemory e (Halts place.Index text.now e)) }
 {
-    let from = match read_head(text, 0) {
-        Ok(from) => from,
-        Err(fault) => return Err(IndexErr::from(fault)),
-    };
-    let inside = match root(text, skip_space(text, from)) {
+    let inside = match skip_head(Place::Index, text) {
         Ok(inside) => inside,
         Err(fault) => return Err(fault),
     };
@@ -78,20 +36,9 @@ fn whole(alloc: Global, text: &[u8]) -> Result<Draft, IndexErr>
     };
     let end = skip_space(text, at);
     if end != text.len() {
-        return Err(IndexErr::Syntax(end));
+        return Err(PieceErr::Syntax(end));
     }
     Ok(draft)
-}
-
-/// The front of a text that is UTF-8.
-fn readable(text: &[u8]) -> &[u8]
-    ensures front { result.now ≡ readable text.now }
-    ensures valid { length result.now ≡ length text.now → IsUtf8 text.now }
-{
-    match str::from_utf8(text) {
-        Ok(_) => text,
-        Err(fault) => &text[..fault.valid_up_to()],
-    }
 }
 
 fn into_index(draft: Draft) -> Index
@@ -105,6 +52,7 @@ fn into_index(draft: Draft) -> Index
 }
 
 /// Reads all of a text.
+#[tactic(auto, using(crate::proofs::Whole::ends_badly))]
 fn read(alloc: Global, text: &[u8]) -> Result<Index, IndexErr>
     ensures found { IfOk result (λ index. IsReadAs text.now index) }
     ensures agrees { IfOk result (λ index. Agrees index) }
@@ -113,7 +61,7 @@ fn read(alloc: Global, text: &[u8]) -> Result<Index, IndexErr>
     let front = readable(text);
     let draft = match whole(alloc, front) {
         Ok(draft) => draft,
-        Err(fault) => return Err(fault),
+        Err(fault) => return Err(IndexErr::from(fault)),
     };
     if front.len() != text.len() {
         return Err(IndexErr::Syntax(front.len()));

@@ -1,17 +1,18 @@
 //! Pieces one after the other.
 
 ghost use Rattle.std.specs.Prelude.{◌≡◌, ◌≤◌, ◌<◌, ℕ, List, true, length, OnOk, IfOk, IfErr};
-ghost use Rattle.index_model.specs.Schema.{is_node};
-ghost use Rattle.index_read.specs.Answers.{HasRoom, UnlessMemory, piece_of};
+ghost use Rattle.doc_elements.specs.Schema.{is_node};
+ghost use Rattle.doc_elements.specs.declared.schema.Place.TheVariants as place;
+ghost use Rattle.doc_elements.specs.Answers.{HasRoom, UnlessMemory, piece_of};
 ghost use Rattle.index_read.specs.Drafts.{state_of};
 ghost use Rattle.index_read.specs.Told.{State, blank, node_in, piece_told};
-ghost use Rattle.index_read.specs.Walks.{Halted, Keeps, Opened, Walked, coded, level_in, opened_after, stacked, with_tag};
+ghost use Rattle.doc_elements.specs.Documents.{Halted};
+ghost use Rattle.index_read.specs.Walks.{Keeps, Opened, Walked, coded, level_in, opened_after, stacked, with_tag};
 
 use crate::drafts::Draft;
-use crate::pieces::{Frame, Piece, next_piece};
 use doc_children::Children;
+use doc_elements::{Frame, Piece, PieceErr, Place, is_node, next_piece, tag_of};
 use doc_fields::Tag;
-use index_model::{IndexErr, Place, is_node, tag_of};
 use std::alloc::{AllocError, Global};
 use tape_types::NoMemory;
 
@@ -104,11 +105,11 @@ fn tell(alloc: Global, draft: &mut Draft, level: Level, piece: Piece) -> Result<
 
 /// What the pieces tell behind the root's start tag, which ends at `inside`, and where its end
 /// tag ends.
-pub fn walk(alloc: Global, text: &[u8], inside: usize) -> Result<(Draft, usize), IndexErr>
+pub fn walk(alloc: Global, text: &[u8], inside: usize) -> Result<(Draft, usize), PieceErr>
     requires { inside ≤ length text.now }
     ensures found { IfOk result (λ x. Walked text.now inside x.1 (state_of x.0)) }
     ensures within { IfOk result (λ x. x.1 ≤ length text.now) }
-    ensures refused { IfErr result (λ e. UnlessMemory e (Halted text.now inside e)) }
+    ensures refused { IfErr result (λ e. UnlessMemory e (Halted place.Index text.now inside e)) }
 {
     let mut draft = Draft::new(alloc);
     let mut outer: Vec<Level> = Vec::new(alloc);

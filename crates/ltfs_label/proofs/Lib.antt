@@ -1,11 +1,6 @@
 pub mod Assembled
-pub mod Inversion
 pub mod Items
-pub mod Once
-pub mod Only
-pub mod Parents
+pub mod Places
 pub mod Steps
-pub mod Trees
-pub mod ValuesBack
-pub mod Whole
+pub mod Texts
 pub mod Writes

@@ -1,5 +1,5 @@
 -- The one text of a label that is written.
-use Rattle.std.specs.Prelude.{◌≡◌, ◌≤◌, true, ℕ, List, [], ◌∷◌, ◌++◌, codes}
+use Rattle.std.specs.Prelude.{◌≡◌, ◌≤◌, Bool, true, nat_le, ◌&&◌, ℕ, List, [], ◌∷◌, ◌++◌, codes}
 use Rattle.std.specs.Fmt.{decimal}
 use Rattle.std.specs.List.{list_all}
 use Rattle.std.specs.Str.{chars}
@@ -9,27 +9,27 @@ use Rattle.doc_fields.specs.declared.tags.Tag.{Tag}
 use Rattle.doc_fields.specs.declared.tags.Tag.TheVariants.{LtfsLabel, Creator, FormatTime, VolumeUuid, Location, Partition, Partitions, IndexLetter, DataLetter, BlockSize, Compression}
 use Rattle.doc_fields.specs.declared.starts.Attribute.TheVariants.{Absent, Version}
 use Rattle.doc_fields.specs.Texts.{is_allowed}
+use Rattle.doc_fields.specs.Values.{lock_word}
 use Rattle.doc_fields.specs.Written.{start_text, end_text, bool_text, escape}
-use Rattle.ltfs_label.specs.Pieces.{in_block_range}
-use Rattle.ltfs_label.specs.Values.{Val, words, time, uuid, letter, size, truth, LabelValue}
+use Rattle.doc_elements.specs.Pieces.{Val, words, time, uuid, letter, number, truth, lock}
+pub use Rattle.doc_elements.specs.Written.{element, head}
+use Rattle.ltfs_label.specs.Values.{LabelValue}
+
+-- a block has 4,096 to 1,048,576 bytes
+abbrev pub in_block_range : ℕ → Bool
+in_block_range n = nat_le 4096 n && nat_le n 1048576
 
 abbrev pub content_of : Val → List ℕ
 content_of (words text) = escape text
 content_of (time civil) = civil_text civil
-content_of (uuid number) = uuid_text number
+content_of (uuid n) = uuid_text n
 content_of (letter byte) = byte ∷ []
-content_of (size number) = decimal number
+content_of (number n) = decimal n
 content_of (truth is) = bool_text is
-
--- an element with what stands in it
-abbrev pub element : Tag → List ℕ → List ℕ
-element tag content = start_text tag Absent ++ content ++ end_text tag
+content_of (lock state) = lock_word state
 
 abbrev pub leaf_text : Tag → Val → List ℕ
 leaf_text tag v = element tag (content_of v)
-
-abbrev pub head : List ℕ
-head = codes "<?xml version=\"1.0\" encoding=\"UTF-8\"?>"
 
 -- the children of a label in their order, with nothing between them
 abbrev pub children_text : LabelValue → List ℕ
@@ -39,7 +39,7 @@ children_text v =
     ++ leaf_text VolumeUuid (uuid v.uuid)
     ++ element Location (leaf_text Partition (letter v.location))
     ++ element Partitions (leaf_text IndexLetter (letter v.index) ++ leaf_text DataLetter (letter v.dpart))
-    ++ leaf_text BlockSize (size v.block)
+    ++ leaf_text BlockSize (number v.block)
     ++ leaf_text Compression (truth v.compression)
 
 unfoldable pub canonical : LabelValue → List ℕ

@@ -1,6 +1,4 @@
-pub mod Canonical
-pub mod Grammar
-pub mod Pieces
-pub mod Reading
-pub mod Schema
 pub mod Values
+pub mod Reading
+pub mod Grammar
+pub mod Canonical

@@ -1,4 +1,4 @@
--- The values of a label's leaves, and of a label.
+-- The value of a label.
 use Rattle.std.specs.Prelude.{ℕ, pos, List, [], Bool, false}
 use lib.Dec.{lit<}
 use Rattle.doc_fields.specs.declared.tags.Tag.{Tag}
@@ -6,26 +6,8 @@ use Rattle.doc_fields.specs.declared.tags.Tag.TheVariants.{Creator, FormatTime, 
 use Rattle.tape_types.specs.declared.moments.Moment.{Moment}
 use Rattle.tape_types.specs.declared.times.Civil.{Civil}
 use Rattle.tape_types.specs.Times.{civil_of}
+use Rattle.doc_elements.specs.Pieces.{Val, words, time, uuid, letter, number, truth}
 use Rattle.ltfs_label.specs.declared.Label.{Label}
-use Rattle.ltfs_label.specs.declared.pieces.Value.{Value}
-use Rattle.ltfs_label.specs.declared.pieces.Value.TheVariants as code
-
--- the value of a leaf
-pub data Val : Type 0 where
-  words : List ℕ → Val
-  time : Civil → Val
-  uuid : ℕ → Val
-  letter : ℕ → Val
-  size : ℕ → Val
-  truth : Bool → Val
-
-abbrev pub val_of : Value → Val
-val_of (code.Text text) = words text
-val_of (code.Time moment) = time (civil_of moment)
-val_of (code.Uuid number) = uuid number
-val_of (code.Letter byte) = letter byte
-val_of (code.Size number) = size number
-val_of (code.Truth is) = truth is
 
 -- the value of a label, its moment as a date and a time of day
 pub record LabelValue : Type 0 where
@@ -81,6 +63,6 @@ set_leaf VolumeUuid (uuid n) v = record v { uuid = n }
 set_leaf Partition (letter b) v = record v { location = b }
 set_leaf IndexLetter (letter b) v = record v { index = b }
 set_leaf DataLetter (letter b) v = record v { dpart = b }
-set_leaf BlockSize (size n) v = record v { block = n }
+set_leaf BlockSize (number n) v = record v { block = n }
 set_leaf Compression (truth b) v = record v { compression = b }
 set_leaf _ _ v = v

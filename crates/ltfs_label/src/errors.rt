@@ -1,11 +1,10 @@
 //! Why a text is no label.
 
-ghost use Rattle.std.specs.Prelude.{◌≡◌};
-ghost use Rattle.ltfs_label.specs.declared.errors.LabelErr.TheVariants.{NoMemory};
-ghost use Rattle.ltfs_label.specs.Pieces.{refusal};
+ghost use Rattle.std.specs.Prelude.{◌≡◌, IsSome, Some};
+ghost use Rattle.ltfs_label.specs.Reading.{told};
 
-use doc_fields::{FieldErr, Tag, Why};
-use std::alloc::{AllocError, AllocFailed};
+use doc_elements::PieceErr;
+use doc_fields::Tag;
 
 /// Why a text is no label: what is wrong with the first piece that doesn't fit, and where.
 /// Places are offsets in bytes.
@@ -29,32 +28,19 @@ pub enum LabelErr {
     NoMemory,
 }
 
-impl From<FieldErr> for LabelErr {
-    ghost from_gives = { λ e r. r ≡ refusal e.why e.at };
-
-    fn from(e: FieldErr) -> LabelErr {
-        match e.why {
-            Why::Syntax => LabelErr::Syntax(e.at),
-            Why::Unknown => LabelErr::Unknown(e.at),
-            Why::Version => LabelErr::Version,
-            Why::Number => LabelErr::Number(e.at),
-            Why::NoMemory => LabelErr::NoMemory,
-        }
-    }
-}
-
-impl From<AllocError> for LabelErr {
-    ghost from_gives = { λ _ e. e ≡ NoMemory };
-
-    fn from(_e: AllocError) -> LabelErr {
-        LabelErr::NoMemory
-    }
-}
-
-impl<T: Drop> From<AllocFailed<T>> for LabelErr {
-    ghost from_gives = { λ _ e. e ≡ NoMemory };
-
-    fn from(_e: AllocFailed<T>) -> LabelErr {
-        LabelErr::NoMemory
+/// How a refusal of a label's document is told. No element of a label is a name or a node.
+pub fn told(why: PieceErr) -> LabelErr
+    requires { IsSome (told why) }
+    ensures { told why ≡ Some result }
+{
+    match why {
+        PieceErr::Syntax(at) => LabelErr::Syntax(at),
+        PieceErr::Unknown(at) => LabelErr::Unknown(at),
+        PieceErr::Twice(at) => LabelErr::Twice(at),
+        PieceErr::Version => LabelErr::Version,
+        PieceErr::Missing(tag) => LabelErr::Missing(tag),
+        PieceErr::Number(at) => LabelErr::Number(at),
+        PieceErr::NoMemory => LabelErr::NoMemory,
+        PieceErr::Name(_) | PieceErr::TooMany => unreachable!(),
     }
 }

@@ -2,9 +2,7 @@
 #![tactic(auto)]
 
 mod errors;
-mod pieces;
 mod reading;
-mod schema;
 #[cfg(test)]
 mod tests;
 mod walking;

@@ -1,69 +1,27 @@
 //! The text of a label as a whole.
 
-ghost use Rattle.std.specs.Prelude.{◌≡◌, ◌≤◌, ◌<◌, ℕ, List, length, IfOk, IfErr, IsUtf8, Ok};
+ghost use Rattle.std.specs.Prelude.{◌≡◌, ℕ, List, IfOk, IfErr};
+ghost use Rattle.doc_elements.specs.declared.schema.Place.TheVariants as place;
+ghost use Rattle.doc_elements.specs.Answers as pieces;
+ghost use Rattle.doc_elements.specs.Documents.{Halts};
 ghost use Rattle.ltfs_label.specs.declared.errors.LabelErr.{LabelErr};
 ghost use Rattle.ltfs_label.specs.Grammar.{LabelText};
-ghost use Rattle.ltfs_label.specs.Pieces.{Gives};
-ghost use Rattle.ltfs_label.specs.Reading.{Halts, IsRead, Reads, is_label, Stops, UnlessMemory, readable, root_at};
+ghost use Rattle.ltfs_label.specs.Reading.{IsReadOr, Reads, Stops, UnlessMemory};
 ghost use Rattle.ltfs_label.specs.Values.{LabelValue, label_of};
 
 use crate::Label;
-use crate::errors::LabelErr;
+use crate::errors::{LabelErr, told};
 use crate::walking::walk;
-use doc_fields::{Tag, Why, read_head, read_name, read_rest, skip_space};
+use doc_elements::{PieceErr, Place, readable, skip_head};
+use doc_fields::skip_space;
 use std::alloc::Global;
-use std::str;
-
-/// Reads the root's start tag, and gives the place behind it.
-#[tactic(auto, unfolding(crate::specs::Reading::root_at))]
-fn root(text: &[u8], at: usize) -> Result<usize, LabelErr>
-    requires { at ≤ length text.now }
-    ensures value { result ≡ root_at text.now at }
-    ensures within { IfOk result (λ x. x ≤ length text.now) }
-{
-    let (tag, next) = read_name(text, at)?;
-    match read_rest(tag, at, text, next) {
-        Ok(start) => {
-            if !is_label(tag) {
-                return Err(LabelErr::Unknown(at));
-            }
-            if start.empty {
-                return Err(LabelErr::Missing(Tag::Creator));
-            }
-            Ok(start.next)
-        }
-        Err(fault) => {
-            match fault.why {
-                Why::Unknown => return Err(LabelErr::Unknown(fault.at)),
-                _ => {}
-            }
-            if !is_label(tag) {
-                return Err(LabelErr::Unknown(at));
-            }
-            Err(LabelErr::from(fault))
-        }
-    }
-}
-
-fn is_label(tag: Tag) -> bool
-    ensures { result ≡ is_label tag }
-{
-    match tag {
-        Tag::LtfsLabel => true,
-        _ => false,
-    }
-}
 
 /// The label that a text is, as far as it is UTF-8.
-fn whole(alloc: Global, text: &[u8]) -> Result<Label, LabelErr>
+fn whole(alloc: Global, text: &[u8]) -> Result<Label, PieceErr>
     ensures found { IfOk result (λ l. Reads text.now (label_of l)) }
-    ensures refused { IfErr result (λ e. UnlessMemory e (Halts text.now e)) }
+    ensures refused { IfErr result (λ e. pieces.UnlessMemory e (Halts place.Label text.now e)) }
 {
-    let from = match read_head(text, 0) {
-        Ok(from) => from,
-        Err(fault) => return Err(LabelErr::from(fault)),
-    };
-    let inside = match root(text, skip_space(text, from)) {
+    let inside = match skip_head(Place::Label, text) {
         Ok(inside) => inside,
         Err(fault) => return Err(fault),
     };
@@ -73,31 +31,21 @@ fn whole(alloc: Global, text: &[u8]) -> Result<Label, LabelErr>
     };
     let end = skip_space(text, at);
     if end != text.len() {
-        return Err(LabelErr::Syntax(end));
+        return Err(PieceErr::Syntax(end));
     }
     Ok(label)
 }
 
-/// The front of a text that is UTF-8.
-fn readable(text: &[u8]) -> &[u8]
-    ensures front { result.now ≡ readable text.now }
-    ensures valid { length result.now ≡ length text.now → IsUtf8 text.now }
-{
-    match str::from_utf8(text) {
-        Ok(_) => text,
-        Err(fault) => &text[..fault.valid_up_to()],
-    }
-}
-
 /// Reads all of a text.
+#[tactic(auto, using(crate::proofs::Texts::ends_badly))]
 fn read(alloc: Global, text: &[u8]) -> Result<Label, LabelErr>
-    ensures found { IfOk result (λ l. IsRead text.now (label_of l)) }
+    ensures found { IfOk result (λ l. LabelText text.now (label_of l)) }
     ensures refused { IfErr result (λ e. UnlessMemory e (Stops text.now e)) }
 {
     let front = readable(text);
     let label = match whole(alloc, front) {
         Ok(label) => label,
-        Err(fault) => return Err(fault),
+        Err(fault) => return Err(told(fault)),
     };
     if front.len() != text.len() {
         return Err(LabelErr::Syntax(front.len()));
@@ -114,7 +62,7 @@ fn read(alloc: Global, text: &[u8]) -> Result<Label, LabelErr>
 /// `Number`, `Syntax`. `NoMemory` where memory is refused.
 pub fn read_label(alloc: Global, text: &[u8]) -> Result<Label, LabelErr>
     ensures found { IfOk result (λ l. LabelText text.now (label_of l)) }
-    ensures only { (v : LabelValue) → LabelText text.now v → Gives label_of result (Ok v) }
+    ensures only { (v : LabelValue) → LabelText text.now v → IsReadOr result v }
     ensures refused { IfErr result (λ e. UnlessMemory e (Stops text.now e)) }
 {
     read(alloc, text)

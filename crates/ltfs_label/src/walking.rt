@@ -1,28 +1,20 @@
 //! Pieces one after the other.
 
 ghost use Rattle.std.specs.Prelude.{◌≡◌, ◌≤◌, ◌<◌, List, length, IfOk, IfErr};
-ghost use Rattle.ltfs_label.specs.Values as values;
-ghost use Rattle.ltfs_label.specs.Values.{blank, epoch, label_of, set_leaf, val_of};
-ghost use Rattle.ltfs_label.specs.Pieces as pieces;
 ghost use Rattle.tape_types.specs.Times.{civil_of};
-ghost use Rattle.ltfs_label.specs.Pieces.{piece_of};
-ghost use Rattle.ltfs_label.specs.Reading.{Halted, Keeps, UnlessMemory, Walked, after, coded, set, stacked};
+ghost use Rattle.doc_elements.specs.declared.schema.Place.TheVariants as place;
+ghost use Rattle.doc_elements.specs.Answers.{UnlessMemory, piece_of, val_of};
+ghost use Rattle.doc_elements.specs.Documents.{Halted, after};
+ghost use Rattle.doc_elements.specs.Pieces as pieces;
+ghost use Rattle.ltfs_label.specs.Reading.{FitsBlock, Keeps, Walked, coded, set, stacked};
+ghost use Rattle.ltfs_label.specs.Values.{blank, epoch, label_of, set_leaf};
 
 use crate::Label;
-use crate::errors::LabelErr;
-use crate::pieces::{Piece, Value, next_piece};
-use crate::schema::{Place, tag_of};
 use doc_children::Children;
+use doc_elements::{Frame, Piece, PieceErr, Place, Value, next_piece, tag_of};
 use doc_fields::Tag;
 use std::alloc::{AllocError, Global};
 use tape_types::{Moment, Text};
-
-/// An open parent, and which children have stood in it.
-#[derive(Clone, Copy, Debug)]
-pub struct Frame {
-    pub place: Place,
-    pub seen: Children,
-}
 
 /// Opens and closes parents as a piece says; true where none is left.
 fn moved(piece: &Piece, top: &mut Frame, outer: &mut Vec<Frame>) -> Result<bool, AllocError>
@@ -62,7 +54,7 @@ fn moved(piece: &Piece, top: &mut Frame, outer: &mut Vec<Frame>) -> Result<bool,
 }
 
 fn put_text(label: &mut Label, tag: Tag, text: Text)
-    ensures { label_of label.new ≡ set_leaf tag (values.words text) (label_of label.old) }
+    ensures { label_of label.new ≡ set_leaf tag (pieces.words text) (label_of label.old) }
 {
     match tag {
         Tag::Creator => label.creator = text,
@@ -71,7 +63,7 @@ fn put_text(label: &mut Label, tag: Tag, text: Text)
 }
 
 fn put_letter(label: &mut Label, tag: Tag, letter: u8)
-    ensures { label_of label.new ≡ set_leaf tag (values.letter letter) (label_of label.old) }
+    ensures { label_of label.new ≡ set_leaf tag (pieces.letter letter) (label_of label.old) }
 {
     match tag {
         Tag::Partition => label.location = letter,
@@ -82,7 +74,7 @@ fn put_letter(label: &mut Label, tag: Tag, letter: u8)
 }
 
 fn put_time(label: &mut Label, tag: Tag, moment: Moment)
-    ensures { label_of label.new ≡ set_leaf tag (values.time (civil_of moment)) (label_of label.old) }
+    ensures { label_of label.new ≡ set_leaf tag (pieces.time (civil_of moment)) (label_of label.old) }
 {
     match tag {
         Tag::FormatTime => label.formatted = moment,
@@ -91,7 +83,7 @@ fn put_time(label: &mut Label, tag: Tag, moment: Moment)
 }
 
 fn put_uuid(label: &mut Label, tag: Tag, uuid: u128)
-    ensures { label_of label.new ≡ set_leaf tag (values.uuid uuid) (label_of label.old) }
+    ensures { label_of label.new ≡ set_leaf tag (pieces.uuid uuid) (label_of label.old) }
 {
     match tag {
         Tag::VolumeUuid => label.uuid = uuid,
@@ -99,17 +91,18 @@ fn put_uuid(label: &mut Label, tag: Tag, uuid: u128)
     }
 }
 
-fn put_size(label: &mut Label, tag: Tag, size: u32)
-    ensures { label_of label.new ≡ set_leaf tag (values.size size) (label_of label.old) }
+fn put_number(label: &mut Label, tag: Tag, number: u64)
+    requires { FitsBlock (pieces.leaf tag (pieces.number number)) }
+    ensures { label_of label.new ≡ set_leaf tag (pieces.number number) (label_of label.old) }
 {
     match tag {
-        Tag::BlockSize => label.block = size,
+        Tag::BlockSize => label.block = number as u32,
         _ => {}
     }
 }
 
 fn put_truth(label: &mut Label, tag: Tag, truth: bool)
-    ensures { label_of label.new ≡ set_leaf tag (values.truth truth) (label_of label.old) }
+    ensures { label_of label.new ≡ set_leaf tag (pieces.truth truth) (label_of label.old) }
 {
     match tag {
         Tag::Compression => label.compression = truth,
@@ -119,6 +112,7 @@ fn put_truth(label: &mut Label, tag: Tag, truth: bool)
 
 /// Puts the value of a leaf in its place.
 fn put_leaf(label: &mut Label, tag: Tag, value: Value)
+    requires { FitsBlock (pieces.leaf tag (val_of value)) }
     ensures { label_of label.new ≡ set_leaf tag (val_of value) (label_of label.old) }
 {
     match value {
@@ -126,12 +120,14 @@ fn put_leaf(label: &mut Label, tag: Tag, value: Value)
         Value::Time(moment) => put_time(label, tag, moment),
         Value::Uuid(uuid) => put_uuid(label, tag, uuid),
         Value::Letter(letter) => put_letter(label, tag, letter),
-        Value::Size(size) => put_size(label, tag, size),
+        Value::Number(number) => put_number(label, tag, number),
         Value::Truth(truth) => put_truth(label, tag, truth),
+        Value::Lock(_) => {}
     }
 }
 
 fn put(label: &mut Label, piece: Piece)
+    requires { FitsBlock (piece_of piece) }
     ensures { label_of label.new ≡ set (piece_of piece) (label_of label.old) }
 {
     match piece {
@@ -157,11 +153,11 @@ fn blank(alloc: Global) -> Label
 }
 
 /// The label whose root's start tag ends at `inside`, and where its end tag ends.
-pub fn walk(alloc: Global, text: &[u8], inside: usize) -> Result<(Label, usize), LabelErr>
+pub fn walk(alloc: Global, text: &[u8], inside: usize) -> Result<(Label, usize), PieceErr>
     requires { inside ≤ length text.now }
     ensures found { IfOk result (λ x. Walked text.now inside x.1 (label_of x.0)) }
     ensures within { IfOk result (λ x. x.1 ≤ length text.now) }
-    ensures refused { IfErr result (λ e. UnlessMemory e (Halted text.now inside e)) }
+    ensures refused { IfErr result (λ e. UnlessMemory e (Halted place.Label text.now inside e)) }
 {
     let mut label = blank(alloc);
     let mut outer: Vec<Frame> = Vec::new(alloc);
@@ -171,7 +167,10 @@ pub fn walk(alloc: Global, text: &[u8], inside: usize) -> Result<(Label, usize),
     };
     let mut at = inside;
     while at <= text.len() {
-        let (piece, next) = next_piece(alloc, top.place, top.seen, text, at)?;
+        let (piece, next) = match next_piece(alloc, top, 0, text, at) {
+            Ok(found) => found,
+            Err(fault) => return Err(fault),
+        };
         at = next;
         let done = moved(&piece, &mut top, &mut outer)?;
         put(&mut label, piece);

@@ -4,7 +4,7 @@ ghost use Rattle.std.specs.Prelude.{◌≡◌, ◌++◌, IfOk, OnOk};
 ghost use Rattle.doc_fields.specs.declared.tags.Tag.TheVariants.{DataLetter, IndexLetter, Location, Partition, Partitions};
 ghost use Rattle.ltfs_label.specs.Canonical.{canonical, children_text, element, IsLabel, leaf_text};
 ghost use Rattle.ltfs_label.specs.Grammar.{LabelText};
-ghost use Rattle.ltfs_label.specs.Values as values;
+ghost use Rattle.doc_elements.specs.Pieces as pieces;
 ghost use Rattle.ltfs_label.specs.Values.{label_of};
 ghost use Rattle.tape_types.specs.Times.{civil_of};
 
@@ -16,7 +16,7 @@ use std::alloc::Global;
 use tape_types::{Bytes, Moment, NoMemory};
 
 fn put_words(out: &mut Vec<u8>, tag: Tag, text: &str) -> Result<(), NoMemory>
-    ensures { OnOk result (out.new.items ≡ out.old.items ++ leaf_text tag (values.words text.now)) }
+    ensures { OnOk result (out.new.items ≡ out.old.items ++ leaf_text tag (pieces.words text.now)) }
 {
     put_start(out, tag, Attribute::Absent)?;
     put_text(out, text)?;
@@ -24,7 +24,7 @@ fn put_words(out: &mut Vec<u8>, tag: Tag, text: &str) -> Result<(), NoMemory>
 }
 
 fn put_moment(out: &mut Vec<u8>, tag: Tag, moment: Moment) -> Result<(), NoMemory>
-    ensures { OnOk result (out.new.items ≡ out.old.items ++ leaf_text tag (values.time (civil_of moment))) }
+    ensures { OnOk result (out.new.items ≡ out.old.items ++ leaf_text tag (pieces.time (civil_of moment))) }
 {
     put_start(out, tag, Attribute::Absent)?;
     put_time(out, moment)?;
@@ -33,7 +33,7 @@ fn put_moment(out: &mut Vec<u8>, tag: Tag, moment: Moment) -> Result<(), NoMemor
 }
 
 fn put_identifier(out: &mut Vec<u8>, tag: Tag, uuid: u128) -> Result<(), NoMemory>
-    ensures { OnOk result (out.new.items ≡ out.old.items ++ leaf_text tag (values.uuid uuid)) }
+    ensures { OnOk result (out.new.items ≡ out.old.items ++ leaf_text tag (pieces.uuid uuid)) }
 {
     put_start(out, tag, Attribute::Absent)?;
     put_uuid(out, uuid)?;
@@ -41,7 +41,7 @@ fn put_identifier(out: &mut Vec<u8>, tag: Tag, uuid: u128) -> Result<(), NoMemor
 }
 
 fn put_sign(out: &mut Vec<u8>, tag: Tag, letter: u8) -> Result<(), NoMemory>
-    ensures { OnOk result (out.new.items ≡ out.old.items ++ leaf_text tag (values.letter letter)) }
+    ensures { OnOk result (out.new.items ≡ out.old.items ++ leaf_text tag (pieces.letter letter)) }
 {
     put_start(out, tag, Attribute::Absent)?;
     put_letter(out, letter)?;
@@ -49,7 +49,7 @@ fn put_sign(out: &mut Vec<u8>, tag: Tag, letter: u8) -> Result<(), NoMemory>
 }
 
 fn put_number(out: &mut Vec<u8>, tag: Tag, number: u32) -> Result<(), NoMemory>
-    ensures { OnOk result (out.new.items ≡ out.old.items ++ leaf_text tag (values.size number)) }
+    ensures { OnOk result (out.new.items ≡ out.old.items ++ leaf_text tag (pieces.number number)) }
 {
     put_start(out, tag, Attribute::Absent)?;
     put_u64(out, u64::from(number))?;
@@ -57,7 +57,7 @@ fn put_number(out: &mut Vec<u8>, tag: Tag, number: u32) -> Result<(), NoMemory>
 }
 
 fn put_truth(out: &mut Vec<u8>, tag: Tag, truth: bool) -> Result<(), NoMemory>
-    ensures { OnOk result (out.new.items ≡ out.old.items ++ leaf_text tag (values.truth truth)) }
+    ensures { OnOk result (out.new.items ≡ out.old.items ++ leaf_text tag (pieces.truth truth)) }
 {
     put_start(out, tag, Attribute::Absent)?;
     put_bool(out, truth)?;
@@ -66,7 +66,7 @@ fn put_truth(out: &mut Vec<u8>, tag: Tag, truth: bool) -> Result<(), NoMemory>
 
 fn put_location(out: &mut Vec<u8>, location: u8) -> Result<(), NoMemory>
     ensures { OnOk result (out.new.items ≡ out.old.items
-        ++ element Location (leaf_text Partition (values.letter location))) }
+        ++ element Location (leaf_text Partition (pieces.letter location))) }
 {
     put_start(out, Tag::Location, Attribute::Absent)?;
     put_sign(out, Tag::Partition, location)?;
@@ -75,8 +75,8 @@ fn put_location(out: &mut Vec<u8>, location: u8) -> Result<(), NoMemory>
 
 fn put_partitions(out: &mut Vec<u8>, index: u8, dpart: u8) -> Result<(), NoMemory>
     ensures { OnOk result (out.new.items ≡ out.old.items
-        ++ element Partitions (leaf_text IndexLetter (values.letter index)
-        ++ leaf_text DataLetter (values.letter dpart))) }
+        ++ element Partitions (leaf_text IndexLetter (pieces.letter index)
+        ++ leaf_text DataLetter (pieces.letter dpart))) }
 {
     put_start(out, Tag::Partitions, Attribute::Absent)?;
     put_sign(out, Tag::IndexLetter, index)?;

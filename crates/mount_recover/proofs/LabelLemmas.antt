@@ -9,8 +9,7 @@ use Rattle.tape_types.specs.Times.{civil_of, civil_text, time_text}
 use Rattle.tape_types.proofs.CivilLemmas.{time_text_injective}
 use Rattle.vol_label.specs.declared.Vol1.{Vol1}
 use Rattle.vol_label.specs.Table.{IsRecord}
-use Rattle.ltfs_label.proofs.Once.{one_value}
-use Rattle.ltfs_label.proofs.Trees.{spelled_read}
+use Rattle.ltfs_label.proofs.Texts.{one_value}
 use Rattle.ltfs_label.specs.Grammar.{LabelText}
 use Rattle.ltfs_label.specs.Values.{LabelValue, label_of}
 use Rattle.tape_meaning.specs.declared.labels.Labels.{Labels}
@@ -49,7 +48,7 @@ one_label : (items : List Item) (v w : LabelValue) → HasLabel items v → HasL
 one_label items v w h k =
     let same : h.bytes ≡ k.bytes = same_block items 2 h.bytes k.bytes h.stands.block k.stands.block in
     let other : LabelText h.bytes w = subst (λ (b : List ℕ). LabelText b w) (sym same) k.spelled in
-    one_value h.bytes v w (spelled_read h.bytes v h.spelled).1 (spelled_read h.bytes w other).1
+    one_value h.bytes v w h.spelled other
 
 differ_not : (c : Cartridge) (l : Labels) (ip dp : LabelValue) → HasLabels c l → HasLabel c.ip ip → HasLabel c.dp dp → ¬ AreOfOneVolume ip dp → ⊥
 differ_not c l ip dp h at_ip at_dp differ =

@@ -16,7 +16,7 @@ use Rattle.vol_label.specs.declared.Vol1.{Vol1}
 use Rattle.vol_label.specs.Table.{IsRecord}
 use Rattle.ltfs_label.specs.Grammar.{LabelText}
 use Rattle.ltfs_label.specs.Values.{LabelValue, label_of}
-use Rattle.ltfs_label.specs.Pieces.{Gives}
+use Rattle.ltfs_label.specs.Reading.{IsReadOr}
 use Rattle.ltfs_label.specs.declared.Label.{Label}
 use Rattle.ltfs_label.specs.declared.errors.LabelErr.{LabelErr}
 use Rattle.ltfs_label.specs.declared.errors.LabelErr.TheVariants as errors
@@ -72,14 +72,8 @@ pub no_label : (items : List Item) (buf : List ℕ) → IsMarkedBlock items 2 bu
 no_label items buf m none (v, h) = none v (subst (λ (b : List ℕ). LabelText b v) (same_block items 2 h.bytes buf h.stands.block m.block) h.spelled)
 
 -- a refusal of another cause is none of a label's text
-pub not_given : (e : LabelErr) (v : LabelValue) → is_no_memory e ≡ false → Gives {A = Label} label_of (Err e) (Ok v) → ⊥
-not_given (errors.Syntax at) v e g = cc g
-not_given (errors.Unknown at) v e g = cc g
-not_given (errors.Twice at) v e g = cc g
-not_given errors.Version v e g = cc g
-not_given (errors.Missing tag) v e g = cc g
-not_given (errors.Number at) v e g = cc g
-not_given errors.NoMemory v e g = cc e
+pub not_given : (e : LabelErr) (v : LabelValue) → is_no_memory e ≡ false → IsReadOr (Err e) v → ⊥
+not_given e v other g = let bad : true ≡ false = sym (ap is_no_memory g) ∙ other in cc
 
 pub label_found : (items : List Item) (buf : List ℕ) (found : Option Label) → IsMarkedBlock items 2 buf
     → MatchOption found ((v : LabelValue) → LabelText buf v → ⊥) (λ label. LabelText buf (label_of label)) → MatchOption found (¬ HasSomeLabel items) (λ label. HasLabel items (label_of label))

@@ -12,8 +12,6 @@ use Rattle.vol_label.proofs.TableLemmas.{AllStand, all_stand-record, record_stan
 use Rattle.ltfs_label.specs.declared.Label.{Label}
 use Rattle.ltfs_label.specs.Grammar.{LabelText}
 use Rattle.ltfs_label.specs.Values.{LabelValue}
-use Rattle.ltfs_label.proofs.Once as once
-use Rattle.ltfs_label.proofs.Trees.{spelled_read}
 use Rattle.index_model.specs.declared.indexes.Index.{Index}
 use Rattle.index_model.specs.declared.indexes.Spot.{Spot}
 use Rattle.index_model.specs.declared.nodes.Kind.{Kind}
@@ -25,7 +23,7 @@ use Rattle.tape_meaning.specs.Labels.{AreInTheirPlaces, AreOfOneLayout, AreOfOne
 use Rattle.tape_meaning.specs.Meaning.{Fits, FitsKind, FitsNode, end_on}
 use Rattle.tape_meaning.specs.Pointers.{NamesOneOf, PointsBack, PointsOnDp, PointsOnIp, letter_of, newest_spot, spot_of}
 use Rattle.tape_meaning.proofs.Known.{Known, known_both, known_by, known_either, known_eq, known_le, known_lt, known_not, known_text, some_below}
-use Rattle.tape_meaning.proofs.LabelTexts.{label_or_stops}
+use Rattle.ltfs_label.proofs.Texts.{label_or_stops, never_both as label_goes}
 
 -- ---- blocks and marks
 
@@ -88,7 +86,7 @@ known_some_record items =
 known_label_text : (text : List ℕ) → Known ((v : LabelValue) × LabelText text v)
 known_label_text text = ⊎_elim
     (λ (some : (v : LabelValue) × LabelText text v). inl some)
-    (λ stops. inr (λ (h : (v : LabelValue) × LabelText text v). once.never_both text h.0 stops.0 (spelled_read text h.0 h.1) stops.1))
+    (λ stops. inr (λ (h : (v : LabelValue) × LabelText text v). label_goes text h.0 stops.0 h.1 stops.1))
     (label_or_stops text)
 
 pub known_some_label : (items : List Item) → Known (HasSomeLabel items)

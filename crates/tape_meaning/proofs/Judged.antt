@@ -21,8 +21,8 @@ use Rattle.tape_meaning.specs.declared.labels.Labels.{Labels}
 use Rattle.tape_meaning.proofs.Decided.{FirstOutside, all_or_first, known_on_dp, known_on_ip, known_some_label, known_some_record, known_volume}
 use Rattle.tape_meaning.proofs.IndexOrStops.{index_or_stops}
 use Rattle.tape_meaning.proofs.Known.{Known, known_eq}
-use Rattle.tape_meaning.proofs.LabelTexts.{label_formatted}
-use Rattle.tape_meaning.proofs.Moments.{HasMoment}
+use Rattle.ltfs_label.proofs.Texts.{label_formatted}
+use Rattle.doc_fields.proofs.Moments.{HasMoment}
 use Rattle.tape_meaning.proofs.OneFault.{IsBad}
 
 -- a label that says this

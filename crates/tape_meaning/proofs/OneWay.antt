@@ -13,8 +13,7 @@ use Rattle.vol_label.specs.declared.Vol1.{Vol1}
 use Rattle.ltfs_label.specs.declared.Label.{Label}
 use Rattle.ltfs_label.specs.Grammar.{LabelText}
 use Rattle.ltfs_label.specs.Values.{LabelValue, label_of}
-use Rattle.ltfs_label.proofs.Once.{one_value}
-use Rattle.ltfs_label.proofs.Trees.{spelled_read}
+use Rattle.ltfs_label.proofs.Texts.{one_value}
 use Rattle.index_model.specs.declared.indexes.Index.{Index}
 use Rattle.index_read.proofs.Exact.{one_index_text}
 use Rattle.tape_content.specs.Readings.{Construct}
@@ -70,7 +69,7 @@ pub label_once : (items : List Item) (l m : LabelValue) → HasLabel items l →
 label_once items l m h k =
     let same : k.bytes ≡ h.bytes = one_block items 2 k.bytes h.bytes k.stands h.stands in
     let other = subst (λ (bytes : List ℕ). LabelText bytes m) same k.spelled in
-    one_value h.bytes l m (spelled_read h.bytes l h.spelled).1 (spelled_read h.bytes m other).1
+    one_value h.bytes l m h.spelled other
 
 pub labels_once : (c : Cartridge) (a b : Labels) → HasLabels c a → HasLabels c b → a ≡ b
 labels_once c a b h k =

@@ -1,7 +1,7 @@
 use Rattle.std.proofs.Common.{ℕ, List, [], ◌∷◌, ◌≡◌, ◌≤◌, ◌-◌, ◌+◌, length}
-use Rattle.index_model.specs.declared.schema.Place.TheVariants as place
-use Rattle.index_model.specs.Pieces.{Piece}
-use Rattle.index_model.specs.Documents.{Reaches, fresh}
+use Rattle.doc_elements.specs.declared.schema.Place.TheVariants as place
+use Rattle.doc_elements.specs.Pieces.{Piece}
+use Rattle.doc_elements.specs.Documents.{Reaches, fresh}
 use Rattle.index_read.specs.declared.walking.Level as code_level
 use Rattle.index_read.specs.Drafts.{state_of}
 use Rattle.index_read.specs.Told.{State, Tell, blank, outermost}

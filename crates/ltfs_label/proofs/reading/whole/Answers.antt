@@ -1,34 +1,27 @@
-use Rattle.std.proofs.Common.{◌≡◌, Ok, Err, sym, ap, ◌∙◌}
-use Rattle.doc_fields.specs.Space.{space_end}
-use Rattle.doc_fields.specs.Declaration.{head_at}
-use Rattle.ltfs_label.specs.Pieces.{lift}
-use Rattle.ltfs_label.specs.Reading.{root_at, Halts, at_head, at_root, Halted}
-use Rattle.ltfs_label.proofs.Whole.{unless_always, unless_map, halted_halts, walked_halts, lifted}
+use Rattle.std.proofs.Common.{◌≡◌, ℕ, Ok, Err, refl, sym, subst, ◌∙◌}
+use Rattle.doc_elements.specs.declared.errors.PieceErr.TheVariants as pieces
+use Rattle.doc_elements.specs.declared.schema.Place.TheVariants as place
+use Rattle.doc_elements.specs.Documents.{Halted, Halts, at_end, at_head, head_of}
+use Rattle.doc_elements.proofs.Whole.{halted_halts, unless_always, unless_map}
 use Rattle.ltfs_label.proofs.reading.whole.Goals as goal
 
 pub returns-in-Err-clause-refused : goal.returns-in-Err-clause-refused
 returns-in-Err-clause-refused c =
     let text = c.args.text.now in
-    let e : lift (head_at text 0) ≡ Err c.from.result = lifted (head_at text 0) c.in-Err.fault (sym c.read_head.ensures.value ∙ c.in-Err.is) ∙ ap Err (sym c.from.ensures) in
-    unless_always c.from.result (Halts text c.from.result) (at_head e)
-
-pub returns-in-Err-root-clause-refused : goal.returns-in-Err-root-clause-refused
-returns-in-Err-root-clause-refused c =
-    let text = c.args.text.now in
-    let h : head_at text 0 ≡ Ok c.in-Ok.from = sym c.read_head.ensures.value ∙ c.in-Ok.is in
-    let r : root_at text (space_end text c.in-Ok.from) ≡ Err c.in-Err-root.fault = ap (root_at text) (sym c.skip_space.ensures.value) ∙ sym c.root.ensures.value ∙ c.in-Err-root.is in
-    unless_always c.in-Err-root.fault (Halts text c.in-Err-root.fault) (at_root c.in-Ok.from h r)
+    let h : head_of place.Label text ≡ Err c.in-Err.fault = sym c.skip_head.ensures.value ∙ c.in-Err.is in
+    unless_always c.in-Err.fault (Halts place.Label text c.in-Err.fault) (at_head h)
 
 pub returns-in-Err-walk-clause-refused : goal.returns-in-Err-walk-clause-refused
 returns-in-Err-walk-clause-refused c =
     let text = c.args.text.now in
-    let h : head_at text 0 ≡ Ok c.in-Ok.from = sym c.read_head.ensures.value ∙ c.in-Ok.is in
-    let r : root_at text (space_end text c.in-Ok.from) ≡ Ok c.in-Ok-root.inside = ap (root_at text) (sym c.skip_space.ensures.value) ∙ sym c.root.ensures.value ∙ c.in-Ok-root.is in
-    unless_map c.in-Err-walk.fault (Halted text c.in-Ok-root.inside c.in-Err-walk.fault) (Halts text c.in-Err-walk.fault) (λ (x : Halted text c.in-Ok-root.inside c.in-Err-walk.fault). halted_halts text c.in-Ok.from c.in-Ok-root.inside c.in-Err-walk.fault h r x) c.in-Err-walk.ensures.refused
+    let e = c.in-Err-walk.fault in
+    let h : head_of place.Label text ≡ Ok c.in-Ok.inside = sym c.skip_head.ensures.value ∙ c.in-Ok.is in
+    unless_map e (Halted place.Label text c.in-Ok.inside e) (Halts place.Label text e) (halted_halts place.Label text c.in-Ok.inside e h) c.in-Err-walk.ensures.refused
 
 pub returns-then-end-text-clause-refused : goal.returns-then-end-text-clause-refused
 returns-then-end-text-clause-refused c =
     let text = c.args.text.now in
-    let h : head_at text 0 ≡ Ok c.in-Ok.from = sym c.read_head.ensures.value ∙ c.in-Ok.is in
-    let r : root_at text (space_end text c.in-Ok.from) ≡ Ok c.in-Ok-root.inside = ap (root_at text) (sym c.skip_space.ensures.value) ∙ sym c.root.ensures.value ∙ c.in-Ok-root.is in
-    walked_halts text c.in-Ok.from c.in-Ok-root.inside c.in-Ok-walk.walked.1 c.skip_space-end.result _ h r c.in-Ok-walk.ensures.found c.skip_space-end.ensures.value c.if-end-text.true
+    let h : head_of place.Label text ≡ Ok c.in-Ok.inside = sym c.skip_head.ensures.value ∙ c.in-Ok.is in
+    let w = c.in-Ok-walk.ensures.found in
+    subst (λ (n : ℕ). Halts place.Label text (pieces.Syntax n)) (sym c.skip_space-end.ensures.value)
+    (at_end w.ps _ (record { inside = c.in-Ok.inside; head_is = h; reaches = w.reaches }) refl (λ is. c.if-end-text.true (c.skip_space-end.ensures.value ∙ is)))

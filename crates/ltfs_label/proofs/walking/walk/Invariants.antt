@@ -1,8 +1,9 @@
 use Rattle.std.proofs.Common.{ℕ, List, [], ◌∷◌, ◌≡◌, ◌≤◌, ◌-◌, ◌+◌, length}
-use Rattle.ltfs_label.specs.declared.schema.Place.TheVariants as place
-use Rattle.ltfs_label.specs.declared.walking.Frame as code_frame
-use Rattle.ltfs_label.specs.Pieces.{Piece, Frame}
-use Rattle.ltfs_label.specs.Reading.{Reaches, fresh, coded, stacked, value_from}
+use Rattle.doc_elements.specs.declared.pieces.Frame as code_frame
+use Rattle.doc_elements.specs.declared.schema.Place.TheVariants as place
+use Rattle.doc_elements.specs.Documents.{Reaches, fresh}
+use Rattle.doc_elements.specs.Pieces.{Piece, Frame}
+use Rattle.ltfs_label.specs.Reading.{coded, stacked, value_from}
 use Rattle.ltfs_label.specs.Values.{LabelValue, label_of, blank}
 use Rattle.ltfs_label.proofs.walking.walk.Given as goal
 
@@ -13,7 +14,7 @@ pub record Kept (text : List ℕ) (inside at : ℕ) (top : code_frame.Frame) (ou
   pub fs : List Frame
   pub top_is : top ≡ coded f
   pub outer_is : outer ≡ stacked fs
-  pub reaches : Reaches text ps inside (fresh place.Label ∷ []) at (f ∷ fs)
+  pub reaches : Reaches text ps inside (fresh place.Label ∷ []) 0 (record { at = at; parents = f ∷ fs; nodes = 0 })
   pub value : v ≡ value_from blank ps
 
 abbrev pub invariant-loop-at : goal.invariant-loop-at

@@ -1,0 +1,13 @@
+pub mod Names
+pub mod Parents
+pub mod Inversion
+pub mod Steps
+pub mod Whole
+pub mod Once
+pub mod Trees
+pub mod Ends
+pub mod Timed
+pub mod Written
+pub mod WrittenItems
+pub mod WrittenValues
+pub mod WrittenAgain

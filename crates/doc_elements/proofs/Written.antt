@@ -1,0 +1,76 @@
+-- A document that is written round its elements is spelled.
+use Rattle.std.proofs.Common.{◌≡◌, ℕ, ◌+◌, true, List, [], ◌∷◌, ◌++◌, length, drop, Ok, IsUtf8, refl, sym, ap, subst, ◌∙◌, arith, length-append, append-nil}
+use Rattle.std.proofs.lemmas.Str.{IsUtf8-append}
+use Rattle.doc_fields.specs.declared.tags.Tag.TheVariants.{LtfsLabel, LtfsIndex}
+use Rattle.doc_fields.specs.declared.starts.Attribute.TheVariants.{Version}
+use Rattle.doc_fields.specs.Space.{space_end}
+use Rattle.doc_fields.specs.Tags.{spelled}
+use Rattle.doc_fields.specs.Written.{end_text, start_text}
+use Rattle.doc_fields.proofs.Again.{next_is, space_again}
+use Rattle.doc_fields.proofs.HeadAgain.{head_again}
+use Rattle.doc_fields.proofs.TagsAgain.{end_again, opened}
+use Rattle.doc_fields.proofs.WrittenBytes.{ascii_valid}
+use Rattle.doc_elements.specs.declared.schema.Place.{Place}
+use Rattle.doc_elements.specs.declared.schema.Place.TheVariants as place
+use Rattle.doc_elements.specs.Documents.{begins, head_of, root_at}
+use Rattle.doc_elements.specs.Elements.{AllSpelled, DocumentText, Items}
+use Rattle.doc_elements.specs.Schema.{tag_of}
+use Rattle.doc_elements.specs.Written.{head}
+
+-- the text of a document whose elements have this text
+abbrev pub framed : Place → List ℕ → List ℕ
+framed doc body = head ++ (start_text (tag_of doc) Version ++ (body ++ end_text (tag_of doc)))
+
+-- where the elements begin
+abbrev pub inner : Place → ℕ
+inner doc = 38 + length (start_text (tag_of doc) Version)
+
+root_again : (doc : Place) (text : List ℕ) (at : ℕ) (rest : List ℕ) → begins doc (tag_of doc) ≡ true → drop at text ≡ start_text (tag_of doc) Version ++ rest → root_at doc text at ≡ Ok (at + length (start_text (tag_of doc) Version))
+unfolding root_at
+root_again place.Label text at rest is e = let o = opened text LtfsLabel Version at rest refl e in rw (o.named, o.rest) refl
+root_again place.Index text at rest is e = let o = opened text LtfsIndex Version at rest refl e in rw (o.named, o.rest) refl
+root_again _ text at rest is e = absurd cc
+
+-- the `<` of the root's start tag is no white space
+root_space : (doc : Place) (text : List ℕ) (at : ℕ) (rest : List ℕ) → drop at text ≡ start_text (tag_of doc) Version ++ rest → space_end text at ≡ at
+root_space doc text at rest e = space_again text at 60 _ e refl
+
+head_is : (doc : Place) (text body : List ℕ) → begins doc (tag_of doc) ≡ true → text ≡ framed doc body → head_of doc text ≡ Ok (inner doc)
+unfolding head_of
+head_is doc text body is e =
+    let rest = body ++ end_text (tag_of doc) in
+    let from = head_again text (start_text (tag_of doc) Version ++ rest) e in
+    let start = next_is text 0 head (start_text (tag_of doc) Version ++ rest) e in
+    let root = root_again doc text 38 rest is start in
+    rw (from, root_space doc text 38 rest start, root) refl
+
+all_of_it : (text : List ℕ) (at : ℕ) → drop at text ≡ [] → at ≡ length text → space_end text at ≡ length text
+unfolding space_end
+all_of_it text at e f = rw (e, f) refl
+
+tags_valid : (doc : Place) → begins doc (tag_of doc) ≡ true → IsUtf8 (start_text (tag_of doc) Version) × IsUtf8 (end_text (tag_of doc))
+tags_valid place.Label is = (ascii_valid (start_text LtfsLabel Version) refl, ascii_valid (end_text LtfsLabel) refl)
+tags_valid place.Index is = (ascii_valid (start_text LtfsIndex Version) refl, ascii_valid (end_text LtfsIndex) refl)
+tags_valid _ is = absurd cc
+
+pub written_document : (doc : Place) (text body : List ℕ) (items : Items) → begins doc (tag_of doc) ≡ true → text ≡ framed doc body → IsUtf8 body
+    → (drop (inner doc) text ≡ body ++ end_text (tag_of doc) → AllSpelled text doc [] (inner doc) items (inner doc + length body)) → DocumentText doc text items
+written_document doc text body items is e valid children =
+    let start_tag = start_text (tag_of doc) Version in
+    let end_tag = end_text (tag_of doc) in
+    let start = next_is text 0 head (start_tag ++ (body ++ end_tag)) e in
+    let inside = next_is text 38 start_tag (body ++ end_tag) start in
+    let whole : drop (inner doc + length body) text ≡ end_tag ++ [] = next_is text (inner doc) body end_tag inside ∙ sym (simp append-nil) in
+    let left = next_is text (inner doc + length body) end_tag [] whole in
+    let long : inner doc + length body + length end_tag ≡ length text = omega (arith, ap length e, length-append head (start_tag ++ (body ++ end_tag)), length-append start_tag (body ++ end_tag), length-append body end_tag) in
+    let tags = tags_valid doc is in
+    record {
+      valid = subst IsUtf8 (sym e) (IsUtf8-append head _ (ascii_valid head refl) (IsUtf8-append start_tag _ tags.0 (IsUtf8-append body end_tag valid tags.1)));
+      inside = inner doc;
+      head_is = head_is doc text body is e;
+      end = inner doc + length body;
+      children = children inside;
+      after = inner doc + length body + length end_tag;
+      ends = end_again text (inner doc + length body) (tag_of doc) [] whole;
+      ended = all_of_it text (inner doc + length body + length end_tag) left long;
+    }

@@ -1,0 +1,92 @@
+-- Elements as they are written.
+use Rattle.std.proofs.Common.{◌≡◌, ℕ, ◌+◌, Bool, true, false, not, ◌&&◌, List, [], ◌∷◌, ◌++◌, length, drop, Option, Some, None, Ok, IsUtf8}
+use Rattle.std.specs.Prelude.{⊤}
+use Rattle.std.specs.Fmt.{decimal}
+use Rattle.tape_types.specs.Times.{civil_text}
+use Rattle.tape_types.specs.Uuids.{uuid_text}
+use Rattle.doc_fields.specs.declared.tags.Tag.{Tag}
+use Rattle.doc_fields.specs.declared.starts.Attribute.{Attribute}
+use Rattle.doc_fields.specs.declared.starts.Attribute.TheVariants.{Absent}
+use Rattle.doc_fields.specs.declared.starts.Start.{Start}
+use Rattle.doc_fields.specs.Tags.{is_escapable, spelled}
+use Rattle.doc_fields.specs.Values.{lock_word}
+use Rattle.doc_fields.specs.Written.{bool_text, end_text, escape, may_have, start_text}
+use Rattle.doc_fields.proofs.Again.{all_pass}
+use Rattle.doc_fields.proofs.WrittenBytes.{is_ascii}
+use Rattle.doc_children.specs.Children.{member, first_missing}
+use Rattle.ltfs_text.specs.declared.names.NameText.{NameText}
+use Rattle.ltfs_text.specs.Names.{written}
+use Rattle.doc_elements.specs.declared.schema.Place.{Place}
+use Rattle.doc_elements.specs.declared.schema.Form.{Form}
+use Rattle.doc_elements.specs.declared.schema.Child.TheVariants as child
+use Rattle.doc_elements.specs.Elements.{Item, plain, bare, nested, Items, no_items, item, item_tag}
+use Rattle.doc_elements.specs.Pieces.{Val, words, time, uuid, letter, number, truth, lock, value_in, has_any}
+use Rattle.doc_elements.specs.Schema.{rule, required, tag_of, may_repeat, excludes}
+use Rattle.doc_elements.specs.Written.{element, encoding}
+
+-- ---- the text of elements
+
+-- how a text stands in its element
+abbrev pub shown : Tag → List ℕ → NameText
+shown tag text = by (is_escapable tag)
+  where
+    by : Bool → NameText
+    by true = written text
+    by false = record { text = text; percent = false }
+
+abbrev pub attribute_of : Tag → Val → Attribute
+attribute_of tag (words text) = encoding (shown tag text)
+attribute_of tag _ = Absent
+
+abbrev pub content_of : Tag → Val → List ℕ
+content_of tag (words text) = escape (shown tag text).text
+content_of tag (time c) = civil_text c
+content_of tag (uuid n) = uuid_text n
+content_of tag (letter b) = b ∷ []
+content_of tag (number n) = decimal n
+content_of tag (truth is) = bool_text is
+content_of tag (lock state) = lock_word state
+
+abbrev mutual
+  pub text_of : Item → List ℕ
+  text_of (plain tag v) = start_text tag (attribute_of tag v) ++ content_of tag v ++ end_text tag
+  text_of (bare q) = []
+  text_of (nested q is) = element (tag_of q) (texts_of is)
+
+  pub texts_of : Items → List ℕ
+  texts_of no_items = []
+  texts_of (item i is) = text_of i ++ texts_of is
+
+-- ---- elements that are read where they are written
+
+-- the value of a leaf is read behind its start tag
+pub record ReadsBack (f : Form) (tag : Tag) (v : Val) : Type 0 where
+  pub again : (text : List ℕ) (from : ℕ) (start : Start) (rest : List ℕ) → start.attribute ≡ attribute_of tag v → drop start.next text ≡ content_of tag v ++ 60 ∷ rest → value_in f from start text ≡ Ok (v, start.next + length (content_of tag v))
+  pub valid : IsUtf8 (content_of tag v)
+
+-- an element that may have this attribute
+pub record HasTags (tag : Tag) (a : Attribute) : Type 0 where
+  pub may : may_have tag a ≡ true
+  pub name : all_pass is_ascii (spelled tag) ≡ true
+
+-- whether children stand where they may, behind some that stood there, and none is missing
+abbrev pub is_none : Option Tag → Bool
+is_none None = true
+is_none (Some tag) = false
+
+abbrev pub may_follow : Place → List Tag → Tag → Bool
+may_follow p seen tag = not (has_any (excludes tag) seen) && not (member tag seen && not (may_repeat p tag))
+
+abbrev pub stand : Place → List Tag → Items → Bool
+stand p seen no_items = is_none (first_missing (required p) seen)
+stand p seen (item i is) = may_follow p seen (item_tag i) && stand p (item_tag i ∷ seen) is
+
+abbrev mutual
+  pub GoodItem : Place → Item → Type 0
+  GoodItem p (plain tag v) = (f : Form) × (rule p tag ≡ child.Leaf f) × HasTags tag (attribute_of tag v) × ReadsBack f tag v
+  GoodItem p (bare q) = ⊥
+  GoodItem p (nested q is) = (rule p (tag_of q) ≡ child.Parent q) × HasTags (tag_of q) Absent × (stand q [] is ≡ true) × GoodItems q is
+
+  pub GoodItems : Place → Items → Type 0
+  GoodItems p no_items = ⊤
+  GoodItems p (item i is) = GoodItem p i × GoodItems p is

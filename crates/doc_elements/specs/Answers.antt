@@ -1,0 +1,61 @@
+-- What the code's values stand for, and what a call may answer where reading gives a value or a refusal.
+use Rattle.std.specs.Prelude.{◌≡◌, ◌<◌, ℕ, true, Result, Ok, Err}
+use Rattle.tape_types.specs.Times.{civil_of}
+use Rattle.doc_elements.specs.declared.errors.PieceErr.{PieceErr}
+use Rattle.doc_elements.specs.declared.errors.PieceErr.TheVariants as errors
+use Rattle.doc_elements.specs.Schema.{is_node}
+use Rattle.doc_elements.specs.Pieces.{Val, words, time, uuid, letter, number, truth, lock, Piece as Told, opens, whole, closes, leaf}
+use Rattle.doc_elements.specs.declared.pieces.Piece.{Piece}
+use Rattle.doc_elements.specs.declared.pieces.Piece.TheVariants as code_pieces
+use Rattle.doc_elements.specs.declared.values.Value.{Value}
+use Rattle.doc_elements.specs.declared.values.Value.TheVariants as code
+
+abbrev pub val_of : Value → Val
+val_of (code.Text text) = words text
+val_of (code.Time moment) = time (civil_of moment)
+val_of (code.Uuid n) = uuid n
+val_of (code.Letter byte) = letter byte
+val_of (code.Number n) = number n
+val_of (code.Truth is) = truth is
+val_of (code.Lock state) = lock state
+
+abbrev pub piece_of : Piece → Told
+piece_of (code_pieces.Opens p) = opens p
+piece_of (code_pieces.Whole p) = whole p
+piece_of code_pieces.Closes = closes
+piece_of (code_pieces.Leaf tag v) = leaf tag (val_of v)
+
+-- there are fewer nodes than there may be, where a piece begins one
+abbrev pub HasRoom : Piece → ℕ → Type 0
+HasRoom (code_pieces.Opens p) nodes = is_node p ≡ true → nodes < 65536
+HasRoom (code_pieces.Whole p) nodes = is_node p ≡ true → nodes < 65536
+HasRoom code_pieces.Closes nodes = Unit {0}
+HasRoom (code_pieces.Leaf tag v) nodes = Unit {0}
+
+-- a refusal is the one that reading gives, unless memory was refused
+abbrev pub Fails : {B : Type 0} → PieceErr → Result B PieceErr → Type 0
+Fails (errors.Syntax at) read = read ≡ Err (errors.Syntax at)
+Fails (errors.Unknown at) read = read ≡ Err (errors.Unknown at)
+Fails (errors.Twice at) read = read ≡ Err (errors.Twice at)
+Fails errors.Version read = read ≡ Err errors.Version
+Fails (errors.Missing t) read = read ≡ Err (errors.Missing t)
+Fails (errors.Number at) read = read ≡ Err (errors.Number at)
+Fails (errors.Name at) read = read ≡ Err (errors.Name at)
+Fails errors.TooMany read = read ≡ Err errors.TooMany
+Fails errors.NoMemory read = Unit {0}
+
+-- what a call answered, seen by a view, is what reading gives; or memory was refused
+abbrev pub Gives : {A B : Type 0} → (A → B) → Result A PieceErr → Result B PieceErr → Type 0
+Gives view (Ok x) read = read ≡ Ok (view x)
+Gives view (Err e) read = Fails e read
+
+abbrev pub UnlessMemory : PieceErr → Type 0 → Type 0
+UnlessMemory (errors.Syntax at) P = P
+UnlessMemory (errors.Unknown at) P = P
+UnlessMemory (errors.Twice at) P = P
+UnlessMemory errors.Version P = P
+UnlessMemory (errors.Missing t) P = P
+UnlessMemory (errors.Number at) P = P
+UnlessMemory (errors.Name at) P = P
+UnlessMemory errors.TooMany P = P
+UnlessMemory errors.NoMemory P = Unit {0}

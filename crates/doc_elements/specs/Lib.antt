@@ -1,0 +1,6 @@
+pub mod Schema
+pub mod Pieces
+pub mod Documents
+pub mod Elements
+pub mod Answers
+pub mod Written

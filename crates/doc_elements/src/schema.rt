@@ -1,0 +1,364 @@
+//! Which elements stand where in a document (LTFS 2.4 on the format label and on the index).
+
+ghost use Rattle.std.specs.Prelude.{◌≡◌};
+ghost use Rattle.doc_elements.specs.Schema.{contents_rule, criteria_rule, directory_rule, excludes, extent_rule, extents_rule, file_rule, index_rule, is_node, label_rule, letters_rule, may_repeat, node_rule, own_rule, policy_rule, required, rule, spot_rule, tag_of};
+
+use doc_fields::Tag;
+
+/// A parent, by what may stand in it.
+#[derive(Clone, Copy, Debug, PartialEq, Eq)]
+pub enum Place {
+    /// A label.
+    Label,
+    /// The partition of a label.
+    Own,
+    /// The partitions of a volume.
+    Letters,
+    /// An index.
+    Index,
+    /// The self pointer.
+    Here,
+    /// The back pointer.
+    Back,
+    Policy,
+    Criteria,
+    /// The root directory.
+    Root,
+    /// Another directory.
+    Directory,
+    Contents,
+    File,
+    /// Extended attributes, of which none may stand there.
+    Attributes,
+    ExtentInfo,
+    Extent,
+}
+
+/// The form of a leaf's value.
+#[derive(Clone, Copy, Debug, PartialEq, Eq)]
+pub enum Form {
+    Text,
+    /// The name of the root directory.
+    VolumeName,
+    /// The name of another node.
+    NodeName,
+    /// Any text, which may be percent-encoded as a name.
+    AnyName,
+    Time,
+    Uuid,
+    Letter,
+    Truth,
+    Lock,
+    /// The size of a block in bytes, 4,096 to 1,048,576.
+    BlockSize,
+    /// A number below 2^64.
+    Number,
+    /// A number of at most 2^62.
+    Bounded,
+    /// A number from 1 to 2^62.
+    Generation,
+}
+
+/// What an element is as a child of a parent.
+#[derive(Clone, Copy, Debug, PartialEq, Eq)]
+pub enum Child {
+    /// It may not stand there.
+    Unknown,
+    Leaf(Form),
+    Parent(Place),
+}
+
+fn child_of_label(tag: Tag) -> Child
+    ensures { result ≡ label_rule tag }
+{
+    match tag {
+        Tag::Creator => Child::Leaf(Form::Text),
+        Tag::FormatTime => Child::Leaf(Form::Time),
+        Tag::VolumeUuid => Child::Leaf(Form::Uuid),
+        Tag::Location => Child::Parent(Place::Own),
+        Tag::Partitions => Child::Parent(Place::Letters),
+        Tag::BlockSize => Child::Leaf(Form::BlockSize),
+        Tag::Compression => Child::Leaf(Form::Truth),
+        _ => Child::Unknown,
+    }
+}
+
+fn child_of_own(tag: Tag) -> Child
+    ensures { result ≡ own_rule tag }
+{
+    match tag {
+        Tag::Partition => Child::Leaf(Form::Letter),
+        _ => Child::Unknown,
+    }
+}
+
+fn child_of_letters(tag: Tag) -> Child
+    ensures { result ≡ letters_rule tag }
+{
+    match tag {
+        Tag::IndexLetter | Tag::DataLetter => Child::Leaf(Form::Letter),
+        _ => Child::Unknown,
+    }
+}
+
+fn child_of_index(tag: Tag) -> Child
+    ensures { result ≡ index_rule tag }
+{
+    match tag {
+        Tag::Creator | Tag::Comment => Child::Leaf(Form::Text),
+        Tag::VolumeUuid => Child::Leaf(Form::Uuid),
+        Tag::GenerationNumber => Child::Leaf(Form::Generation),
+        Tag::UpdateTime => Child::Leaf(Form::Time),
+        Tag::Location => Child::Parent(Place::Here),
+        Tag::PreviousGenerationLocation => Child::Parent(Place::Back),
+        Tag::AllowPolicyUpdate => Child::Leaf(Form::Truth),
+        Tag::DataPlacementPolicy => Child::Parent(Place::Policy),
+        Tag::VolumeLockState => Child::Leaf(Form::Lock),
+        Tag::HighestFileUid => Child::Leaf(Form::Number),
+        Tag::Directory => Child::Parent(Place::Root),
+        _ => Child::Unknown,
+    }
+}
+
+/// What directories and files have alike.
+fn child_of_node(name: Form, tag: Tag) -> Child
+    ensures { result ≡ node_rule name tag }
+{
+    match tag {
+        Tag::FileUid => Child::Leaf(Form::Number),
+        Tag::Name => Child::Leaf(name),
+        Tag::CreationTime | Tag::ChangeTime | Tag::ModifyTime | Tag::AccessTime | Tag::BackupTime =>
+            Child::Leaf(Form::Time),
+        Tag::ReadOnly => Child::Leaf(Form::Truth),
+        Tag::ExtendedAttributes => Child::Parent(Place::Attributes),
+        _ => Child::Unknown,
+    }
+}
+
+fn child_of_directory(name: Form, tag: Tag) -> Child
+    ensures { result ≡ directory_rule name tag }
+{
+    match tag {
+        Tag::Contents => Child::Parent(Place::Contents),
+        _ => child_of_node(name, tag),
+    }
+}
+
+fn child_of_file(tag: Tag) -> Child
+    ensures { result ≡ file_rule tag }
+{
+    match tag {
+        Tag::Length => Child::Leaf(Form::Number),
+        Tag::OpenForWrite => Child::Leaf(Form::Truth),
+        Tag::ExtentInfo => Child::Parent(Place::ExtentInfo),
+        Tag::Symlink => Child::Leaf(Form::AnyName),
+        _ => child_of_node(Form::NodeName, tag),
+    }
+}
+
+fn child_of_spot(tag: Tag) -> Child
+    ensures { result ≡ spot_rule tag }
+{
+    match tag {
+        Tag::Partition => Child::Leaf(Form::Letter),
+        Tag::StartBlock => Child::Leaf(Form::Bounded),
+        _ => Child::Unknown,
+    }
+}
+
+fn child_of_extent(tag: Tag) -> Child
+    ensures { result ≡ extent_rule tag }
+{
+    match tag {
+        Tag::FileOffset | Tag::StartBlock | Tag::ByteOffset | Tag::ByteCount => {
+            Child::Leaf(Form::Bounded)
+        }
+        Tag::Partition => Child::Leaf(Form::Letter),
+        _ => Child::Unknown,
+    }
+}
+
+fn child_of_criteria(tag: Tag) -> Child
+    ensures { result ≡ criteria_rule tag }
+{
+    match tag {
+        Tag::Size => Child::Leaf(Form::Bounded),
+        Tag::Name => Child::Leaf(Form::AnyName),
+        _ => Child::Unknown,
+    }
+}
+
+fn child_of_contents(tag: Tag) -> Child
+    ensures { result ≡ contents_rule tag }
+{
+    match tag {
+        Tag::Directory => Child::Parent(Place::Directory),
+        Tag::File => Child::Parent(Place::File),
+        _ => Child::Unknown,
+    }
+}
+
+fn child_of_policy(tag: Tag) -> Child
+    ensures { result ≡ policy_rule tag }
+{
+    match tag {
+        Tag::IndexPartitionCriteria => Child::Parent(Place::Criteria),
+        _ => Child::Unknown,
+    }
+}
+
+fn child_of_extents(tag: Tag) -> Child
+    ensures { result ≡ extents_rule tag }
+{
+    match tag {
+        Tag::Extent => Child::Parent(Place::Extent),
+        _ => Child::Unknown,
+    }
+}
+
+/// What an element is as a child of a parent.
+pub fn child_of(place: Place, tag: Tag) -> Child
+    ensures { result ≡ rule place tag }
+{
+    match place {
+        Place::Label => child_of_label(tag),
+        Place::Own => child_of_own(tag),
+        Place::Letters => child_of_letters(tag),
+        Place::Index => child_of_index(tag),
+        Place::Here | Place::Back => child_of_spot(tag),
+        Place::Policy => child_of_policy(tag),
+        Place::Criteria => child_of_criteria(tag),
+        Place::Root => child_of_directory(Form::VolumeName, tag),
+        Place::Directory => child_of_directory(Form::NodeName, tag),
+        Place::Contents => child_of_contents(tag),
+        Place::File => child_of_file(tag),
+        Place::Attributes => Child::Unknown,
+        Place::ExtentInfo => child_of_extents(tag),
+        Place::Extent => child_of_extent(tag),
+    }
+}
+
+/// The element of a parent.
+pub fn tag_of(place: Place) -> Tag
+    ensures { result ≡ tag_of place }
+{
+    match place {
+        Place::Label => Tag::LtfsLabel,
+        Place::Own => Tag::Location,
+        Place::Letters => Tag::Partitions,
+        Place::Index => Tag::LtfsIndex,
+        Place::Here => Tag::Location,
+        Place::Back => Tag::PreviousGenerationLocation,
+        Place::Policy => Tag::DataPlacementPolicy,
+        Place::Criteria => Tag::IndexPartitionCriteria,
+        Place::Root | Place::Directory => Tag::Directory,
+        Place::Contents => Tag::Contents,
+        Place::File => Tag::File,
+        Place::Attributes => Tag::ExtendedAttributes,
+        Place::ExtentInfo => Tag::ExtentInfo,
+        Place::Extent => Tag::Extent,
+    }
+}
+
+/// The children that a parent must have.
+pub fn required(place: Place) -> &'static [Tag]
+    ensures { result.now ≡ required place }
+{
+    match place {
+        Place::Label => &[
+            Tag::Creator,
+            Tag::FormatTime,
+            Tag::VolumeUuid,
+            Tag::Location,
+            Tag::Partitions,
+            Tag::BlockSize,
+            Tag::Compression,
+        ],
+        Place::Own => &[Tag::Partition],
+        Place::Letters => &[Tag::IndexLetter, Tag::DataLetter],
+        Place::Index => &[
+            Tag::Creator,
+            Tag::VolumeUuid,
+            Tag::GenerationNumber,
+            Tag::UpdateTime,
+            Tag::Location,
+            Tag::AllowPolicyUpdate,
+            Tag::HighestFileUid,
+            Tag::Directory,
+        ],
+        Place::Here | Place::Back => &[Tag::Partition, Tag::StartBlock],
+        Place::Policy => &[Tag::IndexPartitionCriteria],
+        Place::Criteria => &[Tag::Size],
+        Place::Root | Place::Directory => &[
+            Tag::FileUid,
+            Tag::Name,
+            Tag::CreationTime,
+            Tag::ChangeTime,
+            Tag::ModifyTime,
+            Tag::AccessTime,
+            Tag::BackupTime,
+            Tag::ReadOnly,
+            Tag::Contents,
+        ],
+        Place::File => &[
+            Tag::FileUid,
+            Tag::Name,
+            Tag::Length,
+            Tag::CreationTime,
+            Tag::ChangeTime,
+            Tag::ModifyTime,
+            Tag::AccessTime,
+            Tag::BackupTime,
+            Tag::ReadOnly,
+        ],
+        Place::Contents | Place::Attributes | Place::ExtentInfo => &[],
+        Place::Extent => &[
+            Tag::FileOffset,
+            Tag::Partition,
+            Tag::StartBlock,
+            Tag::ByteOffset,
+            Tag::ByteCount,
+        ],
+    }
+}
+
+/// Whether a parent may have an element any number of times.
+pub fn may_repeat(place: Place, tag: Tag) -> bool
+    ensures { result ≡ may_repeat place tag }
+{
+    match place {
+        Place::Criteria => match tag {
+            Tag::Name => true,
+            _ => false,
+        },
+        Place::Contents => match tag {
+            Tag::Directory | Tag::File => true,
+            _ => false,
+        },
+        Place::ExtentInfo => match tag {
+            Tag::Extent => true,
+            _ => false,
+        },
+        _ => false,
+    }
+}
+
+/// The elements of which none may have stood in a file before this one.
+pub fn excludes(tag: Tag) -> &'static [Tag]
+    ensures { result.now ≡ excludes tag }
+{
+    match tag {
+        Tag::ExtentInfo | Tag::Symlink => &[Tag::ExtentInfo, Tag::Symlink],
+        _ => &[],
+    }
+}
+
+/// Whether a parent stands for a node.
+pub fn is_node(place: Place) -> bool
+    ensures { result ≡ is_node place }
+{
+    match place {
+        Place::Root | Place::Directory | Place::File => true,
+        _ => false,
+    }
+}

@@ -1,0 +1,266 @@
+//! The values of leaves.
+
+ghost use Rattle.std.specs.Prelude.{◌≡◌, ◌≤◌, ◌<◌, ◌==◌, length, nat_lt, if◌then◌else◌, IfOk, MatchOption, true, false};
+ghost use Rattle.std.specs.Str.{chars, is_utf8};
+ghost use Rattle.tape_types.specs.Names.{has_byte};
+ghost use Rattle.ltfs_text.specs.Names.{decoded};
+ghost use Rattle.doc_elements.specs.declared.errors.PieceErr.TheVariants as errors;
+ghost use Rattle.doc_elements.specs.Pieces.{empty_value, is_encoded, is_name, is_too_great, is_volume_name, leaf_at, least, name_in, named, number_in, value_in};
+ghost use Rattle.doc_elements.specs.Answers.{Gives, val_of};
+
+use crate::errors::PieceErr;
+use crate::schema::Form;
+use doc_fields::{
+    Attribute, LockState, Start, Tag, read_bool, read_end, read_letter, read_lock, read_text,
+    read_time, read_u64, read_uuid, skip_space,
+};
+use ltfs_text::{ReadNameErr, read_name};
+use std::alloc::Global;
+use tape_types::{Moment, NoMemory, Text};
+
+/// The value of a leaf.
+#[derive(Drop)]
+pub enum Value {
+    Text(Text),
+    Time(Moment),
+    Uuid(u128),
+    Letter(u8),
+    Number(u64),
+    Truth(bool),
+    Lock(LockState),
+}
+
+fn is_too_great(form: Form, number: u64) -> bool
+    ensures { result ≡ is_too_great form number }
+{
+    match form {
+        Form::Generation | Form::Bounded => number > 1 << 62,
+        Form::BlockSize => number > 1_048_576,
+        _ => false,
+    }
+}
+
+fn is_too_small(form: Form, number: u64) -> bool
+    ensures { result ≡ nat_lt number (least form) }
+{
+    match form {
+        Form::Generation => number < 1,
+        Form::BlockSize => number < 4096,
+        _ => false,
+    }
+}
+
+/// A number of a form, whose first digit must stand at `from`.
+#[tactic(auto, unfolding(crate::specs::Pieces::number_in))]
+fn number(form: Form, text: &[u8], from: usize) -> Result<(Value, usize), PieceErr>
+    requires { from ≤ length text.now }
+    ensures value { Gives (λ x. (val_of x.0, x.1)) result (number_in form text.now from) }
+    ensures within { IfOk result (λ x. (from ≤ x.1) × (x.1 ≤ length text.now)) }
+{
+    let (number, next) = read_u64(text, from)?;
+    if is_too_great(form, number) {
+        return Err(PieceErr::Number(from));
+    }
+    if is_too_small(form, number) {
+        return Err(too_small(text, from, next));
+    }
+    Ok((Value::Number(number), skip_space(text, next)))
+}
+
+/// The refusal of a number that is too small. Where the text ends behind it, it could go on.
+fn too_small(text: &[u8], from: usize, next: usize) -> PieceErr
+    ensures { result ≡ (if next == length text.now then errors.Syntax (length text.now) else errors.Number from) }
+{
+    if next == text.len() {
+        PieceErr::Syntax(next)
+    } else {
+        PieceErr::Number(from)
+    }
+}
+
+#[tactic(auto, using(std::proofs::lemmas::Str::chars_from_encodes))]
+fn char_count(name: &str) -> usize
+    ensures { result ≡ length (chars name.now) }
+{
+    name.chars().count()
+}
+
+fn contains_byte(name: &str, byte: u8) -> bool
+    ensures { result ≡ has_byte byte name.now }
+{
+    name.bytes().any(|b| b == byte)
+}
+
+fn is_volume_name(name: &str) -> bool
+    ensures { result ≡ is_volume_name name.now }
+{
+    char_count(name) <= 255 && !contains_byte(name, b'/') && !contains_byte(name, 0)
+}
+
+/// Whether a text may be a name of a form.
+fn is_name(form: Form, name: &str) -> bool
+    ensures { result ≡ is_name form name.now }
+{
+    match form {
+        Form::VolumeName => is_volume_name(name),
+        Form::NodeName => is_volume_name(name) && !name.is_empty() && name != "." && name != "..",
+        _ => true,
+    }
+}
+
+fn is_encoded(attribute: Attribute) -> bool
+    ensures { result ≡ is_encoded attribute }
+{
+    match attribute {
+        Attribute::Percent(is) => is,
+        _ => false,
+    }
+}
+
+/// The text that a text stands for, where it is percent-encoded or not; none where that isn't
+/// UTF-8.
+#[tactic(auto, using(crate::proofs::Names::utf8_is, crate::proofs::Names::utf8_none))]
+fn decode(alloc: Global, text: Text, percent: bool) -> Result<Option<Text>, NoMemory>
+    ensures { IfOk result (λ found. MatchOption found (is_utf8 (decoded percent text) ≡ false)
+        (λ name. (name ≡ decoded percent text) × (is_utf8 (decoded percent text) ≡ true))) }
+{
+    if !percent {
+        let _utf8 = text.as_str();
+        return Ok(Some(text));
+    }
+    match read_name(alloc, text.as_str(), true) {
+        Ok(name) => Ok(Some(name)),
+        Err(ReadNameErr::Utf8) => Ok(None),
+        Err(ReadNameErr::NoMemory) => Err(NoMemory),
+    }
+}
+
+/// The name that a text stands for, whose element begins at `from`.
+fn named(
+    alloc: Global,
+    form: Form,
+    from: usize,
+    text: Text,
+    percent: bool,
+) -> Result<Text, PieceErr>
+    ensures { Gives (λ name. name) result (named form from (decoded percent text)) }
+{
+    match decode(alloc, text, percent)? {
+        None => Err(PieceErr::Name(from)),
+        Some(name) => {
+            if is_name(form, name.as_str()) {
+                Ok(name)
+            } else {
+                Err(PieceErr::Name(from))
+            }
+        }
+    }
+}
+
+#[tactic(auto, unfolding(crate::specs::Pieces::name_in))]
+fn name(
+    alloc: Global,
+    form: Form,
+    from: usize,
+    start: Start,
+    text: &[u8],
+) -> Result<(Value, usize), PieceErr>
+    requires { start.next ≤ length text.now }
+    ensures value { Gives (λ x. (val_of x.0, x.1)) result (name_in form from start text.now) }
+    ensures within { IfOk result (λ x. (start.next ≤ x.1) × (x.1 ≤ length text.now)) }
+{
+    let (words, next) = read_text(alloc, text, start.next)?;
+    if next == text.len() {
+        return Err(PieceErr::Syntax(next));
+    }
+    let name = named(alloc, form, from, words, is_encoded(start.attribute))?;
+    Ok((Value::Text(name), next))
+}
+
+/// The value of a leaf behind its start tag, and the place of its end tag.
+fn value_in(
+    alloc: Global,
+    form: Form,
+    from: usize,
+    start: Start,
+    text: &[u8],
+) -> Result<(Value, usize), PieceErr>
+    requires { start.next ≤ length text.now }
+    ensures value { Gives (λ x. (val_of x.0, x.1)) result (value_in form from start text.now) }
+    ensures within { IfOk result (λ x. (start.next ≤ x.1) × (x.1 ≤ length text.now)) }
+{
+    let at = skip_space(text, start.next);
+    match form {
+        Form::Text => {
+            let (words, next) = read_text(alloc, text, start.next)?;
+            Ok((Value::Text(words), next))
+        }
+        Form::VolumeName | Form::NodeName | Form::AnyName => name(alloc, form, from, start, text),
+        Form::BlockSize | Form::Number | Form::Bounded | Form::Generation => {
+            number(form, text, at)
+        }
+        Form::Time => {
+            let (moment, next) = read_time(text, at)?;
+            Ok((Value::Time(moment), skip_space(text, next)))
+        }
+        Form::Uuid => {
+            let (uuid, next) = read_uuid(text, at)?;
+            Ok((Value::Uuid(uuid), skip_space(text, next)))
+        }
+        Form::Letter => {
+            let (letter, next) = read_letter(text, at)?;
+            Ok((Value::Letter(letter), skip_space(text, next)))
+        }
+        Form::Truth => {
+            let (truth, next) = read_bool(text, at)?;
+            Ok((Value::Truth(truth), skip_space(text, next)))
+        }
+        Form::Lock => {
+            let (state, next) = read_lock(text, at)?;
+            Ok((Value::Lock(state), skip_space(text, next)))
+        }
+    }
+}
+
+/// The value of a leaf that is one empty tag.
+fn empty_value(
+    alloc: Global,
+    form: Form,
+    from: usize,
+    at: usize,
+) -> Result<(Value, usize), PieceErr>
+    ensures value { Gives (λ x. (val_of x.0, x.1)) result (empty_value form from at) }
+    ensures within { IfOk result (λ x. x.1 ≡ at) }
+{
+    let empty = Text::from_string(String::new(alloc));
+    match form {
+        Form::Text => Ok((Value::Text(empty), at)),
+        Form::VolumeName | Form::NodeName | Form::AnyName => {
+            let name = named(alloc, form, from, empty, false)?;
+            Ok((Value::Text(name), at))
+        }
+        _ => Err(PieceErr::Syntax(at)),
+    }
+}
+
+/// The rest of a leaf, whose start tag begins at `from`.
+#[tactic(auto, unfolding(crate::specs::Pieces::leaf_at))]
+pub fn leaf(
+    alloc: Global,
+    form: Form,
+    tag: Tag,
+    from: usize,
+    start: Start,
+    text: &[u8],
+) -> Result<(Value, usize), PieceErr>
+    requires { start.next ≤ length text.now }
+    ensures value { Gives (λ x. (val_of x.0, x.1)) result (leaf_at form tag from start text.now) }
+    ensures within { IfOk result (λ x. (start.next ≤ x.1) × (x.1 ≤ length text.now)) }
+{
+    if start.empty {
+        return empty_value(alloc, form, from, start.next);
+    }
+    let (value, next) = value_in(alloc, form, from, start, text)?;
+    let end = read_end(text, next, tag)?;
+    Ok((value, end))
+}
