@@ -1,0 +1,3 @@
+// Lemmas that are tried here.
+#[tactic(auto, using(crate::proofs::Fines::fine, crate::proofs::Fines::fine_same, crate::proofs::Fines::weaker))]
+pub fn tried() {}
