@@ -1,3 +1,4 @@
 pub mod Fronts
 pub mod Pointing
 pub mod Fines
+pub mod Images

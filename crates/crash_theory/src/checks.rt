@@ -1,3 +1,6 @@
 // Lemmas that are tried here.
 #[tactic(auto, using(crate::proofs::Fines::fine, crate::proofs::Fines::fine_same, crate::proofs::Fines::weaker))]
 pub fn tried() {}
+
+#[tactic(auto, using(crate::proofs::Images::written))]
+pub fn images_tried() {}
