@@ -136,7 +136,7 @@ module _ (v : Volume) (t : Trees) (plan : Cartridge) (b : Base) (g : IsGrounded 
       at_ends (λ (l : List Item). (e : Entry) × IsDpImage v t plan b l e) x good new (last, one) (last, dp_torn v t plan b good last (front_of_dp good last one) one) (next, then) ends
 
 -- an image whose partitions are images, where its notes are honest
-pub image_of : (v : Volume) (t : Trees) (plan : Cartridge) (b : Base) (c : Cartridge) (last : Entry) → IsIpImage v plan b c.ip → IsDpImage v t plan b c.dp last
+abbrev pub image_of : (v : Volume) (t : Trees) (plan : Cartridge) (b : Base) (c : Cartridge) (last : Entry) → IsIpImage v plan b c.ip → IsDpImage v t plan b c.dp last
     → AreHonest v c → IsImage v t plan b c
 image_of v t plan b c last ip dp honest = record { ip = ip; last = last; dp = dp; honest = honest }
 

@@ -2,3 +2,4 @@ pub mod Fronts
 pub mod Pointing
 pub mod Fines
 pub mod Images
+pub mod Written

@@ -4,3 +4,6 @@ pub fn tried() {}
 
 #[tactic(auto, using(crate::proofs::Images::written))]
 pub fn images_tried() {}
+
+#[tactic(auto, using(crate::proofs::Written::written_reads, crate::proofs::Written::broken_reads))]
+pub fn reads_tried() {}
