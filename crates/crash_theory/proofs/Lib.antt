@@ -3,3 +3,4 @@ pub mod Pointing
 pub mod Fines
 pub mod Images
 pub mod Written
+pub mod Flushed

@@ -7,3 +7,6 @@ pub fn images_tried() {}
 
 #[tactic(auto, using(crate::proofs::Written::written_reads, crate::proofs::Written::broken_reads))]
 pub fn reads_tried() {}
+
+#[tactic(auto, using(crate::proofs::Flushed::flush_reads, crate::proofs::Flushed::flush_least))]
+pub fn flushed_tried() {}
