@@ -4,3 +4,5 @@ pub mod Fines
 pub mod Images
 pub mod Written
 pub mod Flushed
+pub mod Acks
+pub mod Events

@@ -10,3 +10,9 @@ pub fn reads_tried() {}
 
 #[tactic(auto, using(crate::proofs::Flushed::flush_reads, crate::proofs::Flushed::flush_least))]
 pub fn flushed_tried() {}
+
+#[tactic(auto, using(crate::proofs::Events::kept_done, crate::proofs::Events::kept_failed, crate::proofs::Events::kept_read))]
+pub fn events_tried() {}
+
+#[tactic(auto, using(crate::proofs::Acks::kept_acked))]
+pub fn acks_tried() {}
