@@ -6,3 +6,4 @@ pub mod Written
 pub mod Flushed
 pub mod Acks
 pub mod Events
+pub mod Noted

@@ -16,3 +16,6 @@ pub fn events_tried() {}
 
 #[tactic(auto, using(crate::proofs::Acks::kept_acked))]
 pub fn acks_tried() {}
+
+#[tactic(auto, using(crate::proofs::Noted::kept_noted, crate::proofs::Noted::noted_sure))]
+pub fn noted_tried() {}
