@@ -22,11 +22,11 @@ use Rattle.crash_theory.proofs.Fronts.{front_same}
 use Rattle.crash_theory.proofs.Pointing.{at_most, behind_newest, counts_point}
 
 -- which index is chosen, and that it tells a tree
-record IsChosen (v : Volume) (t : Trees) (plan : Cartridge) (b : Base) (end : ℕ) (on_ip : Option Index) (last : Entry) : Type 0 where
-  chosen_entry : Entry
-  choice : chosen on_ip (Some last.index) ≡ Some chosen_entry.index
-  low : least b ≤ chosen_entry.place
-  tells : Tells v t plan b.sure end chosen_entry
+pub record IsChosen (v : Volume) (t : Trees) (plan : Cartridge) (b : Base) (end : ℕ) (on_ip : Option Index) (last : Entry) : Type 0 where
+  pub chosen_entry : Entry
+  pub choice : chosen on_ip (Some last.index) ≡ Some chosen_entry.index
+  pub low : least b ≤ chosen_entry.place
+  pub tells : Tells v t plan b.sure end chosen_entry
 
 picks : (i d : Index) (lt : Bool) → ltb d.generation i.generation ≡ lt → d.generation < i.generation → chosen (Some i) (Some d) ≡ Some i
 picks i d true is less = ap (λ (b : Bool). Some (cond b i d)) is
@@ -71,19 +71,19 @@ module _ (v : Volume) (t : Trees) (plan : Cartridge) (b : Base) (g : IsGrounded 
   pub image_labels : (c : Cartridge) → IsImage v t plan b c → HasLabels c v.labels
   image_labels c image = labels_stay plan c v.labels (sym (front_same 4 b.sure c.ip plan.ip g.low image.ip.agrees)) (sym image.dp.labels) g.labels
 
-  pub fine : (c : Cartridge) → IsImage v t plan b c → IsFine v t (least b) c
-  fine c image =
+  -- it stands for the tree of the chosen index
+  pub stands_by : (c : Cartridge) (image : IsImage v t plan b c) (x : IsChosen v t plan b (end_dp (indexes_of c.dp)) image.ip.on_ip image.last)
+      → Stands c v.facts (t.nth x.chosen_entry.place) x.chosen_entry.index.generation
+  stands_by c image x =
       let d = image.dp in
       let i = image.ip in
       let end : ℕ = end_dp (indexes_of c.dp) in
-      let x = chosen_by end d.more image.last i.on_ip i.behind (ap end_dp d.split) d.counts in
-      let labels = image_labels c image in
       let points : IsLastOnIp v.labels.ip (indexes_of c.ip) (indexes_of c.dp) (Some image.last.index) i.on_ip =
       subst (λ (ks : List Construct). IsLastOnIp v.labels.ip (indexes_of c.ip) ks (Some image.last.index) i.on_ip) (sym d.split)
       (counts_point v t plan b end (indexes_of c.ip) d.more image.last i.on_ip g.some i.behind d.counts i.reads) in
       let found : Found c = record {
         labels = v.labels;
-        forms = record { has = labels; ip = i.form; dp = d.form };
+        forms = record { has = image_labels c image; ip = i.form; dp = d.form };
         on_dp = Some image.last.index;
         dp_last = d.reads;
         on_ip = i.on_ip;
@@ -93,25 +93,51 @@ module _ (v : Volume) (t : Trees) (plan : Cartridge) (b : Base) (g : IsGrounded 
         within = nodes_further v.labels.ip b.sure end (ip_end c) (dp_end c) i.further (omega arith) x.chosen_entry.index.nodes x.tells.within;
       } in
       record {
+        reads = record {
+          found = found;
+          facts_are = x.tells.facts;
+          tree_is =
+              tree_stays v.labels.ip b.sure end g.labels.one_volume.places.letters plan c x.chosen_entry.index (t.nth x.chosen_entry.place) x.tells.within
+              (sym i.agrees) (sym d.agrees) x.tells.tree;
+          generation_is = refl;
+        };
+        has_index = some_index (indexes_of c.dp) d.more d.split;
+      }
+
+  pub fine : (c : Cartridge) → IsImage v t plan b c → IsFine v t (least b) c
+  fine c image =
+      let x = chosen_by (end_dp (indexes_of c.dp)) image.dp.more image.last image.ip.on_ip image.ip.behind (ap end_dp image.dp.split) image.dp.counts in
+      let labels = image_labels c image in
+      record {
         place = x.chosen_entry.place;
         low = x.low;
         high = x.tells.covered;
         generation = x.chosen_entry.index.generation;
-        stands = record {
-          reads = record {
-            found = found;
-            facts_are = x.tells.facts;
-            tree_is =
-                tree_stays v.labels.ip b.sure end g.labels.one_volume.places.letters plan c x.chosen_entry.index (t.nth x.chosen_entry.place) x.tells.within
-                (sym i.agrees) (sym d.agrees) x.tells.tree;
-            generation_is = refl;
-          };
-          has_index = some_index (indexes_of c.dp) d.more d.split;
-        };
+        stands = stands_by c image x;
         labels = labels;
-        one = i.one;
+        one = image.ip.one;
         honest = record { labels = v.labels; has = labels; ip = image.honest.ip; dp = image.honest.dp };
       }
+
+  -- no index of the data partition is newer than what was flushed where its last is the one that was
+  none_newer : (ahead : Option Entry) (on_ip : Option Index) → IsBehind b.floor ahead on_ip → (newer_of ahead b.floor).index.generation < b.floor.index.generation → ⊥
+  none_newer None on_ip h less = omega (arith, less)
+  none_newer (Some a) on_ip h less = omega (arith, less, h.1)
+
+  -- where the last index of the data partition was flushed, it stands for what was flushed
+  pub flushed_stands : (c : Cartridge) (image : IsImage v t plan b c) → image.last ≡ b.floor → Stands c v.facts (t.nth (least b)) (newest b)
+  flushed_stands c image is = by image.dp.counts
+    where
+      by : Counts v t plan b (end_dp (indexes_of c.dp)) image.dp.more image.last → Stands c v.facts (t.nth (least b)) (newest b)
+      by (inl same) =
+          let ends : end_dp b.indexes ≡ end_dp (indexes_of c.dp) = ap (λ (m : List Construct). end_dp (m ++ b.indexes)) (sym same.0) ∙ sym (ap end_dp image.dp.split) in
+          stands_by c image (record {
+            chosen_entry = newest_entry b;
+            choice = ap (λ (e : Entry). chosen image.ip.on_ip (Some e.index)) same.1 ∙ newest_chosen b.floor b.ahead image.ip.on_ip image.ip.behind;
+            low = omega arith;
+            tells = subst (λ (n : ℕ). Tells v t plan b.sure n (newest_entry b)) ends g.tells;
+          })
+      by (inr newer) = absurd (none_newer b.ahead image.ip.on_ip image.ip.behind (omega (arith, newer.0, ap (λ (e : Entry). e.index.generation) is)))
 
 -- of fewer placements at least
 pub weaker : (v : Volume) (t : Trees) (j k : ℕ) (c : Cartridge) → j ≤ k → IsFine v t k c → IsFine v t j c

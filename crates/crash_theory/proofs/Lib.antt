@@ -7,3 +7,4 @@ pub mod Flushed
 pub mod Acks
 pub mod Events
 pub mod Noted
+pub mod Gives

@@ -19,3 +19,6 @@ pub fn acks_tried() {}
 
 #[tactic(auto, using(crate::proofs::Noted::kept_noted, crate::proofs::Noted::noted_sure))]
 pub fn noted_tried() {}
+
+#[tactic(auto, using(crate::proofs::Gives::synced_stands, crate::proofs::Gives::reaches))]
+pub fn gives_tried() {}
