@@ -1,3 +1,13 @@
 pub mod Cut
 pub mod Growth
 pub mod Starts
+pub mod Fronts
+pub mod Pointing
+pub mod Fines
+pub mod Images
+pub mod Written
+pub mod Flushed
+pub mod Acks
+pub mod Events
+pub mod Noted
+pub mod Gives

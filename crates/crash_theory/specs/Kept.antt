@@ -6,6 +6,8 @@ use Rattle.session_script.specs.declared.logs.Ack.{Ack}
 use Rattle.tape_content.specs.Content.{content}
 use Rattle.tape_content.specs.Ends.{end_ip}
 use Rattle.tape_drive.specs.Crashes.{Crashes}
+use Rattle.tape_layout.specs.declared.ops.Op.{Op}
+use Rattle.tape_layout.specs.declared.ops.Op.TheVariants as ops
 use Rattle.tape_meaning.specs.Pointers.{indexes_of}
 use Rattle.volume_space.specs.Space.{Space}
 use Rattle.crash_theory.specs.Fine.{IsFine, IsSame}
@@ -24,6 +26,16 @@ pub record Moment : Type 1 where
 -- from one moment to another a crash may leave what such a step gives
 abbrev pub IsStep : (Cartridge → Cartridge → Type 0) → Moment → Moment → Type 0
 IsStep step old new = (old.commands ≤ new.commands) × Crashes step old.commands old.leaves new.leaves old.left new.left
+
+-- nothing is pending: a crash leaves the cartridge as it reads
+abbrev pub HasNothingPending : Moment → Type 0
+HasNothingPending d = (c : Cartridge) → d.leaves c → c ≡ d.held
+
+-- a flush that is done leaves nothing pending
+abbrev pub IsSureAfter : Op → Moment → Type 0
+IsSureAfter (ops.Put place bytes) d = Unit {0}
+IsSureAfter (ops.Mark place) d = Unit {0}
+IsSureAfter (ops.Flush place) d = HasNothingPending d
 
 -- a sync that is answered once so many jobs of the whole run are done
 pub record Wait : Type 0 where
