@@ -1,2 +1,3 @@
 pub mod Pointing
 pub mod Fines
+pub mod Longer

@@ -1,2 +1,4 @@
 //! What a crash may leave of a volume that is served: definitions and laws, no code.
 #![tactic(auto)]
+
+pub mod checks;
