@@ -1,3 +1,4 @@
 pub mod Pointing
 pub mod Fines
 pub mod Longer
+pub mod Appends

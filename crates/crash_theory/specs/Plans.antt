@@ -24,7 +24,7 @@ pub record IsReady (items : List Item) : Type 0 where
   pub whole : front items ≡ items
   pub labels : 4 ≤ length items
   pub since : ℕ
-  pub data : (content items).phase ≡ Data since
+  pub stage : (content items).phase ≡ Data since
 
 -- The space of a volume is that of what was made once all jobs are done. Then all indexes are flushed, and where no flush is due, all
 -- data of the index partition; and where the tree hasn't changed since the last index, what was flushed covers it.
