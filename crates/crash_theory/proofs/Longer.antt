@@ -134,7 +134,7 @@ module _ (v : Volume) (t : Trees) (plan longer : Cartridge) (l : IsLonger plan l
     further = i.further;
   }
 
-  pub image_longer : (b : Base) (c : Cartridge) → IsGrounded v t plan b → IsImage v t plan b c → IsImage v t longer b c
+  abbrev pub image_longer : (b : Base) (c : Cartridge) → IsGrounded v t plan b → IsImage v t plan b c → IsImage v t longer b c
   image_longer b c g i =
       record { ip = ip_longer b c.ip g i.ip; last = i.last; dp = dp_longer b c.dp i.last g i.dp; honest = i.honest }
 
