@@ -77,6 +77,9 @@ newest_stays floor last (Some a) above same =
     (λ (p : IsStill last a). ap (λ (o : Option Entry). newer_of o last) p.1)
     (still_cases last a)
 
+pub flush_above : (s : Made) → IsAbove s.base.floor s.base.ahead → s.last ≡ s.base.floor → IsAbove s.last (still_ahead s.last s.base.ahead)
+flush_above s above same = above_flush s.base.floor s.last s.base.ahead above (inl same)
+
 -- behind a newer index none is ahead
 pub none_ahead : (floor last : Entry) (ahead : Option Entry) → (newer_of ahead floor).index.generation < last.index.generation
     → still_ahead last ahead ≡ None

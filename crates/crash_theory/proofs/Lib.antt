@@ -5,3 +5,4 @@ pub mod Appends
 pub mod Admits
 pub mod Data
 pub mod Flushes
+pub mod Indexes
