@@ -32,8 +32,8 @@ use Rattle.crash_theory.specs.Images.{Counts, IsDpImage, IsSound, Tells}
 use Rattle.crash_theory.specs.Kept.{IsServed, Kept, Moment, Serves, Wait, plan_of}
 use Rattle.crash_theory.specs.Made.{Base, Entry, Job, Made, Trees, Volume, after, cartridge_of, flushed, least, newer_of, newest, newest_entry, plain, put_on, still_ahead}
 use Rattle.crash_theory.specs.Plans.{IsDue, IsPlanned, IsReady, index_jobs}
-use Rattle.crash_theory.proofs.Admits.{kept_sound, served_last, serves_more}
-use Rattle.crash_theory.proofs.Appends.{IsOpened, LeadsTo, dp_more, form_of, leads_append, puts_are, puts_from, quiet_mark, run, sound_put, with_items}
+use Rattle.crash_theory.proofs.Admits.{kept_sound, served_unchanged, serves_more}
+use Rattle.crash_theory.proofs.Appends.{IsOpened, IsQuiet, LeadsTo, dp_more, form_of, leads_append, puts_are, puts_from, quiet_mark, run, sound_put, with_items}
 use Rattle.crash_theory.proofs.Data.{count_is, length_more, ready_opened}
 use Rattle.crash_theory.proofs.Flushes.{CanFlush, IsAbove, above_after, behind_above, end_ready, flush_above, flush_free, newest_stays, none_ahead, tells_further}
 use Rattle.crash_theory.proofs.Longer.{IsGrown, IsLonger, after_append, sound_after, sound_longer, tells_longer}
@@ -177,10 +177,11 @@ module _ (v : Volume) (t : Trees) (s : Made) (space : Space) (rules : Rules) (te
   can_first : CanFlush plan s
   can_first = record { above = above; longer = longer; opened = opened_ip; sure = omega (arith, sound.grounded.on_ip, end_of_ip) }
 
-  first : IsFlushed v t plan s (map plain (flush_first space.flush_due space.ends.ip))
+  pub first : IsFlushed v t plan s (map plain (flush_first space.flush_due space.ends.ip))
   first = flushed_first v t plan s space.flush_due space.ends.ip p.flushed p.indexed can_first p.ready_ip p.no_index sound0
 
-  module _ (b : Base) (sound1 : IsSound v t plan (with_base b s)) (sure : b.sure ≡ length s.ip) (newest_is : newest_entry b ≡ newest_entry s.base) where
+  module _ (b : Base) (sound1 : IsSound v t plan (with_base b s)) (sure : b.sure ≡ length s.ip) (newest_is : newest_entry b ≡ newest_entry s.base)
+      (above1 : IsAbove b.floor b.ahead) where
     is_newer : newest b < e.index.generation
     is_newer = omega (arith, due.generation, p.newest_is, ap (λ (f : Entry). f.index.generation) newest_is)
 
@@ -228,3 +229,148 @@ module _ (v : Volume) (t : Trees) (s : Made) (space : Space) (rules : Rules) (te
       };
       ip = sound1.ip;
     }
+
+    abbrev s1 : Made
+    s1 = with_base b s
+
+    quiet : IsQuiet s.dp Mark
+    quiet = quiet_mark s.dp p.ready_dp.since p.ready_dp.whole p.ready_dp.labels p.ready_dp.stage
+
+    abbrev s2 : Made
+    s2 = put_on Dp Mark None s1
+
+    sound2 : IsSound v t plan s2
+    sound2 = sound_put v t plan Dp Mark s1 tt tt quiet sound1
+
+    marked : LeadsTo v t plan s1 (plain (ops.Mark (record { part = Dp; pos = space.ends.dp })) ∷ []) s2
+    marked = record { safe = ((p.end_dp, tt), sound2, tt); to = refl }
+
+    abbrev s3 : Made
+    s3 = with_items Dp (s.dp ++ Mark ∷ [] ++ map Block bs) s2
+
+    filled : LeadsTo v t plan s2 (map plain (puts rules.block_size Dp (space.ends.dp + 1) text)) s3
+    filled =
+        subst (λ (os : List Op). LeadsTo v t plan s2 (map plain os) s3) (sym (puts_are rules.block_size Dp (space.ends.dp + 1) text))
+        (run v t plan Dp bs (space.ends.dp + 1) s2 (omega (arith, p.end_dp, length-append s.dp (Mark ∷ []))) tt tt quiet.opened sound2)
+
+    long3 : space.ends.dp + 1 + blocks rules text ≡ length s3.dp
+    long3 = omega (
+      arith,
+      p.end_dp,
+      length_more (s.dp ++ Mark ∷ []) bs,
+      length-append s.dp (Mark ∷ []),
+      count_is rules.block_size text,
+    )
+
+    closed : LeadsTo v t plan s3 (record { op = ops.Mark (record { part = Dp; pos = space.ends.dp + 1 + blocks rules text }); whole = Some e } ∷ []) (indexed b)
+    closed = record { safe = ((long3, tt), with_index_sound, tt); to = refl }
+
+    can_last : CanFlush plan (indexed b)
+    can_last = record {
+      above = above1;
+      longer = record { more_ip = []; ip = sym (append-nil s.ip); more_dp = []; dp = sym (append-nil (with_construct s.dp bs)) };
+      opened = opened_ip;
+      sure = omega (arith, sure, end_of_ip);
+    }
+
+    flushed_last : LeadsTo v t plan (indexed b) (plain (ops.Flush (record { part = Dp; pos = space.ends.dp + 2 + blocks rules text })) ∷ [])
+        (indexed (flushed (indexed b)))
+    flushed_last = record { safe = (tt, flush_free v t plan (indexed b) (record { part = Dp; pos = space.ends.dp + 2 + blocks rules text }) can_last p.no_index with_index_sound, tt); to = refl }
+
+    behind_first : (before : List Job) → LeadsTo v t plan s before s1
+        → LeadsTo v t plan s
+        (before
+        ++ plain (ops.Mark (record { part = Dp; pos = space.ends.dp })) ∷ []
+        ++ map plain (puts rules.block_size Dp (space.ends.dp + 1) text)
+        ++ record { op = ops.Mark (record { part = Dp; pos = space.ends.dp + 1 + blocks rules text }); whole = Some e } ∷ []
+        ++ plain (ops.Flush (record { part = Dp; pos = space.ends.dp + 2 + blocks rules text })) ∷ [])
+        (indexed (flushed (indexed b)))
+    behind_first before l =
+        leads_append v t plan s (indexed b) (indexed (flushed (indexed b))) _ _
+        (leads_append v t plan s s3 (indexed b) _ _ (leads_append v t plan s s2 s3 _ _ (leads_append v t plan s s1 s2 before _ l marked) filled) closed)
+        flushed_last
+
+    none_is_ahead : still_ahead e b.ahead ≡ None
+    none_is_ahead = none_ahead b.floor e b.ahead is_newer
+
+    last_is_newest : newest_entry (flushed (indexed b)) ≡ e
+    last_is_newest = ap (λ (o : Option Entry). newer_of o e) none_is_ahead
+
+    same_here : IsSame t t.count t.count
+    same_here j from to = let here : j ≡ t.count = omega (arith, from, to) in ap (λ (n : ℕ). t.nth n) here
+
+    planned_index : IsPlanned t (indexed (flushed (indexed b))) (with_index rules text space)
+    planned_index = record {
+      end_ip = p.end_ip;
+      end_dp = omega (arith, p.end_dp, construct_long s.dp bs, count_is rules.block_size text);
+      newest_is = omega (arith, due.generation, ap (λ (f : Entry). f.index.generation) last_is_newest);
+      last_dp = ap (λ (n : ℕ). Some (n + 1)) p.end_dp ∙ ap last_block (sym is_indexes);
+      indexed = refl;
+      flushed = λ same. end_of_ip;
+      covered = λ same.
+          let place : least (flushed (indexed b)) ≡ t.count = ap (λ (f : Entry). f.place) last_is_newest ∙ due.all in
+          subst (λ (n : ℕ). IsSame t n t.count) (sym place) same_here;
+      ready_ip = p.ready_ip;
+      no_index = p.no_index;
+      ready_dp = construct_ready s.dp bs p.ready_dp some;
+    }
+
+  abbrev index_made : Made
+  index_made = indexed (flushed (indexed first.base))
+
+  pub index_leads : LeadsTo v t (cartridge_of index_made) s (index_jobs rules space text e) index_made
+  index_leads =
+      behind_first first.base first.sound first.sure first.newest_is first.above (map plain (flush_first space.flush_due space.ends.ip)) first.leads
+
+  pub index_planned : IsPlanned t index_made (with_index rules text space)
+  index_planned = planned_index first.base first.sound first.sure first.newest_is first.above
+
+  -- behind it no index is ahead, and the data partition ends with the index
+  pub index_settles : (index_made.base.ahead ≡ None) × EndsWithLast index_made.dp (indexes_of index_made.dp)
+  index_settles = (
+    none_is_ahead first.base first.sound first.sure first.newest_is first.above,
+    subst (λ (ks : List Construct). EndsWithLast (with_construct s.dp bs) ks) (sym is_indexes) (construct_long s.dp bs),
+  )
+
+-- ---- admitted
+
+pub kept_above : (v : Volume) (t : Trees) (s : Made) (since : ℕ) (d : Moment) (done : ℕ) (jobs : List Job) (waits : List Wait) (acks : List Ack)
+    → Kept v t s since d done jobs waits acks → IsAbove (after s jobs).base.floor (after s jobs).base.ahead
+kept_above v t s since d done jobs waits acks k =
+    above_after v t (plan_of s jobs) jobs s k.sound k.safe
+    (behind_above s.base.floor s.base.ahead k.reads.image.ip.on_ip k.reads.image.ip.behind)
+
+pub admitted_index : (v : Volume) (t : Trees) (s : Made) (since : ℕ) (d : Moment) (done : ℕ) (jobs : List Job) (waits : List Wait) (acks : List Ack) (space : Space)
+    (rules : Rules) (text : List ℕ) (e : Entry)
+    → Serves v t s since d done jobs waits acks space → IsDue v t (after s jobs) space text e → 1 ≤ rules.block_size
+    → Serves v t s since d done (jobs ++ index_jobs rules space text e) waits acks (with_index rules text space)
+admitted_index v t s since d done jobs waits acks space rules text e h due size =
+    let above = kept_above v t s since d done jobs waits acks h.kept in
+    let sound = kept_sound v t s since d done jobs waits acks h.kept in
+    serves_more v t s since d done jobs (index_jobs rules space text e) waits acks _ (with_index rules text space) h.kept
+    (index_leads v t (after s jobs) space rules text e h.planned due size above sound)
+    (index_planned v t (after s jobs) space rules text e h.planned due size above sound)
+
+-- the sync for which it was admitted
+pub index_served : (v : Volume) (t : Trees) (s : Made) (since : ℕ) (d : Moment) (done : ℕ) (jobs : List Job) (waits : List Wait) (acks : List Ack) (space : Space)
+    (rules : Rules) (text : List ℕ) (e : Entry)
+    → Serves v t s since d done jobs waits acks space → IsDue v t (after s jobs) space text e → 1 ≤ rules.block_size
+    → IsServed t s done (jobs ++ index_jobs rules space text e) (record { place = t.count; due = done + length (jobs ++ index_jobs rules space text e) })
+index_served v t s since d done jobs waits acks space rules text e h due size =
+    served_unchanged v t s since d done (jobs ++ index_jobs rules space text e) waits acks (with_index rules text space)
+    (admitted_index v t s since d done jobs waits acks space rules text e h due size)
+    refl
+
+-- what it leaves of both partitions
+pub index_settled : (v : Volume) (t : Trees) (s : Made) (since : ℕ) (d : Moment) (done : ℕ) (jobs : List Job) (waits : List Wait) (acks : List Ack) (space : Space)
+    (rules : Rules) (text : List ℕ) (e : Entry)
+    → Serves v t s since d done jobs waits acks space → IsDue v t (after s jobs) space text e → 1 ≤ rules.block_size
+    → ((after s (jobs ++ index_jobs rules space text e)).base.ahead ≡ None)
+    × EndsWithLast (after s (jobs ++ index_jobs rules space text e)).dp (indexes_of (after s (jobs ++ index_jobs rules space text e)).dp)
+index_settled v t s since d done jobs waits acks space rules text e h due size =
+    let above = kept_above v t s since d done jobs waits acks h.kept in
+    let sound = kept_sound v t s since d done jobs waits acks h.kept in
+    let l = index_leads v t (after s jobs) space rules text e h.planned due size above sound in
+    subst (λ (m : Made). (m.base.ahead ≡ None) × EndsWithLast m.dp (indexes_of m.dp))
+    (sym (after_append jobs (index_jobs rules space text e) s ∙ l.to))
+    (index_settles v t (after s jobs) space rules text e h.planned due size above sound)
