@@ -224,20 +224,30 @@ with_both : (part : Part) (x : Item) (more : List Item) (s : Made)
 with_both Ip x more s = ap (λ (l : List Item). with_items Ip l s) (append_assoc s.ip (x ∷ []) more)
 with_both Dp x more s = ap (λ (l : List Item). with_items Dp l s) (append_assoc s.dp (x ∷ []) more)
 
-pub run : (v : Volume) (t : Trees) (plan : Cartridge) (part : Part) (bs : List (List ℕ)) (pos : ℕ) (s : Made) → pos ≡ length (part_items part s)
+pub run_makes : (part : Part) (bs : List (List ℕ)) (pos : ℕ) (s : Made)
+    → after s (map plain (puts_from part pos bs)) ≡ with_items part (part_items part s ++ map Block bs) s
+run_makes part [] pos s = with_none part s
+run_makes part (b ∷ bs) pos s = run_makes part bs (pos + 1) (put_on part (Block b) None s) ∙ with_both part (Block b) (map Block bs) s
+
+run_safe : (v : Volume) (t : Trees) (plan : Cartridge) (part : Part) (bs : List (List ℕ)) (pos : ℕ) (s : Made) → pos ≡ length (part_items part s)
     → MayWrite part s.base → IsFree part s → IsOpened (part_items part s) → IsSound v t plan s
-    → LeadsTo v t plan s (map plain (puts_from part pos bs)) (with_items part (part_items part s ++ map Block bs) s)
-run v t plan part [] pos s at may free o sound = record { safe = tt; to = with_none part s }
-run v t plan part (b ∷ bs) pos s at may free o sound =
+    → AreSafe v t plan s (map plain (puts_from part pos bs))
+run_safe v t plan part [] pos s at may free o sound = tt
+run_safe v t plan part (b ∷ bs) pos s at may free o sound =
     let q = quiet_block (part_items part s) b o in
     let s1 : Made = put_on part (Block b) None s in
     let items = put_items part (Block b) s in
     let sound1 : IsSound v t plan s1 = sound_put v t plan part (Block b) s may free q sound in
     let at1 : pos + 1 ≡ length (part_items part s1) =
     omega (arith, at, length-append (part_items part s) (Block b ∷ []), ap (λ (l : List Item). length l) items) in
-    let o1 = subst (λ (l : List Item). IsOpened l) (sym items) q.opened in
-    let rest = run v t plan part bs (pos + 1) s1 at1 (may_still part (Block b) s may) (free_still part (Block b) s free q) o1 sound1 in
-    record {
-      safe = ((at, may), sound1, rest.safe);
-      to = rest.to ∙ with_both part (Block b) (map Block bs) s;
-    }
+    let o1 = subst (λ (l : List Item). IsOpened l) (sym items) q.opened in (
+      (at, may),
+      sound1,
+      run_safe v t plan part bs (pos + 1) s1 at1 (may_still part (Block b) s may) (free_still part (Block b) s free q) o1 sound1,
+    )
+
+pub run : (v : Volume) (t : Trees) (plan : Cartridge) (part : Part) (bs : List (List ℕ)) (pos : ℕ) (s : Made) → pos ≡ length (part_items part s)
+    → MayWrite part s.base → IsFree part s → IsOpened (part_items part s) → IsSound v t plan s
+    → LeadsTo v t plan s (map plain (puts_from part pos bs)) (with_items part (part_items part s ++ map Block bs) s)
+run v t plan part bs pos s at may free o sound =
+    record { safe = run_safe v t plan part bs pos s at may free o sound; to = run_makes part bs pos s }

@@ -6,3 +6,4 @@ pub mod Admits
 pub mod Data
 pub mod Flushes
 pub mod Indexes
+pub mod Closes

@@ -5,3 +5,7 @@ pub fn admissions()
 #[tactic(auto, using(crate::proofs::Indexes::joined))]
 pub fn indexes()
 {}
+
+#[tactic(auto, using(crate::proofs::Closes::close_makes))]
+pub fn closes()
+{}
