@@ -7,6 +7,7 @@ use Rattle.tape_types.specs.declared.cartridges.Item.{Item}
 use Rattle.tape_types.specs.declared.cartridges.Item.TheVariants.{Block, Mark}
 use Rattle.tape_types.specs.declared.cartridges.Part.{Part}
 use Rattle.tape_types.specs.declared.cartridges.Part.TheVariants.{Ip, Dp}
+use Rattle.plain_tree.specs.Tree.{Tree}
 use Rattle.session_script.specs.declared.logs.Ack.{Ack}
 use Rattle.index_model.specs.Grammar.{IndexText}
 use Rattle.index_model.specs.declared.indexes.Index.{Index}
@@ -236,6 +237,115 @@ module _ (v : Volume) (t : Trees) (s : Made) (space : Space) (rules : Rules) (te
         (leads_append v t plan s s2 (closed s.base) _ (closing ∷ []) (leads_append v t plan s s1 s2 _ filling marked filled) closed_last)
         flushed_last
 
+  -- ---- what stands behind it
+
+  same_generation : index.generation ≡ s.last.index.generation
+  same_generation = generation_is ∙ ap (λ (e : Entry). e.index.generation) (sym p.indexed)
+
+  module _ (c : Cartridge) (ip_is : c.ip ≡ items) (dp_is : c.dp ≡ s.dp) (sound : IsSound v t plan close_made) where
+    newest_last : newest_entry (flushed (closed s.base)) ≡ s.last
+    newest_last = ap (λ (o : Option Entry). newer_of (still_ahead s.last o) s.last) none
+
+    tells : Tells v t plan (end_ip (content items)) (end_dp (indexes_of s.dp)) s.last
+    tells =
+        subst (λ (e : Entry). Tells v t plan (end_ip (content items)) (end_dp (indexes_of s.dp)) e) newest_last sound.grounded.tells
+
+    has : HasLabels c v.labels
+    has =
+        labels_stay plan c v.labels (ap (λ (l : List Item). take 4 l) (sym ip_is)) (ap (λ (l : List Item). take 4 l) (sym dp_is)) sound.grounded.labels
+
+    ip_last : IsLastOnIp v.labels.ip (indexes_of c.ip) (indexes_of c.dp) (Some s.last.index) (Some index)
+    ip_last =
+        subst (λ (l : List Item). IsLastOnIp v.labels.ip (indexes_of l) (indexes_of c.dp) (Some s.last.index) (Some index)) (sym ip_is)
+        (subst (λ (l : List Item). IsLastOnIp v.labels.ip (indexes_of items) (indexes_of l) (Some s.last.index) (Some index)) (sym dp_is)
+        (subst (λ (ks : List Construct). IsLastOnIp v.labels.ip ks (indexes_of s.dp) (Some s.last.index) (Some index)) (sym is_indexes)
+        (ip_reads (indexes_of s.dp) s.last.index same_generation back_is)))
+
+    within : AllByRecursion (FitsNode v.labels.ip (ip_end c) (dp_end c)) s.last.index.nodes
+    within =
+        subst (λ (l : List Item). AllByRecursion (FitsNode v.labels.ip (end_ip (content l)) (dp_end c)) s.last.index.nodes) (sym ip_is)
+        (subst (λ (l : List Item). AllByRecursion (FitsNode v.labels.ip (end_ip (content items)) (end_dp (indexes_of l))) s.last.index.nodes) (sym dp_is)
+        tells.within)
+
+    abbrev closed_found : Found c
+    closed_found = record {
+      labels = v.labels;
+      forms = record {
+        has = has;
+        ip = subst (λ (l : List Item). HasForm l) (sym ip_is) (form_of items opened_ip.good);
+        dp = subst (λ (l : List Item). HasForm l) (sym dp_is) sound.dp.form;
+      };
+      on_dp = Some s.last.index;
+      dp_last = subst (λ (l : List Item). IsLastOnDp v.labels.ip (indexes_of l) (Some s.last.index)) (sym dp_is) sound.dp.reads;
+      on_ip = Some index;
+      ip_last = ip_last;
+      index = s.last.index;
+      choice = chosen_on_tie index s.last.index same_generation;
+      within = within;
+    }
+
+    consistent_from : (ks : List Construct) → indexes_of s.dp ≡ ks → EndsWithLast s.dp ks → IsConsistent c
+    consistent_from [] is ends = absurd ends
+    consistent_from (last ∷ older) is ends = record {
+      found = closed_found;
+      ip = k;
+      ip_older = [];
+      ip_is = ap indexes_of ip_is ∙ is_indexes;
+      ip_ends = ap (λ (l : List Item). length l) ip_is ∙ construct_long s.ip bs;
+      dp = last;
+      dp_older = older;
+      dp_is = ap indexes_of dp_is ∙ is;
+      dp_ends = ap (λ (l : List Item). length l) dp_is ∙ ends;
+      index = index;
+      on_ip = refl;
+      back = back_is ∙ ap (λ (ks : List Construct). newest_spot v.labels.ip ks) is;
+    }
+
+    ip_tree : IsTreeOf v.labels.ip c index (t.nth t.count)
+    ip_tree =
+        tree_stays v.labels.ip space.ends.ip space.ends.dp has.one_volume.places.letters (cartridge_of s) c index (t.nth t.count) due.tells.within
+        (sym (take-append-le space.ends.ip s.ip (Mark ∷ (map Block bs ++ Mark ∷ [])) (omega (arith, p.end_ip)))
+        ∙ ap (λ (l : List Item). take space.ends.ip l) (sym (ip_is ∙ construct_is s.ip bs)))
+        (ap (λ (l : List Item). take space.ends.dp l) (sym dp_is)) due.tells.tree
+
+    covers : IsSame t (least s.base) t.count → t.nth s.last.place ≡ t.nth t.count
+    covers same =
+        same s.last.place
+        (omega (
+          arith,
+          ap (λ (o : Option Entry). (newer_of o s.base.floor).place) none,
+          ap (λ (e : Entry). e.place) p.indexed,
+        ))
+        tells.covered
+
+    dp_tree : IsTreeOf v.labels.ip c s.last.index (t.nth s.last.place)
+    dp_tree =
+        tree_stays v.labels.ip (end_ip (content items)) (end_dp (indexes_of s.dp)) has.one_volume.places.letters plan c s.last.index (t.nth s.last.place)
+        tells.within
+        (ap (λ (l : List Item). take (end_ip (content items)) l) (sym ip_is))
+        (ap (λ (l : List Item). take (end_dp (indexes_of s.dp)) l) (sym dp_is)) tells.tree
+
+    pub closed_consistent : EndsWithLast s.dp (indexes_of s.dp) → IsConsistent c
+    closed_consistent ends = consistent_from (indexes_of s.dp) refl ends
+
+    pub closed_alike : IsSame t (least s.base) t.count → AreAlike c v.facts (t.nth t.count) space.newest
+    closed_alike same = record {
+      found = closed_found;
+      ip_index = index;
+      ip_last = refl;
+      ip_generation = due.generation;
+      ip_facts = due.tells.facts;
+      ip_tree = ip_tree;
+      dp_index = s.last.index;
+      dp_last = refl;
+      dp_generation = sym same_generation ∙ due.generation;
+      dp_facts = tells.facts;
+      dp_tree = subst (λ (tree : Tree). IsTreeOf v.labels.ip c s.last.index tree) (covers same) dp_tree;
+    }
+
+    pub closed_coherent : AreNoted c v.labels.ip → IsCoherent c
+    closed_coherent noted = noted_coherent c v.labels has noted
+
 -- the index of a close, once all of the data partition's is flushed
 pub admitted_close : (v : Volume) (t : Trees) (s : Made) (since : ℕ) (d : Moment) (done : ℕ) (jobs : List Job) (waits : List Wait) (acks : List Ack) (space : Space)
     (rules : Rules) (text : List ℕ) (index : Index)
@@ -244,3 +354,27 @@ pub admitted_close : (v : Volume) (t : Trees) (s : Made) (since : ℕ) (d : Mome
 admitted_close v t s since d done jobs waits acks space rules text index h due none size =
     kept_more v t s since d done jobs (close_jobs rules space text) waits acks _ h.kept
     (close_leads v t (after s jobs) space rules text index h.planned due none size (kept_sound v t s since d done jobs waits acks h.kept))
+
+-- ---- a close that is done
+
+module _ (v : Volume) (t : Trees) (s made : Made) (space : Space) (rules : Rules) (text : List ℕ) (index : Index) (since : ℕ) (d : Moment) (done : ℕ)
+    (waits : List Wait) (acks : List Ack) (p : IsPlanned t s space) (due : IsCloseDue v t s space text index) (none : s.base.ahead ≡ None)
+    (size : 1 ≤ rules.block_size) (k : Kept v t made since d done [] waits acks) (made_is : made ≡ after s (close_jobs rules space text))
+    (ip_is : d.held.ip ≡ made.ip) (dp_is : d.held.dp ≡ made.dp) where
+  same_made : made ≡ close_made v t s space rules text index p due none size
+  same_made = made_is ∙ close_makes v t s space rules text index p due none size
+
+  sound_made : IsSound v t (cartridge_of (close_made v t s space rules text index p due none size)) (close_made v t s space rules text index p due none size)
+  sound_made = subst (λ (m : Made). IsSound v t (cartridge_of m) m) same_made k.sound
+
+  pub leaves_consistent : EndsWithLast s.dp (indexes_of s.dp) → IsConsistent d.held
+  leaves_consistent =
+      closed_consistent v t s space rules text index p due none size d.held (ip_is ∙ ap (λ (m : Made). m.ip) same_made) (dp_is ∙ ap (λ (m : Made). m.dp) same_made) sound_made
+
+  pub leaves_alike : IsSame t (least s.base) t.count → AreAlike d.held v.facts (t.nth t.count) space.newest
+  leaves_alike =
+      closed_alike v t s space rules text index p due none size d.held (ip_is ∙ ap (λ (m : Made). m.ip) same_made) (dp_is ∙ ap (λ (m : Made). m.dp) same_made) sound_made
+
+  pub leaves_coherent : AreNoted d.held v.labels.ip → IsCoherent d.held
+  leaves_coherent =
+      closed_coherent v t s space rules text index p due none size d.held (ip_is ∙ ap (λ (m : Made). m.ip) same_made) (dp_is ∙ ap (λ (m : Made). m.dp) same_made) sound_made
