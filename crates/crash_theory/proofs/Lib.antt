@@ -1,5 +1,6 @@
-pub mod Pointing
-pub mod Fines
+pub mod Cut
+pub mod Growth
+pub mod Starts
 pub mod Longer
 pub mod Appends
 pub mod Admits

@@ -6,9 +6,9 @@ use Rattle.tape_meaning.specs.Meaning.{HasOneIndex, Stands}
 use Rattle.tape_meaning.specs.Notes.{IsHonest}
 use Rattle.crash_theory.specs.Made.{Trees, Volume}
 
--- The cartridge stands for the tree of a prefix of the history, of so many placements at least, with the volume's labels and what its
--- indexes carry over; its index partition has no index, or one alone with which its front ends; and its notes are honest. So it can
--- be mounted and served again.
+-- The cartridge stands for the tree of a prefix of the history, of so many placements at least, with the volume's
+-- labels and what its indexes carry over; its index partition has no index, or one alone with which its front ends;
+-- and its notes are honest. So it can be mounted and served again.
 pub record IsFine (v : Volume) (t : Trees) (from : ℕ) (c : Cartridge) : Type 0 where
   pub place : ℕ
   pub low : from ≤ place

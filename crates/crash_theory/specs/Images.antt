@@ -21,24 +21,25 @@ use Rattle.tape_meaning.specs.Notes.{IsHonestNote}
 use Rattle.tape_meaning.specs.Pointers.{IsLastOnDp, IsLastOnIp, indexes_of}
 use Rattle.crash_theory.specs.Made.{Base, Entry, Job, Made, Trees, Volume, least, makes, newest, newest_entry, part_items}
 
--- An index tells the tree of the placements that it covers, with the bytes that stand on this cartridge; it names only blocks before
--- these ends; and it carries over what the volume does.
+-- An index tells the tree of the placements that it covers, with the bytes that stand on this cartridge; it names
+-- only blocks before these ends; and it carries over what the volume does.
 pub record Tells (v : Volume) (t : Trees) (c : Cartridge) (ip dp : ℕ) (e : Entry) : Type 0 where
   pub facts : v.facts ≡ carried e.index
   pub within : AllByRecursion (FitsNode v.labels.ip ip dp) e.index.nodes
   pub covered : e.place ≤ t.count
   pub tree : IsTreeOf v.labels.ip c e.index (t.nth e.place)
 
--- The newest index of a data partition is the one that stood there at the last flush, or it is newer than all that stood then, covers
--- no fewer placements, and tells their tree, of blocks that were flushed on the index partition.
+-- The newest index of a data partition is the one that stood there at the last flush, or it is newer than all that
+-- stood then, covers no fewer placements, and tells their tree, of blocks that were flushed on the index partition.
 abbrev pub Counts : Volume → Trees → Cartridge → Base → (end : ℕ) → (more : List Construct) → Entry → Type 0
 Counts v t plan b end more last =
     ((more ≡ []) × (last ≡ b.floor))
     ⊎ ((newest b < last.index.generation) × (least b ≤ last.place) × Tells v t plan b.sure end last)
 
--- A data partition as a crash may leave it: with the labels, in form, with all indexes that were flushed, and with the items that are
--- planned up to the end of its newest index.
-pub record IsDpImage (v : Volume) (t : Trees) (plan : Cartridge) (b : Base) (dp : List Item) (last : Entry) : Type 0 where
+-- A data partition as a crash may leave it: with the labels, in form, with all indexes that were flushed, and with
+-- the items that are planned up to the end of its newest index.
+pub record IsDpImage (v : Volume) (t : Trees) (plan : Cartridge) (b : Base) (dp : List Item)
+    (last : Entry) : Type 0 where
   pub labels : take 4 dp ≡ take 4 plan.dp
   pub form : HasForm dp
   pub more : List Construct
@@ -47,13 +48,14 @@ pub record IsDpImage (v : Volume) (t : Trees) (plan : Cartridge) (b : Base) (dp 
   pub agrees : take (end_dp (indexes_of dp)) dp ≡ take (end_dp (indexes_of dp)) plan.dp
   pub counts : Counts v t plan b (end_dp (indexes_of dp)) more last
 
--- the index of the index partition is the one that is ahead, or it isn't newer than what was flushed of the data partition
+-- the index of the index partition is the one that is ahead, or it isn't newer than what was flushed of the data
+-- partition
 abbrev pub IsBehind : Entry → Option Entry → Option Index → Type 0
 IsBehind floor None on_ip = IfSome on_ip (λ index. index.generation ≤ floor.index.generation)
 IsBehind floor (Some ahead) on_ip = (on_ip ≡ Some ahead.index) × (floor.index.generation < ahead.index.generation)
 
--- An index partition as a crash may leave it: in form, with one index at most, with which its front ends, and with what was flushed of
--- its data.
+-- An index partition as a crash may leave it: in form, with one index at most, with which its front ends, and with
+-- what was flushed of its data.
 pub record IsIpImage (v : Volume) (plan : Cartridge) (b : Base) (ip : List Item) : Type 0 where
   pub form : HasForm ip
   pub one : IsOneAtMost ip (indexes_of ip)
@@ -70,7 +72,8 @@ pub record AreHonest (v : Volume) (c : Cartridge) : Type 0 where
 
 -- the notes of this volume know no greater volume change reference
 abbrev pub AreUpTo : Volume → ℕ → Cartridge → Type 0
-AreUpTo v vcr c = (part : Part) (note : Coherency) → HasValues (note_of part c) note → note.uuid ≡ v.labels.ip.uuid → note.vcr ≤ vcr
+AreUpTo v vcr c = (part : Part) (note : Coherency) → HasValues (note_of part c) note → note.uuid ≡ v.labels.ip.uuid
+    → note.vcr ≤ vcr
 
 -- a cartridge as a crash may leave it
 pub record IsImage (v : Volume) (t : Trees) (plan : Cartridge) (b : Base) (c : Cartridge) : Type 0 where
@@ -79,7 +82,8 @@ pub record IsImage (v : Volume) (t : Trees) (plan : Cartridge) (b : Base) (c : C
   pub dp : IsDpImage v t plan b c.dp last
   pub honest : AreHonest v c
 
--- What is flushed has labels and an index of the data partition, and the newer of both indexes tells its tree; all of it is planned.
+-- What is flushed has labels and an index of the data partition, and the newer of both indexes tells its tree; all of
+-- it is planned.
 pub record IsGrounded (v : Volume) (t : Trees) (plan : Cartridge) (b : Base) : Type 0 where
   pub labels : HasLabels plan v.labels
   pub some : b.indexes ≢ []

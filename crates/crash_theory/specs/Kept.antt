@@ -13,8 +13,8 @@ use Rattle.crash_theory.specs.Images.{AreSafe, AreUpTo, IsImage, IsSound}
 use Rattle.crash_theory.specs.Made.{Base, Job, Made, Trees, Volume, after, cartridge_of, least}
 use Rattle.crash_theory.specs.Plans.{IsPlanned}
 
--- a drive at a moment: the cartridge as it reads, how many commands it has had, what a crash may leave now, and what it may have left
--- since so many commands
+-- a drive at a moment: the cartridge as it reads, how many commands it has had, what a crash may leave now, and what
+-- it may have left since so many commands
 pub record Moment : Type 1 where
   pub held : Cartridge
   pub commands : ℕ
@@ -34,9 +34,11 @@ pub record Wait : Type 0 where
 pub record IsServed (t : Trees) (s : Made) (done : ℕ) (jobs : List Job) (w : Wait) : Type 0 where
   pub placed : w.place ≤ t.count
   pub admitted : w.due ≤ done + length jobs
-  pub covered : (front behind : List Job) → jobs ≡ front ++ behind → done + length front ≡ w.due → IsSame t (least (after s front).base) w.place
+  pub covered : (front behind : List Job) → jobs ≡ front ++ behind → done + length front ≡ w.due
+      → IsSame t (least (after s front).base) w.place
 
--- The cartridge reads as what was made up to both ends. What lies behind them is an image's tail, without an index on the data partition.
+-- The cartridge reads as what was made up to both ends. What lies behind them is an image's tail, without an index on
+-- the data partition.
 pub record ReadsAs (v : Volume) (t : Trees) (plan : Cartridge) (s : Made) (held : Cartridge) : Type 0 where
   pub ip : take (length s.ip) held.ip ≡ s.ip
   pub dp : take (length s.dp) held.dp ≡ s.dp
@@ -45,8 +47,8 @@ pub record ReadsAs (v : Volume) (t : Trees) (plan : Cartridge) (s : Made) (held 
   pub no_more : indexes_of held.dp ≡ indexes_of s.dp
   pub further : end_ip (content s.ip) ≤ end_ip (content held.ip)
 
--- an acknowledged sync is covered by what is flushed; it was told at a number of commands that were reached, and each image that a crash
--- may have left since holds what it covers
+-- an acknowledged sync is covered by what is flushed; it was told at a number of commands that were reached, and each
+-- image that a crash may have left since holds what it covers
 pub record IsHeld (v : Volume) (t : Trees) (b : Base) (d : Moment) (a : Ack) : Type 0 where
   pub placed : a.place ≤ t.count
   pub reached : a.command ≤ d.commands
@@ -57,9 +59,10 @@ pub record IsHeld (v : Volume) (t : Trees) (b : Base) (d : Moment) (a : Ack) : T
 abbrev pub plan_of : Made → List Job → Cartridge
 plan_of s jobs = cartridge_of (after s jobs)
 
--- What is kept: the cartridge reads as what was made; the jobs that stand may be done; each image that a crash may leave is sound,
--- each that it may have left since the start is fine, and each acknowledged sync is held.
-pub record Kept (v : Volume) (t : Trees) (s : Made) (since : ℕ) (d : Moment) (done : ℕ) (jobs : List Job) (waits : List Wait) (acks : List Ack)
+-- What is kept: the cartridge reads as what was made; the jobs that stand may be done; each image that a crash may
+-- leave is sound, each that it may have left since the start is fine, and each acknowledged sync is held.
+pub record Kept (v : Volume) (t : Trees) (s : Made) (since : ℕ) (d : Moment) (done : ℕ) (jobs : List Job)
+    (waits : List Wait) (acks : List Ack)
     : Type 0 where
   pub reads : ReadsAs v t (plan_of s jobs) s d.held
   pub sound : IsSound v t (plan_of s jobs) s
@@ -72,7 +75,8 @@ pub record Kept (v : Volume) (t : Trees) (s : Made) (since : ℕ) (d : Moment) (
   pub acked : AllByRecursion (IsHeld v t s.base d) acks
 
 -- a volume that can be asked for more: what is kept, and its space is that of the plan
-pub record Serves (v : Volume) (t : Trees) (s : Made) (since : ℕ) (d : Moment) (done : ℕ) (jobs : List Job) (waits : List Wait) (acks : List Ack)
+pub record Serves (v : Volume) (t : Trees) (s : Made) (since : ℕ) (d : Moment) (done : ℕ) (jobs : List Job)
+    (waits : List Wait) (acks : List Ack)
     (space : Space) : Type 0 where
   pub kept : Kept v t s since d done jobs waits acks
   pub planned : IsPlanned t (after s jobs) space

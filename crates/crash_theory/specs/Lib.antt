@@ -5,3 +5,5 @@ pub mod Plans
 pub mod Events
 pub mod Kept
 pub mod Starts
+pub mod Worked
+pub mod Examples

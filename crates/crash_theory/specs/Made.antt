@@ -32,9 +32,9 @@ pub record Entry : Type 0 where
   pub index : Index
   pub place : ℕ
 
--- What stood on both partitions at the last flush, or at the mount: so many items of the index partition, its labels and its data; the
--- indexes of the data partition, the newest first, and what the newest of them covers; and the index of the index partition, where
--- that is newer.
+-- What stood on both partitions at the last flush, or at the mount: so many items of the index partition, its labels
+-- and its data; the indexes of the data partition, the newest first, and what the newest of them covers; and the
+-- index of the index partition, where that is newer.
 pub record Base : Type 0 where
   pub sure : ℕ
   pub indexes : List Construct

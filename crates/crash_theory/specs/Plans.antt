@@ -26,8 +26,9 @@ pub record IsReady (items : List Item) : Type 0 where
   pub since : ℕ
   pub stage : (content items).phase ≡ Data since
 
--- The space of a volume is that of what was made once all jobs are done. Then all indexes are flushed, and where no flush is due, all
--- data of the index partition; and where the tree hasn't changed since the last index, what was flushed covers it.
+-- The space of a volume is that of what was made once all jobs are done. Then all indexes are flushed, and where no
+-- flush is due, all data of the index partition; and where the tree hasn't changed since the last index, what was
+-- flushed covers it.
 pub record IsPlanned (t : Trees) (s : Made) (space : Space) : Type 0 where
   pub end_ip : space.ends.ip ≡ length s.ip
   pub end_dp : space.ends.dp ≡ length s.dp
@@ -44,8 +45,8 @@ pub record IsPlanned (t : Trees) (s : Made) (space : Space) : Type 0 where
 abbrev pub data_jobs : Rules → Part → ℕ → List ℕ → List Job
 data_jobs rules part end bytes = map plain (puts rules.block_size part end bytes)
 
--- the jobs of an index: what is due on the index partition is flushed; then a mark, the blocks of the text, the mark with which the
--- index is whole, and a flush
+-- the jobs of an index: what is due on the index partition is flushed; then a mark, the blocks of the text, the mark
+-- with which the index is whole, and a flush
 abbrev pub index_jobs : Rules → Space → List ℕ → Entry → List Job
 index_jobs rules space text e =
     map plain (flush_first space.flush_due space.ends.ip)
@@ -54,15 +55,16 @@ index_jobs rules space text e =
     ++ record { op = ops.Mark (record { part = Dp; pos = space.ends.dp + 1 + blocks rules text }); whole = Some e } ∷ []
     ++ plain (ops.Flush (record { part = Dp; pos = space.ends.dp + 2 + blocks rules text })) ∷ []
 
--- The text of an index that may be admitted on the data partition: it is that of an index of the volume, of the next generation, with its
--- pointers right, which covers the whole history and tells its tree from what is planned.
+-- The text of an index that may be admitted on the data partition: it is that of an index of the volume, of the next
+-- generation, with its pointers right, which covers the whole history and tells its tree from what is planned.
 pub record IsDue (v : Volume) (t : Trees) (s : Made) (space : Space) (text : List ℕ) (e : Entry) : Type 0 where
   pub some : 1 ≤ length text
   pub reads : IndexText text e.index
   pub uuid : e.index.uuid ≡ v.labels.ip.uuid
   pub generation : e.index.generation ≡ space.newest + 1
   pub here : e.index.here ≡ record { letter = letter_of v.labels.ip Dp; block = space.ends.dp + 1 }
-  pub back : e.index.back ≡ option_map (λ block. record { letter = letter_of v.labels.ip Dp; block = block }) space.last_dp
+  pub back : e.index.back
+      ≡ option_map (λ block. record { letter = letter_of v.labels.ip Dp; block = block }) space.last_dp
   pub all : e.place ≡ t.count
   pub tells : Tells v t (cartridge_of s) space.ends.ip space.ends.dp e
 
@@ -74,13 +76,14 @@ close_jobs rules space text =
     ++ plain (ops.Mark (record { part = Ip; pos = space.ends.ip + 1 + blocks rules text })) ∷ []
     ++ plain (ops.Flush (record { part = Ip; pos = space.ends.ip + 2 + blocks rules text })) ∷ []
 
--- the text of a close's index: it is that of an index of the generation of the data partition's last, points back to that, and tells the
--- tree of the whole history
+-- the text of a close's index: it is that of an index of the generation of the data partition's last, points back to
+-- that, and tells the tree of the whole history
 pub record IsCloseDue (v : Volume) (t : Trees) (s : Made) (space : Space) (text : List ℕ) (index : Index) : Type 0 where
   pub some : 1 ≤ length text
   pub reads : IndexText text index
   pub uuid : index.uuid ≡ v.labels.ip.uuid
   pub generation : index.generation ≡ space.newest
   pub here : index.here ≡ record { letter = letter_of v.labels.ip Ip; block = space.ends.ip + 1 }
-  pub back : index.back ≡ option_map (λ block. record { letter = letter_of v.labels.ip Dp; block = block }) space.last_dp
+  pub back : index.back
+      ≡ option_map (λ block. record { letter = letter_of v.labels.ip Dp; block = block }) space.last_dp
   pub tells : Tells v t (cartridge_of s) space.ends.ip space.ends.dp (record { index = index; place = t.count })

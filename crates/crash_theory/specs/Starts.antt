@@ -1,12 +1,13 @@
 -- How a volume begins to be served.
-use Rattle.std.specs.Prelude.{ℕ, ◌≡◌, nat_lt, if◌then◌else◌, List, [], ◌∷◌, take, Option, Some, None}
+use Rattle.std.specs.Prelude.{ℕ, ◌≡◌, ◌≤◌, nat_lt, if◌then◌else◌, List, [], ◌∷◌, take, Option, Some, None}
 use Rattle.tape_types.specs.declared.cartridges.Cartridge.{Cartridge}
 use Rattle.plain_tree.specs.Tree.{Tree}
 use Rattle.index_model.specs.declared.indexes.Index.{Index}
-use Rattle.tape_meaning.specs.Carried.{carried}
-use Rattle.tape_meaning.specs.Meaning.{Found, HasOneIndex, Stands, dp_end, ip_end}
+use Rattle.tape_meaning.specs.Labels.{HasLabels}
+use Rattle.tape_meaning.specs.Meaning.{HasOneIndex, Stands, dp_end, ip_end}
 use Rattle.tape_meaning.specs.Notes.{IsHonest}
-use Rattle.tape_meaning.specs.Pointers.{indexes_of}
+use Rattle.tape_meaning.specs.Pointers.{indexes_of, last_block}
+use Rattle.volume_space.specs.Space.{Space}
 use Rattle.crash_theory.specs.Kept.{Moment}
 use Rattle.crash_theory.specs.Made.{Entry, Made, Trees, Volume}
 
@@ -37,15 +38,20 @@ made_of c on_ip on_dp = record {
   };
 }
 
-abbrev pub volume_of : (c : Cartridge) → Found c → Volume
-volume_of c found = record { labels = found.labels; facts = carried found.index }
-
--- The premises: the cartridge stands for a tree, its index partition has one index at most, its notes are honest, and nothing is pending
--- since a number of commands that the drive had reached.
-pub record CanStart (d : Moment) (since : ℕ) (tree : Tree) (generation : ℕ) : Type 0 where
-  pub found : Found d.held
-  pub stands : Stands d.held (carried found.index) tree generation
+-- The premises: the cartridge has the volume's labels and stands for a tree, its index partition has one index at
+-- most, its notes are honest, and nothing is pending since a number of commands that the drive had reached.
+pub record CanStart (v : Volume) (d : Moment) (since : ℕ) (tree : Tree) (generation : ℕ) : Type 0 where
+  pub stands : Stands d.held v.facts tree generation
+  pub labels : HasLabels d.held v.labels
   pub one : HasOneIndex d.held
   pub honest : IsHonest d.held
+  pub reached : since ≤ d.commands
   pub pending : (c : Cartridge) → d.left since c → c ≡ d.held
   pub now : (c : Cartridge) → d.leaves c → c ≡ d.held
+
+-- the space of a volume when it was mounted
+pub record IsFirstSpace (c : Cartridge) (generation : ℕ) (space : Space) : Type 0 where
+  pub end_ip : space.ends.ip ≡ ip_end c
+  pub end_dp : space.ends.dp ≡ dp_end c
+  pub newest : space.newest ≡ generation
+  pub last_dp : space.last_dp ≡ last_block (indexes_of c.dp)

@@ -1,11 +1,5 @@
-#[tactic(auto, using(crate::proofs::Longer::after_append, crate::proofs::Data::admitted_data, crate::proofs::Flushes::behind_above))]
-pub fn admissions()
-{}
+#[tactic(auto, using(crate::proofs::Growth::kept_on, crate::proofs::Growth::planned_on, crate::proofs::Growth::still_covered))]
+pub fn growth() {}
 
-#[tactic(auto, using(crate::proofs::Indexes::joined))]
-pub fn indexes()
-{}
-
-#[tactic(auto, using(crate::proofs::Closes::close_makes))]
-pub fn closes()
-{}
+#[tactic(auto, using(crate::proofs::Starts::begins_to_serve))]
+pub fn starts() {}

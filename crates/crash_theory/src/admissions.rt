@@ -1,0 +1,8 @@
+#[tactic(auto, using(crate::proofs::Data::admitted_data))]
+pub fn data() {}
+
+#[tactic(auto, using(crate::proofs::Indexes::admitted_index, crate::proofs::Indexes::index_served, crate::proofs::Indexes::index_settled, crate::proofs::Admits::served_unchanged))]
+pub fn indexes() {}
+
+#[tactic(auto, using(crate::proofs::Closes::admitted_close, crate::proofs::Closes::leaves_consistent, crate::proofs::Closes::leaves_alike, crate::proofs::Closes::leaves_coherent))]
+pub fn closes() {}

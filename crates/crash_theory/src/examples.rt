@@ -1,0 +1,20 @@
+//! A small volume, on which the definitions are tried.
+
+ghost use Rattle.std.specs.Prelude.{Some, None};
+ghost use Rattle.index_model.specs.declared.indexes.Index.{Index};
+ghost use Rattle.crash_theory.specs.Examples.{TellsAhead, TellsCovered, TellsImages, TellsIp, TellsNext};
+ghost use Rattle.crash_theory.specs.Made.{Entry};
+ghost use Rattle.crash_theory.specs.Worked.{entry, mounted};
+
+/// Which index each image of a sync has, and how many placements that covers.
+pub fn the_definitions_tell_a_sync()
+    ensures images { (first second : Entry) → TellsImages (mounted first None) second }
+    ensures covered { (first second : Entry) → TellsCovered (mounted first None) first second }
+{}
+
+/// Which ops may come next, what is flushed of the index partition, and when its index stays ahead.
+pub fn the_definitions_tell_modes()
+    ensures next { (first ahead : Entry) → TellsNext (mounted first None) (mounted first (Some ahead)) }
+    ensures ip { (first : Entry) → TellsIp (mounted first None) }
+    ensures ahead { (index : Index) → TellsAhead index }
+{}

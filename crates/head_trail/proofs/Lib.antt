@@ -1,0 +1,3 @@
+pub mod RowFacts
+pub mod TrailLaw
+pub mod LoadLaw

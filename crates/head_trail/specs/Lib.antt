@@ -1,0 +1,4 @@
+pub mod Waiting
+pub mod Trail
+pub mod Load
+pub mod Rows

@@ -1,0 +1,8 @@
+//! The head of a volume, and what waits for it: definitions, and the runs on which they are tried.
+#![tactic(auto)]
+
+mod examples;
+
+pub use examples::{
+    each_step_lowers_the_load, the_definitions_tell_trails, trails_allow_each_event,
+};

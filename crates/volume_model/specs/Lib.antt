@@ -1,0 +1,16 @@
+pub mod Replies
+pub mod Mount
+pub mod Acks
+pub mod Faults
+pub mod Marks
+pub mod Crash
+pub mod Meanings
+pub mod Served
+pub mod Submits
+pub mod Steps
+pub mod Ends
+pub mod Headline
+pub mod Trials
+pub mod Turning
+pub mod Closing
+pub mod Asking
