@@ -20,7 +20,7 @@ use Rattle.tape_layout.specs.declared.ops.Op.{Op}
 use Rattle.tape_layout.specs.declared.ops.Op.TheVariants as ops
 use Rattle.tape_layout.specs.Ops.{puts}
 use Rattle.tape_meaning.specs.Labels.{HasLabels}
-use Rattle.tape_meaning.specs.Meaning.{AreAlike, FitsNode, Found, IsConsistent, IsTreeOf, dp_end, ip_end}
+use Rattle.tape_meaning.specs.Meaning.{AreAlike, FitsNode, Found, IsConsistent, IsTreeOf, Stands, dp_end, ip_end}
 use Rattle.tape_meaning.specs.Notes.{AreNoted, IsCoherent}
 use Rattle.tape_meaning.specs.Pointers.{IsLastOnDp, IsLastOnIp, chosen, indexes_of, last_block, letter_of, newest_spot}
 use Rattle.tape_meaning.proofs.Frame.{labels_stay, tree_stays}
@@ -308,9 +308,9 @@ module _ (v : Volume) (t : Trees) (s : Made) (space : Space) (rules : Rules) (te
         ∙ ap (λ (l : List Item). take space.ends.ip l) (sym (ip_is ∙ construct_is s.ip bs)))
         (ap (λ (l : List Item). take space.ends.dp l) (sym dp_is)) due.tells.tree
 
-    covers : IsSame t (least s.base) t.count → t.nth s.last.place ≡ t.nth t.count
-    covers same =
-        same s.last.place
+    covers : space.changed ≡ false → t.nth s.last.place ≡ t.nth t.count
+    covers unchanged =
+        p.covered unchanged s.last.place
         (omega (
           arith,
           ap (λ (o : Option Entry). (newer_of o s.base.floor).place) none,
@@ -325,11 +325,22 @@ module _ (v : Volume) (t : Trees) (s : Made) (space : Space) (rules : Rules) (te
         (ap (λ (l : List Item). take (end_ip (content items)) l) (sym ip_is))
         (ap (λ (l : List Item). take (end_dp (indexes_of s.dp)) l) (sym dp_is)) tells.tree
 
-    pub closed_consistent : EndsWithLast s.dp (indexes_of s.dp) → IsConsistent c
-    closed_consistent ends = consistent_from (indexes_of s.dp) refl ends
+    pub closed_consistent : space.changed ≡ false → IsConsistent c
+    closed_consistent unchanged = consistent_from (indexes_of s.dp) refl (p.ended unchanged)
 
-    pub closed_alike : IsSame t (least s.base) t.count → AreAlike c v.facts (t.nth t.count) space.newest
-    closed_alike same = record {
+    pub closed_stands : space.changed ≡ false → Stands c v.facts (t.nth t.count) space.newest
+    closed_stands unchanged = record {
+      reads = record {
+        found = closed_found;
+        facts_are = tells.facts;
+        tree_is = subst (λ (tree : Tree). IsTreeOf v.labels.ip c s.last.index tree) (covers unchanged) dp_tree;
+        generation_is = sym due.generation ∙ same_generation;
+      };
+      has_index = λ empty. sound.grounded.some (sym (ap indexes_of dp_is) ∙ empty);
+    }
+
+    pub closed_alike : space.changed ≡ false → AreAlike c v.facts (t.nth t.count) space.newest
+    closed_alike unchanged = record {
       found = closed_found;
       ip_index = index;
       ip_last = refl;
@@ -340,7 +351,7 @@ module _ (v : Volume) (t : Trees) (s : Made) (space : Space) (rules : Rules) (te
       dp_last = refl;
       dp_generation = sym same_generation ∙ due.generation;
       dp_facts = tells.facts;
-      dp_tree = subst (λ (tree : Tree). IsTreeOf v.labels.ip c s.last.index tree) (covers same) dp_tree;
+      dp_tree = subst (λ (tree : Tree). IsTreeOf v.labels.ip c s.last.index tree) (covers unchanged) dp_tree;
     }
 
     pub closed_coherent : AreNoted c v.labels.ip → IsCoherent c
@@ -367,11 +378,15 @@ module _ (v : Volume) (t : Trees) (s made : Made) (space : Space) (rules : Rules
   sound_made : IsSound v t (cartridge_of (close_made v t s space rules text index p due none size)) (close_made v t s space rules text index p due none size)
   sound_made = subst (λ (m : Made). IsSound v t (cartridge_of m) m) same_made k.sound
 
-  pub leaves_consistent : EndsWithLast s.dp (indexes_of s.dp) → IsConsistent d.held
+  pub leaves_standing : space.changed ≡ false → Stands d.held v.facts (t.nth t.count) space.newest
+  leaves_standing =
+      closed_stands v t s space rules text index p due none size d.held (ip_is ∙ ap (λ (m : Made). m.ip) same_made) (dp_is ∙ ap (λ (m : Made). m.dp) same_made) sound_made
+
+  pub leaves_consistent : space.changed ≡ false → IsConsistent d.held
   leaves_consistent =
       closed_consistent v t s space rules text index p due none size d.held (ip_is ∙ ap (λ (m : Made). m.ip) same_made) (dp_is ∙ ap (λ (m : Made). m.dp) same_made) sound_made
 
-  pub leaves_alike : IsSame t (least s.base) t.count → AreAlike d.held v.facts (t.nth t.count) space.newest
+  pub leaves_alike : space.changed ≡ false → AreAlike d.held v.facts (t.nth t.count) space.newest
   leaves_alike =
       closed_alike v t s space rules text index p due none size d.held (ip_is ∙ ap (λ (m : Made). m.ip) same_made) (dp_is ∙ ap (λ (m : Made). m.dp) same_made) sound_made
 

@@ -299,6 +299,9 @@ module _ (v : Volume) (t : Trees) (s : Made) (space : Space) (rules : Rules) (te
     same_here : IsSame t t.count t.count
     same_here j from to = let here : j ≡ t.count = omega (arith, from, to) in ap (λ (n : ℕ). t.nth n) here
 
+    ends_with_it : EndsWithLast (with_construct s.dp bs) (indexes_of (with_construct s.dp bs))
+    ends_with_it = subst (λ (ks : List Construct). EndsWithLast (with_construct s.dp bs) ks) (sym is_indexes) (construct_long s.dp bs)
+
     planned_index : IsPlanned t (indexed (flushed (indexed b))) (with_index rules text space)
     planned_index = record {
       end_ip = p.end_ip;
@@ -310,6 +313,7 @@ module _ (v : Volume) (t : Trees) (s : Made) (space : Space) (rules : Rules) (te
       covered = λ same.
           let place : least (flushed (indexed b)) ≡ t.count = ap (λ (f : Entry). f.place) last_is_newest ∙ due.all in
           subst (λ (n : ℕ). IsSame t n t.count) (sym place) same_here;
+      ended = λ same. ends_with_it;
       ready_ip = p.ready_ip;
       no_index = p.no_index;
       ready_dp = construct_ready s.dp bs p.ready_dp some;
@@ -325,12 +329,9 @@ module _ (v : Volume) (t : Trees) (s : Made) (space : Space) (rules : Rules) (te
   pub index_planned : IsPlanned t index_made (with_index rules text space)
   index_planned = planned_index first.base first.sound first.sure first.newest_is first.above
 
-  -- behind it no index is ahead, and the data partition ends with the index
-  pub index_settles : (index_made.base.ahead ≡ None) × EndsWithLast index_made.dp (indexes_of index_made.dp)
-  index_settles = (
-    none_is_ahead first.base first.sound first.sure first.newest_is first.above,
-    subst (λ (ks : List Construct). EndsWithLast (with_construct s.dp bs) ks) (sym is_indexes) (construct_long s.dp bs),
-  )
+  -- behind it no index is ahead
+  pub index_settles : index_made.base.ahead ≡ None
+  index_settles = none_is_ahead first.base first.sound first.sure first.newest_is first.above
 
 -- ---- admitted
 
@@ -361,16 +362,14 @@ index_served v t s since d done jobs waits acks space rules text e h due size =
     (admitted_index v t s since d done jobs waits acks space rules text e h due size)
     refl
 
--- what it leaves of both partitions
+-- behind it no index is ahead
 pub index_settled : (v : Volume) (t : Trees) (s : Made) (since : ℕ) (d : Moment) (done : ℕ) (jobs : List Job) (waits : List Wait) (acks : List Ack) (space : Space)
     (rules : Rules) (text : List ℕ) (e : Entry)
     → Serves v t s since d done jobs waits acks space → IsDue v t (after s jobs) space text e → 1 ≤ rules.block_size
-    → ((after s (jobs ++ index_jobs rules space text e)).base.ahead ≡ None)
-    × EndsWithLast (after s (jobs ++ index_jobs rules space text e)).dp (indexes_of (after s (jobs ++ index_jobs rules space text e)).dp)
+    → (after s (jobs ++ index_jobs rules space text e)).base.ahead ≡ None
 index_settled v t s since d done jobs waits acks space rules text e h due size =
     let above = kept_above v t s since d done jobs waits acks h.kept in
     let sound = kept_sound v t s since d done jobs waits acks h.kept in
     let l = index_leads v t (after s jobs) space rules text e h.planned due size above sound in
-    subst (λ (m : Made). (m.base.ahead ≡ None) × EndsWithLast m.dp (indexes_of m.dp))
-    (sym (after_append jobs (index_jobs rules space text e) s ∙ l.to))
-    (index_settles v t (after s jobs) space rules text e h.planned due size above sound)
+    ap (λ (m : Made). m.base.ahead) (after_append jobs (index_jobs rules space text e) s ∙ l.to)
+    ∙ index_settles v t (after s jobs) space rules text e h.planned due size above sound

@@ -4,5 +4,5 @@ pub fn data() {}
 #[tactic(auto, using(crate::proofs::Indexes::admitted_index, crate::proofs::Indexes::index_served, crate::proofs::Indexes::index_settled, crate::proofs::Admits::served_unchanged))]
 pub fn indexes() {}
 
-#[tactic(auto, using(crate::proofs::Closes::admitted_close, crate::proofs::Closes::leaves_consistent, crate::proofs::Closes::leaves_alike, crate::proofs::Closes::leaves_coherent))]
+#[tactic(auto, using(crate::proofs::Closes::admitted_close, crate::proofs::Closes::leaves_standing, crate::proofs::Closes::leaves_consistent, crate::proofs::Closes::leaves_alike, crate::proofs::Closes::leaves_coherent))]
 pub fn closes() {}
