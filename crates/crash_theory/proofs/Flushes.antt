@@ -207,3 +207,17 @@ end_ready items r free =
     ∙ data_before (content items).pos r.since (indexes_of items) free
     ∙ pos_is items (opened_long items o) o.good
     ∙ ap (λ (l : List Item). length l) r.whole
+
+-- none is ahead from then on
+none_put : (part : Part) (x : Item) (whole : Option Entry) (s : Made) → s.base.ahead ≡ None → (put_on part x whole s).base.ahead ≡ None
+none_put Ip x whole s none = none
+none_put Dp x whole s none = none
+
+none_does : (op : Op) (whole : Option Entry) (s : Made) → s.base.ahead ≡ None → (does op whole s).base.ahead ≡ None
+none_does (ops.Put place bytes) whole s none = none_put place.part (Block bytes) whole s none
+none_does (ops.Mark place) whole s none = none_put place.part Mark whole s none
+none_does (ops.Flush place) whole s none = ap (λ (o : Option Entry). still_ahead s.last o) none
+
+pub none_stays : (jobs : List Job) (s : Made) → s.base.ahead ≡ None → (after s jobs).base.ahead ≡ None
+none_stays [] s none = none
+none_stays (job ∷ jobs) s none = none_stays jobs (makes job s) (none_does job.op job.whole s none)

@@ -8,3 +8,4 @@ pub mod Data
 pub mod Flushes
 pub mod Indexes
 pub mod Closes
+pub mod Exact

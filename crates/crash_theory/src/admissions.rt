@@ -6,3 +6,6 @@ pub fn indexes() {}
 
 #[tactic(auto, using(crate::proofs::Closes::admitted_close, crate::proofs::Closes::leaves_standing, crate::proofs::Closes::leaves_consistent, crate::proofs::Closes::leaves_alike, crate::proofs::Closes::leaves_coherent))]
 pub fn closes() {}
+
+#[tactic(auto, using(crate::proofs::Exact::done_exact, crate::proofs::Exact::failed_exact, crate::proofs::Flushes::none_stays))]
+pub fn ends() {}
