@@ -26,6 +26,7 @@ use Rattle.tape_meaning.specs.Pointers.{IsLastOnDp, IsLastOnIp, chosen, indexes_
 use Rattle.tape_meaning.proofs.Frame.{labels_stay, tree_stays}
 use Rattle.tape_meaning.proofs.Noted.{noted_coherent}
 use Rattle.volume_space.specs.Space.{Rules, Space, blocks}
+use Rattle.crash_theory.specs.Closed.{EndsWithClose}
 use Rattle.crash_theory.specs.Fine.{IsSame}
 use Rattle.crash_theory.specs.Images.{Counts, IsBehind, IsIpImage, IsSound, Tells}
 use Rattle.crash_theory.specs.Kept.{Kept, Moment, Serves, Wait, plan_of}
@@ -33,6 +34,7 @@ use Rattle.crash_theory.specs.Made.{Base, Entry, Job, Made, Trees, Volume, after
 use Rattle.crash_theory.specs.Plans.{IsCloseDue, IsPlanned, close_jobs}
 use Rattle.crash_theory.proofs.Admits.{kept_more, kept_sound}
 use Rattle.crash_theory.proofs.Appends.{IsOpened, IsQuiet, LeadsTo, form_of, leads_append, puts_are, puts_from, quiet_mark, run, run_makes, sound_put, with_items}
+use Rattle.crash_theory.proofs.Closed.{close_alike, close_coherent, close_consistent, close_stands}
 use Rattle.crash_theory.proofs.Data.{count_is, length_more, ready_opened}
 use Rattle.crash_theory.proofs.Flushes.{CanFlush, IsAbove, flush_sound}
 use Rattle.crash_theory.proofs.Indexes.{construct_content, construct_is, construct_long, construct_ready, joined, new_construct, some_blocks, spot_named, with_construct}
@@ -51,14 +53,6 @@ flushed_indexes v t plan b end ks more last none indexed split (inr h) =
       ap (λ (e : Entry). e.index.generation) indexed,
     )
     )
-
--- on a tie the data partition's is chosen
-chosen_on_tie : (i d : Index) → i.generation ≡ d.generation → chosen (Some i) (Some d) ≡ Some d
-chosen_on_tie i d same = by_test (ltb d.generation i.generation) refl
-  where
-    by_test : (test : Bool) → ltb d.generation i.generation ≡ test → chosen (Some i) (Some d) ≡ Some d
-    by_test true is = absurd (omega (arith, same, ltb-true d.generation i.generation is))
-    by_test false is = ap (λ (b : Bool). Some (cond b i d)) is
 
 module _ (v : Volume) (t : Trees) (s : Made) (space : Space) (rules : Rules) (text : List ℕ) (index : Index) (p : IsPlanned t s space)
     (due : IsCloseDue v t s space text index) (none : s.base.ahead ≡ None) (size : 1 ≤ rules.block_size) where
@@ -254,51 +248,28 @@ module _ (v : Volume) (t : Trees) (s : Made) (space : Space) (rules : Rules) (te
     has =
         labels_stay plan c v.labels (ap (λ (l : List Item). take 4 l) (sym ip_is)) (ap (λ (l : List Item). take 4 l) (sym dp_is)) sound.grounded.labels
 
-    ip_last : IsLastOnIp v.labels.ip (indexes_of c.ip) (indexes_of c.dp) (Some s.last.index) (Some index)
-    ip_last =
-        subst (λ (l : List Item). IsLastOnIp v.labels.ip (indexes_of l) (indexes_of c.dp) (Some s.last.index) (Some index)) (sym ip_is)
-        (subst (λ (l : List Item). IsLastOnIp v.labels.ip (indexes_of items) (indexes_of l) (Some s.last.index) (Some index)) (sym dp_is)
-        (subst (λ (ks : List Construct). IsLastOnIp v.labels.ip ks (indexes_of s.dp) (Some s.last.index) (Some index)) (sym is_indexes)
-        (ip_reads (indexes_of s.dp) s.last.index same_generation back_is)))
+    dp_indexes : indexes_of c.dp ≡ indexes_of s.dp
+    dp_indexes = ap indexes_of dp_is
 
-    within : AllByRecursion (FitsNode v.labels.ip (ip_end c) (dp_end c)) s.last.index.nodes
-    within =
-        subst (λ (l : List Item). AllByRecursion (FitsNode v.labels.ip (end_ip (content l)) (dp_end c)) s.last.index.nodes) (sym ip_is)
-        (subst (λ (l : List Item). AllByRecursion (FitsNode v.labels.ip (end_ip (content items)) (end_dp (indexes_of l))) s.last.index.nodes) (sym dp_is)
-        tells.within)
-
-    abbrev closed_found : Found c
-    closed_found = record {
-      labels = v.labels;
-      forms = record {
-        has = has;
-        ip = subst (λ (l : List Item). HasForm l) (sym ip_is) (form_of items opened_ip.good);
-        dp = subst (λ (l : List Item). HasForm l) (sym dp_is) sound.dp.form;
-      };
-      on_dp = Some s.last.index;
-      dp_last = subst (λ (l : List Item). IsLastOnDp v.labels.ip (indexes_of l) (Some s.last.index)) (sym dp_is) sound.dp.reads;
-      on_ip = Some index;
-      ip_last = ip_last;
-      index = s.last.index;
-      choice = chosen_on_tie index s.last.index same_generation;
-      within = within;
-    }
-
-    consistent_from : (ks : List Construct) → indexes_of s.dp ≡ ks → EndsWithLast s.dp ks → IsConsistent c
-    consistent_from [] is ends = absurd ends
-    consistent_from (last ∷ older) is ends = record {
-      found = closed_found;
-      ip = k;
-      ip_older = [];
-      ip_is = ap indexes_of ip_is ∙ is_indexes;
-      ip_ends = ap (λ (l : List Item). length l) ip_is ∙ construct_long s.ip bs;
-      dp = last;
-      dp_older = older;
-      dp_is = ap indexes_of dp_is ∙ is;
-      dp_ends = ap (λ (l : List Item). length l) dp_is ∙ ends;
-      index = index;
-      on_ip = refl;
-      back = back_is ∙ ap (λ (ks : List Construct). newest_spot v.labels.ip ks) is;
+    ends : EndsWithClose c v.labels s.last.index index
+    ends = record {
+      has = has;
+      dp_form = subst (λ (l : List Item). HasForm l) (sym dp_is) sound.dp.form;
+      dp_some = λ empty. sound.grounded.some (sym dp_indexes ∙ empty);
+      dp_reads = subst (λ (l : List Item). IsLastOnDp v.labels.ip (indexes_of l) (Some s.last.index)) (sym dp_is) sound.dp.reads;
+      before = s.ip;
+      ready = p.ready_ip;
+      blocks = bs;
+      some = some;
+      ip = ip_is;
+      reads = subst (λ (w : List ℕ). IndexText w index) (sym (joined rules.block_size text size)) due.reads;
+      uuid = due.uuid;
+      here = due.here ∙ ap (λ (n : ℕ). record { letter = letter_of v.labels.ip Ip; block = n + 1 }) p.end_ip;
+      back = back_is ∙ ap (λ (ks : List Construct). newest_spot v.labels.ip ks) (sym dp_indexes);
+      generation = same_generation;
+      within =
+          subst (λ (ks : List Construct). AllByRecursion (FitsNode v.labels.ip (length s.ip) (end_dp ks)) s.last.index.nodes) (sym dp_indexes)
+          (subst (λ (n : ℕ). AllByRecursion (FitsNode v.labels.ip n (end_dp (indexes_of s.dp))) s.last.index.nodes) end_closed tells.within);
     }
 
     ip_tree : IsTreeOf v.labels.ip c index (t.nth t.count)
@@ -307,6 +278,13 @@ module _ (v : Volume) (t : Trees) (s : Made) (space : Space) (rules : Rules) (te
         (sym (take-append-le space.ends.ip s.ip (Mark ∷ (map Block bs ++ Mark ∷ [])) (omega (arith, p.end_ip)))
         ∙ ap (λ (l : List Item). take space.ends.ip l) (sym (ip_is ∙ construct_is s.ip bs)))
         (ap (λ (l : List Item). take space.ends.dp l) (sym dp_is)) due.tells.tree
+
+    last_tree : IsTreeOf v.labels.ip c s.last.index (t.nth s.last.place)
+    last_tree =
+        tree_stays v.labels.ip (end_ip (content items)) (end_dp (indexes_of s.dp)) has.one_volume.places.letters plan c s.last.index (t.nth s.last.place)
+        tells.within
+        (ap (λ (l : List Item). take (end_ip (content items)) l) (sym ip_is))
+        (ap (λ (l : List Item). take (end_dp (indexes_of s.dp)) l) (sym dp_is)) tells.tree
 
     covers : space.changed ≡ false → t.nth s.last.place ≡ t.nth t.count
     covers unchanged =
@@ -318,44 +296,28 @@ module _ (v : Volume) (t : Trees) (s : Made) (space : Space) (rules : Rules) (te
         ))
         tells.covered
 
-    dp_tree : IsTreeOf v.labels.ip c s.last.index (t.nth s.last.place)
-    dp_tree =
-        tree_stays v.labels.ip (end_ip (content items)) (end_dp (indexes_of s.dp)) has.one_volume.places.letters plan c s.last.index (t.nth s.last.place)
-        tells.within
-        (ap (λ (l : List Item). take (end_ip (content items)) l) (sym ip_is))
-        (ap (λ (l : List Item). take (end_dp (indexes_of s.dp)) l) (sym dp_is)) tells.tree
+    dp_tree : space.changed ≡ false → IsTreeOf v.labels.ip c s.last.index (t.nth t.count)
+    dp_tree unchanged = subst (λ (tree : Tree). IsTreeOf v.labels.ip c s.last.index tree) (covers unchanged) last_tree
 
-    pub closed_consistent : space.changed ≡ false → IsConsistent c
-    closed_consistent unchanged = consistent_from (indexes_of s.dp) refl (p.ended unchanged)
+    newest_is : s.last.index.generation ≡ space.newest
+    newest_is = sym same_generation ∙ due.generation
 
     pub closed_stands : space.changed ≡ false → Stands c v.facts (t.nth t.count) space.newest
-    closed_stands unchanged = record {
-      reads = record {
-        found = closed_found;
-        facts_are = tells.facts;
-        tree_is = subst (λ (tree : Tree). IsTreeOf v.labels.ip c s.last.index tree) (covers unchanged) dp_tree;
-        generation_is = sym due.generation ∙ same_generation;
-      };
-      has_index = λ empty. sound.grounded.some (sym (ap indexes_of dp_is) ∙ empty);
-    }
+    closed_stands unchanged =
+        subst (λ (n : ℕ). Stands c v.facts (t.nth t.count) n) newest_is
+        (close_stands c v.labels s.last.index index ends v.facts (t.nth t.count) tells.facts (dp_tree unchanged))
+
+    pub closed_consistent : space.changed ≡ false → IsConsistent c
+    closed_consistent unchanged =
+        close_consistent c v.labels s.last.index index ends (subst (λ (l : List Item). EndsWithLast l (indexes_of l)) (sym dp_is) (p.ended unchanged))
 
     pub closed_alike : space.changed ≡ false → AreAlike c v.facts (t.nth t.count) space.newest
-    closed_alike unchanged = record {
-      found = closed_found;
-      ip_index = index;
-      ip_last = refl;
-      ip_generation = due.generation;
-      ip_facts = due.tells.facts;
-      ip_tree = ip_tree;
-      dp_index = s.last.index;
-      dp_last = refl;
-      dp_generation = sym same_generation ∙ due.generation;
-      dp_facts = tells.facts;
-      dp_tree = subst (λ (tree : Tree). IsTreeOf v.labels.ip c s.last.index tree) (covers unchanged) dp_tree;
-    }
+    closed_alike unchanged =
+        subst (λ (n : ℕ). AreAlike c v.facts (t.nth t.count) n) newest_is
+        (close_alike c v.labels s.last.index index ends v.facts (t.nth t.count) due.tells.facts tells.facts ip_tree (dp_tree unchanged))
 
     pub closed_coherent : AreNoted c v.labels.ip → IsCoherent c
-    closed_coherent noted = noted_coherent c v.labels has noted
+    closed_coherent noted = close_coherent c v.labels s.last.index index ends noted
 
 -- the index of a close, once all of the data partition's is flushed
 pub admitted_close : (v : Volume) (t : Trees) (s : Made) (since : ℕ) (d : Moment) (done : ℕ) (jobs : List Job) (waits : List Wait) (acks : List Ack) (space : Space)

@@ -91,6 +91,24 @@ pub spot_named : (label : Label) (ks : List Construct)
 spot_named label [] = refl
 spot_named label (k ∷ older) = refl
 
+-- an index that was put at the end of the data partition is its last, with its pointers right, and it ends the partition
+pub new_last : (label : Label) (items : List Item) (bs : List (List ℕ)) (index : Index) → IsReady items → bs ≢ [] → IndexText (concat bs) index
+    → index.uuid ≡ label.uuid → index.here ≡ record { letter = letter_of label Dp; block = length items + 1 }
+    → index.back ≡ newest_spot label (indexes_of items) → IsLastOnDp label (indexes_of (with_construct items bs)) (Some index)
+new_last label items bs index r some reads uuid here back =
+    subst (λ (ks : List Construct). IsLastOnDp label ks (Some index)) (sym (ap (λ (s : Content). s.constructs) (construct_content items bs r some))) (
+      index,
+      refl,
+      record { text = reads; uuid = uuid },
+      record { here = here; back = back },
+    )
+
+pub ends_with_new : (items : List Item) (bs : List (List ℕ)) → IsReady items → bs ≢ []
+    → EndsWithLast (with_construct items bs) (indexes_of (with_construct items bs))
+ends_with_new items bs r some =
+    subst (λ (ks : List Construct). EndsWithLast (with_construct items bs) ks)
+    (sym (ap (λ (s : Content). s.constructs) (construct_content items bs r some))) (construct_long items bs)
+
 -- ---- the flush before an index
 
 abbrev pub with_base : Base → Made → Made
@@ -185,19 +203,13 @@ module _ (v : Volume) (t : Trees) (s : Made) (space : Space) (rules : Rules) (te
     is_newer : newest b < e.index.generation
     is_newer = omega (arith, due.generation, p.newest_is, ap (λ (f : Entry). f.index.generation) newest_is)
 
-    dp_reads : IsLastOnDp v.labels.ip (k ∷ indexes_of s.dp) (Some e.index)
-    dp_reads = (
-      e.index,
-      refl,
-      record { text = subst (λ (w : List ℕ). IndexText w e.index) (sym (joined rules.block_size text size)) due.reads; uuid = due.uuid },
-      record {
-        here = due.here ∙ ap (λ (n : ℕ). record { letter = letter_of v.labels.ip Dp; block = n + 1 }) p.end_dp;
-        back =
-            due.back
-            ∙ ap (option_map (λ (block : ℕ). record { letter = letter_of v.labels.ip Dp; block = block })) p.last_dp
-            ∙ spot_named v.labels.ip (indexes_of s.dp);
-      },
-    )
+    dp_reads : IsLastOnDp v.labels.ip (indexes_of (with_construct s.dp bs)) (Some e.index)
+    dp_reads =
+        new_last v.labels.ip s.dp bs e.index p.ready_dp some (subst (λ (w : List ℕ). IndexText w e.index) (sym (joined rules.block_size text size)) due.reads)
+        due.uuid (due.here ∙ ap (λ (n : ℕ). record { letter = letter_of v.labels.ip Dp; block = n + 1 }) p.end_dp)
+        (due.back
+        ∙ ap (option_map (λ (block : ℕ). record { letter = letter_of v.labels.ip Dp; block = block })) p.last_dp
+        ∙ spot_named v.labels.ip (indexes_of s.dp))
 
     dp_tells : Tells v t plan b.sure (end_dp (k ∷ indexes_of s.dp)) e
     dp_tells =
@@ -223,7 +235,7 @@ module _ (v : Volume) (t : Trees) (s : Made) (space : Space) (rules : Rules) (te
         form = form_of (with_construct s.dp bs) (λ at bad. let no : Data 0 ≡ Bad at = sym (ap (λ (c : Content). c.phase) is_content) ∙ bad in cc no);
         more = k ∷ sound1.dp.more;
         split = is_indexes ∙ ap (λ (ks : List Construct). k ∷ ks) sound1.dp.split;
-        reads = subst (λ (ks : List Construct). IsLastOnDp v.labels.ip ks (Some e.index)) (sym is_indexes) dp_reads;
+        reads = dp_reads;
         agrees = refl;
         counts = subst (λ (ks : List Construct). Counts v t plan b (end_dp ks) (k ∷ sound1.dp.more) e) (sym is_indexes) dp_counts;
       };
@@ -299,9 +311,6 @@ module _ (v : Volume) (t : Trees) (s : Made) (space : Space) (rules : Rules) (te
     same_here : IsSame t t.count t.count
     same_here j from to = let here : j ≡ t.count = omega (arith, from, to) in ap (λ (n : ℕ). t.nth n) here
 
-    ends_with_it : EndsWithLast (with_construct s.dp bs) (indexes_of (with_construct s.dp bs))
-    ends_with_it = subst (λ (ks : List Construct). EndsWithLast (with_construct s.dp bs) ks) (sym is_indexes) (construct_long s.dp bs)
-
     planned_index : IsPlanned t (indexed (flushed (indexed b))) (with_index rules text space)
     planned_index = record {
       end_ip = p.end_ip;
@@ -313,7 +322,7 @@ module _ (v : Volume) (t : Trees) (s : Made) (space : Space) (rules : Rules) (te
       covered = λ same.
           let place : least (flushed (indexed b)) ≡ t.count = ap (λ (f : Entry). f.place) last_is_newest ∙ due.all in
           subst (λ (n : ℕ). IsSame t n t.count) (sym place) same_here;
-      ended = λ same. ends_with_it;
+      ended = λ same. ends_with_new s.dp bs p.ready_dp some;
       ready_ip = p.ready_ip;
       no_index = p.no_index;
       ready_dp = construct_ready s.dp bs p.ready_dp some;

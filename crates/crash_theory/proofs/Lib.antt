@@ -7,5 +7,6 @@ pub mod Admits
 pub mod Data
 pub mod Flushes
 pub mod Indexes
+pub mod Closed
 pub mod Closes
 pub mod Exact
