@@ -133,6 +133,7 @@ module _ (v : Volume) (old new : Trees) (more : GoesOn old new) where
     indexed = h.indexed;
     flushed = h.flushed;
     covered = covered;
+    ended = h.ended;
     ready_ip = h.ready_ip;
     no_index = h.no_index;
     ready_dp = h.ready_dp;

@@ -11,3 +11,12 @@ pub mod Acks
 pub mod Events
 pub mod Noted
 pub mod Gives
+pub mod Longer
+pub mod Appends
+pub mod Admits
+pub mod Data
+pub mod Flushes
+pub mod Indexes
+pub mod Closed
+pub mod Closes
+pub mod Exact

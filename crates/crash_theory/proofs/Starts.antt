@@ -11,7 +11,7 @@ use Rattle.tape_types.specs.declared.cartridges.Part.TheVariants.{Dp, Ip}
 use Rattle.index_model.specs.declared.indexes.Index.{Index}
 use Rattle.tape_content.specs.Readings.{Construct, HasForm, after_of, front}
 use Rattle.tape_content.specs.Content.{Bad, Content, Data, Index as begun, Phase, content}
-use Rattle.tape_content.specs.Ends.{IsOneAtMost, end_dp, end_ip, end_ip_in, kept_in, kept_on_ip}
+use Rattle.tape_content.specs.Ends.{EndsWithLast, IsOneAtMost, end_dp, end_ip, end_ip_in, kept_in, kept_on_ip}
 use Rattle.tape_content.proofs.Cuts.{cut_behind_index, cut_keeps}
 use Rattle.tape_content.proofs.Folded.{in_data}
 use Rattle.tape_content.proofs.IpEnds.{cut_at_end_ip}
@@ -284,6 +284,10 @@ module _ (v : Volume) (d : Moment) (since : ℕ) (tree : Tree) (generation : ℕ
   same_generation : generation ≡ f.index.generation
   same_generation = can.stands.reads.generation_is
 
+  ends_with : (ks : List Construct) → ks ≢ [] → length s.dp ≡ end_dp ks → EndsWithLast s.dp ks
+  ends_with [] some long = absurd (some refl)
+  ends_with (k ∷ older) some long = long
+
   pub plans : (space : Space) → IsFirstSpace c generation space → IsPlanned t s space
   plans space is = record {
     end_ip = is.end_ip ∙ sym ip_long;
@@ -293,6 +297,8 @@ module _ (v : Volume) (d : Moment) (since : ℕ) (tree : Tree) (generation : ℕ
     indexed = refl;
     flushed = λ due. sym ip_long;
     covered = λ unchanged j low high. refl;
+    ended = λ unchanged.
+        subst (λ (ks : List Construct). EndsWithLast s.dp ks) (sym dp_indexes) (ends_with (indexes_of c.dp) can.stands.has_index dp_long);
     ready_ip = record {
       whole = cut_is_whole c.ip (ip_end c) ip_within;
       labels = omega (arith, ip_long, end_ip_from c.ip);

@@ -7,3 +7,4 @@ pub mod Kept
 pub mod Starts
 pub mod Worked
 pub mod Examples
+pub mod Closed

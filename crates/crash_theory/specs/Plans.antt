@@ -9,6 +9,7 @@ use Rattle.index_model.specs.declared.indexes.Index.{Index}
 use Rattle.index_model.specs.declared.indexes.Spot.{Spot}
 use Rattle.tape_content.specs.Readings.{front}
 use Rattle.tape_content.specs.Content.{Data, content}
+use Rattle.tape_content.specs.Ends.{EndsWithLast}
 use Rattle.tape_layout.specs.declared.ops.Op.{Op}
 use Rattle.tape_layout.specs.declared.ops.Op.TheVariants as ops
 use Rattle.tape_layout.specs.Admissions.{flush_first}
@@ -28,7 +29,7 @@ pub record IsReady (items : List Item) : Type 0 where
 
 -- The space of a volume is that of what was made once all jobs are done. Then all indexes are flushed, and where no
 -- flush is due, all data of the index partition; and where the tree hasn't changed since the last index, what was
--- flushed covers it.
+-- flushed covers it, and the data partition ends with that index.
 pub record IsPlanned (t : Trees) (s : Made) (space : Space) : Type 0 where
   pub end_ip : space.ends.ip ≡ length s.ip
   pub end_dp : space.ends.dp ≡ length s.dp
@@ -37,6 +38,7 @@ pub record IsPlanned (t : Trees) (s : Made) (space : Space) : Type 0 where
   pub indexed : s.last ≡ s.base.floor
   pub flushed : space.flush_due ≡ false → s.base.sure ≡ length s.ip
   pub covered : space.changed ≡ false → IsSame t (least s.base) t.count
+  pub ended : space.changed ≡ false → EndsWithLast s.dp (indexes_of s.dp)
   pub ready_ip : IsReady s.ip
   pub no_index : indexes_of s.ip ≡ []
   pub ready_dp : IsReady s.dp

@@ -1,5 +1,6 @@
 //! What a crash may leave of a volume that is served: definitions and laws, no code.
 #![tactic(auto)]
 
+mod admissions;
 mod checks;
 mod examples;

@@ -1,0 +1,122 @@
+-- What a cartridge stands for whose index partition ends with a close's index.
+use Rattle.std.proofs.Common.{ℕ, ◌+◌, ◌≤◌, ◌<◌, ◌≡◌, ◌≢◌, inl, inr, Bool, true, false, cond, ltb, ltb-true, List, [], ◌∷◌, ◌++◌, length, map, Option, Some, None, refl, sym, ap, subst, ◌∙◌, arith}
+use Rattle.std.specs.List.{AllByRecursion}
+use Rattle.tape_types.specs.declared.cartridges.Cartridge.{Cartridge}
+use Rattle.tape_types.specs.declared.cartridges.Item.{Item}
+use Rattle.tape_types.specs.declared.cartridges.Part.TheVariants.{Ip, Dp}
+use Rattle.plain_tree.specs.Tree.{Tree}
+use Rattle.index_model.specs.declared.indexes.Index.{Index}
+use Rattle.tape_content.specs.Readings.{Construct, HasForm}
+use Rattle.tape_content.specs.Content.{Content, Data, content}
+use Rattle.tape_content.specs.Ends.{EndsWithLast, end_ip}
+use Rattle.tape_meaning.specs.Carried.{Carried, carried}
+use Rattle.tape_meaning.specs.Meaning.{AreAlike, FitsNode, Found, IsConsistent, IsTreeOf, Stands, dp_end, ip_end}
+use Rattle.tape_meaning.specs.Notes.{AreNoted, IsCoherent}
+use Rattle.tape_meaning.specs.Pointers.{IsLastOnIp, chosen, indexes_of, newest_spot}
+use Rattle.tape_meaning.specs.declared.labels.Labels.{Labels}
+use Rattle.tape_meaning.proofs.Noted.{noted_coherent}
+use Rattle.crash_theory.specs.Closed.{EndsWithClose}
+use Rattle.crash_theory.proofs.Appends.{IsOpened, form_of}
+use Rattle.crash_theory.proofs.Data.{ready_opened}
+use Rattle.crash_theory.proofs.Indexes.{construct_content, construct_long, construct_ready, new_construct, with_construct}
+
+-- on a tie the data partition's is chosen
+chosen_on_tie : (i d : Index) → i.generation ≡ d.generation → chosen (Some i) (Some d) ≡ Some d
+chosen_on_tie i d same = by_test (ltb d.generation i.generation) refl
+  where
+    by_test : (test : Bool) → ltb d.generation i.generation ≡ test → chosen (Some i) (Some d) ≡ Some d
+    by_test true is = absurd (omega (arith, same, ltb-true d.generation i.generation is))
+    by_test false is = ap (λ (b : Bool). Some (cond b i d)) is
+
+module _ (c : Cartridge) (l : Labels) (last index : Index) (h : EndsWithClose c l last index) where
+  abbrev k : Construct
+  k = new_construct h.before h.blocks
+
+  abbrev items : List Item
+  items = with_construct h.before h.blocks
+
+  same_content : content c.ip ≡ record {
+    pos = length h.before + length h.blocks + 2;
+    phase = Data 0;
+    constructs = k ∷ indexes_of h.before;
+  }
+  same_content = ap content h.ip ∙ construct_content h.before h.blocks h.ready h.some
+
+  ip_indexes : indexes_of c.ip ≡ k ∷ indexes_of h.before
+  ip_indexes = ap (λ (s : Content). s.constructs) same_content
+
+  ip_ends : ip_end c ≡ length h.before
+  ip_ends = ap end_ip same_content
+
+  ip_last : IsLastOnIp l.ip (indexes_of c.ip) (indexes_of c.dp) (Some last) (Some index)
+  ip_last =
+      subst (λ (ks : List Construct). IsLastOnIp l.ip ks (indexes_of c.dp) (Some last) (Some index)) (sym ip_indexes) (
+        index,
+        refl,
+        record { text = h.reads; uuid = h.uuid },
+        record { here = h.here; back = inl (omega (arith, h.generation), h.back) },
+      )
+
+  opened : IsOpened items
+  opened = ready_opened items (construct_ready h.before h.blocks h.ready h.some)
+
+  abbrev close_found : Found c
+  close_found = record {
+    labels = l;
+    forms = record { has = h.has; ip = subst (λ (xs : List Item). HasForm xs) (sym h.ip) (form_of items opened.good); dp = h.dp_form };
+    on_dp = Some last;
+    dp_last = h.dp_reads;
+    on_ip = Some index;
+    ip_last = ip_last;
+    index = last;
+    choice = chosen_on_tie index last h.generation;
+    within = subst (λ (n : ℕ). AllByRecursion (FitsNode l.ip n (dp_end c)) last.nodes) (sym ip_ends) h.within;
+  }
+
+  -- it stands for the tree of its data partition's last index
+  pub close_stands : (facts : Carried) (tree : Tree) → facts ≡ carried last → IsTreeOf l.ip c last tree → Stands c facts tree last.generation
+  close_stands facts tree facts_are tree_is = record {
+    reads = record { found = close_found; facts_are = facts_are; tree_is = tree_is; generation_is = refl };
+    has_index = h.dp_some;
+  }
+
+  consistent_from : (ks : List Construct) → indexes_of c.dp ≡ ks → EndsWithLast c.dp ks → IsConsistent c
+  consistent_from [] is ends = absurd ends
+  consistent_from (newest ∷ older) is ends = record {
+    found = close_found;
+    ip = k;
+    ip_older = indexes_of h.before;
+    ip_is = ip_indexes;
+    ip_ends = ap (λ (xs : List Item). length xs) h.ip ∙ construct_long h.before h.blocks;
+    dp = newest;
+    dp_older = older;
+    dp_is = is;
+    dp_ends = ends;
+    index = index;
+    on_ip = refl;
+    back = h.back ∙ ap (λ (ks : List Construct). newest_spot l.ip ks) is;
+  }
+
+  -- it is consistent where the data partition ends with that index too
+  pub close_consistent : EndsWithLast c.dp (indexes_of c.dp) → IsConsistent c
+  close_consistent ends = consistent_from (indexes_of c.dp) refl ends
+
+  -- both indexes tell the same where both tell this tree
+  pub close_alike : (facts : Carried) (tree : Tree) → facts ≡ carried index → facts ≡ carried last → IsTreeOf l.ip c index tree
+      → IsTreeOf l.ip c last tree → AreAlike c facts tree last.generation
+  close_alike facts tree ip_facts dp_facts ip_tree dp_tree = record {
+    found = close_found;
+    ip_index = index;
+    ip_last = refl;
+    ip_generation = h.generation;
+    ip_facts = ip_facts;
+    ip_tree = ip_tree;
+    dp_index = last;
+    dp_last = refl;
+    dp_generation = refl;
+    dp_facts = dp_facts;
+    dp_tree = dp_tree;
+  }
+
+  pub close_coherent : AreNoted c l.ip → IsCoherent c
+  close_coherent noted = noted_coherent c l h.has noted
