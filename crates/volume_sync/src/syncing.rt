@@ -45,7 +45,13 @@ fn heading(alloc: Global, frame: &Frame, end: u64, at: Moment) -> Result<Heading
 }
 
 /// The document of the index that a sync writes.
-fn document(alloc: Global, tree: &Tree, frame: &Frame, end: u64, at: Moment) -> Result<Vec<u8>, NoMemory>
+fn document(
+    alloc: Global,
+    tree: &Tree,
+    frame: &Frame,
+    end: u64,
+    at: Moment,
+) -> Result<Vec<u8>, NoMemory>
     requires generation { frame.now.generation ≤ 2 ^ 62 }
     requires end { end ≤ 2 ^ 40 }
     ensures text { IfOk result (λ doc. doc.items ≡ canon (sync_index frame.now tree.now end at)) }
@@ -53,12 +59,7 @@ fn document(alloc: Global, tree: &Tree, frame: &Frame, end: u64, at: Moment) -> 
 {
     let _count = tree.count();
     let heading = heading(alloc, frame, end, at)?;
-    let index = tree.to_index(
-        alloc,
-        frame.letters(),
-        heading,
-        &frame.carried,
-    )?;
+    let index = tree.to_index(alloc, frame.letters(), heading, &frame.carried)?;
     let mut doc = Vec::new(alloc);
     index_text(&index, &mut doc)?;
     Ok(doc)
