@@ -20,3 +20,4 @@ pub mod Indexes
 pub mod Closed
 pub mod Closes
 pub mod Exact
+pub mod Stated

@@ -7,4 +7,5 @@ pub mod Kept
 pub mod Starts
 pub mod Worked
 pub mod Examples
+pub mod Laws
 pub mod Closed

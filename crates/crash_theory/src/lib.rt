@@ -4,3 +4,4 @@
 mod admissions;
 mod checks;
 mod examples;
+mod laws;

@@ -1,0 +1,89 @@
+-- The laws of what is kept.
+use Rattle.std.proofs.Common.{◌≡◌, ℕ, ◌+◌, ◌++◌, List, [], ◌∷◌, length, Result, Err, Some, refl, sym, ap, subst}
+use Rattle.tape_types.specs.declared.cartridges.Cartridge.{Cartridge}
+use Rattle.index_model.specs.declared.indexes.Index.{Index}
+use Rattle.tape_drive.specs.declared.drive.Drive.{Ghosts}
+use Rattle.crash_theory.specs.Kept.{Moment, Serves}
+use Rattle.crash_theory.specs.Laws.{AdmissionsKeep, HistoriesGoOn, ImagesAreFine, KeptGives, StartsAreKept, State, StepsKeep, SyncsAreHeld, moment_of, next_wait}
+use Rattle.crash_theory.specs.Starts.{begun_with, made_of}
+use Rattle.crash_theory.proofs.Acks.{kept_acked}
+use Rattle.crash_theory.proofs.Admits.{served_unchanged}
+use Rattle.crash_theory.proofs.Closes.{admitted_close}
+use Rattle.crash_theory.proofs.Data.{admitted_data}
+use Rattle.crash_theory.proofs.Events.{kept_done, kept_failed, kept_read}
+use Rattle.crash_theory.proofs.Fines.{fine, fine_same, weaker}
+use Rattle.crash_theory.proofs.Gives.{acked_fine, history_stands, now_fine}
+use Rattle.crash_theory.proofs.Growth.{fine_on, kept_on}
+use Rattle.crash_theory.proofs.Indexes.{admitted_index, index_served, index_settled}
+use Rattle.crash_theory.proofs.Noted.{kept_noted}
+use Rattle.crash_theory.proofs.Starts.{begins_to_serve, has_last}
+
+pub images_are_fine : ImagesAreFine
+images_are_fine = record {
+  fine = λ v t plan b grounded c image. fine v t plan b grounded c image;
+  weaker = weaker;
+  same = fine_same;
+  longer = λ v old new more k c is. fine_on v old new more k c is;
+}
+
+-- what a command that failed answers
+abbrev failed : Result ℕ ℕ
+failed = Err 0
+
+module _ {D : Type 0} (drive : Ghosts D) where
+  pub starts_are_kept : StartsAreKept drive
+  starts_are_kept = record {
+    serving = λ v d c since tree generation can. (
+      (has_last v (moment_of drive d c) since tree generation can).0,
+      (has_last v (moment_of drive d c) since tree generation can).1,
+      λ space is. begins_to_serve v (moment_of drive d c) since tree generation can space is,
+    );
+  }
+
+  pub steps_keep : StepsKeep drive
+  steps_keep = record {
+    done = λ x job jobs old new before now kept is step sure.
+        kept_done x.volume x.trees x.made x.since (moment_of drive old before) (moment_of drive new now) x.done job jobs x.waits x.acks kept step is sure;
+    failed = λ x job jobs old new before now kept is step.
+        kept_failed x.volume x.trees x.made x.since (moment_of drive old before) (moment_of drive new now) x.done job jobs x.waits x.acks kept step is;
+    read = λ x old new c kept step.
+        kept_read x.volume x.trees x.made x.since (moment_of drive old c) (moment_of drive new c) x.done x.jobs x.waits x.acks kept refl step;
+    noted = λ x old new before now part note values kept sure has vcr tells step after.
+        kept_noted x.volume x.trees x.made x.since (moment_of drive old before) (moment_of drive new now) x.done x.jobs x.waits x.acks kept sure part note values has vcr tells step failed after;
+  }
+
+  pub admissions_keep : AdmissionsKeep drive
+  admissions_keep = record {
+    stored = λ x space d c rules part bytes serving may.
+        admitted_data x.volume x.trees x.made x.since (moment_of drive d c) x.done x.jobs x.waits x.acks space rules part bytes serving may;
+    indexed = λ x space d c rules text e serving due size.
+        admitted_index x.volume x.trees x.made x.since (moment_of drive d c) x.done x.jobs x.waits x.acks space rules text e serving due size;
+    settled = λ x space d c rules text e serving due size.
+        index_settled x.volume x.trees x.made x.since (moment_of drive d c) x.done x.jobs x.waits x.acks space rules text e serving due size;
+    closed = λ x space d c rules text index serving due none size.
+        admitted_close x.volume x.trees x.made x.since (moment_of drive d c) x.done x.jobs x.waits x.acks space rules text index serving due none size;
+  }
+
+  pub syncs_are_held : SyncsAreHeld drive
+  syncs_are_held = record {
+    changed = λ x space d c rules text e serving due size.
+        index_served x.volume x.trees x.made x.since (moment_of drive d c) x.done x.jobs x.waits x.acks space rules text e serving due size;
+    unchanged = λ x space d c serving still.
+        served_unchanged x.volume x.trees x.made x.since (moment_of drive d c) x.done x.jobs x.waits x.acks space serving still;
+    acknowledged = λ x front w behind d c kept due now.
+        kept_acked x.volume x.trees x.made x.since (moment_of drive d c) x.done x.jobs front w behind x.acks kept due now;
+  }
+
+  pub histories_go_on : HistoriesGoOn drive
+  histories_go_on = record {
+    kept = λ x trees d c more kept. kept_on x.volume x.trees trees more x.made x.since (moment_of drive d c) x.done x.jobs x.waits x.acks kept;
+  }
+
+  pub kept_gives : KeptGives drive
+  kept_gives = record {
+    now = λ x d held c kept leaves. now_fine x.volume x.trees x.made x.since (moment_of drive d held) x.done x.jobs x.waits x.acks kept c leaves;
+    always = λ x d held c kept left. kept.always c left;
+    since = λ x front a behind d held c kept parts less left.
+        acked_fine x.volume x.trees x.made x.since (moment_of drive d held) x.done x.jobs x.waits x.acks kept front a behind parts less c left;
+    synced = λ x d held kept same. history_stands x.volume x.trees x.made x.since (moment_of drive d held) x.done x.jobs x.waits x.acks kept same;
+  }
