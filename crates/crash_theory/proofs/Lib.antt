@@ -8,3 +8,4 @@ pub mod Acks
 pub mod Events
 pub mod Noted
 pub mod Gives
+pub mod Serving

@@ -5,3 +5,4 @@ pub mod Plans
 pub mod Events
 pub mod Kept
 pub mod Starts
+pub mod Moments
