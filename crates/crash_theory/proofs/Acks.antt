@@ -1,12 +1,11 @@
 -- Syncs that wait, and those that are acknowledged.
-use Rattle.std.proofs.Common.{◌≡◌, ◌⊎◌, ⊎_elim, inl, inr, ℕ, ◌+◌, ◌-◌, ◌^◌, ◌<◌, ◌≤◌, ◌++◌, List, [], ◌∷◌, length, refl, sym, ap, subst, ◌∙◌, arith}
+use Rattle.std.proofs.Common.{◌≡◌, ◌⊎◌, ⊎_elim, ℕ, ◌+◌, ◌-◌, ◌^◌, ◌<◌, ◌≤◌, ◌++◌, List, [], ◌∷◌, refl, sym, ap, ◌∙◌, arith}
 use Rattle.std.specs.List.{AllByRecursion}
 use Rattle.tape_types.specs.declared.cartridges.Cartridge.{Cartridge}
 use Rattle.session_script.specs.declared.logs.Ack.{Ack}
 use Rattle.crash_theory.specs.Fine.{IsFine, IsSame}
-use Rattle.crash_theory.specs.Images.{IsImage}
 use Rattle.crash_theory.specs.Kept.{IsHeld, IsServed, Kept, Moment, Wait, plan_of}
-use Rattle.crash_theory.specs.Made.{Base, Job, Made, Trees, Volume, after, least, makes}
+use Rattle.crash_theory.specs.Made.{Base, Job, Made, Trees, Volume, least, makes}
 use Rattle.crash_theory.proofs.Fines.{fine, fine_same}
 
 -- the tree stays the same from a later place on

@@ -1,5 +1,5 @@
 -- What is kept, over each step of a drive.
-use Rattle.std.proofs.Common.{◌≡◌, ◌⊎◌, ⊎_elim, inl, inr, ℕ, ◌+◌, ◌-◌, ◌^◌, ◌<◌, ◌≤◌, ◌++◌, List, [], ◌∷◌, take, length, Option, refl, sym, ap, subst, ◌∙◌, arith, length-append}
+use Rattle.std.proofs.Common.{◌≡◌, ◌⊎◌, ⊎_elim, inl, inr, ℕ, ◌+◌, ◌≤◌, List, [], ◌∷◌, take, length, Option, refl, sym, ap, subst, ◌∙◌, arith, length-append}
 use Rattle.std.proofs.lemmas.List.{take-append-le}
 use Rattle.std.specs.List.{AllByRecursion}
 use Rattle.tape_types.specs.declared.cartridges.Cartridge.{Cartridge}
@@ -8,7 +8,6 @@ use Rattle.tape_types.specs.declared.cartridges.Item.TheVariants.{Block, Mark}
 use Rattle.tape_types.specs.declared.cartridges.Part.{Part}
 use Rattle.tape_types.specs.declared.cartridges.Part.TheVariants.{Ip, Dp}
 use Rattle.session_script.specs.declared.logs.Ack.{Ack}
-use Rattle.tape_drive.specs.Commands.{IsBroken, IsWritten}
 use Rattle.tape_drive.specs.Crashes.{NothingNew}
 use Rattle.tape_layout.specs.declared.ops.Op.{Op}
 use Rattle.tape_layout.specs.declared.ops.Op.TheVariants as ops
@@ -19,7 +18,7 @@ use Rattle.crash_theory.specs.Kept.{IsHeld, IsStep, IsSureAfter, Kept, Moment, R
 use Rattle.crash_theory.specs.Made.{Base, Entry, Job, Made, Trees, Volume, after, does, least, makes, put_on}
 use Rattle.crash_theory.proofs.Acks.{held_on, waiting_on}
 use Rattle.crash_theory.proofs.Fines.{fine, weaker}
-use Rattle.crash_theory.proofs.Flushed.{flush_image, flush_least, flush_reads}
+use Rattle.crash_theory.proofs.Flushed.{flush_least, flush_reads}
 use Rattle.crash_theory.proofs.Images.{up_to_carried, up_to_more, written}
 use Rattle.crash_theory.proofs.Written.{broken_reads, broken_vcr, written_reads}
 

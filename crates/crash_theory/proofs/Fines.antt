@@ -1,19 +1,16 @@
 -- A cartridge as a crash may leave it stands for a tree of the history.
-use Rattle.std.proofs.Common.{◌≡◌, ◌≢◌, ◌⊎◌, ⊎_elim, inl, inr, ℕ, ◌+◌, ◌<◌, ◌≤◌, ◌++◌, Bool, true, false, cond, ltb, List, [], ◌∷◌, take, length, Option, Some, None, refl, sym, ap, subst, ◌∙◌, arith}
+use Rattle.std.proofs.Common.{◌≡◌, ◌≢◌, ⊎_elim, inl, inr, ℕ, ◌<◌, ◌≤◌, ◌++◌, Bool, true, false, cond, ltb, List, [], ◌∷◌, Option, Some, None, refl, sym, ap, subst, ◌∙◌, arith}
 use Rattle.std.specs.Prelude.{IfSome}
-use Rattle.std.specs.List.{AllByRecursion}
 use Rattle.std.proofs.lemmas.Bool.{cases_lt}
 use Rattle.std.proofs.lemmas.Bool.Decides.{nat_tests}
 use Rattle.tape_types.specs.declared.cartridges.Cartridge.{Cartridge}
-use Rattle.tape_types.specs.declared.cartridges.Item.{Item}
 use Rattle.plain_tree.specs.Tree.{Tree}
 use Rattle.index_model.specs.declared.indexes.Index.{Index}
 use Rattle.tape_content.specs.Readings.{Construct}
-use Rattle.tape_content.specs.Content.{content}
-use Rattle.tape_content.specs.Ends.{end_dp, end_ip}
+use Rattle.tape_content.specs.Ends.{end_dp}
 use Rattle.tape_meaning.specs.Labels.{HasLabels}
-use Rattle.tape_meaning.specs.Meaning.{FitsNode, Found, IsTreeOf, Stands, dp_end, ip_end}
-use Rattle.tape_meaning.specs.Pointers.{IsLastOnDp, IsLastOnIp, chosen, indexes_of}
+use Rattle.tape_meaning.specs.Meaning.{Found, Stands, dp_end, ip_end}
+use Rattle.tape_meaning.specs.Pointers.{IsLastOnIp, chosen, indexes_of}
 use Rattle.tape_meaning.proofs.Frame.{labels_stay, nodes_further, tree_stays}
 use Rattle.crash_theory.specs.Fine.{IsFine, IsSame}
 use Rattle.crash_theory.specs.Images.{Counts, IsBehind, IsGrounded, IsImage, Tells}

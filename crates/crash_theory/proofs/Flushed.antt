@@ -1,5 +1,5 @@
 -- A flush: what stands up to both ends is what a crash leaves from now on.
-use Rattle.std.proofs.Common.{◌≡◌, ◌≢◌, ◌⊎◌, ⊎_elim, inl, inr, ℕ, ◌+◌, ◌<◌, ◌≤◌, ◌++◌, Bool, true, false, ltb, if◌then◌else◌, List, [], ◌∷◌, take, length, Option, Some, None, refl, sym, ap, subst, ◌∙◌, arith}
+use Rattle.std.proofs.Common.{◌≡◌, ◌⊎◌, ⊎_elim, inl, inr, ℕ, ◌<◌, ◌≤◌, ◌++◌, Bool, true, false, ltb, if◌then◌else◌, List, [], take, length, Option, Some, None, refl, sym, ap, subst, ◌∙◌, arith}
 use Rattle.std.specs.Prelude.{IfSome}
 use Rattle.std.proofs.lemmas.Bool.{cases_lt}
 use Rattle.std.proofs.lemmas.Bool.Decides.{nat_tests}
@@ -10,14 +10,14 @@ use Rattle.tape_types.specs.declared.cartridges.Place.{Place}
 use Rattle.tape_layout.specs.declared.ops.Op.TheVariants as ops
 use Rattle.index_model.specs.declared.indexes.Index.{Index}
 use Rattle.tape_content.specs.Readings.{Construct, front}
-use Rattle.tape_content.specs.Content.{content, start}
+use Rattle.tape_content.specs.Content.{content}
 use Rattle.tape_content.specs.Ends.{end_dp, end_ip}
 use Rattle.tape_content.proofs.Placed.{end_ip_within}
 use Rattle.tape_content.proofs.Whole.{front_within}
 use Rattle.tape_meaning.specs.Pointers.{IsLastOnDp, IsLastOnIp, indexes_of}
-use Rattle.crash_theory.specs.Images.{AreHonest, Counts, IsBehind, IsDpImage, IsGrounded, IsImage, IsIpImage, Tells}
+use Rattle.crash_theory.specs.Images.{Counts, IsBehind, IsDpImage, IsGrounded, IsImage, IsIpImage}
 use Rattle.crash_theory.specs.Kept.{ReadsAs}
-use Rattle.crash_theory.specs.Made.{Base, Entry, Made, Trees, Volume, does, flushed, least, newer_of, newest, still_ahead}
+use Rattle.crash_theory.specs.Made.{Base, Entry, Made, Trees, Volume, does, flushed, least, newer_of, still_ahead}
 use Rattle.crash_theory.proofs.Fronts.{front_same, short_content}
 use Rattle.crash_theory.proofs.Images.{image_of}
 use Rattle.crash_theory.proofs.Pointing.{at_most, counts_point}

@@ -1,12 +1,12 @@
 -- Lists that begin alike, and what a torn item at the end changes.
-use Rattle.std.proofs.Common.{ℕ, zero, suc, ◌≡◌, ◌≢◌, ◌⊎◌, inl, inr, ◌+◌, ◌≤◌, ◌<◌, List, [], ◌∷◌, ◌++◌, length, take, drop, slice_get, Some, refl, sym, ◌∙◌, ap, subst, arith}
-use Rattle.std.proofs.lemmas.List.{drop_all, take-append-le, take-take}
+use Rattle.std.proofs.Common.{ℕ, zero, suc, ◌≡◌, ◌≢◌, ◌+◌, ◌≤◌, ◌<◌, List, [], ◌∷◌, ◌++◌, length, take, drop, slice_get, Some, refl, sym, ◌∙◌, ap, subst, arith}
+use Rattle.std.proofs.lemmas.List.{drop_all, take-take}
 use Rattle.tape_types.specs.declared.cartridges.Cartridge.{Cartridge}
 use Rattle.tape_types.specs.declared.cartridges.Item.{Item}
 use Rattle.tape_types.specs.declared.cartridges.Item.TheVariants.{Block, Mark, Torn}
 use Rattle.tape_content.specs.Readings.{Construct, HasForm, Reading, front}
 use Rattle.tape_content.specs.Content.{Content, content, seen, start}
-use Rattle.tape_content.specs.Ends.{EndsWith, IsOneAtMost, end_dp}
+use Rattle.tape_content.specs.Ends.{IsOneAtMost, end_dp}
 use Rattle.std.specs.List.{fold}
 use Rattle.tape_content.proofs.Grown.{content_torn}
 use Rattle.tape_content.proofs.Placed.{end_dp_within}

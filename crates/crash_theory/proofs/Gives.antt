@@ -1,5 +1,5 @@
 -- What is kept gives.
-use Rattle.std.proofs.Common.{◌≡◌, ℕ, ◌+◌, ◌-◌, ◌^◌, ◌<◌, ◌≤◌, ◌++◌, List, [], ◌∷◌, length, take, refl, sym, ap, subst, ◌∙◌, arith}
+use Rattle.std.proofs.Common.{◌≡◌, ℕ, ◌-◌, ◌^◌, ◌<◌, ◌≤◌, ◌++◌, List, [], ◌∷◌, length, take, subst, ◌∙◌, arith}
 use Rattle.std.specs.List.{AllByRecursion}
 use Rattle.tape_types.specs.declared.cartridges.Cartridge.{Cartridge}
 use Rattle.tape_types.specs.declared.cartridges.Part.{Part}
@@ -9,7 +9,7 @@ use Rattle.plain_tree.specs.Tree.{Tree}
 use Rattle.session_script.specs.declared.logs.Ack.{Ack}
 use Rattle.tape_meaning.specs.Meaning.{Stands}
 use Rattle.crash_theory.specs.Fine.{IsFine, IsSame}
-use Rattle.crash_theory.specs.Kept.{IsHeld, Kept, Moment, ReadsAs, Wait, plan_of}
+use Rattle.crash_theory.specs.Kept.{IsHeld, Kept, Moment, Wait, plan_of}
 use Rattle.crash_theory.specs.Made.{Job, Made, Trees, Volume, least, newest, part_items}
 use Rattle.crash_theory.proofs.Fines.{fine, flushed_stands}
 

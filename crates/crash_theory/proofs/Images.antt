@@ -1,5 +1,5 @@
 -- What a write leaves of the images that a crash may leave.
-use Rattle.std.proofs.Common.{◌≡◌, ◌≢◌, ◌⊎◌, ⊎_elim, inl, inr, ℕ, ◌+◌, ◌<◌, ◌≤◌, ◌++◌, List, [], ◌∷◌, take, length, Option, Some, None, refl, sym, ap, subst, ◌∙◌, arith}
+use Rattle.std.proofs.Common.{◌≡◌, ◌⊎◌, ⊎_elim, inl, inr, ℕ, ◌<◌, ◌≤◌, ◌++◌, List, [], ◌∷◌, take, length, Option, Some, refl, sym, ap, subst, ◌∙◌, arith}
 use Rattle.std.proofs.lemmas.List.{take-append-le}
 use Rattle.tape_types.specs.declared.cartridges.Cartridge.{Cartridge}
 use Rattle.tape_types.specs.declared.cartridges.Item.{Item}
@@ -8,21 +8,19 @@ use Rattle.tape_types.specs.declared.cartridges.Part.{Part}
 use Rattle.tape_types.specs.declared.cartridges.Part.TheVariants.{Ip, Dp}
 use Rattle.tape_types.specs.Cartridges.{items_of, note_of, other}
 use Rattle.coherency.specs.Notes.{HasValues}
-use Rattle.coherency.specs.declared.Coherency.{Coherency}
 use Rattle.tape_content.specs.Readings.{Construct, front}
-use Rattle.tape_content.specs.Content.{Content, content}
+use Rattle.tape_content.specs.Content.{Content}
 use Rattle.tape_content.specs.Ends.{end_dp, end_ip}
 use Rattle.tape_content.proofs.Grown.{content_torn}
 use Rattle.tape_content.proofs.Whole.{front_within}
-use Rattle.tape_drive.specs.Commands.{IsBroken, IsCutShort, IsWritten, KeepsRest, VcrRose}
+use Rattle.tape_drive.specs.Commands.{VcrRose}
 use Rattle.tape_drive.specs.Crashes.{IsCut, WithinWrite}
-use Rattle.tape_meaning.specs.Labels.{HasLabels}
 use Rattle.tape_meaning.specs.Notes.{IsHonestNote}
 use Rattle.tape_meaning.specs.Pointers.{IsLastOnDp, IsLastOnIp, indexes_of}
 use Rattle.tape_meaning.proofs.Frame.{labels_stay}
 use Rattle.crash_theory.specs.Images.{AreHonest, AreUpTo, Counts, IsDpImage, IsGrounded, IsImage, IsIpImage, IsSound, MayWrite}
 use Rattle.crash_theory.specs.Made.{Base, Entry, Made, Trees, Volume, or_last, part_items, put_on}
-use Rattle.crash_theory.proofs.Fronts.{end_within, form_torn, front_same, indexes_torn, long_dp, long_enough, one_torn}
+use Rattle.crash_theory.proofs.Fronts.{end_within, form_torn, indexes_torn, long_dp, long_enough, one_torn}
 
 -- ---- cartridges and their notes
 

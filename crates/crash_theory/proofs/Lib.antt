@@ -21,3 +21,4 @@ pub mod Closed
 pub mod Closes
 pub mod Exact
 pub mod Stated
+pub mod Serving

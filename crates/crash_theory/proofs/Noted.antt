@@ -1,5 +1,5 @@
 -- What is kept, over the notes of a close.
-use Rattle.std.proofs.Common.{◌≡◌, ◌⊎◌, ⊎_elim, inl, inr, ℕ, ◌+◌, ◌<◌, ◌≤◌, List, Option, Some, Result, Ok, Err, refl, sym, ap, subst, ◌∙◌, arith, take, length}
+use Rattle.std.proofs.Common.{◌≡◌, ◌⊎◌, ⊎_elim, inl, inr, ℕ, ◌≤◌, List, Some, Result, Ok, Err, refl, sym, ap, subst, ◌∙◌, arith, take, length}
 use Rattle.tape_types.specs.declared.cartridges.Cartridge.{Cartridge}
 use Rattle.tape_types.specs.declared.cartridges.Item.{Item}
 use Rattle.tape_types.specs.declared.cartridges.Note.{Note}
@@ -19,7 +19,7 @@ use Rattle.tape_drive.specs.Commands.{AfterNote, IsNoted}
 use Rattle.tape_drive.specs.Crashes.{IsSettled, WithinNote}
 use Rattle.tape_meaning.specs.Notes.{IsHonestNote, LastReads, TellsOfLast}
 use Rattle.tape_meaning.specs.Pointers.{IsLastOnDp, IsLastOnIp, indexes_of, last_block}
-use Rattle.crash_theory.specs.Images.{AreHonest, AreUpTo, IsDpImage, IsImage, IsIpImage}
+use Rattle.crash_theory.specs.Images.{AreUpTo, IsDpImage, IsImage, IsIpImage}
 use Rattle.crash_theory.specs.Kept.{HasNothingPending, IsStep, Moment, ReadsAs, Wait, plan_of}
 use Rattle.crash_theory.specs.Kept as kept
 use Rattle.crash_theory.specs.Made.{Job, Made, Trees, Volume}
@@ -145,15 +145,18 @@ module _ (v : Volume) (t : Trees) (plan : Cartridge) (s : Made) (held : Cartridg
   }
 
 -- how the cartridge reads after a note was to be written
-after_note : {T E : Type 0} (r : Result T E) (part : Part) (note : Note) (old new : Cartridge) → AfterNote r part note old new → IsWithNote part note old new
-after_note (Ok x) part note old new h = with_note part note old new h
-after_note (Err x) part note old new h =
+abbrev pub IsNotedOrNot : Part → Note → Cartridge → Cartridge → Type 0
+IsNotedOrNot part note old new = (new ≡ old) ⊎ IsNoted part note old new
+
+pub noted_or_not : {T E : Type 0} (r : Result T E) (part : Part) (note : Note) (old new : Cartridge) → AfterNote r part note old new → IsNotedOrNot part note old new
+noted_or_not (Ok x) part note old new h = inr h
+noted_or_not (Err x) part note old new h = h
+
+after_note : (part : Part) (note : Note) (old new : Cartridge) → IsNotedOrNot part note old new → IsWithNote part note old new
+after_note part note old new h =
     ⊎_elim (λ (same : new ≡ old). same_as part note old new same) (λ (noted : IsNoted part note old new). with_note part note old new noted) h
 
-module _ (v : Volume) (t : Trees) (s : Made) (since : ℕ) (d e : Moment) (done : ℕ) (jobs : List Job) (waits : List Wait) (acks : List Ack)
-    (k : kept.Kept v t s since d done jobs waits acks) (sure : HasNothingPending d)
-    (part : Part) (note : Note) (values : Coherency) (has : HasValues note values) (vcr : values.vcr ≡ d.held.vcr)
-    (tells : TellsOfLast d.held v.labels.ip part values) (step : IsStep (WithinNote part note) d e) where
+module _ (d e : Moment) (sure : HasNothingPending d) (part : Part) (note : Note) (step : IsStep (WithinNote part note) d e) where
   -- from a cartridge as it reads
   within_note : (before c : Cartridge) → d.leaves before → WithinNote part note before c → IsWithNote part note d.held c
   within_note before c may w =
@@ -163,27 +166,31 @@ module _ (v : Volume) (t : Trees) (s : Made) (since : ℕ) (d e : Moment) (done 
       (λ (noted : IsNoted part note before c). with_note part note d.held c (subst (λ (x : Cartridge). IsNoted part note x c) is noted))
       w
 
-  each_note : (before c : Cartridge) → d.leaves before → WithinNote part note before c → IsImage v t (plan_of s jobs) s.base c × AreUpTo v d.held.vcr c
-  each_note before c may w =
-      let n = within_note before c may w in (
-        (noted_reads v t (plan_of s jobs) s d.held k.reads k.notes part note values has vcr tells c n).image,
-        up_to_note v t (plan_of s jobs) s d.held k.reads k.notes part note values has vcr tells c n,
-      )
-
-  pub kept_noted : {T E : Type 0} (r : Result T E) → AfterNote r part note d.held e.held → kept.Kept v t s since e done jobs waits acks
-  kept_noted r after =
-      let w = after_note r part note d.held e.held after in
-      let plan = plan_of s jobs in
-      let notes = up_to_note v t plan s d.held k.reads k.notes part note values has vcr tells e.held w in
-      step_kept v t s since d done jobs waits acks k (WithinNote part note) e step each_note
-      (noted_reads v t plan s d.held k.reads k.notes part note values has vcr tells e.held w)
-      (omega (arith, w.vcr))
-      (subst (λ (n : ℕ). AreUpTo v n e.held) (sym w.vcr) notes)
-
-  -- and where no earlier note comes back, nothing is pending again
+  -- where no earlier note comes back, nothing is pending again
   pub noted_sure : IsNoted part note d.held e.held → IsSettled (Some e.held) e.leaves → HasNothingPending e
   noted_sure now settled c may =
       let from = step.1.now c may in
       let w = within_note from.0 c from.1 from.2 in
       let state = settled c may in
       same_cartridge c e.held (w.ip ∙ sym now.ip) (w.dp ∙ sym now.dp) state.vcr state.note_ip state.note_dp
+
+module _ (v : Volume) (t : Trees) (s : Made) (since : ℕ) (d e : Moment) (done : ℕ) (jobs : List Job) (waits : List Wait) (acks : List Ack)
+    (k : kept.Kept v t s since d done jobs waits acks) (sure : HasNothingPending d)
+    (part : Part) (note : Note) (values : Coherency) (has : HasValues note values) (vcr : values.vcr ≡ d.held.vcr)
+    (tells : TellsOfLast d.held v.labels.ip part values) (step : IsStep (WithinNote part note) d e) where
+  each_note : (before c : Cartridge) → d.leaves before → WithinNote part note before c → IsImage v t (plan_of s jobs) s.base c × AreUpTo v d.held.vcr c
+  each_note before c may w =
+      let n = within_note d e sure part note step before c may w in (
+        (noted_reads v t (plan_of s jobs) s d.held k.reads k.notes part note values has vcr tells c n).image,
+        up_to_note v t (plan_of s jobs) s d.held k.reads k.notes part note values has vcr tells c n,
+      )
+
+  pub kept_noted : IsNotedOrNot part note d.held e.held → kept.Kept v t s since e done jobs waits acks
+  kept_noted after =
+      let w = after_note part note d.held e.held after in
+      let plan = plan_of s jobs in
+      let notes = up_to_note v t plan s d.held k.reads k.notes part note values has vcr tells e.held w in
+      step_kept v t s since d done jobs waits acks k (WithinNote part note) e step each_note
+      (noted_reads v t plan s d.held k.reads k.notes part note values has vcr tells e.held w)
+      (omega (arith, w.vcr))
+      (subst (λ (n : ℕ). AreUpTo v n e.held) (sym w.vcr) notes)

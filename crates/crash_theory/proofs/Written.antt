@@ -1,5 +1,5 @@
 -- How a cartridge reads after a write, done or failed.
-use Rattle.std.proofs.Common.{◌≡◌, ◌⊎◌, ⊎_elim, inl, inr, ℕ, ◌+◌, ◌<◌, ◌≤◌, ◌++◌, List, [], ◌∷◌, take, length, Option, refl, sym, ap, subst, ◌∙◌, arith}
+use Rattle.std.proofs.Common.{◌≡◌, ◌⊎◌, ⊎_elim, inl, inr, ℕ, ◌≤◌, ◌++◌, List, [], ◌∷◌, take, length, Option, refl, sym, ap, subst, ◌∙◌, arith}
 use Rattle.std.proofs.lemmas.List.{take-append-le, take_all}
 use Rattle.tape_types.specs.declared.cartridges.Cartridge.{Cartridge}
 use Rattle.tape_types.specs.declared.cartridges.Item.{Item}
@@ -7,14 +7,13 @@ use Rattle.tape_types.specs.declared.cartridges.Item.TheVariants.{Torn}
 use Rattle.tape_types.specs.declared.cartridges.Part.{Part}
 use Rattle.tape_types.specs.declared.cartridges.Part.TheVariants.{Ip, Dp}
 use Rattle.tape_types.specs.Cartridges.{items_of}
-use Rattle.tape_content.specs.Readings.{Construct}
-use Rattle.tape_content.specs.Content.{Content, content}
+use Rattle.tape_content.specs.Content.{content}
 use Rattle.tape_content.specs.Ends.{end_ip}
 use Rattle.tape_content.proofs.Grown.{content_torn}
 use Rattle.tape_drive.specs.Commands.{IsBroken, IsCutShort, IsWritten, VcrRose}
 use Rattle.tape_drive.specs.Crashes.{WithinWrite}
 use Rattle.tape_meaning.specs.Pointers.{indexes_of}
-use Rattle.crash_theory.specs.Images.{AreHonest, AreUpTo, IsDpImage, IsImage, IsIpImage, IsSound, MayWrite}
+use Rattle.crash_theory.specs.Images.{AreHonest, AreUpTo, IsDpImage, IsIpImage, IsSound, MayWrite}
 use Rattle.crash_theory.specs.Kept.{ReadsAs}
 use Rattle.crash_theory.specs.Made.{Entry, Made, Trees, Volume, or_last, part_items, put_on}
 use Rattle.crash_theory.proofs.Fronts.{indexes_torn}

@@ -9,3 +9,4 @@ pub mod Worked
 pub mod Examples
 pub mod Laws
 pub mod Closed
+pub mod Moments

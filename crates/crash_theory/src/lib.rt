@@ -4,4 +4,6 @@
 mod admissions;
 mod checks;
 mod examples;
+mod keeping;
 mod laws;
+mod standing;
