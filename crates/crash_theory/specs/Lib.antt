@@ -8,3 +8,4 @@ pub mod Starts
 pub mod Worked
 pub mod Examples
 pub mod Closed
+pub mod Admissions

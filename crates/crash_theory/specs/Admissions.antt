@@ -1,0 +1,97 @@
+-- What may be admitted, and what stands once a close is done.
+use Rattle.std.specs.Prelude.{ℕ, ◌+◌, ◌≤◌, ◌≡◌, false, List, [], ◌++◌, length, None}
+use Rattle.plain_tree.specs.Tree.{Tree}
+use Rattle.tape_types.specs.declared.cartridges.Cartridge.{Cartridge}
+use Rattle.tape_types.specs.declared.cartridges.Part.{Part}
+use Rattle.index_model.specs.declared.indexes.Index.{Index}
+use Rattle.session_script.specs.declared.logs.Ack.{Ack}
+use Rattle.tape_content.specs.Ends.{EndsWithLast}
+use Rattle.tape_layout.specs.Ops.{end_of}
+use Rattle.tape_meaning.specs.Carried.{Carried, carried}
+use Rattle.tape_meaning.specs.Meaning.{AreAlike, IsConsistent, IsTreeOf, Stands}
+use Rattle.tape_meaning.specs.Notes.{AreNoted, IsCoherent}
+use Rattle.tape_meaning.specs.Pointers.{indexes_of}
+use Rattle.tape_meaning.specs.declared.labels.Labels.{Labels}
+use Rattle.volume_space.specs.Space.{Rules, Space, with_data, with_index}
+use Rattle.crash_theory.specs.Closed.{EndsWithClose}
+use Rattle.crash_theory.specs.Images.{MayWrite}
+use Rattle.crash_theory.specs.Kept.{IsServed, Kept, Moment, Serves, Wait}
+use Rattle.crash_theory.specs.Made.{Entry, Job, Made, Trees, Volume, after}
+use Rattle.crash_theory.specs.Plans.{IsCloseDue, IsDue, IsPlanned, close_jobs, data_jobs, index_jobs}
+
+module _ (v : Volume) (t : Trees) (s : Made) (since : ℕ) (d : Moment) (done : ℕ) (jobs : List Job) (waits : List Wait)
+    (acks : List Ack) (space : Space) (rules : Rules) where
+  -- bytes may be put on a partition that may be written, whatever its blocks hold
+  abbrev pub DataIsAdmitted : Type 0
+  DataIsAdmitted = (part : Part) (bytes : List ℕ)
+      → Serves v t s since d done jobs waits acks space → MayWrite part (after s jobs).base
+      → Serves v t s since d done (jobs ++ data_jobs rules part (end_of part space.ends) bytes) waits acks
+      (with_data rules part bytes space)
+
+  -- An index that tells the tree of the whole history may be put on the data partition. The sync that asked for it is
+  -- served by its flush, and behind it no index of the index partition is ahead.
+  abbrev pub IndexIsAdmitted : Type 0
+  IndexIsAdmitted = (text : List ℕ) (e : Entry)
+      → Serves v t s since d done jobs waits acks space → IsDue v t (after s jobs) space text e → 1 ≤ rules.block_size
+      → Serves v t s since d done (jobs ++ index_jobs rules space text e) waits acks (with_index rules text space)
+
+  abbrev pub IndexServes : Type 0
+  IndexServes = (text : List ℕ) (e : Entry)
+      → Serves v t s since d done jobs waits acks space → IsDue v t (after s jobs) space text e → 1 ≤ rules.block_size
+      → IsServed t s done (jobs ++ index_jobs rules space text e)
+      (record { place = t.count; due = done + length (jobs ++ index_jobs rules space text e) })
+
+  abbrev pub IndexSettles : Type 0
+  IndexSettles = (text : List ℕ) (e : Entry)
+      → Serves v t s since d done jobs waits acks space → IsDue v t (after s jobs) space text e → 1 ≤ rules.block_size
+      → (after s (jobs ++ index_jobs rules space text e)).base.ahead ≡ None
+
+  -- a sync of a tree that hasn't changed since the last index is served by the last job that stands
+  abbrev pub NothingIsServed : Type 0
+  NothingIsServed = Serves v t s since d done jobs waits acks space → space.changed ≡ false
+      → IsServed t s done jobs (record { place = t.count; due = done + length jobs })
+
+  -- where no index is ahead, a close's index may be put on the index partition
+  abbrev pub CloseIsAdmitted : Type 0
+  CloseIsAdmitted = (text : List ℕ) (index : Index)
+      → Serves v t s since d done jobs waits acks space → IsCloseDue v t (after s jobs) space text index
+      → (after s jobs).base.ahead ≡ None → 1 ≤ rules.block_size
+      → Kept v t s since d done (jobs ++ close_jobs rules space text) waits acks
+
+-- A cartridge that ends with a close's index, whatever stands before that, stands for the tree of its data partition's
+-- last index. It is consistent where the data partition ends with that index, tells the same on both partitions where
+-- both indexes tell one tree, and is coherent with its notes.
+pub record CloseStands (c : Cartridge) (l : Labels) (last index : Index) : Type 0 where
+  pub stands : (facts : Carried) (tree : Tree) → facts ≡ carried last → IsTreeOf l.ip c last tree
+      → Stands c facts tree last.generation
+  pub consistent : EndsWithLast c.dp (indexes_of c.dp) → IsConsistent c
+  pub alike : (facts : Carried) (tree : Tree) → facts ≡ carried index → facts ≡ carried last
+      → IsTreeOf l.ip c index tree → IsTreeOf l.ip c last tree → AreAlike c facts tree last.generation
+  pub coherent : AreNoted c l.ip → IsCoherent c
+
+-- What a close asks of the state before its index, and of the drive once all its jobs are done: the partitions end
+-- where they were made to.
+pub record IsCloseDone (v : Volume) (t : Trees) (s made : Made) (space : Space) (rules : Rules) (text : List ℕ)
+    (index : Index) (held : Cartridge) : Type 0 where
+  pub planned : IsPlanned t s space
+  pub due : IsCloseDue v t s space text index
+  pub none_ahead : s.base.ahead ≡ None
+  pub unchanged : space.changed ≡ false
+  pub size : 1 ≤ rules.block_size
+  pub made_is : made ≡ after s (close_jobs rules space text)
+  pub ip : held.ip ≡ made.ip
+  pub dp : held.dp ≡ made.dp
+
+-- Then the cartridge stands for the tree of the whole history, is consistent, tells the same on both partitions, and
+-- with its notes is coherent.
+pub record StandsClosed (v : Volume) (t : Trees) (generation : ℕ) (held : Cartridge) : Type 0 where
+  pub stands : Stands held v.facts (t.nth t.count) generation
+  pub consistent : IsConsistent held
+  pub alike : AreAlike held v.facts (t.nth t.count) generation
+  pub coherent : AreNoted held v.labels.ip → IsCoherent held
+
+abbrev pub CloseLeaves : Volume → Trees → Made → Made → Space → Rules → (since : ℕ) → Moment → (done : ℕ) → List Wait
+    → List Ack → Type 0
+CloseLeaves v t s made space rules since d done waits acks = (text : List ℕ) (index : Index)
+    → Kept v t made since d done [] waits acks → IsCloseDone v t s made space rules text index d.held
+    → StandsClosed v t space.newest d.held
