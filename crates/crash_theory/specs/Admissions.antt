@@ -19,6 +19,10 @@ use Rattle.crash_theory.specs.Kept.{IsServed, Kept, Moment, Serves, Wait}
 use Rattle.crash_theory.specs.Made.{Entry, Job, Made, Trees, Volume, after}
 use Rattle.crash_theory.specs.Plans.{IsCloseDue, IsDue, IsPlanned, close_jobs, data_jobs, index_jobs}
 
+-- a drive at a moment, by what it tells and by what a crash may leave
+abbrev pub moment : Cartridge → (commands : ℕ) → (Cartridge → Type 0) → (ℕ → Cartridge → Type 0) → Moment
+moment held commands leaves left = record { held = held; commands = commands; leaves = leaves; left = left }
+
 module _ (v : Volume) (t : Trees) (s : Made) (since : ℕ) (d : Moment) (done : ℕ) (jobs : List Job) (waits : List Wait)
     (acks : List Ack) (space : Space) (rules : Rules) where
   -- bytes may be put on a partition that may be written, whatever its blocks hold
