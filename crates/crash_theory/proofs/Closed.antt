@@ -15,6 +15,7 @@ use Rattle.tape_meaning.specs.Notes.{AreNoted, IsCoherent}
 use Rattle.tape_meaning.specs.Pointers.{IsLastOnIp, chosen, indexes_of, newest_spot}
 use Rattle.tape_meaning.specs.declared.labels.Labels.{Labels}
 use Rattle.tape_meaning.proofs.Noted.{noted_coherent}
+use Rattle.crash_theory.specs.Left.{CloseStands}
 use Rattle.crash_theory.specs.Closed.{EndsWithClose}
 use Rattle.crash_theory.proofs.Appends.{IsOpened, form_of}
 use Rattle.crash_theory.proofs.Data.{ready_opened}
@@ -120,3 +121,11 @@ module _ (c : Cartridge) (l : Labels) (last index : Index) (h : EndsWithClose c 
 
   pub close_coherent : AreNoted c l.ip → IsCoherent c
   close_coherent noted = noted_coherent c l h.has noted
+
+pub close_told : (c : Cartridge) (l : Labels) (last index : Index) → EndsWithClose c l last index → CloseStands c l last index
+close_told c l last index h = record {
+  stands = close_stands c l last index h;
+  consistent = close_consistent c l last index h;
+  alike = close_alike c l last index h;
+  coherent = close_coherent c l last index h;
+}

@@ -26,6 +26,7 @@ use Rattle.tape_meaning.specs.Pointers.{IsLastOnDp, IsLastOnIp, chosen, indexes_
 use Rattle.tape_meaning.proofs.Frame.{labels_stay, tree_stays}
 use Rattle.tape_meaning.proofs.Noted.{noted_coherent}
 use Rattle.volume_space.specs.Space.{Rules, Space, blocks}
+use Rattle.crash_theory.specs.Left.{IsCloseDone, StandsClosed}
 use Rattle.crash_theory.specs.Closed.{EndsWithClose}
 use Rattle.crash_theory.specs.Fine.{IsSame}
 use Rattle.crash_theory.specs.Images.{Counts, IsBehind, IsIpImage, IsSound, Tells}
@@ -328,30 +329,19 @@ admitted_close v t s since d done jobs waits acks space rules text index h due n
     kept_more v t s since d done jobs (close_jobs rules space text) waits acks _ h.kept
     (close_leads v t (after s jobs) space rules text index h.planned due none size (kept_sound v t s since d done jobs waits acks h.kept))
 
--- ---- a close that is done
-
-module _ (v : Volume) (t : Trees) (s made : Made) (space : Space) (rules : Rules) (text : List ℕ) (index : Index) (since : ℕ) (d : Moment) (done : ℕ)
-    (waits : List Wait) (acks : List Ack) (p : IsPlanned t s space) (due : IsCloseDue v t s space text index) (none : s.base.ahead ≡ None)
-    (size : 1 ≤ rules.block_size) (k : Kept v t made since d done [] waits acks) (made_is : made ≡ after s (close_jobs rules space text))
-    (ip_is : d.held.ip ≡ made.ip) (dp_is : d.held.dp ≡ made.dp) where
-  same_made : made ≡ close_made v t s space rules text index p due none size
-  same_made = made_is ∙ close_makes v t s space rules text index p due none size
-
-  sound_made : IsSound v t (cartridge_of (close_made v t s space rules text index p due none size)) (close_made v t s space rules text index p due none size)
-  sound_made = subst (λ (m : Made). IsSound v t (cartridge_of m) m) same_made k.sound
-
-  pub leaves_standing : space.changed ≡ false → Stands d.held v.facts (t.nth t.count) space.newest
-  leaves_standing =
-      closed_stands v t s space rules text index p due none size d.held (ip_is ∙ ap (λ (m : Made). m.ip) same_made) (dp_is ∙ ap (λ (m : Made). m.dp) same_made) sound_made
-
-  pub leaves_consistent : space.changed ≡ false → IsConsistent d.held
-  leaves_consistent =
-      closed_consistent v t s space rules text index p due none size d.held (ip_is ∙ ap (λ (m : Made). m.ip) same_made) (dp_is ∙ ap (λ (m : Made). m.dp) same_made) sound_made
-
-  pub leaves_alike : space.changed ≡ false → AreAlike d.held v.facts (t.nth t.count) space.newest
-  leaves_alike =
-      closed_alike v t s space rules text index p due none size d.held (ip_is ∙ ap (λ (m : Made). m.ip) same_made) (dp_is ∙ ap (λ (m : Made). m.dp) same_made) sound_made
-
-  pub leaves_coherent : AreNoted d.held v.labels.ip → IsCoherent d.held
-  leaves_coherent =
-      closed_coherent v t s space rules text index p due none size d.held (ip_is ∙ ap (λ (m : Made). m.ip) same_made) (dp_is ∙ ap (λ (m : Made). m.dp) same_made) sound_made
+-- a close that is done
+pub close_leaves : (v : Volume) (t : Trees) (s made : Made) (space : Space) (rules : Rules) (since : ℕ) (d : Moment) (done : ℕ) (waits : List Wait) (acks : List Ack)
+    (text : List ℕ) (index : Index) → Kept v t made since d done [] waits acks → IsCloseDone v t s made space rules text index d.held
+    → StandsClosed v t space.newest d.held
+close_leaves v t s made space rules since d done waits acks text index k h =
+    let there : Made = close_made v t s space rules text index h.planned h.due h.none_ahead h.size in
+    let same : made ≡ there = h.made_is ∙ close_makes v t s space rules text index h.planned h.due h.none_ahead h.size in
+    let sound : IsSound v t (cartridge_of there) there = subst (λ (m : Made). IsSound v t (cartridge_of m) m) same k.sound in
+    let ip : d.held.ip ≡ there.ip = h.ip ∙ ap (λ (m : Made). m.ip) same in
+    let dp : d.held.dp ≡ there.dp = h.dp ∙ ap (λ (m : Made). m.dp) same in
+    record {
+      stands = closed_stands v t s space rules text index h.planned h.due h.none_ahead h.size d.held ip dp sound h.unchanged;
+      consistent = closed_consistent v t s space rules text index h.planned h.due h.none_ahead h.size d.held ip dp sound h.unchanged;
+      alike = closed_alike v t s space rules text index h.planned h.due h.none_ahead h.size d.held ip dp sound h.unchanged;
+      coherent = closed_coherent v t s space rules text index h.planned h.due h.none_ahead h.size d.held ip dp sound;
+    }

@@ -10,20 +10,10 @@ use Rattle.tape_types.specs.Cartridges.{items_of}
 use Rattle.tape_drive.specs.Commands.{IsBroken, IsWritten, KeepsRest}
 use Rattle.tape_layout.specs.declared.ops.Op.{Op}
 use Rattle.tape_layout.specs.declared.ops.Op.TheVariants as ops
-use Rattle.crash_theory.specs.Closed.{IsExact}
+use Rattle.crash_theory.specs.Closed.{Begins, IsExact, PutsOn}
 use Rattle.crash_theory.specs.Events.{IsDone, IsFailed}
 use Rattle.crash_theory.specs.Images.{IsNext}
 use Rattle.crash_theory.specs.Made.{Entry, Job, Made, does, makes, part_items, put_on}
-
--- an op puts an item on a partition
-abbrev pub PutsOn : Part → Op → Type 0
-PutsOn part (ops.Put place bytes) = place.part ≡ part
-PutsOn part (ops.Mark place) = place.part ≡ part
-PutsOn part (ops.Flush place) = ⊥
-
--- below its end a partition is what was made
-abbrev pub Begins : Part → Made → Cartridge → Type 0
-Begins part s c = take (length (part_items part s)) (items_of part c) ≡ part_items part s
 
 rest_exact : (written part : Part) (s : Made) (old new : Cartridge) → (written ≡ part → ⊥) → KeepsRest written old new → IsExact part s old
     → IsExact part s new

@@ -21,4 +21,3 @@ pub mod Closed
 pub mod Closes
 pub mod Exact
 pub mod Stated
-pub mod Serving

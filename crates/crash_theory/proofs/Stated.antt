@@ -1,21 +1,21 @@
 -- The laws of what is kept.
-use Rattle.std.proofs.Common.{◌≡◌, ℕ, ◌+◌, ◌++◌, List, [], ◌∷◌, length, Result, Err, Some, refl, sym, ap, subst}
+use Rattle.std.proofs.Common.{◌≡◌, ℕ, ◌+◌, ◌++◌, List, [], ◌∷◌, length, Some, refl, sym, ap, subst}
 use Rattle.tape_types.specs.declared.cartridges.Cartridge.{Cartridge}
 use Rattle.index_model.specs.declared.indexes.Index.{Index}
 use Rattle.tape_drive.specs.declared.drive.Drive.{Ghosts}
 use Rattle.crash_theory.specs.Kept.{Moment, Serves}
-use Rattle.crash_theory.specs.Laws.{AdmissionsKeep, HistoriesGoOn, ImagesAreFine, KeptGives, StartsAreKept, State, StepsKeep, SyncsAreHeld, moment_of, next_wait}
+use Rattle.crash_theory.specs.Laws.{AdmissionsKeep, ClosesLeave, HistoriesGoOn, ImagesAreFine, KeptGives, StartsAreKept, State, StepsKeep, SyncsAreHeld, next_wait}
+use Rattle.crash_theory.specs.Moments.{moment_of}
 use Rattle.crash_theory.specs.Starts.{begun_with, made_of}
-use Rattle.crash_theory.proofs.Acks.{kept_acked}
 use Rattle.crash_theory.proofs.Admits.{served_unchanged}
-use Rattle.crash_theory.proofs.Closes.{admitted_close}
+use Rattle.crash_theory.proofs.Closes.{admitted_close, close_leaves}
 use Rattle.crash_theory.proofs.Data.{admitted_data}
 use Rattle.crash_theory.proofs.Events.{kept_done, kept_failed, kept_read}
 use Rattle.crash_theory.proofs.Fines.{fine, fine_same, weaker}
 use Rattle.crash_theory.proofs.Gives.{acked_fine, history_stands, now_fine}
 use Rattle.crash_theory.proofs.Growth.{fine_on, kept_on}
 use Rattle.crash_theory.proofs.Indexes.{admitted_index, index_served, index_settled}
-use Rattle.crash_theory.proofs.Noted.{kept_noted}
+use Rattle.crash_theory.proofs.Noted.{kept_noted, noted_sure}
 use Rattle.crash_theory.proofs.Starts.{begins_to_serve, has_last}
 
 pub images_are_fine : ImagesAreFine
@@ -25,10 +25,6 @@ images_are_fine = record {
   same = fine_same;
   longer = λ v old new more k c is. fine_on v old new more k c is;
 }
-
--- what a command that failed answers
-abbrev failed : Result ℕ ℕ
-failed = Err 0
 
 module _ {D : Type 0} (drive : Ghosts D) where
   pub starts_are_kept : StartsAreKept drive
@@ -49,7 +45,9 @@ module _ {D : Type 0} (drive : Ghosts D) where
     read = λ x old new c kept step.
         kept_read x.volume x.trees x.made x.since (moment_of drive old c) (moment_of drive new c) x.done x.jobs x.waits x.acks kept refl step;
     noted = λ x old new before now part note values kept sure has vcr tells step after.
-        kept_noted x.volume x.trees x.made x.since (moment_of drive old before) (moment_of drive new now) x.done x.jobs x.waits x.acks kept sure part note values has vcr tells step failed after;
+        kept_noted x.volume x.trees x.made x.since (moment_of drive old before) (moment_of drive new now) x.done x.jobs x.waits x.acks kept sure part note values has vcr tells step after;
+    sure = λ old new before now part note pending step noted settled.
+        noted_sure (moment_of drive old before) (moment_of drive new now) pending part note step noted settled;
   }
 
   pub admissions_keep : AdmissionsKeep drive
@@ -70,8 +68,6 @@ module _ {D : Type 0} (drive : Ghosts D) where
         index_served x.volume x.trees x.made x.since (moment_of drive d c) x.done x.jobs x.waits x.acks space rules text e serving due size;
     unchanged = λ x space d c serving still.
         served_unchanged x.volume x.trees x.made x.since (moment_of drive d c) x.done x.jobs x.waits x.acks space serving still;
-    acknowledged = λ x front w behind d c kept due now.
-        kept_acked x.volume x.trees x.made x.since (moment_of drive d c) x.done x.jobs front w behind x.acks kept due now;
   }
 
   pub histories_go_on : HistoriesGoOn drive
@@ -86,4 +82,10 @@ module _ {D : Type 0} (drive : Ghosts D) where
     since = λ x front a behind d held c kept parts less left.
         acked_fine x.volume x.trees x.made x.since (moment_of drive d held) x.done x.jobs x.waits x.acks kept front a behind parts less c left;
     synced = λ x d held kept same. history_stands x.volume x.trees x.made x.since (moment_of drive d held) x.done x.jobs x.waits x.acks kept same;
+  }
+
+  pub closes_leave : ClosesLeave drive
+  closes_leave = record {
+    closed = λ x before space rules text index d held kept done.
+        close_leaves x.volume x.trees before x.made space rules x.since (moment_of drive d held) x.done x.waits x.acks text index kept done;
   }

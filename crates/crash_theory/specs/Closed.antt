@@ -1,5 +1,5 @@
 -- A cartridge that was closed.
-use Rattle.std.specs.Prelude.{ℕ, ◌+◌, ◌≡◌, ◌≢◌, List, [], ◌∷◌, ◌++◌, length, map, Some}
+use Rattle.std.specs.Prelude.{ℕ, ◌+◌, ◌≡◌, ◌≢◌, List, [], ◌∷◌, ◌++◌, length, map, take, Some}
 use Rattle.std.specs.List.{AllByRecursion, concat}
 use Rattle.tape_types.specs.declared.cartridges.Cartridge.{Cartridge}
 use Rattle.tape_types.specs.declared.cartridges.Item.{Item}
@@ -11,6 +11,8 @@ use Rattle.index_model.specs.Grammar.{IndexText}
 use Rattle.index_model.specs.declared.indexes.Index.{Index}
 use Rattle.tape_content.specs.Readings.{HasForm}
 use Rattle.tape_content.specs.Ends.{end_dp}
+use Rattle.tape_layout.specs.declared.ops.Op.{Op}
+use Rattle.tape_layout.specs.declared.ops.Op.TheVariants as ops
 use Rattle.tape_meaning.specs.Labels.{HasLabels}
 use Rattle.tape_meaning.specs.Meaning.{FitsNode}
 use Rattle.tape_meaning.specs.Pointers.{IsLastOnDp, indexes_of, letter_of, newest_spot}
@@ -41,3 +43,13 @@ pub record EndsWithClose (c : Cartridge) (l : Labels) (last index : Index) : Typ
 -- a partition of a cartridge ends where it was made to
 abbrev pub IsExact : Part → Made → Cartridge → Type 0
 IsExact part s c = items_of part c ≡ part_items part s
+
+-- below its end it is what was made
+abbrev pub Begins : Part → Made → Cartridge → Type 0
+Begins part s c = take (length (part_items part s)) (items_of part c) ≡ part_items part s
+
+-- an op puts an item on a partition
+abbrev pub PutsOn : Part → Op → Type 0
+PutsOn part (ops.Put place bytes) = place.part ≡ part
+PutsOn part (ops.Mark place) = place.part ≡ part
+PutsOn part (ops.Flush place) = ⊥

@@ -9,7 +9,7 @@ use Rattle.plain_tree.specs.Tree.{Tree}
 use Rattle.index_model.specs.declared.indexes.Index.{Index}
 use Rattle.session_script.specs.declared.logs.Ack.{Ack}
 use Rattle.tape_drive.specs.Commands.{IsNoted}
-use Rattle.tape_drive.specs.Crashes.{NothingNew, WithinNote}
+use Rattle.tape_drive.specs.Crashes.{IsSettled, NothingNew, WithinNote}
 use Rattle.tape_drive.specs.declared.drive.Drive.{Ghosts}
 use Rattle.tape_layout.specs.Ops.{end_of}
 use Rattle.tape_meaning.specs.Meaning.{Stands}
@@ -19,12 +19,14 @@ use Rattle.crash_theory.specs.Events.{IsDone, IsFailed, Within}
 use Rattle.crash_theory.specs.Fine.{GoesOn, IsFine, IsSame}
 use Rattle.crash_theory.specs.Images.{IsGrounded, IsImage, MayWrite}
 use Rattle.crash_theory.specs.Kept.{HasNothingPending, IsServed, IsStep, IsSureAfter, Kept, Moment, Serves, Wait}
+use Rattle.crash_theory.specs.Left.{IsCloseDone, StandsClosed}
 use Rattle.crash_theory.specs.Made.{Base, Entry, Job, Made, Trees, Volume, after, least, makes}
+use Rattle.crash_theory.specs.Moments.{moment_of}
 use Rattle.crash_theory.specs.Plans.{IsCloseDue, IsDue, close_jobs, data_jobs, index_jobs}
 use Rattle.crash_theory.specs.Starts.{CanStart, IsFirstSpace, begun_with, made_of}
 
--- a volume that is served: its history, what was made on tape, the number of commands since which crashes are spoken of, how many jobs
--- are done, those that stand, the syncs that wait, and those that were acknowledged
+-- a volume that is served: its history, what was made on tape, the number of commands since which crashes are spoken
+-- of, how many jobs are done, those that stand, the syncs that wait, and those that were acknowledged
 pub record State : Type 0 where
   pub volume : Volume
   pub trees : Trees
@@ -34,10 +36,6 @@ pub record State : Type 0 where
   pub jobs : List Job
   pub waits : List Wait
   pub acks : List Ack
-
--- the drive at a moment, which reads as this cartridge
-abbrev pub moment_of : {D : Type 0} → Ghosts D → D → Cartridge → Moment
-moment_of drive d held = record { held = held; commands = drive.commands d; leaves = drive.leaves d; left = drive.left_since d }
 
 abbrev pub IsKept : {D : Type 0} → Ghosts D → State → D → Cartridge → Type 0
 IsKept drive x d held = Kept x.volume x.trees x.made x.since (moment_of drive d held) x.done x.jobs x.waits x.acks
@@ -99,8 +97,9 @@ pub record StartsAreKept {D : Type 0} (drive : Ghosts D) : Type 0 where
       × ((space : Space) → IsFirstSpace c generation space
       → IsServing drive (first_state v c since tree can.stands.reads.found.on_ip last) space d c)
 
--- A job that was done is one less; one that failed stands; a step that reads leaves all as it was; and a note that tells of the last
--- index of its partition may be written where nothing is pending.
+-- A job that was done is one less; one that failed stands; a step that reads leaves all as it was; and a note that
+-- tells of the last index of its partition may be written where nothing is pending, and nothing is pending once it
+-- is.
 pub record StepsKeep {D : Type 0} (drive : Ghosts D) : Type 0 where
   pub done : (x : State) (job : Job) (jobs : List Job) (old new : D) (before now : Cartridge)
       → IsKept drive (with_jobs (job ∷ jobs) x) old before → IsDone job.op before now
@@ -117,13 +116,19 @@ pub record StepsKeep {D : Type 0} (drive : Ghosts D) : Type 0 where
       → HasValues note values → values.vcr ≡ before.vcr → TellsOfLast before x.volume.labels.ip part values
       → IsStep (WithinNote part note) (moment_of drive old before) (moment_of drive new now)
       → (now ≡ before) ⊎ IsNoted part note before now → IsKept drive x new now
+  pub sure : (old new : D) (before now : Cartridge) (part : Part) (note : Note)
+      → HasNothingPending (moment_of drive old before)
+      → IsStep (WithinNote part note) (moment_of drive old before) (moment_of drive new now)
+      → IsNoted part note before now → IsSettled (Some now) (drive.leaves new)
+      → HasNothingPending (moment_of drive new now)
 
--- What is admitted may be done: data at the end of a partition, an index of the whole history, and at a close the index of the index
--- partition, where no index there is ahead.
+-- What is admitted may be done: data at the end of a partition, an index of the whole history, and at a close the
+-- index of the index partition, where no index there is ahead.
 pub record AdmissionsKeep {D : Type 0} (drive : Ghosts D) : Type 0 where
   pub stored : (x : State) (space : Space) (d : D) (c : Cartridge) (rules : Rules) (part : Part) (bytes : List ℕ)
       → IsServing drive x space d c → MayWrite part (all_made x).base
-      → IsServing drive (with_more (data_jobs rules part (end_of part space.ends) bytes) x) (with_data rules part bytes space) d c
+      → IsServing drive (with_more (data_jobs rules part (end_of part space.ends) bytes) x)
+      (with_data rules part bytes space) d c
   pub indexed : (x : State) (space : Space) (d : D) (c : Cartridge) (rules : Rules) (text : List ℕ) (e : Entry)
       → IsServing drive x space d c → IsDue x.volume x.trees (all_made x) space text e → 1 ≤ rules.block_size
       → IsServing drive (with_more (index_jobs rules space text e) x) (with_index rules text space) d c
@@ -135,30 +140,32 @@ pub record AdmissionsKeep {D : Type 0} (drive : Ghosts D) : Type 0 where
       → (all_made x).base.ahead ≡ None → 1 ≤ rules.block_size
       → IsKept drive (with_more (close_jobs rules space text) x) d c
 
--- A sync waits for all jobs, its own index's among them; one that isn't preceded by a change needs no index; and one of which all jobs
--- are done is acknowledged with the number of commands that the drive has had.
+-- a sync waits for all jobs, its own index's among them; one that isn't preceded by a change needs no index
 pub record SyncsAreHeld {D : Type 0} (drive : Ghosts D) : Type 0 where
   pub changed : (x : State) (space : Space) (d : D) (c : Cartridge) (rules : Rules) (text : List ℕ) (e : Entry)
       → IsServing drive x space d c → IsDue x.volume x.trees (all_made x) space text e → 1 ≤ rules.block_size
-      → IsServed x.trees x.made x.done (x.jobs ++ index_jobs rules space text e) (next_wait (with_more (index_jobs rules space text e) x))
-  pub unchanged : (x : State) (space : Space) (d : D) (c : Cartridge) → IsServing drive x space d c → space.changed ≡ false
+      → IsServed x.trees x.made x.done (x.jobs ++ index_jobs rules space text e)
+      (next_wait (with_more (index_jobs rules space text e) x))
+  pub unchanged : (x : State) (space : Space) (d : D) (c : Cartridge) → IsServing drive x space d c
+      → space.changed ≡ false
       → IsServed x.trees x.made x.done x.jobs (next_wait x)
-  pub acknowledged : (x : State) (front : List Wait) (w : Wait) (behind : List Wait) (d : D) (c : Cartridge)
-      → IsKept drive (record x { waits = front ++ w ∷ behind }) d c → w.due ≡ x.done
-      → (drive.commands d < 2 ^ 64 - 1 → (image : Cartridge) → drive.left_since d (drive.commands d) image → drive.leaves d image)
-      → IsKept drive (record x {
-        waits = front ++ behind;
-        acks = x.acks ++ record { place = w.place; command = drive.commands d } ∷ [];
-      }) d c
 
 -- as the history goes on, all is kept
 pub record HistoriesGoOn {D : Type 0} (drive : Ghosts D) : Type 0 where
   pub kept : (x : State) (trees : Trees) (d : D) (c : Cartridge) → GoesOn x.trees trees
       → IsKept drive x d c → IsKept drive (with_trees trees x) d c
 
--- What is kept gives the promise: each cartridge that a crash may leave now stands for what was flushed, or more; each that it may have
--- left since the start stands for a prefix of the history; each since an acknowledgement for one that it covers; and where what was
--- flushed covers the history, the cartridge stands for it.
+-- Once all jobs of a close are done, and the partitions end where they were made to, the cartridge stands for the
+-- tree of the whole history, is consistent, tells the same on both partitions, and with its notes is coherent.
+pub record ClosesLeave {D : Type 0} (drive : Ghosts D) : Type 0 where
+  pub closed : (x : State) (before : Made) (space : Space) (rules : Rules) (text : List ℕ) (index : Index) (d : D)
+      (held : Cartridge)
+      → IsKept drive (with_jobs [] x) d held → IsCloseDone x.volume x.trees before x.made space rules text index held
+      → StandsClosed x.volume x.trees space.newest held
+
+-- What is kept gives the promise: each cartridge that a crash may leave now stands for what was flushed, or more;
+-- each that it may have left since the start stands for a prefix of the history; each since an acknowledgement for
+-- one that it covers; and where what was flushed covers the history, the cartridge stands for it.
 pub record KeptGives {D : Type 0} (drive : Ghosts D) : Type 0 where
   pub now : (x : State) (d : D) (held c : Cartridge) → IsKept drive x d held → drive.leaves d c
       → IsFine x.volume x.trees (least x.made.base) c

@@ -10,3 +10,4 @@ pub mod Examples
 pub mod Laws
 pub mod Closed
 pub mod Moments
+pub mod Left

@@ -1,6 +1,12 @@
 //! What is kept of a volume over each event, and what that gives.
 
-ghost use Rattle.crash_theory.specs.Laws.{AdmissionsKeep, HistoriesGoOn, ImagesAreFine, KeptGives, StartsAreKept, StepsKeep, SyncsAreHeld};
+ghost use Rattle.std.specs.Prelude.{◌≡◌, ℕ, List, [], ◌∷◌, ◌++◌};
+ghost use Rattle.tape_types.specs.declared.cartridges.Cartridge.{Cartridge};
+ghost use Rattle.session_script.specs.declared.logs.Ack.{Ack};
+ghost use Rattle.crash_theory.specs.Kept.{Kept, Wait};
+ghost use Rattle.crash_theory.specs.Made.{Job, Made, Trees, Volume};
+ghost use Rattle.crash_theory.specs.Moments.{moment_of};
+ghost use Rattle.crash_theory.specs.Laws.{AdmissionsKeep, ClosesLeave, HistoriesGoOn, ImagesAreFine, KeptGives, StartsAreKept, StepsKeep, SyncsAreHeld};
 
 use tape_drive::Drive;
 
@@ -44,4 +50,19 @@ pub fn histories_go_on<D: Drive>()
 #[tactic(auto, using(crate::proofs::Stated::kept_gives))]
 pub fn kept_gives<D: Drive>()
     ensures { KeptGives D.Drive }
+{}
+
+/// A sync is acknowledged once the job is done for which it waits: it is told with the drive's number of commands.
+pub fn acks_are_kept<D: Drive>()
+    ensures { (v : Volume) (t : Trees) (s : Made) (since : ℕ) (drive : D) (c : Cartridge) (done : ℕ)
+        (jobs : List Job) (front : List Wait) (w : Wait) (behind : List Wait) (acks : List Ack)
+        → Kept v t s since (moment_of D.Drive drive c) done jobs (front ++ w ∷ behind) acks → w.due ≡ done
+        → Kept v t s since (moment_of D.Drive drive c) done jobs (front ++ behind)
+        (acks ++ record { place = w.place; command = D.commands drive } ∷ []) }
+{}
+
+/// What stands once a close is done.
+#[tactic(auto, using(crate::proofs::Stated::closes_leave))]
+pub fn closes_leave<D: Drive>()
+    ensures { ClosesLeave D.Drive }
 {}

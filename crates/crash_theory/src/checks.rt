@@ -1,3 +1,0 @@
-// Lemmas that nothing else cites yet.
-#[tactic(auto, using(crate::proofs::Serving::serves_done))]
-pub fn serving_tried() {}
