@@ -1,3 +1,6 @@
 pub mod NoteLemmas
+pub mod RoomLemmas
 pub mod TextLemmas
+pub mod ValidLemmas
+pub mod VolumeLemmas
 pub mod WriteLemmas
