@@ -1,7 +1,7 @@
 -- The indexes of an empty volume are valid ones.
-use Rattle.std.proofs.Common.{ℕ, zero, suc, ◌+◌, ◌≡◌, ◌≤◌, ◌<◌, ◌^◌, ◌∙◌, ◌&&◌, List, [], ◌∷◌, length, Bool, true, false}
+use Rattle.std.proofs.Common.{ℕ, zero, suc, ◌≡◌, ◌≤◌, ◌<◌, ◌^◌, ◌∙◌, ◌&&◌, List, [], ◌∷◌, length, Bool, true, false}
 use Rattle.std.proofs.Common.{Option, Some, None, refl, sym, ap, subst, arith, nat_le, not, IsAscii, All, IfSome}
-use Rattle.std.specs.List.{AllByRecursion, list_all}
+use Rattle.std.specs.List.{list_all}
 use Rattle.std.proofs.lemmas.Bool.{and_from, and_parts}
 use Rattle.std.proofs.lemmas.Bool.Decides.{nat_tests}
 use Rattle.std.proofs.lemmas.List.Elements.{All-nil, All-cons}
@@ -9,7 +9,7 @@ use Rattle.std.proofs.lemmas.Str.{IsUtf8-from_ascii, chars-IsAscii}
 use Rattle.std.proofs.lemmas.Str.Ascii.{IsAscii-from_all}
 use Rattle.std.specs.Str.{IsUtf8, chars}
 use Rattle.doc_fields.specs.Texts.{is_allowed}
-use Rattle.index_model.specs.Extents.{AreFiles, IsFileAt, IsKind}
+use Rattle.index_model.specs.Extents.{AreFiles, IsFileAt}
 use Rattle.index_model.specs.Names.{AreNames, AreNamesApart, IsVolumeName}
 use Rattle.index_model.specs.Order.{AreInOrder}
 use Rattle.index_model.specs.Places.{IsAt}

@@ -1,20 +1,18 @@
 -- Writes on both partitions, one behind the other.
-use Rattle.std.proofs.Common.{ℕ, ◌+◌, ◌≡◌, ◌≤◌, ◌<◌, ◌∙◌, List, [], ◌∷◌, ◌++◌, take, length}
+use Rattle.std.proofs.Common.{ℕ, ◌≡◌, ◌≤◌, ◌∙◌, List, ◌++◌, take, length}
 use Rattle.std.proofs.Common.{Option, Some, None, refl, sym, ap, subst, arith, length-append, nat_lt, Bool, true, false}
 use Rattle.std.proofs.Common.{if◌then◌else◌}
 use Rattle.std.proofs.lemmas.List.{take_all}
-use Rattle.std.specs.Int.{div_ceil}
 use Rattle.coherency.specs.Notes.{IsNote, note_of}
 use Rattle.tape_types.specs.declared.cartridges.Cartridge.{Cartridge}
 use Rattle.tape_types.specs.declared.cartridges.Item.{Item}
 use Rattle.tape_types.specs.declared.cartridges.Limits.{Limits}
 use Rattle.tape_types.specs.declared.cartridges.Part.{Part}
 use Rattle.tape_types.specs.declared.cartridges.Part.TheVariants.{Ip, Dp}
-use Rattle.tape_types.specs.Cartridges.{items_of, other}
+use Rattle.tape_types.specs.Cartridges.{items_of}
 use Rattle.tape_drive.specs.declared.drive.Drive.{Ghosts}
 use Rattle.format_volume.proofs.NoteLemmas.{alike}
 use Rattle.format_volume.specs.declared.requests.FormatSpec.{FormatSpec}
-use Rattle.format_volume.specs.Outcomes.{CanStand}
 use Rattle.format_volume.specs.Steps.{AreAppended, HasNotes, HoldsVolume, WritesBoth, with_notes}
 use Rattle.format_volume.specs.Texts.{AreTextsOf}
 use Rattle.format_volume.specs.declared.texts.Texts as kept

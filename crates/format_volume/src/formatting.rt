@@ -6,6 +6,7 @@ ghost use Rattle.tape_drive.specs.Crashes.{IsSure};
 ghost use Rattle.tape_types.specs.declared.cartridges.Cartridge.{Cartridge};
 ghost use Rattle.tape_types.specs.declared.cartridges.Part.TheVariants as parts;
 ghost use Rattle.tape_types.specs.Counts.{HasCause};
+ghost use Rattle.format_volume.specs.Meanings.{IsEmptyVolume};
 ghost use Rattle.format_volume.specs.Outcomes.{CanStand, HasCounts, IsSureSince, IsUntouched};
 ghost use Rattle.format_volume.specs.Outcomes.{Refuses};
 ghost use Rattle.format_volume.specs.Refusals.{spec_fault};
@@ -33,6 +34,7 @@ use tape_types::{Bytes, Limits, Part, Twin};
 /// that has fewer, and how many it has: both before any command. `Drive` where the drive failed, with its count of
 /// faults before and after, and `NoMemory` where memory was refused, which is before any command too.
 pub fn format<D: Drive>(alloc: Global, drive: &mut D, spec: &FormatSpec) -> Result<(), FormatErr>
+    ensures stands { OnOk result ((c : Cartridge) → D.held drive.new ≡ Some c → IsEmptyVolume spec.now c) }
     ensures holds { OnOk result (HoldsVolume D.Drive spec.now drive.old drive.new) }
     ensures sure { OnOk result (IsSure (D.held drive.new) (D.leaves drive.new)) }
     ensures since { OnOk result (IsSureSince D.Drive drive.new) }
