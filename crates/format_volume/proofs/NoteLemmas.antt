@@ -1,5 +1,5 @@
 -- Notes, and what a crash may leave of them.
-use Rattle.std.proofs.Common.{ℕ, ◌≡◌, ◌∙◌, ◌⊎◌, inl, inr}
+use Rattle.std.proofs.Common.{ℕ, ◌-◌, ◌^◌, ◌<◌, ◌≡◌, ◌∙◌, ◌⊎◌, inl, inr}
 use Rattle.std.proofs.Common.{List, Option, Some, None, refl, sym, ap, subst}
 use Rattle.coherency.specs.Notes.{IsNote, note_of}
 use Rattle.tape_types.specs.declared.cartridges.Cartridge.{Cartridge}
@@ -8,7 +8,9 @@ use Rattle.tape_types.specs.declared.cartridges.Note.TheVariants.{Kept}
 use Rattle.tape_types.specs.declared.cartridges.Part.{Part}
 use Rattle.tape_types.specs.declared.cartridges.Part.TheVariants.{Ip, Dp}
 use Rattle.tape_drive.specs.Commands.{IsNoted}
+use Rattle.tape_drive.specs.declared.drive.Drive.{Ghosts}
 use Rattle.format_volume.specs.declared.requests.FormatSpec.{FormatSpec}
+use Rattle.format_volume.specs.Outcomes.{IsSureSince}
 use Rattle.format_volume.specs.Steps.{with_notes}
 use Rattle.format_volume.specs.Volumes.{noted}
 use Rattle.tape_drive.specs.Crashes.{Crashes, HasState, IsSettled, IsSure, NothingNew, WithinNote}
@@ -24,7 +26,7 @@ sure_looked None (Some d) leaves_a leaves_b count since_a since_b same sure cras
 sure_looked (Some c) None leaves_a leaves_b count since_a since_b same sure crashes = absurd (cc same)
 
 -- two cartridges with the same items, reference and notes
-alike : (c d : Cartridge) → c.ip ≡ d.ip → c.dp ≡ d.dp → c.vcr ≡ d.vcr → c.note_ip ≡ d.note_ip → c.note_dp ≡ d.note_dp → c ≡ d
+pub alike : (c d : Cartridge) → c.ip ≡ d.ip → c.dp ≡ d.dp → c.vcr ≡ d.vcr → c.note_ip ≡ d.note_ip → c.note_dp ≡ d.note_dp → c ≡ d
 alike c d ip dp vcr note_ip note_dp =
     λ t. record { ip = ip t; dp = dp t; vcr = vcr t; note_ip = note_ip t; note_dp = note_dp t }
 
@@ -75,3 +77,11 @@ noted_with spec k vcr note b same is reads held = (
   held ∙ ap (λ (n : List ℕ). Some (record k { note_ip = Kept n; note_dp = Kept n })) (is ∙ ap (λ (v : ℕ). note_of (noted spec v)) same),
   subst (λ (v : ℕ). IsNote (note_of (noted spec v)) (noted spec v)) same (subst (λ (n : List ℕ). IsNote n (noted spec vcr)) is reads),
 )
+
+-- since the present number of commands there is no other moment than this one
+pub sure_since : {D : Type 0} (drive : Ghosts D) (now : D) → IsSure (drive.held now) (drive.leaves now)
+    → ((image : Cartridge) → drive.commands now < 2 ^ 64 - 1 → drive.left_since now (drive.commands now) image → drive.leaves now image)
+    → IsSureSince drive now
+sure_since drive now sure only_now = λ c image held few left.
+    let told : IsSure (Some c) (drive.leaves now) = subst (λ (h : Option Cartridge). IsSure h (drive.leaves now)) held sure in
+    told image (only_now image few left)

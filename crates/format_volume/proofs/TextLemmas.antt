@@ -1,12 +1,12 @@
 -- What is fine of a volume makes its texts ones that can be read.
 use Rattle.std.proofs.Common.{ℕ, ◌≡◌, ◌≤◌, List, [], ◌∷◌, Bool, true, false, Some, None, refl}
-use Rattle.std.proofs.Common.{◌∙◌, ap, arith, not, ◌||◌, if◌then◌else◌, replicate, ◌+◌, ◌++◌, length, length-append}
-use Rattle.std.specs.List.{All, list_all}
+use Rattle.std.proofs.Common.{◌∙◌, ◌<◌, ◌^◌, ap, arith, subst, sym, not, ◌||◌, if◌then◌else◌, replicate, ◌+◌, ◌++◌, length, length-append}
+use Rattle.std.specs.List.{All, AllByRecursion, list_all}
 use Rattle.std.specs.Int.{is_in_range}
 use Rattle.std.proofs.lemmas.Bool.{and_from, and_parts}
 use Rattle.std.proofs.lemmas.List.Elements.{All-nil, All-cons}
 use Rattle.std.proofs.Common.{nat_le, zero, suc}
-use Rattle.std.specs.Str.{chars}
+use Rattle.std.specs.Str.{IsUtf8, chars}
 use Rattle.index_model.specs.Values.{Tells}
 use Rattle.doc_fields.specs.declared.starts.Attribute.TheVariants.{Version}
 use Rattle.doc_fields.specs.declared.tags.Tag.TheVariants.{LtfsLabel, Creator, FormatTime, VolumeUuid, Location, Partition}
@@ -28,7 +28,10 @@ use Rattle.tape_types.specs.declared.cartridges.Part.TheVariants.{Ip, Dp}
 use Rattle.vol_label.specs.Table.{IsVol1, is_printable}
 use Rattle.format_volume.specs.declared.requests.FormatSpec.{FormatSpec}
 use Rattle.format_volume.specs.declared.requests.Field.TheVariants as fields
-use Rattle.format_volume.specs.Refusals.{is_capital, is_policy, is_volume_name, spec_fault}
+use Rattle.format_volume.specs.Refusals.{HasTexts, IsSpec, is_capital, is_policy, is_volume_name, spec_fault}
+use Rattle.format_volume.specs.Texts.{AreTextsOf}
+use Rattle.format_volume.specs.Writes.{IsOneBlock}
+use Rattle.format_volume.specs.declared.texts.Texts as kept
 use Rattle.format_volume.specs.Volumes.{index_on, label_on, letter, record_for, told_on}
 
 -- the fields of a volume of which nothing is refused
@@ -138,7 +141,7 @@ spaces (suc n) = All-cons (λ byte. is_printable byte ≡ true) 32 (replicate n 
 pub record_fits : (spec : FormatSpec) → spec_fault spec ≡ None → IsVol1 (record_for spec)
 record_fits spec none = record { volume = printables spec.volume (fine spec none).volume; owner = spaces 14 }
 
-letter_fits : (part : Part) → (97 ≤ letter part) × (letter part ≤ 122)
+pub letter_fits : (part : Part) → (97 ≤ letter part) × (letter part ≤ 122)
 letter_fits Ip = (omega arith, omega arith)
 letter_fits Dp = (omega arith, omega arith)
 
@@ -158,3 +161,26 @@ label_size part spec none =
     let range = within 4096 1048576 spec.block (fine spec none).block in
     let digits = length-decimal-le 7 spec.block (omega arith) (omega (arith, range.1)) (omega (arith, range.1)) in
     (omega (arith, label_length part spec), omega (arith, label_length part spec, digits))
+
+pub some_block : (spec : FormatSpec) → spec_fault spec ≡ None → (4096 ≤ spec.block) × (spec.block ≤ 1048576)
+some_block spec none = within 4096 1048576 spec.block (fine spec none).block
+
+pub texts_more : (texts : List (List ℕ)) (text : List ℕ) → AllByRecursion IsUtf8 texts → IsUtf8 text
+    → AllByRecursion IsUtf8 (texts ++ text ∷ [])
+texts_more [] text all is = (is, tt)
+texts_more (t ∷ texts) text all is = (all.0, texts_more texts text all.1 is)
+
+pub ip_one_block : (spec : FormatSpec) (texts : kept.Texts) → spec_fault spec ≡ None → AreTextsOf spec texts
+    → IsOneBlock texts.ip_label
+ip_one_block spec texts none are =
+    let size = label_size Ip spec none in
+    subst (λ (l : List ℕ). IsOneBlock l) (sym are.ip_label) (record { some = size.0; size = size.1 })
+
+pub dp_one_block : (spec : FormatSpec) (texts : kept.Texts) → spec_fault spec ≡ None → AreTextsOf spec texts
+    → IsOneBlock texts.dp_label
+dp_one_block spec texts none are =
+    let size = label_size Dp spec none in
+    subst (λ (l : List ℕ). IsOneBlock l) (sym are.dp_label) (record { some = size.0; size = size.1 })
+
+pub values_of : (spec : FormatSpec) → spec.uuid < 2 ^ 128 → IsUtf8 spec.name → HasTexts spec.policy → IsSpec spec
+values_of spec small text texts = record { uuid = small; name = text; patterns = texts }

@@ -100,6 +100,10 @@ module _ {D : Type 0} (drive : Ghosts D) where
       → Counted most (drive.commands a) (drive.commands b) → Goes drive a b
   looked a b held limits counted = record { untold = λ none. held ∙ none; limits = limits; later = counted.later }
 
+  -- none
+  pub goes_still : (a : D) → Goes drive a a
+  goes_still a = record { untold = λ none. none; limits = refl; later = omega arith }
+
   pub then_goes : (a b c : D) → Goes drive a b → Goes drive b c → Goes drive a c
   then_goes a b c first second = record {
     untold = λ none. second.untold (first.untold none);
@@ -121,7 +125,7 @@ module _ {D : Type 0} (drive : Ghosts D) where
   putting_begins size doc old = record {
     most = omega arith;
     head = λ at head. head ∙ ap (λ (n : ℕ). Some (record { part = at.part; pos = n })) (omega arith);
-    goes = record { untold = λ none. none; limits = refl; later = omega arith };
+    goes = goes_still old;
     faults = omega arith;
     told = λ part pos more start writes.
         subst (λ (l : List Item). Writes drive part pos l start old) (sym (append-nil more)) writes;

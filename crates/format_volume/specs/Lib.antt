@@ -1,3 +1,5 @@
+pub mod Meanings
+pub mod Outcomes
 pub mod Refusals
 pub mod Steps
 pub mod Texts

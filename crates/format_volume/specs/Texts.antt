@@ -7,6 +7,7 @@ use Rattle.tape_types.specs.declared.cartridges.Part.TheVariants.{Ip, Dp}
 use Rattle.vol_label.specs.Table.{IsRecord, record_of}
 use Rattle.format_volume.specs.declared.requests.FormatSpec.{FormatSpec}
 use Rattle.format_volume.specs.declared.texts.Texts as kept
+use Rattle.format_volume.specs.Refusals.{IsSpec}
 use Rattle.format_volume.specs.Volumes.{document_on, label_on, record_for}
 
 -- the bytes of the labels and indexes are those of the volume
@@ -17,8 +18,9 @@ pub record AreTextsOf (spec : FormatSpec) (texts : kept.Texts) : Type 0 where
   pub ip_index : texts.ip_index ≡ document_on Ip spec
   pub dp_index : texts.dp_index ≡ document_on Dp spec
 
--- the labels of a volume are read as what they tell, and its indexes are in memory
+-- the labels of a volume are read as what they tell, its texts are texts, and its indexes are in memory
 pub record AreRead (spec : FormatSpec) : Type 0 where
+  pub values : IsSpec spec
   pub record_is : IsRecord (record_of (record_for spec)) (record_for spec)
   pub ip_label : LabelText (label_text.canonical (label_of (label_on Ip spec))) (label_of (label_on Ip spec))
   pub dp_label : LabelText (label_text.canonical (label_of (label_on Dp spec))) (label_of (label_on Dp spec))

@@ -1,7 +1,8 @@
 -- What writing leaves of a cartridge, and of the drive that it is in.
-use Rattle.std.specs.Prelude.{ℕ, ◌+◌, ◌≡◌, ◌≤◌, List, ◌++◌, take, length, Option, Some, None, IfSome}
+use Rattle.std.specs.Prelude.{ℕ, ◌+◌, ◌≡◌, ◌≤◌, List, [], ◌∷◌, ◌++◌, take, length, Option, Some, None, IfSome}
 use Rattle.tape_types.specs.declared.cartridges.Cartridge.{Cartridge}
 use Rattle.tape_types.specs.declared.cartridges.Item.{Item}
+use Rattle.tape_types.specs.declared.cartridges.Item.TheVariants.{Block, Mark}
 use Rattle.tape_types.specs.declared.cartridges.Limits.{Limits}
 use Rattle.tape_types.specs.declared.cartridges.Part.{Part}
 use Rattle.tape_types.specs.declared.cartridges.Place.{Place}
@@ -37,3 +38,12 @@ HasPlaces count head limits = (at : Place) × (head ≡ Some at) × (at.pos + co
 -- where it is told, a partition has so many items at least
 abbrev pub HasItems : ℕ → Part → Option Cartridge → Type 0
 HasItems count part held = IfSome held (λ c. count ≤ length (items_of part c))
+
+-- so many bytes as one block may have
+pub record IsOneBlock (bytes : List ℕ) : Type 0 where
+  pub some : 1 ≤ length bytes
+  pub size : length bytes ≤ 1048576
+
+-- two blocks, and a mark behind each
+abbrev pub marked : List ℕ → List ℕ → List Item
+marked first second = Block first ∷ Mark ∷ Block second ∷ Mark ∷ []

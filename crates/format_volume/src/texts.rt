@@ -1,11 +1,13 @@
 //! What is to stand on a cartridge, in memory.
 
-ghost use Rattle.std.specs.Prelude.{◌≡◌, ◌∷◌, [], ◌≤◌, None, IfOk, length, take};
+ghost use Rattle.std.specs.Prelude.{◌≡◌, ◌<◌, ◌^◌, ◌∷◌, [], None, IfOk, OnOk};
+ghost use Rattle.std.specs.List.{AllByRecursion};
+ghost use Rattle.std.specs.Str.{IsUtf8};
 ghost use Rattle.ltfs_label.specs.Canonical.{canonical};
 ghost use Rattle.ltfs_label.specs.Grammar.{LabelText};
 ghost use Rattle.ltfs_label.specs.Values.{label_of};
 ghost use Rattle.vol_label.specs.Table.{IsRecord, record_of};
-ghost use Rattle.format_volume.specs.Refusals.{spec_fault};
+ghost use Rattle.format_volume.specs.Refusals.{HasTexts, IsSpec, spec_fault};
 ghost use Rattle.format_volume.specs.Texts.{AreRead, AreTextsOf};
 ghost use Rattle.format_volume.specs.Volumes.{back_on, creator, document_on, first_spot, index_on};
 ghost use Rattle.format_volume.specs.Volumes.{label_on, letter, record_for, root_of};
@@ -33,7 +35,7 @@ impl Texts {
     pub fn new(alloc: Global, spec: &FormatSpec) -> Result<Texts, NoMemory>
         requires fine { spec_fault spec.now ≡ None }
         ensures texts { IfOk result (AreTextsOf spec.now) }
-        ensures read { IfOk result (λ texts. AreRead spec.now) }
+        ensures read { OnOk result (AreRead spec.now) }
     {
         Ok(Texts {
             record: record_for(spec),
@@ -121,8 +123,10 @@ fn back_on(part: Part) -> Option<Spot>
     }
 }
 
+#[tactic(auto, using(crate::proofs::TextLemmas::texts_more))]
 fn names_copy(alloc: Global, names: &TextList) -> Result<TextList, NoMemory>
-    ensures { IfOk result (λ copy. copy ≡ names.now) }
+    ensures same { IfOk result (λ copy. copy ≡ names.now) }
+    ensures texts { OnOk result (AllByRecursion IsUtf8 names.now) }
 {
     let mut copy = TextList::new(alloc);
     for at in 0..names.len() {
@@ -132,7 +136,8 @@ fn names_copy(alloc: Global, names: &TextList) -> Result<TextList, NoMemory>
 }
 
 fn policy_copy(alloc: Global, policy: &Option<Policy>) -> Result<Option<Policy>, NoMemory>
-    ensures { IfOk result (λ copy. copy ≡ policy.now) }
+    ensures same { IfOk result (λ copy. copy ≡ policy.now) }
+    ensures texts { OnOk result (HasTexts policy.now) }
 {
     match policy {
         Some(policy) => Ok(Some(Policy {
@@ -145,12 +150,13 @@ fn policy_copy(alloc: Global, policy: &Option<Policy>) -> Result<Option<Policy>,
 
 /// The root of an empty volume.
 fn root_of(alloc: Global, spec: &FormatSpec) -> Result<Node, NoMemory>
-    ensures { IfOk result (λ root. root ≡ root_of spec.now) }
+    ensures root { IfOk result (λ root. root ≡ root_of spec.now) }
+    ensures name { OnOk result (IsUtf8 spec.now.name) }
 {
     Ok(Node {
         parent: 0,
         uid: 1,
-        name: spec.name.try_clone(alloc)?,
+        name: Text::from_string(String::from_str(alloc, spec.name.as_str())?),
         times: Times::all_at(spec.at),
         readonly: false,
         kind: Kind::Dir,
@@ -159,21 +165,30 @@ fn root_of(alloc: Global, spec: &FormatSpec) -> Result<Node, NoMemory>
 
 /// The nodes of an empty volume: its root.
 fn nodes_of(alloc: Global, spec: &FormatSpec) -> Result<List<Node>, NoMemory>
-    ensures { IfOk result (λ nodes. nodes ≡ root_of spec.now ∷ []) }
+    ensures nodes { IfOk result (λ nodes. nodes ≡ root_of spec.now ∷ []) }
+    ensures name { OnOk result (IsUtf8 spec.now.name) }
 {
     let mut nodes = List::new(alloc);
     nodes.push(root_of(alloc, spec)?)?;
     Ok(nodes)
 }
 
+fn uuid_of(spec: &FormatSpec) -> u128
+    ensures value { result ≡ spec.now.uuid }
+    ensures range { spec.now.uuid < 2 ^ 128 }
+{
+    spec.uuid
+}
+
 /// The index of a partition.
 fn index_on(alloc: Global, part: Part, spec: &FormatSpec) -> Result<Index, NoMemory>
-    ensures { IfOk result (λ index. index ≡ index_on part spec.now) }
+    ensures index { IfOk result (λ index. index ≡ index_on part spec.now) }
+    ensures values { OnOk result (IsSpec spec.now) }
 {
     Ok(Index {
         creator: creator(alloc)?,
         comment: None,
-        uuid: spec.uuid,
+        uuid: uuid_of(spec),
         generation: 1,
         updated: spec.at,
         here: first_spot(part),
@@ -189,7 +204,8 @@ fn index_on(alloc: Global, part: Part, spec: &FormatSpec) -> Result<Index, NoMem
 /// The document of a partition's index.
 #[tactic(auto, using(crate::proofs::TextLemmas::tells))]
 fn document_on(alloc: Global, part: Part, spec: &FormatSpec) -> Result<Bytes, NoMemory>
-    ensures { IfOk result (λ text. text ≡ document_on part spec.now) }
+    ensures bytes { IfOk result (λ text. text ≡ document_on part spec.now) }
+    ensures values { OnOk result (IsSpec spec.now) }
 {
     let index = index_on(alloc, part, spec)?;
     let mut text = Vec::new(alloc);
