@@ -16,10 +16,16 @@ pub mod LeaveLemmas
 pub mod WriteLemmas
 pub mod ReadLemmas
 pub mod RawLemmas
+pub mod MemberLemmas
+pub mod SortedRaws
+pub mod KeyLemmas
+pub mod IndexedLemmas
+pub mod SortLemmas
+pub mod RunLemmas
+pub mod PreorderLemmas
 pub mod MountLemmas
 pub mod MountedBlocks
 pub mod MountedGood
-pub mod ListingLemmas
 pub mod CallLemmas
 pub mod BareLemmas
 pub mod ToldLemmas

@@ -25,7 +25,7 @@ use Rattle.extent_map.specs.Cells.{Tape}
 use Rattle.file_tree.specs.declared.nodes.Node.{Node}
 use Rattle.file_tree.specs.declared.nodes.Kind.{Kind}
 use Rattle.file_tree.specs.Tree.{Nodes, number_at, plain_kind_of, plain_node_of, plain_nodes}
-use Rattle.file_tree.specs.Places.{Stored, CanAppend}
+use Rattle.file_tree.specs.Places.{StoreView, CanAppend}
 use Rattle.file_tree.specs.Valid.{AreFilesOf}
 use Rattle.file_tree.specs.Mounts.{Letters, IsKindOf, IsNodeOf, IsPathOf, Stands, IsTold, IsBuilt, IsOnVolume, AreTold, CanMount}
 use Rattle.file_tree.specs.Mounts.IsPathOf.{root, below}
@@ -168,7 +168,7 @@ module _ (letters : Letters) (size : ℕ) (nodes : List told.Node) (t : AreTold 
           } in
           absurd (omega (arith, old.early, t.names k.number at one))
 
-  pub can_append : (s : Stored) → s.nodes ≡ m → s.slots ≡ at → CanAppend s node.parent node.name
+  pub can_append : (s : StoreView) → s.nodes ≡ m → length s.spots ≡ at → CanAppend s node.parent node.name
   can_append s is_m slots = record {
     path = up.path;
     stands = ap (λ (m : Nodes). number_at m up.path) is_m ∙ up_number;

@@ -6,11 +6,10 @@ use Rattle.std.proofs.lemmas.List.{length-set, length-append, take_more}
 use Rattle.file_tree.specs.declared.nodes.Node.{Node}
 use Rattle.file_tree.specs.declared.nodes.Spot.{Spot}
 use Rattle.file_tree.specs.Tree.{Nodes, number_at}
-use Rattle.file_tree.specs.Seen.{Held, held, IsShown, IsKept, child, node_in}
+use Rattle.file_tree.specs.Seen.{Held, held, IsShown, IsKept}
 use Rattle.file_tree.specs.Places.{used, IsStored, IsThere, IsSetIn}
 use Rattle.file_tree.proofs.PathLemmas.{by_last, number_is, node_at}
 use Rattle.file_tree.proofs.ShownLemmas.{spot, same_spot, root_number, dir_of, kept_at, stands}
-use Rattle.file_tree.proofs.WalkLemmas.{child_is}
 
 pub stored_now : (spots : List (Option Spot)) (count : ℕ) (m n : Nodes) → IsStored spots count m → m ≡ n → IsStored spots count n
 stored_now spots count m n s is = subst (λ k. IsStored spots count k) is s
@@ -54,17 +53,6 @@ name_now at m s n z is p x stands =
     let dir = dir_of at m s p x node.0 node.1 in
     let same : spot dir.0.number x node.0 ≡ z = same_spot _ _ (sym (kept_at at m s p x node.0 dir.0 node.1 dir.1) ∙ ap at node.2 ∙ is) in
     ap (λ (k : Spot). k.name) same
-
-number_in : (c : Option Spot) → option_map (λ (n : Node). n.number) (node_in c) ≡ option_map (λ (s : Spot). s.node.number) c
-number_in None = refl
-number_in (Some z) = refl
-
-pub child_now : (spots : List (Option Spot)) (m : Nodes) → IsShown (held spots) m → (dir : ℕ) (name : List ℕ) (r : Option ℕ) → r ≡ option_map (λ (s : Spot). s.node.number) (child spots dir name)
-    → (p : List (List ℕ)) → number_at m p ≡ Some dir → number_at m (p ++ name ∷ []) ≡ r
-child_now spots m s dir name r is p stands =
-    let node = node_at m p dir stands in
-    ap (option_map (λ (n : Node). n.number)) (child_is spots m s p name node.0 node.1) ∙ number_in (child spots node.0.number name)
-    ∙ ap (λ k. option_map (λ (s : Spot). s.node.number) (child spots k name)) node.2 ∙ sym is
 
 pub held_or : (spots : List (Option Spot)) (n : ℕ) (o : Option Spot) → n < length spots → o ≡ get_or spots n o → held spots n ≡ o
 held_or [] n o lt is = absurd (omega arith)
@@ -153,13 +141,6 @@ set_in spots n o lt = record { kept = set_kept spots n o lt; long = omega (arith
 pub push_in : (spots next : List (Option Spot)) (n : ℕ) (z : Spot) → next ≡ spots ++ Some z ∷ [] → n ≡ length spots → IsSetIn spots next n (Some z)
 push_in spots next n z is long =
     subst (λ l. IsSetIn spots l n (Some z)) (sym is) (record { kept = push_kept spots n (Some z) long; long = omega (arith, length-append spots (Some z ∷ [])) })
-
-pub used_step : (spots : List (Option Spot)) (i : ℕ) (o : Option Spot) → i < length spots → o ≡ get_or spots i o → is_none o ≡ false → used (take i spots) ≡ i → used (take (i + 1) spots) ≡ i + 1
-used_step spots i o lt is some before = ap used (take_more spots i o lt ∙ ap (λ x. take i spots ++ x ∷ []) (sym is)) ∙ by o refl
-  where
-    by : (p : Option Spot) → o ≡ p → used (take i spots ++ o ∷ []) ≡ i + 1
-    by None e = let wrong : true ≡ false = sym (ap is_none e) ∙ some in cc
-    by (Some z) e = ap (λ p. used (take i spots ++ p ∷ [])) e ∙ used_push (take i spots) z ∙ ap (λ n. n + 1) before
 
 pub held_past : (spots : List (Option Spot)) (n : ℕ) → length spots ≤ n → held spots n ≡ None
 held_past [] n le = refl

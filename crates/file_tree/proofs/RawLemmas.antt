@@ -25,7 +25,7 @@ all_joined : {X : Type 0} (P : X → Type 0) (xs ys : List X) → AllByRecursion
 all_joined P [] ys a b = b
 all_joined P (x ∷ xs) ys a b = (a.0, all_joined P xs ys a.1 b)
 
-all_put : (P : Extent → Type 0) (new : Extent) (es : List Extent) → AllByRecursion P es → P new → AllByRecursion P (put_among new es)
+pub all_put : (P : Extent → Type 0) (new : Extent) (es : List Extent) → AllByRecursion P es → P new → AllByRecursion P (put_among new es)
 all_put P new es all this = all_joined P (filter (λ e. ltb e.offset new.offset) es) (new ∷ filter (λ e. leb new.offset e.offset) es) (all_filtered P (λ e. ltb e.offset new.offset) es all) (this, all_filtered P (λ e. leb new.offset e.offset) es all)
 
 pub all_both : {X : Type 0} (P Q R : X → Type 0) → ((x : X) → P x → Q x → R x) → (xs : List X) → AllByRecursion P xs → AllByRecursion Q xs → AllByRecursion R xs

@@ -32,74 +32,12 @@ use Rattle.plain_tree.specs.declared.calls.Sort.{Sort}
 use Rattle.plain_tree.specs.declared.calls.Sort.TheVariants as sorts
 use Rattle.std.proofs.lemmas.Bool.Decides.{nat_tests}
 use Rattle.file_tree.proofs.WriteLemmas.{long_as}
-use Rattle.file_tree.specs.Seen.{held, IsShown, is_in, any_in}
 use Rattle.file_tree.specs.Places.{IsLast}
 use Rattle.file_tree.proofs.PathLemmas.{some_same, no_name, node_at}
 use Rattle.file_tree.proofs.ShownLemmas.{spot, kept_at, stands, stands_in}
 use Rattle.file_tree.proofs.WalkLemmas.{eq_is, is_eq, not_eq}
 use Rattle.file_tree.proofs.PlainLemmas.{plain_get, plain_none, plain_len}
 use Rattle.file_tree.proofs.EditLemmas.{parent_ends}
-
--- ---- what is in a directory
-
-in_says : (dir : ℕ) (z : Spot) → is_in dir (Some z) ≡ true → (z.node.number ≢ 0) × (z.parent ≡ dir)
-in_says dir z is =
-    let a = both_true (not (eqb z.node.number 0)) (eqb z.parent dir) is in
-    (λ zero_is. let wrong : false ≡ true = sym (ap not (is_eq z.node.number 0 zero_is)) ∙ a.0 in cc, eq_is z.parent dir a.1)
-
-says_in : (dir : ℕ) (z : Spot) → z.node.number ≢ 0 → z.parent ≡ dir → is_in dir (Some z) ≡ true
-says_in dir z some parent = ap (λ b. not b && eqb z.parent dir) (not_eq z.node.number 0 some) ∙ is_eq z.parent dir parent
-
-any_held : (spots : List (Option Spot)) (dir : ℕ) → any_in spots dir ≡ true → (n : ℕ) × (z : Spot) × (held spots n ≡ Some z) × (is_in dir (Some z) ≡ true)
-any_held [] dir is = cc
-any_held (o ∷ spots) dir is = by (is_in dir o) refl (any_held spots dir)
-  where
-    first : (p : Option Spot) → o ≡ p → is_in dir o ≡ true → (n : ℕ) × (z : Spot) × (held (o ∷ spots) n ≡ Some z) × (is_in dir (Some z) ≡ true)
-    first None e f = let wrong : false ≡ true = sym (ap (is_in dir) e) ∙ f in cc
-    first (Some z) e f = (0, z, e, sym (ap (is_in dir) e) ∙ f)
-
-    by : (b : Bool) → is_in dir o ≡ b → (any_in spots dir ≡ true → (n : ℕ) × (z : Spot) × (held spots n ≡ Some z) × (is_in dir (Some z) ≡ true)) → (n : ℕ) × (z : Spot) × (held (o ∷ spots) n ≡ Some z) × (is_in dir (Some z) ≡ true)
-    by true e later = first o refl e
-    by false e later = let more = later (sym (ap (λ b. cond b true (any_in spots dir)) e) ∙ is) in (suc more.0, more.1, more.2, more.3)
-
-none_in : (spots : List (Option Spot)) (dir n : ℕ) (z : Spot) → any_in spots dir ≡ false → held spots n ≡ Some z → is_in dir (Some z) ≡ true → ⊥
-none_in [] dir n z none is this = cc
-none_in (o ∷ spots) dir zero z none is this =
-    let same : o ≡ Some z = is in
-    let wrong : true ≡ false = sym (ap (λ b. cond b true (any_in spots dir)) (ap (is_in dir) same ∙ this)) ∙ none in cc
-none_in (o ∷ spots) dir (suc n) z none is this = none_in spots dir n z (by (is_in dir o) refl) is this
-  where
-    by : (b : Bool) → is_in dir o ≡ b → any_in spots dir ≡ false
-    by true e = let wrong : true ≡ false = sym (ap (λ b. cond b true (any_in spots dir)) e) ∙ none in cc
-    by false e = sym (ap (λ b. cond b true (any_in spots dir)) e) ∙ none
-
-no_entries : (m : plain.Nodes) (dir : List (List ℕ)) → ((name : List ℕ) → fin.get m (dir ++ name ∷ []) ≡ None) → plain.entries_in m dir ≡ []
-no_entries m dir none = by (plain.entries_in m dir) refl
-  where
-    by : (es : List Entry) → plain.entries_in m dir ≡ es → plain.entries_in m dir ≡ []
-    by [] e = e
-    by (x ∷ es) e =
-        let found = (exact m dir).sound x (subst (λ l. Contains l x) (sym e) (0, omega arith, refl)) in
-        absurd (unlike (fin.get m (dir ++ x.name ∷ [])) found.0 (none x.name) found.1)
-
-pub entries_any : (spots : List (Option Spot)) (m : Nodes) → IsShown (held spots) m → (dir : ℕ) (p : List (List ℕ)) → number_at m p ≡ Some dir → any_in spots dir ≡ nat_lt 0 (length (plain.entries_in (plain_nodes whole m) p))
-entries_any spots m s dir p there = by (any_in spots dir) refl
-  where
-    by : (b : Bool) → any_in spots dir ≡ b → any_in spots dir ≡ nat_lt 0 (length (plain.entries_in (plain_nodes whole m) p))
-    by true e =
-        let found = any_held spots dir e in
-        let z = found.1 in
-        let says = in_says dir found.1 found.3 in
-        let stood = stands (held spots) m s found.0 z found.2 in
-        let here = stands_in (held spots) m s found.0 z p found.2 (λ zero_is. says.0 (stood.2 ∙ zero_is)) (there ∙ ap (λ k. Some k) (sym says.1)) in
-        e ∙ child_listed (plain_nodes whole m) p (p ++ z.name ∷ []) (plain_node_of whole z.node) (plain_get whole m (p ++ z.name ∷ []) ∙ ap (option_map (plain_node_of whole)) here) (no_name p z.name) (parent_ends p z.name)
-    by false e =
-        let node = node_at m p dir there in
-        e ∙ sym (ap (λ l. nat_lt 0 (length l)) (no_entries (plain_nodes whole m) p (λ x. plain_none whole m (p ++ x ∷ []) (none x node.0 node.1 node.2 e (fin.get m (p ++ x ∷ [])) refl))))
-      where
-        none : (x : List ℕ) (node : Node) → fin.get m p ≡ Some node → node.number ≡ dir → any_in spots dir ≡ false → (o : Option Node) → fin.get m (p ++ x ∷ []) ≡ o → fin.get m (p ++ x ∷ []) ≡ None
-        none x node is number f None e = e
-        none x node is number f (Some n) e = absurd (none_in spots dir n.number (spot node.number x n) f (kept_at (held spots) m s p x n node e is) (says_in dir (spot node.number x n) (s.behind p x n e) number))
 
 -- ---- paths that lead nowhere
 

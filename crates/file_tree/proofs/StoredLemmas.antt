@@ -78,13 +78,6 @@ still spots count m n by s = subst (λ k. IsStored spots count k) (sym (sole spo
 pub stored_same : (spots next : List (Option Spot)) (count : ℕ) (m : Nodes) → IsStored spots count m → next ≡ spots → IsStored next count m
 stored_same spots next count m s is = subst (λ l. IsStored l count m) (sym is) s
 
--- the first empty place is one that a node may have
-pub place_fits : (spots l : List (Option Spot)) (count : ℕ) (m : Nodes) (place : ℕ) → IsStored spots count m → l ≡ spots → place ≤ length l → (place ≡ length l → used l ≡ length l) → fin.len m < 65536 → place < 65536
-place_fits spots l count m place s is bound full space = ⊎_elim
-    (λ (less : place < length l). omega (arith, ap length is, s.few))
-    (λ (more : length l ≤ place). let e : place ≡ length l = omega (arith, more, bound) in omega (arith, full e, ap used is, s.counted, s.filled))
-    (cases_lt place (length l))
-
 pub fresh : (spots : List (Option Spot)) (count : ℕ) (m : Nodes) (place : ℕ) → IsStored spots count m → held spots place ≡ None → (path : List (List ℕ)) → number_at m path ≡ Some place → ⊥
 fresh spots count m place s empty path is =
     let node = node_at m path place is in

@@ -3,6 +3,7 @@ pub mod Tree
 pub mod Seen
 pub mod Changes
 pub mod Places
+pub mod Order
 pub mod Valid
 pub mod Edits
 pub mod Reads

@@ -1,5 +1,5 @@
 -- The places in which nodes are kept, and what may be done with them.
-use Rattle.std.specs.Prelude.{◌≡◌, ℕ, ◌+◌, ◌<◌, ◌≤◌, max, List, [], ◌∷◌, ◌++◌, length, take, Option, Some, None}
+use Rattle.std.specs.Prelude.{◌≡◌, ℕ, ◌+◌, ◌<◌, ◌≤◌, min, max, List, [], ◌∷◌, ◌++◌, length, take, Option, Some, None}
 use Rattle.std.specs.FinMap as fin
 use Rattle.plain_tree.specs.Seen.{CanLeave, CanMove}
 use Rattle.file_tree.specs.declared.nodes.Node.{Node}
@@ -13,6 +13,16 @@ pub record Stored : Type 0 where
   pub nodes : Nodes
   pub spare : ℕ
   pub slots : ℕ
+
+-- what stands at each path, for how many places more there is memory, and what is kept at each place
+pub record StoreView : Type 0 where
+  pub nodes : Nodes
+  pub spare : ℕ
+  pub spots : List (Option Spot)
+
+-- the least of three numbers
+abbrev pub least : ℕ → ℕ → ℕ → ℕ
+least a b c = min a (min b c)
 
 -- how many places are used
 abbrev pub used : List (Option Spot) → ℕ
@@ -46,12 +56,28 @@ pub record CanPut (t : Stored) (dir : ℕ) (name : List ℕ) : Type 0 where
   pub space : fin.len t.nodes < 65536
   pub room : 1 ≤ t.spare
 
--- a node may be put behind all others, under a name into the directory with this number
-pub record CanAppend (t : Stored) (dir : ℕ) (name : List ℕ) : Type 0 where
+-- a node may be put at this place, under a name into the directory with this number
+pub record CanFill (t : StoreView) (place dir : ℕ) (name : List ℕ) : Type 0 where
   pub path : Path
   pub stands : number_at t.nodes path ≡ Some dir
   pub free : fin.get t.nodes (path ++ name ∷ []) ≡ None
-  pub space : t.slots < 65536
+  pub within : place < length t.spots
+  pub empty : held t.spots place ≡ None
+
+-- a node may be put behind all others, under a name into the directory with this number
+pub record CanAppend (t : StoreView) (dir : ℕ) (name : List ℕ) : Type 0 where
+  pub path : Path
+  pub stands : number_at t.nodes path ≡ Some dir
+  pub free : fin.get t.nodes (path ++ name ∷ []) ≡ None
+  pub space : length t.spots < 65536
+
+-- a node may be stored, under a name in the directory with this number
+pub record CanStore (t : StoreView) (dir : ℕ) (name : List ℕ) : Type 0 where
+  pub path : Path
+  pub stands : number_at t.nodes path ≡ Some dir
+  pub free : fin.get t.nodes (path ++ name ∷ []) ≡ None
+  pub space : used t.spots < 65536
+  pub room : 1 ≤ t.spare
 
 -- the node with this number may be taken out, as in the plain tree
 pub record CanTake (m : Nodes) (number : ℕ) : Type 0 where

@@ -60,16 +60,6 @@ abbrev pub child : List (Option Spot) → ℕ → List ℕ → Option Spot
 child [] dir name = None
 child (spot ∷ spots) dir name = if is_child dir name spot then spot else child spots dir name
 
--- it is kept in the directory with this number
-abbrev pub is_in : ℕ → Option Spot → Bool
-is_in dir None = false
-is_in dir (Some spot) = not (spot.node.number == 0) && spot.parent == dir
-
--- something is
-abbrev pub any_in : List (Option Spot) → ℕ → Bool
-any_in [] dir = false
-any_in (spot ∷ spots) dir = if is_in dir spot then true else any_in spots dir
-
 abbrev pub node_in : Option Spot → Option Node
 node_in spot = option_map (λ (s : Spot). s.node) spot
 

@@ -1,7 +1,6 @@
 -- The nodes of a tree as an index tells them (LTFS 2.4 on the index).
-use Rattle.std.specs.Prelude.{◌≡◌, ℕ, ◌+◌, List, [], ◌∷◌, ◌==◌, if◌then◌else◌, map, nat_lt, Option, Some, None}
+use Rattle.std.specs.Prelude.{◌≡◌, ℕ, ◌+◌, List, [], ◌∷◌, ◌==◌, if◌then◌else◌, map, Option, Some, None}
 use Rattle.std.specs.FinMap as fin
-use Rattle.std.specs.BTreeMap.{BTreeMap, get}
 use Rattle.tape_types.specs.declared.cartridges.Extent.{Extent}
 use Rattle.tape_types.specs.declared.cartridges.Part.{Part}
 use Rattle.tape_types.specs.declared.cartridges.Part.TheVariants as parts
@@ -10,7 +9,7 @@ use Rattle.index_model.specs.declared.nodes.Kind as told_kind
 use Rattle.index_model.specs.declared.nodes.Kind.TheVariants as told_kinds
 use Rattle.index_model.specs.declared.nodes.RawExtent.{RawExtent}
 use Rattle.index_model.specs.Places.{IsAt}
-use Rattle.plain_tree.specs.Paths.{path_cmp, same_path, parent_of, last_name}
+use Rattle.plain_tree.specs.Paths.{same_path, parent_of, last_name}
 use Rattle.file_tree.specs.declared.nodes.Node.{Node}
 use Rattle.file_tree.specs.declared.nodes.Kind.{Kind}
 use Rattle.file_tree.specs.declared.nodes.Kind.TheVariants as kinds
@@ -82,18 +81,3 @@ ArePlaces nodes places = (path : Path) (number : ℕ) → number_at nodes path �
 -- no number stands at two places
 abbrev pub AreApart : List ℕ → Type 0
 AreApart numbers = (a b number : ℕ) → IsAt numbers a number → IsAt numbers b number → a ≡ b
-
--- the number, where it is below a bound
-abbrev pub below : ℕ → Option ℕ → Option ℕ
-below bound None = None
-below bound (Some number) = if nat_lt number bound then Some number else None
-
--- the first path of a node with this number
-abbrev pub path_with : ℕ → List (Path × Node) → Path
-path_with number [] = []
-path_with number (e ∷ es) = if e.1.number == number then e.0 else path_with number es
-
--- under the path stands this number now, and all others are as they were
-pub record PutsPath (before next : BTreeMap (Path) ℕ) (path : Path) (number : ℕ) : Type 0 where
-  pub here : get path_cmp next path ≡ Some number
-  pub others : (q : Path) → (q ≡ path → ⊥) → get path_cmp next q ≡ get path_cmp before q

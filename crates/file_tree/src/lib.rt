@@ -9,6 +9,7 @@ mod laws;
 mod listing;
 mod mount;
 mod nodes;
+mod order;
 #[cfg(test)]
 mod outside;
 mod places;
@@ -16,6 +17,7 @@ mod places;
 mod play;
 mod raws;
 mod spots;
+mod store;
 #[cfg(test)]
 mod tests;
 mod told;

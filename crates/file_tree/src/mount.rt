@@ -6,6 +6,7 @@ ghost use Rattle.file_tree.specs.Valid.{AreFilesOf};
 use crate::nodes::{Kind, Node};
 use crate::places::Places;
 use crate::raws::{Letters, extents_from};
+use crate::store::Store;
 use index_model::{Kind as ToldKind, Node as ToldNode};
 use std::alloc::Global;
 use tape_types::NoMemory;
@@ -21,17 +22,32 @@ pub fn place_nodes(
     ensures built { IfOk result (λ places. IsBuilt letters block_size nodes.now (length nodes.now) places.nodes) }
     ensures files { IfOk result (λ places. AreFilesOf block_size places.nodes) }
 {
+    let store = store_nodes(alloc, nodes, letters, block_size)?;
+    Places::from_store(alloc, store)
+}
+
+fn store_nodes(
+    alloc: Global,
+    nodes: &[ToldNode],
+    letters: Letters,
+    block_size: u32,
+) -> Result<Store, NoMemory>
+    requires { AreTold letters block_size nodes.now }
+    ensures built { IfOk result (λ store. IsBuilt letters block_size nodes.now (length nodes.now) store.nodes) }
+    ensures slots { IfOk result (λ store. length store.spots ≡ length nodes.now) }
+    ensures files { IfOk result (λ store. AreFilesOf block_size store.nodes) }
+{
     let root = node_from(alloc, &nodes[0], letters, block_size)?;
-    let mut places = Places::new(alloc, root)?;
+    let mut store = Store::new(alloc, root)?;
     for at in 1..nodes.len() {
-        add_node(&mut places, alloc, nodes, at, letters, block_size)?;
+        add_node(&mut store, alloc, nodes, at, letters, block_size)?;
     }
-    Ok(places)
+    Ok(store)
 }
 
 /// Puts the node at a place of an index behind those before it.
 fn add_node(
-    places: &mut Places,
+    store: &mut Store,
     alloc: Global,
     nodes: &[ToldNode],
     at: usize,
@@ -41,17 +57,17 @@ fn add_node(
     requires told { AreTold letters block_size nodes.now }
     requires behind { 0 < at }
     requires within { at < length nodes.now }
-    requires built { IsBuilt letters block_size nodes.now at places.old.nodes }
-    requires slots { places.old.slots ≡ at }
-    requires files { AreFilesOf block_size places.old.nodes }
-    ensures built { OnOk result (IsBuilt letters block_size nodes.now (at + 1) places.new.nodes) }
-    ensures slots { OnOk result (places.new.slots ≡ at + 1) }
-    ensures files { OnOk result (AreFilesOf block_size places.new.nodes) }
+    requires built { IsBuilt letters block_size nodes.now at store.old.nodes }
+    requires slots { length store.old.spots ≡ at }
+    requires files { AreFilesOf block_size store.old.nodes }
+    ensures built { OnOk result (IsBuilt letters block_size nodes.now (at + 1) store.new.nodes) }
+    ensures slots { OnOk result (length store.new.spots ≡ at + 1) }
+    ensures files { OnOk result (AreFilesOf block_size store.new.nodes) }
 {
     let told = &nodes[at];
     let node = node_from(alloc, told, letters, block_size)?;
     let name = told.name.try_clone(alloc)?;
-    places.append(told.parent, name, node)
+    store.append(told.parent, name, node)
 }
 
 /// The node that is told. Its number is given when it is put into the tree, or 0.

@@ -1,37 +1,42 @@
-ghost use Rattle.std.specs.Prelude.{◌≡◌};
-ghost use Rattle.file_tree.specs.Seen.{Seen, Seen-prop};
+ghost use Rattle.std.specs.Prelude.{◌≡◌, ◌≢◌, ℕ, ◌+◌, ◌<◌, ◌≤◌, [], ◌∷◌, ◌++◌, length, Some, None, vec_capacity};
+ghost use Rattle.std.specs.FinMap as fin;
+ghost use Rattle.plain_tree.specs.Paths.{Path};
+ghost use Rattle.file_tree.specs.Tree.{number_at};
+ghost use Rattle.file_tree.specs.Seen.{held};
+ghost use Rattle.file_tree.specs.Order.{AreEmpty};
+ghost use Rattle.file_tree.specs.Places.{used, CanStore, IsSetIn};
 
 use crate::changes::Change;
-use crate::listing::{lines_of, names_in};
-use crate::nodes::{Node, Spot};
+use crate::listing::lines_of;
+use crate::nodes::Node;
+use crate::order::{child, ordered, place_at, place_of, push_run, run};
 use crate::raws::Letters;
-use crate::spots::{
-    any_in, change_spot, child, first_empty, put_spot, reserve_spot, shift_spot, spot_at, take_spot,
-};
-use crate::told::{Paths, numbers_of, places_of, put_path, told_node};
+use crate::store::Store;
+use crate::told::{places_of, told_node};
 use index_model::Node as ToldNode;
 use plain_tree::Entry;
 use std::alloc::Global;
-use std::collections::BTreeMap;
 use std::marker::Model;
 use tape_types::{List, Moment, NoMemory, Text};
 
-/// The nodes at their numbers, each under its name in its directory. A place is empty where no node has its number.
+/// The nodes at their numbers, and beside them the order in which they stand in their directories. So a name is found in
+/// the time of a logarithm, and what is in a directory stands together, by the bytes of the names.
 #[derive(Drop)]
 pub struct Places {
-    spots: Vec<Option<Spot>>,
-    count: u32,
-    ghost seen: { Seen spots.items } by { Seen-prop spots.items },
+    store: Store,
+    order: Vec<u32>,
+    free: Vec<u32>,
 }
 
 impl Model for Places {
-    ghost use Rattle.std.specs.Prelude.{ℕ, ◌-◌, refl, length, vec_len, vec_capacity};
+    ghost use Rattle.std.specs.Prelude.{ℕ, ◌-◌, refl, length, vec_capacity};
     ghost use Rattle.std.specs.FinMap as fin;
     ghost use Rattle.std.specs.Coded.{coded_list, coded_ℕ, coded×, code_by};
     ghost use Rattle.plain_tree.specs.Paths.{path_cmp};
     ghost use Rattle.file_tree.specs.declared.nodes.Node.{Node};
     ghost use Rattle.file_tree.specs.contracts.nodes.Node as node;
-    ghost use Rattle.file_tree.specs.Places.{Stored, IsStored};
+    ghost use Rattle.file_tree.specs.Places.{Stored, least};
+    ghost use Rattle.file_tree.specs.Order.{IsIndexed};
 
     ghost Value = { Stored };
 
@@ -40,41 +45,38 @@ impl Model for Places {
         (λ t. (t.nodes, (t.spare, t.slots))) (λ p. record { nodes = p.0; spare = p.1.0; slots = p.1.1 }) (λ _. refl) };
 
     ghost view = { λ a. record {
-      nodes = a.seen.0;
-      spare = vec_capacity a.spots - vec_len a.spots;
-      slots = length a.spots.items;
+      nodes = a.store.nodes;
+      spare = least a.store.spare (vec_capacity a.order - length a.store.spots) (vec_capacity a.free - length a.store.spots);
+      slots = length a.store.spots;
     } };
 
-    ghost invariant = { λ a. IsStored a.spots.items a.count a.seen.0 };
+    ghost invariant = { λ a. IsIndexed a.store.spots a.order.items a.free.items (vec_capacity a.order)
+        (vec_capacity a.free) };
 }
 
 impl Places {
     ghost use Rattle.std.specs.Prelude.{◌≡◌, ◌≢◌, ℕ, ◌+◌, ◌≤◌, nat_lt, length, List, [], ◌∷◌, ◌++◌, map, Some, OnOk, IfOk, IfErr};
     ghost use Rattle.std.specs.FinMap as fin;
     ghost use Rattle.file_tree.specs.declared.nodes.Node.{Node};
-    ghost use Rattle.plain_tree.specs.Paths.{Path};
+    ghost use Rattle.plain_tree.specs.Paths.{Path, parent_of, last_name};
     ghost use Rattle.file_tree.specs.Tree.{number_at, moved, plain_nodes, whole};
     ghost use Rattle.extent_map.specs.Cells.{Tape};
     ghost use Rattle.plain_tree.specs.Tree.{entries_in};
     ghost use Rattle.file_tree.specs.Changes.{CanChange, IsChangedAt, IsChangedBy, IsRoomier, HasRoom};
-    ghost use Rattle.std.specs.BTreeMap.{get};
-    ghost use Rattle.plain_tree.specs.Paths.{path_cmp, parent_of, last_name};
-    ghost use Rattle.file_tree.specs.Told.{name_or, told_of, told_in, ArePlaces, PutsPath};
-    ghost use Rattle.file_tree.specs.Places.{IsThere, IsLast, CanPut, CanAppend, CanTake, CanShift};
+    ghost use Rattle.file_tree.specs.Told.{name_or, told_of, told_in, ArePlaces};
+    ghost use Rattle.file_tree.specs.Order.{IsRunOf};
+    ghost use Rattle.file_tree.specs.Places.{IsThere, IsLast, CanPut, CanTake, CanShift};
 
-    /// The root alone.
-    pub fn new(alloc: Global, root: Node) -> Result<Places, NoMemory>
-        requires { root.number ≡ 0 }
-        ensures nodes { IfOk result (λ t. t.nodes ≡ fin.insert fin.empty [] root) }
-        ensures slots { IfOk result (λ t. t.slots ≡ 1) }
+    /// The nodes that are stored, where no place is empty.
+    pub fn from_store(alloc: Global, store: Store) -> Result<Places, NoMemory>
+        requires { length store.spots ≡ fin.len store.nodes }
+        ensures { IfOk result (λ t. t.nodes ≡ store.nodes) }
     {
-        let mut spots = Vec::new(alloc);
-        spots.push(Some(Spot {
-            parent: 0,
-            name: Text::from_string(String::new(alloc)),
-            node: root,
-        }))?;
-        Ok(Places { spots, count: 1 })
+        let mut order = ordered(alloc, store.spots())?;
+        order.reserve(1)?;
+        let mut free = Vec::new(alloc);
+        free.reserve(store.spots().len())?;
+        Ok(Places { store, order, free })
     }
 
     pub fn len(&self) -> u32
@@ -82,7 +84,7 @@ impl Places {
         ensures apart { (p q : Path) (number : ℕ) → number_at self.now.nodes p ≡ Some number
             → number_at self.now.nodes q ≡ Some number → p ≡ q }
     {
-        self.count
+        self.store.len()
     }
 
     /// The node with a number.
@@ -91,7 +93,7 @@ impl Places {
         ensures { (path : Path) → number_at self.now.nodes path ≡ Some number
             → fin.get self.now.nodes path ≡ Some result.now }
     {
-        &spot_at(&self.spots, number).node
+        self.store.node(number)
     }
 
     /// The number of the directory that a node is in.
@@ -104,63 +106,29 @@ impl Places {
         ensures apart { (p q : Path) (n : ℕ) → number_at self.now.nodes p ≡ Some n
             → number_at self.now.nodes q ≡ Some n → p ≡ q }
     {
-        spot_at(&self.spots, number).parent
+        self.store.parent(number)
     }
 
-    /// The name under which a node is in its directory.
-    pub fn name(&self, number: u32) -> &Text
-        requires { IsThere self.now.nodes number }
-        ensures { (path : Path) (name : List ℕ) → number_at self.now.nodes (path ++ name ∷ []) ≡ Some number
-            → result.now ≡ name }
+    /// The numbers of what is in a directory, by the bytes of the names.
+    fn run(&self, dir: u32) -> &[u32]
+        requires { IsThere self.now.nodes dir }
+        ensures { IsRunOf self.now.nodes dir result.now }
     {
-        &spot_at(&self.spots, number).name
-    }
-
-    /// The path of a node.
-    pub fn path(&self, alloc: Global, number: u32) -> Result<List<Text>, NoMemory>
-        requires { IsThere self.now.nodes number }
-        ensures { IfOk result (λ path. number_at self.now.nodes path ≡ Some number) }
-    {
-        let _shown = &self.spots;
-        let mut names = Vec::new(alloc);
-        let mut at = number;
-        while at != 0 {
-            names.push(self.name(at).try_clone(alloc)?)?;
-            at = self.parent(at);
-        }
-        names.reverse();
-        Ok(List::from_vec(names))
-    }
-
-    /// Puts in the path of a node.
-    fn put_number(&self, paths: &mut Paths, alloc: Global, number: u32) -> Result<(), NoMemory>
-        requires { IsThere self.now.nodes number }
-        ensures { OnOk result ((path : Path) × (number_at self.now.nodes path ≡ Some number)
-            × PutsPath paths.old paths.new path number) }
-    {
-        let path = self.path(alloc, number)?;
-        put_path(paths, path, number)
-    }
-
-    /// The numbers of all nodes, by their paths.
-    fn paths(&self, alloc: Global) -> Result<Paths, NoMemory>
-        ensures { IfOk result (λ paths. (path : Path) → get path_cmp paths path ≡ number_at self.now.nodes path) }
-    {
-        let mut paths = BTreeMap::new(alloc);
-        for spot in &self.spots {
-            if let Some(spot) = spot {
-                self.put_number(&mut paths, alloc, spot.node.number)?;
-            }
-        }
-        Ok(paths)
+        run(self.store.spots(), &self.order, dir)
     }
 
     /// The numbers of all nodes, in the order of their paths.
     fn numbers(&self, alloc: Global) -> Result<Vec<u32>, NoMemory>
         ensures { IfOk result (λ numbers. numbers.items ≡ map (λ e. e.1.number) (fin.entries self.now.nodes)) }
     {
-        let paths = self.paths(alloc)?;
-        numbers_of(alloc, &paths)
+        let _shown = self.store.spots();
+        let mut numbers = Vec::new(alloc);
+        let mut open = vec![in alloc; 0u32; 1]?;
+        while let Some(number) = open.pop() {
+            numbers.push(number)?;
+            push_run(&mut open, self.run(number))?;
+        }
+        Ok(numbers)
     }
 
     /// The last name of a node's path, or for the root that of the volume.
@@ -169,11 +137,11 @@ impl Places {
         ensures { IfOk result (λ name. (path : Path) → number_at self.now.nodes path ≡ Some number
             → name ≡ name_or volume.now (last_name path)) }
     {
-        let _shown = &self.spots;
+        let _shown = self.store.len();
         if number == 0 {
             return Ok(volume.try_clone(alloc)?);
         }
-        Ok(self.name(number).try_clone(alloc)?)
+        Ok(self.store.name(number).try_clone(alloc)?)
     }
 
     /// A node as an index tells it, with the places of all nodes at their numbers.
@@ -205,7 +173,7 @@ impl Places {
         ensures { IfOk result (λ nodes. nodes ≡ told_in letters volume.now self.now.nodes) }
     {
         let numbers = self.numbers(alloc)?;
-        let places = places_of(alloc, &numbers, self.spots.len())?;
+        let places = places_of(alloc, &numbers, self.store.spots().len())?;
         let mut nodes = List::new(alloc);
         for number in &numbers {
             nodes.push(self.told(alloc, *number, &places, volume, letters)?)?;
@@ -219,7 +187,7 @@ impl Places {
         ensures { (path : Path) → number_at self.now.nodes path ≡ Some dir
             → number_at self.now.nodes (path ++ name.now ∷ []) ≡ result }
     {
-        child(&self.spots, dir, name)
+        child(self.store.spots(), &self.order, dir, name.as_str())
     }
 
     /// Whether anything stands directly in a directory.
@@ -228,7 +196,7 @@ impl Places {
         ensures { (path : Path) → number_at self.now.nodes path ≡ Some dir
             → result ≡ nat_lt 0 (length (entries_in (plain_nodes whole self.now.nodes) path)) }
     {
-        any_in(&self.spots, dir)
+        run(self.store.spots(), &self.order, dir).len() > 0
     }
 
     /// What stands directly in a directory, by the bytes of the names.
@@ -237,8 +205,8 @@ impl Places {
         ensures { IfOk result (λ entries. (tape : Tape) (path : Path) → number_at self.now.nodes path ≡ Some dir
             → entries ≡ entries_in (plain_nodes tape self.now.nodes) path) }
     {
-        let names = names_in(alloc, &self.spots, dir)?;
-        lines_of(alloc, &names)
+        let numbers = run(self.store.spots(), &self.order, dir);
+        lines_of(alloc, self.store.spots(), numbers)
     }
 
     /// The number of the node at a path, or of the last one on the way there.
@@ -246,7 +214,8 @@ impl Places {
         ensures there { IfOk result (λ number. number_at self.now.nodes path.now ≡ Some number) }
         ensures missing { IfErr result (λ number. IsLast self.now.nodes path.now number) }
     {
-        let mut number = spot_at(&self.spots, 0).node.number;
+        let mut number = 0;
+        let _shown = self.store.len();
         for name in path {
             match self.child(number, name) {
                 Some(next) => number = next,
@@ -261,7 +230,11 @@ impl Places {
         ensures same { self.new.nodes ≡ self.old.nodes }
         ensures room { OnOk result (1 ≤ self.new.spare) }
     {
-        Ok(self.spots.reserve(1)?)
+        self.store.reserve()?;
+        let slots = self.store.spots().len();
+        self.order.reserve(slots + 1 - self.order.len())?;
+        self.free.reserve(slots + 1 - self.free.len())?;
+        Ok(())
     }
 
     /// Puts a node under a name into a directory, and gives it a number that no node has. Takes no memory.
@@ -272,37 +245,12 @@ impl Places {
         ensures fresh { (path : Path) → number_at self.old.nodes path ≢ Some result }
         ensures room { self.old.spare ≤ self.new.spare + 1 }
     {
-        let place = first_empty(&self.spots);
-        let number = place as u32;
-        put_spot(
-            &mut self.spots,
-            place,
-            Spot {
-                parent: dir,
-                name,
-                node: numbered(node, number),
-            },
-        );
-        self.count += 1;
+        let place = place_of(self.store.spots(), &self.order, dir, name.as_str());
+        let number = store_node(&mut self.store, &mut self.free, dir, name, node);
+        if self.order.insert(place, number).is_err() {
+            unreachable!();
+        }
         number
-    }
-
-    /// Puts a node behind all others, under a name into a directory. Its number is the count of places before.
-    pub fn append(&mut self, dir: u32, name: Text, node: Node) -> Result<(), NoMemory>
-        requires { CanAppend self.old dir name }
-        ensures nodes { OnOk result ((path : Path) → number_at self.old.nodes path ≡ Some dir
-            → self.new.nodes
-            ≡ fin.insert self.old.nodes (path ++ name ∷ []) (record node { number = self.old.slots })) }
-        ensures slots { OnOk result (self.new.slots ≡ self.old.slots + 1) }
-    {
-        let number = self.spots.len() as u32;
-        self.spots.push(Some(Spot {
-            parent: dir,
-            name,
-            node: numbered(node, number),
-        }))?;
-        self.count += 1;
-        Ok(())
     }
 
     /// Takes out a node that has nothing in it.
@@ -313,8 +261,13 @@ impl Places {
             → self.new.nodes ≡ fin.remove self.old.nodes path }
         ensures room { self.new.spare ≡ self.old.spare }
     {
-        take_spot(&mut self.spots, number);
-        self.count -= 1;
+        let place = place_at(self.store.spots(), &self.order, number);
+        self.order.remove(place);
+        self.store.take(number);
+        let end = self.free.len();
+        if self.free.insert(end, number).is_err() {
+            unreachable!();
+        }
     }
 
     /// Moves a node, and all below it, under a name into a directory. Takes no memory.
@@ -324,7 +277,13 @@ impl Places {
             → number_at self.old.nodes up ≡ Some dir → self.new.nodes ≡ moved from (up ++ name ∷ []) self.old.nodes }
         ensures room { self.new.spare ≡ self.old.spare }
     {
-        shift_spot(&mut self.spots, number, dir, name);
+        let from = place_at(self.store.spots(), &self.order, number);
+        self.order.remove(from);
+        let to = place_of(self.store.spots(), &self.order, dir, name.as_str());
+        self.store.shift(number, dir, name);
+        if self.order.insert(to, number).is_err() {
+            unreachable!();
+        }
     }
 
     /// Changes a node. Takes no memory.
@@ -335,7 +294,7 @@ impl Places {
         ensures changed { IsChangedAt self.old.nodes self.new.nodes number (λ a b. IsChangedBy change at a b) }
         ensures room { self.new.spare ≡ self.old.spare }
     {
-        change_spot(&mut self.spots, number, change, at);
+        self.store.change(number, change, at);
     }
 
     /// Makes room for one overlay of a node that is a file.
@@ -345,12 +304,39 @@ impl Places {
             (λ a b. IsRoomier a b × OnOk result (HasRoom b)) }
         ensures room { self.new.spare ≡ self.old.spare }
     {
-        reserve_spot(&mut self.spots, number)
+        self.store.reserve_extent(number)
     }
 }
 
-fn numbered(node: Node, number: u32) -> Node
-    ensures { result ≡ record node { number = number } }
+/// Puts a node at an empty place, or behind all others where none is empty. Gives its number.
+fn store_node(store: &mut Store, free: &mut Vec<u32>, dir: u32, name: Text, node: Node) -> u32
+    requires can { CanStore store.old dir name }
+    requires empty { AreEmpty (held store.old.spots) (length store.old.spots) free.old.items }
+    requires full { free.old.items ≡ [] → used store.old.spots ≡ length store.old.spots }
+    ensures put { (path : Path) → number_at store.old.nodes path ≡ Some dir
+        → store.new.nodes ≡ fin.insert store.old.nodes (path ++ name ∷ []) (record node { number = result }) }
+    ensures fresh { (path : Path) → number_at store.old.nodes path ≢ Some result }
+    ensures spots { IsSetIn store.old.spots store.new.spots result
+        (Some (record { parent = dir; name = name; node = record node { number = result } })) }
+    ensures unused { held store.old.spots result ≡ None }
+    ensures empty { AreEmpty (held store.new.spots) (length store.new.spots) free.new.items }
+    ensures filled { used store.new.spots ≡ used store.old.spots + 1 }
+    ensures places { length store.new.spots + length free.old.items ≡ length store.old.spots + length free.new.items + 1 }
+    ensures slots { length store.new.spots ≤ length store.old.spots + 1 }
+    ensures room { store.old.spare ≤ store.new.spare + 1 }
+    ensures capacity { vec_capacity free.new ≡ vec_capacity free.old }
 {
-    Node { number, ..node }
+    match free.pop() {
+        Some(number) => {
+            store.fill(number, dir, name, node);
+            number
+        }
+        None => {
+            let number = store.spots().len() as u32;
+            if store.append(dir, name, node).is_err() {
+                unreachable!();
+            }
+            number
+        }
+    }
 }

@@ -25,6 +25,26 @@ pub fn extents_from(
     ensures laid { IfOk result (λ room. room.laid ≡ laid_of letters block_size length raws.now) }
     ensures good { IfOk result (λ room. IsLaid room.laid) }
 {
+    if raws.is_sorted_by_key(|raw| raw.offset) {
+        return extents_in_turn(alloc, raws, length, letters, block_size);
+    }
+    let mut sorted = Vec::from_slice(alloc, raws)?;
+    sorted.sort_unstable_by_key(|raw| raw.offset);
+    extents_in_turn(alloc, &sorted, length, letters, block_size)
+}
+
+/// The same, one extent after the other. That costs least where they stand by their offsets.
+fn extents_in_turn(
+    alloc: Global,
+    raws: &[RawExtent],
+    length: u64,
+    letters: Letters,
+    block_size: u32,
+) -> Result<Extents, NoMemory>
+    requires { AreRaws letters block_size length raws.now }
+    ensures laid { IfOk result (λ room. room.laid ≡ laid_of letters block_size length raws.now) }
+    ensures good { IfOk result (λ room. IsLaid room.laid) }
+{
     let mut extents = Extents::new(alloc, block_size);
     for raw in raws {
         put_raw(&mut extents, *raw, length, letters)?;

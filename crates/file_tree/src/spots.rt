@@ -1,7 +1,6 @@
-ghost use Rattle.std.specs.Prelude.{◌≡◌, ℕ, ◌+◌, ◌-◌, None, Some, ◌<◌, ◌≤◌, length, IsSome, OnOk, vec_len, vec_capacity};
-ghost use Rattle.std.specs.Option.{option_map};
+ghost use Rattle.std.specs.Prelude.{◌≡◌, ◌+◌, ◌-◌, None, Some, ◌<◌, length, IsSome, OnOk, vec_len, vec_capacity};
 ghost use Rattle.file_tree.specs.declared.nodes.Spot.{Spot};
-ghost use Rattle.file_tree.specs.Seen.{held, is_child as is_child_of, child as child_in, is_in as is_in_dir, any_in as any_kept};
+ghost use Rattle.file_tree.specs.Seen.{held};
 ghost use Rattle.file_tree.specs.Changes.{CanChange, IsChangedBy, IsRoomier, HasRoom};
 ghost use Rattle.file_tree.specs.Places.{used, IsChangedIn, IsSetIn};
 
@@ -23,82 +22,23 @@ pub fn spot_at(spots: &[Option<Spot>], number: u32) -> &Spot
     }
 }
 
-/// The number of the first spot under a name in a directory.
-pub fn child(spots: &[Option<Spot>], dir: u32, name: &Text) -> Option<u32>
-    ensures { result ≡ option_map (λ (s : Spot). s.node.number) (child_in spots.now dir name.now) }
-{
-    for spot in spots {
-        if let Some(spot) = spot {
-            if is_child(spot, dir, name) {
-                return Some(spot.node.number);
-            }
-        }
-    }
-    None
-}
-
-/// Whether anything is kept in a directory.
-pub fn any_in(spots: &[Option<Spot>], dir: u32) -> bool
-    ensures { result ≡ any_kept spots.now dir }
-{
-    for spot in spots {
-        if let Some(spot) = spot {
-            if is_in(spot, dir) {
-                return true;
-            }
-        }
-    }
-    false
-}
-
-pub fn is_in(spot: &Spot, dir: u32) -> bool
-    ensures { result ≡ is_in_dir dir (Some spot.now) }
-{
-    spot.node.number != 0 && spot.parent == dir
-}
-
-fn is_child(spot: &Spot, dir: u32, name: &Text) -> bool
-    ensures { result ≡ is_child_of dir name.now (Some spot.now) }
-{
-    spot.node.number != 0 && spot.parent == dir && spot.name == *name
-}
-
-/// The first place where nothing is kept.
-pub fn first_empty(spots: &[Option<Spot>]) -> usize
-    ensures bound { result ≤ length spots.now }
-    ensures empty { held spots.now result ≡ None }
-    ensures full { result ≡ length spots.now → used spots.now ≡ length spots.now }
-{
-    let mut place = 0;
-    for spot in spots {
-        if spot.is_none() {
-            return place;
-        }
-        place += 1;
-    }
-    place
-}
-
-/// Keeps a spot where nothing is kept, by the memory that is there.
-pub fn put_spot(spots: &mut Spots, place: usize, spot: Spot)
-    requires bound { place ≤ vec_len spots.old }
-    requires empty { held spots.old.items place ≡ None }
-    requires room { vec_len spots.old < vec_capacity spots.old }
-    ensures set { IsSetIn spots.old.items spots.new.items place (Some spot) }
+/// Keeps a spot at a place where nothing is kept.
+pub fn fill_spot(spots: &mut Spots, number: u32, spot: Spot)
+    requires within { number < vec_len spots.old }
+    requires empty { held spots.old.items number ≡ None }
+    ensures set { IsSetIn spots.old.items spots.new.items number (Some spot) }
+    ensures slots { length spots.new.items ≡ length spots.old.items }
     ensures filled { used spots.new.items ≡ used spots.old.items + 1 }
-    ensures room { vec_capacity spots.old - vec_len spots.old ≤ vec_capacity spots.new - vec_len spots.new + 1 }
+    ensures room { vec_capacity spots.new - vec_len spots.new ≡ vec_capacity spots.old - vec_len spots.old }
 {
-    if place < spots.len() {
-        spots[place] = Some(spot);
-    } else if spots.push(Some(spot)).is_err() {
-        unreachable!();
-    }
+    spots[number as usize] = Some(spot);
 }
 
 /// Keeps nothing where something is kept.
 pub fn take_spot(spots: &mut Spots, number: u32)
     requires { IsSome (held spots.old.items number) }
     ensures set { IsSetIn spots.old.items spots.new.items number None }
+    ensures slots { length spots.new.items ≡ length spots.old.items }
     ensures filled { used spots.new.items + 1 ≡ used spots.old.items }
     ensures room { vec_capacity spots.new - vec_len spots.new ≡ vec_capacity spots.old - vec_len spots.old }
 {
@@ -110,6 +50,7 @@ pub fn shift_spot(spots: &mut Spots, number: u32, dir: u32, name: Text)
     requires { IsSome (held spots.old.items number) }
     ensures set { (s : Spot) → held spots.old.items number ≡ Some s
         → IsSetIn spots.old.items spots.new.items number (Some (record { parent = dir; name = name; node = s.node })) }
+    ensures slots { length spots.new.items ≡ length spots.old.items }
     ensures filled { used spots.new.items ≡ used spots.old.items }
     ensures room { vec_capacity spots.new - vec_len spots.new ≡ vec_capacity spots.old - vec_len spots.old }
 {

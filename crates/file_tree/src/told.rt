@@ -1,39 +1,12 @@
-ghost use Rattle.std.specs.Prelude.{◌≡◌, ℕ, ◌<◌, ◌≤◌, map, length, OnOk, IfOk};
-ghost use Rattle.std.specs.List.Sorted.{IsStrictlySortedBy};
-ghost use Rattle.std.specs.Map.{keys_of};
+ghost use Rattle.std.specs.Prelude.{◌≡◌, ℕ, ◌<◌, ◌≤◌, map, length, IfOk};
 ghost use Rattle.index_model.specs.Places.{IsAt};
-ghost use Rattle.plain_tree.specs.Paths.{path_cmp};
-ghost use Rattle.file_tree.specs.Told.{letter_of as told_letter, raw_of as told_raw, told_kind_of, told_node_of, AreApart, PutsPath};
+ghost use Rattle.file_tree.specs.Told.{letter_of as told_letter, raw_of as told_raw, told_kind_of, told_node_of, AreApart};
 
 use crate::nodes::{Kind, Node};
 use crate::raws::Letters;
 use index_model::{Kind as ToldKind, Node as ToldNode, RawExtent};
 use std::alloc::Global;
-use std::collections::BTreeMap;
 use tape_types::{Extent, List, NoMemory, Part, Text};
-
-/// The numbers of nodes, by their paths.
-pub type Paths = BTreeMap<List<Text>, u32>;
-
-pub fn put_path(paths: &mut Paths, path: List<Text>, number: u32) -> Result<(), NoMemory>
-    ensures { OnOk result (PutsPath paths.old paths.new path number) }
-{
-    paths.insert(path, number)?;
-    Ok(())
-}
-
-/// The numbers in the order of their paths.
-pub fn numbers_of(alloc: Global, paths: &Paths) -> Result<Vec<u32>, NoMemory>
-    ensures numbers { IfOk result (λ numbers. numbers.items ≡ map (λ e. e.1) paths.now.entries) }
-    ensures ascend { IsStrictlySortedBy path_cmp (keys_of paths.now.entries) }
-{
-    let _paths_ascend = paths.len();
-    let mut numbers = Vec::new(alloc);
-    for (_, number) in paths {
-        numbers.push(*number)?;
-    }
-    Ok(numbers)
-}
 
 /// At each number the place that it has in the list. All are below the count.
 pub fn places_of(alloc: Global, numbers: &[u32], count: usize) -> Result<Vec<u32>, NoMemory>

@@ -1,16 +1,17 @@
-use Rattle.std.proofs.Common.{subst, [], drop}
-use Rattle.std.proofs.lemmas.List.{take_all, drop_all}
-use Rattle.file_tree.specs.Raws.{IsPlaced}
-use Rattle.file_tree.proofs.RawLemmas.{placed_all, placed_step}
+use Rattle.std.proofs.Common.{◌≡◌, ◌∙◌, sym, ap, subst}
+use Rattle.std.specs.List.Sorted.{IsPermutation}
+use Rattle.file_tree.proofs.ReadLemmas.{if_ok}
+use Rattle.file_tree.proofs.SortedRaws.{moved_raws, moved_laid}
 use Rattle.file_tree.proofs.raws.extents_from.Goals as goal
 
-pub loop-raw-preserved : goal.loop-raw-preserved
-loop-raw-preserved c = placed_step c.args.letters c.args.block_size c.args.length c.args.raws.now c.loop-raw.raw-index _ c.loop-raw.extents.laid c.put_raw.new.extents.laid c.loop-raw-test.true c.requires c.loop-raw.invariant c.in_ok-put_raw.ensures
+pub extents_in_turn-requires-2 : goal.extents_in_turn-requires-2
+extents_in_turn-requires-2 c =
+    let moved : IsPermutation c.args.raws.now c.deref.result.now =
+    subst (IsPermutation c.args.raws.now) (sym c.deref.ensures.value) (subst (λ l. IsPermutation l c.sort_unstable_by_key.new.self.items) c.in_ok-sorted.ensures.items c.sort_unstable_by_key.ensures.permutation) in
+    moved_raws c.args.letters c.args.block_size c.args.length c.args.raws.now c.deref.result.now moved c.requires
 
 pub returns-clause-laid : goal.returns-clause-laid
 returns-clause-laid c =
-    let raws = c.args.raws.now in
-    let done : IsPlaced c.args.letters c.args.block_size c.args.length raws [] c.loop-raw.extents.laid =
-    subst (λ l. IsPlaced c.args.letters c.args.block_size c.args.length raws l c.loop-raw.extents.laid) (drop_all c.loop-raw.raw-index raws c.loop-raw-test.false)
-    (subst (λ l. IsPlaced c.args.letters c.args.block_size c.args.length l (drop c.loop-raw.raw-index raws) c.loop-raw.extents.laid) (take_all c.loop-raw.raw-index raws c.loop-raw-test.false) c.loop-raw.invariant) in
-    placed_all c.args.letters c.args.block_size c.args.length raws c.loop-raw.extents.laid c.set_length.new.self.laid done c.set_length.ensures.extents
+    let moved : IsPermutation c.args.raws.now c.deref.result.now =
+    subst (IsPermutation c.args.raws.now) (sym c.deref.ensures.value) (subst (λ l. IsPermutation l c.sort_unstable_by_key.new.self.items) c.in_ok-sorted.ensures.items c.sort_unstable_by_key.ensures.permutation) in
+    if_ok c.extents_in_turn-2.result (λ room is. is ∙ moved_laid c.args.letters c.args.block_size c.args.length c.args.raws.now c.deref.result.now moved c.requires) c.extents_in_turn-2.ensures.laid

@@ -1,67 +1,14 @@
-use Rattle.std.proofs.Common.{rules}
-use Rattle.std.specs.FinMap as fin
-use Rattle.file_tree.specs.Seen.{held}
-use Rattle.file_tree.specs.Changes.{IsChangedBy}
-use Rattle.file_tree.proofs.ShownLemmas.{one_number, stands}
-use Rattle.file_tree.proofs.WalkLemmas.{seen}
-use Rattle.file_tree.proofs.PlaceLemmas.{there_held, node_now}
-use Rattle.file_tree.proofs.StoredLemmas.{stored_change, sole, still}
-use Rattle.file_tree.proofs.KeptLemmas.{kept_now}
+use Rattle.std.proofs.Common.{ap, subst, vec_capacity}
+use Rattle.file_tree.specs.Places.{Stored}
+use Rattle.file_tree.specs.Changes.{IsChangedAt, IsChangedBy}
+use Rattle.file_tree.proofs.IndexedLemmas.{changed_indexed}
 use Rattle.file_tree.proofs.places.Places.change.Goals as goal
-
-pub change_spot-requires-clause-there : goal.change_spot-requires-clause-there
-change_spot-requires-clause-there c =
-    let spots = c.self.inside.spots.items in
-    let m = c.args.self.now.nodes in
-    let s = kept_now c.self.inside c.args.self.now c.self.invariant c.self.view_is in
-    there_held (held spots) m s.shown c.args.number c.requires.there
-
-pub change_spot-requires-clause-can : goal.change_spot-requires-clause-can
-change_spot-requires-clause-can c z is =
-    let spots = c.self.inside.spots.items in
-    let m = c.args.self.now.nodes in
-    let s = kept_now c.self.inside c.args.self.now c.self.invariant c.self.view_is in
-    let at = stands (held spots) m s.shown c.args.number z is in c.requires.can at.0 z.node at.1 at.2
-
-pub invariant_of-self-inside : goal.invariant_of-self-inside
-invariant_of-self-inside c =
-    let spots = c.self.inside.spots.items in
-    let m = c.args.self.now.nodes in
-    let s = kept_now c.self.inside c.args.self.now c.self.invariant c.self.view_is in
-    let ch = c.change_spot.ensures.changed in
-    let next = c.change_spot.new.spots.items in
-    let now = fin.insert m c.requires.there.0 ch.new in
-    let t = stored_change spots next c.self.inside.count m s (λ a b. IsChangedBy c.args.change c.args.at a b) c.args.number ch c.requires.there.0 c.requires.there.1 in
-    (seen next now t.shown, tt)
 
 pub invariant_of-self : goal.invariant_of-self
 invariant_of-self c =
-    let spots = c.self.inside.spots.items in
-    let m = c.args.self.now.nodes in
-    let s = kept_now c.self.inside c.args.self.now c.self.invariant c.self.view_is in
-    let ch = c.change_spot.ensures.changed in
-    let next = c.change_spot.new.spots.items in
-    let now = fin.insert m c.requires.there.0 ch.new in
-    let t = stored_change spots next c.self.inside.count m s (λ a b. IsChangedBy c.args.change c.args.at a b) c.args.number ch c.requires.there.0 c.requires.there.1 in
-    still next c.self.inside.count now _ (search rules) t
+    let i = c.self.inside in
+    changed_indexed i.store.spots c.change.new.self.spots i.order.items i.free.items (vec_capacity i.order) (vec_capacity i.free) c.self.invariant _ c.args.number c.change.ensures.spots
 
 pub returns-clause-changed : goal.returns-clause-changed
 returns-clause-changed c =
-    let spots = c.self.inside.spots.items in
-    let m = c.args.self.now.nodes in
-    let s = kept_now c.self.inside c.args.self.now c.self.invariant c.self.view_is in
-    let ch = c.change_spot.ensures.changed in
-    let next = c.change_spot.new.spots.items in
-    let now = fin.insert m c.requires.there.0 ch.new in
-    let t = stored_change spots next c.self.inside.count m s (λ a b. IsChangedBy c.args.change c.args.at a b) c.args.number ch c.requires.there.0 c.requires.there.1 in
-    record {
-      path = c.requires.there.0;
-      old = ch.old.node;
-      new = ch.new;
-      there = node_now (held spots) m s.shown c.args.number ch.old ch.was c.requires.there.0 c.requires.there.1;
-      is = s.shown.numbered c.args.number ch.old ch.was;
-      only = λ p stood. one_number (held spots) m s.shown p c.requires.there.0 c.args.number stood c.requires.there.1;
-      kept = ch.same;
-      changed = ch.changed;
-      now = sole next c.self.inside.count now _ (search rules) t;
-    }
+    subst (λ m. IsChangedAt m c.change.new.self.nodes c.args.number (λ a b. IsChangedBy c.args.change c.args.at a b)) (ap (λ (t : Stored). t.nodes) c.self.view_is) c.change.ensures.changed

@@ -1,10 +1,27 @@
-use Rattle.std.proofs.Common.{ap, ◌∙◌}
-use Rattle.file_tree.specs.Seen.{any_in as any_kept}
-use Rattle.file_tree.proofs.ReadLemmas.{entries_any}
-use Rattle.file_tree.proofs.KeptLemmas.{kept_now}
+use Rattle.std.proofs.Common.{◌≡◌, nat_lt, length, sym, ap, ◌∙◌, subst, arith}
+use Rattle.file_tree.specs.declared.nodes.Spot.{Spot}
+use Rattle.file_tree.specs.Places.{Stored, IsSetIn}
+use Rattle.file_tree.specs.Seen.{held, IsShown}
+use Rattle.file_tree.specs.Order.{IsRun}
+use Rattle.file_tree.specs.Tree.{whole}
+use Rattle.file_tree.proofs.PlaceLemmas.{stored_now}
+use Rattle.file_tree.proofs.ToldLemmas.{few}
+use Rattle.file_tree.proofs.RunLemmas.{lines_are, count_lines}
 use Rattle.file_tree.proofs.places.Places.has_entries.Goals as goal
 
+pub run-requires-clause-small : goal.run-requires-clause-small
+run-requires-clause-small c =
+    let i = c.self.inside in
+    let m = c.args.self.now.nodes in
+    let same : i.store.nodes ≡ m = ap (λ (t : Stored). t.nodes) c.self.view_is in
+    let s = stored_now i.store.spots _ i.store.nodes m c.spots.ensures.stored same in
+    omega (arith, few i.store.spots m s.shown c.requires.0 c.args.dir c.requires.1, s.few)
+
 pub returns : goal.returns
-returns c path stands =
-    let s = kept_now c.self.inside c.args.self.now c.self.invariant c.self.view_is in
-    c.any_in.ensures ∙ ap (λ l. any_kept l c.args.dir) c.deref.ensures.value ∙ entries_any c.self.inside.spots.items c.args.self.now.nodes s.shown c.args.dir path stands
+returns c path there =
+    let i = c.self.inside in
+    let m = c.args.self.now.nodes in
+    let same : i.store.nodes ≡ m = ap (λ (t : Stored). t.nodes) c.self.view_is in
+    let s = stored_now i.store.spots _ i.store.nodes m c.spots.ensures.stored same in
+    let r = subst (λ l. IsRun (held l) c.args.dir c.run.result.now) c.spots.ensures.spots c.run.ensures in
+    ap (nat_lt 0) (sym (count_lines (held i.store.spots) c.args.dir c.run.result.now r.each) ∙ ap length (lines_are (held i.store.spots) m s.shown c.args.dir c.run.result.now r whole path there))

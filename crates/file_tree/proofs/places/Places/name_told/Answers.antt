@@ -1,16 +1,16 @@
-use Rattle.std.proofs.Common.{Some, ap, ◌∙◌}
-use Rattle.file_tree.specs.Seen.{held}
-use Rattle.file_tree.proofs.ShownLemmas.{one_number}
-use Rattle.file_tree.proofs.ToldLemmas.{name_of_root, name_of_other}
-use Rattle.file_tree.proofs.KeptLemmas.{kept_now}
+use Rattle.std.proofs.Common.{◌≡◌, [], ◌∷◌, ◌++◌, ap, ◌∙◌}
+use Rattle.file_tree.specs.Places.{Stored}
+use Rattle.file_tree.specs.Tree.{number_at}
+use Rattle.file_tree.proofs.PlaceLemmas.{stored_now}
+use Rattle.file_tree.proofs.ToldLemmas.{name_of_other}
 use Rattle.file_tree.proofs.places.Places.name_told.Goals as goal
-
-pub returns-then-number-eq0 : goal.returns-then-number-eq0
-returns-then-number-eq0 c path stands =
-    let s = kept_now c.self.inside c.args.self.now c.self.invariant c.self.view_is in
-    c.in_ok-try_clone.ensures ∙ name_of_root c.args.self.now.nodes c.args.volume.now (one_number (held c.self.inside.spots.items) c.args.self.now.nodes s.shown) s.shown.root path (stands ∙ ap (λ k. Some k) c.if-number-eq0.true)
 
 pub returns : goal.returns
 returns c path stands =
-    let s = kept_now c.self.inside c.args.self.now c.self.invariant c.self.view_is in
-    c.in_ok-try_clone-2.ensures ∙ name_of_other c.args.self.now.nodes c.args.volume.now c.name.result.now c.args.number c.if-number-eq0.false s.shown.root c.name.ensures path stands
+    let i = c.self.inside in
+    let m = c.args.self.now.nodes in
+    let same : i.store.nodes ≡ m = ap (λ (t : Stored). t.nodes) c.self.view_is in
+    let s = stored_now i.store.spots _ i.store.nodes m c.len-shown.ensures.stored same in
+    c.in_ok-try_clone-2.ensures
+    ∙ name_of_other m c.args.volume.now c.name.result.now c.args.number c.if-number-eq0.false s.shown.root
+    (λ p x is. c.name.ensures p x (ap (λ k. number_at k (p ++ x ∷ [])) same ∙ is)) path stands

@@ -1,60 +1,31 @@
-use Rattle.std.proofs.Common.{◌+◌, sym, ap, ◌∙◌, [], ◌∷◌, ◌++◌, rules}
-use Rattle.std.specs.FinMap as fin
-use Rattle.file_tree.specs.declared.nodes.Node.{Node}
-use Rattle.file_tree.specs.Seen.{held}
-use Rattle.file_tree.proofs.ShownLemmas.{one_number}
-use Rattle.file_tree.proofs.WalkLemmas.{seen}
-use Rattle.file_tree.proofs.StoredLemmas.{stored_put, sole, still, place_fits, fresh}
-use Rattle.file_tree.proofs.KeptLemmas.{kept_now}
+use Rattle.std.proofs.Common.{◌≡◌, ℕ, ◌-◌, ◌≤◌, length, sym, ap, ◌∙◌, arith, rules, vec_capacity}
+use Rattle.std.specs.List.{insert}
+use Rattle.file_tree.specs.declared.nodes.Spot.{Spot}
+use Rattle.file_tree.specs.Places.{Stored, least}
+use Rattle.file_tree.specs.Seen.{held, IsShown}
+use Rattle.file_tree.proofs.PlaceLemmas.{stored_now}
+use Rattle.file_tree.proofs.KeyLemmas.{comes_same, past_same}
+use Rattle.file_tree.proofs.IndexedLemmas.{put_indexed, none_under, root_held}
 use Rattle.file_tree.proofs.places.Places.put.Goals as goal
-
-pub invariant_of-self-inside : goal.invariant_of-self-inside
-invariant_of-self-inside c =
-    let spots = c.self.inside.spots.items in
-    let m = c.args.self.now.nodes in
-    let s = kept_now c.self.inside c.args.self.now c.self.invariant c.self.view_is in
-    let place = c.first_empty-place.result in
-    let next = c.put_spot.new.spots.items in
-    let node = c.numbered.result in
-    let now = fin.insert m (c.requires.path ++ c.args.name ∷ []) node in
-    let empty = ap (λ l. held l place) (sym c.deref.ensures.value) ∙ c.first_empty-place.ensures.empty in
-    let fits = place_fits spots c.deref.result.now c.self.inside.count m place s c.deref.ensures.value c.first_empty-place.ensures.bound c.first_empty-place.ensures.full c.requires.space in
-    let t = stored_put spots next c.self.inside.count m s c.requires.path c.args.name c.args.dir node place c.requires.stands c.requires.free (ap (λ (n : Node). n.number) c.numbered.ensures) empty fits c.put_spot.ensures.set c.put_spot.ensures.filled in
-    (seen next now t.shown, tt)
 
 pub invariant_of-self : goal.invariant_of-self
 invariant_of-self c =
-    let spots = c.self.inside.spots.items in
+    let i = c.self.inside in
     let m = c.args.self.now.nodes in
-    let s = kept_now c.self.inside c.args.self.now c.self.invariant c.self.view_is in
-    let place = c.first_empty-place.result in
-    let next = c.put_spot.new.spots.items in
-    let node = c.numbered.result in
-    let now = fin.insert m (c.requires.path ++ c.args.name ∷ []) node in
-    let empty = ap (λ l. held l place) (sym c.deref.ensures.value) ∙ c.first_empty-place.ensures.empty in
-    let fits = place_fits spots c.deref.result.now c.self.inside.count m place s c.deref.ensures.value c.first_empty-place.ensures.bound c.first_empty-place.ensures.full c.requires.space in
-    let t = stored_put spots next c.self.inside.count m s c.requires.path c.args.name c.args.dir node place c.requires.stands c.requires.free (ap (λ (n : Node). n.number) c.numbered.ensures) empty fits c.put_spot.ensures.set c.put_spot.ensures.filled in
-    still next (c.self.inside.count + 1) now _ (search rules) t
-
-pub returns-clause-put : goal.returns-clause-put
-returns-clause-put c path stood =
-    let spots = c.self.inside.spots.items in
-    let m = c.args.self.now.nodes in
-    let s = kept_now c.self.inside c.args.self.now c.self.invariant c.self.view_is in
-    let place = c.first_empty-place.result in
-    let next = c.put_spot.new.spots.items in
-    let node = c.numbered.result in
-    let now = fin.insert m (c.requires.path ++ c.args.name ∷ []) node in
-    let empty = ap (λ l. held l place) (sym c.deref.ensures.value) ∙ c.first_empty-place.ensures.empty in
-    let fits = place_fits spots c.deref.result.now c.self.inside.count m place s c.deref.ensures.value c.first_empty-place.ensures.bound c.first_empty-place.ensures.full c.requires.space in
-    let t = stored_put spots next c.self.inside.count m s c.requires.path c.args.name c.args.dir node place c.requires.stands c.requires.free (ap (λ (n : Node). n.number) c.numbered.ensures) empty fits c.put_spot.ensures.set c.put_spot.ensures.filled in
-    sole next (c.self.inside.count + 1) now _ (search rules) t
-    ∙ ap (λ p. fin.insert m (p ++ c.args.name ∷ []) node) (one_number (held spots) m s.shown c.requires.path path c.args.dir c.requires.stands stood)
-    ∙ ap (fin.insert m (path ++ c.args.name ∷ [])) c.numbered.ensures
-
-pub returns-clause-fresh : goal.returns-clause-fresh
-returns-clause-fresh c path stood =
-    let spots = c.self.inside.spots.items in
-    let m = c.args.self.now.nodes in
-    let s = kept_now c.self.inside c.args.self.now c.self.invariant c.self.view_is in
-    fresh spots c.self.inside.count m c.first_empty-place.result s (ap (λ l. held l c.first_empty-place.result) (sym c.deref.ensures.value) ∙ c.first_empty-place.ensures.empty) path stood
+    let same : i.store.nodes ≡ m = ap (λ (t : Stored). t.nodes) c.self.view_is in
+    let s = stored_now i.store.spots _ i.store.nodes m c.spots.ensures.stored same in
+    let n = c.store_node-number.result in
+    let place = c.place_of-place.result in
+    let z : Spot = record { parent = c.args.dir; name = c.args.name; node = record c.args.node { number = n } } in
+    let room : least i.store.spare (vec_capacity i.order - length i.store.spots) (vec_capacity i.free - length i.store.spots) ≡ c.args.self.now.spare = ap (λ (t : Stored). t.spare) c.self.view_is in
+    let within : place ≤ length i.order.items = omega (arith, c.place_of-place.ensures.bound, ap length c.deref.ensures.value) in
+    let order_fits : length c.store_node-number.new.store.spots ≤ vec_capacity c.insert.new.self = omega (arith, room, c.requires.room, c.store_node-number.ensures.slots, c.insert.ensures.capacity) in
+    let free_fits : length c.store_node-number.new.store.spots ≤ vec_capacity c.store_node-number.new.free = omega (arith, room, c.requires.room, c.store_node-number.ensures.slots, c.store_node-number.ensures.capacity) in
+    let put_in : c.insert.new.self.items ≡ insert i.order.items place n = search rules in
+    put_indexed i.store.spots c.store_node-number.new.store.spots i.order.items i.free.items (vec_capacity i.order) (vec_capacity i.free) c.self.invariant
+    (vec_capacity c.insert.new.self) (vec_capacity c.store_node-number.new.free) c.store_node-number.new.free.items c.insert.new.self.items place n z
+    c.store_node-number.ensures.spots c.store_node-number.ensures.unused (λ e. root_held i.store.spots m s.shown n e c.store_node-number.ensures.unused) within
+    (comes_same c.spots.result.now i.store.spots c.deref.result.now i.order.items c.as_str.result.now c.args.name c.args.dir place c.spots.ensures.spots c.deref.ensures.value c.as_str.ensures c.place_of-place.ensures.before)
+    (past_same c.spots.result.now i.store.spots c.deref.result.now i.order.items c.as_str.result.now c.args.name c.args.dir place c.spots.ensures.spots c.deref.ensures.value c.as_str.ensures c.place_of-place.ensures.past)
+    (none_under i.store.spots m s.shown c.requires.path c.args.name c.args.dir c.requires.stands c.requires.free)
+    c.store_node-number.ensures.empty c.store_node-number.ensures.filled c.store_node-number.ensures.places order_fits free_fits put_in
