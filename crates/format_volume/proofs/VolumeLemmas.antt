@@ -1,43 +1,21 @@
 -- Writes on both partitions, one behind the other.
-use Rattle.std.proofs.Common.{ℕ, ◌≡◌, ◌≤◌, ◌∙◌, List, ◌++◌, take, length}
-use Rattle.std.proofs.Common.{Option, Some, None, refl, sym, ap, subst, arith, length-append, nat_lt, Bool, true, false}
-use Rattle.std.proofs.Common.{if◌then◌else◌}
+use Rattle.std.proofs.Common.{ℕ, ◌≡◌, ◌∙◌, List, ◌++◌, take, length}
+use Rattle.std.proofs.Common.{Some, refl, ap, subst, arith, length-append}
 use Rattle.std.proofs.lemmas.List.{take_all}
 use Rattle.coherency.specs.Notes.{IsNote, note_of}
 use Rattle.tape_types.specs.declared.cartridges.Cartridge.{Cartridge}
 use Rattle.tape_types.specs.declared.cartridges.Item.{Item}
-use Rattle.tape_types.specs.declared.cartridges.Limits.{Limits}
-use Rattle.tape_types.specs.declared.cartridges.Part.{Part}
 use Rattle.tape_types.specs.declared.cartridges.Part.TheVariants.{Ip, Dp}
-use Rattle.tape_types.specs.Cartridges.{items_of}
 use Rattle.tape_drive.specs.declared.drive.Drive.{Ghosts}
 use Rattle.format_volume.proofs.NoteLemmas.{alike}
 use Rattle.format_volume.specs.declared.requests.FormatSpec.{FormatSpec}
 use Rattle.format_volume.specs.Steps.{AreAppended, HasNotes, HoldsVolume, WritesBoth, with_notes}
 use Rattle.format_volume.specs.Texts.{AreTextsOf}
 use Rattle.format_volume.specs.declared.texts.Texts as kept
-use Rattle.format_volume.specs.Volumes.{construct, document_on, full, items_on, label_items, need, note_for, noted, record_for}
+use Rattle.format_volume.specs.Volumes.{construct, document_on, items_on, label_items, note_for, noted, record_for}
 use Rattle.format_volume.specs.Volumes.{vcr_after, volume_for}
-use Rattle.format_volume.specs.Writes.{Goes, HasItems, IsAppended, Writes, marked}
+use Rattle.format_volume.specs.Writes.{marked}
 use Rattle.vol_label.specs.Table.{record_of}
-
--- writes on the index partition, and then on the data partition
-ip_then_dp : (pos : ℕ) (xs ys : List Item) (c d e : Cartridge) → IsAppended Ip pos xs c d → IsAppended Dp pos ys d e
-    → AreAppended pos xs ys c e
-ip_then_dp pos xs ys c d e first second = record {
-  ip_items = second.rest.other_part ∙ first.items;
-  dp_items = second.items ∙ ap (λ (l : List Item). take pos l ++ ys) first.rest.other_part;
-  vcr = omega (arith, first.vcr, second.vcr);
-}
-
--- the other way round
-dp_then_ip : (pos : ℕ) (xs ys : List Item) (c d e : Cartridge) → IsAppended Dp pos ys c d → IsAppended Ip pos xs d e
-    → AreAppended pos xs ys c e
-dp_then_ip pos xs ys c d e first second = record {
-  ip_items = second.items ∙ ap (λ (l : List Item). take pos l ++ xs) first.rest.other_part;
-  dp_items = second.rest.other_part ∙ first.items;
-  vcr = omega (arith, first.vcr, second.vcr);
-}
 
 -- what stands behind four items, where nothing else did
 behind_four : (l zs : List Item) (m k : List Item) → m ≡ l → length l ≡ 4 → k ≡ take 4 m ++ zs → k ≡ l ++ zs
@@ -54,20 +32,6 @@ labels_then xs ys zs ws c d e ip_four dp_four first second = record {
 }
 
 module _ {D : Type 0} (drive : Ghosts D) where
-  pub both_written : (pos : ℕ) (xs ys : List Item) (a b c : D)
-      → Writes drive Ip pos xs a b → Writes drive Dp pos ys b c → WritesBoth drive pos xs ys a c
-  both_written pos xs ys a b c first second = λ k held.
-      let one = first.told k held in
-      let two = second.told one.0 one.1 in
-      (two.0, two.1, ip_then_dp pos xs ys k one.0 two.0 one.2 two.2)
-
-  pub both_pointed : (pos : ℕ) (xs ys : List Item) (a b c : D)
-      → Writes drive Dp pos ys a b → Writes drive Ip pos xs b c → WritesBoth drive pos xs ys a c
-  both_pointed pos xs ys a b c first second = λ k held.
-      let one = first.told k held in
-      let two = second.told one.0 one.1 in
-      (two.0, two.1, dp_then_ip pos xs ys k one.0 two.0 one.2 two.2)
-
   pub labels_and_indexes : (xs ys zs ws : List Item) (a b c : D) → length xs ≡ 4 → length ys ≡ 4
       → WritesBoth drive 0 xs ys a b → WritesBoth drive 4 zs ws b c → WritesBoth drive 0 (xs ++ zs) (ys ++ ws) a c
   labels_and_indexes xs ys zs ws a b c ip_four dp_four first second = λ k held.
@@ -96,46 +60,6 @@ module _ {D : Type 0} (drive : Ghosts D) where
       (subst (λ (l : List Item). WritesBoth drive 4 l (construct spec.block (document_on Dp spec)) b c) ip_index
       (subst (λ (l : List Item). WritesBoth drive 4 (construct spec.block texts.ip_index) l b c) dp_index second))
 
-  held_or_not : (a : D) (P : Type 0) → (drive.held a ≡ None → P) → ((c : Cartridge) → drive.held a ≡ Some c → P) → P
-  held_or_not a P none some = by (drive.held a) refl
-    where
-      by : (h : Option Cartridge) → drive.held a ≡ h → P
-      by None is = none is
-      by (Some c) is = some c is
-
-  has_none : (n : ℕ) (part : Part) (a : D) → drive.held a ≡ None → HasItems n part (drive.held a)
-  has_none n part a none = subst (λ (h : Option Cartridge). HasItems n part h) (sym none) tt
-
-  has_some : (n : ℕ) (part : Part) (a : D) (c : Cartridge) → drive.held a ≡ Some c → n ≤ length (items_of part c)
-      → HasItems n part (drive.held a)
-  has_some n part a c some many = subst (λ (h : Option Cartridge). HasItems n part h) (sym some) many
-
-  -- the labels stand on both partitions
-  pub has_labels : (part : Part) (xs ys : List Item) (a b : D) → length xs ≡ 4 → length ys ≡ 4
-      → WritesBoth drive 0 xs ys a b → Goes drive a b → HasItems 4 part (drive.held b)
-  has_labels part xs ys a b ip_four dp_four wrote goes =
-      held_or_not a (HasItems 4 part (drive.held b)) (λ none. has_none 4 part b (goes.untold none)) (λ c some.
-      let t = wrote c some in
-      has_some 4 part b t.0 t.1 (many part c t.0 t.2))
-    where
-      many : (part : Part) (c d : Cartridge) → AreAppended 0 xs ys c d → 4 ≤ length (items_of part d)
-      many Ip c d appended =
-          let long : length d.ip ≡ 4 = ap (λ (l : List Item). length l) appended.ip_items ∙ ip_four in
-          omega (arith, long)
-      many Dp c d appended =
-          let long : length d.dp ≡ 4 = ap (λ (l : List Item). length l) appended.dp_items ∙ dp_four in
-          omega (arith, long)
-
-  -- they still stand on the one while the other is written
-  pub still_labels : (pos : ℕ) (ys : List Item) (a b : D) → HasItems 4 Ip (drive.held a)
-      → Writes drive Dp pos ys a b → Goes drive a b → HasItems 4 Ip (drive.held b)
-  still_labels pos ys a b has wrote goes =
-      held_or_not a (HasItems 4 Ip (drive.held b)) (λ none. has_none 4 Ip b (goes.untold none)) (λ c some.
-      let t = wrote.told c some in
-      let had : 4 ≤ length c.ip = subst (λ (h : Option Cartridge). HasItems 4 Ip h) some has in
-      let same : length t.0.ip ≡ length c.ip = ap (λ (l : List Item). length l) t.2.rest.other_part in
-      has_some 4 Ip b t.0 t.1 (omega (arith, had, same)))
-
   -- a volume's items, with its notes behind them
   pub volume_held : (spec : FormatSpec) (a b c : D) → WritesBoth drive 0 (items_on Ip spec) (items_on Dp spec) a b
       → ((d : Cartridge) → drive.held b ≡ Some d
@@ -156,22 +80,3 @@ module _ {D : Type 0} (drive : Ghosts D) where
   volume_notes spec a b c wrote notes = λ k held.
       let t = wrote k held in
       subst (λ (v : ℕ). IsNote (note_of (noted spec v)) (noted spec v)) t.2.vcr (notes t.0 t.1).1
-
--- a volume that can stand has its positions
-nat_fits : (cap need : ℕ) → nat_lt cap need ≡ false → need ≤ cap
-nat_fits cap need not_less = grind arith
-
-rooms : (a b : Bool) (x y : ℕ × ℕ) → (if a then Some x else if b then Some y else None) ≡ None → (a ≡ false) × (b ≡ false)
-rooms false false x y e = (refl, refl)
-rooms true b x y e = absurd (cc e)
-rooms false true x y e = absurd (cc e)
-
-pub ip_room : (spec : FormatSpec) (limits : Limits) → full spec limits ≡ None → need Ip spec ≤ limits.cap_ip
-ip_room spec limits none = nat_fits limits.cap_ip (need Ip spec)
-    (rooms (nat_lt limits.cap_ip (need Ip spec)) (nat_lt limits.cap_dp (need Dp spec)) (need Ip spec, limits.cap_ip)
-    (need Dp spec, limits.cap_dp) none).0
-
-pub dp_room : (spec : FormatSpec) (limits : Limits) → full spec limits ≡ None → need Dp spec ≤ limits.cap_dp
-dp_room spec limits none = nat_fits limits.cap_dp (need Dp spec)
-    (rooms (nat_lt limits.cap_ip (need Ip spec)) (nat_lt limits.cap_dp (need Dp spec)) (need Ip spec, limits.cap_ip)
-    (need Dp spec, limits.cap_dp) none).1

@@ -14,24 +14,59 @@ const VOL1: &[u8] =
     b"VOL1TAPE01L             LTFS                                                   4";
 
 const IP_LABEL: &[u8] =
-    b"<?xml version=\"1.0\" encoding=\"UTF-8\"?><ltfslabel version=\"2.4.0\"><creator>ltfs_server 1.0.0</creator><formattime>2024-01-02T03:04:05.000000000Z</formattime><volumeuuid>30a91a08-daae-48d1-ae75-69804e61d2ea</volumeuuid><location><partition>a</partition></location><partitions><index>a</index><data>b</data></partitions><blocksize>4096</blocksize><compression>false</compression></ltfslabel>";
+    b"<?xml version=\"1.0\" encoding=\"UTF-8\"?><ltfslabel version=\"2.4.0\"><creator>ltfs_server 1.0.0\
+</creator><formattime>2024-01-02T03:04:05.000000000Z</formattime>\
+<volumeuuid>30a91a08-daae-48d1-ae75-69804e61d2ea</volumeuuid><location><partition>a</partition>\
+</location><partitions><index>a</index><data>b</data></partitions><blocksize>4096</blocksize>\
+<compression>false</compression></ltfslabel>";
 
 const DP_LABEL: &[u8] =
-    b"<?xml version=\"1.0\" encoding=\"UTF-8\"?><ltfslabel version=\"2.4.0\"><creator>ltfs_server 1.0.0</creator><formattime>2024-01-02T03:04:05.000000000Z</formattime><volumeuuid>30a91a08-daae-48d1-ae75-69804e61d2ea</volumeuuid><location><partition>b</partition></location><partitions><index>a</index><data>b</data></partitions><blocksize>4096</blocksize><compression>false</compression></ltfslabel>";
+    b"<?xml version=\"1.0\" encoding=\"UTF-8\"?><ltfslabel version=\"2.4.0\"><creator>ltfs_server 1.0.0\
+</creator><formattime>2024-01-02T03:04:05.000000000Z</formattime>\
+<volumeuuid>30a91a08-daae-48d1-ae75-69804e61d2ea</volumeuuid><location><partition>b</partition>\
+</location><partitions><index>a</index><data>b</data></partitions><blocksize>4096</blocksize>\
+<compression>false</compression></ltfslabel>";
 
 const IP_INDEX: &[u8] =
-    b"<?xml version=\"1.0\" encoding=\"UTF-8\"?><ltfsindex version=\"2.4.0\"><creator>ltfs_server 1.0.0</creator><volumeuuid>30a91a08-daae-48d1-ae75-69804e61d2ea</volumeuuid><generationnumber>1</generationnumber><updatetime>2024-01-02T03:04:05.000000000Z</updatetime><location><partition>a</partition><startblock>5</startblock></location><previousgenerationlocation><partition>b</partition><startblock>5</startblock></previousgenerationlocation><allowpolicyupdate>true</allowpolicyupdate><highestfileuid>1</highestfileuid><directory><fileuid>1</fileuid><name></name><creationtime>2024-01-02T03:04:05.000000000Z</creationtime><changetime>2024-01-02T03:04:05.000000000Z</changetime><modifytime>2024-01-02T03:04:05.000000000Z</modifytime><accesstime>2024-01-02T03:04:05.000000000Z</accesstime><backuptime>2024-01-02T03:04:05.000000000Z</backuptime><readonly>false</readonly><contents></contents></directory></ltfsindex>";
+    b"<?xml version=\"1.0\" encoding=\"UTF-8\"?><ltfsindex version=\"2.4.0\"><creator>ltfs_server 1.0.0\
+</creator><volumeuuid>30a91a08-daae-48d1-ae75-69804e61d2ea</volumeuuid><generationnumber>1\
+</generationnumber><updatetime>2024-01-02T03:04:05.000000000Z</updatetime><location><partition>a\
+</partition><startblock>5</startblock></location><previousgenerationlocation><partition>b</partition>\
+<startblock>5</startblock></previousgenerationlocation><allowpolicyupdate>true</allowpolicyupdate>\
+<highestfileuid>1</highestfileuid><directory><fileuid>1</fileuid><name></name>\
+<creationtime>2024-01-02T03:04:05.000000000Z</creationtime><changetime>2024-01-02T03:04:05.000000000Z\
+</changetime><modifytime>2024-01-02T03:04:05.000000000Z</modifytime>\
+<accesstime>2024-01-02T03:04:05.000000000Z</accesstime><backuptime>2024-01-02T03:04:05.000000000Z\
+</backuptime><readonly>false</readonly><contents></contents></directory></ltfsindex>";
 
 const DP_INDEX: &[u8] =
-    b"<?xml version=\"1.0\" encoding=\"UTF-8\"?><ltfsindex version=\"2.4.0\"><creator>ltfs_server 1.0.0</creator><volumeuuid>30a91a08-daae-48d1-ae75-69804e61d2ea</volumeuuid><generationnumber>1</generationnumber><updatetime>2024-01-02T03:04:05.000000000Z</updatetime><location><partition>b</partition><startblock>5</startblock></location><allowpolicyupdate>true</allowpolicyupdate><highestfileuid>1</highestfileuid><directory><fileuid>1</fileuid><name></name><creationtime>2024-01-02T03:04:05.000000000Z</creationtime><changetime>2024-01-02T03:04:05.000000000Z</changetime><modifytime>2024-01-02T03:04:05.000000000Z</modifytime><accesstime>2024-01-02T03:04:05.000000000Z</accesstime><backuptime>2024-01-02T03:04:05.000000000Z</backuptime><readonly>false</readonly><contents></contents></directory></ltfsindex>";
+    b"<?xml version=\"1.0\" encoding=\"UTF-8\"?><ltfsindex version=\"2.4.0\"><creator>ltfs_server 1.0.0\
+</creator><volumeuuid>30a91a08-daae-48d1-ae75-69804e61d2ea</volumeuuid><generationnumber>1\
+</generationnumber><updatetime>2024-01-02T03:04:05.000000000Z</updatetime><location><partition>b\
+</partition><startblock>5</startblock></location><allowpolicyupdate>true</allowpolicyupdate>\
+<highestfileuid>1</highestfileuid><directory><fileuid>1</fileuid><name></name>\
+<creationtime>2024-01-02T03:04:05.000000000Z</creationtime><changetime>2024-01-02T03:04:05.000000000Z\
+</changetime><modifytime>2024-01-02T03:04:05.000000000Z</modifytime>\
+<accesstime>2024-01-02T03:04:05.000000000Z</accesstime><backuptime>2024-01-02T03:04:05.000000000Z\
+</backuptime><readonly>false</readonly><contents></contents></directory></ltfsindex>";
 
 /// The index of the data partition, with a name and a policy.
 const NAMED: &[u8] =
-    b"<?xml version=\"1.0\" encoding=\"UTF-8\"?><ltfsindex version=\"2.4.0\"><creator>ltfs_server 1.0.0</creator><volumeuuid>30a91a08-daae-48d1-ae75-69804e61d2ea</volumeuuid><generationnumber>1</generationnumber><updatetime>2024-01-02T03:04:05.000000000Z</updatetime><location><partition>b</partition><startblock>5</startblock></location><allowpolicyupdate>true</allowpolicyupdate><dataplacementpolicy><indexpartitioncriteria><size>1000000</size><name>*.txt</name></indexpartitioncriteria></dataplacementpolicy><highestfileuid>1</highestfileuid><directory><fileuid>1</fileuid><name percentencoded=\"true\">50%25%01</name><creationtime>2024-01-02T03:04:05.000000000Z</creationtime><changetime>2024-01-02T03:04:05.000000000Z</changetime><modifytime>2024-01-02T03:04:05.000000000Z</modifytime><accesstime>2024-01-02T03:04:05.000000000Z</accesstime><backuptime>2024-01-02T03:04:05.000000000Z</backuptime><readonly>false</readonly><contents></contents></directory></ltfsindex>";
+    b"<?xml version=\"1.0\" encoding=\"UTF-8\"?><ltfsindex version=\"2.4.0\"><creator>ltfs_server 1.0.0\
+</creator><volumeuuid>30a91a08-daae-48d1-ae75-69804e61d2ea</volumeuuid><generationnumber>1\
+</generationnumber><updatetime>2024-01-02T03:04:05.000000000Z</updatetime><location><partition>b\
+</partition><startblock>5</startblock></location><allowpolicyupdate>true</allowpolicyupdate>\
+<dataplacementpolicy><indexpartitioncriteria><size>1000000</size><name>*.txt</name>\
+</indexpartitioncriteria></dataplacementpolicy><highestfileuid>1</highestfileuid><directory><fileuid>1\
+</fileuid><name percentencoded=\"true\">50%25%01</name><creationtime>2024-01-02T03:04:05.000000000Z\
+</creationtime><changetime>2024-01-02T03:04:05.000000000Z</changetime>\
+<modifytime>2024-01-02T03:04:05.000000000Z</modifytime><accesstime>2024-01-02T03:04:05.000000000Z\
+</accesstime><backuptime>2024-01-02T03:04:05.000000000Z</backuptime><readonly>false</readonly><contents>\
+</contents></directory></ltfsindex>";
 
 /// The note of an empty volume of which the volume change reference is 14.
-const NOTE: &[u8; 70] =
-    b"\x08\0\0\0\0\0\0\0\x0e\0\0\0\0\0\0\0\x01\0\0\0\0\0\0\0\x05\0\x2bLTFS\x0030a91a08-daae-48d1-ae75-69804e61d2ea\0\x01";
+const NOTE: &[u8; 70] = b"\x08\0\0\0\0\0\0\0\x0e\0\0\0\0\0\0\0\x01\0\0\0\0\0\0\0\x05\0\x2bLTFS\0\
+30a91a08-daae-48d1-ae75-69804e61d2ea\0\x01";
 
 /// A volume with this name and this policy.
 fn spec(alloc: Global, name: &str, policy: Option<Policy>) -> Result<FormatSpec, NoMemory> {
@@ -107,6 +142,11 @@ fn left(drive: &MemDrive) -> Result<Cartridge, NoMemory> {
     drive.crash(now, now)
 }
 
+/// What the formatting of a cartridge answers.
+fn answer(alloc: Global, drive: &mut MemDrive, spec: &FormatSpec) -> Result<(), FormatErr> {
+    format(alloc, drive, spec)
+}
+
 fn has_block(items: &List<Item>, at: usize, bytes: &[u8]) -> bool {
     match items.as_slice().get(at) {
         Some(Item::Block(block)) => block.as_slice() == bytes,
@@ -141,7 +181,7 @@ fn is_note(note: &Note, bytes: &[u8; 70]) -> bool {
 fn a_blank_cartridge_becomes_an_empty_volume(rt: HostRuntime) -> Result<(), NoMemory> {
     let alloc = rt.alloc();
     let mut drive = blank(alloc, 1000, 1000, List::new(alloc));
-    assert_eq!(rt; format(alloc, &mut drive, &spec(alloc, "", None)?), Ok(()));
+    assert_eq!(rt; answer(alloc, &mut drive, &spec(alloc, "", None)?), Ok(()));
     assert_eq!(rt; drive.commands(), 23);
     let held = left(&drive)?;
     assert!(rt; is_partition(&held.ip, VOL1, IP_LABEL, IP_INDEX));
@@ -157,7 +197,7 @@ fn the_name_and_the_policy_are_told(rt: HostRuntime) -> Result<(), NoMemory> {
     let alloc = rt.alloc();
     let mut drive = blank(alloc, 7, 7, List::new(alloc));
     let spec = spec(alloc, "50%\u{1}", policy(alloc, 1_000_000, 1, "*.txt")?)?;
-    assert_eq!(rt; format(alloc, &mut drive, &spec), Ok(()));
+    assert_eq!(rt; answer(alloc, &mut drive, &spec), Ok(()));
     let held = left(&drive)?;
     assert!(rt; is_partition(&held.dp, VOL1, DP_LABEL, NAMED));
     Ok(())
@@ -177,7 +217,7 @@ fn check_room<R: Abort>(
     requires dp_most { cap_dp ≤ 2 ^ 40 }
 {
     let mut drive = blank(alloc, cap_ip, cap_dp, List::new(alloc));
-    let result = format(alloc, &mut drive, &spec(alloc, "", None)?);
+    let result = answer(alloc, &mut drive, &spec(alloc, "", None)?);
     match full {
         Some((need, limit)) => {
             assert_eq!(rt; result, Err(FormatErr::Full { need, limit }));
@@ -192,7 +232,7 @@ fn check_room<R: Abort>(
 fn each_partition_needs_seven_positions(rt: HostRuntime) -> Result<(), NoMemory> {
     let alloc = rt.alloc();
     check_room(&rt, alloc, 4, 4, Some((7, 4)))?;
-    check_room(&rt, alloc, 5, 9, Some((7, 5)))?;
+    check_room(&rt, alloc, 5, 4, Some((7, 5)))?;
     check_room(&rt, alloc, 6, 9, Some((7, 6)))?;
     check_room(&rt, alloc, 1000, 6, Some((7, 6)))?;
     check_room(&rt, alloc, 7, 4, Some((7, 4)))?;
@@ -208,7 +248,7 @@ fn check_wide<R: Abort>(
     size: u64,
     cap_ip: u64,
     cap_dp: u64,
-    answer: Result<(), FormatErr>,
+    wanted: Result<(), FormatErr>,
 ) -> Result<(), NoMemory>
     requires ip_least { 4 ≤ cap_ip }
     requires ip_most { cap_ip ≤ 2 ^ 40 }
@@ -219,7 +259,7 @@ fn check_wide<R: Abort>(
         "xxxxxxxxxxxxxxxxxxxxxxxxxxxxxxxxxxxxxxxxxxxxxxxxxxxxxxxxxxxxxxxxxxxxxxxxxxxxxxxxxxxxxxxxxx";
     let mut drive = blank(alloc, cap_ip, cap_dp, List::new(alloc));
     let spec = spec(alloc, "", policy(alloc, size, 31, pattern)?)?;
-    assert_eq!(rt; format(alloc, &mut drive, &spec), answer);
+    assert_eq!(rt; answer(alloc, &mut drive, &spec), wanted);
     Ok(())
 }
 
@@ -244,10 +284,10 @@ fn a_field_is_refused_before_any_command(rt: HostRuntime) -> Result<(), NoMemory
     let mut asked = spec(alloc, "a/b", None)?;
     asked.block = 4095;
     let block = FormatErr::BadSpec(Field::Block);
-    assert_eq!(rt; format(alloc, &mut drive, &asked), Err(block));
+    assert_eq!(rt; answer(alloc, &mut drive, &asked), Err(block));
     asked.block = 4096;
     let name = FormatErr::BadSpec(Field::Name);
-    assert_eq!(rt; format(alloc, &mut drive, &asked), Err(name));
+    assert_eq!(rt; answer(alloc, &mut drive, &asked), Err(name));
     assert_eq!(rt; drive.commands(), 0);
     Ok(())
 }
@@ -261,9 +301,9 @@ fn check_stop<R: Abort>(rt: &R, alloc: Global, commands: u64) -> Result<(), NoMe
         before: 0,
         after: 1,
     });
-    assert_eq!(rt; format(alloc, &mut drive, &asked), Err(once));
+    assert_eq!(rt; answer(alloc, &mut drive, &asked), Err(once));
     drive.stop_after(23);
-    assert_eq!(rt; format(alloc, &mut drive, &asked), Ok(()));
+    assert_eq!(rt; answer(alloc, &mut drive, &asked), Ok(()));
     let held = left(&drive)?;
     assert!(rt; is_partition(&held.ip, VOL1, IP_LABEL, IP_INDEX));
     assert!(rt; is_partition(&held.dp, VOL1, DP_LABEL, DP_INDEX));
@@ -288,8 +328,8 @@ fn check_fail<R: Abort>(rt: &R, alloc: Global, kind: Cmd, nth: u64) -> Result<()
         before: 0,
         after: 1,
     });
-    assert_eq!(rt; format(alloc, &mut drive, &asked), Err(once));
-    assert_eq!(rt; format(alloc, &mut drive, &asked), Ok(()));
+    assert_eq!(rt; answer(alloc, &mut drive, &asked), Err(once));
+    assert_eq!(rt; answer(alloc, &mut drive, &asked), Ok(()));
     let held = left(&drive)?;
     assert!(rt; is_partition(&held.ip, VOL1, IP_LABEL, IP_INDEX));
     assert!(rt; is_partition(&held.dp, VOL1, DP_LABEL, DP_INDEX));
@@ -328,11 +368,11 @@ fn any_cartridge_is_formatted(rt: HostRuntime) -> Result<(), NoMemory> {
         "",
         policy(alloc, 0, 64, "0123456789012345678901234567890123456789")?,
     )?;
-    assert_eq!(rt; format(alloc, &mut drive, &wide), Ok(()));
+    assert_eq!(rt; answer(alloc, &mut drive, &wide), Ok(()));
     let before = left(&drive)?;
     assert_eq!(rt; before.ip.len(), 8);
     assert_eq!(rt; before.vcr, 16);
-    assert_eq!(rt; format(alloc, &mut drive, &spec(alloc, "", None)?), Ok(()));
+    assert_eq!(rt; answer(alloc, &mut drive, &spec(alloc, "", None)?), Ok(()));
     let held = left(&drive)?;
     assert!(rt; is_partition(&held.ip, VOL1, IP_LABEL, IP_INDEX));
     assert!(rt; is_partition(&held.dp, VOL1, DP_LABEL, DP_INDEX));
@@ -361,7 +401,7 @@ fn a_reference_at_its_end_stops_the_drive(rt: HostRuntime) -> Result<(), NoMemor
         after: 1,
     });
     assert_eq!(rt;
-        format(alloc, &mut drive, &spec(alloc, "", None)?),
+        answer(alloc, &mut drive, &spec(alloc, "", None)?),
         Err(once)
     );
     assert_eq!(rt; drive.commands(), 2);
