@@ -1,5 +1,5 @@
 -- Where a partition that is written ends.
-use Rattle.std.proofs.Common.{ℕ, ◌+◌, ◌≤◌, ◌≡◌, ◌≢◌, ◌⊎◌, inl, inr, List, [], ◌∷◌, ◌++◌, length, take, Option, refl, sym, ap, ◌∙◌}
+use Rattle.std.proofs.Common.{ℕ, ◌≡◌, ◌⊎◌, inl, inr, List, [], ◌∷◌, ◌++◌, length, take, Option, refl, ap, ◌∙◌}
 use Rattle.tape_types.specs.declared.cartridges.Cartridge.{Cartridge}
 use Rattle.tape_types.specs.declared.cartridges.Item.{Item}
 use Rattle.tape_types.specs.declared.cartridges.Item.TheVariants.{Block, Mark}
@@ -7,13 +7,13 @@ use Rattle.tape_types.specs.declared.cartridges.Part.{Part}
 use Rattle.tape_types.specs.declared.cartridges.Part.TheVariants.{Ip, Dp}
 use Rattle.tape_types.specs.declared.cartridges.Place.{Place}
 use Rattle.tape_types.specs.Cartridges.{items_of}
-use Rattle.tape_drive.specs.Commands.{IsBroken, IsWritten, KeepsRest}
+use Rattle.tape_drive.specs.Commands.{IsWritten, KeepsRest}
 use Rattle.tape_layout.specs.declared.ops.Op.{Op}
 use Rattle.tape_layout.specs.declared.ops.Op.TheVariants as ops
 use Rattle.crash_theory.specs.Closed.{Begins, IsExact, PutsOn}
 use Rattle.crash_theory.specs.Events.{IsDone, IsFailed}
 use Rattle.crash_theory.specs.Images.{IsNext}
-use Rattle.crash_theory.specs.Made.{Entry, Job, Made, does, makes, part_items, put_on}
+use Rattle.crash_theory.specs.Made.{Entry, Made, does, makes, part_items, put_on}
 
 rest_exact : (written part : Part) (s : Made) (old new : Cartridge) → (written ≡ part → ⊥) → KeepsRest written old new → IsExact part s old
     → IsExact part s new

@@ -8,7 +8,7 @@ ghost use Rattle.session_script.specs.declared.logs.Ack.{Ack};
 ghost use Rattle.tape_layout.specs.declared.ops.Op.{Op};
 ghost use Rattle.tape_meaning.specs.declared.labels.Labels.{Labels};
 ghost use Rattle.volume_space.specs.Space.{Rules, Space};
-ghost use Rattle.crash_theory.specs.Admissions.{CloseIsAdmitted, CloseLeaves, CloseStands, DataIsAdmitted, IndexIsAdmitted, IndexServes, IndexSettles, NothingIsServed, moment};
+ghost use Rattle.crash_theory.specs.Admissions.{CloseIsAdmitted, CloseLeaves, CloseStands, DataIsAdmitted, IndexIsAdmitted, IndexServes, IndexSettles, NothingIsServed, PlansGoOn, moment};
 ghost use Rattle.crash_theory.specs.Closed.{Begins, EndsWithClose, IsExact, PutsOn};
 ghost use Rattle.crash_theory.specs.Events.{IsDone, IsFailed};
 ghost use Rattle.crash_theory.specs.Images.{IsNext};
@@ -16,6 +16,12 @@ ghost use Rattle.crash_theory.specs.Kept.{Wait};
 ghost use Rattle.crash_theory.specs.Made.{Entry, Job, Made, Trees, Volume, after, makes};
 
 use tape_drive::Drive;
+
+/// What is so of a plan stays so as it goes on.
+#[tactic(auto, using(crate::proofs::Longer::plans_go_on))]
+pub fn plans_go_on()
+    ensures { (v : Volume) (t : Trees) → PlansGoOn v t }
+{}
 
 /// Data may be admitted on either partition where that may be written.
 pub fn data_is_admitted<D: Drive>(drive: &D)
