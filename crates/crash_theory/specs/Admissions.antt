@@ -44,10 +44,6 @@ pub record PlansGoOn (v : Volume) (t : Trees) : Type 0 where
   pub append : (jobs : List Job) (s : Made) → IsLonger (cartridge_of s) (cartridge_of (after s jobs))
   pub parts : (jobs more : List Job) (s : Made) → after s (jobs ++ more) ≡ after (after s jobs) more
 
--- a drive at a moment, by what it tells and by what a crash may leave
-abbrev pub moment : Cartridge → (commands : ℕ) → (Cartridge → Type 0) → (ℕ → Cartridge → Type 0) → Moment
-moment held commands leaves left = record { held = held; commands = commands; leaves = leaves; left = left }
-
 module _ (v : Volume) (t : Trees) (s : Made) (since : ℕ) (d : Moment) (done : ℕ) (jobs : List Job) (waits : List Wait)
     (acks : List Ack) (space : Space) (rules : Rules) where
   -- bytes may be put on a partition that may be written, whatever its blocks hold

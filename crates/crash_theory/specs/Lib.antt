@@ -9,3 +9,4 @@ pub mod Worked
 pub mod Examples
 pub mod Closed
 pub mod Admissions
+pub mod Moments

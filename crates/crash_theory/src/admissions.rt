@@ -1,4 +1,4 @@
-//! Laws of what is admitted, and of what a close leaves, over every drive at any moment.
+//! Laws of what is admitted, and of what a close leaves, over any drive that tells its content.
 
 ghost use Rattle.std.specs.Prelude.{◌≡◌, ◌⊎◌, ℕ, List, Option, None};
 ghost use Rattle.tape_types.specs.declared.cartridges.Cartridge.{Cartridge};
@@ -8,11 +8,12 @@ ghost use Rattle.session_script.specs.declared.logs.Ack.{Ack};
 ghost use Rattle.tape_layout.specs.declared.ops.Op.{Op};
 ghost use Rattle.tape_meaning.specs.declared.labels.Labels.{Labels};
 ghost use Rattle.volume_space.specs.Space.{Rules, Space};
-ghost use Rattle.crash_theory.specs.Admissions.{CloseIsAdmitted, CloseLeaves, CloseStands, DataIsAdmitted, IndexIsAdmitted, IndexServes, IndexSettles, NothingIsServed, PlansGoOn, moment};
+ghost use Rattle.crash_theory.specs.Admissions.{CloseIsAdmitted, CloseLeaves, CloseStands, DataIsAdmitted, IndexIsAdmitted, IndexServes, IndexSettles, NothingIsServed, PlansGoOn};
 ghost use Rattle.crash_theory.specs.Closed.{Begins, EndsWithClose, IsExact, PutsOn};
 ghost use Rattle.crash_theory.specs.Events.{IsDone, IsFailed};
 ghost use Rattle.crash_theory.specs.Images.{IsNext};
 ghost use Rattle.crash_theory.specs.Kept.{Wait};
+ghost use Rattle.crash_theory.specs.Moments.{moment_of};
 ghost use Rattle.crash_theory.specs.Made.{Entry, Job, Made, Trees, Volume, after, makes};
 
 use tape_drive::Drive;
@@ -24,52 +25,45 @@ pub fn plans_go_on()
 {}
 
 /// Data may be admitted on either partition where that may be written.
-pub fn data_is_admitted<D: Drive>(drive: &D)
-    ensures { (held : Cartridge) (v : Volume) (t : Trees) (s : Made) (since done : ℕ)
+pub fn data_is_admitted<D: Drive>()
+    ensures { (v : Volume) (t : Trees) (s : Made) (since : ℕ) (drive : D) (c : Cartridge) (done : ℕ)
         (jobs : List Job) (waits : List Wait) (acks : List Ack) (space : Space) (rules : Rules)
-        → DataIsAdmitted v t s since (moment held (D.commands drive.now) (D.leaves drive.now) (D.left_since drive.now))
-        done jobs waits acks space rules }
+        → DataIsAdmitted v t s since (moment_of D.Drive drive c) done jobs waits acks space rules }
 {}
 
 /// An index of the data partition may be admitted. It serves the sync that asked for it, and then no index of the index
 /// partition is ahead.
-pub fn an_index_is_admitted<D: Drive>(drive: &D)
-    ensures admitted { (held : Cartridge) (v : Volume) (t : Trees) (s : Made) (since done : ℕ)
+pub fn an_index_is_admitted<D: Drive>()
+    ensures admitted { (v : Volume) (t : Trees) (s : Made) (since : ℕ) (drive : D) (c : Cartridge) (done : ℕ)
         (jobs : List Job) (waits : List Wait) (acks : List Ack) (space : Space) (rules : Rules)
-        → IndexIsAdmitted v t s since (moment held (D.commands drive.now) (D.leaves drive.now) (D.left_since drive.now))
-        done jobs waits acks space rules }
-    ensures served { (held : Cartridge) (v : Volume) (t : Trees) (s : Made) (since done : ℕ)
+        → IndexIsAdmitted v t s since (moment_of D.Drive drive c) done jobs waits acks space rules }
+    ensures served { (v : Volume) (t : Trees) (s : Made) (since : ℕ) (drive : D) (c : Cartridge) (done : ℕ)
         (jobs : List Job) (waits : List Wait) (acks : List Ack) (space : Space) (rules : Rules)
-        → IndexServes v t s since (moment held (D.commands drive.now) (D.leaves drive.now) (D.left_since drive.now))
-        done jobs waits acks space rules }
-    ensures settled { (held : Cartridge) (v : Volume) (t : Trees) (s : Made) (since done : ℕ)
+        → IndexServes v t s since (moment_of D.Drive drive c) done jobs waits acks space rules }
+    ensures settled { (v : Volume) (t : Trees) (s : Made) (since : ℕ) (drive : D) (c : Cartridge) (done : ℕ)
         (jobs : List Job) (waits : List Wait) (acks : List Ack) (space : Space) (rules : Rules)
-        → IndexSettles v t s since (moment held (D.commands drive.now) (D.leaves drive.now) (D.left_since drive.now))
-        done jobs waits acks space rules }
+        → IndexSettles v t s since (moment_of D.Drive drive c) done jobs waits acks space rules }
 {}
 
 /// A sync without changes is served by the jobs that stand.
-pub fn nothing_new_is_served<D: Drive>(drive: &D)
-    ensures { (held : Cartridge) (v : Volume) (t : Trees) (s : Made) (since done : ℕ)
+pub fn nothing_new_is_served<D: Drive>()
+    ensures { (v : Volume) (t : Trees) (s : Made) (since : ℕ) (drive : D) (c : Cartridge) (done : ℕ)
         (jobs : List Job) (waits : List Wait) (acks : List Ack) (space : Space) (rules : Rules)
-        → NothingIsServed v t s since (moment held (D.commands drive.now) (D.leaves drive.now) (D.left_since drive.now))
-        done jobs waits acks space rules }
+        → NothingIsServed v t s since (moment_of D.Drive drive c) done jobs waits acks space rules }
 {}
 
 /// A close's index may be admitted where no index is ahead.
-pub fn a_close_is_admitted<D: Drive>(drive: &D)
-    ensures { (held : Cartridge) (v : Volume) (t : Trees) (s : Made) (since done : ℕ)
+pub fn a_close_is_admitted<D: Drive>()
+    ensures { (v : Volume) (t : Trees) (s : Made) (since : ℕ) (drive : D) (c : Cartridge) (done : ℕ)
         (jobs : List Job) (waits : List Wait) (acks : List Ack) (space : Space) (rules : Rules)
-        → CloseIsAdmitted v t s since (moment held (D.commands drive.now) (D.leaves drive.now) (D.left_since drive.now))
-        done jobs waits acks space rules }
+        → CloseIsAdmitted v t s since (moment_of D.Drive drive c) done jobs waits acks space rules }
 {}
 
 /// What a close leaves once its jobs are done.
-pub fn a_close_leaves<D: Drive>(drive: &D)
-    ensures { (held : Cartridge) (v : Volume) (t : Trees) (s made : Made) (space : Space) (rules : Rules)
-        (since done : ℕ) (waits : List Wait) (acks : List Ack)
-        → CloseLeaves v t s made space rules since (moment held (D.commands drive.now) (D.leaves drive.now) (D.left_since drive.now))
-        done waits acks }
+pub fn a_close_leaves<D: Drive>()
+    ensures { (v : Volume) (t : Trees) (s made : Made) (space : Space) (rules : Rules) (since : ℕ)
+        (drive : D) (c : Cartridge) (done : ℕ) (waits : List Wait) (acks : List Ack)
+        → CloseLeaves v t s made space rules since (moment_of D.Drive drive c) done waits acks }
 {}
 
 /// What a cartridge stands for that ends with a close's index, over any history.

@@ -1,6 +1,6 @@
-use Rattle.crash_theory.specs.Admissions.{moment}
+use Rattle.crash_theory.specs.Moments.{moment_of}
 use Rattle.crash_theory.proofs.Data.{admitted_data}
 use Rattle.crash_theory.proofs.admissions.data_is_admitted.Goals as goal
 
 pub returns : goal.returns
-returns g c held v t s since done jobs waits acks space rules = admitted_data v t s since (moment held (g.D.Drive.commands c.args.drive.now) (g.D.Drive.leaves c.args.drive.now) (g.D.Drive.left_since c.args.drive.now)) done jobs waits acks space rules
+returns g c v t s since drive a done jobs waits acks space rules = admitted_data v t s since (moment_of g.D.Drive drive a) done jobs waits acks space rules
