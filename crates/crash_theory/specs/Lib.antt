@@ -10,3 +10,4 @@ pub mod Examples
 pub mod Closed
 pub mod Admissions
 pub mod Moments
+pub mod JobExamples

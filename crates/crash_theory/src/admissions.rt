@@ -3,17 +3,22 @@
 ghost use Rattle.std.specs.Prelude.{◌≡◌, ◌⊎◌, ℕ, List, Option, None};
 ghost use Rattle.tape_types.specs.declared.cartridges.Cartridge.{Cartridge};
 ghost use Rattle.tape_types.specs.declared.cartridges.Part.{Part};
+ghost use Rattle.tape_types.specs.declared.cartridges.Part.TheVariants.{Dp};
 ghost use Rattle.index_model.specs.declared.indexes.Index.{Index};
 ghost use Rattle.session_script.specs.declared.logs.Ack.{Ack};
+ghost use Rattle.tape_content.specs.Ends.{EndsWithLast};
 ghost use Rattle.tape_layout.specs.declared.ops.Op.{Op};
+ghost use Rattle.tape_meaning.specs.Pointers.{indexes_of};
 ghost use Rattle.tape_meaning.specs.declared.labels.Labels.{Labels};
 ghost use Rattle.volume_space.specs.Space.{Rules, Space};
 ghost use Rattle.crash_theory.specs.Admissions.{CloseIsAdmitted, CloseLeaves, CloseStands, DataIsAdmitted, IndexIsAdmitted, IndexServes, IndexSettles, NothingIsServed, PlansGoOn};
 ghost use Rattle.crash_theory.specs.Closed.{Begins, EndsWithClose, IsExact, PutsOn};
 ghost use Rattle.crash_theory.specs.Events.{IsDone, IsFailed};
 ghost use Rattle.crash_theory.specs.Images.{IsNext};
+ghost use Rattle.crash_theory.specs.JobExamples.{TellsClose, TellsJobs};
 ghost use Rattle.crash_theory.specs.Kept.{Wait};
 ghost use Rattle.crash_theory.specs.Moments.{moment_of};
+ghost use Rattle.crash_theory.specs.Starts.{made_of};
 ghost use Rattle.crash_theory.specs.Made.{Entry, Job, Made, Trees, Volume, after, makes};
 
 use tape_drive::Drive;
@@ -73,9 +78,12 @@ pub fn a_close_stands()
         → CloseStands c l last index }
 {}
 
-/// A partition ends where it was made to once an item is put on it, as long as no op on it fails.
-#[tactic(auto, using(crate::proofs::Exact::done_exact, crate::proofs::Exact::failed_exact))]
+/// A partition ends where it was made to once an item is put on it, as long as no op on it fails; the data partition of
+/// a mount does where it ends with its last index.
+#[tactic(auto, using(crate::proofs::Exact::done_exact, crate::proofs::Exact::failed_exact, crate::proofs::Exact::begun_exact))]
 pub fn partitions_end_where_they_were_made_to()
+    ensures begun { (c : Cartridge) (on_ip : Option Index) (on_dp : Index) → EndsWithLast c.dp (indexes_of c.dp)
+        → IsExact Dp (made_of c on_ip on_dp) c }
     ensures done { (part : Part) (op : Op) (whole : Option Entry) (s : Made) (old new : Cartridge) → IsNext op s
         → ((written : Part) → Begins written s old) → IsDone op old new → (PutsOn part op ⊎ IsExact part s old)
         → IsExact part (makes (record { op = op; whole = whole }) s) new }
@@ -87,4 +95,10 @@ pub fn partitions_end_where_they_were_made_to()
 #[tactic(auto, using(crate::proofs::Flushes::none_stays))]
 pub fn none_is_ahead_again()
     ensures { (jobs : List Job) (s : Made) → s.base.ahead ≡ None → (after s jobs).base.ahead ≡ None }
+{}
+
+/// Which ops are admitted and where they go, and what a close makes of a small volume.
+pub fn the_definitions_tell_jobs()
+    ensures jobs { (e : Entry) → TellsJobs e }
+    ensures close { (first second : Entry) → TellsClose first second }
 {}
