@@ -1,5 +1,5 @@
 -- Where a partition that is written ends.
-use Rattle.std.proofs.Common.{ℕ, ◌≡◌, ◌⊎◌, inl, inr, List, [], ◌∷◌, ◌++◌, length, take, Option, refl, ap, ◌∙◌, sym, arith, ◌+◌}
+use Rattle.std.proofs.Common.{ℕ, ◌≡◌, ◌⊎◌, inl, inr, List, [], ◌∷◌, ◌++◌, length, take, Option, refl, ap, ◌∙◌, sym, arith}
 use Rattle.std.proofs.lemmas.List.{take_all}
 use Rattle.tape_types.specs.declared.cartridges.Cartridge.{Cartridge}
 use Rattle.tape_types.specs.declared.cartridges.Item.{Item}

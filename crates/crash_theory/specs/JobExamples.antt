@@ -1,5 +1,5 @@
 -- The jobs of a small volume, and what a close makes of it.
-use Rattle.std.specs.Prelude.{ℕ, ◌≡◌, Bool, true, false, List, [], ◌∷◌, ◌++◌, Option, Some, None}
+use Rattle.std.specs.Prelude.{ℕ, ◌≡◌, Bool, true, false, [], ◌∷◌, ◌++◌, Some, None}
 use Rattle.tape_types.specs.declared.cartridges.Item.TheVariants.{Mark, Torn}
 use Rattle.tape_types.specs.declared.cartridges.Part.TheVariants.{Ip, Dp}
 use Rattle.tape_content.specs.Readings.{Construct}
@@ -9,7 +9,7 @@ use Rattle.tape_content.specs.Worked.{block, labels}
 use Rattle.tape_layout.specs.declared.ops.Op.TheVariants as ops
 use Rattle.tape_meaning.specs.Pointers.{indexes_of}
 use Rattle.volume_space.specs.Space.{Rules, Space}
-use Rattle.crash_theory.specs.Made.{Entry, Job, Made, after, least, newest, plain}
+use Rattle.crash_theory.specs.Made.{Entry, Made, after, least, newest, plain}
 use Rattle.crash_theory.specs.Plans.{close_jobs, data_jobs, index_jobs}
 use Rattle.crash_theory.specs.Worked.{mounted, on_dp, on_ip, put_on_ip, so_far}
 
