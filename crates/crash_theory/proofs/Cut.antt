@@ -1,13 +1,15 @@
 -- Partitions that are cut at their ends.
-use Rattle.std.proofs.Common.{◌≡◌, ◌≢◌, ⊎_elim, ℕ, zero, suc, ◌+◌, ◌≤◌, List, [], ◌∷◌, length, take, Option, Some, None, refl, sym, ap, ◌∙◌, arith}
+use Rattle.std.proofs.Common.{◌≡◌, ◌≢◌, ◌⊎◌, ⊎_elim, inl, inr, ℕ, zero, suc, ◌+◌, ◌<◌, ◌≤◌, ◌++◌, List, [], ◌∷◌, length, take, Option, Some, None, refl, sym, ap, subst, ◌∙◌, arith}
 use Rattle.std.specs.List.{flat_map, slice_get}
+use Rattle.std.proofs.lemmas.List.{length-take-le, take-take}
+use Rattle.tape_types.specs.declared.cartridges.Cartridge.{Cartridge}
 use Rattle.tape_types.specs.declared.cartridges.Item.{Item}
 use Rattle.tape_types.specs.declared.cartridges.Item.TheVariants.{Block, Mark, Torn}
-use Rattle.tape_content.specs.Readings.{HasForm, LacksForm, front, items_of_group}
-use Rattle.tape_content.specs.Content.{Bad, Content, content, phase_of}
+use Rattle.tape_content.specs.Readings.{Construct, HasForm, LacksForm, front, items_of_group}
+use Rattle.tape_content.specs.Content.{Bad, Content, Data, content, phase_of}
 use Rattle.tape_content.proofs.ReadForms.{form, stops}
 use Rattle.tape_content.proofs.SomeForm.{either}
-use Rattle.tape_content.proofs.Whole.{front_cut}
+use Rattle.tape_content.proofs.Whole.{front_cut, front_within}
 use Rattle.tape_meaning.specs.Labels.{HasLabel, HasRecord}
 
 -- what doesn't read as bad has the form, and the other way round

@@ -1,5 +1,5 @@
 -- A history goes on: what is kept stays.
-use Rattle.std.proofs.Common.{◌≡◌, ⊎_elim, inl, inr, ℕ, ◌<◌, ◌≤◌, false, List, [], ◌∷◌, sym, subst, ◌∙◌, arith}
+use Rattle.std.proofs.Common.{◌≡◌, ◌≢◌, ◌⊎◌, ⊎_elim, inl, inr, ℕ, ◌+◌, ◌-◌, ◌^◌, ◌<◌, ◌≤◌, ◌++◌, false, List, [], ◌∷◌, length, Option, None, refl, sym, ap, subst, ◌∙◌, arith}
 use Rattle.std.specs.List.{AllByRecursion}
 use Rattle.std.proofs.lemmas.Bool.{cases_lt}
 use Rattle.plain_tree.specs.Tree.{Tree}
@@ -10,9 +10,9 @@ use Rattle.tape_content.specs.Readings.{Construct}
 use Rattle.tape_meaning.specs.Meaning.{IsTreeOf, Stands}
 use Rattle.volume_space.specs.Space.{Space}
 use Rattle.crash_theory.specs.Fine.{GoesOn, IsFine, IsSame}
-use Rattle.crash_theory.specs.Images.{AreSafe, Counts, IsDpImage, IsGrounded, IsImage, IsSound, Tells}
-use Rattle.crash_theory.specs.Kept.{IsHeld, IsServed, Kept, Moment, ReadsAs, Wait, plan_of}
-use Rattle.crash_theory.specs.Made.{Base, Entry, Job, Made, Trees, Volume, least, makes}
+use Rattle.crash_theory.specs.Images.{AreSafe, AreUpTo, Counts, IsDpImage, IsGrounded, IsImage, IsSound, Tells}
+use Rattle.crash_theory.specs.Kept.{IsHeld, IsServed, Kept, Moment, ReadsAs, Serves, Wait, plan_of}
+use Rattle.crash_theory.specs.Made.{Base, Entry, Job, Made, Trees, Volume, after, least, makes}
 use Rattle.crash_theory.specs.Plans.{IsPlanned}
 
 module _ (v : Volume) (old new : Trees) (more : GoesOn old new) where

@@ -1,5 +1,6 @@
 -- A volume that is mounted is kept.
-use Rattle.std.proofs.Common.{◌≡◌, ◌≢◌, inl, ℕ, zero, suc, ◌<◌, ◌≤◌, Bool, true, false, ltb, cond, List, [], ◌∷◌, length, take, Option, Some, None, refl, sym, ap, subst, ◌∙◌, arith}
+use Rattle.std.proofs.Common.{◌≡◌, ◌≢◌, ◌⊎◌, ⊎_elim, inl, inr, ℕ, zero, suc, ◌+◌, ◌<◌, ◌≤◌, ◌++◌, Bool, true, false, ltb, cond, List, [], ◌∷◌, length, take, Option, Some, None, refl, sym, ap, subst, ◌∙◌, arith}
+use Rattle.std.specs.Prelude.{IfSome}
 use Rattle.std.specs.List.{AllByRecursion}
 use Rattle.std.proofs.lemmas.Bool.Decides.{nat_tests}
 use Rattle.std.proofs.lemmas.List.{length-take-le, take-take}
@@ -8,16 +9,18 @@ use Rattle.tape_types.specs.declared.cartridges.Cartridge.{Cartridge}
 use Rattle.tape_types.specs.declared.cartridges.Item.{Item}
 use Rattle.tape_types.specs.declared.cartridges.Part.TheVariants.{Dp, Ip}
 use Rattle.index_model.specs.declared.indexes.Index.{Index}
-use Rattle.tape_content.specs.Readings.{Construct, after_of, front}
+use Rattle.tape_content.specs.Readings.{Construct, HasForm, after_of, front}
 use Rattle.tape_content.specs.Content.{Bad, Content, Data, Index as begun, Phase, content}
-use Rattle.tape_content.specs.Ends.{EndsWithLast, IsOneAtMost, end_dp, end_ip, end_ip_in, kept_in}
+use Rattle.tape_content.specs.Ends.{EndsWithLast, IsOneAtMost, end_dp, end_ip, end_ip_in, kept_in, kept_on_ip}
 use Rattle.tape_content.proofs.Cuts.{cut_behind_index, cut_keeps}
 use Rattle.tape_content.proofs.Folded.{in_data}
 use Rattle.tape_content.proofs.IpEnds.{cut_at_end_ip}
 use Rattle.tape_content.proofs.Placed.{EndsAt, content_placed, end_dp_from, end_dp_within, end_ip_from, end_ip_within, pos_is}
 use Rattle.tape_content.proofs.Whole.{front_within}
-use Rattle.tape_meaning.specs.Meaning.{FitsNode, Found, IsTreeOf, dp_end, ip_end}
-use Rattle.tape_meaning.specs.Notes.{IsHonestNote}
+use Rattle.tape_meaning.specs.Carried.{Carried, carried}
+use Rattle.tape_meaning.specs.Labels.{HasLabels}
+use Rattle.tape_meaning.specs.Meaning.{FitsNode, Found, HasOneIndex, IsTreeOf, Stands, dp_end, ip_end}
+use Rattle.tape_meaning.specs.Notes.{IsHonest, IsHonestNote}
 use Rattle.tape_meaning.specs.Pointers.{IsLastOnDp, IsLastOnIp, chosen, indexes_of, last_block}
 use Rattle.tape_meaning.specs.declared.labels.Labels.{Labels}
 use Rattle.tape_meaning.proofs.Frame.{labels_stay, tree_stays}
@@ -25,9 +28,9 @@ use Rattle.tape_meaning.proofs.OneWay.{labels_once}
 use Rattle.volume_space.specs.Space.{Space}
 use Rattle.crash_theory.specs.Fine.{IsFine}
 use Rattle.crash_theory.specs.Images.{AreHonest, AreUpTo, IsBehind, IsDpImage, IsGrounded, IsImage, IsIpImage, IsSound, Tells}
-use Rattle.crash_theory.specs.Kept.{Kept, Moment, ReadsAs, Serves}
-use Rattle.crash_theory.specs.Made.{Entry, Made, Trees, Volume, cartridge_of, newest_entry, newer_of}
-use Rattle.crash_theory.specs.Plans.{IsPlanned}
+use Rattle.crash_theory.specs.Kept.{IsServed, Kept, Moment, ReadsAs, Serves, plan_of}
+use Rattle.crash_theory.specs.Made.{Base, Entry, Made, Trees, Volume, cartridge_of, newest_entry, newer_of}
+use Rattle.crash_theory.specs.Plans.{IsPlanned, IsReady}
 use Rattle.crash_theory.specs.Starts.{CanStart, IsFirstSpace, ahead_of, begun_with, first_entry, made_of}
 use Rattle.crash_theory.proofs.Cut.{cut_is_whole, has_form, is_good, long_front}
 

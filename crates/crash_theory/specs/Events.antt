@@ -1,5 +1,5 @@
 -- What an op does to a cartridge, and what a crash may leave within it.
-use Rattle.std.specs.Prelude.{◌≡◌}
+use Rattle.std.specs.Prelude.{ℕ, ◌≡◌}
 use Rattle.tape_types.specs.declared.cartridges.Cartridge.{Cartridge}
 use Rattle.tape_types.specs.declared.cartridges.Item.TheVariants.{Block, Mark}
 use Rattle.tape_drive.specs.Commands.{IsBroken, IsWritten}

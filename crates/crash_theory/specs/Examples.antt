@@ -1,5 +1,5 @@
 -- What the definitions say of a small volume.
-use Rattle.std.specs.Prelude.{◌≡◌, [], ◌∷◌, ◌++◌, Some, None}
+use Rattle.std.specs.Prelude.{ℕ, ◌≡◌, List, [], ◌∷◌, ◌++◌, Option, Some, None}
 use Rattle.tape_types.specs.declared.cartridges.Item.TheVariants.{Mark, Torn}
 use Rattle.index_model.specs.declared.indexes.Index.{Index}
 use Rattle.tape_content.specs.Content.{content}
@@ -8,7 +8,7 @@ use Rattle.tape_content.specs.Worked.{block, first_index, labels, second_index, 
 use Rattle.tape_layout.specs.declared.ops.Op.TheVariants as ops
 use Rattle.tape_meaning.specs.Pointers.{indexes_of}
 use Rattle.crash_theory.specs.Images.{IsNext}
-use Rattle.crash_theory.specs.Made.{Entry, Made}
+use Rattle.crash_theory.specs.Made.{Entry, Made, after}
 use Rattle.crash_theory.specs.Worked.{covered, entry, mounted, on_dp, on_ip, put_on_ip, so_far, write_and_sync}
 
 -- which indexes an image of the data partition has: up to the last mark the first alone, torn or not

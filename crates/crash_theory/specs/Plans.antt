@@ -1,14 +1,16 @@
 -- What stands once all jobs are done: the state from which more is admitted.
-use Rattle.std.specs.Prelude.{ℕ, ◌+◌, ◌≤◌, ◌≡◌, false, List, [], ◌∷◌, ◌++◌, length, map, Some}
+use Rattle.std.specs.Prelude.{ℕ, ◌+◌, ◌≤◌, ◌<◌, ◌≡◌, false, List, [], ◌∷◌, ◌++◌, length, map, Option, Some, None}
 use Rattle.std.specs.Option.{option_map}
 use Rattle.tape_types.specs.declared.cartridges.Item.{Item}
 use Rattle.tape_types.specs.declared.cartridges.Part.{Part}
 use Rattle.tape_types.specs.declared.cartridges.Part.TheVariants.{Ip, Dp}
 use Rattle.index_model.specs.Grammar.{IndexText}
 use Rattle.index_model.specs.declared.indexes.Index.{Index}
+use Rattle.index_model.specs.declared.indexes.Spot.{Spot}
 use Rattle.tape_content.specs.Readings.{front}
 use Rattle.tape_content.specs.Content.{Data, content}
 use Rattle.tape_content.specs.Ends.{EndsWithLast}
+use Rattle.tape_layout.specs.declared.ops.Op.{Op}
 use Rattle.tape_layout.specs.declared.ops.Op.TheVariants as ops
 use Rattle.tape_layout.specs.Admissions.{flush_first}
 use Rattle.tape_layout.specs.Ops.{puts}

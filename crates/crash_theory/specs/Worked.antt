@@ -1,11 +1,13 @@
 -- A small volume with one index, on which the definitions are tried.
-use Rattle.std.specs.Prelude.{ℕ, List, [], ◌∷◌, take, Option, Some}
+use Rattle.std.specs.Prelude.{ℕ, List, [], ◌∷◌, ◌++◌, take, Option, Some, None}
+use Rattle.tape_types.specs.declared.cartridges.Item.{Item}
+use Rattle.tape_types.specs.declared.cartridges.Part.{Part}
 use Rattle.tape_types.specs.declared.cartridges.Part.TheVariants.{Ip, Dp}
 use Rattle.tape_types.specs.declared.cartridges.Place.{Place}
 use Rattle.index_model.specs.declared.indexes.Index.{Index}
 use Rattle.tape_content.specs.Worked.{empty_dp, first_index, labels}
 use Rattle.tape_layout.specs.declared.ops.Op.TheVariants as ops
-use Rattle.crash_theory.specs.Made.{Entry, Job, Made, after, least, plain}
+use Rattle.crash_theory.specs.Made.{Base, Entry, Job, Made, after, least, plain}
 
 -- an index of this generation that covers so many placements
 abbrev pub entry : Index → (generation place : ℕ) → Entry
