@@ -1,5 +1,5 @@
 -- More jobs at the end of those that stand.
-use Rattle.std.proofs.Common.{ℕ, ◌+◌, ◌≤◌, ◌<◌, ◌≡◌, ◌≢◌, false, List, [], ◌∷◌, ◌++◌, length, take, map, Option, Some, None, refl, sym, ap, subst, ◌∙◌, arith, append-nil, length-append}
+use Rattle.std.proofs.Common.{ℕ, ◌+◌, ◌≤◌, ◌≡◌, false, List, [], ◌∷◌, ◌++◌, length, refl, sym, ap, subst, ◌∙◌, arith, append-nil, length-append}
 use Rattle.std.specs.List.{AllByRecursion}
 use Rattle.tape_types.specs.declared.cartridges.Cartridge.{Cartridge}
 use Rattle.session_script.specs.declared.logs.Ack.{Ack}
@@ -10,7 +10,7 @@ use Rattle.crash_theory.specs.Kept.{IsServed, Kept, Moment, Serves, Wait, plan_o
 use Rattle.crash_theory.specs.Made.{Job, Made, Trees, Volume, after, cartridge_of, least}
 use Rattle.crash_theory.specs.Plans.{IsPlanned}
 use Rattle.crash_theory.proofs.Appends.{LeadsTo}
-use Rattle.crash_theory.proofs.Longer.{IsGrown, after_append, image_longer, plan_longer, safe_append, safe_longer, sound_after, sound_longer}
+use Rattle.crash_theory.proofs.Longer.{after_append, image_longer, plan_longer, safe_append, safe_longer, sound_after, sound_longer}
 
 -- ---- waits
 

@@ -1,5 +1,5 @@
 -- Items at the end of a partition that make no index whole.
-use Rattle.std.proofs.Common.{ℕ, zero, suc, ◌+◌, ◌≤◌, ◌≡◌, ◌≢◌, ◌⊎◌, ⊎_elim, inl, inr, List, [], ◌∷◌, ◌++◌, length, take, map, Option, Some, None, refl, sym, ap, subst, ◌∙◌, arith, append_assoc, append-nil, length-append, add-one}
+use Rattle.std.proofs.Common.{ℕ, zero, suc, ◌+◌, ◌≤◌, ◌≡◌, ◌≢◌, ⊎_elim, List, [], ◌∷◌, ◌++◌, length, take, map, Option, Some, None, refl, sym, ap, subst, ◌∙◌, arith, append_assoc, append-nil, length-append, add-one}
 use Rattle.std.proofs.lemmas.List.{take-append-le}
 use Rattle.std.specs.Int.{div_ceil}
 use Rattle.std.specs.List.{range_with_len}
@@ -22,7 +22,7 @@ use Rattle.tape_layout.specs.declared.ops.Op.TheVariants as ops
 use Rattle.tape_layout.specs.Ops.{puts}
 use Rattle.tape_meaning.specs.Pointers.{IsLastOnDp, IsLastOnIp, indexes_of}
 use Rattle.crash_theory.specs.Images.{AreSafe, Counts, IsBehind, IsDpImage, IsIpImage, IsSound, MayWrite}
-use Rattle.crash_theory.specs.Made.{Base, Entry, Job, Made, Trees, Volume, after, makes, part_items, plain, put_on}
+use Rattle.crash_theory.specs.Made.{Base, Entry, Job, Made, Trees, Volume, after, part_items, plain, put_on}
 use Rattle.crash_theory.proofs.Longer.{after_append, image_has_index, indexes_long, end_within, safe_append}
 
 -- ---- a partition on which no index stands in the way of the next item

@@ -1,18 +1,20 @@
 -- What a cartridge stands for whose index partition ends with a close's index.
-use Rattle.std.proofs.Common.{ℕ, ◌+◌, ◌≤◌, ◌<◌, ◌≡◌, ◌≢◌, inl, inr, Bool, true, false, cond, ltb, ltb-true, List, [], ◌∷◌, ◌++◌, length, map, Option, Some, None, refl, sym, ap, subst, ◌∙◌, arith}
+use Rattle.std.proofs.Common.{ℕ, ◌+◌, ◌≡◌, inl, Bool, true, false, cond, ltb, ltb-true, List, [], ◌∷◌, length, Some, refl, sym, ap, subst, ◌∙◌, arith}
 use Rattle.std.specs.List.{AllByRecursion}
 use Rattle.tape_types.specs.declared.cartridges.Cartridge.{Cartridge}
 use Rattle.tape_types.specs.declared.cartridges.Item.{Item}
 use Rattle.tape_types.specs.declared.cartridges.Part.TheVariants.{Ip, Dp}
 use Rattle.plain_tree.specs.Tree.{Tree}
+use Rattle.coherency.specs.declared.Coherency.{Coherency}
 use Rattle.index_model.specs.declared.indexes.Index.{Index}
+use Rattle.index_model.specs.declared.indexes.Spot.{Spot}
 use Rattle.tape_content.specs.Readings.{Construct, HasForm}
 use Rattle.tape_content.specs.Content.{Content, Data, content}
 use Rattle.tape_content.specs.Ends.{EndsWithLast, end_ip}
 use Rattle.tape_meaning.specs.Carried.{Carried, carried}
 use Rattle.tape_meaning.specs.Meaning.{AreAlike, FitsNode, Found, IsConsistent, IsTreeOf, Stands, dp_end, ip_end}
-use Rattle.tape_meaning.specs.Notes.{AreNoted, IsCoherent}
-use Rattle.tape_meaning.specs.Pointers.{IsLastOnIp, chosen, indexes_of, newest_spot}
+use Rattle.tape_meaning.specs.Notes.{AreNoted, IsCoherent, TellsOfLast}
+use Rattle.tape_meaning.specs.Pointers.{IsLastOnIp, chosen, indexes_of, last_block, letter_of, newest_spot}
 use Rattle.tape_meaning.specs.declared.labels.Labels.{Labels}
 use Rattle.tape_meaning.proofs.Noted.{noted_coherent}
 use Rattle.crash_theory.specs.Left.{CloseStands}
@@ -119,6 +121,21 @@ module _ (c : Cartridge) (l : Labels) (last index : Index) (h : EndsWithClose c 
     dp_tree = dp_tree;
   }
 
+  pub close_ip_note : (note : Coherency) → note.generation ≡ index.generation
+      → index.here ≡ record { letter = letter_of l.ip Ip; block = note.block } → TellsOfLast c l.ip Ip note
+  close_ip_note note generation here = record {
+    index = index;
+    last = (Some last, h.dp_reads, ip_last);
+    generation = generation;
+    block =
+        ap last_block ip_indexes
+        ∙ ap (λ (spot : Spot). Some spot.block) (sym h.here ∙ here);
+  }
+
+  pub close_dp_note : (note : Coherency) → note.generation ≡ last.generation → last_block (indexes_of c.dp) ≡ Some note.block
+      → TellsOfLast c l.ip Dp note
+  close_dp_note note generation block = record { index = last; last = h.dp_reads; generation = generation; block = block }
+
   pub close_coherent : AreNoted c l.ip → IsCoherent c
   close_coherent noted = noted_coherent c l h.has noted
 
@@ -127,5 +144,7 @@ close_told c l last index h = record {
   stands = close_stands c l last index h;
   consistent = close_consistent c l last index h;
   alike = close_alike c l last index h;
+  ip_note = close_ip_note c l last index h;
+  dp_note = close_dp_note c l last index h;
   coherent = close_coherent c l last index h;
 }

@@ -1,45 +1,43 @@
 -- The index of a close, and what stands behind it.
-use Rattle.std.proofs.Common.{ℕ, ◌+◌, ◌≤◌, ◌<◌, ◌≡◌, ◌≢◌, ◌⊎◌, inl, inr, Bool, true, false, cond, ltb, ltb-true, List, [], ◌∷◌, ◌++◌, length, take, map, Option, Some, None, option_map, refl, sym, ap, subst, ◌∙◌, arith, append-nil, length-append}
+use Rattle.std.proofs.Common.{ℕ, ◌+◌, ◌≤◌, ◌≡◌, ◌≢◌, inl, inr, false, List, [], ◌∷◌, ◌++◌, length, take, map, Option, Some, None, option_map, refl, sym, ap, subst, ◌∙◌, arith, append-nil, length-append}
 use Rattle.std.specs.List.{AllByRecursion}
 use Rattle.std.proofs.lemmas.List.{take-append-le}
 use Rattle.tape_types.specs.declared.cartridges.Cartridge.{Cartridge}
 use Rattle.tape_types.specs.declared.cartridges.Item.{Item}
 use Rattle.tape_types.specs.declared.cartridges.Item.TheVariants.{Block, Mark}
-use Rattle.tape_types.specs.declared.cartridges.Part.{Part}
 use Rattle.tape_types.specs.declared.cartridges.Part.TheVariants.{Ip, Dp}
 use Rattle.plain_tree.specs.Tree.{Tree}
 use Rattle.session_script.specs.declared.logs.Ack.{Ack}
+use Rattle.coherency.specs.declared.Coherency.{Coherency}
 use Rattle.index_model.specs.Grammar.{IndexText}
 use Rattle.index_model.specs.declared.indexes.Index.{Index}
 use Rattle.index_construct.specs.Blocks.{blocks_of}
-use Rattle.tape_content.specs.Readings.{Construct, HasForm, after_of, front}
-use Rattle.tape_content.specs.Content.{Bad, Content, Data, content}
-use Rattle.tape_content.specs.Ends.{EndsWith, EndsWithLast, IsOneAtMost, end_dp, end_ip}
+use Rattle.tape_content.specs.Readings.{Construct, HasForm}
+use Rattle.tape_content.specs.Content.{Content, content}
+use Rattle.tape_content.specs.Ends.{EndsWithLast, IsOneAtMost, end_dp, end_ip}
 use Rattle.tape_content.proofs.Folded.{in_data}
 use Rattle.tape_layout.specs.declared.ops.Op.{Op}
 use Rattle.tape_layout.specs.declared.ops.Op.TheVariants as ops
 use Rattle.tape_layout.specs.Ops.{puts}
 use Rattle.tape_meaning.specs.Labels.{HasLabels}
-use Rattle.tape_meaning.specs.Meaning.{AreAlike, FitsNode, Found, IsConsistent, IsTreeOf, Stands, dp_end, ip_end}
-use Rattle.tape_meaning.specs.Notes.{AreNoted, IsCoherent}
-use Rattle.tape_meaning.specs.Pointers.{IsLastOnDp, IsLastOnIp, chosen, indexes_of, last_block, letter_of, newest_spot}
+use Rattle.tape_meaning.specs.Meaning.{AreAlike, FitsNode, IsConsistent, IsTreeOf, Stands}
+use Rattle.tape_meaning.specs.Notes.{AreNoted, IsCoherent, TellsOfLast}
+use Rattle.tape_meaning.specs.Pointers.{IsLastOnDp, IsLastOnIp, indexes_of, last_block, letter_of, newest_spot}
 use Rattle.tape_meaning.proofs.Frame.{labels_stay, tree_stays}
-use Rattle.tape_meaning.proofs.Noted.{noted_coherent}
 use Rattle.volume_space.specs.Space.{Rules, Space, blocks}
-use Rattle.crash_theory.specs.Left.{IsCloseDone, StandsClosed}
+use Rattle.crash_theory.specs.Left.{IsCloseDone, IsLonger, StandsClosed}
 use Rattle.crash_theory.specs.Closed.{EndsWithClose}
-use Rattle.crash_theory.specs.Fine.{IsSame}
 use Rattle.crash_theory.specs.Images.{Counts, IsBehind, IsIpImage, IsSound, Tells}
-use Rattle.crash_theory.specs.Kept.{Kept, Moment, Serves, Wait, plan_of}
-use Rattle.crash_theory.specs.Made.{Base, Entry, Job, Made, Trees, Volume, after, cartridge_of, flushed, least, newer_of, newest, newest_entry, plain, put_on, still_ahead}
+use Rattle.crash_theory.specs.Kept.{Kept, Moment, Serves, Wait}
+use Rattle.crash_theory.specs.Made.{Base, Entry, Job, Made, Trees, Volume, after, cartridge_of, flushed, newer_of, newest_entry, plain, put_on, still_ahead}
 use Rattle.crash_theory.specs.Plans.{IsCloseDue, IsPlanned, close_jobs}
 use Rattle.crash_theory.proofs.Admits.{kept_more, kept_sound}
-use Rattle.crash_theory.proofs.Appends.{IsOpened, IsQuiet, LeadsTo, form_of, leads_append, puts_are, puts_from, quiet_mark, run, run_makes, sound_put, with_items}
-use Rattle.crash_theory.proofs.Closed.{close_alike, close_coherent, close_consistent, close_stands}
+use Rattle.crash_theory.proofs.Appends.{IsOpened, IsQuiet, LeadsTo, form_of, leads_append, puts_are, quiet_mark, run, run_makes, sound_put, with_items}
+use Rattle.crash_theory.proofs.Closed.{close_alike, close_coherent, close_consistent, close_dp_note, close_ip_note, close_stands}
 use Rattle.crash_theory.proofs.Data.{count_is, length_more, ready_opened}
 use Rattle.crash_theory.proofs.Flushes.{CanFlush, IsAbove, flush_sound}
 use Rattle.crash_theory.proofs.Indexes.{construct_content, construct_is, construct_long, construct_ready, joined, new_construct, some_blocks, spot_named, with_construct}
-use Rattle.crash_theory.proofs.Longer.{IsLonger, after_append, sound_longer}
+use Rattle.crash_theory.proofs.Longer.{after_append, sound_longer}
 
 -- the newest index of the data partition is flushed
 flushed_indexes : (v : Volume) (t : Trees) (plan : Cartridge) (b : Base) (end : ℕ) (ks more : List Construct) (last : Entry) → b.ahead ≡ None → last ≡ b.floor
@@ -317,6 +315,15 @@ module _ (v : Volume) (t : Trees) (s : Made) (space : Space) (rules : Rules) (te
         subst (λ (n : ℕ). AreAlike c v.facts (t.nth t.count) n) newest_is
         (close_alike c v.labels s.last.index index ends v.facts (t.nth t.count) due.tells.facts tells.facts ip_tree (dp_tree unchanged))
 
+    pub closed_ip_note : (note : Coherency) → note.generation ≡ space.newest → note.block ≡ space.ends.ip + 1 → TellsOfLast c v.labels.ip Ip note
+    closed_ip_note note generation block =
+        close_ip_note c v.labels s.last.index index ends note (generation ∙ sym due.generation)
+        (due.here ∙ ap (λ (n : ℕ). record { letter = letter_of v.labels.ip Ip; block = n }) (sym block))
+
+    pub closed_dp_note : (note : Coherency) → note.generation ≡ space.newest → space.last_dp ≡ Some note.block → TellsOfLast c v.labels.ip Dp note
+    closed_dp_note note generation block =
+        close_dp_note c v.labels s.last.index index ends note (generation ∙ sym newest_is) (ap last_block dp_indexes ∙ sym p.last_dp ∙ block)
+
     pub closed_coherent : AreNoted c v.labels.ip → IsCoherent c
     closed_coherent noted = close_coherent c v.labels s.last.index index ends noted
 
@@ -332,7 +339,7 @@ admitted_close v t s since d done jobs waits acks space rules text index h due n
 -- a close that is done
 pub close_leaves : (v : Volume) (t : Trees) (s made : Made) (space : Space) (rules : Rules) (since : ℕ) (d : Moment) (done : ℕ) (waits : List Wait) (acks : List Ack)
     (text : List ℕ) (index : Index) → Kept v t made since d done [] waits acks → IsCloseDone v t s made space rules text index d.held
-    → StandsClosed v t space.newest d.held
+    → StandsClosed v t space d.held
 close_leaves v t s made space rules since d done waits acks text index k h =
     let there : Made = close_made v t s space rules text index h.planned h.due h.none_ahead h.size in
     let same : made ≡ there = h.made_is ∙ close_makes v t s space rules text index h.planned h.due h.none_ahead h.size in
@@ -343,5 +350,7 @@ close_leaves v t s made space rules since d done waits acks text index k h =
       stands = closed_stands v t s space rules text index h.planned h.due h.none_ahead h.size d.held ip dp sound h.unchanged;
       consistent = closed_consistent v t s space rules text index h.planned h.due h.none_ahead h.size d.held ip dp sound h.unchanged;
       alike = closed_alike v t s space rules text index h.planned h.due h.none_ahead h.size d.held ip dp sound h.unchanged;
+      ip_note = closed_ip_note v t s space rules text index h.planned h.due h.none_ahead h.size d.held ip dp sound;
+      dp_note = closed_dp_note v t s space rules text index h.planned h.due h.none_ahead h.size d.held ip dp sound;
       coherent = closed_coherent v t s space rules text index h.planned h.due h.none_ahead h.size d.held ip dp sound;
     }

@@ -1,30 +1,27 @@
 -- Data that is admitted.
-use Rattle.std.proofs.Common.{ℕ, ◌+◌, ◌≤◌, ◌≡◌, ◌≢◌, true, false, List, [], ◌∷◌, ◌++◌, length, map, Option, Some, None, refl, sym, ap, subst, ◌∙◌, arith, append-nil, length-append}
+use Rattle.std.proofs.Common.{ℕ, ◌+◌, ◌≡◌, List, [], ◌++◌, length, map, refl, sym, ap, subst, ◌∙◌, arith, append-nil, length-append}
 use Rattle.std.specs.Int.{div_ceil}
-use Rattle.std.specs.List.{range_with_len}
 use Rattle.std.proofs.lemmas.List.{length-map}
 use Rattle.std.proofs.lemmas.List.FromFn.{length-map-range_with_len}
-use Rattle.tape_types.specs.declared.cartridges.Cartridge.{Cartridge}
 use Rattle.tape_types.specs.declared.cartridges.Item.{Item}
 use Rattle.tape_types.specs.declared.cartridges.Item.TheVariants.{Block}
 use Rattle.tape_types.specs.declared.cartridges.Part.{Part}
 use Rattle.tape_types.specs.declared.cartridges.Part.TheVariants.{Ip, Dp}
 use Rattle.session_script.specs.declared.logs.Ack.{Ack}
 use Rattle.index_construct.specs.Blocks.{block_at, blocks_of}
-use Rattle.tape_content.specs.Readings.{Construct, front}
-use Rattle.tape_content.specs.Content.{Content, Data, content}
+use Rattle.tape_content.specs.Content.{Content}
 use Rattle.tape_content.proofs.Grown.{blocks_appended}
 use Rattle.tape_content.proofs.Whole.{front_append, front_blocks}
 use Rattle.tape_layout.specs.declared.ops.Op.{Op}
 use Rattle.tape_layout.specs.Ops.{end_of}
 use Rattle.tape_meaning.specs.Pointers.{indexes_of, last_block}
-use Rattle.volume_space.specs.Space.{Rules, Space, blocks, with_data}
+use Rattle.volume_space.specs.Space.{Rules, Space, with_data}
 use Rattle.crash_theory.specs.Images.{IsSound, MayWrite}
-use Rattle.crash_theory.specs.Kept.{Kept, Moment, Serves, Wait, plan_of}
+use Rattle.crash_theory.specs.Kept.{Moment, Serves, Wait}
 use Rattle.crash_theory.specs.Made.{Job, Made, Trees, Volume, after, cartridge_of, part_items, plain}
 use Rattle.crash_theory.specs.Plans.{IsPlanned, IsReady, data_jobs}
 use Rattle.crash_theory.proofs.Admits.{kept_sound, serves_more}
-use Rattle.crash_theory.proofs.Appends.{IsFree, IsOpened, LeadsTo, data_opened, puts_are, puts_from, run, with_items}
+use Rattle.crash_theory.proofs.Appends.{IsFree, IsOpened, LeadsTo, data_opened, puts_are, run, with_items}
 use Rattle.crash_theory.proofs.Longer.{IsGrown, sound_longer}
 
 -- how many blocks a document has

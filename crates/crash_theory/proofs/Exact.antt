@@ -1,5 +1,6 @@
 -- Where a partition that is written ends.
-use Rattle.std.proofs.Common.{ℕ, ◌+◌, ◌≤◌, ◌≡◌, ◌≢◌, ◌⊎◌, inl, inr, List, [], ◌∷◌, ◌++◌, length, take, Option, refl, sym, ap, ◌∙◌}
+use Rattle.std.proofs.Common.{ℕ, ◌≡◌, ◌⊎◌, inl, inr, List, [], ◌∷◌, ◌++◌, length, take, Option, refl, ap, ◌∙◌, sym, arith}
+use Rattle.std.proofs.lemmas.List.{take_all}
 use Rattle.tape_types.specs.declared.cartridges.Cartridge.{Cartridge}
 use Rattle.tape_types.specs.declared.cartridges.Item.{Item}
 use Rattle.tape_types.specs.declared.cartridges.Item.TheVariants.{Block, Mark}
@@ -7,13 +8,18 @@ use Rattle.tape_types.specs.declared.cartridges.Part.{Part}
 use Rattle.tape_types.specs.declared.cartridges.Part.TheVariants.{Ip, Dp}
 use Rattle.tape_types.specs.declared.cartridges.Place.{Place}
 use Rattle.tape_types.specs.Cartridges.{items_of}
-use Rattle.tape_drive.specs.Commands.{IsBroken, IsWritten, KeepsRest}
+use Rattle.index_model.specs.declared.indexes.Index.{Index}
+use Rattle.tape_content.specs.Readings.{Construct, after_of}
+use Rattle.tape_content.specs.Ends.{EndsWithLast, end_dp}
+use Rattle.tape_drive.specs.Commands.{IsWritten, KeepsRest}
 use Rattle.tape_layout.specs.declared.ops.Op.{Op}
 use Rattle.tape_layout.specs.declared.ops.Op.TheVariants as ops
+use Rattle.tape_meaning.specs.Pointers.{indexes_of}
 use Rattle.crash_theory.specs.Closed.{Begins, IsExact, PutsOn}
 use Rattle.crash_theory.specs.Events.{IsDone, IsFailed}
 use Rattle.crash_theory.specs.Images.{IsNext}
-use Rattle.crash_theory.specs.Made.{Entry, Job, Made, does, makes, part_items, put_on}
+use Rattle.crash_theory.specs.Starts.{made_of}
+use Rattle.crash_theory.specs.Made.{Entry, Made, does, makes, part_items, put_on}
 
 rest_exact : (written part : Part) (s : Made) (old new : Cartridge) → (written ≡ part → ⊥) → KeepsRest written old new → IsExact part s old
     → IsExact part s new
@@ -53,3 +59,11 @@ pub failed_exact : (part : Part) (op : Op) (s : Made) (old new : Cartridge) → 
 failed_exact part (ops.Put place bytes) s old new other failed exact = rest_exact place.part part s old new other failed.rest exact
 failed_exact part (ops.Mark place) s old new other failed exact = rest_exact place.part part s old new other failed.rest exact
 failed_exact part (ops.Flush place) s old new other failed exact = ap (λ (c : Cartridge). items_of part c) failed ∙ exact
+
+-- a data partition that ends with its last index is served as it stands
+begun_from : (c : Cartridge) (ks : List Construct) → EndsWithLast c.dp ks → take (end_dp ks) c.dp ≡ c.dp
+begun_from c [] ends = absurd ends
+begun_from c (k ∷ older) ends = take_all (after_of k) c.dp (omega (arith, ends))
+
+pub begun_exact : (c : Cartridge) (on_ip : Option Index) (on_dp : Index) → EndsWithLast c.dp (indexes_of c.dp) → IsExact Dp (made_of c on_ip on_dp) c
+begun_exact c on_ip on_dp ends = sym (begun_from c (indexes_of c.dp) ends)

@@ -1,5 +1,5 @@
 -- A flush: what was made up to it is what every crash leaves from then on.
-use Rattle.std.proofs.Common.{ℕ, ◌+◌, ◌≤◌, ◌<◌, ◌≡◌, ◌≢◌, ◌⊎◌, ⊎_elim, inl, inr, Bool, true, false, ltb, ltb-true, ltb-false, if◌then◌else◌, List, [], ◌∷◌, ◌++◌, length, take, Option, Some, None, refl, sym, ap, subst, ◌∙◌, arith, append-nil, length-append}
+use Rattle.std.proofs.Common.{ℕ, ◌≤◌, ◌<◌, ◌≡◌, ◌≢◌, ◌⊎◌, ⊎_elim, inl, inr, Bool, true, false, ltb, ltb-true, ltb-false, if◌then◌else◌, List, [], ◌∷◌, ◌++◌, length, take, Option, Some, None, refl, sym, ap, subst, ◌∙◌, arith, length-append}
 use Rattle.std.proofs.lemmas.List.{take-append-le}
 use Rattle.tape_types.specs.declared.cartridges.Cartridge.{Cartridge}
 use Rattle.tape_types.specs.declared.cartridges.Item.{Item}
@@ -9,7 +9,7 @@ use Rattle.tape_types.specs.declared.cartridges.Part.TheVariants.{Ip, Dp}
 use Rattle.tape_types.specs.declared.cartridges.Place.{Place}
 use Rattle.index_model.specs.declared.indexes.Index.{Index}
 use Rattle.tape_content.specs.Readings.{Construct}
-use Rattle.tape_content.specs.Content.{Content, Data, Phase, content}
+use Rattle.tape_content.specs.Content.{Phase, content}
 use Rattle.tape_content.specs.Ends.{end_dp, end_ip, end_ip_in}
 use Rattle.tape_content.proofs.Placed.{end_ip_from, end_ip_within, pos_is}
 use Rattle.tape_content.proofs.Whole.{front_within}
@@ -17,11 +17,12 @@ use Rattle.tape_layout.specs.declared.ops.Op.{Op}
 use Rattle.tape_layout.specs.declared.ops.Op.TheVariants as ops
 use Rattle.tape_meaning.specs.Pointers.{indexes_of}
 use Rattle.tape_meaning.proofs.Frame.{nodes_further}
+use Rattle.crash_theory.specs.Left.{IsLonger}
 use Rattle.crash_theory.specs.Images.{AreSafe, Counts, IsBehind, IsGrounded, IsIpImage, IsSound, Tells}
-use Rattle.crash_theory.specs.Made.{Base, Entry, Job, Made, Trees, Volume, after, cartridge_of, does, flushed, makes, newer_of, newest, newest_entry, put_on, still_ahead}
+use Rattle.crash_theory.specs.Made.{Base, Entry, Job, Made, Trees, Volume, after, cartridge_of, does, flushed, makes, newer_of, newest_entry, put_on, still_ahead}
 use Rattle.crash_theory.specs.Plans.{IsReady}
 use Rattle.crash_theory.proofs.Appends.{IsOpened, data_before, data_opened, form_of, ip_empty, opened_long}
-use Rattle.crash_theory.proofs.Longer.{IsLonger, end_within, image_has_index}
+use Rattle.crash_theory.proofs.Longer.{end_within, image_has_index}
 
 -- ---- the index that is ahead
 

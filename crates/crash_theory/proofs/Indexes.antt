@@ -1,21 +1,18 @@
 -- An index that is admitted on the data partition.
-use Rattle.std.proofs.Common.{ℕ, ◌+◌, ◌≤◌, ◌<◌, ◌≡◌, ◌≢◌, ◌⊎◌, inl, inr, Bool, true, false, List, [], ◌∷◌, ◌++◌, length, take, map, Option, Some, None, option_map, refl, sym, ap, subst, ◌∙◌, arith, append_assoc, append-nil, length-append}
-use Rattle.std.specs.Int.{div_ceil}
+use Rattle.std.proofs.Common.{ℕ, ◌+◌, ◌≤◌, ◌<◌, ◌≡◌, ◌≢◌, inr, Bool, true, false, List, [], ◌∷◌, ◌++◌, length, take, map, Option, Some, None, option_map, refl, sym, ap, subst, ◌∙◌, arith, append_assoc, append-nil, length-append}
 use Rattle.std.specs.List.{concat}
 use Rattle.std.proofs.lemmas.List.{take-append-le}
 use Rattle.tape_types.specs.declared.cartridges.Cartridge.{Cartridge}
 use Rattle.tape_types.specs.declared.cartridges.Item.{Item}
 use Rattle.tape_types.specs.declared.cartridges.Item.TheVariants.{Block, Mark}
-use Rattle.tape_types.specs.declared.cartridges.Part.{Part}
 use Rattle.tape_types.specs.declared.cartridges.Part.TheVariants.{Ip, Dp}
 use Rattle.session_script.specs.declared.logs.Ack.{Ack}
 use Rattle.ltfs_label.specs.declared.Label.{Label}
 use Rattle.index_model.specs.Grammar.{IndexText}
 use Rattle.index_model.specs.declared.indexes.Index.{Index}
-use Rattle.index_model.specs.declared.indexes.Spot.{Spot}
 use Rattle.index_construct.specs.Blocks.{blocks_of}
 use Rattle.index_construct.proofs.Cuts.{cut_in_one_way}
-use Rattle.tape_content.specs.Readings.{Construct, after_of, front}
+use Rattle.tape_content.specs.Readings.{Construct, front}
 use Rattle.tape_content.specs.Content.{Bad, Content, Data, content}
 use Rattle.tape_content.specs.Ends.{EndsWithLast, end_dp, end_ip}
 use Rattle.tape_content.proofs.Folded.{in_data}
@@ -25,18 +22,19 @@ use Rattle.tape_layout.specs.declared.ops.Op.{Op}
 use Rattle.tape_layout.specs.declared.ops.Op.TheVariants as ops
 use Rattle.tape_layout.specs.Admissions.{flush_first}
 use Rattle.tape_layout.specs.Ops.{puts}
-use Rattle.tape_meaning.specs.Pointers.{IsLastOnDp, indexes_of, last_block, letter_of, newest_spot, text_of}
+use Rattle.tape_meaning.specs.Pointers.{IsLastOnDp, indexes_of, last_block, letter_of, newest_spot}
 use Rattle.volume_space.specs.Space.{Rules, Space, blocks, with_index}
+use Rattle.crash_theory.specs.Left.{IsLonger}
 use Rattle.crash_theory.specs.Fine.{IsSame}
-use Rattle.crash_theory.specs.Images.{Counts, IsDpImage, IsSound, Tells}
+use Rattle.crash_theory.specs.Images.{Counts, IsSound, Tells}
 use Rattle.crash_theory.specs.Kept.{IsServed, Kept, Moment, Serves, Wait, plan_of}
 use Rattle.crash_theory.specs.Made.{Base, Entry, Job, Made, Trees, Volume, after, cartridge_of, flushed, least, newer_of, newest, newest_entry, plain, put_on, still_ahead}
 use Rattle.crash_theory.specs.Plans.{IsDue, IsPlanned, IsReady, index_jobs}
 use Rattle.crash_theory.proofs.Admits.{kept_sound, served_unchanged, serves_more}
-use Rattle.crash_theory.proofs.Appends.{IsOpened, IsQuiet, LeadsTo, dp_more, form_of, leads_append, puts_are, puts_from, quiet_mark, run, sound_put, with_items}
+use Rattle.crash_theory.proofs.Appends.{IsOpened, IsQuiet, LeadsTo, form_of, leads_append, puts_are, quiet_mark, run, sound_put, with_items}
 use Rattle.crash_theory.proofs.Data.{count_is, length_more, ready_opened}
 use Rattle.crash_theory.proofs.Flushes.{CanFlush, IsAbove, above_after, behind_above, end_ready, flush_above, flush_free, newest_stays, none_ahead, tells_further}
-use Rattle.crash_theory.proofs.Longer.{IsGrown, IsLonger, after_append, sound_after, sound_longer, tells_longer}
+use Rattle.crash_theory.proofs.Longer.{after_append, sound_after, sound_longer, tells_longer}
 
 -- ---- the text of an index in its blocks
 

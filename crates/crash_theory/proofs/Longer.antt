@@ -1,6 +1,6 @@
 -- A plan that goes on: what was sound of it stays sound.
-use Rattle.std.proofs.Common.{ℕ, ◌+◌, ◌≤◌, ◌<◌, ◌≡◌, ◌≢◌, ◌⊎◌, ⊎_elim, inl, inr, List, [], ◌∷◌, ◌++◌, length, take, drop, Option, Some, None, refl, sym, ap, subst, ◌∙◌, arith, append_assoc, append-nil, length-append, length-drop, length-take}
-use Rattle.std.proofs.lemmas.List.{take-append-le, length-take-le}
+use Rattle.std.proofs.Common.{ℕ, ◌≤◌, ◌≡◌, ◌≢◌, inl, inr, List, [], ◌∷◌, ◌++◌, length, take, Option, refl, sym, ap, subst, ◌∙◌, arith, append_assoc, append-nil, length-append, length-drop, length-take}
+use Rattle.std.proofs.lemmas.List.{take-append-le}
 use Rattle.std.proofs.lemmas.Option.{slice_get_within}
 use Rattle.std.specs.List.{fold}
 use Rattle.tape_types.specs.declared.cartridges.Cartridge.{Cartridge}
@@ -9,7 +9,7 @@ use Rattle.tape_types.specs.declared.cartridges.Item.TheVariants.{Block, Mark}
 use Rattle.tape_types.specs.declared.cartridges.Part.{Part}
 use Rattle.tape_types.specs.declared.cartridges.Part.TheVariants.{Ip, Dp}
 use Rattle.tape_content.specs.Readings.{Construct, front, readable}
-use Rattle.tape_content.specs.Content.{content, seen, start}
+use Rattle.tape_content.specs.Content.{seen, start}
 use Rattle.tape_content.specs.Ends.{end_dp}
 use Rattle.tape_content.proofs.Placed.{end_dp_within}
 use Rattle.tape_content.proofs.Whole.{front_within}
@@ -19,15 +19,9 @@ use Rattle.tape_meaning.specs.Labels.{HasLabels}
 use Rattle.tape_meaning.specs.Pointers.{indexes_of}
 use Rattle.tape_meaning.specs.declared.labels.Labels.{Labels}
 use Rattle.tape_meaning.proofs.Frame.{labels_stay, tree_stays}
+use Rattle.crash_theory.specs.Left.{IsLonger, PlansGoOn}
 use Rattle.crash_theory.specs.Images.{AreSafe, Counts, IsDpImage, IsGrounded, IsImage, IsIpImage, IsSound, Tells}
-use Rattle.crash_theory.specs.Made.{Base, Entry, Job, Made, Trees, Volume, after, cartridge_of, does, least, makes, newest, newest_entry, put_on}
-
--- what the second plans begins with what the first plans
-pub record IsLonger (plan longer : Cartridge) : Type 0 where
-  pub more_ip : List Item
-  pub ip : longer.ip ≡ plan.ip ++ more_ip
-  pub more_dp : List Item
-  pub dp : longer.dp ≡ plan.dp ++ more_dp
+use Rattle.crash_theory.specs.Made.{Base, Entry, Job, Made, Trees, Volume, after, cartridge_of, does, makes, newest_entry, put_on}
 
 -- ---- lengths
 
@@ -199,3 +193,15 @@ after_longer (job ∷ jobs) s =
 pub plan_longer : (jobs more : List Job) (s : Made) → IsGrown (after s jobs) (after s (jobs ++ more))
 plan_longer jobs more s =
     subst (λ (m : Made). IsGrown (after s jobs) m) (sym (after_append jobs more s)) (after_longer more (after s jobs))
+
+pub plans_go_on : (v : Volume) (t : Trees) → PlansGoOn v t
+plans_go_on v t = record {
+  images = λ plan longer b c l g. image_longer v t plan longer l b c g;
+  grounded = λ plan longer b l. grounded_longer v t plan longer l b;
+  sound = λ plan longer s l. sound_longer v t plan longer l s;
+  safe = λ plan longer jobs s l. safe_longer v t plan longer l jobs s;
+  joined = safe_append v t;
+  behind = sound_after v t;
+  append = after_longer;
+  parts = after_append;
+}

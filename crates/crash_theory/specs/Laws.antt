@@ -161,7 +161,7 @@ pub record ClosesLeave {D : Type 0} (drive : Ghosts D) : Type 0 where
   pub closed : (x : State) (before : Made) (space : Space) (rules : Rules) (text : List ℕ) (index : Index) (d : D)
       (held : Cartridge)
       → IsKept drive (with_jobs [] x) d held → IsCloseDone x.volume x.trees before x.made space rules text index held
-      → StandsClosed x.volume x.trees space.newest held
+      → StandsClosed x.volume x.trees space held
 
 -- What is kept gives the promise: each cartridge that a crash may leave now stands for what was flushed, or more;
 -- each that it may have left since the start stands for a prefix of the history; each since an acknowledgement for

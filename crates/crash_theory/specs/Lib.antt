@@ -11,3 +11,4 @@ pub mod Laws
 pub mod Closed
 pub mod Moments
 pub mod Left
+pub mod JobExamples

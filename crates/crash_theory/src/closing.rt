@@ -1,16 +1,26 @@
-//! What a cartridge stands for that was closed.
+//! Plans that go on, and what a cartridge stands for that was closed.
 
 ghost use Rattle.std.specs.Prelude.{◌≡◌, ◌⊎◌, List, Option, None};
+ghost use Rattle.tape_content.specs.Ends.{EndsWithLast};
 ghost use Rattle.tape_types.specs.declared.cartridges.Cartridge.{Cartridge};
 ghost use Rattle.tape_types.specs.declared.cartridges.Part.{Part};
+ghost use Rattle.tape_types.specs.declared.cartridges.Part.TheVariants.{Dp};
 ghost use Rattle.index_model.specs.declared.indexes.Index.{Index};
 ghost use Rattle.tape_layout.specs.declared.ops.Op.{Op};
+ghost use Rattle.tape_meaning.specs.Pointers.{indexes_of};
 ghost use Rattle.tape_meaning.specs.declared.labels.Labels.{Labels};
 ghost use Rattle.crash_theory.specs.Closed.{Begins, EndsWithClose, IsExact, PutsOn};
 ghost use Rattle.crash_theory.specs.Events.{IsDone, IsFailed};
 ghost use Rattle.crash_theory.specs.Images.{IsNext};
-ghost use Rattle.crash_theory.specs.Left.{CloseStands};
-ghost use Rattle.crash_theory.specs.Made.{Entry, Job, Made, after, makes};
+ghost use Rattle.crash_theory.specs.Left.{CloseStands, PlansGoOn};
+ghost use Rattle.crash_theory.specs.Made.{Entry, Job, Made, Trees, Volume, after, makes};
+ghost use Rattle.crash_theory.specs.Starts.{made_of};
+
+/// What is so of a plan stays so as it goes on.
+#[tactic(auto, using(crate::proofs::Longer::plans_go_on))]
+pub fn plans_go_on()
+    ensures { (v : Volume) (t : Trees) → PlansGoOn v t }
+{}
 
 /// What a cartridge stands for that ends with a close's index, over any history.
 #[tactic(auto, using(crate::proofs::Closed::close_told))]
@@ -19,9 +29,12 @@ pub fn a_close_stands()
         → CloseStands c l last index }
 {}
 
-/// A partition ends where it was made to once an item is put on it, as long as no op on it fails.
-#[tactic(auto, using(crate::proofs::Exact::done_exact, crate::proofs::Exact::failed_exact))]
+/// A partition ends where it was made to once an item is put on it, as long as no op on it fails; the data partition of
+/// a mount does where it ends with its last index.
+#[tactic(auto, using(crate::proofs::Exact::done_exact, crate::proofs::Exact::failed_exact, crate::proofs::Exact::begun_exact))]
 pub fn partitions_end_where_they_were_made_to()
+    ensures begun { (c : Cartridge) (on_ip : Option Index) (on_dp : Index) → EndsWithLast c.dp (indexes_of c.dp)
+        → IsExact Dp (made_of c on_ip on_dp) c }
     ensures done { (part : Part) (op : Op) (whole : Option Entry) (s : Made) (old new : Cartridge) → IsNext op s
         → ((written : Part) → Begins written s old) → IsDone op old new → (PutsOn part op ⊎ IsExact part s old)
         → IsExact part (makes (record { op = op; whole = whole }) s) new }

@@ -3,6 +3,7 @@
 ghost use Rattle.std.specs.Prelude.{Some, None};
 ghost use Rattle.index_model.specs.declared.indexes.Index.{Index};
 ghost use Rattle.crash_theory.specs.Examples.{TellsAhead, TellsCovered, TellsImages, TellsIp, TellsNext};
+ghost use Rattle.crash_theory.specs.JobExamples.{TellsClose, TellsJobs};
 ghost use Rattle.crash_theory.specs.Made.{Entry};
 ghost use Rattle.crash_theory.specs.Worked.{entry, mounted};
 
@@ -17,4 +18,10 @@ pub fn the_definitions_tell_modes()
     ensures next { (first ahead : Entry) → TellsNext (mounted first None) (mounted first (Some ahead)) }
     ensures ip { (first : Entry) → TellsIp (mounted first None) }
     ensures ahead { (index : Index) → TellsAhead index }
+{}
+
+/// Which ops are admitted and where they go, and what a close makes of a small volume.
+pub fn the_definitions_tell_jobs()
+    ensures jobs { (e : Entry) → TellsJobs e }
+    ensures close { (first second : Entry) → TellsClose first second }
 {}
