@@ -1,5 +1,5 @@
 -- What is kept gives.
-use Rattle.std.proofs.Common.{◌≡◌, ℕ, ◌-◌, ◌^◌, ◌<◌, ◌≤◌, ◌++◌, List, [], ◌∷◌, length, take, subst, ◌∙◌, arith}
+use Rattle.std.proofs.Common.{ap, sym, ◌≡◌, ℕ, ◌-◌, ◌^◌, ◌<◌, ◌≤◌, ◌++◌, List, [], ◌∷◌, length, take, subst, ◌∙◌, arith, Some}
 use Rattle.std.specs.List.{AllByRecursion}
 use Rattle.tape_types.specs.declared.cartridges.Cartridge.{Cartridge}
 use Rattle.tape_types.specs.declared.cartridges.Part.{Part}
@@ -8,9 +8,20 @@ use Rattle.tape_types.specs.Cartridges.{items_of}
 use Rattle.plain_tree.specs.Tree.{Tree}
 use Rattle.session_script.specs.declared.logs.Ack.{Ack}
 use Rattle.tape_meaning.specs.Meaning.{Stands}
+use Rattle.tape_meaning.specs.Notes.{TellsOfLast}
+use Rattle.tape_meaning.specs.Pointers.{IsLastOnDp, IsLastOnIp, indexes_of, last_block}
+use Rattle.coherency.specs.declared.Coherency.{Coherency}
+use Rattle.index_model.specs.declared.indexes.Index.{Index}
+use Rattle.tape_content.specs.Ends.{end_dp}
+use Rattle.tape_content.specs.Readings.{Construct}
+use Rattle.tape_layout.specs.declared.ops.Op.{Op}
+use Rattle.tape_layout.specs.declared.ops.Op.TheVariants as ops
+use Rattle.crash_theory.specs.Events.{IsReached}
+use Rattle.crash_theory.specs.Images.{IsNext}
 use Rattle.crash_theory.specs.Fine.{IsFine, IsSame}
 use Rattle.crash_theory.specs.Kept.{IsHeld, Kept, Moment, Wait, plan_of}
-use Rattle.crash_theory.specs.Made.{Job, Made, Trees, Volume, least, newest, part_items}
+use Rattle.crash_theory.specs.Made.{Entry, Job, Made, Trees, Volume, least, newest, part_items}
+use Rattle.crash_theory.proofs.Pointing.{counts_point}
 use Rattle.crash_theory.proofs.Fines.{fine, flushed_stands}
 
 -- a list that begins with another is no shorter
@@ -58,3 +69,49 @@ module _ (v : Volume) (t : Trees) (s : Made) (since : ℕ) (d : Moment) (done : 
   pub reaches : (p : Part) → length (part_items p s) ≤ length (items_of p d.held)
   reaches Ip = long_of s.ip d.held.ip k.reads.ip
   reaches Dp = long_of s.dp d.held.dp k.reads.dp
+
+  -- what the last index of the index partition reads as points right beside that of the data partition
+  pub last_on_ip : IsLastOnIp v.labels.ip (indexes_of d.held.ip) (indexes_of d.held.dp) (Some s.last.index) k.reads.image.ip.on_ip
+  last_on_ip =
+      let i = k.reads.image in
+      subst (λ (e : Entry). IsLastOnIp v.labels.ip (indexes_of d.held.ip) (indexes_of d.held.dp) (Some e.index) i.ip.on_ip) k.reads.last_is
+      (subst (λ (ks : List Construct). IsLastOnIp v.labels.ip (indexes_of d.held.ip) ks (Some i.last.index) i.ip.on_ip) (sym i.dp.split)
+      (counts_point v t (plan_of s jobs) s.base (end_dp (indexes_of d.held.dp)) (indexes_of d.held.ip) i.dp.more i.last i.ip.on_ip
+      k.sound.grounded.some i.ip.behind i.dp.counts i.ip.reads))
+
+  pub last_on_dp : IsLastOnDp v.labels.ip (indexes_of d.held.dp) (Some s.last.index)
+  last_on_dp =
+      subst (λ (e : Entry). IsLastOnDp v.labels.ip (indexes_of d.held.dp) (Some e.index)) k.reads.last_is k.reads.image.dp.reads
+
+  -- so a note with the generation and the place of that index tells of it
+  pub tells_on_dp : (note : Coherency) → note.generation ≡ s.last.index.generation → last_block (indexes_of s.dp) ≡ Some note.block
+      → TellsOfLast d.held v.labels.ip Dp note
+  tells_on_dp note generation block = record {
+    index = s.last.index;
+    last = last_on_dp;
+    generation = generation;
+    block = ap last_block k.reads.no_more ∙ block;
+  }
+
+  pub tells_on_ip : (note : Coherency) (index : Index) → k.reads.image.ip.on_ip ≡ Some index → note.generation ≡ index.generation
+      → last_block (indexes_of d.held.ip) ≡ Some note.block → TellsOfLast d.held v.labels.ip Ip note
+  tells_on_ip note index is generation block = record {
+    index = index;
+    last = (
+      Some s.last.index,
+      last_on_dp,
+      subst (IsLastOnIp v.labels.ip (indexes_of d.held.ip) (indexes_of d.held.dp) (Some s.last.index)) is last_on_ip,
+    );
+    generation = generation;
+    block = block;
+  }
+
+-- the next op begins where the drive can go
+pub next_reached : (v : Volume) (t : Trees) (s : Made) (since : ℕ) (d : Moment) (done : ℕ) (job : Job) (jobs : List Job) (waits : List Wait) (acks : List Ack)
+    → Kept v t s since d done (job ∷ jobs) waits acks → IsReached job.op d.held
+next_reached v t s since d done job jobs waits acks k = by job.op k.safe.0
+  where
+    by : (op : Op) → IsNext op s → IsReached op d.held
+    by (ops.Put place bytes) next = omega (arith, next.0, reaches v t s since d done (job ∷ jobs) waits acks k place.part)
+    by (ops.Mark place) next = omega (arith, next.0, reaches v t s since d done (job ∷ jobs) waits acks k place.part)
+    by (ops.Flush place) next = tt

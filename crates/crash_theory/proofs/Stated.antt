@@ -12,7 +12,7 @@ use Rattle.crash_theory.proofs.Closes.{admitted_close, close_leaves}
 use Rattle.crash_theory.proofs.Data.{admitted_data}
 use Rattle.crash_theory.proofs.Events.{kept_done, kept_failed, kept_read}
 use Rattle.crash_theory.proofs.Fines.{fine, fine_same, weaker}
-use Rattle.crash_theory.proofs.Gives.{acked_fine, history_stands, now_fine}
+use Rattle.crash_theory.proofs.Gives.{acked_fine, history_stands, next_reached, now_fine}
 use Rattle.crash_theory.proofs.Growth.{fine_on, kept_on}
 use Rattle.crash_theory.proofs.Indexes.{admitted_index, index_served, index_settled}
 use Rattle.crash_theory.proofs.Noted.{kept_noted, noted_sure}
@@ -77,6 +77,7 @@ module _ {D : Type 0} (drive : Ghosts D) where
 
   pub kept_gives : KeptGives drive
   kept_gives = record {
+    next = λ x job jobs d held kept. next_reached x.volume x.trees x.made x.since (moment_of drive d held) x.done job jobs x.waits x.acks kept;
     now = λ x d held c kept leaves. now_fine x.volume x.trees x.made x.since (moment_of drive d held) x.done x.jobs x.waits x.acks kept c leaves;
     always = λ x d held c kept left. kept.always c left;
     since = λ x front a behind d held c kept parts less left.

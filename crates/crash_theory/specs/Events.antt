@@ -1,7 +1,8 @@
 -- What an op does to a cartridge, and what a crash may leave within it.
-use Rattle.std.specs.Prelude.{◌≡◌}
+use Rattle.std.specs.Prelude.{◌≡◌, ◌≤◌, length}
 use Rattle.tape_types.specs.declared.cartridges.Cartridge.{Cartridge}
 use Rattle.tape_types.specs.declared.cartridges.Item.TheVariants.{Block, Mark}
+use Rattle.tape_types.specs.Cartridges.{items_of}
 use Rattle.tape_drive.specs.Commands.{IsBroken, IsWritten}
 use Rattle.tape_drive.specs.Crashes.{NothingNew, WithinWrite}
 use Rattle.tape_layout.specs.declared.ops.Op.{Op}
@@ -24,3 +25,9 @@ abbrev pub Within : Op → (held before image : Cartridge) → Type 0
 Within (ops.Put place bytes) held before image = WithinWrite place.part place.pos (Block bytes) held before image
 Within (ops.Mark place) held before image = WithinWrite place.part place.pos Mark held before image
 Within (ops.Flush place) held before image = NothingNew before image
+
+-- its position is at most one past the last item
+abbrev pub IsReached : Op → Cartridge → Type 0
+IsReached (ops.Put place bytes) c = place.pos ≤ length (items_of place.part c)
+IsReached (ops.Mark place) c = place.pos ≤ length (items_of place.part c)
+IsReached (ops.Flush place) c = Unit {0}

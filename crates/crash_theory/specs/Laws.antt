@@ -15,7 +15,7 @@ use Rattle.tape_layout.specs.Ops.{end_of}
 use Rattle.tape_meaning.specs.Meaning.{Stands}
 use Rattle.tape_meaning.specs.Notes.{TellsOfLast}
 use Rattle.volume_space.specs.Space.{Rules, Space, with_data, with_index}
-use Rattle.crash_theory.specs.Events.{IsDone, IsFailed, Within}
+use Rattle.crash_theory.specs.Events.{IsDone, IsFailed, IsReached, Within}
 use Rattle.crash_theory.specs.Fine.{GoesOn, IsFine, IsSame}
 use Rattle.crash_theory.specs.Images.{IsGrounded, IsImage, MayWrite}
 use Rattle.crash_theory.specs.Kept.{HasNothingPending, IsServed, IsStep, IsSureAfter, Kept, Moment, Serves, Wait}
@@ -163,10 +163,12 @@ pub record ClosesLeave {D : Type 0} (drive : Ghosts D) : Type 0 where
       → IsKept drive (with_jobs [] x) d held → IsCloseDone x.volume x.trees before x.made space rules text index held
       → StandsClosed x.volume x.trees space held
 
--- What is kept gives the promise: each cartridge that a crash may leave now stands for what was flushed, or more;
+-- The next op begins where the drive can go. And what is kept gives the promise: each cartridge that a crash may leave now stands for what was flushed, or more;
 -- each that it may have left since the start stands for a prefix of the history; each since an acknowledgement for
 -- one that it covers; and where what was flushed covers the history, the cartridge stands for it.
 pub record KeptGives {D : Type 0} (drive : Ghosts D) : Type 0 where
+  pub next : (x : State) (job : Job) (jobs : List Job) (d : D) (held : Cartridge)
+      → IsKept drive (with_jobs (job ∷ jobs) x) d held → IsReached job.op held
   pub now : (x : State) (d : D) (held c : Cartridge) → IsKept drive x d held → drive.leaves d c
       → IsFine x.volume x.trees (least x.made.base) c
   pub always : (x : State) (d : D) (held c : Cartridge) → IsKept drive x d held → drive.left_since d x.since c
