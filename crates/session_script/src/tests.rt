@@ -57,18 +57,11 @@ const TABLE: [(&[u8], &str); 34] = [
     (b"1 read /a 0 1048577", "1 Big"),
 ];
 
-fn expect(alloc: Global, text: &[u8], expected: &str) -> Result<(), Fail> {
-    let told = told(alloc, text)?;
-    if told.as_str() == expected {
-        return Ok(());
-    }
-    Err(expected.into())
-}
-
 #[test]
 fn scripts_and_their_refusals(rt: HostRuntime) -> Result<(), Fail> {
     for (text, expected) in &TABLE {
-        expect(rt.alloc(), text, expected)?;
+        let told = told(rt.alloc(), text)?;
+        assert_eq!(rt; told.as_str(), *expected);
     }
     Ok(())
 }
@@ -85,20 +78,10 @@ fn repeated(alloc: Global, line: &[u8], count: u32) -> Result<Vec<u8>, AllocErro
 #[test]
 fn limits_over_many_lines(rt: HostRuntime) -> Result<(), Fail> {
     let calls = repeated(rt.alloc(), b"3 sync\n", 1025)?;
-    expect(rt.alloc(), calls.as_slice(), "1025 Calls")?;
+    assert_eq!(rt; told(rt.alloc(), calls.as_slice())?.as_str(), "1025 Calls");
     let reads = repeated(rt.alloc(), b"1 read / 0 1048576\n2 sync\n", 65)?;
-    expect(rt.alloc(), reads.as_slice(), "129 Sum")
-}
-
-/// Whether a call makes a directory with these two names.
-fn makes(call: &Call, outer: &str, inner: &str) -> bool {
-    match call {
-        Call::Mkdir { path } => {
-            let path = path.as_slice();
-            path.len() == 2 && path[0].as_str() == outer && path[1].as_str() == inner
-        }
-        _ => false,
-    }
+    assert_eq!(rt; told(rt.alloc(), reads.as_slice())?.as_str(), "129 Sum");
+    Ok(())
 }
 
 #[test]
@@ -106,10 +89,18 @@ fn names_are_decoded(rt: HostRuntime) -> Result<(), Fail> {
     let script = read_script(rt.alloc(), b"2 mkdir /a%20b/%2525")
         .ok()
         .ok_or("refused")?;
-    assert!(rt; script.sessions() == 2 && script.count(1) == 0);
+    assert_eq!(rt; script.sessions(), 2);
+    assert_eq!(rt; script.count(1), 0);
     let lines = script.lines();
     assert_eq!(rt; lines.len(), 1);
-    assert!(rt; makes(&lines[0].call, "a b", "%25"));
+    if let Call::Mkdir { path } = &lines[0].call {
+        let path = path.as_slice();
+        assert_eq!(rt; path.len(), 2);
+        assert_eq!(rt; path[0].as_str(), "a b");
+        assert_eq!(rt; path[1].as_str(), "%25");
+    } else {
+        assert!(rt; false, "another call");
+    }
     Ok(())
 }
 
@@ -128,58 +119,37 @@ fn facts(alloc: Global, sort: Sort) -> Result<Reply, AllocError> {
     })))
 }
 
-fn entry(alloc: Global, sort: Sort, name: &str) -> Result<Entry, AllocError> {
-    Ok(Entry {
-        sort,
-        name: text(alloc, name)?,
-    })
-}
-
-fn names(alloc: Global, one: Entry, other: Entry) -> Result<Reply, AllocError> {
-    let mut entries = Vec::new(alloc);
-    entries.push(one)?;
-    entries.push(other)?;
-    Ok(Reply::Answer(Answer::Names(List::from_vec(entries))))
-}
-
 fn entries(alloc: Global) -> Result<Reply, AllocError> {
-    let one = entry(alloc, Sort::Dir, "100%")?;
-    let other = entry(alloc, Sort::Link, "\u{e9}")?;
-    names(alloc, one, other)
-}
-
-fn bytes(alloc: Global) -> Result<Reply, AllocError> {
-    let bytes = vec![in alloc; 171u8; 2]?;
-    Ok(Reply::Answer(Answer::Got(Bytes::from_vec(bytes))))
-}
-
-/// The reply of a place.
-fn reply(alloc: Global, nth: u32) -> Result<Reply, AllocError> {
-    match nth {
-        0 => Ok(Reply::Answer(Answer::Done)),
-        1 => Ok(Reply::Answer(Answer::Synced)),
-        2 => Ok(Reply::Answer(Answer::Got(Bytes::new(alloc)))),
-        3 => bytes(alloc),
-        4 => entries(alloc),
-        5 => facts(alloc, Sort::Dir),
-        6 => facts(alloc, Sort::File),
-        7 => facts(alloc, Sort::Link),
-        8 => Ok(Reply::Answer(Answer::Refused(Refusal::NotEmpty))),
-        9 => Ok(Reply::Full { need: 3, limit: 2 }),
-        10 => Ok(Reply::Fault(Twin {
-            before: 0,
-            after: 1,
-        })),
-        _ => Ok(Reply::NoMemory),
-    }
+    let mut entries = Vec::new(alloc);
+    entries.push(Entry {
+        sort: Sort::Dir,
+        name: text(alloc, "100%")?,
+    })?;
+    entries.push(Entry {
+        sort: Sort::Link,
+        name: text(alloc, "\u{e9}")?,
+    })?;
+    Ok(Reply::Answer(Answer::Names(List::from_vec(entries))))
 }
 
 fn replies(alloc: Global) -> Result<Vec<Reply>, AllocError> {
     let mut replies = Vec::new(alloc);
-    for nth in 0..12u32 {
-        let reply = reply(alloc, nth)?;
-        replies.push(reply)?;
-    }
+    replies.push(Reply::Answer(Answer::Done))?;
+    replies.push(Reply::Answer(Answer::Synced))?;
+    replies.push(Reply::Answer(Answer::Got(Bytes::new(alloc))))?;
+    let bytes = vec![in alloc; 171u8; 2]?;
+    replies.push(Reply::Answer(Answer::Got(Bytes::from_vec(bytes))))?;
+    replies.push(entries(alloc)?)?;
+    replies.push(facts(alloc, Sort::Dir)?)?;
+    replies.push(facts(alloc, Sort::File)?)?;
+    replies.push(facts(alloc, Sort::Link)?)?;
+    replies.push(Reply::Answer(Answer::Refused(Refusal::NotEmpty)))?;
+    replies.push(Reply::Full { need: 3, limit: 2 })?;
+    replies.push(Reply::Fault(Twin {
+        before: 0,
+        after: 1,
+    }))?;
+    replies.push(Reply::NoMemory)?;
     Ok(replies)
 }
 
@@ -222,19 +192,20 @@ const ESCAPED: &str = "\0\x01\x02\x03\x04\x05\x06\x07\x08\t\n\x0b\x0c\r\x0e\x0f\
 const KEPT: &str =
     "!\"#$&'()*+,-./0123456789:;<=>?@ABCDEFGHIJKLMNOPQRSTUVWXYZ[\\]^_`abcdefghijklmnopqrstuvwxyz{|}~";
 
-/// The log of one reply, with a directory and a file.
-fn forged(alloc: Global) -> Result<Log, AllocError> {
-    let dir = entry(alloc, Sort::Dir, ESCAPED)?;
-    let file = entry(alloc, Sort::File, KEPT)?;
-    let reply = names(alloc, dir, file)?;
-    let mut replies = Vec::new(alloc);
-    replies.push(reply)?;
-    log_of(alloc, 1, replies)
-}
-
 #[test]
 fn a_name_forges_no_line(rt: HostRuntime) -> Result<(), Fail> {
-    let log = forged(rt.alloc())?;
+    let mut entries = Vec::new(rt.alloc());
+    entries.push(Entry {
+        sort: Sort::Dir,
+        name: text(rt.alloc(), ESCAPED)?,
+    })?;
+    entries.push(Entry {
+        sort: Sort::File,
+        name: text(rt.alloc(), KEPT)?,
+    })?;
+    let mut replies = Vec::new(rt.alloc());
+    replies.push(Reply::Answer(Answer::Names(List::from_vec(entries))))?;
+    let log = log_of(rt.alloc(), 1, replies)?;
     let text = log_text(rt.alloc(), &log).ok().ok_or("no memory")?;
     let (front, rest) = text.as_slice().split_at_checked(124).ok_or("too short")?;
     assert_eq!(rt;
