@@ -4,6 +4,8 @@
 mod forms;
 mod laws;
 mod reading;
+#[cfg(test)]
+mod tests;
 
 pub use forms::WordsErr;
 pub use laws::words_are_forms;
