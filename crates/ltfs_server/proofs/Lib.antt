@@ -1,5 +1,9 @@
+pub mod Asked
 pub mod LabelClauses
-pub mod OutcomeLemmas
+pub mod LabelRanges
+pub mod ListClauses
+pub mod MountClauses
+pub mod MountedTree
 pub mod PlainClauses
 pub mod RunLemmas
-pub mod WordLemmas
+pub mod Told

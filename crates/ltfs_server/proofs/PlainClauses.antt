@@ -1,153 +1,123 @@
--- What a run of `plain` promises, from what it came to and what was told of that.
-use Rattle.std.proofs.Common.{◌≡◌, ◌∙◌, ℕ, List, [], ◌∷◌, true, false, Option, Some, None, Ok, Err, refl, sym, subst, inl, inr, arith}
+-- What `plain` promises, from what it comes to and what is told of that.
+use Rattle.std.proofs.Common.{◌≡◌, ◌∙◌, ℕ, List, [], ◌∷◌, true, false, Option, Some, None, Ok, Err, codes, refl, sym, subst, inl, inr, arith, ◌⊎◌}
 use Rattle.std.specs.Prelude.{IfSome, IsErr, IsOk}
+use Rattle.std.specs.Io.KnownBytes.{Appends}
 use Rattle.tape_types.specs.Counts.{Rose}
+use Rattle.tape_types.specs.declared.moments.Moment.{Moment}
 use Rattle.session_script.specs.Grammar.{script_of}
 use Rattle.session_script.specs.declared.logs.Log.{Log}
-use Rattle.ltfs_server.specs.Headline.{IsPlain, IsPlainLog, IsPrinted}
-use Rattle.ltfs_server.specs.Outcomes.{IsCaused, IsTold, log_of, status_of}
-use Rattle.ltfs_server.specs.Runs.{IsOneOf, Run, Written}
-use Rattle.ltfs_server.specs.declared.labels.LabelEnd.TheVariants as labels
+use Rattle.ltfs_server.specs.Headline.{IsPlainRun, IsPrinted, IsReadFaultPrinted, IsRefusalPrinted}
+use Rattle.ltfs_server.specs.Outcomes.{EndsAs, IsPlainEnd, IsTold, of_plain, plain_log, plain_status, plain_text}
+use Rattle.ltfs_server.specs.Promises.{DoesPlain}
+use Rattle.ltfs_server.specs.Runs.{Gives, IsOneOf, IsRunOf, Taken, Written}
+use Rattle.ltfs_server.specs.declared.plain.PlainEnd.{PlainEnd}
 use Rattle.ltfs_server.specs.declared.plain.PlainEnd.TheVariants as plains
-use Rattle.ltfs_server.specs.declared.outcomes.Outcome.{Outcome}
-use Rattle.ltfs_server.specs.declared.outcomes.Outcome.TheVariants as outcomes
-use Rattle.ltfs_server.proofs.OutcomeLemmas.{by_status, if_some, mount_isnt}
-use Rattle.ltfs_server.proofs.WordLemmas.{one_command}
+use Rattle.ltfs_server.proofs.Told.{by_six, by_status, by_text, if_some, of_some}
 
-log_is : (r : Run) (o : Outcome) → IsCaused r o → IfSome (log_of o) (IsPlainLog r.words r.source r.gives)
-log_is r outcomes.Words is = tt
-log_is r (outcomes.Plain (plains.Done log)) is = is
-log_is r (outcomes.Plain (plains.Script refusal)) is = tt
-log_is r (outcomes.Plain (plains.Source counts)) is = tt
-log_is r (outcomes.Plain (plains.NoMemory None)) is = tt
-log_is r (outcomes.Plain (plains.NoMemory (Some log))) is = is
-log_is r (outcomes.Label end) is = tt
+module _ (at : Option Moment) (gives : Gives) (source : Taken) where
+  log_is : (end : PlainEnd) → IsPlainEnd source gives at end → IfSome (plain_log end) (IsRunOf (IsPlainRun at gives) source)
+  log_is (plains.Done log) is = is
+  log_is (plains.Script refusal) is = tt
+  log_is (plains.Source counts) is = tt
+  log_is (plains.NoMemory log) is = is
 
-pub logged : (r : Run) (o : Outcome) (sink : Written) (status : ℕ) (log : Option Log)
-    → IsCaused r o → IsTold o sink status log → IfSome log (IsPlainLog r.words r.source r.gives)
-logged r o sink status log is told = subst (λ l. IfSome l (IsPlainLog r.words r.source r.gives)) (sym told.0) (log_is r o is)
+  no_script : (end : PlainEnd) (text : List ℕ) → IsPlainEnd source gives at end → source.left ≡ Some text → IsErr (script_of text)
+      → IsOneOf (plain_status end) (2 ∷ 5 ∷ 6 ∷ 7 ∷ [])
+  no_script (plains.Done log) text run left bad =
+      absurd (let no : false ≡ true = subst IsErr (of_some source.left (λ t. script_of t ≡ Ok run.script) text left run.spelled) bad in cc no)
+  no_script (plains.Script refusal) text is left bad = inl refl
+  no_script (plains.Source counts) text is left bad = inr (inl refl)
+  no_script (plains.NoMemory log) text is left bad = inr (inr (inr (inl refl)))
 
-none_of_others : (r : Run) (o : Outcome) → IsCaused r o → ¬ (IsPlain r.words) → log_of o ≡ None
-none_of_others r outcomes.Words is other = refl
-none_of_others r (outcomes.Plain end) (at, words, is) other = absurd (other (at, words))
-none_of_others r (outcomes.Label end) is other = refl
+  all_done : (end : PlainEnd) (text : List ℕ) → IsPlainEnd source gives at end → ¬ (Rose source.before source.now) → source.left ≡ Some text → IsOk (script_of text)
+      → IsOneOf (plain_status end) (0 ∷ 7 ∷ [])
+  all_done (plains.Done log) text is still left good = inl refl
+  all_done (plains.Script refusal) text is still left good =
+      absurd (let no : false ≡ true = subst IsOk (of_some source.left (λ t. script_of t ≡ Err refusal) text left is) good in cc no)
+  all_done (plains.Source counts) text is still left good = absurd (still (omega (arith, is.lowest, is.rose, is.highest)))
+  all_done (plains.NoMemory log) text is still left good = inr (inl refl)
 
-pub no_log : (r : Run) (o : Outcome) (sink : Written) (status : ℕ) (log : Option Log)
-    → IsCaused r o → IsTold o sink status log → ¬ (IsPlain r.words) → log ≡ None
-no_log r o sink status log is told other = told.0 ∙ none_of_others r o is other
+  module _ (sink : Written) where
+    refusal_told : (end : PlainEnd) → IsPlainEnd source gives at end → (plain_status end ≡ 2) × Appends sink.old sink.new (plain_text end)
+        → IsRefusalPrinted source.left sink.old sink.new
+    refusal_told (plains.Done log) is told = absurd (cc told.0)
+    refusal_told (plains.Script refusal) is told = (refusal, is, told.1)
+    refusal_told (plains.Source counts) is told = absurd (cc told.0)
+    refusal_told (plains.NoMemory log) is told = absurd (cc told.0)
 
-pub printed : (r : Run) (o : Outcome) (sink : Written) (status : ℕ) (log : Option Log)
-    → IsCaused r o → IsTold o sink status log → IsPlain r.words → status ≡ 0 → IsPrinted sink.old sink.new log
-printed r o sink status log is (same, inr (six, rose, front)) plain zero = absurd (let bad : 6 ≡ 0 = sym six ∙ zero in cc bad)
-printed r outcomes.Words sink status log is (same, inl (one, text)) plain zero = absurd (let bad : 1 ≡ 0 = sym one ∙ zero in cc bad)
-printed r (outcomes.Plain (plains.Done l)) sink status log is (same, inl (none, text)) plain zero = subst (IsPrinted sink.old sink.new) (sym same) text
-printed r (outcomes.Plain (plains.Script refusal)) sink status log is (same, inl (two, text)) plain zero = absurd (let bad : 2 ≡ 0 = sym two ∙ zero in cc bad)
-printed r (outcomes.Plain (plains.Source counts)) sink status log is (same, inl (five, text)) plain zero = absurd (let bad : 5 ≡ 0 = sym five ∙ zero in cc bad)
-printed r (outcomes.Plain (plains.NoMemory l)) sink status log is (same, inl (seven, text)) plain zero = absurd (let bad : 7 ≡ 0 = sym seven ∙ zero in cc bad)
-printed r (outcomes.Label end) sink status log is (same, inl (some, text)) plain zero = absurd (one_command r.words plain is.0)
+    fault_told : (end : PlainEnd) → IsPlainEnd source gives at end → (plain_status end ≡ 5) × Appends sink.old sink.new (plain_text end)
+        → IsReadFaultPrinted source.before source.now sink.old sink.new
+    fault_told (plains.Done log) is told = absurd (cc told.0)
+    fault_told (plains.Script refusal) is told = absurd (cc told.0)
+    fault_told (plains.Source counts) is told = (counts, is, told.1)
+    fault_told (plains.NoMemory log) is told = absurd (cc told.0)
 
--- a number that is none of these
-isnt_refused : (n : ℕ) → (n ≡ 1 → ⊥) → (n ≡ 2 → ⊥) → (n ≡ 3 → ⊥) → (n ≡ 5 → ⊥) → IsOneOf n (1 ∷ 2 ∷ 3 ∷ 5 ∷ []) → ⊥
-isnt_refused n one two three five (inl e) = one e
-isnt_refused n one two three five (inr (inl e)) = two e
-isnt_refused n one two three five (inr (inr (inl e))) = three e
-isnt_refused n one two three five (inr (inr (inr (inl e)))) = five e
-isnt_refused n one two three five (inr (inr (inr (inr e)))) = e
+status_is : (end : PlainEnd) → IsOneOf (plain_status end) (0 ∷ 2 ∷ 5 ∷ 6 ∷ 7 ∷ [])
+status_is (plains.Done log) = inl refl
+status_is (plains.Script refusal) = inr (inl refl)
+status_is (plains.Source counts) = inr (inr (inl refl))
+status_is (plains.NoMemory log) = inr (inr (inr (inr (inl refl))))
 
-refused_none : (o : Outcome) → IsOneOf (status_of o) (1 ∷ 2 ∷ 3 ∷ 5 ∷ []) → log_of o ≡ None
-refused_none outcomes.Words one = refl
-refused_none (outcomes.Plain (plains.Done l)) one = absurd (isnt_refused 0 (λ e. cc) (λ e. cc) (λ e. cc) (λ e. cc) one)
-refused_none (outcomes.Plain (plains.Script refusal)) one = refl
-refused_none (outcomes.Plain (plains.Source counts)) one = refl
-refused_none (outcomes.Plain (plains.NoMemory l)) one = absurd (isnt_refused 7 (λ e. cc) (λ e. cc) (λ e. cc) (λ e. cc) one)
-refused_none (outcomes.Label end) one = refl
+not_six : (end : PlainEnd) → plain_status end ≡ 6 → ⊥
+not_six (plains.Done log) six = absurd (cc six)
+not_six (plains.Script refusal) six = absurd (cc six)
+not_six (plains.Source counts) six = absurd (cc six)
+not_six (plains.NoMemory log) six = absurd (cc six)
 
-pub refused : (o : Outcome) (sink : Written) (status : ℕ) (log : Option Log)
-    → IsTold o sink status log → IsOneOf status (1 ∷ 2 ∷ 3 ∷ 5 ∷ []) → log ≡ None
-refused o sink status log told =
-    by_status (λ n. IsOneOf n (1 ∷ 2 ∷ 3 ∷ 5 ∷ []) → log ≡ None) o sink status log told
-    (λ one. told.0 ∙ refused_none o one) (λ rose one. absurd (isnt_refused 6 (λ e. cc) (λ e. cc) (λ e. cc) (λ e. cc) one))
+refused_none : (end : PlainEnd) → IsOneOf (plain_status end) (2 ∷ 5 ∷ []) → plain_log end ≡ None
+refused_none (plains.Done log) (inl two) = absurd (cc two)
+refused_none (plains.Done log) (inr (inl five)) = absurd (cc five)
+refused_none (plains.Done log) (inr (inr none)) = absurd none
+refused_none (plains.Script refusal) one = refl
+refused_none (plains.Source counts) one = refl
+refused_none (plains.NoMemory log) (inl two) = absurd (cc two)
+refused_none (plains.NoMemory log) (inr (inl five)) = absurd (cc five)
+refused_none (plains.NoMemory log) (inr (inr none)) = absurd none
 
-plain_status_is : (r : Run) (o : Outcome) → IsCaused r o → IsPlain r.words → IsOneOf (status_of o) (0 ∷ 2 ∷ 5 ∷ 6 ∷ 7 ∷ [])
-plain_status_is r outcomes.Words is plain = absurd (is.0.no_plain plain)
-plain_status_is r (outcomes.Plain (plains.Done l)) is plain = inl refl
-plain_status_is r (outcomes.Plain (plains.Script refusal)) is plain = inr (inl refl)
-plain_status_is r (outcomes.Plain (plains.Source counts)) is plain = inr (inr (inl refl))
-plain_status_is r (outcomes.Plain (plains.NoMemory l)) is plain = inr (inr (inr (inr (inl refl))))
-plain_status_is r (outcomes.Label end) is plain = absurd (one_command r.words plain is.0)
+six_is_none : {A : Type 0} → IsOneOf 6 (2 ∷ 5 ∷ []) → A
+six_is_none (inl two) = absurd (cc two)
+six_is_none (inr (inl five)) = absurd (cc five)
+six_is_none (inr (inr none)) = absurd none
 
-pub plain_statuses : (r : Run) (o : Outcome) (sink : Written) (status : ℕ) (log : Option Log)
-    → IsCaused r o → IsTold o sink status log → IsPlain r.words → IsOneOf status (0 ∷ 2 ∷ 5 ∷ 6 ∷ 7 ∷ [])
-plain_statuses r o sink status log is told plain =
-    by_status (λ n. IsOneOf n (0 ∷ 2 ∷ 5 ∷ 6 ∷ 7 ∷ [])) o sink status log told (plain_status_is r o is plain) (λ rose. inr (inr (inr (inl refl))))
+printed_is : (end : PlainEnd) (log : Option Log) (old new : Option (List ℕ)) → log ≡ plain_log end → (plain_status end ≡ 0) × Appends old new (plain_text end)
+    → IsPrinted old new log
+printed_is (plains.Done l) log old new same told = subst (IsPrinted old new) (sym same) told.1
+printed_is (plains.Script refusal) log old new same told = absurd (cc told.0)
+printed_is (plains.Source counts) log old new same told = absurd (cc told.0)
+printed_is (plains.NoMemory l) log old new same told = absurd (cc told.0)
 
--- what holds of what the source has left holds of the text that it has left
-of_text : (left : Option (List ℕ)) (P : List ℕ → Type 0) (text : List ℕ) → left ≡ Some text → IfSome left P → P text
-of_text left P text is holds = subst (λ l. IfSome l P) is holds
+memory_is : (end : PlainEnd) (old new : Option (List ℕ)) → (plain_status end ≡ 7) × Appends old new (plain_text end) → Appends old new (codes "memory\n")
+memory_is (plains.Done l) old new told = absurd (cc told.0)
+memory_is (plains.Script refusal) old new told = absurd (cc told.0)
+memory_is (plains.Source counts) old new told = absurd (cc told.0)
+memory_is (plains.NoMemory l) old new told = told.1
 
-no_script : (r : Run) (o : Outcome) (text : List ℕ) → IsCaused r o → IsPlain r.words → r.source.left ≡ Some text → IsErr (script_of text)
-    → IsOneOf (status_of o) (2 ∷ 5 ∷ 6 ∷ 7 ∷ [])
-no_script r outcomes.Words text is plain left bad = absurd (is.0.no_plain plain)
-no_script r (outcomes.Plain (plains.Done l)) text (at, words, run) plain left bad =
-    absurd (let no : false ≡ true = subst IsErr (of_text r.source.left (λ t. script_of t ≡ Ok run.script) text left run.spelled) bad in cc no)
-no_script r (outcomes.Plain (plains.Script refusal)) text is plain left bad = inl refl
-no_script r (outcomes.Plain (plains.Source counts)) text is plain left bad = inr (inl refl)
-no_script r (outcomes.Plain (plains.NoMemory l)) text is plain left bad = inr (inr (inr (inl refl)))
-no_script r (outcomes.Label end) text is plain left bad = absurd (one_command r.words plain is.0)
+pub plain_does : {D : Type 0} (at : Option Moment) (gives : Gives) (source : Taken) (sink : Written) (old new : D) (status : ℕ) (log : Option Log) (end : PlainEnd)
+    → new ≡ old → IsPlainEnd source gives at end → EndsAs (of_plain end) sink status log → DoesPlain at gives source sink old new status log
+plain_does at gives source sink old new status log end same is told =
+    let w = plain_status end in
+    let t = plain_text end in record {
+      statuses = by_status (λ n. IsOneOf n (0 ∷ 2 ∷ 5 ∷ 6 ∷ 7 ∷ [])) w t sink status told.1 (status_is end) (λ rose. inr (inr (inr (inl refl))));
+      history = subst (λ l. IfSome l (IsRunOf (IsPlainRun at gives) source)) (sym told.0) (log_is at gives source end is);
+      refused = by_status (λ n. IsOneOf n (2 ∷ 5 ∷ []) → log ≡ None) w t sink status told.1 (λ one. told.0 ∙ refused_none end one) (λ rose one. six_is_none one);
+      printed = λ zero. printed_is end log sink.old sink.new told.0 (by_text 0 w t sink status told.1 (λ e. cc e) zero);
+      script = if_some source.left (λ text. IsErr (script_of text) → IsOneOf status (2 ∷ 5 ∷ 6 ∷ 7 ∷ []))
+          (λ text left bad. by_status (λ n. IsOneOf n (2 ∷ 5 ∷ 6 ∷ 7 ∷ [])) w t sink status told.1 (no_script at gives source end text is left bad) (λ rose. inr (inr (inl refl))));
+      only_script = λ two. refusal_told at gives source sink end is (by_text 2 w t sink status told.1 (λ e. cc e) two);
+      only_read = λ five. fault_told at gives source sink end is (by_text 5 w t sink status told.1 (λ e. cc e) five);
+      only_write = by_six w t sink status told.1 (not_six end);
+      memory = λ seven. memory_is end sink.old sink.new (by_text 7 w t sink status told.1 (λ e. cc e) seven);
+      complete = λ still quiet. if_some source.left (λ text. IsOk (script_of text) → IsOneOf status (0 ∷ 7 ∷ []))
+          (λ text left good. by_status (λ n. IsOneOf n (0 ∷ 7 ∷ [])) w t sink status told.1 (all_done at gives source end text is still left good) (λ rose. absurd (quiet rose)));
+      drive = same;
+      told = (end, is, told);
+    }
 
-pub script_refused : (r : Run) (o : Outcome) (sink : Written) (status : ℕ) (log : Option Log)
-    → IsCaused r o → IsTold o sink status log → IsPlain r.words
-    → IfSome r.source.left (λ text. IsErr (script_of text) → IsOneOf status (2 ∷ 5 ∷ 6 ∷ 7 ∷ []))
-script_refused r o sink status log is told plain =
-    if_some r.source.left (λ text. IsErr (script_of text) → IsOneOf status (2 ∷ 5 ∷ 6 ∷ 7 ∷ []))
-    (λ text left bad. by_status (λ n. IsOneOf n (2 ∷ 5 ∷ 6 ∷ 7 ∷ [])) o sink status log told (no_script r o text is plain left bad) (λ rose. inr (inr (inl refl))))
-
-two_is_script : (r : Run) (o : Outcome) → IsCaused r o → status_of o ≡ 2 → IsPlain r.words × IfSome r.source.left (λ text. IsErr (script_of text))
-two_is_script r outcomes.Words is two = cc
-two_is_script r (outcomes.Plain (plains.Done l)) is two = cc
-two_is_script r (outcomes.Plain (plains.Script refusal)) (at, words, is) two = (
-  (at, words),
-  if_some r.source.left (λ text. IsErr (script_of text))
-      (λ text left. subst IsErr (sym (of_text r.source.left (λ t. script_of t ≡ Err refusal) text left is)) refl),
-)
-two_is_script r (outcomes.Plain (plains.Source counts)) is two = cc
-two_is_script r (outcomes.Plain (plains.NoMemory l)) is two = cc
-two_is_script r (outcomes.Label (labels.Done found)) is two = cc
-two_is_script r (outcomes.Label (labels.Mount e)) is two = absurd (mount_isnt e 2 (λ x. cc) (λ x. cc) (λ x. cc) two)
-
-pub only_script : (r : Run) (o : Outcome) (sink : Written) (status : ℕ) (log : Option Log)
-    → IsCaused r o → IsTold o sink status log → status ≡ 2 → IsPlain r.words × IfSome r.source.left (λ text. IsErr (script_of text))
-only_script r o sink status log is told =
-    by_status (λ n. n ≡ 2 → IsPlain r.words × IfSome r.source.left (λ text. IsErr (script_of text))) o sink status log told
-    (two_is_script r o is) (λ rose two. cc)
-
-five_is_read : (r : Run) (o : Outcome) → IsCaused r o → status_of o ≡ 5 → IsPlain r.words × Rose r.source.before r.source.now
-five_is_read r outcomes.Words is five = cc
-five_is_read r (outcomes.Plain (plains.Done l)) is five = cc
-five_is_read r (outcomes.Plain (plains.Script refusal)) is five = cc
-five_is_read r (outcomes.Plain (plains.Source counts)) (at, words, is) five = ((at, words), omega (arith, is.lowest, is.rose, is.highest))
-five_is_read r (outcomes.Plain (plains.NoMemory l)) is five = cc
-five_is_read r (outcomes.Label (labels.Done found)) is five = cc
-five_is_read r (outcomes.Label (labels.Mount e)) is five = absurd (mount_isnt e 5 (λ x. cc) (λ x. cc) (λ x. cc) five)
-
-pub only_read : (r : Run) (o : Outcome) (sink : Written) (status : ℕ) (log : Option Log)
-    → IsCaused r o → IsTold o sink status log → status ≡ 5 → IsPlain r.words × Rose r.source.before r.source.now
-only_read r o sink status log is told =
-    by_status (λ n. n ≡ 5 → IsPlain r.words × Rose r.source.before r.source.now) o sink status log told (five_is_read r o is) (λ rose five. cc)
-
-all_done : (r : Run) (o : Outcome) (text : List ℕ) → IsCaused r o → IsPlain r.words → ¬ (Rose r.source.before r.source.now)
-    → r.source.left ≡ Some text → IsOk (script_of text) → IsOneOf (status_of o) (0 ∷ 7 ∷ [])
-all_done r outcomes.Words text is plain still left good = absurd (is.0.no_plain plain)
-all_done r (outcomes.Plain (plains.Done l)) text is plain still left good = inl refl
-all_done r (outcomes.Plain (plains.Script refusal)) text (at, words, is) plain still left good =
-    absurd (let no : false ≡ true = subst IsOk (of_text r.source.left (λ t. script_of t ≡ Err refusal) text left is) good in cc no)
-all_done r (outcomes.Plain (plains.Source counts)) text is plain still left good = absurd (still (five_is_read r (outcomes.Plain (plains.Source counts)) is refl).1)
-all_done r (outcomes.Plain (plains.NoMemory l)) text is plain still left good = inr (inl refl)
-all_done r (outcomes.Label end) text is plain still left good = absurd (one_command r.words plain is.0)
-
-pub complete : (r : Run) (o : Outcome) (sink : Written) (status : ℕ) (log : Option Log)
-    → IsCaused r o → IsTold o sink status log → IsPlain r.words → ¬ (Rose r.source.before r.source.now) → ¬ (Rose sink.before sink.now)
-    → IfSome r.source.left (λ text. IsOk (script_of text) → IsOneOf status (0 ∷ 7 ∷ []))
-complete r o sink status log is told plain still quiet =
-    if_some r.source.left (λ text. IsOk (script_of text) → IsOneOf status (0 ∷ 7 ∷ []))
-    (λ text left good. by_status (λ n. IsOneOf n (0 ∷ 7 ∷ [])) o sink status log told (all_done r o text is plain still left good) (λ rose. absurd (quiet rose)))
+-- what was made is told, or that memory was refused
+pub plain_either : {D : Type 0} (at : Option Moment) (gives : Gives) (source : Taken) (sink : Written) (old new : D) (status : ℕ) (log made : Option Log) (wanted : ℕ) (end : PlainEnd)
+    → new ≡ old → IsPlainEnd source gives at end → log ≡ made → made ≡ plain_log end → wanted ≡ plain_status end
+    → IsTold wanted (plain_text end) sink status ⊎ IsTold 7 (codes "memory\n") sink status → DoesPlain at gives source sink old new status log
+plain_either at gives source sink old new status log made wanted end same is first second status_is (inl told) =
+    plain_does at gives source sink old new status log end same is (first ∙ second, subst (λ w. IsTold w (plain_text end) sink status) status_is told)
+plain_either at gives source sink old new status log made wanted end same is first second status_is (inr told) =
+    plain_does at gives source sink old new status log (plains.NoMemory (plain_log end)) same (log_is at gives source end is) (first ∙ second, told)

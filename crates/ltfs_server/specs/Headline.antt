@@ -1,44 +1,30 @@
--- What the commands promise: a run of a script by the plain tree, and the labels of a cartridge.
-use Rattle.std.specs.Prelude.{◌≡◌, ℕ, ◌+◌, List, [], ◌∷◌, ◌++◌, map, length, Option, Some, None, IfSome, codes, decimal, slice_get, String, string_bytes}
-use Rattle.std.specs.Global.{Global}
+-- What is told with status 0 or 3: a run of a script by the plain tree, the labels of a cartridge, its tree.
+use Rattle.std.specs.Prelude.{◌≡◌, ◌⊎◌, ℕ, ◌+◌, List, [], ◌++◌, map, length, Err, Option, Some, None, IfSome, codes, decimal, slice_get}
 use Rattle.std.specs.Io.KnownBytes.{Appends}
-use Rattle.tape_types.specs.Times.{time_text}
+use Rattle.tape_types.specs.Counts.{IsRise, Rose}
 use Rattle.tape_types.specs.declared.moments.Moment.{Moment}
 use Rattle.tape_types.specs.declared.cartridges.Cartridge.{Cartridge}
 use Rattle.mount_recover.specs.Labels.{Fails}
 use Rattle.tape_meaning.specs.Labels.{HasLabels}
 use Rattle.tape_meaning.specs.declared.labels.Labels.{Labels}
 use Rattle.tape_meaning.specs.declared.errors.MountErr.{MountErr}
+use Rattle.tape_meaning.specs.Faults.{MountFault}
+use Rattle.tape_meaning.specs.declared.errors.MountErr.TheVariants as errors
+use Rattle.tape_types.specs.declared.cartridges.Twin.{Twin}
+use Rattle.tree_listing.specs.Listing.{first_lines}
 use Rattle.ltfs_server.specs.Labels.{labels_text, mount_status, mount_text}
-use Rattle.ltfs_server.specs.Runs.{Gives, IsRunOf, Taken}
-use Rattle.tape_edge.specs.Clocks.{IsSince1970}
+use Rattle.ltfs_server.specs.Listings.{IsListingOf, Listing, text_of_listing}
+use Rattle.ltfs_server.specs.Runs.{Gives}
 use Rattle.plain_tree.specs.History.{IsInterleaving}
 use Rattle.plain_tree.specs.Tree.{empty_tree}
 use Rattle.plain_tree.specs.declared.calls.Placed.{Placed}
-use Rattle.session_script.specs.Grammar.{calls_of}
+use Rattle.session_script.specs.Grammar.{calls_of, script_of}
 use Rattle.session_script.specs.LogText.{log_text}
+use Rattle.session_script.specs.ReasonNames.{reason_name}
+use Rattle.session_script.specs.declared.scripts.ScriptErr.{ScriptErr}
 use Rattle.session_script.specs.Replies.{AreReplies, IsPlainReply}
 use Rattle.session_script.specs.declared.logs.Log.{Log}
 use Rattle.session_script.specs.declared.scripts.ScriptLine.{ScriptLine}
-
--- The words are `plain`, or `plain --at TIME` with a time of the years 1970 to 9999, which then is every moment.
-abbrev pub IsPlainWords : List (String Global) → Option Moment → Type 0
-IsPlainWords words None = map string_bytes words ≡ codes "plain" ∷ []
-IsPlainWords words (Some at) =
-    (map string_bytes words ≡ codes "plain" ∷ codes "--at" ∷ time_text at ∷ []) × IsSince1970 at
-
--- the words are of one of the forms of `plain`
-abbrev pub IsPlain : List (String Global) → Type 0
-IsPlain words = (at : Option Moment) × IsPlainWords words at
-
--- the words are `label` and a text
-abbrev pub IsLabel : List (String Global) → Type 0
-IsLabel words = (folder : List ℕ) × (map string_bytes words ≡ codes "label" ∷ folder ∷ [])
-
--- the words are of no command's form
-pub record HasNoForm (words : List (String Global)) : Type 0 where
-  pub no_plain : ¬ (IsPlain words)
-  pub no_label : ¬ (IsLabel words)
 
 -- the moment of the words where they have one, or else one that the clock may give at its nth call
 abbrev pub IsMoment : Option Moment → Gives → ℕ → Moment → Type 0
@@ -63,10 +49,12 @@ pub record IsPlainRun (at : Option Moment) (gives : Gives) (script : List Script
   pub no_acks : log.acks ≡ []
   pub no_events : log.events ≡ []
 
--- the log is that of a run of `plain` with the moment of the words
-abbrev pub IsPlainLog : List (String Global) → Taken → Gives → Log → Type 0
-IsPlainLog words source gives log =
-    (at : Option Moment) × IsPlainWords words at × IsRunOf (IsPlainRun at gives) source log
+-- `script LINE REASON`, and `source BEFORE AFTER`
+abbrev pub refusal_line : ScriptErr → List ℕ
+refusal_line refusal = codes "script " ++ (decimal refusal.line ++ (codes " " ++ (reason_name refusal.why ++ codes "\n")))
+
+abbrev pub source_line : Twin → List ℕ
+source_line counts = codes "source " ++ (decimal counts.before ++ (codes " " ++ (decimal counts.after ++ codes "\n")))
 
 -- the log and the count of its placements
 abbrev pub done_text : Log → List ℕ
@@ -85,3 +73,35 @@ AreLabelsPrinted held old new = (l : Labels) × IfSome held (λ c. HasLabels c l
 abbrev pub IsCheckPrinted : Option Cartridge → (old new : Option (List ℕ)) → Type 0
 IsCheckPrinted held old new =
     (e : MountErr) × (mount_status e ≡ 3) × IfSome held (λ c. Fails c e) × Appends old new (mount_text e)
+
+-- the line of an input that is no script was printed, and where the source told its bytes this is what is wrong with them
+abbrev pub IsRefusalPrinted : (left old new : Option (List ℕ)) → Type 0
+IsRefusalPrinted left old new =
+    (refusal : ScriptErr) × IfSome left (λ text. script_of text ≡ Err refusal) × Appends old new (refusal_line refusal)
+
+-- two counts of a source that failed meanwhile were printed
+abbrev pub IsReadFaultPrinted : (before now : ℕ) → (old new : Option (List ℕ)) → Type 0
+IsReadFaultPrinted before now old new =
+    (counts : Twin) × IsRise before now counts.before counts.after × Appends old new (source_line counts)
+
+-- the drive failed meanwhile, and its counts of faults were printed
+abbrev pub IsDriveFaultPrinted : (before now : ℕ) → (old new : Option (List ℕ)) → Type 0
+IsDriveFaultPrinted before now old new =
+    Rose before now × Appends old new (mount_text (errors.Drive (record { before = before; after = now })))
+
+-- the line of the check of mounting was printed that fails first, where the drive told a cartridge
+abbrev pub IsMountFaultPrinted : Option Cartridge → (old new : Option (List ℕ)) → Type 0
+IsMountFaultPrinted held old new =
+    (e : MountErr) × (mount_status e ≡ 3) × IfSome held (λ c. MountFault c e) × Appends old new (mount_text e)
+
+-- a listing was printed, and where the drive told a cartridge it is that of what this stands for
+abbrev pub IsListingPrinted : Option Cartridge → (old new : Option (List ℕ)) → Type 0
+IsListingPrinted held old new =
+    (l : Listing) × IfSome held (λ c. IsListingOf c l) × Appends old new (text_of_listing l)
+
+-- so many whole lines of such a listing, from its front, may have been printed, and then that memory was refused
+abbrev pub IsPartPrinted : Option Cartridge → (old new : Option (List ℕ)) → Type 0
+IsPartPrinted held old new =
+    Appends old new (codes "memory\n")
+    ⊎ ((l : Listing) × IfSome held (λ c. IsListingOf c l)
+    × (count : ℕ) × Appends old new (first_lines count l.tree ++ codes "memory\n"))

@@ -1,6 +1,7 @@
 pub mod Headline
 pub mod Labels
+pub mod Listings
 pub mod Outcomes
+pub mod Promises
 pub mod Runs
 pub mod Sessions
-pub mod Words

@@ -1,24 +1,24 @@
 -- What a run comes to, command by command: when it comes to that, and what is told then.
-use Rattle.std.specs.Prelude.{◌≡◌, ◌⊎◌, ℕ, List, ◌++◌, Option, Some, None, Err, IfSome, codes, decimal}
+use Rattle.std.specs.Prelude.{◌≡◌, ◌⊎◌, ℕ, List, ◌++◌, Option, Some, None, Err, IfSome, codes}
 use Rattle.std.specs.Io.KnownBytes.{Appends}
 use Rattle.tape_types.specs.Counts.{Rose, IsRise}
 use Rattle.tape_types.specs.declared.moments.Moment.{Moment}
 use Rattle.tape_edge.specs.Streams.{AppendsFront}
 use Rattle.session_script.specs.Grammar.{script_of}
-use Rattle.session_script.specs.ReasonNames.{reason_name}
 use Rattle.session_script.specs.declared.logs.Log.{Log}
 use Rattle.mount_recover.specs.Labels.{AreCounts, Fails}
+use Rattle.mount_recover.specs.Steps.{Blames}
 use Rattle.tape_meaning.specs.Labels.{HasLabels}
-use Rattle.tape_meaning.specs.declared.errors.MountErr.TheVariants as errors
+use Rattle.tape_meaning.specs.declared.labels.Labels.{Labels}
+use Rattle.tape_meaning.specs.declared.errors.MountErr.{MountErr}
+use Rattle.tree_listing.specs.Listing.{first_lines}
+use Rattle.server_words.specs.Forms.{HasNoForm, IsLabel, IsList, IsPlainWords}
 use Rattle.ltfs_server.specs.Labels.{labels_text, mount_status, mount_text}
-use Rattle.ltfs_server.specs.Headline.{HasNoForm, IsLabel, IsPlainRun, IsPlainWords, done_text}
+use Rattle.ltfs_server.specs.Listings.{IsListingOf, Listing, text_of_listing}
+use Rattle.ltfs_server.specs.Headline.{IsPlainRun, done_text, refusal_line, source_line}
 use Rattle.ltfs_server.specs.Runs.{Gives, IsRunOf, Looked, Run, Taken, TakesNothing, Written}
 use Rattle.ltfs_server.specs.declared.plain.PlainEnd.{PlainEnd}
 use Rattle.ltfs_server.specs.declared.plain.PlainEnd.TheVariants as plains
-use Rattle.ltfs_server.specs.declared.labels.LabelEnd.{LabelEnd}
-use Rattle.ltfs_server.specs.declared.labels.LabelEnd.TheVariants as labels
-use Rattle.ltfs_server.specs.declared.outcomes.Outcome.{Outcome}
-use Rattle.ltfs_server.specs.declared.outcomes.Outcome.TheVariants as outcomes
 
 abbrev pub plain_status : PlainEnd → ℕ
 plain_status (plains.Done log) = 0
@@ -28,10 +28,8 @@ plain_status (plains.NoMemory log) = 7
 
 abbrev pub plain_text : PlainEnd → List ℕ
 plain_text (plains.Done log) = done_text log
-plain_text (plains.Script refusal) =
-    codes "script " ++ (decimal refusal.line ++ (codes " " ++ (reason_name refusal.why ++ codes "\n")))
-plain_text (plains.Source counts) =
-    codes "source " ++ (decimal counts.before ++ (codes " " ++ (decimal counts.after ++ codes "\n")))
+plain_text (plains.Script refusal) = refusal_line refusal
+plain_text (plains.Source counts) = source_line counts
 plain_text (plains.NoMemory log) = codes "memory\n"
 
 -- the log, wherever the calls were run
@@ -48,49 +46,96 @@ IsPlainEnd source gives at (plains.Script refusal) = IfSome source.left (λ text
 IsPlainEnd source gives at (plains.Source counts) = IsRise source.before source.now counts.before counts.after
 IsPlainEnd source gives at (plains.NoMemory log) = IfSome log (IsRunOf (IsPlainRun at gives) source)
 
+-- what `label` comes to: the labels are told, or they weren't read
+pub data LabelEnd : Type 0 where
+  labelled : Labels → LabelEnd
+  unlabelled : MountErr → LabelEnd
+
 abbrev pub label_status : LabelEnd → ℕ
-label_status (labels.Done found) = 0
-label_status (labels.Mount error) = mount_status error
+label_status (labelled found) = 0
+label_status (unlabelled error) = mount_status error
 
 abbrev pub label_text : LabelEnd → List ℕ
-label_text (labels.Done found) = labels_text found
-label_text (labels.Mount error) = mount_text error
+label_text (labelled found) = labels_text found
+label_text (unlabelled error) = mount_text error
 
 -- when `label` ends so
 abbrev pub IsLabelEnd : Looked → LabelEnd → Type 0
-IsLabelEnd drive (labels.Done found) = IfSome drive.held (λ c. HasLabels c found)
-IsLabelEnd drive (labels.Mount error) = IfSome drive.held (λ c. Fails c error) × AreCounts drive.before drive.now error
+IsLabelEnd drive (labelled found) = IfSome drive.held (λ c. HasLabels c found)
+IsLabelEnd drive (unlabelled error) = IfSome drive.held (λ c. Fails c error) × AreCounts drive.before drive.now error
 
-abbrev pub status_of : Outcome → ℕ
-status_of outcomes.Words = 1
-status_of (outcomes.Plain end) = plain_status end
-status_of (outcomes.Label end) = label_status end
+-- what `list` comes to: a listing is told, or so many lines of its tree before memory was refused, or there was none
+pub data ListEnd : Type 0 where
+  listed : Listing → ListEnd
+  cut_short : Listing → ℕ → ListEnd
+  unlisted : MountErr → ListEnd
 
-abbrev pub text_of : Outcome → List ℕ
-text_of outcomes.Words = codes "words\n"
-text_of (outcomes.Plain end) = plain_text end
-text_of (outcomes.Label end) = label_text end
+abbrev pub list_status : ListEnd → ℕ
+list_status (listed l) = 0
+list_status (cut_short l count) = 7
+list_status (unlisted error) = mount_status error
 
-abbrev pub log_of : Outcome → Option Log
-log_of outcomes.Words = None
-log_of (outcomes.Plain end) = plain_log end
-log_of (outcomes.Label end) = None
+abbrev pub list_text : ListEnd → List ℕ
+list_text (listed l) = text_of_listing l
+list_text (cut_short l count) = first_lines count l.tree ++ codes "memory\n"
+list_text (unlisted error) = mount_text error
 
--- the words are of no form and nothing was read, or they are those of the command, which may end so
-abbrev pub IsCaused : Run → Outcome → Type 0
-IsCaused r outcomes.Words = HasNoForm r.words × TakesNothing r.source
-IsCaused r (outcomes.Plain end) = (at : Option Moment) × IsPlainWords r.words at × IsPlainEnd r.source r.gives at end
-IsCaused r (outcomes.Label end) = IsLabel r.words × TakesNothing r.source × IsLabelEnd r.drive end
+-- when `list` ends so
+abbrev pub IsListEnd : Looked → ListEnd → Type 0
+IsListEnd drive (listed l) = IfSome drive.held (λ c. IsListingOf c l)
+IsListEnd drive (cut_short l count) = IfSome drive.held (λ c. IsListingOf c l)
+IsListEnd drive (unlisted error) = IfSome drive.held (λ c. Blames error c) × AreCounts drive.before drive.now error
 
--- what it comes to where memory for its text is refused; that of faulty words takes none
-abbrev pub without_memory : Outcome → Outcome
-without_memory outcomes.Words = outcomes.Words
-without_memory (outcomes.Plain end) = outcomes.Plain (plains.NoMemory (plain_log end))
-without_memory (outcomes.Label end) = outcomes.Label (labels.Mount errors.NoMemory)
+-- What a run comes to: the words are of no form, memory was refused before they were known, or they are a command's, which
+-- comes to this.
+pub data Ending : Type 0 where
+  of_no_form : Ending
+  of_memory : Ending
+  of_plain : PlainEnd → Ending
+  of_label : LabelEnd → Ending
+  of_list : ListEnd → Ending
 
--- What it comes to is told by its status and its text; or the sink's count rose, and a front of that text was written.
-abbrev pub IsTold : Outcome → Written → (status : ℕ) → Option Log → Type 0
-IsTold outcome sink status log =
-    (log ≡ log_of outcome)
-    × (((status ≡ status_of outcome) × Appends sink.old sink.new (text_of outcome))
-    ⊎ ((status ≡ 6) × Rose sink.before sink.now × AppendsFront sink.old sink.new (text_of outcome)))
+abbrev pub status_of : Ending → ℕ
+status_of of_no_form = 1
+status_of of_memory = 7
+status_of (of_plain end) = plain_status end
+status_of (of_label end) = label_status end
+status_of (of_list end) = list_status end
+
+abbrev pub text_of : Ending → List ℕ
+text_of of_no_form = codes "words\n"
+text_of of_memory = codes "memory\n"
+text_of (of_plain end) = plain_text end
+text_of (of_label end) = label_text end
+text_of (of_list end) = list_text end
+
+abbrev pub log_of : Ending → Option Log
+log_of of_no_form = None
+log_of of_memory = None
+log_of (of_plain end) = plain_log end
+log_of (of_label end) = None
+log_of (of_list end) = None
+
+-- the words are of no form, or those of the command, which may end so; none but `plain` reads the source
+abbrev pub IsCaused : Run → Ending → Type 0
+IsCaused r of_no_form = HasNoForm r.words × TakesNothing r.source
+IsCaused r of_memory = TakesNothing r.source
+IsCaused r (of_plain end) = (at : Option Moment) × IsPlainWords r.words at × IsPlainEnd r.source r.gives at end
+IsCaused r (of_label end) = IsLabel r.words × TakesNothing r.source × IsLabelEnd r.drive end
+IsCaused r (of_list end) = IsList r.words × TakesNothing r.source × IsListEnd r.drive end
+
+-- a status and a text are told; or the sink's count rose, and a front of that text was written
+abbrev pub IsTold : (wanted : ℕ) → (text : List ℕ) → Written → (status : ℕ) → Type 0
+IsTold wanted text sink status =
+    ((status ≡ wanted) × Appends sink.old sink.new text)
+    ⊎ ((status ≡ 6) × Rose sink.before sink.now × AppendsFront sink.old sink.new text)
+
+-- what it comes to is told, and it leaves this log
+abbrev pub EndsAs : Ending → Written → (status : ℕ) → Option Log → Type 0
+EndsAs e sink status log = (log ≡ log_of e) × IsTold (status_of e) (text_of e) sink status
+
+-- a listing is told, or so many lines of its tree, and then that memory was refused
+abbrev pub IsListingTold : Listing → Written → (status : ℕ) → Type 0
+IsListingTold l sink status =
+    IsTold 0 (text_of_listing l) sink status
+    ⊎ ((count : ℕ) × IsTold 7 (first_lines count l.tree ++ codes "memory\n") sink status)

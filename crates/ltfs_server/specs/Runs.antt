@@ -7,6 +7,9 @@ use Rattle.tape_types.specs.declared.moments.Moment.{Moment}
 use Rattle.session_script.specs.Grammar.{script_of}
 use Rattle.session_script.specs.declared.logs.Log.{Log}
 use Rattle.session_script.specs.declared.scripts.ScriptLine.{ScriptLine}
+use Rattle.tape_drive.specs.declared.drive.Drive as drives
+use Rattle.tape_edge.specs.declared.traits.Sink as sinks
+use Rattle.tape_edge.specs.declared.traits.Source as sources
 
 -- what a clock may give at each of its calls, counted from 0
 abbrev pub Gives : Type 1
@@ -19,6 +22,14 @@ pub record Taken : Type 0 where
   pub before : ℕ
   pub now : ℕ
 
+abbrev pub taken : {S : Type 0} → sources.Ghosts S → (old new : S) → Taken
+taken source old new = record {
+  left = source.left old;
+  rest = source.left new;
+  before = source.faults old;
+  now = source.faults new;
+}
+
 -- the source is as it was
 pub record TakesNothing (source : Taken) : Type 0 where
   pub left : source.rest ≡ source.left
@@ -30,12 +41,23 @@ pub record Looked : Type 0 where
   pub before : ℕ
   pub now : ℕ
 
+abbrev pub looked : {D : Type 0} → drives.Ghosts D → (old new : D) → Looked
+looked drive old new = record { held = drive.held old; before = drive.faults old; now = drive.faults new }
+
 -- what had been and has been written to the sink, where it tells that, and its counts of failed writes before and now
 pub record Written : Type 0 where
   pub old : Option (List ℕ)
   pub new : Option (List ℕ)
   pub before : ℕ
   pub now : ℕ
+
+abbrev pub written : {K : Type 0} → sinks.Ghosts K → (old new : K) → Written
+written sink old new = record {
+  old = sink.written old;
+  new = sink.written new;
+  before = sink.faults old;
+  now = sink.faults new;
+}
 
 -- a run by its words, what its clock may give, its source and its drive
 pub record Run : Type 1 where

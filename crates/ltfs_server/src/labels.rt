@@ -1,68 +1,40 @@
 ghost use Rattle.std.specs.Prelude.{◌≡◌, ◌++◌, codes, IfOk, OnOk, string_bytes};
-ghost use Rattle.tape_types.specs.declared.cartridges.Cartridge.{Cartridge};
 ghost use Rattle.ltfs_server.specs.Labels.{facts_text, label_line, labels_text, mount_status, mount_text, part_name, place_line, truth_name, volume_text};
-ghost use Rattle.ltfs_server.specs.Outcomes.{IsLabelEnd, label_status, label_text};
+ghost use Rattle.ltfs_server.specs.Promises.{DoesLabel};
+ghost use Rattle.ltfs_server.specs.Runs.{written};
 
-use crate::outcomes::bytes_of;
+use crate::ended::Ended;
+use crate::telling::{bytes_of, tell_made};
 use index_model::{IndexErr, refusal_text};
 use ltfs_label::Label;
 use mount_recover::{Labels, MountErr, read_labels};
 use session_script::push_escaped;
 use std::alloc::Global;
 use tape_drive::Drive;
+use tape_edge::Sink;
 use tape_types::{Bytes, NoMemory, Part, Place, Twin, time_text, uuid_text};
 use vol_label::Vol1;
 
-/// What `label` comes to.
-#[derive(Drop)]
-pub enum LabelEnd {
-    /// The labels were read.
-    Done(Labels),
-    /// They were not.
-    Mount(MountErr),
-}
-
-impl LabelEnd {
-    /// What is printed.
-    pub fn text(&self, alloc: Global) -> Result<Bytes, NoMemory>
-        ensures { IfOk result (λ text. text ≡ label_text self.now) }
-    {
-        match self {
-            LabelEnd::Done(labels) => labels_text(alloc, labels),
-            LabelEnd::Mount(error) => mount_text(alloc, *error),
-        }
-    }
-
-    /// The status with which the program ends.
-    pub fn status(&self) -> u8
-        ensures { result ≡ label_status self.now }
-    {
-        match self {
-            LabelEnd::Done(_) => 0,
-            LabelEnd::Mount(error) => mount_status(*error),
-        }
-    }
-}
-
-/// Reads the labels of the cartridge, and writes nothing.
-pub fn run_label<D: Drive>(alloc: Global, drive: &mut D) -> LabelEnd
-    ensures end { IsLabelEnd (record {
-      held = D.held drive.old;
-      before = D.faults drive.old;
-      now = D.faults drive.new;
-    }) result }
-    ensures held { D.held drive.new ≡ D.held drive.old }
-    ensures limits { D.limits drive.new ≡ D.limits drive.old }
-    ensures leaves { (image : Cartridge) → D.leaves drive.new image → D.leaves drive.old image }
+/// The command `label`: reads the labels of the cartridge, and writes a line for each partition. Nothing is written to
+/// the cartridge.
+pub fn run_label<D: Drive, K: Sink>(alloc: Global, drive: D, out: &mut K) -> Ended<D>
+    ensures { DoesLabel D.Drive drive result.drive (written K.Sink out.old out.new) result.status result.log }
 {
-    match read_labels(alloc, drive) {
-        Ok(labels) => LabelEnd::Done(labels),
-        Err(error) => LabelEnd::Mount(error),
+    let mut drive = drive;
+    match read_labels(alloc, &mut drive) {
+        Ok(labels) => tell_made(out, labels_text(alloc, &labels), 0, None, drive),
+        Err(error) => tell_made(
+            out,
+            mount_text(alloc, error),
+            mount_status(error),
+            None,
+            drive,
+        ),
     }
 }
 
 /// A line for the label of each partition.
-pub fn labels_text(alloc: Global, labels: &Labels) -> Result<Bytes, NoMemory>
+fn labels_text(alloc: Global, labels: &Labels) -> Result<Bytes, NoMemory>
     ensures { IfOk result (λ text. text ≡ labels_text labels.now) }
 {
     let mut text = Vec::new(alloc);

@@ -3,13 +3,13 @@
 
 mod ended;
 mod labels;
-mod outcomes;
+mod lists;
 mod plain;
 mod server;
 mod session;
+mod telling;
 #[cfg(test)]
 mod tests;
-mod words;
 
 use file_drive::FileDrive;
 use server::run;

@@ -1,12 +1,16 @@
 ghost use Rattle.std.specs.Prelude.{◌≡◌, ◌++◌, IfOk, string_bytes};
 ghost use Rattle.ltfs_server.specs.Headline.{done_text};
 ghost use Rattle.ltfs_server.specs.Outcomes.{IsPlainEnd, plain_log, plain_status, plain_text};
+ghost use Rattle.ltfs_server.specs.Promises.{DoesPlain};
+ghost use Rattle.ltfs_server.specs.Runs.{taken, written};
 
-use crate::outcomes::bytes_of;
+use crate::ended::Ended;
 use crate::session::run_script;
+use crate::telling::{bytes_of, tell_made};
 use session_script::{Log, ScriptErr, ScriptFault, log_text, read_script};
 use std::alloc::Global;
-use tape_edge::{Clock, ReadFailure, Source, read_input};
+use tape_drive::Drive;
+use tape_edge::{Clock, ReadFailure, Sink, Source, read_input};
 use tape_types::{Bytes, Moment, NoMemory, Twin};
 
 /// No script has more bytes.
@@ -70,20 +74,32 @@ fn done_text(alloc: Global, log: &Log) -> Result<Bytes, NoMemory>
     Ok(text)
 }
 
+/// The command `plain`: reads the script, runs its calls on a plain tree, and writes the log. The drive stays as it is.
+pub fn run_plain<D: Drive, S: Source, K: Sink, C: Clock>(
+    alloc: Global,
+    at: Option<Moment>,
+    drive: D,
+    script: &mut S,
+    out: &mut K,
+    clock: C,
+) -> Ended<D>
+    ensures { DoesPlain at (C.gives clock) (taken S.Source script.old script.new) (written K.Sink out.old out.new)
+        drive result.drive result.status result.log }
+{
+    let end = play(alloc, at, script, clock);
+    let made = end.text(alloc);
+    let (status, log) = end.into_parts();
+    tell_made(out, made, status, log, drive)
+}
+
 /// Reads the script to its end and runs it.
-pub fn run_plain<S: Source, C: Clock>(
+fn play<S: Source, C: Clock>(
     alloc: Global,
     at: Option<Moment>,
     script: &mut S,
     clock: C,
 ) -> PlainEnd
-    ensures { IsPlainEnd (record {
-      left = S.left script.old;
-      rest = S.left script.new;
-      before = S.faults script.old;
-      now = S.faults script.new;
-    })
-        (C.gives clock) at result }
+    ensures { IsPlainEnd (taken S.Source script.old script.new) (C.gives clock) at result }
 {
     let text = match read_input(alloc, script, SCRIPT_LIMIT) {
         Ok(text) => text,

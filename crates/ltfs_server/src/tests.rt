@@ -23,7 +23,69 @@ const DP: &[u8] = b"<?xml version=\"1.0\" encoding=\"UTF-8\"?><ltfslabel version
 <location><partition>b</partition></location><partitions><index>a</index><data>b</data></partitions>\
 <blocksize>4096</blocksize><compression>false</compression></ltfslabel>";
 
-/// A partition by letters: `v` is the VOL1 record, `a` and `b` are the labels, and `m` is a mark.
+const UUID: &str = "30a91a08-daae-48d1-ae75-69804e61d2ea";
+
+const TIMES: &str = "<creationtime>2020-01-28T19:39:50.715656751Z</creationtime>\
+<changetime>2020-01-28T19:39:50.715656751Z</changetime><modifytime>2020-01-28T19:39:50.715656751Z</modifytime>\
+<accesstime>2020-01-28T19:39:50.715656751Z</accesstime><backuptime>2020-01-28T19:39:50.715656751Z</backuptime>\
+<readonly>false</readonly>";
+
+/// The document of an index of this generation that stands there and points back there, with these nodes in its root.
+fn index(
+    alloc: Global,
+    generation: u8,
+    here: (char, u8),
+    back: Option<u8>,
+    nodes: &str,
+) -> Result<String, NoMemory> {
+    let (letter, block) = here;
+    let mut text = format!(in alloc;
+        "<ltfsindex version=\"2.4.0\"><creator>ltfs_server 1.0.0</creator><volumeuuid>{UUID}</volumeuuid>\
+<generationnumber>{generation}</generationnumber><updatetime>2024-01-02T03:04:05.000000000Z</updatetime>\
+<location><partition>{letter}</partition><startblock>{block}</startblock></location>"
+    )?;
+    if let Some(block) = back {
+        let pointer = format!(in alloc;
+            "<previousgenerationlocation><partition>b</partition><startblock>{block}</startblock>\
+</previousgenerationlocation>"
+        )?;
+        text.push_str(pointer.as_str())?;
+    }
+    let tree = format!(in alloc;
+        "<allowpolicyupdate>true</allowpolicyupdate><highestfileuid>9</highestfileuid><directory><fileuid>1</fileuid>\
+<name>Archive</name>{TIMES}<contents>{nodes}</contents></directory></ltfsindex>"
+    )?;
+    text.push_str(tree.as_str())?;
+    Ok(text)
+}
+
+/// A folder with a file of five bytes, and a link beside it, which comes first in the document.
+fn archive(alloc: Global) -> Result<String, NoMemory> {
+    Ok(format!(in alloc;
+        "<file><fileuid>4</fileuid><name>latest</name><length>16</length>{TIMES}<symlink>docs/read me.txt</symlink>\
+</file><directory><fileuid>2</fileuid><name>docs</name>{TIMES}<contents><file><fileuid>3</fileuid>\
+<name>read me.txt</name><length>5</length>{TIMES}<extentinfo><extent><fileoffset>0</fileoffset>\
+<partition>b</partition><startblock>7</startblock><byteoffset>0</byteoffset><bytecount>5</bytecount></extent>\
+</extentinfo></file></contents></directory>"
+    )?)
+}
+
+/// The document with this letter: `p` of an empty tree at 5 of the data partition, `q` of the same on the index
+/// partition; `x` of the archive at 9 of the data partition, `y` of the same on the index partition, and `z` of a newer
+/// one there, of an empty tree.
+fn document(alloc: Global, letter: u8) -> Result<String, NoMemory> {
+    let nodes = archive(alloc)?;
+    match letter {
+        b'p' => index(alloc, 1, ('b', 5), None, ""),
+        b'q' => index(alloc, 1, ('a', 5), Some(5), ""),
+        b'x' => index(alloc, 3, ('b', 9), Some(5), nodes.as_str()),
+        b'y' => index(alloc, 3, ('a', 5), Some(9), nodes.as_str()),
+        _ => index(alloc, 4, ('a', 5), Some(9), ""),
+    }
+}
+
+/// A partition by letters: `v` is the VOL1 record, `a` and `b` are the labels, `m` is a mark, `h` a block of five bytes,
+/// and all others are documents of indexes.
 fn part(alloc: Global, letters: &[u8]) -> Result<List<Item>, NoMemory>
     requires { length letters.now ≤ 1000 }
     ensures { IfOk result (HoldsAtMost 1000) }
@@ -42,7 +104,15 @@ fn item(alloc: Global, letter: u8) -> Result<Item, NoMemory>
         b'v' => block(alloc, VOL1),
         b'a' => block(alloc, IP),
         b'b' => block(alloc, DP),
-        _ => Ok(Item::Mark),
+        b'h' => block(alloc, b"hello"),
+        b'm' => Ok(Item::Mark),
+        _ => {
+            let text = document(alloc, letter)?;
+            if text.is_empty() || text.len() > 1_048_576 {
+                return Err(NoMemory);
+            }
+            block(alloc, text.as_bytes())
+        }
     }
 }
 
@@ -227,8 +297,8 @@ fn failed_streams_are_told(rt: HostRuntime) -> Result<(), NoMemory> {
     Ok(())
 }
 
-/// `label`, run on a cartridge of these partitions, ends with this status and this output.
-fn check_label<R: Abort>(
+/// `label` or `list`, run on a cartridge of these partitions, ends with this status and this output.
+fn check_look<R: Abort>(
     rt: &R,
     alloc: Global,
     words: &str,
@@ -254,10 +324,10 @@ fn labels_are_printed(rt: HostRuntime) -> Result<(), NoMemory> {
     let both =
         "ip TAPE01 a 30a91a08-daae-48d1-ae75-69804e61d2ea 4096 false 2024-01-02T03:04:05.000000000Z\n\
 dp TAPE01 b 30a91a08-daae-48d1-ae75-69804e61d2ea 4096 false 2024-01-02T03:04:05.000000000Z\n";
-    check_label(&rt, alloc, "label D", b"vmam", b"vmbm", 0, both)?;
-    check_label(&rt, alloc, "label D", b"", b"vmbm", 3, "volume Vol1 ip\n")?;
-    check_label(&rt, alloc, "label D", b"vmam", b"v", 3, "volume Vol1 dp\n")?;
-    check_label(
+    check_look(&rt, alloc, "label D", b"vmam", b"vmbm", 0, both)?;
+    check_look(&rt, alloc, "label D", b"", b"vmbm", 3, "volume Vol1 ip\n")?;
+    check_look(&rt, alloc, "label D", b"vmam", b"v", 3, "volume Vol1 dp\n")?;
+    check_look(
         &rt,
         alloc,
         "label D",
@@ -266,7 +336,7 @@ dp TAPE01 b 30a91a08-daae-48d1-ae75-69804e61d2ea 4096 false 2024-01-02T03:04:05.
         3,
         "volume Label ip\n",
     )?;
-    check_label(
+    check_look(
         &rt,
         alloc,
         "label D",
@@ -275,7 +345,7 @@ dp TAPE01 b 30a91a08-daae-48d1-ae75-69804e61d2ea 4096 false 2024-01-02T03:04:05.
         3,
         "volume Label dp\n",
     )?;
-    check_label(
+    check_look(
         &rt,
         alloc,
         "label D",
@@ -284,8 +354,8 @@ dp TAPE01 b 30a91a08-daae-48d1-ae75-69804e61d2ea 4096 false 2024-01-02T03:04:05.
         3,
         "volume LabelsDiffer\n",
     )?;
-    check_label(&rt, alloc, "label", b"vmam", b"vmbm", 1, "words\n")?;
-    check_label(&rt, alloc, "label a b", b"vmam", b"vmbm", 1, "words\n")?;
+    check_look(&rt, alloc, "label", b"vmam", b"vmbm", 1, "words\n")?;
+    check_look(&rt, alloc, "label a b", b"vmam", b"vmbm", 1, "words\n")?;
     Ok(())
 }
 
@@ -301,5 +371,139 @@ fn a_failed_drive_is_told(rt: HostRuntime) -> Result<(), NoMemory> {
     let (ended, sink) = ran(alloc, "label D", drive, "", &[], &[])?;
     assert_eq!(rt; sink.bytes().as_slice(), b"drive 0 1\n".as_slice());
     assert_eq!(rt; ended.status, 4);
+    Ok(())
+}
+
+#[test]
+fn trees_are_listed(rt: HostRuntime) -> Result<(), NoMemory> {
+    let alloc = rt.alloc();
+    let lines = "d 1 /\nd 2 /docs\nf 3 5 /docs/read%20me.txt\nl 4 /latest docs/read%20me.txt\n";
+    let on_dp = format!(in alloc; "{lines}generation 3 b 9\n")?;
+    check_look(
+        &rt,
+        alloc,
+        "list D",
+        b"vmammym",
+        b"vmbmmpmhmxm",
+        0,
+        on_dp.as_str(),
+    )?;
+    check_look(
+        &rt,
+        alloc,
+        "list D",
+        b"vmamm",
+        b"vmbmmpmhmxm",
+        0,
+        on_dp.as_str(),
+    )?;
+    check_look(
+        &rt,
+        alloc,
+        "list D",
+        b"vmammzm",
+        b"vmbmmpmhmxm",
+        0,
+        "d 1 /\ngeneration 4 a 5\n",
+    )?;
+    check_look(
+        &rt,
+        alloc,
+        "list D",
+        b"vmammqm",
+        b"vmbmmpm",
+        0,
+        "d 1 /\ngeneration 1 b 5\n",
+    )?;
+    Ok(())
+}
+
+#[test]
+fn cartridges_without_a_tree_are_told(rt: HostRuntime) -> Result<(), NoMemory> {
+    let alloc = rt.alloc();
+    check_look(&rt, alloc, "list D", b"", b"", 3, "volume Vol1 ip\n")?;
+    check_look(
+        &rt,
+        alloc,
+        "list D",
+        b"vmam",
+        b"vmam",
+        3,
+        "volume LabelsDiffer\n",
+    )?;
+    check_look(
+        &rt,
+        alloc,
+        "list D",
+        b"vmam",
+        b"vmbm",
+        3,
+        "volume NoIndex\n",
+    )?;
+    check_look(
+        &rt,
+        alloc,
+        "list D",
+        b"vmammm",
+        b"vmbmmpm",
+        3,
+        "volume Layout ip 5\n",
+    )?;
+    check_look(
+        &rt,
+        alloc,
+        "list D",
+        b"vmam",
+        b"vmbmmxm",
+        3,
+        "volume WrongPointer dp 5\n",
+    )?;
+    check_look(
+        &rt,
+        alloc,
+        "list D",
+        b"vmam",
+        b"vmbmmhm",
+        3,
+        "volume BadIndex dp 5 Syntax 0\n",
+    )?;
+    check_look(&rt, alloc, "list", b"vmam", b"vmbm", 1, "words\n")?;
+    check_look(&rt, alloc, "list a b", b"vmam", b"vmbm", 1, "words\n")?;
+    Ok(())
+}
+
+/// `list`, run on a volume with these reads of the drive or writes of the sink failing, ends with this status and this
+/// output.
+fn check_listed<R: Abort>(
+    rt: &R,
+    alloc: Global,
+    fails: List<Listed>,
+    write_fails: &[u64],
+    status: u8,
+    output: &str,
+) -> Result<(), NoMemory> {
+    let drive = drive_of(alloc, b"vmammqm", b"vmbmmpm", fails)?;
+    let (ended, sink) = ran(alloc, "list D", drive, "", &[], write_fails)?;
+    assert_eq!(rt; sink.bytes().as_slice(), output.as_bytes());
+    assert_eq!(rt; ended.status, status);
+    Ok(())
+}
+
+#[test]
+fn failures_of_a_listing_are_told(rt: HostRuntime) -> Result<(), NoMemory> {
+    let alloc = rt.alloc();
+    let first = Listed {
+        kind: Cmd::Read,
+        nth: 1,
+    };
+    let later = Listed {
+        kind: Cmd::Read,
+        nth: 20,
+    };
+    let fails = List::from_vec(Vec::from_slice(alloc, &[first])?);
+    check_listed(&rt, alloc, fails, &[], 4, "drive 0 1\n")?;
+    let fails = List::from_vec(Vec::from_slice(alloc, &[later])?);
+    check_listed(&rt, alloc, fails, &[], 4, "drive 0 1\n")?;
+    check_listed(&rt, alloc, List::new(alloc), &[1], 6, "")?;
     Ok(())
 }

@@ -1,0 +1,203 @@
+-- What is promised for all words, where one command's were read.
+use Rattle.std.proofs.Common.{◌≡◌, ◌∙◌, ℕ, ◌+◌, ◌*◌, ◌^◌, ◌-◌, ◌≤◌, false, List, [], ◌∷◌, Option, Some, None, Ok, Err, String, codes, refl, sym, subst, arith, inl, inr, ◌==◌}
+use Rattle.std.specs.Prelude.{IfSome}
+use Rattle.std.specs.List.{list_any}
+use Rattle.std.specs.Global.{Global}
+use Rattle.tape_types.specs.declared.moments.Moment.{Moment}
+use Rattle.session_script.specs.declared.logs.Log.{Log}
+use Rattle.tape_drive.specs.Looks.{Looks}
+use Rattle.tape_drive.specs.declared.drive.Drive.{Ghosts}
+use Rattle.tape_meaning.specs.declared.errors.MountErr.TheVariants as errors
+use Rattle.server_words.specs.Forms.{HasNoForm, IsLabel, IsList, IsPlain, IsPlainWords, IsSpelledBy}
+use Rattle.server_words.specs.declared.forms.WordsErr.{WordsErr}
+use Rattle.server_words.specs.declared.forms.WordsErr.TheVariants as word_errors
+use Rattle.server_words.specs.declared.reading.Command.{Command}
+use Rattle.server_words.specs.declared.reading.Command.TheVariants as commands
+use Rattle.server_words.proofs.FormLemmas.{one_form, plain_or_folder, two_folders}
+use Rattle.ltfs_server.specs.Outcomes.{IsTold, of_label, of_list, of_memory, of_no_form, of_plain, unlabelled, unlisted}
+use Rattle.ltfs_server.specs.Promises.{ComesOf, DoesAsked, DoesLabel, DoesList, DoesPlain, RefusesWords}
+use Rattle.ltfs_server.specs.Runs.{Gives, IsOneOf, Taken, TakesNothing, Written}
+use Rattle.ltfs_server.specs.declared.plain.PlainEnd.TheVariants as plains
+use Rattle.ltfs_server.proofs.LabelClauses.{label_does}
+use Rattle.ltfs_server.proofs.ListClauses.{list_does}
+use Rattle.ltfs_server.proofs.PlainClauses.{plain_does}
+use Rattle.ltfs_server.proofs.Told.{by_six, by_status, by_text, if_some, none_of}
+use Rattle.tape_drive.proofs.Looking.{no_looks}
+
+-- a status that is one of these is no other
+other : (status n : ℕ) (xs : List ℕ) → list_any (λ x. n == x) xs ≡ false → IsOneOf status xs → status ≡ n → ⊥
+other status n xs none one is = none_of n xs none (subst (λ s. IsOneOf s xs) is one)
+
+plain_all : (n : ℕ) → IsOneOf n (0 ∷ 2 ∷ 5 ∷ 6 ∷ 7 ∷ []) → IsOneOf n (0 ∷ 1 ∷ 2 ∷ 3 ∷ 4 ∷ 5 ∷ 6 ∷ 7 ∷ [])
+plain_all n (inl e) = inl e
+plain_all n (inr (inl e)) = inr (inr (inl e))
+plain_all n (inr (inr (inl e))) = inr (inr (inr (inr (inr (inl e)))))
+plain_all n (inr (inr (inr (inl e)))) = inr (inr (inr (inr (inr (inr (inl e))))))
+plain_all n (inr (inr (inr (inr (inl e))))) = inr (inr (inr (inr (inr (inr (inr (inl e)))))))
+plain_all n (inr (inr (inr (inr (inr none))))) = absurd none
+
+looked_all : (n : ℕ) → IsOneOf n (0 ∷ 3 ∷ 4 ∷ 6 ∷ 7 ∷ []) → IsOneOf n (0 ∷ 1 ∷ 2 ∷ 3 ∷ 4 ∷ 5 ∷ 6 ∷ 7 ∷ [])
+looked_all n (inl e) = inl e
+looked_all n (inr (inl e)) = inr (inr (inr (inl e)))
+looked_all n (inr (inr (inl e))) = inr (inr (inr (inr (inl e))))
+looked_all n (inr (inr (inr (inl e)))) = inr (inr (inr (inr (inr (inr (inl e))))))
+looked_all n (inr (inr (inr (inr (inl e))))) = inr (inr (inr (inr (inr (inr (inr (inl e)))))))
+looked_all n (inr (inr (inr (inr (inr none))))) = absurd none
+
+none_logged : (words : List (String Global)) (log : Option Log) → log ≡ None → IfSome log (λ l. IsPlain words)
+none_logged words log none = subst (λ l. IfSome l (λ l. IsPlain words)) (sym none) tt
+
+module _ {D : Type 0} (words : List (String Global)) (gives : Gives) (source : Taken) (sink : Written) (drive : Ghosts D) (old new : D) (status : ℕ) (log : Option Log) where
+  pub plain_asked : (at : Option Moment) → IsPlainWords words at → DoesPlain at gives source sink old new status log
+      → DoesAsked words gives source sink drive old new status log
+  plain_asked at spelled does =
+      let is_plain : IsPlain words = (at, spelled) in record {
+        plain = λ again are. subst (λ (a : Option Moment). DoesPlain a gives source sink old new status log) (one_form words at again spelled are) does;
+        label = λ label. absurd (plain_or_folder words (codes "label") refl is_plain label);
+        list = λ list. absurd (plain_or_folder words (codes "list") refl is_plain list);
+        no_form = λ none. absurd (none.no_plain is_plain);
+        unread = λ another. absurd (another is_plain);
+        comes = record {
+          statuses = plain_all status does.statuses;
+          done = λ zero. inl is_plain;
+          refused = λ one. absurd (other status 1 (0 ∷ 2 ∷ 5 ∷ 6 ∷ 7 ∷ []) refl does.statuses one);
+          script = λ two. is_plain;
+          volume = λ three. absurd (other status 3 (0 ∷ 2 ∷ 5 ∷ 6 ∷ 7 ∷ []) refl does.statuses three);
+          drive = λ four. absurd (other status 4 (0 ∷ 2 ∷ 5 ∷ 6 ∷ 7 ∷ []) refl does.statuses four);
+          read = λ five. is_plain;
+          logged = if_some log (λ l. IsPlain words) (λ l is. is_plain);
+        };
+        told = (of_plain does.told.0, (at, spelled, does.told.1), does.told.2);
+      }
+
+  pub label_asked : IsLabel words → TakesNothing source → DoesLabel drive old new sink status log → DoesAsked words gives source sink drive old new status log
+  label_asked spelled nothing does = record {
+    plain = λ at are. absurd (plain_or_folder words (codes "label") refl (at, are) spelled);
+    label = λ label. does;
+    list = λ list. absurd (two_folders words (codes "label") (codes "list") refl spelled list);
+    no_form = λ none. absurd (none.no_label spelled);
+    unread = λ another. nothing;
+    comes = record {
+      statuses = looked_all status does.statuses;
+      done = λ zero. inr (inl spelled);
+      refused = λ one. absurd (other status 1 (0 ∷ 3 ∷ 4 ∷ 6 ∷ 7 ∷ []) refl does.statuses one);
+      script = λ two. absurd (other status 2 (0 ∷ 3 ∷ 4 ∷ 6 ∷ 7 ∷ []) refl does.statuses two);
+      volume = λ three. inl spelled;
+      drive = λ four. inl spelled;
+      read = λ five. absurd (other status 5 (0 ∷ 3 ∷ 4 ∷ 6 ∷ 7 ∷ []) refl does.statuses five);
+      logged = none_logged words log does.no_log;
+    };
+    told = (of_label does.told.0, (spelled, nothing, does.told.1), does.told.2);
+  }
+
+  pub list_asked : IsList words → TakesNothing source → DoesList drive old new sink status log → DoesAsked words gives source sink drive old new status log
+  list_asked spelled nothing does = record {
+    plain = λ at are. absurd (plain_or_folder words (codes "list") refl (at, are) spelled);
+    label = λ label. absurd (two_folders words (codes "label") (codes "list") refl label spelled);
+    list = λ list. does;
+    no_form = λ none. absurd (none.no_list spelled);
+    unread = λ another. nothing;
+    comes = record {
+      statuses = looked_all status does.statuses;
+      done = λ zero. inr (inr spelled);
+      refused = λ one. absurd (other status 1 (0 ∷ 3 ∷ 4 ∷ 6 ∷ 7 ∷ []) refl does.statuses one);
+      script = λ two. absurd (other status 2 (0 ∷ 3 ∷ 4 ∷ 6 ∷ 7 ∷ []) refl does.statuses two);
+      volume = λ three. inr spelled;
+      drive = λ four. inr spelled;
+      read = λ five. absurd (other status 5 (0 ∷ 3 ∷ 4 ∷ 6 ∷ 7 ∷ []) refl does.statuses five);
+      logged = none_logged words log does.no_log;
+    };
+    told = (of_list does.told.0, (spelled, nothing, does.told.1), does.told.2);
+  }
+
+  pub form_asked : HasNoForm words → TakesNothing source → new ≡ old → log ≡ None → IsTold 1 (codes "words\n") sink status
+      → DoesAsked words gives source sink drive old new status log
+  form_asked none nothing same no_log told =
+      let among : IsOneOf status (1 ∷ 6 ∷ 7 ∷ []) = by_status (λ n. IsOneOf n (1 ∷ 6 ∷ 7 ∷ [])) 1 (codes "words\n") sink status told (inl refl) (λ rose. inr (inl refl)) in
+      let all : IsOneOf status (0 ∷ 1 ∷ 2 ∷ 3 ∷ 4 ∷ 5 ∷ 6 ∷ 7 ∷ []) =
+      by_status (λ n. IsOneOf n (0 ∷ 1 ∷ 2 ∷ 3 ∷ 4 ∷ 5 ∷ 6 ∷ 7 ∷ [])) 1 (codes "words\n") sink status told (inr (inl refl)) (λ rose. inr (inr (inr (inr (inr (inr (inl refl))))))) in record {
+        plain = λ at are. absurd (none.no_plain (at, are));
+        label = λ label. absurd (none.no_label label);
+        list = λ list. absurd (none.no_list list);
+        no_form = λ again. record {
+          statuses = among;
+          printed = λ one. (by_text 1 1 (codes "words\n") sink status told (λ e. cc e) one).1;
+          only_write = by_six 1 (codes "words\n") sink status told (λ e. cc e);
+          memory = λ seven. absurd (let bad : 1 ≡ 7 = (by_text 7 1 (codes "words\n") sink status told (λ e. cc e) seven).0 in cc bad);
+          drive = same;
+          no_log = no_log;
+        };
+        unread = λ another. nothing;
+        comes = record {
+          statuses = all;
+          done = λ zero. absurd (other status 0 (1 ∷ 6 ∷ 7 ∷ []) refl among zero);
+          refused = λ one. none;
+          script = λ two. absurd (other status 2 (1 ∷ 6 ∷ 7 ∷ []) refl among two);
+          volume = λ three. absurd (other status 3 (1 ∷ 6 ∷ 7 ∷ []) refl among three);
+          drive = λ four. absurd (other status 4 (1 ∷ 6 ∷ 7 ∷ []) refl among four);
+          read = λ five. absurd (other status 5 (1 ∷ 6 ∷ 7 ∷ []) refl among five);
+          logged = none_logged words log no_log;
+        };
+        told = (of_no_form, (none, nothing), (no_log, told));
+      }
+
+  -- nothing was done
+  looks_no : (most : ℕ) → new ≡ old → drive.commands old ≤ 2 ^ 64 - 1 → Looks drive most old new
+  looks_no most same range = subst (λ (d : D). Looks drive most old d) (sym same) (more most)
+    where
+      more : (most : ℕ) → Looks drive most old old
+      more most = let none = no_looks drive old range in record {
+        held = refl;
+        limits = refl;
+        reads = record {
+          later = none.reads.later;
+          bound = omega (arith, range);
+          leaves = none.reads.leaves;
+          since = none.reads.since;
+          kept = none.reads.kept;
+        };
+      }
+
+  pub memory_asked : TakesNothing source → new ≡ old → drive.commands old ≤ 2 ^ 64 - 1 → log ≡ None → IsTold 7 (codes "memory\n") sink status
+      → DoesAsked words gives source sink drive old new status log
+  memory_asked nothing same range no_log told =
+      let among : IsOneOf status (6 ∷ 7 ∷ []) = by_status (λ n. IsOneOf n (6 ∷ 7 ∷ [])) 7 (codes "memory\n") sink status told (inr (inl refl)) (λ rose. inl refl) in
+      let all : IsOneOf status (0 ∷ 1 ∷ 2 ∷ 3 ∷ 4 ∷ 5 ∷ 6 ∷ 7 ∷ []) =
+      by_status (λ n. IsOneOf n (0 ∷ 1 ∷ 2 ∷ 3 ∷ 4 ∷ 5 ∷ 6 ∷ 7 ∷ [])) 7 (codes "memory\n") sink status told (inr (inr (inr (inr (inr (inr (inr (inl refl)))))))) (λ rose. inr (inr (inr (inr (inr (inr (inl refl))))))) in record {
+        plain = λ at are. plain_does at gives source sink old new status log (plains.NoMemory None) same tt (no_log, told);
+        label = λ label. label_does drive old new sink status log (unlabelled errors.NoMemory) (if_some (drive.held old) _ (λ c held. tt), tt) (looks_no _ same range) (no_log, told);
+        list = λ list. list_does drive old new sink status log (unlisted errors.NoMemory) (if_some (drive.held old) _ (λ c held. tt), tt) (looks_no _ same range) (no_log, told);
+        no_form = λ again. record {
+          statuses = inr among;
+          printed = λ one. absurd (other status 1 (6 ∷ 7 ∷ []) refl among one);
+          only_write = by_six 7 (codes "memory\n") sink status told (λ e. cc e);
+          memory = λ seven. (by_text 7 7 (codes "memory\n") sink status told (λ e. cc e) seven).1;
+          drive = same;
+          no_log = no_log;
+        };
+        unread = λ another. nothing;
+        comes = record {
+          statuses = all;
+          done = λ zero. absurd (other status 0 (6 ∷ 7 ∷ []) refl among zero);
+          refused = λ one. absurd (other status 1 (6 ∷ 7 ∷ []) refl among one);
+          script = λ two. absurd (other status 2 (6 ∷ 7 ∷ []) refl among two);
+          volume = λ three. absurd (other status 3 (6 ∷ 7 ∷ []) refl among three);
+          drive = λ four. absurd (other status 4 (6 ∷ 7 ∷ []) refl among four);
+          read = λ five. absurd (other status 5 (6 ∷ 7 ∷ []) refl among five);
+          logged = none_logged words log no_log;
+        };
+        told = (of_memory, nothing, (no_log, told));
+      }
+
+-- the words of the command that was read
+pub asked_plain : (w words : List (String Global)) (k : Command) (at : Option Moment) → w ≡ words → k ≡ commands.Plain at → IsSpelledBy w (Ok k) → IsPlainWords words at
+asked_plain w words k at same is spelled = subst (λ v. IsPlainWords v at) same (subst (λ (k : Command). IsSpelledBy w (Ok k)) is spelled)
+
+pub asked_label : (w words : List (String Global)) (k : Command) → w ≡ words → k ≡ commands.Label → IsSpelledBy w (Ok k) → IsLabel words
+asked_label w words k same is spelled = subst IsLabel same (subst (λ (k : Command). IsSpelledBy w (Ok k)) is spelled)
+
+pub asked_list : (w words : List (String Global)) (k : Command) → w ≡ words → k ≡ commands.List → IsSpelledBy w (Ok k) → IsList words
+asked_list w words k same is spelled = subst IsList same (subst (λ (k : Command). IsSpelledBy w (Ok k)) is spelled)
+
+pub asked_none : (w words : List (String Global)) (e : WordsErr) → w ≡ words → e ≡ word_errors.Form → IsSpelledBy w (Err e) → HasNoForm words
+asked_none w words e same is spelled = subst HasNoForm same (subst (λ (e : WordsErr). IsSpelledBy w (Err e)) is spelled)

@@ -1,0 +1,165 @@
+-- The label of a volume tells a size of its blocks that is in the range of sizes.
+use Rattle.std.proofs.Common.{◌≡◌, ◌∙◌, ℕ, ◌≤◌, Bool, true, false, cond, ◌==◌, ◌||◌, ◌&&◌, List, [], ◌∷◌, ◌++◌, Option, Some, None, Result, Ok, Err, refl, sym, ap, subst, arith, ◌⊎◌, inl, inr}
+use Rattle.std.specs.Prelude.{nat_le}
+use Rattle.std.proofs.lemmas.Bool.Decides.{nat_tests}
+use Rattle.doc_fields.specs.declared.tags.Tag.{Tag}
+use Rattle.doc_fields.specs.declared.tags.Tag.TheVariants.{Creator, FormatTime, VolumeUuid, Location, Partition, Partitions, IndexLetter, DataLetter, BlockSize, Compression}
+use Rattle.doc_fields.specs.declared.starts.Start.{Start}
+use Rattle.doc_fields.specs.Space.{space_end}
+use Rattle.doc_fields.specs.Numbers.{number_at}
+use Rattle.doc_fields.specs.EndTag.{end_at}
+use Rattle.doc_children.specs.Children.{code, first_missing, member}
+use Rattle.ltfs_label.specs.declared.schema.Place.{Place}
+use Rattle.ltfs_label.specs.declared.schema.Place.TheVariants as place
+use Rattle.ltfs_label.specs.declared.schema.Form.{Form}
+use Rattle.ltfs_label.specs.declared.schema.Form.TheVariants as form
+use Rattle.ltfs_label.specs.declared.schema.Child.TheVariants as child
+use Rattle.ltfs_label.specs.declared.errors.LabelErr.{LabelErr}
+use Rattle.ltfs_label.specs.Schema.{required, rule, tag_of}
+use Rattle.ltfs_label.specs.Values.{LabelValue, Val, blank, letter, set_leaf, size, time, truth, uuid, words}
+use Rattle.ltfs_label.specs.Pieces.{Piece, closes, in_block_range, leaf, leaf_at, lift, in_range, size_fault, value_at}
+use Rattle.ltfs_label.specs.Reading.{set, value_from}
+use Rattle.ltfs_label.specs.Grammar.{AllSpelled, Item, Items, LabelText, Spelled, all_pieces, bare, item, item_tag, nested, no_items, pieces_of, plain}
+use Rattle.ltfs_label.proofs.Inversion.{bind_ok, guard_ok}
+
+either : {A : Type 0} (b : Bool) (x y : Result A LabelErr) (z : A) → cond b x y ≡ Ok z → (x ≡ Ok z) ⊎ (y ≡ Ok z)
+either true x y z e = inl e
+either false x y z e = inr e
+
+same : {A : Type 0} (x y : A) → Path (Result A LabelErr) (Ok x) (Ok y) → x ≡ y
+same x y e = cc
+
+-- a size that was read is in the range
+sized : (text : List ℕ) (from : ℕ) (v : Val × ℕ) → value_at form.Size text from ≡ Ok v → (n : ℕ) × (v.0 ≡ size n) × (in_block_range n ≡ true)
+sized text from v is =
+    let number = bind_ok (lift (number_at text (space_end text from))) _ v is in
+    let ranged = bind_ok (in_range text (space_end text from) number.0) _ v number.2 in
+    let good = guard_ok (in_block_range number.0.0) (size_fault text (space_end text from) number.0) number.0 ranged.0 ranged.1 in (
+      ranged.0.0,
+      ap (λ (w : Val × ℕ). w.0) (sym (same (size ranged.0.0, space_end text ranged.0.1) v ranged.2)),
+      subst (λ (m : ℕ × ℕ). in_block_range m.0 ≡ true) good.1 good.0,
+    )
+
+size_read : (tag : Tag) (start : Start) (text : List ℕ) (x : Val) (next : ℕ) → leaf_at form.Size tag start text ≡ Ok (x, next)
+    → (n : ℕ) × (x ≡ size n) × (in_block_range n ≡ true)
+unfolding leaf_at
+size_read tag start text x next read = elim (either start.empty _ _ (x, next) read) [
+  | inl none ↦ absurd (cc none)
+  | inr there ↦
+      let value = bind_ok (value_at form.Size text start.next) _ (x, next) there in
+      let end = bind_ok (lift (end_at text value.0.1 tag)) _ (x, next) value.2 in
+      let found = sized text start.next value.0 value.1 in
+      (found.0, ap (λ (w : Val × ℕ). w.0) (sym (same (value.0.0, end.0) (x, next) end.2)) ∙ found.1, found.2)
+]
+
+-- a leaf of another element leaves the size
+stays : (tag : Tag) (x : Val) (v : LabelValue) → (code tag == 11) ≡ false → (set_leaf tag x v).block ≡ v.block
+stays BlockSize x v e = absurd (cc e)
+stays Creator (words t) v e = refl
+stays Creator x v e = refl
+stays FormatTime (time c) v e = refl
+stays FormatTime x v e = refl
+stays VolumeUuid (uuid n) v e = refl
+stays VolumeUuid x v e = refl
+stays Partition (letter b) v e = refl
+stays Partition x v e = refl
+stays IndexLetter (letter b) v e = refl
+stays IndexLetter x v e = refl
+stays DataLetter (letter b) v e = refl
+stays DataLetter x v e = refl
+stays Compression (truth b) v e = refl
+stays Compression x v e = refl
+stays tag x v e = refl
+
+-- the element of a size is a leaf of a label
+is_size : (p : Place) (tag : Tag) (f : Form) → rule p tag ≡ child.Leaf f → (code tag == 11) ≡ true → (tag ≡ BlockSize) × (f ≡ form.Size)
+is_size place.Label BlockSize f ruled is = (refl, cc ruled)
+is_size place.Location BlockSize f ruled is = absurd (cc ruled)
+is_size place.Partitions BlockSize f ruled is = absurd (cc ruled)
+is_size p tag f ruled is = absurd (cc is)
+
+abbrev IsRanged : LabelValue → Type 0
+IsRanged v = in_block_range v.block ≡ true
+
+tells : (text : List ℕ) (p : Place) (tag : Tag) (f : Form) (start : Start) (x : Val) (next : ℕ) (v : LabelValue) → rule p tag ≡ child.Leaf f → leaf_at f tag start text ≡ Ok (x, next)
+    → (code tag == 11) ≡ true → IsRanged (set_leaf tag x v)
+tells text p tag f start x next v ruled read is =
+    let same = is_size p tag f ruled is in
+    let found = size_read tag start text x next (subst (λ (g : Form). leaf_at g tag start text ≡ Ok (x, next)) same.1 read) in
+    subst (λ (t : Tag). IsRanged (set_leaf t x v)) (sym same.0)
+    (subst (λ (y : Val). IsRanged (set_leaf BlockSize y v)) (sym found.1) found.2)
+
+leaf_keeps : (text : List ℕ) (p : Place) (tag : Tag) (f : Form) (start : Start) (x : Val) (next : ℕ) (v : LabelValue) → rule p tag ≡ child.Leaf f → leaf_at f tag start text ≡ Ok (x, next)
+    → IsRanged v → IsRanged (set_leaf tag x v)
+leaf_keeps text p tag f start x next v ruled read good = elim (code tag == 11) as (λ b. (code tag == 11) ≡ b → IsRanged (set_leaf tag x v)) [
+  | true ↦ λ is. tells text p tag f start x next v ruled read is
+  | false ↦ λ is. subst (λ n. in_block_range n ≡ true) (sym (stays tag x v is)) good
+] refl
+
+joined : (v : LabelValue) (ps qs : List Piece) → value_from v (ps ++ qs) ≡ value_from (value_from v ps) qs
+joined v [] qs = refl
+joined v (p ∷ ps) qs = joined (set p v) ps qs
+
+-- a size in the range stays in it
+mutual
+  one_keeps : (text : List ℕ) (p : Place) (at : ℕ) (i : Item) (next : ℕ) (v : LabelValue) → Spelled text p at i next → IsRanged v → IsRanged (value_from v (pieces_of i))
+  one_keeps text p at (plain tag x) next v (f, start, starts, read) good = leaf_keeps text p tag f start x next v starts.child read good
+  one_keeps text p at (bare q) next v spelled good = good
+  one_keeps text p at (nested q is) next v (start, starts, unclosed, end, children, ended) good =
+      subst IsRanged (sym (joined v (all_pieces is) (closes ∷ []))) (all_keep text q [] start.next is end v children good)
+
+  all_keep : (text : List ℕ) (p : Place) (seen : List Tag) (at : ℕ) (is : Items) (end : ℕ) (v : LabelValue) → AllSpelled text p seen at is end → IsRanged v
+      → IsRanged (value_from v (all_pieces is))
+  all_keep text p seen at no_items end v spelled good = good
+  all_keep text p seen at (item i is) end v (new, next, one, more) good =
+      subst IsRanged (sym (joined v (pieces_of i) (all_pieces is)))
+      (all_keep text p (item_tag i ∷ seen) next is end (value_from v (pieces_of i)) more (one_keeps text p (space_end text at) i next v one good))
+
+-- nothing that is required is missing
+all_there : (wanted seen : List Tag) → first_missing wanted seen ≡ None → (front behind : List Tag) (t : Tag) → wanted ≡ front ++ t ∷ behind → member t seen ≡ true
+all_there wanted seen none front behind t parts = go front (subst (λ ts. first_missing ts seen ≡ None) parts none)
+  where
+    there : (u : Tag) (ts : List Tag) → first_missing (u ∷ ts) seen ≡ None → (member u seen ≡ true) × (first_missing ts seen ≡ None)
+    there u ts none = guarded (member u seen) refl
+      where
+        guarded : (b : Bool) → member u seen ≡ b → (member u seen ≡ true) × (first_missing ts seen ≡ None)
+        guarded true is = (is, rw is at none)
+        guarded false is = (let bad : Some u ≡ None = rw is at none in absurd (cc bad))
+
+    go : (front : List Tag) → first_missing (front ++ t ∷ behind) seen ≡ None → member t seen ≡ true
+    go [] none = (there t behind none).0
+    go (u ∷ front) none = go front (there u (front ++ t ∷ behind) none).1
+
+-- a label has a size
+has_size : (text : List ℕ) (seen : List Tag) (at : ℕ) (is : Items) (end : ℕ) (v : LabelValue) → AllSpelled text place.Label seen at is end → member BlockSize seen ≡ false
+    → IsRanged (value_from v (all_pieces is))
+has_size text seen at no_items end v (ends, none) without =
+    let there : member BlockSize seen ≡ true = all_there (required place.Label) seen none (Creator ∷ FormatTime ∷ VolumeUuid ∷ Location ∷ Partitions ∷ []) (Compression ∷ []) BlockSize refl in
+    let bad : true ≡ false = sym there ∙ without in absurd (cc bad)
+has_size text seen at (item i is) end v (new, next, one, more) without =
+    elim (code (item_tag i) == 11) as (λ b. (code (item_tag i) == 11) ≡ b → IsRanged (value_from v (all_pieces (item i is)))) [
+      | true ↦ λ same. subst IsRanged (sym (joined v (pieces_of i) (all_pieces is)))
+          (all_keep text place.Label (item_tag i ∷ seen) next is end (value_from v (pieces_of i)) more (this i one same))
+      | false ↦ λ other. subst IsRanged (sym (joined v (pieces_of i) (all_pieces is)))
+          (has_size text (item_tag i ∷ seen) next is end (value_from v (pieces_of i)) more (another other))
+    ] refl
+  where
+    this : (i : Item) → Spelled text place.Label (space_end text at) i next → (code (item_tag i) == 11) ≡ true → IsRanged (value_from v (pieces_of i))
+    this (plain tag x) (f, start, starts, read) same = tells text place.Label tag f start x next v starts.child read same
+    this (bare place.Label) spelled same = absurd (cc same)
+    this (bare q) spelled same = absurd (cc same)
+    this (nested place.Label is) spelled same = absurd (cc same)
+    this (nested q is) spelled same = absurd (cc same)
+
+    another : (code (item_tag i) == 11) ≡ false → member BlockSize (item_tag i ∷ seen) ≡ false
+    another other = grind (arith, nat_tests, without, other)
+
+pub block_in_range : (text : List ℕ) (v : LabelValue) → LabelText text v → (4096 ≤ v.block) × (v.block ≤ 1048576)
+block_in_range text v label =
+    let good : IsRanged v = subst IsRanged (sym label.value) (has_size text [] label.inside label.items label.end blank label.children refl) in
+    let both = both_true (nat_le 4096 v.block) (nat_le v.block 1048576) good in
+    (grind (arith, nat_tests, both.0), grind (arith, nat_tests, both.1))
+  where
+    both_true : (x y : Bool) → (x && y) ≡ true → (x ≡ true) × (y ≡ true)
+    both_true true y e = (refl, e)
+    both_true false y e = absurd (cc e)

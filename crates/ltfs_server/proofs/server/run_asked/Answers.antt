@@ -1,0 +1,27 @@
+use Rattle.std.proofs.Common.{refl, arith}
+use Rattle.ltfs_server.proofs.Asked.{asked_label, asked_list, asked_none, asked_plain, form_asked, label_asked, list_asked, memory_asked, plain_asked}
+use Rattle.ltfs_server.proofs.server.run_asked.Goals as goal
+
+pub returns-in-Ok-Plain : goal.returns-in-Ok-Plain
+returns-in-Ok-Plain g c =
+    plain_asked _ _ _ _ g.D.Drive _ _ _ _ c.in-Ok-Plain.at (asked_plain _ _ _ _ c.as_slice.ensures.value c.in-Ok-Plain.field-0-is c.in-Ok-Plain.ensures) c.run_plain.ensures
+
+pub returns-in-Ok-Label : goal.returns-in-Ok-Label
+returns-in-Ok-Label g c =
+    label_asked _ _ _ _ g.D.Drive _ _ _ _ (asked_label _ _ _ c.as_slice.ensures.value c.in-Ok-Label.field-0-is c.in-Ok-Label.ensures)
+    (record { left = refl; faults = refl }) c.run_label.ensures
+
+pub returns-in-Ok-List : goal.returns-in-Ok-List
+returns-in-Ok-List g c =
+    list_asked _ _ _ _ g.D.Drive _ _ _ _ (asked_list _ _ _ c.as_slice.ensures.value c.in-Ok-List.field-0-is c.in-Ok-List.ensures)
+    (record { left = refl; faults = refl }) c.run_list.ensures
+
+pub returns-in-Err-Form : goal.returns-in-Err-Form
+returns-in-Err-Form g c =
+    form_asked _ _ _ _ g.D.Drive _ _ _ _ (asked_none _ _ _ c.as_slice.ensures.value c.in-Err-Form.field-0-is c.in-Err-Form.ensures)
+    (record { left = refl; faults = refl }) c.tell.ensures.drive c.tell.ensures.log c.tell.ensures.told
+
+pub returns : goal.returns
+returns g c =
+    memory_asked _ _ _ _ g.D.Drive _ _ _ _ (record { left = refl; faults = refl }) c.tell-in-Err-NoMemory.ensures.drive
+    (omega (arith, c.commands-commands_are_in_range.ensures)) c.tell-in-Err-NoMemory.ensures.log c.tell-in-Err-NoMemory.ensures.told

@@ -1,0 +1,121 @@
+-- What the program promises for the words of each command: its status, what it prints, and what it leaves of the drive.
+use Rattle.std.specs.Prelude.{◌≡◌, ◌⊎◌, ℕ, ◌+◌, ◌*◌, List, [], ◌∷◌, Option, None, IfSome, IsErr, IsOk, String, codes}
+use Rattle.std.specs.Global.{Global}
+use Rattle.std.specs.Io.KnownBytes.{Appends}
+use Rattle.tape_types.specs.Counts.{Rose}
+use Rattle.tape_types.specs.declared.cartridges.Cartridge.{Cartridge}
+use Rattle.tape_types.specs.declared.moments.Moment.{Moment}
+use Rattle.plain_tree.specs.Tree.{Tree}
+use Rattle.session_script.specs.Grammar.{script_of}
+use Rattle.session_script.specs.declared.logs.Log.{Log}
+use Rattle.tape_drive.specs.Looks.{Looks}
+use Rattle.tape_drive.specs.declared.drive.Drive.{Ghosts}
+use Rattle.tape_meaning.specs.Carried.{Carried}
+use Rattle.tape_meaning.specs.Labels.{HasLabels}
+use Rattle.tape_meaning.specs.Meaning.{Found, Reads}
+use Rattle.tape_meaning.specs.declared.labels.Labels.{Labels}
+use Rattle.server_words.specs.Forms.{HasNoForm, IsLabel, IsList, IsPlain, IsPlainWords}
+use Rattle.ltfs_server.specs.Headline.{AreLabelsPrinted, IsCheckPrinted, IsDriveFaultPrinted, IsListingPrinted}
+use Rattle.ltfs_server.specs.Headline.{IsMountFaultPrinted, IsPartPrinted, IsPlainRun, IsPrinted, IsReadFaultPrinted, IsRefusalPrinted}
+use Rattle.ltfs_server.specs.Outcomes.{Ending, EndsAs, IsCaused, IsLabelEnd, IsListEnd, IsPlainEnd, LabelEnd, ListEnd, of_label, of_list, of_plain}
+use Rattle.ltfs_server.specs.Runs.{Gives, IsOneOf, IsRunOf, Taken, TakesNothing, Written, looked}
+use Rattle.ltfs_server.specs.declared.plain.PlainEnd.{PlainEnd}
+
+-- `plain`, with a moment or with those of the clock
+pub record DoesPlain {D : Type 0} (at : Option Moment) (gives : Gives) (source : Taken) (sink : Written) (old new : D)
+    (status : ℕ) (log : Option Log) : Type 0 where
+  pub statuses : IsOneOf status (0 ∷ 2 ∷ 5 ∷ 6 ∷ 7 ∷ [])
+  -- the log, wherever there is one, is that of a run of the script that was left in the source
+  pub history : IfSome log (IsRunOf (IsPlainRun at gives) source)
+  pub refused : IsOneOf status (2 ∷ 5 ∷ []) → log ≡ None
+  pub printed : status ≡ 0 → IsPrinted sink.old sink.new log
+  -- an input that is no script is told, unless a stream fails or memory is refused, and only such an input
+  pub script : IfSome source.left (λ text. IsErr (script_of text) → IsOneOf status (2 ∷ 5 ∷ 6 ∷ 7 ∷ []))
+  pub only_script : status ≡ 2 → IsRefusalPrinted source.left sink.old sink.new
+  pub only_read : status ≡ 5 → IsReadFaultPrinted source.before source.now sink.old sink.new
+  pub only_write : status ≡ 6 → Rose sink.before sink.now
+  pub memory : status ≡ 7 → Appends sink.old sink.new (codes "memory\n")
+  -- with a script and no fault all is done, unless memory is refused
+  pub complete : ¬ (Rose source.before source.now) → ¬ (Rose sink.before sink.now)
+      → IfSome source.left (λ text. IsOk (script_of text) → IsOneOf status (0 ∷ 7 ∷ []))
+  pub drive : new ≡ old
+  pub told : (end : PlainEnd) × IsPlainEnd source gives at end × EndsAs (of_plain end) sink status log
+
+-- `label`, of the cartridge that the drive held, where it tells that
+pub record DoesLabel {D : Type 0} (drive : Ghosts D) (old new : D) (sink : Written) (status : ℕ) (log : Option Log)
+    : Type 0 where
+  pub statuses : IsOneOf status (0 ∷ 3 ∷ 4 ∷ 6 ∷ 7 ∷ [])
+  pub printed : status ≡ 0 → AreLabelsPrinted (drive.held old) sink.old sink.new
+  -- a cartridge that is no volume is told by its first check that fails, unless the drive or the sink fails or memory is
+  -- refused, and only such a cartridge
+  pub volume : IfSome (drive.held old)
+      (λ c. ((l : Labels) → ¬ HasLabels c l) → IsOneOf status (3 ∷ 4 ∷ 6 ∷ 7 ∷ []))
+  pub only_volume : status ≡ 3 → IsCheckPrinted (drive.held old) sink.old sink.new
+  pub only_drive : status ≡ 4 → IsDriveFaultPrinted (drive.faults old) (drive.faults new) sink.old sink.new
+  pub only_write : status ≡ 6 → Rose sink.before sink.now
+  pub memory : status ≡ 7 → Appends sink.old sink.new (codes "memory\n")
+  -- with a volume and no fault all is done, unless memory is refused
+  pub complete : ¬ (Rose (drive.faults old) (drive.faults new)) → ¬ (Rose sink.before sink.now)
+      → IfSome (drive.held old) (λ c. (l : Labels) → HasLabels c l → IsOneOf status (0 ∷ 7 ∷ []))
+  -- the cartridge is only looked at
+  pub looks : Looks drive (12 * drive.MOST) old new
+  pub no_log : log ≡ None
+  pub told : (end : LabelEnd) × IsLabelEnd (looked drive old new) end × EndsAs (of_label end) sink status log
+
+-- no tree is what the cartridge reads as
+abbrev pub ReadsAsNone : Cartridge → Type 0
+ReadsAsNone c = (facts : Carried) (tree : Tree) (generation : ℕ) → ¬ Reads c facts tree generation
+
+-- `list`, of the cartridge that the drive held, where it tells that
+pub record DoesList {D : Type 0} (drive : Ghosts D) (old new : D) (sink : Written) (status : ℕ) (log : Option Log)
+    : Type 0 where
+  pub statuses : IsOneOf status (0 ∷ 3 ∷ 4 ∷ 6 ∷ 7 ∷ [])
+  pub printed : status ≡ 0 → IsListingPrinted (drive.held old) sink.old sink.new
+  -- a cartridge that reads as no tree is told by its first check that fails, unless the drive or the sink fails or memory
+  -- is refused, and only such a cartridge
+  pub volume : IfSome (drive.held old) (λ c. ReadsAsNone c → IsOneOf status (3 ∷ 4 ∷ 6 ∷ 7 ∷ []))
+  pub only_volume : status ≡ 3 → IsMountFaultPrinted (drive.held old) sink.old sink.new
+  pub only_drive : status ≡ 4 → IsDriveFaultPrinted (drive.faults old) (drive.faults new) sink.old sink.new
+  pub only_write : status ≡ 6 → Rose sink.before sink.now
+  -- whole lines of the tree from the front may stand before the line that tells it
+  pub memory : status ≡ 7 → IsPartPrinted (drive.held old) sink.old sink.new
+  -- with a cartridge that passes all checks and no fault all is done, unless memory is refused
+  pub complete : ¬ (Rose (drive.faults old) (drive.faults new)) → ¬ (Rose sink.before sink.now)
+      → IfSome (drive.held old) (λ c. Found c → IsOneOf status (0 ∷ 7 ∷ []))
+  -- the cartridge is only looked at
+  pub looks : Looks drive ((23 + 2 * (drive.limits old).cap_ip + 2 * (drive.limits old).cap_dp) * drive.MOST) old new
+  pub no_log : log ≡ None
+  pub told : (end : ListEnd) × IsListEnd (looked drive old new) end × EndsAs (of_list end) sink status log
+
+-- words of no form
+pub record RefusesWords {D : Type 0} (sink : Written) (old new : D) (status : ℕ) (log : Option Log) : Type 0 where
+  pub statuses : IsOneOf status (1 ∷ 6 ∷ 7 ∷ [])
+  pub printed : status ≡ 1 → Appends sink.old sink.new (codes "words\n")
+  pub only_write : status ≡ 6 → Rose sink.before sink.now
+  pub memory : status ≡ 7 → Appends sink.old sink.new (codes "memory\n")
+  pub drive : new ≡ old
+  pub no_log : log ≡ None
+
+-- of which words a status or a log may come
+pub record ComesOf (words : List (String Global)) (status : ℕ) (log : Option Log) : Type 0 where
+  pub statuses : IsOneOf status (0 ∷ 1 ∷ 2 ∷ 3 ∷ 4 ∷ 5 ∷ 6 ∷ 7 ∷ [])
+  pub done : status ≡ 0 → IsPlain words ⊎ (IsLabel words ⊎ IsList words)
+  pub refused : status ≡ 1 → HasNoForm words
+  pub script : status ≡ 2 → IsPlain words
+  pub volume : status ≡ 3 → IsLabel words ⊎ IsList words
+  pub drive : status ≡ 4 → IsLabel words ⊎ IsList words
+  pub read : status ≡ 5 → IsPlain words
+  pub logged : IfSome log (λ l. IsPlain words)
+
+-- all of it, for words that are known once they are read
+pub record DoesAsked {D : Type 0} (words : List (String Global)) (gives : Gives) (source : Taken) (sink : Written)
+    (drive : Ghosts D) (old new : D) (status : ℕ) (log : Option Log) : Type 0 where
+  pub plain : (at : Option Moment) → IsPlainWords words at → DoesPlain at gives source sink old new status log
+  pub label : IsLabel words → DoesLabel drive old new sink status log
+  pub list : IsList words → DoesList drive old new sink status log
+  pub no_form : HasNoForm words → RefusesWords sink old new status log
+  pub unread : ¬ (IsPlain words) → TakesNothing source
+  pub comes : ComesOf words status log
+  pub told : (e : Ending)
+      × IsCaused (record { words = words; gives = gives; source = source; drive = looked drive old new }) e
+      × EndsAs e sink status log

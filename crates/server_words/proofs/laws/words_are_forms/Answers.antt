@@ -1,0 +1,19 @@
+use Rattle.std.proofs.Common.{[], codes, ◌∷◌, refl}
+use Rattle.tape_types.specs.Times.{time_text}
+use Rattle.server_words.proofs.LawLemmas.{apart_is_form, joined_is_form, none_is_form, takes_bare}
+use Rattle.server_words.proofs.laws.words_are_forms.Goals as goal
+
+pub returns-clause-plain : goal.returns-clause-plain
+returns-clause-plain c = λ words is. ([], is, none_is_form)
+
+pub returns-clause-apart : goal.returns-clause-apart
+returns-clause-apart c = λ words at since is. (codes "--at" ∷ time_text at ∷ [], is, apart_is_form at since)
+
+pub returns-clause-joined : goal.returns-clause-joined
+returns-clause-joined c = λ words at since is. (_, is, joined_is_form at since)
+
+pub returns-clause-label : goal.returns-clause-label
+returns-clause-label c = λ words folder is. (folder, [], is, takes_bare _)
+
+pub returns-clause-list : goal.returns-clause-list
+returns-clause-list c = λ words folder is. (folder, [], is, takes_bare _)

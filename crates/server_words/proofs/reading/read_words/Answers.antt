@@ -1,0 +1,24 @@
+use Rattle.std.proofs.Common.{rules, arith, codes, sym, ◌∙◌}
+use Rattle.std.proofs.lemmas.Bool.Decides.{nat_tests}
+use Rattle.std.proofs.lemmas.Slice.Eq.{bytes_eq-Decides}
+use Rattle.std.specs.String.{string_bytes}
+use Rattle.server_words.proofs.FormLemmas.{behind, behind_folder, label_spelled, list_spelled, plain_spelled}
+use Rattle.server_words.proofs.reading.read_words.Goals as goal
+
+pub returns-then-eq : goal.returns-then-eq
+returns-then-eq c =
+    let name = sym c.as_str-name.ensures.value ∙ (bytes_eq-Decides c.as_str-name.result.now (codes "plain")).0 (sym c.eq.ensures ∙ c.if-eq.true) in
+    plain_spelled c.args.words.now _ _
+    (behind c.args.words.now _ _ (search rules) c.index-words-0.is name) c.read_plain.ensures
+
+pub returns-then-eq-2 : goal.returns-then-eq-2
+returns-then-eq-2 c =
+    let name = sym c.as_str-name.ensures.value ∙ (bytes_eq-Decides c.as_str-name.result.now (codes "label")).0 (sym c.eq-2.ensures ∙ c.if-eq-2.true) in
+    let found = behind_folder c.args.words.now _ _ (omega (arith, c.if-words-lt2.false)) c.index-words-0.is name in
+    label_spelled c.args.words.now found.0 _ _ found.1 c.read_bare.ensures
+
+pub returns-then-eq-3 : goal.returns-then-eq-3
+returns-then-eq-3 c =
+    let name = sym c.as_str-name.ensures.value ∙ (bytes_eq-Decides c.as_str-name.result.now (codes "list")).0 (sym c.eq-3.ensures ∙ c.if-eq-3.true) in
+    let found = behind_folder c.args.words.now _ _ (omega (arith, c.if-words-lt2.false)) c.index-words-0.is name in
+    list_spelled c.args.words.now found.0 _ _ found.1 c.read_bare-then-eq-3.ensures

@@ -1,0 +1,12 @@
+//! What the words of a command line ask for.
+#![tactic(auto)]
+
+mod forms;
+mod laws;
+mod reading;
+#[cfg(test)]
+mod tests;
+
+pub use forms::WordsErr;
+pub use laws::words_are_forms;
+pub use reading::{Command, read_words};

@@ -1,0 +1,89 @@
+ghost use Rattle.std.specs.Prelude.{◌≡◌, codes, map, string_bytes};
+ghost use Rattle.server_words.specs.Forms.{IsMomentOf, IsReadAs, IsSpelledBy, IsTakenAs, bare, with_moment};
+
+use crate::forms::{WordsErr, bare_command, command_with_moment, find_in};
+use std::alloc::Global;
+use tape_types::{Moment, parse_time};
+
+/// What the words of a command line ask for.
+#[derive(Clone, Copy)]
+pub enum Command {
+    /// `plain`, which runs a script on a plain tree. Every moment is the given one, or else the clock's.
+    Plain { at: Option<Moment> },
+    /// `label`, which reads the labels of the cartridge.
+    Label,
+    /// `list`, which lists the tree for which the cartridge stands.
+    List,
+}
+
+/// What words ask for, without the program's name.
+///
+/// # Errors
+///
+/// `Form` where they are of no command's form, and `NoMemory` where memory was refused.
+pub fn read_words(alloc: Global, words: &[String]) -> Result<Command, WordsErr>
+    ensures { IsSpelledBy words.now result }
+{
+    if words.is_empty() {
+        return Err(WordsErr::Form);
+    }
+    let name = words[0].as_str();
+    if name == "plain" {
+        return read_plain(alloc, &words[1..]);
+    }
+    if words.len() < 2 {
+        return Err(WordsErr::Form);
+    }
+    if name == "label" {
+        return read_bare(alloc, "label", &words[2..], Command::Label);
+    }
+    if name == "list" {
+        return read_bare(alloc, "list", &words[2..], Command::List);
+    }
+    Err(WordsErr::Form)
+}
+
+/// What the words of `plain` ask for, behind its name.
+fn read_plain(alloc: Global, words: &[String]) -> Result<Command, WordsErr>
+    ensures { IsReadAs (map string_bytes words.now) result }
+{
+    let Ok(command) = command_with_moment(alloc, "plain") else {
+        return Err(WordsErr::NoMemory);
+    };
+    let found = match find_in(command, words) {
+        Ok(found) => found,
+        Err(error) => return Err(error),
+    };
+    match found.get_str("at") {
+        None => Ok(Command::Plain { at: None }),
+        Some(text) => match read_moment(text) {
+            Some(at) => Ok(Command::Plain { at: Some(at) }),
+            None => Err(WordsErr::Form),
+        },
+    }
+}
+
+/// The command, where no word follows its folder.
+fn read_bare(
+    alloc: Global,
+    name: &str,
+    words: &[String],
+    command: Command,
+) -> Result<Command, WordsErr>
+    ensures { IsTakenAs (bare name.now) (map string_bytes words.now) command result }
+{
+    match find_in(bare_command(alloc, name), words) {
+        Ok(_) => Ok(command),
+        Err(error) => Err(error),
+    }
+}
+
+/// The moment that a text tells, where it is one of the years 1970 to 9999.
+fn read_moment(text: &str) -> Option<Moment>
+    ensures { IsMomentOf text.now result }
+{
+    match parse_time(text.as_bytes()) {
+        Some(at) => { if at.secs >= 0 { Some(at) } else { None } }
+        None => None,
+    }
+}
