@@ -39,7 +39,7 @@ same_before : (at next : Held) (ns : List ℕ) → ((n : ℕ) → IsIn n ns → 
 same_before at next [] same up = tt
 same_before at next (n ∷ ns) same up = (
   to_all (Before next n) ns (λ k here.
-  ap (λ o. key_cmp (option_map key o) (key_at next k)) (same n (inl refl)) ∙ ap (λ o. key_cmp (key_at at n) (option_map key o)) (same k (inr here)) ∙ of_all (Before at n) k ns up.0 here),
+      ap (λ o. key_cmp (option_map key o) (key_at next k)) (same n (inl refl)) ∙ ap (λ o. key_cmp (key_at at n) (option_map key o)) (same k (inr here)) ∙ of_all (Before at n) k ns up.0 here),
   same_before at next ns (λ k here. same k (inr here)) up.1,
 )
   where
@@ -242,7 +242,7 @@ change_ordered at next order o n old new was put parent name = record {
     all [] up = tt
     all (m ∷ ns) up = (
       to_all (λ k. key_cmp (key_at next m) (key_at next k) ≡ Less) ns (λ k within.
-      ap (λ a. key_cmp a (key_at next k)) (key_same m) ∙ ap (key_cmp (key_at at m)) (key_same k) ∙ of_all (λ k. key_cmp (key_at at m) (key_at at k) ≡ Less) k ns up.0 within),
+          ap (λ a. key_cmp a (key_at next k)) (key_same m) ∙ ap (key_cmp (key_at at m)) (key_same k) ∙ of_all (λ k. key_cmp (key_at at m) (key_at at k) ≡ Less) k ns up.0 within),
       all ns up.1,
     )
 

@@ -132,11 +132,11 @@ own_place at order n k z o node is comes past =
     let key = key_of at n z is in
     let there : IsIn n (take k order ++ drop k order) = subst (IsIn n) (sym (halves k order)) (o.every n node) in
     let rest : IsIn n (drop k order) = ⊎_elim
-        (λ (front : IsIn n (take k order)).
-        let less : key_cmp (key_at at n) (key_at at n) ≡ Less = ap (key_cmp (key_at at n)) key ∙ less_is _ (of_all (λ m. is_lt (key_cmp (key_at at m) (Some (z.parent, z.name))) ≡ true) n (take k order) comes front) in
-        absurd (not_itself (key_at at n) less))
-        (λ more. more)
-        (in_either n (take k order) (drop k order) there) in
+    (λ (front : IsIn n (take k order)).
+    let less : key_cmp (key_at at n) (key_at at n) ≡ Less = ap (key_cmp (key_at at n)) key ∙ less_is _ (of_all (λ m. is_lt (key_cmp (key_at at m) (Some (z.parent, z.name))) ≡ true) n (take k order) comes front) in
+    absurd (not_itself (key_at at n) less))
+    (λ more. more)
+    (in_either n (take k order) (drop k order) there) in
     at_drop order k n (first (drop k order) (up_rest (Before at) (take k order) (drop k order) (subst (Up (Before at)) (sym (halves k order)) (as_up at order o.ascend))) past rest)
   where
     first : (ns : List ℕ) → Up (Before at) ns → AllByRecursion (λ m. is_lt (key_cmp (key_at at m) (Some (z.parent, z.name))) ≡ false) ns → IsIn n ns → IsAt ns 0 n
@@ -190,7 +190,7 @@ pub other_child : (at : Held) (n : ℕ) (z spot : Spot) (dir : ℕ) (name : Name
 other_child at n z spot dir name is also differ parent named =
     let same : z ≡ spot = some_same z spot (sym is ∙ also) in
     let keys : (spot.parent, spot.name) ≡ (dir, name) =
-        ap (λ (s : Spot). (s.parent, s.name)) (sym same) ∙ ap (λ d. (d, z.name)) parent ∙ ap (λ x. (dir, x)) named in
+    ap (λ (s : Spot). (s.parent, s.name)) (sym same) ∙ ap (λ d. (d, z.name)) parent ∙ ap (λ x. (dir, x)) named in
     let tied : is_eq (pair_cmp (spot.parent, spot.name) (dir, name)) ≡ true = ap (λ k. is_eq (pair_cmp k (dir, name))) keys ∙ ap is_eq (tied_itself pair_total (dir, name)) in
     let wrong : true ≡ false = sym tied ∙ differ in cc
 

@@ -124,14 +124,14 @@ module _ (m : Nodes) where
       run_past (y ∷ names) [] each up = tt
       run_past (y ∷ names) (j ∷ ns) each up = (
         to_all (Past j) ns (λ k here.
-        let found = named names ns (tails _ _ _ _ each) k here in
-        record {
-          p = p ++ y ∷ [];
-          q = p ++ found.0 ∷ [];
-          p_is = first (number_at m (p ++ y ∷ [])) (Some j) _ _ each;
-          q_is = found.2;
-          less = λ r. ap (λ l. path_cmp l (p ++ found.0 ∷ [])) (goes_on p y r) ∙ earlier_name p y found.0 r (of_all (λ z. name_cmp y z ≡ Less) found.0 names up.0 found.1);
-        }),
+            let found = named names ns (tails _ _ _ _ each) k here in
+            record {
+              p = p ++ y ∷ [];
+              q = p ++ found.0 ∷ [];
+              p_is = first (number_at m (p ++ y ∷ [])) (Some j) _ _ each;
+              q_is = found.2;
+              less = λ r. ap (λ l. path_cmp l (p ++ found.0 ∷ [])) (goes_on p y r) ∙ earlier_name p y found.0 r (of_all (λ z. name_cmp y z ≡ Less) found.0 names up.0 found.1);
+            }),
         run_past names ns (tails _ _ _ _ each) up.1,
       )
         where

@@ -168,8 +168,8 @@ names_ascend at dir (n ∷ ns) each up = (later ns each.1 up.0, names_ascend at 
     one : (k : ℕ) → IsInDir at dir k → key_cmp (key_at at n) (key_at at k) ≡ Less → name_cmp (name_in (at n)) (name_in (at k)) ≡ Less
     one k d less =
         let keys : pair_cmp (dir, each.0.spot.name) (dir, d.spot.name) ≡ Less =
-            ap (λ p. pair_cmp (p, each.0.spot.name) (dir, d.spot.name)) (sym each.0.parent) ∙ ap (λ p. pair_cmp (each.0.spot.parent, each.0.spot.name) (p, d.spot.name)) (sym d.parent)
-            ∙ ap (λ a. key_cmp a (Some (d.spot.parent, d.spot.name))) (sym (key_of at n each.0.spot each.0.is)) ∙ ap (key_cmp (key_at at n)) (sym (key_of at k d.spot d.is)) ∙ less in
+        ap (λ p. pair_cmp (p, each.0.spot.name) (dir, d.spot.name)) (sym each.0.parent) ∙ ap (λ p. pair_cmp (each.0.spot.parent, each.0.spot.name) (p, d.spot.name)) (sym d.parent)
+        ∙ ap (λ a. key_cmp a (Some (d.spot.parent, d.spot.name))) (sym (key_of at n each.0.spot each.0.is)) ∙ ap (key_cmp (key_at at n)) (sym (key_of at k d.spot d.is)) ∙ less in
         ap (λ z. name_cmp (name_in z) (name_in (at k))) each.0.is ∙ ap (λ z. name_cmp each.0.spot.name (name_in z)) d.is
         ∙ sym (ap (λ r. ordering_then r (name_cmp each.0.spot.name d.spot.name)) (tied_itself nat_cmp_total dir)) ∙ keys
 

@@ -66,7 +66,7 @@ sorted_up at ns sorted none nodes differ = pairs_up (Before at) ns (λ i j a b l
     let here : get_or ns i 0 ≡ a = get_or_from_slice_get ns i a 0 is in
     let there : get_or ns j 0 ≡ b = get_or_from_slice_get ns j b 0 also in
     let past : is_lt (key_cmp (key_at at b) (key_at at a)) ≡ false =
-        ap (λ x. is_lt (key_cmp (key_at at x) (key_at at a))) (sym there) ∙ ap (λ x. is_lt (key_cmp (key_at at (get_or ns j 0)) (key_at at x))) (sym here) ∙ far in
+    ap (λ x. is_lt (key_cmp (key_at at x) (key_at at a))) (sym there) ∙ ap (λ x. is_lt (key_cmp (key_at at (get_or ns j 0)) (key_at at x))) (sym here) ∙ far in
     after (key_at at b) (key_at at a) past (λ same.
     let one : b ≡ a = differ b a (of_all (IsNode at) b ns nodes (found b ns j also)) (of_all (IsNode at) a ns nodes (found a ns i is)) same in
     none (record { one = i; two = j; differ = λ e. omega (arith, lt, e); n = a; is = is; also = also ∙ ap (λ x. Some x) one })))
@@ -119,8 +119,8 @@ pub ordered_all : (spots : List (Option Spot)) (ns sorted : List ℕ) → used s
 ordered_all spots ns sorted full differ are moved sort =
     let back = IsPermutation-sym ns sorted moved in
     let nodes : AllByRecursion (IsNode (held spots)) sorted = to_all (IsNode (held spots)) sorted (λ n here.
-        let bounds = ranged 1 (length spots - 1) n (subst (IsIn n) are (moved_in sorted ns back n here)) in
-        (λ e. omega (arith, e, bounds.0), all_held spots full n (omega (arith, bounds.0, bounds.1)))) in
+    let bounds = ranged 1 (length spots - 1) n (subst (IsIn n) are (moved_in sorted ns back n here)) in
+    (λ e. omega (arith, e, bounds.0), all_held spots full n (omega (arith, bounds.0, bounds.1)))) in
     record {
       each = nodes;
       every = λ n node.

@@ -146,10 +146,13 @@ put_up new (e ∷ es) up differ = ⊎_elim
   where
     later : e.offset < new.offset → Grown new es (put_among new es) → Grown new (e ∷ es) (e ∷ put_among new es)
     later low g = record {
-      up = (to_all (λ (x : Extent). e.offset < x.offset) (put_among new es) (λ x here. ⊎_elim
-          (λ (same : x ≡ new). omega (arith, low, ap (λ (z : Extent). z.offset) same))
-          (λ (more : IsIn x es). of_all (λ (z : Extent). e.offset < z.offset) x es up.0 more)
-          (g.only x here)), g.up);
+      up = (
+        to_all (λ (x : Extent). e.offset < x.offset) (put_among new es) (λ x here. ⊎_elim
+            (λ (same : x ≡ new). omega (arith, low, ap (λ (z : Extent). z.offset) same))
+            (λ (more : IsIn x es). of_all (λ (z : Extent). e.offset < z.offset) x es up.0 more)
+            (g.only x here)),
+        g.up,
+      );
       here = inr g.here;
       kept = λ x more. ⊎_elim (λ same. inl same) (λ rest. inr (g.kept x rest)) more;
       only = λ x here. ⊎_elim (λ same. inr (inl same)) (λ more. ⊎_elim (λ same. inl same) (λ rest. inr (inr rest)) (g.only x more)) here;
