@@ -1,5 +1,5 @@
 -- Where a name in a directory comes in the order of the nodes.
-use Rattle.std.proofs.Common.{Option, ◌⊎◌, ◌≡◌, ◌≢◌, ℕ, zero, suc, ◌+◌, ◌<◌, ◌≤◌, Bool, true, false, List, [], ◌∷◌, ◌++◌, length, take, drop, get_or, Some, None, IsSome, is_some, sym, ap, ◌∙◌, refl, subst, arith, inl, inr, ⊎_elim}
+use Rattle.std.proofs.Common.{Option, ◌≡◌, ℕ, zero, suc, ◌<◌, ◌≤◌, Bool, true, false, List, [], ◌∷◌, ◌++◌, length, take, drop, get_or, Some, None, is_some, sym, ap, ◌∙◌, refl, subst, arith, inl, inr, ⊎_elim}
 use Rattle.std.specs.List.{AllByRecursion}
 use Rattle.std.specs.List.Sorted.{IsPartitionedBy, IsPartitionPoint}
 use Rattle.std.specs.Option.{option_map}
@@ -17,9 +17,9 @@ use Rattle.plain_tree.proofs.LinkLemmas.{name_exact}
 use Rattle.index_model.specs.Places.{IsAt}
 use Rattle.file_tree.specs.declared.nodes.Spot.{Spot}
 use Rattle.file_tree.specs.Seen.{Held, held}
-use Rattle.file_tree.specs.Order.{IsIn, Key, pair_cmp, key_cmp, key_at, Ascend, IsNode, IsOrdered, IsInDir, IsChildAt, IsRun}
+use Rattle.file_tree.specs.Order.{IsIn, Key, pair_cmp, key_cmp, key_at, Ascend, IsNode, IsOrdered, IsChildAt}
 use Rattle.file_tree.proofs.PathLemmas.{some_same}
-use Rattle.file_tree.proofs.MemberLemmas.{Up, placed, found, of_all, to_all, in_front, in_rest, in_either, up_front, up_rest, up_across, up_join, halves}
+use Rattle.file_tree.proofs.MemberLemmas.{Up, found, of_all, in_either, up_rest, halves}
 
 pub pair_total : IsTotalOrder pair_cmp
 pair_total = then_total (on_total (λ (k : Key). k.0) nat_cmp_total) (on_total (λ (k : Key). k.1) nat_list_cmp_total)
@@ -132,11 +132,11 @@ own_place at order n k z o node is comes past =
     let key = key_of at n z is in
     let there : IsIn n (take k order ++ drop k order) = subst (IsIn n) (sym (halves k order)) (o.every n node) in
     let rest : IsIn n (drop k order) = ⊎_elim
-        (λ (front : IsIn n (take k order)).
-        let less : key_cmp (key_at at n) (key_at at n) ≡ Less = ap (key_cmp (key_at at n)) key ∙ less_is _ (of_all (λ m. is_lt (key_cmp (key_at at m) (Some (z.parent, z.name))) ≡ true) n (take k order) comes front) in
-        absurd (not_itself (key_at at n) less))
-        (λ more. more)
-        (in_either n (take k order) (drop k order) there) in
+    (λ (front : IsIn n (take k order)).
+    let less : key_cmp (key_at at n) (key_at at n) ≡ Less = ap (key_cmp (key_at at n)) key ∙ less_is _ (of_all (λ m. is_lt (key_cmp (key_at at m) (Some (z.parent, z.name))) ≡ true) n (take k order) comes front) in
+    absurd (not_itself (key_at at n) less))
+    (λ more. more)
+    (in_either n (take k order) (drop k order) there) in
     at_drop order k n (first (drop k order) (up_rest (Before at) (take k order) (drop k order) (subst (Up (Before at)) (sym (halves k order)) (as_up at order o.ascend))) past rest)
   where
     first : (ns : List ℕ) → Up (Before at) ns → AllByRecursion (λ m. is_lt (key_cmp (key_at at m) (Some (z.parent, z.name))) ≡ false) ns → IsIn n ns → IsAt ns 0 n
@@ -190,7 +190,7 @@ pub other_child : (at : Held) (n : ℕ) (z spot : Spot) (dir : ℕ) (name : Name
 other_child at n z spot dir name is also differ parent named =
     let same : z ≡ spot = some_same z spot (sym is ∙ also) in
     let keys : (spot.parent, spot.name) ≡ (dir, name) =
-        ap (λ (s : Spot). (s.parent, s.name)) (sym same) ∙ ap (λ d. (d, z.name)) parent ∙ ap (λ x. (dir, x)) named in
+    ap (λ (s : Spot). (s.parent, s.name)) (sym same) ∙ ap (λ d. (d, z.name)) parent ∙ ap (λ x. (dir, x)) named in
     let tied : is_eq (pair_cmp (spot.parent, spot.name) (dir, name)) ≡ true = ap (λ k. is_eq (pair_cmp k (dir, name))) keys ∙ ap is_eq (tied_itself pair_total (dir, name)) in
     let wrong : true ≡ false = sym tied ∙ differ in cc
 

@@ -1,8 +1,7 @@
 -- A walk through the directories meets the nodes in the order of their paths.
-use Rattle.std.proofs.Common.{Option, ◌⊎◌, ◌≡◌, ◌≢◌, ℕ, zero, suc, ◌+◌, ◌<◌, ◌≤◌, Bool, true, false, List, [], ◌∷◌, ◌++◌, length, map, reverse, Some, None, is_some, sym, ap, ◌∙◌, refl, subst, arith, inl, inr, ⊎_elim}
+use Rattle.std.proofs.Common.{Option, ◌⊎◌, ◌≡◌, ℕ, zero, suc, ◌<◌, List, [], ◌∷◌, ◌++◌, length, map, Some, sym, ap, ◌∙◌, refl, subst, arith, inl, inr, ⊎_elim}
 use Rattle.std.specs.List.{AllByRecursion, slice_get}
 use Rattle.std.specs.List.Sorted.{IsStrictlySortedBy}
-use Rattle.std.specs.Option.{option_map}
 use Rattle.std.specs.Ordering.{ordering_then}
 use Rattle.std.specs.declared.cmp.Ordering.TheVariants.{Less, Equal}
 use Rattle.std.specs.FinMap as fin
@@ -124,14 +123,14 @@ module _ (m : Nodes) where
       run_past (y ∷ names) [] each up = tt
       run_past (y ∷ names) (j ∷ ns) each up = (
         to_all (Past j) ns (λ k here.
-        let found = named names ns (tails _ _ _ _ each) k here in
-        record {
-          p = p ++ y ∷ [];
-          q = p ++ found.0 ∷ [];
-          p_is = first (number_at m (p ++ y ∷ [])) (Some j) _ _ each;
-          q_is = found.2;
-          less = λ r. ap (λ l. path_cmp l (p ++ found.0 ∷ [])) (goes_on p y r) ∙ earlier_name p y found.0 r (of_all (λ z. name_cmp y z ≡ Less) found.0 names up.0 found.1);
-        }),
+            let found = named names ns (tails _ _ _ _ each) k here in
+            record {
+              p = p ++ y ∷ [];
+              q = p ++ found.0 ∷ [];
+              p_is = first (number_at m (p ++ y ∷ [])) (Some j) _ _ each;
+              q_is = found.2;
+              less = λ r. ap (λ l. path_cmp l (p ++ found.0 ∷ [])) (goes_on p y r) ∙ earlier_name p y found.0 r (of_all (λ z. name_cmp y z ≡ Less) found.0 names up.0 found.1);
+            }),
         run_past names ns (tails _ _ _ _ each) up.1,
       )
         where

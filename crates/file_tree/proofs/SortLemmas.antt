@@ -1,5 +1,5 @@
 -- The numbers of all nodes, sorted by their directories and names.
-use Rattle.std.proofs.Common.{Option, ◌⊎◌, ◌≡◌, ◌≢◌, ℕ, zero, suc, ◌+◌, ◌-◌, ◌<◌, ◌≤◌, Bool, true, false, List, [], ◌∷◌, ◌++◌, length, get_or, Some, None, IsSome, is_some, sym, ap, ◌∙◌, refl, subst, arith, inl, inr, ⊎_elim}
+use Rattle.std.proofs.Common.{Option, ◌≡◌, ◌≢◌, ℕ, zero, suc, ◌+◌, ◌-◌, ◌<◌, ◌≤◌, Bool, false, List, [], ◌∷◌, ◌++◌, length, get_or, Some, None, IsSome, sym, ap, ◌∙◌, refl, subst, arith, inl, inr}
 use Rattle.std.specs.List.{AllByRecursion, swap, range_with_len}
 use Rattle.std.proofs.lemmas.Bool.{cases_eq}
 use Rattle.std.specs.List.Sorted.{IsPermutation, IsSortedBy}
@@ -10,17 +10,17 @@ use Rattle.std.specs.Fn.{Called, ComparesAs}
 use Rattle.std.proofs.lemmas.Fn.{always_returns_same}
 use denote.Param.Members.{Mut}
 use denote.Ref.{Bor}
-use Rattle.std.proofs.lemmas.List.Sorted.{IsPermutation-keeps, IsPermutation-sym, length_permutation, ranks_by, sorted_far}
-use Rattle.std.proofs.lemmas.Option.{slice_get-get_or, get_or_from_slice_get, slice_get_within}
+use Rattle.std.proofs.lemmas.List.Sorted.{IsPermutation-keeps, IsPermutation-sym, ranks_by, sorted_far}
+use Rattle.std.proofs.lemmas.Option.{get_or_from_slice_get, slice_get_within}
 use Rattle.index_model.specs.Places.{IsAt}
 use Rattle.index_faults.proofs.Exchanged.{goes_to}
 use Rattle.file_tree.specs.declared.nodes.Spot.{Spot}
 use Rattle.file_tree.specs.Seen.{Held, held}
 use Rattle.file_tree.specs.Places.{used}
-use Rattle.file_tree.specs.Order.{IsIn, key_cmp, key_at, Ascend, IsNode, KeysDiffer, IsOrdered}
+use Rattle.file_tree.specs.Order.{IsIn, key_cmp, key_at, IsNode, KeysDiffer, IsOrdered}
 use Rattle.file_tree.proofs.PathLemmas.{some_same}
 use Rattle.file_tree.proofs.PlaceLemmas.{held_within, used_most}
-use Rattle.file_tree.proofs.MemberLemmas.{Up, placed, found, of_all, to_all, in_front, in_rest, in_either, moved_in, still_apart}
+use Rattle.file_tree.proofs.MemberLemmas.{Up, placed, found, of_all, to_all, moved_in, still_apart}
 use Rattle.file_tree.proofs.KeyLemmas.{Before, from_up, key_total, after}
 
 -- a number that stands at two places
@@ -66,7 +66,7 @@ sorted_up at ns sorted none nodes differ = pairs_up (Before at) ns (λ i j a b l
     let here : get_or ns i 0 ≡ a = get_or_from_slice_get ns i a 0 is in
     let there : get_or ns j 0 ≡ b = get_or_from_slice_get ns j b 0 also in
     let past : is_lt (key_cmp (key_at at b) (key_at at a)) ≡ false =
-        ap (λ x. is_lt (key_cmp (key_at at x) (key_at at a))) (sym there) ∙ ap (λ x. is_lt (key_cmp (key_at at (get_or ns j 0)) (key_at at x))) (sym here) ∙ far in
+    ap (λ x. is_lt (key_cmp (key_at at x) (key_at at a))) (sym there) ∙ ap (λ x. is_lt (key_cmp (key_at at (get_or ns j 0)) (key_at at x))) (sym here) ∙ far in
     after (key_at at b) (key_at at a) past (λ same.
     let one : b ≡ a = differ b a (of_all (IsNode at) b ns nodes (found b ns j also)) (of_all (IsNode at) a ns nodes (found a ns i is)) same in
     none (record { one = i; two = j; differ = λ e. omega (arith, lt, e); n = a; is = is; also = also ∙ ap (λ x. Some x) one })))
@@ -119,8 +119,8 @@ pub ordered_all : (spots : List (Option Spot)) (ns sorted : List ℕ) → used s
 ordered_all spots ns sorted full differ are moved sort =
     let back = IsPermutation-sym ns sorted moved in
     let nodes : AllByRecursion (IsNode (held spots)) sorted = to_all (IsNode (held spots)) sorted (λ n here.
-        let bounds = ranged 1 (length spots - 1) n (subst (IsIn n) are (moved_in sorted ns back n here)) in
-        (λ e. omega (arith, e, bounds.0), all_held spots full n (omega (arith, bounds.0, bounds.1)))) in
+    let bounds = ranged 1 (length spots - 1) n (subst (IsIn n) are (moved_in sorted ns back n here)) in
+    (λ e. omega (arith, e, bounds.0), all_held spots full n (omega (arith, bounds.0, bounds.1)))) in
     record {
       each = nodes;
       every = λ n node.

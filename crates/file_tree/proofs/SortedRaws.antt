@@ -1,5 +1,5 @@
 -- A file lies the same, in whatever order its extents are told.
-use Rattle.std.proofs.Common.{◌⊎◌, ◌≡◌, ◌≢◌, ℕ, zero, suc, ◌+◌, ◌-◌, ◌<◌, ◌≤◌, min, Bool, true, false, cond, eqb, ltb, leb, List, [], ◌∷◌, ◌++◌, length, map, fold, Some, sym, ap, ◌∙◌, refl, subst, arith, inl, inr, ⊎_elim}
+use Rattle.std.proofs.Common.{◌⊎◌, ◌≡◌, ◌≢◌, ℕ, zero, suc, ◌+◌, ◌-◌, ◌<◌, ◌≤◌, min, Bool, true, false, cond, eqb, ltb, leb, List, [], ◌∷◌, ◌++◌, length, map, fold, sym, ap, ◌∙◌, refl, subst, arith, inl, inr, ⊎_elim}
 use Rattle.std.specs.Prelude.{⊤}
 use Rattle.std.specs.List.{AllByRecursion, filter, swap}
 use Rattle.std.specs.List.Sorted.{IsPermutation}
@@ -10,7 +10,7 @@ use Rattle.tape_types.specs.declared.cartridges.Extent.{Extent}
 use Rattle.index_model.specs.declared.nodes.RawExtent.{RawExtent}
 use Rattle.index_model.specs.Places.{IsAt}
 use Rattle.index_faults.proofs.Exchanged.{goes_to}
-use Rattle.extent_map.specs.Laid.{Laid, front_of, before, cut, put_among}
+use Rattle.extent_map.specs.Laid.{front_of, before, cut, put_among}
 use Rattle.file_tree.specs.Mounts.{Letters, extent_of, by_offset, laid_of}
 use Rattle.file_tree.specs.Raws.{IsRaw, AreApart, AllApart, AreRaws}
 use Rattle.file_tree.specs.Order.{IsIn}
@@ -146,10 +146,13 @@ put_up new (e ∷ es) up differ = ⊎_elim
   where
     later : e.offset < new.offset → Grown new es (put_among new es) → Grown new (e ∷ es) (e ∷ put_among new es)
     later low g = record {
-      up = (to_all (λ (x : Extent). e.offset < x.offset) (put_among new es) (λ x here. ⊎_elim
-          (λ (same : x ≡ new). omega (arith, low, ap (λ (z : Extent). z.offset) same))
-          (λ (more : IsIn x es). of_all (λ (z : Extent). e.offset < z.offset) x es up.0 more)
-          (g.only x here)), g.up);
+      up = (
+        to_all (λ (x : Extent). e.offset < x.offset) (put_among new es) (λ x here. ⊎_elim
+            (λ (same : x ≡ new). omega (arith, low, ap (λ (z : Extent). z.offset) same))
+            (λ (more : IsIn x es). of_all (λ (z : Extent). e.offset < z.offset) x es up.0 more)
+            (g.only x here)),
+        g.up,
+      );
       here = inr g.here;
       kept = λ x more. ⊎_elim (λ same. inl same) (λ rest. inr (g.kept x rest)) more;
       only = λ x here. ⊎_elim (λ same. inr (inl same)) (λ more. ⊎_elim (λ same. inl same) (λ rest. inr (inr rest)) (g.only x more)) here;

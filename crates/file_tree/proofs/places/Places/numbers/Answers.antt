@@ -1,4 +1,4 @@
-use Rattle.std.proofs.Common.{◌≡◌, ℕ, List, ◌<◌, ◌+◌, [], ◌∷◌, ◌++◌, length, reverse, sym, ap, ◌∙◌, subst, arith, rules}
+use Rattle.std.proofs.Common.{◌≡◌, ◌<◌, [], ◌∷◌, ◌++◌, length, reverse, sym, ap, ◌∙◌, subst, arith, rules}
 use Rattle.std.specs.FinMap as fin
 use Rattle.std.proofs.lemmas.List.{reverse-append, reverse-reverse, length-append}
 use Rattle.file_tree.specs.Places.{Stored}
@@ -47,7 +47,7 @@ loop-number-preserved c =
     let w = subst (λ l. Walked m c.loop-number.numbers.items l) (ap reverse split ∙ reverse-append c.pop.new.self.items (c.in-Some.number ∷ [])) c.loop-number.invariant in
     let pushed : c.push.new.self.items ≡ c.loop-number.numbers.items ++ c.in-Some.number ∷ [] = search rules in
     let rest : reverse c.push_run.new.numbers.items ≡ c.run.result.now ++ reverse c.pop.new.self.items =
-        ap reverse c.in_ok-push_run.ensures ∙ reverse-append c.pop.new.self.items (reverse c.run.result.now) ∙ ap (λ l. l ++ reverse c.pop.new.self.items) (reverse-reverse c.run.result.now) in
+    ap reverse c.in_ok-push_run.ensures ∙ reverse-append c.pop.new.self.items (reverse c.run.result.now) ∙ ap (λ l. l ++ reverse c.pop.new.self.items) (reverse-reverse c.run.result.now) in
     let there = w.rest_there.0 in
     subst (λ l. Walked m l (reverse c.push_run.new.numbers.items)) (sym pushed)
     (subst (λ l. Walked m (c.loop-number.numbers.items ++ c.in-Some.number ∷ []) l) (sym rest)
