@@ -7,3 +7,5 @@ pub mod PieceLemmas
 pub mod PlaceLemmas
 pub mod TakenBytes
 pub mod TakenLemmas
+pub mod ReplyLemmas
+pub mod DistinctLemmas

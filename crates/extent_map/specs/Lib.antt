@@ -3,3 +3,4 @@ pub mod Cells
 pub mod Laid
 pub mod Laws
 pub mod Pieces
+pub mod Replies

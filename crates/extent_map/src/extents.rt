@@ -4,6 +4,7 @@ ghost use Rattle.plain_tree.specs.Cells as plain;
 ghost use Rattle.extent_map.specs.Laid.{IsLaid, overlaid, resized};
 ghost use Rattle.extent_map.specs.Cells.{Tape, cells_of, file_cells};
 ghost use Rattle.extent_map.specs.Pieces.{planned, read_piece, IsInOneBlock};
+ghost use Rattle.extent_map.specs.Replies.{size_of};
 
 use crate::edits::{begun_by, cut_off, ended_by, part, put};
 use crate::pieces::{Piece, push_range};
@@ -118,6 +119,7 @@ impl Extents {
     pub fn plan(&self, alloc: Global, offset: u64, count: u64) -> Result<List<Piece>, NoMemory>
         requires { offset + count ≤ self.now.laid.length }
         ensures pieces { IfOk result (λ pieces. pieces ≡ planned self.now.laid offset count) }
+        ensures size { IfOk result (λ pieces. size_of pieces ≡ count) }
         ensures blocks { IfOk result (All (IsInOneBlock self.now.laid.block_size)) }
         ensures bytes { IfOk result (λ pieces. (tape : Tape)
             → flat_map (read_piece tape) pieces ≡ plain.range_of (file_cells tape self.now.laid) offset count) }

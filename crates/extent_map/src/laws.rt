@@ -1,4 +1,5 @@
 ghost use Rattle.extent_map.specs.Blocks.{BlocksMakeTheFile, NoOtherBlocks};
+ghost use Rattle.extent_map.specs.Replies.{RepliesGather};
 ghost use Rattle.extent_map.specs.Laws.{OverlaysWrite, LengthsTruncate, OldBytesStayAway, PlansRead, OverlaysTakeOut, BlocksHaveTheBytes};
 
 /// An overlay writes the bytes of the new extent into the file, whatever stands on tape.
@@ -40,4 +41,9 @@ pub fn blocks_make_the_file()
 /// An overlay adds the blocks of its extent to those of a file, and a new length adds none.
 pub fn no_other_blocks()
     ensures { NoOtherBlocks }
+{}
+
+/// The bytes of a range begin as zeros, and are the file's once each of its blocks was put in.
+pub fn replies_gather()
+    ensures { RepliesGather }
 {}

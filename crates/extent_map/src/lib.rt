@@ -6,12 +6,14 @@ mod extents;
 mod laws;
 mod pieces;
 mod reading;
+mod replies;
 #[cfg(test)]
 mod tests;
 
 pub use extents::Extents;
 pub use laws::{
     blocks_have_the_bytes, blocks_make_the_file, lengths_truncate, no_other_blocks,
-    old_bytes_stay_away, overlays_take_out, overlays_write, plans_read,
+    old_bytes_stay_away, overlays_take_out, overlays_write, plans_read, replies_gather,
 };
 pub use pieces::Piece;
+pub use replies::{fill, places_of};

@@ -1,7 +1,8 @@
 // Files as lists of changes, read back from blocks.
 ghost use Rattle.std.specs.Prelude.{◌≡◌, ◌+◌, ◌<◌, ◌≤◌, length};
+ghost use Rattle.extent_map.specs.Replies.{size_of};
 
-use crate::{Extents, Piece};
+use crate::{Extents, Piece, fill, places_of};
 use std::alloc::Global;
 use std::test::Fail;
 use tape_types::{Extent, NoMemory, Part, Place};
@@ -432,5 +433,71 @@ fn changes_by_chance_read_as_a_plain_file(rt: HostRuntime) -> Result<(), Fail> {
     for seed in 0..500 {
         assert!(rt; read_alike(rt.alloc(), seed)?, "from {seed}");
     }
+    Ok(())
+}
+
+/// Bytes of block 5 from its byte 2 on, the first bytes of block 6, ten zeros, and the first bytes of block 5 again.
+fn scattered(alloc: Global) -> Result<Option<Extents>, NoMemory> {
+    made(alloc, &[put(0, 5, 2, 10), put(20, 5, 0, 3)])
+}
+
+/// Puts a block in.
+fn put_in(bytes: &mut [u8], pieces: &[Piece], pos: u64, block: &[u8]) -> bool
+    requires { length bytes.old ≡ size_of pieces.now }
+    ensures { length bytes.new ≡ length bytes.old }
+{
+    let place = Place {
+        part: Part::Dp,
+        pos,
+    };
+    fill(bytes, pieces, place, block)
+}
+
+/// The bytes of a plan, where its blocks come in this order; none where a byte is lost.
+fn gathered(
+    alloc: Global,
+    pieces: &[Piece],
+    count: usize,
+    first: (u64, &[u8]),
+    other: (u64, &[u8]),
+) -> Result<Option<Vec<u8>>, NoMemory>
+    requires { size_of pieces.now ≡ count }
+{
+    let mut bytes = vec![in alloc; 0u8; count]?;
+    if !put_in(&mut bytes, pieces, first.0, first.1) {
+        return Ok(None);
+    }
+    if !put_in(&mut bytes, pieces, other.0, other.1) {
+        return Ok(None);
+    }
+    Ok(Some(bytes))
+}
+
+const WHOLE: &[u8] = b"cdefghijkl\0\0\0\0\0\0\0\0\0\0abc";
+
+#[test]
+fn blocks_come_in_any_order(rt: HostRuntime) -> Result<(), Fail> {
+    let alloc = rt.alloc();
+    let Some(file) = scattered(alloc)? else {
+        return Err("the file can't lie so".into());
+    };
+    if file.length() != 23 {
+        return Err("the file has another length".into());
+    }
+    let pieces = file.plan(alloc, 0, 23)?;
+    let pieces = pieces.as_slice();
+    let five: (u64, &[u8]) = (5, b"abcdefgh");
+    let six: (u64, &[u8]) = (6, b"ijklmnop");
+    let first = gathered(alloc, pieces, 23, five, six)?;
+    assert!(rt; first.is_some_and(|bytes| bytes.as_slice() == WHOLE));
+    let last = gathered(alloc, pieces, 23, six, five)?;
+    assert!(rt; last.is_some_and(|bytes| bytes.as_slice() == WHOLE));
+    let short: (u64, &[u8]) = (6, b"ijk");
+    assert!(rt; gathered(alloc, pieces, 23, five, short)?.is_none());
+    let places = places_of(alloc, pieces)?;
+    let [one, two] = places.as_slice() else {
+        return Err("there are not two places".into());
+    };
+    assert_eq!(rt; (one.pos, two.pos), (5, 6));
     Ok(())
 }

@@ -1,5 +1,5 @@
 -- What is kept beside the places through each change.
-use Rattle.std.proofs.Common.{Option, ◌⊎◌, ◌≡◌, ◌≢◌, ℕ, zero, suc, ◌+◌, ◌<◌, ◌≤◌, Bool, true, false, cond, eqb, List, [], ◌∷◌, ◌++◌, length, take, drop, Some, None, IsSome, is_some, sym, ap, ◌∙◌, refl, subst, arith, inl, inr, ⊎_elim}
+use Rattle.std.proofs.Common.{Option, ◌≡◌, ◌≢◌, ℕ, suc, ◌+◌, ◌<◌, ◌≤◌, true, false, cond, eqb, List, [], ◌∷◌, ◌++◌, length, take, drop, Some, None, IsSome, is_some, sym, ap, ◌∙◌, refl, subst, arith, inl, inr, ⊎_elim}
 use Rattle.std.specs.List.{AllByRecursion, insert, remove}
 use Rattle.std.specs.Option.{option_map}
 use Rattle.std.specs.Ordering.{is_lt}
@@ -19,12 +19,12 @@ use Rattle.file_tree.specs.declared.nodes.Node.{Node}
 use Rattle.file_tree.specs.Tree.{Nodes, number_at}
 use Rattle.file_tree.specs.Seen.{Held, held, IsKept, IsShown}
 use Rattle.file_tree.specs.Places.{used, IsSetIn, IsChangedIn}
-use Rattle.file_tree.specs.Order.{IsIn, Key, key_cmp, key_at, Ascend, IsNode, KeysDiffer, IsOrdered, AreEmpty, IsIndexed, IsInDir, IsChildAt}
+use Rattle.file_tree.specs.Order.{IsIn, Key, key_cmp, key_at, Ascend, IsNode, KeysDiffer, IsOrdered, AreEmpty, IsIndexed, IsChildAt}
 use Rattle.file_tree.proofs.PathLemmas.{some_same, number_is, node_at}
 use Rattle.file_tree.proofs.ShownLemmas.{stands, stands_in}
 use Rattle.file_tree.proofs.PlaceLemmas.{there_held, held_within}
 use Rattle.file_tree.proofs.ToldLemmas.{above_now}
-use Rattle.file_tree.proofs.MemberLemmas.{Up, placed, found, of_all, to_all, in_front, in_rest, in_either, up_front, up_rest, up_across, up_join, halves, split_at}
+use Rattle.file_tree.proofs.MemberLemmas.{Up, found, of_all, to_all, in_front, in_rest, in_either, up_front, up_rest, up_across, up_join, halves, split_at}
 use Rattle.file_tree.proofs.KeyLemmas.{Before, as_up, from_up, key_of, after, not_itself, less_is}
 
 pub is_there : (at : Held) (n : ℕ) → IsSome (at n) → (z : Spot) × (at n ≡ Some z)

@@ -1,7 +1,6 @@
 -- What the fields of a store keep.
-use Rattle.std.proofs.Common.{◌≡◌, ap, List, Option}
+use Rattle.std.proofs.Common.{◌≡◌, ap}
 use Rattle.file_tree.specs.contracts.store.Store.{the_view}
-use Rattle.file_tree.specs.declared.nodes.Spot.{Spot}
 use Rattle.file_tree.specs.declared.store.Store.TheInside.{Inside}
 use Rattle.file_tree.specs.Places.{StoreView, IsStored}
 use Rattle.file_tree.proofs.PlaceLemmas.{stored_now}

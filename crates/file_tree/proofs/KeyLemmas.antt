@@ -1,5 +1,5 @@
 -- Where a name in a directory comes in the order of the nodes.
-use Rattle.std.proofs.Common.{Option, ◌⊎◌, ◌≡◌, ◌≢◌, ℕ, zero, suc, ◌+◌, ◌<◌, ◌≤◌, Bool, true, false, List, [], ◌∷◌, ◌++◌, length, take, drop, get_or, Some, None, IsSome, is_some, sym, ap, ◌∙◌, refl, subst, arith, inl, inr, ⊎_elim}
+use Rattle.std.proofs.Common.{Option, ◌≡◌, ℕ, zero, suc, ◌<◌, ◌≤◌, Bool, true, false, List, [], ◌∷◌, ◌++◌, length, take, drop, get_or, Some, None, is_some, sym, ap, ◌∙◌, refl, subst, arith, inl, inr, ⊎_elim}
 use Rattle.std.specs.List.{AllByRecursion}
 use Rattle.std.specs.List.Sorted.{IsPartitionedBy, IsPartitionPoint}
 use Rattle.std.specs.Option.{option_map}
@@ -17,9 +17,9 @@ use Rattle.plain_tree.proofs.LinkLemmas.{name_exact}
 use Rattle.index_model.specs.Places.{IsAt}
 use Rattle.file_tree.specs.declared.nodes.Spot.{Spot}
 use Rattle.file_tree.specs.Seen.{Held, held}
-use Rattle.file_tree.specs.Order.{IsIn, Key, pair_cmp, key_cmp, key_at, Ascend, IsNode, IsOrdered, IsInDir, IsChildAt, IsRun}
+use Rattle.file_tree.specs.Order.{IsIn, Key, pair_cmp, key_cmp, key_at, Ascend, IsNode, IsOrdered, IsChildAt}
 use Rattle.file_tree.proofs.PathLemmas.{some_same}
-use Rattle.file_tree.proofs.MemberLemmas.{Up, placed, found, of_all, to_all, in_front, in_rest, in_either, up_front, up_rest, up_across, up_join, halves}
+use Rattle.file_tree.proofs.MemberLemmas.{Up, found, of_all, in_either, up_rest, halves}
 
 pub pair_total : IsTotalOrder pair_cmp
 pair_total = then_total (on_total (λ (k : Key). k.0) nat_cmp_total) (on_total (λ (k : Key). k.1) nat_list_cmp_total)

@@ -1,8 +1,7 @@
 -- What the places of a tree say of its map.
-use Rattle.std.proofs.Common.{Option, ◌⊎◌, ◌≡◌, ℕ, zero, suc, ◌+◌, ◌<◌, ◌≤◌, true, false, List, [], ◌∷◌, ◌++◌, length, take, get_or, Some, None, IsSome, is_some, is_none, sym, ap, ◌∙◌, refl, subst, arith, inl, inr, set}
-use Rattle.std.specs.Option.{option_map}
+use Rattle.std.proofs.Common.{Option, ◌⊎◌, ◌≡◌, ℕ, zero, suc, ◌+◌, ◌<◌, ◌≤◌, true, false, List, [], ◌∷◌, ◌++◌, length, get_or, Some, None, IsSome, is_some, sym, ap, ◌∙◌, refl, subst, arith, inl, inr, set}
 use Rattle.std.specs.FinMap as fin
-use Rattle.std.proofs.lemmas.List.{length-set, length-append, take_more}
+use Rattle.std.proofs.lemmas.List.{length-set, length-append}
 use Rattle.file_tree.specs.declared.nodes.Node.{Node}
 use Rattle.file_tree.specs.declared.nodes.Spot.{Spot}
 use Rattle.file_tree.specs.Tree.{Nodes, number_at}

@@ -1,26 +1,19 @@
 -- What is read of a tree.
-use Rattle.std.proofs.Common.{Option, ◌≡◌, ◌≢◌, ℕ, zero, suc, ◌+◌, ◌<◌, ◌≤◌, Bool, true, false, cond, ◌&&◌, not, eqb, nat_lt, List, [], ◌∷◌, ◌++◌, length, take, Some, None, is_some, sym, ap, ◌∙◌, refl, subst, arith, ◌||◌, ◌^◌, nat_le, Result, Ok, Err, IfOk}
+use Rattle.std.proofs.Common.{Option, ◌≡◌, ℕ, ◌+◌, ◌<◌, ◌≤◌, true, false, List, length, take, Some, None, is_some, sym, ap, ◌∙◌, refl, subst, arith, ◌||◌, ◌^◌, nat_le, Result, Ok, Err, IfOk}
 use Rattle.std.specs.Option.{option_map}
-use Rattle.std.specs.List.{Contains}
 use Rattle.std.specs.FinMap as fin
 use Rattle.std.proofs.lemmas.List.{take_all}
 use Rattle.plain_tree.specs.declared.nodes.Node as plain_node
 use Rattle.plain_tree.specs.declared.nodes.Kind as plain_kind
 use Rattle.plain_tree.specs.declared.nodes.Kind.TheVariants as plain_kinds
-use Rattle.plain_tree.specs.declared.calls.Entry.{Entry}
 use Rattle.plain_tree.specs.declared.calls.Refusal.{Refusal}
 use Rattle.plain_tree.specs.declared.calls.Refusal.TheVariants as refusals
 use Rattle.plain_tree.specs.Refusals.{why_missing, missing_below, no_node, no_dir, no_file, refuse_if, too_many}
 use Rattle.plain_tree.specs.Tree as plain
 use Rattle.plain_tree.specs.Valid.{AreValid}
-use Rattle.plain_tree.proofs.MoveLemmas.{both_true}
 use Rattle.plain_tree.proofs.FrontLemmas.{missing_longer, front_decides}
-use Rattle.plain_tree.proofs.ListingLemmas.{exact}
-use Rattle.plain_tree.proofs.SeenLemmas.{unlike}
-use Rattle.plain_tree.proofs.Validity.{child_listed}
 use Rattle.extent_map.specs.Cells.{Tape}
 use Rattle.file_tree.specs.declared.nodes.Node.{Node}
-use Rattle.file_tree.specs.declared.nodes.Spot.{Spot}
 use Rattle.file_tree.specs.Tree.{Nodes, FileTree, StandsAt, number_at, plain_kind_of, plain_node_of, plain_nodes, plain_of, whole}
 use Rattle.file_tree.specs.declared.nodes.Kind.{Kind}
 use Rattle.file_tree.specs.declared.nodes.Kind.TheVariants as kinds
@@ -33,11 +26,9 @@ use Rattle.plain_tree.specs.declared.calls.Sort.TheVariants as sorts
 use Rattle.std.proofs.lemmas.Bool.Decides.{nat_tests}
 use Rattle.file_tree.proofs.WriteLemmas.{long_as}
 use Rattle.file_tree.specs.Places.{IsLast}
-use Rattle.file_tree.proofs.PathLemmas.{some_same, no_name, node_at}
-use Rattle.file_tree.proofs.ShownLemmas.{spot, kept_at, stands, stands_in}
-use Rattle.file_tree.proofs.WalkLemmas.{eq_is, is_eq, not_eq}
+use Rattle.file_tree.proofs.PathLemmas.{some_same, node_at}
+use Rattle.file_tree.proofs.ShownLemmas.{stands}
 use Rattle.file_tree.proofs.PlainLemmas.{plain_get, plain_none, plain_len}
-use Rattle.file_tree.proofs.EditLemmas.{parent_ends}
 
 -- ---- paths that lead nowhere
 

@@ -1,5 +1,5 @@
 -- What is in a directory, by the bytes of the names.
-use Rattle.std.proofs.Common.{Option, ◌⊎◌, ◌≡◌, ◌≢◌, ℕ, zero, suc, ◌+◌, ◌<◌, ◌≤◌, ◌-◌, Bool, true, false, cond, List, [], ◌∷◌, ◌++◌, length, take, drop, append_assoc, map, Some, None, IsSome, is_some, sym, ap, ◌∙◌, refl, subst, arith, inl, inr, ⊎_elim}
+use Rattle.std.proofs.Common.{Option, ◌≡◌, ℕ, zero, suc, ◌+◌, ◌<◌, ◌≤◌, ◌-◌, true, false, cond, List, [], ◌∷◌, ◌++◌, length, take, drop, append_assoc, map, Some, None, IsSome, is_some, sym, ap, ◌∙◌, refl, subst, arith, inl, inr, ⊎_elim}
 use Rattle.std.specs.List.{AllByRecursion}
 use Rattle.std.specs.List.Sorted.{IsStrictlySortedBy}
 use Rattle.std.specs.Option.{option_map}
@@ -11,7 +11,6 @@ use Rattle.std.proofs.lemmas.Cmp.{tied_itself, ranked, nat_cmp_total, nat_list_c
 use Rattle.std.proofs.lemmas.Bool.{cases_lt}
 use Rattle.index_model.specs.Places.{IsAt}
 use Rattle.plain_tree.specs.declared.calls.Entry.{Entry}
-use Rattle.plain_tree.specs.declared.calls.Sort.{Sort}
 use Rattle.plain_tree.specs.Links.{name_cmp}
 use Rattle.plain_tree.specs.Paths.{Name, Path}
 use Rattle.plain_tree.specs.Tree as plain
@@ -26,12 +25,12 @@ use Rattle.std.specs.Option.{IfSome, IfNone}
 use Rattle.file_tree.specs.Seen.{Held, held, IsShown}
 use Rattle.file_tree.proofs.WalkLemmas.{none_past}
 use Rattle.file_tree.specs.Listing.{line_of, lines_in, lines_at}
-use Rattle.file_tree.specs.Order.{IsIn, Key, pair_cmp, key_cmp, key_at, Ascend, IsNode, IsOrdered, IsInDir, IsChildAt, IsRun, IsRunAt}
+use Rattle.file_tree.specs.Order.{IsIn, pair_cmp, key_cmp, key_at, Ascend, IsNode, IsOrdered, IsInDir, IsChildAt, IsRun, IsRunAt}
 use Rattle.file_tree.proofs.PathLemmas.{some_same, number_is, node_at}
 use Rattle.file_tree.proofs.ShownLemmas.{spot, kept_at, stands_in}
 use Rattle.file_tree.proofs.PlainLemmas.{plain_get}
 use Rattle.file_tree.proofs.ReadLemmas.{sort_same}
-use Rattle.file_tree.proofs.MemberLemmas.{Up, placed, found, of_all, to_all, in_front, in_rest, in_either, up_front, up_rest, up_across, up_join, halves}
+use Rattle.file_tree.proofs.MemberLemmas.{Up, of_all, to_all, in_front, in_rest, in_either, up_front, up_rest, halves}
 use Rattle.file_tree.proofs.KeyLemmas.{Before, as_up, from_up, key_of}
 
 -- ---- the part of an order that a directory has

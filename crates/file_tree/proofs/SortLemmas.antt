@@ -1,5 +1,5 @@
 -- The numbers of all nodes, sorted by their directories and names.
-use Rattle.std.proofs.Common.{Option, ◌⊎◌, ◌≡◌, ◌≢◌, ℕ, zero, suc, ◌+◌, ◌-◌, ◌<◌, ◌≤◌, Bool, true, false, List, [], ◌∷◌, ◌++◌, length, get_or, Some, None, IsSome, is_some, sym, ap, ◌∙◌, refl, subst, arith, inl, inr, ⊎_elim}
+use Rattle.std.proofs.Common.{Option, ◌≡◌, ◌≢◌, ℕ, zero, suc, ◌+◌, ◌-◌, ◌<◌, ◌≤◌, Bool, false, List, [], ◌∷◌, ◌++◌, length, get_or, Some, None, IsSome, sym, ap, ◌∙◌, refl, subst, arith, inl, inr}
 use Rattle.std.specs.List.{AllByRecursion, swap, range_with_len}
 use Rattle.std.proofs.lemmas.Bool.{cases_eq}
 use Rattle.std.specs.List.Sorted.{IsPermutation, IsSortedBy}
@@ -10,17 +10,17 @@ use Rattle.std.specs.Fn.{Called, ComparesAs}
 use Rattle.std.proofs.lemmas.Fn.{always_returns_same}
 use denote.Param.Members.{Mut}
 use denote.Ref.{Bor}
-use Rattle.std.proofs.lemmas.List.Sorted.{IsPermutation-keeps, IsPermutation-sym, length_permutation, ranks_by, sorted_far}
-use Rattle.std.proofs.lemmas.Option.{slice_get-get_or, get_or_from_slice_get, slice_get_within}
+use Rattle.std.proofs.lemmas.List.Sorted.{IsPermutation-keeps, IsPermutation-sym, ranks_by, sorted_far}
+use Rattle.std.proofs.lemmas.Option.{get_or_from_slice_get, slice_get_within}
 use Rattle.index_model.specs.Places.{IsAt}
 use Rattle.index_faults.proofs.Exchanged.{goes_to}
 use Rattle.file_tree.specs.declared.nodes.Spot.{Spot}
 use Rattle.file_tree.specs.Seen.{Held, held}
 use Rattle.file_tree.specs.Places.{used}
-use Rattle.file_tree.specs.Order.{IsIn, key_cmp, key_at, Ascend, IsNode, KeysDiffer, IsOrdered}
+use Rattle.file_tree.specs.Order.{IsIn, key_cmp, key_at, IsNode, KeysDiffer, IsOrdered}
 use Rattle.file_tree.proofs.PathLemmas.{some_same}
 use Rattle.file_tree.proofs.PlaceLemmas.{held_within, used_most}
-use Rattle.file_tree.proofs.MemberLemmas.{Up, placed, found, of_all, to_all, in_front, in_rest, in_either, moved_in, still_apart}
+use Rattle.file_tree.proofs.MemberLemmas.{Up, placed, found, of_all, to_all, moved_in, still_apart}
 use Rattle.file_tree.proofs.KeyLemmas.{Before, from_up, key_total, after}
 
 -- a number that stands at two places

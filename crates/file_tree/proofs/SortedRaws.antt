@@ -1,5 +1,5 @@
 -- A file lies the same, in whatever order its extents are told.
-use Rattle.std.proofs.Common.{◌⊎◌, ◌≡◌, ◌≢◌, ℕ, zero, suc, ◌+◌, ◌-◌, ◌<◌, ◌≤◌, min, Bool, true, false, cond, eqb, ltb, leb, List, [], ◌∷◌, ◌++◌, length, map, fold, Some, sym, ap, ◌∙◌, refl, subst, arith, inl, inr, ⊎_elim}
+use Rattle.std.proofs.Common.{◌⊎◌, ◌≡◌, ◌≢◌, ℕ, zero, suc, ◌+◌, ◌-◌, ◌<◌, ◌≤◌, min, Bool, true, false, cond, eqb, ltb, leb, List, [], ◌∷◌, ◌++◌, length, map, fold, sym, ap, ◌∙◌, refl, subst, arith, inl, inr, ⊎_elim}
 use Rattle.std.specs.Prelude.{⊤}
 use Rattle.std.specs.List.{AllByRecursion, filter, swap}
 use Rattle.std.specs.List.Sorted.{IsPermutation}
@@ -10,7 +10,7 @@ use Rattle.tape_types.specs.declared.cartridges.Extent.{Extent}
 use Rattle.index_model.specs.declared.nodes.RawExtent.{RawExtent}
 use Rattle.index_model.specs.Places.{IsAt}
 use Rattle.index_faults.proofs.Exchanged.{goes_to}
-use Rattle.extent_map.specs.Laid.{Laid, front_of, before, cut, put_among}
+use Rattle.extent_map.specs.Laid.{front_of, before, cut, put_among}
 use Rattle.file_tree.specs.Mounts.{Letters, extent_of, by_offset, laid_of}
 use Rattle.file_tree.specs.Raws.{IsRaw, AreApart, AllApart, AreRaws}
 use Rattle.file_tree.specs.Order.{IsIn}

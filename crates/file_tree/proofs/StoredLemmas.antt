@@ -1,5 +1,5 @@
 -- What the places keep through each change.
-use Rattle.std.proofs.Common.{Option, ◌≡◌, ℕ, zero, suc, ◌+◌, ◌-◌, ◌<◌, ◌≤◌, cond, List, [], ◌∷◌, ◌++◌, length, Some, None, is_some, sym, ap, ◌∙◌, refl, subst, arith, ⊎_elim, lit≤}
+use Rattle.std.proofs.Common.{Option, ◌≡◌, ℕ, zero, suc, ◌+◌, ◌-◌, ◌<◌, cond, List, [], ◌∷◌, ◌++◌, length, Some, None, is_some, sym, ap, ◌∙◌, refl, subst, arith, ⊎_elim, lit≤}
 use Rattle.std.specs.Option.{option_map}
 use Rattle.std.specs.FinMap as fin
 use Rattle.plain_tree.specs.Paths.{path_cmp}
@@ -14,7 +14,6 @@ use Rattle.file_tree.proofs.PathLemmas.{gone_here, gone_other, is_or_not, no_nam
 use Rattle.file_tree.proofs.ShownLemmas.{one_number, spot}
 use Rattle.file_tree.proofs.WalkLemmas.{only}
 use Rattle.plain_tree.proofs.SeenLemmas.{unlike}
-use Rattle.std.proofs.lemmas.Bool.{cases_lt}
 use Rattle.file_tree.proofs.UpdateLemmas.{inserted, updated, removed, moves}
 use Rattle.file_tree.proofs.PlaceLemmas.{kept_node, node_now, held_within, held_past, push_in, used_push}
 use Rattle.file_tree.proofs.PlainLemmas.{none_plain, len_moved, bare_too}

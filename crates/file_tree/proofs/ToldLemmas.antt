@@ -1,17 +1,12 @@
 -- What is told of a tree's nodes, in the order of their paths.
-use Rattle.std.proofs.Common.{Option, ◌≡◌, ◌≢◌, ℕ, zero, suc, T, ◌+◌, ◌<◌, ◌≤◌, Bool, true, false, cond, ◌&&◌, nat_lt, eqb, List, [], ◌∷◌, ◌++◌, length, take, reverse, map, Some, None, is_some, sym, ap, ◌∙◌, refl, subst, arith, ⊎_elim}
+use Rattle.std.proofs.Common.{Option, ◌≡◌, ◌≢◌, ℕ, zero, suc, T, ◌+◌, ◌<◌, Bool, true, false, cond, List, [], ◌∷◌, ◌++◌, length, take, map, Some, None, is_some, sym, ap, ◌∙◌, refl, arith, ⊎_elim}
 use Rattle.std.specs.Option.{option_map}
-use Rattle.std.specs.List.{AllByRecursion, slice_get}
-use Rattle.std.specs.List.Sorted.{IsStrictlySortedBy}
-use Rattle.std.specs.declared.cmp.Ordering.TheVariants.{Less}
-use Rattle.std.specs.Ordering.{is_eq, is_lt}
+use Rattle.std.specs.List.{slice_get}
 use Rattle.std.specs.FinMap as fin
-use Rattle.std.proofs.lemmas.Bool.Decides.{nat_tests}
-use Rattle.std.proofs.lemmas.List.{length-append, length-map, reverse-append}
+use Rattle.std.proofs.lemmas.List.{length-append, length-map}
 use Rattle.std.proofs.lemmas.Option.{slice_get-map}
 use Rattle.index_model.specs.Places.{IsAt}
 use Rattle.plain_tree.specs.Paths.{path_cmp, same_path, parent_of, last_name}
-use Rattle.plain_tree.proofs.NodeLemmas.{path_total, path_exact}
 use Rattle.plain_tree.proofs.MoveLemmas.{both_true, same_is, is_same, not_true, none_above}
 use Rattle.file_tree.specs.declared.nodes.Node.{Node}
 use Rattle.file_tree.specs.Tree.{Nodes, number_at}
@@ -22,7 +17,7 @@ use Rattle.index_model.specs.declared.nodes.Node as told
 use Rattle.file_tree.specs.Told.{place_of, name_or, told_node_of, told_of, AreApart, ArePlaces}
 use Rattle.file_tree.specs.declared.nodes.Spot.{Spot}
 use Rattle.file_tree.proofs.PathLemmas.{by_last, some_same, number_is, node_at}
-use Rattle.file_tree.proofs.ShownLemmas.{spot, same_spot, one_number, stands}
+use Rattle.file_tree.proofs.ShownLemmas.{spot, same_spot}
 use Rattle.file_tree.proofs.PlaceLemmas.{there_held, held_within, parent_now}
 
 abbrev Path : Type 0

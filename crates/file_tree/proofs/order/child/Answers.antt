@@ -1,4 +1,4 @@
-use Rattle.std.proofs.Common.{◌≡◌, ℕ, Some, sym, ap, ◌∙◌, refl, length, arith}
+use Rattle.std.proofs.Common.{sym, ap, ◌∙◌, arith}
 use Rattle.std.proofs.lemmas.Option.{slice_get-get_or, get_or_from_slice_get}
 use Rattle.file_tree.specs.Seen.{held}
 use Rattle.file_tree.proofs.KeyLemmas.{child_found, child_missing, none_past, other_child, eq_is}

@@ -1,4 +1,4 @@
-use Rattle.std.proofs.Common.{◌-◌, take, drop, sym, subst}
+use Rattle.std.proofs.Common.{sym, subst}
 use Rattle.file_tree.specs.Seen.{held}
 use Rattle.file_tree.specs.Order.{IsRun}
 use Rattle.file_tree.proofs.RunLemmas.{run_order, run_is}

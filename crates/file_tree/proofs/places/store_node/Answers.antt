@@ -1,8 +1,8 @@
-use Rattle.std.proofs.Common.{◌≡◌, ◌≤◌, ◌+◌, [], ◌∷◌, ◌++◌, List, ℕ, length, None, subst, sym, ap, ◌∙◌, arith, rules}
+use Rattle.std.proofs.Common.{◌≡◌, ◌≤◌, [], ◌∷◌, ◌++◌, length, subst, ap, ◌∙◌, arith, rules}
 use Rattle.file_tree.specs.Seen.{held}
 use Rattle.file_tree.specs.Order.{AreEmpty}
 use Rattle.file_tree.proofs.PlaceLemmas.{held_past}
-use Rattle.file_tree.proofs.IndexedLemmas.{empty_last, empty_more, all_none}
+use Rattle.file_tree.proofs.IndexedLemmas.{empty_last, empty_more}
 use Rattle.file_tree.proofs.places.store_node.Goals as goal
 
 pub fill-requires : goal.fill-requires

@@ -1,4 +1,4 @@
-use Rattle.std.proofs.Common.{◌≡◌, ◌∙◌, sym, ap, subst}
+use Rattle.std.proofs.Common.{◌∙◌, sym, subst}
 use Rattle.std.specs.List.Sorted.{IsPermutation}
 use Rattle.file_tree.proofs.ReadLemmas.{if_ok}
 use Rattle.file_tree.proofs.SortedRaws.{moved_raws, moved_laid}

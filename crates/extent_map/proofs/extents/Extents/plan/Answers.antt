@@ -7,6 +7,7 @@ use Rattle.extent_map.specs.Laid.{Room, IsLaid, cut, left_from}
 use Rattle.extent_map.proofs.PieceLemmas.{plans_read}
 use Rattle.extent_map.specs.Pieces.{IsInOneBlock, read_piece, planned, with_gaps}
 use Rattle.extent_map.proofs.PlaceLemmas.{found, found_end, end_after, touched, bytes_within, blocks_far}
+use Rattle.extent_map.proofs.ReplyLemmas.{range_long}
 use Rattle.extent_map.proofs.extents.Extents.plan.Goals as goal
 
 nowhere : Extent
@@ -63,3 +64,6 @@ pub returns-clause-bytes : goal.returns-clause-bytes
 returns-clause-bytes c = λ tape.
     ap (flat_map (read_piece tape)) (returns-clause-pieces c)
     ∙ plans_read.read tape c.args.self.now.laid c.args.offset c.args.count (subst (λ (r : Room). IsLaid r.laid) c.self.view_is c.self.invariant) c.requires
+
+pub returns-clause-size : goal.returns-clause-size
+returns-clause-size c = range_long c.args.self.now.laid c.args.offset c.args.count c.from_vec.result c.requires (returns-clause-bytes c)

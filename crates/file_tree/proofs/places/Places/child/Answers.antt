@@ -1,6 +1,5 @@
-use Rattle.std.proofs.Common.{◌≡◌, sym, ap, ◌∙◌, subst}
-use Rattle.file_tree.specs.declared.nodes.Spot.{Spot}
-use Rattle.file_tree.specs.Places.{Stored, IsSetIn}
+use Rattle.std.proofs.Common.{◌≡◌, sym, ap, subst}
+use Rattle.file_tree.specs.Places.{Stored}
 use Rattle.file_tree.specs.Seen.{held, IsShown}
 use Rattle.file_tree.proofs.PlaceLemmas.{stored_now}
 use Rattle.file_tree.proofs.RunLemmas.{child_result}

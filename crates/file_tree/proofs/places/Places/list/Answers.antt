@@ -1,8 +1,7 @@
 use Rattle.std.proofs.Common.{◌≡◌, IsSome, sym, ap, ◌∙◌, subst, arith}
 use Rattle.std.specs.List.{AllByRecursion}
-use Rattle.file_tree.specs.declared.nodes.Spot.{Spot}
-use Rattle.file_tree.specs.Places.{Stored, IsSetIn}
-use Rattle.file_tree.specs.Seen.{held, IsShown}
+use Rattle.file_tree.specs.Places.{Stored}
+use Rattle.file_tree.specs.Seen.{held}
 use Rattle.file_tree.specs.Listing.{lines_at}
 use Rattle.file_tree.specs.Order.{IsRun}
 use Rattle.file_tree.proofs.PlaceLemmas.{stored_now}

@@ -1,8 +1,7 @@
-use Rattle.std.proofs.Common.{◌≡◌, ℕ, ◌-◌, ◌≤◌, length, sym, ap, ◌∙◌, arith, rules, vec_capacity}
+use Rattle.std.proofs.Common.{◌≡◌, ◌-◌, ◌≤◌, length, ap, arith, rules, vec_capacity}
 use Rattle.std.specs.List.{insert}
 use Rattle.file_tree.specs.declared.nodes.Spot.{Spot}
 use Rattle.file_tree.specs.Places.{Stored, least}
-use Rattle.file_tree.specs.Seen.{held, IsShown}
 use Rattle.file_tree.proofs.PlaceLemmas.{stored_now}
 use Rattle.file_tree.proofs.KeyLemmas.{comes_same, past_same}
 use Rattle.file_tree.proofs.IndexedLemmas.{put_indexed, none_under, root_held}

@@ -1,7 +1,6 @@
-use Rattle.std.proofs.Common.{◌≡◌, ◌<◌, length, sym, ap, subst, arith}
-use Rattle.file_tree.specs.declared.nodes.Spot.{Spot}
-use Rattle.file_tree.specs.Places.{Stored, IsSetIn}
-use Rattle.file_tree.specs.Seen.{held, IsShown}
+use Rattle.std.proofs.Common.{◌≡◌, ap, subst, arith}
+use Rattle.file_tree.specs.Places.{Stored}
+use Rattle.file_tree.specs.Seen.{held}
 use Rattle.file_tree.specs.Order.{IsRun}
 use Rattle.file_tree.proofs.PlaceLemmas.{stored_now}
 use Rattle.file_tree.proofs.ToldLemmas.{few}

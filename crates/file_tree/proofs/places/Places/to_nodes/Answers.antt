@@ -1,4 +1,4 @@
-use Rattle.std.proofs.Common.{◌≡◌, ◌<◌, ap, ◌∙◌, sym, length, arith, rules}
+use Rattle.std.proofs.Common.{◌≡◌, ◌<◌, ap, ◌∙◌, length, arith}
 use Rattle.std.specs.FinMap as fin
 use Rattle.file_tree.specs.Seen.{held}
 use Rattle.file_tree.specs.Places.{Stored}

@@ -1,8 +1,7 @@
-use Rattle.std.proofs.Common.{◌≡◌, ◌+◌, ◌<◌, None, Some, sym, ap, ◌∙◌, subst, arith, length, [], ◌∷◌, ◌++◌, rules}
+use Rattle.std.proofs.Common.{◌≡◌, ◌+◌, ◌<◌, None, ap, ◌∙◌, arith, length, [], ◌∷◌, ◌++◌, rules}
 use Rattle.std.specs.FinMap as fin
 use Rattle.file_tree.specs.declared.nodes.Node.{Node}
 use Rattle.file_tree.specs.Seen.{held}
-use Rattle.file_tree.specs.Places.{IsSetIn}
 use Rattle.file_tree.proofs.ShownLemmas.{one_number}
 use Rattle.file_tree.proofs.WalkLemmas.{seen}
 use Rattle.file_tree.proofs.PlaceLemmas.{count_most}
