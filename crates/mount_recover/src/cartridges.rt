@@ -102,31 +102,87 @@ fn document(alloc: Global, letter: u8) -> Result<String, NoMemory> {
 /// Documents with a file.
 fn wider(alloc: Global, letter: u8) -> Result<String, NoMemory> {
     match letter {
-        b'o' => first(alloc, (4, 0, 5)),
-        b'l' => second(alloc, (4, 0, 5)),
-        b'0' => first(alloc, (4, 0, 4097)),
-        b'1' => second(alloc, (4, 0, 4097)),
-        b'2' => first(alloc, (7, 0, 4096)),
-        b'3' => second(alloc, (7, 0, 4096)),
-        b'4' => first(alloc, (7, 1, 4096)),
-        b'5' => first(alloc, (4, 4096, 1)),
-        b'6' => first(alloc, (3, 0, 1)),
-        _ => first(alloc, (1 << 62, 0, 1)),
+        b'o' => text(
+            alloc,
+            UUID,
+            1,
+            ('b', 6),
+            None,
+            file(alloc, 4, 0, 5)?.as_str(),
+        ),
+        b'l' => text(
+            alloc,
+            UUID,
+            1,
+            ('a', 5),
+            Some(6),
+            file(alloc, 4, 0, 5)?.as_str(),
+        ),
+        b'0' => text(
+            alloc,
+            UUID,
+            1,
+            ('b', 6),
+            None,
+            file(alloc, 4, 0, 4097)?.as_str(),
+        ),
+        b'1' => text(
+            alloc,
+            UUID,
+            1,
+            ('a', 5),
+            Some(6),
+            file(alloc, 4, 0, 4097)?.as_str(),
+        ),
+        b'2' => text(
+            alloc,
+            UUID,
+            1,
+            ('b', 6),
+            None,
+            file(alloc, 7, 0, 4096)?.as_str(),
+        ),
+        b'3' => text(
+            alloc,
+            UUID,
+            1,
+            ('a', 5),
+            Some(6),
+            file(alloc, 7, 0, 4096)?.as_str(),
+        ),
+        b'4' => text(
+            alloc,
+            UUID,
+            1,
+            ('b', 6),
+            None,
+            file(alloc, 7, 1, 4096)?.as_str(),
+        ),
+        b'5' => text(
+            alloc,
+            UUID,
+            1,
+            ('b', 6),
+            None,
+            file(alloc, 4, 4096, 1)?.as_str(),
+        ),
+        b'6' => text(
+            alloc,
+            UUID,
+            1,
+            ('b', 6),
+            None,
+            file(alloc, 3, 0, 1)?.as_str(),
+        ),
+        _ => text(
+            alloc,
+            UUID,
+            1,
+            ('b', 6),
+            None,
+            file(alloc, 1 << 62, 0, 1)?.as_str(),
+        ),
     }
-}
-
-/// The first document of a data partition, with a file whose extent has this block, byte and count.
-fn first(alloc: Global, extent: (u64, u64, u64)) -> Result<String, NoMemory> {
-    let (block, byte, count) = extent;
-    let file = file(alloc, block, byte, count)?;
-    text(alloc, UUID, 1, ('b', 6), None, file.as_str())
-}
-
-/// The same on the index partition.
-fn second(alloc: Global, extent: (u64, u64, u64)) -> Result<String, NoMemory> {
-    let (block, byte, count) = extent;
-    let file = file(alloc, block, byte, count)?;
-    text(alloc, UUID, 1, ('a', 5), Some(6), file.as_str())
 }
 
 /// An item by its letter: `v` is the VOL1 record, `a` and `b` are the labels, `m` is a mark, `t` a Torn, `d` and `h` blocks of

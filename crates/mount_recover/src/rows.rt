@@ -176,56 +176,96 @@ fn found(
     }
 }
 
-const BOTH: (bool, bool, bool) = (true, true, true);
-
-/// A cartridge with nothing but the first index mounts by the one on the data partition.
-fn mounts_first<R: Abort>(
-    rt: &R,
-    alloc: Global,
-    ip: &[u8],
-    dp: &[u8],
-    ends: (u64, u64),
-    flags: (bool, bool, bool),
-) -> Result<(), NoMemory>
-    requires ip { length ip.now ≤ 1000 }
-    requires dp { length dp.now ≤ 1000 }
-{
-    let row = found(Part::Dp, 5, 1, ends, Some(5), flags);
-    mounts(rt, alloc, ip, dp, row)
-}
-
 #[test]
 fn cartridges_mount(rt: HostRuntime) -> Result<(), NoMemory> {
     let alloc = rt.alloc();
-    let (v, p) = (b"vmammqm", b"vmbmmpm");
-    mounts_first(&rt, alloc, v, p, (4, 7), BOTH)?;
-    mounts_first(&rt, alloc, v, b"vmbmmpmkm", (4, 7), (true, false, true))?;
-    mounts_first(&rt, alloc, v, b"vmbmmpmt", (4, 7), (true, false, true))?;
-    mounts_first(&rt, alloc, b"vmammqmt", p, (4, 7), (true, true, false))?;
-    mounts_first(&rt, alloc, b"vmammqmd", p, (8, 7), (true, true, false))?;
-    mounts_first(&rt, alloc, b"vmam", p, (4, 7), (true, true, false))?;
-    let chosen_ip = found(Part::Ip, 5, 2, (4, 7), Some(5), (false, false, true));
-    mounts(&rt, alloc, b"vmammim", p, chosen_ip)
-}
-
-#[test]
-fn cartridges_with_files_mount(rt: HostRuntime) -> Result<(), NoMemory> {
-    let alloc = rt.alloc();
-    let row = found(Part::Dp, 6, 1, (4, 8), Some(6), BOTH);
-    mounts(&rt, alloc, b"vmammlm", b"vmbmdmom", row)?;
-    mounts(&rt, alloc, b"vmamm1m", b"vmbmdm0m", row)?;
-    mounts(&rt, alloc, b"vmamm3m", b"vmbmdm2m", row)
-}
-
-#[test]
-fn cartridges_with_a_second_index_mount(rt: HostRuntime) -> Result<(), NoMemory> {
-    let alloc = rt.alloc();
-    let newer = (true, true, false);
-    let dp = b"vmbmmpmmnm";
-    let one = found(Part::Dp, 8, 2, (5, 10), Some(8), newer);
-    mounts(&rt, alloc, b"vmamdmt", dp, one)?;
-    let other = found(Part::Dp, 8, 2, (4, 10), Some(8), newer);
-    mounts(&rt, alloc, b"vmammqm", dp, other)
+    let v = b"vmammqm";
+    let both = (true, true, true);
+    mounts(
+        &rt,
+        alloc,
+        v,
+        b"vmbmmpm",
+        found(Part::Dp, 5, 1, (4, 7), Some(5), both),
+    )?;
+    mounts(
+        &rt,
+        alloc,
+        v,
+        b"vmbmmpmkm",
+        found(Part::Dp, 5, 1, (4, 7), Some(5), (true, false, true)),
+    )?;
+    mounts(
+        &rt,
+        alloc,
+        v,
+        b"vmbmmpmt",
+        found(Part::Dp, 5, 1, (4, 7), Some(5), (true, false, true)),
+    )?;
+    mounts(
+        &rt,
+        alloc,
+        b"vmamdmt",
+        b"vmbmmpmmnm",
+        found(Part::Dp, 8, 2, (5, 10), Some(8), (true, true, false)),
+    )?;
+    mounts(
+        &rt,
+        alloc,
+        v,
+        b"vmbmmpmmnm",
+        found(Part::Dp, 8, 2, (4, 10), Some(8), (true, true, false)),
+    )?;
+    mounts(
+        &rt,
+        alloc,
+        b"vmammlm",
+        b"vmbmdmom",
+        found(Part::Dp, 6, 1, (4, 8), Some(6), both),
+    )?;
+    mounts(
+        &rt,
+        alloc,
+        b"vmamm1m",
+        b"vmbmdm0m",
+        found(Part::Dp, 6, 1, (4, 8), Some(6), both),
+    )?;
+    mounts(
+        &rt,
+        alloc,
+        b"vmamm3m",
+        b"vmbmdm2m",
+        found(Part::Dp, 6, 1, (4, 8), Some(6), both),
+    )?;
+    mounts(
+        &rt,
+        alloc,
+        b"vmammim",
+        b"vmbmmpm",
+        found(Part::Ip, 5, 2, (4, 7), Some(5), (false, false, true)),
+    )?;
+    mounts(
+        &rt,
+        alloc,
+        b"vmammqmt",
+        b"vmbmmpm",
+        found(Part::Dp, 5, 1, (4, 7), Some(5), (true, true, false)),
+    )?;
+    mounts(
+        &rt,
+        alloc,
+        b"vmammqmd",
+        b"vmbmmpm",
+        found(Part::Dp, 5, 1, (8, 7), Some(5), (true, true, false)),
+    )?;
+    mounts(
+        &rt,
+        alloc,
+        b"vmam",
+        b"vmbmmpm",
+        found(Part::Dp, 5, 1, (4, 7), Some(5), (true, true, false)),
+    )?;
+    Ok(())
 }
 
 #[test]
