@@ -1,5 +1,5 @@
 -- A history goes on: what is kept stays.
-use Rattle.std.proofs.Common.{◌≡◌, ◌≢◌, ◌⊎◌, ⊎_elim, inl, inr, ℕ, ◌+◌, ◌-◌, ◌^◌, ◌<◌, ◌≤◌, ◌++◌, false, List, [], ◌∷◌, length, Option, None, refl, sym, ap, subst, ◌∙◌, arith}
+use Rattle.std.proofs.Common.{◌≡◌, ◌≢◌, ◌⊎◌, ⊎_elim, inl, inr, true, true≢false, ℕ, ◌+◌, ◌-◌, ◌^◌, ◌<◌, ◌≤◌, ◌++◌, false, List, [], ◌∷◌, length, Option, None, refl, sym, ap, subst, ◌∙◌, arith}
 use Rattle.std.specs.List.{AllByRecursion}
 use Rattle.std.proofs.lemmas.Bool.{cases_lt}
 use Rattle.plain_tree.specs.Tree.{Tree}
@@ -147,3 +147,19 @@ module _ (v : Volume) (old new : Trees) (more : GoesOn old new) where
       ∙ still old.count (omega arith) more.longer)
       (λ (later : old.count ≤ j). still j later high)
       (cases_lt j old.count)
+
+  -- a call that changes the tree
+  pub planned_changed : (s : Made) (space : Space) → IsPlanned old s space → IsPlanned new s (record space { changed = true })
+  planned_changed s space h = record {
+    end_ip = h.end_ip;
+    end_dp = h.end_dp;
+    newest_is = h.newest_is;
+    last_dp = h.last_dp;
+    indexed = h.indexed;
+    flushed = h.flushed;
+    covered = λ unchanged. absurd (true≢false unchanged);
+    ended = λ unchanged. absurd (true≢false unchanged);
+    ready_ip = h.ready_ip;
+    no_index = h.no_index;
+    ready_dp = h.ready_dp;
+  }

@@ -4,6 +4,7 @@ use Rattle.tape_types.specs.declared.cartridges.Cartridge.{Cartridge}
 use Rattle.index_model.specs.declared.indexes.Index.{Index}
 use Rattle.tape_drive.specs.declared.drive.Drive.{Ghosts}
 use Rattle.crash_theory.specs.Kept.{Moment, Serves}
+use Rattle.crash_theory.specs.Made.{after}
 use Rattle.crash_theory.specs.Laws.{AdmissionsKeep, ClosesLeave, HistoriesGoOn, ImagesAreFine, KeptGives, StartsAreKept, State, StepsKeep, SyncsAreHeld, next_wait}
 use Rattle.crash_theory.specs.Moments.{moment_of}
 use Rattle.crash_theory.specs.Starts.{begun_with, made_of}
@@ -13,7 +14,7 @@ use Rattle.crash_theory.proofs.Data.{admitted_data}
 use Rattle.crash_theory.proofs.Events.{kept_done, kept_failed, kept_read}
 use Rattle.crash_theory.proofs.Fines.{fine, fine_same, weaker}
 use Rattle.crash_theory.proofs.Gives.{acked_fine, history_stands, next_reached, now_fine}
-use Rattle.crash_theory.proofs.Growth.{fine_on, kept_on}
+use Rattle.crash_theory.proofs.Growth.{fine_on, kept_on, planned_changed, planned_on, still_covered}
 use Rattle.crash_theory.proofs.Indexes.{admitted_index, index_served, index_settled}
 use Rattle.crash_theory.proofs.Noted.{kept_noted, noted_sure}
 use Rattle.crash_theory.proofs.Starts.{begins_to_serve, has_last}
@@ -73,6 +74,15 @@ module _ {D : Type 0} (drive : Ghosts D) where
   pub histories_go_on : HistoriesGoOn drive
   histories_go_on = record {
     kept = λ x trees d c more kept. kept_on x.volume x.trees trees more x.made x.since (moment_of drive d c) x.done x.jobs x.waits x.acks kept;
+    still = λ x space trees d c more same serving. record {
+      kept = kept_on x.volume x.trees trees more x.made x.since (moment_of drive d c) x.done x.jobs x.waits x.acks serving.kept;
+      planned = planned_on x.volume x.trees trees more (after x.made x.jobs) space serving.planned
+          (still_covered x.volume x.trees trees more (after x.made x.jobs) space serving.planned same);
+    };
+    changed = λ x space trees d c more serving. record {
+      kept = kept_on x.volume x.trees trees more x.made x.since (moment_of drive d c) x.done x.jobs x.waits x.acks serving.kept;
+      planned = planned_changed x.volume x.trees trees more (after x.made x.jobs) space serving.planned;
+    };
   }
 
   pub kept_gives : KeptGives drive

@@ -3,13 +3,13 @@ use Rattle.std.specs.Prelude.{ℕ, ◌≡◌, List, [], ◌∷◌, ◌++◌, Opt
 use Rattle.tape_types.specs.declared.cartridges.Item.TheVariants.{Mark, Torn}
 use Rattle.index_model.specs.declared.indexes.Index.{Index}
 use Rattle.tape_content.specs.Content.{content}
-use Rattle.tape_content.specs.Ends.{end_ip}
+use Rattle.tape_content.specs.Ends.{end_dp, end_ip}
 use Rattle.tape_content.specs.Worked.{block, first_index, labels, second_index, synced_dp}
 use Rattle.tape_layout.specs.declared.ops.Op.TheVariants as ops
 use Rattle.tape_meaning.specs.Pointers.{indexes_of}
 use Rattle.crash_theory.specs.Images.{IsNext}
 use Rattle.crash_theory.specs.Made.{Entry, Made, after}
-use Rattle.crash_theory.specs.Worked.{covered, entry, mounted, on_dp, on_ip, put_on_ip, so_far, write_and_sync}
+use Rattle.crash_theory.specs.Worked.{covered, entry, mounted, on_dp, on_ip, put_on_ip, so_far, write_again, write_and_sync}
 
 -- which indexes an image of the data partition has: up to the last mark the first alone, torn or not
 pub record TellsImages (s : Made) (second : Entry) : Type 0 where
@@ -28,6 +28,21 @@ pub record TellsCovered (s : Made) (first second : Entry) : Type 0 where
   pub whole : covered s (write_and_sync second) 4 ≡ first.place
   pub flushed : covered s (write_and_sync second) 5 ≡ second.place
   pub last : (so_far s (write_and_sync second) 4).last ≡ second
+
+-- after a sync each image has its index, and covers what it covers, until the next index is whole, and is flushed
+pub record TellsLater (s : Made) (second third : Entry) : Type 0 where
+  pub in_data : indexes_of (so_far s (write_again second third) 6).dp ≡ second_index ∷ first_index ∷ []
+  pub torn : indexes_of ((so_far s (write_again second third) 6).dp ++ Torn ∷ []) ≡ second_index ∷ first_index ∷ []
+  pub in_index : indexes_of (so_far s (write_again second third) 8).dp ≡ second_index ∷ first_index ∷ []
+  pub whole : indexes_of (so_far s (write_again second third) 9).dp
+      ≡ record { mark = 12; blocks = (7 ∷ []) ∷ [] } ∷ second_index ∷ first_index ∷ []
+  pub covered_before : covered s (write_again second third) 9 ≡ second.place
+  pub covered_then : covered s (write_again second third) 10 ≡ third.place
+
+-- a block of data that looks like an index is none: the mark behind it opens one
+pub record TellsRoles (s : Made) : Type 0 where
+  pub like_an_index : indexes_of (s.dp ++ block 3 ∷ Mark ∷ []) ≡ first_index ∷ []
+  pub end : end_dp (indexes_of (s.dp ++ block 3 ∷ Mark ∷ [])) ≡ 7
 
 -- which ops may come next: those at the ends, and on the index partition only where no index there is ahead
 pub record TellsNext (on off : Made) : Type 0 where

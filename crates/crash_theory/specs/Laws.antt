@@ -1,5 +1,5 @@
 -- What is kept over each event of a volume that is served, over any drive that tells its cartridge.
-use Rattle.std.specs.Prelude.{ℕ, ◌+◌, ◌-◌, ◌^◌, ◌≤◌, ◌<◌, ◌≡◌, ◌⊎◌, false, List, [], ◌∷◌, ◌++◌, length, Option, Some, None}
+use Rattle.std.specs.Prelude.{ℕ, ◌+◌, ◌-◌, ◌^◌, ◌≤◌, ◌<◌, ◌≡◌, ◌⊎◌, true, false, List, [], ◌∷◌, ◌++◌, length, Option, Some, None}
 use Rattle.tape_types.specs.declared.cartridges.Cartridge.{Cartridge}
 use Rattle.tape_types.specs.declared.cartridges.Note.{Note}
 use Rattle.tape_types.specs.declared.cartridges.Part.{Part}
@@ -154,6 +154,12 @@ pub record SyncsAreHeld {D : Type 0} (drive : Ghosts D) : Type 0 where
 pub record HistoriesGoOn {D : Type 0} (drive : Ghosts D) : Type 0 where
   pub kept : (x : State) (trees : Trees) (d : D) (c : Cartridge) → GoesOn x.trees trees
       → IsKept drive x d c → IsKept drive (with_trees trees x) d c
+  -- where the last placements leave the tree as it was, nothing is owed; else the space says that it changed
+  pub still : (x : State) (space : Space) (trees : Trees) (d : D) (c : Cartridge) → GoesOn x.trees trees
+      → ((j : ℕ) → x.trees.count ≤ j → j ≤ trees.count → trees.nth j ≡ trees.nth trees.count)
+      → IsServing drive x space d c → IsServing drive (with_trees trees x) space d c
+  pub changed : (x : State) (space : Space) (trees : Trees) (d : D) (c : Cartridge) → GoesOn x.trees trees
+      → IsServing drive x space d c → IsServing drive (with_trees trees x) (record space { changed = true }) d c
 
 -- Once all jobs of a close are done, and the partitions end where they were made to, the cartridge stands for the
 -- tree of the whole history, is consistent, tells the same on both partitions, and with its notes is coherent.

@@ -38,6 +38,17 @@ write_and_sync second =
     ∷ plain (ops.Flush (on_dp 11))
     ∷ []
 
+-- once that is done, another block, and another index
+abbrev pub write_again : Entry → Entry → List Job
+write_again second third =
+    write_and_sync second
+    ++ plain (ops.Put (on_dp 11) (6 ∷ []))
+    ∷ plain (ops.Mark (on_dp 12))
+    ∷ plain (ops.Put (on_dp 13) (7 ∷ []))
+    ∷ record { op = ops.Mark (on_dp 14); whole = Some third }
+    ∷ plain (ops.Flush (on_dp 15))
+    ∷ []
+
 -- the same, where the block goes to the index partition and is flushed there first
 abbrev pub put_on_ip : List Job
 put_on_ip = plain (ops.Put (on_ip 4) (6 ∷ [])) ∷ plain (ops.Flush (on_ip 5)) ∷ []

@@ -2,7 +2,7 @@
 
 ghost use Rattle.std.specs.Prelude.{Some, None};
 ghost use Rattle.index_model.specs.declared.indexes.Index.{Index};
-ghost use Rattle.crash_theory.specs.Examples.{TellsAhead, TellsCovered, TellsImages, TellsIp, TellsNext};
+ghost use Rattle.crash_theory.specs.Examples.{TellsAhead, TellsCovered, TellsImages, TellsIp, TellsLater, TellsNext, TellsRoles};
 ghost use Rattle.crash_theory.specs.JobExamples.{TellsClose, TellsJobs};
 ghost use Rattle.crash_theory.specs.Made.{Entry};
 ghost use Rattle.crash_theory.specs.Worked.{entry, mounted};
@@ -11,6 +11,8 @@ ghost use Rattle.crash_theory.specs.Worked.{entry, mounted};
 pub fn the_definitions_tell_a_sync()
     ensures images { (first second : Entry) → TellsImages (mounted first None) second }
     ensures covered { (first second : Entry) → TellsCovered (mounted first None) first second }
+    ensures later { (first second third : Entry) → TellsLater (mounted first None) second third }
+    ensures roles { (first : Entry) → TellsRoles (mounted first None) }
 {}
 
 /// Which ops may come next, what is flushed of the index partition, and when its index stays ahead.
