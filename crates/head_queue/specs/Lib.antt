@@ -1,0 +1,10 @@
+pub mod Waiting
+pub mod Keys
+pub mod Links
+pub mod Cuts
+pub mod Rings
+pub mod Orders
+pub mod Entries
+pub mod Ranks
+pub mod Kept
+pub mod Newest
