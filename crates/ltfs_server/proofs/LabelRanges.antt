@@ -1,6 +1,6 @@
 -- The label of a volume tells a size of its blocks that is in the range of sizes.
-use Rattle.std.proofs.Common.{◌≡◌, ◌∙◌, ℕ, ◌≤◌, Bool, true, false, cond, ◌==◌, ◌||◌, ◌&&◌, List, [], ◌∷◌, ◌++◌, Option, Some, None, Result, Ok, Err, refl, sym, ap, subst, arith, ◌⊎◌, inl, inr}
-use Rattle.std.specs.Prelude.{nat_le}
+use Rattle.std.proofs.Common.{◌≡◌, ◌∙◌, ℕ, ◌≤◌, Bool, true, false, cond, ◌==◌, List, [], ◌∷◌, ◌++◌, length, Option, Some, None, Result, Ok, Err, refl, sym, ap, subst, arith, ◌⊎◌, inl, inr}
+use Rattle.std.specs.Prelude.{nat_lt}
 use Rattle.std.proofs.lemmas.Bool.Decides.{nat_tests}
 use Rattle.doc_fields.specs.declared.tags.Tag.{Tag}
 use Rattle.doc_fields.specs.declared.tags.Tag.TheVariants.{Creator, FormatTime, VolumeUuid, Location, Partition, Partitions, IndexLetter, DataLetter, BlockSize, Compression}
@@ -9,46 +9,55 @@ use Rattle.doc_fields.specs.Space.{space_end}
 use Rattle.doc_fields.specs.Numbers.{number_at}
 use Rattle.doc_fields.specs.EndTag.{end_at}
 use Rattle.doc_children.specs.Children.{code, first_missing, member}
-use Rattle.ltfs_label.specs.declared.schema.Place.{Place}
-use Rattle.ltfs_label.specs.declared.schema.Place.TheVariants as place
-use Rattle.ltfs_label.specs.declared.schema.Form.{Form}
-use Rattle.ltfs_label.specs.declared.schema.Form.TheVariants as form
-use Rattle.ltfs_label.specs.declared.schema.Child.TheVariants as child
-use Rattle.ltfs_label.specs.declared.errors.LabelErr.{LabelErr}
-use Rattle.ltfs_label.specs.Schema.{required, rule, tag_of}
-use Rattle.ltfs_label.specs.Values.{LabelValue, Val, blank, letter, set_leaf, size, time, truth, uuid, words}
-use Rattle.ltfs_label.specs.Pieces.{Piece, closes, in_block_range, leaf, leaf_at, lift, in_range, size_fault, value_at}
+use Rattle.doc_elements.specs.declared.errors.PieceErr.{PieceErr}
+use Rattle.doc_elements.specs.declared.errors.PieceErr.TheVariants as errors
+use Rattle.doc_elements.specs.declared.schema.Place.{Place}
+use Rattle.doc_elements.specs.declared.schema.Place.TheVariants as place
+use Rattle.doc_elements.specs.declared.schema.Form.{Form}
+use Rattle.doc_elements.specs.declared.schema.Form.TheVariants as form
+use Rattle.doc_elements.specs.declared.schema.Child.TheVariants as child
+use Rattle.doc_elements.specs.Schema.{required, rule, tag_of}
+use Rattle.doc_elements.specs.Pieces.{Piece, Val, ◌>>=◌, closes, in_range, leaf, leaf_at, letter, lift, number, number_in, time, truth, uuid, value_in, words}
+use Rattle.doc_elements.specs.Elements.{AllSpelled, Item, Items, Spelled, all_pieces, bare, item, item_tag, nested, no_items, pieces_of, plain}
+use Rattle.doc_elements.proofs.Inversion.{bind_ok, unless_ok}
+use Rattle.ltfs_label.specs.Values.{LabelValue, blank, set_leaf}
 use Rattle.ltfs_label.specs.Reading.{set, value_from}
-use Rattle.ltfs_label.specs.Grammar.{AllSpelled, Item, Items, LabelText, Spelled, all_pieces, bare, item, item_tag, nested, no_items, pieces_of, plain}
-use Rattle.ltfs_label.proofs.Inversion.{bind_ok, guard_ok}
+use Rattle.ltfs_label.specs.Grammar.{LabelText}
 
-either : {A : Type 0} (b : Bool) (x y : Result A LabelErr) (z : A) → cond b x y ≡ Ok z → (x ≡ Ok z) ⊎ (y ≡ Ok z)
+either : {A : Type 0} (b : Bool) (x y : Result A PieceErr) (z : A) → cond b x y ≡ Ok z → (x ≡ Ok z) ⊎ (y ≡ Ok z)
 either true x y z e = inl e
 either false x y z e = inr e
 
-same : {A : Type 0} (x y : A) → Path (Result A LabelErr) (Ok x) (Ok y) → x ≡ y
+same : {A : Type 0} (x y : A) → Path (Result A PieceErr) (Ok x) (Ok y) → x ≡ y
 same x y e = cc
 
--- a size that was read is in the range
-sized : (text : List ℕ) (from : ℕ) (v : Val × ℕ) → value_at form.Size text from ≡ Ok v → (n : ℕ) × (v.0 ≡ size n) × (in_block_range n ≡ true)
-sized text from v is =
-    let number = bind_ok (lift (number_at text (space_end text from))) _ v is in
-    let ranged = bind_ok (in_range text (space_end text from) number.0) _ v number.2 in
-    let good = guard_ok (in_block_range number.0.0) (size_fault text (space_end text from) number.0) number.0 ranged.0 ranged.1 in (
-      ranged.0.0,
-      ap (λ (w : Val × ℕ). w.0) (sym (same (size ranged.0.0, space_end text ranged.0.1) v ranged.2)),
-      subst (λ (m : ℕ × ℕ). in_block_range m.0 ≡ true) good.1 good.0,
-    )
+abbrev IsSize : ℕ → Type 0
+IsSize n = (nat_lt 1048576 n ≡ false) × (nat_lt n 4096 ≡ false)
 
-size_read : (tag : Tag) (start : Start) (text : List ℕ) (x : Val) (next : ℕ) → leaf_at form.Size tag start text ≡ Ok (x, next)
-    → (n : ℕ) × (x ≡ size n) × (in_block_range n ≡ true)
+ranged : (text : List ℕ) (from : ℕ) (n m : ℕ × ℕ) → in_range form.BlockSize text from n ≡ Ok m → IsSize m.0
+ranged text from n m e =
+    let least : PieceErr = cond (n.1 == length text) (errors.Syntax (length text)) (errors.Number from) in
+    let a = unless_ok (nat_lt 1048576 n.0) (errors.Number from) (cond (nat_lt n.0 4096) (Err least) (Ok n)) m e in
+    let b = unless_ok (nat_lt n.0 4096) least (Ok n) m a.1 in
+    subst (λ (x : ℕ × ℕ). IsSize x.0) (same n m b.1) (a.0, b.0)
+
+-- a size that was read is in the range
+sized : (text : List ℕ) (at : ℕ) (v : Val × ℕ) → number_in form.BlockSize text at ≡ Ok v → (n : ℕ) × (v.0 ≡ number n) × IsSize n
+unfolding number_in
+sized text at v e =
+    let a = bind_ok (lift (number_at text at)) (λ n. in_range form.BlockSize text at n >>= λ m. Ok (number m.0, space_end text m.1)) v e in
+    let b = bind_ok (in_range form.BlockSize text at a.0) (λ m. Ok (number m.0, space_end text m.1)) v a.2 in
+    (b.0.0, ap (λ (w : Val × ℕ). w.0) (sym (same (number b.0.0, space_end text b.0.1) v b.2)), ranged text at a.0 b.0 b.1)
+
+size_read : (tag : Tag) (from : ℕ) (start : Start) (text : List ℕ) (x : Val) (next : ℕ) → leaf_at form.BlockSize tag from start text ≡ Ok (x, next)
+    → (n : ℕ) × (x ≡ number n) × IsSize n
 unfolding leaf_at
-size_read tag start text x next read = elim (either start.empty _ _ (x, next) read) [
+size_read tag from start text x next read = elim (either start.empty _ _ (x, next) read) [
   | inl none ↦ absurd (cc none)
   | inr there ↦
-      let value = bind_ok (value_at form.Size text start.next) _ (x, next) there in
+      let value = bind_ok (value_in form.BlockSize from start text) _ (x, next) there in
       let end = bind_ok (lift (end_at text value.0.1 tag)) _ (x, next) value.2 in
-      let found = sized text start.next value.0 value.1 in
+      let found = sized text (space_end text start.next) value.0 value.1 in
       (found.0, ap (λ (w : Val × ℕ). w.0) (sym (same (value.0.0, end.0) (x, next) end.2)) ∙ found.1, found.2)
 ]
 
@@ -72,28 +81,28 @@ stays Compression x v e = refl
 stays tag x v e = refl
 
 -- the element of a size is a leaf of a label
-is_size : (p : Place) (tag : Tag) (f : Form) → rule p tag ≡ child.Leaf f → (code tag == 11) ≡ true → (tag ≡ BlockSize) × (f ≡ form.Size)
+is_size : (p : Place) (tag : Tag) (f : Form) → rule p tag ≡ child.Leaf f → (code tag == 11) ≡ true → (tag ≡ BlockSize) × (f ≡ form.BlockSize)
 is_size place.Label BlockSize f ruled is = (refl, cc ruled)
-is_size place.Location BlockSize f ruled is = absurd (cc ruled)
-is_size place.Partitions BlockSize f ruled is = absurd (cc ruled)
+is_size place.Own BlockSize f ruled is = absurd (cc ruled)
+is_size p BlockSize f ruled is = absurd (cc ruled)
 is_size p tag f ruled is = absurd (cc is)
 
 abbrev IsRanged : LabelValue → Type 0
-IsRanged v = in_block_range v.block ≡ true
+IsRanged v = IsSize v.block
 
-tells : (text : List ℕ) (p : Place) (tag : Tag) (f : Form) (start : Start) (x : Val) (next : ℕ) (v : LabelValue) → rule p tag ≡ child.Leaf f → leaf_at f tag start text ≡ Ok (x, next)
+tells : (text : List ℕ) (p : Place) (tag : Tag) (f : Form) (from : ℕ) (start : Start) (x : Val) (next : ℕ) (v : LabelValue) → rule p tag ≡ child.Leaf f → leaf_at f tag from start text ≡ Ok (x, next)
     → (code tag == 11) ≡ true → IsRanged (set_leaf tag x v)
-tells text p tag f start x next v ruled read is =
+tells text p tag f from start x next v ruled read is =
     let same = is_size p tag f ruled is in
-    let found = size_read tag start text x next (subst (λ (g : Form). leaf_at g tag start text ≡ Ok (x, next)) same.1 read) in
+    let found = size_read tag from start text x next (subst (λ (g : Form). leaf_at g tag from start text ≡ Ok (x, next)) same.1 read) in
     subst (λ (t : Tag). IsRanged (set_leaf t x v)) (sym same.0)
     (subst (λ (y : Val). IsRanged (set_leaf BlockSize y v)) (sym found.1) found.2)
 
-leaf_keeps : (text : List ℕ) (p : Place) (tag : Tag) (f : Form) (start : Start) (x : Val) (next : ℕ) (v : LabelValue) → rule p tag ≡ child.Leaf f → leaf_at f tag start text ≡ Ok (x, next)
+leaf_keeps : (text : List ℕ) (p : Place) (tag : Tag) (f : Form) (from : ℕ) (start : Start) (x : Val) (next : ℕ) (v : LabelValue) → rule p tag ≡ child.Leaf f → leaf_at f tag from start text ≡ Ok (x, next)
     → IsRanged v → IsRanged (set_leaf tag x v)
-leaf_keeps text p tag f start x next v ruled read good = elim (code tag == 11) as (λ b. (code tag == 11) ≡ b → IsRanged (set_leaf tag x v)) [
-  | true ↦ λ is. tells text p tag f start x next v ruled read is
-  | false ↦ λ is. subst (λ n. in_block_range n ≡ true) (sym (stays tag x v is)) good
+leaf_keeps text p tag f from start x next v ruled read good = elim (code tag == 11) as (λ b. (code tag == 11) ≡ b → IsRanged (set_leaf tag x v)) [
+  | true ↦ λ is. tells text p tag f from start x next v ruled read is
+  | false ↦ λ is. subst IsSize (sym (stays tag x v is)) good
 ] refl
 
 joined : (v : LabelValue) (ps qs : List Piece) → value_from v (ps ++ qs) ≡ value_from (value_from v ps) qs
@@ -103,7 +112,7 @@ joined v (p ∷ ps) qs = joined (set p v) ps qs
 -- a size in the range stays in it
 mutual
   one_keeps : (text : List ℕ) (p : Place) (at : ℕ) (i : Item) (next : ℕ) (v : LabelValue) → Spelled text p at i next → IsRanged v → IsRanged (value_from v (pieces_of i))
-  one_keeps text p at (plain tag x) next v (f, start, starts, read) good = leaf_keeps text p tag f start x next v starts.child read good
+  one_keeps text p at (plain tag x) next v (f, start, starts, read) good = leaf_keeps text p tag f at start x next v starts.child read good
   one_keeps text p at (bare q) next v spelled good = good
   one_keeps text p at (nested q is) next v (start, starts, unclosed, end, children, ended) good =
       subst IsRanged (sym (joined v (all_pieces is) (closes ∷ []))) (all_keep text q [] start.next is end v children good)
@@ -145,7 +154,7 @@ has_size text seen at (item i is) end v (new, next, one, more) without =
     ] refl
   where
     this : (i : Item) → Spelled text place.Label (space_end text at) i next → (code (item_tag i) == 11) ≡ true → IsRanged (value_from v (pieces_of i))
-    this (plain tag x) (f, start, starts, read) same = tells text place.Label tag f start x next v starts.child read same
+    this (plain tag x) (f, start, starts, read) same = tells text place.Label tag f (space_end text at) start x next v starts.child read same
     this (bare place.Label) spelled same = absurd (cc same)
     this (bare q) spelled same = absurd (cc same)
     this (nested place.Label is) spelled same = absurd (cc same)
@@ -156,10 +165,8 @@ has_size text seen at (item i is) end v (new, next, one, more) without =
 
 pub block_in_range : (text : List ℕ) (v : LabelValue) → LabelText text v → (4096 ≤ v.block) × (v.block ≤ 1048576)
 block_in_range text v label =
-    let good : IsRanged v = subst IsRanged (sym label.value) (has_size text [] label.inside label.items label.end blank label.children refl) in
-    let both = both_true (nat_le 4096 v.block) (nat_le v.block 1048576) good in
-    (grind (arith, nat_tests, both.0), grind (arith, nat_tests, both.1))
-  where
-    both_true : (x y : Bool) → (x && y) ≡ true → (x ≡ true) × (y ≡ true)
-    both_true true y e = (refl, e)
-    both_true false y e = absurd (cc e)
+    let good : IsRanged v = subst IsRanged (sym label.value)
+      (has_size text [] label.spelled.inside label.items label.spelled.end blank label.spelled.children refl) in (
+      grind (arith, nat_tests, good.1),
+      grind (arith, nat_tests, good.0),
+    )
