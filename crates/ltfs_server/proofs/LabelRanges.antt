@@ -166,7 +166,7 @@ has_size text seen at (item i is) end v (new, next, one, more) without =
 pub block_in_range : (text : List ℕ) (v : LabelValue) → LabelText text v → (4096 ≤ v.block) × (v.block ≤ 1048576)
 block_in_range text v label =
     let good : IsRanged v = subst IsRanged (sym label.value)
-      (has_size text [] label.spelled.inside label.items label.spelled.end blank label.spelled.children refl) in (
+    (has_size text [] label.spelled.inside label.items label.spelled.end blank label.spelled.children refl) in (
       grind (arith, nat_tests, good.1),
       grind (arith, nat_tests, good.0),
     )
