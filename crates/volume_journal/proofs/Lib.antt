@@ -1,0 +1,2 @@
+mod TrailLemmas
+mod PlacementLemmas

@@ -1,0 +1,15 @@
+use Rattle.std.proofs.Common.{arith, ◌≡◌, true, Some, None, sym, subst}
+use Rattle.head_trail.specs.Waiting.{waiting_op}
+use Rattle.head_trail.specs.Trail.{after_all, allows}
+use Rattle.session_script.specs.declared.logs.Event.TheVariants as events
+use Rattle.volume_journal.specs.Trails.{Journaled, state}
+use Rattle.volume_journal.proofs.trails.Trail.worked.Goals as goal
+use Rattle.volume_journal.proofs.TrailLemmas.{worked_tracked}
+
+pub invariant_of-self : goal.invariant_of-self
+invariant_of-self c =
+    let op : waiting_op (after_all c.self.inside.events.items) ≡ Some (record { place = c.args.place; flush = c.args.flush }) =
+    subst (λ (j : Journaled). waiting_op (state j) ≡ Some (record { place = c.args.place; flush = c.args.flush })) (sym c.self.view_is) c.requires.op in
+    let may : allows (after_all c.self.inside.events.items) (events.Worked c.args.place None) ≡ true =
+    subst (λ (j : Journaled). allows (state j) (events.Worked c.args.place None) ≡ true) (sym c.self.view_is) c.requires.allowed in
+    worked_tracked _ _ _ _ _ _ _ _ _ _ _ _ (record { place = c.args.place; flush = c.args.flush }) c.self.invariant op may c.push.ensures.items c.head_behind-self-inside.ensures (omega (arith, c.push.ensures.len, c.push.ensures.capacity))
