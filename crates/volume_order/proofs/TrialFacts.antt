@@ -25,8 +25,7 @@ use Rattle.volume_model.specs.Trials.{ack, done, fault, placed, synced, write}
 use Rattle.volume_model.specs.Turning.{after_flush, before_flush, draining_view, drive_at, faulted, handed_marks}
 use Rattle.volume_model.specs.declared.answers.Drained.TheVariants as drained
 use Rattle.volume_model.specs.declared.answers.Submitted.TheVariants as submitted
-use Rattle.volume_order.specs.Kept.{IsKeptOrder}
-use Rattle.volume_order.specs.Rows.{at_once, fails, flushed, served, session_drains, smaller, sync_stands, telling, to_flush, with_acks, with_events, with_history, with_marks, with_ops, with_replies, without_reply}
+use Rattle.volume_order.specs.Rows.{IsKept, IsOrdered, at_once, fails, flushed, served, session_drains, smaller, sync_stands, telling, to_flush, with_acks, with_events, with_history, with_marks, with_ops, with_replies, without_reply}
 use Rattle.volume_order.specs.Sides.{HasOneMoment, IsAnswered, IsReplied, KeepsNone, MayFollow, MovesOn, TurnsInOrder}
 
 some_same : {X : Type 0} (x y : X) → Some x ≡ Some y → x ≡ y
@@ -175,7 +174,7 @@ unfolding kinds_of_two
 two_go_on true = refl
 two_go_on false = refl
 
-pub served_is : (at : Moment) → IsKeptOrder (drive_at 30 None) (drive_at 30 None) (served at)
+pub served_is : (at : Moment) → IsKept (served at)
 unfolding kinds_of_two
 served_is at = record {
   orderly = record {
@@ -214,55 +213,55 @@ abbrev first_number : List ℕ → ℕ
 first_number [] = 0
 first_number (n ∷ later) = n
 
-pub later_number_isnt : (at : Moment) → ¬ IsOrderly (drive_at 30 None) (drive_at 30 None) (with_history (placed at 1 1 fates.Done ∷ []) (served at))
+pub later_number_isnt : (at : Moment) → ¬ IsOrdered (with_history (placed at 1 1 fates.Done ∷ []) (served at))
 later_number_isnt at o = let one : ◌≡◌ {A = ℕ} 1 0 = ap first_number (o.placed.in_order 1) in absurd (omega (arith, one))
 
-pub call_too_many_isnt : (at : Moment) → ¬ IsOrderly (drive_at 30 None) (drive_at 30 None) (with_history (placed at 1 0 fates.Done ∷ placed at 1 1 fates.Done ∷ []) (served at))
+pub call_too_many_isnt : (at : Moment) → ¬ IsOrdered (with_history (placed at 1 0 fates.Done ∷ placed at 1 1 fates.Done ∷ []) (served at))
 call_too_many_isnt at o = let two : 2 ≤ 1 = o.placed.within 1 in absurd (omega (arith, two))
 
-pub other_moment_isnt : (at other : Moment) → other ≢ at → ¬ IsOrderly (drive_at 30 None) (drive_at 30 None) (with_history (placed other 1 0 fates.Done ∷ []) (served at))
+pub other_moment_isnt : (at other : Moment) → other ≢ at → ¬ IsOrdered (with_history (placed other 1 0 fates.Done ∷ []) (served at))
 other_moment_isnt at other differ o = differ (o.moments 0 (placed other 1 0 fates.Done) (omega arith))
 
-pub rest_alone_isnt : (at : Moment) → ¬ IsOrderly (drive_at 30 None) (drive_at 30 None) (with_events (Rests 1 ∷ []) (served at))
+pub rest_alone_isnt : (at : Moment) → ¬ IsOrdered (with_events (Rests 1 ∷ []) (served at))
 rest_alone_isnt at o = true≢false (sym o.trail)
 
-pub op_left_isnt : (at : Moment) → ¬ IsOrderly (drive_at 30 None) (drive_at 30 None) (with_ops (Flush (dp 7) ∷ []) (served at))
+pub op_left_isnt : (at : Moment) → ¬ IsOrdered (with_ops (Flush (dp 7) ∷ []) (served at))
 op_left_isnt at o = let one : ◌≡◌ {A = ℕ} 1 0 = ap length o.standing in absurd (omega (arith, one))
 
-pub waits_for_nothing_isnt : (at : Moment) → ¬ IsOrderly (drive_at 30 None) (drive_at 30 None) (with_replies (None ∷ []) (served at))
+pub waits_for_nothing_isnt : (at : Moment) → ¬ IsOrdered (with_replies (None ∷ []) (served at))
 waits_for_nothing_isnt at o = true≢false (sym (o.waiting.none_yet 0 refl))
 
-pub answered_early_isnt : (at : Moment) → ¬ IsOrderly (drive_at 30 None) (drive_at 30 None) (with_events (Wants 0 (dp 7) ∷ []) (served at))
+pub answered_early_isnt : (at : Moment) → ¬ IsOrdered (with_events (Wants 0 (dp 7) ∷ []) (served at))
 answered_early_isnt at o = let none : Some (Some done) ≡ Some None = o.waiting.waits 0 refl in cc
 
-pub sync_of_nobody_isnt : (at : Moment) → ¬ IsOrderly (drive_at 30 None) (drive_at 30 None) (with_events (Syncs 0 ∷ Synced 0 ∷ []) (served at))
+pub sync_of_nobody_isnt : (at : Moment) → ¬ IsOrdered (with_events (Syncs 0 ∷ Synced 0 ∷ []) (served at))
 sync_of_nobody_isnt at o = let one : ◌≡◌ {A = ℕ} 1 0 = ap length o.syncs in absurd (omega (arith, one))
 
-pub ack_of_nothing_isnt : (at : Moment) → ¬ IsOrderly (drive_at 30 None) (drive_at 30 None) (with_acks (ack 0 30 ∷ []) (served at))
+pub ack_of_nothing_isnt : (at : Moment) → ¬ IsOrdered (with_acks (ack 0 30 ∷ []) (served at))
 ack_of_nothing_isnt at o = let one : ◌≡◌ {A = ℕ} 1 0 = ap length o.acks.places in absurd (omega (arith, one))
 
-pub untold_ack_isnt : (at : Moment) → ¬ IsOrderly (drive_at 30 None) (drive_at 30 None) (with_replies (Some synced ∷ []) (served at))
+pub untold_ack_isnt : (at : Moment) → ¬ IsOrdered (with_replies (Some synced ∷ []) (served at))
 untold_ack_isnt at o = let one : ◌≡◌ {A = ℕ} 0 1 = ap length o.acks.places in absurd (omega (arith, one))
 
-pub untold_fault_isnt : (at : Moment) → ¬ IsOrderly (drive_at 30 None) (drive_at 30 None) (with_replies (Some (fault 0 1) ∷ []) (served at))
+pub untold_fault_isnt : (at : Moment) → ¬ IsOrdered (with_replies (Some (fault 0 1) ∷ []) (served at))
 untold_fault_isnt at o = let one : ◌≡◌ {A = ℕ} 1 0 = ap length (o.faults.calls 0) in absurd (omega (arith, one))
 
 pub fewer_faults_isnt : (at : Moment) → ¬ IsOrderly (faulted 1 (drive_at 30 None)) (drive_at 30 None) (served at)
 fewer_faults_isnt at o = let less : 1 ≤ 0 = o.faults.rises in absurd (omega (arith, less))
 
-pub mark_missing_isnt : (at : Moment) → ¬ IsOrderly (drive_at 30 None) (drive_at 30 None) (with_marks [] (served at))
+pub mark_missing_isnt : (at : Moment) → ¬ IsOrdered (with_marks [] (served at))
 mark_missing_isnt at o = let one : ◌≡◌ {A = ℕ} 0 1 = ap length (o.marks.places 1) in absurd (omega (arith, one))
 
-pub stranger_isnt : (at : Moment) → ¬ IsOrderly (drive_at 30 None) (drive_at 30 None) (with_marks (mark 1 (places 0) ∷ mark 1 (hands 0 done) ∷ mark 2 rests ∷ []) (served at))
+pub stranger_isnt : (at : Moment) → ¬ IsOrdered (with_marks (mark 1 (places 0) ∷ mark 1 (hands 0 done) ∷ mark 2 rests ∷ []) (served at))
 stranger_isnt at o = let two : 2 ≤ 1 = (o.marks.sessions_are 2 (mark 2 rests) (omega arith)).1 in absurd (omega (arith, two))
 
-pub other_hand_isnt : (at : Moment) → ¬ IsOrderly (drive_at 30 None) (drive_at 30 None) (with_marks (mark 1 (places 0) ∷ mark 1 (hands 0 synced) ∷ []) (served at))
+pub other_hand_isnt : (at : Moment) → ¬ IsOrdered (with_marks (mark 1 (places 0) ∷ mark 1 (hands 0 synced) ∷ []) (served at))
 other_hand_isnt at o = let other : Some (Some done) ≡ Some (Some synced) = o.marks.hands 1 0 synced (0, omega arith, refl) in cc
 
-pub drains_alone_isnt : (at : Moment) → ¬ IsOrderly (drive_at 30 None) (drive_at 30 None) (with_marks (mark 1 (places 0) ∷ mark 1 (hands 0 done) ∷ mark 1 begins ∷ []) (served at))
+pub drains_alone_isnt : (at : Moment) → ¬ IsOrdered (with_marks (mark 1 (places 0) ∷ mark 1 (hands 0 done) ∷ mark 1 begins ∷ []) (served at))
 drains_alone_isnt at o = ⊎_elim (λ now. true≢false (sym now)) (λ one. let none : ◌≡◌ {A = ℕ} 0 1 = one in absurd (omega (arith, none))) (o.marks.drains 1 refl)
 
-pub drain_unmarked_isnt : (at : Moment) → ¬ IsOrderly (drive_at 30 None) (drive_at 30 None) (with_events (queues 7 65 ++ Drains 1 ∷ []) (served at))
+pub drain_unmarked_isnt : (at : Moment) → ¬ IsOrdered (with_events (queues 7 65 ++ Drains 1 ∷ []) (served at))
 drain_unmarked_isnt at o = let other : idle ≡ draining = o.marks.drained 1 (inl refl) in cc
 
 pub smaller_drive_isnt : (at : Moment) → ¬ IsOrderly (drive_at 30 None) smaller (served at)
@@ -273,7 +272,7 @@ told_later_isnt at o = let none : telling.held ≡ None = o.untold refl in cc
 
 -- ---- the promise alone
 
-pub orderly_is : (at : Moment) → IsOrderly (drive_at 30 None) (drive_at 30 None) (without_reply at)
+pub orderly_is : (at : Moment) → IsOrdered (without_reply at)
 orderly_is at = record {
   placed = record { in_order = λ who. numbers at (1 == who); within = λ who. within_calls at (1 == who) };
   moments = one_only (λ (p : Placed). p.at ≡ at) (placed at 1 0 fates.Done) refl;
@@ -295,5 +294,5 @@ orderly_is at = record {
   untold = λ e. e;
 }
 
-pub kept_isnt : (at : Moment) → ¬ IsKeptOrder (drive_at 30 None) (drive_at 30 None) (without_reply at)
+pub kept_isnt : (at : Moment) → ¬ IsKept (without_reply at)
 kept_isnt at kept = absurd (omega (arith, kept.count))

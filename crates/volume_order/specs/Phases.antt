@@ -50,8 +50,8 @@ pub record IsInDrain (who : ℕ) (marks : List Mark) : Type 0 where
   pub marks_are : kinds_of who marks ≡ before ++ begins ∷ since
   pub goes_on_still : list_any ends_drain since ≡ false
 
--- A session waits for a place exactly where its call there has no hand-out, and drains exactly from the begin of a drain
--- until it rests or places a call.
+-- A session waits for a place exactly where its call there has no hand-out, and drains exactly from the begin of a
+-- drain until it rests or places a call.
 pub record ArePlain (who : ℕ) (marks : List Mark) : Type 0 where
   pub waits_for : (place : ℕ) → (phase who marks ≡ waits place) ↔ IsPending who place marks
   pub drains : (phase who marks ≡ draining) ↔ IsInDrain who marks

@@ -12,7 +12,8 @@ use Rattle.plain_tree.specs.declared.calls.Placed.{Placed}
 use Rattle.session_script.specs.declared.logs.Ack.{Ack}
 use Rattle.tape_layout.specs.declared.ops.Op.{Op}
 use Rattle.tape_types.specs.declared.cartridges.Item.TheVariants as items
-use Rattle.volume_model.specs.Served.{Drive, View}
+use Rattle.volume_model.specs.Served.{Drive, IsOrderly, View}
+use Rattle.volume_order.specs.Kept.{IsKeptOrder}
 use Rattle.volume_model.specs.Trials.{done, placed, write}
 use Rattle.volume_model.specs.Turning.{before_flush, drive_at, holding, view}
 use Rattle.volume_model.specs.Marks.{mark}
@@ -55,6 +56,16 @@ two_at_once = places 0 ∷ places 1 ∷ []
 
 abbrev pub drains_and_waits : List Kind
 drains_and_waits = places 0 ∷ begins ∷ []
+
+-- what is promised of a volume over a drive after 30 commands, and what is kept of it
+abbrev pub still : Drive
+still = drive_at 30 None
+
+abbrev pub IsOrdered : View ℕ → Type 0
+IsOrdered v = IsOrderly still still v
+
+abbrev pub IsKept : View ℕ → Type 0
+IsKept v = IsKeptOrder still still v
 
 -- one session with one call, a write, that was placed and has its reply
 abbrev pub served : Moment → View ℕ

@@ -1,6 +1,7 @@
 //! What the calls of a volume keep.
 
-ghost use Rattle.volume_order.specs.Laws.{DrainTurnsKeepOrder, NothingIsLeftWhereNothingWaits, PhasesArePlain, SubmissionsKeepOrder, TurnsKeepOrder, VolumesBeginInOrder};
+ghost use Rattle.volume_order.specs.Laws.{DrainTurnsKeepOrder, NothingIsLeftWhereNothingWaits, PhasesArePlain};
+ghost use Rattle.volume_order.specs.Laws.{SubmissionsKeepOrder, TurnsKeepOrder, VolumesBeginInOrder};
 
 use tape_drive::Drive;
 
