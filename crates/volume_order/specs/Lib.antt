@@ -1,0 +1,5 @@
+pub mod Phases
+pub mod Kept
+pub mod Sides
+pub mod Laws
+pub mod Rows
