@@ -1,0 +1,5 @@
+pub mod Sides
+pub mod Laws
+pub mod Within
+pub mod Asks
+pub mod Worked
