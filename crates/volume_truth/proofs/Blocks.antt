@@ -28,7 +28,7 @@ part_is Ip Dp e = cc
 part_is Dp Ip e = cc
 part_is Dp Dp e = refl
 
-number_is : (m n : ℕ) → (m == n) ≡ true → m ≡ n
+pub number_is : (m n : ℕ) → (m == n) ≡ true → m ≡ n
 number_is m n e = grind (arith, e)
 
 abbrev at : Part → ℕ → Place

@@ -11,3 +11,4 @@ pub mod AskLaws
 pub mod AskSubmits
 pub mod Owned
 pub mod SideFacts
+pub mod Draining

@@ -3,3 +3,4 @@ pub mod Laws
 pub mod Within
 pub mod Asks
 pub mod Worked
+pub mod Draining

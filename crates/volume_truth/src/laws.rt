@@ -3,6 +3,7 @@
 ghost use Rattle.std.specs.Prelude.{ℕ, List, Option};
 ghost use Rattle.plain_tree.specs.declared.calls.Placed.{Placed};
 ghost use Rattle.volume_space.specs.Standing.{Given};
+ghost use Rattle.volume_truth.specs.Draining.{DrainsStayForWrites};
 ghost use Rattle.volume_truth.specs.Within.{DrainTurnsKeepTrue, StayingGives, SubmissionsKeepTrue, TurnsKeepTrue};
 ghost use Rattle.volume_truth.specs.Laws.{DrainTurnsStayTrue, FlushesTurnPlacementOn, OwnersKeepFaults, PlacementGoesOn, StandingGoesOn, SubmissionsStayTrue, ToldFaultsAreOwned, TurnsStayTrue};
 
@@ -68,4 +69,9 @@ pub fn drain_turns_keep_true<S: Serve>()
 /// A volume that stays true is true; one of which nothing was asked yet stays true.
 pub fn what_stays_true_is_true<S: Serve>()
     ensures { StayingGives S.seen }
+{}
+
+/// A session that drains does so for a write, which may then be placed void with a fault that the session owns.
+pub fn drains_stay_for_writes<S: Serve>()
+    ensures { DrainsStayForWrites S.seen }
 {}

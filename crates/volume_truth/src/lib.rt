@@ -11,7 +11,8 @@ pub use asks::{
 };
 pub use examples::the_sides_tell_replies;
 pub use laws::{
-    drain_turns_keep_true, drain_turns_stay_true, flushes_turn_placement_on, owners_keep_faults,
-    placement_goes_on, standing_goes_on, submissions_keep_true, submissions_stay_true,
-    told_faults_are_owned, turns_keep_true, turns_stay_true, what_stays_true_is_true,
+    drain_turns_keep_true, drain_turns_stay_true, drains_stay_for_writes,
+    flushes_turn_placement_on, owners_keep_faults, placement_goes_on, standing_goes_on,
+    submissions_keep_true, submissions_stay_true, told_faults_are_owned, turns_keep_true,
+    turns_stay_true, what_stays_true_is_true,
 };
