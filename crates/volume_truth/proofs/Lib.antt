@@ -1,0 +1,14 @@
+pub mod Lists
+pub mod Places
+pub mod Happened
+pub mod Submitted
+pub mod Kept
+pub mod Truths
+pub mod Waiting
+pub mod Blocks
+pub mod Asked
+pub mod AskLaws
+pub mod AskSubmits
+pub mod Owned
+pub mod SideFacts
+pub mod Draining

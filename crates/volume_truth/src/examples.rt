@@ -1,0 +1,37 @@
+ghost use Rattle.std.specs.Prelude.{◌≡◌, ℕ, Bool, true, false, List, [], ◌∷◌, codes, Option, Some, None};
+ghost use Rattle.tape_types.specs.declared.cartridges.Twin.{Twin};
+ghost use Rattle.tape_types.specs.declared.moments.Moment.{Moment};
+ghost use Rattle.plain_tree.specs.declared.calls.Answer.TheVariants.{Done, Got, Synced};
+ghost use Rattle.plain_tree.specs.declared.calls.Call.TheVariants.{Mkdir, Read, Sync};
+ghost use Rattle.plain_tree.specs.declared.calls.Fate.TheVariants as fates;
+ghost use Rattle.session_script.specs.declared.logs.Event.TheVariants.{Served, Synced as Answered, Worked};
+ghost use Rattle.session_script.specs.declared.logs.Reply.TheVariants as replies;
+ghost use Rattle.tape_layout.specs.declared.ops.Op.TheVariants.{Flush, Mark};
+ghost use Rattle.volume_space.specs.Histories.{given, path};
+ghost use Rattle.volume_space.specs.Mount.{MountFacts};
+ghost use Rattle.volume_space.specs.Standing.{first_standing};
+ghost use Rattle.volume_truth.specs.Sides.{IsReadyHere, left_by, ops_here};
+ghost use Rattle.volume_truth.specs.Worked.{at_end};
+
+/// Replies that may come at once where a volume with one empty file begins, replies that may not, and the ops that are left
+/// behind a step.
+pub fn the_sides_tell_replies()
+    ensures read_is { (m : MountFacts) (on : Bool) (at : Moment)
+        → IsReadyHere (given at m []) on (first_standing (given at m [])) (Read path 0 5) at (replies.Answer (Got [])) }
+    ensures other_bytes_isnt { (m : MountFacts) (on : Bool) (at : Moment)
+        → ¬ IsReadyHere (given at m []) on (first_standing (given at m [])) (Read path 0 5) at
+        (replies.Answer (Got (codes "d"))) }
+    ensures fault_isnt { (m : MountFacts) (on : Bool) (at : Moment) (counts : Twin)
+        → ¬ IsReadyHere (given at m []) on (first_standing (given at m [])) (Read path 0 5) at (replies.Fault counts) }
+    ensures full_isnt { (m : MountFacts) (on : Bool) (at : Moment)
+        → ¬ IsReadyHere (given at m []) on (first_standing (given at m [])) Sync at (replies.Full 0 0) }
+    ensures synced_is { (m : MountFacts) (on : Bool) (at : Moment)
+        → IsReadyHere (given at m []) on (first_standing (given at m [])) Sync at (replies.Answer Synced) }
+    ensures sync_of_nothing { (m : MountFacts) (on : Bool) (at : Moment)
+        → ops_here (given at m []) on (first_standing (given at m [])) fates.Done (Some Sync) at ≡ [] }
+    ensures one_done { left_by (Worked (at_end 7) None ∷ Answered 2 ∷ []) (Mark (at_end 7) ∷ Flush (at_end 8) ∷ [])
+        ≡ Flush (at_end 8) ∷ [] }
+    ensures none_done { (counts : Twin)
+        → left_by (Worked (at_end 7) (Some counts) ∷ []) (Mark (at_end 7) ∷ Flush (at_end 8) ∷ [])
+        ≡ Mark (at_end 7) ∷ Flush (at_end 8) ∷ [] }
+{}
