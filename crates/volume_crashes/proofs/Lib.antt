@@ -8,3 +8,4 @@ pub mod Stepped
 pub mod Begins
 pub mod Survives
 pub mod Placing
+pub mod Asked

@@ -27,14 +27,11 @@ use Rattle.volume_space.specs.Space as space
 use Rattle.volume_space.specs.Standing.{Given, Standing, after_done, after_placed, ask_of, asked, first_standing, is_on, rules, standing, sync_text}
 use Rattle.volume_space.proofs.Steps.{are_still}
 use Rattle.volume_space.proofs.TreeLaw.{are_replays}
-use Rattle.crash_theory.specs.Laws.{all_made}
-use Rattle.crash_theory.specs.Made.{Entry}
-use Rattle.crash_theory.specs.Plans.{IsDue}
 use Rattle.volume_model.specs.Mount.{facts_of}
 use Rattle.volume_model.specs.Served.{Fixed, View, tree_after}
 use Rattle.volume_model.specs.Steps.{does_dp_flush, on_after}
 use Rattle.volume_crashes.specs.Changes.{AreQuiet, HasHeaded, IsPlaced, events_of_sync}
-use Rattle.volume_crashes.specs.Laws.{AsksNoIndex, CallsAreSafe, IsSafeNow, IsStill, StandingsGoOn, next_ask, next_ops}
+use Rattle.volume_crashes.specs.Laws.{AsksNoIndex, CallsAreSafe, IsNextDue, IsSafeNow, IsStill, StandingsGoOn, next_ask, next_ops}
 use Rattle.volume_crashes.specs.Safe.{IsSafe, given_by, space_now, standing_now, state_of}
 use Rattle.volume_crashes.proofs.Stepped.{on_already, on_never, on_turned}
 use Rattle.volume_crashes.proofs.Submitted.{submissions_are_safe}
@@ -114,6 +111,13 @@ module _ {D : Type 0} where
       ∙ ap (λ (h : List Placed). standing (given_at limits old.fixed) (on_after old added) h (length h)) history
       ∙ on_by limits old added old.on refl
 
+  pub same_standing : (limits : Limits) (old new : View D) → new.fixed ≡ old.fixed → new.on ≡ old.on → new.history ≡ old.history
+      → standing_now limits new ≡ standing_now limits old
+  same_standing limits old new fixed on history =
+      ap (λ (f : Fixed D). standing (given_at limits f) new.on new.history (length new.history)) fixed
+      ∙ ap (λ (o : Option ℕ). standing (given_at limits old.fixed) o new.history (length new.history)) on
+      ∙ ap (λ (h : List Placed). standing (given_at limits old.fixed) old.on h (length h)) history
+
   pub standings_go_on : StandingsGoOn D
   standings_go_on = record { placed = placed_now; stepped = stepped_now }
 
@@ -125,6 +129,9 @@ done_is g on st p call fate is = rw (fate, is) refl
 
 void_is : (g : Given) (on : Bool) (st : Standing) (p : Placed) → p.fate ≡ fates.Void → after_placed g on st p ≡ st
 void_is g on st p is = are_still.void g on st p is
+
+none_is : (g : Given) (on : Bool) (st : Standing) (p : Placed) → p.fate ≡ fates.Done → call_at g.calls p ≡ None → after_placed g on st p ≡ st
+none_is g on st p fate is = rw (fate, is) refl
 
 module _ {D : Type 0} (drive : Ghosts D)
     (only_now : (d : D) (image : Cartridge) → drive.commands d < 2 ^ 64 - 1 → drive.left_since d (drive.commands d) image → drive.leaves d image)
@@ -151,12 +158,21 @@ module _ {D : Type 0} (drive : Ghosts D)
   to_now : (s : Space) → space_now limits new ≡ s → IsSafe drive labels s new → IsSafeNow drive labels limits new
   to_now s is safe = subst (λ (x : Space). IsSafe drive labels x new) (sym is) safe
 
-  pub void_safe : (added : List Event) → IsSafeNow drive labels limits old → IsPlaced drive old new p [] added → AreQuiet added → p.fate ≡ fates.Void
+  -- where what stands stays and nothing is asked
+  pub same_safe : (added : List Event) → IsSafeNow drive labels limits old → IsPlaced drive old new p [] added → AreQuiet added → standing_now limits new ≡ st
       → IsSafeNow drive labels limits new
-  void_safe added safe placed quiet fate =
-      let same = stands [] added placed ∙ void_is g on_now st p fate in
+  same_safe added safe placed quiet same =
       to_now st.space (ap (λ (s : Standing). s.space) same)
       ((submissions_are_safe drive only_now).still labels st.space old new p added safe placed quiet (still same))
+
+  -- a call that there isn't is none
+  pub none_safe : (added : List Event) → IsSafeNow drive labels limits old → IsPlaced drive old new p [] added → AreQuiet added → p.fate ≡ fates.Done
+      → call_at g.calls p ≡ None → IsSafeNow drive labels limits new
+  none_safe added safe placed quiet fate is = same_safe added safe placed quiet (stands [] added placed ∙ none_is g on_now st p fate is)
+
+  pub void_safe : (added : List Event) → IsSafeNow drive labels limits old → IsPlaced drive old new p [] added → AreQuiet added → p.fate ≡ fates.Void
+      → IsSafeNow drive labels limits new
+  void_safe added safe placed quiet fate = same_safe added safe placed quiet (stands [] added placed ∙ void_is g on_now st p fate)
 
   -- with nothing asked all stays
   same_by : (call : Call) (asks : List Op) (added : List Event) → IsPlaced drive old new p asks added → p.fate ≡ fates.Done → call_at g.calls p ≡ Some call
@@ -174,9 +190,7 @@ module _ {D : Type 0} (drive : Ghosts D)
       → IsPlaced drive old new p (space.ops_of (rules g) on_now st.space ask) added → AreQuiet added → p.fate ≡ fates.Done → call_at g.calls p ≡ Some call
       → AsksNoIndex ask → IsSafeNow drive labels limits new
   done_safe call added space.nothing asked_is safe placed quiet fate is none =
-      let same = same_by call [] added placed fate is asked_is in
-      to_now st.space (ap (λ (s : Standing). s.space) same)
-      ((submissions_are_safe drive only_now).still labels st.space old new p added safe placed quiet (still same))
+      same_safe added safe placed quiet (same_by call [] added placed fate is asked_is)
   done_safe call added space.change asked_is safe placed quiet fate is none =
       to_now (record st.space { changed = true }) (space_by call space.change [] added placed fate is asked_is)
       ((submissions_are_safe drive only_now).changed labels st.space old new p added safe placed quiet)
@@ -198,13 +212,12 @@ module _ {D : Type 0} (drive : Ghosts D)
       ∙ ap (λ (s : Standing). s.tree) (stands asks added placed ∙ done_is g on_now st p Sync fate is)
       ∙ are_replays g old.on old.history (length old.history)
 
-  pub synced_safe : (queues : List Event) (e : Entry) (b : Bool) → st.space.changed ≡ b → (safe : IsSafeNow drive labels limits old)
+  pub synced_safe : (queues : List Event) (b : Bool) → st.space.changed ≡ b → (safe : IsSafeNow drive labels limits old)
       → IsPlaced drive old new p (space.ops_of (rules g) on_now st.space (ask_of g st Sync p.at)) (events_of_sync (length old.history) old.events queues)
       → AreQuiet queues → HasHeaded new → p.fate ≡ fates.Done → call_at g.calls p ≡ Some Sync → 1 ≤ old.fixed.mounted.label.block
-      → (st.space.changed ≡ true → IsDue (state_of labels old safe.made safe.jobs).volume (state_of labels old safe.made safe.jobs).trees
-      (all_made (state_of labels old safe.made safe.jobs)) st.space (sync_text g st p.at) e)
+      → (st.space.changed ≡ true → IsNextDue drive labels limits old safe p.at)
       → IsSafeNow drive labels limits new
-  synced_safe queues e true is safe placed quiet headed fate call size due =
+  synced_safe queues true is safe placed quiet headed fate call size due =
       let added = events_of_sync (length old.history) old.events queues in
       let asks = sync_asks true is in
       let ops = space.ops_of (rules g) on_now st.space (index (sync_text g st p.at)) in
@@ -212,9 +225,9 @@ module _ {D : Type 0} (drive : Ghosts D)
       subst (λ (ask : Ask). IsPlaced drive old new p (space.ops_of (rules g) on_now st.space ask) added) asks placed in
       to_now (space.after (rules g) on_now st.space (index (sync_text g st p.at)))
       (space_by Sync (index (sync_text g st p.at)) ops added by_ops fate call asks)
-      ((submissions_are_safe drive only_now).synced labels st.space old new p queues (rules g) on_now (sync_text g st p.at) e safe by_ops quiet headed
-      (sync_still ops added by_ops fate call) size (due is))
-  synced_safe queues e false is safe placed quiet headed fate call size due =
+      ((submissions_are_safe drive only_now).synced labels st.space old new p queues (rules g) on_now (sync_text g st p.at) (due is).0 safe by_ops quiet headed
+      (sync_still ops added by_ops fate call) size (due is).1)
+  synced_safe queues false is safe placed quiet headed fate call size due =
       let added = events_of_sync (length old.history) old.events queues in
       let asks = sync_asks false is in
       let by_ops : IsPlaced drive old new p [] added =
@@ -230,6 +243,6 @@ module _ {D : Type 0} (drive : Ghosts D)
     void = λ labels limits old new p added safe placed quiet fate. void_safe drive only_now labels limits old new p added safe placed quiet fate;
     done = λ labels limits old new p call added safe placed quiet fate is none.
         done_safe drive only_now labels limits old new p call added (next_ask limits old call p.at) refl safe placed quiet fate is none;
-    synced = λ labels limits old new p queues e safe placed quiet headed fate is size due.
-        synced_safe drive only_now labels limits old new p queues e (space_now limits old).changed refl safe placed quiet headed fate is size due;
+    synced = λ labels limits old new p queues safe placed quiet headed fate is size due.
+        synced_safe drive only_now labels limits old new p queues (space_now limits old).changed refl safe placed quiet headed fate is size due;
   }

@@ -27,7 +27,7 @@ use Rattle.head_core.specs.declared.work.StepDone.{StepDone}
 use Rattle.head_core.specs.declared.work.StepDone.TheVariants as outcome
 use Rattle.volume_space.specs.Space.{Ask, Rules, Space, first_space, index, ops_of, part_for, store, with_data, with_index}
 use Rattle.volume_space.specs.Space as space
-use Rattle.volume_space.specs.Standing.{after_placed, asked, is_on, rules, sync_text}
+use Rattle.volume_space.specs.Standing.{admitted_at, after_placed, asked, is_on, rules, sync_text}
 use Rattle.crash_theory.specs.Kept.{IsStep, IsSureAfter}
 use Rattle.crash_theory.specs.Events.{IsDone, IsFailed, Within}
 use Rattle.crash_theory.specs.Laws.{all_made}
@@ -40,6 +40,8 @@ use Rattle.volume_model.specs.Meanings.{cartridges}
 use Rattle.volume_model.specs.Mount.{facts_of}
 use Rattle.volume_model.specs.Served.{CanTell, Fixed, View, tree_after}
 use Rattle.volume_model.specs.Steps.{on_after}
+use Rattle.volume_model.specs.Submits.{Submits}
+use Rattle.volume_model.specs.declared.answers.Submitted.{Submitted}
 use Rattle.volume_crashes.specs.Changes.{AreQuiet, HasHeaded, IsAsked, IsPlaced, IsStepped, events_of_sync}
 use Rattle.volume_crashes.specs.Safe.{IsSafe, given_by, seen_by, space_now, standing_now, state_of}
 
@@ -169,6 +171,14 @@ AsksNoIndex space.change = Unit {0}
 AsksNoIndex (store wanted bytes) = Unit {0}
 AsksNoIndex (index text) = ⊥
 
+-- The index of a sync is due that is placed next at a moment: it is one of the volume, of the whole history, which tells
+-- its tree from what stands once all ops are done.
+abbrev pub IsNextDue : {D : Type 0} (drive : Ghosts D) (labels : Labels) (limits : Limits) (v : View D)
+    → IsSafeNow drive labels limits v → Moment → Type 0
+IsNextDue drive labels limits v safe at = (e : Entry) × IsDue (state_of labels v safe.made safe.jobs).volume
+    (state_of labels v safe.made safe.jobs).trees (all_made (state_of labels v safe.made safe.jobs))
+    (space_now limits v) (sync_text (given_by limits v) (standing_now limits v) at) e
+
 -- Each call that is placed keeps a volume safe, with the space that its history leaves: a void one; one that asks for no
 -- index; and a sync, with the index that is due where anything changed.
 pub record CallsAreSafe {D : Type 0} (drive : Ghosts D) : Type 0 where
@@ -180,15 +190,30 @@ pub record CallsAreSafe {D : Type 0} (drive : Ghosts D) : Type 0 where
       → IsPlaced drive old new p (next_ops limits old (next_ask limits old call p.at)) added → AreQuiet added
       → p.fate ≡ fates.Done → call_at (calls_of old.fixed.script) p ≡ Some call
       → AsksNoIndex (next_ask limits old call p.at) → IsSafeNow drive labels limits new
-  pub synced : (labels : Labels) (limits : Limits) (old new : View D) (p : Placed) (queues : List Event) (e : Entry)
+  pub synced : (labels : Labels) (limits : Limits) (old new : View D) (p : Placed) (queues : List Event)
       (safe : IsSafeNow drive labels limits old)
       → IsPlaced drive old new p (next_ops limits old (next_ask limits old Sync p.at))
       (events_of_sync (length old.history) old.events queues)
       → AreQuiet queues → HasHeaded new
       → p.fate ≡ fates.Done → call_at (calls_of old.fixed.script) p ≡ Some Sync
       → 1 ≤ old.fixed.mounted.label.block
-      → ((space_now limits old).changed ≡ true
-      → IsDue (state_of labels old safe.made safe.jobs).volume (state_of labels old safe.made safe.jobs).trees
-      (all_made (state_of labels old safe.made safe.jobs)) (space_now limits old)
-      (sync_text (given_by limits old) (standing_now limits old) p.at) e)
+      → ((space_now limits old).changed ≡ true → IsNextDue drive labels limits old safe p.at)
       → IsSafeNow drive labels limits new
+
+-- a submission adds the ops that its placement admits
+pub record AddsOps {D : Type 0} (limits : Limits) (old new : View D) : Type 0 where
+  pub placed : (p : Placed) → new.history ≡ old.history ++ p ∷ []
+      → new.ops ≡ old.ops ++ admitted_at (given_by limits old) old.on old.history (length old.history) p
+  pub unplaced : new.history ≡ old.history → new.ops ≡ old.ops
+
+-- Each submission keeps a volume safe, in the words of what it adds to the view: with the ops that are admitted, and with
+-- the index that is due of a sync before which anything changed.
+abbrev pub SubmitsAreSafe : {D : Type 0} → Ghosts D → Type 0
+SubmitsAreSafe {D = D} drive = (labels : Labels) (old new : View D) (who nth : ℕ) (answer : Submitted)
+    (safe : IsSafeNow drive labels (drive.limits old.fixed.first) old)
+    → Submits (seen_by drive old.fixed.first) (seen_by drive new.drive) old new who nth answer
+    → AddsOps (drive.limits old.fixed.first) old new → HasHeaded new → 1 ≤ old.fixed.mounted.label.block
+    → ((p : Placed) → new.history ≡ old.history ++ p ∷ [] → p.fate ≡ fates.Done
+    → call_at (calls_of old.fixed.script) p ≡ Some Sync → (space_now (drive.limits old.fixed.first) old).changed ≡ true
+    → IsNextDue drive labels (drive.limits old.fixed.first) old safe p.at)
+    → IsSafeNow drive labels (drive.limits old.fixed.first) new

@@ -1,7 +1,7 @@
 //! What keeps a served volume safe, call by call, and what that gives.
 
 ghost use Rattle.volume_crashes.specs.Laws.{HeadsDoOps, SafeVolumesSurvive, StartsAreSafe, StepsAreSafe};
-ghost use Rattle.volume_crashes.specs.Laws.{CallsAreSafe, StandingsGoOn, SubmissionsAreSafe};
+ghost use Rattle.volume_crashes.specs.Laws.{CallsAreSafe, StandingsGoOn, SubmissionsAreSafe, SubmitsAreSafe};
 
 use tape_drive::Drive;
 
@@ -25,6 +25,11 @@ pub fn standings_go_on<D: Drive>()
 /// So each call that is placed keeps it safe, with the space that the history leaves.
 pub fn calls_are_safe<D: Drive>()
     ensures { CallsAreSafe D.Drive }
+{}
+
+/// So does each submission, in the words of what it adds to the view.
+pub fn submits_are_safe<D: Drive>()
+    ensures { SubmitsAreSafe D.Drive }
 {}
 
 /// What a head says of an op is what the theory of crashes asks of it.
