@@ -1,6 +1,5 @@
 -- Jobs that are admitted, syncs that wait for them, and a history that goes on.
-use Rattle.std.proofs.Common.{◌≡◌, ◌⊎◌, ⊎_elim, inl, inr, ℕ, ◌+◌, ◌-◌, ◌^◌, ◌≤◌, ◌<◌, Bool, true, false, if◌then◌else◌, List, [], ◌∷◌, ◌++◌, length, map, Option, Some, None, refl, sym, ap, subst, ◌∙◌, arith, append_assoc, append-nil, length-append}
-use Rattle.std.specs.Prelude.{take}
+use Rattle.std.proofs.Common.{◌≡◌, ⊎_elim, ℕ, ◌+◌, ◌-◌, ◌^◌, ◌≤◌, ◌<◌, Bool, true, false, List, [], ◌∷◌, ◌++◌, length, map, Option, Some, None, refl, sym, ap, subst, ◌∙◌, arith, append_assoc, length-append}
 use Rattle.std.specs.List.{AllByRecursion, range_with_len}
 use Rattle.std.specs.Int.{div_ceil}
 use Rattle.std.proofs.lemmas.Bool.{cases_lt}
@@ -23,23 +22,21 @@ use Rattle.session_script.specs.Grammar.{calls_of}
 use Rattle.session_script.specs.declared.logs.Ack.{Ack}
 use Rattle.head_trail.specs.Waiting.{Waiter}
 use Rattle.volume_space.specs.Space.{Rules, Space, blocks, with_data, with_index}
-use Rattle.volume_space.specs.Standing.{is_on}
 use Rattle.crash_theory.specs.Fine.{GoesOn}
 use Rattle.crash_theory.specs.Images.{MayWrite}
 use Rattle.crash_theory.specs.Kept.{IsServed, Kept, Wait}
-use Rattle.crash_theory.specs.Laws.{IsServing, State}
-use Rattle.crash_theory.specs.Made.{Entry, Job, Made, Trees, after, makes, plain}
+use Rattle.crash_theory.specs.Laws.{State}
+use Rattle.crash_theory.specs.Made.{Entry, Job, Made, after, makes, plain}
 use Rattle.crash_theory.specs.Moments.{moment_of}
 use Rattle.crash_theory.specs.Plans.{IsDue, data_jobs, index_jobs}
 use Rattle.crash_theory.proofs.Acks.{kept_acked}
 use Rattle.crash_theory.proofs.Flushes.{none_stays}
 use Rattle.crash_theory.proofs.Longer.{after_append}
 use Rattle.crash_theory.proofs.Stated.{admissions_keep, histories_go_on, syncs_are_held}
-use Rattle.volume_model.specs.Mount.{facts_of}
 use Rattle.volume_model.specs.Served.{Fixed}
 use Rattle.volume_crashes.specs.Safe.{AreInOrder, IsDpFlush, Settle, wait_of}
 use Rattle.volume_crashes.proofs.Fields.{At, state_at, trees_at}
-use Rattle.volume_crashes.proofs.Trails.{order_more, order_weaker}
+use Rattle.volume_crashes.proofs.Trails.{order_more}
 use Rattle.volume_crashes.proofs.Waits.{all_mapped, all_more, all_weaker, kept_with}
 
 -- ---- flushes of the data partition

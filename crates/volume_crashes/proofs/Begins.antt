@@ -1,37 +1,32 @@
 -- A volume that begins is safe.
-use Rattle.std.proofs.Common.{◌≡◌, ◌≢◌, ◌⊎◌, ℕ, zero, suc, ◌+◌, ◌-◌, ◌^◌, ◌≤◌, ◌<◌, Bool, true, false, cond, nat_lt, if◌then◌else◌, List, [], ◌∷◌, length, map, Option, Some, None, refl, sym, ap, subst, ◌∙◌, arith}
+use Rattle.std.proofs.Common.{◌≡◌, ◌≢◌, ℕ, zero, suc, ◌≤◌, Bool, true, false, cond, nat_lt, List, [], ◌∷◌, Option, Some, None, refl, sym, ap, subst, ◌∙◌, arith}
 use Rattle.std.specs.Prelude.{◌||◌, take}
 use Rattle.std.specs.Option.{option_map}
 use Rattle.tape_types.specs.declared.cartridges.Cartridge.{Cartridge}
 use Rattle.tape_types.specs.declared.cartridges.Part.{Part}
 use Rattle.tape_types.specs.declared.cartridges.Part.TheVariants.{Ip, Dp}
 use Rattle.tape_types.specs.declared.cartridges.Place.{Place}
-use Rattle.tape_types.specs.declared.moments.Moment.{Moment}
 use Rattle.tape_drive.specs.declared.drive.Drive.{Ghosts}
 use Rattle.tape_content.specs.Readings.{Construct}
 use Rattle.index_model.specs.declared.indexes.Index.{Index}
 use Rattle.tape_meaning.specs.Carried.{carried}
-use Rattle.tape_meaning.specs.Meaning.{Found, Stands}
 use Rattle.tape_meaning.specs.Mounts.{Mounts, chosen_place, last_place}
 use Rattle.tape_meaning.specs.Pointers.{indexes_of, last_block}
 use Rattle.tape_meaning.proofs.OneWay.{same_on_dp, same_on_ip}
 use Rattle.plain_tree.specs.History.{replay}
 use Rattle.session_script.specs.Grammar.{calls_of}
-use Rattle.volume_space.specs.Mount.{MountFacts}
-use Rattle.volume_space.specs.Space.{Space, first_space}
-use Rattle.volume_space.specs.Standing.{is_on}
+use Rattle.volume_space.specs.Space.{first_space}
 use Rattle.crash_theory.specs.Fine.{GoesOn}
-use Rattle.crash_theory.specs.Laws.{IsServing, first_state, with_trees}
-use Rattle.crash_theory.specs.Made.{Entry, Made, Trees, Volume}
+use Rattle.crash_theory.specs.Laws.{first_state}
+use Rattle.crash_theory.specs.Made.{Volume}
 use Rattle.crash_theory.specs.Moments.{moment_of}
 use Rattle.crash_theory.specs.Starts.{CanStart, IsFirstSpace, ahead_of, begun_with, made_of}
 use Rattle.crash_theory.proofs.Stated.{histories_go_on, starts_are_kept}
-use Rattle.volume_model.specs.Crash.{IsSound}
 use Rattle.volume_model.specs.Ends.{begun}
 use Rattle.volume_model.specs.Mount.{facts_of}
-use Rattle.volume_model.specs.Served.{CanTell, Fixed}
+use Rattle.volume_model.specs.Served.{Fixed}
 use Rattle.volume_crashes.specs.Laws.{CanServe, StartsAreSafe}
-use Rattle.volume_crashes.specs.Safe.{IsSafe, trees_of}
+use Rattle.volume_crashes.specs.Safe.{trees_of}
 
 -- ---- where the chosen index is the data partition's, none is ahead on the other
 

@@ -1,5 +1,5 @@
 -- What a head says of an op is what the theory of crashes asks of it.
-use Rattle.std.proofs.Common.{◌≡◌, inl, ℕ, ◌≤◌, List, [], ◌∷◌, Option, Some, None, refl, sym, ap, subst, ◌∙◌}
+use Rattle.std.proofs.Common.{◌≡◌, inl, ℕ, Option, Some, refl, sym, subst, ◌∙◌}
 use Rattle.tape_types.specs.declared.cartridges.Cartridge.{Cartridge}
 use Rattle.tape_types.specs.declared.cartridges.Item.{Item}
 use Rattle.tape_types.specs.declared.cartridges.Item.TheVariants as item
@@ -15,7 +15,7 @@ use Rattle.head_core.specs.Steps.{AfterOp, AfterPut, IsEndOfFlush, IsEndOfOp, Is
 use Rattle.head_core.specs.declared.work.StepDone.{StepDone}
 use Rattle.head_core.specs.declared.work.StepDone.TheVariants as outcome
 use Rattle.crash_theory.specs.Events.{IsDone, IsFailed, Within}
-use Rattle.crash_theory.specs.Kept.{HasNothingPending, IsStep, IsSureAfter}
+use Rattle.crash_theory.specs.Kept.{IsStep, IsSureAfter}
 use Rattle.crash_theory.specs.Moments.{moment_of}
 use Rattle.volume_crashes.specs.Laws.{HeadsDoOps, IsWell}
 

@@ -1,18 +1,15 @@
 -- What stands goes on with the history, and each placement keeps a volume safe with it.
-use Rattle.std.proofs.Common.{◌≡◌, ℕ, ◌+◌, ◌-◌, ◌^◌, ◌≤◌, ◌<◌, Bool, true, false, cond, nat_le, List, [], ◌∷◌, ◌++◌, length, Option, Some, None, refl, sym, ap, subst, ◌∙◌, arith, length-append}
+use Rattle.std.proofs.Common.{◌≡◌, ℕ, ◌+◌, ◌-◌, ◌^◌, ◌≤◌, ◌<◌, Bool, true, false, cond, nat_le, List, [], ◌∷◌, ◌++◌, length, Option, Some, None, refl, sym, ap, subst, ◌∙◌, arith}
 use Rattle.std.specs.Prelude.{◌||◌, take}
 use Rattle.std.specs.List.{enumerate_from, fold, list_any}
 use Rattle.std.proofs.lemmas.Bool.Decides.{nat_tests}
 use Rattle.std.proofs.lemmas.List.{take_all}
 use Rattle.tape_types.specs.declared.cartridges.Cartridge.{Cartridge}
 use Rattle.tape_types.specs.declared.cartridges.Limits.{Limits}
-use Rattle.tape_types.specs.declared.moments.Moment.{Moment}
 use Rattle.tape_drive.specs.declared.drive.Drive.{Ghosts}
 use Rattle.tape_layout.specs.declared.ops.Op.{Op}
 use Rattle.tape_meaning.specs.declared.labels.Labels.{Labels}
 use Rattle.plain_tree.specs.History.{call_at}
-use Rattle.plain_tree.specs.Refusals.{refusal_of}
-use Rattle.plain_tree.specs.Tree.{Tree}
 use Rattle.plain_tree.specs.declared.calls.Call.{Call}
 use Rattle.plain_tree.specs.declared.calls.Call.TheVariants.{Sync}
 use Rattle.plain_tree.specs.declared.calls.Fate.TheVariants as fates
@@ -28,11 +25,11 @@ use Rattle.volume_space.specs.Standing.{Given, Standing, after_done, after_place
 use Rattle.volume_space.proofs.Steps.{are_still}
 use Rattle.volume_space.proofs.TreeLaw.{are_replays}
 use Rattle.volume_model.specs.Mount.{facts_of}
-use Rattle.volume_model.specs.Served.{Fixed, View, tree_after}
+use Rattle.volume_model.specs.Served.{Fixed, View}
 use Rattle.volume_model.specs.Steps.{does_dp_flush, on_after}
 use Rattle.volume_crashes.specs.Changes.{AreQuiet, HasHeaded, IsPlaced, events_of_sync}
-use Rattle.volume_crashes.specs.Laws.{AsksNoIndex, CallsAreSafe, IsNextDue, IsSafeNow, IsStill, StandingsGoOn, next_ask, next_ops}
-use Rattle.volume_crashes.specs.Safe.{IsSafe, given_by, space_now, standing_now, state_of}
+use Rattle.volume_crashes.specs.Laws.{AsksNoIndex, CallsAreSafe, IsNextDue, IsSafeNow, IsStill, StandingsGoOn, next_ask}
+use Rattle.volume_crashes.specs.Safe.{IsSafe, given_by, space_now, standing_now}
 use Rattle.volume_crashes.proofs.Stepped.{on_already, on_never, on_turned}
 use Rattle.volume_crashes.proofs.Submitted.{submissions_are_safe}
 

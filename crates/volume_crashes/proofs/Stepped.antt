@@ -1,6 +1,6 @@
 -- Steps of the head keep a volume safe.
 use Rattle.std.proofs.Common.{◌≡◌, ◌⊎◌, ⊎_elim, inl, inr, ℕ, ◌+◌, ◌-◌, ◌*◌, ◌^◌, ◌≤◌, ◌<◌, Bool, true, false, cond, not, ◌&&◌, ◌||◌, List, [], ◌∷◌, ◌++◌, length, map, Option, Some, None, refl, sym, ap, subst, ◌∙◌, arith, append_assoc, append-nil}
-use Rattle.std.specs.Prelude.{All, filter, filter_map, IfSome, ◌==◌}
+use Rattle.std.specs.Prelude.{All, filter, ◌==◌}
 use Rattle.std.specs.List.{AllByRecursion, fold, list_any}
 use Rattle.std.proofs.lemmas.Bool.{eqb-true}
 use Rattle.std.proofs.lemmas.List.Elements.{All-head, All-tail}
@@ -21,9 +21,9 @@ use Rattle.session_script.specs.declared.logs.Event.{Event}
 use Rattle.session_script.specs.declared.logs.Event.TheVariants.{Wants, Queues, Syncs, Synced, Drains, Rests, Served, Worked}
 use Rattle.head_trail.specs.Waiting as waiting
 use Rattle.head_trail.specs.Waiting.{State, Waiter, first_of, same_part, start, waiting_op}
-use Rattle.head_trail.specs.Trail.{after, after_all, fits, is_answer, is_answered, is_trail_from}
+use Rattle.head_trail.specs.Trail.{after, after_all, is_answer, is_answered, is_trail_from}
 use Rattle.head_trail.proofs.TrailLaw.{first_of as left_of, second_of as right_of}
-use Rattle.head_core.specs.Steps.{CanDo, IsInReach, IsOpStep, IsReadStep}
+use Rattle.head_core.specs.Steps.{CanDo, IsOpStep, IsReadStep}
 use Rattle.head_core.specs.declared.work.StepDone.{StepDone}
 use Rattle.head_core.specs.declared.work.StepDone.TheVariants as outcome
 use Rattle.volume_space.specs.Space.{Space}

@@ -1,5 +1,5 @@
 -- Submissions keep a volume safe.
-use Rattle.std.proofs.Common.{◌≡◌, ℕ, suc, ◌+◌, ◌-◌, ◌^◌, ◌≤◌, ◌<◌, Bool, true, false, cond, not, ◌&&◌, if◌then◌else◌, List, [], ◌∷◌, ◌++◌, length, map, Option, Some, None, refl, sym, ap, subst, ◌∙◌, arith, append_assoc, append-nil, length-append}
+use Rattle.std.proofs.Common.{◌≡◌, ℕ, suc, ◌+◌, ◌-◌, ◌^◌, ◌<◌, Bool, true, false, cond, not, ◌&&◌, if◌then◌else◌, List, [], ◌∷◌, ◌++◌, length, map, None, refl, sym, ap, subst, ◌∙◌, arith, append_assoc, append-nil, length-append}
 use Rattle.std.specs.Prelude.{filter, filter_map, ◌==◌}
 use Rattle.std.specs.List.{AllByRecursion, fold}
 use Rattle.std.proofs.lemmas.Bool.{eq-eqb}
@@ -15,16 +15,15 @@ use Rattle.tape_meaning.specs.declared.labels.Labels.{Labels}
 use Rattle.plain_tree.specs.declared.calls.Placed.{Placed}
 use Rattle.session_script.specs.declared.logs.Ack.{Ack}
 use Rattle.session_script.specs.declared.logs.Event.{Event}
-use Rattle.session_script.specs.declared.logs.Event.TheVariants.{Syncs, Synced}
+use Rattle.session_script.specs.declared.logs.Event.TheVariants.{Syncs}
 use Rattle.head_trail.specs.Waiting as waiting
 use Rattle.head_trail.specs.Waiting.{State, Waiter, put_at, start, with_flushes}
 use Rattle.head_trail.specs.Waiting.{ops as standing}
 use Rattle.head_trail.specs.Trail.{after, after_all}
-use Rattle.volume_space.specs.Space.{Rules, Space, blocks, part_for, with_data, with_index}
+use Rattle.volume_space.specs.Space.{Space, part_for, with_data, with_index}
 use Rattle.volume_space.specs.Standing.{is_on}
 use Rattle.volume_space.specs.Space as space
 use Rattle.crash_theory.specs.Images.{MayWrite}
-use Rattle.crash_theory.specs.Kept.{Wait}
 use Rattle.crash_theory.specs.Made.{Base}
 use Rattle.crash_theory.specs.Made.{after as after_jobs}
 use Rattle.volume_model.specs.Acks.{synced_ticket}

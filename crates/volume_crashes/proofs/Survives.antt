@@ -1,17 +1,10 @@
 -- A safe volume keeps the promise on crashes.
-use Rattle.std.proofs.Common.{◌≡◌, ℕ, ◌-◌, ◌^◌, ◌<◌, ◌≤◌, List, length, refl}
-use Rattle.std.specs.Prelude.{Contains}
-use Rattle.tape_types.specs.declared.cartridges.Cartridge.{Cartridge}
 use Rattle.tape_drive.specs.declared.drive.Drive.{Ghosts}
-use Rattle.session_script.specs.declared.logs.Ack.{Ack}
-use Rattle.tape_meaning.specs.declared.labels.Labels.{Labels}
-use Rattle.volume_space.specs.Space.{Space}
 use Rattle.crash_theory.specs.Kept.{IsHeld}
 use Rattle.crash_theory.specs.Moments.{moment_of}
-use Rattle.volume_model.specs.Served.{View}
 use Rattle.volume_model.proofs.FineLaw.{fine_cartridges_stand}
 use Rattle.volume_crashes.specs.Laws.{SafeVolumesSurvive}
-use Rattle.volume_crashes.specs.Safe.{IsSafe, trees_of, volume_of}
+use Rattle.volume_crashes.specs.Safe.{trees_of, volume_of}
 use Rattle.volume_crashes.proofs.Waits.{all_has}
 
 module _ {D : Type 0} (drive : Ghosts D) where

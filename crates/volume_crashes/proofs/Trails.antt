@@ -1,16 +1,15 @@
 -- What events do to the syncs that wait and to the count of ops that are done.
-use Rattle.std.proofs.Common.{◌≡◌, ◌⊎◌, inl, inr, ℕ, ◌+◌, ◌≤◌, ◌<◌, Bool, true, false, cond, not, ◌==◌, ◌||◌, nat_le, List, [], ◌∷◌, ◌++◌, length, map, Option, Some, None, refl, sym, ap, subst, ◌∙◌, arith, append_assoc, append-nil}
+use Rattle.std.proofs.Common.{◌≡◌, ◌⊎◌, inl, inr, ℕ, ◌+◌, ◌≤◌, Bool, true, false, cond, not, ◌||◌, nat_le, List, [], ◌∷◌, ◌++◌, map, Option, Some, None, refl, ap, ◌∙◌, arith}
 use Rattle.std.specs.Prelude.{filter, filter_map, All}
-use Rattle.std.specs.List.{AllByRecursion, cons_option, fold, list_any}
+use Rattle.std.specs.List.{AllByRecursion, cons_option, fold}
 use Rattle.std.proofs.lemmas.Bool.Decides.{nat_tests}
 use Rattle.std.proofs.lemmas.List.Elements.{All-head, All-tail}
-use Rattle.session_script.specs.declared.logs.Ack.{Ack}
 use Rattle.session_script.specs.declared.logs.Event.{Event}
 use Rattle.session_script.specs.declared.logs.Event.TheVariants.{Wants, Queues, Syncs, Synced, Drains, Rests, Served, Worked}
 use Rattle.tape_types.specs.declared.cartridges.Place.{Place}
 use Rattle.tape_types.specs.declared.cartridges.Twin.{Twin}
 use Rattle.head_trail.specs.Waiting.{Op, Request, State, Waiter, first_of, is_calm, is_due, ops, waiting_op}
-use Rattle.head_trail.specs.Trail.{after, after_op, allows, is_answer, is_answered, is_trail_from, takes_op, without_first_op, without_first_waiter}
+use Rattle.head_trail.specs.Trail.{after, after_op, allows, is_answer, is_trail_from, takes_op, without_first_op}
 use Rattle.head_trail.proofs.TrailLaw.{first_of as left_of, second_of as right_of}
 use Rattle.volume_model.specs.Acks.{synced_ticket}
 use Rattle.volume_model.specs.Submits.{acks_for}

@@ -1,5 +1,5 @@
 -- Syncs that wait, and others in their place.
-use Rattle.std.proofs.Common.{◌≡◌, ℕ, zero, suc, ◌+◌, ◌-◌, ◌^◌, ◌≤◌, ◌<◌, Bool, true, false, cond, List, [], ◌∷◌, ◌++◌, length, map, refl, sym, ap, subst, ◌∙◌, arith}
+use Rattle.std.proofs.Common.{◌≡◌, ℕ, zero, suc, ◌+◌, ◌<◌, Bool, true, false, cond, List, [], ◌∷◌, ◌++◌, length, map, subst, arith}
 use Rattle.std.specs.Prelude.{filter, slice_index_or, Contains}
 use Rattle.std.specs.List.{AllByRecursion}
 use Rattle.session_script.specs.declared.logs.Ack.{Ack}

@@ -2,7 +2,6 @@
 use Rattle.std.specs.Prelude.{ℕ, ◌+◌, ◌≤◌, ◌≡◌, Bool, true, false, List, [], ◌∷◌, ◌++◌, length, Option, Some, None}
 use Rattle.tape_types.specs.declared.cartridges.Cartridge.{Cartridge}
 use Rattle.tape_types.specs.declared.cartridges.Limits.{Limits}
-use Rattle.tape_types.specs.declared.cartridges.Part.{Part}
 use Rattle.tape_types.specs.declared.cartridges.Place.{Place}
 use Rattle.tape_types.specs.declared.cartridges.Twin.{Twin}
 use Rattle.tape_types.specs.declared.moments.Moment.{Moment}
@@ -15,17 +14,16 @@ use Rattle.session_script.specs.Grammar.{calls_of}
 use Rattle.session_script.specs.declared.logs.Event.{Event}
 use Rattle.session_script.specs.declared.logs.Event.TheVariants as events
 use Rattle.tape_drive.specs.declared.drive.Drive.{Ghosts}
-use Rattle.tape_drive.specs.Looks.{Looks}
 use Rattle.tape_layout.specs.declared.ops.Op.{Op}
-use Rattle.tape_layout.specs.Ops.{HasRoom, end_of, place_of, puts}
+use Rattle.tape_layout.specs.Ops.{HasRoom}
 use Rattle.tape_meaning.specs.Carried.{carried}
 use Rattle.tape_meaning.specs.Meaning.{Stands}
 use Rattle.tape_meaning.specs.Mounts.{Mounts}
 use Rattle.tape_meaning.specs.declared.labels.Labels.{Labels}
-use Rattle.head_core.specs.Steps.{AfterOp, CanDo, IsOpStep, IsReadStep}
+use Rattle.head_core.specs.Steps.{CanDo, IsOpStep, IsReadStep}
 use Rattle.head_core.specs.declared.work.StepDone.{StepDone}
 use Rattle.head_core.specs.declared.work.StepDone.TheVariants as outcome
-use Rattle.volume_space.specs.Space.{Ask, Rules, Space, first_space, index, ops_of, part_for, store, with_data, with_index}
+use Rattle.volume_space.specs.Space.{Ask, Rules, Space, first_space, index, ops_of, store}
 use Rattle.volume_space.specs.Space as space
 use Rattle.volume_space.specs.Standing.{admitted_at, after_placed, asked, is_on, rules, sync_text}
 use Rattle.crash_theory.specs.Kept.{IsStep, IsSureAfter}

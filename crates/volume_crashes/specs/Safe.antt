@@ -1,5 +1,5 @@
 -- A served volume of which each crash leaves a tree of its history.
-use Rattle.std.specs.Prelude.{ℕ, ◌+◌, ◌≤◌, ◌≡◌, true, List, [], ◌∷◌, length, map, Some, None}
+use Rattle.std.specs.Prelude.{ℕ, ◌≤◌, ◌≡◌, true, List, [], ◌∷◌, length, map, Some, None}
 use Rattle.tape_types.specs.declared.cartridges.Cartridge.{Cartridge}
 use Rattle.tape_types.specs.declared.cartridges.Limits.{Limits}
 use Rattle.tape_types.specs.declared.cartridges.Part.TheVariants.{Dp}
@@ -17,7 +17,6 @@ use Rattle.volume_space.specs.Standing.{Given, Standing, is_on, standing}
 use Rattle.crash_theory.specs.Kept.{Wait}
 use Rattle.crash_theory.specs.Laws.{IsServing, State}
 use Rattle.crash_theory.specs.Made.{Job, Made, Trees, Volume, after, makes}
-use Rattle.volume_model.specs.Crash.{Leavings}
 use Rattle.volume_model.specs.Mount.{facts_of}
 use Rattle.volume_model.specs.Served.{Drive, View, tree_after}
 
