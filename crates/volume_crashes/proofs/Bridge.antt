@@ -17,7 +17,8 @@ use Rattle.head_core.specs.declared.work.StepDone.TheVariants as outcome
 use Rattle.crash_theory.specs.Events.{IsDone, IsFailed, Within}
 use Rattle.crash_theory.specs.Kept.{IsStep, IsSureAfter}
 use Rattle.crash_theory.specs.Moments.{moment_of}
-use Rattle.volume_crashes.specs.Laws.{HeadsDoOps, IsWell}
+use Rattle.volume_crashes.specs.Changes.{IsWell}
+use Rattle.volume_crashes.specs.Laws.{HeadsDoOps}
 
 pub some_same : {X : Type 0} (x y : X) → Some x ≡ Some y → x ≡ y
 some_same x y e = cc

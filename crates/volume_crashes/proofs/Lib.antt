@@ -9,3 +9,4 @@ pub mod Begins
 pub mod Survives
 pub mod Placing
 pub mod Asked
+pub mod Turned

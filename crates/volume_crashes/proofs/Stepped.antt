@@ -41,8 +41,8 @@ use Rattle.volume_model.specs.Mount.{facts_of}
 use Rattle.volume_model.specs.Served.{Fixed, View, headed, is_flush}
 use Rattle.volume_model.specs.Steps.{does_dp_flush, on_after}
 use Rattle.volume_model.specs.Submits.{acks_for}
-use Rattle.volume_crashes.specs.Changes.{IsStepped}
-use Rattle.volume_crashes.specs.Laws.{IsWell, StepsAreSafe}
+use Rattle.volume_crashes.specs.Changes.{IsStepped, IsWell}
+use Rattle.volume_crashes.specs.Laws.{StepsAreSafe}
 use Rattle.volume_crashes.specs.Safe.{AreInOrder, IsDpFlush, IsSafe, Settle, state_of, wait_of}
 use Rattle.volume_crashes.proofs.Admits.{at_acked, at_others, op_of}
 use Rattle.volume_crashes.proofs.Bridge.{heads_do_ops, looked, some_same}

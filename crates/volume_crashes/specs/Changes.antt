@@ -1,6 +1,10 @@
 -- What a call changes of a volume, as far as crashes go.
-use Rattle.std.specs.Prelude.{ℕ, ◌≡◌, Bool, true, false, List, [], ◌∷◌, ◌++◌, All, map}
+use Rattle.std.specs.Prelude.{Some, None, ℕ, ◌≡◌, Bool, true, false, List, [], ◌∷◌, ◌++◌, All, map}
+use Rattle.tape_types.specs.declared.cartridges.Twin.{Twin}
 use Rattle.plain_tree.specs.declared.calls.Placed.{Placed}
+use Rattle.head_core.specs.Steps.{IsOpStep, IsReadStep}
+use Rattle.head_core.specs.declared.work.StepDone.{StepDone}
+use Rattle.head_core.specs.declared.work.StepDone.TheVariants as outcome
 use Rattle.session_script.specs.declared.logs.Event.{Event}
 use Rattle.session_script.specs.declared.logs.Event.TheVariants as events
 use Rattle.head_trail.specs.Waiting as waiting
@@ -62,3 +66,25 @@ pub record IsStepped {D : Type 0} (drive : Ghosts D) (old new : View D) (step : 
   pub trail : IsTrail new.events
   pub answers_are : All (λ a. is_answer a ≡ true) answers
   pub headed_are : HasHeaded old
+
+-- a step that ended well
+abbrev pub IsWell : StepDone → Type 0
+IsWell (outcome.Read answer) = Unit {0}
+IsWell outcome.Wrote = Unit {0}
+IsWell outcome.Flushed = Unit {0}
+IsWell (outcome.Failed counts) = ⊥
+
+-- what the head did in a step, by its event: the first op, which is then gone where it was done, or a read
+abbrev pub IsDriven : {D : Type 0} → Ghosts D → View D → View D → Event → Type 0
+IsDriven drive old new (events.Worked place None) = (op : Op) × (end : StepDone) × (old.ops ≡ op ∷ new.ops)
+    × IsOpStep drive op end old.drive new.drive × IsWell end
+IsDriven drive old new (events.Worked place (Some told)) = (op : Op) × (later : List Op) × (counts : Twin)
+    × (old.ops ≡ op ∷ later) × (new.ops ≡ old.ops) × IsOpStep drive op (outcome.Failed counts) old.drive new.drive
+IsDriven drive old new (events.Served ticket place fault) = (end : StepDone) × (new.ops ≡ old.ops)
+    × IsReadStep drive place end old.drive new.drive
+IsDriven drive old new _ = ⊥
+
+-- of a turn: without a step the ops stay
+abbrev pub AreDriven : {D : Type 0} → Ghosts D → View D → View D → List Event → Type 0
+AreDriven drive old new [] = new.ops ≡ old.ops
+AreDriven drive old new (step ∷ answers) = IsDriven drive old new step

@@ -37,10 +37,13 @@ use Rattle.volume_model.specs.Ends.{begun}
 use Rattle.volume_model.specs.Meanings.{cartridges}
 use Rattle.volume_model.specs.Mount.{facts_of}
 use Rattle.volume_model.specs.Served.{CanTell, Fixed, View, tree_after}
-use Rattle.volume_model.specs.Steps.{on_after}
+use Rattle.volume_model.specs.Steps.{DrainsOnce, Turns, on_after}
 use Rattle.volume_model.specs.Submits.{Submits}
+use Rattle.volume_model.specs.declared.answers.Drained.{Drained}
 use Rattle.volume_model.specs.declared.answers.Submitted.{Submitted}
-use Rattle.volume_crashes.specs.Changes.{AreQuiet, HasHeaded, IsAsked, IsPlaced, IsStepped, events_of_sync}
+use Rattle.volume_model.specs.declared.answers.Turn.{Turn}
+use Rattle.head_trail.specs.Trail.{IsTrail}
+use Rattle.volume_crashes.specs.Changes.{AreDriven, AreQuiet, HasHeaded, IsAsked, IsPlaced, IsStepped, IsWell, events_of_sync}
 use Rattle.volume_crashes.specs.Safe.{IsSafe, given_by, seen_by, space_now, standing_now, state_of}
 
 -- the drive tells a cartridge that stands for the tree and is sound, and a crash leaves just that one
@@ -90,13 +93,6 @@ pub record SubmissionsAreSafe {D : Type 0} (drive : Ghosts D) : Type 0 where
       → IsSafe drive labels s old
       → IsPlaced drive old new placed [] (events_of_sync (length old.history) old.events queues)
       → AreQuiet queues → HasHeaded new → IsStill old new → s.changed ≡ false → IsSafe drive labels s new
-
--- a step that ended well
-abbrev pub IsWell : StepDone → Type 0
-IsWell (outcome.Read answer) = Unit {0}
-IsWell outcome.Wrote = Unit {0}
-IsWell outcome.Flushed = Unit {0}
-IsWell (outcome.Failed counts) = ⊥
 
 -- what a head says of an op is what the theory of crashes asks of it
 pub record HeadsDoOps {D : Type 0} (drive : Ghosts D) : Type 0 where
@@ -215,3 +211,15 @@ SubmitsAreSafe {D = D} drive = (labels : Labels) (old new : View D) (who nth : �
     → call_at (calls_of old.fixed.script) p ≡ Some Sync → (space_now (drive.limits old.fixed.first) old).changed ≡ true
     → IsNextDue drive labels (drive.limits old.fixed.first) old safe p.at)
     → IsSafeNow drive labels (drive.limits old.fixed.first) new
+
+-- So does each turn of the head, of a session that waits and of one that drains, whose write may be placed void with the
+-- fault that it owns: what the head did in its step is said beside.
+pub record TurnsAreSafe {D : Type 0} (drive : Ghosts D) : Type 0 where
+  pub waiting : (labels : Labels) (limits : Limits) (old new : View D) (most who ticket : ℕ) (answer : Turn)
+      → IsSafeNow drive labels limits old
+      → (t : Turns most (seen_by drive old.drive) (seen_by drive new.drive) old new who ticket answer)
+      → AreDriven drive old new t.added → IsTrail new.events → HasHeaded old → IsSafeNow drive labels limits new
+  pub draining : (labels : Labels) (limits : Limits) (old new : View D) (most who : ℕ) (answer : Drained)
+      → IsSafeNow drive labels limits old
+      → (t : DrainsOnce most (seen_by drive old.drive) (seen_by drive new.drive) old new who answer)
+      → AreDriven drive old new t.made → IsTrail new.events → HasHeaded old → IsSafeNow drive labels limits new

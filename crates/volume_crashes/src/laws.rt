@@ -1,7 +1,7 @@
 //! What keeps a served volume safe, call by call, and what that gives.
 
 ghost use Rattle.volume_crashes.specs.Laws.{HeadsDoOps, SafeVolumesSurvive, StartsAreSafe, StepsAreSafe};
-ghost use Rattle.volume_crashes.specs.Laws.{CallsAreSafe, StandingsGoOn, SubmissionsAreSafe, SubmitsAreSafe};
+ghost use Rattle.volume_crashes.specs.Laws.{CallsAreSafe, StandingsGoOn, SubmissionsAreSafe, SubmitsAreSafe, TurnsAreSafe};
 
 use tape_drive::Drive;
 
@@ -41,6 +41,11 @@ pub fn heads_do_ops<D: Drive>()
 /// A step of the head keeps it safe, and its first op can be done.
 pub fn steps_are_safe<D: Drive>()
     ensures { StepsAreSafe D.Drive }
+{}
+
+/// Each turn of the head keeps it safe, in the words of what it adds to the view.
+pub fn turns_are_safe<D: Drive>()
+    ensures { TurnsAreSafe D.Drive }
 {}
 
 /// A safe volume keeps the promise on crashes.
