@@ -1,0 +1,12 @@
+pub mod Trails
+pub mod Waits
+pub mod Fields
+pub mod Admits
+pub mod Submitted
+pub mod Bridge
+pub mod Stepped
+pub mod Begins
+pub mod Survives
+pub mod Placing
+pub mod Asked
+pub mod Turned

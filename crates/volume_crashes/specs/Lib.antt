@@ -1,0 +1,3 @@
+pub mod Safe
+pub mod Changes
+pub mod Laws
