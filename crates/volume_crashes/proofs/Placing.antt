@@ -116,7 +116,7 @@ module _ {D : Type 0} where
       ∙ ap (λ (h : List Placed). standing (given_at limits old.fixed) old.on h (length h)) history
 
   pub standings_go_on : StandingsGoOn D
-  standings_go_on = record { placed = placed_now; stepped = stepped_now }
+  standings_go_on = record { begins = λ limits fixed next. refl; placed = placed_now; stepped = stepped_now }
 
 -- ---- placements
 

@@ -134,9 +134,11 @@ SafeVolumesSurvive {D = D} drive = (labels : Labels) (s : Space) (v : View D) �
 
 -- ---- the space that goes with the history
 
--- what a placement leaves is what its call does to what stood before; and that files may go to the index partition from
+-- at the start it is that of the mount; what a placement leaves is what its call does to what stood before; and that files may go to the index partition from
 -- the end of the history on changes nothing of what stands
 pub record StandingsGoOn (D : Type 0) : Type 0 where
+  pub begins : (limits : Limits) (fixed : Fixed D) (next : Option Moment)
+      → space_now limits (begun fixed next) ≡ first_space (facts_of fixed.mounted)
   pub placed : (limits : Limits) (old new : View D) (p : Placed) → new.fixed ≡ old.fixed → new.on ≡ old.on
       → new.history ≡ old.history ++ p ∷ []
       → standing_now limits new
