@@ -1,0 +1,46 @@
+-- What each call of a served volume keeps, over any drive.
+use Rattle.std.specs.Prelude.{ℕ, ◌≡◌, Option}
+use Rattle.tape_types.specs.declared.moments.Moment.{Moment}
+use Rattle.tape_drive.specs.declared.drive.Drive.{Ghosts}
+use Rattle.tape_meaning.specs.Mounts.{Mounts}
+use Rattle.volume_model.specs.Ends.{begun}
+use Rattle.volume_model.specs.Marks.{draining, phase, waits}
+use Rattle.volume_model.specs.Meanings.{cartridges}
+use Rattle.volume_model.specs.Served.{Fixed, IsServed, View}
+use Rattle.volume_model.specs.Steps.{DrainsOnce, Turns}
+use Rattle.volume_model.specs.Submits.{CanSubmit, Submits}
+use Rattle.volume_model.specs.declared.answers.Drained.{Drained}
+use Rattle.volume_model.specs.declared.answers.Submitted.{Submitted}
+use Rattle.volume_model.specs.declared.answers.Turn.{Turn}
+use Rattle.session_script.specs.Sessions.{HasSessions}
+use Rattle.volume_crashes.specs.Laws.{CanServe}
+use Rattle.volume_order.specs.Kept.{seen}
+use Rattle.volume_laws.specs.Kept.{DrainsRightly, IsKept, SubmitsRightly, TurnsRightly}
+
+-- what is kept is all that is promised
+abbrev pub KeptIsPromised : {D : Type 0} → Ghosts D → Type 0
+KeptIsPromised {D} drive = (v : View D) → IsKept drive v
+    → IsServed cartridges (seen drive v.fixed.first) (seen drive v.drive) v
+
+-- it is kept of a volume of which nothing was asked yet
+abbrev pub VolumesBegin : {D : Type 0} → Ghosts D → Type 0
+VolumesBegin {D} drive = (fixed : Fixed D) (next : Option Moment) → HasSessions fixed.script
+    → ((can : CanServe drive fixed) → Mounts can.held fixed.mounted) → IsKept drive (begun fixed next)
+
+abbrev pub SubmissionsKeep : {D : Type 0} → Ghosts D → Type 0
+SubmissionsKeep {D} drive = (old new : View D) (who nth : ℕ) (answer : Submitted) → IsKept drive old
+    → CanSubmit old who nth
+    → (s : Submits (seen drive old.fixed.first) (seen drive new.drive) old new who nth answer)
+    → SubmitsRightly drive old new who nth s.added answer → IsKept drive new
+
+abbrev pub TurnsKeep : {D : Type 0} → Ghosts D → Type 0
+TurnsKeep {D} drive = (most : ℕ) (old new : View D) (who ticket : ℕ) (answer : Turn) → IsKept drive old
+    → phase who old.marks ≡ waits ticket
+    → (t : Turns most (seen drive old.drive) (seen drive new.drive) old new who ticket answer)
+    → TurnsRightly drive old new t.added → IsKept drive new
+
+abbrev pub DrainTurnsKeep : {D : Type 0} → Ghosts D → Type 0
+DrainTurnsKeep {D} drive = (most : ℕ) (old new : View D) (who : ℕ) (answer : Drained) → IsKept drive old
+    → phase who old.marks ≡ draining
+    → (t : DrainsOnce most (seen drive old.drive) (seen drive new.drive) old new who answer)
+    → DrainsRightly drive old new who t.made answer → IsKept drive new
