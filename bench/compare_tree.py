@@ -3,9 +3,9 @@
 
 usage: compare_tree.py OURS PEER [ROUNDS]
 
-OURS is `tree_speed`, PEER is tree.rs built with rustc. Each thing is done once and then more often; the difference, over
-how much more often, is what it takes, in processor time, less that of making the paths. Both run in turn, and the least
-of so many rounds counts. What both print has to be the same.
+OURS is `tree_speed`, PEER is tree.rs built with rustc. Each thing is done once and then more often; the difference,
+over how much more often, is what it takes, in processor time, less that of making the paths. Both run in turn, and the
+least of so many rounds counts. What both print has to be the same.
 """
 import os
 import subprocess

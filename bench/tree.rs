@@ -1,5 +1,5 @@
-//! Makes, finds, renames and removes the nodes of a tree, as `tree_speed` does, in a tree as one would write it with std:
-//! nodes in a vector, and in each directory an ordered map from names to numbers.
+//! Makes, finds, renames and removes the nodes of a tree, as `tree_speed` does, in a tree as one would write it with
+//! std: nodes in a vector, and in each directory an ordered map from names to numbers.
 //!
 //! build:  rustc -C opt-level=3 -C target-cpu=native -o tree tree.rs
 //! run:    ./tree wide 65536 10 make
@@ -94,7 +94,8 @@ struct Tree {
 }
 
 fn bad(name: &str) -> bool {
-    name.is_empty() || name.chars().count() > 255 || name.contains('/') || name.contains('\0') || name == "." || name == ".."
+    let is_long = name.chars().count() > 255;
+    name.is_empty() || is_long || name.contains('/') || name.contains('\0') || name == "." || name == ".."
 }
 
 impl Tree {
@@ -244,7 +245,10 @@ impl Tree {
                     open.extend(children.iter().rev().map(|(name, child)| (*child, place, name.as_str())));
                     ToldKind::Dir
                 }
-                Kind::File(length, extents) => ToldKind::File(*length, extents.iter().map(|e| raw_of(e, letters)).collect()),
+                Kind::File(length, extents) => {
+                    let raws = extents.iter().map(|e| raw_of(e, letters)).collect();
+                    ToldKind::File(*length, raws)
+                }
                 Kind::Link(text) => ToldKind::Link(text.clone()),
             };
             let Node { uid, times, readonly, .. } = *node;

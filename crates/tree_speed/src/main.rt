@@ -1,6 +1,6 @@
-// Measures the tree: makes, finds, renames and removes all nodes of one, mounts an index and tells it again, and prints what
-// is there in the end. Words: the shape of the tree, how many nodes it has with the root, how often a thing is done, and
-// what.
+// Measures the tree: makes, finds, renames and removes all nodes of one, mounts an index and tells it again, and prints
+// what is there in the end. Words: the shape of the tree, how many nodes it has with the root, how often a thing is
+// done, and what.
 #![tactic(auto)]
 
 mod calls;

@@ -11,8 +11,8 @@ use index_model::{Index, Kind, Node, RawExtent};
 /// Past the blocks and the counts of bytes of all extents that are tested for true.
 const FAR: u64 = 1 << 40;
 
-/// Whether a valid index can be mounted as that of a volume with these letters and blocks of so many bytes: each extent is
-/// on one of the partitions, begins within a block, and has a block and a count below 2^40.
+/// Whether a valid index can be mounted as that of a volume with these letters and blocks of so many bytes: each extent
+/// is on one of the partitions, begins within a block, and has a block and a count below 2^40.
 pub fn can_mount(index: &Index, letters: Letters, block_size: u32) -> bool
     requires valid { IsValid index.now }
     requires differ { letters.0 ≢ letters.1 }
