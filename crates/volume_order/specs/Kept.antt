@@ -44,9 +44,10 @@ abbrev pub AreApart : State → Type 0
 AreApart st = (k : ℕ)
     → (list_any (λ r. r.ticket == k) st.requests && list_any (λ s. s.ticket == k) st.syncs) ≡ false
 
--- A volume is served in order. Each placement has its place among the replies, and one that waits was done,
--- for a block or for a flush and not both. Syncs are answered in the order of their places. No ack is of a command to come. A session drains once, or has one fault kept
--- for it, and not both; and while it does it has a call to place. Its marks are such as calls make.
+-- A volume is served in order. Each placement has its place among the replies, and one that waits was done, for a
+-- block or for a flush and not both. Syncs are answered in the order of their places. No ack is of a command to come.
+-- A session drains once, or has one fault kept for it, and not both; and while it does it has a call to place. Its
+-- marks are such as calls make.
 pub record IsKeptOrder {D : Type 0} (first now : Drive) (v : View D) : Type 0 where
   pub orderly : IsOrderly first now v
   pub sessions : HasSessions v.fixed.script

@@ -29,7 +29,8 @@ pub fn the_definitions_tell_sides()
         → TurnsInOrder (drive_at 33 (Some (dp 11))) (drive_at 34 (Some (dp 11))) (before_flush at)
         (after_flush at 34 handed_marks (Some 3)) flushed }
     ensures before_flush_isnt { (at : Moment)
-        → ¬ MayFollow (before_flush at) (after_flush at 34 handed_marks (Some 3)) (Synced 2 ∷ Worked (dp 11) None ∷ []) }
+        → ¬ MayFollow (before_flush at) (after_flush at 34 handed_marks (Some 3))
+        (Synced 2 ∷ Worked (dp 11) None ∷ []) }
     ensures other_reply_isnt { (at : Moment) → ¬ IsReplied (to_flush at) flushed 2 done }
     ensures no_reply_isnt { (at : Moment) → ¬ IsBrought (to_flush at) flushed 2 None }
     ensures waits_still_is { (at : Moment) → IsBrought (to_flush at) [] 2 None }
