@@ -89,7 +89,6 @@ wants_plain here (place ∷ places) = and_from (here == here) (list_all (is_plai
 
 pub record AreOwn (calls : Calls) (history : List Placed) (p : Placed) (st : State) (added : List Event) : Type 0 where
   pub own : list_all (is_own (length history)) added ≡ true
-  pub begun : filter_map syncs_ticket added ≡ [] → done_syncs calls (history ++ p ∷ []) ≡ done_syncs calls history
   pub syncs : done_syncs calls (history ++ p ∷ []) ≡ done_syncs calls history ++ filter_map syncs_ticket added
   pub answered : filter_map synced_ticket added ≡ cond (list_any (answers (length history)) added) (length history ∷ []) []
   pub rises : (front : List ℕ) → is_rising (front ++ tickets st.syncs) ≡ true → list_all (λ x. nat_lt x (length history)) (front ++ tickets st.syncs) ≡ true
@@ -120,7 +119,6 @@ plain_own calls history p st added every same =
     let is = plain (length history) added every in
     record {
       own = is.own;
-      begun = λ none. same;
       syncs = same ∙ sym (ap (λ l. done_syncs calls history ++ l) is.begun ∙ append-nil (done_syncs calls history));
       answered = is.answered ∙ sym (ap (λ b. cond b (length history ∷ []) []) is.unanswered);
       rises = λ front rising below.
@@ -162,7 +160,6 @@ sync_own calls history p st places answer once fate call trail =
     record {
       own = list_all-append (is_own here) (queues_at places) (Syncs here ∷ answer)
           ∙ and_from (list_all (is_own here) (queues_at places)) ((here == here) && list_all (is_own here) answer) q.own (and_from (here == here) (list_all (is_own here) answer) same once.own);
-      begun = λ none. absurd (let h : here ∷ [] ≡ [] = sym begun ∙ none in cc);
       syncs = done_push_sync calls history p fate call ∙ ap (λ l. done_syncs calls history ++ l) (sym begun);
       answered = told ∙ once.answered ∙ ap (λ b. cond b (here ∷ []) []) (sym any);
       rises = λ front rising below.
