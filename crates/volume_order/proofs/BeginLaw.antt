@@ -12,6 +12,7 @@ volumes_begin drive fixed next sessions = record {
   sessions = sessions;
   count = refl;
   done = λ k p e. cc;
+  apart = λ k. refl;
   rising = refl;
   commands = λ k d less. absurd (omega (arith, less));
   once = λ who. omega arith;

@@ -136,6 +136,7 @@ module _ {D : Type 0} (first now : Drive) (v : View D) (p : Placed) (counts : Tw
         (λ last. absurd (let no : Some reply ≡ None = last.1 in cc))
         (at_push v.replies (Some reply) None k r);
     rising = subst (λ l. is_rising (l ++ tickets (after_all v.events).syncs) ≡ true) (sym same_synced) c.kept.rising;
+    apart = c.kept.apart;
     commands = c.kept.commands;
     once = once c;
     more = more c;

@@ -98,30 +98,35 @@ or_false : (a b : Bool) → b ≡ false → (a || b) ≡ a
 or_false true b e = refl
 or_false false b e = e
 
-pub own_waits : (st : State) (e : Event) (here k : ℕ) → (here == k) ≡ false → is_own here e ≡ true → is_waiting (after st e) k ≡ is_waiting st k
-own_waits st (Wants ticket place) here k other is =
+pub own_wants : (st : State) (e : Event) (here k : ℕ) → (here == k) ≡ false → is_own here e ≡ true → list_any (wants_it k) (after st e).requests ≡ list_any (wants_it k) st.requests
+own_wants st (Wants ticket place) here k other is =
     let last : Request = record { ticket = ticket; place = place; arrival = st.arrived } in
-    ap (λ b. b || list_any (syncs_it k) st.syncs)
-    (list_any-append (wants_it k) st.requests (last ∷ [])
-    ∙ or_false (list_any (wants_it k) st.requests) ((ticket == k) || false) (ap (λ b. b || false) (differs here k ticket other is)))
-own_waits st (Queues place) here k other is = refl
-own_waits st (Syncs ticket) here k other is =
+    list_any-append (wants_it k) st.requests (last ∷ []) ∙ or_false (list_any (wants_it k) st.requests) ((ticket == k) || false) (ap (λ b. b || false) (differs here k ticket other is))
+own_wants st (Queues place) here k other is = refl
+own_wants st (Syncs ticket) here k other is = refl
+own_wants st (Synced ticket) here k other is = refl
+own_wants st (Drains who) here k other is = absurd (cc)
+own_wants st (Rests who) here k other is = absurd (cc)
+own_wants st (Served ticket place fault) here k other is = absurd (cc)
+own_wants st (Worked place fault) here k other is = absurd (cc)
+
+pub own_syncs : (st : State) (e : Event) (here k : ℕ) → (here == k) ≡ false → is_own here e ≡ true → list_any (syncs_it k) (after st e).syncs ≡ list_any (syncs_it k) st.syncs
+own_syncs st (Wants ticket place) here k other is = refl
+own_syncs st (Queues place) here k other is = refl
+own_syncs st (Syncs ticket) here k other is =
     let last : Waiter = record { ticket = ticket; due = st.done + length (st.ended ++ Rattle.head_trail.specs.Waiting.with_flushes st.group) } in
-    ap (λ b. list_any (wants_it k) st.requests || b)
-    (list_any-append (syncs_it k) st.syncs (last ∷ [])
-    ∙ or_false (list_any (syncs_it k) st.syncs) ((ticket == k) || false) (ap (λ b. b || false) (differs here k ticket other is)))
-own_waits st (Synced ticket) here k other is =
-    ap (λ b. list_any (wants_it k) st.requests || b) (any_filter_same (syncs_it k) (λ (s : Waiter). not (s.ticket == ticket)) st.syncs (keeps))
+    list_any-append (syncs_it k) st.syncs (last ∷ []) ∙ or_false (list_any (syncs_it k) st.syncs) ((ticket == k) || false) (ap (λ b. b || false) (differs here k ticket other is))
+own_syncs st (Synced ticket) here k other is = any_filter_same (syncs_it k) (λ (s : Waiter). not (s.ticket == ticket)) st.syncs keeps
   where
+    flip : (ticket == k) ≡ false → (k == ticket) ≡ false
+    flip e = false_from_ne_true (k == ticket) (λ same. both_ways (ticket == k) e (eq-eqb ticket k (sym (eqb-true k ticket same))))
+
     keeps : (s : Waiter) → (s.ticket == k) ≡ true → not (s.ticket == ticket) ≡ true
     keeps s e = ap not (subst (λ n. (n == ticket) ≡ false) (sym (eqb-true s.ticket k e)) (flip (differs here k ticket other is)))
-      where
-        flip : (ticket == k) ≡ false → (k == ticket) ≡ false
-        flip e = false_from_ne_true (k == ticket) (λ same. both_ways (ticket == k) e (eq-eqb ticket k (sym (eqb-true k ticket same))))
-own_waits st (Drains who) here k other is = absurd (cc)
-own_waits st (Rests who) here k other is = absurd (cc)
-own_waits st (Served ticket place fault) here k other is = absurd (cc)
-own_waits st (Worked place fault) here k other is = absurd (cc)
+own_syncs st (Drains who) here k other is = absurd (cc)
+own_syncs st (Rests who) here k other is = absurd (cc)
+own_syncs st (Served ticket place fault) here k other is = absurd (cc)
+own_syncs st (Worked place fault) here k other is = absurd (cc)
 
 -- ---- over lists of events
 
@@ -131,11 +136,22 @@ turning_list st (e ∷ events) k every h =
     let parts = and_parts (is_turning e) (list_all is_turning events) every in
     turning_list (after st e) events k parts.1 (false_from_ne_true (is_waiting (after st e) k) (λ is. both_ways (is_waiting st k) h (turning_waits st e k parts.0 is)))
 
-pub own_list : (st : State) (events : List Event) (here k : ℕ) → (here == k) ≡ false → list_all (is_own here) events ≡ true → is_waiting (fold after st events) k ≡ is_waiting st k
-own_list st [] here k other every = refl
-own_list st (e ∷ events) here k other every =
+-- at another place a submission changes neither what is asked for nor which syncs wait
+pub record AreSame (a b : State) (k : ℕ) : Type 0 where
+  pub wants : list_any (wants_it k) a.requests ≡ list_any (wants_it k) b.requests
+  pub syncs : list_any (syncs_it k) a.syncs ≡ list_any (syncs_it k) b.syncs
+
+pub own_same : (st : State) (events : List Event) (here k : ℕ) → (here == k) ≡ false → list_all (is_own here) events ≡ true → AreSame (fold after st events) st k
+own_same st [] here k other every = record { wants = refl; syncs = refl }
+own_same st (e ∷ events) here k other every =
     let parts = and_parts (is_own here e) (list_all (is_own here) events) every in
-    own_list (after st e) events here k other parts.1 ∙ own_waits st e here k other parts.0
+    let later = own_same (after st e) events here k other parts.1 in
+    record { wants = later.wants ∙ own_wants st e here k other parts.0; syncs = later.syncs ∙ own_syncs st e here k other parts.0 }
+
+pub own_list : (st : State) (events : List Event) (here k : ℕ) → (here == k) ≡ false → list_all (is_own here) events ≡ true → is_waiting (fold after st events) k ≡ is_waiting st k
+own_list st events here k other every =
+    let same = own_same st events here k other every in
+    ap (λ b. b || list_any (syncs_it k) (fold after st events).syncs) same.wants ∙ ap (λ b. list_any (wants_it k) st.requests || b) same.syncs
 
 -- a submission makes no step and drains nothing
 pub own_steps : (events : List Event) (here : ℕ) → list_all (is_own here) events ≡ true → filter_map step_to events ≡ []

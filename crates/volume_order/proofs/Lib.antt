@@ -11,6 +11,7 @@ pub mod Marked
 pub mod Owned
 pub mod Views
 pub mod PlaceLaw
+pub mod Apart
 pub mod StepLaw
 pub mod SessionLaw
 pub mod FaultLaw

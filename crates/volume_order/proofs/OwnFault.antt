@@ -16,8 +16,9 @@ use Rattle.volume_model.specs.Acks.{answers}
 use Rattle.volume_model.specs.Faults.{kept_for}
 use Rattle.volume_model.specs.Served.{is_waiting}
 use Rattle.volume_model.specs.Steps.{AreOfStep, drain_fault, no_step, one_step, session_of}
-use Rattle.volume_order.specs.Sides.{IsReplied, owned_from}
+use Rattle.volume_order.specs.Sides.{owned_from}
 use Rattle.volume_order.proofs.Frames.{no_step_owned, syncs_it, wants_it}
+use Rattle.volume_order.proofs.StepLaw.{Brought}
 use Rattle.volume_order.proofs.Turning.{answers_step, drain_faults_from, drained_is_owned, kept-cons, may_come}
 
 -- nobody waits for ops but sessions that drain, and the step failed
@@ -67,7 +68,7 @@ none_follow st (e ∷ events) none every trail = by e (All-head (λ a. is_answer
     by (Drains who) is fit = absurd (cc)
     by (Rests who) is fit = absurd (cc)
 
-nothing_replied : (st : State) (k : ℕ) → is_waiting st k ≡ true → IsReplied st [] k None
+nothing_replied : (st : State) (k : ℕ) → is_waiting st k ≡ true → Brought st [] k None
 nothing_replied st k waits = record { waits = waits; fault = refl; synced = refl }
 
 step_owned : (st : State) (e : Event) (answers : List Event) (who : ℕ) (counts : Twin) → All (λ a. is_answer a ≡ true) answers → kept_for who (drain_faults_from st (e ∷ answers)) ≡ counts ∷ []
@@ -76,19 +77,19 @@ step_owned st e answers who counts every owns =
     let later : kept_for who (drain_faults_from (after st e) answers) ≡ [] = drained_is_owned (after st e) answers who ∙ no_step_owned (after st e) (Rattle.head_trail.specs.Trail.of_session who) answers (answers_step answers every) in
     sym (append-nil (kept_for who (option_to_list (drain_fault st e)))) ∙ ap (λ l. kept_for who (option_to_list (drain_fault st e)) ++ l) (sym later) ∙ sym (kept-cons who (drain_fault st e) (drain_faults_from (after st e) answers)) ∙ owns
 
-by_step : (st : State) (made : List Event) (who k : ℕ) (counts : Twin) → AreOfStep made → is_trail_from st made ≡ true → kept_for who (drain_faults_from st made) ≡ counts ∷ [] → is_waiting st k ≡ true → IsReplied st made k None
+by_step : (st : State) (made : List Event) (who k : ℕ) (counts : Twin) → AreOfStep made → is_trail_from st made ≡ true → kept_for who (drain_faults_from st made) ≡ counts ∷ [] → is_waiting st k ≡ true → Brought st made k None
 by_step st all who k counts no_step trail owns waits = absurd (cc)
 by_step st all who k counts (one_step e answers is every) trail owns waits =
     let f = fails_alone st e who counts (step_owned st e answers who counts every owns) in
     let none = none_follow (after st e) answers f.syncs every (may_come st e answers trail).later in
     let asked : is_waiting (after st e) k ≡ true = ap (λ (l : List Request). list_any (wants_it k) l || list_any (syncs_it k) (after st e).syncs) f.requests
     ∙ ap (λ (l : List Waiter). list_any (wants_it k) st.requests || list_any (syncs_it k) l) (f.syncs ∙ sym f.none_before) ∙ waits in
-    subst (λ l. IsReplied st (e ∷ l) k None) (sym none) (record { waits = asked; fault = sym (f.unowned k); synced = sym (ap (λ b. b || false) (f.unanswered k)) })
+    subst (λ l. Brought st (e ∷ l) k None) (sym none) (record { waits = asked; fault = sym (f.unowned k); synced = sym (ap (λ b. b || false) (f.unanswered k)) })
 
 pub own_fault : (st : State) (made : List Event) (kept : List (ℕ × Twin)) (who k : ℕ) (counts : Twin) → AreOfStep made → is_trail_from st made ≡ true
-    → (0 < length (kept_for who kept) → made ≡ []) → kept_for who (kept ++ drain_faults_from st made) ≡ counts ∷ [] → is_waiting st k ≡ true → IsReplied st made k None
+    → (0 < length (kept_for who kept) → made ≡ []) → kept_for who (kept ++ drain_faults_from st made) ≡ counts ∷ [] → is_waiting st k ≡ true → Brought st made k None
 own_fault st made kept who k counts shape trail first owns waits =
-    ⊎_elim (λ some. subst (λ l. IsReplied st l k None) (sym (first some)) (nothing_replied st k waits))
+    ⊎_elim (λ some. subst (λ l. Brought st l k None) (sym (first some)) (nothing_replied st k waits))
     (λ none.
     let nothing : kept_for who kept ≡ [] = nil_from_length (kept_for who kept) (omega (arith, none)) in
     by_step st made who k counts shape trail

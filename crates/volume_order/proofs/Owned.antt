@@ -89,11 +89,28 @@ wants_plain here (place ∷ places) = and_from (here == here) (list_all (is_plai
 
 pub record AreOwn (calls : Calls) (history : List Placed) (p : Placed) (st : State) (added : List Event) : Type 0 where
   pub own : list_all (is_own (length history)) added ≡ true
-  pub begun : filter_map syncs_ticket added ≡ [] → done_syncs calls (history ++ p ∷ []) ≡ done_syncs calls history
   pub syncs : done_syncs calls (history ++ p ∷ []) ≡ done_syncs calls history ++ filter_map syncs_ticket added
   pub answered : filter_map synced_ticket added ≡ cond (list_any (answers (length history)) added) (length history ∷ []) []
   pub rises : (front : List ℕ) → is_rising (front ++ tickets st.syncs) ≡ true → list_all (λ x. nat_lt x (length history)) (front ++ tickets st.syncs) ≡ true
       → is_rising ((front ++ filter_map synced_ticket added) ++ tickets (fold after st added).syncs) ≡ true
+  pub apart : is_waiting st (length history) ≡ false
+      → (list_any (wants_it (length history)) (fold after st added).requests && list_any (syncs_it (length history)) (fold after st added).syncs) ≡ false
+
+queues_ask : (st : State) (places : List Place) → (fold after st (queues_at places)).requests ≡ st.requests
+queues_ask st [] = refl
+queues_ask st (place ∷ places) = queues_ask (after st (Queues place)) places
+
+or_left_false : (a b : Bool) → (a || b) ≡ false → a ≡ false
+or_left_false true b h = absurd (cc)
+or_left_false false b h = refl
+
+or_right_false : (a b : Bool) → (a || b) ≡ false → b ≡ false
+or_right_false true b h = absurd (cc)
+or_right_false false b h = h
+
+and_right_false : (a b : Bool) → b ≡ false → (a && b) ≡ false
+and_right_false true b e = e
+and_right_false false b e = refl
 
 -- requests and ops alone
 plain_own : (calls : Calls) (history : List Placed) (p : Placed) (st : State) (added : List Event) → list_all (is_plain (length history)) added ≡ true
@@ -102,13 +119,14 @@ plain_own calls history p st added every same =
     let is = plain (length history) added every in
     record {
       own = is.own;
-      begun = λ none. same;
       syncs = same ∙ sym (ap (λ l. done_syncs calls history ++ l) is.begun ∙ append-nil (done_syncs calls history));
       answered = is.answered ∙ sym (ap (λ b. cond b (length history ∷ []) []) is.unanswered);
       rises = λ front rising below.
           subst (λ l. is_rising ((front ++ l) ++ tickets (fold after st added).syncs) ≡ true) (sym is.answered)
           (subst (λ l. is_rising (l ++ tickets (fold after st added).syncs) ≡ true) (sym (append-nil front))
           (subst (λ l. is_rising (front ++ tickets l) ≡ true) (sym (is.syncs st)) rising));
+      apart = λ rests. and_right_false (list_any (wants_it (length history)) (fold after st added).requests) (list_any (syncs_it (length history)) (fold after st added).syncs)
+          (ap (list_any (syncs_it (length history))) (is.syncs st) ∙ or_right_false (list_any (wants_it (length history)) st.requests) (list_any (syncs_it (length history)) st.syncs) rests);
     }
 
 -- ---- a sync
@@ -118,12 +136,13 @@ record IsAnsweredAtOnce (here : ℕ) (added : List Event) : Type 0 where
   turns : list_all is_turning added ≡ true
   begun : filter_map syncs_ticket added ≡ []
   answered : filter_map synced_ticket added ≡ cond (list_any (answers here) added) (here ∷ []) []
+  requests : (st : State) → (fold after st added).requests ≡ st.requests
 
 at_once : (here : ℕ) (stand : List Op) → IsAnsweredAtOnce here (synced_at here stand)
 at_once here [] =
     let same = eq-eqb here here refl in
-    record { own = and_from (here == here) true same refl; turns = refl; begun = refl; answered = sym (ap (λ b. cond (b || false) (here ∷ []) []) same) }
-at_once here (op ∷ later) = record { own = refl; turns = refl; begun = refl; answered = refl }
+    record { own = and_from (here == here) true same refl; turns = refl; begun = refl; answered = sym (ap (λ b. cond (b || false) (here ∷ []) []) same); requests = λ st. refl }
+at_once here (op ∷ later) = record { own = refl; turns = refl; begun = refl; answered = refl; requests = λ st. refl }
 
 sync_own : (calls : Calls) (history : List Placed) (p : Placed) (st : State) (places : List Place) (answer : List Event) → IsAnsweredAtOnce (length history) answer
     → p.fate ≡ fates.Done → call_at calls p ≡ Some Sync → is_trail_from st (queues_at places ++ Syncs (length history) ∷ answer) ≡ true
@@ -141,7 +160,6 @@ sync_own calls history p st places answer once fate call trail =
     record {
       own = list_all-append (is_own here) (queues_at places) (Syncs here ∷ answer)
           ∙ and_from (list_all (is_own here) (queues_at places)) ((here == here) && list_all (is_own here) answer) q.own (and_from (here == here) (list_all (is_own here) answer) same once.own);
-      begun = λ none. absurd (let h : here ∷ [] ≡ [] = sym begun ∙ none in cc);
       syncs = done_push_sync calls history p fate call ∙ ap (λ l. done_syncs calls history ++ l) (sym begun);
       answered = told ∙ once.answered ∙ ap (λ b. cond b (here ∷ []) []) (sym any);
       rises = λ front rising below.
@@ -156,6 +174,10 @@ sync_own calls history p st places answer once fate call trail =
           let done = turns_rise (after st1 (Syncs here)) front answer later once.turns began in
           subst (λ l. is_rising ((front ++ l) ++ tickets (fold after st (queues_at places ++ Syncs here ∷ answer)).syncs) ≡ true) (sym told)
           (subst (λ (s : State). is_rising ((front ++ filter_map synced_ticket answer) ++ tickets s.syncs) ≡ true) (sym (fold-append after st (queues_at places) (Syncs here ∷ answer))) done);
+      apart = λ rests.
+          let whole = fold after st (queues_at places ++ Syncs here ∷ answer) in
+          let same : whole.requests ≡ st.requests = ap (λ (s : State). s.requests) (fold-append after st (queues_at places) (Syncs here ∷ answer)) ∙ once.requests (after (fold after st (queues_at places)) (Syncs here)) ∙ queues_ask st places in
+          ap (λ b. b && list_any (syncs_it here) whole.syncs) (ap (list_any (wants_it here)) same ∙ or_left_false (list_any (wants_it here) st.requests) (list_any (syncs_it here) st.syncs) rests);
     }
 
 no_events : (calls : Calls) (history : List Placed) (p : Placed) (st : State) (added : List Event) → added ≡ [] → done_syncs calls (history ++ p ∷ []) ≡ done_syncs calls history → AreOwn calls history p st added
@@ -179,11 +201,7 @@ submitted calls history p events fates.Done (Some call) added fate is trail of =
 
 -- ---- a ticket that waits is not answered
 
-queues_ask : (st : State) (places : List Place) → (fold after st (queues_at places)).requests ≡ st.requests
-queues_ask st [] = refl
-queues_ask st (place ∷ places) = queues_ask (after st (Queues place)) places
-
-none_left : (ticket : ℕ) (syncs : List Waiter) → list_any (syncs_it ticket) (filter (λ (s : Waiter). not (s.ticket == ticket)) syncs) ≡ false
+pub none_left : (ticket : ℕ) (syncs : List Waiter) → list_any (syncs_it ticket) (filter (λ (s : Waiter). not (s.ticket == ticket)) syncs) ≡ false
 none_left ticket [] = refl
 none_left ticket (s ∷ syncs) = by (s.ticket == ticket) refl (none_left ticket syncs)
   where
@@ -191,10 +209,6 @@ none_left ticket (s ∷ syncs) = by (s.ticket == ticket) refl (none_left ticket 
         → list_any (syncs_it ticket) (cond (not b) (s ∷ filter (λ (s : Waiter). not (s.ticket == ticket)) syncs) (filter (λ (s : Waiter). not (s.ticket == ticket)) syncs)) ≡ false
     by true is rest = rest
     by false is rest = ap (λ b. b || list_any (syncs_it ticket) (filter (λ (s : Waiter). not (s.ticket == ticket)) syncs)) is ∙ rest
-
-or_left_false : (a b : Bool) → (a || b) ≡ false → a ≡ false
-or_left_false true b h = absurd (cc)
-or_left_false false b h = refl
 
 sync_waits : (here : ℕ) (st : State) (places : List Place) (stand : List Op) → is_waiting st here ≡ false → is_waiting (fold after st (queues_at places ++ Syncs here ∷ synced_at here stand)) here ≡ true
     → list_any (answers here) (queues_at places ++ Syncs here ∷ synced_at here stand) ≡ false

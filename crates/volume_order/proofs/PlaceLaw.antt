@@ -1,8 +1,8 @@
 -- A submission that places its call keeps the order.
-use Rattle.std.specs.Prelude.{◌≡◌, ◌==◌, ◌||◌, not, ℕ, zero, suc, ◌+◌, ◌≤◌, ◌<◌, Bool, true, false, cond, List, [], ◌∷◌, ◌++◌, Contains, IfSome, filter, filter_map, fold, length, map, Option, Some, None, is_some, slice_get}
+use Rattle.std.specs.Prelude.{◌≡◌, ◌==◌, ◌||◌, not, ℕ, zero, suc, ◌+◌, ◌≤◌, ◌<◌, Bool, true, false, cond, List, [], ◌∷◌, ◌++◌, Contains, IfSome, filter, filter_map, fold, length, map, Option, Some, None, is_some, slice_get, ◌&&◌}
 use Rattle.std.specs.List.{list_any}
 use Rattle.std.proofs.Common.{⊎_elim, refl, sym, ap, subst, ◌∙◌, arith, append-nil}
-use Rattle.std.proofs.lemmas.Bool.{and_from, eq-eqb, eqb-true}
+use Rattle.std.proofs.lemmas.Bool.{and_from, eq-eqb, eqb-true, false_from_ne_true}
 use Rattle.std.proofs.lemmas.List.{length_push}
 use Rattle.std.proofs.lemmas.List.Elements.{filter_map-append}
 use Rattle.tape_types.specs.declared.moments.Moment.{Moment}
@@ -12,7 +12,7 @@ use Rattle.session_script.specs.Grammar.{calls_of}
 use Rattle.session_script.specs.Sessions.{greatest_session}
 use Rattle.session_script.specs.declared.logs.Event.{Event}
 use Rattle.session_script.specs.declared.logs.Reply.{Reply}
-use Rattle.head_trail.specs.Trail.{after_all, is_trail_from, step_to, steps}
+use Rattle.head_trail.specs.Trail.{after_all, is_trail_from, step_to, steps, after as after_event}
 use Rattle.head_trail.specs.Waiting.{State, ops, start}
 use Rattle.tape_layout.specs.declared.ops.Op.{Op}
 use Rattle.volume_model.specs.Acks.{answers, is_synced, synced_places, synced_ticket, syncs_ticket}
@@ -25,7 +25,7 @@ use Rattle.volume_model.specs.declared.marks.Kind.TheVariants.{Places as places,
 use Rattle.volume_order.specs.Kept.{IsKeptOrder, is_rising, owed}
 use Rattle.volume_order.specs.Phases.{is_course_from}
 use Rattle.volume_order.proofs.Acked.{acks_more, commands_more, reached_more, synced_at, synced_push}
-use Rattle.volume_order.proofs.Frames.{no_step_no_fault, no_step_owned, own_drains, own_list, own_steps}
+use Rattle.volume_order.proofs.Frames.{no_step_no_fault, no_step_owned, own_drains, own_list, own_same, own_steps, syncs_it, wants_it}
 use Rattle.volume_order.proofs.Lists.{at_end, at_more, at_past, at_push, count_after, some_same}
 use Rattle.volume_order.proofs.Marked.{AreMore, IsOwed, course_more, marks_more, phase_more, places_more, to_owed}
 use Rattle.volume_order.proofs.Owned.{AreOwn, after_more, trail_more}
@@ -175,6 +175,17 @@ module _ {D : Type 0} (first now : Drive) (old : View D) (p : Placed) (reply : O
       by true is e same = absurd (kinds_phase (length old.history) kinds reply c.kinds_are (phase w old.marks) (subst (λ n. phase n old.marks ≡ idle) (eqb-true p.who w is) c.can.free) e)
       by false is e same = omega (arith, c.kept.more w e, ap length (same ∙ append-nil (places_of w old.marks)))
 
+  still_apart : CanPlace → (k : ℕ) → (list_any (wants_it k) (fold after_event (after_all old.events) added).requests && list_any (syncs_it k) (fold after_event (after_all old.events) added).syncs) ≡ false
+  still_apart c k = by (length old.history == k) refl
+    where
+      by : (b : Bool) → (length old.history == k) ≡ b → (list_any (wants_it k) (fold after_event (after_all old.events) added).requests && list_any (syncs_it k) (fold after_event (after_all old.events) added).syncs) ≡ false
+      by false other =
+          let same = own_same (after_all old.events) added (length old.history) k other c.own.own in
+          ap (λ b. b && list_any (syncs_it k) (fold after_event (after_all old.events) added).syncs) same.wants ∙ ap (λ b. list_any (wants_it k) (after_all old.events).requests && b) same.syncs ∙ c.kept.apart k
+      by true is = subst (λ n. (list_any (wants_it n) (fold after_event (after_all old.events) added).requests && list_any (syncs_it n) (fold after_event (after_all old.events) added).syncs) ≡ false) (eqb-true (length old.history) k is)
+          (c.own.apart (false_from_ne_true (is_waiting (after_all old.events) (length old.history))
+          (λ waits. omega (arith, c.kept.count, Rattle.volume_order.proofs.Lists.at_within old.replies (length old.history) None (c.kept.orderly.waiting.waits (length old.history) waits)))))
+
   still_rising : CanPlace → is_rising (synced_places (old.replies ++ reply ∷ []) ++ tickets (after_all (old.events ++ added)).syncs) ≡ true
   still_rising c =
       subst (λ l. is_rising (l ++ tickets (after_all (old.events ++ added)).syncs) ≡ true) (sym (synced_are c))
@@ -193,6 +204,7 @@ module _ {D : Type 0} (first now : Drive) (old : View D) (p : Placed) (reply : O
         (λ last. subst (λ (q : Placed). q.fate ≡ fates.Done) last.1
         (c.fate (⊎_elim (λ was. absurd (omega (arith, last.0, c.kept.count, Rattle.volume_order.proofs.Lists.at_within old.replies k None was))) (λ end. end.1) (at_push old.replies reply None k r))))
         (at_push old.history p q k h);
+    apart = λ k. subst (λ (s : State). (list_any (wants_it k) s.requests && list_any (syncs_it k) s.syncs) ≡ false) (sym (after_more old.events added)) (still_apart c k);
     rising = still_rising c;
     commands = commands_more added old.acks now.commands now.commands (omega arith) c.kept.commands;
     once = λ w. omega (arith, same_owed c w, c.kept.once w);

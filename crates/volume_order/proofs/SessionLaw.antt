@@ -1,5 +1,5 @@
 -- A drain that begins or ends, and a reply that is handed out, keep the order.
-use Rattle.std.specs.Prelude.{◌≡◌, ◌==◌, not, ℕ, zero, suc, ◌+◌, ◌≤◌, ◌<◌, Bool, true, false, cond, List, [], ◌∷◌, ◌++◌, Contains, filter, filter_map, fold, length, map, Option, Some, None, slice_get}
+use Rattle.std.specs.Prelude.{◌≡◌, ◌==◌, not, ℕ, zero, suc, ◌+◌, ◌≤◌, ◌<◌, Bool, true, false, cond, List, [], ◌∷◌, ◌++◌, Contains, filter, filter_map, fold, length, map, Option, Some, None, slice_get, ◌&&◌}
 use Rattle.std.specs.List.{list_any, cons_option}
 use Rattle.std.proofs.Common.{refl, sym, ap, subst, ◌∙◌, arith, append-nil, length-append}
 use Rattle.std.proofs.lemmas.Bool.{and_from, eq-eqb, eqb-true}
@@ -11,7 +11,7 @@ use Rattle.session_script.specs.declared.logs.Event.{Event}
 use Rattle.session_script.specs.declared.logs.Event.TheVariants.{Drains, Rests}
 use Rattle.session_script.specs.declared.logs.Reply.{Reply}
 use Rattle.head_trail.specs.Trail.{after as after_event, after_all, is_trail_from, step_to}
-use Rattle.head_trail.specs.Waiting.{State, ops, start}
+use Rattle.head_trail.specs.Waiting.{Request, State, Waiter, ops, start}
 use Rattle.tape_layout.specs.declared.ops.Op.{Op}
 use Rattle.volume_model.specs.Acks.{answers, synced_places, synced_ticket, syncs_ticket}
 use Rattle.volume_model.specs.Marks.{after, draining, hand_in, idle, mark, phase, place_in, places_of, waits}
@@ -22,7 +22,7 @@ use Rattle.volume_model.specs.declared.marks.Kind.TheVariants.{Hands as hands}
 use Rattle.volume_order.specs.Kept.{IsKeptOrder, is_rising, owed}
 use Rattle.volume_order.specs.Phases.{goes_on, is_course_from}
 use Rattle.volume_order.proofs.Acked.{acks_more, commands_more, reached_more}
-use Rattle.volume_order.proofs.Frames.{no_step_no_fault, no_step_owned}
+use Rattle.volume_order.proofs.Frames.{no_step_no_fault, no_step_owned, syncs_it, wants_it}
 use Rattle.volume_order.proofs.Lists.{count_after}
 use Rattle.volume_order.proofs.Marked.{AreMore, IsOwed, course_more, marked, marks_more, phase_more, places_more, to_owed}
 use Rattle.volume_order.proofs.Owned.{after_more, trail_more}
@@ -38,12 +38,13 @@ pub record IsOfDrain (e : Event) : Type 0 where
   pub answers_none : filter_map synced_ticket (e ∷ []) ≡ []
   pub waits : (st : State) (k : ℕ) → is_waiting (after_event st e) k ≡ is_waiting st k
   pub syncs : (st : State) → (after_event st e).syncs ≡ st.syncs
+  pub requests : (st : State) → (after_event st e).requests ≡ st.requests
 
 pub drains_is : (who : ℕ) → IsOfDrain (Drains who)
-drains_is who = record { stepless = refl; begins_none = refl; answers_none = refl; waits = λ st k. refl; syncs = λ st. refl }
+drains_is who = record { stepless = refl; begins_none = refl; answers_none = refl; waits = λ st k. refl; syncs = λ st. refl; requests = λ st. refl }
 
 pub rests_is : (who : ℕ) → IsOfDrain (Rests who)
-rests_is who = record { stepless = refl; begins_none = refl; answers_none = refl; waits = λ st k. refl; syncs = λ st. refl }
+rests_is who = record { stepless = refl; begins_none = refl; answers_none = refl; waits = λ st k. refl; syncs = λ st. refl; requests = λ st. refl }
 
 module _ {D : Type 0} (first now : Drive) (v : View D) (who : ℕ) (e : Event) (kind : Kind) where
   -- what is shown of it
@@ -141,6 +142,9 @@ module _ {D : Type 0} (first now : Drive) (v : View D) (who : ℕ) (e : Event) (
     rising = subst (λ (s : State). is_rising (synced_places v.replies ++ tickets s.syncs) ≡ true) (sym state_is)
         (subst (λ l. is_rising (synced_places v.replies ++ tickets l) ≡ true) (sym (c.of.syncs (after_all v.events))) c.kept.rising);
     commands = commands_more (e ∷ []) v.acks now.commands now.commands (omega arith) c.kept.commands;
+    apart = λ k. subst (λ (s : State). (list_any (wants_it k) s.requests && list_any (syncs_it k) s.syncs) ≡ false) (sym state_is)
+        (ap (λ (l : List Request). list_any (wants_it k) l && list_any (syncs_it k) (after_event (after_all v.events) e).syncs) (c.of.requests (after_all v.events))
+        ∙ ap (λ (l : List Waiter). list_any (wants_it k) (after_all v.events).requests && list_any (syncs_it k) l) (c.of.syncs (after_all v.events)) ∙ c.kept.apart k);
     once = once_all c;
     more = more_all c;
     course = course_more who v.marks (kind ∷ []) (and_from (goes_on (phase who v.marks) kind) true c.comes refl) c.kept.course;
@@ -258,6 +262,7 @@ module _ {D : Type 0} (first now : Drive) (v : View D) (who ticket : ℕ) (reply
     sessions = c.kept.sessions;
     count = c.kept.count;
     done = c.kept.done;
+    apart = c.kept.apart;
     rising = c.kept.rising;
     commands = c.kept.commands;
     once = c.kept.once;

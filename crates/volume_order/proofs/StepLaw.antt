@@ -1,5 +1,6 @@
 -- A step of the head, with the answers behind it, keeps the order.
-use Rattle.std.specs.Prelude.{◌≡◌, ◌⊎◌, ◌==◌, min, ◌^◌, ◌-◌, ℕ, ◌+◌, ◌≤◌, true, false, cond, List, [], ◌∷◌, ◌++◌, filter_map, fold, length, map, Option, Some, None, slice_get}
+use Rattle.std.specs.Prelude.{◌≡◌, ◌⊎◌, ◌==◌, min, ◌^◌, ◌-◌, ℕ, ◌+◌, ◌≤◌, true, false, cond, List, [], ◌∷◌, ◌++◌, filter_map, fold, length, map, Option, Some, None, slice_get, not, is_some}
+use Rattle.std.specs.Option.{option_to_list}
 use Rattle.std.specs.List.{list_all, list_any}
 use Rattle.std.proofs.Common.{inl, inr, refl, sym, ap, subst, ◌∙◌, arith, append-nil, length-append}
 use Rattle.std.proofs.lemmas.Bool.{and_from, both_ways, cases_Bool, false_from_ne_true}
@@ -13,17 +14,18 @@ use Rattle.session_script.specs.declared.logs.Ack.{Ack}
 use Rattle.session_script.specs.declared.logs.Event.{Event}
 use Rattle.session_script.specs.declared.logs.Event.TheVariants.{Wants, Queues, Syncs, Synced, Drains, Rests, Served, Worked}
 use Rattle.session_script.specs.declared.logs.Reply.{Reply}
-use Rattle.head_trail.specs.Trail.{after as after_event, after_all, fault_of, is_trail_from, steps}
+use Rattle.head_trail.specs.Trail.{after as after_event, after_all, fault_of, is_trail_from, of_call, steps}
 use Rattle.head_trail.specs.Waiting.{State, ops, start}
 use Rattle.tape_layout.specs.declared.ops.Op.{Op}
-use Rattle.volume_model.specs.Acks.{answers, synced_places, synced_ticket, syncs_ticket}
-use Rattle.volume_model.specs.Faults.{AreRises, kept_for}
+use Rattle.volume_model.specs.Acks.{answers, is_synced, synced_places, synced_ticket, syncs_ticket}
+use Rattle.volume_model.specs.Faults.{AreRises, kept_for, told}
 use Rattle.volume_model.specs.Served.{Drive, IsOrderly, View, headed, is_waiting}
 use Rattle.volume_model.specs.Steps.{AreOfStep, drain_faults}
 use Rattle.volume_model.specs.Submits.{acks_for}
-use Rattle.volume_order.specs.Kept.{IsKeptOrder, is_rising, owed}
-use Rattle.volume_order.specs.Sides.{IsReplied}
+use Rattle.volume_order.specs.Kept.{AreApart, IsKeptOrder, is_rising, owed}
+use Rattle.volume_order.specs.Sides.{owned_from}
 use Rattle.volume_order.proofs.Acked.{AreAnswered, acks_more, commands_more, has_answered, reached_more, synced_at, synced_turn}
+use Rattle.volume_order.proofs.Apart.{turning_apart}
 use Rattle.volume_order.proofs.Frames.{is_turning, turning_list}
 use Rattle.volume_order.proofs.Marked.{marks_stay}
 use Rattle.volume_order.proofs.Owned.{after_more, trail_more}
@@ -44,6 +46,12 @@ turning_syncs (Syncs ticket ∷ events) every = absurd (cc)
 turning_syncs (Drains who ∷ events) every = absurd (cc)
 turning_syncs (Rests who ∷ events) every = absurd (cc)
 
+-- what stands at a place that had no reply
+pub record Brought (st : State) (added : List Event) (k : ℕ) (reply : Option Reply) : Type 0 where
+  pub waits : is_waiting (fold after_event st added) k ≡ not (is_some reply)
+  pub fault : option_to_list (told reply) ≡ owned_from st (of_call k) added
+  pub synced : is_synced reply ≡ list_any (answers k) added
+
 module _ {D : Type 0} (first before now : Drive) (old : View D) (new : List (Option Reply)) (added : List Event) where
   -- what is shown of the step
   pub record CanStep : Type 0 where
@@ -52,7 +60,7 @@ module _ {D : Type 0} (first before now : Drive) (old : View D) (new : List (Opt
     pub trail : is_trail_from (after_all old.events) added ≡ true
     pub count : length new ≡ length old.replies
     pub each : (k : ℕ) (reply : Reply) → slice_get old.replies k ≡ Some (Some reply) → slice_get new k ≡ Some (Some reply)
-    pub replied : (k : ℕ) (reply : Option Reply) → slice_get old.replies k ≡ Some None → slice_get new k ≡ Some reply → IsReplied (after_all old.events) added k reply
+    pub replied : (k : ℕ) (reply : Option Reply) → slice_get old.replies k ≡ Some None → slice_get new k ≡ Some reply → Brought (after_all old.events) added k reply
     pub later : before.commands ≤ now.commands
     pub least : min (before.commands + steps added) (2 ^ 64 - 1) ≤ now.commands
     pub rises : AreRises before.faults now.faults (filter_map fault_of added)
@@ -155,6 +163,7 @@ module _ {D : Type 0} (first before now : Drive) (old : View D) (new : List (Opt
     done = λ k p h r. by k p h r (at old.replies k);
     rising = subst (λ l. is_rising (l ++ tickets (after_all (old.events ++ added)).syncs) ≡ true) (sym (synced_are c))
         (subst (λ (s : State). is_rising ((synced_places old.replies ++ filter_map synced_ticket added) ++ tickets s.syncs) ≡ true) (sym (after_more old.events added)) (rises_on c));
+    apart = subst AreApart (sym (after_more old.events added)) (turning_apart (after_all old.events) added (all_turn added c.shape) c.kept.apart);
     commands = commands_more added old.acks before.commands now.commands c.later c.kept.commands;
     once = λ w. omega (arith, same_owed c w, c.kept.once w);
     more = c.kept.more;

@@ -2,8 +2,8 @@
 use Rattle.std.specs.Prelude.{◌≡◌, ◌⊎◌, ◌==◌, not, ℕ, zero, suc, ◌≤◌, Bool, true, false, cond, List, [], ◌∷◌, ◌++◌, filter_map, length, Option, Some, None, slice_get}
 use Rattle.std.specs.List.{cons_option, scan, zip}
 use Rattle.std.specs.Option.{option_and_then, option_to_list}
-use Rattle.std.proofs.Common.{⊎_elim, inl, inr, refl, sym, ap, subst, ◌∙◌, arith, append-nil, append_assoc}
-use Rattle.std.proofs.lemmas.Bool.{cases_Bool, eqb-true}
+use Rattle.std.proofs.Common.{inl, inr, refl, sym, ap, subst, ◌∙◌, arith, append-nil, append_assoc}
+use Rattle.std.proofs.lemmas.Bool.{eqb-true}
 use Rattle.std.proofs.lemmas.List.Elements.{filter_map-append}
 use Rattle.tape_types.specs.declared.cartridges.Twin.{Twin}
 use Rattle.plain_tree.specs.declared.calls.Fate.{Fate}
@@ -211,18 +211,6 @@ kept_others who w (x ∷ kept) other = by (x.0 == who) refl (kept_others who w k
         → kept_for w (cond (not b) (x ∷ without_session who kept) (without_session who kept)) ≡ cons_option (cond (x.0 == w) (Some x.1) None) (kept_for w kept)
     by true is rest = rest ∙ sym (ap (λ c. cons_option (cond c (Some x.1) None) (kept_for w kept)) (subst (λ n. (n == w) ≡ false) (sym (eqb-true x.0 who is)) other))
     by false is rest = ap (λ l. cons_option (cond (x.0 == w) (Some x.1) None) l) rest
-
-pub kept_stays : (who w : ℕ) (kept : List (ℕ × Twin)) → kept_for who kept ≡ [] → kept_for w (without_session who kept) ≡ kept_for w kept
-kept_stays who w kept none = ⊎_elim (λ is. subst (λ n. kept_for n (without_session who kept) ≡ kept_for n kept) (eqb-true who w is) (kept_gone who kept ∙ sym none)) (kept_others who w kept) (cases_Bool (who == w))
-
--- nothing was kept for the session, so the faults stay those that they were
-pub faults_kept : (events : List Event) (history : List Placed) (replies : List (Option Reply)) (kept : List (ℕ × Twin)) (who first now : ℕ) → kept_for who kept ≡ []
-    → AreFaults history events replies kept first now → AreFaults history events replies (without_session who kept) first now
-faults_kept events history replies kept who first now none were = record {
-  calls = were.calls;
-  sessions = λ w. ap (λ l. told_to history replies w ++ l) (kept_stays who w kept none) ∙ were.sessions w;
-  rises = were.rises;
-}
 
 -- its write is placed void with the fault
 pub faults_drained : (events : List Event) (history : List Placed) (waiting : List (Option Reply)) (kept : List (ℕ × Twin)) (p : Placed) (counts : Twin) (first now : ℕ)

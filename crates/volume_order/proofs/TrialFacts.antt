@@ -26,16 +26,16 @@ use Rattle.volume_model.specs.Turning.{after_flush, before_flush, draining_view,
 use Rattle.volume_model.specs.declared.answers.Drained.TheVariants as drained
 use Rattle.volume_model.specs.declared.answers.Submitted.TheVariants as submitted
 use Rattle.volume_order.specs.Rows.{IsKept, IsOrdered, at_once, fails, flushed, served, session_drains, smaller, sync_stands, telling, to_flush, with_acks, with_events, with_history, with_marks, with_ops, with_replies, without_reply}
-use Rattle.volume_order.specs.Sides.{HasOneMoment, IsAnswered, IsReplied, KeepsNone, MayFollow, MovesOn, TurnsInOrder}
+use Rattle.volume_order.specs.Sides.{HasOneMoment, IsAnswered, IsBrought, IsReplied, KeepsNone, MayFollow, MovesOn, TurnsInOrder}
 
 some_same : {X : Type 0} (x y : X) → Some x ≡ Some y → x ≡ y
 some_same x y e = cc
 
 synced_then : (at : Moment) (k : ℕ) (reply : Option Reply) → slice_get (before_flush at).replies k ≡ Some None → slice_get (after_flush at 34 handed_marks (Some 3)).replies k ≡ Some reply
-    → IsReplied (to_flush at) flushed k reply
+    → IsBrought (to_flush at) flushed k reply
 synced_then at zero reply o n = absurd (cc)
 synced_then at (suc zero) reply o n = absurd (cc)
-synced_then at (suc (suc zero)) reply o n = subst (IsReplied (to_flush at) flushed 2) (some_same (Some synced) reply n) (record { waits = refl; fault = refl; synced = refl })
+synced_then at (suc (suc zero)) reply o n = subst (IsBrought (to_flush at) flushed 2) (some_same (Some synced) reply n) (record { waits = refl; fault = refl; synced = refl })
 synced_then at (suc (suc (suc k))) reply o n = absurd (cc)
 
 pub flush_is : (at : Moment) → TurnsInOrder (drive_at 33 (Some (dp 11))) (drive_at 34 (Some (dp 11))) (before_flush at) (after_flush at 34 handed_marks (Some 3)) flushed
@@ -48,16 +48,19 @@ flush_is at = record {
 pub before_flush_isnt : (at : Moment) → ¬ MayFollow (before_flush at) (after_flush at 34 handed_marks (Some 3)) (Synced 2 ∷ Worked (dp 11) None ∷ [])
 before_flush_isnt at m = true≢false (sym m.trail)
 
-pub other_reply_isnt : (at : Moment) → ¬ IsReplied (to_flush at) flushed 2 (Some done)
+pub other_reply_isnt : (at : Moment) → ¬ IsReplied (to_flush at) flushed 2 done
 other_reply_isnt at r = true≢false (sym r.synced)
 
-pub no_reply_isnt : (at : Moment) → ¬ IsReplied (to_flush at) flushed 2 None
-no_reply_isnt at r = true≢false (sym r.waits)
+pub no_reply_isnt : (at : Moment) → ¬ IsBrought (to_flush at) flushed 2 None
+no_reply_isnt at waits = true≢false (sym waits)
 
-pub early_reply_isnt : (at : Moment) → ¬ IsReplied (to_flush at) [] 2 (Some synced)
+pub waits_still_is : (at : Moment) → IsBrought (to_flush at) [] 2 None
+waits_still_is at = refl
+
+pub early_reply_isnt : (at : Moment) → ¬ IsReplied (to_flush at) [] 2 synced
 early_reply_isnt at r = true≢false r.waits
 
-pub fault_is : IsReplied sync_stands (fails 0 1) 2 (Some (fault 0 1))
+pub fault_is : IsReplied sync_stands (fails 0 1) 2 (fault 0 1)
 fault_is = record { waits = refl; fault = refl; synced = refl }
 
 -- the second number of the first fault
@@ -65,13 +68,13 @@ abbrev second : List Twin → ℕ
 second [] = 0
 second (t ∷ later) = t.after
 
-pub other_fault_isnt : ¬ IsReplied sync_stands (fails 0 1) 2 (Some (fault 0 2))
+pub other_fault_isnt : ¬ IsReplied sync_stands (fails 0 1) 2 (fault 0 2)
 other_fault_isnt r = let two : ◌≡◌ {A = ℕ} 2 1 = ap second r.fault in absurd (omega (arith, two))
 
-pub synced_though_failed_isnt : ¬ IsReplied sync_stands (fails 0 1) 2 (Some synced)
+pub synced_though_failed_isnt : ¬ IsReplied sync_stands (fails 0 1) 2 synced
 synced_though_failed_isnt r = true≢false r.synced
 
-pub fault_of_nobody_isnt : ¬ IsReplied session_drains (fails 0 1) 2 (Some (fault 0 1))
+pub fault_of_nobody_isnt : ¬ IsReplied session_drains (fails 0 1) 2 (fault 0 1)
 fault_of_nobody_isnt r = let one : ◌≡◌ {A = ℕ} 1 0 = ap second r.fault in absurd (omega (arith, one))
 
 one_rise : (before now : ℕ) (t : Twin) → IsRise before now t.before t.after → All (λ (t : Twin). IsRise before now t.before t.after) (t ∷ [])
@@ -200,6 +203,7 @@ served_is at = record {
   sessions = one_only (λ (l : ScriptLine). (1 ≤ l.who) × (l.who ≤ 16)) (record { who = 1; call = write [] }) (omega arith, omega arith);
   count = refl;
   done = λ k p e none. absurd (none_at k none);
+  apart = λ k. refl;
   rising = refl;
   commands = λ k d less. absurd (omega (arith, less));
   once = λ who. omega arith;

@@ -14,10 +14,10 @@ use Rattle.session_script.specs.declared.logs.Reply.{Reply}
 use Rattle.session_script.specs.declared.logs.Reply.TheVariants as replies
 use Rattle.head_trail.specs.Trail.{after as after_event, after_all, fault_of, is_trail_from}
 use Rattle.head_trail.specs.Waiting.{ops}
-use Rattle.volume_model.specs.Acks.{synced_ticket}
+use Rattle.volume_model.specs.Acks.{synced_places, synced_ticket}
 use Rattle.volume_model.specs.Faults.{AreRises, kept_for}
 use Rattle.volume_model.specs.Marks.{after, draining, idle, mark, phase, places_of}
-use Rattle.volume_model.specs.Served.{View, headed}
+use Rattle.volume_model.specs.Served.{View, headed, Drive}
 use Rattle.volume_model.specs.Steps.{AreOfStep, DrainsOnce, Turns, drain_faults, no_step, one_step, rest_of, without_session}
 use Rattle.volume_model.specs.Submits.{acks_for}
 use Rattle.volume_model.specs.declared.answers.Drained.{Drained}
@@ -28,7 +28,8 @@ use Rattle.volume_model.specs.declared.marks.Kind.TheVariants.{Places as places,
 use Rattle.volume_order.specs.Kept.{IsKeptOrder, seen}
 use Rattle.volume_order.specs.Laws.{DrainTurnsKeepOrder, IsInOrder, TurnsKeepOrder}
 use Rattle.volume_order.specs.Phases.{goes_on}
-use Rattle.volume_order.specs.Sides.{DrainsInOrder, IsReplied, MayFollow, TurnsInOrder}
+use Rattle.volume_order.specs.Sides.{DrainsInOrder, IsBrought, MayFollow, TurnsInOrder}
+use Rattle.volume_order.proofs.Apart.{still_untouched}
 use Rattle.volume_order.proofs.FaultLaw.{CanFail, failed_view, failing_keeps}
 use Rattle.volume_order.proofs.Frames.{no_step_no_fault}
 use Rattle.volume_order.proofs.Lists.{some_same}
@@ -36,9 +37,9 @@ use Rattle.volume_order.proofs.Marked.{marked}
 use Rattle.volume_order.proofs.Owned.{after_more, trail_more}
 use Rattle.volume_order.proofs.OwnFault.{own_fault}
 use Rattle.volume_order.proofs.SessionLaw.{CanDrain, CanHand, drained_view, draining_keeps, drains_less, handed_view, handing_keeps, rests_is}
-use Rattle.volume_order.proofs.StepLaw.{CanStep, stepped_view, stepping_keeps}
+use Rattle.volume_order.proofs.StepLaw.{Brought, CanStep, stepped_view, stepping_keeps}
 use Rattle.volume_order.proofs.SubmitLaw.{stand_by}
-use Rattle.volume_order.proofs.Turning.{answers_step}
+use Rattle.volume_order.proofs.Turning.{all_turn, answers_step}
 use Rattle.volume_order.proofs.Views.{one_moment, view_is}
 
 -- the counts of one step
@@ -53,6 +54,14 @@ rises_of before now all (one_step e answers is every) later rose =
     subst (λ l. AreRises before now (cons_option (fault_of e) l)) (sym none)
     (rises_by before now (fault_of e) later (subst (λ l. All (λ (t : Twin). IsRise before now t.before t.after) (cons_option (fault_of e) l)) none rose))
 
+-- a place that still waits is untouched, and what is shown of a reply is all
+brought : {D : Type 0} (first before : Drive) (old : View D) (added : List Event) (k : ℕ) (reply : Option Reply) → IsKeptOrder first before old → AreOfStep added → is_trail_from (after_all old.events) added ≡ true
+    → IsBrought (after_all old.events) added k reply → Brought (after_all old.events) added k reply
+brought first before old added k None kept shape trail waits =
+    let none = still_untouched (after_all old.events) (synced_places old.replies) added k kept.apart kept.rising trail (all_turn added shape) waits in
+    record { waits = waits; fault = sym none.unowned; synced = sym none.unanswered }
+brought first before old added k (Some reply) kept shape trail is = record { waits = is.waits; fault = is.fault; synced = is.synced }
+
 -- ---- turns of a session that waits
 
 turn_step : {D : Type 0} (drive : Ghosts D) (most : ℕ) (old new : View D) (who ticket : ℕ) (answer : Turn) → IsInOrder drive old
@@ -64,7 +73,7 @@ turn_step drive most old new who ticket answer kept t side = record {
   trail = side.follows.trail;
   count = t.replies.count;
   each = t.replies.each;
-  replied = side.replied;
+  replied = λ k reply o n. brought (seen drive old.fixed.first) (seen drive old.drive) old t.added k reply kept t.step.shape side.follows.trail (side.replied k reply o n);
   later = t.step.counts.later;
   least = t.step.counts.at_least;
   rises = rises_of (drive.faults old.drive) (drive.faults new.drive) t.added t.step.shape t.step.counts.faults side.moves.rises;
@@ -114,7 +123,7 @@ trail_of old new who answer made follows =
 drain_step : {D : Type 0} (drive : Ghosts D) (most : ℕ) (old new : View D) (who : ℕ) (answer : Drained) (replies : List (Option Reply)) → IsInOrder drive old
     → (t : DrainsOnce most (seen drive old.drive) (seen drive new.drive) old new who answer) → DrainsInOrder (seen drive old.drive) (seen drive new.drive) old new who t.made answer
     → length replies ≡ length old.replies → ((k : ℕ) (reply : Reply) → slice_get old.replies k ≡ Some (Some reply) → slice_get replies k ≡ Some (Some reply))
-    → ((k : ℕ) (reply : Option Reply) → slice_get old.replies k ≡ Some None → slice_get replies k ≡ Some reply → IsReplied (after_all old.events) t.made k reply)
+    → ((k : ℕ) (reply : Option Reply) → slice_get old.replies k ≡ Some None → slice_get replies k ≡ Some reply → Brought (after_all old.events) t.made k reply)
     → CanStep (seen drive old.fixed.first) (seen drive old.drive) (seen drive new.drive) old replies t.made
 drain_step drive most old new who answer replies kept t side count each replied = record {
   kept = kept;
@@ -141,7 +150,7 @@ drain_turns_keep {D = D} drive most old new who drained.Room kept draining_is t 
     let joined : old.events ++ (t.made ++ rest) ≡ (old.events ++ t.made) ++ rest = sym (append_assoc old.events t.made rest) in
     let stand : map headed new.ops ≡ ops (after_all ((old.events ++ t.made) ++ rest)) = stand_by old new (t.made ++ rest) side.follows t.adds.events ∙ ap (λ l. ops (after_all l)) joined in
     let stepped : IsKeptOrder first now v = stepping_keeps first before now old new.replies t.made
-    (drain_step drive most old new who drained.Room new.replies kept t side answered.replies.count answered.replies.each side.replied) new.drive new.next new.on new.ops
+    (drain_step drive most old new who drained.Room new.replies kept t side answered.replies.count answered.replies.each (λ k reply o n. brought (seen drive old.fixed.first) (seen drive old.drive) old t.made k reply kept t.step.shape (trail_of old new who drained.Room t.made side.follows) (side.replied k reply o n))) new.drive new.next new.on new.ops
     (stand ∙ ap ops (after_more (old.events ++ t.made) rest)) in
     let st = after_all (old.events ++ t.made) in
     let none : kept_for who v.kept ≡ [] = t.answered.0 in
@@ -175,7 +184,7 @@ drain_turns_keep {D = D} drive most old new who drained.More kept draining_is t 
     let v : View D = stepped_view first before now old new.replies t.made new.drive new.next new.on new.ops in
     let stand : map headed new.ops ≡ ops (after_all (old.events ++ t.made)) = stand_by old new (t.made ++ []) side.follows t.adds.events ∙ ap (λ l. ops (after_all (old.events ++ l))) (append-nil t.made) in
     let stepped : IsKeptOrder first now v = stepping_keeps first before now old new.replies t.made
-    (drain_step drive most old new who drained.More new.replies kept t side answered.replies.count answered.replies.each side.replied) new.drive new.next new.on new.ops stand in
+    (drain_step drive most old new who drained.More new.replies kept t side answered.replies.count answered.replies.each (λ k reply o n. brought (seen drive old.fixed.first) (seen drive old.drive) old t.made k reply kept t.step.shape (trail_of old new who drained.More t.made side.follows) (side.replied k reply o n))) new.drive new.next new.on new.ops stand in
     let is : new ≡ v = view_is new v t.fixed refl refl answered.history refl (t.adds.acks ∙ ap (λ l. old.acks ++ acks_for now.commands l) (append-nil t.made)) (t.adds.events ∙ ap (λ l. old.events ++ l) (append-nil t.made))
     (t.marks ∙ append-nil old.marks) (t.kept ∙ without_none who (old.kept ++ drain_faults old t.made) side.none) refl refl in
     subst (λ (v : View D). IsInOrder drive v) (sym is) stepped
@@ -189,7 +198,7 @@ drain_turns_keep {D = D} drive most old new who (drained.Fault counts) kept drai
     let stand : map headed new.ops ≡ ops (after_all (old.events ++ t.made)) = stand_by old new (t.made ++ []) side.follows t.adds.events ∙ ap (λ l. ops (after_all (old.events ++ l))) (append-nil t.made) in
     let stepped : IsKeptOrder first now v = stepping_keeps first before now old old.replies t.made
     (drain_step drive most old new who (drained.Fault counts) old.replies kept t side refl (λ k reply e. e)
-    (λ k reply e f. subst (IsReplied (after_all old.events) t.made k) (some_same None reply (sym e ∙ f))
+    (λ k reply e f. subst (Brought (after_all old.events) t.made k) (some_same None reply (sym e ∙ f))
     (own_fault (after_all old.events) t.made old.kept who k counts t.step.shape (trail_of old new who (drained.Fault counts) t.made side.follows) (λ some. t.none (inl some)) t.answered.0 (kept.orderly.waiting.none_yet k e)))) new.drive old.next new.on new.ops stand in
     let c : CanFail first now v p counts = record {
       kept = stepped;

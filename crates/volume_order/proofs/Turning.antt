@@ -92,11 +92,11 @@ no_step_behind t all (one_step e events is every) =
 -- ---- who owns a fault
 
 -- what one owns of a fault with its owner
-abbrev owned_head : Owner → Option (Owner × Twin) → List Twin
+abbrev pub owned_head : Owner → Option (Owner × Twin) → List Twin
 owned_head o None = []
 owned_head o (Some e) = cond (is_of o e.0) (e.1 ∷ []) []
 
-owned-cons : (st : State) (o : Owner) (e : Event) (events : List Event)
+pub owned-cons : (st : State) (o : Owner) (e : Event) (events : List Event)
     → owned_from st o (e ∷ events) ≡ owned_head o (both (owner_of st e) (fault_of e)) ++ owned_from (after st e) o events
 owned-cons st o e events = by (both (owner_of st e) (fault_of e))
   where
@@ -111,11 +111,11 @@ owned-cons st o e events = by (both (owner_of st e) (fault_of e))
         at true = refl
         at false = refl
 
-both_none : {X Y : Type 0} (o : Option X) → both {Y = Y} o None ≡ None
+pub both_none : {X Y : Type 0} (o : Option X) → both {Y = Y} o None ≡ None
 both_none None = refl
 both_none (Some x) = refl
 
-any_weaker : {X : Type 0} (p q : X → Bool) (xs : List X) → ((x : X) → p x ≡ true → q x ≡ true) → list_any p xs ≡ true → list_any q xs ≡ true
+pub any_weaker : {X : Type 0} (p q : X → Bool) (xs : List X) → ((x : X) → p x ≡ true → q x ≡ true) → list_any p xs ≡ true → list_any q xs ≡ true
 any_weaker p q [] w h = h
 any_weaker p q (x ∷ xs) w h = by (p x) (w x) h (any_weaker p q xs w)
   where
@@ -123,7 +123,7 @@ any_weaker p q (x ∷ xs) w h = by (p x) (w x) h (any_weaker p q xs w)
     by true one h more = or_left (q x) (list_any q xs) (one refl)
     by false one h more = or_right (q x) (list_any q xs) (more h)
 
-request_of : (st : State) (ticket : ℕ) (place : Place) (r : Request) → takes_request st ticket place r ≡ true → wants_it ticket r ≡ true
+pub request_of : (st : State) (ticket : ℕ) (place : Place) (r : Request) → takes_request st ticket place r ≡ true → wants_it ticket r ≡ true
 request_of st ticket place r h =
     (and_parts (r.ticket == ticket) (same_place r.place place) (and_parts (asks ticket place r) (is_least (request_key st.head r) (keys st)) h).0).0
 
@@ -317,7 +317,7 @@ failed_rises : (head : Place) (arrived : ℕ) (requests : List Request) (done : 
 failed_rises head arrived requests done ended group [] drains front h = h
 failed_rises head arrived requests done ended group (s ∷ syncs) drains front h = rising_without front s.ticket (tickets syncs) h
 
-one_rises : (st : State) (front : List ℕ) (e : Event) → fits st e ≡ true → is_turning e ≡ true → is_rising (front ++ tickets st.syncs) ≡ true
+pub one_rises : (st : State) (front : List ℕ) (e : Event) → fits st e ≡ true → is_turning e ≡ true → is_rising (front ++ tickets st.syncs) ≡ true
     → is_rising ((front ++ option_to_list (synced_ticket e)) ++ tickets (after st e).syncs) ≡ true
 one_rises st front (Synced ticket) fit is h = answered_rises st front ticket st.syncs fit h
 one_rises st front (Served ticket place None) fit is h = rising_same_front front st.syncs st.syncs refl h

@@ -77,7 +77,7 @@ session_is who script every some = session_from 0 who script every some
 
 -- ---- syncs and replies
 
-has_tickets : (k : ℕ) (syncs : List Waiter) → has k (tickets syncs) ≡ list_any (syncs_it k) syncs
+pub has_tickets : (k : ℕ) (syncs : List Waiter) → has k (tickets syncs) ≡ list_any (syncs_it k) syncs
 has_tickets k [] = refl
 has_tickets k (s ∷ syncs) = ap (λ b. (s.ticket == k) || b) (has_tickets k syncs)
 

@@ -1,5 +1,5 @@
 -- What each call of a volume shows, beside what it adds, so that the order is kept.
-use Rattle.std.specs.Prelude.{◌≡◌, ◌++◌, not, ℕ, cond, true, false, List, [], All, fold, filter_map, length, map, Option, Some, None, IfSome, is_some, slice_get}
+use Rattle.std.specs.Prelude.{◌≡◌, ◌++◌, ℕ, cond, true, false, List, [], All, fold, filter_map, length, map, Option, Some, None, IfSome, slice_get}
 use Rattle.std.specs.List.{list_any, scan}
 use Rattle.std.specs.Option.{option_to_list}
 use Rattle.tape_types.specs.Counts.{IsRise}
@@ -31,13 +31,17 @@ abbrev pub owned_from : State → Owner → List Event → List Twin
 owned_from st owner events = filter_map (λ e. cond (is_of owner e.0) (Some e.1) None)
     (filter_map (λ o. o) (scan after (λ st e. both (owner_of st e) (fault_of e)) st events))
 
--- What stands at a place that had no reply, after these events: nothing exactly as long as the head or a flush has to
--- come for it; a fault exactly where the events have one that it owns; and that it is synced exactly where the events
--- answer it.
-pub record IsReplied (st : State) (added : List Event) (k : ℕ) (reply : Option Reply) : Type 0 where
-  pub waits : is_waiting (fold after st added) k ≡ not (is_some reply)
-  pub fault : option_to_list (told reply) ≡ owned_from st (of_call k) added
-  pub synced : is_synced reply ≡ list_any (answers k) added
+-- A reply that came to a place that had none: nothing has to come for it any more; it is a fault exactly where the
+-- events have one that the place owns, and says that a sync is synced exactly where the events answer it.
+pub record IsReplied (st : State) (added : List Event) (k : ℕ) (reply : Reply) : Type 0 where
+  pub waits : is_waiting (fold after st added) k ≡ false
+  pub fault : option_to_list (told (Some reply)) ≡ owned_from st (of_call k) added
+  pub synced : is_synced (Some reply) ≡ list_any (answers k) added
+
+-- what stands there then: nothing as long as the head or a flush has to come for it
+abbrev pub IsBrought : State → List Event → ℕ → Option Reply → Type 0
+IsBrought st added k None = is_waiting (fold after st added) k ≡ true
+IsBrought st added k (Some reply) = IsReplied st added k reply
 
 -- ---- submit
 
@@ -59,7 +63,7 @@ pub record SubmitsInOrder {D : Type 0} (old new : View D) (added : List Event) (
 -- each place that had no reply has what the events bring
 abbrev pub AreReplied : {D : Type 0} → View D → View D → List Event → Type 0
 AreReplied old new added = (k : ℕ) (reply : Option Reply) → slice_get old.replies k ≡ Some None
-    → slice_get new.replies k ≡ Some reply → IsReplied (after_all old.events) added k reply
+    → slice_get new.replies k ≡ Some reply → IsBrought (after_all old.events) added k reply
 
 -- The two numbers of a fault that was met have risen, within what the drive counts. The drive tells no cartridge where
 -- it told none.

@@ -20,7 +20,7 @@ ghost use Rattle.volume_order.specs.Rows.{IsKept, IsOrdered, a_course, at_once, 
 ghost use Rattle.volume_order.specs.Rows.{hand_of_another, served, session_drains, smaller, still, sync_stands};
 ghost use Rattle.volume_order.specs.Rows.{telling, to_flush, two_at_once, with_acks, with_events, with_history};
 ghost use Rattle.volume_order.specs.Rows.{with_marks, with_ops, with_replies, without_reply};
-ghost use Rattle.volume_order.specs.Sides.{HasOneMoment, IsAnswered, IsReplied};
+ghost use Rattle.volume_order.specs.Sides.{HasOneMoment, IsAnswered, IsBrought, IsReplied};
 ghost use Rattle.volume_order.specs.Sides.{KeepsNone, MayFollow, MovesOn, TurnsInOrder};
 
 /// What a call shows beside what it adds, and damaged in one way.
@@ -29,14 +29,16 @@ pub fn the_definitions_tell_sides()
         → TurnsInOrder (drive_at 33 (Some (dp 11))) (drive_at 34 (Some (dp 11))) (before_flush at)
         (after_flush at 34 handed_marks (Some 3)) flushed }
     ensures before_flush_isnt { (at : Moment)
-        → ¬ MayFollow (before_flush at) (after_flush at 34 handed_marks (Some 3)) (Synced 2 ∷ Worked (dp 11) None ∷ []) }
-    ensures other_reply_isnt { (at : Moment) → ¬ IsReplied (to_flush at) flushed 2 (Some done) }
-    ensures no_reply_isnt { (at : Moment) → ¬ IsReplied (to_flush at) flushed 2 None }
-    ensures early_reply_isnt { (at : Moment) → ¬ IsReplied (to_flush at) [] 2 (Some synced) }
-    ensures fault_is { IsReplied sync_stands (fails 0 1) 2 (Some (fault 0 1)) }
-    ensures other_fault_isnt { ¬ IsReplied sync_stands (fails 0 1) 2 (Some (fault 0 2)) }
-    ensures synced_though_failed_isnt { ¬ IsReplied sync_stands (fails 0 1) 2 (Some synced) }
-    ensures fault_of_nobody_isnt { ¬ IsReplied session_drains (fails 0 1) 2 (Some (fault 0 1)) }
+        → ¬ MayFollow (before_flush at) (after_flush at 34 handed_marks (Some 3))
+        (Synced 2 ∷ Worked (dp 11) None ∷ []) }
+    ensures other_reply_isnt { (at : Moment) → ¬ IsReplied (to_flush at) flushed 2 done }
+    ensures no_reply_isnt { (at : Moment) → ¬ IsBrought (to_flush at) flushed 2 None }
+    ensures waits_still_is { (at : Moment) → IsBrought (to_flush at) [] 2 None }
+    ensures early_reply_isnt { (at : Moment) → ¬ IsReplied (to_flush at) [] 2 synced }
+    ensures fault_is { IsReplied sync_stands (fails 0 1) 2 (fault 0 1) }
+    ensures other_fault_isnt { ¬ IsReplied sync_stands (fails 0 1) 2 (fault 0 2) }
+    ensures synced_though_failed_isnt { ¬ IsReplied sync_stands (fails 0 1) 2 synced }
+    ensures fault_of_nobody_isnt { ¬ IsReplied session_drains (fails 0 1) 2 (fault 0 1) }
     ensures rise_is { MovesOn (drive_at 30 None) (faulted 1 (drive_at 31 None)) (fails 0 1) }
     ensures no_rise_isnt { ¬ MovesOn (drive_at 30 None) (faulted 1 (drive_at 31 None)) (fails 1 1) }
     ensures lost_fault_isnt { (at : Moment)

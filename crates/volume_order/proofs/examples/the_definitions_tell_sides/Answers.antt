@@ -1,4 +1,4 @@
-use Rattle.volume_order.proofs.TrialFacts.{flush_is, before_flush_isnt, other_reply_isnt, no_reply_isnt, early_reply_isnt, fault_is, other_fault_isnt, synced_though_failed_isnt, fault_of_nobody_isnt, rise_is, no_rise_isnt, lost_fault_isnt, at_once_is, done_at_once_isnt, fault_at_once_isnt, waits_isnt, ready_while_waiting_isnt, moment_is}
+use Rattle.volume_order.proofs.TrialFacts.{waits_still_is, flush_is, before_flush_isnt, other_reply_isnt, no_reply_isnt, early_reply_isnt, fault_is, other_fault_isnt, synced_though_failed_isnt, fault_of_nobody_isnt, rise_is, no_rise_isnt, lost_fault_isnt, at_once_is, done_at_once_isnt, fault_at_once_isnt, waits_isnt, ready_while_waiting_isnt, moment_is}
 use Rattle.volume_order.proofs.examples.the_definitions_tell_sides.Goals as goal
 
 pub returns-clause-flush_is : goal.returns-clause-flush_is
@@ -54,3 +54,6 @@ returns-clause-ready_while_waiting_isnt c = ready_while_waiting_isnt
 
 pub returns-clause-moment_is : goal.returns-clause-moment_is
 returns-clause-moment_is c = moment_is
+
+pub returns-clause-waits_still_is : goal.returns-clause-waits_still_is
+returns-clause-waits_still_is c = waits_still_is
