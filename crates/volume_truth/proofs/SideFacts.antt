@@ -1,5 +1,5 @@
 -- Which replies may come at once, and which may not.
-use Rattle.std.specs.Prelude.{◌≡◌, ℕ, Bool, List, [], cond, codes, length, Some}
+use Rattle.std.specs.Prelude.{◌∷◌, ◌≡◌, ℕ, Bool, List, [], cond, codes, length, Some}
 use Rattle.std.proofs.Common.{refl, arith, sym, ap, ◌∙◌, true≢false}
 use Rattle.std.specs.FinMap as fin
 use Rattle.std.specs.Ordering.{eq_by_cmp}
@@ -17,7 +17,14 @@ use Rattle.session_script.specs.declared.logs.Reply.TheVariants as replies
 use Rattle.volume_space.specs.Histories.{given, path, with_a}
 use Rattle.volume_space.specs.Mount.{MountFacts}
 use Rattle.volume_space.specs.Standing.{first_standing}
-use Rattle.volume_truth.specs.Sides.{IsReadyHere}
+use Rattle.volume_truth.specs.Sides.{IsReadyHere, SubmitsTruly}
+use Rattle.plain_tree.specs.declared.calls.Fate.TheVariants as fates
+use Rattle.session_script.specs.declared.logs.Event.TheVariants.{Syncs, Synced}
+use Rattle.tape_meaning.specs.declared.mounted.Mounted.{Mounted}
+use Rattle.volume_model.specs.Served.{IsTrue}
+use Rattle.volume_model.specs.declared.answers.Submitted.TheVariants as submitted
+use Rattle.volume_truth.specs.Worked.{one_sync, silent, synced}
+use Rattle.volume_truth.proofs.Truths.{places_truly}
 
 -- what stands at a path once a node was put somewhere
 get_put : (m : Nodes) (p : List (List ℕ)) (node : Node) (q : List (List ℕ)) → fin.get (fin.insert m p node) q ≡ cond (eq_by_cmp path_cmp q p) (Some node) (fin.get m q)
@@ -44,3 +51,23 @@ full_isnt m on at r = true≢false (sym r.over)
 
 pub synced_is : (m : MountFacts) (on : Bool) (at : Moment) → IsReadyHere (given at m []) on (first_standing (given at m [])) Sync at (replies.Answer answers.Synced)
 synced_is m on at = record { within = refl; answered = refl }
+
+-- a sync of a volume in which nothing has changed shows what a submission has to, and leaves it true
+pub sync_stays_true : (mounted : Mounted) (at : Moment) → SubmitsTruly silent (one_sync mounted at) (synced mounted at) 1 0 (submitted.Ready (replies.Answer answers.Synced))
+sync_stays_true mounted at = record {
+  call = Sync;
+  is_call = refl;
+  at = at;
+  history = refl;
+  ready = record { within = refl; answered = refl };
+  added = Syncs 0 ∷ Synced 0 ∷ [];
+  events = refl;
+  queues = refl;
+  ops = refl;
+}
+
+none_begun : (mounted : Mounted) (at : Moment) → IsTrue silent (one_sync mounted at)
+none_begun mounted at = record { replies = record { count = refl; each = λ k p reply e. cc }; ops = refl; standing = refl }
+
+pub it_is_true : (mounted : Mounted) (at : Moment) → IsTrue silent (synced mounted at)
+it_is_true mounted at = places_truly silent (one_sync mounted at) (synced mounted at) 1 0 fates.Done (Some (replies.Answer answers.Synced)) (none_begun mounted at) refl refl refl refl refl (sync_stays_true mounted at)

@@ -86,7 +86,7 @@ done_same : (before now added : List Event) → now ≡ before ++ added → list
 done_same before now added e none = ap (λ es. (after_all es).done) e ∙ ap (λ st. st.done) (fold-append after start before added) ∙ none_done (after_all before) added none
 
 -- a placement whose side is shown
-places_truly : {D : Type 0} (first : Drive) (old new : View D) (who nth : ℕ) (fate : Fate) (reply : Option Reply) → IsTrue first old → new.fixed ≡ old.fixed → new.on ≡ old.on
+pub places_truly : {D : Type 0} (first : Drive) (old new : View D) (who nth : ℕ) (fate : Fate) (reply : Option Reply) → IsTrue first old → new.fixed ≡ old.fixed → new.on ≡ old.on
     → new.replies ≡ old.replies ++ reply ∷ [] → (after_all new.events).done ≡ (after_all old.events).done → IfSome reply (λ r. fate ≡ fate_for r)
     → PlacesTruly first old new who nth fate reply → IsTrue first new
 places_truly first old new who nth fate reply is fixed on kept done fated side =

@@ -1,17 +1,20 @@
-ghost use Rattle.std.specs.Prelude.{◌≡◌, ℕ, Bool, true, false, List, [], ◌∷◌, codes, Option, Some, None};
+ghost use Rattle.std.specs.Prelude.{◌≡◌, Bool, [], ◌∷◌, codes, Some, None};
 ghost use Rattle.tape_types.specs.declared.cartridges.Twin.{Twin};
 ghost use Rattle.tape_types.specs.declared.moments.Moment.{Moment};
-ghost use Rattle.plain_tree.specs.declared.calls.Answer.TheVariants.{Done, Got, Synced};
-ghost use Rattle.plain_tree.specs.declared.calls.Call.TheVariants.{Mkdir, Read, Sync};
+ghost use Rattle.plain_tree.specs.declared.calls.Answer.TheVariants.{Got, Synced};
+ghost use Rattle.plain_tree.specs.declared.calls.Call.TheVariants.{Read, Sync};
 ghost use Rattle.plain_tree.specs.declared.calls.Fate.TheVariants as fates;
-ghost use Rattle.session_script.specs.declared.logs.Event.TheVariants.{Served, Synced as Answered, Worked};
+ghost use Rattle.session_script.specs.declared.logs.Event.TheVariants.{Synced as Answered, Worked};
 ghost use Rattle.session_script.specs.declared.logs.Reply.TheVariants as replies;
 ghost use Rattle.tape_layout.specs.declared.ops.Op.TheVariants.{Flush, Mark};
 ghost use Rattle.volume_space.specs.Histories.{given, path};
 ghost use Rattle.volume_space.specs.Mount.{MountFacts};
 ghost use Rattle.volume_space.specs.Standing.{first_standing};
-ghost use Rattle.volume_truth.specs.Sides.{IsReadyHere, left_by, ops_here};
-ghost use Rattle.volume_truth.specs.Worked.{at_end};
+ghost use Rattle.tape_meaning.specs.declared.mounted.Mounted.{Mounted};
+ghost use Rattle.volume_model.specs.declared.answers.Submitted.TheVariants as submitted;
+ghost use Rattle.volume_model.specs.Served.{IsTrue};
+ghost use Rattle.volume_truth.specs.Sides.{IsReadyHere, SubmitsTruly, left_by, ops_here};
+ghost use Rattle.volume_truth.specs.Worked.{at_end, one_sync, silent, synced};
 
 /// Replies that may come at once where a volume with one empty file begins, replies that may not, and the ops that are left
 /// behind a step.
@@ -29,6 +32,9 @@ pub fn the_sides_tell_replies()
         → IsReadyHere (given at m []) on (first_standing (given at m [])) Sync at (replies.Answer Synced) }
     ensures sync_of_nothing { (m : MountFacts) (on : Bool) (at : Moment)
         → ops_here (given at m []) on (first_standing (given at m [])) fates.Done (Some Sync) at ≡ [] }
+    ensures sync_stays_true { (mounted : Mounted) (at : Moment)
+        → SubmitsTruly silent (one_sync mounted at) (synced mounted at) 1 0 (submitted.Ready (replies.Answer Synced)) }
+    ensures it_is_true { (mounted : Mounted) (at : Moment) → IsTrue silent (synced mounted at) }
     ensures one_done { left_by (Worked (at_end 7) None ∷ Answered 2 ∷ []) (Mark (at_end 7) ∷ Flush (at_end 8) ∷ [])
         ≡ Flush (at_end 8) ∷ [] }
     ensures none_done { (counts : Twin)

@@ -1,4 +1,4 @@
-use Rattle.volume_truth.proofs.SideFacts.{fault_isnt, full_isnt, other_bytes_isnt, read_is, synced_is}
+use Rattle.volume_truth.proofs.SideFacts.{fault_isnt, full_isnt, other_bytes_isnt, it_is_true, read_is, sync_stays_true, synced_is}
 use Rattle.volume_truth.proofs.examples.the_sides_tell_replies.Goals as goal
 
 pub returns-clause-read_is : goal.returns-clause-read_is
@@ -15,3 +15,9 @@ returns-clause-full_isnt c = full_isnt
 
 pub returns-clause-synced_is : goal.returns-clause-synced_is
 returns-clause-synced_is c = synced_is
+
+pub returns-clause-sync_stays_true : goal.returns-clause-sync_stays_true
+returns-clause-sync_stays_true c = sync_stays_true
+
+pub returns-clause-it_is_true : goal.returns-clause-it_is_true
+returns-clause-it_is_true c = it_is_true
