@@ -27,7 +27,7 @@ use Rattle.volume_space.specs.Space as space
 use Rattle.volume_space.specs.Standing.{admitted_at, after_placed, asked, is_on, rules, sync_text}
 use Rattle.crash_theory.specs.Kept.{IsStep, IsSureAfter}
 use Rattle.crash_theory.specs.Events.{IsDone, IsFailed, Within}
-use Rattle.crash_theory.specs.Made.{Entry, Job}
+use Rattle.crash_theory.specs.Made.{Entry, Job, part_items}
 use Rattle.crash_theory.specs.Moments.{moment_of}
 use Rattle.crash_theory.specs.Plans.{IsDue, data_jobs, index_jobs}
 use Rattle.crash_theory.specs.Starts.{made_of}
@@ -45,7 +45,7 @@ use Rattle.volume_model.specs.declared.answers.Submitted.{Submitted}
 use Rattle.volume_model.specs.declared.answers.Turn.{Turn}
 use Rattle.head_trail.specs.Trail.{IsTrail}
 use Rattle.volume_crashes.specs.Changes.{AreDriven, AreQuiet, HasHeaded, IsAsked, IsPlaced, IsStepped, IsWell, events_of_sync}
-use Rattle.volume_crashes.specs.Safe.{Follows, IsSafe, Planned, given_by, seen_by, space_now, standing_now, trees_of, volume_of, with_jobs}
+use Rattle.volume_crashes.specs.Safe.{Follows, IsSafe, Planned, given_by, seen_by, space_now, standing_now, trees_of, volume_of, with_jobs, items_by}
 
 -- the drive tells a cartridge that stands for the tree and is sound, and a crash leaves just that one
 abbrev pub CanServe : {D : Type 0} → Ghosts D → Fixed D → Type 0
@@ -242,3 +242,8 @@ pub record TurnsAreSafe {D : Type 0} (drive : Ghosts D) : Type 0 where
       → IsSafeNow drive p limits old
       → (t : DrainsOnce most (seen_by drive old.drive) (seen_by drive new.drive) old new who answer)
       → AreDriven drive old new t.made → IsTrail new.events → HasHeaded old → IsSafeNow drive p limits new
+
+-- what is planned grows by the items of the ops that were added
+abbrev pub PlansGrow : Type 0
+PlansGrow = (old new : Planned) (asked : List Op) → Follows old new asked
+    → (part : Part) → part_items part new.made ≡ part_items part old.made ++ items_by part asked

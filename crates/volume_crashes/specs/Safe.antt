@@ -1,8 +1,11 @@
 -- A served volume of which each crash leaves a tree of its history.
-use Rattle.std.specs.Prelude.{ℕ, ◌≤◌, ◌≡◌, true, List, [], ◌∷◌, length, map, Some, None}
+use Rattle.std.specs.Prelude.{ℕ, ◌≤◌, ◌≡◌, true, List, [], ◌∷◌, ◌++◌, length, map, Some, None}
 use Rattle.tape_types.specs.declared.cartridges.Cartridge.{Cartridge}
 use Rattle.tape_types.specs.declared.cartridges.Limits.{Limits}
-use Rattle.tape_types.specs.declared.cartridges.Part.TheVariants.{Dp}
+use Rattle.tape_types.specs.declared.cartridges.Item.{Item}
+use Rattle.tape_types.specs.declared.cartridges.Item.TheVariants.{Block, Mark}
+use Rattle.tape_types.specs.declared.cartridges.Part.{Part}
+use Rattle.tape_types.specs.declared.cartridges.Part.TheVariants.{Ip, Dp}
 use Rattle.tape_drive.specs.declared.drive.Drive.{Ghosts}
 use Rattle.tape_layout.specs.declared.ops.Op.{Op}
 use Rattle.tape_layout.specs.declared.ops.Op.TheVariants as ops
@@ -123,3 +126,22 @@ standing_now limits v = standing (given_by limits v) v.on v.history (length v.hi
 
 abbrev pub space_now : {D : Type 0} → Limits → View D → Space
 space_now limits v = (standing_now limits v).space
+
+-- ---- what is planned, by the ops
+
+-- an item that goes to one partition, as another sees it
+abbrev pub item_on : Part → Part → Item → List Item
+item_on Ip Ip x = x ∷ []
+item_on Ip Dp x = []
+item_on Dp Ip x = []
+item_on Dp Dp x = x ∷ []
+
+abbrev pub put_by : Part → Op → List Item
+put_by part (ops.Put place bytes) = item_on part place.part (Block bytes)
+put_by part (ops.Mark place) = item_on part place.part Mark
+put_by part (ops.Flush place) = []
+
+-- the items that ops put on a partition
+abbrev pub items_by : Part → List Op → List Item
+items_by part [] = []
+items_by part (op ∷ later) = put_by part op ++ items_by part later
