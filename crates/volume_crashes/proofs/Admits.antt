@@ -14,7 +14,6 @@ use Rattle.tape_layout.specs.declared.ops.Op.TheVariants as ops
 use Rattle.tape_layout.specs.Admissions.{flush_first}
 use Rattle.tape_layout.specs.Ops.{construct, end_of, puts}
 use Rattle.index_construct.specs.Blocks.{block_at}
-use Rattle.tape_meaning.specs.declared.labels.Labels.{Labels}
 use Rattle.plain_tree.specs.History.{replay}
 use Rattle.plain_tree.specs.Tree.{Tree}
 use Rattle.plain_tree.specs.declared.calls.Placed.{Placed}
@@ -34,7 +33,7 @@ use Rattle.crash_theory.proofs.Flushes.{none_stays}
 use Rattle.crash_theory.proofs.Longer.{after_append}
 use Rattle.crash_theory.proofs.Stated.{admissions_keep, histories_go_on, syncs_are_held}
 use Rattle.volume_model.specs.Served.{Fixed}
-use Rattle.volume_crashes.specs.Safe.{AreInOrder, IsDpFlush, Settle, wait_of}
+use Rattle.volume_crashes.specs.Safe.{AreInOrder, IsDpFlush, Planned, Settle, wait_of, with_jobs}
 use Rattle.volume_crashes.proofs.Fields.{At, state_at, trees_at}
 use Rattle.volume_crashes.proofs.Trails.{order_more}
 use Rattle.volume_crashes.proofs.Waits.{all_mapped, all_more, all_weaker, kept_with}
@@ -149,21 +148,25 @@ same_between fixed history p still j low high = ⊎_elim
     ap (λ k. (trees_at fixed (history ++ p ∷ [])).nth k) here ∙ (goes_on fixed history p).same (length history) (omega arith) ∙ sym still)
     (cases_lt (length history) j)
 
+plan_more : (jobs more : List Job) (s plan : Made) → after s jobs ≡ plan → after s (jobs ++ more) ≡ after plan more
+plan_more jobs more s plan is = after_append jobs more s ∙ ap (λ (m : Made). after m more) is
+
 same_wait : (w : Waiter) (place due : ℕ) → w.ticket ≡ place → w.due ≡ due → wait_of w ≡ record { place = place; due = due }
 same_wait w place due ticket last = λ i. record { place = ticket i; due = last i }
 
-module _ {D : Type 0} (drive : Ghosts D) (labels : Labels) (fixed : Fixed D) (d : D) (on : Option ℕ) where
+module _ {D : Type 0} (drive : Ghosts D) (planned : Planned) (fixed : Fixed D) (d : D) (on : Option ℕ) where
   -- where the last placement leaves the tree as it was
   pub at_still : (space : Space) (history : List Placed) (p : Placed) (acks : List Ack) (done : ℕ) (syncs : List Waiter) (asked : List Op)
       → tree_at fixed (history ++ p ∷ []) ≡ tree_at fixed history
-      → At drive labels space fixed d history acks done syncs on asked → At drive labels space fixed d (history ++ p ∷ []) acks done syncs on asked
+      → At drive planned space fixed d history acks done syncs on asked → At drive planned space fixed d (history ++ p ∷ []) acks done syncs on asked
   at_still space history p acks done syncs asked still a = record {
     made = a.made;
     jobs = a.jobs;
     held = a.held;
     told = a.told;
     ops = a.ops;
-    serving = (histories_go_on drive).still (state_at labels fixed history acks done syncs a.made a.jobs) space (trees_at fixed (history ++ p ∷ [])) d a.held
+    plan = a.plan;
+    serving = (histories_go_on drive).still (state_at planned.labels fixed history acks done syncs a.made a.jobs) space (trees_at fixed (history ++ p ∷ [])) d a.held
         (goes_on fixed history p) (same_between fixed history p still) a.serving;
     in_order = a.in_order;
     may_write = a.may_write;
@@ -171,15 +174,16 @@ module _ {D : Type 0} (drive : Ghosts D) (labels : Labels) (fixed : Fixed D) (d 
   }
 
   pub at_changed : (space : Space) (history : List Placed) (p : Placed) (acks : List Ack) (done : ℕ) (syncs : List Waiter) (asked : List Op)
-      → At drive labels space fixed d history acks done syncs on asked
-      → At drive labels (record space { changed = true }) fixed d (history ++ p ∷ []) acks done syncs on asked
+      → At drive planned space fixed d history acks done syncs on asked
+      → At drive planned (record space { changed = true }) fixed d (history ++ p ∷ []) acks done syncs on asked
   at_changed space history p acks done syncs asked a = record {
     made = a.made;
     jobs = a.jobs;
     held = a.held;
     told = a.told;
     ops = a.ops;
-    serving = (histories_go_on drive).changed (state_at labels fixed history acks done syncs a.made a.jobs) space (trees_at fixed (history ++ p ∷ [])) d a.held
+    plan = a.plan;
+    serving = (histories_go_on drive).changed (state_at planned.labels fixed history acks done syncs a.made a.jobs) space (trees_at fixed (history ++ p ∷ [])) d a.held
         (goes_on fixed history p) a.serving;
     in_order = a.in_order;
     may_write = a.may_write;
@@ -192,8 +196,8 @@ module _ {D : Type 0} (drive : Ghosts D) (labels : Labels) (fixed : Fixed D) (d 
   more_ops jobs more asked others old new = map-append op_of jobs more ∙ ap (λ (l : List Op). l ++ map op_of more) old ∙ ap (λ (l : List Op). asked ++ l) new
 
   pub at_stored : (space : Space) (history : List Placed) (acks : List Ack) (done : ℕ) (syncs : List Waiter) (asked : List Op) (rules : Rules) (part : Part)
-      (bytes : List ℕ) (a : At drive labels space fixed d history acks done syncs on asked) → MayWrite part (after a.made a.jobs).base
-      → At drive labels (with_data rules part bytes space) fixed d history acks done syncs on
+      (bytes : List ℕ) (a : At drive planned space fixed d history acks done syncs on asked) → MayWrite part (after a.made a.jobs).base
+      → At drive (with_jobs (data_jobs rules part (end_of part space.ends) bytes) planned) (with_data rules part bytes space) fixed d history acks done syncs on
       (asked ++ puts rules.block_size part (end_of part space.ends) bytes)
   at_stored space history acks done syncs asked rules part bytes a may = record {
     made = a.made;
@@ -202,7 +206,8 @@ module _ {D : Type 0} (drive : Ghosts D) (labels : Labels) (fixed : Fixed D) (d 
     told = a.told;
     ops = more_ops a.jobs (data_jobs rules part (end_of part space.ends) bytes) asked (puts rules.block_size part (end_of part space.ends) bytes) a.ops
         (plain_ops (puts rules.block_size part (end_of part space.ends) bytes));
-    serving = (admissions_keep drive).stored (state_at labels fixed history acks done syncs a.made a.jobs) space d a.held rules part bytes a.serving may;
+    plan = plan_more a.jobs (data_jobs rules part (end_of part space.ends) bytes) a.made planned.made a.plan;
+    serving = (admissions_keep drive).stored (state_at planned.labels fixed history acks done syncs a.made a.jobs) space d a.held rules part bytes a.serving may;
     in_order = a.in_order;
     may_write = λ place is. none_more a.jobs (data_jobs rules part (end_of part space.ends) bytes) a.made (a.may_write place is);
     settles = settle_more a.jobs (data_jobs rules part (end_of part space.ends) bytes) a.made a.settles
@@ -211,15 +216,16 @@ module _ {D : Type 0} (drive : Ghosts D) (labels : Labels) (fixed : Fixed D) (d 
 
   -- a sync that is covered once all jobs are done waits for them
   pub at_waiting : (space : Space) (history : List Placed) (acks : List Ack) (done : ℕ) (syncs : List Waiter) (asked : List Op) (w : Waiter)
-      (a : At drive labels space fixed d history acks done syncs on asked) → w.due ≡ done + length a.jobs
+      (a : At drive planned space fixed d history acks done syncs on asked) → w.due ≡ done + length a.jobs
       → IsServed (trees_at fixed history) a.made done a.jobs (wait_of w)
-      → At drive labels space fixed d history acks done (syncs ++ w ∷ []) on asked
+      → At drive planned space fixed d history acks done (syncs ++ w ∷ []) on asked
   at_waiting space history acks done syncs asked w a due served = record {
     made = a.made;
     jobs = a.jobs;
     held = a.held;
     told = a.told;
     ops = a.ops;
+    plan = a.plan;
     serving = record {
       kept = kept_with _ (trees_at fixed history) a.made fixed.since (moment_of drive d a.held) done a.jobs (map wait_of syncs) (map wait_of (syncs ++ w ∷ [])) acks
           a.serving.kept
@@ -239,13 +245,14 @@ module _ {D : Type 0} (drive : Ghosts D) (labels : Labels) (fixed : Fixed D) (d 
   -- the same with fewer syncs that wait
   pub at_others : (space : Space) (history : List Placed) (acks : List Ack) (done : ℕ) (syncs others : List Waiter) (asked : List Op)
       → ((P : Wait → Type 0) → AllByRecursion P (map wait_of syncs) → AllByRecursion P (map wait_of others)) → (AreInOrder done syncs → AreInOrder done others)
-      → At drive labels space fixed d history acks done syncs on asked → At drive labels space fixed d history acks done others on asked
+      → At drive planned space fixed d history acks done syncs on asked → At drive planned space fixed d history acks done others on asked
   at_others space history acks done syncs others asked fewer order a = record {
     made = a.made;
     jobs = a.jobs;
     held = a.held;
     told = a.told;
     ops = a.ops;
+    plan = a.plan;
     serving = record {
       kept = kept_with _ (trees_at fixed history) a.made fixed.since (moment_of drive d a.held) done a.jobs (map wait_of syncs) (map wait_of others) acks
           a.serving.kept (fewer (IsServed (trees_at fixed history) a.made done a.jobs) a.serving.kept.waiting);
@@ -260,22 +267,23 @@ module _ {D : Type 0} (drive : Ghosts D) (labels : Labels) (fixed : Fixed D) (d 
   pub at_acked : ((image : Cartridge) → drive.commands d < 2 ^ 64 - 1 → drive.left_since d (drive.commands d) image → drive.leaves d image)
       → (space : Space) (history : List Placed) (acks : List Ack) (done : ℕ) (front : List Waiter) (w : Waiter) (behind : List Waiter) (asked : List Op)
       → w.due ≡ done → (AreInOrder done (front ++ w ∷ behind) → AreInOrder done (front ++ behind))
-      → At drive labels space fixed d history acks done (front ++ w ∷ behind) on asked
-      → At drive labels space fixed d history (acks ++ record { place = w.ticket; command = drive.commands d } ∷ []) done (front ++ behind) on asked
+      → At drive planned space fixed d history acks done (front ++ w ∷ behind) on asked
+      → At drive planned space fixed d history (acks ++ record { place = w.ticket; command = drive.commands d } ∷ []) done (front ++ behind) on asked
   at_acked only_now space history acks done front w behind asked due order a = record {
     made = a.made;
     jobs = a.jobs;
     held = a.held;
     told = a.told;
     ops = a.ops;
+    plan = a.plan;
     serving = record {
       kept = subst
-          (λ (l : List Wait). Kept (state_at labels fixed history acks done front a.made a.jobs).volume (trees_at fixed history) a.made fixed.since (moment_of drive d a.held)
+          (λ (l : List Wait). Kept (state_at planned.labels fixed history acks done front a.made a.jobs).volume (trees_at fixed history) a.made fixed.since (moment_of drive d a.held)
           done a.jobs l (acks ++ record { place = w.ticket; command = drive.commands d } ∷ []))
           (sym (map-append wait_of front behind))
           (kept_acked _ (trees_at fixed history) a.made fixed.since (moment_of drive d a.held) done a.jobs (map wait_of front) (wait_of w) (map wait_of behind) acks
           (subst
-          (λ (l : List Wait). Kept (state_at labels fixed history acks done front a.made a.jobs).volume (trees_at fixed history) a.made fixed.since (moment_of drive d a.held)
+          (λ (l : List Wait). Kept (state_at planned.labels fixed history acks done front a.made a.jobs).volume (trees_at fixed history) a.made fixed.since (moment_of drive d a.held)
           done a.jobs l acks)
           (map-append wait_of front (w ∷ behind)) a.serving.kept)
           due (λ short image left. only_now image short left));
@@ -286,46 +294,49 @@ module _ {D : Type 0} (drive : Ghosts D) (labels : Labels) (fixed : Fixed D) (d 
     settles = a.settles;
   }
 
+  -- where nothing changed
+  pub at_unchanged : (space : Space) (history : List Placed) (acks : List Ack) (done : ℕ) (syncs : List Waiter) (asked : List Op) (w : Waiter)
+      (a : At drive planned space fixed d history acks done syncs on asked) → space.changed ≡ false → w.ticket ≡ length history → w.due ≡ done + length asked
+      → At drive planned space fixed d history acks done (syncs ++ w ∷ []) on asked
+  at_unchanged space history acks done syncs asked w a same ticket count =
+      let last : w.due ≡ done + length a.jobs =
+      count ∙ ap (λ (l : List Op). done + length l) (sym a.ops) ∙ ap (λ (n : ℕ). done + n) (length-map a.jobs op_of) in
+      at_waiting space history acks done syncs asked w a last
+      (subst (λ (z : Wait). IsServed (trees_at fixed history) a.made done a.jobs z) (sym (same_wait w (length history) (done + length a.jobs) ticket last))
+      ((syncs_are_held drive).unchanged (state_at planned.labels fixed history acks done syncs a.made a.jobs) space d a.held a.serving same))
+
+module _ {D : Type 0} (drive : Ghosts D) (planned : Planned) (fixed : Fixed D) (d : D) (on : Option ℕ) where
+  -- the index of a sync, which waits for it
   pub at_indexed : (space : Space) (history : List Placed) (acks : List Ack) (done : ℕ) (syncs : List Waiter) (asked : List Op) (rules : Rules)
-      (text : List ℕ) (e : Entry) (w : Waiter) (a : At drive labels space fixed d history acks done syncs on asked)
-      → IsDue (state_at labels fixed history acks done syncs a.made a.jobs).volume (trees_at fixed history) (after a.made a.jobs) space text e
+      (text : List ℕ) (e : Entry) (w : Waiter) (a : At drive planned space fixed d history acks done syncs on asked)
+      → IsDue (state_at planned.labels fixed history acks done syncs a.made a.jobs).volume (trees_at fixed history) (after a.made a.jobs) space text e
       → 1 ≤ rules.block_size → w.ticket ≡ length history
       → w.due ≡ done + length (asked ++ (flush_first space.flush_due space.ends.ip ++ construct rules.block_size Dp space.ends.dp text))
-      → At drive labels (with_index rules text space) fixed d history acks done (syncs ++ w ∷ []) on
+      → At drive (with_jobs (index_jobs rules space text e) planned) (with_index rules text space) fixed d history acks done (syncs ++ w ∷ []) on
       (asked ++ (flush_first space.flush_due space.ends.ip ++ construct rules.block_size Dp space.ends.dp text))
   at_indexed space history acks done syncs asked rules text e w a due size ticket count =
       let more = index_jobs rules space text e in
       let all_ops = asked ++ (flush_first space.flush_due space.ends.ip ++ construct rules.block_size Dp space.ends.dp text) in
-      let x : State = state_at labels fixed history acks done syncs a.made a.jobs in
+      let x : State = state_at planned.labels fixed history acks done syncs a.made a.jobs in
       let ops_are : map op_of (a.jobs ++ more) ≡ all_ops =
-      more_ops a.jobs more asked (flush_first space.flush_due space.ends.ip ++ construct rules.block_size Dp space.ends.dp text) a.ops (index_ops rules space text e) in
+      more_ops drive planned fixed d on a.jobs more asked (flush_first space.flush_due space.ends.ip ++ construct rules.block_size Dp space.ends.dp text) a.ops (index_ops rules space text e) in
       let last : w.due ≡ done + length (a.jobs ++ more) =
       count ∙ ap (λ (l : List Op). done + length l) (sym ops_are) ∙ ap (λ (n : ℕ). done + n) (length-map (a.jobs ++ more) op_of) in
       let none : (after a.made (a.jobs ++ more)).base.ahead ≡ None = (admissions_keep drive).settled x space d a.held rules text e a.serving due size in
-      let admitted : At drive labels (with_index rules text space) fixed d history acks done syncs on all_ops = record {
+      let admitted : At drive (with_jobs more planned) (with_index rules text space) fixed d history acks done syncs on all_ops = record {
         made = a.made;
         jobs = a.jobs ++ more;
         held = a.held;
         told = a.told;
         ops = ops_are;
+        plan = plan_more a.jobs more a.made planned.made a.plan;
         serving = (admissions_keep drive).indexed x space d a.held rules text e a.serving due size;
         in_order = a.in_order;
         may_write = λ place is. none;
         settles = settle_more a.jobs more a.made a.settles
             (index_settle rules space text e (after a.made a.jobs) (sym (ap (λ (m : Made). m.base.ahead) (after_append a.jobs more a.made)) ∙ none));
       } in
-      at_waiting (with_index rules text space) history acks done syncs all_ops w admitted last
+      at_waiting drive (with_jobs more planned) fixed d on (with_index rules text space) history acks done syncs all_ops w admitted last
       (subst (λ (z : Wait). IsServed (trees_at fixed history) a.made done (a.jobs ++ more) z)
       (sym (same_wait w (length history) (done + length (a.jobs ++ more)) ticket last))
       ((syncs_are_held drive).changed x space d a.held rules text e a.serving due size))
-
-  -- where nothing changed
-  pub at_unchanged : (space : Space) (history : List Placed) (acks : List Ack) (done : ℕ) (syncs : List Waiter) (asked : List Op) (w : Waiter)
-      (a : At drive labels space fixed d history acks done syncs on asked) → space.changed ≡ false → w.ticket ≡ length history → w.due ≡ done + length asked
-      → At drive labels space fixed d history acks done (syncs ++ w ∷ []) on asked
-  at_unchanged space history acks done syncs asked w a same ticket count =
-      let last : w.due ≡ done + length a.jobs =
-      count ∙ ap (λ (l : List Op). done + length l) (sym a.ops) ∙ ap (λ (n : ℕ). done + n) (length-map a.jobs op_of) in
-      at_waiting space history acks done syncs asked w a last
-      (subst (λ (z : Wait). IsServed (trees_at fixed history) a.made done a.jobs z) (sym (same_wait w (length history) (done + length a.jobs) ticket last))
-      ((syncs_are_held drive).unchanged (state_at labels fixed history acks done syncs a.made a.jobs) space d a.held a.serving same))

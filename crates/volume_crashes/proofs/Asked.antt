@@ -8,7 +8,6 @@ use Rattle.tape_types.specs.declared.cartridges.Place.{Place}
 use Rattle.tape_types.specs.declared.moments.Moment.{Moment}
 use Rattle.tape_drive.specs.declared.drive.Drive.{Ghosts}
 use Rattle.tape_layout.specs.declared.ops.Op.{Op}
-use Rattle.tape_meaning.specs.declared.labels.Labels.{Labels}
 use Rattle.plain_tree.specs.History.{call_at}
 use Rattle.plain_tree.specs.Paths.{same_path}
 use Rattle.plain_tree.specs.Refusals.{refusal_of}
@@ -30,9 +29,9 @@ use Rattle.volume_model.specs.Submits.{IsOfDone, IsOfFate, Places, Submits, call
 use Rattle.volume_model.specs.declared.answers.Submitted.{Submitted}
 use Rattle.volume_model.specs.declared.answers.Submitted.TheVariants as submitted
 use Rattle.volume_crashes.specs.Changes.{AreQuiet, HasHeaded, IsAsked, IsPlaced, is_quiet}
-use Rattle.volume_crashes.specs.Laws.{AddsOps, AsksNoIndex, IsNextDue, IsSafeNow, SubmitsAreSafe, next_ask, next_ops}
-use Rattle.volume_crashes.specs.Safe.{IsSafe, given_by, seen_by, space_now, standing_now}
-use Rattle.volume_crashes.proofs.Placing.{calls_are_safe, none_safe, same_standing}
+use Rattle.volume_crashes.specs.Laws.{AddsOps, AsksNoIndex, IsNextDue, IsSafeNow, SubmitsAreSafe, next_ask, next_ops, IsSafeWith}
+use Rattle.volume_crashes.specs.Safe.{IsSafe, given_by, seen_by, space_now, standing_now, Planned}
+use Rattle.volume_crashes.proofs.Placing.{calls_are_safe, follows_none, none_safe, same_standing}
 use Rattle.volume_crashes.proofs.Submitted.{submissions_are_safe}
 
 -- ---- quiet events
@@ -76,13 +75,17 @@ written g st path offset (b ∷ bytes) at = unless g st (Write path offset (b �
 
 module _ {D : Type 0} (drive : Ghosts D)
     (only_now : (d : D) (image : Cartridge) → drive.commands d < 2 ^ 64 - 1 → drive.left_since d (drive.commands d) image → drive.leaves d image)
-    (labels : Labels) (old new : View D) (who nth : ℕ) (answer : Submitted) (safe : IsSafeNow drive labels (drive.limits old.fixed.first) old)
+    (planned : Planned) (old new : View D) (who nth : ℕ) (answer : Submitted) (safe : IsSafeNow drive planned (drive.limits old.fixed.first) old)
     (s : Submits (seen_by drive old.fixed.first) (seen_by drive new.drive) old new who nth answer) (adds : AddsOps (drive.limits old.fixed.first) old new)
     (headed : HasHeaded new) (size : 1 ≤ old.fixed.mounted.label.block)
     (due : (p : Placed) → new.history ≡ old.history ++ p ∷ [] → p.fate ≡ fates.Done → call_at (calls_of old.fixed.script) p ≡ Some Sync
-    → (space_now (drive.limits old.fixed.first) old).changed ≡ true → IsNextDue drive labels (drive.limits old.fixed.first) old safe p.at) where
+    → (space_now (drive.limits old.fixed.first) old).changed ≡ true → IsNextDue planned (drive.limits old.fixed.first) old p.at) where
   abbrev limits : Limits
   limits = drive.limits old.fixed.first
+
+  -- so it is safe, with the ops that were added
+  abbrev Result : Type 0
+  Result = (asked : List Op) × (new.ops ≡ old.ops ++ asked) × IsSafeWith drive planned limits asked new
 
   abbrev g : Given
   g = given_by limits old
@@ -107,17 +110,31 @@ module _ {D : Type 0} (drive : Ghosts D)
       → admitted_at g old.on old.history (length old.history) p ≡ next_ops limits old (next_ask limits old call p.at)
   done_ops p call fate is = rw (fate, is) refl
 
+  ops_by : (p : Placed) (ops : List Op) → new.history ≡ old.history ++ p ∷ [] → admitted_at g old.on old.history (length old.history) p ≡ ops
+      → new.ops ≡ old.ops ++ ops
+  ops_by p ops history is = adds.placed p history ∙ ap (λ (l : List Op). old.ops ++ l) is
+
   -- a call that is no sync
   quiet_call : (p : Placed) (call : Call) (added : List Event) → s.added ≡ added → new.history ≡ old.history ++ p ∷ [] → p.fate ≡ fates.Done
-      → call_at g.calls p ≡ Some call → AreQuiet added → AsksNone g st call p.at → IsSafeNow drive labels limits new
-  quiet_call p call added added_is history fate is quiet none =
-      (calls_are_safe drive only_now).done labels limits old new p call added safe
-      (asked_by p (next_ops limits old (next_ask limits old call p.at)) added added_is history (done_ops p call fate is)) quiet fate is none
+      → call_at g.calls p ≡ Some call → AreQuiet added → AsksNone g st call p.at → Result
+  quiet_call p call added added_is history fate is quiet none = (
+    next_ops limits old (next_ask limits old call p.at),
+    ops_by p (next_ops limits old (next_ask limits old call p.at)) history (done_ops p call fate is),
+    (calls_are_safe drive only_now).done planned limits old new p call added safe
+        (asked_by p (next_ops limits old (next_ask limits old call p.at)) added added_is history (done_ops p call fate is)) quiet fate is none,
+  )
 
   by_call : (p : Placed) (call : Option Call) → new.history ≡ old.history ++ p ∷ [] → p.fate ≡ fates.Done → call_at g.calls p ≡ call
-      → IsOfDone (length old.history) old.events call s.added → IsSafeNow drive labels limits new
-  by_call p None history fate is of =
-      none_safe drive only_now labels limits old new p [] safe (asked_by p [] [] of history (none_ops p fate is)) no_events fate is
+      → IsOfDone (length old.history) old.events call s.added → Result
+  by_call p None history fate is of = (
+    [],
+    ops_by p [] history (none_ops p fate is),
+    (
+      planned,
+      follows_none planned,
+      none_safe drive only_now planned limits old new p [] safe (asked_by p [] [] of history (none_ops p fate is)) no_events fate is,
+    ),
+  )
   by_call p (Some (Mkdir path)) history fate is of =
       quiet_call p (Mkdir path) [] of history fate is no_events (unless g st (Mkdir path) p.at tt)
   by_call p (Some (Create path)) history fate is of =
@@ -137,10 +154,13 @@ module _ {D : Type 0} (drive : Ghosts D)
       quiet_call p (Rename from to) [] of history fate is no_events (unless g st (Rename from to) p.at (by_test (same_path from to)))
   by_call p (Some (Remove path)) history fate is of =
       quiet_call p (Remove path) [] of history fate is no_events (unless g st (Remove path) p.at tt)
-  by_call p (Some Sync) history fate is of =
-      (calls_are_safe drive only_now).synced labels limits old new p (queues_at of.0) safe
-      (asked_by p (next_ops limits old (next_ask limits old Sync p.at)) _ of.1 history (done_ops p Sync fate is)) (quiet_queues of.0) headed fate is size
-      (due p history fate is)
+  by_call p (Some Sync) history fate is of = (
+    next_ops limits old (next_ask limits old Sync p.at),
+    ops_by p (next_ops limits old (next_ask limits old Sync p.at)) history (done_ops p Sync fate is),
+    (calls_are_safe drive only_now).synced planned limits old new p (queues_at of.0) safe
+        (asked_by p (next_ops limits old (next_ask limits old Sync p.at)) _ of.1 history (done_ops p Sync fate is)) (quiet_queues of.0) headed fate is size
+        (due p history fate is),
+  )
 
   -- the call of what was placed
   call_is : (fate : Fate) (reply : Option Reply) (places : Places old new who nth fate reply) → call_at g.calls places.placed ≡ call_of old who nth
@@ -148,16 +168,30 @@ module _ {D : Type 0} (drive : Ghosts D)
       ap (λ (w : ℕ). slice_get (calls_of old.fixed.script w) places.placed.nth) places.who_is ∙ ap (λ (n : ℕ). slice_get (calls_of old.fixed.script who) n) places.nth_is
 
   by_fate : (fate : Fate) (reply : Option Reply) → Places old new who nth fate reply
-      → IsOfFate fate (length old.history) old.events (call_of old who nth) s.added → IsSafeNow drive labels limits new
+      → IsOfFate fate (length old.history) old.events (call_of old who nth) s.added → Result
   by_fate fates.Done reply places of = by_call places.placed (call_of old who nth) places.history places.fate_is (call_is fates.Done reply places) of
-  by_fate fates.Void reply places of =
-      (calls_are_safe drive only_now).void labels limits old new places.placed [] safe
-      (asked_by places.placed [] [] of places.history (void_ops places.placed places.fate_is)) no_events places.fate_is
+  by_fate fates.Void reply places of = (
+    [],
+    ops_by places.placed [] places.history (void_ops places.placed places.fate_is),
+    (
+      planned,
+      follows_none planned,
+      (calls_are_safe drive only_now).void planned limits old new places.placed [] safe
+          (asked_by places.placed [] [] of places.history (void_ops places.placed places.fate_is)) no_events places.fate_is,
+    ),
+  )
 
-  drained : IsSafeNow drive labels limits old → new.history ≡ old.history → s.added ≡ Drains who ∷ [] → IsSafeNow drive labels limits new
-  drained before history added =
-      subst (λ (x : Space). IsSafe drive labels x new) (sym (ap (λ (x : Standing). x.space) same))
-      ((submissions_are_safe drive only_now).unplaced labels st.space old new (Drains who ∷ []) before asks history (quiet_drain who))
+  drained : IsSafeNow drive planned limits old → new.history ≡ old.history → s.added ≡ Drains who ∷ [] → Result
+  drained before history added = (
+    [],
+    adds.unplaced history ∙ sym (append-nil old.ops),
+    (
+      planned,
+      follows_none planned,
+      subst (λ (x : Space). IsSafe drive planned x new) (sym (ap (λ (x : Standing). x.space) same))
+          ((submissions_are_safe drive only_now).unplaced planned st.space old new (Drains who ∷ []) before asks history (quiet_drain who)),
+    ),
+  )
     where
       same : standing_now limits new ≡ st
       same = same_standing limits old new s.fixed s.on history
@@ -169,9 +203,9 @@ module _ {D : Type 0} (drive : Ghosts D)
 module _ {D : Type 0} (drive : Ghosts D)
     (only_now : (d : D) (image : Cartridge) → drive.commands d < 2 ^ 64 - 1 → drive.left_since d (drive.commands d) image → drive.leaves d image) where
   pub submits_are_safe : SubmitsAreSafe drive
-  submits_are_safe labels old new who nth (submitted.Ready reply) safe s adds headed size due =
-      by_fate drive only_now labels old new who nth (submitted.Ready reply) safe s adds headed size due (fate_for reply) (Some reply) s.placing s.of_it
-  submits_are_safe labels old new who nth (submitted.Wait ticket) safe s adds headed size due =
-      by_fate drive only_now labels old new who nth (submitted.Wait ticket) safe s adds headed size due fates.Done None s.placing.1 s.of_it.1
-  submits_are_safe labels old new who nth submitted.Drain safe s adds headed size due =
-      drained drive only_now labels old new who nth submitted.Drain safe s adds headed size due safe s.placing.history s.of_it
+  submits_are_safe planned old new who nth (submitted.Ready reply) safe s adds headed size due =
+      by_fate drive only_now planned old new who nth (submitted.Ready reply) safe s adds headed size due (fate_for reply) (Some reply) s.placing s.of_it
+  submits_are_safe planned old new who nth (submitted.Wait ticket) safe s adds headed size due =
+      by_fate drive only_now planned old new who nth (submitted.Wait ticket) safe s adds headed size due fates.Done None s.placing.1 s.of_it.1
+  submits_are_safe planned old new who nth submitted.Drain safe s adds headed size due =
+      drained drive only_now planned old new who nth submitted.Drain safe s adds headed size due safe s.placing.history s.of_it

@@ -88,24 +88,28 @@ module _ {D : Type 0} (drive : Ghosts D)
       let space = first_space (facts_of fixed.mounted) in
       let begins = (starts_are_kept drive).serving volume fixed.first can.held fixed.since fixed.tree fixed.mounted.newest start in
       let serving = begins.2 space (first_is fixed can mounts) in
-      let more : GoesOn (begun_with fixed.tree) (trees_of (begun fixed next)) = record { longer = omega arith; same = λ k le. none_placed fixed k } in
-      record {
-        made = made_of can.held found.on_ip begins.0;
-        jobs = [];
-        held = can.held;
-        told = can.told;
-        ops = refl;
-        serving = (histories_go_on drive).still (first_state volume can.held fixed.since fixed.tree found.on_ip begins.0) space (trees_of (begun fixed next)) fixed.first
-            can.held more (λ j low high. none_placed fixed j ∙ sym (none_placed fixed 0)) serving;
-        in_order = tt;
-        may_write = λ place on.
-            let chosen = mounts.ip_on.0 (by_ip_on fixed.mounted.ip_on on) in
-            none_ahead can.held found.on_ip begins.0 chosen.0
-            (subst (λ (o : Option Index). chosen_place o (Some begins.0) can.held ≡ last_place Dp can.held) (same_on_ip can.held mounts.found found)
-            (subst (λ (o : Option Index). chosen_place mounts.found.on_ip o can.held ≡ last_place Dp can.held)
-            (same_on_dp can.held mounts.found found ∙ begins.1) chosen.1));
-        settles = tt;
-      }
+      let more : GoesOn (begun_with fixed.tree) (trees_of (begun fixed next)) = record { longer = omega arith; same = λ k le. none_placed fixed k } in (
+        begins.0,
+        begins.1,
+        record {
+          made = made_of can.held found.on_ip begins.0;
+          jobs = [];
+          held = can.held;
+          told = can.told;
+          ops = refl;
+          plan = refl;
+          serving = (histories_go_on drive).still (first_state volume can.held fixed.since fixed.tree found.on_ip begins.0) space (trees_of (begun fixed next)) fixed.first
+              can.held more (λ j low high. none_placed fixed j ∙ sym (none_placed fixed 0)) serving;
+          in_order = tt;
+          may_write = λ place on.
+              let chosen = mounts.ip_on.0 (by_ip_on fixed.mounted.ip_on on) in
+              none_ahead can.held found.on_ip begins.0 chosen.0
+              (subst (λ (o : Option Index). chosen_place o (Some begins.0) can.held ≡ last_place Dp can.held) (same_on_ip can.held mounts.found found)
+              (subst (λ (o : Option Index). chosen_place mounts.found.on_ip o can.held ≡ last_place Dp can.held)
+              (same_on_dp can.held mounts.found found ∙ begins.1) chosen.1));
+          settles = tt;
+        },
+      )
     where
       none_placed : (fixed : Fixed D) (k : ℕ) → replay (calls_of fixed.script) fixed.tree (take k []) ≡ fixed.tree
       none_placed fixed zero = refl

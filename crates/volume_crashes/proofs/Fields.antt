@@ -17,7 +17,7 @@ use Rattle.crash_theory.specs.Laws.{IsServing, State}
 use Rattle.crash_theory.specs.Made.{Job, Made, Trees, after}
 use Rattle.volume_model.specs.Mount.{facts_of}
 use Rattle.volume_model.specs.Served.{Fixed, View}
-use Rattle.volume_crashes.specs.Safe.{AreInOrder, IsSafe, Settle, wait_of}
+use Rattle.volume_crashes.specs.Safe.{AreInOrder, IsSafe, Planned, Settle, wait_of}
 use Rattle.std.specs.Prelude.{length, take}
 
 abbrev pub trees_at : {D : Type 0} → Fixed D → List Placed → Trees
@@ -35,27 +35,29 @@ state_at labels fixed history acks done syncs made jobs = record {
   acks = acks;
 }
 
-pub record At {D : Type 0} (drive : Ghosts D) (labels : Labels) (space : Space) (fixed : Fixed D) (d : D) (history : List Placed) (acks : List Ack)
+pub record At {D : Type 0} (drive : Ghosts D) (planned : Planned) (space : Space) (fixed : Fixed D) (d : D) (history : List Placed) (acks : List Ack)
     (done : ℕ) (syncs : List Waiter) (on : Option ℕ) (asked : List Op) : Type 0 where
   pub made : Made
   pub jobs : List Job
   pub held : Cartridge
   pub told : drive.held d ≡ Some held
   pub ops : map (λ (job : Job). job.op) jobs ≡ asked
-  pub serving : IsServing drive (state_at labels fixed history acks done syncs made jobs) space d held
+  pub plan : after made jobs ≡ planned.made
+  pub serving : IsServing drive (state_at planned.labels fixed history acks done syncs made jobs) space d held
   pub in_order : AreInOrder done syncs
   pub may_write : (place : ℕ) → is_on (facts_of fixed.mounted) on place ≡ true → (after made jobs).base.ahead ≡ None
   pub settles : Settle made jobs
 
-module _ {D : Type 0} (drive : Ghosts D) (labels : Labels) (space : Space) where
-  abbrev pub of_view : (v : View D) → IsSafe drive labels space v
-      → At drive labels space v.fixed v.drive v.history v.acks (after_all v.events).done (after_all v.events).syncs v.on v.ops
+module _ {D : Type 0} (drive : Ghosts D) (planned : Planned) (space : Space) where
+  abbrev pub of_view : (v : View D) → IsSafe drive planned space v
+      → At drive planned space v.fixed v.drive v.history v.acks (after_all v.events).done (after_all v.events).syncs v.on v.ops
   of_view v safe = record {
     made = safe.made;
     jobs = safe.jobs;
     held = safe.held;
     told = safe.told;
     ops = safe.ops;
+    plan = safe.plan;
     serving = safe.serving;
     in_order = safe.in_order;
     may_write = safe.may_write;
@@ -63,14 +65,15 @@ module _ {D : Type 0} (drive : Ghosts D) (labels : Labels) (space : Space) where
   }
 
   whole : (v : View D)
-      → At drive labels space v.fixed v.drive v.history v.acks (after_all v.events).done (after_all v.events).syncs v.on v.ops
-      → IsSafe drive labels space v
+      → At drive planned space v.fixed v.drive v.history v.acks (after_all v.events).done (after_all v.events).syncs v.on v.ops
+      → IsSafe drive planned space v
   whole v a = record {
     made = a.made;
     jobs = a.jobs;
     held = a.held;
     told = a.told;
     ops = a.ops;
+    plan = a.plan;
     serving = a.serving;
     in_order = a.in_order;
     may_write = a.may_write;
@@ -80,13 +83,13 @@ module _ {D : Type 0} (drive : Ghosts D) (labels : Labels) (space : Space) where
   -- a view with these fields is safe
   pub to_view : (v : View D) (fixed : Fixed D) (d : D) (history : List Placed) (acks : List Ack) (done : ℕ) (syncs : List Waiter) (on : Option ℕ) (asked : List Op)
       → v.fixed ≡ fixed → v.drive ≡ d → v.history ≡ history → v.acks ≡ acks → (after_all v.events).done ≡ done → (after_all v.events).syncs ≡ syncs
-      → v.on ≡ on → v.ops ≡ asked → At drive labels space fixed d history acks done syncs on asked → IsSafe drive labels space v
+      → v.on ≡ on → v.ops ≡ asked → At drive planned space fixed d history acks done syncs on asked → IsSafe drive planned space v
   to_view v fixed d history acks done syncs on asked fixed_is d_is history_is acks_is done_is syncs_is on_is asked_is a =
-      let one = subst (λ (x : Fixed D). At drive labels space x d history acks done syncs on asked) (sym fixed_is) a in
-      let two = subst (λ (x : D). At drive labels space v.fixed x history acks done syncs on asked) (sym d_is) one in
-      let three = subst (λ (x : List Placed). At drive labels space v.fixed v.drive x acks done syncs on asked) (sym history_is) two in
-      let four = subst (λ (x : List Ack). At drive labels space v.fixed v.drive v.history x done syncs on asked) (sym acks_is) three in
-      let five = subst (λ (x : ℕ). At drive labels space v.fixed v.drive v.history v.acks x syncs on asked) (sym done_is) four in
-      let six = subst (λ (x : List Waiter). At drive labels space v.fixed v.drive v.history v.acks (after_all v.events).done x on asked) (sym syncs_is) five in
-      let seven = subst (λ (x : Option ℕ). At drive labels space v.fixed v.drive v.history v.acks (after_all v.events).done (after_all v.events).syncs x asked) (sym on_is) six in
-      whole v (subst (λ (x : List Op). At drive labels space v.fixed v.drive v.history v.acks (after_all v.events).done (after_all v.events).syncs v.on x) (sym asked_is) seven)
+      let one = subst (λ (x : Fixed D). At drive planned space x d history acks done syncs on asked) (sym fixed_is) a in
+      let two = subst (λ (x : D). At drive planned space v.fixed x history acks done syncs on asked) (sym d_is) one in
+      let three = subst (λ (x : List Placed). At drive planned space v.fixed v.drive x acks done syncs on asked) (sym history_is) two in
+      let four = subst (λ (x : List Ack). At drive planned space v.fixed v.drive v.history x done syncs on asked) (sym acks_is) three in
+      let five = subst (λ (x : ℕ). At drive planned space v.fixed v.drive v.history v.acks x syncs on asked) (sym done_is) four in
+      let six = subst (λ (x : List Waiter). At drive planned space v.fixed v.drive v.history v.acks (after_all v.events).done x on asked) (sym syncs_is) five in
+      let seven = subst (λ (x : Option ℕ). At drive planned space v.fixed v.drive v.history v.acks (after_all v.events).done (after_all v.events).syncs x asked) (sym on_is) six in
+      whole v (subst (λ (x : List Op). At drive planned space v.fixed v.drive v.history v.acks (after_all v.events).done (after_all v.events).syncs v.on x) (sym asked_is) seven)

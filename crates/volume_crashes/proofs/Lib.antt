@@ -10,3 +10,4 @@ pub mod Survives
 pub mod Placing
 pub mod Asked
 pub mod Turned
+pub mod Grown

@@ -1,4 +1,7 @@
 -- What stands goes on with the history, and each placement keeps a volume safe with it.
+use Rattle.volume_crashes.proofs.Admits.{index_ops, plain_ops}
+use Rattle.tape_layout.specs.Ops.{end_of, puts}
+use Rattle.crash_theory.specs.Plans.{index_jobs}
 use Rattle.std.proofs.Common.{◌≡◌, ℕ, ◌+◌, ◌-◌, ◌^◌, ◌≤◌, ◌<◌, Bool, true, false, cond, nat_le, List, [], ◌∷◌, ◌++◌, length, Option, Some, None, refl, sym, ap, subst, ◌∙◌, arith}
 use Rattle.std.specs.Prelude.{◌||◌, take}
 use Rattle.std.specs.List.{enumerate_from, fold, list_any}
@@ -8,7 +11,6 @@ use Rattle.tape_types.specs.declared.cartridges.Cartridge.{Cartridge}
 use Rattle.tape_types.specs.declared.cartridges.Limits.{Limits}
 use Rattle.tape_drive.specs.declared.drive.Drive.{Ghosts}
 use Rattle.tape_layout.specs.declared.ops.Op.{Op}
-use Rattle.tape_meaning.specs.declared.labels.Labels.{Labels}
 use Rattle.plain_tree.specs.History.{call_at}
 use Rattle.plain_tree.specs.declared.calls.Call.{Call}
 use Rattle.plain_tree.specs.declared.calls.Call.TheVariants.{Sync}
@@ -19,7 +21,7 @@ use Rattle.session_script.specs.declared.logs.Event.{Event}
 use Rattle.head_trail.specs.Waiting.{waiting_op}
 use Rattle.head_trail.specs.Trail.{after_all}
 use Rattle.volume_space.specs.Mount.{MountFacts}
-use Rattle.volume_space.specs.Space.{Ask, Space, index, nothing}
+use Rattle.volume_space.specs.Space.{Ask, Space, index, nothing, Rules, part_for}
 use Rattle.volume_space.specs.Space as space
 use Rattle.volume_space.specs.Standing.{Given, Standing, after_done, after_placed, ask_of, asked, first_standing, is_on, rules, standing, sync_text}
 use Rattle.volume_space.proofs.Steps.{are_still}
@@ -28,8 +30,8 @@ use Rattle.volume_model.specs.Mount.{facts_of}
 use Rattle.volume_model.specs.Served.{Fixed, View}
 use Rattle.volume_model.specs.Steps.{does_dp_flush, on_after}
 use Rattle.volume_crashes.specs.Changes.{AreQuiet, HasHeaded, IsPlaced, events_of_sync}
-use Rattle.volume_crashes.specs.Laws.{AsksNoIndex, CallsAreSafe, IsNextDue, IsSafeNow, IsStill, StandingsGoOn, next_ask}
-use Rattle.volume_crashes.specs.Safe.{IsSafe, given_by, space_now, standing_now}
+use Rattle.volume_crashes.specs.Laws.{AsksNoIndex, CallsAreSafe, IsNextDue, IsSafeNow, IsStill, StandingsGoOn, next_ask, IsSafeWith, stored_jobs}
+use Rattle.volume_crashes.specs.Safe.{IsSafe, given_by, space_now, standing_now, Follows, Planned, with_jobs}
 use Rattle.volume_crashes.proofs.Stepped.{on_already, on_never, on_turned}
 use Rattle.volume_crashes.proofs.Submitted.{submissions_are_safe}
 
@@ -120,6 +122,19 @@ module _ {D : Type 0} where
 
 -- ---- placements
 
+-- no ops more
+pub follows_none : (p : Planned) → Follows p p []
+follows_none p = record { labels = refl; jobs = []; ops = refl; made = refl }
+
+follows_stored : (p : Planned) (v : Rules) (on : Bool) (s : Space) (wanted : Bool) (bytes : List ℕ)
+    → Follows p (with_jobs (stored_jobs v on s wanted bytes) p) (space.ops_of v on s (space.store wanted bytes))
+follows_stored p v on s wanted bytes = record {
+  labels = refl;
+  jobs = stored_jobs v on s wanted bytes;
+  ops = plain_ops (puts v.block_size (part_for v on s wanted bytes) (end_of (part_for v on s wanted bytes) s.ends) bytes);
+  made = refl;
+}
+
 done_is : (g : Given) (on : Bool) (st : Standing) (p : Placed) (call : Call) → p.fate ≡ fates.Done → call_at g.calls p ≡ Some call
     → after_placed g on st p ≡ after_done g on st call p.at
 done_is g on st p call fate is = rw (fate, is) refl
@@ -132,7 +147,7 @@ none_is g on st p fate is = rw (fate, is) refl
 
 module _ {D : Type 0} (drive : Ghosts D)
     (only_now : (d : D) (image : Cartridge) → drive.commands d < 2 ^ 64 - 1 → drive.left_since d (drive.commands d) image → drive.leaves d image)
-    (labels : Labels) (limits : Limits) (old new : View D) (p : Placed) where
+    (planned : Planned) (limits : Limits) (old new : View D) (p : Placed) where
   -- whether files may go to the index partition
   abbrev on_now : Bool
   on_now = is_on (facts_of old.fixed.mounted) old.on (length old.history)
@@ -152,23 +167,23 @@ module _ {D : Type 0} (drive : Ghosts D)
       sym (are_replays (given_by limits new) new.on new.history (length new.history)) ∙ ap (λ (s : Standing). s.tree) same
       ∙ are_replays g old.on old.history (length old.history)
 
-  to_now : (s : Space) → space_now limits new ≡ s → IsSafe drive labels s new → IsSafeNow drive labels limits new
-  to_now s is safe = subst (λ (x : Space). IsSafe drive labels x new) (sym is) safe
+  to_now : (q : Planned) (s : Space) → space_now limits new ≡ s → IsSafe drive q s new → IsSafeNow drive q limits new
+  to_now q s is safe = subst (λ (x : Space). IsSafe drive q x new) (sym is) safe
 
   -- where what stands stays and nothing is asked
-  pub same_safe : (added : List Event) → IsSafeNow drive labels limits old → IsPlaced drive old new p [] added → AreQuiet added → standing_now limits new ≡ st
-      → IsSafeNow drive labels limits new
+  pub same_safe : (added : List Event) → IsSafeNow drive planned limits old → IsPlaced drive old new p [] added → AreQuiet added → standing_now limits new ≡ st
+      → IsSafeNow drive planned limits new
   same_safe added safe placed quiet same =
-      to_now st.space (ap (λ (s : Standing). s.space) same)
-      ((submissions_are_safe drive only_now).still labels st.space old new p added safe placed quiet (still same))
+      to_now planned st.space (ap (λ (s : Standing). s.space) same)
+      ((submissions_are_safe drive only_now).still planned st.space old new p added safe placed quiet (still same))
 
   -- a call that there isn't is none
-  pub none_safe : (added : List Event) → IsSafeNow drive labels limits old → IsPlaced drive old new p [] added → AreQuiet added → p.fate ≡ fates.Done
-      → call_at g.calls p ≡ None → IsSafeNow drive labels limits new
+  pub none_safe : (added : List Event) → IsSafeNow drive planned limits old → IsPlaced drive old new p [] added → AreQuiet added → p.fate ≡ fates.Done
+      → call_at g.calls p ≡ None → IsSafeNow drive planned limits new
   none_safe added safe placed quiet fate is = same_safe added safe placed quiet (stands [] added placed ∙ none_is g on_now st p fate is)
 
-  pub void_safe : (added : List Event) → IsSafeNow drive labels limits old → IsPlaced drive old new p [] added → AreQuiet added → p.fate ≡ fates.Void
-      → IsSafeNow drive labels limits new
+  pub void_safe : (added : List Event) → IsSafeNow drive planned limits old → IsPlaced drive old new p [] added → AreQuiet added → p.fate ≡ fates.Void
+      → IsSafeNow drive planned limits new
   void_safe added safe placed quiet fate = same_safe added safe placed quiet (stands [] added placed ∙ void_is g on_now st p fate)
 
   -- with nothing asked all stays
@@ -183,18 +198,24 @@ module _ {D : Type 0} (drive : Ghosts D)
       ap (λ (s : Standing). s.space) (stands asks added placed ∙ done_is g on_now st p call fate is)
       ∙ ap (λ (a : Ask). space.after (rules g) on_now st.space a) asked_is
 
-  pub done_safe : (call : Call) (added : List Event) (ask : Ask) → ask_of g st call p.at ≡ ask → IsSafeNow drive labels limits old
+  pub done_safe : (call : Call) (added : List Event) (ask : Ask) → ask_of g st call p.at ≡ ask → IsSafeNow drive planned limits old
       → IsPlaced drive old new p (space.ops_of (rules g) on_now st.space ask) added → AreQuiet added → p.fate ≡ fates.Done → call_at g.calls p ≡ Some call
-      → AsksNoIndex ask → IsSafeNow drive labels limits new
+      → AsksNoIndex ask → IsSafeWith drive planned limits (space.ops_of (rules g) on_now st.space ask) new
   done_safe call added space.nothing asked_is safe placed quiet fate is none =
-      same_safe added safe placed quiet (same_by call [] added placed fate is asked_is)
-  done_safe call added space.change asked_is safe placed quiet fate is none =
-      to_now (record st.space { changed = true }) (space_by call space.change [] added placed fate is asked_is)
-      ((submissions_are_safe drive only_now).changed labels st.space old new p added safe placed quiet)
-  done_safe call added (space.store wanted bytes) asked_is safe placed quiet fate is none =
-      to_now (space.after (rules g) on_now st.space (space.store wanted bytes))
-      (space_by call (space.store wanted bytes) (space.ops_of (rules g) on_now st.space (space.store wanted bytes)) added placed fate is asked_is)
-      ((submissions_are_safe drive only_now).stored labels st.space old new p added (rules g) (length old.history) wanted bytes safe placed quiet)
+      (planned, follows_none planned, same_safe added safe placed quiet (same_by call [] added placed fate is asked_is))
+  done_safe call added space.change asked_is safe placed quiet fate is none = (
+    planned,
+    follows_none planned,
+    to_now planned (record st.space { changed = true }) (space_by call space.change [] added placed fate is asked_is)
+        ((submissions_are_safe drive only_now).changed planned st.space old new p added safe placed quiet),
+  )
+  done_safe call added (space.store wanted bytes) asked_is safe placed quiet fate is none = (
+    with_jobs (stored_jobs (rules g) on_now st.space wanted bytes) planned,
+    follows_stored planned (rules g) on_now st.space wanted bytes,
+    to_now (with_jobs (stored_jobs (rules g) on_now st.space wanted bytes) planned) (space.after (rules g) on_now st.space (space.store wanted bytes))
+        (space_by call (space.store wanted bytes) (space.ops_of (rules g) on_now st.space (space.store wanted bytes)) added placed fate is asked_is)
+        ((submissions_are_safe drive only_now).stored planned st.space old new p added (rules g) (length old.history) wanted bytes safe placed quiet),
+  )
   done_safe call added (space.index text) asked_is safe placed quiet fate is none = absurd none
 
   -- ---- a sync
@@ -209,37 +230,46 @@ module _ {D : Type 0} (drive : Ghosts D)
       ∙ ap (λ (s : Standing). s.tree) (stands asks added placed ∙ done_is g on_now st p Sync fate is)
       ∙ are_replays g old.on old.history (length old.history)
 
-  pub synced_safe : (queues : List Event) (b : Bool) → st.space.changed ≡ b → (safe : IsSafeNow drive labels limits old)
+  pub synced_safe : (queues : List Event) (b : Bool) → st.space.changed ≡ b → IsSafeNow drive planned limits old
       → IsPlaced drive old new p (space.ops_of (rules g) on_now st.space (ask_of g st Sync p.at)) (events_of_sync (length old.history) old.events queues)
       → AreQuiet queues → HasHeaded new → p.fate ≡ fates.Done → call_at g.calls p ≡ Some Sync → 1 ≤ old.fixed.mounted.label.block
-      → (st.space.changed ≡ true → IsNextDue drive labels limits old safe p.at)
-      → IsSafeNow drive labels limits new
+      → (st.space.changed ≡ true → IsNextDue planned limits old p.at)
+      → IsSafeWith drive planned limits (space.ops_of (rules g) on_now st.space (ask_of g st Sync p.at)) new
   synced_safe queues true is safe placed quiet headed fate call size due =
       let added = events_of_sync (length old.history) old.events queues in
       let asks = sync_asks true is in
-      let ops = space.ops_of (rules g) on_now st.space (index (sync_text g st p.at)) in
+      let text = sync_text g st p.at in
+      let more = index_jobs (rules g) st.space text (due is).0 in
+      let ops = space.ops_of (rules g) on_now st.space (index text) in
       let by_ops : IsPlaced drive old new p ops added =
       subst (λ (ask : Ask). IsPlaced drive old new p (space.ops_of (rules g) on_now st.space ask) added) asks placed in
-      to_now (space.after (rules g) on_now st.space (index (sync_text g st p.at)))
-      (space_by Sync (index (sync_text g st p.at)) ops added by_ops fate call asks)
-      ((submissions_are_safe drive only_now).synced labels st.space old new p queues (rules g) on_now (sync_text g st p.at) (due is).0 safe by_ops quiet headed
-      (sync_still ops added by_ops fate call) size (due is).1)
+      subst (λ (ask : Ask). IsSafeWith drive planned limits (space.ops_of (rules g) on_now st.space ask) new) (sym asks) (
+        with_jobs more planned,
+        record { labels = refl; jobs = more; ops = index_ops (rules g) st.space text (due is).0; made = refl },
+        to_now (with_jobs more planned) (space.after (rules g) on_now st.space (index text)) (space_by Sync (index text) ops added by_ops fate call asks)
+            ((submissions_are_safe drive only_now).synced planned st.space old new p queues (rules g) on_now text (due is).0 safe by_ops quiet headed
+            (sync_still ops added by_ops fate call) size (due is).1),
+      )
   synced_safe queues false is safe placed quiet headed fate call size due =
       let added = events_of_sync (length old.history) old.events queues in
       let asks = sync_asks false is in
       let by_ops : IsPlaced drive old new p [] added =
       subst (λ (ask : Ask). IsPlaced drive old new p (space.ops_of (rules g) on_now st.space ask) added) asks placed in
       let same = same_by Sync [] added by_ops fate call asks in
-      to_now st.space (ap (λ (s : Standing). s.space) same)
-      ((submissions_are_safe drive only_now).unchanged labels st.space old new p queues safe by_ops quiet headed (still same) is)
+      subst (λ (ask : Ask). IsSafeWith drive planned limits (space.ops_of (rules g) on_now st.space ask) new) (sym asks) (
+        planned,
+        follows_none planned,
+        to_now planned st.space (ap (λ (s : Standing). s.space) same)
+            ((submissions_are_safe drive only_now).unchanged planned st.space old new p queues safe by_ops quiet headed (still same) is),
+      )
 
 module _ {D : Type 0} (drive : Ghosts D)
     (only_now : (d : D) (image : Cartridge) → drive.commands d < 2 ^ 64 - 1 → drive.left_since d (drive.commands d) image → drive.leaves d image) where
   pub calls_are_safe : CallsAreSafe drive
   calls_are_safe = record {
-    void = λ labels limits old new p added safe placed quiet fate. void_safe drive only_now labels limits old new p added safe placed quiet fate;
-    done = λ labels limits old new p call added safe placed quiet fate is none.
-        done_safe drive only_now labels limits old new p call added (next_ask limits old call p.at) refl safe placed quiet fate is none;
-    synced = λ labels limits old new p queues safe placed quiet headed fate is size due.
-        synced_safe drive only_now labels limits old new p queues (space_now limits old).changed refl safe placed quiet headed fate is size due;
+    void = λ planned limits old new p added safe placed quiet fate. void_safe drive only_now planned limits old new p added safe placed quiet fate;
+    done = λ planned limits old new p call added safe placed quiet fate is none.
+        done_safe drive only_now planned limits old new p call added (next_ask limits old call p.at) refl safe placed quiet fate is none;
+    synced = λ planned limits old new p queues safe placed quiet headed fate is size due.
+        synced_safe drive only_now planned limits old new p queues (space_now limits old).changed refl safe placed quiet headed fate is size due;
   }

@@ -1,4 +1,6 @@
 -- Submissions keep a volume safe.
+use Rattle.tape_layout.specs.Ops.{end_of}
+use Rattle.crash_theory.specs.Plans.{IsDue, data_jobs, index_jobs}
 use Rattle.std.proofs.Common.{◌≡◌, ℕ, suc, ◌+◌, ◌-◌, ◌^◌, ◌<◌, Bool, true, false, cond, not, ◌&&◌, if◌then◌else◌, List, [], ◌∷◌, ◌++◌, length, map, None, refl, sym, ap, subst, ◌∙◌, arith, append_assoc, append-nil, length-append}
 use Rattle.std.specs.Prelude.{filter, filter_map, ◌==◌}
 use Rattle.std.specs.List.{AllByRecursion, fold}
@@ -11,7 +13,6 @@ use Rattle.tape_types.specs.declared.cartridges.Part.TheVariants.{Ip, Dp}
 use Rattle.tape_types.specs.declared.cartridges.Place.{Place}
 use Rattle.tape_drive.specs.declared.drive.Drive.{Ghosts}
 use Rattle.tape_layout.specs.declared.ops.Op.{Op}
-use Rattle.tape_meaning.specs.declared.labels.Labels.{Labels}
 use Rattle.plain_tree.specs.declared.calls.Placed.{Placed}
 use Rattle.session_script.specs.declared.logs.Ack.{Ack}
 use Rattle.session_script.specs.declared.logs.Event.{Event}
@@ -33,7 +34,7 @@ use Rattle.volume_model.specs.Served.{headed as headed_op}
 use Rattle.volume_model.specs.Submits.{acks_for, synced_at}
 use Rattle.volume_crashes.specs.Changes.{AreQuiet, HasHeaded, IsAsked, IsPlaced, events_of_sync}
 use Rattle.volume_crashes.specs.Laws.{IsStill, SubmissionsAreSafe}
-use Rattle.volume_crashes.specs.Safe.{AreInOrder, IsSafe, wait_of}
+use Rattle.volume_crashes.specs.Safe.{AreInOrder, IsSafe, wait_of, Planned, with_jobs, volume_of, trees_of}
 use Rattle.volume_crashes.proofs.Admits.{at_acked, at_changed, at_indexed, at_others, at_still, at_stored, at_unchanged, tree_at}
 use Rattle.volume_crashes.proofs.Fields.{At, of_view, to_view}
 use Rattle.volume_crashes.proofs.Trails.{IsKept, order_filter, quiet_acks, quiet_all, quiet_tickets}
@@ -89,48 +90,48 @@ module _ {D : Type 0} (drive : Ghosts D)
     (only_now : (d : D) (image : Cartridge) → drive.commands d < 2 ^ 64 - 1 → drive.left_since d (drive.commands d) image → drive.leaves d image) where
   -- ---- a placement without a sync
 
-  quiet_view : (labels : Labels) (s : Space) (old new : View D) (history : List Placed) (asked : List Op) (added : List Event)
+  quiet_view : (planned : Planned) (s : Space) (old new : View D) (history : List Placed) (asked : List Op) (added : List Event)
       → IsAsked drive old new asked added → new.history ≡ history → AreQuiet added
-      → At drive labels s old.fixed old.drive history old.acks (after_all old.events).done (after_all old.events).syncs old.on (old.ops ++ asked)
-      → IsSafe drive labels s new
-  quiet_view labels s old new history asked added asks placed quiet a =
+      → At drive planned s old.fixed old.drive history old.acks (after_all old.events).done (after_all old.events).syncs old.on (old.ops ++ asked)
+      → IsSafe drive planned s new
+  quiet_view planned s old new history asked added asks placed quiet a =
       let kept = quiet_state old.events new.events added asks.adds.events quiet in
-      to_view drive labels s new old.fixed old.drive history old.acks (after_all old.events).done (after_all old.events).syncs old.on (old.ops ++ asked)
+      to_view drive planned s new old.fixed old.drive history old.acks (after_all old.events).done (after_all old.events).syncs old.on (old.ops ++ asked)
       asks.fixed asks.drive_is placed
       (asks.adds.acks ∙ ap (λ (l : List Ack). old.acks ++ l) (quiet_acks (drive.commands new.drive) added quiet) ∙ append-nil old.acks)
       kept.done kept.syncs asks.on asks.ops a
 
-  with_none : (labels : Labels) (s : Space) (old : View D) (history : List Placed)
-      → At drive labels s old.fixed old.drive history old.acks (after_all old.events).done (after_all old.events).syncs old.on old.ops
-      → At drive labels s old.fixed old.drive history old.acks (after_all old.events).done (after_all old.events).syncs old.on (old.ops ++ [])
-  with_none labels s old history a = subst
-      (λ (l : List Op). At drive labels s old.fixed old.drive history old.acks (after_all old.events).done (after_all old.events).syncs old.on l)
+  with_none : (planned : Planned) (s : Space) (old : View D) (history : List Placed)
+      → At drive planned s old.fixed old.drive history old.acks (after_all old.events).done (after_all old.events).syncs old.on old.ops
+      → At drive planned s old.fixed old.drive history old.acks (after_all old.events).done (after_all old.events).syncs old.on (old.ops ++ [])
+  with_none planned s old history a = subst
+      (λ (l : List Op). At drive planned s old.fixed old.drive history old.acks (after_all old.events).done (after_all old.events).syncs old.on l)
       (sym (append-nil old.ops)) a
 
-  unplaced : (labels : Labels) (s : Space) (old new : View D) (added : List Event)
-      → IsSafe drive labels s old → IsAsked drive old new [] added → new.history ≡ old.history → AreQuiet added → IsSafe drive labels s new
-  unplaced labels s old new added safe asks same quiet =
-      quiet_view labels s old new old.history [] added asks same quiet (with_none labels s old old.history (of_view drive labels s old safe))
+  unplaced : (planned : Planned) (s : Space) (old new : View D) (added : List Event)
+      → IsSafe drive planned s old → IsAsked drive old new [] added → new.history ≡ old.history → AreQuiet added → IsSafe drive planned s new
+  unplaced planned s old new added safe asks same quiet =
+      quiet_view planned s old new old.history [] added asks same quiet (with_none planned s old old.history (of_view drive planned s old safe))
 
   still_at : (old new : View D) (placed : Placed) → new.fixed ≡ old.fixed → new.history ≡ old.history ++ placed ∷ [] → IsStill old new
       → tree_at old.fixed (old.history ++ placed ∷ []) ≡ tree_at old.fixed old.history
   still_at old new placed fixed history is =
       sym (ap (λ f. tree_at f new.history) fixed ∙ ap (λ (h : List Placed). tree_at old.fixed h) history) ∙ is
 
-  still : (labels : Labels) (s : Space) (old new : View D) (placed : Placed) (added : List Event)
-      → IsSafe drive labels s old → IsPlaced drive old new placed [] added → AreQuiet added → IsStill old new → IsSafe drive labels s new
-  still labels s old new placed added safe p quiet is =
-      quiet_view labels s old new (old.history ++ placed ∷ []) [] added p.asks p.history quiet (with_none labels s old (old.history ++ placed ∷ [])
-      (at_still drive labels old.fixed old.drive old.on s old.history placed old.acks (after_all old.events).done (after_all old.events).syncs old.ops
-      (still_at old new placed p.asks.fixed p.history is) (of_view drive labels s old safe)))
+  still : (planned : Planned) (s : Space) (old new : View D) (placed : Placed) (added : List Event)
+      → IsSafe drive planned s old → IsPlaced drive old new placed [] added → AreQuiet added → IsStill old new → IsSafe drive planned s new
+  still planned s old new placed added safe p quiet is =
+      quiet_view planned s old new (old.history ++ placed ∷ []) [] added p.asks p.history quiet (with_none planned s old (old.history ++ placed ∷ [])
+      (at_still drive planned old.fixed old.drive old.on s old.history placed old.acks (after_all old.events).done (after_all old.events).syncs old.ops
+      (still_at old new placed p.asks.fixed p.history is) (of_view drive planned s old safe)))
 
-  changed : (labels : Labels) (s : Space) (old new : View D) (placed : Placed) (added : List Event)
-      → IsSafe drive labels s old → IsPlaced drive old new placed [] added → AreQuiet added → IsSafe drive labels (record s { changed = true }) new
-  changed labels s old new placed added safe p quiet =
-      quiet_view labels (record s { changed = true }) old new (old.history ++ placed ∷ []) [] added p.asks p.history quiet
-      (with_none labels (record s { changed = true }) old (old.history ++ placed ∷ [])
-      (at_changed drive labels old.fixed old.drive old.on s old.history placed old.acks (after_all old.events).done (after_all old.events).syncs old.ops
-      (of_view drive labels s old safe)))
+  changed : (planned : Planned) (s : Space) (old new : View D) (placed : Placed) (added : List Event)
+      → IsSafe drive planned s old → IsPlaced drive old new placed [] added → AreQuiet added → IsSafe drive planned (record s { changed = true }) new
+  changed planned s old new placed added safe p quiet =
+      quiet_view planned (record s { changed = true }) old new (old.history ++ placed ∷ []) [] added p.asks p.history quiet
+      (with_none planned (record s { changed = true }) old (old.history ++ placed ∷ [])
+      (at_changed drive planned old.fixed old.drive old.on s old.history placed old.acks (after_all old.events).done (after_all old.events).syncs old.ops
+      (of_view drive planned s old safe)))
 
   may_by : (wanted on fits : Bool) (b : Base) → (on ≡ true → b.ahead ≡ None) → MayWrite (if wanted && on && fits then Ip else Dp) b
   may_by true true true b h = h refl
@@ -140,7 +141,7 @@ module _ {D : Type 0} (drive : Ghosts D)
 
   -- ---- a sync
 
-  module _ (labels : Labels) (old new : View D) (placed : Placed) (queues : List Event) (asked : List Op)
+  module _ (planned : Planned) (old new : View D) (placed : Placed) (queues : List Event) (asked : List Op)
       (p : IsPlaced drive old new placed asked (events_of_sync (length old.history) old.events queues)) (quiet : AreQuiet queues) where
     abbrev here : ℕ
     here = length old.history
@@ -187,10 +188,10 @@ module _ {D : Type 0} (drive : Ghosts D)
 
     -- the sync waits
     waits : (s : Space) (op : waiting.Op) (later : List waiting.Op) → standing st ≡ op ∷ later
-        → At drive labels s old.fixed old.drive (old.history ++ placed ∷ []) old.acks before.done (before.syncs ++ w ∷ []) old.on (old.ops ++ asked)
-        → IsSafe drive labels s new
+        → At drive planned s old.fixed old.drive (old.history ++ placed ∷ []) old.acks before.done (before.syncs ++ w ∷ []) old.on (old.ops ++ asked)
+        → IsSafe drive planned s new
     waits s op later is a =
-        to_view drive labels s new old.fixed old.drive (old.history ++ placed ∷ []) old.acks before.done (before.syncs ++ w ∷ []) old.on (old.ops ++ asked)
+        to_view drive planned s new old.fixed old.drive (old.history ++ placed ∷ []) old.acks before.done (before.syncs ++ w ∷ []) old.on (old.ops ++ asked)
         p.asks.fixed p.asks.drive_is p.history (acks (op ∷ later) is ∙ append-nil old.acks)
         (ap (λ (x : State). x.done) (state (op ∷ later) is) ∙ kept.done)
         (ap (λ (x : State). x.syncs) (state (op ∷ later) is) ∙ ap (λ (l : List Waiter). l ++ w ∷ []) kept.syncs)
@@ -198,20 +199,20 @@ module _ {D : Type 0} (drive : Ghosts D)
 
     -- or it is answered at once
     answered : (s : Space) → standing st ≡ []
-        → At drive labels s old.fixed old.drive (old.history ++ placed ∷ []) old.acks before.done (before.syncs ++ w ∷ []) old.on (old.ops ++ asked)
-        → IsSafe drive labels s new
+        → At drive planned s old.fixed old.drive (old.history ++ placed ∷ []) old.acks before.done (before.syncs ++ w ∷ []) old.on (old.ops ++ asked)
+        → IsSafe drive planned s new
     answered s is a =
         let none : length (standing st) ≡ 0 = ap (λ (l : List waiting.Op). length l) is in
         let due : w.due ≡ before.done = omega (arith, ended_long st, none, kept.done) in
         let told : new.acks ≡ old.acks ++ its_ack old.drive ∷ [] = acks [] is ∙ ap (λ (d : D). old.acks ++ its_ack d ∷ []) p.asks.drive_is in
-        let acked = at_acked drive labels old.fixed old.drive old.on (only_now old.drive) s (old.history ++ placed ∷ []) old.acks before.done before.syncs w []
+        let acked = at_acked drive planned old.fixed old.drive old.on (only_now old.drive) s (old.history ++ placed ∷ []) old.acks before.done before.syncs w []
         (old.ops ++ asked) due (λ order. drop_last before.done before.syncs w order) a in
-        let fewer = at_others drive labels old.fixed old.drive old.on s (old.history ++ placed ∷ []) (old.acks ++ its_ack old.drive ∷ [])
+        let fewer = at_others drive planned old.fixed old.drive old.on s (old.history ++ placed ∷ []) (old.acks ++ its_ack old.drive ∷ [])
         before.done (before.syncs ++ []) (filter its before.syncs) (old.ops ++ asked)
         (λ P all. all_filter P its before.syncs (subst (λ (l : List Waiter). AllByRecursion P (map wait_of l)) (append-nil before.syncs) all))
         (λ order. order_filter its before.done before.syncs (subst (λ (l : List Waiter). AreInOrder before.done l) (append-nil before.syncs) order))
         acked in
-        to_view drive labels s new old.fixed old.drive (old.history ++ placed ∷ []) (old.acks ++ its_ack old.drive ∷ [])
+        to_view drive planned s new old.fixed old.drive (old.history ++ placed ∷ []) (old.acks ++ its_ack old.drive ∷ [])
         before.done (filter its before.syncs) old.on (old.ops ++ asked)
         p.asks.fixed p.asks.drive_is p.history told
         (ap (λ (x : State). x.done) (state [] is) ∙ kept.done)
@@ -223,15 +224,15 @@ module _ {D : Type 0} (drive : Ghosts D)
         p.asks.on p.asks.ops fewer
 
     by_ops : (s : Space) (stand : List waiting.Op) → standing st ≡ stand
-        → At drive labels s old.fixed old.drive (old.history ++ placed ∷ []) old.acks before.done (before.syncs ++ w ∷ []) old.on (old.ops ++ asked)
-        → IsSafe drive labels s new
+        → At drive planned s old.fixed old.drive (old.history ++ placed ∷ []) old.acks before.done (before.syncs ++ w ∷ []) old.on (old.ops ++ asked)
+        → IsSafe drive planned s new
     by_ops s [] is a = answered s is a
     by_ops s (op ∷ later) is a = waits s op later is a
 
     -- what a sync adds, once the head's list has it
     pub synced_view : (s : Space)
-        → At drive labels s old.fixed old.drive (old.history ++ placed ∷ []) old.acks before.done (before.syncs ++ w ∷ []) old.on (old.ops ++ asked)
-        → IsSafe drive labels s new
+        → At drive planned s old.fixed old.drive (old.history ++ placed ∷ []) old.acks before.done (before.syncs ++ w ∷ []) old.on (old.ops ++ asked)
+        → IsSafe drive planned s new
     synced_view s a = by_ops s (standing st) refl a
 
   pub submissions_are_safe : SubmissionsAreSafe drive
@@ -239,29 +240,29 @@ module _ {D : Type 0} (drive : Ghosts D)
     unplaced = unplaced;
     still = still;
     changed = changed;
-    stored = λ labels s old new placed added rules place wanted bytes safe p quiet.
+    stored = λ planned s old new placed added rules place wanted bytes safe p quiet.
         let on = is_on (facts_of old.fixed.mounted) old.on place in
         let part = part_for rules on s wanted bytes in
-        let a = of_view drive labels s old safe in
-        let stored = at_stored drive labels old.fixed old.drive old.on s old.history old.acks (after_all old.events).done (after_all old.events).syncs old.ops rules part bytes a
+        let a = of_view drive planned s old safe in
+        let stored = at_stored drive planned old.fixed old.drive old.on s old.history old.acks (after_all old.events).done (after_all old.events).syncs old.ops rules part bytes a
         (may_by wanted on _ (after_jobs a.made a.jobs).base (λ is. a.may_write place is)) in
-        quiet_view labels (space.after rules on s (space.store wanted bytes)) old new (old.history ++ placed ∷ []) (space.ops_of rules on s (space.store wanted bytes)) added p.asks p.history quiet
-        (at_changed drive labels old.fixed old.drive old.on (with_data rules part bytes s) old.history placed old.acks (after_all old.events).done (after_all old.events).syncs
+        quiet_view (with_jobs (data_jobs rules part (end_of part s.ends) bytes) planned) (space.after rules on s (space.store wanted bytes)) old new (old.history ++ placed ∷ []) (space.ops_of rules on s (space.store wanted bytes)) added p.asks p.history quiet
+        (at_changed drive (with_jobs (data_jobs rules part (end_of part s.ends) bytes) planned) old.fixed old.drive old.on (with_data rules part bytes s) old.history placed old.acks (after_all old.events).done (after_all old.events).syncs
         (old.ops ++ space.ops_of rules on s (space.store wanted bytes)) stored);
-    synced = λ labels s old new placed queues rules on text e safe p quiet headed is size due.
+    synced = λ planned s old new placed queues rules on text e safe p quiet headed is size due.
         let w = waiter_at (length old.history) (after_all (old.events ++ queues)) in
         let ops = space.ops_of rules on s (space.index text) in
-        let a = of_view drive labels s old safe in
-        let indexed = at_indexed drive labels old.fixed old.drive old.on s old.history old.acks (after_all old.events).done (after_all old.events).syncs old.ops rules text e w a
-        due size refl (due_is labels old new placed queues ops p quiet headed) in
-        synced_view labels old new placed queues ops p quiet (with_index rules text s)
-        (at_still drive labels old.fixed old.drive old.on (with_index rules text s) old.history placed old.acks (after_all old.events).done
+        let a = of_view drive planned s old safe in
+        let indexed = at_indexed drive planned old.fixed old.drive old.on s old.history old.acks (after_all old.events).done (after_all old.events).syncs old.ops rules text e w a
+        (subst (λ m. IsDue (volume_of planned.labels old) (trees_of old) m s text e) (sym a.plan) due) size refl (due_is planned old new placed queues ops p quiet headed) in
+        synced_view (with_jobs (index_jobs rules s text e) planned) old new placed queues ops p quiet (with_index rules text s)
+        (at_still drive (with_jobs (index_jobs rules s text e) planned) old.fixed old.drive old.on (with_index rules text s) old.history placed old.acks (after_all old.events).done
         ((after_all old.events).syncs ++ w ∷ []) (old.ops ++ ops) (still_at old new placed p.asks.fixed p.history is) indexed);
-    unchanged = λ labels s old new placed queues safe p quiet headed is same.
+    unchanged = λ planned s old new placed queues safe p quiet headed is same.
         let w = waiter_at (length old.history) (after_all (old.events ++ queues)) in
-        let waits = at_unchanged drive labels old.fixed old.drive old.on s old.history old.acks (after_all old.events).done (after_all old.events).syncs (old.ops ++ []) w
-        (with_none labels s old old.history (of_view drive labels s old safe)) same refl (due_is labels old new placed queues [] p quiet headed) in
-        synced_view labels old new placed queues [] p quiet s
-        (at_still drive labels old.fixed old.drive old.on s old.history placed old.acks (after_all old.events).done
+        let waits = at_unchanged drive planned old.fixed old.drive old.on s old.history old.acks (after_all old.events).done (after_all old.events).syncs (old.ops ++ []) w
+        (with_none planned s old old.history (of_view drive planned s old safe)) same refl (due_is planned old new placed queues [] p quiet headed) in
+        synced_view planned old new placed queues [] p quiet s
+        (at_still drive planned old.fixed old.drive old.on s old.history placed old.acks (after_all old.events).done
         ((after_all old.events).syncs ++ w ∷ []) (old.ops ++ []) (still_at old new placed p.asks.fixed p.history is) waits);
   }

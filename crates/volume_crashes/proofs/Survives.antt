@@ -9,8 +9,8 @@ use Rattle.volume_crashes.proofs.Waits.{all_has}
 
 module _ {D : Type 0} (drive : Ghosts D) where
   pub safe_volumes_survive : SafeVolumesSurvive drive
-  safe_volumes_survive labels s v safe =
-      let volume = volume_of labels v in
+  safe_volumes_survive planned s v safe =
+      let volume = volume_of planned.labels v in
       let trees = trees_of v in
       record {
         always = λ image left. (fine_cartridges_stand volume trees 0 image (safe.serving.kept.always image left)).0;

@@ -15,23 +15,24 @@ use Rattle.session_script.specs.declared.logs.Event.{Event}
 use Rattle.session_script.specs.declared.logs.Event.TheVariants as events
 use Rattle.tape_drive.specs.declared.drive.Drive.{Ghosts}
 use Rattle.tape_layout.specs.declared.ops.Op.{Op}
-use Rattle.tape_layout.specs.Ops.{HasRoom}
+use Rattle.tape_layout.specs.Ops.{HasRoom, end_of}
 use Rattle.tape_meaning.specs.Carried.{carried}
 use Rattle.tape_meaning.specs.Meaning.{Stands}
 use Rattle.tape_meaning.specs.Mounts.{Mounts}
-use Rattle.tape_meaning.specs.declared.labels.Labels.{Labels}
 use Rattle.head_core.specs.Steps.{CanDo, IsOpStep, IsReadStep}
 use Rattle.head_core.specs.declared.work.StepDone.{StepDone}
 use Rattle.head_core.specs.declared.work.StepDone.TheVariants as outcome
-use Rattle.volume_space.specs.Space.{Ask, Rules, Space, first_space, index, ops_of, store}
+use Rattle.volume_space.specs.Space.{Ask, Rules, Space, first_space, index, ops_of, part_for, store}
 use Rattle.volume_space.specs.Space as space
 use Rattle.volume_space.specs.Standing.{admitted_at, after_placed, asked, is_on, rules, sync_text}
 use Rattle.crash_theory.specs.Kept.{IsStep, IsSureAfter}
 use Rattle.crash_theory.specs.Events.{IsDone, IsFailed, Within}
-use Rattle.crash_theory.specs.Laws.{all_made}
-use Rattle.crash_theory.specs.Made.{Entry}
+use Rattle.crash_theory.specs.Made.{Entry, Job, part_items}
 use Rattle.crash_theory.specs.Moments.{moment_of}
-use Rattle.crash_theory.specs.Plans.{IsDue}
+use Rattle.crash_theory.specs.Plans.{IsDue, data_jobs, index_jobs}
+use Rattle.crash_theory.specs.Starts.{made_of}
+use Rattle.index_model.specs.declared.indexes.Index.{Index}
+use Rattle.tape_types.specs.declared.cartridges.Part.{Part}
 use Rattle.volume_model.specs.Crash.{IsSound, SurvivesCrashes}
 use Rattle.volume_model.specs.Ends.{begun}
 use Rattle.volume_model.specs.Meanings.{cartridges}
@@ -44,7 +45,7 @@ use Rattle.volume_model.specs.declared.answers.Submitted.{Submitted}
 use Rattle.volume_model.specs.declared.answers.Turn.{Turn}
 use Rattle.head_trail.specs.Trail.{IsTrail}
 use Rattle.volume_crashes.specs.Changes.{AreDriven, AreQuiet, HasHeaded, IsAsked, IsPlaced, IsStepped, IsWell, events_of_sync}
-use Rattle.volume_crashes.specs.Safe.{IsSafe, given_by, seen_by, space_now, standing_now, state_of}
+use Rattle.volume_crashes.specs.Safe.{Follows, IsSafe, Planned, given_by, seen_by, space_now, standing_now, trees_of, volume_of, with_jobs, items_by}
 
 -- the drive tells a cartridge that stands for the tree and is sound, and a crash leaves just that one
 abbrev pub CanServe : {D : Type 0} → Ghosts D → Fixed D → Type 0
@@ -56,43 +57,56 @@ CanServe drive fixed = CanTell
 abbrev pub StartsAreSafe : {D : Type 0} → Ghosts D → Type 0
 StartsAreSafe {D = D} drive = (fixed : Fixed D) (next : Option Moment) (can : CanServe drive fixed)
     → Mounts can.held fixed.mounted
-    → IsSafe drive can.reads_as.0.reads.found.labels (first_space (facts_of fixed.mounted)) (begun fixed next)
+    → (last : Index) × (can.reads_as.0.reads.found.on_dp ≡ Some last)
+    × IsSafe drive (record {
+      labels = can.reads_as.0.reads.found.labels;
+      made = made_of can.held can.reads_as.0.reads.found.on_ip last;
+    }) (first_space (facts_of fixed.mounted)) (begun fixed next)
 
 -- the last placement leaves the tree as it was
 abbrev pub IsStill : {D : Type 0} → View D → View D → Type 0
 IsStill old new = tree_after new (length new.history) ≡ tree_after old (length old.history)
 
+-- the jobs of bytes, on the partition to which they go
+abbrev pub stored_jobs : Rules → Bool → Space → Bool → List ℕ → List Job
+stored_jobs rules on s wanted bytes = jobs_on (part_for rules on s wanted bytes)
+  where
+    jobs_on : Part → List Job
+    jobs_on part = data_jobs rules part (end_of part s.ends) bytes
+
 -- A submission keeps a volume safe, by what it asks of the tape: nothing, with or without a change of the tree; bytes on
 -- a partition; the index of a sync, with the text that is due; or nothing for a sync before which nothing changed.
 pub record SubmissionsAreSafe {D : Type 0} (drive : Ghosts D) : Type 0 where
-  pub unplaced : (labels : Labels) (s : Space) (old new : View D) (added : List Event)
-      → IsSafe drive labels s old → IsAsked drive old new [] added → new.history ≡ old.history → AreQuiet added
-      → IsSafe drive labels s new
-  pub still : (labels : Labels) (s : Space) (old new : View D) (placed : Placed) (added : List Event)
-      → IsSafe drive labels s old → IsPlaced drive old new placed [] added → AreQuiet added → IsStill old new
-      → IsSafe drive labels s new
-  pub changed : (labels : Labels) (s : Space) (old new : View D) (placed : Placed) (added : List Event)
-      → IsSafe drive labels s old → IsPlaced drive old new placed [] added → AreQuiet added
-      → IsSafe drive labels (record s { changed = true }) new
-  pub stored : (labels : Labels) (s : Space) (old new : View D) (placed : Placed) (added : List Event) (rules : Rules)
+  pub unplaced : (p : Planned) (s : Space) (old new : View D) (added : List Event)
+      → IsSafe drive p s old → IsAsked drive old new [] added → new.history ≡ old.history → AreQuiet added
+      → IsSafe drive p s new
+  pub still : (p : Planned) (s : Space) (old new : View D) (placed : Placed) (added : List Event)
+      → IsSafe drive p s old → IsPlaced drive old new placed [] added → AreQuiet added → IsStill old new
+      → IsSafe drive p s new
+  pub changed : (p : Planned) (s : Space) (old new : View D) (placed : Placed) (added : List Event)
+      → IsSafe drive p s old → IsPlaced drive old new placed [] added → AreQuiet added
+      → IsSafe drive p (record s { changed = true }) new
+  pub stored : (p : Planned) (s : Space) (old new : View D) (placed : Placed) (added : List Event) (rules : Rules)
       (place : ℕ) (wanted : Bool) (bytes : List ℕ)
-      → IsSafe drive labels s old
-      → IsPlaced drive old new placed (ops_of rules (is_on (facts_of old.fixed.mounted) old.on place) s (store wanted bytes)) added
+      → IsSafe drive p s old
+      → IsPlaced drive old new placed
+      (ops_of rules (is_on (facts_of old.fixed.mounted) old.on place) s (store wanted bytes)) added
       → AreQuiet added
-      → IsSafe drive labels
+      → IsSafe drive
+      (with_jobs (stored_jobs rules (is_on (facts_of old.fixed.mounted) old.on place) s wanted bytes) p)
       (space.after rules (is_on (facts_of old.fixed.mounted) old.on place) s (store wanted bytes)) new
-  pub synced : (labels : Labels) (s : Space) (old new : View D) (placed : Placed) (queues : List Event) (rules : Rules)
+  pub synced : (p : Planned) (s : Space) (old new : View D) (placed : Placed) (queues : List Event) (rules : Rules)
       (on : Bool) (text : List ℕ) (e : Entry)
-      (safe : IsSafe drive labels s old)
-      → IsPlaced drive old new placed (ops_of rules on s (index text)) (events_of_sync (length old.history) old.events queues)
+      → IsSafe drive p s old
+      → IsPlaced drive old new placed (ops_of rules on s (index text))
+      (events_of_sync (length old.history) old.events queues)
       → AreQuiet queues → HasHeaded new → IsStill old new → 1 ≤ rules.block_size
-      → IsDue (state_of labels old safe.made safe.jobs).volume (state_of labels old safe.made safe.jobs).trees
-      (all_made (state_of labels old safe.made safe.jobs)) s text e
-      → IsSafe drive labels (space.after rules on s (index text)) new
-  pub unchanged : (labels : Labels) (s : Space) (old new : View D) (placed : Placed) (queues : List Event)
-      → IsSafe drive labels s old
+      → IsDue (volume_of p.labels old) (trees_of old) p.made s text e
+      → IsSafe drive (with_jobs (index_jobs rules s text e) p) (space.after rules on s (index text)) new
+  pub unchanged : (p : Planned) (s : Space) (old new : View D) (placed : Placed) (queues : List Event)
+      → IsSafe drive p s old
       → IsPlaced drive old new placed [] (events_of_sync (length old.history) old.events queues)
-      → AreQuiet queues → HasHeaded new → IsStill old new → s.changed ≡ false → IsSafe drive labels s new
+      → AreQuiet queues → HasHeaded new → IsStill old new → s.changed ≡ false → IsSafe drive p s new
 
 -- what a head says of an op is what the theory of crashes asks of it
 pub record HeadsDoOps {D : Type 0} (drive : Ghosts D) : Type 0 where
@@ -109,26 +123,26 @@ pub record HeadsDoOps {D : Type 0} (drive : Ghosts D) : Type 0 where
 -- A step of the head keeps a volume safe: the first op done, with an ack for each sync that is due then; the first op
 -- failed, for which its owner waits no more; and a read. What the head can do of the first op goes by its room.
 pub record StepsAreSafe {D : Type 0} (drive : Ghosts D) : Type 0 where
-  pub done : (labels : Labels) (s : Space) (old new : View D) (op : Op) (place : Place) (end : StepDone)
+  pub done : (p : Planned) (s : Space) (old new : View D) (op : Op) (place : Place) (end : StepDone)
       (answers : List Event)
-      → IsSafe drive labels s old → IsStepped drive old new (events.Worked place None) answers
-      → old.ops ≡ op ∷ new.ops → IsOpStep drive op end old.drive new.drive → IsWell end → IsSafe drive labels s new
-  pub failed : (labels : Labels) (s : Space) (old new : View D) (op : Op) (later : List Op) (place : Place)
+      → IsSafe drive p s old → IsStepped drive old new (events.Worked place None) answers
+      → old.ops ≡ op ∷ new.ops → IsOpStep drive op end old.drive new.drive → IsWell end → IsSafe drive p s new
+  pub failed : (p : Planned) (s : Space) (old new : View D) (op : Op) (later : List Op) (place : Place)
       (counts told : Twin) (answers : List Event)
-      → IsSafe drive labels s old → IsStepped drive old new (events.Worked place (Some told)) answers
+      → IsSafe drive p s old → IsStepped drive old new (events.Worked place (Some told)) answers
       → old.ops ≡ op ∷ later → new.ops ≡ old.ops → IsOpStep drive op (outcome.Failed counts) old.drive new.drive
-      → IsSafe drive labels s new
-  pub read : (labels : Labels) (s : Space) (old new : View D) (ticket : ℕ) (place : Place) (fault : Option Twin)
+      → IsSafe drive p s new
+  pub read : (p : Planned) (s : Space) (old new : View D) (ticket : ℕ) (place : Place) (fault : Option Twin)
       (end : StepDone) (answers : List Event)
-      → IsSafe drive labels s old → IsStepped drive old new (events.Served ticket place fault) answers
-      → new.ops ≡ old.ops → IsReadStep drive place end old.drive new.drive → IsSafe drive labels s new
-  pub can_do : (labels : Labels) (s : Space) (v : View D) (op : Op) (later : List Op) (size : ℕ)
-      → IsSafe drive labels s v → v.ops ≡ op ∷ later → HasRoom (drive.limits v.drive) size op → size ≤ 1048576
+      → IsSafe drive p s old → IsStepped drive old new (events.Served ticket place fault) answers
+      → new.ops ≡ old.ops → IsReadStep drive place end old.drive new.drive → IsSafe drive p s new
+  pub can_do : (p : Planned) (s : Space) (v : View D) (op : Op) (later : List Op) (size : ℕ)
+      → IsSafe drive p s v → v.ops ≡ op ∷ later → HasRoom (drive.limits v.drive) size op → size ≤ 1048576
       → CanDo op (drive.limits v.drive) (drive.held v.drive)
 
 -- a safe volume keeps the promise on crashes
 abbrev pub SafeVolumesSurvive : {D : Type 0} → Ghosts D → Type 0
-SafeVolumesSurvive {D = D} drive = (labels : Labels) (s : Space) (v : View D) → IsSafe drive labels s v
+SafeVolumesSurvive {D = D} drive = (p : Planned) (s : Space) (v : View D) → IsSafe drive p s v
     → SurvivesCrashes cartridges (carried v.fixed.mounted.index) (tree_after v) (length v.history) v.acks
     (seen_by drive v.drive).leavings v.fixed.since
 
@@ -157,8 +171,12 @@ next_ops limits v ask =
     ops_of (rules (given_by limits v)) (is_on (facts_of v.fixed.mounted) v.on (length v.history)) (space_now limits v) ask
 
 -- a safe volume with the space that its history leaves
-abbrev pub IsSafeNow : {D : Type 0} → Ghosts D → Labels → Limits → View D → Type 0
-IsSafeNow drive labels limits v = IsSafe drive labels (space_now limits v) v
+abbrev pub IsSafeNow : {D : Type 0} → Ghosts D → Planned → Limits → View D → Type 0
+IsSafeNow drive p limits v = IsSafe drive p (space_now limits v) v
+
+-- with these ops more
+abbrev pub IsSafeWith : {D : Type 0} → Ghosts D → Planned → Limits → List Op → View D → Type 0
+IsSafeWith drive p limits asked v = (q : Planned) × Follows p q asked × IsSafeNow drive q limits v
 
 -- no index
 abbrev pub AsksNoIndex : Ask → Type 0
@@ -169,32 +187,31 @@ AsksNoIndex (index text) = ⊥
 
 -- The index of a sync is due that is placed next at a moment: it is one of the volume, of the whole history, which tells
 -- its tree from what stands once all ops are done.
-abbrev pub IsNextDue : {D : Type 0} (drive : Ghosts D) (labels : Labels) (limits : Limits) (v : View D)
-    → IsSafeNow drive labels limits v → Moment → Type 0
-IsNextDue drive labels limits v safe at = (e : Entry) × IsDue (state_of labels v safe.made safe.jobs).volume
-    (state_of labels v safe.made safe.jobs).trees (all_made (state_of labels v safe.made safe.jobs))
-    (space_now limits v) (sync_text (given_by limits v) (standing_now limits v) at) e
+abbrev pub IsNextDue : {D : Type 0} → Planned → Limits → View D → Moment → Type 0
+IsNextDue p limits v at = (e : Entry) × IsDue (volume_of p.labels v) (trees_of v) p.made (space_now limits v)
+    (sync_text (given_by limits v) (standing_now limits v) at) e
 
 -- Each call that is placed keeps a volume safe, with the space that its history leaves: a void one; one that asks for no
 -- index; and a sync, with the index that is due where anything changed.
 pub record CallsAreSafe {D : Type 0} (drive : Ghosts D) : Type 0 where
-  pub void : (labels : Labels) (limits : Limits) (old new : View D) (p : Placed) (added : List Event)
-      → IsSafeNow drive labels limits old → IsPlaced drive old new p [] added → AreQuiet added
-      → p.fate ≡ fates.Void → IsSafeNow drive labels limits new
-  pub done : (labels : Labels) (limits : Limits) (old new : View D) (p : Placed) (call : Call) (added : List Event)
-      → IsSafeNow drive labels limits old
-      → IsPlaced drive old new p (next_ops limits old (next_ask limits old call p.at)) added → AreQuiet added
-      → p.fate ≡ fates.Done → call_at (calls_of old.fixed.script) p ≡ Some call
-      → AsksNoIndex (next_ask limits old call p.at) → IsSafeNow drive labels limits new
-  pub synced : (labels : Labels) (limits : Limits) (old new : View D) (p : Placed) (queues : List Event)
-      (safe : IsSafeNow drive labels limits old)
-      → IsPlaced drive old new p (next_ops limits old (next_ask limits old Sync p.at))
+  pub void : (p : Planned) (limits : Limits) (old new : View D) (placed : Placed) (added : List Event)
+      → IsSafeNow drive p limits old → IsPlaced drive old new placed [] added → AreQuiet added
+      → placed.fate ≡ fates.Void → IsSafeNow drive p limits new
+  pub done : (p : Planned) (limits : Limits) (old new : View D) (placed : Placed) (call : Call) (added : List Event)
+      → IsSafeNow drive p limits old
+      → IsPlaced drive old new placed (next_ops limits old (next_ask limits old call placed.at)) added → AreQuiet added
+      → placed.fate ≡ fates.Done → call_at (calls_of old.fixed.script) placed ≡ Some call
+      → AsksNoIndex (next_ask limits old call placed.at)
+      → IsSafeWith drive p limits (next_ops limits old (next_ask limits old call placed.at)) new
+  pub synced : (p : Planned) (limits : Limits) (old new : View D) (placed : Placed) (queues : List Event)
+      → IsSafeNow drive p limits old
+      → IsPlaced drive old new placed (next_ops limits old (next_ask limits old Sync placed.at))
       (events_of_sync (length old.history) old.events queues)
       → AreQuiet queues → HasHeaded new
-      → p.fate ≡ fates.Done → call_at (calls_of old.fixed.script) p ≡ Some Sync
+      → placed.fate ≡ fates.Done → call_at (calls_of old.fixed.script) placed ≡ Some Sync
       → 1 ≤ old.fixed.mounted.label.block
-      → ((space_now limits old).changed ≡ true → IsNextDue drive labels limits old safe p.at)
-      → IsSafeNow drive labels limits new
+      → ((space_now limits old).changed ≡ true → IsNextDue p limits old placed.at)
+      → IsSafeWith drive p limits (next_ops limits old (next_ask limits old Sync placed.at)) new
 
 -- a submission adds the ops that its placement admits
 pub record AddsOps {D : Type 0} (limits : Limits) (old new : View D) : Type 0 where
@@ -205,23 +222,28 @@ pub record AddsOps {D : Type 0} (limits : Limits) (old new : View D) : Type 0 wh
 -- Each submission keeps a volume safe, in the words of what it adds to the view: with the ops that are admitted, and with
 -- the index that is due of a sync before which anything changed.
 abbrev pub SubmitsAreSafe : {D : Type 0} → Ghosts D → Type 0
-SubmitsAreSafe {D = D} drive = (labels : Labels) (old new : View D) (who nth : ℕ) (answer : Submitted)
-    (safe : IsSafeNow drive labels (drive.limits old.fixed.first) old)
+SubmitsAreSafe {D = D} drive = (p : Planned) (old new : View D) (who nth : ℕ) (answer : Submitted)
+    → IsSafeNow drive p (drive.limits old.fixed.first) old
     → Submits (seen_by drive old.fixed.first) (seen_by drive new.drive) old new who nth answer
     → AddsOps (drive.limits old.fixed.first) old new → HasHeaded new → 1 ≤ old.fixed.mounted.label.block
-    → ((p : Placed) → new.history ≡ old.history ++ p ∷ [] → p.fate ≡ fates.Done
-    → call_at (calls_of old.fixed.script) p ≡ Some Sync → (space_now (drive.limits old.fixed.first) old).changed ≡ true
-    → IsNextDue drive labels (drive.limits old.fixed.first) old safe p.at)
-    → IsSafeNow drive labels (drive.limits old.fixed.first) new
+    → ((placed : Placed) → new.history ≡ old.history ++ placed ∷ [] → placed.fate ≡ fates.Done
+    → call_at (calls_of old.fixed.script) placed ≡ Some Sync → (space_now (drive.limits old.fixed.first) old).changed ≡ true
+    → IsNextDue p (drive.limits old.fixed.first) old placed.at)
+    → (asked : List Op) × (new.ops ≡ old.ops ++ asked) × IsSafeWith drive p (drive.limits old.fixed.first) asked new
 
 -- So does each turn of the head, of a session that waits and of one that drains, whose write may be placed void with the
 -- fault that it owns: what the head did in its step is said beside.
 pub record TurnsAreSafe {D : Type 0} (drive : Ghosts D) : Type 0 where
-  pub waiting : (labels : Labels) (limits : Limits) (old new : View D) (most who ticket : ℕ) (answer : Turn)
-      → IsSafeNow drive labels limits old
+  pub waiting : (p : Planned) (limits : Limits) (old new : View D) (most who ticket : ℕ) (answer : Turn)
+      → IsSafeNow drive p limits old
       → (t : Turns most (seen_by drive old.drive) (seen_by drive new.drive) old new who ticket answer)
-      → AreDriven drive old new t.added → IsTrail new.events → HasHeaded old → IsSafeNow drive labels limits new
-  pub draining : (labels : Labels) (limits : Limits) (old new : View D) (most who : ℕ) (answer : Drained)
-      → IsSafeNow drive labels limits old
+      → AreDriven drive old new t.added → IsTrail new.events → HasHeaded old → IsSafeNow drive p limits new
+  pub draining : (p : Planned) (limits : Limits) (old new : View D) (most who : ℕ) (answer : Drained)
+      → IsSafeNow drive p limits old
       → (t : DrainsOnce most (seen_by drive old.drive) (seen_by drive new.drive) old new who answer)
-      → AreDriven drive old new t.made → IsTrail new.events → HasHeaded old → IsSafeNow drive labels limits new
+      → AreDriven drive old new t.made → IsTrail new.events → HasHeaded old → IsSafeNow drive p limits new
+
+-- what is planned grows by the items of the ops that were added
+abbrev pub PlansGrow : Type 0
+PlansGrow = (old new : Planned) (asked : List Op) → Follows old new asked
+    → (part : Part) → part_items part new.made ≡ part_items part old.made ++ items_by part asked

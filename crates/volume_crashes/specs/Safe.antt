@@ -1,8 +1,11 @@
 -- A served volume of which each crash leaves a tree of its history.
-use Rattle.std.specs.Prelude.{ℕ, ◌≤◌, ◌≡◌, true, List, [], ◌∷◌, length, map, Some, None}
+use Rattle.std.specs.Prelude.{ℕ, ◌≤◌, ◌≡◌, true, List, [], ◌∷◌, ◌++◌, length, map, Some, None}
 use Rattle.tape_types.specs.declared.cartridges.Cartridge.{Cartridge}
 use Rattle.tape_types.specs.declared.cartridges.Limits.{Limits}
-use Rattle.tape_types.specs.declared.cartridges.Part.TheVariants.{Dp}
+use Rattle.tape_types.specs.declared.cartridges.Item.{Item}
+use Rattle.tape_types.specs.declared.cartridges.Item.TheVariants.{Block, Mark}
+use Rattle.tape_types.specs.declared.cartridges.Part.{Part}
+use Rattle.tape_types.specs.declared.cartridges.Part.TheVariants.{Ip, Dp}
 use Rattle.tape_drive.specs.declared.drive.Drive.{Ghosts}
 use Rattle.tape_layout.specs.declared.ops.Op.{Op}
 use Rattle.tape_layout.specs.declared.ops.Op.TheVariants as ops
@@ -75,16 +78,33 @@ abbrev pub Settle : Made → List Job → Type 0
 Settle s [] = Unit {0}
 Settle s (job ∷ jobs) = (IsDpFlush job.op → (makes job s).base.ahead ≡ None) × Settle (makes job s) jobs
 
+-- on what a volume is served: its labels, and what both partitions have once all ops that stand are done
+pub record Planned : Type 0 where
+  pub labels : Labels
+  pub made : Made
+
+-- with more jobs behind those
+abbrev pub with_jobs : List Job → Planned → Planned
+with_jobs more p = record { labels = p.labels; made = after p.made more }
+
+-- with these ops more
+pub record Follows (old new : Planned) (asked : List Op) : Type 0 where
+  pub labels : new.labels ≡ old.labels
+  pub jobs : List Job
+  pub ops : map (λ (job : Job). job.op) jobs ≡ asked
+  pub made : new.made ≡ after old.made jobs
+
 -- A volume over a drive that tells its cartridge: the theory of crashes serves it, with the ops that stand as its jobs.
 -- The syncs wait in order. From where on files may go to the index partition, no index is ahead there once all ops are
 -- done.
-pub record IsSafe {D : Type 0} (drive : Ghosts D) (labels : Labels) (space : Space) (v : View D) : Type 0 where
+pub record IsSafe {D : Type 0} (drive : Ghosts D) (planned : Planned) (space : Space) (v : View D) : Type 0 where
   pub made : Made
   pub jobs : List Job
   pub held : Cartridge
   pub told : drive.held v.drive ≡ Some held
   pub ops : map (λ (job : Job). job.op) jobs ≡ v.ops
-  pub serving : IsServing drive (state_of labels v made jobs) space v.drive held
+  pub plan : after made jobs ≡ planned.made
+  pub serving : IsServing drive (state_of planned.labels v made jobs) space v.drive held
   pub in_order : AreInOrder (after_all v.events).done (after_all v.events).syncs
   pub may_write : (place : ℕ) → is_on (facts_of v.fixed.mounted) v.on place ≡ true → (after made jobs).base.ahead ≡ None
   pub settles : Settle made jobs
@@ -106,3 +126,22 @@ standing_now limits v = standing (given_by limits v) v.on v.history (length v.hi
 
 abbrev pub space_now : {D : Type 0} → Limits → View D → Space
 space_now limits v = (standing_now limits v).space
+
+-- ---- what is planned, by the ops
+
+-- an item that goes to one partition, as another sees it
+abbrev pub item_on : Part → Part → Item → List Item
+item_on Ip Ip x = x ∷ []
+item_on Ip Dp x = []
+item_on Dp Ip x = []
+item_on Dp Dp x = x ∷ []
+
+abbrev pub put_by : Part → Op → List Item
+put_by part (ops.Put place bytes) = item_on part place.part (Block bytes)
+put_by part (ops.Mark place) = item_on part place.part Mark
+put_by part (ops.Flush place) = []
+
+-- the items that ops put on a partition
+abbrev pub items_by : Part → List Op → List Item
+items_by part [] = []
+items_by part (op ∷ later) = put_by part op ++ items_by part later

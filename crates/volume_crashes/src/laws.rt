@@ -1,7 +1,7 @@
 //! What keeps a served volume safe, call by call, and what that gives.
 
 ghost use Rattle.volume_crashes.specs.Laws.{HeadsDoOps, SafeVolumesSurvive, StartsAreSafe, StepsAreSafe};
-ghost use Rattle.volume_crashes.specs.Laws.{CallsAreSafe, StandingsGoOn, SubmissionsAreSafe, SubmitsAreSafe, TurnsAreSafe};
+ghost use Rattle.volume_crashes.specs.Laws.{CallsAreSafe, PlansGrow, StandingsGoOn, SubmissionsAreSafe, SubmitsAreSafe, TurnsAreSafe};
 
 use tape_drive::Drive;
 
@@ -30,6 +30,12 @@ pub fn calls_are_safe<D: Drive>()
 /// So does each submission, in the words of what it adds to the view.
 pub fn submits_are_safe<D: Drive>()
     ensures { SubmitsAreSafe D.Drive }
+{}
+
+/// What is planned grows by the items of the ops that a submission adds.
+#[tactic(auto, using(crate::proofs::Grown::plans_grow))]
+pub fn plans_grow()
+    ensures { PlansGrow }
 {}
 
 /// What a head says of an op is what the theory of crashes asks of it.

@@ -4,6 +4,6 @@
 mod laws;
 
 pub use laws::{
-    calls_are_safe, heads_do_ops, safe_volumes_survive, standings_go_on, starts_are_safe,
-    steps_are_safe, submissions_are_safe, submits_are_safe, turns_are_safe,
+    calls_are_safe, heads_do_ops, plans_grow, safe_volumes_survive, standings_go_on,
+    starts_are_safe, steps_are_safe, submissions_are_safe, submits_are_safe, turns_are_safe,
 };
