@@ -215,7 +215,7 @@ room_for os ms size newest o kept = by (lookup o newest) refl
         let front : pairs_of os (w.member.front ++ k ∷ []) ≡ pairs_of os w.member.front ++ owned_at os k ∷ [] = pairs_both os w.member.front (k ∷ []) in
         let all : pairs_of os ms ≡ pairs_of os w.member.front ++ owned_at os k ∷ pairs_of os w.member.behind = ap (pairs_of os) w.member.parts ∙ pairs_both os w.member.front (k ∷ w.member.behind) in
         let grown : (ps : List Owned) → pairs_of os (w.member.front ++ k ∷ []) ++ ps ≡ pairs_of os w.member.front ++ owned_at os k ∷ ps
-            = λ ps. ap (λ (qs : List Owned). qs ++ ps) front ∙ append_assoc (pairs_of os w.member.front) (owned_at os k ∷ []) ps in
+        = λ ps. ap (λ (qs : List Owned). qs ++ ps) front ∙ append_assoc (pairs_of os w.member.front) (owned_at os k ∷ []) ps in
         record {
           cut = record { front = w.member.front ++ k ∷ []; behind = w.member.behind; parts = w.member.parts ∙ sym (append_assoc w.member.front (k ∷ []) w.member.behind); last = sym (last_is 0 k w.member.front) };
           grouped = λ n. subst Grouped (sym (grown (record { owner = o; node = n } ∷ pairs_of os w.member.behind)))
@@ -338,7 +338,7 @@ grouped_less x (z ∷ zs) ys h = (first zs h.0 (behind zs h.1), grouped_less x z
 
 less_told : (os : List ℕ) (o n p : ℕ) (fs bs : List ℕ) → owner_at os n ≡ o → Misses 0 fs → Misses n bs → Grouped (pairs_of os fs ++ owned_at os n ∷ pairs_of os bs)
     → cond (nat_eq p o) (left_over (last_held o (pairs_of os fs ++ owned_at os n ∷ pairs_of os bs)) n (holds os (last_of 0 fs) o) (last_of 0 fs))
-        (last_held p (pairs_of os fs ++ owned_at os n ∷ pairs_of os bs))
+    (last_held p (pairs_of os fs ++ owned_at os n ∷ pairs_of os bs))
     ≡ last_held p (pairs_of os fs ++ pairs_of os bs)
 less_told os o n p fs bs is some m grouped =
     elim (nat_eq p o) as (λ t. nat_eq p o ≡ t → cond t (left_over (last_held o all) n (holds os (last_of 0 fs) o) (last_of 0 fs)) (last_held p all) ≡ last_held p (pairs_of os fs ++ pairs_of os bs)) [
@@ -356,8 +356,8 @@ less_told os o n p fs bs is some m grouped =
         → left_over (last_held o all) n (holds os (last_of 0 fs) o) (last_of 0 fs) ≡ last_held o (pairs_of os fs ++ pairs_of os bs)
     its None none =
         let here : last_held o all ≡ Some n = last_both o (pairs_of os fs) (owned_at os n ∷ pairs_of os bs)
-            ∙ ap (λ (q : Option ℕ). or_else (or_else q (cond (nat_eq o (owner_at os n)) (Some n) None)) (last_held o (pairs_of os fs))) none
-            ∙ ap (λ (q : Option ℕ). or_else q (last_held o (pairs_of os fs))) (one (Some n) None o (owner_at os n) (sym is)) in
+        ∙ ap (λ (q : Option ℕ). or_else (or_else q (cond (nat_eq o (owner_at os n)) (Some n) None)) (last_held o (pairs_of os fs))) none
+        ∙ ap (λ (q : Option ℕ). or_else q (last_held o (pairs_of os fs))) (one (Some n) None o (owner_at os n) (sym is)) in
         ap (λ (q : Option ℕ). left_over q n (holds os (last_of 0 fs) o) (last_of 0 fs)) here
         ∙ one (cond (holds os (last_of 0 fs) o) (Some (last_of 0 fs)) None) (Some n) n n refl
         ∙ tail_is os o fs some
@@ -365,7 +365,7 @@ less_told os o n p fs bs is some m grouped =
         ∙ sym (last_both o (pairs_of os fs) (pairs_of os bs) ∙ ap (λ (q : Option ℕ). or_else q (last_held o (pairs_of os fs))) none)
     its (Some j) is_j =
         let here : last_held o all ≡ Some j = last_both o (pairs_of os fs) (owned_at os n ∷ pairs_of os bs)
-            ∙ ap (λ (q : Option ℕ). or_else (or_else q (cond (nat_eq o (owner_at os n)) (Some n) None)) (last_held o (pairs_of os fs))) is_j in
+        ∙ ap (λ (q : Option ℕ). or_else (or_else q (cond (nat_eq o (owner_at os n)) (Some n) None)) (last_held o (pairs_of os fs))) is_j in
         ap (λ (q : Option ℕ). left_over q n (holds os (last_of 0 fs) o) (last_of 0 fs)) here
         ∙ other (cond (holds os (last_of 0 fs) o) (Some (last_of 0 fs)) None) (Some j) j n (λ e. last_in os o n bs m (is_j ∙ ap (λ (i : ℕ). Some i) e))
         ∙ sym (last_both o (pairs_of os fs) (pairs_of os bs) ∙ ap (λ (q : Option ℕ). or_else q (last_held o (pairs_of os fs))) is_j)
@@ -443,7 +443,7 @@ owners_less os n o ms d w k =
     let misses : Misses n (w.member.front ++ w.member.behind) = misses_here w.member.front w.member.behind n (subst Differ w.member.parts d) in
     ap (owner_of k) (pairs_both os w.member.front w.member.behind)
     ∙ owner_less n k (owned_at os n) (pairs_of os w.member.front) (pairs_of os w.member.behind) refl
-        (miss_none os n w.member.front (misses_front n w.member.front w.member.behind misses)) (miss_none os n w.member.behind (misses_behind n w.member.front w.member.behind misses))
+    (miss_none os n w.member.front (misses_front n w.member.front w.member.behind misses)) (miss_none os n w.member.behind (misses_behind n w.member.front w.member.behind misses))
     ∙ ap (λ (ps : List Owned). cond (nat_eq k n) None (owner_of k ps)) (sym (ap (pairs_of os) w.member.parts ∙ pairs_both os w.member.front (n ∷ w.member.behind)))
 
 pub many : (os ms : List ℕ) → length (pairs_of os ms) ≡ length ms

@@ -91,9 +91,9 @@ first_side head x y a same ne = by (nat_lt x.pos head.pos) (nat_lt y.pos head.po
 pub first_pos : (head : Place) (x y : Place) (a : ℕ) → x.part ≡ y.part → nat_lt x.pos head.pos ≡ nat_lt y.pos head.pos
     → nat_le x.pos y.pos ≡ is_upto (key head x 0) (key head y (a + 1))
 first_pos head x y a same side = sym (
-  rest_of (as_number (not (same_part x.part head.part))) (as_number (not (same_part y.part head.part))) (key_within head.pos x.pos 0) (key_within head.pos y.pos (a + 1)) (ap (λ (p : Part). as_number (not (same_part p head.part))) same)
-  ∙ rest_of (as_number (nat_lt x.pos head.pos)) (as_number (nat_lt y.pos head.pos)) (x.pos ∷ 0 ∷ []) (y.pos ∷ (a + 1) ∷ []) (ap as_number side)
-  ∙ by (order x.pos y.pos))
+    rest_of (as_number (not (same_part x.part head.part))) (as_number (not (same_part y.part head.part))) (key_within head.pos x.pos 0) (key_within head.pos y.pos (a + 1)) (ap (λ (p : Part). as_number (not (same_part p head.part))) same)
+    ∙ rest_of (as_number (nat_lt x.pos head.pos)) (as_number (nat_lt y.pos head.pos)) (x.pos ∷ 0 ∷ []) (y.pos ∷ (a + 1) ∷ []) (ap as_number side)
+    ∙ by (order x.pos y.pos))
   where
     by : (x.pos < y.pos) ⊎ ((x.pos ≡ y.pos) ⊎ (y.pos < x.pos)) → is_upto (x.pos ∷ 0 ∷ []) (y.pos ∷ (a + 1) ∷ []) ≡ nat_le x.pos y.pos
     by (inl l) = lesser x.pos y.pos (0 ∷ []) ((a + 1) ∷ []) l ∙ (let t : nat_le x.pos y.pos ≡ true = grind (arith, nat_tests) in sym t)

@@ -335,7 +335,7 @@ pub count_less : (o : ℕ) (xs ys : List Waiting) (w : Waiting) → w.owner ≡ 
     → count_by (λ (v : Waiting). nat_eq v.owner o) (xs ++ w ∷ ys) ≡ count_by (λ (v : Waiting). nat_eq v.owner o) (xs ++ ys) + 1
 count_less o [] ys w is =
     let here : count_by (λ (v : Waiting). nat_eq v.owner o) (w ∷ ys) ≡ 1 + count_by (λ (v : Waiting). nat_eq v.owner o) ys =
-        sum_by-cons (λ (v : Waiting). cond (nat_eq v.owner o) 1 0) w ys ∙ ap (λ (b : Bool). cond b 1 0 + count_by (λ (v : Waiting). nat_eq v.owner o) ys) (eq-eqb w.owner o is) in
+    sum_by-cons (λ (v : Waiting). cond (nat_eq v.owner o) 1 0) w ys ∙ ap (λ (b : Bool). cond b 1 0 + count_by (λ (v : Waiting). nat_eq v.owner o) ys) (eq-eqb w.owner o is) in
     omega arith
 count_less o (x ∷ xs) ys w is =
     let more = count_less o xs ys w is in

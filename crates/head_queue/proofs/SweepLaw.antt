@@ -87,7 +87,7 @@ up h top (p ∷ order) ps s d a le =
     let from : h ≤ p = here.from in
     let upto : p < top = here.upto in
     let on : way_over (p + 1) order + (p + 1) ≤ top = up (p + 1) top order (s.0.front ++ s.0.behind) s.1 (left_differ h p ps s.0 d)
-        (others (Between h top) (Between (p + 1) top) h p ps s.0 d a (λ q ne b f. record { from = past p q ne (f.ahead b.from).1; upto = b.upto })) (omega arith) in
+    (others (Between h top) (Between (p + 1) top) h p ps s.0 d a (λ q ne b f. record { from = past p q ne (f.ahead b.from).1; upto = b.upto })) (omega arith) in
     omega arith
   where
     past : (p q : ℕ) → p ≢ q → p ≤ q → p + 1 ≤ q
@@ -103,11 +103,11 @@ both h low mid top [] ps s d a mh lm ht = omega arith
 both h low mid top (p ∷ order) ps s d a mh lm ht =
     by (its (λ q. Between h top q ⊎ Between low mid q) h p ps s.0 a)
     (λ ahead. both (p + 1) low mid top order (s.0.front ++ s.0.behind) s.1 (left_differ h p ps s.0 d)
-        (others (λ q. Between h top q ⊎ Between low mid q) (λ q. Between (p + 1) top q ⊎ Between low mid q) h p ps s.0 d a (λ q ne b f. further q ne b f))
-        (let le : h ≤ p = ahead.from in omega arith) lm (let lt : p < top = ahead.upto in omega arith))
+    (others (λ q. Between h top q ⊎ Between low mid q) (λ q. Between (p + 1) top q ⊎ Between low mid q) h p ps s.0 d a (λ q ne b f. further q ne b f))
+    (let le : h ≤ p = ahead.from in omega arith) lm (let lt : p < top = ahead.upto in omega arith))
     (λ below. up (p + 1) mid order (s.0.front ++ s.0.behind) s.1 (left_differ h p ps s.0 d)
-        (others (λ q. Between h top q ⊎ Between low mid q) (Between (p + 1) mid) h p ps s.0 d a (λ q ne b f. lower below q ne b f))
-        (let lt : p < mid = below.upto in omega arith))
+    (others (λ q. Between h top q ⊎ Between low mid q) (Between (p + 1) mid) h p ps s.0 d a (λ q ne b f. lower below q ne b f))
+    (let lt : p < mid = below.upto in omega arith))
   where
     past : (p q : ℕ) → p ≢ q → p ≤ q → p + 1 ≤ q
     past p q ne le = omega arith
@@ -164,21 +164,41 @@ reach h (p ∷ ps) qs a = by (reach h ps qs a.1) (order_of h p)
   where
     top_more : (r : Reach h ps qs) → h ≤ p → (r.top ≤ p + 1) ⊎ (p + 1 < r.top) → Reach h (p ∷ ps) qs
     top_more r le (inl low) = record {
-      low = r.low; top = p + 1; under = r.under; over = (omega arith); low_is = r.low_is; top_is = inr (p, refl, a.0);
+      low = r.low;
+      top = p + 1;
+      under = r.under;
+      over = (omega arith);
+      low_is = r.low_is;
+      top_is = inr (p, refl, a.0);
       each = (inl (record { from = le; upto = omega arith }), wider h r.low r.top r.low (p + 1) ps (omega arith) low r.each);
     }
     top_more r le (inr high) = record {
-      low = r.low; top = r.top; under = r.under; over = r.over; low_is = r.low_is; top_is = r.top_is;
+      low = r.low;
+      top = r.top;
+      under = r.under;
+      over = r.over;
+      low_is = r.low_is;
+      top_is = r.top_is;
       each = (inl (record { from = le; upto = omega arith }), r.each);
     }
 
     low_more : (r : Reach h ps qs) → p < h → (p ≤ r.low) ⊎ (r.low < p) → Reach h (p ∷ ps) qs
     low_more r lt (inl le) = record {
-      low = p; top = r.top; under = (omega arith); over = r.over; low_is = inr a.0; top_is = r.top_is;
+      low = p;
+      top = r.top;
+      under = (omega arith);
+      over = r.over;
+      low_is = inr a.0;
+      top_is = r.top_is;
       each = (inr (record { from = omega arith; upto = lt }), wider h r.low r.top p r.top ps le (omega arith) r.each);
     }
     low_more r lt (inr high) = record {
-      low = r.low; top = r.top; under = r.under; over = r.over; low_is = r.low_is; top_is = r.top_is;
+      low = r.low;
+      top = r.top;
+      under = r.under;
+      over = r.over;
+      low_is = r.low_is;
+      top_is = r.top_is;
       each = (inr (record { from = omega arith; upto = lt }), r.each);
     }
 
@@ -259,9 +279,11 @@ fits_all : (head : Place) (w : Waiting) (ws : List Waiting) → w.place.part ≡
     → is_least (request_key head (request w)) (map (request_key head) (map request ws)) ≡ true → AllByRecursion (Fits head.pos w.place.pos) (map pos_of ws)
 fits_all head w [] e a h = tt
 fits_all head w (v ∷ vs) e a h =
-    let g = same_both (is_upto (request_key head (request w)) (request_key head (request v))) (is_least (request_key head (request w)) (map (request_key head) (map request vs))) true h in
-    (fits_by head.pos w.place.pos v.place.pos (w.arrival + 1) (v.arrival + 1) (as_number (not (same_part w.place.part head.part))) (as_number (not (same_part v.place.part head.part)))
-    (ap (λ (p : Part). as_number (not (same_part p head.part))) (e ∙ sym a.0)) g.0, fits_all head w vs e a.1 g.1)
+    let g = same_both (is_upto (request_key head (request w)) (request_key head (request v))) (is_least (request_key head (request w)) (map (request_key head) (map request vs))) true h in (
+      fits_by head.pos w.place.pos v.place.pos (w.arrival + 1) (v.arrival + 1) (as_number (not (same_part w.place.part head.part))) (as_number (not (same_part v.place.part head.part)))
+          (ap (λ (p : Part). as_number (not (same_part p head.part))) (e ∙ sym a.0)) g.0,
+      fits_all head w vs e a.1 g.1,
+    )
 
 pos_both : (xs ys : List Waiting) → map pos_of (xs ++ ys) ≡ map pos_of xs ++ map pos_of ys
 pos_both [] ys = refl
@@ -273,10 +295,11 @@ served head (w ∷ order) waiting a s =
     let n = s.0 in
     let all : AllByRecursion (λ (v : Waiting). v.place.part ≡ head.part) (n.front ++ w ∷ n.behind) = subst (AllByRecursion (λ (v : Waiting). v.place.part ≡ head.part)) n.parts a in
     let behind = w_behind (λ (v : Waiting). v.place.part ≡ head.part) n.front (w ∷ n.behind) all in
-    let left : AllByRecursion (λ (v : Waiting). v.place.part ≡ head.part) (n.front ++ n.behind) = w_both (λ (v : Waiting). v.place.part ≡ head.part) n.front n.behind (w_front (λ (v : Waiting). v.place.part ≡ head.part) n.front (w ∷ n.behind) all) behind.1 in
-    (record { front = map pos_of n.front; behind = map pos_of n.behind; parts = ap (map pos_of) n.parts ∙ pos_both n.front (w ∷ n.behind); fits = fits_all head w waiting behind.0 a n.least },
-    subst (λ (ks : List ℕ). Served (w.place.pos + 1) ks (map pos_of order)) (pos_both n.front n.behind)
-    (served (next w.place) order (n.front ++ n.behind) (subst (λ (p : Part). AllByRecursion (λ (v : Waiting). v.place.part ≡ p) (n.front ++ n.behind)) (sym behind.0) left) s.1))
+    let left : AllByRecursion (λ (v : Waiting). v.place.part ≡ head.part) (n.front ++ n.behind) = w_both (λ (v : Waiting). v.place.part ≡ head.part) n.front n.behind (w_front (λ (v : Waiting). v.place.part ≡ head.part) n.front (w ∷ n.behind) all) behind.1 in (
+      record { front = map pos_of n.front; behind = map pos_of n.behind; parts = ap (map pos_of) n.parts ∙ pos_both n.front (w ∷ n.behind); fits = fits_all head w waiting behind.0 a n.least },
+      subst (λ (ks : List ℕ). Served (w.place.pos + 1) ks (map pos_of order)) (pos_both n.front n.behind)
+          (served (next w.place) order (n.front ++ n.behind) (subst (λ (p : Part). AllByRecursion (λ (v : Waiting). v.place.part ≡ p) (n.front ++ n.behind)) (sym behind.0) left) s.1),
+    )
 
 among_all : (other : List ℕ) (ws : List Waiting) → AllByRecursion (λ (w : Waiting). Among w.place.pos other) ws → AllByRecursion (λ q. Among q other) (map pos_of ws)
 among_all other [] h = tt

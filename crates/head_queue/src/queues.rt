@@ -1,3 +1,8 @@
+ghost use Rattle.std.specs.Prelude.{◌≡◌, ℕ, ◌+◌, ◌^◌, ◌<◌, ◌≤◌, ◌∷◌, ◌++◌, [], vec_len, vec_capacity};
+ghost use Rattle.head_trail.specs.Waiting.{as_number, key, same_part};
+ghost use Rattle.head_queue.specs.Keys.{is_upto};
+ghost use Rattle.head_queue.specs.Ready.{AreReady};
+
 use crate::entries::Entry;
 use crate::owners::Owners;
 use crate::places::Places;
@@ -6,11 +11,6 @@ use std::alloc::Global;
 use std::marker::Model;
 use std::sync::ledger::Ledger;
 use tape_types::{NoMemory, Part, Place};
-
-ghost use Rattle.std.specs.Prelude.{◌≡◌, ℕ, ◌+◌, ◌^◌, ◌<◌, ◌≤◌, ◌∷◌, ◌++◌, [], vec_len, vec_capacity};
-ghost use Rattle.head_trail.specs.Waiting.{as_number, key, same_part};
-ghost use Rattle.head_queue.specs.Keys.{is_upto};
-ghost use Rattle.head_queue.specs.Ready.{AreReady};
 
 /// What the head serves next.
 #[derive(Clone, Copy, Debug, PartialEq, Eq)]

@@ -11,8 +11,7 @@ loop-preserved c =
     let more : c.args.owners.now.spare ≤ c.widen_once.new.owners.spare + (c.loop.counter + 1) = (let a = c.widen_once.ensures.more in let b = on.5 in omega arith) in
     let len = c.widen_once.ensures.len in
     let cap = c.widen_once.ensures.capacity in
-    let fits : c.loop.places.size + 1 ≤ vec_capacity c.widen_once.new.free = (let a = on.1 in let b = on.8 in let d = c.requires.room in let e = c.loop-test.true in omega arith) in
-    (
+    let fits : c.loop.places.size + 1 ≤ vec_capacity c.widen_once.new.free = (let a = on.1 in let b = on.8 in let d = c.requires.room in let e = c.loop-test.true in omega arith) in (
       c.widen_once.ensures.order ∙ on.0,
       size,
       spare,

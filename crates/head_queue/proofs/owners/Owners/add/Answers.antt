@@ -23,13 +23,13 @@ pub invariant_of-self : goal.invariant_of-self
 invariant_of-self c =
     let at : c.last_number-at.result ≡ number_or (lookup c.args.owner c.self.inside.newest.items) = c.last_number-at.ensures ∙ ap (λ (xs : List Owned). number_or (lookup c.args.owner xs)) c.deref.ensures.value in
     let room : IsRoom c.self.inside.owners.items c.self.inside.chain.members c.args.owner c.last_number-at.result =
-        subst (IsRoom c.self.inside.owners.items c.self.inside.chain.members c.args.owner) (sym at) (room_for c.self.inside.owners.items c.self.inside.chain.members c.self.inside.chain.size c.self.inside.newest.items c.args.owner c.self.invariant) in
+    subst (IsRoom c.self.inside.owners.items c.self.inside.chain.members c.args.owner) (sym at) (room_for c.self.inside.owners.items c.self.inside.chain.members c.self.inside.chain.size c.self.inside.newest.items c.args.owner c.self.invariant) in
     let misses : Misses c.args.number (0 ∷ c.self.inside.chain.members) = (
       λ e. let some : 1 ≤ c.args.number = c.requires.some in absurd (omega arith),
       none_miss c.self.inside.owners.items c.args.number c.self.inside.chain.members (ap (λ (h : Holdings). owner_of c.args.number h.pairs) c.self.view_is ∙ c.requires.apart),
     ) in
     let wide : length c.set.new.owners.items ≡ c.self.inside.chain.size =
-        (let a : vec_len c.set.new.owners ≡ length c.set.new.owners.items = search rules in let b : vec_len c.self.inside.owners ≡ length c.self.inside.owners.items = search rules in sym a ∙ c.set.ensures.len ∙ b ∙ c.self.invariant.wide) in
+    (let a : vec_len c.set.new.owners ≡ length c.set.new.owners.items = search rules in let b : vec_len c.self.inside.owners ≡ length c.self.inside.owners.items = search rules in sym a ∙ c.set.ensures.len ∙ b ∙ c.self.invariant.wide) in
     let fits : c.args.number ≤ c.self.inside.chain.size = subst (λ (h : Holdings). c.args.number ≤ h.size) (sym c.self.view_is) c.requires.within in
     subst (λ (n : ℕ). AreGrouped c.set.new.owners.items c.insert.new.self.members n c.put.new.newest.items) (sym c.insert.ensures.size)
     (subst (λ (ks : List ℕ). AreGrouped c.set.new.owners.items ks c.self.inside.chain.size c.put.new.newest.items) (sym (c.insert.ensures.members room.cut))
@@ -40,7 +40,7 @@ pub returns-clause-pairs : goal.returns-clause-pairs
 returns-clause-pairs c k =
     let at : c.last_number-at.result ≡ number_or (lookup c.args.owner c.self.inside.newest.items) = c.last_number-at.ensures ∙ ap (λ (xs : List Owned). number_or (lookup c.args.owner xs)) c.deref.ensures.value in
     let room : IsRoom c.self.inside.owners.items c.self.inside.chain.members c.args.owner c.last_number-at.result =
-        subst (IsRoom c.self.inside.owners.items c.self.inside.chain.members c.args.owner) (sym at) (room_for c.self.inside.owners.items c.self.inside.chain.members c.self.inside.chain.size c.self.inside.newest.items c.args.owner c.self.invariant) in
+    subst (IsRoom c.self.inside.owners.items c.self.inside.chain.members c.args.owner) (sym at) (room_for c.self.inside.owners.items c.self.inside.chain.members c.self.inside.chain.size c.self.inside.newest.items c.args.owner c.self.invariant) in
     let misses = none_miss c.self.inside.owners.items c.args.number c.self.inside.chain.members (ap (λ (h : Holdings). owner_of c.args.number h.pairs) c.self.view_is ∙ c.requires.apart) in
     ap (λ (ks : List ℕ). owner_of k (pairs_of c.set.new.owners.items ks)) (c.insert.ensures.members room.cut)
     ∙ owners_more c.self.inside.owners.items c.set.new.owners.items c.args.number c.args.owner c.last_number-at.result c.self.inside.chain.members c.set.ensures.owners misses room.cut k
@@ -50,7 +50,7 @@ pub returns-clause-len : goal.returns-clause-len
 returns-clause-len c =
     let at : c.last_number-at.result ≡ number_or (lookup c.args.owner c.self.inside.newest.items) = c.last_number-at.ensures ∙ ap (λ (xs : List Owned). number_or (lookup c.args.owner xs)) c.deref.ensures.value in
     let room : IsRoom c.self.inside.owners.items c.self.inside.chain.members c.args.owner c.last_number-at.result =
-        subst (IsRoom c.self.inside.owners.items c.self.inside.chain.members c.args.owner) (sym at) (room_for c.self.inside.owners.items c.self.inside.chain.members c.self.inside.chain.size c.self.inside.newest.items c.args.owner c.self.invariant) in
+    subst (IsRoom c.self.inside.owners.items c.self.inside.chain.members c.args.owner) (sym at) (room_for c.self.inside.owners.items c.self.inside.chain.members c.self.inside.chain.size c.self.inside.newest.items c.args.owner c.self.invariant) in
     many c.set.new.owners.items c.insert.new.self.members
     ∙ ap (λ (ks : List ℕ). length ks) (c.insert.ensures.members room.cut)
     ∙ one_longer room.cut.front room.cut.behind c.args.number

@@ -26,13 +26,13 @@ invariant_of-self c =
     let w = held_at c.self.inside.owners.items c.args.number c.args.owner c.self.inside.chain.members (ap (λ (h : Holdings). owner_of c.args.number h.pairs) c.self.view_is ∙ c.requires) in
     let before = c.before-before.ensures w.member in
     let held : c.is_held-held.result ≡ holds c.self.inside.owners.items (last_of 0 w.member.front) c.args.owner =
-        c.is_held-held.ensures ∙ ap (λ (us : List ℕ). holds us c.before-before.result c.args.owner) c.deref.ensures.value ∙ ap (λ (n : ℕ). holds c.self.inside.owners.items n c.args.owner) before in
+    c.is_held-held.ensures ∙ ap (λ (us : List ℕ). holds us c.before-before.result c.args.owner) c.deref.ensures.value ∙ ap (λ (n : ℕ). holds c.self.inside.owners.items n c.args.owner) before in
     subst (λ (n : ℕ). AreGrouped c.self.inside.owners.items c.remove.new.self.members n c.pass_on.new.newest.items) (sym c.remove.ensures.size)
     (subst (λ (ks : List ℕ). AreGrouped c.self.inside.owners.items ks c.self.inside.chain.size c.pass_on.new.newest.items) (sym (c.remove.ensures.members w.member))
     (grouped_taken c.self.inside.owners.items c.args.number c.args.owner c.self.inside.chain.members c.self.inside.chain.size c.self.inside.newest.items c.pass_on.new.newest.items c.self.invariant w c.pass_on.ensures.order
     (λ p. c.pass_on.ensures.told p
-        ∙ ap (λ (b : Bool). cond (nat_eq p c.args.owner) (left_over (lookup c.args.owner c.self.inside.newest.items) c.args.number b c.before-before.result) (lookup p c.self.inside.newest.items)) held
-        ∙ ap (λ (n : ℕ). cond (nat_eq p c.args.owner) (left_over (lookup c.args.owner c.self.inside.newest.items) c.args.number (holds c.self.inside.owners.items (last_of 0 w.member.front) c.args.owner) n) (lookup p c.self.inside.newest.items)) before)))
+    ∙ ap (λ (b : Bool). cond (nat_eq p c.args.owner) (left_over (lookup c.args.owner c.self.inside.newest.items) c.args.number b c.before-before.result) (lookup p c.self.inside.newest.items)) held
+    ∙ ap (λ (n : ℕ). cond (nat_eq p c.args.owner) (left_over (lookup c.args.owner c.self.inside.newest.items) c.args.number (holds c.self.inside.owners.items (last_of 0 w.member.front) c.args.owner) n) (lookup p c.self.inside.newest.items)) before)))
 
 pub returns-clause-pairs : goal.returns-clause-pairs
 returns-clause-pairs c k =

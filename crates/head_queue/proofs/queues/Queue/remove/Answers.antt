@@ -33,5 +33,5 @@ returns-clause-waiting c h =
     let g = (given c.self.inside.places.order c.self.inside.places.size c.self.inside.owners.pairs c.self.inside.owners.size c.self.inside.free.items c.self.inside.arrived (vec_capacity c.self.inside.free) c.args.node c.in-Some.entry c.self.invariant c.in-Some.ensures.some).has in
     ap by_arrival (c.remove.ensures.order g)
     ∙ sorted_less c.self.inside.places.order c.args.node
-        (nodes_differ c.self.inside.places.order c.self.inside.places.size c.self.inside.owners.pairs c.self.inside.owners.size c.self.inside.free.items c.self.inside.arrived (vec_capacity c.self.inside.free) c.self.invariant)
-        g (record { front = h.front; here = h.here; behind = h.behind; parts = ap (λ (q : Queued). q.waiting) c.self.view_is ∙ h.parts; node = h.node })
+    (nodes_differ c.self.inside.places.order c.self.inside.places.size c.self.inside.owners.pairs c.self.inside.owners.size c.self.inside.free.items c.self.inside.arrived (vec_capacity c.self.inside.free) c.self.invariant)
+    g (record { front = h.front; here = h.here; behind = h.behind; parts = ap (λ (q : Queued). q.waiting) c.self.view_is ∙ h.parts; node = h.node })

@@ -17,14 +17,14 @@ loop-node-preserved g c =
     let on = c.loop-node.invariant in
     let now : c.remove.new.self.waiting ≡ h.front ++ h.behind = c.remove.ensures.waiting h in
     let others : filter (λ (w : Waiting). not (nat_eq w.owner c.args.owner)) c.remove.new.self.waiting ≡ filter (λ (w : Waiting). not (nat_eq w.owner c.args.owner)) c.args.self.now.waiting =
-        ap (filter (λ (w : Waiting). not (nat_eq w.owner c.args.owner))) now
-        ∙ filter_less c.args.owner h.front h.behind h.here its.owner
-        ∙ ap (filter (λ (w : Waiting). not (nat_eq w.owner c.args.owner))) (sym h.parts)
-        ∙ on.0 in
+    ap (filter (λ (w : Waiting). not (nat_eq w.owner c.args.owner))) now
+    ∙ filter_less c.args.owner h.front h.behind h.here its.owner
+    ∙ ap (filter (λ (w : Waiting). not (nat_eq w.owner c.args.owner))) (sym h.parts)
+    ∙ on.0 in
     let left : count_by (λ (w : Waiting). nat_eq w.owner c.args.owner) c.loop-node.self.waiting ≡ count_by (λ (w : Waiting). nat_eq w.owner c.args.owner) c.remove.new.self.waiting + 1 =
-        ap (count_by (λ (w : Waiting). nat_eq w.owner c.args.owner)) h.parts
-        ∙ count_less c.args.owner h.front h.behind h.here its.owner
-        ∙ ap (λ (ws : List Waiting). count_by (λ (w : Waiting). nat_eq w.owner c.args.owner) ws + 1) (sym now) in
+    ap (count_by (λ (w : Waiting). nat_eq w.owner c.args.owner)) h.parts
+    ∙ count_less c.args.owner h.front h.behind h.here its.owner
+    ∙ ap (λ (ws : List Waiting). count_by (λ (w : Waiting). nat_eq w.owner c.args.owner) ws + 1) (sym now) in
     let had : c.loop-node.steps + count_by (λ (w : Waiting). nat_eq w.owner c.args.owner) c.loop-node.self.waiting ≡ c.args.steps.now + count_by (λ (w : Waiting). nat_eq w.owner c.args.owner) c.args.self.now.waiting = on.1 in
     let step : c.take.new.self ≡ c.loop-node.steps + 1 = c.take.ensures in
     let steps : c.take.new.self + count_by (λ (w : Waiting). nat_eq w.owner c.args.owner) c.remove.new.self.waiting ≡ c.args.steps.now + count_by (λ (w : Waiting). nat_eq w.owner c.args.owner) c.args.self.now.waiting = omega (arith, left, had, step) in

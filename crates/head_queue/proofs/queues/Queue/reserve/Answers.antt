@@ -7,7 +7,7 @@ use Rattle.head_queue.proofs.queues.Queue.reserve.Goals as goal
 pub widen-requires-clause-fits : goal.widen-requires-clause-fits
 widen-requires-clause-fits c some =
     let count : length c.self.inside.free.items + length (by_arrival c.self.inside.places.order) ≡ c.self.inside.places.size =
-        ready_count c.self.inside.places.order c.self.inside.places.size c.self.inside.owners.pairs c.self.inside.owners.size c.self.inside.free.items c.self.inside.arrived (vec_capacity c.self.inside.free) c.self.invariant in
+    ready_count c.self.inside.places.order c.self.inside.places.size c.self.inside.owners.pairs c.self.inside.owners.size c.self.inside.free.items c.self.inside.arrived (vec_capacity c.self.inside.free) c.self.invariant in
     let fits : length (by_arrival c.self.inside.places.order) + c.args.n < 2 ^ 32 = subst (λ (q : Queued). length q.waiting + c.args.n < 2 ^ 32) (sym c.self.view_is) c.requires in
     let len : vec_len c.self.inside.free ≡ length c.self.inside.free.items = search rules in
     let size : c.reserve.new.self.size ≡ c.self.inside.places.size = c.reserve.ensures.size in
