@@ -10,7 +10,8 @@ use Rattle.head_queue.specs.declared.entries.Entry.{Entry}
 use Rattle.head_queue.specs.Cuts.{first_of}
 use Rattle.head_queue.specs.Waiting.{Waiting}
 use Rattle.head_queue.specs.Orders.{IsIn}
-use Rattle.head_queue.specs.Keys.{is_upto, as_number, same_part, key_within, comes_first, stands_in}
+use Rattle.head_trail.specs.Waiting.{as_number, same_part}
+use Rattle.head_queue.specs.Keys.{is_upto, key_within, comes_first, stands_in}
 use Rattle.head_queue.specs.Entries.{entry_at, waiting, waiting_at}
 use Rattle.head_queue.specs.Ranks.{rank, rank_of, part_number, IsFit, Rising}
 use Rattle.head_queue.specs.Kept.{AreKept, AreOrdered, IsFirst, IsWalked, IsNoneBefore}

@@ -5,3 +5,9 @@ pub mod KeptLemmas
 pub mod RankLemmas
 pub mod FirstLemmas
 pub mod NewestLemmas
+pub mod GroupLemmas
+pub mod ArrivalLemmas
+pub mod ReadyLemmas
+pub mod PickLemmas
+pub mod AllowedLaw
+pub mod SweepLaw

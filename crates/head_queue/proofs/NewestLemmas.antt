@@ -24,7 +24,7 @@ other x y a b ne = elim (nat_eq a b) as (λ t. nat_eq a b ≡ t → cond t x y �
 ] refl
 
 -- two tests for numbers that differ may come in either order
-turned : (x y z : Option ℕ) (p a b : ℕ) → a ≢ b → cond (nat_eq p a) x (cond (nat_eq p b) y z) ≡ cond (nat_eq p b) y (cond (nat_eq p a) x z)
+pub turned : (x y z : Option ℕ) (p a b : ℕ) → a ≢ b → cond (nat_eq p a) x (cond (nat_eq p b) y z) ≡ cond (nat_eq p b) y (cond (nat_eq p a) x z)
 turned x y z p a b ne = elim (nat_eq p a) as (λ t. nat_eq p a ≡ t → cond t x (cond (nat_eq p b) y z) ≡ cond (nat_eq p b) y (cond t x z)) [
   | true ↦ λ e. sym (other y x p b (λ f. ne (sym (eqb-true p a e) ∙ f)))
   | false ↦ λ e. refl

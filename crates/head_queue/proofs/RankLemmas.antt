@@ -8,7 +8,8 @@ use Rattle.tape_types.specs.declared.cartridges.Part.{Part}
 use Rattle.tape_types.specs.declared.cartridges.Part.TheVariants.{Ip, Dp}
 use Rattle.tape_types.specs.declared.cartridges.Place.{Place}
 use Rattle.head_queue.specs.Waiting.{Waiting}
-use Rattle.head_queue.specs.Keys.{is_upto, as_number, key_within, comes_first}
+use Rattle.head_trail.specs.Waiting.{as_number}
+use Rattle.head_queue.specs.Keys.{is_upto, key_within, comes_first}
 use Rattle.head_queue.specs.Ranks.{rank, rank_of, part_number, IsFit}
 
 -- ---- keys

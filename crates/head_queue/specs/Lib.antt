@@ -8,3 +8,10 @@ pub mod Entries
 pub mod Ranks
 pub mod Kept
 pub mod Newest
+pub mod Holdings
+pub mod Grouped
+pub mod Queued
+pub mod Ready
+pub mod Picks
+pub mod Allowed
+pub mod Sweeps

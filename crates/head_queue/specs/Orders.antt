@@ -28,3 +28,8 @@ pub record IsMore {X : Type 0} (xs : List X) (x : X) (ys : List X) : Type 0 wher
   pub behind : List X
   pub before : xs ≡ front ++ behind
   pub now : ys ≡ front ++ x ∷ behind
+
+-- the request with this number is an owner's
+pub record HasOwner (xs : List Waiting) (o k : ℕ) : Type 0 where
+  pub has : HasNode xs k
+  pub owner : has.here.owner ≡ o

@@ -1,13 +1,20 @@
-//! The parts of a queue of requests that wait for the head of a drive: linked chains, the order in which the head serves,
-//! and a counter of steps. The queue over them is to come.
+//! The queue of requests that wait for the head of a drive: each is in a chain by place and in a chain by owner, so the head
+//! takes the nearest ahead in a step, and what an owner asked for goes in as many steps as there are requests of it.
 #![tactic(auto)]
 
 mod chains;
 mod entries;
+mod laws;
 mod links;
 mod newest;
+mod owners;
 mod places;
+mod queues;
 mod steps;
+#[cfg(test)]
+mod tests;
 mod walks;
 
+pub use laws::{picks_may_come, sweeps_are_short};
+pub use queues::{Pick, Queue};
 pub use steps::Steps;

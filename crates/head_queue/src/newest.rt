@@ -38,6 +38,7 @@ pub fn put(newest: &mut Vec<Owned>, owner: u64, node: u32)
     ensures told { (o : ℕ) → lookup o newest.new.items ≡ cond (nat_eq o owner) (Some node) (lookup o newest.old.items) }
     ensures order { Ascending newest.new.items }
     ensures len { vec_len newest.new ≤ vec_len newest.old + 1 }
+    ensures known { (k : ℕ) → lookup owner newest.old.items ≡ Some k → vec_len newest.new ≤ vec_len newest.old }
     ensures capacity { vec_capacity newest.old ≤ vec_capacity newest.new }
 {
     let at = place_of(newest, owner);

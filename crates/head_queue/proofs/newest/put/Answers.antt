@@ -53,3 +53,13 @@ returns-clause-order c =
     let le : c.place_of-at.result ≤ length c.args.newest.now.items = subst (λ (xs : List Owned). c.place_of-at.result ≤ length xs) c.deref.ensures.value c.place_of-at.ensures.bound in
     let now : c.insert.new.self.items ≡ insert c.args.newest.now.items c.place_of-at.result (record { owner = c.args.owner; node = c.args.node }) = search rules in
     subst Ascending (sym now) (ascending_new c.args.newest.now.items c.args.owner c.place_of-at.result (record { owner = c.args.owner; node = c.args.node }) any c.requires.order (subst (λ (xs : List Owned). IsPlace xs c.args.owner c.place_of-at.result) c.deref.ensures.value (place c.deref.result.now c.args.owner c.place_of-at.result (c.place_of-at.ensures.parts (partitioned c.deref.result.now c.args.owner (subst Ascending (sym c.deref.ensures.value) c.requires.order))))) le ne refl)
+
+pub returns-clause-known : goal.returns-clause-known
+returns-clause-known c k is =
+    let many : vec_len c.args.newest.now ≡ length c.args.newest.now.items = search rules in
+    let ne : c.place_of-at.result < length c.args.newest.now.items → (get_or c.args.newest.now.items c.place_of-at.result any).owner ≢ c.args.owner = λ lt e. elim c.else-at-len.branch [
+      | else-at-len-via-then-at-len+else-index-owner w ↦ w.if-index-owner.false (ap (λ (x : Owned). x.owner) (w.index.ensures ∙ whichever c.args.newest.now.items c.place_of-at.result w.index.result.now any lt) ∙ e)
+      | else-at-len-via-else-at-len w ↦ absurd (omega arith)
+    ] in
+    let none : lookup c.args.owner c.args.newest.now.items ≡ None = absent c.args.newest.now.items c.args.owner c.place_of-at.result any c.requires.order (subst (λ (xs : List Owned). IsPlace xs c.args.owner c.place_of-at.result) c.deref.ensures.value (place c.deref.result.now c.args.owner c.place_of-at.result (c.place_of-at.ensures.parts (partitioned c.deref.result.now c.args.owner (subst Ascending (sym c.deref.ensures.value) c.requires.order))))) ne in
+    let clash : None ≡ Some k = sym none ∙ is in cc
