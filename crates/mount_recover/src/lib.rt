@@ -1,8 +1,6 @@
 //! Mounting: what a cartridge stands for.
 #![tactic(auto)]
 
-#[cfg(test)]
-mod cartridges;
 mod choices;
 mod documents;
 mod extents;

@@ -1,378 +1,307 @@
 //! Cartridges by hand, and what they mount as.
 
-ghost use Rattle.std.specs.Prelude.{◌≤◌, length};
-
-use crate::cartridges::drive;
-use crate::{MountErr, mount};
-use index_model::IndexErr;
+use crate::{MountErr, Mounted, mount};
+use sample_cartridges::{drive_of, drive_with_file, drive_with_notes};
 use std::alloc::Global;
+use std::fmt::Write;
 use std::process::Abort;
-use tape_drive::{Cmd, Fail};
-use tape_types::{List, NoMemory, Note, Part, Place, Twin};
+use tape_drive::{Cmd, Fail, MemDrive};
+use tape_types::{List, NoMemory, Note, Twin};
 
-/// The cartridge is refused so.
-fn refused<R: Abort>(
-    rt: &R,
-    alloc: Global,
-    ip: &[u8],
-    dp: &[u8],
-    error: MountErr,
-) -> Result<(), NoMemory>
-    requires ip { length ip.now ≤ 1000 }
-    requires dp { length dp.now ≤ 1000 }
-{
-    let mut drive = drive(
-        alloc,
-        ip,
-        dp,
-        (Note::Absent, Note::Absent),
-        List::new(alloc),
+/// What is found: the place of the chosen index, its generation, how many nodes it has, where the partitions end, the last
+/// index of the data partition, and what is so of the rest.
+fn text_of(alloc: Global, found: &Mounted) -> Result<String, NoMemory> {
+    let mut text = format!(in alloc;
+        "{:?} {} generation {} nodes {} ends {} {}",
+        found.chosen.part,
+        found.chosen.pos,
+        found.newest,
+        found.index.nodes.len(),
+        found.end_ip,
+        found.end_dp
     )?;
-    assert_eq!(rt; mount(alloc, &mut drive).err(), Some(error));
-    Ok(())
-}
-
-fn place(part: Part, pos: u64) -> Place {
-    Place { part, pos }
-}
-
-#[test]
-fn cartridges_are_refused(rt: HostRuntime) -> Result<(), NoMemory> {
-    let alloc = rt.alloc();
-    let v = b"vmammqm";
-    refused(&rt, alloc, b"", b"", MountErr::Vol1(Part::Ip))?;
-    refused(
-        &rt,
-        alloc,
-        v,
-        b"vmbmmm",
-        MountErr::Layout(place(Part::Dp, 5)),
-    )?;
-    refused(&rt, alloc, b"vmam", b"vmbm", MountErr::NoIndex)?;
-    refused(
-        &rt,
-        alloc,
-        v,
-        b"vmbmmrm",
-        MountErr::WrongPointer(place(Part::Dp, 5)),
-    )?;
-    refused(
-        &rt,
-        alloc,
-        b"vmammsm",
-        b"vmbmmpm",
-        MountErr::WrongPointer(place(Part::Ip, 5)),
-    )?;
-    refused(
-        &rt,
-        alloc,
-        v,
-        b"vmbmmpt",
-        MountErr::WrongPointer(place(Part::Ip, 5)),
-    )?;
-    refused(
-        &rt,
-        alloc,
-        v,
-        b"vmbmmum",
-        MountErr::WrongVolume(place(Part::Dp, 5)),
-    )?;
-    refused(&rt, alloc, b"vmammym", b"vmbmmwm", MountErr::BadExtent(2))?;
-    refused(
-        &rt,
-        alloc,
-        v,
-        b"vmbmmpmmgm",
-        MountErr::WrongPointer(place(Part::Dp, 8)),
-    )?;
-    refused(
-        &rt,
-        alloc,
-        b"vmammjm",
-        b"vmbmmpm",
-        MountErr::WrongPointer(place(Part::Ip, 5)),
-    )?;
-    Ok(())
-}
-
-#[test]
-fn extents_are_refused(rt: HostRuntime) -> Result<(), NoMemory> {
-    let alloc = rt.alloc();
-    let ip = b"vmam";
-    refused(&rt, alloc, ip, b"vmbmdm4m", MountErr::BadExtent(2))?;
-    refused(&rt, alloc, ip, b"vmbmdm5m", MountErr::BadExtent(2))?;
-    refused(&rt, alloc, ip, b"vmbmdm6m", MountErr::BadExtent(2))?;
-    refused(&rt, alloc, ip, b"vmbmdm7m", MountErr::BadExtent(2))?;
-    Ok(())
-}
-
-#[test]
-fn a_document_that_is_cut_is_refused(rt: HostRuntime) -> Result<(), NoMemory> {
-    let alloc = rt.alloc();
-    let mut drive = drive(
-        alloc,
-        b"vmammqm",
-        b"vmbmmzm",
-        (Note::Absent, Note::Absent),
-        List::new(alloc),
-    )?;
-    let told = mount(alloc, &mut drive).err();
-    assert!(rt; matches!(told, Some(MountErr::BadIndex(_, IndexErr::Syntax(_)))));
-    Ok(())
-}
-
-/// What is found: the chosen index, the ends, and by letters the flags `ip_on`, `dp_done` and `ip_done`.
-#[derive(Clone, Copy)]
-struct Row {
-    chosen: Place,
-    newest: u64,
-    end_ip: u64,
-    end_dp: u64,
-    last_dp: Option<u64>,
-    flags: (bool, bool, bool),
-}
-
-/// The cartridge mounts so, and nothing is written.
-fn mounts<R: Abort>(rt: &R, alloc: Global, ip: &[u8], dp: &[u8], row: Row) -> Result<(), NoMemory>
-    requires ip { length ip.now ≤ 1000 }
-    requires dp { length dp.now ≤ 1000 }
-{
-    let mut drive = drive(
-        alloc,
-        ip,
-        dp,
-        (Note::Absent, Note::Absent),
-        List::new(alloc),
-    )?;
-    let Ok(found) = mount(alloc, &mut drive) else {
-        panic!(rt; "refused");
-    };
-    assert_eq!(rt; found.chosen, row.chosen);
-    assert_eq!(rt; found.newest, row.newest);
-    assert_eq!(rt; found.end_ip, row.end_ip);
-    assert_eq!(rt; found.end_dp, row.end_dp);
-    assert_eq!(rt; found.last_dp, row.last_dp);
-    assert!(rt; (found.ip_on, found.dp_done, found.ip_done) == row.flags);
-    assert!(rt; !found.noted);
-    Ok(())
-}
-
-fn found(
-    part: Part,
-    pos: u64,
-    newest: u64,
-    ends: (u64, u64),
-    last_dp: Option<u64>,
-    flags: (bool, bool, bool),
-) -> Row {
-    let (end_ip, end_dp) = ends;
-    Row {
-        chosen: place(part, pos),
-        newest,
-        end_ip,
-        end_dp,
-        last_dp,
-        flags,
+    if let Some(last) = found.last_dp {
+        write!(text, " last {last}")?;
     }
+    push_if(&mut text, found.ip_on, " ip_on")?;
+    push_if(&mut text, found.dp_done, " dp_done")?;
+    push_if(&mut text, found.ip_done, " ip_done")?;
+    push_if(&mut text, found.noted, " noted")?;
+    Ok(text)
 }
 
-#[test]
-fn cartridges_mount(rt: HostRuntime) -> Result<(), NoMemory> {
-    let alloc = rt.alloc();
-    let v = b"vmammqm";
-    let both = (true, true, true);
-    mounts(
-        &rt,
-        alloc,
-        v,
-        b"vmbmmpm",
-        found(Part::Dp, 5, 1, (4, 7), Some(5), both),
-    )?;
-    mounts(
-        &rt,
-        alloc,
-        v,
-        b"vmbmmpmkm",
-        found(Part::Dp, 5, 1, (4, 7), Some(5), (true, false, true)),
-    )?;
-    mounts(
-        &rt,
-        alloc,
-        v,
-        b"vmbmmpmt",
-        found(Part::Dp, 5, 1, (4, 7), Some(5), (true, false, true)),
-    )?;
-    mounts(
-        &rt,
-        alloc,
-        b"vmamdmt",
-        b"vmbmmpmmnm",
-        found(Part::Dp, 8, 2, (5, 10), Some(8), (true, true, false)),
-    )?;
-    mounts(
-        &rt,
-        alloc,
-        v,
-        b"vmbmmpmmnm",
-        found(Part::Dp, 8, 2, (4, 10), Some(8), (true, true, false)),
-    )?;
-    mounts(
-        &rt,
-        alloc,
-        b"vmammlm",
-        b"vmbmdmom",
-        found(Part::Dp, 6, 1, (4, 8), Some(6), both),
-    )?;
-    mounts(
-        &rt,
-        alloc,
-        b"vmamm1m",
-        b"vmbmdm0m",
-        found(Part::Dp, 6, 1, (4, 8), Some(6), both),
-    )?;
-    mounts(
-        &rt,
-        alloc,
-        b"vmamm3m",
-        b"vmbmdm2m",
-        found(Part::Dp, 6, 1, (4, 8), Some(6), both),
-    )?;
-    mounts(
-        &rt,
-        alloc,
-        b"vmammim",
-        b"vmbmmpm",
-        found(Part::Ip, 5, 2, (4, 7), Some(5), (false, false, true)),
-    )?;
-    mounts(
-        &rt,
-        alloc,
-        b"vmammqmt",
-        b"vmbmmpm",
-        found(Part::Dp, 5, 1, (4, 7), Some(5), (true, true, false)),
-    )?;
-    mounts(
-        &rt,
-        alloc,
-        b"vmammqmd",
-        b"vmbmmpm",
-        found(Part::Dp, 5, 1, (8, 7), Some(5), (true, true, false)),
-    )?;
-    mounts(
-        &rt,
-        alloc,
-        b"vmam",
-        b"vmbmmpm",
-        found(Part::Dp, 5, 1, (4, 7), Some(5), (true, true, false)),
-    )?;
+fn push_if(text: &mut String, is_so: bool, words: &str) -> Result<(), NoMemory> {
+    if is_so {
+        text.push_str(words)?;
+    }
     Ok(())
 }
 
-#[test]
-fn a_volume_of_another_writer_mounts(rt: HostRuntime) -> Result<(), NoMemory> {
-    let alloc = rt.alloc();
-    let mut drive = drive(
-        alloc,
-        b"vmammcm",
-        b"vmbmmpmhmxm",
-        (Note::Absent, Note::Absent),
-        List::new(alloc),
-    )?;
-    let Ok(found) = mount(alloc, &mut drive) else {
-        panic!(rt; "refused");
-    };
-    assert_eq!(rt; found.chosen, place(Part::Dp, 9));
-    assert_eq!(rt; found.newest, 3);
-    assert_eq!(rt; found.end_dp, 11);
-    assert_eq!(rt; found.index.nodes.len(), 4);
-    assert!(rt; found.dp_done && found.ip_done);
-    Ok(())
+/// What mounting a cartridge tells, as a text.
+fn told(alloc: Global, drive: &mut MemDrive) -> Result<String, NoMemory> {
+    match mount(alloc, drive) {
+        Ok(found) => text_of(alloc, &found),
+        Err(error) => Ok(format!(in alloc; "{error:?}")?),
+    }
 }
 
 /// The note of the volume with generation 1 at block 5 for a reference of 14.
 const NOTE: [u8; 70] =
     *b"\x08\0\0\0\0\0\0\0\x0e\0\0\0\0\0\0\0\x01\0\0\0\0\0\0\0\x05\0\x2bLTFS\030a91a08-daae-48d1-ae75-69804e61d2ea\0\x01";
 
-/// Whether a volume with these notes is noted.
-fn noted(alloc: Global, note_ip: Note, note_dp: Note) -> Result<Option<bool>, NoMemory> {
-    let mut drive = drive(
-        alloc,
-        b"vmammqm",
-        b"vmbmmpm",
-        (note_ip, note_dp),
-        List::new(alloc),
-    )?;
-    match mount(alloc, &mut drive) {
-        Ok(found) => Ok(Some(found.noted)),
-        Err(_) => Ok(None),
+/// A note by a word: `-` is none, `k` is that one, and `16=2,24=4` is that one with these bytes at these places.
+fn note(word: &str) -> Note {
+    if word == "-" {
+        return Note::Absent;
     }
-}
-
-/// A note with another byte at this place.
-fn changed(at: usize, byte: u8) -> Note {
     let mut note = NOTE;
-    if at < 70 {
-        note[at] = byte;
+    for change in word.split(',') {
+        let (at, byte) = change_of(change);
+        if at < 70 {
+            note[at] = byte;
+        }
     }
     Note::Kept(note)
 }
 
-#[test]
-fn notes_are_seen(rt: HostRuntime) -> Result<(), NoMemory> {
-    let alloc = rt.alloc();
-    assert_eq!(rt;
-        noted(alloc, Note::Kept(NOTE), Note::Kept(NOTE))?,
-        Some(true)
-    );
-    assert_eq!(rt; noted(alloc, Note::Absent, Note::Kept(NOTE))?, Some(false));
-    assert_eq!(rt; noted(alloc, Note::Kept(NOTE), Note::Absent)?, Some(false));
-    assert_eq!(rt;
-        noted(alloc, changed(8, 15), Note::Kept(NOTE))?,
-        Some(false)
-    );
-    assert_eq!(rt;
-        noted(alloc, Note::Kept(NOTE), changed(16, 2))?,
-        Some(false)
-    );
-    assert_eq!(rt;
-        noted(alloc, changed(24, 4), Note::Kept(NOTE))?,
-        Some(false)
-    );
-    assert_eq!(rt;
-        noted(alloc, Note::Kept(NOTE), changed(32, b'4'))?,
-        Some(false)
-    );
-    assert_eq!(rt; noted(alloc, changed(0, 7), Note::Kept(NOTE))?, Some(false));
+fn change_of(change: &str) -> (usize, u8) {
+    let mut numbers = change.split('=');
+    let at = numbers.next().unwrap_or("").parse().unwrap_or(70);
+    let byte = numbers.next().unwrap_or("").parse().unwrap_or(0);
+    (at, byte)
+}
+
+/// The drive with the cartridge of these words: the items of both partitions, and both notes.
+fn drive(alloc: Global, words: &str) -> Result<MemDrive, NoMemory> {
+    let mut words = words.split(' ');
+    let ip = words.next().unwrap_or("");
+    let dp = words.next().unwrap_or("");
+    let note_ip = note(words.next().unwrap_or("-"));
+    let note_dp = note(words.next().unwrap_or("-"));
+    drive_with_notes(alloc, ip, dp, (note_ip, note_dp), List::new(alloc))
+}
+
+/// Each cartridge mounts so: a row is a cartridge, and what mounting it tells behind a bar.
+fn check<R: Abort>(rt: &R, alloc: Global, rows: &str) -> Result<(), NoMemory> {
+    for row in rows.split('\n') {
+        let words = row.split('|').next().unwrap_or("");
+        let mut drive = drive(alloc, words)?;
+        check_row(rt, alloc, row, words, &mut drive)?;
+    }
     Ok(())
 }
 
-/// The partition is cut after so many items.
-fn cut<R: Abort>(
+fn check_row<R: Abort>(
     rt: &R,
     alloc: Global,
-    ip: usize,
-    dp: usize,
-    error: MountErr,
-) -> Result<(), NoMemory>
-    requires ip { ip ≤ 7 }
-    requires dp { dp ≤ 7 }
-{
-    refused(rt, alloc, &b"vmammqm"[..ip], &b"vmbmmpm"[..dp], error)
+    row: &str,
+    words: &str,
+    drive: &mut MemDrive,
+) -> Result<(), NoMemory> {
+    let told = told(alloc, drive)?;
+    let found = format!(in alloc; "{words}|{told}")?;
+    assert_eq!(rt; found.as_str(), row);
+    Ok(())
 }
 
 #[test]
-fn cut_cartridges_are_refused(rt: HostRuntime) -> Result<(), NoMemory> {
-    let alloc = rt.alloc();
-    cut(&rt, alloc, 1, 7, MountErr::Vol1(Part::Ip))?;
-    cut(&rt, alloc, 2, 7, MountErr::Label(Part::Ip))?;
-    cut(&rt, alloc, 3, 7, MountErr::Label(Part::Ip))?;
-    cut(&rt, alloc, 7, 1, MountErr::Vol1(Part::Dp))?;
-    cut(&rt, alloc, 7, 2, MountErr::Label(Part::Dp))?;
-    cut(&rt, alloc, 7, 3, MountErr::Label(Part::Dp))?;
-    cut(&rt, alloc, 7, 4, MountErr::WrongPointer(place(Part::Ip, 5)))?;
-    cut(&rt, alloc, 7, 5, MountErr::WrongPointer(place(Part::Ip, 5)))?;
-    cut(&rt, alloc, 7, 6, MountErr::WrongPointer(place(Part::Ip, 5)))?;
-    cut(&rt, alloc, 6, 6, MountErr::NoIndex)?;
+fn cartridges_are_refused(rt: HostRuntime) -> Result<(), NoMemory> {
+    check(
+        &rt,
+        rt.alloc(),
+        "|Vol1(Ip)
+vmammqm vmbmmm|Layout(Place { part: Dp, pos: 5 })
+vmammm vmbmmpm|Layout(Place { part: Ip, pos: 5 })
+vmam vmbm|NoIndex
+vmammqm vmbmmrm|WrongPointer(Place { part: Dp, pos: 5 })
+vmammsm vmbmmpm|WrongPointer(Place { part: Ip, pos: 5 })
+vmammqm vmbmmpt|WrongPointer(Place { part: Ip, pos: 5 })
+vmammqm vmbm|WrongPointer(Place { part: Ip, pos: 5 })
+vmammGm vmbmmpm|WrongPointer(Place { part: Ip, pos: 5 })
+vmammqm vmbmmum|WrongVolume(Place { part: Dp, pos: 5 })
+vmammym vmbmmwm|BadExtent(2)
+vmammqm vmbmmzm|BadIndex(Place { part: Dp, pos: 5 }, Syntax(796))
+vmammqm vmbmmpmmgm|WrongPointer(Place { part: Dp, pos: 8 })",
+    )
+}
+
+#[test]
+fn pointers_into_the_future_are_refused(rt: HostRuntime) -> Result<(), NoMemory> {
+    check(
+        &rt,
+        rt.alloc(),
+        "vmammqm vmbmmAm|WrongPointer(Place { part: Dp, pos: 5 })
+vmammqm vmbmmpmmCm|WrongPointer(Place { part: Dp, pos: 8 })
+vmammqm vmbmmpmmDm|WrongPointer(Place { part: Dp, pos: 8 })
+vmammEm vmbmmpm|WrongPointer(Place { part: Ip, pos: 5 })
+vmammjm vmbmmpm|WrongPointer(Place { part: Ip, pos: 5 })
+vmammFm vmbmmpmmnm|WrongPointer(Place { part: Ip, pos: 5 })
+vmammEm vmbmmpmmnm|Dp 8 generation 2 nodes 1 ends 4 10 last 8 ip_on dp_done",
+    )
+}
+
+#[test]
+fn cartridges_mount(rt: HostRuntime) -> Result<(), NoMemory> {
+    check(
+        &rt,
+        rt.alloc(),
+        "vmammqm vmbmmpm|Dp 5 generation 1 nodes 1 ends 4 7 last 5 ip_on dp_done ip_done
+vmammqm vmbmmpmkm|Dp 5 generation 1 nodes 1 ends 4 7 last 5 ip_on ip_done
+vmammqm vmbmmpmt|Dp 5 generation 1 nodes 1 ends 4 7 last 5 ip_on ip_done
+vmamdmt vmbmmpmmnm|Dp 8 generation 2 nodes 1 ends 5 10 last 8 ip_on dp_done
+vmammqm vmbmmpmmnm|Dp 8 generation 2 nodes 1 ends 4 10 last 8 ip_on dp_done
+vmammjm vmbmmpmmnm|Dp 8 generation 2 nodes 1 ends 4 10 last 8 ip_on dp_done ip_done
+vmammlm vmbmdmom|Dp 6 generation 1 nodes 2 ends 4 8 last 6 ip_on dp_done ip_done
+vmamm1m vmbmdm0m|Dp 6 generation 1 nodes 2 ends 4 8 last 6 ip_on dp_done ip_done
+vmammim vmbmmpm|Ip 5 generation 2 nodes 1 ends 4 7 last 5 ip_done
+vmammGm vmbm|Ip 5 generation 1 nodes 1 ends 4 4
+vmammqmt vmbmmpm|Dp 5 generation 1 nodes 1 ends 4 7 last 5 ip_on dp_done
+vmammqmd vmbmmpm|Dp 5 generation 1 nodes 1 ends 8 7 last 5 ip_on dp_done
+vmammcm vmbmmpmhmxm|Dp 9 generation 3 nodes 4 ends 4 11 last 9 ip_on dp_done ip_done",
+    )
+}
+
+#[test]
+fn an_item_of_each_kind_at_each_place_of_the_index_partition(
+    rt: HostRuntime,
+) -> Result<(), NoMemory> {
+    check(
+        &rt,
+        rt.alloc(),
+        "mmammqm vmbmmpm|Vol1(Ip)
+tmammqm vmbmmpm|Vol1(Ip)
+dmammqm vmbmmpm|Vol1(Ip)
+vtammqm vmbmmpm|Vol1(Ip)
+vdammqm vmbmmpm|Vol1(Ip)
+vmmmmqm vmbmmpm|Label(Ip)
+vmtmmqm vmbmmpm|Label(Ip)
+vmdmmqm vmbmmpm|Label(Ip)
+vmatmqm vmbmmpm|Label(Ip)
+vmadmqm vmbmmpm|Label(Ip)
+vmamtqm vmbmmpm|Dp 5 generation 1 nodes 1 ends 4 7 last 5 ip_on dp_done
+vmamdqm vmbmmpm|Dp 5 generation 1 nodes 1 ends 6 7 last 5 ip_on dp_done
+vmammmm vmbmmpm|Layout(Place { part: Ip, pos: 5 })
+vmammtm vmbmmpm|Dp 5 generation 1 nodes 1 ends 4 7 last 5 ip_on dp_done
+vmammdm vmbmmpm|BadIndex(Place { part: Ip, pos: 5 }, Syntax(0))
+vmammpm vmbmmpm|WrongPointer(Place { part: Ip, pos: 5 })
+vmammqt vmbmmpm|Dp 5 generation 1 nodes 1 ends 4 7 last 5 ip_on dp_done
+vmammqd vmbmmpm|Dp 5 generation 1 nodes 1 ends 4 7 last 5 ip_on dp_done",
+    )
+}
+
+#[test]
+fn an_item_of_each_kind_at_each_place_of_the_data_partition(
+    rt: HostRuntime,
+) -> Result<(), NoMemory> {
+    check(
+        &rt,
+        rt.alloc(),
+        "vmammqm mmbmmpm|Vol1(Dp)
+vmammqm tmbmmpm|Vol1(Dp)
+vmammqm dmbmmpm|Vol1(Dp)
+vmammqm vtbmmpm|Vol1(Dp)
+vmammqm vdbmmpm|Vol1(Dp)
+vmammqm vmmmmpm|Label(Dp)
+vmammqm vmtmmpm|Label(Dp)
+vmammqm vmdmmpm|Label(Dp)
+vmammqm vmbtmpm|Label(Dp)
+vmammqm vmbdmpm|Label(Dp)
+vmammqm vmbmtpm|WrongPointer(Place { part: Ip, pos: 5 })
+vmammqm vmbmdpm|WrongPointer(Place { part: Ip, pos: 5 })
+vmammqm vmbmmmm|Layout(Place { part: Dp, pos: 5 })
+vmammqm vmbmmtm|WrongPointer(Place { part: Ip, pos: 5 })
+vmammqm vmbmmdm|BadIndex(Place { part: Dp, pos: 5 }, Syntax(0))
+vmammqm vmbmmqm|WrongPointer(Place { part: Dp, pos: 5 })
+vmammqm vmbmmpt|WrongPointer(Place { part: Ip, pos: 5 })
+vmammqm vmbmmpd|WrongPointer(Place { part: Ip, pos: 5 })",
+    )
+}
+
+#[test]
+fn a_cartridge_is_cut_after_each_item(rt: HostRuntime) -> Result<(), NoMemory> {
+    check(
+        &rt,
+        rt.alloc(),
+        " vmbmmpm|Vol1(Ip)
+v vmbmmpm|Vol1(Ip)
+vm vmbmmpm|Label(Ip)
+vma vmbmmpm|Label(Ip)
+vmam vmbmmpm|Dp 5 generation 1 nodes 1 ends 4 7 last 5 ip_on dp_done
+vmamm vmbmmpm|Dp 5 generation 1 nodes 1 ends 4 7 last 5 ip_on dp_done
+vmammq vmbmmpm|Dp 5 generation 1 nodes 1 ends 4 7 last 5 ip_on dp_done
+vmammqm |Vol1(Dp)
+vmammqm v|Vol1(Dp)
+vmammqm vm|Label(Dp)
+vmammqm vmb|Label(Dp)
+vmammqm vmbm|WrongPointer(Place { part: Ip, pos: 5 })
+vmammqm vmbmm|WrongPointer(Place { part: Ip, pos: 5 })
+vmammqm vmbmmp|WrongPointer(Place { part: Ip, pos: 5 })
+vmamm vmbmm|NoIndex
+vmammq vmbmmp|NoIndex
+vmammqm vmbmmpmm|Dp 5 generation 1 nodes 1 ends 4 7 last 5 ip_on ip_done
+vmammqm vmbmmpmmn|Dp 5 generation 1 nodes 1 ends 4 7 last 5 ip_on ip_done",
+    )
+}
+
+#[test]
+fn notes_are_seen(rt: HostRuntime) -> Result<(), NoMemory> {
+    check(
+        &rt,
+        rt.alloc(),
+        "vmammqm vmbmmpm k k|Dp 5 generation 1 nodes 1 ends 4 7 last 5 ip_on dp_done ip_done noted
+vmammqm vmbmmpm - k|Dp 5 generation 1 nodes 1 ends 4 7 last 5 ip_on dp_done ip_done
+vmammqm vmbmmpm k -|Dp 5 generation 1 nodes 1 ends 4 7 last 5 ip_on dp_done ip_done
+vmammqm vmbmmpm 0=7 k|Dp 5 generation 1 nodes 1 ends 4 7 last 5 ip_on dp_done ip_done
+vmammqm vmbmmpm 8=15 k|Dp 5 generation 1 nodes 1 ends 4 7 last 5 ip_on dp_done ip_done
+vmammqm vmbmmpm k 8=13|Dp 5 generation 1 nodes 1 ends 4 7 last 5 ip_on dp_done ip_done
+vmammqm vmbmmpm 8=13 8=13|Dp 5 generation 1 nodes 1 ends 4 7 last 5 ip_on dp_done ip_done
+vmammqm vmbmmpm k 16=2|Dp 5 generation 1 nodes 1 ends 4 7 last 5 ip_on dp_done ip_done
+vmammqm vmbmmpm 24=4 k|Dp 5 generation 1 nodes 1 ends 4 7 last 5 ip_on dp_done ip_done
+vmammqm vmbmmpm k 26=44|Dp 5 generation 1 nodes 1 ends 4 7 last 5 ip_on dp_done ip_done
+vmammqm vmbmmpm 30=84 k|Dp 5 generation 1 nodes 1 ends 4 7 last 5 ip_on dp_done ip_done
+vmammqm vmbmmpm k 32=52|Dp 5 generation 1 nodes 1 ends 4 7 last 5 ip_on dp_done ip_done
+vmammqm vmbmmpm 67=98 67=98|Dp 5 generation 1 nodes 1 ends 4 7 last 5 ip_on dp_done ip_done
+vmammqm vmbmmpm k 69=9|Dp 5 generation 1 nodes 1 ends 4 7 last 5 ip_on dp_done ip_done
+vmammcm vmbmmpmhmxm 16=3 16=3,24=9|Dp 9 generation 3 nodes 4 ends 4 11 last 9 ip_on dp_done ip_done noted
+vmammcm vmbmmpmhmxm 16=3,24=9 16=3,24=9|Dp 9 generation 3 nodes 4 ends 4 11 last 9 ip_on dp_done ip_done
+vmammcm vmbmmpmhmxm 16=3 16=3|Dp 9 generation 3 nodes 4 ends 4 11 last 9 ip_on dp_done ip_done",
+    )
+}
+
+/// A file with this extent, by its block, its byte and its count, is told so.
+fn check_extent<R: Abort>(rt: &R, alloc: Global, row: &str) -> Result<(), NoMemory> {
+    let words = row.split('|').next().unwrap_or("");
+    let mut numbers = words.split(' ');
+    let block = numbers.next().unwrap_or("").parse().unwrap_or(0);
+    let byte = numbers.next().unwrap_or("").parse().unwrap_or(0);
+    let count = numbers.next().unwrap_or("").parse().unwrap_or(0);
+    let mut drive = drive_with_file(alloc, block, byte, count)?;
+    check_row(rt, alloc, row, words, &mut drive)
+}
+
+#[test]
+fn extents_are_within_the_data(rt: HostRuntime) -> Result<(), NoMemory> {
+    let rows = "4 0 5|Dp 6 generation 1 nodes 2 ends 4 8 last 6 ip_on dp_done
+7 0 4096|Dp 6 generation 1 nodes 2 ends 4 8 last 6 ip_on dp_done
+4 0 16384|Dp 6 generation 1 nodes 2 ends 4 8 last 6 ip_on dp_done
+4 4095 1|Dp 6 generation 1 nodes 2 ends 4 8 last 6 ip_on dp_done
+3 0 0|Dp 6 generation 1 nodes 2 ends 4 8 last 6 ip_on dp_done
+7 0 4097|BadExtent(2)
+4 0 16385|BadExtent(2)
+7 1 4096|BadExtent(2)
+4 4096 1|BadExtent(2)
+3 0 1|BadExtent(2)
+8 0 1|BadExtent(2)
+4503599627370496 0 1|BadExtent(2)
+4503599627370500 0 1|BadExtent(2)
+4611686018427387904 0 1|BadExtent(2)
+4 4611686018427387904 1|BadExtent(2)
+4 0 1099511627776|BadExtent(2)
+4 0 4611686018427387904|BadExtent(2)
+4611686018427387904 4611686018427387904 4611686018427387904|BadExtent(2)";
+    for row in rows.split('\n') {
+        check_extent(&rt, rt.alloc(), row)?;
+    }
     Ok(())
 }
 
@@ -383,13 +312,7 @@ fn error_at(alloc: Global, nth: u64) -> Result<Option<MountErr>, NoMemory> {
         nth,
     };
     let fails = List::from_vec(Vec::from_slice(alloc, &[failing])?);
-    let mut drive = drive(
-        alloc,
-        b"vmammqm",
-        b"vmbmmpm",
-        (Note::Absent, Note::Absent),
-        fails,
-    )?;
+    let mut drive = drive_of(alloc, "vmammqm", "vmbmmpm", fails)?;
     Ok(mount(alloc, &mut drive).err())
 }
 
