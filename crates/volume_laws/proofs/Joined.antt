@@ -72,10 +72,12 @@ module _ {D : Type 0} (drive : Ghosts D)
         (submissions_keep_true (seen drive) old.fixed.first new.drive old new who nth answer (kept.truth now) s (rightly.truth now));
     safe = λ can.
         let now = servable drive new old.fixed s.fixed can in
-        let safe = kept.safe now in
-        (safe.0, safe_here drive new old.fixed s.fixed safe.0
-        (submits_are_safe drive only_now safe.0 old new who nth answer safe.1 s (rightly.ops now) rightly.order.follows.standing
-        (rightly.size now) (rightly.due now safe.0 safe.1)));
+        let safe = kept.safe now in (
+          safe.0,
+          safe_here drive new old.fixed s.fixed safe.0
+              (submits_are_safe drive only_now safe.0 old new who nth answer safe.1 s (rightly.ops now) rightly.order.follows.standing
+              (rightly.size now) (rightly.due now safe.0 safe.1)),
+        );
   }
 
   pub turns_keep_all : TurnsKeep drive
@@ -90,10 +92,12 @@ module _ {D : Type 0} (drive : Ghosts D)
             order.orderly.trail (rightly.truth now));
         safe = λ can.
             let now = servable drive new old.fixed t.fixed can in
-            let safe = kept.safe now in
-            (safe.0, safe_here drive new old.fixed t.fixed safe.0
-            ((turns_are_safe drive only_now).waiting safe.0 (drive.limits old.fixed.first) old new most who ticket answer safe.1 t
-            (rightly.driven now) order.orderly.trail kept.order.orderly.standing));
+            let safe = kept.safe now in (
+              safe.0,
+              safe_here drive new old.fixed t.fixed safe.0
+                  ((turns_are_safe drive only_now).waiting safe.0 (drive.limits old.fixed.first) old new most who ticket answer safe.1 t
+                  (rightly.driven now) order.orderly.trail kept.order.orderly.standing),
+            );
       }
 
   pub drain_turns_keep_all : DrainTurnsKeep drive
@@ -108,8 +112,10 @@ module _ {D : Type 0} (drive : Ghosts D)
             order.orderly.trail (rightly.truth now));
         safe = λ can.
             let now = servable drive new old.fixed t.fixed can in
-            let safe = kept.safe now in
-            (safe.0, safe_here drive new old.fixed t.fixed safe.0
-            ((turns_are_safe drive only_now).draining safe.0 (drive.limits old.fixed.first) old new most who answer safe.1 t
-            (rightly.driven now) order.orderly.trail kept.order.orderly.standing));
+            let safe = kept.safe now in (
+              safe.0,
+              safe_here drive new old.fixed t.fixed safe.0
+                  ((turns_are_safe drive only_now).draining safe.0 (drive.limits old.fixed.first) old new most who answer safe.1 t
+                  (rightly.driven now) order.orderly.trail kept.order.orderly.standing),
+            );
       }
