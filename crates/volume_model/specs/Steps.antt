@@ -150,7 +150,8 @@ IsDrained old new who made (drained.Fault counts) =
     × Places old new who (length (places_of who old.marks)) fates.Void (Some (replies.Fault counts))
 IsDrained old new who made drained.Room = (kept_for who (old.kept ++ drain_faults old made) ≡ [])
     × (standing_ops new ≤ 64) × OnlyAnswers old new
-IsDrained old new who made drained.More = (kept_for who new.kept ≡ []) × (64 < standing_ops new) × (steps made ≡ 1)
+IsDrained old new who made drained.More = (kept_for who (old.kept ++ drain_faults old made) ≡ [])
+    × (64 < standing_ops new) × (steps made ≡ 1)
     × OnlyAnswers old new
 
 -- the event with which a session rests

@@ -21,12 +21,14 @@ use Rattle.volume_model.specs.Marks.{after, draining, hand_in, idle, mark, place
 use Rattle.volume_model.specs.declared.marks.Kind.{Kind}
 use Rattle.volume_model.specs.declared.marks.Kind.TheVariants.{Places as places, Hands as hands, Begins as begins, Rests as rests}
 use Rattle.volume_model.specs.declared.marks.Mark.{Mark}
+use Rattle.volume_model.specs.Served.{View}
+use Rattle.volume_model.specs.Steps.{IsDrained}
 use Rattle.volume_model.specs.Trials.{ack, done, fault, placed, synced, write}
 use Rattle.volume_model.specs.Turning.{after_flush, before_flush, draining_view, drive_at, faulted, handed_marks}
 use Rattle.volume_model.specs.declared.answers.Drained.TheVariants as drained
 use Rattle.volume_model.specs.declared.answers.Submitted.TheVariants as submitted
 use Rattle.volume_order.specs.Rows.{IsKept, IsOrdered, at_once, fails, flushed, served, session_drains, smaller, sync_stands, telling, to_flush, with_acks, with_events, with_history, with_marks, with_ops, with_replies, without_reply}
-use Rattle.volume_order.specs.Sides.{HasOneMoment, IsAnswered, IsBrought, IsReplied, KeepsNone, MayFollow, MovesOn, TurnsInOrder}
+use Rattle.volume_order.specs.Sides.{HasOneMoment, IsAnswered, IsBrought, IsReplied, MayFollow, MovesOn, TurnsInOrder}
 
 some_same : {X : Type 0} (x y : X) → Some x ≡ Some y → x ≡ y
 some_same x y e = cc
@@ -87,8 +89,8 @@ rise_is = record { rises = one_rise 0 1 (twin 0 1) (record { lowest = omega arit
 pub no_rise_isnt : ¬ MovesOn (drive_at 30 None) (faulted 1 (drive_at 31 None)) (fails 1 1)
 no_rise_isnt m = absurd (omega (arith, (m.rises 0 (twin 0 0) (omega arith)).rose))
 
-pub lost_fault_isnt : (at : Moment) → ¬ KeepsNone (draining_view at) 1 (Worked (dp 22) (Some (twin 0 1)) ∷ []) drained.More
-lost_fault_isnt at none = let one : ◌≡◌ {A = ℕ} 1 0 = ap second none in absurd (omega (arith, one))
+pub lost_fault_isnt : (at : Moment) (new : View ℕ) → ¬ IsDrained (draining_view at) new 1 (Worked (dp 22) (Some (twin 0 1)) ∷ []) drained.More
+lost_fault_isnt at new d = let one : ◌≡◌ {A = ℕ} 1 0 = ap second d.0 in absurd (omega (arith, one))
 
 pub at_once_is : IsAnswered (after_all at_once) at_once 0 (submitted.Ready synced)
 at_once_is = (refl, refl, refl)

@@ -186,7 +186,7 @@ drain_turns_keep {D = D} drive most old new who drained.More kept draining_is t 
     let stepped : IsKeptOrder first now v = stepping_keeps first before now old new.replies t.made
     (drain_step drive most old new who drained.More new.replies kept t side answered.replies.count answered.replies.each (λ k reply o n. brought (seen drive old.fixed.first) (seen drive old.drive) old t.made k reply kept t.step.shape (trail_of old new who drained.More t.made side.follows) (side.replied k reply o n))) new.drive new.next new.on new.ops stand in
     let is : new ≡ v = view_is new v t.fixed refl refl answered.history refl (t.adds.acks ∙ ap (λ l. old.acks ++ acks_for now.commands l) (append-nil t.made)) (t.adds.events ∙ ap (λ l. old.events ++ l) (append-nil t.made))
-    (t.marks ∙ append-nil old.marks) (t.kept ∙ without_none who (old.kept ++ drain_faults old t.made) side.none) refl refl in
+    (t.marks ∙ append-nil old.marks) (t.kept ∙ without_none who (old.kept ++ drain_faults old t.made) t.answered.0) refl refl in
     subst (λ (v : View D). IsInOrder drive v) (sym is) stepped
 drain_turns_keep {D = D} drive most old new who (drained.Fault counts) kept draining_is t side =
     let first = seen drive old.fixed.first in

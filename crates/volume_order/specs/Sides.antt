@@ -9,9 +9,9 @@ use Rattle.session_script.specs.declared.logs.Reply.{Reply}
 use Rattle.head_trail.specs.Trail.{Owner, after, after_all, both, fault_of, is_of, is_trail_from, of_call, owner_of}
 use Rattle.head_trail.specs.Waiting.{State, ops}
 use Rattle.volume_model.specs.Acks.{answers, is_synced}
-use Rattle.volume_model.specs.Faults.{kept_for, told}
+use Rattle.volume_model.specs.Faults.{told}
 use Rattle.volume_model.specs.Served.{Drive, View, headed, is_waiting}
-use Rattle.volume_model.specs.Steps.{drain_faults, rest_of}
+use Rattle.volume_model.specs.Steps.{rest_of}
 use Rattle.volume_model.specs.declared.answers.Drained.{Drained}
 use Rattle.volume_model.specs.declared.answers.Drained.TheVariants as drained
 use Rattle.volume_model.specs.declared.answers.Submitted.{Submitted}
@@ -77,11 +77,6 @@ pub record TurnsInOrder {D : Type 0} (before now : Drive) (old new : View D) (ad
   pub replied : AreReplied old new added
   pub moves : MovesOn before now added
 
--- where there is no room yet no fault is kept for the session either
-abbrev pub KeepsNone : {D : Type 0} → View D → ℕ → List Event → Drained → Type 0
-KeepsNone old who made drained.More = kept_for who (old.kept ++ drain_faults old made) ≡ []
-KeepsNone old who made _ = Unit {0}
-
 -- where the session is told of its fault nobody else is replied to, and that follows
 abbrev pub AreRepliedElse : {D : Type 0} → View D → View D → List Event → Drained → Type 0
 AreRepliedElse old new made (drained.Fault counts) = Unit {0}
@@ -98,4 +93,3 @@ pub record DrainsInOrder {D : Type 0} (before now : Drive) (old new : View D) (w
   pub follows : MayFollow old new (made ++ rest_of who answer)
   pub replied : AreRepliedElse old new made answer
   pub moves : MovesOn before now made
-  pub none : KeepsNone old who made answer

@@ -1,4 +1,4 @@
-ghost use Rattle.std.specs.Prelude.{◌≡◌, ◌≢◌, ◌++◌, [], ◌∷◌, None, Some, false, true};
+ghost use Rattle.std.specs.Prelude.{◌≡◌, ◌≢◌, ℕ, ◌++◌, [], ◌∷◌, None, Some, false, true};
 ghost use Rattle.tape_types.specs.declared.moments.Moment.{Moment};
 ghost use Rattle.session_script.specs.declared.logs.Event.TheVariants.{Drains, Rests, Synced, Syncs, Wants, Worked};
 ghost use Rattle.plain_tree.specs.declared.calls.Fate.TheVariants as fates;
@@ -8,7 +8,8 @@ ghost use Rattle.volume_model.specs.declared.marks.Kind.TheVariants.{Places as p
 ghost use Rattle.volume_model.specs.declared.marks.Kind.TheVariants.{Begins as begins, Rests as rests};
 ghost use Rattle.head_trail.specs.Rows.{dp, queues, twin};
 ghost use Rattle.head_trail.specs.Trail.{after_all};
-ghost use Rattle.volume_model.specs.Served.{IsOrderly};
+ghost use Rattle.volume_model.specs.Served.{IsOrderly, View};
+ghost use Rattle.volume_model.specs.Steps.{IsDrained};
 ghost use Rattle.volume_model.specs.Trials.{ack, done, fault, placed, synced};
 ghost use Rattle.volume_model.specs.Turning.{after_flush, before_flush, draining_view};
 ghost use Rattle.volume_model.specs.Turning.{drive_at, faulted, handed_marks};
@@ -21,7 +22,7 @@ ghost use Rattle.volume_order.specs.Rows.{hand_of_another, served, session_drain
 ghost use Rattle.volume_order.specs.Rows.{telling, to_flush, two_at_once, with_acks, with_events, with_history};
 ghost use Rattle.volume_order.specs.Rows.{with_marks, with_ops, with_replies, without_reply};
 ghost use Rattle.volume_order.specs.Sides.{HasOneMoment, IsAnswered, IsBrought, IsReplied};
-ghost use Rattle.volume_order.specs.Sides.{KeepsNone, MayFollow, MovesOn, TurnsInOrder};
+ghost use Rattle.volume_order.specs.Sides.{MayFollow, MovesOn, TurnsInOrder};
 
 /// What a call shows beside what it adds, and damaged in one way.
 pub fn the_definitions_tell_sides()
@@ -41,8 +42,8 @@ pub fn the_definitions_tell_sides()
     ensures fault_of_nobody_isnt { ¬ IsReplied session_drains (fails 0 1) 2 (fault 0 1) }
     ensures rise_is { MovesOn (drive_at 30 None) (faulted 1 (drive_at 31 None)) (fails 0 1) }
     ensures no_rise_isnt { ¬ MovesOn (drive_at 30 None) (faulted 1 (drive_at 31 None)) (fails 1 1) }
-    ensures lost_fault_isnt { (at : Moment)
-        → ¬ KeepsNone (draining_view at) 1 (Worked (dp 22) (Some (twin 0 1)) ∷ []) drained.More }
+    ensures lost_fault_isnt { (at : Moment) (new : View ℕ)
+        → ¬ IsDrained (draining_view at) new 1 (Worked (dp 22) (Some (twin 0 1)) ∷ []) drained.More }
     ensures at_once_is { IsAnswered (after_all at_once) at_once 0 (submitted.Ready synced) }
     ensures done_at_once_isnt { ¬ IsAnswered (after_all at_once) at_once 0 (submitted.Ready done) }
     ensures fault_at_once_isnt { ¬ IsAnswered (after_all at_once) at_once 0 (submitted.Ready (fault 0 1)) }
