@@ -8,16 +8,23 @@ use Rattle.session_script.specs.declared.logs.Log.{Log}
 use Rattle.tape_drive.specs.Looks.{Looks}
 use Rattle.tape_drive.specs.declared.drive.Drive.{Ghosts}
 use Rattle.tape_meaning.specs.declared.errors.MountErr.TheVariants as errors
-use Rattle.server_words.specs.Forms.{HasNoForm, IsLabel, IsList, IsPlain, IsPlainWords, IsSpelledBy}
+use Rattle.format_volume.specs.Writes.{Goes}
+use Rattle.format_volume.specs.declared.requests.FormatErr.TheVariants as refusals
+use Rattle.format_volume.proofs.WriteLemmas.{goes_still}
+use Rattle.server_words.specs.Forms.{HasNoForm, IsFormat, IsFormatWords, IsLabel, IsList, IsPlain, IsPlainWords, IsSpelledBy}
+use Rattle.server_words.specs.declared.volumes.FormatWords.{FormatWords}
 use Rattle.server_words.specs.declared.forms.WordsErr.{WordsErr}
 use Rattle.server_words.specs.declared.forms.WordsErr.TheVariants as word_errors
 use Rattle.server_words.specs.declared.reading.Command.{Command}
 use Rattle.server_words.specs.declared.reading.Command.TheVariants as commands
-use Rattle.server_words.proofs.FormLemmas.{one_form, plain_or_folder, two_folders}
-use Rattle.ltfs_server.specs.Outcomes.{IsTold, of_label, of_list, of_memory, of_no_form, of_plain, unlabelled, unlisted}
-use Rattle.ltfs_server.specs.Promises.{ComesOf, DoesAsked, DoesLabel, DoesList, DoesPlain, RefusesWords}
+use Rattle.server_words.proofs.FormLemmas.{format_named, label_named, list_named, names_differ, one_form, plain_named}
+use Rattle.server_words.proofs.VolumeLemmas.{one_format}
+use Rattle.ltfs_server.specs.Formats.{unformatted}
+use Rattle.ltfs_server.specs.Outcomes.{IsTold, of_format, of_label, of_list, of_memory, of_no_form, of_plain, unlabelled, unlisted}
+use Rattle.ltfs_server.specs.Promises.{ComesOf, DoesAsked, DoesFormat, DoesLabel, DoesList, DoesPlain, RefusesWords}
 use Rattle.ltfs_server.specs.Runs.{Gives, IsOneOf, Taken, TakesNothing, Written}
 use Rattle.ltfs_server.specs.declared.plain.PlainEnd.TheVariants as plains
+use Rattle.ltfs_server.proofs.FormatClauses.{format_does}
 use Rattle.ltfs_server.proofs.LabelClauses.{label_does}
 use Rattle.ltfs_server.proofs.ListClauses.{list_does}
 use Rattle.ltfs_server.proofs.PlainClauses.{plain_does}
@@ -28,7 +35,7 @@ use Rattle.tape_drive.proofs.Looking.{no_looks}
 other : (status n : ℕ) (xs : List ℕ) → list_any (λ x. n == x) xs ≡ false → IsOneOf status xs → status ≡ n → ⊥
 other status n xs none one is = none_of n xs none (subst (λ s. IsOneOf s xs) is one)
 
-plain_all : (n : ℕ) → IsOneOf n (0 ∷ 2 ∷ 5 ∷ 6 ∷ 7 ∷ []) → IsOneOf n (0 ∷ 1 ∷ 2 ∷ 3 ∷ 4 ∷ 5 ∷ 6 ∷ 7 ∷ [])
+plain_all : (n : ℕ) → IsOneOf n (0 ∷ 2 ∷ 5 ∷ 6 ∷ 7 ∷ []) → IsOneOf n (0 ∷ 1 ∷ 2 ∷ 3 ∷ 4 ∷ 5 ∷ 6 ∷ 7 ∷ 8 ∷ [])
 plain_all n (inl e) = inl e
 plain_all n (inr (inl e)) = inr (inr (inl e))
 plain_all n (inr (inr (inl e))) = inr (inr (inr (inr (inr (inl e)))))
@@ -36,13 +43,21 @@ plain_all n (inr (inr (inr (inl e)))) = inr (inr (inr (inr (inr (inr (inl e)))))
 plain_all n (inr (inr (inr (inr (inl e))))) = inr (inr (inr (inr (inr (inr (inr (inl e)))))))
 plain_all n (inr (inr (inr (inr (inr none))))) = absurd none
 
-looked_all : (n : ℕ) → IsOneOf n (0 ∷ 3 ∷ 4 ∷ 6 ∷ 7 ∷ []) → IsOneOf n (0 ∷ 1 ∷ 2 ∷ 3 ∷ 4 ∷ 5 ∷ 6 ∷ 7 ∷ [])
+looked_all : (n : ℕ) → IsOneOf n (0 ∷ 3 ∷ 4 ∷ 6 ∷ 7 ∷ []) → IsOneOf n (0 ∷ 1 ∷ 2 ∷ 3 ∷ 4 ∷ 5 ∷ 6 ∷ 7 ∷ 8 ∷ [])
 looked_all n (inl e) = inl e
 looked_all n (inr (inl e)) = inr (inr (inr (inl e)))
 looked_all n (inr (inr (inl e))) = inr (inr (inr (inr (inl e))))
 looked_all n (inr (inr (inr (inl e)))) = inr (inr (inr (inr (inr (inr (inl e))))))
 looked_all n (inr (inr (inr (inr (inl e))))) = inr (inr (inr (inr (inr (inr (inr (inl e)))))))
 looked_all n (inr (inr (inr (inr (inr none))))) = absurd none
+
+format_all : (n : ℕ) → IsOneOf n (0 ∷ 4 ∷ 6 ∷ 7 ∷ 8 ∷ []) → IsOneOf n (0 ∷ 1 ∷ 2 ∷ 3 ∷ 4 ∷ 5 ∷ 6 ∷ 7 ∷ 8 ∷ [])
+format_all n (inl e) = inl e
+format_all n (inr (inl e)) = inr (inr (inr (inr (inl e))))
+format_all n (inr (inr (inl e))) = inr (inr (inr (inr (inr (inr (inl e))))))
+format_all n (inr (inr (inr (inl e)))) = inr (inr (inr (inr (inr (inr (inr (inl e)))))))
+format_all n (inr (inr (inr (inr (inl e))))) = inr (inr (inr (inr (inr (inr (inr (inr (inl e))))))))
+format_all n (inr (inr (inr (inr (inr none))))) = absurd none
 
 none_logged : (words : List (String Global)) (log : Option Log) → log ≡ None → IfSome log (λ l. IsPlain words)
 none_logged words log none = subst (λ l. IfSome l (λ l. IsPlain words)) (sym none) tt
@@ -53,8 +68,9 @@ module _ {D : Type 0} (words : List (String Global)) (gives : Gives) (source : T
   plain_asked at spelled does =
       let is_plain : IsPlain words = (at, spelled) in record {
         plain = λ again are. subst (λ (a : Option Moment). DoesPlain a gives source sink old new status log) (one_form words at again spelled are) does;
-        label = λ label. absurd (plain_or_folder words (codes "label") refl is_plain label);
-        list = λ list. absurd (plain_or_folder words (codes "list") refl is_plain list);
+        label = λ label. absurd (names_differ words (codes "plain") (codes "label") refl (plain_named words is_plain) (label_named words label));
+        list = λ list. absurd (names_differ words (codes "plain") (codes "list") refl (plain_named words is_plain) (list_named words list));
+        format = λ asked format. absurd (names_differ words (codes "plain") (codes "format") refl (plain_named words is_plain) (format_named words (asked, format)));
         no_form = λ none. absurd (none.no_plain is_plain);
         unread = λ another. absurd (another is_plain);
         comes = record {
@@ -65,6 +81,7 @@ module _ {D : Type 0} (words : List (String Global)) (gives : Gives) (source : T
           volume = λ three. absurd (other status 3 (0 ∷ 2 ∷ 5 ∷ 6 ∷ 7 ∷ []) refl does.statuses three);
           drive = λ four. absurd (other status 4 (0 ∷ 2 ∷ 5 ∷ 6 ∷ 7 ∷ []) refl does.statuses four);
           read = λ five. is_plain;
+          full = λ eight. absurd (other status 8 (0 ∷ 2 ∷ 5 ∷ 6 ∷ 7 ∷ []) refl does.statuses eight);
           logged = if_some log (λ l. IsPlain words) (λ l is. is_plain);
         };
         told = (of_plain does.told.0, (at, spelled, does.told.1), does.told.2);
@@ -72,9 +89,10 @@ module _ {D : Type 0} (words : List (String Global)) (gives : Gives) (source : T
 
   pub label_asked : IsLabel words → TakesNothing source → DoesLabel drive old new sink status log → DoesAsked words gives source sink drive old new status log
   label_asked spelled nothing does = record {
-    plain = λ at are. absurd (plain_or_folder words (codes "label") refl (at, are) spelled);
+    plain = λ at are. absurd (names_differ words (codes "plain") (codes "label") refl (plain_named words (at, are)) (label_named words spelled));
     label = λ label. does;
-    list = λ list. absurd (two_folders words (codes "label") (codes "list") refl spelled list);
+    list = λ list. absurd (names_differ words (codes "label") (codes "list") refl (label_named words spelled) (list_named words list));
+    format = λ asked format. absurd (names_differ words (codes "label") (codes "format") refl (label_named words spelled) (format_named words (asked, format)));
     no_form = λ none. absurd (none.no_label spelled);
     unread = λ another. nothing;
     comes = record {
@@ -85,6 +103,7 @@ module _ {D : Type 0} (words : List (String Global)) (gives : Gives) (source : T
       volume = λ three. inl spelled;
       drive = λ four. inl spelled;
       read = λ five. absurd (other status 5 (0 ∷ 3 ∷ 4 ∷ 6 ∷ 7 ∷ []) refl does.statuses five);
+      full = λ eight. absurd (other status 8 (0 ∷ 3 ∷ 4 ∷ 6 ∷ 7 ∷ []) refl does.statuses eight);
       logged = none_logged words log does.no_log;
     };
     told = (of_label does.told.0, (spelled, nothing, does.told.1), does.told.2);
@@ -92,33 +111,60 @@ module _ {D : Type 0} (words : List (String Global)) (gives : Gives) (source : T
 
   pub list_asked : IsList words → TakesNothing source → DoesList drive old new sink status log → DoesAsked words gives source sink drive old new status log
   list_asked spelled nothing does = record {
-    plain = λ at are. absurd (plain_or_folder words (codes "list") refl (at, are) spelled);
-    label = λ label. absurd (two_folders words (codes "label") (codes "list") refl label spelled);
+    plain = λ at are. absurd (names_differ words (codes "plain") (codes "list") refl (plain_named words (at, are)) (list_named words spelled));
+    label = λ label. absurd (names_differ words (codes "label") (codes "list") refl (label_named words label) (list_named words spelled));
     list = λ list. does;
+    format = λ asked format. absurd (names_differ words (codes "list") (codes "format") refl (list_named words spelled) (format_named words (asked, format)));
     no_form = λ none. absurd (none.no_list spelled);
     unread = λ another. nothing;
     comes = record {
       statuses = looked_all status does.statuses;
-      done = λ zero. inr (inr spelled);
+      done = λ zero. inr (inr (inl spelled));
       refused = λ one. absurd (other status 1 (0 ∷ 3 ∷ 4 ∷ 6 ∷ 7 ∷ []) refl does.statuses one);
       script = λ two. absurd (other status 2 (0 ∷ 3 ∷ 4 ∷ 6 ∷ 7 ∷ []) refl does.statuses two);
       volume = λ three. inr spelled;
-      drive = λ four. inr spelled;
+      drive = λ four. inr (inl spelled);
       read = λ five. absurd (other status 5 (0 ∷ 3 ∷ 4 ∷ 6 ∷ 7 ∷ []) refl does.statuses five);
+      full = λ eight. absurd (other status 8 (0 ∷ 3 ∷ 4 ∷ 6 ∷ 7 ∷ []) refl does.statuses eight);
       logged = none_logged words log does.no_log;
     };
     told = (of_list does.told.0, (spelled, nothing, does.told.1), does.told.2);
   }
 
+  pub format_asked : (asked : FormatWords) → IsFormatWords words asked → TakesNothing source → DoesFormat asked gives drive old new sink status log
+      → DoesAsked words gives source sink drive old new status log
+  format_asked asked spelled nothing does =
+      let is_format : IsFormat words = (asked, spelled) in record {
+        plain = λ at are. absurd (names_differ words (codes "plain") (codes "format") refl (plain_named words (at, are)) (format_named words is_format));
+        label = λ label. absurd (names_differ words (codes "label") (codes "format") refl (label_named words label) (format_named words is_format));
+        list = λ list. absurd (names_differ words (codes "list") (codes "format") refl (list_named words list) (format_named words is_format));
+        format = λ again are. subst (λ (a : FormatWords). DoesFormat a gives drive old new sink status log) (one_format words asked again spelled are) does;
+        no_form = λ none. absurd (none.no_format is_format);
+        unread = λ another. nothing;
+        comes = record {
+          statuses = format_all status does.statuses;
+          done = λ zero. inr (inr (inr is_format));
+          refused = λ one. absurd (other status 1 (0 ∷ 4 ∷ 6 ∷ 7 ∷ 8 ∷ []) refl does.statuses one);
+          script = λ two. absurd (other status 2 (0 ∷ 4 ∷ 6 ∷ 7 ∷ 8 ∷ []) refl does.statuses two);
+          volume = λ three. absurd (other status 3 (0 ∷ 4 ∷ 6 ∷ 7 ∷ 8 ∷ []) refl does.statuses three);
+          drive = λ four. inr (inr is_format);
+          read = λ five. absurd (other status 5 (0 ∷ 4 ∷ 6 ∷ 7 ∷ 8 ∷ []) refl does.statuses five);
+          full = λ eight. is_format;
+          logged = none_logged words log does.no_log;
+        };
+        told = (of_format does.told.0, (asked, spelled, nothing, does.told.1), does.told.2);
+      }
+
   pub form_asked : HasNoForm words → TakesNothing source → new ≡ old → log ≡ None → IsTold 1 (codes "words\n") sink status
       → DoesAsked words gives source sink drive old new status log
   form_asked none nothing same no_log told =
       let among : IsOneOf status (1 ∷ 6 ∷ 7 ∷ []) = by_status (λ n. IsOneOf n (1 ∷ 6 ∷ 7 ∷ [])) 1 (codes "words\n") sink status told (inl refl) (λ rose. inr (inl refl)) in
-      let all : IsOneOf status (0 ∷ 1 ∷ 2 ∷ 3 ∷ 4 ∷ 5 ∷ 6 ∷ 7 ∷ []) =
-      by_status (λ n. IsOneOf n (0 ∷ 1 ∷ 2 ∷ 3 ∷ 4 ∷ 5 ∷ 6 ∷ 7 ∷ [])) 1 (codes "words\n") sink status told (inr (inl refl)) (λ rose. inr (inr (inr (inr (inr (inr (inl refl))))))) in record {
+      let all : IsOneOf status (0 ∷ 1 ∷ 2 ∷ 3 ∷ 4 ∷ 5 ∷ 6 ∷ 7 ∷ 8 ∷ []) =
+      by_status (λ n. IsOneOf n (0 ∷ 1 ∷ 2 ∷ 3 ∷ 4 ∷ 5 ∷ 6 ∷ 7 ∷ 8 ∷ [])) 1 (codes "words\n") sink status told (inr (inl refl)) (λ rose. inr (inr (inr (inr (inr (inr (inl refl))))))) in record {
         plain = λ at are. absurd (none.no_plain (at, are));
         label = λ label. absurd (none.no_label label);
         list = λ list. absurd (none.no_list list);
+        format = λ asked format. absurd (none.no_format (asked, format));
         no_form = λ again. record {
           statuses = among;
           printed = λ one. (by_text 1 1 (codes "words\n") sink status told (λ e. cc e) one).1;
@@ -136,6 +182,7 @@ module _ {D : Type 0} (words : List (String Global)) (gives : Gives) (source : T
           volume = λ three. absurd (other status 3 (1 ∷ 6 ∷ 7 ∷ []) refl among three);
           drive = λ four. absurd (other status 4 (1 ∷ 6 ∷ 7 ∷ []) refl among four);
           read = λ five. absurd (other status 5 (1 ∷ 6 ∷ 7 ∷ []) refl among five);
+          full = λ eight. absurd (other status 8 (1 ∷ 6 ∷ 7 ∷ []) refl among eight);
           logged = none_logged words log no_log;
         };
         told = (of_no_form, (none, nothing), (no_log, told));
@@ -162,11 +209,12 @@ module _ {D : Type 0} (words : List (String Global)) (gives : Gives) (source : T
       → DoesAsked words gives source sink drive old new status log
   memory_asked nothing same range no_log told =
       let among : IsOneOf status (6 ∷ 7 ∷ []) = by_status (λ n. IsOneOf n (6 ∷ 7 ∷ [])) 7 (codes "memory\n") sink status told (inr (inl refl)) (λ rose. inl refl) in
-      let all : IsOneOf status (0 ∷ 1 ∷ 2 ∷ 3 ∷ 4 ∷ 5 ∷ 6 ∷ 7 ∷ []) =
-      by_status (λ n. IsOneOf n (0 ∷ 1 ∷ 2 ∷ 3 ∷ 4 ∷ 5 ∷ 6 ∷ 7 ∷ [])) 7 (codes "memory\n") sink status told (inr (inr (inr (inr (inr (inr (inr (inl refl)))))))) (λ rose. inr (inr (inr (inr (inr (inr (inl refl))))))) in record {
+      let all : IsOneOf status (0 ∷ 1 ∷ 2 ∷ 3 ∷ 4 ∷ 5 ∷ 6 ∷ 7 ∷ 8 ∷ []) =
+      by_status (λ n. IsOneOf n (0 ∷ 1 ∷ 2 ∷ 3 ∷ 4 ∷ 5 ∷ 6 ∷ 7 ∷ 8 ∷ [])) 7 (codes "memory\n") sink status told (inr (inr (inr (inr (inr (inr (inr (inl refl)))))))) (λ rose. inr (inr (inr (inr (inr (inr (inl refl))))))) in record {
         plain = λ at are. plain_does at gives source sink old new status log (plains.NoMemory None) same tt (no_log, told);
         label = λ label. label_does drive old new sink status log (unlabelled errors.NoMemory) (if_some (drive.held old) _ (λ c held. tt), tt) (looks_no _ same range) (no_log, told);
         list = λ list. list_does drive old new sink status log (unlisted errors.NoMemory) (if_some (drive.held old) _ (λ c held. tt), tt) (looks_no _ same range) (no_log, told);
+        format = λ asked format. format_does drive old new asked gives sink status log (unformatted refusals.NoMemory) same (subst (λ (d : D). Goes drive old d) (sym same) (goes_still drive old)) (no_log, told);
         no_form = λ again. record {
           statuses = inr among;
           printed = λ one. absurd (other status 1 (6 ∷ 7 ∷ []) refl among one);
@@ -184,6 +232,7 @@ module _ {D : Type 0} (words : List (String Global)) (gives : Gives) (source : T
           volume = λ three. absurd (other status 3 (6 ∷ 7 ∷ []) refl among three);
           drive = λ four. absurd (other status 4 (6 ∷ 7 ∷ []) refl among four);
           read = λ five. absurd (other status 5 (6 ∷ 7 ∷ []) refl among five);
+          full = λ eight. absurd (other status 8 (6 ∷ 7 ∷ []) refl among eight);
           logged = none_logged words log no_log;
         };
         told = (of_memory, nothing, (no_log, told));
@@ -201,3 +250,6 @@ asked_list w words k same is spelled = subst IsList same (subst (λ (k : Command
 
 pub asked_none : (w words : List (String Global)) (e : WordsErr) → w ≡ words → e ≡ word_errors.Form → IsSpelledBy w (Err e) → HasNoForm words
 asked_none w words e same is spelled = subst HasNoForm same (subst (λ (e : WordsErr). IsSpelledBy w (Err e)) is spelled)
+
+pub asked_format : (w words : List (String Global)) (k : Command) (asked : FormatWords) → w ≡ words → k ≡ commands.Format asked → IsSpelledBy w (Ok k) → IsFormatWords words asked
+asked_format w words k asked same is spelled = subst (λ v. IsFormatWords v asked) same (subst (λ (k : Command). IsSpelledBy w (Ok k)) is spelled)

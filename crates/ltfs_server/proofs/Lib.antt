@@ -1,4 +1,5 @@
 pub mod Asked
+pub mod FormatClauses
 pub mod LabelClauses
 pub mod LabelRanges
 pub mod ListClauses

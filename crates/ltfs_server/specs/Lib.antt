@@ -1,3 +1,4 @@
+pub mod Formats
 pub mod Headline
 pub mod Labels
 pub mod Listings

@@ -4,6 +4,7 @@ use Rattle.std.specs.Io.KnownBytes.{Appends}
 use Rattle.tape_types.specs.Counts.{Rose, IsRise}
 use Rattle.tape_types.specs.declared.moments.Moment.{Moment}
 use Rattle.tape_edge.specs.Streams.{AppendsFront}
+use Rattle.tape_drive.specs.declared.drive.Drive.{Ghosts}
 use Rattle.session_script.specs.Grammar.{script_of}
 use Rattle.session_script.specs.declared.logs.Log.{Log}
 use Rattle.mount_recover.specs.Labels.{AreCounts, Fails}
@@ -12,11 +13,13 @@ use Rattle.tape_meaning.specs.Labels.{HasLabels}
 use Rattle.tape_meaning.specs.declared.labels.Labels.{Labels}
 use Rattle.tape_meaning.specs.declared.errors.MountErr.{MountErr}
 use Rattle.tree_listing.specs.Listing.{first_lines}
-use Rattle.server_words.specs.Forms.{HasNoForm, IsLabel, IsList, IsPlainWords}
+use Rattle.server_words.specs.Forms.{HasNoForm, IsFormatWords, IsLabel, IsList, IsPlainWords}
+use Rattle.server_words.specs.declared.volumes.FormatWords.{FormatWords}
+use Rattle.ltfs_server.specs.Formats.{FormatEnd, IsFormatEnd, end_status, end_text}
 use Rattle.ltfs_server.specs.Labels.{labels_text, mount_status, mount_text}
 use Rattle.ltfs_server.specs.Listings.{IsListingOf, Listing, text_of_listing}
 use Rattle.ltfs_server.specs.Headline.{IsPlainRun, done_text, refusal_line, source_line}
-use Rattle.ltfs_server.specs.Runs.{Gives, IsRunOf, Looked, Run, Taken, TakesNothing, Written}
+use Rattle.ltfs_server.specs.Runs.{Gives, IsRunOf, Looked, Run, Taken, TakesNothing, Written, looked}
 use Rattle.ltfs_server.specs.declared.plain.PlainEnd.{PlainEnd}
 use Rattle.ltfs_server.specs.declared.plain.PlainEnd.TheVariants as plains
 
@@ -94,6 +97,7 @@ pub data Ending : Type 0 where
   of_plain : PlainEnd → Ending
   of_label : LabelEnd → Ending
   of_list : ListEnd → Ending
+  of_format : FormatEnd → Ending
 
 abbrev pub status_of : Ending → ℕ
 status_of of_no_form = 1
@@ -101,6 +105,7 @@ status_of of_memory = 7
 status_of (of_plain end) = plain_status end
 status_of (of_label end) = label_status end
 status_of (of_list end) = list_status end
+status_of (of_format end) = end_status end
 
 abbrev pub text_of : Ending → List ℕ
 text_of of_no_form = codes "words\n"
@@ -108,6 +113,7 @@ text_of of_memory = codes "memory\n"
 text_of (of_plain end) = plain_text end
 text_of (of_label end) = label_text end
 text_of (of_list end) = list_text end
+text_of (of_format end) = end_text end
 
 abbrev pub log_of : Ending → Option Log
 log_of of_no_form = None
@@ -115,14 +121,20 @@ log_of of_memory = None
 log_of (of_plain end) = plain_log end
 log_of (of_label end) = None
 log_of (of_list end) = None
+log_of (of_format end) = None
 
--- the words are of no form, or those of the command, which may end so; none but `plain` reads the source
-abbrev pub IsCaused : Run → Ending → Type 0
-IsCaused r of_no_form = HasNoForm r.words × TakesNothing r.source
-IsCaused r of_memory = TakesNothing r.source
-IsCaused r (of_plain end) = (at : Option Moment) × IsPlainWords r.words at × IsPlainEnd r.source r.gives at end
-IsCaused r (of_label end) = IsLabel r.words × TakesNothing r.source × IsLabelEnd r.drive end
-IsCaused r (of_list end) = IsList r.words × TakesNothing r.source × IsListEnd r.drive end
+-- the words are of no form, or those of the command, which may end so with the drive before and after it; none but `plain`
+-- reads the source
+abbrev pub IsCaused : {D : Type 0} → Run → Ghosts D → (old new : D) → Ending → Type 0
+IsCaused r drive old new of_no_form = HasNoForm r.words × TakesNothing r.source
+IsCaused r drive old new of_memory = TakesNothing r.source
+IsCaused r drive old new (of_plain end) =
+    (at : Option Moment) × IsPlainWords r.words at × IsPlainEnd r.source r.gives at end
+IsCaused r drive old new (of_label end) = IsLabel r.words × TakesNothing r.source × IsLabelEnd (looked drive old new) end
+IsCaused r drive old new (of_list end) = IsList r.words × TakesNothing r.source × IsListEnd (looked drive old new) end
+IsCaused r drive old new (of_format end) =
+    (asked : FormatWords) × IsFormatWords r.words asked × TakesNothing r.source
+    × IsFormatEnd drive asked r.gives old new end
 
 -- a status and a text are told; or the sink's count rose, and a front of that text was written
 abbrev pub IsTold : (wanted : ℕ) → (text : List ℕ) → Written → (status : ℕ) → Type 0

@@ -14,10 +14,13 @@ use Rattle.tape_meaning.specs.Carried.{Carried}
 use Rattle.tape_meaning.specs.Labels.{HasLabels}
 use Rattle.tape_meaning.specs.Meaning.{Found, Reads}
 use Rattle.tape_meaning.specs.declared.labels.Labels.{Labels}
-use Rattle.server_words.specs.Forms.{HasNoForm, IsLabel, IsList, IsPlain, IsPlainWords}
+use Rattle.format_volume.specs.Writes.{Goes}
+use Rattle.server_words.specs.Forms.{HasNoForm, IsFormat, IsFormatWords, IsLabel, IsList, IsPlain, IsPlainWords}
+use Rattle.server_words.specs.declared.volumes.FormatWords.{FormatWords}
+use Rattle.ltfs_server.specs.Formats.{AlwaysFits, FormatEnd, IsFormatEnd, IsFormattedAs, IsFullPrinted, NeverFits, formatted_text}
 use Rattle.ltfs_server.specs.Headline.{AreLabelsPrinted, IsCheckPrinted, IsDriveFaultPrinted, IsListingPrinted}
 use Rattle.ltfs_server.specs.Headline.{IsMountFaultPrinted, IsPartPrinted, IsPlainRun, IsPrinted, IsReadFaultPrinted, IsRefusalPrinted}
-use Rattle.ltfs_server.specs.Outcomes.{Ending, EndsAs, IsCaused, IsLabelEnd, IsListEnd, IsPlainEnd, LabelEnd, ListEnd, of_label, of_list, of_plain}
+use Rattle.ltfs_server.specs.Outcomes.{Ending, EndsAs, IsCaused, IsLabelEnd, IsListEnd, IsPlainEnd, LabelEnd, ListEnd, of_format, of_label, of_list, of_plain}
 use Rattle.ltfs_server.specs.Runs.{Gives, IsOneOf, IsRunOf, Taken, TakesNothing, Written, looked}
 use Rattle.ltfs_server.specs.declared.plain.PlainEnd.{PlainEnd}
 
@@ -87,6 +90,28 @@ pub record DoesList {D : Type 0} (drive : Ghosts D) (old new : D) (sink : Writte
   pub no_log : log ≡ None
   pub told : (end : ListEnd) × IsListEnd (looked drive old new) end × EndsAs (of_list end) sink status log
 
+-- `format`, with the values of the words, of whatever cartridge the drive held
+pub record DoesFormat {D : Type 0} (asked : FormatWords) (gives : Gives) (drive : Ghosts D) (old new : D)
+    (sink : Written) (status : ℕ) (log : Option Log) : Type 0 where
+  pub statuses : IsOneOf status (0 ∷ 4 ∷ 6 ∷ 7 ∷ 8 ∷ [])
+  -- the cartridge is the empty volume that was asked for, and its UUID is told
+  pub done : status ≡ 0 → IsFormattedAs drive asked gives old new × Appends sink.old sink.new (formatted_text asked.volume.uuid)
+  -- a volume without room is told by its numbers, unless the sink fails or memory is refused, and only such a volume
+  pub full : NeverFits asked gives (drive.limits old) → IsOneOf status (6 ∷ 7 ∷ 8 ∷ [])
+  pub only_full : status ≡ 8 → IsFullPrinted asked gives (drive.limits old) sink.old sink.new × (new ≡ old)
+  pub only_drive : status ≡ 4 → IsDriveFaultPrinted (drive.faults old) (drive.faults new) sink.old sink.new
+  pub only_write : status ≡ 6 → Rose sink.before sink.now
+  pub memory : status ≡ 7 → Appends sink.old sink.new (codes "memory\n")
+  -- with room and no fault all is done, unless memory is refused
+  pub complete : ¬ (Rose (drive.faults old) (drive.faults new)) → ¬ (Rose sink.before sink.now)
+      → AlwaysFits asked gives (drive.limits old) → IsOneOf status (0 ∷ 7 ∷ [])
+  -- without a fault of the drive it is as it was, unless all is done
+  pub untouched : IsOneOf status (7 ∷ 8 ∷ []) → ¬ (Rose (drive.faults old) (drive.faults new)) → new ≡ old
+  -- whatever comes of it: the limits stay, and a drive that doesn't tell doesn't begin to
+  pub goes : Goes drive old new
+  pub no_log : log ≡ None
+  pub told : (end : FormatEnd) × IsFormatEnd drive asked gives old new end × EndsAs (of_format end) sink status log
+
 -- words of no form
 pub record RefusesWords {D : Type 0} (sink : Written) (old new : D) (status : ℕ) (log : Option Log) : Type 0 where
   pub statuses : IsOneOf status (1 ∷ 6 ∷ 7 ∷ [])
@@ -96,15 +121,20 @@ pub record RefusesWords {D : Type 0} (sink : Written) (old new : D) (status : �
   pub drive : new ≡ old
   pub no_log : log ≡ None
 
+-- the words are those of a command that goes to the drive
+abbrev pub AskForDrive : List (String Global) → Type 0
+AskForDrive words = IsLabel words ⊎ (IsList words ⊎ IsFormat words)
+
 -- of which words a status or a log may come
 pub record ComesOf (words : List (String Global)) (status : ℕ) (log : Option Log) : Type 0 where
-  pub statuses : IsOneOf status (0 ∷ 1 ∷ 2 ∷ 3 ∷ 4 ∷ 5 ∷ 6 ∷ 7 ∷ [])
-  pub done : status ≡ 0 → IsPlain words ⊎ (IsLabel words ⊎ IsList words)
+  pub statuses : IsOneOf status (0 ∷ 1 ∷ 2 ∷ 3 ∷ 4 ∷ 5 ∷ 6 ∷ 7 ∷ 8 ∷ [])
+  pub done : status ≡ 0 → IsPlain words ⊎ AskForDrive words
   pub refused : status ≡ 1 → HasNoForm words
   pub script : status ≡ 2 → IsPlain words
   pub volume : status ≡ 3 → IsLabel words ⊎ IsList words
-  pub drive : status ≡ 4 → IsLabel words ⊎ IsList words
+  pub drive : status ≡ 4 → AskForDrive words
   pub read : status ≡ 5 → IsPlain words
+  pub full : status ≡ 8 → IsFormat words
   pub logged : IfSome log (λ l. IsPlain words)
 
 -- all of it, for words that are known once they are read
@@ -113,9 +143,10 @@ pub record DoesAsked {D : Type 0} (words : List (String Global)) (gives : Gives)
   pub plain : (at : Option Moment) → IsPlainWords words at → DoesPlain at gives source sink old new status log
   pub label : IsLabel words → DoesLabel drive old new sink status log
   pub list : IsList words → DoesList drive old new sink status log
+  pub format : (asked : FormatWords) → IsFormatWords words asked
+      → DoesFormat asked gives drive old new sink status log
   pub no_form : HasNoForm words → RefusesWords sink old new status log
   pub unread : ¬ (IsPlain words) → TakesNothing source
   pub comes : ComesOf words status log
-  pub told : (e : Ending)
-      × IsCaused (record { words = words; gives = gives; source = source; drive = looked drive old new }) e
+  pub told : (e : Ending) × IsCaused (record { words = words; gives = gives; source = source }) drive old new e
       × EndsAs e sink status log

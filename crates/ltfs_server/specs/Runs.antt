@@ -59,12 +59,11 @@ written sink old new = record {
   now = sink.faults new;
 }
 
--- a run by its words, what its clock may give, its source and its drive
+-- a run by its words, what its clock may give, and its source
 pub record Run : Type 1 where
   pub words : List (String Global)
   pub gives : Gives
   pub source : Taken
-  pub drive : Looked
 
 -- The log is that of such a run of the script that all the bytes spell that the source had left, and these were read to
 -- their end.

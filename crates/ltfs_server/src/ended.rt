@@ -5,7 +5,7 @@ use tape_drive::Drive;
 #[derive(Drop)]
 pub struct Ended<D: Drive> {
     /// 0 done, 1 faulty words, 2 faulty script, 3 no volume, 4 failed drive, 5 failed read, 6 failed write, 7 want of
-    /// memory.
+    /// memory, 8 too few positions.
     pub status: u8,
     /// The drive, as the run has left it.
     pub drive: D,

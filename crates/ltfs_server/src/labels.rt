@@ -126,7 +126,8 @@ fn label_check_text(alloc: Global, check: &str, part: Part) -> Result<Bytes, NoM
     Ok(bytes_of(format!(in alloc; "{check}{part}\n")?))
 }
 
-fn drive_text(alloc: Global, counts: Twin) -> Result<Bytes, NoMemory>
+/// That the drive failed, with its counts of faults before and after.
+pub fn drive_text(alloc: Global, counts: Twin) -> Result<Bytes, NoMemory>
     ensures { IfOk result (λ text. text ≡ mount_text (MountErr.Drive counts)) }
 {
     let Twin { before, after } = counts;

@@ -2,6 +2,7 @@
 #![tactic(auto)]
 
 mod ended;
+mod formats;
 mod labels;
 mod lists;
 mod plain;

@@ -1,11 +1,14 @@
 ghost use Rattle.std.specs.Prelude.{Option};
 ghost use Rattle.tape_types.specs.declared.moments.Moment.{Moment as Instant};
-ghost use Rattle.server_words.specs.Forms.{HasNoForm, IsLabel, IsList, IsPlain, IsPlainWords};
+ghost use Rattle.server_words.specs.Forms.{HasNoForm, IsFormatWords, IsLabel, IsList, IsPlain, IsPlainWords};
+ghost use Rattle.server_words.specs.declared.volumes.FormatWords.{FormatWords};
 ghost use Rattle.ltfs_server.specs.Outcomes.{Ending, EndsAs, IsCaused};
-ghost use Rattle.ltfs_server.specs.Promises.{ComesOf, DoesAsked, DoesLabel, DoesList, DoesPlain, RefusesWords};
-ghost use Rattle.ltfs_server.specs.Runs.{TakesNothing, looked, taken, written};
+ghost use Rattle.ltfs_server.specs.Promises.{ComesOf, DoesAsked, DoesFormat, DoesLabel, DoesList};
+ghost use Rattle.ltfs_server.specs.Promises.{DoesPlain, RefusesWords};
+ghost use Rattle.ltfs_server.specs.Runs.{TakesNothing, taken, written};
 
 use crate::ended::Ended;
+use crate::formats::run_format;
 use crate::labels::run_label;
 use crate::lists::run_list;
 use crate::plain::run_plain;
@@ -34,6 +37,10 @@ pub fn run<D: Drive, S: Source, K: Sink, C: Clock>(
     // `list` prints the tree as which the cartridge reads, or which check fails, and only looks at it.
     ensures list { IsList words.now.items
         → DoesList D.Drive drive result.drive (written K.Sink out.old out.new) result.status result.log }
+    // `format` makes the cartridge in the drive the empty volume of the words, or tells why not.
+    ensures format { (asked : FormatWords) → IsFormatWords words.now.items asked
+        → DoesFormat asked (C.gives clock) D.Drive drive result.drive (written K.Sink out.old out.new)
+        result.status result.log }
     // Words of no form are told, and nothing is done.
     ensures no_form { HasNoForm words.now.items
         → RefusesWords (written K.Sink out.old out.new) drive result.drive result.status result.log }
@@ -46,8 +53,7 @@ pub fn run<D: Drive, S: Source, K: Sink, C: Clock>(
       words = words.now.items;
       gives = C.gives clock;
       source = taken S.Source script.old script.new;
-      drive = looked D.Drive drive result.drive;
-    }) e
+    }) D.Drive drive result.drive e
         × EndsAs e (written K.Sink out.old out.new) result.status result.log }
 {
     run_asked(alloc, words, drive, script, out, clock)
@@ -70,6 +76,7 @@ fn run_asked<D: Drive, S: Source, K: Sink, C: Clock>(
         Ok(Command::Plain { at }) => run_plain(alloc, at, drive, script, out, clock),
         Ok(Command::Label) => run_label(alloc, drive, out),
         Ok(Command::List) => run_list(alloc, drive, out),
+        Ok(Command::Format(asked)) => run_format(alloc, asked, drive, out, clock),
         Err(WordsErr::Form) => tell(out, b"words\n", 1, None, drive),
         Err(WordsErr::NoMemory) => tell(out, b"memory\n", 7, None, drive),
     }

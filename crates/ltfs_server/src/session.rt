@@ -47,7 +47,7 @@ pub fn run_script<C: Clock>(
 }
 
 /// The given moment, or else the clock's next.
-fn moment<C: Clock>(at: Option<Moment>, clock: &mut C) -> Moment
+pub fn moment<C: Clock>(at: Option<Moment>, clock: &mut C) -> Moment
     ensures given { IsMoment at (C.gives clock.old) 0 result }
     ensures later { at ≡ None → (n : ℕ) (m : Instant) → C.gives clock.new n m → C.gives clock.old (n + 1) m }
 {

@@ -507,3 +507,124 @@ fn failures_of_a_listing_are_told(rt: HostRuntime) -> Result<(), NoMemory> {
     check_listed(&rt, alloc, List::new(alloc), &[1], 6, "")?;
     Ok(())
 }
+
+const FORMAT: &str =
+    "format D TAPE01 30a91a08-daae-48d1-ae75-69804e61d2ea --block 4096 --at 2024-01-02T03:04:05.000000000Z";
+
+const FORMATTED: &str = "formatted 30a91a08-daae-48d1-ae75-69804e61d2ea\n";
+
+/// These words, run on a drive, end with this status and this output.
+fn check_next<R: Abort>(
+    rt: &R,
+    alloc: Global,
+    drive: MemDrive,
+    words: &str,
+    status: u8,
+    output: &str,
+) -> Result<MemDrive, NoMemory> {
+    let (ended, sink) = ran(alloc, words, drive, "", &[], &[])?;
+    assert_eq!(rt; sink.bytes().as_slice(), output.as_bytes());
+    assert_eq!(rt; ended.status, status);
+    Ok(ended.drive)
+}
+
+#[test]
+fn a_formatted_cartridge_is_labelled_and_listed(rt: HostRuntime) -> Result<(), NoMemory> {
+    let alloc = rt.alloc();
+    let drive = drive_of(alloc, b"", b"", List::new(alloc))?;
+    let drive = check_next(&rt, alloc, drive, FORMAT, 0, FORMATTED)?;
+    let both =
+        "ip TAPE01 a 30a91a08-daae-48d1-ae75-69804e61d2ea 4096 false 2024-01-02T03:04:05.000000000Z\n\
+dp TAPE01 b 30a91a08-daae-48d1-ae75-69804e61d2ea 4096 false 2024-01-02T03:04:05.000000000Z\n";
+    let drive = check_next(&rt, alloc, drive, "label D", 0, both)?;
+    let tree = "d 1 /\ngeneration 1 b 5\n";
+    let drive = check_next(&rt, alloc, drive, "list D", 0, tree)?;
+    assert_eq!(rt; drive.faults(), 0);
+    Ok(())
+}
+
+#[test]
+fn a_used_cartridge_is_formatted(rt: HostRuntime) -> Result<(), NoMemory> {
+    let alloc = rt.alloc();
+    let drive = drive_of(alloc, b"vmammym", b"vmbmmpmhmxm", List::new(alloc))?;
+    let words = "format D --ip-size=0 NEW001 00000000-0000-0000-0000-00000000000A";
+    let drive = check_next(
+        &rt,
+        alloc,
+        drive,
+        words,
+        0,
+        "formatted 00000000-0000-0000-0000-00000000000a\n",
+    )?;
+    let drive = check_next(&rt, alloc, drive, "list D", 0, "d 1 /\ngeneration 1 b 5\n")?;
+    let both =
+        "ip NEW001 a 00000000-0000-0000-0000-00000000000a 524288 false 1970-01-01T00:00:00.000000000Z\n\
+dp NEW001 b 00000000-0000-0000-0000-00000000000a 524288 false 1970-01-01T00:00:00.000000000Z\n";
+    let _drive = check_next(&rt, alloc, drive, "label D", 0, both)?;
+    Ok(())
+}
+
+/// A drive with a blank cartridge, whose data partition has so many positions. Its commands of these numbers fail.
+fn blank(alloc: Global, cap_dp: u64, fails: &[Listed]) -> Result<MemDrive, NoMemory>
+    requires least { 4 ≤ cap_dp }
+    requires most { cap_dp ≤ 1000 }
+{
+    let held = Cartridge {
+        ip: List::new(alloc),
+        dp: List::new(alloc),
+        vcr: 0,
+        note_ip: Note::Absent,
+        note_dp: Note::Absent,
+    };
+    let limits = Limits {
+        cap_ip: 1000,
+        cap_dp,
+    };
+    let fails = List::from_vec(Vec::from_slice(alloc, fails)?);
+    Ok(MemDrive::new(alloc, held, limits, fails))
+}
+
+/// `format` with these options, of a blank cartridge, is refused so, and before any command.
+fn check_refused<R: Abort>(
+    rt: &R,
+    alloc: Global,
+    more: &str,
+    cap_dp: u64,
+    status: u8,
+    output: &str,
+) -> Result<(), NoMemory>
+    requires least { 4 ≤ cap_dp }
+    requires most { cap_dp ≤ 1000 }
+{
+    let words = format!(in alloc; "{FORMAT}{more}")?;
+    let drive = blank(alloc, cap_dp, &[])?;
+    let drive = check_next(rt, alloc, drive, words.as_str(), status, output)?;
+    assert_eq!(rt; drive.commands(), 0);
+    Ok(())
+}
+
+#[test]
+fn a_format_is_refused_before_any_command(rt: HostRuntime) -> Result<(), NoMemory> {
+    let alloc = rt.alloc();
+    check_refused(&rt, alloc, "", 6, 8, "full 7 6\n")?;
+    check_refused(&rt, alloc, "", 4, 8, "full 7 4\n")?;
+    check_refused(&rt, alloc, " --name=a/b", 6, 1, "words\n")?;
+    check_refused(&rt, alloc, " --ip-names x", 1000, 1, "words\n")?;
+    check_refused(&rt, alloc, " --block 4096", 1000, 1, "words\n")
+}
+
+#[test]
+fn a_failed_format_is_told(rt: HostRuntime) -> Result<(), NoMemory> {
+    let alloc = rt.alloc();
+    let note = Listed {
+        kind: Cmd::WriteNote,
+        nth: 2,
+    };
+    let drive = blank(alloc, 1000, &[note])?;
+    let drive = check_next(&rt, alloc, drive, FORMAT, 4, "drive 0 1\n")?;
+    let drive = check_next(&rt, alloc, drive, FORMAT, 0, FORMATTED)?;
+    let (ended, sink) = ran(alloc, FORMAT, drive, "", &[], &[1])?;
+    assert_eq!(rt; ended.status, 6);
+    assert_eq!(rt; sink.bytes().len(), 0);
+    Ok(())
+}

@@ -16,7 +16,9 @@ use Rattle.clap.specs.declared.error.kind.ErrorKind.TheVariants as kinds
 use Rattle.tape_types.specs.Times.{time_text}
 use Rattle.tape_types.specs.declared.moments.Moment.{Moment}
 use Rattle.tape_types.proofs.CivilLemmas.{time_text_injective}
-use Rattle.server_words.specs.Forms.{HasNoForm, IsLabel, IsList, IsMomentGiven, IsMomentOf, IsOfFolder, IsPlain, IsPlainForm, IsPlainWords, IsReadAs, IsSpelledBy, IsTakenAs, Takes, bare, with_moment}
+use Rattle.server_words.specs.Forms.{HasNoForm, IsBehindFolder, IsFormat, IsLabel, IsList, IsPlain, IsPlainForm, IsPlainWords, IsReadAs, IsSpelledBy, IsTakenAs, IsVolumeAsked}
+use Rattle.server_words.specs.Options.{IsMomentGiven, IsMomentRead, Takes, bare, with_moment}
+use Rattle.server_words.specs.Volumes.{IsVolumeForm}
 use Rattle.server_words.specs.declared.forms.WordsErr.{WordsErr}
 use Rattle.server_words.specs.declared.forms.WordsErr.TheVariants as errors
 use Rattle.server_words.specs.declared.reading.Command.{Command}
@@ -29,11 +31,27 @@ apart words one other more rest differ is are =
     let same : one ≡ other = ap (λ (w : List Text). get_or w 0 []) (sym is ∙ are) in
     let both : false ≡ true = sym differ ∙ (bytes_eq-Decides one other).1 same in cc both
 
-pub plain_or_folder : (words : List (String Global)) (name : Text) → bytes_eq (codes "plain") name ≡ false → IsPlain words → IsOfFolder name words → ⊥
-plain_or_folder words name differ plain other = apart words (codes "plain") name _ _ differ plain.1.1 other.2
+-- the first word
+abbrev pub IsNamed : Text → List (String Global) → Type 0
+IsNamed name words = (more : List Text) × (map string_bytes words ≡ name ∷ more)
 
-pub two_folders : (words : List (String Global)) (one other : Text) → bytes_eq one other ≡ false → IsOfFolder one words → IsOfFolder other words → ⊥
-two_folders words one other differ a b = apart words one other _ _ differ a.2 b.2
+pub names_differ : (words : List (String Global)) (one other : Text) → bytes_eq one other ≡ false → IsNamed one words → IsNamed other words → ⊥
+names_differ words one other differ a b = apart words one other a.0 b.0 differ a.1 b.1
+
+pub plain_named : (words : List (String Global)) → IsPlain words → IsNamed (codes "plain") words
+plain_named words plain = (plain.1.0, plain.1.1)
+
+pub behind_named : (name : Text) (form : List Text → Type 0) (words : List (String Global)) → IsBehindFolder name form words → IsNamed name words
+behind_named name form words is = (is.0 ∷ is.1, is.2)
+
+pub label_named : (words : List (String Global)) → IsLabel words → IsNamed (codes "label") words
+label_named words is = behind_named (codes "label") (Takes (bare (codes "label"))) words is
+
+pub list_named : (words : List (String Global)) → IsList words → IsNamed (codes "list") words
+list_named words is = behind_named (codes "list") (Takes (bare (codes "list"))) words is
+
+pub format_named : (words : List (String Global)) → IsFormat words → IsNamed (codes "format") words
+format_named words is = behind_named (codes "format") (λ more. IsVolumeForm more is.0) words is.1
 
 rest_of : (k : ℕ) (words : List (String Global)) → take (length words - k) (drop k words) ≡ drop k words
 rest_of k words = take_all (length words - k) (drop k words) (subst (λ n. n ≤ length words - k) (sym (length-drop k words)) (omega arith))
@@ -76,16 +94,13 @@ plain_form app words found text at same is value given = record {
   moment = subst (λ (t : Option Text). IsMomentGiven t at) (value ∙ first_value-rows (found_of found) (codes "at") ∙ ap (first_of (codes "at")) (is.1 ∙ ap (λ (a : App). matches_of a words) same)) given;
 }
 
--- no moment, where that text tells none
-pub no_form : (app : App) (words : List Text) (found : ArgMatches) (text : Text)
+-- where no moment is read of that text
+pub plain_unread : (app : App) (words : List Text) (found : ArgMatches) (text : Option Text) (e : WordsErr)
     → app ≡ with_moment (bare (codes "plain")) → Takes app words × (rows_of (found_of found) ≡ matches_of app words)
-    → Some text ≡ first_value (found_of found) (codes "at") → IsMomentOf text None → ((at : Option Moment) × IsPlainForm words at) → ⊥
-no_form app words found text same is value none (at, form) =
-    go at (subst (λ (t : Option Text). IsMomentGiven t at) (sym (value ∙ first_value-rows (found_of found) (codes "at") ∙ ap (first_of (codes "at")) (is.1 ∙ ap (λ (a : App). matches_of a words) same))) form.moment)
-  where
-    go : (at : Option Moment) → IsMomentGiven (Some text) at → ⊥
-    go None given = given
-    go (Some at) given = none at given.0 given.1
+    → text ≡ first_value (found_of found) (codes "at") → IsMomentRead text (Err e) → IsReadAs words (Err e)
+plain_unread app words found text errors.Form same is value none = λ plain. none plain.0
+    (subst (λ (t : Option Text). IsMomentGiven t plain.0) (sym (value ∙ first_value-rows (found_of found) (codes "at") ∙ ap (first_of (codes "at")) (is.1 ∙ ap (λ (a : App). matches_of a words) same))) plain.1.moment)
+plain_unread app words found text errors.NoMemory same is value none = tt
 
 -- words have one moment
 pub one_form : (words : List (String Global)) (one other : Option Moment) → IsPlainWords words one → IsPlainWords words other → one ≡ other
@@ -99,32 +114,54 @@ pub plain_spelled : (words : List (String Global)) (more : List Text) (r : Resul
 plain_spelled words more (Ok (commands.Plain at)) is form = (more, is, form)
 plain_spelled words more (Ok commands.Label) is form = absurd form
 plain_spelled words more (Ok commands.List) is form = absurd form
-plain_spelled words more (Err errors.Form) is none = record {
-  no_plain = λ plain. none (plain.0, subst (λ w. IsPlainForm w plain.0) (ap (drop 1) (sym plain.1.1 ∙ is)) plain.1.2);
-  no_label = λ label. apart words (codes "plain") (codes "label") _ _ refl is label.2;
-  no_list = λ list. apart words (codes "plain") (codes "list") _ _ refl is list.2;
-}
+plain_spelled words more (Ok (commands.Format asked)) is form = absurd form
+plain_spelled words more (Err errors.Form) is none =
+    let named : IsNamed (codes "plain") words = (more, is) in record {
+      no_plain = λ plain. none (plain.0, subst (λ w. IsPlainForm w plain.0) (ap (drop 1) (sym plain.1.1 ∙ is)) plain.1.2);
+      no_label = λ label. names_differ words (codes "plain") (codes "label") refl named (label_named words label);
+      no_list = λ list. names_differ words (codes "plain") (codes "list") refl named (list_named words list);
+      no_format = λ format. names_differ words (codes "plain") (codes "format") refl named (format_named words format);
+    }
 plain_spelled words more (Err errors.NoMemory) is none = tt
 
 pub label_spelled : (words : List (String Global)) (folder : Text) (more : List Text) (r : Result Command WordsErr) → map string_bytes words ≡ codes "label" ∷ folder ∷ more
     → IsTakenAs (bare (codes "label")) more commands.Label r → IsSpelledBy words r
 label_spelled words folder more (Ok command) is takes = subst (λ (k : Command). IsSpelledBy words (Ok k)) (sym takes.0) (folder, more, is, takes.1)
-label_spelled words folder more (Err errors.Form) is none = record {
-  no_plain = λ plain. apart words (codes "label") (codes "plain") _ _ refl is plain.1.1;
-  no_label = λ label. none (subst (Takes (bare (codes "label"))) (ap (drop 2) (sym label.2 ∙ is)) label.3);
-  no_list = λ list. apart words (codes "label") (codes "list") _ _ refl is list.2;
-}
+label_spelled words folder more (Err errors.Form) is none =
+    let named : IsNamed (codes "label") words = (folder ∷ more, is) in record {
+      no_plain = λ plain. names_differ words (codes "label") (codes "plain") refl named (plain_named words plain);
+      no_label = λ label. none (subst (Takes (bare (codes "label"))) (ap (drop 2) (sym label.2 ∙ is)) label.3);
+      no_list = λ list. names_differ words (codes "label") (codes "list") refl named (list_named words list);
+      no_format = λ format. names_differ words (codes "label") (codes "format") refl named (format_named words format);
+    }
 label_spelled words folder more (Err errors.NoMemory) is none = tt
 
 pub list_spelled : (words : List (String Global)) (folder : Text) (more : List Text) (r : Result Command WordsErr) → map string_bytes words ≡ codes "list" ∷ folder ∷ more
     → IsTakenAs (bare (codes "list")) more commands.List r → IsSpelledBy words r
 list_spelled words folder more (Ok command) is takes = subst (λ (k : Command). IsSpelledBy words (Ok k)) (sym takes.0) (folder, more, is, takes.1)
-list_spelled words folder more (Err errors.Form) is none = record {
-  no_plain = λ plain. apart words (codes "list") (codes "plain") _ _ refl is plain.1.1;
-  no_label = λ label. apart words (codes "list") (codes "label") _ _ refl is label.2;
-  no_list = λ list. none (subst (Takes (bare (codes "list"))) (ap (drop 2) (sym list.2 ∙ is)) list.3);
-}
+list_spelled words folder more (Err errors.Form) is none =
+    let named : IsNamed (codes "list") words = (folder ∷ more, is) in record {
+      no_plain = λ plain. names_differ words (codes "list") (codes "plain") refl named (plain_named words plain);
+      no_label = λ label. names_differ words (codes "list") (codes "label") refl named (label_named words label);
+      no_list = λ list. none (subst (Takes (bare (codes "list"))) (ap (drop 2) (sym list.2 ∙ is)) list.3);
+      no_format = λ format. names_differ words (codes "list") (codes "format") refl named (format_named words format);
+    }
 list_spelled words folder more (Err errors.NoMemory) is none = tt
+
+pub format_spelled : (words : List (String Global)) (folder : Text) (more : List Text) (r : Result Command WordsErr) → map string_bytes words ≡ codes "format" ∷ folder ∷ more
+    → IsVolumeAsked more r → IsSpelledBy words r
+format_spelled words folder more (Ok (commands.Plain at)) is form = absurd form
+format_spelled words folder more (Ok commands.Label) is form = absurd form
+format_spelled words folder more (Ok commands.List) is form = absurd form
+format_spelled words folder more (Ok (commands.Format asked)) is form = (folder, more, is, form)
+format_spelled words folder more (Err errors.Form) is none =
+    let named : IsNamed (codes "format") words = (folder ∷ more, is) in record {
+      no_plain = λ plain. names_differ words (codes "format") (codes "plain") refl named (plain_named words plain);
+      no_label = λ label. names_differ words (codes "format") (codes "label") refl named (label_named words label);
+      no_list = λ list. names_differ words (codes "format") (codes "list") refl named (list_named words list);
+      no_format = λ format. none format.0 (subst (λ w. IsVolumeForm w format.0) (ap (drop 2) (sym format.1.2 ∙ is)) format.1.3);
+    }
+format_spelled words folder more (Err errors.NoMemory) is none = tt
 
 -- an error of another kind than want of memory tells that the words aren't taken
 pub not_taken : (faults : Kinds) (e : Error) → HasKind faults e → (kind_of e ≡ kinds.OutOfMemory → ⊥) → faults ≡ [] → ⊥

@@ -10,7 +10,8 @@ use Rattle.std.proofs.lemmas.Bool.Decides.{nat_tests}
 use Rattle.tape_types.specs.Times.{civil_text, time_text}
 use Rattle.tape_types.specs.declared.moments.Moment.{Moment}
 use Rattle.tape_edge.specs.Clocks.{IsSince1970}
-use Rattle.server_words.specs.Forms.{IsMomentGiven, IsPlainForm, Takes, bare, value_of, with_moment}
+use Rattle.server_words.specs.Forms.{IsPlainForm}
+use Rattle.server_words.specs.Options.{IsMomentGiven, Takes, bare, value_of, with_moment}
 
 abbrev plain : App
 plain = with_moment (bare (codes "plain"))

@@ -1,12 +1,14 @@
 //! The words behind a command's name and its folder, by clap.
 
-ghost use Rattle.std.specs.Prelude.{◌≡◌, true, map, IfOk, string_bytes};
-ghost use Rattle.clap.specs.Words.{app_of, is_simple_and_free};
-ghost use Rattle.server_words.specs.Forms.{IsFoundIn, bare, with_moment};
+ghost use Rattle.std.specs.Prelude.{◌≡◌, true, false, map, IfOk, string_bytes};
+ghost use Rattle.clap.specs.Words.{app_of, is_simple_and_free, rule_of};
+ghost use Rattle.server_words.specs.Options.{IsFoundIn, bare, option, positional, with_moment};
+ghost use Rattle.server_words.specs.Volumes.{format_app, with_policy, with_sizes, with_volume};
 
 use clap::error::ErrorKind;
 use clap::{Arg, ArgAction, ArgMatches};
 use std::alloc::{AllocError, Global};
+use tape_types::NoMemory;
 
 /// Why it isn't known what words ask for.
 #[derive(Clone, Copy, Debug, PartialEq, Eq)]
@@ -15,6 +17,28 @@ pub enum WordsErr {
     Form,
     /// Memory was refused.
     NoMemory,
+}
+
+impl From<AllocError> for WordsErr {
+    ghost use Rattle.std.specs.Prelude.{◌≡◌};
+    ghost use Rattle.server_words.specs.declared.forms.WordsErr.TheVariants as errors;
+
+    ghost from_gives = { λ _ e. e ≡ errors.NoMemory };
+
+    fn from(_e: AllocError) -> WordsErr {
+        WordsErr::NoMemory
+    }
+}
+
+impl From<NoMemory> for WordsErr {
+    ghost use Rattle.std.specs.Prelude.{◌≡◌};
+    ghost use Rattle.server_words.specs.declared.forms.WordsErr.TheVariants as errors;
+
+    ghost from_gives = { λ _ e. e ≡ errors.NoMemory };
+
+    fn from(_e: NoMemory) -> WordsErr {
+        WordsErr::NoMemory
+    }
 }
 
 /// A command that takes no word and no option.
@@ -33,8 +57,63 @@ pub fn command_with_moment<'a>(
 ) -> Result<clap::Command<'a>, AllocError>
     ensures { IfOk result (λ c. app_of c ≡ with_moment (bare name.now)) }
 {
-    let at = Arg::new(alloc, "at").long("at").action(ArgAction::Set);
-    bare_command(alloc, name).arg(at)
+    bare_command(alloc, name).arg(option(alloc, "at"))
+}
+
+/// The command `format`: two words, and five options.
+pub fn format_command<'a>(alloc: Global) -> Result<clap::Command<'a>, AllocError>
+    ensures { IfOk result (λ c. app_of c ≡ format_app) }
+{
+    let command = add_volume(alloc, bare_command(alloc, "format"))?;
+    let command = add_sizes(alloc, command)?;
+    let command = add_policy(alloc, command)?;
+    command.arg(option(alloc, "at"))
+}
+
+fn add_volume<'a>(
+    alloc: Global,
+    command: clap::Command<'a>,
+) -> Result<clap::Command<'a>, AllocError>
+    ensures { IfOk result (λ c. app_of c ≡ with_volume (app_of command.entry)) }
+{
+    command
+        .arg(positional(alloc, "volid"))?
+        .arg(positional(alloc, "uuid"))
+}
+
+fn add_sizes<'a>(alloc: Global, command: clap::Command<'a>) -> Result<clap::Command<'a>, AllocError>
+    ensures { IfOk result (λ c. app_of c ≡ with_sizes (app_of command.entry)) }
+{
+    command
+        .arg(option(alloc, "block"))?
+        .arg(option(alloc, "name"))
+}
+
+fn add_policy<'a>(
+    alloc: Global,
+    command: clap::Command<'a>,
+) -> Result<clap::Command<'a>, AllocError>
+    ensures { IfOk result (λ c. app_of c ≡ with_policy (app_of command.entry)) }
+{
+    command
+        .arg(option(alloc, "ip-size"))?
+        .arg(option(alloc, "ip-names"))
+}
+
+/// An option with one value.
+fn option<'a>(alloc: Global, name: &'a str) -> Arg<'a>
+    ensures rule { rule_of result ≡ option name.now }
+    ensures global { result.global ≡ false }
+{
+    Arg::new(alloc, name).long(name).action(ArgAction::Set)
+}
+
+/// A word that has to stand.
+fn positional<'a>(alloc: Global, name: &'a str) -> Arg<'a>
+    ensures rule { rule_of result ≡ positional name.now }
+    ensures global { result.global ≡ false }
+{
+    Arg::new(alloc, name).required(true).action(ArgAction::Set)
 }
 
 /// What a command finds in words.

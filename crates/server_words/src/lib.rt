@@ -6,7 +6,9 @@ mod laws;
 mod reading;
 #[cfg(test)]
 mod tests;
+mod volumes;
 
 pub use forms::WordsErr;
 pub use laws::words_are_forms;
 pub use reading::{Command, read_words};
+pub use volumes::FormatWords;

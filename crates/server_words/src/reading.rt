@@ -1,12 +1,14 @@
 ghost use Rattle.std.specs.Prelude.{◌≡◌, codes, map, string_bytes};
-ghost use Rattle.server_words.specs.Forms.{IsMomentOf, IsReadAs, IsSpelledBy, IsTakenAs, bare, with_moment};
+ghost use Rattle.server_words.specs.Forms.{IsReadAs, IsSpelledBy, IsTakenAs, IsVolumeAsked};
+ghost use Rattle.server_words.specs.Options.{bare};
 
 use crate::forms::{WordsErr, bare_command, command_with_moment, find_in};
+use crate::volumes::{FormatWords, read_at, read_volume};
 use std::alloc::Global;
-use tape_types::{Moment, parse_time};
+use tape_types::Moment;
 
 /// What the words of a command line ask for.
-#[derive(Clone, Copy)]
+#[derive(Drop)]
 pub enum Command {
     /// `plain`, which runs a script on a plain tree. Every moment is the given one, or else the clock's.
     Plain { at: Option<Moment> },
@@ -14,6 +16,8 @@ pub enum Command {
     Label,
     /// `list`, which lists the tree for which the cartridge stands.
     List,
+    /// `format`, which makes the cartridge this empty volume.
+    Format(FormatWords),
 }
 
 /// What words ask for, without the program's name.
@@ -40,6 +44,9 @@ pub fn read_words(alloc: Global, words: &[String]) -> Result<Command, WordsErr>
     if name == "list" {
         return read_bare(alloc, "list", &words[2..], Command::List);
     }
+    if name == "format" {
+        return read_format(alloc, &words[2..]);
+    }
     Err(WordsErr::Form)
 }
 
@@ -54,12 +61,9 @@ fn read_plain(alloc: Global, words: &[String]) -> Result<Command, WordsErr>
         Ok(found) => found,
         Err(error) => return Err(error),
     };
-    match found.get_str("at") {
-        None => Ok(Command::Plain { at: None }),
-        Some(text) => match read_moment(text) {
-            Some(at) => Ok(Command::Plain { at: Some(at) }),
-            None => Err(WordsErr::Form),
-        },
+    match read_at(found.get_str("at")) {
+        Ok(at) => Ok(Command::Plain { at }),
+        Err(error) => Err(error),
     }
 }
 
@@ -78,12 +82,12 @@ fn read_bare(
     }
 }
 
-/// The moment that a text tells, where it is one of the years 1970 to 9999.
-fn read_moment(text: &str) -> Option<Moment>
-    ensures { IsMomentOf text.now result }
+/// The command `format`, where its words follow its folder.
+fn read_format(alloc: Global, words: &[String]) -> Result<Command, WordsErr>
+    ensures { IsVolumeAsked (map string_bytes words.now) result }
 {
-    match parse_time(text.as_bytes()) {
-        Some(at) => { if at.secs >= 0 { Some(at) } else { None } }
-        None => None,
+    match read_volume(alloc, words) {
+        Ok(asked) => Ok(Command::Format(asked)),
+        Err(error) => Err(error),
     }
 }

@@ -1,5 +1,5 @@
 use Rattle.std.proofs.Common.{refl, arith}
-use Rattle.ltfs_server.proofs.Asked.{asked_label, asked_list, asked_none, asked_plain, form_asked, label_asked, list_asked, memory_asked, plain_asked}
+use Rattle.ltfs_server.proofs.Asked.{asked_format, asked_label, asked_list, asked_none, asked_plain, form_asked, format_asked, label_asked, list_asked, memory_asked, plain_asked}
 use Rattle.ltfs_server.proofs.server.run_asked.Goals as goal
 
 pub returns-in-Ok-Plain : goal.returns-in-Ok-Plain
@@ -15,6 +15,15 @@ pub returns-in-Ok-List : goal.returns-in-Ok-List
 returns-in-Ok-List g c =
     list_asked _ _ _ _ g.D.Drive _ _ _ _ (asked_list _ _ _ c.as_slice.ensures.value c.in-Ok-List.field-0-is c.in-Ok-List.ensures)
     (record { left = refl; faults = refl }) c.run_list.ensures
+
+pub run_format-requires : goal.run_format-requires
+run_format-requires g c =
+    (asked_format _ _ _ c.in-Ok-Format.asked c.as_slice.ensures.value c.in-Ok-Format.field-0-is c.in-Ok-Format.ensures).3.fine
+
+pub returns-in-Ok-Format : goal.returns-in-Ok-Format
+returns-in-Ok-Format g c =
+    format_asked _ _ _ _ g.D.Drive _ _ _ _ c.in-Ok-Format.asked (asked_format _ _ _ c.in-Ok-Format.asked c.as_slice.ensures.value c.in-Ok-Format.field-0-is c.in-Ok-Format.ensures)
+    (record { left = refl; faults = refl }) c.run_format.ensures
 
 pub returns-in-Err-Form : goal.returns-in-Err-Form
 returns-in-Err-Form g c =

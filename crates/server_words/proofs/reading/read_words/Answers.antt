@@ -2,7 +2,7 @@ use Rattle.std.proofs.Common.{rules, arith, codes, sym, ◌∙◌}
 use Rattle.std.proofs.lemmas.Bool.Decides.{nat_tests}
 use Rattle.std.proofs.lemmas.Slice.Eq.{bytes_eq-Decides}
 use Rattle.std.specs.String.{string_bytes}
-use Rattle.server_words.proofs.FormLemmas.{behind, behind_folder, label_spelled, list_spelled, plain_spelled}
+use Rattle.server_words.proofs.FormLemmas.{behind, behind_folder, format_spelled, label_spelled, list_spelled, plain_spelled}
 use Rattle.server_words.proofs.reading.read_words.Goals as goal
 
 pub returns-then-eq : goal.returns-then-eq
@@ -22,3 +22,9 @@ returns-then-eq-3 c =
     let name = sym c.as_str-name.ensures.value ∙ (bytes_eq-Decides c.as_str-name.result.now (codes "list")).0 (sym c.eq-3.ensures ∙ c.if-eq-3.true) in
     let found = behind_folder c.args.words.now _ _ (omega (arith, c.if-words-lt2.false)) c.index-words-0.is name in
     list_spelled c.args.words.now found.0 _ _ found.1 c.read_bare-then-eq-3.ensures
+
+pub returns-then-eq-4 : goal.returns-then-eq-4
+returns-then-eq-4 c =
+    let name = sym c.as_str-name.ensures.value ∙ (bytes_eq-Decides c.as_str-name.result.now (codes "format")).0 (sym c.eq-4.ensures ∙ c.if-eq-4.true) in
+    let found = behind_folder c.args.words.now _ _ (omega (arith, c.if-words-lt2.false)) c.index-words-0.is name in
+    format_spelled c.args.words.now found.0 _ _ found.1 c.read_format.ensures

@@ -2,7 +2,7 @@ use Rattle.std.proofs.Common.{◌≡◌, sym, ◌∙◌, subst, arith}
 use Rattle.std.proofs.lemmas.Int.{ints}
 use Rattle.tape_edge.specs.Clocks.{IsSince1970}
 use Rattle.tape_types.proofs.CivilLemmas.{time_text_injective}
-use Rattle.server_words.proofs.reading.read_moment.Goals as goal
+use Rattle.server_words.proofs.volumes.read_moment.Goals as goal
 
 pub returns-else-at-ge0 : goal.returns-else-at-ge0
 returns-else-at-ge0 c = λ m is since.
