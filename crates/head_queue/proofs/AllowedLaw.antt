@@ -1,5 +1,5 @@
 -- What is picked is what a trail lets come next.
-use Rattle.std.proofs.Common.{◌≡◌, ℕ, Bool, true, false, ◌==◌, ◌&&◌, ◌||◌, nat_eq, List, [], ◌∷◌, ◌++◌, map, Option, Some, None, refl, ap, sym, subst, ◌∙◌, arith}
+use Rattle.std.proofs.Common.{◌≡◌, ℕ, Bool, true, false, ◌&&◌, ◌||◌, nat_eq, List, [], ◌∷◌, ◌++◌, map, Option, Some, None, refl, ap, sym, subst, ◌∙◌}
 use Rattle.std.specs.Option.{option_map}
 use Rattle.std.specs.List.{list_any}
 use Rattle.std.proofs.lemmas.Bool.{eq-eqb}
@@ -12,7 +12,6 @@ use Rattle.head_trail.specs.Waiting.{State, Op, Request, waiting_op, same_part, 
 use Rattle.head_trail.specs.Trail.{fits, asks, takes_request, takes_op}
 use Rattle.head_queue.specs.Waiting.{Waiting, request}
 use Rattle.head_queue.specs.Keys.{keys_at}
-use Rattle.head_queue.specs.Orders.{IsIn}
 use Rattle.head_queue.specs.Picks.{IsPicked, IsOpPicked}
 use Rattle.head_queue.specs.Allowed.{op_place, PicksMayCome}
 

@@ -1,5 +1,5 @@
 -- The requests by arrival: what holds of them, one more that came last, and one less.
-use Rattle.std.proofs.Common.{◌≡◌, ◌≢◌, ℕ, zero, suc, ◌+◌, ◌<◌, ◌≤◌, Bool, true, false, cond, nat_eq, nat_le, not, List, [], ◌∷◌, ◌++◌, length, map, filter, refl, ap, sym, subst, ◌∙◌, arith}
+use Rattle.std.proofs.Common.{◌≡◌, ◌≢◌, ℕ, suc, ◌<◌, ◌≤◌, Bool, true, false, cond, nat_eq, nat_le, List, [], ◌∷◌, ◌++◌, length, map, refl, ap, sym, subst, ◌∙◌, arith}
 use Rattle.std.proofs.lemmas.Bool.{eq-eqb, eqb-true}
 use Rattle.std.proofs.lemmas.Bool.Decides.{nat_tests}
 use Rattle.std.specs.List.{AllByRecursion}
@@ -9,7 +9,7 @@ use Rattle.head_queue.specs.Orders.{IsIn, HasNode}
 use Rattle.head_queue.specs.Queued.{put_in, by_arrival}
 use Rattle.head_queue.specs.Ready.{node_of}
 use Rattle.head_queue.proofs.PathLemmas.{misses_here}
-use Rattle.head_queue.proofs.KeptLemmas.{nodes_both, w_front, w_behind, w_both}
+use Rattle.head_queue.proofs.KeptLemmas.{nodes_both, w_behind}
 
 -- ---- what holds of all
 

@@ -1,5 +1,5 @@
 -- The first request from a place on is the one that the head serves first.
-use Rattle.std.proofs.Common.{◌≡◌, ◌≢◌, ℕ, ◌+◌, ◌*◌, ◌^◌, ◌<◌, ◌≤◌, Bool, true, false, not, cond, nat_lt, List, [], ◌∷◌, ◌++◌, map, Option, Some, None, IsSome, IfSome, IfNone, refl, ap, sym, subst, ◌∙◌, arith, inl, inr, ◌⊎◌}
+use Rattle.std.proofs.Common.{◌≡◌, ◌≢◌, ℕ, ◌+◌, ◌*◌, ◌^◌, ◌<◌, ◌≤◌, true, not, nat_lt, List, [], ◌∷◌, ◌++◌, map, Option, Some, None, IsSome, IfSome, IfNone, refl, ap, sym, subst, ◌∙◌, arith, inl, inr, ◌⊎◌}
 use Rattle.std.proofs.lemmas.Bool.Decides.{nat_tests}
 use Rattle.std.specs.List.{AllByRecursion}
 use Rattle.tape_types.specs.declared.cartridges.Part.{Part}
@@ -9,7 +9,6 @@ use Rattle.tape_types.specs.Cartridges.{other}
 use Rattle.head_queue.specs.declared.entries.Entry.{Entry}
 use Rattle.head_queue.specs.Cuts.{first_of}
 use Rattle.head_queue.specs.Waiting.{Waiting}
-use Rattle.head_queue.specs.Orders.{IsIn}
 use Rattle.head_trail.specs.Waiting.{as_number, same_part}
 use Rattle.head_queue.specs.Keys.{is_upto, key_within, comes_first, stands_in}
 use Rattle.head_queue.specs.Entries.{entry_at, waiting, waiting_at}
@@ -17,7 +16,7 @@ use Rattle.head_queue.specs.Ranks.{rank, rank_of, part_number, IsFit, Rising}
 use Rattle.head_queue.specs.Kept.{AreKept, AreOrdered, IsFirst, IsWalked, IsNoneBefore}
 use Rattle.head_queue.proofs.RingLemmas.{all_behind}
 use Rattle.head_queue.proofs.WalkLemmas.{some_none}
-use Rattle.head_queue.proofs.KeptLemmas.{map_both, w_front, w_behind, w_both, w_map, rising_behind}
+use Rattle.head_queue.proofs.KeptLemmas.{map_both, w_behind, w_both, w_map, rising_behind}
 use Rattle.head_queue.proofs.RankLemmas.{lesser, alike, ahead_first, in_order, digits}
 
 weak : (P Q : Waiting → Type 0) → ((v : Waiting) → P v → Q v) → (ws : List Waiting) → AllByRecursion P ws → AllByRecursion Q ws

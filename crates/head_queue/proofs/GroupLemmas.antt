@@ -1,5 +1,5 @@
 -- The numbers of each owner in one chain: one more, and one less.
-use Rattle.std.proofs.Common.{◌≡◌, ◌≢◌, ℕ, zero, suc, ◌+◌, ◌≤◌, Bool, true, false, cond, nat_eq, not, ◌&&◌, List, [], ◌∷◌, ◌++◌, length, length-append, map, Option, Some, None, IfSome, IfNone, refl, ap, sym, subst, ◌∙◌, append_assoc, arith, inl, inr, ◌⊎◌}
+use Rattle.std.proofs.Common.{◌≡◌, ◌≢◌, ℕ, suc, ◌+◌, ◌≤◌, Bool, true, false, cond, nat_eq, not, ◌&&◌, List, [], ◌∷◌, ◌++◌, length, length-append, map, Option, Some, None, IfSome, IfNone, refl, ap, sym, subst, ◌∙◌, append_assoc, arith, inl, inr, ◌⊎◌}
 use Rattle.std.proofs.lemmas.Bool.{eq-eqb, eqb-true}
 use Rattle.std.specs.List.{AllByRecursion}
 use Rattle.head_queue.specs.declared.newest.Owned.{Owned}
@@ -7,7 +7,7 @@ use Rattle.head_queue.specs.Cuts.{last_of, Misses, Differ, IsCut, IsMember}
 use Rattle.head_queue.specs.Newest.{lookup, Ascending, owner_at, owned_at, number_or, holds, left_over}
 use Rattle.head_queue.specs.Holdings.{owner_of}
 use Rattle.head_queue.specs.Grouped.{Lacks, Begins, Grouped, or_else, last_held, AreGrouped}
-use Rattle.head_queue.proofs.PathLemmas.{misses_front, misses_behind, misses_both, misses_here, differ_more, differ_less}
+use Rattle.head_queue.proofs.PathLemmas.{misses_front, misses_behind, misses_here, differ_more, differ_less}
 use Rattle.head_queue.proofs.RingLemmas.{all_front, all_behind, all_both, last_holds}
 use Rattle.head_queue.proofs.WalkLemmas.{last_is}
 use Rattle.head_queue.proofs.NewestLemmas.{one, other, turned}

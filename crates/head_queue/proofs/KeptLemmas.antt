@@ -1,14 +1,14 @@
 -- What is kept after a request is put in or taken out.
-use Rattle.std.proofs.Common.{◌≡◌, ◌≢◌, ℕ, zero, suc, ◌+◌, ◌*◌, ◌^◌, ◌<◌, ◌≤◌, Bool, true, false, cond, nat_eq, List, [], ◌∷◌, ◌++◌, length, get_or, map, Option, Some, None, IsSome, refl, ap, sym, subst, ◌∙◌, append_assoc, arith, inl, inr, ◌⊎◌}
+use Rattle.std.proofs.Common.{◌≡◌, ◌≢◌, ℕ, zero, suc, ◌+◌, ◌*◌, ◌^◌, ◌<◌, ◌≤◌, Bool, true, false, cond, nat_eq, List, [], ◌∷◌, ◌++◌, length, get_or, map, Option, Some, None, IsSome, refl, ap, sym, subst, ◌∙◌, arith, inl, inr, ◌⊎◌}
 use Rattle.std.proofs.lemmas.Bool.{eq-eqb, eqb-true}
 use Rattle.std.specs.List.{AllByRecursion}
 use Rattle.head_queue.specs.declared.entries.Entry.{Entry}
-use Rattle.head_queue.specs.Cuts.{first_of, last_of, Misses, Differ, IsCut, IsMember}
+use Rattle.head_queue.specs.Cuts.{Misses, Differ, IsCut, IsMember}
 use Rattle.head_queue.specs.Waiting.{Waiting}
-use Rattle.head_queue.specs.Orders.{IsIn, HasNode, IsMore}
+use Rattle.head_queue.specs.Orders.{IsIn, HasNode}
 use Rattle.head_queue.specs.Entries.{entry_at, waiting, waiting_at}
 use Rattle.head_queue.specs.Ranks.{rank, rank_of, Rising, IsFit, part_number}
-use Rattle.head_queue.specs.Kept.{AreKept, AreOrdered, IsPassed, IsWalked, IsNoneBefore}
+use Rattle.head_queue.specs.Kept.{AreKept, IsWalked, IsNoneBefore}
 use Rattle.head_queue.proofs.PathLemmas.{misses_front, misses_behind, misses_both, misses_here, differ_more, differ_less}
 use Rattle.head_queue.proofs.RingLemmas.{all_front, all_behind, all_both}
 use Rattle.head_queue.proofs.WalkLemmas.{find, some_none}

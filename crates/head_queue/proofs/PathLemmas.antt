@@ -1,5 +1,5 @@
 -- Numbers that are linked in both directions: one put between, and one taken out.
-use Rattle.std.proofs.Common.{◌≡◌, ◌≢◌, ℕ, zero, suc, ◌+◌, ◌≤◌, List, [], ◌∷◌, ◌++◌, length, refl, ap, sym, subst, ◌∙◌, arith}
+use Rattle.std.proofs.Common.{◌≡◌, ◌≢◌, ℕ, List, [], ◌∷◌, ◌++◌, length, refl, ap, sym, ◌∙◌}
 use Rattle.head_queue.specs.Cuts.{first_of, last_of, Misses, Differ}
 use Rattle.head_queue.specs.Rings.{IsPath, met_from}
 

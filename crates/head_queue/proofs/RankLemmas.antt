@@ -1,16 +1,8 @@
 -- The order of ranks, and the order in which the head serves.
-use Rattle.std.proofs.Common.{◌≡◌, ◌≢◌, ℕ, ◌+◌, ◌*◌, ◌^◌, ◌<◌, ◌≤◌, Bool, true, false, cond, nat_lt, List, [], ◌∷◌, ◌++◌, refl, ap, sym, subst, ◌∙◌, arith, inl, inr, ◌⊎◌}
+use Rattle.std.proofs.Common.{◌≡◌, ℕ, ◌+◌, ◌*◌, ◌^◌, ◌<◌, ◌≤◌, true, false, nat_lt, List, [], ◌∷◌, ap, arith, inl, inr, ◌⊎◌}
 use Rattle.std.proofs.lemmas.Bool.Decides.{nat_tests}
-use Rattle.std.specs.List.{AllByRecursion}
-use Rattle.std.specs.Ordering.{nat_cmp, is_le}
-use Rattle.std.specs.Cmp.Lexicographic.{slice_cmp}
-use Rattle.tape_types.specs.declared.cartridges.Part.{Part}
-use Rattle.tape_types.specs.declared.cartridges.Part.TheVariants.{Ip, Dp}
-use Rattle.tape_types.specs.declared.cartridges.Place.{Place}
-use Rattle.head_queue.specs.Waiting.{Waiting}
 use Rattle.head_trail.specs.Waiting.{as_number}
-use Rattle.head_queue.specs.Keys.{is_upto, key_within, comes_first}
-use Rattle.head_queue.specs.Ranks.{rank, rank_of, part_number, IsFit}
+use Rattle.head_queue.specs.Keys.{is_upto, key_within}
 
 -- ---- keys
 

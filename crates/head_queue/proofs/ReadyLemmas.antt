@@ -13,7 +13,7 @@ use Rattle.head_queue.specs.Queued.{by_arrival}
 use Rattle.head_queue.specs.Newest.{number_or}
 use Rattle.head_queue.specs.Holdings.{owner_of}
 use Rattle.head_queue.specs.Ready.{AreNumbers, AreReady, node_of, owned}
-use Rattle.head_queue.proofs.PathLemmas.{misses_front, misses_behind, misses_both, misses_here, differ_more, differ_less, differ_behind}
+use Rattle.head_queue.proofs.PathLemmas.{misses_front, misses_behind, misses_here, differ_more, differ_less, differ_behind}
 use Rattle.head_queue.proofs.RingLemmas.{all_front, all_behind, all_both}
 use Rattle.head_queue.proofs.KeptLemmas.{nodes_both, w_front, w_behind, w_both}
 use Rattle.head_queue.proofs.NewestLemmas.{one, other}

@@ -6,7 +6,7 @@ use Rattle.head_queue.specs.declared.links.Link.{Link}
 use Rattle.head_queue.specs.Links.{blank, link_at, after_of, before_of}
 use Rattle.head_queue.specs.Cuts.{first_of, last_of, Misses, Differ, IsCut, IsMember}
 use Rattle.head_queue.specs.Rings.{IsPath, IsRing, met_from}
-use Rattle.head_queue.proofs.PathLemmas.{Puts, Joins, path_more, path_less, path_at, path_after, path_met, path_alike, misses_first, misses_last, misses_front, misses_behind, misses_here, differ_more, differ_less}
+use Rattle.head_queue.proofs.PathLemmas.{Puts, Joins, path_more, path_less, path_at, path_after, path_met, path_alike, misses_first, misses_last, misses_front, misses_behind, differ_more, differ_less}
 
 -- ---- tests of numbers
 

@@ -1,7 +1,7 @@
 -- The way of a head that serves by the pick is at most twice the way of any other.
-use Rattle.std.proofs.Common.{◌≡◌, ◌≢◌, ℕ, suc, ◌+◌, ◌-◌, ◌*◌, ◌<◌, ◌≤◌, Bool, true, false, not, ◌&&◌, nat_lt, List, [], ◌∷◌, ◌++◌, length, map, refl, ap, sym, subst, ◌∙◌, arith, inl, inr, ◌⊎◌}
+use Rattle.std.proofs.Common.{◌≡◌, ◌≢◌, ℕ, ◌+◌, ◌*◌, ◌<◌, ◌≤◌, Bool, true, false, not, ◌&&◌, nat_lt, List, [], ◌∷◌, ◌++◌, map, refl, ap, sym, subst, ◌∙◌, arith, inl, inr, ◌⊎◌}
 use Rattle.std.proofs.lemmas.Bool.Decides.{nat_tests}
-use Rattle.std.specs.List.{AllByRecursion, list_all}
+use Rattle.std.specs.List.{AllByRecursion}
 use Rattle.tape_types.specs.Cartridges.{next}
 use Rattle.tape_types.specs.declared.cartridges.Part.{Part}
 use Rattle.tape_types.specs.declared.cartridges.Place.{Place}
@@ -9,7 +9,7 @@ use Rattle.head_trail.specs.Waiting.{as_number, same_part, request_key, is_least
 use Rattle.head_queue.specs.Cuts.{Misses, Differ}
 use Rattle.head_queue.specs.Waiting.{Waiting, request}
 use Rattle.head_queue.specs.Keys.{is_upto}
-use Rattle.head_queue.specs.Sweeps.{travel_over, way_over, Among, pos_of, IsNext, IsSwept, SweepsAreShort}
+use Rattle.head_queue.specs.Sweeps.{way_over, Among, pos_of, IsSwept, SweepsAreShort}
 use Rattle.head_queue.proofs.PathLemmas.{misses_here, differ_less}
 use Rattle.head_queue.proofs.RingLemmas.{all_front, all_behind, all_both}
 use Rattle.head_queue.proofs.KeptLemmas.{w_front, w_behind, w_both}

@@ -1,5 +1,5 @@
 -- A walk along a chain to a rank: how it begins, goes on and ends.
-use Rattle.std.proofs.Common.{◌≡◌, ◌≢◌, ℕ, zero, suc, ◌+◌, ◌<◌, ◌≤◌, Bool, true, false, cond, nat_eq, List, [], ◌∷◌, ◌++◌, length, map, Option, Some, None, IsSome, refl, ap, sym, subst, ◌∙◌, append_assoc, arith, inl, inr, ◌⊎◌}
+use Rattle.std.proofs.Common.{◌≡◌, ◌≢◌, ℕ, suc, ◌<◌, Bool, true, false, cond, nat_eq, List, [], ◌∷◌, ◌++◌, length, map, Option, Some, None, IsSome, refl, ap, sym, subst, ◌∙◌, append_assoc, arith, inl, inr, ◌⊎◌}
 use Rattle.std.proofs.lemmas.Bool.{eq-eqb, eqb-true}
 use Rattle.std.specs.List.{AllByRecursion}
 use Rattle.head_queue.specs.declared.entries.Entry.{Entry}
@@ -9,7 +9,7 @@ use Rattle.head_queue.specs.Entries.{entry_at, waiting_at}
 use Rattle.head_queue.specs.Ranks.{rank, Rising}
 use Rattle.head_queue.specs.Kept.{AreKept, Leads, Starts, IsPassed, IsWalking, IsWalked, IsNoneBefore}
 use Rattle.head_queue.proofs.PathLemmas.{misses_last, misses_front}
-use Rattle.head_queue.proofs.RingLemmas.{chosen, passed, all_front, all_behind, all_both}
+use Rattle.head_queue.proofs.RingLemmas.{all_behind, all_both}
 
 -- a number is one of them, or it isn't
 pub find : (k : ℕ) (xs : List ℕ) → Misses k xs ⊎ IsMember xs k

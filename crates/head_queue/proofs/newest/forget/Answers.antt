@@ -1,6 +1,5 @@
-use Rattle.std.proofs.Common.{◌≡◌, ◌≢◌, ℕ, ◌<◌, ◌≤◌, List, length, get_or, Option, Some, None, cond, nat_eq, ap, sym, subst, ◌∙◌, arith, rules}
-use Rattle.std.specs.List.{insert, remove}
-use Rattle.std.specs.Vec.{vec_len, vec_capacity}
+use Rattle.std.proofs.Common.{◌≡◌, ◌≢◌, ◌<◌, List, length, get_or, ap, sym, subst, ◌∙◌, arith, rules}
+use Rattle.std.specs.Vec.{vec_len}
 use Rattle.head_queue.specs.declared.newest.Owned.{Owned}
 use Rattle.head_queue.specs.Newest.{lookup, Ascending}
 use Rattle.head_queue.proofs.NewestLemmas.{IsPlace, partitioned, place, absent, whichever, told_gone, told_none, ascending_gone}

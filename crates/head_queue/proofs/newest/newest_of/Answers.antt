@@ -1,9 +1,6 @@
-use Rattle.std.proofs.Common.{◌≡◌, ◌≢◌, ℕ, ◌<◌, ◌≤◌, List, length, get_or, Option, Some, None, cond, nat_eq, ap, sym, subst, ◌∙◌, arith, rules}
-use Rattle.std.specs.List.{insert, remove}
-use Rattle.std.specs.Vec.{vec_len, vec_capacity}
+use Rattle.std.proofs.Common.{◌≢◌, ◌<◌, length, get_or, sym, arith}
 use Rattle.head_queue.specs.declared.newest.Owned.{Owned}
-use Rattle.head_queue.specs.Newest.{lookup, Ascending}
-use Rattle.head_queue.proofs.NewestLemmas.{IsPlace, partitioned, place, found, absent}
+use Rattle.head_queue.proofs.NewestLemmas.{partitioned, place, found, absent}
 use Rattle.head_queue.proofs.newest.newest_of.Goals as goal
 use Rattle.head_queue.proofs.newest.newest_of.Goals.{else-at-newest-via-then-at-newest+else-newest-at, else-at-newest-via-else-at-newest}
 

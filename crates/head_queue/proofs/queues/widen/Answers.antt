@@ -1,4 +1,4 @@
-use Rattle.std.proofs.Common.{◌≡◌, ℕ, ◌+◌, ◌<◌, ◌≤◌, vec_capacity, ◌∙◌, arith}
+use Rattle.std.proofs.Common.{◌≡◌, ◌+◌, ◌≤◌, vec_capacity, ◌∙◌, arith}
 use Rattle.head_queue.proofs.ReadyLemmas.{ready_wider, ready_is}
 use Rattle.head_queue.proofs.queues.widen.Goals as goal
 

@@ -1,6 +1,5 @@
-use Rattle.std.proofs.Common.{◌≡◌, true, false, IsTrue}
+use Rattle.std.proofs.Common.{◌≡◌, true, false}
 use Rattle.head_queue.specs.Ranks.{rank_of}
-use Rattle.head_queue.specs.Kept.{Leads}
 use Rattle.head_queue.proofs.WalkLemmas.{led, goes, nearer, ended}
 use Rattle.head_queue.proofs.walks.last_before.Goals as goal
 

@@ -1,4 +1,4 @@
-use Rattle.std.proofs.Common.{◌≡◌, ◌≤◌, ℕ, List, length, ap, sym, subst, ◌∙◌}
+use Rattle.std.proofs.Common.{◌≤◌, ℕ, List, ap, sym, subst, ◌∙◌}
 use Rattle.std.specs.Vec.{vec_len}
 use Rattle.head_queue.specs.Links.{after_of, before_of}
 use Rattle.head_queue.specs.Rings.{Ring, IsRing}

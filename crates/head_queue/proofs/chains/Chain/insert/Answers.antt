@@ -1,8 +1,8 @@
-use Rattle.std.proofs.Common.{◌≡◌, suc, ◌≤◌, ◌<◌, ◌+◌, ◌-◌, ℕ, List, ◌++◌, ◌∷◌, length, cond, nat_eq, ap, sym, subst, ◌∙◌}
+use Rattle.std.proofs.Common.{◌≡◌, ◌≤◌, ◌<◌, ◌+◌, ℕ, List, ◌++◌, ◌∷◌, length, cond, nat_eq, ap, sym, subst, ◌∙◌}
 use Rattle.std.specs.Vec.{vec_len}
 use Rattle.head_queue.specs.Links.{after_of, before_of}
-use Rattle.head_queue.specs.Cuts.{first_of, IsCut, IsMember}
-use Rattle.head_queue.specs.Rings.{Ring, IsRing, met_from}
+use Rattle.head_queue.specs.Cuts.{first_of}
+use Rattle.head_queue.specs.Rings.{Ring, IsRing}
 use Rattle.head_queue.proofs.RingLemmas.{cut_within, behind_within, next_is, inserted, seen, met}
 use Rattle.head_queue.proofs.chains.Chain.insert.Goals as goal
 

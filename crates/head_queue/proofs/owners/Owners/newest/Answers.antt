@@ -1,4 +1,4 @@
-use Rattle.std.proofs.Common.{◌≡◌, ◌≢◌, ℕ, List, Option, Some, None, IfSome, IfNone, ap, subst, ◌∙◌}
+use Rattle.std.proofs.Common.{◌≡◌, ◌≢◌, ℕ, List, Some, IfSome, IfNone, ap, subst, ◌∙◌}
 use Rattle.head_queue.specs.declared.newest.Owned.{Owned}
 use Rattle.head_queue.specs.Newest.{lookup}
 use Rattle.head_queue.specs.Holdings.{Holdings, owner_of}

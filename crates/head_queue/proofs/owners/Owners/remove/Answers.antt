@@ -1,11 +1,9 @@
-use Rattle.std.proofs.Common.{◌≡◌, ◌≢◌, ℕ, ◌+◌, ◌≤◌, Bool, cond, nat_eq, List, ◌∷◌, ◌++◌, length, Option, Some, None, ap, sym, subst, ◌∙◌, arith, rules}
-use Rattle.std.specs.Vec.{vec_len}
-use Rattle.head_queue.specs.declared.newest.Owned.{Owned}
+use Rattle.std.proofs.Common.{◌≡◌, ℕ, ◌+◌, ◌≤◌, Bool, cond, nat_eq, List, ◌∷◌, length, None, ap, sym, subst, ◌∙◌}
 use Rattle.head_queue.specs.Cuts.{last_of}
 use Rattle.head_queue.specs.Newest.{lookup, holds, left_over}
 use Rattle.head_queue.specs.Holdings.{Holdings, owner_of}
 use Rattle.head_queue.specs.Grouped.{AreGrouped}
-use Rattle.head_queue.proofs.GroupLemmas.{IsHeld, pairs_of, held_at, grouped_taken, owners_less, many, one_longer, last_within}
+use Rattle.head_queue.proofs.GroupLemmas.{pairs_of, held_at, grouped_taken, owners_less, many, one_longer, last_within}
 use Rattle.head_queue.proofs.owners.Owners.remove.Goals as goal
 
 pub before-before-requires : goal.before-before-requires

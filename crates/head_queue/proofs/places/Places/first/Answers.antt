@@ -1,8 +1,6 @@
-use Rattle.std.proofs.Common.{◌≡◌, ℕ, true, Some, IfSome, IfNone, ap, sym, subst}
+use Rattle.std.proofs.Common.{◌≡◌, true, Some, IfSome, IfNone, subst}
 use Rattle.std.specs.List.{AllByRecursion}
 use Rattle.tape_types.specs.declared.cartridges.Part.{Part}
-use Rattle.tape_types.specs.Cartridges.{other}
-use Rattle.head_queue.specs.declared.entries.Entry.{Entry}
 use Rattle.head_queue.specs.Waiting.{Waiting}
 use Rattle.head_queue.specs.Keys.{comes_first}
 use Rattle.head_queue.specs.Entries.{waiting}

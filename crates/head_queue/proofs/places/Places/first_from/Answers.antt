@@ -2,16 +2,14 @@ use denote.Enum.Bare.{sameb}
 use Rattle.tape_types.specs.contracts.cartridges.Part.{the_type}
 use Rattle.tape_types.specs.declared.cartridges.Part.{Part}
 use Rattle.tape_types.specs.declared.cartridges.Part.TheVariants.{Ip, Dp}
-use Rattle.std.proofs.Common.{false, ◌≡◌, ◌≢◌, ℕ, ◌+◌, ◌^◌, ◌<◌, ◌≤◌, List, [], ◌∷◌, ◌++◌, length, map, Option, Some, None, IfSome, IfNone, ap, sym, subst, ◌∙◌, refl, arith}
+use Rattle.std.proofs.Common.{false, ◌≡◌, ◌≢◌, ◌<◌, List, map, Option, Some, ap, sym, subst, ◌∙◌}
 use Rattle.std.specs.List.{AllByRecursion}
-use Rattle.std.specs.Vec.{vec_len}
 use Rattle.head_queue.specs.declared.entries.Entry.{Entry}
-use Rattle.head_queue.specs.Cuts.{Differ, Misses, IsMember, IsCut, first_of}
 use Rattle.head_queue.specs.Waiting.{Waiting}
-use Rattle.head_queue.specs.Orders.{Order, IsIn, HasNode, IsMore}
+use Rattle.head_queue.specs.Orders.{Order}
 use Rattle.head_queue.specs.Entries.{entry_at, waiting, waiting_at}
-use Rattle.head_queue.specs.Ranks.{rank, rank_of, IsFit}
-use Rattle.head_queue.specs.Kept.{AreKept, AreOrdered, IsFirst, IsWalked}
+use Rattle.head_queue.specs.Ranks.{rank, rank_of}
+use Rattle.head_queue.specs.Kept.{IsFirst, IsWalked}
 use Rattle.head_queue.proofs.FirstLemmas.{walked_some, walked_none, other_first}
 use Rattle.head_queue.proofs.places.Places.first_from.Goals as goal
 

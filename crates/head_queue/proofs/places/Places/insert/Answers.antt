@@ -1,13 +1,13 @@
-use Rattle.std.proofs.Common.{◌≡◌, ◌≢◌, ℕ, ◌+◌, ◌^◌, ◌<◌, ◌≤◌, List, [], ◌∷◌, ◌++◌, length, map, Option, Some, None, IfSome, IfNone, ap, sym, subst, ◌∙◌, refl, arith, rules}
+use Rattle.std.proofs.Common.{◌≡◌, ◌≢◌, ℕ, ◌<◌, ◌≤◌, List, ◌∷◌, length, map, Option, Some, ap, sym, subst, ◌∙◌, arith, rules}
 use Rattle.std.specs.List.{AllByRecursion}
 use Rattle.std.specs.Vec.{vec_len}
 use Rattle.head_queue.specs.declared.entries.Entry.{Entry}
-use Rattle.head_queue.specs.Cuts.{Differ, Misses, IsMember, IsCut, first_of}
+use Rattle.head_queue.specs.Cuts.{Misses}
 use Rattle.head_queue.specs.Waiting.{Waiting}
-use Rattle.head_queue.specs.Orders.{Order, IsIn, HasNode, IsMore}
-use Rattle.head_queue.specs.Entries.{entry_at, waiting, waiting_at}
-use Rattle.head_queue.specs.Ranks.{rank, rank_of, IsFit}
-use Rattle.head_queue.specs.Kept.{AreKept, AreOrdered, IsFirst, IsWalked}
+use Rattle.head_queue.specs.Orders.{Order}
+use Rattle.head_queue.specs.Entries.{waiting_at}
+use Rattle.head_queue.specs.Ranks.{rank_of}
+use Rattle.head_queue.specs.Kept.{AreKept, IsWalked}
 use Rattle.head_queue.proofs.KeptLemmas.{misses_node, kept_more, order_more, map_both}
 use Rattle.head_queue.proofs.places.Places.insert.Goals as goal
 

@@ -1,13 +1,8 @@
-use Rattle.std.proofs.Common.{◌≡◌, ◌≢◌, ℕ, ◌+◌, ◌^◌, ◌<◌, ◌≤◌, List, [], ◌∷◌, ◌++◌, length, map, Option, Some, None, IfSome, IfNone, ap, sym, subst, ◌∙◌, refl, arith, rules}
-use Rattle.std.specs.List.{AllByRecursion}
+use Rattle.std.proofs.Common.{◌≡◌, ℕ, List, length, map, ap, sym, subst, ◌∙◌, arith, rules}
 use Rattle.std.specs.Vec.{vec_len}
-use Rattle.head_queue.specs.declared.entries.Entry.{Entry}
-use Rattle.head_queue.specs.Cuts.{Differ, Misses, IsMember, IsCut, first_of}
-use Rattle.head_queue.specs.Waiting.{Waiting}
-use Rattle.head_queue.specs.Orders.{Order, IsIn, HasNode, IsMore}
-use Rattle.head_queue.specs.Entries.{entry_at, waiting, waiting_at}
-use Rattle.head_queue.specs.Ranks.{rank, rank_of, IsFit}
-use Rattle.head_queue.specs.Kept.{AreKept, AreOrdered, IsFirst, IsWalked}
+use Rattle.head_queue.specs.Orders.{Order, HasNode}
+use Rattle.head_queue.specs.Entries.{waiting_at}
+use Rattle.head_queue.specs.Kept.{AreKept}
 use Rattle.head_queue.proofs.KeptLemmas.{member_of, kept_less, order_left, member_fits}
 use Rattle.head_queue.proofs.places.Places.remove.Goals as goal
 

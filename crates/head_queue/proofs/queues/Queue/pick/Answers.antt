@@ -1,4 +1,4 @@
-use Rattle.std.proofs.Common.{◌≡◌, ◌+◌, false, Option, Some, None, IfSome, sym, subst, ◌∙◌}
+use Rattle.std.proofs.Common.{◌≡◌, ◌+◌, false, Option, Some, IfSome, sym, subst, ◌∙◌}
 use Rattle.tape_types.specs.declared.cartridges.Place.{Place}
 use Rattle.head_trail.specs.Waiting.{key}
 use Rattle.head_queue.specs.Entries.{waiting}

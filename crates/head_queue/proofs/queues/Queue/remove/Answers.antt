@@ -1,10 +1,8 @@
-use Rattle.std.proofs.Common.{◌≡◌, ℕ, ◌+◌, ◌≤◌, List, [], ◌∷◌, ◌++◌, vec_len, vec_capacity, ap, sym, subst, ◌∙◌, arith, rules}
-use Rattle.head_queue.specs.Waiting.{Waiting}
-use Rattle.head_queue.specs.Orders.{HasNode}
+use Rattle.std.proofs.Common.{◌≡◌, ℕ, ◌≤◌, List, [], ◌∷◌, ◌++◌, vec_capacity, ap, sym, subst, ◌∙◌, rules}
 use Rattle.head_queue.specs.Queued.{Queued, by_arrival}
 use Rattle.head_queue.specs.Ready.{AreReady}
 use Rattle.head_queue.proofs.ArrivalLemmas.{has_sorted, sorted_less}
-use Rattle.head_queue.proofs.ReadyLemmas.{IsGiven, given, no_node, nodes_differ, ready_less}
+use Rattle.head_queue.proofs.ReadyLemmas.{given, no_node, nodes_differ, ready_less}
 use Rattle.head_queue.proofs.queues.Queue.remove.Goals as goal
 
 pub unreachable-requires : goal.unreachable-requires

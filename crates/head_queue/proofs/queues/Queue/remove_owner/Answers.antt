@@ -1,4 +1,4 @@
-use Rattle.std.proofs.Common.{◌≡◌, ℕ, ◌+◌, ◌<◌, ◌≤◌, not, nat_eq, List, ◌∷◌, ◌++◌, length, filter, count_by, ap, sym, ◌∙◌, arith}
+use Rattle.std.proofs.Common.{◌≡◌, ◌+◌, ◌<◌, ◌≤◌, not, nat_eq, List, ◌++◌, length, filter, count_by, ap, sym, ◌∙◌, arith}
 use Rattle.head_queue.specs.Waiting.{Waiting}
 use Rattle.head_queue.proofs.ReadyLemmas.{one_shorter, filter_less, filter_same, count_less, count_same}
 use Rattle.head_queue.proofs.queues.Queue.remove_owner.Goals as goal

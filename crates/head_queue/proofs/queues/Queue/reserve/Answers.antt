@@ -1,6 +1,5 @@
-use Rattle.std.proofs.Common.{◌≡◌, ℕ, ◌+◌, ◌-◌, ◌^◌, ◌<◌, ◌≤◌, List, length, vec_len, vec_capacity, ap, sym, subst, ◌∙◌, arith, rules}
+use Rattle.std.proofs.Common.{◌≡◌, ◌+◌, ◌-◌, ◌^◌, ◌<◌, ◌≤◌, length, vec_len, vec_capacity, sym, subst, arith, rules}
 use Rattle.head_queue.specs.Queued.{Queued, by_arrival}
-use Rattle.head_queue.specs.Ready.{AreReady}
 use Rattle.head_queue.proofs.ReadyLemmas.{ready_is, ready_count}
 use Rattle.head_queue.proofs.queues.Queue.reserve.Goals as goal
 
