@@ -1,0 +1,245 @@
+-- That what is held after a call is what stands after it.
+use Rattle.std.proofs.Common.{◌≡◌, ◌≢◌, ◌⊎◌, ℕ, zero, suc, ◌+◌, ◌*◌, ◌/◌, ◌%◌, ◌<◌, ◌≤◌, ◌^◌, min, max, Bool, true, false, cond, eqb, nat_lt, List, [], ◌∷◌, ◌++◌, length, Option, Some, None, Result, Ok, Err, sym, ap, ◌∙◌, refl, subst, arith, ⊎_elim, inl, inr}
+use Rattle.std.specs.Int.{div_ceil}
+use Rattle.std.specs.Option.{unwrap_or}
+use Rattle.std.proofs.lemmas.List.{append-nil}
+use Rattle.std.proofs.lemmas.Bool.Decides.{nat_tests}
+use Rattle.std.proofs.lemmas.Grind.{div_ceil_times}
+use Rattle.std.proofs.Math.Nat.{div-mul-le_self, lt_of_mul-lt-mul_right}
+use Rattle.tape_types.specs.declared.cartridges.Extent.{Extent}
+use Rattle.tape_types.specs.declared.cartridges.Part.{Part}
+use Rattle.tape_types.specs.declared.cartridges.Part.TheVariants.{Ip, Dp}
+use Rattle.tape_types.specs.declared.cartridges.Place.{Place}
+use Rattle.tape_types.specs.declared.moments.Moment.{Moment}
+use Rattle.extent_map.specs.Blocks.{AreAlikeIn, StandsIn}
+use Rattle.extent_map.specs.Cells.{Tape}
+use Rattle.extent_map.specs.Laid.{Laid, overlaid}
+use Rattle.plain_tree.specs.Calls.{after}
+use Rattle.plain_tree.specs.Paths.{Path, last_name}
+use Rattle.plain_tree.specs.Refusals.{refusal_of}
+use Rattle.plain_tree.specs.Tree as plain
+use Rattle.plain_tree.specs.declared.calls.Call.{Call}
+use Rattle.plain_tree.specs.declared.calls.Call.TheVariants as asks
+use Rattle.plain_tree.specs.declared.calls.Refusal.{Refusal}
+use Rattle.file_tree.specs.Blocks.{AddsBlocksOf, ExtentLiesBelow, LiesBelow, TreeStandsIn}
+use Rattle.file_tree.specs.Tree.{FileTree, plain_of, whole}
+use Rattle.file_tree.specs.Writes.{HoldsBytes}
+use Rattle.file_tree.proofs.BlockLemmas.{blocks_make_the_tree, ends_hold}
+use Rattle.file_tree.proofs.RefusalLemmas.{refusals_alike}
+use Rattle.file_tree.proofs.TreeLemmas.{free_too}
+use Rattle.placement.specs.Computed.{chooses_ip}
+use Rattle.tape_layout.specs.Admissions.{IsAdmitted, data_admission}
+use Rattle.tape_layout.specs.Ops.{end_of, with_end}
+use Rattle.tape_layout.specs.Plans.{Plan}
+use Rattle.tape_layout.specs.declared.ops.Op.{Op}
+use Rattle.tape_layout.specs.declared.errors.AdmitErr.{AdmitErr}
+use Rattle.tape_layout.specs.declared.errors.AdmitErr.TheVariants.{Full, NoMemory}
+use Rattle.tape_layout.specs.declared.standing.Ends as layout
+use Rattle.volume_space.specs.Files.{Files, with_file}
+use Rattle.volume_space.specs.Laws.{admission_of, end_place}
+use Rattle.volume_space.specs.Space as space
+use Rattle.volume_space.specs.Space.{Ask, Rules, Space, blocks, change, is_over, limit_of, need_of, nothing, ops_of, part_for, plan_of, store}
+use Rattle.volume_space.specs.Standing.{Given, Standing, after_done, ask_of, ask_unless, ask_unrefused, files_after, length_after, rules, uid_at}
+use Rattle.volume_sync.specs.declared.frames.Frame.{Frame}
+use Rattle.volume_stock.specs.Applied.{IsApplied, IsChange, IsDone, IsFull, IsLate, IsTreeStep, IsUnchanged, LeavesAll, new_run}
+use Rattle.volume_stock.specs.Steps.{IsSameTree, IsWrite, file_changed}
+use Rattle.volume_stock.specs.Stocks.{IsStock, LieAs, Stocked, ends_of, frame_of, stocked}
+
+-- ---- what is held is as it was
+
+pub same_stands : (before next : FileTree) (l : Plan) (f : Frame) → IsSameTree before next → (tape : Tape) (g : Given) (on : Bool) (st : Standing)
+    → IsStock tape g on st (stocked before l f) → IsStock tape g on st (stocked next l f)
+same_stands before next l f same tape g on st i = record {
+  plain = same.plain tape ∙ i.plain;
+  files = same.lies st.files i.files;
+  layout = i.layout;
+  frame = i.frame;
+  name = same.volume.name ∙ i.name;
+  block_size = same.volume.block_size ∙ i.block_size;
+  below = λ part pos h. i.below part pos (same.blocks part pos h);
+}
+
+pub is_unchanged : (before next : FileTree) (l : Plan) (f : Frame) → IsSameTree before next → IsUnchanged (stocked before l f) (stocked next l f)
+is_unchanged before next l f same = record { layout = refl; frame = refl; stands = same_stands before next l f same }
+
+-- ---- a call that stores nothing
+
+after_ask : Given → Bool → Standing → Call → Moment → Ask → Standing
+after_ask g on st call at ask = record {
+  tree = after st.tree call at;
+  files = files_after g on st call ask;
+  space = space.after (rules g) on st.space ask;
+}
+
+pub with_change : Bool → Frame → Frame
+with_change true f = record f { changed = true }
+with_change false f = f
+
+module _ (before next : FileTree) (l : Plan) (f : Frame) (call : Call) (at : Moment) (changed : Bool) (step : IsTreeStep call at changed before next)
+    (early : Tape) (g : Given) (on : Bool) (st : Standing) (i : IsStock early g on st (stocked before l f)) where
+  asked : ask_of g st call at ≡ cond changed change nothing
+  asked = step.asks early g st i.plain
+
+  stands : (late : Tape) → AreAlikeIn (TreeStandsIn before) late early → IsStock late g on (after_ask g on st call at (cond changed change nothing)) (stocked next l (with_change changed f))
+  stands late alike = record {
+    plain = step.plain late ∙ ap (λ t. after t call at) (blocks_make_the_tree late early before alike ∙ i.plain);
+    files = step.lies early g on st i.plain i.files;
+    layout = i.layout ∙ same_plan changed;
+    frame = same_frame changed;
+    name = step.volume.name ∙ i.name;
+    block_size = step.volume.block_size ∙ i.block_size;
+    below = λ part pos h. subst (λ e. pos < e) (same_ends changed part) (i.below part pos (step.blocks part pos h));
+  }
+    where
+      same_plan : (b : Bool) → plan_of (rules g) on st.space l.ops ≡ plan_of (rules g) on (space.after (rules g) on st.space (cond b change nothing)) l.ops
+      same_plan true = refl
+      same_plan false = refl
+
+      same_ends : (b : Bool) (part : Part) → end_of part st.space.ends ≡ end_of part (space.after (rules g) on st.space (cond b change nothing)).ends
+      same_ends true part = refl
+      same_ends false part = refl
+
+      same_frame : (b : Bool) → with_change b f ≡ frame_of g.mounted (space.after (rules g) on st.space (cond b change nothing)) (with_change b f).noted
+      same_frame true = ap (λ (f : Frame). record f { changed = true }) i.frame
+      same_frame false = i.frame
+
+  pub step_done : IsDone early g on st call at (stocked before l f) (stocked next l (with_change changed f))
+  step_done = record {
+    fits = ap (is_over (rules g) on st.space) asked ∙ fits changed;
+    ops = sym (append-nil l.ops) ∙ ap (λ ops. l.ops ++ ops) (none changed) ∙ ap (λ ask. l.ops ++ ops_of (rules g) on st.space ask) (sym asked);
+    stands = λ late h. subst (λ (s : Standing). IsStock late g on s (stocked next l (with_change changed f)))
+        (ap (after_ask g on st call at) (sym asked)) (stands late h.alike);
+  }
+    where
+      fits : (b : Bool) → is_over (rules g) on st.space (cond b change nothing) ≡ false
+      fits true = refl
+      fits false = refl
+
+      none : (b : Bool) → [] ≡ ops_of (rules g) on st.space (cond b change nothing)
+      none true = refl
+      none false = refl
+
+-- ---- a write
+
+-- a byte of a run of blocks stands before the run's end
+before_end : (n size byte : ℕ) → 1 ≤ size → byte < n → byte / size < div_ceil n size
+before_end n size byte some lt =
+    let times = div_ceil_times n size some in
+    let low : byte / size * size ≤ byte = div-mul-le_self byte size in
+    lt_of_mul-lt-mul_right size (omega (arith, low, lt, times.0))
+
+-- it needs no more than there is, or it does
+not_over : (limit need : ℕ) → need ≤ limit → nat_lt limit need ≡ false
+not_over limit need h = grind (arith, nat_tests, h)
+
+over : (limit need : ℕ) → limit < need → nat_lt limit need ≡ true
+over limit need h = grind (arith, nat_tests, h)
+
+module _ (part : Part) (n : ℕ) (e : layout.Ends) where
+  pub end_here : end_of part (with_end part n e) ≡ n
+  end_here = by part
+    where
+      by : (p : Part) → end_of p (with_end p n e) ≡ n
+      by Ip = refl
+      by Dp = refl
+
+  pub ends_grow : (other : Part) → end_of part e ≤ n → end_of other e ≤ end_of other (with_end part n e)
+  ends_grow other more = by part other more
+    where
+      by : (p q : Part) → end_of p e ≤ n → end_of q e ≤ end_of q (with_end p n e)
+      by Ip Ip more = more
+      by Dp Dp more = more
+      by Ip Dp more = omega arith
+      by Dp Ip more = omega arith
+
+module _ (before next : FileTree) (l : Plan) (f : Frame) (path : Path) (offset b : ℕ) (rest : List ℕ) (at : Moment) (wanted : Bool) (new : Extent)
+    (free : refusal_of (plain_of whole before) (asks.Write path offset (b ∷ rest)) ≡ None)
+    (early : Tape) (g : Given) (on : Bool) (st : Standing) (i : IsStock early g on st (stocked before l f))
+    (some_block : 1 ≤ before.block_size)
+    (wants : wanted ≡ chooses_ip f.carried.policy (unwrap_or (last_name path) []) (max (length (plain.cells_at (plain_of early before).nodes path)) (offset + length (b ∷ rest)))) where
+  bytes : List ℕ
+  bytes = b ∷ rest
+
+  part : Part
+  part = part_for (rules g) on st.space wanted bytes
+
+  unrefused : refusal_of st.tree (asks.Write path offset bytes) ≡ None
+  unrefused = ap (λ t. refusal_of t (asks.Write path offset bytes)) (sym i.plain) ∙ free_too early before (asks.Write path offset bytes) (λ p o c e. cc) free
+
+  policy : f.carried.policy ≡ g.mounted.index.policy
+  policy = ap (λ (f : Frame). f.carried.policy) i.frame
+
+  pub asked_store : ask_of g st (asks.Write path offset bytes) at ≡ store wanted bytes
+  asked_store = ap (λ r. ask_unless r (ask_unrefused g st (asks.Write path offset bytes) at)) unrefused
+      ∙ ap (λ w. store w bytes) (sym (wants
+      ∙ ap (λ p. chooses_ip p (unwrap_or (last_name path) []) (max (length (plain.cells_at (plain_of early before).nodes path)) (offset + length bytes))) policy
+      ∙ ap (λ (t : plain.Tree). chooses_ip g.mounted.index.policy (unwrap_or (last_name path) []) (max (length (plain.cells_at t.nodes path)) (offset + length bytes))) i.plain))
+
+  -- what the layout asks is what the space does
+  pub data_is : data_admission l wanted bytes ≡ admission_of (rules g) on st.space l.ops (store wanted bytes) (end_place part st.space)
+  data_is = ap (λ p. data_admission p wanted bytes) i.layout
+
+  module _ (step : IsWrite path new bytes at before next) (now : Plan) (admitted : now ≡ (data_admission l wanted bytes).after)
+      (new_is : new ≡ record { offset = offset; part = part; block = end_of part st.space.ends; byte = 0; count = length bytes }) where
+    now_is : now ≡ plan_of (rules g) on (space.after (rules g) on st.space (store wanted bytes)) (l.ops ++ ops_of (rules g) on st.space (store wanted bytes))
+    now_is = admitted ∙ ap (λ (a : Rattle.tape_layout.specs.Admissions.Admission). a.after) data_is
+
+    now_ops : now.ops ≡ l.ops ++ ops_of (rules g) on st.space (store wanted bytes)
+    now_ops = ap (λ (p : Plan). p.ops) now_is
+
+    extent_below : ExtentLiesBelow (ends_of (with_end part (end_of part st.space.ends + blocks (rules g) bytes) st.space.ends)) before.block_size new
+    extent_below other pos h =
+        let on_part : part ≡ other = sym (ap (λ (e : Extent). e.part) new_is) ∙ h.on in
+        let count : new.count ≡ length bytes = ap (λ (e : Extent). e.count) new_is in
+        let byte : new.byte ≡ 0 = ap (λ (e : Extent). e.byte) new_is in
+        let block : new.block ≡ end_of part st.space.ends = ap (λ (e : Extent). e.block) new_is in
+        let first : (new.byte + h.byte) / before.block_size ≡ h.byte / before.block_size = ap (λ n. (n + h.byte) / before.block_size) byte in
+        let low : h.byte / before.block_size < div_ceil (length bytes) before.block_size = before_end (length bytes) before.block_size h.byte some_block (omega (arith, h.within, count)) in
+        let size : div_ceil (length bytes) before.block_size ≡ div_ceil (length bytes) g.mounted.label.block = ap (div_ceil (length bytes)) i.block_size in
+        subst (λ q. pos < end_of q (with_end part (end_of part st.space.ends + blocks (rules g) bytes) st.space.ends)) on_part
+        (subst (λ n. pos < n) (sym (end_here part (end_of part st.space.ends + blocks (rules g) bytes) st.space.ends))
+        (omega (arith, h.here, first, low, size, block)))
+
+    write_stands : (late : Tape) → AreAlikeIn (TreeStandsIn before) late early → HoldsBytes late g.mounted.label.block (new_run g on st wanted bytes) bytes
+        → IsStock late g on (after_ask g on st (asks.Write path offset bytes) at (store wanted bytes)) (stocked next now (with_change true f))
+    write_stands late alike holds = record {
+      plain = step.plain early late holds_new alike ∙ ap (λ o. after (plain_of early before) (asks.Write path o bytes) at) (ap (λ (e : Extent). e.offset) new_is)
+          ∙ ap (λ t. after t (asks.Write path offset bytes) at) i.plain;
+      files = subst (λ (fs : Files). LieAs fs next) same_files (step.lies early st.files i.files);
+      layout = now_is ∙ ap (plan_of (rules g) on (space.after (rules g) on st.space (store wanted bytes))) (sym now_ops);
+      frame = ap (λ (f : Frame). record f { changed = true }) i.frame;
+      name = step.volume.name ∙ i.name;
+      block_size = step.volume.block_size ∙ i.block_size;
+      below = ends_hold.given (ends_of (with_end part (end_of part st.space.ends + blocks (rules g) bytes) st.space.ends)) new before next step.blocks
+          (λ other pos h. more (end_of other st.space.ends) _ pos (ends_grow part (end_of part st.space.ends + blocks (rules g) bytes) st.space.ends other (omega arith)) (i.below other pos h))
+          extent_below;
+    }
+      where
+        more : (a b pos : ℕ) → a ≤ b → pos < a → pos < b
+        more a b pos h lt = omega (arith, h, lt)
+
+        holds_new : HoldsBytes late before.block_size new bytes
+        holds_new = subst (λ n. HoldsBytes late n new bytes) (sym i.block_size) (subst (λ (e : Extent). HoldsBytes late g.mounted.label.block e bytes) (sym new_is)
+            (record { from_start = refl; all = refl; each = holds.each }))
+
+        same_files : file_changed before path (λ laid. overlaid laid new) early st.files ≡ files_after g on st (asks.Write path offset bytes) (store wanted bytes)
+        same_files = ap (λ (e : Extent). file_changed before path (λ laid. overlaid laid e) early st.files) new_is
+            ∙ ap (λ (t : plain.Tree). with_file (uid_at t.nodes path) (λ laid. overlaid laid (record { offset = offset; part = part; block = end_of part st.space.ends; byte = 0; count = length bytes })) st.files) i.plain
+
+    pub write_done : (need : (data_admission l wanted bytes).need ≤ (data_admission l wanted bytes).limit)
+        → IsDone early g on st (asks.Write path offset bytes) at (stocked before l f) (stocked next now (with_change true f))
+    write_done need = record {
+      fits = ap (is_over (rules g) on st.space) asked_store ∙ not_over _ _ (subst (λ (a : Rattle.tape_layout.specs.Admissions.Admission). a.need ≤ a.limit) data_is need);
+      ops = now_ops ∙ ap (λ ask. l.ops ++ ops_of (rules g) on st.space ask) (sym asked_store);
+      stands = λ late h. subst (λ (s : Standing). IsStock late g on s (stocked next now (with_change true f)))
+          (ap (after_ask g on st (asks.Write path offset bytes) at) (sym asked_store))
+          (write_stands late h.alike (subst (λ ask. Rattle.volume_stock.specs.Applied.HoldsStored late g on st ask) asked_store h.holds));
+    }
+
+  pub write_full : (need limit : ℕ) → (data_admission l wanted bytes).limit < (data_admission l wanted bytes).need → need ≡ (data_admission l wanted bytes).need
+      → limit ≡ (data_admission l wanted bytes).limit → IsFull g on st (asks.Write path offset bytes) at need limit
+  write_full need limit more need_is limit_is = record {
+    over = ap (is_over (rules g) on st.space) asked_store ∙ over _ _ (subst (λ (a : Rattle.tape_layout.specs.Admissions.Admission). a.limit < a.need) data_is more);
+    need = need_is ∙ ap (λ (a : Rattle.tape_layout.specs.Admissions.Admission). a.need) data_is ∙ ap (need_of (rules g) on st.space) (sym asked_store);
+    limit = limit_is ∙ ap (λ (a : Rattle.tape_layout.specs.Admissions.Admission). a.limit) data_is ∙ ap (limit_of (rules g) on st.space) (sym asked_store);
+  }

@@ -1,0 +1,3 @@
+pub mod Stocks
+pub mod Steps
+pub mod Applied
