@@ -1,5 +1,5 @@
 pub mod Uids
 pub mod Lies
-pub mod Changes
+pub mod TreeSteps
 pub mod Stands
 pub mod Texts

@@ -83,9 +83,9 @@ module _ (before next : FileTree) (but : ℕ) (to : Path → Path) (good : IsGoo
       }
 
   pub others_as : (files : Files) → LieAs files before → (path : Path) (node : Node) (room : Room) → fin.get next.nodes path ≡ Some node → node.kind ≡ kinds.File room → node.number ≢ but → files node.uid ≡ room.laid
-  others_as files as path node room there file apart =
+  others_as files held path node room there file apart =
       let was = was_there path node room there file apart in
-      ap files was.uid ∙ as.lies was.path was.old was.old_room was.there was.file ∙ was.lies
+      ap files was.uid ∙ held.lies was.path was.old was.old_room was.there was.file ∙ was.lies
 
 -- ---- a new node
 
@@ -96,7 +96,7 @@ module _ (before next : FileTree) (dir number : ℕ) (name : List ℕ) (sort : S
     (others : OthersLie number before next) (adds : AddsNoBlock before next)
     (empty : sort ≡ sorts.File → HasLaid next.nodes number (record { block_size = before.block_size; length = 0; extents = [] }))
     (volume : KeepsVolume before next) where
-  new_path : Path
+  abbrev new_path : Path
   new_path = c.path ++ name ∷ []
 
   here : StandsAt next new_path number
@@ -107,7 +107,7 @@ module _ (before next : FileTree) (dir number : ℕ) (name : List ℕ) (sort : S
   not_read call sorts.File e path offset count is = cc
   not_read call sorts.Link e path offset count is = cc
 
-  kind_of : Sort → Rattle.plain_tree.specs.declared.nodes.Kind.Kind
+  abbrev kind_of : Sort → Rattle.plain_tree.specs.declared.nodes.Kind.Kind
   kind_of sorts.File = plain_kinds.File []
   kind_of _ = plain_kinds.Dir
 
@@ -129,7 +129,7 @@ module _ (before next : FileTree) (dir number : ℕ) (name : List ℕ) (sort : S
   highest : next.highest ≡ before.highest + 1
   highest = ap (λ (t : plain.Tree). t.highest) now
 
-  module _ (files : Files) (as : LieAs files before) where
+  module _ (files : Files) (held : LieAs files before) where
     the_new : (path : Path) (node : Node) (room : Room) → fin.get next.nodes path ≡ Some node → node.kind ≡ kinds.File room → node.number ≡ number → files node.uid ≡ room.laid
     the_new path node room there file is = by sort refl
       where
@@ -151,7 +151,7 @@ module _ (before next : FileTree) (dir number : ℕ) (name : List ℕ) (sort : S
 
         by : (s : Sort) → sort ≡ s → files node.uid ≡ room.laid
         by sorts.File e =
-            ap files uid ∙ as.fresh (before.highest + 1) (omega arith) ∙ one_laid next.nodes number (no_bytes before.block_size) room.laid good_next.differ (empty e) has
+            ap files uid ∙ held.fresh (before.highest + 1) (omega arith) ∙ one_laid next.nodes number (no_bytes before.block_size) room.laid good_next.differ (empty e) has
         by sorts.Dir e = let wrong : true ≡ false = sym (ap dir_in mark ∙ ap (λ s. Rattle.plain_tree.specs.Valid.is_dir (kind_of s)) e) ∙ not_dir in cc
         by sorts.Link e = let wrong : None ≡ Some c.call = ap (λ s. making s new_path) (sym e) ∙ c.made_by in cc
 
@@ -159,10 +159,10 @@ module _ (before next : FileTree) (dir number : ℕ) (name : List ℕ) (sort : S
     made_as = record {
       lies = λ path node room there file. ⊎_elim
           (λ (e : node.number ≡ number). the_new path node room there file e)
-          (λ apart. others_as before next number (λ p. p) good_next others (λ path n _ is. numbers path n is) uids files as path node room there file apart)
+          (λ apart. others_as before next number (λ p. p) good_next others (λ path n _ is. numbers path n is) uids files held path node room there file apart)
           (equal_or_not node.number number);
-      fresh = λ uid more. as.fresh uid (omega (arith, more, highest)) ∙ ap no_bytes (sym volume.block_size);
+      fresh = λ uid more. held.fresh uid (omega (arith, more, highest)) ∙ ap no_bytes (sym volume.block_size);
     }
 
   pub made_step : IsStep c.call at AsBefore before next
-  made_step = record { plain = done; volume = volume; blocks = adds; lies = λ tape files as. made_as files as }
+  made_step = record { plain = done; volume = volume; blocks = adds; lies = λ tape files held. made_as files held }

@@ -28,22 +28,25 @@ use Rattle.file_tree.proofs.BlockLemmas.{blocks_make_the_tree, ends_hold}
 use Rattle.file_tree.proofs.RefusalLemmas.{refusals_alike}
 use Rattle.file_tree.proofs.TreeLemmas.{free_too}
 use Rattle.placement.specs.Computed.{chooses_ip}
-use Rattle.tape_layout.specs.Admissions.{IsAdmitted, data_admission}
+use Rattle.tape_layout.specs.Admissions.{Admission, data_admission, index_admission}
 use Rattle.tape_layout.specs.Ops.{end_of, with_end}
 use Rattle.tape_layout.specs.Plans.{Plan}
 use Rattle.tape_layout.specs.declared.ops.Op.{Op}
 use Rattle.tape_layout.specs.declared.errors.AdmitErr.{AdmitErr}
 use Rattle.tape_layout.specs.declared.errors.AdmitErr.TheVariants.{Full, NoMemory}
 use Rattle.tape_layout.specs.declared.standing.Ends as layout
-use Rattle.volume_space.specs.Files.{Files, with_file}
+use Rattle.volume_space.specs.Files.{Files, canon, with_file}
+use Rattle.volume_space.proofs.Steps.{are_still}
+use Rattle.volume_sync.specs.Frames.{sync_index, with_sync}
 use Rattle.volume_space.specs.Laws.{admission_of, end_place}
 use Rattle.volume_space.specs.Space as space
-use Rattle.volume_space.specs.Space.{Ask, Rules, Space, blocks, change, is_over, limit_of, need_of, nothing, ops_of, part_for, plan_of, store}
-use Rattle.volume_space.specs.Standing.{Given, Standing, after_done, ask_of, ask_unless, ask_unrefused, files_after, length_after, rules, uid_at}
+use Rattle.volume_space.specs.Space.{Ask, Rules, Space, blocks, change, index, index_need, is_over, limit_of, need_of, nothing, ops_of, part_for, plan_of, store}
+use Rattle.volume_space.specs.Standing.{Given, Standing, after_done, ask_of, ask_unless, ask_unrefused, files_after, rules, sync_text, uid_at}
 use Rattle.volume_sync.specs.declared.frames.Frame.{Frame}
-use Rattle.volume_stock.specs.Applied.{IsApplied, IsChange, IsDone, IsFull, IsLate, IsTreeStep, IsUnchanged, LeavesAll, new_run}
+use Rattle.volume_stock.specs.Applied.{IsApplied, IsChange, IsDone, IsFull, IsChanging, IsLate, IsTreeStep, IsUnchanged, LeavesAll, new_run}
 use Rattle.volume_stock.specs.Steps.{IsSameTree, IsWrite, file_changed}
-use Rattle.volume_stock.specs.Stocks.{IsStock, LieAs, Stocked, ends_of, frame_of, stocked}
+use Rattle.volume_stock.specs.Stocks.{IsStock, LieAs, Stocked, ends_of, frame_of, stocked, with_change, with_index}
+use Rattle.volume_stock.proofs.Texts.{text_is}
 
 -- ---- what is held is as it was
 
@@ -64,60 +67,64 @@ is_unchanged before next l f same = record { layout = refl; frame = refl; stands
 
 -- ---- a call that stores nothing
 
-after_ask : Given → Bool → Standing → Call → Moment → Ask → Standing
+abbrev after_ask : Given → Bool → Standing → Call → Moment → Ask → Standing
 after_ask g on st call at ask = record {
   tree = after st.tree call at;
   files = files_after g on st call ask;
   space = space.after (rules g) on st.space ask;
 }
 
-pub with_change : Bool → Frame → Frame
-with_change true f = record f { changed = true }
-with_change false f = f
-
-module _ (before next : FileTree) (l : Plan) (f : Frame) (call : Call) (at : Moment) (changed : Bool) (step : IsTreeStep call at changed before next)
+module _ (before next : FileTree) (l : Plan) (f : Frame) (call : Call) (at : Moment) (step : IsChanging call at before next)
     (early : Tape) (g : Given) (on : Bool) (st : Standing) (i : IsStock early g on st (stocked before l f)) where
-  asked : ask_of g st call at ≡ cond changed change nothing
+  asked : ask_of g st call at ≡ change
   asked = step.asks early g st i.plain
 
-  stands : (late : Tape) → AreAlikeIn (TreeStandsIn before) late early → IsStock late g on (after_ask g on st call at (cond changed change nothing)) (stocked next l (with_change changed f))
-  stands late alike = record {
+  change_stands : (late : Tape) → AreAlikeIn (TreeStandsIn before) late early → IsStock late g on (after_ask g on st call at change) (stocked next l (with_change true f))
+  change_stands late alike = record {
     plain = step.plain late ∙ ap (λ t. after t call at) (blocks_make_the_tree late early before alike ∙ i.plain);
     files = step.lies early g on st i.plain i.files;
-    layout = i.layout ∙ same_plan changed;
-    frame = same_frame changed;
+    layout = i.layout;
+    frame = ap (λ (f : Frame). record f { changed = true }) i.frame;
     name = step.volume.name ∙ i.name;
     block_size = step.volume.block_size ∙ i.block_size;
-    below = λ part pos h. subst (λ e. pos < e) (same_ends changed part) (i.below part pos (step.blocks part pos h));
+    below = λ part pos h. i.below part pos (step.blocks part pos h);
   }
-    where
-      same_plan : (b : Bool) → plan_of (rules g) on st.space l.ops ≡ plan_of (rules g) on (space.after (rules g) on st.space (cond b change nothing)) l.ops
-      same_plan true = refl
-      same_plan false = refl
 
-      same_ends : (b : Bool) (part : Part) → end_of part st.space.ends ≡ end_of part (space.after (rules g) on st.space (cond b change nothing)).ends
-      same_ends true part = refl
-      same_ends false part = refl
-
-      same_frame : (b : Bool) → with_change b f ≡ frame_of g.mounted (space.after (rules g) on st.space (cond b change nothing)) (with_change b f).noted
-      same_frame true = ap (λ (f : Frame). record f { changed = true }) i.frame
-      same_frame false = i.frame
-
-  pub step_done : IsDone early g on st call at (stocked before l f) (stocked next l (with_change changed f))
-  step_done = record {
-    fits = ap (is_over (rules g) on st.space) asked ∙ fits changed;
-    ops = sym (append-nil l.ops) ∙ ap (λ ops. l.ops ++ ops) (none changed) ∙ ap (λ ask. l.ops ++ ops_of (rules g) on st.space ask) (sym asked);
-    stands = λ late h. subst (λ (s : Standing). IsStock late g on s (stocked next l (with_change changed f)))
-        (ap (after_ask g on st call at) (sym asked)) (stands late h.alike);
+  pub change_done : IsDone early g on st call at (stocked before l f) (stocked next l (with_change true f))
+  change_done = record {
+    fits = ap (is_over (rules g) on st.space) asked;
+    ops = sym (append-nil l.ops) ∙ ap (λ ask. l.ops ++ ops_of (rules g) on st.space ask) (sym asked);
+    stands = λ late h. subst (λ (s : Standing). IsStock late g on s (stocked next l (with_change true f)))
+        (ap (after_ask g on st call at) (sym asked)) (change_stands late h.alike);
   }
-    where
-      fits : (b : Bool) → is_over (rules g) on st.space (cond b change nothing) ≡ false
-      fits true = refl
-      fits false = refl
 
-      none : (b : Bool) → [] ≡ ops_of (rules g) on st.space (cond b change nothing)
-      none true = refl
-      none false = refl
+-- ---- a call that asks nothing
+
+module _ (t : FileTree) (l : Plan) (f : Frame) (call : Call) (at : Moment) (early : Tape) (g : Given) (on : Bool) (st : Standing)
+    (i : IsStock early g on st (stocked t l f)) (asked : ask_of g st call at ≡ nothing) where
+  still_stands : (late : Tape) → AreAlikeIn (TreeStandsIn t) late early → IsStock late g on st (stocked t l f)
+  still_stands late alike = record {
+    plain = blocks_make_the_tree late early t alike ∙ i.plain;
+    files = i.files;
+    layout = i.layout;
+    frame = i.frame;
+    name = i.name;
+    block_size = i.block_size;
+    below = i.below;
+  }
+
+  pub still_done : IsDone early g on st call at (stocked t l f) (stocked t l f)
+  still_done = record {
+    fits = ap (is_over (rules g) on st.space) asked;
+    ops = sym (append-nil l.ops) ∙ ap (λ ask. l.ops ++ ops_of (rules g) on st.space ask) (sym asked);
+    stands = λ late h. subst (λ (s : Standing). IsStock late g on s (stocked t l f)) (sym (are_still.nothing_asked g on st call at asked)) (still_stands late h.alike);
+  }
+
+pub step_done : (before next : FileTree) (l : Plan) (f : Frame) (call : Call) (at : Moment) (changed : Bool) → IsTreeStep call at changed before next
+    → (early : Tape) (g : Given) (on : Bool) (st : Standing) → IsStock early g on st (stocked before l f) → IsDone early g on st call at (stocked before l f) (stocked next l (with_change changed f))
+step_done before next l f call at true step early g on st i = change_done before next l f call at step early g on st i
+step_done before next l f call at false step early g on st i =
+    subst (λ t. IsDone early g on st call at (stocked before l f) (stocked t l f)) (sym step.same) (still_done before l f call at early g on st i (step.asks early g st i.plain))
 
 -- ---- a write
 
@@ -157,10 +164,10 @@ module _ (before next : FileTree) (l : Plan) (f : Frame) (path : Path) (offset b
     (early : Tape) (g : Given) (on : Bool) (st : Standing) (i : IsStock early g on st (stocked before l f))
     (some_block : 1 ≤ before.block_size)
     (wants : wanted ≡ chooses_ip f.carried.policy (unwrap_or (last_name path) []) (max (length (plain.cells_at (plain_of early before).nodes path)) (offset + length (b ∷ rest)))) where
-  bytes : List ℕ
+  abbrev bytes : List ℕ
   bytes = b ∷ rest
 
-  part : Part
+  abbrev part : Part
   part = part_for (rules g) on st.space wanted bytes
 
   unrefused : refusal_of st.tree (asks.Write path offset bytes) ≡ None
@@ -182,7 +189,7 @@ module _ (before next : FileTree) (l : Plan) (f : Frame) (path : Path) (offset b
   module _ (step : IsWrite path new bytes at before next) (now : Plan) (admitted : now ≡ (data_admission l wanted bytes).after)
       (new_is : new ≡ record { offset = offset; part = part; block = end_of part st.space.ends; byte = 0; count = length bytes }) where
     now_is : now ≡ plan_of (rules g) on (space.after (rules g) on st.space (store wanted bytes)) (l.ops ++ ops_of (rules g) on st.space (store wanted bytes))
-    now_is = admitted ∙ ap (λ (a : Rattle.tape_layout.specs.Admissions.Admission). a.after) data_is
+    now_is = admitted ∙ ap (λ (a : Admission). a.after) data_is
 
     now_ops : now.ops ≡ l.ops ++ ops_of (rules g) on st.space (store wanted bytes)
     now_ops = ap (λ (p : Plan). p.ops) now_is
@@ -193,7 +200,8 @@ module _ (before next : FileTree) (l : Plan) (f : Frame) (path : Path) (offset b
         let count : new.count ≡ length bytes = ap (λ (e : Extent). e.count) new_is in
         let byte : new.byte ≡ 0 = ap (λ (e : Extent). e.byte) new_is in
         let block : new.block ≡ end_of part st.space.ends = ap (λ (e : Extent). e.block) new_is in
-        let first : (new.byte + h.byte) / before.block_size ≡ h.byte / before.block_size = ap (λ n. (n + h.byte) / before.block_size) byte in
+        let sum : new.byte + h.byte ≡ h.byte = omega (arith, byte) in
+        let first : (new.byte + h.byte) / before.block_size ≡ h.byte / before.block_size = ap (λ n. n / before.block_size) sum in
         let low : h.byte / before.block_size < div_ceil (length bytes) before.block_size = before_end (length bytes) before.block_size h.byte some_block (omega (arith, h.within, count)) in
         let size : div_ceil (length bytes) before.block_size ≡ div_ceil (length bytes) g.mounted.label.block = ap (div_ceil (length bytes)) i.block_size in
         subst (λ q. pos < end_of q (with_end part (end_of part st.space.ends + blocks (rules g) bytes) st.space.ends)) on_part
@@ -229,7 +237,7 @@ module _ (before next : FileTree) (l : Plan) (f : Frame) (path : Path) (offset b
     pub write_done : (need : (data_admission l wanted bytes).need ≤ (data_admission l wanted bytes).limit)
         → IsDone early g on st (asks.Write path offset bytes) at (stocked before l f) (stocked next now (with_change true f))
     write_done need = record {
-      fits = ap (is_over (rules g) on st.space) asked_store ∙ not_over _ _ (subst (λ (a : Rattle.tape_layout.specs.Admissions.Admission). a.need ≤ a.limit) data_is need);
+      fits = ap (is_over (rules g) on st.space) asked_store ∙ not_over _ _ (subst (λ (a : Admission). a.need ≤ a.limit) data_is need);
       ops = now_ops ∙ ap (λ ask. l.ops ++ ops_of (rules g) on st.space ask) (sym asked_store);
       stands = λ late h. subst (λ (s : Standing). IsStock late g on s (stocked next now (with_change true f)))
           (ap (after_ask g on st (asks.Write path offset bytes) at) (sym asked_store))
@@ -239,7 +247,71 @@ module _ (before next : FileTree) (l : Plan) (f : Frame) (path : Path) (offset b
   pub write_full : (need limit : ℕ) → (data_admission l wanted bytes).limit < (data_admission l wanted bytes).need → need ≡ (data_admission l wanted bytes).need
       → limit ≡ (data_admission l wanted bytes).limit → IsFull g on st (asks.Write path offset bytes) at need limit
   write_full need limit more need_is limit_is = record {
-    over = ap (is_over (rules g) on st.space) asked_store ∙ over _ _ (subst (λ (a : Rattle.tape_layout.specs.Admissions.Admission). a.limit < a.need) data_is more);
-    need = need_is ∙ ap (λ (a : Rattle.tape_layout.specs.Admissions.Admission). a.need) data_is ∙ ap (need_of (rules g) on st.space) (sym asked_store);
-    limit = limit_is ∙ ap (λ (a : Rattle.tape_layout.specs.Admissions.Admission). a.limit) data_is ∙ ap (limit_of (rules g) on st.space) (sym asked_store);
+    over = ap (is_over (rules g) on st.space) asked_store ∙ over _ _ (subst (λ (a : Admission). a.limit < a.need) data_is more);
+    need_is = need_is ∙ ap (λ (a : Admission). a.need) data_is ∙ ap (need_of (rules g) on st.space) (sym asked_store);
+    limit_is = limit_is ∙ ap (λ (a : Admission). a.limit) data_is ∙ ap (limit_of (rules g) on st.space) (sym asked_store);
   }
+
+-- ---- a sync
+
+module _ (t : FileTree) (l : Plan) (f : Frame) (at : Moment) (early : Tape) (g : Given) (on : Bool) (st : Standing)
+    (i : IsStock early g on st (stocked t l f)) where
+  space_changed : (b : Bool) → f.changed ≡ b → st.space.changed ≡ b
+  space_changed b is = sym (ap (λ (f : Frame). f.changed) i.frame) ∙ is
+
+  pub asked_nothing : f.changed ≡ false → ask_of g st asks.Sync at ≡ nothing
+  asked_nothing is = ap (λ b. cond b (index (sync_text g st at)) nothing) (space_changed false is)
+
+  abbrev admission : Admission
+  admission = index_admission l (f.generation + 1) (canon (sync_index f t l.ends.dp at))
+
+  index_admitted : admission ≡ admission_of (rules g) on st.space l.ops (index (sync_text g st at)) (record { part = Dp; pos = st.space.ends.dp + 1 })
+  index_admitted = ap (λ text. index_admission l (f.generation + 1) text) (text_is early g on st (stocked t l f) i at)
+      ∙ ap (λ p. index_admission p (f.generation + 1) (sync_text g st at)) i.layout
+      ∙ ap (λ (f : Frame). index_admission (plan_of (rules g) on st.space l.ops) (f.generation + 1) (sync_text g st at)) i.frame
+
+  module _ (changed : f.changed ≡ true) where
+    asked_index : ask_of g st asks.Sync at ≡ index (sync_text g st at)
+    asked_index = ap (λ b. cond b (index (sync_text g st at)) nothing) (space_changed true changed)
+
+    pub sync_full : (need limit : ℕ) → admission.limit < admission.need → need ≡ admission.need → limit ≡ admission.limit → IsFull g on st asks.Sync at need limit
+    sync_full need limit more need_is limit_is = record {
+      over = ap (is_over (rules g) on st.space) asked_index ∙ over _ _ (subst (λ (a : Admission). a.limit < a.need) index_admitted more);
+      need_is = need_is ∙ ap (λ (a : Admission). a.need) index_admitted ∙ ap (need_of (rules g) on st.space) (sym asked_index);
+      limit_is = limit_is ∙ ap (λ (a : Admission). a.limit) index_admitted ∙ ap (limit_of (rules g) on st.space) (sym asked_index);
+    }
+
+    module _ (now : Plan) (place : Place) (fits : admission.need ≤ admission.limit) (place_is : place ≡ admission.place) (now_is : now ≡ admission.after) where
+      plan_is : now ≡ plan_of (rules g) on (space.after (rules g) on st.space (index (sync_text g st at))) (l.ops ++ ops_of (rules g) on st.space (index (sync_text g st at)))
+      plan_is = now_is ∙ ap (λ (a : Admission). a.after) index_admitted
+
+      ops_are : now.ops ≡ l.ops ++ ops_of (rules g) on st.space (index (sync_text g st at))
+      ops_are = ap (λ (p : Plan). p.ops) plan_is
+
+      first_block : place.pos ≡ st.space.ends.dp + 1
+      first_block = ap (λ (p : Place). p.pos) (place_is ∙ ap (λ (a : Admission). a.place) index_admitted)
+
+      sync_stands : (late : Tape) → AreAlikeIn (TreeStandsIn t) late early
+          → IsStock late g on (after_ask g on st asks.Sync at (index (sync_text g st at))) (stocked t now (with_index (with_sync f place)))
+      sync_stands late alike = record {
+        plain = blocks_make_the_tree late early t alike ∙ i.plain;
+        files = i.files;
+        layout = plan_is ∙ ap (plan_of (rules g) on (space.after (rules g) on st.space (index (sync_text g st at)))) (sym ops_are);
+        frame = ap (λ pos. with_index (with_sync f (record { part = Dp; pos = pos }))) first_block
+            ∙ ap (λ (f : Frame). with_index (with_sync f (record { part = Dp; pos = st.space.ends.dp + 1 }))) i.frame;
+        name = i.name;
+        block_size = i.block_size;
+        below = λ part pos h. further (end_of part st.space.ends) _ pos
+            (ends_grow Dp (index_need (rules g) Dp st.space (sync_text g st at)) st.space.ends part (omega arith)) (i.below part pos h);
+      }
+        where
+          further : (a b pos : ℕ) → a ≤ b → pos < a → pos < b
+          further a b pos h lt = omega (arith, h, lt)
+
+      pub sync_done : IsDone early g on st asks.Sync at (stocked t l f) (stocked t now (with_index (with_sync f place)))
+      sync_done = record {
+        fits = ap (is_over (rules g) on st.space) asked_index ∙ not_over _ _ (subst (λ (a : Admission). a.need ≤ a.limit) index_admitted fits);
+        ops = ops_are ∙ ap (λ ask. l.ops ++ ops_of (rules g) on st.space ask) (sym asked_index);
+        stands = λ late h. subst (λ (s : Standing). IsStock late g on s (stocked t now (with_index (with_sync f place))))
+            (ap (after_ask g on st asks.Sync at) (sym asked_index)) (sync_stands late h.alike);
+      }

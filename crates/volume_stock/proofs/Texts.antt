@@ -1,5 +1,5 @@
 -- The text of the index that a sync writes.
-use Rattle.std.proofs.Common.{◌≡◌, ℕ, ◌+◌, List, [], ◌∷◌, length, map, Option, Some, None, slice_get, sym, ap, ◌∙◌, refl, subst}
+use Rattle.std.proofs.Common.{◌≡◌, ℕ, suc, ◌+◌, Bool, List, [], ◌∷◌, length, map, Option, Some, None, slice_get, sym, ap, ◌∙◌, refl, subst}
 use Rattle.std.specs.Option.{option_map}
 use Rattle.std.specs.FinMap as fin
 use Rattle.tape_types.specs.declared.moments.Moment.{Moment}
@@ -33,10 +33,10 @@ use Rattle.volume_stock.specs.Stocks.{IsStock, LieAs, Stocked, frame_of, stocked
 map_both : {X Y Z : Type 0} (f : X → Z) (g : Y → Z) (h : X → Y) (xs : List X) → ((i : ℕ) (x : X) → slice_get xs i ≡ Some x → f x ≡ g (h x)) → map f xs ≡ map g (map h xs)
 map_both f g h [] same = refl
 map_both f g h (x ∷ xs) same =
-    ap (λ z. z ∷ map f xs) (same 0 x refl) ∙ ap (λ zs. g (h x) ∷ zs) (map_both f g h xs (λ i y is. same (i + 1) y is))
+    ap (λ z. z ∷ map f xs) (same 0 x refl) ∙ ap (λ zs. g (h x) ∷ zs) (map_both f g h xs (λ i y is. same (suc i) y is))
 
-module _ (tape : Tape) (both : Letters) (name : List ℕ) (files : Files) (t : FileTree) (as : LieAs files t) where
-  line : (Path × Node) → (Path × plain_node.Node)
+module _ (tape : Tape) (both : Letters) (name : List ℕ) (files : Files) (t : FileTree) (held : LieAs files t) where
+  abbrev line : (Path × Node) → (Path × plain_node.Node)
   line e = (e.0, plain_node_of tape e.1)
 
   keys_are : fin.keys (plain_of tape t).nodes ≡ fin.keys t.nodes
@@ -50,7 +50,7 @@ module _ (tape : Tape) (both : Letters) (name : List ℕ) (files : Files) (t : F
       by (kinds.Link text) e = rw e refl
       by (kinds.File room) e =
           rw e (ap (λ n. told_kinds.File n (map (raw_of both) room.laid.extents)) (sym (long_as tape room.laid))
-          ∙ ap (λ (l : Rattle.extent_map.specs.Laid.Laid). told_kinds.File (length (file_cells tape room.laid)) (map (raw_of both) l.extents)) (sym (as.lies path node room there e)))
+          ∙ ap (λ (l : Rattle.extent_map.specs.Laid.Laid). told_kinds.File (length (file_cells tape room.laid)) (map (raw_of both) l.extents)) (sym (held.lies path node room there e)))
 
   node_told : (i : ℕ) (e : Path × Node) → slice_get (fin.entries t.nodes) i ≡ Some e → file_told.told_of both name (fin.keys t.nodes) e ≡ told_node both name files (fin.keys t.nodes) (line e)
   node_told i e is = ap (λ k. record {
@@ -70,7 +70,7 @@ module _ (tape : Tape) (both : Letters) (name : List ℕ) (files : Files) (t : F
 
 -- the index of a sync is that of what stands
 module _ (tape : Tape) (g : Given) (on : Bool) (st : Standing) (s : Stocked) (i : IsStock tape g on st s) (at : Moment) where
-  index_now : Index
+  abbrev index_now : Index
   index_now = index_at g.mounted st.tree st.files (st.space.newest + 1) at Dp (st.space.ends.dp + 1) st.space.last_dp
 
   by_frame : sync_index s.frame s.tree s.layout.ends.dp at ≡ sync_index (frame_of g.mounted st.space s.frame.noted) s.tree st.space.ends.dp at

@@ -20,11 +20,11 @@ use Rattle.plain_tree.proofs.Validity.{file_mark, rename_target, valid_free}
 use Rattle.plain_tree.proofs.WriteLemmas.{rename_keeps_nodes}
 use Rattle.file_tree.proofs.PathLemmas.{get_here, get_other, gone_other, is_or_not}
 
-pub uid_in : Option (ℕ × Bool) → ℕ
+abbrev pub uid_in : Option (ℕ × Bool) → ℕ
 uid_in None = 0
 uid_in (Some mark) = mark.0
 
-pub dir_in : Option (ℕ × Bool) → Bool
+abbrev pub dir_in : Option (ℕ × Bool) → Bool
 dir_in None = false
 dir_in (Some mark) = mark.1
 
@@ -71,12 +71,12 @@ length_mark t path n at q =
 
 -- ---- a move
 
-uid_held : Option (ℕ × Kind) → ℕ
+abbrev uid_held : Option (ℕ × Kind) → ℕ
 uid_held None = 0
 uid_held (Some held) = held.0
 
 module _ (t : Tree) (from to : Path) (at : Moment) (valid : IsValid t) (free : refusal_of t (Rename from to) ≡ None) (apart : same_path from to ≡ false) where
-  next : Nodes
+  abbrev next : Nodes
   next = (after t (Rename from to) at).nodes
 
   moved : HasMoved t (after t (Rename from to) at) from to

@@ -47,8 +47,8 @@ pub record IsDone (early : Tape) (g : Given) (on : Bool) (st : Standing) (call :
 -- it needs more than there is
 pub record IsFull (g : Given) (on : Bool) (st : Standing) (call : Call) (at : Moment) (need limit : ℕ) : Type 0 where
   pub over : is_over (rules g) on st.space (ask_of g st call at) ≡ true
-  pub need : need ≡ need_of (rules g) on st.space (ask_of g st call at)
-  pub limit : limit ≡ limit_of (rules g) on st.space (ask_of g st call at)
+  pub need_is : need ≡ need_of (rules g) on st.space (ask_of g st call at)
+  pub limit_is : limit ≡ limit_of (rules g) on st.space (ask_of g st call at)
 
 -- how a call ends that the tree doesn't refuse
 abbrev pub IsChange : Tape → Given → Bool → Standing → Call → Moment → Stocked → Stocked → Result Unit AdmitErr → Type 0
@@ -78,15 +78,23 @@ LeavesAll old new (Ok (Some refusal)) = new ≡ old
 LeavesAll old new (Ok None) = Unit {0}
 LeavesAll old new (Err e) = IsUnchanged old new
 
--- What a call makes of the tree that stores nothing: whether it changes it, the tree after it, and how the files lie then.
-pub record IsTreeStep (call : Call) (at : Moment) (changed : Bool) (before next : FileTree) : Type 0 where
+-- What a call makes of the tree that changes it and stores nothing: the tree after it, and how the files lie then.
+pub record IsChanging (call : Call) (at : Moment) (before next : FileTree) : Type 0 where
   pub plain : IsAfter call at before next
   pub volume : KeepsVolume before next
   pub blocks : AddsNoBlock before next
-  pub asks : (tape : Tape) (g : Given) (st : Standing) → plain_of tape before ≡ st.tree
-      → ask_of g st call at ≡ cond changed change nothing
+  pub asks : (tape : Tape) (g : Given) (st : Standing) → plain_of tape before ≡ st.tree → ask_of g st call at ≡ change
   pub lies : (tape : Tape) (g : Given) (on : Bool) (st : Standing) → plain_of tape before ≡ st.tree → LieAs st.files before
-      → LieAs (files_after g on st call (cond changed change nothing)) next
+      → LieAs (files_after g on st call change) next
+
+-- what a call makes of it that asks nothing
+pub record IsStill (call : Call) (at : Moment) (before next : FileTree) : Type 0 where
+  pub same : next ≡ before
+  pub asks : (tape : Tape) (g : Given) (st : Standing) → plain_of tape before ≡ st.tree → ask_of g st call at ≡ nothing
+
+abbrev pub IsTreeStep : Call → Moment → Bool → FileTree → FileTree → Type 0
+IsTreeStep call at true before next = IsChanging call at before next
+IsTreeStep call at false before next = IsStill call at before next
 
 -- a call that neither writes bytes nor asks for an index
 abbrev pub StoresNothing : Call → Type 0

@@ -1,5 +1,5 @@
 -- What is held of a volume while it is served, and what that stands for.
-use Rattle.std.specs.Prelude.{◌≡◌, ◌<◌, ◌&&◌, ◌||◌, not, ℕ, Bool, [], Some}
+use Rattle.std.specs.Prelude.{◌≡◌, ◌<◌, ◌&&◌, ◌||◌, not, ℕ, Bool, true, false, [], Some}
 use Rattle.std.specs.FinMap as fin
 use Rattle.extent_map.specs.Cells.{Tape}
 use Rattle.extent_map.specs.Laid.{Laid, Room}
@@ -63,3 +63,12 @@ pub record IsStock (tape : Tape) (g : Given) (on : Bool) (st : Standing) (s : St
   pub name : s.tree.name ≡ root_name g.mounted
   pub block_size : s.tree.block_size ≡ g.mounted.label.block
   pub below : LiesBelow (ends_of st.space.ends) s.tree
+
+-- once the tree has changed
+abbrev pub with_change : Bool → Frame → Frame
+with_change true f = record f { changed = true }
+with_change false f = f
+
+-- once the index of a sync is admitted
+abbrev pub with_index : Frame → Frame
+with_index f = record f { dp_done = true; ip_done = false }

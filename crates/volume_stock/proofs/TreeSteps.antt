@@ -7,9 +7,10 @@ use Rattle.tape_types.specs.declared.cartridges.Extent.{Extent}
 use Rattle.tape_types.specs.declared.moments.Moment.{Moment}
 use Rattle.plain_tree.specs.Calls.{after, after_done, with_length, with_rename, without}
 use Rattle.plain_tree.specs.Cells.{written}
-use Rattle.plain_tree.specs.Paths.{Path, moved_path, same_path}
+use Rattle.plain_tree.specs.Paths.{Path, moved_path, parent_of, same_path}
 use Rattle.plain_tree.specs.Refusals.{refusal_of}
 use Rattle.plain_tree.specs.Tree as plain
+use Rattle.plain_tree.specs.Tree.{change_noted, changed_at, touch}
 use Rattle.plain_tree.specs.Valid.{mark_at, mark_of, is_dir}
 use Rattle.plain_tree.specs.declared.calls.Call.TheVariants as asks
 use Rattle.extent_map.specs.Blocks.{AreAlikeIn}
@@ -50,16 +51,16 @@ module _ (before next : FileTree) (path : Path) (number : ℕ) (at : Moment) (go
       there here
 
   removed_as : (files : Files) → LieAs files before → LieAs files next
-  removed_as files as = record {
+  removed_as files held = record {
     lies = λ p node room there file. ⊎_elim
         (λ (e : node.number ≡ number). absurd (gone p (number_is next.nodes p node there ∙ ap (λ n. Some n) e)))
-        (λ apart. others_as before next number (λ p. p) good others numbers removed_uids files as p node room there file apart)
+        (λ apart. others_as before next number (λ p. p) good others numbers removed_uids files held p node room there file apart)
         (equal_or_not node.number number);
-    fresh = λ uid more. as.fresh uid (omega (arith, more, ap (λ (t : plain.Tree). t.highest) removed_now)) ∙ ap no_bytes (sym volume.block_size);
+    fresh = λ uid more. held.fresh uid (omega (arith, more, ap (λ (t : plain.Tree). t.highest) removed_now)) ∙ ap no_bytes (sym volume.block_size);
   }
 
   pub removed_step : IsStep (asks.Remove path) at AsBefore before next
-  removed_step = record { plain = done; volume = volume; blocks = adds; lies = λ tape files as. removed_as files as }
+  removed_step = record { plain = done; volume = volume; blocks = adds; lies = λ tape files held. removed_as files held }
 
 -- ---- all files lie as they did
 
@@ -67,10 +68,10 @@ module _ (before next : FileTree) (to : Path → Path) (good : IsGood next) (lie
     (uids : (path : Path) (node now : Node) → fin.get before.nodes path ≡ Some node → fin.get next.nodes (to path) ≡ Some now → now.uid ≡ node.uid)
     (highest : next.highest ≡ before.highest) (volume : KeepsVolume before next) where
   pub all_as : (files : Files) → LieAs files before → LieAs files next
-  all_as files as = record {
+  all_as files held = record {
     lies = λ p node room there file. others_as before next (node.number + 1) to good (λ n _. lie n) (λ q n _ is. numbers q n is)
-        (λ q old now was _ is. uids q old now was is) files as p node room there file (λ e. omega (arith, e));
-    fresh = λ uid more. as.fresh uid (omega (arith, more, highest)) ∙ ap no_bytes (sym volume.block_size);
+        (λ q old now was _ is. uids q old now was is) files held p node room there file (λ e. omega (arith, e));
+    fresh = λ uid more. held.fresh uid (omega (arith, more, highest)) ∙ ap no_bytes (sym volume.block_size);
   }
 
 -- ---- a move
@@ -83,11 +84,10 @@ module _ (before next : FileTree) (from to : Path) (at : Moment) (good : IsGood 
   renamed_now = done whole ∙ after_free (plain_of whole before) (asks.Rename from to) at free
 
   renamed_highest : next.highest ≡ before.highest
-  renamed_highest = ap (λ (t : plain.Tree). t.highest) renamed_now ∙ by (same_path from to)
-    where
-      by : (b : Bool) → (cond b (plain_of whole before) (record (plain_of whole before) { nodes = (with_rename (plain_of whole before) from to at).nodes })).highest ≡ before.highest
-      by true = refl
-      by false = refl
+  renamed_highest = ap (λ (t : plain.Tree). t.highest) renamed_now
+      ∙ ap (λ b. (cond b (plain_of whole before) (record (plain_of whole before) {
+        nodes = touch at (parent_of to) (touch at (parent_of from) (changed_at (change_noted at) to (plain.moved from to (plain_of whole before).nodes)));
+      })).highest) apart
 
   renamed_uids : (path : Path) (node now : Node) → fin.get before.nodes path ≡ Some node → fin.get next.nodes (moved_path from to path) ≡ Some now → now.uid ≡ node.uid
   renamed_uids path node now there here =
@@ -100,7 +100,7 @@ module _ (before next : FileTree) (from to : Path) (at : Moment) (good : IsGood 
     plain = done;
     volume = volume;
     blocks = adds;
-    lies = λ tape files as. all_as before next (moved_path from to) good_next lie numbers renamed_uids renamed_highest volume files as;
+    lies = λ tape files held. all_as before next (moved_path from to) good_next lie numbers renamed_uids renamed_highest volume files held;
   }
 
 -- ---- more memory
@@ -123,9 +123,9 @@ same_nodes before next nodes highest volume = record {
   plain = λ tape. ap (λ h. record { highest = h; nodes = plain_nodes tape next.nodes }) highest ∙ ap (λ m. record { highest = before.highest; nodes = plain_nodes tape m }) nodes;
   volume = volume;
   blocks = λ part pos h. record { number = h.number; laid = h.laid; file = subst (λ m. HasLaid m h.number h.laid) nodes h.file; block = h.block };
-  lies = λ files as. record {
-    lies = λ path node room there file. as.lies path node room (ap (λ m. fin.get m path) (sym nodes) ∙ there) file;
-    fresh = λ uid more. as.fresh uid (omega (arith, more, highest)) ∙ ap no_bytes (sym volume.block_size);
+  lies = λ files held. record {
+    lies = λ path node room there file. held.lies path node room (ap (λ m. fin.get m path) (sym nodes) ∙ there) file;
+    fresh = λ uid more. held.fresh uid (omega (arith, more, highest)) ∙ ap no_bytes (sym volume.block_size);
   };
 }
 
@@ -137,7 +137,7 @@ step_from old before next call at same step = record {
   plain = λ tape. step.plain tape ∙ ap (λ t. after t call at) (same.plain tape);
   volume = record { name = step.volume.name ∙ same.volume.name; block_size = step.volume.block_size ∙ same.volume.block_size };
   blocks = λ part pos h. same.blocks part pos (step.blocks part pos h);
-  lies = λ tape files as. step.lies tape files (same.lies files as);
+  lies = λ tape files held. step.lies tape files (same.lies files held);
 }
 
 -- ---- one file lies otherwise
@@ -161,19 +161,19 @@ module _ (before next : FileTree) (path : Path) (file : ℕ) (laid : Laid) (chan
 
   -- the files before, at the uid of the file
   lay : (files : Files) → LieAs files before → files old.0.uid ≡ laid
-  lay files as =
+  lay files held =
       let same : was.path ≡ path = sym (path_of before path was.path was.node file good stands was.there was.is) in
       let node_is : was.node ≡ old.0 = some_same was.node old.0 (sym was.there ∙ ap (fin.get before.nodes) same ∙ old.1) in
-      ap files (ap (λ (n : Node). n.uid) (sym node_is)) ∙ as.lies was.path was.node was.room was.there was.file ∙ was.lies
+      ap files (ap (λ (n : Node). n.uid) (sym node_is)) ∙ held.lies was.path was.node was.room was.there was.file ∙ was.lies
 
-  module _ (tape : Tape) (files : Files) (as : LieAs files before) where
+  module _ (tape : Tape) (files : Files) (held : LieAs files before) where
     this_one : (q : Path) (node : Node) (room : Room) → fin.get next.nodes q ≡ Some node → node.kind ≡ kinds.File room → node.number ≡ file → file_changed before path change tape files node.uid ≡ room.laid
     this_one q node room there is_file is =
         let path_is : path ≡ q = this_path q node there is in
         let uid : node.uid ≡ old.0.uid = uid_kept whole before next path path old.0 node (marks whole path) old.1 (ap (fin.get next.nodes) path_is ∙ there) in
         let test : eqb node.uid (uid_at (plain_of tape before).nodes path) ≡ true = ap (λ u. eqb node.uid u) (uid_is tape ∙ sym uid) ∙ same_number node.uid in
         let has : HasLaid next.nodes file room.laid = record { path = q; node = node; there = there; is = is; room = room; file = is_file; lies = refl } in
-        ap (λ b. cond b (change (files node.uid)) (files node.uid)) test ∙ ap (λ u. change (files u)) uid ∙ ap change (lay files as) ∙ one_laid next.nodes file (change laid) room.laid good_next.differ now has
+        ap (λ b. cond b (change (files node.uid)) (files node.uid)) test ∙ ap (λ u. change (files u)) uid ∙ ap change (lay files held) ∙ one_laid next.nodes file (change laid) room.laid good_next.differ now has
       where
         same_number : (n : ℕ) → eqb n n ≡ true
         same_number n = grind (arith, nat_tests)
@@ -181,7 +181,7 @@ module _ (before next : FileTree) (path : Path) (file : ℕ) (laid : Laid) (chan
     other_one : (q : Path) (node : Node) (room : Room) → fin.get next.nodes q ≡ Some node → node.kind ≡ kinds.File room → node.number ≢ file → file_changed before path change tape files node.uid ≡ room.laid
     other_one q node room there is_file apart =
         ap (λ b. cond b (change (files node.uid)) (files node.uid)) (differs node.uid (uid_at (plain_of tape before).nodes path) (λ e. apart (is_this e)))
-        ∙ others_as before next file (λ p. p) good_next others (λ p n _ is. numbers p n is) uids files as q node room there is_file apart
+        ∙ others_as before next file (λ p. p) good_next others (λ p n _ is. numbers p n is) uids files held q node room there is_file apart
       where
         differs : (a b : ℕ) → a ≢ b → eqb a b ≡ false
         differs a b h = grind (arith, nat_tests, h)
@@ -200,7 +200,7 @@ module _ (before next : FileTree) (path : Path) (file : ℕ) (laid : Laid) (chan
           (λ (e : node.number ≡ file). this_one q node room there is_file e)
           (λ apart. other_one q node room there is_file apart)
           (equal_or_not node.number file);
-      fresh = λ uid more. ap (λ b. cond b (change (files uid)) (files uid)) (unlike_old uid more) ∙ as.fresh uid (omega (arith, more, highest)) ∙ ap no_bytes (sym volume.block_size);
+      fresh = λ uid more. ap (λ b. cond b (change (files uid)) (files uid)) (unlike_old uid more) ∙ held.fresh uid (omega (arith, more, highest)) ∙ ap no_bytes (sym volume.block_size);
     }
       where
         known : old.0.uid ≤ before.highest
