@@ -1,5 +1,7 @@
 pub mod Uids
 pub mod Lies
 pub mod TreeSteps
+pub mod Asks
+pub mod WriteSteps
 pub mod Stands
 pub mod Texts

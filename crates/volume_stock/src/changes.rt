@@ -116,7 +116,7 @@ fn rename(
     ensures ok { IfOk result (λ changed. IsTreeStep (Call.Rename from.now to.now) at changed tree.old tree.new) }
     ensures err { OnErr result (tree.new ≡ tree.old) }
 {
-    if from == to {
+    if same_path(from, to) {
         return Ok(false);
     }
     move_to(tree, alloc, from, to, at)?;
@@ -154,11 +154,17 @@ fn truncate(tree: &mut Tree, path: &[Text], length: u64, at: Moment) -> bool
     ensures { IsTreeStep (Call.Truncate path.now length) at result tree.old tree.new }
 {
     let file = node_at(tree, path);
+    let _count = tree.count();
     if tree.extents(file).length() == length {
         return false;
     }
-    let _count = tree.count();
     tree.set_length(file, length, at);
     let _count_now = tree.count();
     true
+}
+
+fn same_path(a: &[Text], b: &[Text]) -> bool
+    ensures { result ≡ paths.same_path a.now b.now }
+{
+    a == b
 }

@@ -34,7 +34,12 @@ impl Model for Stock {
     ghost use Rattle.std.specs.Prelude.{◌≤◌, ◌^◌};
     ghost use Rattle.volume_stock.specs.Stocks.{Stocked, stocked};
 
+    ghost use Rattle.std.specs.Coded.{codes};
+    ghost use Rattle.file_tree.specs.contracts.tree.Tree as shown;
+
     ghost Value = { Stocked };
+
+    ghost coded = { Prim.hlevel (codes, shown.the_row.coded) };
 
     ghost view = { λ a. stocked a.tree a.layout a.frame };
 
@@ -52,15 +57,18 @@ impl Stock {
         if let Some(refusal) = self.tree.check(self.alloc, call)? {
             return Ok(Some(refusal));
         }
-        change(
+        let done = change(
             self.alloc,
             &mut self.tree,
             &mut self.layout,
             &mut self.frame,
             call,
             at,
-        )?;
-        Ok(None)
+        );
+        match done {
+            Ok(()) => Ok(None),
+            Err(e) => Err(e),
+        }
     }
 }
 
@@ -117,7 +125,9 @@ fn change_alone(
     ensures err { OnErr result ((l : Plan) → IsUnchanged (stocked tree.old l frame.old) (stocked tree.new l frame.new)) }
     ensures generation { frame.new.generation ≡ frame.old.generation }
 {
-    let changed = change_tree(tree, alloc, call, at)?;
+    let Ok(changed) = change_tree(tree, alloc, call, at) else {
+        return Err(AdmitErr::NoMemory);
+    };
     note(frame, changed);
     Ok(())
 }

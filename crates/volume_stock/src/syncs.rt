@@ -32,8 +32,12 @@ pub fn sync(
     if !frame.changed {
         return Ok(());
     }
-    admit_sync(alloc, layout, tree, frame, at)?;
-    frame.dp_done = true;
-    frame.ip_done = false;
-    Ok(())
+    match admit_sync(alloc, layout, tree, frame, at) {
+        Ok(_) => {
+            frame.dp_done = true;
+            frame.ip_done = false;
+            Ok(())
+        }
+        Err(e) => Err(e),
+    }
 }

@@ -1,10 +1,11 @@
 //! Writes of bytes into a file.
 
-ghost use Rattle.std.specs.Prelude.{◌≡◌, ◌+◌, ◌≤◌, ℕ, List, None, max, unwrap_or, length, OnErr};
+ghost use Rattle.std.specs.Prelude.{◌≡◌, ◌+◌, ◌≤◌, ℕ, Bool, List, [], None, max, unwrap_or, length, OnErr};
 ghost use Rattle.extent_map.specs.Cells.{Tape};
 ghost use Rattle.extent_map.specs.Laid.{Room};
 ghost use Rattle.placement.specs.Computed.{chooses_ip as chosen_for};
-ghost use Rattle.plain_tree.specs.Paths.{Path, last_name};
+ghost use Rattle.plain_tree.specs.Paths as paths;
+ghost use Rattle.plain_tree.specs.Paths.{Path};
 ghost use Rattle.plain_tree.specs.Refusals.{refusal_of};
 ghost use Rattle.plain_tree.specs.Tree.{cells_at};
 ghost use Rattle.file_tree.specs.Edits.{CanWrite};
@@ -45,10 +46,18 @@ pub fn write(
         return Ok(());
     }
     let file = node_at(tree, path);
-    tree.reserve_extent(file)?;
+    let _ends = layout.ends();
+    let reserved = tree.reserve_extent(file);
+    let _count = tree.count();
+    if reserved.is_err() {
+        return Err(AdmitErr::NoMemory);
+    }
     let end = offset + bytes.len() as u64;
     let wanted = wants_ip(tree, &frame.carried.policy, path, file, end);
-    let place = layout.admit_data(wanted, bytes)?;
+    let place = match layout.admit_data(wanted, bytes) {
+        Ok(place) => place,
+        Err(e) => return Err(e),
+    };
     let new = Extent {
         offset,
         block: place.pos,
@@ -65,15 +74,21 @@ pub fn write(
 fn wants_ip(tree: &Tree, policy: &Option<Policy>, path: &[Text], file: u32, end: u64) -> bool
     requires file { (room : Room) × HasExtents tree.now.nodes file room }
     requires stands { StandsAt tree.now path.now file }
-    ensures { (tape : Tape) → result ≡ chosen_for policy.now (unwrap_or (last_name path.now) [])
+    ensures { (tape : Tape) → result ≡ chosen_for policy.now (unwrap_or (paths.last_name path.now) [])
         (max (length (cells_at (plain_of tape tree.now).nodes path.now)) end) }
 {
-    let name = match path.last() {
+    let _count = tree.count();
+    chooses_ip(policy, last_name(path), tree.extents(file).length().max(end))
+}
+
+/// The last name of a path, and no text where it has none.
+fn last_name(path: &[Text]) -> &str
+    ensures { result.now ≡ unwrap_or (paths.last_name path.now) [] }
+{
+    match path.last() {
         Some(name) => name.as_str(),
         None => "",
-    };
-    let _count = tree.count();
-    chooses_ip(policy, name, tree.extents(file).length().max(end))
+    }
 }
 
 /// Lets bytes of a file lie in an extent. Takes no memory.
