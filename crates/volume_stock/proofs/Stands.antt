@@ -28,7 +28,7 @@ use Rattle.file_tree.proofs.BlockLemmas.{blocks_make_the_tree, ends_hold}
 use Rattle.file_tree.proofs.RefusalLemmas.{refusals_alike}
 use Rattle.file_tree.proofs.TreeLemmas.{free_too}
 use Rattle.placement.specs.Computed.{chooses_ip}
-use Rattle.tape_layout.specs.Admissions.{Admission, IsAdmitted, data_admission, flush_first, index_admission, index_on}
+use Rattle.tape_layout.specs.Admissions.{Admission, IsAdmitted, data_admission, index_admission}
 use Rattle.tape_layout.specs.Ops.{end_of, with_end}
 use Rattle.tape_layout.specs.Plans.{Plan}
 use Rattle.tape_layout.specs.declared.ops.Op.{Op}
@@ -319,9 +319,6 @@ module _ (t : FileTree) (l : Plan) (f : Frame) (at : Moment) (early : Tape) (g :
 
 -- ---- results
 
-pub no_memory : (early : Tape) (g : Given) (on : Bool) (st : Standing) (call : Call) (at : Moment) (old new : Stocked) (r : Result Unit AdmitErr) → r ≡ Err NoMemory → IsChange early g on st call at old new r
-no_memory early g on st call at old new r is = rw is tt
-
 -- an index is admitted, or isn't
 pub synced : (t : FileTree) (l now : Plan) (f after : Frame) (at : Moment) (early : Tape) (g : Given) (on : Bool) (st : Standing) → IsStock early g on st (stocked t l f) → f.changed ≡ true
     → (e : AdmitErr) → IsSync t at l now f after (Err e) → IsChange early g on st asks.Sync at (stocked t l f) (stocked t now after) (Err e)
@@ -334,42 +331,13 @@ sync_admitted t l now f after at early g on st i changed place s =
     subst (λ a. IsDone early g on st asks.Sync at (stocked t l f) (stocked t now (with_index a))) (sym s.frame)
     (sync_done t l f at early g on st i changed now place s.admitted.0 s.admitted.1 s.admitted.2)
 
--- a refused one leaves all
-pub sync_refused : (t : FileTree) (l now : Plan) (f after : Frame) (at : Moment) (e : AdmitErr) → IsSync t at l now f after (Err e) → IsUnchanged (stocked t l f) (stocked t now after)
-sync_refused t l now f after at e s = by e s.admitted s.frame
-  where
-    same : now ≡ l → after ≡ f → IsUnchanged (stocked t l f) (stocked t now after)
-    same now_is after_is = subst (λ n. IsUnchanged (stocked t l f) (stocked t n after)) (sym now_is) (subst (λ a. IsUnchanged (stocked t l f) (stocked t l a)) (sym after_is)
-        (record { layout = refl; frame = refl; stands = λ tape g on st i. i }))
-
-    by : (e : AdmitErr) → IsAdmitted (index_admission l (f.generation + 1) (canon (sync_index f t l.ends.dp at))) l now (Err e) → after ≡ f → IsUnchanged (stocked t l f) (stocked t now after)
-    by (Full need limit) a after_is = same a.3 after_is
-    by NoMemory a after_is = same a after_is
-
--- an index that is admitted has a generation that there is
-pub sync_generation : (t : FileTree) (l now : Plan) (f after : Frame) (at : Moment) (place : Place) → IsSync t at l now f after (Ok place) → after.generation ≤ 2 ^ 62
-sync_generation t l now f after at place s =
-    let is : after.generation ≡ f.generation + 1 = ap (λ (f : Frame). f.generation) s.frame in
-    subst (λ n. n ≤ 2 ^ 62) (sym is) (by (nat_lt (2 ^ 62) (f.generation + 1)) refl s.admitted.0)
-  where
-    abbrev index_on_need : ℕ
-    index_on_need = (index_on l Dp (flush_first l.flush_due l.ends.ip) (canon (sync_index f t l.ends.dp at))).need
-
-    abbrev index_on_limit : ℕ
-    index_on_limit = (index_on l Dp (flush_first l.flush_due l.ends.ip) (canon (sync_index f t l.ends.dp at))).limit
-
-    by : (b : Bool) → nat_lt (2 ^ 62) (f.generation + 1) ≡ b
-        → (index_admission l (f.generation + 1) (canon (sync_index f t l.ends.dp at))).need ≤ (index_admission l (f.generation + 1) (canon (sync_index f t l.ends.dp at))).limit
-        → f.generation + 1 ≤ 2 ^ 62
-    by true test fits = let more : 2 ^ 62 < f.generation + 1 = grind (arith, nat_tests, test) in
-        absurd (let small : f.generation + 1 ≤ 2 ^ 62 = subst (λ b. cond b (f.generation + 1) (index_on_need) ≤ cond b (2 ^ 62) (index_on_limit)) test fits in omega (arith, more, small))
-    by false test fits = grind (arith, nat_tests, test)
-
 -- ---- a write as a whole
 
 pub empty_asks : (g : Given) (st : Standing) (path : Path) (offset : ℕ) (bytes : List ℕ) (at : Moment) → true ≡ eqb (length bytes) 0 → ask_of g st (asks.Write path offset bytes) at ≡ nothing
 empty_asks g st path offset [] at e = asks_nothing (refusal_of st.tree (asks.Write path offset []))
-empty_asks g st path offset (b ∷ bytes) at e = absurd cc
+empty_asks g st path offset (b ∷ bytes) at e =
+    let test : eqb (length (b ∷ bytes)) 0 ≡ false = grind (arith, nat_tests) in
+    absurd (let wrong : true ≡ false = e ∙ test in cc)
 
 pub some_bytes : (bytes : List ℕ) → false ≡ eqb (length bytes) 0 → 1 ≤ length bytes
 some_bytes [] e = absurd cc
@@ -386,7 +354,7 @@ write_all old before next l now f path offset [] at wanted place same some free 
 write_all old before next l now f path offset (b ∷ rest) at wanted place same some free block wants step admitted early g on st i =
     let j = same_stands old before l f same early g on st i in
     let place_is : place ≡ end_place (part_for (rules g) on st.space wanted (b ∷ rest)) st.space =
-    admitted.1 ∙ ap (λ (a : Admission). a.place) (data_is before l f path offset b rest at wanted free early g on st j block (wants early)) in
+    admitted.1 ∙ ap (λ (a : Admission). a.place) (data_is before next l f path offset b rest at wanted (record { offset = offset; part = place.part; block = place.pos; byte = 0; count = length (b ∷ rest) }) free early g on st j block (wants early)) in
     let new_is = ap (λ (p : Place). record { offset = offset; part = p.part; block = p.pos; byte = 0; count = length (b ∷ rest) }) place_is in
     let done = write_done before next l f path offset b rest at wanted (record { offset = offset; part = place.part; block = place.pos; byte = 0; count = length (b ∷ rest) }) free early g on st j block (wants early)
     step now admitted.2 new_is admitted.0 in
@@ -404,7 +372,7 @@ pub write_refused : (old before : FileTree) (l now : Plan) (f : Frame) (path : P
     → IsChange early g on st (asks.Write path offset bytes) at (stocked old l f) (stocked before now f) (Err e)
 write_refused old before l now f path offset [] at wanted e same some free block wants admitted early g on st i = absurd (omega (arith, some))
 write_refused old before l now f path offset (b ∷ rest) at wanted (Full need limit) same some free block wants admitted early g on st i =
-    write_full before l f path offset b rest at wanted free early g on st (same_stands old before l f same early g on st i) block (wants early) need limit admitted.0 admitted.1 admitted.2
+    write_full before before l f path offset b rest at wanted (record { offset = offset; part = Dp; block = 0; byte = 0; count = 0 }) free early g on st (same_stands old before l f same early g on st i) block (wants early) need limit admitted.0 admitted.1 admitted.2
 write_refused old before l now f path offset (b ∷ rest) at wanted NoMemory same some free block wants admitted early g on st i = tt
 
 pub refused_leaves : (old before : FileTree) (l now : Plan) (f : Frame) (a : Admission) (e : AdmitErr) → IsSameTree old before → IsAdmitted a l now (Err e) → IsUnchanged (stocked old l f) (stocked before now f)

@@ -14,8 +14,8 @@ returns-then-is_empty-clause-applied c early g on st i =
     still_done c.args.tree.now c.args.layout.now c.args.frame.now (asks.Write c.args.path.now c.args.offset c.args.bytes.now) c.args.at early g on st i
     (empty_asks g st c.args.path.now c.args.offset c.args.bytes.now c.args.at (c.if-is_empty.ensures {u = tt}))
 
-pub reserve_extent-requires : goal.reserve_extent-requires
-reserve_extent-requires c = file_there c.args.tree.now c.args.path.now c.node_at-file.result c.node_at-file.ensures (long_free (plain_of whole c.args.tree.now) c.args.path.now (c.args.offset + length c.args.bytes.now) c.requires.free).0
+pub reserve_extent-reserved-requires : goal.reserve_extent-reserved-requires
+reserve_extent-reserved-requires c = file_there c.args.tree.now c.args.path.now c.node_at-file.result c.node_at-file.ensures (long_free (plain_of whole c.args.tree.now) c.args.path.now (c.args.offset + length c.args.bytes.now) c.requires.free).0
 
 pub returns-then-is_err-clause-err : goal.returns-then-is_err-clause-err
 returns-then-is_err-clause-err c =
