@@ -4,4 +4,5 @@ pub mod TreeSteps
 pub mod Asks
 pub mod WriteSteps
 pub mod Stands
+pub mod StartLemmas
 pub mod Texts

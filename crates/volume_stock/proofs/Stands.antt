@@ -1,5 +1,5 @@
 -- That what is held after a call is what stands after it.
-use Rattle.std.proofs.Common.{◌≡◌, ◌≢◌, ◌⊎◌, ℕ, zero, suc, ◌+◌, ◌*◌, ◌/◌, ◌%◌, ◌<◌, ◌≤◌, ◌^◌, min, max, Bool, true, false, cond, eqb, nat_lt, List, [], ◌∷◌, ◌++◌, length, Option, Some, None, Result, Ok, Err, sym, ap, ◌∙◌, refl, subst, arith, ⊎_elim, inl, inr}
+use Rattle.std.proofs.Common.{◌≡◌, ◌≢◌, ◌⊎◌, ℕ, zero, suc, ◌+◌, ◌*◌, ◌/◌, ◌%◌, ◌<◌, ◌≤◌, ◌^◌, min, max, Bool, true, false, cond, eqb, nat_lt, drop, List, [], ◌∷◌, ◌++◌, length, Option, Some, None, Result, Ok, Err, sym, ap, ◌∙◌, refl, subst, arith, ⊎_elim, inl, inr}
 use Rattle.std.specs.Int.{div_ceil}
 use Rattle.std.specs.Option.{unwrap_or}
 use Rattle.std.proofs.lemmas.List.{append-nil}
@@ -390,3 +390,39 @@ pub refused_too : (early : Tape) (t : FileTree) (tree : plain.Tree) (call : Call
 refused_too early t tree call refusal is told =
     ap (λ t. refusal_of t call) (sym is) ∙ ⊎_elim (λ (same : refusal_of (plain_of early t) call ≡ refusal_of (plain_of whole t) call). same ∙ told)
     (λ lost. absurd (let wrong : None ≡ Some refusal = sym lost.1 ∙ told in cc)) (refusals_alike early t call)
+
+-- ---- a call as a whole
+
+abbrev pub lifted : Result Unit AdmitErr → Result (Option Refusal) AdmitErr
+lifted (Ok done) = Ok None
+lifted (Err e) = Err e
+
+pub as_applied : (early : Tape) (g : Given) (on : Bool) (st : Standing) (call : Call) (at : Moment) (old new : Stocked) (r : Result Unit AdmitErr) (q : Result (Option Refusal) AdmitErr)
+    → refusal_of (plain_of whole old.tree) call ≡ None → IsChange early g on st call at old new r → q ≡ lifted r → IsApplied early g on st call at old new q
+as_applied early g on st call at old new (Ok done) q free h is = subst (λ q. IsApplied early g on st call at old new q) (sym is) (free, h)
+as_applied early g on st call at old new (Err (Full need limit)) q free h is = subst (λ q. IsApplied early g on st call at old new q) (sym is) (free, h)
+as_applied early g on st call at old new (Err NoMemory) q free h is = subst (λ q. IsApplied early g on st call at old new q) (sym is) tt
+
+-- ---- ops
+
+pub turned_on : (t : FileTree) (l now : Plan) (f : Frame) (tape : Tape) (g : Given) (on : Bool) (st : Standing) → IsStock tape g on st (stocked t l f) → now ≡ record l { ip_on = true } → IsStock tape g true st (stocked t now f)
+turned_on t l now f tape g on st i is = record {
+  plain = i.plain;
+  files = i.files;
+  layout = is ∙ ap (λ (p : Plan). record p { ip_on = true }) i.layout ∙ ap (λ (p : Plan). plan_of (rules g) true st.space p.ops) (sym is);
+  frame = i.frame;
+  name = i.name;
+  block_size = i.block_size;
+  below = i.below;
+}
+
+pub op_done : (t : FileTree) (l now : Plan) (f : Frame) (tape : Tape) (g : Given) (on : Bool) (st : Standing) → IsStock tape g on st (stocked t l f) → now ≡ record l { ops = drop 1 l.ops } → IsStock tape g on st (stocked t now f)
+op_done t l now f tape g on st i is = record {
+  plain = i.plain;
+  files = i.files;
+  layout = is ∙ ap (λ (p : Plan). record p { ops = drop 1 l.ops }) i.layout ∙ ap (λ (p : Plan). plan_of (rules g) on st.space p.ops) (sym is);
+  frame = i.frame;
+  name = i.name;
+  block_size = i.block_size;
+  below = i.below;
+}

@@ -1,3 +1,4 @@
 pub mod Stocks
 pub mod Steps
 pub mod Applied
+pub mod Mounted

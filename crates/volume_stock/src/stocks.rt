@@ -1,10 +1,13 @@
 //! What is held of a volume.
 
-ghost use Rattle.std.specs.Prelude.{◌≡◌, ◌≤◌, ◌^◌, Bool, None, OnErr};
+ghost use Rattle.std.specs.Prelude.{◌≡◌, ◌≤◌, ◌^◌, [], ◌∷◌, Bool, true, None, OnErr, IfOk, IfSome, MatchOption, drop, length};
+ghost use Rattle.std.specs.Option.{option_map};
 ghost use Rattle.extent_map.specs.Cells.{Tape};
-ghost use Rattle.volume_space.specs.Standing.{Given, Standing};
+ghost use Rattle.volume_space.specs.Standing.{Given, Standing, first_standing};
+ghost use Rattle.volume_stock.specs.Mounted.{CanStart, StartsFrom};
 ghost use Rattle.plain_tree.specs.Refusals.{refusal_of};
 ghost use Rattle.file_tree.specs.Tree.{plain_of, whole};
+ghost use Rattle.tape_layout.specs.Ops.{HasRoom, held_in};
 ghost use Rattle.tape_layout.specs.Plans.{Plan};
 ghost use Rattle.volume_stock.specs.Applied.{IsApplied, IsChange, IsUnchanged, LeavesAll, StoresNothing};
 ghost use Rattle.volume_stock.specs.Stocks.{IsStock, stocked, with_change};
@@ -12,12 +15,13 @@ ghost use Rattle.volume_stock.specs.Stocks.{IsStock, stocked, with_change};
 use crate::changes::change_tree;
 use crate::syncs::sync;
 use crate::writes::write;
-use file_tree::Tree;
+use file_tree::{Carried, Tree};
 use plain_tree::{Call, Refusal};
 use std::alloc::Global;
 use std::marker::Model;
-use tape_layout::{AdmitErr, Layout};
-use tape_types::Moment;
+use tape_layout::{AdmitErr, Layout, Op};
+use tape_meaning::Mounted;
+use tape_types::{Bytes, Limits, Moment, NoMemory, Place};
 use volume_sync::Frame;
 
 /// What is held of a volume while it is served: its tree, what is admitted for the tape and not done yet, and what its
@@ -47,6 +51,44 @@ impl Model for Stock {
 }
 
 impl Stock {
+    /// What is held of a volume that was mounted, on a drive with these capacities: its tree, and no op. Each extent of
+    /// its index ends before the end of its partition.
+    pub fn start(alloc: Global, mounted: Mounted, limits: Limits) -> Result<Stock, NoMemory>
+        requires { CanStart limits mounted }
+        ensures stands { IfOk result (λ s. (tape : Tape) (g : Given) → StartsFrom tape limits mounted g
+            → IsStock tape g mounted.ip_on (first_standing g) s) }
+        ensures ops { IfOk result (λ s. s.layout.ops ≡ []) }
+    {
+        let letters = (mounted.label.index, mounted.label.dpart);
+        let block = mounted.label.block;
+        let tree = Tree::from_index(alloc, &mounted.index, letters, block)?;
+        let carried = Carried::of_index(alloc, &mounted.index)?;
+        let layout = Layout::new(
+            alloc,
+            limits,
+            block,
+            mounted.end_ip,
+            mounted.end_dp,
+            mounted.ip_on,
+        );
+        let frame = Frame {
+            label: mounted.label,
+            carried,
+            generation: mounted.newest,
+            last_dp: mounted.last_dp,
+            changed: false,
+            dp_done: mounted.dp_done,
+            ip_done: mounted.ip_done,
+            noted: mounted.noted,
+        };
+        Ok(Stock {
+            tree,
+            layout,
+            frame,
+            alloc,
+        })
+    }
+
     /// Makes a call at a moment. A call that the tree refuses, and one that doesn't fit on the tape, leaves all as it was,
     /// and so does one for which memory is refused.
     pub fn apply(&mut self, call: &Call, at: Moment) -> Result<Option<Refusal>, AdmitErr>
@@ -69,6 +111,49 @@ impl Stock {
             Ok(()) => Ok(None),
             Err(e) => Err(e),
         }
+    }
+
+    /// The first flush of the data partition is done: from now on files may go to the index partition.
+    pub fn on(&mut self)
+        ensures layout { self.new ≡ record self.old { layout = record self.old.layout { ip_on = true } } }
+        ensures stands { (tape : Tape) (g : Given) (on : Bool) (st : Standing) → IsStock tape g on st self.old
+            → IsStock tape g true st self.new }
+    {
+        self.layout.place_on_ip();
+    }
+
+    /// How many ops stand.
+    pub fn waiting(&self) -> u64
+        ensures { result ≡ length self.now.layout.ops }
+    {
+        self.layout.waiting()
+    }
+
+    /// The bytes that stand to be written at a place. It costs the logarithm of the ops that stand.
+    pub fn held(&self, place: Place) -> Option<&Bytes>
+        ensures { option_map (λ b. b.now) result ≡ held_in place self.now.layout.ops }
+    {
+        self.layout.held(place)
+    }
+
+    /// The op that is to be done next.
+    pub fn next_op(&self) -> Option<&Op>
+        ensures first { MatchOption result (self.now.layout.ops ≡ [])
+            (λ op. self.now.layout.ops ≡ op.now ∷ drop 1 self.now.layout.ops) }
+        ensures room { IfSome result (λ op. HasRoom self.now.layout.limits self.now.layout.block_size op.now) }
+    {
+        self.layout.next_op()
+    }
+
+    /// The first op was done.
+    pub fn done_op(&mut self)
+        requires { 1 ≤ length self.old.layout.ops }
+        ensures ops { self.new
+            ≡ record self.old { layout = record self.old.layout { ops = drop 1 self.old.layout.ops } } }
+        ensures stands { (tape : Tape) (g : Given) (on : Bool) (st : Standing) → IsStock tape g on st self.old
+            → IsStock tape g on st self.new }
+    {
+        self.layout.done_op();
     }
 }
 
