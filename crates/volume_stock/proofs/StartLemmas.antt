@@ -46,17 +46,17 @@ found_at (first ∷ nodes) zero node is apart =
   where
     equal : (n : ℕ) → eqb n n ≡ true
     equal n = grind (arith, nat_tests)
-found_at (first ∷ nodes) (suc at) node is apart = by (eqb first.uid node.uid) refl
+found_at (first ∷ nodes) (suc at) node is apart =
+    by (eqb first.uid node.uid) refl (found_at nodes at node is (λ a b one other here there same. omega (arith, apart (suc a) (suc b) one other here there same)))
   where
-    by : (b : Bool) → eqb first.uid node.uid ≡ b → find (has_uid node.uid) (first ∷ nodes) ≡ Some node
-    by true test =
+    by : (b : Bool) → eqb first.uid node.uid ≡ b → find (has_uid node.uid) nodes ≡ Some node → find (has_uid node.uid) (first ∷ nodes) ≡ Some node
+    by true test later =
         let same : first.uid ≡ node.uid = equal first.uid node.uid test in
         absurd (omega (arith, apart zero (suc at) first node refl is same))
       where
         equal : (a b : ℕ) → eqb a b ≡ true → a ≡ b
         equal a b e = grind (arith, nat_tests, e)
-    by false test = ap (λ b. cond b (Some first) (find (has_uid node.uid) nodes)) test
-        ∙ found_at nodes at node is (λ a b one other here there same. omega (arith, apart (suc a) (suc b) one other here there same))
+    by false test later = ap (λ b. cond b (Some first) (find (has_uid node.uid) nodes)) test ∙ later
 
 pub not_found : (nodes : List told.Node) (highest uid : ℕ) → ((at : ℕ) (node : told.Node) → IsAt nodes at node → node.uid ≤ highest) → highest < uid → find (has_uid uid) nodes ≡ None
 not_found [] highest uid most more = refl
