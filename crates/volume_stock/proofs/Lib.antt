@@ -5,4 +5,5 @@ pub mod Asks
 pub mod WriteSteps
 pub mod Stands
 pub mod StartLemmas
+pub mod LookLemmas
 pub mod Texts

@@ -92,7 +92,7 @@ module _ (t : Tree) (from to : Path) (at : Moment) (valid : IsValid t) (free : r
           ∙ ap holding (ap (fin.get t.nodes) (sym (below_split from p e)) ∙ there))
       by false e =
           let away : is_at_or_below to p ≡ false = not_true (is_at_or_below to p) (λ below.
-              unlike (fin.get t.nodes p) n (valid_free t valid to (rename_target t.nodes from to free apart).0 p below) there) in
+          unlike (fin.get t.nodes p) n (valid_free t valid to (rename_target t.nodes from to free apart).0 p below) there) in
           ap uid_held (
           sym (ap holding (sym (ap (fin.get next) (moved_other from to p e)) ∙ here))
           ∙ moved.elsewhere p e away

@@ -2,6 +2,7 @@
 #![tactic(auto)]
 
 mod changes;
+mod looks;
 mod stocks;
 mod syncs;
 mod writes;

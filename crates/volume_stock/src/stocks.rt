@@ -5,6 +5,7 @@ ghost use Rattle.std.specs.Option.{option_map};
 ghost use Rattle.extent_map.specs.Cells.{Tape};
 ghost use Rattle.volume_space.specs.Standing.{Given, Standing, first_standing};
 ghost use Rattle.volume_stock.specs.Mounted.{CanStart, StartsFrom};
+ghost use Rattle.plain_tree.specs.Calls.{answer};
 ghost use Rattle.plain_tree.specs.Refusals.{refusal_of};
 ghost use Rattle.file_tree.specs.Tree.{plain_of, whole};
 ghost use Rattle.tape_layout.specs.Ops.{HasRoom, held_in};
@@ -13,15 +14,16 @@ ghost use Rattle.volume_stock.specs.Applied.{IsApplied, IsChange, IsUnchanged, L
 ghost use Rattle.volume_stock.specs.Stocks.{IsStock, stocked, with_change};
 
 use crate::changes::change_tree;
+use crate::looks::{list, stat};
 use crate::syncs::sync;
 use crate::writes::write;
 use file_tree::{Carried, Tree};
-use plain_tree::{Call, Refusal};
+use plain_tree::{Answer, Call, Refusal};
 use std::alloc::Global;
 use std::marker::Model;
 use tape_layout::{AdmitErr, Layout, Op};
 use tape_meaning::Mounted;
-use tape_types::{Bytes, Limits, Moment, NoMemory, Place};
+use tape_types::{Bytes, Limits, Moment, NoMemory, Place, Text};
 use volume_sync::Frame;
 
 /// What is held of a volume while it is served: its tree, what is admitted for the tape and not done yet, and what its
@@ -37,7 +39,6 @@ pub struct Stock {
 impl Model for Stock {
     ghost use Rattle.std.specs.Prelude.{◌≤◌, ◌^◌};
     ghost use Rattle.volume_stock.specs.Stocks.{Stocked, stocked};
-
     ghost use Rattle.std.specs.Coded.{codes};
     ghost use Rattle.file_tree.specs.contracts.tree.Tree as shown;
 
@@ -113,6 +114,20 @@ impl Stock {
         }
     }
 
+    /// What a listing of a path is answered.
+    pub fn list(&self, path: &[Text]) -> Result<Answer, NoMemory>
+        ensures { IfOk result (λ a. (tape : Tape) → a ≡ answer (plain_of tape self.now.tree) (Call.Listing path.now)) }
+    {
+        list(&self.tree, self.alloc, path)
+    }
+
+    /// What is told of the node at a path.
+    pub fn stat(&self, path: &[Text]) -> Result<Answer, NoMemory>
+        ensures { IfOk result (λ a. (tape : Tape) → a ≡ answer (plain_of tape self.now.tree) (Call.Stat path.now)) }
+    {
+        stat(&self.tree, self.alloc, path)
+    }
+
     /// The first flush of the data partition is done: from now on files may go to the index partition.
     pub fn on(&mut self)
         ensures layout { self.new ≡ record self.old { layout = record self.old.layout { ip_on = true } } }
@@ -171,7 +186,7 @@ fn change(
     ensures applied { (early : Tape) (g : Given) (on : Bool) (st : Standing)
         → IsStock early g on st (stocked tree.old layout.old frame.old)
         → IsChange early g on st call.now at (stocked tree.old layout.old frame.old)
-            (stocked tree.new layout.new frame.new) result }
+        (stocked tree.new layout.new frame.new) result }
     ensures err { OnErr result (IsUnchanged (stocked tree.old layout.old frame.old) (stocked tree.new layout.new frame.new)) }
     ensures generation { frame.new.generation ≤ 2 ^ 62 }
 {

@@ -25,7 +25,7 @@ pub fn sync(
     ensures applied { (early : Tape) (g : Given) (on : Bool) (st : Standing)
         → IsStock early g on st (stocked tree.now layout.old frame.old)
         → IsChange early g on st Call.Sync at (stocked tree.now layout.old frame.old)
-            (stocked tree.now layout.new frame.new) result }
+        (stocked tree.now layout.new frame.new) result }
     ensures err { OnErr result (IsUnchanged (stocked tree.now layout.old frame.old) (stocked tree.now layout.new frame.new)) }
     ensures generation { frame.new.generation ≤ 2 ^ 62 }
 {

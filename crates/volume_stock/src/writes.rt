@@ -38,7 +38,7 @@ pub fn write(
     ensures applied { (early : Tape) (g : Given) (on : Bool) (st : Standing)
         → IsStock early g on st (stocked tree.old layout.old frame.old)
         → IsChange early g on st (Call.Write path.now offset bytes.now) at (stocked tree.old layout.old frame.old)
-            (stocked tree.new layout.new frame.new) result }
+        (stocked tree.new layout.new frame.new) result }
     ensures err { OnErr result (IsUnchanged (stocked tree.old layout.old frame.old) (stocked tree.new layout.new frame.new)) }
     ensures generation { frame.new.generation ≡ frame.old.generation }
 {
@@ -78,7 +78,11 @@ fn wants_ip(tree: &Tree, policy: &Option<Policy>, path: &[Text], file: u32, end:
         (max (length (cells_at (plain_of tape tree.now).nodes path.now)) end) }
 {
     let _count = tree.count();
-    chooses_ip(policy, last_name(path), tree.extents(file).length().max(end))
+    chooses_ip(
+        policy,
+        last_name(path),
+        tree.extents(file).length().max(end),
+    )
 }
 
 /// The last name of a path, and no text where it has none.
