@@ -1,9 +1,8 @@
 -- What calls that store nothing ask of the tape.
-use Rattle.std.proofs.Common.{◌≡◌, ◌≢◌, ℕ, Bool, true, false, cond, eqb, List, length, Option, Some, None, sym, ap, ◌∙◌, refl, subst, arith}
+use Rattle.std.proofs.Common.{◌≡◌, ◌≢◌, ℕ, Bool, true, false, cond, eqb, length, Option, Some, None, sym, ap, ◌∙◌, refl, subst, arith}
 use Rattle.std.specs.FinMap as fin
 use Rattle.std.proofs.lemmas.Bool.Decides.{nat_tests}
 use Rattle.tape_types.specs.declared.moments.Moment.{Moment}
-use Rattle.plain_tree.specs.Calls.{after, with_length}
 use Rattle.plain_tree.specs.Paths.{Path, same_path}
 use Rattle.plain_tree.specs.Refusals.{refusal_of}
 use Rattle.plain_tree.specs.Tree as plain
@@ -12,20 +11,19 @@ use Rattle.plain_tree.specs.declared.calls.Call.{Call}
 use Rattle.plain_tree.specs.declared.calls.Call.TheVariants as asks
 use Rattle.plain_tree.specs.declared.calls.Refusal.{Refusal}
 use Rattle.plain_tree.specs.declared.calls.Sort.TheVariants as sorts
-use Rattle.extent_map.specs.Cells.{Tape, file_cells}
+use Rattle.extent_map.specs.Cells.{Tape}
 use Rattle.extent_map.specs.Laid.{Laid, Room, resized}
 use Rattle.file_tree.specs.Blocks.{AddsNoBlock}
 use Rattle.file_tree.specs.Edits.{making, IsTruncated, KeepsVolume, NumbersCome, OthersLie}
 use Rattle.file_tree.specs.Tree.{FileTree, HasExtents, HasLaid, StandsAt, plain_kind_of, plain_of, whole}
 use Rattle.file_tree.specs.Valid.{IsGood}
-use Rattle.file_tree.proofs.PathLemmas.{number_is}
 use Rattle.file_tree.proofs.TreeLemmas.{after_free, free_too}
 use Rattle.file_tree.proofs.WriteLemmas.{long_as}
 use Rattle.volume_space.specs.Files.{Files, with_file}
-use Rattle.volume_space.specs.Space.{Ask, change, nothing}
+use Rattle.volume_space.specs.Space.{change, nothing}
 use Rattle.volume_space.specs.Standing.{Given, Standing, ask_of, ask_unless, uid_at}
 use Rattle.volume_stock.specs.Applied.{IsChanging, IsStill}
-use Rattle.volume_stock.specs.Steps.{AsBefore, IsStep, file_changed}
+use Rattle.volume_stock.specs.Steps.{AsBefore, IsStep}
 use Rattle.volume_stock.specs.Stocks.{LieAs}
 use Rattle.volume_stock.proofs.Lies.{path_of, plain_there}
 use Rattle.volume_stock.proofs.TreeSteps.{changed_as}

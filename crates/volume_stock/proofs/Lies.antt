@@ -1,11 +1,11 @@
 -- How files lie once a call is made.
-use Rattle.std.proofs.Common.{◌≡◌, ◌≢◌, ◌⊎◌, ℕ, ◌+◌, ◌<◌, ◌≤◌, Bool, true, false, cond, eqb, List, [], ◌∷◌, ◌++◌, length, Option, Some, None, sym, ap, ◌∙◌, refl, subst, arith, ⊎_elim, inl, inr}
+use Rattle.std.proofs.Common.{◌≡◌, ◌≢◌, ◌⊎◌, ℕ, ◌+◌, ◌<◌, true, false, List, [], ◌∷◌, ◌++◌, Some, None, sym, ap, ◌∙◌, refl, arith, ⊎_elim, inl, inr}
 use Rattle.std.specs.Option.{option_map}
 use Rattle.std.specs.FinMap as fin
 use Rattle.std.proofs.lemmas.Bool.{cases_order}
 use Rattle.tape_types.specs.declared.moments.Moment.{Moment}
-use Rattle.plain_tree.specs.Calls.{after, after_done, after_unless, with_new}
-use Rattle.plain_tree.specs.Paths.{Path, moved_path, same_path}
+use Rattle.plain_tree.specs.Calls.{after, after_done, with_new}
+use Rattle.plain_tree.specs.Paths.{Path}
 use Rattle.plain_tree.specs.Refusals.{refusal_of}
 use Rattle.plain_tree.specs.Tree as plain
 use Rattle.plain_tree.specs.Valid.{mark_at, mark_of}
@@ -15,22 +15,21 @@ use Rattle.plain_tree.specs.declared.calls.Sort.{Sort}
 use Rattle.plain_tree.specs.declared.calls.Sort.TheVariants as sorts
 use Rattle.plain_tree.specs.declared.nodes.Kind.TheVariants as plain_kinds
 use Rattle.extent_map.specs.Cells.{Tape}
-use Rattle.extent_map.specs.Laid.{Laid, Room}
+use Rattle.extent_map.specs.Laid.{Room}
 use Rattle.file_tree.specs.declared.nodes.Node.{Node}
-use Rattle.file_tree.specs.declared.nodes.Kind.{Kind}
 use Rattle.file_tree.specs.declared.nodes.Kind.TheVariants as kinds
 use Rattle.file_tree.specs.Blocks.{AddsNoBlock}
-use Rattle.file_tree.specs.Edits.{AllLie, CanMake, IsAfter, KeepsVolume, NumbersCome, OthersLie, making}
+use Rattle.file_tree.specs.Edits.{CanMake, IsAfter, KeepsVolume, NumbersCome, OthersLie, making}
 use Rattle.file_tree.specs.Tree.{FileTree, HasLaid, Nodes, StandsAt, number_at, plain_node_of, plain_of, whole}
 use Rattle.file_tree.specs.Valid.{IsGood}
 use Rattle.file_tree.proofs.BlockLemmas.{one_laid}
 use Rattle.file_tree.proofs.PathLemmas.{number_is, some_same}
 use Rattle.file_tree.proofs.PlainLemmas.{plain_get}
-use Rattle.file_tree.proofs.TreeLemmas.{after_free, free_too}
+use Rattle.file_tree.proofs.TreeLemmas.{after_free}
 use Rattle.volume_space.specs.Files.{Files}
 use Rattle.volume_stock.specs.Stocks.{LieAs, no_bytes}
-use Rattle.volume_stock.specs.Steps.{AsBefore, IsSameTree, IsStep}
-use Rattle.volume_stock.proofs.Uids.{dir_in, left_mark, moved_uid, new_mark, others_mark, uid_in}
+use Rattle.volume_stock.specs.Steps.{AsBefore, IsStep}
+use Rattle.volume_stock.proofs.Uids.{dir_in, new_mark, others_mark, uid_in}
 
 pub equal_or_not : (a b : ℕ) → (a ≡ b) ⊎ (a ≢ b)
 equal_or_not a b = ⊎_elim (λ (e : a ≡ b). inl e)

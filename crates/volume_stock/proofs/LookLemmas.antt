@@ -1,12 +1,11 @@
 -- What listings and facts of a tree are answered.
-use Rattle.std.proofs.Common.{◌≡◌, ℕ, List, [], Option, Some, None, sym, ap, ◌∙◌, refl}
+use Rattle.std.proofs.Common.{◌≡◌, ℕ, List, Some, None, sym, ap, ◌∙◌, refl}
 use Rattle.std.specs.Option.{option_map}
 use Rattle.std.specs.FinMap as fin
 use Rattle.plain_tree.specs.Calls.{answer, answer_unless, value_of}
 use Rattle.plain_tree.specs.Paths.{Path}
 use Rattle.plain_tree.specs.Refusals.{no_dir, no_node, refusal_of}
 use Rattle.plain_tree.specs.Tree.{entries_in, facts_of}
-use Rattle.plain_tree.specs.declared.calls.Answer.{Answer}
 use Rattle.plain_tree.specs.declared.calls.Answer.TheVariants as answers
 use Rattle.plain_tree.specs.declared.calls.Call.TheVariants as asks
 use Rattle.plain_tree.specs.declared.calls.Entry.{Entry}

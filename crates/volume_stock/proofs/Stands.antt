@@ -1,5 +1,5 @@
 -- That what is held after a call is what stands after it.
-use Rattle.std.proofs.Common.{◌≡◌, ◌≢◌, ◌⊎◌, ℕ, zero, suc, ◌+◌, ◌*◌, ◌/◌, ◌%◌, ◌<◌, ◌≤◌, ◌^◌, min, max, Bool, true, false, cond, eqb, nat_lt, drop, List, [], ◌∷◌, ◌++◌, length, Option, Some, None, Result, Ok, Err, sym, ap, ◌∙◌, refl, subst, arith, ⊎_elim, inl, inr}
+use Rattle.std.proofs.Common.{◌≡◌, ℕ, ◌+◌, ◌*◌, ◌/◌, ◌<◌, ◌≤◌, max, Bool, true, false, cond, eqb, nat_lt, drop, List, [], ◌∷◌, ◌++◌, length, Option, Some, None, Result, Ok, Err, sym, ap, ◌∙◌, refl, subst, arith, ⊎_elim}
 use Rattle.std.specs.Int.{div_ceil}
 use Rattle.std.specs.Option.{unwrap_or}
 use Rattle.std.proofs.lemmas.List.{append-nil}
@@ -11,9 +11,9 @@ use Rattle.tape_types.specs.declared.cartridges.Part.{Part}
 use Rattle.tape_types.specs.declared.cartridges.Part.TheVariants.{Ip, Dp}
 use Rattle.tape_types.specs.declared.cartridges.Place.{Place}
 use Rattle.tape_types.specs.declared.moments.Moment.{Moment}
-use Rattle.extent_map.specs.Blocks.{AreAlikeIn, StandsIn}
+use Rattle.extent_map.specs.Blocks.{AreAlikeIn}
 use Rattle.extent_map.specs.Cells.{Tape}
-use Rattle.extent_map.specs.Laid.{Laid, overlaid}
+use Rattle.extent_map.specs.Laid.{overlaid}
 use Rattle.plain_tree.specs.Calls.{after}
 use Rattle.plain_tree.specs.Paths.{Path, last_name}
 use Rattle.plain_tree.specs.Refusals.{refusal_of}
@@ -21,7 +21,7 @@ use Rattle.plain_tree.specs.Tree as plain
 use Rattle.plain_tree.specs.declared.calls.Call.{Call}
 use Rattle.plain_tree.specs.declared.calls.Call.TheVariants as asks
 use Rattle.plain_tree.specs.declared.calls.Refusal.{Refusal}
-use Rattle.file_tree.specs.Blocks.{AddsBlocksOf, ExtentLiesBelow, LiesBelow, TreeStandsIn}
+use Rattle.file_tree.specs.Blocks.{ExtentLiesBelow, TreeStandsIn}
 use Rattle.file_tree.specs.Tree.{FileTree, plain_of, whole}
 use Rattle.file_tree.specs.Writes.{HoldsBytes}
 use Rattle.file_tree.proofs.BlockLemmas.{blocks_make_the_tree, ends_hold}
@@ -31,7 +31,6 @@ use Rattle.placement.specs.Computed.{chooses_ip}
 use Rattle.tape_layout.specs.Admissions.{Admission, IsAdmitted, data_admission, index_admission}
 use Rattle.tape_layout.specs.Ops.{end_of, with_end}
 use Rattle.tape_layout.specs.Plans.{Plan}
-use Rattle.tape_layout.specs.declared.ops.Op.{Op}
 use Rattle.tape_layout.specs.declared.errors.AdmitErr.{AdmitErr}
 use Rattle.tape_layout.specs.declared.errors.AdmitErr.TheVariants.{Full, NoMemory}
 use Rattle.tape_layout.specs.declared.standing.Ends as layout
@@ -41,11 +40,11 @@ use Rattle.volume_sync.specs.Frames.{IsSync, sync_index, with_sync}
 use Rattle.volume_space.specs.Laws.{admission_of, end_place}
 use Rattle.volume_space.specs.Space as space
 use Rattle.volume_space.specs.Space.{Ask, Rules, Space, blocks, change, index, index_need, is_over, limit_of, need_of, nothing, ops_of, part_for, plan_of, store}
-use Rattle.volume_space.specs.Standing.{Given, Standing, after_done, ask_of, ask_unless, ask_unrefused, files_after, rules, sync_text, uid_at}
+use Rattle.volume_space.specs.Standing.{Given, Standing, ask_of, ask_unless, ask_unrefused, files_after, rules, sync_text, uid_at}
 use Rattle.volume_sync.specs.declared.frames.Frame.{Frame}
 use Rattle.volume_stock.specs.Applied.{IsApplied, IsChange, IsDone, IsFull, IsChanging, IsLate, IsTreeStep, IsUnchanged, LeavesAll, new_run}
 use Rattle.volume_stock.specs.Steps.{IsSameTree, IsWrite, file_changed}
-use Rattle.volume_stock.specs.Stocks.{IsStock, LieAs, Stocked, ends_of, frame_of, stocked, with_change, with_index}
+use Rattle.volume_stock.specs.Stocks.{IsStock, LieAs, Stocked, ends_of, stocked, with_change, with_index}
 use Rattle.volume_stock.proofs.Asks.{asks_nothing}
 use Rattle.volume_stock.proofs.Texts.{text_is}
 

@@ -1,20 +1,19 @@
 -- That what a mount finds is held as what stands first.
-use Rattle.std.proofs.Common.{◌≡◌, ℕ, zero, suc, ◌+◌, ◌<◌, ◌≤◌, Bool, true, false, cond, eqb, List, [], ◌∷◌, length, Option, Some, None, slice_get, sym, ap, ◌∙◌, refl, subst, arith}
+use Rattle.std.proofs.Common.{◌≡◌, ℕ, zero, suc, ◌<◌, ◌≤◌, Bool, true, false, cond, eqb, List, [], ◌∷◌, Some, None, sym, ap, ◌∙◌, refl, subst, arith}
 use Rattle.std.specs.List.{find}
 use Rattle.std.specs.Option.{option_map, unwrap_or}
 use Rattle.std.specs.FinMap as fin
 use Rattle.std.proofs.lemmas.Bool.Decides.{nat_tests}
 use Rattle.index_model.specs.Places.{IsAt}
 use Rattle.index_model.specs.Uids.{AreUids}
-use Rattle.index_model.specs.declared.indexes.Index.{Index}
 use Rattle.index_model.specs.declared.nodes.Node as told
 use Rattle.index_model.specs.declared.nodes.Kind as told_kind
 use Rattle.index_model.specs.declared.nodes.Kind.TheVariants as told_kinds
 use Rattle.extent_map.specs.Cells.{Tape}
-use Rattle.extent_map.specs.Laid.{Laid, Room}
+use Rattle.extent_map.specs.Laid.{Room}
 use Rattle.plain_tree.specs.Paths.{Path}
-use Rattle.file_tree.specs.Mounts.{CanMount, IsKindOf, IsTreeOf, Letters, laid_of}
-use Rattle.file_tree.specs.Tree.{FileTree, plain_of}
+use Rattle.file_tree.specs.Mounts.{CanMount, IsKindOf, IsTreeOf}
+use Rattle.file_tree.specs.Tree.{FileTree}
 use Rattle.file_tree.specs.declared.nodes.Kind.{Kind}
 use Rattle.file_tree.specs.declared.nodes.Kind.TheVariants as kinds
 use Rattle.file_tree.specs.declared.nodes.Node.{Node}
@@ -26,7 +25,7 @@ use Rattle.tape_layout.specs.Plans.{Plan, plan}
 use Rattle.tape_meaning.specs.declared.mounted.Mounted.{Mounted}
 use Rattle.volume_space.specs.Files.{laid_found, laid_node, letters, mounted_files, root_name}
 use Rattle.volume_space.specs.Mount.{MountFacts}
-use Rattle.volume_space.specs.Standing.{Given, Standing, first_standing}
+use Rattle.volume_space.specs.Standing.{Given, first_standing}
 use Rattle.volume_sync.specs.declared.frames.Frame.{Frame}
 use Rattle.volume_stock.specs.Mounted.{CanStart, StartsFrom, letters_of, mounted_ends}
 use Rattle.volume_stock.specs.Stocks.{IsStock, LieAs, ends_of, frame_of, no_bytes, stocked}

@@ -1,11 +1,9 @@
 -- The text of the index that a sync writes.
-use Rattle.std.proofs.Common.{◌≡◌, ℕ, suc, ◌+◌, Bool, List, [], ◌∷◌, length, map, Option, Some, None, slice_get, sym, ap, ◌∙◌, refl, subst}
-use Rattle.std.specs.Option.{option_map}
+use Rattle.std.proofs.Common.{◌≡◌, ℕ, suc, ◌+◌, Bool, List, [], ◌∷◌, length, map, Some, slice_get, sym, ap, ◌∙◌, refl}
 use Rattle.std.specs.FinMap as fin
 use Rattle.tape_types.specs.declared.moments.Moment.{Moment}
 use Rattle.tape_types.specs.declared.cartridges.Part.TheVariants.{Dp}
 use Rattle.index_model.specs.declared.indexes.Index.{Index}
-use Rattle.index_model.specs.declared.nodes.Node as told
 use Rattle.index_model.specs.declared.nodes.Kind.TheVariants as told_kinds
 use Rattle.plain_tree.specs.Paths.{Path, last_name, parent_of}
 use Rattle.plain_tree.specs.Tree as plain
@@ -15,7 +13,7 @@ use Rattle.extent_map.specs.Laid.{Room}
 use Rattle.file_tree.specs.Mounts.{Letters}
 use Rattle.file_tree.specs.Told as file_told
 use Rattle.file_tree.specs.Told.{name_or, place_of, raw_of}
-use Rattle.file_tree.specs.Tree.{FileTree, Nodes, plain_node_of, plain_nodes, plain_of}
+use Rattle.file_tree.specs.Tree.{FileTree, plain_node_of, plain_of}
 use Rattle.file_tree.specs.declared.nodes.Kind.{Kind}
 use Rattle.file_tree.specs.declared.nodes.Kind.TheVariants as kinds
 use Rattle.file_tree.specs.declared.nodes.Node.{Node}
@@ -27,7 +25,7 @@ use Rattle.volume_space.specs.Files.{Files, canon, index_at, letters, root_name,
 use Rattle.volume_space.specs.Standing.{Given, Standing, sync_text}
 use Rattle.volume_sync.specs.Frames.{sync_index}
 use Rattle.volume_sync.specs.declared.frames.Frame.{Frame}
-use Rattle.volume_stock.specs.Stocks.{IsStock, LieAs, Stocked, frame_of, stocked}
+use Rattle.volume_stock.specs.Stocks.{IsStock, LieAs, Stocked, frame_of}
 
 -- two maps over lists of one length, element by element
 map_both : {X Y Z : Type 0} (f : X → Z) (g : Y → Z) (h : X → Y) (xs : List X) → ((i : ℕ) (x : X) → slice_get xs i ≡ Some x → f x ≡ g (h x)) → map f xs ≡ map g (map h xs)

@@ -1,38 +1,32 @@
 -- What the calls on the tree leave, as steps.
-use Rattle.std.proofs.Common.{◌≡◌, ◌≢◌, ◌⊎◌, ℕ, ◌+◌, ◌<◌, ◌≤◌, ◌^◌, Bool, true, false, cond, eqb, List, [], ◌∷◌, ◌++◌, length, Option, Some, None, sym, ap, ◌∙◌, refl, subst, arith, ⊎_elim, inl, inr}
-use Rattle.std.specs.Option.{option_map}
+use Rattle.std.proofs.Common.{◌≡◌, ◌≢◌, ℕ, ◌+◌, ◌<◌, ◌≤◌, true, false, cond, eqb, Some, None, sym, ap, ◌∙◌, refl, subst, arith, ⊎_elim}
 use Rattle.std.specs.FinMap as fin
 use Rattle.std.proofs.lemmas.Bool.Decides.{nat_tests}
-use Rattle.tape_types.specs.declared.cartridges.Extent.{Extent}
 use Rattle.tape_types.specs.declared.moments.Moment.{Moment}
-use Rattle.plain_tree.specs.Calls.{after, after_done, with_length, with_rename, without}
-use Rattle.plain_tree.specs.Cells.{written}
+use Rattle.plain_tree.specs.Calls.{after, with_rename, without}
 use Rattle.plain_tree.specs.Paths.{Path, moved_path, parent_of, same_path}
 use Rattle.plain_tree.specs.Refusals.{refusal_of}
 use Rattle.plain_tree.specs.Tree as plain
 use Rattle.plain_tree.specs.Tree.{change_noted, changed_at, touch}
 use Rattle.plain_tree.specs.Valid.{mark_at, mark_of, is_dir}
 use Rattle.plain_tree.specs.declared.calls.Call.TheVariants as asks
-use Rattle.extent_map.specs.Blocks.{AreAlikeIn}
-use Rattle.extent_map.specs.Cells.{Tape, cells_of}
-use Rattle.extent_map.specs.Laid.{Laid, Room, overlaid, resized}
+use Rattle.extent_map.specs.Cells.{Tape}
+use Rattle.extent_map.specs.Laid.{Laid, Room}
 use Rattle.file_tree.specs.declared.nodes.Node.{Node}
 use Rattle.file_tree.specs.declared.nodes.Kind.TheVariants as kinds
-use Rattle.file_tree.specs.Blocks.{AddsBlocksOf, AddsNoBlock, TreeStandsIn}
-use Rattle.file_tree.specs.Edits.{AllLie, IsAfter, IsTruncated, IsWritten, KeepsVolume, NumbersCome, OthersLie}
+use Rattle.file_tree.specs.Blocks.{AddsNoBlock}
+use Rattle.file_tree.specs.Edits.{AllLie, IsAfter, KeepsVolume, NumbersCome, OthersLie}
 use Rattle.file_tree.specs.Tree.{FileTree, HasLaid, StandsAt, number_at, plain_node_of, plain_nodes, plain_of, whole}
 use Rattle.file_tree.specs.Valid.{IsGood}
-use Rattle.file_tree.specs.Writes.{HoldsBytes}
 use Rattle.file_tree.proofs.BlockLemmas.{one_laid}
-use Rattle.file_tree.proofs.BytesLemmas.{writes_are_writes}
 use Rattle.file_tree.proofs.PathLemmas.{node_at, number_is, some_same}
 use Rattle.file_tree.proofs.TreeLemmas.{after_free}
-use Rattle.volume_space.specs.Files.{Files, with_file}
+use Rattle.volume_space.specs.Files.{Files}
 use Rattle.volume_space.specs.Standing.{uid_at}
 use Rattle.volume_stock.specs.Stocks.{LieAs, no_bytes}
-use Rattle.volume_stock.specs.Steps.{AsBefore, IsSameTree, IsStep, IsWrite, file_changed}
+use Rattle.volume_stock.specs.Steps.{AsBefore, IsSameTree, IsStep, file_changed}
 use Rattle.volume_stock.proofs.Lies.{equal_or_not, others_as, path_of, plain_there, uid_kept}
-use Rattle.volume_stock.proofs.Uids.{file_marks, left_mark, length_mark, moved_uid, uid_in}
+use Rattle.volume_stock.proofs.Uids.{left_mark, moved_uid}
 
 -- ---- a node that is gone
 

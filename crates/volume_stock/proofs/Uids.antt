@@ -1,15 +1,14 @@
 -- Which uid stands where once a call is made.
-use Rattle.std.proofs.Common.{◌≡◌, ◌≢◌, ◌⊎◌, ℕ, ◌+◌, Bool, true, false, cond, eqb, List, [], ◌∷◌, ◌++◌, length, drop, Option, Some, None, sym, ap, ◌∙◌, refl, ⊎_elim}
+use Rattle.std.proofs.Common.{◌≡◌, ◌≢◌, ℕ, ◌+◌, Bool, true, false, cond, eqb, List, length, drop, Option, Some, None, sym, ap, ◌∙◌, refl, ⊎_elim}
 use Rattle.std.specs.FinMap as fin
 use Rattle.tape_types.specs.declared.moments.Moment.{Moment}
-use Rattle.plain_tree.specs.Calls.{after, after_done, after_unless, with_length, with_new, without}
+use Rattle.plain_tree.specs.Calls.{after, with_length, with_new, without}
 use Rattle.plain_tree.specs.Cells.{Cell, resized}
 use Rattle.plain_tree.specs.Laws.{HasMoved, holding}
 use Rattle.plain_tree.specs.Paths.{Path, is_at_or_below, moved_path, parent_of, same_path}
 use Rattle.plain_tree.specs.Refusals.{refusal_of}
 use Rattle.plain_tree.specs.Tree.{Nodes, Tree, cells_at, changed_at, file_changed, new_node, touched}
 use Rattle.plain_tree.specs.Valid.{IsValid, is_dir, mark_at, mark_of}
-use Rattle.plain_tree.specs.declared.calls.Call.{Call}
 use Rattle.plain_tree.specs.declared.calls.Call.TheVariants.{Rename}
 use Rattle.plain_tree.specs.declared.nodes.Kind.{Kind}
 use Rattle.plain_tree.specs.declared.nodes.Node.{Node}

@@ -1,5 +1,5 @@
 -- What a call on what is held answers and leaves.
-use Rattle.std.specs.Prelude.{◌≡◌, ℕ, ◌++◌, Bool, true, false, cond, List, length, Option, Some, None, Result, Ok, Err}
+use Rattle.std.specs.Prelude.{◌≡◌, ℕ, ◌++◌, Bool, true, false, List, length, Option, Some, None, Result, Ok, Err}
 use Rattle.tape_types.specs.declared.cartridges.Extent.{Extent}
 use Rattle.tape_types.specs.declared.cartridges.Part.{Part}
 use Rattle.tape_types.specs.declared.moments.Moment.{Moment}
@@ -16,7 +16,7 @@ use Rattle.file_tree.specs.Writes.{HoldsBytes}
 use Rattle.tape_layout.specs.Ops.{end_of}
 use Rattle.tape_layout.specs.declared.errors.AdmitErr.{AdmitErr}
 use Rattle.tape_layout.specs.declared.errors.AdmitErr.TheVariants.{Full, NoMemory}
-use Rattle.volume_space.specs.Space.{Ask, change, index, is_over, limit_of, need_of, nothing, ops_of, part_for, store}
+use Rattle.volume_space.specs.Space.{Ask, change, is_over, limit_of, need_of, nothing, ops_of, part_for, store}
 use Rattle.volume_space.specs.Standing.{Given, Standing, after_done, ask_of, files_after, rules}
 use Rattle.volume_stock.specs.Stocks.{IsStock, LieAs, Stocked}
 

@@ -1,17 +1,15 @@
 -- What a volume is served from that was mounted.
-use Rattle.std.specs.Prelude.{◌≡◌, ℕ, ◌≤◌, ◌^◌, [], List}
+use Rattle.std.specs.Prelude.{◌≡◌, ℕ, ◌≤◌, ◌^◌, List}
 use Rattle.std.specs.List.{AllByRecursion}
 use Rattle.tape_types.specs.declared.cartridges.Limits.{Limits}
 use Rattle.index_model.specs.Extents.{IsFileAt}
 use Rattle.index_model.specs.declared.nodes.RawExtent.{RawExtent}
-use Rattle.plain_tree.specs.Tree.{Tree}
 use Rattle.extent_map.specs.Cells.{Tape}
 use Rattle.file_tree.specs.Mounts.{CanMount, EndsBelow, IsTreeOf, Letters}
 use Rattle.file_tree.specs.Tree.{FileTree, plain_of}
 use Rattle.tape_layout.specs.Plans.{CanBe}
 use Rattle.tape_layout.specs.declared.standing.Ends as layout
 use Rattle.tape_meaning.specs.declared.mounted.Mounted.{Mounted}
-use Rattle.volume_space.specs.Mount.{MountFacts}
 use Rattle.volume_space.specs.Standing.{Given}
 use Rattle.volume_stock.specs.Stocks.{ends_of}
 

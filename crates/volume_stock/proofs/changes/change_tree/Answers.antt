@@ -1,4 +1,3 @@
-use Rattle.std.proofs.Common.{rules, ◌≡◌, ℕ, ◌+◌, ◌<◌, ◌≤◌, length, Bool, true, false, List, [], ◌∷◌, ◌++◌, Option, Some, None, sym, ap, ◌∙◌, refl, subst}
 use Rattle.volume_stock.proofs.changes.change_tree.Goals as goal
 use Rattle.volume_stock.proofs.Asks.{create_arm, mkdir_arm, remove_arm}
 

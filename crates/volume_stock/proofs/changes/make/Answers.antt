@@ -1,4 +1,4 @@
-use Rattle.std.proofs.Common.{rules, ◌≡◌, ℕ, ◌+◌, ◌<◌, ◌≤◌, length, Bool, true, false, List, [], ◌∷◌, ◌++◌, Option, Some, None, sym, ap, ◌∙◌, refl, subst}
+use Rattle.std.proofs.Common.{◌≡◌, ℕ, List, [], ◌∷◌, ◌++◌, sym, ap, ◌∙◌}
 use Rattle.volume_stock.proofs.changes.make.Goals as goal
 use Rattle.plain_tree.proofs.LinkLemmas.{on_any_err}
 use Rattle.volume_stock.proofs.TreeSteps.{same_nodes, step_from}

@@ -1,4 +1,3 @@
-use Rattle.std.proofs.Common.{rules, ◌≡◌, ℕ, ◌+◌, ◌<◌, ◌≤◌, length, Bool, true, false, List, [], ◌∷◌, ◌++◌, Option, Some, None, sym, ap, ◌∙◌, refl, subst}
 use Rattle.volume_stock.proofs.changes.make_in.Goals as goal
 use Rattle.volume_stock.proofs.Lies.{made_step}
 

@@ -1,4 +1,4 @@
-use Rattle.std.proofs.Common.{rules, ◌≡◌, ℕ, ◌+◌, ◌<◌, ◌≤◌, length, Bool, true, false, List, [], ◌∷◌, ◌++◌, Option, Some, None, sym, ap, ◌∙◌, refl, subst}
+use Rattle.std.proofs.Common.{sym, ◌∙◌}
 use Rattle.volume_stock.proofs.changes.rename.Goals as goal
 use Rattle.volume_stock.proofs.Asks.{rename_changes, rename_still}
 

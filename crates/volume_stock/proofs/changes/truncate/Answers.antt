@@ -1,9 +1,6 @@
-use Rattle.std.proofs.Common.{rules, ◌≡◌, ℕ, ◌+◌, ◌<◌, ◌≤◌, length, Bool, true, false, List, [], ◌∷◌, ◌++◌, Option, Some, None, sym, ap, ◌∙◌, refl, subst}
+use Rattle.std.proofs.Common.{sym, ◌∙◌}
 use Rattle.volume_stock.proofs.changes.truncate.Goals as goal
-use Rattle.plain_tree.proofs.Validity.{first_none}
-use Rattle.plain_tree.specs.Refusals.{no_file, too_long}
-use Rattle.extent_map.specs.Laid.{Room}
-use Rattle.file_tree.specs.Tree.{HasExtents, plain_of, whole}
+use Rattle.file_tree.specs.Tree.{plain_of, whole}
 use Rattle.file_tree.proofs.CallLemmas.{file_there, long_free}
 use Rattle.volume_stock.proofs.Asks.{cut_changes, cut_still}
 

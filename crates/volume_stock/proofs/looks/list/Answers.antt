@@ -1,4 +1,3 @@
-use Rattle.std.proofs.Common.{◌≡◌, ◌∙◌, sym}
 use Rattle.volume_stock.proofs.looks.list.Goals as goal
 use Rattle.plain_tree.specs.declared.calls.Refusal.TheVariants.{NotDir}
 use Rattle.plain_tree.specs.declared.calls.Sort.TheVariants as sorts

@@ -1,4 +1,4 @@
-use Rattle.std.proofs.Common.{rules, ◌≡◌, ℕ, ◌+◌, ◌<◌, ◌≤◌, ◌^◌, max, length, Bool, true, false, List, [], ◌∷◌, ◌++◌, Option, Some, None, Result, Ok, Err, sym, ap, ◌∙◌, refl, subst}
+use Rattle.std.proofs.Common.{sym, subst}
 use Rattle.volume_stock.proofs.stocks.change_alone.Goals as goal
 use Rattle.volume_stock.specs.Applied.{IsDone}
 use Rattle.volume_stock.specs.Stocks.{stocked}

@@ -1,4 +1,3 @@
-use Rattle.std.proofs.Common.{rules, ◌≡◌, ℕ, ◌+◌, ◌<◌, ◌≤◌, ◌^◌, max, length, Bool, true, false, List, [], ◌∷◌, ◌++◌, Option, Some, None, Result, Ok, Err, sym, ap, ◌∙◌, refl, subst}
 use Rattle.volume_stock.proofs.syncs.sync.Goals as goal
 use Rattle.plain_tree.specs.declared.calls.Call.TheVariants as asks
 use Rattle.volume_stock.proofs.Stands.{asked_nothing, still_done, sync_admitted, synced}

@@ -1,4 +1,4 @@
-use Rattle.std.proofs.Common.{rules, ◌≡◌, ℕ, ◌+◌, ◌<◌, ◌≤◌, ◌^◌, max, length, Bool, true, false, List, [], ◌∷◌, ◌++◌, Option, Some, None, Result, Ok, Err, sym, ap, ◌∙◌, refl, subst}
+use Rattle.std.proofs.Common.{max, ap, ◌∙◌}
 use Rattle.volume_stock.proofs.writes.wants_ip.Goals as goal
 use Rattle.volume_stock.proofs.WriteSteps.{wants_by}
 

@@ -1,4 +1,4 @@
-use Rattle.std.proofs.Common.{rules, ◌≡◌, ℕ, ◌+◌, ◌<◌, ◌≤◌, ◌^◌, max, length, Bool, true, false, List, [], ◌∷◌, ◌++◌, Option, Some, None, Result, Ok, Err, sym, ap, ◌∙◌, refl, subst}
+use Rattle.std.proofs.Common.{◌+◌, length, ap, ◌∙◌}
 use Rattle.volume_stock.proofs.writes.write.Goals as goal
 use Rattle.plain_tree.specs.Refusals.{refusal_of}
 use Rattle.plain_tree.specs.declared.calls.Call.TheVariants as asks

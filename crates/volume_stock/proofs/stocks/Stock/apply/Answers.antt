@@ -1,4 +1,4 @@
-use Rattle.std.proofs.Common.{rules, ◌≡◌, ℕ, ◌+◌, ◌<◌, ◌≤◌, ◌^◌, max, length, Bool, true, false, List, [], ◌∷◌, ◌++◌, Option, Some, None, Result, Ok, Err, sym, ap, ◌∙◌, refl, subst}
+use Rattle.std.proofs.Common.{◌≡◌, sym, ap, ◌∙◌, subst}
 use Rattle.volume_stock.proofs.stocks.Stock.apply.Goals as goal
 use Rattle.volume_stock.proofs.stocks.Stock.apply.Goals.{in-Ok, in-Err}
 use Rattle.volume_stock.specs.Applied.{IsApplied}

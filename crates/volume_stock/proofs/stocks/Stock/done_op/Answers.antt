@@ -1,4 +1,4 @@
-use Rattle.std.proofs.Common.{rules, ◌≡◌, ℕ, Bool, true, false, List, [], ◌∷◌, Option, Some, None, sym, ap, ◌∙◌, refl, subst}
+use Rattle.std.proofs.Common.{sym, subst}
 use Rattle.volume_stock.proofs.stocks.Stock.done_op.Goals as goal
 use Rattle.volume_stock.specs.Stocks.{IsStock}
 use Rattle.volume_stock.proofs.Stands.{op_done}

@@ -1,7 +1,6 @@
-use Rattle.std.proofs.Common.{rules, ◌≡◌, ℕ, Bool, true, false, List, [], ◌∷◌, Option, Some, None, sym, ap, ◌∙◌, refl, subst}
+use Rattle.std.proofs.Common.{false, ap}
 use Rattle.volume_stock.proofs.stocks.Stock.start.Goals as goal
 use Rattle.file_tree.specs.declared.carried.Carried.{Carried}
-use Rattle.volume_sync.specs.declared.frames.Frame.{Frame}
 use Rattle.volume_stock.proofs.StartLemmas.{start_stands}
 
 pub returns-clause-stands : goal.returns-clause-stands
