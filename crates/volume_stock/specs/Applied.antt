@@ -29,16 +29,19 @@ new_run g on st wanted bytes = on_part (part_for (rules g) on st.space wanted by
 
 -- what is stored stands in its new blocks
 abbrev pub HoldsStored : Tape → Given → Bool → Standing → Ask → Type 0
-HoldsStored late g on st (store wanted bytes) = HoldsBytes late g.mounted.label.block (new_run g on st wanted bytes) bytes
+HoldsStored late g on st (store wanted bytes) =
+    HoldsBytes late g.mounted.label.block (new_run g on st wanted bytes) bytes
 HoldsStored late g on st _ = Unit {0}
 
 -- what will stand on tape once the ops of a call are done too: the blocks of the tree are as they would be without them
-pub record IsLate (early late : Tape) (g : Given) (on : Bool) (st : Standing) (ask : Ask) (tree : FileTree) : Type 0 where
+pub record IsLate (early late : Tape) (g : Given) (on : Bool) (st : Standing) (ask : Ask)
+    (tree : FileTree) : Type 0 where
   pub alike : AreAlikeIn (TreeStandsIn tree) late early
   pub holds : HoldsStored late g on st ask
 
 -- It fits, the ops of what it asks are admitted, and what is held then is what stands after it.
-pub record IsDone (early : Tape) (g : Given) (on : Bool) (st : Standing) (call : Call) (at : Moment) (old new : Stocked) : Type 0 where
+pub record IsDone (early : Tape) (g : Given) (on : Bool) (st : Standing) (call : Call) (at : Moment)
+    (old new : Stocked) : Type 0 where
   pub fits : is_over (rules g) on st.space (ask_of g st call at) ≡ false
   pub ops : new.layout.ops ≡ old.layout.ops ++ ops_of (rules g) on st.space (ask_of g st call at)
   pub stands : (late : Tape) → IsLate early late g on st (ask_of g st call at) old.tree
@@ -56,9 +59,10 @@ IsChange early g on st call at old new (Ok done) = IsDone early g on st call at 
 IsChange early g on st call at old new (Err (Full need limit)) = IsFull g on st call at need limit
 IsChange early g on st call at old new (Err NoMemory) = Unit {0}
 
--- What a call is answered: the tree's refusal, where no byte is lost on the tape; that it is done; or that it doesn't fit. Want
--- of memory may stand in place of each.
-abbrev pub IsApplied : Tape → Given → Bool → Standing → Call → Moment → Stocked → Stocked → Result (Option Refusal) AdmitErr → Type 0
+-- What a call is answered: the tree's refusal, where no byte is lost on the tape; that it is done; or that it doesn't
+-- fit. Want of memory may stand in place of each.
+abbrev pub IsApplied : Tape → Given → Bool → Standing → Call → Moment → Stocked → Stocked
+    → Result (Option Refusal) AdmitErr → Type 0
 IsApplied early g on st call at old new (Ok (Some refusal)) = refusal_of st.tree call ≡ Some refusal
 IsApplied early g on st call at old new (Ok None) =
     (refusal_of (plain_of whole old.tree) call ≡ None) × IsDone early g on st call at old new
@@ -70,7 +74,8 @@ IsApplied early g on st call at old new (Err NoMemory) = Unit {0}
 pub record IsUnchanged (old new : Stocked) : Type 0 where
   pub layout : new.layout ≡ old.layout
   pub frame : new.frame ≡ old.frame
-  pub stands : (tape : Tape) (g : Given) (on : Bool) (st : Standing) → IsStock tape g on st old → IsStock tape g on st new
+  pub stands : (tape : Tape) (g : Given) (on : Bool) (st : Standing) → IsStock tape g on st old
+      → IsStock tape g on st new
 
 -- where a call isn't done
 abbrev pub LeavesAll : Stocked → Stocked → Result (Option Refusal) AdmitErr → Type 0
@@ -84,8 +89,8 @@ pub record IsChanging (call : Call) (at : Moment) (before next : FileTree) : Typ
   pub volume : KeepsVolume before next
   pub blocks : AddsNoBlock before next
   pub asks : (tape : Tape) (g : Given) (st : Standing) → plain_of tape before ≡ st.tree → ask_of g st call at ≡ change
-  pub lies : (tape : Tape) (g : Given) (on : Bool) (st : Standing) → plain_of tape before ≡ st.tree → LieAs st.files before
-      → LieAs (files_after g on st call change) next
+  pub lies : (tape : Tape) (g : Given) (on : Bool) (st : Standing) → plain_of tape before ≡ st.tree
+      → LieAs st.files before → LieAs (files_after g on st call change) next
 
 -- what a call makes of it that asks nothing
 pub record IsStill (call : Call) (at : Moment) (before next : FileTree) : Type 0 where

@@ -19,7 +19,8 @@ letters_of m = (m.label.index, m.label.dpart)
 abbrev pub mounted_ends : Mounted → layout.Ends
 mounted_ends m = record { ip = m.end_ip; dp = m.end_dp }
 
--- its index can be mounted, each of its extents ends before the end of its partition, and the ends lie within the capacities
+-- its index can be mounted, each of its extents ends before the end of its partition, and the ends lie within the
+-- capacities
 pub record CanStart (limits : Limits) (m : Mounted) : Type 0 where
   pub mounts : CanMount m.index (letters_of m) m.label.block
   pub below : (at bytes : ℕ) (raws : List RawExtent) → IsFileAt m.index.nodes at bytes raws
@@ -27,8 +28,8 @@ pub record CanStart (limits : Limits) (m : Mounted) : Type 0 where
   pub ends : CanBe limits m.label.block (mounted_ends m)
   pub newest : m.newest ≤ 2 ^ 62
 
--- The volume is served from this mount, over these capacities: its tree is the one that the index is mounted as, with the bytes
--- that stand on tape.
+-- The volume is served from this mount, over these capacities: its tree is the one that the index is mounted as, with
+-- the bytes that stand on tape.
 pub record StartsFrom (tape : Tape) (limits : Limits) (m : Mounted) (g : Given) : Type 0 where
   pub mounted : g.mounted ≡ record {
     label = m.label;

@@ -53,8 +53,8 @@ frame_of m space noted = record {
 abbrev pub ends_of : layout.Ends → Ends
 ends_of ends part = end_of part ends
 
--- What is held is what stands, given what will stand on tape once all ops are done: the tree with the bytes of its files, how
--- these lie, and the space of both partitions. No block of the tree stands behind their ends.
+-- What is held is what stands, given what will stand on tape once all ops are done: the tree with the bytes of its
+-- files, how these lie, and the space of both partitions. No block of the tree stands behind their ends.
 pub record IsStock (tape : Tape) (g : Given) (on : Bool) (st : Standing) (s : Stocked) : Type 0 where
   pub plain : plain_of tape s.tree ≡ st.tree
   pub files : LieAs st.files s.tree

@@ -1,6 +1,7 @@
 //! What is held of a volume.
 
-ghost use Rattle.std.specs.Prelude.{◌≡◌, ◌≤◌, ◌^◌, [], ◌∷◌, Bool, true, None, OnErr, IfOk, IfSome, MatchOption, drop, length};
+ghost use Rattle.std.specs.Prelude.{◌≡◌, ◌≤◌, ◌^◌, [], ◌∷◌, Bool, true, None, drop, length};
+ghost use Rattle.std.specs.Prelude.{OnErr, IfOk, IfSome, MatchOption};
 ghost use Rattle.std.specs.Option.{option_map};
 ghost use Rattle.extent_map.specs.Cells.{Tape};
 ghost use Rattle.volume_space.specs.Standing.{Given, Standing, first_standing};
@@ -90,8 +91,8 @@ impl Stock {
         })
     }
 
-    /// Makes a call at a moment. A call that the tree refuses, and one that doesn't fit on the tape, leaves all as it was,
-    /// and so does one for which memory is refused.
+    /// Makes a call at a moment, and tells why the tree refuses it. A call that is refused, and one that doesn't fit on
+    /// the tape, leaves all as it was, and so does one for which memory is refused.
     pub fn apply(&mut self, call: &Call, at: Moment) -> Result<Option<Refusal>, AdmitErr>
         ensures applied { (early : Tape) (g : Given) (on : Bool) (st : Standing) → IsStock early g on st self.old
             → IsApplied early g on st call.now at self.old self.new result }
@@ -187,7 +188,8 @@ fn change(
         → IsStock early g on st (stocked tree.old layout.old frame.old)
         → IsChange early g on st call.now at (stocked tree.old layout.old frame.old)
         (stocked tree.new layout.new frame.new) result }
-    ensures err { OnErr result (IsUnchanged (stocked tree.old layout.old frame.old) (stocked tree.new layout.new frame.new)) }
+    ensures err { OnErr result (IsUnchanged (stocked tree.old layout.old frame.old)
+        (stocked tree.new layout.new frame.new)) }
     ensures generation { frame.new.generation ≤ 2 ^ 62 }
 {
     match call {
@@ -222,7 +224,8 @@ fn change_alone(
     ensures applied { (l : Plan) (early : Tape) (g : Given) (on : Bool) (st : Standing)
         → IsStock early g on st (stocked tree.old l frame.old)
         → IsChange early g on st call.now at (stocked tree.old l frame.old) (stocked tree.new l frame.new) result }
-    ensures err { OnErr result ((l : Plan) → IsUnchanged (stocked tree.old l frame.old) (stocked tree.new l frame.new)) }
+    ensures err { OnErr result ((l : Plan)
+        → IsUnchanged (stocked tree.old l frame.old) (stocked tree.new l frame.new)) }
     ensures generation { frame.new.generation ≡ frame.old.generation }
 {
     let Ok(changed) = change_tree(tree, alloc, call, at) else {

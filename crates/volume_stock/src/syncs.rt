@@ -26,7 +26,8 @@ pub fn sync(
         → IsStock early g on st (stocked tree.now layout.old frame.old)
         → IsChange early g on st Call.Sync at (stocked tree.now layout.old frame.old)
         (stocked tree.now layout.new frame.new) result }
-    ensures err { OnErr result (IsUnchanged (stocked tree.now layout.old frame.old) (stocked tree.now layout.new frame.new)) }
+    ensures err { OnErr result (IsUnchanged (stocked tree.now layout.old frame.old)
+        (stocked tree.now layout.new frame.new)) }
     ensures generation { frame.new.generation ≤ 2 ^ 62 }
 {
     if !frame.changed {

@@ -39,7 +39,8 @@ pub fn write(
         → IsStock early g on st (stocked tree.old layout.old frame.old)
         → IsChange early g on st (Call.Write path.now offset bytes.now) at (stocked tree.old layout.old frame.old)
         (stocked tree.new layout.new frame.new) result }
-    ensures err { OnErr result (IsUnchanged (stocked tree.old layout.old frame.old) (stocked tree.new layout.new frame.new)) }
+    ensures err { OnErr result (IsUnchanged (stocked tree.old layout.old frame.old)
+        (stocked tree.new layout.new frame.new)) }
     ensures generation { frame.new.generation ≡ frame.old.generation }
 {
     if bytes.is_empty() {
