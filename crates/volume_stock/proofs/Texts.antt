@@ -75,7 +75,7 @@ module _ (tape : Tape) (g : Given) (on : Bool) (st : Standing) (s : Stocked) (i 
   by_frame = ap (λ (f : Frame). sync_index f s.tree s.layout.ends.dp at) i.frame
       ∙ ap (λ (p : Rattle.tape_layout.specs.Plans.Plan). sync_index (frame_of g.mounted st.space s.frame.noted) s.tree p.ends.dp at) i.layout
 
-  nodes_are : file_told.told_nodes (letters g.mounted) s.tree ≡ space.told_nodes g.mounted st.tree st.files
+  pub nodes_are : file_told.told_nodes (letters g.mounted) s.tree ≡ space.told_nodes g.mounted st.tree st.files
   nodes_are = ap (λ name. file_told.told_in (letters g.mounted) name s.tree.nodes) i.name
       ∙ told_alike tape (letters g.mounted) (root_name g.mounted) st.files s.tree i.files
       ∙ ap (λ (t : plain.Tree). space.told_nodes g.mounted t st.files) i.plain

@@ -2,3 +2,5 @@ pub mod Stocks
 pub mod Steps
 pub mod Applied
 pub mod Mounted
+pub mod Bare
+pub mod Synced

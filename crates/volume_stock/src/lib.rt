@@ -2,9 +2,13 @@
 #![tactic(auto)]
 
 mod changes;
+mod laws;
 mod looks;
 mod stocks;
 mod syncs;
+#[cfg(test)]
+mod tests;
 mod writes;
 
+pub use laws::syncs_tell_the_tree;
 pub use stocks::Stock;

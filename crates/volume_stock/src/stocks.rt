@@ -8,7 +8,9 @@ ghost use Rattle.volume_space.specs.Standing.{Given, Standing, first_standing};
 ghost use Rattle.volume_stock.specs.Mounted.{CanStart, StartsFrom};
 ghost use Rattle.plain_tree.specs.Calls.{answer};
 ghost use Rattle.plain_tree.specs.Refusals.{refusal_of};
+ghost use Rattle.std.specs.FinMap as fin;
 ghost use Rattle.file_tree.specs.Tree.{plain_of, whole};
+ghost use Rattle.file_tree.specs.Valid.{IsGood};
 ghost use Rattle.tape_layout.specs.Ops.{HasRoom, held_in};
 ghost use Rattle.tape_layout.specs.Plans.{Plan};
 ghost use Rattle.volume_stock.specs.Applied.{IsApplied, IsChange, IsUnchanged, LeavesAll, StoresNothing};
@@ -136,6 +138,14 @@ impl Stock {
             → IsStock tape g true st self.new }
     {
         self.layout.place_on_ip();
+    }
+
+    /// How many nodes the tree has, the root among them.
+    pub fn count(&self) -> u32
+        ensures count { result ≡ fin.len self.now.tree.nodes }
+        ensures good { IsGood self.now.tree }
+    {
+        self.tree.count()
     }
 
     /// How many ops stand.
