@@ -23,7 +23,7 @@ use Rattle.volume_space.specs.Files.{Files, with_file}
 use Rattle.volume_space.specs.Space.{change, nothing}
 use Rattle.volume_space.specs.Standing.{Given, Standing, ask_of, ask_unless, uid_at}
 use Rattle.volume_stock.specs.Applied.{IsChanging, IsStill}
-use Rattle.volume_stock.specs.Steps.{AsBefore, IsStep}
+use Rattle.volume_stock.specs.Steps.{IsStep}
 use Rattle.volume_stock.specs.Stocks.{LieAs}
 use Rattle.volume_stock.proofs.Lies.{path_of, plain_there}
 use Rattle.volume_stock.proofs.TreeSteps.{changed_as}
@@ -36,41 +36,41 @@ pub unrefused : (tape : Tape) (t : FileTree) (tree : plain.Tree) (call : Call) �
 unrefused tape t tree call other free is = ap (λ tree. refusal_of tree call) (sym is) ∙ free_too tape t call other free
 
 module _ (before next : FileTree) (at : Moment) where
-  pub mkdir_changes : (path : Path) → refusal_of (plain_of whole before) (asks.Mkdir path) ≡ None → IsStep (asks.Mkdir path) at AsBefore before next → IsChanging (asks.Mkdir path) at before next
+  pub mkdir_changes : (path : Path) → refusal_of (plain_of whole before) (asks.Mkdir path) ≡ None → IsStep (asks.Mkdir path) at before next → IsChanging (asks.Mkdir path) at before next
   mkdir_changes path free step = record {
     plain = step.plain;
     volume = step.volume;
     blocks = step.blocks;
     asks = λ tape g st is. ap (λ r. ask_unless r change) (unrefused tape before st.tree (asks.Mkdir path) (λ p o c e. cc) free is);
-    lies = λ tape g on st is held. step.lies tape st.files held;
+    lies = λ tape g on st is held. step.lies st.files held;
   }
 
-  pub create_changes : (path : Path) → refusal_of (plain_of whole before) (asks.Create path) ≡ None → IsStep (asks.Create path) at AsBefore before next → IsChanging (asks.Create path) at before next
+  pub create_changes : (path : Path) → refusal_of (plain_of whole before) (asks.Create path) ≡ None → IsStep (asks.Create path) at before next → IsChanging (asks.Create path) at before next
   create_changes path free step = record {
     plain = step.plain;
     volume = step.volume;
     blocks = step.blocks;
     asks = λ tape g st is. ap (λ r. ask_unless r change) (unrefused tape before st.tree (asks.Create path) (λ p o c e. cc) free is);
-    lies = λ tape g on st is held. step.lies tape st.files held;
+    lies = λ tape g on st is held. step.lies st.files held;
   }
 
-  pub remove_changes : (path : Path) → refusal_of (plain_of whole before) (asks.Remove path) ≡ None → IsStep (asks.Remove path) at AsBefore before next → IsChanging (asks.Remove path) at before next
+  pub remove_changes : (path : Path) → refusal_of (plain_of whole before) (asks.Remove path) ≡ None → IsStep (asks.Remove path) at before next → IsChanging (asks.Remove path) at before next
   remove_changes path free step = record {
     plain = step.plain;
     volume = step.volume;
     blocks = step.blocks;
     asks = λ tape g st is. ap (λ r. ask_unless r change) (unrefused tape before st.tree (asks.Remove path) (λ p o c e. cc) free is);
-    lies = λ tape g on st is held. step.lies tape st.files held;
+    lies = λ tape g on st is held. step.lies st.files held;
   }
 
-  pub rename_changes : (from to : Path) → same_path from to ≡ false → refusal_of (plain_of whole before) (asks.Rename from to) ≡ None → IsStep (asks.Rename from to) at AsBefore before next → IsChanging (asks.Rename from to) at before next
+  pub rename_changes : (from to : Path) → same_path from to ≡ false → refusal_of (plain_of whole before) (asks.Rename from to) ≡ None → IsStep (asks.Rename from to) at before next → IsChanging (asks.Rename from to) at before next
   rename_changes from to apart free step = record {
     plain = step.plain;
     volume = step.volume;
     blocks = step.blocks;
     asks = λ tape g st is. ap (λ r. ask_unless r (cond (same_path from to) nothing change)) (unrefused tape before st.tree (asks.Rename from to) (λ p o c e. cc) free is)
         ∙ ap (λ b. cond b nothing change) apart;
-    lies = λ tape g on st is held. step.lies tape st.files held;
+    lies = λ tape g on st is held. step.lies st.files held;
   }
 
 -- ---- calls that ask nothing
@@ -157,14 +157,14 @@ module _ (before next : FileTree) (at : Moment) (call : Call) (free : refusal_of
   free_as : (other : Call) → call ≡ other → refusal_of (plain_of whole before) other ≡ None
   free_as other is = ap (refusal_of (plain_of whole before)) (sym is) ∙ free
 
-  pub mkdir_arm : (path slice : Path) → call ≡ asks.Mkdir path → slice ≡ path → ((c : Call) → making sorts.Dir slice ≡ Some c → IsStep c at AsBefore before next) → IsChanging call at before next
+  pub mkdir_arm : (path slice : Path) → call ≡ asks.Mkdir path → slice ≡ path → ((c : Call) → making sorts.Dir slice ≡ Some c → IsStep c at before next) → IsChanging call at before next
   mkdir_arm path slice is same steps = subst (λ c. IsChanging c at before next) (sym is)
       (mkdir_changes before next at path (free_as (asks.Mkdir path) is) (steps (asks.Mkdir path) (ap (λ p. Some (asks.Mkdir p)) same)))
 
-  pub create_arm : (path slice : Path) → call ≡ asks.Create path → slice ≡ path → ((c : Call) → making sorts.File slice ≡ Some c → IsStep c at AsBefore before next) → IsChanging call at before next
+  pub create_arm : (path slice : Path) → call ≡ asks.Create path → slice ≡ path → ((c : Call) → making sorts.File slice ≡ Some c → IsStep c at before next) → IsChanging call at before next
   create_arm path slice is same steps = subst (λ c. IsChanging c at before next) (sym is)
       (create_changes before next at path (free_as (asks.Create path) is) (steps (asks.Create path) (ap (λ p. Some (asks.Create p)) same)))
 
-  pub remove_arm : (path slice : Path) → call ≡ asks.Remove path → slice ≡ path → IsStep (asks.Remove slice) at AsBefore before next → IsChanging call at before next
+  pub remove_arm : (path slice : Path) → call ≡ asks.Remove path → slice ≡ path → IsStep (asks.Remove slice) at before next → IsChanging call at before next
   remove_arm path slice is same step = subst (λ c. IsChanging c at before next) (sym is)
-      (remove_changes before next at path (free_as (asks.Remove path) is) (subst (λ p. IsStep (asks.Remove p) at AsBefore before next) same step))
+      (remove_changes before next at path (free_as (asks.Remove path) is) (subst (λ p. IsStep (asks.Remove p) at before next) same step))

@@ -28,7 +28,7 @@ use Rattle.file_tree.proofs.PlainLemmas.{plain_get}
 use Rattle.file_tree.proofs.TreeLemmas.{after_free}
 use Rattle.volume_space.specs.Files.{Files}
 use Rattle.volume_stock.specs.Stocks.{LieAs, no_bytes}
-use Rattle.volume_stock.specs.Steps.{AsBefore, IsStep}
+use Rattle.volume_stock.specs.Steps.{IsStep}
 use Rattle.volume_stock.proofs.Uids.{dir_in, new_mark, others_mark, uid_in}
 
 pub equal_or_not : (a b : ℕ) → (a ≡ b) ⊎ (a ≢ b)
@@ -163,5 +163,5 @@ module _ (before next : FileTree) (dir number : ℕ) (name : List ℕ) (sort : S
       fresh = λ uid more. held.fresh uid (omega (arith, more, highest)) ∙ ap no_bytes (sym volume.block_size);
     }
 
-  pub made_step : IsStep c.call at AsBefore before next
-  made_step = record { plain = done; volume = volume; blocks = adds; lies = λ tape files held. made_as files held }
+  pub made_step : IsStep c.call at before next
+  made_step = record { plain = done; volume = volume; blocks = adds; lies = λ files held. made_as files held }

@@ -24,7 +24,7 @@ use Rattle.file_tree.proofs.TreeLemmas.{after_free}
 use Rattle.volume_space.specs.Files.{Files}
 use Rattle.volume_space.specs.Standing.{uid_at}
 use Rattle.volume_stock.specs.Stocks.{LieAs, no_bytes}
-use Rattle.volume_stock.specs.Steps.{AsBefore, IsSameTree, IsStep, file_changed}
+use Rattle.volume_stock.specs.Steps.{IsSameTree, IsStep, file_changed}
 use Rattle.volume_stock.proofs.Lies.{equal_or_not, others_as, path_of, plain_there, uid_kept}
 use Rattle.volume_stock.proofs.Uids.{left_mark, moved_uid}
 
@@ -53,8 +53,8 @@ module _ (before next : FileTree) (path : Path) (number : ℕ) (at : Moment) (go
     fresh = λ uid more. held.fresh uid (omega (arith, more, ap (λ (t : plain.Tree). t.highest) removed_now)) ∙ ap no_bytes (sym volume.block_size);
   }
 
-  pub removed_step : IsStep (asks.Remove path) at AsBefore before next
-  removed_step = record { plain = done; volume = volume; blocks = adds; lies = λ tape files held. removed_as files held }
+  pub removed_step : IsStep (asks.Remove path) at before next
+  removed_step = record { plain = done; volume = volume; blocks = adds; lies = λ files held. removed_as files held }
 
 -- ---- all files lie as they did
 
@@ -89,12 +89,12 @@ module _ (before next : FileTree) (from to : Path) (at : Moment) (good : IsGood 
       (plain_there whole before path node there)
       (ap (λ (t : plain.Tree). fin.get t.nodes (moved_path from to path)) (sym (done whole)) ∙ plain_there whole next (moved_path from to path) now here)
 
-  pub renamed_step : IsStep (asks.Rename from to) at AsBefore before next
+  pub renamed_step : IsStep (asks.Rename from to) at before next
   renamed_step = record {
     plain = done;
     volume = volume;
     blocks = adds;
-    lies = λ tape files held. all_as before next (moved_path from to) good_next lie numbers renamed_uids renamed_highest volume files held;
+    lies = λ files held. all_as before next (moved_path from to) good_next lie numbers renamed_uids renamed_highest volume files held;
   }
 
 -- ---- more memory
@@ -126,12 +126,12 @@ same_nodes before next nodes highest volume = record {
 pub unchanged : (t : FileTree) → IsSameTree t t
 unchanged t = same_nodes t t refl refl (record { name = refl; block_size = refl })
 
-pub step_from : (old before next : FileTree) (call : Rattle.plain_tree.specs.declared.calls.Call.Call) (at : Moment) → IsSameTree old before → IsStep call at AsBefore before next → IsStep call at AsBefore old next
+pub step_from : (old before next : FileTree) (call : Rattle.plain_tree.specs.declared.calls.Call.Call) (at : Moment) → IsSameTree old before → IsStep call at before next → IsStep call at old next
 step_from old before next call at same step = record {
   plain = λ tape. step.plain tape ∙ ap (λ t. after t call at) (same.plain tape);
   volume = record { name = step.volume.name ∙ same.volume.name; block_size = step.volume.block_size ∙ same.volume.block_size };
   blocks = λ part pos h. same.blocks part pos (step.blocks part pos h);
-  lies = λ tape files held. step.lies tape files (same.lies files held);
+  lies = λ files held. step.lies files (same.lies files held);
 }
 
 -- ---- one file lies otherwise

@@ -17,17 +17,12 @@ use Rattle.volume_space.specs.Files.{Files, with_file}
 use Rattle.volume_space.specs.Standing.{uid_at}
 use Rattle.volume_stock.specs.Stocks.{LieAs}
 
--- whatever stands on tape, the tree is what the plain tree is after the call, and its files lie so
-pub record IsStep (call : Call) (at : Moment) (files_after : Tape → Files → Files)
-    (before next : FileTree) : Type 0 where
+-- whatever stands on tape, the tree is what the plain tree is after the call, and its files lie as they did
+pub record IsStep (call : Call) (at : Moment) (before next : FileTree) : Type 0 where
   pub plain : IsAfter call at before next
   pub volume : KeepsVolume before next
   pub blocks : AddsNoBlock before next
-  pub lies : (tape : Tape) (files : Files) → LieAs files before → LieAs (files_after tape files) next
-
--- how the files lie is as it was
-abbrev pub AsBefore : Tape → Files → Files
-AsBefore tape files = files
+  pub lies : (files : Files) → LieAs files before → LieAs files next
 
 -- the tree is the same, whatever stands on tape, and its files lie as they did
 pub record IsSameTree (before next : FileTree) : Type 0 where
@@ -41,9 +36,11 @@ abbrev pub file_changed : FileTree → Path → (Laid → Laid) → Tape → Fil
 file_changed before path change tape files = with_file (uid_at (plain_of tape before).nodes path) change files
 
 -- the bytes of a write stand in new blocks: on a tape that has kept the blocks of the tree, it is the plain tree's
+-- write
 pub record IsWrite (path : Path) (new : Extent) (bytes : List ℕ) (at : Moment) (before next : FileTree) : Type 0 where
   pub plain : (early late : Tape) → HoldsBytes late before.block_size new bytes
-      → AreAlikeIn (TreeStandsIn before) late early → plain_of late next ≡ after (plain_of early before) (asks.Write path new.offset bytes) at
+      → AreAlikeIn (TreeStandsIn before) late early
+      → plain_of late next ≡ after (plain_of early before) (asks.Write path new.offset bytes) at
   pub volume : KeepsVolume before next
   pub blocks : AddsBlocksOf new before next
   pub lies : (tape : Tape) (files : Files) → LieAs files before

@@ -19,7 +19,7 @@ abbrev pub index_of_sync : Given → Standing → Moment → Index
 index_of_sync g st at =
     index_at g.mounted st.tree st.files (st.space.newest + 1) at Dp (st.space.ends.dp + 1) st.space.last_dp
 
--- the volume has two letters, a UUID of its range, carried facts as they may be, generations left, and places near enough
+-- the volume has two letters, a UUID of its range, carried facts as they may be, a generation left, and near places
 pub record CanTell (g : Given) (st : Standing) : Type 0 where
   pub letters_are : AreLetters (letters g.mounted)
   pub differ : (letters g.mounted).0 ≢ (letters g.mounted).1

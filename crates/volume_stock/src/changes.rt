@@ -10,7 +10,7 @@ ghost use Rattle.plain_tree.specs.declared.calls.Call.{Call as Asked};
 ghost use Rattle.file_tree.specs.Edits.{CanMake, making};
 ghost use Rattle.file_tree.specs.Tree.{StandsAt, plain_of, whole};
 ghost use Rattle.volume_stock.specs.Applied.{IsTreeStep, StoresNothing};
-ghost use Rattle.volume_stock.specs.Steps.{AsBefore, IsSameTree, IsStep, file_changed};
+ghost use Rattle.volume_stock.specs.Steps.{IsSameTree, IsStep, file_changed};
 
 use file_tree::{Found, Tree};
 use plain_tree::{Call, Sort};
@@ -71,7 +71,7 @@ fn make(
     requires { (call : Asked) × (making sort path.now ≡ Some call)
         × (refusal_of (plain_of whole tree.old) call ≡ None) }
     ensures ok { OnOk result ((call : Asked) → making sort path.now ≡ Some call
-        → IsStep call at AsBefore tree.old tree.new) }
+        → IsStep call at tree.old tree.new) }
     ensures err { OnErr result (IsSameTree tree.old tree.new) }
 {
     let Some((name, front)) = path.split_last() else {
@@ -87,7 +87,7 @@ fn make(
 /// Makes an empty directory or file under a name in a directory. Takes no memory.
 fn make_in(tree: &mut Tree, dir: u32, name: Text, sort: Sort, at: Moment)
     requires { CanMake tree.old dir name sort }
-    ensures { (c : CanMake tree.old dir name sort) → IsStep c.call at AsBefore tree.old tree.new }
+    ensures { (c : CanMake tree.old dir name sort) → IsStep c.call at tree.old tree.new }
 {
     let _count = tree.count();
     let _number = tree.make(dir, name, sort, at);
@@ -97,7 +97,7 @@ fn make_in(tree: &mut Tree, dir: u32, name: Text, sort: Sort, at: Moment)
 /// Takes out a file, a link or an empty directory. Takes no memory.
 fn remove(tree: &mut Tree, path: &[Text], at: Moment)
     requires { refusal_of (plain_of whole tree.old) (Call.Remove path.now) ≡ None }
-    ensures { IsStep (Call.Remove path.now) at AsBefore tree.old tree.new }
+    ensures { IsStep (Call.Remove path.now) at tree.old tree.new }
 {
     let number = node_at(tree, path);
     tree.unlink(number, at);
@@ -133,7 +133,7 @@ fn move_to(
 ) -> Result<(), NoMemory>
     requires free { refusal_of (plain_of whole tree.old) (Call.Rename from.now to.now) ≡ None }
     requires apart { paths.same_path from.now to.now ≡ false }
-    ensures ok { OnOk result (IsStep (Call.Rename from.now to.now) at AsBefore tree.old tree.new) }
+    ensures ok { OnOk result (IsStep (Call.Rename from.now to.now) at tree.old tree.new) }
     ensures err { OnErr result (tree.new ≡ tree.old) }
 {
     let Some((name, up)) = to.split_last() else {

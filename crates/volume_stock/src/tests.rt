@@ -154,7 +154,7 @@ fn finish(stock: &mut Stock) {
     }
 }
 
-/// The volume with a file that fills the data partition but for its reserve, or none where a write isn't as it is wanted.
+/// The volume with a file that fills the data partition but for its reserve, or none where a write isn't as wanted.
 fn filled(alloc: Global) -> Result<Option<Stock>, NoMemory> {
     let mut stock = bare_stock(alloc)?;
     let create = Call::Create { path: path(alloc)? };
