@@ -1,0 +1,11 @@
+pub mod Uids
+pub mod Lies
+pub mod TreeSteps
+pub mod Asks
+pub mod WriteSteps
+pub mod Stands
+pub mod StartLemmas
+pub mod LookLemmas
+pub mod BareMounts
+pub mod SyncLaw
+pub mod Texts

@@ -1,0 +1,89 @@
+-- The text of the index that a sync writes.
+use Rattle.std.proofs.Common.{◌≡◌, ℕ, suc, ◌+◌, Bool, List, [], ◌∷◌, length, map, Some, slice_get, sym, ap, ◌∙◌, refl}
+use Rattle.std.specs.FinMap as fin
+use Rattle.tape_types.specs.declared.moments.Moment.{Moment}
+use Rattle.tape_types.specs.declared.cartridges.Part.TheVariants.{Dp}
+use Rattle.index_model.specs.declared.indexes.Index.{Index}
+use Rattle.index_model.specs.declared.nodes.Kind.TheVariants as told_kinds
+use Rattle.plain_tree.specs.Paths.{Path, last_name, parent_of}
+use Rattle.plain_tree.specs.Tree as plain
+use Rattle.plain_tree.specs.declared.nodes.Node as plain_node
+use Rattle.extent_map.specs.Cells.{Tape, file_cells}
+use Rattle.extent_map.specs.Laid.{Room}
+use Rattle.file_tree.specs.Mounts.{Letters}
+use Rattle.file_tree.specs.Told as file_told
+use Rattle.file_tree.specs.Told.{name_or, place_of, raw_of}
+use Rattle.file_tree.specs.Tree.{FileTree, plain_node_of, plain_of}
+use Rattle.file_tree.specs.declared.nodes.Kind.{Kind}
+use Rattle.file_tree.specs.declared.nodes.Kind.TheVariants as kinds
+use Rattle.file_tree.specs.declared.nodes.Node.{Node}
+use Rattle.file_tree.proofs.PlainLemmas.{plain_entries}
+use Rattle.file_tree.proofs.ToldLemmas.{entry_get}
+use Rattle.file_tree.proofs.WriteLemmas.{long_as}
+use Rattle.volume_space.specs.Files as space
+use Rattle.volume_space.specs.Files.{Files, canon, index_at, letters, root_name, told_node}
+use Rattle.volume_space.specs.Standing.{Given, Standing, sync_text}
+use Rattle.volume_sync.specs.Frames.{sync_index}
+use Rattle.volume_sync.specs.declared.frames.Frame.{Frame}
+use Rattle.volume_stock.specs.Stocks.{IsStock, LieAs, Stocked, frame_of}
+
+-- two maps over lists of one length, element by element
+map_both : {X Y Z : Type 0} (f : X → Z) (g : Y → Z) (h : X → Y) (xs : List X) → ((i : ℕ) (x : X) → slice_get xs i ≡ Some x → f x ≡ g (h x)) → map f xs ≡ map g (map h xs)
+map_both f g h [] same = refl
+map_both f g h (x ∷ xs) same =
+    ap (λ z. z ∷ map f xs) (same 0 x refl) ∙ ap (λ zs. g (h x) ∷ zs) (map_both f g h xs (λ i y is. same (suc i) y is))
+
+module _ (tape : Tape) (both : Letters) (name : List ℕ) (files : Files) (t : FileTree) (held : LieAs files t) where
+  abbrev line : (Path × Node) → (Path × plain_node.Node)
+  line e = (e.0, plain_node_of tape e.1)
+
+  keys_are : fin.keys (plain_of tape t).nodes ≡ fin.keys t.nodes
+  keys_are = ap (map (λ (e : Path × plain_node.Node). e.0)) (plain_entries tape t.nodes) ∙ sym (map_both (λ (e : Path × Node). e.0) (λ (e : Path × plain_node.Node). e.0) line (fin.entries t.nodes) (λ i e is. refl))
+
+  kind_told : (path : Path) (node : Node) → fin.get t.nodes path ≡ Some node → file_told.told_kind_of both node.kind ≡ space.told_kind both (files node.uid) (plain_node_of tape node).kind
+  kind_told path node there = by node.kind refl
+    where
+      by : (k : Kind) → node.kind ≡ k → file_told.told_kind_of both node.kind ≡ space.told_kind both (files node.uid) (plain_node_of tape node).kind
+      by kinds.Dir e = rw e refl
+      by (kinds.Link text) e = rw e refl
+      by (kinds.File room) e =
+          rw e (ap (λ n. told_kinds.File n (map (raw_of both) room.laid.extents)) (sym (long_as tape room.laid))
+          ∙ ap (λ (l : Rattle.extent_map.specs.Laid.Laid). told_kinds.File (length (file_cells tape room.laid)) (map (raw_of both) l.extents)) (sym (held.lies path node room there e)))
+
+  node_told : (i : ℕ) (e : Path × Node) → slice_get (fin.entries t.nodes) i ≡ Some e → file_told.told_of both name (fin.keys t.nodes) e ≡ told_node both name files (fin.keys t.nodes) (line e)
+  node_told i e is = ap (λ k. record {
+    parent = place_of (parent_of e.0) (fin.keys t.nodes);
+    uid = e.1.uid;
+    name = name_or name (last_name e.0);
+    times = e.1.times;
+    readonly = e.1.readonly;
+    kind = k;
+  }) (kind_told e.0 e.1 (entry_get t.nodes i e.0 e.1 is))
+
+  pub told_alike : file_told.told_in both name t.nodes ≡ map (told_node both name files (fin.keys (plain_of tape t).nodes)) (fin.entries (plain_of tape t).nodes)
+  told_alike =
+      map_both (file_told.told_of both name (fin.keys t.nodes)) (told_node both name files (fin.keys t.nodes)) line (fin.entries t.nodes) node_told
+      ∙ ap (map (told_node both name files (fin.keys t.nodes))) (sym (plain_entries tape t.nodes))
+      ∙ ap (λ keys. map (told_node both name files keys) (fin.entries (plain_of tape t).nodes)) (sym keys_are)
+
+-- the index of a sync is that of what stands
+module _ (tape : Tape) (g : Given) (on : Bool) (st : Standing) (s : Stocked) (i : IsStock tape g on st s) (at : Moment) where
+  abbrev index_now : Index
+  index_now = index_at g.mounted st.tree st.files (st.space.newest + 1) at Dp (st.space.ends.dp + 1) st.space.last_dp
+
+  by_frame : sync_index s.frame s.tree s.layout.ends.dp at ≡ sync_index (frame_of g.mounted st.space s.frame.noted) s.tree st.space.ends.dp at
+  by_frame = ap (λ (f : Frame). sync_index f s.tree s.layout.ends.dp at) i.frame
+      ∙ ap (λ (p : Rattle.tape_layout.specs.Plans.Plan). sync_index (frame_of g.mounted st.space s.frame.noted) s.tree p.ends.dp at) i.layout
+
+  pub nodes_are : file_told.told_nodes (letters g.mounted) s.tree ≡ space.told_nodes g.mounted st.tree st.files
+  nodes_are = ap (λ name. file_told.told_in (letters g.mounted) name s.tree.nodes) i.name
+      ∙ told_alike tape (letters g.mounted) (root_name g.mounted) st.files s.tree i.files
+      ∙ ap (λ (t : plain.Tree). space.told_nodes g.mounted t st.files) i.plain
+
+  pub index_is : sync_index s.frame s.tree s.layout.ends.dp at ≡ index_now
+  index_is = by_frame
+      ∙ ap (λ nodes. record (index_at g.mounted (plain_of tape s.tree) st.files (st.space.newest + 1) at Dp (st.space.ends.dp + 1) st.space.last_dp) { nodes = nodes }) nodes_are
+      ∙ ap (λ (t : plain.Tree). record index_now { highest = t.highest }) i.plain
+
+  pub text_is : canon (sync_index s.frame s.tree s.layout.ends.dp at) ≡ sync_text g st at
+  text_is = ap canon index_is

@@ -1,0 +1,6 @@
+pub mod Stocks
+pub mod Steps
+pub mod Applied
+pub mod Mounted
+pub mod Bare
+pub mod Synced

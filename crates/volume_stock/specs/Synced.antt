@@ -1,0 +1,45 @@
+-- What the index of a sync tells.
+use Rattle.std.specs.Prelude.{◌≡◌, ◌≢◌, ◌+◌, ◌<◌, ◌≤◌, ◌^◌, Bool, IfSome}
+use Rattle.tape_types.specs.declared.moments.Moment.{Moment}
+use Rattle.tape_types.specs.declared.cartridges.Part.TheVariants.{Dp}
+use Rattle.extent_map.specs.Cells.{Tape}
+use Rattle.index_model.specs.Valid.{IsValid}
+use Rattle.index_model.specs.declared.indexes.Index.{Index}
+use Rattle.file_tree.specs.Carried.{AreFitFacts, carried_of}
+use Rattle.file_tree.specs.Indexes.{AreLetters, TellsTree}
+use Rattle.file_tree.specs.Mounts.{CanMount, IsTreeOf}
+use Rattle.file_tree.specs.Tree.{FileTree, plain_of}
+use Rattle.file_tree.specs.Valid.{IsGood}
+use Rattle.volume_space.specs.Files.{canon, index_at, letters}
+use Rattle.volume_space.specs.Standing.{Given, Standing, sync_text}
+use Rattle.volume_stock.specs.Stocks.{IsStock, Stocked}
+
+-- the index of a sync of what stands
+abbrev pub index_of_sync : Given → Standing → Moment → Index
+index_of_sync g st at =
+    index_at g.mounted st.tree st.files (st.space.newest + 1) at Dp (st.space.ends.dp + 1) st.space.last_dp
+
+-- the volume has two letters, a UUID of its range, carried facts as they may be, a generation left, and near places
+pub record CanTell (g : Given) (st : Standing) : Type 0 where
+  pub letters_are : AreLetters (letters g.mounted)
+  pub differ : (letters g.mounted).0 ≢ (letters g.mounted).1
+  pub uuid : g.mounted.label.uuid < 2 ^ 128
+  pub facts : AreFitFacts (carried_of g.mounted.index)
+  pub generation : st.space.newest + 1 ≤ 2 ^ 62
+  pub here : st.space.ends.dp + 1 ≤ 2 ^ 62
+  pub back : IfSome st.space.last_dp (λ block. block ≤ 2 ^ 62)
+
+-- It is valid, its text is the one that a sync admits, it can be mounted, and is mounted as the tree that stands.
+pub record TellsSynced (tape : Tape) (g : Given) (st : Standing) (tree : FileTree) (at : Moment) : Type 0 where
+  pub valid : IsValid (index_of_sync g st at)
+  pub text : sync_text g st at ≡ canon (index_of_sync g st at)
+  pub tells : TellsTree (letters g.mounted) tree (index_of_sync g st at)
+  pub mounts : CanMount (index_of_sync g st at) (letters g.mounted) tree.block_size
+  pub same : (other : FileTree) → IsTreeOf (letters g.mounted) tree.block_size (index_of_sync g st at) other
+      → plain_of tape other ≡ st.tree
+
+-- so it is of each state that is held
+abbrev pub SyncsTellTheTree : Type 0
+SyncsTellTheTree =
+    (tape : Tape) (g : Given) (on : Bool) (st : Standing) (s : Stocked) (at : Moment) → IsStock tape g on st s
+    → IsGood s.tree → CanTell g st → TellsSynced tape g st s.tree at

@@ -1,0 +1,14 @@
+//! What a volume holds while it is served: its tree, what is admitted for the tape, and what its next index stands on.
+#![tactic(auto)]
+
+mod changes;
+mod laws;
+mod looks;
+mod stocks;
+mod syncs;
+#[cfg(test)]
+mod tests;
+mod writes;
+
+pub use laws::syncs_tell_the_tree;
+pub use stocks::Stock;

@@ -1,0 +1,255 @@
+//! What is held of a volume.
+
+ghost use Rattle.std.specs.Prelude.{◌≡◌, ◌≤◌, ◌^◌, [], ◌∷◌, Bool, true, None, drop, length};
+ghost use Rattle.std.specs.Prelude.{OnErr, IfOk, IfSome, MatchOption};
+ghost use Rattle.std.specs.Option.{option_map};
+ghost use Rattle.extent_map.specs.Cells.{Tape};
+ghost use Rattle.volume_space.specs.Standing.{Given, Standing, first_standing};
+ghost use Rattle.volume_stock.specs.Mounted.{CanStart, StartsFrom};
+ghost use Rattle.plain_tree.specs.Calls.{answer};
+ghost use Rattle.plain_tree.specs.Refusals.{refusal_of};
+ghost use Rattle.std.specs.FinMap as fin;
+ghost use Rattle.file_tree.specs.Tree.{plain_of, whole};
+ghost use Rattle.file_tree.specs.Valid.{IsGood};
+ghost use Rattle.tape_layout.specs.Ops.{HasRoom, held_in};
+ghost use Rattle.tape_layout.specs.Plans.{Plan};
+ghost use Rattle.volume_stock.specs.Applied.{IsApplied, IsChange, IsUnchanged, LeavesAll, StoresNothing};
+ghost use Rattle.volume_stock.specs.Stocks.{IsStock, stocked, with_change};
+
+use crate::changes::change_tree;
+use crate::looks::{list, stat};
+use crate::syncs::sync;
+use crate::writes::write;
+use file_tree::{Carried, Tree};
+use plain_tree::{Answer, Call, Refusal};
+use std::alloc::Global;
+use std::marker::Model;
+use tape_layout::{AdmitErr, Layout, Op};
+use tape_meaning::Mounted;
+use tape_types::{Bytes, Limits, Moment, NoMemory, Place, Text};
+use volume_sync::Frame;
+
+/// What is held of a volume while it is served: its tree, what is admitted for the tape and not done yet, and what its
+/// next index stands on.
+#[derive(Drop)]
+pub struct Stock {
+    tree: Tree,
+    layout: Layout,
+    frame: Frame,
+    alloc: Global,
+}
+
+impl Model for Stock {
+    ghost use Rattle.std.specs.Prelude.{◌≤◌, ◌^◌};
+    ghost use Rattle.volume_stock.specs.Stocks.{Stocked, stocked};
+    ghost use Rattle.std.specs.Coded.{codes};
+    ghost use Rattle.file_tree.specs.contracts.tree.Tree as shown;
+
+    ghost Value = { Stocked };
+
+    ghost coded = { Prim.hlevel (codes, shown.the_row.coded) };
+
+    ghost view = { λ a. stocked a.tree a.layout a.frame };
+
+    ghost invariant = { λ a. a.frame.generation ≤ 2 ^ 62 };
+}
+
+impl Stock {
+    /// What is held of a volume that was mounted, on a drive with these capacities: its tree, and no op. Each extent of
+    /// its index ends before the end of its partition.
+    pub fn start(alloc: Global, mounted: Mounted, limits: Limits) -> Result<Stock, NoMemory>
+        requires { CanStart limits mounted }
+        ensures stands { IfOk result (λ s. (tape : Tape) (g : Given) → StartsFrom tape limits mounted g
+            → IsStock tape g mounted.ip_on (first_standing g) s) }
+        ensures ops { IfOk result (λ s. s.layout.ops ≡ []) }
+    {
+        let letters = (mounted.label.index, mounted.label.dpart);
+        let block = mounted.label.block;
+        let tree = Tree::from_index(alloc, &mounted.index, letters, block)?;
+        let carried = Carried::of_index(alloc, &mounted.index)?;
+        let layout = Layout::new(
+            alloc,
+            limits,
+            block,
+            mounted.end_ip,
+            mounted.end_dp,
+            mounted.ip_on,
+        );
+        let frame = Frame {
+            label: mounted.label,
+            carried,
+            generation: mounted.newest,
+            last_dp: mounted.last_dp,
+            changed: false,
+            dp_done: mounted.dp_done,
+            ip_done: mounted.ip_done,
+            noted: mounted.noted,
+        };
+        Ok(Stock {
+            tree,
+            layout,
+            frame,
+            alloc,
+        })
+    }
+
+    /// Makes a call at a moment, and tells why the tree refuses it. A call that is refused, and one that doesn't fit on
+    /// the tape, leaves all as it was, and so does one for which memory is refused.
+    pub fn apply(&mut self, call: &Call, at: Moment) -> Result<Option<Refusal>, AdmitErr>
+        ensures applied { (early : Tape) (g : Given) (on : Bool) (st : Standing) → IsStock early g on st self.old
+            → IsApplied early g on st call.now at self.old self.new result }
+        ensures leaves { LeavesAll self.old self.new result }
+    {
+        if let Some(refusal) = self.tree.check(self.alloc, call)? {
+            return Ok(Some(refusal));
+        }
+        let done = change(
+            self.alloc,
+            &mut self.tree,
+            &mut self.layout,
+            &mut self.frame,
+            call,
+            at,
+        );
+        match done {
+            Ok(()) => Ok(None),
+            Err(e) => Err(e),
+        }
+    }
+
+    /// What a listing of a path is answered.
+    pub fn list(&self, path: &[Text]) -> Result<Answer, NoMemory>
+        ensures { IfOk result (λ a. (tape : Tape) → a ≡ answer (plain_of tape self.now.tree) (Call.Listing path.now)) }
+    {
+        list(&self.tree, self.alloc, path)
+    }
+
+    /// What is told of the node at a path.
+    pub fn stat(&self, path: &[Text]) -> Result<Answer, NoMemory>
+        ensures { IfOk result (λ a. (tape : Tape) → a ≡ answer (plain_of tape self.now.tree) (Call.Stat path.now)) }
+    {
+        stat(&self.tree, self.alloc, path)
+    }
+
+    /// The first flush of the data partition is done: from now on files may go to the index partition.
+    pub fn on(&mut self)
+        ensures layout { self.new ≡ record self.old { layout = record self.old.layout { ip_on = true } } }
+        ensures stands { (tape : Tape) (g : Given) (on : Bool) (st : Standing) → IsStock tape g on st self.old
+            → IsStock tape g true st self.new }
+    {
+        self.layout.place_on_ip();
+    }
+
+    /// How many nodes the tree has, the root among them.
+    pub fn count(&self) -> u32
+        ensures count { result ≡ fin.len self.now.tree.nodes }
+        ensures good { IsGood self.now.tree }
+    {
+        self.tree.count()
+    }
+
+    /// How many ops stand.
+    pub fn waiting(&self) -> u64
+        ensures { result ≡ length self.now.layout.ops }
+    {
+        self.layout.waiting()
+    }
+
+    /// The bytes that stand to be written at a place. It costs the logarithm of the ops that stand.
+    pub fn held(&self, place: Place) -> Option<&Bytes>
+        ensures { option_map (λ b. b.now) result ≡ held_in place self.now.layout.ops }
+    {
+        self.layout.held(place)
+    }
+
+    /// The op that is to be done next.
+    pub fn next_op(&self) -> Option<&Op>
+        ensures first { MatchOption result (self.now.layout.ops ≡ [])
+            (λ op. self.now.layout.ops ≡ op.now ∷ drop 1 self.now.layout.ops) }
+        ensures room { IfSome result (λ op. HasRoom self.now.layout.limits self.now.layout.block_size op.now) }
+    {
+        self.layout.next_op()
+    }
+
+    /// The first op was done.
+    pub fn done_op(&mut self)
+        requires { 1 ≤ length self.old.layout.ops }
+        ensures ops { self.new
+            ≡ record self.old { layout = record self.old.layout { ops = drop 1 self.old.layout.ops } } }
+        ensures stands { (tape : Tape) (g : Given) (on : Bool) (st : Standing) → IsStock tape g on st self.old
+            → IsStock tape g on st self.new }
+    {
+        self.layout.done_op();
+    }
+}
+
+/// Makes a call that the tree doesn't refuse.
+fn change(
+    alloc: Global,
+    tree: &mut Tree,
+    layout: &mut Layout,
+    frame: &mut Frame,
+    call: &Call,
+    at: Moment,
+) -> Result<(), AdmitErr>
+    requires free { refusal_of (plain_of whole tree.old) call.now ≡ None }
+    requires generation { frame.old.generation ≤ 2 ^ 62 }
+    ensures applied { (early : Tape) (g : Given) (on : Bool) (st : Standing)
+        → IsStock early g on st (stocked tree.old layout.old frame.old)
+        → IsChange early g on st call.now at (stocked tree.old layout.old frame.old)
+        (stocked tree.new layout.new frame.new) result }
+    ensures err { OnErr result (IsUnchanged (stocked tree.old layout.old frame.old)
+        (stocked tree.new layout.new frame.new)) }
+    ensures generation { frame.new.generation ≤ 2 ^ 62 }
+{
+    match call {
+        Call::Write {
+            path,
+            offset,
+            bytes,
+        } => write(
+            tree,
+            layout,
+            frame,
+            path.as_slice(),
+            *offset,
+            bytes.as_slice(),
+            at,
+        ),
+        Call::Sync => sync(alloc, tree, layout, frame, at),
+        _ => change_alone(alloc, tree, frame, call, at),
+    }
+}
+
+/// Makes a call that isn't refused and stores nothing.
+fn change_alone(
+    alloc: Global,
+    tree: &mut Tree,
+    frame: &mut Frame,
+    call: &Call,
+    at: Moment,
+) -> Result<(), AdmitErr>
+    requires free { refusal_of (plain_of whole tree.old) call.now ≡ None }
+    requires stores { StoresNothing call.now }
+    ensures applied { (l : Plan) (early : Tape) (g : Given) (on : Bool) (st : Standing)
+        → IsStock early g on st (stocked tree.old l frame.old)
+        → IsChange early g on st call.now at (stocked tree.old l frame.old) (stocked tree.new l frame.new) result }
+    ensures err { OnErr result ((l : Plan)
+        → IsUnchanged (stocked tree.old l frame.old) (stocked tree.new l frame.new)) }
+    ensures generation { frame.new.generation ≡ frame.old.generation }
+{
+    let Ok(changed) = change_tree(tree, alloc, call, at) else {
+        return Err(AdmitErr::NoMemory);
+    };
+    note(frame, changed);
+    Ok(())
+}
+
+/// Notes whether the tree has changed.
+fn note(frame: &mut Frame, changed: bool)
+    ensures { frame.new ≡ with_change changed frame.old }
+{
+    if changed {
+        frame.changed = true;
+    }
+}
