@@ -4,7 +4,7 @@ ghost use Rattle.tape_types.specs.Cartridges.{HoldsAtMost, IsItem};
 use super::*;
 use crate::ended::Ended;
 use std::process::Abort;
-use tape_drive::{Cmd, Fail as Listed, MemDrive};
+use tape_drive::{Cmd, Drive, Fail as Listed, MemDrive};
 use tape_edge::{MemSink, MemSource, StepClock};
 use tape_types::{Bytes, Cartridge, Item, Limits, List, Moment, NoMemory, Note};
 
