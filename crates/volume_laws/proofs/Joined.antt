@@ -1,13 +1,17 @@
 -- The laws of order, truth and safety, joined.
-use Rattle.std.specs.Prelude.{ℕ, ◌+◌, ◌-◌, ◌^◌, ◌<◌, ◌≤◌, ◌≡◌, Option}
-use Rattle.std.proofs.Common.{refl, sym, subst}
+use Rattle.std.specs.Prelude.{ℕ, ◌-◌, ◌^◌, ◌<◌, ◌≤◌, ◌≡◌, ◌++◌, List, Option}
+use Rattle.std.proofs.Common.{refl, sym, subst, ◌∙◌}
 use Rattle.tape_types.specs.declared.cartridges.Cartridge.{Cartridge}
 use Rattle.tape_types.specs.declared.moments.Moment.{Moment}
 use Rattle.tape_drive.specs.declared.drive.Drive.{Ghosts}
-use Rattle.tape_meaning.specs.declared.labels.Labels.{Labels}
+use Rattle.tape_meaning.specs.Mounts.{Mounts}
+use Rattle.tape_layout.specs.declared.ops.Op.{Op}
 use Rattle.volume_model.specs.Ends.{begun}
 use Rattle.volume_model.specs.Meanings.{cartridges}
 use Rattle.volume_model.specs.Served.{Fixed, View}
+use Rattle.volume_model.specs.Submits.{CanSubmit, Submits}
+use Rattle.volume_model.specs.declared.answers.Submitted.{Submitted}
+use Rattle.crash_theory.specs.Starts.{made_of}
 use Rattle.volume_model.proofs.StartLaw.{begins_served}
 use Rattle.volume_order.specs.Kept.{seen}
 use Rattle.volume_order.proofs.BeginLaw.{volumes_begin}
@@ -15,107 +19,118 @@ use Rattle.volume_order.proofs.SubmitLaw.{submissions_keep}
 use Rattle.volume_order.proofs.TurnLaw.{drain_turns_keep, turns_keep}
 use Rattle.volume_truth.specs.Within.{StaysTrue}
 use Rattle.volume_truth.proofs.Waiting.{drain_turns_keep_true, staying_gives, submissions_keep_true, turns_keep_true}
-use Rattle.volume_crashes.specs.Laws.{CanServe, IsSafeNow}
-use Rattle.volume_crashes.specs.Safe.{space_now}
+use Rattle.volume_crashes.specs.Laws.{CanServe, IsSafeNow, IsSafeWith}
+use Rattle.volume_crashes.specs.Safe.{Planned, space_now}
 use Rattle.volume_crashes.proofs.Asked.{submits_are_safe}
 use Rattle.volume_crashes.proofs.Begins.{starts_are_safe}
-use Rattle.volume_crashes.proofs.Placing.{standings_go_on}
 use Rattle.volume_crashes.proofs.Survives.{safe_volumes_survive}
 use Rattle.volume_crashes.proofs.Turned.{turns_are_safe}
-use Rattle.volume_laws.specs.Kept.{CanRead, IsKept}
+use Rattle.volume_laws.specs.Kept.{CanRead, IsKept, IsKeptOn, Plan, SubmitsRightly}
 use Rattle.volume_laws.specs.Laws.{DrainTurnsKeep, KeptIsPromised, SubmissionsKeep, TurnsKeep, VolumesBegin}
+
+-- what is said of the part that no call changes, said of a volume that has it
+module _ {D : Type 0} (drive : Ghosts D) (v w : View D) (fixed : Fixed D) (same : v.fixed ≡ fixed) where
+  true_there : StaysTrue (seen drive fixed.first) w → StaysTrue (seen drive v.fixed.first) w
+  true_there h = subst (λ (f : Fixed D). StaysTrue (seen drive f.first) w) (sym same) h
+
+  true_here : StaysTrue (seen drive v.fixed.first) w → StaysTrue (seen drive fixed.first) w
+  true_here h = subst (λ (f : Fixed D). StaysTrue (seen drive f.first) w) same h
+
+  safe_there : (p : Planned) → IsSafeNow drive p (drive.limits fixed.first) w → IsSafeNow drive p (drive.limits v.fixed.first) w
+  safe_there p h = subst (λ (f : Fixed D). IsSafeNow drive p (drive.limits f.first) w) (sym same) h
+
+  safe_here : (p : Planned) → IsSafeNow drive p (drive.limits v.fixed.first) w → IsSafeNow drive p (drive.limits fixed.first) w
+  safe_here p h = subst (λ (f : Fixed D). IsSafeNow drive p (drive.limits f.first) w) same h
 
 module _ {D : Type 0} (drive : Ghosts D) where
   pub kept_is_promised : KeptIsPromised drive
-  kept_is_promised v kept = record {
+  kept_is_promised fixed plan v kept = record {
     orderly = kept.order.orderly;
-    truly = λ can. (kept.truth can).truth;
-    crash = λ can. let safe = kept.safe can in
-        safe_volumes_survive drive safe.0 (space_now (drive.limits v.fixed.first) v) v safe.1;
+    truly = λ can. (true_there drive v v fixed kept.fixed_is (kept.truth (subst (CanRead drive) kept.fixed_is can))).truth;
+    crash = λ can.
+        let now = subst (CanServe drive) kept.fixed_is can in
+        safe_volumes_survive drive (plan now) (space_now (drive.limits fixed.first) v) v (kept.safe now);
   }
-
--- what holds of the part that no call changes, and of what follows from that, once it is the same
-module _ {D : Type 0} (drive : Ghosts D) (v : View D) (fixed : Fixed D) (same : v.fixed ≡ fixed) where
-  readable : CanRead drive v.fixed → CanRead drive fixed
-  readable can = subst (CanRead drive) same can
-
-  servable : CanServe drive v.fixed → CanServe drive fixed
-  servable can = subst (CanServe drive) same can
-
-  true_here : StaysTrue (seen drive fixed.first) v → StaysTrue (seen drive v.fixed.first) v
-  true_here h = subst (λ (f : Fixed D). StaysTrue (seen drive f.first) v) (sym same) h
-
-  safe_here : (labels : Labels) → IsSafeNow drive labels (drive.limits fixed.first) v
-      → IsSafeNow drive labels (drive.limits v.fixed.first) v
-  safe_here labels h = subst (λ (f : Fixed D). IsSafeNow drive labels (drive.limits f.first) v) (sym same) h
 
 module _ {D : Type 0} (drive : Ghosts D)
     (counts_now : (d : D) (t : ℕ) (image : Cartridge) → t ≤ drive.commands d → drive.leaves d image → drive.left_since d t image) where
+  begins : (fixed : Fixed D) (next : Option Moment) → ((can : CanServe drive fixed) → Mounts can.held fixed.mounted)
+      → (can : CanServe drive fixed)
+      → (p : Planned) × IsSafeNow drive p (drive.limits fixed.first) (begun fixed next)
+  begins fixed next mounts can =
+      let safe = starts_are_safe drive counts_now fixed next can (mounts can) in
+      (record { labels = can.reads_as.0.reads.found.labels; made = made_of can.held can.reads_as.0.reads.found.on_ip safe.0 }, safe.2)
+
   pub volumes_begin_kept : VolumesBegin drive
-  volumes_begin_kept fixed next sessions mounts = record {
-    order = volumes_begin drive fixed next sessions;
-    truth = λ can. (staying_gives (seen drive)).begins fixed.first (begun fixed next) refl
-        ((begins_served cartridges (seen drive fixed.first) fixed next).truly can);
-    safe = λ can.
-        let safe = starts_are_safe drive counts_now fixed next can (mounts can) in
-        (can.reads_as.0.reads.found.labels, safe);
-  }
+  volumes_begin_kept fixed next sessions mounts = (
+    λ can. (begins fixed next mounts can).0,
+    record {
+      fixed_is = refl;
+      order = volumes_begin drive fixed next sessions;
+      truth = λ can. (staying_gives (seen drive)).begins fixed.first (begun fixed next) refl
+          ((begins_served cartridges (seen drive fixed.first) fixed next).truly can);
+      safe = λ can. (begins fixed next mounts can).1;
+    },
+  )
 
 module _ {D : Type 0} (drive : Ghosts D)
     (only_now : (d : D) (image : Cartridge) → drive.commands d < 2 ^ 64 - 1 → drive.left_since d (drive.commands d) image → drive.leaves d image) where
-  pub submissions_keep_all : SubmissionsKeep drive
-  submissions_keep_all old new who nth answer kept may s rightly = record {
-    order = submissions_keep drive old new who nth answer kept.order may s rightly.order;
-    truth = λ can.
-        let now = readable drive new old.fixed s.fixed can in
-        true_here drive new old.fixed s.fixed
-        (submissions_keep_true (seen drive) old.fixed.first new.drive old new who nth answer (kept.truth now) s (rightly.truth now));
-    safe = λ can.
-        let now = servable drive new old.fixed s.fixed can in
-        let safe = kept.safe now in (
-          safe.0,
-          safe_here drive new old.fixed s.fixed safe.0
-              (submits_are_safe drive only_now safe.0 old new who nth answer safe.1 s (rightly.ops now) rightly.order.follows.standing
-              (rightly.size now) (rightly.due now safe.0 safe.1)),
-        );
+  -- a submission, where the part that no call changes is the old volume's
+  submitted : (old new : View D) (plan : Plan drive old.fixed) (who nth : ℕ) (answer : Submitted) → IsKept drive old.fixed plan old
+      → CanSubmit old who nth → (s : Submits (seen drive old.fixed.first) (seen drive new.drive) old new who nth answer)
+      → SubmitsRightly drive old.fixed plan old new who nth s.added answer
+      → (can : CanServe drive old.fixed)
+      → (asked : List Op) × (new.ops ≡ old.ops ++ asked) × IsSafeWith drive (plan can) (drive.limits old.fixed.first) asked new
+  submitted old new plan who nth answer kept may s rightly can =
+      submits_are_safe drive only_now (plan can) old new who nth answer (kept.safe can) s (rightly.ops can)
+      rightly.order.follows.standing (rightly.size can) (rightly.due can)
+
+  submissions_of_old : (old new : View D) (plan : Plan drive old.fixed) (who nth : ℕ) (answer : Submitted)
+      → IsKept drive old.fixed plan old → CanSubmit old who nth
+      → (s : Submits (seen drive old.fixed.first) (seen drive new.drive) old new who nth answer)
+      → SubmitsRightly drive old.fixed plan old new who nth s.added answer → IsKeptOn drive old.fixed plan old new
+  submissions_of_old old new plan who nth answer kept may s rightly = record {
+    next = λ can. (submitted old new plan who nth answer kept may s rightly can).2.0;
+    grows = λ can.
+        let safe = submitted old new plan who nth answer kept may s rightly can in
+        (safe.0, safe.1, safe.2.1);
+    kept = record {
+      fixed_is = s.fixed;
+      order = submissions_keep drive old new who nth answer kept.order may s rightly.order;
+      truth = λ can. submissions_keep_true (seen drive) old.fixed.first new.drive old new who nth answer (kept.truth can) s (rightly.truth can);
+      safe = λ can. (submitted old new plan who nth answer kept may s rightly can).2.2;
+    };
   }
 
+  pub submissions_keep_all : SubmissionsKeep drive
+  submissions_keep_all fixed plan old new who nth answer kept may s rightly = by fixed plan kept.fixed_is kept rightly
+    where
+      by : (f : Fixed D) (plan : Plan drive f) → old.fixed ≡ f → IsKept drive f plan old
+          → SubmitsRightly drive f plan old new who nth s.added answer → IsKeptOn drive f plan old new
+      by f plan same = subst (λ (f : Fixed D). (plan : Plan drive f) → IsKept drive f plan old
+          → SubmitsRightly drive f plan old new who nth s.added answer → IsKeptOn drive f plan old new) same
+          (λ plan kept rightly. submissions_of_old old new plan who nth answer kept may s rightly) plan
+
   pub turns_keep_all : TurnsKeep drive
-  turns_keep_all most old new who ticket answer kept waiting t rightly =
+  turns_keep_all fixed plan most old new who ticket answer kept waiting t rightly =
       let order = turns_keep drive most old new who ticket answer kept.order waiting t rightly.order in
       record {
+        fixed_is = t.fixed ∙ kept.fixed_is;
         order = order;
-        truth = λ can.
-            let now = readable drive new old.fixed t.fixed can in
-            true_here drive new old.fixed t.fixed
-            (turns_keep_true (seen drive) most old.fixed.first old.drive new.drive old new who ticket answer (kept.truth now) t
-            order.orderly.trail (rightly.truth now));
-        safe = λ can.
-            let now = servable drive new old.fixed t.fixed can in
-            let safe = kept.safe now in (
-              safe.0,
-              safe_here drive new old.fixed t.fixed safe.0
-                  ((turns_are_safe drive only_now).waiting safe.0 (drive.limits old.fixed.first) old new most who ticket answer safe.1 t
-                  (rightly.driven now) order.orderly.trail kept.order.orderly.standing),
-            );
+        truth = λ can. turns_keep_true (seen drive) most fixed.first old.drive new.drive old new who ticket answer (kept.truth can) t
+            order.orderly.trail (rightly.truth can);
+        safe = λ can. (turns_are_safe drive only_now).waiting (plan can) (drive.limits fixed.first) old new most who ticket answer
+            (kept.safe can) t (rightly.driven can) order.orderly.trail kept.order.orderly.standing;
       }
 
   pub drain_turns_keep_all : DrainTurnsKeep drive
-  drain_turns_keep_all most old new who answer kept drains t rightly =
+  drain_turns_keep_all fixed plan most old new who answer kept drains t rightly =
       let order = drain_turns_keep drive most old new who answer kept.order drains t rightly.order in
       record {
+        fixed_is = t.fixed ∙ kept.fixed_is;
         order = order;
-        truth = λ can.
-            let now = readable drive new old.fixed t.fixed can in
-            true_here drive new old.fixed t.fixed
-            (drain_turns_keep_true (seen drive) most old.fixed.first old.drive new.drive old new who answer (kept.truth now) t
-            order.orderly.trail (rightly.truth now));
-        safe = λ can.
-            let now = servable drive new old.fixed t.fixed can in
-            let safe = kept.safe now in (
-              safe.0,
-              safe_here drive new old.fixed t.fixed safe.0
-                  ((turns_are_safe drive only_now).draining safe.0 (drive.limits old.fixed.first) old new most who answer safe.1 t
-                  (rightly.driven now) order.orderly.trail kept.order.orderly.standing),
-            );
+        truth = λ can. drain_turns_keep_true (seen drive) most fixed.first old.drive new.drive old new who answer (kept.truth can) t
+            order.orderly.trail (rightly.truth can);
+        safe = λ can. (turns_are_safe drive only_now).draining (plan can) (drive.limits fixed.first) old new most who answer
+            (kept.safe can) t (rightly.driven can) order.orderly.trail kept.order.orderly.standing;
       }

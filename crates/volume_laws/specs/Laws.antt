@@ -15,32 +15,33 @@ use Rattle.volume_model.specs.declared.answers.Turn.{Turn}
 use Rattle.session_script.specs.Sessions.{HasSessions}
 use Rattle.volume_crashes.specs.Laws.{CanServe}
 use Rattle.volume_order.specs.Kept.{seen}
-use Rattle.volume_laws.specs.Kept.{DrainsRightly, IsKept, SubmitsRightly, TurnsRightly}
+use Rattle.volume_laws.specs.Kept.{DrainsRightly, IsKept, IsKeptOn, Plan, SubmitsRightly, TurnsRightly}
 
 -- what is kept is all that is promised
 abbrev pub KeptIsPromised : {D : Type 0} → Ghosts D → Type 0
-KeptIsPromised {D} drive = (v : View D) → IsKept drive v
+KeptIsPromised {D} drive = (fixed : Fixed D) (plan : Plan drive fixed) (v : View D) → IsKept drive fixed plan v
     → IsServed cartridges (seen drive v.fixed.first) (seen drive v.drive) v
 
--- it is kept of a volume of which nothing was asked yet
+-- it is kept of a volume of which nothing was asked yet, by the plan that is what stands on the cartridge
 abbrev pub VolumesBegin : {D : Type 0} → Ghosts D → Type 0
 VolumesBegin {D} drive = (fixed : Fixed D) (next : Option Moment) → HasSessions fixed.script
-    → ((can : CanServe drive fixed) → Mounts can.held fixed.mounted) → IsKept drive (begun fixed next)
+    → ((can : CanServe drive fixed) → Mounts can.held fixed.mounted)
+    → (plan : Plan drive fixed) × IsKept drive fixed plan (begun fixed next)
 
 abbrev pub SubmissionsKeep : {D : Type 0} → Ghosts D → Type 0
-SubmissionsKeep {D} drive = (old new : View D) (who nth : ℕ) (answer : Submitted) → IsKept drive old
-    → CanSubmit old who nth
+SubmissionsKeep {D} drive = (fixed : Fixed D) (plan : Plan drive fixed) (old new : View D) (who nth : ℕ)
+    (answer : Submitted) → IsKept drive fixed plan old → CanSubmit old who nth
     → (s : Submits (seen drive old.fixed.first) (seen drive new.drive) old new who nth answer)
-    → SubmitsRightly drive old new who nth s.added answer → IsKept drive new
+    → SubmitsRightly drive fixed plan old new who nth s.added answer → IsKeptOn drive fixed plan old new
 
 abbrev pub TurnsKeep : {D : Type 0} → Ghosts D → Type 0
-TurnsKeep {D} drive = (most : ℕ) (old new : View D) (who ticket : ℕ) (answer : Turn) → IsKept drive old
-    → phase who old.marks ≡ waits ticket
+TurnsKeep {D} drive = (fixed : Fixed D) (plan : Plan drive fixed) (most : ℕ) (old new : View D) (who ticket : ℕ)
+    (answer : Turn) → IsKept drive fixed plan old → phase who old.marks ≡ waits ticket
     → (t : Turns most (seen drive old.drive) (seen drive new.drive) old new who ticket answer)
-    → TurnsRightly drive old new t.added → IsKept drive new
+    → TurnsRightly drive fixed old new t.added → IsKept drive fixed plan new
 
 abbrev pub DrainTurnsKeep : {D : Type 0} → Ghosts D → Type 0
-DrainTurnsKeep {D} drive = (most : ℕ) (old new : View D) (who : ℕ) (answer : Drained) → IsKept drive old
-    → phase who old.marks ≡ draining
+DrainTurnsKeep {D} drive = (fixed : Fixed D) (plan : Plan drive fixed) (most : ℕ) (old new : View D) (who : ℕ)
+    (answer : Drained) → IsKept drive fixed plan old → phase who old.marks ≡ draining
     → (t : DrainsOnce most (seen drive old.drive) (seen drive new.drive) old new who answer)
-    → DrainsRightly drive old new who t.made answer → IsKept drive new
+    → DrainsRightly drive fixed old new who t.made answer → IsKept drive fixed plan new
