@@ -1,2 +1,3 @@
 mod TrailLemmas
 mod PlacementLemmas
+mod OpLemmas

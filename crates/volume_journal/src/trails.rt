@@ -194,12 +194,13 @@ impl Trail {
         requires waiter { 1 ≤ self.old.waiters }
         requires allowed { allows (state self.old) (events.Syncs ticket) ≡ true }
         requires standing { standing ≡ length (ops (state self.old)) }
-        requires few { (state self.old).done + standing < 2 ^ 64 }
         ensures events { self.new.events ≡ self.old.events ++ events.Syncs ticket ∷ [] }
         ensures acks { self.new.acks ≡ self.old.acks }
         ensures kept { self.new.kept ≡ self.old.kept }
         ensures spare { self.old.spare ≤ self.new.spare + 2 }
     {
+        // An op that is done or stands was queued by an event.
+        let _events = self.events.len();
         let due = self.done + standing;
         push(&mut self.syncs, SyncWait { ticket, due });
         push(&mut self.events, Event::Syncs { ticket });
@@ -304,7 +305,6 @@ impl Trail {
     #[tactic(auto, using(crate::proofs::TrailLemmas::worked_tracked))]
     pub fn worked(&mut self, place: Place, flush: bool)
         requires pos { place.pos < 2 ^ 63 }
-        requires few { (state self.old).done + 1 < 2 ^ 64 }
         requires op { waiting_op (state self.old) ≡ Some (record { place = place; flush = flush }) }
         requires allowed { allows (state self.old) (events.Worked place None) ≡ true }
         ensures events { self.new.events ≡ self.old.events ++ events.Worked place None ∷ [] }
@@ -313,6 +313,8 @@ impl Trail {
         ensures spare { self.old.spare ≤ self.new.spare }
         ensures waiters { self.new.waiters ≡ self.old.waiters }
     {
+        // An op that is done or stands was queued by an event.
+        let _events = self.events.len();
         self.head = head_behind(place, flush);
         self.done += 1;
         push(&mut self.events, Event::Worked { place, fault: None });

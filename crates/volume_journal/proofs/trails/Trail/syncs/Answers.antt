@@ -1,10 +1,18 @@
-use Rattle.std.proofs.Common.{arith, ◌≡◌, ◌-◌, true, vec_len, vec_capacity, sym, ap, subst, length, min}
+use Rattle.std.proofs.Common.{rules, arith, ◌≡◌, ◌-◌, ◌<◌, ◌^◌, true, vec_len, vec_capacity, sym, ap, subst, length, min}
 use Rattle.head_trail.specs.Waiting.{ops}
 use Rattle.head_trail.specs.Trail.{after_all, allows}
 use Rattle.session_script.specs.declared.logs.Event.TheVariants as events
 use Rattle.volume_journal.specs.Trails.{Journaled, state}
 use Rattle.volume_journal.proofs.trails.Trail.syncs.Goals as goal
+use Rattle.volume_journal.proofs.OpLemmas.{all_done}
 use Rattle.volume_journal.proofs.TrailLemmas.{syncs_tracked}
+
+pub overflow_add-due : goal.overflow_add-due
+overflow_add-due c =
+    let standing : c.args.standing ≡ length (ops (after_all c.self.inside.events.items)) =
+    subst (λ (j : Journaled). c.args.standing ≡ length (ops (state j))) (sym c.self.view_is) c.requires.standing in
+    let few : length c.self.inside.events.items < 2 ^ 64 = search rules in
+    omega (arith, few, all_done _ _ _ _ _ _ _ _ _ _ c.self.invariant standing)
 
 pub invariant_of-self : goal.invariant_of-self
 invariant_of-self c =

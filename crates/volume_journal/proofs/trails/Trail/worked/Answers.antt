@@ -1,10 +1,18 @@
-use Rattle.std.proofs.Common.{arith, ◌≡◌, true, Some, None, sym, subst}
+use Rattle.std.proofs.Common.{rules, arith, ◌≡◌, ◌<◌, ◌^◌, true, length, Some, None, sym, subst}
 use Rattle.head_trail.specs.Waiting.{waiting_op}
 use Rattle.head_trail.specs.Trail.{after_all, allows}
 use Rattle.session_script.specs.declared.logs.Event.TheVariants as events
 use Rattle.volume_journal.specs.Trails.{Journaled, state}
 use Rattle.volume_journal.proofs.trails.Trail.worked.Goals as goal
+use Rattle.volume_journal.proofs.OpLemmas.{one_more_done}
 use Rattle.volume_journal.proofs.TrailLemmas.{worked_tracked}
+
+pub overflow_add-self : goal.overflow_add-self
+overflow_add-self c =
+    let op : waiting_op (after_all c.self.inside.events.items) ≡ Some (record { place = c.args.place; flush = c.args.flush }) =
+    subst (λ (j : Journaled). waiting_op (state j) ≡ Some (record { place = c.args.place; flush = c.args.flush })) (sym c.self.view_is) c.requires.op in
+    let few : length c.self.inside.events.items < 2 ^ 64 = search rules in
+    omega (arith, few, one_more_done _ _ _ _ _ _ _ _ _ (record { place = c.args.place; flush = c.args.flush }) c.self.invariant op)
 
 pub invariant_of-self : goal.invariant_of-self
 invariant_of-self c =
