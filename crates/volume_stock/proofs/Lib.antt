@@ -9,3 +9,8 @@ pub mod LookLemmas
 pub mod BareMounts
 pub mod SyncLaw
 pub mod Texts
+pub mod PieceStands
+pub mod ReadPlans
+pub mod Syncing
+pub mod MountLaws
+pub mod TellLaws

@@ -1,5 +1,5 @@
 -- That what is held after a call is what stands after it.
-use Rattle.std.proofs.Common.{◌≡◌, ℕ, ◌+◌, ◌*◌, ◌/◌, ◌<◌, ◌≤◌, max, Bool, true, false, cond, eqb, nat_lt, drop, List, [], ◌∷◌, ◌++◌, length, Option, Some, None, Result, Ok, Err, sym, ap, ◌∙◌, refl, subst, arith, ⊎_elim}
+use Rattle.std.proofs.Common.{◌≡◌, ℕ, ◌+◌, ◌*◌, ◌/◌, ◌<◌, ◌≤◌, max, Bool, true, false, eqb, nat_lt, drop, List, [], ◌∷◌, ◌++◌, length, Option, Some, None, Result, Ok, Err, sym, ap, ◌∙◌, refl, subst, arith, ⊎_elim}
 use Rattle.std.specs.Int.{div_ceil}
 use Rattle.std.specs.Option.{unwrap_or}
 use Rattle.std.proofs.lemmas.List.{append-nil}
@@ -28,25 +28,23 @@ use Rattle.file_tree.proofs.BlockLemmas.{blocks_make_the_tree, ends_hold}
 use Rattle.file_tree.proofs.RefusalLemmas.{refusals_alike}
 use Rattle.file_tree.proofs.TreeLemmas.{free_too}
 use Rattle.placement.specs.Computed.{chooses_ip}
-use Rattle.tape_layout.specs.Admissions.{Admission, IsAdmitted, data_admission, index_admission}
+use Rattle.tape_layout.specs.Admissions.{Admission, IsAdmitted, data_admission}
 use Rattle.tape_layout.specs.Ops.{end_of, with_end}
 use Rattle.tape_layout.specs.Plans.{Plan}
 use Rattle.tape_layout.specs.declared.errors.AdmitErr.{AdmitErr}
 use Rattle.tape_layout.specs.declared.errors.AdmitErr.TheVariants.{Full, NoMemory}
 use Rattle.tape_layout.specs.declared.standing.Ends as layout
-use Rattle.volume_space.specs.Files.{Files, canon, with_file}
+use Rattle.volume_space.specs.Files.{Files, with_file}
 use Rattle.volume_space.proofs.Steps.{are_still}
-use Rattle.volume_sync.specs.Frames.{IsSync, sync_index, with_sync}
 use Rattle.volume_space.specs.Laws.{admission_of, end_place}
 use Rattle.volume_space.specs.Space as space
 use Rattle.volume_space.specs.Space.{Ask, Rules, Space, blocks, change, index, index_need, is_over, limit_of, need_of, nothing, ops_of, part_for, plan_of, store}
-use Rattle.volume_space.specs.Standing.{Given, Standing, ask_of, ask_unless, ask_unrefused, files_after, rules, sync_text, uid_at}
+use Rattle.volume_space.specs.Standing.{Given, Standing, ask_of, ask_unless, ask_unrefused, files_after, rules, uid_at}
 use Rattle.volume_sync.specs.declared.frames.Frame.{Frame}
-use Rattle.volume_stock.specs.Applied.{IsApplied, IsChange, IsDone, IsFull, IsChanging, IsLate, IsTreeStep, IsUnchanged, LeavesAll, new_run}
+use Rattle.volume_stock.specs.Applied.{IsApplied, IsChange, IsDone, IsFull, IsChanging, IsLate, IsRefusedAs, IsTreeStep, IsUnchanged, LeavesAll, new_run}
 use Rattle.volume_stock.specs.Steps.{IsSameTree, IsWrite, file_changed}
-use Rattle.volume_stock.specs.Stocks.{IsStock, LieAs, Stocked, ends_of, stocked, with_change, with_index}
+use Rattle.volume_stock.specs.Stocks.{IsStock, LieAs, Stocked, ends_of, stocked, with_change}
 use Rattle.volume_stock.proofs.Asks.{asks_nothing}
-use Rattle.volume_stock.proofs.Texts.{text_is}
 
 -- ---- what is held is as it was
 
@@ -67,7 +65,7 @@ is_unchanged before next l f same = record { layout = refl; frame = refl; stands
 
 -- ---- a call that stores nothing
 
-abbrev after_ask : Given → Bool → Standing → Call → Moment → Ask → Standing
+abbrev pub after_ask : Given → Bool → Standing → Call → Moment → Ask → Standing
 after_ask g on st call at ask = record {
   tree = after st.tree call at;
   files = files_after g on st call ask;
@@ -136,10 +134,10 @@ before_end n size byte some lt =
     lt_of_mul-lt-mul_right size (omega (arith, low, lt, times.0))
 
 -- it needs no more than there is, or it does
-not_over : (limit need : ℕ) → need ≤ limit → nat_lt limit need ≡ false
+pub not_over : (limit need : ℕ) → need ≤ limit → nat_lt limit need ≡ false
 not_over limit need h = grind (arith, nat_tests, h)
 
-over : (limit need : ℕ) → limit < need → nat_lt limit need ≡ true
+pub over : (limit need : ℕ) → limit < need → nat_lt limit need ≡ true
 over limit need h = grind (arith, nat_tests, h)
 
 module _ (part : Part) (n : ℕ) (e : layout.Ends) where
@@ -252,84 +250,6 @@ module _ (before next : FileTree) (l : Plan) (f : Frame) (path : Path) (offset b
     limit_is = limit_is ∙ ap (λ (a : Admission). a.limit) data_is ∙ ap (limit_of (rules g) on st.space) (sym asked_store);
   }
 
--- ---- a sync
-
-module _ (t : FileTree) (l : Plan) (f : Frame) (at : Moment) (early : Tape) (g : Given) (on : Bool) (st : Standing)
-    (i : IsStock early g on st (stocked t l f)) where
-  space_changed : (b : Bool) → f.changed ≡ b → st.space.changed ≡ b
-  space_changed b is = sym (ap (λ (f : Frame). f.changed) i.frame) ∙ is
-
-  pub asked_nothing : f.changed ≡ false → ask_of g st asks.Sync at ≡ nothing
-  asked_nothing is = ap (λ b. cond b (index (sync_text g st at)) nothing) (space_changed false is)
-
-  abbrev admission : Admission
-  admission = index_admission l (f.generation + 1) (canon (sync_index f t l.ends.dp at))
-
-  index_admitted : admission ≡ admission_of (rules g) on st.space l.ops (index (sync_text g st at)) (record { part = Dp; pos = st.space.ends.dp + 1 })
-  index_admitted = ap (λ text. index_admission l (f.generation + 1) text) (text_is early g on st (stocked t l f) i at)
-      ∙ ap (λ p. index_admission p (f.generation + 1) (sync_text g st at)) i.layout
-      ∙ ap (λ (f : Frame). index_admission (plan_of (rules g) on st.space l.ops) (f.generation + 1) (sync_text g st at)) i.frame
-
-  module _ (changed : f.changed ≡ true) where
-    asked_index : ask_of g st asks.Sync at ≡ index (sync_text g st at)
-    asked_index = ap (λ b. cond b (index (sync_text g st at)) nothing) (space_changed true changed)
-
-    pub sync_full : (need limit : ℕ) → admission.limit < admission.need → need ≡ admission.need → limit ≡ admission.limit → IsFull g on st asks.Sync at need limit
-    sync_full need limit more need_is limit_is = record {
-      over = ap (is_over (rules g) on st.space) asked_index ∙ over _ _ (subst (λ (a : Admission). a.limit < a.need) index_admitted more);
-      need_is = need_is ∙ ap (λ (a : Admission). a.need) index_admitted ∙ ap (need_of (rules g) on st.space) (sym asked_index);
-      limit_is = limit_is ∙ ap (λ (a : Admission). a.limit) index_admitted ∙ ap (limit_of (rules g) on st.space) (sym asked_index);
-    }
-
-    module _ (now : Plan) (place : Place) (fits : admission.need ≤ admission.limit) (place_is : place ≡ admission.place) (now_is : now ≡ admission.after) where
-      plan_is : now ≡ plan_of (rules g) on (space.after (rules g) on st.space (index (sync_text g st at))) (l.ops ++ ops_of (rules g) on st.space (index (sync_text g st at)))
-      plan_is = now_is ∙ ap (λ (a : Admission). a.after) index_admitted
-
-      ops_are : now.ops ≡ l.ops ++ ops_of (rules g) on st.space (index (sync_text g st at))
-      ops_are = ap (λ (p : Plan). p.ops) plan_is
-
-      first_block : place.pos ≡ st.space.ends.dp + 1
-      first_block = ap (λ (p : Place). p.pos) (place_is ∙ ap (λ (a : Admission). a.place) index_admitted)
-
-      sync_stands : (late : Tape) → AreAlikeIn (TreeStandsIn t) late early
-          → IsStock late g on (after_ask g on st asks.Sync at (index (sync_text g st at))) (stocked t now (with_index (with_sync f place)))
-      sync_stands late alike = record {
-        plain = blocks_make_the_tree late early t alike ∙ i.plain;
-        files = i.files;
-        layout = plan_is ∙ ap (plan_of (rules g) on (space.after (rules g) on st.space (index (sync_text g st at)))) (sym ops_are);
-        frame = ap (λ pos. with_index (with_sync f (record { part = Dp; pos = pos }))) first_block
-            ∙ ap (λ (f : Frame). with_index (with_sync f (record { part = Dp; pos = st.space.ends.dp + 1 }))) i.frame;
-        name = i.name;
-        block_size = i.block_size;
-        below = λ part pos h. further (end_of part st.space.ends) _ pos
-            (ends_grow Dp (index_need (rules g) Dp st.space (sync_text g st at)) st.space.ends part (omega arith)) (i.below part pos h);
-      }
-        where
-          further : (a b pos : ℕ) → a ≤ b → pos < a → pos < b
-          further a b pos h lt = omega (arith, h, lt)
-
-      pub sync_done : IsDone early g on st asks.Sync at (stocked t l f) (stocked t now (with_index (with_sync f place)))
-      sync_done = record {
-        fits = ap (is_over (rules g) on st.space) asked_index ∙ not_over _ _ (subst (λ (a : Admission). a.need ≤ a.limit) index_admitted fits);
-        ops = ops_are ∙ ap (λ ask. l.ops ++ ops_of (rules g) on st.space ask) (sym asked_index);
-        stands = λ late h. subst (λ (s : Standing). IsStock late g on s (stocked t now (with_index (with_sync f place))))
-            (ap (after_ask g on st asks.Sync at) (sym asked_index)) (sync_stands late h.alike);
-      }
-
--- ---- results
-
--- an index is admitted, or isn't
-pub synced : (t : FileTree) (l now : Plan) (f after : Frame) (at : Moment) (early : Tape) (g : Given) (on : Bool) (st : Standing) → IsStock early g on st (stocked t l f) → f.changed ≡ true
-    → (e : AdmitErr) → IsSync t at l now f after (Err e) → IsChange early g on st asks.Sync at (stocked t l f) (stocked t now after) (Err e)
-synced t l now f after at early g on st i changed (Full need limit) s = sync_full t l f at early g on st i changed need limit s.admitted.0 s.admitted.1 s.admitted.2
-synced t l now f after at early g on st i changed NoMemory s = tt
-
-pub sync_admitted : (t : FileTree) (l now : Plan) (f after : Frame) (at : Moment) (early : Tape) (g : Given) (on : Bool) (st : Standing) → IsStock early g on st (stocked t l f) → f.changed ≡ true
-    → (place : Place) → IsSync t at l now f after (Ok place) → IsDone early g on st asks.Sync at (stocked t l f) (stocked t now (with_index after))
-sync_admitted t l now f after at early g on st i changed place s =
-    subst (λ a. IsDone early g on st asks.Sync at (stocked t l f) (stocked t now (with_index a))) (sym s.frame)
-    (sync_done t l f at early g on st i changed now place s.admitted.0 s.admitted.1 s.admitted.2)
-
 -- ---- a write as a whole
 
 pub empty_asks : (g : Given) (st : Standing) (path : Path) (offset : ℕ) (bytes : List ℕ) (at : Moment) → true ≡ eqb (length bytes) 0 → ask_of g st (asks.Write path offset bytes) at ≡ nothing
@@ -425,3 +345,7 @@ op_done t l now f tape g on st i is = record {
   block_size = i.block_size;
   below = i.below;
 }
+
+pub refused_as : (early : Tape) (t : FileTree) (tree : plain.Tree) (call : Call) (r : Option Refusal) → plain_of early t ≡ tree → r ≡ refusal_of (plain_of whole t) call → IsRefusedAs tree call r
+refused_as early t tree call (Some refusal) is told = refused_too early t tree call refusal is (sym told)
+refused_as early t tree call None is told = tt

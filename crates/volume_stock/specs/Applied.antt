@@ -6,6 +6,7 @@ use Rattle.tape_types.specs.declared.moments.Moment.{Moment}
 use Rattle.extent_map.specs.Blocks.{AreAlikeIn}
 use Rattle.extent_map.specs.Cells.{Tape}
 use Rattle.plain_tree.specs.Refusals.{refusal_of}
+use Rattle.plain_tree.specs.Tree.{Tree}
 use Rattle.plain_tree.specs.declared.calls.Call.{Call}
 use Rattle.plain_tree.specs.declared.calls.Call.TheVariants as asks
 use Rattle.plain_tree.specs.declared.calls.Refusal.{Refusal}
@@ -58,6 +59,11 @@ abbrev pub IsChange : Tape → Given → Bool → Standing → Call → Moment �
 IsChange early g on st call at old new (Ok done) = IsDone early g on st call at old new
 IsChange early g on st call at old new (Err (Full need limit)) = IsFull g on st call at need limit
 IsChange early g on st call at old new (Err NoMemory) = Unit {0}
+
+-- what is told to refuse a call does so
+abbrev pub IsRefusedAs : Tree → Call → Option Refusal → Type 0
+IsRefusedAs tree call (Some refusal) = refusal_of tree call ≡ Some refusal
+IsRefusedAs tree call None = Unit {0}
 
 -- What a call is answered: the tree's refusal, where no byte is lost on the tape; that it is done; or that it doesn't
 -- fit. Want of memory may stand in place of each.

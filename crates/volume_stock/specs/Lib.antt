@@ -4,3 +4,5 @@ pub mod Applied
 pub mod Mounted
 pub mod Bare
 pub mod Synced
+pub mod Reads
+pub mod Syncs

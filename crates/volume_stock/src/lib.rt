@@ -10,5 +10,5 @@ mod syncs;
 mod tests;
 mod writes;
 
-pub use laws::syncs_tell_the_tree;
+pub use laws::{mounts_are_stock, mounts_can_start, syncs_can_tell, syncs_tell_the_tree};
 pub use stocks::Stock;

@@ -4,29 +4,33 @@ ghost use Rattle.std.specs.Prelude.{◌≡◌, ◌≤◌, ◌^◌, [], ◌∷◌
 ghost use Rattle.std.specs.Prelude.{OnErr, IfOk, IfSome, MatchOption};
 ghost use Rattle.std.specs.Option.{option_map};
 ghost use Rattle.extent_map.specs.Cells.{Tape};
-ghost use Rattle.volume_space.specs.Standing.{Given, Standing, first_standing};
-ghost use Rattle.volume_stock.specs.Mounted.{CanStart, StartsFrom};
+ghost use Rattle.volume_space.specs.Standing.{Given, Standing, first_standing, rules};
+ghost use Rattle.volume_stock.specs.Mounted.{CanStart, StartsFrom, letters_of};
 ghost use Rattle.plain_tree.specs.Calls.{answer};
 ghost use Rattle.plain_tree.specs.Refusals.{refusal_of};
 ghost use Rattle.std.specs.FinMap as fin;
+ghost use Rattle.file_tree.specs.Mounts.{IsTreeOf};
 ghost use Rattle.file_tree.specs.Tree.{plain_of, whole};
 ghost use Rattle.file_tree.specs.Valid.{IsGood};
 ghost use Rattle.tape_layout.specs.Ops.{HasRoom, held_in};
 ghost use Rattle.tape_layout.specs.Plans.{Plan};
-ghost use Rattle.volume_stock.specs.Applied.{IsApplied, IsChange, IsUnchanged, LeavesAll, StoresNothing};
+ghost use Rattle.volume_stock.specs.Applied.{IsApplied, IsChange, IsRefusedAs, IsUnchanged, LeavesAll, StoresNothing};
+ghost use Rattle.volume_stock.specs.Reads.{IsPlanOfAtMost, IsReadPlan};
 ghost use Rattle.volume_stock.specs.Stocks.{IsStock, stocked, with_change};
+ghost use Rattle.volume_stock.specs.Syncs.{BringsAtMost, IsDocument};
 
 use crate::changes::change_tree;
-use crate::looks::{list, stat};
-use crate::syncs::sync;
+use crate::looks::{list, plan, stat};
+use crate::syncs::{admit_due, due_document, most_ops, sync};
 use crate::writes::write;
+use extent_map::Piece;
 use file_tree::{Carried, Tree};
 use plain_tree::{Answer, Call, Refusal};
 use std::alloc::Global;
 use std::marker::Model;
 use tape_layout::{AdmitErr, Layout, Op};
 use tape_meaning::Mounted;
-use tape_types::{Bytes, Limits, Moment, NoMemory, Place, Text};
+use tape_types::{Bytes, Limits, List, Moment, NoMemory, Place, Text};
 use volume_sync::Frame;
 
 /// What is held of a volume while it is served: its tree, what is admitted for the tape and not done yet, and what its
@@ -62,10 +66,13 @@ impl Stock {
         ensures stands { IfOk result (λ s. (tape : Tape) (g : Given) → StartsFrom tape limits mounted g
             → IsStock tape g mounted.ip_on (first_standing g) s) }
         ensures ops { IfOk result (λ s. s.layout.ops ≡ []) }
+        ensures tree { IfOk result (λ s. IsTreeOf (letters_of mounted) mounted.label.block mounted.index s.tree) }
+        ensures good { IfOk result (λ s. IsGood s.tree) }
     {
         let letters = (mounted.label.index, mounted.label.dpart);
         let block = mounted.label.block;
         let tree = Tree::from_index(alloc, &mounted.index, letters, block)?;
+        let _count = tree.count();
         let carried = Carried::of_index(alloc, &mounted.index)?;
         let layout = Layout::new(
             alloc,
@@ -115,6 +122,54 @@ impl Stock {
             Ok(()) => Ok(None),
             Err(e) => Err(e),
         }
+    }
+
+    /// Why the tree refuses a call, where no byte is lost on the tape.
+    pub fn check(&self, call: &Call) -> Result<Option<Refusal>, NoMemory>
+        ensures refusal { IfOk result (λ refusal. refusal ≡ refusal_of (plain_of whole self.now.tree) call.now) }
+        ensures told { IfOk result (λ refusal. (tape : Tape) (g : Given) (on : Bool) (st : Standing)
+            → IsStock tape g on st self.now → IsRefusedAs st.tree call.now refusal) }
+    {
+        self.tree.check(self.alloc, call)
+    }
+
+    /// The pieces of a read that isn't refused, of at most so many bytes from an offset on, up to the end of the file.
+    pub fn plan(&self, path: &[Text], offset: u64, count: u64) -> Result<List<Piece>, NoMemory>
+        requires { refusal_of (plain_of whole self.now.tree) (Call.Read path.now offset count) ≡ None }
+        ensures reads { IfOk result (λ pieces. (tape : Tape) (g : Given) (on : Bool) (st : Standing)
+            → IsStock tape g on st self.now → IsReadPlan tape st self.now.tree path.now offset count pieces) }
+        ensures most { IfOk result (λ pieces. IsPlanOfAtMost self.now.tree.block_size count pieces) }
+    {
+        plan(&self.tree, self.alloc, path, offset, count)
+    }
+
+    /// The text of the index that a sync at a moment admits, or none where nothing has changed since the last one.
+    pub fn document(&self, at: Moment) -> Result<Option<Vec<u8>>, NoMemory>
+        ensures document { IfOk result (λ due. (tape : Tape) (g : Given) (on : Bool) (st : Standing)
+            → IsStock tape g on st self.now → IsDocument g st at (option_map (λ doc. doc.items) due)) }
+        ensures some { IfOk result (λ due. IfSome due (λ doc. 1 ≤ length doc.items)) }
+    {
+        due_document(self.alloc, &self.tree, &self.layout, &self.frame, at)
+    }
+
+    /// Admits the text that `document` gave.
+    pub fn sync(&mut self, due: &Option<Vec<u8>>) -> Result<(), AdmitErr>
+        requires { IfSome due.now (λ doc. 1 ≤ length doc.items) }
+        ensures applied { (early : Tape) (g : Given) (on : Bool) (st : Standing) (at : Moment)
+            → IsStock early g on st self.old → IsDocument g st at (option_map (λ doc. doc.items) due.now)
+            → IsChange early g on st Call.Sync at self.old self.new result }
+        ensures leaves { OnErr result (IsUnchanged self.old self.new) }
+    {
+        admit_due(&mut self.layout, &mut self.frame, due)
+    }
+
+    /// How many ops a write of these bytes, or a sync whose index has this text, brings at most.
+    pub fn most_ops(&self, bytes: &[u8]) -> usize
+        ensures { (tape : Tape) (g : Given) (on : Bool) (st : Standing) → IsStock tape g on st self.now
+            → BringsAtMost (rules g) on st.space (length bytes.now) result }
+    {
+        let _count = self.tree.count();
+        most_ops(bytes, self.frame.label.block.max(1))
     }
 
     /// What a listing of a path is answered.

@@ -4,6 +4,7 @@ ghost use Rattle.volume_stock.specs.Bare.{IsBare};
 ghost use Rattle.volume_stock.specs.Mounted.{CanStart};
 
 use crate::Stock;
+use extent_map::Piece;
 use index_model::{Index, Kind, Node, Spot};
 use ltfs_label::Label;
 use plain_tree::{Call, Refusal};
@@ -198,6 +199,96 @@ fn syncs_once(rt: HostRuntime) -> Result<(), Fail> {
     assert!(rt; next_on_dp(&stock) == 52 && stock.waiting() == 4);
     finish(&mut stock);
     assert!(rt; stock.apply(&Call::Sync, AT) == Ok(None));
+    assert!(rt; stock.waiting() == 0);
+    Ok(())
+}
+
+/// The pieces of a read, or none where it is refused.
+fn planned(stock: &Stock, call: &Call) -> Result<Option<List<Piece>>, NoMemory> {
+    if stock.check(call)?.is_some() {
+        return Ok(None);
+    }
+    match call {
+        Call::Read {
+            path,
+            offset,
+            count,
+        } => Ok(Some(stock.plan(path.as_slice(), *offset, *count)?)),
+        _ => Ok(None),
+    }
+}
+
+/// Where the first piece stands on the data partition, from which byte of the block on, and how many bytes it has; or
+/// zeros where there is none.
+fn first_piece(pieces: &[Piece]) -> (u64, u32, u32) {
+    match pieces.first() {
+        Some(Piece::Stored { place, byte, count }) => (place_on_dp(*place), *byte, *count),
+        Some(Piece::Zeros { .. }) => (0, 0, 0),
+        None => (0, 0, 0),
+    }
+}
+
+#[test]
+fn plans_reads(rt: HostRuntime) -> Result<(), Fail> {
+    let alloc = rt.alloc();
+    let Some(stock) = filled(alloc)? else {
+        return Err("filled".into());
+    };
+    let rows = [
+        (0, 10, 1, (7, 0, 10)),
+        (4095, 2, 2, (7, 4095, 1)),
+        (65536, 4096, 1, (23, 0, 4096)),
+        (131072, 1 << 20, 13, (39, 0, 4096)),
+        (184319, 10, 1, (51, 4095, 1)),
+        (184320, 10, 0, (0, 0, 0)),
+        (1 << 40, 1, 0, (0, 0, 0)),
+        (0, 0, 0, (0, 0, 0)),
+    ];
+    for (offset, count, number, first) in rows {
+        let call = Call::Read {
+            path: path(alloc)?,
+            offset,
+            count,
+        };
+        let Some(pieces) = planned(&stock, &call)? else {
+            return Err("refused".into());
+        };
+        assert!(rt; pieces.len() == number);
+        assert!(rt; first_piece(pieces.as_slice()) == first);
+    }
+    Ok(())
+}
+
+#[test]
+fn refuses_to_plan(rt: HostRuntime) -> Result<(), Fail> {
+    let alloc = rt.alloc();
+    let stock = bare_stock(alloc)?;
+    let call = Call::Read {
+        path: path(alloc)?,
+        offset: 0,
+        count: 1,
+    };
+    assert!(rt; stock.check(&call)? == Some(Refusal::NotFound));
+    assert!(rt; planned(&stock, &call)?.is_none());
+    Ok(())
+}
+
+#[test]
+fn tells_what_a_sync_admits(rt: HostRuntime) -> Result<(), Fail> {
+    let Some(mut stock) = filled(rt.alloc())? else {
+        return Err("filled".into());
+    };
+    let due = stock.document(AT)?;
+    let Some(text) = &due else {
+        return Err("unchanged".into());
+    };
+    assert!(rt; text.len() < 4096 && stock.most_ops(text.as_slice()) == 5);
+    assert!(rt; stock.sync(&due) == Ok(()));
+    assert!(rt; next_on_dp(&stock) == 52 && stock.waiting() == 4);
+    finish(&mut stock);
+    let due = stock.document(AT)?;
+    assert!(rt; due.is_none());
+    assert!(rt; stock.sync(&due) == Ok(()));
     assert!(rt; stock.waiting() == 0);
     Ok(())
 }

@@ -11,7 +11,6 @@ use Rattle.file_tree.specs.declared.carried.Heading.{Heading}
 use Rattle.tape_layout.specs.Admissions.{IsAdmitted, index_admission}
 use Rattle.tape_layout.specs.Plans.{Plan}
 use Rattle.tape_layout.specs.declared.errors.AdmitErr.{AdmitErr}
-use Rattle.volume_space.specs.Files.{canon}
 use Rattle.volume_sync.specs.declared.frames.Frame.{Frame}
 
 abbrev pub letters_of : Frame → Letters
@@ -41,7 +40,7 @@ abbrev pub after_sync : Frame → Result Place AdmitErr → Frame
 after_sync f (Ok place) = with_sync f place
 after_sync f (Err e) = f
 
--- Its text is admitted where it fits, and else refused, and then nothing has changed.
-pub record IsSync (tree : FileTree) (at : Moment) (old new : Plan) (before now : Frame) (result : Result Place AdmitErr) : Type 0 where
-  pub admitted : IsAdmitted (index_admission old (before.generation + 1) (canon (sync_index before tree old.ends.dp at))) old new result
+-- This text of the next index is admitted where it fits, and else refused, and then nothing has changed.
+pub record IsSync (text : List ℕ) (old new : Plan) (before now : Frame) (result : Result Place AdmitErr) : Type 0 where
+  pub admitted : IsAdmitted (index_admission old (before.generation + 1) text) old new result
   pub frame : now ≡ after_sync before result

@@ -5,4 +5,4 @@ mod frames;
 mod syncing;
 
 pub use frames::Frame;
-pub use syncing::admit_sync;
+pub use syncing::{admit_document, document};

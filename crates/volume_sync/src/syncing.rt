@@ -44,8 +44,8 @@ fn heading(alloc: Global, frame: &Frame, end: u64, at: Moment) -> Result<Heading
     })
 }
 
-/// The document of the index that a sync writes.
-fn document(
+/// The document of the index that a sync at a moment writes behind the mark at this end of the data partition.
+pub fn document(
     alloc: Global,
     tree: &Tree,
     frame: &Frame,
@@ -65,22 +65,15 @@ fn document(
     Ok(doc)
 }
 
-/// Admits the index of a sync on the data partition: that of the next generation, of the tree at a moment. What was put on
-/// the index partition is flushed before it. The place is that of its first block.
-pub fn admit_sync(
-    alloc: Global,
-    layout: &mut Layout,
-    tree: &Tree,
-    frame: &mut Frame,
-    at: Moment,
-) -> Result<Place, AdmitErr>
+/// Admits the document of the next generation's index on the data partition. What was put on the index partition is
+/// flushed before it. The place is that of its first block.
+pub fn admit_document(layout: &mut Layout, frame: &mut Frame, doc: &[u8]) -> Result<Place, AdmitErr>
     requires generation { frame.old.generation ≤ 2 ^ 62 }
-    ensures { IsSync tree.now at layout.old layout.new frame.old frame.new result }
+    requires some { 1 ≤ length doc.now }
+    ensures { IsSync doc.now layout.old layout.new frame.old frame.new result }
 {
-    let (_, end) = layout.ends();
-    let doc = document(alloc, tree, frame, end, at)?;
     let generation = frame.generation + 1;
-    let place = layout.admit_index(&doc, generation)?;
+    let place = layout.admit_index(doc, generation)?;
     frame.generation = generation;
     frame.last_dp = Some(place.pos);
     frame.changed = false;

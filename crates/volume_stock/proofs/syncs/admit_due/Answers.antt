@@ -1,0 +1,16 @@
+use Rattle.std.proofs.Common.{Option, Vec, Global, ℕ, ◌∙◌, subst}
+use Rattle.std.specs.Option.{option_map}
+use Rattle.volume_stock.proofs.syncs.admit_due.Goals as goal
+use Rattle.volume_stock.specs.Syncs.{IsDocument}
+use Rattle.volume_stock.proofs.Syncing.{sync_admitted, sync_still}
+
+pub returns-in_default-clause-applied : goal.returns-in_default-clause-applied
+returns-in_default-clause-applied c tree early g on st at i told =
+    sync_still tree c.args.layout.now c.args.frame.now early g on st at i
+    (subst (λ (due : Option (Vec ℕ Global)). IsDocument g st at (option_map (λ (doc : Vec ℕ Global). doc.items) due)) c.in_default.is told)
+
+pub returns-in-Ok-clause-applied : goal.returns-in-Ok-clause-applied
+returns-in-Ok-clause-applied c tree early g on st at i told =
+    let is = subst (λ (due : Option (Vec ℕ Global)). IsDocument g st at (option_map (λ (doc : Vec ℕ Global). doc.items) due)) c.in-Some.is told in
+    sync_admitted tree c.args.layout.now c.admit_document.new.layout c.args.frame.now c.admit_document.new.frame at c.as_slice.result.now early g on st i
+    (is.0, c.as_slice.ensures.value ∙ is.1) c.in-Ok.field-0 (c.in-Ok.ensures {u = tt})
