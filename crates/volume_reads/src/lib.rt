@@ -1,0 +1,10 @@
+//! Reads that wait for blocks of the tape.
+#![tactic(auto)]
+
+mod reading;
+mod readings;
+#[cfg(test)]
+mod tests;
+
+pub use reading::Reading;
+pub use readings::Readings;
