@@ -1,0 +1,11 @@
+pub mod Ends
+pub mod Plans
+pub mod Ways
+pub mod Tells
+pub mod Stored
+pub mod Stays
+pub mod Admits
+pub mod Agrees
+pub mod Marks
+pub mod Places
+pub mod Worked
