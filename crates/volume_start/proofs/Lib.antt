@@ -1,0 +1,6 @@
+mod Near
+mod Filed
+mod First
+mod Tying
+mod Keeping
+mod Started
