@@ -140,3 +140,24 @@ fn a_pattern_has_255_characters_at_most(rt: HostRuntime) -> Result<(), NoMemory>
     let long = repeated(alloc, "é", 256)?;
     check_policy(&rt, alloc, 0, 1, long.as_str(), Some(Field::Policy))
 }
+
+/// With this block and name, and a policy for larger files than there may be, this is told.
+fn check_first<R: Abort>(
+    rt: &R,
+    alloc: Global,
+    block: u32,
+    name: &str,
+    wrong: Field,
+) -> Result<(), NoMemory> {
+    let policy = policy(alloc, (1 << 40) + 1, 0, "")?;
+    assert_eq!(rt; fault(alloc, b"TAPE01", block, name, policy)?, Some(wrong));
+    Ok(())
+}
+
+#[test]
+fn the_first_field_is_told(rt: HostRuntime) -> Result<(), NoMemory> {
+    let alloc = rt.alloc();
+    check_first(&rt, alloc, 4095, "a/b", Field::Block)?;
+    check_first(&rt, alloc, 4096, "a/b", Field::Name)?;
+    check_first(&rt, alloc, 4096, "", Field::Policy)
+}
