@@ -1,6 +1,6 @@
 //! What was placed and replied, and what each session was told.
 
-ghost use Rattle.std.specs.Prelude.{◌≡◌, ◌≢◌, ◌+◌, ◌*◌, ◌<◌, ◌≤◌, ◌^◌, ℕ, [], ◌∷◌, ◌++◌, length, OnOk, IfOk, IfSome, None, Some, Option, option_map, slice_get, slice_set, vec_len, vec_capacity};
+ghost use Rattle.std.specs.Prelude.{◌≡◌, ◌≢◌, ◌+◌, ◌*◌, ◌<◌, ◌≤◌, ◌^◌, ◌==◌, count_by, ℕ, [], ◌∷◌, ◌++◌, length, OnOk, IfOk, IfSome, None, Some, Option, option_map, slice_get, slice_set, vec_len, vec_capacity};
 ghost use Rattle.session_script.specs.declared.logs.Reply.{Reply};
 ghost use Rattle.volume_model.specs.declared.marks.Kind.TheVariants as kinds;
 ghost use Rattle.volume_model.specs.Marks.{draining, mark, phase, waits};
@@ -111,6 +111,24 @@ impl Placements {
         ensures few { length self.now.history ≤ self.now.calls }
     {
         self.history.len() as u64
+    }
+
+    /// Whose call was placed here.
+    pub fn who(&self, place: u64) -> u16
+        requires { place < length self.now.history }
+        ensures { option_map (λ p. p.who) (slice_get self.now.history place) ≡ Some result }
+    {
+        self.history[place as usize].who
+    }
+
+    /// How many calls of a session were placed. It goes over all placements.
+    pub fn count(&self, who: u16) -> usize
+        ensures { result ≡ count_by (λ p. p.who == who) self.now.history }
+    {
+        self.history
+            .iter()
+            .filter(|placed| placed.who == who)
+            .count()
     }
 
     /// The reply at a place, where it is there.

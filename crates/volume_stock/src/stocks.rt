@@ -13,7 +13,7 @@ ghost use Rattle.file_tree.specs.Mounts.{IsTreeOf};
 ghost use Rattle.file_tree.specs.Tree.{plain_of, whole};
 ghost use Rattle.file_tree.specs.Valid.{IsGood};
 ghost use Rattle.tape_layout.specs.Ops.{HasRoom, held_in};
-ghost use Rattle.tape_layout.specs.Plans.{Plan};
+ghost use Rattle.tape_layout.specs.Plans.{AreStanding, Plan};
 ghost use Rattle.volume_stock.specs.Applied.{IsApplied, IsChange, IsRefusedAs, IsUnchanged, LeavesAll, StoresNothing};
 ghost use Rattle.volume_stock.specs.Reads.{IsPlanOfAtMost, IsReadPlan};
 ghost use Rattle.volume_stock.specs.Stocks.{IsStock, stocked, with_change};
@@ -208,6 +208,15 @@ impl Stock {
         ensures { result ≡ length self.now.layout.ops }
     {
         self.layout.waiting()
+    }
+
+    /// Where the next item of the index partition goes, and of the data partition.
+    pub fn ends(&self) -> (u64, u64)
+        ensures ends { result ≡ record { 0 = self.now.layout.ends.ip; 1 = self.now.layout.ends.dp } }
+        ensures standing { AreStanding self.now.layout.limits self.now.layout.block_size self.now.layout.ends
+            self.now.layout.ops }
+    {
+        self.layout.ends()
     }
 
     /// The bytes that stand to be written at a place. It costs the logarithm of the ops that stand.
