@@ -1,6 +1,6 @@
-mod Near
-mod Filed
-mod First
-mod Tying
-mod Keeping
-mod Started
+pub mod Near
+pub mod Filed
+pub mod First
+pub mod Tying
+pub mod Keeping
+pub mod Started

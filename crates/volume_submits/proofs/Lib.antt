@@ -1,21 +1,21 @@
-mod Placed
-mod Rightly
-mod Still
-mod Voided
-mod HeldReads
-mod Told
-mod PutOff
-mod ReadBlocks
-mod Wanting
-mod Waiting
-mod Shown
-mod Grouped
-mod Filed
-mod Reread
-mod Standings
-mod Admitted
-mod Asking
-mod Truly
-mod Changed
-mod Dues
-mod Synced
+pub mod Placed
+pub mod Rightly
+pub mod Still
+pub mod Voided
+pub mod HeldReads
+pub mod Told
+pub mod PutOff
+pub mod ReadBlocks
+pub mod Wanting
+pub mod Waiting
+pub mod Shown
+pub mod Grouped
+pub mod Filed
+pub mod Reread
+pub mod Standings
+pub mod Admitted
+pub mod Asking
+pub mod Truly
+pub mod Changed
+pub mod Dues
+pub mod Synced

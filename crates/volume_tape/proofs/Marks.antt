@@ -85,7 +85,7 @@ op_past place e (Put at bytes) held is = past_held place.part at.part place.pos 
 op_past place e (Mark at) held is = absurd (cc is)
 op_past place e (Flush at) held is = absurd (cc is)
 
-rest_holds : (place : Place) (e : Ends) (op : Op) (ops : List Op) → AreNext e (op ∷ ops) → IsPutBy ops place
+pub rest_holds : (place : Place) (e : Ends) (op : Op) (ops : List Op) → AreNext e (op ∷ ops) → IsPutBy ops place
     → HasBytes (held_in place (op ∷ ops)) → HasBytes (held_in place ops)
 rest_holds place e op ops next put has = by (held_by place op) refl has.1
   where
