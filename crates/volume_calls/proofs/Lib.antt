@@ -1,0 +1,13 @@
+mod Promised
+mod Begun
+mod Within
+mod AnswersKept
+mod Submitted
+mod TurnAnswers
+mod TurnSteps
+mod TurnLaw
+mod DrainAnswers
+mod DrainTies
+mod DrainMade
+mod DrainEnds
+mod DrainTurn

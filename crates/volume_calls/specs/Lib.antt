@@ -1,0 +1,4 @@
+pub mod Running
+pub mod Handing
+pub mod Draining
+pub mod Laws
