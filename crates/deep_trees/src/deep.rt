@@ -37,7 +37,9 @@ fn text_of(alloc: Global, mounted: &Mounted, count: u64) -> Result<String, NoMem
     let generation = mounted.newest;
     let nodes = tree.count();
     let found = tree.find(names(alloc, count)?.as_slice());
-    Ok(format!(in alloc; "index {letter} {pos}, generation {generation}, nodes {nodes}, deepest {found:?}")?)
+    Ok(format!(in alloc;
+        "index {letter} {pos}, generation {generation}, nodes {nodes}, deepest {found:?}"
+    )?)
 }
 
 /// The letter of the partition on which the chosen index stands.
