@@ -24,7 +24,7 @@ pub fn told(alloc: Global, count: u64) -> Result<String, NoMemory>
     }
 }
 
-/// Where the chosen index stands, its generation, how many nodes its tree has, and what is found there through all names.
+/// Where the chosen index stands, its generation, how many nodes its tree has, and what is found there by all names.
 fn text_of(alloc: Global, mounted: &Mounted, count: u64) -> Result<String, NoMemory>
     requires valid { IsValid mounted.now.index }
     requires letters { mounted.now.label.index ≢ mounted.now.label.dpart }
