@@ -99,7 +99,7 @@ module _ {D : Type 0} (drive : Ghosts D) (fixed : Fixed D) (planned : Items) (be
   u = view_of fixed before mid
 
   drains_then : phase who mid.listed.marks ≡ draining
-  drains_then = ap (λ (ms : List Mark). phase who ms) went.marks ∙ drains
+  drains_then = ap (λ (ms : List Mark). phase who ms) went.came.marks ∙ drains
 
   -- ---- it is told of its fault
 
@@ -115,7 +115,7 @@ module _ {D : Type 0} (drive : Ghosts D) (fixed : Fixed D) (planned : Items) (be
     w = view_of fixed after new
 
     history_is : new.listed.history ≡ old.listed.history ++ placed ∷ []
-    history_is = t.places.history ∙ ap (λ (ps : List Placed). ps ++ placed ∷ []) went.history
+    history_is = t.places.history ∙ ap (λ (ps : List Placed). ps ++ placed ∷ []) went.came.history
 
     replies_are : new.listed.replies ≡ old.listed.replies ++ Some fault ∷ []
     replies_are = t.places.replies
@@ -126,17 +126,17 @@ module _ {D : Type 0} (drive : Ghosts D) (fixed : Fixed D) (planned : Items) (be
       fixed = refl;
       made = made;
       adds = record {
-        events = t.events ∙ went.adds.events ∙ ap (λ (l : List Event). old.trail.events ++ l) (sym (append-nil made));
-        acks = t.tape.acks ∙ went.adds.acks ∙ ap (λ (d : D). old.trail.acks ++ acks_for (drive.commands d) made) (sym t.tape.drive)
+        events = t.events ∙ went.came.adds.events ∙ ap (λ (l : List Event). old.trail.events ++ l) (sym (append-nil made));
+        acks = t.tape.acks ∙ went.came.adds.acks ∙ ap (λ (d : D). old.trail.acks ++ acks_for (drive.commands d) made) (sym t.tape.drive)
             ∙ ap (λ (l : List Event). old.trail.acks ++ acks_for (drive.commands new.drive) l) (sym (append-nil made));
       };
-      step = step_on drive v u w t.tape.drive t.tape.on (ap (λ (k : Stocked). k.layout.ops) t.tape.stock) drive.MOST made went.step;
+      step = step_on drive v u w t.tape.drive t.tape.on (ap (λ (k : Stocked). k.layout.ops) t.tape.stock) drive.MOST made went.came.step;
       none = went.none;
-      kept = t.kept ∙ ap (λ (l : List (ℕ × Twin)). without_session who l) went.kept;
-      marks = t.places.marks ∙ ap (λ (ms : List Mark). ms ++ placed_and_handed who (length mid.listed.history) fault) went.marks
-          ∙ ap (λ (ps : List Placed). old.listed.marks ++ placed_and_handed who (length ps) fault) went.history;
+      kept = t.kept ∙ ap (λ (l : List (ℕ × Twin)). without_session who l) went.came.kept;
+      marks = t.places.marks ∙ ap (λ (ms : List Mark). ms ++ placed_and_handed who (length mid.listed.history) fault) went.came.marks
+          ∙ ap (λ (ps : List Placed). old.listed.marks ++ placed_and_handed who (length ps) fault) went.came.history;
       answered = (
-        ap (λ (l : List (ℕ × Twin)). kept_for who l) (sym went.kept) ∙ t.is_kept,
+        ap (λ (l : List (ℕ × Twin)). kept_for who l) (sym went.came.kept) ∙ t.is_kept,
         record { placed = placed; fate_is = refl; history = history_is; who_is = refl; nth_is = refl; moment = moment; replies = replies_are },
       );
     }
@@ -145,12 +145,12 @@ module _ {D : Type 0} (drive : Ghosts D) (fixed : Fixed D) (planned : Items) (be
     fault_order = record {
       moment = asks;
       follows = record {
-        trail = subst (λ (l : List Event). is_trail_from (after_all old.trail.events) l ≡ true) (sym (append-nil made)) went.order.follows.trail;
-        standing = ap (λ (k : Stocked). map headed k.layout.ops) t.tape.stock ∙ went.order.follows.standing
+        trail = subst (λ (l : List Event). is_trail_from (after_all old.trail.events) l ≡ true) (sym (append-nil made)) went.came.order.follows.trail;
+        standing = ap (λ (k : Stocked). map headed k.layout.ops) t.tape.stock ∙ went.came.order.follows.standing
             ∙ sym (ap (λ (es : List Event). waiting.ops (after_all es)) t.events);
       };
       replied = tt;
-      moves = subst (λ (d : D). MovesOn (seen drive old.drive) (seen drive d) made) (sym t.tape.drive) went.order.moves;
+      moves = subst (λ (d : D). MovesOn (seen drive old.drive) (seen drive d) made) (sym t.tape.drive) went.came.order.moves;
     }
 
     order_then : IsInOrder drive w
@@ -162,7 +162,7 @@ module _ {D : Type 0} (drive : Ghosts D) (fixed : Fixed D) (planned : Items) (be
 
     voids : CanRead drive fixed → VoidsTruly (seen drive fixed.first) v w who counts
     voids can =
-        let a = went.truth can in
+        let a = went.came.truth can in
         let call = write_of (call_of v who (length (places_of who old.listed.marks))) (writes who drains) in
         record {
           call = call.0;
@@ -182,7 +182,7 @@ module _ {D : Type 0} (drive : Ghosts D) (fixed : Fixed D) (planned : Items) (be
       rightly = record {
         order = fault_order;
         truth = voids;
-        driven = λ can. driven_on drive v u w t.tape.drive t.tape.on (ap (λ (k : Stocked). k.layout.ops) t.tape.stock) made (went.driven can);
+        driven = λ can. driven_on drive v u w t.tape.drive t.tape.on (ap (λ (k : Stocked). k.layout.ops) t.tape.stock) made (went.came.driven can);
       };
       tied = tied_faulted drive fixed planned who (length (places_of who old.listed.marks)) at counts mid new went.tied t;
       answers = answers_fault who (length (places_of who old.listed.marks)) at counts mid new went.answers drains_then t;
@@ -194,11 +194,11 @@ module _ {D : Type 0} (drive : Ghosts D) (fixed : Fixed D) (planned : Items) (be
     abbrev rest : List Event
     rest = Rests who ∷ []
 
-    abbrev x : View D
-    x = view_of fixed after new
+    abbrev resting : View D
+    resting = view_of fixed after new
 
     events_are : new.trail.events ≡ old.trail.events ++ (made ++ rest)
-    events_are = r.events ∙ ap (λ (l : List Event). l ++ rest) went.adds.events ∙ append_assoc old.trail.events made rest
+    events_are = r.events ∙ ap (λ (l : List Event). l ++ rest) went.came.adds.events ∙ append_assoc old.trail.events made rest
 
     ops_are : new.stock.layout.ops ≡ mid.stock.layout.ops
     ops_are = ap (λ (k : Stocked). k.layout.ops) r.tape.stock
@@ -207,47 +207,47 @@ module _ {D : Type 0} (drive : Ghosts D) (fixed : Fixed D) (planned : Items) (be
     state_is = state_after mid.trail.events new.trail.events rest r.events
 
     standing_is : map headed new.stock.layout.ops ≡ waiting.ops (after_all new.trail.events)
-    standing_is = ap (λ (l : List Op). map headed l) ops_are ∙ went.order.follows.standing ∙ sym (ap (λ (st : State). waiting.ops st) state_is)
+    standing_is = ap (λ (l : List Op). map headed l) ops_are ∙ went.came.order.follows.standing ∙ sym (ap (λ (st : State). waiting.ops st) state_is)
 
     none_kept : kept_for who (old.trail.kept ++ drain_faults v made) ≡ []
-    none_kept = ap (λ (l : List (ℕ × Twin)). kept_for who l) (sym went.kept) ∙ r.none
+    none_kept = ap (λ (l : List (ℕ × Twin)). kept_for who l) (sym went.came.kept) ∙ r.none
 
-    abbrev rest_once : DrainsOnce drive.MOST (seen drive old.drive) (seen drive new.drive) v x who the_drained.Room
+    abbrev rest_once : DrainsOnce drive.MOST (seen drive old.drive) (seen drive new.drive) v resting who the_drained.Room
     rest_once = record {
       fixed = refl;
       made = made;
       adds = record {
         events = events_are;
-        acks = r.tape.acks ∙ went.adds.acks ∙ ap (λ (d : D). old.trail.acks ++ acks_for (drive.commands d) made) (sym r.tape.drive)
+        acks = r.tape.acks ∙ went.came.adds.acks ∙ ap (λ (d : D). old.trail.acks ++ acks_for (drive.commands d) made) (sym r.tape.drive)
             ∙ ap (λ (l : List Ack). old.trail.acks ++ l) (sym (acks_rest (drive.commands new.drive) who made));
       };
-      step = step_on drive v u x r.tape.drive r.tape.on ops_are drive.MOST made went.step;
+      step = step_on drive v u resting r.tape.drive r.tape.on ops_are drive.MOST made went.came.step;
       none = went.none;
-      kept = r.kept ∙ went.kept ∙ sym (without_none who (old.trail.kept ++ drain_faults v made) none_kept);
-      marks = r.marks ∙ ap (λ (ms : List Mark). ms ++ mark who kinds.Rests ∷ []) went.marks;
+      kept = r.kept ∙ went.came.kept ∙ sym (without_none who (old.trail.kept ++ drain_faults v made) none_kept);
+      marks = r.marks ∙ ap (λ (ms : List Mark). ms ++ mark who kinds.Rests ∷ []) went.came.marks;
       answered = (
         none_kept,
         omega (arith, r.room, standing_count new.stock.layout.ops new.trail.events standing_is, ap (λ (l : List Op). length l) ops_are),
         record {
-          history = r.history ∙ went.history;
+          history = r.history ∙ went.came.history;
           next = same;
           replies = record {
-            count = ap (λ (l : List (Option Reply)). length l) r.replies ∙ went.replies.count;
-            each = λ k reply e. ap (λ (l : List (Option Reply)). slice_get l k) r.replies ∙ went.replies.each k reply e;
+            count = ap (λ (l : List (Option Reply)). length l) r.replies ∙ went.came.replies.count;
+            each = λ k reply e. ap (λ (l : List (Option Reply)). slice_get l k) r.replies ∙ went.came.replies.each k reply e;
           };
         },
       );
     }
 
-    rest_order : DrainsInOrder (seen drive old.drive) (seen drive new.drive) v x who made the_drained.Room
+    rest_order : DrainsInOrder (seen drive old.drive) (seen drive new.drive) v resting who made the_drained.Room
     rest_order = record {
       moment = tt;
       follows = record {
         trail = trail_behind old.trail.events (made ++ rest) (subst IsTrail events_are r.trail);
         standing = standing_is;
       };
-      replied = λ k reply was now. went.order.replied k reply was (ap (λ (l : List (Option Reply)). slice_get l k) (sym r.replies) ∙ now);
-      moves = subst (λ (d : D). MovesOn (seen drive old.drive) (seen drive d) made) (sym r.tape.drive) went.order.moves;
+      replied = λ k reply was now. went.came.order.replied k reply was (ap (λ (l : List (Option Reply)). slice_get l k) (sym r.replies) ∙ now);
+      moves = subst (λ (d : D). MovesOn (seen drive old.drive) (seen drive d) made) (sym r.tape.drive) went.came.order.moves;
     }
 
     -- a rest owns no fault
@@ -256,9 +256,9 @@ module _ {D : Type 0} (drive : Ghosts D) (fixed : Fixed D) (planned : Items) (be
         ∙ ap (λ l. owned_by (of_call k) mid.trail.events ++ l) (no_step_owned (after_all mid.trail.events) (of_call k) rest refl)
         ∙ append-nil (owned_by (of_call k) mid.trail.events))
 
-    rest_truly : CanRead drive fixed → AnswersTruly (seen drive fixed.first) v x
+    rest_truly : CanRead drive fixed → AnswersTruly (seen drive fixed.first) v resting
     rest_truly can =
-        let a = went.truth can in
+        let a = went.came.truth can in
         record {
           came = λ k p call reply is is_call was there. ⊎_elim (λ same. inl same)
               (λ owns. inr (subst (λ (l : List Twin). IsFaultOf l reply) (owned_as k) owns))
@@ -274,7 +274,7 @@ module _ {D : Type 0} (drive : Ghosts D) (fixed : Fixed D) (planned : Items) (be
       rightly = record {
         order = rest_order;
         truth = rest_truly;
-        driven = λ can. driven_on drive v u x r.tape.drive r.tape.on ops_are made (went.driven can);
+        driven = λ can. driven_on drive v u resting r.tape.drive r.tape.on ops_are made (went.came.driven can);
       };
       tied = tied_resting drive fixed planned who mid new went.tied r;
       answers = answers_rest who mid new went.answers drains_then r;
@@ -283,50 +283,50 @@ module _ {D : Type 0} (drive : Ghosts D) (fixed : Fixed D) (planned : Items) (be
   -- ---- it drains on
 
   module _ (after : Option Moment) (same : after ≡ before) (one : steps made ≡ 1) (full : IsFull who mid) where
-    abbrev y : View D
-    y = view_of fixed after mid
+    abbrev going_on : View D
+    going_on = view_of fixed after mid
 
     none_left : kept_for who (old.trail.kept ++ drain_faults v made) ≡ []
-    none_left = ap (λ (l : List (ℕ × Twin)). kept_for who l) (sym went.kept) ∙ full.none
+    none_left = ap (λ (l : List (ℕ × Twin)). kept_for who l) (sym went.came.kept) ∙ full.none
 
-    abbrev more_once : DrainsOnce drive.MOST (seen drive old.drive) (seen drive mid.drive) v y who the_drained.More
+    abbrev more_once : DrainsOnce drive.MOST (seen drive old.drive) (seen drive mid.drive) v going_on who the_drained.More
     more_once = record {
       fixed = refl;
       made = made;
       adds = record {
-        events = went.adds.events ∙ ap (λ (l : List Event). old.trail.events ++ l) (sym (append-nil made));
-        acks = went.adds.acks ∙ ap (λ (l : List Event). old.trail.acks ++ acks_for (drive.commands mid.drive) l) (sym (append-nil made));
+        events = went.came.adds.events ∙ ap (λ (l : List Event). old.trail.events ++ l) (sym (append-nil made));
+        acks = went.came.adds.acks ∙ ap (λ (l : List Event). old.trail.acks ++ acks_for (drive.commands mid.drive) l) (sym (append-nil made));
       };
-      step = step_on drive v u y refl refl refl drive.MOST made went.step;
+      step = step_on drive v u going_on refl refl refl drive.MOST made went.came.step;
       none = went.none;
-      kept = went.kept ∙ sym (without_none who (old.trail.kept ++ drain_faults v made) none_left);
-      marks = went.marks ∙ sym (append-nil old.listed.marks);
+      kept = went.came.kept ∙ sym (without_none who (old.trail.kept ++ drain_faults v made) none_left);
+      marks = went.came.marks ∙ sym (append-nil old.listed.marks);
       answered = (
         none_left,
-        omega (arith, full.many, standing_count mid.stock.layout.ops mid.trail.events went.order.follows.standing),
+        omega (arith, full.many, standing_count mid.stock.layout.ops mid.trail.events went.came.order.follows.standing),
         one,
-        record { history = went.history; next = same; replies = record { count = went.replies.count; each = went.replies.each } },
+        record { history = went.came.history; next = same; replies = record { count = went.came.replies.count; each = went.came.replies.each } },
       );
     }
 
-    more_order : DrainsInOrder (seen drive old.drive) (seen drive mid.drive) v y who made the_drained.More
+    more_order : DrainsInOrder (seen drive old.drive) (seen drive mid.drive) v going_on who made the_drained.More
     more_order = record {
       moment = tt;
       follows = record {
-        trail = subst (λ (l : List Event). is_trail_from (after_all old.trail.events) l ≡ true) (sym (append-nil made)) went.order.follows.trail;
-        standing = went.order.follows.standing;
+        trail = subst (λ (l : List Event). is_trail_from (after_all old.trail.events) l ≡ true) (sym (append-nil made)) went.came.order.follows.trail;
+        standing = went.came.order.follows.standing;
       };
-      replied = went.order.replied;
-      moves = went.order.moves;
+      replied = went.came.order.replied;
+      moves = went.came.order.moves;
     }
 
-    more_truly : CanRead drive fixed → AnswersTruly (seen drive fixed.first) v y
-    more_truly can = let a = went.truth can in record { came = a.came; added = a.added; events = a.events; ops = a.ops }
+    more_truly : CanRead drive fixed → AnswersTruly (seen drive fixed.first) v going_on
+    more_truly can = let a = went.came.truth can in record { came = a.came; added = a.added; events = a.events; ops = a.ops }
 
     pub more_ends : Ends drive fixed planned before after who the_drained.More old mid
     more_ends = record {
       once = more_once;
-      rightly = record { order = more_order; truth = more_truly; driven = λ can. driven_on drive v u y refl refl refl made (went.driven can) };
+      rightly = record { order = more_order; truth = more_truly; driven = λ can. driven_on drive v u going_on refl refl refl made (went.came.driven can) };
       tied = went.tied;
       answers = went.answers;
     }

@@ -1,9 +1,6 @@
 -- What a turn of a session that drains made before the session is told of its fault or rests: nothing, or a step.
 use Rattle.std.proofs.Common.{◌≡◌, ◌⊎◌, ◌≤◌, ◌<◌, ◌-◌, ◌^◌, ℕ, List, [], ◌∷◌, ◌++◌, length, map, Option, Some, None, ⊎_elim, append-nil, refl, sym, ap, subst, ◌∙◌, arith}
-use Rattle.std.specs.Prelude.{slice_get}
 use Rattle.std.proofs.lemmas.List.{length-map}
-use Rattle.std.proofs.lemmas.List.Elements.{All-nil}
-use Rattle.tape_types.specs.Counts.{IsRise}
 use Rattle.tape_types.specs.declared.cartridges.Twin.{Twin}
 use Rattle.tape_types.specs.declared.moments.Moment.{Moment}
 use Rattle.tape_drive.specs.declared.drive.Drive.{Ghosts}
@@ -16,41 +13,28 @@ use Rattle.head_trail.specs.Waiting.{Waiter, waiting_op, first_of}
 use Rattle.tape_layout.specs.declared.ops.Op.{Op}
 use Rattle.volume_model.specs.Faults.{kept_for}
 use Rattle.volume_model.specs.Served.{Fixed, View, headed}
-use Rattle.volume_model.specs.Steps.{HeadIsBehind, HeadIsRead, IsOnTape, KeepsReplies, StepsOnce, drain_faults, no_step}
-use Rattle.volume_model.specs.Submits.{Adds, standing_ops}
+use Rattle.volume_model.specs.Steps.{StepsOnce}
+use Rattle.volume_model.specs.Submits.{standing_ops}
 use Rattle.volume_order.specs.Kept.{seen}
 use Rattle.volume_order.specs.Laws.{IsInOrder}
-use Rattle.volume_order.specs.Sides.{IsBrought, TurnsInOrder}
-use Rattle.volume_order.proofs.Lists.{some_same}
-use Rattle.volume_truth.specs.Within.{AnswersTruly}
 use Rattle.volume_crashes.specs.Changes.{AreDriven}
-use Rattle.volume_crashes.specs.Laws.{CanServe}
 use Rattle.volume_journal.specs.Trails.{kept_by, longest, state}
-use Rattle.volume_laws.specs.Kept.{CanRead}
+use Rattle.volume_laws.specs.Kept.{IsKept, Plan}
 use Rattle.volume_tape.specs.Planned.{Items}
 use Rattle.volume_parts.specs.Parts.{Parts, view_of}
 use Rattle.volume_parts.specs.Stepping.{Steps, does, fails, misses, reads, told_fault}
 use Rattle.volume_parts.specs.Tied.{IsTied}
 use Rattle.volume_steps.specs.Laws.{Stepped}
-use Rattle.volume_steps.proofs.Serves.{on_stays}
 use Rattle.volume_calls.specs.Draining.{IsFull}
 use Rattle.volume_calls.specs.Handing.{StepsOn}
 use Rattle.volume_calls.specs.Running.{HasAnswers}
-use Rattle.volume_calls.proofs.DrainAnswers.{answers_step}
+use Rattle.volume_calls.proofs.TurnAnswers.{answers_stay}
+use Rattle.volume_calls.proofs.TurnSteps.{Came, came_by, came_none}
 
 pub record Went {D : Type 0} (drive : Ghosts D) (fixed : Fixed D) (planned : Items) (next : Option Moment) (who : ℕ)
     (old mid : Parts D) (made : List Event) : Type 0 where
-  pub history : mid.listed.history ≡ old.listed.history
-  pub marks : mid.listed.marks ≡ old.listed.marks
-  pub replies : KeepsReplies (view_of fixed next old) (view_of fixed next mid)
-  pub adds : Adds (seen drive mid.drive) (view_of fixed next old) (view_of fixed next mid) made
-  pub step : StepsOnce drive.MOST (seen drive old.drive) (seen drive mid.drive) (view_of fixed next old)
-      (view_of fixed next mid) made
+  pub came : Came drive fixed (view_of fixed next old) (view_of fixed next mid) made
   pub none : (0 < length (kept_for who old.trail.kept)) ⊎ (standing_ops (view_of fixed next old) ≤ 64) → made ≡ []
-  pub kept : mid.trail.kept ≡ old.trail.kept ++ drain_faults (view_of fixed next old) made
-  pub order : TurnsInOrder (seen drive old.drive) (seen drive mid.drive) (view_of fixed next old) (view_of fixed next mid) made
-  pub truth : CanRead drive fixed → AnswersTruly (seen drive fixed.first) (view_of fixed next old) (view_of fixed next mid)
-  pub driven : CanServe drive fixed → AreDriven drive (view_of fixed next old) (view_of fixed next mid) made
   -- where a fault is kept for the session then, nobody was replied to
   pub untold : 1 ≤ length (kept_for who mid.trail.kept) → mid.listed.replies ≡ old.listed.replies
   pub tied : IsTied drive fixed planned mid
@@ -63,57 +47,16 @@ standing_count standing events same = sym (ap (λ (l : List waiting.Op). length 
 
 -- ---- nothing
 
-module _ {D : Type 0} (drive : Ghosts D) (fixed : Fixed D) (planned : Items) (next : Option Moment) (who : ℕ) (old : Parts D)
-    (order : IsInOrder drive (view_of fixed next old)) (fits : drive.commands old.drive ≤ 2 ^ 64 - 1) where
-  abbrev v : View D
-  v = view_of fixed next old
-
-  still_waits : (k : ℕ) (reply : Option Reply) → slice_get old.listed.replies k ≡ Some None → slice_get old.listed.replies k ≡ Some reply
-      → IsBrought (after_all old.trail.events) [] k reply
-  still_waits k reply was now = subst (λ (r : Option Reply). IsBrought (after_all old.trail.events) [] k r) (some_same None reply (sym was ∙ now))
-      (order.orderly.waiting.none_yet k was)
-
-  not_yet : (reply : Reply) → Some None ≡ Some (Some reply) → ⊥
-  not_yet reply e = cc
-
-  no_event_step : StepsOnce drive.MOST (seen drive old.drive) (seen drive old.drive) v v []
-  no_event_step = record {
-    shape = no_step;
-    counts = record { still = λ e. refl; later = omega arith; at_least = omega arith; faults = omega arith; at_most = omega (arith, fits) };
-    op_head = All-nil (λ (e : Event). HeadIsBehind (waiting_op (after_all old.trail.events)) e (drive.head old.drive));
-    read_head = All-nil (λ (e : Event). HeadIsRead (seen drive old.drive) e (drive.head old.drive));
-    on_tape = All-nil (λ (e : Event). IsOnTape (seen drive old.drive) (first_of old.stock.layout.ops) e);
-    on = on_stays v [] refl;
-  }
-
-  no_event_order : TurnsInOrder (seen drive old.drive) (seen drive old.drive) v v []
-  no_event_order = record {
-    follows = record { trail = refl; standing = order.orderly.standing };
-    replied = still_waits;
-    moves = record { rises = All-nil (λ (t : Twin). IsRise (drive.faults old.drive) (drive.faults old.drive) t.before t.after); limits = refl; untold = λ e. e };
-  }
-
-  pub went_nothing : IsTied drive fixed planned old → HasAnswers old → Went drive fixed planned next who old old []
-  went_nothing tied answers = record {
-    history = refl;
-    marks = refl;
-    replies = record { count = refl; each = λ k reply e. e };
-    adds = record { events = sym (append-nil old.trail.events); acks = sym (append-nil old.trail.acks) };
-    step = no_event_step;
-    none = λ either. refl;
-    kept = sym (append-nil old.trail.kept);
-    order = no_event_order;
-    truth = λ can. record {
-      came = λ k p call reply at is was there. absurd (not_yet reply (sym was ∙ there));
-      added = [];
-      events = sym (append-nil old.trail.events);
-      ops = refl;
-    };
-    driven = λ can. refl;
-    untold = λ e. refl;
-    tied = tied;
-    answers = answers;
-  }
+pub went_nothing : {D : Type 0} (drive : Ghosts D) (fixed : Fixed D) (plan : Plan drive fixed) (planned : Items) (next : Option Moment) (who : ℕ) (old : Parts D)
+    → IsKept drive fixed plan (view_of fixed next old) → drive.commands old.drive ≤ 2 ^ 64 - 1 → IsTied drive fixed planned old → HasAnswers old
+    → Went drive fixed planned next who old old []
+went_nothing drive fixed plan planned next who old kept fits tied answers = record {
+  came = came_none drive fixed plan (view_of fixed next old) kept fits;
+  none = λ either. refl;
+  untold = λ e. refl;
+  tied = tied;
+  answers = answers;
+}
 
 -- ---- a step
 
@@ -141,22 +84,14 @@ pub went_step : {D : Type 0} (drive : Ghosts D) (fixed : Fixed D) (planned : Ite
     → Stepped drive fixed (view_of fixed next old) (view_of fixed next new) added → IsTied drive fixed planned new
     → Went drive fixed planned next who old new added
 went_step drive fixed planned next who old new added order answers full on s tied = record {
-  history = s.history;
-  marks = s.marks;
-  replies = s.replies;
-  adds = s.adds;
-  step = s.step;
+  came = came_by drive fixed (view_of fixed next old) (view_of fixed next new) added s;
   none = λ either. absurd (⊎_elim
       (λ some. omega (arith, some, ap (λ (l : List Twin). length l) full.none))
       (λ few. omega (arith, few, full.many, standing_count old.stock.layout.ops old.trail.events order.orderly.standing))
       either);
-  kept = s.kept;
-  order = s.order;
-  truth = s.truth;
-  driven = s.driven;
   untold = λ some. untold_by drive who old new full.none some added on.steps;
   tied = tied;
-  answers = answers_step old new answers on.answers s.replies.count s.replies.each s.marks;
+  answers = answers_stay old new answers on.answers s.replies.count s.replies.each s.marks;
 }
 
 -- ---- what is said of a view goes on where its drive, its ops and where placement goes on stay

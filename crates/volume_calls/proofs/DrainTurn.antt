@@ -44,7 +44,7 @@ module _ {D : Type 0} (drive : Ghosts D)
     )
 
     at_once : drive.commands old.drive ≤ 2 ^ 64 - 1 → Went drive fixed run.planned before who old old []
-    at_once fits = went_nothing drive fixed run.planned before who old run.kept.order fits run.tied run.answers
+    at_once fits = went_nothing drive fixed run.plan run.planned before who old run.kept fits run.tied run.answers
 
     stepped : (mid : Parts D) (added : List Event) → IsFull who old → StepsOn drive added old mid → Went drive fixed run.planned before who old mid added
     stepped mid added full on =

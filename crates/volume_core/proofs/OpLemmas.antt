@@ -74,10 +74,12 @@ finishes commands op later tickets old mid new first t a =
     record {
       drive = s.drive ∙ t.drive;
       first = first ∙ ap (λ (ops : List Op). op ∷ ops) (sym (ops ∙ ap (λ (ops : List Op). drop 1 ops) first));
-      stock = s.stock ∙ t.stock ∙ ap (λ (ops : List Op). record old.stock { layout = record old.stock.layout {
-        ops = ops;
-        ip_on = cond (settles_dp op) true old.stock.layout.ip_on;
-      } }) (sym ops);
+      stock = s.stock ∙ t.stock ∙ ap (λ (ops : List Op). record old.stock {
+        layout = record old.stock.layout {
+          ops = ops;
+          ip_on = cond (settles_dp op) true old.stock.layout.ip_on;
+        };
+      }) (sym ops);
       on = s.on ∙ t.on ∙ on_as_done op (length old.listed.history) old.on;
       events = s.events ∙ ap (λ (es : List Event). es ++ synced_events tickets) t.events
           ∙ append_assoc old.trail.events (Worked (place_of op) None ∷ []) (synced_events tickets);

@@ -58,10 +58,13 @@ module _ {D : Type 0} (drive : Ghosts D) where
   pub does_op : (op : Op) (end : StepDone) (tickets : List ℕ) (old new : Parts D) (d : D) (block : List ℕ) → AreRight old
       → IsOpStep drive op end old.drive d → IsWell end → FinishesOp (drive.commands d) op tickets (with_head d block old) new
       → SomeStep drive old new
-  does_op op end tickets old new d block right step well f = (_, record {
-    steps = Steps.does op end tickets (op_done op end tickets old new d block step well f);
-    answers = synced_keep tickets old new f.answered f.replies;
-  })
+  does_op op end tickets old new d block right step well f = (
+    _,
+    record {
+      steps = Steps.does op end tickets (op_done op end tickets old new d block step well f);
+      answers = synced_keep tickets old new f.answered f.replies;
+    },
+  )
 
   op_failed : (op : Op) (later : List Op) (counts : Twin) (old new : Parts D) (d : D) (block : List ℕ) → old.stock.layout.ops ≡ op ∷ later
       → IsOpStep drive op (ends.Failed counts) old.drive d → TellsFault op counts (with_head d block old) new
@@ -89,10 +92,13 @@ module _ {D : Type 0} (drive : Ghosts D) where
   pub fails_op : (op : Op) (later : List Op) (counts : Twin) (old new : Parts D) (d : D) (block : List ℕ) → old.stock.layout.ops ≡ op ∷ later
       → IsOpStep drive op (ends.Failed counts) old.drive d → TellsFault op counts (with_head d block old) new
       → SomeStep drive old new
-  fails_op op later counts old new d block first step f = (_, record {
-    steps = Steps.fails op later counts (op_failed op later counts old new d block first step f);
-    answers = fault_keeps (first_waiter (state old.trail)) counts old new f.answered f.replies;
-  })
+  fails_op op later counts old new d block first step f = (
+    _,
+    record {
+      steps = Steps.fails op later counts (op_failed op later counts old new d block first step f);
+      answers = fault_keeps (first_waiter (state old.trail)) counts old new f.answered f.replies;
+    },
+  )
 
   only_reads : (old new : Parts D) (d : D) (block : List ℕ) → ReadsOnly (with_head d block old) new → ReadsOnly old new
   only_reads old new d block o = record {
@@ -137,10 +143,13 @@ module _ {D : Type 0} (drive : Ghosts D) where
       → IsReadStep drive place (ends.Read got) old.drive d
       → ((c : Cartridge) → drive.held old.drive ≡ Some c → IsFoundAt place (ends.Read got) block c)
       → TakesBlock ticket place block (with_head d block old) new → SomeStep drive old new
-  reads_block ticket place got block old new d right none step found t = (_, record {
-    steps = Steps.reads ticket place got block (block_read ticket place got block old new d step found t);
-    answers = read_keeps ticket (list_any (λ (w : Waiting). w.owner == ticket) new.queue.waiting) t.read.front t.read.behind t.next old new right none (answer_kept (list_any (λ (w : Waiting). w.owner == ticket) new.queue.waiting) ticket old new d block t.answered) t.reads;
-  })
+  reads_block ticket place got block old new d right none step found t = (
+    _,
+    record {
+      steps = Steps.reads ticket place got block (block_read ticket place got block old new d step found t);
+      answers = read_keeps ticket (list_any (λ (w : Waiting). w.owner == ticket) new.queue.waiting) t.read.front t.read.behind t.next old new right none (answer_kept (list_any (λ (w : Waiting). w.owner == ticket) new.queue.waiting) ticket old new d block t.answered) t.reads;
+    },
+  )
 
   read_failed : (ticket : ℕ) (place : Place) (counts : Twin) (old new : Parts D) (d : D) (block : List ℕ)
       → IsReadStep drive place (ends.Failed counts) old.drive d → MissesBlock ticket place counts (with_head d block old) new
@@ -159,7 +168,10 @@ module _ {D : Type 0} (drive : Ghosts D) where
   pub fails_read : (ticket : ℕ) (place : Place) (counts : Twin) (old new : Parts D) (d : D) (block : List ℕ)
       → IsReadStep drive place (ends.Failed counts) old.drive d → MissesBlock ticket place counts (with_head d block old) new
       → SomeStep drive old new
-  fails_read ticket place counts old new d block step m = (_, record {
-    steps = Steps.misses ticket place counts (read_failed ticket place counts old new d block step m);
-    answers = missed_keeps ticket counts old new m.answered m.replies;
-  })
+  fails_read ticket place counts old new d block step m = (
+    _,
+    record {
+      steps = Steps.misses ticket place counts (read_failed ticket place counts old new d block step m);
+      answers = missed_keeps ticket counts old new m.answered m.replies;
+    },
+  )

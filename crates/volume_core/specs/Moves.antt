@@ -134,10 +134,12 @@ on_settled false here on = on
 -- the first op is taken out
 pub record TakesOp {D : Type 0} (place : Place) (flush : Bool) (old new : Parts D) : Type 0 where
   pub drive : new.drive ≡ old.drive
-  pub stock : new.stock ≡ record old.stock { layout = record old.stock.layout {
-    ops = drop 1 old.stock.layout.ops;
-    ip_on = cond (settles place flush) true old.stock.layout.ip_on;
-  } }
+  pub stock : new.stock ≡ record old.stock {
+    layout = record old.stock.layout {
+      ops = drop 1 old.stock.layout.ops;
+      ip_on = cond (settles place flush) true old.stock.layout.ip_on;
+    };
+  }
   pub on : new.on ≡ on_settled (settles place flush) (length old.listed.history) old.on
   pub events : new.trail.events ≡ old.trail.events ++ the_events.Worked place None ∷ []
   pub acks : new.trail.acks ≡ old.trail.acks
@@ -151,10 +153,12 @@ pub record TakesOp {D : Type 0} (place : Place) (flush : Bool) (old new : Parts 
 pub record FinishesOp {D : Type 0} (commands : ℕ) (op : Op) (tickets : List ℕ) (old new : Parts D) : Type 0 where
   pub drive : new.drive ≡ old.drive
   pub first : old.stock.layout.ops ≡ op ∷ new.stock.layout.ops
-  pub stock : new.stock ≡ record old.stock { layout = record old.stock.layout {
-    ops = new.stock.layout.ops;
-    ip_on = cond (settles_dp op) true old.stock.layout.ip_on;
-  } }
+  pub stock : new.stock ≡ record old.stock {
+    layout = record old.stock.layout {
+      ops = new.stock.layout.ops;
+      ip_on = cond (settles_dp op) true old.stock.layout.ip_on;
+    };
+  }
   pub on : new.on ≡ on_done op (length old.listed.history) old.on
   pub events : new.trail.events ≡ old.trail.events ++ the_events.Worked (place_of op) None ∷ synced_events tickets
   pub trail : IsTrail new.trail.events

@@ -1,7 +1,7 @@
 -- In which blocks the files stand that a mount tells of.
-use Rattle.std.specs.Prelude.{ℕ, zero, suc, ◌≡◌, ◌==◌, ◌<◌, ◌≤◌, Bool, true, false, cond, List, [], ◌∷◌, length, Option, Some, None}
+use Rattle.std.specs.Prelude.{ℕ, suc, ◌≡◌, ◌==◌, Bool, true, false, cond, List, [], ◌∷◌, Option, Some, None}
 use Rattle.std.specs.List.{find}
-use Rattle.std.proofs.Common.{refl, sym, ap, subst, ◌∙◌, arith}
+use Rattle.std.proofs.Common.{refl, subst}
 use Rattle.std.proofs.lemmas.Option.{slice_get_within}
 use Rattle.tape_types.specs.declared.cartridges.Part.{Part}
 use Rattle.index_model.specs.Places.{IsAt}
@@ -12,7 +12,6 @@ use Rattle.extent_map.specs.Blocks.{FileStandsIn}
 use Rattle.file_tree.specs.Blocks.{TreeStandsIn}
 use Rattle.file_tree.specs.Mounts.{IsKindOf, IsTreeOf, Stands, laid_of}
 use Rattle.file_tree.specs.Tree.{FileTree}
-use Rattle.file_tree.specs.declared.nodes.Node.{Node}
 use Rattle.volume_space.specs.Files.{laid_found, laid_node, letters, mounted_files}
 use Rattle.volume_space.specs.Mount.{MountFacts}
 
@@ -27,7 +26,8 @@ found_there p (first ∷ nodes) node is = by (p first) (found_there p nodes node
     by true behind e = (0, e)
     by false behind e = let later = behind e in (suc later.0, later.1)
 
-module _ (m : MountFacts) (t : FileTree) (is : IsTreeOf (letters m) m.label.block m.index t) (part : Part) (pos : ℕ) where
+module _ (m : MountFacts) (t : FileTree) (is : IsTreeOf (letters m) m.label.block m.index t) (part : Part)
+    (pos : ℕ) where
   -- a node of the tree that is told of as a file has its blocks
   in_node : (at : ℕ) (node : told.Node) (kind : told_kind.Kind) → node.kind ≡ kind
       → Stands (letters m) m.label.block m.index.nodes t.nodes at node → FileStandsIn (laid_node m kind) part pos

@@ -6,13 +6,12 @@ use Rattle.tape_types.specs.declared.cartridges.Limits.{Limits}
 use Rattle.tape_types.specs.declared.cartridges.Part.{Part}
 use Rattle.tape_types.specs.declared.cartridges.Part.TheVariants.{Dp, Ip}
 use Rattle.extent_map.specs.Cells.{Tape, byte_in, tape_of}
-use Rattle.file_tree.specs.Blocks.{AgreeBelow}
+use Rattle.file_tree.specs.Blocks.{AgreeBelow, LiesBelow}
 use Rattle.file_tree.specs.Mounts.{IsTreeOf}
 use Rattle.file_tree.specs.Tree.{plain_of, whole}
 use Rattle.ltfs_label.specs.declared.Label.{Label}
 use Rattle.tape_meaning.specs.Carried.{carried}
 use Rattle.tape_meaning.specs.Meaning.{Reads, dp_end, ip_end}
-use Rattle.tape_meaning.specs.Meaning as meaning
 use Rattle.tape_meaning.specs.Mounts.{Mounts}
 use Rattle.tape_meaning.specs.declared.mounted.Mounted.{Mounted}
 use Rattle.plain_tree.specs.Tree.{Tree}
@@ -36,8 +35,10 @@ cut_get (suc n) (x ∷ l) (suc i) less = cut_get n l i (omega (arith, less))
 -- below the ends the cartridge has what was mounted
 agrees : (c : Cartridge) (m : Mounted) → Mounts c m
     → AgreeBelow (ends_of (mounted_ends m)) (tape_of c) (tape_on (mounted_items c))
-agrees c m h Ip pos byte within = ap (λ o. byte_in o byte) (cut_get (ip_end c) c.ip pos (omega (arith, within, h.ip_end)))
-agrees c m h Dp pos byte within = ap (λ o. byte_in o byte) (cut_get (dp_end c) c.dp pos (omega (arith, within, h.dp_end)))
+agrees c m h Ip pos byte within =
+    ap (λ o. byte_in o byte) (cut_get (ip_end c) c.ip pos (omega (arith, within, h.ip_end)))
+agrees c m h Dp pos byte within =
+    ap (λ o. byte_in o byte) (cut_get (dp_end c) c.dp pos (omega (arith, within, h.dp_end)))
 
 -- what is planned, from what the drive told
 abbrev pub first_items : Option Cartridge → Mounted → Items
@@ -69,17 +70,19 @@ module _ (limits : Limits) (m : Mounted) (some : 1 ≤ m.label.block) (tree : Tr
   ends_are = ap (λ f. f.ends) mounted_is
 
   reads : (c : Cartridge) → Mounts c m → tree ≡ plain_of (tape_of c) s.tree → Reads c (carried m.index) tree m.newest
-  reads c h plain = record {
-    found = h.found;
-    facts_are = ap (λ index. carried index) h.index;
-    tree_is = (
-      s.tree,
-      subst (λ index. IsTreeOf (h.found.labels.ip.index, h.found.labels.ip.dpart) h.found.labels.ip.block index s.tree) h.index
-          (subst (λ (l : Label). IsTreeOf (l.index, l.dpart) l.block m.index s.tree) h.label is),
-      plain,
-    );
-    generation_is = h.newest;
-  }
+  reads c h plain =
+      let label = h.found.labels.ip in
+      let mounted = subst (λ (l : Label). IsTreeOf (l.index, l.dpart) l.block m.index s.tree) h.label is in
+      record {
+        found = h.found;
+        facts_are = ap (λ index. carried index) h.index;
+        tree_is = (
+          s.tree,
+          subst (λ index. IsTreeOf (label.index, label.dpart) label.block index s.tree) h.index mounted,
+          plain,
+        );
+        generation_is = h.newest;
+      }
 
   is_first_told : (c : Cartridge) → Mounts c m → tree ≡ plain_of (tape_of c) s.tree → IsFirst (Some c) m tree g s
   is_first_told c h plain = record {
@@ -100,7 +103,7 @@ module _ (limits : Limits) (m : Mounted) (some : 1 ≤ m.label.block) (tree : Tr
         ends = blank_ends m.label.block (mounted_ends m);
         stock = record {
           plain = blanks_are_whole (letters_of m) m.label.block m.index s.tree (mounted_ends m) some is
-              (subst (λ e. Rattle.file_tree.specs.Blocks.LiesBelow (ends_of e) s.tree) ends_are i.below)
+              (subst (λ e. LiesBelow (ends_of e) s.tree) ends_are i.below)
               ∙ i.plain;
           files = i.files;
           layout = i.layout;

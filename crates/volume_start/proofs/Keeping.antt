@@ -1,5 +1,5 @@
 -- A volume of which nothing was asked yet is kept, by the plan that is what stands on the cartridge.
-use Rattle.std.specs.Prelude.{ℕ, ◌≡◌, ◌≤◌, Option}
+use Rattle.std.specs.Prelude.{ℕ, ◌≤◌, Option}
 use Rattle.std.proofs.Common.{refl}
 use Rattle.tape_types.specs.declared.cartridges.Cartridge.{Cartridge}
 use Rattle.tape_types.specs.declared.moments.Moment.{Moment}
@@ -16,13 +16,14 @@ use Rattle.volume_order.specs.Kept.{seen}
 use Rattle.volume_order.proofs.BeginLaw.{volumes_begin}
 use Rattle.volume_truth.proofs.Waiting.{staying_gives}
 use Rattle.volume_crashes.specs.Laws.{CanServe}
-use Rattle.volume_crashes.specs.Safe.{Planned}
 use Rattle.volume_crashes.proofs.Begins.{starts_are_safe}
 use Rattle.volume_laws.specs.Kept.{IsKept, Plan}
 
 module _ {D : Type 0} (drive : Ghosts D)
-    (counts_now : (d : D) (t : ℕ) (image : Cartridge) → t ≤ drive.commands d → drive.leaves d image → drive.left_since d t image)
-    (fixed : Fixed D) (mounts : (can : CanServe drive fixed) → Mounts can.held fixed.mounted) (next : Option Moment) where
+    (counts_now : (d : D) (t : ℕ) (image : Cartridge) → t ≤ drive.commands d → drive.leaves d image
+    → drive.left_since d t image)
+    (fixed : Fixed D) (mounts : (can : CanServe drive fixed) → Mounts can.held fixed.mounted)
+    (next : Option Moment) where
   -- the last index of the data partition
   abbrev pub last_of : (can : CanServe drive fixed) → Index
   last_of can = (starts_are_safe drive counts_now fixed next can (mounts can)).0

@@ -9,7 +9,6 @@ use Rattle.std.proofs.lemmas.List.{get_or-replicate, length-replicate}
 use Rattle.std.proofs.lemmas.Nat.{mod_below}
 use Rattle.std.proofs.lemmas.Option.{slice_get-get_or}
 use Rattle.tape_types.specs.declared.cartridges.Extent.{Extent}
-use Rattle.tape_types.specs.declared.cartridges.Item.{Item}
 use Rattle.tape_types.specs.declared.cartridges.Item.TheVariants.{Block}
 use Rattle.tape_types.specs.declared.cartridges.Part.{Part}
 use Rattle.tape_types.specs.declared.cartridges.Part.TheVariants.{Dp, Ip}
@@ -36,6 +35,11 @@ use Rattle.volume_tape.specs.Planned.{Items, ends_in, tape_on}
 
 -- ---- what a tree reads
 
+-- each file has blocks of this size
+abbrev AreSized : ℕ → FileTree → Type 0
+AreSized size t = (path : Path) (node : Node) (room : Room) → fin.get t.nodes path ≡ Some node
+    → node.kind ≡ kinds.File room → room.laid.block_size ≡ size
+
 module _ (one other : Tape) (size : ℕ) (some : 1 ≤ size)
     (near : (part : Part) (pos byte : ℕ) → byte < size → one part pos byte ≡ other part pos byte) where
   same_cell : (e : Extent) (i : ℕ) → cell_of one size e i ≡ cell_of other size e i
@@ -54,8 +58,7 @@ module _ (one other : Tape) (size : ℕ) (some : 1 ≤ size)
       ∙ (λ i. map (λ at. same_cell_at f.extents at i) (range_with_len 0 f.length))
       ∙ ap (λ n. map (cell_at other n f.extents) (range_with_len 0 f.length)) (sym is)
 
-  module _ (t : FileTree) (sized : (path : Path) (node : Node) (room : Room) → fin.get t.nodes path ≡ Some node → node.kind ≡ kinds.File room
-      → room.laid.block_size ≡ size) where
+  module _ (t : FileTree) (sized : AreSized size t) where
     same_node : (path : Path) (node : Node) → fin.get t.nodes path ≡ Some node
         → plain_node_of one node ≡ plain_node_of other node
     same_node path node there =
@@ -64,13 +67,15 @@ module _ (one other : Tape) (size : ℕ) (some : 1 ≤ size)
         by : (kind : Kind) → node.kind ≡ kind → plain_kind_of one kind ≡ plain_kind_of other kind
         by kinds.Dir e = refl
         by (kinds.Link text) e = refl
-        by (kinds.File room) e = ap (λ cells. plain_kinds.File cells) (same_cells room.laid (sized path node room there e))
+        by (kinds.File room) e =
+            ap (λ cells. plain_kinds.File cells) (same_cells room.laid (sized path node room there e))
 
     same_at : (path : Path) → fin.get (plain_nodes one t.nodes) path ≡ fin.get (plain_nodes other t.nodes) path
     same_at path = plain_get one t.nodes path ∙ by (fin.get t.nodes path) refl ∙ sym (plain_get other t.nodes path)
       where
         by : (o : Option Node) → fin.get t.nodes path ≡ o
-            → option_map (plain_node_of one) (fin.get t.nodes path) ≡ option_map (plain_node_of other) (fin.get t.nodes path)
+            → option_map (plain_node_of one) (fin.get t.nodes path)
+            ≡ option_map (plain_node_of other) (fin.get t.nodes path)
         by o e = rw e (found o e)
           where
             found : (o : Option Node) → fin.get t.nodes path ≡ o
@@ -90,8 +95,8 @@ blanks size ends Dp = replicate ends.dp (Block (replicate size 0))
 
 pub blank_ends : (size : ℕ) (ends : layout.Ends) → ends_in (blanks size ends) ≡ ends
 blank_ends size ends =
-    let ip : length (replicate ends.ip (Block (replicate size 0))) ≡ ends.ip = length-replicate ends.ip (Block (replicate size 0)) in
-    let dp : length (replicate ends.dp (Block (replicate size 0))) ≡ ends.dp = length-replicate ends.dp (Block (replicate size 0)) in
+    let ip : length (blanks size ends Ip) ≡ ends.ip = length-replicate ends.ip (Block (replicate size 0)) in
+    let dp : length (blanks size ends Dp) ≡ ends.dp = length-replicate ends.dp (Block (replicate size 0)) in
     λ i. record { ip = ip i; dp = dp i }
 
 in_run : {X : Type 0} (n i : ℕ) (x : X) → i < n → slice_get (replicate n x) i ≡ Some x
@@ -114,7 +119,8 @@ zero_on size ends Dp pos byte within near = zero_there size ends.dp pos byte wit
 abbrev between : ℕ → layout.Ends → Tape
 between size ends part pos byte = cond (nat_lt byte size) (Some 0) (tape_on (blanks size ends) part pos byte)
 
-agree_below : (size : ℕ) (ends : layout.Ends) → AgreeBelow (ends_of ends) (between size ends) (tape_on (blanks size ends))
+agree_below : (size : ℕ) (ends : layout.Ends)
+    → AgreeBelow (ends_of ends) (between size ends) (tape_on (blanks size ends))
 agree_below size ends part pos byte within = by (nat_lt byte size) refl
   where
     less : nat_lt byte size ≡ true → byte < size
@@ -155,8 +161,7 @@ blanks_are_whole letters size index t ends some is below = sym (
     ∙ ends_hold.unseen (ends_of ends) (between size ends) (tape_on (blanks size ends)) t below (agree_below size ends)
     )
   where
-    sized : (path : Path) (node : Node) (room : Room) → fin.get t.nodes path ≡ Some node → node.kind ≡ kinds.File room
-        → room.laid.block_size ≡ size
+    sized : AreSized size t
     sized path node room there file =
         let told = told_at letters size index.nodes (length index.nodes) t.nodes is.nodes path node there in
         size_of letters size told.0.kind room (subst (IsKindOf letters size told.0.kind) file told.3.kind)

@@ -1,5 +1,5 @@
 -- How the parts of a volume begin that was mounted, and that they are kept and tied.
-use Rattle.std.specs.Prelude.{ℕ, ◌≡◌, [], Option, Some, None, IfSome, length}
+use Rattle.std.specs.Prelude.{◌≡◌, [], Option, Some, None, IfSome, length}
 use Rattle.tape_types.specs.Cartridges.{IsLimits}
 use Rattle.tape_types.specs.declared.cartridges.Cartridge.{Cartridge}
 use Rattle.tape_types.specs.declared.moments.Moment.{Moment}
@@ -25,8 +25,8 @@ abbrev pub first_tape : Option Cartridge → Tape
 first_tape (Some c) = tape_of c
 first_tape None = whole
 
--- Nothing was asked of these parts yet. What is held is what stands first, whatever tape the volume is served from; it is
--- the tree of the index that was mounted, and with the bytes that stand on tape it is the volume's.
+-- Nothing was asked of these parts yet. What is held is what stands first, whatever tape the volume is served from;
+-- it is the tree of the index that was mounted, and with the bytes that stand on tape it is the volume's.
 pub record IsFresh {D : Type 0} (drive : Ghosts D) (fixed : Fixed D) (p : Parts D) : Type 0 where
   pub drive_is : p.drive ≡ fixed.first
   pub events : p.trail.events ≡ []

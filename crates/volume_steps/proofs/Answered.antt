@@ -1,11 +1,10 @@
 -- Replies that come.
-use Rattle.std.specs.Prelude.{◌≡◌, ◌⊎◌, ◌==◌, ◌||◌, ℕ, zero, suc, ◌<◌, Bool, true, false, List, [], ◌∷◌, fold, length, Option, Some, None, slice_get, slice_set}
+use Rattle.std.specs.Prelude.{◌≡◌, ◌⊎◌, ◌==◌, ◌||◌, ℕ, zero, suc, ◌<◌, Bool, true, false, List, [], ◌∷◌, fold, length, Option, Some, None, slice_get}
 use Rattle.std.specs.List.{list_any}
-use Rattle.std.proofs.Common.{⊎_elim, inl, inr, refl, sym, ap, subst, ◌∙◌, arith, length-set}
+use Rattle.std.proofs.Common.{inl, inr, refl, sym, ap, subst, ◌∙◌, arith, length-set}
 use Rattle.std.proofs.lemmas.Bool.{both_ways, cases_Bool, eqb-true, eq-eqb, ne_eqb}
 use Rattle.plain_tree.specs.declared.calls.Answer.TheVariants as the_answers
 use Rattle.session_script.specs.declared.logs.Event.{Event}
-use Rattle.session_script.specs.declared.logs.Event.TheVariants.{Synced}
 use Rattle.session_script.specs.declared.logs.Reply.{Reply}
 use Rattle.session_script.specs.declared.logs.Reply.TheVariants as the_replies
 use Rattle.head_trail.specs.Waiting.{State}
@@ -15,13 +14,15 @@ use Rattle.volume_model.specs.Served.{AreWaiting, is_waiting}
 use Rattle.volume_order.specs.Sides.{IsBrought, IsReplied}
 use Rattle.volume_order.proofs.Lists.{at_within, some_same}
 use Rattle.volume_parts.specs.Stepping.{all_synced, replied, synced_events}
+use Rattle.volume_steps.proofs.Splits.{flip, or_false}
 
 abbrev pub synced : Reply
 synced = the_replies.Answer the_answers.Synced
 
 -- ---- one place more is replied to
 
-pub told_here : (told : List (Option Reply)) (t : ℕ) (reply : Reply) → t < length told → slice_get (replied t reply told) t ≡ Some (Some reply)
+pub told_here : (told : List (Option Reply)) (t : ℕ) (reply : Reply) → t < length told
+    → slice_get (replied t reply told) t ≡ Some (Some reply)
 told_here [] t reply less = absurd (omega (arith, less))
 told_here (x ∷ told) zero reply less = refl
 told_here (x ∷ told) (suc t) reply less = told_here told t reply (omega (arith, less))
@@ -29,7 +30,8 @@ told_here (x ∷ told) (suc t) reply less = told_here told t reply (omega (arith
 other_after : (k t : ℕ) → (suc k == suc t) ≡ false → (k == t) ≡ false
 other_after k t other = ne_eqb k t (λ same. both_ways (suc k == suc t) other (eq-eqb (suc k) (suc t) (ap suc same)))
 
-pub told_else : (told : List (Option Reply)) (t k : ℕ) (reply : Reply) → (k == t) ≡ false → slice_get (replied t reply told) k ≡ slice_get told k
+pub told_else : (told : List (Option Reply)) (t k : ℕ) (reply : Reply) → (k == t) ≡ false
+    → slice_get (replied t reply told) k ≡ slice_get told k
 told_else [] t k reply other = refl
 told_else (x ∷ told) zero zero reply other = absurd (both_ways (0 == 0) other (eq-eqb 0 0 refl))
 told_else (x ∷ told) zero (suc k) reply other = refl
@@ -43,7 +45,8 @@ none_some : (reply : Reply) → Some None ≡ Some (Some reply) → ⊥
 none_some reply e = cc
 
 -- who has its reply waits no more
-pub rests : (st : State) (told : List (Option Reply)) (k : ℕ) (reply : Reply) → AreWaiting st told → slice_get told k ≡ Some (Some reply) → is_waiting st k ≡ false
+pub rests : (st : State) (told : List (Option Reply)) (k : ℕ) (reply : Reply) → AreWaiting st told
+    → slice_get told k ≡ Some (Some reply) → is_waiting st k ≡ false
 rests st told k reply are is = by (cases_Bool (is_waiting st k))
   where
     by : (is_waiting st k ≡ true) ⊎ (is_waiting st k ≡ false) → is_waiting st k ≡ false
@@ -56,8 +59,10 @@ pub record Brings (st : State) (added : List Event) (told : List (Option Reply))
   pub gives : IsReplied st added t reply
   pub others : (k : ℕ) → (k == t) ≡ false → is_waiting (fold after st added) k ≡ is_waiting st k
 
-pub one_brought : (st : State) (added : List Event) (told : List (Option Reply)) (t : ℕ) (reply : Reply) → AreWaiting st told → Brings st added told t reply
-    → (k : ℕ) (came : Option Reply) → slice_get told k ≡ Some None → slice_get (replied t reply told) k ≡ Some came → IsBrought st added k came
+pub one_brought : (st : State) (added : List Event) (told : List (Option Reply)) (t : ℕ) (reply : Reply)
+    → AreWaiting st told → Brings st added told t reply
+    → (k : ℕ) (came : Option Reply) → slice_get told k ≡ Some None → slice_get (replied t reply told) k ≡ Some came
+    → IsBrought st added k came
 one_brought st added told t reply are b k came was is = by (k == t) refl
   where
     by : (same : Bool) → (k == t) ≡ same → IsBrought st added k came
@@ -78,7 +83,8 @@ one_kept st told t reply waited k was is = by (k == t) refl
     by false other = told_else told t k reply other ∙ is
 
 -- which reply it is that came
-pub one_came : (told : List (Option Reply)) (t : ℕ) (reply : Reply) (k : ℕ) (came : Reply) → slice_get told t ≡ Some None → slice_get told k ≡ Some None
+pub one_came : (told : List (Option Reply)) (t : ℕ) (reply : Reply) (k : ℕ) (came : Reply)
+    → slice_get told t ≡ Some None → slice_get told k ≡ Some None
     → slice_get (replied t reply told) k ≡ Some (Some came) → (k ≡ t) × (reply ≡ came)
 one_came told t reply k came waited was is = by (k == t) refl
   where
@@ -94,7 +100,8 @@ one_came told t reply k came waited was is = by (k == t) refl
 -- no reply comes
 pub none_brought : (st : State) (added : List Event) (told : List (Option Reply)) → AreWaiting st told
     → ((k : ℕ) → is_waiting st k ≡ true → is_waiting (fold after st added) k ≡ true)
-    → (k : ℕ) (came : Option Reply) → slice_get told k ≡ Some None → slice_get told k ≡ Some came → IsBrought st added k came
+    → (k : ℕ) (came : Option Reply) → slice_get told k ≡ Some None → slice_get told k ≡ Some came
+    → IsBrought st added k came
 none_brought st added told are still k came was is =
     subst (IsBrought st added k) (some_same None came (sym was ∙ is)) (still k (are.none_yet k was))
 
@@ -104,21 +111,16 @@ pub all_count : (tickets : List ℕ) (told : List (Option Reply)) → length (al
 all_count [] told = refl
 all_count (t ∷ tickets) told = all_count tickets (replied t synced told) ∙ told_count told t synced
 
-or_false : (a b : Bool) → (a || b) ≡ false → (a ≡ false) × (b ≡ false)
-or_false true b h = absurd (cc)
-or_false false b h = (refl, h)
-
-flip : (k t : ℕ) → (t == k) ≡ false → (k == t) ≡ false
-flip k t other = ne_eqb k t (λ same. both_ways (t == k) other (eq-eqb t k (sym same)))
-
-pub synced_else : (tickets : List ℕ) (told : List (Option Reply)) (k : ℕ) → list_any (answers k) (synced_events tickets) ≡ false
+pub synced_else : (tickets : List ℕ) (told : List (Option Reply)) (k : ℕ)
+    → list_any (answers k) (synced_events tickets) ≡ false
     → slice_get (all_synced tickets told) k ≡ slice_get told k
 synced_else [] told k none = refl
 synced_else (t ∷ tickets) told k none =
     let parts = or_false (t == k) (list_any (answers k) (synced_events tickets)) none in
-    synced_else tickets (replied t synced told) k parts.1 ∙ told_else told t k synced (flip k t parts.0)
+    synced_else tickets (replied t synced told) k parts.1 ∙ told_else told t k synced (flip t k parts.0)
 
-pub synced_here : (tickets : List ℕ) (told : List (Option Reply)) (k : ℕ) → k < length told → list_any (answers k) (synced_events tickets) ≡ true
+pub synced_here : (tickets : List ℕ) (told : List (Option Reply)) (k : ℕ) → k < length told
+    → list_any (answers k) (synced_events tickets) ≡ true
     → slice_get (all_synced tickets told) k ≡ Some (Some synced)
 synced_here [] told k less has = absurd (cc)
 synced_here (t ∷ tickets) told k less has = by (cases_Bool (list_any (answers k) (synced_events tickets))) (λ later. synced_here tickets (replied t synced told) k (omega (arith, less, told_count told t synced)) later)
@@ -133,4 +135,5 @@ synced_here (t ∷ tickets) told k less has = by (cases_Bool (list_any (answers 
     by (inl later) more = more later
     by (inr none) more =
         let at : t ≡ k = eqb-true t k (first (t == k) (list_any (answers k) (synced_events tickets)) has none) in
-        synced_else tickets (replied t synced told) k none ∙ subst (λ n. slice_get (replied t synced told) n ≡ Some (Some synced)) at (told_here told t synced (omega (arith, less, at)))
+        synced_else tickets (replied t synced told) k none
+        ∙ subst (λ n. slice_get (replied t synced told) n ≡ Some (Some synced)) at (told_here told t synced (omega (arith, less, at)))

@@ -13,14 +13,13 @@ use Rattle.tape_types.specs.declared.cartridges.Place.{Place}
 use Rattle.tape_types.specs.declared.moments.Moment.{Moment}
 use Rattle.tape_drive.specs.declared.drive.Drive.{Ghosts}
 use Rattle.head_core.specs.Steps.{CanDo, IsInReach}
-use Rattle.head_queue.specs.Queued.{requests}
-use Rattle.head_queue.specs.Waiting.{Waiting, request}
+use Rattle.head_queue.specs.Waiting.{request}
 use Rattle.head_trail.specs.Waiting as waiting
 use Rattle.head_trail.specs.Waiting.{Request, State, Waiter, first_of, is_calm, waiting_op}
-use Rattle.tape_layout.specs.Ops.{AreNext, HasRoom, end_of, place_of}
+use Rattle.tape_layout.specs.Ops.{HasRoom, end_of, place_of}
 use Rattle.tape_layout.specs.declared.ops.Op.{Op}
 use Rattle.tape_layout.specs.declared.ops.Op.TheVariants.{Flush, Mark, Put}
-use Rattle.volume_model.specs.Served.{AreWaiting, Fixed, View, headed, is_waiting}
+use Rattle.volume_model.specs.Served.{Fixed, headed, is_waiting}
 use Rattle.volume_crashes.specs.Safe.{items_by}
 use Rattle.volume_journal.specs.Trails.{due_ticket, first_waiter, longest, state}
 use Rattle.volume_journal.specs.declared.trails.Waiter.TheVariants as waiters
@@ -39,7 +38,8 @@ use Rattle.volume_steps.proofs.Splits.{all_mid, any_in, any_mid, first_read}
 -- ---- what waits
 
 -- a sync that waits is the first, or there is one before it
-one_waits : (k : ℕ) (syncs : List Waiter) → list_any (λ (s : Waiter). s.ticket == k) syncs ≡ true → (s : Waiter) × (more : List Waiter) × (syncs ≡ s ∷ more)
+one_waits : (k : ℕ) (syncs : List Waiter) → list_any (λ (s : Waiter). s.ticket == k) syncs ≡ true
+    → (s : Waiter) × (more : List Waiter) × (syncs ≡ s ∷ more)
 one_waits k [] h = absurd (cc)
 one_waits k (s ∷ more) h = (s, more, refl)
 
@@ -47,27 +47,33 @@ not_calm : (st : State) (s : Waiter) (more : List Waiter) → st.syncs ≡ s ∷
 not_calm st s more is = ap (λ (l : List Waiter). length l == 0 && length st.drains == 0) is
     ∙ ap (λ b. b && length st.drains == 0) (ne_eqb (length (s ∷ more)) 0 (λ e. omega (arith, e)))
 
-some_first : (st : State) (standing : List Op) (op : Op) (later : List Op) → is_calm st ≡ false → map headed standing ≡ waiting.ops st → standing ≡ op ∷ later
+some_first : (st : State) (standing : List Op) (op : Op) (later : List Op) → is_calm st ≡ false
+    → map headed standing ≡ waiting.ops st → standing ≡ op ∷ later
     → waiting_op st ≡ Some (headed op)
 some_first st standing op later calm is first =
     ap (λ b. cond b None (first_of (waiting.ops st))) calm ∙ ap first_of (sym is ∙ ap (map headed) first)
 
-first_stands : (st : State) (standing : List Op) (s : Waiter) (more : List Waiter) → 1 ≤ length (waiting.ops st) → st.syncs ≡ s ∷ more
-    → map headed standing ≡ waiting.ops st → (op : Op) × (later : List Op) × (standing ≡ op ∷ later) × (waiting_op st ≡ Some (headed op))
+first_stands : (st : State) (standing : List Op) (s : Waiter) (more : List Waiter) → 1 ≤ length (waiting.ops st)
+    → st.syncs ≡ s ∷ more
+    → map headed standing ≡ waiting.ops st
+    → (op : Op) × (later : List Op) × (standing ≡ op ∷ later) × (waiting_op st ≡ Some (headed op))
 first_stands st [] s more some syncs is = absurd (omega (arith, some, ap length is))
 first_stands st (op ∷ later) s more some syncs is =
     (op, later, refl, some_first st (op ∷ later) op later (not_calm st s more syncs) is refl)
 
-waits_no_block : (st : State) (k : ℕ) → st.requests ≡ [] → is_waiting st k ≡ true → list_any (λ (s : Waiter). s.ticket == k) st.syncs ≡ true
+waits_no_block : (st : State) (k : ℕ) → st.requests ≡ [] → is_waiting st k ≡ true
+    → list_any (λ (s : Waiter). s.ticket == k) st.syncs ≡ true
 waits_no_block st k none h = sym (ap (λ (l : List Request). list_any (λ (r : Request). r.ticket == k) l || list_any (λ (s : Waiter). s.ticket == k) st.syncs) none) ∙ h
 
-some_waits : (st : State) (standing : List Op) (k : ℕ) → AreDue st → due_ticket st ≡ None → map headed standing ≡ waiting.ops st → st.requests ≡ [] → is_waiting st k ≡ true
+some_waits : (st : State) (standing : List Op) (k : ℕ) → AreDue st → due_ticket st ≡ None
+    → map headed standing ≡ waiting.ops st → st.requests ≡ [] → is_waiting st k ≡ true
     → (op : Op) × (later : List Op) × (standing ≡ op ∷ later) × (waiting_op st ≡ Some (headed op))
 some_waits st standing k due none is asked h =
     let one = one_waits k st.syncs (waits_no_block st k asked h) in
     first_stands st standing one.0 one.1 (some_stand st one.0 one.1 due none one.2) one.2 is
 
-calm_or_first : (st : State) (standing : List Op) (op : Op) (later : List Op) → map headed standing ≡ waiting.ops st → standing ≡ op ∷ later
+calm_or_first : (st : State) (standing : List Op) (op : Op) (later : List Op) → map headed standing ≡ waiting.ops st
+    → standing ≡ op ∷ later
     → (is_calm st ≡ true) ⊎ (is_calm st ≡ false) → (is_calm st ≡ true) ⊎ (waiting_op st ≡ Some (headed op))
 calm_or_first st standing op later is first (inl calm) = inl calm
 calm_or_first st standing op later is first (inr calm) = inr (some_first st standing op later calm is first)
@@ -76,10 +82,12 @@ by_none : (b : Bool) (o : Option waiting.Op) → o ≡ None → cond b None o �
 by_none true o e = refl
 by_none false o e = e
 
-none_waits : (st : State) (standing : List Op) → map headed standing ≡ waiting.ops st → standing ≡ [] → waiting_op st ≡ None
+none_waits : (st : State) (standing : List Op) → map headed standing ≡ waiting.ops st → standing ≡ []
+    → waiting_op st ≡ None
 none_waits st standing is none = by_none (is_calm st) (first_of (waiting.ops st)) (ap first_of (sym is ∙ ap (map headed) none))
 
-sync_waits : (st : State) (syncs : List Waiter) (drains : List ℕ) (ticket : ℕ) → longest syncs drains ≡ Some (waiters.Sync ticket) → list_any (λ (s : Waiter). s.ticket == ticket) syncs ≡ true
+sync_waits : (st : State) (syncs : List Waiter) (drains : List ℕ) (ticket : ℕ)
+    → longest syncs drains ≡ Some (waiters.Sync ticket) → list_any (λ (s : Waiter). s.ticket == ticket) syncs ≡ true
 sync_waits st (s ∷ more) drains ticket e =
     let same : s.ticket ≡ ticket = cc in or_left (s.ticket == ticket) (list_any (λ (s : Waiter). s.ticket == ticket) more) (eq-eqb s.ticket ticket same)
 sync_waits st [] (who ∷ more) ticket e = absurd (cc)
@@ -97,7 +105,8 @@ least : (part : Part) (limits : Limits) → IsLimits limits → capacity part li
 least Ip limits l = l.ip_most
 least Dp limits l = l.dp_most
 
-op_before : (planned : Items) (op : Op) (later : List Op) (p : IsPlan planned (op ∷ later)) → (place_of op).pos ≤ end_of (place_of op).part (ends_in planned)
+op_before : (planned : Items) (op : Op) (later : List Op) (p : IsPlan planned (op ∷ later))
+    → (place_of op).pos ≤ end_of (place_of op).part (ends_in planned)
 op_before planned op later p =
     let part = (place_of op).part in
     omega (arith, first_at op later p.made p.next, end_is part planned, ap length (p.leads part), length-append (p.made part) (items_by part (op ∷ later)))
@@ -158,7 +167,8 @@ module _ {D : Type 0} (drive : Ghosts D) (fixed : Fixed D) (plan : Plan drive fi
         (ap (list_any (λ (q : Request). q.ticket == ticket)) asked_are
         ∙ any_mid (λ (q : Request). q.ticket == ticket) (map request r.front) (request r.one) (map request r.behind) (eq-eqb r.one.owner ticket r.owner_is)))
 
-  sync_unanswered : (ticket : ℕ) → first_waiter st ≡ Some (waiters.Sync ticket) → slice_get p.listed.replies ticket ≡ Some None
+  sync_unanswered : (ticket : ℕ) → first_waiter st ≡ Some (waiters.Sync ticket)
+      → slice_get p.listed.replies ticket ≡ Some None
   sync_unanswered ticket e = kept.order.orderly.waiting.waits ticket
       (or_right (list_any (λ (q : Request). q.ticket == ticket) st.requests) (list_any (λ (s : Waiter). s.ticket == ticket) st.syncs)
       (sync_waits st st.syncs st.drains ticket e))

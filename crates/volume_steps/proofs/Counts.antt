@@ -1,7 +1,6 @@
 -- What a step of the head counts.
-use Rattle.std.specs.Prelude.{◌≡◌, ◌⊎◌, ℕ, ◌+◌, ◌*◌, ◌-◌, ◌^◌, ◌≤◌, min, List, Option, Some, None}
+use Rattle.std.specs.Prelude.{◌≡◌, ℕ, ◌+◌, ◌*◌, ◌-◌, ◌^◌, ◌≤◌, min, List}
 use Rattle.std.proofs.Common.{arith, mul-le-mul_right}
-use Rattle.std.proofs.lemmas.Bool.Decides.{nat_tests}
 use Rattle.tape_types.specs.declared.cartridges.Place.{Place}
 use Rattle.tape_drive.specs.declared.drive.Drive.{Ghosts}
 use Rattle.session_script.specs.declared.logs.Event.{Event}
@@ -37,7 +36,8 @@ times : (a b n : ℕ) → a ≤ b → a * n ≤ b * n
 times a b n le = mul-le-mul_right n le
 
 pub step_counts : {D : Type 0} (drive : Ghosts D) (at : Place) (most : ℕ) (end : StepDone) (before now : D) (old new : View D) (added : List Event)
-    → IsMade drive at most end before now → most ≤ 2 → steps added ≡ 1 → StepCounts drive.MOST (seen drive before) (seen drive now) old new added
+    → IsMade drive at most end before now → most ≤ 2 → steps added ≡ 1
+    → StepCounts drive.MOST (seen drive before) (seen drive now) old new added
 step_counts drive at most end before now old new added made le one = record {
   still = λ none. absurd (omega (arith, one, none));
   later = made.commands.later;

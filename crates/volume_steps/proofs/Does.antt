@@ -1,11 +1,10 @@
 -- A step that did the first op.
-use Rattle.std.specs.Prelude.{◌≡◌, ◌⊎◌, ◌&&◌, ◌||◌, ◌==◌, ℕ, ◌≤◌, ◌<◌, Bool, true, false, cond, drop, suc, List, [], ◌∷◌, ◌++◌, All, filter_map, fold, length, map, Option, Some, None, IfSome, slice_get}
+use Rattle.std.specs.Prelude.{◌≡◌, ◌⊎◌, ◌||◌, ℕ, ◌<◌, Bool, true, false, cond, drop, suc, List, [], ◌∷◌, ◌++◌, All, fold, length, map, Option, Some, None, IfSome, slice_get}
 use Rattle.std.specs.List.{list_all, list_any}
-use Rattle.std.specs.Option.{option_to_list}
-use Rattle.std.proofs.Common.{⊎_elim, inl, inr, refl, sym, ap, subst, ◌∙◌, arith, append-nil}
-use Rattle.std.proofs.lemmas.Bool.{both_ways, cases_Bool, or_right}
+use Rattle.std.proofs.Common.{inl, inr, refl, sym, ap, subst, ◌∙◌, arith, append-nil}
+use Rattle.std.proofs.lemmas.Bool.{both_ways, cases_Bool}
 use Rattle.std.proofs.lemmas.List.Elements.{All-cons}
-use Rattle.tape_types.specs.Cartridges.{items_of, next}
+use Rattle.tape_types.specs.Cartridges.{next}
 use Rattle.tape_types.specs.Counts.{IsRise}
 use Rattle.tape_types.specs.declared.cartridges.Cartridge.{Cartridge}
 use Rattle.tape_types.specs.declared.cartridges.Part.TheVariants.{Dp}
@@ -24,7 +23,7 @@ use Rattle.session_script.specs.declared.logs.Reply.{Reply}
 use Rattle.session_script.specs.declared.logs.Reply.TheVariants as the_replies
 use Rattle.head_core.specs.Steps.{most_commands}
 use Rattle.head_core.specs.declared.work.StepDone.{StepDone}
-use Rattle.head_trail.specs.Trail.{IsTrail, after, after_all, fault_of, is_trail_from, of_call, step_to, steps}
+use Rattle.head_trail.specs.Trail.{IsTrail, after, after_all, is_trail_from, of_call, steps}
 use Rattle.head_trail.specs.Waiting as waiting
 use Rattle.head_trail.specs.Waiting.{State, first_of, same_part, waiting_op}
 use Rattle.tape_layout.specs.Ops.{place_of}
@@ -32,10 +31,10 @@ use Rattle.tape_layout.specs.declared.ops.Op.{Op}
 use Rattle.volume_space.specs.Standing.{Given, Standing, is_on, standing}
 use Rattle.volume_model.specs.Acks.{answers, synced_places}
 use Rattle.volume_model.specs.Served.{Fixed, View, given, headed, is_flush, is_waiting}
-use Rattle.volume_model.specs.Steps.{HeadIsBehind, HeadIsRead, IsOnTape, KeepsReplies, StepsOnce, does_dp_flush, drain_faults, item_of, on_after, one_step}
-use Rattle.volume_model.specs.Submits.{Adds, acks_for}
+use Rattle.volume_model.specs.Steps.{HeadIsBehind, HeadIsRead, IsOnTape, StepsOnce, does_dp_flush, item_of, on_after, one_step}
+use Rattle.volume_model.specs.Submits.{Adds}
 use Rattle.volume_order.specs.Kept.{seen}
-use Rattle.volume_order.specs.Sides.{IsBrought, IsReplied, TurnsInOrder}
+use Rattle.volume_order.specs.Sides.{IsBrought, TurnsInOrder}
 use Rattle.volume_order.proofs.Apart.{still_untouched}
 use Rattle.volume_order.proofs.Frames.{is_turning, no_step_no_fault, syncs_it, wants_it, worked_stays}
 use Rattle.volume_order.proofs.Lists.{at_within, some_same}
@@ -47,7 +46,7 @@ use Rattle.volume_truth.specs.Within.{AnswersTruly, IsAnswerAt}
 use Rattle.volume_truth.proofs.Happened.{trail_behind}
 use Rattle.volume_stock.specs.Stocks.{IsStock}
 use Rattle.volume_journal.specs.Trails.{due_ticket, state}
-use Rattle.volume_laws.specs.Kept.{CanRead, IsKept, Plan}
+use Rattle.volume_laws.specs.Kept.{IsKept, Plan}
 use Rattle.volume_tape.specs.Planned.{IsOnWay, IsPlan, Items, ends_in, tape_on}
 use Rattle.volume_tape.proofs.Plans.{plans_hold}
 use Rattle.volume_tape.proofs.Tells.{tapes_tell}
@@ -74,7 +73,8 @@ head_by : (o : Option waiting.Op) (t : ℕ) (head : Option Place) → HeadIsBehi
 head_by None t head = tt
 head_by (Some op) t head = tt
 
-on_tape_by : (held : Option Cartridge) (P : Cartridge → Type 0) → ((c : Cartridge) → held ≡ Some c → P c) → IfSome held P
+on_tape_by : (held : Option Cartridge) (P : Cartridge → Type 0) → ((c : Cartridge) → held ≡ Some c → P c)
+    → IfSome held P
 on_tape_by None P h = tt
 on_tape_by (Some c) P h = h c refl
 
@@ -94,11 +94,13 @@ flushes o op tickets is =
     ap (λ (x : Option waiting.Op). list_any (does_dp_flush x) (Worked (place_of op) None ∷ synced_events tickets)) is
     ∙ or_none (settles_dp op) (list_any (does_dp_flush (Some (headed op))) (synced_events tickets)) (no_flush (Some (headed op)) tickets)
 
-on_is : {D : Type 0} (old : View D) (op : Op) (added : List Event) → list_any (does_dp_flush (waiting_op (after_all old.events))) added ≡ settles_dp op
+on_is : {D : Type 0} (old : View D) (op : Op) (added : List Event)
+    → list_any (does_dp_flush (waiting_op (after_all old.events))) added ≡ settles_dp op
     → on_done op (length old.history) old.on ≡ on_after old added
 on_is old op added is = by old.on refl
   where
-    none : (b : Bool) → settles_dp op ≡ b → old.on ≡ None → cond (settles_dp op) (Some (length old.history)) None ≡ on_after old added
+    none : (b : Bool) → settles_dp op ≡ b → old.on ≡ None
+        → cond (settles_dp op) (Some (length old.history)) None ≡ on_after old added
     none true s e = ap (λ b. cond b (Some (length old.history)) None) s ∙ sym (on_turned old added e (is ∙ s))
     none false s e = ap (λ b. cond b (Some (length old.history)) None) s ∙ sym (on_never old added e (is ∙ s))
 
@@ -180,7 +182,8 @@ module _ {D : Type 0} (drive : Ghosts D) (fixed : Fixed D) (plan : Plan drive fi
   turns : list_all is_turning added ≡ true
   turns = all_turn added (one_step (Worked (place_of op) None) (synced_events tickets) refl (synced_answers tickets))
 
-  keeps : (k : ℕ) (reply : Reply) → slice_get old.listed.replies k ≡ Some (Some reply) → slice_get (all_synced tickets old.listed.replies) k ≡ Some (Some reply)
+  keeps : (k : ℕ) (reply : Reply) → slice_get old.listed.replies k ≡ Some (Some reply)
+      → slice_get (all_synced tickets old.listed.replies) k ≡ Some (Some reply)
   keeps k reply is =
       synced_else tickets old.listed.replies k
       (unanswered st added k trail turns (rests st old.listed.replies k reply kept.order.orderly.waiting is)) ∙ is
@@ -191,15 +194,18 @@ module _ {D : Type 0} (drive : Ghosts D) (fixed : Fixed D) (plan : Plan drive fi
       ap (λ l. list_any (wants_it k) l || list_any (syncs_it k) (after st (Worked (place_of op) None)).syncs) stays.requests
       ∙ ap (λ l. list_any (wants_it k) st.requests || list_any (syncs_it k) l) stays.syncs
 
-  answered_rests : (k : ℕ) → list_any (answers k) (synced_events tickets) ≡ true → is_waiting (fold after st added) k ≡ false
+  answered_rests : (k : ℕ) → list_any (answers k) (synced_events tickets) ≡ true
+      → is_waiting (fold after st added) k ≡ false
   answered_rests k has = by (cases_Bool (is_waiting (fold after st added) k))
     where
-      by : (is_waiting (fold after st added) k ≡ true) ⊎ (is_waiting (fold after st added) k ≡ false) → is_waiting (fold after st added) k ≡ false
+      by : (is_waiting (fold after st added) k ≡ true) ⊎ (is_waiting (fold after st added) k ≡ false)
+          → is_waiting (fold after st added) k ≡ false
       by (inr rests) = rests
       by (inl waits) = absurd (both_ways (list_any (answers k) added)
           (still_untouched st (synced_places old.listed.replies) added k kept.order.apart kept.order.rising trail turns waits).unanswered has)
 
-  brought : (k : ℕ) (reply : Option Reply) → slice_get old.listed.replies k ≡ Some None → slice_get (all_synced tickets old.listed.replies) k ≡ Some reply
+  brought : (k : ℕ) (reply : Option Reply) → slice_get old.listed.replies k ≡ Some None
+      → slice_get (all_synced tickets old.listed.replies) k ≡ Some reply
       → IsBrought st added k reply
   brought k reply was is = by (cases_Bool (list_any (answers k) (synced_events tickets)))
     where
@@ -264,8 +270,10 @@ module _ {D : Type 0} (drive : Ghosts D) (fixed : Fixed D) (plan : Plan drive fi
   }
 
   -- a sync is answered as the tree answers it
-  came : (k : ℕ) (p : Placed) (call : Call) (reply : Reply) → slice_get old.listed.history k ≡ Some p → call_at (given before (seen drive fixed.first)).calls p ≡ Some call
-      → slice_get old.listed.replies k ≡ Some None → slice_get (all_synced tickets old.listed.replies) k ≡ Some (Some reply)
+  came : (k : ℕ) (p : Placed) (call : Call) (reply : Reply) → slice_get old.listed.history k ≡ Some p
+      → call_at (given before (seen drive fixed.first)).calls p ≡ Some call
+      → slice_get old.listed.replies k ≡ Some None
+      → slice_get (all_synced tickets old.listed.replies) k ≡ Some (Some reply)
       → IsAnswerAt (given before (seen drive fixed.first)) old.on old.listed.history (old.trail.events ++ added) k call reply
   came k p call reply at is was there = by (cases_Bool (list_any (answers k) (synced_events tickets)))
     where

@@ -3,7 +3,6 @@ use Rattle.std.specs.Prelude.{◌≡◌, ◌==◌, not, ℕ, ◌+◌, ◌≤◌,
 use Rattle.std.proofs.Common.{refl, sym, ap, ◌∙◌, arith, length-append}
 use Rattle.std.proofs.lemmas.Bool.Decides.{nat_tests}
 use Rattle.tape_types.specs.declared.cartridges.Place.{Place}
-use Rattle.tape_types.specs.declared.cartridges.Twin.{Twin}
 use Rattle.session_script.specs.declared.logs.Event.{Event}
 use Rattle.session_script.specs.declared.logs.Event.TheVariants.{Wants, Queues, Syncs, Synced, Drains, Rests, Served, Worked}
 use Rattle.head_trail.specs.Trail.{after, after_all, after_op, without_first_waiter}
@@ -18,7 +17,8 @@ DueWithin low high (s ∷ syncs) = (low ≤ s.due) × (s.due ≤ high) × DueWit
 abbrev pub AreDue : State → Type 0
 AreDue st = DueWithin 0 (st.done + length st.ended) st.syncs
 
-later_end : (low high more : ℕ) (syncs : List Waiter) → high ≤ more → DueWithin low high syncs → DueWithin low more syncs
+later_end : (low high more : ℕ) (syncs : List Waiter) → high ≤ more → DueWithin low high syncs
+    → DueWithin low more syncs
 later_end low high more [] le d = tt
 later_end low high more (s ∷ syncs) le d = (d.0, omega (arith, le, d.1), later_end s.due high more syncs le d.2)
 
@@ -31,18 +31,21 @@ one_more : (low high : ℕ) (syncs : List Waiter) (w : Waiter) → low ≤ high 
 one_more low high [] w le at d = (omega (arith, le, at), omega arith, tt)
 one_more low high (s ∷ syncs) w le at d = (d.0, omega (arith, d.1, at), one_more s.due high syncs w d.1 at d.2)
 
-some_by : (b : Bool) (low high : ℕ) (s : Waiter) (rest : List Waiter) → low ≤ s.due → s.due ≤ high → DueWithin s.due high rest
+some_by : (b : Bool) (low high : ℕ) (s : Waiter) (rest : List Waiter) → low ≤ s.due → s.due ≤ high
+    → DueWithin s.due high rest
     → DueWithin low high (cond b (s ∷ rest) rest)
 some_by true low high s rest le at d = (le, at, d)
 some_by false low high s rest le at d = earlier low s.due high rest le d
 
-some_of : (p : Waiter → Bool) (low high : ℕ) (syncs : List Waiter) → DueWithin low high syncs → DueWithin low high (filter p syncs)
+some_of : (p : Waiter → Bool) (low high : ℕ) (syncs : List Waiter) → DueWithin low high syncs
+    → DueWithin low high (filter p syncs)
 some_of p low high [] d = tt
 some_of p low high (s ∷ syncs) d = some_by (p s) low high s (filter p syncs) d.0 d.1 (some_of p s.due high syncs d.2)
 
 -- ---- as events come
 
-synced_more : (done : ℕ) (ended more : List Op) (syncs : List Waiter) (ticket : ℕ) → DueWithin 0 (done + length ended) syncs
+synced_more : (done : ℕ) (ended more : List Op) (syncs : List Waiter) (ticket : ℕ)
+    → DueWithin 0 (done + length ended) syncs
     → DueWithin 0 (done + length (ended ++ more)) (syncs ++ record { ticket = ticket; due = done + length (ended ++ more) } ∷ [])
 synced_more done ended more syncs ticket d =
     one_more 0 (done + length ended) syncs (record { ticket = ticket; due = done + length (ended ++ more) })
@@ -94,12 +97,14 @@ is_late done s more e = let late = by_late (nat_le s.due done) s.ticket e in gri
 late_is : (done due : ℕ) → done < due → nat_le due done ≡ false
 late_is done due less = grind (arith, nat_tests)
 
-pub none_due : (done low high : ℕ) (syncs : List Waiter) → done < low → DueWithin low high syncs → due_of done syncs ≡ None
+pub none_due : (done low high : ℕ) (syncs : List Waiter) → done < low → DueWithin low high syncs
+    → due_of done syncs ≡ None
 none_due done low high [] less d = refl
 none_due done low high (s ∷ syncs) less d = ap (λ b. cond b (Some s.ticket) None) (late_is done s.due (omega (arith, less, d.0)))
 
 -- where a sync waits an op stands
-pub some_stand : (st : State) (s : Waiter) (more : List Waiter) → AreDue st → due_ticket st ≡ None → st.syncs ≡ s ∷ more → 1 ≤ length (ops st)
+pub some_stand : (st : State) (s : Waiter) (more : List Waiter) → AreDue st → due_ticket st ≡ None
+    → st.syncs ≡ s ∷ more → 1 ≤ length (ops st)
 some_stand st s more d none is =
     let high : DueWithin 0 (st.done + length st.ended) (s ∷ more) = Rattle.std.proofs.Common.subst (DueWithin 0 (st.done + length st.ended)) is d in
     let late = is_late st.done s more (sym (ap (due_of st.done) is) ∙ none) in

@@ -1,8 +1,8 @@
 -- A step in which the first op failed.
-use Rattle.std.specs.Prelude.{◌≡◌, ◌⊎◌, ◌==◌, ◌||◌, ℕ, ◌+◌, Bool, true, false, cond, drop, List, [], ◌∷◌, ◌++◌, All, Contains, fold, length, map, Option, Some, None, IfSome, slice_get}
+use Rattle.std.specs.Prelude.{◌≡◌, ◌==◌, ◌||◌, ℕ, ◌+◌, true, false, cond, drop, List, [], ◌∷◌, ◌++◌, Contains, length, Option, Some, None, slice_get}
 use Rattle.std.specs.List.{cons_option, list_any}
-use Rattle.std.proofs.Common.{⊎_elim, inl, inr, refl, sym, ap, subst, ◌∙◌, arith, append-nil}
-use Rattle.std.proofs.lemmas.Bool.{both_ways, cases_Bool, eq-eqb, ne_eqb, or_left, or_right}
+use Rattle.std.proofs.Common.{⊎_elim, inr, refl, sym, ap, subst, ◌∙◌, arith, append-nil}
+use Rattle.std.proofs.lemmas.Bool.{cases_Bool, eq-eqb, or_left, or_right}
 use Rattle.tape_types.specs.Counts.{IsRise}
 use Rattle.tape_types.specs.declared.cartridges.Cartridge.{Cartridge}
 use Rattle.tape_types.specs.declared.cartridges.Place.{Place}
@@ -22,8 +22,8 @@ use Rattle.head_trail.specs.Waiting as waiting
 use Rattle.head_trail.specs.Waiting.{Request, State, Waiter, first_of, waiting_op}
 use Rattle.tape_layout.specs.Ops.{place_of}
 use Rattle.tape_layout.specs.declared.ops.Op.{Op}
-use Rattle.volume_space.specs.Standing.{Given, standing}
-use Rattle.volume_model.specs.Acks.{answers, synced_places}
+use Rattle.volume_space.specs.Standing.{Given}
+use Rattle.volume_model.specs.Acks.{synced_places}
 use Rattle.volume_model.specs.Served.{Fixed, View, given, is_waiting}
 use Rattle.volume_model.specs.Steps.{HeadIsBehind, HeadIsRead, IsOnTape, StepsOnce, does_dp_flush, one_step, session_of}
 use Rattle.volume_order.specs.Kept.{seen}
@@ -52,18 +52,22 @@ use Rattle.volume_steps.proofs.Misses.{last_in, one_of, rise_of}
 use Rattle.volume_steps.proofs.Serves.{on_stays}
 use Rattle.volume_steps.proofs.States.{Leaves, failed_leaves}
 use Rattle.volume_steps.proofs.Waits.{reads_stay}
+use Rattle.volume_steps.proofs.Splits.{flip}
 
 -- ---- small facts
 
-head_by : (o : Option waiting.Op) (place : Place) (counts : Twin) (head : Option Place) → HeadIsBehind o (Worked place (Some counts)) head
+head_by : (o : Option waiting.Op) (place : Place) (counts : Twin) (head : Option Place)
+    → HeadIsBehind o (Worked place (Some counts)) head
 head_by None place counts head = tt
 head_by (Some op) place counts head = tt
 
-tape_by : {D : Type 0} (drive : Ghosts D) (d : D) (o : Option Op) (place : Place) (counts : Twin) → IsOnTape (seen drive d) o (Worked place (Some counts))
+tape_by : {D : Type 0} (drive : Ghosts D) (d : D) (o : Option Op) (place : Place) (counts : Twin)
+    → IsOnTape (seen drive d) o (Worked place (Some counts))
 tape_by drive d None place counts = tt
 tape_by drive d (Some op) place counts = tt
 
-no_flush : (o : Option waiting.Op) (place : Place) (counts : Twin) → list_any (does_dp_flush o) (Worked place (Some counts) ∷ []) ≡ false
+no_flush : (o : Option waiting.Op) (place : Place) (counts : Twin)
+    → list_any (does_dp_flush o) (Worked place (Some counts) ∷ []) ≡ false
 no_flush None place counts = refl
 no_flush (Some op) place counts = refl
 
@@ -82,23 +86,23 @@ failed_less : (st : State) (place : Place) (counts : Twin) → IsLess st (after 
 failed_less st place counts = less_by st.head place st.arrived st.requests st.done st.ended st.group st.syncs st.drains counts
 
 -- the next one isn't due either
-none_next : (done high : ℕ) (syncs : List Waiter) → due_of done syncs ≡ None → DueWithin 0 high syncs → due_of done (drop 1 syncs) ≡ None
+none_next : (done high : ℕ) (syncs : List Waiter) → due_of done syncs ≡ None → DueWithin 0 high syncs
+    → due_of done (drop 1 syncs) ≡ None
 none_next done high [] none d = refl
 none_next done high (s ∷ more) none d = none_due done s.due high more (is_late done s more none) d.2
 
-kept_is : (syncs : List Waiter) (drains : List ℕ) (counts : Twin) → kept_by syncs drains counts ≡ cons_option (both (session_of (op_owner syncs drains)) (Some counts)) []
+kept_is : (syncs : List Waiter) (drains : List ℕ) (counts : Twin)
+    → kept_by syncs drains counts ≡ cons_option (both (session_of (op_owner syncs drains)) (Some counts)) []
 kept_is (s ∷ more) drains counts = refl
 kept_is [] (who ∷ more) counts = refl
 kept_is [] [] counts = refl
 
-owned_one : (syncs : List Waiter) (drains : List ℕ) (s : Waiter) (more : List Waiter) (counts : Twin) → syncs ≡ s ∷ more
+owned_one : (syncs : List Waiter) (drains : List ℕ) (s : Waiter) (more : List Waiter) (counts : Twin)
+    → syncs ≡ s ∷ more
     → counts ∷ [] ≡ owned_head (of_call s.ticket) (both (op_owner syncs drains) (Some counts)) ++ []
 owned_one syncs drains s more counts is =
     sym (ap (λ (l : List Waiter). owned_head (of_call s.ticket) (both (op_owner l drains) (Some counts)) ++ []) is
     ∙ ap (λ b. cond b (counts ∷ []) [] ++ []) (eq-eqb s.ticket s.ticket refl))
-
-flip : (a b : ℕ) → (a == b) ≡ false → (b == a) ≡ false
-flip a b other = ne_eqb b a (λ same. both_ways (a == b) other (eq-eqb a b (sym same)))
 
 no_more : (a : Twin) (l : List Twin) → l ≡ a ∷ [] → l ≡ [] → ⊥
 no_more a l is none = omega (arith, ap length is, ap length none)
@@ -175,9 +179,12 @@ module _ {D : Type 0} (drive : Ghosts D) (fixed : Fixed D) (plan : Plan drive fi
 
   record Replies : Type 0 where
     count : length told ≡ length old.listed.replies
-    keeps : (k : ℕ) (reply : Reply) → slice_get old.listed.replies k ≡ Some (Some reply) → slice_get told k ≡ Some (Some reply)
-    brought : (k : ℕ) (reply : Option Reply) → slice_get old.listed.replies k ≡ Some None → slice_get told k ≡ Some reply → IsBrought st (e ∷ []) k reply
-    came : (k : ℕ) (p : Placed) (call : Call) (reply : Reply) → slice_get old.listed.replies k ≡ Some None → slice_get told k ≡ Some (Some reply)
+    keeps : (k : ℕ) (reply : Reply) → slice_get old.listed.replies k ≡ Some (Some reply)
+        → slice_get told k ≡ Some (Some reply)
+    brought : (k : ℕ) (reply : Option Reply) → slice_get old.listed.replies k ≡ Some None
+        → slice_get told k ≡ Some reply → IsBrought st (e ∷ []) k reply
+    came : (k : ℕ) (p : Placed) (call : Call) (reply : Reply) → slice_get old.listed.replies k ≡ Some None
+        → slice_get told k ≡ Some (Some reply)
         → IsAnswerAt g old.on old.listed.history (old.trail.events ++ e ∷ []) k call reply
 
   not_yet : (reply : Reply) → Some None ≡ Some (Some reply) → ⊥
@@ -204,7 +211,8 @@ module _ {D : Type 0} (drive : Ghosts D) (fixed : Fixed D) (plan : Plan drive fi
     told_is = ap (λ l. told_fault (longest l st.drains) counts old.listed.replies) is
 
     synced : list_any (syncs_it s.ticket) st.syncs ≡ true
-    synced = ap (list_any (syncs_it s.ticket)) is ∙ or_left (s.ticket == s.ticket) (list_any (syncs_it s.ticket) more) (eq-eqb s.ticket s.ticket refl)
+    synced = ap (list_any (syncs_it s.ticket)) is
+        ∙ or_left (s.ticket == s.ticket) (list_any (syncs_it s.ticket) more) (eq-eqb s.ticket s.ticket refl)
 
     waited : slice_get old.listed.replies s.ticket ≡ Some None
     waited = kept.order.orderly.waiting.waits s.ticket (or_right (list_any (wants_it s.ticket) st.requests) (list_any (syncs_it s.ticket) st.syncs) synced)
@@ -230,7 +238,8 @@ module _ {D : Type 0} (drive : Ghosts D) (fixed : Fixed D) (plan : Plan drive fi
     brings : Brings st (e ∷ []) old.listed.replies s.ticket fault
     brings = record { waited = waited; gives = record { waits = rests; fault = owned; synced = refl }; others = others }
 
-    its_came : (k : ℕ) (p : Placed) (call : Call) (reply : Reply) → slice_get old.listed.replies k ≡ Some None → slice_get told k ≡ Some (Some reply)
+    its_came : (k : ℕ) (p : Placed) (call : Call) (reply : Reply) → slice_get old.listed.replies k ≡ Some None
+        → slice_get told k ≡ Some (Some reply)
         → IsAnswerAt g old.on old.listed.history (old.trail.events ++ e ∷ []) k call reply
     its_came k p call reply was there =
         let c = one_came old.listed.replies s.ticket fault k reply waited was (sym (ap (λ l. slice_get l k) told_is) ∙ there) in
@@ -246,7 +255,8 @@ module _ {D : Type 0} (drive : Ghosts D) (fixed : Fixed D) (plan : Plan drive fi
     its_reply : Replies
     its_reply = record {
       count = ap length told_is ∙ told_count old.listed.replies s.ticket fault;
-      keeps = λ k reply at. ap (λ l. slice_get l k) told_is ∙ one_kept st old.listed.replies s.ticket fault waited k reply at;
+      keeps = λ k reply at. ap (λ l. slice_get l k) told_is
+          ∙ one_kept st old.listed.replies s.ticket fault waited k reply at;
       brought = λ k reply was at. one_brought st (e ∷ []) old.listed.replies s.ticket fault kept.order.orderly.waiting brings k reply was (sym (ap (λ l. slice_get l k) told_is) ∙ at);
       came = its_came;
     }

@@ -1,21 +1,19 @@
 -- A step that read a block for a request.
-use Rattle.std.specs.Prelude.{◌≡◌, ◌≢◌, ◌⊎◌, ◌==◌, ◌&&◌, ◌||◌, not, ℕ, Bool, true, false, List, [], ◌∷◌, ◌++◌, All, filter, length, map, Option, Some, None, IfSome, slice_get}
+use Rattle.std.specs.Prelude.{◌≡◌, ◌≢◌, ◌==◌, ◌&&◌, not, ℕ, Bool, true, false, List, [], ◌∷◌, ◌++◌, All, filter, length, map, Option, Some, None, IfSome, slice_get}
 use Rattle.std.specs.List.{list_any}
-use Rattle.std.proofs.Common.{⊎_elim, inl, inr, refl, sym, ap, subst, ◌∙◌, arith}
-use Rattle.std.proofs.lemmas.Bool.{both_ways, cases_Bool, eqb-true, eq-eqb, or_from, or_left}
+use Rattle.std.proofs.Common.{inl, refl, sym, ap, subst, ◌∙◌, arith}
+use Rattle.std.proofs.lemmas.Bool.{eqb-true, eq-eqb, or_from, or_left}
 use Rattle.std.proofs.lemmas.List.{map-append}
 use Rattle.tape_types.specs.Cartridges.{next as next_place}
-use Rattle.tape_types.specs.Counts.{IsRise}
 use Rattle.tape_types.specs.declared.cartridges.Cartridge.{Cartridge}
 use Rattle.tape_types.specs.declared.cartridges.Item.{Item}
 use Rattle.tape_types.specs.declared.cartridges.Item.TheVariants as item
 use Rattle.tape_types.specs.declared.cartridges.Place.{Place}
-use Rattle.tape_types.specs.declared.cartridges.Twin.{Twin}
 use Rattle.tape_types.specs.declared.moments.Moment.{Moment}
 use Rattle.tape_drive.specs.Commands.{IsRead, after_read, item_at}
 use Rattle.tape_drive.specs.declared.drive.Drive.{Ghosts}
 use Rattle.tape_drive.specs.declared.drive.Got.{Got}
-use Rattle.extent_map.specs.Replies.{IsBlock, Places, has_place, places_in, with_place}
+use Rattle.extent_map.specs.Replies.{IsBlock, Places}
 use Rattle.extent_map.specs.declared.pieces.Piece.{Piece}
 use Rattle.plain_tree.specs.Calls.{answer}
 use Rattle.plain_tree.specs.History.{call_at}
@@ -35,7 +33,6 @@ use Rattle.volume_model.specs.Acks.{is_synced}
 use Rattle.volume_model.specs.Served.{Fixed, given, is_waiting}
 use Rattle.volume_model.specs.Steps.{HeadIsRead}
 use Rattle.volume_order.specs.Kept.{seen}
-use Rattle.volume_order.specs.Sides.{IsBrought}
 use Rattle.volume_order.proofs.Frames.{syncs_it, wants_it}
 use Rattle.volume_order.proofs.Lists.{some_same}
 use Rattle.volume_space.specs.Standing.{Given, standing}
@@ -43,7 +40,7 @@ use Rattle.volume_truth.specs.Within.{IsAnswerAt}
 use Rattle.volume_journal.specs.Trails.{state}
 use Rattle.volume_laws.specs.Kept.{CanRead, IsKept, Plan}
 use Rattle.volume_reads.specs.Gathering.{Gathering, IsGathering, read_answer}
-use Rattle.volume_tape.specs.Planned.{IsDoneAt, Items, LieBelow, ends_in, tape_on}
+use Rattle.volume_tape.specs.Planned.{Items, LieBelow, ends_in, tape_on}
 use Rattle.volume_tape.proofs.Tells.{tapes_tell}
 use Rattle.volume_parts.specs.Parts.{Parts, view_of}
 use Rattle.volume_parts.specs.Stepping.{IsReadOn, ReadsBlock, replied}
@@ -78,7 +75,8 @@ unsynced : (a : Answer) → a ≢ the_answers.Synced → is_synced (Some (the_re
 unsynced the_answers.Synced h = absurd (h refl)
 unsynced a h = refl
 
-behind_by : (place : Place) (head : Option Place) (got : Got) (block : List ℕ) (o : Option Item) → head ≡ Some (after_read got place) → IsRead o got block
+behind_by : (place : Place) (head : Option Place) (got : Got) (block : List ℕ) (o : Option Item)
+    → head ≡ Some (after_read got place) → IsRead o got block
     → IfSome o (λ x. x ≢ item.Torn → head ≡ Some (next_place place))
 behind_by place head got block None is read = tt
 behind_by place head got block (Some (item.Block bytes)) is read = λ h. is ∙ ap (λ g. Some (after_read g place)) read.0
@@ -145,7 +143,8 @@ module _ {D : Type 0} (drive : Ghosts D) (fixed : Fixed D) (plan : Plan drive fi
           (stands drive fixed plan planned next_at old kept tied ticket place did.request) (did.found h is)
 
   -- the read has one block more
-  gathers : (c : Cartridge) → drive.held fixed.first ≡ Some c → IsGathering (tape_on planned) (was_met left ticket) did.next
+  gathers : (c : Cartridge) → drive.held fixed.first ≡ Some c
+      → IsGathering (tape_on planned) (was_met left ticket) did.next
   gathers c told =
       subst (λ (met : Places). IsGathering (tape_on planned) met did.next) (met_now st.requests ticket place)
       (did.filled.filled (tape_on planned) (was_met st ticket) (block_is c told)
@@ -182,7 +181,8 @@ module _ {D : Type 0} (drive : Ghosts D) (fixed : Fixed D) (plan : Plan drive fi
       placed_is = ap (slice_get old.listed.history) did.filled.ticket ∙ reading.placed_is;
       call = reading.call;
       call_is = reading.call_is;
-      answers = ap (λ t. answer (standing g old.on old.listed.history t).tree reading.call) did.filled.ticket ∙ reading.answers
+      answers = ap (λ t. answer (standing g old.on old.listed.history t).tree reading.call) did.filled.ticket
+          ∙ reading.answers
           ∙ ap (read_answer (tape_on planned)) (sym did.filled.pieces);
       below = subst (λ (pieces : List Piece). LieBelow (ends_in planned) pieces) (sym did.filled.pieces) reading.below;
       gathering = if_some (drive.held fixed.first) (λ c. IsGathering (tape_on planned) (was_met left did.next.ticket) did.next)
@@ -225,7 +225,8 @@ module _ {D : Type 0} (drive : Ghosts D) (fixed : Fixed D) (plan : Plan drive fi
     }
 
     -- the answer is the tree's
-    came : CanRead drive fixed → (k : ℕ) (p : Placed) (call : Call) (reply : Reply) → slice_get old.listed.history k ≡ Some p → call_at g.calls p ≡ Some call
+    came : CanRead drive fixed → (k : ℕ) (p : Placed) (call : Call) (reply : Reply)
+        → slice_get old.listed.history k ≡ Some p → call_at g.calls p ≡ Some call
         → slice_get old.listed.replies k ≡ Some None → slice_get new.listed.replies k ≡ Some (Some reply)
         → IsAnswerAt g old.on old.listed.history (old.trail.events ++ e ∷ []) k call reply
     came can k p call reply at is was there =
@@ -236,7 +237,8 @@ module _ {D : Type 0} (drive : Ghosts D) (fixed : Fixed D) (plan : Plan drive fi
         let read : gives ≡ read_answer (tape_on planned) did.next.pieces =
         on.1.2.1 (tape_on planned) (was_met left ticket) (gathers can.held can.told) (λ q h. all_met left.requests ticket q gone) in
         let tree : answer (standing g old.on old.listed.history k).tree call ≡ read_answer (tape_on planned) did.next.pieces =
-        ap (λ n. answer (standing g old.on old.listed.history n).tree call) same ∙ ap (answer (standing g old.on old.listed.history one.ticket).tree) (sym calls) ∙ reading.answers
+        ap (λ n. answer (standing g old.on old.listed.history n).tree call) same
+        ∙ ap (answer (standing g old.on old.listed.history one.ticket).tree) (sym calls) ∙ reading.answers
         ∙ ap (read_answer (tape_on planned)) (sym did.filled.pieces) in
         inl (sym c.1 ∙ ap the_replies.Answer (read ∙ sym tree))
 
@@ -244,7 +246,8 @@ module _ {D : Type 0} (drive : Ghosts D) (fixed : Fixed D) (plan : Plan drive fi
     shows_last = record {
       head = head;
       count = ap length told_are ∙ told_count old.listed.replies ticket (the_replies.Answer gives);
-      keeps = λ k reply is. ap (λ l. slice_get l k) told_are ∙ one_kept st old.listed.replies ticket (the_replies.Answer gives) waited k reply is;
+      keeps = λ k reply is. ap (λ l. slice_get l k) told_are
+          ∙ one_kept st old.listed.replies ticket (the_replies.Answer gives) waited k reply is;
       brought = λ k reply was is. one_brought st (e ∷ []) old.listed.replies ticket (the_replies.Answer gives) kept.order.orderly.waiting brings k reply was
           (sym (ap (λ l. slice_get l k) told_are) ∙ is);
       came = came;

@@ -1,5 +1,5 @@
 -- A step for a request that failed.
-use Rattle.std.specs.Prelude.{◌≡◌, ◌⊎◌, ◌==◌, ◌&&◌, ◌||◌, not, ℕ, ◌≤◌, Bool, true, false, cond, List, [], ◌∷◌, ◌++◌, All, Contains, filter, length, map, Option, Some, None, slice_get}
+use Rattle.std.specs.Prelude.{◌≡◌, ◌==◌, ◌&&◌, ◌||◌, not, ℕ, Bool, true, false, cond, List, [], ◌∷◌, ◌++◌, All, Contains, filter, length, map, Option, Some, None, slice_get}
 use Rattle.std.specs.List.{list_any, cons_option}
 use Rattle.std.proofs.Common.{inr, refl, sym, ap, subst, ◌∙◌, arith}
 use Rattle.std.proofs.lemmas.Bool.{eq-eqb, or_from}
@@ -20,9 +20,9 @@ use Rattle.head_core.specs.declared.work.StepDone.TheVariants as ends
 use Rattle.head_queue.specs.Waiting.{Waiting, request}
 use Rattle.head_trail.specs.Trail.{after, of_call, owned_by}
 use Rattle.head_trail.specs.Waiting.{Request, State}
-use Rattle.volume_model.specs.Served.{Fixed, given, is_waiting}
+use Rattle.volume_model.specs.Served.{Fixed, given}
 use Rattle.volume_order.specs.Kept.{seen}
-use Rattle.volume_order.specs.Sides.{IsReplied, owned_from}
+use Rattle.volume_order.specs.Sides.{owned_from}
 use Rattle.volume_order.proofs.Frames.{syncs_it, wants_it}
 use Rattle.volume_order.proofs.Told.{owned_more}
 use Rattle.volume_truth.specs.Within.{IsAnswerAt}
@@ -43,17 +43,20 @@ use Rattle.volume_steps.proofs.Taken.{reads_without}
 
 -- ---- small facts
 
-left_by : (ticket : ℕ) (b : Bool) (w : Waiting) (rest : List Waiting) (left : List Request) → map request rest ≡ left → map request (cond b (w ∷ rest) rest) ≡ cond b (request w ∷ left) left
+left_by : (ticket : ℕ) (b : Bool) (w : Waiting) (rest : List Waiting) (left : List Request) → map request rest ≡ left
+    → map request (cond b (w ∷ rest) rest) ≡ cond b (request w ∷ left) left
 left_by ticket true w rest left e = ap (λ l. request w ∷ l) e
 left_by ticket false w rest left e = e
 
 -- the queue without one read's requests
-left_are : (ticket : ℕ) (ws : List Waiting) → map request (filter (λ (w : Waiting). not (w.owner == ticket)) ws) ≡ filter (λ (r : Request). not (r.ticket == ticket)) (map request ws)
+left_are : (ticket : ℕ) (ws : List Waiting)
+    → map request (filter (λ (w : Waiting). not (w.owner == ticket)) ws) ≡ filter (λ (r : Request). not (r.ticket == ticket)) (map request ws)
 left_are ticket [] = refl
 left_are ticket (w ∷ ws) = left_by ticket (not (w.owner == ticket)) w (filter (λ (w : Waiting). not (w.owner == ticket)) ws)
     (filter (λ (r : Request). not (r.ticket == ticket)) (map request ws)) (left_are ticket ws)
 
-gone_by : {X : Type 0} (p : X → Bool) (x : X) (rest : List X) (b : Bool) → p x ≡ b → list_any p rest ≡ false → list_any p (cond (not b) (x ∷ rest) rest) ≡ false
+gone_by : {X : Type 0} (p : X → Bool) (x : X) (rest : List X) (b : Bool) → p x ≡ b → list_any p rest ≡ false
+    → list_any p (cond (not b) (x ∷ rest) rest) ≡ false
 gone_by p x rest true is e = e
 gone_by p x rest false is e = ap (λ b. b || list_any p rest) is ∙ e
 
@@ -66,7 +69,8 @@ no_syncs true b h e = h
 no_syncs false b h e = absurd (cc)
 
 -- a fault that was told rose
-pub rise_of : (before now : ℕ) (counts : Twin) → TellsFaults before now (ends.Failed counts) → IsRise before now counts.before counts.after
+pub rise_of : (before now : ℕ) (counts : Twin) → TellsFaults before now (ends.Failed counts)
+    → IsRise before now counts.before counts.after
 rise_of before now counts t = record {
   lowest = omega (arith, t.0);
   rose = subst (λ n. Rose n counts.after) (sym t.0) (subst (λ n. Rose before n) (sym t.1) t.2);
@@ -80,7 +84,8 @@ pub last_in : {X : Type 0} (xs : List X) (x : X) → Contains (xs ++ x ∷ []) x
 last_in [] x = in_first x []
 last_in (y ∷ xs) x = in_rest y (xs ++ x ∷ []) x (last_in xs x)
 
-owned_one : (st : State) (ticket : ℕ) (place : Place) (counts : Twin) → counts ∷ [] ≡ owned_from st (of_call ticket) (Served ticket place (Some counts) ∷ [])
+owned_one : (st : State) (ticket : ℕ) (place : Place) (counts : Twin)
+    → counts ∷ [] ≡ owned_from st (of_call ticket) (Served ticket place (Some counts) ∷ [])
 owned_one st ticket place counts = sym (ap (λ b. cons_option (cond b (Some counts) None) []) (eq-eqb ticket ticket refl))
 
 module _ {D : Type 0} (drive : Ghosts D) (fixed : Fixed D) (plan : Plan drive fixed) (planned : Items) (next_at : Option Moment)
@@ -118,7 +123,8 @@ module _ {D : Type 0} (drive : Ghosts D) (fixed : Fixed D) (plan : Plan drive fi
     others = λ k other. others_wait st ticket place (Some counts) (λ r. not (r.ticket == ticket)) passes refl k other;
   }
 
-  came : (k : ℕ) (p : Placed) (call : Call) (reply : Reply) → slice_get old.listed.replies k ≡ Some None → slice_get new.listed.replies k ≡ Some (Some reply)
+  came : (k : ℕ) (p : Placed) (call : Call) (reply : Reply) → slice_get old.listed.replies k ≡ Some None
+      → slice_get new.listed.replies k ≡ Some (Some reply)
       → IsAnswerAt (given (view_of fixed next_at old) (seen drive fixed.first)) old.on old.listed.history (old.trail.events ++ e ∷ []) k call reply
   came k p call reply was there =
       let c = one_came old.listed.replies ticket fault k reply waited was (sym (ap (λ l. slice_get l k) did.replies) ∙ there) in
@@ -135,13 +141,15 @@ module _ {D : Type 0} (drive : Ghosts D) (fixed : Fixed D) (plan : Plan drive fi
   shows = record {
     head = tt;
     count = ap length did.replies ∙ told_count old.listed.replies ticket fault;
-    keeps = λ k reply is. ap (λ l. slice_get l k) did.replies ∙ one_kept st old.listed.replies ticket fault waited k reply is;
+    keeps = λ k reply is. ap (λ l. slice_get l k) did.replies
+        ∙ one_kept st old.listed.replies ticket fault waited k reply is;
     brought = λ k reply was is. one_brought st (e ∷ []) old.listed.replies ticket fault kept.order.orderly.waiting brings k reply was
         (sym (ap (λ l. slice_get l k) did.replies) ∙ is);
     came = λ can k p call reply at is was there. came k p call reply was there;
     rises = one_of (λ (t : Twin). IsRise (drive.faults old.drive) (drive.faults new.drive) t.before t.after) counts
         (rise_of (drive.faults old.drive) (drive.faults new.drive) counts did.step.made.faults);
-    queue = ap (map request) did.queue ∙ left_are ticket old.queue.waiting ∙ ap (filter (λ (r : Request). not (r.ticket == ticket))) tied.queue;
+    queue = ap (map request) did.queue ∙ left_are ticket old.queue.waiting
+        ∙ ap (filter (λ (r : Request). not (r.ticket == ticket))) tied.queue;
     reads = subst (λ (l : List Gathering). AreReading (given (view_of fixed next_at old) (seen drive fixed.first)) old.on old.listed.history planned (drive.held fixed.first)
         old.stock.layout.ops (after st e) l) (sym did.reads)
         (reads_without (given (view_of fixed next_at old) (seen drive fixed.first)) old.on old.listed.history planned (drive.held fixed.first) old.stock.layout.ops st (after st e)

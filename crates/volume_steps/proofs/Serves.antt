@@ -1,12 +1,10 @@
 -- A step for a request, whatever it brings.
-use Rattle.std.specs.Prelude.{◌≡◌, ◌⊎◌, ◌==◌, ◌||◌, ◌<◌, ℕ, Bool, true, false, cond, List, [], ◌∷◌, ◌++◌, All, filter, filter_map, fold, length, map, Option, Some, None, IfSome, slice_get}
+use Rattle.std.specs.Prelude.{◌≡◌, ◌==◌, ◌||◌, ℕ, Bool, true, false, List, [], ◌∷◌, ◌++◌, All, filter, filter_map, length, map, Option, Some, None, slice_get}
 use Rattle.std.specs.List.{list_any}
 use Rattle.std.proofs.Common.{refl, sym, ap, subst, ◌∙◌, arith, append-nil}
 use Rattle.std.proofs.lemmas.Bool.{eqb-true}
 use Rattle.std.proofs.lemmas.List.Elements.{All-cons}
 use Rattle.tape_types.specs.Counts.{IsRise}
-use Rattle.tape_types.specs.declared.cartridges.Cartridge.{Cartridge}
-use Rattle.tape_types.specs.declared.cartridges.Part.TheVariants.{Dp}
 use Rattle.tape_types.specs.declared.cartridges.Place.{Place}
 use Rattle.tape_types.specs.declared.cartridges.Twin.{Twin}
 use Rattle.tape_types.specs.declared.moments.Moment.{Moment}
@@ -27,7 +25,7 @@ use Rattle.tape_layout.specs.declared.ops.Op.{Op}
 use Rattle.volume_space.specs.Space.{Space}
 use Rattle.volume_space.specs.Standing.{Given}
 use Rattle.volume_model.specs.Served.{Fixed, View, given, is_waiting}
-use Rattle.volume_model.specs.Steps.{HeadIsBehind, HeadIsRead, IsOnTape, KeepsReplies, StepsOnce, does_dp_flush, on_after, one_step}
+use Rattle.volume_model.specs.Steps.{HeadIsBehind, HeadIsRead, IsOnTape, StepsOnce, does_dp_flush, on_after, one_step}
 use Rattle.volume_order.specs.Kept.{seen}
 use Rattle.volume_order.specs.Sides.{IsBrought}
 use Rattle.volume_order.proofs.Frames.{syncs_it, wants_it}
@@ -46,42 +44,48 @@ use Rattle.volume_parts.specs.Stepping.{ReadsOnly}
 use Rattle.volume_parts.specs.Tied.{AreReading, IsTied}
 use Rattle.volume_steps.specs.Laws.{Stepped}
 use Rattle.volume_steps.proofs.Counts.{step_counts}
-use Rattle.volume_steps.proofs.States.{Leaves}
 
 -- ---- small facts
 
-head_by : (o : Option waiting.Op) (ticket : ℕ) (place : Place) (fault : Option Twin) (head : Option Place) → HeadIsBehind o (Served ticket place fault) head
+head_by : (o : Option waiting.Op) (ticket : ℕ) (place : Place) (fault : Option Twin) (head : Option Place)
+    → HeadIsBehind o (Served ticket place fault) head
 head_by None ticket place fault head = tt
 head_by (Some op) ticket place fault head = tt
 
-tape_by : {D : Type 0} (drive : Ghosts D) (d : D) (o : Option Op) (ticket : ℕ) (place : Place) (fault : Option Twin) → IsOnTape (seen drive d) o (Served ticket place fault)
+tape_by : {D : Type 0} (drive : Ghosts D) (d : D) (o : Option Op) (ticket : ℕ) (place : Place) (fault : Option Twin)
+    → IsOnTape (seen drive d) o (Served ticket place fault)
 tape_by drive d None ticket place fault = tt
 tape_by drive d (Some op) ticket place fault = tt
 
-no_flush : (o : Option waiting.Op) (ticket : ℕ) (place : Place) (fault : Option Twin) → list_any (does_dp_flush o) (Served ticket place fault ∷ []) ≡ false
+no_flush : (o : Option waiting.Op) (ticket : ℕ) (place : Place) (fault : Option Twin)
+    → list_any (does_dp_flush o) (Served ticket place fault ∷ []) ≡ false
 no_flush None ticket place fault = refl
 no_flush (Some op) ticket place fault = refl
 
 -- an event that does no flush leaves placement as it is
-pub on_stays : {D : Type 0} (old : View D) (added : List Event) → list_any (does_dp_flush (waiting_op (after_all old.events))) added ≡ false → old.on ≡ on_after old added
+pub on_stays : {D : Type 0} (old : View D) (added : List Event)
+    → list_any (does_dp_flush (waiting_op (after_all old.events))) added ≡ false → old.on ≡ on_after old added
 on_stays old added none = by old.on refl
   where
     by : (on : Option ℕ) → old.on ≡ on → old.on ≡ on_after old added
     by (Some first) e = e ∙ sym (on_already old added first e)
     by None e = e ∙ sym (on_never old added e none)
 
-served_leaves : (st : State) (ticket : ℕ) (place : Place) (fault : Option Twin) (rs : List Request) → (after st (Served ticket place fault)).requests ≡ rs
+served_leaves : (st : State) (ticket : ℕ) (place : Place) (fault : Option Twin) (rs : List Request)
+    → (after st (Served ticket place fault)).requests ≡ rs
     → (waiting.ops (after st (Served ticket place fault)) ≡ waiting.ops st) × ((after st (Served ticket place fault)).arrived ≡ st.arrived)
     × ((after st (Served ticket place fault)).syncs ≡ st.syncs) × (due_ticket (after st (Served ticket place fault)) ≡ due_ticket st)
 served_leaves st ticket place None rs is = (refl, refl, refl, refl)
 served_leaves st ticket place (Some counts) rs is = (refl, refl, refl, refl)
 
-served_grouped : (st : State) (ticket : ℕ) (place : Place) (fault : Option Twin) (space : Space) → IsGrouped space st → IsGrouped space (after st (Served ticket place fault))
+served_grouped : (st : State) (ticket : ℕ) (place : Place) (fault : Option Twin) (space : Space) → IsGrouped space st
+    → IsGrouped space (after st (Served ticket place fault))
 served_grouped st ticket place None space g = record { due = g.due; changed = g.changed }
 served_grouped st ticket place (Some counts) space g = record { due = g.due; changed = g.changed }
 
 -- where the read has another ticket, it waits as before
-pub others_wait : (st : State) (ticket : ℕ) (place : Place) (fault : Option Twin) (p : Request → Bool) → ((r : Request) → (r.ticket == ticket) ≡ false → p r ≡ true)
+pub others_wait : (st : State) (ticket : ℕ) (place : Place) (fault : Option Twin) (p : Request → Bool)
+    → ((r : Request) → (r.ticket == ticket) ≡ false → p r ≡ true)
     → (after st (Served ticket place fault)).requests ≡ filter p st.requests → (k : ℕ) → (k == ticket) ≡ false
     → is_waiting (after st (Served ticket place fault)) k ≡ is_waiting st k
 others_wait st ticket place fault p passes asked k other =
@@ -112,10 +116,13 @@ module _ {D : Type 0} (drive : Ghosts D) (fixed : Fixed D) (plan : Plan drive fi
   pub record Shows : Type 0 where
     pub head : HeadIsRead (seen drive old.drive) e (drive.head new.drive)
     pub count : length new.listed.replies ≡ length old.listed.replies
-    pub keeps : (k : ℕ) (reply : Reply) → slice_get old.listed.replies k ≡ Some (Some reply) → slice_get new.listed.replies k ≡ Some (Some reply)
-    pub brought : (k : ℕ) (reply : Option Reply) → slice_get old.listed.replies k ≡ Some None → slice_get new.listed.replies k ≡ Some reply
+    pub keeps : (k : ℕ) (reply : Reply) → slice_get old.listed.replies k ≡ Some (Some reply)
+        → slice_get new.listed.replies k ≡ Some (Some reply)
+    pub brought : (k : ℕ) (reply : Option Reply) → slice_get old.listed.replies k ≡ Some None
+        → slice_get new.listed.replies k ≡ Some reply
         → IsBrought st (e ∷ []) k reply
-    pub came : CanRead drive fixed → (k : ℕ) (p : Placed) (call : Call) (reply : Reply) → slice_get old.listed.history k ≡ Some p → call_at g.calls p ≡ Some call
+    pub came : CanRead drive fixed → (k : ℕ) (p : Placed) (call : Call) (reply : Reply)
+        → slice_get old.listed.history k ≡ Some p → call_at g.calls p ≡ Some call
         → slice_get old.listed.replies k ≡ Some None → slice_get new.listed.replies k ≡ Some (Some reply)
         → IsAnswerAt g old.on old.listed.history (old.trail.events ++ e ∷ []) k call reply
     pub rises : All (λ (t : Twin). IsRise (drive.faults old.drive) (drive.faults new.drive) t.before t.after) (filter_map fault_of (e ∷ []))

@@ -1,6 +1,6 @@
 -- Each step shows all that is asked of a turn, and leaves the volume tied.
 use Rattle.tape_drive.specs.declared.drive.Drive.{Ghosts}
-use Rattle.volume_parts.specs.Stepping.{Steps, does as did, fails as failed, misses as missed, reads as read}
+use Rattle.volume_parts.specs.Stepping.{does as did, fails as failed, misses as missed, reads as read}
 use Rattle.volume_steps.specs.Laws.{StepsShow}
 use Rattle.volume_steps.proofs.Does.{does}
 use Rattle.volume_steps.proofs.Fails.{fails}

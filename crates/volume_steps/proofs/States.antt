@@ -1,19 +1,18 @@
 -- What the events of a step leave.
-use Rattle.std.specs.Prelude.{◌≡◌, ◌⊎◌, ◌==◌, ◌&&◌, ◌||◌, not, ℕ, ◌+◌, Bool, true, false, cond, List, [], ◌∷◌, ◌++◌, All, drop, filter, filter_map, fold, length, map, Option, Some, None}
+use Rattle.std.specs.Prelude.{◌≡◌, ◌==◌, ◌||◌, not, ℕ, Bool, true, false, List, [], ◌∷◌, ◌++◌, All, drop, filter_map, fold, map, Option, Some, None}
 use Rattle.std.specs.List.{cons_option, list_any}
-use Rattle.std.proofs.Common.{⊎_elim, inl, inr, refl, sym, ap, subst, ◌∙◌, arith}
-use Rattle.std.proofs.lemmas.Bool.{both_ways, cases_Bool, eqb-true, eq-eqb, or_cases, or_left}
+use Rattle.std.proofs.Common.{⊎_elim, refl, sym, ap, subst, ◌∙◌, arith}
+use Rattle.std.proofs.lemmas.Bool.{both_ways, eqb-true, eq-eqb, or_cases, or_left}
 use Rattle.std.proofs.lemmas.List.Elements.{All-cons}
 use Rattle.tape_types.specs.declared.cartridges.Part.TheVariants.{Ip}
 use Rattle.tape_types.specs.declared.cartridges.Place.{Place}
 use Rattle.tape_types.specs.declared.cartridges.Twin.{Twin}
 use Rattle.session_script.specs.declared.logs.Event.{Event}
-use Rattle.session_script.specs.declared.logs.Event.TheVariants.{Wants, Queues, Syncs, Synced, Drains, Rests, Served, Worked}
+use Rattle.session_script.specs.declared.logs.Event.TheVariants.{Synced, Worked}
 use Rattle.head_trail.specs.Trail.{Owner, after, after_op, is_answer, is_answered, is_trail_from, op_owner, takes_op}
 use Rattle.head_trail.specs.Waiting as waiting
 use Rattle.head_trail.specs.Waiting.{Request, State, Waiter, first_of, put_at, waiting_op}
 use Rattle.head_trail.proofs.TrailLaw.{first_of as left_of}
-use Rattle.tape_layout.specs.Ops.{place_of}
 use Rattle.tape_layout.specs.declared.ops.Op.{Op}
 use Rattle.volume_space.specs.Space.{Space}
 use Rattle.volume_model.specs.Acks.{answers, synced_ticket}
@@ -26,6 +25,7 @@ use Rattle.volume_order.proofs.Frames.{no_step_owned, syncs_it, wants_it}
 use Rattle.volume_order.proofs.Lists.{any_filter, any_filter_same}
 use Rattle.volume_order.proofs.Turning.{answers_step, both_none, drain_faults_from, owned-cons, owned_head}
 use Rattle.volume_parts.specs.Stepping.{synced_events}
+use Rattle.volume_steps.proofs.Splits.{or_false}
 
 -- the ops, and who wants blocks
 pub record Leaves (old new : State) (standing : List waiting.Op) : Type 0 where
@@ -37,7 +37,8 @@ pub record Leaves (old new : State) (standing : List waiting.Op) : Type 0 where
 -- ---- the op that waits
 
 -- where an op may be done, it is the first that stands
-pub first_waits : (st : State) (place : Place) (fault : Option Twin) (answers : List Event) (op : Op) (later : List Op) → is_trail_from st (Worked place fault ∷ answers) ≡ true
+pub first_waits : (st : State) (place : Place) (fault : Option Twin) (answers : List Event) (op : Op) (later : List Op)
+    → is_trail_from st (Worked place fault ∷ answers) ≡ true
     → map headed (op ∷ later) ≡ waiting.ops st → waiting_op st ≡ Some (headed op)
 first_waits st place fault answers op later trail standing =
     let fits = left_of (takes_op st place (waiting_op st)) _ (first_allowed st (Worked place fault) answers trail) in
@@ -75,7 +76,8 @@ op_leaves head arrived requests done (x ∷ ended) group syncs drains op = recor
   grouped = λ space g. record { due = g.due; changed = g.changed };
 }
 
-pub done_leaves : (st : State) (place : Place) (op : waiting.Op) → waiting_op st ≡ Some op → Leaves st (after st (Worked place None)) (drop 1 (waiting.ops st))
+pub done_leaves : (st : State) (place : Place) (op : waiting.Op) → waiting_op st ≡ Some op
+    → Leaves st (after st (Worked place None)) (drop 1 (waiting.ops st))
 done_leaves st place op is = subst (λ (o : Option waiting.Op). Leaves st (after_op o st) (drop 1 (waiting.ops st))) (sym is)
     (op_leaves st.head st.arrived st.requests st.done st.ended st.group st.syncs st.drains op)
 
@@ -90,12 +92,14 @@ failed_leaves_by head at arrived requests done ended group [] drains counts =
 failed_leaves_by head at arrived requests done ended group (s ∷ syncs) drains counts =
     record { ops = refl; requests = refl; arrived = refl; grouped = λ space g. record { due = g.due; changed = g.changed } }
 
-pub failed_leaves : (st : State) (place : Place) (counts : Twin) → Leaves st (after st (Worked place (Some counts))) (waiting.ops st)
+pub failed_leaves : (st : State) (place : Place) (counts : Twin)
+    → Leaves st (after st (Worked place (Some counts))) (waiting.ops st)
 failed_leaves st place counts = failed_leaves_by st.head place st.arrived st.requests st.done st.ended st.group st.syncs st.drains counts
 
 -- ---- syncs are answered
 
-pub synced_leave : (tickets : List ℕ) (old st : State) (standing : List waiting.Op) → Leaves old st standing → Leaves old (fold after st (synced_events tickets)) standing
+pub synced_leave : (tickets : List ℕ) (old st : State) (standing : List waiting.Op) → Leaves old st standing
+    → Leaves old (fold after st (synced_events tickets)) standing
 synced_leave [] old st standing l = l
 synced_leave (t ∷ tickets) old st standing l = synced_leave tickets old (after st (Synced t)) standing (record {
   ops = l.ops;
@@ -112,10 +116,6 @@ synced_answers (t ∷ tickets) = All-cons (λ (e : Event). is_answer e ≡ true)
 pub of_synced : (P : Event → Type 0) → ((t : ℕ) → P (Synced t)) → (tickets : List ℕ) → All P (synced_events tickets)
 of_synced P each [] = λ k d less. absurd (omega (arith, less))
 of_synced P each (t ∷ tickets) = All-cons P (Synced t) (synced_events tickets) (each t) (of_synced P each tickets)
-
-or_false : (a b : Bool) → (a || b) ≡ false → (a ≡ false) × (b ≡ false)
-or_false true b h = absurd (cc)
-or_false false b h = (refl, h)
 
 still_by : (k t : ℕ) → (t == k) ≡ false → (s : Waiter) → syncs_it k s ≡ true → not (s.ticket == t) ≡ true
 still_by k t other s is = ap not (by (s.ticket == t) refl)
@@ -135,12 +135,14 @@ not_synced (t ∷ tickets) st k none =
 
 -- ---- who is answered
 
-first_answered : (st : State) (ticket : ℕ) (syncs : List Waiter) → is_answered st ticket syncs ≡ true → list_any (syncs_it ticket) syncs ≡ true
+first_answered : (st : State) (ticket : ℕ) (syncs : List Waiter) → is_answered st ticket syncs ≡ true
+    → list_any (syncs_it ticket) syncs ≡ true
 first_answered st ticket [] h = absurd (cc)
 first_answered st ticket (s ∷ more) h = or_left (s.ticket == ticket) (list_any (syncs_it ticket) more) (left_of (s.ticket == ticket) _ h)
 
 -- whoever is answered waited for a flush
-pub answered_waits : (tickets : List ℕ) (st : State) (k : ℕ) → is_trail_from st (synced_events tickets) ≡ true → list_any (answers k) (synced_events tickets) ≡ true
+pub answered_waits : (tickets : List ℕ) (st : State) (k : ℕ) → is_trail_from st (synced_events tickets) ≡ true
+    → list_any (answers k) (synced_events tickets) ≡ true
     → list_any (syncs_it k) st.syncs ≡ true
 answered_waits [] st k trail has = absurd (cc)
 answered_waits (t ∷ tickets) st k trail has = ⊎_elim
@@ -157,12 +159,14 @@ none_from [] st = refl
 none_from (t ∷ tickets) st = none_from tickets (after st (Synced t))
 
 -- where an op was done no fault is kept, and none is told
-pub none_drained : (st : State) (place : Place) (tickets : List ℕ) → drain_faults_from st (Worked place None ∷ synced_events tickets) ≡ []
+pub none_drained : (st : State) (place : Place) (tickets : List ℕ)
+    → drain_faults_from st (Worked place None ∷ synced_events tickets) ≡ []
 none_drained st place tickets =
     ap (λ o. cons_option o (drain_faults_from (after st (Worked place None)) (synced_events tickets))) (both_none {Y = Twin} (session_of (op_owner st.syncs st.drains)))
     ∙ none_from tickets (after st (Worked place None))
 
-pub none_owned : (st : State) (place : Place) (tickets : List ℕ) (owner : Owner) → owned_from st owner (Worked place None ∷ synced_events tickets) ≡ []
+pub none_owned : (st : State) (place : Place) (tickets : List ℕ) (owner : Owner)
+    → owned_from st owner (Worked place None ∷ synced_events tickets) ≡ []
 none_owned st place tickets owner =
     owned-cons st owner (Worked place None) (synced_events tickets)
     ∙ ap (λ o. owned_head owner o ++ owned_from (after st (Worked place None)) owner (synced_events tickets)) (both_none (op_owner st.syncs st.drains))

@@ -1,11 +1,10 @@
 -- Each sync that waits is the call at its place.
-use Rattle.std.specs.Prelude.{◌≡◌, ◌⊎◌, ◌==◌, ◌||◌, not, ℕ, ◌+◌, Bool, true, false, List, [], ◌∷◌, ◌++◌, filter, filter_map, fold, length, Option, Some, None, slice_get}
+use Rattle.std.specs.Prelude.{◌≡◌, ◌⊎◌, ◌==◌, ◌||◌, not, ℕ, ◌+◌, Bool, true, false, List, [], ◌∷◌, ◌++◌, filter_map, fold, length, Option, Some, None, slice_get}
 use Rattle.std.specs.List.{cons_option, list_any}
 use Rattle.std.proofs.Common.{⊎_elim, inl, inr, refl, sym, ap, subst, ◌∙◌, append_assoc}
 use Rattle.std.proofs.lemmas.Bool.{eqb-true, eq-eqb, or_cases, or_left, or_right}
 use Rattle.std.proofs.lemmas.List.Folds.{list_any-append}
 use Rattle.tape_types.specs.declared.cartridges.Place.{Place}
-use Rattle.tape_types.specs.declared.cartridges.Twin.{Twin}
 use Rattle.plain_tree.specs.History.{Calls, call_at}
 use Rattle.plain_tree.specs.declared.calls.Call.{Call}
 use Rattle.plain_tree.specs.declared.calls.Call.TheVariants.{Sync}
@@ -33,7 +32,8 @@ first_before : (head : Place) (arrived : ℕ) (requests : List Request) (done : 
 first_before head arrived requests done ended group [] drains k h = h
 first_before head arrived requests done ended group (s ∷ syncs) drains k h = or_right (s.ticket == k) (list_any (syncs_it k) syncs) h
 
-last_before : (syncs : List Waiter) (ticket due k : ℕ) → list_any (syncs_it k) (syncs ++ record { ticket = ticket; due = due } ∷ []) ≡ true
+last_before : (syncs : List Waiter) (ticket due k : ℕ)
+    → list_any (syncs_it k) (syncs ++ record { ticket = ticket; due = due } ∷ []) ≡ true
     → (list_any (syncs_it k) syncs ≡ true) ⊎ (Some ticket ≡ Some k)
 last_before syncs ticket due k h =
     ⊎_elim (λ old. inl old) (λ new. inr (ap Some (eqb-true ticket k (one (ticket == k) new))))
@@ -75,7 +75,8 @@ none_at_start : (a : Bool) → (false ≡ true) ⊎ (a ≡ true) → a ≡ true
 none_at_start a (inl never) = absurd (cc)
 none_at_start a (inr is) = is
 
-pub has_begun : (events : List Event) (k : ℕ) → list_any (syncs_it k) (after_all events).syncs ≡ true → has k (filter_map syncs_ticket events) ≡ true
+pub has_begun : (events : List Event) (k : ℕ) → list_any (syncs_it k) (after_all events).syncs ≡ true
+    → has k (filter_map syncs_ticket events) ≡ true
 has_begun events k h = none_at_start (has k (filter_map syncs_ticket events)) (began start events k h)
 
 -- ---- and is done at its place
@@ -88,10 +89,12 @@ pub record IsSyncAt (calls : Calls) (history : List Placed) (k : ℕ) : Type 0 w
 abbrev AreSyncsAt : Calls → List Placed → Type 0
 AreSyncsAt calls history = (k : ℕ) → has k (done_syncs calls history) ≡ true → IsSyncAt calls history k
 
-longer : (calls : Calls) (history : List Placed) (q : Placed) (k : ℕ) → IsSyncAt calls history k → IsSyncAt calls (history ++ q ∷ []) k
+longer : (calls : Calls) (history : List Placed) (q : Placed) (k : ℕ) → IsSyncAt calls history k
+    → IsSyncAt calls (history ++ q ∷ []) k
 longer calls history q k s = record { placed = s.placed; at = at_more history (q ∷ []) k s.placed s.at; sync = s.sync }
 
-one_placed : (calls : Calls) (history : List Placed) (q : Placed) (fate : Fate) (call : Option Call) → q.fate ≡ fate → call_at calls q ≡ call → AreSyncsAt calls history
+one_placed : (calls : Calls) (history : List Placed) (q : Placed) (fate : Fate) (call : Option Call) → q.fate ≡ fate
+    → call_at calls q ≡ call → AreSyncsAt calls history
     → AreSyncsAt calls (history ++ q ∷ [])
 one_placed calls history q fates.Done (Some Sync) fate call are k h =
     ⊎_elim (λ old. longer calls history q k (are k old))
@@ -115,7 +118,8 @@ go_on calls front (q ∷ behind) are =
     subst (AreSyncsAt calls) (append_assoc front (q ∷ []) behind)
     (go_on calls (front ++ q ∷ []) behind (one_placed calls front q q.fate (call_at calls q) refl refl are))
 
-pub syncs_at : (calls : Calls) (history : List Placed) (events : List Event) (k : ℕ) → AreSyncs calls history events → list_any (syncs_it k) (after_all events).syncs ≡ true
+pub syncs_at : (calls : Calls) (history : List Placed) (events : List Event) (k : ℕ) → AreSyncs calls history events
+    → list_any (syncs_it k) (after_all events).syncs ≡ true
     → IsSyncAt calls history k
 syncs_at calls history events k are h =
     go_on calls [] history (λ k h. absurd (cc)) k (sym (ap (has k) are) ∙ has_begun events k h)

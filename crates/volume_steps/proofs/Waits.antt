@@ -1,22 +1,20 @@
 -- Reads that wait, once an op was done or failed.
-use Rattle.std.specs.Prelude.{◌≡◌, ◌==◌, ◌||◌, not, ℕ, Bool, true, false, List, ◌∷◌, All, map, Option, Some, None, IfSome}
+use Rattle.std.specs.Prelude.{◌≡◌, ◌||◌, not, ℕ, Bool, true, false, List, ◌∷◌, All, map, Option, IfSome}
 use Rattle.std.specs.List.{list_any}
 use Rattle.std.proofs.Common.{refl, sym, ap, subst, ◌∙◌}
 use Rattle.std.proofs.lemmas.List.Elements.{All-weaker}
 use Rattle.tape_types.specs.declared.cartridges.Cartridge.{Cartridge}
-use Rattle.tape_types.specs.declared.cartridges.Part.{Part}
 use Rattle.tape_types.specs.declared.cartridges.Place.{Place}
 use Rattle.plain_tree.specs.Calls.{answer}
 use Rattle.plain_tree.specs.declared.calls.Placed.{Placed}
 use Rattle.head_trail.specs.Trail.{asks, puts_at}
 use Rattle.head_trail.specs.Waiting.{Request, State}
 use Rattle.tape_layout.specs.declared.ops.Op.{Op}
-use Rattle.tape_layout.specs.declared.standing.Ends.{Ends}
 use Rattle.volume_model.specs.Served.{headed}
 use Rattle.volume_reads.specs.Gathering.{Gathering, IsGathering}
 use Rattle.volume_space.specs.Files.{Files}
 use Rattle.volume_space.specs.Standing.{Given, standing}
-use Rattle.volume_tape.specs.Planned.{IsDoneAt, IsPlan, IsPutBy, Items, ends_in, tape_on}
+use Rattle.volume_tape.specs.Planned.{IsDoneAt, IsPlan, Items, ends_in, tape_on}
 use Rattle.volume_tape.proofs.Marks.{rest_holds}
 use Rattle.volume_parts.specs.Tied.{AreFilesRight, AreReading, IsAsked, IsReading, is_of}
 
@@ -29,7 +27,8 @@ or_later true b h = refl
 or_later false b h = h
 
 -- what was done at a place is done there with one op less
-pub still_done : (planned : Items) (op : Op) (later : List Op) (place : Place) → IsDoneAt planned (op ∷ later) place → IsDoneAt planned later place
+pub still_done : (planned : Items) (op : Op) (later : List Op) (place : Place) → IsDoneAt planned (op ∷ later) place
+    → IsDoneAt planned later place
 still_done planned op later place d = record {
   below = d.below;
   free = or_second (puts_at place (headed op)) (list_any (puts_at place) (map headed later)) d.free;
@@ -51,7 +50,8 @@ module _ (g : Given) (on off : Option ℕ) (history : List Placed) (planned : It
   }
 
   -- who waits for a block waits on with one op less
-  pub reads_done : (op : Op) (later : List Op) (reads : List Gathering) → AreReading g off history planned told (op ∷ later) old reads
+  pub reads_done : (op : Op) (later : List Op) (reads : List Gathering)
+      → AreReading g off history planned told (op ∷ later) old reads
       → AreReading g on history planned told later new reads
   reads_done op later reads are = record {
     each = All-weaker (IsReading g off history planned told old) (IsReading g on history planned told new) one_reads reads are.each;
@@ -63,7 +63,8 @@ module _ (g : Given) (on off : Option ℕ) (history : List Placed) (planned : It
   }
 
   -- and with the same ops
-  pub reads_stay : (ops : List Op) (reads : List Gathering) → AreReading g off history planned told ops old reads → AreReading g on history planned told ops new reads
+  pub reads_stay : (ops : List Op) (reads : List Gathering) → AreReading g off history planned told ops old reads
+      → AreReading g on history planned told ops new reads
   reads_stay ops reads are = record {
     each = All-weaker (IsReading g off history planned told old) (IsReading g on history planned told new) one_reads reads are.each;
     apart = are.apart;
@@ -71,7 +72,8 @@ module _ (g : Given) (on off : Option ℕ) (history : List Placed) (planned : It
   }
 
 -- the files with one op less
-pub files_done : (files : Files) (planned : Items) (op : Op) (later : List Op) → IsPlan planned (op ∷ later) → AreFilesRight files (ends_in planned) (op ∷ later)
+pub files_done : (files : Files) (planned : Items) (op : Op) (later : List Op) → IsPlan planned (op ∷ later)
+    → AreFilesRight files (ends_in planned) (op ∷ later)
     → AreFilesRight files (ends_in planned) later
 files_done files planned op later plan right = record {
   low = right.low;

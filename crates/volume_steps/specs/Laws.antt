@@ -1,15 +1,12 @@
 -- What each step of the head shows of a served volume, and that the next one can be made.
-use Rattle.std.specs.Prelude.{ℕ, ◌≡◌, ◌⊎◌, ◌<◌, ◌≤◌, ◌++◌, ◌^◌, true, List, [], ◌∷◌, Option, Some, None, length, slice_get}
+use Rattle.std.specs.Prelude.{ℕ, ◌≡◌, ◌⊎◌, ◌<◌, ◌≤◌, ◌++◌, ◌^◌, true, List, [], ◌∷◌, Option, Some, None, slice_get}
 use Rattle.tape_types.specs.declared.moments.Moment.{Moment}
 use Rattle.tape_types.specs.declared.cartridges.Place.{Place}
 use Rattle.tape_drive.specs.declared.drive.Drive.{Ghosts}
 use Rattle.session_script.specs.declared.logs.Event.{Event}
 use Rattle.head_core.specs.Steps.{CanDo, IsInReach}
-use Rattle.head_queue.specs.Allowed.{op_place}
-use Rattle.head_queue.specs.Picks.{IsPick}
-use Rattle.head_queue.specs.declared.queues.Pick.TheVariants.{Op as picks_op, Request as picks}
 use Rattle.head_trail.specs.Trail.{steps}
-use Rattle.head_trail.specs.Waiting.{State, is_calm, ops, waiting_op}
+use Rattle.head_trail.specs.Waiting.{is_calm, waiting_op}
 use Rattle.tape_layout.specs.Ops.{HasRoom, place_of}
 use Rattle.tape_layout.specs.declared.ops.Op.{Op}
 use Rattle.volume_model.specs.Served.{Fixed, View, headed, is_waiting}

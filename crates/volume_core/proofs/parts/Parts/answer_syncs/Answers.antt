@@ -16,18 +16,20 @@ loop-ticket-smaller g c =
     (fewer st.done c.in-Some.ticket st.syncs (sym c.due.ensures ∙ c.in-Some.is))
 
 pub loop-ticket-preserved : goal.loop-ticket-preserved
-loop-ticket-preserved g c = (c.loop-ticket.invariant.0,
-    answering_one_more _ c.in-Some.ticket _ (seen_parts c.loop-ticket.self) _ c.loop-ticket.invariant.1 (sym c.due.ensures ∙ c.in-Some.is) record {
-      drive = refl;
-      stock = refl;
-      on = refl;
-      events = c.synced.ensures.events;
-      acks = c.synced.ensures.acks
-          ∙ ap (λ (n : ℕ). c.loop-ticket.self.trail.acks ++ record { place = c.in-Some.ticket; command = n } ∷ []) c.loop-ticket.invariant.0;
-      kept = c.synced.ensures.kept;
-      listed = record { history = c.answer.ensures.history; marks = c.answer.ensures.marks; calls = c.answer.ensures.calls; sessions = c.answer.ensures.sessions };
-      replies = c.answer.ensures.replies;
-      queue = refl;
-      answered = refl;
-      reads = refl;
-    })
+loop-ticket-preserved g c = (
+  c.loop-ticket.invariant.0,
+  answering_one_more _ c.in-Some.ticket _ (seen_parts c.loop-ticket.self) _ c.loop-ticket.invariant.1 (sym c.due.ensures ∙ c.in-Some.is) record {
+    drive = refl;
+    stock = refl;
+    on = refl;
+    events = c.synced.ensures.events;
+    acks = c.synced.ensures.acks
+        ∙ ap (λ (n : ℕ). c.loop-ticket.self.trail.acks ++ record { place = c.in-Some.ticket; command = n } ∷ []) c.loop-ticket.invariant.0;
+    kept = c.synced.ensures.kept;
+    listed = record { history = c.answer.ensures.history; marks = c.answer.ensures.marks; calls = c.answer.ensures.calls; sessions = c.answer.ensures.sessions };
+    replies = c.answer.ensures.replies;
+    queue = refl;
+    answered = refl;
+    reads = refl;
+  },
+)

@@ -11,14 +11,14 @@ returns-then-waits g c =
     waits_on c.args.owner c.args.place c.args.self.now.head.block _ _ record {
       drive = refl;
       only = record {
-          stock = refl;
-          on = refl;
-          acks = c.served.ensures.acks;
-          kept = c.served.ensures.kept;
-          listed = record { history = refl; marks = refl; calls = refl; sessions = refl };
-          trail = c.head-at.ensures.trail;
-          arrived = c.remove.ensures.arrived;
-        };
+        stock = refl;
+        on = refl;
+        acks = c.served.ensures.acks;
+        kept = c.served.ensures.kept;
+        listed = record { history = refl; marks = refl; calls = refl; sessions = refl };
+        trail = c.head-at.ensures.trail;
+        arrived = c.remove.ensures.arrived;
+      };
       events = c.served.ensures.events;
       request = record {
         front = c.requires.node.1.front;
@@ -44,14 +44,14 @@ returns g c =
     is_answered c.args.owner c.args.place c.args.self.now.head.block c.finish-answer.result c.fill.new.self.reads _ _ record {
       drive = refl;
       only = record {
-          stock = refl;
-          on = refl;
-          acks = c.served.ensures.acks;
-          kept = c.served.ensures.kept;
-          listed = record { history = c.answer.ensures.history; marks = c.answer.ensures.marks; calls = c.answer.ensures.calls; sessions = c.answer.ensures.sessions };
-          trail = c.head-at.ensures.trail;
-          arrived = c.remove.ensures.arrived;
-        };
+        stock = refl;
+        on = refl;
+        acks = c.served.ensures.acks;
+        kept = c.served.ensures.kept;
+        listed = record { history = c.answer.ensures.history; marks = c.answer.ensures.marks; calls = c.answer.ensures.calls; sessions = c.answer.ensures.sessions };
+        trail = c.head-at.ensures.trail;
+        arrived = c.remove.ensures.arrived;
+      };
       events = c.served.ensures.events;
       request = record {
         front = c.requires.node.1.front;
