@@ -29,6 +29,7 @@ use Rattle.volume_model.specs.declared.marks.Kind.TheVariants as kinds
 use Rattle.session_script.specs.declared.logs.Reply.TheVariants as the_replies
 use Rattle.head_trail.specs.Trail.{IsTrail}
 use Rattle.tape_drive.specs.declared.drive.Drive.{Ghosts}
+use Rattle.tape_layout.specs.declared.ops.Op.{Op}
 use Rattle.volume_model.specs.declared.answers.Submitted.{Submitted}
 use Rattle.volume_model.specs.declared.answers.Submitted.TheVariants as submitted
 use Rattle.volume_stock.specs.Applied.{IsUnchanged}
@@ -254,6 +255,16 @@ puts_off who old mid new many r stock others events acks kept trail history repl
   sessions = sessions ∙ r.sessions;
 }
 
-pub is_put_off : {D : Type 0} (drive : Ghosts D) (who nth : ℕ) (at : Moment) (call : Call) (old new : Parts D) → PutsOff who old new
-    → IsSubmitted drive who nth at old new call submitted.Drain
-is_put_off drive who nth at call old new p = ([], made.puts_off p)
+-- ---- calls that are placed
+
+pub ready_no_drain : (result : Submitted) (reply : Reply) → result ≡ submitted.Ready reply → result ≢ submitted.Drain
+ready_no_drain result reply is drain = let clash : submitted.Ready reply ≡ submitted.Drain = sym is ∙ drain in cc
+
+pub waits_no_drain : (result : Submitted) (ticket : ℕ) → result ≡ submitted.Wait ticket → result ≢ submitted.Drain
+waits_no_drain result ticket is drain = let clash : submitted.Wait ticket ≡ submitted.Drain = sym is ∙ drain in cc
+
+pub synced_no_drain : (result : Submitted) (here : ℕ) (ops : List Op) → result ≡ made.synced_answer here ops
+    → result ≢ submitted.Drain
+synced_no_drain result here [] is drain =
+    let clash : submitted.Ready (the_replies.Answer the_answers.Synced) ≡ submitted.Drain = sym is ∙ drain in cc
+synced_no_drain result here (op ∷ later) is drain = let clash : submitted.Wait here ≡ submitted.Drain = sym is ∙ drain in cc

@@ -1,6 +1,6 @@
 //! Reads, which are answered at once where all their blocks are held, and else wait for the others.
 
-ghost use Rattle.std.specs.Prelude.{◌≡◌, ◌+◌, ◌*◌, ◌^◌, ◌≤◌, ◌<◌, ℕ, List as Items, None, IfOk, OnErr, OnOk, length, true};
+ghost use Rattle.std.specs.Prelude.{◌≡◌, ◌≢◌, ◌+◌, ◌*◌, ◌^◌, ◌≤◌, ◌<◌, ℕ, List as Items, None, IfOk, OnErr, OnOk, length, true};
 ghost use Rattle.extent_map.specs.Replies.{bytes_in as bytes_of_piece, size_of};
 ghost use Rattle.file_tree.specs.Tree.{plain_of, whole};
 ghost use Rattle.head_trail.specs.Trail.{IsTrail, is_trail_from};
@@ -9,6 +9,7 @@ ghost use Rattle.plain_tree.specs.declared.calls.Call.TheVariants as calls;
 ghost use Rattle.tape_layout.specs.Ops.{held_in};
 ghost use Rattle.volume_groups.specs.Laws.{wants_at};
 ghost use Rattle.volume_journal.specs.Trails.{state};
+ghost use Rattle.volume_model.specs.declared.answers.Submitted.TheVariants as submitted;
 ghost use Rattle.volume_core.specs.Asking.{CanAsk, IsSubmitted, Reserves, Stands};
 ghost use Rattle.volume_core.specs.Seen.{seen_parts};
 ghost use Rattle.volume_core.specs.Wanted.{AreTakenFrom, AsksBlocks, CanWantBlocks, HasEvents, HasRequests, IsFetched, IsTakenFrom, TiedReadsMayWant};
@@ -38,6 +39,7 @@ struct Fetched {
 
 impl<D: Drive> Parts<D> {
     /// Reads at most so many bytes of a file, from an offset on.
+    #[tactic(auto, using(crate::proofs::SubmitLemmas::ready_no_drain))]
     pub fn read_bytes(
         &mut self,
         asked: Asked,
@@ -51,8 +53,10 @@ impl<D: Drive> Parts<D> {
         requires stands { Stands (seen_parts self.old) }
         requires wants { CanWantBlocks (seen_parts self.old) }
         requires is_read { call.now ≡ calls.Read path.now offset count }
-        ensures { IsSubmitted D.Drive asked.who asked.nth asked.at (seen_parts self.old) (seen_parts self.new) call.now
+        ensures submits { IsSubmitted D.Drive asked.who asked.nth asked.at (seen_parts self.old) (seen_parts self.new) call.now
             result }
+        ensures answered { self.new.reads.answered ≡ self.old.reads.answered }
+        ensures placed { result ≢ submitted.Drain }
     {
         match self.stock.check(call) {
             Ok(None) => self.read_file(asked, alloc, path, offset, count),
@@ -64,6 +68,7 @@ impl<D: Drive> Parts<D> {
     }
 
     /// Reads a file that is there.
+    #[tactic(auto, using(crate::proofs::SubmitLemmas::ready_no_drain))]
     fn read_file(
         &mut self,
         asked: Asked,
@@ -76,8 +81,10 @@ impl<D: Drive> Parts<D> {
         requires stands { Stands (seen_parts self.old) }
         requires wants { CanWantBlocks (seen_parts self.old) }
         requires free { refusal_of (plain_of whole self.old.stock.tree) (calls.Read path.now offset count) ≡ None }
-        ensures { IsSubmitted D.Drive asked.who asked.nth asked.at (seen_parts self.old) (seen_parts self.new)
+        ensures submits { IsSubmitted D.Drive asked.who asked.nth asked.at (seen_parts self.old) (seen_parts self.new)
             (calls.Read path.now offset count) result }
+        ensures answered { self.new.reads.answered ≡ self.old.reads.answered }
+        ensures placed { result ≢ submitted.Drain }
     {
         let here = self.placements.len();
         match fetch(&self.stock, alloc, here, path, offset, count) {
@@ -90,15 +97,18 @@ impl<D: Drive> Parts<D> {
     }
 
     /// Answers a read that wants no block, and has another wait.
+    #[tactic(auto, using(crate::proofs::SubmitLemmas::ready_no_drain))]
     fn read_on(&mut self, asked: Asked, reading: Reading, wanted: List<Place>) -> Submitted
         requires can { CanAsk asked.who (seen_parts self.old) }
         requires may { is_trail_from (state self.old.trail) (wants_at (length self.old.placements.history) wanted)
             ≡ true }
-        ensures { (path : Items (Items ℕ)) (offset count : ℕ)
+        ensures submits { (path : Items (Items ℕ)) (offset count : ℕ)
             → refusal_of (plain_of whole self.old.stock.tree) (calls.Read path offset count) ≡ None
             → IsFetched self.old.stock (length self.old.placements.history) path offset count reading wanted
             → IsSubmitted D.Drive asked.who asked.nth asked.at (seen_parts self.old) (seen_parts self.new)
             (calls.Read path offset count) result }
+        ensures answered { self.new.reads.answered ≡ self.old.reads.answered }
+        ensures placed { result ≢ submitted.Drain }
     {
         if wanted.len() == 0 {
             let (told, kept) = reading.pair();
@@ -109,17 +119,19 @@ impl<D: Drive> Parts<D> {
     }
 
     /// A read waits for these blocks, one or more.
-    #[tactic(auto, using(crate::proofs::AwaitLemmas::can_place_on))]
+    #[tactic(auto, using(crate::proofs::AwaitLemmas::can_place_on, crate::proofs::SubmitLemmas::ready_no_drain, crate::proofs::SubmitLemmas::waits_no_drain))]
     fn wait_for(&mut self, asked: Asked, reading: Reading, wanted: List<Place>) -> Submitted
         requires can { CanAsk asked.who (seen_parts self.old) }
         requires some { 1 ≤ length wanted }
         requires may { is_trail_from (state self.old.trail) (wants_at (length self.old.placements.history) wanted)
             ≡ true }
-        ensures { (path : Items (Items ℕ)) (offset count : ℕ)
+        ensures submits { (path : Items (Items ℕ)) (offset count : ℕ)
             → refusal_of (plain_of whole self.old.stock.tree) (calls.Read path offset count) ≡ None
             → IsFetched self.old.stock (length self.old.placements.history) path offset count reading wanted
             → IsSubmitted D.Drive asked.who asked.nth asked.at (seen_parts self.old) (seen_parts self.new)
             (calls.Read path offset count) result }
+        ensures answered { self.new.reads.answered ≡ self.old.reads.answered }
+        ensures placed { result ≢ submitted.Drain }
     {
         match self.ask(reading, wanted.as_slice()) {
             Ok(()) => self.place_waiting(asked),
@@ -135,6 +147,7 @@ impl<D: Drive> Parts<D> {
         ensures ok { OnOk result (AsksBlocks (length self.old.placements.history) wanted.now reading
             (seen_parts self.old) (seen_parts self.new)) }
         ensures err { OnErr result (Reserves (seen_parts self.old) (seen_parts self.new)) }
+        ensures answered { self.new.reads.answered ≡ self.old.reads.answered }
     {
         let here = self.placements.len();
         self.reserve_asked(wanted.len())?;
@@ -149,6 +162,7 @@ impl<D: Drive> Parts<D> {
         ensures reserves { Reserves (seen_parts self.old) (seen_parts self.new) }
         ensures stock { self.new.stock ≡ self.old.stock }
         ensures placements { self.new.placements ≡ self.old.placements }
+        ensures answered { self.new.reads.answered ≡ self.old.reads.answered }
         ensures events { OnOk result (2 * count ≤ self.new.trail.spare) }
         ensures requests { OnOk result (count ≤ self.new.queue.spare) }
         ensures reads { OnOk result (1 ≤ self.new.reads.spare) }

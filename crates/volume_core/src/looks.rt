@@ -1,10 +1,11 @@
 //! Calls that look at the tree.
 
-ghost use Rattle.std.specs.Prelude.{◌≡◌, true, IfOk};
+ghost use Rattle.std.specs.Prelude.{◌≡◌, ◌≢◌, true, IfOk};
 ghost use Rattle.extent_map.specs.Cells.{Tape};
 ghost use Rattle.file_tree.specs.Tree.{plain_of};
 ghost use Rattle.plain_tree.specs.Calls.{answer};
 ghost use Rattle.volume_parts.specs.Placing.{only_looks};
+ghost use Rattle.volume_model.specs.declared.answers.Submitted.TheVariants as submitted;
 ghost use Rattle.volume_core.specs.Asking.{CanAsk, IsSubmitted};
 ghost use Rattle.volume_core.specs.Seen.{seen_parts};
 
@@ -25,12 +26,14 @@ struct Twice {
 
 impl<D: Drive> Parts<D> {
     /// Answers a call that looks at the tree.
-    #[tactic(auto, using(crate::proofs::SubmitLemmas::no_memory_here))]
+    #[tactic(auto, using(crate::proofs::SubmitLemmas::no_memory_here, crate::proofs::SubmitLemmas::ready_no_drain))]
     pub fn look(&mut self, asked: Asked, call: &Call) -> Submitted
         requires can { CanAsk asked.who (seen_parts self.old) }
         requires looks { only_looks call.now ≡ true }
-        ensures { IsSubmitted D.Drive asked.who asked.nth asked.at (seen_parts self.old) (seen_parts self.new) call.now
+        ensures submits { IsSubmitted D.Drive asked.who asked.nth asked.at (seen_parts self.old) (seen_parts self.new) call.now
             result }
+        ensures answered { self.new.reads.answered ≡ self.old.reads.answered }
+        ensures placed { result ≢ submitted.Drain }
     {
         match told_twice(&self.stock, call) {
             Ok(both) => {

@@ -1,6 +1,6 @@
 //! Calls that change the tree.
 
-ghost use Rattle.std.specs.Prelude.{◌≡◌, ◌+◌, ◌-◌, ◌*◌, ◌≤◌, ◌++◌, Bool, false, map, length, None, OnOk};
+ghost use Rattle.std.specs.Prelude.{◌≡◌, ◌≢◌, ◌+◌, ◌-◌, ◌*◌, ◌≤◌, ◌++◌, Bool, false, map, length, None, OnOk};
 ghost use Rattle.extent_map.specs.Cells.{Tape};
 ghost use Rattle.tape_types.specs.declared.cartridges.Part.TheVariants as parts;
 ghost use Rattle.tape_types.specs.declared.moments.Moment.{Moment};
@@ -12,6 +12,7 @@ ghost use Rattle.volume_model.specs.Submits.{queues_at};
 ghost use Rattle.volume_stock.specs.Stocks.{IsStock};
 ghost use Rattle.volume_journal.specs.Trails.{due_ticket, state};
 ghost use Rattle.volume_parts.specs.Placing.{only_looks};
+ghost use Rattle.volume_model.specs.declared.answers.Submitted.TheVariants as submitted;
 ghost use Rattle.volume_core.specs.Asking.{CanAsk, CanPlace, IsSubmitted, Queues, QueuesDone, Stands, run};
 ghost use Rattle.volume_core.specs.Seen.{seen_parts};
 
@@ -27,13 +28,16 @@ use volume_stock::Stock;
 
 impl<D: Drive> Parts<D> {
     /// Makes a call that changes the tree, and queues its ops.
+    #[tactic(auto, using(crate::proofs::SubmitLemmas::ready_no_drain))]
     pub fn change(&mut self, asked: Asked, call: &Call) -> Submitted
         requires can { CanAsk asked.who (seen_parts self.old) }
         requires stands { Stands (seen_parts self.old) }
         requires no_wait { may_wait call.now ≡ false }
         requires no_look { only_looks call.now ≡ false }
-        ensures { IsSubmitted D.Drive asked.who asked.nth asked.at (seen_parts self.old) (seen_parts self.new) call.now
+        ensures submits { IsSubmitted D.Drive asked.who asked.nth asked.at (seen_parts self.old) (seen_parts self.new) call.now
             result }
+        ensures answered { self.new.reads.answered ≡ self.old.reads.answered }
+        ensures placed { result ≢ submitted.Drain }
     {
         let (ip, dp) = self.stock.ends();
         if reserve_for(&self.stock, &mut self.trail, call).is_err() {

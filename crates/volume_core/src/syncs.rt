@@ -1,6 +1,6 @@
 //! Syncs.
 
-ghost use Rattle.std.specs.Prelude.{◌≡◌, ◌+◌, ◌-◌, ◌*◌, ◌<◌, ◌≤◌, ◌^◌, Bool, nat_lt, length, None, Some, IfSome, OnOk};
+ghost use Rattle.std.specs.Prelude.{◌≡◌, ◌≢◌, ◌+◌, ◌-◌, ◌*◌, ◌<◌, ◌≤◌, ◌^◌, Bool, nat_lt, length, None, Some, IfSome, OnOk};
 ghost use Rattle.std.specs.Option.{option_map};
 ghost use Rattle.extent_map.specs.Cells.{Tape};
 ghost use Rattle.tape_types.specs.declared.moments.Moment.{Moment};
@@ -12,6 +12,7 @@ ghost use Rattle.volume_space.specs.Standing.{Given, Standing, ask_of, rules};
 ghost use Rattle.volume_stock.specs.Stocks.{IsStock};
 ghost use Rattle.volume_stock.specs.Syncs.{IsDocument};
 ghost use Rattle.volume_journal.specs.Trails.{due_ticket, state};
+ghost use Rattle.volume_model.specs.declared.answers.Submitted.TheVariants as submitted;
 ghost use Rattle.volume_core.specs.Asking.{AnswersSync, Awaits, CanAsk, CanPlace, CanQueueSync, IsSubmitted, Queues, QueuesSync, Stands, WaitsSynced, flush_at, index_places, run};
 ghost use Rattle.volume_core.specs.Seen.{seen_parts};
 
@@ -28,12 +29,14 @@ use volume_stock::Stock;
 
 impl<D: Drive> Parts<D> {
     /// Admits the index of a sync where the tree has changed since the last one, and queues its ops.
-    #[tactic(auto, using(crate::proofs::SubmitLemmas::no_memory_here))]
+    #[tactic(auto, using(crate::proofs::SubmitLemmas::no_memory_here, crate::proofs::SubmitLemmas::ready_no_drain))]
     pub fn sync(&mut self, asked: Asked) -> Submitted
         requires can { CanAsk asked.who (seen_parts self.old) }
         requires stands { Stands (seen_parts self.old) }
-        ensures { IsSubmitted D.Drive asked.who asked.nth asked.at (seen_parts self.old) (seen_parts self.new) calls.Sync
+        ensures submits { IsSubmitted D.Drive asked.who asked.nth asked.at (seen_parts self.old) (seen_parts self.new) calls.Sync
             result }
+        ensures answered { self.new.reads.answered ≡ self.old.reads.answered }
+        ensures placed { result ≢ submitted.Drain }
     {
         match self.stock.document(asked.at) {
             Ok(due) => self.sync_text(asked, &due),
@@ -42,14 +45,17 @@ impl<D: Drive> Parts<D> {
     }
 
     /// Admits the text of the index of a sync, and queues its ops.
+    #[tactic(auto, using(crate::proofs::SubmitLemmas::ready_no_drain, crate::proofs::SubmitLemmas::synced_no_drain))]
     fn sync_text(&mut self, asked: Asked, due: &Option<Vec<u8>>) -> Submitted
         requires can { CanAsk asked.who (seen_parts self.old) }
         requires stands { Stands (seen_parts self.old) }
         requires some { IfSome due.now (λ doc. 1 ≤ length doc.items) }
         requires document { (tape : Tape) (g : Given) (on : Bool) (st : Standing) → IsStock tape g on st self.old.stock
             → IsDocument g st asked.at (option_map (λ doc. doc.items) due.now) }
-        ensures { IsSubmitted D.Drive asked.who asked.nth asked.at (seen_parts self.old) (seen_parts self.new) calls.Sync
+        ensures submits { IsSubmitted D.Drive asked.who asked.nth asked.at (seen_parts self.old) (seen_parts self.new) calls.Sync
             result }
+        ensures answered { self.new.reads.answered ≡ self.old.reads.answered }
+        ensures placed { result ≢ submitted.Drain }
     {
         let (ip, dp) = self.stock.ends();
         let count = self.stock.waiting();

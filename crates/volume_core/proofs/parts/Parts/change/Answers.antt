@@ -6,8 +6,8 @@ use Rattle.volume_core.proofs.EndLemmas.{done_of, refused_of, reserves_both, sam
 use Rattle.volume_core.proofs.SubmitLemmas.{no_memory}
 use Rattle.volume_core.proofs.parts.Parts.change.Goals as goal
 
-pub returns-then-is_err : goal.returns-then-is_err
-returns-then-is_err g c =
+pub returns-then-is_err-clause-submits : goal.returns-then-is_err-clause-submits
+returns-then-is_err-clause-submits g c =
     let old = seen_parts c.args.self.now in
     let r = c.reserve_for.ensures in
     no_memory g.D.Drive c.args.asked.who c.args.asked.nth c.args.call.now c.args.asked.at c.void.result old
@@ -25,8 +25,8 @@ queue_change-requires-clause-room g c =
     (done_of c.args.call.now c.args.asked.at old.stock c.apply.new.self c.apply.result is c.apply.ensures.applied)
     (is_ok_then c.reserve_for.result (c.if-is_err.ensures {u = tt}).value c.reserve_for.ensures.room)
 
-pub returns-in-Ok-None : goal.returns-in-Ok-None
-returns-in-Ok-None g c =
+pub returns-in-Ok-None-clause-submits : goal.returns-in-Ok-None-clause-submits
+returns-in-Ok-None-clause-submits g c =
     let old = seen_parts c.args.self.now in
     let r = c.reserve_for.ensures in
     let is = c.in-Ok-None.is ∙ ap Ok c.in-Ok-None.field-0-is in
@@ -37,8 +37,8 @@ returns-in-Ok-None g c =
     (done_of c.args.call.now c.args.asked.at old.stock c.apply.new.self c.apply.result is c.apply.ensures.applied)
     r.events r.acks r.kept c.queue_change.ensures
 
-pub returns-in-Ok-Some : goal.returns-in-Ok-Some
-returns-in-Ok-Some g c =
+pub returns-in-Ok-Some-clause-submits : goal.returns-in-Ok-Some-clause-submits
+returns-in-Ok-Some-clause-submits g c =
     let old = seen_parts c.args.self.now in
     let r = c.reserve_for.ensures in
     let refusal = c.in-Ok-Some.refusal in
@@ -52,8 +52,8 @@ returns-in-Ok-Some g c =
     (reserves_both old c.apply.new.self c.reserve_for.new.trail (unchanged_same old.stock c.apply.new.self same) r.events r.acks r.kept)
     c.answer.ensures
 
-pub returns-in-Err : goal.returns-in-Err
-returns-in-Err g c =
+pub returns-in-Err-clause-submits : goal.returns-in-Err-clause-submits
+returns-in-Err-clause-submits g c =
     let old = seen_parts c.args.self.now in
     let r = c.reserve_for.ensures in
     change_void g.D.Drive c.args.asked.who c.args.asked.nth c.args.call.now c.args.asked.at c.void-in-Err.result c.in-Err.error old

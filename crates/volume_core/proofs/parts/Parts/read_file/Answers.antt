@@ -15,15 +15,15 @@ read_on-requires-clause-may g c =
     (subst (λ n. IsFetched c.args.self.now.stock n c.args.path.now c.args.offset c.args.count read wanted) c.len-here.ensures.len
     c.in-Ok.ensures)
 
-pub returns-in-Ok : goal.returns-in-Ok
-returns-in-Ok g c =
+pub returns-in-Ok-clause-submits : goal.returns-in-Ok-clause-submits
+returns-in-Ok-clause-submits g c =
     let read = c.in-Ok.fetched.reading in
     let wanted = c.in-Ok.fetched.wanted in
-    c.read_on.ensures c.args.path.now c.args.offset c.args.count c.requires.free
+    c.read_on.ensures.submits c.args.path.now c.args.offset c.args.count c.requires.free
     (subst (λ n. IsFetched c.args.self.now.stock n c.args.path.now c.args.offset c.args.count read wanted) c.len-here.ensures.len
     c.in-Ok.ensures)
 
-pub returns-in-Err : goal.returns-in-Err
-returns-in-Err g c =
+pub returns-in-Err-clause-submits : goal.returns-in-Err-clause-submits
+returns-in-Err-clause-submits g c =
     no_memory_here g.D.Drive c.args.asked.who c.args.asked.nth (calls.Read c.args.path.now c.args.offset c.args.count)
     c.args.asked.at c.void.result (seen_parts c.args.self.now) (seen_parts c.void.new.self) c.requires.can c.void.ensures

@@ -8,8 +8,8 @@ use Rattle.volume_core.proofs.SubmitLemmas.{no_memory}
 use Rattle.volume_core.proofs.SyncDone.{can_queue, sync_made}
 use Rattle.volume_core.proofs.parts.Parts.sync_text.Goals as goal
 
-pub returns-then-is_err : goal.returns-then-is_err
-returns-then-is_err g c =
+pub returns-then-is_err-clause-submits : goal.returns-then-is_err-clause-submits
+returns-then-is_err-clause-submits g c =
     let old = seen_parts c.args.self.now in
     let r = c.reserve_sync.ensures in
     no_memory g.D.Drive c.args.asked.who c.args.asked.nth calls.Sync c.args.asked.at c.void.result old
@@ -28,8 +28,8 @@ queue_sync-requires-clause-numbers g c =
     is_ok_then c.reserve_sync.result (c.if-is_err.ensures {u = tt}).value c.reserve_sync.ensures.room tape h on st c.args.asked.at is
     (c.requires.document tape h on st is))
 
-pub returns-in-Ok : goal.returns-in-Ok
-returns-in-Ok g c =
+pub returns-in-Ok-clause-submits : goal.returns-in-Ok-clause-submits
+returns-in-Ok-clause-submits g c =
     let old = seen_parts c.args.self.now in
     let r = c.reserve_sync.ensures in
     sync_made g.D.Drive c.args.asked.who c.args.asked.nth c.args.asked.at c.queue_sync.result c.ends-ip.result.0
@@ -39,8 +39,8 @@ returns-in-Ok g c =
     (λ early h on st is. (c.in-Ok.ensures {u = tt}).applied early h on st c.args.asked.at is (c.requires.document early h on st is))
     c.queue_sync.ensures
 
-pub returns-in-Err : goal.returns-in-Err
-returns-in-Err g c =
+pub returns-in-Err-clause-submits : goal.returns-in-Err-clause-submits
+returns-in-Err-clause-submits g c =
     let old = seen_parts c.args.self.now in
     let r = c.reserve_sync.ensures in
     change_void g.D.Drive c.args.asked.who c.args.asked.nth calls.Sync c.args.asked.at c.void-in-Err.result c.in-Err.error old

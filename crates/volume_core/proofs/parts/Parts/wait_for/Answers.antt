@@ -12,8 +12,8 @@ place_waiting-requires g c =
     can_place_on c.args.asked.who c.args.self.now.placements c.ask.new.self.placements c.in-Ok.ensures.ok.listed
     c.requires.can.place
 
-pub returns-in-Ok : goal.returns-in-Ok
-returns-in-Ok g c path offset count free f =
+pub returns-in-Ok-clause-submits : goal.returns-in-Ok-clause-submits
+returns-in-Ok-clause-submits g c path offset count free f =
     let old = seen_parts c.args.self.now in
     let mid = seen_parts c.ask.new.self in
     read_waits g.D.Drive c.args.asked.who c.args.asked.nth path offset count c.args.asked.at c.args.reading c.args.wanted
@@ -22,8 +22,8 @@ returns-in-Ok g c path offset count free f =
     c.as_slice.ensures c.in-Ok.ensures.ok)
     c.place_waiting.ensures
 
-pub returns : goal.returns
-returns g c path offset count free f =
+pub returns-clause-submits : goal.returns-clause-submits
+returns-clause-submits g c path offset count free f =
     no_memory g.D.Drive c.args.asked.who c.args.asked.nth (calls.Read path offset count) c.args.asked.at c.void.result
     (seen_parts c.args.self.now) (seen_parts c.ask.new.self) (seen_parts c.void.new.self) c.requires.can c.in-Err.ensures.err
     c.void.ensures
