@@ -113,7 +113,7 @@ impl Script {
     ghost use Rattle.std.specs.Prelude.{◌≡◌, ℕ, ◌+◌, ◌-◌, ◌^◌, ◌<◌, ◌≤◌, [], ◌∷◌, ◌++◌, length, IfOk, IfSome, slice_get, take};
     ghost use Rattle.std.specs.Option.{option_map};
     ghost use Rattle.session_script.specs.Grammar.{calls_of};
-    ghost use Rattle.session_script.specs.Sessions.{greatest_session};
+    ghost use Rattle.session_script.specs.Sessions.{HasSessions, greatest_session};
 
     /// A script with no call.
     pub(crate) fn new(alloc: Global) -> Result<Script, NoMemory>
@@ -168,9 +168,10 @@ impl Script {
         self.lines.len() as u32
     }
 
-    /// The greatest session that has a call, or 0.
+    /// The greatest session that has a call, or 0. Sessions are numbered from 1 to 16.
     pub fn sessions(&self) -> u16
-        ensures { result ≡ greatest_session self.now }
+        ensures greatest { result ≡ greatest_session self.now }
+        ensures each { HasSessions self.now }
     {
         self.sessions
     }

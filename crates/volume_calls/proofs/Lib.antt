@@ -1,13 +1,13 @@
-mod Promised
-mod Begun
+pub mod Promised
+pub mod Begun
 mod Within
 mod AnswersKept
-mod Submitted
-mod TurnAnswers
+pub mod Submitted
+pub mod TurnAnswers
 mod TurnSteps
-mod TurnLaw
+pub mod TurnLaw
 mod DrainAnswers
 mod DrainTies
 mod DrainMade
-mod DrainEnds
-mod DrainTurn
+pub mod DrainEnds
+pub mod DrainTurn

@@ -83,7 +83,7 @@ same_of None a b is_a is_b = absurd (let h : false ≡ true = is_a in cc)
 same_of (Some p) a b is_a is_b = sym (eqb-true p.who a is_a) ∙ eqb-true p.who b is_b
 
 module _ {D : Type 0} (drive : Ghosts D) (v : View D) (kept : IsInOrder drive v) where
-  placed_by_it : (who k : ℕ) → phase who v.marks ≡ waits k → passes (λ (q : Placed). q.who == who) (slice_get v.history k) ≡ true
+  pub placed_by_it : (who k : ℕ) → phase who v.marks ≡ waits k → passes (λ (q : Placed). q.who == who) (slice_get v.history k) ≡ true
   placed_by_it who k waiting =
       let p = (((phases_plain drive v kept who).waits_for k).0 waiting).placed in
       sym (has_picked (λ (q : Placed). q.who == who) v.history k) ∙ ap (has k) (sym (kept.orderly.marks.places who))

@@ -7,14 +7,14 @@ mod IndexLemmas
 mod OpLemmas
 mod PickLemmas
 mod PlacingLemmas
-mod QueueLemmas
+pub mod QueueLemmas
 mod ReadLemmas
 mod RequestLemmas
 mod RunLemmas
 mod StepLemmas
-mod SubmitLemmas
+pub mod SubmitLemmas
 mod SyncDone
 mod SyncLemmas
 mod SyncedLemmas
-mod TiedLemmas
+pub mod TiedLemmas
 mod WaitLemmas

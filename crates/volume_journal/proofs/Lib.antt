@@ -1,3 +1,4 @@
 mod TrailLemmas
 mod PlacementLemmas
 mod OpLemmas
+mod MovedLemmas

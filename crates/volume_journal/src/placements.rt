@@ -1,17 +1,17 @@
 //! What was placed and replied, and what each session was told.
 
-ghost use Rattle.std.specs.Prelude.{◌≡◌, ◌≢◌, ◌+◌, ◌*◌, ◌<◌, ◌≤◌, ◌^◌, ◌==◌, count_by, ℕ, [], ◌∷◌, ◌++◌, length, OnOk, IfOk, IfSome, None, Some, Option, option_map, slice_get, slice_set, vec_len, vec_capacity};
+ghost use Rattle.std.specs.Prelude.{◌≡◌, ◌≢◌, ◌+◌, ◌*◌, ◌<◌, ◌≤◌, ◌^◌, ◌==◌, count_by, ℕ, true, [], ◌∷◌, ◌++◌, All, is_some, length, map, OnOk, IfOk, IfSome, None, Some, Option, option_map, slice_get, slice_set, vec_len, vec_capacity};
 ghost use Rattle.session_script.specs.declared.logs.Reply.{Reply};
 ghost use Rattle.volume_model.specs.declared.marks.Kind.TheVariants as kinds;
 ghost use Rattle.volume_model.specs.Marks.{draining, mark, phase, waits};
 ghost use Rattle.volume_journal.specs.Placements.{Listed, or_none, there};
 
-use crate::lists::push;
+use crate::lists::{all_there, push};
 use plain_tree::Placed;
 use session_script::Reply;
 use std::alloc::Global;
 use std::marker::Model;
-use tape_types::NoMemory;
+use tape_types::{List, NoMemory};
 
 /// What a mark tells, without the reply.
 #[derive(Clone, Copy)]
@@ -102,6 +102,25 @@ impl Placements {
         };
         self.marks.reserve(room)?;
         Ok(())
+    }
+
+    /// The placements and their replies, all of which are there. The replies are moved into a vector that has room for them.
+    pub fn into_lists(self, told: Vec<Reply>) -> (List<Placed>, List<Reply>)
+        requires there { All (λ r. is_some r ≡ true) self.replies }
+        requires empty { told.items ≡ [] }
+        requires room { length self.replies ≤ vec_capacity told }
+        ensures history { result.0 ≡ self.history }
+        ensures replies { map Some result.1 ≡ self.replies }
+    {
+        let Placements {
+            history,
+            replies,
+            marks: _,
+            calls: _,
+            sessions: _,
+        } = self;
+        let told = all_there(replies, told);
+        (List::from_vec(history), List::from_vec(told))
     }
 
     /// How many calls were placed. Each has its place among the replies.

@@ -14,7 +14,7 @@ use crate::lists::push;
 use session_script::{Ack, Event};
 use std::alloc::Global;
 use std::marker::Model;
-use tape_types::{NoMemory, Part, Place, Twin};
+use tape_types::{List, NoMemory, Part, Place, Twin};
 
 /// A sync that waits until so many ops are done, counted from the first of all.
 #[derive(Clone, Copy)]
@@ -95,6 +95,15 @@ impl Trail {
         }
     }
 
+    /// The events and the acknowledgements.
+    pub fn into_lists(self) -> (List<Event>, List<Ack>)
+        ensures events { result.0 ≡ self.events }
+        ensures acks { result.1 ≡ self.acks }
+    {
+        let Trail { events, acks, .. } = self;
+        (List::from_vec(events), List::from_vec(acks))
+    }
+
     /// Makes room for so many more requests, ops and waiters, for all events that they bring, and for one more that waits.
     pub fn reserve(&mut self, more: usize) -> Result<(), NoMemory>
         ensures events { self.new.events ≡ self.old.events }
@@ -142,6 +151,13 @@ impl Trail {
         } else {
             None
         }
+    }
+
+    /// The fault that is kept for a session.
+    pub fn kept_fault(&self, who: u16) -> Option<Twin>
+        ensures { result ≡ first_of (kept_for who self.now.kept) }
+    {
+        fault_for(&self.kept, who)
     }
 
     /// The fault that is kept for a session, which is taken.
