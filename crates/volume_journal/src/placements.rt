@@ -132,6 +132,13 @@ impl Placements {
         self.history.len() as u64
     }
 
+    /// How many marks there are.
+    pub fn count_marks(&self) -> u64
+        ensures { result ≡ length self.now.marks }
+    {
+        self.marks.len() as u64
+    }
+
     /// Whose call was placed here.
     pub fn who(&self, place: u64) -> u16
         requires { place < length self.now.history }
