@@ -1,0 +1,4 @@
+pub mod Beginning
+pub mod Leaving
+pub mod Serving
+pub mod Turns

@@ -1,0 +1,192 @@
+//! The volume, and its calls.
+
+ghost use Rattle.std.specs.Prelude.{◌≡◌, ◌≤◌, ◌<◌, ℕ, length, IfErr, IfOk, IfSome};
+ghost use Rattle.session_script.specs.Grammar.{calls_of};
+ghost use Rattle.session_script.specs.Sessions.{greatest_session};
+ghost use Rattle.tape_meaning.specs.Mounts.{IsMount, Mounts};
+ghost use Rattle.volume_model.specs.Ends.{Leaves, Parts as LeavesApart, Starts};
+ghost use Rattle.volume_model.specs.Marks.{NothingWaits, draining, phase, waits};
+ghost use Rattle.volume_model.specs.Meanings.{cartridges};
+ghost use Rattle.volume_model.specs.Served.{IsServed};
+ghost use Rattle.volume_model.specs.Steps.{DrainsOnce, Turns};
+ghost use Rattle.volume_model.specs.Submits.{CanSubmit, Submits};
+ghost use Rattle.volume_order.specs.Kept.{seen};
+ghost use Rattle.served_volume.specs.Serving.{next_moment};
+
+use crate::draining::drain;
+use crate::leaving::take_log;
+use crate::starting::begin;
+use crate::submitting::submit;
+use crate::turning::turn;
+use plain_tree::Call;
+use session_script::{Reply, Script};
+use std::alloc::Global;
+use std::marker::Model;
+use std::snapshot::Snapshot;
+use tape_drive::Drive;
+use tape_edge::Clock;
+use tape_meaning::Mounted;
+use volume_core::Parts;
+use volume_model::{Drained, Kept, Left, Submitted, Turn};
+use volume_stock::Stock;
+
+/// A volume while its sessions are served. Contracts see its history, what was told to each session, and what the drive
+/// holds.
+#[derive(Drop)]
+pub struct Volume<D: Drive, C: Clock> {
+    parts: Parts<D>,
+    clock: C,
+    script: Script,
+    alloc: Global,
+    /// Room for the replies of the log.
+    told: Vec<Reply>,
+    mounted: Snapshot<Mounted>,
+    first: Snapshot<D>,
+    stock: Snapshot<Stock>,
+    watch: Snapshot<C>,
+    since: Snapshot<u64>,
+}
+
+impl<D: Drive, C: Clock> Model for Volume<D, C> {
+    ghost use Rattle.std.specs.Prelude.{◌≡◌, ◌≤◌, [], length, vec_capacity};
+    ghost use Rattle.std.specs.FinMap as fin;
+    ghost use Rattle.std.specs.Coded.{codes, coded_list, coded_ℕ};
+    ghost use Rattle.plain_tree.specs.Paths.{path_cmp};
+    ghost use Rattle.plain_tree.specs.contracts.nodes.Node as node;
+    ghost use Rattle.volume_model.specs.Served.{View};
+    ghost use Rattle.volume_parts.specs.Parts.{view_of};
+    ghost use Rattle.volume_core.specs.Seen.{seen_parts};
+    ghost use Rattle.served_volume.specs.Serving.{IsServing, fixed_of, next_moment};
+
+    ghost Value = { View D };
+
+    ghost coded = { Prim.hlevel (codes, fin.code {R = path_cmp} (coded_list (coded_list coded_ℕ)) node.the_row.coded) };
+
+    ghost view = { λ a. view_of
+        (fixed_of D.held a.script a.mounted.value a.first.value a.stock.value.tree (C.one a.watch.value) a.since.value)
+        (next_moment (C.one a.clock) (C.next a.clock)) (seen_parts a.parts) };
+
+    ghost invariant = { λ a. IsServing D.Drive
+        (fixed_of D.held a.script a.mounted.value a.first.value a.stock.value.tree (C.one a.watch.value) a.since.value)
+        (C.one a.clock) (C.next a.clock) (seen_parts a.parts)
+        × (a.told.items ≡ []) × (a.parts.placements.calls ≤ vec_capacity a.told) };
+}
+
+impl<D: Drive, C: Clock> Volume<D, C> {
+    /// Begins to serve a volume that was mounted. Of crashes is spoken since a number of the drive's commands, which is the
+    /// caller's choice; the drive had reached it. It makes no command of the drive. The refusal is want of memory.
+    pub fn start(
+        alloc: Global,
+        mounted: Mounted,
+        drive: D,
+        clock: C,
+        script: Script,
+        since: Snapshot<u64>,
+    ) -> Result<Volume<D, C>, Kept<D, C>>
+        requires mounts { IfSome (D.held drive) (λ c. Mounts c mounted) }
+        requires mount { IsMount (D.limits drive) mounted }
+        requires reached { since.value ≤ D.commands drive }
+        ensures err { IfErr result (λ k. (k.drive ≡ drive) × (k.clock ≡ clock)) }
+        ensures ok { IfOk result (λ v. Starts cartridges (seen D.Drive drive) mounted drive script since.value
+            (next_moment (C.one clock) (C.next clock)) (C.one clock) v) }
+        ensures served { IfOk result (λ v. IsServed cartridges (seen D.Drive drive) (seen D.Drive drive) v) }
+    {
+        let (mount, first, watch) = (
+            Snapshot::of(&mounted),
+            Snapshot::of(&drive),
+            Snapshot::of(&clock),
+        );
+        let calls = script.len() as usize;
+        let sessions = usize::from(script.sessions());
+        let Ok(told) = Vec::with_capacity(alloc, calls) else {
+            return Err(Kept { drive, clock });
+        };
+        match begin(alloc, mounted, drive, calls, sessions) {
+            Ok(parts) => {
+                let stock = Snapshot::of(&parts.stock);
+                Ok(Volume {
+                    parts,
+                    clock,
+                    script,
+                    alloc,
+                    told,
+                    mounted: mount,
+                    first,
+                    stock,
+                    watch,
+                    since,
+                })
+            }
+            Err(drive) => Err(Kept { drive, clock }),
+        }
+    }
+
+    /// Places the next call of a session, or puts a write off while more than 64 ops stand. It takes all the memory that the
+    /// call needs, and makes no command of the drive.
+    pub fn submit(&mut self, who: u16, nth: u32) -> Submitted
+        requires { CanSubmit self.old who nth }
+        ensures served { IsServed cartridges (seen D.Drive self.new.fixed.first) (seen D.Drive self.new.drive) self.new }
+        ensures submits { Submits (seen D.Drive self.old.fixed.first) (seen D.Drive self.new.drive) self.old self.new who nth
+            result }
+    {
+        let call = self.script.call(who, nth);
+        submit(&mut self.parts, &mut self.clock, self.alloc, call, who, nth)
+    }
+
+    /// Hands out the reply of a session that waits for a place, or makes a step of the head where the reply isn't there. It
+    /// takes no memory.
+    pub fn turn(&mut self, ticket: u64) -> Turn
+        requires { (who : ℕ) × (phase who self.old.marks ≡ waits ticket) }
+        ensures served { IsServed cartridges (seen D.Drive self.new.fixed.first) (seen D.Drive self.new.drive) self.new }
+        ensures turns { (who : ℕ) → phase who self.old.marks ≡ waits ticket
+            → Turns D.MOST (seen D.Drive self.old.drive) (seen D.Drive self.new.drive) self.old self.new who ticket result }
+    {
+        turn(&mut self.parts, ticket)
+    }
+
+    /// Makes a step of the head for a session that drains, unless there is room for its write or a fault is kept for it, with
+    /// which the write is placed void. It takes no memory.
+    pub fn drain_turn(&mut self, who: u16) -> Drained
+        requires { phase who self.old.marks ≡ draining }
+        ensures served { IsServed cartridges (seen D.Drive self.new.fixed.first) (seen D.Drive self.new.drive) self.new }
+        ensures drains { DrainsOnce D.MOST (seen D.Drive self.old.drive) (seen D.Drive self.new.drive) self.old self.new who
+            result }
+    {
+        drain(&mut self.parts, &mut self.clock, who)
+    }
+
+    /// How many calls a session has in the script.
+    pub fn count(&self, who: u16) -> u32
+        ensures { result ≡ length (calls_of self.now.fixed.script who) }
+    {
+        self.script.count(who)
+    }
+
+    /// How many marks there are: of placements, of replies that were handed out, and of drains that began or ended.
+    pub fn marks(&self) -> u64
+        ensures { result ≡ length self.now.marks }
+    {
+        self.parts.placements.count_marks()
+    }
+
+    /// Takes a volume apart of which nothing was asked yet. It makes no command of the drive.
+    pub fn part(self) -> Kept<D, C>
+        requires { self.history ≡ [] }
+        ensures drive { LeavesApart self result.drive }
+        ensures clock { next_moment (C.one result.clock) (C.next result.clock) ≡ self.next }
+    {
+        let Volume { parts, clock, .. } = self;
+        let drive = parts.head.into_drive();
+        Kept { drive, clock }
+    }
+
+    /// Leaves a volume in which nothing waits as it stands, with ops that weren't done yet: its drive, and the log of all
+    /// calls. It takes no memory, and makes no command of the drive.
+    pub fn leave(self) -> Left<D>
+        requires { NothingWaits (greatest_session self.fixed.script) self.marks }
+        ensures { Leaves self result.drive result.log }
+    {
+        let Volume { parts, told, .. } = self;
+        take_log(parts, told)
+    }
+}
