@@ -1,0 +1,6 @@
+//! What a crash leaves while a volume is closed, and what stands once it is: laws, without code that runs.
+#![tactic(auto)]
+
+mod laws;
+
+pub use laws::{closed_volumes_stand, closes_are_safe, indexes_of_closes_are_due};
