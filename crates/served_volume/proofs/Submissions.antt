@@ -1,5 +1,5 @@
 -- A submission with the moment that the clock gave, and what it leaves of a volume that is served.
-use Rattle.std.specs.Prelude.{ℕ, ◌≡◌, ◌≢◌, ◌⊎◌, ◌&&◌, nat_lt, ◌-◌, ◌<◌, ◌^◌, Bool, true, false, List, [], ◌∷◌, ◌++◌, Option, Some, None, IfSome, length}
+use Rattle.std.specs.Prelude.{ℕ, ◌≡◌, ◌≢◌, ◌⊎◌, ◌&&◌, nat_lt, ◌-◌, ◌<◌, ◌^◌, Bool, true, false, List, [], ◌∷◌, ◌++◌, Option, Some, None, IfSome, length, slice_get}
 use Rattle.std.proofs.Common.{refl, sym, ap, subst, ◌∙◌, arith}
 use Rattle.std.proofs.lemmas.Bool.{and_parts, ltb-true}
 use Rattle.std.proofs.lemmas.List.{length-map}
@@ -9,13 +9,15 @@ use Rattle.tape_drive.specs.declared.drive.Drive.{Ghosts}
 use Rattle.plain_tree.specs.declared.calls.Call.{Call}
 use Rattle.plain_tree.specs.declared.calls.Fate.TheVariants as fates
 use Rattle.plain_tree.specs.declared.calls.Placed.{Placed}
+use Rattle.session_script.specs.Grammar.{calls_of}
 use Rattle.session_script.specs.declared.logs.Reply.TheVariants as replies
 use Rattle.head_trail.specs.Trail.{after_all}
 use Rattle.head_trail.specs.Waiting.{ops}
 use Rattle.tape_layout.specs.declared.ops.Op.{Op}
 use Rattle.file_tree.specs.Valid.{IsGood}
+use Rattle.volume_model.specs.Meanings.{cartridges}
 use Rattle.volume_model.specs.Replies.{is_write}
-use Rattle.volume_model.specs.Served.{Fixed, View, headed}
+use Rattle.volume_model.specs.Served.{Fixed, IsServed, View, headed}
 use Rattle.volume_model.specs.Submits as model
 use Rattle.volume_model.specs.Submits.{CanSubmit, Submits, call_of}
 use Rattle.volume_model.specs.declared.answers.Submitted.{Submitted}
@@ -27,6 +29,7 @@ use Rattle.volume_parts.specs.Parts.{Parts, view_of}
 use Rattle.volume_parts.specs.Placing.{PutsOff}
 use Rattle.volume_submits.specs.Laws.{Made, puts_off}
 use Rattle.volume_calls.specs.Running.{IsRunning}
+use Rattle.volume_calls.proofs.Promised.{running_is_promised}
 use Rattle.volume_calls.proofs.Submitted.{submissions_run}
 use Rattle.volume_core.specs.Asking.{CanAsk, Finishes, IsSubmitted, Reserves}
 use Rattle.volume_core.proofs.SubmitLemmas.{no_memory}
@@ -205,7 +208,7 @@ module _ {D : Type 0} (drive : Ghosts D)
         };
       }
 
-  pub served_on : (answer : Submitted) → model.PutsOff (is_write call && nat_lt 64 (length old.stock.layout.ops)) answer
+  served_on : (answer : Submitted) → model.PutsOff (is_write call && nat_lt 64 (length old.stock.layout.ops)) answer
       → SubmitsAt drive who nth call before after old new answer
       → IsServedOn drive fixed before after who nth answer old new
   served_on (submitted.Ready reply) off s =
@@ -213,3 +216,45 @@ module _ {D : Type 0} (drive : Ghosts D)
   served_on (submitted.Wait ticket) off s =
       placed_on (submitted.Wait ticket) (λ drains. cc) off (λ on. (on.placing.1.placed, on.placing.1.history)) s.0 s.1 s.2
   served_on submitted.Drain off s = put_off_on off s.0 s.1
+
+-- ---- the call of a volume
+
+pub can_of : {D : Type 0} {v w : View D} (who nth : ℕ) → v ≡ w → CanSubmit w who nth → CanSubmit v who nth
+can_of who nth is can = subst (λ v. CanSubmit v who nth) (sym is) can
+
+submits_of : {D : Type 0} (drive : Ghosts D) (now : D) (v w new : View D) (who nth : ℕ) (answer : Submitted) → v ≡ w
+    → Submits (seen drive v.fixed.first) (seen drive now) v new who nth answer
+    → Submits (seen drive w.fixed.first) (seen drive now) w new who nth answer
+submits_of {D} drive now v w new who nth answer is s =
+    subst (λ (u : View D). Submits (seen drive u.fixed.first) (seen drive now) u new who nth answer) is s
+
+-- the call adds what is promised, and all that is promised of the volume is kept
+pub record Serves {D : Type 0} (drive : Ghosts D) (fixed : Fixed D) (before after : Told) (who nth : ℕ) (answer : Submitted)
+    (was : View D) (old new : Parts D) : Type 0 where
+  pub submits : Submits (seen drive was.fixed.first) (seen drive new.drive) was
+      (view_of fixed (next_moment after.one after.next) new) who nth answer
+  pub served : IsServed cartridges (seen drive fixed.first) (seen drive new.drive)
+      (view_of fixed (next_moment after.one after.next) new)
+  pub serving : IsServing drive fixed after.one after.next new
+  pub calls : new.listed.calls ≡ old.listed.calls
+
+pub serves : {D : Type 0} (drive : Ghosts D)
+    (only_now : (d : D) (image : Cartridge) → drive.commands d < 2 ^ 64 - 1 → drive.left_since d (drive.commands d) image
+    → drive.leaves d image)
+    (fixed : Fixed D) (before after : Told) (who nth : ℕ) (call : Call) (answer : Submitted) (was : View D) (old new : Parts D)
+    → IsServing drive fixed before.one before.next old → IsGood old.stock.tree
+    → view_of fixed (next_moment before.one before.next) old ≡ was → CanSubmit was who nth
+    → slice_get (calls_of fixed.script who) nth ≡ Some call → new.answered ≡ old.answered
+    → model.PutsOff (is_write call && nat_lt 64 (length old.stock.layout.ops)) answer
+    → SubmitsAt drive who nth call before after old new answer
+    → Serves drive fixed before after who nth answer was old new
+serves drive only_now fixed before after who nth call answer was old new serving good is can is_call answered off s =
+    let on = served_on drive only_now fixed before after who nth call old new serving good (can_of who nth is can) is_call
+    answered answer off s in
+    record {
+      submits = submits_of drive new.drive (view_of fixed (next_moment before.one before.next) old) was
+          (view_of fixed (next_moment after.one after.next) new) who nth answer is on.submits;
+      served = running_is_promised drive fixed (next_moment after.one after.next) new on.serving.runs;
+      serving = on.serving;
+      calls = on.serving.runs.tied.calls ∙ sym serving.runs.tied.calls;
+    }
