@@ -71,11 +71,11 @@ many_of : (write : Bool) (n : ℕ) → (write && nat_lt 64 n) ≡ true → 64 < 
 many_of write n is = ltb-true 64 n (and_parts write (nat_lt 64 n) is).1
 
 pub is_many : (off write : Bool) (n : ℕ) → off ≡ (write && nat_lt 64 n) → off ≡ true → 64 < n
-is_many off write n is yes = many_of write n (sym is ∙ yes)
+is_many off write n is so = many_of write n (sym is ∙ so)
 
 pub put_off_now : (off now : Bool) (result : Submitted) → off ≡ now → off ≡ true
     → (result ≡ submitted.Drain) ⊎ (result ≡ submitted.Ready replies.NoMemory) → model.PutsOff now result
-put_off_now off now result is yes ends = record { only = λ drains. sym is ∙ yes; each = λ so. ends }
+put_off_now off now result is so ends = record { only = λ drains. sym is ∙ so; each = λ again. ends }
 
 -- ---- a call that is placed
 
@@ -88,9 +88,9 @@ placed_at drive who nth call at before after submitted.Drain old new placed give
 
 pub not_put_off : (off now : Bool) (result : Submitted) → off ≡ now → off ≡ false → result ≢ submitted.Drain
     → model.PutsOff now result
-not_put_off off now result is no placed = record {
+not_put_off off now result is not_so placed = record {
   only = λ drains. absurd (placed drains);
-  each = λ yes. let clash : false ≡ true = sym no ∙ is ∙ yes in absurd cc;
+  each = λ so. let clash : false ≡ true = sym not_so ∙ is ∙ so in absurd cc;
 }
 
 -- ---- what it leaves
@@ -100,7 +100,7 @@ no_end [] x e = cc
 no_end (y ∷ xs) x e = cc
 
 -- a moment that the clock may give next
-some_moment : Option Moment → Moment → Moment
+abbrev some_moment : Option Moment → Moment → Moment
 some_moment (Some m) other = m
 some_moment None other = other
 
@@ -220,7 +220,7 @@ module _ {D : Type 0} (drive : Ghosts D)
 -- ---- the call of a volume
 
 pub can_of : {D : Type 0} {v w : View D} (who nth : ℕ) → v ≡ w → CanSubmit w who nth → CanSubmit v who nth
-can_of who nth is can = subst (λ v. CanSubmit v who nth) (sym is) can
+can_of {D} who nth is can = subst (λ (v : View D). CanSubmit v who nth) (sym is) can
 
 submits_of : {D : Type 0} (drive : Ghosts D) (now : D) (v w new : View D) (who nth : ℕ) (answer : Submitted) → v ≡ w
     → Submits (seen drive v.fixed.first) (seen drive now) v new who nth answer
