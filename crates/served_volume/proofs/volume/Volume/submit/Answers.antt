@@ -6,8 +6,8 @@ use Rattle.served_volume.specs.Turns.{told}
 use Rattle.served_volume.proofs.Submissions.{can_of, serves}
 use Rattle.served_volume.proofs.volume.Volume.submit.Goals as goal
 
-pub call-requires : goal.call-requires
-call-requires g c = (can_of c.args.who c.args.nth c.self.view_is c.requires).more
+pub call-call-requires : goal.call-call-requires
+call-call-requires g c = (can_of c.args.who c.args.nth c.self.view_is c.requires).more
 
 pub submit-requires : goal.submit-requires
 submit-requires g c =
@@ -19,7 +19,7 @@ submit-requires g c =
         next = next_moment (g.C.Clock.one s.clock) (g.C.Clock.next s.clock);
         runs = c.self.invariant.0.runs;
         can = can_of c.args.who c.args.nth c.self.view_is c.requires;
-        is_call = c.call.ensures;
+        is_call = c.call-call.ensures;
       };
     }
 
@@ -32,8 +32,8 @@ invariant_of-self g c =
     s.since.value)
     (told (g.C.Clock.one s.clock) (g.C.Clock.next s.clock))
     (told (g.C.Clock.one c.submit.new.clock) (g.C.Clock.next c.submit.new.clock))
-    c.args.who c.args.nth c.call.result.now c.submit.result c.args.self.now (seen_parts s.parts)
-    (seen_parts c.submit.new.parts) c.self.invariant.0 e.good c.self.view_is c.requires c.call.ensures e.answered e.put_off
+    c.args.who c.args.nth c.call-call.result.now c.submit.result c.args.self.now (seen_parts s.parts)
+    (seen_parts c.submit.new.parts) c.self.invariant.0 e.good c.self.view_is c.requires c.call-call.ensures e.answered e.put_off
     e.submits in
     (on.serving, c.self.invariant.1, subst (λ n. n ≤ vec_capacity s.told) (sym on.calls) c.self.invariant.2)
 
@@ -46,8 +46,8 @@ returns-clause-served g c =
     s.since.value)
     (told (g.C.Clock.one s.clock) (g.C.Clock.next s.clock))
     (told (g.C.Clock.one c.submit.new.clock) (g.C.Clock.next c.submit.new.clock))
-    c.args.who c.args.nth c.call.result.now c.submit.result c.args.self.now (seen_parts s.parts)
-    (seen_parts c.submit.new.parts) c.self.invariant.0 e.good c.self.view_is c.requires c.call.ensures e.answered e.put_off
+    c.args.who c.args.nth c.call-call.result.now c.submit.result c.args.self.now (seen_parts s.parts)
+    (seen_parts c.submit.new.parts) c.self.invariant.0 e.good c.self.view_is c.requires c.call-call.ensures e.answered e.put_off
     e.submits).served
 
 pub returns-clause-submits : goal.returns-clause-submits
@@ -59,6 +59,6 @@ returns-clause-submits g c =
     s.since.value)
     (told (g.C.Clock.one s.clock) (g.C.Clock.next s.clock))
     (told (g.C.Clock.one c.submit.new.clock) (g.C.Clock.next c.submit.new.clock))
-    c.args.who c.args.nth c.call.result.now c.submit.result c.args.self.now (seen_parts s.parts)
-    (seen_parts c.submit.new.parts) c.self.invariant.0 e.good c.self.view_is c.requires c.call.ensures e.answered e.put_off
+    c.args.who c.args.nth c.call-call.result.now c.submit.result c.args.self.now (seen_parts s.parts)
+    (seen_parts c.submit.new.parts) c.self.invariant.0 e.good c.self.view_is c.requires c.call-call.ensures e.answered e.put_off
     e.submits).submits
