@@ -34,7 +34,8 @@ allowed false drains due a b c = absurd cc
 allowed true true due a b c = absurd cc
 allowed true false true a b c = absurd cc
 
-module _ {D : Type 0} (drive : Ghosts D) (who nth : ℕ) (call : Call) (p : Parts D) (r : RunsFor drive who nth call p) where
+module _ {D : Type 0} (drive : Ghosts D) (who nth : ℕ) (call : Call) (p : Parts D)
+    (r : RunsFor drive who nth call p) where
   abbrev seen_now : View D
   seen_now = view_of r.fixed r.next p
 

@@ -38,7 +38,8 @@ use Rattle.served_volume.specs.Turns.{Gives, SubmitsAt, Told, told}
 
 -- ---- the clock
 
-pub asked_once : {C : Type 0} (one next : C → Option Moment) (old new : C) (at : Moment) → IfSome (next old) (λ m. at ≡ m)
+pub asked_once : {C : Type 0} (one next : C → Option Moment) (old new : C) (at : Moment)
+    → IfSome (next old) (λ m. at ≡ m)
     → IfSome (one old) (λ m. (at ≡ m) × (new ≡ old)) → Gives (told (one old) (next old)) (told (one new) (next new)) at
 asked_once one next old new at tells single = by (one old) refl single
   where
@@ -55,8 +56,8 @@ pub drains_at : {D : Type 0} (drive : Ghosts D) (who nth : ℕ) (call : Call) (c
 drains_at drive who nth call clock old new off = (refl, λ at. ([], puts_off off))
 
 -- there was no memory, so that it is placed void
-pub void_at : {D : Type 0} (drive : Ghosts D) (who nth : ℕ) (call : Call) (at : Moment) (before after : Told) (result : Submitted)
-    (old mid new : Parts D) → CanAsk who old → Gives before after at → Reserves old mid
+pub void_at : {D : Type 0} (drive : Ghosts D) (who nth : ℕ) (call : Call) (at : Moment) (before after : Told)
+    (result : Submitted) (old mid new : Parts D) → CanAsk who old → Gives before after at → Reserves old mid
     → Finishes who nth at fates.Void replies.NoMemory result mid new
     → SubmitsAt drive who nth call before after old new result
 void_at drive who nth call at before after result old mid new can gives reserves f =
@@ -104,15 +105,16 @@ abbrev some_moment : Option Moment → Moment → Moment
 some_moment (Some m) other = m
 some_moment None other = other
 
-pub record IsServedOn {D : Type 0} (drive : Ghosts D) (fixed : Fixed D) (before after : Told) (who nth : ℕ) (answer : Submitted)
-    (old new : Parts D) : Type 0 where
+pub record IsServedOn {D : Type 0} (drive : Ghosts D) (fixed : Fixed D) (before after : Told) (who nth : ℕ)
+    (answer : Submitted) (old new : Parts D) : Type 0 where
   pub submits : Submits (seen drive fixed.first) (seen drive new.drive)
-      (view_of fixed (next_moment before.one before.next) old) (view_of fixed (next_moment after.one after.next) new) who nth
-      answer
+      (view_of fixed (next_moment before.one before.next) old) (view_of fixed (next_moment after.one after.next) new) who
+      nth answer
   pub serving : IsServing drive fixed after.one after.next new
 
 module _ {D : Type 0} (drive : Ghosts D)
-    (only_now : (d : D) (image : Cartridge) → drive.commands d < 2 ^ 64 - 1 → drive.left_since d (drive.commands d) image
+    (only_now : (d : D) (image : Cartridge) → drive.commands d < 2 ^ 64 - 1
+    → drive.left_since d (drive.commands d) image
     → drive.leaves d image)
     (fixed : Fixed D) (before after : Told) (who nth : ℕ) (call : Call) (old new : Parts D)
     (serving : IsServing drive fixed before.one before.next old) (good : IsGood old.stock.tree)
@@ -214,7 +216,8 @@ module _ {D : Type 0} (drive : Ghosts D)
   served_on (submitted.Ready reply) off s =
       placed_on (submitted.Ready reply) (λ drains. cc) off (λ on. (on.placing.placed, on.placing.history)) s.0 s.1 s.2
   served_on (submitted.Wait ticket) off s =
-      placed_on (submitted.Wait ticket) (λ drains. cc) off (λ on. (on.placing.1.placed, on.placing.1.history)) s.0 s.1 s.2
+      placed_on (submitted.Wait ticket) (λ drains. cc) off (λ on. (on.placing.1.placed, on.placing.1.history)) s.0 s.1
+      s.2
   served_on submitted.Drain off s = put_off_on off s.0 s.1
 
 -- ---- the call of a volume
@@ -229,8 +232,8 @@ submits_of {D} drive now v w new who nth answer is s =
     subst (λ (u : View D). Submits (seen drive u.fixed.first) (seen drive now) u new who nth answer) is s
 
 -- the call adds what is promised, and all that is promised of the volume is kept
-pub record Serves {D : Type 0} (drive : Ghosts D) (fixed : Fixed D) (before after : Told) (who nth : ℕ) (answer : Submitted)
-    (was : View D) (old new : Parts D) : Type 0 where
+pub record Serves {D : Type 0} (drive : Ghosts D) (fixed : Fixed D) (before after : Told) (who nth : ℕ)
+    (answer : Submitted) (was : View D) (old new : Parts D) : Type 0 where
   pub submits : Submits (seen drive was.fixed.first) (seen drive new.drive) was
       (view_of fixed (next_moment after.one after.next) new) who nth answer
   pub served : IsServed cartridges (seen drive fixed.first) (seen drive new.drive)
@@ -239,9 +242,11 @@ pub record Serves {D : Type 0} (drive : Ghosts D) (fixed : Fixed D) (before afte
   pub calls : new.listed.calls ≡ old.listed.calls
 
 pub serves : {D : Type 0} (drive : Ghosts D)
-    (only_now : (d : D) (image : Cartridge) → drive.commands d < 2 ^ 64 - 1 → drive.left_since d (drive.commands d) image
+    (only_now : (d : D) (image : Cartridge) → drive.commands d < 2 ^ 64 - 1
+    → drive.left_since d (drive.commands d) image
     → drive.leaves d image)
-    (fixed : Fixed D) (before after : Told) (who nth : ℕ) (call : Call) (answer : Submitted) (was : View D) (old new : Parts D)
+    (fixed : Fixed D) (before after : Told) (who nth : ℕ) (call : Call) (answer : Submitted) (was : View D)
+    (old new : Parts D)
     → IsServing drive fixed before.one before.next old → IsGood old.stock.tree
     → view_of fixed (next_moment before.one before.next) old ≡ was → CanSubmit was who nth
     → slice_get (calls_of fixed.script who) nth ≡ Some call → new.answered ≡ old.answered

@@ -90,8 +90,8 @@ fn make<D: Drive>(parts: &mut Parts<D>, alloc: Global, asked: Asked, call: &Call
     requires can { CanAsk asked.who (seen_parts parts.old) }
     requires stands { Stands (seen_parts parts.old) }
     requires wants { CanWantBlocks (seen_parts parts.old) }
-    ensures submits { IsSubmitted D.Drive asked.who asked.nth asked.at (seen_parts parts.old) (seen_parts parts.new) call.now
-        result }
+    ensures submits { IsSubmitted D.Drive asked.who asked.nth asked.at (seen_parts parts.old) (seen_parts parts.new)
+        call.now result }
     ensures answered { parts.new.reads.answered ≡ parts.old.reads.answered }
     ensures placed { result ≢ submitted.Drain }
 {

@@ -5,7 +5,8 @@ use Rattle.served_volume.proofs.submitting.put_off.Goals as goal
 
 pub returns-in-Ok-clause-submits : goal.returns-in-Ok-clause-submits
 returns-in-Ok-clause-submits g c =
-    λ call. drains_at g.D.Drive c.args.who c.args.nth call (told (g.C.Clock.one c.args.clock.now) (g.C.Clock.next c.args.clock.now))
+    λ call. drains_at g.D.Drive c.args.who c.args.nth call
+    (told (g.C.Clock.one c.args.clock.now) (g.C.Clock.next c.args.clock.now))
     (seen_parts c.args.parts.now) (seen_parts c.begin_drain.new.self) (c.in-Ok.ensures {u = tt}).ok
 
 pub returns-in-Err-clause-submits : goal.returns-in-Err-clause-submits

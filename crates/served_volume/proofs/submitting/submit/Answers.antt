@@ -14,13 +14,15 @@ put_off-requires-clause-can g c =
 pub put_off-requires-clause-many : goal.put_off-requires-clause-many
 put_off-requires-clause-many g c =
     let is = c.is_put_off.ensures ∙ ap (λ n. is_write c.args.call.now && nat_lt 64 n) c.waiting.ensures in
-    is_many c.is_put_off.result (is_write c.args.call.now) (length c.args.parts.now.stock.layout.ops) is c.if-is_put_off.true
+    is_many c.is_put_off.result (is_write c.args.call.now) (length c.args.parts.now.stock.layout.ops) is
+    c.if-is_put_off.true
 
 pub put_off-requires-clause-allowed : goal.put_off-requires-clause-allowed
 put_off-requires-clause-allowed g c =
     let is = c.is_put_off.ensures ∙ ap (λ n. is_write c.args.call.now && nat_lt 64 n) c.waiting.ensures in
     may_drain g.D.Drive c.args.who c.args.nth c.args.call.now (seen_parts c.args.parts.now) c.requires.runs
-    (is_many c.is_put_off.result (is_write c.args.call.now) (length c.args.parts.now.stock.layout.ops) is c.if-is_put_off.true)
+    (is_many c.is_put_off.result (is_write c.args.call.now) (length c.args.parts.now.stock.layout.ops) is
+    c.if-is_put_off.true)
 
 pub returns-then-is_put_off-clause-submits : goal.returns-then-is_put_off-clause-submits
 returns-then-is_put_off-clause-submits g c = c.put_off.ensures.submits c.args.call.now
