@@ -1,0 +1,3 @@
+mod AskLemmas
+mod Counting
+mod Submissions

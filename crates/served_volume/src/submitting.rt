@@ -1,10 +1,19 @@
 //! Submissions: a call is placed, or a write is put off.
 
-ghost use Rattle.std.specs.Prelude.{◌≡◌, ◌&&◌, nat_lt, length};
+ghost use Rattle.std.specs.Prelude.{◌≡◌, ◌≢◌, ◌⊎◌, ◌&&◌, ◌<◌, nat_lt, length, true};
+ghost use Rattle.file_tree.specs.Valid.{IsGood};
+ghost use Rattle.head_trail.specs.Trail.{allows};
+ghost use Rattle.plain_tree.specs.declared.calls.Call.{Call as Asks};
+ghost use Rattle.session_script.specs.declared.logs.Event.TheVariants as events;
+ghost use Rattle.session_script.specs.declared.logs.Reply.TheVariants as replies;
+ghost use Rattle.volume_journal.specs.Trails.{state};
 ghost use Rattle.volume_model.specs.Replies.{is_write};
 ghost use Rattle.volume_model.specs.Submits.{PutsOff};
+ghost use Rattle.volume_model.specs.declared.answers.Submitted.TheVariants as submitted;
+ghost use Rattle.volume_core.specs.Asking.{CanAsk, IsSubmitted, Stands};
 ghost use Rattle.volume_core.specs.Seen.{seen_parts};
-ghost use Rattle.served_volume.specs.Turns.{RunsFor, SubmitsAt, told};
+ghost use Rattle.volume_core.specs.Wanted.{CanWantBlocks};
+ghost use Rattle.served_volume.specs.Turns.{Gives, RunsFor, SubmitsAt, told};
 
 use crate::draining::ROOM;
 use plain_tree::Call;
@@ -12,6 +21,7 @@ use std::alloc::Global;
 use tape_drive::Drive;
 use tape_edge::Clock;
 use tape_layout::AdmitErr;
+use tape_types::{Moment, NoMemory};
 use volume_core::{Asked, Parts};
 use volume_model::Submitted;
 
@@ -29,16 +39,21 @@ pub fn submit<D: Drive, C: Clock>(
         (told (C.one clock.new) (C.next clock.new)) (seen_parts parts.old) (seen_parts parts.new) result }
     ensures put_off { PutsOff (is_write call.now && nat_lt 64 (length (seen_parts parts.old).stock.layout.ops)) result }
     ensures answered { parts.new.reads.answered ≡ parts.old.reads.answered }
+    ensures good { IsGood (seen_parts parts.old).stock.tree }
 {
+    let _nodes = parts.stock.count();
     if is_put_off(parts.stock.waiting(), call) {
         return put_off(parts, clock, who, nth);
     }
-    let asked = Asked {
-        who,
-        nth,
-        at: clock.now(),
-    };
-    make(parts, alloc, asked, call)
+    let at = ask(clock);
+    make(parts, alloc, Asked { who, nth, at }, call)
+}
+
+/// The moment that the clock gives.
+fn ask<C: Clock>(clock: &mut C) -> Moment
+    ensures { Gives (told (C.one clock.old) (C.next clock.old)) (told (C.one clock.new) (C.next clock.new)) result }
+{
+    clock.now()
 }
 
 /// Whether a call is a write for which there is no room.
@@ -52,25 +67,34 @@ fn is_put_off(standing: u64, call: &Call) -> bool
 }
 
 /// Has a session drain, or places its write void where there is no memory for that.
-fn put_off<D: Drive, C: Clock>(
-    parts: &mut Parts<D>,
-    clock: &mut C,
-    who: u16,
-    nth: u32,
-) -> Submitted {
-    if parts.begin_drain(who).is_ok() {
-        return Submitted::Drain;
+fn put_off<D: Drive, C: Clock>(parts: &mut Parts<D>, clock: &mut C, who: u16, nth: u32) -> Submitted
+    requires can { CanAsk who (seen_parts parts.old) }
+    requires many { 64 < length (seen_parts parts.old).stock.layout.ops }
+    requires allowed { allows (state parts.old.trail) (events.Drains who) ≡ true }
+    ensures submits { (call : Asks) → SubmitsAt D.Drive who nth call (told (C.one clock.old) (C.next clock.old))
+        (told (C.one clock.new) (C.next clock.new)) (seen_parts parts.old) (seen_parts parts.new) result }
+    ensures ends { (result ≡ submitted.Drain) ⊎ (result ≡ submitted.Ready replies.NoMemory) }
+    ensures answered { parts.new.reads.answered ≡ parts.old.reads.answered }
+{
+    match parts.begin_drain(who) {
+        Ok(()) => Submitted::Drain,
+        Err(NoMemory) => {
+            let at = ask(clock);
+            parts.void(Asked { who, nth, at }, AdmitErr::NoMemory)
+        }
     }
-    let asked = Asked {
-        who,
-        nth,
-        at: clock.now(),
-    };
-    parts.void(asked, AdmitErr::NoMemory)
 }
 
 /// Places a call.
-fn make<D: Drive>(parts: &mut Parts<D>, alloc: Global, asked: Asked, call: &Call) -> Submitted {
+fn make<D: Drive>(parts: &mut Parts<D>, alloc: Global, asked: Asked, call: &Call) -> Submitted
+    requires can { CanAsk asked.who (seen_parts parts.old) }
+    requires stands { Stands (seen_parts parts.old) }
+    requires wants { CanWantBlocks (seen_parts parts.old) }
+    ensures submits { IsSubmitted D.Drive asked.who asked.nth asked.at (seen_parts parts.old) (seen_parts parts.new)
+        call.now result }
+    ensures answered { parts.new.reads.answered ≡ parts.old.reads.answered }
+    ensures placed { result ≢ submitted.Drain }
+{
     match call {
         Call::Read {
             path,

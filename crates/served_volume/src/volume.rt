@@ -121,13 +121,14 @@ impl<D: Drive, C: Clock> Volume<D, C> {
         }
     }
 
-    /// Places the next call of a session, or puts a write off while more than 64 ops stand. It takes all the memory that the
-    /// call needs, and makes no command of the drive.
+    /// Places the next call of a session, or puts a write off while more than 64 ops stand. It takes all the memory
+    /// that the call needs, and makes no command of the drive.
     pub fn submit(&mut self, who: u16, nth: u32) -> Submitted
         requires { CanSubmit self.old who nth }
-        ensures served { IsServed cartridges (seen D.Drive self.new.fixed.first) (seen D.Drive self.new.drive) self.new }
-        ensures submits { Submits (seen D.Drive self.old.fixed.first) (seen D.Drive self.new.drive) self.old self.new who nth
-            result }
+        ensures served { IsServed cartridges (seen D.Drive self.new.fixed.first) (seen D.Drive self.new.drive)
+            self.new }
+        ensures submits { Submits (seen D.Drive self.old.fixed.first) (seen D.Drive self.new.drive) self.old self.new
+            who nth result }
     {
         let call = self.script.call(who, nth);
         submit(&mut self.parts, &mut self.clock, self.alloc, call, who, nth)
