@@ -18,11 +18,11 @@ use Rattle.served_volume.specs.Serving.{IsServing, next_moment}
 use Rattle.served_volume.proofs.Counted.{placed_within}
 
 module _ {D : Type 0} (drive : Ghosts D) (fixed : Fixed D) (one next : Option Moment) (p : Parts D) (v : View D)
-    (is : view_of fixed (next_moment one next) p ≡ v) where
+    (serving : IsServing drive fixed one next p) (is : view_of fixed (next_moment one next) p ≡ v) where
   -- where nothing waits each reply is there
-  pub all_there : IsServing drive fixed one next p → NothingWaits (greatest_session v.fixed.script) v.marks
+  pub all_there : NothingWaits (greatest_session v.fixed.script) v.marks
       → All (λ r. is_some r ≡ true) p.listed.replies
-  all_there serving nothing =
+  all_there nothing =
       let order = serving.runs.kept.order in
       let none_here : NothingWaits (greatest_session fixed.script) p.listed.marks =
       subst (λ (w : View D). NothingWaits (greatest_session w.fixed.script) w.marks) (sym is) nothing in
@@ -36,9 +36,9 @@ module _ {D : Type 0} (drive : Ghosts D) (fixed : Fixed D) (one next : Option Mo
       (slice_get_cases p.listed.history k).1)
 
   -- there is room for all replies where there is room for all calls
-  pub all_have_room : IsServing drive fixed one next p → (room : ℕ) → p.listed.calls ≤ room
+  pub all_have_room : (room : ℕ) → p.listed.calls ≤ room
       → length p.listed.replies ≤ room
-  all_have_room serving room most =
+  all_have_room room most =
       let order = serving.runs.kept.order in
       omega (
         arith,
@@ -56,8 +56,8 @@ module _ {D : Type 0} (drive : Ghosts D) (fixed : Fixed D) (one next : Option Mo
   }
 
   -- the drive of a volume in which nothing was placed is as it was given
-  pub as_it_was : IsServing drive fixed one next p → v.history ≡ [] → (device : D) → device ≡ p.drive
+  pub as_it_was : v.history ≡ [] → (device : D) → device ≡ p.drive
       → LeavesApart v device
-  as_it_was serving none device given_back = subst (λ (w : View D). LeavesApart w device) is record {
+  as_it_was none device given_back = subst (λ (w : View D). LeavesApart w device) is record {
     as_it_was = given_back ∙ (serving.untouched (ap (λ (w : View D). w.history) is ∙ none)).0;
   }
