@@ -1,3 +1,6 @@
 mod AskLemmas
 mod Counting
 mod Submissions
+mod BeginLemmas
+mod Counted
+mod LeavingLemmas

@@ -91,11 +91,9 @@ impl<D: Drive, C: Clock> Volume<D, C> {
             (next_moment (C.one clock) (C.next clock)) (C.one clock) v) }
         ensures served { IfOk result (λ v. IsServed cartridges (seen D.Drive drive) (seen D.Drive drive) v) }
     {
-        let (mount, first, watch) = (
-            Snapshot::of(&mounted),
-            Snapshot::of(&drive),
-            Snapshot::of(&clock),
-        );
+        let mount = Snapshot::of(&mounted);
+        let first = Snapshot::of(&drive);
+        let watch = Snapshot::of(&clock);
         let calls = script.len() as usize;
         let sessions = usize::from(script.sessions());
         let Ok(told) = Vec::with_capacity(alloc, calls) else {

@@ -1,0 +1,63 @@
+-- A volume that is left or taken apart.
+use Rattle.std.specs.Prelude.{◌≡◌, ◌≤◌, ℕ, true, [], All, Option, Some, None, is_some, length}
+use Rattle.std.proofs.Common.{⊎_elim, sym, ap, subst, ◌∙◌, arith}
+use Rattle.std.proofs.lemmas.List.Elements.{All-from_get_or}
+use Rattle.std.proofs.lemmas.Option.{get_or_from_slice_get, slice_get_cases}
+use Rattle.tape_types.specs.declared.moments.Moment.{Moment}
+use Rattle.tape_drive.specs.declared.drive.Drive.{Ghosts}
+use Rattle.session_script.specs.Sessions.{greatest_session}
+use Rattle.session_script.specs.declared.logs.Log.{Log}
+use Rattle.session_script.specs.declared.logs.Reply.{Reply}
+use Rattle.volume_model.specs.Ends.{Leaves, Parts as LeavesApart}
+use Rattle.volume_model.specs.Marks.{NothingWaits}
+use Rattle.volume_model.specs.Served.{Fixed, View}
+use Rattle.volume_order.proofs.PhaseLaw.{nothing_waits}
+use Rattle.volume_parts.specs.Parts.{Parts, view_of}
+use Rattle.served_volume.specs.Leaving.{IsLeft}
+use Rattle.served_volume.specs.Serving.{IsServing, next_moment}
+use Rattle.served_volume.proofs.Counted.{placed_within}
+
+module _ {D : Type 0} (drive : Ghosts D) (fixed : Fixed D) (one next : Option Moment) (p : Parts D) (v : View D)
+    (serving : IsServing drive fixed one next p) (is : view_of fixed (next_moment one next) p ≡ v) where
+  -- where nothing waits each reply is there
+  pub all_there : NothingWaits (greatest_session v.fixed.script) v.marks
+      → All (λ r. is_some r ≡ true) p.listed.replies
+  all_there nothing =
+      let order = serving.runs.kept.order in
+      let none_here : NothingWaits (greatest_session fixed.script) p.listed.marks =
+      subst (λ (w : View D). NothingWaits (greatest_session w.fixed.script) w.marks) (sym is) nothing in
+      let done = (nothing_waits drive (view_of fixed (next_moment one next) p) order).0 none_here in
+      All-from_get_or (λ (r : Option Reply). is_some r ≡ true) p.listed.replies None (λ k within.
+      ⊎_elim
+      (λ found.
+      let h = done.handed k found.0 found.2 in
+      ap is_some (get_or_from_slice_get p.listed.replies k (Some h.0) None h.1))
+      (λ behind. absurd (omega (arith, behind.0, within, order.count)))
+      (slice_get_cases p.listed.history k).1)
+
+  -- there is room for all replies where there is room for all calls
+  pub all_have_room : (room : ℕ) → p.listed.calls ≤ room
+      → length p.listed.replies ≤ room
+  all_have_room room most =
+      let order = serving.runs.kept.order in
+      omega (
+        arith,
+        most,
+        order.count,
+        serving.runs.tied.calls,
+        placed_within fixed.script p.listed.history order.orderly.placed,
+      )
+
+  -- what is left is the drive and the log of the volume
+  pub is_left : (device : D) (log : Log) → IsLeft p device log → Leaves v device log
+  is_left device log l = subst (λ (w : View D). Leaves w device log) is record {
+    drive_is = l.drive_is;
+    log_is = record { history = l.history; replies = l.replies; acks = l.acks; events = l.events };
+  }
+
+  -- the drive of a volume in which nothing was placed is as it was given
+  pub as_it_was : v.history ≡ [] → (device : D) → device ≡ p.drive
+      → LeavesApart v device
+  as_it_was none device given_back = subst (λ (w : View D). LeavesApart w device) is record {
+    as_it_was = given_back ∙ (serving.untouched (ap (λ (w : View D). w.history) is ∙ none)).0;
+  }
