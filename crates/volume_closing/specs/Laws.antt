@@ -1,5 +1,5 @@
 -- What is kept over each command of a close, and what stands once it is done.
-use Rattle.std.specs.Prelude.{ℕ, ◌≡◌, ◌⊎◌, ◌+◌, ◌<◌, ◌≤◌, ◌^◌, ◌≢◌, Bool, false, List, [], ◌∷◌, ◌++◌, length, map, Option, Some, None, IfSome, Ok}
+use Rattle.std.specs.Prelude.{ℕ, ◌≡◌, ◌⊎◌, ◌+◌, ◌<◌, ◌≤◌, ◌^◌, Bool, false, List, [], ◌∷◌, ◌++◌, length, map, Some, None}
 use Rattle.tape_types.specs.declared.cartridges.Cartridge.{Cartridge}
 use Rattle.tape_types.specs.declared.cartridges.Limits.{Limits}
 use Rattle.tape_types.specs.declared.cartridges.Note.{Note}
@@ -23,9 +23,8 @@ use Rattle.head_core.specs.declared.work.StepDone.{StepDone}
 use Rattle.head_core.specs.declared.work.StepDone.TheVariants as outcome
 use Rattle.volume_space.specs.Closing.{close_text}
 use Rattle.volume_space.specs.Space.{Rules, Space, index, ops_of, with_index}
-use Rattle.volume_space.specs.Standing.{Given, Standing}
+use Rattle.volume_space.specs.Standing.{Standing}
 use Rattle.volume_stock.specs.Stocks.{IsStock, Stocked}
-use Rattle.volume_stock.specs.Synced.{CanTell}
 use Rattle.crash_theory.specs.Kept.{IsStep}
 use Rattle.crash_theory.specs.Made.{Entry, Job, cartridge_of}
 use Rattle.crash_theory.specs.Moments.{moment_of}
@@ -37,7 +36,7 @@ use Rattle.volume_model.specs.Served.{View, tree_after}
 use Rattle.volume_crashes.specs.Changes.{IsWell}
 use Rattle.volume_crashes.specs.Safe.{IsSafe, Planned, given_by, seen_by, trees_of, volume_of, waits_after, with_jobs}
 use Rattle.volume_due.specs.Behind.{BeginsBehindLabels}
-use Rattle.volume_closing.specs.Closing.{HasSpace, IsAtRest, IsClosing}
+use Rattle.volume_closing.specs.Closing.{CanTellClose, HasSpace, IsAtRest, IsClosing}
 
 -- the ops of a close's index on the index partition
 abbrev pub close_ops : Rules → Space → List ℕ → List Op
@@ -45,8 +44,8 @@ close_ops rules space text = map (λ (job : Job). job.op) (close_jobs rules spac
 
 -- A volume in which no sync waits may be closed. The index that is due on its data partition is admitted; then that of its
 -- index partition, where no index is ahead there. An op that was done is one less, and one that failed stands. Where no op
--- is left and nothing is pending, the notes may tell of both last indexes. At each moment a crash leaves a tree of the history that covers what
--- was acknowledged by then.
+-- is left and nothing is pending, the notes may tell of both last indexes; and nothing is pending once one is written. At
+-- each moment a crash leaves a tree of the history that covers what was acknowledged by then.
 pub record ClosesAreSafe {D : Type 0} (drive : Ghosts D) : Type 0 where
   pub begins : (planned : Planned) (space : Space) (v : View D) → IsSafe drive planned space v → waits_after v.events ≡ []
       → IsClosing drive v planned v.ops v.drive × HasSpace v planned space
@@ -77,20 +76,23 @@ pub record ClosesAreSafe {D : Type 0} (drive : Ghosts D) : Type 0 where
       → HasValues note values → values.vcr ≡ before.vcr → TellsOfLast before planned.labels.ip part values
       → IsStep (WithinNote part note) (moment_of drive old before) (moment_of drive new now)
       → (now ≡ before) ⊎ IsNoted part note before now → IsClosing drive v planned [] new
+  pub rests : (part : Part) (note : Note) (old new : D) (before now : Cartridge) → IsAtRest drive old
+      → drive.held old ≡ Some before → drive.held new ≡ Some now
+      → IsStep (WithinNote part note) (moment_of drive old before) (moment_of drive new now)
+      → IsNoted part note before now → IsSettled (Some now) (drive.leaves new) → IsAtRest drive new
   pub survives : (planned : Planned) (v : View D) (ops : List Op) (d : D) → IsClosing drive v planned ops d
       → SurvivesCrashes cartridges (carried v.fixed.mounted.index) (tree_after v) (length v.history) v.acks
       (seen_by drive d).leavings v.fixed.since
 
--- What was mounted is a valid index of the volume with these labels. What is held is what stands, without a change since
--- the last index, on the tape that there will be once all ops are done, in blocks behind the labels. Then the index of a
--- close of the index partition, whose text has fewer than 2^64 bytes, is due.
+-- What was mounted is a valid index of the volume with these labels. What is held is what stands, on the tape that there
+-- will be once all ops are done, in blocks behind the labels. Its index may be told, with a text of fewer than 2^64 bytes.
+-- Then it is due on the index partition.
 abbrev pub IndexesOfClosesAreDue : Type 0 → Type 0
 IndexesOfClosesAreDue D = (planned : Planned) (limits : Limits) (v : View D) (on : Bool) (st : Standing) (s : Stocked)
     (at : Moment) → IsValid v.fixed.mounted.index → v.fixed.mounted.label ≡ planned.labels.ip
     → IsStock (tape_of (cartridge_of planned.made)) (given_by limits v) on st s
     → st.tree ≡ tree_after v (length v.history)
-    → IsGood s.tree → BeginsBehindLabels s.tree → CanTell (given_by limits v) st
-    → st.space.ends.ip + 1 ≤ 2 ^ 62
+    → IsGood s.tree → BeginsBehindLabels s.tree → CanTellClose (given_by limits v) st
     → length (close_text (given_by limits v) st at) < 2 ^ 64
     → (on_ip : Index) × IsCloseDue (volume_of planned.labels v) (trees_of v) planned.made st.space
     (close_text (given_by limits v) st at) on_ip

@@ -1,2 +1,4 @@
 pub mod Closing
 pub mod Laws
+pub mod Ahead
+pub mod Near
