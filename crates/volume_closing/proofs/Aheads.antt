@@ -20,6 +20,7 @@ use Rattle.plain_tree.specs.declared.calls.Fate.TheVariants as fates
 use Rattle.plain_tree.specs.declared.calls.Placed.{Placed}
 use Rattle.session_script.specs.declared.logs.Event.{Event}
 use Rattle.volume_space.specs.Closing.{is_dp_due}
+use Rattle.volume_space.specs.Mount.{MountFacts}
 use Rattle.volume_space.specs.Space as space
 use Rattle.volume_space.specs.Space.{Ask, Rules, Space, blocks, change, index, nothing, store}
 use Rattle.volume_space.specs.Standing.{Given, Standing, admitted_at, after_placed, ask_of, is_on, rules, standing}
@@ -49,7 +50,7 @@ settled_by (job ∷ jobs) s (x ∷ front) op are flush settles =
     settled_by jobs (makes job s) front op rest flush settles.1
 
 -- an index is admitted with such a flush behind it
-index_flush : (v : Rules) (s : Space) (text : List ℕ) → Op
+abbrev index_flush : Rules → Space → List ℕ → Op
 index_flush v s text = ops.Flush (record { part = Dp; pos = s.ends.dp + 2 + blocks v text })
 
 -- the index was admitted before, or with these ops
@@ -98,7 +99,6 @@ module _ {D : Type 0} (drive : Ghosts D) where
 
   admitted_last : (v : Rules) (on : Bool) (s : Space) (text : List ℕ) (old : List Op)
       → (front : List Op) × (old ++ space.ops_of v on s (index text) ≡ front ++ index_flush v s text ∷ [])
-  unfolding index_flush
   admitted_last v on s text old =
       let firsts = flush_first s.flush_due s.ends.ip in
       let body : List Op = ops.Mark (record { part = Dp; pos = s.ends.dp }) ∷ []
@@ -122,11 +122,7 @@ module _ {D : Type 0} (drive : Ghosts D) where
       let on = is_on (facts_of old.fixed.mounted) old.on (length old.history) in
       let last = admitted_last (rules g) on (space_now limits old) text old.ops in
       flushed q limits new last.0 (index_flush (rules g) (space_now limits old) text) safe
-      (ops_are ∙ ap (λ (l : List Op). old.ops ++ l) is ∙ last.1) (flushes_dp (rules g) (space_now limits old) text)
-    where
-      flushes_dp : (v : Rules) (s : Space) (text : List ℕ) → IsDpFlush (index_flush v s text)
-      unfolding index_flush
-      flushes_dp v s text = refl
+      (ops_are ∙ ap (λ (l : List Op). old.ops ++ l) is ∙ last.1) refl
 
   -- the same space
   by_space : (p : Planned) (s other : Space) → other ≡ s → HasNoneAhead p s → HasNoneAhead p other
@@ -169,8 +165,8 @@ module _ {D : Type 0} (drive : Ghosts D) where
   -- ---- at a close
 
   some_index : (items : List Item) (ks : List Construct) → EndsWithLast items ks → ks ≢ []
-  some_index items [] ends = absurd ends
-  some_index items (k ∷ ks) ends = λ none. cc
+  some_index items [] ends none = absurd ends
+  some_index items (k ∷ ks) ends none = cc
 
   done_or : (changed done admitted : Bool) → (changed || (not done && not admitted)) ≡ false → (done ≡ true) ⊎ (admitted ≡ true)
   done_or changed true admitted is = inl refl
@@ -187,12 +183,12 @@ module _ {D : Type 0} (drive : Ghosts D) where
       let found = mounts.dp_done.0 dp_done in
       let on = mounts.ip_on.1 (some_index c.dp (indexes_of c.dp) found.ends, found.choice) in
       sym (ap (λ (m : Made). m.base.ahead) safe.plan)
-      ∙ safe.may_write 0 (on_by v.fixed.mounted.ip_on _ on))
+      ∙ safe.may_write 0 (on_by (facts_of v.fixed.mounted) v.on on))
       none
       (done_or (space_now limits v).changed v.fixed.mounted.dp_done (space_now limits v).admitted is)
     where
-      on_by : (a b : Bool) → a ≡ true → (a || b) ≡ true
-      on_by a b e = rw e refl
+      on_by : (m : MountFacts) (on : Option ℕ) → m.ip_on ≡ true → is_on m on 0 ≡ true
+      on_by m on e = rw e refl
 
   pub none_is_ahead : NoneIsAhead drive
   none_is_ahead = record {

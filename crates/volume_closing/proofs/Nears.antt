@@ -26,7 +26,7 @@ use Rattle.volume_space.specs.Space as space
 use Rattle.volume_space.specs.Space.{Ask, Rules, Space, blocks, change, index, index_need, is_over, nothing, store}
 use Rattle.volume_space.specs.Standing.{Given, Standing, after_placed, ask_of, first_standing, is_on, rules, standing}
 use Rattle.volume_stock.specs.Synced.{IsMounted}
-use Rattle.volume_model.specs.Replies.{IsReply, facts_at}
+use Rattle.volume_model.specs.Replies.{IsDoneReply, IsReply, facts_at}
 use Rattle.volume_model.specs.Served.{Drive, View, given}
 use Rattle.volume_crashes.specs.Safe.{seen_by}
 use Rattle.volume_crashes.proofs.Placing.{standings_go_on}
@@ -51,6 +51,9 @@ room v on s text is = by (nat_lt (2 ^ 62) (s.newest + 1)) refl is
     by true none over = absurd (let wrong : true ≡ false = sym none ∙ over in cc wrong)
     by false some over = (not_over (2 ^ 62) (s.newest + 1) some, not_over v.limits.cap_dp (index_need v Dp s text) over)
 
+one_more : (n : ℕ) → 1 ≤ n + 1
+one_more n = omega arith
+
 near_block : (end count cap : ℕ) → cap ≤ 2 ^ 40 → end + 2 + count ≤ cap → end + 1 ≤ 2 ^ 62
 near_block end count cap most fits = omega (arith, most, fits)
 
@@ -63,7 +66,7 @@ near_after v on s (store wanted bytes) most fits near =
 near_after v on s (index text) most fits near =
     let is = room v on s text fits in
     record {
-      least = omega (arith, near.least);
+      least = one_more s.newest;
       most = is.0;
       back = near_block s.ends.dp (blocks v text) v.limits.cap_dp most is.1;
     }
@@ -105,12 +108,13 @@ module _ {D : Type 0} (first : Drive) (v : View D) (limits : IsLimits first.limi
       → (facts_at g v.on v.history [] k p call).over ≡ false
   fit_by k p call None is none call_is done =
       let waits = stays.waits k p is none in
-      let same : waits.call ≡ call = cc (waits.is_call, call_is) in
+      let same : waits.call ≡ call = let both : Some waits.call ≡ Some call = sym waits.is_call ∙ call_is in cc in
       subst (λ (c : Call). (facts_at g v.on v.history [] k p c).over ≡ false) same waits.within
   fit_by k p call (Some reply) is some call_is done =
       let came = stays.truth.replies.each k p reply is some in
       let same : came.0 ≡ call = let both : Some came.0 ≡ Some call = sym came.1 ∙ call_is in cc in
-      let told = subst (λ fate. IsReply fate (facts_at g v.on v.history v.events k p came.0) came.0 reply) done came.2 in
+      let told : IsDoneReply (facts_at g v.on v.history v.events k p came.0) came.0 reply =
+      subst (λ (fate : Fate). IsReply fate (facts_at g v.on v.history v.events k p came.0) came.0 reply) done came.2 in
       subst (λ (c : Call). (facts_at g v.on v.history [] k p c).over ≡ false) same told.within
 
   fits : (k : ℕ) (p : Placed) → slice_get v.history k ≡ Some p
@@ -140,8 +144,8 @@ module _ {D : Type 0} (first : Drive) (v : View D) (limits : IsLimits first.limi
 
   first_near : IsMount first.limits v.fixed.mounted → IsNear (first_standing g).space
   first_near mount = record {
-    least = omega (arith, mount.newest, mount.valid.formed.generation_least);
-    most = omega (arith, mount.newest, mount.valid.formed.generation_most);
+    least = subst (λ (n : ℕ). 1 ≤ n) (sym mount.newest) mount.valid.formed.generation_least;
+    most = subst (λ (n : ℕ). n ≤ 2 ^ 62) (sym mount.newest) mount.valid.formed.generation_most;
     back = back v.fixed.mounted.last_dp mount.last_dp;
   }
     where
@@ -172,8 +176,8 @@ can_tell limits m g st is near on_ip on_dp =
       on_dp = close_to (st.space.ends.dp) g.limits.cap_dp limits.cap_dp on_dp (ap (λ (l : Limits). l.cap_dp) is.limits_are) is.range.dp_most;
     }
   where
-    close_to : (end cap of : ℕ) → end ≤ cap → cap ≡ of → of ≤ 2 ^ 40 → end + 1 ≤ 2 ^ 62
-    close_to end cap of within is most = omega (arith, within, is, most)
+    close_to : (end cap same : ℕ) → end ≤ cap → cap ≡ same → same ≤ 2 ^ 40 → end + 1 ≤ 2 ^ 62
+    close_to end cap same within is most = omega (arith, within, is, most)
 
 pub closes_can_tell : {D : Type 0} (drive : Ghosts D) → ClosesCanTell drive
 closes_can_tell drive = record {

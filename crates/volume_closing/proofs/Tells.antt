@@ -1,5 +1,5 @@
 -- That the index which a close writes on the index partition is due.
-use Rattle.std.proofs.Common.{◌≡◌, ◌+◌, ◌<◌, ◌^◌, Bool, length, refl, ap, arith}
+use Rattle.std.proofs.Common.{◌≡◌, ◌+◌, ◌<◌, ◌≤◌, ◌^◌, Bool, length, refl, ap, arith}
 use Rattle.std.specs.Option.{option_map}
 use Rattle.tape_types.specs.declared.cartridges.Cartridge.{Cartridge}
 use Rattle.tape_types.specs.declared.moments.Moment.{Moment}
@@ -25,8 +25,11 @@ use Rattle.volume_closing.specs.Laws.{IndexesOfClosesAreDue}
 abbrev ungenerated : Space → Space
 ungenerated space = record space { newest = 0 }
 
--- An index of what stands is valid and tells the tree, whichever its generation and its place: those of a sync before
--- the first generation are as good as any.
+one_near : 0 + 1 ≤ 2 ^ 62
+one_near = omega arith
+
+-- what an index tells of what stands goes neither by its generation nor by its place: so it is that of a sync before all
+-- others
 abbrev before_all : Standing → Standing
 before_all st = record { tree = st.tree; files = st.files; space = ungenerated st.space }
 
@@ -53,7 +56,7 @@ module _ (c : Cartridge) (g : Given) (on : Bool) (st : Standing) (s : Stocked) (
     differ = can.differ;
     uuid = can.uuid;
     facts = can.facts;
-    generation = omega arith;
+    generation = one_near;
     here = can.on_dp;
     back = can.near.back;
   }
