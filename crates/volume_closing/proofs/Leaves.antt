@@ -2,13 +2,10 @@
 use Rattle.std.proofs.Common.{◌≡◌, List, [], ◌∷◌, map, refl, sym, ap, subst, ◌∙◌}
 use Rattle.tape_types.specs.declared.cartridges.Cartridge.{Cartridge}
 use Rattle.tape_drive.specs.declared.drive.Drive.{Ghosts}
-use Rattle.tape_layout.specs.declared.ops.Op.{Op}
 use Rattle.crash_theory.specs.Laws.{IsKept}
-use Rattle.crash_theory.specs.Left.{StandsClosed}
 use Rattle.crash_theory.specs.Made.{Job, Made, after}
 use Rattle.crash_theory.specs.Plans.{close_jobs}
 use Rattle.crash_theory.proofs.Stated.{closes_leave}
-use Rattle.volume_crashes.specs.Safe.{trees_of, volume_of}
 use Rattle.volume_crashes.proofs.Admits.{op_of}
 use Rattle.volume_crashes.proofs.Bridge.{some_same}
 use Rattle.volume_closing.specs.Closing.{state_at}

@@ -1,10 +1,9 @@
 -- That the index which a close writes on the index partition is due.
-use Rattle.std.proofs.Common.{◌≡◌, ◌+◌, ◌<◌, ◌≤◌, ◌^◌, Bool, length, refl, ap, arith}
+use Rattle.std.proofs.Common.{◌≡◌, ◌+◌, ◌≤◌, ◌^◌, Bool, refl, ap, arith}
 use Rattle.std.specs.Option.{option_map}
 use Rattle.tape_types.specs.declared.cartridges.Cartridge.{Cartridge}
 use Rattle.tape_types.specs.declared.moments.Moment.{Moment}
 use Rattle.index_model.specs.Valid.{IsValid}
-use Rattle.index_model.specs.declared.indexes.Index.{Index}
 use Rattle.extent_map.specs.Cells.{tape_of}
 use Rattle.file_tree.specs.Valid.{IsGood}
 use Rattle.ltfs_label.specs.declared.Label.{Label}
