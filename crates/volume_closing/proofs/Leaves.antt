@@ -12,7 +12,7 @@ use Rattle.volume_closing.specs.Closing.{state_at}
 use Rattle.volume_closing.specs.Laws.{ClosedVolumesStand}
 
 -- no ops are those of no jobs
-no_jobs : (jobs : List Job) → map op_of jobs ≡ [] → jobs ≡ []
+pub no_jobs : (jobs : List Job) → map op_of jobs ≡ [] → jobs ≡ []
 no_jobs [] are = refl
 no_jobs (job ∷ jobs) are = absurd (let wrong : job.op ∷ map op_of jobs ≡ [] = are in cc)
 

@@ -1,5 +1,6 @@
 pub mod Keeps
 pub mod Leaves
 pub mod Tells
-pub mod Aheads
 pub mod Nears
+pub mod Wholes
+pub mod Readied

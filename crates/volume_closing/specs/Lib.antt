@@ -1,4 +1,5 @@
 pub mod Closing
 pub mod Laws
-pub mod Ahead
 pub mod Near
+pub mod Whole
+pub mod Ready

@@ -1,8 +1,9 @@
 //! Laws of a close, over any drive.
 
-ghost use Rattle.volume_closing.specs.Ahead.{NoneIsAhead};
 ghost use Rattle.volume_closing.specs.Laws.{ClosedVolumesStand, ClosesAreSafe, IndexesOfClosesAreDue};
 ghost use Rattle.volume_closing.specs.Near.{ClosesCanTell};
+ghost use Rattle.volume_closing.specs.Ready.{VolumesStayReady};
+ghost use Rattle.volume_closing.specs.Whole.{WholesStay};
 
 use tape_drive::Drive;
 
@@ -21,12 +22,17 @@ pub fn closed_volumes_stand<D: Drive>()
     ensures { ClosedVolumesStand D.Drive }
 {}
 
-/// Where a close has no index to write on the data partition, no index of the index partition is ahead.
-pub fn none_is_ahead<D: Drive>()
-    ensures { NoneIsAhead D.Drive }
-{}
-
 /// The index that a close writes on the index partition can be told.
 pub fn closes_can_tell<D: Drive>()
     ensures { ClosesCanTell D.Drive }
+{}
+
+/// A partition ends where it is planned to, once all ops are done that put anything on it.
+pub fn wholes_stay<D: Drive>()
+    ensures { WholesStay D.Drive }
+{}
+
+/// A volume stays ready for a close that has no index to write on the data partition.
+pub fn volumes_stay_ready<D: Drive>()
+    ensures { VolumesStayReady D.Drive }
 {}
