@@ -1,5 +1,5 @@
 -- That a partition ends where it is planned to.
-use Rattle.std.specs.Prelude.{ℕ, ◌≡◌, ◌⊎◌, Bool, List, [], ◌∷◌, ◌++◌, map, Some}
+use Rattle.std.specs.Prelude.{ℕ, ◌≡◌, ◌⊎◌, Bool, true, List, [], ◌∷◌, ◌++◌}
 use Rattle.tape_types.specs.Cartridges.{items_of}
 use Rattle.tape_types.specs.declared.cartridges.Cartridge.{Cartridge}
 use Rattle.tape_types.specs.declared.cartridges.Note.{Note}
@@ -7,43 +7,37 @@ use Rattle.tape_types.specs.declared.cartridges.Part.{Part}
 use Rattle.tape_types.specs.declared.cartridges.Part.TheVariants.{Ip, Dp}
 use Rattle.tape_types.specs.declared.cartridges.Twin.{Twin}
 use Rattle.tape_drive.specs.Commands.{IsNoted}
-use Rattle.tape_drive.specs.declared.drive.Drive.{Ghosts}
 use Rattle.tape_layout.specs.declared.ops.Op.{Op}
-use Rattle.head_core.specs.Steps.{IsOpStep}
+use Rattle.tape_meaning.specs.Mounts.{Mounts}
+use Rattle.tape_meaning.specs.declared.mounted.Mounted.{Mounted}
+use Rattle.head_core.specs.Steps.{AfterOp}
 use Rattle.head_core.specs.declared.work.StepDone.{StepDone}
 use Rattle.head_core.specs.declared.work.StepDone.TheVariants as outcome
 use Rattle.volume_space.specs.Space.{Rules, Space, index, ops_of}
-use Rattle.crash_theory.specs.Made.{Entry, Job, part_items}
-use Rattle.crash_theory.specs.Plans.{close_jobs, index_jobs}
-use Rattle.volume_model.specs.Served.{View}
 use Rattle.volume_crashes.specs.Changes.{IsWell}
-use Rattle.volume_crashes.specs.Safe.{Planned, items_by, with_jobs}
-use Rattle.volume_closing.specs.Closing.{IsClosing}
+use Rattle.volume_crashes.specs.Safe.{items_by}
+use Rattle.volume_tape.specs.Planned.{IsOnWay, Items, mounted_items, with_ops}
 use Rattle.volume_closing.specs.Laws.{close_ops}
 
 -- where no op that stands puts anything on a partition, it ends where it is planned to
-abbrev pub IsWhole : {D : Type 0} → Ghosts D → Part → Planned → List Op → D → Type 0
-IsWhole drive part planned ops d = items_by part ops ≡ [] → (held : Cartridge) → drive.held d ≡ Some held
-    → items_of part held ≡ part_items part planned.made
+abbrev pub IsWhole : Part → Items → List Op → Cartridge → Type 0
+IsWhole part planned ops held = items_by part ops ≡ [] → items_of part held ≡ planned part
 
--- It stays so over each command of a close, and as ops are admitted. An index makes it so of its own partition.
-pub record WholesStay {D : Type 0} (drive : Ghosts D) : Type 0 where
-  pub done : (part : Part) (planned : Planned) (v : View D) (op : Op) (later : List Op) (end : StepDone) (old new : D)
-      → IsClosing drive v planned (op ∷ later) old → IsOpStep drive op end old new → IsWell end
-      → IsWhole drive part planned (op ∷ later) old → IsWhole drive part planned later new
-  pub failed : (part : Part) (planned : Planned) (v : View D) (op : Op) (later : List Op) (counts : Twin) (old new : D)
-      → IsClosing drive v planned (op ∷ later) old → IsOpStep drive op (outcome.Failed counts) old new
-      → IsWhole drive part planned (op ∷ later) old → IsWhole drive part planned (op ∷ later) new
-  pub looked : (part : Part) (planned : Planned) (ops : List Op) (old new : D) → drive.held new ≡ drive.held old
-      → IsWhole drive part planned ops old → IsWhole drive part planned ops new
-  pub noted : (part on : Part) (note : Note) (planned : Planned) (ops : List Op) (old new : D) (before now : Cartridge)
-      → drive.held old ≡ Some before → drive.held new ≡ Some now → (now ≡ before) ⊎ IsNoted on note before now
-      → IsWhole drive part planned ops old → IsWhole drive part planned ops new
-  pub admitted : (part : Part) (planned : Planned) (ops : List Op) (jobs : List Job) (d : D)
-      → IsWhole drive part planned ops d
-      → IsWhole drive part (with_jobs jobs planned) (ops ++ map (λ (job : Job). job.op) jobs) d
-  pub indexed : (planned : Planned) (ops : List Op) (rules : Rules) (on : Bool) (space : Space) (text : List ℕ) (e : Entry)
-      (d : D)
-      → IsWhole drive Dp (with_jobs (index_jobs rules space text e) planned) (ops ++ ops_of rules on space (index text)) d
-  pub closed : (planned : Planned) (ops : List Op) (rules : Rules) (space : Space) (text : List ℕ) (d : D)
-      → IsWhole drive Ip (with_jobs (close_jobs rules space text) planned) (ops ++ close_ops rules space text) d
+-- A data partition that ended with the newest index is whole from the mount on. Each partition stays so as ops are
+-- admitted, done and failed and notes are written, and an index makes its partition whole.
+pub record WholesStay : Type 0 where
+  pub begins : (c : Cartridge) (m : Mounted) → Mounts c m → m.dp_done ≡ true → IsWhole Dp (mounted_items c) [] c
+  pub grows : (part : Part) (planned : Items) (ops asked : List Op) (held : Cartridge) → IsWhole part planned ops held
+      → IsWhole part (with_ops asked planned) (ops ++ asked) held
+  pub indexed : (planned : Items) (ops : List Op) (rules : Rules) (on : Bool) (space : Space) (text : List ℕ)
+      (held : Cartridge) → IsWhole Dp planned (ops ++ ops_of rules on space (index text)) held
+  pub closed : (planned : Items) (ops : List Op) (rules : Rules) (space : Space) (text : List ℕ) (held : Cartridge)
+      → IsWhole Ip planned (ops ++ close_ops rules space text) held
+  pub done : (part : Part) (planned : Items) (op : Op) (later : List Op) (end : StepDone) (old new : Cartridge)
+      → IsOnWay planned (op ∷ later) old → AfterOp op end old new → IsWell end → IsWhole part planned (op ∷ later) old
+      → IsWhole part planned later new
+  pub failed : (part : Part) (planned : Items) (op : Op) (later : List Op) (counts : Twin) (old new : Cartridge)
+      → AfterOp op (outcome.Failed counts) old new → IsWhole part planned (op ∷ later) old
+      → IsWhole part planned (op ∷ later) new
+  pub noted : (part on : Part) (note : Note) (planned : Items) (ops : List Op) (old new : Cartridge)
+      → (new ≡ old) ⊎ IsNoted on note old new → IsWhole part planned ops old → IsWhole part planned ops new

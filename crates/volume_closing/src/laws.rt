@@ -2,7 +2,7 @@
 
 ghost use Rattle.volume_closing.specs.Laws.{ClosedVolumesStand, ClosesAreSafe, IndexesOfClosesAreDue};
 ghost use Rattle.volume_closing.specs.Near.{ClosesCanTell};
-ghost use Rattle.volume_closing.specs.Ready.{VolumesStayReady};
+ghost use Rattle.volume_closing.specs.Ready.{NoneIsAhead, TapesStayReady};
 ghost use Rattle.volume_closing.specs.Whole.{WholesStay};
 
 use tape_drive::Drive;
@@ -28,11 +28,16 @@ pub fn closes_can_tell<D: Drive>()
 {}
 
 /// A partition ends where it is planned to, once all ops are done that put anything on it.
-pub fn wholes_stay<D: Drive>()
-    ensures { WholesStay D.Drive }
+pub fn wholes_stay()
+    ensures { WholesStay }
 {}
 
-/// A volume stays ready for a close that has no index to write on the data partition.
-pub fn volumes_stay_ready<D: Drive>()
-    ensures { VolumesStayReady D.Drive }
+/// Where a close has no index to write on the data partition, no index of the index partition is ahead.
+pub fn none_is_ahead<D: Drive>()
+    ensures { NoneIsAhead D.Drive }
+{}
+
+/// There the data partition then ends where it is planned to, and where nothing was asked of the tape it is untouched.
+pub fn tapes_stay_ready<D: Drive>()
+    ensures { TapesStayReady D.Drive }
 {}

@@ -2,4 +2,4 @@ use Rattle.volume_closing.proofs.Wholes.{wholes_stay}
 use Rattle.volume_closing.proofs.laws.wholes_stay.Goals as goal
 
 pub returns : goal.returns
-returns g c = wholes_stay g.D.Drive
+returns c = wholes_stay
