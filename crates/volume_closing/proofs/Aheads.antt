@@ -1,5 +1,6 @@
 -- That no index is ahead on the index partition where a close writes one.
-use Rattle.std.proofs.Common.{◌≡◌, ◌≢◌, ◌⊎◌, ⊎_elim, inl, inr, ℕ, ◌+◌, Bool, true, false, not, ◌&&◌, ◌||◌, List, [], ◌∷◌, ◌++◌, map, length, Option, None, refl, sym, ap, subst, ◌∙◌, append_assoc}
+use Rattle.std.proofs.Common.{◌≡◌, ◌≢◌, inl, inr, ℕ, ◌+◌, Bool, true, false, List, [], ◌∷◌, ◌++◌, map, Option, None}
+use Rattle.std.proofs.Common.{refl, sym, ap, subst, ◌∙◌, append_assoc}
 use Rattle.tape_types.specs.declared.cartridges.Cartridge.{Cartridge}
 use Rattle.tape_types.specs.declared.cartridges.Item.{Item}
 use Rattle.tape_types.specs.declared.cartridges.Limits.{Limits}
@@ -21,8 +22,7 @@ use Rattle.volume_space.specs.Closing.{is_dp_due}
 use Rattle.volume_space.specs.Mount.{MountFacts}
 use Rattle.volume_space.specs.Space as space
 use Rattle.volume_space.specs.Space.{Rules, Space, blocks, index}
-use Rattle.volume_space.specs.Standing.{Standing, is_on, rules}
-use Rattle.volume_space.proofs.Steps.{are_still}
+use Rattle.volume_space.specs.Standing.{Standing, is_on}
 use Rattle.crash_theory.specs.Made.{Job, Made, after, makes}
 use Rattle.crash_theory.proofs.Flushes.{none_stays}
 use Rattle.volume_model.specs.Ends.{begun}
@@ -30,11 +30,11 @@ use Rattle.volume_model.specs.Mount.{facts_of}
 use Rattle.volume_model.specs.Served.{Fixed, View}
 use Rattle.volume_model.specs.Steps.{on_after}
 use Rattle.volume_crashes.specs.Laws.{AddsOps, IsSafeNow}
-use Rattle.volume_crashes.specs.Safe.{Follows, IsDpFlush, Planned, Settle, given_by, space_now, standing_now}
+use Rattle.volume_crashes.specs.Safe.{Follows, IsDpFlush, Planned, Settle, given_by, space_now}
 use Rattle.volume_crashes.proofs.Admits.{op_of}
 use Rattle.volume_crashes.proofs.Placing.{standings_go_on}
 use Rattle.volume_closing.specs.Ready.{GoesOnBy, HasNoneAhead, NoneIsAhead}
-use Rattle.volume_closing.proofs.Asked.{IsGiven, given_one, had_one, has_by, void_space}
+use Rattle.volume_closing.proofs.Asked.{IsGiven, given_one, had_one, has_by, on_here, rules_here, void_space}
 
 -- ---- a flush of the data partition that stands
 
@@ -97,8 +97,8 @@ module _ {D : Type 0} (drive : Ghosts D) where
   by_given p q limits old new asked none follows safe (inl had) =
       ap (λ (m : Made). m.base.ahead) follows.made ∙ none_stays follows.jobs p.made (none had)
   by_given p q limits old new asked none follows safe (inr (text, are)) =
-      let v = rules (given_by limits old) in
-      let on = is_on (facts_of old.fixed.mounted) old.on (length old.history) in
+      let v = rules_here limits old new in
+      let on = on_here limits old new in
       let last = flush_last v on (space_now limits old) text old.ops in
       flushed q limits new last.0 (index_flush v (space_now limits old) text) safe (are ∙ last.1) refl
 

@@ -1,5 +1,6 @@
 -- What a placement asks of the tape, and what that leaves.
-use Rattle.std.proofs.Common.{◌≡◌, ◌⊎◌, inl, inr, ℕ, Bool, true, false, not, ◌&&◌, ◌||◌, List, [], ◌∷◌, ◌++◌, length, Option, Some, None, refl, sym, ap, subst, ◌∙◌, append-nil}
+use Rattle.std.proofs.Common.{◌≡◌, ◌⊎◌, inl, inr, ℕ, Bool, true, false, not, ◌&&◌, ◌||◌, List, [], ◌∷◌, ◌++◌, length}
+use Rattle.std.proofs.Common.{Option, Some, None, refl, sym, ap, subst, ◌∙◌, append-nil}
 use Rattle.tape_types.specs.declared.cartridges.Limits.{Limits}
 use Rattle.tape_layout.specs.declared.ops.Op.{Op}
 use Rattle.plain_tree.specs.History.{call_at}
@@ -146,12 +147,11 @@ module _ {D : Type 0} (limits : Limits) (old new : View D) where
   abbrev pub IsGiven : Type 0
   IsGiven = HasDpIndex old (space_now limits old)
       ⊎ ((text : List ℕ) × (new.ops
-      ≡ old.ops ++ space.ops_of (rules (given_by limits old)) (is_on (facts_of old.fixed.mounted) old.on (length old.history))
-      (space_now limits old) (index text)))
+      ≡ old.ops
+      ++ space.ops_of (rules_here limits old new) (on_here limits old new) (space_now limits old) (index text)))
 
   by_admitted : (asked : List Op) → new.ops ≡ old.ops ++ asked
-      → IsAdmittedBy (rules (given_by limits old)) (is_on (facts_of old.fixed.mounted) old.on (length old.history))
-      (space_now limits old) asked → IsGiven
+      → IsAdmittedBy (rules_here limits old new) (on_here limits old new) (space_now limits old) asked → IsGiven
   by_admitted asked are (before was) = inl (inr was)
   by_admitted asked are (now text is) = inr (text, are ∙ ap (λ (l : List Op). old.ops ++ l) is)
 
@@ -161,8 +161,8 @@ module _ {D : Type 0} (limits : Limits) (old new : View D) where
   given_one adds fixed on goes (inr is) =
       let made = ask_made limits old new adds fixed on goes in
       by_admitted made.0 made.1
-      (admitted_by (rules (given_by limits old)) (is_on (facts_of old.fixed.mounted) old.on (length old.history))
-      (space_now limits old) (space_now limits new) made.0 made.2 is)
+      (admitted_by (rules_here limits old new) (on_here limits old new) (space_now limits old) (space_now limits new)
+      made.0 made.2 is)
 
   -- with the same space there was one before
   pub had_one : new.fixed ≡ old.fixed → space_now limits new ≡ space_now limits old

@@ -1,5 +1,6 @@
 -- That a volume stays safe over each command of its close.
-use Rattle.std.proofs.Common.{◌≡◌, ◌⊎◌, ℕ, ◌+◌, ◌≤◌, Bool, List, [], ◌∷◌, ◌++◌, map, length, Some, None, refl, sym, ap, subst, ◌∙◌}
+use Rattle.std.proofs.Common.{◌≡◌, ◌⊎◌, ℕ, ◌+◌, ◌≤◌, Bool, List, [], ◌∷◌, ◌++◌, map, length, Option, Some, None, refl}
+use Rattle.std.proofs.Common.{sym, ap, subst, ◌∙◌}
 use Rattle.std.proofs.lemmas.List.{map-append}
 use Rattle.tape_types.specs.declared.cartridges.Cartridge.{Cartridge}
 use Rattle.tape_types.specs.declared.cartridges.Note.{Note}
@@ -8,10 +9,12 @@ use Rattle.tape_types.specs.declared.cartridges.Twin.{Twin}
 use Rattle.coherency.specs.Notes.{HasValues}
 use Rattle.coherency.specs.declared.Coherency.{Coherency}
 use Rattle.tape_drive.specs.Commands.{IsNoted}
-use Rattle.tape_drive.specs.Crashes.{IsSettled, NothingNew, WithinNote}
+use Rattle.tape_drive.specs.Crashes.{IsSettled, IsSure, NothingNew, WithinNote}
 use Rattle.tape_drive.specs.declared.drive.Drive.{Ghosts}
 use Rattle.index_model.specs.declared.indexes.Index.{Index}
+use Rattle.tape_types.specs.declared.cartridges.Place.{Place}
 use Rattle.tape_layout.specs.declared.ops.Op.{Op}
+use Rattle.tape_layout.specs.declared.ops.Op.TheVariants as the_ops
 use Rattle.tape_meaning.specs.Carried.{carried}
 use Rattle.tape_meaning.specs.Notes.{TellsOfLast}
 use Rattle.head_core.specs.Steps.{IsOpStep}
@@ -61,8 +64,8 @@ module _ {D : Type 0} (drive : Ghosts D) where
 
   -- ---- what is admitted
 
-  module _ (planned : Planned) (space : Space) (v : View D) (ops : List Op) (d : D) (c : IsClosing drive v planned ops d)
-      (has : HasSpace v planned space) where
+  module _ (planned : Planned) (space : Space) (v : View D) (ops : List Op) (d : D)
+      (c : IsClosing drive v planned ops d) (has : HasSpace v planned space) where
     abbrev state : State
     state = state_at v planned c.made c.done c.jobs
 
@@ -96,15 +99,18 @@ module _ {D : Type 0} (drive : Ghosts D) where
 
     indexed : (rules : Rules) (on : Bool) (text : List ℕ) (e : Entry)
         → IsDue (volume_of planned.labels v) (trees_of v) planned.made space text e → 1 ≤ rules.block_size
-        → IsClosing drive v (with_jobs (index_jobs rules space text e) planned) (ops ++ ops_of rules on space (index text)) d
+        → IsClosing drive v (with_jobs (index_jobs rules space text e) planned)
+        (ops ++ ops_of rules on space (index text)) d
         × HasSpace v (with_jobs (index_jobs rules space text e) planned) (with_index rules text space)
         × ((with_jobs (index_jobs rules space text e) planned).made.base.ahead ≡ None)
     indexed rules on text e due size =
         let more = index_jobs rules space text e in
-        let due_here = subst (λ (m : Made). IsDue (volume_of planned.labels v) (trees_of v) m space text e) (sym c.plan) due in
+        let due_here = subst (λ (m : Made). IsDue (volume_of planned.labels v) (trees_of v) m space text e)
+        (sym c.plan) due in
         let admitted = (admissions_keep drive).indexed state space d c.held rules text e serving due_here size in (
           with_more more (ops_of rules on space (index text)) (index_ops rules space text e) admitted.kept,
-          subst (λ (m : Made). IsPlanned (trees_of v) m (with_index rules text space)) (more_planned more) admitted.planned,
+          subst (λ (m : Made). IsPlanned (trees_of v) m (with_index rules text space)) (more_planned more)
+              admitted.planned,
           sym (ap (λ (m : Made). m.base.ahead) (more_planned more))
               ∙ (admissions_keep drive).settled state space d c.held rules text e serving due_here size,
         )
@@ -122,18 +128,25 @@ module _ {D : Type 0} (drive : Ghosts D) where
 
   -- ---- ops
 
-  module _ (planned : Planned) (v : View D) (op : Op) (later : List Op) (old new : D) (made : Made) (done : ℕ) (held : Cartridge)
-      (told : drive.held old ≡ Some held) where
-    done_with : (end : StepDone) → IsOpStep drive op end old new → IsWell end → (jobs : List Job) → map op_of jobs ≡ op ∷ later
-        → after made jobs ≡ planned.made → IsKept drive (state_at v planned made done jobs) old held
-        → IsClosing drive v planned later new
+  module _ (planned : Planned) (v : View D) (op : Op) (later : List Op) (old new : D) (made : Made) (done : ℕ)
+      (held : Cartridge) (told : drive.held old ≡ Some held) where
+    -- the first op, however it ended, is that of the first job
+    step_within : (end : StepDone) (job : Job) (now : Cartridge) → op ≡ job.op → IsOpStep drive op end old new
+        → drive.held new ≡ Some now
+        → IsStep (Within job.op held) (moment_of drive old held) (moment_of drive new now)
+    step_within end job now its step told_now =
+        subst (λ (o : Op). IsStep (Within o held) (moment_of drive old held) (moment_of drive new now)) its
+        ((heads_do_ops drive).step op end old new held now step told told_now)
+
+    done_with : (end : StepDone) → IsOpStep drive op end old new → IsWell end → (jobs : List Job)
+        → map op_of jobs ≡ op ∷ later → after made jobs ≡ planned.made
+        → IsKept drive (state_at v planned made done jobs) old held → IsClosing drive v planned later new
     done_with end step well [] are plan kept = absurd (let no : [] ≡ op ∷ later = are in cc)
     done_with end step well (job ∷ jobs) are plan kept =
         let its : op ≡ job.op = cc in
         let rest : map op_of jobs ≡ later = cc in
         let it = step.told held told in
         let did = (heads_do_ops drive).done op end old new held it.0 step well told it.1 in
-        let within = (heads_do_ops drive).step op end old new held it.0 step told it.1 in
         record {
           made = makes job made;
           jobs = jobs;
@@ -144,7 +157,7 @@ module _ {D : Type 0} (drive : Ghosts D) where
           plan = plan;
           kept = (steps_keep drive).done (state_at v planned made done []) job jobs old new held it.0 kept
               (subst (λ (o : Op). IsDone o held it.0) its did.0)
-              (subst (λ (o : Op). IsStep (Within o held) (moment_of drive old held) (moment_of drive new it.0)) its within)
+              (step_within end job it.0 its step it.1)
               (subst (λ (o : Op). IsSureAfter o (moment_of drive new it.0)) its did.1);
         }
 
@@ -156,7 +169,6 @@ module _ {D : Type 0} (drive : Ghosts D) where
         let its : op ≡ job.op = cc in
         let it = step.told held told in
         let did = (heads_do_ops drive).failed op counts old new held it.0 step told it.1 in
-        let within = (heads_do_ops drive).step op (outcome.Failed counts) old new held it.0 step told it.1 in
         record {
           made = made;
           jobs = job ∷ jobs;
@@ -167,7 +179,7 @@ module _ {D : Type 0} (drive : Ghosts D) where
           plan = plan;
           kept = (steps_keep drive).failed (state_at v planned made done []) job jobs old new held it.0 kept
               (subst (λ (o : Op). IsFailed o held it.0) its did)
-              (subst (λ (o : Op). IsStep (Within o held) (moment_of drive old held) (moment_of drive new it.0)) its within);
+              (step_within (outcome.Failed counts) job it.0 its step it.1);
         }
 
   -- ---- looks and notes
@@ -187,6 +199,29 @@ module _ {D : Type 0} (drive : Ghosts D) where
     kept = (steps_keep drive).read (state_at v planned c.made c.done c.jobs) old new c.held c.kept (step c.held c.told);
   }
 
+  -- a flush beside the ops, done or failed
+  flushed : (planned : Planned) (v : View D) (ops : List Op) (place : Place) (end : StepDone) (old new : D)
+      → IsClosing drive v planned ops old → IsOpStep drive (the_ops.Flush place) end old new
+      → IsClosing drive v planned ops new
+  flushed planned v ops place end old new c step =
+      let it = step.told c.held c.told in
+      record {
+        made = c.made;
+        jobs = c.jobs;
+        done = c.done;
+        held = c.held;
+        told = it.1 ∙ ap (λ (h : Cartridge). Some h) it.2;
+        ops_are = c.ops_are;
+        plan = c.plan;
+        kept = (steps_keep drive).read (state_at v planned c.made c.done c.jobs) old new c.held c.kept
+            (step.made.commands.later, step.crash c.held c.told);
+      }
+
+  settled : (place : Place) (old new : D) → IsOpStep drive (the_ops.Flush place) outcome.Flushed old new
+      → IsAtRest drive new
+  settled place old new step held told =
+      subst (λ (h : Option Cartridge). IsSure h (drive.leaves new)) told step.made.sure
+
   noted : (planned : Planned) (v : View D) (part : Part) (note : Note) (values : Coherency) (old new : D)
       (before now : Cartridge) → IsClosing drive v planned [] old → IsAtRest drive old
       → drive.held old ≡ Some before → drive.held new ≡ Some now
@@ -205,8 +240,8 @@ module _ {D : Type 0} (drive : Ghosts D) where
         told = told_new;
         ops_are = c.ops_are;
         plan = c.plan;
-        kept = (steps_keep drive).noted x old new before now part note values kept (rest before told_old) has vcr tells step
-            either;
+        kept = (steps_keep drive).noted x old new before now part note values kept (rest before told_old) has vcr tells
+            step either;
       }
 
   rests : (part : Part) (note : Note) (old new : D) (before now : Cartridge) → IsAtRest drive old
@@ -229,7 +264,8 @@ module _ {D : Type 0} (drive : Ghosts D) where
         always = λ image left. (fine_cartridges_stand volume trees 0 image (c.kept.always image left)).0;
         sound = λ image left. (fine_cartridges_stand volume trees 0 image (c.kept.always image left)).1;
         acknowledged = λ ack has short image left.
-            let held = all_has (IsHeld volume trees c.made.base (moment_of drive d c.held)) v.acks ack c.kept.acked has in
+            let held = all_has (IsHeld volume trees c.made.base (moment_of drive d c.held)) v.acks ack c.kept.acked
+            has in
             (fine_cartridges_stand volume trees ack.place image (held.held short image left)).0;
       }
 
@@ -245,6 +281,8 @@ module _ {D : Type 0} (drive : Ghosts D) where
     failed = λ planned v op later counts old new c step.
         failed_with planned v op later old new c.made c.done c.held c.told counts step c.jobs c.ops_are c.plan c.kept;
     looked = looked;
+    flushed = flushed;
+    settled = settled;
     noted = noted;
     rests = rests;
     survives = survives;

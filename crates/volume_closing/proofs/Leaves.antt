@@ -23,9 +23,11 @@ module _ {D : Type 0} (drive : Ghosts D) where
       let made_is : c.made ≡ after planned.made (close_jobs rules space text) =
       ap (λ (jobs : List Job). after c.made jobs) (sym none_left) ∙ c.plan in
       let here = some_same c.held held (sym c.told ∙ told) in
-      let kept = subst (λ (jobs : List Job). IsKept drive (state_at v planned c.made c.done jobs) d c.held) none_left c.kept in
+      let kept = subst (λ (jobs : List Job). IsKept drive (state_at v planned c.made c.done jobs) d c.held) none_left
+      c.kept in
       let kept_here = subst (λ (h : Cartridge). IsKept drive (state_at v planned c.made c.done []) d h) here kept in
-      (closes_leave drive).closed (state_at v planned c.made c.done []) planned.made space rules text on_ip d held kept_here
+      (closes_leave drive).closed (state_at v planned c.made c.done []) planned.made space rules text on_ip d held
+      kept_here
       (record {
         planned = has;
         due = due;

@@ -1,5 +1,7 @@
 -- That the index of a close can be told.
-use Rattle.std.proofs.Common.{◌≡◌, ℕ, ◌+◌, ◌<◌, ◌≤◌, ◌^◌, Bool, true, false, nat_lt, List, [], ◌∷◌, ◌++◌, length, Option, Some, None, IfSome, slice_get, get_or, refl, sym, ap, ◌∙◌, subst, arith, append_assoc, append-nil}
+use Rattle.std.proofs.Common.{◌≡◌, ℕ, ◌+◌, ◌<◌, ◌≤◌, ◌^◌, Bool, true, false, nat_lt, List, [], ◌∷◌, ◌++◌, length}
+use Rattle.std.proofs.Common.{Option, Some, None, IfSome, slice_get, get_or, refl, sym, ap, ◌∙◌, subst, arith}
+use Rattle.std.proofs.Common.{append_assoc, append-nil}
 use Rattle.std.specs.Prelude.{if◌then◌else◌, fold}
 use Rattle.std.specs.List.{enumerate_from}
 use Rattle.std.proofs.lemmas.Bool.Decides.{nat_tests}
@@ -86,9 +88,11 @@ near_placed g on st p most fits near = by p.fate (call_at g.calls p) refl refl
         → IsNear (after_placed g on st p).space
     by fates.Void call f e = rw f near
     by fates.Done None f e = rw (f, e) near
-    by fates.Done (Some call) f e = rw (f, e) (near_after (rules g) on st.space (ask_of g st call p.at) most (fits call e f) near)
+    by fates.Done (Some call) f e =
+        rw (f, e) (near_after (rules g) on st.space (ask_of g st call p.at) most (fits call e f) near)
 
-at_seam : (front : List Placed) (p : Placed) (behind : List Placed) → slice_get (front ++ p ∷ behind) (length front) ≡ Some p
+at_seam : (front : List Placed) (p : Placed) (behind : List Placed)
+    → slice_get (front ++ p ∷ behind) (length front) ≡ Some p
 at_seam [] p behind = refl
 at_seam (x ∷ front) p behind = at_seam front p behind
 
@@ -134,10 +138,11 @@ module _ {D : Type 0} (first : Drive) (v : View D) (limits : IsLimits first.limi
       let k : ℕ = length front in
       let here : standing g v.on v.history k ≡ standing g v.on front k =
       ap (λ (h : List Placed). standing g v.on h k) is ∙ same_front g v.on front (p ∷ behind) in
-      let there : slice_get v.history k ≡ Some p = ap (λ (h : List Placed). slice_get h k) is ∙ at_seam front p behind in
+      let there : slice_get v.history k ≡ Some p =
+      ap (λ (h : List Placed). slice_get h k) is ∙ at_seam front p behind in
       let fit = subst (λ (st : Standing). IsFit g (is_on g.mounted v.on k) st p) here (fits k p there) in
-      let next = standings_go_on.placed first.limits (record v { history = front }) (record v { history = front ++ p ∷ [] }) p
-      refl refl refl in
+      let next = standings_go_on.placed first.limits (record v { history = front })
+      (record v { history = front ++ p ∷ [] }) p refl refl refl in
       near_from (front ++ p ∷ []) behind (is ∙ sym (append_assoc front (p ∷ []) behind))
       (subst (λ (st : Standing). IsNear st.space) (sym next)
       (near_placed g (is_on g.mounted v.on k) (standing g v.on front k) p limits.dp_most fit near))
@@ -168,12 +173,15 @@ can_tell limits m g st is near on_ip on_dp =
       letters_are = subst (λ (f : MountFacts). AreLetters (f.label.index, f.label.dpart)) (sym is.facts)
           (record { ip = mount.letters.0; dp = mount.letters.1 });
       differ = subst (λ (f : MountFacts). f.label.index ≡ f.label.dpart → ⊥) (sym is.facts) mount.letters.2;
-      uuid = subst (λ (f : MountFacts). f.label.uuid < 2 ^ 128) (sym is.facts) (omega (arith, mount.uuid, mount.valid.formed.uuid));
+      uuid = subst (λ (f : MountFacts). f.label.uuid < 2 ^ 128) (sym is.facts)
+          (subst (λ (n : ℕ). n < 2 ^ 128) mount.uuid mount.valid.formed.uuid);
       facts = subst (λ (f : MountFacts). AreFitFacts (carried_of f.index)) (sym is.facts)
           (record { comment = mount.valid.formed.comment; policy = mount.valid.formed.policy });
       near = near;
-      on_ip = close_to (st.space.ends.ip) g.limits.cap_ip limits.cap_ip on_ip (ap (λ (l : Limits). l.cap_ip) is.limits_are) is.range.ip_most;
-      on_dp = close_to (st.space.ends.dp) g.limits.cap_dp limits.cap_dp on_dp (ap (λ (l : Limits). l.cap_dp) is.limits_are) is.range.dp_most;
+      on_ip = close_to st.space.ends.ip g.limits.cap_ip limits.cap_ip on_ip
+          (ap (λ (l : Limits). l.cap_ip) is.limits_are) is.range.ip_most;
+      on_dp = close_to st.space.ends.dp g.limits.cap_dp limits.cap_dp on_dp
+          (ap (λ (l : Limits). l.cap_dp) is.limits_are) is.range.dp_most;
     }
   where
     close_to : (end cap same : ℕ) → end ≤ cap → cap ≡ same → same ≤ 2 ^ 40 → end + 1 ≤ 2 ^ 62

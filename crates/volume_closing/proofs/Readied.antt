@@ -1,5 +1,6 @@
 -- What a close finds on tape that has no index to write on the data partition, or none at all.
-use Rattle.std.proofs.Common.{◌≡◌, ⊎_elim, inl, inr, ℕ, Bool, true, false, List, [], ◌∷◌, ◌++◌, length, Option, Some, None, refl, sym, ap, subst, ◌∙◌}
+use Rattle.std.proofs.Common.{◌≡◌, ⊎_elim, inl, inr, true, false, List, [], ◌∷◌, ◌++◌, Option, Some, None, refl}
+use Rattle.std.proofs.Common.{sym, ap, subst, ◌∙◌}
 use Rattle.tape_types.specs.declared.cartridges.Cartridge.{Cartridge}
 use Rattle.tape_types.specs.declared.cartridges.Limits.{Limits}
 use Rattle.tape_types.specs.declared.cartridges.Part.TheVariants.{Dp}
@@ -10,25 +11,22 @@ use Rattle.tape_meaning.specs.Mounts.{Mounts}
 use Rattle.head_core.specs.Steps.{AfterOp, IsOpStep}
 use Rattle.head_core.specs.declared.work.StepDone.{StepDone}
 use Rattle.head_core.specs.declared.work.StepDone.TheVariants as outcome
-use Rattle.plain_tree.specs.declared.calls.Fate.TheVariants as fates
-use Rattle.plain_tree.specs.declared.calls.Placed.{Placed}
 use Rattle.session_script.specs.declared.logs.Event.{Event}
 use Rattle.session_script.specs.declared.logs.Event.TheVariants as events
-use Rattle.volume_space.specs.Space as space
-use Rattle.volume_space.specs.Space.{Space, index}
-use Rattle.volume_space.specs.Standing.{Standing, is_on, rules}
+use Rattle.volume_space.specs.Space.{Space}
+use Rattle.volume_space.specs.Standing.{Standing}
 use Rattle.volume_model.specs.Ends.{begun}
-use Rattle.volume_model.specs.Mount.{facts_of}
 use Rattle.volume_model.specs.Served.{Fixed, View}
 use Rattle.volume_crashes.specs.Changes.{AreDriven, IsDriven}
 use Rattle.volume_crashes.specs.Laws.{AddsOps}
-use Rattle.volume_crashes.specs.Safe.{given_by, space_now}
+use Rattle.volume_crashes.specs.Safe.{space_now}
 use Rattle.volume_crashes.proofs.Bridge.{some_same}
 use Rattle.volume_crashes.proofs.Placing.{standings_go_on}
 use Rattle.volume_tape.specs.Planned.{IsOnWay, Items, mounted_items, with_ops}
 use Rattle.volume_closing.specs.Ready.{GoesOnBy, HasDpIndex, IsStepOnTape, IsTapeReady, TapesStayReady}
 use Rattle.volume_closing.specs.Whole.{IsWhole}
-use Rattle.volume_closing.proofs.Asked.{IsGiven, ask_made, given_one, had_one, unasked_by, void_space}
+use Rattle.volume_closing.proofs.Asked.{IsGiven, ask_made, given_one, had_one, on_here, rules_here, unasked_by}
+use Rattle.volume_closing.proofs.Asked.{void_space}
 use Rattle.volume_closing.proofs.Wholes.{whole_done, whole_failed, whole_grows, whole_indexed, wholes_stay}
 
 module _ {D : Type 0} (drive : Ghosts D) where
@@ -61,8 +59,8 @@ module _ {D : Type 0} (drive : Ghosts D) where
       (whole_grows Dp planned old.ops asked c (whole had c told))
   asked_whole planned limits old new asked whole are (inr (text, is)) c told =
       subst (λ (l : List Op). IsWhole Dp (with_ops asked planned) l c) (sym is)
-      (whole_indexed (with_ops asked planned) old.ops (rules (given_by limits old))
-      (is_on (facts_of old.fixed.mounted) old.on (length old.history)) (space_now limits old) text c)
+      (whole_indexed (with_ops asked planned) old.ops (rules_here limits old new) (on_here limits old new)
+      (space_now limits old) text c)
 
   same_first : (old new : View D) → new.fixed ≡ old.fixed → drive.held new.fixed.first ≡ drive.held old.fixed.first
   same_first old new fixed = ap (λ (f : Fixed D). drive.held f.first) fixed
@@ -73,8 +71,8 @@ module _ {D : Type 0} (drive : Ghosts D) where
       → (new.ops ≡ []) × (drive.held new.drive ≡ drive.held new.fixed.first)
   asked_untouched planned limits old new ready adds fixed same on goes unchanged without =
       let made = ask_made limits old new adds fixed on goes in
-      let un = unasked_by (rules (given_by limits old)) (is_on (facts_of old.fixed.mounted) old.on (length old.history))
-      (space_now limits old) (space_now limits new) made.0 made.2 unchanged without in
+      let un = unasked_by (rules_here limits old new) (on_here limits old new) (space_now limits old)
+      (space_now limits new) made.0 made.2 unchanged without in
       let was = ready.untouched un.changed un.admitted in (
         made.1 ∙ ap (λ (l : List Op). l ++ made.0) was.0 ∙ un.none,
         ap (λ (d : D). drive.held d) same ∙ was.1 ∙ sym (same_first old new fixed),

@@ -27,8 +27,8 @@ ungenerated space = record space { newest = 0 }
 one_near : 0 + 1 ≤ 2 ^ 62
 one_near = omega arith
 
--- what an index tells of what stands goes neither by its generation nor by its place: so it is that of a sync before all
--- others
+-- what an index tells of what stands goes neither by its generation nor by its place: so it is that of a sync before
+-- all others
 abbrev before_all : Standing → Standing
 before_all st = record { tree = st.tree; files = st.files; space = ungenerated st.space }
 
@@ -90,8 +90,8 @@ module _ (c : Cartridge) (g : Given) (on : Bool) (st : Standing) (s : Stocked) (
       → st.tree ≡ t.nth t.count
       → Tells v t c st.space.ends.ip st.space.ends.dp (record { index = index_of_close g st at; place = t.count })
   tells_close v t facts_are label_is tree_is =
-      let before = tells_all c g on (before_all st) held_before at valid stock_before good behind can_before v t facts_are
-      label_is tree_is in
+      let before = tells_all c g on (before_all st) held_before at valid stock_before good behind can_before v t
+      facts_are label_is tree_is in
       let tree = before.tree.1 in
       record {
         facts = before.facts;
@@ -119,7 +119,7 @@ close_due planned limits v on st s at valid label_is held tree_is good behind ca
         here = ap (λ (l : Label). record { letter = l.index; block = st.space.ends.ip + 1 }) label_is;
         back = ap (λ (l : Label). option_map (λ block. record { letter = l.dpart; block = block })
             st.space.last_dp) label_is;
-        tells = tells_close c g on st s at valid held good behind can (volume_of planned.labels v) (trees_of v) refl label_is
-            tree_is;
+        tells = tells_close c g on st s at valid held good behind can (volume_of planned.labels v) (trees_of v) refl
+            label_is tree_is;
       },
     )

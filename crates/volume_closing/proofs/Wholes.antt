@@ -1,5 +1,6 @@
 -- That a partition ends where it is planned to.
-use Rattle.std.proofs.Common.{◌≡◌, ◌⊎◌, ⊎_elim, ℕ, Bool, List, [], ◌∷◌, ◌++◌, length, take, None, refl, sym, ap, ◌∙◌, append-nil}
+use Rattle.std.proofs.Common.{◌≡◌, ◌⊎◌, ⊎_elim, ℕ, Bool, List, [], ◌∷◌, ◌++◌, length, take, None, refl, sym, ap, ◌∙◌}
+use Rattle.std.proofs.Common.{append-nil}
 use Rattle.tape_types.specs.Cartridges.{items_of}
 use Rattle.tape_types.specs.declared.cartridges.Cartridge.{Cartridge}
 use Rattle.tape_types.specs.declared.cartridges.Item.{Item}
@@ -49,8 +50,8 @@ rests_none : (part : Part) (front behind : List Op) → items_by part (front ++ 
 rests_none part front behind none =
     right_nil (items_by part front) (items_by part behind) (sym (ops_append part front behind) ∙ none)
 
-pub whole_grows : (part : Part) (planned : Items) (asked more : List Op) (held : Cartridge) → IsWhole part planned asked held
-    → IsWhole part (with_ops more planned) (asked ++ more) held
+pub whole_grows : (part : Part) (planned : Items) (asked more : List Op) (held : Cartridge)
+    → IsWhole part planned asked held → IsWhole part (with_ops more planned) (asked ++ more) held
 whole_grows part planned asked more held whole none =
     whole (fronts_none part asked more none) ∙ sym (append-nil (planned part))
     ∙ ap (λ (l : List Item). planned part ++ l) (sym (rests_none part asked more none))

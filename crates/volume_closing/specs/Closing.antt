@@ -24,9 +24,10 @@ use Rattle.volume_crashes.specs.Safe.{Planned, state_of, trees_of}
 abbrev pub state_at : {D : Type 0} → View D → Planned → Made → ℕ → List Job → State
 state_at v planned made done jobs = record (state_of planned.labels v made jobs) { done = done; waits = [] }
 
--- These ops are left, up to what is planned of both partitions. Each cartridge that a crash may leave stands for a tree of
--- the history, and for one that covers what was acknowledged by then.
-pub record IsClosing {D : Type 0} (drive : Ghosts D) (v : View D) (planned : Planned) (ops : List Op) (d : D) : Type 0 where
+-- These ops are left, up to what is planned of both partitions. Each cartridge that a crash may leave stands for a tree
+-- of the history, and for one that covers what was acknowledged by then.
+pub record IsClosing {D : Type 0} (drive : Ghosts D) (v : View D) (planned : Planned) (ops : List Op) (d : D)
+    : Type 0 where
   pub made : Made
   pub jobs : List Job
   pub done : ℕ
@@ -55,8 +56,8 @@ pub record IsNear (space : Space) : Type 0 where
   pub most : space.newest ≤ 2 ^ 62
   pub back : IfSome space.last_dp (λ block. block ≤ 2 ^ 62)
 
--- The volume has two letters, a UUID of its range, and carried facts as they may be, and all places are near. So the index
--- of a close can be told, which takes no new generation.
+-- The volume has two letters, a UUID of its range, and carried facts as they may be, and all places are near. So the
+-- index of a close can be told, which takes no new generation.
 pub record CanTellClose (g : Given) (st : Standing) : Type 0 where
   pub letters_are : AreLetters (letters g.mounted)
   pub differ : (letters g.mounted).0 ≢ (letters g.mounted).1

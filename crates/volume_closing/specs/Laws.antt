@@ -15,7 +15,9 @@ use Rattle.index_model.specs.Valid.{IsValid}
 use Rattle.index_model.specs.declared.indexes.Index.{Index}
 use Rattle.extent_map.specs.Cells.{tape_of}
 use Rattle.file_tree.specs.Valid.{IsGood}
+use Rattle.tape_types.specs.declared.cartridges.Place.{Place}
 use Rattle.tape_layout.specs.declared.ops.Op.{Op}
+use Rattle.tape_layout.specs.declared.ops.Op.TheVariants as the_ops
 use Rattle.tape_meaning.specs.Carried.{carried}
 use Rattle.tape_meaning.specs.Notes.{TellsOfLast}
 use Rattle.head_core.specs.Steps.{IsOpStep}
@@ -42,17 +44,19 @@ use Rattle.volume_closing.specs.Closing.{CanTellClose, HasSpace, IsAtRest, IsClo
 abbrev pub close_ops : Rules → Space → List ℕ → List Op
 close_ops rules space text = map (λ (job : Job). job.op) (close_jobs rules space text)
 
--- A volume in which no sync waits may be closed. The index that is due on its data partition is admitted; then that of its
--- index partition, where no index is ahead there. An op that was done is one less, and one that failed stands. Where no op
--- is left and nothing is pending, the notes may tell of both last indexes; and nothing is pending once one is written. At
+-- A volume in which no sync waits may be closed. The index that is due on its data partition is admitted; then that of
+-- its index partition, where no index is ahead there. An op that was done is one less, and one that failed stands. A
+-- look or a flush beside the ops leaves all as it is, and a flush that was done leaves nothing pending. Where no op is
+-- left and nothing is pending, the notes may tell of both last indexes; and nothing is pending once one is written. At
 -- each moment a crash leaves a tree of the history that covers what was acknowledged by then.
 pub record ClosesAreSafe {D : Type 0} (drive : Ghosts D) : Type 0 where
-  pub begins : (planned : Planned) (space : Space) (v : View D) → IsSafe drive planned space v → waits_after v.events ≡ []
-      → IsClosing drive v planned v.ops v.drive × HasSpace v planned space
+  pub begins : (planned : Planned) (space : Space) (v : View D) → IsSafe drive planned space v
+      → waits_after v.events ≡ [] → IsClosing drive v planned v.ops v.drive × HasSpace v planned space
   pub indexed : (planned : Planned) (space : Space) (v : View D) (ops : List Op) (d : D) (rules : Rules) (on : Bool)
       (text : List ℕ) (e : Entry) → IsClosing drive v planned ops d → HasSpace v planned space
       → IsDue (volume_of planned.labels v) (trees_of v) planned.made space text e → 1 ≤ rules.block_size
-      → IsClosing drive v (with_jobs (index_jobs rules space text e) planned) (ops ++ ops_of rules on space (index text)) d
+      → IsClosing drive v (with_jobs (index_jobs rules space text e) planned)
+      (ops ++ ops_of rules on space (index text)) d
       × HasSpace v (with_jobs (index_jobs rules space text e) planned) (with_index rules text space)
       × ((with_jobs (index_jobs rules space text e) planned).made.base.ahead ≡ None)
   pub closed : (planned : Planned) (space : Space) (v : View D) (ops : List Op) (d : D) (rules : Rules) (text : List ℕ)
@@ -70,6 +74,11 @@ pub record ClosesAreSafe {D : Type 0} (drive : Ghosts D) : Type 0 where
       → drive.held new ≡ drive.held old
       → ((c : Cartridge) → drive.held old ≡ Some c → IsStep NothingNew (moment_of drive old c) (moment_of drive new c))
       → IsClosing drive v planned ops new
+  pub flushed : (planned : Planned) (v : View D) (ops : List Op) (place : Place) (end : StepDone) (old new : D)
+      → IsClosing drive v planned ops old → IsOpStep drive (the_ops.Flush place) end old new
+      → IsClosing drive v planned ops new
+  pub settled : (place : Place) (old new : D) → IsOpStep drive (the_ops.Flush place) outcome.Flushed old new
+      → IsAtRest drive new
   pub noted : (planned : Planned) (v : View D) (part : Part) (note : Note) (values : Coherency) (old new : D)
       (before now : Cartridge) → IsClosing drive v planned [] old → IsAtRest drive old
       → drive.held old ≡ Some before → drive.held new ≡ Some now
@@ -84,9 +93,9 @@ pub record ClosesAreSafe {D : Type 0} (drive : Ghosts D) : Type 0 where
       → SurvivesCrashes cartridges (carried v.fixed.mounted.index) (tree_after v) (length v.history) v.acks
       (seen_by drive d).leavings v.fixed.since
 
--- What was mounted is a valid index of the volume with these labels. What is held is what stands, on the tape that there
--- will be once all ops are done, in blocks behind the labels. Its index may be told, with a text of fewer than 2^64 bytes.
--- Then it is due on the index partition.
+-- What was mounted is a valid index of the volume with these labels. What is held is what stands, on the tape that
+-- there will be once all ops are done, in blocks behind the labels. Its index may be told, with a text of fewer than
+-- 2^64 bytes. Then it is due on the index partition.
 abbrev pub IndexesOfClosesAreDue : Type 0 → Type 0
 IndexesOfClosesAreDue D = (planned : Planned) (limits : Limits) (v : View D) (on : Bool) (st : Standing) (s : Stocked)
     (at : Moment) → IsValid v.fixed.mounted.index → v.fixed.mounted.label ≡ planned.labels.ip
@@ -97,8 +106,8 @@ IndexesOfClosesAreDue D = (planned : Planned) (limits : Limits) (v : View D) (on
     → (on_ip : Index) × IsCloseDue (volume_of planned.labels v) (trees_of v) planned.made st.space
     (close_text (given_by limits v) st at) on_ip
 
--- Where all ops are done, and both partitions end where they were planned to, the cartridge stands for the tree of the whole
--- history, is consistent, tells the same on both partitions, and with its notes is coherent.
+-- Where all ops are done, and both partitions end where they were planned to, the cartridge stands for the tree of the
+-- whole history, is consistent, tells the same on both partitions, and with its notes is coherent.
 abbrev pub ClosedVolumesStand : {D : Type 0} → Ghosts D → Type 0
 ClosedVolumesStand {D} drive = (planned : Planned) (space : Space) (rules : Rules) (text : List ℕ) (on_ip : Index)
     (v : View D) (d : D) (held : Cartridge)

@@ -16,9 +16,9 @@ use Rattle.volume_truth.specs.Sides.{standing_here}
 use Rattle.volume_truth.specs.Within.{StaysTrue}
 use Rattle.volume_closing.specs.Closing.{CanTellClose, IsNear}
 
--- At the end of the history of a volume that stays true the generation is that of an index, and the last index is near; so
--- it is once a close has admitted its index on the data partition, where that fits. With ends within the capacities the
--- index of the index partition can be told.
+-- At the end of the history of a volume that stays true the generation is that of an index, and the last index is near.
+-- So it is once a close has admitted its index on the data partition, where that fits. With ends within the capacities
+-- the index of the index partition can be told.
 pub record ClosesCanTell {D : Type 0} (drive : Ghosts D) : Type 0 where
   pub near : (first : D) (v : View D) → IsLimits (drive.limits first) → IsMount (drive.limits first) v.fixed.mounted
       → StaysTrue (seen_by drive first) v → IsNear (standing_here (seen_by drive first) v).space

@@ -1,5 +1,5 @@
 -- What a close finds that has no index to write on the data partition, or none at all.
-use Rattle.std.specs.Prelude.{ℕ, ◌≡◌, ◌⊎◌, true, false, List, [], ◌∷◌, ◌++◌, Option, Some, None}
+use Rattle.std.specs.Prelude.{◌≡◌, ◌⊎◌, true, false, List, [], ◌∷◌, ◌++◌, Option, Some, None}
 use Rattle.tape_types.specs.declared.cartridges.Cartridge.{Cartridge}
 use Rattle.tape_types.specs.declared.cartridges.Limits.{Limits}
 use Rattle.tape_types.specs.declared.cartridges.Part.TheVariants.{Dp}
@@ -55,8 +55,8 @@ pub record NoneIsAhead {D : Type 0} (drive : Ghosts D) : Type 0 where
 
 -- ---- the tape
 
--- The data partition then ends where it is planned to once no op that stands puts anything on it. And as long as nothing
--- changed and no index was admitted, no op stands, and the cartridge reads as it did at the start.
+-- The data partition then ends where it is planned to once no op that stands puts anything on it. And as long as
+-- nothing changed and no index was admitted, no op stands, and the cartridge reads as it did at the start.
 pub record IsTapeReady {D : Type 0} (drive : Ghosts D) (planned : Items) (limits : Limits) (v : View D) : Type 0 where
   pub whole : HasDpIndex v (space_now limits v) → (c : Cartridge) → drive.held v.drive ≡ Some c
       → IsWhole Dp planned v.ops c
