@@ -1,2 +1,5 @@
 pub mod Closing
 pub mod Laws
+pub mod Near
+pub mod Whole
+pub mod Ready

@@ -1,6 +1,9 @@
 //! Laws of a close, over any drive.
 
 ghost use Rattle.volume_closing.specs.Laws.{ClosedVolumesStand, ClosesAreSafe, IndexesOfClosesAreDue};
+ghost use Rattle.volume_closing.specs.Near.{ClosesCanTell};
+ghost use Rattle.volume_closing.specs.Ready.{NoneIsAhead, TapesStayReady};
+ghost use Rattle.volume_closing.specs.Whole.{WholesStay};
 
 use tape_drive::Drive;
 
@@ -17,4 +20,24 @@ pub fn indexes_of_closes_are_due<D: Drive>()
 /// Once all commands of a close are done, the cartridge stands for the tree of the whole history.
 pub fn closed_volumes_stand<D: Drive>()
     ensures { ClosedVolumesStand D.Drive }
+{}
+
+/// The index that a close writes on the index partition can be told.
+pub fn closes_can_tell<D: Drive>()
+    ensures { ClosesCanTell D.Drive }
+{}
+
+/// A partition ends where it is planned to, once all ops are done that put anything on it.
+pub fn wholes_stay()
+    ensures { WholesStay }
+{}
+
+/// Where a close has no index to write on the data partition, no index of the index partition is ahead.
+pub fn none_is_ahead<D: Drive>()
+    ensures { NoneIsAhead D.Drive }
+{}
+
+/// There the data partition then ends where it is planned to, and where nothing was asked of the tape it is untouched.
+pub fn tapes_stay_ready<D: Drive>()
+    ensures { TapesStayReady D.Drive }
 {}
