@@ -1,0 +1,6 @@
+mod Counting
+mod Ends
+mod Faulted
+mod Given
+mod Ready
+mod Serves
