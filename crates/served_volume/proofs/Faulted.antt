@@ -1,20 +1,28 @@
 -- The write of a session that drains is placed void, with its fault.
 use Rattle.std.specs.Prelude.{ℕ, ◌≡◌, ◌==◌, cond, List, [], ◌∷◌, ◌++◌, fold, length, Option, Some, None, slice_get, slice_set}
-use Rattle.std.proofs.Common.{refl, sym, ap, ◌∙◌, append_assoc}
+use Rattle.std.proofs.Common.{refl, sym, ap, subst, ◌∙◌, append_assoc}
 use Rattle.std.proofs.Math.Seq.{set-append_seam}
 use Rattle.std.proofs.lemmas.Bool.{eq-eqb}
+use Rattle.tape_types.specs.declared.cartridges.Twin.{Twin}
 use Rattle.plain_tree.specs.declared.calls.Fate.TheVariants as fates
 use Rattle.plain_tree.specs.declared.calls.Placed.{Placed}
 use Rattle.session_script.specs.declared.logs.Reply.{Reply}
+use Rattle.session_script.specs.declared.logs.Reply.TheVariants.{Fault}
 use Rattle.tape_types.specs.declared.moments.Moment.{Moment}
-use Rattle.volume_model.specs.Marks.{after, draining, mark, phase, placed_and_handed, waits}
+use Rattle.volume_model.specs.Faults.{kept_for}
+use Rattle.volume_model.specs.Marks.{after, draining, mark, phase, placed_and_handed, places_of, waits}
+use Rattle.volume_model.specs.Steps.{without_session}
 use Rattle.volume_model.specs.declared.marks.Kind.TheVariants as kinds
 use Rattle.volume_model.specs.declared.marks.Mark.{Mark}
 use Rattle.volume_order.proofs.Lists.{at_end}
 use Rattle.volume_order.proofs.Marked.{phase_more}
 use Rattle.volume_journal.specs.Placements.{Listed, or_none, there}
+use Rattle.volume_journal.specs.Trails.{Journaled}
 use Rattle.volume_parts.specs.Parts.{Parts}
 use Rattle.volume_parts.specs.Placing.{PlacesCall}
+use Rattle.volume_calls.specs.Draining.{TakesFault}
+use Rattle.volume_core.specs.Seen.{seen_parts}
+use Rattle.volume_core.specs.declared.parts.Parts.{Parts as Held}
 
 -- a call is placed at the end
 pub record PlacesHere (placed : Placed) (old new : Listed) : Type 0 where
@@ -84,3 +92,36 @@ places_void who nth here at reply mid now old new here_is p r h =
       calls = h.calls ∙ r.calls ∙ p.calls;
       sessions = h.sessions ∙ r.sessions ∙ p.sessions;
     }
+
+-- the fault that is kept is taken, and the write is placed with it
+module _ {D : Type 0} (who nth : ℕ) (at : Moment) (counts : Twin) (old new : Held D) (trail : Journaled)
+    (others : new ≡ record old { trail = trail; placements = new.placements })
+    (nth_is : nth ≡ length (places_of who old.placements.marks))
+    (places : PlacesCall who nth at fates.Void (Some (Fault counts)) (seen_parts (record old { trail = trail })) (seen_parts new)) where
+  placed_so : PlacesCall who nth at fates.Void (Some (Fault counts)) (seen_parts old) (seen_parts new)
+  placed_so = record {
+    history = places.history;
+    replies = places.replies;
+    marks = places.marks;
+    calls = places.calls;
+    sessions = places.sessions;
+  }
+
+  pub takes_fault : kept_for who old.trail.kept ≡ counts ∷ [] → trail.kept ≡ without_session who old.trail.kept
+      → trail.events ≡ old.trail.events → trail.acks ≡ old.trail.acks
+      → TakesFault who (length (places_of who old.placements.marks)) at counts (seen_parts old) (seen_parts new)
+  takes_fault is_kept kept events acks = record {
+    is_kept = is_kept;
+    kept = ap (λ (p : Held D). p.trail.kept) others ∙ kept;
+    events = ap (λ (p : Held D). p.trail.events) others ∙ events;
+    tape = record {
+      drive = ap (λ (p : Held D). p.head.drive) others;
+      stock = ap (λ (p : Held D). p.stock) others;
+      queue = ap (λ (p : Held D). p.queue) others;
+      reads = ap (λ (p : Held D). p.reads.reads) others;
+      answered = ap (λ (p : Held D). p.reads.answered) others;
+      on = ap (λ (p : Held D). p.on) others;
+      acks = ap (λ (p : Held D). p.trail.acks) others ∙ acks;
+    };
+    places = subst (λ n. PlacesCall who n at fates.Void (Some (Fault counts)) (seen_parts old) (seen_parts new)) nth_is placed_so;
+  }

@@ -2,5 +2,6 @@ mod Counting
 mod Ends
 mod Faulted
 mod Given
+mod Made
 mod Ready
 mod Serves

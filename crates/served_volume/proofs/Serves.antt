@@ -9,7 +9,7 @@ use Rattle.tape_drive.specs.declared.drive.Drive.{Ghosts}
 use Rattle.plain_tree.specs.declared.calls.Placed.{Placed}
 use Rattle.tape_layout.specs.declared.ops.Op.{Op}
 use Rattle.volume_model.specs.Marks.{draining, phase, places_of, waits}
-use Rattle.volume_model.specs.Served.{Fixed}
+use Rattle.volume_model.specs.Served.{Fixed, View}
 use Rattle.volume_model.specs.Steps.{DrainsOnce, Turns}
 use Rattle.volume_model.specs.declared.answers.Drained.{Drained}
 use Rattle.volume_model.specs.declared.answers.Drained.TheVariants as the_drained
@@ -73,6 +73,9 @@ module _ {D : Type 0} (drive : Ghosts D)
         (view_of fixed (next_moment one next) new) who ticket answer
     turn_adds = turned.0
 
+    pub turn_calls : new.listed.calls ≡ old.listed.calls
+    turn_calls = turned.1.tied.calls ∙ sym serving.runs.tied.calls
+
     -- whose call waits was placed
     some_placed : old.listed.history ≡ [] → ⊥
     some_placed none =
@@ -86,6 +89,16 @@ module _ {D : Type 0} (drive : Ghosts D)
       one_moment = serving.one_moment;
       untouched = λ none. absurd (some_placed (sym turned.0.history ∙ none));
     }
+
+  -- what is told of the volume as contracts see it
+  pub turn_told : (ticket : ℕ) (answer : Turn) (new : Parts D)
+      → ((who : ℕ) → phase who old.listed.marks ≡ waits ticket → TurnsTo drive who ticket old new answer)
+      → (v : View D) → view_of fixed (next_moment one next) old ≡ v → (who : ℕ) → phase who v.marks ≡ waits ticket
+      → Turns drive.MOST (seen drive v.drive) (seen drive new.drive) v (view_of fixed (next_moment one next) new) who ticket answer
+  turn_told ticket answer new to v is who =
+      subst (λ (u : View D). phase who u.marks ≡ waits ticket
+      → Turns drive.MOST (seen drive u.drive) (seen drive new.drive) u (view_of fixed (next_moment one next) new) who ticket answer) is
+      (λ waiting. turn_adds who ticket answer new waiting (to who waiting))
 
   -- ---- a session that drains
 
@@ -152,3 +165,15 @@ module _ {D : Type 0} (drive : Ghosts D)
         (λ at is. drain_turns_all_run drive only_now fixed (next_moment one next) (next_moment one_after after) who at
         the_drained.More old new serving.runs counted drains is tt (ap (λ (t : Told). next_moment t.one t.next) e.0) (e.1 at))
         e.1
+
+    pub drains_told : (answer : Drained) → DrainsAt drive who (told one next) (told one_after after) old new answer
+        → (v : View D) → view_of fixed (next_moment one next) old ≡ v
+        → DrainsOnce drive.MOST (seen drive v.drive) (seen drive new.drive) v (view_of fixed (next_moment one_after after) new) who
+        answer
+    drains_told answer e v is =
+        subst (λ (u : View D). DrainsOnce drive.MOST (seen drive u.drive) (seen drive new.drive) u
+        (view_of fixed (next_moment one_after after) new) who answer) is (drains_serve answer e).0
+
+    pub drain_calls : (answer : Drained) → DrainsAt drive who (told one next) (told one_after after) old new answer
+        → new.listed.calls ≡ old.listed.calls
+    drain_calls answer e = (drains_serve answer e).1.runs.tied.calls ∙ sym serving.runs.tied.calls

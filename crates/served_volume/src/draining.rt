@@ -54,17 +54,15 @@ fn end_drain<D: Drive, C: Clock>(parts: &mut Parts<D>, clock: &mut C, who: u16) 
     ensures parts { IfNone result (parts.new ≡ parts.old) }
     ensures clock { IfNone result (clock.new ≡ clock.old) }
 {
-    match parts.trail.kept_fault(who) {
-        Some(counts) => {
-            tell_fault(parts, clock, who, counts);
-            Some(Drained::Fault(counts))
-        }
-        None if parts.stock.waiting() > ROOM => None,
-        None => {
-            rest(parts, who);
-            Some(Drained::Room)
-        }
+    if let Some(counts) = parts.trail.kept_fault(who) {
+        tell_fault(parts, clock, who, counts);
+        return Some(Drained::Fault(counts));
     }
+    if parts.stock.waiting() > ROOM {
+        return None;
+    }
+    rest(parts, who);
+    Some(Drained::Room)
 }
 
 /// A session for which no fault is kept rests, as there is room.
