@@ -1,6 +1,6 @@
 -- How the drain of a session may end, in a volume that runs and after a step of its head.
 use Rattle.std.specs.Prelude.{ℕ, ◌≡◌, ◌≤◌, ◌<◌, ◌==◌, ◌&&◌, ◌||◌, ◌⊎◌, ◌^◌, ◌++◌, not, nat_le, cond, Bool, true, false, List, [], ◌∷◌, count_by, filter, length, map, Option, Some, None}
-use Rattle.std.proofs.Common.{⊎_elim, refl, sym, ap, subst, ◌∙◌, arith, length-append}
+use Rattle.std.proofs.Common.{refl, sym, ap, subst, ◌∙◌, arith, length-append}
 use Rattle.std.proofs.lemmas.Bool.{and_from, le-leb, not_from_false, or_left}
 use Rattle.std.proofs.lemmas.List.{length-map}
 use Rattle.std.proofs.lemmas.List.Elements.{filter_map-append}
@@ -35,7 +35,7 @@ use Rattle.volume_calls.specs.Running.{IsRunning}
 use Rattle.volume_core.proofs.QueueLemmas.{none_is_due}
 use Rattle.served_volume.specs.Drains.{CanEnd, CanFault}
 use Rattle.served_volume.proofs.Counting.{calls_left}
-use Rattle.served_volume.proofs.Ready.{of_script, shown}
+use Rattle.served_volume.proofs.Ready.{of_script, shown, still_drains}
 
 -- ---- over plain parts
 
@@ -87,12 +87,8 @@ module _ {D : Type 0} (drive : Ghosts D) (fixed : Fixed D) (next : Option Moment
       few = few;
       one = omega (arith, runs.kept.order.once who);
       rests = λ none room. may_rest (state p.trail) who p.stock.layout.ops runs.kept.order.orderly.standing room
-          (drained none (runs.kept.order.orderly.marks.drains who drains)) runs.tied.none_due;
+          (still_drains (state p.trail) p.trail.kept who (runs.kept.order.orderly.marks.drains who drains) none) runs.tied.none_due;
     }
-      where
-        drained : kept_for who p.trail.kept ≡ [] → (drains_now (state p.trail) who ≡ true) ⊎ (length (kept_for who p.trail.kept) ≡ 1)
-            → drains_now (state p.trail) who ≡ true
-        drained none either = ⊎_elim (λ now. now) (λ one. absurd (omega (arith, one, ap (λ (l : List Twin). length l) none))) either
 
     -- ---- after a step
 
@@ -139,9 +135,5 @@ module _ {D : Type 0} (drive : Ghosts D) (fixed : Fixed D) (next : Option Moment
             few = omega (arith, few, places);
             one = omega (arith, same_owed who, runs.kept.order.once who);
             rests = λ none room. may_rest (state mid.trail) who mid.stock.layout.ops s.0.order.follows.standing room
-                (drained none (marks_are.drains who drains)) s.1.none_due;
+                (still_drains (state mid.trail) mid.trail.kept who (marks_are.drains who drains) none) s.1.none_due;
           }
-        where
-          drained : kept_for who mid.trail.kept ≡ [] → (drains_now (state mid.trail) who ≡ true) ⊎ (length (kept_for who mid.trail.kept) ≡ 1)
-              → drains_now (state mid.trail) who ≡ true
-          drained none either = ⊎_elim (λ now. now) (λ one. absurd (omega (arith, one, ap (λ (l : List Twin). length l) none))) either

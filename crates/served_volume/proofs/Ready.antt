@@ -1,5 +1,5 @@
 -- What the parts of a volume that runs are ready for: a step of the head, and a reply that is handed out.
-use Rattle.std.specs.Prelude.{ℕ, ◌≡◌, ◌≤◌, ◌<◌, ◌==◌, ◌&&◌, Bool, true, false, List, [], ◌∷◌, length, Option, Some, None, slice_get}
+use Rattle.std.specs.Prelude.{ℕ, ◌≡◌, ◌≤◌, ◌<◌, ◌==◌, ◌&&◌, ◌⊎◌, Bool, true, false, List, [], ◌∷◌, length, Option, Some, None, slice_get}
 use Rattle.std.specs.List.{list_any}
 use Rattle.std.proofs.Common.{⊎_elim, refl, sym, ap, subst, ◌∙◌, arith}
 use Rattle.std.proofs.lemmas.Bool.{and_parts, eqb-true, or_right}
@@ -41,6 +41,12 @@ passed test (Some x) is = (x, refl, is)
 none_drains : (who : ℕ) (drains : List ℕ) → list_any (λ w. w == who) drains ≡ true → length drains ≡ 0 → ⊥
 none_drains who [] now none = cc
 none_drains who (w ∷ drains) now none = omega (arith, none)
+
+-- a session that drains, and for which no fault is kept, still waits for room
+pub still_drains : (st : State) (kept : List (ℕ × Twin)) (who : ℕ)
+    → (drains_now st who ≡ true) ⊎ (length (kept_for who kept) ≡ 1) → kept_for who kept ≡ [] → drains_now st who ≡ true
+still_drains st kept who either none =
+    ⊎_elim (λ now. now) (λ one. absurd (omega (arith, one, ap (λ (l : List Twin). length l) none))) either
 
 not_calm : (st : State) (who : ℕ) → drains_now st who ≡ true → is_calm st ≡ true → ⊥
 not_calm st who now calm =
@@ -97,16 +103,10 @@ module _ {D : Type 0} (drive : Ghosts D) (fixed : Fixed D) (next : Option Moment
   pub waits_ready : (k : ℕ) → slice_get p.listed.replies k ≡ Some None → IsReady drive p
   waits_ready k none = ready (λ empty. can_step.some k (runs.kept.order.orderly.waiting.none_yet k none) empty)
 
-  pub still_drains : (who : ℕ) → phase who p.listed.marks ≡ draining → kept_for who p.trail.kept ≡ []
-      → drains_now (state p.trail) who ≡ true
-  still_drains who drains none =
-      ⊎_elim (λ now. now) (λ one. absurd (omega (arith, one, ap (λ (l : List Twin). length l) none)))
-      (runs.kept.order.orderly.marks.drains who drains)
-
   -- a session drains, and there is no room
   pub drains_ready : (who : ℕ) → phase who p.listed.marks ≡ draining → IsFull who p → IsReady drive p
   drains_ready who drains full =
-      let now = still_drains who drains full.none in
+      let now = still_drains (state p.trail) p.trail.kept who (runs.kept.order.orderly.marks.drains who drains) full.none in
       ready (λ empty. first_waits (state p.trail) p.stock.layout.ops full.many
       (λ op later first. ⊎_elim (λ calm. absurd (not_calm (state p.trail) who now calm)) (λ is. is) (can_step.waiting op later first)))
 

@@ -135,8 +135,7 @@ module _ {D : Type 0} (drive : Ghosts D)
         → ((at : Moment) → DrainsTo drive who (length (places_of who old.listed.marks)) at old new answer) → Drains answer
     unasked answer same law to =
         let m = some_moment (next_moment one next) in
-        let l = law m.0 m.1 in
-        (
+        let l = law m.0 m.1 in (
           l.0,
           record {
             runs = l.1;
@@ -148,8 +147,7 @@ module _ {D : Type 0} (drive : Ghosts D)
     pub drains_serve : (answer : Drained) → DrainsAt drive who (told one next) (told one_after after) old new answer → Drains answer
     drains_serve (the_drained.Fault counts) e =
         let l = drain_turns_all_run drive only_now fixed (next_moment one next) (next_moment one_after after) who e.0
-        (the_drained.Fault counts) old new serving.runs counted drains e.1.given (asks fixed.moment one next serving.one_moment) tt e.2 in
-        (
+        (the_drained.Fault counts) old new serving.runs counted drains e.1.given (asks fixed.moment one next serving.one_moment) tt e.2 in (
           l.0,
           record {
             runs = l.1;
