@@ -1,8 +1,7 @@
 -- A turn keeps what is kept of a volume that is served.
-use Rattle.std.specs.Prelude.{ℕ, ◌≡◌, ◌<◌, ◌≤◌, ◌-◌, ◌^◌, ◌==◌, ◌++◌, pos, negsuc, ◌≤ℤ◌, true, false, List, [], ◌∷◌, length, Option, Some, None, IfSome, slice_get}
-use Rattle.std.proofs.Common.{refl, sym, ap, subst, ◌∙◌, arith, signed_arith}
+use Rattle.std.specs.Prelude.{ℕ, ◌≡◌, ◌<◌, ◌≤◌, ◌-◌, ◌^◌, ◌==◌, ◌++◌, true, false, List, [], ◌∷◌, length, Option, Some, None, IfSome, slice_get}
+use Rattle.std.proofs.Common.{refl, sym, ap, subst, ◌∙◌, arith}
 use Rattle.std.proofs.lemmas.List.{length_push}
-use Rattle.tape_types.specs.Moments.{first_second, last_second}
 use Rattle.tape_types.specs.declared.cartridges.Cartridge.{Cartridge}
 use Rattle.tape_types.specs.declared.moments.Moment.{Moment}
 use Rattle.tape_drive.specs.declared.drive.Drive.{Ghosts}
@@ -30,20 +29,10 @@ use Rattle.served_volume.proofs.Ready.{shown}
 
 -- ---- moments
 
--- the beginning of 1970
-epoch : Moment
-epoch = record {
-  secs = pos 0;
-  nanos = 0;
-  not_before = omega (arith, signed_arith);
-  not_after = omega (arith, signed_arith);
-  within_second = omega arith;
-}
-
--- a moment that the clock may give
-some_moment : (next : Option Moment) → (at : Moment) × IfSome next (λ m. at ≡ m)
-some_moment None = (epoch, tt)
-some_moment (Some m) = (m, refl)
+-- a moment that the clock may give, where any may come
+some_moment : Moment → (next : Option Moment) → (at : Moment) × IfSome next (λ m. at ≡ m)
+some_moment any None = (any, tt)
+some_moment any (Some m) = (m, refl)
 
 asks : (o one next : Option Moment) → IfSome o (λ m. one ≡ Some m) → IfSome o (λ m. next_moment one next ≡ Some m)
 asks None one next is = tt
@@ -134,7 +123,7 @@ module _ {D : Type 0} (drive : Ghosts D)
         × IsRunning drive fixed (next_moment one_after after) new)
         → ((at : Moment) → DrainsTo drive who (length (places_of who old.listed.marks)) at old new answer) → Drains answer
     unasked answer same law to =
-        let m = some_moment (next_moment one next) in
+        let m = some_moment fixed.mounted.label.formatted (next_moment one next) in
         let l = law m.0 m.1 in (
           l.0,
           record {
