@@ -8,4 +8,4 @@ tell_fault-requires-clause-kept g c =
     the_one (kept_for c.args.who c.args.parts.now.trail.kept) c.in-Some.counts c.requires.one c.in-Some.ensures
 
 pub rest-requires-clause-none : goal.rest-requires-clause-none
-rest-requires-clause-none g c = no_one (kept_for c.args.who c.args.parts.now.trail.kept) c.in-None.ensures
+rest-requires-clause-none g c = no_one (kept_for c.args.who c.args.parts.now.trail.kept) c.in_default.ensures
