@@ -1,4 +1,4 @@
-use Rattle.std.proofs.Common.{rules, sym, subst, arith, ◌<◌, ◌^◌}
+use Rattle.std.proofs.Common.{rules, ◌≡◌, ◌<◌, ◌^◌, sym, subst, arith}
 use Rattle.volume_model.specs.Marks.{draining, phase}
 use Rattle.volume_model.specs.Served.{View}
 use Rattle.volume_calls.proofs.Promised.{running_is_promised}

@@ -1,4 +1,4 @@
-use Rattle.std.proofs.Common.{sym, subst, arith}
+use Rattle.std.proofs.Common.{◌≡◌, sym, subst, arith}
 use Rattle.volume_model.specs.Marks.{phase, waits}
 use Rattle.volume_model.specs.Served.{View}
 use Rattle.volume_calls.proofs.Promised.{running_is_promised}
