@@ -1,6 +1,6 @@
 -- How the drain of a session may end, in a volume that runs and after a step of its head.
-use Rattle.std.specs.Prelude.{ℕ, ◌≡◌, ◌≤◌, ◌<◌, ◌==◌, ◌&&◌, ◌||◌, ◌⊎◌, ◌^◌, ◌++◌, not, nat_le, cond, Bool, true, false, List, [], ◌∷◌, count_by, filter, length, map, Option, Some, None}
-use Rattle.std.proofs.Common.{refl, sym, ap, subst, ◌∙◌, arith, length-append}
+use Rattle.std.specs.Prelude.{ℕ, ◌≡◌, ◌≤◌, ◌<◌, ◌==◌, ◌&&◌, ◌||◌, ◌^◌, ◌++◌, not, nat_le, cond, true, false, List, count_by, filter, length, map, Option, Some, None}
+use Rattle.std.proofs.Common.{sym, ap, ◌∙◌, arith, length-append}
 use Rattle.std.proofs.lemmas.Bool.{and_from, le-leb, not_from_false, or_left}
 use Rattle.std.proofs.lemmas.List.{length-map}
 use Rattle.std.proofs.lemmas.List.Elements.{filter_map-append}
@@ -10,7 +10,6 @@ use Rattle.tape_types.specs.declared.moments.Moment.{Moment}
 use Rattle.tape_drive.specs.declared.drive.Drive.{Ghosts}
 use Rattle.plain_tree.specs.History.{numbers_of}
 use Rattle.plain_tree.specs.declared.calls.Placed.{Placed}
-use Rattle.session_script.specs.Grammar.{calls_of}
 use Rattle.session_script.specs.Sessions.{greatest_session}
 use Rattle.session_script.specs.declared.logs.Event.{Event}
 use Rattle.session_script.specs.declared.logs.Event.TheVariants.{Rests}
@@ -27,7 +26,6 @@ use Rattle.volume_order.proofs.Marked.{marks_stay}
 use Rattle.volume_order.proofs.Owned.{after_more}
 use Rattle.volume_order.proofs.Placing.{as_many_places}
 use Rattle.volume_order.proofs.Turning.{all_turn, drains_are_kept, drains_of}
-use Rattle.volume_journal.specs.Placements.{Listed}
 use Rattle.volume_journal.specs.Trails.{due_ticket, state}
 use Rattle.volume_parts.specs.Parts.{Parts, view_of}
 use Rattle.volume_calls.specs.Handing.{StepsOn}

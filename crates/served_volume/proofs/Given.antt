@@ -1,18 +1,17 @@
 -- What a clock gives, and how a turn of a session that drains ends.
-use Rattle.std.specs.Prelude.{ℕ, ◌≡◌, ◌<◌, ◌≤◌, List, [], ◌∷◌, length, Option, Some, None, IfSome}
+use Rattle.std.specs.Prelude.{ℕ, ◌≡◌, ◌≤◌, List, [], ◌∷◌, length, Option, Some, None, IfSome}
 use Rattle.std.proofs.Common.{refl, sym, ap, subst, ◌∙◌, arith}
 use Rattle.tape_types.specs.declared.moments.Moment.{Moment}
 use Rattle.tape_types.specs.declared.cartridges.Twin.{Twin}
 use Rattle.tape_drive.specs.declared.drive.Drive.{Ghosts}
 use Rattle.session_script.specs.declared.logs.Event.{Event}
 use Rattle.head_trail.specs.Waiting.{first_of}
-use Rattle.volume_model.specs.Faults.{kept_for}
 use Rattle.volume_model.specs.Marks.{places_of}
 use Rattle.volume_model.specs.declared.answers.Drained.{Drained}
 use Rattle.volume_model.specs.declared.answers.Drained.TheVariants as the_drained
 use Rattle.volume_model.specs.declared.marks.Mark.{Mark}
 use Rattle.volume_parts.specs.Parts.{Parts}
-use Rattle.volume_calls.specs.Draining.{IsFull, RestsNow, TakesFault, fault, room, then_fault, then_more, then_room}
+use Rattle.volume_calls.specs.Draining.{IsFull, TakesFault, fault, room, then_fault, then_more, then_room}
 use Rattle.volume_calls.specs.Handing.{StepsOn}
 use Rattle.served_volume.specs.Drains.{EndsAt}
 use Rattle.served_volume.specs.Turns.{DrainsAt, Gives, Told, told}

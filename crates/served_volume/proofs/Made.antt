@@ -1,5 +1,5 @@
 -- A turn with a step of the head: what was asked before left the parts as they were.
-use Rattle.std.specs.Prelude.{ℕ, ◌≡◌, ◌<◌, ◌^◌, List, length, Option, Some, None, slice_get}
+use Rattle.std.specs.Prelude.{ℕ, ◌≡◌, ◌<◌, ◌^◌, List, length, Some, None, slice_get}
 use Rattle.std.proofs.Common.{sym, ap, subst, ◌∙◌}
 use Rattle.tape_drive.specs.declared.drive.Drive.{Ghosts}
 use Rattle.session_script.specs.declared.logs.Event.{Event}

@@ -18,7 +18,7 @@ use Rattle.volume_order.proofs.Picked.{passes}
 use Rattle.volume_stock.specs.Stocks.{Stocked}
 use Rattle.volume_parts.specs.Parts.{Parts, view_of}
 use Rattle.volume_calls.specs.Draining.{DrainsTo, IsFull, fault, room, then_fault, then_more, then_room}
-use Rattle.volume_calls.specs.Handing.{StepsOn, TurnsTo}
+use Rattle.volume_calls.specs.Handing.{TurnsTo}
 use Rattle.volume_calls.specs.Running.{IsRunning}
 use Rattle.volume_calls.proofs.DrainTurn.{drain_turns_all_run}
 use Rattle.volume_calls.proofs.TurnAnswers.{placed_by_it}

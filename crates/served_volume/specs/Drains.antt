@@ -21,8 +21,8 @@ pub record CanFault (who : ℕ) (listed : Listed) : Type 0 where
   pub high : who ≤ listed.sessions
   pub room : length listed.history < listed.calls
 
--- So many of its calls were placed as its marks say. One fault is kept for it at most, and where there is none it may rest
--- once few ops stand.
+-- So many of its calls were placed as its marks say, which 32 bits count. One fault is kept for it at most, and where
+-- there is none it may rest once few ops stand.
 pub record CanEnd {D : Type 0} (who : ℕ) (p : Parts D) : Type 0 where
   pub place : CanFault who p.listed
   pub count : count_by (λ (q : Placed). q.who == who) p.listed.history ≡ length (places_of who p.listed.marks)

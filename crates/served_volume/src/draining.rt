@@ -1,7 +1,6 @@
 //! Turns of a session that drains.
 
-ghost use Rattle.std.specs.Prelude.{◌≡◌, ◌≤◌, ◌<◌, ◌-◌, ◌^◌, ℕ, ◌∷◌, [], Some, IfNone, IfSome, length};
-ghost use Rattle.tape_types.specs.declared.moments.Moment.{Moment as Instant};
+ghost use Rattle.std.specs.Prelude.{◌≡◌, ◌≤◌, ◌<◌, ◌-◌, ◌^◌, ◌∷◌, [], Some, IfNone, IfSome, length};
 ghost use Rattle.plain_tree.specs.declared.calls.Fate.TheVariants as fates;
 ghost use Rattle.session_script.specs.declared.logs.Reply.TheVariants as replies;
 ghost use Rattle.volume_model.specs.Faults.{kept_for};
@@ -11,7 +10,7 @@ ghost use Rattle.volume_calls.specs.Draining.{IsFull, RestsNow};
 ghost use Rattle.volume_parts.specs.Placing.{PlacesCall};
 ghost use Rattle.volume_core.specs.Seen.{seen_parts};
 ghost use Rattle.served_volume.specs.Drains.{CanEnd, CanFault, EndsAt};
-ghost use Rattle.served_volume.specs.Turns.{DrainsAt, Gives, Runs, told};
+ghost use Rattle.served_volume.specs.Turns.{DrainsAt, Runs, told};
 
 use plain_tree::{Fate, Placed};
 use session_script::Reply;
@@ -30,8 +29,8 @@ pub fn drain<D: Drive, C: Clock>(parts: &mut Parts<D>, clock: &mut C, who: u16) 
     requires runs { Runs D.Drive (seen_parts parts.old) }
     requires drains { phase who (seen_parts parts.old).listed.marks ≡ draining }
     requires few { length (places_of who (seen_parts parts.old).listed.marks) < 2 ^ 32 }
-    ensures drains { DrainsAt D.Drive who (told (C.one clock.old) (C.next clock.old)) (told (C.one clock.new) (C.next clock.new))
-        (seen_parts parts.old) (seen_parts parts.new) result }
+    ensures drains { DrainsAt D.Drive who (told (C.one clock.old) (C.next clock.old))
+        (told (C.one clock.new) (C.next clock.new)) (seen_parts parts.old) (seen_parts parts.new) result }
     ensures counted { D.commands (seen_parts parts.old).drive ≤ 2 ^ 64 - 1 }
 {
     let _commands = parts.head.commands();

@@ -1,4 +1,3 @@
-use Rattle.std.proofs.Common.{rules, ◌≡◌, ◌<◌, ◌≤◌, length, arith}
 use Rattle.volume_model.specs.Faults.{kept_for}
 use Rattle.served_volume.proofs.Given.{no_one, the_one}
 use Rattle.served_volume.proofs.draining.end_drain.Goals as goal

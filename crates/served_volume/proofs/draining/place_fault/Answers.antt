@@ -1,8 +1,7 @@
 use Rattle.plain_tree.specs.declared.calls.Fate.TheVariants as fates
-use Rattle.plain_tree.specs.declared.calls.Placed.{Placed}
 use Rattle.session_script.specs.declared.logs.Reply.TheVariants.{Fault}
 use Rattle.volume_core.specs.Seen.{seen_parts}
-use Rattle.served_volume.proofs.Faulted.{HandsHere, PlacesHere, Replies, none_yet, places_void, there_now, waits_here}
+use Rattle.served_volume.proofs.Faulted.{none_yet, places_void, there_now, waits_here}
 use Rattle.served_volume.proofs.draining.place_fault.Goals as goal
 
 pub answer-requires : goal.answer-requires
