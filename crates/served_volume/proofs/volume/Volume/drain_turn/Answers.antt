@@ -1,10 +1,8 @@
 use Rattle.std.proofs.Common.{rules, ◌≡◌, ◌<◌, ◌^◌, sym, subst, arith}
 use Rattle.volume_model.specs.Marks.{draining, phase}
 use Rattle.volume_model.specs.Served.{View}
-use Rattle.volume_calls.proofs.Promised.{running_is_promised}
 use Rattle.volume_core.specs.Seen.{seen_parts}
-use Rattle.served_volume.specs.Serving.{next_moment}
-use Rattle.served_volume.proofs.Serves.{drain_calls, drains_serve, drains_told}
+use Rattle.served_volume.proofs.Serves.{drain_adds, drain_serves_on}
 use Rattle.served_volume.proofs.volume.Volume.drain_turn.Goals as goal
 
 pub drain-requires-clause-runs : goal.drain-requires-clause-runs
@@ -22,33 +20,22 @@ drain-requires-clause-few g c =
 
 pub returns-clause-drains : goal.returns-clause-drains
 returns-clause-drains g c =
-    let drains = subst (λ (v : View g.row.D.Denot). phase c.args.who v.marks ≡ draining) (sym c.self.view_is) c.requires in
-    drains_told g.D.Drive g.met.D.Drive.only_now _ (g.C.Clock.one c.self.inside.clock) (g.C.Clock.next c.self.inside.clock)
-    (seen_parts c.self.inside.parts) c.self.invariant.0 c.drain.ensures.counted c.args.who
-    (g.C.Clock.one c.drain.new.clock) (g.C.Clock.next c.drain.new.clock) (seen_parts c.drain.new.parts) drains c.drain.result
-    c.drain.ensures.drains c.args.self.now c.self.view_is
+    drain_adds g.D.Drive g.met.D.Drive.only_now _ (g.C.Clock.one c.self.inside.clock) (g.C.Clock.next c.self.inside.clock)
+    (seen_parts c.self.inside.parts) c.self.invariant.0 c.drain.ensures.counted c.args.who (g.C.Clock.one c.drain.new.clock)
+    (g.C.Clock.next c.drain.new.clock) c.drain.result (seen_parts c.drain.new.parts) c.drain.ensures.drains c.args.self.now
+    c.self.view_is c.requires
 
 pub returns-clause-served : goal.returns-clause-served
 returns-clause-served g c =
-    let drains = subst (λ (v : View g.row.D.Denot). phase c.args.who v.marks ≡ draining) (sym c.self.view_is) c.requires in
-    let serves = (drains_serve g.D.Drive g.met.D.Drive.only_now _ (g.C.Clock.one c.self.inside.clock)
-    (g.C.Clock.next c.self.inside.clock) (seen_parts c.self.inside.parts) c.self.invariant.0 c.drain.ensures.counted c.args.who
-    (g.C.Clock.one c.drain.new.clock) (g.C.Clock.next c.drain.new.clock) (seen_parts c.drain.new.parts) drains c.drain.result
-    c.drain.ensures.drains).1 in
-    running_is_promised g.D.Drive _
-    (next_moment (g.C.Clock.one c.drain.new.clock) (g.C.Clock.next c.drain.new.clock)) (seen_parts c.drain.new.parts) serves.runs
+    (drain_serves_on g.D.Drive g.met.D.Drive.only_now _ (g.C.Clock.one c.self.inside.clock) (g.C.Clock.next c.self.inside.clock)
+    (seen_parts c.self.inside.parts) c.self.invariant.0 c.drain.ensures.counted c.args.who (g.C.Clock.one c.drain.new.clock)
+    (g.C.Clock.next c.drain.new.clock) c.drain.result (seen_parts c.drain.new.parts) c.drain.ensures.drains c.args.self.now
+    c.self.view_is c.requires).promised
 
 pub invariant_of-self : goal.invariant_of-self
 invariant_of-self g c =
-    let drains = subst (λ (v : View g.row.D.Denot). phase c.args.who v.marks ≡ draining) (sym c.self.view_is) c.requires in
-    let calls = drain_calls g.D.Drive g.met.D.Drive.only_now _ (g.C.Clock.one c.self.inside.clock)
+    let on = drain_serves_on g.D.Drive g.met.D.Drive.only_now _ (g.C.Clock.one c.self.inside.clock)
     (g.C.Clock.next c.self.inside.clock) (seen_parts c.self.inside.parts) c.self.invariant.0 c.drain.ensures.counted c.args.who
-    (g.C.Clock.one c.drain.new.clock) (g.C.Clock.next c.drain.new.clock) (seen_parts c.drain.new.parts) drains c.drain.result
-    c.drain.ensures.drains in (
-      (drains_serve g.D.Drive g.met.D.Drive.only_now _ (g.C.Clock.one c.self.inside.clock) (g.C.Clock.next c.self.inside.clock)
-          (seen_parts c.self.inside.parts) c.self.invariant.0 c.drain.ensures.counted c.args.who
-          (g.C.Clock.one c.drain.new.clock) (g.C.Clock.next c.drain.new.clock) (seen_parts c.drain.new.parts) drains c.drain.result
-          c.drain.ensures.drains).1,
-      c.self.invariant.1,
-      omega (arith, calls, c.self.invariant.2),
-    )
+    (g.C.Clock.one c.drain.new.clock) (g.C.Clock.next c.drain.new.clock) c.drain.result (seen_parts c.drain.new.parts)
+    c.drain.ensures.drains c.args.self.now c.self.view_is c.requires in
+    (on.serving, c.self.invariant.1, omega (arith, on.calls, c.self.invariant.2))
