@@ -24,7 +24,8 @@ module _ {X : Type 0} (f : X → ℕ) where
   count_more w x xs = by (f x == w)
     where
       by : (b : Bool)
-          → length (cond b (x ∷ filter (λ (y : X). f y == w) xs) (filter (λ (y : X). f y == w) xs)) ≡ cond b 1 0 + count_of w xs
+          → length (cond b (x ∷ filter (λ (y : X). f y == w) xs) (filter (λ (y : X). f y == w) xs))
+          ≡ cond b 1 0 + count_of w xs
       by true = omega arith
       by false = omega arith
 
@@ -36,10 +37,12 @@ module _ {X : Type 0} (f : X → ℕ) where
           → length (cond b xs (x ∷ less_one w xs)) + 1 ≡ length (x ∷ xs)
       by true is rest = omega arith
       by false is rest =
-          let more : count_of w (x ∷ xs) ≡ 0 + count_of w xs = count_more w x xs ∙ ap (λ b. cond b 1 0 + count_of w xs) is in
+          let more : count_of w (x ∷ xs) ≡ 0 + count_of w xs =
+          count_more w x xs ∙ ap (λ b. cond b 1 0 + count_of w xs) is in
           omega (arith, rest (omega (arith, more, some)))
 
-  count_less : (w v : ℕ) (xs : List X) → 1 ≤ count_of w xs → count_of v (less_one w xs) + cond (w == v) 1 0 ≡ count_of v xs
+  count_less : (w v : ℕ) (xs : List X) → 1 ≤ count_of w xs
+      → count_of v (less_one w xs) + cond (w == v) 1 0 ≡ count_of v xs
   count_less w v [] some = absurd (omega (arith, some))
   count_less w v (x ∷ xs) some = by (f x == w) refl (λ s. count_less w v xs s)
     where
@@ -51,7 +54,8 @@ module _ {X : Type 0} (f : X → ℕ) where
           count_more v x xs ∙ ap (λ n. cond (n == v) 1 0 + count_of v xs) (eqb-true (f x) w is) in
           omega (arith, more)
       by false is rest =
-          let left : count_of w (x ∷ xs) ≡ 0 + count_of w xs = count_more w x xs ∙ ap (λ b. cond b 1 0 + count_of w xs) is in
+          let left : count_of w (x ∷ xs) ≡ 0 + count_of w xs =
+          count_more w x xs ∙ ap (λ b. cond b 1 0 + count_of w xs) is in
           let had = rest (omega (arith, left, some)) in
           omega (arith, had, count_more v x xs, count_more v x (less_one w xs))
 

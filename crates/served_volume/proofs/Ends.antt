@@ -27,7 +27,9 @@ use Rattle.volume_order.proofs.Owned.{after_more}
 use Rattle.volume_order.proofs.Placing.{as_many_places}
 use Rattle.volume_order.proofs.Turning.{all_turn, drains_are_kept, drains_of}
 use Rattle.volume_journal.specs.Trails.{due_ticket, state}
+use Rattle.volume_steps.specs.Laws.{Stepped}
 use Rattle.volume_parts.specs.Parts.{Parts, view_of}
+use Rattle.volume_parts.specs.Tied.{IsTied}
 use Rattle.volume_calls.specs.Handing.{StepsOn}
 use Rattle.volume_calls.specs.Running.{IsRunning}
 use Rattle.volume_core.proofs.QueueLemmas.{none_is_due}
@@ -38,7 +40,8 @@ use Rattle.served_volume.proofs.Ready.{of_script, shown, still_drains}
 -- ---- over plain parts
 
 -- so many placements as places
-count_is : (who : ℕ) (history : List Placed) → count_by (λ (q : Placed). q.who == who) history ≡ length (numbers_of history who)
+count_is : (who : ℕ) (history : List Placed)
+    → count_by (λ (q : Placed). q.who == who) history ≡ length (numbers_of history who)
 count_is who history =
     sym (length-filter (λ (q : Placed). q.who == who) history)
     ∙ sym (length-map (filter (λ (q : Placed). q.who == who) history) (λ (q : Placed). q.nth))
@@ -49,7 +52,8 @@ may_rest st who standing same room drains none =
     let few : length (waiting.ops st) ≤ 64 =
     omega (arith, room, ap (λ (l : List waiting.Op). length l) same, length-map standing headed) in
     and_from (nat_le (length (waiting.ops st)) 64 && drains_now st who) (not (is_due st) || false)
-    (and_from (nat_le (length (waiting.ops st)) 64) (drains_now st who) (le-leb (length (waiting.ops st)) 64 few) drains)
+    (and_from (nat_le (length (waiting.ops st)) 64) (drains_now st who) (le-leb (length (waiting.ops st)) 64 few)
+    drains)
     (or_left (not (is_due st)) false (not_from_false (is_due st) (none_is_due st none)))
 
 -- ---- in a volume that runs
@@ -85,53 +89,59 @@ module _ {D : Type 0} (drive : Ghosts D) (fixed : Fixed D) (next : Option Moment
       few = few;
       one = omega (arith, runs.kept.order.once who);
       rests = λ none room. may_rest (state p.trail) who p.stock.layout.ops runs.kept.order.orderly.standing room
-          (still_drains (state p.trail) p.trail.kept who (runs.kept.order.orderly.marks.drains who drains) none) runs.tied.none_due;
+          (still_drains (state p.trail) p.trail.kept who (runs.kept.order.orderly.marks.drains who drains) none)
+          runs.tied.none_due;
     }
 
     -- ---- after a step
 
     module _ (mid : Parts D) (added : List Event) (on : StepsOn drive added p mid) where
-      abbrev u : View D
-      u = view_of fixed next mid
+      made : Stepped drive fixed v (view_of fixed next mid) added
+      made = (shown drive fixed next p runs mid added on).0
 
-      same_joined : (w : ℕ) → owed (after_all (v.events ++ added)) (v.kept ++ drain_faults v added) w ≡ owed (after_all v.events) v.kept w
+      tied_then : IsTied drive fixed runs.planned mid
+      tied_then = (shown drive fixed next p runs mid added on).1
+
+      same_joined : (w : ℕ) → owed (after_all (v.events ++ added)) (v.kept ++ drain_faults v added) w
+          ≡ owed (after_all v.events) v.kept w
       same_joined w =
-          let kept = drains_are_kept (after_all v.events) added w (all_turn added (shown drive fixed next p runs mid added on).0.step.shape) in
-          let joined = ap length (filter_map-append (λ (e : ℕ × Twin). cond (e.0 == w) (Some e.1) None) v.kept (drain_faults v added)) in
+          let kept = drains_are_kept (after_all v.events) added w (all_turn added made.step.shape) in
+          let joined =
+          ap length (filter_map-append (λ (e : ℕ × Twin). cond (e.0 == w) (Some e.1) None) v.kept (drain_faults v added)) in
           let both = length-append (kept_for w v.kept) (kept_for w (drain_faults v added)) in
           let moved = ap (λ (s : State). drains_of s w) (after_more v.events added) in
           omega (arith, kept, joined, both, moved)
 
       same_owed : (w : ℕ) → owed (state mid.trail) mid.trail.kept w ≡ owed (state p.trail) p.trail.kept w
       same_owed w =
-          ap (λ (es : List Event). owed (after_all es) mid.trail.kept w) (shown drive fixed next p runs mid added on).0.adds.events
-          ∙ ap (λ (l : List (ℕ × Twin)). owed (after_all (v.events ++ added)) l w) (shown drive fixed next p runs mid added on).0.kept
+          ap (λ (es : List Event). owed (after_all es) mid.trail.kept w) made.adds.events
+          ∙ ap (λ (l : List (ℕ × Twin)). owed (after_all (v.events ++ added)) l w) made.kept
           ∙ same_joined w
 
-      marks_are : AreMarks (greatest_session fixed.script) p.listed.history mid.listed.replies (state mid.trail) mid.trail.kept p.listed.marks
-      marks_are = marks_stay (greatest_session fixed.script) p.listed.history p.listed.replies mid.listed.replies (state p.trail) (state mid.trail)
-          p.trail.kept mid.trail.kept p.listed.marks runs.kept.order.orderly.marks (shown drive fixed next p runs mid added on).0.replies.each
+      marks_are : AreMarks (greatest_session fixed.script) p.listed.history mid.listed.replies (state mid.trail)
+          mid.trail.kept p.listed.marks
+      marks_are =
+          marks_stay (greatest_session fixed.script) p.listed.history p.listed.replies mid.listed.replies (state p.trail)
+          (state mid.trail) p.trail.kept mid.trail.kept p.listed.marks runs.kept.order.orderly.marks made.replies.each
           same_owed runs.kept.order.once
 
       fault_then : CanFault who mid.listed
-      fault_then =
-          let s = shown drive fixed next p runs mid added on in
-          record {
-            drains = ap (phase who) s.0.marks ∙ drains;
-            low = can_fault.low;
-            high = omega (arith, can_fault.high, s.1.sessions, runs.tied.sessions);
-            room = omega (arith, can_fault.room, ap (λ (l : List Placed). length l) s.0.history, s.1.calls, runs.tied.calls);
-          }
+      fault_then = record {
+        drains = ap (phase who) made.marks ∙ drains;
+        low = can_fault.low;
+        high = omega (arith, can_fault.high, tied_then.sessions, runs.tied.sessions);
+        room = omega (arith, can_fault.room, ap (λ (l : List Placed). length l) made.history, tied_then.calls, runs.tied.calls);
+      }
 
       pub ends_then : CanEnd who mid
       ends_then =
-          let s = shown drive fixed next p runs mid added on in
-          let places = ap (λ ms. length (places_of who ms)) s.0.marks in
+          let places = ap (λ ms. length (places_of who ms)) made.marks in
           record {
             place = fault_then;
-            count = ap (λ (l : List Placed). count_by (λ (q : Placed). q.who == who) l) s.0.history ∙ counted ∙ sym places;
+            count = ap (λ (l : List Placed). count_by (λ (q : Placed). q.who == who) l) made.history ∙ counted
+                ∙ sym places;
             few = omega (arith, few, places);
             one = omega (arith, same_owed who, runs.kept.order.once who);
-            rests = λ none room. may_rest (state mid.trail) who mid.stock.layout.ops s.0.order.follows.standing room
-                (still_drains (state mid.trail) mid.trail.kept who (marks_are.drains who drains) none) s.1.none_due;
+            rests = λ none room. may_rest (state mid.trail) who mid.stock.layout.ops made.order.follows.standing room
+                (still_drains (state mid.trail) mid.trail.kept who (marks_are.drains who drains) none) tied_then.none_due;
           }

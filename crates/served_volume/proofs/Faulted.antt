@@ -49,7 +49,8 @@ pub record HandsHere (who here : ℕ) (old new : Listed) : Type 0 where
   pub calls : new.calls ≡ old.calls
   pub sessions : new.sessions ≡ old.sessions
 
-module _ (placed : Placed) (here : ℕ) (old mid : Listed) (here_is : here ≡ length old.history) (p : PlacesHere placed old mid) where
+module _ (placed : Placed) (here : ℕ) (old mid : Listed) (here_is : here ≡ length old.history)
+    (p : PlacesHere placed old mid) where
   pub none_yet : slice_get mid.replies here ≡ Some None
   none_yet = ap (λ (rs : List (Option Reply)). slice_get rs here) p.replies
       ∙ ap (λ k. slice_get (old.replies ++ None ∷ []) k) (here_is ∙ sym p.each) ∙ at_end old.replies None
@@ -62,27 +63,33 @@ module _ (placed : Placed) (here : ℕ) (old mid : Listed) (here_is : here ≡ l
 
     pub there_now : slice_get now.replies here ≡ Some (Some reply)
     there_now = ap (λ (rs : List (Option Reply)). slice_get rs here) told_all
-        ∙ ap (λ k. slice_get (old.replies ++ Some reply ∷ []) k) (here_is ∙ sym p.each) ∙ at_end old.replies (Some reply)
+        ∙ ap (λ k. slice_get (old.replies ++ Some reply ∷ []) k) (here_is ∙ sym p.each)
+        ∙ at_end old.replies (Some reply)
 
     pub waits_here : phase placed.who old.marks ≡ draining → phase placed.who now.marks ≡ waits here
     waits_here drains = ap (phase placed.who) (r.marks ∙ p.marks)
         ∙ phase_more placed.who placed.who old.marks (kinds.Places (length old.history) ∷ [])
-        ∙ ap (λ b. fold after (phase placed.who old.marks) (cond b (kinds.Places (length old.history) ∷ []) [])) (eq-eqb placed.who placed.who refl)
+        ∙ ap (λ b. fold after (phase placed.who old.marks) (cond b (kinds.Places (length old.history) ∷ []) []))
+        (eq-eqb placed.who placed.who refl)
         ∙ ap (λ ph. after ph (kinds.Places (length old.history))) drains ∙ ap waits (sym here_is)
 
     module _ (new : Listed) (h : HandsHere placed.who here now new) where
       both_marks : new.marks ≡ old.marks ++ placed_and_handed placed.who (length old.history) reply
       both_marks = h.marks
-          ∙ ap (λ (o : Option (Option Reply)). now.marks ++ mark placed.who (kinds.Hands here (or_none (there o))) ∷ []) there_now
+          ∙ ap (λ (o : Option (Option Reply)). now.marks ++ mark placed.who (kinds.Hands here (or_none (there o))) ∷ [])
+          there_now
           ∙ ap (λ k. now.marks ++ mark placed.who (kinds.Hands k reply) ∷ []) here_is
-          ∙ ap (λ (ms : List Mark). ms ++ mark placed.who (kinds.Hands (length old.history) reply) ∷ []) (r.marks ∙ p.marks)
+          ∙ ap (λ (ms : List Mark). ms ++ mark placed.who (kinds.Hands (length old.history) reply) ∷ [])
+          (r.marks ∙ p.marks)
           ∙ append_assoc old.marks (mark placed.who (kinds.Places (length old.history)) ∷ [])
           (mark placed.who (kinds.Hands (length old.history) reply) ∷ [])
 
 -- the write is placed, with its fault
 pub places_void : {D : Type 0} (who nth here : ℕ) (at : Moment) (reply : Reply) (mid now : Listed) (old new : Parts D)
-    → here ≡ length old.listed.history → PlacesHere (record { who = who; nth = nth; at = at; fate = fates.Void }) old.listed mid
-    → Replies here reply mid now → HandsHere who here now new.listed → PlacesCall who nth at fates.Void (Some reply) old new
+    → here ≡ length old.listed.history
+    → PlacesHere (record { who = who; nth = nth; at = at; fate = fates.Void }) old.listed mid
+    → Replies here reply mid now → HandsHere who here now new.listed
+    → PlacesCall who nth at fates.Void (Some reply) old new
 places_void who nth here at reply mid now old new here_is p r h =
     let placed : Placed = record { who = who; nth = nth; at = at; fate = fates.Void } in
     record {
@@ -97,7 +104,8 @@ places_void who nth here at reply mid now old new here_is p r h =
 module _ {D : Type 0} (who nth : ℕ) (at : Moment) (counts : Twin) (old new : Held D) (trail : Journaled)
     (others : new ≡ record old { trail = trail; placements = new.placements })
     (nth_is : nth ≡ length (places_of who old.placements.marks))
-    (places : PlacesCall who nth at fates.Void (Some (Fault counts)) (seen_parts (record old { trail = trail })) (seen_parts new)) where
+    (places : PlacesCall who nth at fates.Void (Some (Fault counts)) (seen_parts (record old { trail = trail }))
+    (seen_parts new)) where
   placed_so : PlacesCall who nth at fates.Void (Some (Fault counts)) (seen_parts old) (seen_parts new)
   placed_so = record {
     history = places.history;
@@ -123,5 +131,6 @@ module _ {D : Type 0} (who nth : ℕ) (at : Moment) (counts : Twin) (old new : H
       on = ap (λ (p : Held D). p.on) others;
       acks = ap (λ (p : Held D). p.trail.acks) others ∙ acks;
     };
-    places = subst (λ n. PlacesCall who n at fates.Void (Some (Fault counts)) (seen_parts old) (seen_parts new)) nth_is placed_so;
+    places = subst (λ n. PlacesCall who n at fates.Void (Some (Fault counts)) (seen_parts old) (seen_parts new)) nth_is
+        placed_so;
   }

@@ -49,9 +49,11 @@ module _ {D : Type 0} (drive : Ghosts D) (old : Held D) (runs : Runs drive (seen
 
     -- ---- what they come to
 
-    module _ (mid : Held D) (step : (added : List Event) × StepsOn drive added (seen_parts before) (seen_parts mid)) where
+    module _ (mid : Held D)
+        (step : (added : List Event) × StepsOn drive added (seen_parts before) (seen_parts mid)) where
       stepped : (added : List Event) × StepsOn drive added (seen_parts old) (seen_parts mid)
-      stepped = subst (λ (p : Held D). (added : List Event) × StepsOn drive added (seen_parts p) (seen_parts mid)) same step
+      stepped =
+          subst (λ (p : Held D). (added : List Event) × StepsOn drive added (seen_parts p) (seen_parts mid)) same step
 
       marks : (seen_parts mid).listed.marks ≡ (seen_parts old).listed.marks
       marks = (shown drive runs.fixed runs.next (seen_parts old) runs.runs (seen_parts mid) stepped.0 stepped.1).0.marks
@@ -63,7 +65,8 @@ module _ {D : Type 0} (drive : Ghosts D) (old : Held D) (runs : Runs drive (seen
           (hands_first ticket w)
 
       -- the reply is there then
-      pub turns_ready : (ticket : ℕ) (reply : Reply) (new : Held D) → slice_get (seen_parts old).listed.replies ticket ≡ Some None
+      pub turns_ready : (ticket : ℕ) (reply : Reply) (new : Held D)
+          → slice_get (seen_parts old).listed.replies ticket ≡ Some None
           → ((who : ℕ) → phase who (seen_parts mid).listed.marks ≡ waits ticket
           → HandsOut who ticket reply (seen_parts mid) (seen_parts new))
           → (who : ℕ) → phase who (seen_parts old).listed.marks ≡ waits ticket
@@ -72,7 +75,8 @@ module _ {D : Type 0} (drive : Ghosts D) (old : Held D) (runs : Runs drive (seen
           then_ready stepped.0 (seen_parts mid) reply yet stepped.1 (hands who (ap (phase who) marks ∙ waiting))
 
       -- or still to come
-      pub turns_more : (ticket : ℕ) (new : Held D) → new ≡ mid → slice_get (seen_parts mid).listed.replies ticket ≡ Some None
+      pub turns_more : (ticket : ℕ) (new : Held D) → new ≡ mid
+          → slice_get (seen_parts mid).listed.replies ticket ≡ Some None
           → (who : ℕ) → TurnsTo drive who ticket (seen_parts old) (seen_parts new) the_turns.More
       turns_more ticket new still yet who =
           subst (λ (p : Held D). TurnsTo drive who ticket (seen_parts old) (seen_parts p) the_turns.More) (sym still)
@@ -80,18 +84,23 @@ module _ {D : Type 0} (drive : Ghosts D) (old : Held D) (runs : Runs drive (seen
 
       module _ (who : ℕ) (drains : phase who (seen_parts old).listed.marks ≡ draining) where
         pub ends_again : length (places_of who (seen_parts old).listed.marks) < 2 ^ 32 → CanEnd who (seen_parts mid)
-        ends_again few = ends_on drive runs.fixed runs.next (seen_parts old) runs.runs who drains few (seen_parts mid) stepped.0 stepped.1
+        ends_again few =
+            ends_on drive runs.fixed runs.next (seen_parts old) runs.runs who drains few (seen_parts mid) stepped.0 stepped.1
 
         module _ (full : IsFull who (seen_parts old)) where
           -- the drain ends then
-          pub drains_end : (was now : Told) (new : Held D) (end : Drained) → EndsAt who was now (seen_parts mid) (seen_parts new) end
+          pub drains_end : (was now : Told) (new : Held D) (end : Drained)
+              → EndsAt who was now (seen_parts mid) (seen_parts new) end
               → DrainsAt drive who was now (seen_parts old) (seen_parts new) end
           drains_end was now new end e =
-              ends_then drive who was now stepped.0 (seen_parts old) (seen_parts mid) full stepped.1 marks (seen_parts new) end e
+              ends_then drive who was now stepped.0 (seen_parts old) (seen_parts mid) full stepped.1 marks (seen_parts new)
+              end e
 
           -- or goes on
           pub drains_on : (was now : Told) (new : Held D) → now ≡ was → new ≡ mid → IsFull who (seen_parts mid)
               → DrainsAt drive who was now (seen_parts old) (seen_parts new) the_drained.More
           drains_on was now new asked still left =
-              subst (λ (p : Held D). DrainsAt drive who was now (seen_parts old) (seen_parts p) the_drained.More) (sym still)
-              (drains_more drive who was now stepped.0 (seen_parts old) (seen_parts mid) full stepped.1 marks asked left)
+              subst (λ (p : Held D). DrainsAt drive who was now (seen_parts old) (seen_parts p) the_drained.More)
+              (sym still)
+              (drains_more drive who was now stepped.0 (seen_parts old) (seen_parts mid) full stepped.1 marks asked
+              left)

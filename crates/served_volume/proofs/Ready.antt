@@ -34,7 +34,8 @@ use Rattle.volume_core.specs.Moves.{HasWork, IsReady}
 -- ---- lists and tests
 
 -- what passes is there
-pub passed : {X : Type 0} (test : X → Bool) (o : Option X) → passes test o ≡ true → (x : X) × (o ≡ Some x) × (test x ≡ true)
+passed : {X : Type 0} (test : X → Bool) (o : Option X) → passes test o ≡ true
+    → (x : X) × (o ≡ Some x) × (test x ≡ true)
 passed test None is = absurd (cc)
 passed test (Some x) is = (x, refl, is)
 
@@ -50,7 +51,8 @@ still_drains st kept who either none =
 
 not_calm : (st : State) (who : ℕ) → drains_now st who ≡ true → is_calm st ≡ true → ⊥
 not_calm st who now calm =
-    none_drains who st.drains now (eqb-true (length st.drains) 0 (and_parts (length st.syncs == 0) (length st.drains == 0) calm).1)
+    none_drains who st.drains now
+    (eqb-true (length st.drains) 0 (and_parts (length st.syncs == 0) (length st.drains == 0) calm).1)
 
 first_waits : (st : State) (standing : List Op) → 64 < length standing
     → ((op : Op) (later : List Op) → standing ≡ op ∷ later → waiting_op st ≡ Some (headed op))
@@ -106,19 +108,23 @@ module _ {D : Type 0} (drive : Ghosts D) (fixed : Fixed D) (next : Option Moment
   -- a session drains, and there is no room
   pub drains_ready : (who : ℕ) → phase who p.listed.marks ≡ draining → IsFull who p → IsReady drive p
   drains_ready who drains full =
-      let now = still_drains (state p.trail) p.trail.kept who (runs.kept.order.orderly.marks.drains who drains) full.none in
+      let now =
+      still_drains (state p.trail) p.trail.kept who (runs.kept.order.orderly.marks.drains who drains) full.none in
       ready (λ empty. first_waits (state p.trail) p.stock.layout.ops full.many
-      (λ op later first. ⊎_elim (λ calm. absurd (not_calm (state p.trail) who now calm)) (λ is. is) (can_step.waiting op later first)))
+      (λ op later first. ⊎_elim (λ calm. absurd (not_calm (state p.trail) who now calm)) (λ is. is)
+      (can_step.waiting op later first)))
 
   -- ---- what a step leaves
 
   module _ (mid : Parts D) (added : List Event) (on : StepsOn drive added p mid) where
-    pub shown : Stepped drive fixed (view_of fixed next p) (view_of fixed next mid) added × IsTied drive fixed runs.planned mid
+    pub shown : Stepped drive fixed (view_of fixed next p) (view_of fixed next mid) added
+        × IsTied drive fixed runs.planned mid
     shown = steps_show drive fixed runs.plan runs.planned next p mid added runs.kept runs.tied on.steps
 
     pub hands_then : (ticket : ℕ) → CanHand ticket p → CanHand ticket mid
     hands_then ticket can =
-        hands_on ticket p mid can shown.0.history shown.0.marks (shown.1.sessions ∙ sym runs.tied.sessions) shown.0.replies.count
+        hands_on ticket p mid can shown.0.history shown.0.marks (shown.1.sessions ∙ sym runs.tied.sessions)
+        shown.0.replies.count
         (answers_stay p mid runs.answers on.answers shown.0.replies.count shown.0.replies.each shown.0.marks)
 
   -- ---- a reply
@@ -135,7 +141,8 @@ module _ {D : Type 0} (drive : Ghosts D) (fixed : Fixed D) (next : Option Moment
 
     -- its session is the one that waits
     waits_for : phase placed_here.0.who p.listed.marks ≡ waits ticket
-    waits_for = subst (λ w. phase w p.listed.marks ≡ waits ticket) (sym (eqb-true placed_here.0.who who placed_here.2)) waiting
+    waits_for = subst (λ w. phase w p.listed.marks ≡ waits ticket)
+        (sym (eqb-true placed_here.0.who who placed_here.2)) waiting
 
     known : (1 ≤ placed_here.0.who) × (placed_here.0.who ≤ greatest_session fixed.script)
     known = of_script placed_here.0.who (λ rests. let no : waits ticket ≡ idle = sym waits_for ∙ rests in cc)
@@ -145,7 +152,8 @@ module _ {D : Type 0} (drive : Ghosts D) (fixed : Fixed D) (next : Option Moment
       placed = placed_here.0;
       is = placed_here.1;
       waits_for = waits_for;
-      alone = λ w other. waits_alone drive (view_of fixed next p) runs.kept.order w placed_here.0.who ticket other waits_for;
+      alone = λ w other. waits_alone drive (view_of fixed next p) runs.kept.order w placed_here.0.who ticket other
+          waits_for;
       low = known.0;
       high = omega (arith, known.1, runs.tied.sessions);
       each = runs.kept.order.count;

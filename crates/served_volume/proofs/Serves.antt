@@ -55,12 +55,13 @@ no_push xs x none = omega (arith, ap length none, length_push xs x)
 pub record ServesOn {D : Type 0} (drive : Ghosts D) (fixed : Fixed D) (one next : Option Moment) (old new : Parts D)
     : Type 0 where
   pub serving : IsServing drive fixed one next new
-  pub promised : IsServed cartridges (seen drive fixed.first) (seen drive new.drive) (view_of fixed (next_moment one next) new)
+  pub promised : IsServed cartridges (seen drive fixed.first) (seen drive new.drive)
+      (view_of fixed (next_moment one next) new)
   pub calls : new.listed.calls ≡ old.listed.calls
 
 module _ {D : Type 0} (drive : Ghosts D)
-    (only_now : (d : D) (image : Cartridge) → drive.commands d < 2 ^ 64 - 1 → drive.left_since d (drive.commands d) image
-    → drive.leaves d image)
+    (only_now : (d : D) (image : Cartridge) → drive.commands d < 2 ^ 64 - 1
+    → drive.left_since d (drive.commands d) image → drive.leaves d image)
     (fixed : Fixed D) (one next : Option Moment) (old : Parts D) (serving : IsServing drive fixed one next old)
     (counted : drive.commands old.drive ≤ 2 ^ 64 - 1) where
   abbrev now : Option Moment
@@ -78,8 +79,8 @@ module _ {D : Type 0} (drive : Ghosts D)
 
   module _ (who ticket : ℕ) (answer : Turn) (new : Parts D) (waiting : phase who old.listed.marks ≡ waits ticket)
       (to : TurnsTo drive who ticket old new answer) where
-    turned : Turns drive.MOST (seen drive old.drive) (seen drive new.drive) (view_of fixed now old) (view_of fixed now new) who
-        ticket answer
+    turned : Turns drive.MOST (seen drive old.drive) (seen drive new.drive) (view_of fixed now old) (view_of fixed now new)
+        who ticket answer
         × IsRunning drive fixed now new
     turned = turns_run drive only_now fixed now who ticket answer old new serving.runs counted waiting to
 
@@ -135,9 +136,11 @@ module _ {D : Type 0} (drive : Ghosts D)
       absurd (no_push mid.listed.history _ (sym t.places.history ∙ none))
   untouched_on who nth at new all (then_room added mid full on r) none =
       unmade who full (sym (stays mid added on) ∙ sym r.history ∙ none)
-  untouched_on who nth at new all (then_more added full on left) none = unmade who full (sym (stays new added on) ∙ none)
+  untouched_on who nth at new all (then_more added full on left) none =
+      unmade who full (sym (stays new added on) ∙ none)
 
-  module _ (who : ℕ) (one_after after : Option Moment) (new : Parts D) (drains : phase who old.listed.marks ≡ draining) where
+  module _ (who : ℕ) (one_after after : Option Moment) (new : Parts D)
+      (drains : phase who old.listed.marks ≡ draining) where
     abbrev then : Option Moment
     then = next_moment one_after after
 
@@ -146,18 +149,21 @@ module _ {D : Type 0} (drive : Ghosts D)
 
     abbrev Adds : Drained → Type 0
     Adds answer =
-        DrainsOnce drive.MOST (seen drive old.drive) (seen drive new.drive) (view_of fixed now old) (view_of fixed then new) who
-        answer
+        DrainsOnce drive.MOST (seen drive old.drive) (seen drive new.drive) (view_of fixed now old) (view_of fixed then new)
+        who answer
 
     drained : (answer : Drained) (at : Moment) → IfSome now (λ m. at ≡ m) → AsksOneMoment (view_of fixed now old) answer
-        → IsAfter now then answer → DrainsTo drive who nth at old new answer → Adds answer × IsRunning drive fixed then new
+        → IsAfter now then answer → DrainsTo drive who nth at old new answer
+        → Adds answer × IsRunning drive fixed then new
     drained answer at moment asked next to =
-        drain_turns_all_run drive only_now fixed now then who at answer old new serving.runs counted drains moment asked next to
+        drain_turns_all_run drive only_now fixed now then who at answer old new serving.runs counted drains moment asked
+        next to
 
     -- the clock wasn't asked
     unasked : (answer : Drained) → told one_after after ≡ told one next
         → ((at : Moment) → IfSome now (λ m. at ≡ m) → Adds answer × IsRunning drive fixed then new)
-        → ((at : Moment) → DrainsTo drive who nth at old new answer) → Adds answer × IsServing drive fixed one_after after new
+        → ((at : Moment) → DrainsTo drive who nth at old new answer)
+        → Adds answer × IsServing drive fixed one_after after new
     unasked answer same law to =
         let m = some_moment fixed.mounted.label.formatted now in
         let l = law m.0 m.1 in (
@@ -173,7 +179,8 @@ module _ {D : Type 0} (drive : Ghosts D)
     drain_serves : (answer : Drained) → DrainsAt drive who (told one next) (told one_after after) old new answer
         → Adds answer × IsServing drive fixed one_after after new
     drain_serves (the_drained.Fault counts) e =
-        let l = drained (the_drained.Fault counts) e.0 e.1.given (asks fixed.moment one next serving.one_moment) tt e.2 in (
+        let l =
+        drained (the_drained.Fault counts) e.0 e.1.given (asks fixed.moment one next serving.one_moment) tt e.2 in (
           l.0,
           record {
             runs = l.1;

@@ -64,8 +64,9 @@ hand-requires-clause-there g c = (
 
 pub returns-clause-places : goal.returns-clause-places
 returns-clause-places g c =
-    places_void c.args.who c.args.nth c.len-here.result c.args.at (Fault c.args.counts) c.place.new.self c.answer.new.self
-    (seen_parts c.args.parts.now) (seen_parts (record c.args.parts.now { placements = c.hand.new.self })) c.len-here.ensures.len
+    places_void c.args.who c.args.nth c.len-here.result c.args.at (Fault c.args.counts) c.place.new.self
+    c.answer.new.self (seen_parts c.args.parts.now) (seen_parts (record c.args.parts.now { placements = c.hand.new.self }))
+    c.len-here.ensures.len
     (record {
       each = c.len-here.ensures.each;
       history = c.place.ensures.history;
