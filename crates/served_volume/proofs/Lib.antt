@@ -1,6 +1,12 @@
 mod AskLemmas
-mod Counting
-mod Submissions
 mod BeginLemmas
 mod Counted
+mod Counting
+mod Ends
+mod Faulted
+mod Given
 mod LeavingLemmas
+mod Made
+mod Ready
+mod Serves
+mod Submissions

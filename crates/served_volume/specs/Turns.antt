@@ -1,5 +1,5 @@
 -- What the calls of a volume ask of its parts and its clock, and what they make of them.
-use Rattle.std.specs.Prelude.{ℕ, ◌≡◌, Option, Some, None, IfSome, length}
+use Rattle.std.specs.Prelude.{ℕ, ◌≡◌, Option, Some, IfSome, length}
 use Rattle.tape_types.specs.declared.moments.Moment.{Moment}
 use Rattle.tape_drive.specs.declared.drive.Drive.{Ghosts}
 use Rattle.plain_tree.specs.declared.calls.Call.{Call}

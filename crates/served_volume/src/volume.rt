@@ -151,6 +151,8 @@ impl<D: Drive, C: Clock> Volume<D, C> {
         ensures drains { DrainsOnce D.MOST (seen D.Drive self.old.drive) (seen D.Drive self.new.drive) self.old self.new who
             result }
     {
+        // Its calls are counted in 32 bits.
+        let _calls = self.script.count(who);
         drain(&mut self.parts, &mut self.clock, who)
     }
 

@@ -1,0 +1,41 @@
+use Rattle.std.proofs.Common.{rules, ◌≡◌, ◌<◌, ◌^◌, sym, subst, arith}
+use Rattle.volume_model.specs.Marks.{draining, phase}
+use Rattle.volume_model.specs.Served.{View}
+use Rattle.volume_core.specs.Seen.{seen_parts}
+use Rattle.served_volume.proofs.Serves.{drain_adds, drain_serves_on}
+use Rattle.served_volume.proofs.volume.Volume.drain_turn.Goals as goal
+
+pub drain-requires-clause-runs : goal.drain-requires-clause-runs
+drain-requires-clause-runs g c = record { fixed = _; next = _; runs = c.self.invariant.0.runs }
+
+pub drain-requires-clause-drains : goal.drain-requires-clause-drains
+drain-requires-clause-drains g c =
+    subst (λ (v : View g.row.D.Denot). phase c.args.who v.marks ≡ draining) (sym c.self.view_is) c.requires
+
+pub drain-requires-clause-few : goal.drain-requires-clause-few
+drain-requires-clause-few g c =
+    let drains = subst (λ (v : View g.row.D.Denot). phase c.args.who v.marks ≡ draining) (sym c.self.view_is) c.requires in
+    let small : c.count-calls.result < 2 ^ 32 = search rules in
+    omega (arith, c.self.invariant.0.runs.kept.order.more c.args.who drains, c.count-calls.ensures, small)
+
+pub returns-clause-drains : goal.returns-clause-drains
+returns-clause-drains g c =
+    drain_adds g.D.Drive g.met.D.Drive.only_now _ (g.C.Clock.one c.self.inside.clock) (g.C.Clock.next c.self.inside.clock)
+    (seen_parts c.self.inside.parts) c.self.invariant.0 c.drain.ensures.counted c.args.who (g.C.Clock.one c.drain.new.clock)
+    (g.C.Clock.next c.drain.new.clock) c.drain.result (seen_parts c.drain.new.parts) c.drain.ensures.drains c.args.self.now
+    c.self.view_is c.requires
+
+pub returns-clause-served : goal.returns-clause-served
+returns-clause-served g c =
+    (drain_serves_on g.D.Drive g.met.D.Drive.only_now _ (g.C.Clock.one c.self.inside.clock) (g.C.Clock.next c.self.inside.clock)
+    (seen_parts c.self.inside.parts) c.self.invariant.0 c.drain.ensures.counted c.args.who (g.C.Clock.one c.drain.new.clock)
+    (g.C.Clock.next c.drain.new.clock) c.drain.result (seen_parts c.drain.new.parts) c.drain.ensures.drains c.args.self.now
+    c.self.view_is c.requires).promised
+
+pub invariant_of-self : goal.invariant_of-self
+invariant_of-self g c =
+    let on = drain_serves_on g.D.Drive g.met.D.Drive.only_now _ (g.C.Clock.one c.self.inside.clock)
+    (g.C.Clock.next c.self.inside.clock) (seen_parts c.self.inside.parts) c.self.invariant.0 c.drain.ensures.counted c.args.who
+    (g.C.Clock.one c.drain.new.clock) (g.C.Clock.next c.drain.new.clock) c.drain.result (seen_parts c.drain.new.parts)
+    c.drain.ensures.drains c.args.self.now c.self.view_is c.requires in
+    (on.serving, c.self.invariant.1, omega (arith, on.calls, c.self.invariant.2))
