@@ -1,4 +1,4 @@
--- A history is shorter than its script as long as a session has a call left.
+-- A history is no longer than its script, and shorter as long as a session has a call left.
 use Rattle.std.specs.Prelude.{ℕ, ◌≡◌, ◌==◌, ◌+◌, ◌≤◌, ◌<◌, Bool, true, false, cond, List, [], ◌∷◌, filter, length}
 use Rattle.std.proofs.Common.{refl, sym, ap, subst, ◌∙◌, arith}
 use Rattle.std.proofs.lemmas.Bool.{eq-eqb, eqb-true}
@@ -109,3 +109,8 @@ module _ (script : List ScriptLine) (history : List Placed) where
       shorter (λ (p : Placed). p.who) (λ (l : ScriptLine). l.who) history script who
       (λ w. omega (arith, so_far.within w, placed_count w, calls_count w))
       (omega (arith, more, placed_count who, calls_count who))
+
+  pub placed_within : IsPlacedSoFar (calls_of script) history → length history ≤ length script
+  placed_within so_far =
+      no_longer (λ (p : Placed). p.who) (λ (l : ScriptLine). l.who) history script
+      (λ w. omega (arith, so_far.within w, placed_count w, calls_count w))

@@ -15,7 +15,7 @@ use Rattle.volume_order.proofs.PhaseLaw.{nothing_waits}
 use Rattle.volume_parts.specs.Parts.{Parts, view_of}
 use Rattle.served_volume.specs.Leaving.{IsLeft}
 use Rattle.served_volume.specs.Serving.{IsServing, next_moment}
-use Rattle.served_volume.proofs.Counted.{placed_within}
+use Rattle.served_volume.proofs.Counting.{placed_within}
 
 module _ {D : Type 0} (drive : Ghosts D) (fixed : Fixed D) (one next : Option Moment) (p : Parts D) (v : View D)
     (serving : IsServing drive fixed one next p) (is : view_of fixed (next_moment one next) p ≡ v) where

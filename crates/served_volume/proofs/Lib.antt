@@ -1,6 +1,5 @@
 mod AskLemmas
 mod BeginLemmas
-mod Counted
 mod Counting
 mod Ends
 mod Faulted
