@@ -1,4 +1,4 @@
--- The index of a sync (LTFS 2.4 on the index and on index constructs).
+-- The index of a sync, and that of a close (LTFS 2.4 on the index and on index constructs).
 use Rattle.std.specs.Prelude.{◌≡◌, ℕ, ◌+◌, false, List, codes, Option, Some, Result, Ok, Err}
 use Rattle.std.specs.Option.{option_map}
 use Rattle.tape_types.specs.declared.cartridges.Place.{Place}
@@ -8,7 +8,7 @@ use Rattle.file_tree.specs.Carried.{index_of_tree}
 use Rattle.file_tree.specs.Mounts.{Letters}
 use Rattle.file_tree.specs.Tree.{FileTree}
 use Rattle.file_tree.specs.declared.carried.Heading.{Heading}
-use Rattle.tape_layout.specs.Admissions.{IsAdmitted, index_admission}
+use Rattle.tape_layout.specs.Admissions.{IsAdmitted, close_admission, index_admission}
 use Rattle.tape_layout.specs.Plans.{Plan}
 use Rattle.tape_layout.specs.declared.errors.AdmitErr.{AdmitErr}
 use Rattle.volume_sync.specs.declared.frames.Frame.{Frame}
@@ -44,3 +44,30 @@ after_sync f (Err e) = f
 pub record IsSync (text : List ℕ) (old new : Plan) (before now : Frame) (result : Result Place AdmitErr) : Type 0 where
   pub admitted : IsAdmitted (index_admission old (before.generation + 1) text) old new result
   pub frame : now ≡ after_sync before result
+
+-- How the index of a close is headed: it stands behind the mark at this end of the index partition, and has the generation
+-- of the data partition's last index, to which it points back.
+abbrev pub close_heading : Frame → (generation : ℕ) → (last_dp : Option ℕ) → (end : ℕ) → Moment → Heading
+close_heading f generation last_dp end at = record {
+  creator = codes "ltfs_server 1.0.0";
+  uuid = f.label.uuid;
+  generation = generation;
+  updated = at;
+  here = record { letter = f.label.index; block = end + 1 };
+  back = option_map (λ block. record { letter = f.label.dpart; block = block }) last_dp;
+}
+
+abbrev pub close_index : Frame → FileTree → (generation : ℕ) → (last_dp : Option ℕ) → (end : ℕ) → Moment → Index
+close_index f tree generation last_dp end at =
+    index_of_tree (letters_of f) (close_heading f generation last_dp end at) f.carried tree
+
+-- once it is admitted, the index partition ends with an index of the newest generation
+abbrev pub after_close : Frame → Result Place AdmitErr → Frame
+after_close f (Ok place) = record f { ip_done = true }
+after_close f (Err e) = f
+
+-- This text of a close's index is admitted on the index partition where it fits, and else refused, and then nothing has
+-- changed.
+pub record IsCloseOf (text : List ℕ) (old new : Plan) (before now : Frame) (result : Result Place AdmitErr) : Type 0 where
+  pub admitted : IsAdmitted (close_admission old text) old new result
+  pub frame : now ≡ after_close before result
