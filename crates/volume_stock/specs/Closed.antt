@@ -46,11 +46,14 @@ IsDpChange early g on st at old new (Ok done) = IsDpDone early g on st at old ne
 IsDpChange early g on st at old new (Err (Full need limit)) = IsDpFull g on st at need limit
 IsDpChange early g on st at old new (Err NoMemory) = Unit {0}
 
--- The index that is due on the index partition fits, and its ops are admitted behind those that stand.
+-- The index that is due on the index partition fits, and its ops are admitted behind those that stand. The tree and what an
+-- index stands on are as they were, but for that the index partition is done.
 pub record IsIpDone (g : Given) (st : Standing) (at : Moment) (old new : Stocked) : Type 0 where
   pub fits : close_need g st at ≤ close_limit g
   pub ops : new.layout.ops
       ≡ old.layout.ops ++ construct g.mounted.label.block Ip st.space.ends.ip (close_text g st at)
+  pub tree : new.tree ≡ old.tree
+  pub frame : new.frame ≡ record old.frame { ip_done = true }
 
 pub record IsIpFull (g : Given) (st : Standing) (at : Moment) (need limit : ℕ) : Type 0 where
   pub over : close_limit g < close_need g st at
@@ -61,3 +64,8 @@ abbrev pub IsIpChange : Given → Standing → Moment → Stocked → Stocked �
 IsIpChange g st at old new (Ok done) = IsIpDone g st at old new
 IsIpChange g st at old new (Err (Full need limit)) = IsIpFull g st at need limit
 IsIpChange g st at old new (Err NoMemory) = Unit {0}
+
+-- how it ends, where a text is due on the index partition; where none is, all is as it was
+abbrev pub IsIpEnd : Option (List ℕ) → Given → Standing → Moment → Stocked → Stocked → Result Unit AdmitErr → Type 0
+IsIpEnd (Some text) g st at old new result = IsIpChange g st at old new result
+IsIpEnd None g st at old new result = (new ≡ old) × (result ≡ Ok tt)

@@ -52,8 +52,8 @@ fn bare_index(alloc: Global) -> Result<Index, NoMemory>
     })
 }
 
-/// What is found of an empty volume, of which the partitions end at 4 and 7.
-fn bare_mount(alloc: Global) -> Result<Mounted, NoMemory>
+/// What is found of an empty volume, of which the partitions end at 4 and 7, and these partitions are done.
+fn bare_mount(alloc: Global, dp_done: bool, ip_done: bool) -> Result<Mounted, NoMemory>
     ensures { IfOk result (CanStart (record { cap_ip = 64; cap_dp = 64 })) }
 {
     let index = bare_index(alloc)?;
@@ -79,18 +79,22 @@ fn bare_mount(alloc: Global) -> Result<Mounted, NoMemory>
         end_dp: 7,
         last_dp: Some(5),
         ip_on: true,
-        dp_done: true,
-        ip_done: false,
+        dp_done,
+        ip_done,
         noted: false,
     })
 }
 
 fn bare_stock(alloc: Global) -> Result<Stock, NoMemory> {
+    stock_of(alloc, true, false)
+}
+
+fn stock_of(alloc: Global, dp_done: bool, ip_done: bool) -> Result<Stock, NoMemory> {
     let limits = Limits {
         cap_ip: 64,
         cap_dp: 64,
     };
-    Stock::start(alloc, bare_mount(alloc)?, limits)
+    Stock::start(alloc, bare_mount(alloc, dp_done, ip_done)?, limits)
 }
 
 fn path(alloc: Global) -> Result<List<Text>, NoMemory> {
@@ -290,5 +294,80 @@ fn tells_what_a_sync_admits(rt: HostRuntime) -> Result<(), Fail> {
     assert!(rt; due.is_none());
     assert!(rt; stock.sync(&due) == Ok(()));
     assert!(rt; stock.waiting() == 0);
+    Ok(())
+}
+
+/// An op by the letter of its kind, that of its partition, and its position.
+fn shown(op: &Op) -> (u8, u8, u64) {
+    match op {
+        Op::Put { place, .. } => (b'p', letter(place.part), place.pos),
+        Op::Mark { place } => (b'm', letter(place.part), place.pos),
+        Op::Flush { place } => (b'f', letter(place.part), place.pos),
+    }
+}
+
+fn letter(part: Part) -> u8 {
+    match part {
+        Part::Ip => b'a',
+        Part::Dp => b'b',
+    }
+}
+
+/// Whether just these ops stand. They are done then.
+fn are_next(stock: &mut Stock, wanted: &[(u8, u8, u64)]) -> bool {
+    for row in wanted {
+        if stock.waiting() == 0 || stock.next_op().map(shown) != Some(*row) {
+            return false;
+        }
+        stock.done_op();
+    }
+    stock.waiting() == 0
+}
+
+/// Whether a close of the volume admits just these ops.
+fn closes(stock: &mut Stock, wanted: &[(u8, u8, u64)]) -> Result<bool, NoMemory> {
+    let texts = stock.closing_texts(AT)?;
+    let dp = stock.admit_dp(&texts.dp);
+    let ip = stock.admit_ip(&texts.ip);
+    Ok(dp == Ok(()) && ip == Ok(()) && are_next(stock, wanted))
+}
+
+const ON_IP: [(u8, u8, u64); 4] = [
+    (b'm', b'a', 4),
+    (b'p', b'a', 5),
+    (b'm', b'a', 6),
+    (b'f', b'a', 7),
+];
+
+const ON_BOTH: [(u8, u8, u64); 8] = [
+    (b'm', b'b', 7),
+    (b'p', b'b', 8),
+    (b'm', b'b', 9),
+    (b'f', b'b', 10),
+    (b'm', b'a', 4),
+    (b'p', b'a', 5),
+    (b'm', b'a', 6),
+    (b'f', b'a', 7),
+];
+
+#[test]
+fn closes_what_was_mounted(rt: HostRuntime) -> Result<(), Fail> {
+    let alloc = rt.alloc();
+    assert!(rt; closes(&mut stock_of(alloc, true, true)?, &[])?);
+    assert!(rt; closes(&mut stock_of(alloc, true, false)?, &ON_IP)?);
+    assert!(rt; closes(&mut stock_of(alloc, false, true)?, &ON_BOTH)?);
+    assert!(rt; closes(&mut stock_of(alloc, false, false)?, &ON_BOTH)?);
+    Ok(())
+}
+
+#[test]
+fn closes_what_has_changed(rt: HostRuntime) -> Result<(), Fail> {
+    let alloc = rt.alloc();
+    let mut stock = stock_of(alloc, true, true)?;
+    let create = Call::Create { path: path(alloc)? };
+    assert!(rt; stock.apply(&create, AT) == Ok(None));
+    assert!(rt; closes(&mut stock, &ON_BOTH)?);
+    assert!(rt; stock.generation() == 2 && stock.last_dp() == Some(8));
+    assert!(rt; closes(&mut stock, &[])?);
     Ok(())
 }

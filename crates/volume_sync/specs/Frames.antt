@@ -16,17 +16,22 @@ use Rattle.volume_sync.specs.declared.frames.Frame.{Frame}
 abbrev pub letters_of : Frame → Letters
 letters_of f = (f.label.index, f.label.dpart)
 
--- how the index of a sync is headed: it stands behind the mark at this end of the data partition, is of the next generation, and points back
--- to the last index that was admitted there
-abbrev pub sync_heading : Frame → (end : ℕ) → Moment → Heading
-sync_heading f end at = record {
+-- How an index is headed: it has this generation, stands behind the mark at this end of the partition with this letter, and
+-- points back to this block of the data partition.
+abbrev pub heading_of : Frame → (generation letter end : ℕ) → (back : Option ℕ) → Moment → Heading
+heading_of f generation letter end back at = record {
   creator = codes "ltfs_server 1.0.0";
   uuid = f.label.uuid;
-  generation = f.generation + 1;
+  generation = generation;
   updated = at;
-  here = record { letter = f.label.dpart; block = end + 1 };
-  back = option_map (λ block. record { letter = f.label.dpart; block = block }) f.last_dp;
+  here = record { letter = letter; block = end + 1 };
+  back = option_map (λ block. record { letter = f.label.dpart; block = block }) back;
 }
+
+-- that of a sync stands behind the mark at this end of the data partition, is of the next generation, and points back to the last
+-- index that was admitted there
+abbrev pub sync_heading : Frame → (end : ℕ) → Moment → Heading
+sync_heading f end at = heading_of f (f.generation + 1) f.label.dpart end f.last_dp at
 
 -- the index of a tree at a moment
 abbrev pub sync_index : Frame → FileTree → (end : ℕ) → Moment → Index
@@ -45,17 +50,10 @@ pub record IsSync (text : List ℕ) (old new : Plan) (before now : Frame) (resul
   pub admitted : IsAdmitted (index_admission old (before.generation + 1) text) old new result
   pub frame : now ≡ after_sync before result
 
--- How the index of a close is headed: it stands behind the mark at this end of the index partition, and has the generation
--- of the data partition's last index, to which it points back.
+-- That of a close stands behind the mark at this end of the index partition, and has the generation of the data partition's last
+-- index, to which it points back.
 abbrev pub close_heading : Frame → (generation : ℕ) → (last_dp : Option ℕ) → (end : ℕ) → Moment → Heading
-close_heading f generation last_dp end at = record {
-  creator = codes "ltfs_server 1.0.0";
-  uuid = f.label.uuid;
-  generation = generation;
-  updated = at;
-  here = record { letter = f.label.index; block = end + 1 };
-  back = option_map (λ block. record { letter = f.label.dpart; block = block }) last_dp;
-}
+close_heading f generation last_dp end at = heading_of f generation f.label.index end last_dp at
 
 abbrev pub close_index : Frame → FileTree → (generation : ℕ) → (last_dp : Option ℕ) → (end : ℕ) → Moment → Index
 close_index f tree generation last_dp end at =
