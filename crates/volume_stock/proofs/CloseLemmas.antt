@@ -1,6 +1,7 @@
 -- What a close admits of what is held.
-use Rattle.std.proofs.Common.{◌≡◌, ℕ, ◌+◌, ◌<◌, ◌≤◌, ◌&&◌, ◌||◌, not, if◌then◌else◌, Bool, true, false, List, [], ◌++◌, Option, Some, None, Result, Ok, Err, sym, ap, ◌∙◌, refl, subst}
+use Rattle.std.proofs.Common.{◌≡◌, Vec, Global, ℕ, ◌+◌, ◌<◌, ◌≤◌, ◌&&◌, ◌||◌, not, if◌then◌else◌, Bool, true, false, List, [], ◌++◌, Option, Some, None, Result, Ok, Err, sym, ap, ◌∙◌, refl, subst}
 use Rattle.std.proofs.lemmas.List.{append-nil}
+use Rattle.std.specs.Option.{option_map}
 use Rattle.tape_types.specs.declared.cartridges.Part.TheVariants.{Ip}
 use Rattle.tape_types.specs.declared.cartridges.Place.{Place}
 use Rattle.tape_types.specs.declared.moments.Moment.{Moment}
@@ -19,7 +20,7 @@ use Rattle.volume_space.specs.Standing.{Given, Standing, rules, sync_text}
 use Rattle.volume_sync.specs.Frames.{IsCloseOf, IsSync, close_index, sync_index, with_sync}
 use Rattle.volume_sync.specs.declared.frames.Frame.{Frame}
 use Rattle.volume_stock.specs.Applied.{IsUnchanged}
-use Rattle.volume_stock.specs.Closed.{IsDpChange, IsDpDocument, IsDpDone, IsIpChange, IsIpDocument, IsIpDone, closed_dp}
+use Rattle.volume_stock.specs.Closed.{IsDpChange, IsDpDocument, IsDpDone, IsIpChange, IsIpDocument, IsIpDone, IsIpEnd, closed_dp}
 use Rattle.volume_stock.specs.Stocks.{IsStock, Stocked, stocked, with_index}
 use Rattle.volume_stock.proofs.Stands.{still_stands}
 use Rattle.volume_stock.proofs.Syncing.{asked_stands, asks_more, asks_no_more, limit_asked, need_asked, ops_asked}
@@ -71,13 +72,13 @@ module _ (t : FileTree) (l : Plan) (f : Frame) (at : Moment) (tape : Tape) (g : 
       let is_due : is_dp_due g st.space ≡ true = dp_due tape g on st (stocked t l f) i true due in
       let closed : closed_dp g on st at ≡ with_asked g on st (index (sync_text g st at)) = closed_index g on st at is_due in
       ((is_due, dp_is ∙ ap (λ n. canon (sync_index f t n at)) dp_end ∙ text_is tape g on st (stocked t l f) i at),
-      ap (λ (x : Standing). is_ip_due g x.space) closed,
+      (ap (λ (x : Standing). is_ip_due g x.space) closed,
       ip_is ∙ ap (λ n. canon (close_index f t (f.generation + 1) (Some (end_dp + 1)) n at)) ip_end
       ∙ close_text_is tape g on st (stocked t l f) i at (f.generation + 1) (Some (end_dp + 1))
       ∙ ap (λ n. canon (index_at g.mounted st.tree st.files (f.generation + 1) at Ip (st.space.ends.ip + 1) (Some (n + 1)))) dp_end
       ∙ ap (λ (p : Plan). canon (index_at g.mounted st.tree st.files (f.generation + 1) at Ip (st.space.ends.ip + 1) (Some (p.ends.dp + 1)))) i.layout
       ∙ ap (λ (f : Frame). canon (index_at g.mounted st.tree st.files (f.generation + 1) at Ip (st.space.ends.ip + 1) (Some (st.space.ends.dp + 1)))) i.frame
-      ∙ ap (λ (x : Standing). close_text g x at) (sym closed))
+      ∙ ap (λ (x : Standing). close_text g x at) (sym closed)))
 
   module _ (due : (f.changed || not f.dp_done) ≡ false) where
     not_due : is_dp_due g st.space ≡ false
@@ -89,11 +90,11 @@ module _ (t : FileTree) (l : Plan) (f : Frame) (at : Moment) (tape : Tape) (g : 
     ip_told end_ip ip open_end ip_end ip_is =
         let closed : closed_dp g on st at ≡ st = closed_still g on st at not_due in
         (not_due,
-        ap (λ (x : Standing). is_ip_due g x.space) closed ∙ ip_due tape g on st (stocked t l f) i false open_end,
+        (ap (λ (x : Standing). is_ip_due g x.space) closed ∙ ip_due tape g on st (stocked t l f) i false open_end,
         ip_is ∙ ap (λ n. canon (close_index f t f.generation f.last_dp n at)) ip_end
         ∙ close_text_is tape g on st (stocked t l f) i at f.generation f.last_dp
         ∙ ap (λ (f : Frame). canon (index_at g.mounted st.tree st.files f.generation at Ip (st.space.ends.ip + 1) f.last_dp)) i.frame
-        ∙ ap (λ (x : Standing). close_text g x at) (sym closed))
+        ∙ ap (λ (x : Standing). close_text g x at) (sym closed)))
 
     -- none
     pub none_told : f.ip_done ≡ true → IsDpDocument g st at None × IsIpDocument g (closed_dp g on st at) at None
@@ -136,6 +137,10 @@ dp_still t l f early g on st at i told = record {
 
 -- ---- that of the index partition
 
+abbrev pub ended : Result Place AdmitErr → Result Unit AdmitErr
+ended (Ok place) = Ok tt
+ended (Err e) = Err e
+
 module _ (t : FileTree) (l : Plan) (f : Frame) (at : Moment) (text : List ℕ) (early : Tape) (g : Given) (on : Bool) (st : Standing)
     (i : IsStock early g on st (stocked t l f)) (told : IsIpDocument g st at (Some text)) where
   abbrev ip_after : Plan
@@ -159,6 +164,25 @@ module _ (t : FileTree) (l : Plan) (f : Frame) (at : Moment) (text : List ℕ) (
     limit_is = s.admitted.2 ∙ ap (λ (a : Admission). a.limit) close_admitted;
   }
   ip_refused now after NoMemory s = tt
+
+-- by the text that is due
+pub ip_end : (t : FileTree) (l now : Plan) (f after : Frame) (at : Moment) (due : Option (Vec ℕ Global)) (doc : Vec ℕ Global) (text : List ℕ) (early : Tape) (g : Given) (on : Bool) (st : Standing)
+    → IsStock early g on st (stocked t l f) → IsIpDocument g st at (option_map (λ (doc : Vec ℕ Global). doc.items) due) → due ≡ Some doc → text ≡ doc.items → (r : Result Place AdmitErr)
+    → IsCloseOf text l now f after r → IsIpEnd (option_map (λ (doc : Vec ℕ Global). doc.items) due) g st at (stocked t l f) (stocked t now after) (ended r)
+ip_end t l now f after at due doc text early g on st i told is same r s =
+    subst (λ (due : Option (Vec ℕ Global)). IsIpEnd (option_map (λ (doc : Vec ℕ Global). doc.items) due) g st at (stocked t l f) (stocked t now after) (ended r)) (sym is) (by r s)
+  where
+    is_due : IsIpDocument g st at (Some text)
+    is_due = let told = subst (λ (due : Option (Vec ℕ Global)). IsIpDocument g st at (option_map (λ (doc : Vec ℕ Global). doc.items) due)) is told in
+        (told.0, same ∙ told.1)
+
+    by : (r : Result Place AdmitErr) → IsCloseOf text l now f after r → IsIpChange g st at (stocked t l f) (stocked t now after) (ended r)
+    by (Ok place) s = ip_admitted t l f at text early g on st i is_due now after place s
+    by (Err e) s = ip_refused t l f at text early g on st i is_due now after e s
+
+pub ip_still : (s : Stocked) (due : Option (Vec ℕ Global)) (g : Given) (st : Standing) (at : Moment) → due ≡ None
+    → IsIpEnd (option_map (λ (doc : Vec ℕ Global). doc.items) due) g st at s s (Ok tt)
+ip_still s due g st at is = subst (λ (due : Option (Vec ℕ Global)). IsIpEnd (option_map (λ (doc : Vec ℕ Global). doc.items) due) g st at s s (Ok tt)) (sym is) (refl, refl)
 
 pub ip_unchanged : (t : FileTree) (l now : Plan) (f after : Frame) (text : List ℕ) (e : AdmitErr) → IsCloseOf text l now f after (Err e) → IsUnchanged (stocked t l f) (stocked t now after)
 ip_unchanged t l now f after text e s =

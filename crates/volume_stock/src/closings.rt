@@ -1,6 +1,6 @@
 //! Closes of what is held.
 
-ghost use Rattle.std.specs.Prelude.{◌≡◌, ◌≤◌, ◌^◌, ◌×◌, ◌||◌, Bool, not, length, IfOk, IfSome, OnErr};
+ghost use Rattle.std.specs.Prelude.{◌≡◌, ◌≤◌, ◌^◌, ◌||◌, Bool, not, length, IfOk, IfSome, OnErr};
 ghost use Rattle.std.specs.Option.{option_map};
 ghost use Rattle.extent_map.specs.Cells.{Tape};
 ghost use Rattle.file_tree.specs.Tree.{FileTree};

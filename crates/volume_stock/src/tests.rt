@@ -297,12 +297,13 @@ fn tells_what_a_sync_admits(rt: HostRuntime) -> Result<(), Fail> {
     Ok(())
 }
 
-/// An op by the letter of its kind, that of its partition, and its position.
-fn shown(op: &Op) -> (u8, u8, u64) {
-    match op {
-        Op::Put { place, .. } => (b'p', letter(place.part), place.pos),
-        Op::Mark { place } => (b'm', letter(place.part), place.pos),
-        Op::Flush { place } => (b'f', letter(place.part), place.pos),
+/// The next op by the letter of its kind, that of its partition, and its position; or zeros where there is none.
+fn next_op(stock: &Stock) -> (u8, u8, u64) {
+    match stock.next_op() {
+        Some(Op::Put { place, .. }) => (b'p', letter(place.part), place.pos),
+        Some(Op::Mark { place }) => (b'm', letter(place.part), place.pos),
+        Some(Op::Flush { place }) => (b'f', letter(place.part), place.pos),
+        None => (0, 0, 0),
     }
 }
 
@@ -316,7 +317,10 @@ fn letter(part: Part) -> u8 {
 /// Whether just these ops stand. They are done then.
 fn are_next(stock: &mut Stock, wanted: &[(u8, u8, u64)]) -> bool {
     for row in wanted {
-        if stock.waiting() == 0 || stock.next_op().map(shown) != Some(*row) {
+        if stock.waiting() == 0 {
+            return false;
+        }
+        if next_op(stock) != *row {
             return false;
         }
         stock.done_op();

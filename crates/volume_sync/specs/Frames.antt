@@ -1,5 +1,5 @@
 -- The index of a sync, and that of a close (LTFS 2.4 on the index and on index constructs).
-use Rattle.std.specs.Prelude.{◌≡◌, ℕ, ◌+◌, false, List, codes, Option, Some, Result, Ok, Err}
+use Rattle.std.specs.Prelude.{◌≡◌, ℕ, ◌+◌, true, false, List, codes, Option, Some, Result, Ok, Err}
 use Rattle.std.specs.Option.{option_map}
 use Rattle.tape_types.specs.declared.cartridges.Place.{Place}
 use Rattle.tape_types.specs.declared.moments.Moment.{Moment}
