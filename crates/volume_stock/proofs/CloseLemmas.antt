@@ -70,15 +70,18 @@ module _ (t : FileTree) (l : Plan) (f : Frame) (at : Moment) (tape : Tape) (g : 
       → IsDpDocument g st at (Some dp) × IsIpDocument g (closed_dp g on st at) at (Some ip)
   both_told end_ip end_dp dp ip due ip_end dp_end dp_is ip_is =
       let is_due : is_dp_due g st.space ≡ true = dp_due tape g on st (stocked t l f) i true due in
-      let closed : closed_dp g on st at ≡ with_asked g on st (index (sync_text g st at)) = closed_index g on st at is_due in
-      ((is_due, dp_is ∙ ap (λ n. canon (sync_index f t n at)) dp_end ∙ text_is tape g on st (stocked t l f) i at),
-      (ap (λ (x : Standing). is_ip_due g x.space) closed,
-      ip_is ∙ ap (λ n. canon (close_index f t (f.generation + 1) (Some (end_dp + 1)) n at)) ip_end
-      ∙ close_text_is tape g on st (stocked t l f) i at (f.generation + 1) (Some (end_dp + 1))
-      ∙ ap (λ n. canon (index_at g.mounted st.tree st.files (f.generation + 1) at Ip (st.space.ends.ip + 1) (Some (n + 1)))) dp_end
-      ∙ ap (λ (p : Plan). canon (index_at g.mounted st.tree st.files (f.generation + 1) at Ip (st.space.ends.ip + 1) (Some (p.ends.dp + 1)))) i.layout
-      ∙ ap (λ (f : Frame). canon (index_at g.mounted st.tree st.files (f.generation + 1) at Ip (st.space.ends.ip + 1) (Some (st.space.ends.dp + 1)))) i.frame
-      ∙ ap (λ (x : Standing). close_text g x at) (sym closed)))
+      let closed : closed_dp g on st at ≡ with_asked g on st (index (sync_text g st at)) = closed_index g on st at is_due in (
+        (is_due, dp_is ∙ ap (λ n. canon (sync_index f t n at)) dp_end ∙ text_is tape g on st (stocked t l f) i at),
+        (
+          ap (λ (x : Standing). is_ip_due g x.space) closed,
+          ip_is ∙ ap (λ n. canon (close_index f t (f.generation + 1) (Some (end_dp + 1)) n at)) ip_end
+              ∙ close_text_is tape g on st (stocked t l f) i at (f.generation + 1) (Some (end_dp + 1))
+              ∙ ap (λ n. canon (index_at g.mounted st.tree st.files (f.generation + 1) at Ip (st.space.ends.ip + 1) (Some (n + 1)))) dp_end
+              ∙ ap (λ (p : Plan). canon (index_at g.mounted st.tree st.files (f.generation + 1) at Ip (st.space.ends.ip + 1) (Some (p.ends.dp + 1)))) i.layout
+              ∙ ap (λ (f : Frame). canon (index_at g.mounted st.tree st.files (f.generation + 1) at Ip (st.space.ends.ip + 1) (Some (st.space.ends.dp + 1)))) i.frame
+              ∙ ap (λ (x : Standing). close_text g x at) (sym closed),
+        ),
+      )
 
   module _ (due : (f.changed || not f.dp_done) ≡ false) where
     not_due : is_dp_due g st.space ≡ false
@@ -88,13 +91,16 @@ module _ (t : FileTree) (l : Plan) (f : Frame) (at : Moment) (tape : Tape) (g : 
     pub ip_told : (end_ip : ℕ) (ip : List ℕ) → f.ip_done ≡ false → end_ip ≡ l.ends.ip → ip ≡ canon (close_index f t f.generation f.last_dp end_ip at)
         → IsDpDocument g st at None × IsIpDocument g (closed_dp g on st at) at (Some ip)
     ip_told end_ip ip open_end ip_end ip_is =
-        let closed : closed_dp g on st at ≡ st = closed_still g on st at not_due in
-        (not_due,
-        (ap (λ (x : Standing). is_ip_due g x.space) closed ∙ ip_due tape g on st (stocked t l f) i false open_end,
-        ip_is ∙ ap (λ n. canon (close_index f t f.generation f.last_dp n at)) ip_end
-        ∙ close_text_is tape g on st (stocked t l f) i at f.generation f.last_dp
-        ∙ ap (λ (f : Frame). canon (index_at g.mounted st.tree st.files f.generation at Ip (st.space.ends.ip + 1) f.last_dp)) i.frame
-        ∙ ap (λ (x : Standing). close_text g x at) (sym closed)))
+        let closed : closed_dp g on st at ≡ st = closed_still g on st at not_due in (
+          not_due,
+          (
+            ap (λ (x : Standing). is_ip_due g x.space) closed ∙ ip_due tape g on st (stocked t l f) i false open_end,
+            ip_is ∙ ap (λ n. canon (close_index f t f.generation f.last_dp n at)) ip_end
+                ∙ close_text_is tape g on st (stocked t l f) i at f.generation f.last_dp
+                ∙ ap (λ (f : Frame). canon (index_at g.mounted st.tree st.files f.generation at Ip (st.space.ends.ip + 1) f.last_dp)) i.frame
+                ∙ ap (λ (x : Standing). close_text g x at) (sym closed),
+          ),
+        )
 
     -- none
     pub none_told : f.ip_done ≡ true → IsDpDocument g st at None × IsIpDocument g (closed_dp g on st at) at None
