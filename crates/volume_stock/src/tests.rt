@@ -159,13 +159,21 @@ fn finish(stock: &mut Stock) {
     }
 }
 
-/// The volume with a file that fills the data partition but for its reserve, or none where a write isn't as wanted.
-fn filled(alloc: Global) -> Result<Option<Stock>, NoMemory> {
+/// The volume with an empty file, or none where that isn't made.
+fn with_file(alloc: Global) -> Result<Option<Stock>, NoMemory> {
     let mut stock = bare_stock(alloc)?;
     let create = Call::Create { path: path(alloc)? };
     if stock.apply(&create, AT) != Ok(None) {
         return Ok(None);
     }
+    Ok(Some(stock))
+}
+
+/// The volume with a file that fills the data partition but for its reserve, or none where a write isn't as wanted.
+fn filled(alloc: Global) -> Result<Option<Stock>, NoMemory> {
+    let Some(mut stock) = with_file(alloc)? else {
+        return Ok(None);
+    };
     let rows = [
         (0, 65536, 7, 16),
         (65536, 65536, 23, 16),
@@ -314,64 +322,72 @@ fn letter(part: Part) -> u8 {
     }
 }
 
-/// Whether just these ops stand. They are done then.
-fn are_next(stock: &mut Stock, wanted: &[(u8, u8, u64)]) -> bool {
-    for row in wanted {
+/// Whether the next ops are those of an index of one block, from this position of a partition on. They are done then.
+fn is_index_next(stock: &mut Stock, part: u8, pos: u64) -> bool {
+    for (kind, count) in [(b'm', 0), (b'p', 1), (b'm', 2), (b'f', 3)] {
         if stock.waiting() == 0 {
             return false;
         }
-        if next_op(stock) != *row {
+        if next_op(stock) != (kind, part, pos.saturating_add(count)) {
             return false;
         }
         stock.done_op();
     }
-    stock.waiting() == 0
+    true
 }
 
-/// Whether a close of the volume admits just these ops.
-fn closes(stock: &mut Stock, wanted: &[(u8, u8, u64)]) -> Result<bool, NoMemory> {
+/// Whether a close admits an index of one block on these partitions, and no more.
+fn closes(stock: &mut Stock, on_dp: bool, on_ip: bool) -> Result<bool, NoMemory> {
     let texts = stock.closing_texts(AT)?;
     let dp = stock.admit_dp(&texts.dp);
     let ip = stock.admit_ip(&texts.ip);
-    Ok(dp == Ok(()) && ip == Ok(()) && are_next(stock, wanted))
+    if dp != Ok(()) || ip != Ok(()) {
+        return Ok(false);
+    }
+    if on_dp && !is_index_next(stock, b'b', 7) {
+        return Ok(false);
+    }
+    if on_ip && !is_index_next(stock, b'a', 4) {
+        return Ok(false);
+    }
+    Ok(stock.waiting() == 0)
 }
 
-const ON_IP: [(u8, u8, u64); 4] = [
-    (b'm', b'a', 4),
-    (b'p', b'a', 5),
-    (b'm', b'a', 6),
-    (b'f', b'a', 7),
-];
+/// Whether it does so where these partitions were done when the volume was mounted.
+fn closes_found(
+    alloc: Global,
+    dp_done: bool,
+    ip_done: bool,
+    on_dp: bool,
+    on_ip: bool,
+) -> Result<bool, NoMemory> {
+    let mut stock = stock_of(alloc, dp_done, ip_done)?;
+    closes(&mut stock, on_dp, on_ip)
+}
 
-const ON_BOTH: [(u8, u8, u64); 8] = [
-    (b'm', b'b', 7),
-    (b'p', b'b', 8),
-    (b'm', b'b', 9),
-    (b'f', b'b', 10),
-    (b'm', b'a', 4),
-    (b'p', b'a', 5),
-    (b'm', b'a', 6),
-    (b'f', b'a', 7),
-];
+/// Whether both indexes are admitted where a file was made, and none at the next close.
+fn closes_once(stock: &mut Stock) -> Result<bool, NoMemory> {
+    let first = closes(stock, true, true)?;
+    let told = (stock.generation(), stock.last_dp());
+    let again = closes(stock, false, false)?;
+    Ok(first && told == (2, Some(8)) && again)
+}
 
 #[test]
-fn closes_what_was_mounted(rt: HostRuntime) -> Result<(), Fail> {
+fn closes_what_is_open(rt: HostRuntime) -> Result<(), Fail> {
     let alloc = rt.alloc();
-    assert!(rt; closes(&mut stock_of(alloc, true, true)?, &[])?);
-    assert!(rt; closes(&mut stock_of(alloc, true, false)?, &ON_IP)?);
-    assert!(rt; closes(&mut stock_of(alloc, false, true)?, &ON_BOTH)?);
-    assert!(rt; closes(&mut stock_of(alloc, false, false)?, &ON_BOTH)?);
+    assert!(rt; closes_found(alloc, true, true, false, false)?);
+    assert!(rt; closes_found(alloc, true, false, false, true)?);
+    assert!(rt; closes_found(alloc, false, true, true, true)?);
+    assert!(rt; closes_found(alloc, false, false, true, true)?);
     Ok(())
 }
 
 #[test]
 fn closes_what_has_changed(rt: HostRuntime) -> Result<(), Fail> {
-    let alloc = rt.alloc();
-    let mut stock = stock_of(alloc, true, true)?;
-    let create = Call::Create { path: path(alloc)? };
-    assert!(rt; stock.apply(&create, AT) == Ok(None));
-    assert!(rt; closes(&mut stock, &ON_BOTH)?);
-    assert!(rt; stock.generation() == 2 && stock.last_dp() == Some(8));
-    assert!(rt; closes(&mut stock, &[])?);
+    let Some(mut stock) = with_file(rt.alloc())? else {
+        return Err("file".into());
+    };
+    assert!(rt; closes_once(&mut stock)?);
     Ok(())
 }
