@@ -98,24 +98,26 @@ module _ (before next : FileTree) (l : Plan) (f : Frame) (call : Call) (at : Mom
 
 -- ---- a call that asks nothing
 
+-- what is held is so on each tape with the same bytes in the blocks of the tree
+pub still_stands : (t : FileTree) (l : Plan) (f : Frame) (early late : Tape) (g : Given) (on : Bool) (st : Standing) → IsStock early g on st (stocked t l f)
+    → AreAlikeIn (TreeStandsIn t) late early → IsStock late g on st (stocked t l f)
+still_stands t l f early late g on st i alike = record {
+  plain = blocks_make_the_tree late early t alike ∙ i.plain;
+  files = i.files;
+  layout = i.layout;
+  frame = i.frame;
+  name = i.name;
+  block_size = i.block_size;
+  below = i.below;
+}
+
 module _ (t : FileTree) (l : Plan) (f : Frame) (call : Call) (at : Moment) (early : Tape) (g : Given) (on : Bool) (st : Standing)
     (i : IsStock early g on st (stocked t l f)) (asked : ask_of g st call at ≡ nothing) where
-  still_stands : (late : Tape) → AreAlikeIn (TreeStandsIn t) late early → IsStock late g on st (stocked t l f)
-  still_stands late alike = record {
-    plain = blocks_make_the_tree late early t alike ∙ i.plain;
-    files = i.files;
-    layout = i.layout;
-    frame = i.frame;
-    name = i.name;
-    block_size = i.block_size;
-    below = i.below;
-  }
-
   pub still_done : IsDone early g on st call at (stocked t l f) (stocked t l f)
   still_done = record {
     fits = ap (is_over (rules g) on st.space) asked;
     ops = sym (append-nil l.ops) ∙ ap (λ ask. l.ops ++ ops_of (rules g) on st.space ask) (sym asked);
-    stands = λ late h. subst (λ (s : Standing). IsStock late g on s (stocked t l f)) (sym (are_still.nothing_asked g on st call at asked)) (still_stands late h.alike);
+    stands = λ late h. subst (λ (s : Standing). IsStock late g on s (stocked t l f)) (sym (are_still.nothing_asked g on st call at asked)) (still_stands t l f early late g on st i h.alike);
   }
 
 pub step_done : (before next : FileTree) (l : Plan) (f : Frame) (call : Call) (at : Moment) (changed : Bool) → IsTreeStep call at changed before next

@@ -29,7 +29,7 @@ use Rattle.volume_sync.specs.declared.frames.Frame.{Frame}
 use Rattle.volume_stock.specs.Applied.{IsChange, IsDone, IsFull, IsUnchanged}
 use Rattle.volume_stock.specs.Stocks.{IsStock, Stocked, stocked, with_index}
 use Rattle.volume_stock.specs.Syncs.{BringsAtMost, IsDocument}
-use Rattle.volume_stock.proofs.Stands.{after_ask, ends_grow, not_over, over, still_done}
+use Rattle.volume_stock.proofs.Stands.{ends_grow, not_over, over, still_done}
 use Rattle.volume_stock.proofs.Texts.{text_is}
 
 -- ---- a sync
@@ -50,51 +50,74 @@ module _ (t : FileTree) (l : Plan) (f : Frame) (at : Moment) (text : List ℕ) (
       ∙ ap (λ p. index_admission p (f.generation + 1) (sync_text g st at)) i.layout
       ∙ ap (λ (f : Frame). index_admission (plan_of (rules g) on st.space l.ops) (f.generation + 1) (sync_text g st at)) i.frame
 
-  module _ (changed : st.space.changed ≡ true) where
-    asked_index : ask_of g st asks.Sync at ≡ index (sync_text g st at)
-    asked_index = ap (λ b. cond b (index (sync_text g st at)) nothing) changed
+  -- where this is asked
+  module _ (ask : Ask) (asked : ask ≡ index (sync_text g st at)) where
+    pub asks_more : admission.limit < admission.need → is_over (rules g) on st.space ask ≡ true
+    asks_more more = ap (is_over (rules g) on st.space) asked ∙ over _ _ (subst (λ (a : Admission). a.limit < a.need) index_admitted more)
 
-    pub sync_full : (need limit : ℕ) → admission.limit < admission.need → need ≡ admission.need → limit ≡ admission.limit → IsFull g on st asks.Sync at need limit
-    sync_full need limit more need_is limit_is = record {
-      over = ap (is_over (rules g) on st.space) asked_index ∙ over _ _ (subst (λ (a : Admission). a.limit < a.need) index_admitted more);
-      need_is = need_is ∙ ap (λ (a : Admission). a.need) index_admitted ∙ ap (need_of (rules g) on st.space) (sym asked_index);
-      limit_is = limit_is ∙ ap (λ (a : Admission). a.limit) index_admitted ∙ ap (limit_of (rules g) on st.space) (sym asked_index);
-    }
+    pub asks_no_more : admission.need ≤ admission.limit → is_over (rules g) on st.space ask ≡ false
+    asks_no_more fits = ap (is_over (rules g) on st.space) asked ∙ not_over _ _ (subst (λ (a : Admission). a.need ≤ a.limit) index_admitted fits)
 
-    module _ (now : Plan) (place : Place) (fits : admission.need ≤ admission.limit) (place_is : place ≡ admission.place) (now_is : now ≡ admission.after) where
+    pub need_asked : admission.need ≡ need_of (rules g) on st.space ask
+    need_asked = ap (λ (a : Admission). a.need) index_admitted ∙ ap (need_of (rules g) on st.space) (sym asked)
+
+    pub limit_asked : admission.limit ≡ limit_of (rules g) on st.space ask
+    limit_asked = ap (λ (a : Admission). a.limit) index_admitted ∙ ap (limit_of (rules g) on st.space) (sym asked)
+
+    module _ (now : Plan) (now_is : now ≡ admission.after) where
       plan_is : now ≡ plan_of (rules g) on (space.after (rules g) on st.space (index (sync_text g st at))) (l.ops ++ ops_of (rules g) on st.space (index (sync_text g st at)))
       plan_is = now_is ∙ ap (λ (a : Admission). a.after) index_admitted
 
       ops_are : now.ops ≡ l.ops ++ ops_of (rules g) on st.space (index (sync_text g st at))
       ops_are = ap (λ (p : Plan). p.ops) plan_is
 
-      first_block : place.pos ≡ st.space.ends.dp + 1
-      first_block = ap (λ (p : Place). p.pos) (place_is ∙ ap (λ (a : Admission). a.place) index_admitted)
+      pub ops_asked : now.ops ≡ l.ops ++ ops_of (rules g) on st.space ask
+      ops_asked = ops_are ∙ ap (λ ask. l.ops ++ ops_of (rules g) on st.space ask) (sym asked)
 
-      sync_stands : (late : Tape) → AreAlikeIn (TreeStandsIn t) late early
-          → IsStock late g on (after_ask g on st asks.Sync at (index (sync_text g st at))) (stocked t now (with_index (with_sync f place)))
-      sync_stands late alike = record {
-        plain = blocks_make_the_tree late early t alike ∙ i.plain;
-        files = i.files;
-        layout = plan_is ∙ ap (plan_of (rules g) on (space.after (rules g) on st.space (index (sync_text g st at)))) (sym ops_are);
-        frame = ap (λ pos. with_index (with_sync f (record { part = Dp; pos = pos }))) first_block
-            ∙ ap (λ (f : Frame). with_index (with_sync f (record { part = Dp; pos = st.space.ends.dp + 1 }))) i.frame;
-        name = i.name;
-        block_size = i.block_size;
-        below = λ part pos h. further (end_of part st.space.ends) _ pos
-            (ends_grow Dp (index_need (rules g) Dp st.space (sync_text g st at)) st.space.ends part (omega arith)) (i.below part pos h);
-      }
-        where
-          further : (a b pos : ℕ) → a ≤ b → pos < a → pos < b
-          further a b pos h lt = omega (arith, h, lt)
+      module _ (place : Place) (place_is : place ≡ admission.place) where
+        first_block : place.pos ≡ st.space.ends.dp + 1
+        first_block = ap (λ (p : Place). p.pos) (place_is ∙ ap (λ (a : Admission). a.place) index_admitted)
 
-      pub sync_done : IsDone early g on st asks.Sync at (stocked t l f) (stocked t now (with_index (with_sync f place)))
-      sync_done = record {
-        fits = ap (is_over (rules g) on st.space) asked_index ∙ not_over _ _ (subst (λ (a : Admission). a.need ≤ a.limit) index_admitted fits);
-        ops = ops_are ∙ ap (λ ask. l.ops ++ ops_of (rules g) on st.space ask) (sym asked_index);
-        stands = λ late h. subst (λ (s : Standing). IsStock late g on s (stocked t now (with_index (with_sync f place))))
-            (ap (after_ask g on st asks.Sync at) (sym asked_index)) (sync_stands late h.alike);
-      }
+        index_stands : (late : Tape) → AreAlikeIn (TreeStandsIn t) late early
+            → IsStock late g on (record st { space = space.after (rules g) on st.space (index (sync_text g st at)) }) (stocked t now (with_index (with_sync f place)))
+        index_stands late alike = record {
+          plain = blocks_make_the_tree late early t alike ∙ i.plain;
+          files = i.files;
+          layout = plan_is ∙ ap (plan_of (rules g) on (space.after (rules g) on st.space (index (sync_text g st at)))) (sym ops_are);
+          frame = ap (λ pos. with_index (with_sync f (record { part = Dp; pos = pos }))) first_block
+              ∙ ap (λ (f : Frame). with_index (with_sync f (record { part = Dp; pos = st.space.ends.dp + 1 }))) i.frame;
+          name = i.name;
+          block_size = i.block_size;
+          below = λ part pos h. further (end_of part st.space.ends) _ pos
+              (ends_grow Dp (index_need (rules g) Dp st.space (sync_text g st at)) st.space.ends part (omega arith)) (i.below part pos h);
+        }
+          where
+            further : (a b pos : ℕ) → a ≤ b → pos < a → pos < b
+            further a b pos h lt = omega (arith, h, lt)
+
+        pub asked_stands : (late : Tape) → AreAlikeIn (TreeStandsIn t) late early
+            → IsStock late g on (record st { space = space.after (rules g) on st.space ask }) (stocked t now (with_index (with_sync f place)))
+        asked_stands late alike = subst (λ ask. IsStock late g on (record st { space = space.after (rules g) on st.space ask }) (stocked t now (with_index (with_sync f place))))
+            (sym asked) (index_stands late alike)
+
+  module _ (changed : st.space.changed ≡ true) where
+    asked_index : ask_of g st asks.Sync at ≡ index (sync_text g st at)
+    asked_index = ap (λ b. cond b (index (sync_text g st at)) nothing) changed
+
+    pub sync_full : (need limit : ℕ) → admission.limit < admission.need → need ≡ admission.need → limit ≡ admission.limit → IsFull g on st asks.Sync at need limit
+    sync_full need limit more need_is limit_is = record {
+      over = asks_more (ask_of g st asks.Sync at) asked_index more;
+      need_is = need_is ∙ need_asked (ask_of g st asks.Sync at) asked_index;
+      limit_is = limit_is ∙ limit_asked (ask_of g st asks.Sync at) asked_index;
+    }
+
+    pub sync_done : (now : Plan) (place : Place) → admission.need ≤ admission.limit → place ≡ admission.place → now ≡ admission.after
+        → IsDone early g on st asks.Sync at (stocked t l f) (stocked t now (with_index (with_sync f place)))
+    sync_done now place fits place_is now_is = record {
+      fits = asks_no_more (ask_of g st asks.Sync at) asked_index fits;
+      ops = ops_asked (ask_of g st asks.Sync at) asked_index now now_is;
+      stands = λ late h. asked_stands (ask_of g st asks.Sync at) asked_index now now_is place place_is late h.alike;
+    }
 
 -- ---- results
 

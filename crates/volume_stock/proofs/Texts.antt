@@ -1,8 +1,9 @@
--- The text of the index that a sync writes.
-use Rattle.std.proofs.Common.{◌≡◌, ℕ, suc, ◌+◌, Bool, List, [], ◌∷◌, length, map, Some, slice_get, sym, ap, ◌∙◌, refl}
+-- The texts of the indexes that a sync and a close write.
+use Rattle.std.proofs.Common.{◌≡◌, ℕ, suc, ◌+◌, Bool, List, [], ◌∷◌, length, map, Some, Option, slice_get, sym, ap, ◌∙◌, refl}
 use Rattle.std.specs.FinMap as fin
 use Rattle.tape_types.specs.declared.moments.Moment.{Moment}
-use Rattle.tape_types.specs.declared.cartridges.Part.TheVariants.{Dp}
+use Rattle.tape_types.specs.declared.cartridges.Part.{Part}
+use Rattle.tape_types.specs.declared.cartridges.Part.TheVariants.{Ip, Dp}
 use Rattle.index_model.specs.declared.indexes.Index.{Index}
 use Rattle.index_model.specs.declared.nodes.Kind.TheVariants as told_kinds
 use Rattle.plain_tree.specs.Paths.{Path, last_name, parent_of}
@@ -10,9 +11,10 @@ use Rattle.plain_tree.specs.Tree as plain
 use Rattle.plain_tree.specs.declared.nodes.Node as plain_node
 use Rattle.extent_map.specs.Cells.{Tape, file_cells}
 use Rattle.extent_map.specs.Laid.{Room}
+use Rattle.file_tree.specs.Carried.{index_of_tree}
 use Rattle.file_tree.specs.Mounts.{Letters}
 use Rattle.file_tree.specs.Told as file_told
-use Rattle.file_tree.specs.Told.{name_or, place_of, raw_of}
+use Rattle.file_tree.specs.Told.{letter_of, name_or, place_of, raw_of}
 use Rattle.file_tree.specs.Tree.{FileTree, plain_node_of, plain_of}
 use Rattle.file_tree.specs.declared.nodes.Kind.{Kind}
 use Rattle.file_tree.specs.declared.nodes.Kind.TheVariants as kinds
@@ -23,9 +25,10 @@ use Rattle.file_tree.proofs.WriteLemmas.{long_as}
 use Rattle.volume_space.specs.Files as space
 use Rattle.volume_space.specs.Files.{Files, canon, index_at, letters, root_name, told_node}
 use Rattle.volume_space.specs.Standing.{Given, Standing, sync_text}
-use Rattle.volume_sync.specs.Frames.{sync_index}
+use Rattle.tape_layout.specs.Plans.{Plan}
+use Rattle.volume_sync.specs.Frames.{close_index, heading_of, letters_of, sync_index}
 use Rattle.volume_sync.specs.declared.frames.Frame.{Frame}
-use Rattle.volume_stock.specs.Stocks.{IsStock, LieAs, Stocked, frame_of}
+use Rattle.volume_stock.specs.Stocks.{IsStock, LieAs, Stocked}
 
 -- two maps over lists of one length, element by element
 map_both : {X Y Z : Type 0} (f : X → Z) (g : Y → Z) (h : X → Y) (xs : List X) → ((i : ℕ) (x : X) → slice_get xs i ≡ Some x → f x ≡ g (h x)) → map f xs ≡ map g (map h xs)
@@ -66,24 +69,31 @@ module _ (tape : Tape) (both : Letters) (name : List ℕ) (files : Files) (t : F
       ∙ ap (map (told_node both name files (fin.keys t.nodes))) (sym (plain_entries tape t.nodes))
       ∙ ap (λ keys. map (told_node both name files keys) (fin.entries (plain_of tape t).nodes)) (sym keys_are)
 
--- the index of a sync is that of what stands
+-- the index of what is held is that of what stands
 module _ (tape : Tape) (g : Given) (on : Bool) (st : Standing) (s : Stocked) (i : IsStock tape g on st s) (at : Moment) where
-  abbrev index_now : Index
-  index_now = index_at g.mounted st.tree st.files (st.space.newest + 1) at Dp (st.space.ends.dp + 1) st.space.last_dp
-
-  by_frame : sync_index s.frame s.tree s.layout.ends.dp at ≡ sync_index (frame_of g.mounted st.space s.frame.noted) s.tree st.space.ends.dp at
-  by_frame = ap (λ (f : Frame). sync_index f s.tree s.layout.ends.dp at) i.frame
-      ∙ ap (λ (p : Rattle.tape_layout.specs.Plans.Plan). sync_index (frame_of g.mounted st.space s.frame.noted) s.tree p.ends.dp at) i.layout
+  abbrev index_now : ℕ → Part → ℕ → Option ℕ → Index
+  index_now generation part pos back = index_at g.mounted st.tree st.files generation at part pos back
 
   pub nodes_are : file_told.told_nodes (letters g.mounted) s.tree ≡ space.told_nodes g.mounted st.tree st.files
   nodes_are = ap (λ name. file_told.told_in (letters g.mounted) name s.tree.nodes) i.name
       ∙ told_alike tape (letters g.mounted) (root_name g.mounted) st.files s.tree i.files
       ∙ ap (λ (t : plain.Tree). space.told_nodes g.mounted t st.files) i.plain
 
-  pub index_is : sync_index s.frame s.tree s.layout.ends.dp at ≡ index_now
-  index_is = by_frame
-      ∙ ap (λ nodes. record (index_at g.mounted (plain_of tape s.tree) st.files (st.space.newest + 1) at Dp (st.space.ends.dp + 1) st.space.last_dp) { nodes = nodes }) nodes_are
-      ∙ ap (λ (t : plain.Tree). record index_now { highest = t.highest }) i.plain
+  index_told : (generation : ℕ) (part : Part) (end : ℕ) (back : Option ℕ)
+      → index_of_tree (letters_of s.frame) (heading_of s.frame generation (letter_of (letters_of s.frame) part) end back at) s.frame.carried s.tree
+      ≡ index_now generation part (end + 1) back
+  index_told generation part end back =
+      ap (λ (f : Frame). index_of_tree (letters_of f) (heading_of f generation (letter_of (letters_of f) part) end back at) f.carried s.tree) i.frame
+      ∙ ap (λ nodes. record (index_at g.mounted (plain_of tape s.tree) st.files generation at part (end + 1) back) { nodes = nodes }) nodes_are
+      ∙ ap (λ (t : plain.Tree). record (index_now generation part (end + 1) back) { highest = t.highest }) i.plain
 
   pub text_is : canon (sync_index s.frame s.tree s.layout.ends.dp at) ≡ sync_text g st at
-  text_is = ap canon index_is
+  text_is = ap canon (index_told (s.frame.generation + 1) Dp s.layout.ends.dp s.frame.last_dp
+      ∙ ap (λ (f : Frame). index_now (f.generation + 1) Dp (s.layout.ends.dp + 1) f.last_dp) i.frame
+      ∙ ap (λ (p : Plan). index_now (st.space.newest + 1) Dp (p.ends.dp + 1) st.space.last_dp) i.layout)
+
+  -- that of a close, for an index of the data partition
+  pub close_text_is : (generation : ℕ) (back : Option ℕ)
+      → canon (close_index s.frame s.tree generation back s.layout.ends.ip at) ≡ canon (index_now generation Ip (st.space.ends.ip + 1) back)
+  close_text_is generation back = ap canon (index_told generation Ip s.layout.ends.ip back
+      ∙ ap (λ (p : Plan). index_now generation Ip (p.ends.ip + 1) back) i.layout)

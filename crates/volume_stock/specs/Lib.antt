@@ -6,3 +6,4 @@ pub mod Bare
 pub mod Synced
 pub mod Reads
 pub mod Syncs
+pub mod Closed

@@ -2,6 +2,7 @@
 #![tactic(auto)]
 
 mod changes;
+mod closings;
 mod laws;
 mod looks;
 mod stocks;
@@ -10,5 +11,6 @@ mod syncs;
 mod tests;
 mod writes;
 
+pub use closings::ClosingTexts;
 pub use laws::{mounts_are_stock, mounts_can_start, syncs_can_tell, syncs_tell_the_tree};
 pub use stocks::Stock;

@@ -15,16 +15,19 @@ ghost use Rattle.file_tree.specs.Valid.{IsGood};
 ghost use Rattle.tape_layout.specs.Ops.{HasRoom, held_in};
 ghost use Rattle.tape_layout.specs.Plans.{AreStanding, Plan};
 ghost use Rattle.volume_stock.specs.Applied.{IsApplied, IsChange, IsRefusedAs, IsUnchanged, LeavesAll, StoresNothing};
+ghost use Rattle.volume_stock.specs.Closed.{IsDpChange, IsDpDocument, IsIpDocument, IsIpEnd, closed_dp};
 ghost use Rattle.volume_stock.specs.Reads.{IsPlanOfAtMost, IsReadPlan};
 ghost use Rattle.volume_stock.specs.Stocks.{IsStock, stocked, with_change};
 ghost use Rattle.volume_stock.specs.Syncs.{BringsAtMost, IsDocument};
 
 use crate::changes::change_tree;
+use crate::closings::{ClosingTexts, admit_on_ip, closing_texts};
 use crate::looks::{list, plan, stat};
 use crate::syncs::{admit_due, due_document, most_ops, sync};
 use crate::writes::write;
 use extent_map::Piece;
 use file_tree::{Carried, Tree};
+use ltfs_label::Label;
 use plain_tree::{Answer, Call, Refusal};
 use std::alloc::Global;
 use std::marker::Model;
@@ -161,6 +164,70 @@ impl Stock {
         ensures leaves { OnErr result (IsUnchanged self.old self.new) }
     {
         admit_due(&mut self.layout, &mut self.frame, due)
+    }
+
+    /// The texts of the indexes that a close at a moment admits. That on the index partition tells of the one on the data
+    /// partition as if it were admitted.
+    pub fn closing_texts(&self, at: Moment) -> Result<ClosingTexts, NoMemory>
+        ensures texts { IfOk result (λ c. (tape : Tape) (g : Given) (on : Bool) (st : Standing)
+            → IsStock tape g on st self.now
+            → IsDpDocument g st at (option_map (λ doc. doc.items) c.dp)
+            × IsIpDocument g (closed_dp g on st at) at (option_map (λ doc. doc.items) c.ip)) }
+        ensures some_dp { IfOk result (λ c. IfSome c.dp (λ doc. 1 ≤ length doc.items)) }
+        ensures some_ip { IfOk result (λ c. IfSome c.ip (λ doc. 1 ≤ length doc.items)) }
+    {
+        closing_texts(self.alloc, &self.tree, &self.layout, &self.frame, at)
+    }
+
+    /// Admits the text that a close has on the data partition.
+    pub fn admit_dp(&mut self, due: &Option<Vec<u8>>) -> Result<(), AdmitErr>
+        requires { IfSome due.now (λ doc. 1 ≤ length doc.items) }
+        ensures applied { (early : Tape) (g : Given) (on : Bool) (st : Standing) (at : Moment)
+            → IsStock early g on st self.old → IsDpDocument g st at (option_map (λ doc. doc.items) due.now)
+            → IsDpChange early g on st at self.old self.new result }
+        ensures leaves { OnErr result (IsUnchanged self.old self.new) }
+    {
+        admit_due(&mut self.layout, &mut self.frame, due)
+    }
+
+    /// Admits the text that a close has on the index partition, behind what it has admitted on the data partition.
+    pub fn admit_ip(&mut self, due: &Option<Vec<u8>>) -> Result<(), AdmitErr>
+        requires { IfSome due.now (λ doc. 1 ≤ length doc.items) }
+        ensures applied { (early : Tape) (g : Given) (on : Bool) (st : Standing) (at : Moment)
+            → IsStock early g on st self.old → IsIpDocument g st at (option_map (λ doc. doc.items) due.now)
+            → IsIpEnd (option_map (λ doc. doc.items) due.now) g st at self.old self.new result }
+        ensures leaves { OnErr result (IsUnchanged self.old self.new) }
+    {
+        admit_on_ip(&mut self.layout, &mut self.frame, due)
+    }
+
+    /// The label of the volume.
+    pub fn label(&self) -> &Label
+        ensures { result.now ≡ self.now.frame.label }
+    {
+        &self.frame.label
+    }
+
+    /// The newest generation, up to 2^62.
+    pub fn generation(&self) -> u64
+        ensures generation { result ≡ self.now.frame.generation }
+        ensures most { result ≤ 2 ^ 62 }
+    {
+        self.frame.generation
+    }
+
+    /// The first block of the last index that was admitted on the data partition.
+    pub fn last_dp(&self) -> Option<u64>
+        ensures { result ≡ self.now.frame.last_dp }
+    {
+        self.frame.last_dp
+    }
+
+    /// Whether both coherency attributes were those of the last indexes when the volume was mounted.
+    pub fn noted(&self) -> bool
+        ensures { result ≡ self.now.frame.noted }
+    {
+        self.frame.noted
     }
 
     /// How many ops a write of these bytes, or a sync whose index has this text, brings at most.

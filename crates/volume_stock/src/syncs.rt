@@ -7,6 +7,7 @@ ghost use Rattle.extent_map.specs.Cells.{Tape};
 ghost use Rattle.file_tree.specs.Tree.{FileTree};
 ghost use Rattle.volume_space.specs.Standing.{Given, Standing};
 ghost use Rattle.volume_stock.specs.Applied.{IsChange, IsUnchanged};
+ghost use Rattle.volume_stock.specs.Closed.{IsDpChange, IsDpDocument};
 ghost use Rattle.volume_stock.specs.Stocks.{IsStock, stocked};
 ghost use Rattle.volume_stock.specs.Syncs.{IsDocument};
 
@@ -41,7 +42,7 @@ pub fn due_document(
     }
 }
 
-/// Admits the text of an index, where there is one.
+/// Admits the text of an index on the data partition, where there is one: that of a sync, or that of a close.
 pub fn admit_due(
     layout: &mut Layout,
     frame: &mut Frame,
@@ -54,6 +55,10 @@ pub fn admit_due(
         → IsDocument g st at (option_map (λ doc. doc.items) due.now)
         → IsChange early g on st Call.Sync at (stocked tree layout.old frame.old)
         (stocked tree layout.new frame.new) result }
+    ensures closes { (tree : FileTree) (early : Tape) (g : Given) (on : Bool) (st : Standing) (at : Moment)
+        → IsStock early g on st (stocked tree layout.old frame.old)
+        → IsDpDocument g st at (option_map (λ doc. doc.items) due.now)
+        → IsDpChange early g on st at (stocked tree layout.old frame.old) (stocked tree layout.new frame.new) result }
     ensures err { OnErr result ((tree : FileTree)
         → IsUnchanged (stocked tree layout.old frame.old) (stocked tree layout.new frame.new)) }
     ensures generation { frame.new.generation ≤ 2 ^ 62 }

@@ -52,8 +52,8 @@ fn bare_index(alloc: Global) -> Result<Index, NoMemory>
     })
 }
 
-/// What is found of an empty volume, of which the partitions end at 4 and 7.
-fn bare_mount(alloc: Global) -> Result<Mounted, NoMemory>
+/// What is found of an empty volume, of which the partitions end at 4 and 7, and these partitions are done.
+fn bare_mount(alloc: Global, dp_done: bool, ip_done: bool) -> Result<Mounted, NoMemory>
     ensures { IfOk result (CanStart (record { cap_ip = 64; cap_dp = 64 })) }
 {
     let index = bare_index(alloc)?;
@@ -79,18 +79,22 @@ fn bare_mount(alloc: Global) -> Result<Mounted, NoMemory>
         end_dp: 7,
         last_dp: Some(5),
         ip_on: true,
-        dp_done: true,
-        ip_done: false,
+        dp_done,
+        ip_done,
         noted: false,
     })
 }
 
 fn bare_stock(alloc: Global) -> Result<Stock, NoMemory> {
+    stock_of(alloc, true, false)
+}
+
+fn stock_of(alloc: Global, dp_done: bool, ip_done: bool) -> Result<Stock, NoMemory> {
     let limits = Limits {
         cap_ip: 64,
         cap_dp: 64,
     };
-    Stock::start(alloc, bare_mount(alloc)?, limits)
+    Stock::start(alloc, bare_mount(alloc, dp_done, ip_done)?, limits)
 }
 
 fn path(alloc: Global) -> Result<List<Text>, NoMemory> {
@@ -155,13 +159,21 @@ fn finish(stock: &mut Stock) {
     }
 }
 
-/// The volume with a file that fills the data partition but for its reserve, or none where a write isn't as wanted.
-fn filled(alloc: Global) -> Result<Option<Stock>, NoMemory> {
+/// The volume with an empty file, or none where that isn't made.
+fn with_file(alloc: Global) -> Result<Option<Stock>, NoMemory> {
     let mut stock = bare_stock(alloc)?;
     let create = Call::Create { path: path(alloc)? };
     if stock.apply(&create, AT) != Ok(None) {
         return Ok(None);
     }
+    Ok(Some(stock))
+}
+
+/// The volume with a file that fills the data partition but for its reserve, or none where a write isn't as wanted.
+fn filled(alloc: Global) -> Result<Option<Stock>, NoMemory> {
+    let Some(mut stock) = with_file(alloc)? else {
+        return Ok(None);
+    };
     let rows = [
         (0, 65536, 7, 16),
         (65536, 65536, 23, 16),
@@ -290,5 +302,92 @@ fn tells_what_a_sync_admits(rt: HostRuntime) -> Result<(), Fail> {
     assert!(rt; due.is_none());
     assert!(rt; stock.sync(&due) == Ok(()));
     assert!(rt; stock.waiting() == 0);
+    Ok(())
+}
+
+/// The next op by the letter of its kind, that of its partition, and its position; or zeros where there is none.
+fn next_op(stock: &Stock) -> (u8, u8, u64) {
+    match stock.next_op() {
+        Some(Op::Put { place, .. }) => (b'p', letter(place.part), place.pos),
+        Some(Op::Mark { place }) => (b'm', letter(place.part), place.pos),
+        Some(Op::Flush { place }) => (b'f', letter(place.part), place.pos),
+        None => (0, 0, 0),
+    }
+}
+
+fn letter(part: Part) -> u8 {
+    match part {
+        Part::Ip => b'a',
+        Part::Dp => b'b',
+    }
+}
+
+/// Whether the next ops are those of an index of one block, from this position of a partition on. They are done then.
+fn is_index_next(stock: &mut Stock, part: u8, pos: u64) -> bool {
+    for (kind, count) in [(b'm', 0), (b'p', 1), (b'm', 2), (b'f', 3)] {
+        if stock.waiting() == 0 {
+            return false;
+        }
+        if next_op(stock) != (kind, part, pos.saturating_add(count)) {
+            return false;
+        }
+        stock.done_op();
+    }
+    true
+}
+
+/// Whether a close admits an index of one block on these partitions, and no more.
+fn closes(stock: &mut Stock, on_dp: bool, on_ip: bool) -> Result<bool, NoMemory> {
+    let texts = stock.closing_texts(AT)?;
+    let dp = stock.admit_dp(&texts.dp);
+    let ip = stock.admit_ip(&texts.ip);
+    if dp != Ok(()) || ip != Ok(()) {
+        return Ok(false);
+    }
+    if on_dp && !is_index_next(stock, b'b', 7) {
+        return Ok(false);
+    }
+    if on_ip && !is_index_next(stock, b'a', 4) {
+        return Ok(false);
+    }
+    Ok(stock.waiting() == 0)
+}
+
+/// Whether it does so where these partitions were done when the volume was mounted.
+fn closes_found(
+    alloc: Global,
+    dp_done: bool,
+    ip_done: bool,
+    on_dp: bool,
+    on_ip: bool,
+) -> Result<bool, NoMemory> {
+    let mut stock = stock_of(alloc, dp_done, ip_done)?;
+    closes(&mut stock, on_dp, on_ip)
+}
+
+/// Whether both indexes are admitted where a file was made, and none at the next close.
+fn closes_once(stock: &mut Stock) -> Result<bool, NoMemory> {
+    let first = closes(stock, true, true)?;
+    let told = (stock.generation(), stock.last_dp());
+    let again = closes(stock, false, false)?;
+    Ok(first && told == (2, Some(8)) && again)
+}
+
+#[test]
+fn closes_what_is_open(rt: HostRuntime) -> Result<(), Fail> {
+    let alloc = rt.alloc();
+    assert!(rt; closes_found(alloc, true, true, false, false)?);
+    assert!(rt; closes_found(alloc, true, false, false, true)?);
+    assert!(rt; closes_found(alloc, false, true, true, true)?);
+    assert!(rt; closes_found(alloc, false, false, true, true)?);
+    Ok(())
+}
+
+#[test]
+fn closes_what_has_changed(rt: HostRuntime) -> Result<(), Fail> {
+    let Some(mut stock) = with_file(rt.alloc())? else {
+        return Err("file".into());
+    };
+    assert!(rt; closes_once(&mut stock)?);
     Ok(())
 }

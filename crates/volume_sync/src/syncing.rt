@@ -2,47 +2,14 @@
 
 ghost use Rattle.std.specs.Prelude.{◌≡◌, ◌≤◌, ◌^◌, IfOk, length};
 ghost use Rattle.volume_space.specs.Files.{canon};
-ghost use Rattle.volume_sync.specs.Frames.{IsSync, letters_of, sync_heading, sync_index};
+ghost use Rattle.volume_sync.specs.Frames.{IsSync, sync_index};
 
+use crate::documents::{heading, index_document};
 use crate::frames::Frame;
-use file_tree::{Heading, Letters, Tree};
-use index_model::Spot;
-use index_write::index_text;
+use file_tree::Tree;
 use std::alloc::Global;
 use tape_layout::{AdmitErr, Layout};
-use tape_types::{Moment, NoMemory, Place, Text};
-
-impl Frame {
-    /// The letters of the index partition and the data partition.
-    pub fn letters(&self) -> Letters
-        ensures { result ≡ letters_of self.now }
-    {
-        (self.label.index, self.label.dpart)
-    }
-}
-
-/// How the index is headed that begins behind the mark at this end of the data partition.
-fn heading(alloc: Global, frame: &Frame, end: u64, at: Moment) -> Result<Heading, NoMemory>
-    requires generation { frame.now.generation ≤ 2 ^ 62 }
-    requires end { end ≤ 2 ^ 40 }
-    ensures { IfOk result (λ heading. heading ≡ sync_heading frame.now end at) }
-{
-    let creator = Text::from_string(String::from_str(alloc, "ltfs_server 1.0.0")?);
-    Ok(Heading {
-        creator,
-        uuid: frame.label.uuid,
-        generation: frame.generation + 1,
-        updated: at,
-        here: Spot {
-            letter: frame.label.dpart,
-            block: end + 1,
-        },
-        back: frame.last_dp.map(|block| Spot {
-            letter: frame.label.dpart,
-            block,
-        }),
-    })
-}
+use tape_types::{Moment, NoMemory, Place};
 
 /// The document of the index that a sync at a moment writes behind the mark at this end of the data partition.
 pub fn document(
@@ -57,12 +24,16 @@ pub fn document(
     ensures text { IfOk result (λ doc. doc.items ≡ canon (sync_index frame.now tree.now end at)) }
     ensures some { IfOk result (λ doc. 1 ≤ length doc.items) }
 {
-    let _count = tree.count();
-    let heading = heading(alloc, frame, end, at)?;
-    let index = tree.to_index(alloc, frame.letters(), heading, &frame.carried)?;
-    let mut doc = Vec::new(alloc);
-    index_text(&index, &mut doc)?;
-    Ok(doc)
+    let heading = heading(
+        alloc,
+        frame,
+        frame.generation + 1,
+        frame.label.dpart,
+        end,
+        frame.last_dp,
+        at,
+    )?;
+    index_document(alloc, tree, frame, heading)
 }
 
 /// Admits the document of the next generation's index on the data partition. What was put on the index partition is
