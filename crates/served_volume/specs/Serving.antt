@@ -18,8 +18,8 @@ next_moment None next = next
 
 -- what no call changes: the tree is that of the index that was mounted, with the bytes of the cartridge that the drive
 -- told at the start
-abbrev pub fixed_of : {D : Type 0} → (D → Option Cartridge) → List ScriptLine → Mounted → D → FileTree → Option Moment → ℕ
-    → Fixed D
+abbrev pub fixed_of : {D : Type 0} → (D → Option Cartridge) → List ScriptLine → Mounted → D → FileTree
+    → Option Moment → ℕ → Fixed D
 fixed_of held script mounted first tree moment since = record {
   script = script;
   tree = plain_of (first_tape (held first)) tree;
@@ -29,9 +29,10 @@ fixed_of held script mounted first tree moment since = record {
   since = since;
 }
 
--- The volume runs; its clock still gives its one moment, where it has one; and as long as nothing was placed the drive is
--- as it was at the start, and no op stands.
-pub record IsServing {D : Type 0} (drive : Ghosts D) (fixed : Fixed D) (one next : Option Moment) (p : Parts D) : Type 0 where
+-- The volume runs; its clock still gives its one moment, where it has one; and as long as nothing was placed the drive
+-- is as it was at the start, and no op stands.
+pub record IsServing {D : Type 0} (drive : Ghosts D) (fixed : Fixed D) (one next : Option Moment) (p : Parts D)
+    : Type 0 where
   pub runs : IsRunning drive fixed (next_moment one next) p
   pub one_moment : IfSome fixed.moment (λ m. one ≡ Some m)
   pub untouched : p.listed.history ≡ [] → (p.drive ≡ fixed.first) × (p.stock.layout.ops ≡ [])

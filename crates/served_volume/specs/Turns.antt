@@ -48,15 +48,16 @@ pub record Gives (old new : Told) (at : Moment) : Type 0 where
 -- ---- what is made of the parts
 
 -- the clock is asked where the call is placed alone
-abbrev pub SubmitsAt : {D : Type 0} (drive : Ghosts D) (who nth : ℕ) (call : Call) (before after : Told) (old new : Parts D)
-    → Submitted → Type 0
+abbrev pub SubmitsAt : {D : Type 0} (drive : Ghosts D) (who nth : ℕ) (call : Call) (before after : Told)
+    (old new : Parts D) → Submitted → Type 0
 SubmitsAt drive who nth call before after old new submitted.Drain =
     (after ≡ before) × ((at : Moment) → IsSubmitted drive who nth at old new call submitted.Drain)
 SubmitsAt drive who nth call before after old new answer =
     (at : Moment) × Gives before after at × IsSubmitted drive who nth at old new call answer
 
 -- the clock is asked where the write is placed void alone
-abbrev pub DrainsAt : {D : Type 0} (drive : Ghosts D) (who : ℕ) (before after : Told) (old new : Parts D) → Drained → Type 0
+abbrev pub DrainsAt : {D : Type 0} (drive : Ghosts D) (who : ℕ) (before after : Told) (old new : Parts D)
+    → Drained → Type 0
 DrainsAt drive who before after old new (the_drained.Fault counts) =
     (at : Moment) × Gives before after at
     × DrainsTo drive who (length (places_of who old.listed.marks)) at old new (the_drained.Fault counts)

@@ -73,8 +73,8 @@ impl<D: Drive, C: Clock> Model for Volume<D, C> {
 }
 
 impl<D: Drive, C: Clock> Volume<D, C> {
-    /// Begins to serve a volume that was mounted. Of crashes is spoken since a number of the drive's commands, which is the
-    /// caller's choice; the drive had reached it. It makes no command of the drive. The refusal is want of memory.
+    /// Begins to serve a volume that was mounted. Of crashes is spoken since a number of the drive's commands, which is
+    /// the caller's choice; the drive had reached it. It makes no command of the drive. The refusal is want of memory.
     pub fn start(
         alloc: Global,
         mounted: Mounted,
@@ -132,24 +132,27 @@ impl<D: Drive, C: Clock> Volume<D, C> {
         submit(&mut self.parts, &mut self.clock, self.alloc, call, who, nth)
     }
 
-    /// Hands out the reply of a session that waits for a place, or makes a step of the head where the reply isn't there. It
-    /// takes no memory.
+    /// Hands out the reply of a session that waits for a place, or makes a step of the head where the reply isn't there.
+    /// It takes no memory.
     pub fn turn(&mut self, ticket: u64) -> Turn
         requires { (who : ℕ) × (phase who self.old.marks ≡ waits ticket) }
-        ensures served { IsServed cartridges (seen D.Drive self.new.fixed.first) (seen D.Drive self.new.drive) self.new }
+        ensures served { IsServed cartridges (seen D.Drive self.new.fixed.first) (seen D.Drive self.new.drive)
+            self.new }
         ensures turns { (who : ℕ) → phase who self.old.marks ≡ waits ticket
-            → Turns D.MOST (seen D.Drive self.old.drive) (seen D.Drive self.new.drive) self.old self.new who ticket result }
+            → Turns D.MOST (seen D.Drive self.old.drive) (seen D.Drive self.new.drive) self.old self.new who ticket
+            result }
     {
         turn(&mut self.parts, ticket)
     }
 
-    /// Makes a step of the head for a session that drains, unless there is room for its write or a fault is kept for it, with
-    /// which the write is placed void. It takes no memory.
+    /// Makes a step of the head for a session that drains, unless there is room for its write or a fault is kept for it,
+    /// with which the write is placed void. It takes no memory.
     pub fn drain_turn(&mut self, who: u16) -> Drained
         requires { phase who self.old.marks ≡ draining }
-        ensures served { IsServed cartridges (seen D.Drive self.new.fixed.first) (seen D.Drive self.new.drive) self.new }
-        ensures drains { DrainsOnce D.MOST (seen D.Drive self.old.drive) (seen D.Drive self.new.drive) self.old self.new who
-            result }
+        ensures served { IsServed cartridges (seen D.Drive self.new.fixed.first) (seen D.Drive self.new.drive)
+            self.new }
+        ensures drains { DrainsOnce D.MOST (seen D.Drive self.old.drive) (seen D.Drive self.new.drive) self.old self.new
+            who result }
     {
         // Its calls are counted in 32 bits.
         let _calls = self.script.count(who);
@@ -181,8 +184,8 @@ impl<D: Drive, C: Clock> Volume<D, C> {
         Kept { drive, clock }
     }
 
-    /// Leaves a volume in which nothing waits as it stands, with ops that weren't done yet: its drive, and the log of all
-    /// calls. It takes no memory, and makes no command of the drive.
+    /// Leaves a volume in which nothing waits as it stands, with ops that weren't done yet: its drive, and the log of
+    /// all calls. It takes no memory, and makes no command of the drive.
     pub fn leave(self) -> Left<D>
         requires { NothingWaits (greatest_session self.fixed.script) self.marks }
         ensures { Leaves self result.drive result.log }
