@@ -1,6 +1,6 @@
 //! The volume, and its calls.
 
-ghost use Rattle.std.specs.Prelude.{◌≡◌, ◌≤◌, ◌<◌, ℕ, length, IfErr, IfOk, IfSome};
+ghost use Rattle.std.specs.Prelude.{◌≡◌, ◌≤◌, ◌<◌, ℕ, [], length, IfErr, IfOk, IfSome};
 ghost use Rattle.session_script.specs.Grammar.{calls_of};
 ghost use Rattle.session_script.specs.Sessions.{greatest_session};
 ghost use Rattle.tape_meaning.specs.Mounts.{IsMount, Mounts};
