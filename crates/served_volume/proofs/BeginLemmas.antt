@@ -64,7 +64,7 @@ pub are_fresh : {D : Type 0} (drive : Ghosts D) (fixed : Fixed D) (first : D) (m
     (calls sessions : ℕ) (p : Parts D) → BeginsWith drive fixed first m calls sessions p.stock.tree
     → limits ≡ drive.limits first → p.drive ≡ first → AreNew calls sessions p → IsStarted limits m p.stock
     → IsFresh drive fixed p
-are_fresh drive fixed first m limits calls sessions p begins limits_are drive_is new stock = record {
+are_fresh {D = D} drive fixed first m limits calls sessions p begins limits_are drive_is new stock = record {
   drive_is = drive_is ∙ sym begins.first_is;
   events = new.events;
   acks = new.acks;
