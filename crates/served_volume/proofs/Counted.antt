@@ -1,9 +1,9 @@
 -- How many calls were placed.
-use Rattle.std.specs.Prelude.{◌≡◌, ◌==◌, ◌+◌, ◌<◌, ◌≤◌, ℕ, suc, Bool, true, false, cond, List, [], ◌∷◌, filter, length, map}
+use Rattle.std.specs.Prelude.{◌≡◌, ◌==◌, ◌+◌, ◌<◌, ◌≤◌, ℕ, suc, Bool, true, false, cond}
+use Rattle.std.specs.Prelude.{List, [], ◌∷◌, filter, length, map}
 use Rattle.std.proofs.Common.{refl, ap, arith}
 use Rattle.std.proofs.lemmas.Bool.{eq-eqb, eqb-true}
 use Rattle.std.proofs.lemmas.List.{length-map}
-use Rattle.plain_tree.specs.History.{numbers_of}
 use Rattle.plain_tree.specs.declared.calls.Placed.{Placed}
 use Rattle.session_script.specs.Grammar.{calls_of}
 use Rattle.session_script.specs.declared.scripts.ScriptLine.{ScriptLine}

@@ -9,8 +9,8 @@ use Rattle.volume_start.specs.Laws.{first_tape}
 
 -- what no call changes is this, where the volume begins with this drive, mount and tree, for so many calls of so many
 -- sessions
-pub record BeginsWith {D : Type 0} (drive : Ghosts D) (fixed : Fixed D) (first : D) (mounted : Mounted) (calls sessions : ℕ)
-    (tree : FileTree) : Type 0 where
+pub record BeginsWith {D : Type 0} (drive : Ghosts D) (fixed : Fixed D) (first : D) (mounted : Mounted)
+    (calls sessions : ℕ) (tree : FileTree) : Type 0 where
   pub first_is : fixed.first ≡ first
   pub mounted_is : fixed.mounted ≡ mounted
   pub calls_are : length fixed.script ≡ calls

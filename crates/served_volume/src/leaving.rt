@@ -9,7 +9,8 @@ use tape_drive::Drive;
 use volume_core::Parts;
 use volume_model::Left;
 
-/// The drive, and the log of all calls, whose replies are all there. These are moved into a vector that has room for them.
+/// The drive, and the log of all calls, whose replies are all there. These are moved into a vector that has room for
+/// them.
 pub fn take_log<D: Drive>(parts: Parts<D>, told: Vec<Reply>) -> Left<D>
     requires there { All (λ r. is_some r ≡ true) parts.placements.replies }
     requires empty { told.items ≡ [] }

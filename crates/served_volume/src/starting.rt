@@ -18,8 +18,8 @@ use volume_journal::{Placements, Trail};
 use volume_reads::Readings;
 use volume_stock::Stock;
 
-/// The parts of a volume that was mounted, with room for so many calls of so many sessions. A refusal, which is for want of
-/// memory alone, hands the drive back.
+/// The parts of a volume that was mounted, with room for so many calls of so many sessions. A refusal, which is for
+/// want of memory alone, hands the drive back.
 pub fn begin<D: Drive>(
     alloc: Global,
     mounted: Mounted,
@@ -29,8 +29,8 @@ pub fn begin<D: Drive>(
 ) -> Result<Parts<D>, D>
     requires { IsMount (D.limits drive) mounted }
     ensures limits { IfOk result (λ p. IsLimits (D.limits drive)) }
-    ensures fresh { IfOk result (λ p. (fixed : Fixed D) → BeginsWith D.Drive fixed drive mounted calls sessions p.stock.tree
-        → IsFresh D.Drive fixed (seen_parts p)) }
+    ensures fresh { IfOk result (λ p. (fixed : Fixed D)
+        → BeginsWith D.Drive fixed drive mounted calls sessions p.stock.tree → IsFresh D.Drive fixed (seen_parts p)) }
     ensures err { IfErr result (λ d. d ≡ drive) }
 {
     let limits = drive.limits();

@@ -73,8 +73,8 @@ impl<D: Drive, C: Clock> Model for Volume<D, C> {
 }
 
 impl<D: Drive, C: Clock> Volume<D, C> {
-    /// Begins to serve a volume that was mounted. Of crashes is spoken since a number of the drive's commands, which is the
-    /// caller's choice; the drive had reached it. It makes no command of the drive. The refusal is want of memory.
+    /// Begins to serve a volume that was mounted. Of crashes is spoken since a number of the drive's commands, which is
+    /// the caller's choice; the drive had reached it. It makes no command of the drive. The refusal is want of memory.
     pub fn start(
         alloc: Global,
         mounted: Mounted,
@@ -178,8 +178,8 @@ impl<D: Drive, C: Clock> Volume<D, C> {
         Kept { drive, clock }
     }
 
-    /// Leaves a volume in which nothing waits as it stands, with ops that weren't done yet: its drive, and the log of all
-    /// calls. It takes no memory, and makes no command of the drive.
+    /// Leaves a volume in which nothing waits as it stands, with ops that weren't done yet: its drive, and the log of
+    /// all calls. It takes no memory, and makes no command of the drive.
     pub fn leave(self) -> Left<D>
         requires { NothingWaits (greatest_session self.fixed.script) self.marks }
         ensures { Leaves self result.drive result.log }

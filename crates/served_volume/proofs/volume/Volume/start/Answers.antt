@@ -8,14 +8,16 @@ use Rattle.served_volume.proofs.volume.Volume.start.Goals as goal
 
 begins : (g : Over) (c : goal.After-of-stock g)
     → BeginsServed {D = g.row.D.Denot} g.D.Drive
-    (fixed_of g.D.Drive.held c.args.script c.of-mount.result.value c.of-first.result.value c.of-stock.result.value.tree (g.C.Clock.one c.of-watch.result.value) c.args.since.value)
-    c.args.mounted c.args.drive (g.C.Clock.one c.args.clock) (g.C.Clock.next c.args.clock) (seen_parts c.in-Ok-begin.parts)
+    (fixed_of g.D.Drive.held c.args.script c.of-mount.result.value c.of-first.result.value
+    c.of-stock.result.value.tree (g.C.Clock.one c.of-watch.result.value) c.args.since.value)
+    c.args.mounted c.args.drive (g.C.Clock.one c.args.clock) (g.C.Clock.next c.args.clock)
+    (seen_parts c.in-Ok-begin.parts)
 begins g c =
     let begun = c.in-Ok-begin.ensures {u = tt} in
-    begins_served g.D.Drive g.met.D.Drive.counts_now c.args.script c.args.mounted c.args.drive (g.C.Clock.one c.args.clock)
-    (g.C.Clock.next c.args.clock) c.args.since.value (seen_parts c.in-Ok-begin.parts) c.of-mount.result.value
-    c.of-first.result.value c.of-stock.result.value.tree (g.C.Clock.one c.of-watch.result.value) c.len-calls.result
-    c.from-sessions.result
+    begins_served g.D.Drive g.met.D.Drive.counts_now c.args.script c.args.mounted c.args.drive
+    (g.C.Clock.one c.args.clock) (g.C.Clock.next c.args.clock) c.args.since.value (seen_parts c.in-Ok-begin.parts)
+    c.of-mount.result.value c.of-first.result.value c.of-stock.result.value.tree
+    (g.C.Clock.one c.of-watch.result.value) c.len-calls.result c.from-sessions.result
     record {
       mounted = c.of-mount.ensures;
       drive = c.of-first.ensures;
