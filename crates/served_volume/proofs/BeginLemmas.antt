@@ -123,13 +123,16 @@ pub record CanBegin {D : Type 0} (drive : Ghosts D) (script : List ScriptLine) (
   pub mounts : IfSome (drive.held first) (λ c. Mounts c m)
 
 module _ {D : Type 0} (drive : Ghosts D)
-    (counts_now : (d : D) (t : ℕ) (image : Cartridge) → t ≤ drive.commands d → drive.leaves d image → drive.left_since d t image)
+    (counts_now : (d : D) (t : ℕ) (image : Cartridge) → t ≤ drive.commands d → drive.leaves d image
+    → drive.left_since d t image)
     (script : List ScriptLine) (m : Mounted) (first : D) (one next : Option Moment) (since : ℕ) (p : Parts D) where
-  begins_now : CanBegin drive script m first → IsFresh drive (fixed_of drive.held script m first p.stock.tree one since) p
+  begins_now : CanBegin drive script m first
+      → IsFresh drive (fixed_of drive.held script m first p.stock.tree one since) p
       → BeginsServed drive (fixed_of drive.held script m first p.stock.tree one since) m first one next p
   begins_now can fresh =
       let fixed = fixed_of drive.held script m first p.stock.tree one since in
-      let b = volumes_run drive counts_now fixed (next_moment one next) p can.sessions can.range can.mount can.mounts fresh in
+      let then = next_moment one next in
+      let b = volumes_run drive counts_now fixed then p can.sessions can.range can.mount can.mounts fresh in
       record {
         serving = record {
           runs = b.runs;
@@ -137,8 +140,8 @@ module _ {D : Type 0} (drive : Ghosts D)
           untouched = λ _. (fresh.drive_is, fresh.ops);
         };
         starts = b.starts;
-        served = subst (λ (d : D). IsServed cartridges (seen drive first) (seen drive d) (view_of fixed (next_moment one next) p))
-            fresh.drive_is (running_is_promised drive fixed (next_moment one next) p b.runs);
+        served = subst (λ (d : D). IsServed cartridges (seen drive first) (seen drive d) (view_of fixed then p))
+            fresh.drive_is (running_is_promised drive fixed then p b.runs);
       }
 
   -- so it is with what was noted
@@ -148,7 +151,8 @@ module _ {D : Type 0} (drive : Ghosts D)
       → ((fixed : Fixed D) → BeginsWith drive fixed first m calls sessions p.stock.tree → IsFresh drive fixed p)
       → BeginsServed drive (fixed_of drive.held script m' first' tree' one' since) m first one next p
   begins_served m' first' tree' one' calls sessions noted can calls_are sessions_are fresh =
-      let same : ◌≡◌ {A = Mounted × D × FileTree × Option Moment} (m, first, p.stock.tree, one) (m', first', tree', one') =
+      let same : ◌≡◌ {A = Mounted × D × FileTree × Option Moment} (m, first, p.stock.tree, one)
+      (m', first', tree', one') =
       λ i. (sym noted.mounted i, sym noted.drive i, sym noted.stock i, sym noted.clock i) in
       subst (λ (k : Mounted × D × FileTree × Option Moment).
       BeginsServed drive (fixed_of drive.held script k.0 k.1 k.2 k.3 since) m first one next p)
