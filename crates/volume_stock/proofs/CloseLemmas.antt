@@ -1,5 +1,5 @@
 -- What a close admits of what is held.
-use Rattle.std.proofs.Common.{◌≡◌, Vec, Global, ℕ, ◌+◌, ◌<◌, ◌≤◌, ◌&&◌, ◌||◌, not, if◌then◌else◌, Bool, true, false, List, [], ◌++◌, Option, Some, None, Result, Ok, Err, sym, ap, ◌∙◌, refl, subst}
+use Rattle.std.proofs.Common.{◌≡◌, Vec, Global, ℕ, ◌+◌, ◌<◌, ◌≤◌, ◌&&◌, ◌||◌, not, if◌then◌else◌, Bool, true, false, List, ◌++◌, Option, Some, None, Result, Ok, Err, sym, ap, ◌∙◌, refl, subst}
 use Rattle.std.proofs.lemmas.List.{append-nil}
 use Rattle.std.specs.Option.{option_map}
 use Rattle.tape_types.specs.declared.cartridges.Part.TheVariants.{Ip}
@@ -17,7 +17,7 @@ use Rattle.volume_space.specs.Files.{canon, index_at}
 use Rattle.volume_space.specs.Space as space
 use Rattle.volume_space.specs.Space.{Ask, index, is_over, nothing, ops_of, plan_of}
 use Rattle.volume_space.specs.Standing.{Given, Standing, rules, sync_text}
-use Rattle.volume_sync.specs.Frames.{IsCloseOf, IsSync, close_index, sync_index, with_sync}
+use Rattle.volume_sync.specs.Frames.{IsCloseOf, IsSync, close_index, sync_index}
 use Rattle.volume_sync.specs.declared.frames.Frame.{Frame}
 use Rattle.volume_stock.specs.Applied.{IsUnchanged}
 use Rattle.volume_stock.specs.Closed.{IsDpChange, IsDpDocument, IsDpDone, IsIpChange, IsIpDocument, IsIpDone, IsIpEnd, closed_dp}

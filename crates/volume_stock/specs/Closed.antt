@@ -1,5 +1,5 @@
 -- What a close admits of what is held.
-use Rattle.std.specs.Prelude.{◌≡◌, ℕ, ◌++◌, ◌<◌, ◌≤◌, Bool, true, false, List, map, Option, Some, None, Result, Ok, Err}
+use Rattle.std.specs.Prelude.{◌≡◌, ℕ, ◌++◌, ◌<◌, ◌≤◌, Bool, true, false, List, Option, Some, None, Result, Ok, Err}
 use Rattle.tape_types.specs.declared.cartridges.Part.TheVariants.{Ip}
 use Rattle.tape_types.specs.declared.moments.Moment.{Moment}
 use Rattle.extent_map.specs.Blocks.{AreAlikeIn}

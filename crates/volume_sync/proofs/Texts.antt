@@ -1,5 +1,5 @@
 -- The text of the index of a sync.
-use Rattle.std.proofs.Common.{◌≡◌, ℕ, ◌+◌, ◌≤◌, ◌++◌, List, [], length, refl, sym, ◌∙◌, ap, arith, length-append, subst}
+use Rattle.std.proofs.Common.{◌≡◌, ℕ, ◌≤◌, ◌++◌, List, length, refl, sym, ◌∙◌, ap, arith, length-append}
 use Rattle.index_model.specs.Canonical.{canonical, directory_text, head, nodes_text, volume_text}
 use Rattle.doc_fields.specs.declared.starts.Attribute.TheVariants.{Version}
 use Rattle.doc_fields.specs.declared.tags.Tag.TheVariants.{LtfsIndex}

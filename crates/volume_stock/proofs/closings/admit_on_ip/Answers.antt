@@ -1,7 +1,7 @@
 use Rattle.std.proofs.Common.{Ok, Err}
 use Rattle.volume_stock.specs.Stocks.{stocked}
 use Rattle.volume_stock.proofs.closings.admit_on_ip.Goals as goal
-use Rattle.volume_stock.proofs.CloseLemmas.{ip_end, ip_still, ip_unchanged}
+use Rattle.volume_stock.proofs.CloseLemmas.{ip_end, ip_still}
 
 pub returns-in_default-clause-applied : goal.returns-in_default-clause-applied
 returns-in_default-clause-applied c tree early g on st at i told =

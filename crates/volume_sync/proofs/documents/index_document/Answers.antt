@@ -1,4 +1,4 @@
-use Rattle.std.proofs.Common.{◌≡◌, ◌++◌, List, ℕ, ap, sym, subst, ◌∙◌}
+use Rattle.std.proofs.Common.{◌++◌, List, ℕ, ap, sym, subst, ◌∙◌}
 use Rattle.index_model.specs.Canonical.{canonical}
 use Rattle.index_model.specs.Order.{AreInOrder}
 use Rattle.index_model.specs.Values.{IndexValue, Tells}
