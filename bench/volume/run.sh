@@ -1,0 +1,17 @@
+#!/usr/bin/env bash
+# Runs the tests of a served volume, with no proof, on a copy of the crates in which they stand in their place.
+set -eu
+here=$(cd "$(dirname "$0")" && pwd)
+top=$(cd "$here/../.." && pwd)
+copy=$(mktemp -d)
+trap 'rm -rf "$copy"' EXIT
+
+tar -C "$top" --exclude=out -cf - crates crates.txt HANDLES | tar -C "$copy" -xf -
+sed -i 's/^served_volume: /&sample_cartridges format_volume mount_recover index_model /' "$copy/crates.txt"
+src=$copy/crates/served_volume/src
+for name in images playing telling tests; do
+  cp "$here/$name.rt.in" "$src/$name.rt"
+  printf '#[cfg(test)]\nmod %s;\n' "$name" >> "$src/lib.rt"
+done
+cd "$copy/crates/served_volume"
+rt try --test "$@"
