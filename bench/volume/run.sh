@@ -14,4 +14,4 @@ for name in images playing telling tests; do
   printf '#[cfg(test)]\nmod %s;\n' "$name" >> "$src/lib.rt"
 done
 cd "$copy/crates/served_volume"
-rt try --test "$@"
+rt try --test --seconds 600 "$@"
