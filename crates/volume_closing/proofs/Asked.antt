@@ -118,16 +118,21 @@ unasked_by v on old new asked its same without =
 
 -- ---- a step, and a write that is placed void behind it
 
+pub void_standing : {D : Type 0} (limits : Limits) (old new : View D) (added : List Event) (placed : Placed)
+    → new.fixed ≡ old.fixed → new.history ≡ old.history ++ placed ∷ [] → placed.fate ≡ fates.Void
+    → new.on ≡ on_after old added → standing_now limits new ≡ standing_now limits old
+void_standing {D} limits old new added placed fixed history fate on =
+    let mid : View D = record old { on = new.on } in
+    standings_go_on.placed limits mid new placed fixed refl history
+    ∙ are_still.void (given_by limits old) (is_on (facts_of old.fixed.mounted) new.on (length old.history))
+    (standing_now limits mid) placed fate
+    ∙ standings_go_on.stepped limits old mid added refl refl on
+
 pub void_space : {D : Type 0} (limits : Limits) (old new : View D) (added : List Event) (placed : Placed)
     → new.fixed ≡ old.fixed → new.history ≡ old.history ++ placed ∷ [] → placed.fate ≡ fates.Void
     → new.on ≡ on_after old added → space_now limits new ≡ space_now limits old
-void_space {D} limits old new added placed fixed history fate on =
-    let mid : View D = record old { on = new.on } in
-    ap (λ (s : Standing). s.space)
-    (standings_go_on.placed limits mid new placed fixed refl history
-    ∙ are_still.void (given_by limits old) (is_on (facts_of old.fixed.mounted) new.on (length old.history))
-    (standing_now limits mid) placed fate
-    ∙ standings_go_on.stepped limits old mid added refl refl on)
+void_space limits old new added placed fixed history fate on =
+    ap (λ (s : Standing). s.space) (void_standing limits old new added placed fixed history fate on)
 
 -- ---- an index of the data partition
 

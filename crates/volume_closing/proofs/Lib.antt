@@ -6,3 +6,9 @@ pub mod Wholes
 pub mod Asked
 pub mod Aheads
 pub mod Readied
+pub mod Synced
+pub mod Opened
+pub mod Newest
+pub mod Mounted
+pub mod IndexLaw
+pub mod Rests

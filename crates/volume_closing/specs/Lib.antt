@@ -3,3 +3,4 @@ pub mod Laws
 pub mod Near
 pub mod Whole
 pub mod Ready
+pub mod Indexed

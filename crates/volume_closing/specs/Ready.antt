@@ -88,3 +88,25 @@ pub record TapesStayReady {D : Type 0} (drive : Ghosts D) : Type 0 where
   pub voided : (planned : Items) (limits : Limits) (old new : View D) (added : List Event) (placed : Placed)
       → IsTapeReady drive planned limits old → IsStepOnTape drive planned old new added
       → new.history ≡ old.history ++ placed ∷ [] → placed.fate ≡ fates.Void → IsTapeReady drive planned limits new
+
+-- ---- what a crash leaves
+
+-- as long as nothing changed and no index was admitted, that is no more than at the start
+abbrev pub LeavesNoMore : {D : Type 0} → Ghosts D → Limits → View D → Type 0
+LeavesNoMore drive limits v = (space_now limits v).changed ≡ false → (space_now limits v).admitted ≡ false
+    → (image : Cartridge) → drive.leaves v.drive image → drive.leaves v.fixed.first image
+
+-- so it is from the start on, and stays so over each submission and each turn, which only reads then
+pub record VolumesRest {D : Type 0} (drive : Ghosts D) : Type 0 where
+  pub begins : (limits : Limits) (fixed : Fixed D) (next : Option Moment)
+      → LeavesNoMore drive limits (begun fixed next)
+  pub submitted : (limits : Limits) (old new : View D) → LeavesNoMore drive limits old → AddsOps limits old new
+      → new.fixed ≡ old.fixed → new.drive ≡ old.drive → new.on ≡ old.on → GoesOnBy old new
+      → LeavesNoMore drive limits new
+  pub turned : (planned : Items) (limits : Limits) (old new : View D) (added : List Event)
+      → IsTapeReady drive planned limits old → LeavesNoMore drive limits old
+      → IsStepOnTape drive planned old new added → new.history ≡ old.history → LeavesNoMore drive limits new
+  pub voided : (planned : Items) (limits : Limits) (old new : View D) (added : List Event) (placed : Placed)
+      → IsTapeReady drive planned limits old → LeavesNoMore drive limits old
+      → IsStepOnTape drive planned old new added → new.history ≡ old.history ++ placed ∷ []
+      → placed.fate ≡ fates.Void → LeavesNoMore drive limits new

@@ -1,8 +1,9 @@
 //! Laws of a close, over any drive.
 
 ghost use Rattle.volume_closing.specs.Laws.{ClosedVolumesStand, ClosesAreSafe, IndexesOfClosesAreDue};
+ghost use Rattle.volume_closing.specs.Indexed.{IndexesStay};
 ghost use Rattle.volume_closing.specs.Near.{ClosesCanTell};
-ghost use Rattle.volume_closing.specs.Ready.{NoneIsAhead, TapesStayReady};
+ghost use Rattle.volume_closing.specs.Ready.{NoneIsAhead, TapesStayReady, VolumesRest};
 ghost use Rattle.volume_closing.specs.Whole.{WholesStay};
 
 use tape_drive::Drive;
@@ -40,4 +41,14 @@ pub fn none_is_ahead<D: Drive>()
 /// There the data partition then ends where it is planned to, and where nothing was asked of the tape it is untouched.
 pub fn tapes_stay_ready<D: Drive>()
     ensures { TapesStayReady D.Drive }
+{}
+
+/// And as long as nothing has changed since its last index, that tells the tree of the whole history.
+pub fn indexes_stay<D: Drive>()
+    ensures { IndexesStay D }
+{}
+
+/// Where nothing was asked of the tape a crash leaves no more than at the start.
+pub fn volumes_rest<D: Drive>()
+    ensures { VolumesRest D.Drive }
 {}

@@ -5,5 +5,5 @@ mod laws;
 
 pub use laws::{
     closed_volumes_stand, closes_are_safe, closes_can_tell, indexes_of_closes_are_due,
-    none_is_ahead, tapes_stay_ready, wholes_stay,
+    indexes_stay, none_is_ahead, tapes_stay_ready, volumes_rest, wholes_stay,
 };
