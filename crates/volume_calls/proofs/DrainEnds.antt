@@ -43,6 +43,7 @@ use Rattle.volume_truth.specs.Sides.{VoidsTruly, does_op}
 use Rattle.volume_truth.specs.Within.{AnswersTruly}
 use Rattle.volume_truth.proofs.Happened.{trail_behind}
 use Rattle.volume_truth.proofs.Owned.{told_faults_are_owned}
+use Rattle.volume_crashes.specs.Changes.{AreDriven}
 use Rattle.volume_crashes.proofs.Submitted.{state_after}
 use Rattle.volume_stock.specs.Stocks.{Stocked}
 use Rattle.volume_laws.specs.Kept.{CanRead, DrainsRightly}
@@ -86,6 +87,7 @@ pub record Ends {D : Type 0} (drive : Ghosts D) (fixed : Fixed D) (planned : Ite
     (answer : Drained) (old new : Parts D) : Type 0 where
   pub once : DrainsOnce drive.MOST (seen drive old.drive) (seen drive new.drive) (view_of fixed before old) (view_of fixed after new) who answer
   pub rightly : DrainsRightly drive fixed (view_of fixed before old) (view_of fixed after new) who once.made answer
+  pub driven : AreDriven drive (view_of fixed before old) (view_of fixed after new) once.made
   pub tied : IsTied drive fixed planned new
   pub answers : HasAnswers new
 
@@ -176,14 +178,19 @@ module _ {D : Type 0} (drive : Ghosts D) (fixed : Fixed D) (planned : Items) (be
           ops = ap (λ (k : Stocked). k.layout.ops) t.tape.stock ∙ a.ops;
         }
 
+    driven_fault : AreDriven drive v w made
+    driven_fault = driven_on drive v u w t.tape.drive t.tape.on
+        (ap (λ (k : Stocked). k.layout.ops) t.tape.stock) made went.came.driven
+
     pub fault_ends : Ends drive fixed planned before after who (the_drained.Fault counts) old new
     fault_ends = record {
       once = fault_once;
       rightly = record {
         order = fault_order;
         truth = voids;
-        driven = λ can. driven_on drive v u w t.tape.drive t.tape.on (ap (λ (k : Stocked). k.layout.ops) t.tape.stock) made (went.came.driven can);
+        driven = λ can. driven_fault;
       };
+      driven = driven_fault;
       tied = tied_faulted drive fixed planned who (length (places_of who old.listed.marks)) at counts mid new went.tied t;
       answers = answers_fault who (length (places_of who old.listed.marks)) at counts mid new went.answers drains_then t;
     }
@@ -268,14 +275,18 @@ module _ {D : Type 0} (drive : Ghosts D) (fixed : Fixed D) (planned : Items) (be
           ops = ops_are ∙ a.ops ∙ ap (λ b. cond b (drop 1 old.stock.layout.ops) old.stock.layout.ops) (sym (rest_does_none who a.added));
         }
 
+    driven_rest : AreDriven drive v resting made
+    driven_rest = driven_on drive v u resting r.tape.drive r.tape.on ops_are made went.came.driven
+
     pub rest_ends : Ends drive fixed planned before after who the_drained.Room old new
     rest_ends = record {
       once = rest_once;
       rightly = record {
         order = rest_order;
         truth = rest_truly;
-        driven = λ can. driven_on drive v u resting r.tape.drive r.tape.on ops_are made (went.came.driven can);
+        driven = λ can. driven_rest;
       };
+      driven = driven_rest;
       tied = tied_resting drive fixed planned who mid new went.tied r;
       answers = answers_rest who mid new went.answers drains_then r;
     }
@@ -323,10 +334,14 @@ module _ {D : Type 0} (drive : Ghosts D) (fixed : Fixed D) (planned : Items) (be
     more_truly : CanRead drive fixed → AnswersTruly (seen drive fixed.first) v going_on
     more_truly can = let a = went.came.truth can in record { came = a.came; added = a.added; events = a.events; ops = a.ops }
 
+    driven_more : AreDriven drive v going_on made
+    driven_more = driven_on drive v u going_on refl refl refl made went.came.driven
+
     pub more_ends : Ends drive fixed planned before after who the_drained.More old mid
     more_ends = record {
       once = more_once;
-      rightly = record { order = more_order; truth = more_truly; driven = λ can. driven_on drive v u going_on refl refl refl made (went.came.driven can) };
+      rightly = record { order = more_order; truth = more_truly; driven = λ can. driven_more };
+      driven = driven_more;
       tied = went.tied;
       answers = went.answers;
     }

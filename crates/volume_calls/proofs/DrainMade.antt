@@ -28,6 +28,7 @@ use Rattle.volume_steps.specs.Laws.{Stepped}
 use Rattle.volume_calls.specs.Draining.{IsFull}
 use Rattle.volume_calls.specs.Handing.{StepsOn}
 use Rattle.volume_calls.specs.Running.{HasAnswers}
+use Rattle.volume_calls.proofs.Driven.{steps_driven}
 use Rattle.volume_calls.proofs.TurnAnswers.{answers_stay}
 use Rattle.volume_calls.proofs.TurnSteps.{Came, came_by, came_none}
 
@@ -84,7 +85,8 @@ pub went_step : {D : Type 0} (drive : Ghosts D) (fixed : Fixed D) (planned : Ite
     → Stepped drive fixed (view_of fixed next old) (view_of fixed next new) added → IsTied drive fixed planned new
     → Went drive fixed planned next who old new added
 went_step drive fixed planned next who old new added order answers full on s tied = record {
-  came = came_by drive fixed (view_of fixed next old) (view_of fixed next new) added s;
+  came = came_by drive fixed (view_of fixed next old) (view_of fixed next new) added s
+      (steps_driven drive fixed next old new added on.steps);
   none = λ either. absurd (⊎_elim
       (λ some. omega (arith, some, ap (λ (l : List Twin). length l) full.none))
       (λ few. omega (arith, few, full.many, standing_count old.stock.layout.ops old.trail.events order.orderly.standing))

@@ -1,13 +1,14 @@
 -- A turn of a session that drains, and that the volume runs on.
-use Rattle.std.proofs.Common.{◌≡◌, ◌≤◌, ◌<◌, ◌-◌, ◌^◌, ℕ, List, [], Option}
+use Rattle.std.proofs.Common.{◌≡◌, ◌≤◌, ◌<◌, ◌-◌, ◌^◌, ℕ, List, [], Option, refl}
 use Rattle.tape_types.specs.declared.cartridges.Cartridge.{Cartridge}
 use Rattle.tape_types.specs.declared.moments.Moment.{Moment}
 use Rattle.tape_drive.specs.declared.drive.Drive.{Ghosts}
 use Rattle.session_script.specs.declared.logs.Event.{Event}
 use Rattle.volume_model.specs.Marks.{draining, phase}
 use Rattle.volume_model.specs.Served.{Fixed}
-use Rattle.volume_model.specs.Steps.{DrainsOnce}
+use Rattle.volume_model.specs.Steps.{DrainsOnce, IsDrained}
 use Rattle.volume_model.specs.declared.answers.Drained.{Drained}
+use Rattle.volume_model.specs.declared.answers.Drained.TheVariants as the_drained
 use Rattle.volume_order.specs.Kept.{seen}
 use Rattle.volume_truth.proofs.Draining.{drains_stay_for_writes}
 use Rattle.volume_laws.proofs.Joined.{drain_turns_keep_all}
@@ -16,14 +17,43 @@ use Rattle.volume_steps.proofs.ShowLaw.{steps_show}
 use Rattle.volume_calls.specs.Draining.{IsFull, fault, room, then_fault, then_more, then_room}
 use Rattle.volume_calls.specs.Handing.{StepsOn}
 use Rattle.volume_calls.specs.Laws.{DrainTurnsRun}
-use Rattle.volume_calls.specs.Running.{IsRunning}
+use Rattle.volume_closing.specs.Ready.{IsStepOnTape}
+use Rattle.volume_calls.specs.Running.{IsReadyToClose, IsRunning}
 use Rattle.volume_calls.proofs.DrainEnds.{Ends, fault_ends, more_ends, rest_ends}
+use Rattle.volume_calls.proofs.ToClose.{turned_ready, voided_ready}
 use Rattle.volume_calls.proofs.DrainMade.{Went, went_nothing, went_step}
 
 module _ {D : Type 0} (drive : Ghosts D)
     (only_now : (d : D) (image : Cartridge) → drive.commands d < 2 ^ 64 - 1 → drive.left_since d (drive.commands d) image → drive.leaves d image) where
   module _ (fixed : Fixed D) (before : Option Moment) (who : ℕ) (old : Parts D) (run : IsRunning drive fixed before old)
       (drains : phase who old.listed.marks ≡ draining) where
+    -- the volume can be closed then too
+    closes_on : (after : Option Moment) (answer : Drained) (new : Parts D)
+        → Ends drive fixed run.planned before after who answer old new
+        → IsReadyToClose drive fixed run.plan run.planned (view_of fixed after new)
+    closes_on after answer new e = by answer e.once.answered
+      where
+        step : IsStepOnTape drive run.planned (view_of fixed before old) (view_of fixed after new) e.once.made
+        step = record {
+          way = run.tied.way;
+          driven = e.driven;
+          still = e.once.step.counts.still;
+          fixed = refl;
+          on = e.once.step.on;
+        }
+
+        by : (answer : Drained) → IsDrained (view_of fixed before old) (view_of fixed after new) who e.once.made answer
+            → IsReadyToClose drive fixed run.plan run.planned (view_of fixed after new)
+        by (the_drained.Fault counts) did =
+            voided_ready drive fixed before after run.plan run.planned old new e.once.made run.closes step
+            did.1.placed did.1.history did.1.fate_is
+        by the_drained.Room did =
+            turned_ready drive fixed before after run.plan run.planned old new e.once.made run.closes step
+            did.2.history
+        by the_drained.More did =
+            turned_ready drive fixed before after run.plan run.planned old new e.once.made run.closes step
+            did.3.history
+
     -- what a turn shows that ends so leaves the volume running
     runs_on : (after : Option Moment) (answer : Drained) (new : Parts D) → Ends drive fixed run.planned before after who answer old new
         → DrainsOnce drive.MOST (seen drive old.drive) (seen drive new.drive) (view_of fixed before old) (view_of fixed after new) who answer
@@ -40,6 +70,7 @@ module _ {D : Type 0} (drive : Ghosts D)
         writes = (drains_stay_for_writes (seen drive)).drains drive.MOST old.drive new.drive (view_of fixed before old) (view_of fixed after new)
             who answer drains e.once run.writes;
         answers = e.answers;
+        closes = closes_on after answer new e;
       },
     )
 

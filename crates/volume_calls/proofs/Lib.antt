@@ -2,6 +2,9 @@ pub mod Promised
 pub mod Begun
 mod Within
 mod AnswersKept
+mod Fitting
+mod Driven
+pub mod ToClose
 pub mod Submitted
 pub mod TurnAnswers
 mod TurnSteps

@@ -8,6 +8,7 @@ use Rattle.tape_types.specs.declared.moments.Moment.{Moment}
 use Rattle.tape_drive.specs.declared.drive.Drive.{Ghosts}
 use Rattle.tape_layout.specs.declared.ops.Op.{Op}
 use Rattle.plain_tree.specs.declared.calls.Call.{Call}
+use Rattle.plain_tree.specs.declared.calls.Call.TheVariants as calls
 use Rattle.session_script.specs.declared.logs.Reply.{Reply}
 use Rattle.volume_model.specs.Marks.{after, draining, idle, mark, phase, waits}
 use Rattle.volume_model.specs.Served.{Drive, Fixed, View}
@@ -28,10 +29,13 @@ use Rattle.volume_tape.proofs.Agrees.{plans_agree}
 use Rattle.volume_parts.specs.Parts.{Parts, view_of}
 use Rattle.volume_parts.specs.Tied.{IsPlannedAs}
 use Rattle.volume_submits.specs.Laws.{Made, changes, puts_off, syncs, tells, voids, waits as waits_for}
+use Rattle.volume_submits.proofs.Dues.{due_with}
 use Rattle.volume_submits.proofs.Shown.{submissions_show}
 use Rattle.volume_calls.specs.Laws.{SubmissionsRun}
 use Rattle.volume_calls.specs.Running.{HasAnswers}
 use Rattle.volume_calls.proofs.AnswersKept.{KeepsTheReplies, answers_stay}
+use Rattle.volume_calls.proofs.Fitting.{adds_within, goes_by, placed_within}
+use Rattle.volume_calls.proofs.ToClose.{submitted_ready}
 use Rattle.volume_calls.proofs.Within.{waits_within}
 
 -- ---- ops
@@ -145,7 +149,8 @@ module _ {D : Type 0} (drive : Ghosts D)
       }) made in
       let on = submissions_keep_all drive only_now fixed runs.plan v w who nth answer runs.kept c.can shown.submits shown.rightly in
       let ops = made_ops drive who nth call at old new answer asked made in
-      let order : IsInOrder drive v = runs.kept.order in (
+      let order : IsInOrder drive v = runs.kept.order in
+      let first : Drive = seen drive fixed.first in (
         shown.submits,
         record {
           planned = with_ops asked runs.planned;
@@ -156,5 +161,13 @@ module _ {D : Type 0} (drive : Ghosts D)
           writes = (drains_stay_for_writes (seen drive)).submits fixed.first new.drive v w who nth answer c.can shown.submits runs.writes;
           answers = keeps_replies (seen drive fixed.first) (seen drive new.drive) fixed before after_it who nth old new c.can c.answered
               (λ w k waiting. let less = waits_within drive v order w k waiting in omega (arith, less, order.count)) order.count answer shown.submits runs.answers;
+          closes = submitted_ready drive fixed before after_it runs.plan runs.planned asked old new runs.closes on
+              shown.submits.drive shown.submits.on ops (goes_by v w who nth answer shown.submits.placing) shown.rightly.ops
+              (λ can. adds_within first v w who nth answer shown.submits.placing (shown.rightly.truth can))
+              runs.tied.ends (omega (arith, runs.tied.mount.blocks.0))
+              (λ can p label_is items placed history done is changed.
+              due_with drive fixed runs.planned before placed.at old runs.tied c.good
+              (placed_within first v w who nth answer shown.submits.placing (shown.rightly.truth can)
+              placed history done calls.Sync is) changed p items label_is);
         },
       )

@@ -22,6 +22,8 @@ use Rattle.volume_parts.specs.Tied.{IsTied}
 use Rattle.volume_calls.specs.Handing.{HandsOut, TurnsTo, at_once, more, then_ready}
 use Rattle.volume_calls.specs.Laws.{TurnsRun}
 use Rattle.volume_calls.specs.Running.{HasAnswers, IsRunning}
+use Rattle.volume_calls.proofs.Driven.{steps_driven}
+use Rattle.volume_calls.proofs.ToClose.{turned_ready}
 use Rattle.volume_calls.proofs.TurnAnswers.{answers_handed, answers_stay, handed, waits_alone}
 use Rattle.volume_calls.proofs.TurnSteps.{Came, Rightly, came_by, came_none, turns_more, turns_ready}
 
@@ -84,7 +86,7 @@ module _ {D : Type 0} (drive : Ghosts D)
 
   runs_on : (new : Parts D) (answer : Turn) → Rightly drive fixed (view_of fixed next old) (view_of fixed next new) who ticket answer
       → IsTied drive fixed runs.planned new → HasAnswers new → Turned new answer
-  runs_on new answer (t, rightly) tied answers = (
+  runs_on new answer (t, rightly, driven) tied answers = (
     t,
     record {
       planned = runs.planned;
@@ -94,6 +96,9 @@ module _ {D : Type 0} (drive : Ghosts D)
       planned_as = runs.planned_as;
       writes = (drains_stay_for_writes (seen drive)).turns drive.MOST old.drive new.drive (view_of fixed next old) (view_of fixed next new) who ticket answer waiting t runs.writes;
       answers = answers;
+      closes = turned_ready drive fixed next next runs.plan runs.planned old new t.added runs.closes
+          (record { way = runs.tied.way; driven = driven; still = t.step.counts.still; fixed = refl; on = t.step.on })
+          t.history;
     },
   )
 
@@ -136,7 +141,8 @@ module _ {D : Type 0} (drive : Ghosts D)
       let shows = steps_show drive fixed runs.plan runs.planned next old mid added runs.kept runs.tied s.steps in
       hands_out mid new added reply
       (record {
-        came = came_by drive fixed (view_of fixed next old) (view_of fixed next mid) added shows.0;
+        came = came_by drive fixed (view_of fixed next old) (view_of fixed next mid) added shows.0
+            (steps_driven drive fixed next old mid added s.steps);
         none = λ r e. absurd (let h : None ≡ Some r = some_same None (Some r) (sym yet ∙ e) in cc);
         tied = shows.1;
         answers = answers_stay old mid runs.answers s.answers shows.0.replies.count shows.0.replies.each shows.0.marks;
@@ -144,7 +150,8 @@ module _ {D : Type 0} (drive : Ghosts D)
       h
   turned new all counted (more added s yet) =
       let shows = steps_show drive fixed runs.plan runs.planned next old new added runs.kept runs.tied s.steps in
-      let t = turns_more drive fixed (view_of fixed next old) (view_of fixed next new) added who ticket shows.0 refl refl yet in
+      let t = turns_more drive fixed (view_of fixed next old) (view_of fixed next new) added who ticket shows.0
+      (steps_driven drive fixed next old new added s.steps) refl refl yet in
       runs_on new the_turns.More t shows.1
       (answers_stay old new runs.answers s.answers shows.0.replies.count shows.0.replies.each shows.0.marks)
 

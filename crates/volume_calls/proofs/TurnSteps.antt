@@ -23,7 +23,6 @@ use Rattle.volume_order.specs.Sides.{IsBrought, TurnsInOrder}
 use Rattle.volume_order.proofs.Lists.{some_same}
 use Rattle.volume_truth.specs.Within.{AnswersTruly}
 use Rattle.volume_crashes.specs.Changes.{AreDriven}
-use Rattle.volume_crashes.specs.Laws.{CanServe}
 use Rattle.volume_laws.specs.Kept.{CanRead, IsKept, Plan, TurnsRightly}
 use Rattle.volume_steps.specs.Laws.{Stepped}
 
@@ -37,11 +36,11 @@ pub record Came {D : Type 0} (drive : Ghosts D) (fixed : Fixed D) (old new : Vie
   pub kept : new.kept ≡ old.kept ++ drain_faults old added
   pub order : TurnsInOrder (seen drive old.drive) (seen drive new.drive) old new added
   pub truth : CanRead drive fixed → AnswersTruly (seen drive fixed.first) old new
-  pub driven : CanServe drive fixed → AreDriven drive old new added
+  pub driven : AreDriven drive old new added
 
 pub came_by : {D : Type 0} (drive : Ghosts D) (fixed : Fixed D) (old new : View D) (added : List Event)
-    → Stepped drive fixed old new added → Came drive fixed old new added
-came_by drive fixed old new added s = record {
+    → Stepped drive fixed old new added → AreDriven drive old new added → Came drive fixed old new added
+came_by drive fixed old new added s driven = record {
   history = s.history;
   marks = s.marks;
   replies = s.replies;
@@ -50,7 +49,7 @@ came_by drive fixed old new added s = record {
   kept = s.kept;
   order = s.order;
   truth = s.truth;
-  driven = s.driven;
+  driven = driven;
 }
 
 -- ---- no step
@@ -96,7 +95,7 @@ came_none drive fixed plan v kept counted = record {
     events = sym (append-nil v.events);
     ops = refl;
   };
-  driven = λ can. refl;
+  driven = refl;
 }
 
 -- ---- the marks go on
@@ -104,7 +103,8 @@ came_none drive fixed plan v kept counted = record {
 -- what a turn adds, with what it shows beside
 abbrev pub Rightly : {D : Type 0} → Ghosts D → Fixed D → View D → View D → ℕ → ℕ → Turn → Type 0
 Rightly drive fixed old new who ticket answer =
-    (t : Turns drive.MOST (seen drive old.drive) (seen drive new.drive) old new who ticket answer) × TurnsRightly drive fixed old new t.added
+    (t : Turns drive.MOST (seen drive old.drive) (seen drive new.drive) old new who ticket answer)
+    × TurnsRightly drive fixed old new t.added × AreDriven drive old new t.added
 
 -- the same but for the marks
 abbrev pub marked : {D : Type 0} → View D → List Mark → View D
@@ -138,7 +138,7 @@ module _ {D : Type 0} (drive : Ghosts D) (fixed : Fixed D) (old v : View D) (add
       events = (came.truth can).events;
       ops = (came.truth can).ops;
     };
-    driven = λ can. driven_still drive old v marks added (came.driven can);
+    driven = λ can. driven_still drive old v marks added came.driven;
   }
 
   replies_still : KeepsReplies old (marked v marks)
@@ -184,13 +184,14 @@ module _ {D : Type 0} (drive : Ghosts D) (fixed : Fixed D) (old v : View D) (add
       answered = there;
     },
     rightly_still,
+    driven_still drive old v marks added came.driven,
   )
 
 -- the reply isn't there yet
 pub turns_more : {D : Type 0} (drive : Ghosts D) (fixed : Fixed D) (old v : View D) (added : List Event) (who ticket : ℕ)
-    → Stepped drive fixed old v added → v.fixed ≡ old.fixed → v.next ≡ old.next → slice_get v.replies ticket ≡ Some None
-    → Rightly drive fixed old v who ticket turns.More
-turns_more drive fixed old v added who ticket s fixed_is next yet = (
+    → Stepped drive fixed old v added → AreDriven drive old v added → v.fixed ≡ old.fixed → v.next ≡ old.next
+    → slice_get v.replies ticket ≡ Some None → Rightly drive fixed old v who ticket turns.More
+turns_more drive fixed old v added who ticket s driven fixed_is next yet = (
   record {
     fixed = fixed_is;
     history = s.history;
@@ -205,4 +206,5 @@ turns_more drive fixed old v added who ticket s fixed_is next yet = (
     answered = (yet, s.one);
   },
   record { order = s.order; truth = s.truth; driven = s.driven },
+  driven,
 )

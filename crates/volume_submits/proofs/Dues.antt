@@ -3,6 +3,7 @@ use Rattle.std.proofs.Common.{◌≡◌, ℕ, ◌+◌, ◌^◌, ◌<◌, ◌≤�
 use Rattle.std.specs.Prelude.{if◌then◌else◌}
 use Rattle.std.proofs.lemmas.Bool.Decides.{nat_tests}
 use Rattle.tape_types.specs.declared.cartridges.Item.{Item}
+use Rattle.tape_types.specs.declared.cartridges.Part.{Part}
 use Rattle.tape_types.specs.declared.cartridges.Part.TheVariants.{Dp}
 use Rattle.tape_types.specs.declared.moments.Moment.{Moment}
 use Rattle.tape_drive.specs.declared.drive.Drive.{Ghosts}
@@ -10,13 +11,15 @@ use Rattle.plain_tree.specs.declared.calls.Call.TheVariants as calls
 use Rattle.extent_map.specs.Blocks.{FileStandsIn}
 use Rattle.extent_map.specs.Cells.{byte_in, tape_of}
 use Rattle.extent_map.specs.Laid.{Laid}
-use Rattle.crash_theory.specs.Made.{cartridge_of}
+use Rattle.file_tree.specs.Valid.{IsGood}
+use Rattle.crash_theory.specs.Made.{cartridge_of, part_items}
 use Rattle.tape_layout.specs.declared.standing.Ends.{Ends}
 use Rattle.volume_space.specs.Space.{Rules, Space, index, index_need, is_over, nothing}
 use Rattle.volume_space.specs.Standing.{Given, Standing, ask_of, rules, sync_text}
 use Rattle.volume_model.specs.Served.{Fixed}
 use Rattle.volume_model.specs.declared.answers.Submitted.{Submitted}
 use Rattle.volume_crashes.specs.Laws.{CanServe, IsNextDue}
+use Rattle.volume_crashes.specs.Safe.{Planned}
 use Rattle.volume_laws.specs.Kept.{Plan}
 use Rattle.volume_stock.specs.Stocks.{IsStock}
 use Rattle.volume_stock.specs.Synced.{CanTell}
@@ -27,6 +30,7 @@ use Rattle.volume_due.proofs.Texts.{are_short}
 use Rattle.volume_tape.specs.Planned.{Items, tape_on}
 use Rattle.volume_tape.proofs.Agrees.{plans_agree}
 use Rattle.volume_parts.specs.Parts.{Parts, view_of}
+use Rattle.volume_parts.specs.Tied.{IsTied}
 use Rattle.volume_submits.specs.Laws.{IsSubmission}
 use Rattle.volume_submits.proofs.Admitted.{given_in, on_in, standing_in}
 
@@ -50,11 +54,10 @@ back_near : (o : Option ℕ) (n : ℕ) → n ≤ 2 ^ 40 → IfSome o (λ pos. po
 back_near None n near is = tt
 back_near (Some pos) n near is = omega (arith, near, is)
 
--- ---- of what is submitted
+-- ---- of a volume that is tied
 
-module _ {D : Type 0} (drive : Ghosts D) (fixed : Fixed D) (plan : Plan drive fixed) (planned : Items) (before next : Option Moment)
-    (who nth : ℕ) (at : Moment) (answer : Submitted) (old new : Parts D)
-    (sub : IsSubmission drive fixed plan planned before next who nth calls.Sync at answer old new) where
+module _ {D : Type 0} (drive : Ghosts D) (fixed : Fixed D) (planned : Items) (before : Option Moment) (at : Moment)
+    (old : Parts D) (tied : IsTied drive fixed planned old) (good : IsGood old.stock.tree) where
   abbrev g : Given
   g = given_in drive fixed
 
@@ -65,10 +68,11 @@ module _ {D : Type 0} (drive : Ghosts D) (fixed : Fixed D) (plan : Plan drive fi
   st = standing_in drive fixed old
 
   behind : BeginsBehindLabels old.stock.tree
-  behind part pos t = sub.tied.files.low part pos (record {
+  behind part pos t = tied.files.low part pos (record {
     uid = t.file.node.uid;
     block = subst (λ (l : Laid). FileStandsIn l part pos)
-        (sym (sub.tied.stock.files.lies t.file.path t.file.node t.file.room t.file.there t.file.file ∙ t.file.lies)) t.block;
+        (sym (tied.stock.files.lies t.file.path t.file.node t.file.room t.file.there t.file.file ∙ t.file.lies))
+        t.block;
   })
 
   module _ (fits : is_over (rules g) on st.space (ask_of g st calls.Sync at) ≡ false) (changed : st.space.changed ≡ true) where
@@ -79,27 +83,43 @@ module _ {D : Type 0} (drive : Ghosts D) (fixed : Fixed D) (plan : Plan drive fi
     room = within (rules g) on st.space (sync_text g st at) admitted
 
     near : st.space.ends.dp + 2 ≤ 2 ^ 40
-    near = omega (arith, room.1, sub.tied.limits.dp_most)
+    near = omega (arith, room.1, tied.limits.dp_most)
 
     can_tell : CanTell g st
     can_tell = record {
-      letters_are = record { ip = sub.tied.mount.letters.0; dp = sub.tied.mount.letters.1 };
-      differ = sub.tied.mount.letters.2;
-      uuid = subst (λ (n : ℕ). n < 2 ^ 128) sub.tied.mount.uuid sub.tied.mount.valid.formed.uuid;
-      facts = record { comment = sub.tied.mount.valid.formed.comment; policy = sub.tied.mount.valid.formed.policy };
+      letters_are = record { ip = tied.mount.letters.0; dp = tied.mount.letters.1 };
+      differ = tied.mount.letters.2;
+      uuid = subst (λ (n : ℕ). n < 2 ^ 128) tied.mount.uuid tied.mount.valid.formed.uuid;
+      facts = record { comment = tied.mount.valid.formed.comment; policy = tied.mount.valid.formed.policy };
       generation = room.0;
       here = omega (arith, near);
       back = back_near st.space.last_dp (length (planned Dp))
-          (omega (arith, near, ap (λ (e : Ends). e.dp) sub.tied.ends)) sub.tied.back;
+          (omega (arith, near, ap (λ (e : Ends). e.dp) tied.ends)) tied.back;
     }
 
-    -- what is held is what the theory of crashes plans
-    held_for : (can : CanServe drive fixed) → IsStock (tape_of (cartridge_of (plan can).made)) g on st old.stock
-    held_for can = go_by_the_tape.everywhere (tape_on planned) (tape_of (cartridge_of (plan can).made)) g on st old.stock
-        (λ part pos byte. sym (plans_agree.tapes (plan can).made part pos byte
-        ∙ ap (λ (l : List Item). byte_in (slice_get l pos) byte) ((sub.planned_as can).items part))) sub.tied.stock
+    module _ (p : Planned) (items : (part : Part) → part_items part p.made ≡ planned part) where
+      -- what is held is what these plans make
+      held_for : IsStock (tape_of (cartridge_of p.made)) g on st old.stock
+      held_for = go_by_the_tape.everywhere (tape_on planned) (tape_of (cartridge_of p.made)) g on st old.stock
+          (λ part pos byte. sym (plans_agree.tapes p.made part pos byte
+          ∙ ap (λ (l : List Item). byte_in (slice_get l pos) byte) (items part))) tied.stock
 
-    pub due_next : (can : CanServe drive fixed) → IsNextDue (plan can) (drive.limits fixed.first) (view_of fixed before old) at
-    due_next can = index_due (plan can) (drive.limits fixed.first) (view_of fixed before old) on old.stock at sub.tied.mount.valid
-        (sub.planned_as can).label_is (held_for can) sub.good behind can_tell
-        (are_short.synced g on st at sub.tied.limits (omega (arith, sub.tied.mount.blocks.0)) sub.tied.mount.blocks.1 changed fits)
+      pub due_with : fixed.mounted.label ≡ p.labels.ip
+          → IsNextDue p (drive.limits fixed.first) (view_of fixed before old) at
+      due_with label_is = index_due p (drive.limits fixed.first) (view_of fixed before old) on old.stock at
+          tied.mount.valid label_is held_for good behind can_tell
+          (are_short.synced g on st at tied.limits (omega (arith, tied.mount.blocks.0)) tied.mount.blocks.1
+          changed fits)
+
+-- ---- of what is submitted
+
+module _ {D : Type 0} (drive : Ghosts D) (fixed : Fixed D) (plan : Plan drive fixed) (planned : Items)
+    (before next : Option Moment) (who nth : ℕ) (at : Moment) (answer : Submitted) (old new : Parts D)
+    (sub : IsSubmission drive fixed plan planned before next who nth calls.Sync at answer old new) where
+  pub due_next : is_over (rules (given_in drive fixed)) (on_in drive fixed old) (standing_in drive fixed old).space
+      (ask_of (given_in drive fixed) (standing_in drive fixed old) calls.Sync at) ≡ false
+      → (standing_in drive fixed old).space.changed ≡ true
+      → (can : CanServe drive fixed) → IsNextDue (plan can) (drive.limits fixed.first) (view_of fixed before old) at
+  due_next fits changed can =
+      let known = sub.planned_as can in
+      due_with drive fixed planned before at old sub.tied sub.good fits changed (plan can) known.items known.label_is
