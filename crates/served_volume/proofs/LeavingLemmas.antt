@@ -1,5 +1,5 @@
--- A volume that is left or taken apart.
-use Rattle.std.specs.Prelude.{◌≡◌, ◌≤◌, ℕ, true, [], All, Option, Some, None, is_some, length}
+-- A volume that is closed or taken apart.
+use Rattle.std.specs.Prelude.{◌≡◌, ◌≤◌, ℕ, Bool, true, [], All, IfSome, Option, Some, None, is_some, length}
 use Rattle.std.proofs.Common.{⊎_elim, sym, ap, subst, ◌∙◌, arith}
 use Rattle.std.proofs.lemmas.List.Elements.{All-from_get_or}
 use Rattle.std.proofs.lemmas.Option.{get_or_from_slice_get, slice_get_cases}
@@ -8,12 +8,17 @@ use Rattle.tape_drive.specs.declared.drive.Drive.{Ghosts}
 use Rattle.session_script.specs.Sessions.{greatest_session}
 use Rattle.session_script.specs.declared.logs.Log.{Log}
 use Rattle.session_script.specs.declared.logs.Reply.{Reply}
-use Rattle.volume_model.specs.Ends.{Leaves, Parts as LeavesApart}
+use Rattle.file_tree.specs.Valid.{IsGood}
+use Rattle.volume_model.specs.Ends.{Closes, TellsNodes, Parts as LeavesApart}
 use Rattle.volume_model.specs.Marks.{NothingWaits}
-use Rattle.volume_model.specs.Served.{Fixed, View}
+use Rattle.volume_model.specs.Served.{Fixed, View, tree_after}
+use Rattle.volume_model.specs.Meanings.{cartridges}
+use Rattle.volume_model.specs.declared.answers.CloseEnd.{CloseEnd}
+use Rattle.volume_order.specs.Kept.{seen}
 use Rattle.volume_order.proofs.PhaseLaw.{nothing_waits}
 use Rattle.volume_parts.specs.Parts.{Parts, view_of}
-use Rattle.served_volume.specs.Leaving.{IsLeft}
+use Rattle.served_volume.specs.Promised.{CanClose, ClosesEnd}
+use Rattle.served_volume.specs.Leaving.{IsClosed}
 use Rattle.served_volume.specs.Serving.{IsServing, next_moment}
 use Rattle.served_volume.proofs.Counting.{placed_within}
 
@@ -48,16 +53,55 @@ module _ {D : Type 0} (drive : Ghosts D) (fixed : Fixed D) (one next : Option Mo
         placed_within fixed.script p.listed.history order.orderly.placed,
       )
 
-  -- what is left is the drive and the log of the volume
-  pub is_left : (device : D) (log : Log) → IsLeft p device log → Leaves v device log
-  is_left device log l = subst (λ (w : View D). Leaves w device log) is record {
-    drive_is = l.drive_is;
-    log_is = record { history = l.history; replies = l.replies; acks = l.acks; events = l.events };
-  }
-
   -- the drive of a volume in which nothing was placed is as it was given
   pub as_it_was : v.history ≡ [] → (device : D) → device ≡ p.drive
       → LeavesApart v device
   as_it_was none device given_back = subst (λ (w : View D). LeavesApart w device) is record {
     as_it_was = given_back ∙ (serving.untouched (ap (λ (w : View D). w.history) is ∙ none)).0;
   }
+
+-- ---- a close
+
+module _ {D : Type 0} (drive : Ghosts D) (law : ClosesEnd drive) (fixed : Fixed D) (one next : Option Moment)
+    (p : Parts D) (v : View D) (serving : IsServing drive fixed one next p)
+    (is : view_of fixed (next_moment one next) p ≡ v)
+    (nothing : NothingWaits (greatest_session v.fixed.script) v.marks) where
+  -- what the law asks of the volume
+  can_close : (at : Moment) → IfSome (next_moment one next) (λ m. at ≡ m) → IsGood p.stock.tree
+      → CanClose drive fixed (next_moment one next) at p
+  can_close at moment good = record {
+    runs = serving.runs;
+    nothing = subst (λ (w : View D). NothingWaits (greatest_session w.fixed.script) w.marks) (sym is) nothing;
+    moment = moment;
+    good = good;
+  }
+
+  pub closes : (noted : Bool) (at : Moment) (new : D) (log : Log) (outcome : CloseEnd) (step_count travel_sum nodes : ℕ)
+      → noted ≡ fixed.mounted.noted → IfSome (next_moment one next) (λ m. at ≡ m)
+      → IsClosed drive noted at p new log outcome step_count travel_sum nodes
+      → Closes cartridges (seen drive v.fixed.first) (seen drive v.drive) (seen drive new) v new log outcome step_count
+      travel_sum nodes
+  closes noted at new log outcome step_count travel_sum nodes same moment c =
+      let e = law fixed (next_moment one next) at p noted new outcome (can_close at moment c.good) same c.finishes in
+      subst (λ (w : View D). Closes cartridges (seen drive w.fixed.first) (seen drive w.drive) (seen drive new) w new log
+      outcome step_count travel_sum nodes) is record {
+        log_is = record {
+          history = c.log_is.history;
+          replies = c.log_is.replies;
+          acks = c.log_is.acks;
+          events = c.log_is.events;
+        };
+        steps_are = c.costs.steps_are;
+        travel_is = c.costs.travel_is;
+        nodes_are = λ can.
+            subst (λ n. TellsNodes outcome (tree_after (view_of fixed (next_moment one next) p) (length p.listed.history)) n)
+            (sym c.nodes_are) (e.nodes can);
+        at = at;
+        moment = moment;
+        end = e.end;
+        later = e.later;
+        faults = e.faults;
+        limits = e.limits;
+        untold = e.untold;
+        crash = e.crash;
+      }

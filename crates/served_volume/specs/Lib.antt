@@ -1,5 +1,10 @@
 pub mod Beginning
+pub mod Commands
+pub mod Costs
+pub mod Doing
 pub mod Drains
+pub mod Finish
 pub mod Leaving
+pub mod Promised
 pub mod Serving
 pub mod Turns

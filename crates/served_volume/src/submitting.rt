@@ -50,7 +50,7 @@ pub fn submit<D: Drive, C: Clock>(
 }
 
 /// The moment that the clock gives.
-fn ask<C: Clock>(clock: &mut C) -> Moment
+pub fn ask<C: Clock>(clock: &mut C) -> Moment
     ensures { Gives (told (C.one clock.old) (C.next clock.old)) (told (C.one clock.new) (C.next clock.new)) result }
 {
     clock.now()

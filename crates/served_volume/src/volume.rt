@@ -4,7 +4,7 @@ ghost use Rattle.std.specs.Prelude.{◌≡◌, ◌≤◌, ℕ, [], length, IfErr
 ghost use Rattle.session_script.specs.Grammar.{calls_of};
 ghost use Rattle.session_script.specs.Sessions.{greatest_session};
 ghost use Rattle.tape_meaning.specs.Mounts.{IsMount, Mounts};
-ghost use Rattle.volume_model.specs.Ends.{Leaves, Parts as LeavesApart, Starts};
+ghost use Rattle.volume_model.specs.Ends.{Closes, Parts as LeavesApart, Starts};
 ghost use Rattle.volume_model.specs.Marks.{NothingWaits, draining, phase, waits};
 ghost use Rattle.volume_model.specs.Meanings.{cartridges};
 ghost use Rattle.volume_model.specs.Served.{IsServed};
@@ -13,10 +13,11 @@ ghost use Rattle.volume_model.specs.Submits.{CanSubmit, Submits};
 ghost use Rattle.volume_order.specs.Kept.{seen};
 ghost use Rattle.served_volume.specs.Serving.{next_moment};
 
+use crate::closing::close;
 use crate::draining::drain;
-use crate::leaving::take_log;
+use crate::laws::closes_end;
 use crate::starting::begin;
-use crate::submitting::submit;
+use crate::submitting::{ask, submit};
 use crate::turning::turn;
 use plain_tree::Call;
 use session_script::{Reply, Script};
@@ -27,7 +28,7 @@ use tape_drive::Drive;
 use tape_edge::Clock;
 use tape_meaning::Mounted;
 use volume_core::Parts;
-use volume_model::{Drained, Kept, Left, Submitted, Turn};
+use volume_model::{Closed, Drained, Kept, Submitted, Turn};
 use volume_stock::Stock;
 
 /// A volume while its sessions are served. Contracts see its history, what was told to each session, and what the drive
@@ -40,6 +41,8 @@ pub struct Volume<D: Drive, C: Clock> {
     alloc: Global,
     /// Room for the replies of the log.
     told: Vec<Reply>,
+    /// Whether both notes told of the last indexes when the volume was mounted.
+    noted: bool,
     mounted: Snapshot<Mounted>,
     first: Snapshot<D>,
     stock: Snapshot<Stock>,
@@ -69,7 +72,8 @@ impl<D: Drive, C: Clock> Model for Volume<D, C> {
     ghost invariant = { λ a. IsServing D.Drive
         (fixed_of D.held a.script a.mounted.value a.first.value a.stock.value.tree (C.one a.watch.value) a.since.value)
         (C.one a.clock) (C.next a.clock) (seen_parts a.parts)
-        × (a.told.items ≡ []) × (a.parts.placements.calls ≤ vec_capacity a.told) };
+        × (a.told.items ≡ []) × (a.parts.placements.calls ≤ vec_capacity a.told)
+        × (a.noted ≡ a.mounted.value.noted) };
 }
 
 impl<D: Drive, C: Clock> Volume<D, C> {
@@ -94,6 +98,7 @@ impl<D: Drive, C: Clock> Volume<D, C> {
         let mount = Snapshot::of(&mounted);
         let first = Snapshot::of(&drive);
         let watch = Snapshot::of(&clock);
+        let noted = mounted.noted;
         let calls = script.len() as usize;
         let sessions = usize::from(script.sessions());
         let Ok(told) = Vec::with_capacity(alloc, calls) else {
@@ -108,6 +113,7 @@ impl<D: Drive, C: Clock> Volume<D, C> {
                     script,
                     alloc,
                     told,
+                    noted,
                     mounted: mount,
                     first,
                     stock,
@@ -184,13 +190,29 @@ impl<D: Drive, C: Clock> Volume<D, C> {
         Kept { drive, clock }
     }
 
-    /// Leaves a volume in which nothing waits as it stands, with ops that weren't done yet: its drive, and the log of
-    /// all calls. It takes no memory, and makes no command of the drive.
-    pub fn leave(self) -> Left<D>
-        requires { NothingWaits (greatest_session self.fixed.script) self.marks }
-        ensures { Leaves self result.drive result.log }
+    /// The script whose calls are served.
+    pub fn script(&self) -> &Script
+        ensures { result.now ≡ self.now.fixed.script }
     {
-        let Volume { parts, told, .. } = self;
-        take_log(parts, told)
+        &self.script
+    }
+
+    /// Closes a volume in which nothing waits: what is due of its indexes is written, all ops are done, and the notes tell
+    /// of the last indexes. The log is that of all calls; steps and travel are those of its events, without the close's.
+    pub fn close(self) -> Closed<D>
+        requires { NothingWaits (greatest_session self.fixed.script) self.marks }
+        ensures { Closes cartridges (seen D.Drive self.fixed.first) (seen D.Drive self.drive) (seen D.Drive result.drive)
+            self result.drive result.log result.outcome result.steps result.travel result.nodes }
+    {
+        let Volume {
+            parts,
+            mut clock,
+            told,
+            noted,
+            ..
+        } = self;
+        closes_end::<D>();
+        let at = ask(&mut clock);
+        close(parts, noted, at, told)
     }
 }

@@ -38,4 +38,4 @@ invariant_of-self g c =
     (g.C.Clock.next c.self.inside.clock) (seen_parts c.self.inside.parts) c.self.invariant.0 c.drain.ensures.counted c.args.who
     (g.C.Clock.one c.drain.new.clock) (g.C.Clock.next c.drain.new.clock) c.drain.result (seen_parts c.drain.new.parts)
     c.drain.ensures.drains c.args.self.now c.self.view_is c.requires in
-    (on.serving, c.self.invariant.1, omega (arith, on.calls, c.self.invariant.2))
+    (on.serving, c.self.invariant.1, omega (arith, on.calls, c.self.invariant.2), c.self.invariant.3)

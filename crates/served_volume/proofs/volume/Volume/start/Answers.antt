@@ -1,4 +1,5 @@
-use Rattle.std.proofs.Common.{ap, arith, ◌∙◌}
+use Rattle.std.proofs.Common.{ap, arith, sym, ◌∙◌}
+use Rattle.tape_meaning.specs.declared.mounted.Mounted.{Mounted}
 use Rattle.volume_core.specs.Seen.{seen_parts}
 use Rattle.volume_stock.specs.Stocks.{Stocked}
 use Rattle.served_volume.specs.Serving.{fixed_of}
@@ -35,8 +36,12 @@ begins g c =
 pub invariant_of-result : goal.invariant_of-result
 invariant_of-result g c =
     let b = begins g c in
-    let told = c.in-Ok.ensures {u = tt} in
-    (b.serving, told.items, omega (arith, b.serving.runs.tied.calls, c.len-calls.ensures, told.capacity))
+    let told = c.in-Ok.ensures {u = tt} in (
+      b.serving,
+      told.items,
+      omega (arith, b.serving.runs.tied.calls, c.len-calls.ensures, told.capacity),
+      sym (ap (λ (m : Mounted). m.noted) c.of-mount.ensures),
+    )
 
 pub returns-in-Ok-begin-clause-ok : goal.returns-in-Ok-begin-clause-ok
 returns-in-Ok-begin-clause-ok g c = (begins g c).starts

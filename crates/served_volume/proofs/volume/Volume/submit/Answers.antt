@@ -49,6 +49,7 @@ invariant_of-self g c = (
   (done g c).serving,
   c.self.invariant.1,
   subst (λ n. n ≤ vec_capacity c.self.inside.told) (sym (done g c).calls) c.self.invariant.2,
+  c.self.invariant.3,
 )
 
 pub returns-clause-served : goal.returns-clause-served

@@ -31,4 +31,4 @@ invariant_of-self g c =
     let on = turn_serves_on g.D.Drive g.met.D.Drive.only_now _ (g.C.Clock.one c.self.inside.clock)
     (g.C.Clock.next c.self.inside.clock) (seen_parts c.self.inside.parts) c.self.invariant.0 c.turn.ensures.counted c.args.ticket
     c.turn.result (seen_parts c.turn.new.parts) c.turn.ensures.turns c.args.self.now c.self.view_is c.requires in
-    (on.serving, c.self.invariant.1, omega (arith, on.calls, c.self.invariant.2))
+    (on.serving, c.self.invariant.1, omega (arith, on.calls, c.self.invariant.2), c.self.invariant.3)

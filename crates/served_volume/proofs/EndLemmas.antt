@@ -1,0 +1,48 @@
+-- How a close ends, by what was admitted and what its commands did.
+use Rattle.std.specs.Prelude.{ℕ, ◌≡◌, ◌||◌, not, Bool, Option, Some, None, is_some, Result}
+use Rattle.std.specs.Option.{option_map}
+use Rattle.std.proofs.Common.{refl, sym, ap, subst, ◌∙◌}
+use Rattle.tape_types.specs.declared.cartridges.Twin.{Twin}
+use Rattle.tape_types.specs.declared.moments.Moment.{Moment}
+use Rattle.tape_drive.specs.declared.drive.Drive.{Ghosts}
+use Rattle.tape_layout.specs.Plans.{Plan}
+use Rattle.volume_stock.specs.Stocks.{Stocked}
+use Rattle.volume_model.specs.declared.answers.CloseEnd.{CloseEnd}
+use Rattle.served_volume.specs.Commands.{AreOpsDone, EndsWith, Lasts}
+use Rattle.served_volume.specs.Finish.{AdmitsOnDp, AdmitsOnIp, Finishes, IsShortOnIp, close_end, lasts_of, short_end}
+
+pub some_mapped : {X Y : Type 0} (f : X → Y) (o : Option X) → is_some (option_map f o) ≡ is_some o
+some_mapped f None = refl
+some_mapped f (Some x) = refl
+
+module _ {D : Type 0} (drive : Ghosts D) (noted : Bool) (at : Moment) (held mid : Stocked) (old new : D)
+    (told : Result (Unit {0}) Twin) (outcome : CloseEnd) where
+  pub went : (last : Stocked) (due notes : Bool) (lasts : Lasts) (generation : ℕ) → AdmitsOnDp at held mid
+      → AdmitsOnIp at held mid last due → notes ≡ (due || not noted) → lasts ≡ lasts_of mid
+      → generation ≡ lasts.generation
+      → EndsWith drive last.layout.ops lasts (record { flush = due; notes = notes }) old new told
+      → outcome ≡ close_end generation told → Finishes drive noted at held old new outcome
+  went last due notes lasts generation dp ip notes_is lasts_is generation_is ends is =
+      let same : generation ≡ mid.frame.generation = generation_is ∙ ap (λ (l : Lasts). l.generation) lasts_is in
+      subst (λ (e : CloseEnd). Finishes drive noted at held old new e)
+      (sym (is ∙ ap (λ n. close_end n told) same))
+      (Finishes.went mid last due new told dp ip
+      (subst (λ b. EndsWith drive last.layout.ops (lasts_of mid) (record { flush = due; notes = b }) old new told)
+      notes_is
+      (subst (λ (l : Lasts). EndsWith drive last.layout.ops l (record { flush = due; notes = notes }) old new told)
+      lasts_is ends)))
+
+  pub short : (last : Stocked) (need limit : ℕ) → AdmitsOnDp at held mid → IsShortOnIp at held need limit
+      → last.layout ≡ mid.layout → AreOpsDone drive last.layout.ops old new told → outcome ≡ short_end need limit told
+      → Finishes drive noted at held old new outcome
+  short last need limit dp ip same done is =
+      subst (λ (e : CloseEnd). Finishes drive noted at held old new e) (sym is)
+      (Finishes.short_on_ip need limit mid new told dp ip
+      (subst (λ (l : Plan). AreOpsDone drive l.ops old new told) same done))
+
+-- the numbers by other names
+pub same_end : (need limit need_told limit_told : ℕ) (told : Result (Unit {0}) Twin) (outcome : CloseEnd)
+    → need ≡ need_told → limit ≡ limit_told → outcome ≡ short_end need limit told
+    → outcome ≡ short_end need_told limit_told told
+same_end need limit need_told limit_told told outcome need_is limit_is is =
+    is ∙ (λ i. short_end (need_is i) (limit_is i) told)

@@ -1,0 +1,10 @@
+use Rattle.std.proofs.Common.{sym, ap, subst, ◌∙◌}
+use Rattle.head_trail.specs.Trail.{IsTrail}
+use Rattle.volume_journal.specs.Trails.{Journaled}
+use Rattle.served_volume.proofs.closing.close.Goals as goal
+
+pub costs_of-cost-requires : goal.costs_of-cost-requires
+costs_of-cost-requires g c =
+    subst IsTrail
+    (sym (c.take_log-drive.ensures.log_is.events ∙ ap (λ (t : Journaled). t.events) c.finish-outcome.ensures.trail))
+    c.requires.runs.runs.kept.order.orderly.trail

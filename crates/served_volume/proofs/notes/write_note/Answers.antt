@@ -1,0 +1,11 @@
+use Rattle.tape_types.specs.declared.cartridges.Note.TheVariants.{Kept}
+use Rattle.served_volume.proofs.notes.write_note.Goals as goal
+
+pub returns : goal.returns
+returns g c = record {
+  note = Kept c.encode_note-note.result;
+  has = c.encode_note-note.ensures.decodes;
+  told = c.write_note.ensures.told;
+  command = c.write_note.ensures.command;
+  crash = c.write_note.ensures.crash;
+}

@@ -1,0 +1,39 @@
+use Rattle.std.specs.Prelude.{Err, Ok}
+use Rattle.std.proofs.Common.{subst}
+use Rattle.tape_types.specs.declared.cartridges.Part.TheVariants.{Ip}
+use Rattle.coherency.specs.declared.Coherency.{Coherency}
+use Rattle.served_volume.specs.Commands.{IsNoteWritten, WritesNotes}
+use Rattle.served_volume.proofs.notes.write_notes.Goals as goal
+
+pub returns-in-Err : goal.returns-in-Err
+returns-in-Err g c =
+    WritesNotes.unread c.in-Err.counts c.args.head.now.drive c.vcr.new.self.drive (record {
+      value = c.in-Err.ensures.value;
+      command = c.in-Err.ensures.command;
+      held = c.in-Err.ensures.held;
+      crash = c.in-Err.ensures.crash;
+    })
+
+pub returns-in-Err-write_note : goal.returns-in-Err-write_note
+returns-in-Err-write_note g c =
+    WritesNotes.not_on_ip c.in-Ok.vcr c.in-Err-write_note.counts c.args.head.now.drive c.vcr.new.self.drive
+    c.write_note.new.head.drive (record {
+      value = c.in-Ok.ensures.value;
+      command = c.in-Ok.ensures.command;
+      held = c.in-Ok.ensures.held;
+      crash = c.in-Ok.ensures.crash;
+    })
+    (subst (λ (v : Coherency). IsNoteWritten g.D.Drive Ip v c.vcr.new.self.drive c.write_note.new.head.drive
+    (Err c.in-Err-write_note.counts)) c.values.ensures c.in-Err-write_note.ensures)
+
+pub returns-in-Ok-write_note : goal.returns-in-Ok-write_note
+returns-in-Ok-write_note g c =
+    WritesNotes.on_dp c.in-Ok.vcr c.args.head.now.drive c.vcr.new.self.drive c.write_note.new.head.drive
+    c.write_dp_note.new.head.drive c.write_dp_note.result (record {
+      value = c.in-Ok.ensures.value;
+      command = c.in-Ok.ensures.command;
+      held = c.in-Ok.ensures.held;
+      crash = c.in-Ok.ensures.crash;
+    })
+    (subst (λ (v : Coherency). IsNoteWritten g.D.Drive Ip v c.vcr.new.self.drive c.write_note.new.head.drive
+    (Ok tt)) c.values.ensures c.in-Ok-write_note.ensures) c.write_dp_note.ensures
