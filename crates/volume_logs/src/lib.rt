@@ -1,0 +1,7 @@
+//! What the log of a served volume tells beside its replies, and that each call keeps it: definitions and laws,
+//! without code that runs.
+#![tactic(auto)]
+
+mod laws;
+
+pub use laws::logs_go_on;
