@@ -1,0 +1,187 @@
+-- A volume that was played and closed gives the log of a run, and the run ends as the close did.
+use Rattle.std.specs.Prelude.{◌≡◌, ℕ, List, filter_map, length, map, Option, Some, take}
+use Rattle.std.proofs.Common.{sym, subst, arith}
+use Rattle.tape_types.specs.declared.moments.Moment.{Moment}
+use Rattle.plain_tree.specs.History.{replay}
+use Rattle.plain_tree.specs.Tree.{Tree}
+use Rattle.plain_tree.specs.declared.calls.Placed.{Placed}
+use Rattle.session_script.specs.Grammar.{calls_of}
+use Rattle.session_script.specs.declared.logs.Ack.{Ack}
+use Rattle.session_script.specs.declared.logs.Event.{Event}
+use Rattle.session_script.specs.declared.logs.Log.{Log}
+use Rattle.session_script.specs.declared.logs.Reply.{Reply}
+use Rattle.session_script.specs.declared.scripts.ScriptLine.{ScriptLine}
+use Rattle.tape_drive.specs.declared.drive.Drive.{Ghosts}
+use Rattle.tape_layout.specs.Ops.{place_of}
+use Rattle.tape_meaning.specs.Carried.{Carried, carried}
+use Rattle.tape_meaning.specs.declared.mounted.Mounted.{Mounted}
+use Rattle.volume_space.specs.Closing.{closing}
+use Rattle.volume_space.specs.Standing.{Given, admitted}
+use Rattle.volume_model.specs.Crash.{SurvivesCrashes}
+use Rattle.volume_model.specs.Ends.{Closes, IsCloseShort, IsDoneClose, IsEnd}
+use Rattle.volume_model.specs.Headline.{IsServeRun, IsTrueLog, tree_of_log}
+use Rattle.volume_model.specs.Meanings.{cartridges}
+use Rattle.volume_model.specs.Mount.{facts_of}
+use Rattle.volume_model.specs.Replies.{AreReplies}
+use Rattle.volume_model.specs.Served.{CanTell, IsTrue, View, given, given_of, queued, tree_after}
+use Rattle.volume_model.specs.declared.answers.CloseEnd.{CloseEnd}
+use Rattle.volume_model.specs.declared.answers.CloseEnd.TheVariants as ends
+use Rattle.volume_order.specs.Kept.{seen}
+use Rattle.volume_logs.specs.Logged.{IsAskedRightly}
+use Rattle.volume_runs.specs.Laws.{EndsSo, IsPlayed, PlaysAreRuns}
+use Rattle.volume_runs.proofs.Began.{IsFound, ReadsAs, StandsSound, same_mounted, same_read, same_stood, same_stood_facts, told_read, told_stood}
+use Rattle.volume_runs.proofs.Ends.{done_since}
+use Rattle.volume_runs.proofs.Logs.{events_are, history_is, last_is, replies_are, served_log}
+
+module _ {D : Type 0} (drive : Ghosts D) (script : List ScriptLine) (at : Option Moment) (start : D) (v : View D)
+    (now : D) (log : Log) (outcome : CloseEnd) (step_count travel_sum nodes : ℕ)
+    (played : IsPlayed drive script at start v)
+    (closes : Closes cartridges (seen drive v.fixed.first) (seen drive v.drive) (seen drive now) v now log outcome
+    step_count travel_sum nodes) where
+  -- the history, the events and the replies of the volume are those of the log
+  history : v.history ≡ log.history
+  history = history_is drive script at start v log played closes.log_is
+
+  events : v.events ≡ log.events
+  events = events_are drive script at start v log played closes.log_is
+
+  replies : v.replies ≡ map Some log.replies
+  replies = replies_are drive script at start v log played closes.log_is
+
+  module _ (mounted : Mounted) (tree : Tree)
+      (can : CanTell (IsFound mounted tree) (drive.commands start) (seen drive start)) where
+    mounted_is : v.fixed.mounted ≡ mounted
+    mounted_is = sym (same_mounted drive played.most start v.fixed.first played.looked v.fixed.since played.since
+        v.fixed.mounted v.fixed.tree played.mounted mounted tree can)
+
+    tree_is : v.fixed.tree ≡ tree
+    tree_is = sym (same_read drive played.most start v.fixed.first played.looked v.fixed.since played.since
+        v.fixed.mounted v.fixed.tree played.mounted mounted tree can)
+
+    told : CanTell (ReadsAs v.fixed.mounted v.fixed.tree) v.fixed.since (seen drive v.fixed.first)
+    told = told_read drive played.most start v.fixed.first played.looked v.fixed.since played.since
+        v.fixed.mounted v.fixed.tree played.mounted mounted tree can
+
+    -- what the definitions of space start from is the same
+    given_is : given v (seen drive v.fixed.first) ≡ given_of script tree mounted (seen drive start)
+    given_is = λ i. record {
+      calls = calls_of (played.script_is i);
+      tree = tree_is i;
+      mounted = facts_of (mounted_is i);
+      limits = played.looked.limits i;
+    }
+
+    truth : IsTrue (seen drive v.fixed.first) v
+    truth = played.served.truly told
+
+    rightly : IsAskedRightly (given_of script tree mounted (seen drive start)) v.on log.history log.events
+    rightly = subst (λ (e : Given × List Placed × List Event). IsAskedRightly e.0 v.on e.1 e.2)
+        (λ i. (given_is i, history i, events i)) (played.logged.truly told)
+
+    true_log : IsTrueLog script tree mounted (seen drive start) log
+    true_log = record {
+      on = v.on;
+      on_is = rightly.on_is;
+      replies = subst
+          (λ (e : Given × List Placed × List Event × List (Option Reply)). AreReplies e.0 v.on e.1 e.2 e.3)
+          (λ i. (given_is i, history i, events i, replies i)) truth.replies;
+      ops = subst
+          (λ (e : Given × List Placed × List Event).
+          filter_map queued e.2 ≡ map place_of (admitted e.0 v.on e.1))
+          (λ i. (given_is i, history i, events i)) truth.ops;
+      blocks = rightly.blocks;
+      asked = rightly.asked;
+      groups = rightly.groups;
+      drains = rightly.drains;
+    }
+
+    -- a close that is done, and one that is short
+    done : (m : Moment) (generation : ℕ)
+        → IsDoneClose cartridges (seen drive v.fixed.first) (seen drive now) v.fixed.mounted v.fixed.tree
+        (tree_after v (length v.history))
+        (closing (given v (seen drive v.fixed.first)) v.on v.history m).space.newest generation
+        → IsDoneClose cartridges (seen drive start) (seen drive now) mounted tree
+        (tree_of_log script tree log (length log.history))
+        (closing (given_of script tree mounted (seen drive start)) v.on log.history m).space.newest generation
+    done m generation d =
+        done_since cartridges (seen drive v.fixed.first) (seen drive start) (seen drive now) mounted tree
+        (tree_of_log script tree log (length log.history))
+        (closing (given_of script tree mounted (seen drive start)) v.on log.history m).space.newest generation
+        played.looked.held
+        (subst
+        (λ (e : Given × List Placed × Mounted × Tree × List ScriptLine).
+        IsDoneClose cartridges (seen drive v.fixed.first) (seen drive now) e.2 e.3
+        (replay (calls_of e.4) e.3 (take (length e.1) e.1)) (closing e.0 v.on e.1 m).space.newest generation)
+        (λ i. (given_is i, history i, mounted_is i, tree_is i, played.script_is i)) d)
+
+    short : (m : Moment) (need limit : ℕ)
+        → IsCloseShort (given v (seen drive v.fixed.first)) v.on v.history m need limit
+        → IsCloseShort (given_of script tree mounted (seen drive start)) v.on log.history m need limit
+    short m need limit is =
+        subst (λ (e : Given × List Placed). IsCloseShort e.0 v.on e.1 m need limit) (λ i. (given_is i, history i)) is
+
+  -- what a crash leaves
+  survives : (facts : Carried) (tree : Tree) (generation : ℕ)
+      → CanTell (StandsSound facts tree generation) (drive.commands start) (seen drive start)
+      → SurvivesCrashes cartridges facts (tree_of_log script tree log) (length log.history) log.acks
+      (seen drive now).leavings (drive.commands start)
+  survives facts tree generation can =
+      let facts_are : carried v.fixed.mounted.index ≡ facts =
+      sym (same_stood_facts drive played.most start v.fixed.first played.looked v.fixed.since played.since
+      v.fixed.mounted v.fixed.tree played.mounted facts tree generation can) in
+      let tree_is : v.fixed.tree ≡ tree =
+      sym (same_stood drive played.most start v.fixed.first played.looked v.fixed.since played.since
+      v.fixed.mounted v.fixed.tree played.mounted facts tree generation can) in
+      subst
+      (λ (e : Carried × Tree × List ScriptLine × List Placed × List Ack × ℕ).
+      SurvivesCrashes cartridges e.0 (λ k. replay (calls_of e.2) e.1 (take k e.3)) (length e.3) e.4
+      (seen drive now).leavings e.5)
+      (λ i. (
+        facts_are i,
+        tree_is i,
+        played.script_is i,
+        history i,
+        sym closes.log_is.acks i,
+        played.since i,
+      ))
+      (closes.crash (told_stood drive played.most start v.fixed.first played.looked v.fixed.since played.since
+      v.fixed.mounted v.fixed.tree played.mounted facts tree generation can))
+
+  run : IsServeRun cartridges script at (seen drive start) (seen drive now) log
+  run = record {
+    log_is = served_log drive script at start v log played closes.log_is now closes.later closes.faults;
+    truly = λ tree mounted can. true_log mounted tree can;
+    crash = survives;
+  }
+
+  ends_so : (end : CloseEnd)
+      → IsEnd cartridges (seen drive v.fixed.first) (seen drive v.drive) (seen drive now) v now closes.at end
+      → EndsSo drive script start now log end
+  ends_so (ends.Done generation) e =
+      λ tree mounted can. (
+        v.on,
+        closes.at,
+        (rightly mounted tree can).on_is,
+        done mounted tree can closes.at generation
+            (e.1 (told mounted tree can)),
+      )
+  ends_so (ends.Full need limit) e =
+      λ tree mounted can.
+      (v.on, closes.at, (rightly mounted tree can).on_is, short mounted tree can closes.at need limit e.0)
+  ends_so (ends.Fault counts) e = record {
+    lowest = omega (
+      arith,
+      last_is drive script at start v log played closes.log_is
+          (served_log drive script at start v log played closes.log_is v.drive (omega arith) (omega arith)).faults,
+      e.lowest,
+    );
+    rose = e.rose;
+    highest = e.highest;
+  }
+  ends_so ends.NoMemory e = tt
+
+pub plays_are_runs : {D : Type 0} (drive : Ghosts D) → PlaysAreRuns drive
+plays_are_runs drive script at start v now log outcome step_count travel_sum nodes played closes = record {
+  run = run drive script at start v now log outcome step_count travel_sum nodes played closes;
+  end = ends_so drive script at start v now log outcome step_count travel_sum nodes played closes outcome closes.end;
+}
