@@ -1,5 +1,5 @@
 -- Which command words are of.
-use Rattle.std.proofs.Common.{◌≡◌, ◌∙◌, ℕ, suc, ◌-◌, ◌≤◌, ◌<◌, Bool, true, false, ◌&&◌, List, [], ◌∷◌, take, drop, length, get_or, map, Option, Some, None, Result, Ok, Err, codes, refl, sym, ap, subst, String, arith, inl, inr}
+use Rattle.std.proofs.Common.{◌≡◌, ◌∙◌, ℕ, ◌-◌, ◌≤◌, ◌<◌, Bool, true, false, ◌&&◌, List, [], ◌∷◌, take, drop, length, get_or, map, Option, Some, None, Result, Ok, Err, codes, refl, sym, ap, subst, String, arith, inl, inr}
 use Rattle.std.specs.Str.{bytes_eq}
 use Rattle.std.proofs.lemmas.List.{length-drop, take_all}
 use Rattle.std.proofs.lemmas.Slice.Eq.{bytes_eq-Decides}
@@ -7,16 +7,15 @@ use Rattle.clap.specs.Simple.{App, is_simple, built}
 use Rattle.clap.specs.Faults.{is_free_app, is_simple_and_free}
 use Rattle.std.specs.Global.{Global}
 use Rattle.std.specs.String.{string_bytes}
-use Rattle.clap.specs.Words.{Text, HasKind, IsAmong, first_of, first_value, found_of, kind_of, matches_of, rows_of}
+use Rattle.clap.specs.Words.{Text, HasKind, first_of, first_value, found_of, kind_of, matches_of, rows_of}
 use Rattle.clap.specs.declared.parser.matches.ArgMatches.{ArgMatches}
 use Rattle.clap.proofs.WalkLemmas.{first_value-rows}
 use Rattle.clap.specs.Kinds.{Kinds}
 use Rattle.clap.specs.declared.error.Error.{Error}
 use Rattle.clap.specs.declared.error.kind.ErrorKind.TheVariants as kinds
-use Rattle.tape_types.specs.Times.{time_text}
 use Rattle.tape_types.specs.declared.moments.Moment.{Moment}
 use Rattle.tape_types.proofs.CivilLemmas.{time_text_injective}
-use Rattle.server_words.specs.Forms.{HasNoForm, IsBehindFolder, IsFormat, IsLabel, IsList, IsPlain, IsPlainForm, IsPlainWords, IsReadAs, IsSpelledBy, IsTakenAs, IsVolumeAsked}
+use Rattle.server_words.specs.Forms.{IsBehindFolder, IsFormat, IsLabel, IsList, IsMomentForm, IsMomentTaken, IsPlain, IsPlainForm, IsPlainWords, IsReadAs, IsServe, IsServeForm, IsServeRead, IsServeWords, IsSpelledBy, IsTakenAs, IsVolumeAsked}
 use Rattle.server_words.specs.Options.{IsMomentGiven, IsMomentRead, Takes, bare, with_moment}
 use Rattle.server_words.specs.Volumes.{IsVolumeForm}
 use Rattle.server_words.specs.declared.forms.WordsErr.{WordsErr}
@@ -53,6 +52,9 @@ list_named words is = behind_named (codes "list") (Takes (bare (codes "list"))) 
 pub format_named : (words : List (String Global)) → IsFormat words → IsNamed (codes "format") words
 format_named words is = behind_named (codes "format") (λ more. IsVolumeForm more is.0) words is.1
 
+pub serve_named : (words : List (String Global)) → IsServe words → IsNamed (codes "serve") words
+serve_named words is = behind_named (codes "serve") (λ more. IsServeForm more is.0) words is.1
+
 rest_of : (k : ℕ) (words : List (String Global)) → take (length words - k) (drop k words) ≡ drop k words
 rest_of k words = take_all (length words - k) (drop k words) (subst (λ n. n ≤ length words - k) (sym (length-drop k words)) (omega arith))
 
@@ -85,22 +87,22 @@ one_moment (Some text) None other a b = absurd a
 one_moment (Some text) (Some m) None a b = absurd b
 one_moment (Some text) (Some m) (Some n) a b = ap Some (time_text_injective m n (sym a.0 ∙ b.0))
 
--- what `plain` finds in words, and the moment of the text that it finds
-pub plain_form : (app : App) (words : List Text) (found : ArgMatches) (text : Option Text) (at : Option Moment)
-    → app ≡ with_moment (bare (codes "plain")) → Takes app words × (rows_of (found_of found) ≡ matches_of app words)
-    → text ≡ first_value (found_of found) (codes "at") → IsMomentGiven text at → IsPlainForm words at
-plain_form app words found text at same is value given = record {
+-- what such a command finds in words, and the moment of the text that it finds
+pub moment_form : (name : Text) (app : App) (words : List Text) (found : ArgMatches) (text : Option Text) (at : Option Moment)
+    → app ≡ with_moment (bare name) → Takes app words × (rows_of (found_of found) ≡ matches_of app words)
+    → text ≡ first_value (found_of found) (codes "at") → IsMomentGiven text at → IsMomentForm name words at
+moment_form name app words found text at same is value given = record {
   takes = subst (λ (a : App). Takes a words) same is.0;
   moment = subst (λ (t : Option Text). IsMomentGiven t at) (value ∙ first_value-rows (found_of found) (codes "at") ∙ ap (first_of (codes "at")) (is.1 ∙ ap (λ (a : App). matches_of a words) same)) given;
 }
 
 -- where no moment is read of that text
-pub plain_unread : (app : App) (words : List Text) (found : ArgMatches) (text : Option Text) (e : WordsErr)
-    → app ≡ with_moment (bare (codes "plain")) → Takes app words × (rows_of (found_of found) ≡ matches_of app words)
-    → text ≡ first_value (found_of found) (codes "at") → IsMomentRead text (Err e) → IsReadAs words (Err e)
-plain_unread app words found text errors.Form same is value none = λ plain. none plain.0
-    (subst (λ (t : Option Text). IsMomentGiven t plain.0) (sym (value ∙ first_value-rows (found_of found) (codes "at") ∙ ap (first_of (codes "at")) (is.1 ∙ ap (λ (a : App). matches_of a words) same))) plain.1.moment)
-plain_unread app words found text errors.NoMemory same is value none = tt
+pub moment_unread : (name : Text) (app : App) (words : List Text) (found : ArgMatches) (text : Option Text) (e : WordsErr)
+    → app ≡ with_moment (bare name) → Takes app words × (rows_of (found_of found) ≡ matches_of app words)
+    → text ≡ first_value (found_of found) (codes "at") → IsMomentRead text (Err e) → IsMomentTaken name words (Err e)
+moment_unread name app words found text errors.Form same is value none = λ at form. none at
+    (subst (λ (t : Option Text). IsMomentGiven t at) (sym (value ∙ first_value-rows (found_of found) (codes "at") ∙ ap (first_of (codes "at")) (is.1 ∙ ap (λ (a : App). matches_of a words) same))) form.moment)
+moment_unread name app words found text errors.NoMemory same is value none = tt
 
 -- words have one moment
 pub one_form : (words : List (String Global)) (one other : Option Moment) → IsPlainWords words one → IsPlainWords words other → one ≡ other
@@ -109,18 +111,27 @@ one_form words one other (more, is, form) (rest, are, again) =
     let moved : IsPlainForm more other = subst (λ w. IsPlainForm w other) same again in
     one_moment _ one other form.moment moved.moment
 
+-- the same behind a folder
+pub one_serve : (words : List (String Global)) (one other : Option Moment) → IsServeWords words one → IsServeWords words other → one ≡ other
+one_serve words one other (folder, more, is, form) (dir, rest, are, again) =
+    let same : rest ≡ more = ap (drop 2) (sym are ∙ is) in
+    let moved : IsServeForm more other = subst (λ w. IsServeForm w other) same again in
+    one_moment _ one other form.moment moved.moment
+
 pub plain_spelled : (words : List (String Global)) (more : List Text) (r : Result Command WordsErr) → map string_bytes words ≡ codes "plain" ∷ more → IsReadAs more r
     → IsSpelledBy words r
 plain_spelled words more (Ok (commands.Plain at)) is form = (more, is, form)
 plain_spelled words more (Ok commands.Label) is form = absurd form
 plain_spelled words more (Ok commands.List) is form = absurd form
 plain_spelled words more (Ok (commands.Format asked)) is form = absurd form
+plain_spelled words more (Ok (commands.Serve at)) is form = absurd form
 plain_spelled words more (Err errors.Form) is none =
     let named : IsNamed (codes "plain") words = (more, is) in record {
-      no_plain = λ plain. none (plain.0, subst (λ w. IsPlainForm w plain.0) (ap (drop 1) (sym plain.1.1 ∙ is)) plain.1.2);
+      no_plain = λ plain. none plain.0 (subst (λ w. IsPlainForm w plain.0) (ap (drop 1) (sym plain.1.1 ∙ is)) plain.1.2);
       no_label = λ label. names_differ words (codes "plain") (codes "label") refl named (label_named words label);
       no_list = λ list. names_differ words (codes "plain") (codes "list") refl named (list_named words list);
       no_format = λ format. names_differ words (codes "plain") (codes "format") refl named (format_named words format);
+      no_serve = λ serve. names_differ words (codes "plain") (codes "serve") refl named (serve_named words serve);
     }
 plain_spelled words more (Err errors.NoMemory) is none = tt
 
@@ -133,6 +144,7 @@ label_spelled words folder more (Err errors.Form) is none =
       no_label = λ label. none (subst (Takes (bare (codes "label"))) (ap (drop 2) (sym label.2 ∙ is)) label.3);
       no_list = λ list. names_differ words (codes "label") (codes "list") refl named (list_named words list);
       no_format = λ format. names_differ words (codes "label") (codes "format") refl named (format_named words format);
+      no_serve = λ serve. names_differ words (codes "label") (codes "serve") refl named (serve_named words serve);
     }
 label_spelled words folder more (Err errors.NoMemory) is none = tt
 
@@ -145,6 +157,7 @@ list_spelled words folder more (Err errors.Form) is none =
       no_label = λ label. names_differ words (codes "list") (codes "label") refl named (label_named words label);
       no_list = λ list. none (subst (Takes (bare (codes "list"))) (ap (drop 2) (sym list.2 ∙ is)) list.3);
       no_format = λ format. names_differ words (codes "list") (codes "format") refl named (format_named words format);
+      no_serve = λ serve. names_differ words (codes "list") (codes "serve") refl named (serve_named words serve);
     }
 list_spelled words folder more (Err errors.NoMemory) is none = tt
 
@@ -154,14 +167,33 @@ format_spelled words folder more (Ok (commands.Plain at)) is form = absurd form
 format_spelled words folder more (Ok commands.Label) is form = absurd form
 format_spelled words folder more (Ok commands.List) is form = absurd form
 format_spelled words folder more (Ok (commands.Format asked)) is form = (folder, more, is, form)
+format_spelled words folder more (Ok (commands.Serve at)) is form = absurd form
 format_spelled words folder more (Err errors.Form) is none =
     let named : IsNamed (codes "format") words = (folder ∷ more, is) in record {
       no_plain = λ plain. names_differ words (codes "format") (codes "plain") refl named (plain_named words plain);
       no_label = λ label. names_differ words (codes "format") (codes "label") refl named (label_named words label);
       no_list = λ list. names_differ words (codes "format") (codes "list") refl named (list_named words list);
       no_format = λ format. none format.0 (subst (λ w. IsVolumeForm w format.0) (ap (drop 2) (sym format.1.2 ∙ is)) format.1.3);
+      no_serve = λ serve. names_differ words (codes "format") (codes "serve") refl named (serve_named words serve);
     }
 format_spelled words folder more (Err errors.NoMemory) is none = tt
+
+pub serve_spelled : (words : List (String Global)) (folder : Text) (more : List Text) (r : Result Command WordsErr) → map string_bytes words ≡ codes "serve" ∷ folder ∷ more
+    → IsServeRead more r → IsSpelledBy words r
+serve_spelled words folder more (Ok (commands.Plain at)) is form = absurd form
+serve_spelled words folder more (Ok commands.Label) is form = absurd form
+serve_spelled words folder more (Ok commands.List) is form = absurd form
+serve_spelled words folder more (Ok (commands.Format asked)) is form = absurd form
+serve_spelled words folder more (Ok (commands.Serve at)) is form = (folder, more, is, form)
+serve_spelled words folder more (Err errors.Form) is none =
+    let named : IsNamed (codes "serve") words = (folder ∷ more, is) in record {
+      no_plain = λ plain. names_differ words (codes "serve") (codes "plain") refl named (plain_named words plain);
+      no_label = λ label. names_differ words (codes "serve") (codes "label") refl named (label_named words label);
+      no_list = λ list. names_differ words (codes "serve") (codes "list") refl named (list_named words list);
+      no_format = λ format. names_differ words (codes "serve") (codes "format") refl named (format_named words format);
+      no_serve = λ serve. none serve.0 (subst (λ w. IsServeForm w serve.0) (ap (drop 2) (sym serve.1.2 ∙ is)) serve.1.3);
+    }
+serve_spelled words folder more (Err errors.NoMemory) is none = tt
 
 -- an error of another kind than want of memory tells that the words aren't taken
 pub not_taken : (faults : Kinds) (e : Error) → HasKind faults e → (kind_of e ≡ kinds.OutOfMemory → ⊥) → faults ≡ [] → ⊥

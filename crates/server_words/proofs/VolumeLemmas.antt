@@ -1,12 +1,11 @@
 -- The volume that words ask for.
-use Rattle.std.proofs.Common.{◌≡◌, ◌∙◌, ℕ, List, drop, Option, Some, None, Result, Ok, Err, String, codes, refl, sym, ap, subst}
+use Rattle.std.proofs.Common.{◌≡◌, ◌∙◌, List, drop, Option, Some, None, Err, String, codes, sym, ap, subst}
 use Rattle.std.specs.Global.{Global}
 use Rattle.clap.specs.Words.{App, Text, first_of, first_value, found_of, matches_of, rows_of}
 use Rattle.clap.specs.declared.parser.matches.ArgMatches.{ArgMatches}
 use Rattle.clap.proofs.WalkLemmas.{first_value-rows}
 use Rattle.format_volume.specs.Refusals.{spec_fault}
 use Rattle.format_volume.specs.declared.requests.Field.{Field}
-use Rattle.index_model.specs.declared.indexes.Policy.{Policy}
 use Rattle.tape_types.specs.declared.moments.Moment.{Moment}
 use Rattle.server_words.specs.Forms.{IsFormatWords}
 use Rattle.server_words.specs.Options.{IsMomentGiven, Takes, value_of}

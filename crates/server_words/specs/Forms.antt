@@ -1,6 +1,6 @@
 -- The forms of a command line's words: a command's name, its folder where it has one, and words that clap's simple command
 -- takes, with options in any order, as `--x VALUE` or `--x=VALUE`.
-use Rattle.std.specs.Prelude.{◌≡◌, ℕ, List, [], ◌∷◌, map, Option, Some, None, Result, Ok, Err, String, codes, string_bytes}
+use Rattle.std.specs.Prelude.{◌≡◌, List, ◌∷◌, map, Option, Result, Ok, Err, String, codes, string_bytes}
 use Rattle.std.specs.Global.{Global}
 use Rattle.clap.specs.Words.{App, Text}
 use Rattle.tape_types.specs.declared.moments.Moment.{Moment}
@@ -12,10 +12,18 @@ use Rattle.server_words.specs.declared.reading.Command.{Command}
 use Rattle.server_words.specs.declared.reading.Command.TheVariants as commands
 use Rattle.server_words.specs.declared.volumes.FormatWords.{FormatWords}
 
+-- such words as a command of that name takes that has no option but `--at`, and its moment
+pub record IsMomentForm (name : Text) (words : List Text) (at : Option Moment) : Type 0 where
+  pub takes : Takes (with_moment (bare name)) words
+  pub moment : IsMomentGiven (value_of (with_moment (bare name)) (codes "at") words) at
+
 -- the words behind `plain`, and the moment of `--at`
-pub record IsPlainForm (words : List Text) (at : Option Moment) : Type 0 where
-  pub takes : Takes (with_moment (bare (codes "plain"))) words
-  pub moment : IsMomentGiven (value_of (with_moment (bare (codes "plain"))) (codes "at") words) at
+abbrev pub IsPlainForm : List Text → Option Moment → Type 0
+IsPlainForm words at = IsMomentForm (codes "plain") words at
+
+-- the words behind `serve` and its folder, and the moment of `--at`
+abbrev pub IsServeForm : List Text → Option Moment → Type 0
+IsServeForm words at = IsMomentForm (codes "serve") words at
 
 -- The words are `plain`, and maybe `--at TIME` with a time of the years 1970 to 9999, which then is every moment.
 abbrev pub IsPlainWords : List (String Global) → Option Moment → Type 0
@@ -50,29 +58,52 @@ IsFormatWords words asked = IsBehindFolder (codes "format") (λ more. IsVolumeFo
 abbrev pub IsFormat : List (String Global) → Type 0
 IsFormat words = (asked : FormatWords) × IsFormatWords words asked
 
+-- The words are `serve DIR`, and maybe `--at TIME` with a time of the years 1970 to 9999, which then is every moment.
+abbrev pub IsServeWords : List (String Global) → Option Moment → Type 0
+IsServeWords words at = IsBehindFolder (codes "serve") (λ more. IsServeForm more at) words
+
+-- the words are of one of the forms of `serve`
+abbrev pub IsServe : List (String Global) → Type 0
+IsServe words = (at : Option Moment) × IsServeWords words at
+
 -- the words are of no command's form
 pub record HasNoForm (words : List (String Global)) : Type 0 where
   pub no_plain : ¬ (IsPlain words)
   pub no_label : ¬ (IsLabel words)
   pub no_list : ¬ (IsList words)
   pub no_format : ¬ (IsFormat words)
+  pub no_serve : ¬ (IsServe words)
 
--- what the words spell: those of `plain` with this moment, those of `label` or of `list`, those of `format` with these
--- values, or of no form
+-- what the words spell: those of `plain` or of `serve` with this moment, those of `label` or of `list`, those of `format`
+-- with these values, or of no form
 abbrev pub IsSpelledBy : List (String Global) → Result Command WordsErr → Type 0
 IsSpelledBy words (Ok (commands.Plain at)) = IsPlainWords words at
 IsSpelledBy words (Ok commands.Label) = IsLabel words
 IsSpelledBy words (Ok commands.List) = IsList words
 IsSpelledBy words (Ok (commands.Format asked)) = IsFormatWords words asked
+IsSpelledBy words (Ok (commands.Serve at)) = IsServeWords words at
 IsSpelledBy words (Err errors.Form) = HasNoForm words
 IsSpelledBy words (Err errors.NoMemory) = Unit {0}
+
+-- the words behind such a command are of its form, with this moment
+abbrev pub IsMomentTaken : Text → List Text → Result (Option Moment) WordsErr → Type 0
+IsMomentTaken name words (Ok at) = IsMomentForm name words at
+IsMomentTaken name words (Err errors.Form) = (at : Option Moment) → ¬ (IsMomentForm name words at)
+IsMomentTaken name words (Err errors.NoMemory) = Unit {0}
 
 -- the words behind `plain` are of its form, with this moment
 abbrev pub IsReadAs : List Text → Result Command WordsErr → Type 0
 IsReadAs words (Ok (commands.Plain at)) = IsPlainForm words at
 IsReadAs words (Ok command) = ⊥
-IsReadAs words (Err errors.Form) = ¬ ((at : Option Moment) × IsPlainForm words at)
+IsReadAs words (Err errors.Form) = (at : Option Moment) → ¬ (IsPlainForm words at)
 IsReadAs words (Err errors.NoMemory) = Unit {0}
+
+-- the words behind `serve` and its folder are of its form, with this moment
+abbrev pub IsServeRead : List Text → Result Command WordsErr → Type 0
+IsServeRead words (Ok (commands.Serve at)) = IsServeForm words at
+IsServeRead words (Ok command) = ⊥
+IsServeRead words (Err errors.Form) = (at : Option Moment) → ¬ (IsServeForm words at)
+IsServeRead words (Err errors.NoMemory) = Unit {0}
 
 -- this command, where its simple command takes the words
 abbrev pub IsTakenAs : App → List Text → Command → Result Command WordsErr → Type 0

@@ -5,7 +5,7 @@ ghost use Rattle.std.specs.Global.{Global};
 ghost use Rattle.tape_types.specs.Times.{time_text};
 ghost use Rattle.tape_types.specs.declared.moments.Moment.{Moment};
 ghost use Rattle.tape_edge.specs.Clocks.{IsSince1970};
-ghost use Rattle.server_words.specs.Forms.{IsLabel, IsList, IsPlainWords};
+ghost use Rattle.server_words.specs.Forms.{IsLabel, IsList, IsPlainWords, IsServeWords};
 
 /// The plain forms of the commands are forms, with either spelling of an option and in no other number, and no other
 /// word may stand behind them.
@@ -20,4 +20,12 @@ pub fn words_are_forms()
         → map string_bytes words ≡ codes "label" ∷ folder ∷ [] → IsLabel words }
     ensures list { (words : List (String Global)) (folder : List ℕ)
         → map string_bytes words ≡ codes "list" ∷ folder ∷ [] → IsList words }
+    ensures serve { (words : List (String Global)) (folder : List ℕ)
+        → map string_bytes words ≡ codes "serve" ∷ folder ∷ [] → IsServeWords words None }
+    ensures serve_apart { (words : List (String Global)) (folder : List ℕ) (at : Moment) → IsSince1970 at
+        → map string_bytes words ≡ codes "serve" ∷ folder ∷ codes "--at" ∷ time_text at ∷ []
+        → IsServeWords words (Some at) }
+    ensures serve_joined { (words : List (String Global)) (folder : List ℕ) (at : Moment) → IsSince1970 at
+        → map string_bytes words ≡ codes "serve" ∷ folder ∷ (codes "--at=" ++ time_text at) ∷ []
+        → IsServeWords words (Some at) }
 {}

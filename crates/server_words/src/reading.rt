@@ -1,5 +1,5 @@
 ghost use Rattle.std.specs.Prelude.{◌≡◌, codes, map, string_bytes};
-ghost use Rattle.server_words.specs.Forms.{IsReadAs, IsSpelledBy, IsTakenAs, IsVolumeAsked};
+ghost use Rattle.server_words.specs.Forms.{IsMomentTaken, IsReadAs, IsServeRead, IsSpelledBy, IsTakenAs, IsVolumeAsked};
 ghost use Rattle.server_words.specs.Options.{bare};
 
 use crate::forms::{WordsErr, bare_command, command_with_moment, find_in};
@@ -18,6 +18,8 @@ pub enum Command {
     List,
     /// `format`, which makes the cartridge this empty volume.
     Format(FormatWords),
+    /// `serve`, which runs a script on the volume of the cartridge. Every moment is the given one, or else the clock's.
+    Serve { at: Option<Moment> },
 }
 
 /// What words ask for, without the program's name.
@@ -47,6 +49,9 @@ pub fn read_words(alloc: Global, words: &[String]) -> Result<Command, WordsErr>
     if name == "format" {
         return read_format(alloc, &words[2..]);
     }
+    if name == "serve" {
+        return read_serve(alloc, &words[2..]);
+    }
     Err(WordsErr::Form)
 }
 
@@ -54,7 +59,27 @@ pub fn read_words(alloc: Global, words: &[String]) -> Result<Command, WordsErr>
 fn read_plain(alloc: Global, words: &[String]) -> Result<Command, WordsErr>
     ensures { IsReadAs (map string_bytes words.now) result }
 {
-    let Ok(command) = command_with_moment(alloc, "plain") else {
+    match read_option(alloc, "plain", words) {
+        Ok(at) => Ok(Command::Plain { at }),
+        Err(error) => Err(error),
+    }
+}
+
+/// What the words of `serve` ask for, behind its folder.
+fn read_serve(alloc: Global, words: &[String]) -> Result<Command, WordsErr>
+    ensures { IsServeRead (map string_bytes words.now) result }
+{
+    match read_option(alloc, "serve", words) {
+        Ok(at) => Ok(Command::Serve { at }),
+        Err(error) => Err(error),
+    }
+}
+
+/// The moment of a command that has no other option than `--at`.
+fn read_option(alloc: Global, name: &str, words: &[String]) -> Result<Option<Moment>, WordsErr>
+    ensures { IsMomentTaken name.now (map string_bytes words.now) result }
+{
+    let Ok(command) = command_with_moment(alloc, name) else {
         return Err(WordsErr::NoMemory);
     };
     let found = match find_in(command, words) {
@@ -62,7 +87,7 @@ fn read_plain(alloc: Global, words: &[String]) -> Result<Command, WordsErr>
         Err(error) => return Err(error),
     };
     match read_at(found.get_str("at")) {
-        Ok(at) => Ok(Command::Plain { at }),
+        Ok(at) => Ok(at),
         Err(error) => Err(error),
     }
 }

@@ -2,7 +2,7 @@ use super::*;
 use index_model::Policy;
 use std::alloc::Global;
 use std::process::Abort;
-use tape_types::{NoMemory, time_text, uuid_text};
+use tape_types::{Moment, NoMemory, time_text, uuid_text};
 
 /// Appends characters of ASCII.
 fn push_bytes(text: &mut String, bytes: &[u8]) -> Result<(), NoMemory> {
@@ -42,7 +42,18 @@ fn push_policy(alloc: Global, text: &mut String, policy: &Option<Policy>) -> Res
     Ok(())
 }
 
-/// What words come to, by name: `plain TIME`, `plain`, `label`, `list`, the values of `format`, `none`, or `memory`.
+/// A command's name, and its moment where it has one.
+fn moment_text(alloc: Global, name: &str, at: Option<Moment>) -> Result<String, NoMemory> {
+    let mut text = String::from_str(alloc, name)?;
+    if let Some(at) = at {
+        text.push(' ')?;
+        push_bytes(&mut text, &time_text(at))?;
+    }
+    Ok(text)
+}
+
+/// What words come to, by name: `plain` or `serve` and maybe a time, `label`, `list`, the values of `format`, `none`, or
+/// `memory`.
 fn come_to(alloc: Global, words: &str) -> Result<String, NoMemory> {
     let mut all = Vec::new(alloc);
     if !words.is_empty() {
@@ -51,12 +62,8 @@ fn come_to(alloc: Global, words: &str) -> Result<String, NoMemory> {
         }
     }
     match read_words(alloc, all.as_slice()) {
-        Ok(Command::Plain { at: None }) => Ok(String::from_str(alloc, "plain")?),
-        Ok(Command::Plain { at: Some(at) }) => {
-            let mut text = String::from_str(alloc, "plain ")?;
-            push_bytes(&mut text, &time_text(at))?;
-            Ok(text)
-        }
+        Ok(Command::Plain { at }) => moment_text(alloc, "plain", at),
+        Ok(Command::Serve { at }) => moment_text(alloc, "serve", at),
         Ok(Command::Format(asked)) => volume_text(alloc, &asked),
         Ok(Command::Label) => Ok(String::from_str(alloc, "label")?),
         Ok(Command::List) => Ok(String::from_str(alloc, "list")?),
@@ -102,6 +109,38 @@ fn an_option_has_two_spellings(rt: HostRuntime) -> Result<(), NoMemory> {
         "none",
     )?;
     Ok(())
+}
+
+#[test]
+fn a_volume_is_served_at_a_moment(rt: HostRuntime) -> Result<(), NoMemory> {
+    let alloc = rt.alloc();
+    let at = "serve 2024-01-02T03:04:05.000000000Z";
+    check(
+        &rt,
+        alloc,
+        "serve|D|--at|2024-01-02T03:04:05.000000000Z",
+        at,
+    )?;
+    check(
+        &rt,
+        alloc,
+        "serve|D|--at=2024-01-02T03:04:05.000000000Z",
+        at,
+    )?;
+    check(
+        &rt,
+        alloc,
+        "serve|--at=2024-01-02T03:04:05.000000000Z",
+        "serve",
+    )?;
+    check(&rt, alloc, "serve|D|--at", "none")?;
+    check(&rt, alloc, "serve|D|--at|2024-01-02", "none")?;
+    check(
+        &rt,
+        alloc,
+        "serve|D|--at|1969-12-31T23:59:59.999999999Z",
+        "none",
+    )
 }
 
 #[test]
@@ -182,7 +221,13 @@ fn a_folder_is_any_text(rt: HostRuntime) -> Result<(), NoMemory> {
     )?;
     check(&rt, alloc, "list|D|--help", "none")?;
     check(&rt, alloc, "label|D|-h", "none")?;
-    check(&rt, alloc, "serve|D", "none")?;
+    check(&rt, alloc, "serve|D", "serve")?;
+    check(&rt, alloc, "serve|", "serve")?;
+    check(&rt, alloc, "serve|--at", "serve")?;
+    check(&rt, alloc, "serve|D|E", "none")?;
+    check(&rt, alloc, "serve|D|--help", "none")?;
+    check(&rt, alloc, "serve", "none")?;
+    check(&rt, alloc, "fly|D", "none")?;
     check(&rt, alloc, "LIST|D", "none")?;
     check(&rt, alloc, "|", "none")?;
     check(&rt, alloc, "", "none")?;

@@ -1,19 +1,28 @@
-use Rattle.std.proofs.Common.{[], codes, ◌∷◌, refl}
+use Rattle.std.proofs.Common.{[], codes, ◌∷◌}
 use Rattle.tape_types.specs.Times.{time_text}
 use Rattle.server_words.proofs.LawLemmas.{apart_is_form, joined_is_form, none_is_form, takes_bare}
 use Rattle.server_words.proofs.laws.words_are_forms.Goals as goal
 
 pub returns-clause-plain : goal.returns-clause-plain
-returns-clause-plain c = λ words is. ([], is, none_is_form)
+returns-clause-plain c = λ words is. ([], is, none_is_form _)
 
 pub returns-clause-apart : goal.returns-clause-apart
-returns-clause-apart c = λ words at since is. (codes "--at" ∷ time_text at ∷ [], is, apart_is_form at since)
+returns-clause-apart c = λ words at since is. (codes "--at" ∷ time_text at ∷ [], is, apart_is_form _ at since)
 
 pub returns-clause-joined : goal.returns-clause-joined
-returns-clause-joined c = λ words at since is. (_, is, joined_is_form at since)
+returns-clause-joined c = λ words at since is. (_, is, joined_is_form _ at since)
 
 pub returns-clause-label : goal.returns-clause-label
 returns-clause-label c = λ words folder is. (folder, [], is, takes_bare _)
 
 pub returns-clause-list : goal.returns-clause-list
 returns-clause-list c = λ words folder is. (folder, [], is, takes_bare _)
+
+pub returns-clause-serve : goal.returns-clause-serve
+returns-clause-serve c = λ words folder is. (folder, [], is, none_is_form _)
+
+pub returns-clause-serve_apart : goal.returns-clause-serve_apart
+returns-clause-serve_apart c = λ words folder at since is. (folder, codes "--at" ∷ time_text at ∷ [], is, apart_is_form _ at since)
+
+pub returns-clause-serve_joined : goal.returns-clause-serve_joined
+returns-clause-serve_joined c = λ words folder at since is. (folder, _, is, joined_is_form _ at since)

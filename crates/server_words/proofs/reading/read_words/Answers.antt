@@ -1,8 +1,6 @@
 use Rattle.std.proofs.Common.{rules, arith, codes, sym, ◌∙◌}
-use Rattle.std.proofs.lemmas.Bool.Decides.{nat_tests}
 use Rattle.std.proofs.lemmas.Slice.Eq.{bytes_eq-Decides}
-use Rattle.std.specs.String.{string_bytes}
-use Rattle.server_words.proofs.FormLemmas.{behind, behind_folder, format_spelled, label_spelled, list_spelled, plain_spelled}
+use Rattle.server_words.proofs.FormLemmas.{behind, behind_folder, format_spelled, label_spelled, list_spelled, plain_spelled, serve_spelled}
 use Rattle.server_words.proofs.reading.read_words.Goals as goal
 
 pub returns-then-eq : goal.returns-then-eq
@@ -28,3 +26,9 @@ returns-then-eq-4 c =
     let name = sym c.as_str-name.ensures.value ∙ (bytes_eq-Decides c.as_str-name.result.now (codes "format")).0 (sym c.eq-4.ensures ∙ c.if-eq-4.true) in
     let found = behind_folder c.args.words.now _ _ (omega (arith, c.if-words-lt2.false)) c.index-words-0.is name in
     format_spelled c.args.words.now found.0 _ _ found.1 c.read_format.ensures
+
+pub returns-then-eq-5 : goal.returns-then-eq-5
+returns-then-eq-5 c =
+    let name = sym c.as_str-name.ensures.value ∙ (bytes_eq-Decides c.as_str-name.result.now (codes "serve")).0 (sym c.eq-5.ensures ∙ c.if-eq-5.true) in
+    let found = behind_folder c.args.words.now _ _ (omega (arith, c.if-words-lt2.false)) c.index-words-0.is name in
+    serve_spelled c.args.words.now found.0 _ _ found.1 c.read_serve.ensures

@@ -1,4 +1,4 @@
-use Rattle.std.proofs.Common.{sym, ◌∙◌}
+use Rattle.std.proofs.Common.{sym}
 use Rattle.server_words.proofs.VolumeLemmas.{volume_form, volume_refused, volume_untold}
 use Rattle.server_words.proofs.volumes.read_volume.Goals as goal
 
