@@ -1,9 +1,10 @@
 -- What is promised for all words, where one command's were read.
-use Rattle.std.proofs.Common.{◌≡◌, ◌∙◌, ℕ, ◌+◌, ◌*◌, ◌^◌, ◌-◌, ◌≤◌, false, List, [], ◌∷◌, Option, Some, None, Ok, Err, String, codes, refl, sym, subst, arith, inl, inr, ◌==◌}
+use Rattle.std.proofs.Common.{◌≡◌, ◌∙◌, ℕ, ◌^◌, ◌-◌, ◌≤◌, false, List, [], ◌∷◌, Option, Some, None, Ok, Err, String, codes, refl, sym, ap, subst, arith, inl, inr, ◌==◌}
 use Rattle.std.specs.Prelude.{IfSome}
 use Rattle.std.specs.List.{list_any}
 use Rattle.std.specs.Global.{Global}
 use Rattle.tape_types.specs.declared.moments.Moment.{Moment}
+use Rattle.tape_edge.specs.Clocks.{IsSince1970}
 use Rattle.session_script.specs.declared.logs.Log.{Log}
 use Rattle.tape_drive.specs.Looks.{Looks}
 use Rattle.tape_drive.specs.declared.drive.Drive.{Ghosts}
@@ -11,23 +12,27 @@ use Rattle.tape_meaning.specs.declared.errors.MountErr.TheVariants as errors
 use Rattle.format_volume.specs.Writes.{Goes}
 use Rattle.format_volume.specs.declared.requests.FormatErr.TheVariants as refusals
 use Rattle.format_volume.proofs.WriteLemmas.{goes_still}
-use Rattle.server_words.specs.Forms.{HasNoForm, IsFormat, IsFormatWords, IsLabel, IsList, IsPlain, IsPlainWords, IsSpelledBy}
+use Rattle.server_words.specs.Forms.{HasNoForm, IsFormat, IsFormatWords, IsLabel, IsList, IsPlain, IsPlainWords, IsServe, IsServeWords, IsSpelledBy}
+use Rattle.server_words.specs.Options.{IsMomentGiven}
 use Rattle.server_words.specs.declared.volumes.FormatWords.{FormatWords}
 use Rattle.server_words.specs.declared.forms.WordsErr.{WordsErr}
 use Rattle.server_words.specs.declared.forms.WordsErr.TheVariants as word_errors
 use Rattle.server_words.specs.declared.reading.Command.{Command}
 use Rattle.server_words.specs.declared.reading.Command.TheVariants as commands
-use Rattle.server_words.proofs.FormLemmas.{format_named, label_named, list_named, names_differ, one_form, plain_named}
+use Rattle.server_words.proofs.FormLemmas.{format_named, label_named, list_named, names_differ, one_form, one_serve, plain_named, serve_named}
 use Rattle.server_words.proofs.VolumeLemmas.{one_format}
 use Rattle.ltfs_server.specs.Formats.{unformatted}
-use Rattle.ltfs_server.specs.Outcomes.{IsTold, of_format, of_label, of_list, of_memory, of_no_form, of_plain, unlabelled, unlisted}
-use Rattle.ltfs_server.specs.Promises.{ComesOf, DoesAsked, DoesFormat, DoesLabel, DoesList, DoesPlain, RefusesWords}
+use Rattle.ltfs_server.specs.Outcomes.{IsTold, of_format, of_label, of_list, of_memory, of_no_form, of_plain, of_serve, unlabelled, unlisted}
+use Rattle.ltfs_server.specs.Promises.{DoesAsked, DoesFormat, DoesLabel, DoesList, DoesPlain, DoesServe, RunScripts}
 use Rattle.ltfs_server.specs.Runs.{Gives, IsOneOf, Taken, TakesNothing, Written}
+use Rattle.ltfs_server.specs.Serving.{one_moment, unscripted}
 use Rattle.ltfs_server.specs.declared.plain.PlainEnd.TheVariants as plains
+use Rattle.ltfs_server.specs.declared.scripts.Unread.TheVariants as unread
 use Rattle.ltfs_server.proofs.FormatClauses.{format_does}
 use Rattle.ltfs_server.proofs.LabelClauses.{label_does}
 use Rattle.ltfs_server.proofs.ListClauses.{list_does}
 use Rattle.ltfs_server.proofs.PlainClauses.{plain_does}
+use Rattle.ltfs_server.proofs.ServeClauses.{serve_does}
 use Rattle.ltfs_server.proofs.Told.{by_six, by_status, by_text, if_some, none_of}
 use Rattle.tape_drive.proofs.Looking.{no_looks}
 
@@ -59,42 +64,48 @@ format_all n (inr (inr (inr (inl e)))) = inr (inr (inr (inr (inr (inr (inr (inl 
 format_all n (inr (inr (inr (inr (inl e))))) = inr (inr (inr (inr (inr (inr (inr (inr (inl e))))))))
 format_all n (inr (inr (inr (inr (inr none))))) = absurd none
 
-none_logged : (words : List (String Global)) (log : Option Log) → log ≡ None → IfSome log (λ l. IsPlain words)
-none_logged words log none = subst (λ l. IfSome l (λ l. IsPlain words)) (sym none) tt
+serve_all : (n : ℕ) → IsOneOf n (0 ∷ 2 ∷ 3 ∷ 4 ∷ 5 ∷ 6 ∷ 7 ∷ 8 ∷ []) → IsOneOf n (0 ∷ 1 ∷ 2 ∷ 3 ∷ 4 ∷ 5 ∷ 6 ∷ 7 ∷ 8 ∷ [])
+serve_all n (inl e) = inl e
+serve_all n (inr more) = inr (inr more)
 
-module _ {D : Type 0} (words : List (String Global)) (gives : Gives) (source : Taken) (sink : Written) (drive : Ghosts D) (old new : D) (status : ℕ) (log : Option Log) where
+none_logged : (words : List (String Global)) (log : Option Log) → log ≡ None → IfSome log (λ l. RunScripts words)
+none_logged words log none = subst (λ l. IfSome l (λ l. RunScripts words)) (sym none) tt
+
+module _ {D : Type 0} (words : List (String Global)) (gives : Gives) (one : Option Moment) (source : Taken) (sink : Written) (drive : Ghosts D) (old new : D) (status : ℕ) (log : Option Log) where
   pub plain_asked : (at : Option Moment) → IsPlainWords words at → DoesPlain at gives source sink old new status log
-      → DoesAsked words gives source sink drive old new status log
+      → DoesAsked words gives one source sink drive old new status log
   plain_asked at spelled does =
       let is_plain : IsPlain words = (at, spelled) in record {
         plain = λ again are. subst (λ (a : Option Moment). DoesPlain a gives source sink old new status log) (one_form words at again spelled are) does;
         label = λ label. absurd (names_differ words (codes "plain") (codes "label") refl (plain_named words is_plain) (label_named words label));
         list = λ list. absurd (names_differ words (codes "plain") (codes "list") refl (plain_named words is_plain) (list_named words list));
         format = λ asked format. absurd (names_differ words (codes "plain") (codes "format") refl (plain_named words is_plain) (format_named words (asked, format)));
+        serve = λ again are. absurd (names_differ words (codes "plain") (codes "serve") refl (plain_named words is_plain) (serve_named words (again, are)));
         no_form = λ none. absurd (none.no_plain is_plain);
-        unread = λ another. absurd (another is_plain);
+        unread = λ another third. absurd (another is_plain);
         comes = record {
           statuses = plain_all status does.statuses;
           done = λ zero. inl is_plain;
           refused = λ one. absurd (other status 1 (0 ∷ 2 ∷ 5 ∷ 6 ∷ 7 ∷ []) refl does.statuses one);
-          script = λ two. is_plain;
+          script = λ two. inl is_plain;
           volume = λ three. absurd (other status 3 (0 ∷ 2 ∷ 5 ∷ 6 ∷ 7 ∷ []) refl does.statuses three);
           drive = λ four. absurd (other status 4 (0 ∷ 2 ∷ 5 ∷ 6 ∷ 7 ∷ []) refl does.statuses four);
-          read = λ five. is_plain;
+          read = λ five. inl is_plain;
           full = λ eight. absurd (other status 8 (0 ∷ 2 ∷ 5 ∷ 6 ∷ 7 ∷ []) refl does.statuses eight);
-          logged = if_some log (λ l. IsPlain words) (λ l is. is_plain);
+          logged = if_some log (λ l. RunScripts words) (λ l is. inl is_plain);
         };
         told = (of_plain does.told.0, (at, spelled, does.told.1), does.told.2);
       }
 
-  pub label_asked : IsLabel words → TakesNothing source → DoesLabel drive old new sink status log → DoesAsked words gives source sink drive old new status log
+  pub label_asked : IsLabel words → TakesNothing source → DoesLabel drive old new sink status log → DoesAsked words gives one source sink drive old new status log
   label_asked spelled nothing does = record {
     plain = λ at are. absurd (names_differ words (codes "plain") (codes "label") refl (plain_named words (at, are)) (label_named words spelled));
     label = λ label. does;
     list = λ list. absurd (names_differ words (codes "label") (codes "list") refl (label_named words spelled) (list_named words list));
     format = λ asked format. absurd (names_differ words (codes "label") (codes "format") refl (label_named words spelled) (format_named words (asked, format)));
+    serve = λ at are. absurd (names_differ words (codes "label") (codes "serve") refl (label_named words spelled) (serve_named words (at, are)));
     no_form = λ none. absurd (none.no_label spelled);
-    unread = λ another. nothing;
+    unread = λ another third. nothing;
     comes = record {
       statuses = looked_all status does.statuses;
       done = λ zero. inr (inl spelled);
@@ -109,20 +120,21 @@ module _ {D : Type 0} (words : List (String Global)) (gives : Gives) (source : T
     told = (of_label does.told.0, (spelled, nothing, does.told.1), does.told.2);
   }
 
-  pub list_asked : IsList words → TakesNothing source → DoesList drive old new sink status log → DoesAsked words gives source sink drive old new status log
+  pub list_asked : IsList words → TakesNothing source → DoesList drive old new sink status log → DoesAsked words gives one source sink drive old new status log
   list_asked spelled nothing does = record {
     plain = λ at are. absurd (names_differ words (codes "plain") (codes "list") refl (plain_named words (at, are)) (list_named words spelled));
     label = λ label. absurd (names_differ words (codes "label") (codes "list") refl (label_named words label) (list_named words spelled));
     list = λ list. does;
     format = λ asked format. absurd (names_differ words (codes "list") (codes "format") refl (list_named words spelled) (format_named words (asked, format)));
+    serve = λ at are. absurd (names_differ words (codes "list") (codes "serve") refl (list_named words spelled) (serve_named words (at, are)));
     no_form = λ none. absurd (none.no_list spelled);
-    unread = λ another. nothing;
+    unread = λ another third. nothing;
     comes = record {
       statuses = looked_all status does.statuses;
       done = λ zero. inr (inr (inl spelled));
       refused = λ one. absurd (other status 1 (0 ∷ 3 ∷ 4 ∷ 6 ∷ 7 ∷ []) refl does.statuses one);
       script = λ two. absurd (other status 2 (0 ∷ 3 ∷ 4 ∷ 6 ∷ 7 ∷ []) refl does.statuses two);
-      volume = λ three. inr spelled;
+      volume = λ three. inr (inl spelled);
       drive = λ four. inr (inl spelled);
       read = λ five. absurd (other status 5 (0 ∷ 3 ∷ 4 ∷ 6 ∷ 7 ∷ []) refl does.statuses five);
       full = λ eight. absurd (other status 8 (0 ∷ 3 ∷ 4 ∷ 6 ∷ 7 ∷ []) refl does.statuses eight);
@@ -132,31 +144,57 @@ module _ {D : Type 0} (words : List (String Global)) (gives : Gives) (source : T
   }
 
   pub format_asked : (asked : FormatWords) → IsFormatWords words asked → TakesNothing source → DoesFormat asked gives drive old new sink status log
-      → DoesAsked words gives source sink drive old new status log
+      → DoesAsked words gives one source sink drive old new status log
   format_asked asked spelled nothing does =
       let is_format : IsFormat words = (asked, spelled) in record {
         plain = λ at are. absurd (names_differ words (codes "plain") (codes "format") refl (plain_named words (at, are)) (format_named words is_format));
         label = λ label. absurd (names_differ words (codes "label") (codes "format") refl (label_named words label) (format_named words is_format));
         list = λ list. absurd (names_differ words (codes "list") (codes "format") refl (list_named words list) (format_named words is_format));
         format = λ again are. subst (λ (a : FormatWords). DoesFormat a gives drive old new sink status log) (one_format words asked again spelled are) does;
+        serve = λ at are. absurd (names_differ words (codes "format") (codes "serve") refl (format_named words is_format) (serve_named words (at, are)));
         no_form = λ none. absurd (none.no_format is_format);
-        unread = λ another. nothing;
+        unread = λ another third. nothing;
         comes = record {
           statuses = format_all status does.statuses;
-          done = λ zero. inr (inr (inr is_format));
+          done = λ zero. inr (inr (inr (inl is_format)));
           refused = λ one. absurd (other status 1 (0 ∷ 4 ∷ 6 ∷ 7 ∷ 8 ∷ []) refl does.statuses one);
           script = λ two. absurd (other status 2 (0 ∷ 4 ∷ 6 ∷ 7 ∷ 8 ∷ []) refl does.statuses two);
           volume = λ three. absurd (other status 3 (0 ∷ 4 ∷ 6 ∷ 7 ∷ 8 ∷ []) refl does.statuses three);
-          drive = λ four. inr (inr is_format);
+          drive = λ four. inr (inr (inl is_format));
           read = λ five. absurd (other status 5 (0 ∷ 4 ∷ 6 ∷ 7 ∷ 8 ∷ []) refl does.statuses five);
-          full = λ eight. is_format;
+          full = λ eight. inl is_format;
           logged = none_logged words log does.no_log;
         };
         told = (of_format does.told.0, (asked, spelled, nothing, does.told.1), does.told.2);
       }
 
+  pub serve_asked : (at : Option Moment) → IsServeWords words at → DoesServe (one_moment at one) source drive old new sink status log
+      → DoesAsked words gives one source sink drive old new status log
+  serve_asked at spelled does =
+      let is_serve : IsServe words = (at, spelled) in record {
+        plain = λ again are. absurd (names_differ words (codes "plain") (codes "serve") refl (plain_named words (again, are)) (serve_named words is_serve));
+        label = λ label. absurd (names_differ words (codes "label") (codes "serve") refl (label_named words label) (serve_named words is_serve));
+        list = λ list. absurd (names_differ words (codes "list") (codes "serve") refl (list_named words list) (serve_named words is_serve));
+        format = λ asked format. absurd (names_differ words (codes "format") (codes "serve") refl (format_named words (asked, format)) (serve_named words is_serve));
+        serve = λ again are. subst (λ (a : Option Moment). DoesServe (one_moment a one) source drive old new sink status log) (one_serve words at again spelled are) does;
+        no_form = λ none. absurd (none.no_serve is_serve);
+        unread = λ another third. absurd (third is_serve);
+        comes = record {
+          statuses = serve_all status does.statuses;
+          done = λ zero. inr (inr (inr (inr is_serve)));
+          refused = λ one. absurd (other status 1 (0 ∷ 2 ∷ 3 ∷ 4 ∷ 5 ∷ 6 ∷ 7 ∷ 8 ∷ []) refl does.statuses one);
+          script = λ two. inr is_serve;
+          volume = λ three. inr (inr is_serve);
+          drive = λ four. inr (inr (inr is_serve));
+          read = λ five. inr is_serve;
+          full = λ eight. inr is_serve;
+          logged = if_some log (λ l. RunScripts words) (λ l is. inr is_serve);
+        };
+        told = (of_serve does.told.0, (at, spelled, does.told.1), does.told.2);
+      }
+
   pub form_asked : HasNoForm words → TakesNothing source → new ≡ old → log ≡ None → IsTold 1 (codes "words\n") sink status
-      → DoesAsked words gives source sink drive old new status log
+      → DoesAsked words gives one source sink drive old new status log
   form_asked none nothing same no_log told =
       let among : IsOneOf status (1 ∷ 6 ∷ 7 ∷ []) = by_status (λ n. IsOneOf n (1 ∷ 6 ∷ 7 ∷ [])) 1 (codes "words\n") sink status told (inl refl) (λ rose. inr (inl refl)) in
       let all : IsOneOf status (0 ∷ 1 ∷ 2 ∷ 3 ∷ 4 ∷ 5 ∷ 6 ∷ 7 ∷ 8 ∷ []) =
@@ -165,6 +203,7 @@ module _ {D : Type 0} (words : List (String Global)) (gives : Gives) (source : T
         label = λ label. absurd (none.no_label label);
         list = λ list. absurd (none.no_list list);
         format = λ asked format. absurd (none.no_format (asked, format));
+        serve = λ at are. absurd (none.no_serve (at, are));
         no_form = λ again. record {
           statuses = among;
           printed = λ one. (by_text 1 1 (codes "words\n") sink status told (λ e. cc e) one).1;
@@ -173,7 +212,7 @@ module _ {D : Type 0} (words : List (String Global)) (gives : Gives) (source : T
           drive = same;
           no_log = no_log;
         };
-        unread = λ another. nothing;
+        unread = λ another third. nothing;
         comes = record {
           statuses = all;
           done = λ zero. absurd (other status 0 (1 ∷ 6 ∷ 7 ∷ []) refl among zero);
@@ -206,7 +245,7 @@ module _ {D : Type 0} (words : List (String Global)) (gives : Gives) (source : T
       }
 
   pub memory_asked : TakesNothing source → new ≡ old → drive.commands old ≤ 2 ^ 64 - 1 → log ≡ None → IsTold 7 (codes "memory\n") sink status
-      → DoesAsked words gives source sink drive old new status log
+      → DoesAsked words gives one source sink drive old new status log
   memory_asked nothing same range no_log told =
       let among : IsOneOf status (6 ∷ 7 ∷ []) = by_status (λ n. IsOneOf n (6 ∷ 7 ∷ [])) 7 (codes "memory\n") sink status told (inr (inl refl)) (λ rose. inl refl) in
       let all : IsOneOf status (0 ∷ 1 ∷ 2 ∷ 3 ∷ 4 ∷ 5 ∷ 6 ∷ 7 ∷ 8 ∷ []) =
@@ -215,6 +254,7 @@ module _ {D : Type 0} (words : List (String Global)) (gives : Gives) (source : T
         label = λ label. label_does drive old new sink status log (unlabelled errors.NoMemory) (if_some (drive.held old) _ (λ c held. tt), tt) (looks_no _ same range) (no_log, told);
         list = λ list. list_does drive old new sink status log (unlisted errors.NoMemory) (if_some (drive.held old) _ (λ c held. tt), tt) (looks_no _ same range) (no_log, told);
         format = λ asked format. format_does drive old new asked gives sink status log (unformatted refusals.NoMemory) same (subst (λ (d : D). Goes drive old d) (sym same) (goes_still drive old)) (no_log, told);
+        serve = λ at are. serve_does drive old new (one_moment at one) source sink log status (unscripted unread.NoMemory) tt (λ none. looks_no _ same range) (ap drive.limits same) (λ held. ap drive.held same ∙ held) (no_log, told);
         no_form = λ again. record {
           statuses = inr among;
           printed = λ one. absurd (other status 1 (6 ∷ 7 ∷ []) refl among one);
@@ -223,7 +263,7 @@ module _ {D : Type 0} (words : List (String Global)) (gives : Gives) (source : T
           drive = same;
           no_log = no_log;
         };
-        unread = λ another. nothing;
+        unread = λ another third. nothing;
         comes = record {
           statuses = all;
           done = λ zero. absurd (other status 0 (6 ∷ 7 ∷ []) refl among zero);
@@ -253,3 +293,13 @@ asked_none w words e same is spelled = subst HasNoForm same (subst (λ (e : Word
 
 pub asked_format : (w words : List (String Global)) (k : Command) (asked : FormatWords) → w ≡ words → k ≡ commands.Format asked → IsSpelledBy w (Ok k) → IsFormatWords words asked
 asked_format w words k asked same is spelled = subst (λ v. IsFormatWords v asked) same (subst (λ (k : Command). IsSpelledBy w (Ok k)) is spelled)
+
+pub asked_serve : (w words : List (String Global)) (k : Command) (at : Option Moment) → w ≡ words → k ≡ commands.Serve at → IsSpelledBy w (Ok k) → IsServeWords words at
+asked_serve w words k at same is spelled = subst (λ v. IsServeWords v at) same (subst (λ (k : Command). IsSpelledBy w (Ok k)) is spelled)
+
+-- a moment of words is one of the years 1970 to 9999
+pub given_since : (text : Option (List ℕ)) (at : Option Moment) → IsMomentGiven text at → IfSome at IsSince1970
+given_since None None given = tt
+given_since None (Some at) given = absurd given
+given_since (Some text) None given = absurd given
+given_since (Some text) (Some at) given = given.1

@@ -1,5 +1,5 @@
 -- The label of a volume tells a size of its blocks that is in the range of sizes.
-use Rattle.std.proofs.Common.{◌≡◌, ◌∙◌, ℕ, ◌≤◌, Bool, true, false, cond, ◌==◌, List, [], ◌∷◌, ◌++◌, length, Option, Some, None, Result, Ok, Err, refl, sym, ap, subst, arith, ◌⊎◌, inl, inr}
+use Rattle.std.proofs.Common.{◌≡◌, ◌∙◌, ℕ, ◌≤◌, Bool, true, false, cond, ◌==◌, List, [], ◌∷◌, length, Result, Ok, Err, refl, sym, ap, subst, arith, ◌⊎◌, inl, inr}
 use Rattle.std.specs.Prelude.{nat_lt}
 use Rattle.std.proofs.lemmas.Bool.Decides.{nat_tests}
 use Rattle.doc_fields.specs.declared.tags.Tag.{Tag}
@@ -8,7 +8,7 @@ use Rattle.doc_fields.specs.declared.starts.Start.{Start}
 use Rattle.doc_fields.specs.Space.{space_end}
 use Rattle.doc_fields.specs.Numbers.{number_at}
 use Rattle.doc_fields.specs.EndTag.{end_at}
-use Rattle.doc_children.specs.Children.{code, first_missing, member}
+use Rattle.doc_children.specs.Children.{code, member}
 use Rattle.doc_elements.specs.declared.errors.PieceErr.{PieceErr}
 use Rattle.doc_elements.specs.declared.errors.PieceErr.TheVariants as errors
 use Rattle.doc_elements.specs.declared.schema.Place.{Place}
@@ -16,13 +16,14 @@ use Rattle.doc_elements.specs.declared.schema.Place.TheVariants as place
 use Rattle.doc_elements.specs.declared.schema.Form.{Form}
 use Rattle.doc_elements.specs.declared.schema.Form.TheVariants as form
 use Rattle.doc_elements.specs.declared.schema.Child.TheVariants as child
-use Rattle.doc_elements.specs.Schema.{required, rule, tag_of}
-use Rattle.doc_elements.specs.Pieces.{Piece, Val, ◌>>=◌, closes, in_range, leaf, leaf_at, letter, lift, number, number_in, time, truth, uuid, value_in, words}
+use Rattle.doc_elements.specs.Schema.{required, rule}
+use Rattle.doc_elements.specs.Pieces.{Val, ◌>>=◌, in_range, leaf, leaf_at, letter, lift, number, number_in, time, truth, uuid, value_in, words}
 use Rattle.doc_elements.specs.Elements.{AllSpelled, Item, Items, Spelled, all_pieces, bare, item, item_tag, nested, no_items, pieces_of, plain}
 use Rattle.doc_elements.proofs.Inversion.{bind_ok, unless_ok}
 use Rattle.ltfs_label.specs.Values.{LabelValue, blank, set_leaf}
-use Rattle.ltfs_label.specs.Reading.{set, value_from}
+use Rattle.ltfs_label.specs.Reading.{value_from}
 use Rattle.ltfs_label.specs.Grammar.{LabelText}
+use Rattle.ltfs_server.proofs.LabelKept.{all_keep, all_there, joined}
 
 either : {A : Type 0} (b : Bool) (x y : Result A PieceErr) (z : A) → cond b x y ≡ Ok z → (x ≡ Ok z) ⊎ (y ≡ Ok z)
 either true x y z e = inl e
@@ -98,46 +99,12 @@ tells text p tag f from start x next v ruled read is =
     subst (λ (t : Tag). IsRanged (set_leaf t x v)) (sym same.0)
     (subst (λ (y : Val). IsRanged (set_leaf BlockSize y v)) (sym found.1) found.2)
 
-leaf_keeps : (text : List ℕ) (p : Place) (tag : Tag) (f : Form) (from : ℕ) (start : Start) (x : Val) (next : ℕ) (v : LabelValue) → rule p tag ≡ child.Leaf f → leaf_at f tag from start text ≡ Ok (x, next)
+size_keeps : (text : List ℕ) (p : Place) (tag : Tag) (f : Form) (from : ℕ) (start : Start) (x : Val) (next : ℕ) (v : LabelValue) → rule p tag ≡ child.Leaf f → leaf_at f tag from start text ≡ Ok (x, next)
     → IsRanged v → IsRanged (set_leaf tag x v)
-leaf_keeps text p tag f from start x next v ruled read good = elim (code tag == 11) as (λ b. (code tag == 11) ≡ b → IsRanged (set_leaf tag x v)) [
+size_keeps text p tag f from start x next v ruled read good = elim (code tag == 11) as (λ b. (code tag == 11) ≡ b → IsRanged (set_leaf tag x v)) [
   | true ↦ λ is. tells text p tag f from start x next v ruled read is
   | false ↦ λ is. subst IsSize (sym (stays tag x v is)) good
 ] refl
-
-joined : (v : LabelValue) (ps qs : List Piece) → value_from v (ps ++ qs) ≡ value_from (value_from v ps) qs
-joined v [] qs = refl
-joined v (p ∷ ps) qs = joined (set p v) ps qs
-
--- a size in the range stays in it
-mutual
-  one_keeps : (text : List ℕ) (p : Place) (at : ℕ) (i : Item) (next : ℕ) (v : LabelValue) → Spelled text p at i next → IsRanged v → IsRanged (value_from v (pieces_of i))
-  one_keeps text p at (plain tag x) next v (f, start, starts, read) good = leaf_keeps text p tag f at start x next v starts.child read good
-  one_keeps text p at (bare q) next v spelled good = good
-  one_keeps text p at (nested q is) next v (start, starts, unclosed, end, children, ended) good =
-      subst IsRanged (sym (joined v (all_pieces is) (closes ∷ []))) (all_keep text q [] start.next is end v children good)
-
-  all_keep : (text : List ℕ) (p : Place) (seen : List Tag) (at : ℕ) (is : Items) (end : ℕ) (v : LabelValue) → AllSpelled text p seen at is end → IsRanged v
-      → IsRanged (value_from v (all_pieces is))
-  all_keep text p seen at no_items end v spelled good = good
-  all_keep text p seen at (item i is) end v (new, next, one, more) good =
-      subst IsRanged (sym (joined v (pieces_of i) (all_pieces is)))
-      (all_keep text p (item_tag i ∷ seen) next is end (value_from v (pieces_of i)) more (one_keeps text p (space_end text at) i next v one good))
-
--- nothing that is required is missing
-all_there : (wanted seen : List Tag) → first_missing wanted seen ≡ None → (front behind : List Tag) (t : Tag) → wanted ≡ front ++ t ∷ behind → member t seen ≡ true
-all_there wanted seen none front behind t parts = go front (subst (λ ts. first_missing ts seen ≡ None) parts none)
-  where
-    there : (u : Tag) (ts : List Tag) → first_missing (u ∷ ts) seen ≡ None → (member u seen ≡ true) × (first_missing ts seen ≡ None)
-    there u ts none = guarded (member u seen) refl
-      where
-        guarded : (b : Bool) → member u seen ≡ b → (member u seen ≡ true) × (first_missing ts seen ≡ None)
-        guarded true is = (is, rw is at none)
-        guarded false is = (let bad : Some u ≡ None = rw is at none in absurd (cc bad))
-
-    go : (front : List Tag) → first_missing (front ++ t ∷ behind) seen ≡ None → member t seen ≡ true
-    go [] none = (there t behind none).0
-    go (u ∷ front) none = go front (there u (front ++ t ∷ behind) none).1
 
 -- a label has a size
 has_size : (text : List ℕ) (seen : List Tag) (at : ℕ) (is : Items) (end : ℕ) (v : LabelValue) → AllSpelled text place.Label seen at is end → member BlockSize seen ≡ false
@@ -148,7 +115,7 @@ has_size text seen at no_items end v (ends, none) without =
 has_size text seen at (item i is) end v (new, next, one, more) without =
     elim (code (item_tag i) == 11) as (λ b. (code (item_tag i) == 11) ≡ b → IsRanged (value_from v (all_pieces (item i is)))) [
       | true ↦ λ same. subst IsRanged (sym (joined v (pieces_of i) (all_pieces is)))
-          (all_keep text place.Label (item_tag i ∷ seen) next is end (value_from v (pieces_of i)) more (this i one same))
+          (all_keep IsRanged text (size_keeps text) place.Label (item_tag i ∷ seen) next is end (value_from v (pieces_of i)) more (this i one same))
       | false ↦ λ other. subst IsRanged (sym (joined v (pieces_of i) (all_pieces is)))
           (has_size text (item_tag i ∷ seen) next is end (value_from v (pieces_of i)) more (another other))
     ] refl

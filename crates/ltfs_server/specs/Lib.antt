@@ -1,8 +1,12 @@
 pub mod Formats
 pub mod Headline
 pub mod Labels
+pub mod Lines
 pub mod Listings
 pub mod Outcomes
+pub mod Played
 pub mod Promises
+pub mod Rows
 pub mod Runs
+pub mod Serving
 pub mod Sessions

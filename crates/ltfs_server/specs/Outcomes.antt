@@ -13,13 +13,14 @@ use Rattle.tape_meaning.specs.Labels.{HasLabels}
 use Rattle.tape_meaning.specs.declared.labels.Labels.{Labels}
 use Rattle.tape_meaning.specs.declared.errors.MountErr.{MountErr}
 use Rattle.tree_listing.specs.Listing.{first_lines}
-use Rattle.server_words.specs.Forms.{HasNoForm, IsFormatWords, IsLabel, IsList, IsPlainWords}
+use Rattle.server_words.specs.Forms.{HasNoForm, IsFormatWords, IsLabel, IsList, IsPlainWords, IsServeWords}
 use Rattle.server_words.specs.declared.volumes.FormatWords.{FormatWords}
 use Rattle.ltfs_server.specs.Formats.{FormatEnd, IsFormatEnd, end_status, end_text}
 use Rattle.ltfs_server.specs.Labels.{labels_text, mount_status, mount_text}
 use Rattle.ltfs_server.specs.Listings.{IsListingOf, Listing, text_of_listing}
 use Rattle.ltfs_server.specs.Headline.{IsPlainRun, done_text, refusal_line, source_line}
 use Rattle.ltfs_server.specs.Runs.{Gives, IsRunOf, Looked, Run, Taken, TakesNothing, Written, looked}
+use Rattle.ltfs_server.specs.Serving.{IsServedEnd, ServedEnd, one_moment, served_log, served_status, served_text}
 use Rattle.ltfs_server.specs.declared.plain.PlainEnd.{PlainEnd}
 use Rattle.ltfs_server.specs.declared.plain.PlainEnd.TheVariants as plains
 
@@ -98,6 +99,7 @@ pub data Ending : Type 0 where
   of_label : LabelEnd → Ending
   of_list : ListEnd → Ending
   of_format : FormatEnd → Ending
+  of_serve : ServedEnd → Ending
 
 abbrev pub status_of : Ending → ℕ
 status_of of_no_form = 1
@@ -106,6 +108,7 @@ status_of (of_plain end) = plain_status end
 status_of (of_label end) = label_status end
 status_of (of_list end) = list_status end
 status_of (of_format end) = end_status end
+status_of (of_serve end) = served_status end
 
 abbrev pub text_of : Ending → List ℕ
 text_of of_no_form = codes "words\n"
@@ -114,6 +117,7 @@ text_of (of_plain end) = plain_text end
 text_of (of_label end) = label_text end
 text_of (of_list end) = list_text end
 text_of (of_format end) = end_text end
+text_of (of_serve end) = served_text end
 
 abbrev pub log_of : Ending → Option Log
 log_of of_no_form = None
@@ -122,9 +126,10 @@ log_of (of_plain end) = plain_log end
 log_of (of_label end) = None
 log_of (of_list end) = None
 log_of (of_format end) = None
+log_of (of_serve end) = served_log end
 
 -- the words are of no form, or those of the command, which may end so with the drive before and after it; none but `plain`
--- reads the source
+-- and `serve` reads the source
 abbrev pub IsCaused : {D : Type 0} → Run → Ghosts D → (old new : D) → Ending → Type 0
 IsCaused r drive old new of_no_form = HasNoForm r.words × TakesNothing r.source
 IsCaused r drive old new of_memory = TakesNothing r.source
@@ -135,6 +140,8 @@ IsCaused r drive old new (of_list end) = IsList r.words × TakesNothing r.source
 IsCaused r drive old new (of_format end) =
     (asked : FormatWords) × IsFormatWords r.words asked × TakesNothing r.source
     × IsFormatEnd drive asked r.gives old new end
+IsCaused r drive old new (of_serve end) =
+    (at : Option Moment) × IsServeWords r.words at × IsServedEnd drive old new (one_moment at r.one) r.source end
 
 -- a status and a text are told; or the sink's count rose, and a front of that text was written
 abbrev pub IsTold : (wanted : ℕ) → (text : List ℕ) → Written → (status : ℕ) → Type 0

@@ -15,13 +15,14 @@ use Rattle.tape_meaning.specs.Labels.{HasLabels}
 use Rattle.tape_meaning.specs.Meaning.{Found, Reads}
 use Rattle.tape_meaning.specs.declared.labels.Labels.{Labels}
 use Rattle.format_volume.specs.Writes.{Goes}
-use Rattle.server_words.specs.Forms.{HasNoForm, IsFormat, IsFormatWords, IsLabel, IsList, IsPlain, IsPlainWords}
+use Rattle.server_words.specs.Forms.{HasNoForm, IsFormat, IsFormatWords, IsLabel, IsList, IsPlain, IsPlainWords, IsServe, IsServeWords}
 use Rattle.server_words.specs.declared.volumes.FormatWords.{FormatWords}
 use Rattle.ltfs_server.specs.Formats.{AlwaysFits, FormatEnd, IsFormatEnd, IsFormattedAs, IsFullPrinted, NeverFits, formatted_text}
 use Rattle.ltfs_server.specs.Headline.{AreLabelsPrinted, IsCheckPrinted, IsDriveFaultPrinted, IsListingPrinted}
 use Rattle.ltfs_server.specs.Headline.{IsMountFaultPrinted, IsPartPrinted, IsPlainRun, IsPrinted, IsReadFaultPrinted, IsRefusalPrinted}
-use Rattle.ltfs_server.specs.Outcomes.{Ending, EndsAs, IsCaused, IsLabelEnd, IsListEnd, IsPlainEnd, LabelEnd, ListEnd, of_format, of_label, of_list, of_plain}
+use Rattle.ltfs_server.specs.Outcomes.{Ending, EndsAs, IsCaused, IsLabelEnd, IsListEnd, IsPlainEnd, LabelEnd, ListEnd, of_format, of_label, of_list, of_plain, of_serve}
 use Rattle.ltfs_server.specs.Runs.{Gives, IsOneOf, IsRunOf, Taken, TakesNothing, Written, looked}
+use Rattle.ltfs_server.specs.Serving.{IsClosePrinted, IsFailurePrinted, IsRefusedPrinted, IsServedEnd, IsServedRun, IsShortPrinted, ServedEnd, one_moment}
 use Rattle.ltfs_server.specs.declared.plain.PlainEnd.{PlainEnd}
 
 -- `plain`, with a moment or with those of the clock
@@ -112,6 +113,42 @@ pub record DoesFormat {D : Type 0} (asked : FormatWords) (gives : Gives) (drive 
   pub no_log : log ≡ None
   pub told : (end : FormatEnd) × IsFormatEnd drive asked gives old new end × EndsAs (of_format end) sink status log
 
+-- `serve`, with one moment or none, of the cartridge that the drive held, where it tells that
+pub record DoesServe {D : Type 0} (moment : Option Moment) (source : Taken) (drive : Ghosts D) (old new : D)
+    (sink : Written) (status : ℕ) (log : Option Log) : Type 0 where
+  pub statuses : IsOneOf status (0 ∷ 2 ∷ 3 ∷ 4 ∷ 5 ∷ 6 ∷ 7 ∷ 8 ∷ [])
+  -- the log, wherever there is one, is that of a run of the script that was left in the source, on the drive's volume
+  pub history : IfSome log (IsServedRun drive old new moment source)
+  pub refused : IsOneOf status (2 ∷ 3 ∷ 5 ∷ []) → log ≡ None
+  -- the volume is closed, which is told behind the log
+  pub closed : status ≡ 0 → IsClosePrinted drive old new moment source sink log
+  -- an input that is no script is told, unless a stream fails or memory is refused, and only such an input
+  pub script : IfSome source.left (λ text. IsErr (script_of text) → IsOneOf status (2 ∷ 5 ∷ 6 ∷ 7 ∷ []))
+  pub only_script : status ≡ 2 → IsRefusalPrinted source.left sink.old sink.new
+  -- a cartridge that reads as no tree is told by its first check that fails, unless there is no script, the drive or a
+  -- stream fails, or memory is refused, and only such a cartridge
+  pub volume : IfSome (drive.held old) (λ c. ReadsAsNone c → IsOneOf status (2 ∷ 3 ∷ 4 ∷ 5 ∷ 6 ∷ 7 ∷ []))
+  pub only_volume : status ≡ 3 → IsMountFaultPrinted (drive.held old) sink.old sink.new
+  -- without a log the drive failed as its cartridge was mounted, and else in the close
+  pub only_drive : status ≡ 4 → IsFailurePrinted drive old new moment source sink log
+  pub only_read : status ≡ 5 → IsReadFaultPrinted source.before source.now sink.old sink.new
+  pub only_write : status ≡ 6 → Rose sink.before sink.now
+  -- the log may stand before the line that tells it
+  pub memory : status ≡ 7 → IsRefusedPrinted sink log
+  -- a close without space is told by its numbers, behind the log
+  pub only_full : status ≡ 8 → IsShortPrinted drive old new moment source sink log
+  -- with a script, a cartridge that passes all checks and no fault all is done, unless memory is refused or space lacks
+  pub complete : ¬ (Rose source.before source.now) → ¬ (Rose (drive.faults old) (drive.faults new))
+      → ¬ (Rose sink.before sink.now) → IfSome source.left (λ text. IsOk (script_of text)
+      → IfSome (drive.held old) (λ c. Found c → IsOneOf status (0 ∷ 7 ∷ 8 ∷ [])))
+  -- without a log the cartridge is only looked at
+  pub looks : log ≡ None
+      → Looks drive ((23 + 2 * (drive.limits old).cap_ip + 2 * (drive.limits old).cap_dp) * drive.MOST) old new
+  -- whatever comes of it: the limits stay, and a drive that doesn't tell doesn't begin to
+  pub limits : drive.limits new ≡ drive.limits old
+  pub untold : drive.held old ≡ None → drive.held new ≡ None
+  pub told : (end : ServedEnd) × IsServedEnd drive old new moment source end × EndsAs (of_serve end) sink status log
+
 -- words of no form
 pub record RefusesWords {D : Type 0} (sink : Written) (old new : D) (status : ℕ) (log : Option Log) : Type 0 where
   pub statuses : IsOneOf status (1 ∷ 6 ∷ 7 ∷ [])
@@ -123,30 +160,36 @@ pub record RefusesWords {D : Type 0} (sink : Written) (old new : D) (status : �
 
 -- the words are those of a command that goes to the drive
 abbrev pub AskForDrive : List (String Global) → Type 0
-AskForDrive words = IsLabel words ⊎ (IsList words ⊎ IsFormat words)
+AskForDrive words = IsLabel words ⊎ (IsList words ⊎ (IsFormat words ⊎ IsServe words))
+
+-- the words are those of a command that runs a script
+abbrev pub RunScripts : List (String Global) → Type 0
+RunScripts words = IsPlain words ⊎ IsServe words
 
 -- of which words a status or a log may come
 pub record ComesOf (words : List (String Global)) (status : ℕ) (log : Option Log) : Type 0 where
   pub statuses : IsOneOf status (0 ∷ 1 ∷ 2 ∷ 3 ∷ 4 ∷ 5 ∷ 6 ∷ 7 ∷ 8 ∷ [])
   pub done : status ≡ 0 → IsPlain words ⊎ AskForDrive words
   pub refused : status ≡ 1 → HasNoForm words
-  pub script : status ≡ 2 → IsPlain words
-  pub volume : status ≡ 3 → IsLabel words ⊎ IsList words
+  pub script : status ≡ 2 → RunScripts words
+  pub volume : status ≡ 3 → IsLabel words ⊎ (IsList words ⊎ IsServe words)
   pub drive : status ≡ 4 → AskForDrive words
-  pub read : status ≡ 5 → IsPlain words
-  pub full : status ≡ 8 → IsFormat words
-  pub logged : IfSome log (λ l. IsPlain words)
+  pub read : status ≡ 5 → RunScripts words
+  pub full : status ≡ 8 → IsFormat words ⊎ IsServe words
+  pub logged : IfSome log (λ l. RunScripts words)
 
 -- all of it, for words that are known once they are read
-pub record DoesAsked {D : Type 0} (words : List (String Global)) (gives : Gives) (source : Taken) (sink : Written)
-    (drive : Ghosts D) (old new : D) (status : ℕ) (log : Option Log) : Type 0 where
+pub record DoesAsked {D : Type 0} (words : List (String Global)) (gives : Gives) (one : Option Moment) (source : Taken)
+    (sink : Written) (drive : Ghosts D) (old new : D) (status : ℕ) (log : Option Log) : Type 0 where
   pub plain : (at : Option Moment) → IsPlainWords words at → DoesPlain at gives source sink old new status log
   pub label : IsLabel words → DoesLabel drive old new sink status log
   pub list : IsList words → DoesList drive old new sink status log
   pub format : (asked : FormatWords) → IsFormatWords words asked
       → DoesFormat asked gives drive old new sink status log
+  pub serve : (at : Option Moment) → IsServeWords words at
+      → DoesServe (one_moment at one) source drive old new sink status log
   pub no_form : HasNoForm words → RefusesWords sink old new status log
-  pub unread : ¬ (IsPlain words) → TakesNothing source
+  pub unread : ¬ (IsPlain words) → ¬ (IsServe words) → TakesNothing source
   pub comes : ComesOf words status log
-  pub told : (e : Ending) × IsCaused (record { words = words; gives = gives; source = source }) drive old new e
+  pub told : (e : Ending) × IsCaused (record { words = words; gives = gives; one = one; source = source }) drive old new e
       × EndsAs e sink status log

@@ -59,10 +59,11 @@ written sink old new = record {
   now = sink.faults new;
 }
 
--- a run by its words, what its clock may give, and its source
+-- a run by its words, what its clock may give, its clock's one moment where it has one, and its source
 pub record Run : Type 1 where
   pub words : List (String Global)
   pub gives : Gives
+  pub one : Option Moment
   pub source : Taken
 
 -- The log is that of such a run of the script that all the bytes spell that the source had left, and these were read to
@@ -72,6 +73,11 @@ pub record IsRunOf (is_run : List ScriptLine → Log → Type 0) (source : Taken
   pub spelled : IfSome source.left (λ text. script_of text ≡ Ok script)
   pub whole : IsAtEnd source.rest
   pub run : is_run script log
+
+-- all the bytes spell this script that the source had left, and these were read to their end
+pub record IsScriptIn (source : Taken) (script : List ScriptLine) : Type 0 where
+  pub spelled : IfSome source.left (λ text. script_of text ≡ Ok script)
+  pub whole : IsAtEnd source.rest
 
 -- a status is one of these
 abbrev pub IsOneOf : ℕ → List ℕ → Type 0

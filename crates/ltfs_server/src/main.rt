@@ -6,11 +6,19 @@ mod formats;
 mod labels;
 mod lists;
 mod plain;
+mod playing;
+#[cfg(test)]
+mod rows;
+mod scripts;
+#[cfg(test)]
+mod served;
 mod server;
+mod serves;
 mod session;
 mod telling;
 #[cfg(test)]
 mod tests;
+mod timed;
 
 use file_drive::FileDrive;
 use server::run;

@@ -1,20 +1,18 @@
-ghost use Rattle.std.specs.Prelude.{◌≡◌, ◌++◌, IfOk, string_bytes};
+ghost use Rattle.std.specs.Prelude.{◌≡◌, IfOk};
 ghost use Rattle.ltfs_server.specs.Headline.{done_text};
 ghost use Rattle.ltfs_server.specs.Outcomes.{IsPlainEnd, plain_log, plain_status, plain_text};
 ghost use Rattle.ltfs_server.specs.Promises.{DoesPlain};
 ghost use Rattle.ltfs_server.specs.Runs.{taken, written};
 
 use crate::ended::Ended;
+use crate::scripts::{Unread, read_calls, refusal_text, source_text};
 use crate::session::run_script;
 use crate::telling::{bytes_of, tell_made};
-use session_script::{Log, ScriptErr, ScriptFault, log_text, read_script};
+use session_script::{Log, ScriptErr, log_text};
 use std::alloc::Global;
 use tape_drive::Drive;
-use tape_edge::{Clock, ReadFailure, Sink, Source, read_input};
+use tape_edge::{Clock, Sink, Source};
 use tape_types::{Bytes, Moment, NoMemory, Twin};
-
-/// No script has more bytes.
-const SCRIPT_LIMIT: usize = 16_777_216;
 
 /// What `plain` comes to.
 #[derive(Drop)]
@@ -36,16 +34,8 @@ impl PlainEnd {
     {
         match self {
             PlainEnd::Done(log) => done_text(alloc, log),
-            PlainEnd::Script(refusal) => {
-                let line = refusal.line;
-                let why = refusal.why;
-                Ok(bytes_of(format!(in alloc; "script {line} {why}\n")?))
-            }
-            PlainEnd::Source(counts) => {
-                let before = counts.before;
-                let after = counts.after;
-                Ok(bytes_of(format!(in alloc; "source {before} {after}\n")?))
-            }
+            PlainEnd::Script(refusal) => refusal_text(alloc, *refusal),
+            PlainEnd::Source(counts) => source_text(alloc, *counts),
             PlainEnd::NoMemory(_) => Ok(bytes_of(format!(in alloc; "memory\n")?)),
         }
     }
@@ -101,15 +91,11 @@ fn play<S: Source, C: Clock>(
 ) -> PlainEnd
     ensures { IsPlainEnd (taken S.Source script.old script.new) (C.gives clock) at result }
 {
-    let text = match read_input(alloc, script, SCRIPT_LIMIT) {
-        Ok(text) => text,
-        Err(ReadFailure::Fault(counts)) => return PlainEnd::Source(counts),
-        Err(ReadFailure::NoMemory) => return PlainEnd::NoMemory(None),
-    };
-    let script = match read_script(alloc, text.as_slice()) {
+    let script = match read_calls(alloc, script) {
         Ok(script) => script,
-        Err(ScriptFault::Bad(refusal)) => return PlainEnd::Script(refusal),
-        Err(ScriptFault::NoMemory) => return PlainEnd::NoMemory(None),
+        Err(Unread::Script(refusal)) => return PlainEnd::Script(refusal),
+        Err(Unread::Source(counts)) => return PlainEnd::Source(counts),
+        Err(Unread::NoMemory) => return PlainEnd::NoMemory(None),
     };
     match run_script(alloc, &script, at, clock) {
         Ok(log) => PlainEnd::Done(log),

@@ -1,17 +1,20 @@
 ghost use Rattle.std.specs.Prelude.{Option};
 ghost use Rattle.tape_types.specs.declared.moments.Moment.{Moment as Instant};
-ghost use Rattle.server_words.specs.Forms.{HasNoForm, IsFormatWords, IsLabel, IsList, IsPlain, IsPlainWords};
+ghost use Rattle.server_words.specs.Forms.{HasNoForm, IsFormatWords, IsLabel, IsList, IsPlain, IsPlainWords, IsServe};
+ghost use Rattle.server_words.specs.Forms.{IsServeWords};
 ghost use Rattle.server_words.specs.declared.volumes.FormatWords.{FormatWords};
 ghost use Rattle.ltfs_server.specs.Outcomes.{Ending, EndsAs, IsCaused};
 ghost use Rattle.ltfs_server.specs.Promises.{ComesOf, DoesAsked, DoesFormat, DoesLabel, DoesList};
-ghost use Rattle.ltfs_server.specs.Promises.{DoesPlain, RefusesWords};
+ghost use Rattle.ltfs_server.specs.Promises.{DoesPlain, DoesServe, RefusesWords};
 ghost use Rattle.ltfs_server.specs.Runs.{TakesNothing, taken, written};
+ghost use Rattle.ltfs_server.specs.Serving.{one_moment};
 
 use crate::ended::Ended;
 use crate::formats::run_format;
 use crate::labels::run_label;
 use crate::lists::run_list;
 use crate::plain::run_plain;
+use crate::serves::run_serve;
 use crate::telling::tell;
 use server_words::{Command, WordsErr, read_words};
 use std::alloc::Global;
@@ -41,17 +44,24 @@ pub fn run<D: Drive, S: Source, K: Sink, C: Clock>(
     ensures format { (asked : FormatWords) → IsFormatWords words.now.items asked
         → DoesFormat asked (C.gives clock) D.Drive drive result.drive (written K.Sink out.old out.new)
         result.status result.log }
+    // `serve` runs the script that is left in the source on the volume of the cartridge in the drive, closes the volume,
+    // and prints the log and how it was closed, or tells why not.
+    ensures serve { (at : Option Instant) → IsServeWords words.now.items at
+        → DoesServe (one_moment at (C.one clock)) (taken S.Source script.old script.new) D.Drive drive result.drive
+        (written K.Sink out.old out.new) result.status result.log }
     // Words of no form are told, and nothing is done.
     ensures no_form { HasNoForm words.now.items
         → RefusesWords (written K.Sink out.old out.new) drive result.drive result.status result.log }
-    // No other command than `plain` reads the source.
-    ensures unread { ¬ (IsPlain words.now.items) → TakesNothing (taken S.Source script.old script.new) }
+    // No other command than `plain` and `serve` reads the source.
+    ensures unread { ¬ (IsPlain words.now.items) → ¬ (IsServe words.now.items)
+        → TakesNothing (taken S.Source script.old script.new) }
     // Each status and each log comes of the words of some commands alone.
     ensures comes { ComesOf words.now.items result.status result.log }
     // Whatever the words: what is printed is the text of what the run came to, or a front of it where the sink failed.
     ensures told { (e : Ending) × IsCaused (record {
       words = words.now.items;
       gives = C.gives clock;
+      one = C.one clock;
       source = taken S.Source script.old script.new;
     }) D.Drive drive result.drive e
         × EndsAs e (written K.Sink out.old out.new) result.status result.log }
@@ -68,7 +78,7 @@ fn run_asked<D: Drive, S: Source, K: Sink, C: Clock>(
     out: &mut K,
     clock: C,
 ) -> Ended<D>
-    ensures { DoesAsked words.now.items (C.gives clock) (taken S.Source script.old script.new)
+    ensures { DoesAsked words.now.items (C.gives clock) (C.one clock) (taken S.Source script.old script.new)
         (written K.Sink out.old out.new) D.Drive drive result.drive result.status result.log }
 {
     let _commands_are_in_range = drive.commands();
@@ -77,6 +87,7 @@ fn run_asked<D: Drive, S: Source, K: Sink, C: Clock>(
         Ok(Command::Label) => run_label(alloc, drive, out),
         Ok(Command::List) => run_list(alloc, drive, out),
         Ok(Command::Format(asked)) => run_format(alloc, asked, drive, out, clock),
+        Ok(Command::Serve { at }) => run_serve(alloc, at, drive, script, out, clock),
         Err(WordsErr::Form) => tell(out, b"words\n", 1, None, drive),
         Err(WordsErr::NoMemory) => tell(out, b"memory\n", 7, None, drive),
     }

@@ -144,7 +144,7 @@ fn drive_of(alloc: Global, ip: &[u8], dp: &[u8], fails: List<Listed>) -> Result<
 }
 
 /// Runs the program on a drive and a script, with the reads and writes of these numbers failing.
-fn ran(
+pub fn ran(
     alloc: Global,
     words: &str,
     drive: MemDrive,
@@ -508,7 +508,7 @@ fn failures_of_a_listing_are_told(rt: HostRuntime) -> Result<(), NoMemory> {
     Ok(())
 }
 
-const FORMAT: &str =
+pub const FORMAT: &str =
     "format D TAPE01 30a91a08-daae-48d1-ae75-69804e61d2ea --block 4096 --at 2024-01-02T03:04:05.000000000Z";
 
 const FORMATTED: &str = "formatted 30a91a08-daae-48d1-ae75-69804e61d2ea\n";
@@ -624,6 +624,53 @@ fn a_failed_format_is_told(rt: HostRuntime) -> Result<(), NoMemory> {
     let drive = check_next(&rt, alloc, drive, FORMAT, 4, "drive 0 1\n")?;
     let drive = check_next(&rt, alloc, drive, FORMAT, 0, FORMATTED)?;
     let (ended, sink) = ran(alloc, FORMAT, drive, "", &[], &[1])?;
+    assert_eq!(rt; ended.status, 6);
+    assert_eq!(rt; sink.bytes().len(), 0);
+    Ok(())
+}
+
+/// `serve`, run with a script on a drive, ends with this status and this output.
+fn check_served<R: Abort>(
+    rt: &R,
+    alloc: Global,
+    drive: MemDrive,
+    script: &str,
+    status: u8,
+    output: &str,
+) -> Result<MemDrive, NoMemory> {
+    let words = "serve D --at=2024-01-02T03:04:05.000000000Z";
+    let (ended, sink) = ran(alloc, words, drive, script, &[], &[])?;
+    assert_eq!(rt; sink.bytes().as_slice(), output.as_bytes());
+    assert_eq!(rt; ended.status, status);
+    assert_eq!(rt; ended.log.is_some(), status == 0);
+    Ok(ended.drive)
+}
+
+#[test]
+fn a_script_is_served_and_its_volume_closed(rt: HostRuntime) -> Result<(), NoMemory> {
+    let alloc = rt.alloc();
+    let drive = blank(alloc, 1000, &[])?;
+    let drive = check_next(&rt, alloc, drive, FORMAT, 0, FORMATTED)?;
+    let drive = check_served(&rt, alloc, drive, "", 0, "closed 1 0 0\n")?;
+    let script = "1 create /a\n1 write /a 0 text:hello\n1 sync\n1 read /a 0 5\n";
+    let output = "0 1.0 ok\n1 1.1 ok\n2 1.2 synced\n3 1.3 bytes 5 68656c6c6f\nclosed 2 6 11\n";
+    let drive = check_served(&rt, alloc, drive, script, 0, output)?;
+    let tree = "d 1 /\nf 2 5 /a\ngeneration 2 b 9\n";
+    let drive = check_next(&rt, alloc, drive, "list D", 0, tree)?;
+    let _drive = check_served(&rt, alloc, drive, "", 0, "closed 2 0 0\n")?;
+    Ok(())
+}
+
+#[test]
+fn what_is_not_served_is_told(rt: HostRuntime) -> Result<(), NoMemory> {
+    let alloc = rt.alloc();
+    let drive = blank(alloc, 1000, &[])?;
+    let drive = check_served(&rt, alloc, drive, "1 fly\n", 2, "script 1 Verb\n")?;
+    let drive = check_served(&rt, alloc, drive, "1 sync\n", 3, "volume Vol1 ip\n")?;
+    let (ended, sink) = ran(alloc, "serve D", drive, "1 sync\n", &[1], &[])?;
+    assert_eq!(rt; sink.bytes().as_slice(), b"source 0 1\n".as_slice());
+    assert_eq!(rt; ended.status, 5);
+    let (ended, sink) = ran(alloc, "serve D", ended.drive, "1 sync\n", &[], &[1])?;
     assert_eq!(rt; ended.status, 6);
     assert_eq!(rt; sink.bytes().len(), 0);
     Ok(())

@@ -1,19 +1,19 @@
 use Rattle.std.proofs.Common.{refl, arith}
-use Rattle.ltfs_server.proofs.Asked.{asked_format, asked_label, asked_list, asked_none, asked_plain, form_asked, format_asked, label_asked, list_asked, memory_asked, plain_asked}
+use Rattle.ltfs_server.proofs.Asked.{asked_format, asked_label, asked_list, asked_none, asked_plain, asked_serve, form_asked, format_asked, given_since, label_asked, list_asked, memory_asked, plain_asked, serve_asked}
 use Rattle.ltfs_server.proofs.server.run_asked.Goals as goal
 
 pub returns-in-Ok-Plain : goal.returns-in-Ok-Plain
 returns-in-Ok-Plain g c =
-    plain_asked _ _ _ _ g.D.Drive _ _ _ _ c.in-Ok-Plain.at (asked_plain _ _ _ _ c.as_slice.ensures.value c.in-Ok-Plain.field-0-is c.in-Ok-Plain.ensures) c.run_plain.ensures
+    plain_asked _ _ _ _ _ g.D.Drive _ _ _ _ c.in-Ok-Plain.at (asked_plain _ _ _ _ c.as_slice.ensures.value c.in-Ok-Plain.field-0-is c.in-Ok-Plain.ensures) c.run_plain.ensures
 
 pub returns-in-Ok-Label : goal.returns-in-Ok-Label
 returns-in-Ok-Label g c =
-    label_asked _ _ _ _ g.D.Drive _ _ _ _ (asked_label _ _ _ c.as_slice.ensures.value c.in-Ok-Label.field-0-is c.in-Ok-Label.ensures)
+    label_asked _ _ _ _ _ g.D.Drive _ _ _ _ (asked_label _ _ _ c.as_slice.ensures.value c.in-Ok-Label.field-0-is c.in-Ok-Label.ensures)
     (record { left = refl; faults = refl }) c.run_label.ensures
 
 pub returns-in-Ok-List : goal.returns-in-Ok-List
 returns-in-Ok-List g c =
-    list_asked _ _ _ _ g.D.Drive _ _ _ _ (asked_list _ _ _ c.as_slice.ensures.value c.in-Ok-List.field-0-is c.in-Ok-List.ensures)
+    list_asked _ _ _ _ _ g.D.Drive _ _ _ _ (asked_list _ _ _ c.as_slice.ensures.value c.in-Ok-List.field-0-is c.in-Ok-List.ensures)
     (record { left = refl; faults = refl }) c.run_list.ensures
 
 pub run_format-requires : goal.run_format-requires
@@ -22,15 +22,23 @@ run_format-requires g c =
 
 pub returns-in-Ok-Format : goal.returns-in-Ok-Format
 returns-in-Ok-Format g c =
-    format_asked _ _ _ _ g.D.Drive _ _ _ _ c.in-Ok-Format.asked (asked_format _ _ _ c.in-Ok-Format.asked c.as_slice.ensures.value c.in-Ok-Format.field-0-is c.in-Ok-Format.ensures)
+    format_asked _ _ _ _ _ g.D.Drive _ _ _ _ c.in-Ok-Format.asked (asked_format _ _ _ c.in-Ok-Format.asked c.as_slice.ensures.value c.in-Ok-Format.field-0-is c.in-Ok-Format.ensures)
     (record { left = refl; faults = refl }) c.run_format.ensures
+
+pub run_serve-requires : goal.run_serve-requires
+run_serve-requires g c =
+    given_since _ c.in-Ok-Serve.at (asked_serve _ _ _ c.in-Ok-Serve.at c.as_slice.ensures.value c.in-Ok-Serve.field-0-is c.in-Ok-Serve.ensures).3.moment
+
+pub returns-in-Ok-Serve : goal.returns-in-Ok-Serve
+returns-in-Ok-Serve g c =
+    serve_asked _ _ _ _ _ g.D.Drive _ _ _ _ c.in-Ok-Serve.at (asked_serve _ _ _ _ c.as_slice.ensures.value c.in-Ok-Serve.field-0-is c.in-Ok-Serve.ensures) c.run_serve.ensures
 
 pub returns-in-Err-Form : goal.returns-in-Err-Form
 returns-in-Err-Form g c =
-    form_asked _ _ _ _ g.D.Drive _ _ _ _ (asked_none _ _ _ c.as_slice.ensures.value c.in-Err-Form.field-0-is c.in-Err-Form.ensures)
+    form_asked _ _ _ _ _ g.D.Drive _ _ _ _ (asked_none _ _ _ c.as_slice.ensures.value c.in-Err-Form.field-0-is c.in-Err-Form.ensures)
     (record { left = refl; faults = refl }) c.tell.ensures.drive c.tell.ensures.log c.tell.ensures.told
 
 pub returns : goal.returns
 returns g c =
-    memory_asked _ _ _ _ g.D.Drive _ _ _ _ (record { left = refl; faults = refl }) c.tell-in-Err-NoMemory.ensures.drive
+    memory_asked _ _ _ _ _ g.D.Drive _ _ _ _ (record { left = refl; faults = refl }) c.tell-in-Err-NoMemory.ensures.drive
     (omega (arith, c.commands-commands_are_in_range.ensures)) c.tell-in-Err-NoMemory.ensures.log c.tell-in-Err-NoMemory.ensures.told

@@ -1,0 +1,180 @@
+-- What `serve` comes to: when it comes to that, and what is told then.
+use Rattle.std.specs.Prelude.{◌≡◌, ◌⊎◌, ◌≤◌, ℕ, ◌+◌, ◌*◌, List, ◌++◌, Option, Some, None, Err, IfSome, codes, decimal}
+use Rattle.std.specs.Io.KnownBytes.{Appends}
+use Rattle.tape_types.specs.Counts.{IsRise}
+use Rattle.tape_types.specs.declared.cartridges.Cartridge.{Cartridge}
+use Rattle.tape_types.specs.declared.cartridges.Twin.{Twin}
+use Rattle.tape_types.specs.declared.moments.Moment.{Moment}
+use Rattle.plain_tree.specs.Tree.{Tree}
+use Rattle.session_script.specs.Grammar.{script_of}
+use Rattle.session_script.specs.LogText.{log_text}
+use Rattle.session_script.specs.declared.logs.Log.{Log}
+use Rattle.session_script.specs.declared.scripts.ScriptLine.{ScriptLine}
+use Rattle.tape_drive.specs.Looks.{Looks}
+use Rattle.tape_drive.specs.declared.drive.Drive.{Ghosts}
+use Rattle.mount_recover.specs.Labels.{AreCounts}
+use Rattle.mount_recover.specs.Steps.{Blames}
+use Rattle.tape_meaning.specs.Carried.{Carried, carried}
+use Rattle.tape_meaning.specs.Meaning.{Reads}
+use Rattle.tape_meaning.specs.Mounts.{Mounts}
+use Rattle.tape_meaning.specs.declared.errors.MountErr.{MountErr}
+use Rattle.volume_model.specs.Headline.{Closed, Failed, IsEndOf, IsServeRun, ServeEnd, Short, serve_text, status_of}
+use Rattle.volume_model.specs.Meanings.{cartridges}
+use Rattle.volume_model.specs.Served.{Fixed}
+use Rattle.volume_model.specs.declared.answers.CloseEnd.{CloseEnd}
+use Rattle.volume_model.specs.declared.answers.CloseEnd.TheVariants as ends
+use Rattle.volume_order.specs.Kept.{seen}
+use Rattle.ltfs_server.specs.Headline.{IsDriveFaultPrinted, refusal_line, source_line}
+use Rattle.ltfs_server.specs.Labels.{mount_status, mount_text}
+use Rattle.ltfs_server.specs.Runs.{IsRunOf, IsScriptIn, Taken, Written}
+use Rattle.ltfs_server.specs.declared.scripts.Unread.{Unread}
+use Rattle.ltfs_server.specs.declared.scripts.Unread.TheVariants as unread
+
+-- ---- why there is no script
+
+abbrev pub unread_status : Unread → ℕ
+unread_status (unread.Script refusal) = 2
+unread_status (unread.Source counts) = 5
+unread_status unread.NoMemory = 7
+
+abbrev pub unread_text : Unread → List ℕ
+unread_text (unread.Script refusal) = refusal_line refusal
+unread_text (unread.Source counts) = source_line counts
+unread_text unread.NoMemory = codes "memory\n"
+
+-- when it is so
+abbrev pub IsUnread : Taken → Unread → Type 0
+IsUnread source (unread.Script refusal) = IfSome source.left (λ text. script_of text ≡ Err refusal)
+IsUnread source (unread.Source counts) = IsRise source.before source.now counts.before counts.after
+IsUnread source unread.NoMemory = Unit {0}
+
+-- ---- how a volume was closed
+
+abbrev pub close_status : CloseEnd → ℕ
+close_status (ends.Done generation) = 0
+close_status (ends.Full need limit) = 8
+close_status (ends.Fault counts) = 4
+close_status ends.NoMemory = 7
+
+-- `closed GENERATION STEPS TRAVEL`, or the line of the fault, or that memory was refused
+abbrev pub close_line : CloseEnd → (steps travel : ℕ) → List ℕ
+close_line (ends.Done generation) steps travel = codes "closed "
+    ++ (decimal generation
+    ++ (codes " " ++ (decimal steps ++ (codes " " ++ (decimal travel ++ codes "\n")))))
+close_line (ends.Full need limit) steps travel =
+    codes "full " ++ (decimal need ++ (codes " " ++ (decimal limit ++ codes "\n")))
+close_line (ends.Fault counts) steps travel =
+    codes "drive " ++ (decimal counts.before ++ (codes " " ++ (decimal counts.after ++ codes "\n")))
+close_line ends.NoMemory steps travel = codes "memory\n"
+
+-- ---- what it comes to
+
+-- the moment of the words, or else the clock's one moment, where it has one
+abbrev pub one_moment : Option Moment → Option Moment → Option Moment
+one_moment (Some at) one = Some at
+one_moment None one = one
+
+-- a clock that gives the moment of the words, where they have one
+pub record TimedView (C : Type 0) : Type 0 where
+  pub at : Option Moment
+  pub clock : C
+
+-- There was no script; the cartridge wasn't mounted, or memory was refused before the first call; the script was served,
+-- and the volume closed so; memory was refused to the close; or to the text of all that.
+pub data ServedEnd : Type 0 where
+  unscripted : Unread → ServedEnd
+  unserved : MountErr → ServedEnd
+  served : Log → ServeEnd → ServedEnd
+  unclosed : Log → ServedEnd
+  unwritten : Log → ServedEnd
+
+abbrev pub served_status : ServedEnd → ℕ
+served_status (unscripted why) = unread_status why
+served_status (unserved error) = mount_status error
+served_status (served log end) = status_of end
+served_status (unclosed log) = 7
+served_status (unwritten log) = 7
+
+abbrev pub served_text : ServedEnd → List ℕ
+served_text (unscripted why) = unread_text why
+served_text (unserved error) = mount_text error
+served_text (served log end) = serve_text log end
+served_text (unclosed log) = log_text log ++ codes "memory\n"
+served_text (unwritten log) = codes "memory\n"
+
+-- the log, wherever the calls were run
+abbrev pub served_log : ServedEnd → Option Log
+served_log (unscripted why) = None
+served_log (unserved error) = None
+served_log (served log end) = Some log
+served_log (unclosed log) = Some log
+served_log (unwritten log) = Some log
+
+-- the cartridge reads as some tree, where the drive told it
+abbrev pub HoldsTree : Option Cartridge → Type 0
+HoldsTree held = IfSome held (λ c. (facts : Carried) × (tree : Tree) × (generation : ℕ) × Reads c facts tree generation)
+
+-- the run of a script, between two moments of a drive, ended so
+pub record EndsRun {D : Type 0} (drive : Ghosts D) (old new : D) (moment : Option Moment) (end : ServeEnd)
+    (script : List ScriptLine) (log : Log) : Type 0 where
+  pub run : IsServeRun cartridges script moment (seen drive old) (seen drive new) log
+  pub ends : IsEndOf cartridges script (seen drive old) (seen drive new) log end
+
+module _ {D : Type 0} (drive : Ghosts D) (old new : D) (moment : Option Moment) (source : Taken) where
+  -- the log is that of a run of the script that was left in the source
+  abbrev pub IsServedRun : Log → Type 0
+  IsServedRun log =
+      IsRunOf (λ script l. IsServeRun cartridges script moment (seen drive old) (seen drive new) l) source log
+
+  -- and that run ended so
+  abbrev pub IsServedTo : ServeEnd → Log → Type 0
+  IsServedTo end log = IsRunOf (λ script l. EndsRun drive old new moment end script l) source log
+
+  -- when `serve` ends so
+  abbrev pub IsServedEnd : ServedEnd → Type 0
+  IsServedEnd (unscripted why) = IsUnread source why
+  IsServedEnd (unserved error) =
+      ((script : List ScriptLine) × IsScriptIn source script)
+      × IfSome (drive.held old) (λ c. Blames error c) × AreCounts (drive.faults old) (drive.faults new) error
+  IsServedEnd (served log end) = HoldsTree (drive.held old) × IsServedTo end log
+  IsServedEnd (unclosed log) = IsServedRun log
+  IsServedEnd (unwritten log) = IsServedRun log
+
+  -- there is a log of such a run, and it and the line of its end were printed
+  abbrev pub IsEndPrinted : Written → ServeEnd → Option Log → Type 0
+  IsEndPrinted sink end None = ⊥
+  IsEndPrinted sink end (Some log) = IsServedTo end log × Appends sink.old sink.new (serve_text log end)
+
+  -- the volume was closed, with a generation, which is told
+  abbrev pub IsClosePrinted : Written → Option Log → Type 0
+  IsClosePrinted sink log = (generation : ℕ) × IsEndPrinted sink (Closed generation) log
+
+  -- the close was short of space, by numbers that are told
+  abbrev pub IsShortPrinted : Written → Option Log → Type 0
+  IsShortPrinted sink log = (need : ℕ) × (limit : ℕ) × IsEndPrinted sink (Short need limit) log
+
+  -- the drive failed, as it was mounted or in the close, and its counts of faults were printed
+  abbrev pub IsFailurePrinted : Written → Option Log → Type 0
+  IsFailurePrinted sink None = IsDriveFaultPrinted (drive.faults old) (drive.faults new) sink.old sink.new
+  IsFailurePrinted sink (Some log) =
+      (counts : Twin) × IsServedTo (Failed counts) log × Appends sink.old sink.new (serve_text log (Failed counts))
+
+-- that memory was refused was printed, and maybe the log before it
+abbrev pub IsRefusedPrinted : Written → Option Log → Type 0
+IsRefusedPrinted sink None = Appends sink.old sink.new (codes "memory\n")
+IsRefusedPrinted sink (Some log) =
+    Appends sink.old sink.new (codes "memory\n") ⊎ Appends sink.old sink.new (log_text log ++ codes "memory\n")
+
+-- ---- on the way
+
+-- the drive was only looked at, to mount its cartridge
+pub record IsLookedAt {D : Type 0} (drive : Ghosts D) (start now : D) : Type 0 where
+  pub looks : Looks drive ((23 + 2 * (drive.limits start).cap_ip + 2 * (drive.limits start).cap_dp) * drive.MOST) start now
+  pub faults : drive.faults start ≤ drive.faults now
+
+-- a volume was begun on a drive that was only looked at, with what it mounted of the cartridge
+pub record IsBegun {D : Type 0} (drive : Ghosts D) (start : D) (fixed : Fixed D) : Type 0 where
+  pub looked : IsLookedAt drive start fixed.first
+  pub since : fixed.since ≡ drive.commands start
+  pub mounted : (c : Cartridge) → drive.held fixed.first ≡ Some c → Mounts c fixed.mounted
+      × Reads c (carried fixed.mounted.index) fixed.tree fixed.mounted.newest
