@@ -1,0 +1,136 @@
+#!/usr/bin/env python3
+"""Serves random scripts on cartridges and compares every reply with that of the plain tree.
+
+usage: compare_serve.py PROGRAM [--rounds N] [--seed N]
+
+Each round formats a folder, with or without a policy, and serves one to four scripts on it, one after the other. The
+plain tree runs them as one script. All replies have to be the same, a `full` alone apart, behind which a round ends;
+and what `list` prints at the end has to be the tree that the plain run's own calls tell.
+"""
+import argparse
+import random
+import subprocess
+import sys
+import tempfile
+
+TIME = "2024-01-02T03:04:05.000000000Z"
+UUID = "30a91a08-daae-48d1-ae75-69804e61d2ea"
+NAMES = ["a", "b", "c.txt", "d.txt", "%25", "x%20y", "\u00e9", "z" * 255]
+
+
+def path(rng, depth=3):
+    return "".join("/" + rng.choice(NAMES) for _ in range(rng.randint(1, depth)))
+
+
+def call(rng):
+    verb = rng.choices(
+        ["mkdir", "create", "write", "truncate", "read", "list", "stat", "rename", "remove", "sync"],
+        [6, 10, 22, 4, 16, 3, 4, 4, 4, 6],
+    )[0]
+    if verb in ("mkdir", "create", "stat", "remove"):
+        return f"{verb} {path(rng)}"
+    if verb == "list":
+        return f"list {rng.choice(['/', path(rng, 2)])}"
+    if verb == "write":
+        offset = rng.choice([0, 0, 3, 4096, 5000, 65536, 100000])
+        count = rng.choice([0, 1, 5, 4096, 4097, 20000, 65536])
+        byte = rng.randint(0, 255)
+        return f"write {path(rng)} {offset} fill:{byte:02x}:{count}"
+    if verb == "truncate":
+        return f"truncate {path(rng)} {rng.choice([0, 2, 4097, 70000])}"
+    if verb == "read":
+        return f"read {path(rng)} {rng.choice([0, 1, 4095, 65530])} {rng.choice([0, 1, 10, 5000, 200000])}"
+    if verb == "rename":
+        return f"rename {path(rng)} {path(rng)}"
+    return "sync"
+
+
+def run(program, words, script=""):
+    done = subprocess.run([program, *words], input=script.encode(), capture_output=True)
+    return done.returncode, done.stdout.decode()
+
+
+def replies(log):
+    return [line.split(" ", 2)[2] for line in log]
+
+
+def judge(program, rng, folder):
+    words = ["format", folder, "TAPE01", UUID, "--block", str(rng.choice([4096, 8192, 65536])), "--at", TIME]
+    if rng.random() < 0.5:
+        words += ["--ip-size", str(rng.choice([0, 100, 5000, 1000000]))]
+        if rng.random() < 0.5:
+            words += ["--ip-names", rng.choice(["*.txt", "*.txt/a", "?"])]
+    status, told = run(program, words)
+    if status:
+        return f"format: {told}"
+    scripts = []
+    for _ in range(rng.randint(1, 4)):
+        sessions = rng.randint(1, 4)
+        scripts.append([f"{rng.randint(1, sessions)} {call(rng)}" for _ in range(rng.randint(0, 60))])
+    whole = [line for script in scripts for line in script]
+    status, told = run(program, ["plain", "--at", TIME], "".join(line + "\n" for line in whole))
+    if status:
+        return f"plain: {told[-200:]}"
+    wanted = replies(told.splitlines()[:-1])
+    at, generation = 0, 1
+    for script in scripts:
+        status, told = run(program, ["serve", folder, "--at", TIME], "".join(line + "\n" for line in script))
+        lines = told.splitlines()
+        if status or not lines[-1].startswith("closed "):
+            return f"serve: status {status}, {lines[-1:]}"
+        got = replies(lines[:-1])
+        for k, reply in enumerate(got):
+            if reply.startswith("full "):
+                return None
+            if reply != wanted[at + k]:
+                return f"{script[k]}: {reply[:80]} in place of {wanted[at + k][:80]}"
+        if len(got) != len(script):
+            return "a call is missing"
+        at += len(script)
+        newest = int(lines[-1].split()[1])
+        if newest < generation:
+            return "the generation falls"
+        generation = newest
+    status, told = run(program, ["list", folder])
+    if status:
+        return f"list: {told}"
+    listed = told.splitlines()
+    if not listed[-1].startswith(f"generation {generation} b "):
+        return f"list ends with {listed[-1]}"
+    # Every file is read whole by a script without changes, on the cartridge and on the plain tree.
+    files = [line.split(" ") for line in listed[:-1] if line.startswith("f ")]
+    reading = [f"1 read {name} 0 {min(int(size), 1048576)}" for _, _, size, name in files]
+    reading += [f"1 stat {line.split(' ')[3 if line[0] == 'f' else 2]}" for line in listed[1:-1]]
+    reading += [f"1 list {line.split(' ')[2]}" for line in listed[:-1] if line.startswith("d ")]
+    text = "".join(line + "\n" for line in reading)
+    status, served = run(program, ["serve", folder, "--at", TIME], text)
+    behind, plain = run(program, ["plain", "--at", TIME], "".join(line + "\n" for line in whole) + text)
+    if status or behind:
+        return f"reading: {status} {behind}"
+    if replies(served.splitlines()[:-1]) != replies(plain.splitlines()[len(whole) : -1]):
+        return "files read otherwise than on the plain tree"
+    if served.splitlines()[-1].split()[1] != str(generation):
+        return "reading made a generation"
+    return None
+
+
+def main():
+    words = argparse.ArgumentParser()
+    words.add_argument("program")
+    words.add_argument("--rounds", type=int, default=100)
+    words.add_argument("--seed", type=int, default=1)
+    asked = words.parse_args()
+    wrong = 0
+    for n in range(asked.rounds):
+        rng = random.Random(asked.seed * 1000003 + n)
+        with tempfile.TemporaryDirectory() as folder:
+            fault = judge(asked.program, rng, folder)
+        if fault:
+            wrong += 1
+            print(f"round {n}: {fault}")
+    print(f"{asked.rounds} rounds, {wrong} wrong")
+    return 1 if wrong else 0
+
+
+if __name__ == "__main__":
+    sys.exit(main())
