@@ -18,9 +18,9 @@ use Rattle.volume_stock.specs.Mounted.{mounted_ends}
 use Rattle.volume_tape.specs.Planned.{IsOnWay, Items, ends_in, mounted_items}
 use Rattle.volume_parts.specs.Parts.{Parts, view_of}
 use Rattle.volume_parts.specs.Tied.{IsTied}
-use Rattle.volume_start.specs.Laws.{IsFresh}
-use Rattle.volume_start.proofs.Started.{beginnings_are_tied}
-use Rattle.volume_start.proofs.Tying.{view_begun}
+use Rattle.volume_calls.specs.StartLaws.{IsFresh}
+use Rattle.volume_calls.proofs.Started.{beginnings_are_tied}
+use Rattle.volume_calls.proofs.Tying.{view_begun}
 use Rattle.volume_calls.specs.Laws.{VolumesRun}
 use Rattle.volume_calls.specs.Running.{HasAnswers, IsReadyToClose}
 use Rattle.volume_calls.proofs.ToClose.{begins_ready, begun_items}

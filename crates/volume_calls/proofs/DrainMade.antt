@@ -24,7 +24,7 @@ use Rattle.volume_tape.specs.Planned.{Items}
 use Rattle.volume_parts.specs.Parts.{Parts, view_of}
 use Rattle.volume_parts.specs.Stepping.{Steps, does, fails, misses, reads, told_fault}
 use Rattle.volume_parts.specs.Tied.{IsTied}
-use Rattle.volume_steps.specs.Laws.{Stepped}
+use Rattle.volume_calls.specs.StepLaws.{Stepped}
 use Rattle.volume_calls.specs.Draining.{IsFull}
 use Rattle.volume_calls.specs.Handing.{StepsOn}
 use Rattle.volume_calls.specs.Running.{HasAnswers}

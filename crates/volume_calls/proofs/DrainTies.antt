@@ -19,7 +19,7 @@ use Rattle.volume_journal.specs.Trails.{due_ticket, state}
 use Rattle.volume_tape.specs.Planned.{Items, tape_on, with_ops}
 use Rattle.volume_parts.specs.Parts.{Parts}
 use Rattle.volume_parts.specs.Tied.{IsTied}
-use Rattle.volume_submits.proofs.Placed.{after_void, given_in, on_after, on_in, reached_later, reads_later, reads_to, same_items, tied_still}
+use Rattle.volume_calls.proofs.Placed.{after_void, given_in, on_after, on_in, reached_later, reads_later, reads_to, same_items, tied_still}
 use Rattle.volume_calls.specs.Draining.{RestsNow, TakesFault}
 
 module _ {D : Type 0} (drive : Ghosts D) (fixed : Fixed D) (planned : Items) where

@@ -13,7 +13,7 @@ use Rattle.volume_order.specs.Kept.{seen}
 use Rattle.volume_truth.proofs.Draining.{drains_stay_for_writes}
 use Rattle.volume_laws.proofs.Joined.{drain_turns_keep_all}
 use Rattle.volume_parts.specs.Parts.{Parts, view_of}
-use Rattle.volume_steps.proofs.ShowLaw.{steps_show}
+use Rattle.volume_calls.proofs.ShowLaw.{steps_show}
 use Rattle.volume_calls.specs.Draining.{IsFull, fault, room, then_fault, then_more, then_room}
 use Rattle.volume_calls.specs.Handing.{StepsOn}
 use Rattle.volume_calls.specs.Laws.{DrainTurnsRun}

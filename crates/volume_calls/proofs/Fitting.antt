@@ -22,7 +22,7 @@ use Rattle.volume_truth.proofs.Lists.{next_same}
 use Rattle.volume_truth.proofs.Places.{admits}
 use Rattle.volume_crashes.specs.Laws.{AddsOps}
 use Rattle.volume_closing.specs.Ready.{GoesOnBy}
-use Rattle.volume_submits.proofs.Rightly.{longer_than}
+use Rattle.volume_calls.proofs.Rightly.{longer_than}
 
 -- nothing was placed, or one
 pub goes_by : {D : Type 0} (v w : View D) (who nth : ℕ) (answer : Submitted) → Placing v w who nth answer

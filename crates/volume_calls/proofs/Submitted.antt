@@ -28,9 +28,9 @@ use Rattle.volume_tape.specs.Planned.{Items, with_ops}
 use Rattle.volume_tape.proofs.Agrees.{plans_agree}
 use Rattle.volume_parts.specs.Parts.{Parts, view_of}
 use Rattle.volume_parts.specs.Tied.{IsPlannedAs}
-use Rattle.volume_submits.specs.Laws.{Made, changes, puts_off, syncs, tells, voids, waits as waits_for}
-use Rattle.volume_submits.proofs.Dues.{due_with}
-use Rattle.volume_submits.proofs.Shown.{submissions_show}
+use Rattle.volume_calls.specs.SubmitLaws.{Made, changes, puts_off, syncs, tells, voids, waits as waits_for}
+use Rattle.volume_calls.proofs.SubmitDues.{due_with}
+use Rattle.volume_calls.proofs.Shown.{submissions_show}
 use Rattle.volume_calls.specs.Laws.{SubmissionsRun}
 use Rattle.volume_calls.specs.Running.{HasAnswers}
 use Rattle.volume_calls.proofs.AnswersKept.{KeepsTheReplies, answers_stay}

@@ -15,7 +15,7 @@ use Rattle.volume_order.specs.Kept.{seen}
 use Rattle.volume_order.proofs.Lists.{some_same}
 use Rattle.volume_truth.proofs.Draining.{drains_stay_for_writes}
 use Rattle.volume_laws.proofs.Joined.{turns_keep_all}
-use Rattle.volume_steps.proofs.ShowLaw.{steps_show}
+use Rattle.volume_calls.proofs.ShowLaw.{steps_show}
 use Rattle.volume_tape.specs.Planned.{Items}
 use Rattle.volume_parts.specs.Parts.{Parts, view_of}
 use Rattle.volume_parts.specs.Tied.{IsTied}

@@ -24,7 +24,7 @@ use Rattle.volume_order.proofs.Lists.{some_same}
 use Rattle.volume_truth.specs.Within.{AnswersTruly}
 use Rattle.volume_crashes.specs.Changes.{AreDriven}
 use Rattle.volume_laws.specs.Kept.{CanRead, IsKept, Plan, TurnsRightly}
-use Rattle.volume_steps.specs.Laws.{Stepped}
+use Rattle.volume_calls.specs.StepLaws.{Stepped}
 
 -- what no step adds, or one
 pub record Came {D : Type 0} (drive : Ghosts D) (fixed : Fixed D) (old new : View D) (added : List Event) : Type 0 where

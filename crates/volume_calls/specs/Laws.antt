@@ -23,8 +23,8 @@ use Rattle.volume_model.specs.declared.answers.Turn.{Turn}
 use Rattle.volume_order.specs.Kept.{seen}
 use Rattle.volume_order.specs.Sides.{AsksOneMoment, HasOneMoment}
 use Rattle.volume_parts.specs.Parts.{Parts, view_of}
-use Rattle.volume_submits.specs.Laws.{Made}
-use Rattle.volume_start.specs.Laws.{IsFresh}
+use Rattle.volume_calls.specs.SubmitLaws.{Made}
+use Rattle.volume_calls.specs.StartLaws.{IsFresh}
 use Rattle.volume_calls.specs.Draining.{DrainsTo}
 use Rattle.volume_calls.specs.Handing.{TurnsTo}
 use Rattle.volume_calls.specs.Running.{IsRunning}

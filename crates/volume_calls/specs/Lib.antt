@@ -1,3 +1,6 @@
+pub mod StartLaws
+pub mod SubmitLaws
+pub mod StepLaws
 pub mod Running
 pub mod Handing
 pub mod Draining

@@ -1,6 +1,29 @@
+ghost use Rattle.volume_calls.specs.StartLaws.{BeginningsAreTied};
+ghost use Rattle.volume_calls.specs.SubmitLaws.{SubmissionsShow};
+ghost use Rattle.volume_calls.specs.StepLaws.{StepsCanBeMade, StepsShow};
 ghost use Rattle.volume_calls.specs.Laws.{DrainTurnsRun, RunningIsPromised, SubmissionsRun, TurnsRun, VolumesRun};
 
 use tape_drive::Drive;
+
+/// A volume of which nothing was asked yet, and that holds what was mounted, is kept and tied.
+pub fn beginnings_are_tied<D: Drive>()
+    ensures { BeginningsAreTied D.Drive }
+{}
+
+/// A submission shows all that is asked of it, and leaves the volume tied.
+pub fn submissions_show<D: Drive>()
+    ensures { SubmissionsShow D.Drive }
+{}
+
+/// A step of the head shows all that is asked of a turn, and leaves the volume tied.
+pub fn steps_show<D: Drive>()
+    ensures { StepsShow D.Drive }
+{}
+
+/// Of a volume that is tied the next step can be made.
+pub fn steps_can_be_made<D: Drive>()
+    ensures { StepsCanBeMade D.Drive }
+{}
 
 /// What runs is all that is promised of a volume.
 pub fn running_is_promised<D: Drive>()

@@ -3,4 +3,7 @@
 
 mod laws;
 
-pub use laws::{drain_turns_run, running_is_promised, submissions_run, turns_run, volumes_run};
+pub use laws::{
+    beginnings_are_tied, drain_turns_run, running_is_promised, steps_can_be_made, steps_show,
+    submissions_run, submissions_show, turns_run, volumes_run,
+};

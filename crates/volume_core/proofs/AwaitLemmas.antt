@@ -58,7 +58,7 @@ use Rattle.volume_core.proofs.FillLemmas.{gathering_alike, held_or_wanted, held_
 use Rattle.volume_core.proofs.QueueLemmas.{none_is_due}
 use Rattle.volume_core.proofs.SubmitLemmas.{as_it_was, placed_answered}
 use Rattle.volume_core.proofs.RequestLemmas.{state_after}
-use Rattle.volume_submits.specs.Laws as made
+use Rattle.volume_calls.specs.SubmitLaws as made
 
 -- ---- reads that are refused
 

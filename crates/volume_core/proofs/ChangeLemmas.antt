@@ -41,7 +41,7 @@ use Rattle.volume_tape.proofs.Stays.{tapes_stay}
 use Rattle.volume_parts.specs.Parts.{Parts}
 use Rattle.volume_parts.specs.Placing.{AreHeld, Changes, IsVoidFor, only_looks}
 use Rattle.volume_core.specs.Asking.{CanAsk, Finishes, IsSubmitted, QueuesDone, Reserves, Stands, run, told_void}
-use Rattle.volume_submits.specs.Laws as made
+use Rattle.volume_calls.specs.SubmitLaws as made
 use Rattle.volume_core.proofs.RunLemmas.{AsksNoText, between, between_length, runs_of_ops}
 use Rattle.volume_core.proofs.SubmitLemmas.{placed_answered, placed_void}
 

@@ -25,7 +25,7 @@ use Rattle.volume_reads.specs.Waiting.{HasTicket, StandsAt, has_ticket}
 use Rattle.volume_journal.specs.Trails.{due_of, due_ticket, state}
 use Rattle.volume_parts.specs.Parts.{Parts}
 use Rattle.volume_parts.specs.Stepping.{IsOneRead, IsOneRequest}
-use Rattle.volume_steps.specs.Laws.{CanStep}
+use Rattle.volume_calls.specs.StepLaws.{CanStep}
 use Rattle.volume_core.specs.Moves.{IsFirstOp, IsReady}
 use Rattle.volume_core.proofs.SyncLemmas.{same_number}
 

@@ -37,7 +37,7 @@ use Rattle.volume_stock.specs.Stocks.{Stocked}
 use Rattle.volume_parts.specs.Parts.{Parts}
 use Rattle.volume_parts.specs.Placing.{Answers, AreHeld, AsksNothing, IsAnswerFor, IsVoidFor, PlacesCall, PutsOff, Voids, marks_for, only_looks}
 use Rattle.volume_core.specs.Asking.{CanAsk, Finishes, IsSubmitted, Reserves}
-use Rattle.volume_submits.specs.Laws as made
+use Rattle.volume_calls.specs.SubmitLaws as made
 
 -- memory that is reserved before a call is placed doesn't count
 pub placed_over : {D : Type 0} (who nth : ℕ) (at : Moment) (fate : Fate) (reply : Option Reply) (old mid new : Parts D)

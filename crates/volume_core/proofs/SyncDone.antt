@@ -30,8 +30,8 @@ use Rattle.volume_tape.specs.Planned.{tape_on}
 use Rattle.volume_parts.specs.Parts.{Parts}
 use Rattle.volume_parts.specs.Placing.{PlacesCall, Syncs, synced_here, synced_reply}
 use Rattle.volume_parts.specs.Stepping.{acks_at}
-use Rattle.volume_submits.specs.Laws as made
-use Rattle.volume_submits.specs.Laws.{synced_answer}
+use Rattle.volume_calls.specs.SubmitLaws as made
+use Rattle.volume_calls.specs.SubmitLaws.{synced_answer}
 use Rattle.volume_core.specs.Asking.{CanAsk, CanQueueSync, IsSubmitted, Queues, QueuesSync, Stands, WaitsSynced, index_places}
 use Rattle.volume_core.proofs.ChangeLemmas.{late_ends}
 use Rattle.volume_core.proofs.IndexLemmas.{AsksText, index_are, index_least, places_long}

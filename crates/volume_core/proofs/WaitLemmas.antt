@@ -18,7 +18,7 @@ use Rattle.volume_journal.specs.Trails.{Journaled, due_ticket, state}
 use Rattle.volume_parts.specs.Parts.{Parts}
 use Rattle.volume_parts.specs.Placing.{PlacesCall, synced_here, synced_reply}
 use Rattle.volume_parts.specs.Stepping.{acks_at}
-use Rattle.volume_submits.specs.Laws.{synced_answer}
+use Rattle.volume_calls.specs.SubmitLaws.{synced_answer}
 use Rattle.volume_core.specs.Asking.{AnswersSync, Awaits, CanAsk, WaitsSynced}
 use Rattle.volume_core.proofs.QueueLemmas.{after_one, none_is_due}
 use Rattle.volume_core.proofs.SyncedLemmas.{sync_done, sync_due, sync_waits}

@@ -33,7 +33,7 @@ use Rattle.volume_tape.specs.Planned.{IsPlan, Items, ends_in, tape_on}
 use Rattle.volume_parts.specs.Parts.{Parts}
 use Rattle.volume_parts.specs.Placing.{PlacesCall, synced_here, synced_reply}
 use Rattle.volume_parts.specs.Stepping.{acks_at}
-use Rattle.volume_submits.specs.Laws.{Made, synced_answer}
+use Rattle.volume_calls.specs.SubmitLaws.{Made, synced_answer}
 
 -- there is room for a call of a session that neither waits nor drains
 pub record CanPlace (who : ℕ) (listed : Listed) : Type 0 where

@@ -13,7 +13,7 @@ ghost use Rattle.tape_layout.specs.Ops.{place_of};
 ghost use Rattle.volume_journal.specs.Trails.{first_waiter, state};
 ghost use Rattle.volume_reads.specs.Waiting.{HasTicket};
 ghost use Rattle.volume_parts.specs.Stepping.{IsOneRequest, KeepsListed, told_fault};
-ghost use Rattle.volume_steps.specs.Laws.{CanStep};
+ghost use Rattle.volume_calls.specs.StepLaws.{CanStep};
 ghost use Rattle.volume_calls.specs.Handing.{StepsOn};
 ghost use Rattle.volume_core.specs.Seen.{seen_parts};
 ghost use Rattle.volume_core.specs.Moves.{AnswersSyncs, FinishesOp, IsFirstOp, IsReady, MissesBlock, SyncsWait, TakesBlock, TakesOp, TellsFault, on_from};
