@@ -1,7 +1,8 @@
-// Where bytes come from and go to, and where moments come from.
+// Where bytes come from and go to, where moments come from, and where sessions pass.
 #![tactic(auto)]
 
 mod clocks;
+mod gates;
 mod input;
 mod memory;
 mod streams;
@@ -10,6 +11,7 @@ mod tests;
 mod traits;
 
 pub use clocks::{StepClock, SystemClock};
+pub use gates::{Gate, Hold, OpenGate, OrderGate};
 pub use input::{ReadFailure, read_input};
 pub use memory::{MemSink, MemSource};
 pub use streams::{ReaderSource, WriterSink};

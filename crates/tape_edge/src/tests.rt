@@ -43,3 +43,50 @@ fn a_step_clock_stays_in_the_year_9999(rt: HostRuntime) -> Result<(), Fail> {
     assert_eq!(rt; clock.now().secs, 253402300799);
     Ok(())
 }
+
+#[test]
+fn a_gate_lets_go_by_its_limit(host: HostRuntime) {
+    let rt = &host;
+    let mut rules = List::new(rt.alloc());
+    rules
+        .push(Hold {
+            who: 1,
+            nth: 0,
+            turn: 0,
+            other: 2,
+            reach_nth: 1,
+            reach_turn: 0,
+        })
+        .expect(rt, "there is memory");
+    let gate = OrderGate::new(rt.alloc(), rules, 10).expect(rt, "there is memory");
+    assert!(rt; !gate.late());
+    gate.at(2, 0, 7);
+    gate.at(1, 1, 0);
+    assert!(rt; !gate.late());
+    gate.at(1, 0, 0);
+    assert!(rt; gate.late());
+}
+
+#[test]
+fn a_gate_holds_nobody_once_the_point_was_passed(host: HostRuntime) {
+    let rt = &host;
+    let mut rules = List::new(rt.alloc());
+    for (who, other) in [(1, 2), (3, 129), (0, 2)] {
+        rules
+            .push(Hold {
+                who,
+                nth: 3,
+                turn: 1,
+                other,
+                reach_nth: 1,
+                reach_turn: 5,
+            })
+            .expect(rt, "there is memory");
+    }
+    let gate = OrderGate::new(rt.alloc(), rules, 10).expect(rt, "there is memory");
+    gate.at(2, 2, 0);
+    for who in [0, 1, 3, 129] {
+        gate.at(who, 3, 1);
+    }
+    assert!(rt; !gate.late());
+}
