@@ -1,7 +1,7 @@
 //! Turns per second of threads that append to one list behind a mutex.
 //!
 //! build:  rustc -C opt-level=3 -C target-cpu=native -o turns turns.rs
-//! run:    ./turns THREADS TURNS, which prints the length of the list and the nanoseconds that it took
+//! run:    ./turns THREADS TURNS STEPS, which prints the length of the list and the nanoseconds that it took
 
 use std::sync::Mutex;
 use std::thread;
@@ -11,13 +11,25 @@ struct Entry {
     #[allow(dead_code)]
     who: u64,
     #[allow(dead_code)]
-    n: u64,
+    made: u64,
+}
+
+/// So many steps of a generator, as what a turn does besides.
+fn work(seed: u64, steps: u64) -> u64 {
+    let mut x = seed;
+    for _ in 0..steps {
+        x ^= x << 13;
+        x ^= x >> 7;
+        x ^= x << 17;
+    }
+    x
 }
 
 fn main() {
     let mut words = std::env::args().skip(1).map(|w| w.parse::<u64>().unwrap());
     let seats = words.next().unwrap();
     let turns = words.next().unwrap();
+    let steps = words.next().unwrap();
     let list = Mutex::new(Vec::new());
     let start = Instant::now();
     thread::scope(|scope| {
@@ -25,7 +37,9 @@ fn main() {
             let list = &list;
             scope.spawn(move || {
                 for n in 0..turns / seats {
-                    list.lock().unwrap().push(Entry { who, n });
+                    let mut list = list.lock().unwrap();
+                    let made = work(n | 1, steps);
+                    list.push(Entry { who, made });
                 }
             });
         }

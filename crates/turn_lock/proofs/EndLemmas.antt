@@ -50,6 +50,7 @@ module _ {T M F : Type 0} (history : T → List M) (fixed : T → F) (names : M 
       sees = λ _. sees_all names seats (numbers_to seats) (history x);
       sees_joined = λ lt. nothing_joined lt;
       same = λ _. (refl, refl);
+      same_joined = λ lt. nothing_joined lt;
       turn = λ up. absurd (not_both false up refl);
     }
     first_fits (suc i) v e = absurd (some-ne-none v (sym e))

@@ -6,3 +6,4 @@ mod SeatLemmas
 mod EndLemmas
 mod SeatStates
 pub mod Callers
+pub mod Crossing

@@ -38,6 +38,7 @@ module _ {T M F : Type 0} (history : T → List M) (fixed : T → F) (names : M 
         sees = λ _. subst (λ (l : List M). Sees names seats w.numbers l whole) (sym seen) (sees_fewer names seats v.numbers w.numbers v.seen whole fewer (t.sees entitled));
         sees_joined = λ lt. absurd (omega (arith, lt, b));
         same = λ _. (fix ∙ q.0, count ∙ q.1);
+        same_joined = λ lt. absurd (omega (arith, lt, b));
         turn = λ up. absurd (not_both w.served up unserved);
       }
 
@@ -74,8 +75,8 @@ module _ {T M F : Type 0} (history : T → List M) (fixed : T → F) (names : M 
       let was : get_elem? vs other ≡ some w = sym (set_else vs id other b apart) ∙ there in
       let t = k.each id v at in let q = k.each other w was in let no = no_more history fixed names seats f v calm.none_joined in let no' = no_more history fixed names seats f w calm'.none_joined in
       let none_yet : has v.ticket ≡ 0 = ap has calm.no_ticket in let none_yet' : has w.ticket ≡ 0 = ap has calm'.no_ticket in
-      let fb : Fits names seats k.serving k.ticket k.whole f b = record { ranged = λ j e. absurd (no_some j e); entitled = omega arith; sees = t.sees; sees_joined = q.sees; same = t.same; turn = λ up. absurd (not_both false up refl) } in
-      let fz : Fits names seats k.serving k.ticket k.whole f z = record { ranged = λ j e. absurd (no_some j e); entitled = omega arith; sees = λ lt. nothing_joined lt; sees_joined = λ lt. nothing_joined lt; same = λ lt. nothing_joined lt; turn = λ up. absurd (not_both false up refl) } in
+      let fb : Fits names seats k.serving k.ticket k.whole f b = record { ranged = λ j e. absurd (no_some j e); entitled = omega arith; sees = t.sees; sees_joined = q.sees; same = t.same; same_joined = λ lt. (q.same lt).0; turn = λ up. absurd (not_both false up refl) } in
+      let fz : Fits names seats k.serving k.ticket k.whole f z = record { ranged = λ j e. absurd (no_some j e); entitled = omega arith; sees = λ lt. nothing_joined lt; sees_joined = λ lt. nothing_joined lt; same = λ lt. nothing_joined lt; same_joined = λ lt. nothing_joined lt; turn = λ up. absurd (not_both false up refl) } in
       record {
         ticket = k.ticket;
         serving = k.serving;
@@ -106,7 +107,7 @@ module _ {T M F : Type 0} (history : T → List M) (fixed : T → F) (names : M 
         subst (λ (ws : List ℕ). Rule record { words = ws; homes = s.homes; views = set s.views id w }) (sym (set-get_or s.words 0 0))
             (moved history fixed names seats f s k id v w s.words s.homes k.ticket k.serving k.whole at k.three_words k.ticket_is k.serving_is k.count_is k.one_slot k.low (omega (arith, none_yet)) (still_apart history fixed names seats f s k id v w at (λ n. omega arith))
             (omega (arith, length-append v.numbers v.joined_numbers)) (λ n. omega (arith, times_append n v.numbers v.joined_numbers)) (λ i u ne there r. r)
-            record { ranged = λ j e. absurd (no_some j e); entitled = omega arith; sees = λ _. j.2; sees_joined = λ lt. nothing_joined lt; same = λ _. q; turn = λ up. absurd (not_both false up refl) }
+            record { ranged = λ j e. absurd (no_some j e); entitled = omega arith; sees = λ _. j.2; sees_joined = λ lt. nothing_joined lt; same = λ _. q; same_joined = λ lt. nothing_joined lt; turn = λ up. absurd (not_both false up refl) }
             (λ h. k.home (unserved_before history fixed names seats f s.views id v w at calm.unserved h))),
-        subst (λ (n : ℕ). (w ≡ w) × (m.1 ≡ m.1) × Sees names n v.numbers v.seen w.seen × Sees names n v.joined_numbers v.joined_seen w.seen) (sym q.1) (refl, refl, j.0, j.1),
+        subst (λ (n : ℕ). (w ≡ w) × (m.1 ≡ m.1) × Sees names n v.numbers v.seen w.seen × Sees names n v.joined_numbers v.joined_seen w.seen × (v.joined_fixed ≡ v.fixed)) (sym q.1) (refl, refl, j.0, j.1, t.same_joined calm.some_joined ∙ sym q.0),
       )

@@ -44,6 +44,7 @@ module _ {T M F : Type 0} (history : T → List M) (fixed : T → F) (names : M 
     sees = t.sees;
     sees_joined = λ lt. nothing_joined lt;
     same = t.same;
+    same_joined = λ lt. nothing_joined lt;
     turn = λ e. absurd (not_both false e refl);
   }
 
@@ -72,7 +73,7 @@ module _ {T M F : Type 0} (history : T → List M) (fixed : T → F) (names : M 
             let o : holds_ticket n w.ticket ≤ 1 = grind (arith, nat_tests) in omega (arith, z, o, total_set (λ (u : V). holds_ticket n u.ticket) s.views id v w at))
             (λ ne. let z : holds_ticket n w.ticket ≡ 0 = grind (arith, nat_tests, ne) in let d = k.apart n in omega (arith, z, d, total_set (λ (u : V). holds_ticket n u.ticket) s.views id v w at)))
             (omega (arith, no.0)) (λ n. omega (arith, no.1 n))
-            (λ i u ne there r. record { ranged = λ n e. let b = r.ranged n e in (b.0, omega (arith, b.1)); entitled = r.entitled; sees = r.sees; sees_joined = r.sees_joined; same = r.same; turn = r.turn })
+            (λ i u ne there r. record { ranged = λ n e. let b = r.ranged n e in (b.0, omega (arith, b.1)); entitled = r.entitled; sees = r.sees; sees_joined = r.sees_joined; same = r.same; same_joined = r.same_joined; turn = r.turn })
             (draw_fits k.serving t k.whole v (k.each id v at) calm.some_number le)
             (λ h. k.home (unserved_before history fixed names seats f s.views id v w at calm.unserved h))),
         (refl, refl),
@@ -86,6 +87,7 @@ module _ {T M F : Type 0} (history : T → List M) (fixed : T → F) (names : M 
     sees = λ _. subst (λ (l : List M). Sees names seats m.0.numbers l k.whole) (sym hist) (sees_all names seats m.0.numbers k.whole);
     sees_joined = λ lt. nothing_joined lt;
     same = t.same;
+    same_joined = λ lt. nothing_joined lt;
     turn = λ _. (wait.ticket ∙ ap (λ (z : ℕ). Some z) (sym e), hist);
   }
 
@@ -123,8 +125,8 @@ module _ {T M F : Type 0} (history : T → List M) (fixed : T → F) (names : M 
         tt,
         moved history fixed names seats f s k id v w (set s.words 2 new) s.homes k.ticket k.serving (history x) at (length-set s.words 2 new ∙ k.three_words) (get_or-set_other s.words 2 0 new 0 (λ z. omega arith) ∙ k.ticket_is) (get_or-set_other s.words 2 1 new 0 (λ z. omega arith) ∙ k.serving_is)
             (get_or-set_same s.words 2 new 0 (omega arith) ∙ long) k.one_slot k.low (omega arith) (still_apart history fixed names seats f s k id v w at (λ j. omega arith)) (omega (arith, no.0)) (λ j. omega (arith, no.1 j))
-            (λ i u ne there r. let q = others_see history fixed names seats f s k id i v u adds.later (history x) ne at there adds.own e in record { ranged = r.ranged; entitled = r.entitled; sees = q.0; sees_joined = q.1; same = r.same; turn = λ up. absurd (other_unserved history fixed names seats f s k id v at mine.0 i u ne there up) })
-            record { ranged = t.ranged; entitled = let h = t.entitled in omega (arith, h, no.0); sees = λ _. sees_all names seats v.numbers (history x); sees_joined = λ lt. nothing_joined lt; same = t.same; turn = λ _. (mine.0, refl) }
+            (λ i u ne there r. let q = others_see history fixed names seats f s k id i v u adds.later (history x) ne at there adds.own e in record { ranged = r.ranged; entitled = r.entitled; sees = q.0; sees_joined = q.1; same = r.same; same_joined = r.same_joined; turn = λ up. absurd (other_unserved history fixed names seats f s k id v at mine.0 i u ne there up) })
+            record { ranged = t.ranged; entitled = let h = t.entitled in omega (arith, h, no.0); sees = λ _. sees_all names seats v.numbers (history x); sees_joined = λ lt. nothing_joined lt; same = t.same; same_joined = λ lt. nothing_joined lt; turn = λ _. (mine.0, refl) }
             (λ h. absurd (not_home history fixed names seats f s.views id v w at refl h)),
         (λ y is. (ap (λ (z : T). in_turn v (history z)) (same_state x y (sym turn.has_slot ∙ is)), refl)),
       )
@@ -150,9 +152,10 @@ module _ {T M F : Type 0} (history : T → List M) (fixed : T → F) (names : M 
               sees = r.sees;
               sees_joined = r.sees_joined;
               same = r.same;
+              same_joined = r.same_joined;
               turn = λ up. absurd (other_unserved history fixed names seats f s k id v at mine.0 i u ne there up);
             })
-            record { ranged = λ j e. absurd (no_some j e); entitled = omega arith; sees = t.sees; sees_joined = λ lt. nothing_joined lt; same = t.same; turn = λ up. absurd (not_both false up refl) }
+            record { ranged = λ j e. absurd (no_some j e); entitled = omega arith; sees = t.sees; sees_joined = λ lt. nothing_joined lt; same = t.same; same_joined = λ lt. nothing_joined lt; turn = λ up. absurd (not_both false up refl) }
             (λ _. (x, set_here s.homes 0 (some (Some x)) (omega arith), sym hist ∙ mine.1, same_fixed (fixed x) f (sym fix ∙ (t.same turn.some_number).0)))),
         (refl, refl),
       )

@@ -15,6 +15,7 @@ module _ {M F : Type 0} where
     seen = seen;
     joined_numbers = [];
     joined_seen = [];
+    joined_fixed = None;
     seats = seats;
     fixed = Some f;
   }
@@ -28,6 +29,7 @@ module _ {M F : Type 0} where
     seen = [];
     joined_numbers = [];
     joined_seen = [];
+    joined_fixed = None;
     seats = 0;
     fixed = None;
   }
@@ -41,6 +43,7 @@ module _ {M F : Type 0} where
     seen = v.seen;
     joined_numbers = [];
     joined_seen = [];
+    joined_fixed = None;
     seats = v.seats;
     fixed = v.fixed;
   }
@@ -54,6 +57,7 @@ module _ {M F : Type 0} where
     seen = whole;
     joined_numbers = [];
     joined_seen = [];
+    joined_fixed = None;
     seats = v.seats;
     fixed = v.fixed;
   }
@@ -67,6 +71,7 @@ module _ {M F : Type 0} where
     seen = v.seen;
     joined_numbers = [];
     joined_seen = [];
+    joined_fixed = None;
     seats = v.seats;
     fixed = v.fixed;
   }
@@ -79,6 +84,7 @@ module _ {M F : Type 0} where
     seen = v.seen;
     joined_numbers = [];
     joined_seen = [];
+    joined_fixed = None;
     seats = v.seats;
     fixed = v.fixed;
   }
@@ -91,11 +97,12 @@ module _ {M F : Type 0} where
     seen = v.seen;
     joined_numbers = [];
     joined_seen = [];
+    joined_fixed = None;
     seats = v.seats;
     fixed = v.fixed;
   }
 
-  -- the other's numbers and history beside its own
+  -- the other's numbers and history beside its own, and what that one knew of the part that stays
   abbrev pub beside : Knowledge M F → Knowledge M F → Knowledge M F
   beside v w = record {
     ticket = None;
@@ -104,6 +111,7 @@ module _ {M F : Type 0} where
     seen = v.seen;
     joined_numbers = w.numbers;
     joined_seen = w.seen;
+    joined_fixed = w.fixed;
     seats = v.seats;
     fixed = v.fixed;
   }
@@ -117,6 +125,7 @@ module _ {M F : Type 0} where
     seen = longer v.seen v.joined_seen;
     joined_numbers = [];
     joined_seen = [];
+    joined_fixed = None;
     seats = v.seats;
     fixed = v.fixed;
   }

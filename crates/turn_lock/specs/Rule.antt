@@ -28,6 +28,7 @@ pub record Fits {M F : Type 0} (names : M → ℕ) (seats serving ticket : ℕ) 
   pub sees : 0 < length v.numbers → Sees names seats v.numbers v.seen whole
   pub sees_joined : 0 < length v.joined_numbers → Sees names seats v.joined_numbers v.joined_seen whole
   pub same : 0 < length v.numbers → (v.fixed ≡ Some f) × (v.seats ≡ seats)
+  pub same_joined : 0 < length v.joined_numbers → v.joined_fixed ≡ Some f
   -- who is served has the ticket that is served, and has seen all
   pub turn : v.served ≡ true → (v.ticket ≡ Some serving) × (v.seen ≡ whole)
 

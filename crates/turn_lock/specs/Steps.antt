@@ -35,9 +35,11 @@ module _ {T M F : Type 0} where
   abbrev pub ends : Step (Option T) → Me (Option T) (Knowledge M F) → ℕ → Me (Option T) (Knowledge M F) → Type 0
   ends st m found w = (w.0 ≡ ended m.0) × (w.1 ≡ rest m.1)
 
-  -- the longer of both histories begins with each, and has no later entry of the numbers of either
+  -- the longer of both histories begins with each, and has no later entry of the numbers of either; both knew the same
+  -- of the part that stays
   abbrev pub merges : (M → ℕ) → Step (Option T) → Me (Option T) (Knowledge M F) → ℕ → Me (Option T) (Knowledge M F)
       → Type 0
   merges names st m found w = (w.0 ≡ merged m.0) × (w.1 ≡ m.1)
       × Sees names m.0.seats m.0.numbers m.0.seen (longer m.0.seen m.0.joined_seen)
       × Sees names m.0.seats m.0.joined_numbers m.0.joined_seen (longer m.0.seen m.0.joined_seen)
+      × (m.0.joined_fixed ≡ m.0.fixed)

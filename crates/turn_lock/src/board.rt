@@ -5,15 +5,20 @@ ghost use Rattle.turn_lock.specs.Knowing.{IsCalm, IsWaiting, HasTurn, IsBeside, 
 ghost use Rattle.turn_lock.specs.Steps.{Turns};
 
 use crate::Logged;
+use crate::doors::Doors;
 use crate::rule::{Count, Cut, Draw, LockSeat, LockTable, Look, Merge, Next, Opening, Tie};
 use std::alloc::Global;
 use std::snapshot::Snapshot;
 use std::sync::Wait;
 use std::thread;
 
-/// A table with three words and one slot.
+/// How often a caller looks before it sleeps: for some ten microseconds, about what a sleep and a wake cost.
+const LOOKS: u32 = 50;
+
+/// A table with three words and one slot, and the doors at which callers sleep.
 pub(crate) struct Board<T: Logged> {
     table: LockTable<T>,
+    doors: Doors,
     ghost shape: { (table.shared.table_id.words ≡ 3) × (table.shared.table_id.slots ≡ 1) },
 }
 
@@ -39,7 +44,10 @@ impl<T: Logged> Board<T> {
             return Err(full(failed.value));
         }
         match LockTable::<T>::new(alloc, &[0, 0, placed], slots, &about) {
-            Ok((table, seat)) => Ok((Board { table }, seat)),
+            Ok((table, seat)) => {
+                let doors = Doors::new();
+                Ok((Board { table, doors }, seat))
+            }
             Err(refused) => {
                 let mut slots = refused.slots;
                 let Some(slot) = slots.pop() else {
@@ -59,7 +67,7 @@ impl<T: Logged> Board<T> {
         ensures history { T.history result ≡ seat.me.0.seen }
         ensures fixed { seat.me.0.fixed ≡ Some (T.fixed result) }
     {
-        let Board { table } = self;
+        let Board { table, doors: _ } = self;
         let mut closed = table.close_with(seat);
         let slot = closed.take(0);
         closed.free();
@@ -87,7 +95,7 @@ impl<T: Logged> Board<T> {
         self.table.shared.load::<Look<T>>(seat, 1) == ticket
     }
 
-    /// Looks until the ticket is served, which one from 2^63 on never is.
+    /// Looks until the ticket is served, which one from 2^63 on never is. After some looks it sleeps between them.
     pub(crate) fn await_turn<R: Wait>(&self, rt: &R, seat: &mut LockSeat<T>, ticket: u64)
         requires of { seat.old.table_id ≡ self.now.table.shared.table_id }
         requires waits { IsWaiting ticket seat.old.me }
@@ -95,11 +103,29 @@ impl<T: Logged> Board<T> {
         ensures low { ticket < 2 ^ 63 }
         ensures turn { Turns T.history T.fixed T.names seat.old.me seat.new.me }
     {
+        let mut looks = 0;
         for _ in rt.forever() {
             if ticket < 1 << 63 && self.look(seat, ticket) {
                 break;
             }
-            thread::yield_now();
+            if looks < LOOKS {
+                looks += 1;
+                thread::yield_now();
+            } else {
+                self.sleep(rt, ticket);
+            }
+        }
+    }
+
+    /// Sleeps until the ticket is called, unless it is served by now.
+    ///
+    /// No call is missed. Who sleeps announces it first and then reads the ticket that is served. Who ends a turn
+    /// serves the next ticket first and then asks whether a sleep is announced at its door. So one of the two sees the
+    /// other: the sleeper finds its ticket served, or it is woken.
+    fn sleep<R: Wait>(&self, rt: &R, ticket: u64) {
+        let sleep = self.doors.of(ticket).prepare_wait();
+        if self.table.shared.peek(1) != ticket {
+            sleep.wait(rt);
         }
     }
 
@@ -139,7 +165,7 @@ impl<T: Logged> Board<T> {
         self.table.shared.store::<Count<T>>(seat, 2, placed);
     }
 
-    /// Serves the next ticket, once the state is in the slot and its history is counted.
+    /// Serves the next ticket, once the state is in the slot and its history is counted, and wakes who sleeps with it.
     pub(crate) fn next(&self, seat: &mut LockSeat<T>, state: &Snapshot<T>)
         requires of { seat.old.table_id ≡ self.now.table.shared.table_id }
         requires turn { HasTurn (Some state.now.value) seat.old.me }
@@ -149,7 +175,8 @@ impl<T: Logged> Board<T> {
         ensures ended { seat.new.me ≡ (ended seat.old.me.0, []) }
         ensures calm { IsCalm seat.new.me }
     {
-        self.table.shared.fetch_add::<Next<T>>(seat, 1, 1);
+        let served = self.table.shared.fetch_add::<Next<T>>(seat, 1, 1);
+        self.doors.of(served.wrapping_add(1)).notify_all();
     }
 
     /// Cuts the last number off.
@@ -192,6 +219,7 @@ impl<T: Logged> Board<T> {
             ≡ own_entries T.names seat.old.me.0.numbers seat.old.me.0.seen }
         ensures own_other { own_entries T.names seat.old.me.0.joined_numbers (longer seat.old.me.0.seen seat.old.me.0.joined_seen)
             ≡ own_entries T.names seat.old.me.0.joined_numbers seat.old.me.0.joined_seen }
+        ensures fixed { seat.old.me.0.joined_fixed ≡ seat.old.me.0.fixed }
     {
         self.table.shared.load::<Merge<T>>(seat, 0);
     }

@@ -9,6 +9,7 @@
 #![tactic(auto)]
 
 mod board;
+mod doors;
 mod lock;
 mod logged;
 mod pass;

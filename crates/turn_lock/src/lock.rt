@@ -40,8 +40,8 @@ impl<T: Logged> TurnLock<T> {
         Ok((TurnLock { board }, Pass { seat }))
     }
 
-    /// Waits until it is the pass's turn, and takes the state out. The state's history begins with all that the pass
-    /// had seen, and what comes after names no number of the pass. The pass has now seen it all.
+    /// Waits until it is the pass's turn, soon asleep, and takes the state out. The state's history begins with all
+    /// that the pass had seen, and what comes after names no number of the pass. The pass has now seen it all.
     ///
     /// A lock gives at most 2^63 turns, and who comes later waits for ever. That a turn comes is not claimed.
     pub fn enter<R: Wait>(&self, rt: &R, pass: &mut Pass<T>) -> T
@@ -89,7 +89,7 @@ impl<T: Logged> TurnLock<T> {
     }
 
     /// Adds the other pass's numbers behind the pass's own, and keeps the longer of both histories. That begins with
-    /// each of them, and what comes after names no number of the pass that had seen it.
+    /// each of them, and what comes after names no number of the pass that had seen it. Both know the same fixed part.
     pub fn join(&self, pass: &mut Pass<T>, other: Pass<T>)
         requires of { (pass.old.lock ≡ self.now) × (other.lock ≡ self.now) }
         requires out { (pass.old.in_turn ≡ false) × (other.in_turn ≡ false) }
@@ -100,6 +100,7 @@ impl<T: Logged> TurnLock<T> {
             ≡ own_entries T.names pass.old.numbers pass.old.seen }
         ensures own_other { own_entries T.names other.numbers pass.new.seen
             ≡ own_entries T.names other.numbers other.seen }
+        ensures fixed { other.fixed ≡ pass.old.fixed }
     {
         self.board.tie(&mut pass.seat, other.into_seat());
         self.board.merge(&mut pass.seat);

@@ -12,8 +12,9 @@ use std::marker::Model;
 /// the history as far as it was `seen`, the part of the state that stays (`fixed`), and whether it has entered and not
 /// left (`in_turn`).
 ///
-/// A pass that is dropped takes its numbers with it: the lock can't be closed any more. One that is dropped in its turn
-/// leaves all others to wait for ever.
+/// A pass that is dropped or forgotten takes its numbers with it: the lock can't be closed any more. One that is
+/// dropped or forgotten in its turn never ends that turn: no later ticket is served, and all others, those asleep and
+/// those that enter later, wait for ever.
 pub struct Pass<T: Logged> {
     pub(crate) seat: LockSeat<T>,
 }

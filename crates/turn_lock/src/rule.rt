@@ -29,9 +29,10 @@ pub struct Knowledge<M, F> {
     pub numbers: LinkedList<u64>,
     /// The history, as far as it was seen.
     pub seen: LinkedList<M>,
-    /// Numbers and history of a seat that was joined, until they are merged.
+    /// Numbers and history of a seat that was joined, until they are merged, and what it knew of the part that stays.
     pub joined_numbers: LinkedList<u64>,
     pub joined_seen: LinkedList<M>,
+    pub joined_fixed: Option<F>,
     /// How many numbers the lock has.
     pub seats: u16,
     /// The part of the state that stays. A spent seat has none.
