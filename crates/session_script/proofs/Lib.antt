@@ -8,6 +8,7 @@ pub mod HexBytes
 pub mod HexText
 pub mod HistoryLemmas
 pub mod LineLaws
+pub mod MadeLemmas
 pub mod NumberLaws
 pub mod PathLaws
 pub mod Pieces

@@ -2,6 +2,7 @@ pub mod Escapes
 pub mod Grammar
 pub mod Limits
 pub mod LogText
+pub mod Made
 pub mod Readings
 pub mod ReasonNames
 pub mod Replies

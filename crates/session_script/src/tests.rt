@@ -1,4 +1,4 @@
-use crate::{Log, Reply, ScriptFault, log_text, read_script};
+use crate::{Log, Reply, ScriptFault, log_text, make_script, read_script};
 use plain_tree::{Answer, Call, Entry, Facts, Fate, Placed, Refusal, Sort};
 use std::alloc::{AllocError, Global};
 use std::test::Fail;
@@ -216,5 +216,99 @@ fn a_name_forges_no_line(rt: HostRuntime) -> Result<(), Fail> {
             .as_slice()
     );
     assert_eq!(rt; rest.strip_suffix(b"\n"), Some(KEPT.as_bytes()));
+    Ok(())
+}
+
+/// The five first calls of each of eight sessions.
+const FIVE: &str = "\
+1 mkdir /s1\n2 mkdir /s2\n3 mkdir /s3\n4 mkdir /s4\n\
+5 mkdir /s5\n6 mkdir /s6\n7 mkdir /s7\n8 mkdir /s8\n\
+1 create /s1/f0\n2 create /s2/f0\n3 create /s3/f0\n4 create /s4/f0\n\
+5 create /s5/f0\n6 create /s6/f0\n7 create /s7/f0\n8 create /s8/f0\n\
+1 write /s1/f0 0 fill:10:102\n2 write /s2/f0 0 fill:20:203\n3 write /s3/f0 0 fill:30:304\n4 write /s4/f0 0 fill:40:405\n\
+5 write /s5/f0 0 fill:50:506\n6 write /s6/f0 0 fill:60:607\n7 write /s7/f0 0 fill:70:708\n8 write /s8/f0 0 fill:80:809\n\
+1 read /s1/f0 0 6000\n2 read /s2/f0 0 6000\n3 read /s3/f0 0 6000\n4 read /s4/f0 0 6000\n\
+5 read /s5/f0 0 6000\n6 read /s6/f0 0 6000\n7 read /s7/f0 0 6000\n8 read /s8/f0 0 6000\n\
+1 rename /s1/f0 /s1/g0\n2 rename /s2/f0 /s2/g0\n3 rename /s3/f0 /s3/g0\n4 rename /s4/f0 /s4/g0\n\
+5 rename /s5/f0 /s5/g0\n6 rename /s6/f0 /s6/g0\n7 rename /s7/f0 /s7/g0\n8 rename /s8/f0 /s8/g0\n\
+";
+
+fn same_path(path: &List<Text>, other: &List<Text>) -> bool {
+    let path = path.as_slice();
+    let other = other.as_slice();
+    if path.len() != other.len() {
+        return false;
+    }
+    for at in 0..path.len() {
+        if path[at].as_str() != other[at].as_str() {
+            return false;
+        }
+    }
+    true
+}
+
+/// Whether two calls of those that are made are the same.
+fn same_call(call: &Call, other: &Call) -> bool {
+    match (call, other) {
+        (Call::Mkdir { path }, Call::Mkdir { path: other }) => same_path(path, other),
+        (Call::Create { path }, Call::Create { path: other }) => same_path(path, other),
+        (
+            Call::Write {
+                path,
+                offset,
+                bytes,
+            },
+            Call::Write {
+                path: other,
+                offset: from,
+                bytes: more,
+            },
+        ) => { same_path(path, other) && offset == from && bytes.as_slice() == more.as_slice() }
+        (
+            Call::Read {
+                path,
+                offset,
+                count,
+            },
+            Call::Read {
+                path: other,
+                offset: from,
+                count: most,
+            },
+        ) => { same_path(path, other) && offset == from && count == most }
+        (
+            Call::Rename { from, to },
+            Call::Rename {
+                from: other,
+                to: there,
+            },
+        ) => { same_path(from, other) && same_path(to, there) }
+        (Call::Sync, Call::Sync) => true,
+        _ => false,
+    }
+}
+
+#[test]
+fn a_script_is_made(rt: HostRuntime) -> Result<(), Fail> {
+    let made = make_script(rt.alloc(), 5).ok().ok_or("no memory")?;
+    let read = read_script(rt.alloc(), FIVE.as_bytes())
+        .ok()
+        .ok_or("refused")?;
+    let made = made.lines();
+    let read = read.lines();
+    assert_eq!(rt; made.len(), 40);
+    assert_eq!(rt; read.len(), 40);
+    for at in 0..40 {
+        assert_eq!(rt; made[at].who, read[at].who);
+        assert!(rt; same_call(&made[at].call, &read[at].call), "another call");
+    }
+    Ok(())
+}
+
+#[test]
+fn a_made_script_syncs(rt: HostRuntime) -> Result<(), Fail> {
+    let made = make_script(rt.alloc(), 129).ok().ok_or("no memory")?;
+    assert_eq!(rt; made.count(3), 129);
+    assert!(rt; same_call(made.call(3, 128), &Call::Sync), "another call");
     Ok(())
 }
