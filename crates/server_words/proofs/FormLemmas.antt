@@ -15,7 +15,7 @@ use Rattle.clap.specs.declared.error.Error.{Error}
 use Rattle.clap.specs.declared.error.kind.ErrorKind.TheVariants as kinds
 use Rattle.tape_types.specs.declared.moments.Moment.{Moment}
 use Rattle.tape_types.proofs.CivilLemmas.{time_text_injective}
-use Rattle.server_words.specs.Forms.{IsBehindFolder, IsFormat, IsLabel, IsList, IsMomentForm, IsMomentTaken, IsPlain, IsPlainForm, IsPlainWords, IsReadAs, IsServe, IsServeForm, IsServeRead, IsServeWords, IsSpelledBy, IsTakenAs, IsVolumeAsked}
+use Rattle.server_words.specs.Forms.{IsBehindFolder, IsFormat, IsLabel, IsList, IsMake, IsMakeForm, IsMakeRead, IsMakeWords, IsMomentForm, IsMomentTaken, IsPlain, IsPlainForm, IsPlainWords, IsReadAs, IsServe, IsServeForm, IsServeRead, IsServeWords, IsSpelledBy, IsTakenAs, IsVolumeAsked}
 use Rattle.server_words.specs.Options.{IsMomentGiven, IsMomentRead, Takes, bare, with_moment}
 use Rattle.server_words.specs.Volumes.{IsVolumeForm}
 use Rattle.server_words.specs.declared.forms.WordsErr.{WordsErr}
@@ -54,6 +54,9 @@ format_named words is = behind_named (codes "format") (λ more. IsVolumeForm mor
 
 pub serve_named : (words : List (String Global)) → IsServe words → IsNamed (codes "serve") words
 serve_named words is = behind_named (codes "serve") (λ more. IsServeForm more is.0) words is.1
+
+pub make_named : (words : List (String Global)) → IsMake words → IsNamed (codes "make") words
+make_named words is = behind_named (codes "make") (λ more. IsMakeForm more is.0 is.1) words is.2
 
 rest_of : (k : ℕ) (words : List (String Global)) → take (length words - k) (drop k words) ≡ drop k words
 rest_of k words = take_all (length words - k) (drop k words) (subst (λ n. n ≤ length words - k) (sym (length-drop k words)) (omega arith))
@@ -118,6 +121,14 @@ one_serve words one other (folder, more, is, form) (dir, rest, are, again) =
     let moved : IsServeForm more other = subst (λ w. IsServeForm w other) same again in
     one_moment _ one other form.moment moved.moment
 
+-- words ask for one count and one moment
+pub one_make : (words : List (String Global)) (count number : ℕ) (one other : Option Moment) → IsMakeWords words count one → IsMakeWords words number other → (count ≡ number) × (one ≡ other)
+one_make words count number one other (folder, more, is, form) (dir, rest, are, again) =
+    let same : rest ≡ more = ap (drop 2) (sym are ∙ is) in
+    let moved : IsMakeForm more number other = subst (λ w. IsMakeForm w number other) same again in
+    let both : Some count ≡ Some number = sym form.counted ∙ moved.counted in
+    (cc both, one_moment _ one other form.moment moved.moment)
+
 pub plain_spelled : (words : List (String Global)) (more : List Text) (r : Result Command WordsErr) → map string_bytes words ≡ codes "plain" ∷ more → IsReadAs more r
     → IsSpelledBy words r
 plain_spelled words more (Ok (commands.Plain at)) is form = (more, is, form)
@@ -125,6 +136,7 @@ plain_spelled words more (Ok commands.Label) is form = absurd form
 plain_spelled words more (Ok commands.List) is form = absurd form
 plain_spelled words more (Ok (commands.Format asked)) is form = absurd form
 plain_spelled words more (Ok (commands.Serve at)) is form = absurd form
+plain_spelled words more (Ok (commands.Make count at)) is form = absurd form
 plain_spelled words more (Err errors.Form) is none =
     let named : IsNamed (codes "plain") words = (more, is) in record {
       no_plain = λ plain. none plain.0 (subst (λ w. IsPlainForm w plain.0) (ap (drop 1) (sym plain.1.1 ∙ is)) plain.1.2);
@@ -132,6 +144,7 @@ plain_spelled words more (Err errors.Form) is none =
       no_list = λ list. names_differ words (codes "plain") (codes "list") refl named (list_named words list);
       no_format = λ format. names_differ words (codes "plain") (codes "format") refl named (format_named words format);
       no_serve = λ serve. names_differ words (codes "plain") (codes "serve") refl named (serve_named words serve);
+      no_make = λ make. names_differ words (codes "plain") (codes "make") refl named (make_named words make);
     }
 plain_spelled words more (Err errors.NoMemory) is none = tt
 
@@ -145,6 +158,7 @@ label_spelled words folder more (Err errors.Form) is none =
       no_list = λ list. names_differ words (codes "label") (codes "list") refl named (list_named words list);
       no_format = λ format. names_differ words (codes "label") (codes "format") refl named (format_named words format);
       no_serve = λ serve. names_differ words (codes "label") (codes "serve") refl named (serve_named words serve);
+      no_make = λ make. names_differ words (codes "label") (codes "make") refl named (make_named words make);
     }
 label_spelled words folder more (Err errors.NoMemory) is none = tt
 
@@ -158,6 +172,7 @@ list_spelled words folder more (Err errors.Form) is none =
       no_list = λ list. none (subst (Takes (bare (codes "list"))) (ap (drop 2) (sym list.2 ∙ is)) list.3);
       no_format = λ format. names_differ words (codes "list") (codes "format") refl named (format_named words format);
       no_serve = λ serve. names_differ words (codes "list") (codes "serve") refl named (serve_named words serve);
+      no_make = λ make. names_differ words (codes "list") (codes "make") refl named (make_named words make);
     }
 list_spelled words folder more (Err errors.NoMemory) is none = tt
 
@@ -168,6 +183,7 @@ format_spelled words folder more (Ok commands.Label) is form = absurd form
 format_spelled words folder more (Ok commands.List) is form = absurd form
 format_spelled words folder more (Ok (commands.Format asked)) is form = (folder, more, is, form)
 format_spelled words folder more (Ok (commands.Serve at)) is form = absurd form
+format_spelled words folder more (Ok (commands.Make count at)) is form = absurd form
 format_spelled words folder more (Err errors.Form) is none =
     let named : IsNamed (codes "format") words = (folder ∷ more, is) in record {
       no_plain = λ plain. names_differ words (codes "format") (codes "plain") refl named (plain_named words plain);
@@ -175,6 +191,7 @@ format_spelled words folder more (Err errors.Form) is none =
       no_list = λ list. names_differ words (codes "format") (codes "list") refl named (list_named words list);
       no_format = λ format. none format.0 (subst (λ w. IsVolumeForm w format.0) (ap (drop 2) (sym format.1.2 ∙ is)) format.1.3);
       no_serve = λ serve. names_differ words (codes "format") (codes "serve") refl named (serve_named words serve);
+      no_make = λ make. names_differ words (codes "format") (codes "make") refl named (make_named words make);
     }
 format_spelled words folder more (Err errors.NoMemory) is none = tt
 
@@ -185,15 +202,36 @@ serve_spelled words folder more (Ok commands.Label) is form = absurd form
 serve_spelled words folder more (Ok commands.List) is form = absurd form
 serve_spelled words folder more (Ok (commands.Format asked)) is form = absurd form
 serve_spelled words folder more (Ok (commands.Serve at)) is form = (folder, more, is, form)
+serve_spelled words folder more (Ok (commands.Make count at)) is form = absurd form
 serve_spelled words folder more (Err errors.Form) is none =
     let named : IsNamed (codes "serve") words = (folder ∷ more, is) in record {
       no_plain = λ plain. names_differ words (codes "serve") (codes "plain") refl named (plain_named words plain);
       no_label = λ label. names_differ words (codes "serve") (codes "label") refl named (label_named words label);
       no_list = λ list. names_differ words (codes "serve") (codes "list") refl named (list_named words list);
       no_format = λ format. names_differ words (codes "serve") (codes "format") refl named (format_named words format);
+      no_make = λ make. names_differ words (codes "serve") (codes "make") refl named (make_named words make);
       no_serve = λ serve. none serve.0 (subst (λ w. IsServeForm w serve.0) (ap (drop 2) (sym serve.1.2 ∙ is)) serve.1.3);
     }
 serve_spelled words folder more (Err errors.NoMemory) is none = tt
+
+pub make_spelled : (words : List (String Global)) (folder : Text) (more : List Text) (r : Result Command WordsErr) → map string_bytes words ≡ codes "make" ∷ folder ∷ more
+    → IsMakeRead more r → IsSpelledBy words r
+make_spelled words folder more (Ok (commands.Plain at)) is form = absurd form
+make_spelled words folder more (Ok commands.Label) is form = absurd form
+make_spelled words folder more (Ok commands.List) is form = absurd form
+make_spelled words folder more (Ok (commands.Format asked)) is form = absurd form
+make_spelled words folder more (Ok (commands.Serve at)) is form = absurd form
+make_spelled words folder more (Ok (commands.Make count at)) is form = (folder, more, is, form)
+make_spelled words folder more (Err errors.Form) is none =
+    let named : IsNamed (codes "make") words = (folder ∷ more, is) in record {
+      no_plain = λ plain. names_differ words (codes "make") (codes "plain") refl named (plain_named words plain);
+      no_label = λ label. names_differ words (codes "make") (codes "label") refl named (label_named words label);
+      no_list = λ list. names_differ words (codes "make") (codes "list") refl named (list_named words list);
+      no_format = λ format. names_differ words (codes "make") (codes "format") refl named (format_named words format);
+      no_serve = λ serve. names_differ words (codes "make") (codes "serve") refl named (serve_named words serve);
+      no_make = λ make. none make.0 make.1 (subst (λ w. IsMakeForm w make.0 make.1) (ap (drop 2) (sym make.2.2 ∙ is)) make.2.3);
+    }
+make_spelled words folder more (Err errors.NoMemory) is none = tt
 
 -- an error of another kind than want of memory tells that the words aren't taken
 pub not_taken : (faults : Kinds) (e : Error) → HasKind faults e → (kind_of e ≡ kinds.OutOfMemory → ⊥) → faults ≡ [] → ⊥

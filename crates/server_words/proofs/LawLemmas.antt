@@ -13,17 +13,17 @@ use Rattle.tape_edge.specs.Clocks.{IsSince1970}
 use Rattle.server_words.specs.Forms.{IsMomentForm}
 use Rattle.server_words.specs.Options.{IsMomentGiven, Takes, bare, value_of, with_moment}
 
-not_long : (b : ℕ) (rest : List ℕ) → (b == 45) ≡ false → long_of (b ∷ rest) ≡ None
+pub not_long : (b : ℕ) (rest : List ℕ) → (b == 45) ≡ false → long_of (b ∷ rest) ≡ None
 not_long b rest e = rw (e, strip_byte) refl
 
-not_short : (b : ℕ) (rest : List ℕ) → (b == 45) ≡ false → short_of (b ∷ rest) ≡ None
+pub not_short : (b : ℕ) (rest : List ℕ) → (b == 45) ≡ false → short_of (b ∷ rest) ≡ None
 not_short b rest e = rw (e, strip_byte) refl
 
-not_dashes : (b : ℕ) (rest : List ℕ) → (b == 45) ≡ false → bytes_eq (b ∷ rest) (45 ∷ 45 ∷ []) ≡ false
+pub not_dashes : (b : ℕ) (rest : List ℕ) → (b == 45) ≡ false → bytes_eq (b ∷ rest) (45 ∷ 45 ∷ []) ≡ false
 not_dashes b rest e = rw e refl
 
 -- a time text begins with a digit
-first_digit : (at : Moment) → (b : ℕ) × (rest : List ℕ) × (time_text at ≡ b ∷ rest) × ((b == 45) ≡ false)
+pub first_digit : (at : Moment) → (b : ℕ) × (rest : List ℕ) × (time_text at ≡ b ∷ rest) × ((b == 45) ≡ false)
 unfolding time_text civil_text
 first_digit at = (_, _, refl, grind (arith, nat_tests))
 

@@ -1,3 +1,5 @@
 pub mod FormLemmas
 pub mod LawLemmas
+pub mod MakeLaws
+pub mod MakeLemmas
 pub mod VolumeLemmas

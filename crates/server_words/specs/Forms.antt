@@ -1,10 +1,12 @@
 -- The forms of a command line's words: a command's name, its folder where it has one, and words that clap's simple command
 -- takes, with options in any order, as `--x VALUE` or `--x=VALUE`.
-use Rattle.std.specs.Prelude.{◌≡◌, List, ◌∷◌, map, Option, Result, Ok, Err, String, codes, string_bytes}
+use Rattle.std.specs.Prelude.{◌≡◌, ℕ, List, ◌∷◌, map, Option, Some, None, Result, Ok, Err, String, codes, string_bytes}
+use Rattle.std.specs.Prelude.{◌&&◌, nat_le, if◌then◌else◌, option_and_then}
 use Rattle.std.specs.Global.{Global}
-use Rattle.clap.specs.Words.{App, Text}
+use Rattle.clap.specs.Words.{App, Text, with_rule}
+use Rattle.session_script.specs.Words.{number_of}
 use Rattle.tape_types.specs.declared.moments.Moment.{Moment}
-use Rattle.server_words.specs.Options.{IsMomentGiven, Takes, bare, value_of, with_moment}
+use Rattle.server_words.specs.Options.{IsMomentGiven, Takes, bare, positional, value_of, with_moment}
 use Rattle.server_words.specs.Volumes.{IsVolumeForm}
 use Rattle.server_words.specs.declared.forms.WordsErr.{WordsErr}
 use Rattle.server_words.specs.declared.forms.WordsErr.TheVariants as errors
@@ -24,6 +26,21 @@ IsPlainForm words at = IsMomentForm (codes "plain") words at
 -- the words behind `serve` and its folder, and the moment of `--at`
 abbrev pub IsServeForm : List Text → Option Moment → Type 0
 IsServeForm words at = IsMomentForm (codes "serve") words at
+
+-- `N`, and `--at`
+abbrev pub make_app : App
+make_app = with_moment (with_rule (bare (codes "make")) (positional (codes "count")))
+
+-- a number of 1 to 1,024
+abbrev pub count_told : Option Text → Option ℕ
+count_told text =
+    option_and_then (λ n. if nat_le 1 n && nat_le n 1024 then Some n else None) (option_and_then number_of text)
+
+-- the words behind `make` and its folder: how many calls each session makes, and the moment of `--at`
+pub record IsMakeForm (words : List Text) (count : ℕ) (at : Option Moment) : Type 0 where
+  pub takes : Takes make_app words
+  pub counted : count_told (value_of make_app (codes "count") words) ≡ Some count
+  pub moment : IsMomentGiven (value_of make_app (codes "at") words) at
 
 -- The words are `plain`, and maybe `--at TIME` with a time of the years 1970 to 9999, which then is every moment.
 abbrev pub IsPlainWords : List (String Global) → Option Moment → Type 0
@@ -66,6 +83,14 @@ IsServeWords words at = IsBehindFolder (codes "serve") (λ more. IsServeForm mor
 abbrev pub IsServe : List (String Global) → Type 0
 IsServe words = (at : Option Moment) × IsServeWords words at
 
+-- The words are `make DIR N`, with a number of 1 to 1,024, and maybe `--at TIME` as behind `serve`.
+abbrev pub IsMakeWords : List (String Global) → ℕ → Option Moment → Type 0
+IsMakeWords words count at = IsBehindFolder (codes "make") (λ more. IsMakeForm more count at) words
+
+-- the words are of one of the forms of `make`
+abbrev pub IsMake : List (String Global) → Type 0
+IsMake words = (count : ℕ) × (at : Option Moment) × IsMakeWords words count at
+
 -- the words are of no command's form
 pub record HasNoForm (words : List (String Global)) : Type 0 where
   pub no_plain : ¬ (IsPlain words)
@@ -73,15 +98,17 @@ pub record HasNoForm (words : List (String Global)) : Type 0 where
   pub no_list : ¬ (IsList words)
   pub no_format : ¬ (IsFormat words)
   pub no_serve : ¬ (IsServe words)
+  pub no_make : ¬ (IsMake words)
 
 -- what the words spell: those of `plain` or of `serve` with this moment, those of `label` or of `list`, those of `format`
--- with these values, or of no form
+-- or of `make` with these values, or of no form
 abbrev pub IsSpelledBy : List (String Global) → Result Command WordsErr → Type 0
 IsSpelledBy words (Ok (commands.Plain at)) = IsPlainWords words at
 IsSpelledBy words (Ok commands.Label) = IsLabel words
 IsSpelledBy words (Ok commands.List) = IsList words
 IsSpelledBy words (Ok (commands.Format asked)) = IsFormatWords words asked
 IsSpelledBy words (Ok (commands.Serve at)) = IsServeWords words at
+IsSpelledBy words (Ok (commands.Make count at)) = IsMakeWords words count at
 IsSpelledBy words (Err errors.Form) = HasNoForm words
 IsSpelledBy words (Err errors.NoMemory) = Unit {0}
 
@@ -104,6 +131,13 @@ IsServeRead words (Ok (commands.Serve at)) = IsServeForm words at
 IsServeRead words (Ok command) = ⊥
 IsServeRead words (Err errors.Form) = (at : Option Moment) → ¬ (IsServeForm words at)
 IsServeRead words (Err errors.NoMemory) = Unit {0}
+
+-- the words behind `make` and its folder are of its form, with this count and this moment
+abbrev pub IsMakeRead : List Text → Result Command WordsErr → Type 0
+IsMakeRead words (Ok (commands.Make count at)) = IsMakeForm words count at
+IsMakeRead words (Ok command) = ⊥
+IsMakeRead words (Err errors.Form) = (count : ℕ) (at : Option Moment) → ¬ (IsMakeForm words count at)
+IsMakeRead words (Err errors.NoMemory) = Unit {0}
 
 -- this command, where its simple command takes the words
 abbrev pub IsTakenAs : App → List Text → Command → Result Command WordsErr → Type 0

@@ -2,6 +2,7 @@
 
 ghost use Rattle.std.specs.Prelude.{◌≡◌, true, false, map, IfOk, string_bytes};
 ghost use Rattle.clap.specs.Words.{app_of, is_simple_and_free, rule_of};
+ghost use Rattle.server_words.specs.Forms.{make_app};
 ghost use Rattle.server_words.specs.Options.{IsFoundIn, bare, option, positional, with_moment};
 ghost use Rattle.server_words.specs.Volumes.{format_app, with_policy, with_sizes, with_volume};
 
@@ -68,6 +69,15 @@ pub fn format_command<'a>(alloc: Global) -> Result<clap::Command<'a>, AllocError
     let command = add_sizes(alloc, command)?;
     let command = add_policy(alloc, command)?;
     command.arg(option(alloc, "at"))
+}
+
+/// The command `make`: a word, and the option `--at`.
+pub fn make_command<'a>(alloc: Global) -> Result<clap::Command<'a>, AllocError>
+    ensures { IfOk result (λ c. app_of c ≡ make_app) }
+{
+    bare_command(alloc, "make")
+        .arg(positional(alloc, "count"))?
+        .arg(option(alloc, "at"))
 }
 
 fn add_volume<'a>(

@@ -1,9 +1,10 @@
-ghost use Rattle.std.specs.Prelude.{◌≡◌, codes, map, string_bytes};
-ghost use Rattle.server_words.specs.Forms.{IsMomentTaken, IsReadAs, IsServeRead, IsSpelledBy, IsTakenAs, IsVolumeAsked};
+ghost use Rattle.std.specs.Prelude.{◌≡◌, codes, map, option_map, string_bytes};
+ghost use Rattle.server_words.specs.Forms.{IsMakeRead, IsMomentTaken, IsReadAs, IsServeRead, IsSpelledBy};
+ghost use Rattle.server_words.specs.Forms.{IsTakenAs, IsVolumeAsked, count_told};
 ghost use Rattle.server_words.specs.Options.{bare};
 
-use crate::forms::{WordsErr, bare_command, command_with_moment, find_in};
-use crate::volumes::{FormatWords, read_at, read_volume};
+use crate::forms::{WordsErr, bare_command, command_with_moment, find_in, make_command};
+use crate::volumes::{FormatWords, read_at, read_number, read_volume};
 use std::alloc::Global;
 use tape_types::Moment;
 
@@ -20,6 +21,9 @@ pub enum Command {
     Format(FormatWords),
     /// `serve`, which runs a script on the volume of the cartridge. Every moment is the given one, or else the clock's.
     Serve { at: Option<Moment> },
+    /// `make`, which runs a made script on the volume of the cartridge: so many calls of each of eight sessions, 1,024 at
+    /// most. Every moment is the given one, or else the clock's.
+    Make { count: u32, at: Option<Moment> },
 }
 
 /// What words ask for, without the program's name.
@@ -52,6 +56,9 @@ pub fn read_words(alloc: Global, words: &[String]) -> Result<Command, WordsErr>
     if name == "serve" {
         return read_serve(alloc, &words[2..]);
     }
+    if name == "make" {
+        return read_make(alloc, &words[2..]);
+    }
     Err(WordsErr::Form)
 }
 
@@ -72,6 +79,38 @@ fn read_serve(alloc: Global, words: &[String]) -> Result<Command, WordsErr>
     match read_option(alloc, "serve", words) {
         Ok(at) => Ok(Command::Serve { at }),
         Err(error) => Err(error),
+    }
+}
+
+/// What the words of `make` ask for, behind its folder.
+fn read_make(alloc: Global, words: &[String]) -> Result<Command, WordsErr>
+    ensures { IsMakeRead (map string_bytes words.now) result }
+{
+    let Ok(command) = make_command(alloc) else {
+        return Err(WordsErr::NoMemory);
+    };
+    let found = match find_in(command, words) {
+        Ok(found) => found,
+        Err(error) => return Err(error),
+    };
+    let Some(count) = read_count(found.get_str("count")) else {
+        return Err(WordsErr::Form);
+    };
+    match read_at(found.get_str("at")) {
+        Ok(at) => Ok(Command::Make { count, at }),
+        Err(error) => Err(error),
+    }
+}
+
+/// A number of 1 to 1,024.
+fn read_count(text: Option<&str>) -> Option<u32>
+    ensures { result ≡ count_told (option_map (λ t. t.now) text.entry) }
+{
+    let count = read_number(text?)?;
+    if count >= 1 && count <= 1024 {
+        Some(count as u32)
+    } else {
+        None
     }
 }
 

@@ -52,8 +52,8 @@ fn moment_text(alloc: Global, name: &str, at: Option<Moment>) -> Result<String, 
     Ok(text)
 }
 
-/// What words come to, by name: `plain` or `serve` and maybe a time, `label`, `list`, the values of `format`, `none`, or
-/// `memory`.
+/// What words come to, by name: `plain` or `serve` and maybe a time, `make` with its number and maybe a time, `label`,
+/// `list`, the values of `format`, `none`, or `memory`.
 fn come_to(alloc: Global, words: &str) -> Result<String, NoMemory> {
     let mut all = Vec::new(alloc);
     if !words.is_empty() {
@@ -64,6 +64,10 @@ fn come_to(alloc: Global, words: &str) -> Result<String, NoMemory> {
     match read_words(alloc, all.as_slice()) {
         Ok(Command::Plain { at }) => moment_text(alloc, "plain", at),
         Ok(Command::Serve { at }) => moment_text(alloc, "serve", at),
+        Ok(Command::Make { count, at }) => {
+            let name = format!(in alloc; "make {count}")?;
+            moment_text(alloc, name.as_str(), at)
+        }
         Ok(Command::Format(asked)) => volume_text(alloc, &asked),
         Ok(Command::Label) => Ok(String::from_str(alloc, "label")?),
         Ok(Command::List) => Ok(String::from_str(alloc, "list")?),
@@ -141,6 +145,49 @@ fn a_volume_is_served_at_a_moment(rt: HostRuntime) -> Result<(), NoMemory> {
         "serve|D|--at|1969-12-31T23:59:59.999999999Z",
         "none",
     )
+}
+
+#[test]
+fn a_script_is_made_of_so_many_calls(rt: HostRuntime) -> Result<(), NoMemory> {
+    let alloc = rt.alloc();
+    let at = "make 5 2024-01-02T03:04:05.000000000Z";
+    check(&rt, alloc, "make|D|5", "make 5")?;
+    check(&rt, alloc, "make|D|1", "make 1")?;
+    check(&rt, alloc, "make|D|1024", "make 1024")?;
+    check(&rt, alloc, "make||5", "make 5")?;
+    check(
+        &rt,
+        alloc,
+        "make|D|--at|2024-01-02T03:04:05.000000000Z|5",
+        at,
+    )?;
+    check(
+        &rt,
+        alloc,
+        "make|D|5|--at=2024-01-02T03:04:05.000000000Z",
+        at,
+    )?;
+    check(
+        &rt,
+        alloc,
+        "make|D|5|--at|1969-12-31T23:59:59.999999999Z",
+        "none",
+    )?;
+    for words in [
+        "make",
+        "make|D",
+        "make|5",
+        "make|D|5|6",
+        "make|D|5|--at",
+        "make|D|--help|5",
+    ] {
+        check(&rt, alloc, words, "none")?;
+    }
+    for count in ["", "0", "1025", "x", "+5", "-5", "5x", "4294967301"] {
+        let words = format!(in alloc; "make|D|{count}")?;
+        check(&rt, alloc, words.as_str(), "none")?;
+    }
+    Ok(())
 }
 
 #[test]

@@ -160,7 +160,7 @@ fn pieces_of(alloc: Global, list: &str) -> Result<Vec<&str>, AllocError>
 }
 
 /// The number that 1 to 20 decimal digits spell, where it is below 2^64.
-fn read_number(text: &str) -> Option<u64>
+pub fn read_number(text: &str) -> Option<u64>
     ensures { result ≡ number_of text.now }
 {
     let digits = text.as_bytes();

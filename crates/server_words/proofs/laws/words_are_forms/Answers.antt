@@ -1,6 +1,7 @@
 use Rattle.std.proofs.Common.{[], codes, ◌∷◌}
 use Rattle.tape_types.specs.Times.{time_text}
 use Rattle.server_words.proofs.LawLemmas.{apart_is_form, joined_is_form, none_is_form, takes_bare}
+use Rattle.server_words.proofs.MakeLaws.{make_alone, make_apart, make_joined}
 use Rattle.server_words.proofs.laws.words_are_forms.Goals as goal
 
 pub returns-clause-plain : goal.returns-clause-plain
@@ -26,3 +27,12 @@ returns-clause-serve_apart c = λ words folder at since is. (folder, codes "--at
 
 pub returns-clause-serve_joined : goal.returns-clause-serve_joined
 returns-clause-serve_joined c = λ words folder at since is. (folder, _, is, joined_is_form _ at since)
+
+pub returns-clause-make : goal.returns-clause-make
+returns-clause-make c = λ words folder number count told is. (folder, number ∷ [], is, make_alone number count told)
+
+pub returns-clause-make_apart : goal.returns-clause-make_apart
+returns-clause-make_apart c = λ words folder number count at told since is. (folder, codes "--at" ∷ time_text at ∷ number ∷ [], is, make_apart number count told at since)
+
+pub returns-clause-make_joined : goal.returns-clause-make_joined
+returns-clause-make_joined c = λ words folder number count at told since is. (folder, number ∷ _ ∷ [], is, make_joined number count told at since)

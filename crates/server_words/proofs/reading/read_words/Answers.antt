@@ -1,6 +1,6 @@
 use Rattle.std.proofs.Common.{rules, arith, codes, sym, ◌∙◌}
 use Rattle.std.proofs.lemmas.Slice.Eq.{bytes_eq-Decides}
-use Rattle.server_words.proofs.FormLemmas.{behind, behind_folder, format_spelled, label_spelled, list_spelled, plain_spelled, serve_spelled}
+use Rattle.server_words.proofs.FormLemmas.{behind, behind_folder, format_spelled, label_spelled, list_spelled, make_spelled, plain_spelled, serve_spelled}
 use Rattle.server_words.proofs.reading.read_words.Goals as goal
 
 pub returns-then-eq : goal.returns-then-eq
@@ -32,3 +32,9 @@ returns-then-eq-5 c =
     let name = sym c.as_str-name.ensures.value ∙ (bytes_eq-Decides c.as_str-name.result.now (codes "serve")).0 (sym c.eq-5.ensures ∙ c.if-eq-5.true) in
     let found = behind_folder c.args.words.now _ _ (omega (arith, c.if-words-lt2.false)) c.index-words-0.is name in
     serve_spelled c.args.words.now found.0 _ _ found.1 c.read_serve.ensures
+
+pub returns-then-eq-6 : goal.returns-then-eq-6
+returns-then-eq-6 c =
+    let name = sym c.as_str-name.ensures.value ∙ (bytes_eq-Decides c.as_str-name.result.now (codes "make")).0 (sym c.eq-6.ensures ∙ c.if-eq-6.true) in
+    let found = behind_folder c.args.words.now _ _ (omega (arith, c.if-words-lt2.false)) c.index-words-0.is name in
+    make_spelled c.args.words.now found.0 _ _ found.1 c.read_make.ensures
