@@ -22,7 +22,7 @@ use Rattle.volume_stock.specs.Mounted.{CanStart, StartsFrom, letters_of}
 use Rattle.volume_stock.specs.Stocks.{IsStock, Stocked}
 use Rattle.volume_stock.proofs.MountLaws.{mounts_can_start}
 use Rattle.volume_parts.specs.Parts.{Parts, view_of}
-use Rattle.volume_start.specs.Laws.{IsFresh, first_tape}
+use Rattle.volume_calls.specs.StartLaws.{IsFresh, first_tape}
 use Rattle.volume_calls.proofs.Begun.{volumes_run}
 use Rattle.volume_calls.proofs.Promised.{running_is_promised}
 use Rattle.served_volume.specs.Beginning.{BeginsWith}

@@ -27,7 +27,7 @@ use Rattle.volume_order.proofs.Owned.{after_more}
 use Rattle.volume_order.proofs.Placing.{as_many_places}
 use Rattle.volume_order.proofs.Turning.{all_turn, drains_are_kept, drains_of}
 use Rattle.volume_journal.specs.Trails.{due_ticket, state}
-use Rattle.volume_steps.specs.Laws.{Stepped}
+use Rattle.volume_calls.specs.StepLaws.{Stepped}
 use Rattle.volume_parts.specs.Parts.{Parts, view_of}
 use Rattle.volume_parts.specs.Tied.{IsTied}
 use Rattle.volume_calls.specs.Handing.{StepsOn}

@@ -8,7 +8,7 @@ use Rattle.volume_model.specs.Marks.{draining, phase, places_of, waits}
 use Rattle.volume_model.specs.declared.answers.Drained.{Drained}
 use Rattle.volume_model.specs.declared.answers.Drained.TheVariants as the_drained
 use Rattle.volume_model.specs.declared.answers.Turn.TheVariants as the_turns
-use Rattle.volume_steps.specs.Laws.{CanStep}
+use Rattle.volume_calls.specs.StepLaws.{CanStep}
 use Rattle.volume_calls.specs.Draining.{IsFull}
 use Rattle.volume_calls.specs.Handing.{HandsOut, StepsOn, TurnsTo, more, then_ready}
 use Rattle.volume_core.specs.Handed.{CanHand}

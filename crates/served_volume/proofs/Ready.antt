@@ -19,9 +19,9 @@ use Rattle.volume_model.specs.Served.{Fixed, headed}
 use Rattle.volume_order.proofs.Marked.{marked}
 use Rattle.volume_order.proofs.Picked.{passes}
 use Rattle.volume_journal.specs.Trails.{state}
-use Rattle.volume_steps.specs.Laws.{CanStep, Stepped}
-use Rattle.volume_steps.proofs.CanLaw.{steps_can_be_made}
-use Rattle.volume_steps.proofs.ShowLaw.{steps_show}
+use Rattle.volume_calls.specs.StepLaws.{CanStep, Stepped}
+use Rattle.volume_calls.proofs.CanLaw.{steps_can_be_made}
+use Rattle.volume_calls.proofs.ShowLaw.{steps_show}
 use Rattle.volume_parts.specs.Parts.{Parts, view_of}
 use Rattle.volume_parts.specs.Tied.{IsTied}
 use Rattle.volume_calls.specs.Draining.{IsFull}

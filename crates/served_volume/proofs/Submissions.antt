@@ -27,7 +27,7 @@ use Rattle.volume_order.specs.Laws.{IsInOrder}
 use Rattle.volume_order.specs.Sides.{HasOneMoment}
 use Rattle.volume_parts.specs.Parts.{Parts, view_of}
 use Rattle.volume_parts.specs.Placing.{PutsOff}
-use Rattle.volume_submits.specs.Laws.{Made, puts_off}
+use Rattle.volume_calls.specs.SubmitLaws.{Made, puts_off}
 use Rattle.volume_calls.specs.Running.{IsRunning}
 use Rattle.volume_calls.proofs.Promised.{running_is_promised}
 use Rattle.volume_calls.proofs.Submitted.{submissions_run}

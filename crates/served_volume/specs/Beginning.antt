@@ -5,7 +5,7 @@ use Rattle.session_script.specs.Sessions.{greatest_session}
 use Rattle.tape_meaning.specs.declared.mounted.Mounted.{Mounted}
 use Rattle.file_tree.specs.Tree.{FileTree, plain_of}
 use Rattle.volume_model.specs.Served.{Fixed}
-use Rattle.volume_start.specs.Laws.{first_tape}
+use Rattle.volume_calls.specs.StartLaws.{first_tape}
 
 -- what no call changes is this, where the volume begins with this drive, mount and tree, for so many calls of so many
 -- sessions

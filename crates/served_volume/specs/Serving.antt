@@ -7,7 +7,7 @@ use Rattle.session_script.specs.declared.scripts.ScriptLine.{ScriptLine}
 use Rattle.tape_meaning.specs.declared.mounted.Mounted.{Mounted}
 use Rattle.file_tree.specs.Tree.{FileTree, plain_of}
 use Rattle.volume_model.specs.Served.{Fixed}
-use Rattle.volume_start.specs.Laws.{first_tape}
+use Rattle.volume_calls.specs.StartLaws.{first_tape}
 use Rattle.volume_parts.specs.Parts.{Parts}
 use Rattle.volume_calls.specs.Running.{IsRunning}
 

@@ -4,7 +4,7 @@ ghost use Rattle.std.specs.Prelude.{◌≡◌, IfErr, IfOk};
 ghost use Rattle.tape_types.specs.Cartridges.{IsLimits};
 ghost use Rattle.tape_meaning.specs.Mounts.{IsMount};
 ghost use Rattle.volume_model.specs.Served.{Fixed};
-ghost use Rattle.volume_start.specs.Laws.{IsFresh};
+ghost use Rattle.volume_calls.specs.StartLaws.{IsFresh};
 ghost use Rattle.volume_core.specs.Seen.{seen_parts};
 ghost use Rattle.served_volume.specs.Beginning.{BeginsWith};
 

@@ -179,6 +179,13 @@ impl<D: Drive, C: Clock> Volume<D, C> {
         self.parts.placements.count_marks()
     }
 
+    /// Whatever was asked of it, all is kept that is promised of a served volume.
+    pub fn keeps(&self)
+        ensures { IsServed cartridges (seen D.Drive self.now.fixed.first) (seen D.Drive self.now.drive) self.now }
+    {
+        let _parts = &self.parts;
+    }
+
     /// Takes a volume apart of which nothing was asked yet. It makes no command of the drive.
     pub fn part(self) -> Kept<D, C>
         requires { self.history ≡ [] }

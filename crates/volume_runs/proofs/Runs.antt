@@ -18,7 +18,7 @@ use Rattle.tape_meaning.specs.declared.mounted.Mounted.{Mounted}
 use Rattle.volume_space.specs.Closing.{closing}
 use Rattle.volume_space.specs.Standing.{Given, admitted}
 use Rattle.volume_model.specs.Crash.{SurvivesCrashes}
-use Rattle.volume_model.specs.Ends.{Closes, IsCloseShort, IsDoneClose, IsEnd}
+use Rattle.volume_model.specs.Ends.{Closes, IsCloseShort, IsDoneClose, IsEnd, TellsNodes}
 use Rattle.volume_model.specs.Headline.{IsServeRun, IsTrueLog, tree_of_log}
 use Rattle.volume_model.specs.Meanings.{cartridges}
 use Rattle.volume_model.specs.Mount.{facts_of}
@@ -94,6 +94,14 @@ module _ {D : Type 0} (drive : Ghosts D) (script : List ScriptLine) (at : Option
       groups = rightly.groups;
       drains = rightly.drains;
     }
+
+    -- the nodes that a close tells
+    nodes_of : TellsNodes outcome (tree_of_log script tree log (length log.history)) nodes
+    nodes_of =
+        subst
+        (λ (e : Tree × List Placed × List ScriptLine).
+        TellsNodes outcome (replay (calls_of e.2) e.0 (take (length e.1) e.1)) nodes)
+        (λ i. (tree_is i, history i, played.script_is i)) (closes.nodes_are told)
 
     -- a close that is done, and one that is short
     done : (m : Moment) (generation : ℕ)
@@ -184,4 +192,6 @@ pub plays_are_runs : {D : Type 0} (drive : Ghosts D) → PlaysAreRuns drive
 plays_are_runs drive script at start v now log outcome step_count travel_sum nodes played closes = record {
   run = run drive script at start v now log outcome step_count travel_sum nodes played closes;
   end = ends_so drive script at start v now log outcome step_count travel_sum nodes played closes outcome closes.end;
+  nodes_are = λ tree mounted can.
+      nodes_of drive script at start v now log outcome step_count travel_sum nodes played closes mounted tree can;
 }

@@ -3,6 +3,7 @@ use Rattle.std.specs.Prelude.{ℕ, ◌≡◌, ◌≤◌, List, length, Option, S
 use Rattle.tape_types.specs.declared.cartridges.Cartridge.{Cartridge}
 use Rattle.tape_types.specs.declared.moments.Moment.{Moment}
 use Rattle.plain_tree.specs.History.{IsInterleaving}
+use Rattle.plain_tree.specs.Tree.{Tree}
 use Rattle.session_script.specs.Grammar.{calls_of}
 use Rattle.session_script.specs.Sessions.{greatest_session}
 use Rattle.session_script.specs.declared.logs.Log.{Log}
@@ -12,11 +13,12 @@ use Rattle.tape_drive.specs.declared.drive.Drive.{Ghosts}
 use Rattle.tape_meaning.specs.Carried.{carried}
 use Rattle.tape_meaning.specs.Meaning.{Reads}
 use Rattle.tape_meaning.specs.Mounts.{Mounts}
-use Rattle.volume_model.specs.Ends.{Closes}
-use Rattle.volume_model.specs.Headline.{IsEndOf, IsServeRun, Closed, Failed, Short}
+use Rattle.tape_meaning.specs.declared.mounted.Mounted.{Mounted}
+use Rattle.volume_model.specs.Ends.{Closes, TellsNodes}
+use Rattle.volume_model.specs.Headline.{IsEndOf, IsServeRun, Closed, Failed, Short, tree_of_log}
 use Rattle.volume_model.specs.Marks.{NothingWaits}
 use Rattle.volume_model.specs.Meanings.{cartridges}
-use Rattle.volume_model.specs.Served.{IsServed, View}
+use Rattle.volume_model.specs.Served.{CanTell, IsServed, View}
 use Rattle.volume_model.specs.declared.answers.CloseEnd.{CloseEnd}
 use Rattle.volume_model.specs.declared.answers.CloseEnd.TheVariants as ends
 use Rattle.volume_order.specs.Kept.{seen}
@@ -50,15 +52,20 @@ EndsSo drive script start now log (ends.Fault counts) =
     IsEndOf cartridges script (seen drive start) (seen drive now) log (Failed counts)
 EndsSo drive script start now log ends.NoMemory = Unit {0}
 
--- Its log is that of a run of the script, and the run ends as the close did.
+-- Its log is that of a run of the script, and the run ends as the close did. Where the cartridge read as a tree, a close
+-- that is done tells how many nodes the tree has that the whole history leaves.
 pub record IsRun {D : Type 0} (drive : Ghosts D) (script : List ScriptLine) (at : Option Moment) (start now : D)
-    (log : Log) (outcome : CloseEnd) : Type 0 where
+    (log : Log) (outcome : CloseEnd) (nodes : ℕ) : Type 0 where
   pub run : IsServeRun cartridges script at (seen drive start) (seen drive now) log
   pub end : EndsSo drive script start now log outcome
+  pub nodes_are : (tree : Tree) (mounted : Mounted)
+      → CanTell (λ c. Reads c (carried mounted.index) tree mounted.newest × Mounts c mounted) (drive.commands start)
+      (seen drive start)
+      → TellsNodes outcome (tree_of_log script tree log (length log.history)) nodes
 
 abbrev pub PlaysAreRuns : {D : Type 0} → Ghosts D → Type 0
 PlaysAreRuns {D} drive = (script : List ScriptLine) (at : Option Moment) (start : D) (v : View D) (now : D) (log : Log)
     (outcome : CloseEnd) (step_count travel_sum nodes : ℕ) → IsPlayed drive script at start v
     → Closes cartridges (seen drive v.fixed.first) (seen drive v.drive) (seen drive now) v now log outcome step_count
     travel_sum nodes
-    → IsRun drive script at start now log outcome
+    → IsRun drive script at start now log outcome nodes
