@@ -1,0 +1,72 @@
+-- What of a desk may go to another thread, or be shared with one, over a drive and a clock that may.
+use denote.RattleType.{RattleType}
+use denote.Param.Send.{IsSend, IsSync, sendable, view_send, view_sync}
+use denote.Param.SendFields.{declared_send, declared_sync}
+use denote.Struct.Record.{declared}
+use Rattle.std.proofs.Crossing.{crosses}
+use Rattle.tape_drive.specs.declared.drive.Drive as drives
+use Rattle.tape_edge.specs.declared.traits.Clock as clocks
+use Rattle.volume_core.specs.contracts.parts.Parts as parts
+use Rattle.served_volume.specs.contracts.volume.Volume as volumes
+use Rattle.served_volume.specs.contracts.volume.Volume.TheInside as volume
+use Rattle.turn_lock.proofs.Crossing as crossing
+use Rattle.tape_desk.specs.contracts.shelf.Shelf as shelves
+use Rattle.tape_desk.specs.contracts.shelf.Shelf.TheInside as shelf
+use Rattle.tape_desk.specs.contracts.pass.DeskPass as passes
+use Rattle.tape_desk.specs.contracts.pass.DeskPass.TheInside as pass
+use Rattle.tape_desk.specs.contracts.desk.Desk as desks
+use Rattle.tape_desk.specs.contracts.desk.Desk.TheInside as desk
+
+parts_send : (D : RattleType) (d : drives.Ghosts D.Denot) → IsSend D → IsSend (parts.the_row D d)
+parts_send D d s = search (crosses, sendable) depth 60 fits 100000
+
+module _ (D C : RattleType) (d : drives.Ghosts D.Denot) (c : clocks.Ghosts C.Denot) (s : IsSend D) (t : IsSend C) where
+  -- its fields one by one, since they are too many for one search
+  volume_send : IsSend (volumes.the_row D C d c)
+  volume_send = view_send _ _ _ _ _ (declared_send (declared (volume.struct D C d c) (volume.the_propositions D.Denot C.Denot)) (
+    search (parts_send, crosses, sendable) depth 60 fits 100000,
+    (
+      search (crosses, sendable) depth 60 fits 100000,
+      (
+        search (crosses, sendable) depth 60 fits 100000,
+        (
+          search (crosses, sendable) depth 60 fits 100000,
+          (
+            search (crosses, sendable) depth 60 fits 100000,
+            (
+              search (crosses, sendable) depth 60 fits 100000,
+              (
+                search (crosses, sendable) depth 60 fits 100000,
+                (
+                  search (crosses, sendable) depth 60 fits 100000,
+                  (
+                    search (crosses, sendable) depth 60 fits 100000,
+                    (
+                      search (crosses, sendable) depth 60 fits 100000,
+                      (search (crosses, sendable) depth 60 fits 100000, tt),
+                    ),
+                  ),
+                ),
+              ),
+            ),
+          ),
+        ),
+      ),
+    ),
+  ))
+
+  shelf_send : IsSend (shelves.the_row D C d c)
+  shelf_send = view_send _ _ _ _ _ (declared_send (declared (shelf.struct D C d c) (shelf.the_propositions D.Denot C.Denot)) (search volume_send depth 60 fits 100000, tt))
+
+  pub pass_send : IsSend (passes.the_row D C d c)
+  pass_send = view_send _ _ _ _ _ (declared_send (declared (pass.struct D C d c) (pass.the_propositions D.Denot C.Denot)) (
+    search (crossing.pass_send, shelf_send, crosses, sendable) depth 60 fits 100000,
+    (
+      search (crosses, sendable) depth 60 fits 100000,
+      (search (crosses, sendable) depth 60 fits 100000, (search (crosses, sendable) depth 60 fits 100000, tt)),
+    ),
+  ))
+
+  pub desk_sync : IsSync (desks.the_row D C d c)
+  desk_sync = view_sync _ _ _ _ _ (declared_sync (declared (desk.struct D C d c) (desk.the_propositions D.Denot C.Denot))
+      (search (crossing.lock_sync, shelf_send, crosses, sendable) depth 60 fits 100000, tt))

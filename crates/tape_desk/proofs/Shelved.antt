@@ -1,0 +1,109 @@
+-- What is promised of a volume stays so over each of its calls, and the call's marks are those of its session.
+use Rattle.std.specs.Prelude.{◌≡◌, ℕ, List, [], ◌∷◌, ◌++◌, length, map, Option}
+use Rattle.std.proofs.Common.{refl, sym, ap, ◌∙◌, arith}
+use Rattle.std.proofs.lemmas.List.{length_push}
+use Rattle.tape_drive.specs.declared.drive.Drive.{Ghosts}
+use Rattle.plain_tree.specs.declared.calls.Fate.{Fate}
+use Rattle.session_script.specs.declared.logs.Reply.{Reply}
+use Rattle.volume_model.specs.Marks.{draining, mark, marks_of_drain, marks_of_submit, marks_of_turn, phase, waits}
+use Rattle.volume_model.specs.Meanings.{cartridges}
+use Rattle.volume_model.specs.Served.{Drive, IsServed, View}
+use Rattle.volume_model.specs.Steps.{DrainsOnce, OnlyAnswers, Turns}
+use Rattle.volume_model.specs.Submits.{CanSubmit, Places, Submits}
+use Rattle.volume_model.specs.declared.answers.Drained.{Drained}
+use Rattle.volume_model.specs.declared.answers.Drained.TheVariants as drained
+use Rattle.volume_model.specs.declared.answers.Submitted.{Submitted}
+use Rattle.volume_model.specs.declared.answers.Submitted.TheVariants as submitted
+use Rattle.volume_model.specs.declared.answers.Turn.{Turn}
+use Rattle.volume_model.specs.declared.answers.Turn.TheVariants as turns
+use Rattle.volume_order.specs.Kept.{seen}
+use Rattle.volume_logs.specs.Laws.{LogsGoOn}
+use Rattle.tape_desk.specs.Promised.{IsPromised}
+use Rattle.tape_desk.specs.Turns.{kinds_of_drain, kinds_of_submit, kinds_of_turn}
+
+-- ---- the marks of an answer
+
+submit_marks : (who here : ℕ) (answer : Submitted) → marks_of_submit who here answer ≡ map (mark who) (kinds_of_submit here answer)
+submit_marks who here (submitted.Ready reply) = refl
+submit_marks who here (submitted.Wait ticket) = refl
+submit_marks who here submitted.Drain = refl
+
+turn_marks : (who ticket : ℕ) (answer : Turn) → marks_of_turn who ticket answer ≡ map (mark who) (kinds_of_turn ticket answer)
+turn_marks who ticket (turns.Ready reply) = refl
+turn_marks who ticket turns.More = refl
+
+drain_marks : (who here : ℕ) (answer : Drained) → marks_of_drain who here answer ≡ map (mark who) (kinds_of_drain here answer)
+drain_marks who here drained.Room = refl
+drain_marks who here drained.More = refl
+drain_marks who here (drained.Fault counts) = refl
+
+module _ {D : Type 0} (old new : View D) (who : ℕ) where
+  pub submit_more : (first now : Drive) (nth : ℕ) (answer : Submitted) → Submits first now old new who nth answer
+      → new.marks ≡ old.marks ++ map (mark who) (kinds_of_submit (length old.history) answer)
+  submit_more first now nth answer s = s.marks ∙ ap (λ l. old.marks ++ l) (submit_marks who (length old.history) answer)
+
+  pub turn_more : (most : ℕ) (before now : Drive) (ticket : ℕ) (answer : Turn) → Turns most before now old new who ticket answer
+      → new.marks ≡ old.marks ++ map (mark who) (kinds_of_turn ticket answer)
+  turn_more most before now ticket answer s = s.marks ∙ ap (λ l. old.marks ++ l) (turn_marks who ticket answer)
+
+  pub drain_more : (most : ℕ) (before now : Drive) (answer : Drained) → DrainsOnce most before now old new who answer
+      → new.marks ≡ old.marks ++ map (mark who) (kinds_of_drain (length old.history) answer)
+  drain_more most before now answer s = s.marks ∙ ap (λ l. old.marks ++ l) (drain_marks who (length old.history) answer)
+
+-- ---- as many replies as placements
+
+one_more : {X Y : Type 0} (xs xs' : List X) (ys ys' : List Y) (x : X) (y : Y) → length xs ≡ length ys
+    → xs' ≡ xs ++ x ∷ [] → ys' ≡ ys ++ y ∷ [] → length xs' ≡ length ys'
+one_more xs xs' ys ys' x y same more longer =
+    omega (arith, same, ap length more, ap length longer, length_push xs x, length_push ys y)
+
+module _ {D : Type 0} (old new : View D) (count : length old.replies ≡ length old.history) where
+  placed : {who nth : ℕ} {fate : Fate} {reply : Option Reply} → Places old new who nth fate reply
+      → length new.replies ≡ length new.history
+  placed {reply = reply} p =
+      one_more old.replies new.replies old.history new.history reply p.placed count p.replies p.history
+
+  answered : OnlyAnswers old new → length new.replies ≡ length new.history
+  answered only = only.replies.count ∙ count ∙ sym (ap length only.history)
+
+  submitted_count : (first now : Drive) (who nth : ℕ) (answer : Submitted) → Submits first now old new who nth answer
+      → length new.replies ≡ length new.history
+  submitted_count first now who nth (submitted.Ready reply) s = placed s.placing
+  submitted_count first now who nth (submitted.Wait ticket) s = placed s.placing.1
+  submitted_count first now who nth submitted.Drain s =
+      let p = s.placing in ap length p.replies ∙ count ∙ sym (ap length p.history)
+
+  drained_count : (most : ℕ) (before now : Drive) (who : ℕ) (answer : Drained) → DrainsOnce most before now old new who answer
+      → length new.replies ≡ length new.history
+  drained_count most before now who drained.Room s = answered s.answered.2
+  drained_count most before now who drained.More s = answered s.answered.3
+  drained_count most before now who (drained.Fault counts) s = placed s.answered.1
+
+-- ---- what is promised
+
+module _ {D : Type 0} (drive : Ghosts D) (law : LogsGoOn drive cartridges) (who : ℕ) (old new : View D)
+    (kept : IsPromised drive old)
+    (served : IsServed cartridges (seen drive new.fixed.first) (seen drive new.drive) new) where
+  pub submit_keeps : (nth : ℕ) (answer : Submitted) → CanSubmit old who nth
+      → Submits (seen drive old.fixed.first) (seen drive new.drive) old new who nth answer → IsPromised drive new
+  submit_keeps nth answer can s = record {
+    served = served;
+    logged = law.submitted old new who nth answer kept.served served can s kept.logged;
+    count = submitted_count old new kept.count (seen drive old.fixed.first) (seen drive new.drive) who nth answer s;
+  }
+
+  pub turn_keeps : (ticket : ℕ) (answer : Turn) → phase who old.marks ≡ waits ticket
+      → Turns drive.MOST (seen drive old.drive) (seen drive new.drive) old new who ticket answer → IsPromised drive new
+  turn_keeps ticket answer waiting s = record {
+    served = served;
+    logged = law.turned old new who ticket answer kept.served served waiting s kept.logged;
+    count = s.replies.count ∙ kept.count ∙ sym (ap length s.history);
+  }
+
+  pub drain_keeps : (answer : Drained) → phase who old.marks ≡ draining
+      → DrainsOnce drive.MOST (seen drive old.drive) (seen drive new.drive) old new who answer → IsPromised drive new
+  drain_keeps answer drains s = record {
+    served = served;
+    logged = law.drained old new who answer kept.served served drains s kept.logged;
+    count = drained_count old new kept.count drive.MOST (seen drive old.drive) (seen drive new.drive) who answer s;
+  }

@@ -1,0 +1,11 @@
+use Rattle.std.proofs.Common.{ℕ, List, subst, sym}
+use Rattle.tape_desk.specs.Dealing.{AreCounts}
+use Rattle.tape_desk.proofs.Deals.{can_deal}
+use Rattle.tape_desk.proofs.opening.open.Goals as goal
+
+pub deal-passes-requires-clause-whole : goal.deal-passes-requires-clause-whole
+deal-passes-requires-clause-whole g c =
+    can_deal c.in-Ok-new.lock c.args.sessions c.as_slice.result.now c.in-Ok-new.whole c.args.volume
+    c.in-Ok-new.ensures.pass c.requires.fresh c.requires.sessions
+    (subst (λ (counts : List ℕ). AreCounts c.args.volume.fixed c.args.sessions counts) (sym c.as_slice.ensures.value)
+    c.in-Some.ensures)

@@ -1,0 +1,42 @@
+-- How the passes of a desk are gathered when it is closed.
+use Rattle.std.specs.Prelude.{ℕ, ◌≡◌, ◌≤◌, ◌<◌, ◌+◌, false, List, [], ◌∷◌, ◌++◌, Contains, length, slice_index_or}
+use Rattle.atomic_table.specs.Seated.{TableId}
+use Rattle.turn_lock.specs.Passes.{PassView}
+use Rattle.volume_model.specs.Marks.{kinds_of}
+use Rattle.volume_model.specs.Served.{Fixed}
+use Rattle.volume_model.specs.declared.marks.Mark.{Mark}
+use Rattle.tape_desk.specs.Passes.{DeskView, IsRested, view_of}
+
+-- the lock's pass that a session's pass has
+pub record IsPassOf {D : Type 0} (p : DeskView D) (pass : PassView Mark (Fixed D)) : Type 0 where
+  pub view : p ≡ view_of pass p.who p.placed
+  pub out : pass.in_turn ≡ false
+  pub own : pass.numbers ≡ p.who ∷ []
+  pub rested : IsRested p
+
+-- A session's pass is part of the whole: that has its number, and has seen all that it had seen and no other mark of
+-- the session.
+pub record IsWithin {D : Type 0} (p : DeskView D) (whole : PassView Mark (Fixed D)) : Type 0 where
+  pub rested : IsRested p
+  pub fixed : p.fixed ≡ whole.fixed
+  pub number : Contains whole.numbers p.who
+  pub begins : (more : List Mark) × (p.seen ++ more ≡ whole.seen)
+  pub own : kinds_of p.who whole.seen ≡ kinds_of p.who p.seen
+
+-- a session's pass is taken in
+pub record TakesIn {D : Type 0} (p : DeskView D) (old new : PassView Mark (Fixed D)) : Type 0 where
+  pub lock : new.lock ≡ old.lock
+  pub seats : new.seats ≡ old.seats
+  pub out : new.in_turn ≡ false
+  pub one_more : length new.numbers ≡ length old.numbers + 1
+  pub taken : IsWithin p new
+  pub keeps : (q : DeskView D) → IsWithin q old → IsWithin q new
+
+-- all passes are taken in but the first n
+pub record HasGathered {D : Type 0} (lock : TableId) (ps : List (DeskView D)) (n : ℕ)
+    (whole : PassView Mark (Fixed D)) : Type 0 where
+  pub lock_is : whole.lock ≡ lock
+  pub seats : whole.seats ≡ length ps
+  pub out : whole.in_turn ≡ false
+  pub many : length whole.numbers + n ≡ length ps
+  pub each : (k : ℕ) (p : DeskView D) → n ≤ k → k < length ps → IsWithin (slice_index_or ps k p) whole

@@ -1,0 +1,13 @@
+-- What stays true of a volume whatever its sessions ask of it.
+use Rattle.std.specs.Prelude.{◌≡◌, length}
+use Rattle.tape_drive.specs.declared.drive.Drive.{Ghosts}
+use Rattle.volume_model.specs.Meanings.{cartridges}
+use Rattle.volume_model.specs.Served.{IsServed, View}
+use Rattle.volume_order.specs.Kept.{seen}
+use Rattle.volume_logs.specs.Logged.{IsLogged}
+
+-- all that is promised of a served volume and of its log, and each placement has its place among the replies
+pub record IsPromised {D : Type 0} (drive : Ghosts D) (v : View D) : Type 0 where
+  pub served : IsServed cartridges (seen drive v.fixed.first) (seen drive v.drive) v
+  pub logged : IsLogged cartridges (seen drive v.fixed.first) v
+  pub count : length v.replies ≡ length v.history
