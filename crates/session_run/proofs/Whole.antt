@@ -1,0 +1,171 @@
+-- What is known of a volume once all its sessions are done, and of one without a session.
+use Rattle.std.specs.Prelude.{◌≡◌, ◌==◌, ◌<◌, ◌≤◌, ℕ, zero, suc, ◌+◌, ◌-◌, max, Bool, true, false, cond, List, [], ◌∷◌, filter, filter_map, fold, length, map, take, drop, ◌++◌, Option, Some, IfSome, slice_index_or}
+use Rattle.std.specs.List.{range_with_len}
+use Rattle.std.proofs.Common.{⊎_elim, refl, sym, ap, subst, ◌∙◌, arith, append-nil, drop_of_length-le, ne_eqb}
+use Rattle.std.proofs.lemmas.Bool.{cases_lt}
+use Rattle.std.proofs.lemmas.List.{take_at}
+use Rattle.atomic_table.specs.Seated.{TableId}
+use Rattle.tape_types.specs.declared.moments.Moment.{Moment}
+use Rattle.plain_tree.specs.History.{IsInterleaving, numbers_of}
+use Rattle.session_script.specs.Grammar.{calls_of}
+use Rattle.session_script.specs.Sessions.{HasSessions, greatest_session}
+use Rattle.session_script.specs.declared.scripts.ScriptLine.{ScriptLine}
+use Rattle.tape_drive.specs.declared.drive.Drive.{Ghosts}
+use Rattle.tape_desk.specs.Passes.{AreAll, AreDealt, ArePartsOf, DeskView, IsPartOf, IsRested}
+use Rattle.tape_desk.specs.Promised.{IsPromised}
+use Rattle.volume_logs.specs.Laws.{LogsGoOn}
+use Rattle.volume_logs.specs.Logged.{IsLogged}
+use Rattle.volume_model.specs.Ends.{begun}
+use Rattle.volume_model.specs.Marks.{NothingWaits, idle, phase, place_in}
+use Rattle.volume_model.specs.Meanings.{cartridges}
+use Rattle.volume_model.specs.Served.{Fixed, IsServed, View, placed_by}
+use Rattle.volume_order.specs.Kept.{seen}
+use Rattle.volume_order.proofs.Placing.{as_many_places}
+use Rattle.session_run.specs.Ran.{IsDone, IsServedWhole}
+
+-- ---- sessions that the script doesn't have
+
+greatest_from : List ScriptLine → ℕ → ℕ
+greatest_from lines n = fold max n (map (λ (l : ScriptLine). l.who) lines)
+
+not_less : (n : ℕ) (lines : List ScriptLine) → n ≤ fold max n (map (λ (l : ScriptLine). l.who) lines)
+not_less n [] = omega arith
+not_less n (l ∷ lines) = omega (arith, not_less (max n l.who) lines)
+
+-- a session above all of a list, or 0, has no call in it
+no_calls_from : (n : ℕ) (lines : List ScriptLine) (who : ℕ) → HasSessions lines
+    → (1 ≤ who → who ≤ fold max n (map (λ (l : ScriptLine). l.who) lines) → ⊥) → length (calls_of lines who) ≡ 0
+no_calls_from n [] who has out = refl
+no_calls_from n (l ∷ lines) who has out =
+    ap (λ b. length (map (λ (y : ScriptLine). y.call) (cond b (l ∷ filter (λ y. y.who == who) lines) (filter (λ y. y.who == who) lines)))) other
+    ∙ no_calls_from (max n l.who) lines who (λ k d lt. has (suc k) d (omega arith)) out
+  where
+    first : (1 ≤ l.who) × (l.who ≤ 16)
+    first = has 0 l (omega arith)
+
+    other : (l.who == who) ≡ false
+    other = ne_eqb l.who who
+        (λ e. out (omega (arith, first.0, e)) (omega (arith, e, not_less (max n l.who) lines)))
+
+no_calls : (lines : List ScriptLine) (who : ℕ) → HasSessions lines → (1 ≤ who → who ≤ greatest_session lines → ⊥)
+    → length (calls_of lines who) ≡ 0
+no_calls lines who has out = no_calls_from 0 lines who has out
+
+-- ---- the history
+
+-- as many calls of each session of the script as it has there were placed, so all were
+interleaved : {D : Type 0} (drive : Ghosts D) (v : View D) → IsPromised drive v → HasSessions v.fixed.script
+    → ((who : ℕ) → 1 ≤ who → who ≤ greatest_session v.fixed.script
+    → length (numbers_of v.history who) ≡ length (calls_of v.fixed.script who))
+    → IsInterleaving (calls_of v.fixed.script) v.history
+interleaved drive v promised has each who = promised.served.orderly.placed.in_order who
+    ∙ ap (range_with_len 0) (⊎_elim
+    (λ (low : who < 1). outside (λ a b. omega (arith, low, a)))
+    (λ (some : 1 ≤ who). ⊎_elim
+    (λ (high : greatest_session v.fixed.script < who). outside (λ a b. omega (arith, high, b)))
+    (λ (most : who ≤ greatest_session v.fixed.script). each who some most)
+    (cases_lt (greatest_session v.fixed.script) who))
+    (cases_lt who 1))
+  where
+    outside : (1 ≤ who → who ≤ greatest_session v.fixed.script → ⊥)
+        → length (numbers_of v.history who) ≡ length (calls_of v.fixed.script who)
+    outside out = let none = no_calls v.fixed.script who has out in
+        omega (arith, none, promised.served.orderly.placed.within who)
+
+-- a session whose pass has placed all its calls
+placed_all : {D : Type 0} (drive : Ghosts D) (v : View D) (p : DeskView D) → IsPromised drive v → IsPartOf p v
+    → IsRested p → IfSome p.fixed (λ f. p.placed ≡ length (calls_of f.script p.who))
+    → length (numbers_of v.history p.who) ≡ length (calls_of v.fixed.script p.who)
+placed_all {D} drive v p promised part rested all =
+    let marks = promised.served.orderly.marks in
+    sym (as_many_places p.who v.history) ∙ sym (ap length (marks.places p.who))
+    ∙ ap (λ kinds. length (filter_map place_in kinds)) part.own ∙ sym rested.placed
+    ∙ subst (λ (o : Option (Fixed D)). IfSome o (λ f. p.placed ≡ length (calls_of f.script p.who))) part.fixed all
+
+-- ---- passes that come back
+
+take_whole : {X : Type 0} (xs ys : List X) → take (length xs) (xs ++ ys) ≡ xs
+take_whole xs ys = take_at xs ys (length xs) refl
+
+-- a list that was written over through a slice of its length
+pub written_back : {X : Type 0} (n : ℕ) (new old : List X) → length new ≡ length old → n ≡ length old
+    → take n (new ++ drop (length new) old) ≡ new
+written_back n new old same is =
+    let none : drop (length new) old ≡ [] = drop_of_length-le old (omega (arith, same)) in
+    ap (λ l. take n (new ++ l)) none ∙ ap (λ k. take k (new ++ [])) (is ∙ sym same) ∙ take_whole new []
+
+some_same : {X : Type 0} (x y : X) → Some x ≡ Some y → x ≡ y
+some_same x y e = cc e
+
+module _ {D : Type 0} (lock : TableId) (n : ℕ) (fixed : Fixed D) (ps qs : List (DeskView D))
+    (dealt : AreDealt lock n fixed ps) (same : length qs ≡ length ps)
+    (done : (k : ℕ) (p : DeskView D) → k < length ps → IsDone (slice_index_or ps k p) (slice_index_or qs k p)) where
+  locked : (k : ℕ) (p : DeskView D) → k < length ps → (slice_index_or ps k p).lock ≡ lock
+  locked k p lt = (dealt.1 k p lt).lock_is
+
+  who_is : (k : ℕ) (p : DeskView D) → k < length ps → (slice_index_or qs k p).who ≡ k + 1
+  who_is k p lt = (done k p lt).who ∙ (dealt.1 k p lt).who_is
+
+  -- they are all of the desk
+  pub are_all : 1 ≤ n → AreAll lock qs
+  are_all some = (
+    omega (arith, some, same, dealt.0),
+    λ k p lt. let here : k < length ps = omega (arith, lt, same) in (
+      (done k p here).lock ∙ (dealt.1 k p here).lock_is,
+      who_is k p here,
+      (done k p here).sessions ∙ (dealt.1 k p here).sessions_are ∙ sym dealt.0 ∙ sym same,
+    ),
+  )
+
+  fixed_is : (v : View D) → ArePartsOf qs v → (k : ℕ) (p : DeskView D) → k < length ps → v.fixed ≡ fixed
+  fixed_is v parts k p lt = some_same v.fixed fixed
+      (sym (parts k p (omega (arith, lt, same))).fixed ∙ (done k p lt).fixed ∙ (dealt.1 k p lt).fixed_is)
+
+  -- what the desk gives back at its close
+  pub served_whole : (drive : Ghosts D) (v : View D) → 1 ≤ n → n ≡ greatest_session fixed.script
+      → HasSessions fixed.script → ArePartsOf qs v → NothingWaits (greatest_session v.fixed.script) v.marks
+      → IsPromised drive v → (v.fixed ≡ fixed) × IsServedWhole drive v
+  served_whole drive v some most has parts nothing promised = (
+    kept,
+    record {
+      promised = promised;
+      history = interleaved drive v promised (subst (λ (f : Fixed D). HasSessions f.script) (sym kept) has) each;
+      nothing = nothing;
+    },
+  )
+    where
+      none : DeskView D
+      none = record { lock = lock; sessions = 0; who = 0; placed = 0; seen = []; fixed = Some fixed }
+
+      kept : v.fixed ≡ fixed
+      kept = fixed_is v parts 0 none (omega (arith, some, dealt.0))
+
+      each : (who : ℕ) → 1 ≤ who → who ≤ greatest_session v.fixed.script
+          → length (numbers_of v.history who) ≡ length (calls_of v.fixed.script who)
+      each who low high =
+          let k : ℕ = who - 1 in
+          let all : greatest_session v.fixed.script ≡ n = ap (λ (f : Fixed D). greatest_session f.script) kept ∙ sym most in
+          let lt : k < length ps = omega (arith, low, high, all, dealt.0) in
+          let is : (slice_index_or qs k none).who ≡ who = who_is k none lt ∙ omega (arith, low) in
+          subst (λ w. length (numbers_of v.history w) ≡ length (calls_of v.fixed.script w)) is
+          (placed_all drive v (slice_index_or qs k none) promised (parts k none (omega (arith, lt, same)))
+          (done k none lt).rests (done k none lt).all)
+
+-- ---- a script without a session
+
+pub none_to_serve : {D : Type 0} (drive : Ghosts D) (v : View D) → LogsGoOn drive cartridges
+    → v ≡ begun v.fixed v.next → IsServed cartridges (seen drive v.fixed.first) (seen drive v.drive) v
+    → HasSessions v.fixed.script → greatest_session v.fixed.script ≡ 0 → IsServedWhole drive v
+none_to_serve {D} drive v law is served has none = record {
+  promised = promised;
+  history = interleaved drive v promised has (λ who low high. absurd (omega (arith, low, high, none)));
+  nothing = λ who low high. ap (λ (w : View D). phase who w.marks) is;
+}
+  where
+    promised : IsPromised drive v
+    promised = record {
+      served = served;
+      logged = subst (λ (w : View D). IsLogged cartridges (seen drive v.fixed.first) w) (sym is)
+          (law.begins v.fixed v.next);
+      count = ap (λ (w : View D). length w.replies) is ∙ sym (ap (λ (w : View D). length w.history) is);
+    }
