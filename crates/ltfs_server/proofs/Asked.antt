@@ -1,10 +1,13 @@
 -- What is promised for all words, where one command's were read.
-use Rattle.std.proofs.Common.{◌≡◌, ◌∙◌, ℕ, ◌^◌, ◌-◌, ◌≤◌, false, List, [], ◌∷◌, Option, Some, None, Ok, Err, String, codes, refl, sym, ap, subst, arith, inl, inr, ◌==◌}
+use Rattle.std.proofs.Common.{◌≡◌, ◌∙◌, ℕ, ◌^◌, ◌-◌, ◌≤◌, Bool, true, false, nat_le, ◌&&◌, if◌then◌else◌, List, [], ◌∷◌, Option, Some, None, Ok, Err, String, codes, refl, sym, ap, subst, arith, inl, inr, ◌==◌}
 use Rattle.std.specs.Prelude.{IfSome}
 use Rattle.std.specs.List.{list_any}
+use Rattle.std.specs.Option.{option_and_then}
+use Rattle.std.proofs.lemmas.Bool.Decides.{nat_tests}
 use Rattle.std.specs.Global.{Global}
 use Rattle.tape_types.specs.declared.moments.Moment.{Moment}
 use Rattle.tape_edge.specs.Clocks.{IsSince1970}
+use Rattle.session_script.specs.Words.{number_of}
 use Rattle.session_script.specs.declared.logs.Log.{Log}
 use Rattle.tape_drive.specs.Looks.{Looks}
 use Rattle.tape_drive.specs.declared.drive.Drive.{Ghosts}
@@ -12,18 +15,19 @@ use Rattle.tape_meaning.specs.declared.errors.MountErr.TheVariants as errors
 use Rattle.format_volume.specs.Writes.{Goes}
 use Rattle.format_volume.specs.declared.requests.FormatErr.TheVariants as refusals
 use Rattle.format_volume.proofs.WriteLemmas.{goes_still}
-use Rattle.server_words.specs.Forms.{HasNoForm, IsFormat, IsFormatWords, IsLabel, IsList, IsPlain, IsPlainWords, IsServe, IsServeWords, IsSpelledBy}
-use Rattle.server_words.specs.Options.{IsMomentGiven}
+use Rattle.server_words.specs.Forms.{HasNoForm, IsFormat, IsFormatWords, IsLabel, IsList, IsMake, IsMakeWords, IsPlain, IsPlainWords, IsServe, IsServeWords, IsSpelledBy, count_told, make_app}
+use Rattle.server_words.specs.Options.{IsMomentGiven, value_of}
 use Rattle.server_words.specs.declared.volumes.FormatWords.{FormatWords}
 use Rattle.server_words.specs.declared.forms.WordsErr.{WordsErr}
 use Rattle.server_words.specs.declared.forms.WordsErr.TheVariants as word_errors
 use Rattle.server_words.specs.declared.reading.Command.{Command}
 use Rattle.server_words.specs.declared.reading.Command.TheVariants as commands
-use Rattle.server_words.proofs.FormLemmas.{format_named, label_named, list_named, names_differ, one_form, one_serve, plain_named, serve_named}
+use Rattle.server_words.proofs.FormLemmas.{format_named, label_named, list_named, make_named, names_differ, one_form, one_make, one_serve, plain_named, serve_named}
 use Rattle.server_words.proofs.VolumeLemmas.{one_format}
 use Rattle.ltfs_server.specs.Formats.{unformatted}
-use Rattle.ltfs_server.specs.Outcomes.{IsTold, of_format, of_label, of_list, of_memory, of_no_form, of_plain, of_serve, unlabelled, unlisted}
-use Rattle.ltfs_server.specs.Promises.{DoesAsked, DoesFormat, DoesLabel, DoesList, DoesPlain, DoesServe, RunScripts}
+use Rattle.ltfs_server.specs.Making.{unmade}
+use Rattle.ltfs_server.specs.Outcomes.{IsTold, of_format, of_label, of_list, of_make, of_memory, of_no_form, of_plain, of_serve, unlabelled, unlisted}
+use Rattle.ltfs_server.specs.Promises.{DoesAsked, DoesFormat, DoesLabel, DoesList, DoesMake, DoesPlain, DoesServe, RunScripts}
 use Rattle.ltfs_server.specs.Runs.{Gives, IsOneOf, Taken, TakesNothing, Written}
 use Rattle.ltfs_server.specs.Serving.{one_moment, unscripted}
 use Rattle.ltfs_server.specs.declared.plain.PlainEnd.TheVariants as plains
@@ -31,6 +35,7 @@ use Rattle.ltfs_server.specs.declared.scripts.Unread.TheVariants as unread
 use Rattle.ltfs_server.proofs.FormatClauses.{format_does}
 use Rattle.ltfs_server.proofs.LabelClauses.{label_does}
 use Rattle.ltfs_server.proofs.ListClauses.{list_does}
+use Rattle.ltfs_server.proofs.MakeClauses.{make_does}
 use Rattle.ltfs_server.proofs.PlainClauses.{plain_does}
 use Rattle.ltfs_server.proofs.ServeClauses.{serve_does}
 use Rattle.ltfs_server.proofs.Told.{by_six, by_status, by_text, if_some, none_of}
@@ -68,6 +73,12 @@ serve_all : (n : ℕ) → IsOneOf n (0 ∷ 2 ∷ 3 ∷ 4 ∷ 5 ∷ 6 ∷ 7 ∷ 8
 serve_all n (inl e) = inl e
 serve_all n (inr more) = inr (inr more)
 
+make_all : (n : ℕ) → IsOneOf n (0 ∷ 3 ∷ 4 ∷ 6 ∷ 7 ∷ 8 ∷ []) → IsOneOf n (0 ∷ 1 ∷ 2 ∷ 3 ∷ 4 ∷ 5 ∷ 6 ∷ 7 ∷ 8 ∷ [])
+make_all n (inl e) = inl e
+make_all n (inr (inl e)) = inr (inr (inr (inl e)))
+make_all n (inr (inr (inl e))) = inr (inr (inr (inr (inl e))))
+make_all n (inr (inr (inr more))) = inr (inr (inr (inr (inr (inr more)))))
+
 none_logged : (words : List (String Global)) (log : Option Log) → log ≡ None → IfSome log (λ l. RunScripts words)
 none_logged words log none = subst (λ l. IfSome l (λ l. RunScripts words)) (sym none) tt
 
@@ -81,6 +92,7 @@ module _ {D : Type 0} (words : List (String Global)) (gives : Gives) (one : Opti
         list = λ list. absurd (names_differ words (codes "plain") (codes "list") refl (plain_named words is_plain) (list_named words list));
         format = λ asked format. absurd (names_differ words (codes "plain") (codes "format") refl (plain_named words is_plain) (format_named words (asked, format)));
         serve = λ again are. absurd (names_differ words (codes "plain") (codes "serve") refl (plain_named words is_plain) (serve_named words (again, are)));
+        make = λ n time are. absurd (names_differ words (codes "plain") (codes "make") refl (plain_named words is_plain) (make_named words (n, time, are)));
         no_form = λ none. absurd (none.no_plain is_plain);
         unread = λ another third. absurd (another is_plain);
         comes = record {
@@ -104,6 +116,7 @@ module _ {D : Type 0} (words : List (String Global)) (gives : Gives) (one : Opti
     list = λ list. absurd (names_differ words (codes "label") (codes "list") refl (label_named words spelled) (list_named words list));
     format = λ asked format. absurd (names_differ words (codes "label") (codes "format") refl (label_named words spelled) (format_named words (asked, format)));
     serve = λ at are. absurd (names_differ words (codes "label") (codes "serve") refl (label_named words spelled) (serve_named words (at, are)));
+    make = λ n time are. absurd (names_differ words (codes "label") (codes "make") refl (label_named words spelled) (make_named words (n, time, are)));
     no_form = λ none. absurd (none.no_label spelled);
     unread = λ another third. nothing;
     comes = record {
@@ -127,6 +140,7 @@ module _ {D : Type 0} (words : List (String Global)) (gives : Gives) (one : Opti
     list = λ list. does;
     format = λ asked format. absurd (names_differ words (codes "list") (codes "format") refl (list_named words spelled) (format_named words (asked, format)));
     serve = λ at are. absurd (names_differ words (codes "list") (codes "serve") refl (list_named words spelled) (serve_named words (at, are)));
+    make = λ n time are. absurd (names_differ words (codes "list") (codes "make") refl (list_named words spelled) (make_named words (n, time, are)));
     no_form = λ none. absurd (none.no_list spelled);
     unread = λ another third. nothing;
     comes = record {
@@ -152,6 +166,7 @@ module _ {D : Type 0} (words : List (String Global)) (gives : Gives) (one : Opti
         list = λ list. absurd (names_differ words (codes "list") (codes "format") refl (list_named words list) (format_named words is_format));
         format = λ again are. subst (λ (a : FormatWords). DoesFormat a gives drive old new sink status log) (one_format words asked again spelled are) does;
         serve = λ at are. absurd (names_differ words (codes "format") (codes "serve") refl (format_named words is_format) (serve_named words (at, are)));
+        make = λ n time are. absurd (names_differ words (codes "format") (codes "make") refl (format_named words is_format) (make_named words (n, time, are)));
         no_form = λ none. absurd (none.no_format is_format);
         unread = λ another third. nothing;
         comes = record {
@@ -177,20 +192,50 @@ module _ {D : Type 0} (words : List (String Global)) (gives : Gives) (one : Opti
         list = λ list. absurd (names_differ words (codes "list") (codes "serve") refl (list_named words list) (serve_named words is_serve));
         format = λ asked format. absurd (names_differ words (codes "format") (codes "serve") refl (format_named words (asked, format)) (serve_named words is_serve));
         serve = λ again are. subst (λ (a : Option Moment). DoesServe (one_moment a one) source drive old new sink status log) (one_serve words at again spelled are) does;
+        make = λ n time are. absurd (names_differ words (codes "serve") (codes "make") refl (serve_named words is_serve) (make_named words (n, time, are)));
         no_form = λ none. absurd (none.no_serve is_serve);
         unread = λ another third. absurd (third is_serve);
         comes = record {
           statuses = serve_all status does.statuses;
-          done = λ zero. inr (inr (inr (inr is_serve)));
+          done = λ zero. inr (inr (inr (inr (inl is_serve))));
           refused = λ one. absurd (other status 1 (0 ∷ 2 ∷ 3 ∷ 4 ∷ 5 ∷ 6 ∷ 7 ∷ 8 ∷ []) refl does.statuses one);
           script = λ two. inr is_serve;
-          volume = λ three. inr (inr is_serve);
-          drive = λ four. inr (inr (inr is_serve));
+          volume = λ three. inr (inr (inl is_serve));
+          drive = λ four. inr (inr (inr (inl is_serve)));
           read = λ five. inr is_serve;
-          full = λ eight. inr is_serve;
-          logged = if_some log (λ l. RunScripts words) (λ l is. inr is_serve);
+          full = λ eight. inr (inl is_serve);
+          logged = if_some log (λ l. RunScripts words) (λ l is. inr (inl is_serve));
         };
         told = (of_serve does.told.0, (at, spelled, does.told.1), does.told.2);
+      }
+
+  pub make_asked : (count : ℕ) (at : Option Moment) → IsMakeWords words count at → TakesNothing source → DoesMake (one_moment at one) count drive old new sink status log
+      → DoesAsked words gives one source sink drive old new status log
+  make_asked count at spelled nothing does =
+      let is_make : IsMake words = (count, at, spelled) in record {
+        plain = λ again are. absurd (names_differ words (codes "plain") (codes "make") refl (plain_named words (again, are)) (make_named words is_make));
+        label = λ label. absurd (names_differ words (codes "label") (codes "make") refl (label_named words label) (make_named words is_make));
+        list = λ list. absurd (names_differ words (codes "list") (codes "make") refl (list_named words list) (make_named words is_make));
+        format = λ asked format. absurd (names_differ words (codes "format") (codes "make") refl (format_named words (asked, format)) (make_named words is_make));
+        serve = λ again are. absurd (names_differ words (codes "serve") (codes "make") refl (serve_named words (again, are)) (make_named words is_make));
+        make = λ n time are.
+            let same = one_make words count n at time spelled are in
+            subst (λ (a : Option Moment). DoesMake (one_moment a one) n drive old new sink status log) same.1
+            (subst (λ (k : ℕ). DoesMake (one_moment at one) k drive old new sink status log) same.0 does);
+        no_form = λ none. absurd (none.no_make is_make);
+        unread = λ another third. nothing;
+        comes = record {
+          statuses = make_all status does.statuses;
+          done = λ zero. inr (inr (inr (inr (inr is_make))));
+          refused = λ one. absurd (other status 1 (0 ∷ 3 ∷ 4 ∷ 6 ∷ 7 ∷ 8 ∷ []) refl does.statuses one);
+          script = λ two. absurd (other status 2 (0 ∷ 3 ∷ 4 ∷ 6 ∷ 7 ∷ 8 ∷ []) refl does.statuses two);
+          volume = λ three. inr (inr (inr is_make));
+          drive = λ four. inr (inr (inr (inr is_make)));
+          read = λ five. absurd (other status 5 (0 ∷ 3 ∷ 4 ∷ 6 ∷ 7 ∷ 8 ∷ []) refl does.statuses five);
+          full = λ eight. inr (inr is_make);
+          logged = if_some log (λ l. RunScripts words) (λ l is. inr (inr is_make));
+        };
+        told = (of_make does.told.0, (count, at, spelled, nothing, does.told.1), does.told.2);
       }
 
   pub form_asked : HasNoForm words → TakesNothing source → new ≡ old → log ≡ None → IsTold 1 (codes "words\n") sink status
@@ -204,6 +249,7 @@ module _ {D : Type 0} (words : List (String Global)) (gives : Gives) (one : Opti
         list = λ list. absurd (none.no_list list);
         format = λ asked format. absurd (none.no_format (asked, format));
         serve = λ at are. absurd (none.no_serve (at, are));
+        make = λ n time are. absurd (none.no_make (n, time, are));
         no_form = λ again. record {
           statuses = among;
           printed = λ one. (by_text 1 1 (codes "words\n") sink status told (λ e. cc e) one).1;
@@ -255,6 +301,7 @@ module _ {D : Type 0} (words : List (String Global)) (gives : Gives) (one : Opti
         list = λ list. list_does drive old new sink status log (unlisted errors.NoMemory) (if_some (drive.held old) _ (λ c held. tt), tt) (looks_no _ same range) (no_log, told);
         format = λ asked format. format_does drive old new asked gives sink status log (unformatted refusals.NoMemory) same (subst (λ (d : D). Goes drive old d) (sym same) (goes_still drive old)) (no_log, told);
         serve = λ at are. serve_does drive old new (one_moment at one) source sink log status (unscripted unread.NoMemory) tt (λ none. looks_no _ same range) (ap drive.limits same) (λ held. ap drive.held same ∙ held) (no_log, told);
+        make = λ n time are. make_does drive old new (one_moment time one) n sink log status (unmade errors.NoMemory) (if_some (drive.held old) _ (λ c held. tt), tt) (λ none. looks_no _ same range) (ap drive.limits same) (λ held. ap drive.held same ∙ held) (no_log, told);
         no_form = λ again. record {
           statuses = inr among;
           printed = λ one. absurd (other status 1 (6 ∷ 7 ∷ []) refl among one);
@@ -296,6 +343,26 @@ asked_format w words k asked same is spelled = subst (λ v. IsFormatWords v aske
 
 pub asked_serve : (w words : List (String Global)) (k : Command) (at : Option Moment) → w ≡ words → k ≡ commands.Serve at → IsSpelledBy w (Ok k) → IsServeWords words at
 asked_serve w words k at same is spelled = subst (λ v. IsServeWords v at) same (subst (λ (k : Command). IsSpelledBy w (Ok k)) is spelled)
+
+pub asked_make : (w words : List (String Global)) (k : Command) (count : ℕ) (at : Option Moment) → w ≡ words → k ≡ commands.Make count at → IsSpelledBy w (Ok k) → IsMakeWords words count at
+asked_make w words k count at same is spelled = subst (λ v. IsMakeWords v count at) same (subst (λ (k : Command). IsSpelledBy w (Ok k)) is spelled)
+
+-- a count of words is 1,024 at most
+given_few : (text : Option (List ℕ)) (count : ℕ) → count_told text ≡ Some count → count ≤ 1024
+given_few text count is = by (option_and_then number_of text) is
+  where
+    by_test : (n : ℕ) (b : Bool) → (nat_le 1 n && nat_le n 1024) ≡ b → (if b then Some n else None) ≡ Some count → count ≤ 1024
+    by_test n true test same =
+        let n_is : n ≡ count = cc same in
+        grind (arith, nat_tests, test, n_is)
+    by_test n false test same = cc same
+
+    by : (told : Option ℕ) → option_and_then (λ n. if nat_le 1 n && nat_le n 1024 then Some n else None) told ≡ Some count → count ≤ 1024
+    by None same = cc same
+    by (Some n) same = by_test n (nat_le 1 n && nat_le n 1024) refl same
+
+pub make_few : (words : List (String Global)) (count : ℕ) (at : Option Moment) → IsMakeWords words count at → count ≤ 1024
+make_few words count at is = given_few (value_of make_app (codes "count") is.1) count is.3.counted
 
 -- a moment of words is one of the years 1970 to 9999
 pub given_since : (text : Option (List ℕ)) (at : Option Moment) → IsMomentGiven text at → IfSome at IsSince1970

@@ -2,7 +2,6 @@
 use Rattle.std.proofs.Common.{◌≡◌, ◌∙◌, ℕ, List, [], ◌∷◌, Option, Some, None, codes, refl, sym, subst, inl, inr, ◌⊎◌}
 use Rattle.std.specs.Io.KnownBytes.{Appends}
 use Rattle.tape_types.specs.Counts.{Rose}
-use Rattle.tape_types.specs.declared.cartridges.Twin.{Twin}
 use Rattle.tape_types.specs.declared.moments.Moment.{Moment}
 use Rattle.session_script.specs.declared.logs.Log.{Log}
 use Rattle.tape_drive.specs.declared.drive.Drive.{Ghosts}
@@ -16,7 +15,7 @@ use Rattle.format_volume.specs.declared.requests.FormatErr.{FormatErr}
 use Rattle.format_volume.specs.declared.requests.FormatErr.TheVariants as errors
 use Rattle.server_words.specs.Volumes.{spec_at}
 use Rattle.server_words.specs.declared.volumes.FormatWords.{FormatWords}
-use Rattle.ltfs_server.specs.Formats.{AlwaysFits, FormatEnd, IsFormatEnd, IsFormatted, IsFormattedAs, IsFull, IsFullPrinted, IsMadeAt, IsUnformatted, NeverFits, end_status, end_text, format_status, format_text, formatted, formatted_text, unformatted, untold}
+use Rattle.ltfs_server.specs.Formats.{AlwaysFits, FormatEnd, IsFormatEnd, IsFormatted, IsFormattedAs, IsFullPrinted, IsMadeAt, IsUnformatted, NeverFits, end_status, end_text, format_status, format_text, formatted, formatted_text, unformatted, untold}
 use Rattle.ltfs_server.specs.Headline.{IsDriveFaultPrinted}
 use Rattle.ltfs_server.specs.Labels.{mount_text}
 use Rattle.ltfs_server.specs.Outcomes.{EndsAs, IsTold, of_format}

@@ -1,6 +1,5 @@
 -- What `label` promises, from what it comes to and what is told of that.
-use Rattle.std.proofs.Common.{◌≡◌, ◌∙◌, ℕ, ◌*◌, List, [], ◌∷◌, Option, Some, None, Err, codes, refl, sym, subst, inl, inr, ◌⊎◌}
-use Rattle.std.specs.Prelude.{IfSome}
+use Rattle.std.proofs.Common.{◌≡◌, ℕ, ◌*◌, [], ◌∷◌, Option, Some, None, Err, codes, refl, sym, subst, inl, inr, ◌⊎◌}
 use Rattle.std.specs.Io.KnownBytes.{Appends}
 use Rattle.tape_types.specs.Counts.{Rose}
 use Rattle.tape_types.specs.declared.cartridges.Cartridge.{Cartridge}

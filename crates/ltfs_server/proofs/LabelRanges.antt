@@ -17,7 +17,7 @@ use Rattle.doc_elements.specs.declared.schema.Form.{Form}
 use Rattle.doc_elements.specs.declared.schema.Form.TheVariants as form
 use Rattle.doc_elements.specs.declared.schema.Child.TheVariants as child
 use Rattle.doc_elements.specs.Schema.{required, rule}
-use Rattle.doc_elements.specs.Pieces.{Val, ◌>>=◌, in_range, leaf, leaf_at, letter, lift, number, number_in, time, truth, uuid, value_in, words}
+use Rattle.doc_elements.specs.Pieces.{Val, ◌>>=◌, in_range, leaf_at, letter, lift, number, number_in, time, truth, uuid, value_in, words}
 use Rattle.doc_elements.specs.Elements.{AllSpelled, Item, Items, Spelled, all_pieces, bare, item, item_tag, nested, no_items, pieces_of, plain}
 use Rattle.doc_elements.proofs.Inversion.{bind_ok, unless_ok}
 use Rattle.ltfs_label.specs.Values.{LabelValue, blank, set_leaf}

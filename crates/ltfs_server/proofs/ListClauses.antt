@@ -1,5 +1,5 @@
 -- What `list` promises, from what it comes to and what is told of that.
-use Rattle.std.proofs.Common.{◌≡◌, ◌∙◌, ℕ, ◌+◌, ◌*◌, ◌≤◌, List, [], ◌∷◌, ◌++◌, length, take, arith, Option, Some, None, codes, refl, sym, subst, inl, inr, ◌⊎◌}
+use Rattle.std.proofs.Common.{◌≡◌, ℕ, ◌+◌, ◌*◌, ◌≤◌, List, [], ◌∷◌, ◌++◌, length, take, arith, Option, Some, None, codes, refl, sym, subst, inl, inr, ◌⊎◌}
 use Rattle.std.specs.Prelude.{IfSome}
 use Rattle.std.specs.Io.KnownBytes.{Appends}
 use Rattle.tape_types.specs.Counts.{Rose}
@@ -22,7 +22,7 @@ use Rattle.tree_listing.specs.declared.errors.ListErr.TheVariants as list_errors
 use Rattle.tree_listing.proofs.Written.{appends_more}
 use Rattle.ltfs_server.specs.Headline.{IsDriveFaultPrinted, IsListingPrinted, IsMountFaultPrinted, IsPartPrinted}
 use Rattle.ltfs_server.specs.Labels.{mount_status, mount_text}
-use Rattle.ltfs_server.specs.Listings.{IsListingOf, Listing, listing_of, text_of_listing}
+use Rattle.ltfs_server.specs.Listings.{IsListingOf, Listing, listing_of}
 use Rattle.ltfs_server.specs.Outcomes.{EndsAs, IsListEnd, IsListingTold, IsTold, ListEnd, cut_short, list_status, list_text, listed, of_list, unlisted}
 use Rattle.ltfs_server.specs.Promises.{DoesList, ReadsAsNone}
 use Rattle.ltfs_server.specs.Runs.{IsOneOf, Looked, Written, looked}

@@ -1,5 +1,5 @@
 -- What was mounted has a tree.
-use Rattle.std.proofs.Common.{◌≡◌, ◌∙◌, ℕ, zero, suc, ◌+◌, ◌*◌, ◌/◌, ◌<◌, ◌≤◌, ◌^◌, List, [], ◌∷◌, Option, Some, refl, sym, ap, subst, arith, inl, inr, ◌⊎◌}
+use Rattle.std.proofs.Common.{◌≡◌, ◌∙◌, ℕ, zero, suc, ◌+◌, ◌*◌, ◌/◌, ◌<◌, ◌≤◌, ◌^◌, List, [], ◌∷◌, refl, sym, ap, subst, arith, inl, inr, ◌⊎◌}
 use Rattle.std.specs.List.{AllByRecursion}
 use Rattle.std.proofs.Math.Nat.{div-le_self}
 use Rattle.std.proofs.lemmas.Nat.{mul-le}
@@ -15,7 +15,6 @@ use Rattle.index_model.specs.declared.nodes.RawExtent.{RawExtent}
 use Rattle.extent_map.specs.Cells.{tape_of}
 use Rattle.file_tree.specs.Mounts.{CanMount, EndsNear, IsOnVolume}
 use Rattle.file_tree.specs.Mounts as mounts
-use Rattle.file_tree.specs.Tree.{FileTree, plain_of}
 use Rattle.file_tree.proofs.PathLemmas.{some_same}
 use Rattle.ltfs_label.specs.declared.Label.{Label}
 use Rattle.mount_recover.specs.Lasts.{IsSoundMount}

@@ -1,22 +1,18 @@
 -- What `serve` promises, from what it comes to and what is told of that.
-use Rattle.std.proofs.Common.{◌≡◌, ◌∙◌, ℕ, ◌+◌, ◌*◌, ◌-◌, ◌^◌, ◌≤◌, true, false, List, [], ◌∷◌, fold, filter_map, min, Option, Some, None, Ok, Err, refl, sym, subst, inl, inr, arith}
+use Rattle.std.proofs.Common.{◌≡◌, ◌∙◌, ℕ, ◌+◌, ◌*◌, true, false, List, [], ◌∷◌, Option, Some, None, Ok, Err, refl, sym, subst, inl, inr, arith}
 use Rattle.std.specs.Prelude.{IfSome, IsErr, IsOk}
 use Rattle.std.specs.Io.KnownBytes.{Appends}
-use Rattle.tape_types.specs.Counts.{IsRise, Rose}
+use Rattle.tape_types.specs.Counts.{Rose}
 use Rattle.tape_types.specs.declared.cartridges.Cartridge.{Cartridge}
-use Rattle.tape_types.specs.declared.cartridges.Twin.{Twin}
 use Rattle.tape_types.specs.declared.moments.Moment.{Moment}
 use Rattle.session_script.specs.Grammar.{script_of}
 use Rattle.session_script.specs.declared.logs.Log.{Log}
 use Rattle.session_script.specs.declared.scripts.ScriptLine.{ScriptLine}
-use Rattle.head_trail.specs.Trail.{fault_of}
 use Rattle.tape_drive.specs.Looks.{Looks}
 use Rattle.tape_drive.specs.declared.drive.Drive.{Ghosts}
 use Rattle.tape_meaning.specs.Meaning.{Found}
 use Rattle.mount_recover.specs.Steps.{Blames}
-use Rattle.volume_model.specs.Faults.{AreRises}
-use Rattle.volume_model.specs.Headline.{Closed, Failed, ServeEnd, Short, last_fault}
-use Rattle.volume_order.specs.Kept.{seen}
+use Rattle.volume_model.specs.Headline.{Closed, Failed, ServeEnd, Short}
 use Rattle.ltfs_server.specs.Headline.{IsMountFaultPrinted, IsReadFaultPrinted, IsRefusalPrinted}
 use Rattle.ltfs_server.specs.Labels.{mount_status}
 use Rattle.ltfs_server.specs.Outcomes.{EndsAs, of_serve}
@@ -24,20 +20,9 @@ use Rattle.ltfs_server.specs.Promises.{DoesServe, ReadsAsNone}
 use Rattle.ltfs_server.specs.Runs.{IsOneOf, Taken, Written}
 use Rattle.ltfs_server.specs.Serving.{HoldsTree, IsClosePrinted, IsFailurePrinted, IsRefusedPrinted, IsServedEnd, IsServedRun, IsServedTo, IsShortPrinted, ServedEnd, served, served_log, served_status, served_text, unclosed, unscripted, unserved, unwritten}
 use Rattle.ltfs_server.specs.declared.scripts.Unread.TheVariants as unread
+use Rattle.ltfs_server.proofs.EndedRuns.{done_or_refused, failed_rose}
 use Rattle.ltfs_server.proofs.MountClauses.{blamed, drive_told, found_done, memory_told, mount_isnt, mount_known}
 use Rattle.ltfs_server.proofs.Told.{by_six, by_status, by_text, if_some, of_some}
-
--- ---- the count of faults
-
--- faults that rose one after the other ended above where they began, or at the end of the count
-rises_end : (before now : ℕ) (faults : List Twin) → AreRises before now faults → min before (2 ^ 64 - 1) ≤ fold (λ _ (t : Twin). t.after) before faults
-rises_end before now [] rises = omega arith
-rises_end before now (t ∷ more) (lowest, rose, rest) =
-    let later : min t.after (2 ^ 64 - 1) ≤ fold (λ _ (t : Twin). t.after) t.after more = rises_end t.after now more rest in
-    omega (arith, lowest, rose, later)
-
-rose_since : (first last now before after : ℕ) → min first (2 ^ 64 - 1) ≤ last → IsRise last now before after → Rose first now
-rose_since first last now before after least rise = omega (arith, least, rise.lowest, rise.rose, rise.highest)
 
 -- ---- statuses
 
@@ -52,11 +37,6 @@ mount_refused n (inl three) = inr (inl three)
 mount_refused n (inr (inl four)) = inr (inr (inl four))
 mount_refused n (inr (inr (inl seven))) = inr (inr (inr (inr (inr (inl seven)))))
 mount_refused n (inr (inr (inr none))) = absurd none
-
-done_or_refused : (n : ℕ) → IsOneOf n (0 ∷ 7 ∷ []) → IsOneOf n (0 ∷ 7 ∷ 8 ∷ [])
-done_or_refused n (inl zero) = inl zero
-done_or_refused n (inr (inl seven)) = inr (inl seven)
-done_or_refused n (inr (inr none)) = absurd none
 
 status_is : (end : ServedEnd) → IsOneOf (served_status end) (0 ∷ 2 ∷ 3 ∷ 4 ∷ 5 ∷ 6 ∷ 7 ∷ 8 ∷ [])
 status_is (unscripted (unread.Script refusal)) = inr (inl refl)
@@ -111,13 +91,6 @@ module _ {D : Type 0} (drive : Ghosts D) (old new : D) (moment : Option Moment) 
   log_is (unclosed log) is = is
   log_is (unwritten log) is = is
 
-  -- a close that failed is a fault of the drive
-  failed_rose : (log : Log) (counts : Twin) → IsServedTo drive old new moment source (Failed counts) log → Rose (drive.faults old) (drive.faults new)
-  failed_rose log counts is =
-      let least : min (drive.faults old) (2 ^ 64 - 1) ≤ last_fault (seen drive old) log = rises_end (drive.faults old) (drive.faults new) (filter_map fault_of log.events) is.run.run.log_is.faults.rises in
-      let rise : IsRise (last_fault (seen drive old) log) (drive.faults new) counts.before counts.after = is.run.ends in
-      rose_since (drive.faults old) (last_fault (seen drive old) log) (drive.faults new) counts.before counts.after least rise
-
   -- an input that is no script
   none_spelled : {A : Type 0} (text : List ℕ) (script : List ScriptLine) → IfSome source.left (λ t. script_of t ≡ Ok script) → source.left ≡ Some text → IsErr (script_of text) → A
   none_spelled text script spelled left bad =
@@ -154,7 +127,7 @@ module _ {D : Type 0} (drive : Ghosts D) (old new : D) (moment : Option Moment) 
       done_or_refused (mount_status e) (found_done c (drive.faults old) (drive.faults new) e (of_some (drive.held old) (λ c. Blames e c) c held is.1) is.2 found still)
   all_done (served log (Closed generation)) text c is quiet still left good held found = inl refl
   all_done (served log (Short need limit)) text c is quiet still left good held found = inr (inr (inl refl))
-  all_done (served log (Failed counts)) text c is quiet still left good held found = absurd (still (failed_rose log counts is.1))
+  all_done (served log (Failed counts)) text c is quiet still left good held found = absurd (still (failed_rose drive old new moment is.1.script log counts is.1.run))
   all_done (unclosed log) text c is quiet still left good held found = inr (inl refl)
   all_done (unwritten log) text c is quiet still left good held found = inr (inl refl)
 

@@ -1,60 +1,41 @@
--- What each step of `serve` makes of what was promised so far.
-use Rattle.std.proofs.Common.{◌≡◌, ◌∙◌, ℕ, ◌+◌, ◌*◌, ◌-◌, ◌^◌, ◌≤◌, List, ◌++◌, Option, Some, None, codes, refl, sym, ap, subst, inl, inr, arith, ◌⊎◌}
+-- What `serve` promises, of each thing that may come of its script.
+use Rattle.std.proofs.Common.{◌≡◌, ◌∙◌, ℕ, ◌+◌, ◌*◌, ◌-◌, ◌^◌, ◌≤◌, List, ◌++◌, Option, Some, None, codes, refl, sym, subst, inl, inr, arith, ◌⊎◌}
 use Rattle.std.specs.Prelude.{IfSome}
 use Rattle.tape_types.specs.declared.cartridges.Cartridge.{Cartridge}
-use Rattle.tape_types.specs.declared.cartridges.Limits.{Limits}
 use Rattle.tape_types.specs.declared.moments.Moment.{Moment}
 use Rattle.session_script.specs.LogText.{log_text}
-use Rattle.session_script.specs.declared.logs.Event.{Event}
 use Rattle.session_script.specs.declared.logs.Log.{Log}
 use Rattle.session_script.specs.declared.scripts.ScriptLine.{ScriptLine}
 use Rattle.head_trail.specs.Trail.{steps, travel}
 use Rattle.tape_drive.specs.Looks.{Looks}
 use Rattle.tape_drive.specs.declared.drive.Drive.{Ghosts}
 use Rattle.tape_drive.proofs.Looking.{more_looks, no_looks}
-use Rattle.tape_meaning.specs.Carried.{carried}
-use Rattle.tape_meaning.specs.Mounts.{IsMount, Mounts}
 use Rattle.tape_meaning.specs.declared.errors.MountErr.{MountErr}
 use Rattle.tape_meaning.specs.declared.errors.MountErr.TheVariants as errors
-use Rattle.tape_meaning.specs.declared.mounted.Mounted.{Mounted}
 use Rattle.mount_recover.specs.Labels.{AreCounts}
-use Rattle.mount_recover.specs.Lasts.{IsSoundMount}
 use Rattle.mount_recover.specs.Steps.{Blames}
-use Rattle.volume_model.specs.Ends.{Closes, Starts, begun, bounded}
-use Rattle.volume_model.specs.Headline.{Closed, Failed, Short}
+use Rattle.volume_model.specs.Ends.{bounded}
+use Rattle.volume_model.specs.Headline.{Closed, Failed, IsEndOf, IsServeRun, ServeEnd, Short, serve_text, status_of}
 use Rattle.volume_model.specs.Meanings.{cartridges}
-use Rattle.volume_model.specs.Served.{View}
 use Rattle.volume_model.specs.declared.answers.CloseEnd.{CloseEnd}
 use Rattle.volume_model.specs.declared.answers.CloseEnd.TheVariants as ends
+use Rattle.volume_model.specs.declared.contract.Closed as contract
 use Rattle.volume_order.specs.Kept.{seen}
-use Rattle.volume_runs.specs.Laws.{IsRun, PlaysAreRuns}
-use Rattle.ltfs_server.specs.Played.{IsPlayed}
+use Rattle.volume_runs.specs.Laws.{IsRun}
+use Rattle.ltfs_server.specs.Came.{WasRun}
 use Rattle.ltfs_server.specs.Labels.{mount_status, mount_text}
 use Rattle.ltfs_server.specs.Outcomes.{IsTold}
 use Rattle.ltfs_server.specs.Promises.{DoesServe}
 use Rattle.ltfs_server.specs.Runs.{IsScriptIn, Taken, Written}
-use Rattle.ltfs_server.specs.Serving.{HoldsTree, IsBegun, IsLookedAt, IsServedEnd, IsServedRun, IsServedTo, IsUnread, ServedEnd, TimedView, close_line, close_status, one_moment, served, served_log, served_status, served_text, unclosed, unread_status, unread_text, unscripted, unserved, unwritten}
+use Rattle.ltfs_server.specs.Serving.{HoldsTree, IsServedEnd, IsServedRun, IsUnread, ServedEnd, TimedView, close_line, close_status, one_moment, served, served_log, served_status, served_text, unclosed, unread_status, unread_text, unscripted, unserved, unwritten}
 use Rattle.ltfs_server.specs.declared.scripts.Unread.{Unread}
 use Rattle.ltfs_server.specs.declared.scripts.Unread.TheVariants as unread
-use Rattle.ltfs_server.proofs.LabelRanges.{block_in_range}
-use Rattle.ltfs_server.proofs.LetterRanges.{letters_in_range}
 use Rattle.ltfs_server.proofs.ServeClauses.{serve_does}
-use Rattle.ltfs_server.proofs.Told.{if_some, of_some}
+use Rattle.ltfs_server.proofs.Told.{if_some}
 
--- what was mounted can be served
-pub is_mount : (limits : Limits) (m : Mounted) → IsSoundMount limits m → IsMount limits m
-is_mount limits m sound =
-    let letters = letters_in_range sound.spelled.0 _ sound.spelled.1 in record {
-      blocks = block_in_range sound.spelled.0 _ sound.spelled.1;
-      letters = (letters.0, letters.1, sound.letters);
-      valid = sound.valid;
-      uuid = sound.uuid;
-      newest = sound.newest;
-      fits = sound.fits;
-      last_dp = sound.last_dp;
-      ip_end = sound.ip_end;
-      dp_end = sound.dp_end;
-    }
+-- want of memory blames no cartridge
+pub nothing_blamed : (held : Option Cartridge) → IfSome held (λ c. Blames errors.NoMemory c)
+nothing_blamed held = if_some held (λ c. Blames errors.NoMemory c) (λ c is. tt)
 
 module _ {D : Type 0} (drive : Ghosts D) (moment : Option Moment) (source : Taken) (sink : Written) (status : ℕ) where
   -- nothing was done, and why there is no script is told, or that memory was refused
@@ -74,21 +55,21 @@ module _ {D : Type 0} (drive : Ghosts D) (moment : Option Moment) (source : Take
 
   -- the cartridge was looked at and not served, which is told, or that memory was refused
   pub serve_unmounted : (old mid new : D) (log : Option Log) (e : MountErr) → new ≡ mid → log ≡ None → ((script : List ScriptLine) × IsScriptIn source script)
-      → ((c : Cartridge) → drive.held old ≡ Some c → Blames e c) → AreCounts (drive.faults old) (drive.faults mid) e
+      → IfSome (drive.held old) (λ c. Blames e c) → AreCounts (drive.faults old) (drive.faults mid) e
       → Looks drive ((23 + 2 * (drive.limits old).cap_ip + 2 * (drive.limits old).cap_dp) * drive.MOST) old mid
       → (wanted : ℕ) → wanted ≡ mount_status e → IsTold wanted (mount_text e) sink status ⊎ IsTold 7 (codes "memory\n") sink status
       → DoesServe moment source drive old new sink status log
   serve_unmounted old mid new log e same none script is counts looks wanted status_is told =
       subst (λ d. DoesServe moment source drive old d sink status log) (sym same) (by told)
     where
-      does : (e : MountErr) → ((c : Cartridge) → drive.held old ≡ Some c → Blames e c) → AreCounts (drive.faults old) (drive.faults mid) e
+      does : (e : MountErr) → IfSome (drive.held old) (λ c. Blames e c) → AreCounts (drive.faults old) (drive.faults mid) e
           → IsTold (mount_status e) (mount_text e) sink status → DoesServe moment source drive old mid sink status log
-      does e is counts told = serve_does drive old mid moment source sink log status (unserved e) (script, if_some (drive.held old) (λ c. Blames e c) is, counts)
+      does e is counts told = serve_does drive old mid moment source sink log status (unserved e) (script, is, counts)
           (λ _. looks) looks.limits (λ held. looks.held ∙ held) (none, told)
 
       by : IsTold wanted (mount_text e) sink status ⊎ IsTold 7 (codes "memory\n") sink status → DoesServe moment source drive old mid sink status log
       by (inl told) = does e is counts (subst (λ w. IsTold w (mount_text e) sink status) status_is told)
-      by (inr told) = does errors.NoMemory (λ c held. tt) tt told
+      by (inr told) = does errors.NoMemory (nothing_blamed (drive.held old)) tt told
 
 -- a clock that gives the moment of the words has it as its one moment
 pub timed_does : {C : Type 0} (one : C → Option Moment) (at : Option Moment) (clock : C) (timed : TimedView C) → timed ≡ record { at = at; clock = clock }
@@ -97,112 +78,48 @@ pub timed_does : {C : Type 0} (one : C → Option Moment) (at : Option Moment) (
 timed_does {C} one at clock timed same drive source old new sink status log does =
     subst (λ (t : TimedView C). DoesServe (one_moment t.at (one t.clock)) source drive old new sink status log) same does
 
--- ---- a volume that was begun
+-- ---- a script that was run
 
-module _ {D : Type 0} (drive : Ghosts D) (start first : D) (mounted : Mounted) (script : List ScriptLine) (since : ℕ) (next moment : Option Moment) (v : View D)
-    (starts : Starts cartridges (seen drive first) mounted first script since next moment v) where
-  pub begun_on : IfSome (drive.held first) (λ c. Mounts c mounted) → IsLookedAt drive start first → since ≡ drive.commands start → IsBegun drive start v.fixed
-  begun_on mounts looked since_is = subst (λ (w : View D). IsBegun drive start w.fixed) (sym starts.begins) record {
-    looked = looked;
-    since = since_is;
-    mounted = λ c held. (of_some (drive.held first) (λ c. Mounts c mounted) c held mounts, of_some (drive.held first) _ c held starts.reads_as);
-  }
+module _ {D : Type 0} (drive : Ghosts D) (moment : Option Moment) (source : Taken) (sink : Written) (status : ℕ) (script : List ScriptLine) (is : IsScriptIn source script)
+    (start now : D) (log : Log) (limits : drive.limits now ≡ drive.limits start) (untold : drive.held start ≡ None → drive.held now ≡ None) where
+  run_of : IsServeRun cartridges script moment (seen drive start) (seen drive now) log → IsServedRun drive start now moment source log
+  run_of run = record { script = script; spelled = is.spelled; whole = is.whole; run = run }
 
-  pub script_on : (source : Taken) → IsScriptIn source script → IsScriptIn source v.fixed.script
-  script_on source is = subst (λ (w : View D). IsScriptIn source w.fixed.script) (sym starts.begins) is
+  does : (result : Option Log) (end : ServedEnd) → IsServedEnd drive start now moment source end → result ≡ Some log → served_log end ≡ Some log
+      → IsTold (served_status end) (served_text end) sink status → DoesServe moment source drive start now sink status result
+  does result end ended result_is logged told = serve_does drive start now moment source sink result status end ended
+      (λ none. absurd (let bad : None ≡ Some log = sym none ∙ logged in cc bad)) limits untold (result_is ∙ sym logged, told)
 
-  pub moment_on : (source : Taken) (sink : Written) (new : D) (status : ℕ) (log : Option Log) → DoesServe v.fixed.moment source drive start new sink status log
-      → DoesServe moment source drive start new sink status log
-  moment_on source sink new status log does =
-      subst (λ (w : View D). DoesServe w.fixed.moment source drive start new sink status log) starts.begins does
+  -- it ended so, which is told
+  ended : (end : ServeEnd) (result : Option Log) → HoldsTree (drive.held start) → IsServeRun cartridges script moment (seen drive start) (seen drive now) log
+      → IsEndOf cartridges script (seen drive start) (seen drive now) log end → result ≡ Some log
+      → IsTold (status_of end) (serve_text log end) sink status → DoesServe moment source drive start now sink status result
+  ended end result tree run ends same told = does result (served log end)
+      (tree, record { script = script; spelled = is.spelled; whole = is.whole; run = record { run = run; ends = ends } }) same refl told
 
--- ---- a volume that was closed
-
-module _ {D : Type 0} (drive : Ghosts D) (plays : PlaysAreRuns drive) (start : D) (v : View D) (now : D) (log : Log) (outcome : CloseEnd) (step_count travel_sum nodes : ℕ)
-    (source : Taken) (sink : Written) (status : ℕ) (is : IsScriptIn source v.fixed.script) (on : IsBegun drive start v.fixed) (played : IsPlayed drive v)
-    (closes : Closes cartridges (seen drive v.fixed.first) (seen drive v.drive) (seen drive now) v now log outcome step_count travel_sum nodes) where
-  ran : IsRun drive v.fixed.script v.fixed.moment start now log outcome
-  ran = plays v.fixed.script v.fixed.moment start v now log outcome step_count travel_sum nodes record {
-    most = (23 + 2 * (drive.limits start).cap_ip + 2 * (drive.limits start).cap_dp) * drive.MOST;
-    looked = on.looked.looks;
-    faults = on.looked.faults;
-    since = on.since;
-    script_is = refl;
-    moment = if_some v.fixed.moment (λ m. v.fixed.moment ≡ Some m) (λ m told. told);
-    mounted = on.mounted;
-    served = played.served;
-    logged = played.logged;
-    history = played.history;
-    count = played.count;
-    nothing = played.nothing;
-  } closes
-
-  abbrev Run : Type 0
-  Run = IsServedRun drive start now v.fixed.moment source log
-
-  run_is : Run
-  run_is = record { script = v.fixed.script; spelled = is.spelled; whole = is.whole; run = ran.run }
-
-  tree : HoldsTree (drive.held start)
-  tree = if_some (drive.held start) _ (λ c held. let found = on.mounted c (on.looked.looks.held ∙ held) in (carried v.fixed.mounted.index, v.fixed.tree, v.fixed.mounted.newest, found.1))
-
-  does : (result : Option Log) (end : ServedEnd) → IsServedEnd drive start now v.fixed.moment source end → result ≡ Some log → served_log end ≡ Some log
-      → IsTold (served_status end) (served_text end) sink status → DoesServe v.fixed.moment source drive start now sink status result
-  does result end is result_is logged told = serve_does drive start now v.fixed.moment source sink result status end is
-      (λ none. absurd (let bad : None ≡ Some log = sym none ∙ logged in cc bad))
-      (closes.limits ∙ on.looked.looks.limits) (λ held. closes.untold (on.looked.looks.held ∙ held)) (result_is ∙ sym logged, told)
-
-  -- the counts of the close are those of the log
-  counted : (f : List Event → ℕ) (n : ℕ) → n ≡ bounded (f v.events) → n ≡ bounded (f log.events)
-  counted f n count = count ∙ ap (λ events. bounded (f events)) (sym closes.log_is.events)
-
-module _ {D : Type 0} (drive : Ghosts D) (plays : PlaysAreRuns drive) (start : D) (v : View D) (now : D) (log : Log)
-    (source : Taken) (sink : Written) (status : ℕ) (is : IsScriptIn source v.fixed.script) (on : IsBegun drive start v.fixed) (played : IsPlayed drive v) where
-  abbrev Closed_so : CloseEnd → (steps travel nodes : ℕ) → Type 0
-  Closed_so outcome steps travel nodes = Closes cartridges (seen drive v.fixed.first) (seen drive v.drive) (seen drive now) v now log outcome steps travel nodes
-
-  by_outcome : (outcome : CloseEnd) (s t n : ℕ) (result : Option Log) → Closed_so outcome s t n → result ≡ Some log
-      → IsTold (close_status outcome) (log_text log ++ close_line outcome s t) sink status → DoesServe v.fixed.moment source drive start now sink status result
-  by_outcome (ends.Done generation) s t n result closes same told =
-      let run = ran drive plays start v now log (ends.Done generation) s t n source sink status is on played closes in
-      let to : IsServedTo drive start now v.fixed.moment source (Closed generation) log = record { script = v.fixed.script; spelled = is.spelled; whole = is.whole; run = record { run = run.run; ends = run.end } } in
-      let steps_are : s ≡ bounded (steps log.events) = counted drive plays start v now log (ends.Done generation) s t n source sink status is on played closes steps s closes.steps_are in
-      let travel_is : t ≡ bounded (travel log.events) = counted drive plays start v now log (ends.Done generation) s t n source sink status is on played closes travel t closes.travel_is in
-      does drive plays start v now log (ends.Done generation) s t n source sink status is on played closes result (served log (Closed generation))
-      (tree drive plays start v now log (ends.Done generation) s t n source sink status is on played closes, to) same refl
+  by_outcome : (outcome : CloseEnd) (s t n : ℕ) (result : Option Log) → IsRun drive script moment start now log outcome n → s ≡ bounded (steps log.events) → t ≡ bounded (travel log.events)
+      → HoldsTree (drive.held start) → result ≡ Some log
+      → IsTold (close_status outcome) (log_text log ++ close_line outcome s t) sink status → DoesServe moment source drive start now sink status result
+  by_outcome (ends.Done generation) s t n result run steps_are travel_is tree same told =
+      ended (Closed generation) result tree run.run run.end same
       (subst (λ m. IsTold 0 (log_text log ++ close_line (ends.Done generation) (bounded (steps log.events)) m) sink status) travel_is
       (subst (λ m. IsTold 0 (log_text log ++ close_line (ends.Done generation) m t) sink status) steps_are told))
-  by_outcome (ends.Full need limit) s t n result closes same told =
-      let run = ran drive plays start v now log (ends.Full need limit) s t n source sink status is on played closes in
-      let to : IsServedTo drive start now v.fixed.moment source (Short need limit) log = record { script = v.fixed.script; spelled = is.spelled; whole = is.whole; run = record { run = run.run; ends = run.end } } in
-      does drive plays start v now log (ends.Full need limit) s t n source sink status is on played closes result (served log (Short need limit))
-      (tree drive plays start v now log (ends.Full need limit) s t n source sink status is on played closes, to) same refl told
-  by_outcome (ends.Fault counts) s t n result closes same told =
-      let run = ran drive plays start v now log (ends.Fault counts) s t n source sink status is on played closes in
-      let to : IsServedTo drive start now v.fixed.moment source (Failed counts) log = record { script = v.fixed.script; spelled = is.spelled; whole = is.whole; run = record { run = run.run; ends = run.end } } in
-      does drive plays start v now log (ends.Fault counts) s t n source sink status is on played closes result (served log (Failed counts))
-      (tree drive plays start v now log (ends.Fault counts) s t n source sink status is on played closes, to) same refl told
-  by_outcome ends.NoMemory s t n result closes same told =
-      does drive plays start v now log ends.NoMemory s t n source sink status is on played closes result (unclosed log)
-      (run_is drive plays start v now log ends.NoMemory s t n source sink status is on played closes) same refl told
+  by_outcome (ends.Full need limit) s t n result run steps_are travel_is tree same told = ended (Short need limit) result tree run.run run.end same told
+  by_outcome (ends.Fault counts) s t n result run steps_are travel_is tree same told = ended (Failed counts) result tree run.run run.end same told
+  by_outcome ends.NoMemory s t n result run steps_are travel_is tree same told = does result (unclosed log) (run_of run.run) same refl told
 
-  -- the log and the end are told, or that memory was refused for that
-  pub closed_does : (outcome : CloseEnd) (s t n : ℕ) (result : Option Log) → Closed_so outcome s t n → result ≡ Some log → (wanted : ℕ) → wanted ≡ close_status outcome
-      → IsTold wanted (log_text log ++ close_line outcome s t) sink status ⊎ IsTold 7 (codes "memory\n") sink status → DoesServe v.fixed.moment source drive start now sink status result
-  closed_does outcome s t n result closes same wanted status_is (inl told) =
-      by_outcome outcome s t n result closes same (subst (λ w. IsTold w (log_text log ++ close_line outcome s t) sink status) status_is told)
-  closed_does outcome s t n result closes same wanted status_is (inr told) =
-      does drive plays start v now log outcome s t n source sink status is on played closes result (unwritten log)
-      (run_is drive plays start v now log outcome s t n source sink status is on played closes) same refl told
-
--- the same of the volume as it was begun, which has what no call changes
-pub served_does : {D : Type 0} (drive : Ghosts D) → PlaysAreRuns drive → (start : D) (begun v : View D) (now new : D) (log : Log) (outcome : CloseEnd) (s t n : ℕ) (result : Option Log)
-    (source : Taken) (sink : Written) (status : ℕ) → v.fixed ≡ begun.fixed → IsScriptIn source begun.fixed.script → IsBegun drive start begun.fixed → IsPlayed drive v
-    → Closes cartridges (seen drive v.fixed.first) (seen drive v.drive) (seen drive now) v now log outcome s t n → new ≡ now → result ≡ Some log
-    → (wanted : ℕ) → wanted ≡ close_status outcome → IsTold wanted (log_text log ++ close_line outcome s t) sink status ⊎ IsTold 7 (codes "memory\n") sink status
-    → DoesServe begun.fixed.moment source drive start new sink status result
-served_does drive plays start begun v now new log outcome s t n result source sink status same is on played closes back result_is wanted status_is told =
-    subst (λ d. DoesServe begun.fixed.moment source drive start d sink status result) (sym back)
-    (subst (λ f. DoesServe f.moment source drive start now sink status result) same
-    (closed_does drive plays start v now log source sink status (subst (λ f. IsScriptIn source f.script) (sym same) is) (subst (IsBegun drive start) (sym same) on) played
-    outcome s t n result closes result_is wanted status_is told))
+-- the log and the end are told, or that memory was refused for that
+pub run_does : {D : Type 0} (drive : Ghosts D) (moment : Option Moment) (source : Taken) (sink : Written) (status : ℕ) (script : List ScriptLine) (start new : D) (closed : contract.Closed D) (result : Option Log)
+    → IsScriptIn source script → WasRun drive script moment start closed → new ≡ closed.drive → result ≡ Some closed.log → (wanted : ℕ) → wanted ≡ close_status closed.outcome
+    → IsTold wanted (log_text closed.log ++ close_line closed.outcome closed.steps closed.travel) sink status ⊎ IsTold 7 (codes "memory\n") sink status
+    → DoesServe moment source drive start new sink status result
+run_does drive moment source sink status script start new closed result is was back same wanted status_is told =
+    subst (λ d. DoesServe moment source drive start d sink status result) (sym back) (by told)
+  where
+    by : IsTold wanted (log_text closed.log ++ close_line closed.outcome closed.steps closed.travel) sink status ⊎ IsTold 7 (codes "memory\n") sink status
+        → DoesServe moment source drive start closed.drive sink status result
+    by (inl told) = by_outcome drive moment source sink status script is start closed.drive closed.log was.limits was.untold closed.outcome closed.steps closed.travel closed.nodes result
+        was.run was.steps_are was.travel_is was.mounted same
+        (subst (λ w. IsTold w (log_text closed.log ++ close_line closed.outcome closed.steps closed.travel) sink status) status_is told)
+    by (inr told) = does drive moment source sink status script is start closed.drive closed.log was.limits was.untold result (unwritten closed.log)
+        (run_of drive moment source sink status script is start closed.drive closed.log was.limits was.untold was.run.run) same refl told

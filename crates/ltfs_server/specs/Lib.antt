@@ -1,12 +1,12 @@
+pub mod Came
 pub mod Formats
 pub mod Headline
 pub mod Labels
-pub mod Lines
 pub mod Listings
+pub mod Making
 pub mod Outcomes
-pub mod Played
 pub mod Promises
-pub mod Rows
 pub mod Runs
+pub mod Sentence
 pub mod Serving
 pub mod Sessions

@@ -13,12 +13,13 @@ use Rattle.tape_meaning.specs.Labels.{HasLabels}
 use Rattle.tape_meaning.specs.declared.labels.Labels.{Labels}
 use Rattle.tape_meaning.specs.declared.errors.MountErr.{MountErr}
 use Rattle.tree_listing.specs.Listing.{first_lines}
-use Rattle.server_words.specs.Forms.{HasNoForm, IsFormatWords, IsLabel, IsList, IsPlainWords, IsServeWords}
+use Rattle.server_words.specs.Forms.{HasNoForm, IsFormatWords, IsLabel, IsList, IsMakeWords, IsPlainWords, IsServeWords}
 use Rattle.server_words.specs.declared.volumes.FormatWords.{FormatWords}
 use Rattle.ltfs_server.specs.Formats.{FormatEnd, IsFormatEnd, end_status, end_text}
 use Rattle.ltfs_server.specs.Labels.{labels_text, mount_status, mount_text}
 use Rattle.ltfs_server.specs.Listings.{IsListingOf, Listing, text_of_listing}
 use Rattle.ltfs_server.specs.Headline.{IsPlainRun, done_text, refusal_line, source_line}
+use Rattle.ltfs_server.specs.Making.{IsMadeEnd, MadeEnd, made_log, made_status, made_text}
 use Rattle.ltfs_server.specs.Runs.{Gives, IsRunOf, Looked, Run, Taken, TakesNothing, Written, looked}
 use Rattle.ltfs_server.specs.Serving.{IsServedEnd, ServedEnd, one_moment, served_log, served_status, served_text}
 use Rattle.ltfs_server.specs.declared.plain.PlainEnd.{PlainEnd}
@@ -100,6 +101,7 @@ pub data Ending : Type 0 where
   of_list : ListEnd → Ending
   of_format : FormatEnd → Ending
   of_serve : ServedEnd → Ending
+  of_make : MadeEnd → Ending
 
 abbrev pub status_of : Ending → ℕ
 status_of of_no_form = 1
@@ -109,6 +111,7 @@ status_of (of_label end) = label_status end
 status_of (of_list end) = list_status end
 status_of (of_format end) = end_status end
 status_of (of_serve end) = served_status end
+status_of (of_make end) = made_status end
 
 abbrev pub text_of : Ending → List ℕ
 text_of of_no_form = codes "words\n"
@@ -118,6 +121,7 @@ text_of (of_label end) = label_text end
 text_of (of_list end) = list_text end
 text_of (of_format end) = end_text end
 text_of (of_serve end) = served_text end
+text_of (of_make end) = made_text end
 
 abbrev pub log_of : Ending → Option Log
 log_of of_no_form = None
@@ -127,6 +131,7 @@ log_of (of_label end) = None
 log_of (of_list end) = None
 log_of (of_format end) = None
 log_of (of_serve end) = served_log end
+log_of (of_make end) = made_log end
 
 -- the words are of no form, or those of the command, which may end so with the drive before and after it; none but `plain`
 -- and `serve` reads the source
@@ -142,6 +147,9 @@ IsCaused r drive old new (of_format end) =
     × IsFormatEnd drive asked r.gives old new end
 IsCaused r drive old new (of_serve end) =
     (at : Option Moment) × IsServeWords r.words at × IsServedEnd drive old new (one_moment at r.one) r.source end
+IsCaused r drive old new (of_make end) =
+    (count : ℕ) × (at : Option Moment) × IsMakeWords r.words count at × TakesNothing r.source
+    × IsMadeEnd drive old new (one_moment at r.one) count end
 
 -- a status and a text are told; or the sink's count rose, and a front of that text was written
 abbrev pub IsTold : (wanted : ℕ) → (text : List ℕ) → Written → (status : ℕ) → Type 0

@@ -15,12 +15,13 @@ use Rattle.tape_meaning.specs.Labels.{HasLabels}
 use Rattle.tape_meaning.specs.Meaning.{Found, Reads}
 use Rattle.tape_meaning.specs.declared.labels.Labels.{Labels}
 use Rattle.format_volume.specs.Writes.{Goes}
-use Rattle.server_words.specs.Forms.{HasNoForm, IsFormat, IsFormatWords, IsLabel, IsList, IsPlain, IsPlainWords, IsServe, IsServeWords}
+use Rattle.server_words.specs.Forms.{HasNoForm, IsFormat, IsFormatWords, IsLabel, IsList, IsMake, IsMakeWords, IsPlain, IsPlainWords, IsServe, IsServeWords}
 use Rattle.server_words.specs.declared.volumes.FormatWords.{FormatWords}
 use Rattle.ltfs_server.specs.Formats.{AlwaysFits, FormatEnd, IsFormatEnd, IsFormattedAs, IsFullPrinted, NeverFits, formatted_text}
 use Rattle.ltfs_server.specs.Headline.{AreLabelsPrinted, IsCheckPrinted, IsDriveFaultPrinted, IsListingPrinted}
 use Rattle.ltfs_server.specs.Headline.{IsMountFaultPrinted, IsPartPrinted, IsPlainRun, IsPrinted, IsReadFaultPrinted, IsRefusalPrinted}
-use Rattle.ltfs_server.specs.Outcomes.{Ending, EndsAs, IsCaused, IsLabelEnd, IsListEnd, IsPlainEnd, LabelEnd, ListEnd, of_format, of_label, of_list, of_plain, of_serve}
+use Rattle.ltfs_server.specs.Making.{IsMadeEnd, IsMadeFailurePrinted, IsMadeRun, IsMadeShortPrinted, IsSummaryPrinted, MadeEnd}
+use Rattle.ltfs_server.specs.Outcomes.{Ending, EndsAs, IsCaused, IsLabelEnd, IsListEnd, IsPlainEnd, LabelEnd, ListEnd, of_format, of_label, of_list, of_make, of_plain, of_serve}
 use Rattle.ltfs_server.specs.Runs.{Gives, IsOneOf, IsRunOf, Taken, TakesNothing, Written, looked}
 use Rattle.ltfs_server.specs.Serving.{IsClosePrinted, IsFailurePrinted, IsRefusedPrinted, IsServedEnd, IsServedRun, IsShortPrinted, ServedEnd, one_moment}
 use Rattle.ltfs_server.specs.declared.plain.PlainEnd.{PlainEnd}
@@ -50,8 +51,8 @@ pub record DoesLabel {D : Type 0} (drive : Ghosts D) (old new : D) (sink : Writt
     : Type 0 where
   pub statuses : IsOneOf status (0 ∷ 3 ∷ 4 ∷ 6 ∷ 7 ∷ [])
   pub printed : status ≡ 0 → AreLabelsPrinted (drive.held old) sink.old sink.new
-  -- a cartridge that is no volume is told by its first check that fails, unless the drive or the sink fails or memory is
-  -- refused, and only such a cartridge
+  -- a cartridge that is no volume is told by its first check that fails, unless the drive or the sink fails or memory
+  -- is refused, and only such a cartridge
   pub volume : IfSome (drive.held old)
       (λ c. ((l : Labels) → ¬ HasLabels c l) → IsOneOf status (3 ∷ 4 ∷ 6 ∷ 7 ∷ []))
   pub only_volume : status ≡ 3 → IsCheckPrinted (drive.held old) sink.old sink.new
@@ -75,8 +76,8 @@ pub record DoesList {D : Type 0} (drive : Ghosts D) (old new : D) (sink : Writte
     : Type 0 where
   pub statuses : IsOneOf status (0 ∷ 3 ∷ 4 ∷ 6 ∷ 7 ∷ [])
   pub printed : status ≡ 0 → IsListingPrinted (drive.held old) sink.old sink.new
-  -- a cartridge that reads as no tree is told by its first check that fails, unless the drive or the sink fails or memory
-  -- is refused, and only such a cartridge
+  -- a cartridge that reads as no tree is told by its first check that fails, unless the drive or the sink fails or
+  -- memory is refused, and only such a cartridge
   pub volume : IfSome (drive.held old) (λ c. ReadsAsNone c → IsOneOf status (3 ∷ 4 ∷ 6 ∷ 7 ∷ []))
   pub only_volume : status ≡ 3 → IsMountFaultPrinted (drive.held old) sink.old sink.new
   pub only_drive : status ≡ 4 → IsDriveFaultPrinted (drive.faults old) (drive.faults new) sink.old sink.new
@@ -149,6 +150,37 @@ pub record DoesServe {D : Type 0} (moment : Option Moment) (source : Taken) (dri
   pub untold : drive.held old ≡ None → drive.held new ≡ None
   pub told : (end : ServedEnd) × IsServedEnd drive old new moment source end × EndsAs (of_serve end) sink status log
 
+-- `make`, of so many calls a session, with one moment or none, of the cartridge that the drive held, where it tells
+-- that
+pub record DoesMake {D : Type 0} (moment : Option Moment) (count : ℕ) (drive : Ghosts D) (old new : D) (sink : Written)
+    (status : ℕ) (log : Option Log) : Type 0 where
+  pub statuses : IsOneOf status (0 ∷ 3 ∷ 4 ∷ 6 ∷ 7 ∷ 8 ∷ [])
+  -- the log, wherever there is one, is that of a run of the made script on the drive's volume
+  pub history : IfSome log (IsMadeRun drive old new moment count)
+  pub refused : status ≡ 3 → log ≡ None
+  -- the volume is closed, and the run is summed up
+  pub closed : status ≡ 0 → IsSummaryPrinted drive old new moment count sink log
+  -- a cartridge that reads as no tree is told by its first check that fails, unless the drive or the sink fails or
+  -- memory is refused, and only such a cartridge
+  pub volume : IfSome (drive.held old) (λ c. ReadsAsNone c → IsOneOf status (3 ∷ 4 ∷ 6 ∷ 7 ∷ []))
+  pub only_volume : status ≡ 3 → IsMountFaultPrinted (drive.held old) sink.old sink.new
+  -- without a log the drive failed as its cartridge was mounted, and else in the close
+  pub only_drive : status ≡ 4 → IsMadeFailurePrinted drive old new moment count sink log
+  pub only_write : status ≡ 6 → Rose sink.before sink.now
+  pub memory : status ≡ 7 → Appends sink.old sink.new (codes "memory\n")
+  -- a close without space is told by its numbers
+  pub only_full : status ≡ 8 → IsMadeShortPrinted drive old new moment count sink log
+  -- with a cartridge that passes all checks and no fault all is done, unless memory is refused or space lacks
+  pub complete : ¬ (Rose (drive.faults old) (drive.faults new)) → ¬ (Rose sink.before sink.now)
+      → IfSome (drive.held old) (λ c. Found c → IsOneOf status (0 ∷ 7 ∷ 8 ∷ []))
+  -- without a log the cartridge is only looked at
+  pub looks : log ≡ None
+      → Looks drive ((23 + 2 * (drive.limits old).cap_ip + 2 * (drive.limits old).cap_dp) * drive.MOST) old new
+  -- whatever comes of it: the limits stay, and a drive that doesn't tell doesn't begin to
+  pub limits : drive.limits new ≡ drive.limits old
+  pub untold : drive.held old ≡ None → drive.held new ≡ None
+  pub told : (end : MadeEnd) × IsMadeEnd drive old new moment count end × EndsAs (of_make end) sink status log
+
 -- words of no form
 pub record RefusesWords {D : Type 0} (sink : Written) (old new : D) (status : ℕ) (log : Option Log) : Type 0 where
   pub statuses : IsOneOf status (1 ∷ 6 ∷ 7 ∷ [])
@@ -160,22 +192,26 @@ pub record RefusesWords {D : Type 0} (sink : Written) (old new : D) (status : �
 
 -- the words are those of a command that goes to the drive
 abbrev pub AskForDrive : List (String Global) → Type 0
-AskForDrive words = IsLabel words ⊎ (IsList words ⊎ (IsFormat words ⊎ IsServe words))
+AskForDrive words = IsLabel words ⊎ (IsList words ⊎ (IsFormat words ⊎ (IsServe words ⊎ IsMake words)))
 
--- the words are those of a command that runs a script
+-- the words are those of a command that reads a script
+abbrev pub ReadScripts : List (String Global) → Type 0
+ReadScripts words = IsPlain words ⊎ IsServe words
+
+-- the words are those of a command that runs one, be it read or made
 abbrev pub RunScripts : List (String Global) → Type 0
-RunScripts words = IsPlain words ⊎ IsServe words
+RunScripts words = IsPlain words ⊎ (IsServe words ⊎ IsMake words)
 
 -- of which words a status or a log may come
 pub record ComesOf (words : List (String Global)) (status : ℕ) (log : Option Log) : Type 0 where
   pub statuses : IsOneOf status (0 ∷ 1 ∷ 2 ∷ 3 ∷ 4 ∷ 5 ∷ 6 ∷ 7 ∷ 8 ∷ [])
   pub done : status ≡ 0 → IsPlain words ⊎ AskForDrive words
   pub refused : status ≡ 1 → HasNoForm words
-  pub script : status ≡ 2 → RunScripts words
-  pub volume : status ≡ 3 → IsLabel words ⊎ (IsList words ⊎ IsServe words)
+  pub script : status ≡ 2 → ReadScripts words
+  pub volume : status ≡ 3 → IsLabel words ⊎ (IsList words ⊎ (IsServe words ⊎ IsMake words))
   pub drive : status ≡ 4 → AskForDrive words
-  pub read : status ≡ 5 → RunScripts words
-  pub full : status ≡ 8 → IsFormat words ⊎ IsServe words
+  pub read : status ≡ 5 → ReadScripts words
+  pub full : status ≡ 8 → IsFormat words ⊎ (IsServe words ⊎ IsMake words)
   pub logged : IfSome log (λ l. RunScripts words)
 
 -- all of it, for words that are known once they are read
@@ -188,6 +224,8 @@ pub record DoesAsked {D : Type 0} (words : List (String Global)) (gives : Gives)
       → DoesFormat asked gives drive old new sink status log
   pub serve : (at : Option Moment) → IsServeWords words at
       → DoesServe (one_moment at one) source drive old new sink status log
+  pub make : (count : ℕ) (at : Option Moment) → IsMakeWords words count at
+      → DoesMake (one_moment at one) count drive old new sink status log
   pub no_form : HasNoForm words → RefusesWords sink old new status log
   pub unread : ¬ (IsPlain words) → ¬ (IsServe words) → TakesNothing source
   pub comes : ComesOf words status log

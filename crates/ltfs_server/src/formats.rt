@@ -60,7 +60,7 @@ fn formatted_text(alloc: Global, uuid: u128) -> Result<Bytes, NoMemory>
 }
 
 /// That a partition has too few positions.
-fn full_text(alloc: Global, need: u64, limit: u64) -> Result<Bytes, NoMemory>
+pub fn full_text(alloc: Global, need: u64, limit: u64) -> Result<Bytes, NoMemory>
     ensures { IfOk result (λ text. text ≡ full_text need limit) }
 {
     Ok(bytes_of(format!(in alloc; "full {need} {limit}\n")?))

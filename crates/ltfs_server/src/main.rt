@@ -4,11 +4,17 @@
 mod ended;
 mod formats;
 mod labels;
+mod laws;
 mod lists;
+#[cfg(test)]
+mod made;
+mod making;
+#[cfg(test)]
+mod order;
 mod plain;
-mod playing;
 #[cfg(test)]
 mod rows;
+mod running;
 mod scripts;
 #[cfg(test)]
 mod served;
@@ -25,25 +31,37 @@ use server::run;
 use std::alloc::{AllocError, Global};
 use std::env;
 use std::process::ExitCode;
-use tape_edge::{ReaderSource, SystemClock, WriterSink};
+use tape_edge::{OpenGate, ReaderSource, SystemClock, WriterSink};
 
 fn main(rt: HostRuntime) -> ExitCode {
-    let words = words_of(&rt, rt.alloc());
+    let Ok(words) = words_of(&rt, rt.alloc()) else {
+        return starved(&rt);
+    };
     let Ok(drive) = drive_of(&rt, rt.alloc(), &words) else {
-        let _ = println!(rt; "memory");
-        return ExitCode::from(7);
+        return starved(&rt);
     };
     let mut source = ReaderSource::new(rt.stdin());
     let mut sink = WriterSink::new(rt.stdout());
+    let Ok(host) = rt.clone() else {
+        return starved(&rt);
+    };
     let ended = run(
+        &rt,
         rt.alloc(),
         &words,
         drive,
         &mut source,
         &mut sink,
-        SystemClock::new(rt),
+        SystemClock::new(host),
+        &OpenGate,
     );
     ExitCode::from(ended.status)
+}
+
+/// Tells that memory was refused.
+fn starved(rt: &HostRuntime) -> ExitCode {
+    let _ = println!(rt; "memory");
+    ExitCode::from(7)
 }
 
 /// The drive over the folder of the second word; without one, over a name that no folder has.
@@ -59,10 +77,13 @@ fn drive_of(
     Ok(FileDrive::new(rt.clone()?, folder))
 }
 
-/// The words of the command line without the program's name, or none where they can't be had.
-fn words_of<R: std::rt::Env + AllocGlobal>(rt: &R, alloc: Global) -> Vec<String> {
+/// The words of the command line without the program's name.
+fn words_of<R: std::rt::Env + AllocGlobal>(
+    rt: &R,
+    alloc: Global,
+) -> Result<Vec<String>, AllocError> {
     match env::args(rt) {
-        Ok(words) => words.skip(1).collect(alloc).unwrap_or(Vec::new(alloc)),
-        Err(_) => Vec::new(alloc),
+        Ok(words) => words.skip(1).collect(alloc),
+        Err(_) => Err(AllocError),
     }
 }

@@ -1,26 +1,17 @@
-//! Scripts that are played on cartridges by hand, and their logs.
+//! Scripts that are run on cartridges by hand, and their logs.
 
-ghost use Rattle.std.specs.Prelude.{◌≡◌, IfOk, true};
-ghost use Rattle.volume_model.specs.Ends.{begun};
-ghost use Rattle.volume_model.specs.Meanings.{cartridges};
-ghost use Rattle.volume_model.specs.Served.{IsServed};
-ghost use Rattle.volume_order.specs.Kept.{seen};
-ghost use Rattle.ltfs_server.specs.Rows.{IsInRange};
-
-use crate::playing::play;
-use ltfs_label::Label;
-use mount_recover::mount;
+use crate::running::{CameTo, run_calls};
 use sample_cartridges::drive_of;
-use served_volume::Volume;
-use session_script::{Log, Script, log_text, read_script};
+use session_script::{Log, log_text, read_script};
 use std::alloc::Global;
 use std::process::Abort;
-use std::snapshot::Snapshot;
+use std::sync::Wait;
 use std::test::Fail;
-use tape_drive::{Cmd, Drive, Fail as Listed, MemDrive};
-use tape_edge::StepClock;
+use std::thread::Threads;
+use tape_drive::{Cmd, Fail as Listed, MemDrive};
+use tape_edge::{Gate, Hold, OpenGate, OrderGate, StepClock};
 use tape_types::{List, Moment, NoMemory};
-use volume_model::{Closed, Kept};
+use volume_model::Closed;
 
 /// The moment of all calls.
 const AT: Moment = Moment {
@@ -28,52 +19,30 @@ const AT: Moment = Moment {
     nanos: 0,
 };
 
-fn is_in_range(label: &Label) -> bool
-    ensures { result ≡ true → IsInRange label.now }
-{
-    label.block >= 4096
-        && label.block <= 1_048_576
-        && label.index >= b'a'
-        && label.index <= b'z'
-        && label.dpart >= b'a'
-        && label.dpart <= b'z'
-}
-
-/// A volume on the cartridge in a drive, of which nothing was asked yet.
-fn start<D: Drive>(
+/// Runs a script on the cartridge in a drive, and closes the volume: the log, and how many steps the head made.
+fn run_on<R: Threads + Wait + Sync, G: Gate + Sync>(
+    rt: &R,
     alloc: Global,
-    mut drive: D,
-    script: Script,
-) -> Result<Volume<D, StepClock>, Fail>
-    ensures begun { IfOk result (λ v. v ≡ begun v.fixed v.next) }
-    ensures served { IfOk result (λ v. IsServed cartridges (seen D.Drive v.fixed.first) (seen D.Drive v.drive) v) }
-{
-    let mounted = mount(alloc, &mut drive)?;
-    if !is_in_range(&mounted.label) {
-        return Err("a label is out of its range".into());
-    }
-    let since = Snapshot::of(&drive.commands());
-    let clock = StepClock::new(AT, 0);
-    match Volume::start(alloc, mounted, drive, clock, script, since) {
-        Ok(volume) => Ok(volume),
-        Err(Kept { drive: _, clock: _ }) => Err("there is no memory for a volume".into()),
-    }
-}
-
-/// Plays a script on the cartridge in a drive, and closes the volume: the log, and how many steps the head made.
-fn played<D: Drive>(alloc: Global, drive: D, script: &str) -> Result<(Log, u64), Fail> {
+    drive: MemDrive,
+    script: &str,
+    gate: &G,
+) -> Result<(Log, u64), Fail> {
     let script = read_script(alloc, script.as_bytes())?;
-    let mut volume = start(alloc, drive, script)?;
-    play(&mut volume);
-    let Closed {
-        drive: _,
-        log,
-        outcome: _,
-        steps,
-        travel: _,
-        nodes: _,
-    } = volume.close();
-    Ok((log, steps))
+    match run_calls(rt, alloc, script, drive, StepClock::new(AT, 0), gate) {
+        CameTo::Unmounted(_, _) => Err("a cartridge isn't mounted".into()),
+        CameTo::Starved(_) => Err("there is no memory for a volume".into()),
+        CameTo::Run(closed) => {
+            let Closed {
+                drive: _,
+                log,
+                outcome: _,
+                steps,
+                travel: _,
+                nodes: _,
+            } = closed;
+            Ok((log, steps))
+        }
+    }
 }
 
 /// The texts of a row between its semicolons, each on a line.
@@ -90,7 +59,13 @@ pub fn lines(alloc: Global, row: &str) -> Result<String, NoMemory> {
 
 /// What a script gives on a cartridge in memory whose second write fails, where that is said: what the log prints, and
 /// how many steps the head made.
-fn told(alloc: Global, script: &str, fails: bool) -> Result<String, Fail> {
+fn told<R: Threads + Wait + Sync, G: Gate + Sync>(
+    rt: &R,
+    alloc: Global,
+    script: &str,
+    fails: bool,
+    gate: &G,
+) -> Result<String, Fail> {
     let mut listed = List::new(alloc);
     if fails {
         listed.push(Listed {
@@ -100,7 +75,7 @@ fn told(alloc: Global, script: &str, fails: bool) -> Result<String, Fail> {
     }
     let drive = drive_of(alloc, "vmammqm", "vmbmmpm", listed)?;
     let script = lines(alloc, script)?;
-    let (log, steps) = played(alloc, drive, script.as_str())?;
+    let (log, steps) = run_on(rt, alloc, drive, script.as_str(), gate)?;
     let bytes = log_text(alloc, &log)?;
     let Ok(text) = str::from_utf8(bytes.as_slice()) else {
         return Err("a log isn't UTF-8".into());
@@ -109,24 +84,35 @@ fn told(alloc: Global, script: &str, fails: bool) -> Result<String, Fail> {
 }
 
 /// A row is a script, and what it gives behind a bar.
-fn check<R: Abort>(rt: &R, alloc: Global, fails: bool, row: &str) -> Result<(), Fail> {
+fn check<R: Abort + Threads + Wait + Sync, G: Gate + Sync>(
+    rt: &R,
+    alloc: Global,
+    fails: bool,
+    gate: &G,
+    row: &str,
+) -> Result<(), Fail> {
     let mut parts = row.split('|');
     let script = parts.next().unwrap_or("");
     let want = lines(alloc, parts.next().unwrap_or(""))?;
-    let told = told(alloc, script, fails)?;
+    let told = told(rt, alloc, script, fails, gate)?;
     assert_eq!(rt; told.as_str(), want.as_str());
     Ok(())
 }
 
-fn check_all<R: Abort>(rt: &R, alloc: Global, fails: bool, rows: &str) -> Result<(), Fail> {
+fn check_all<R: Abort + Threads + Wait + Sync>(
+    rt: &R,
+    alloc: Global,
+    fails: bool,
+    rows: &str,
+) -> Result<(), Fail> {
     for row in rows.split('\n') {
-        check(rt, alloc, fails, row)?;
+        check(rt, alloc, fails, &OpenGate, row)?;
     }
     Ok(())
 }
 
 #[test]
-fn scripts_of_one_session_are_played(rt: HostRuntime) -> Result<(), Fail> {
+fn scripts_of_one_session_are_run(rt: HostRuntime) -> Result<(), Fail> {
     check_all(
         &rt,
         rt.alloc(),
@@ -143,15 +129,31 @@ fn scripts_of_one_session_are_played(rt: HostRuntime) -> Result<(), Fail> {
     )
 }
 
+/// Holds the sessions of a row of five calls in the order of its lines.
+fn in_order_of_lines(alloc: Global) -> Result<OrderGate, NoMemory> {
+    let mut rules = List::new(alloc);
+    for (who, nth, other, reach_nth) in [(1, 0, 2, 1), (2, 1, 1, 1), (16, 0, 2, 2), (1, 1, 16, 1)] {
+        rules.push(Hold {
+            who,
+            nth,
+            turn: 0,
+            other,
+            reach_nth,
+            reach_turn: 0,
+        })?;
+    }
+    OrderGate::new(alloc, rules, 100_000)
+}
+
 #[test]
-fn scripts_of_several_sessions_are_played_by_their_lines(rt: HostRuntime) -> Result<(), Fail> {
-    check_all(
-        &rt,
-        rt.alloc(),
-        false,
-        "2 create /a;1 write /a 0 text:x;2 sync;16 read /a 0 9;1 sync|\
-0 2.0 ok;1 1.0 ok;2 2.1 synced;3 16.0 bytes 1 78;4 1.1 synced;6",
-    )
+fn sessions_that_are_held_run_in_the_order_of_their_lines(rt: HostRuntime) -> Result<(), Fail> {
+    let alloc = rt.alloc();
+    let gate = in_order_of_lines(alloc)?;
+    let row = "2 create /a;1 write /a 0 text:x;2 sync;16 read /a 0 9;1 sync|\
+0 2.0 ok;1 1.0 ok;2 2.1 synced;3 16.0 bytes 1 78;4 1.1 synced;6";
+    check(&rt, alloc, false, &gate, row)?;
+    assert!(rt; !gate.late());
+    Ok(())
 }
 
 #[test]
@@ -178,14 +180,14 @@ const LONG: &str = "1 create /a;1 write /a 0 fill:61:65536;1 write /a 65536 fill
 fn a_write_is_put_off_until_64_ops_stand(rt: HostRuntime) -> Result<(), Fail> {
     let alloc = rt.alloc();
     let row = format!(in alloc; "{LONG}6 1.6 ok;16")?;
-    check(&rt, alloc, false, row.as_str())
+    check(&rt, alloc, false, &OpenGate, row.as_str())
 }
 
 #[test]
 fn a_fault_ends_a_write_that_was_put_off(rt: HostRuntime) -> Result<(), Fail> {
     let alloc = rt.alloc();
     let row = format!(in alloc; "{LONG}6 1.6 fault 0 1;2")?;
-    check(&rt, alloc, true, row.as_str())
+    check(&rt, alloc, true, &OpenGate, row.as_str())
 }
 
 #[test]

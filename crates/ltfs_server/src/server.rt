@@ -1,34 +1,47 @@
-ghost use Rattle.std.specs.Prelude.{Option};
+ghost use Rattle.std.specs.Prelude.{ℕ, Option};
 ghost use Rattle.tape_types.specs.declared.moments.Moment.{Moment as Instant};
-ghost use Rattle.server_words.specs.Forms.{HasNoForm, IsFormatWords, IsLabel, IsList, IsPlain, IsPlainWords, IsServe};
-ghost use Rattle.server_words.specs.Forms.{IsServeWords};
+ghost use Rattle.server_words.specs.Forms.{HasNoForm, IsFormatWords, IsLabel, IsList, IsMakeWords, IsPlain};
+ghost use Rattle.server_words.specs.Forms.{IsPlainWords, IsServe, IsServeWords};
 ghost use Rattle.server_words.specs.declared.volumes.FormatWords.{FormatWords};
 ghost use Rattle.ltfs_server.specs.Outcomes.{Ending, EndsAs, IsCaused};
-ghost use Rattle.ltfs_server.specs.Promises.{ComesOf, DoesAsked, DoesFormat, DoesLabel, DoesList};
+ghost use Rattle.ltfs_server.specs.Promises.{ComesOf, DoesAsked, DoesFormat, DoesLabel, DoesList, DoesMake};
 ghost use Rattle.ltfs_server.specs.Promises.{DoesPlain, DoesServe, RefusesWords};
 ghost use Rattle.ltfs_server.specs.Runs.{TakesNothing, taken, written};
+ghost use Rattle.ltfs_server.specs.Sentence.{Asked, Asks, SentenceHolds};
 ghost use Rattle.ltfs_server.specs.Serving.{one_moment};
 
 use crate::ended::Ended;
 use crate::formats::run_format;
 use crate::labels::run_label;
 use crate::lists::run_list;
+use crate::making::run_make;
 use crate::plain::run_plain;
 use crate::serves::run_serve;
 use crate::telling::tell;
 use server_words::{Command, WordsErr, read_words};
 use std::alloc::Global;
+use std::sync::Wait;
+use std::thread::Threads;
 use tape_drive::Drive;
-use tape_edge::{Clock, Sink, Source};
+use tape_edge::{Clock, Gate, Sink, Source};
 
 /// Runs the program: reads the words, and does what they ask for.
-pub fn run<D: Drive, S: Source, K: Sink, C: Clock>(
+pub fn run<
+    R: Threads + Wait + Sync,
+    D: Drive + Send,
+    S: Source,
+    K: Sink,
+    C: Clock + Send,
+    G: Gate + Sync,
+>(
+    rt: &R,
     alloc: Global,
     words: &Vec<String>,
     drive: D,
     script: &mut S,
     out: &mut K,
     clock: C,
+    gate: &G,
 ) -> Ended<D>
     // `plain` runs the script that is left in the source on a plain tree, prints the log, and leaves the drive alone.
     ensures plain { (at : Option Instant) → IsPlainWords words.now.items at
@@ -44,10 +57,24 @@ pub fn run<D: Drive, S: Source, K: Sink, C: Clock>(
     ensures format { (asked : FormatWords) → IsFormatWords words.now.items asked
         → DoesFormat asked (C.gives clock) D.Drive drive result.drive (written K.Sink out.old out.new)
         result.status result.log }
-    // `serve` runs the script that is left in the source on the volume of the cartridge in the drive, closes the volume,
-    // and prints the log and how it was closed, or tells why not.
+    // `serve` runs the script that is left in the source on the volume of the cartridge in the drive, closes the
+    // volume, and prints the log and how it was closed, or tells why not.
     ensures serve { (at : Option Instant) → IsServeWords words.now.items at
         → DoesServe (one_moment at (C.one clock)) (taken S.Source script.old script.new) D.Drive drive result.drive
+        (written K.Sink out.old out.new) result.status result.log }
+    // `make` runs a script that is made for a number on the volume of the cartridge in the drive, closes the volume,
+    // and prints a summary, or tells why not.
+    ensures make { (count : ℕ) (at : Option Instant) → IsMakeWords words.now.items count at
+        → DoesMake (one_moment at (C.one clock)) count D.Drive drive result.drive (written K.Sink out.old out.new)
+        result.status result.log }
+    // The headline, for the words of `serve` and of `make`.
+    ensures headline { (asked : Asked) (moment : Option Instant) → Asks (record {
+      words = words.now.items;
+      gives = C.gives clock;
+      one = C.one clock;
+      source = taken S.Source script.old script.new;
+    }) asked moment
+        → SentenceHolds asked moment (taken S.Source script.old script.new) D.Drive drive result.drive
         (written K.Sink out.old out.new) result.status result.log }
     // Words of no form are told, and nothing is done.
     ensures no_form { HasNoForm words.now.items
@@ -66,17 +93,26 @@ pub fn run<D: Drive, S: Source, K: Sink, C: Clock>(
     }) D.Drive drive result.drive e
         × EndsAs e (written K.Sink out.old out.new) result.status result.log }
 {
-    run_asked(alloc, words, drive, script, out, clock)
+    run_asked(rt, alloc, words, drive, script, out, clock, gate)
 }
 
 /// The same, as one clause.
-fn run_asked<D: Drive, S: Source, K: Sink, C: Clock>(
+fn run_asked<
+    R: Threads + Wait + Sync,
+    D: Drive + Send,
+    S: Source,
+    K: Sink,
+    C: Clock + Send,
+    G: Gate + Sync,
+>(
+    rt: &R,
     alloc: Global,
     words: &Vec<String>,
     drive: D,
     script: &mut S,
     out: &mut K,
     clock: C,
+    gate: &G,
 ) -> Ended<D>
     ensures { DoesAsked words.now.items (C.gives clock) (C.one clock) (taken S.Source script.old script.new)
         (written K.Sink out.old out.new) D.Drive drive result.drive result.status result.log }
@@ -87,7 +123,10 @@ fn run_asked<D: Drive, S: Source, K: Sink, C: Clock>(
         Ok(Command::Label) => run_label(alloc, drive, out),
         Ok(Command::List) => run_list(alloc, drive, out),
         Ok(Command::Format(asked)) => run_format(alloc, asked, drive, out, clock),
-        Ok(Command::Serve { at }) => run_serve(alloc, at, drive, script, out, clock),
+        Ok(Command::Serve { at }) => run_serve(rt, alloc, at, drive, script, out, clock, gate),
+        Ok(Command::Make { count, at }) => {
+            run_make(rt, alloc, count, at, drive, out, clock, gate)
+        }
         Err(WordsErr::Form) => tell(out, b"words\n", 1, None, drive),
         Err(WordsErr::NoMemory) => tell(out, b"memory\n", 7, None, drive),
     }

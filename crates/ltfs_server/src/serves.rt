@@ -1,52 +1,59 @@
 //! The command `serve`.
 
-ghost use Rattle.std.specs.Prelude.{◌≡◌, ◌≤◌, ◌++◌, IfOk, IfSome, string_bytes};
+ghost use Rattle.std.specs.Prelude.{◌≡◌, ◌++◌, IfOk, IfSome, List, Option, string_bytes};
+ghost use Rattle.tape_types.specs.declared.moments.Moment.{Moment as Instant};
 ghost use Rattle.session_script.specs.LogText.{log_text};
+ghost use Rattle.session_script.specs.declared.scripts.ScriptLine.{ScriptLine};
 ghost use Rattle.tape_edge.specs.Clocks.{IsSince1970};
-ghost use Rattle.tape_meaning.specs.Mounts.{IsMount, Mounts};
-ghost use Rattle.volume_model.specs.Ends.{begun};
-ghost use Rattle.volume_model.specs.Meanings.{cartridges};
-ghost use Rattle.volume_model.specs.Served.{IsServed};
-ghost use Rattle.volume_order.specs.Kept.{seen};
+ghost use Rattle.ltfs_server.specs.Came.{CameOf, WasRun};
 ghost use Rattle.ltfs_server.specs.Promises.{DoesServe};
 ghost use Rattle.ltfs_server.specs.Runs.{IsScriptIn, Taken, taken, written};
-ghost use Rattle.ltfs_server.specs.Serving.{IsBegun, IsLookedAt, close_line, close_status, one_moment};
+ghost use Rattle.ltfs_server.specs.Serving.{close_line, close_status, one_moment};
 
 use crate::ended::Ended;
 use crate::labels::{mount_status, mount_text};
-use crate::playing::play;
+use crate::running::{CameTo, run_calls};
 use crate::scripts::{read_calls, unread_status, unread_text};
 use crate::telling::{tell, tell_made};
 use crate::timed::TimedClock;
-use mount_recover::mount;
-use served_volume::Volume;
-use session_script::{Log, Script, log_text};
+use session_script::{Log, log_text};
 use std::alloc::Global;
-use std::snapshot::Snapshot;
+use std::sync::Wait;
+use std::thread::Threads;
 use tape_drive::Drive;
-use tape_edge::{Clock, Sink, Source};
-use tape_meaning::Mounted;
+use tape_edge::{Clock, Gate, Sink, Source};
 use tape_types::{Bytes, Moment, NoMemory, Twin};
-use volume_model::{CloseEnd, Closed, Kept};
-use volume_runs::plays_are_runs;
+use volume_model::{CloseEnd, Closed};
 
 /// The command `serve`: reads the script, mounts the cartridge in the drive, serves the script on its volume and closes
 /// it, and writes the log and how the volume was closed.
-pub fn run_serve<D: Drive, S: Source, K: Sink, C: Clock>(
+pub fn run_serve<
+    R: Threads + Wait + Sync,
+    D: Drive + Send,
+    S: Source,
+    K: Sink,
+    C: Clock + Send,
+    G: Gate + Sync,
+>(
+    rt: &R,
     alloc: Global,
     at: Option<Moment>,
     drive: D,
     script: &mut S,
     out: &mut K,
     clock: C,
+    gate: &G,
 ) -> Ended<D>
-    requires { IfSome at IsSince1970 }
+    requires since { IfSome at IsSince1970 }
     ensures { DoesServe (one_moment at (C.one clock)) (taken S.Source script.old script.new) D.Drive drive result.drive
         (written K.Sink out.old out.new) result.status result.log }
 {
     let _commands_are_in_range = drive.commands();
     match read_calls(alloc, script) {
-        Ok(calls) => serve_script(alloc, calls, drive, out, TimedClock::new(at, clock)),
+        Ok(calls) => {
+            let came = run_calls(rt, alloc, calls, drive, TimedClock::new(at, clock), gate);
+            tell_came(alloc, came, out)
+        }
         Err(why) => tell_made(
             out,
             unread_text(alloc, why),
@@ -57,74 +64,33 @@ pub fn run_serve<D: Drive, S: Source, K: Sink, C: Clock>(
     }
 }
 
-/// Mounts the cartridge in the drive, and serves a script on its volume.
-fn serve_script<D: Drive, K: Sink, C: Clock>(
-    alloc: Global,
-    script: Script,
-    drive: D,
-    out: &mut K,
-    clock: C,
-) -> Ended<D>
-    ensures { (source : Taken) → IsScriptIn source script → DoesServe (C.one clock) source D.Drive drive result.drive
-        (written K.Sink out.old out.new) result.status result.log }
+/// Tells what came of a script.
+fn tell_came<D: Drive, K: Sink>(alloc: Global, came: CameTo<D>, out: &mut K) -> Ended<D>
+    ensures { (script : List ScriptLine) (moment : Option Instant) (start : D) (source : Taken)
+        → CameOf D.Drive script moment start came → IsScriptIn source script
+        → DoesServe moment source D.Drive start result.drive (written K.Sink out.old out.new)
+        result.status result.log }
 {
-    let _capacities_are_in_range = drive.limits();
-    let since = Snapshot::of(&drive.commands());
-    let mut drive = drive;
-    match mount(alloc, &mut drive) {
-        Ok(mounted) => serve_mounted(alloc, mounted, drive, script, clock, since, out),
-        Err(error) => tell_made(
+    match came {
+        CameTo::Unmounted(error, drive) => tell_made(
             out,
             mount_text(alloc, error),
             mount_status(error),
             None,
             drive,
         ),
+        CameTo::Starved(drive) => tell(out, b"memory\n", 7, None, drive),
+        CameTo::Run(closed) => tell_run(alloc, closed, out),
     }
 }
 
-/// Serves a script on a volume that was mounted.
-fn serve_mounted<D: Drive, K: Sink, C: Clock>(
-    alloc: Global,
-    mounted: Mounted,
-    drive: D,
-    script: Script,
-    clock: C,
-    since: Snapshot<u64>,
-    out: &mut K,
-) -> Ended<D>
-    requires mounts { IfSome (D.held drive) (λ c. Mounts c mounted) }
-    requires mount { IsMount (D.limits drive) mounted }
-    requires reached { since.value ≤ D.commands drive }
-    ensures { (source : Taken) (start : D) → IsScriptIn source script → IsLookedAt D.Drive start drive
-        → since.value ≡ D.commands start → DoesServe (C.one clock) source D.Drive start result.drive
-        (written K.Sink out.old out.new) result.status result.log }
+/// Tells what came of a script that was run.
+fn tell_run<D: Drive, K: Sink>(alloc: Global, closed: Closed<D>, out: &mut K) -> Ended<D>
+    ensures { (script : List ScriptLine) (moment : Option Instant) (start : D) (source : Taken)
+        → WasRun D.Drive script moment start closed → IsScriptIn source script
+        → DoesServe moment source D.Drive start result.drive (written K.Sink out.old out.new)
+        result.status result.log }
 {
-    match Volume::start(alloc, mounted, drive, clock, script, since) {
-        Ok(volume) => serve_to_end(alloc, volume, out),
-        Err(kept) => {
-            let Kept { drive, clock: _ } = kept;
-            tell(out, b"memory\n", 7, None, drive)
-        }
-    }
-}
-
-/// Serves the script of a volume to its end, closes the volume, and tells what came of it.
-fn serve_to_end<D: Drive, K: Sink, C: Clock>(
-    alloc: Global,
-    volume: Volume<D, C>,
-    out: &mut K,
-) -> Ended<D>
-    requires begun { volume ≡ begun volume.fixed volume.next }
-    requires served { IsServed cartridges (seen D.Drive volume.fixed.first) (seen D.Drive volume.drive) volume }
-    ensures { (source : Taken) (start : D) → IsScriptIn source volume.fixed.script → IsBegun D.Drive start volume.fixed
-        → DoesServe volume.fixed.moment source D.Drive start result.drive
-        (written K.Sink out.old out.new) result.status result.log }
-{
-    let mut volume = volume;
-    play(&mut volume);
-    plays_are_runs::<D>();
-    let closed = volume.close();
     let Closed {
         drive,
         log,
@@ -172,7 +138,7 @@ fn close_words(
     }
 }
 
-fn close_status(outcome: CloseEnd) -> u8
+pub fn close_status(outcome: CloseEnd) -> u8
     ensures { result ≡ close_status outcome }
 {
     match outcome {

@@ -4,8 +4,10 @@ ghost use Rattle.tape_types.specs.Cartridges.{HoldsAtMost, IsItem};
 use super::*;
 use crate::ended::Ended;
 use std::process::Abort;
+use std::sync::Wait;
+use std::thread::Threads;
 use tape_drive::{Cmd, Drive, Fail as Listed, MemDrive};
-use tape_edge::{MemSink, MemSource, StepClock};
+use tape_edge::{MemSink, MemSource, OpenGate, StepClock};
 use tape_types::{Bytes, Cartridge, Item, Limits, List, Moment, NoMemory, Note};
 
 const VOL1: &[u8] =
@@ -84,8 +86,8 @@ fn document(alloc: Global, letter: u8) -> Result<String, NoMemory> {
     }
 }
 
-/// A partition by letters: `v` is the VOL1 record, `a` and `b` are the labels, `m` is a mark, `h` a block of five bytes,
-/// and all others are documents of indexes.
+/// A partition by letters: `v` is the VOL1 record, `a` and `b` are the labels, `m` is a mark, `h` a block of five
+/// bytes, and all others are documents of indexes.
 fn part(alloc: Global, letters: &[u8]) -> Result<List<Item>, NoMemory>
     requires { length letters.now ≤ 1000 }
     ensures { IfOk result (HoldsAtMost 1000) }
@@ -144,7 +146,8 @@ fn drive_of(alloc: Global, ip: &[u8], dp: &[u8], fails: List<Listed>) -> Result<
 }
 
 /// Runs the program on a drive and a script, with the reads and writes of these numbers failing.
-pub fn ran(
+pub fn ran<R: Threads + Wait + Sync>(
+    rt: &R,
     alloc: Global,
     words: &str,
     drive: MemDrive,
@@ -160,12 +163,21 @@ pub fn ran(
     let mut source = MemSource::new(bytes, List::from_vec(Vec::from_slice(alloc, read_fails)?));
     let mut sink = MemSink::new(alloc, List::from_vec(Vec::from_slice(alloc, write_fails)?));
     let clock = StepClock::new(Moment { secs: 0, nanos: 0 }, 1);
-    let ended = run(alloc, &all, drive, &mut source, &mut sink, clock);
+    let ended = run(
+        rt,
+        alloc,
+        &all,
+        drive,
+        &mut source,
+        &mut sink,
+        clock,
+        &OpenGate,
+    );
     Ok((ended, sink))
 }
 
 /// The program, run on these words and this script, ends with this status and this output.
-fn check<R: Abort>(
+fn check<R: Abort + Threads + Wait + Sync>(
     rt: &R,
     alloc: Global,
     words: &str,
@@ -174,7 +186,7 @@ fn check<R: Abort>(
     output: &str,
 ) -> Result<(), NoMemory> {
     let drive = drive_of(alloc, b"", b"", List::new(alloc))?;
-    let (ended, sink) = ran(alloc, words, drive, script, &[], &[])?;
+    let (ended, sink) = ran(rt, alloc, words, drive, script, &[], &[])?;
     assert_eq!(rt; sink.bytes().as_slice(), output.as_bytes());
     assert_eq!(rt; ended.status, status);
     assert_eq!(rt; ended.log.is_some(), status == 0);
@@ -265,7 +277,7 @@ fn faulty_words_and_scripts_are_told(rt: HostRuntime) -> Result<(), NoMemory> {
 }
 
 /// `plain` ends with this status and this output where these reads and writes fail.
-fn check_faults<R: Abort>(
+fn check_faults<R: Abort + Threads + Wait + Sync>(
     rt: &R,
     alloc: Global,
     read_fails: &[u64],
@@ -275,6 +287,7 @@ fn check_faults<R: Abort>(
 ) -> Result<(), NoMemory> {
     let drive = drive_of(alloc, b"", b"", List::new(alloc))?;
     let (ended, sink) = ran(
+        rt,
         alloc,
         "plain",
         drive,
@@ -298,7 +311,7 @@ fn failed_streams_are_told(rt: HostRuntime) -> Result<(), NoMemory> {
 }
 
 /// `label` or `list`, run on a cartridge of these partitions, ends with this status and this output.
-fn check_look<R: Abort>(
+fn check_look<R: Abort + Threads + Wait + Sync>(
     rt: &R,
     alloc: Global,
     words: &str,
@@ -311,7 +324,7 @@ fn check_look<R: Abort>(
     requires dp { length dp.now ≤ 1000 }
 {
     let drive = drive_of(alloc, ip, dp, List::new(alloc))?;
-    let (ended, sink) = ran(alloc, words, drive, "", &[], &[])?;
+    let (ended, sink) = ran(rt, alloc, words, drive, "", &[], &[])?;
     assert_eq!(rt; sink.bytes().as_slice(), output.as_bytes());
     assert_eq!(rt; ended.status, status);
     assert!(rt; ended.log.is_none());
@@ -368,7 +381,7 @@ fn a_failed_drive_is_told(rt: HostRuntime) -> Result<(), NoMemory> {
     };
     let fails = List::from_vec(Vec::from_slice(alloc, &[first])?);
     let drive = drive_of(alloc, b"vmam", b"vmbm", fails)?;
-    let (ended, sink) = ran(alloc, "label D", drive, "", &[], &[])?;
+    let (ended, sink) = ran(&rt, alloc, "label D", drive, "", &[], &[])?;
     assert_eq!(rt; sink.bytes().as_slice(), b"drive 0 1\n".as_slice());
     assert_eq!(rt; ended.status, 4);
     Ok(())
@@ -474,7 +487,7 @@ fn cartridges_without_a_tree_are_told(rt: HostRuntime) -> Result<(), NoMemory> {
 
 /// `list`, run on a volume with these reads of the drive or writes of the sink failing, ends with this status and this
 /// output.
-fn check_listed<R: Abort>(
+fn check_listed<R: Abort + Threads + Wait + Sync>(
     rt: &R,
     alloc: Global,
     fails: List<Listed>,
@@ -483,7 +496,7 @@ fn check_listed<R: Abort>(
     output: &str,
 ) -> Result<(), NoMemory> {
     let drive = drive_of(alloc, b"vmammqm", b"vmbmmpm", fails)?;
-    let (ended, sink) = ran(alloc, "list D", drive, "", &[], write_fails)?;
+    let (ended, sink) = ran(rt, alloc, "list D", drive, "", &[], write_fails)?;
     assert_eq!(rt; sink.bytes().as_slice(), output.as_bytes());
     assert_eq!(rt; ended.status, status);
     Ok(())
@@ -514,7 +527,7 @@ pub const FORMAT: &str =
 const FORMATTED: &str = "formatted 30a91a08-daae-48d1-ae75-69804e61d2ea\n";
 
 /// These words, run on a drive, end with this status and this output.
-fn check_next<R: Abort>(
+fn check_next<R: Abort + Threads + Wait + Sync>(
     rt: &R,
     alloc: Global,
     drive: MemDrive,
@@ -522,7 +535,7 @@ fn check_next<R: Abort>(
     status: u8,
     output: &str,
 ) -> Result<MemDrive, NoMemory> {
-    let (ended, sink) = ran(alloc, words, drive, "", &[], &[])?;
+    let (ended, sink) = ran(rt, alloc, words, drive, "", &[], &[])?;
     assert_eq!(rt; sink.bytes().as_slice(), output.as_bytes());
     assert_eq!(rt; ended.status, status);
     Ok(ended.drive)
@@ -565,7 +578,7 @@ dp NEW001 b 00000000-0000-0000-0000-00000000000a 524288 false 1970-01-01T00:00:0
 }
 
 /// A drive with a blank cartridge, whose data partition has so many positions. Its commands of these numbers fail.
-fn blank(alloc: Global, cap_dp: u64, fails: &[Listed]) -> Result<MemDrive, NoMemory>
+pub fn blank(alloc: Global, cap_dp: u64, fails: &[Listed]) -> Result<MemDrive, NoMemory>
     requires least { 4 ≤ cap_dp }
     requires most { cap_dp ≤ 1000 }
 {
@@ -585,7 +598,7 @@ fn blank(alloc: Global, cap_dp: u64, fails: &[Listed]) -> Result<MemDrive, NoMem
 }
 
 /// `format` with these options, of a blank cartridge, is refused so, and before any command.
-fn check_refused<R: Abort>(
+fn check_refused<R: Abort + Threads + Wait + Sync>(
     rt: &R,
     alloc: Global,
     more: &str,
@@ -623,14 +636,14 @@ fn a_failed_format_is_told(rt: HostRuntime) -> Result<(), NoMemory> {
     let drive = blank(alloc, 1000, &[note])?;
     let drive = check_next(&rt, alloc, drive, FORMAT, 4, "drive 0 1\n")?;
     let drive = check_next(&rt, alloc, drive, FORMAT, 0, FORMATTED)?;
-    let (ended, sink) = ran(alloc, FORMAT, drive, "", &[], &[1])?;
+    let (ended, sink) = ran(&rt, alloc, FORMAT, drive, "", &[], &[1])?;
     assert_eq!(rt; ended.status, 6);
     assert_eq!(rt; sink.bytes().len(), 0);
     Ok(())
 }
 
 /// `serve`, run with a script on a drive, ends with this status and this output.
-fn check_served<R: Abort>(
+fn check_served<R: Abort + Threads + Wait + Sync>(
     rt: &R,
     alloc: Global,
     drive: MemDrive,
@@ -639,7 +652,7 @@ fn check_served<R: Abort>(
     output: &str,
 ) -> Result<MemDrive, NoMemory> {
     let words = "serve D --at=2024-01-02T03:04:05.000000000Z";
-    let (ended, sink) = ran(alloc, words, drive, script, &[], &[])?;
+    let (ended, sink) = ran(rt, alloc, words, drive, script, &[], &[])?;
     assert_eq!(rt; sink.bytes().as_slice(), output.as_bytes());
     assert_eq!(rt; ended.status, status);
     assert_eq!(rt; ended.log.is_some(), status == 0);
@@ -667,10 +680,10 @@ fn what_is_not_served_is_told(rt: HostRuntime) -> Result<(), NoMemory> {
     let drive = blank(alloc, 1000, &[])?;
     let drive = check_served(&rt, alloc, drive, "1 fly\n", 2, "script 1 Verb\n")?;
     let drive = check_served(&rt, alloc, drive, "1 sync\n", 3, "volume Vol1 ip\n")?;
-    let (ended, sink) = ran(alloc, "serve D", drive, "1 sync\n", &[1], &[])?;
+    let (ended, sink) = ran(&rt, alloc, "serve D", drive, "1 sync\n", &[1], &[])?;
     assert_eq!(rt; sink.bytes().as_slice(), b"source 0 1\n".as_slice());
     assert_eq!(rt; ended.status, 5);
-    let (ended, sink) = ran(alloc, "serve D", ended.drive, "1 sync\n", &[], &[1])?;
+    let (ended, sink) = ran(&rt, alloc, "serve D", ended.drive, "1 sync\n", &[], &[1])?;
     assert_eq!(rt; ended.status, 6);
     assert_eq!(rt; sink.bytes().len(), 0);
     Ok(())

@@ -1,5 +1,5 @@
 use Rattle.std.proofs.Common.{refl, arith}
-use Rattle.ltfs_server.proofs.Asked.{asked_format, asked_label, asked_list, asked_none, asked_plain, asked_serve, form_asked, format_asked, given_since, label_asked, list_asked, memory_asked, plain_asked, serve_asked}
+use Rattle.ltfs_server.proofs.Asked.{asked_format, asked_label, asked_list, asked_make, asked_none, asked_plain, asked_serve, form_asked, format_asked, given_since, label_asked, list_asked, make_asked, make_few, memory_asked, plain_asked, serve_asked}
 use Rattle.ltfs_server.proofs.server.run_asked.Goals as goal
 
 pub returns-in-Ok-Plain : goal.returns-in-Ok-Plain
@@ -25,13 +25,27 @@ returns-in-Ok-Format g c =
     format_asked _ _ _ _ _ g.D.Drive _ _ _ _ c.in-Ok-Format.asked (asked_format _ _ _ c.in-Ok-Format.asked c.as_slice.ensures.value c.in-Ok-Format.field-0-is c.in-Ok-Format.ensures)
     (record { left = refl; faults = refl }) c.run_format.ensures
 
-pub run_serve-requires : goal.run_serve-requires
-run_serve-requires g c =
+pub run_serve-requires-clause-since : goal.run_serve-requires-clause-since
+run_serve-requires-clause-since g c κs within =
     given_since _ c.in-Ok-Serve.at (asked_serve _ _ _ c.in-Ok-Serve.at c.as_slice.ensures.value c.in-Ok-Serve.field-0-is c.in-Ok-Serve.ensures).3.moment
 
 pub returns-in-Ok-Serve : goal.returns-in-Ok-Serve
 returns-in-Ok-Serve g c =
     serve_asked _ _ _ _ _ g.D.Drive _ _ _ _ c.in-Ok-Serve.at (asked_serve _ _ _ _ c.as_slice.ensures.value c.in-Ok-Serve.field-0-is c.in-Ok-Serve.ensures) c.run_serve.ensures
+
+pub run_make-requires-clause-few : goal.run_make-requires-clause-few
+run_make-requires-clause-few g c κs within =
+    make_few _ c.in-Ok-Make.count c.in-Ok-Make.at (asked_make _ _ _ c.in-Ok-Make.count c.in-Ok-Make.at c.as_slice.ensures.value c.in-Ok-Make.field-0-is c.in-Ok-Make.ensures)
+
+pub run_make-requires-clause-since : goal.run_make-requires-clause-since
+run_make-requires-clause-since g c κs within =
+    given_since _ c.in-Ok-Make.at (asked_make _ _ _ c.in-Ok-Make.count c.in-Ok-Make.at c.as_slice.ensures.value c.in-Ok-Make.field-0-is c.in-Ok-Make.ensures).3.moment
+
+pub returns-in-Ok-Make : goal.returns-in-Ok-Make
+returns-in-Ok-Make g c =
+    make_asked _ _ _ _ _ g.D.Drive _ _ _ _ c.in-Ok-Make.count c.in-Ok-Make.at
+    (asked_make _ _ _ c.in-Ok-Make.count c.in-Ok-Make.at c.as_slice.ensures.value c.in-Ok-Make.field-0-is c.in-Ok-Make.ensures)
+    (record { left = refl; faults = refl }) c.run_make.ensures
 
 pub returns-in-Err-Form : goal.returns-in-Err-Form
 returns-in-Err-Form g c =

@@ -1,0 +1,115 @@
+-- What comes of a script, step by step: what was mounted can be served, a volume was begun, and it was run and closed.
+use Rattle.std.proofs.Common.{◌≡◌, ◌∙◌, ℕ, ◌+◌, ◌*◌, ◌-◌, ◌^◌, ◌≤◌, List, [], ◌∷◌, filter_map, min, Option, Some, refl, sym, ap, subst, arith}
+use Rattle.std.specs.Prelude.{IfSome}
+use Rattle.tape_types.specs.declared.cartridges.Limits.{Limits}
+use Rattle.tape_types.specs.declared.cartridges.Twin.{Twin}
+use Rattle.tape_types.specs.declared.moments.Moment.{Moment}
+use Rattle.session_script.specs.declared.scripts.ScriptLine.{ScriptLine}
+use Rattle.head_trail.specs.Trail.{fault_of, steps, travel}
+use Rattle.tape_drive.specs.declared.drive.Drive.{Ghosts}
+use Rattle.tape_meaning.specs.Carried.{carried}
+use Rattle.tape_meaning.specs.Mounts.{IsMount, Mounts}
+use Rattle.tape_meaning.specs.declared.mounted.Mounted.{Mounted}
+use Rattle.mount_recover.specs.Lasts.{IsSoundMount}
+use Rattle.volume_model.specs.Ends.{Closes, Starts, begun, bounded}
+use Rattle.volume_model.specs.Faults.{AreRises}
+use Rattle.volume_model.specs.Meanings.{cartridges}
+use Rattle.volume_model.specs.Served.{View}
+use Rattle.volume_model.specs.declared.contract.Closed.{Closed}
+use Rattle.volume_order.specs.Kept.{seen}
+use Rattle.volume_runs.specs.Laws.{IsRun, PlaysAreRuns}
+use Rattle.session_run.specs.Ran.{HasRun, IsServedWhole}
+use Rattle.session_run.specs.declared.ran.RanEnd.{RanEnd}
+use Rattle.session_run.specs.declared.ran.RanEnd.TheVariants as run_ends
+use Rattle.ltfs_server.specs.Came.{CameOf, WasRun}
+use Rattle.ltfs_server.specs.Serving.{HoldsTree, IsBegun, IsLookedAt}
+use Rattle.ltfs_server.specs.declared.running.CameTo.{CameTo}
+use Rattle.ltfs_server.proofs.LabelRanges.{block_in_range}
+use Rattle.ltfs_server.proofs.LetterRanges.{letters_in_range}
+use Rattle.ltfs_server.proofs.Told.{if_some, of_some}
+
+-- what was mounted can be served
+pub is_mount : (limits : Limits) (m : Mounted) → IsSoundMount limits m → IsMount limits m
+is_mount limits m sound =
+    let letters = letters_in_range sound.spelled.0 _ sound.spelled.1 in record {
+      blocks = block_in_range sound.spelled.0 _ sound.spelled.1;
+      letters = (letters.0, letters.1, sound.letters);
+      valid = sound.valid;
+      uuid = sound.uuid;
+      newest = sound.newest;
+      fits = sound.fits;
+      last_dp = sound.last_dp;
+      ip_end = sound.ip_end;
+      dp_end = sound.dp_end;
+    }
+
+-- ---- a volume that was begun
+
+module _ {D : Type 0} (drive : Ghosts D) (start first : D) (mounted : Mounted) (script : List ScriptLine) (since : ℕ) (next moment : Option Moment) (v : View D)
+    (starts : Starts cartridges (seen drive first) mounted first script since next moment v) where
+  pub begun_on : IfSome (drive.held first) (λ c. Mounts c mounted) → IsLookedAt drive start first → since ≡ drive.commands start → IsBegun drive start v.fixed
+  begun_on mounts looked since_is = subst (λ (w : View D). IsBegun drive start w.fixed) (sym starts.begins) record {
+    looked = looked;
+    since = since_is;
+    mounted = λ c held. (of_some (drive.held first) (λ c. Mounts c mounted) c held mounts, of_some (drive.held first) _ c held starts.reads_as);
+  }
+
+  -- it has the script and the moment that it was begun with
+  pub came_on : (came : CameTo D) → CameOf drive v.fixed.script v.fixed.moment start came → CameOf drive script moment start came
+  came_on came is = subst (λ (w : View D). CameOf drive w.fixed.script w.fixed.moment start came) starts.begins is
+
+-- ---- a volume that was closed
+
+-- counts that rose one after the other stand above where they began, or at their end
+rose_to : (before now : ℕ) (faults : List Twin) → AreRises before now faults → min before (2 ^ 64 - 1) ≤ now
+rose_to before now [] rises = omega (arith, rises)
+rose_to before now (t ∷ more) (lowest, rose, rest) = let later : min t.after (2 ^ 64 - 1) ≤ now = rose_to t.after now more rest in omega (arith, lowest, rose, later)
+
+module _ {D : Type 0} (drive : Ghosts D) (plays : PlaysAreRuns drive) (start : D) (v : View D) (closed : Closed D) (on : IsBegun drive start v.fixed) (whole : IsServedWhole drive v)
+    (closes : Closes cartridges (seen drive v.fixed.first) (seen drive v.drive) (seen drive closed.drive) v closed.drive closed.log closed.outcome closed.steps closed.travel closed.nodes) where
+  ran : IsRun drive v.fixed.script v.fixed.moment start closed.drive closed.log closed.outcome closed.nodes
+  ran = plays v.fixed.script v.fixed.moment start v closed.drive closed.log closed.outcome closed.steps closed.travel closed.nodes record {
+    most = (23 + 2 * (drive.limits start).cap_ip + 2 * (drive.limits start).cap_dp) * drive.MOST;
+    looked = on.looked.looks;
+    faults = on.looked.faults;
+    since = on.since;
+    script_is = refl;
+    moment = if_some v.fixed.moment (λ m. v.fixed.moment ≡ Some m) (λ m told. told);
+    mounted = on.mounted;
+    served = whole.promised.served;
+    logged = whole.promised.logged;
+    history = whole.history;
+    count = whole.promised.count;
+    nothing = whole.nothing;
+  } closes
+
+  tree : HoldsTree (drive.held start)
+  tree = if_some (drive.held start) _ (λ c held. let found = on.mounted c (on.looked.looks.held ∙ held) in (carried v.fixed.mounted.index, v.fixed.tree, v.fixed.mounted.newest, found.1))
+
+  faults_rose : drive.faults start ≤ 2 ^ 64 - 1 → drive.faults start ≤ drive.faults closed.drive
+  faults_rose range =
+      let served : min (drive.faults v.fixed.first) (2 ^ 64 - 1) ≤ drive.faults v.drive = rose_to _ _ (filter_map fault_of v.events) whole.promised.served.orderly.faults.rises in
+      omega (arith, range, on.looked.faults, served, closes.faults)
+
+  was : drive.faults start ≤ 2 ^ 64 - 1 → WasRun drive v.fixed.script v.fixed.moment start closed
+  was range = record {
+    run = ran;
+    steps_are = closes.steps_are ∙ ap (λ events. bounded (steps events)) (sym closes.log_is.events);
+    travel_is = closes.travel_is ∙ ap (λ events. bounded (travel events)) (sym closes.log_is.events);
+    mounted = tree;
+    faults = faults_rose range;
+    limits = closes.limits ∙ on.looked.looks.limits;
+    untold = λ held. closes.untold (on.looked.looks.held ∙ held);
+  }
+
+-- all calls of a run were made
+pub ran_whole : {D : Type 0} (drive : Ghosts D) (old new : View D) (outcome : RanEnd) → outcome ≡ run_ends.Done → HasRun drive old new outcome → (new.fixed ≡ old.fixed) × IsServedWhole drive new
+ran_whole drive old new outcome done has = subst (HasRun drive old new) done has
+
+-- of the volume as it was begun, which has what no call changes
+pub was_run : {D : Type 0} (drive : Ghosts D) → PlaysAreRuns drive → (start : D) (begun v : View D) (closed : Closed D) → v.fixed ≡ begun.fixed → drive.faults start ≤ 2 ^ 64 - 1
+    → IsBegun drive start begun.fixed → IsServedWhole drive v
+    → Closes cartridges (seen drive v.fixed.first) (seen drive v.drive) (seen drive closed.drive) v closed.drive closed.log closed.outcome closed.steps closed.travel closed.nodes
+    → WasRun drive begun.fixed.script begun.fixed.moment start closed
+was_run drive plays start begun v closed same range on whole closes =
+    subst (λ f. WasRun drive f.script f.moment start closed) same (was drive plays start v closed (subst (IsBegun drive start) (sym same) on) whole closes range)

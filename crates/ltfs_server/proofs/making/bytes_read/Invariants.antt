@@ -1,0 +1,7 @@
+use Rattle.std.proofs.Common.{◌≡◌, take}
+use Rattle.volume_model.specs.Ends.{bounded}
+use Rattle.ltfs_server.specs.Making.{bytes_read}
+use Rattle.ltfs_server.proofs.making.bytes_read.Given as goal
+
+abbrev pub invariant-loop-reply : goal.invariant-loop-reply
+invariant-loop-reply l = l.sum ≡ bounded (bytes_read (take l.reply-index l.replies))

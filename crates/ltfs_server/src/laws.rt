@@ -1,0 +1,17 @@
+//! What the headline says of the drive in memory, in words of that drive's record alone.
+
+ghost use Rattle.ltfs_server.specs.Sentence.{SurvivesInMemory};
+
+use tape_drive::{Drive, MemDrive};
+use volume_runs::{runs_are_in_memory, runs_in_memory_survive};
+
+/// A run of `serve` or of `make` has left this drive and a log, and had begun with a drive in memory whose cartridge
+/// stood for a tree and was sound, with nothing pending. Each image that a crash may leave now by two cuts, and each
+/// that one may have left at any moment of the run, stands for the tree after some first placements of the log, among
+/// them all that were placed before any sync that was acknowledged by then.
+pub fn headlines_survive_in_memory(drive: &MemDrive)
+    ensures { SurvivesInMemory ⟦<MemDrive as Drive>⟧ drive.now }
+{
+    runs_are_in_memory();
+    runs_in_memory_survive(drive);
+}
