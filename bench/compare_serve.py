@@ -3,9 +3,11 @@
 
 usage: compare_serve.py PROGRAM [--rounds N] [--seed N]
 
-Each round formats a folder, with or without a policy, and serves one to four scripts on it, one after the other. The
-plain tree runs them as one script. All replies have to be the same, a `full` alone apart, behind which a round ends;
-and what `list` prints at the end has to be the tree that the plain run's own calls tell.
+Each round formats a folder, with or without a policy, and serves one to four scripts of up to 16 sessions on it, one after
+the other. Sessions run in threads, so the log says in which order their calls came: it has to have each session's calls
+once and in order, and the plain tree runs the lines of all scripts in the order of the logs. All replies have to be the
+same, a `full` alone apart, behind which a round ends; and what `list` prints at the end has to be the tree that the plain
+run's own calls tell.
 """
 import argparse
 import random
@@ -54,7 +56,30 @@ def replies(log):
     return [line.split(" ", 2)[2] for line in log]
 
 
+def in_order(script, log):
+    """The lines of a script in the order of a log, or None where the log isn't one of all its calls."""
+    calls = {}
+    for line in script:
+        calls.setdefault(line.split(" ")[0], []).append(line)
+    made = dict.fromkeys(calls, 0)
+    ordered = []
+    for place, line in enumerate(log):
+        at, session, _ = line.split(" ", 2)
+        who, nth = session.split(".")
+        if int(at) != place or who not in calls or int(nth) != made[who] or made[who] == len(calls[who]):
+            return None
+        ordered.append(calls[who][made[who]])
+        made[who] += 1
+    return ordered if len(ordered) == len(script) else None
+
+
+def switches(lines):
+    """How often another session comes next."""
+    return sum(a.split(" ")[0] != b.split(" ")[0] for a, b in zip(lines, lines[1:]))
+
+
 def judge(program, rng, folder):
+    """What is wrong, if anything, and how often another session came next."""
     words = ["format", folder, "TAPE01", UUID, "--block", str(rng.choice([4096, 8192, 65536])), "--at", TIME]
     if rng.random() < 0.5:
         words += ["--ip-size", str(rng.choice([0, 100, 5000, 1000000]))]
@@ -62,35 +87,46 @@ def judge(program, rng, folder):
             words += ["--ip-names", rng.choice(["*.txt", "*.txt/a", "?"])]
     status, told = run(program, words)
     if status:
-        return f"format: {told}"
-    scripts = []
+        return f"format: {told}", 0
+    whole, generation, switched = [], 1, 0
     for _ in range(rng.randint(1, 4)):
-        sessions = rng.randint(1, 4)
-        scripts.append([f"{rng.randint(1, sessions)} {call(rng)}" for _ in range(rng.randint(0, 60))])
-    whole = [line for script in scripts for line in script]
-    status, told = run(program, ["plain", "--at", TIME], "".join(line + "\n" for line in whole))
-    if status:
-        return f"plain: {told[-200:]}"
-    wanted = replies(told.splitlines()[:-1])
-    at, generation = 0, 1
-    for script in scripts:
+        sessions = rng.choice([1, 2, 4, 16])
+        script = [f"{rng.randint(1, sessions)} {call(rng)}" for _ in range(rng.randint(0, 60))]
         status, told = run(program, ["serve", folder, "--at", TIME], "".join(line + "\n" for line in script))
         lines = told.splitlines()
         if status or not lines[-1].startswith("closed "):
-            return f"serve: status {status}, {lines[-1:]}"
-        got = replies(lines[:-1])
-        for k, reply in enumerate(got):
-            if reply.startswith("full "):
-                return None
-            if reply != wanted[at + k]:
-                return f"{script[k]}: {reply[:80]} in place of {wanted[at + k][:80]}"
-        if len(got) != len(script):
-            return "a call is missing"
-        at += len(script)
+            return f"serve: status {status}, {lines[-1:]}", switched
+        ordered = in_order(script, lines[:-1])
+        if ordered is None:
+            return "the log isn't one of all calls", switched
+        switched += switches(ordered)
+        whole += ordered
+        fault, full = compare(program, whole, ordered, replies(lines[:-1]))
+        if fault or full:
+            return fault, switched
         newest = int(lines[-1].split()[1])
         if newest < generation:
-            return "the generation falls"
+            return "the generation falls", switched
         generation = newest
+    return judge_end(program, folder, whole, generation), switched
+
+
+def compare(program, whole, ordered, got):
+    """What differs from the plain tree in the last calls, and whether one found no space, behind which none is compared."""
+    status, told = run(program, ["plain", "--at", TIME], "".join(line + "\n" for line in whole))
+    if status:
+        return f"plain: {told[-200:]}", False
+    wanted = replies(told.splitlines()[:-1])[len(whole) - len(ordered):]
+    for line, reply, want in zip(ordered, got, wanted):
+        if reply.startswith("full "):
+            return None, True
+        if reply != want:
+            return f"{line}: {reply[:80]} in place of {want[:80]}", False
+    return None, False
+
+
+def judge_end(program, folder, whole, generation):
+    """What is wrong of the tree that is left, if anything."""
     status, told = run(program, ["list", folder])
     if status:
         return f"list: {told}"
@@ -120,15 +156,16 @@ def main():
     words.add_argument("--rounds", type=int, default=100)
     words.add_argument("--seed", type=int, default=1)
     asked = words.parse_args()
-    wrong = 0
+    wrong = switched = 0
     for n in range(asked.rounds):
         rng = random.Random(asked.seed * 1000003 + n)
         with tempfile.TemporaryDirectory() as folder:
-            fault = judge(asked.program, rng, folder)
+            fault, count = judge(asked.program, rng, folder)
+        switched += count
         if fault:
             wrong += 1
             print(f"round {n}: {fault}")
-    print(f"{asked.rounds} rounds, {wrong} wrong")
+    print(f"{asked.rounds} rounds, {wrong} wrong, another session came next {switched} times")
     return 1 if wrong else 0
 
 

@@ -4,7 +4,8 @@
 usage: speed_serve.py PROGRAM PEER [--rounds N]
 
 PEER is bench/plain.rs. Each script is run on a volume that was just formatted, with blocks of 4,096 bytes, and by the
-peer, in turn; the least of all rounds is printed, user and system.
+peer, in turn; the least of all rounds is printed, user and system. `serve` runs the sessions in threads and the peer runs
+them line by line, so replies are compared session by session: each session has a file of its own.
 """
 import argparse
 import os
@@ -28,8 +29,8 @@ def files(calls, sessions, every):
 
 
 def reading(calls, sessions):
-    """As many reads of what was written before a sync as there were writes."""
-    half = files(calls // 2, sessions, 0) + ["1 sync"]
+    """As many reads of what was written before a sync as there were writes. Each session reads its own file."""
+    half = files(calls // 2, sessions, 0) + [f"{who} sync" for who in range(1, sessions + 1)]
     return half + [
         f"{who} read /s{who} {n * 4096} 4096"
         for n in range((calls // 2 - sessions) // sessions)
@@ -43,6 +44,11 @@ SCRIPTS = {
     "reads": reading(10_000, 16),
     "small": files(1_250, 2, 0),
 }
+
+
+def by_session(log):
+    """The replies of a log without its last line, each with its session and number."""
+    return sorted(line.split(b" ", 2)[1:] for line in log.splitlines()[:-1])
 
 
 def seconds(words, text, cwd):
@@ -71,7 +77,7 @@ def main():
                 served = seconds([ours, "serve", tape, "--at", TIME], text, folder)
                 plain = seconds([peer, TIME, "append", f"{folder}/journal"], text, folder)
             least = [min(least[0], served[0]), min(least[1], plain[0])]
-            if served[1].splitlines()[:-1] != plain[1].splitlines()[:-1]:
+            if by_session(served[1]) != by_session(plain[1]):
                 print(f"{name}: the logs differ")
                 break
         print(f"{name}: {len(lines)} calls, ours {least[0] * 1000:.0f} ms, plain {least[1] * 1000:.0f} ms, "
