@@ -4,8 +4,6 @@
 mod drafts;
 mod laws;
 mod reading;
-#[cfg(test)]
-mod tests;
 mod walking;
 
 pub use laws::{documents_read_back, indexes_read_are_valid, texts_are_read_in_one_way};
