@@ -14,6 +14,3 @@ pub use drive::{Drive, DriveErr, Got};
 pub use durable::write_durably;
 pub use memory::MemDrive;
 pub use schedule::{Cmd, Fail};
-
-#[cfg(test)]
-mod tests;
