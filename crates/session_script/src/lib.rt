@@ -13,8 +13,6 @@ mod printing;
 mod progress;
 mod reading;
 mod scripts;
-#[cfg(test)]
-mod tests;
 mod words;
 
 pub use escapes::push_escaped;
