@@ -10,16 +10,10 @@ mod listing;
 mod mount;
 mod nodes;
 mod order;
-#[cfg(test)]
-mod outside;
 mod places;
-#[cfg(test)]
-mod play;
 mod raws;
 mod spots;
 mod store;
-#[cfg(test)]
-mod tests;
 mod told;
 mod tree;
 

@@ -13,8 +13,6 @@ mod paged;
 mod paths;
 mod plain;
 mod refusals;
-#[cfg(test)]
-mod tests;
 
 pub use calls::{Answer, Call, Entry, Facts, Fate, Placed, Refusal, Sort};
 pub use laws::{

@@ -3,7 +3,7 @@ use Rattle.tape_types.specs.declared.cartridges.Extent.{Extent}
 use Rattle.tape_types.specs.declared.cartridges.Part.TheVariants.{Dp}
 use Rattle.file_tree.specs.Tree.{plain_of, whole}
 use Rattle.file_tree.proofs.CallLemmas.{file_there, still_file, long_free, can_write}
-use Rattle.file_tree.proofs.play.write.Goals as goal
+use Rattle.tree_tests.proofs.play.write.Goals as goal
 
 pub reserve_extent-requires : goal.reserve_extent-requires
 reserve_extent-requires c =

@@ -1,7 +1,7 @@
 use Rattle.std.proofs.Common.{sym, ◌∙◌}
 use Rattle.file_tree.proofs.RefusalLemmas.{whole_read}
 use Rattle.file_tree.proofs.CallLemmas.{file_there}
-use Rattle.file_tree.proofs.play.read.Goals as goal
+use Rattle.tree_tests.proofs.play.read.Goals as goal
 
 pub extents-extents-requires : goal.extents-extents-requires
 extents-extents-requires c =

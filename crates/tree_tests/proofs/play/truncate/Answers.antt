@@ -1,6 +1,6 @@
 use Rattle.file_tree.specs.Tree.{plain_of, whole}
 use Rattle.file_tree.proofs.CallLemmas.{file_there, long_free}
-use Rattle.file_tree.proofs.play.truncate.Goals as goal
+use Rattle.tree_tests.proofs.play.truncate.Goals as goal
 
 pub set_length-requires-clause-file : goal.set_length-requires-clause-file
 set_length-requires-clause-file c =

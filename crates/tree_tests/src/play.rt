@@ -1,13 +1,13 @@
 // Calls on a tree whose files' bytes stand in a table of blocks.
 ghost use Rattle.std.specs.Prelude.{◌≡◌, None, Some};
+ghost use Rattle.plain_tree.specs.Paths as paths;
 ghost use Rattle.plain_tree.specs.declared.calls.Call.{Call as Asked};
 ghost use Rattle.plain_tree.specs.Refusals.{refusal_of};
 ghost use Rattle.file_tree.specs.Tree.{plain_of, whole};
 ghost use Rattle.file_tree.specs.Edits.{making};
 
-use crate::checks::same_path;
-use crate::{Found, Tree};
 use extent_map::Piece;
+use file_tree::{Found, Tree};
 use plain_tree::{Answer, Call, Refusal, Sort};
 use std::alloc::Global;
 use tape_types::{Bytes, Extent, List, Moment, NoMemory, Part, Text};
@@ -183,6 +183,12 @@ fn stat(alloc: Global, tree: &Tree, path: &[Text]) -> Result<Answer, NoMemory> {
         Found::Node(number) => Ok(Answer::Facts(tree.facts(alloc, number)?)),
         Found::Missing | Found::NotDir => Ok(Answer::Done),
     }
+}
+
+fn same_path(a: &[Text], b: &[Text]) -> bool
+    ensures { result ≡ paths.same_path a.now b.now }
+{
+    a == b
 }
 
 fn rename(
