@@ -6,8 +6,6 @@ mod errors;
 mod layouts;
 mod ops;
 mod standing;
-#[cfg(test)]
-mod tests;
 
 pub use errors::AdmitErr;
 pub use layouts::Layout;

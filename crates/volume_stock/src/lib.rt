@@ -7,8 +7,6 @@ mod laws;
 mod looks;
 mod stocks;
 mod syncs;
-#[cfg(test)]
-mod tests;
 mod writes;
 
 pub use closings::ClosingTexts;

@@ -2,7 +2,7 @@ use Rattle.std.proofs.Common.{◌≡◌, ◌∙◌, ap, ◌++◌, [], ◌∷◌,
 use Rattle.index_model.specs.declared.nodes.Node.{Node}
 use Rattle.index_model.specs.declared.nodes.Kind.TheVariants as kinds
 use Rattle.file_tree.proofs.BareLemmas.{mounts}
-use Rattle.volume_stock.proofs.tests.bare_index.Goals as goal
+use Rattle.stock_tests.proofs.bare.bare_index.Goals as goal
 
 pub returns : goal.returns
 returns c =

@@ -1,5 +1,5 @@
 use Rattle.std.proofs.Common.{refl}
-use Rattle.volume_stock.proofs.tests.bare_mount.Goals as goal
+use Rattle.stock_tests.proofs.bare.bare_mount.Goals as goal
 use Rattle.volume_stock.proofs.BareMounts.{bare_starts}
 
 pub returns : goal.returns

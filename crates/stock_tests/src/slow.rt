@@ -1,7 +1,7 @@
 //! A layout that goes through all ops, in numbers alone.
 
-use crate::{AdmitErr, Op};
 use std::alloc::{AllocError, Global};
+use tape_layout::{AdmitErr, Op};
 use tape_types::{Part, Place};
 
 #[derive(Clone, Copy, Debug, PartialEq, Eq)]
