@@ -19,7 +19,7 @@ fn image(drive: &MemDrive, moment: u64, torn: bool) -> Result<Cartridge, Fail> {
     Err("there is no such moment".into())
 }
 
-/// By a moment: the data partition without a torn item and with one, how long the index partition is, and the reference.
+/// By a moment: the data partition without a torn item and with one, how long the other one is, and the reference.
 fn images(alloc: Global, drive: &MemDrive, moment: u64) -> Result<String, Fail> {
     let whole = image(drive, moment, false)?;
     let torn = image(drive, moment, true)?;

@@ -5,11 +5,7 @@ mod formatting;
 mod notes;
 mod refusals;
 mod requests;
-#[cfg(test)]
-mod tests;
 mod texts;
-#[cfg(test)]
-mod volumes;
 mod writing;
 
 pub use formatting::format;

@@ -5,7 +5,7 @@ use std::alloc::Global;
 use std::fmt::Write;
 use tape_types::{NoMemory, Times};
 
-/// Of each node the place of its directory, its uid, its name, whether it is read only, and its kind; below them its times.
+/// Of each node the place of its directory, its uid, its name, whether it is read only, and its kind; then its times.
 pub fn lines_of(alloc: Global, nodes: &[Node]) -> Result<String, NoMemory> {
     let mut text = String::new(alloc);
     for node in nodes {

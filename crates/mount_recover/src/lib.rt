@@ -10,12 +10,8 @@ mod labels;
 mod lasts;
 mod mounting;
 mod pointers;
-#[cfg(test)]
-mod rows;
 mod scans;
 mod starts;
-#[cfg(test)]
-mod tests;
 
 pub use labels::read_labels;
 pub use mounting::mount;

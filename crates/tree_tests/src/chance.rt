@@ -85,7 +85,7 @@ fn is_alike(
     Ok(text.as_str() == wanted.as_str())
 }
 
-/// Makes so many calls on the tree of a bare index and on the plain tree, and reads all bytes at the path of each. Gives the
+/// Makes so many calls on both trees, and reads all bytes at the path of each. Gives the
 /// number of the first that they answer differently.
 fn first_apart(alloc: Global, seed: u64, calls: u32) -> Result<Option<u32>, NoMemory> {
     let mut tree = bare_tree(alloc)?;

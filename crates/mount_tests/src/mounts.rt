@@ -1,6 +1,6 @@
 //! Cartridges by hand, and what they mount as.
 
-use crate::{MountErr, Mounted, mount};
+use mount_recover::{MountErr, Mounted, mount};
 use sample_cartridges::{drive_of, drive_with_file, drive_with_notes};
 use std::alloc::Global;
 use std::fmt::Write;

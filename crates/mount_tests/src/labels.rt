@@ -1,6 +1,6 @@
 //! Labels by hand.
 
-use crate::{MountErr, read_labels};
+use mount_recover::{MountErr, read_labels};
 use sample_cartridges::drive_of;
 use std::alloc::Global;
 use std::process::Abort;

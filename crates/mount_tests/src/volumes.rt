@@ -3,8 +3,9 @@
 ghost use Rattle.std.specs.Prelude.{◌≡◌, ◌≤◌, ◌^◌, length, IfOk};
 ghost use Rattle.tape_types.specs.Cartridges.{HoldsAtMost, IsItem};
 
-use crate::{Field, FormatErr, FormatSpec, format};
-use index_model::{Policy, TextList};
+use crate::policies::policy;
+use format_volume::{Field, FormatErr, FormatSpec, format};
+use index_model::Policy;
 use std::alloc::Global;
 use std::process::Abort;
 use tape_drive::{Cmd, Cut, Drive, Fail, MemDrive};
@@ -81,20 +82,6 @@ fn spec(alloc: Global, name: &str, policy: Option<Policy>) -> Result<FormatSpec,
             nanos: 0,
         },
     })
-}
-
-/// A policy for files of so many bytes, with this pattern so many times.
-fn policy(
-    alloc: Global,
-    size: u64,
-    count: usize,
-    pattern: &str,
-) -> Result<Option<Policy>, NoMemory> {
-    let mut names = TextList::new(alloc);
-    for _ in 0..count {
-        names.push(pattern)?;
-    }
-    Ok(Some(Policy { size, names }))
 }
 
 /// What the rest of a write, a mark, and a block have left of a partition.
