@@ -9,8 +9,6 @@ mod laws;
 mod numbers;
 mod starts;
 mod tags;
-#[cfg(test)]
-mod tests;
 mod texts;
 mod values;
 mod writing;

@@ -1,4 +1,4 @@
-use crate::{
+use doc_fields::{
     Attribute, LockState, Tag, put_bool, put_end, put_letter, put_lock, put_start, put_text,
     put_time, put_u64, put_uuid,
 };

@@ -1,4 +1,4 @@
-use crate::{Attribute, FieldErr, Start, Tag, Why, put_start, read_start, skip_space};
+use doc_fields::{Attribute, FieldErr, Start, Tag, Why, put_start, read_start, skip_space};
 use std::alloc::Global;
 use std::process::Abort;
 

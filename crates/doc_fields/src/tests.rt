@@ -1,5 +1,0 @@
-mod names;
-mod starts;
-mod texts;
-mod values;
-mod writing;
