@@ -52,7 +52,7 @@ impl<R: Files + AllocGlobal + Drop> FileDrive<R> {
         self.commands = self.commands.saturating_add(1);
     }
 
-    // How a command ended. Where it failed the head is lost.
+    // How a command ended. Where it failed the head is lost, and nothing is known of the files.
     fn ended<T: Drop>(&mut self, outcome: io::Result<T>) -> Result<T, DriveErr>
         ensures value { IfOk result (λ value. outcome ≡ Ok value) }
         ensures head { OnOk result (self.new.head ≡ self.old.head) }
@@ -65,6 +65,7 @@ impl<R: Files + AllocGlobal + Drop> FileDrive<R> {
             Err(_) => {
                 self.faults = self.faults.saturating_add(1);
                 self.head = None;
+                self.folder.forget();
                 Err(DriveErr::Failed)
             }
         }

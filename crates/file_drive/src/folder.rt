@@ -3,16 +3,16 @@ ghost use Rattle.std.specs.Prelude.{◌≤◌, ◌<◌, ◌^◌, length, vec_cap
 ghost use Rattle.tape_types.specs.declared.cartridges.Place.{Place};
 ghost use Rattle.tape_drive.specs.Commands.{FillsBuffer};
 
-use crate::files::sync;
-use crate::memory::{load, store};
+use crate::memory::MemoryFile;
 use crate::partition::Partition;
+use crate::window::Window;
 use std::fs::{self, OpenFile, OpenOptions};
 use std::io::{self, ErrorKind, Read, Seek, Write};
 use std::rt::Files;
 use tape_drive::Got;
 use tape_types::{Note, Part, Place};
 
-/// A folder that is opened by the first call: to be read, and once more to be written when something is.
+/// A folder whose files are opened by the first call: to be read, and once more to be written when something is.
 #[derive(Drop)]
 pub struct Folder<R: Files> {
     rt: R,
@@ -26,7 +26,7 @@ pub struct Folder<R: Files> {
 struct Opened<F> {
     ip: Partition<F>,
     dp: Partition<F>,
-    memory: Option<F>,
+    memory: MemoryFile<F>,
 }
 
 impl<R: Files + AllocGlobal + Drop> Folder<R> {
@@ -37,6 +37,12 @@ impl<R: Files + AllocGlobal + Drop> Folder<R> {
             files: None,
             is_writable: false,
         }
+    }
+
+    /// Forgets the files. What a command that failed has left isn't known, nor whether it is durable.
+    pub fn forget(&mut self) {
+        self.files = None;
+        self.is_writable = false;
     }
 
     /// Whether an item can stand at a place, or directly behind the last one.
@@ -79,18 +85,18 @@ impl<R: Files + AllocGlobal + Drop> Folder<R> {
     }
 
     pub fn read_note(&mut self, part: Part) -> io::Result<Note> {
-        Ok(load(&mut self.to_read()?.memory)?.note(part))
+        Ok(self.to_read()?.memory.load()?.note(part))
     }
 
     pub fn write_note(&mut self, part: Part, note: Note) -> io::Result<()> {
         let files = self.to_write()?;
-        let mut memory = load(&mut files.memory)?;
+        let mut memory = files.memory.load()?;
         memory.set_note(part, note);
-        store(&mut files.memory, &memory)
+        files.memory.store(memory)
     }
 
     pub fn vcr(&mut self) -> io::Result<u64> {
-        Ok(load(&mut self.to_read()?.memory)?.vcr)
+        Ok(self.to_read()?.memory.load()?.vcr)
     }
 
     fn to_read(&mut self) -> io::Result<&mut Opened<R::File>> {
@@ -126,12 +132,14 @@ impl<R: Files + AllocGlobal + Drop> Folder<R> {
             ip: Partition::new(
                 self.file("ip.map", to_write)?,
                 self.file("ip.dat", to_write)?,
+                Window::new(self.rt.alloc())?,
             ),
             dp: Partition::new(
                 self.file("dp.map", to_write)?,
                 self.file("dp.dat", to_write)?,
+                Window::new(self.rt.alloc())?,
             ),
-            memory: self.file("cm", to_write)?,
+            memory: MemoryFile::new(self.file("cm", to_write)?),
         })
     }
 
@@ -163,17 +171,17 @@ impl<F: Read + Write + Seek + OpenFile> Opened<F> {
 
     // The reference rises durably, or nothing has changed.
     fn raise_vcr(&mut self) -> io::Result<()> {
-        let mut memory = load(&mut self.memory)?;
+        let mut memory = self.memory.load()?;
         if memory.vcr == u64::MAX {
             return Err(ErrorKind::InvalidData.into());
         }
         memory.vcr += 1;
-        store(&mut self.memory, &memory)
+        self.memory.store(memory)
     }
 
     fn sync(&self) -> io::Result<()> {
         self.ip.sync()?;
         self.dp.sync()?;
-        sync(&self.memory)
+        self.memory.sync()
     }
 }

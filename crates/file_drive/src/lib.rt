@@ -11,6 +11,7 @@ mod files;
 mod folder;
 mod memory;
 mod partition;
+mod window;
 
 pub use drive::FileDrive;
 
@@ -18,3 +19,5 @@ pub use drive::FileDrive;
 mod recorded;
 #[cfg(test)]
 mod tests;
+#[cfg(test)]
+mod trial;

@@ -1,7 +1,7 @@
 // The file of a cartridge's memory: the volume change reference and the coherency attributes.
 ghost use Rattle.std.specs.Prelude.{◌≡◌, length};
 
-use crate::files::{len, read_at, sync, write_at};
+use crate::files::KeptFile;
 use std::fs::OpenFile;
 use std::io::{self, ErrorKind, Read, Seek, Write};
 use tape_types::{Note, Part};
@@ -33,21 +33,50 @@ impl Memory {
     }
 }
 
-/// Reads the file. An empty one stands for no write and no attributes; one that is neither empty nor whole is damaged.
-pub fn load<F: Read + Seek + OpenFile>(file: &mut Option<F>) -> io::Result<Memory> {
-    let mut bytes = [0u8; 150];
-    match len(file)? {
-        0 => {}
-        WHOLE => read_at(file, 0, &mut bytes)?,
-        _ => return Err(ErrorKind::InvalidData.into()),
-    }
-    memory_from(&bytes)
+/// The file, and what it says once that is known.
+#[derive(Drop)]
+pub struct MemoryFile<F> {
+    file: KeptFile<F>,
+    memory: Option<Memory>,
 }
 
-/// Writes the file, durably.
-pub fn store<F: Write + Seek + OpenFile>(file: &mut Option<F>, memory: &Memory) -> io::Result<()> {
-    write_at(file, 0, &memory_bytes(memory))?;
-    sync(file)
+impl<F: Read + Write + Seek + OpenFile> MemoryFile<F> {
+    pub fn new(file: Option<F>) -> MemoryFile<F> {
+        MemoryFile {
+            file: KeptFile::new(file),
+            memory: None,
+        }
+    }
+
+    /// What the file says. An empty one stands for no write and no attributes; one that is neither empty nor whole is
+    /// damaged.
+    pub fn load(&mut self) -> io::Result<Memory> {
+        if let Some(memory) = self.memory {
+            return Ok(memory);
+        }
+        let mut bytes = [0u8; 150];
+        match self.file.len()? {
+            0 => {}
+            WHOLE => self.file.read_at(0, &mut bytes)?,
+            _ => return Err(ErrorKind::InvalidData.into()),
+        }
+        let memory = memory_from(&bytes)?;
+        self.memory = Some(memory);
+        Ok(memory)
+    }
+
+    /// Writes the file, durably.
+    pub fn store(&mut self, memory: Memory) -> io::Result<()> {
+        self.file.write_at(0, &memory_bytes(&memory))?;
+        self.file.sync()?;
+        self.memory = Some(memory);
+        Ok(())
+    }
+
+    /// Makes the file durable as it reads.
+    pub fn sync(&self) -> io::Result<()> {
+        self.file.sync()
+    }
 }
 
 fn memory_from(bytes: &[u8; 150]) -> io::Result<Memory> {

@@ -3,10 +3,9 @@ ghost use Rattle.std.specs.Prelude.{◌≡◌, ◌≤◌, ◌<◌, ◌^◌, leng
 ghost use Rattle.file_drive.specs.Entries.{IsEntry};
 ghost use Rattle.tape_drive.specs.Commands.{FillsBuffer};
 
-use crate::entry::{
-    ENTRY, Entry, end_of, entry_bytes, entry_from, is_below, is_torn, torn_in_place_of,
-};
-use crate::files::{len, read_at, shorten, sync, write_at};
+use crate::entry::{ENTRY, Entry, end_of, entry_bytes, is_below, is_torn, torn_in_place_of};
+use crate::files::KeptFile;
+use crate::window::Window;
 use std::fs::OpenFile;
 use std::io::{self, ErrorKind, Read, Seek, Write};
 use tape_drive::Got;
@@ -14,24 +13,33 @@ use tape_drive::Got;
 /// A map with 16 bytes for each position, and the bytes of the blocks.
 #[derive(Drop)]
 pub struct Partition<F> {
-    map: Option<F>,
-    dat: Option<F>,
-    /// How many positions, from the first one on, are in order and have all their bytes, or are put down as Torn.
-    settled: u64,
+    map: KeptFile<F>,
+    dat: KeptFile<F>,
+    window: Window,
+    settled: Settled,
+}
+
+/// The positions, from the first one on, of which it is known that they are in order and have all their bytes, or are
+/// put down as Torn: how many, and where their bytes end.
+#[derive(Clone, Copy)]
+struct Settled {
+    count: u64,
+    end: u64,
 }
 
 impl<F: Read + Write + Seek + OpenFile> Partition<F> {
-    pub fn new(map: Option<F>, dat: Option<F>) -> Partition<F> {
+    pub fn new(map: Option<F>, dat: Option<F>, window: Window) -> Partition<F> {
         Partition {
-            map,
-            dat,
-            settled: 0,
+            map: KeptFile::new(map),
+            dat: KeptFile::new(dat),
+            window,
+            settled: Settled { count: 0, end: 0 },
         }
     }
 
     /// How many positions have an item. A ragged end of the map counts for nothing.
-    pub fn count(&self) -> io::Result<u64> {
-        Ok(len(&self.map)? / ENTRY)
+    pub fn count(&mut self) -> io::Result<u64> {
+        Ok(self.map.len()? / ENTRY)
     }
 
     /// Reads what stands at a position, and puts a block's bytes into the buffer, which has room for 1,048,576.
@@ -41,8 +49,8 @@ impl<F: Read + Write + Seek + OpenFile> Partition<F> {
         ensures room { 1048576 ≤ vec_capacity buf.new }
         ensures bytes { IfOk result (λ answer. FillsBuffer answer buf.new.items) }
     {
-        buf.clear();
         if self.count()? <= pos {
+            buf.clear();
             return Ok(Got::End);
         }
         match self.entry(pos)? {
@@ -50,8 +58,14 @@ impl<F: Read + Write + Seek + OpenFile> Partition<F> {
                 self.read_bytes(place, length, buf)?;
                 Ok(Got::Block)
             }
-            Entry::Mark { .. } => Ok(Got::Mark),
-            Entry::Torn { .. } => Ok(Got::Torn),
+            Entry::Mark { .. } => {
+                buf.clear();
+                Ok(Got::Mark)
+            }
+            Entry::Torn { .. } => {
+                buf.clear();
+                Ok(Got::Torn)
+            }
         }
     }
 
@@ -61,9 +75,9 @@ impl<F: Read + Write + Seek + OpenFile> Partition<F> {
         requires size { length bytes.now ≤ 1048576 }
     {
         let place = self.cut(pos)?;
-        write_at(&mut self.dat, place, bytes)?;
+        self.dat.write_at(place, bytes)?;
         let length = bytes.len() as u32;
-        self.put(pos, Entry::Block { place, length })
+        self.append(pos, Entry::Block { place, length })
     }
 
     /// Cuts the partition at a position, and appends a file mark.
@@ -71,13 +85,13 @@ impl<F: Read + Write + Seek + OpenFile> Partition<F> {
         requires inside { pos < 2 ^ 40 }
     {
         let place = self.cut(pos)?;
-        self.put(pos, Entry::Mark { place })
+        self.append(pos, Entry::Mark { place })
     }
 
     /// Makes both files durable.
     pub fn sync(&self) -> io::Result<()> {
-        sync(&self.dat)?;
-        sync(&self.map)
+        self.dat.sync()?;
+        self.map.sync()
     }
 
     // What the map says of a position that it has. A place below the end of what is before it is a fault.
@@ -85,8 +99,12 @@ impl<F: Read + Write + Seek + OpenFile> Partition<F> {
         requires inside { pos < 2 ^ 40 }
         ensures size { IfOk result IsEntry }
     {
+        if pos == 0 {
+            return self.found(pos);
+        }
+        let before = self.found(pos - 1)?;
         let entry = self.found(pos)?;
-        if pos > 0 && is_below(&entry, &self.found(pos - 1)?) {
+        if is_below(&entry, &before) {
             return Err(ErrorKind::InvalidData.into());
         }
         Ok(entry)
@@ -97,23 +115,49 @@ impl<F: Read + Write + Seek + OpenFile> Partition<F> {
         requires inside { pos < 2 ^ 40 }
         ensures size { IfOk result IsEntry }
     {
-        let mut bytes = [0u8; 16];
-        read_at(&mut self.map, pos * ENTRY, &mut bytes)?;
-        let entry = entry_from(&bytes);
-        if len(&self.dat)? < end_of(&entry) {
+        let entry = self.named(pos)?;
+        if self.dat.len()? < end_of(&entry) {
             return Ok(torn_in_place_of(entry));
         }
         Ok(entry)
+    }
+
+    // What the map says of a position, through the window.
+    fn named(&mut self, pos: u64) -> io::Result<Entry>
+        requires inside { pos < 2 ^ 40 }
+        ensures size { IfOk result IsEntry }
+    {
+        if let Some(entry) = self.window.entry(pos) {
+            return Ok(entry);
+        }
+        self.window.read(&mut self.map, pos)?;
+        match self.window.entry(pos) {
+            Some(entry) => Ok(entry),
+            None => Err(ErrorKind::UnexpectedEof.into()),
+        }
     }
 
     // Puts down what a map says of a position.
     fn put(&mut self, pos: u64, entry: Entry) -> io::Result<()>
         requires inside { pos < 2 ^ 40 }
     {
-        write_at(&mut self.map, pos * ENTRY, &entry_bytes(entry))
+        self.window.forget_from(pos);
+        self.map.write_at(pos * ENTRY, &entry_bytes(entry))
     }
 
-    // Reads a block's bytes into an empty buffer.
+    // Puts an item behind all that is settled.
+    fn append(&mut self, pos: u64, entry: Entry) -> io::Result<()>
+        requires inside { pos < 2 ^ 40 }
+    {
+        self.put(pos, entry)?;
+        self.settled = Settled {
+            count: pos + 1,
+            end: end_of(&entry),
+        };
+        Ok(())
+    }
+
+    // Reads a block's bytes into the buffer. What the buffer had is written over, since clearing it takes time.
     fn read_bytes(&mut self, place: u64, count: u32, buf: &mut Vec<u8>) -> io::Result<()>
         requires size { count ≤ 1048576 }
         requires room { 1048576 ≤ vec_capacity buf.old }
@@ -121,7 +165,7 @@ impl<F: Read + Write + Seek + OpenFile> Partition<F> {
         ensures count { OnOk result (length buf.new.items ≡ count) }
     {
         buf.resize(count as usize, 0)?;
-        read_at(&mut self.dat, place, buf.as_mut_slice())
+        self.dat.read_at(place, buf.as_mut_slice())
     }
 
     // Cuts the partition at a position, and answers where the bytes of the next item begin. What is cut off is gone
@@ -133,8 +177,8 @@ impl<F: Read + Write + Seek + OpenFile> Partition<F> {
             return Err(ErrorKind::InvalidInput.into());
         }
         let end = self.end_before(pos)?;
-        shorten(&self.map, pos * ENTRY)?;
-        shorten(&self.dat, end)?;
+        self.map.shorten(pos * ENTRY)?;
+        self.dat.shorten(end)?;
         Ok(end)
     }
 
@@ -142,7 +186,7 @@ impl<F: Read + Write + Seek + OpenFile> Partition<F> {
     fn end_before(&mut self, pos: u64) -> io::Result<u64>
         requires inside { pos < 2 ^ 40 }
     {
-        let settled = self.settled.min(pos);
+        let settled = self.settled.count.min(pos);
         let mut end = self.end_at(settled)?;
         let mut is_mended = false;
         for at in settled..pos {
@@ -151,9 +195,9 @@ impl<F: Read + Write + Seek + OpenFile> Partition<F> {
             end = self.settle(at, entry, end)?;
         }
         if is_mended {
-            sync(&self.map)?;
+            self.map.sync()?;
         }
-        self.settled = pos;
+        self.settled = Settled { count: pos, end };
         Ok(end)
     }
 
@@ -161,6 +205,9 @@ impl<F: Read + Write + Seek + OpenFile> Partition<F> {
     fn end_at(&mut self, pos: u64) -> io::Result<u64>
         requires inside { pos < 2 ^ 40 }
     {
+        if pos == self.settled.count {
+            return Ok(self.settled.end);
+        }
         if pos == 0 {
             return Ok(0);
         }

@@ -6,39 +6,67 @@ use std::io::{self, ErrorKind, Read, Seek, SeekFrom, Write};
 use std::rc::Rc;
 use std::rt::Files;
 
-pub type Changes = Rc<RefCell<Vec<u8>>>;
+/// What the files were told and asked.
+#[derive(Drop)]
+pub struct Record {
+    /// For each change `w` for a write, `c` for a cut or `s` for a sync, and a letter for the file: `i` and `d` for
+    /// the maps of the index and the data partition, `I` and `D` for their bytes, `m` for the cartridge's memory and
+    /// `f` for the folder itself.
+    pub changes: Vec<u8>,
+    /// How often a file was read, moved in or asked for its length.
+    pub asked: u64,
+    /// In how many changes one fails, which writes the first half of its bytes.
+    pub fails_in: u64,
+}
 
-/// The system's files. For each change the record gets `w` for a write, `c` for a cut or `s` for a sync, and a letter
-/// for the file: `i` and `d` for the maps of the index and the data partition, `I` and `D` for their bytes, `m` for the
-/// cartridge's memory and `f` for the folder itself.
+pub type Records = Rc<RefCell<Record>>;
+
+/// The system's files, which keep a record.
 #[derive(Drop)]
 pub struct Recorded {
     rt: HostRuntime,
-    changes: Changes,
+    records: Records,
 }
 
 #[derive(Drop)]
 pub struct RecordedFile {
     file: File,
     letter: u8,
-    changes: Changes,
+    records: Records,
 }
 
 impl Recorded {
-    pub fn new(rt: HostRuntime, changes: Changes) -> Recorded {
-        Recorded { rt, changes }
+    pub fn new(rt: HostRuntime, records: Records) -> Recorded {
+        Recorded { rt, records }
     }
 }
 
-fn note(changes: &Changes, change: u8, letter: u8) -> io::Result<()> {
-    match changes.try_borrow_mut() {
-        Ok(mut changes) => {
-            changes.push(change)?;
-            changes.push(letter)?;
-            changes.push(b' ')?;
-            Ok(())
+impl RecordedFile {
+    fn changes(&self, change: u8) -> io::Result<()> {
+        match self.records.try_borrow_mut() {
+            Ok(mut record) => {
+                let fails = record.fails_in == 1;
+                record.fails_in = record.fails_in.saturating_sub(1);
+                if fails {
+                    return Err(ErrorKind::Other.into());
+                }
+                record
+                    .changes
+                    .extend_from_slice(&[b' ', change, self.letter])?;
+                Ok(())
+            }
+            Err(_) => Err(ErrorKind::Other.into()),
         }
-        Err(_) => Err(ErrorKind::Other.into()),
+    }
+
+    fn is_asked(&self) -> io::Result<()> {
+        match self.records.try_borrow_mut() {
+            Ok(mut record) => {
+                record.asked = record.asked.saturating_add(1);
+                Ok(())
+            }
+            Err(_) => Err(ErrorKind::Other.into()),
+        }
     }
 }
 
@@ -60,13 +88,17 @@ fn letter_of(path: &str) -> u8 {
 
 impl Read for RecordedFile {
     fn read(&mut self, buf: &mut [u8]) -> io::Result<usize> {
+        self.is_asked()?;
         self.file.read(buf)
     }
 }
 
 impl Write for RecordedFile {
     fn write(&mut self, buf: &[u8]) -> io::Result<usize> {
-        note(&self.changes, b'w', self.letter)?;
+        if let Err(error) = self.changes(b'w') {
+            self.file.write_all(&buf[..buf.len() / 2])?;
+            return Err(error);
+        }
         self.file.write(buf)
     }
 
@@ -77,26 +109,29 @@ impl Write for RecordedFile {
 
 impl Seek for RecordedFile {
     fn seek(&mut self, to: SeekFrom) -> io::Result<u64> {
+        self.is_asked()?;
         self.file.seek(to)
     }
 }
 
 impl OpenFile for RecordedFile {
     fn metadata(&self) -> io::Result<Metadata> {
+        self.is_asked()?;
         self.file.metadata()
     }
 
     fn set_len(&self, size: u64) -> io::Result<()> {
-        note(&self.changes, b'c', self.letter)?;
+        self.changes(b'c')?;
         self.file.set_len(size)
     }
 
     fn sync_all(&self) -> io::Result<()> {
-        note(&self.changes, b's', self.letter)?;
+        self.changes(b's')?;
         self.file.sync_all()
     }
 
     fn sync_data(&self) -> io::Result<()> {
+        self.changes(b's')?;
         self.file.sync_data()
     }
 }
@@ -118,7 +153,7 @@ impl Files for Recorded {
         Ok(RecordedFile {
             file: self.rt.open_file(how, path)?,
             letter: letter_of(path),
-            changes: self.changes.clone()?,
+            records: self.records.clone()?,
         })
     }
 
