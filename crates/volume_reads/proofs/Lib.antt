@@ -1,3 +1,5 @@
 mod ReadLemmas
 mod WaitLemmas
 mod AnswerLemmas
+mod StandLemmas
+mod FillLemmas

@@ -3,6 +3,7 @@
 
 mod reading;
 mod readings;
+mod stands;
 #[cfg(test)]
 mod tests;
 

@@ -2,23 +2,25 @@
 
 ghost use Rattle.std.specs.Prelude.{◌≡◌, ◌≢◌, ◌≤◌, ◌^◌, false, length, replicate, IfOk};
 ghost use Rattle.extent_map.specs.Cells.{Tape};
-ghost use Rattle.extent_map.specs.Replies.{bytes_in as bytes_of_piece, places_in, size_of};
+ghost use Rattle.extent_map.specs.Replies.{places_in, size_of};
 ghost use Rattle.plain_tree.specs.declared.calls.Answer.TheVariants as answers;
 ghost use Rattle.volume_reads.specs.Gathering.{IsAnswered, IsGathering};
 ghost use Rattle.volume_reads.specs.Waiting.{IsFilledBy};
 
-use extent_map::{Piece, fill, places_of};
+use crate::stands::{Stand, bytes_in, fill_at, stands_of};
+use extent_map::{Piece, places_of};
 use plain_tree::{Answer, Refusal};
 use std::alloc::Global;
 use std::marker::Model;
 use tape_types::{Bytes, List, NoMemory, Place};
 
 /// A read that waits for blocks: its place in the history, its pieces, and the bytes so far, which are zeros where a block
-/// is to come. There is room for a copy of them.
+/// is to come. There is room for a copy of them, and where the pieces stand is noted.
 #[derive(Drop)]
 pub struct Reading {
     ticket: u64,
     pieces: List<Piece>,
+    stands: Vec<Stand>,
     bytes: Vec<u8>,
     copy: Vec<u8>,
     whole: bool,
@@ -26,12 +28,13 @@ pub struct Reading {
 
 impl Model for Reading {
     ghost use Rattle.volume_reads.specs.Gathering.{Gathering, IsSized};
+    ghost use Rattle.volume_reads.specs.Stands.{AreStands};
 
     ghost Value = { Gathering };
 
     ghost view = { λ a. record { ticket = a.ticket; pieces = a.pieces; bytes = a.bytes.items; whole = a.whole } };
 
-    ghost invariant = { λ a. IsSized a.pieces a.bytes.items a.copy.items };
+    ghost invariant = { λ a. IsSized a.pieces a.bytes.items a.copy.items × AreStands a.pieces a.stands.items };
 }
 
 impl Reading {
@@ -43,11 +46,13 @@ impl Reading {
         ensures begins { IfOk result (λ g. (tape : Tape) → IsGathering tape (λ place. false) g) }
     {
         let count = size(pieces.as_slice());
+        let stands = stands_of(alloc, pieces.as_slice())?;
         let bytes = zeros(alloc, count)?;
         let copy = zeros(alloc, count)?;
         Ok(Reading {
             ticket,
             pieces,
+            stands,
             bytes,
             copy,
             whole: true,
@@ -60,7 +65,14 @@ impl Reading {
         ensures { IsFilledBy place block.now self.old self.new }
     {
         if self.whole {
-            self.whole = fill(&mut self.bytes, self.pieces.as_slice(), place, block);
+            let stands = self.stands.as_slice();
+            self.whole = fill_at(
+                stands,
+                self.pieces.as_slice(),
+                &mut self.bytes,
+                place,
+                block,
+            );
         }
     }
 
@@ -135,16 +147,6 @@ fn size(pieces: &[Piece]) -> usize
         total += bytes_in(piece);
     }
     total
-}
-
-/// How many bytes a piece has.
-fn bytes_in(piece: &Piece) -> usize
-    ensures { result ≡ bytes_of_piece piece.now }
-{
-    match piece {
-        Piece::Zeros { count } => *count as usize,
-        Piece::Stored { count, .. } => *count as usize,
-    }
 }
 
 /// So many zeros.

@@ -1,4 +1,4 @@
-ghost use Rattle.std.specs.Prelude.{◌≤◌, ◌^◌};
+ghost use Rattle.std.specs.Prelude.{◌<◌, ◌≤◌, ◌^◌, IfOk};
 ghost use Rattle.extent_map.specs.Replies.{size_of};
 
 use crate::{Reading, Readings};
@@ -192,5 +192,91 @@ fn a_read_that_failed_leaves_no_answer(rt: HostRuntime) -> Result<(), Fail> {
         reads.forget(7);
     }
     assert!(rt; reads.len() == 0 && reads.hand(7).is_none());
+    Ok(())
+}
+
+/// What stands in 64 blocks, of each its number, in the order of a file whose k-th piece stands in block 37 k modulo
+/// 64.
+const SHUFFLED: &str = "\
+    00371047205730034013502360330643165326633609461956290239124922593205421552256235084518552801\
+    381148215831044114512461340744175427";
+
+/// A number modulo 64, multiplied.
+fn times(number: u64, factor: u64) -> u64
+    ensures { result < 64 }
+{
+    number.wrapping_mul(factor) % 64
+}
+
+/// The pieces of that file: of each block the two bytes behind the first three.
+fn shuffled(alloc: Global) -> Result<List<Piece>, NoMemory>
+    ensures { IfOk result (λ pieces. size_of pieces ≤ 2 ^ 40) }
+{
+    let mut pieces = List::new(alloc);
+    for k in 0..64u64 {
+        pieces.push(Piece::Stored {
+            place: dp(times(k, 37)),
+            byte: 3,
+            count: 2,
+        })?;
+    }
+    Ok(pieces)
+}
+
+/// Reads that file, of which block `step` k modulo 64 comes as the k-th.
+fn reads_shuffled(alloc: Global, step: u64) -> Result<bool, NoMemory> {
+    let mut reading = Reading::new(alloc, 7, shuffled(alloc)?)?;
+    for k in 0..64u64 {
+        let number = times(k, step) as u8;
+        let block = [
+            b'x',
+            b'y',
+            b'z',
+            b'0' + number / 10,
+            b'0' + number % 10,
+            b'!',
+        ];
+        reading.fill(dp(u64::from(number)), &block);
+    }
+    Ok(tells(reading.answer(), Some(SHUFFLED.as_bytes())))
+}
+
+#[test]
+fn both_partitions_have_a_position(rt: HostRuntime) -> Result<(), Fail> {
+    let other = Place {
+        part: Part::Ip,
+        pos: 5,
+    };
+    let pieces = [
+        Piece::Stored {
+            place: dp(5),
+            byte: 0,
+            count: 2,
+        },
+        Piece::Stored {
+            place: other,
+            byte: 0,
+            count: 2,
+        },
+        Piece::Stored {
+            place: dp(5),
+            byte: 6,
+            count: 2,
+        },
+    ];
+    let own = List::from_vec(Vec::from_slice(rt.alloc(), &pieces)?);
+    let mut reading = Reading::new(rt.alloc(), 7, own)?;
+    reading.fill(dp(5), FIVE.bytes);
+    reading.fill(other, b"xyz");
+    assert!(rt; tells(reading.answer(), Some(b"abxygh".as_slice())));
+    Ok(())
+}
+
+#[test]
+fn many_pieces_stand_out_of_order(rt: HostRuntime) -> Result<(), Fail> {
+    assert!(rt; reads_shuffled(rt.alloc(), 1)?);
+    assert!(rt; reads_shuffled(rt.alloc(), 63)?);
+    assert!(rt; reads_shuffled(rt.alloc(), 37)?);
+    assert!(rt; reads_shuffled(rt.alloc(), 29)?);
     Ok(())
 }
