@@ -38,8 +38,8 @@ module _ (T M F : RattleType) (g : logged.Ghosts T.Denot M.Denot F.Denot) (s : I
   pass_send = view_send _ _ _ _ _ (declared_send (declared (pass.struct T M F g) (pass.the_propositions T.Denot M.Denot F.Denot)) (search (seat_send, crosses, sendable) depth 60 fits 100000, tt))
 
   board_sync : IsSync (boards.the_row T M F g)
-  board_sync = declared_sync (declared (boards.struct T M F g) (boards.the_propositions T.Denot M.Denot F.Denot _ _ _ _ _ _ _ _ _ _))
-      (search (table_sync, crosses, sendable) depth 60 fits 100000, (search (crosses, sendable) depth 60 fits 100000, tt))
+  board_sync = declared_sync (declared (boards.struct T M F g) (boards.the_propositions T.Denot M.Denot F.Denot _ _ _ _ _ _ _ _ _ _ _))
+      (search (table_sync, crosses, sendable) depth 60 fits 100000, (search (crosses, sendable) depth 60 fits 100000, (search (crosses, sendable) depth 60 fits 100000, tt)))
 
   pub lock_sync : IsSync (locks.the_row T M F g)
   lock_sync = view_sync _ _ _ _ _ (declared_sync (declared (lock.struct T M F g) (lock.the_propositions T.Denot M.Denot F.Denot)) (search (board_sync, crosses, sendable) depth 60 fits 100000, tt))

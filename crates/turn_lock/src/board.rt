@@ -6,18 +6,24 @@ ghost use Rattle.turn_lock.specs.Steps.{Turns};
 
 use crate::Logged;
 use crate::doors::Doors;
+use crate::lobby::Lobby;
 use crate::rule::{Count, Cut, Draw, LockSeat, LockTable, Look, Merge, Next, Opening, Tie};
 use std::alloc::Global;
 use std::snapshot::Snapshot;
 use std::sync::Wait;
 use std::thread;
 
-/// How often a caller looks before it sleeps: for some ten microseconds, about what a sleep and a wake cost.
+/// How often a caller that has a ticket looks before it sleeps: for some ten microseconds, about what a sleep and a
+/// wake cost.
 const LOOKS: u32 = 50;
 
-/// A table with three words and one slot, and the doors at which callers sleep.
+/// How often one without a ticket looks whether the lock is free before it waits in the lobby.
+const LOOKS_BEFORE: u32 = 4;
+
+/// A table with three words and one slot, and where callers sleep, without a ticket and with one.
 pub(crate) struct Board<T: Logged> {
     table: LockTable<T>,
+    lobby: Lobby,
     doors: Doors,
     ghost shape: { (table.shared.table_id.words ≡ 3) × (table.shared.table_id.slots ≡ 1) },
 }
@@ -45,8 +51,12 @@ impl<T: Logged> Board<T> {
         }
         match LockTable::<T>::new(alloc, &[0, 0, placed], slots, &about) {
             Ok((table, seat)) => {
-                let doors = Doors::new();
-                Ok((Board { table, doors }, seat))
+                let board = Board {
+                    table,
+                    lobby: Lobby::new(),
+                    doors: Doors::new(),
+                };
+                Ok((board, seat))
             }
             Err(refused) => {
                 let mut slots = refused.slots;
@@ -67,11 +77,41 @@ impl<T: Logged> Board<T> {
         ensures history { T.history result ≡ seat.me.0.seen }
         ensures fixed { seat.me.0.fixed ≡ Some (T.fixed result) }
     {
-        let Board { table, doors: _ } = self;
+        let Board {
+            table,
+            lobby: _,
+            doors: _,
+        } = self;
         let mut closed = table.close_with(seat);
         let slot = closed.take(0);
         closed.free();
         full(slot)
+    }
+
+    /// Whether no ticket is out.
+    fn is_free(&self) -> bool {
+        self.table.shared.peek(0) == self.table.shared.peek(1)
+    }
+
+    /// Waits until the caller may draw a ticket: the lock is free, or the caller was called.
+    pub(crate) fn await_call<R: Wait>(&self, rt: &R) {
+        for _ in 0..LOOKS_BEFORE {
+            if self.is_free() {
+                return;
+            }
+            thread::yield_now();
+        }
+        self.lobby.enter();
+        for _ in rt.forever() {
+            if self.is_free() {
+                self.lobby.take_call();
+                break;
+            }
+            if self.lobby.sleep(rt) {
+                break;
+            }
+        }
+        self.lobby.leave();
     }
 
     /// Draws a ticket.
@@ -166,6 +206,7 @@ impl<T: Logged> Board<T> {
     }
 
     /// Serves the next ticket, once the state is in the slot and its history is counted, and wakes who sleeps with it.
+    /// Where there is none, one who waits in the lobby is called.
     pub(crate) fn next(&self, seat: &mut LockSeat<T>, state: &Snapshot<T>)
         requires of { seat.old.table_id ≡ self.now.table.shared.table_id }
         requires turn { HasTurn (Some state.now.value) seat.old.me }
@@ -177,6 +218,9 @@ impl<T: Logged> Board<T> {
     {
         let served = self.table.shared.fetch_add::<Next<T>>(seat, 1, 1);
         self.doors.of(served.wrapping_add(1)).notify_all();
+        if self.is_free() {
+            self.lobby.call();
+        }
     }
 
     /// Cuts the last number off.

@@ -10,6 +10,7 @@
 
 mod board;
 mod doors;
+mod lobby;
 mod lock;
 mod logged;
 mod pass;

@@ -53,6 +53,7 @@ impl<T: Logged> TurnLock<T> {
         ensures own { own_entries T.names pass.old.numbers (T.history result)
             ≡ own_entries T.names pass.old.numbers pass.old.seen }
     {
+        self.board.await_call(rt);
         let ticket = self.board.draw(&mut pass.seat);
         self.board.await_turn(rt, &mut pass.seat, ticket);
         self.board.take(&mut pass.seat)
