@@ -9,53 +9,16 @@ use Rattle.index_model.specs.Order.{AreInOrder, IsDirAt}
 use Rattle.index_model.specs.Places.{IsAt}
 use Rattle.index_model.specs.Valid.{IsValid}
 use Rattle.index_model.specs.declared.indexes.Index.{Index}
-use Rattle.index_model.specs.declared.nodes.Kind as told_kind
-use Rattle.index_model.specs.declared.nodes.Kind.TheVariants as told_kinds
 use Rattle.index_model.specs.declared.nodes.Node as told
 use Rattle.plain_tree.proofs.NodeLemmas.{path_total}
 use Rattle.plain_tree.proofs.SeenLemmas.{unlike}
-use Rattle.file_tree.specs.Mounts.{IsBuilt, IsKindOf, IsNodeOf, IsPathOf, IsTold, IsTreeOf, Letters, Stands, laid_of}
+use Rattle.file_tree.specs.Mounts.{IsBuilt, IsNodeOf, IsPathOf, IsTold, IsTreeOf, Letters, Stands}
 use Rattle.file_tree.specs.Mounts.IsPathOf.{below}
 use Rattle.file_tree.specs.Tree.{FileTree, Nodes}
-use Rattle.file_tree.specs.declared.nodes.Kind.{Kind}
-use Rattle.file_tree.specs.declared.nodes.Kind.TheVariants as kinds
 use Rattle.file_tree.specs.declared.nodes.Node.{Node}
 use Rattle.file_tree.proofs.MountLemmas.{at_path, ends, first_built, one_node}
+use Rattle.volume_due.proofs.Trees.{is_node, node_of, some_at}
 use Rattle.file_tree.proofs.PathLemmas.{get_here, get_other, is_or_not, some_same}
-
--- ---- the node of which one is told
-
-abbrev kind_of : Letters → ℕ → told_kind.Kind → Kind
-kind_of letters size told_kinds.Dir = kinds.Dir
-kind_of letters size (told_kinds.File bytes raws) =
-    kinds.File (record { laid = laid_of letters size bytes raws; spare = 0 })
-kind_of letters size (told_kinds.Link text) = kinds.Link text
-
-abbrev node_of : Letters → ℕ → ℕ → told.Node → Node
-node_of letters size at node = record {
-  number = at;
-  uid = node.uid;
-  times = node.times;
-  readonly = node.readonly;
-  kind = kind_of letters size node.kind;
-}
-
-is_kind : (letters : Letters) (size : ℕ) (kind : told_kind.Kind)
-    → IsKindOf letters size kind (kind_of letters size kind)
-is_kind letters size told_kinds.Dir = refl
-is_kind letters size (told_kinds.File bytes raws) =
-    (record { laid = laid_of letters size bytes raws; spare = 0 }, refl, refl)
-is_kind letters size (told_kinds.Link text) = refl
-
-is_node : (letters : Letters) (size at : ℕ) (node : told.Node)
-    → IsNodeOf letters size node (node_of letters size at node)
-is_node letters size at node =
-    record { uid = refl; times = refl; readonly = refl; kind = is_kind letters size node.kind }
-
-some_at : {X : Type 0} (xs : List X) (k : ℕ) → k < length xs → (x : X) × IsAt xs k x
-some_at [] k lt = absurd (omega (arith, lt))
-some_at (x ∷ xs) zero lt = (x, refl)
-some_at (x ∷ xs) (suc k) lt = some_at xs k (omega (arith, lt))
 
 -- ---- one node more
 

@@ -3,8 +3,7 @@ use Rattle.std.specs.Prelude.{◌≡◌, ◌==◌, ℕ, cond, List, [], ◌∷�
 use Rattle.std.proofs.Common.{refl, sym, ap, subst, ◌∙◌, arith}
 use Rattle.std.proofs.lemmas.Bool.{eq-eqb}
 use Rattle.std.proofs.lemmas.Bool.Decides.{nat_tests}
-use Rattle.std.proofs.lemmas.List.{map-append}
-use Rattle.std.proofs.lemmas.List.Elements.{All-cons, All-nil, filter-append, filter_agree, filter_map-append}
+use Rattle.std.proofs.lemmas.List.Elements.{All-cons, All-nil, filter_agree, filter_map-append}
 use Rattle.std.proofs.lemmas.List.Sums.{fold-append}
 use Rattle.turn_lock.specs.Histories.{AddsOwn, own_entries}
 use Rattle.turn_lock.specs.Sums.{times}
@@ -12,6 +11,7 @@ use Rattle.turn_lock.proofs.Callers.{adds_more}
 use Rattle.volume_model.specs.Marks.{after, hand_in, hands_of, idle, kinds_of, mark, phase, place_in, places_of}
 use Rattle.volume_model.specs.declared.marks.Kind.{Kind}
 use Rattle.volume_model.specs.declared.marks.Mark.{Mark}
+use Rattle.volume_order.proofs.Marked.{kinds_more as marks_more}
 
 -- ---- entries of one's only number
 
@@ -33,19 +33,12 @@ same_kinds who numbers before whole own same = own_kinds who whole
 
 -- ---- marks that a session adds
 
-kinds_made : (who : ℕ) (kinds : List Kind) → kinds_of who (map (mark who) kinds) ≡ kinds
-kinds_made who [] = refl
-kinds_made who (kind ∷ kinds) =
-    ap (λ b. map (λ (m : Mark). m.kind) (cond b (mark who kind ∷ filter (λ (m : Mark). m.who == who) (map (mark who) kinds)) (filter (λ (m : Mark). m.who == who) (map (mark who) kinds)))) (eq-eqb who who refl)
-    ∙ ap (λ l. kind ∷ l) (kinds_made who kinds)
-
 pub kinds_more : (who : ℕ) (old new : List Mark) (kinds : List Kind) → new ≡ old ++ map (mark who) kinds
     → kinds_of who new ≡ kinds_of who old ++ kinds
 kinds_more who old new kinds more =
     ap (kinds_of who) more
-    ∙ ap (map (λ (m : Mark). m.kind)) (filter-append (λ (m : Mark). m.who == who) old (map (mark who) kinds))
-    ∙ map-append (λ (m : Mark). m.kind) (filter (λ (m : Mark). m.who == who) old) (filter (λ (m : Mark). m.who == who) (map (mark who) kinds))
-    ∙ ap (λ l. kinds_of who old ++ l) (kinds_made who kinds)
+    ∙ marks_more who who old kinds
+    ∙ ap (λ b. kinds_of who old ++ cond b kinds []) (eq-eqb who who refl)
 
 all_own : (who : ℕ) (kinds : List Kind) → All (λ (m : Mark). m.who ≡ who) (map (mark who) kinds)
 all_own who [] = All-nil (λ (m : Mark). m.who ≡ who)

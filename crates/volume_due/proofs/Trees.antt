@@ -18,13 +18,13 @@ use Rattle.file_tree.proofs.PathLemmas.{number_is}
 use Rattle.volume_due.specs.Laws.{MountsHaveTrees}
 
 -- the node of which one is told
-abbrev kind_of : Letters → ℕ → told_kind.Kind → Kind
+abbrev pub kind_of : Letters → ℕ → told_kind.Kind → Kind
 kind_of letters size told_kinds.Dir = kinds.Dir
 kind_of letters size (told_kinds.File bytes raws) =
     kinds.File (record { laid = laid_of letters size bytes raws; spare = 0 })
 kind_of letters size (told_kinds.Link text) = kinds.Link text
 
-abbrev node_of : Letters → ℕ → ℕ → told.Node → Node
+abbrev pub node_of : Letters → ℕ → ℕ → told.Node → Node
 node_of letters size at node = record {
   number = at;
   uid = node.uid;
@@ -33,19 +33,19 @@ node_of letters size at node = record {
   kind = kind_of letters size node.kind;
 }
 
-is_kind : (letters : Letters) (size : ℕ) (kind : told_kind.Kind)
+pub is_kind : (letters : Letters) (size : ℕ) (kind : told_kind.Kind)
     → IsKindOf letters size kind (kind_of letters size kind)
 is_kind letters size told_kinds.Dir = refl
 is_kind letters size (told_kinds.File bytes raws) =
     (record { laid = laid_of letters size bytes raws; spare = 0 }, refl, refl)
 is_kind letters size (told_kinds.Link text) = refl
 
-is_node : (letters : Letters) (size at : ℕ) (node : told.Node)
+pub is_node : (letters : Letters) (size at : ℕ) (node : told.Node)
     → IsNodeOf letters size node (node_of letters size at node)
 is_node letters size at node =
     record { uid = refl; times = refl; readonly = refl; kind = is_kind letters size node.kind }
 
-some_at : {X : Type 0} (xs : List X) (k : ℕ) → k < length xs → (x : X) × IsAt xs k x
+pub some_at : {X : Type 0} (xs : List X) (k : ℕ) → k < length xs → (x : X) × IsAt xs k x
 some_at [] k lt = absurd (omega (arith, lt))
 some_at (x ∷ xs) zero lt = (x, refl)
 some_at (x ∷ xs) (suc k) lt = some_at xs k (omega (arith, lt))

@@ -32,7 +32,7 @@ kinds_by who w (kind ∷ kinds) = by (who == w) refl (kinds_by who w kinds)
     by true is more = ap (λ l. kind ∷ l) (more ∙ ap (λ b. cond b kinds []) is)
     by false is more = more ∙ ap (λ b. cond b kinds []) is
 
-kinds_more : (who w : ℕ) (marks : List Mark) (kinds : List Kind) → kinds_of w (marks ++ map (mark who) kinds) ≡ kinds_of w marks ++ cond (who == w) kinds []
+pub kinds_more : (who w : ℕ) (marks : List Mark) (kinds : List Kind) → kinds_of w (marks ++ map (mark who) kinds) ≡ kinds_of w marks ++ cond (who == w) kinds []
 kinds_more who w marks kinds =
     ap (map (λ (m : Mark). m.kind)) (filter-append (λ (m : Mark). m.who == w) marks (map (mark who) kinds))
     ∙ map-append (λ (m : Mark). m.kind) (filter (λ (m : Mark). m.who == w) marks) (filter (λ (m : Mark). m.who == w) (map (mark who) kinds))
