@@ -9,7 +9,7 @@ trap 'rm -rf "$copy"' EXIT
 tar -C "$top" --exclude=out -cf - crates crates.txt HANDLES | tar -C "$copy" -xf -
 sed -i 's/^served_volume: /&sample_cartridges format_volume mount_recover index_model /' "$copy/crates.txt"
 src=$copy/crates/served_volume/src
-for name in blocks images playing silent telling tests rows; do
+for name in blocks images playing silent telling tests rows closes; do
   cp "$here/$name.rt.in" "$src/$name.rt"
   printf '#[cfg(test)]\nmod %s;\n' "$name" >> "$src/lib.rt"
 done
