@@ -1,8 +1,8 @@
 #!/usr/bin/env bash
 # Runs the tests of `serve`, with no proof, on a copy of the crates in which they stand in the program in place of its
 # own. A line tells how many have passed; where one fails, all that was said is told.
-# With --only memory or --only logs as the first words: those of that file, which are no tests of the gate. What follows
-# goes to `rt try`, as `--fail-alloc 1..`, or `-- WORD` for the tests whose names have that word. Then all is told.
+# With --only logs as the first words: those of that file, which are no tests of the gate. What follows goes to
+# `rt try`, as `-- WORD` for the tests whose names have that word. Then all is told.
 set -eu
 here=$(cd "$(dirname "$0")" && pwd)
 top=$(cd "$here/../.." && pwd)
@@ -13,7 +13,7 @@ names="trials judging chance worked written crashes faults threads"
 whole=yes
 if [ "${1:-}" = --only ]; then
   whole=no
-  names="trials judging chance $2"
+  names="trials chance $2"
   shift 2
 fi
 tar -C "$top" --exclude=out -cf - crates crates.txt HANDLES | tar -C "$copy" -xf -
