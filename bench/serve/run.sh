@@ -1,6 +1,7 @@
 #!/usr/bin/env bash
 # Runs the tests of `serve`, with no proof, on a copy of the crates in which they stand in the program in place of its
 # own. A line tells how many have passed; where one fails, all that was said is told.
+# With --all as the first word: also those that take long, which stand behind "By hand." and are no tests of the gate.
 # With --only logs as the first words: those of that file, which are no tests of the gate. What follows goes to
 # `rt try`, as `-- WORD` for the tests whose names have that word. Then all is told.
 set -eu
@@ -11,6 +12,11 @@ trap 'rm -rf "$copy"' EXIT
 
 names="trials judging chance worked written crashes faults threads"
 whole=yes
+skipped='^// By hand\.$'
+if [ "${1:-}" = --all ]; then
+  skipped='^$.'
+  shift
+fi
 if [ "${1:-}" = --only ]; then
   whole=no
   names="trials chance $2"
@@ -27,7 +33,7 @@ for name in $(grep -A 1 '^#\[cfg(test)\]$' "$src/main.rt" | sed -n 's/^mod \(.*\
 done
 sed -i '/^#\[cfg(test)\]$/,+1d' "$src/main.rt"
 for name in $names; do
-  cp "$here/$name.rt.in" "$src/$name.rt"
+  sed "\\|$skipped|,/^}\$/d" "$here/$name.rt.in" > "$src/$name.rt"
   printf '#[cfg(test)]\nmod %s;\n' "$name" >> "$src/main.rt"
 done
 cd "$copy/crates/ltfs_server"
