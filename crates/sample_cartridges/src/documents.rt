@@ -21,8 +21,8 @@ pub struct Head {
     pub generation: u64,
     /// The letter of its partition, and its first block there.
     pub here: (char, u64),
-    /// The block of the data partition to which it points back.
-    pub back: Option<u64>,
+    /// The letter of the partition to which it points back, and the block there.
+    pub back: Option<(char, u64)>,
 }
 
 /// An index of the data partition.
@@ -31,7 +31,15 @@ pub fn on_dp(generation: u64, block: u64, back: Option<u64>) -> Head {
         uuid: UUID,
         generation,
         here: ('b', block),
-        back,
+        back: on_b(back),
+    }
+}
+
+/// A pointer to this block of the data partition.
+fn on_b(block: Option<u64>) -> Option<(char, u64)> {
+    match block {
+        Some(block) => Some(('b', block)),
+        None => None,
     }
 }
 
@@ -41,7 +49,7 @@ pub fn on_ip(generation: u64, back: Option<u64>) -> Head {
         uuid: UUID,
         generation,
         here: ('a', 5),
-        back,
+        back: on_b(back),
     }
 }
 
@@ -59,10 +67,10 @@ pub fn front(alloc: Global, head: Head, highest: u64) -> Result<String, NoMemory
 <updatetime>2024-01-02T03:04:05.000000000Z</updatetime>\
 <location><partition>{letter}</partition><startblock>{block}</startblock></location>"
     )?;
-    if let Some(block) = head.back {
+    if let Some((letter, block)) = head.back {
         write!(
             text,
-            "<previousgenerationlocation><partition>b</partition><startblock>{block}</startblock>\
+            "<previousgenerationlocation><partition>{letter}</partition><startblock>{block}</startblock>\
 </previousgenerationlocation>"
         )?;
     }
@@ -102,6 +110,34 @@ fn with_file(
     text(alloc, head, file.as_str())
 }
 
+/// A file with all bytes of a block of the partition with this letter.
+fn file_of(
+    alloc: Global,
+    uid: u64,
+    name: char,
+    letter: char,
+    block: u64,
+) -> Result<String, NoMemory> {
+    Ok(format!(in alloc;
+        "<file><fileuid>{uid}</fileuid><name>{name}</name><length>4096</length>{TIMES}<extentinfo><extent>\
+<fileoffset>0</fileoffset><partition>{letter}</partition><startblock>{block}</startblock>\
+<byteoffset>0</byteoffset><bytecount>4096</bytecount></extent></extentinfo></file>"
+    )?)
+}
+
+/// The first index of a data partition, at its block 6, with a file in a block 4 of the partition with this letter.
+fn with_block_on(alloc: Global, letter: char) -> Result<String, NoMemory> {
+    let file = file_of(alloc, 2, 'a', letter, 4)?;
+    text(alloc, on_dp(1, 6, None), file.as_str())
+}
+
+/// The same with two files in a block 8 of the data partition, `/b` before `/a`.
+fn with_two_files(alloc: Global) -> Result<String, NoMemory> {
+    let mut files = file_of(alloc, 3, 'b', 'b', 8)?;
+    files.push_str(file_of(alloc, 2, 'a', 'b', 8)?.as_str())?;
+    text(alloc, on_dp(1, 6, None), files.as_str())
+}
+
 /// The first index of a data partition, at its block 6, with a file.
 pub fn with_extent(alloc: Global, block: u64, byte: u64, count: u64) -> Result<String, NoMemory> {
     with_file(alloc, on_dp(1, 6, None), block, byte, count)
@@ -119,6 +155,9 @@ pub fn document(alloc: Global, letter: u8) -> Result<String, NoMemory> {
         b'x' => archive(alloc, ('b', 9), 5),
         b'c' => archive(alloc, ('a', 5), 9),
         b'f' => unordered(alloc),
+        b'2' => with_block_on(alloc, 'a'),
+        b'3' => with_block_on(alloc, 'c'),
+        b'4' => with_two_files(alloc),
         _ => text(alloc, on_data_partition(letter), ""),
     }
 }
@@ -139,6 +178,20 @@ fn on_data_partition(letter: u8) -> Head {
         b'A' => on_dp(1, 5, Some(8)),
         b'C' => on_dp(2, 8, Some(8)),
         b'D' => on_dp(2, 8, Some(11)),
+        b'P' => on_dp(3, 11, Some(8)),
+        b'Q' => on_dp(3, 11, Some(5)),
+        b'5' => Head {
+            here: ('a', 5),
+            ..on_dp(1, 5, None)
+        },
+        b'8' => Head {
+            back: Some(('a', 5)),
+            ..on_dp(2, 8, None)
+        },
+        b'X' => Head {
+            uuid: OTHER,
+            ..on_dp(1, 6, None)
+        },
         _ => on_index_partition(letter),
     }
 }
@@ -152,6 +205,23 @@ fn on_index_partition(letter: u8) -> Head {
         b'e' => on_ip(4, Some(9)),
         b'E' => on_ip(1, Some(8)),
         b'F' => on_ip(1, Some(11)),
+        b'R' => on_ip(3, Some(5)),
+        b'6' => Head {
+            here: ('b', 5),
+            ..on_ip(1, Some(5))
+        },
+        b'7' => Head {
+            here: ('a', 6),
+            ..on_ip(1, Some(5))
+        },
+        b'9' => Head {
+            back: Some(('a', 5)),
+            ..on_ip(1, None)
+        },
+        b'W' => Head {
+            uuid: OTHER,
+            ..on_ip(1, Some(5))
+        },
         _ => on_ip(1, None),
     }
 }

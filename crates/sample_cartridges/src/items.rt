@@ -47,6 +47,25 @@ fn cut(alloc: Global, text: &str) -> Result<Item, NoMemory>
     block(alloc, &bytes[..bytes.len().saturating_sub(1)])
 }
 
+/// The label of the data partition with one fact changed: who made it, when, the volume, the size of a block, whether
+/// blocks are compressed, or a letter of a partition.
+fn other_label(alloc: Global, letter: u8) -> Result<Item, NoMemory>
+    ensures { IfOk result IsItem }
+{
+    let (old, new) = match letter {
+        b'H' => ("1.0.0", "1.0.1"),
+        b'I' => (":05.", ":06."),
+        b'J' => ("d2ea", "d2eb"),
+        b'K' => ("4096", "8192"),
+        b'L' => ("false", "true"),
+        b'M' => ("<index>a", "<index>c"),
+        b'N' => ("b</", "c</"),
+        _ => ("b</", "a</"),
+    };
+    let text = DP_LABEL.replace(alloc, old, new)?;
+    block(alloc, text.as_bytes())
+}
+
 /// An item by its letter.
 fn item(alloc: Global, letter: u8) -> Result<Item, NoMemory>
     ensures { IfOk result IsItem }
@@ -57,6 +76,7 @@ fn item(alloc: Global, letter: u8) -> Result<Item, NoMemory>
         b'a' => block(alloc, IP_LABEL.as_bytes()),
         b'b' => block(alloc, DP_LABEL.as_bytes()),
         b'B' => cut(alloc, DP_LABEL),
+        b'H'..=b'O' => other_label(alloc, letter),
         b'm' => Ok(Item::Mark),
         b't' => Ok(Item::Torn),
         b'd' => block(alloc, b"abc"),

@@ -1,8 +1,9 @@
 //! Cartridges by hand, for tests: each partition by the letters of its items.
 //!
-//! An item is a letter: `v` is a VOL1 record, and `V` one with a wrong byte. `a` and `b` are the labels of the two partitions,
-//! and `B` is the second one without its last byte. `m` is a mark, `t` a Torn, `d` and `h` are blocks of data, `z` the
-//! document of an empty volume without its last byte. Any other letter is the document of an index (`documents.rt`).
+//! An item is a letter: `v` is a VOL1 record, and `V` one with a wrong byte. `a` and `b` are the labels of the two
+//! partitions, `B` is the second one without its last byte, and `H` to `O` are that one with a fact changed. `m` is a
+//! mark, `t` a Torn, `d` and `h` are blocks of data, `z` the document of an empty volume without its last byte. Any
+//! other letter is the document of an index (`documents.rt`).
 #![tactic(auto)]
 
 mod documents;
