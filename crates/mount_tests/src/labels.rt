@@ -51,6 +51,15 @@ vma vmbm|Some(Label(Ip))
 vmam vmBm|Some(Label(Dp))
 vmam vmam|Some(LabelsDiffer)
 vmbm vmam|Some(LabelsDiffer)
+vmbm vmbm|Some(LabelsDiffer)
+vmam vmHm|Some(LabelsDiffer)
+vmam vmIm|Some(LabelsDiffer)
+vmam vmJm|Some(LabelsDiffer)
+vmam vmKm|Some(LabelsDiffer)
+vmam vmLm|Some(LabelsDiffer)
+vmam vmMm|Some(LabelsDiffer)
+vmam vmNm|Some(LabelsDiffer)
+vmOm vmOm|Some(LabelsDiffer)
 vmam vmbm|None";
     for row in rows.split('\n') {
         check(&rt, rt.alloc(), row)?;

@@ -27,6 +27,8 @@ fn text_of(alloc: Global, found: &Mounted) -> Result<String, NoMemory> {
     push_if(&mut text, found.dp_done, " dp_done")?;
     push_if(&mut text, found.ip_done, " ip_done")?;
     push_if(&mut text, found.noted, " noted")?;
+    let of_ip = found.label.location == found.label.index;
+    push_if(&mut text, !of_ip, " label of the data partition")?;
     Ok(text)
 }
 
@@ -121,7 +123,26 @@ vmammGm vmbmmpm|WrongPointer(Place { part: Ip, pos: 5 })
 vmammqm vmbmmum|WrongVolume(Place { part: Dp, pos: 5 })
 vmammym vmbmmwm|BadExtent(2)
 vmammqm vmbmmzm|BadIndex(Place { part: Dp, pos: 5 }, Syntax(796))
-vmammqm vmbmmpmmgm|WrongPointer(Place { part: Dp, pos: 8 })",
+vmammqm vmbmmpmmgm|WrongPointer(Place { part: Dp, pos: 8 })
+vmammqm vmbmm5m|WrongPointer(Place { part: Dp, pos: 5 })
+vmammqm vmbmmpmm8m|WrongPointer(Place { part: Dp, pos: 8 })
+vmammqm vmbmmpmmnmmQm|WrongPointer(Place { part: Dp, pos: 11 })
+vmamm6m vmbmmpm|WrongPointer(Place { part: Ip, pos: 5 })
+vmamm7m vmbmmpm|WrongPointer(Place { part: Ip, pos: 5 })
+vmamm9m vmbmmpm|WrongPointer(Place { part: Ip, pos: 5 })
+vmamm9m vmbmmpmmnm|WrongPointer(Place { part: Ip, pos: 5 })
+vmammim vmbmmpmmnm|WrongPointer(Place { part: Ip, pos: 5 })
+vmammRm vmbmmpmmnm|WrongPointer(Place { part: Ip, pos: 5 })
+vmammWm vmbmmpm|WrongVolume(Place { part: Ip, pos: 5 })
+vmammqm vmbmmXm|WrongVolume(Place { part: Dp, pos: 5 })
+vmam vmbmdm4m|BadExtent(3)
+vmammm vmBm|Label(Dp)
+vmammm vmammm|LabelsDiffer
+vmammm vmbmmm|Layout(Place { part: Ip, pos: 5 })
+vmammdm vmbmmm|Layout(Place { part: Dp, pos: 5 })
+vmammdm vmbmmdm|BadIndex(Place { part: Dp, pos: 5 }, Syntax(0))
+vmammWm vmbmmrm|WrongPointer(Place { part: Dp, pos: 5 })
+vmammsm vmbmmwm|WrongPointer(Place { part: Ip, pos: 5 })",
     )
 }
 
@@ -157,7 +178,15 @@ vmammim vmbmmpm|Ip 5 generation 2 nodes 1 ends 4 7 last 5 ip_done
 vmammGm vmbm|Ip 5 generation 1 nodes 1 ends 4 4
 vmammqmt vmbmmpm|Dp 5 generation 1 nodes 1 ends 4 7 last 5 ip_on dp_done
 vmammqmd vmbmmpm|Dp 5 generation 1 nodes 1 ends 8 7 last 5 ip_on dp_done
-vmammcm vmbmmpmhmxm|Dp 9 generation 3 nodes 4 ends 4 11 last 9 ip_on dp_done ip_done",
+vmammcm vmbmmpmhmxm|Dp 9 generation 3 nodes 4 ends 4 11 last 9 ip_on dp_done ip_done
+vmammqm vmbmmpmmnmmPm|Dp 11 generation 3 nodes 1 ends 4 13 last 11 ip_on dp_done
+vmammjm vmbmmpmmnmmPm|Dp 11 generation 3 nodes 1 ends 4 13 last 11 ip_on dp_done
+vmammym vmbmmpm|Dp 5 generation 1 nodes 1 ends 4 7 last 5 ip_on dp_done ip_done
+vmam vmbmdm2m|BadExtent(2)
+vmamd vmbmdm2m|Dp 6 generation 1 nodes 2 ends 5 8 last 6 ip_on dp_done
+vmammlm vmbmdm2m|BadExtent(2)
+vmammlmd vmbmdm2m|Dp 6 generation 1 nodes 2 ends 8 8 last 6 ip_on dp_done
+vmamd vmbmdm3m|BadExtent(2)",
     )
 }
 
@@ -264,7 +293,11 @@ vmammqm vmbmmpm 67=98 67=98|Dp 5 generation 1 nodes 1 ends 4 7 last 5 ip_on dp_d
 vmammqm vmbmmpm k 69=9|Dp 5 generation 1 nodes 1 ends 4 7 last 5 ip_on dp_done ip_done
 vmammcm vmbmmpmhmxm 16=3 16=3,24=9|Dp 9 generation 3 nodes 4 ends 4 11 last 9 ip_on dp_done ip_done noted
 vmammcm vmbmmpmhmxm 16=3,24=9 16=3,24=9|Dp 9 generation 3 nodes 4 ends 4 11 last 9 ip_on dp_done ip_done
-vmammcm vmbmmpmhmxm 16=3 16=3|Dp 9 generation 3 nodes 4 ends 4 11 last 9 ip_on dp_done ip_done",
+vmammcm vmbmmpmhmxm 16=3 16=3|Dp 9 generation 3 nodes 4 ends 4 11 last 9 ip_on dp_done ip_done
+vmammqm vmbmmpmmnm k 16=2,24=8|Dp 8 generation 2 nodes 1 ends 4 10 last 8 ip_on dp_done noted
+vmammqm vmbmmpmmnm 16=2 16=2,24=8|Dp 8 generation 2 nodes 1 ends 4 10 last 8 ip_on dp_done
+vmam vmbmmpm k k|Dp 5 generation 1 nodes 1 ends 4 7 last 5 ip_on dp_done
+vmammqm vmbmmpmt k k|Dp 5 generation 1 nodes 1 ends 4 7 last 5 ip_on ip_done noted",
     )
 }
 
