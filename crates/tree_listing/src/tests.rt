@@ -124,3 +124,16 @@ f 7 0 /%C3%A9\ngeneration 3 b 9\n",
     )?;
     Ok(())
 }
+
+/// Lines that are passed on before the last ones, since they are so long.
+#[test]
+fn long_lines_are_listed_once(rt: HostRuntime) -> Result<(), NoMemory> {
+    let alloc = rt.alloc();
+    let long = "x".repeat(alloc, 33_000)?;
+    let words = format!(in alloc; "D|1||L|2|a|{long}|F|3|b|7|L|4|c|{long}|F|5|d|8|/")?;
+    let output = format!(in alloc;
+        "d 1 /\nl 2 /a {long}\nf 3 7 /b\nl 4 /c {long}\nf 5 8 /d\ngeneration 3 b 9\n"
+    )?;
+    check(&rt, alloc, words.as_str(), &[], output.as_str())?;
+    check(&rt, alloc, words.as_str(), &[1], "")
+}
