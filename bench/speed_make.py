@@ -5,7 +5,8 @@ usage: speed_make.py PROGRAM [--count N] [--rounds N]
 
 Each run is on a volume in a folder that was just formatted, with blocks of 4,096 bytes. Of all rounds the least is printed:
 time by the clock, processor time (user and system), and the most memory. `serve` runs the calls of `make 128` as those of
-one session, which may have 1,024; each session's calls keep their order.
+one session, which may have 1,024; each session's calls keep their order. So it does 1,024 calls of 16 sessions: those of
+`make 64`, and the same once more in other folders.
 """
 import argparse
 import os
@@ -19,10 +20,20 @@ TIME = "2024-01-02T03:04:05.000000000Z"
 UUID = "30a91a08-daae-48d1-ae75-69804e61d2ea"
 
 
-def script(sessions):
-    """The calls of `make 128`, of which those of several sessions are one's where fewer are told."""
-    calls = [line.split(" ", 1) for line in make_shape(128)]
+def dealt(calls, sessions):
+    """The script in which the calls of several sessions are one's where fewer are told."""
     return "".join(f"{(int(who) - 1) % sessions + 1} {call}\n" for who, call in calls).encode()
+
+
+def eight():
+    """The calls of `make 128`."""
+    return [line.split(" ", 1) for line in make_shape(128)]
+
+
+def sixteen():
+    """The calls of `make 64`, and beside each the same of another session in a folder of its own."""
+    calls = [line.split(" ", 1) for line in make_shape(64)]
+    return [both for who, call in calls for both in ((who, call), (str(int(who) + 8), call.replace("/s", "/t")))]
 
 
 def run(words, text):
@@ -64,8 +75,8 @@ def main():
     program = os.path.abspath(asked.program)
     rows = [(f"make {asked.count}", ["make", str(asked.count)], b"")]
     rows.append(("make 128", ["make", "128"], b""))
-    rows.append(("serve, 8 sessions", ["serve"], script(8)))
-    rows.append(("serve, 1 session", ["serve"], script(1)))
+    rows += [(f"serve, calls of 8 sessions by {n}", ["serve"], dealt(eight(), n)) for n in (8, 1)]
+    rows += [(f"serve, calls of 16 sessions by {n}", ["serve"], dealt(sixteen(), n)) for n in (16, 1)]
     have = os.cpu_count() or 1
     for name, command, text in rows:
         for processors in [n for n in (1, 2, 4, 8) if n <= have]:
