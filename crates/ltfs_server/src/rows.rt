@@ -1,7 +1,6 @@
 //! Scripts that are run on cartridges by hand, and their logs.
 
 use crate::running::{CameTo, run_calls};
-use crate::tests::ran;
 use sample_cartridges::drive_of;
 use session_script::{Log, log_text, read_script};
 use std::alloc::Global;
@@ -199,44 +198,4 @@ fn a_fault_ends_a_sync_and_the_next_one_goes_on(rt: HostRuntime) -> Result<(), F
         true,
         "1 create /a;1 write /a 0 text:hello;1 sync;1 sync|0 1.0 ok;1 1.1 ok;2 1.2 fault 0 1;3 1.3 synced;6",
     )
-}
-
-/// `list`, run on a cartridge by letters, ends so: a row is the cartridge, and behind a bar the status and what is
-/// written.
-fn check_list<R: Abort + Threads + Wait + Sync>(
-    rt: &R,
-    alloc: Global,
-    row: &str,
-) -> Result<(), Fail> {
-    let mut parts = row.split('|');
-    let mut words = parts.next().unwrap_or("").split(' ');
-    let ip = words.next().unwrap_or("");
-    let dp = words.next().unwrap_or("");
-    let want = lines(alloc, parts.next().unwrap_or(""))?;
-    let drive = drive_of(alloc, ip, dp, List::new(alloc))?;
-    let (ended, sink) = ran(rt, alloc, "list D", drive, "", &[], &[])?;
-    let Ok(text) = str::from_utf8(sink.bytes().as_slice()) else {
-        return Err("a listing isn't UTF-8".into());
-    };
-    let status = ended.status;
-    let told = format!(in alloc; "{status}\n{text}")?;
-    assert_eq!(rt; told.as_str(), want.as_str());
-    Ok(())
-}
-
-#[test]
-fn hostile_cartridges_are_listed_or_told(rt: HostRuntime) -> Result<(), Fail> {
-    let rows = "vmammqm vmbmmm|3;volume Layout dp 5;
-vmammqm vmbmmrm|3;volume WrongPointer dp 5;
-vmammsm vmbmmpm|3;volume WrongPointer ip 5;
-vmammqm vmbmmpt|3;volume WrongPointer ip 5;
-vmammqm vmbmmum|3;volume WrongVolume dp 5;
-vmammym vmbmmwm|3;volume BadExtent 2;
-vmammqm vmbmmzm|3;volume BadIndex dp 5 Syntax 796;
-vmamm1m vmbmdm0m|0;d 1 /;f 2 4097 /a;generation 1 b 6;
-vmam vmbmmpmdmfm|0;d 1 /;f 3 0 /a;d 9 /b;f 7 0 /b/x;f 8 0 /b/y;l 2 /z b;generation 3 b 9;";
-    for row in rows.split('\n') {
-        check_list(&rt, rt.alloc(), row)?;
-    }
-    Ok(())
 }
