@@ -115,7 +115,7 @@ module _ {D : Type 0} (drive : Ghosts D)
         ∙ are_replays g p.on p.listed.history (length p.listed.history))
 
     shown_by : (last : Stocked) (due : Bool) (new : D) → IsAdmittedOnIp g st1 at mid last due
-        → AllDone drive last.layout.ops (lasts_of mid) (record { flush = due; notes = due || not noted }) p.drive new
+        → AllDone drive last.layout.ops (lasts_of mid) (due || not noted) p.drive new
         → CanRead drive fixed
         → IsDoneClose cartridges (seen drive fixed.first) (seen drive new) fixed.mounted fixed.tree tree
         st1.space.newest
@@ -124,7 +124,7 @@ module _ {D : Type 0} (drive : Ghosts D)
         shown_done drive fixed.first new fixed.mounted fixed.tree tree st1.space.newest mid.frame.generation
         (mid_generation drive fixed next at p can mid dp)
         (shown_last drive fixed next at p can read mid dp ip.1.fits new
-        (subst (λ (l : List Op). AllDone drive l (lasts_of mid) (record { flush = true; notes = true }) p.drive new)
+        (subst (λ (l : List Op). AllDone drive l (lasts_of mid) true p.drive new)
         (ip.1.ops
         ∙ ap (λ (l : List Op). l ++ closing_ops drive fixed next at p can) (mid_ops drive fixed next at p can mid dp))
         all))
@@ -135,22 +135,18 @@ module _ {D : Type 0} (drive : Ghosts D)
         (shown_still drive fixed next at p can read mid dp quiet noted new (sym is_noted)
         (known_alike read.held fixed.mounted (can.runs.closes.mounts read.held read.told) quiet.ip_done quiet.dp_done fixed.tree
         read.reads_as)
-        (subst (λ (l : List Op). AllDone drive l (lasts_of mid) (record { flush = false; notes = not noted }) p.drive
-        new)
+        (subst (λ (l : List Op). AllDone drive l (lasts_of mid) (not noted) p.drive new)
         (ap (λ (s : Stocked). s.layout.ops) ip.1 ∙ mid_ops drive fixed next at p can mid dp) all))
 
     went_end : (last : Stocked) (due : Bool) (new : D) (result : Result Unit Twin) → AdmitsOnIp at p.stock mid last due
-        → EndsWith drive last.layout.ops (lasts_of mid) (record { flush = due; notes = due || not noted }) p.drive new
-        result → GoesTo drive p.drive new result → (CanServe drive fixed → Survives drive v new)
+        → EndsWith drive last.layout.ops (lasts_of mid) (due || not noted) p.drive new result → GoesTo drive p.drive new result → (CanServe drive fixed → Survives drive v new)
         → EndsAsPromised drive fixed next at p new (close_end mid.frame.generation result)
     went_end last due new (Ok done) ip ends goes crash =
         with_end new (outcomes.Done mid.frame.generation) goes.goes as_many_nodes (
           not_short (tape_on planned) g p.on p.listed.history at p.stock
               (admitted.held drive fixed next at p planned can.runs.tied) mid last due dp ip,
           λ read. shown_by last due new (admitted_ip drive fixed next at p can mid dp last due ip)
-              (all_done drive last.layout.ops (lasts_of mid) (record { flush = due; notes = due || not noted })
-              p.drive new
-              (Ok done) ends refl) read,
+              (all_done drive last.layout.ops (lasts_of mid) (due || not noted) p.drive new (Ok done) ends refl) read,
         )
         crash
     went_end last due new (Err counts) ip ends goes crash =
@@ -167,9 +163,7 @@ module _ {D : Type 0} (drive : Ghosts D)
       (λ serve. short_survives drive fixed next at p can counts_now serve mid dp new result does)
   ended _ _ (finish.went mid last due new result dp ip ends) =
       went_end mid dp last due new result ip ends
-      (ends_to drive last.layout.ops (lasts_of mid) (record { flush = due; notes = due || not noted }) p.drive new
-      result
-      ends)
+      (ends_to drive last.layout.ops (lasts_of mid) (due || not noted) p.drive new result ends)
       (λ serve. admitted_survives drive fixed next at p can counts_now serve mid dp last due (due || not noted) new
       result
       (admitted_ip drive fixed next at p can mid dp last due ip) ends)

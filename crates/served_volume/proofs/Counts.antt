@@ -14,8 +14,8 @@ use Rattle.head_core.specs.Steps.{IsMade}
 use Rattle.head_core.specs.declared.work.StepDone.{StepDone}
 use Rattle.head_core.specs.declared.work.StepDone.TheVariants as outcome
 use Rattle.served_volume.specs.Commands as closing
-use Rattle.served_volume.specs.Commands.{AreOpsDone, Behind, DoesOps, EndsWith, FailsOp, IsDpNoteWritten, IsFlushed}
-use Rattle.served_volume.specs.Commands.{IsFlushedIf, IsNoteWritten, Lasts, WritesNotes, WritesNotesIf, end_of_flush}
+use Rattle.served_volume.specs.Commands.{AreOpsDone, DoesOps, EndsWith, FailsOp, IsDpNoteWritten, IsNoteWritten}
+use Rattle.served_volume.specs.Commands.{Lasts, WritesNotes, WritesNotesIf}
 
 pub record GoesOn {D : Type 0} (drive : Ghosts D) (old new : D) : Type 0 where
   pub commands : drive.commands old ≤ drive.commands new
@@ -115,26 +115,13 @@ module _ {D : Type 0} (drive : Ghosts D) where
   ops_to ops old new (Ok done) does = record { goes = does_on ops [] old new does; tells = tt }
   ops_to ops old new (Err counts) fails = fails_to ops old new counts fails
 
-  -- ---- a flush
-
-  flushed_to : (old new : D) (result : Result Unit Twin) → IsFlushed drive old new result
-      → GoesTo drive old new result
-  flushed_to old new (Ok done) flush =
-      record { goes = made_on _ _ outcome.Flushed old new flush.1.made; tells = tt }
-  flushed_to old new (Err counts) flush = failed_to _ _ counts old new flush.1.made
+  -- ---- notes
 
   not_to : (old new : D) (result : Result Unit Twin) → (new ≡ old) × (result ≡ Ok tt) → GoesTo drive old new result
   not_to old new result is = record {
     goes = subst (λ (d : D). GoesOn drive old d) (sym is.0) (stays old);
     tells = subst (λ (r : Result Unit Twin). Tells drive old new r) (sym is.1) tt;
   }
-
-  flushed_if : (flush : Bool) (old new : D) (result : Result Unit Twin) → IsFlushedIf drive flush old new result
-      → GoesTo drive old new result
-  flushed_if true old new result is = flushed_to old new result is
-  flushed_if false old new result is = not_to old new result is
-
-  -- ---- notes
 
   attribute_on : {T : Type 0} (result : Result T Twin) (old new : D) → IsAttributeCommand drive result old new
       → GoesOn drive old new
@@ -183,13 +170,8 @@ module _ {D : Type 0} (drive : Ghosts D) where
 
   -- ---- all of it
 
-  pub ends_to : (ops : List Op) (lasts : Lasts) (then_do : Behind) (old new : D) (result : Result Unit Twin)
-      → EndsWith drive ops lasts then_do old new result → GoesTo drive old new result
-  ends_to ops lasts then_do _ _ _ (closing.in_ops counts old new fails) = fails_to ops old new counts fails
-  ends_to ops lasts then_do _ _ _ (closing.in_flush counts old mid new does flush) =
-      behind old mid new (Err counts) (does_on ops [] old mid does)
-      (flushed_if then_do.flush mid new (Err counts) flush)
-  ends_to ops lasts then_do _ _ _ (closing.in_notes old mid late new result does flush notes) =
-      behind old mid new result (does_on ops [] old mid does)
-      (behind mid late new result (flushed_if then_do.flush mid late (Ok tt) flush).goes
-      (notes_if then_do.notes lasts late new result notes))
+  pub ends_to : (ops : List Op) (lasts : Lasts) (due : Bool) (old new : D) (result : Result Unit Twin)
+      → EndsWith drive ops lasts due old new result → GoesTo drive old new result
+  ends_to ops lasts due _ _ _ (closing.in_ops counts old new fails) = fails_to ops old new counts fails
+  ends_to ops lasts due _ _ _ (closing.in_notes old mid new result does notes) =
+      behind old mid new result (does_on ops [] old mid does) (notes_if due lasts mid new result notes)

@@ -32,8 +32,7 @@ use Rattle.volume_closing.specs.Laws.{close_ops}
 use Rattle.volume_closing.proofs.Aheads.{none_is_ahead}
 use Rattle.volume_closing.proofs.Keeps.{closes_are_safe}
 use Rattle.volume_closing.proofs.Leaves.{closed_stand}
-use Rattle.served_volume.specs.Commands as closing
-use Rattle.served_volume.specs.Commands.{AreOpsDone, Behind, DoesOps, EndsWith, IsFlushedIf, Lasts}
+use Rattle.served_volume.specs.Commands.{AreOpsDone, EndsWith}
 use Rattle.served_volume.specs.Finish.{AdmitsOnDp, IsAdmittedOnIp, lasts_of}
 use Rattle.served_volume.specs.Promised.{CanClose}
 use Rattle.served_volume.proofs.Admitted as admitted
@@ -42,15 +41,9 @@ use Rattle.served_volume.proofs.CloseGiven.{near, no_waits, reads_too}
 use Rattle.served_volume.proofs.Keeping.{AreReady, Survives, ends_survive, ops_survive}
 use Rattle.served_volume.proofs.Mid.{fits, mid_end, mid_generation, mid_last, mid_ops}
 use Rattle.served_volume.proofs.Noting.{MayTell}
+use Rattle.served_volume.proofs.Settled.{none_done}
 use Rattle.served_volume.proofs.Still.{IsStill, mounts_tell, or_left, still}
-use Rattle.served_volume.proofs.There.{close_ops_are, closing_ops, planned2, there_last}
-
--- nothing is done of no ops
-pub none_done : {D : Type 0} (drive : Ghosts D) (ops left : List Op) (old new : D) → DoesOps drive ops old left new
-    → ops ≡ [] → new ≡ old
-none_done drive _ _ _ _ (closing.rest ops d) none = refl
-none_done drive _ _ _ _ (closing.one op later left end old mid new step well more) none =
-    absurd (let wrong : op ∷ later ≡ [] = none in cc)
+use Rattle.served_volume.proofs.There.{close_ops_are, closed_rests, closing_ops, planned2, there_last}
 
 module _ {D : Type 0} (drive : Ghosts D) (fixed : Fixed D) (next : Option Moment) (at : Moment) (p : Parts D)
     (can : CanClose drive fixed next at p)
@@ -209,29 +202,24 @@ module _ {D : Type 0} (drive : Ghosts D) (fixed : Fixed D) (next : Option Moment
             (sym (mid_last drive fixed next at p can mid dp) ∙ is);
       }
 
-      went_ready : (notes : Bool) → AreReady drive v q2 ops2 (lasts_of mid) (record { flush = true; notes = notes })
-          p.drive
-      went_ready notes middle late does flush is =
+      went_ready : AreReady drive v q2 ops2 (lasts_of mid) p.drive
+      went_ready middle does is =
           let start = safe_dp.1.closing in
           let done = does_there drive (planned2 drive fixed next at p can) ops2 [] p.drive middle does start.held
           (there_last drive fixed next at p can read room start.held start.told) in
-          let it = flush.1.told done.0 done.1.told in
-          let same : it.0 ≡ done.0 = it.2 in
-          let stands = closed_stand drive q1 st1.space (rules g) last_text due_ip.0 v late it.0 is safe_dp.1.has
+          let stands = closed_stand drive q1 st1.space (rules g) last_text due_ip.0 v middle done.0 is safe_dp.1.has
           due_ip.1
-          safe_dp.1.none safe_dp.1.unchanged some it.1
-          (ap (λ (c : Cartridge). c.ip) same ∙ done.1.ip refl ∙ sym (items_last Ip))
-          (ap (λ (c : Cartridge). c.dp) same ∙ done.1.dp refl ∙ sym (items_last Dp)) in
-          (it.0, it.1, (closes_are_safe drive).settled flush.0 middle late flush.1, tells_of it.0 stands)
+          safe_dp.1.none safe_dp.1.unchanged some done.1.told (done.1.ip refl ∙ sym (items_last Ip))
+          (done.1.dp refl ∙ sym (items_last Dp)) in
+          (done.0, done.1.told, closed_rests drive fixed next at p can ops1 p.drive middle does, tells_of done.0 stands)
 
       pub went_survives : (last : Stocked) (notes : Bool) (new : D) (result : Result Unit Twin)
           → last.layout.ops ≡ ops2
-          → EndsWith drive last.layout.ops (lasts_of mid) (record { flush = true; notes = notes }) p.drive new result
-          → Survives drive v new
+          → EndsWith drive last.layout.ops (lasts_of mid) notes p.drive new result → Survives drive v new
       went_survives last notes new result are ends =
-          ends_survive drive v q2 ops2 (lasts_of mid) (record { flush = true; notes = notes }) p.drive new result
-          (subst (λ (l : List Op). EndsWith drive l (lasts_of mid) (record { flush = true; notes = notes }) p.drive new
-          result) are ends) closing_last (went_ready notes)
+          ends_survive drive v q2 ops2 (lasts_of mid) notes p.drive new result
+          (subst (λ (l : List Op). EndsWith drive l (lasts_of mid) notes p.drive new result) are ends) closing_last
+          went_ready
 
     -- ---- without one
 
@@ -248,10 +236,9 @@ module _ {D : Type 0} (drive : Ghosts D) (fixed : Fixed D) (next : Option Moment
           (mid_end drive fixed next at p can mid dp ∙ ap (λ (s : Space). s.ends.ip + 1) quiet.space_is)
           (mid_last drive fixed next at p can mid dp ∙ ap (λ (s : Space). s.last_dp) quiet.space_is))
 
-      still_ready : (notes : Bool) → AreReady drive v q1 ops1 (lasts_of mid)
-          (record { flush = false; notes = notes }) p.drive
-      still_ready notes middle late does flush is =
-          let here : late ≡ p.drive = flush.0 ∙ none_done drive ops1 [] p.drive middle does quiet.no_ops in (
+      still_ready : AreReady drive v q1 ops1 (lasts_of mid) p.drive
+      still_ready middle does is =
+          let here : middle ≡ p.drive = none_done drive ops1 [] p.drive middle does quiet.no_ops in (
             read.held,
             ap (λ (d : D). drive.held d) here ∙ quiet.held ∙ read.told,
             subst (λ (d : D). IsAtRest drive d) (sym here) quiet.rest,
@@ -259,21 +246,18 @@ module _ {D : Type 0} (drive : Ghosts D) (fixed : Fixed D) (next : Option Moment
           )
 
       pub still_survives : (last : Stocked) (notes : Bool) (new : D) (result : Result Unit Twin) → last ≡ mid
-          → EndsWith drive last.layout.ops (lasts_of mid) (record { flush = false; notes = notes }) p.drive new result
-          → Survives drive v new
+          → EndsWith drive last.layout.ops (lasts_of mid) notes p.drive new result → Survives drive v new
       still_survives last notes new result same ends =
-          ends_survive drive v q1 ops1 (lasts_of mid) (record { flush = false; notes = notes }) p.drive new result
-          (subst (λ (l : List Op). EndsWith drive l (lasts_of mid) (record { flush = false; notes = notes }) p.drive
-          new
-          result) (ap (λ (s : Stocked). s.layout.ops) same ∙ mid_ops drive fixed next at p can mid dp) ends)
-          safe_dp.1.closing (still_ready notes)
+          ends_survive drive v q1 ops1 (lasts_of mid) notes p.drive new result
+          (subst (λ (l : List Op). EndsWith drive l (lasts_of mid) notes p.drive new result)
+          (ap (λ (s : Stocked). s.layout.ops) same ∙ mid_ops drive fixed next at p can mid dp) ends)
+          safe_dp.1.closing still_ready
 
     -- ---- either
 
     pub admitted_survives : (last : Stocked) (due notes : Bool) (new : D) (result : Result Unit Twin)
         → IsAdmittedOnIp g st1 at mid last due
-        → EndsWith drive last.layout.ops (lasts_of mid) (record { flush = due; notes = notes }) p.drive new result
-        → Survives drive v new
+        → EndsWith drive last.layout.ops (lasts_of mid) notes p.drive new result → Survives drive v new
     admitted_survives last true notes new result ip ends =
         went_survives ip.1.fits last notes new result
         (ip.1.ops

@@ -29,7 +29,6 @@ use Rattle.volume_laws.specs.Kept.{CanRead}
 use Rattle.volume_tape.specs.Planned.{Items}
 use Rattle.volume_parts.specs.Parts.{Parts, view_of}
 use Rattle.volume_closing.specs.Indexed.{EndsWithTree}
-use Rattle.volume_closing.proofs.Keeps.{closes_are_safe}
 use Rattle.served_volume.specs.Finish.{AdmitsOnDp, lasts_of}
 use Rattle.served_volume.specs.Promised.{CanClose}
 use Rattle.served_volume.proofs.Admitted as admitted
@@ -41,7 +40,7 @@ use Rattle.served_volume.proofs.DoneWent.{went_ip_form, went_labels, went_one, w
 use Rattle.served_volume.proofs.Exact.{does_there}
 use Rattle.served_volume.proofs.CloseGiven.{near}
 use Rattle.served_volume.proofs.Mid.{fits, mid_end, mid_generation, mid_last, mid_uuid}
-use Rattle.served_volume.proofs.There.{closing_ops, planned2, there_last}
+use Rattle.served_volume.proofs.There.{closed_rests, closing_ops, planned2, there_last}
 
 module _ {D : Type 0} (drive : Ghosts D) (fixed : Fixed D) (next : Option Moment) (at : Moment) (p : Parts D)
     (can : CanClose drive fixed next at p) (read : CanRead drive fixed) (mid : Stocked)
@@ -138,14 +137,6 @@ module _ {D : Type 0} (drive : Ghosts D) (fixed : Fixed D) (next : Option Moment
     dp_block [] some_is = absurd (some_is refl)
     dp_block (k ∷ older) some_is = (first_of k, refl)
 
-    -- behind the ops and a flush it tells what is planned
-    late_ip : (e d : Cartridge) → e ≡ d → d.ip ≡ planned2 drive fixed next at p can Ip
-        → e.ip ≡ with_construct (planned1 Ip) (blocks_of fixed.mounted.label.block text)
-    late_ip e d same is = ap (λ (x : Cartridge). x.ip) same ∙ is ∙ last_ip
-
-    late_dp : (e d : Cartridge) → e ≡ d → d.dp ≡ planned2 drive fixed next at p can Dp → e.dp ≡ planned1 Dp
-    late_dp e d same is = ap (λ (x : Cartridge). x.dp) same ∙ is ∙ last_dp
-
     uuid_is : mid.frame.label.uuid ≡ labels.ip.uuid
     uuid_is = mid_uuid drive fixed next at p can mid dp ∙ ap (λ (l : Label). l.uuid) indexed.open_ends.label_is
 
@@ -182,19 +173,20 @@ module _ {D : Type 0} (drive : Ghosts D) (fixed : Fixed D) (next : Option Moment
         }
 
     pub shown_last : (new : D)
-        → AllDone drive ops2 (lasts_of mid) (record { flush = true; notes = true }) p.drive new
+        → AllDone drive ops2 (lasts_of mid) true p.drive new
         → IsShown drive fixed.first new fixed.mounted fixed.tree tree st1.space.newest
     shown_last new all =
         let start = told_now in
         let done = does_there drive (planned2 drive fixed next at p can) ops2 [] p.drive all.mid all.does start.0
         (there_last drive fixed next at p can read room start.0 start.1) in
-        let it = all.flush.1.told done.0 done.1.told in
-        let ip_late = late_ip it.0 done.0 it.2 (done.1.ip refl) in
-        let dp_late = late_dp it.0 done.0 it.2 (done.1.dp refl) in
+        let ip_now = done.1.ip refl ∙ last_ip in
+        let dp_now = done.1.dp refl ∙ last_dp in
         let may = went_tells labels facts tree st1.space planned1 fixed.mounted.label.block text (trees_of v) q.made
-        due.0 went it.0 ip_late dp_late (lasts_of mid) (mid_generation drive fixed next at p can mid dp)
+        due.0 went done.0 ip_now dp_now (lasts_of mid) (mid_generation drive fixed next at p can mid dp)
         (mid_end drive fixed next at p can mid dp) (mid_last drive fixed next at p can mid dp) in
         let block = dp_block (indexes_of (planned1 Dp)) indexed.told.some in
-        noted_last new it.0
-        (notes_done drive labels.ip (lasts_of mid) uuid_is block.0 (last_is block.0 block.1) all.late new it.0 all.notes
-        it.1 ((closes_are_safe drive).settled all.flush.0 all.mid all.late all.flush.1) may) ip_late dp_late
+        noted_last new done.0
+        (notes_done drive labels.ip (lasts_of mid) uuid_is block.0 (last_is block.0 block.1) all.mid new done.0
+        all.notes done.1.told
+        (closed_rests drive fixed next at p can (p.stock.layout.ops ++ admitted.asked drive fixed next at p) p.drive
+        all.mid all.does) may) ip_now dp_now

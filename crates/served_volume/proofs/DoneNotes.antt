@@ -1,5 +1,5 @@
 -- What the notes of a close tell once they are written.
-use Rattle.std.proofs.Common.{◌≡◌, ℕ, List, [], Option, Some, None, refl, sym, ap, subst, ◌∙◌, arith}
+use Rattle.std.proofs.Common.{◌≡◌, ℕ, Bool, List, [], Option, Some, None, refl, sym, ap, subst, ◌∙◌, arith}
 use Rattle.std.specs.Prelude.{Result, Ok}
 use Rattle.tape_types.specs.Cartridges.{items_of, note_of}
 use Rattle.tape_types.specs.declared.cartridges.Cartridge.{Cartridge}
@@ -17,7 +17,7 @@ use Rattle.tape_layout.specs.declared.ops.Op.{Op}
 use Rattle.tape_meaning.specs.Notes.{AreNoted, IsHonestNote, IsNoted}
 use Rattle.volume_closing.specs.Closing.{IsAtRest}
 use Rattle.served_volume.specs.Commands as closing
-use Rattle.served_volume.specs.Commands.{Behind, DoesOps, EndsWith, IsDpNoteWritten, IsFlushedIf, IsNoteWritten}
+use Rattle.served_volume.specs.Commands.{DoesOps, EndsWith, IsDpNoteWritten, IsNoteWritten}
 use Rattle.served_volume.specs.Commands.{IsVcrRead, Lasts, WritesNotes, WritesNotesIf, values_of}
 use Rattle.served_volume.proofs.Noting.{MayTell, may_tell, note_rests, read_rests}
 
@@ -49,25 +49,20 @@ honest_note c label part form n = record {
 -- ---- what was done
 
 -- these are the commands of a close that was done
-pub record AllDone {D : Type 0} (drive : Ghosts D) (ops : List Op) (lasts : Lasts) (then_do : Behind) (old new : D)
+pub record AllDone {D : Type 0} (drive : Ghosts D) (ops : List Op) (lasts : Lasts) (due : Bool) (old new : D)
     : Type 0 where
   pub mid : D
-  pub late : D
   pub does : DoesOps drive ops old [] mid
-  pub flush : IsFlushedIf drive then_do.flush mid late (Ok tt)
-  pub notes : WritesNotesIf drive lasts then_do.notes late new (Ok tt)
+  pub notes : WritesNotesIf drive lasts due mid new (Ok tt)
 
-pub all_done : {D : Type 0} (drive : Ghosts D) (ops : List Op) (lasts : Lasts) (then_do : Behind) (old new : D)
-    (result : Result Unit Twin) → EndsWith drive ops lasts then_do old new result → result ≡ Ok tt
-    → AllDone drive ops lasts then_do old new
-all_done drive ops lasts then_do _ _ _ (closing.in_ops counts old new fails) is = absurd (cc is)
-all_done drive ops lasts then_do _ _ _ (closing.in_flush counts old mid new does flush) is = absurd (cc is)
-all_done drive ops lasts then_do _ _ _ (closing.in_notes old mid late new result does flush notes) is = record {
+pub all_done : {D : Type 0} (drive : Ghosts D) (ops : List Op) (lasts : Lasts) (due : Bool) (old new : D)
+    (result : Result Unit Twin) → EndsWith drive ops lasts due old new result → result ≡ Ok tt
+    → AllDone drive ops lasts due old new
+all_done drive ops lasts due _ _ _ (closing.in_ops counts old new fails) is = absurd (cc is)
+all_done drive ops lasts due _ _ _ (closing.in_notes old mid new result does notes) is = record {
   mid = mid;
-  late = late;
   does = does;
-  flush = flush;
-  notes = subst (λ (r : Result Unit Twin). WritesNotesIf drive lasts then_do.notes late new r) is notes;
+  notes = subst (λ (r : Result Unit Twin). WritesNotesIf drive lasts due mid new r) is notes;
 }
 
 -- ---- both notes

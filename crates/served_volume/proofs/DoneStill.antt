@@ -38,11 +38,11 @@ use Rattle.volume_closing.specs.Indexed.{EndsWithTree, cartridge_on}
 use Rattle.served_volume.specs.Finish.{AdmitsOnDp, lasts_of}
 use Rattle.served_volume.specs.Promised.{CanClose}
 use Rattle.served_volume.proofs.Admitted as admitted
-use Rattle.served_volume.proofs.Crashing.{none_done}
 use Rattle.served_volume.proofs.DoneClose.{IsShown}
 use Rattle.served_volume.proofs.DoneIndexed.{IsIndexedBy, indexed_now}
 use Rattle.served_volume.proofs.DoneNotes.{AllDone, AreBothNoted, notes_done}
 use Rattle.served_volume.proofs.Mid.{fits, mid_end, mid_generation, mid_last, mid_uuid}
+use Rattle.served_volume.proofs.Settled.{none_done}
 use Rattle.served_volume.proofs.Same.{same_alike, same_consistent, same_labels, same_one, same_stands}
 use Rattle.served_volume.proofs.Still.{IsStill, dp_is, dp_last, ip_is, mounts_tell}
 use Rattle.served_volume.proofs.There.{dp_whole, way_now}
@@ -131,10 +131,10 @@ module _ {D : Type 0} (drive : Ghosts D) (fixed : Fixed D) (next : Option Moment
   dp_block (k ∷ older) some_is = (first_of k, refl)
 
   by_notes : (noted : Bool) (new : D) → fixed.mounted.noted ≡ noted
-      → AllDone drive ops1 (lasts_of mid) (record { flush = false; notes = not noted }) p.drive new
+      → AllDone drive ops1 (lasts_of mid) (not noted) p.drive new
       → AreBothNoted drive mounts.found.labels.ip c new
   by_notes true new is all =
-      let here : all.late ≡ p.drive = all.flush.0 ∙ none_done drive ops1 [] p.drive all.mid all.does quiet.no_ops in
+      let here : all.mid ≡ p.drive = none_done drive ops1 [] p.drive all.mid all.does quiet.no_ops in
       let stayed : new ≡ p.drive = all.notes.0 ∙ here in
       record {
         now = c;
@@ -145,12 +145,12 @@ module _ {D : Type 0} (drive : Ghosts D) (fixed : Fixed D) (next : Option Moment
         rest = subst (λ (d : D). IsAtRest drive d) (sym stayed) quiet.rest;
       }
   by_notes false new is all =
-      let here : all.late ≡ p.drive = all.flush.0 ∙ none_done drive ops1 [] p.drive all.mid all.does quiet.no_ops in
+      let here : all.mid ≡ p.drive = none_done drive ops1 [] p.drive all.mid all.does quiet.no_ops in
       let block = dp_block (indexes_of c.dp) (ip_is c fixed.mounted mounts quiet.ip_done quiet.dp_done).has_dp in
       let last = mid_last drive fixed next at p can mid dp ∙ ap (λ (s : Space). s.last_dp) quiet.space_is in
       notes_done drive mounts.found.labels.ip (lasts_of mid)
       (mid_uuid drive fixed next at p can mid dp ∙ ap (λ (l : Label). l.uuid) mounts.label) block.0
-      (last ∙ mounts.last_dp ∙ block.1) all.late new c all.notes (ap (λ (d : D). drive.held d) here ∙ told_here)
+      (last ∙ mounts.last_dp ∙ block.1) all.mid new c all.notes (ap (λ (d : D). drive.held d) here ∙ told_here)
       (subst (λ (d : D). IsAtRest drive d) (sym here) quiet.rest)
       (mounts_tell c fixed.mounted mounts quiet.ip_done quiet.dp_done (lasts_of mid)
       (mid_generation drive fixed next at p can mid dp ∙ ap (λ (s : Space). s.newest) quiet.space_is)
@@ -181,7 +181,7 @@ module _ {D : Type 0} (drive : Ghosts D) (fixed : Fixed D) (next : Option Moment
 
   pub shown_still : (noted : Bool) (new : D) → fixed.mounted.noted ≡ noted
       → Known (AreAlike c facts fixed.tree fixed.mounted.newest)
-      → AllDone drive ops1 (lasts_of mid) (record { flush = false; notes = not noted }) p.drive new
+      → AllDone drive ops1 (lasts_of mid) (not noted) p.drive new
       → IsShown drive fixed.first new fixed.mounted fixed.tree tree st1.space.newest
   shown_still noted new is known all =
       let both = by_notes noted new is all in

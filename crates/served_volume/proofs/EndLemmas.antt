@@ -20,17 +20,15 @@ module _ {D : Type 0} (drive : Ghosts D) (noted : Bool) (at : Moment) (held mid 
   pub went : (last : Stocked) (due notes : Bool) (lasts : Lasts) (generation : ℕ) → AdmitsOnDp at held mid
       → AdmitsOnIp at held mid last due → notes ≡ (due || not noted) → lasts ≡ lasts_of mid
       → generation ≡ lasts.generation
-      → EndsWith drive last.layout.ops lasts (record { flush = due; notes = notes }) old new told
+      → EndsWith drive last.layout.ops lasts notes old new told
       → outcome ≡ close_end generation told → Finishes drive noted at held old new outcome
   went last due notes lasts generation dp ip notes_is lasts_is generation_is ends is =
       let same : generation ≡ mid.frame.generation = generation_is ∙ ap (λ (l : Lasts). l.generation) lasts_is in
       subst (λ (e : CloseEnd). Finishes drive noted at held old new e)
       (sym (is ∙ ap (λ n. close_end n told) same))
       (Finishes.went mid last due new told dp ip
-      (subst (λ b. EndsWith drive last.layout.ops (lasts_of mid) (record { flush = due; notes = b }) old new told)
-      notes_is
-      (subst (λ (l : Lasts). EndsWith drive last.layout.ops l (record { flush = due; notes = notes }) old new told)
-      lasts_is ends)))
+      (subst (λ b. EndsWith drive last.layout.ops (lasts_of mid) b old new told) notes_is
+      (subst (λ (l : Lasts). EndsWith drive last.layout.ops l notes old new told) lasts_is ends)))
 
   pub short : (last : Stocked) (need limit : ℕ) → AdmitsOnDp at held mid → IsShortOnIp at held need limit
       → last.layout ≡ mid.layout → AreOpsDone drive last.layout.ops old new told → outcome ≡ short_end need limit told

@@ -19,9 +19,8 @@ use Rattle.volume_closing.specs.Closing.{IsAtRest, IsClosing}
 use Rattle.volume_closing.specs.Laws.{ClosesAreSafe}
 use Rattle.volume_closing.proofs.Keeps.{closes_are_safe}
 use Rattle.served_volume.specs.Commands as closing
-use Rattle.served_volume.specs.Commands.{AreOpsDone, Behind, DoesOps, EndsWith, FailsOp, IsDpNoteWritten, IsFlushed}
-use Rattle.served_volume.specs.Commands.{IsFlushedIf, IsNoteWritten, Lasts, WritesNotes, WritesNotesIf, end_of_flush}
-use Rattle.served_volume.specs.Commands.{values_of}
+use Rattle.served_volume.specs.Commands.{AreOpsDone, DoesOps, EndsWith, FailsOp, IsDpNoteWritten, IsNoteWritten}
+use Rattle.served_volume.specs.Commands.{Lasts, WritesNotes, WritesNotesIf, values_of}
 use Rattle.served_volume.proofs.Noting.{MayTell, may_tell, note_either, note_rests, note_step, read_rests, read_step}
 
 module _ {D : Type 0} (drive : Ghosts D) (v : View D) where
@@ -52,11 +51,6 @@ module _ {D : Type 0} (drive : Ghosts D) (v : View D) where
         → IsClosing drive v planned ops old → Survives new
     ops_survive ops old new (Ok done) does c = safe.survives planned v [] new (does_keep ops [] old new does c)
     ops_survive ops old new (Err counts) fails c = fails_survive ops old new counts fails c
-
-    flush_keeps : (flush : Bool) (old new : D) (result : Result Unit Twin) → IsFlushedIf drive flush old new result
-        → IsClosing drive v planned [] old → IsClosing drive v planned [] new
-    flush_keeps true old new result is c = safe.flushed planned v [] is.0 (end_of_flush result) old new c is.1
-    flush_keeps false old new result is c = subst (λ (d : D). IsClosing drive v planned [] d) (sym is.0) c
 
     -- ---- notes
 
@@ -104,11 +98,10 @@ module _ {D : Type 0} (drive : Ghosts D) (v : View D) where
 
     -- ---- all of it
 
-    -- behind the ops and a flush the notes may be written
-    abbrev pub AreReady : List Op → Lasts → Behind → D → Type 0
-    AreReady ops lasts then_do old = (mid late : D) → DoesOps drive ops old [] mid
-        → IsFlushedIf drive then_do.flush mid late (Ok tt) → IsClosing drive v planned [] late
-        → (c : Cartridge) × (drive.held late ≡ Some c) × IsAtRest drive late × MayTell c planned.labels.ip lasts
+    -- behind the ops the notes may be written
+    abbrev pub AreReady : List Op → Lasts → D → Type 0
+    AreReady ops lasts old = (mid : D) → DoesOps drive ops old [] mid → IsClosing drive v planned [] mid
+        → (c : Cartridge) × (drive.held mid ≡ Some c) × IsAtRest drive mid × MayTell c planned.labels.ip lasts
 
     notes_if : (notes : Bool) (lasts : Lasts) (old new : D) (result : Result Unit Twin) (c : Cartridge)
         → WritesNotesIf drive lasts notes old new result → IsClosing drive v planned [] old → IsAtRest drive old
@@ -117,16 +110,12 @@ module _ {D : Type 0} (drive : Ghosts D) (v : View D) where
     notes_if false lasts old new result c w is rest told may =
         subst (λ (d : D). IsClosing drive v planned [] d) (sym w.0) is
 
-    pub ends_survive : (ops : List Op) (lasts : Lasts) (then_do : Behind) (old new : D) (result : Result Unit Twin)
-        → EndsWith drive ops lasts then_do old new result → IsClosing drive v planned ops old
-        → AreReady ops lasts then_do old → Survives new
-    ends_survive ops lasts then_do _ _ _ (closing.in_ops counts old new fails) c ready =
+    pub ends_survive : (ops : List Op) (lasts : Lasts) (due : Bool) (old new : D) (result : Result Unit Twin)
+        → EndsWith drive ops lasts due old new result → IsClosing drive v planned ops old → AreReady ops lasts old
+        → Survives new
+    ends_survive ops lasts due _ _ _ (closing.in_ops counts old new fails) c ready =
         fails_survive ops old new counts fails c
-    ends_survive ops lasts then_do _ _ _ (closing.in_flush counts old mid new does flush) c ready =
-        safe.survives planned v [] new
-        (flush_keeps then_do.flush mid new (Err counts) flush (does_keep ops [] old mid does c))
-    ends_survive ops lasts then_do _ _ _ (closing.in_notes old mid late new result does flush notes) c ready =
-        let is = flush_keeps then_do.flush mid late (Ok tt) flush (does_keep ops [] old mid does c) in
-        let now = ready mid late does flush is in
-        safe.survives planned v [] new
-        (notes_if then_do.notes lasts late new result now.0 notes is now.2 now.1 now.3)
+    ends_survive ops lasts due _ _ _ (closing.in_notes old mid new result does notes) c ready =
+        let is = does_keep ops [] old mid does c in
+        let now = ready mid does is in
+        safe.survives planned v [] new (notes_if due lasts mid new result now.0 notes is now.2 now.1 now.3)

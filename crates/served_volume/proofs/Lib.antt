@@ -33,6 +33,7 @@ pub mod Noting
 mod Ready
 pub mod Same
 mod Serves
+pub mod Settled
 pub mod Shorts
 pub mod Still
 mod Submissions

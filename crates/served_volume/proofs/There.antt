@@ -1,6 +1,7 @@
 -- What both partitions come to once all ops of a close are done.
-use Rattle.std.proofs.Common.{◌≡◌, ℕ, ◌+◌, ◌≤◌, Bool, true, false, List, [], ◌∷◌, ◌++◌, map, Option, Some, refl, ap}
+use Rattle.std.proofs.Common.{◌≡◌, ℕ, ◌+◌, ◌≤◌, Bool, true, false, List, [], ◌∷◌, ◌++◌, map, length, Option, Some, refl, ap}
 use Rattle.std.proofs.Common.{subst, ◌∙◌, arith}
+use Rattle.std.specs.Int.{div_ceil}
 use Rattle.std.proofs.lemmas.List.{map-append}
 use Rattle.tape_types.specs.declared.cartridges.Cartridge.{Cartridge}
 use Rattle.tape_types.specs.declared.cartridges.Part.TheVariants.{Ip, Dp}
@@ -28,7 +29,10 @@ use Rattle.volume_crashes.proofs.Admits.{op_of, plain_ops}
 use Rattle.volume_closing.specs.Laws.{close_ops}
 use Rattle.served_volume.specs.Promised.{CanClose}
 use Rattle.served_volume.proofs.Admitted as admitted
+use Rattle.volume_closing.specs.Closing.{IsAtRest}
+use Rattle.served_volume.specs.Commands.{DoesOps}
 use Rattle.served_volume.proofs.Exact.{IsThere}
+use Rattle.served_volume.proofs.Settled.{rests_behind}
 
 -- the ops of a close's index
 pub close_ops_are : (v : Rules) (s : Space) (text : List ℕ)
@@ -115,3 +119,20 @@ module _ {D : Type 0} (drive : Ghosts D) (fixed : Fixed D) (next : Option Moment
         (wholes_stay.closed planned2 ops1 (rules g) st1.space (close_text g st1 at) c);
     dp = whole_grows Dp planned1 ops1 closing_ops c (dp_whole read c told);
   }
+
+  -- their last one is a flush, so behind them nothing is pending
+  pub closed_rests : (before : List Op) (old new : D) → DoesOps drive (before ++ closing_ops) old [] new
+      → IsAtRest drive new
+  closed_rests before old new does =
+      rests_behind drive before
+      (ops.Mark (record { part = Ip; pos = st1.space.ends.ip }) ∷ []
+      ++ puts fixed.mounted.label.block Ip (st1.space.ends.ip + 1) (close_text g st1 at)
+      ++ ops.Mark (record {
+        part = Ip;
+        pos = st1.space.ends.ip + 1 + div_ceil (length (close_text g st1 at)) fixed.mounted.label.block;
+      }) ∷ [])
+      (record {
+        part = Ip;
+        pos = st1.space.ends.ip + 2 + div_ceil (length (close_text g st1 at)) fixed.mounted.label.block;
+      })
+      old new does

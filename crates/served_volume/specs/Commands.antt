@@ -4,7 +4,6 @@ use Rattle.tape_types.specs.declared.cartridges.Cartridge.{Cartridge}
 use Rattle.tape_types.specs.declared.cartridges.Note.{Note}
 use Rattle.tape_types.specs.declared.cartridges.Part.{Part}
 use Rattle.tape_types.specs.declared.cartridges.Part.TheVariants.{Ip, Dp}
-use Rattle.tape_types.specs.declared.cartridges.Place.{Place}
 use Rattle.tape_types.specs.declared.cartridges.Twin.{Twin}
 use Rattle.coherency.specs.Notes.{HasValues}
 use Rattle.coherency.specs.declared.Coherency.{Coherency}
@@ -12,7 +11,6 @@ use Rattle.tape_drive.specs.Commands.{AfterNote}
 use Rattle.tape_drive.specs.Crashes.{Crashes, NothingNew, WithinNote}
 use Rattle.tape_drive.specs.declared.drive.Drive.{Ghosts}
 use Rattle.tape_layout.specs.declared.ops.Op.{Op}
-use Rattle.tape_layout.specs.declared.ops.Op.TheVariants as the_ops
 use Rattle.head_core.specs.Attributes.{IsAttributeCommand}
 use Rattle.head_core.specs.Steps.{IsOpStep}
 use Rattle.head_core.specs.declared.work.StepDone.{StepDone}
@@ -39,16 +37,6 @@ pub record FailsOp {D : Type 0} (drive : Ghosts D) (ops : List Op) (old new : D)
 abbrev pub AreOpsDone : {D : Type 0} → Ghosts D → List Op → D → D → Result Unit Twin → Type 0
 AreOpsDone drive ops old new (Ok done) = DoesOps drive ops old [] new
 AreOpsDone drive ops old new (Err counts) = FailsOp drive ops old new counts
-
--- ---- a flush
-
-abbrev pub end_of_flush : Result Unit Twin → StepDone
-end_of_flush (Ok done) = outcome.Flushed
-end_of_flush (Err counts) = outcome.Failed counts
-
--- a flush beside the ops
-abbrev pub IsFlushed : {D : Type 0} → Ghosts D → D → D → Result Unit Twin → Type 0
-IsFlushed drive old new result = (place : Place) × IsOpStep drive (the_ops.Flush place) (end_of_flush result) old new
 
 -- ---- notes
 
@@ -104,26 +92,15 @@ pub data WritesNotes {D : Type 0} (drive : Ghosts D) (lasts : Lasts) : D → D �
 
 -- ---- all of it
 
--- which commands come behind the ops: a flush, and the notes
-pub record Behind : Type 0 where
-  pub flush : Bool
-  pub notes : Bool
-
-abbrev pub IsFlushedIf : {D : Type 0} → Ghosts D → Bool → D → D → Result Unit Twin → Type 0
-IsFlushedIf drive true old new result = IsFlushed drive old new result
-IsFlushedIf drive false old new result = (new ≡ old) × (result ≡ Ok tt)
-
+-- both are written where they are due
 abbrev pub WritesNotesIf : {D : Type 0} → Ghosts D → Lasts → Bool → D → D → Result Unit Twin → Type 0
 WritesNotesIf drive lasts true old new result = WritesNotes drive lasts old new result
 WritesNotesIf drive lasts false old new result = (new ≡ old) × (result ≡ Ok tt)
 
--- the ops are done, a flush, and the notes are written; the first command that failed was the last
-pub data EndsWith {D : Type 0} (drive : Ghosts D) (ops : List Op) (lasts : Lasts) (behind : Behind)
+-- the ops are done, and the notes are written where they are due; the first command that failed was the last
+pub data EndsWith {D : Type 0} (drive : Ghosts D) (ops : List Op) (lasts : Lasts) (notes : Bool)
     : D → D → Result Unit Twin → Type 0 where
   in_ops : (counts : Twin) (old new : D) → FailsOp drive ops old new counts
-      → EndsWith drive ops lasts behind old new (Err counts)
-  in_flush : (counts : Twin) (old mid new : D) → DoesOps drive ops old [] mid
-      → IsFlushedIf drive behind.flush mid new (Err counts) → EndsWith drive ops lasts behind old new (Err counts)
-  in_notes : (old mid late new : D) (result : Result Unit Twin) → DoesOps drive ops old [] mid
-      → IsFlushedIf drive behind.flush mid late (Ok tt) → WritesNotesIf drive lasts behind.notes late new result
-      → EndsWith drive ops lasts behind old new result
+      → EndsWith drive ops lasts notes old new (Err counts)
+  in_notes : (old mid new : D) (result : Result Unit Twin) → DoesOps drive ops old [] mid
+      → WritesNotesIf drive lasts notes mid new result → EndsWith drive ops lasts notes old new result

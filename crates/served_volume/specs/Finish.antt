@@ -55,9 +55,8 @@ short_end need limit (Ok done) = ends.Full need limit
 short_end need limit (Err counts) = ends.Fault counts
 
 -- A close at a moment, of what is held, over a drive. Without memory, and without room on the data partition, no
--- command is made. Without room on the index partition the ops are done that stand then. Else all ops are done; where
--- an index went to the index partition a flush comes, and where one did or the notes weren't right at the mount, the
--- notes.
+-- command is made. Without room on the index partition the ops are done that stand then. Else all ops are done, and
+-- the notes come where an index went to the index partition or they weren't right at the mount.
 pub data Finishes {D : Type 0} (drive : Ghosts D) (noted : Bool) (at : Moment) (held : Stocked) (old : D)
     : D → CloseEnd → Type 0 where
   no_memory : Finishes drive noted at held old old ends.NoMemory
@@ -68,5 +67,5 @@ pub data Finishes {D : Type 0} (drive : Ghosts D) (noted : Bool) (at : Moment) (
       → Finishes drive noted at held old new (short_end need limit result)
   went : (mid last : Stocked) (due : Bool) (new : D) (result : Result Unit Twin) → AdmitsOnDp at held mid
       → AdmitsOnIp at held mid last due
-      → EndsWith drive last.layout.ops (lasts_of mid) (record { flush = due; notes = due || not noted }) old new result
+      → EndsWith drive last.layout.ops (lasts_of mid) (due || not noted) old new result
       → Finishes drive noted at held old new (close_end mid.frame.generation result)

@@ -1,36 +1,28 @@
-//! The ops of a close, and the flush behind them.
+//! The ops of a close, and what comes behind them.
 
 ghost use Rattle.std.specs.Prelude.{◌≡◌, ◌≤◌, ◌∷◌, List, length};
 ghost use Rattle.head_core.specs.Steps.{IsOpStep};
 ghost use Rattle.tape_layout.specs.declared.ops.Op.{Op as Standing};
-ghost use Rattle.tape_layout.specs.declared.ops.Op.TheVariants as the_ops;
-ghost use Rattle.served_volume.specs.Commands.{AreOpsDone, EndsWith, IsFlushedIf, end_of_flush};
+ghost use Rattle.served_volume.specs.Commands.{AreOpsDone, EndsWith};
 ghost use Rattle.served_volume.specs.Doing.{CanDoAll, IsOneDone, lasts_in};
 
 use crate::notes::{Last, write_notes_if};
 use head_core::{Head, StepDone, Work};
 use tape_drive::Drive;
-use tape_layout::Op;
-use tape_types::{Part, Place, Twin};
+use tape_types::Twin;
 use volume_stock::Stock;
 
-/// All ops are done, then a flush where one is due, and then the notes are written where they are.
+/// All ops are done, and then the notes are written where they are due.
 pub fn end_with<D: Drive>(
     head: &mut Head<D>,
     stock: &mut Stock,
     last: Last,
-    flush: bool,
     notes: bool,
 ) -> Result<(), Twin>
     requires { CanDoAll D.Drive stock.old.layout.ops head.old.drive }
-    ensures { EndsWith D.Drive stock.old.layout.ops (lasts_in last) (record { flush = flush; notes = notes })
-        head.old.drive head.new.drive result }
+    ensures { EndsWith D.Drive stock.old.layout.ops (lasts_in last) notes head.old.drive head.new.drive result }
 {
     match do_ops(head, stock) {
-        Ok(()) => (),
-        Err(counts) => return Err(counts),
-    }
-    match flush_if(head, flush) {
         Ok(()) => write_notes_if(head, last, notes),
         Err(counts) => Err(counts),
     }
@@ -67,30 +59,4 @@ fn do_first<D: Drive>(head: &mut Head<D>, stock: &mut Stock) -> Result<(), Twin>
         StepDone::Flushed => stock.done_op(),
     }
     Ok(())
-}
-
-/// A flush where one is due.
-fn flush_if<D: Drive>(head: &mut Head<D>, due: bool) -> Result<(), Twin>
-    ensures { IsFlushedIf D.Drive due head.old.drive head.new.drive result }
-{
-    if !due {
-        return Ok(());
-    }
-    let place = Place {
-        part: Part::Ip,
-        pos: 0,
-    };
-    flush(head, place)
-}
-
-/// A flush beside the ops. Its place says nothing.
-fn flush<D: Drive>(head: &mut Head<D>, place: Place) -> Result<(), Twin>
-    ensures { IsOpStep D.Drive (the_ops.Flush place) (end_of_flush result) head.old.drive head.new.drive }
-{
-    match head.step(Work::Do(&Op::Flush { place })) {
-        StepDone::Flushed => Ok(()),
-        StepDone::Failed(counts) => Err(counts),
-        StepDone::Read(_) => unreachable!(),
-        StepDone::Wrote => unreachable!(),
-    }
 }

@@ -41,7 +41,7 @@ pub fn finish<D: Drive>(parts: &mut Parts<D>, noted: bool, at: Moment) -> CloseE
     match parts.stock.admit_ip(&texts.ip) {
         Ok(()) => {
             let notes = are_notes_due(due, noted);
-            let told = end_with(&mut parts.head, &mut parts.stock, last, due, notes);
+            let told = end_with(&mut parts.head, &mut parts.stock, last, notes);
             done(last.generation, told)
         }
         Err(AdmitErr::Full { need, limit }) => {
