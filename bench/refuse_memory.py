@@ -1,0 +1,156 @@
+#!/usr/bin/env python3
+"""Refuses each request for memory of `serve` in turn, and looks at what is printed and what the folder stands for then.
+
+usage: refuse_memory.py PROGRAM REFUSE.SO [--sessions N] [--first N] [--last N] [--each]
+
+REFUSE.SO is built from bench/refuse.c. Each of the script's sessions makes a file, writes it, synchronises and reads it,
+in a thread of its own. A run with nothing refused tells how many requests there are, and how many before the first
+thread. Then each is refused in a run of its own over a folder that was just formatted, and
+
+- the run ends with one of the statuses 0, 4, 7 and 8, with the line that belongs to it;
+- each reply is that of a plain tree, or tells a fault or want of memory;
+- where nothing but how it ended is printed, and no thread was made yet, the folder is as it was, byte by byte;
+- `list` tells of each session none of its file, an empty one or the whole one, and the whole one where the session was told
+  that it was synchronised.
+"""
+import argparse
+import collections
+import filecmp
+import pathlib
+import shutil
+import subprocess
+import sys
+import tempfile
+
+TIME = "2024-01-02T03:04:05.000000000Z"
+UUID = "30a91a08-daae-48d1-ae75-69804e61d2ea"
+LENGTH = 5000
+
+
+def script(sessions):
+    lines = []
+    for who in range(1, sessions + 1):
+        lines += [f"{who} create /f{who}", f"{who} write /f{who} 0 fill:{who:02x}:{LENGTH}", f"{who} sync",
+                  f"{who} read /f{who} 0 {LENGTH}"]
+    return "".join(line + "\n" for line in lines)
+
+
+def replies(who):
+    return ["ok", "ok", "synced", f"bytes {LENGTH} " + f"{who:02x}" * LENGTH]
+
+
+def is_reply(reply, number, who, missed):
+    """Whether a call may be answered so: a session that missed a call is refused what stands on it."""
+    right = replies(who)[number]
+    if reply == right or reply == "nomemory" or reply.startswith("fault "):
+        return True
+    return missed and reply in ("no NotFound", "bytes 0")
+
+
+def wrong_log(lines, sessions):
+    """What is wrong with the lines of a log, and which sessions were told that they are synchronised."""
+    nexts, missed, synced = [0] * (sessions + 1), [False] * (sessions + 1), set()
+    for place, line in enumerate(lines):
+        front, call, reply = line.split(" ", 2)
+        who, number = map(int, call.split("."))
+        if int(front) != place or number != nexts[who]:
+            return f"out of order: {line[:80]}", synced
+        nexts[who] += 1
+        if not is_reply(reply, number, who, missed[who]):
+            return f"another reply: {line[:80]}", synced
+        missed[who] |= reply == "nomemory" or reply.startswith("fault ")
+        if reply == "synced" and not missed[who]:
+            synced.add(who)
+    if lines and nexts[1:] != [4] * sessions:
+        return "calls are missing", synced
+    return None, synced
+
+
+def wrong_files(listed, sessions, synced):
+    files = {words[3]: int(words[2]) for words in (line.split(" ") for line in listed) if words[0] == "f"}
+    for who in range(1, sessions + 1):
+        length = files.pop(f"/f{who}", None)
+        if length not in (None, 0, LENGTH) or (who in synced and length != LENGTH):
+            return f"a file of {length} bytes of session {who}"
+    return "files of no session" if files else None
+
+
+def same(one, other):
+    """Whether two folders have the same files, byte by byte."""
+    names = sorted(path.name for path in one.iterdir())
+    return names == sorted(path.name for path in other.iterdir()) \
+        and all(filecmp.cmp(one / name, other / name, shallow=False) for name in names)
+
+
+class Trial:
+    def __init__(self, asked, folder):
+        self.program, self.refuse, self.sessions = asked.program, asked.refuse, asked.sessions
+        self.empty, self.used, self.told = folder / "empty", folder / "used", folder / "told"
+        self.empty.mkdir()
+        self.run(["format", str(self.empty), "TAPE01", UUID, "--block", "4096", "--at", TIME])
+
+    def run(self, words, text="", refused=None):
+        env = {} if refused is None else \
+            {"LD_PRELOAD": self.refuse, "REFUSE": str(refused), "TOLD": str(self.told)}
+        done = subprocess.run([self.program, *words], input=text, capture_output=True, text=True, env=env, timeout=60)
+        return done.returncode, done.stdout.splitlines()
+
+    def serve(self, refused):
+        shutil.rmtree(self.used, ignore_errors=True)
+        shutil.copytree(self.empty, self.used)
+        return self.run(["serve", str(self.used), "--at", TIME], script(self.sessions), refused)
+
+    def count(self):
+        """How many requests there are, and how many before the first thread."""
+        self.serve(0)
+        count, self.alone = map(int, self.told.read_text().split())
+        return count, self.alone
+
+    def judge(self, refused):
+        """How a run ended, and what is wrong with it, if anything."""
+        status, lines = self.serve(refused)
+        last = lines.pop() if lines else ""
+        end = f"{status} {last.split(' ')[0]}"
+        if end not in ("0 closed", "4 drive", "7 memory", "8 full"):
+            return end, "it ends so"
+        if not lines:
+            end += " alone"
+        if not lines and refused <= self.alone:
+            return end, None if same(self.empty, self.used) else "the folder has changed"
+        fault, synced = wrong_log(lines, self.sessions)
+        if fault:
+            return end, fault
+        status, listed = self.run(["list", str(self.used)])
+        return end, f"list ends with {status}" if status else wrong_files(listed, self.sessions, synced)
+
+
+def main():
+    words = argparse.ArgumentParser()
+    words.add_argument("program")
+    words.add_argument("refuse")
+    words.add_argument("--sessions", type=int, default=2)
+    words.add_argument("--first", type=int, default=1)
+    words.add_argument("--last", type=int)
+    words.add_argument("--each", action="store_true", help="print how each run ends")
+    asked = words.parse_args()
+    with tempfile.TemporaryDirectory() as folder:
+        trial = Trial(asked, pathlib.Path(folder))
+        count, alone = trial.count()
+        ends, wrong = collections.Counter(), 0
+        for refused in range(asked.first, (asked.last or count) + 1):
+            end, fault = trial.judge(refused)
+            if asked.each:
+                print(f"{refused} {end}")
+            when = "before the first thread" if refused <= alone else "later"
+            ends[f"{when}: {end}"] += 1
+            if fault:
+                wrong += 1
+                print(f"request {refused}: {end}: {fault}")
+    print(f"{count} requests, {alone} before the first thread; {wrong} wrong")
+    for end, times in sorted(ends.items()):
+        print(f"{times:6} {end}")
+    return 1 if wrong else 0
+
+
+if __name__ == "__main__":
+    sys.exit(main())
