@@ -7,3 +7,5 @@ pub mod ExtentSteps
 pub mod SortedExtents
 pub mod FileSteps
 pub mod Whole
+pub mod RisingUids
+pub mod RisingNames

@@ -1,3 +1,4 @@
 pub mod Firsts
 pub mod Digest
 pub mod Crossings
+pub mod Rising

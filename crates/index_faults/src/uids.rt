@@ -1,4 +1,4 @@
-ghost use Rattle.std.specs.Prelude.{◌≡◌, ◌≢◌, ◌⊎◌, ◌<◌, ◌≤◌, true, false, IfOk, IfSome, IfNone};
+ghost use Rattle.std.specs.Prelude.{◌≡◌, ◌≢◌, ◌⊎◌, ℕ, ◌<◌, ◌≤◌, true, false, IfOk, IfSome, IfNone};
 ghost use Rattle.index_model.specs.declared.nodes.Node.{Node};
 ghost use Rattle.index_model.specs.Places.{IsAt};
 ghost use Rattle.index_model.specs.Refusals.{IsTold, RefusesUid};
@@ -46,6 +46,32 @@ fn wrong_root_uid(nodes: &[Node]) -> Option<u64>
 /// The first UID in the order of the document that is 0, is there already, or is over the
 /// highest.
 fn first_bad_uid(alloc: Global, highest: u64, nodes: &[Node]) -> Result<Option<u64>, NoMemory>
+    ensures { IfOk result (TellsFirst (HasBadUid highest nodes.now) nodes.now) }
+{
+    if uids_ascend(highest, nodes) {
+        return Ok(None);
+    }
+    first_bad_of_any(alloc, highest, nodes)
+}
+
+/// Whether the UIDs ascend in the order of the document, from above 0 to the highest at most.
+/// Then none is bad.
+fn uids_ascend(highest: u64, nodes: &[Node]) -> bool
+    ensures { result ≡ true → (at : ℕ) → ¬ HasBadUid highest nodes.now at }
+{
+    let mut last = 0;
+    for node in nodes {
+        let uid = node.uid;
+        if uid <= last || uid > highest {
+            return false;
+        }
+        last = uid;
+    }
+    true
+}
+
+/// The first bad UID, where they stand in any order.
+fn first_bad_of_any(alloc: Global, highest: u64, nodes: &[Node]) -> Result<Option<u64>, NoMemory>
     ensures { IfOk result (TellsFirst (HasBadUid highest nodes.now) nodes.now) }
 {
     let mut seen = BTreeSet::new(alloc);

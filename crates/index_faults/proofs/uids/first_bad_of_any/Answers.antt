@@ -2,7 +2,7 @@ use Rattle.std.proofs.Common.{length, refl}
 use Rattle.std.proofs.lemmas.Option.{slice_get_read}
 use Rattle.index_faults.proofs.Keys.{was_free, was_had}
 use Rattle.index_faults.proofs.UidSteps.{out_here, taken_here, step, end}
-use Rattle.index_faults.proofs.uids.first_bad_uid.Goals as goal
+use Rattle.index_faults.proofs.uids.first_bad_of_any.Goals as goal
 
 pub returns-then-is_out : goal.returns-then-is_out
 returns-then-is_out c =

@@ -2,7 +2,7 @@ use Rattle.std.proofs.Common.{length, refl, arith}
 use Rattle.std.proofs.lemmas.Option.{slice_get_read}
 use Rattle.index_faults.proofs.Keys.{was_free, was_had}
 use Rattle.index_faults.proofs.NameSteps.{begin, taken_here, step, end}
-use Rattle.index_faults.proofs.names.first_taken_name.Goals as goal
+use Rattle.index_faults.proofs.names.first_taken_of_any.Goals as goal
 
 pub loop-at-init : goal.loop-at-init
 loop-at-init c = begin c.args.nodes.now c.new-seen.result c.new-seen.ensures.empty
