@@ -6,6 +6,8 @@ mod extents;
 mod faults;
 mod names;
 #[cfg(test)]
+mod orders;
+#[cfg(test)]
 mod rows;
 #[cfg(test)]
 mod slow;
