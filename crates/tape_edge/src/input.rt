@@ -9,7 +9,7 @@ use std::alloc::{AllocError, Global};
 use tape_types::Twin;
 
 /// How many bytes are read at a time, at most.
-const PIECE: usize = 1048576;
+const PIECE: usize = 131072;
 
 /// Why there is no input.
 #[derive(Clone, Copy)]
