@@ -5,6 +5,7 @@ pub mod HeadAgain
 pub mod Moments
 pub mod Names
 pub mod NumberLemmas
+pub mod PlainTags
 pub mod References
 pub mod Runs
 pub mod Shapes

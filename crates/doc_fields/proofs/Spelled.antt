@@ -142,7 +142,7 @@ numbered_only base n k (b ∷ bytes) c taken e =
       | false ↦ λ is x. more_digits base n k b bytes c taken (λ d. numbered_only base (n * base + d) (k + 1) bytes c taken) (digit_of base b) refl x
     ] refl e
 
-begins_split : (word bytes : List ℕ) → begins word bytes ≡ true → bytes ≡ word ++ drop (length word) bytes
+pub begins_split : (word bytes : List ℕ) → begins word bytes ≡ true → bytes ≡ word ++ drop (length word) bytes
 begins_split [] bytes e = refl
 begins_split (w ∷ word) [] e = absurd cc
 begins_split (w ∷ word) (b ∷ bytes) e =

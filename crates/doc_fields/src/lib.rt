@@ -7,6 +7,7 @@ mod declaration;
 mod errors;
 mod laws;
 mod numbers;
+mod plain_tags;
 mod starts;
 mod tags;
 mod texts;
@@ -20,6 +21,7 @@ pub use laws::{
     references_are_spelled, tags_read_back, texts_read_back, values_read_back, versions_are_spelled,
 };
 pub use numbers::read_u64;
+pub use plain_tags::{plain_end, plain_start};
 pub use starts::{Attribute, Start, read_end, read_name, read_rest, read_start};
 pub use tags::{Tag, name_of, tag_of};
 pub use texts::read_text;

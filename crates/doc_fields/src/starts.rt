@@ -9,6 +9,7 @@ ghost use Rattle.doc_fields.specs.Tags.{is_escapable, is_root};
 
 use crate::bytes::{byte, literal, one, skip_space, syntax};
 use crate::errors::{FieldErr, Why};
+use crate::plain_tags::plain_end;
 use crate::tags::{Tag, name_of, tag_of};
 
 /// The attribute of a start tag. An element has at most one.
@@ -385,8 +386,20 @@ pub fn read_start(text: &[u8], at: usize) -> Result<Start, FieldErr>
 
 /// Reads the end tag of an element, which must stand at `at`, and gives the place behind it.
 /// The refusal is `Syntax` at the first byte that doesn't fit.
-#[tactic(auto, unfolding(crate::specs::EndTag::end_at))]
 pub fn read_end(text: &[u8], at: usize, tag: Tag) -> Result<usize, FieldErr>
+    requires { at ≤ length text.now }
+    ensures value { result ≡ end_at text.now at tag }
+    ensures within { IfOk result (λ next. (at < next) × (next ≤ length text.now)) }
+{
+    match plain_end(tag, text, at) {
+        Some(next) => Ok(next),
+        None => read_any_end(text, at, tag),
+    }
+}
+
+/// The same of an end tag that may have white space, byte by byte.
+#[tactic(auto, unfolding(crate::specs::EndTag::end_at))]
+fn read_any_end(text: &[u8], at: usize, tag: Tag) -> Result<usize, FieldErr>
     requires { at ≤ length text.now }
     ensures value { result ≡ end_at text.now at tag }
     ensures within { IfOk result (λ next. (at < next) × (next ≤ length text.now)) }
