@@ -5,6 +5,7 @@
 mod errors;
 mod heads;
 mod laws;
+mod likely;
 mod pieces;
 mod schema;
 mod values;

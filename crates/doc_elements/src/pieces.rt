@@ -8,10 +8,11 @@ ghost use Rattle.doc_elements.specs.Schema.{required};
 ghost use Rattle.doc_elements.specs.Answers.{Gives, HasRoom, piece_of};
 
 use crate::errors::PieceErr;
+use crate::likely::likely;
 use crate::schema::{Child, Place, child_of, excludes, is_node, may_repeat, required, tag_of};
 use crate::values::{Value, leaf};
 use doc_children::Children;
-use doc_fields::{Start, Tag, Why, byte, read_end, read_name, read_rest, skip_space};
+use doc_fields::{Start, Tag, Why, byte, plain_start, read_end, read_name, read_rest, skip_space};
 use std::alloc::Global;
 
 /// The most nodes of an index, the root among them.
@@ -140,8 +141,32 @@ fn close(frame: Frame, text: &[u8], at: usize) -> Result<(Piece, usize), PieceEr
     Ok((Piece::Closes, next))
 }
 
+/// A child, by its start tag as it is written where that is the likely one.
 #[tactic(auto, unfolding(crate::specs::Pieces::child_at))]
 fn child(
+    alloc: Global,
+    frame: Frame,
+    nodes: u32,
+    text: &[u8],
+    at: usize,
+) -> Result<(Piece, usize), PieceErr>
+    requires { at ≤ length text.now }
+    ensures room { IfOk result (λ x. HasRoom x.0 nodes) }
+    ensures value { (tags : List Tag) → Holds frame.seen tags → Gives (λ x. (piece_of x.0, x.1)) result
+        (child_at (record { place = frame.place; seen = tags }) nodes text.now at) }
+    ensures within { IfOk result (λ x. (at < x.1) × (x.1 ≤ length text.now)) }
+{
+    let tag = likely(frame);
+    if let Some(start) = plain_start(tag, text, at) {
+        let child = verdict(frame, nodes, at, tag)?;
+        return made(alloc, child, tag, at, start, text);
+    }
+    any_child(alloc, frame, nodes, text, at)
+}
+
+/// The same, whatever stands there.
+#[tactic(auto, unfolding(crate::specs::Pieces::child_at))]
+fn any_child(
     alloc: Global,
     frame: Frame,
     nodes: u32,
