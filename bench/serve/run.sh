@@ -23,9 +23,9 @@ if [ "${1:-}" = --only ]; then
   shift 2
 fi
 tar -C "$top" --exclude=out -cf - crates crates.txt HANDLES | tar -C "$copy" -xf -
-# A script is read by pieces of 4 KiB in place of 1 MiB, since a run is otherwise mostly the making of that buffer.
+# A script is read by pieces of 4 KiB in place of 128, since a run is otherwise mostly the making of that buffer.
 piece=$copy/crates/tape_edge/src/input.rt
-sed -i 's/^const PIECE: usize = 1048576;$/const PIECE: usize = 4096;/' "$piece"
+sed -i 's/^const PIECE: usize = 131072;$/const PIECE: usize = 4096;/' "$piece"
 grep -q '^const PIECE: usize = 4096;$' "$piece"
 src=$copy/crates/ltfs_server/src
 for name in $(grep -A 1 '^#\[cfg(test)\]$' "$src/main.rt" | sed -n 's/^mod \(.*\);$/\1/p'); do

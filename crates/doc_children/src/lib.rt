@@ -41,11 +41,6 @@ impl Children {
         }
     }
 
-    /// How many different elements have stood there, as a hint: no contract speaks of it.
-    pub fn count(self) -> u32 {
-        self.bits.count_ones()
-    }
-
     /// The first of these elements that has not stood there.
     pub fn first_missing(self, required: &[Tag]) -> Option<Tag>
         ensures { (tags : List Tag) → Holds self tags → result ≡ first_missing required.now tags }

@@ -37,10 +37,10 @@ const OF_EXTENT: [Tag; 5] = [
     Tag::ByteCount,
 ];
 
-/// The element behind so many others of an order.
-fn behind(order: &[Tag], count: u32) -> Tag {
-    match order.get(count as usize) {
-        Some(tag) => *tag,
+/// The first element of an order that has not stood there, or that of a link.
+fn next_of(order: &[Tag], frame: Frame) -> Tag {
+    match frame.seen.first_missing(order) {
+        Some(tag) => tag,
         None => Tag::Symlink,
     }
 }
@@ -48,9 +48,9 @@ fn behind(order: &[Tag], count: u32) -> Tag {
 /// The element that likely stands next.
 pub fn likely(frame: Frame) -> Tag {
     match frame.place {
-        Place::Root | Place::Directory => behind(&OF_DIRECTORY, frame.seen.count()),
-        Place::File => behind(&OF_FILE, frame.seen.count()),
-        Place::Extent => behind(&OF_EXTENT, frame.seen.count()),
+        Place::Root | Place::Directory => next_of(&OF_DIRECTORY, frame),
+        Place::File => next_of(&OF_FILE, frame),
+        Place::Extent => next_of(&OF_EXTENT, frame),
         Place::Contents if frame.seen.has(Tag::File) => Tag::File,
         Place::Contents => Tag::Directory,
         _ => Tag::Extent,
