@@ -8,7 +8,7 @@ copy=$(mktemp -d)
 trap 'rm -rf "$copy"' EXIT
 
 tar -C "$top" --exclude=out -cf - crates crates.txt HANDLES | tar -C "$copy" -xf -
-cat "$here/crates.txt" >> "$copy/crates.txt"
+cat "$here/uses" >> "$copy/crates.txt"
 for folder in "$here"/*_tests; do
   src=$copy/crates/$(basename "$folder")/src
   mkdir -p "$src"
@@ -17,7 +17,7 @@ for folder in "$here"/*_tests; do
   done
 done
 status=0
-for name in ${*:-$(sed 's/:.*//' "$here/crates.txt")}; do
+for name in ${*:-$(sed 's/:.*//' "$here/uses")}; do
   if (cd "$copy/crates/$name" && rt try --test --seconds 600) > "$copy/said" 2>&1; then
     echo "tests of $name: $(grep -c '^test .* ok$' "$copy/said") passed"
   else
