@@ -4,7 +4,8 @@ use Rattle.tape_types.specs.Times.{civil_of}
 use Rattle.doc_elements.specs.declared.errors.PieceErr.{PieceErr}
 use Rattle.doc_elements.specs.declared.errors.PieceErr.TheVariants as errors
 use Rattle.doc_elements.specs.Schema.{is_node}
-use Rattle.doc_elements.specs.Pieces.{Val, words, time, uuid, letter, number, truth, lock, Piece as Told, opens, whole, closes, leaf}
+use Rattle.doc_elements.specs.Pieces.{Val, words, time, uuid, letter, number, truth, lock, Piece as Told, opens, whole}
+use Rattle.doc_elements.specs.Pieces.{closes, leaf}
 use Rattle.doc_elements.specs.declared.pieces.Piece.{Piece}
 use Rattle.doc_elements.specs.declared.pieces.Piece.TheVariants as code_pieces
 use Rattle.doc_elements.specs.declared.values.Value.{Value}

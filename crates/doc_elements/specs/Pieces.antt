@@ -1,6 +1,7 @@
 -- The piece of a document that follows: an end tag of the innermost open parent, a start tag of a parent, or a whole
 -- leaf.
-use Rattle.std.specs.Prelude.{ℕ, ◌+◌, ◌^◌, List, [], Bool, true, false, Option, Some, None, Result, Ok, Err, length, nat_le, nat_lt, not, ◌==◌, ◌&&◌, if◌then◌else◌}
+use Rattle.std.specs.Prelude.{ℕ, ◌+◌, ◌^◌, List, [], Bool, true, false, Option, Some, None, Result, Ok, Err, length}
+use Rattle.std.specs.Prelude.{nat_le, nat_lt, not, ◌==◌, ◌&&◌, if◌then◌else◌}
 use Rattle.std.specs.List.{list_any}
 use Rattle.std.specs.Str.{chars, is_utf8}
 use Rattle.tape_types.specs.declared.times.Civil.{Civil}

@@ -2,7 +2,17 @@
 -- order.
 use Rattle.std.specs.Prelude.{ℕ, List, [], ◌∷◌, Bool, true, false}
 use Rattle.doc_fields.specs.declared.tags.Tag.{Tag}
-use Rattle.doc_fields.specs.declared.tags.Tag.TheVariants.{LtfsLabel, LtfsIndex, Creator, Comment, FormatTime, VolumeUuid, Location, Partition, Partitions, IndexLetter, DataLetter, BlockSize, Compression, GenerationNumber, UpdateTime, PreviousGenerationLocation, StartBlock, AllowPolicyUpdate, DataPlacementPolicy, IndexPartitionCriteria, Size, VolumeLockState, HighestFileUid, Directory, File, FileUid, Name, Length, CreationTime, ChangeTime, ModifyTime, AccessTime, BackupTime, ReadOnly, OpenForWrite, ExtendedAttributes, Contents, ExtentInfo, Symlink, Extent, FileOffset, ByteOffset, ByteCount}
+use Rattle.doc_fields.specs.declared.tags.Tag.TheVariants.{LtfsLabel, LtfsIndex, Creator, Comment, FormatTime}
+use Rattle.doc_fields.specs.declared.tags.Tag.TheVariants.{VolumeUuid, Location, Partition, Partitions, IndexLetter}
+use Rattle.doc_fields.specs.declared.tags.Tag.TheVariants.{DataLetter, BlockSize, Compression, GenerationNumber}
+use Rattle.doc_fields.specs.declared.tags.Tag.TheVariants.{UpdateTime, PreviousGenerationLocation, StartBlock}
+use Rattle.doc_fields.specs.declared.tags.Tag.TheVariants.{AllowPolicyUpdate, DataPlacementPolicy}
+use Rattle.doc_fields.specs.declared.tags.Tag.TheVariants.{IndexPartitionCriteria, Size, VolumeLockState}
+use Rattle.doc_fields.specs.declared.tags.Tag.TheVariants.{HighestFileUid, Directory, File, FileUid, Name, Length}
+use Rattle.doc_fields.specs.declared.tags.Tag.TheVariants.{CreationTime, ChangeTime, ModifyTime, AccessTime, BackupTime}
+use Rattle.doc_fields.specs.declared.tags.Tag.TheVariants.{ReadOnly, OpenForWrite, ExtendedAttributes, Contents}
+use Rattle.doc_fields.specs.declared.tags.Tag.TheVariants.{ExtentInfo, Symlink, Extent, FileOffset, ByteOffset}
+use Rattle.doc_fields.specs.declared.tags.Tag.TheVariants.{ByteCount}
 use Rattle.doc_elements.specs.declared.schema.Place.{Place}
 use Rattle.doc_elements.specs.declared.schema.Place.TheVariants as place
 use Rattle.doc_elements.specs.declared.schema.Form.{Form}

@@ -1,5 +1,5 @@
-//! Which child likely stands next in a parent. It is a guess, by the order in which indexes are written, and no contract
-//! rests on it.
+//! Which child likely stands next in a parent. It is a guess, by the order in which indexes are written, and no
+//! contract rests on it.
 
 use crate::pieces::Frame;
 use crate::schema::{Place, required};

@@ -3,7 +3,8 @@
 ghost use Rattle.std.specs.Prelude.{◌≡◌, ◌≤◌, ◌<◌, ◌+◌, ℕ, true, List, length, IfOk};
 ghost use Rattle.doc_fields.specs.declared.tags.Tag.{Tag};
 ghost use Rattle.doc_children.specs.Children.{Holds, first_missing};
-ghost use Rattle.doc_elements.specs.Pieces.{beside, child_at, close_at, has_any, made, none_missing, opens_node, piece_at, verdict};
+ghost use Rattle.doc_elements.specs.Pieces.{beside, child_at, close_at, has_any, made, none_missing, opens_node};
+ghost use Rattle.doc_elements.specs.Pieces.{piece_at, verdict};
 ghost use Rattle.doc_elements.specs.Schema.{required};
 ghost use Rattle.doc_elements.specs.Answers.{Gives, HasRoom, piece_of};
 

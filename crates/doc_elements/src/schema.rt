@@ -1,7 +1,10 @@
 //! Which elements stand where in a document (LTFS 2.4 on the format label and on the index).
 
 ghost use Rattle.std.specs.Prelude.{◌≡◌};
-ghost use Rattle.doc_elements.specs.Schema.{contents_rule, criteria_rule, directory_rule, excludes, extent_rule, extents_rule, file_rule, index_rule, is_node, label_rule, letters_rule, may_repeat, node_rule, own_rule, policy_rule, required, rule, spot_rule, tag_of};
+ghost use Rattle.doc_elements.specs.Schema.{contents_rule, criteria_rule, directory_rule, excludes, extent_rule};
+ghost use Rattle.doc_elements.specs.Schema.{extents_rule, file_rule, index_rule, is_node, label_rule, letters_rule};
+ghost use Rattle.doc_elements.specs.Schema.{may_repeat, node_rule, own_rule, policy_rule, required, rule, spot_rule};
+ghost use Rattle.doc_elements.specs.Schema.{tag_of};
 
 use doc_fields::Tag;
 

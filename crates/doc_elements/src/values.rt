@@ -5,7 +5,8 @@ ghost use Rattle.std.specs.Str.{chars, is_utf8};
 ghost use Rattle.tape_types.specs.Names.{has_byte};
 ghost use Rattle.ltfs_text.specs.Names.{decoded};
 ghost use Rattle.doc_elements.specs.declared.errors.PieceErr.TheVariants as errors;
-ghost use Rattle.doc_elements.specs.Pieces.{empty_value, is_encoded, is_name, is_too_great, is_volume_name, leaf_at, least, name_in, named, number_in, value_in};
+ghost use Rattle.doc_elements.specs.Pieces.{empty_value, is_encoded, is_name, is_too_great, is_volume_name, leaf_at};
+ghost use Rattle.doc_elements.specs.Pieces.{least, name_in, named, number_in, value_in};
 ghost use Rattle.doc_elements.specs.Answers.{Gives, val_of};
 
 use crate::errors::PieceErr;

@@ -1,5 +1,6 @@
 -- A number: 1 to 20 decimal digits, below 2^64. Leading zeros may stand.
-use Rattle.std.specs.Prelude.{ℕ, ◌+◌, ◌-◌, ◌*◌, ◌^◌, List, [], ◌∷◌, Bool, drop, Ok, ◌==◌, ◌&&◌, nat_lt, nat_le, if◌then◌else◌}
+use Rattle.std.specs.Prelude.{ℕ, ◌+◌, ◌-◌, ◌*◌, ◌^◌, List, [], ◌∷◌, Bool, drop, Ok, ◌==◌, ◌&&◌, nat_lt, nat_le}
+use Rattle.std.specs.Prelude.{if◌then◌else◌}
 use Rattle.doc_fields.specs.declared.errors.Why.TheVariants.{Syntax, Number}
 use Rattle.doc_fields.specs.Reading.{Read, fault}
 

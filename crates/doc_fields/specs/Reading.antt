@@ -1,5 +1,6 @@
 -- Reading from left to right: a value and the place behind it, or the first place that doesn't fit, and why.
-use Rattle.std.specs.Prelude.{◌≡◌, ℕ, ◌+◌, ◌-◌, List, [], ◌∷◌, ◌++◌, length, Bool, true, get_or, take, drop, Result, Ok, Err, ◌==◌, nat_eq, nat_lt, ◌&&◌, if◌then◌else◌}
+use Rattle.std.specs.Prelude.{◌≡◌, ℕ, ◌+◌, ◌-◌, List, [], ◌∷◌, ◌++◌, length, Bool, true, get_or, take, drop, Result, Ok}
+use Rattle.std.specs.Prelude.{Err, ◌==◌, nat_eq, nat_lt, ◌&&◌, if◌then◌else◌}
 use Rattle.std.specs.List.{starts_with}
 use Rattle.doc_fields.specs.declared.errors.FieldErr.{FieldErr}
 use Rattle.doc_fields.specs.declared.errors.Why.{Why}

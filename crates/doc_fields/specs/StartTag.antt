@@ -1,5 +1,6 @@
 -- A start tag: `<`, the element's name, attributes, `>` or `/>`.
-use Rattle.std.specs.Prelude.{ℕ, ◌+◌, List, Bool, true, false, length, drop, not, codes, Option, Some, None, Ok, Err, nat_le, ◌==◌, ◌&&◌, ◌||◌, if◌then◌else◌}
+use Rattle.std.specs.Prelude.{ℕ, ◌+◌, List, Bool, true, false, length, drop, not, codes, Option, Some, None, Ok, Err}
+use Rattle.std.specs.Prelude.{nat_le, ◌==◌, ◌&&◌, ◌||◌, if◌then◌else◌}
 use Rattle.doc_fields.specs.declared.errors.FieldErr.{FieldErr}
 use Rattle.doc_fields.specs.declared.errors.Why.{Why}
 use Rattle.doc_fields.specs.declared.errors.Why.TheVariants as why

@@ -2,7 +2,17 @@
 use Rattle.std.specs.Prelude.{ℕ, List, [], ◌∷◌, Bool, true, false, Option, Some, None, nat_eq, codes, if◌then◌else◌}
 use Rattle.std.specs.Cmp.Lexicographic.{pointwise}
 use Rattle.doc_fields.specs.declared.tags.Tag.{Tag}
-use Rattle.doc_fields.specs.declared.tags.Tag.TheVariants.{LtfsLabel, LtfsIndex, Creator, Comment, FormatTime, VolumeUuid, Location, Partition, Partitions, IndexLetter, DataLetter, BlockSize, Compression, GenerationNumber, UpdateTime, PreviousGenerationLocation, StartBlock, AllowPolicyUpdate, DataPlacementPolicy, IndexPartitionCriteria, Size, VolumeLockState, HighestFileUid, Directory, File, FileUid, Name, Length, CreationTime, ChangeTime, ModifyTime, AccessTime, BackupTime, ReadOnly, OpenForWrite, ExtendedAttributes, Contents, ExtentInfo, Symlink, Extent, FileOffset, ByteOffset, ByteCount}
+use Rattle.doc_fields.specs.declared.tags.Tag.TheVariants.{LtfsLabel, LtfsIndex, Creator, Comment, FormatTime}
+use Rattle.doc_fields.specs.declared.tags.Tag.TheVariants.{VolumeUuid, Location, Partition, Partitions, IndexLetter}
+use Rattle.doc_fields.specs.declared.tags.Tag.TheVariants.{DataLetter, BlockSize, Compression, GenerationNumber}
+use Rattle.doc_fields.specs.declared.tags.Tag.TheVariants.{UpdateTime, PreviousGenerationLocation, StartBlock}
+use Rattle.doc_fields.specs.declared.tags.Tag.TheVariants.{AllowPolicyUpdate, DataPlacementPolicy}
+use Rattle.doc_fields.specs.declared.tags.Tag.TheVariants.{IndexPartitionCriteria, Size, VolumeLockState}
+use Rattle.doc_fields.specs.declared.tags.Tag.TheVariants.{HighestFileUid, Directory, File, FileUid, Name, Length}
+use Rattle.doc_fields.specs.declared.tags.Tag.TheVariants.{CreationTime, ChangeTime, ModifyTime, AccessTime, BackupTime}
+use Rattle.doc_fields.specs.declared.tags.Tag.TheVariants.{ReadOnly, OpenForWrite, ExtendedAttributes, Contents}
+use Rattle.doc_fields.specs.declared.tags.Tag.TheVariants.{ExtentInfo, Symlink, Extent, FileOffset, ByteOffset}
+use Rattle.doc_fields.specs.declared.tags.Tag.TheVariants.{ByteCount}
 
 -- an element's name
 abbrev pub spelled : Tag → List ℕ

@@ -1,6 +1,7 @@
 -- The text of an element: the characters up to the next `<`, with references resolved and each end of a line as a line
 -- feed.
-use Rattle.std.specs.Prelude.{◌≡◌, IsUtf8, true, ℕ, zero, suc, ◌+◌, ◌-◌, ◌*◌, List, [], ◌∷◌, Bool, false, length, take, drop, codes, not, Option, Some, None, Ok, Err, nat_le, ◌==◌, ◌&&◌, ◌||◌, if◌then◌else◌}
+use Rattle.std.specs.Prelude.{◌≡◌, IsUtf8, true, ℕ, zero, suc, ◌+◌, ◌-◌, ◌*◌, List, [], ◌∷◌, Bool, false, length, take}
+use Rattle.std.specs.Prelude.{drop, codes, not, Option, Some, None, Ok, Err, nat_le, ◌==◌, ◌&&◌, ◌||◌, if◌then◌else◌}
 use Rattle.std.specs.Char.{encode_utf8}
 use Rattle.std.specs.List.{list_all}
 use Rattle.std.specs.Str.{chars, encode_utf8_all}

@@ -1,7 +1,8 @@
 //! The declaration with which a document may begin.
 
 ghost use Rattle.std.specs.Prelude.{◌≡◌, ◌≤◌, ◌<◌, ◌+◌, length, true, IfOk};
-ghost use Rattle.doc_fields.specs.Declaration.{close_at, encoding_at, follows, head_at, is_told, label, parts_at, standalone_at, told_at};
+ghost use Rattle.doc_fields.specs.Declaration.{close_at, encoding_at, follows, head_at, is_told, label, parts_at};
+ghost use Rattle.doc_fields.specs.Declaration.{standalone_at, told_at};
 ghost use Rattle.doc_fields.specs.Reading.{has_no_zero};
 
 use crate::bytes::{begins, byte, literal, one, skip_space, syntax};

@@ -1,6 +1,7 @@
 //! What is written is read again.
 
-ghost use Rattle.std.specs.Prelude.{◌≡◌, ◌≤◌, ◌<◌, ◌+◌, ◌^◌, ◌++◌, ◌∷◌, ◌↔◌, [], ℕ, List, Bool, length, drop, true, false, Ok, Some};
+ghost use Rattle.std.specs.Prelude.{◌≡◌, ◌≤◌, ◌<◌, ◌+◌, ◌^◌, ◌++◌, ◌∷◌, ◌↔◌, [], ℕ, List, Bool, length, drop, true};
+ghost use Rattle.std.specs.Prelude.{false, Ok, Some};
 ghost use Rattle.doc_fields.specs.declared.starts.Attribute.{Attribute};
 ghost use Rattle.doc_fields.specs.declared.tags.Tag.{Tag};
 ghost use Rattle.doc_fields.specs.declared.values.LockState.{LockState};

@@ -4,7 +4,9 @@ ghost use Rattle.std.specs.Prelude.{◌≡◌, ◌≤◌, ◌<◌, ◌+◌, ℕ,
 ghost use Rattle.doc_fields.specs.declared.errors.Why.TheVariants.{Syntax};
 ghost use Rattle.doc_fields.specs.EndTag.{end_at};
 ghost use Rattle.doc_fields.specs.Space.{run_end};
-ghost use Rattle.doc_fields.specs.StartTag.{attribute_at, begins_name, behind_at, closes_at, first_at, in_name, in_range, is_known, is_version, name_at, named_at, no_version, percent_of, quoted_at, rest_at, second_at, start_at, value_at, version_at, versioned};
+ghost use Rattle.doc_fields.specs.StartTag.{attribute_at, begins_name, behind_at, closes_at, first_at, in_name};
+ghost use Rattle.doc_fields.specs.StartTag.{in_range, is_known, is_version, name_at, named_at, no_version, percent_of};
+ghost use Rattle.doc_fields.specs.StartTag.{quoted_at, rest_at, second_at, start_at, value_at, version_at, versioned};
 ghost use Rattle.doc_fields.specs.Tags.{is_escapable, is_root};
 
 use crate::bytes::{byte, literal, one, skip_space, syntax};

@@ -1,10 +1,13 @@
 //! The text of an element.
 
-ghost use Rattle.std.specs.Prelude.{◌≡◌, ◌≤◌, ◌<◌, ◌+◌, ◌^◌, ◌⊎◌, ◌==◌, not, length, drop, take, IfOk, IfSome, string_bytes};
+ghost use Rattle.std.specs.Prelude.{◌≡◌, ◌≤◌, ◌<◌, ◌+◌, ◌^◌, ◌⊎◌, ◌==◌, not, length, drop, take, IfOk, IfSome};
+ghost use Rattle.std.specs.Prelude.{string_bytes};
 ghost use Rattle.std.specs.List.{list_all};
 ghost use Rattle.doc_fields.specs.Reading.{Gives, begins, between};
 ghost use Rattle.doc_fields.specs.Space.{run_end};
-ghost use Rattle.doc_fields.specs.Texts.{digit_of, finished, is_allowed, is_cut_number, is_cut_reference, is_simple, line_feeds, numbered, reference, resolved_text, run_text, text_at, text_end, unit_at};
+ghost use Rattle.doc_fields.specs.Texts.{digit_of, finished, is_allowed, is_cut_number, is_cut_reference, is_simple};
+ghost use Rattle.doc_fields.specs.Texts.{line_feeds, numbered, reference, resolved_text, run_text, text_at, text_end};
+ghost use Rattle.doc_fields.specs.Texts.{unit_at};
 
 use crate::bytes::{begins, syntax};
 use crate::errors::FieldErr;

@@ -1,7 +1,8 @@
 //! The other forms of a leaf's value. Each is read from the place of its first byte.
 
 ghost use Rattle.std.specs.Prelude.{◌≡◌, ◌≤◌, ◌<◌, ◌+◌, length, IfOk, IfSome, option_map};
-ghost use Rattle.doc_fields.specs.Values.{IsTimeRead, bool_at, fits, fits_place, is_cut_shape, is_hex_digit, letter_at, lock_at, shown, time_at, uuid_at, value_fault};
+ghost use Rattle.doc_fields.specs.Values.{IsTimeRead, bool_at, fits, fits_place, is_cut_shape, is_hex_digit, letter_at};
+ghost use Rattle.doc_fields.specs.Values.{lock_at, shown, time_at, uuid_at, value_fault};
 ghost use Rattle.tape_types.specs.Times.{civil_in, civil_of};
 ghost use Rattle.tape_types.specs.Uuids.{uuid_in};
 

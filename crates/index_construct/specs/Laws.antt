@@ -6,4 +6,5 @@ use Rattle.index_construct.specs.Blocks.{AreBlocks, blocks_of}
 pub record AreCutInOneWay : Type 0 where
   pub cut : (size : ℕ) (doc : List ℕ) → 1 ≤ size → AreBlocks size doc (blocks_of size doc)
   pub only : (size : ℕ) (doc : List ℕ) (bs : List (List ℕ)) → 1 ≤ size → AreBlocks size doc bs → bs ≡ blocks_of size doc
-  pub count : (size : ℕ) (doc : List ℕ) (bs : List (List ℕ)) → 1 ≤ size → AreBlocks size doc bs → length bs ≡ div_ceil (length doc) size
+  pub count : (size : ℕ) (doc : List ℕ) (bs : List (List ℕ)) → 1 ≤ size → AreBlocks size doc bs
+      → length bs ≡ div_ceil (length doc) size

@@ -9,7 +9,14 @@ use Rattle.tape_types.specs.Uuids.{uuid_text}
 use Rattle.doc_fields.specs.declared.starts.Attribute.{Attribute}
 use Rattle.doc_fields.specs.declared.starts.Attribute.TheVariants.{Absent, Version, Percent}
 use Rattle.doc_fields.specs.declared.tags.Tag.{Tag}
-use Rattle.doc_fields.specs.declared.tags.Tag.TheVariants.{LtfsIndex, Creator, Comment, VolumeUuid, Location, Partition, GenerationNumber, UpdateTime, PreviousGenerationLocation, StartBlock, AllowPolicyUpdate, DataPlacementPolicy, IndexPartitionCriteria, Size, VolumeLockState, HighestFileUid, Directory, File, FileUid, Name, Length, CreationTime, ChangeTime, ModifyTime, AccessTime, BackupTime, ReadOnly, Contents, ExtentInfo, Symlink, Extent, FileOffset, ByteOffset, ByteCount}
+use Rattle.doc_fields.specs.declared.tags.Tag.TheVariants.{LtfsIndex, Creator, Comment, VolumeUuid, Location, Partition}
+use Rattle.doc_fields.specs.declared.tags.Tag.TheVariants.{GenerationNumber, UpdateTime, PreviousGenerationLocation}
+use Rattle.doc_fields.specs.declared.tags.Tag.TheVariants.{StartBlock, AllowPolicyUpdate, DataPlacementPolicy}
+use Rattle.doc_fields.specs.declared.tags.Tag.TheVariants.{IndexPartitionCriteria, Size, VolumeLockState}
+use Rattle.doc_fields.specs.declared.tags.Tag.TheVariants.{HighestFileUid, Directory, File, FileUid, Name, Length}
+use Rattle.doc_fields.specs.declared.tags.Tag.TheVariants.{CreationTime, ChangeTime, ModifyTime, AccessTime, BackupTime}
+use Rattle.doc_fields.specs.declared.tags.Tag.TheVariants.{ReadOnly, Contents, ExtentInfo, Symlink, Extent, FileOffset}
+use Rattle.doc_fields.specs.declared.tags.Tag.TheVariants.{ByteOffset, ByteCount}
 use Rattle.doc_fields.specs.Values.{lock_word}
 use Rattle.doc_fields.specs.Written.{start_text, end_text, bool_text, escape}
 use Rattle.ltfs_text.specs.declared.names.NameText.{NameText}
@@ -18,7 +25,8 @@ pub use Rattle.doc_elements.specs.Written.{element, encoding, head}
 use Rattle.index_model.specs.declared.indexes.Policy.{Policy}
 use Rattle.index_model.specs.declared.indexes.Spot.{Spot}
 use Rattle.index_model.specs.declared.nodes.RawExtent.{RawExtent}
-use Rattle.index_model.specs.Values.{TimesValue, NodeFacts, Nodes, no_nodes, directory, file, link, VolumeFacts, IndexValue}
+use Rattle.index_model.specs.Values.{TimesValue, NodeFacts, Nodes, no_nodes, directory, file, link, VolumeFacts}
+use Rattle.index_model.specs.Values.{IndexValue}
 
 abbrev pub number : Tag → ℕ → List ℕ
 number tag n = element tag (decimal n)

@@ -2,7 +2,11 @@
 use Rattle.std.specs.Prelude.{◌≡◌, ◌⊎◌, ◌≤◌, ℕ, List, [], ◌∷◌, Option, Some, None, ◌==◌, if◌then◌else◌}
 use Rattle.std.specs.Option.{option_map}
 use Rattle.doc_fields.specs.declared.tags.Tag.{Tag}
-use Rattle.doc_fields.specs.declared.tags.Tag.TheVariants.{Creator, Comment, VolumeUuid, Partition, GenerationNumber, UpdateTime, StartBlock, AllowPolicyUpdate, Size, VolumeLockState, HighestFileUid, FileUid, Name, Length, CreationTime, ChangeTime, ModifyTime, AccessTime, BackupTime, ReadOnly, Symlink, FileOffset, ByteOffset, ByteCount}
+use Rattle.doc_fields.specs.declared.tags.Tag.TheVariants.{Creator, Comment, VolumeUuid, Partition, GenerationNumber}
+use Rattle.doc_fields.specs.declared.tags.Tag.TheVariants.{UpdateTime, StartBlock, AllowPolicyUpdate, Size}
+use Rattle.doc_fields.specs.declared.tags.Tag.TheVariants.{VolumeLockState, HighestFileUid, FileUid, Name, Length}
+use Rattle.doc_fields.specs.declared.tags.Tag.TheVariants.{CreationTime, ChangeTime, ModifyTime, AccessTime, BackupTime}
+use Rattle.doc_fields.specs.declared.tags.Tag.TheVariants.{ReadOnly, Symlink, FileOffset, ByteOffset, ByteCount}
 use Rattle.doc_children.specs.Children.{code}
 use Rattle.index_model.specs.declared.indexes.Index.{Index}
 use Rattle.index_model.specs.declared.indexes.Policy.{Policy}

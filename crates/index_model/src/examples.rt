@@ -1,7 +1,8 @@
 ghost use Rattle.std.specs.Prelude.{◌+◌, ◌^◌};
 ghost use Rattle.tape_types.specs.declared.moments.Moment.{Moment};
 ghost use Rattle.tape_types.specs.declared.moments.Times.{Times};
-ghost use Rattle.index_model.specs.Archive.{archive, archive_nodes, index_of, late_node, long_file, node_in_file, one_name, shared_byte, touching, with_file};
+ghost use Rattle.index_model.specs.Archive.{archive, archive_nodes, index_of, late_node, long_file, node_in_file};
+ghost use Rattle.index_model.specs.Archive.{one_name, shared_byte, touching, with_file};
 ghost use Rattle.index_model.specs.Extents.{AreFiles};
 ghost use Rattle.index_model.specs.declared.nodes.Kind.TheVariants as kinds;
 ghost use Rattle.index_model.specs.Order.{AreInOrder};

@@ -1,11 +1,16 @@
 -- What the pieces of a document tell, one after the other.
-use Rattle.std.specs.Prelude.{◌≡◌, ℕ, zero, suc, pos, List, [], ◌∷◌, ◌++◌, Bool, false, Option, Some, None, length, if◌then◌else◌}
+use Rattle.std.specs.Prelude.{◌≡◌, ℕ, zero, suc, pos, List, [], ◌∷◌, ◌++◌, Bool, false, Option, Some, None, length}
+use Rattle.std.specs.Prelude.{if◌then◌else◌}
 use Rattle.std.specs.Option.{option_map}
 use lib.Dec.{lit<}
 use Rattle.tape_types.specs.declared.moments.Moment.{Moment}
 use Rattle.tape_types.specs.declared.times.Civil.{Civil}
 use Rattle.tape_types.specs.Times.{civil_of}
-use Rattle.doc_fields.specs.declared.tags.Tag.TheVariants.{Creator, Comment, VolumeUuid, Partition, GenerationNumber, UpdateTime, StartBlock, AllowPolicyUpdate, Size, VolumeLockState, HighestFileUid, FileUid, Name, Length, CreationTime, ChangeTime, ModifyTime, AccessTime, BackupTime, ReadOnly, Symlink, FileOffset, ByteOffset, ByteCount}
+use Rattle.doc_fields.specs.declared.tags.Tag.TheVariants.{Creator, Comment, VolumeUuid, Partition, GenerationNumber}
+use Rattle.doc_fields.specs.declared.tags.Tag.TheVariants.{UpdateTime, StartBlock, AllowPolicyUpdate, Size}
+use Rattle.doc_fields.specs.declared.tags.Tag.TheVariants.{VolumeLockState, HighestFileUid, FileUid, Name, Length}
+use Rattle.doc_fields.specs.declared.tags.Tag.TheVariants.{CreationTime, ChangeTime, ModifyTime, AccessTime, BackupTime}
+use Rattle.doc_fields.specs.declared.tags.Tag.TheVariants.{ReadOnly, Symlink, FileOffset, ByteOffset, ByteCount}
 use Rattle.doc_fields.specs.declared.values.LockState.{LockState}
 use Rattle.index_model.specs.declared.indexes.Policy.{Policy}
 use Rattle.index_model.specs.declared.indexes.Spot.{Spot}
@@ -16,7 +21,8 @@ use Rattle.doc_elements.specs.declared.schema.Place.{Place}
 use Rattle.doc_elements.specs.declared.schema.Place.TheVariants as place
 use Rattle.doc_elements.specs.Schema.{is_node}
 use Rattle.index_model.specs.Values.{NodeFacts, TimesValue, NodeValue, VolumeFacts}
-use Rattle.doc_elements.specs.Pieces.{Val, words, time, uuid, letter, number, truth, lock, Piece, opens, whole, closes, leaf}
+use Rattle.doc_elements.specs.Pieces.{Val, words, time, uuid, letter, number, truth, lock, Piece, opens, whole, closes}
+use Rattle.doc_elements.specs.Pieces.{leaf}
 use Rattle.doc_elements.specs.Elements.{Item, plain, bare, nested, Items, no_items, item}
 use Rattle.index_model.specs.Grammar.{own}
 

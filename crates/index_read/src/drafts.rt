@@ -10,7 +10,9 @@ ghost use Rattle.doc_elements.specs.Pieces.{letter, number, words, time, uuid, t
 ghost use Rattle.index_model.specs.Values.{facts_of, value_of, volume_of};
 ghost use Rattle.doc_elements.specs.Answers.{val_of};
 ghost use Rattle.index_read.specs.Drafts.{state_of};
-ghost use Rattle.index_read.specs.Told.{begun, blank, blank_node, blank_volume, changed, ended, epoch, extent_with, facts_with, kind_with, leaf_told, node_with, one_more, policy_with, spot_with, volume_with, with_extent};
+ghost use Rattle.index_read.specs.Told.{begun, blank, blank_node, blank_volume, changed, ended, epoch, extent_with};
+ghost use Rattle.index_read.specs.Told.{facts_with, kind_with, leaf_told, node_with, one_more, policy_with, spot_with};
+ghost use Rattle.index_read.specs.Told.{volume_with, with_extent};
 
 use doc_elements::{Place, Value};
 use doc_fields::{LockState, Tag};

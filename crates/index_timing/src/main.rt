@@ -1,6 +1,6 @@
 // Measures how an index is read: reads the document on standard input into memory, and its index as often as the first
-// word says. Prints how many nodes it has, or why it is refused. With the word `clock` behind it, it also prints the least
-// time of a reading by the clock.
+// word says. Prints how many nodes it has, or why it is refused. With the word `clock` behind it, it also prints the
+// least time of a reading by the clock.
 #![tactic(auto)]
 
 use index_model::{IndexErr, refusal_text};

@@ -5,12 +5,107 @@ use tape_edge::{MemSink, MemSource};
 use tape_types::{Bytes, List};
 
 /// The document of an archive as another program may write it.
-const OTHER: &str =
-    "<?xml version=\"1.0\" encoding=\"UTF-8\"?>\n<ltfsindex version=\"2.4.0\">\n  <creator>Example LTFS 2.4.0.0 - Linux - ltfs</creator>\n  <volumeuuid>30a91a08-daae-48d1-ae75-69804e61d2ea</volumeuuid>\n  <generationnumber>3</generationnumber>\n  <comment>Nightly &amp; weekly</comment>\n  <updatetime>2020-01-28T19:39:57.245954278Z</updatetime>\n  <location>\n    <partition>b</partition>\n    <startblock>9</startblock>\n  </location>\n  <previousgenerationlocation>\n    <partition>b</partition>\n    <startblock>5</startblock>\n  </previousgenerationlocation>\n  <allowpolicyupdate>true</allowpolicyupdate>\n  <volumelockstate>unlocked</volumelockstate>\n  <highestfileuid>4</highestfileuid>\n  <directory>\n    <fileuid>1</fileuid>\n    <name>Archive</name>\n    <creationtime>2020-01-28T19:39:50.715656751Z</creationtime>\n      <changetime>2020-01-28T19:39:50.715656751Z</changetime>\n      <modifytime>2020-01-28T19:39:50.715656751Z</modifytime>\n      <accesstime>2020-01-28T19:39:50.715656751Z</accesstime>\n      <backuptime>2020-01-28T19:39:50.715656751Z</backuptime>\n    <readonly>false</readonly>\n    <contents>\n      <directory>\n        <fileuid>2</fileuid>\n        <name>docs</name>\n        <creationtime>2020-01-28T19:39:50.715656751Z</creationtime>\n      <changetime>2020-01-28T19:39:50.715656751Z</changetime>\n      <modifytime>2020-01-28T19:39:50.715656751Z</modifytime>\n      <accesstime>2020-01-28T19:39:50.715656751Z</accesstime>\n      <backuptime>2020-01-28T19:39:50.715656751Z</backuptime>\n        <readonly>false</readonly>\n        <contents>\n          <file>\n            <fileuid>3</fileuid>\n            <name>read me.txt</name>\n            <length>5</length>\n            <creationtime>2020-01-28T19:39:50.715656751Z</creationtime>\n      <changetime>2020-01-28T19:39:50.715656751Z</changetime>\n      <modifytime>2020-01-28T19:39:50.715656751Z</modifytime>\n      <accesstime>2020-01-28T19:39:50.715656751Z</accesstime>\n      <backuptime>2020-01-28T19:39:50.715656751Z</backuptime>\n            <readonly>false</readonly>\n            <openforwrite>false</openforwrite>\n            <extentinfo>\n              <extent>\n                <fileoffset>0</fileoffset>\n                <partition>b</partition>\n                <startblock>7</startblock>\n                <byteoffset>0</byteoffset>\n                <bytecount>5</bytecount>\n              </extent>\n            </extentinfo>\n          </file>\n        </contents>\n      </directory>\n      <file>\n        <fileuid>4</fileuid>\n        <name>latest</name>\n        <length>16</length>\n        <creationtime>2020-01-28T19:39:50.715656751Z</creationtime>\n      <changetime>2020-01-28T19:39:50.715656751Z</changetime>\n      <modifytime>2020-01-28T19:39:50.715656751Z</modifytime>\n      <accesstime>2020-01-28T19:39:50.715656751Z</accesstime>\n      <backuptime>2020-01-28T19:39:50.715656751Z</backuptime>\n        <readonly>false</readonly>\n        <symlink>docs/read me.txt</symlink>\n      </file>\n    </contents>\n  </directory>\n</ltfsindex>\n";
+const OTHER: &str = "<?xml version=\"1.0\" encoding=\"UTF-8\"?>\n\
+    <ltfsindex version=\"2.4.0\">\n\
+    \x20 <creator>Example LTFS 2.4.0.0 - Linux - ltfs</creator>\n\
+    \x20 <volumeuuid>30a91a08-daae-48d1-ae75-69804e61d2ea</volumeuuid>\n\
+    \x20 <generationnumber>3</generationnumber>\n\
+    \x20 <comment>Nightly &amp; weekly</comment>\n\
+    \x20 <updatetime>2020-01-28T19:39:57.245954278Z</updatetime>\n\
+    \x20 <location>\n\
+    \x20   <partition>b</partition>\n\
+    \x20   <startblock>9</startblock>\n\
+    \x20 </location>\n\
+    \x20 <previousgenerationlocation>\n\
+    \x20   <partition>b</partition>\n\
+    \x20   <startblock>5</startblock>\n\
+    \x20 </previousgenerationlocation>\n\
+    \x20 <allowpolicyupdate>true</allowpolicyupdate>\n\
+    \x20 <volumelockstate>unlocked</volumelockstate>\n\
+    \x20 <highestfileuid>4</highestfileuid>\n\
+    \x20 <directory>\n\
+    \x20   <fileuid>1</fileuid>\n\
+    \x20   <name>Archive</name>\n\
+    \x20   <creationtime>2020-01-28T19:39:50.715656751Z</creationtime>\n\
+    \x20     <changetime>2020-01-28T19:39:50.715656751Z</changetime>\n\
+    \x20     <modifytime>2020-01-28T19:39:50.715656751Z</modifytime>\n\
+    \x20     <accesstime>2020-01-28T19:39:50.715656751Z</accesstime>\n\
+    \x20     <backuptime>2020-01-28T19:39:50.715656751Z</backuptime>\n\
+    \x20   <readonly>false</readonly>\n\
+    \x20   <contents>\n\
+    \x20     <directory>\n\
+    \x20       <fileuid>2</fileuid>\n\
+    \x20       <name>docs</name>\n\
+    \x20       <creationtime>2020-01-28T19:39:50.715656751Z</creationtime>\n\
+    \x20     <changetime>2020-01-28T19:39:50.715656751Z</changetime>\n\
+    \x20     <modifytime>2020-01-28T19:39:50.715656751Z</modifytime>\n\
+    \x20     <accesstime>2020-01-28T19:39:50.715656751Z</accesstime>\n\
+    \x20     <backuptime>2020-01-28T19:39:50.715656751Z</backuptime>\n\
+    \x20       <readonly>false</readonly>\n\
+    \x20       <contents>\n\
+    \x20         <file>\n\
+    \x20           <fileuid>3</fileuid>\n\
+    \x20           <name>read me.txt</name>\n\
+    \x20           <length>5</length>\n\
+    \x20           <creationtime>2020-01-28T19:39:50.715656751Z</creationtime>\n\
+    \x20     <changetime>2020-01-28T19:39:50.715656751Z</changetime>\n\
+    \x20     <modifytime>2020-01-28T19:39:50.715656751Z</modifytime>\n\
+    \x20     <accesstime>2020-01-28T19:39:50.715656751Z</accesstime>\n\
+    \x20     <backuptime>2020-01-28T19:39:50.715656751Z</backuptime>\n\
+    \x20           <readonly>false</readonly>\n\
+    \x20           <openforwrite>false</openforwrite>\n\
+    \x20           <extentinfo>\n\
+    \x20             <extent>\n\
+    \x20               <fileoffset>0</fileoffset>\n\
+    \x20               <partition>b</partition>\n\
+    \x20               <startblock>7</startblock>\n\
+    \x20               <byteoffset>0</byteoffset>\n\
+    \x20               <bytecount>5</bytecount>\n\
+    \x20             </extent>\n\
+    \x20           </extentinfo>\n\
+    \x20         </file>\n\
+    \x20       </contents>\n\
+    \x20     </directory>\n\
+    \x20     <file>\n\
+    \x20       <fileuid>4</fileuid>\n\
+    \x20       <name>latest</name>\n\
+    \x20       <length>16</length>\n\
+    \x20       <creationtime>2020-01-28T19:39:50.715656751Z</creationtime>\n\
+    \x20     <changetime>2020-01-28T19:39:50.715656751Z</changetime>\n\
+    \x20     <modifytime>2020-01-28T19:39:50.715656751Z</modifytime>\n\
+    \x20     <accesstime>2020-01-28T19:39:50.715656751Z</accesstime>\n\
+    \x20     <backuptime>2020-01-28T19:39:50.715656751Z</backuptime>\n\
+    \x20       <readonly>false</readonly>\n\
+    \x20       <symlink>docs/read me.txt</symlink>\n\
+    \x20     </file>\n\
+    \x20   </contents>\n\
+    \x20 </directory>\n\
+    </ltfsindex>\n";
 
 /// The one text of its index.
-const CANONICAL: &str =
-    "<?xml version=\"1.0\" encoding=\"UTF-8\"?><ltfsindex version=\"2.4.0\"><creator>Example LTFS 2.4.0.0 - Linux - ltfs</creator><comment>Nightly &amp; weekly</comment><volumeuuid>30a91a08-daae-48d1-ae75-69804e61d2ea</volumeuuid><generationnumber>3</generationnumber><updatetime>2020-01-28T19:39:57.245954278Z</updatetime><location><partition>b</partition><startblock>9</startblock></location><previousgenerationlocation><partition>b</partition><startblock>5</startblock></previousgenerationlocation><allowpolicyupdate>true</allowpolicyupdate><volumelockstate>unlocked</volumelockstate><highestfileuid>4</highestfileuid><directory><fileuid>1</fileuid><name>Archive</name><creationtime>2020-01-28T19:39:50.715656751Z</creationtime><changetime>2020-01-28T19:39:50.715656751Z</changetime><modifytime>2020-01-28T19:39:50.715656751Z</modifytime><accesstime>2020-01-28T19:39:50.715656751Z</accesstime><backuptime>2020-01-28T19:39:50.715656751Z</backuptime><readonly>false</readonly><contents><directory><fileuid>2</fileuid><name>docs</name><creationtime>2020-01-28T19:39:50.715656751Z</creationtime><changetime>2020-01-28T19:39:50.715656751Z</changetime><modifytime>2020-01-28T19:39:50.715656751Z</modifytime><accesstime>2020-01-28T19:39:50.715656751Z</accesstime><backuptime>2020-01-28T19:39:50.715656751Z</backuptime><readonly>false</readonly><contents><file><fileuid>3</fileuid><name>read me.txt</name><length>5</length><creationtime>2020-01-28T19:39:50.715656751Z</creationtime><changetime>2020-01-28T19:39:50.715656751Z</changetime><modifytime>2020-01-28T19:39:50.715656751Z</modifytime><accesstime>2020-01-28T19:39:50.715656751Z</accesstime><backuptime>2020-01-28T19:39:50.715656751Z</backuptime><readonly>false</readonly><extentinfo><extent><fileoffset>0</fileoffset><partition>b</partition><startblock>7</startblock><byteoffset>0</byteoffset><bytecount>5</bytecount></extent></extentinfo></file></contents></directory><file><fileuid>4</fileuid><name>latest</name><length>16</length><creationtime>2020-01-28T19:39:50.715656751Z</creationtime><changetime>2020-01-28T19:39:50.715656751Z</changetime><modifytime>2020-01-28T19:39:50.715656751Z</modifytime><accesstime>2020-01-28T19:39:50.715656751Z</accesstime><backuptime>2020-01-28T19:39:50.715656751Z</backuptime><readonly>false</readonly><symlink>docs/read me.txt</symlink></file></contents></directory></ltfsindex>";
+const CANONICAL: &str = "<?xml version=\"1.0\" encoding=\"UTF-8\"?><ltfsindex version=\"2.4.0\">\
+    <creator>Example LTFS 2.4.0.0 - Linux - ltfs</creator><comment>Nightly &amp; weekly</comment>\
+    <volumeuuid>30a91a08-daae-48d1-ae75-69804e61d2ea</volumeuuid><generationnumber>3</generationnumber>\
+    <updatetime>2020-01-28T19:39:57.245954278Z</updatetime><location><partition>b</partition><startblock>9</startblock>\
+    </location><previousgenerationlocation><partition>b</partition><startblock>5</startblock>\
+    </previousgenerationlocation><allowpolicyupdate>true</allowpolicyupdate><volumelockstate>unlocked</volumelockstate>\
+    <highestfileuid>4</highestfileuid><directory><fileuid>1</fileuid><name>Archive</name>\
+    <creationtime>2020-01-28T19:39:50.715656751Z</creationtime><changetime>2020-01-28T19:39:50.715656751Z</changetime>\
+    <modifytime>2020-01-28T19:39:50.715656751Z</modifytime><accesstime>2020-01-28T19:39:50.715656751Z</accesstime>\
+    <backuptime>2020-01-28T19:39:50.715656751Z</backuptime><readonly>false</readonly><contents><directory>\
+    <fileuid>2</fileuid><name>docs</name><creationtime>2020-01-28T19:39:50.715656751Z</creationtime>\
+    <changetime>2020-01-28T19:39:50.715656751Z</changetime><modifytime>2020-01-28T19:39:50.715656751Z</modifytime>\
+    <accesstime>2020-01-28T19:39:50.715656751Z</accesstime><backuptime>2020-01-28T19:39:50.715656751Z</backuptime>\
+    <readonly>false</readonly><contents><file><fileuid>3</fileuid><name>read me.txt</name><length>5</length>\
+    <creationtime>2020-01-28T19:39:50.715656751Z</creationtime><changetime>2020-01-28T19:39:50.715656751Z</changetime>\
+    <modifytime>2020-01-28T19:39:50.715656751Z</modifytime><accesstime>2020-01-28T19:39:50.715656751Z</accesstime>\
+    <backuptime>2020-01-28T19:39:50.715656751Z</backuptime><readonly>false</readonly><extentinfo><extent>\
+    <fileoffset>0</fileoffset><partition>b</partition><startblock>7</startblock><byteoffset>0</byteoffset>\
+    <bytecount>5</bytecount></extent></extentinfo></file></contents></directory><file><fileuid>4</fileuid>\
+    <name>latest</name><length>16</length><creationtime>2020-01-28T19:39:50.715656751Z</creationtime>\
+    <changetime>2020-01-28T19:39:50.715656751Z</changetime><modifytime>2020-01-28T19:39:50.715656751Z</modifytime>\
+    <accesstime>2020-01-28T19:39:50.715656751Z</accesstime><backuptime>2020-01-28T19:39:50.715656751Z</backuptime>\
+    <readonly>false</readonly><symlink>docs/read me.txt</symlink></file></contents></directory></ltfsindex>";
 
 /// The first call fails, or none does.
 fn first_fails(rt: &impl Abort, alloc: Global, fails: bool) -> List<u64> {

@@ -3,7 +3,8 @@ ghost use Rattle.tape_types.specs.Counts.{Rose};
 ghost use Rattle.index_tool.specs.declared.outcomes.Outcome.{Outcome as Ending};
 ghost use Rattle.index_tool.specs.declared.words.Command.TheVariants as commands;
 ghost use Rattle.index_tool.specs.Tool.{IsCommand, IsKnown, IsOneOf};
-ghost use Rattle.index_tool.specs.Outcomes.{IsAnswer, IsCanon, IsCaused, IsChecked, IsJudged, IsOutcomeOf, IsRefusal, IsTold, IsToldWhy, IsWrittenOf, TellsText};
+ghost use Rattle.index_tool.specs.Outcomes.{IsAnswer, IsCanon, IsCaused, IsChecked, IsJudged, IsOutcomeOf, IsRefusal};
+ghost use Rattle.index_tool.specs.Outcomes.{IsTold, IsToldWhy, IsWrittenOf, TellsText};
 
 use crate::outcomes::Outcome;
 use crate::words::{Command, read_words};
@@ -26,7 +27,8 @@ pub fn run<S: Source, K: Sink>(
     source: &mut S,
     out: &mut K,
 ) -> u8
-    // After status 0 the input was the document of an index, and its generation and the count of its nodes were printed,
+    // After status 0 the input was the document of an index,
+    // and its generation and the count of its nodes were printed,
     ensures checked { result ≡ 0 → IsCommand words.now.items commands.Check →
         IfSome (S.left source.old) (λ text. IsChecked text (K.written out.old) (K.written out.new)) }
     // or its one text.

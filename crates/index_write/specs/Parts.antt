@@ -2,14 +2,18 @@
 -- children; the end of a directory follows behind them.
 use Rattle.std.specs.Prelude.{ℕ, List, ◌++◌}
 use Rattle.doc_fields.specs.declared.starts.Attribute.TheVariants.{Absent}
-use Rattle.doc_fields.specs.declared.tags.Tag.TheVariants.{VolumeUuid, Partition, GenerationNumber, UpdateTime, StartBlock, AllowPolicyUpdate, VolumeLockState, HighestFileUid, Creator, Comment, Directory, File, FileUid, Name, ReadOnly, Contents}
+use Rattle.doc_fields.specs.declared.tags.Tag.TheVariants.{VolumeUuid, Partition, GenerationNumber, UpdateTime}
+use Rattle.doc_fields.specs.declared.tags.Tag.TheVariants.{StartBlock, AllowPolicyUpdate, VolumeLockState}
+use Rattle.doc_fields.specs.declared.tags.Tag.TheVariants.{HighestFileUid, Creator, Comment, Directory, File, FileUid}
+use Rattle.doc_fields.specs.declared.tags.Tag.TheVariants.{Name, ReadOnly, Contents}
 use Rattle.tape_types.specs.Uuids.{uuid_text}
 use Rattle.doc_fields.specs.Values.{lock_word}
 use Rattle.doc_fields.specs.Written.{start_text, end_text}
 use Rattle.index_model.specs.declared.nodes.Kind.{Kind}
 use Rattle.index_model.specs.declared.nodes.Kind.TheVariants as kinds
 use Rattle.index_model.specs.declared.indexes.Spot.{Spot}
-use Rattle.index_model.specs.Canonical.{element, number, words, time, letter, if_told, policy, name, times, truth, file_front, file_text, link_text, directory_text, nodes_text}
+use Rattle.index_model.specs.Canonical.{element, number, words, time, letter, if_told, policy, name, times, truth}
+use Rattle.index_model.specs.Canonical.{file_front, file_text, link_text, directory_text, nodes_text}
 use Rattle.index_model.specs.Values.{IndexValue, NodeFacts, NodeValue, VolumeFacts}
 
 -- a directory, up to its children

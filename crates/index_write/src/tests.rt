@@ -4,13 +4,15 @@ use index_model::{Index, Kind, Node, Policy, RawExtent, Spot, TextList};
 use std::alloc::Global;
 use tape_types::{List, Text, Times, parse_time};
 
-const HEAD: &str =
-    "<?xml version=\"1.0\" encoding=\"UTF-8\"?><ltfsindex version=\"2.4.0\"><creator>Example LTFS 2.4.0.0 - Linux - ltfs</creator>";
+const HEAD: &str = "<?xml version=\"1.0\" encoding=\"UTF-8\"?><ltfsindex version=\"2.4.0\">\
+    <creator>Example LTFS 2.4.0.0 - Linux - ltfs</creator>";
 
 const COMMENT: &str = "<comment>Nightly &amp; weekly</comment>";
 
 const VOLUME: &str =
-    "<volumeuuid>30a91a08-daae-48d1-ae75-69804e61d2ea</volumeuuid><generationnumber>3</generationnumber><updatetime>2020-01-28T19:39:57.245954278Z</updatetime><location><partition>b</partition><startblock>9</startblock></location>";
+    "<volumeuuid>30a91a08-daae-48d1-ae75-69804e61d2ea</volumeuuid><generationnumber>3</generationnumber>\
+    <updatetime>2020-01-28T19:39:57.245954278Z</updatetime><location><partition>b</partition><startblock>9</startblock>\
+    </location>";
 
 const BACK: &str =
     "<previousgenerationlocation><partition>b</partition><startblock>5</startblock></previousgenerationlocation>";
@@ -22,7 +24,9 @@ const LOCK: &str = "<volumelockstate>unlocked</volumelockstate>";
 const HIGHEST: &str = "<highestfileuid>4</highestfileuid>";
 
 const TIMES: &str =
-    "<creationtime>2020-01-28T19:39:50.715656751Z</creationtime><changetime>2020-01-28T19:39:50.715656751Z</changetime><modifytime>2020-01-28T19:39:50.715656751Z</modifytime><accesstime>2020-01-28T19:39:50.715656751Z</accesstime><backuptime>2020-01-28T19:39:50.715656751Z</backuptime><readonly>false</readonly>";
+    "<creationtime>2020-01-28T19:39:50.715656751Z</creationtime><changetime>2020-01-28T19:39:50.715656751Z</changetime>\
+    <modifytime>2020-01-28T19:39:50.715656751Z</modifytime><accesstime>2020-01-28T19:39:50.715656751Z</accesstime>\
+    <backuptime>2020-01-28T19:39:50.715656751Z</backuptime><readonly>false</readonly>";
 
 const ROOT: &str = "<directory><fileuid>1</fileuid><name>Archive</name>";
 
@@ -161,7 +165,8 @@ fn an_archive(rt: HostRuntime) {
         TIMES,
         "<contents><file><fileuid>3</fileuid><name>read me.txt</name><length>5</length>",
         TIMES,
-        "<extentinfo><extent><fileoffset>0</fileoffset><partition>b</partition><startblock>7</startblock><byteoffset>0</byteoffset><bytecount>5</bytecount></extent></extentinfo></file></contents></directory>",
+        "<extentinfo><extent><fileoffset>0</fileoffset><partition>b</partition><startblock>7</startblock>\
+        <byteoffset>0</byteoffset><bytecount>5</bytecount></extent></extentinfo></file></contents></directory>",
         "<file><fileuid>4</fileuid><name>latest</name><length>16</length>",
         TIMES,
         "<symlink>docs/read me.txt</symlink></file>",
@@ -250,7 +255,8 @@ fn a_policy_of_two_patterns(rt: HostRuntime) {
         HEAD,
         VOLUME,
         ALLOW,
-        "<dataplacementpolicy><indexpartitioncriteria><size>1048576</size><name>*.txt</name><name></name></indexpartitioncriteria></dataplacementpolicy>",
+        "<dataplacementpolicy><indexpartitioncriteria><size>1048576</size><name>*.txt</name><name></name>\
+        </indexpartitioncriteria></dataplacementpolicy>",
         "<volumelockstate>permlocked</volumelockstate>",
         HIGHEST,
         ROOT,
@@ -322,8 +328,10 @@ fn a_file_of_two_extents(rt: HostRuntime) {
         TIMES,
         "<contents><file><fileuid>2</fileuid><name>f</name><length>1099511627781</length>",
         TIMES,
-        "<extentinfo><extent><fileoffset>0</fileoffset><partition>b</partition><startblock>7</startblock><byteoffset>0</byteoffset><bytecount>5</bytecount></extent>",
-        "<extent><fileoffset>5</fileoffset><partition>a</partition><startblock>4611686018427387904</startblock><byteoffset>1048575</byteoffset><bytecount>1099511627776</bytecount></extent></extentinfo></file>",
+        "<extentinfo><extent><fileoffset>0</fileoffset><partition>b</partition><startblock>7</startblock>\
+        <byteoffset>0</byteoffset><bytecount>5</bytecount></extent>",
+        "<extent><fileoffset>5</fileoffset><partition>a</partition><startblock>4611686018427387904</startblock>\
+        <byteoffset>1048575</byteoffset><bytecount>1099511627776</bytecount></extent></extentinfo></file>",
         ENDS,
     ];
     assert!(rt; shows_nodes(rt.alloc(), &rows, &pieces));

@@ -26,8 +26,8 @@ Fails c (errors.Drive counts) = Unit {0}
 Fails c errors.NoMemory = Unit {0}
 Fails c e = ⊥
 
--- This check of a cartridge failed, and with this cause; or the drive failed or memory was refused, which tells nothing of
--- the cartridge.
+-- This check of a cartridge failed, and with this cause; or the drive failed or memory was refused, which tells nothing
+-- of the cartridge.
 abbrev pub Refuses : MountErr → Type 0 → MountErr → Type 0
 Refuses check cause (errors.Drive counts) = Unit {0}
 Refuses check cause errors.NoMemory = Unit {0}

@@ -1,5 +1,6 @@
 -- What a mount finds of the indexes of a cartridge.
-use Rattle.std.specs.Prelude.{ℕ, ◌+◌, ◌*◌, ◌≤◌, ◌<◌, ◌≡◌, ◌≢◌, ◌↔◌, ◌⊎◌, nat_lt, cond, true, List, [], ◌∷◌, ◌++◌, length, map, reverse}
+use Rattle.std.specs.Prelude.{ℕ, ◌+◌, ◌*◌, ◌≤◌, ◌<◌, ◌≡◌, ◌≢◌, ◌↔◌, ◌⊎◌, nat_lt, cond, true, List, [], ◌∷◌, ◌++◌}
+use Rattle.std.specs.Prelude.{length, map, reverse}
 use Rattle.std.specs.Prelude.{Option, Some, None, IfSome, Result, Ok, Err, slice_get}
 use Rattle.std.specs.List.{AllByRecursion}
 use Rattle.std.specs.Option.{option_map}
@@ -319,8 +320,8 @@ pub record IsMountedAs (label : Label) (choice : Choice) (flags : Flags) (m : Mo
   pub ip_done : (m.ip_done ≡ true) ↔ ((flags.ip_ends ≡ true) × Agrees label.dpart choice)
   pub noted : m.noted ≡ flags.noted
 
--- What holds of a mount over every drive: the label is that of some text, and its letters differ; the index is valid, of that
--- volume, and names only blocks below the two ends, which lie within the capacities.
+-- What holds of a mount over every drive: the label is that of some text, and its letters differ; the index is valid,
+-- of that volume, and names only blocks below the two ends, which lie within the capacities.
 pub record IsSoundMount (limits : Limits) (m : Mounted) : Type 0 where
   pub spelled : IsSpelled m.label
   pub letters : m.label.index ≢ m.label.dpart

@@ -30,8 +30,8 @@ pub record IsSince {D : Type 0} (drive : Ghosts D) (start : Start) (now : D) : T
   pub fits : IfSome (drive.held now) (FitsLimits start.limits)
   pub commands : drive.commands now ≤ 2 ^ 64 - 1
 
--- What a step of a mount answers: what it finds of the cartridge, and what holds of it whether or not the drive tells; or why
--- it refuses. It takes so many commands at most, which only read.
+-- What a step of a mount answers: what it finds of the cartridge, and what holds of it whether or not the drive tells;
+-- or why it refuses. It takes so many commands at most, which only read.
 pub record IsStep {D T : Type 0} (drive : Ghosts D) (start : Start) (most : ℕ) (old new : D)
     (Finds : T → Cartridge → Type 0) (Holds : T → Type 0) (Refuses : MountErr → Cartridge → Type 0)
     (result : Result T MountErr) : Type 0 where

@@ -86,8 +86,8 @@ fn points_back(label: &Label, index: &Index, dps: &[Construct], on_dp: &Option<L
     }
 }
 
-/// Whether an index points back to the last index of the data partition, which has this generation, or to some index there
-/// where it is older than that.
+/// Whether an index points back to the last index of the data partition, which has this generation, or to some index
+/// there where it is older than that.
 fn points_back_from(label: &Label, index: &Index, dps: &[Construct], generation: u64) -> bool
     ensures { (ks : List ConstructOf) → dps.now ≡ map places_of (reverse ks) → IsTrue result
         ↔ (((generation ≤ index.now.generation) × (index.now.back ≡ newest_spot label.now ks))

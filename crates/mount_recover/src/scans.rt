@@ -44,7 +44,8 @@ fn scan_one<D: Drive>(
     requires since { IsSince D.Drive start drive.old }
     requires labels { IfSome (D.held drive.old) (λ c. 4 ≤ length (front (items_of part c))) }
     ensures { IsStep D.Drive start (1 + capacity part start.limits) drive.old drive.new
-        (λ found c. IsContent (items_of part c) found) (IsInPlaces (capacity part start.limits)) (LacksLayout part) result }
+        (λ found c. IsContent (items_of part c) found) (IsInPlaces (capacity part start.limits)) (LacksLayout part)
+        result }
 {
     match scan(alloc, drive, part) {
         Ok(found) => Ok(found),

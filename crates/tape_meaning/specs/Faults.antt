@@ -14,12 +14,14 @@ use Rattle.ltfs_label.specs.Values.{LabelValue}
 use Rattle.tape_content.specs.Readings.{Construct, HasForm, LacksForm, first_of}
 use Rattle.tape_meaning.specs.Labels.{AreOfOneVolume, HasLabel, HasLabels, HasSomeLabel, HasSomeRecord}
 use Rattle.tape_meaning.specs.Meaning.{FitsNode, HasForms, dp_end, ip_end}
-use Rattle.tape_meaning.specs.Pointers.{IsLastOnDp, IsLastOnIp, IsOfVolume, PointsOnDp, PointsOnIp, chosen, indexes_of, text_of}
+use Rattle.tape_meaning.specs.Pointers.{IsLastOnDp, IsLastOnIp, IsOfVolume, PointsOnDp, PointsOnIp, chosen, indexes_of}
+use Rattle.tape_meaning.specs.Pointers.{text_of}
 use Rattle.tape_meaning.specs.declared.errors.MountErr.{MountErr}
 use Rattle.tape_meaning.specs.declared.errors.MountErr.TheVariants as errors
 use Rattle.tape_meaning.specs.declared.labels.Labels.{Labels}
 
--- the first three checks: the records, of the index partition first; then the labels; then whether they are of one volume
+-- the first three checks: the records, of the index partition first; then the labels; then whether they are of one
+-- volume
 pub record HasRecords (c : Cartridge) : Type 0 where
   pub ip : HasSomeRecord c.ip
   pub dp : HasSomeRecord c.dp
@@ -57,8 +59,8 @@ pub record HasNoIndex (c : Cartridge) : Type 0 where
   pub ip : indexes_of c.ip ≡ []
   pub dp : indexes_of c.dp ≡ []
 
--- The sixth: the last index of the data partition, and then that of the index partition. What is said of the last index of a
--- partition, with its first block at this place, where all checks before it hold.
+-- The sixth: the last index of the data partition, and then that of the index partition. What is said of the last index
+-- of a partition, with its first block at this place, where all checks before it hold.
 pub record ComesTo (c : Cartridge) (place : Place) (Says : Labels → Construct → List Construct → Option Index → Type 0)
     : Type 0 where
   pub labels : Labels
@@ -90,8 +92,8 @@ abbrev pub HasWrongPointer : Cartridge → Place → Type 0
 HasWrongPointer c place = ComesTo c place (λ labels k older on_dp.
     (index : Index) × IsOfVolume labels.ip k index × ¬ Points c labels place.part k older on_dp index)
 
--- The seventh: the extents of the chosen index lie before the ends. The node with this UID is the first that has one which
--- doesn't.
+-- The seventh: the extents of the chosen index lie before the ends. The node with this UID is the first that has one
+-- which doesn't.
 pub record HasBadExtent (c : Cartridge) (uid : ℕ) : Type 0 where
   pub labels : Labels
   pub forms : HasForms c labels

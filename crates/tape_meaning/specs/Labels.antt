@@ -45,7 +45,8 @@ pub record AreInTheirPlaces (ip dp : LabelValue) : Type 0 where
   pub in_index : ip.location ≡ ip.index
   pub in_data : dp.location ≡ dp.dpart
 
--- the labels of both partitions are of one volume: they differ in their location alone, which is their partition's letter
+-- the labels of both partitions are of one volume: they differ in their location alone, which is their partition's
+-- letter
 pub record AreOfOneVolume (ip dp : LabelValue) : Type 0 where
   pub origin : AreOfOneOrigin ip dp
   pub layout : AreOfOneLayout ip dp

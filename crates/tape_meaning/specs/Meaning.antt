@@ -60,8 +60,8 @@ pub record HasForms (c : Cartridge) (labels : Labels) : Type 0 where
   pub ip : HasForm c.ip
   pub dp : HasForm c.dp
 
--- What mounting finds: the labels, both partitions in form, what the last index of each reads as, and the chosen one of them,
--- whose extents lie before the ends. The volume's label is that of the index partition.
+-- What mounting finds: the labels, both partitions in form, what the last index of each reads as, and the chosen one of
+-- them, whose extents lie before the ends. The volume's label is that of the index partition.
 pub record Found (c : Cartridge) : Type 0 where
   pub labels : Labels
   pub forms : HasForms c labels

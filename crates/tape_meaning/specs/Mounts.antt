@@ -21,7 +21,8 @@ use Rattle.tape_meaning.specs.declared.mounted.Mounted.{Mounted}
 abbrev pub last_place : Part → Cartridge → Option Place
 last_place part c = option_map (λ pos. record { part = part; pos = pos }) (last_block (indexes_of (items_of part c)))
 
--- where the chosen index stands: on the index partition where its index has the greater generation, or there is no other
+-- where the chosen index stands: on the index partition where its index has the greater generation, or there is no
+-- other
 abbrev pub chosen_place : (on_ip on_dp : Option Index) → Cartridge → Option Place
 chosen_place None on_dp c = last_place Dp c
 chosen_place (Some on_ip) None c = last_place Ip c
@@ -33,7 +34,8 @@ pub record IsDpDone (c : Cartridge) (f : Found c) : Type 0 where
   pub ends : EndsWithLast c.dp (indexes_of c.dp)
   pub choice : chosen_place f.on_ip f.on_dp c ≡ last_place Dp c
 
--- the index partition ends with its last index, which has the chosen generation and points back to the data partition's last
+-- the index partition ends with its last index, which has the chosen generation and points back to the data partition's
+-- last
 pub record IsIpDone (c : Cartridge) (f : Found c) : Type 0 where
   pub ends : EndsWithLast c.ip (indexes_of c.ip)
   pub on_ip : Index
@@ -57,8 +59,8 @@ pub record Mounts (c : Cartridge) (m : Mounted) : Type 0 where
   pub ip_done : (m.ip_done ≡ true) ↔ IsIpDone c found
   pub noted : (m.noted ≡ true) ↔ AreNoted c found.labels.ip
 
--- What holds of a mount over every drive: the label is in its ranges, and the index is valid, of that volume, and names only
--- blocks below the two ends, which lie within the capacities.
+-- What holds of a mount over every drive: the label is in its ranges, and the index is valid, of that volume, and names
+-- only blocks below the two ends, which lie within the capacities.
 pub record IsMount (limits : Limits) (m : Mounted) : Type 0 where
   pub blocks : (4096 ≤ m.label.block) × (m.label.block ≤ 1048576)
   pub letters : IsLetter m.label.index × IsLetter m.label.dpart × (m.label.index ≢ m.label.dpart)

@@ -34,8 +34,8 @@ pub record TellsOfLast (c : Cartridge) (label : Label) (part : Part) (note : Coh
   pub generation : note.generation ≡ index.generation
   pub block : last_block (indexes_of (items_of part c)) ≡ Some note.block
 
--- a note of this volume has a volume change reference of at most the cartridge's, and with just that one it tells of its
--- partition's last index
+-- a note of this volume has a volume change reference of at most the cartridge's, and with just that one it tells of
+-- its partition's last index
 pub record IsHonestNote (c : Cartridge) (label : Label) (part : Part) : Type 0 where
   pub not_ahead : (note : Coherency) → HasValues (note_of part c) note → note.uuid ≡ label.uuid → note.vcr ≤ c.vcr
   pub truthful : (note : Coherency) → HasValues (note_of part c) note → note.uuid ≡ label.uuid → note.vcr ≡ c.vcr

@@ -52,8 +52,8 @@ pub record PointsOnDp (label : Label) (k : Construct) (older : List Construct) (
   pub here : index.here ≡ spot_of label Dp k
   pub back : index.back ≡ newest_spot label older
 
--- Where an index of the index partition points back to: to the data partition's last index where it isn't older than that,
--- and else to some index there; to none where there is none.
+-- Where an index of the index partition points back to: to the data partition's last index where it isn't older than
+-- that, and else to some index there; to none where there is none.
 abbrev pub PointsBack : Label → Index → List Construct → Option Index → Type 0
 PointsBack label index dps None = index.back ≡ None
 PointsBack label index dps (Some on_dp) =

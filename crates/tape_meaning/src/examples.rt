@@ -9,7 +9,8 @@ ghost use Rattle.tape_meaning.specs.Meaning.{Fits, FitsKind, dp_end, ip_end};
 ghost use Rattle.tape_meaning.specs.Mounts.{chosen_place, last_place};
 ghost use Rattle.tape_meaning.specs.Pointers.{PointsBack, PointsOnDp, PointsOnIp, chosen, last_block, newest_spot};
 ghost use Rattle.tape_content.specs.Worked.{first_index, second_index};
-ghost use Rattle.tape_meaning.specs.Worked.{cartridge, extent, in_data, in_index, index, label, last, on_a, on_b, third_index, two};
+ghost use Rattle.tape_meaning.specs.Worked.{cartridge, extent, in_data, in_index, index, label, last, on_a, on_b};
+ghost use Rattle.tape_meaning.specs.Worked.{third_index, two};
 
 /// Which index is chosen, and where it stands: that of the greater generation, and on a tie the data partition's. Where
 /// the partitions end.

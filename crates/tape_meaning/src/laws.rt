@@ -82,8 +82,8 @@ pub fn the_newest_index_is_chosen()
         → f.index.here ≡ record { letter = letter_of f.labels.ip place.part; block = place.pos } }
 {}
 
-/// Notes tell of one index of each partition. One that is ahead of its cartridge isn't honest, and notes that are honest
-/// and coherent tell of the last indexes.
+/// Notes tell of one index of each partition. One that is ahead of its cartridge isn't honest, and notes that are
+/// honest and coherent tell of the last indexes.
 pub fn notes_tell_of_the_last_indexes()
     ensures generation { (c : Cartridge) (label : Label) (part : Part) (note other : Coherency)
         → TellsOfLast c label part note → TellsOfLast c label part other → note.generation ≡ other.generation }

@@ -1,5 +1,5 @@
-//! What a cartridge stands for (LTFS 2.4 on mounting and on consistency): what its labels, its indexes and its notes say,
-//! and why it is no volume. Definitions, the types that they speak of, and laws.
+//! What a cartridge stands for (LTFS 2.4 on mounting and on consistency): what its labels, its indexes and its notes
+//! say, and why it is no volume. Definitions, the types that they speak of, and laws.
 #![tactic(auto)]
 
 mod errors;
