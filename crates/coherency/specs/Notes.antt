@@ -1,5 +1,5 @@
--- The volume coherency attribute, 080Ch, of a partition (LTFS 2.4 on volume coherency information): 70 bytes in the memory of the
--- cartridge, its numbers with the highest byte first.
+-- The volume coherency attribute, 080Ch, of a partition (LTFS 2.4 on volume coherency information): 70 bytes in the
+-- memory of the cartridge, its numbers with the highest byte first.
 use Rattle.std.specs.Prelude.{◌≡◌, ◌≤◌, ℕ, List, [], ◌∷◌, ◌++◌, Some, length, slice_index, codes}
 use Rattle.std.specs.List.{slice_range}
 use Rattle.std.specs.Int.{w64, from_be_bytes, to_be_bytes}

@@ -1,8 +1,8 @@
 use crate::{Coherency, coherent, decode_note, encode_note};
 use tape_types::Note;
 
-const NOTE: [u8; 70] =
-    *b"\x08\0\0\0\0\0\0\0\x0e\0\0\0\0\0\0\0\x01\0\0\0\0\0\0\0\x05\0\x2bLTFS\030a91a08-daae-48d1-ae75-69804e61d2ea\0\x01";
+const NOTE: [u8; 70] = *b"\x08\0\0\0\0\0\0\0\x0e\0\0\0\0\0\0\0\x01\0\0\0\0\0\0\0\x05\0\x2b\
+    LTFS\030a91a08-daae-48d1-ae75-69804e61d2ea\0\x01";
 
 const VALUES: Coherency = Coherency {
     vcr: 14,

@@ -9,7 +9,8 @@ use Rattle.tape_layout.specs.declared.ops.Op.TheVariants as ops
 use Rattle.tape_meaning.specs.Pointers.{indexes_of}
 use Rattle.crash_theory.specs.Images.{IsNext}
 use Rattle.crash_theory.specs.Made.{Entry, Made, after}
-use Rattle.crash_theory.specs.Worked.{covered, entry, mounted, on_dp, on_ip, put_on_ip, so_far, write_again, write_and_sync}
+use Rattle.crash_theory.specs.Worked.{covered, entry, mounted, on_dp, on_ip, put_on_ip, so_far, write_again}
+use Rattle.crash_theory.specs.Worked.{write_and_sync}
 
 -- which indexes an image of the data partition has: up to the last mark the first alone, torn or not
 pub record TellsImages (s : Made) (second : Entry) : Type 0 where

@@ -19,7 +19,8 @@ use Rattle.tape_meaning.specs.Labels.{HasLabels}
 use Rattle.tape_meaning.specs.Meaning.{FitsNode, IsTreeOf}
 use Rattle.tape_meaning.specs.Notes.{IsHonestNote}
 use Rattle.tape_meaning.specs.Pointers.{IsLastOnDp, IsLastOnIp, indexes_of}
-use Rattle.crash_theory.specs.Made.{Base, Entry, Job, Made, Trees, Volume, least, makes, newest, newest_entry, part_items}
+use Rattle.crash_theory.specs.Made.{Base, Entry, Job, Made, Trees, Volume, least, makes, newest, newest_entry}
+use Rattle.crash_theory.specs.Made.{part_items}
 
 -- An index tells the tree of the placements that it covers, with the bytes that stand on this cartridge; it names
 -- only blocks before these ends; and it carries over what the volume does.

@@ -1,5 +1,6 @@
 -- What is kept over each event of a volume that is served, over any drive that tells its cartridge.
-use Rattle.std.specs.Prelude.{ℕ, ◌+◌, ◌-◌, ◌^◌, ◌≤◌, ◌<◌, ◌≡◌, ◌⊎◌, true, false, List, [], ◌∷◌, ◌++◌, length, Option, Some, None}
+use Rattle.std.specs.Prelude.{ℕ, ◌+◌, ◌-◌, ◌^◌, ◌≤◌, ◌<◌, ◌≡◌, ◌⊎◌, true, false, List, [], ◌∷◌, ◌++◌, length, Option}
+use Rattle.std.specs.Prelude.{Some, None}
 use Rattle.tape_types.specs.declared.cartridges.Cartridge.{Cartridge}
 use Rattle.tape_types.specs.declared.cartridges.Note.{Note}
 use Rattle.tape_types.specs.declared.cartridges.Part.{Part}
@@ -169,9 +170,10 @@ pub record ClosesLeave {D : Type 0} (drive : Ghosts D) : Type 0 where
       → IsKept drive (with_jobs [] x) d held → IsCloseDone x.volume x.trees before x.made space rules text index held
       → StandsClosed x.volume x.trees space held
 
--- The next op begins where the drive can go. And what is kept gives the promise: each cartridge that a crash may leave now stands for what was flushed, or more;
--- each that it may have left since the start stands for a prefix of the history; each since an acknowledgement for
--- one that it covers; and where what was flushed covers the history, the cartridge stands for it.
+-- The next op begins where the drive can go. And what is kept gives the promise: each cartridge that a crash may leave
+-- now stands for what was flushed, or more; each that it may have left since the start stands for a prefix of the
+-- history; each since an acknowledgement for one that it covers; and where what was flushed covers the history, the
+-- cartridge stands for it.
 pub record KeptGives {D : Type 0} (drive : Ghosts D) : Type 0 where
   pub next : (x : State) (job : Job) (jobs : List Job) (d : D) (held : Cartridge)
       → IsKept drive (with_jobs (job ∷ jobs) x) d held → IsReached job.op held

@@ -2,7 +2,8 @@
 
 ghost use Rattle.std.specs.Prelude.{Some, None};
 ghost use Rattle.index_model.specs.declared.indexes.Index.{Index};
-ghost use Rattle.crash_theory.specs.Examples.{TellsAhead, TellsCovered, TellsImages, TellsIp, TellsLater, TellsNext, TellsRoles};
+ghost use Rattle.crash_theory.specs.Examples.{TellsAhead, TellsCovered, TellsImages, TellsIp, TellsLater, TellsNext};
+ghost use Rattle.crash_theory.specs.Examples.{TellsRoles};
 ghost use Rattle.crash_theory.specs.JobExamples.{TellsClose, TellsJobs};
 ghost use Rattle.crash_theory.specs.Made.{Entry};
 ghost use Rattle.crash_theory.specs.Worked.{entry, mounted};

@@ -6,7 +6,8 @@ ghost use Rattle.session_script.specs.declared.logs.Ack.{Ack};
 ghost use Rattle.crash_theory.specs.Kept.{Kept, Wait};
 ghost use Rattle.crash_theory.specs.Made.{Job, Made, Trees, Volume};
 ghost use Rattle.crash_theory.specs.Moments.{moment_of};
-ghost use Rattle.crash_theory.specs.Laws.{AdmissionsKeep, ClosesLeave, HistoriesGoOn, ImagesAreFine, KeptGives, StartsAreKept, StepsKeep, SyncsAreHeld};
+ghost use Rattle.crash_theory.specs.Laws.{AdmissionsKeep, ClosesLeave, HistoriesGoOn, ImagesAreFine, KeptGives};
+ghost use Rattle.crash_theory.specs.Laws.{StartsAreKept, StepsKeep, SyncsAreHeld};
 
 use tape_drive::Drive;
 

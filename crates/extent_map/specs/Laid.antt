@@ -1,5 +1,6 @@
 -- How the bytes of a file lie on tape, and what writes and truncations make of it.
-use Rattle.std.specs.Prelude.{ℕ, ◌+◌, ◌-◌, ◌/◌, ◌%◌, ◌^◌, ◌<◌, ◌≤◌, min, max, List, [], ◌∷◌, ◌++◌, ◌==◌, if◌then◌else◌, nat_lt, nat_le}
+use Rattle.std.specs.Prelude.{ℕ, ◌+◌, ◌-◌, ◌/◌, ◌%◌, ◌^◌, ◌<◌, ◌≤◌, min, max, List, [], ◌∷◌, ◌++◌, ◌==◌, if◌then◌else◌}
+use Rattle.std.specs.Prelude.{nat_lt, nat_le}
 use Rattle.std.specs.List.{flat_map, filter}
 use Rattle.tape_types.specs.declared.cartridges.Extent.{Extent}
 
@@ -14,8 +15,8 @@ pub record Room : Type 0 where
   pub laid : Laid
   pub spare : ℕ
 
--- the extents follow one another from a byte on and end before another, each with a byte or more, and each begins within a
--- block; the positions of their blocks are far from the greatest number
+-- the extents follow one another from a byte on and end before another, each with a byte or more, and each begins
+-- within a block; the positions of their blocks are far from the greatest number
 abbrev pub AreLaid : ℕ → ℕ → ℕ → List Extent → Type 0
 AreLaid block_size from end [] = from ≤ end
 AreLaid block_size from end (e ∷ es) =
@@ -62,7 +63,8 @@ cut at es = flat_map (before at) es
 abbrev pub left_from : ℕ → ℕ → List Extent → List Extent
 left_from block_size at es = flat_map (past block_size at) es
 
--- a write: what lay before its range, the new extent, and what lay past its range; the length reaches at least to its end
+-- a write: what lay before its range, the new extent, and what lay past its range; the length reaches at least to its
+-- end
 abbrev pub overlaid : Laid → Extent → Laid
 overlaid f new = record {
   block_size = f.block_size;

@@ -21,8 +21,8 @@ abbrev pub LengthsTruncate : Type 0
 LengthsTruncate = (tape : Tape) (f : Laid) (length : ℕ) → IsLaid f
     → file_cells tape (resized f length) ≡ plain.resized (file_cells tape f) length
 
--- what was cut off never comes back, whatever stands on tape: past the shorter length the bytes are zeros when the file grows
--- again, by a length or by an overlay further on
+-- what was cut off never comes back, whatever stands on tape: past the shorter length the bytes are zeros when the file
+-- grows again, by a length or by an overlay further on
 pub record OldBytesStayAway : Type 0 where
   pub longer : (tape : Tape) (f : Laid) (short long : ℕ) → short ≤ long
       → plain.range_of (file_cells tape (resized (resized f short) long)) short (long - short)

@@ -1,5 +1,6 @@
 -- How the bytes of a range are gathered, block by block.
-use Rattle.std.specs.Prelude.{◌≡◌, ℕ, ◌+◌, ◌&&◌, ◌==◌, Bool, true, false, not, List, [], ◌∷◌, ◌++◌, length, take, drop, replicate, Some, None, slice_get, if◌then◌else◌}
+use Rattle.std.specs.Prelude.{◌≡◌, ℕ, ◌+◌, ◌&&◌, ◌==◌, Bool, true, false, not, List, [], ◌∷◌, ◌++◌, length, take, drop}
+use Rattle.std.specs.Prelude.{replicate, Some, None, slice_get, if◌then◌else◌}
 use Rattle.std.specs.List.{filter, flat_map, list_any}
 use Rattle.std.specs.BTreeSet.{BTreeSet, contains}
 use Rattle.std.specs.Ordering.{nat_cmp, bool_cmp, ordering_then}
@@ -91,7 +92,8 @@ IsBlock tape place block = (byte : ℕ) → tape place.part place.pos byte ≡ s
 abbrev pub IsGathered : Tape → Places → List Piece → List ℕ → Type 0
 IsGathered tape read pieces bytes = bytes_of (gathered tape read pieces) ≡ Some bytes
 
--- One more block is read. Its bytes are put where the plan wants them; or one of them is lost, and so it is of the whole.
+-- One more block is read. Its bytes are put where the plan wants them; or one of them is lost, and so it is of the
+-- whole.
 abbrev pub IsFilled : Tape → Places → Place → List Piece → List ℕ → Bool → Type 0
 IsFilled tape read place pieces bytes true = IsGathered tape (with_place read place) pieces bytes
 IsFilled tape read place pieces bytes false = bytes_of (flat_map (read_piece tape) pieces) ≡ None
@@ -112,8 +114,8 @@ pub record IsPutAt (tape : Tape) (read : Places) (place : Place) (piece : Piece)
   pub long : length part ≡ count
   pub filled : IsFilledPiece tape read place piece part whole
 
--- Where nothing was read, the bytes of a plan are zeros; and where all its places were, they are what it reads. So the bytes
--- of the blocks, put in one block after the other in any order, are those of the range.
+-- Where nothing was read, the bytes of a plan are zeros; and where all its places were, they are what it reads. So the
+-- bytes of the blocks, put in one block after the other in any order, are those of the range.
 pub record RepliesGather : Type 0 where
   pub begins : (tape : Tape) (pieces : List Piece)
       → IsGathered tape (λ place. false) pieces (replicate (size_of pieces) 0)

@@ -1,6 +1,7 @@
 ghost use Rattle.extent_map.specs.Blocks.{BlocksMakeTheFile, NoOtherBlocks};
 ghost use Rattle.extent_map.specs.Replies.{RepliesGather};
-ghost use Rattle.extent_map.specs.Laws.{OverlaysWrite, LengthsTruncate, OldBytesStayAway, PlansRead, OverlaysTakeOut, BlocksHaveTheBytes};
+ghost use Rattle.extent_map.specs.Laws.{OverlaysWrite, LengthsTruncate, OldBytesStayAway, PlansRead, OverlaysTakeOut};
+ghost use Rattle.extent_map.specs.Laws.{BlocksHaveTheBytes};
 
 /// An overlay writes the bytes of the new extent into the file, whatever stands on tape.
 pub fn overlays_write()

@@ -1,8 +1,11 @@
-ghost use Rattle.std.specs.Prelude.{◌≡◌, ℕ, ◌+◌, ◌^◌, ◌<◌, ◌≤◌, take, drop, false, true, length, map, Some, None, slice_get, OnOk, IfOk};
+ghost use Rattle.std.specs.Prelude.{◌≡◌, ℕ, ◌+◌, ◌^◌, ◌<◌, ◌≤◌, take, drop, false, true, length, map, Some, None};
+ghost use Rattle.std.specs.Prelude.{slice_get, OnOk, IfOk};
 ghost use Rattle.std.specs.List.{range_with_len};
 ghost use Rattle.plain_tree.specs.Cells.{bytes_of};
 ghost use Rattle.extent_map.specs.Cells.{Tape};
-ghost use Rattle.extent_map.specs.Replies.{Places, places_in, place_in, with_new, AreMet, bytes_in as bytes_of_piece, size_of, same_part, same_place as is_same_place, IsBlock, IsGathered, IsFilled, IsGatheredPiece, IsFilledPiece, IsPutAt};
+ghost use Rattle.extent_map.specs.Replies.{Places, places_in, place_in, with_new, AreMet, bytes_in as bytes_of_piece};
+ghost use Rattle.extent_map.specs.Replies.{size_of, same_part, same_place as is_same_place, IsBlock, IsGathered};
+ghost use Rattle.extent_map.specs.Replies.{IsFilled, IsGatheredPiece, IsFilledPiece, IsPutAt};
 
 use crate::pieces::Piece;
 use std::alloc::Global;
@@ -48,9 +51,9 @@ fn is_dp(part: Part) -> bool
     }
 }
 
-/// Puts the bytes of a block, or none where no block stands at this place, where a plan wants them among the bytes of its
-/// range, and leaves all others. The blocks may come in any order. False where the block has not all of them: then a byte
-/// of the range is lost. Takes no memory.
+/// Puts the bytes of a block, or none where no block stands at this place, where a plan wants them among the bytes of
+/// its range, and leaves all others. The blocks may come in any order. False where the block has not all of them: then
+/// a byte of the range is lost. Takes no memory.
 pub fn fill(bytes: &mut [u8], pieces: &[Piece], place: Place, block: &[u8]) -> bool
     requires { length bytes.old ≡ size_of pieces.now }
     ensures filled { (tape : Tape) (read : Places) → IsBlock tape place block.now
@@ -133,10 +136,10 @@ fn same_place(one: Place, other: Place) -> bool
 
 /// Takes the bytes of a block from one of them on, where it has all of them.
 fn fill_part(part: &mut [u8], block: &[u8], byte: u32) -> bool
-    ensures whole { result ≡ true → bytes_of (map (λ i. slice_get block.now (byte + i)) (range_with_len 0 (length part.old)))
-        ≡ Some part.new }
-    ensures lost { result ≡ false → bytes_of (map (λ i. slice_get block.now (byte + i)) (range_with_len 0 (length part.old)))
-        ≡ None }
+    ensures whole { result ≡ true
+        → bytes_of (map (λ i. slice_get block.now (byte + i)) (range_with_len 0 (length part.old))) ≡ Some part.new }
+    ensures lost { result ≡ false
+        → bytes_of (map (λ i. slice_get block.now (byte + i)) (range_with_len 0 (length part.old))) ≡ None }
     ensures long { length part.new ≡ length part.old }
 {
     if part.is_empty() {

@@ -83,7 +83,8 @@ pub record CanMoveTo (t : FileTree) (number dir : ℕ) (name : List ℕ) : Type 
 abbrev pub IsAfter : Call → Moment → FileTree → FileTree → Type 0
 IsAfter call at before next = (tape : Tape) → plain_of tape next ≡ after (plain_of tape before) call at
 
--- whatever stands on tape, the extent's bytes are written into the file at each path that has its number, and it is touched
+-- whatever stands on tape, the extent's bytes are written into the file at each path that has its number, and it is
+-- touched
 abbrev pub IsWritten : ℕ → Extent → Moment → FileTree → FileTree → Type 0
 IsWritten file new at before next = (tape : Tape) (path : Path) → StandsAt before path file
     → plain_of tape next

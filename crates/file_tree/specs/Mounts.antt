@@ -1,5 +1,6 @@
 -- The tree of an index (LTFS 2.4 on the index).
-use Rattle.std.specs.Prelude.{◌≡◌, ◌≢◌, ◌⊎◌, ℕ, ◌+◌, ◌*◌, ◌<◌, ◌≤◌, ◌^◌, List, [], ◌∷◌, ◌++◌, ◌==◌, if◌then◌else◌, map, fold, length, Some}
+use Rattle.std.specs.Prelude.{◌≡◌, ◌≢◌, ◌⊎◌, ℕ, ◌+◌, ◌*◌, ◌<◌, ◌≤◌, ◌^◌, List, [], ◌∷◌, ◌++◌, ◌==◌, if◌then◌else◌, map}
+use Rattle.std.specs.Prelude.{fold, length, Some}
 use Rattle.std.specs.List.{AllByRecursion}
 use Rattle.std.specs.FinMap as fin
 use Rattle.tape_types.specs.declared.cartridges.Extent.{Extent}
@@ -146,8 +147,8 @@ abbrev pub EndsBelow : Ends → Letters → ℕ → RawExtent → Type 0
 EndsBelow ends letters size raw =
     0 < raw.count → raw.block * size + raw.byte + raw.count ≤ ends (part_of letters raw.letter) * size
 
--- The tree of an index stands in blocks of the index alone; and where each extent ends before the end of its partition, the
--- tree lies below the ends.
+-- The tree of an index stands in blocks of the index alone; and where each extent ends before the end of its partition,
+-- the tree lies below the ends.
 pub record MountsLieBelow : Type 0 where
   pub blocks : (letters : Letters) (size : ℕ) (index : Index) (t : FileTree) (part : Part) (pos : ℕ)
       → IsTreeOf letters size index t → TreeStandsIn t part pos → IndexStandsIn letters size index.nodes part pos

@@ -19,8 +19,8 @@ use Rattle.plain_tree.specs.Paths.{Path}
 abbrev pub Nodes : Type 0
 Nodes = fin.FinMap path_cmp Node
 
--- the highest uid that was ever given, the volume's name, the bytes of a block, what stands at each path, and for how many
--- nodes more there is memory
+-- the highest uid that was ever given, the volume's name, the bytes of a block, what stands at each path, and for how
+-- many nodes more there is memory
 pub record FileTree : Type 0 where
   pub highest : ℕ
   pub name : List ℕ
@@ -83,8 +83,8 @@ plain_of tape t = record { highest = t.highest; nodes = plain_nodes tape t.nodes
 abbrev pub whole : Tape
 whole part block byte = Some 0
 
--- a node of the plain tree has the uid, the times and the readonly flag of the node that is kept; a directory is one, and so
--- is a link, with its text; a file has its cells
+-- a node of the plain tree has the uid, the times and the readonly flag of the node that is kept; a directory is one,
+-- and so is a link, with its text; a file has its cells
 pub record PlainNodesAgree : Type 0 where
   pub uid : (tape : Tape) (node : Node) → (plain_node_of tape node).uid ≡ node.uid
   pub times : (tape : Tape) (node : Node) → (plain_node_of tape node).times ≡ node.times

@@ -29,8 +29,8 @@ pub record HoldsBlocks (c : Cartridge) (block_size : ℕ) (e : Extent) (bytes : 
   pub each : (k : ℕ) → k * block_size < length bytes
       → slice_get (items_of e.part c) (e.block + k) ≡ Some (Block (take block_size (drop (k * block_size) bytes)))
 
--- Blocks: what a cartridge's blocks hold, its tape holds. Call: an overlay of an extent that holds the bytes of a write, on
--- a tape that has kept the tree's blocks, is the plain tree's write.
+-- Blocks: what a cartridge's blocks hold, its tape holds. Call: an overlay of an extent that holds the bytes of a
+-- write, on a tape that has kept the tree's blocks, is the plain tree's write.
 pub record WritesAreWrites : Type 0 where
   pub blocks : (c : Cartridge) (block_size : ℕ) (e : Extent) (bytes : List ℕ) → HoldsBlocks c block_size e bytes
       → HoldsBytes (tape_of c) block_size e bytes

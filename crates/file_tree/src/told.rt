@@ -1,6 +1,7 @@
 ghost use Rattle.std.specs.Prelude.{◌≡◌, ℕ, ◌<◌, ◌≤◌, map, length, IfOk};
 ghost use Rattle.index_model.specs.Places.{IsAt};
-ghost use Rattle.file_tree.specs.Told.{letter_of as told_letter, raw_of as told_raw, told_kind_of, told_node_of, AreApart};
+ghost use Rattle.file_tree.specs.Told.{letter_of as told_letter, raw_of as told_raw, told_kind_of, told_node_of};
+ghost use Rattle.file_tree.specs.Told.{AreApart};
 
 use crate::nodes::{Kind, Node};
 use crate::raws::Letters;

@@ -24,9 +24,9 @@ labels_for spec = record {
 abbrev pub carried_for : FormatSpec → Carried
 carried_for spec = record { root = spec.name; comment = None; allow = true; policy = spec.policy; lock = None }
 
--- The cartridge stands for the empty tree, with the name and the policy that were asked for, as its first generation, by the
--- indexes of both partitions alike. Each partition ends with its index, that of the index partition is the only one there, and
--- both notes tell of the last indexes.
+-- The cartridge stands for the empty tree, with the name and the policy that were asked for, as its first generation,
+-- by the indexes of both partitions alike. Each partition ends with its index, that of the index partition is the only
+-- one there, and both notes tell of the last indexes.
 pub record IsEmptyVolume (spec : FormatSpec) (c : Cartridge) : Type 0 where
   pub labels : HasLabels c (labels_for spec)
   pub stands : Stands c (carried_for spec) (empty_tree spec.at) 1

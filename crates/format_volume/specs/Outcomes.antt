@@ -15,8 +15,8 @@ pub record CanStand (spec : FormatSpec) (limits : Limits) : Type 0 where
   pub fine : spec_fault spec ≡ None
   pub room : full spec limits ≡ None
 
--- When each refusal comes: a field that may not be so, before all else; then too few positions; a drive fails only where
--- neither holds, and memory may be refused wherever the fields are fine.
+-- When each refusal comes: a field that may not be so, before all else; then too few positions; a drive fails only
+-- where neither holds, and memory may be refused wherever the fields are fine.
 abbrev pub Refuses : FormatSpec → Limits → FormatErr → Type 0
 Refuses spec limits (errors.BadSpec field) = spec_fault spec ≡ Some field
 Refuses spec limits (errors.Full need limit) = (spec_fault spec ≡ None) × (full spec limits ≡ Some (need, limit))

@@ -10,8 +10,8 @@ use Rattle.tape_types.specs.Cartridges.{capacity, items_of}
 use Rattle.tape_drive.specs.Commands.{KeepsRest}
 use Rattle.tape_drive.specs.declared.drive.Drive.{Ghosts}
 
--- Behind so many items of a partition, which stay, stand these and no more. Each of them changed the volume, and all else
--- stays.
+-- Behind so many items of a partition, which stay, stand these and no more. Each of them changed the volume, and all
+-- else stays.
 pub record IsAppended (part : Part) (pos : ℕ) (more : List Item) (old new : Cartridge) : Type 0 where
   pub items : items_of part new ≡ take pos (items_of part old) ++ more
   pub vcr : new.vcr ≡ old.vcr + length more

@@ -61,14 +61,15 @@ pub record CrashesKeepFronts : Type 0 where
   pub rest : (o : Op) (held before image : Cartridge) → WithinOp o held before image
       → KeepsRest (place_of o).part before image
 
--- Where a flush succeeds on a drive that tells its cartridge, a crash from then on leaves that one, until the next step.
+-- Where a flush succeeds on a drive that tells its cartridge, a crash from then on leaves that one, until the next
+-- step.
 abbrev pub FlushesMakeSure : {D : Type 0} → Ghosts D → Type 0
 FlushesMakeSure {D = D} drive = (at : Place) (old new : D) (c image : Cartridge)
     → IsOpStep drive (op.Flush at) done.Flushed old new → drive.held old ≡ Some c → drive.commands new < 2 ^ 64 - 1
     → drive.left_since new (drive.commands new) image → image ≡ c
 
--- What stands in front of an op stays sure over its step, however it ends: where each image of a crash since a number of
--- commands has the front as the cartridge has it, so has each image since that number after the step.
+-- What stands in front of an op stays sure over its step, however it ends: where each image of a crash since a number
+-- of commands has the front as the cartridge has it, so has each image since that number after the step.
 abbrev pub FrontsStaySure : {D : Type 0} → Ghosts D → Type 0
 FrontsStaySure {D = D} drive = (o : Op) (end : StepDone) (old new : D) (c : Cartridge) (t : ℕ)
     → IsOpStep drive o end old new → drive.held old ≡ Some c → IsWithin (place_of o) c → t ≤ drive.commands old

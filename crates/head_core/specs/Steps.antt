@@ -140,8 +140,8 @@ pub record IsReadStep {D : Type 0} (drive : Ghosts D) (at : Place) (end : StepDo
   pub looks : Looks drive (2 * drive.MOST) old new
 
 -- An op was done, or was to be done. Where the drive tells its cartridge, this says how it reads then, and what a crash
--- may have left of it at each moment of the step and may leave now. With one command alone nothing was written: the drive
--- failed to locate, or the op is a flush.
+-- may have left of it at each moment of the step and may leave now. With one command alone nothing was written: the
+-- drive failed to locate, or the op is a flush.
 pub record IsOpStep {D : Type 0} (drive : Ghosts D) (o : Op) (end : StepDone) (old new : D) : Type 0 where
   pub ends : IsEndOfOp o end
   pub made : IsMade drive (place_of o) (most_commands o) end old new

@@ -13,10 +13,11 @@ use Rattle.head_queue.specs.Picks.{IsPicked, IsOpPicked}
 abbrev pub op_place : State → Option Place
 op_place st = option_map (λ (op : Op). op.place) (waiting_op st)
 
--- where what waits in a queue are the requests of a trail, a request that is picked may be served next, and an op that is
--- picked may be done next, however the step ends
+-- where what waits in a queue are the requests of a trail, a request that is picked may be served next, and an op that
+-- is picked may be done next, however the step ends
 pub record PicksMayCome : Type 0 where
-  pub served : (st : State) (waiting : List Waiting) (node owner : ℕ) (place : Place) (fault : Option Twin) → map request waiting ≡ st.requests
-      → IsPicked st.head (op_place st) waiting node owner place → fits st (Served owner place fault) ≡ true
+  pub served : (st : State) (waiting : List Waiting) (node owner : ℕ) (place : Place) (fault : Option Twin)
+      → map request waiting ≡ st.requests → IsPicked st.head (op_place st) waiting node owner place
+      → fits st (Served owner place fault) ≡ true
   pub worked : (st : State) (waiting : List Waiting) (fault : Option Twin) → map request waiting ≡ st.requests
       → (p : IsOpPicked st.head (op_place st) waiting) → fits st (Worked p.at fault) ≡ true

@@ -16,7 +16,8 @@ entry_or (Some e) = e
 
 -- the request under a number
 abbrev pub waiting : ℕ → Option Entry → Waiting
-waiting k o = record { node = k; owner = (entry_or o).owner; place = (entry_or o).place; arrival = (entry_or o).arrival }
+waiting k o =
+    record { node = k; owner = (entry_or o).owner; place = (entry_or o).place; arrival = (entry_or o).arrival }
 
 abbrev pub waiting_at : List (Option Entry) → ℕ → Waiting
 waiting_at entries k = waiting k (entry_at entries k)

@@ -20,7 +20,8 @@ is_upto k other = is_le (slice_cmp nat_cmp k other)
 
 -- of two requests of the head's partition, the first is served no later than the second
 abbrev pub comes_first : ℕ → Waiting → Waiting → Bool
-comes_first head a b = is_upto (key_within head a.place.pos (a.arrival + 1)) (key_within head b.place.pos (b.arrival + 1))
+comes_first head a b =
+    is_upto (key_within head a.place.pos (a.arrival + 1)) (key_within head b.place.pos (b.arrival + 1))
 
 -- of two requests, the first is served no later than the second
 abbrev pub stands_in : Place → Waiting → Waiting → Bool

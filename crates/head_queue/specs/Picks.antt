@@ -9,10 +9,12 @@ use Rattle.head_queue.specs.Orders.{IsIn}
 use Rattle.head_queue.specs.Keys.{keys_at}
 
 -- a request of these waits under the number, and has the least key of all that waits
-pub record IsPicked (head : Place) (op : Option Place) (waiting : List Waiting) (node owner : ℕ) (place : Place) : Type 0 where
+pub record IsPicked (head : Place) (op : Option Place) (waiting : List Waiting) (node owner : ℕ) (place : Place)
+    : Type 0 where
   pub arrival : ℕ
   pub waits : IsIn waiting (record { node = node; owner = owner; place = place; arrival = arrival })
-  pub least : is_least (request_key head (record { ticket = owner; place = place; arrival = arrival })) (keys_at head op (map request waiting)) ≡ true
+  pub least : is_least (request_key head (record { ticket = owner; place = place; arrival = arrival }))
+      (keys_at head op (map request waiting)) ≡ true
 
 -- the op waits, and has the least key of all that waits
 pub record IsOpPicked (head : Place) (op : Option Place) (waiting : List Waiting) : Type 0 where

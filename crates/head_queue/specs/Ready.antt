@@ -19,7 +19,8 @@ pub record AreNumbers (xs : List ℕ) (size : ℕ) : Type 0 where
   pub counted : length xs ≡ size
 
 -- each number is free or has a request, and the owners are those of the requests
-pub record AreReady (order : List Waiting) (size : ℕ) (pairs : List Owned) (wide : ℕ) (free : List ℕ) (arrived capacity : ℕ) : Type 0 where
+pub record AreReady (order : List Waiting) (size : ℕ) (pairs : List Owned) (wide : ℕ) (free : List ℕ)
+    (arrived capacity : ℕ) : Type 0 where
   pub early : AllByRecursion (λ (w : Waiting). w.arrival < arrived) order
   pub numbers : AreNumbers (free ++ map node_of order) size
   pub room : size ≤ capacity

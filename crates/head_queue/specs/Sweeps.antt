@@ -36,8 +36,8 @@ abbrev pub IsSwept : Place → List Waiting → List Waiting → Type 0
 IsSwept head waiting [] = waiting ≡ []
 IsSwept head waiting (w ∷ order) = (n : IsNext head waiting w) × IsSwept (next w.place) (n.front ++ n.behind) order
 
--- Where requests wait on the head's partition, each at a position of its own, the head passes and reads at most twice as
--- many blocks as on any other way that comes to each of these positions.
+-- Where requests wait on the head's partition, each at a position of its own, the head passes and reads at most twice
+-- as many blocks as on any other way that comes to each of these positions.
 abbrev pub SweepsAreShort : Type 0
 SweepsAreShort = (head : Place) (waiting order : List Waiting) (other : List ℕ)
     → AllByRecursion (λ (w : Waiting). w.place.part ≡ head.part) waiting

@@ -1,4 +1,5 @@
-ghost use Rattle.std.specs.Prelude.{◌≡◌, ℕ, ◌+◌, ◌<◌, ◌≤◌, None, Some, cond, nat_eq, nat_lt, length, vec_len, vec_capacity};
+ghost use Rattle.std.specs.Prelude.{◌≡◌, ℕ, ◌+◌, ◌<◌, ◌≤◌, None, Some, cond, nat_eq, nat_lt, length, vec_len};
+ghost use Rattle.std.specs.Prelude.{vec_capacity};
 ghost use Rattle.head_queue.specs.Entries.{entry_at};
 ghost use Rattle.head_queue.specs.Ranks.{rank_of};
 
@@ -31,7 +32,8 @@ pub fn get(entries: &[Option<Entry>], number: u32) -> Option<Entry>
 pub fn set(entries: &mut Vec<Option<Entry>>, number: u32, entry: Option<Entry>)
     requires some { 1 ≤ number }
     requires within { number ≤ vec_len entries.old }
-    ensures entries { (k : ℕ) → entry_at entries.new.items k ≡ cond (nat_eq k number) entry (entry_at entries.old.items k) }
+    ensures entries { (k : ℕ)
+        → entry_at entries.new.items k ≡ cond (nat_eq k number) entry (entry_at entries.old.items k) }
     ensures len { vec_len entries.new ≡ vec_len entries.old }
     ensures capacity { vec_capacity entries.new ≡ vec_capacity entries.old }
 {

@@ -1,5 +1,6 @@
-//! The queue of requests that wait for the head of a drive: each is in a chain by place and in a chain by owner, so the head
-//! takes the nearest ahead in a step, and what an owner asked for goes in as many steps as there are requests of it.
+//! The queue of requests that wait for the head of a drive: each is in a chain by place and in a chain by owner, so the
+//! head takes the nearest ahead in a step, and what an owner asked for goes in as many steps as there are requests of
+//! it.
 #![tactic(auto)]
 
 mod chains;

@@ -1,4 +1,5 @@
-ghost use Rattle.std.specs.Prelude.{◌≡◌, ℕ, ◌+◌, ◌-◌, ◌<◌, ◌≤◌, ◌∷◌, ◌++◌, [], cond, nat_eq, vec_len, vec_capacity, length};
+ghost use Rattle.std.specs.Prelude.{◌≡◌, ℕ, ◌+◌, ◌-◌, ◌<◌, ◌≤◌, ◌∷◌, ◌++◌, [], cond, nat_eq, vec_len, vec_capacity};
+ghost use Rattle.std.specs.Prelude.{length};
 ghost use Rattle.head_queue.specs.Links.{after_of, before_of, blank};
 
 /// The numbers beside a number of a chain, or 0 where it is the first or the last.

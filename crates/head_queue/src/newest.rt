@@ -1,4 +1,5 @@
-ghost use Rattle.std.specs.Prelude.{◌≡◌, ℕ, ◌+◌, ◌<◌, ◌≤◌, None, Some, cond, nat_eq, nat_lt, true, false, length, vec_len, vec_capacity};
+ghost use Rattle.std.specs.Prelude.{◌≡◌, ℕ, ◌+◌, ◌<◌, ◌≤◌, None, Some, cond, nat_eq, nat_lt, true, false, length};
+ghost use Rattle.std.specs.Prelude.{vec_len, vec_capacity};
 ghost use Rattle.head_queue.specs.Newest.{lookup, Ascending};
 ghost use Rattle.head_queue.specs.declared.newest.Owned.{Owned};
 ghost use Rattle.std.specs.List.Sorted.{IsPartitionedBy, IsPartitionPoint};
@@ -14,7 +15,8 @@ pub struct Owned {
 fn place_of(newest: &[Owned], owner: u64) -> usize
     ensures bound { result ≤ length newest.now }
     ensures parts { IsPartitionedBy (λ (x : Owned). nat_lt x.owner owner) newest.now
-        → IsPartitionPoint (λ (x : Owned). nat_lt x.owner owner ≡ true) (λ (x : Owned). nat_lt x.owner owner ≡ false) newest.now result }
+        → IsPartitionPoint (λ (x : Owned). nat_lt x.owner owner ≡ true) (λ (x : Owned). nat_lt x.owner owner ≡ false)
+        newest.now result }
 {
     newest.partition_point(|one| one.owner < owner)
 }

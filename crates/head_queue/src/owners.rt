@@ -35,7 +35,8 @@ impl Model for Owners {
 }
 
 impl Owners {
-    ghost use Rattle.std.specs.Prelude.{◌≡◌, ◌≢◌, ℕ, ◌+◌, ◌<◌, ◌≤◌, [], cond, nat_eq, length, None, Some, IfSome, IfNone, OnOk};
+    ghost use Rattle.std.specs.Prelude.{◌≡◌, ◌≢◌, ℕ, ◌+◌, ◌<◌, ◌≤◌, [], cond, nat_eq, length, None, Some, IfSome};
+    ghost use Rattle.std.specs.Prelude.{IfNone, OnOk};
     ghost use Rattle.head_queue.specs.Holdings.{owner_of};
 
     /// No numbers. Takes no memory.
@@ -89,7 +90,8 @@ impl Owners {
         requires apart { owner_of number self.old.pairs ≡ None }
         requires less { length self.old.pairs < self.old.size }
         requires room { 1 ≤ self.old.room }
-        ensures pairs { (k : ℕ) → owner_of k self.new.pairs ≡ cond (nat_eq k number) (Some owner) (owner_of k self.old.pairs) }
+        ensures pairs { (k : ℕ)
+            → owner_of k self.new.pairs ≡ cond (nat_eq k number) (Some owner) (owner_of k self.old.pairs) }
         ensures len { length self.new.pairs ≡ length self.old.pairs + 1 }
         ensures size { self.new.size ≡ self.old.size }
         ensures room { self.old.room ≤ self.new.room + 1 }
@@ -119,7 +121,8 @@ impl Owners {
 fn set(owners: &mut Vec<u64>, number: u32, owner: u64)
     requires some { 1 ≤ number }
     requires within { number ≤ vec_len owners.old }
-    ensures owners { (k : ℕ) → owner_at owners.new.items k ≡ cond (nat_eq k number) owner (owner_at owners.old.items k) }
+    ensures owners { (k : ℕ)
+        → owner_at owners.new.items k ≡ cond (nat_eq k number) owner (owner_at owners.old.items k) }
     ensures len { vec_len owners.new ≡ vec_len owners.old }
     ensures capacity { vec_capacity owners.new ≡ vec_capacity owners.old }
 {
@@ -161,7 +164,8 @@ fn is_held(owners: &[u64], number: u32, owner: u64) -> bool
 fn pass_on(newest: &mut Vec<Owned>, owner: u64, number: u32, before: u32, held: bool)
     requires order { Ascending newest.old.items }
     ensures told { (p : ℕ) → lookup p newest.new.items
-        ≡ cond (nat_eq p owner) (left_over (lookup owner newest.old.items) number held before) (lookup p newest.old.items) }
+        ≡ cond (nat_eq p owner) (left_over (lookup owner newest.old.items) number held before)
+        (lookup p newest.old.items) }
     ensures order { Ascending newest.new.items }
     ensures len { vec_len newest.new ≤ vec_len newest.old }
     ensures capacity { vec_capacity newest.old ≤ vec_capacity newest.new }

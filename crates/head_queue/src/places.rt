@@ -39,7 +39,8 @@ impl Model for Places {
 }
 
 impl Places {
-    ghost use Rattle.std.specs.Prelude.{◌≡◌, ◌≢◌, ℕ, ◌+◌, ◌<◌, ◌≤◌, ◌∷◌, ◌++◌, [], map, length, None, Some, true, IfNone, IfSome, OnOk};
+    ghost use Rattle.std.specs.Prelude.{◌≡◌, ◌≢◌, ℕ, ◌+◌, ◌<◌, ◌≤◌, ◌∷◌, ◌++◌, [], map, length, None, Some, true};
+    ghost use Rattle.std.specs.Prelude.{IfNone, IfSome, OnOk};
     ghost use Rattle.std.specs.List.{AllByRecursion};
     ghost use Rattle.head_queue.specs.Cuts.{Differ};
     ghost use Rattle.head_queue.specs.Waiting.{Waiting};
@@ -145,7 +146,8 @@ impl Places {
     fn first_from(&self, place: Place) -> Option<(u32, Entry)>
         ensures some { IfSome result (λ p. IsFirst self.now.order (rank_of place 0) (waiting p.0 (Some p.1))) }
         ensures part { IfSome result (λ p. p.1.place.part ≡ place.part) }
-        ensures none { IfNone result (AllByRecursion (λ w. w.place.part ≡ place.part → rank w < rank_of place 0) self.now.order) }
+        ensures none { IfNone result
+            (AllByRecursion (λ w. w.place.part ≡ place.part → rank w < rank_of place 0) self.now.order) }
         ensures kept { AreOrdered self.now.order }
     {
         let from = start(&self.entries, self.swept, self.added, place, 0);
@@ -178,7 +180,8 @@ impl Places {
     /// The request that the head serves first.
     pub fn first(&self, head: Place) -> Option<(u32, Entry)>
         ensures some { IfSome result (λ p. IsIn self.now.order (waiting p.0 (Some p.1))) }
-        ensures least { IfSome result (λ p. AllByRecursion (λ w. stands_in head (waiting p.0 (Some p.1)) w ≡ true) self.now.order) }
+        ensures least { IfSome result
+            (λ p. AllByRecursion (λ w. stands_in head (waiting p.0 (Some p.1)) w ≡ true) self.now.order) }
         ensures none { IfNone result (self.now.order ≡ []) }
     {
         match self.first_in(head.part, head.pos) {

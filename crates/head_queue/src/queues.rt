@@ -43,11 +43,13 @@ impl Model for Queue {
       spare = min (vec_len a.free) (min a.owners.room (2 ^ 64 - 1 - a.arrived));
     } };
 
-    ghost invariant = { λ a. AreReady a.places.order a.places.size a.owners.pairs a.owners.size a.free.items a.arrived (vec_capacity a.free) };
+    ghost invariant = { λ a. AreReady a.places.order a.places.size a.owners.pairs a.owners.size a.free.items a.arrived
+        (vec_capacity a.free) };
 }
 
 impl Queue {
-    ghost use Rattle.std.specs.Prelude.{◌≡◌, ◌≢◌, ℕ, ◌+◌, ◌^◌, ◌<◌, ◌≤◌, ◌∷◌, ◌++◌, [], not, nat_eq, length, filter, count_by, None, IfSome, IfNone, OnOk, MatchOption};
+    ghost use Rattle.std.specs.Prelude.{◌≡◌, ◌≢◌, ℕ, ◌+◌, ◌^◌, ◌<◌, ◌≤◌, ◌∷◌, ◌++◌, [], not, nat_eq, length, filter};
+    ghost use Rattle.std.specs.Prelude.{count_by, None, IfSome, IfNone, OnOk, MatchOption};
     ghost use Rattle.std.specs.List.{AllByRecursion, list_any};
     ghost use Rattle.head_queue.specs.Waiting.{Waiting};
     ghost use Rattle.head_queue.specs.Orders.{HasNode, HasOwner};
@@ -209,8 +211,11 @@ fn widen(places: &mut Places, owners: &mut Owners, free: &mut Vec<u32>, more: us
     ensures pairs { owners.new.pairs ≡ owners.old.pairs }
     ensures room { owners.new.room ≡ owners.old.room }
     ensures len { vec_len free.new ≡ vec_len free.old + more }
-    ensures ready { (arrived : ℕ) → AreReady places.old.order places.old.size owners.old.pairs owners.old.size free.old.items arrived (vec_capacity free.old)
-        → AreReady places.new.order places.new.size owners.new.pairs owners.new.size free.new.items arrived (vec_capacity free.new) }
+    ensures ready { (arrived : ℕ)
+        → AreReady places.old.order places.old.size owners.old.pairs owners.old.size free.old.items arrived
+        (vec_capacity free.old)
+        → AreReady places.new.order places.new.size owners.new.pairs owners.new.size free.new.items arrived
+        (vec_capacity free.new) }
 {
     for _ in 0..more {
         widen_once(places, owners, free);

@@ -1,7 +1,8 @@
 -- How much there is left to do, as a bound on what a request waits for.
 use Rattle.std.specs.Prelude.{ℕ, ◌+◌, ◌≤◌, ◌≡◌, true, length}
 use Rattle.session_script.specs.declared.logs.Event.{Event}
-use Rattle.session_script.specs.declared.logs.Event.TheVariants.{Wants, Queues, Syncs, Synced, Drains, Rests, Served, Worked}
+use Rattle.session_script.specs.declared.logs.Event.TheVariants.{Wants, Queues, Syncs, Synced, Drains, Rests, Served}
+use Rattle.session_script.specs.declared.logs.Event.TheVariants.{Worked}
 use Rattle.head_trail.specs.Trail.{after, allows}
 use Rattle.head_trail.specs.Waiting.{State, ops}
 

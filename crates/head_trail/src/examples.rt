@@ -2,8 +2,14 @@ ghost use Rattle.session_script.specs.declared.logs.Event.{Event};
 ghost use Rattle.std.specs.Prelude.{◌≡◌, ◌↔◌, List, true, false, [], ◌∷◌};
 ghost use Rattle.head_trail.specs.Waiting.{is_least, keys, op_key, put_at, request_key, is_at_rest};
 ghost use Rattle.head_trail.specs.Load.{StepsLowerTheLoad};
-ghost use Rattle.head_trail.specs.Trail.{EachIsAllowed, IsTrail, IsCost, is_trail, is_trail_from, after_all, owned, owned_by, of_call, of_session};
-ghost use Rattle.head_trail.specs.Rows.{twin, dp, ip, both_wait, with_op, request, three_requests, two_reads, reads_backwards, with_requests, two_faults, one_sync, two_sessions, two_sessions_early, placed_on_ip, full_partition, failed_write, drained, failed_drain, failed_flush, op_out_of_order, read_too_early, answered_early, answered_late, answered_over_another, op_for_nobody, op_for_a_read, op_dropped, drains_early, rests_early, wants_what_is_held, read_after_fault, ip_after_dp};
+ghost use Rattle.head_trail.specs.Trail.{EachIsAllowed, IsTrail, IsCost, is_trail, is_trail_from, after_all, owned};
+ghost use Rattle.head_trail.specs.Trail.{owned_by, of_call, of_session};
+ghost use Rattle.head_trail.specs.Rows.{twin, dp, ip, both_wait, with_op, request, three_requests, two_reads};
+ghost use Rattle.head_trail.specs.Rows.{reads_backwards, with_requests, two_faults, one_sync, two_sessions};
+ghost use Rattle.head_trail.specs.Rows.{two_sessions_early, placed_on_ip, full_partition, failed_write, drained};
+ghost use Rattle.head_trail.specs.Rows.{failed_drain, failed_flush, op_out_of_order, read_too_early, answered_early};
+ghost use Rattle.head_trail.specs.Rows.{answered_late, answered_over_another, op_for_nobody, op_for_a_read, op_dropped};
+ghost use Rattle.head_trail.specs.Rows.{drains_early, rests_early, wants_what_is_held, read_after_fault, ip_after_dp};
 
 /// The trails of worked runs are trails with their costs, and those that are damaged in one way are none.
 #[tactic(auto, using(crate::proofs::RowFacts::one_sync_is, crate::proofs::RowFacts::two_sessions_is, crate::proofs::RowFacts::two_sessions_early_is, crate::proofs::RowFacts::placed_on_ip_is, crate::proofs::RowFacts::full_partition_is, crate::proofs::RowFacts::failed_write_is, crate::proofs::RowFacts::drained_is, crate::proofs::RowFacts::failed_drain_is, crate::proofs::RowFacts::failed_flush_is, crate::proofs::RowFacts::op_out_of_order_is_none, crate::proofs::RowFacts::read_too_early_is_none, crate::proofs::RowFacts::answered_early_is_none, crate::proofs::RowFacts::answered_late_is_none, crate::proofs::RowFacts::answered_over_another_is_none, crate::proofs::RowFacts::op_for_nobody_is_none, crate::proofs::RowFacts::op_for_a_read_is_none, crate::proofs::RowFacts::op_dropped_is_none, crate::proofs::RowFacts::drains_early_is_none, crate::proofs::RowFacts::rests_early_is_none, crate::proofs::RowFacts::wants_what_is_held_is_none, crate::proofs::RowFacts::read_after_fault_is_none, crate::proofs::RowFacts::ip_after_dp_is_none, crate::proofs::RowFacts::swept, crate::proofs::RowFacts::backwards, crate::proofs::RowFacts::picks_50, crate::proofs::RowFacts::not_90, crate::proofs::RowFacts::then_90, crate::proofs::RowFacts::earlier_first, crate::proofs::RowFacts::not_the_later, crate::proofs::RowFacts::write_owned, crate::proofs::RowFacts::drain_owned, crate::proofs::RowFacts::each_its_own, crate::proofs::RowFacts::not_anothers, crate::proofs::RowFacts::rests, crate::proofs::RowFacts::sync_before_session, crate::proofs::RowFacts::op_before_request, crate::proofs::RowFacts::request_after_op, crate::proofs::RowFacts::same_partition_first))]
@@ -47,7 +53,8 @@ pub fn the_definitions_tell_trails()
     ensures rests { is_at_rest (after_all one_sync) ≡ true }
     ensures sync_before_session { owned both_wait ≡ (of_call 3, twin 0 1) ∷ (of_session 2, twin 1 2) ∷ [] }
     ensures op_before_request { is_least (op_key (dp 30) (put_at (dp 50))) (keys (with_op (dp 30) (dp 50))) ≡ true }
-    ensures request_after_op { is_least (request_key (dp 30) (request 1 50 0)) (keys (with_op (dp 30) (dp 50))) ≡ false }
+    ensures request_after_op { is_least (request_key (dp 30) (request 1 50 0)) (keys (with_op (dp 30) (dp 50)))
+        ≡ false }
     ensures same_partition_first { is_least (request_key (ip 3) (record { ticket = 1; place = ip 2; arrival = 0 }))
         (op_key (ip 3) (put_at (dp 5)) ∷ request_key (ip 3) (record { ticket = 1; place = ip 2; arrival = 0 })
         ∷ []) ≡ true }
@@ -59,9 +66,9 @@ pub fn trails_allow_each_event()
     ensures { (events : List Event) → IsTrail events ↔ EachIsAllowed events }
 {}
 
-/// Each step of the head takes one away at least of the requests, the ops that stand, the syncs that wait and the sessions
-/// that drain, and no answer adds to them. So a request waits for no more steps than there were of these when it came, and
-/// that submissions have added since.
+/// Each step of the head takes one away at least of the requests, the ops that stand, the syncs that wait and the
+/// sessions that drain, and no answer adds to them. So a request waits for no more steps than there were of these when
+/// it came, and that submissions have added since.
 #[tactic(auto, using(crate::proofs::LoadLaw::steps_lower_the_load))]
 pub fn each_step_lowers_the_load()
     ensures { StepsLowerTheLoad }

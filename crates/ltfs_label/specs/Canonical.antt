@@ -6,7 +6,9 @@ use Rattle.std.specs.Str.{chars}
 use Rattle.tape_types.specs.Times.{civil_text}
 use Rattle.tape_types.specs.Uuids.{uuid_text}
 use Rattle.doc_fields.specs.declared.tags.Tag.{Tag}
-use Rattle.doc_fields.specs.declared.tags.Tag.TheVariants.{LtfsLabel, Creator, FormatTime, VolumeUuid, Location, Partition, Partitions, IndexLetter, DataLetter, BlockSize, Compression}
+use Rattle.doc_fields.specs.declared.tags.Tag.TheVariants.{LtfsLabel, Creator, FormatTime, VolumeUuid, Location}
+use Rattle.doc_fields.specs.declared.tags.Tag.TheVariants.{Partition, Partitions, IndexLetter, DataLetter, BlockSize}
+use Rattle.doc_fields.specs.declared.tags.Tag.TheVariants.{Compression}
 use Rattle.doc_fields.specs.declared.starts.Attribute.TheVariants.{Absent, Version}
 use Rattle.doc_fields.specs.Texts.{is_allowed}
 use Rattle.doc_fields.specs.Values.{lock_word}

@@ -1,5 +1,6 @@
 -- What the pieces of a label tell, one after the other, and why a text is no label.
-use Rattle.std.specs.Prelude.{◌≡◌, ◌≤◌, ⊤, ℕ, List, [], ◌∷◌, ◌++◌, Bool, true, false, Option, Some, None, Result, Ok, Err}
+use Rattle.std.specs.Prelude.{◌≡◌, ◌≤◌, ⊤, ℕ, List, [], ◌∷◌, ◌++◌, Bool, true, false, Option, Some, None, Result, Ok}
+use Rattle.std.specs.Prelude.{Err}
 use Rattle.doc_fields.specs.declared.tags.Tag.TheVariants.{BlockSize}
 use Rattle.doc_children.specs.Children.{children_of}
 use Rattle.doc_elements.specs.declared.errors.PieceErr.{PieceErr}

@@ -2,7 +2,8 @@
 use Rattle.std.specs.Prelude.{ℕ, pos, List, [], Bool, false}
 use lib.Dec.{lit<}
 use Rattle.doc_fields.specs.declared.tags.Tag.{Tag}
-use Rattle.doc_fields.specs.declared.tags.Tag.TheVariants.{Creator, FormatTime, VolumeUuid, Partition, IndexLetter, DataLetter, BlockSize, Compression}
+use Rattle.doc_fields.specs.declared.tags.Tag.TheVariants.{Creator, FormatTime, VolumeUuid, Partition, IndexLetter}
+use Rattle.doc_fields.specs.declared.tags.Tag.TheVariants.{DataLetter, BlockSize, Compression}
 use Rattle.tape_types.specs.declared.moments.Moment.{Moment}
 use Rattle.tape_types.specs.declared.times.Civil.{Civil}
 use Rattle.tape_types.specs.Times.{civil_of}

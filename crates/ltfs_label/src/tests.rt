@@ -4,10 +4,18 @@ use std::alloc::Global;
 use tape_types::{Text, parse_time};
 
 const CANONICAL: &[u8] =
-    b"<?xml version=\"1.0\" encoding=\"UTF-8\"?><ltfslabel version=\"2.4.0\"><creator>ltfs_server 1.0.0</creator><formattime>2024-01-02T03:04:05.000000000Z</formattime><volumeuuid>30a91a08-daae-48d1-ae75-69804e61d2ea</volumeuuid><location><partition>a</partition></location><partitions><index>a</index><data>b</data></partitions><blocksize>4096</blocksize><compression>false</compression></ltfslabel>";
+    b"<?xml version=\"1.0\" encoding=\"UTF-8\"?><ltfslabel version=\"2.4.0\"><creator>ltfs_server 1.0.0</creator>\
+    <formattime>2024-01-02T03:04:05.000000000Z</formattime>\
+    <volumeuuid>30a91a08-daae-48d1-ae75-69804e61d2ea</volumeuuid><location><partition>a</partition></location>\
+    <partitions><index>a</index><data>b</data></partitions><blocksize>4096</blocksize><compression>false</compression>\
+    </ltfslabel>";
 
 const OTHER_ORDER: &[u8] =
-    b"\n<ltfslabel version = '2.0.1' >\r\n <compression>\t0 </compression>\n <blocksize> 0004096\n</blocksize><partitions > <data>b</data> <index> a</index>\t</partitions ><location><partition>a\n</partition></location> <volumeuuid> 30A91A08-DAAE-48D1-AE75-69804E61D2EA </volumeuuid><formattime>\n2024-01-02T03:04:05.000000000Z</formattime><creator>ltfs&#95;server &#x31;.0.0</creator></ltfslabel>\n\n";
+    b"\n<ltfslabel version = '2.0.1' >\r\n <compression>\t0 </compression>\n <blocksize> 0004096\n</blocksize>\
+    <partitions > <data>b</data> <index> a</index>\t</partitions ><location><partition>a\n</partition>\
+    </location> <volumeuuid> 30A91A08-DAAE-48D1-AE75-69804E61D2EA </volumeuuid>\
+    <formattime>\n2024-01-02T03:04:05.000000000Z</formattime><creator>ltfs&#95;server &#x31;.0.0</creator>\
+    </ltfslabel>\n\n";
 
 fn sample(alloc: Global, creator: &str) -> Option<Label> {
     Some(Label {
@@ -70,7 +78,11 @@ fn order_and_white_space_are_free(rt: HostRuntime) {
 
 /// A label in which each value differs from every other.
 const DISTINCT: &[u8] =
-    b"<?xml version=\"1.0\" encoding=\"UTF-8\"?><ltfslabel version=\"2.4.0\"><creator>Maker 7</creator><formattime>1965-06-08T11:13:17.400001029Z</formattime><volumeuuid>0123abcd-4567-89ef-fedc-ba9876543210</volumeuuid><location><partition>c</partition></location><partitions><index>d</index><data>e</data></partitions><blocksize>65537</blocksize><compression>true</compression></ltfslabel>";
+    b"<?xml version=\"1.0\" encoding=\"UTF-8\"?><ltfslabel version=\"2.4.0\"><creator>Maker 7</creator>\
+    <formattime>1965-06-08T11:13:17.400001029Z</formattime>\
+    <volumeuuid>0123abcd-4567-89ef-fedc-ba9876543210</volumeuuid><location><partition>c</partition></location>\
+    <partitions><index>d</index><data>e</data></partitions><blocksize>65537</blocksize><compression>true</compression>\
+    </ltfslabel>";
 
 #[test]
 fn each_value_is_told_where_it_belongs(rt: HostRuntime) {

@@ -1,7 +1,8 @@
 //! The one text of a label that is written.
 
 ghost use Rattle.std.specs.Prelude.{◌≡◌, ◌++◌, IfOk, OnOk};
-ghost use Rattle.doc_fields.specs.declared.tags.Tag.TheVariants.{DataLetter, IndexLetter, Location, Partition, Partitions};
+ghost use Rattle.doc_fields.specs.declared.tags.Tag.TheVariants.{DataLetter, IndexLetter, Location, Partition};
+ghost use Rattle.doc_fields.specs.declared.tags.Tag.TheVariants.{Partitions};
 ghost use Rattle.ltfs_label.specs.Canonical.{canonical, children_text, element, IsLabel, leaf_text};
 ghost use Rattle.ltfs_label.specs.Grammar.{LabelText};
 ghost use Rattle.doc_elements.specs.Pieces as pieces;

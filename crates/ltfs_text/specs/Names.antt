@@ -1,6 +1,7 @@
 -- Names, patterns and texts of symbolic links in a document (LTFS 2.4 on the name format). A text is given by its bytes
 -- in UTF-8.
-use Rattle.std.specs.Prelude.{◌≡◌, ⊤, ℕ, List, [], ◌∷◌, Bool, true, false, nat_le, nat_lt, ◌==◌, ◌||◌, if◌then◌else◌, Result, Ok, Err}
+use Rattle.std.specs.Prelude.{◌≡◌, ⊤, ℕ, List, [], ◌∷◌, Bool, true, false, nat_le, nat_lt, ◌==◌, ◌||◌, if◌then◌else◌}
+use Rattle.std.specs.Prelude.{Result, Ok, Err}
 use Rattle.std.specs.List.{flat_map, list_any}
 use Rattle.std.specs.Str.{IsUtf8, chars}
 use Rattle.percent_encoding.specs.Percent.{percent_encode_byte, percent_decode}

@@ -5,8 +5,8 @@ use Rattle.placement.specs.Patterns.{StandsFor}
 use Rattle.placement.specs.declared.patterns.Walk.{Walk}
 use Rattle.placement.specs.declared.patterns.Walk.TheVariants.{Star, Whole, Stuck}
 
--- The pattern was followed along the first characters of a text, and `left` stands behind, to be followed along `at`. Each text
--- for which the pattern stands has as many characters for what was followed.
+-- The pattern was followed along the first characters of a text, and `left` stands behind, to be followed along `at`.
+-- Each text for which the pattern stands has as many characters for what was followed.
 pub record IsFollowed (pattern text left at : List ℕ) : Type 0 where
   pub count : ℕ
   pub at_is : at ≡ drop count text

@@ -8,12 +8,14 @@ use Rattle.plain_tree.specs.declared.nodes.Kind.TheVariants as kinds
 use Rattle.plain_tree.specs.declared.calls.Answer.{Answer}
 use Rattle.plain_tree.specs.declared.calls.Answer.TheVariants as answers
 use Rattle.plain_tree.specs.declared.calls.Call.{Call}
-use Rattle.plain_tree.specs.declared.calls.Call.TheVariants.{Mkdir, Create, Write, Truncate, Read, Listing, Stat, Rename, Remove, Sync}
+use Rattle.plain_tree.specs.declared.calls.Call.TheVariants.{Mkdir, Create, Write, Truncate, Read, Listing, Stat}
+use Rattle.plain_tree.specs.declared.calls.Call.TheVariants.{Rename, Remove, Sync}
 use Rattle.plain_tree.specs.declared.calls.Refusal.{Refusal}
 use Rattle.plain_tree.specs.Cells.{resized, range_of, bytes_of}
 use Rattle.plain_tree.specs.Paths.{Path, same_path, parent_of}
 use Rattle.plain_tree.specs.Refusals.{refusal_of}
-use Rattle.plain_tree.specs.Tree.{Tree, new_node, changed_at, touch, change_noted, file_changed, written_to, moved, cells_at, facts_of, entries_in}
+use Rattle.plain_tree.specs.Tree.{Tree, new_node, changed_at, touch, change_noted, file_changed, written_to, moved}
+use Rattle.plain_tree.specs.Tree.{cells_at, facts_of, entries_in}
 
 -- a new node with the next uid stands at the path, and its parent is touched
 abbrev pub with_new : Kind → Tree → Path → Moment → Tree

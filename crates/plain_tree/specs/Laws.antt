@@ -37,7 +37,8 @@ RefusedCallsChangeNothing =
 abbrev pub IsUnused : Tree → ℕ → Type 0
 IsUnused t uid = (path : Path) (node : Node) → fin.get t.nodes path ≡ Some node → node.uid ≢ uid
 
--- over any history of a valid tree the highest uid never falls, and a uid that was given and is in use no more never comes back
+-- over any history of a valid tree the highest uid never falls, and a uid that was given and is in use no more never
+-- comes back
 pub record UidsNeverReturn : Type 0 where
   pub rises : (calls : Calls) (history : List Placed) (t : Tree) → t.highest ≤ (replay calls t history).highest
   pub stays_unused : (calls : Calls) (history : List Placed) (t : Tree) (uid : ℕ) → IsValid t → uid ≤ t.highest
@@ -51,8 +52,8 @@ holding (Some node) = Some (node.uid, node.kind)
 abbrev pub holding_at : Tree → Path → Option (ℕ × Kind)
 holding_at t path = holding (fin.get t.nodes path)
 
--- Each node at or below `from` has come to `to` with its uid and what it holds, and nothing is left there. What lies below
--- the moved node is exactly as it was; what lies elsewhere keeps its uid and what it holds.
+-- Each node at or below `from` has come to `to` with its uid and what it holds, and nothing is left there. What lies
+-- below the moved node is exactly as it was; what lies elsewhere keeps its uid and what it holds.
 pub record HasMoved (t next : Tree) (from to : Path) : Type 0 where
   pub moved : (x : Path) → holding_at next (to ++ x) ≡ holding_at t (from ++ x)
   pub below : (x : Path) → x ≢ [] → fin.get next.nodes (to ++ x) ≡ fin.get t.nodes (from ++ x)
@@ -73,7 +74,8 @@ ReadsSeeWrites =
     → refusal_of t (asks.Write path offset bytes) ≡ None
     → answer (after t (asks.Write path offset bytes) at) (asks.Read path offset (length bytes)) ≡ answers.Got bytes
 
--- A listing has a line for each node that stands directly in the directory, no other line, and its names ascend by their bytes.
+-- A listing has a line for each node that stands directly in the directory, no other line, and its names ascend by
+-- their bytes.
 pub record IsExactListing (nodes : Nodes) (dir : Path) (entries : List Entry) : Type 0 where
   pub complete : (name : Name) (node : Node) → fin.get nodes (dir ++ name ∷ []) ≡ Some node
       → Contains entries (record { sort = sort_of node.kind; name = name })

@@ -1,5 +1,6 @@
 -- Paths, which are lists of names.
-use Rattle.std.specs.Prelude.{ℕ, ◌+◌, ◌-◌, List, ◌++◌, Bool, ◌&&◌, ◌==◌, not, if◌then◌else◌, length, take, drop, nat_eq, slice_get, Option, None}
+use Rattle.std.specs.Prelude.{ℕ, ◌+◌, ◌-◌, List, ◌++◌, Bool, ◌&&◌, ◌==◌, not, if◌then◌else◌, length, take, drop, nat_eq}
+use Rattle.std.specs.Prelude.{slice_get, Option, None}
 use Rattle.std.specs.List.{starts_with}
 use Rattle.std.specs.declared.cmp.Ordering.{Ordering}
 use Rattle.std.specs.Cmp.Lexicographic.{slice_cmp, pointwise}

@@ -1,14 +1,17 @@
 -- Why a call is refused: the checks of each call, in order, of which the first that fails is the answer.
-use Rattle.std.specs.Prelude.{ℕ, zero, suc, ◌+◌, ◌^◌, List, [], ◌∷◌, Bool, true, false, ◌||◌, nat_le, nat_lt, ◌==◌, if◌then◌else◌, length, take, Option, Some, None, is_none, is_some}
+use Rattle.std.specs.Prelude.{ℕ, zero, suc, ◌+◌, ◌^◌, List, [], ◌∷◌, Bool, true, false, ◌||◌, nat_le, nat_lt, ◌==◌}
+use Rattle.std.specs.Prelude.{if◌then◌else◌, length, take, Option, Some, None, is_none, is_some}
 use Rattle.std.specs.FinMap as fin
 use Rattle.tape_types.specs.Names.{name_fault}
 use Rattle.plain_tree.specs.declared.nodes.Node.{Node}
 use Rattle.plain_tree.specs.declared.nodes.Kind.{Kind}
 use Rattle.plain_tree.specs.declared.nodes.Kind.TheVariants as kinds
 use Rattle.plain_tree.specs.declared.calls.Call.{Call}
-use Rattle.plain_tree.specs.declared.calls.Call.TheVariants.{Mkdir, Create, Write, Truncate, Read, Listing, Stat, Rename, Remove, Sync}
+use Rattle.plain_tree.specs.declared.calls.Call.TheVariants.{Mkdir, Create, Write, Truncate, Read, Listing, Stat}
+use Rattle.plain_tree.specs.declared.calls.Call.TheVariants.{Rename, Remove, Sync}
 use Rattle.plain_tree.specs.declared.calls.Refusal.{Refusal}
-use Rattle.plain_tree.specs.declared.calls.Refusal.TheVariants.{BadName, Root, NotFound, NotDir, IsDir, IsLink, Exists, Inside, NotEmpty, TooLong, TooMany, Damaged}
+use Rattle.plain_tree.specs.declared.calls.Refusal.TheVariants.{BadName, Root, NotFound, NotDir, IsDir, IsLink, Exists}
+use Rattle.plain_tree.specs.declared.calls.Refusal.TheVariants.{Inside, NotEmpty, TooLong, TooMany, Damaged}
 use Rattle.plain_tree.specs.Cells.{range_of, bytes_of}
 use Rattle.plain_tree.specs.Paths.{Name, Path, same_path, parent_of, last_name, is_below}
 use Rattle.plain_tree.specs.Tree.{Tree, Nodes, cells_at, entries_in}

@@ -1,4 +1,5 @@
-ghost use Rattle.plain_tree.specs.Laws.{TreesStayValid, RefusedCallsChangeNothing, UidsNeverReturn, RenamesKeepNodes, ReadsSeeWrites, ListingsAreExact};
+ghost use Rattle.plain_tree.specs.Laws.{TreesStayValid, RefusedCallsChangeNothing, UidsNeverReturn, RenamesKeepNodes};
+ghost use Rattle.plain_tree.specs.Laws.{ReadsSeeWrites, ListingsAreExact};
 
 /// Every tree that calls reach is valid.
 pub fn trees_stay_valid()

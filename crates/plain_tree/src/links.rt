@@ -1,10 +1,12 @@
-ghost use Rattle.std.specs.Prelude.{◌≡◌, ℕ, List, ◌<◌, ◌+◌, ◌≤◌, ◌^◌, length, map, Some, None, OnOk, OnErr, IfOk, IfErr, IsSome, nat_lt};
+ghost use Rattle.std.specs.Prelude.{◌≡◌, ℕ, List, ◌<◌, ◌+◌, ◌≤◌, ◌^◌, length, map, Some, None, OnOk, OnErr, IfOk};
+ghost use Rattle.std.specs.Prelude.{IfErr, IsSome, nat_lt};
 ghost use Rattle.std.specs.List.Sorted.{IsStrictlySortedBy};
 ghost use Rattle.std.specs.Option.{option_copied, option_map};
 ghost use Rattle.std.specs.Ordering.{nat_cmp};
 ghost use Rattle.std.specs.BTreeMap.{get, IsUnchanged};
 ghost use Rattle.plain_tree.specs.Tree.{changed_by, sort_of, written_to};
-ghost use Rattle.plain_tree.specs.Links.{child, walk, name_cmp, lines, lines_of, IsPut, IsPutIn, IsMovedTo, IsSame, IsLast};
+ghost use Rattle.plain_tree.specs.Links.{child, walk, name_cmp, lines, lines_of, IsPut, IsPutIn, IsMovedTo, IsSame};
+ghost use Rattle.plain_tree.specs.Links.{IsLast};
 ghost use Rattle.plain_tree.specs.Paths.{Name};
 
 use crate::calls::Entry;

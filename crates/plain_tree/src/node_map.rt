@@ -35,7 +35,8 @@ impl Model for NodeMap {
 }
 
 impl NodeMap {
-    ghost use Rattle.std.specs.Prelude.{◌≡◌, ◌≢◌, ℕ, List, [], None, Some, ◌<◌, ◌+◌, ◌^◌, ◌≤◌, length, map, nat_lt, IsSome, OnOk, OnErr, IfOk, IfErr, IfSome, IfNone};
+    ghost use Rattle.std.specs.Prelude.{◌≡◌, ◌≢◌, ℕ, List, [], None, Some, ◌<◌, ◌+◌, ◌^◌, ◌≤◌, length, map, nat_lt};
+    ghost use Rattle.std.specs.Prelude.{IsSome, OnOk, OnErr, IfOk, IfErr, IfSome, IfNone};
     ghost use Rattle.std.specs.FinMap as fin;
     ghost use Rattle.plain_tree.specs.Paths.{parent_of};
     ghost use Rattle.plain_tree.specs.Tree.{changed_at, changed_by, written_to, entries_in, empty_tree, moved};

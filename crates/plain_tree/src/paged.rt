@@ -1,4 +1,5 @@
-ghost use Rattle.std.specs.Prelude.{◌≡◌, ℕ, ◌+◌, ◌-◌, ◌/◌, ◌%◌, ◌^◌, ◌<◌, ◌≤◌, ◌⊎◌, ◌++◌, length, [], OnOk, OnErr, IfOk, is_some, true, map, slice_index, Some, false};
+ghost use Rattle.std.specs.Prelude.{◌≡◌, ℕ, ◌+◌, ◌-◌, ◌/◌, ◌%◌, ◌^◌, ◌<◌, ◌≤◌, ◌⊎◌, ◌++◌, length, [], OnOk, OnErr};
+ghost use Rattle.std.specs.Prelude.{IfOk, is_some, true, map, slice_index, Some, false};
 ghost use Rattle.std.specs.List.{range_with_len};
 ghost use Rattle.plain_tree.specs.Cells.{written, resized, range_of, bytes_of};
 ghost use Rattle.plain_tree.specs.Pages.{page_at, byte_at};

@@ -307,8 +307,8 @@ fn archive_tree(alloc: Global) -> Result<String, NoMemory> {
     )?)
 }
 
-/// An index at 9 of the data partition whose nodes stand in another order than their names: `z`, then the folder `b` with
-/// `y` and `x`, and `a`.
+/// An index at 9 of the data partition whose nodes stand in another order than their names: `z`, then the folder `b`
+/// with `y` and `x`, and `a`.
 fn unordered(alloc: Global) -> Result<String, NoMemory> {
     let nodes = format!(in alloc;
         "<file><fileuid>2</fileuid><name>z</name><length>1</length>{TIMES}<symlink>b</symlink></file>\

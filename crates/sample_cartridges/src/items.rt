@@ -107,7 +107,8 @@ fn items_by(alloc: Global, letters: &[u8]) -> Result<List<Item>, NoMemory>
     Ok(List::from_vec(items))
 }
 
-/// A drive of 1,000 positions a partition, with a cartridge of these partitions and no notes. These commands of it fail.
+/// A drive of 1,000 positions a partition, with a cartridge of these partitions and no notes. These commands of it
+/// fail.
 pub fn drive_of(alloc: Global, ip: &str, dp: &str, fails: List<Fail>) -> Result<MemDrive, NoMemory>
     ensures { IfOk result (λ d. d.limits ≡ record { cap_ip = 1000; cap_dp = 1000 }) }
 {
@@ -156,8 +157,9 @@ fn drive_holding(
     MemDrive::new(alloc, held, limits, fails)
 }
 
-/// A drive whose data partition has the block `abc` at 4 and, at 6, an index with the file `/a`. The file has one extent there,
-/// of all its bytes: its first block, the byte in that, and how many bytes. The index partition has labels alone.
+/// A drive whose data partition has the block `abc` at 4 and, at 6, an index with the file `/a`. The file has one
+/// extent there, of all its bytes: its first block, the byte in that, and how many bytes. The index partition has
+/// labels alone.
 pub fn drive_with_file(
     alloc: Global,
     block: u64,

@@ -10,8 +10,8 @@ use std::fmt::Write;
 use tape_drive::MemDrive;
 use tape_types::{Cartridge, Item, Limits, List, NoMemory, Note};
 
-/// A drive of 10,000 positions a partition, with a volume of so many folders, the root counted. The document of the index
-/// stands on both partitions, from block 5 on, in blocks of 4,096 bytes.
+/// A drive of 10,000 positions a partition, with a volume of so many folders, the root counted. The document of the
+/// index stands on both partitions, from block 5 on, in blocks of 4,096 bytes.
 pub fn nested_folders(alloc: Global, count: u64) -> Result<MemDrive, NoMemory>
     requires { count < 2 ^ 32 }
 {

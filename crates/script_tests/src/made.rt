@@ -13,8 +13,10 @@ const FIVE: &str = "\
 5 mkdir /s5\n6 mkdir /s6\n7 mkdir /s7\n8 mkdir /s8\n\
 1 create /s1/f0\n2 create /s2/f0\n3 create /s3/f0\n4 create /s4/f0\n\
 5 create /s5/f0\n6 create /s6/f0\n7 create /s7/f0\n8 create /s8/f0\n\
-1 write /s1/f0 0 fill:10:102\n2 write /s2/f0 0 fill:20:203\n3 write /s3/f0 0 fill:30:304\n4 write /s4/f0 0 fill:40:405\n\
-5 write /s5/f0 0 fill:50:506\n6 write /s6/f0 0 fill:60:607\n7 write /s7/f0 0 fill:70:708\n8 write /s8/f0 0 fill:80:809\n\
+1 write /s1/f0 0 fill:10:102\n2 write /s2/f0 0 fill:20:203\n\
+3 write /s3/f0 0 fill:30:304\n4 write /s4/f0 0 fill:40:405\n\
+5 write /s5/f0 0 fill:50:506\n6 write /s6/f0 0 fill:60:607\n\
+7 write /s7/f0 0 fill:70:708\n8 write /s8/f0 0 fill:80:809\n\
 1 read /s1/f0 0 6000\n2 read /s2/f0 0 6000\n3 read /s3/f0 0 6000\n4 read /s4/f0 0 6000\n\
 5 read /s5/f0 0 6000\n6 read /s6/f0 0 6000\n7 read /s7/f0 0 6000\n8 read /s8/f0 0 6000\n\
 1 rename /s1/f0 /s1/g0\n2 rename /s2/f0 /s2/g0\n3 rename /s3/f0 /s3/g0\n4 rename /s4/f0 /s4/g0\n\

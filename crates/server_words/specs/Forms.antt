@@ -1,5 +1,5 @@
--- The forms of a command line's words: a command's name, its folder where it has one, and words that clap's simple command
--- takes, with options in any order, as `--x VALUE` or `--x=VALUE`.
+-- The forms of a command line's words: a command's name, its folder where it has one, and words that clap's simple
+-- command takes, with options in any order, as `--x VALUE` or `--x=VALUE`.
 use Rattle.std.specs.Prelude.{◌≡◌, ℕ, List, ◌∷◌, map, Option, Some, None, Result, Ok, Err, String, codes, string_bytes}
 use Rattle.std.specs.Prelude.{◌&&◌, nat_le, if◌then◌else◌, option_and_then}
 use Rattle.std.specs.Global.{Global}
@@ -100,8 +100,8 @@ pub record HasNoForm (words : List (String Global)) : Type 0 where
   pub no_serve : ¬ (IsServe words)
   pub no_make : ¬ (IsMake words)
 
--- what the words spell: those of `plain` or of `serve` with this moment, those of `label` or of `list`, those of `format`
--- or of `make` with these values, or of no form
+-- what the words spell: those of `plain` or of `serve` with this moment, those of `label` or of `list`, those of
+-- `format` or of `make` with these values, or of no form
 abbrev pub IsSpelledBy : List (String Global) → Result Command WordsErr → Type 0
 IsSpelledBy words (Ok (commands.Plain at)) = IsPlainWords words at
 IsSpelledBy words (Ok commands.Label) = IsLabel words

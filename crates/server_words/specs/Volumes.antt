@@ -1,5 +1,6 @@
 -- What the words of `format` ask for: a volume identifier and a UUID, and options for the rest.
-use Rattle.std.specs.Prelude.{◌≡◌, ℕ, List, [], Option, Some, None, Result, Ok, Err, ◌==◌, ◌^◌, nat_lt, if◌then◌else◌, codes, length}
+use Rattle.std.specs.Prelude.{◌≡◌, ℕ, List, [], Option, Some, None, Result, Ok, Err, ◌==◌, ◌^◌, nat_lt, if◌then◌else◌}
+use Rattle.std.specs.Prelude.{codes, length}
 use Rattle.std.specs.Prelude.{option_and_then, option_map, pos, unwrap_or}
 use Rattle.std.specs.List.{slice_split}
 use Rattle.clap.specs.Words.{App, Text, with_rule}

@@ -21,8 +21,8 @@ pub enum Command {
     Format(FormatWords),
     /// `serve`, which runs a script on the volume of the cartridge. Every moment is the given one, or else the clock's.
     Serve { at: Option<Moment> },
-    /// `make`, which runs a made script on the volume of the cartridge: so many calls of each of eight sessions, 1,024 at
-    /// most. Every moment is the given one, or else the clock's.
+    /// `make`, which runs a made script on the volume of the cartridge: so many calls of each of eight sessions, 1,024
+    /// at most. Every moment is the given one, or else the clock's.
     Make { count: u32, at: Option<Moment> },
 }
 

@@ -1,9 +1,11 @@
 -- The lines of a script, the calls that they spell, and the first line that is refused.
-use Rattle.std.specs.Prelude.{◌≡◌, ℕ, ◌+◌, List, [], ◌∷◌, ◌++◌, Bool, ◌||◌, not, ◌==◌, nat_le, nat_lt, if◌then◌else◌, filter, map, length, sum_by, slice_index, Option, Some, None, Result, Ok, Err}
+use Rattle.std.specs.Prelude.{◌≡◌, ℕ, ◌+◌, List, [], ◌∷◌, ◌++◌, Bool, ◌||◌, not, ◌==◌, nat_le, nat_lt, if◌then◌else◌}
+use Rattle.std.specs.Prelude.{filter, map, length, sum_by, slice_index, Option, Some, None, Result, Ok, Err}
 use Rattle.std.specs.List.{list_any, slice_split}
 use Rattle.std.specs.Str.{is_utf8}
 use Rattle.plain_tree.specs.declared.calls.Call.{Call}
-use Rattle.plain_tree.specs.declared.calls.Call.TheVariants.{Mkdir, Create, Write, Truncate, Read, Listing, Stat, Rename, Remove, Sync}
+use Rattle.plain_tree.specs.declared.calls.Call.TheVariants.{Mkdir, Create, Write, Truncate, Read, Listing, Stat}
+use Rattle.plain_tree.specs.declared.calls.Call.TheVariants.{Rename, Remove, Sync}
 use Rattle.plain_tree.specs.History.{Calls}
 use Rattle.session_script.specs.declared.words.Verb.{Verb}
 use Rattle.session_script.specs.declared.words.Verb.TheVariants as verbs
@@ -32,7 +34,8 @@ call_by verbs.Write (p ∷ n ∷ b ∷ []) =
     read_as (path_of p) reasons.Path (λ path. read_as (number_of n) reasons.Number (λ offset.
     read_as (bytes_of b) reasons.Bytes (λ bytes. Ok (Write path offset bytes))))
 call_by verbs.Truncate (p ∷ n ∷ []) =
-    read_as (path_of p) reasons.Path (λ path. read_as (number_of n) reasons.Number (λ length. Ok (Truncate path length)))
+    read_as (path_of p) reasons.Path (λ path. read_as (number_of n) reasons.Number (λ length.
+    Ok (Truncate path length)))
 call_by verbs.Read (p ∷ n ∷ m ∷ []) =
     read_as (path_of p) reasons.Path (λ path. read_as (number_of n) reasons.Number (λ offset.
     read_as (number_of m) reasons.Number (λ count. Ok (Read path offset count))))

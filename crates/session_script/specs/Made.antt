@@ -1,5 +1,6 @@
 -- A script that is made from a number, for a server that is to be tried by many calls.
-use Rattle.std.specs.Prelude.{ℕ, zero, suc, ◌+◌, ◌*◌, ◌/◌, ◌%◌, List, [], ◌∷◌, ◌==◌, if◌then◌else◌, decimal, flat_map, map, replicate}
+use Rattle.std.specs.Prelude.{ℕ, zero, suc, ◌+◌, ◌*◌, ◌/◌, ◌%◌, List, [], ◌∷◌, ◌==◌, if◌then◌else◌, decimal, flat_map}
+use Rattle.std.specs.Prelude.{map, replicate}
 use Rattle.std.specs.List.{range_with_len}
 use Rattle.plain_tree.specs.Paths.{Name}
 use Rattle.plain_tree.specs.declared.calls.Call.{Call}

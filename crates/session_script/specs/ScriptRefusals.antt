@@ -10,7 +10,8 @@ use Rattle.session_script.specs.declared.scripts.ScriptWhy.TheVariants as reason
 use Rattle.session_script.specs.declared.words.Verb.{Verb}
 use Rattle.session_script.specs.declared.words.Verb.TheVariants as verbs
 use Rattle.session_script.specs.Grammar.{calls_of, bytes_written, bytes_asked, script_of}
-use Rattle.session_script.specs.ScriptText.{IsJoined, SpellsSession, SpellsPath, SpellsNumber, SpellsBytes, IsSkippedLine, IsCallLine, SpellLines, IsWithinLimits}
+use Rattle.session_script.specs.ScriptText.{IsJoined, SpellsSession, SpellsPath, SpellsNumber, SpellsBytes}
+use Rattle.session_script.specs.ScriptText.{IsSkippedLine, IsCallLine, SpellLines, IsWithinLimits}
 
 -- the word that names a call
 abbrev pub verb_text : Verb → List ℕ
@@ -63,8 +64,8 @@ HasContent verb words =
     AllByRecursion (λ w. (bytes : List ℕ) × SpellsBytes w bytes)
     (drop (number_count verb) (drop (path_count verb) words))
 
--- the first form that the words behind a session lack: they name a call, are as many as it takes, and spell its paths, its
--- numbers and its bytes
+-- the first form that the words behind a session lack: they name a call, are as many as it takes, and spell its paths,
+-- its numbers and its bytes
 abbrev pub LacksForm : List (List ℕ) → ScriptWhy → Type 0
 LacksForm words reasons.Verb = (verb : Verb) (rest : List (List ℕ)) → words ≡ verb_text verb ∷ rest → ⊥
 LacksForm words reasons.Words =
@@ -80,8 +81,8 @@ LacksForm words reasons.Bytes =
     × HasNumbers verb rest × (HasContent verb rest → ⊥)
 LacksForm words _ = ⊥
 
--- the first limit that a call passes behind the lines before it: the calls of its session, the bytes of the call, and those
--- of all writes or of all reads
+-- the first limit that a call passes behind the lines before it: the calls of its session, the bytes of the call, and
+-- those of all writes or of all reads
 abbrev pub PassesLimit : List ScriptLine → ScriptLine → ScriptWhy → Type 0
 PassesLimit before line reasons.Calls = 1024 ≤ length (calls_of before line.who)
 PassesLimit before line reasons.Big =
@@ -134,8 +135,8 @@ IsTooLong text e = (e ≡ record { line = 0; why = reasons.Long }) × (16777216 
 abbrev pub IsRefusal : List ℕ → ScriptErr → Type 0
 IsRefusal text e = IsTooLong text e ⊎ IsRefusedText text e
 
--- what is refused is refused at its first line that lacks a form or passes a limit, for the first of them; and what has such a
--- line is refused so
+-- what is refused is refused at its first line that lacks a form or passes a limit, for the first of them; and what has
+-- such a line is refused so
 pub record RefusesTheFirst : Type 0 where
   pub found : (text : List ℕ) (e : ScriptErr) → script_of text ≡ Err e → IsRefusal text e
   pub only : (text : List ℕ) (e : ScriptErr) → IsRefusal text e → script_of text ≡ Err e

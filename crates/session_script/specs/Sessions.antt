@@ -1,5 +1,6 @@
 -- Which lines of a script are whose calls.
-use Rattle.std.specs.Prelude.{◌≡◌, ℕ, ◌+◌, ◌-◌, ◌^◌, ◌<◌, ◌≤◌, max, List, [], ◌∷◌, ◌==◌, if◌then◌else◌, All, fold, map, length, take, slice_get, slice_index, slice_index_or, unwrap_or}
+use Rattle.std.specs.Prelude.{◌≡◌, ℕ, ◌+◌, ◌-◌, ◌^◌, ◌<◌, ◌≤◌, max, List, [], ◌∷◌, ◌==◌, if◌then◌else◌, All, fold, map}
+use Rattle.std.specs.Prelude.{length, take, slice_get, slice_index, slice_index_or, unwrap_or}
 use Rattle.std.specs.Option.{option_map}
 use Rattle.session_script.specs.declared.scripts.ScriptLine.{ScriptLine}
 use Rattle.session_script.specs.Grammar.{calls_of}

@@ -1,5 +1,6 @@
 -- The words of a script's line, and what each form of word spells.
-use Rattle.std.specs.Prelude.{ℕ, ◌+◌, ◌-◌, ◌*◌, ◌^◌, List, [], ◌∷◌, Bool, ◌&&◌, not, nat_le, nat_lt, nat_eq, ◌==◌, if◌then◌else◌, fold, length, drop, replicate, Option, Some, None, option_and_then, codes}
+use Rattle.std.specs.Prelude.{ℕ, ◌+◌, ◌-◌, ◌*◌, ◌^◌, List, [], ◌∷◌, Bool, ◌&&◌, not, nat_le, nat_lt, nat_eq, ◌==◌}
+use Rattle.std.specs.Prelude.{if◌then◌else◌, fold, length, drop, replicate, Option, Some, None, option_and_then, codes}
 use Rattle.std.specs.List.{list_all, slice_split, starts_with}
 use Rattle.std.specs.Option.{option_map}
 use Rattle.std.specs.Str.{bytes_eq, is_utf8}

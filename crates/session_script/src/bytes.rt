@@ -82,8 +82,8 @@ fn hex_bytes(alloc: Global, digits: &[u8]) -> Result<Option<Vec<u8>>, NoMemory>
     Ok(Some(bytes))
 }
 
-/// The value of a hexadecimal digit of either case, or 16. A digit's low half is its value, and a letter's is nine less;
-/// letters begin at 64. Random digits make a test of each range slow.
+/// The value of a hexadecimal digit of either case, or 16. A digit's low half is its value, and a letter's is nine
+/// less; letters begin at 64. Random digits make a test of each range slow.
 fn digit_of(byte: u8) -> u8
     ensures { result ≡ (if is_digit byte 16 then digit_value byte else 16) }
 {

@@ -1,7 +1,8 @@
 //! Scripts that are made from a number.
 
 ghost use Rattle.std.specs.Prelude.{◌≡◌, ◌+◌, ◌*◌, ◌<◌, ◌≤◌, ◌^◌, [], ◌∷◌, ◌++◌, length, decimal, IfOk};
-ghost use Rattle.session_script.specs.Made.{numbered, folder_of, write_of, last_of, call_for, made_call, made_round, made_script};
+ghost use Rattle.session_script.specs.Made.{numbered, folder_of, write_of, last_of, call_for, made_call, made_round};
+ghost use Rattle.session_script.specs.Made.{made_script};
 
 use crate::scripts::{Script, ScriptLine};
 use plain_tree::Call;
@@ -108,8 +109,8 @@ fn with_round(alloc: Global, script: Script, nth: u32) -> Result<Script, NoMemor
 }
 
 /// The script of eight sessions, each with so many calls in a folder of its own: it makes the folder, and then creates,
-/// writes, reads and renames one file after the other, with a sync in place of each 32nd rename. No session has more than
-/// 1,024 calls.
+/// writes, reads and renames one file after the other, with a sync in place of each 32nd rename. No session has more
+/// than 1,024 calls.
 pub fn make_script(alloc: Global, count: u32) -> Result<Script, NoMemory>
     requires { count ≤ 1024 }
     ensures { IfOk result (λ script. script ≡ made_script count) }

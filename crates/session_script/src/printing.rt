@@ -1,6 +1,7 @@
 ghost use Rattle.std.specs.Prelude.{◌≡◌, ◌++◌, codes, decimal, length, OnOk, IfOk, string_bytes};
 ghost use Rattle.std.specs.List.{flat_map};
-ghost use Rattle.session_script.specs.LogText.{answer_text, bytes_text, entry_text, facts_text, hex_byte, hex_text, line_text, log_text, reply_text, sort_letter, sort_text};
+ghost use Rattle.session_script.specs.LogText.{answer_text, bytes_text, entry_text, facts_text, hex_byte, hex_text};
+ghost use Rattle.session_script.specs.LogText.{line_text, log_text, reply_text, sort_letter, sort_text};
 
 use crate::escapes::push_escaped;
 use crate::logs::{Log, Reply};

@@ -110,7 +110,8 @@ impl Model for Script {
 }
 
 impl Script {
-    ghost use Rattle.std.specs.Prelude.{◌≡◌, ℕ, ◌+◌, ◌-◌, ◌^◌, ◌<◌, ◌≤◌, [], ◌∷◌, ◌++◌, length, IfOk, IfSome, slice_get, take};
+    ghost use Rattle.std.specs.Prelude.{◌≡◌, ℕ, ◌+◌, ◌-◌, ◌^◌, ◌<◌, ◌≤◌, [], ◌∷◌, ◌++◌, length, IfOk, IfSome};
+    ghost use Rattle.std.specs.Prelude.{slice_get, take};
     ghost use Rattle.std.specs.Option.{option_map};
     ghost use Rattle.session_script.specs.Grammar.{calls_of};
     ghost use Rattle.session_script.specs.Sessions.{HasSessions, greatest_session};

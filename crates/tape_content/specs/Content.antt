@@ -5,8 +5,8 @@ use Rattle.tape_types.specs.declared.cartridges.Item.TheVariants.{Block, Mark, T
 use Rattle.std.specs.List.{flat_map}
 use Rattle.tape_content.specs.Readings.{Construct, Group, constructs_of, items_of_group, items_of_tail, readable}
 
--- where a reading stands: behind data, of which so many blocks stand since the last index; in an index, behind the mark that
--- opens it and these blocks; or at a mark that directly follows an opening one
+-- where a reading stands: behind data, of which so many blocks stand since the last index; in an index, behind the mark
+-- that opens it and these blocks; or at a mark that directly follows an opening one
 pub data Phase : Type 0 where
   Data : (since : ℕ) → Phase
   Index : (mark : ℕ) (blocks : List (List ℕ)) → Phase

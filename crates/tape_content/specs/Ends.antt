@@ -15,8 +15,8 @@ abbrev pub end_dp : List Construct → ℕ
 end_dp [] = 4
 end_dp (k ∷ older) = after_of k
 
--- the index partition ends at the opening mark of its last index where its front ends with that, and else behind the leading
--- blocks of what follows
+-- the index partition ends at the opening mark of its last index where its front ends with that, and else behind the
+-- leading blocks of what follows
 abbrev pub end_ip_in : ℕ → Phase → List Construct → ℕ
 end_ip_in pos (Data zero) (k ∷ older) = k.mark
 end_ip_in pos (Data zero) [] = pos

@@ -32,8 +32,8 @@ pub record Group : Type 0 where
 abbrev pub items_of_group : Group → List Item
 items_of_group g = map Block g.data_blocks ++ Mark ∷ (map Block g.index_blocks ++ Mark ∷ [])
 
--- What follows the last index, as it stands on a partition: blocks of data, and where an index was begun behind them, a mark
--- and the blocks of that.
+-- What follows the last index, as it stands on a partition: blocks of data, and where an index was begun behind them, a
+-- mark and the blocks of that.
 abbrev pub items_of_tail : List (List ℕ) → Option (List (List ℕ)) → List Item
 items_of_tail lead None = map Block lead
 items_of_tail lead (Some begun) = map Block lead ++ Mark ∷ map Block begun
@@ -57,8 +57,8 @@ constructs_from at (g ∷ gs) =
     record { mark = at + length g.data_blocks; blocks = g.index_blocks }
     ∷ constructs_from (at + length (items_of_group g)) gs
 
--- items have not that form, since at this position, counted from the first item's, a mark stands directly behind the mark that
--- opens an index
+-- items have not that form, since at this position, counted from the first item's, a mark stands directly behind the
+-- mark that opens an index
 pub record IsEmptyAt (from : ℕ) (items : List Item) (at : ℕ) : Type 0 where
   pub groups : List Group
   pub indexes : HaveBlocks groups

@@ -4,7 +4,8 @@ ghost use Rattle.std.specs.Prelude.{◌≡◌, [], ◌∷◌, map};
 ghost use Rattle.tape_content.specs.Content.{Bad, content};
 ghost use Rattle.tape_content.specs.Ends.{EndsWith, EndsWithLast, IsOneAtMost, end_dp, end_ip, kept_on_ip, lead_of};
 ghost use Rattle.tape_content.specs.Readings.{after_of, first_of};
-ghost use Rattle.tape_content.specs.Worked.{bad_dp, behind_torn, data_ip, empty_dp, first_index, half_dp, labels, second_index, synced_dp, torn_behind, torn_dp, torn_ip};
+ghost use Rattle.tape_content.specs.Worked.{bad_dp, behind_torn, data_ip, empty_dp, first_index, half_dp, labels};
+ghost use Rattle.tape_content.specs.Worked.{second_index, synced_dp, torn_behind, torn_dp, torn_ip};
 
 /// The indexes and ends of partitions, also of some as a crash may leave them.
 pub fn the_definitions_tell_content()

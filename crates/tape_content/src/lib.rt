@@ -1,5 +1,5 @@
-//! The content of a partition: data, and indexes between marks (LTFS 2.4 on partitions and index constructs). Definitions and
-//! laws; no code.
+//! The content of a partition: data, and indexes between marks (LTFS 2.4 on partitions and index constructs).
+//! Definitions and laws; no code.
 #![tactic(auto)]
 
 mod examples;

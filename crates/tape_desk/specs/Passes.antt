@@ -1,5 +1,6 @@
 -- What contracts see of the pass of a session, and what a call makes of it.
-use Rattle.std.specs.Prelude.{ℕ, ◌≡◌, ◌≤◌, ◌<◌, ◌+◌, false, List, [], ◌∷◌, ◌++◌, Contains, length, Option, Some, IfSome, slice_get, slice_index_or}
+use Rattle.std.specs.Prelude.{ℕ, ◌≡◌, ◌≤◌, ◌<◌, ◌+◌, false, List, [], ◌∷◌, ◌++◌, Contains, length, Option, Some, IfSome}
+use Rattle.std.specs.Prelude.{slice_get, slice_index_or}
 use Rattle.atomic_table.specs.Seated.{TableId}
 use Rattle.session_script.specs.Grammar.{calls_of}
 use Rattle.session_script.specs.Sessions.{greatest_session}
@@ -55,7 +56,8 @@ pub record IsHeld {D : Type 0} (p : PassView Mark (Fixed D)) (who placed count :
   pub counted : HasCount (view_of p who placed) count
 
 -- the pass of a session that has placed nothing, of a volume of which nothing was asked
-pub record IsNew {D : Type 0} (lock : TableId) (sessions : ℕ) (fixed : Fixed D) (who : ℕ) (p : DeskView D) : Type 0 where
+pub record IsNew {D : Type 0} (lock : TableId) (sessions : ℕ) (fixed : Fixed D) (who : ℕ) (p : DeskView D)
+    : Type 0 where
   pub lock_is : p.lock ≡ lock
   pub sessions_are : p.sessions ≡ sessions
   pub who_is : p.who ≡ who

@@ -13,7 +13,8 @@ use Rattle.volume_model.specs.declared.answers.Submitted.TheVariants as submitte
 use Rattle.volume_model.specs.declared.answers.Turn.{Turn}
 use Rattle.volume_model.specs.declared.answers.Turn.TheVariants as turns
 use Rattle.volume_model.specs.declared.marks.Kind.{Kind}
-use Rattle.volume_model.specs.declared.marks.Kind.TheVariants.{Places as places, Hands as hands, Begins as begins, Rests as rests}
+use Rattle.volume_model.specs.declared.marks.Kind.TheVariants.{Places as places, Hands as hands, Begins as begins}
+use Rattle.volume_model.specs.declared.marks.Kind.TheVariants.{Rests as rests}
 use Rattle.volume_model.specs.declared.marks.Mark.{Mark}
 
 -- ---- which marks a turn adds

@@ -46,8 +46,8 @@ pub struct OrderGate {
 }
 
 impl OrderGate {
-    /// A session that is held looks at most `limit` times where the other one is, and then goes. A rule that names another
-    /// session than 1 to 128 is ignored.
+    /// A session that is held looks at most `limit` times where the other one is, and then goes. A rule that names
+    /// another session than 1 to 128 is ignored.
     pub fn new(alloc: Global, rules: List<Hold>, limit: u64) -> Result<OrderGate, NoMemory> {
         let Ok(points) = points_of(alloc) else {
             return Err(NoMemory);

@@ -1,5 +1,6 @@
 -- What is admitted, what that needs, and what there is.
-use Rattle.std.specs.Prelude.{◌≡◌, ℕ, ◌+◌, ◌-◌, ◌/◌, ◌^◌, ◌<◌, ◌≤◌, ◌&&◌, nat_le, nat_lt, if◌then◌else◌, Bool, true, false, List, [], ◌∷◌, ◌++◌, length, Result, Ok, Err}
+use Rattle.std.specs.Prelude.{◌≡◌, ℕ, ◌+◌, ◌-◌, ◌/◌, ◌^◌, ◌<◌, ◌≤◌, ◌&&◌, nat_le, nat_lt, if◌then◌else◌, Bool, true}
+use Rattle.std.specs.Prelude.{false, List, [], ◌∷◌, ◌++◌, length, Result, Ok, Err}
 use Rattle.std.specs.Int.{div_ceil}
 use Rattle.tape_types.specs.declared.cartridges.Part.{Part}
 use Rattle.tape_types.specs.declared.cartridges.Part.TheVariants.{Ip, Dp}
@@ -17,12 +18,14 @@ use Rattle.tape_layout.specs.Plans.{Plan}
 abbrev pub data_limit : ℕ → ℕ
 data_limit cap = cap - (8 + cap / 16)
 
--- bytes go to the index partition where they are wanted there, that is on, and they fit there; else to the data partition
+-- bytes go to the index partition where they are wanted there, that is on, and they fit there; else to the data
+-- partition
 abbrev pub part_for : Plan → Bool → ℕ → Part
 part_for p wanted count =
     if wanted && p.ip_on && nat_le (p.ends.ip + count) (data_limit p.limits.cap_ip) then Ip else Dp
 
--- What is asked needs so many positions, or generations, of which there are so many. It gets this place, and leaves this.
+-- What is asked needs so many positions, or generations, of which there are so many. It gets this place, and leaves
+-- this.
 pub record Admission : Type 0 where
   pub need : ℕ
   pub limit : ℕ
@@ -92,8 +95,8 @@ index_admission p generation doc = unless_past generation (index_on p Dp (flush_
 abbrev pub close_admission : Plan → List ℕ → Admission
 close_admission p doc = index_on p Ip [] doc
 
--- It is admitted where it needs no more than there is, and else refused by these numbers. After a refusal, and after one for want
--- of memory, which may stand in place of either, nothing has changed.
+-- It is admitted where it needs no more than there is, and else refused by these numbers. After a refusal, and after
+-- one for want of memory, which may stand in place of either, nothing has changed.
 abbrev pub IsAdmitted : Admission → Plan → Plan → Result Place AdmitErr → Type 0
 IsAdmitted a old new (Ok place) = (a.need ≤ a.limit) × (place ≡ a.place) × (new ≡ a.after)
 IsAdmitted a old new (Err (Full need limit)) = (a.limit < a.need) × (need ≡ a.need) × (limit ≡ a.limit) × (new ≡ old)

@@ -1,5 +1,6 @@
 -- Ops in the order of their admission, each at the end of a partition.
-use Rattle.std.specs.Prelude.{◌≡◌, ℕ, ◌+◌, ◌<◌, ◌≤◌, List, [], ◌∷◌, ◌++◌, Option, Some, None, length, map, if◌then◌else◌, Bool, ◌==◌, ◌&&◌, true, false, nat_le}
+use Rattle.std.specs.Prelude.{◌≡◌, ℕ, ◌+◌, ◌<◌, ◌≤◌, List, [], ◌∷◌, ◌++◌, Option, Some, None, length, map}
+use Rattle.std.specs.Prelude.{if◌then◌else◌, Bool, ◌==◌, ◌&&◌, true, false, nat_le}
 use Rattle.std.specs.Int.{div_ceil}
 use Rattle.std.specs.List.{range_with_len}
 use Rattle.std.specs.List.Sorted.{IsPartitionedBy, IsPartitionPoint}
@@ -42,7 +43,8 @@ abbrev pub AreNext : Ends → List Op → Type 0
 AreNext e [] = Unit {0}
 AreNext e (op ∷ ops) = ((place_of op).pos ≡ end_of (place_of op).part e) × AreNext (after_op e op) ops
 
--- an item has a position of its partition, and a block has bytes, of which there are no more than a block of the volume has
+-- an item has a position of its partition, and a block has bytes, of which there are no more than a block of the volume
+-- has
 abbrev pub HasRoom : Limits → ℕ → Op → Type 0
 HasRoom limits size (Put place bytes) =
     (place.pos < capacity place.part limits) × (1 ≤ length bytes) × (length bytes ≤ size)
@@ -94,7 +96,8 @@ counted e (op ∷ ops) = record { op = op; ends = after_op e op } ∷ counted (a
 
 -- this is held at a place by the ops that are kept, where they stand one after the other
 abbrev pub IsHeld : Place → List Standing → Option (List ℕ) → Type 0
-IsHeld at items held = (from : Ends) (ops : List Op) → items ≡ counted from ops → AreNext from ops → held ≡ held_in at ops
+IsHeld at items held = (from : Ends) (ops : List Op)
+    → items ≡ counted from ops → AreNext from ops → held ≡ held_in at ops
 
 -- behind an op the partition doesn't reach past a place
 abbrev pub is_before : Place → Standing → Bool

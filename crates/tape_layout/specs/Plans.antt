@@ -8,8 +8,8 @@ use Rattle.tape_layout.specs.declared.standing.Ends.{Ends}
 use Rattle.tape_layout.specs.declared.standing.Standing.{Standing}
 use Rattle.tape_layout.specs.Ops.{AreNext, HasRoom, after_ops, counted, ops_of}
 
--- The capacities, the bytes of a block, where the next item of each partition goes, the ops that stand, whether a block was put
--- on the index partition since the last flush was admitted, and whether files may go there.
+-- The capacities, the bytes of a block, where the next item of each partition goes, the ops that stand, whether a block
+-- was put on the index partition since the last flush was admitted, and whether files may go there.
 pub record Plan : Type 0 where
   pub limits : Limits
   pub block_size : ℕ

@@ -1,4 +1,5 @@
-ghost use Rattle.std.specs.Prelude.{◌≡◌, ◌+◌, ◌<◌, ◌≤◌, ◌^◌, [], ◌∷◌, ◌++◌, ℕ, List, Option, None, length, drop, true, false, nat_le, IfSome, MatchOption, OnOk, OnErr};
+ghost use Rattle.std.specs.Prelude.{◌≡◌, ◌+◌, ◌<◌, ◌≤◌, ◌^◌, [], ◌∷◌, ◌++◌, ℕ, List, Option, None, length, drop, true};
+ghost use Rattle.std.specs.Prelude.{false, nat_le, IfSome, MatchOption, OnOk, OnErr};
 ghost use Rattle.std.specs.Int.{div_ceil};
 ghost use Rattle.std.specs.List.{All};
 ghost use Rattle.std.specs.Option.{option_map};
@@ -9,7 +10,8 @@ ghost use Rattle.std.specs.List.Sorted.{IsPartitionedBy, IsPartitionPoint};
 ghost use Rattle.tape_layout.specs.declared.ops.Op.{Op};
 ghost use Rattle.tape_layout.specs.declared.standing.Ends.{Ends};
 ghost use Rattle.tape_layout.specs.declared.standing.Standing.{Standing};
-ghost use Rattle.tape_layout.specs.Ops.{AreNext, HasRoom, after_ops, counted, end_of, held_by, held_in, IsFirstPast, IsHeld};
+ghost use Rattle.tape_layout.specs.Ops.{AreNext, HasRoom, after_ops, counted, end_of, held_by, held_in, IsFirstPast};
+ghost use Rattle.tape_layout.specs.Ops.{IsHeld};
 ghost use Rattle.tape_layout.specs.Plans.{AreStanding, CanAdmit, CanBe, Lead, plan};
 
 use crate::drafts::Draft;
@@ -96,8 +98,8 @@ impl Layout {
         self.ip_on = true;
     }
 
-    /// Admits bytes of a file: their blocks go to one run of positions. `ip` tells whether the policy wants the file on the
-    /// index partition. Where it may not go there, or doesn't fit, it goes to the data partition.
+    /// Admits bytes of a file: their blocks go to one run of positions. `ip` tells whether the policy wants the file on
+    /// the index partition. Where it may not go there, or doesn't fit, it goes to the data partition.
     pub fn admit_data(&mut self, ip: bool, bytes: &[u8]) -> Result<Place, AdmitErr>
         requires { 1 ≤ length bytes.now }
         ensures { IsAdmitted (data_admission self.old ip bytes.now) self.old self.new result }
@@ -124,7 +126,8 @@ impl Layout {
         Ok(place)
     }
 
-    /// Admits the index of a generation on the data partition. What was put on the index partition is flushed before it.
+    /// Admits the index of a generation on the data partition. What was put on the index partition is flushed before
+    /// it.
     pub fn admit_index(&mut self, doc: &[u8], generation: u64) -> Result<Place, AdmitErr>
         requires { 1 ≤ length doc.now }
         ensures { IsAdmitted (index_admission self.old generation doc.now) self.old self.new result }

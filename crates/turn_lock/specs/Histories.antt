@@ -1,5 +1,6 @@
 -- What one who owns some of the numbers knows of a history, each entry of which names a number.
-use Rattle.std.specs.Prelude.{ℕ, zero, suc, ◌≤◌, ◌≡◌, nat_lt, if◌then◌else◌, List, [], ◌∷◌, ◌++◌, length, All, Contains, filter}
+use Rattle.std.specs.Prelude.{ℕ, zero, suc, ◌≤◌, ◌≡◌, nat_lt, if◌then◌else◌, List, [], ◌∷◌, ◌++◌, length, All, Contains}
+use Rattle.std.specs.Prelude.{filter}
 use Rattle.turn_lock.specs.Sums.{times}
 
 -- the numbers of a lock: 1 to n

@@ -1,5 +1,6 @@
 -- What a seat knows: how each step changes it, and in which states it may be.
-use Rattle.std.specs.Prelude.{ℕ, ◌+◌, ◌-◌, ◌^◌, ◌<◌, ◌≡◌, Bool, true, false, List, [], ◌∷◌, ◌++◌, length, take, drop, Option, Some, None}
+use Rattle.std.specs.Prelude.{ℕ, ◌+◌, ◌-◌, ◌^◌, ◌<◌, ◌≡◌, Bool, true, false, List, [], ◌∷◌, ◌++◌, length, take, drop}
+use Rattle.std.specs.Prelude.{Option, Some, None}
 use Rattle.atomic_table.specs.Table.{Me}
 use Rattle.turn_lock.specs.declared.rule.Knowledge.{Knowledge}
 use Rattle.turn_lock.specs.Sums.{times}

@@ -1,5 +1,6 @@
 -- What holds of the lock's table between any two steps.
-use Rattle.std.specs.Prelude.{ℕ, ◌+◌, ◌^◌, ◌≤◌, ◌<◌, ◌≡◌, ◌==◌, true, false, if◌then◌else◌, List, length, Option, Some, None, slice_index}
+use Rattle.std.specs.Prelude.{ℕ, ◌+◌, ◌^◌, ◌≤◌, ◌<◌, ◌≡◌, ◌==◌, true, false, if◌then◌else◌, List, length, Option, Some}
+use Rattle.std.specs.Prelude.{None, slice_index}
 use mathlib.Core.Option.{some}
 use lib.ListN.{get_elem?}
 use Rattle.atomic_table.specs.Table.{State}

@@ -1,7 +1,8 @@
 //! The lock's table, and the steps of its seats.
 ghost use Rattle.std.specs.Prelude.{◌≡◌, ◌≤◌, ◌<◌, ◌^◌, ◌++◌, [], ◌∷◌, ℕ, length, Some, None, IfOk, IfErr, MatchBool};
 ghost use Rattle.turn_lock.specs.Histories.{Sees, AddsOwn, own_entries, numbers_to, longer};
-ghost use Rattle.turn_lock.specs.Knowing.{IsCalm, IsWaiting, HasTurn, IsBeside, calm, drew, in_turn, ended, beside, merged, SameBut};
+ghost use Rattle.turn_lock.specs.Knowing.{IsCalm, IsWaiting, HasTurn, IsBeside, calm, drew, in_turn, ended, beside};
+ghost use Rattle.turn_lock.specs.Knowing.{merged, SameBut};
 ghost use Rattle.turn_lock.specs.Steps.{Turns};
 
 use crate::Logged;
@@ -261,7 +262,8 @@ impl<T: Logged> Board<T> {
             (longer seat.old.me.0.seen seat.old.me.0.joined_seen) }
         ensures own { own_entries T.names seat.old.me.0.numbers (longer seat.old.me.0.seen seat.old.me.0.joined_seen)
             ≡ own_entries T.names seat.old.me.0.numbers seat.old.me.0.seen }
-        ensures own_other { own_entries T.names seat.old.me.0.joined_numbers (longer seat.old.me.0.seen seat.old.me.0.joined_seen)
+        ensures own_other { own_entries T.names seat.old.me.0.joined_numbers
+            (longer seat.old.me.0.seen seat.old.me.0.joined_seen)
             ≡ own_entries T.names seat.old.me.0.joined_numbers seat.old.me.0.joined_seen }
         ensures fixed { seat.old.me.0.joined_fixed ≡ seat.old.me.0.fixed }
     {

@@ -10,11 +10,12 @@ const REST: u64 = 100;
 
 /// Tickets are served in the order in which they are drawn. If all callers drew theirs as they came, each turn would
 /// end with the wake of another thread, which takes longer than a short turn. So only who finds the lock free draws at
-/// once. The others wait here, and one of them at a time is called, rests while others still take turns, and then draws.
+/// once. The others wait here, and one of them at a time is called, rests while others still take turns, and then
+/// draws.
 ///
 /// No call is missed. Who waits announces it first and then looks whether the lock is free. Who ends a turn serves the
-/// next ticket first, and, where there is none, asks whether somebody waits. So one of the two sees the other. Who takes
-/// a call draws a ticket, and calls again when that turn ends.
+/// next ticket first, and, where there is none, asks whether somebody waits. So one of the two sees the other. Who
+/// takes a call draws a ticket, and calls again when that turn ends.
 #[derive(Drop)]
 pub(crate) struct Lobby {
     waiting: AtomicU64,

@@ -1,5 +1,6 @@
 -- The VOL1 record of 80 bytes with which each partition of a volume begins (LTFS 2.4 on labels, after ANSI X3.27).
-use Rattle.std.specs.Prelude.{◌≡◌, ◌≢◌, ℕ, ◌-◌, ◌<◌, nat_lt, Bool, true, false, ◌==◌, if◌then◌else◌, List, ◌++◌, length, replicate, codes, slice_index}
+use Rattle.std.specs.Prelude.{◌≡◌, ◌≢◌, ℕ, ◌-◌, ◌<◌, nat_lt, Bool, true, false, ◌==◌, if◌then◌else◌, List, ◌++◌, length}
+use Rattle.std.specs.Prelude.{replicate, codes, slice_index}
 use Rattle.std.specs.List.{All, slice_range}
 use Rattle.std.specs.Int.{is_in_range}
 use Rattle.vol_label.specs.declared.Vol1.{Vol1}
