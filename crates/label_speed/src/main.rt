@@ -1,5 +1,5 @@
-// Measures how a label is read: reads standard input as one, again and again, and prints how often it was one, the bytes
-// that were read, and a sum of the block sizes. Words: how many times.
+// Measures how a label is read: reads standard input as one, again and again, and prints how often it was one, the
+// bytes that were read, and a sum of the block sizes. Words: how many times.
 #![tactic(auto)]
 
 use ltfs_label::read_label;

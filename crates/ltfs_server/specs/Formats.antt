@@ -43,8 +43,8 @@ format_status (errors.Full need limit) = 8
 format_status (errors.Drive counts) = 4
 format_status errors.NoMemory = 7
 
--- Where the drive tells its cartridge, this is the empty volume, on which its labels, indexes and notes stand; nothing is
--- pending, and it had room for it.
+-- Where the drive tells its cartridge, this is the empty volume, on which its labels, indexes and notes stand; nothing
+-- is pending, and it had room for it.
 pub record IsFormatted {D : Type 0} (drive : Ghosts D) (spec : FormatSpec) (old new : D) : Type 0 where
   pub stands : (c : Cartridge) → drive.held new ≡ Some c → IsEmptyVolume spec c
   pub holds : HoldsVolume drive spec old new
@@ -78,8 +78,8 @@ abbrev pub IsFullPrinted : FormatWords → Gives → Limits → (old new : Optio
 IsFullPrinted asked gives limits old new =
     (need : ℕ) × (limit : ℕ) × IsFull asked gives limits need limit × Appends old new (full_text need limit)
 
--- what `format` comes to: the volume of this UUID was made, or it was refused, or the drive failed and memory for telling
--- that was refused
+-- what `format` comes to: the volume of this UUID was made, or it was refused, or the drive failed and memory for
+-- telling that was refused
 pub data FormatEnd : Type 0 where
   formatted : ℕ → FormatEnd
   unformatted : FormatErr → FormatEnd
@@ -108,6 +108,7 @@ IsUnformatted drive asked gives old new errors.NoMemory = new ≡ old
 
 -- when `format` ends so
 abbrev pub IsFormatEnd : {D : Type 0} → Ghosts D → FormatWords → Gives → (old new : D) → FormatEnd → Type 0
-IsFormatEnd drive asked gives old new (formatted uuid) = (uuid ≡ asked.volume.uuid) × IsFormattedAs drive asked gives old new
+IsFormatEnd drive asked gives old new (formatted uuid) =
+    (uuid ≡ asked.volume.uuid) × IsFormattedAs drive asked gives old new
 IsFormatEnd drive asked gives old new (unformatted error) = IsUnformatted drive asked gives old new error
 IsFormatEnd drive asked gives old new (untold counts) = IsUnformatted drive asked gives old new (errors.Drive counts)

@@ -1,5 +1,6 @@
 -- What is told with status 0 or 3: a run of a script by the plain tree, the labels of a cartridge, its tree.
-use Rattle.std.specs.Prelude.{◌≡◌, ◌⊎◌, ℕ, ◌+◌, List, [], ◌++◌, map, length, Err, Option, Some, None, IfSome, codes, decimal, slice_get}
+use Rattle.std.specs.Prelude.{◌≡◌, ◌⊎◌, ℕ, ◌+◌, List, [], ◌++◌, map, length, Err, Option, Some, None, IfSome, codes}
+use Rattle.std.specs.Prelude.{decimal, slice_get}
 use Rattle.std.specs.Io.KnownBytes.{Appends}
 use Rattle.tape_types.specs.Counts.{IsRise, Rose}
 use Rattle.tape_types.specs.declared.moments.Moment.{Moment}
@@ -36,9 +37,9 @@ abbrev pub AreMoments : Option Moment → Gives → List Placed → Type 0
 AreMoments at gives history =
     (place : ℕ) (p : Placed) → slice_get history place ≡ Some p → IsMoment at gives (place + 1) p.at
 
--- The log is one history that holds each session's calls once, in order, here in the order of the lines. Each moment is the
--- one of the words or the one that the clock gave next, the first for the tree's root. Each reply is what the plain tree
--- answers at its place, or want of memory.
+-- The log is one history that holds each session's calls once, in order, here in the order of the lines. Each moment is
+-- the one of the words or the one that the clock gave next, the first for the tree's root. Each reply is what the plain
+-- tree answers at its place, or want of memory.
 pub record IsPlainRun (at : Option Moment) (gives : Gives) (script : List ScriptLine) (log : Log) : Type 0 where
   pub first : Moment
   pub begins : IsMoment at gives 0 first
@@ -51,7 +52,8 @@ pub record IsPlainRun (at : Option Moment) (gives : Gives) (script : List Script
 
 -- `script LINE REASON`, and `source BEFORE AFTER`
 abbrev pub refusal_line : ScriptErr → List ℕ
-refusal_line refusal = codes "script " ++ (decimal refusal.line ++ (codes " " ++ (reason_name refusal.why ++ codes "\n")))
+refusal_line refusal =
+    codes "script " ++ (decimal refusal.line ++ (codes " " ++ (reason_name refusal.why ++ codes "\n")))
 
 abbrev pub source_line : Twin → List ℕ
 source_line counts = codes "source " ++ (decimal counts.before ++ (codes " " ++ (decimal counts.after ++ codes "\n")))
@@ -74,7 +76,8 @@ abbrev pub IsCheckPrinted : Option Cartridge → (old new : Option (List ℕ)) �
 IsCheckPrinted held old new =
     (e : MountErr) × (mount_status e ≡ 3) × IfSome held (λ c. Fails c e) × Appends old new (mount_text e)
 
--- the line of an input that is no script was printed, and where the source told its bytes this is what is wrong with them
+-- the line of an input that is no script was printed, and where the source told its bytes this is what is wrong with
+-- them
 abbrev pub IsRefusalPrinted : (left old new : Option (List ℕ)) → Type 0
 IsRefusalPrinted left old new =
     (refusal : ScriptErr) × IfSome left (λ text. script_of text ≡ Err refusal) × Appends old new (refusal_line refusal)

@@ -23,7 +23,8 @@ pub record Listing : Type 0 where
 abbrev pub text_of_listing : Listing → List ℕ
 text_of_listing l = listing_text l.generation l.spot l.tree
 
--- The cartridge reads as this tree, of this generation; and there the chosen index stands, in the partition with that letter.
+-- The cartridge reads as this tree, of this generation; and there the chosen index stands, in the partition with that
+-- letter.
 pub record IsListingOf (c : Cartridge) (l : Listing) : Type 0 where
   pub facts : Carried
   pub reads : Reads c facts l.tree l.generation

@@ -91,8 +91,8 @@ IsListEnd drive (listed l) = IfSome drive.held (λ c. IsListingOf c l)
 IsListEnd drive (cut_short l count) = IfSome drive.held (λ c. IsListingOf c l)
 IsListEnd drive (unlisted error) = IfSome drive.held (λ c. Blames error c) × AreCounts drive.before drive.now error
 
--- What a run comes to: the words are of no form, memory was refused before they were known, or they are a command's, which
--- comes to this.
+-- What a run comes to: the words are of no form, memory was refused before they were known, or they are a command's,
+-- which comes to this.
 pub data Ending : Type 0 where
   of_no_form : Ending
   of_memory : Ending
@@ -133,14 +133,15 @@ log_of (of_format end) = None
 log_of (of_serve end) = served_log end
 log_of (of_make end) = made_log end
 
--- the words are of no form, or those of the command, which may end so with the drive before and after it; none but `plain`
--- and `serve` reads the source
+-- the words are of no form, or those of the command, which may end so with the drive before and after it; none but
+-- `plain` and `serve` reads the source
 abbrev pub IsCaused : {D : Type 0} → Run → Ghosts D → (old new : D) → Ending → Type 0
 IsCaused r drive old new of_no_form = HasNoForm r.words × TakesNothing r.source
 IsCaused r drive old new of_memory = TakesNothing r.source
 IsCaused r drive old new (of_plain end) =
     (at : Option Moment) × IsPlainWords r.words at × IsPlainEnd r.source r.gives at end
-IsCaused r drive old new (of_label end) = IsLabel r.words × TakesNothing r.source × IsLabelEnd (looked drive old new) end
+IsCaused r drive old new (of_label end) =
+    IsLabel r.words × TakesNothing r.source × IsLabelEnd (looked drive old new) end
 IsCaused r drive old new (of_list end) = IsList r.words × TakesNothing r.source × IsListEnd (looked drive old new) end
 IsCaused r drive old new (of_format end) =
     (asked : FormatWords) × IsFormatWords r.words asked × TakesNothing r.source

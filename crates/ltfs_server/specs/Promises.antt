@@ -15,15 +15,21 @@ use Rattle.tape_meaning.specs.Labels.{HasLabels}
 use Rattle.tape_meaning.specs.Meaning.{Found, Reads}
 use Rattle.tape_meaning.specs.declared.labels.Labels.{Labels}
 use Rattle.format_volume.specs.Writes.{Goes}
-use Rattle.server_words.specs.Forms.{HasNoForm, IsFormat, IsFormatWords, IsLabel, IsList, IsMake, IsMakeWords, IsPlain, IsPlainWords, IsServe, IsServeWords}
+use Rattle.server_words.specs.Forms.{HasNoForm, IsFormat, IsFormatWords, IsLabel, IsList, IsMake, IsMakeWords, IsPlain}
+use Rattle.server_words.specs.Forms.{IsPlainWords, IsServe, IsServeWords}
 use Rattle.server_words.specs.declared.volumes.FormatWords.{FormatWords}
-use Rattle.ltfs_server.specs.Formats.{AlwaysFits, FormatEnd, IsFormatEnd, IsFormattedAs, IsFullPrinted, NeverFits, formatted_text}
+use Rattle.ltfs_server.specs.Formats.{AlwaysFits, FormatEnd, IsFormatEnd, IsFormattedAs, IsFullPrinted, NeverFits}
+use Rattle.ltfs_server.specs.Formats.{formatted_text}
 use Rattle.ltfs_server.specs.Headline.{AreLabelsPrinted, IsCheckPrinted, IsDriveFaultPrinted, IsListingPrinted}
-use Rattle.ltfs_server.specs.Headline.{IsMountFaultPrinted, IsPartPrinted, IsPlainRun, IsPrinted, IsReadFaultPrinted, IsRefusalPrinted}
-use Rattle.ltfs_server.specs.Making.{IsMadeEnd, IsMadeFailurePrinted, IsMadeRun, IsMadeShortPrinted, IsSummaryPrinted, MadeEnd}
-use Rattle.ltfs_server.specs.Outcomes.{Ending, EndsAs, IsCaused, IsLabelEnd, IsListEnd, IsPlainEnd, LabelEnd, ListEnd, of_format, of_label, of_list, of_make, of_plain, of_serve}
+use Rattle.ltfs_server.specs.Headline.{IsMountFaultPrinted, IsPartPrinted, IsPlainRun, IsPrinted, IsReadFaultPrinted}
+use Rattle.ltfs_server.specs.Headline.{IsRefusalPrinted}
+use Rattle.ltfs_server.specs.Making.{IsMadeEnd, IsMadeFailurePrinted, IsMadeRun, IsMadeShortPrinted, IsSummaryPrinted}
+use Rattle.ltfs_server.specs.Making.{MadeEnd}
+use Rattle.ltfs_server.specs.Outcomes.{Ending, EndsAs, IsCaused, IsLabelEnd, IsListEnd, IsPlainEnd, LabelEnd, ListEnd}
+use Rattle.ltfs_server.specs.Outcomes.{of_format, of_label, of_list, of_make, of_plain, of_serve}
 use Rattle.ltfs_server.specs.Runs.{Gives, IsOneOf, IsRunOf, Taken, TakesNothing, Written, looked}
-use Rattle.ltfs_server.specs.Serving.{IsClosePrinted, IsFailurePrinted, IsRefusedPrinted, IsServedEnd, IsServedRun, IsShortPrinted, ServedEnd, one_moment}
+use Rattle.ltfs_server.specs.Serving.{IsClosePrinted, IsFailurePrinted, IsRefusedPrinted, IsServedEnd, IsServedRun}
+use Rattle.ltfs_server.specs.Serving.{IsShortPrinted, ServedEnd, one_moment}
 use Rattle.ltfs_server.specs.declared.plain.PlainEnd.{PlainEnd}
 
 -- `plain`, with a moment or with those of the clock
@@ -97,7 +103,8 @@ pub record DoesFormat {D : Type 0} (asked : FormatWords) (gives : Gives) (drive 
     (sink : Written) (status : ℕ) (log : Option Log) : Type 0 where
   pub statuses : IsOneOf status (0 ∷ 4 ∷ 6 ∷ 7 ∷ 8 ∷ [])
   -- the cartridge is the empty volume that was asked for, and its UUID is told
-  pub done : status ≡ 0 → IsFormattedAs drive asked gives old new × Appends sink.old sink.new (formatted_text asked.volume.uuid)
+  pub done : status ≡ 0
+      → IsFormattedAs drive asked gives old new × Appends sink.old sink.new (formatted_text asked.volume.uuid)
   -- a volume without room is told by its numbers, unless the sink fails or memory is refused, and only such a volume
   pub full : NeverFits asked gives (drive.limits old) → IsOneOf status (6 ∷ 7 ∷ 8 ∷ [])
   pub only_full : status ≡ 8 → IsFullPrinted asked gives (drive.limits old) sink.old sink.new × (new ≡ old)
@@ -229,5 +236,6 @@ pub record DoesAsked {D : Type 0} (words : List (String Global)) (gives : Gives)
   pub no_form : HasNoForm words → RefusesWords sink old new status log
   pub unread : ¬ (IsPlain words) → ¬ (IsServe words) → TakesNothing source
   pub comes : ComesOf words status log
-  pub told : (e : Ending) × IsCaused (record { words = words; gives = gives; one = one; source = source }) drive old new e
+  pub told : (e : Ending)
+      × IsCaused (record { words = words; gives = gives; one = one; source = source }) drive old new e
       × EndsAs e sink status log

@@ -79,8 +79,8 @@ pub record TimedView (C : Type 0) : Type 0 where
   pub at : Option Moment
   pub clock : C
 
--- There was no script; the cartridge wasn't mounted, or memory was refused before the first call; the script was served,
--- and the volume closed so; memory was refused to the close; or to the text of all that.
+-- There was no script; the cartridge wasn't mounted, or memory was refused before the first call; the script was
+-- served, and the volume closed so; memory was refused to the close; or to the text of all that.
 pub data ServedEnd : Type 0 where
   unscripted : Unread → ServedEnd
   unserved : MountErr → ServedEnd
@@ -169,7 +169,8 @@ IsRefusedPrinted sink (Some log) =
 
 -- the drive was only looked at, to mount its cartridge
 pub record IsLookedAt {D : Type 0} (drive : Ghosts D) (start now : D) : Type 0 where
-  pub looks : Looks drive ((23 + 2 * (drive.limits start).cap_ip + 2 * (drive.limits start).cap_dp) * drive.MOST) start now
+  pub looks : Looks drive ((23 + 2 * (drive.limits start).cap_ip + 2 * (drive.limits start).cap_dp) * drive.MOST)
+      start now
   pub faults : drive.faults start ≤ drive.faults now
 
 -- a volume was begun on a drive that was only looked at, with what it mounted of the cartridge

@@ -20,8 +20,8 @@ abbrev pub after_fate : Fate → Call → Moment → Tree → Tree
 after_fate fates.Void call at tree = tree
 after_fate fates.Done call at tree = after tree call at
 
--- The first k lines of the script were placed and replied to, and this is the tree that they left. What the clock may give
--- from now on, it might at its calls behind the root's and theirs.
+-- The first k lines of the script were placed and replied to, and this is the tree that they left. What the clock may
+-- give from now on, it might at its calls behind the root's and theirs.
 pub record IsRunSoFar (script : List ScriptLine) (k : ℕ) (at : Option Moment) (gives now : Gives) (tree : Tree)
     (history : List Placed) (answered : List Reply) : Type 0 where
   pub first : Moment

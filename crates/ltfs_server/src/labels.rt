@@ -1,5 +1,6 @@
 ghost use Rattle.std.specs.Prelude.{◌≡◌, ◌++◌, codes, IfOk, OnOk, string_bytes};
-ghost use Rattle.ltfs_server.specs.Labels.{facts_text, label_line, labels_text, mount_status, mount_text, part_name, place_line, truth_name, volume_text};
+ghost use Rattle.ltfs_server.specs.Labels.{facts_text, label_line, labels_text, mount_status, mount_text, part_name};
+ghost use Rattle.ltfs_server.specs.Labels.{place_line, truth_name, volume_text};
 ghost use Rattle.ltfs_server.specs.Promises.{DoesLabel};
 ghost use Rattle.ltfs_server.specs.Runs.{written};
 

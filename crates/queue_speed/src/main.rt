@@ -1,6 +1,6 @@
-// Measures the queue of requests: puts many in that wait together, serves them by the pick, and prints how far the head went.
-// Words: how many requests, over how many positions, and how they come: 0 by sixteen reads of blocks that follow one another,
-// 1 at places by chance.
+// Measures the queue of requests: puts many in that wait together, serves them by the pick, and prints how far the head
+// went. Words: how many requests, over how many positions, and how they come: 0 by sixteen reads of blocks that follow
+// one another, 1 at places by chance.
 #![tactic(auto)]
 
 ghost use Rattle.std.specs.Prelude.{◌<◌};

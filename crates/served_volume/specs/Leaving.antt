@@ -22,7 +22,8 @@ pub record IsLeft {D : Type 0} (p : Parts D) (drive : D) (log : Log) : Type 0 wh
   pub drive_is : drive ≡ p.drive
   pub log_is : IsLogLeft p log
 
--- Its close was made at a moment, and this is the log of its calls, what that has cost, and how many nodes the tree has.
+-- Its close was made at a moment, and this is the log of its calls, what that has cost, and how many nodes the tree
+-- has.
 pub record IsClosed {D : Type 0} (drive : Ghosts D) (noted : Bool) (at : Moment) (p : Parts D) (new : D) (log : Log)
     (outcome : CloseEnd) (step_count travel_sum nodes : ℕ) : Type 0 where
   pub finishes : Finishes drive noted at p.stock p.drive new outcome

@@ -32,8 +32,8 @@ pub record EndsAsPromised {D : Type 0} (drive : Ghosts D) (fixed : Fixed D) (nex
     (p : Parts D) (new : D) (outcome : CloseEnd) : Type 0 where
   pub nodes : CanRead drive fixed
       → TellsNodes outcome (tree_after (view_of fixed next p) (length p.listed.history)) (fin.len p.stock.tree.nodes)
-  pub end : IsEnd cartridges (seen drive fixed.first) (seen drive p.drive) (seen drive new) (view_of fixed next p) new at
-      outcome
+  pub end : IsEnd cartridges (seen drive fixed.first) (seen drive p.drive) (seen drive new)
+      (view_of fixed next p) new at outcome
   pub later : drive.commands p.drive ≤ drive.commands new
   pub faults : drive.faults p.drive ≤ drive.faults new
   pub limits : drive.limits new ≡ drive.limits fixed.first

@@ -18,8 +18,8 @@ use volume_journal::{Placements, Trail};
 use volume_reads::Readings;
 use volume_stock::Stock;
 
-/// The parts of a volume that was mounted, with room for so many calls of so many sessions. A refusal, which is for want
-/// of memory alone, hands the drive back.
+/// The parts of a volume that was mounted, with room for so many calls of so many sessions. A refusal, which is for
+/// want of memory alone, hands the drive back.
 pub fn begin<D: Drive>(
     alloc: Global,
     mounted: Mounted,

@@ -138,8 +138,8 @@ impl<D: Drive, C: Clock> Volume<D, C> {
         submit(&mut self.parts, &mut self.clock, self.alloc, call, who, nth)
     }
 
-    /// Hands out the reply of a session that waits for a place, or makes a step of the head where the reply isn't there.
-    /// It takes no memory.
+    /// Hands out the reply of a session that waits for a place, or makes a step of the head where the reply isn't
+    /// there. It takes no memory.
     pub fn turn(&mut self, ticket: u64) -> Turn
         requires { (who : ℕ) × (phase who self.old.marks ≡ waits ticket) }
         ensures served { IsServed cartridges (seen D.Drive self.new.fixed.first) (seen D.Drive self.new.drive)
@@ -151,8 +151,8 @@ impl<D: Drive, C: Clock> Volume<D, C> {
         turn(&mut self.parts, ticket)
     }
 
-    /// Makes a step of the head for a session that drains, unless there is room for its write or a fault is kept for it,
-    /// with which the write is placed void. It takes no memory.
+    /// Makes a step of the head for a session that drains, unless there is room for its write or a fault is kept for
+    /// it, with which the write is placed void. It takes no memory.
     pub fn drain_turn(&mut self, who: u16) -> Drained
         requires { phase who self.old.marks ≡ draining }
         ensures served { IsServed cartridges (seen D.Drive self.new.fixed.first) (seen D.Drive self.new.drive)
@@ -204,12 +204,14 @@ impl<D: Drive, C: Clock> Volume<D, C> {
         &self.script
     }
 
-    /// Closes a volume in which nothing waits: what is due of its indexes is written, all ops are done, and the notes tell
-    /// of the last indexes. The log is that of all calls; steps and travel are those of its events, without the close's.
+    /// Closes a volume in which nothing waits: what is due of its indexes is written, all ops are done, and the notes
+    /// tell of the last indexes. The log is that of all calls; steps and travel are those of its events, without the
+    /// close's.
     pub fn close(self) -> Closed<D>
         requires { NothingWaits (greatest_session self.fixed.script) self.marks }
-        ensures { Closes cartridges (seen D.Drive self.fixed.first) (seen D.Drive self.drive) (seen D.Drive result.drive)
-            self result.drive result.log result.outcome result.steps result.travel result.nodes }
+        ensures { Closes cartridges (seen D.Drive self.fixed.first) (seen D.Drive self.drive)
+            (seen D.Drive result.drive) self result.drive result.log result.outcome result.steps result.travel
+            result.nodes }
     {
         let Volume {
             parts,

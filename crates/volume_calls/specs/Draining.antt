@@ -56,8 +56,10 @@ pub record IsFull {D : Type 0} (who : ℕ) (p : Parts D) : Type 0 where
   pub many : 64 < length p.stock.layout.ops
 
 -- How such a turn ends, without a step where a fault is kept or there is room, and else with one.
-pub data DrainsTo {D : Type 0} (drive : Ghosts D) (who nth : ℕ) (at : Moment) (old new : Parts D) : Drained → Type 0 where
-  fault : (counts : Twin) → TakesFault who nth at counts old new → DrainsTo drive who nth at old new (the_drained.Fault counts)
+pub data DrainsTo {D : Type 0} (drive : Ghosts D) (who nth : ℕ) (at : Moment) (old new : Parts D)
+    : Drained → Type 0 where
+  fault : (counts : Twin) → TakesFault who nth at counts old new
+      → DrainsTo drive who nth at old new (the_drained.Fault counts)
   room : RestsNow who old new → DrainsTo drive who nth at old new the_drained.Room
   then_fault : (added : List Event) (mid : Parts D) (counts : Twin) → IsFull who old → StepsOn drive added old mid
       → TakesFault who nth at counts mid new → DrainsTo drive who nth at old new (the_drained.Fault counts)

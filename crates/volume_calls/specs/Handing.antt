@@ -44,10 +44,11 @@ pub record StepsOn {D : Type 0} (drive : Ghosts D) (added : List Event) (old new
   pub steps : Steps drive old new added
   pub answers : KeepsAnswers old new
 
--- What a turn of a session that waits for a place makes of the parts: the reply is there and is handed out; or a step is
--- made, and then it is there and handed out, or not.
+-- What a turn of a session that waits for a place makes of the parts: the reply is there and is handed out; or a step
+-- is made, and then it is there and handed out, or not.
 pub data TurnsTo {D : Type 0} (drive : Ghosts D) (who ticket : ℕ) (old new : Parts D) : Turn → Type 0 where
-  at_once : (reply : Reply) → HandsOut who ticket reply old new → TurnsTo drive who ticket old new (the_turns.Ready reply)
+  at_once : (reply : Reply) → HandsOut who ticket reply old new
+      → TurnsTo drive who ticket old new (the_turns.Ready reply)
   then_ready : (added : List Event) (mid : Parts D) (reply : Reply) → slice_get old.listed.replies ticket ≡ Some None
       → StepsOn drive added old mid → HandsOut who ticket reply mid new
       → TurnsTo drive who ticket old new (the_turns.Ready reply)

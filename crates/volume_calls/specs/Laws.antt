@@ -37,8 +37,8 @@ RunningIsPromised {D} drive = (fixed : Fixed D) (next : Option Moment) (p : Part
 -- a volume that was mounted runs, and it starts as is promised
 pub record BeginsRunning {D : Type 0} (drive : Ghosts D) (fixed : Fixed D) (next : Option Moment) (p : Parts D)
     : Type 0 where
-  pub starts : Starts cartridges (seen drive fixed.first) fixed.mounted fixed.first fixed.script fixed.since next fixed.moment
-      (view_of fixed next p)
+  pub starts : Starts cartridges (seen drive fixed.first) fixed.mounted fixed.first fixed.script fixed.since next
+      fixed.moment (view_of fixed next p)
   pub runs : IsRunning drive fixed next p
 
 abbrev pub VolumesRun : {D : Type 0} → Ghosts D → Type 0
@@ -50,8 +50,8 @@ VolumesRun {D} drive = (fixed : Fixed D) (next : Option Moment) (p : Parts D) �
 -- ---- submissions
 
 -- A submission with the moment that the clock gave where it was asked; no answer of a read that waits is touched.
-pub record CanMake {D : Type 0} (fixed : Fixed D) (before after : Option Moment) (who nth : ℕ) (call : Call) (at : Moment)
-    (answer : Submitted) (old new : Parts D) : Type 0 where
+pub record CanMake {D : Type 0} (fixed : Fixed D) (before after : Option Moment) (who nth : ℕ) (call : Call)
+    (at : Moment) (answer : Submitted) (old new : Parts D) : Type 0 where
   pub good : IsGood old.stock.tree
   pub can : CanSubmit (view_of fixed before old) who nth
   pub is_call : call_of (view_of fixed before old) who nth ≡ Some call
@@ -65,8 +65,8 @@ abbrev pub SubmissionsRun : {D : Type 0} → Ghosts D → Type 0
 SubmissionsRun {D} drive = (fixed : Fixed D) (before after : Option Moment) (who nth : ℕ) (call : Call) (at : Moment)
     (answer : Submitted) (asked : List Op) (old new : Parts D) → IsRunning drive fixed before old
     → CanMake fixed before after who nth call at answer old new → Made drive who nth call at old new answer asked
-    → Submits (seen drive fixed.first) (seen drive new.drive) (view_of fixed before old) (view_of fixed after new) who nth
-    answer
+    → Submits (seen drive fixed.first) (seen drive new.drive) (view_of fixed before old) (view_of fixed after new)
+    who nth answer
     × IsRunning drive fixed after new
 
 -- ---- turns
@@ -75,8 +75,8 @@ abbrev pub TurnsRun : {D : Type 0} → Ghosts D → Type 0
 TurnsRun {D} drive = (fixed : Fixed D) (next : Option Moment) (who ticket : ℕ) (answer : Turn) (old new : Parts D)
     → IsRunning drive fixed next old → drive.commands old.drive ≤ 2 ^ 64 - 1 → phase who old.listed.marks ≡ waits ticket
     → TurnsTo drive who ticket old new answer
-    → Turns drive.MOST (seen drive old.drive) (seen drive new.drive) (view_of fixed next old) (view_of fixed next new) who
-    ticket answer
+    → Turns drive.MOST (seen drive old.drive) (seen drive new.drive) (view_of fixed next old) (view_of fixed next new)
+    who ticket answer
     × IsRunning drive fixed next new
 
 -- the clock is asked where the session's write is placed alone
@@ -91,6 +91,6 @@ DrainTurnsRun {D} drive = (fixed : Fixed D) (before after : Option Moment) (who 
     → IfSome before (λ m. at ≡ m) → AsksOneMoment (view_of fixed before old) answer
     → IsAfter before after answer
     → DrainsTo drive who (length (places_of who old.listed.marks)) at old new answer
-    → DrainsOnce drive.MOST (seen drive old.drive) (seen drive new.drive) (view_of fixed before old) (view_of fixed after new)
-    who answer
+    → DrainsOnce drive.MOST (seen drive old.drive) (seen drive new.drive) (view_of fixed before old)
+    (view_of fixed after new) who answer
     × IsRunning drive fixed after new

@@ -1,5 +1,6 @@
 -- What a submission asks of the parts of a volume, and how it ends.
-use Rattle.std.specs.Prelude.{ℕ, ◌≡◌, ◌+◌, ◌-◌, ◌*◌, ◌<◌, ◌≤◌, nat_lt, cond, Bool, true, false, List, [], ◌∷◌, ◌++◌, Some, None, length, map}
+use Rattle.std.specs.Prelude.{ℕ, ◌≡◌, ◌+◌, ◌-◌, ◌*◌, ◌<◌, ◌≤◌, nat_lt, cond, Bool, true, false, List, [], ◌∷◌, ◌++◌}
+use Rattle.std.specs.Prelude.{Some, None, length, map}
 use Rattle.std.specs.List.{range_with_len}
 use Rattle.tape_types.specs.declared.cartridges.Part.{Part}
 use Rattle.tape_types.specs.declared.cartridges.Part.TheVariants.{Ip, Dp}
@@ -101,8 +102,8 @@ pub record Queues (places : List Place) (old new : Journaled) : Type 0 where
   pub none_due : due_ticket (state new) ≡ None
 
 -- a call is done that queues these, and is placed with its reply
-pub record QueuesDone {D : Type 0} (who nth : ℕ) (at : Moment) (queued : List Place) (result : Submitted) (old new : Parts D)
-    : Type 0 where
+pub record QueuesDone {D : Type 0} (who nth : ℕ) (at : Moment) (queued : List Place) (result : Submitted)
+    (old new : Parts D) : Type 0 where
   pub ready : result ≡ submitted.Ready (the_replies.Answer the_answers.Done)
   pub places : PlacesCall who nth at fates.Done (Some (the_replies.Answer the_answers.Done)) old new
   pub queues : Queues queued old.trail new.trail
@@ -126,8 +127,8 @@ pub record AnswersSync {D : Type 0} (drive : Ghosts D) (who nth : ℕ) (at : Mom
   pub others : new ≡ record old { listed = new.listed; trail = new.trail }
 
 -- a sync waits for the ops that stand, or is answered at once where there are none
-pub record WaitsSynced {D : Type 0} (drive : Ghosts D) (who nth : ℕ) (at : Moment) (result : Submitted) (old new : Parts D)
-    : Type 0 where
+pub record WaitsSynced {D : Type 0} (drive : Ghosts D) (who nth : ℕ) (at : Moment) (result : Submitted)
+    (old new : Parts D) : Type 0 where
   pub result_is : result ≡ synced_answer (length old.listed.history) old.stock.layout.ops
   pub events : new.trail.events ≡ old.trail.events ++ the_events.Syncs (length old.listed.history)
       ∷ synced_at (length old.listed.history) (waiting.ops (state old.trail))
@@ -144,8 +145,8 @@ abbrev pub flush_at : Bool → ℕ → List Place
 flush_at true ip = record { part = Ip; pos = ip } ∷ []
 flush_at false ip = []
 
--- The places of the ops of an index, with which the data partition goes on from one end to the next; where there are more
--- than the index has, the first is a flush of the index partition.
+-- The places of the ops of an index, with which the data partition goes on from one end to the next; where there are
+-- more than the index has, the first is a flush of the index partition.
 abbrev pub index_places : ℕ → ℕ → ℕ → ℕ → List Place
 index_places ip dp next added =
     cond (nat_lt dp next) (flush_at (nat_lt ((next - dp) + 1) added) ip ++ run Dp dp ((next + 1) - dp)) []
@@ -159,8 +160,8 @@ pub record CanQueueSync (ip dp count : ℕ) (stock : Stocked) (trail : Journaled
   pub room : 2 * (length stock.layout.ops - count) + 2 ≤ trail.spare
 
 -- the ops of a sync are queued at these places, and then it waits or is answered
-pub record QueuesSync {D : Type 0} (drive : Ghosts D) (who nth : ℕ) (at : Moment) (queued : List Place) (result : Submitted)
-    (old new : Parts D) : Type 0 where
+pub record QueuesSync {D : Type 0} (drive : Ghosts D) (who nth : ℕ) (at : Moment) (queued : List Place)
+    (result : Submitted) (old new : Parts D) : Type 0 where
   pub mid : Journaled
   pub queues : Queues queued old.trail mid
   pub waits : WaitsSynced drive who nth at result (record old { trail = mid }) new

@@ -1,5 +1,6 @@
 -- What the parts of a step do to the parts of a volume.
-use Rattle.std.specs.Prelude.{ℕ, ◌≡◌, ◌≤◌, ◌==◌, not, ◌&&◌, Bool, true, false, cond, drop, List, [], ◌∷◌, ◌++◌, filter, length, Option, Some, None, slice_get}
+use Rattle.std.specs.Prelude.{ℕ, ◌≡◌, ◌≤◌, ◌==◌, not, ◌&&◌, Bool, true, false, cond, drop, List, [], ◌∷◌, ◌++◌, filter}
+use Rattle.std.specs.Prelude.{length, Option, Some, None, slice_get}
 use Rattle.std.specs.List.{list_any}
 use Rattle.tape_types.specs.declared.cartridges.Part.TheVariants.{Dp}
 use Rattle.tape_types.specs.declared.cartridges.Place.{Place}
@@ -19,7 +20,8 @@ use Rattle.volume_journal.specs.Trails.{due_ticket, first_waiter, kept_for_drain
 use Rattle.volume_reads.specs.Gathering.{Gathering}
 use Rattle.volume_reads.specs.Waiting.{IsFilledBy, answer_for}
 use Rattle.volume_parts.specs.Parts.{Parts}
-use Rattle.volume_parts.specs.Stepping.{IsOneRead, IsOneRequest, IsReadOn, KeepsListed, ReadsOnly, acks_at, all_synced, on_done, replied, settles_dp, synced_events, told_fault}
+use Rattle.volume_parts.specs.Stepping.{IsOneRead, IsOneRequest, IsReadOn, KeepsListed, ReadsOnly, acks_at, all_synced}
+use Rattle.volume_parts.specs.Stepping.{on_done, replied, settles_dp, synced_events, told_fault}
 
 -- there is something for the head: a request, or an op for which somebody waits
 abbrev pub HasWork : {D : Type 0} → Parts D → Type 0
@@ -108,8 +110,8 @@ pub record TakesBlock {D : Type 0} (ticket : ℕ) (place : Place) (block : List 
   pub next : Gathering
   pub filled : IsFilledBy place block read.one next
   pub answered : KeepsAnswer (list_any (λ w. w.owner == ticket) new.queue.waiting) ticket old new
-  pub reads : IsReadOn (list_any (λ w. w.owner == ticket) new.queue.waiting) ticket read.front read.behind next new.reads
-      old.listed.replies new.listed.replies
+  pub reads : IsReadOn (list_any (λ w. w.owner == ticket) new.queue.waiting) ticket read.front read.behind next
+      new.reads old.listed.replies new.listed.replies
 
 -- The step for a request failed.
 pub record MissesBlock {D : Type 0} (ticket : ℕ) (place : Place) (counts : Twin) (old new : Parts D) : Type 0 where

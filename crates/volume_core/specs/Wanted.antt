@@ -1,5 +1,6 @@
 -- What a read takes of what is held, and what it wants from the tape.
-use Rattle.std.specs.Prelude.{ℕ, ◌≡◌, ◌+◌, ◌==◌, Bool, false, List, [], ◌∷◌, ◌++◌, Option, Some, None, filter, is_none, is_some, length, map}
+use Rattle.std.specs.Prelude.{ℕ, ◌≡◌, ◌+◌, ◌==◌, Bool, false, List, [], ◌∷◌, ◌++◌, Option, Some, None, filter, is_none}
+use Rattle.std.specs.Prelude.{is_some, length, map}
 use Rattle.std.specs.List.{list_any}
 use Rattle.tape_types.specs.declared.cartridges.Place.{Place}
 use Rattle.extent_map.specs.Cells.{Tape}
@@ -24,8 +25,8 @@ use Rattle.volume_tape.specs.Planned.{Items, NoMarks}
 use Rattle.volume_parts.specs.Parts.{Parts}
 use Rattle.volume_parts.specs.Tied.{IsTied}
 
--- A read may want blocks: no request is one of the next placement, the events have the ops that stand, and no mark is put
--- where a block of the tree stands.
+-- A read may want blocks: no request is one of the next placement, the events have the ops that stand, and no mark is
+-- put where a block of the tree stands.
 pub record CanWantBlocks {D : Type 0} (p : Parts D) : Type 0 where
   pub first : list_any (λ (r : Request). r.ticket == length p.listed.history) (state p.trail).requests ≡ false
   pub ops : waiting.ops (state p.trail) ≡ map headed p.stock.layout.ops

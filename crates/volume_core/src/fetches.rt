@@ -1,6 +1,7 @@
 //! Reads, which are answered at once where all their blocks are held, and else wait for the others.
 
-ghost use Rattle.std.specs.Prelude.{◌≡◌, ◌≢◌, ◌+◌, ◌*◌, ◌^◌, ◌≤◌, ◌<◌, ℕ, List as Items, None, IfOk, OnErr, OnOk, length, true};
+ghost use Rattle.std.specs.Prelude.{◌≡◌, ◌≢◌, ◌+◌, ◌*◌, ◌^◌, ◌≤◌, ◌<◌, ℕ, List as Items, None, IfOk, OnErr, OnOk};
+ghost use Rattle.std.specs.Prelude.{length, true};
 ghost use Rattle.extent_map.specs.Replies.{bytes_in as bytes_of_piece, size_of};
 ghost use Rattle.file_tree.specs.Tree.{plain_of, whole};
 ghost use Rattle.head_trail.specs.Trail.{IsTrail, is_trail_from};
@@ -12,7 +13,8 @@ ghost use Rattle.volume_journal.specs.Trails.{state};
 ghost use Rattle.volume_model.specs.declared.answers.Submitted.TheVariants as submitted;
 ghost use Rattle.volume_core.specs.Asking.{CanAsk, IsSubmitted, Reserves, Stands};
 ghost use Rattle.volume_core.specs.Seen.{seen_parts};
-ghost use Rattle.volume_core.specs.Wanted.{AreTakenFrom, AsksBlocks, CanWantBlocks, HasEvents, HasRequests, IsFetched, IsTakenFrom, TiedReadsMayWant};
+ghost use Rattle.volume_core.specs.Wanted.{AreTakenFrom, AsksBlocks, CanWantBlocks, HasEvents, HasRequests, IsFetched};
+ghost use Rattle.volume_core.specs.Wanted.{IsTakenFrom, TiedReadsMayWant};
 
 use crate::parts::Parts;
 use crate::placing::Asked;
@@ -53,8 +55,8 @@ impl<D: Drive> Parts<D> {
         requires stands { Stands (seen_parts self.old) }
         requires wants { CanWantBlocks (seen_parts self.old) }
         requires is_read { call.now ≡ calls.Read path.now offset count }
-        ensures submits { IsSubmitted D.Drive asked.who asked.nth asked.at (seen_parts self.old) (seen_parts self.new) call.now
-            result }
+        ensures submits { IsSubmitted D.Drive asked.who asked.nth asked.at (seen_parts self.old) (seen_parts self.new)
+            call.now result }
         ensures answered { self.new.reads.answered ≡ self.old.reads.answered }
         ensures placed { result ≢ submitted.Drain }
     {

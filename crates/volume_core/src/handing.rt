@@ -1,6 +1,7 @@
 //! Replies that are handed out.
 
-ghost use Rattle.std.specs.Prelude.{◌≡◌, ◌≢◌, ◌<◌, ◌≤◌, ℕ, List, [], ◌∷◌, None, Some, IfNone, IfSome, MatchOption, length, slice_get};
+ghost use Rattle.std.specs.Prelude.{◌≡◌, ◌≢◌, ◌<◌, ◌≤◌, ℕ, List, [], ◌∷◌, None, Some, IfNone, IfSome, MatchOption};
+ghost use Rattle.std.specs.Prelude.{length, slice_get};
 ghost use Rattle.plain_tree.specs.declared.calls.Answer.{Answer as Told};
 ghost use Rattle.plain_tree.specs.declared.calls.Answer.TheVariants as the_answers;
 ghost use Rattle.session_script.specs.declared.logs.Reply.TheVariants as the_replies;
@@ -35,7 +36,8 @@ impl<D: Drive> Parts<D> {
     fn take_reply(&mut self, ticket: u64) -> Option<Reply>
         requires { CanHand ticket (seen_parts self.old) }
         ensures reply { result ≡ there (slice_get self.old.placements.replies ticket) }
-        ensures answered { IfSome result (λ reply. self.new.reads.answered ≡ for_others ticket self.old.reads.answered) }
+        ensures answered { IfSome result
+            (λ reply. self.new.reads.answered ≡ for_others ticket self.old.reads.answered) }
         ensures reads { self.new.reads.reads ≡ self.old.reads.reads }
         ensures none { IfNone result (self.new ≡ self.old) }
         ensures others { self.new ≡ record self.old { reads = self.new.reads } }

@@ -30,8 +30,8 @@ impl<D: Drive> Parts<D> {
     pub fn look(&mut self, asked: Asked, call: &Call) -> Submitted
         requires can { CanAsk asked.who (seen_parts self.old) }
         requires looks { only_looks call.now ≡ true }
-        ensures submits { IsSubmitted D.Drive asked.who asked.nth asked.at (seen_parts self.old) (seen_parts self.new) call.now
-            result }
+        ensures submits { IsSubmitted D.Drive asked.who asked.nth asked.at (seen_parts self.old) (seen_parts self.new)
+            call.now result }
         ensures answered { self.new.reads.answered ≡ self.old.reads.answered }
         ensures placed { result ≢ submitted.Drain }
     {

@@ -7,8 +7,8 @@ use volume_journal::{Placements, Trail};
 use volume_reads::Readings;
 use volume_stock::Stock;
 
-/// The head over the drive, what is held of the volume, its events, the requests that wait, its placements, and the reads
-/// that wait; and from which place of the history on files may go to the index partition.
+/// The head over the drive, what is held of the volume, its events, the requests that wait, its placements, and the
+/// reads that wait; and from which place of the history on files may go to the index partition.
 #[derive(Drop)]
 pub struct Parts<D: Drive> {
     pub head: Head<D>,

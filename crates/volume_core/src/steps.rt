@@ -16,7 +16,8 @@ ghost use Rattle.volume_parts.specs.Stepping.{IsOneRequest, KeepsListed, told_fa
 ghost use Rattle.volume_calls.specs.StepLaws.{CanStep};
 ghost use Rattle.volume_calls.specs.Handing.{StepsOn};
 ghost use Rattle.volume_core.specs.Seen.{seen_parts};
-ghost use Rattle.volume_core.specs.Moves.{AnswersSyncs, FinishesOp, IsFirstOp, IsReady, MissesBlock, SyncsWait, TakesBlock, TakesOp, TellsFault, on_from};
+ghost use Rattle.volume_core.specs.Moves.{AnswersSyncs, FinishesOp, IsFirstOp, IsReady, MissesBlock, SyncsWait};
+ghost use Rattle.volume_core.specs.Moves.{TakesBlock, TakesOp, TellsFault, on_from};
 
 use crate::ops::{flushes, place, settles};
 use crate::parts::Parts;
@@ -63,7 +64,8 @@ impl<D: Drive> Parts<D> {
     fn do_op(&mut self)
         requires can { CanStep D.Drive (seen_parts self.old) }
         requires ready { IsReady D.Drive (seen_parts self.old) }
-        requires picked { IsOpPicked (state self.old.trail).head (op_place (state self.old.trail)) self.old.queue.waiting }
+        requires picked { IsOpPicked (state self.old.trail).head (op_place (state self.old.trail))
+            self.old.queue.waiting }
         ensures { (added : List Event) × StepsOn D.Drive added (seen_parts self.old) (seen_parts self.new) }
     {
         let Some(op) = self.stock.next_op() else {
@@ -124,7 +126,9 @@ impl<D: Drive> Parts<D> {
     /// Answers each sync that is due.
     fn answer_syncs(&mut self)
         requires { SyncsWait (state self.old.trail) (seen_parts self.old).listed.replies }
-        ensures { (tickets : List ℕ) × AnswersSyncs (D.commands (seen_parts self.old).drive) tickets (seen_parts self.old) (seen_parts self.new) }
+        ensures { (tickets : List ℕ)
+            × AnswersSyncs (D.commands (seen_parts self.old).drive) tickets (seen_parts self.old)
+            (seen_parts self.new) }
     {
         let commands = self.head.commands();
         while let Some(ticket) = self.trail.due() {

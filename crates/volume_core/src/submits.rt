@@ -34,8 +34,8 @@ impl<D: Drive> Parts<D> {
         requires stands { Stands (seen_parts self.old) }
         requires no_wait { may_wait call.now ≡ false }
         requires no_look { only_looks call.now ≡ false }
-        ensures submits { IsSubmitted D.Drive asked.who asked.nth asked.at (seen_parts self.old) (seen_parts self.new) call.now
-            result }
+        ensures submits { IsSubmitted D.Drive asked.who asked.nth asked.at (seen_parts self.old) (seen_parts self.new)
+            call.now result }
         ensures answered { self.new.reads.answered ≡ self.old.reads.answered }
         ensures placed { result ≢ submitted.Drain }
     {
@@ -58,7 +58,8 @@ impl<D: Drive> Parts<D> {
         requires room { 2 * ((self.old.stock.layout.ends.ip - ip) + (self.old.stock.layout.ends.dp - dp))
             ≤ self.old.trail.spare }
         ensures { QueuesDone asked.who asked.nth asked.at (run parts.Ip ip (self.old.stock.layout.ends.ip - ip)
-            ++ run parts.Dp dp (self.old.stock.layout.ends.dp - dp)) result (seen_parts self.old) (seen_parts self.new) }
+            ++ run parts.Dp dp (self.old.stock.layout.ends.dp - dp)) result (seen_parts self.old)
+            (seen_parts self.new) }
     {
         let (next_ip, next_dp) = self.stock.ends();
         queue_runs(&mut self.trail, ip, dp, next_ip, next_dp);

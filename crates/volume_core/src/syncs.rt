@@ -1,6 +1,7 @@
 //! Syncs.
 
-ghost use Rattle.std.specs.Prelude.{◌≡◌, ◌≢◌, ◌+◌, ◌-◌, ◌*◌, ◌<◌, ◌≤◌, ◌^◌, Bool, nat_lt, length, None, Some, IfSome, OnOk};
+ghost use Rattle.std.specs.Prelude.{◌≡◌, ◌≢◌, ◌+◌, ◌-◌, ◌*◌, ◌<◌, ◌≤◌, ◌^◌, Bool, nat_lt, length, None, Some, IfSome};
+ghost use Rattle.std.specs.Prelude.{OnOk};
 ghost use Rattle.std.specs.Option.{option_map};
 ghost use Rattle.extent_map.specs.Cells.{Tape};
 ghost use Rattle.tape_types.specs.declared.moments.Moment.{Moment};
@@ -13,7 +14,8 @@ ghost use Rattle.volume_stock.specs.Stocks.{IsStock};
 ghost use Rattle.volume_stock.specs.Syncs.{IsDocument};
 ghost use Rattle.volume_journal.specs.Trails.{due_ticket, state};
 ghost use Rattle.volume_model.specs.declared.answers.Submitted.TheVariants as submitted;
-ghost use Rattle.volume_core.specs.Asking.{AnswersSync, Awaits, CanAsk, CanPlace, CanQueueSync, IsSubmitted, Queues, QueuesSync, Stands, WaitsSynced, flush_at, index_places, run};
+ghost use Rattle.volume_core.specs.Asking.{AnswersSync, Awaits, CanAsk, CanPlace, CanQueueSync, IsSubmitted, Queues};
+ghost use Rattle.volume_core.specs.Asking.{QueuesSync, Stands, WaitsSynced, flush_at, index_places, run};
 ghost use Rattle.volume_core.specs.Seen.{seen_parts};
 
 use crate::parts::Parts;
@@ -33,8 +35,8 @@ impl<D: Drive> Parts<D> {
     pub fn sync(&mut self, asked: Asked) -> Submitted
         requires can { CanAsk asked.who (seen_parts self.old) }
         requires stands { Stands (seen_parts self.old) }
-        ensures submits { IsSubmitted D.Drive asked.who asked.nth asked.at (seen_parts self.old) (seen_parts self.new) calls.Sync
-            result }
+        ensures submits { IsSubmitted D.Drive asked.who asked.nth asked.at (seen_parts self.old) (seen_parts self.new)
+            calls.Sync result }
         ensures answered { self.new.reads.answered ≡ self.old.reads.answered }
         ensures placed { result ≢ submitted.Drain }
     {
@@ -52,8 +54,8 @@ impl<D: Drive> Parts<D> {
         requires some { IfSome due.now (λ doc. 1 ≤ length doc.items) }
         requires document { (tape : Tape) (g : Given) (on : Bool) (st : Standing) → IsStock tape g on st self.old.stock
             → IsDocument g st asked.at (option_map (λ doc. doc.items) due.now) }
-        ensures submits { IsSubmitted D.Drive asked.who asked.nth asked.at (seen_parts self.old) (seen_parts self.new) calls.Sync
-            result }
+        ensures submits { IsSubmitted D.Drive asked.who asked.nth asked.at (seen_parts self.old) (seen_parts self.new)
+            calls.Sync result }
         ensures answered { self.new.reads.answered ≡ self.old.reads.answered }
         ensures placed { result ≢ submitted.Drain }
     {
@@ -145,8 +147,8 @@ fn reserve_sync(stock: &Stock, trail: &mut Trail, due: &Option<Vec<u8>>) -> Resu
     }
 }
 
-/// Queues the ops of the index of a sync, with which the data partition goes on from one end to the next: a flush of the
-/// index partition is first, where there are more than the index has.
+/// Queues the ops of the index of a sync, with which the data partition goes on from one end to the next: a flush of
+/// the index partition is first, where there are more than the index has.
 #[tactic(auto, using(crate::proofs::IndexLemmas::index_room, crate::proofs::IndexLemmas::index_room_then, crate::proofs::IndexLemmas::index_left, crate::proofs::IndexLemmas::index_some, crate::proofs::IndexLemmas::index_none))]
 fn queue_index(trail: &mut Trail, ip: u64, dp: u64, next: u64, added: u64)
     requires none_due { due_ticket (state trail.old) ≡ None }

@@ -33,7 +33,8 @@ abbrev pub AreQuiet : List Event → Type 0
 AreQuiet added = All (λ e. is_quiet e ≡ true) added
 
 -- the drive is as it was, and these ops and events are added
-pub record IsAsked {D : Type 0} (drive : Ghosts D) (old new : View D) (asked : List Op) (added : List Event) : Type 0 where
+pub record IsAsked {D : Type 0} (drive : Ghosts D) (old new : View D) (asked : List Op) (added : List Event)
+    : Type 0 where
   pub fixed : new.fixed ≡ old.fixed
   pub drive_is : new.drive ≡ old.drive
   pub on : new.on ≡ old.on
@@ -58,7 +59,8 @@ HasHeaded v = map headed v.ops ≡ waiting.ops (after_all v.events)
 -- ---- steps
 
 -- a step of the head, and behind it the answers of the syncs that it was the last to wait for
-pub record IsStepped {D : Type 0} (drive : Ghosts D) (old new : View D) (step : Event) (answers : List Event) : Type 0 where
+pub record IsStepped {D : Type 0} (drive : Ghosts D) (old new : View D) (step : Event) (answers : List Event)
+    : Type 0 where
   pub fixed : new.fixed ≡ old.fixed
   pub history : new.history ≡ old.history
   pub on : new.on ≡ on_after old (step ∷ answers)

@@ -44,8 +44,10 @@ use Rattle.volume_model.specs.declared.answers.Drained.{Drained}
 use Rattle.volume_model.specs.declared.answers.Submitted.{Submitted}
 use Rattle.volume_model.specs.declared.answers.Turn.{Turn}
 use Rattle.head_trail.specs.Trail.{IsTrail}
-use Rattle.volume_crashes.specs.Changes.{AreDriven, AreQuiet, HasHeaded, IsAsked, IsPlaced, IsStepped, IsWell, events_of_sync}
-use Rattle.volume_crashes.specs.Safe.{Follows, IsSafe, Planned, given_by, seen_by, space_now, standing_now, trees_of, volume_of, with_jobs, items_by}
+use Rattle.volume_crashes.specs.Changes.{AreDriven, AreQuiet, HasHeaded, IsAsked, IsPlaced, IsStepped, IsWell}
+use Rattle.volume_crashes.specs.Changes.{events_of_sync}
+use Rattle.volume_crashes.specs.Safe.{Follows, IsSafe, Planned, given_by, seen_by, space_now, standing_now, trees_of}
+use Rattle.volume_crashes.specs.Safe.{volume_of, with_jobs, items_by}
 
 -- the drive tells a cartridge that stands for the tree and is sound, and a crash leaves just that one
 abbrev pub CanServe : {D : Type 0} → Ghosts D → Fixed D → Type 0
@@ -74,8 +76,8 @@ stored_jobs rules on s wanted bytes = jobs_on (part_for rules on s wanted bytes)
     jobs_on : Part → List Job
     jobs_on part = data_jobs rules part (end_of part s.ends) bytes
 
--- A submission keeps a volume safe, by what it asks of the tape: nothing, with or without a change of the tree; bytes on
--- a partition; the index of a sync, with the text that is due; or nothing for a sync before which nothing changed.
+-- A submission keeps a volume safe, by what it asks of the tape: nothing, with or without a change of the tree; bytes
+-- on a partition; the index of a sync, with the text that is due; or nothing for a sync before which nothing changed.
 pub record SubmissionsAreSafe {D : Type 0} (drive : Ghosts D) : Type 0 where
   pub unplaced : (p : Planned) (s : Space) (old new : View D) (added : List Event)
       → IsSafe drive p s old → IsAsked drive old new [] added → new.history ≡ old.history → AreQuiet added
@@ -148,8 +150,8 @@ SafeVolumesSurvive {D = D} drive = (p : Planned) (s : Space) (v : View D) → Is
 
 -- ---- the space that goes with the history
 
--- at the start it is that of the mount; what a placement leaves is what its call does to what stood before; and that files may go to the index partition from
--- the end of the history on changes nothing of what stands
+-- at the start it is that of the mount; what a placement leaves is what its call does to what stood before; and that
+-- files may go to the index partition from the end of the history on changes nothing of what stands
 pub record StandingsGoOn (D : Type 0) : Type 0 where
   pub begins : (limits : Limits) (fixed : Fixed D) (next : Option Moment)
       → space_now limits (begun fixed next) ≡ first_space (facts_of fixed.mounted)
@@ -168,7 +170,8 @@ next_ask limits v call at = asked (given_by limits v) v.on v.history (length v.h
 -- and the ops that this is
 abbrev pub next_ops : {D : Type 0} → Limits → View D → Ask → List Op
 next_ops limits v ask =
-    ops_of (rules (given_by limits v)) (is_on (facts_of v.fixed.mounted) v.on (length v.history)) (space_now limits v) ask
+    ops_of (rules (given_by limits v)) (is_on (facts_of v.fixed.mounted) v.on (length v.history))
+    (space_now limits v) ask
 
 -- a safe volume with the space that its history leaves
 abbrev pub IsSafeNow : {D : Type 0} → Ghosts D → Planned → Limits → View D → Type 0
@@ -185,14 +188,14 @@ AsksNoIndex space.change = Unit {0}
 AsksNoIndex (store wanted bytes) = Unit {0}
 AsksNoIndex (index text) = ⊥
 
--- The index of a sync is due that is placed next at a moment: it is one of the volume, of the whole history, which tells
--- its tree from what stands once all ops are done.
+-- The index of a sync is due that is placed next at a moment: it is one of the volume, of the whole history, which
+-- tells its tree from what stands once all ops are done.
 abbrev pub IsNextDue : {D : Type 0} → Planned → Limits → View D → Moment → Type 0
 IsNextDue p limits v at = (e : Entry) × IsDue (volume_of p.labels v) (trees_of v) p.made (space_now limits v)
     (sync_text (given_by limits v) (standing_now limits v) at) e
 
--- Each call that is placed keeps a volume safe, with the space that its history leaves: a void one; one that asks for no
--- index; and a sync, with the index that is due where anything changed.
+-- Each call that is placed keeps a volume safe, with the space that its history leaves: a void one; one that asks for
+-- no index; and a sync, with the index that is due where anything changed.
 pub record CallsAreSafe {D : Type 0} (drive : Ghosts D) : Type 0 where
   pub void : (p : Planned) (limits : Limits) (old new : View D) (placed : Placed) (added : List Event)
       → IsSafeNow drive p limits old → IsPlaced drive old new placed [] added → AreQuiet added
@@ -219,20 +222,21 @@ pub record AddsOps {D : Type 0} (limits : Limits) (old new : View D) : Type 0 wh
       → new.ops ≡ old.ops ++ admitted_at (given_by limits old) old.on old.history (length old.history) p
   pub unplaced : new.history ≡ old.history → new.ops ≡ old.ops
 
--- Each submission keeps a volume safe, in the words of what it adds to the view: with the ops that are admitted, and with
--- the index that is due of a sync before which anything changed.
+-- Each submission keeps a volume safe, in the words of what it adds to the view: with the ops that are admitted, and
+-- with the index that is due of a sync before which anything changed.
 abbrev pub SubmitsAreSafe : {D : Type 0} → Ghosts D → Type 0
 SubmitsAreSafe {D = D} drive = (p : Planned) (old new : View D) (who nth : ℕ) (answer : Submitted)
     → IsSafeNow drive p (drive.limits old.fixed.first) old
     → Submits (seen_by drive old.fixed.first) (seen_by drive new.drive) old new who nth answer
     → AddsOps (drive.limits old.fixed.first) old new → HasHeaded new → 1 ≤ old.fixed.mounted.label.block
     → ((placed : Placed) → new.history ≡ old.history ++ placed ∷ [] → placed.fate ≡ fates.Done
-    → call_at (calls_of old.fixed.script) placed ≡ Some Sync → (space_now (drive.limits old.fixed.first) old).changed ≡ true
+    → call_at (calls_of old.fixed.script) placed ≡ Some Sync
+    → (space_now (drive.limits old.fixed.first) old).changed ≡ true
     → IsNextDue p (drive.limits old.fixed.first) old placed.at)
     → (asked : List Op) × (new.ops ≡ old.ops ++ asked) × IsSafeWith drive p (drive.limits old.fixed.first) asked new
 
--- So does each turn of the head, of a session that waits and of one that drains, whose write may be placed void with the
--- fault that it owns: what the head did in its step is said beside.
+-- So does each turn of the head, of a session that waits and of one that drains, whose write may be placed void with
+-- the fault that it owns: what the head did in its step is said beside.
 pub record TurnsAreSafe {D : Type 0} (drive : Ghosts D) : Type 0 where
   pub waiting : (p : Planned) (limits : Limits) (old new : View D) (most who ticket : ℕ) (answer : Turn)
       → IsSafeNow drive p limits old

@@ -1,7 +1,8 @@
 //! What keeps a served volume safe, call by call, and what that gives.
 
 ghost use Rattle.volume_crashes.specs.Laws.{HeadsDoOps, SafeVolumesSurvive, StartsAreSafe, StepsAreSafe};
-ghost use Rattle.volume_crashes.specs.Laws.{CallsAreSafe, PlansGrow, StandingsGoOn, SubmissionsAreSafe, SubmitsAreSafe, TurnsAreSafe};
+ghost use Rattle.volume_crashes.specs.Laws.{CallsAreSafe, PlansGrow, StandingsGoOn, SubmissionsAreSafe, SubmitsAreSafe};
+ghost use Rattle.volume_crashes.specs.Laws.{TurnsAreSafe};
 
 use tape_drive::Drive;
 

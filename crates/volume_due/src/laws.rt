@@ -1,7 +1,8 @@
 //! What the index of a sync is, for the theory of crashes.
 
 ghost use Rattle.volume_due.specs.Behind.{TreesBeginBehindLabels};
-ghost use Rattle.volume_due.specs.Laws.{AdmittedTextsAreShort, IndexesAreDue, MountsHaveTrees, MountsTellLabels, StocksGoByTheTape};
+ghost use Rattle.volume_due.specs.Laws.{AdmittedTextsAreShort, IndexesAreDue, MountsHaveTrees, MountsTellLabels};
+ghost use Rattle.volume_due.specs.Laws.{StocksGoByTheTape};
 
 use tape_drive::Drive;
 

@@ -13,7 +13,8 @@ use Rattle.volume_space.specs.Space as space
 use Rattle.volume_space.specs.Space.{Ask, Rules, Space, change, first_space, index, nothing, ops_of, store}
 use Rattle.volume_model.specs.Served.{headed}
 use Rattle.volume_model.specs.Submits.{queues_at}
-use Rattle.volume_groups.specs.Groups.{AdmitsNothing, AreApart, IsAlikeElsewhere, IsGrouped, ops_after, places_of, requests_for}
+use Rattle.volume_groups.specs.Groups.{AdmitsNothing, AreApart, IsAlikeElsewhere, IsGrouped, ops_after, places_of}
+use Rattle.volume_groups.specs.Groups.{requests_for}
 
 -- it is so of a volume of which nothing was asked yet
 abbrev pub GroupsBegin : Type 0
@@ -36,7 +37,8 @@ pub record IsEnded (here : ℕ) (asked : List Op) (old new : State) : Type 0 whe
 -- the index of a sync
 pub record SyncsEndTheirOps : Type 0 where
   pub ended : (v : Rules) (on : Bool) (s : Space) (st : State) (here : ℕ) (text : List ℕ) → IsGrouped s st
-      → IsEnded here (map headed (ops_of v on s (index text))) st (synced here (places_of (ops_of v on s (index text))) st)
+      → IsEnded here (map headed (ops_of v on s (index text))) st
+      (synced here (places_of (ops_of v on s (index text))) st)
   pub grouped : (v : Rules) (on : Bool) (s : Space) (st : State) (here : ℕ) (text : List ℕ) → IsGrouped s st
       → IsGrouped (space.after v on s (index text)) (synced here (places_of (ops_of v on s (index text))) st)
 

@@ -1,5 +1,6 @@
 -- What was placed and replied, and the marks of it, as they are kept.
-use Rattle.std.specs.Prelude.{◌≡◌, ℕ, zero, suc, ◌+◌, ◌*◌, ◌-◌, ◌≤◌, Bool, true, false, cond, List, Option, Some, None, length, map, slice_get}
+use Rattle.std.specs.Prelude.{◌≡◌, ℕ, zero, suc, ◌+◌, ◌*◌, ◌-◌, ◌≤◌, Bool, true, false, cond, List, Option, Some, None}
+use Rattle.std.specs.Prelude.{length, map, slice_get}
 use Rattle.std.specs.List.{AllByRecursion}
 use Rattle.plain_tree.specs.declared.calls.Placed.{Placed}
 use Rattle.session_script.specs.declared.logs.Reply.{Reply}

@@ -13,8 +13,8 @@ use Rattle.volume_journal.specs.declared.trails.SyncWait.{SyncWait}
 use Rattle.volume_journal.specs.declared.trails.Waiter.{Waiter}
 use Rattle.volume_journal.specs.declared.trails.Waiter.TheVariants as waiters
 
--- The events, the acknowledgements, the faults that are kept for sessions that drained; for how many more that ask for something there is room beside what they will bring, and for how many
--- more that wait.
+-- The events, the acknowledgements, the faults that are kept for sessions that drained; for how many more that ask for
+-- something there is room beside what they will bring, and for how many more that wait.
 pub record Journaled : Type 0 where
   pub events : List Event
   pub acks : List Ack

@@ -1,5 +1,5 @@
-//! The journal of a served volume: which events have come, who waits, what was placed and replied, and what each session
-//! was told.
+//! The journal of a served volume: which events have come, who waits, what was placed and replied, and what each
+//! session was told.
 #![tactic(auto)]
 
 mod lists;

@@ -1,6 +1,7 @@
 //! Lists that have room for more elements.
 
-ghost use Rattle.std.specs.Prelude.{◌≡◌, ◌+◌, ◌<◌, ◌≤◌, ◌∷◌, ◌++◌, [], true, All, Some, is_some, length, map, vec_len, vec_capacity};
+ghost use Rattle.std.specs.Prelude.{◌≡◌, ◌+◌, ◌<◌, ◌≤◌, ◌∷◌, ◌++◌, [], true, All, Some, is_some, length, map, vec_len};
+ghost use Rattle.std.specs.Prelude.{vec_capacity};
 
 /// One more element, for which there is room.
 pub fn push<T: Drop>(list: &mut Vec<T>, one: T)

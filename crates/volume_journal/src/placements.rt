@@ -1,6 +1,8 @@
 //! What was placed and replied, and what each session was told.
 
-ghost use Rattle.std.specs.Prelude.{◌≡◌, ◌≢◌, ◌+◌, ◌*◌, ◌<◌, ◌≤◌, ◌^◌, ◌==◌, count_by, ℕ, true, [], ◌∷◌, ◌++◌, All, is_some, length, map, OnOk, IfOk, IfSome, None, Some, Option, option_map, slice_get, slice_set, vec_len, vec_capacity};
+ghost use Rattle.std.specs.Prelude.{◌≡◌, ◌≢◌, ◌+◌, ◌*◌, ◌<◌, ◌≤◌, ◌^◌, ◌==◌, count_by, ℕ, true, [], ◌∷◌, ◌++◌, All};
+ghost use Rattle.std.specs.Prelude.{is_some, length, map, OnOk, IfOk, IfSome, None, Some, Option, option_map};
+ghost use Rattle.std.specs.Prelude.{slice_get, slice_set, vec_len, vec_capacity};
 ghost use Rattle.session_script.specs.declared.logs.Reply.{Reply};
 ghost use Rattle.volume_model.specs.declared.marks.Kind.TheVariants as kinds;
 ghost use Rattle.volume_model.specs.Marks.{draining, mark, phase, waits};
@@ -104,7 +106,8 @@ impl Placements {
         Ok(())
     }
 
-    /// The placements and their replies, all of which are there. The replies are moved into a vector that has room for them.
+    /// The placements and their replies, all of which are there. The replies are moved into a vector that has room for
+    /// them.
     pub fn into_lists(self, told: Vec<Reply>) -> (List<Placed>, List<Reply>)
         requires there { All (λ r. is_some r ≡ true) self.replies }
         requires empty { told.items ≡ [] }
@@ -174,7 +177,8 @@ impl Placements {
         requires high { placed.who ≤ self.old.sessions }
         ensures history { self.new.history ≡ self.old.history ++ placed ∷ [] }
         ensures replies { self.new.replies ≡ self.old.replies ++ None ∷ [] }
-        ensures marks { self.new.marks ≡ self.old.marks ++ mark placed.who (kinds.Places (length self.old.history)) ∷ [] }
+        ensures marks { self.new.marks
+            ≡ self.old.marks ++ mark placed.who (kinds.Places (length self.old.history)) ∷ [] }
         ensures calls { self.new.calls ≡ self.old.calls }
         ensures sessions { self.new.sessions ≡ self.old.sessions }
     {

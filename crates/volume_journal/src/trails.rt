@@ -1,6 +1,8 @@
 //! The events of a served volume, and who waits.
 
-ghost use Rattle.std.specs.Prelude.{◌≡◌, ◌+◌, ◌-◌, ◌≤◌, ◌<◌, ◌^◌, ◌*◌, ℕ, vec_len, vec_capacity, drop, filter, map, not, ◌==◌, [], ◌∷◌, ◌++◌, length, true, OnOk, IfSome, None, Some, Option, option_map, MatchOption};
+ghost use Rattle.std.specs.Prelude.{◌≡◌, ◌+◌, ◌-◌, ◌≤◌, ◌<◌, ◌^◌, ◌*◌, ℕ, vec_len, vec_capacity, drop, filter, map};
+ghost use Rattle.std.specs.Prelude.{not, ◌==◌, [], ◌∷◌, ◌++◌, length, true, OnOk, IfSome, None, Some, Option};
+ghost use Rattle.std.specs.Prelude.{option_map, MatchOption};
 ghost use Rattle.tape_types.specs.Cartridges.{next};
 ghost use Rattle.session_script.specs.declared.logs.Event.TheVariants as events;
 ghost use Rattle.head_trail.specs.Waiting.{first_of, is_calm, ops, waiting_op};
@@ -8,7 +10,8 @@ ghost use Rattle.head_trail.specs.Trail as trail;
 ghost use Rattle.head_trail.specs.Trail.{IsTrail, allows};
 ghost use Rattle.volume_model.specs.Faults.{kept_for};
 ghost use Rattle.volume_model.specs.Steps.{without_session};
-ghost use Rattle.volume_journal.specs.Trails.{Journaled, drains_left, due_ticket, first_waiter, kept_as, kept_for_drain, kept_from, state, waiter_of};
+ghost use Rattle.volume_journal.specs.Trails.{Journaled, drains_left, due_ticket, first_waiter, kept_as};
+ghost use Rattle.volume_journal.specs.Trails.{kept_for_drain, kept_from, state, waiter_of};
 
 use crate::lists::push;
 use session_script::{Ack, Event};
@@ -64,7 +67,8 @@ impl Model for Trail {
       acks = a.acks.items;
       kept = map kept_as a.kept.items;
       spare = vec_capacity a.events - vec_len a.events - a.bound;
-      waiters = min (min (vec_capacity a.syncs - vec_len a.syncs) (vec_capacity a.acks - vec_len a.acks - vec_len a.syncs))
+      waiters = min
+          (min (vec_capacity a.syncs - vec_len a.syncs) (vec_capacity a.acks - vec_len a.acks - vec_len a.syncs))
           (min (vec_capacity a.drains - vec_len a.drains) (vec_capacity a.kept - vec_len a.kept - vec_len a.drains));
     } };
 
@@ -104,7 +108,8 @@ impl Trail {
         (List::from_vec(events), List::from_vec(acks))
     }
 
-    /// Makes room for so many more requests, ops and waiters, for all events that they bring, and for one more that waits.
+    /// Makes room for so many more requests, ops and waiters, for all events that they bring, and for one more that
+    /// waits.
     pub fn reserve(&mut self, more: usize) -> Result<(), NoMemory>
         ensures events { self.new.events ≡ self.old.events }
         ensures acks { self.new.acks ≡ self.old.acks }

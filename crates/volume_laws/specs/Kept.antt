@@ -34,7 +34,8 @@ Plan drive fixed = CanServe drive fixed → Planned
 
 -- The order of a served volume, over every drive; the truth of its replies and ops, where the drive told a cartridge
 -- that read as its tree; and that it is safe from crashes, where that cartridge stood for the tree and was sound.
-pub record IsKept {D : Type 0} (drive : Ghosts D) (fixed : Fixed D) (plan : Plan drive fixed) (v : View D) : Type 0 where
+pub record IsKept {D : Type 0} (drive : Ghosts D) (fixed : Fixed D) (plan : Plan drive fixed) (v : View D)
+    : Type 0 where
   pub fixed_is : v.fixed ≡ fixed
   pub order : IsInOrder drive v
   pub truth : CanRead drive fixed → StaysTrue (seen drive fixed.first) v

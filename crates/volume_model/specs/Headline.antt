@@ -1,5 +1,6 @@
 -- What `serve` promises of its log, its cartridge and its text.
-use Rattle.std.specs.Prelude.{◌≡◌, ◌≤◌, not, ℕ, Bool, true, false, List, [], ◌++◌, All, map, fold, filter_map, length, take, take_while, scan, zip, Option, Some, None, IfSome, codes, decimal}
+use Rattle.std.specs.Prelude.{◌≡◌, ◌≤◌, not, ℕ, Bool, true, false, List, [], ◌++◌, All, map, fold, filter_map, length}
+use Rattle.std.specs.Prelude.{take, take_while, scan, zip, Option, Some, None, IfSome, codes, decimal}
 use Rattle.std.specs.List.{list_any}
 use Rattle.tape_types.specs.Counts.{IsRise}
 use Rattle.tape_types.specs.declared.cartridges.Twin.{Twin}

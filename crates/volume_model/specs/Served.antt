@@ -1,5 +1,6 @@
 -- A volume as contracts see it, and what is true of it whatever calls were made.
-use Rattle.std.specs.Prelude.{◌≡◌, ◌⊎◌, ◌≤◌, ◌==◌, ◌||◌, ℕ, cond, Bool, true, false, List, All, Contains, drop, map, filter_map, length, take, Option, Some, None, IfSome, slice_get}
+use Rattle.std.specs.Prelude.{◌≡◌, ◌⊎◌, ◌≤◌, ◌==◌, ◌||◌, ℕ, cond, Bool, true, false, List, All, Contains, drop, map}
+use Rattle.std.specs.Prelude.{filter_map, length, take, Option, Some, None, IfSome, slice_get}
 use Rattle.std.specs.List.{range_with_len, list_any, enumerate_from}
 use Rattle.tape_types.specs.declared.cartridges.Cartridge.{Cartridge}
 use Rattle.tape_types.specs.declared.cartridges.Limits.{Limits}

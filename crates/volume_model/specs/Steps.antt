@@ -1,5 +1,7 @@
 -- What a turn of the head adds to a volume.
-use Rattle.std.specs.Prelude.{◌≡◌, ◌≢◌, ◌⊎◌, ◌≤◌, ◌<◌, ◌==◌, ◌&&◌, ◌+◌, ◌*◌, ◌-◌, ◌^◌, min, not, ℕ, Bool, true, false, cond, List, [], ◌∷◌, ◌++◌, All, filter, filter_map, length, Option, Some, None, IfSome, is_some, slice_get}
+use Rattle.std.specs.Prelude.{◌≡◌, ◌≢◌, ◌⊎◌, ◌≤◌, ◌<◌, ◌==◌, ◌&&◌, ◌+◌, ◌*◌, ◌-◌, ◌^◌, min, not, ℕ, Bool, true, false}
+use Rattle.std.specs.Prelude.{cond, List, [], ◌∷◌, ◌++◌, All, filter, filter_map, length, Option, Some, None, IfSome}
+use Rattle.std.specs.Prelude.{is_some, slice_get}
 use Rattle.std.specs.List.{list_any, scan}
 use Rattle.tape_types.specs.declared.cartridges.Item.{Item}
 use Rattle.tape_types.specs.declared.cartridges.Item.TheVariants as items
@@ -15,7 +17,8 @@ use Rattle.session_script.specs.declared.logs.Event.TheVariants as events
 use Rattle.session_script.specs.declared.logs.Reply.{Reply}
 use Rattle.session_script.specs.declared.logs.Reply.TheVariants as replies
 use Rattle.head_trail.specs.Waiting.{State, Op, first_of, waiting_op, same_part}
-use Rattle.head_trail.specs.Trail.{Owner, of_session, after, after_all, both, fault_of, is_answer, owner_of, step_to, steps}
+use Rattle.head_trail.specs.Trail.{Owner, of_session, after, after_all, both, fault_of, is_answer, owner_of, step_to}
+use Rattle.head_trail.specs.Trail.{steps}
 use Rattle.tape_layout.specs.declared.ops.Op as ops
 use Rattle.tape_layout.specs.declared.ops.Op.TheVariants.{Put, Mark, Flush}
 use Rattle.volume_model.specs.Faults.{kept_for}

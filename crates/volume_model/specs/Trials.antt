@@ -1,5 +1,6 @@
 -- Replies, acks and marks of worked runs, on which the definitions are tried.
-use Rattle.std.specs.Prelude.{◌≡◌, ◌≤◌, ◌<◌, ◌⊎◌, ℕ, true, false, List, [], ◌∷◌, ◌++◌, ◌==◌, cond, map, replicate, codes, Some, None}
+use Rattle.std.specs.Prelude.{◌≡◌, ◌≤◌, ◌<◌, ◌⊎◌, ℕ, true, false, List, [], ◌∷◌, ◌++◌, ◌==◌, cond, map, replicate}
+use Rattle.std.specs.Prelude.{codes, Some, None}
 use Rattle.std.specs.FinMap as fin
 use Rattle.tape_types.specs.declared.moments.Moment.{Moment}
 use Rattle.plain_tree.specs.History.{Calls}
@@ -28,7 +29,8 @@ use Rattle.tape_types.specs.declared.cartridges.Cartridge.{Cartridge}
 use Rattle.tape_types.specs.declared.cartridges.Note.TheVariants.{Absent}
 use Rattle.volume_model.specs.Crash.{Meaning, Leavings}
 use Rattle.volume_model.specs.Marks.{mark}
-use Rattle.volume_model.specs.declared.marks.Kind.TheVariants.{Places as places, Hands as hands, Begins as begins, Rests as rests}
+use Rattle.volume_model.specs.declared.marks.Kind.TheVariants.{Places as places, Hands as hands, Begins as begins}
+use Rattle.volume_model.specs.declared.marks.Kind.TheVariants.{Rests as rests}
 use Rattle.volume_model.specs.declared.marks.Mark.{Mark}
 use Rattle.volume_model.specs.Replies.{Facts}
 

@@ -13,7 +13,8 @@ use Rattle.session_script.specs.declared.logs.Reply.{Reply}
 use Rattle.session_script.specs.declared.scripts.ScriptLine.{ScriptLine}
 use Rattle.head_trail.specs.Rows.{dp, queues, twin, works}
 use Rattle.volume_model.specs.Marks.{mark}
-use Rattle.volume_model.specs.declared.marks.Kind.TheVariants.{Places as places, Hands as hands, Begins as begins, Rests as rests}
+use Rattle.volume_model.specs.declared.marks.Kind.TheVariants.{Places as places, Hands as hands, Begins as begins}
+use Rattle.volume_model.specs.declared.marks.Kind.TheVariants.{Rests as rests}
 use Rattle.volume_model.specs.declared.marks.Mark.{Mark}
 use Rattle.volume_model.specs.Served.{Drive, View}
 use Rattle.volume_model.specs.Trials.{ack, cartridge, mounted, done, fault, placed, synced, with_a, write}

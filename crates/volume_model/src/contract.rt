@@ -59,8 +59,8 @@ pub trait Serve {
 
     ghost view: { Self → View Self.Device };
 
-    /// Begins to serve a volume that was mounted. The number of commands since which a crash is spoken of is the caller's choice;
-    /// the drive had reached it. The refusal is want of memory.
+    /// Begins to serve a volume that was mounted. The number of commands since which a crash is spoken of is the
+    /// caller's choice; the drive had reached it. The refusal is want of memory.
     fn start(
         mounted: Mounted,
         drive: Self::Device,
@@ -81,14 +81,16 @@ pub trait Serve {
     /// Places the next call of a session.
     fn submit(&mut self, who: u16, nth: u32) -> Submitted
         requires { CanSubmit (view self.old) who nth }
-        ensures served { IsServed meaning (seen (view self.new).fixed.first) (seen (view self.new).drive) (view self.new) }
+        ensures served { IsServed meaning (seen (view self.new).fixed.first) (seen (view self.new).drive)
+            (view self.new) }
         ensures submits { Submits (seen (view self.old).fixed.first) (seen (view self.new).drive) (view self.old)
             (view self.new) who nth result };
 
     /// Makes a head step for a session that waits, unless its reply is there.
     fn turn(&mut self, ticket: u64) -> Turn
         requires { (who : ℕ) × (phase who (view self.old).marks ≡ waits ticket) }
-        ensures served { IsServed meaning (seen (view self.new).fixed.first) (seen (view self.new).drive) (view self.new) }
+        ensures served { IsServed meaning (seen (view self.new).fixed.first) (seen (view self.new).drive)
+            (view self.new) }
         ensures turns { (who : ℕ) → phase who (view self.old).marks ≡ waits ticket
             → Turns most (seen (view self.old).drive) (seen (view self.new).drive) (view self.old)
             (view self.new) who ticket result };
@@ -96,7 +98,8 @@ pub trait Serve {
     /// Makes a head step for a session that drains, unless there is room.
     fn drain_turn(&mut self, who: u16) -> Drained
         requires { phase who (view self.old).marks ≡ draining }
-        ensures served { IsServed meaning (seen (view self.new).fixed.first) (seen (view self.new).drive) (view self.new) }
+        ensures served { IsServed meaning (seen (view self.new).fixed.first) (seen (view self.new).drive)
+            (view self.new) }
         ensures drains { DrainsOnce most (seen (view self.old).drive) (seen (view self.new).drive) (view self.old)
             (view self.new) who result };
 

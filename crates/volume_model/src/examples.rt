@@ -5,7 +5,8 @@ ghost use Rattle.tape_types.specs.declared.cartridges.Item.TheVariants.{Block};
 ghost use Rattle.volume_model.specs.Ends.{IsDoneClose, IsEnd, Starts, TellsNodes, begun};
 ghost use Rattle.volume_model.specs.Closing.{just_begun, last_generation, telling, untouched};
 ghost use Rattle.volume_model.specs.declared.answers.CloseEnd.TheVariants as ends;
-ghost use Rattle.std.specs.Prelude.{◌^◌, ◌+◌, ◌≡◌, ℕ, ◌≢◌, true, List, [], ◌∷◌, codes, Some, take, map, None, ◌++◌, decimal, Option};
+ghost use Rattle.std.specs.Prelude.{◌^◌, ◌+◌, ◌≡◌, ℕ, ◌≢◌, true, List, [], ◌∷◌, codes, Some, take, map, None, ◌++◌};
+ghost use Rattle.std.specs.Prelude.{decimal, Option};
 ghost use Rattle.tape_types.specs.declared.moments.Moment.{Moment};
 ghost use Rattle.plain_tree.specs.Tree.{Tree};
 ghost use Rattle.plain_tree.specs.declared.calls.Call.TheVariants.{Sync, Write};
@@ -15,10 +16,16 @@ ghost use Rattle.session_script.specs.declared.logs.Reply.TheVariants as replies
 ghost use Rattle.head_trail.specs.Rows.{queues, twin, dp, one_sync, failed_write, failed_drain, two_sessions};
 ghost use Rattle.volume_model.specs.Meanings.{FineCartridgesStand};
 ghost use Rattle.volume_model.specs.Replies.{IsReply, facts_at, AreReplies, IsNeverOver};
-ghost use Rattle.volume_model.specs.Trials.{drained_by_one, plain_facts, long_volume, alike_below, honest_below, calls_of_one, with_a, write, read, calm, over, fault, got, done, filling, last_void, path, small_volume, twice_written, with_policy, with_small_blocks, four_done, placed, ack, sync_replies, fault_replies, fault_of_another, sync_marks, drain_marks, log_of, by_reference, flushed_at_34, mounted, numbered, synced};
+ghost use Rattle.volume_model.specs.Trials.{drained_by_one, plain_facts, long_volume, alike_below, honest_below};
+ghost use Rattle.volume_model.specs.Trials.{calls_of_one, with_a, write, read, calm, over, fault, got, done, filling};
+ghost use Rattle.volume_model.specs.Trials.{last_void, path, small_volume, twice_written, with_policy};
+ghost use Rattle.volume_model.specs.Trials.{with_small_blocks, four_done, placed, ack, sync_replies, fault_replies};
+ghost use Rattle.volume_model.specs.Trials.{fault_of_another, sync_marks, drain_marks, log_of, by_reference};
+ghost use Rattle.volume_model.specs.Trials.{flushed_at_34, mounted, numbered, synced};
 ghost use Rattle.volume_space.specs.Space.{ops_of};
 ghost use Rattle.volume_space.specs.Standing.{admitted, standing, Given};
-ghost use Rattle.volume_space.specs.Trials.{empty_volume, on_dp, on_ip, after_asks, for_ip, places as places_in, short_index, small};
+ghost use Rattle.volume_space.specs.Trials.{empty_volume, on_dp, on_ip, after_asks, for_ip, places as places_in};
+ghost use Rattle.volume_space.specs.Trials.{short_index, small};
 ghost use Rattle.session_script.specs.declared.logs.Event.TheVariants.{Syncs, Worked, Synced};
 ghost use Rattle.head_trail.specs.Trail.{of_call, of_session, owned_by};
 ghost use Rattle.head_trail.specs.Waiting.{with_flushes};
@@ -33,7 +40,10 @@ ghost use Rattle.volume_model.specs.Served.{is_flush, AreStanding, placed_by, Fi
 ghost use Rattle.volume_model.specs.declared.answers.Submitted.TheVariants as submitted;
 ghost use Rattle.volume_model.specs.Crash.{SurvivesCrashes};
 ghost use Rattle.volume_model.specs.Steps.{DrainsOnce, IsOnTape, Turns};
-ghost use Rattle.volume_model.specs.Turning.{after_flush, before_flush, before_third, both_view, placed_third, sync_added, syncs_first, sync_failed_view, drive_at, draining_view, faulted, holding, handed_marks, rested_view, waiting_marks, before_write, put_off};
+ghost use Rattle.volume_model.specs.Turning.{after_flush, before_flush, before_third, both_view, placed_third};
+ghost use Rattle.volume_model.specs.Turning.{sync_added, syncs_first, sync_failed_view, drive_at, draining_view};
+ghost use Rattle.volume_model.specs.Turning.{faulted, holding, handed_marks, rested_view, waiting_marks, before_write};
+ghost use Rattle.volume_model.specs.Turning.{put_off};
 ghost use Rattle.volume_model.specs.declared.answers.Drained.TheVariants as drained;
 ghost use Rattle.volume_model.specs.declared.answers.Turn.TheVariants as turns;
 ghost use Rattle.plain_tree.specs.declared.calls.Placed.{Placed};
@@ -42,12 +52,15 @@ ghost use Rattle.session_script.specs.Replies as sessions;
 /// Which replies may come at a place, and which may not.
 pub fn the_definitions_tell_replies()
     ensures read_is { (at : Moment) → IsReply fates.Done (calm (with_a at (codes "hello"))) read (got (codes "hello")) }
-    ensures later_read_isnt { (at : Moment) → ¬ IsReply fates.Done (calm (with_a at (codes "hello"))) read (got (codes "world")) }
+    ensures later_read_isnt { (at : Moment)
+        → ¬ IsReply fates.Done (calm (with_a at (codes "hello"))) read (got (codes "world")) }
     ensures full_is { (tree : Tree) → IsReply fates.Void (over tree 53 52) (write (codes "d")) (replies.Full 53 52) }
-    ensures full_one_off_isnt { (tree : Tree) → ¬ IsReply fates.Void (over tree 53 52) (write (codes "d")) (replies.Full 54 52) }
+    ensures full_one_off_isnt { (tree : Tree)
+        → ¬ IsReply fates.Void (over tree 53 52) (write (codes "d")) (replies.Full 54 52) }
     ensures full_within_isnt { (tree : Tree) → ¬ IsReply fates.Void (calm tree) (write (codes "d")) (replies.Full 0 0) }
     ensures done_over_isnt { (tree : Tree) → ¬ IsReply fates.Done (over tree 53 52) (write (codes "d")) done }
-    ensures fault_is { (tree : Tree) → IsReply fates.Done (record (calm tree) { own = twin 0 1 ∷ [] }) Sync (fault 0 1) }
+    ensures fault_is { (tree : Tree)
+        → IsReply fates.Done (record (calm tree) { own = twin 0 1 ∷ [] }) Sync (fault 0 1) }
     ensures fault_unowned_isnt { (tree : Tree) → ¬ IsReply fates.Done (calm tree) Sync (fault 0 1) }
     ensures write_fault_isnt { (tree : Tree)
         → ¬ IsReply fates.Done (record (calm tree) { own = twin 0 1 ∷ [] }) (write (codes "d")) (fault 0 1) }
@@ -67,7 +80,8 @@ pub fn the_definitions_tell_histories()
         (got (codes "world")) }
     ensures both_stored { (at : Moment)
         → map place_of (admitted (small_volume at twice_written) None (four_done at)) ≡ on_dp 7 ∷ on_dp 8 ∷ [] }
-    ensures end_after { (at : Moment) → (standing (small_volume at twice_written) None (four_done at) 4).space.ends.dp ≡ 9 }
+    ensures end_after { (at : Moment)
+        → (standing (small_volume at twice_written) None (four_done at) 4).space.ends.dp ≡ 9 }
     ensures filled { (at : Moment)
         → IsReply fates.Void
         (facts_at (with_small_blocks at filling) None (last_void at) [] 3 (placed at 1 3 fates.Void)
@@ -93,8 +107,10 @@ pub fn the_definitions_tell_logs()
     ensures ack_missing_isnt { ¬ AreAcks one_sync (map Some sync_replies) [] }
     ensures ack_added { acks_for 34 (Worked (dp 11) None ∷ Synced 2 ∷ []) ≡ ack 2 34 ∷ [] }
     ensures ack_early_isnt { acks_for 34 (Worked (dp 11) None ∷ Synced 2 ∷ []) ≢ ack 2 33 ∷ [] }
-    ensures told_of_fault { (at : Moment) → told_at (four_done at) (map Some fault_replies) 2 ≡ owned_by (of_call 2) failed_write }
-    ensures told_another { (at : Moment) → told_at (four_done at) (map Some fault_of_another) 2 ≢ owned_by (of_call 2) failed_write }
+    ensures told_of_fault { (at : Moment)
+        → told_at (four_done at) (map Some fault_replies) 2 ≡ owned_by (of_call 2) failed_write }
+    ensures told_another { (at : Moment)
+        → told_at (four_done at) (map Some fault_of_another) 2 ≢ owned_by (of_call 2) failed_write }
     ensures rises { AreRises 0 1 (twin 0 1 ∷ []) }
     ensures rises_twice_isnt { ¬ AreRises 0 2 (twin 0 1 ∷ twin 0 1 ∷ []) }
     ensures phases { phase 1 sync_marks ≡ idle }
@@ -125,7 +141,8 @@ pub fn the_definitions_tell_logs()
 /// An acknowledgement holds since its own command.
 pub fn the_definitions_tell_crashes()
     ensures acknowledged_is { SurvivesCrashes by_reference plain_facts numbered 4 (ack 2 34 ∷ []) flushed_at_34 30 }
-    ensures acknowledged_early_isnt { ¬ SurvivesCrashes by_reference plain_facts numbered 4 (ack 2 33 ∷ []) flushed_at_34 30 }
+    ensures acknowledged_early_isnt { ¬ SurvivesCrashes by_reference plain_facts numbered 4
+        (ack 2 33 ∷ []) flushed_at_34 30 }
 {}
 
 /// Turns that the definitions accept, and turns that are damaged in one way.
@@ -172,8 +189,10 @@ pub fn the_definitions_tell_turns()
     ensures read_syncs_isnt { (at : Moment)
         → ¬ Submits (drive_at 0 None) (drive_at 30 None) (before_third at read)
         (placed_third at read (Syncs 2 ∷ [])) 1 2 (submitted.Wait 2) }
-    ensures on_tape_is { IsOnTape (holding (Block (codes "hello"))) (Some (Put (dp 0) (codes "hello"))) (Worked (dp 0) None) }
-    ensures other_on_tape_isnt { ¬ IsOnTape (holding (Block (codes "world"))) (Some (Put (dp 0) (codes "hello"))) (Worked (dp 0) None) }
+    ensures on_tape_is { IsOnTape (holding (Block (codes "hello"))) (Some (Put (dp 0) (codes "hello")))
+        (Worked (dp 0) None) }
+    ensures other_on_tape_isnt { ¬ IsOnTape (holding (Block (codes "world"))) (Some (Put (dp 0) (codes "hello")))
+        (Worked (dp 0) None) }
     ensures drain_at_64_isnt { (at : Moment)
         → ¬ Submits (drive_at 0 None) (drive_at 30 None) (before_write at 64)
         (put_off (before_write at 64)) 1 0 submitted.Drain }
@@ -187,7 +206,8 @@ pub fn the_definitions_tell_closes()
     ensures full_with_command_isnt { (at : Moment)
         → ¬ IsEnd by_reference (drive_at 0 None) (drive_at 30 None) (drive_at 31 None) (last_generation at) 31 at
         (ends.Full (2 ^ 62 + 1) (2 ^ 62)) }
-    ensures done_is { (at : Moment) → IsEnd by_reference (telling 2) (telling 2) (telling 2) (untouched at) 30 at (ends.Done 1) }
+    ensures done_is { (at : Moment)
+        → IsEnd by_reference (telling 2) (telling 2) (telling 2) (untouched at) 30 at (ends.Done 1) }
     ensures another_generation_isnt { (at : Moment)
         → ¬ IsEnd by_reference (telling 2) (telling 2) (telling 2) (untouched at) 30 at (ends.Done 2) }
     ensures unlike_isnt { (at : Moment)
@@ -198,29 +218,35 @@ pub fn the_definitions_tell_closes()
     ensures other_nodes_isnt { ¬ TellsNodes (ends.Done 1) (numbered 4) 1 }
     ensures starts_is { (at : Moment)
         → Starts by_reference (telling 2) (mounted at) 30 [] 0 (Some at) (Some at) (just_begun at 30) }
-    ensures other_moment_isnt { (at : Moment) → ¬ Starts by_reference (telling 2) (mounted at) 30 [] 0 None (Some at) (just_begun at 30) }
+    ensures other_moment_isnt { (at : Moment)
+        → ¬ Starts by_reference (telling 2) (mounted at) 30 [] 0 None (Some at) (just_begun at 30) }
     ensures unsound_isnt { (at : Moment)
         → ¬ IsDoneClose (honest_below 3) (telling 2) (telling 4) (mounted at) (numbered 2) (numbered 4) 1 1 }
 {}
 
 /// Blocks that no read asks for, and a write that is placed while too many ops stand.
 pub fn the_definitions_tell_asking()
-    ensures block_of_write_isnt { (at : Moment) → ¬ AreOfReads (calls_of_one twice_written) (four_done at) (Wants 0 (dp 5) ∷ []) }
+    ensures block_of_write_isnt { (at : Moment)
+        → ¬ AreOfReads (calls_of_one twice_written) (four_done at) (Wants 0 (dp 5) ∷ []) }
     ensures blocks_are { (at : Moment)
         → blocks_of (standing (small_volume at twice_written) None (four_done at) 1) (Some read) ≡ dp 7 ∷ [] }
-    ensures unneeded_block_isnt { (at : Moment) → ¬ AreNeeded (small_volume at twice_written) None (four_done at) (Wants 1 (dp 9) ∷ []) }
+    ensures unneeded_block_isnt { (at : Moment)
+        → ¬ AreNeeded (small_volume at twice_written) None (four_done at) (Wants 1 (dp 9) ∷ []) }
     ensures unasked_block_isnt { (at : Moment) → ¬ AreAsked (small_volume at twice_written) None (four_done at) [] }
-    ensures sync_before_op_isnt { (at : Moment) → ¬ AreGrouped (small_volume at twice_written) None (four_done at) (Syncs 1 ∷ queues 7 1) }
+    ensures sync_before_op_isnt { (at : Moment)
+        → ¬ AreGrouped (small_volume at twice_written) None (four_done at) (Syncs 1 ∷ queues 7 1) }
     ensures drained_write_is { (at : Moment) → ArePutOff (long_volume at) None (take 2 (four_done at)) drained_by_one }
     ensures late_write_isnt { (at : Moment) → ¬ ArePutOff (long_volume at) None (take 2 (four_done at)) (queues 7 66) }
 {}
 
 /// Where no head step fails and nothing is over its limit, the replies are those of a plain run.
 pub fn plain_runs_are_served()
-    ensures replies_are_plain { (g : Given) (on : Option ℕ) (history : List Placed) (answered : List Reply) → IsNeverOver g on history
+    ensures replies_are_plain { (g : Given) (on : Option ℕ) (history : List Placed) (answered : List Reply)
+        → IsNeverOver g on history
         → AreReplies g on history [] (map Some answered)
         → sessions.AreReplies g.calls (sessions.IsPlainReply g.calls g.tree) history answered }
-    ensures plain_replies_are { (g : Given) (on : Option ℕ) (history : List Placed) (answered : List Reply) → IsNeverOver g on history
+    ensures plain_replies_are { (g : Given) (on : Option ℕ) (history : List Placed) (answered : List Reply)
+        → IsNeverOver g on history
         → sessions.AreReplies g.calls (sessions.IsPlainReply g.calls g.tree) history answered
         → AreReplies g on history [] (map Some answered) }
 {}

@@ -1,5 +1,6 @@
 -- What is kept of the order in which a volume is served: all that is promised of it, and what each call needs beside.
-use Rattle.std.specs.Prelude.{◌≡◌, ◌==◌, ◌&&◌, ◌<◌, ◌≤◌, ◌+◌, ◌++◌, nat_lt, ℕ, Bool, true, false, List, [], ◌∷◌, All, Some, None, filter, length, map, slice_get}
+use Rattle.std.specs.Prelude.{◌≡◌, ◌==◌, ◌&&◌, ◌<◌, ◌≤◌, ◌+◌, ◌++◌, nat_lt, ℕ, Bool, true, false, List, [], ◌∷◌, All}
+use Rattle.std.specs.Prelude.{Some, None, filter, length, map, slice_get}
 use Rattle.std.specs.List.{list_all, list_any}
 use Rattle.tape_types.specs.declared.cartridges.Twin.{Twin}
 use Rattle.tape_drive.specs.declared.drive.Drive.{Ghosts}

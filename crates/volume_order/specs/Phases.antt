@@ -6,10 +6,12 @@ use Rattle.session_script.specs.Sessions.{greatest_session}
 use Rattle.session_script.specs.declared.logs.Reply.{Reply}
 use Rattle.head_trail.specs.Trail.{after_all, drains_now}
 use Rattle.volume_model.specs.Faults.{kept_for}
-use Rattle.volume_model.specs.Marks.{NothingWaits, Phase, after, draining, hands_of, idle, kinds_of, phase, places_of, waits}
+use Rattle.volume_model.specs.Marks.{NothingWaits, Phase, after, draining, hands_of, idle, kinds_of, phase, places_of}
+use Rattle.volume_model.specs.Marks.{waits}
 use Rattle.volume_model.specs.Served.{View}
 use Rattle.volume_model.specs.declared.marks.Kind.{Kind}
-use Rattle.volume_model.specs.declared.marks.Kind.TheVariants.{Places as places, Hands as hands, Begins as begins, Rests as rests}
+use Rattle.volume_model.specs.declared.marks.Kind.TheVariants.{Places as places, Hands as hands, Begins as begins}
+use Rattle.volume_model.specs.declared.marks.Kind.TheVariants.{Rests as rests}
 use Rattle.volume_model.specs.declared.marks.Mark.{Mark}
 
 -- ---- the marks that calls make

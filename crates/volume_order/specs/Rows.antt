@@ -19,7 +19,8 @@ use Rattle.volume_model.specs.Turning.{before_flush, drive_at, holding, view}
 use Rattle.volume_model.specs.Marks.{mark}
 use Rattle.volume_model.specs.declared.marks.Kind.{Kind}
 use Rattle.volume_model.specs.declared.marks.Mark.{Mark}
-use Rattle.volume_model.specs.declared.marks.Kind.TheVariants.{Places as places, Hands as hands, Begins as begins, Rests as rests}
+use Rattle.volume_model.specs.declared.marks.Kind.TheVariants.{Places as places, Hands as hands, Begins as begins}
+use Rattle.volume_model.specs.declared.marks.Kind.TheVariants.{Rests as rests}
 
 -- the flush of a sync is done, and the sync answered
 abbrev pub flushed : List Event

@@ -1,5 +1,6 @@
 -- What each call of a volume shows, beside what it adds, so that the order is kept.
-use Rattle.std.specs.Prelude.{◌≡◌, ◌++◌, ℕ, cond, true, false, List, [], All, fold, filter_map, length, map, Option, Some, None, IfSome, slice_get}
+use Rattle.std.specs.Prelude.{◌≡◌, ◌++◌, ℕ, cond, true, false, List, [], All, fold, filter_map, length, map, Option}
+use Rattle.std.specs.Prelude.{Some, None, IfSome, slice_get}
 use Rattle.std.specs.List.{list_any, scan}
 use Rattle.std.specs.Option.{option_to_list}
 use Rattle.tape_types.specs.Counts.{IsRise}

@@ -9,9 +9,9 @@ use Rattle.head_queue.specs.Queued.{Queued}
 use Rattle.volume_reads.specs.Gathering.{Gathering}
 use Rattle.volume_model.specs.Served.{Fixed, View}
 
--- The drive, the bytes of the block that was read last, what is held of the volume, its events, the requests that wait, its
--- placements, the reads that wait, the answers of reads that were not handed out yet, and from which place of the history on
--- files may go to the index partition.
+-- The drive, the bytes of the block that was read last, what is held of the volume, its events, the requests that wait,
+-- its placements, the reads that wait, the answers of reads that were not handed out yet, and from which place of the
+-- history on files may go to the index partition.
 pub record Parts (D : Type 0) : Type 0 where
   pub drive : D
   pub block : List ℕ

@@ -1,5 +1,6 @@
 -- What a submission makes of the parts of a volume.
-use Rattle.std.specs.Prelude.{ℕ, ◌≡◌, ◌≢◌, ◌<◌, ◌≤◌, not, Bool, true, false, List, [], ◌∷◌, ◌++◌, All, AllPairs, Contains, filter_map, length, map, Option, Some, None, Result, Ok, Err}
+use Rattle.std.specs.Prelude.{ℕ, ◌≡◌, ◌≢◌, ◌<◌, ◌≤◌, not, Bool, true, false, List, [], ◌∷◌, ◌++◌, All, AllPairs}
+use Rattle.std.specs.Prelude.{Contains, filter_map, length, map, Option, Some, None, Result, Ok, Err}
 use Rattle.std.specs.List.{list_any}
 use Rattle.tape_types.specs.declared.cartridges.Place.{Place}
 use Rattle.tape_types.specs.declared.moments.Moment.{Moment}
@@ -84,7 +85,8 @@ pub record AsksNothing {D : Type 0} (old new : Parts D) : Type 0 where
 abbrev pub IsVoidFor : Stocked → Call → Moment → Reply → Type 0
 IsVoidFor stock call at the_replies.NoMemory = Unit {0}
 IsVoidFor stock call at (the_replies.Full need limit) = (early : Tape) (g : Given) (on : Bool) (st : Standing)
-    → IsStock early g on st stock → (refusal_of (plain_of whole stock.tree) call ≡ None) × IsFull g on st call at need limit
+    → IsStock early g on st stock
+    → (refusal_of (plain_of whole stock.tree) call ≡ None) × IsFull g on st call at need limit
 IsVoidFor stock call at (the_replies.Answer told) = ⊥
 IsVoidFor stock call at (the_replies.Fault counts) = ⊥
 
@@ -104,7 +106,8 @@ IsAnswerFor stock call at told = (items : Items) (g : Given) (on : Bool) (st : S
 
 -- it may be a read that the tree lets pass, but for bytes that are lost: all its blocks are held then
 abbrev pub AreHeld : Stocked → Call → Type 0
-AreHeld stock (calls.Read path offset count) = refusal_of (plain_of whole stock.tree) (calls.Read path offset count) ≡ None
+AreHeld stock (calls.Read path offset count) =
+    refusal_of (plain_of whole stock.tree) (calls.Read path offset count) ≡ None
     → (tape : Tape) (g : Given) (on : Bool) (st : Standing) → IsStock tape g on st stock → (place : Place)
     → Contains (blocks_in (st.files (uid_at st.tree.nodes path)) offset count) place
     → (bytes : List ℕ) × (held_in place stock.layout.ops ≡ Some bytes)
@@ -160,7 +163,8 @@ pub record Syncs {D : Type 0} (drive : Ghosts D) (who nth : ℕ) (at : Moment) (
   pub wants : WantsNothing old new
   pub events : new.trail.events ≡ old.trail.events ++ queues_at (map place_of asked)
       ++ the_events.Syncs (length old.listed.history)
-      ∷ synced_at (length old.listed.history) (waiting.ops (after_all (old.trail.events ++ queues_at (map place_of asked))))
+      ∷ synced_at (length old.listed.history)
+      (waiting.ops (after_all (old.trail.events ++ queues_at (map place_of asked))))
   pub acks : new.trail.acks ≡ old.trail.acks
       ++ acks_at (drive.commands old.drive) (synced_here (length old.listed.history) new.stock.layout.ops)
   pub none_due : due_ticket (state new.trail) ≡ None
@@ -189,7 +193,8 @@ pub record Waits {D : Type 0} (who nth : ℕ) (path : List (List ℕ)) (offset c
       → IsGathering (tape_on items) (λ place. not (has_place place wanted)) read
   pub stock : new.stock ≡ old.stock
   pub moves : MovesNothing old new
-  pub events : new.trail.events ≡ old.trail.events ++ map (λ place. the_events.Wants (length old.listed.history) place) wanted
+  pub events : new.trail.events
+      ≡ old.trail.events ++ map (λ place. the_events.Wants (length old.listed.history) place) wanted
   pub acks : new.trail.acks ≡ old.trail.acks
   pub tied : requests old.queue ≡ (state old.trail).requests → old.queue.arrived ≡ (state old.trail).arrived
       → (requests new.queue ≡ (state new.trail).requests) × (new.queue.arrived ≡ (state new.trail).arrived)

@@ -1,5 +1,6 @@
 -- What a step of the head makes of the parts of a volume.
-use Rattle.std.specs.Prelude.{ℕ, ◌≡◌, ◌≢◌, ◌&&◌, ◌==◌, not, Bool, true, false, cond, List, [], ◌∷◌, ◌++◌, filter, fold, length, map, Option, Some, None, slice_get, slice_set}
+use Rattle.std.specs.Prelude.{ℕ, ◌≡◌, ◌≢◌, ◌&&◌, ◌==◌, not, Bool, true, false, cond, List, [], ◌∷◌, ◌++◌, filter, fold}
+use Rattle.std.specs.Prelude.{length, map, Option, Some, None, slice_get, slice_set}
 use Rattle.std.specs.List.{list_any}
 use Rattle.tape_types.specs.declared.cartridges.Cartridge.{Cartridge}
 use Rattle.tape_types.specs.declared.cartridges.Part.TheVariants.{Dp}
@@ -168,8 +169,8 @@ pub record ReadsBlock {D : Type 0} (drive : Ghosts D) (ticket : ℕ) (place : Pl
   pub read : IsOneRead old.reads ticket
   pub next : Gathering
   pub filled : IsFilledBy place block read.one next
-  pub reads : IsReadOn (list_any (λ w. w.owner == ticket) new.queue.waiting) ticket read.front read.behind next new.reads
-      old.listed.replies new.listed.replies
+  pub reads : IsReadOn (list_any (λ w. w.owner == ticket) new.queue.waiting) ticket read.front read.behind next
+      new.reads old.listed.replies new.listed.replies
 
 -- The step for a request failed: its read is told, and wants nothing more.
 pub record FailsRead {D : Type 0} (drive : Ghosts D) (ticket : ℕ) (place : Place) (counts : Twin) (old new : Parts D)

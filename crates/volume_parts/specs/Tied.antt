@@ -1,5 +1,6 @@
 -- What ties the parts of a served volume to one another, to its history, and to what stands on tape.
-use Rattle.std.specs.Prelude.{ℕ, ◌≡◌, ◌≤◌, ◌<◌, ◌==◌, ◌^◌, not, Bool, true, false, List, All, AllPairs, Contains, Option, Some, None, IfSome, length, map, slice_get}
+use Rattle.std.specs.Prelude.{ℕ, ◌≡◌, ◌≤◌, ◌<◌, ◌==◌, ◌^◌, not, Bool, true, false, List, All, AllPairs, Contains}
+use Rattle.std.specs.Prelude.{Option, Some, None, IfSome, length, map, slice_get}
 use Rattle.std.specs.List.{list_any}
 use Rattle.tape_types.specs.Cartridges.{IsLimits, capacity}
 use Rattle.tape_types.specs.declared.cartridges.Cartridge.{Cartridge}
@@ -48,8 +49,8 @@ abbrev pub was_met : State → ℕ → Places
 was_met st ticket place = not (list_any (asks ticket place) st.requests)
 
 -- A read that waits is that of its place in the history: it is answered by what its pieces read on the tape that is
--- planned, and, where the drive told a cartridge at the start, has the bytes of all blocks but those that are still asked
--- for.
+-- planned, and, where the drive told a cartridge at the start, has the bytes of all blocks but those that are still
+-- asked for.
 pub record IsReading (g : Given) (on : Option ℕ) (history : List Placed) (planned : Items) (told : Option Cartridge)
     (st : State) (r : Gathering) : Type 0 where
   pub placed : Placed
@@ -89,8 +90,8 @@ pub record AreFilesRight (files : Files) (ends : Ends) (ops : List Op) : Type 0 
       → (block : List ℕ) × (held_in (record { part = part; pos = pos }) ops ≡ Some block)
 
 -- The parts of a volume that is served from a mount: the queue has the requests of its events, and no sync is due; what
--- is held is what stands, on the tape that there is once all ops are done; and where the drive tells a cartridge, that is
--- on the way there. Where it tells none, it told none at the start. All that is planned lies within the capacities.
+-- is held is what stands, on the tape that there is once all ops are done; and where the drive tells a cartridge, that
+-- is on the way there. Where it tells none, it told none at the start. All that is planned lies within the capacities.
 pub record IsTied {D : Type 0} (drive : Ghosts D) (fixed : Fixed D) (planned : Items) (p : Parts D) : Type 0 where
   pub limits : IsLimits (drive.limits fixed.first)
   pub mount : IsMount (drive.limits fixed.first) fixed.mounted
@@ -102,10 +103,11 @@ pub record IsTied {D : Type 0} (drive : Ghosts D) (fixed : Fixed D) (planned : I
   pub calls : p.listed.calls ≡ length fixed.script
   pub sessions : p.listed.sessions ≡ greatest_session fixed.script
   pub stock : IsStock (tape_on planned) (given (view_of fixed None p) (seen drive fixed.first))
-      (on_here (seen drive fixed.first) (view_of fixed None p)) (standing_here (seen drive fixed.first) (view_of fixed None p))
-      p.stock
+      (on_here (seen drive fixed.first) (view_of fixed None p))
+      (standing_here (seen drive fixed.first) (view_of fixed None p)) p.stock
   pub ends : (standing_here (seen drive fixed.first) (view_of fixed None p)).space.ends ≡ ends_in planned
-  pub back : IfSome (standing_here (seen drive fixed.first) (view_of fixed None p)).space.last_dp (λ pos. pos < length (planned Dp))
+  pub back : IfSome (standing_here (seen drive fixed.first) (view_of fixed None p)).space.last_dp
+      (λ pos. pos < length (planned Dp))
   pub grouped : IsGrouped (standing_here (seen drive fixed.first) (view_of fixed None p)).space (state p.trail)
   pub files : AreFilesRight (standing_here (seen drive fixed.first) (view_of fixed None p)).files (ends_in planned)
       p.stock.layout.ops

@@ -1,5 +1,6 @@
 -- The reads that wait.
-use Rattle.std.specs.Prelude.{◌≡◌, ◌≢◌, ℕ, ◌==◌, Bool, true, false, cond, not, List, [], ◌∷◌, ◌++◌, filter, Option, Some, None, IfSome, slice_get}
+use Rattle.std.specs.Prelude.{◌≡◌, ◌≢◌, ℕ, ◌==◌, Bool, true, false, cond, not, List, [], ◌∷◌, ◌++◌, filter, Option}
+use Rattle.std.specs.Prelude.{Some, None, IfSome, slice_get}
 use Rattle.std.specs.List.{list_any}
 use Rattle.tape_types.specs.declared.cartridges.Place.{Place}
 use Rattle.extent_map.specs.Cells.{Tape}

@@ -14,8 +14,8 @@ use std::alloc::Global;
 use std::marker::Model;
 use tape_types::{Bytes, List, NoMemory, Place};
 
-/// A read that waits for blocks: its place in the history, its pieces, and the bytes so far, which are zeros where a block
-/// is to come. There is room for a copy of them, and where the pieces stand is noted.
+/// A read that waits for blocks: its place in the history, its pieces, and the bytes so far, which are zeros where a
+/// block is to come. There is room for a copy of them, and where the pieces stand is noted.
 #[derive(Drop)]
 pub struct Reading {
     ticket: u64,
@@ -59,8 +59,8 @@ impl Reading {
         })
     }
 
-    /// Puts in the bytes of the block at a place, or none where no block stands there. The blocks may come in any order.
-    /// Takes no memory.
+    /// Puts in the bytes of the block at a place, or none where no block stands there. The blocks may come in any
+    /// order. Takes no memory.
     pub fn fill(&mut self, place: Place, block: &[u8])
         ensures { IsFilledBy place block.now self.old self.new }
     {

@@ -1,7 +1,9 @@
 //! The reads that wait.
 
-ghost use Rattle.std.specs.Prelude.{◌≡◌, ◌+◌, ◌-◌, ◌<◌, ◌≤◌, ◌∷◌, ◌++◌, [], false, length, take, vec_len, vec_capacity, OnOk, IfSome, None, slice_get};
-ghost use Rattle.volume_reads.specs.Waiting.{HasTicket, IsAnswerAt, IsFilledOne, IsFinished, IsForgotten, IsTakenOut, answer_for, for_others, has_ticket};
+ghost use Rattle.std.specs.Prelude.{◌≡◌, ◌+◌, ◌-◌, ◌<◌, ◌≤◌, ◌∷◌, ◌++◌, [], false, length, take, vec_len, vec_capacity};
+ghost use Rattle.std.specs.Prelude.{OnOk, IfSome, None, slice_get};
+ghost use Rattle.volume_reads.specs.Waiting.{HasTicket, IsAnswerAt, IsFilledOne, IsFinished, IsForgotten, IsTakenOut};
+ghost use Rattle.volume_reads.specs.Waiting.{answer_for, for_others, has_ticket};
 
 use crate::reading::Reading;
 use plain_tree::Answer;

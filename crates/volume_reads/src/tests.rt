@@ -65,8 +65,8 @@ fn tells(answer: Answer, wanted: Option<&[u8]>) -> bool {
     }
 }
 
-/// A read of three bytes of block 5, of which these bytes are read: whether it is answered as is wanted, and the same answer
-/// is kept, until it is handed out.
+/// A read of three bytes of block 5, of which these bytes are read: whether it is answered as is wanted, and the same
+/// answer is kept, until it is handed out.
 fn keeps(alloc: Global, block: &[u8], wanted: Option<&[u8]>) -> Result<bool, NoMemory> {
     let mut pieces = List::new(alloc);
     pieces.push(Piece::Stored {

@@ -52,8 +52,8 @@ EndsSo drive script start now log (ends.Fault counts) =
     IsEndOf cartridges script (seen drive start) (seen drive now) log (Failed counts)
 EndsSo drive script start now log ends.NoMemory = Unit {0}
 
--- Its log is that of a run of the script, and the run ends as the close did. Where the cartridge read as a tree, a close
--- that is done tells how many nodes the tree has that the whole history leaves.
+-- Its log is that of a run of the script, and the run ends as the close did. Where the cartridge read as a tree, a
+-- close that is done tells how many nodes the tree has that the whole history leaves.
 pub record IsRun {D : Type 0} (drive : Ghosts D) (script : List ScriptLine) (at : Option Moment) (start now : D)
     (log : Log) (outcome : CloseEnd) (nodes : ℕ) : Type 0 where
   pub run : IsServeRun cartridges script at (seen drive start) (seen drive now) log

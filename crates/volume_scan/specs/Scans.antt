@@ -14,8 +14,8 @@ use Rattle.volume_scan.specs.declared.errors.ScanErr.TheVariants as errors
 abbrev pub places_of : readings.Construct → Construct
 places_of k = record { mark = k.mark; first = first_of k; after = after_of k }
 
--- A partition has its form, with these indexes, the oldest first, with so many leading blocks behind them, and with so many
--- items in its front.
+-- A partition has its form, with these indexes, the oldest first, with so many leading blocks behind them, and with so
+-- many items in its front.
 pub record IsContent (items : List Item) (found : Content) : Type 0 where
   pub form : HasForm items
   pub constructs : found.constructs ≡ map places_of (constructs_from 4 form.groups)

@@ -1,5 +1,6 @@
 -- How a reading of a partition goes on.
-use Rattle.std.specs.Prelude.{ℕ, Bool, true, false, ◌+◌, ◌≤◌, ◌<◌, ◌≡◌, List, [], ◌∷◌, ◌++◌, length, map, drop, reverse, fold, Option, Some, None}
+use Rattle.std.specs.Prelude.{ℕ, Bool, true, false, ◌+◌, ◌≤◌, ◌<◌, ◌≡◌, List, [], ◌∷◌, ◌++◌, length, map, drop, reverse}
+use Rattle.std.specs.Prelude.{fold, Option, Some, None}
 use Rattle.tape_types.specs.declared.cartridges.Item.{Item}
 use Rattle.tape_content.specs.Readings.{front}
 use Rattle.tape_content.specs.Content.{Phase, Data, Index, Bad, seen}

@@ -8,7 +8,8 @@ use Rattle.volume_space.specs.Space as space
 use Rattle.volume_space.specs.Space.{Ask, Space, index, index_need, nothing}
 use Rattle.volume_space.specs.Standing.{Given, Standing, is_on, rules, standing, sync_text}
 
--- an index is due on the data partition: the tree has changed, or it doesn't end with the chosen index and has got none since
+-- an index is due on the data partition: the tree has changed, or it doesn't end with the chosen index and has got none
+-- since
 abbrev pub is_dp_due : Given → Space → Bool
 is_dp_due g s = s.changed || (not g.mounted.dp_done && not s.admitted)
 

@@ -12,7 +12,8 @@ use Rattle.tape_layout.specs.Ops.{place_of}
 use Rattle.volume_space.specs.Histories.{done, filling, given, overwriting, path, with_blocks, with_policy, writing}
 use Rattle.volume_space.specs.Space.{Rules, Space, after, is_over, limit_of, need_of, ops_of, part_for, store}
 use Rattle.volume_space.specs.Standing.{Given, admitted, limit_at, need_at, standing}
-use Rattle.volume_space.specs.Trials.{after_asks, bytes_for_dp, empty_space, empty_volume, for_ip, on_dp, on_ip, places, short_index, small}
+use Rattle.volume_space.specs.Trials.{after_asks, bytes_for_dp, empty_space, empty_volume, for_ip, on_dp, on_ip, places}
+use Rattle.volume_space.specs.Trials.{short_index, small}
 
 abbrev pub rules : Rules
 rules = small 4096
@@ -47,7 +48,8 @@ pub record TellsSpace : Type 0 where
     admitted = true;
   }
   pub goes_to_ip : part_for rules true empty_space true (codes "abc") ≡ Ip
-  pub too_long_for_ip : part_for rules true (record empty_space { ends = record { ip = 52; dp = 7 } }) true (codes "abc") ≡ Dp
+  pub too_long_for_ip : part_for rules true (record empty_space { ends = record { ip = 52; dp = 7 } }) true
+      (codes "abc") ≡ Dp
   pub cut_into_blocks : ops_of (small 2) true empty_space (store false (codes "abc"))
       ≡ Put (on_dp 7) (codes "ab") ∷ Put (on_dp 8) (codes "c") ∷ []
 
@@ -78,7 +80,9 @@ pub record TellsHistories (at : Moment) : Type 0 where
   pub grows_too_long : map place_of (admitted (given at (with_policy 9 true (empty_volume at)) writing) None (done at))
       ≡ on_ip 4 ∷ on_dp 7 ∷ []
   -- before its place a file that the policy wants on the index partition goes to the data partition
-  pub not_before_its_place : map place_of (admitted (given at (with_policy 10 false (empty_volume at)) writing) (Some 1) (done at))
+  pub not_before_its_place :
+      map place_of (admitted (given at (with_policy 10 false (empty_volume at)) writing) (Some 1) (done at))
       ≡ on_dp 7 ∷ on_ip 4 ∷ []
-  pub changes_twice : (standing (given at (empty_volume at) writing) None (done at) 3).space.ends ≡ record { ip = 4; dp = 9 }
+  pub changes_twice : (standing (given at (empty_volume at) writing) None (done at) 3).space.ends
+      ≡ record { ip = 4; dp = 9 }
   pub nothing_to_sync : need_at (given at (empty_volume at) writing) None (done at) 0 Sync at ≡ 0

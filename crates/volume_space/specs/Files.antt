@@ -1,5 +1,6 @@
 -- How each file of a volume lies on tape, and the index that tells it.
-use Rattle.std.specs.Prelude.{ℕ, zero, suc, ◌==◌, ◌&&◌, nat_lt, cond, List, [], ◌∷◌, length, map, filter, codes, Option, Some, None}
+use Rattle.std.specs.Prelude.{ℕ, zero, suc, ◌==◌, ◌&&◌, nat_lt, cond, List, [], ◌∷◌, length, map, filter, codes, Option}
+use Rattle.std.specs.Prelude.{Some, None}
 use Rattle.std.specs.Option.{option_map, unwrap_or}
 use Rattle.std.specs.List.{enumerate_from, find}
 use Rattle.std.specs.FinMap as fin

@@ -48,7 +48,8 @@ done at = placed at 0 fates.Done ∷ placed at 1 fates.Done ∷ placed at 2 fate
 -- three writes that fill the data partition but for its reserve, and one of a byte
 abbrev pub filling : List Call
 filling =
-    Write path 0 (replicate 64 97) ∷ Write path 64 (replicate 64 98) ∷ Write path 128 (replicate 52 99) ∷ Write path 180 (100 ∷ []) ∷ []
+    Write path 0 (replicate 64 97) ∷ Write path 64 (replicate 64 98) ∷ Write path 128 (replicate 52 99)
+    ∷ Write path 180 (100 ∷ []) ∷ []
 
 -- a write, one within it, and a truncation behind the second one's first byte
 abbrev pub overwriting : List Call

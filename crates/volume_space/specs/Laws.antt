@@ -15,7 +15,8 @@ use Rattle.tape_layout.specs.declared.ops.Op.{Op}
 use Rattle.tape_layout.specs.Admissions.{Admission, close_admission, data_admission, index_admission}
 use Rattle.tape_layout.specs.Ops.{construct, end_of}
 use Rattle.volume_space.specs.Files.{canon, value_of}
-use Rattle.volume_space.specs.Space.{Ask, Rules, Space, after, after_close, index, index_need, limit_of, need_of, nothing, ops_of, part_for, plan_of, store}
+use Rattle.volume_space.specs.Space.{Ask, Rules, Space, after, after_close, index, index_need, limit_of, need_of}
+use Rattle.volume_space.specs.Space.{nothing, ops_of, part_for, plan_of, store}
 use Rattle.volume_space.specs.Standing.{Given, Standing, after_done, after_placed, ask_of, standing}
 
 -- what a layout admits in this space, and where

@@ -1,5 +1,6 @@
 -- The space of both partitions: what is asked of it, what that needs, and what is admitted.
-use Rattle.std.specs.Prelude.{ℕ, ◌+◌, ◌^◌, nat_lt, if◌then◌else◌, Bool, true, false, List, [], ◌++◌, length, Option, Some}
+use Rattle.std.specs.Prelude.{ℕ, ◌+◌, ◌^◌, nat_lt, if◌then◌else◌, Bool, true, false, List, [], ◌++◌, length, Option}
+use Rattle.std.specs.Prelude.{Some}
 use Rattle.std.specs.Int.{div_ceil}
 use Rattle.tape_types.specs.declared.cartridges.Part.{Part}
 use Rattle.tape_types.specs.declared.cartridges.Part.TheVariants.{Ip, Dp}
@@ -13,9 +14,9 @@ use Rattle.tape_layout.specs.Ops.{construct, end_of, puts, with_end}
 use Rattle.tape_layout.specs.Plans.{Plan}
 use Rattle.volume_space.specs.Mount.{MountFacts}
 
--- Where the next item of each partition goes, the newest generation, the first block of the data partition's last admitted
--- index, whether the tree has changed since, whether a block was put on the index partition since the last flush, and whether an
--- index was admitted on the data partition in this run.
+-- Where the next item of each partition goes, the newest generation, the first block of the data partition's last
+-- admitted index, whether the tree has changed since, whether a block was put on the index partition since the last
+-- flush, and whether an index was admitted on the data partition in this run.
 pub record Space : Type 0 where
   pub ends : Ends
   pub newest : ℕ
@@ -26,16 +27,22 @@ pub record Space : Type 0 where
 
 -- as it was mounted
 abbrev pub first_space : MountFacts → Space
-first_space m =
-    record { ends = m.ends; newest = m.newest; last_dp = m.last_dp; changed = false; flush_due = false; admitted = false }
+first_space m = record {
+  ends = m.ends;
+  newest = m.newest;
+  last_dp = m.last_dp;
+  changed = false;
+  flush_due = false;
+  admitted = false;
+}
 
 -- what doesn't change: the capacities, and the bytes of a block
 pub record Rules : Type 0 where
   pub limits : Limits
   pub block_size : ℕ
 
--- What a call asks of the tape: nothing, with or without a change of the tree; bytes of a file, which the policy may want on the
--- index partition; or an index with this text.
+-- What a call asks of the tape: nothing, with or without a change of the tree; bytes of a file, which the policy may
+-- want on the index partition; or an index with this text.
 pub data Ask : Type 0 where
   nothing : Ask
   change : Ask
@@ -48,8 +55,14 @@ blocks v bytes = div_ceil (length bytes) v.block_size
 
 -- what a layout holds in this space, with these ops, where files may go to the index partition or not
 abbrev pub plan_of : Rules → Bool → Space → List Op → Plan
-plan_of v on s ops =
-    record { limits = v.limits; block_size = v.block_size; ends = s.ends; ops = ops; flush_due = s.flush_due; ip_on = on }
+plan_of v on s ops = record {
+  limits = v.limits;
+  block_size = v.block_size;
+  ends = s.ends;
+  ops = ops;
+  flush_due = s.flush_due;
+  ip_on = on;
+}
 
 -- the partition to which bytes go
 abbrev pub part_for : Rules → Bool → Space → Bool → List ℕ → Part

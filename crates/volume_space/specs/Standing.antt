@@ -1,5 +1,6 @@
 -- The tree of a history, how its files lie and how much of the tape they take, placement by placement.
-use Rattle.std.specs.Prelude.{ℕ, ◌+◌, ◌==◌, ◌||◌, nat_le, max, cond, Bool, false, List, [], ◌∷◌, length, take, fold, Option, Some, None}
+use Rattle.std.specs.Prelude.{ℕ, ◌+◌, ◌==◌, ◌||◌, nat_le, max, cond, Bool, false, List, [], ◌∷◌, length, take, fold}
+use Rattle.std.specs.Prelude.{Option, Some, None}
 use Rattle.std.specs.Option.{unwrap_or}
 use Rattle.std.specs.List.{enumerate_from, flat_map}
 use Rattle.std.specs.FinMap as fin
@@ -15,7 +16,8 @@ use Rattle.plain_tree.specs.Refusals.{refusal_of}
 use Rattle.plain_tree.specs.Tree.{Tree, Nodes, cells_at}
 use Rattle.plain_tree.specs.declared.nodes.Node.{Node}
 use Rattle.plain_tree.specs.declared.calls.Call.{Call}
-use Rattle.plain_tree.specs.declared.calls.Call.TheVariants.{Mkdir, Create, Write, Truncate, Read, Listing, Stat, Rename, Remove, Sync}
+use Rattle.plain_tree.specs.declared.calls.Call.TheVariants.{Mkdir, Create, Write, Truncate, Read, Listing, Stat}
+use Rattle.plain_tree.specs.declared.calls.Call.TheVariants.{Rename, Remove, Sync}
 use Rattle.plain_tree.specs.declared.calls.Fate.{Fate}
 use Rattle.plain_tree.specs.declared.calls.Fate.TheVariants as fates
 use Rattle.plain_tree.specs.declared.calls.Placed.{Placed}
@@ -27,9 +29,11 @@ use Rattle.tape_layout.specs.Ops.{end_of}
 use Rattle.placement.specs.Computed.{chooses_ip}
 use Rattle.volume_space.specs.Files.{Files, mounted_files, with_file, index_at, canon}
 use Rattle.volume_space.specs.Space as space
-use Rattle.volume_space.specs.Space.{Space, Rules, Ask, nothing, change, store, index, first_space, part_for, need_of, limit_of, is_over, ops_of}
+use Rattle.volume_space.specs.Space.{Space, Rules, Ask, nothing, change, store, index, first_space, part_for, need_of}
+use Rattle.volume_space.specs.Space.{limit_of, is_over, ops_of}
 
--- what a volume is served from: the calls of its sessions, its tree, what was found when it was mounted, and the capacities
+-- what a volume is served from: the calls of its sessions, its tree, what was found when it was mounted, and the
+-- capacities
 pub record Given : Type 0 where
   pub calls : Calls
   pub tree : Tree
@@ -48,8 +52,8 @@ pub record Standing : Type 0 where
 abbrev pub first_standing : Given → Standing
 first_standing g = record { tree = g.tree; files = mounted_files g.mounted; space = first_space g.mounted }
 
--- Files may go to the index partition where it was so at the mount, and else from the place on at which the history stood when
--- the first flush of the data partition was done.
+-- Files may go to the index partition where it was so at the mount, and else from the place on at which the history
+-- stood when the first flush of the data partition was done.
 abbrev pub is_on : MountFacts → Option ℕ → ℕ → Bool
 is_on m on k = m.ip_on || reached on
   where
@@ -79,7 +83,8 @@ ask_unrefused g st (Mkdir path) at = change
 ask_unrefused g st (Create path) at = change
 ask_unrefused g st (Write path offset []) at = nothing
 ask_unrefused g st (Write path offset (b ∷ bytes)) at =
-    store (chooses_ip g.mounted.index.policy (unwrap_or (last_name path) []) (length_after st path (offset + length (b ∷ bytes)))) (b ∷ bytes)
+    store (chooses_ip g.mounted.index.policy (unwrap_or (last_name path) [])
+    (length_after st path (offset + length (b ∷ bytes)))) (b ∷ bytes)
 ask_unrefused g st (Truncate path size) at = cond (size == length (cells_at st.tree.nodes path)) nothing change
 ask_unrefused g st (Read path offset count) at = nothing
 ask_unrefused g st (Listing path) at = nothing

@@ -60,8 +60,14 @@ abbrev pub small : ℕ → Rules
 small block_size = record { limits = record { cap_ip = 64; cap_dp = 64 }; block_size = block_size }
 
 abbrev pub empty_space : Space
-empty_space =
-    record { ends = record { ip = 4; dp = 7 }; newest = 1; last_dp = Some 5; changed = false; flush_due = false; admitted = false }
+empty_space = record {
+  ends = record { ip = 4; dp = 7 };
+  newest = 1;
+  last_dp = Some 5;
+  changed = false;
+  flush_due = false;
+  admitted = false;
+}
 
 -- what is left after these
 abbrev pub after_asks : Rules → Bool → List Ask → Space

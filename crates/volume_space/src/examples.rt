@@ -20,5 +20,6 @@ pub fn the_definitions_tell_histories()
 /// The value of a small index lists the nodes of the index.
 #[tactic(auto, using(crate::proofs::IndexFacts::archive_is_told))]
 pub fn the_definitions_tell_an_index()
-    ensures { (at : Moment) (times : Times) → option_map all_nodes (value_of (archive at times)) ≡ Some (map node_value (archive_nodes times)) }
+    ensures { (at : Moment) (times : Times)
+        → option_map all_nodes (value_of (archive at times)) ≡ Some (map node_value (archive_nodes times)) }
 {}

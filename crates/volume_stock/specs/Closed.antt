@@ -28,12 +28,14 @@ abbrev pub IsIpDocument : Given → Standing → Moment → Option (List ℕ) �
 IsIpDocument g st at (Some text) = (is_ip_due g st.space ≡ true) × (text ≡ close_text g st at)
 IsIpDocument g st at None = is_ip_due g st.space ≡ false
 
--- The index that is due on the data partition fits, its ops are admitted, and what is held then is what stands after it, on
--- each tape with the same bytes in the blocks of the tree.
-pub record IsDpDone (early : Tape) (g : Given) (on : Bool) (st : Standing) (at : Moment) (old new : Stocked) : Type 0 where
+-- The index that is due on the data partition fits, its ops are admitted, and what is held then is what stands after
+-- it, on each tape with the same bytes in the blocks of the tree.
+pub record IsDpDone (early : Tape) (g : Given) (on : Bool) (st : Standing) (at : Moment) (old new : Stocked)
+    : Type 0 where
   pub fits : is_over (rules g) on st.space (close_ask g st at) ≡ false
   pub ops : new.layout.ops ≡ old.layout.ops ++ ops_of (rules g) on st.space (close_ask g st at)
-  pub stands : (late : Tape) → AreAlikeIn (TreeStandsIn old.tree) late early → IsStock late g on (closed_dp g on st at) new
+  pub stands : (late : Tape) → AreAlikeIn (TreeStandsIn old.tree) late early
+      → IsStock late g on (closed_dp g on st at) new
 
 -- it needs more than there is
 pub record IsDpFull (g : Given) (on : Bool) (st : Standing) (at : Moment) (need limit : ℕ) : Type 0 where
@@ -46,8 +48,8 @@ IsDpChange early g on st at old new (Ok done) = IsDpDone early g on st at old ne
 IsDpChange early g on st at old new (Err (Full need limit)) = IsDpFull g on st at need limit
 IsDpChange early g on st at old new (Err NoMemory) = Unit {0}
 
--- The index that is due on the index partition fits, and its ops are admitted behind those that stand. The tree and what an
--- index stands on are as they were, but for that the index partition is done.
+-- The index that is due on the index partition fits, and its ops are admitted behind those that stand. The tree and
+-- what an index stands on are as they were, but for that the index partition is done.
 pub record IsIpDone (g : Given) (st : Standing) (at : Moment) (old new : Stocked) : Type 0 where
   pub fits : close_need g st at ≤ close_limit g
   pub ops : new.layout.ops

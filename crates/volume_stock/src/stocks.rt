@@ -166,8 +166,8 @@ impl Stock {
         admit_due(&mut self.layout, &mut self.frame, due)
     }
 
-    /// The texts of the indexes that a close at a moment admits. That on the index partition tells of the one on the data
-    /// partition as if it were admitted.
+    /// The texts of the indexes that a close at a moment admits. That on the index partition tells of the one on the
+    /// data partition as if it were admitted.
     pub fn closing_texts(&self, at: Moment) -> Result<ClosingTexts, NoMemory>
         ensures texts { IfOk result (λ c. (tape : Tape) (g : Given) (on : Bool) (st : Standing)
             → IsStock tape g on st self.now

@@ -16,8 +16,8 @@ use Rattle.volume_sync.specs.declared.frames.Frame.{Frame}
 abbrev pub letters_of : Frame → Letters
 letters_of f = (f.label.index, f.label.dpart)
 
--- How an index is headed: it has this generation, stands behind the mark at this end of the partition with this letter, and
--- points back to this block of the data partition.
+-- How an index is headed: it has this generation, stands behind the mark at this end of the partition with this letter,
+-- and points back to this block of the data partition.
 abbrev pub heading_of : Frame → (generation letter end : ℕ) → (back : Option ℕ) → Moment → Heading
 heading_of f generation letter end back at = record {
   creator = codes "ltfs_server 1.0.0";
@@ -28,8 +28,8 @@ heading_of f generation letter end back at = record {
   back = option_map (λ block. record { letter = f.label.dpart; block = block }) back;
 }
 
--- that of a sync stands behind the mark at this end of the data partition, is of the next generation, and points back to the last
--- index that was admitted there
+-- that of a sync stands behind the mark at this end of the data partition, is of the next generation, and points back
+-- to the last index that was admitted there
 abbrev pub sync_heading : Frame → (end : ℕ) → Moment → Heading
 sync_heading f end at = heading_of f (f.generation + 1) f.label.dpart end f.last_dp at
 
@@ -50,8 +50,8 @@ pub record IsSync (text : List ℕ) (old new : Plan) (before now : Frame) (resul
   pub admitted : IsAdmitted (index_admission old (before.generation + 1) text) old new result
   pub frame : now ≡ after_sync before result
 
--- That of a close stands behind the mark at this end of the index partition, and has the generation of the data partition's last
--- index, to which it points back.
+-- That of a close stands behind the mark at this end of the index partition, and has the generation of the data
+-- partition's last index, to which it points back.
 abbrev pub close_heading : Frame → (generation : ℕ) → (last_dp : Option ℕ) → (end : ℕ) → Moment → Heading
 close_heading f generation last_dp end at = heading_of f generation f.label.index end last_dp at
 
@@ -66,6 +66,7 @@ after_close f (Err e) = f
 
 -- This text of a close's index is admitted on the index partition where it fits, and else refused, and then nothing has
 -- changed.
-pub record IsCloseOf (text : List ℕ) (old new : Plan) (before now : Frame) (result : Result Place AdmitErr) : Type 0 where
+pub record IsCloseOf (text : List ℕ) (old new : Plan) (before now : Frame) (result : Result Place AdmitErr)
+    : Type 0 where
   pub admitted : IsAdmitted (close_admission old text) old new result
   pub frame : now ≡ after_close before result

@@ -16,7 +16,8 @@ pub struct Frame {
     pub changed: bool,
     /// Whether the data partition ended with the chosen index when the volume was mounted, or has got one since.
     pub dp_done: bool,
-    /// Whether the index partition ends with an index of the newest generation that points back to the data partition's.
+    /// Whether the index partition ends with an index of the newest generation that points back to the data
+    /// partition's.
     pub ip_done: bool,
     /// Whether both coherency attributes were those of the last indexes when the volume was mounted.
     pub noted: bool,

@@ -35,7 +35,8 @@ use Rattle.volume_space.specs.Space as space
 use Rattle.volume_space.specs.Standing.{Given, Standing, rules}
 use Rattle.volume_stock.specs.Applied.{IsLate}
 use Rattle.volume_stock.specs.Stocks.{ends_of}
-use Rattle.volume_tape.specs.Planned.{IsDoneAt, IsOnWay, IsPlan, Items, LieBelow, NoMarks, ends_in, mounted_items, tape_on, with_ops}
+use Rattle.volume_tape.specs.Planned.{IsDoneAt, IsOnWay, IsPlan, Items, LieBelow, NoMarks, ends_in, mounted_items}
+use Rattle.volume_tape.specs.Planned.{tape_on, with_ops}
 
 -- What is planned grows by the ops that are added, and stays when the first op is done. What an op holds for a block is
 -- what will stand there.

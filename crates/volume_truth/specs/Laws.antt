@@ -1,5 +1,6 @@
 -- The laws of a volume whose replies and ops are true.
-use Rattle.std.specs.Prelude.{◌≡◌, ◌≤◌, ◌<◌, ◌+◌, ◌++◌, ℕ, List, [], ◌∷◌, length, Contains, Option, Some, None, slice_get}
+use Rattle.std.specs.Prelude.{◌≡◌, ◌≤◌, ◌<◌, ◌+◌, ◌++◌, ℕ, List, [], ◌∷◌, length, Contains, Option, Some, None}
+use Rattle.std.specs.Prelude.{slice_get}
 use Rattle.tape_types.specs.declared.moments.Moment.{Moment}
 use Rattle.tape_types.specs.declared.cartridges.Twin.{Twin}
 use Rattle.plain_tree.specs.declared.calls.Call.{Call}
@@ -10,7 +11,8 @@ use Rattle.session_script.specs.declared.logs.Event.{Event}
 use Rattle.session_script.specs.declared.logs.Reply.{Reply}
 use Rattle.session_script.specs.declared.logs.Reply.TheVariants as replies
 use Rattle.head_trail.specs.Trail.{IsTrail, Owner, of_call, of_session, owned_by}
-use Rattle.volume_space.specs.Standing.{Given, admitted, admitted_at, after_placed, asked, is_on, limit_at, need_at, standing}
+use Rattle.volume_space.specs.Standing.{Given, admitted, admitted_at, after_placed, asked, is_on, limit_at, need_at}
+use Rattle.volume_space.specs.Standing.{standing}
 use Rattle.volume_model.specs.Faults.{AreFaults}
 use Rattle.volume_model.specs.Served.{Drive, IsTrue, View}
 use Rattle.volume_model.specs.Steps.{DrainsOnce, Turns, on_after}
@@ -68,8 +70,8 @@ OwnersKeepFaults = (owner : Owner) (events added : List Event) (counts : Twin) �
 -- where each fault is told to its owner, a fault that a placement is told is its own, or, of a void one, its session's
 abbrev pub ToldFaultsAreOwned : Type 0
 ToldFaultsAreOwned =
-    (history : List Placed) (events : List Event) (kept : List (Option Reply)) (waiting : List (ℕ × Twin)) (before now : ℕ)
-    → AreFaults history events kept waiting before now → (k : ℕ) (p : Placed) (counts : Twin)
+    (history : List Placed) (events : List Event) (kept : List (Option Reply)) (waiting : List (ℕ × Twin))
+    (before now : ℕ) → AreFaults history events kept waiting before now → (k : ℕ) (p : Placed) (counts : Twin)
     → slice_get history k ≡ Some p → slice_get kept k ≡ Some (Some (replies.Fault counts))
     → Contains (owned_by (teller k p p.fate) events) counts
 

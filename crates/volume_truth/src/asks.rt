@@ -1,7 +1,8 @@
 //! What the events of a volume tell of the blocks that are asked for, of writes that are put off and of the ops of each
 //! sync, over each of its calls.
 
-ghost use Rattle.volume_truth.specs.Asks.{AskingBegins, DrainTurnsAskTruly, QueueTheirOps, SubmissionsAskTruly, TurnsAskTruly};
+ghost use Rattle.volume_truth.specs.Asks.{AskingBegins, DrainTurnsAskTruly, QueueTheirOps, SubmissionsAskTruly};
+ghost use Rattle.volume_truth.specs.Asks.{TurnsAskTruly};
 
 use volume_model::Serve;
 

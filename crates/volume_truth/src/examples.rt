@@ -16,8 +16,8 @@ ghost use Rattle.volume_model.specs.Served.{IsTrue};
 ghost use Rattle.volume_truth.specs.Sides.{IsReadyHere, SubmitsTruly, left_by, ops_here};
 ghost use Rattle.volume_truth.specs.Worked.{at_end, one_sync, silent, synced};
 
-/// Replies that may come at once where a volume with one empty file begins, replies that may not, and the ops that are left
-/// behind a step.
+/// Replies that may come at once where a volume with one empty file begins, replies that may not, and the ops that are
+/// left behind a step.
 pub fn the_sides_tell_replies()
     ensures read_is { (m : MountFacts) (on : Bool) (at : Moment)
         → IsReadyHere (given at m []) on (first_standing (given at m [])) (Read path 0 5) at (replies.Answer (Got [])) }

@@ -5,7 +5,9 @@ ghost use Rattle.plain_tree.specs.declared.calls.Placed.{Placed};
 ghost use Rattle.volume_space.specs.Standing.{Given};
 ghost use Rattle.volume_truth.specs.Draining.{DrainsStayForWrites};
 ghost use Rattle.volume_truth.specs.Within.{DrainTurnsKeepTrue, StayingGives, SubmissionsKeepTrue, TurnsKeepTrue};
-ghost use Rattle.volume_truth.specs.Laws.{DrainTurnsStayTrue, FlushesTurnPlacementOn, OwnersKeepFaults, PlacementGoesOn, StandingGoesOn, SubmissionsStayTrue, ToldFaultsAreOwned, TurnsStayTrue};
+ghost use Rattle.volume_truth.specs.Laws.{DrainTurnsStayTrue, FlushesTurnPlacementOn, OwnersKeepFaults};
+ghost use Rattle.volume_truth.specs.Laws.{PlacementGoesOn, StandingGoesOn, SubmissionsStayTrue, ToldFaultsAreOwned};
+ghost use Rattle.volume_truth.specs.Laws.{TurnsStayTrue};
 
 use volume_model::Serve;
 
@@ -24,8 +26,8 @@ pub fn owners_keep_faults()
     ensures { OwnersKeepFaults }
 {}
 
-/// A fault that a placement is told is one that it owns, or, where it is void, one that its session owns, as long as each
-/// fault is told to its owner.
+/// A fault that a placement is told is one that it owns, or, where it is void, one that its session owns, as long as
+/// each fault is told to its owner.
 pub fn told_faults_are_owned()
     ensures { ToldFaultsAreOwned }
 {}
