@@ -299,25 +299,52 @@ fn tell_node(nodes: &mut Vec<Node>, at: u32, tag: Tag, value: Value)
     }
 }
 
-fn add_extent(kind: &mut Kind, extent: RawExtent) -> Result<(), NoMemory>
+/// The list of one extent, with room for no more, since most files have just one.
+fn one_extent(alloc: Global, extent: RawExtent) -> Result<List<RawExtent>, NoMemory>
+    ensures { IfOk result (λ extents. extents ≡ extent ∷ []) }
+{
+    let mut extents = Vec::with_capacity(alloc, 1)?;
+    extents.push(extent)?;
+    Ok(List::from_vec(extents))
+}
+
+/// Puts an extent behind others.
+fn push_extent(
+    alloc: Global,
+    extents: &mut List<RawExtent>,
+    extent: RawExtent,
+) -> Result<(), NoMemory>
+    ensures { OnOk result (extents.new ≡ extents.old ++ extent ∷ []) }
+{
+    if extents.len() == 0 {
+        *extents = one_extent(alloc, extent)?;
+    } else {
+        extents.push(extent)?;
+    }
+    Ok(())
+}
+
+fn add_extent(alloc: Global, kind: &mut Kind, extent: RawExtent) -> Result<(), NoMemory>
     ensures { OnOk result (kind.new ≡ one_more extent kind.old) }
 {
     match kind {
-        Kind::File { extents, .. } => {
-            extents.push(extent)?;
-            Ok(())
-        }
+        Kind::File { extents, .. } => push_extent(alloc, extents, extent),
         _ => Ok(()),
     }
 }
 
 /// Gives a file one extent more.
-fn tell_extent(nodes: &mut Vec<Node>, at: u32, extent: RawExtent) -> Result<(), NoMemory>
+fn tell_extent(
+    alloc: Global,
+    nodes: &mut Vec<Node>,
+    at: u32,
+    extent: RawExtent,
+) -> Result<(), NoMemory>
     ensures { OnOk result (map value_of nodes.new.items
         ≡ changed at (with_extent extent) (map value_of nodes.old.items)) }
 {
     match nodes.get_mut(at as usize) {
-        Some(node) => add_extent(&mut node.kind, extent),
+        Some(node) => add_extent(alloc, &mut node.kind, extent),
         None => Ok(()),
     }
 }
@@ -383,11 +410,11 @@ impl Draft {
     }
 
     /// A parent ends, whose children spoke of a node.
-    pub fn end(&mut self, place: Place, node: u32) -> Result<(), NoMemory>
+    pub fn end(&mut self, alloc: Global, place: Place, node: u32) -> Result<(), NoMemory>
         ensures { OnOk result (state_of self.new ≡ ended place node (state_of self.old)) }
     {
         match place {
-            Place::Extent => tell_extent(&mut self.nodes, node, self.extent),
+            Place::Extent => tell_extent(alloc, &mut self.nodes, node, self.extent),
             _ => Ok(()),
         }
     }

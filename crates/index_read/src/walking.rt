@@ -96,9 +96,9 @@ fn tell(alloc: Global, draft: &mut Draft, level: Level, piece: Piece) -> Result<
         Piece::Whole(place) => {
             let node = node_in(place, level.node, draft.nodes.len() as u32);
             draft.begin(alloc, place, level.node)?;
-            draft.end(place, node)
+            draft.end(alloc, place, node)
         }
-        Piece::Closes => draft.end(level.frame.place, level.node),
+        Piece::Closes => draft.end(alloc, level.frame.place, level.node),
         Piece::Leaf(tag, value) => draft.tell(level.frame.place, level.node, tag, value),
     }
 }
