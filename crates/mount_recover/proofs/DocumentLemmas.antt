@@ -1,5 +1,5 @@
 -- Reading the document of an index.
-use Rattle.std.proofs.Common.{Vec, Global, ℕ, zero, suc, ◌+◌, ◌*◌, ◌-◌, ◌^◌, ◌≤◌, ◌<◌, ◌≡◌, List, [], ◌∷◌, ◌++◌, length, take, slice_get, get_or, Option, Some, None, Ok, refl, sym, ◌∙◌, ap, subst, arith, append_assoc}
+use Rattle.std.proofs.Common.{ℕ, zero, suc, ◌+◌, ◌*◌, ◌-◌, ◌^◌, ◌≤◌, ◌<◌, ◌≡◌, List, [], ◌∷◌, ◌++◌, length, take, slice_get, get_or, Option, Some, None, Ok, refl, sym, ◌∙◌, ap, subst, arith, append_assoc}
 use Rattle.std.specs.List.{concat}
 use Rattle.std.proofs.lemmas.Option.{slice_get-get_or}
 use Rattle.tape_types.specs.declared.cartridges.Cartridge.{Cartridge}
@@ -164,19 +164,19 @@ document_told items place blocks document known count read = is_document (indexe
         (subst (λ (n : ℕ). StandAt items n k.blocks) (ap (λ (p : Construct). p.first) same) (newest_stands items k older known.form are))
 
 -- the document was read
-pub document_step : {D : Type 0} (drive : Ghosts D) (start : Start) (a b d : D) (part : Part) (place : Construct) (blocks : ℕ) (before : List ℕ) (document : Vec ℕ Global)
+pub document_step : {D : Type 0} (drive : Ghosts D) (start : Start) (a b d : D) (part : Part) (place : Construct) (blocks : ℕ) (before document : List ℕ)
     → before ≡ [] → IsSince drive start a → IsInPlace (capacity part start.limits) place → IfSome (drive.held a) (λ c. IsNewest (items_of part c) place)
     → blocks ≡ place.after - place.first - 1 → Looks drive drive.MOST a b → drive.faults a ≤ drive.faults b
     → drive.head b ≡ Some (record { part = part; pos = place.first }) → Looks drive (blocks * drive.MOST) b d → drive.faults b ≤ drive.faults d
     → ((at : Place) (c : Cartridge) (bs : List (List ℕ)) → drive.head b ≡ Some at → drive.held b ≡ Some c → length bs ≡ blocks
-    → StandAt (items_of at.part c) at.pos bs → document.items ≡ before ++ concat bs)
-    → IsStep drive start (1 + capacity part start.limits) a d (λ document c. IsDocument document.items (indexes_of (items_of part c))) (λ document. Unit {0}) IsFree (Ok document)
+    → StandAt (items_of at.part c) at.pos bs → document ≡ before ++ concat bs)
+    → IsStep drive start (1 + capacity part start.limits) a d (λ (done : Unit {0}) c. IsDocument document (indexes_of (items_of part c))) (λ done. Unit {0}) IsFree (Ok tt)
 document_step drive start a b d part place blocks before document empty since in_place known count look later head looks more read =
     let both = looks_more drive start (1 + blocks) (1 + capacity part start.limits) a d (omega (arith, count, in_place.after))
     (subst (λ (most : ℕ). Looks drive most a d) (one_first blocks drive.MOST) (then_looks drive drive.MOST (blocks * drive.MOST) a b d look looks)) in
     let now : start.faults ≤ drive.faults d = omega (arith, since.faults, later, more) in
     record {
-      found = λ c h. document_told (items_of part c) place blocks document.items (at_told (λ c. IsNewest (items_of part c) place) h known) count
+      found = λ c h. document_told (items_of part c) place blocks document (at_told (λ c. IsNewest (items_of part c) place) h known) count
           (λ bs len stand. read (record { part = part; pos = place.first }) c bs head (look.held ∙ h) len stand ∙ ap (λ (l : List ℕ). l ++ concat bs) empty);
       any = tt;
       refused = tt;

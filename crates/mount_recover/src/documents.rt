@@ -26,7 +26,7 @@ use tape_meaning::MountErr;
 use tape_types::{Part, Place};
 use volume_scan::Construct;
 
-/// The document of the last index of a partition, which stands there.
+/// Reads the document of the last index of a partition, which stands there, in place of what was read before it.
 pub fn read_document<D: Drive>(
     alloc: Global,
     drive: &mut D,
@@ -34,16 +34,17 @@ pub fn read_document<D: Drive>(
     part: Part,
     place: Construct,
     block: u32,
-) -> Result<Vec<u8>, MountErr>
+    document: &mut Vec<u8>,
+) -> Result<(), MountErr>
     requires since { IsSince D.Drive start drive.old }
     requires place { IsInPlace (capacity part start.limits) place }
     requires known { IfSome (D.held drive.old) (λ c. IsNewest (items_of part c) place) }
     ensures { IsStep D.Drive start (1 + capacity part start.limits) drive.old drive.new
-        (λ document c. IsDocument document.items (indexes_of (items_of part c))) (λ document. Unit {0}) IsFree result }
+        (λ done c. IsDocument document.new.items (indexes_of (items_of part c))) (λ done. Unit {0}) IsFree result }
 {
     let blocks = place.after - place.first - 1;
     let mut buffer = buffer(alloc)?;
-    let mut document = Vec::new(alloc);
+    document.clear();
     document.reserve(blocks.saturating_mul(u64::from(block)) as usize)?;
     match drive.locate(Place {
         part,
@@ -52,8 +53,8 @@ pub fn read_document<D: Drive>(
         Ok(()) => {}
         Err(_) => return Err(failed(drive, start.faults)),
     }
-    match read_blocks(drive, blocks, &mut buffer, &mut document) {
-        Ok(()) => Ok(document),
+    match read_blocks(drive, blocks, &mut buffer, document) {
+        Ok(()) => Ok(()),
         Err(Stop::Drive) => Err(failed(drive, start.faults)),
         Err(Stop::NoMemory) => Err(MountErr::NoMemory),
     }

@@ -35,7 +35,8 @@ pub struct Lasts {
     pub dp: Option<Last>,
 }
 
-/// Reads the last index of each partition, that of the data partition first.
+/// Reads the last index of each partition, that of the data partition first. The second document takes the memory of the
+/// first one.
 pub fn read_lasts<D: Drive>(
     alloc: Global,
     drive: &mut D,
@@ -49,8 +50,9 @@ pub fn read_lasts<D: Drive>(
     ensures { IsStep D.Drive start ((1 + start.limits.cap_dp) + (1 + start.limits.cap_ip)) drive.old drive.new
         (AreLasts labels.now.ip) (AreSoundLasts labels.now.ip start.limits) Blames result }
 {
-    let dp = last_on_dp(alloc, drive, start, labels, scans)?;
-    let ip = last_on_ip(alloc, drive, start, labels, scans, &dp)?;
+    let mut document = Vec::new(alloc);
+    let dp = last_on_dp(alloc, drive, start, labels, scans, &mut document)?;
+    let ip = last_on_ip(alloc, drive, start, labels, scans, &dp, &mut document)?;
     Ok(Lasts { ip, dp })
 }
 
@@ -60,6 +62,7 @@ fn last_on_dp<D: Drive>(
     start: Start,
     labels: &Labels,
     scans: &Scans,
+    document: &mut Vec<u8>,
 ) -> Result<Option<Last>, MountErr>
     requires since { IsSince D.Drive start drive.old }
     requires places { AreInPlaces start.limits scans.now }
@@ -69,7 +72,7 @@ fn last_on_dp<D: Drive>(
 {
     match scans.dp.constructs.as_slice().split_last() {
         None => Ok(None),
-        Some((place, older)) => read_on_dp(alloc, drive, start, labels, *place, older),
+        Some((place, older)) => read_on_dp(alloc, drive, start, labels, *place, older, document),
     }
 }
 
@@ -81,6 +84,7 @@ fn read_on_dp<D: Drive>(
     labels: &Labels,
     place: Construct,
     older: &[Construct],
+    document: &mut Vec<u8>,
 ) -> Result<Option<Last>, MountErr>
     requires since { IsSince D.Drive start drive.old }
     requires place { IsInPlace start.limits.cap_dp place }
@@ -88,7 +92,7 @@ fn read_on_dp<D: Drive>(
     ensures { IsStep D.Drive start (1 + start.limits.cap_dp) drive.old drive.new (IsLastDp labels.now.ip)
         (λ last. IfSome last (IsSoundLast labels.now.ip start.limits.cap_dp)) Blames result }
 {
-    let index = read_last(alloc, drive, start, &labels.ip, Part::Dp, place)?;
+    let index = read_last(alloc, drive, start, &labels.ip, Part::Dp, place, document)?;
     if !points_on_dp(&labels.ip, place.first, older, &index) {
         return Err(MountErr::WrongPointer(Place {
             part: Part::Dp,
@@ -105,6 +109,7 @@ fn last_on_ip<D: Drive>(
     labels: &Labels,
     scans: &Scans,
     on_dp: &Option<Last>,
+    document: &mut Vec<u8>,
 ) -> Result<Option<Last>, MountErr>
     requires since { IsSince D.Drive start drive.old }
     requires places { AreInPlaces start.limits scans.now }
@@ -116,7 +121,7 @@ fn last_on_ip<D: Drive>(
     let dps = scans.dp.constructs.as_slice();
     match scans.ip.constructs.as_slice().split_last() {
         None => Ok(None),
-        Some((place, _)) => read_on_ip(alloc, drive, start, labels, *place, dps, on_dp),
+        Some((place, _)) => read_on_ip(alloc, drive, start, labels, *place, dps, on_dp, document),
     }
 }
 
@@ -129,6 +134,7 @@ fn read_on_ip<D: Drive>(
     place: Construct,
     dps: &[Construct],
     on_dp: &Option<Last>,
+    document: &mut Vec<u8>,
 ) -> Result<Option<Last>, MountErr>
     requires since { IsSince D.Drive start drive.old }
     requires place { IsInPlace start.limits.cap_ip place }
@@ -136,7 +142,7 @@ fn read_on_ip<D: Drive>(
     ensures { IsStep D.Drive start (1 + start.limits.cap_ip) drive.old drive.new (IsLastIp labels.now.ip on_dp.now)
         (λ last. IfSome last (IsSoundLast labels.now.ip start.limits.cap_ip)) Blames result }
 {
-    let index = read_last(alloc, drive, start, &labels.ip, Part::Ip, place)?;
+    let index = read_last(alloc, drive, start, &labels.ip, Part::Ip, place, document)?;
     if !points_on_ip(&labels.ip, place.first, dps, on_dp, &index) {
         return Err(MountErr::WrongPointer(Place {
             part: Part::Ip,
@@ -154,6 +160,7 @@ fn read_last<D: Drive>(
     label: &Label,
     part: Part,
     place: Construct,
+    document: &mut Vec<u8>,
 ) -> Result<Index, MountErr>
     requires since { IsSince D.Drive start drive.old }
     requires place { IsInPlace (capacity part start.limits) place }
@@ -163,7 +170,7 @@ fn read_last<D: Drive>(
         (λ e c. IsBadNewest (indexes_of (items_of part c)) label.now.uuid (record { part = part; pos = place.first }) e)
         result }
 {
-    let document = read_document(alloc, drive, start, part, place, label.block)?;
+    read_document(alloc, drive, start, part, place, label.block, document)?;
     let pos = place.first;
     match read_text(alloc, document.as_slice(), label, Place { part, pos }) {
         Ok(index) => Ok(index),
