@@ -45,7 +45,7 @@ pub fn read_document<D: Drive>(
     let blocks = place.after - place.first - 1;
     let mut buffer = buffer(alloc)?;
     document.clear();
-    document.reserve(blocks.saturating_mul(u64::from(block)) as usize)?;
+    document.reserve_exact(blocks.saturating_mul(u64::from(block)) as usize)?;
     match drive.locate(Place {
         part,
         pos: place.first,
