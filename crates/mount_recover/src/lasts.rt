@@ -35,8 +35,8 @@ pub struct Lasts {
     pub dp: Option<Last>,
 }
 
-/// Reads the last index of each partition, that of the data partition first. The second document takes the memory of the
-/// first one.
+/// Reads the last index of each partition, that of the data partition first. The second document takes the memory of
+/// the first one.
 pub fn read_lasts<D: Drive>(
     alloc: Global,
     drive: &mut D,
