@@ -8,6 +8,7 @@ pub mod KeptLemmas
 pub mod PlainLemmas
 pub mod StoredLemmas
 pub mod RefusalLemmas
+pub mod ReadyLemmas
 pub mod EditLemmas
 pub mod BlockLemmas
 pub mod FitLemmas

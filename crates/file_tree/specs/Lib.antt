@@ -7,6 +7,7 @@ pub mod Order
 pub mod Valid
 pub mod Edits
 pub mod Reads
+pub mod Ready
 pub mod Mounts
 pub mod Raws
 pub mod Listing

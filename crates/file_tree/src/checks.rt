@@ -1,10 +1,13 @@
-ghost use Rattle.std.specs.Prelude.{◌≡◌, ◌+◌, [], ◌∷◌, IfOk};
-ghost use Rattle.std.specs.FinMap as fin;
+ghost use Rattle.std.specs.Prelude.{◌≡◌, ◌+◌, ◌++◌, [], ◌∷◌, IfOk, Ok, Err, None, if◌then◌else◌};
 ghost use Rattle.plain_tree.specs.Paths as paths;
-ghost use Rattle.plain_tree.specs.Refusals.{bad_name as why_bad_name, no_node as why_no_node, no_dir as why_no_dir, no_file as why_no_file, first_of, refuse_if, too_many, too_long as why_too_long, new_refusal as why_not_new, rename_refusal as why_not_renamed, refusal_of};
-ghost use Rattle.file_tree.specs.Tree.{plain_of, whole};
+ghost use Rattle.plain_tree.specs.Paths.{Path};
+ghost use Rattle.plain_tree.specs.Refusals.{bad_name as why_bad_name, no_node as why_no_node, no_dir as why_no_dir, no_file as why_no_file, exists_at, not_empty, first_of, refuse_if, too_many, too_long as why_too_long, new_refusal as why_not_new, refusal_of};
+ghost use Rattle.file_tree.specs.Tree.{StandsAt, plain_of, whole};
+ghost use Rattle.file_tree.specs.Places.{IsThere};
+ghost use Rattle.file_tree.specs.Ready.{IsPlaced, IsPlacedBy, IsChecked, AreChecked, made_in, about};
 
 use crate::found::Found;
+use crate::ready::Ready;
 use crate::tree::Tree;
 use plain_tree::{Call, Refusal, Sort};
 use std::alloc::Global;
@@ -16,24 +19,51 @@ const LONGEST: u64 = 1 << 40;
 
 const LAST_UID: u64 = 1 << 62;
 
-/// Why a call is refused, where no byte is lost on the tape.
-pub fn check_call(tree: &Tree, alloc: Global, call: &Call) -> Result<Option<Refusal>, NoMemory>
-    ensures { IfOk result (λ refusal. refusal ≡ refusal_of (plain_of whole tree.now) call.now) }
+/// Which nodes a call is about, or why it is refused, where no byte is lost on the tape.
+pub fn place_call(
+    tree: &Tree,
+    alloc: Global,
+    call: &Call,
+) -> Result<Result<Ready, Refusal>, NoMemory>
+    ensures { IfOk result (λ placed. IsPlaced tree.now call.now placed) }
 {
     match call {
-        Call::Mkdir { path } | Call::Create { path } => new_refusal(tree, alloc, path.as_slice()),
+        Call::Mkdir { path } => Ok(make_in(dir_of_new(tree, alloc, path.as_slice())?)),
+        Call::Create { path } => Ok(make_in(dir_of_new(tree, alloc, path.as_slice())?)),
         Call::Write {
             path,
             offset,
             bytes,
-        } => Ok(write_refusal(tree, path.as_slice(), *offset, bytes.len() as u64)),
-        Call::Truncate { path, length } => Ok(write_refusal(tree, path.as_slice(), *length, 0)),
-        Call::Read { path, .. } => Ok(no_file(tree, path.as_slice())),
-        Call::Listing { path } => Ok(no_dir(tree, path.as_slice())),
-        Call::Stat { path } => Ok(no_node(tree, path.as_slice())),
-        Call::Rename { from, to } => rename_refusal(tree, alloc, from.as_slice(), to.as_slice()),
-        Call::Remove { path } => Ok(remove_refusal(tree, path.as_slice())),
-        Call::Sync => Ok(None),
+        } => Ok(at(long_file_at(tree, path.as_slice(), *offset, bytes.len() as u64))),
+        Call::Truncate { path, length } => {
+            Ok(at(long_file_at(tree, path.as_slice(), *length, 0)))
+        }
+        Call::Read { path, .. } => Ok(at(file_at(tree, path.as_slice()))),
+        Call::Listing { path } => Ok(at(dir_at(tree, path.as_slice()))),
+        Call::Stat { path } => Ok(at(node_at(tree, path.as_slice()))),
+        Call::Rename { from, to } => place_rename(tree, alloc, from.as_slice(), to.as_slice()),
+        Call::Remove { path } => Ok(at(bare_at(tree, path.as_slice()))),
+        Call::Sync => Ok(Ok(Ready::Nothing)),
+    }
+}
+
+/// A new node in the directory that was found.
+fn make_in(found: Result<u32, Refusal>) -> Result<Ready, Refusal>
+    ensures { result ≡ made_in found }
+{
+    match found {
+        Ok(dir) => Ok(Ready::Make { dir }),
+        Err(refusal) => Err(refusal),
+    }
+}
+
+/// The node that was found.
+fn at(found: Result<u32, Refusal>) -> Result<Ready, Refusal>
+    ensures { result ≡ about found }
+{
+    match found {
+        Ok(number) => Ok(Ready::At { number }),
+        Err(refusal) => Err(refusal),
     }
 }
 
@@ -51,109 +81,114 @@ fn bad_name(alloc: Global, path: &[Text]) -> Result<Option<Refusal>, NoMemory>
     }
 }
 
-/// Why nothing stands at a path.
-fn no_node(tree: &Tree, path: &[Text]) -> Option<Refusal>
-    ensures { result ≡ why_no_node (plain_of whole tree.now).nodes path.now }
+/// The node at a path, or why nothing stands there.
+fn node_at(tree: &Tree, path: &[Text]) -> Result<u32, Refusal>
+    ensures { IsChecked (why_no_node (plain_of whole tree.now).nodes path.now) tree.now path.now result }
 {
     match tree.find(path) {
-        Found::Node(_) => None,
-        Found::Missing => Some(Refusal::NotFound),
-        Found::NotDir => Some(Refusal::NotDir),
+        Found::Node(number) => Ok(number),
+        Found::Missing => Err(Refusal::NotFound),
+        Found::NotDir => Err(Refusal::NotDir),
     }
 }
 
-/// Why a path is no directory.
-fn no_dir(tree: &Tree, path: &[Text]) -> Option<Refusal>
-    ensures { result ≡ why_no_dir (plain_of whole tree.now).nodes path.now }
-{
-    match tree.find(path) {
-        Found::Node(number) => match tree.sort(number) {
-            Sort::Dir => None,
-            Sort::File | Sort::Link => Some(Refusal::NotDir),
-        },
-        Found::Missing => Some(Refusal::NotFound),
-        Found::NotDir => Some(Refusal::NotDir),
-    }
-}
-
-/// Why a path is no file.
-fn no_file(tree: &Tree, path: &[Text]) -> Option<Refusal>
-    ensures { result ≡ why_no_file (plain_of whole tree.now).nodes path.now }
+/// The directory at a path, or why the path is none.
+fn dir_at(tree: &Tree, path: &[Text]) -> Result<u32, Refusal>
+    ensures { IsChecked (why_no_dir (plain_of whole tree.now).nodes path.now) tree.now path.now result }
 {
     match tree.find(path) {
         Found::Node(number) => match tree.sort(number) {
-            Sort::Dir => Some(Refusal::IsDir),
-            Sort::File => None,
-            Sort::Link => Some(Refusal::IsLink),
+            Sort::Dir => Ok(number),
+            Sort::File | Sort::Link => Err(Refusal::NotDir),
         },
-        Found::Missing => Some(Refusal::NotFound),
-        Found::NotDir => Some(Refusal::NotDir),
+        Found::Missing => Err(Refusal::NotFound),
+        Found::NotDir => Err(Refusal::NotDir),
     }
 }
 
-/// Whether something stands at a path.
-fn exists(tree: &Tree, path: &[Text]) -> bool
-    ensures { result ≡ fin.contains_key (plain_of whole tree.now).nodes path.now }
+/// The file at a path, or why the path is none.
+fn file_at(tree: &Tree, path: &[Text]) -> Result<u32, Refusal>
+    ensures { IsChecked (why_no_file (plain_of whole tree.now).nodes path.now) tree.now path.now result }
 {
     match tree.find(path) {
-        Found::Node(_) => true,
-        Found::Missing | Found::NotDir => false,
+        Found::Node(number) => match tree.sort(number) {
+            Sort::Dir => Err(Refusal::IsDir),
+            Sort::File => Ok(number),
+            Sort::Link => Err(Refusal::IsLink),
+        },
+        Found::Missing => Err(Refusal::NotFound),
+        Found::NotDir => Err(Refusal::NotDir),
     }
 }
 
-/// Why a file can't be as long as to the end of a range.
-fn write_refusal(tree: &Tree, path: &[Text], offset: u64, count: u64) -> Option<Refusal>
-    ensures { result
-        ≡ first_of (why_no_file (plain_of whole tree.now).nodes path.now ∷ why_too_long (offset + count) ∷ []) }
+/// The file at a path, or why it can't be as long as to the end of a range.
+fn long_file_at(tree: &Tree, path: &[Text], offset: u64, count: u64) -> Result<u32, Refusal>
+    ensures { IsChecked
+        (first_of (why_no_file (plain_of whole tree.now).nodes path.now ∷ why_too_long (offset + count) ∷ []))
+        tree.now path.now result }
 {
-    if let Some(refusal) = no_file(tree, path) {
-        return Some(refusal);
+    match file_at(tree, path) {
+        Ok(number) => {
+            if offset > LONGEST || count > LONGEST - offset {
+                return Err(Refusal::TooLong);
+            }
+            Ok(number)
+        }
+        Err(refusal) => Err(refusal),
     }
-    if offset > LONGEST || count > LONGEST - offset {
-        return Some(Refusal::TooLong);
-    }
-    None
 }
 
-/// Why a node can't be removed.
-fn remove_refusal(tree: &Tree, path: &[Text]) -> Option<Refusal>
-    ensures { result ≡ refusal_of (plain_of whole tree.now) (Call.Remove path.now) }
+/// The node at a path, or why it can't be removed.
+fn bare_at(tree: &Tree, path: &[Text]) -> Result<u32, Refusal>
+    ensures { IsChecked (refusal_of (plain_of whole tree.now) (Call.Remove path.now)) tree.now path.now result }
 {
     if path.is_empty() {
-        return Some(Refusal::Root);
+        return Err(Refusal::Root);
     }
     match tree.find(path) {
         Found::Node(number) => {
             if tree.has_entries(number) {
-                return Some(Refusal::NotEmpty);
+                return Err(Refusal::NotEmpty);
             }
-            None
+            Ok(number)
         }
-        Found::Missing => Some(Refusal::NotFound),
-        Found::NotDir => Some(Refusal::NotDir),
+        Found::Missing => Err(Refusal::NotFound),
+        Found::NotDir => Err(Refusal::NotDir),
     }
 }
 
-/// Why a new node may not stand at a path.
-fn new_refusal(tree: &Tree, alloc: Global, path: &[Text]) -> Result<Option<Refusal>, NoMemory>
-    ensures { IfOk result (λ refusal. refusal ≡ why_not_new (plain_of whole tree.now) path.now) }
+/// The directory of a new node's path, or why no node may be made there.
+fn dir_of_new(tree: &Tree, alloc: Global, path: &[Text]) -> Result<Result<u32, Refusal>, NoMemory>
+    ensures { IfOk result (λ found. IsChecked (why_not_new (plain_of whole tree.now) path.now) tree.now
+        (paths.parent_of path.now) found) }
 {
     if let Some(refusal) = bad_name(alloc, path)? {
-        return Ok(Some(refusal));
+        return Ok(Err(refusal));
     }
-    if path.is_empty() {
-        return Ok(Some(Refusal::Root));
+    let Some((name, up)) = path.split_last() else {
+        return Ok(Err(Refusal::Root));
+    };
+    match dir_at(tree, up) {
+        Ok(dir) => Ok(free_in(tree, dir, name)),
+        Err(refusal) => Ok(Err(refusal)),
     }
-    if let Some(refusal) = no_dir(tree, parent(path)) {
-        return Ok(Some(refusal));
-    }
-    if exists(tree, path) {
-        return Ok(Some(Refusal::Exists));
+}
+
+/// The directory, or why there may be no further node under a name in it.
+fn free_in(tree: &Tree, dir: u32, name: &Text) -> Result<u32, Refusal>
+    requires { IsThere tree.now.nodes dir }
+    ensures { (path : Path) → StandsAt tree.now path dir → IsChecked
+        (first_of (exists_at (plain_of whole tree.now).nodes (path ++ name.now ∷ [])
+        ∷ too_many (plain_of whole tree.now) ∷ []))
+        tree.now path result }
+{
+    if tree.child(dir, name).is_some() {
+        return Err(Refusal::Exists);
     }
     if is_full(tree) {
-        return Ok(Some(Refusal::TooMany));
+        return Err(Refusal::TooMany);
     }
-    Ok(None)
+    Ok(dir)
 }
 
 /// Whether there may be no further node.
@@ -163,44 +198,107 @@ fn is_full(tree: &Tree) -> bool
     tree.count() >= MOST_NODES || tree.highest() >= LAST_UID
 }
 
-/// Why a node may not move to another path.
-fn rename_refusal(
+/// Which nodes a rename is about, or why it is refused.
+fn place_rename(
     tree: &Tree,
     alloc: Global,
     from: &[Text],
     to: &[Text],
-) -> Result<Option<Refusal>, NoMemory>
-    ensures { IfOk result (λ refusal. refusal ≡ why_not_renamed (plain_of whole tree.now).nodes from.now to.now) }
+) -> Result<Result<Ready, Refusal>, NoMemory>
+    ensures { IfOk result (λ placed. IsPlaced tree.now (Call.Rename from.now to.now) placed) }
 {
     if let Some(refusal) = bad_name(alloc, to)? {
-        return Ok(Some(refusal));
+        return Ok(Err(refusal));
     }
-    if from.is_empty() || to.is_empty() {
-        return Ok(Some(Refusal::Root));
+    if from.is_empty() {
+        return Ok(Err(Refusal::Root));
     }
-    if let Some(refusal) = no_node(tree, from) {
-        return Ok(Some(refusal));
+    let Some((name, up)) = to.split_last() else {
+        return Ok(Err(Refusal::Root));
+    };
+    match both_at(tree, from, up) {
+        Ok((number, dir)) => Ok(move_in(tree, from, to, (number, dir), name)),
+        Err(refusal) => Ok(Err(refusal)),
     }
-    if let Some(refusal) = no_dir(tree, parent(to)) {
-        return Ok(Some(refusal));
-    }
-    if same_path(from, to) {
-        return Ok(None);
-    }
-    if exists(tree, to) {
-        return Ok(Some(Refusal::Exists));
-    }
-    if is_below(from, to) {
-        return Ok(Some(Refusal::Inside));
-    }
-    Ok(None)
 }
 
-/// The path without its last name.
-fn parent(path: &[Text]) -> &[Text]
-    ensures { result.now ≡ paths.parent_of path.now }
+/// The node at a path and the directory at another path, or why one of them isn't there.
+fn both_at(tree: &Tree, from: &[Text], up: &[Text]) -> Result<(u32, u32), Refusal>
+    ensures { AreChecked
+        (first_of (why_no_node (plain_of whole tree.now).nodes from.now
+        ∷ why_no_dir (plain_of whole tree.now).nodes up.now ∷ []))
+        tree.now from.now up.now result }
 {
-    &path[..path.len().saturating_sub(1)]
+    match from.split_last() {
+        Some((name, front)) => {
+            if same_path(front, up) {
+                return both_in(tree, up, name);
+            }
+            both_apart(tree, from, up)
+        }
+        None => both_apart(tree, from, up),
+    }
+}
+
+/// The same by two walks.
+fn both_apart(tree: &Tree, from: &[Text], up: &[Text]) -> Result<(u32, u32), Refusal>
+    ensures { AreChecked
+        (first_of (why_no_node (plain_of whole tree.now).nodes from.now
+        ∷ why_no_dir (plain_of whole tree.now).nodes up.now ∷ []))
+        tree.now from.now up.now result }
+{
+    match node_at(tree, from) {
+        Ok(number) => match dir_at(tree, up) {
+            Ok(dir) => Ok((number, dir)),
+            Err(refusal) => Err(refusal),
+        },
+        Err(refusal) => Err(refusal),
+    }
+}
+
+/// The same of a node that stands directly in that directory, by one walk.
+fn both_in(tree: &Tree, up: &[Text], name: &Text) -> Result<(u32, u32), Refusal>
+    ensures { AreChecked
+        (first_of (why_no_node (plain_of whole tree.now).nodes (up.now ++ name.now ∷ [])
+        ∷ why_no_dir (plain_of whole tree.now).nodes up.now ∷ []))
+        tree.now (up.now ++ name.now ∷ []) up.now result }
+{
+    let _good = tree.count();
+    match dir_at(tree, up) {
+        Ok(dir) => match tree.child(dir, name) {
+            Some(number) => Ok((number, dir)),
+            None => Err(Refusal::NotFound),
+        },
+        Err(refusal) => Err(refusal),
+    }
+}
+
+/// What a rename is ready for, once both nodes are found, or why it is refused.
+fn move_in(
+    tree: &Tree,
+    from: &[Text],
+    to: &[Text],
+    numbers: (u32, u32),
+    name: &Text,
+) -> Result<Ready, Refusal>
+    requires there { IsThere tree.now.nodes numbers.1 }
+    ensures { (up : Path) → StandsAt tree.now from.now numbers.0 → StandsAt tree.now up numbers.1
+        → to.now ≡ up ++ name.now ∷ [] → IsPlacedBy (if paths.same_path from.now to.now then None else
+        first_of (exists_at (plain_of whole tree.now).nodes to.now
+        ∷ refuse_if (paths.is_below from.now to.now) Refusal.Inside ∷ []))
+        tree.now (Call.Rename from.now to.now) result }
+{
+    if same_path(from, to) {
+        return Ok(Ready::Same);
+    }
+    let (number, dir) = numbers;
+    if tree.child(dir, name).is_some() {
+        return Err(Refusal::Exists);
+    }
+    if is_below(from, to) {
+        return Err(Refusal::Inside);
+    }
+    Ok(Ready::Move { number, dir })
 }
 
 pub fn same_path(a: &[Text], b: &[Text]) -> bool

@@ -12,6 +12,7 @@ mod nodes;
 mod order;
 mod places;
 mod raws;
+mod ready;
 mod spots;
 mod store;
 mod told;
@@ -24,4 +25,5 @@ pub use laws::{
     mounts_lie_below, plain_nodes_agree, refusals_are_alike, told_nodes_agree, writes_are_writes,
 };
 pub use raws::Letters;
+pub use ready::Ready;
 pub use tree::Tree;

@@ -7,12 +7,13 @@ ghost use Rattle.file_tree.specs.Edits.{IsNewKind, IsLongAt};
 
 use crate::carried::{Carried, Heading};
 use crate::changes::Change;
-use crate::checks::check_call;
+use crate::checks::place_call;
 use crate::found::{Found, facts_of, lost_below, sort_of};
 use crate::mount::place_nodes;
 use crate::nodes::{Kind, Node};
 use crate::places::Places;
 use crate::raws::Letters;
+use crate::ready::Ready;
 use extent_map::Extents;
 use index_model::Index;
 use plain_tree::{Call, Entry, Facts, Refusal, Sort};
@@ -80,13 +81,14 @@ impl Tree {
     ghost use Rattle.plain_tree.specs.declared.calls.Call.TheVariants as asks;
     ghost use Rattle.plain_tree.specs.Paths.{moved_path};
     ghost use Rattle.plain_tree.specs.Paths.{Path};
-    ghost use Rattle.file_tree.specs.Tree.{StandsAt, HasExtents, HasLaid, plain_of, whole};
+    ghost use Rattle.file_tree.specs.Tree.{StandsAt, HasExtents, HasLaid, number_at, plain_of, whole};
     ghost use Rattle.plain_tree.specs.declared.nodes.Node.{Node as PlainNode};
     ghost use Rattle.plain_tree.specs.Tree.{entries_in, facts_of};
     ghost use Rattle.plain_tree.specs.Refusals.{no_node, refusal_of};
     ghost use Rattle.file_tree.specs.Places.{IsThere};
     ghost use Rattle.file_tree.specs.Mounts.{CanMount, IsTreeOf};
     ghost use Rattle.file_tree.specs.Reads.{IsFound, refusal_found, IsOfSort};
+    ghost use Rattle.file_tree.specs.Ready.{IsPlaced};
     ghost use Rattle.file_tree.specs.Carried.{index_of_tree};
     ghost use Rattle.file_tree.specs.Told.{told_nodes};
     ghost use Rattle.file_tree.specs.Valid.{IsFileOf, IsGood};
@@ -140,6 +142,15 @@ impl Tree {
             Ok(number) => Found::Node(number),
             Err(last) => lost_below(&self.places.node(last).kind),
         }
+    }
+
+    /// The number of the node under a name in a directory.
+    pub fn child(&self, dir: u32, name: &Text) -> Option<u32>
+        requires { IsThere self.now.nodes dir }
+        ensures { (path : Path) → StandsAt self.now path dir
+            → number_at self.now.nodes (path ++ name.now ∷ []) ≡ result }
+    {
+        self.places.child(dir, name)
     }
 
     /// What a node is.
@@ -208,7 +219,17 @@ impl Tree {
     pub fn check(&self, alloc: Global, call: &Call) -> Result<Option<Refusal>, NoMemory>
         ensures { IfOk result (λ refusal. refusal ≡ refusal_of (plain_of whole self.now) call.now) }
     {
-        check_call(self, alloc, call)
+        match self.place(alloc, call)? {
+            Ok(_) => Ok(None),
+            Err(refusal) => Ok(Some(refusal)),
+        }
+    }
+
+    /// Which nodes a call is about, or why it is refused, where no byte is lost on the tape.
+    pub fn place(&self, alloc: Global, call: &Call) -> Result<Result<Ready, Refusal>, NoMemory>
+        ensures { IfOk result (λ placed. IsPlaced self.now call.now placed) }
+    {
+        place_call(self, alloc, call)
     }
 
     /// Makes room for one more node.
