@@ -1,11 +1,12 @@
-ghost use Rattle.std.specs.Prelude.{◌≡◌, None, Some};
+ghost use Rattle.std.specs.Prelude.{◌≡◌, ◌≢◌, None, Some};
 ghost use Rattle.plain_tree.specs.declared.calls.Call.{Call as Asked};
-ghost use Rattle.plain_tree.specs.Paths as paths;
+ghost use Rattle.plain_tree.specs.Paths.{Path, parent_of};
 ghost use Rattle.plain_tree.specs.Refusals.{refusal_of};
-ghost use Rattle.file_tree.specs.Tree.{plain_of, whole};
 ghost use Rattle.file_tree.specs.Edits.{making};
+ghost use Rattle.file_tree.specs.Ready.{IsReady};
+ghost use Rattle.file_tree.specs.Tree.{StandsAt, plain_of, whole};
 
-use file_tree::{Found, Tree};
+use file_tree::{Ready, Tree};
 use plain_tree::{Call, Sort};
 use std::alloc::Global;
 use tape_types::{Moment, NoMemory, Text};
@@ -18,62 +19,72 @@ pub const AT: Moment = Moment {
 
 /// Makes, renames or removes a node, where the tree doesn't refuse that.
 pub fn apply(alloc: Global, tree: &mut Tree, call: &Call) -> Result<(), NoMemory> {
-    if tree.check(alloc, call)?.is_some() {
-        return Ok(());
+    match tree.place(alloc, call)? {
+        Ok(ready) => change(alloc, tree, call, ready),
+        Err(_) => Ok(()),
     }
+}
+
+fn change(alloc: Global, tree: &mut Tree, call: &Call, ready: Ready) -> Result<(), NoMemory>
+    requires free { refusal_of (plain_of whole tree.old) call.now ≡ None }
+    requires ready { IsReady tree.old call.now ready }
+{
     match call {
-        Call::Mkdir { path } => make(alloc, tree, path.as_slice(), Sort::Dir),
-        Call::Create { path } => make(alloc, tree, path.as_slice(), Sort::File),
-        Call::Rename { from, to } => rename(alloc, tree, from.as_slice(), to.as_slice()),
-        Call::Remove { path } => {
-            remove(tree, path.as_slice());
+        Call::Mkdir { path } => {
+            if let Ready::Make { dir } = ready {
+                make(alloc, tree, dir, path.as_slice(), Sort::Dir)?;
+            }
+            Ok(())
+        }
+        Call::Create { path } => {
+            if let Ready::Make { dir } = ready {
+                make(alloc, tree, dir, path.as_slice(), Sort::File)?;
+            }
+            Ok(())
+        }
+        Call::Rename { to, .. } => {
+            if let Ready::Move { number, dir } = ready {
+                rename(alloc, tree, number, dir, to.as_slice())?;
+            }
+            Ok(())
+        }
+        Call::Remove { .. } => {
+            if let Ready::At { number } = ready {
+                tree.unlink(number, AT);
+            }
             Ok(())
         }
         _ => Ok(()),
     }
 }
 
-fn make(alloc: Global, tree: &mut Tree, path: &[Text], sort: Sort) -> Result<(), NoMemory>
-    requires { (call : Asked) × (making sort path.now ≡ Some call)
+fn make(alloc: Global, tree: &mut Tree, dir: u32, path: &[Text], sort: Sort) -> Result<(), NoMemory>
+    requires free { (call : Asked) × (making sort path.now ≡ Some call)
         × (refusal_of (plain_of whole tree.old) call ≡ None) }
+    requires stands { StandsAt tree.old (parent_of path.now) dir }
 {
     tree.reserve()?;
-    if let Some((name, front)) = path.split_last() {
+    if let Some((name, _)) = path.split_last() {
         let name = name.try_clone(alloc)?;
-        if let Found::Node(dir) = tree.find(front) {
-            let _number = tree.make(dir, name, sort, AT);
-        }
+        let _number = tree.make(dir, name, sort, AT);
     }
     Ok(())
 }
 
-fn rename(alloc: Global, tree: &mut Tree, from: &[Text], to: &[Text]) -> Result<(), NoMemory>
-    requires { refusal_of (plain_of whole tree.old) (Call.Rename from.now to.now) ≡ None }
+fn rename(
+    alloc: Global,
+    tree: &mut Tree,
+    number: u32,
+    dir: u32,
+    to: &[Text],
+) -> Result<(), NoMemory>
+    requires node { (from : Path) × (from ≢ to.now) × StandsAt tree.old from number
+        × (refusal_of (plain_of whole tree.old) (Call.Rename from to.now) ≡ None) }
+    requires dir { StandsAt tree.old (parent_of to.now) dir }
 {
-    if same_path(from, to) {
-        return Ok(());
-    }
-    if let Some((name, up)) = to.split_last() {
+    if let Some((name, _)) = to.split_last() {
         let name = name.try_clone(alloc)?;
-        if let Found::Node(number) = tree.find(from) {
-            if let Found::Node(dir) = tree.find(up) {
-                tree.move_to(number, dir, name, AT);
-            }
-        }
+        tree.move_to(number, dir, name, AT);
     }
     Ok(())
-}
-
-fn same_path(one: &[Text], other: &[Text]) -> bool
-    ensures { result ≡ paths.same_path one.now other.now }
-{
-    one == other
-}
-
-fn remove(tree: &mut Tree, path: &[Text])
-    requires { refusal_of (plain_of whole tree.old) (Call.Remove path.now) ≡ None }
-{
-    if let Found::Node(number) = tree.find(path) {
-        tree.unlink(number, AT);
-    }
 }
