@@ -10,6 +10,7 @@ ghost use Rattle.plain_tree.specs.Calls.{answer};
 ghost use Rattle.plain_tree.specs.Refusals.{refusal_of};
 ghost use Rattle.std.specs.FinMap as fin;
 ghost use Rattle.file_tree.specs.Mounts.{IsTreeOf};
+ghost use Rattle.file_tree.specs.Ready.{IsReady};
 ghost use Rattle.file_tree.specs.Tree.{plain_of, whole};
 ghost use Rattle.file_tree.specs.Valid.{IsGood};
 ghost use Rattle.tape_layout.specs.Ops.{HasRoom, held_in};
@@ -26,7 +27,7 @@ use crate::looks::{list, plan, stat};
 use crate::syncs::{admit_due, due_document, most_ops, sync};
 use crate::writes::write;
 use extent_map::Piece;
-use file_tree::{Carried, Tree};
+use file_tree::{Carried, Ready, Tree};
 use ltfs_label::Label;
 use plain_tree::{Answer, Call, Refusal};
 use std::alloc::Global;
@@ -110,15 +111,17 @@ impl Stock {
             → IsApplied early g on st call.now at self.old self.new result }
         ensures leaves { LeavesAll self.old self.new result }
     {
-        if let Some(refusal) = self.tree.check(self.alloc, call)? {
-            return Ok(Some(refusal));
-        }
+        let ready = match self.tree.place(self.alloc, call)? {
+            Ok(ready) => ready,
+            Err(refusal) => return Ok(Some(refusal)),
+        };
         let done = change(
             self.alloc,
             &mut self.tree,
             &mut self.layout,
             &mut self.frame,
             call,
+            ready,
             at,
         );
         match done {
@@ -321,9 +324,11 @@ fn change(
     layout: &mut Layout,
     frame: &mut Frame,
     call: &Call,
+    ready: Ready,
     at: Moment,
 ) -> Result<(), AdmitErr>
     requires free { refusal_of (plain_of whole tree.old) call.now ≡ None }
+    requires ready { IsReady tree.old call.now ready }
     requires generation { frame.old.generation ≤ 2 ^ 62 }
     ensures applied { (early : Tape) (g : Given) (on : Bool) (st : Standing)
         → IsStock early g on st (stocked tree.old layout.old frame.old)
@@ -348,7 +353,7 @@ fn change(
             at,
         ),
         Call::Sync => sync(alloc, tree, layout, frame, at),
-        _ => change_alone(alloc, tree, frame, call, at),
+        _ => change_alone(alloc, tree, frame, call, ready, at),
     }
 }
 
@@ -358,9 +363,11 @@ fn change_alone(
     tree: &mut Tree,
     frame: &mut Frame,
     call: &Call,
+    ready: Ready,
     at: Moment,
 ) -> Result<(), AdmitErr>
     requires free { refusal_of (plain_of whole tree.old) call.now ≡ None }
+    requires ready { IsReady tree.old call.now ready }
     requires stores { StoresNothing call.now }
     ensures applied { (l : Plan) (early : Tape) (g : Given) (on : Bool) (st : Standing)
         → IsStock early g on st (stocked tree.old l frame.old)
@@ -369,7 +376,7 @@ fn change_alone(
         → IsUnchanged (stocked tree.old l frame.old) (stocked tree.new l frame.new)) }
     ensures generation { frame.new.generation ≡ frame.old.generation }
 {
-    let Ok(changed) = change_tree(tree, alloc, call, at) else {
+    let Ok(changed) = change_tree(tree, alloc, call, ready, at) else {
         return Err(AdmitErr::NoMemory);
     };
     note(frame, changed);

@@ -1,9 +1,14 @@
-use Rattle.std.proofs.Common.{sym, ◌∙◌}
+use Rattle.plain_tree.specs.Paths.{same_path}
+use Rattle.plain_tree.specs.declared.calls.Call.TheVariants as asks
+use Rattle.plain_tree.proofs.MoveLemmas.{not_true, same_is}
+use Rattle.std.proofs.Common.{subst}
+use Rattle.file_tree.specs.Ready.{IsReady}
+use Rattle.file_tree.specs.declared.ready.Ready.{Ready}
 use Rattle.volume_stock.proofs.changes.rename.Goals as goal
-use Rattle.volume_stock.proofs.Asks.{rename_changes, rename_still}
+use Rattle.volume_stock.proofs.Asks.{rename_changes}
 
-pub returns-then-same_path-clause-ok : goal.returns-then-same_path-clause-ok
-returns-then-same_path-clause-ok c = rename_still c.args.tree.now c.args.at c.args.from.now c.args.to.now (sym c.same_path.ensures ∙ c.if-same_path.true)
-
-pub returns-clause-ok : goal.returns-clause-ok
-returns-clause-ok c = rename_changes c.args.tree.now c.move_to.new.tree c.args.at c.args.from.now c.args.to.now (sym c.same_path.ensures ∙ c.if-same_path.false) c.requires c.in_ok-move_to.ensures.ok
+pub returns-in_ok-move_to-in-Move-clause-ok : goal.returns-in_ok-move_to-in-Move-clause-ok
+returns-in_ok-move_to-in-Move-clause-ok c =
+    let ready = subst (λ (r : Ready). IsReady c.args.tree.now (asks.Rename c.args.from.now c.args.to.now) r) c.in-Move.is c.requires.ready in
+    rename_changes c.args.tree.now c.move_to.new.tree c.args.at c.args.from.now c.args.to.now
+    (not_true (same_path c.args.from.now c.args.to.now) (λ same. ready.0 (same_is c.args.from.now c.args.to.now same))) c.requires.free c.in_ok-move_to-in-Move.ensures.ok
