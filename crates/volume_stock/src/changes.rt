@@ -4,7 +4,7 @@ ghost use Rattle.std.specs.Prelude.{◌≡◌, ◌≢◌, None, Some, OnErr, OnO
 ghost use Rattle.extent_map.specs.Cells.{Tape};
 ghost use Rattle.extent_map.specs.Laid.{resized};
 ghost use Rattle.plain_tree.specs.Paths as paths;
-ghost use Rattle.plain_tree.specs.Refusals.{no_node, refusal_of};
+ghost use Rattle.plain_tree.specs.Refusals.{refusal_of};
 ghost use Rattle.plain_tree.specs.Tree.{cells_at};
 ghost use Rattle.plain_tree.specs.declared.calls.Call.{Call as Asked};
 ghost use Rattle.file_tree.specs.Edits.{CanMake, making};
@@ -13,21 +13,10 @@ ghost use Rattle.file_tree.specs.Tree.{StandsAt, plain_of, whole};
 ghost use Rattle.volume_stock.specs.Applied.{IsTreeStep, StoresNothing};
 ghost use Rattle.volume_stock.specs.Steps.{IsSameTree, IsStep, file_changed};
 
-use file_tree::{Found, Ready, Tree};
+use file_tree::{Ready, Tree};
 use plain_tree::{Call, Sort};
 use std::alloc::Global;
 use tape_types::{Moment, NoMemory, Text};
-
-/// The number of the node at a path.
-pub fn node_at(tree: &Tree, path: &[Text]) -> u32
-    requires { no_node (plain_of whole tree.now).nodes path.now ≡ None }
-    ensures { StandsAt tree.now path.now result }
-{
-    match tree.find(path) {
-        Found::Node(number) => number,
-        Found::Missing | Found::NotDir => unreachable!(),
-    }
-}
 
 /// The directory in which a call makes a node.
 fn dir_of(tree: &Tree, path: &[Text], ready: Ready) -> u32
@@ -42,7 +31,7 @@ fn dir_of(tree: &Tree, path: &[Text], ready: Ready) -> u32
 }
 
 /// The node that a call is about.
-fn number_of(tree: &Tree, path: &[Text], ready: Ready) -> u32
+pub fn number_of(tree: &Tree, path: &[Text], ready: Ready) -> u32
     requires { IsReady tree.now (Call.Stat path.now) ready }
     ensures { StandsAt tree.now path.now result }
 {

@@ -3,15 +3,14 @@
 ghost use Rattle.std.specs.Prelude.{◌≡◌, Bool, None, IfOk};
 ghost use Rattle.extent_map.specs.Cells.{Tape};
 ghost use Rattle.plain_tree.specs.Calls.{answer};
-ghost use Rattle.plain_tree.specs.Refusals.{refusal_of};
-ghost use Rattle.file_tree.specs.Tree.{plain_of, whole};
+ghost use Rattle.plain_tree.specs.Refusals.{no_node, refusal_of};
+ghost use Rattle.file_tree.specs.Tree.{StandsAt, plain_of, whole};
 ghost use Rattle.tape_layout.specs.Plans.{Plan};
 ghost use Rattle.volume_space.specs.Standing.{Given, Standing};
 ghost use Rattle.volume_stock.specs.Reads.{IsPlanOfAtMost, IsReadPlan};
 ghost use Rattle.volume_stock.specs.Stocks.{IsStock, stocked};
 ghost use Rattle.volume_sync.specs.declared.frames.Frame.{Frame};
 
-use crate::changes::node_at;
 use extent_map::Piece;
 use file_tree::{Found, Tree};
 use plain_tree::{Answer, Call, Refusal, Sort};
@@ -47,6 +46,17 @@ pub fn stat(tree: &Tree, alloc: Global, path: &[Text]) -> Result<Answer, NoMemor
         },
         Found::Missing => Ok(Answer::Refused(Refusal::NotFound)),
         Found::NotDir => Ok(Answer::Refused(Refusal::NotDir)),
+    }
+}
+
+/// The number of the node at a path.
+fn node_at(tree: &Tree, path: &[Text]) -> u32
+    requires { no_node (plain_of whole tree.now).nodes path.now ≡ None }
+    ensures { StandsAt tree.now path.now result }
+{
+    match tree.find(path) {
+        Found::Node(number) => number,
+        Found::Missing | Found::NotDir => unreachable!(),
     }
 }
 

@@ -21,7 +21,7 @@ ghost use Rattle.volume_stock.specs.Reads.{IsPlanOfAtMost, IsReadPlan};
 ghost use Rattle.volume_stock.specs.Stocks.{IsStock, stocked, with_change};
 ghost use Rattle.volume_stock.specs.Syncs.{BringsAtMost, IsDocument};
 
-use crate::changes::change_tree;
+use crate::changes::{change_tree, number_of};
 use crate::closings::{ClosingTexts, admit_on_ip, closing_texts};
 use crate::looks::{list, plan, stat};
 use crate::syncs::{admit_due, due_document, most_ops, sync};
@@ -343,15 +343,20 @@ fn change(
             path,
             offset,
             bytes,
-        } => write(
-            tree,
-            layout,
-            frame,
-            path.as_slice(),
-            *offset,
-            bytes.as_slice(),
-            at,
-        ),
+        } => {
+            let path = path.as_slice();
+            let file = number_of(tree, path, ready);
+            write(
+                tree,
+                layout,
+                frame,
+                path,
+                file,
+                *offset,
+                bytes.as_slice(),
+                at,
+            )
+        }
         Call::Sync => sync(alloc, tree, layout, frame, at),
         _ => change_alone(alloc, tree, frame, call, ready, at),
     }

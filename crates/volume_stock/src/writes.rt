@@ -15,7 +15,6 @@ ghost use Rattle.volume_stock.specs.Applied.{IsChange, IsUnchanged};
 ghost use Rattle.volume_stock.specs.Steps.{IsSameTree, IsWrite};
 ghost use Rattle.volume_stock.specs.Stocks.{IsStock, stocked};
 
-use crate::changes::node_at;
 use file_tree::Tree;
 use index_model::Policy;
 use placement::chooses_ip;
@@ -24,17 +23,19 @@ use tape_layout::{AdmitErr, Layout};
 use tape_types::{Extent, Moment, NoMemory, Text};
 use volume_sync::Frame;
 
-/// Puts bytes into a file from an offset on: they are admitted for new blocks.
+/// Puts bytes into a file, which has this number, from an offset on: they are admitted for new blocks.
 pub fn write(
     tree: &mut Tree,
     layout: &mut Layout,
     frame: &mut Frame,
     path: &[Text],
+    file: u32,
     offset: u64,
     bytes: &[u8],
     at: Moment,
 ) -> Result<(), AdmitErr>
     requires free { refusal_of (plain_of whole tree.old) (Call.Write path.now offset bytes.now) ≡ None }
+    requires stands { StandsAt tree.old path.now file }
     ensures applied { (early : Tape) (g : Given) (on : Bool) (st : Standing)
         → IsStock early g on st (stocked tree.old layout.old frame.old)
         → IsChange early g on st (Call.Write path.now offset bytes.now) at (stocked tree.old layout.old frame.old)
@@ -46,7 +47,6 @@ pub fn write(
     if bytes.is_empty() {
         return Ok(());
     }
-    let file = node_at(tree, path);
     let _ends = layout.ends();
     let reserved = tree.reserve_extent(file);
     let _count = tree.count();

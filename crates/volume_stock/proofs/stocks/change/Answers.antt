@@ -7,8 +7,8 @@ use Rattle.volume_stock.proofs.Stands.{write_arm}
 
 pub returns-in-Write-clause-applied : goal.returns-in-Write-clause-applied
 returns-in-Write-clause-applied c early g on st i =
-    write_arm early g on st c.args.call.now c.in-Write.path c.as_slice.result.now c.in-Write.offset c.in-Write.bytes c.as_slice-in-Write.result.now c.args.at _ _ c.write.result
-    c.in-Write.is c.as_slice.ensures c.as_slice-in-Write.ensures (c.write.ensures.applied early g on st i)
+    write_arm early g on st c.args.call.now c.in-Write.path c.as_slice-path.result.now c.in-Write.offset c.in-Write.bytes c.as_slice.result.now c.args.at _ _ c.write.result
+    c.in-Write.is c.as_slice-path.ensures c.as_slice.ensures (c.write.ensures.applied early g on st i)
 
 pub returns-in-Sync-clause-applied : goal.returns-in-Sync-clause-applied
 returns-in-Sync-clause-applied c early g on st i =

@@ -15,7 +15,7 @@ returns-then-is_empty-clause-applied c early g on st i =
     (empty_asks g st c.args.path.now c.args.offset c.args.bytes.now c.args.at (c.if-is_empty.ensures {u = tt}))
 
 pub reserve_extent-reserved-requires : goal.reserve_extent-reserved-requires
-reserve_extent-reserved-requires c = file_there c.args.tree.now c.args.path.now c.node_at-file.result c.node_at-file.ensures (long_free (plain_of whole c.args.tree.now) c.args.path.now (c.args.offset + length c.args.bytes.now) c.requires.free).0
+reserve_extent-reserved-requires c = file_there c.args.tree.now c.args.path.now c.args.file c.requires.stands (long_free (plain_of whole c.args.tree.now) c.args.path.now (c.args.offset + length c.args.bytes.now) c.requires.free).0
 
 pub returns-then-is_err-clause-err : goal.returns-then-is_err-clause-err
 returns-then-is_err-clause-err c =
@@ -24,11 +24,11 @@ returns-then-is_err-clause-err c =
 
 pub wants_ip-wanted-requires-clause-file : goal.wants_ip-wanted-requires-clause-file
 wants_ip-wanted-requires-clause-file c =
-    let was = file_there c.args.tree.now c.args.path.now c.node_at-file.result c.node_at-file.ensures (long_free (plain_of whole c.args.tree.now) c.args.path.now (c.args.offset + length c.args.bytes.now) c.requires.free).0 in
-    still_file c.args.tree.now c.reserve_extent-reserved.new.self c.node_at-file.result was c.reserve_extent-reserved.ensures.extents
+    let was = file_there c.args.tree.now c.args.path.now c.args.file c.requires.stands (long_free (plain_of whole c.args.tree.now) c.args.path.now (c.args.offset + length c.args.bytes.now) c.requires.free).0 in
+    still_file c.args.tree.now c.reserve_extent-reserved.new.self c.args.file was c.reserve_extent-reserved.ensures.extents
 
 pub wants_ip-wanted-requires-clause-stands : goal.wants_ip-wanted-requires-clause-stands
-wants_ip-wanted-requires-clause-stands c = c.reserve_extent-reserved.ensures.numbers c.args.path.now c.node_at-file.result c.node_at-file.ensures
+wants_ip-wanted-requires-clause-stands c = c.reserve_extent-reserved.ensures.numbers c.args.path.now c.args.file c.requires.stands
 
 pub returns-in-Err-clause-applied : goal.returns-in-Err-clause-applied
 returns-in-Err-clause-applied c early g on st i =
@@ -48,8 +48,8 @@ returns-in-Err-clause-err c =
 pub overlay-requires : goal.overlay-requires
 overlay-requires c =
     let free = long_free (plain_of whole c.args.tree.now) c.args.path.now (c.args.offset + length c.args.bytes.now) c.requires.free in
-    let was = file_there c.args.tree.now c.args.path.now c.node_at-file.result c.node_at-file.ensures free.0 in
-    can_put c.reserve_extent-reserved.new.self c.node_at-file.result (still_file c.args.tree.now c.reserve_extent-reserved.new.self c.node_at-file.result was c.reserve_extent-reserved.ensures.extents)
+    let was = file_there c.args.tree.now c.args.path.now c.args.file c.requires.stands free.0 in
+    can_put c.reserve_extent-reserved.new.self c.args.file (still_file c.args.tree.now c.reserve_extent-reserved.new.self c.args.file was c.reserve_extent-reserved.ensures.extents)
     c.args.layout.now c.wants_ip-wanted.result c.args.bytes.now c.args.offset c.in-Ok.place c.count-count.ensures.good
     (is_ok_then c.reserve_extent-reserved.result (c.if-is_err.ensures {u = tt}).value c.reserve_extent-reserved.ensures.room)
     (some_bytes c.args.bytes.now (c.if-is_empty.ensures {u = tt})) free.1 c.ends-ends.ensures.standing (c.in-Ok.ensures {u = tt}).1
@@ -62,5 +62,5 @@ returns-clause-applied c early g on st i =
     let some = some_bytes c.args.bytes.now (c.if-is_empty.ensures {u = tt}) in
     write_all c.args.tree.now c.reserve_extent-reserved.new.self c.overlay.new.tree c.args.layout.now c.admit_data.new.self c.args.frame.now c.args.path.now c.args.offset c.args.bytes.now c.args.at c.wants_ip-wanted.result c.in-Ok.place
     same some free c.count-count.ensures.good.some_block c.wants_ip-wanted.ensures
-    (c.overlay.ensures c.args.path.now c.args.bytes.now (r.numbers c.args.path.now c.node_at-file.result c.node_at-file.ensures) free some)
+    (c.overlay.ensures c.args.path.now c.args.bytes.now (r.numbers c.args.path.now c.args.file c.requires.stands) free some)
     (c.in-Ok.ensures {u = tt}) early g on st i
