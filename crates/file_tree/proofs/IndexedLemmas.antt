@@ -1,31 +1,27 @@
 -- What is kept beside the places through each change.
-use Rattle.std.proofs.Common.{Option, ◌≡◌, ◌≢◌, ℕ, suc, ◌+◌, ◌<◌, ◌≤◌, true, false, cond, eqb, List, [], ◌∷◌, ◌++◌, length, take, drop, Some, None, IsSome, is_some, sym, ap, ◌∙◌, refl, subst, arith, inl, inr, ⊎_elim}
-use Rattle.std.specs.List.{AllByRecursion, insert, remove}
-use Rattle.std.specs.Option.{option_map}
-use Rattle.std.specs.Ordering.{is_lt}
-use Rattle.std.specs.declared.cmp.Ordering.TheVariants.{Less}
+use Rattle.std.proofs.Common.{Option, ◌≡◌, ◌≢◌, ℕ, ◌+◌, ◌<◌, ◌≤◌, true, false, cond, eqb, List, [], ◌∷◌, ◌++◌, length, ◌*◌, ◌/◌, ◌%◌, ◌^◌, mod-lt, div-lt_iff_lt-mul, mul-lt-mul_of_pos_right, mul_comm, Some, None, IsSome, is_some, sym, ap, ◌∙◌, refl, subst, arith, inl, inr, ⊎_elim}
 use Rattle.std.proofs.lemmas.Bool.Decides.{nat_tests}
-use Rattle.std.proofs.lemmas.Bool.{cases_eq}
 use Rattle.std.specs.FinMap as fin
-use Rattle.std.proofs.lemmas.List.{length-append, append-nil}
-use Rattle.std.proofs.lemmas.List.Edits.{length-insert, length-remove}
-use Rattle.std.proofs.lemmas.Option.{slice_get_within}
-use Rattle.plain_tree.specs.Paths.{Name, Path, parent_of, is_at_or_below}
-use Rattle.plain_tree.proofs.MoveLemmas.{below_join}
+use Rattle.plain_tree.specs.Paths.{Name, Path, parent_of}
 use Rattle.plain_tree.proofs.SeenLemmas.{unlike}
-use Rattle.index_model.specs.Places.{IsAt}
 use Rattle.file_tree.specs.declared.nodes.Spot.{Spot}
 use Rattle.file_tree.specs.declared.nodes.Node.{Node}
 use Rattle.file_tree.specs.Tree.{Nodes, number_at}
 use Rattle.file_tree.specs.Seen.{Held, held, IsKept, IsShown}
-use Rattle.file_tree.specs.Places.{used, IsSetIn, IsChangedIn}
-use Rattle.file_tree.specs.Order.{IsIn, Key, key_cmp, key_at, Ascend, IsNode, KeysDiffer, IsOrdered, AreEmpty, IsIndexed, IsChildAt}
+use Rattle.file_tree.specs.Places.{IsSetIn, IsChangedIn}
+use Rattle.file_tree.specs.declared.chains.Chains.{Chains}
+use Rattle.file_tree.specs.declared.chains.By.{By}
+use Rattle.file_tree.specs.declared.chains.By.TheVariants as ways
+use Rattle.file_tree.specs.Chains.{AreIn, AreLinked, class_of, classes_of, hashed}
+use Rattle.file_tree.specs.Beside.{CanPutIn, IsIndexed}
+use Rattle.file_tree.specs.Order.{IsIn, Key, IsNode, KeysDiffer, AreEmpty}
 use Rattle.file_tree.proofs.PathLemmas.{some_same, number_is, node_at}
 use Rattle.file_tree.proofs.ShownLemmas.{stands, stands_in}
 use Rattle.file_tree.proofs.PlaceLemmas.{there_held, held_within}
 use Rattle.file_tree.proofs.ToldLemmas.{above_now}
-use Rattle.file_tree.proofs.MemberLemmas.{Up, found, of_all, to_all, in_front, in_rest, in_either, up_front, up_rest, up_across, up_join, halves, split_at}
-use Rattle.file_tree.proofs.KeyLemmas.{Before, as_up, from_up, key_of, after, not_itself, less_is}
+use Rattle.file_tree.proofs.MemberLemmas.{in_front, in_rest, in_either}
+use Rattle.file_tree.proofs.KeyLemmas.{key_of}
+use Rattle.file_tree.proofs.ClassLemmas.{changed_in}
 
 pub is_there : (at : Held) (n : ℕ) → IsSome (at n) → (z : Spot) × (at n ≡ Some z)
 is_there at n some = by (at n) refl
@@ -33,142 +29,6 @@ is_there at n some = by (at n) refl
     by : (o : Option Spot) → at n ≡ o → (z : Spot) × (at n ≡ Some z)
     by None e = let wrong : false ≡ true = sym (ap is_some e) ∙ some in cc
     by (Some z) e = (z, e)
-
--- what is kept by the same names stands in the same order
-same_before : (at next : Held) (ns : List ℕ) → ((n : ℕ) → IsIn n ns → next n ≡ at n) → Up (Before at) ns → Up (Before next) ns
-same_before at next [] same up = tt
-same_before at next (n ∷ ns) same up = (
-  to_all (Before next n) ns (λ k here.
-      ap (λ o. key_cmp (option_map key o) (key_at next k)) (same n (inl refl)) ∙ ap (λ o. key_cmp (key_at at n) (option_map key o)) (same k (inr here)) ∙ of_all (Before at n) k ns up.0 here),
-  same_before at next ns (λ k here. same k (inr here)) up.1,
-)
-  where
-    key : Spot → Key
-    key z = (z.parent, z.name)
-
--- one more is kept, at a number where nothing was, under a name that no other has
-module _ (at next : Held) (order : List ℕ) (o : IsOrdered at order) (n k : ℕ) (z : Spot) (put : IsKept at next n (Some z)) (unused : at n ≡ None) (other : n ≢ 0)
-    (comes : AllByRecursion (λ m. is_lt (key_cmp (key_at at m) (Some (z.parent, z.name))) ≡ true) (take k order))
-    (past : AllByRecursion (λ m. is_lt (key_cmp (key_at at m) (Some (z.parent, z.name))) ≡ false) (drop k order))
-    (free : (m : ℕ) → IsChildAt at z.parent z.name m → ⊥) where
-  not_in : (m : ℕ) → IsIn m order → m ≢ n
-  not_in m here e =
-      let some : is_some (at m) ≡ true = (of_all (IsNode at) m order o.each here).1 in
-      let wrong : false ≡ true = sym (ap is_some (ap at e ∙ unused)) ∙ some in cc
-
-  whole : take k order ++ drop k order ≡ order
-  whole = halves k order
-
-  in_order : (m : ℕ) → IsIn m (take k order ++ drop k order) → IsIn m order
-  in_order m here = subst (IsIn m) whole here
-
-  same : (m : ℕ) → IsIn m (take k order ++ drop k order) → next m ≡ at m
-  same m here = put.others m (not_in m (in_order m here))
-
-  ups : Up (Before next) (take k order ++ drop k order)
-  ups = same_before at next (take k order ++ drop k order) same (subst (Up (Before at)) (sym whole) (as_up at order o.ascend))
-
-  new_key : key_at next n ≡ Some (z.parent, z.name)
-  new_key = key_of next n z put.here
-
-  old_key : (m : ℕ) → IsIn m (take k order ++ drop k order) → key_at next m ≡ key_at at m
-  old_key m here = ap (option_map (λ (z : Spot). (z.parent, z.name))) (same m here)
-
-  front_before : (m : ℕ) → IsIn m (take k order) → Before next m n
-  front_before m here =
-      ap (λ a. key_cmp a (key_at next n)) (old_key m (in_front m (take k order) (drop k order) here)) ∙ ap (key_cmp (key_at at m)) new_key
-      ∙ less_is _ (of_all (λ m. is_lt (key_cmp (key_at at m) (Some (z.parent, z.name))) ≡ true) m (take k order) comes here)
-
-  rest_after : (m : ℕ) → IsIn m (drop k order) → Before next n m
-  rest_after m here =
-      let in_both = in_rest m (take k order) (drop k order) here in
-      ap (λ a. key_cmp a (key_at next m)) new_key ∙ ap (key_cmp (Some (z.parent, z.name))) (old_key m in_both)
-      ∙ after (key_at at m) (Some (z.parent, z.name)) (of_all (λ m. is_lt (key_cmp (key_at at m) (Some (z.parent, z.name))) ≡ false) m (drop k order) past here) (differs m (in_order m in_both))
-    where
-      differs : (m : ℕ) → IsIn m order → key_at at m ≡ Some (z.parent, z.name) → ⊥
-      differs m here e =
-          let node = of_all (IsNode at) m order o.each here in
-          let spot = is_there at m node.1 in
-          let keys : (spot.0.parent, spot.0.name) ≡ (z.parent, z.name) = some_same _ _ (sym (key_of at m spot.0 spot.1) ∙ e) in
-          free m (record {
-            there = record { other = node.0; spot = spot.0; is = spot.1; parent = ap (λ (q : Key). q.0) keys };
-            named = ap (λ (q : Key). q.1) keys;
-          })
-
-  pub put_ordered : IsOrdered next (insert order k n)
-  put_ordered = record {
-    each = to_all (IsNode next) (take k order ++ n ∷ drop k order) (λ m here. ⊎_elim
-        (λ front. kept m (in_front m (take k order) (drop k order) front))
-        (λ (rest : IsIn m (n ∷ drop k order)). ⊎_elim
-        (λ (e : m ≡ n). subst (IsNode next) (sym e) (other, ap is_some put.here))
-        (λ more. kept m (in_rest m (take k order) (drop k order) more)) rest)
-        (in_either m (take k order) (n ∷ drop k order) here));
-    every = λ m node. elim (cases_eq m n) [
-      | inl e ↦ in_rest m (take k order) (n ∷ drop k order) (inl e)
-      | inr apart ↦
-          let was : IsNode at m = (node.0, ap is_some (sym (put.others m apart)) ∙ node.1) in
-          ⊎_elim
-          (λ front. in_front m (take k order) (n ∷ drop k order) front)
-          (λ rest. in_rest m (take k order) (n ∷ drop k order) (inr rest))
-          (in_either m (take k order) (drop k order) (subst (IsIn m) (sym whole) (o.every m was)))
-    ];
-    ascend = from_up next (take k order ++ n ∷ drop k order)
-        (up_join (Before next) (take k order) (n ∷ drop k order) (up_front (Before next) (take k order) (drop k order) ups)
-        (to_all (Before next n) (drop k order) rest_after, up_rest (Before next) (take k order) (drop k order) ups)
-        (λ a b front rest. ⊎_elim
-        (λ (e : b ≡ n). subst (Before next a) (sym e) (front_before a front))
-        (λ more. up_across (Before next) (take k order) (drop k order) ups a b front more) rest));
-  }
-    where
-      kept : (m : ℕ) → IsIn m (take k order ++ drop k order) → IsNode next m
-      kept m here = let node = of_all (IsNode at) m order o.each (in_order m here) in (node.0, ap is_some (same m here) ∙ node.1)
-
--- one that is kept no more
-module _ (at next : Held) (order : List ℕ) (o : IsOrdered at order) (n k : ℕ) (here : IsAt order k n) (put : IsKept at next n None) where
-  parts : order ≡ take k order ++ n ∷ drop (suc k) order
-  parts = split_at order k n here
-
-  old_ups : Up (Before at) (take k order ++ n ∷ drop (suc k) order)
-  old_ups = subst (Up (Before at)) parts (as_up at order o.ascend)
-
-  was_in : (m : ℕ) → IsIn m (take k order ++ drop (suc k) order) → IsIn m order
-  was_in m within = subst (IsIn m) (sym parts) (⊎_elim
-      (λ front. in_front m (take k order) (n ∷ drop (suc k) order) front)
-      (λ rest. in_rest m (take k order) (n ∷ drop (suc k) order) (inr rest))
-      (in_either m (take k order) (drop (suc k) order) within))
-
-  pub other_one : (m : ℕ) → IsIn m (take k order ++ drop (suc k) order) → m ≢ n
-  other_one m within e = ⊎_elim
-      (λ (front : IsIn m (take k order)). not_itself (key_at at n) (subst (λ j. Before at j n) e (up_across (Before at) (take k order) (n ∷ drop (suc k) order) old_ups m n front (inl refl))))
-      (λ (rest : IsIn m (drop (suc k) order)). not_itself (key_at at n) (subst (Before at n) e (of_all (Before at n) m (drop (suc k) order) (up_rest (Before at) (take k order) (n ∷ drop (suc k) order) old_ups).0 rest)))
-      (in_either m (take k order) (drop (suc k) order) within)
-
-  stays : (m : ℕ) → IsIn m (take k order ++ drop (suc k) order) → next m ≡ at m
-  stays m within = put.others m (other_one m within)
-
-  pub take_ordered : IsOrdered next (remove order k)
-  take_ordered = record {
-    each = to_all (IsNode next) (take k order ++ drop (suc k) order) (λ m within.
-        let node = of_all (IsNode at) m order o.each (was_in m within) in (node.0, ap is_some (stays m within) ∙ node.1));
-    every = λ m node.
-        let apart : m ≢ n = λ e. let wrong : false ≡ true = sym (ap is_some (ap next e ∙ put.here)) ∙ node.1 in cc in
-        let was : IsNode at m = (node.0, ap is_some (sym (put.others m apart)) ∙ node.1) in
-        ⊎_elim
-        (λ front. in_front m (take k order) (drop (suc k) order) front)
-        (λ (rest : IsIn m (n ∷ drop (suc k) order)). ⊎_elim (λ e. absurd (apart e)) (λ more. in_rest m (take k order) (drop (suc k) order) more) rest)
-        (in_either m (take k order) (n ∷ drop (suc k) order) (subst (IsIn m) parts (o.every m was)));
-    ascend = from_up next (take k order ++ drop (suc k) order) (same_before at next (take k order ++ drop (suc k) order) stays
-        (up_join (Before at) (take k order) (drop (suc k) order) (up_front (Before at) (take k order) (n ∷ drop (suc k) order) old_ups)
-        (up_rest (Before at) (take k order) (n ∷ drop (suc k) order) old_ups).1
-        (λ a b front rest. up_across (Before at) (take k order) (n ∷ drop (suc k) order) old_ups a b front (inr rest))));
-  }
-
-  -- what is left ascends still, by what was kept before
-  pub left_ascends : Ascend at (remove order k)
-  left_ascends = from_up at (take k order ++ drop (suc k) order)
-      (up_join (Before at) (take k order) (drop (suc k) order) (up_front (Before at) (take k order) (n ∷ drop (suc k) order) old_ups)
-      (up_rest (Before at) (take k order) (n ∷ drop (suc k) order) old_ups).1
-      (λ a b front rest. up_across (Before at) (take k order) (n ∷ drop (suc k) order) old_ups a b front (inr rest)))
 
 -- the same without what is kept at one number
 abbrev pub without : Held → ℕ → Held
@@ -179,72 +39,6 @@ taken_out at n = record {
   here = let same : eqb n n ≡ true = grind (arith, nat_tests) in ap (λ b. cond b None (at n)) same;
   others = λ m apart. let fails : eqb m n ≡ false = grind (arith, nat_tests, apart) in ap (λ b. cond b None (at m)) fails;
 }
-
--- one that is kept under another name
-module _ (at next : Held) (order : List ℕ) (o : IsOrdered at order) (n i k : ℕ) (z : Spot) (here : IsAt order i n) (put : IsKept at next n (Some z))
-    (comes : AllByRecursion (λ m. is_lt (key_cmp (key_at at m) (Some (z.parent, z.name))) ≡ true) (take k (remove order i)))
-    (past : AllByRecursion (λ m. is_lt (key_cmp (key_at at m) (Some (z.parent, z.name))) ≡ false) (drop k (remove order i)))
-    (free : (m : ℕ) → IsChildAt at z.parent z.name m → ⊥) where
-  abbrev middle : Held
-  middle = without at n
-
-  middle_is : IsKept at middle n None
-  middle_is = taken_out at n
-
-  left : IsOrdered middle (remove order i)
-  left = take_ordered at middle order o n i here middle_is
-
-  key_stays : (m : ℕ) → IsIn m (remove order i) → key_at middle m ≡ key_at at m
-  key_stays m within = ap (option_map (λ (z : Spot). (z.parent, z.name))) (middle_is.others m (other_one at middle order o n i here middle_is m within))
-
-  in_left_front : (m : ℕ) → IsIn m (take k (remove order i)) → IsIn m (remove order i)
-  in_left_front m within = subst (IsIn m) (halves k (remove order i)) (in_front m (take k (remove order i)) (drop k (remove order i)) within)
-
-  in_left_rest : (m : ℕ) → IsIn m (drop k (remove order i)) → IsIn m (remove order i)
-  in_left_rest m within = subst (IsIn m) (halves k (remove order i)) (in_rest m (take k (remove order i)) (drop k (remove order i)) within)
-
-  back_to : (m : ℕ) (spot : Spot) → middle m ≡ Some spot → at m ≡ Some spot
-  back_to m spot is = elim (cases_eq m n) [
-    | inl e ↦ let wrong : None ≡ Some spot = sym middle_is.here ∙ ap middle (sym e) ∙ is in cc
-    | inr apart ↦ sym (middle_is.others m apart) ∙ is
-  ]
-
-  pub shift_ordered : n ≢ 0 → IsOrdered next (insert (remove order i) k n)
-  shift_ordered other = put_ordered middle next (remove order i) left n k z
-      (record { here = put.here; others = λ m apart. put.others m apart ∙ sym (middle_is.others m apart) }) middle_is.here other
-      (to_all (λ m. is_lt (key_cmp (key_at middle m) (Some (z.parent, z.name))) ≡ true) (take k (remove order i)) (λ m within.
-      ap (λ a. is_lt (key_cmp a (Some (z.parent, z.name)))) (key_stays m (in_left_front m within)) ∙ of_all (λ m. is_lt (key_cmp (key_at at m) (Some (z.parent, z.name))) ≡ true) m (take k (remove order i)) comes within))
-      (to_all (λ m. is_lt (key_cmp (key_at middle m) (Some (z.parent, z.name))) ≡ false) (drop k (remove order i)) (λ m within.
-      ap (λ a. is_lt (key_cmp a (Some (z.parent, z.name)))) (key_stays m (in_left_rest m within)) ∙ of_all (λ m. is_lt (key_cmp (key_at at m) (Some (z.parent, z.name))) ≡ false) m (drop k (remove order i)) past within))
-      (λ m c. free m (record { there = record { other = c.there.other; spot = c.there.spot; is = back_to m c.there.spot c.there.is; parent = c.there.parent }; named = c.named }))
-
--- a node that is changed where it stands
-pub change_ordered : (at next : Held) (order : List ℕ) → IsOrdered at order → (n : ℕ) (old new : Spot) → at n ≡ Some old → IsKept at next n (Some new) → new.parent ≡ old.parent → new.name ≡ old.name → IsOrdered next order
-change_ordered at next order o n old new was put parent name = record {
-  each = to_all (IsNode next) order (λ m within. let node = of_all (IsNode at) m order o.each within in (node.0, there m ∙ node.1));
-  every = λ m node. o.every m (node.0, sym (there m) ∙ node.1);
-  ascend = all order o.ascend;
-}
-  where
-    key_same : (m : ℕ) → key_at next m ≡ key_at at m
-    key_same m = elim (cases_eq m n) [
-      | inl e ↦ ap (key_at next) e ∙ key_of next n new put.here ∙ ap (λ p. Some (p, new.name)) parent ∙ ap (λ x. Some (old.parent, x)) name ∙ sym (key_of at n old was) ∙ ap (key_at at) (sym e)
-      | inr apart ↦ ap (option_map (λ (z : Spot). (z.parent, z.name))) (put.others m apart)
-    ]
-
-    there : (m : ℕ) → is_some (next m) ≡ is_some (at m)
-    there m = elim (cases_eq m n) [
-      | inl e ↦ ap (λ j. is_some (next j)) e ∙ ap is_some put.here ∙ sym (ap is_some was) ∙ ap (λ j. is_some (at j)) (sym e)
-      | inr apart ↦ ap is_some (put.others m apart)
-    ]
-
-    all : (ns : List ℕ) → Ascend at ns → Ascend next ns
-    all [] up = tt
-    all (m ∷ ns) up = (
-      to_all (λ k. key_cmp (key_at next m) (key_at next k) ≡ Less) ns (λ k within.
-          ap (λ a. key_cmp a (key_at next k)) (key_same m) ∙ ap (key_cmp (key_at at m)) (key_same k) ∙ of_all (λ k. key_cmp (key_at at m) (key_at at k) ≡ Less) k ns up.0 within),
-      all ns up.1,
-    )
 
 -- ---- empty places
 
@@ -290,12 +84,6 @@ root_held spots m s n zero_is none =
     let here = s.rooted root.0 root.1 in
     unlike (held spots 0) (record { parent = 0; name = []; node = root.0 }) (ap (held spots) (sym zero_is) ∙ none) here
 
--- nothing stands under a name in a directory
-pub none_under : (spots : List (Option Spot)) (m : Nodes) → IsShown (held spots) m → (p : Path) (x : Name) (d : ℕ) → number_at m p ≡ Some d → fin.get m (p ++ x ∷ []) ≡ None → (n : ℕ) → IsChildAt (held spots) d x n → ⊥
-none_under spots m s p x d there free n c =
-    let here = stands_in (held spots) m s n c.there.spot p c.there.is c.there.other (there ∙ ap (λ k. Some k) (sym c.there.parent)) in
-    unlike (fin.get m (p ++ x ∷ [])) c.there.spot.node free (ap (λ y. fin.get m (p ++ y ∷ [])) (sym c.named) ∙ here)
-
 -- no two nodes stand under one name
 pub keys_differ : (spots : List (Option Spot)) (m : Nodes) → IsShown (held spots) m → KeysDiffer (held spots)
 keys_differ spots m s a b a_node b_node same =
@@ -311,68 +99,137 @@ keys_differ spots m s a b a_node b_node same =
     parent_there : (n : ℕ) (z : Spot) → held spots n ≡ Some z → (p : Path) × (number_at m p ≡ Some z.parent)
     parent_there n z is = let found = stands (held spots) m s n z is in (parent_of found.0, above_now (held spots) m s n z is found.0 (number_is m found.0 z.node found.1 ∙ ap (λ k. Some k) found.2))
 
-module _ (spots next : List (Option Spot)) (order free : List ℕ) (order_room free_room : ℕ) (i : IsIndexed spots order free order_room free_room) where
-  pub changed_indexed : (P : Node → Node → Type 0) (n : ℕ) → IsChangedIn spots next n P → IsIndexed next order free order_room free_room
-  changed_indexed P n c = record {
-    ordered = change_ordered (held spots) (held next) order i.ordered n c.old (record { parent = c.old.parent; name = c.old.name; node = c.new }) c.was c.kept refl refl;
-    empty = empty_more (held spots) (held next) (length spots) (length next) free (omega (arith, c.long))
-        (λ k here none. c.kept.others k (λ e. unlike (held spots n) c.old (ap (held spots) (sym e) ∙ none) c.was) ∙ none) i.empty;
-    counted = i.counted ∙ sym c.filled;
-    places = i.places ∙ sym c.long;
-    order_fits = omega (arith, i.order_fits, c.long);
-    free_fits = omega (arith, i.free_fits, c.long);
-  }
+pub changed_indexed : (P : Node → Node → Type 0) (spots next : List (Option Spot)) (siblings names : Chains) (free : List ℕ) (free_room n : ℕ)
+    → IsIndexed spots siblings names free free_room → IsChangedIn spots next n P → IsIndexed next siblings names free free_room
+changed_indexed P spots next siblings names free free_room n i c = record {
+  siblings_in = changed_in P siblings spots next n c i.siblings_in;
+  names_in = changed_in P names spots next n c i.names_in;
+  by_dir = i.by_dir;
+  by_name = i.by_name;
+  empty = empty_more (held spots) (held next) (length spots) (length next) free (omega (arith, c.long))
+      (λ k here none. c.kept.others k (λ e. unlike (held spots n) c.old (ap (held spots) (sym e) ∙ none) c.was) ∙ none) i.empty;
+  places = omega (arith, i.places, c.filled, c.long);
+  siblings_fit = omega (arith, i.siblings_fit, c.long);
+  classes_fit = i.classes_fit;
+  names_fit = i.names_fit;
+  some_names = i.some_names;
+  few_siblings = i.few_siblings;
+  few_names = i.few_names;
+  free_fits = omega (arith, i.free_fits, c.long);
+}
 
-  pub put_indexed : (new_order_room new_free_room : ℕ) (less after : List ℕ) (place n : ℕ) (z : Spot) → IsSetIn spots next n (Some z) → held spots n ≡ None → n ≢ 0 → place ≤ length order
-      → AllByRecursion (λ m. is_lt (key_cmp (key_at (held spots) m) (Some (z.parent, z.name))) ≡ true) (take place order)
-      → AllByRecursion (λ m. is_lt (key_cmp (key_at (held spots) m) (Some (z.parent, z.name))) ≡ false) (drop place order)
-      → ((m : ℕ) → IsChildAt (held spots) z.parent z.name m → ⊥) → AreEmpty (held next) (length next) less → used next ≡ used spots + 1
-      → length next + length free ≡ length spots + length less + 1 → length next ≤ new_order_room → length next ≤ new_free_room → after ≡ insert order place n
-      → IsIndexed next after less new_order_room new_free_room
-  put_indexed new_order_room new_free_room less after place n z set unused other within comes past none empty filled places order_fits free_fits is =
-      let long = length-insert order place n within in record {
-        ordered = subst (IsOrdered (held next)) (sym is) (put_ordered (held spots) (held next) order i.ordered n place z set.kept unused other comes past none);
-        empty = empty;
-        counted = omega (arith, ap length is, long, i.counted, filled);
-        places = omega (arith, ap length is, long, i.places, places);
-        order_fits = order_fits;
-        free_fits = free_fits;
-      }
+-- a directory has a number that is below the count of places
+pub dir_below : (spots : List (Option Spot)) (m : Nodes) → IsShown (held spots) m → (n : ℕ) (z : Spot) → held spots n ≡ Some z → z.parent < length spots
+dir_below spots m s n z is =
+    let found = stands (held spots) m s n z is in
+    let up = above_now (held spots) m s n z is found.0 (number_is m found.0 z.node found.1 ∙ ap (λ k. Some k) found.2) in
+    held_within spots z.parent (there_held (held spots) m s z.parent (parent_of found.0, up))
 
-  pub take_indexed : (new_order_room new_free_room : ℕ) (left more : List ℕ) (k n : ℕ) → IsAt order k n → IsSetIn spots next n None → used next + 1 ≡ used spots → length next ≡ length spots → left ≡ remove order k → more ≡ free ++ n ∷ [] → order_room ≤ new_order_room → free_room ≤ new_free_room
-      → IsIndexed next left more new_order_room new_free_room
-  take_indexed new_order_room new_free_room left more k n here set filled slots left_is more_is order_le free_le =
-      let node = of_all (IsNode (held spots)) n order i.ordered.each (found n order k here) in
-      let spot = is_there (held spots) n node.1 in
-      let within = held_within spots n node.1 in
-      let long = length-remove order k (slice_get_within order k n here) in record {
-        ordered = subst (IsOrdered (held next)) (sym left_is) (take_ordered (held spots) (held next) order i.ordered n k here set.kept);
-        empty = subst (AreEmpty (held next) (length next)) (sym more_is) (empty_push (held next) (length next) free n
-            (empty_more (held spots) (held next) (length spots) (length next) free (omega (arith, slots)) (λ m in_free none. set.kept.others m (λ e. unlike (held spots n) spot.0 (ap (held spots) (sym e) ∙ none) spot.1) ∙ none) i.empty)
-            (omega (arith, within, slots)) set.kept.here (λ in_free. unlike (held spots n) spot.0 (all_none (held spots) (length spots) free i.empty n in_free) spot.1));
-        counted = omega (arith, ap length left_is, long, i.counted, filled);
-        places = omega (arith, ap length left_is, ap length more_is, length-append free (n ∷ []), long, i.places, slots);
-        order_fits = omega (arith, i.order_fits, slots, order_le);
-        free_fits = omega (arith, i.free_fits, slots, free_le);
-      }
+-- a class by the name is one of so many
+hashed_small : (h : ℕ) (name : Name) → h < 2 ^ 32 → hashed h name < 2 ^ 32
+hashed_small h [] low = low
+hashed_small h (b ∷ bs) low = hashed_small ((h + b) % 2 ^ 32 * 16777619 % 2 ^ 32) bs (mod-lt _ (omega arith))
 
-  pub shift_indexed : (new_order_room : ℕ) (after : List ℕ) (from to n : ℕ) (z : Spot) → IsAt order from n → IsSetIn spots next n (Some z) → to ≤ length (remove order from)
-      → AllByRecursion (λ m. is_lt (key_cmp (key_at (held spots) m) (Some (z.parent, z.name))) ≡ true) (take to (remove order from))
-      → AllByRecursion (λ m. is_lt (key_cmp (key_at (held spots) m) (Some (z.parent, z.name))) ≡ false) (drop to (remove order from))
-      → ((m : ℕ) → IsChildAt (held spots) z.parent z.name m → ⊥) → used next ≡ used spots → length next ≡ length spots → after ≡ insert (remove order from) to n → order_room ≤ new_order_room
-      → IsIndexed next after free new_order_room free_room
-  shift_indexed new_order_room after from to n z here set within comes past none filled slots is order_le =
-      let node = of_all (IsNode (held spots)) n order i.ordered.each (found n order from here) in
-      let spot = is_there (held spots) n node.1 in
-      let shorter = length-remove order from (slice_get_within order from n here) in
-      let long = length-insert (remove order from) to n within in record {
-        ordered = subst (IsOrdered (held next)) (sym is) (shift_ordered (held spots) (held next) order i.ordered n from to z here set.kept comes past none node.0);
-        empty = empty_more (held spots) (held next) (length spots) (length next) free (omega (arith, slots)) (λ m in_free empty. set.kept.others m (λ e. unlike (held spots n) spot.0 (ap (held spots) (sym e) ∙ empty) spot.1) ∙ empty) i.empty;
-        counted = omega (arith, ap length is, long, shorter, i.counted, filled);
-        places = omega (arith, ap length is, long, shorter, i.places, slots);
-        order_fits = omega (arith, i.order_fits, slots, order_le);
-        free_fits = omega (arith, i.free_fits, slots);
-      }
+part_below : (h count k : ℕ) → h < k → 0 < count → 0 < k → h * count / k < count
+part_below h count k low some whole =
+    (div-lt_iff_lt-mul whole).1 (subst (λ x. h * count < x) (mul_comm k count) (mul-lt-mul_of_pos_right low some))
 
-pub below_self : (p : Path) → is_at_or_below p p ≡ true
-below_self p = subst (λ q. is_at_or_below p q ≡ true) (append-nil p) (below_join p [])
+pub name_below : (by : By) (count dir : ℕ) (name : Name) → by ≡ ways.Name → dir < 2 ^ 32 → 0 < count → class_of by count dir name < count
+name_below by count dir name is low some =
+    subst (λ b. class_of b count dir name < count) (sym is) (part_below (hashed dir name) count (2 ^ 32) (hashed_small dir name low) some (omega arith))
+
+pub sibling_below : (by : By) (count dir : ℕ) (name : Name) → by ≡ ways.Dir → dir < count → class_of by count dir name < count
+sibling_below by count dir name is low = subst (λ b. class_of b count dir name < count) (sym is) low
+
+-- what is kept at a number now can come into its chain
+pub into_siblings : (chains : Chains) (at : Held) (next : List (Option Spot)) (n : ℕ) (z : Spot) → chains.by ≡ ways.Dir → AreIn chains at → at n ≡ None
+    → n ≢ 0 → IsKept at (held next) n (Some z) → n < length chains.links.items → length chains.firsts.items < 4294967296
+    → z.parent < length chains.firsts.items → CanPutIn chains next n
+into_siblings chains at next n z by old free other kept within few low = record {
+  at = at;
+  old = old;
+  free = free;
+  other = other;
+  spot = z;
+  kept = kept;
+  within = within;
+  few = few;
+  below = sibling_below chains.by (length chains.firsts.items) z.parent z.name by low;
+}
+
+pub into_names : (chains : Chains) (at : Held) (next : List (Option Spot)) (n : ℕ) (z : Spot) → chains.by ≡ ways.Name → AreIn chains at → at n ≡ None
+    → n ≢ 0 → IsKept at (held next) n (Some z) → n < length chains.links.items → length chains.firsts.items < 4294967296
+    → 0 < length chains.firsts.items → z.parent < 2 ^ 32 → CanPutIn chains next n
+into_names chains at next n z by old free other kept within few some low = record {
+  at = at;
+  old = old;
+  free = free;
+  other = other;
+  spot = z;
+  kept = kept;
+  within = within;
+  few = few;
+  below = name_below chains.by (length chains.firsts.items) z.parent z.name by low some;
+}
+
+-- a number that was taken out is set to what is kept now
+pub set_again : (at next : Held) (n : ℕ) (o : Option Spot) → IsKept at next n o → IsKept (without at n) next n o
+set_again at next n o kept = record {
+  here = kept.here;
+  others = λ m apart. kept.others m apart ∙ sym ((taken_out at n).others m apart);
+}
+
+-- a number that is taken out is one more empty place
+pub one_more_empty : (spots next : List (Option Spot)) (free more : List ℕ) (n : ℕ) → AreEmpty (held spots) (length spots) free → IsSome (held spots n)
+    → IsSetIn spots next n None → length next ≡ length spots → more ≡ free ++ n ∷ [] → AreEmpty (held next) (length next) more
+one_more_empty spots next free more n empty some set slots is =
+    let spot = is_there (held spots) n some in
+    let within = held_within spots n some in
+    subst (AreEmpty (held next) (length next)) (sym is) (empty_push (held next) (length next) free n
+    (empty_more (held spots) (held next) (length spots) (length next) free (omega (arith, slots)) (λ m here none. set.kept.others m (λ e. unlike (held spots n) spot.0 (ap (held spots) (sym e) ∙ none) spot.1) ∙ none) empty)
+    (omega (arith, within, slots)) set.kept.here (λ here. unlike (held spots n) spot.0 (all_none (held spots) (length spots) free empty n here) spot.1))
+
+-- places that stay empty while another node moves
+pub still_empty : (spots next : List (Option Spot)) (free : List ℕ) (n : ℕ) (o : Option Spot) → AreEmpty (held spots) (length spots) free → IsSome (held spots n)
+    → IsKept (held spots) (held next) n o → length next ≡ length spots → AreEmpty (held next) (length next) free
+still_empty spots next free n o empty some kept slots =
+    let spot = is_there (held spots) n some in
+    empty_more (held spots) (held next) (length spots) (length next) free (omega (arith, slots)) (λ m here none. kept.others m (λ e. unlike (held spots n) spot.0 (ap (held spots) (sym e) ∙ none) spot.1) ∙ none) empty
+
+-- chains by directory may get more classes
+pub more_classes : (chains new : Chains) (at : Held) → chains.by ≡ ways.Dir → new.by ≡ chains.by
+    → AreLinked new (classes_of chains.by (length chains.firsts.items) at) → AreIn new at
+more_classes chains new at dir by l =
+    subst (λ b. AreLinked new (classes_of b (length new.firsts.items) at)) (sym (by ∙ dir))
+    (subst (λ b. AreLinked new (classes_of b (length chains.firsts.items) at)) dir l)
+
+-- there is more room
+pub reserved_indexed : (spots next : List (Option Spot)) (siblings names : Chains) (free : List ℕ) (free_room : ℕ) → IsIndexed spots siblings names free free_room
+    → next ≡ spots → (new_siblings new_names : Chains) (same : List ℕ) (new_room : ℕ) → same ≡ free → AreIn new_siblings (held spots) → AreIn new_names (held spots)
+    → new_siblings.by ≡ siblings.by → new_names.by ≡ ways.Name → length siblings.links.items ≤ length new_siblings.links.items
+    → length new_siblings.links.items ≤ length new_siblings.firsts.items → length new_siblings.links.items ≤ length new_names.links.items
+    → 0 < length new_names.firsts.items → length new_names.firsts.items < 4294967296 → length new_siblings.firsts.items < 4294967296 → length spots ≤ new_room
+    → IsIndexed next new_siblings new_names same new_room
+reserved_indexed spots next siblings names free free_room i are new_siblings new_names same new_room free_is siblings_in names_in dir name links classes_fit names_fit some few_names few room =
+    subst (λ l. IsIndexed l new_siblings new_names same new_room) (sym are) (record {
+      siblings_in = siblings_in;
+      names_in = names_in;
+      by_dir = dir ∙ i.by_dir;
+      by_name = name;
+      empty = subst (AreEmpty (held spots) (length spots)) (sym free_is) i.empty;
+      places = omega (arith, i.places, ap length free_is);
+      siblings_fit = omega (arith, i.siblings_fit, links);
+      classes_fit = classes_fit;
+      names_fit = names_fit;
+      some_names = some;
+      few_siblings = few;
+      few_names = few_names;
+      free_fits = room;
+    })
+
+-- each name has its chain among twice as many as there are places
+pub names_below : (spots : List (Option Spot)) (m : Nodes) → IsShown (held spots) m → length spots ≤ 65536 → (n : ℕ) (z : Spot) → held spots n ≡ Some z
+    → class_of ways.Name (2 * length spots) z.parent z.name < 2 * length spots
+names_below spots m s few n z is =
+    let low = dir_below spots m s n z is in
+    name_below ways.Name (2 * length spots) z.parent z.name refl (omega (arith, low, few)) (omega (arith, low))

@@ -1,5 +1,5 @@
 -- What a list has.
-use Rattle.std.proofs.Common.{◌⊎◌, ◌≡◌, ◌≢◌, ℕ, zero, suc, ◌≤◌, List, [], ◌∷◌, ◌++◌, length, take, drop, Some, sym, ap, ◌∙◌, refl, subst, arith, inl, inr, ⊎_elim}
+use Rattle.std.proofs.Common.{◌⊎◌, ◌≡◌, ◌≢◌, ℕ, zero, suc, ◌≤◌, List, [], ◌∷◌, ◌++◌, length, Some, sym, ap, ◌∙◌, refl, subst, arith, inl, inr, ⊎_elim}
 use Rattle.std.specs.Prelude.{⊤}
 use Rattle.std.specs.List.{AllByRecursion, swap}
 use Rattle.std.specs.List.Sorted.{IsPermutation}
@@ -42,16 +42,6 @@ module _ {X : Type 0} where
   in_either x [] ys more = inr more
   in_either x (y ∷ xs) ys (inl same) = inl (inl same)
   in_either x (y ∷ xs) ys (inr more) = ⊎_elim (λ here. inl (inr here)) (λ there. inr there) (in_either x xs ys more)
-
-  pub halves : (k : ℕ) (xs : List X) → take k xs ++ drop k xs ≡ xs
-  halves zero xs = refl
-  halves (suc k) [] = refl
-  halves (suc k) (x ∷ xs) = ap (λ l. x ∷ l) (halves k xs)
-
-  pub split_at : (xs : List X) (k : ℕ) (x : X) → IsAt xs k x → xs ≡ take k xs ++ x ∷ drop (suc k) xs
-  split_at [] k x is = cc
-  split_at (y ∷ xs) zero x is = ap (λ z. z ∷ xs) (some_same y x is)
-  split_at (y ∷ xs) (suc k) x is = ap (λ l. y ∷ l) (split_at xs k x is)
 
   pub moved_in : (xs ys : List X) → IsPermutation xs ys → (x : X) → IsIn x xs → IsIn x ys
   moved_in xs ys moved x here = IsPermutation-keeps xs (IsIn x) here
@@ -115,19 +105,6 @@ module _ {X : Type 0} (R : X → X → Type 0) where
                 (λ (is : e ≡ y). absurd (asym x y (subst (R x) is (of_all (R x) e xs up.0 here)) (of_all (R y) x ys also.0 later)))
                 (λ more. more)
                 (forth e (inr here))
-
-  pub up_front : (xs ys : List X) → Up (xs ++ ys) → Up xs
-  up_front [] ys up = tt
-  up_front (x ∷ xs) ys up = (to_all (R x) xs (λ e here. of_all (R x) e (xs ++ ys) up.0 (in_front e xs ys here)), up_front xs ys up.1)
-
-  pub up_rest : (xs ys : List X) → Up (xs ++ ys) → Up ys
-  up_rest [] ys up = up
-  up_rest (x ∷ xs) ys up = up_rest xs ys up.1
-
-  pub up_across : (xs ys : List X) → Up (xs ++ ys) → (a b : X) → IsIn a xs → IsIn b ys → R a b
-  up_across [] ys up a b none there = elim none [ ]
-  up_across (x ∷ xs) ys up a b (inl same) there = subst (λ z. R z b) (sym same) (of_all (R x) b (xs ++ ys) up.0 (in_rest b xs ys there))
-  up_across (x ∷ xs) ys up a b (inr here) there = up_across xs ys up.1 a b here there
 
   pub up_join : (xs ys : List X) → Up xs → Up ys → ((a b : X) → IsIn a xs → IsIn b ys → R a b) → Up (xs ++ ys)
   up_join [] ys up also across = also

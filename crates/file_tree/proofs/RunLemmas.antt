@@ -1,14 +1,13 @@
 -- What is in a directory, by the bytes of the names.
-use Rattle.std.proofs.Common.{Option, ◌≡◌, ℕ, zero, suc, ◌+◌, ◌<◌, ◌≤◌, ◌-◌, true, false, cond, List, [], ◌∷◌, ◌++◌, length, take, drop, append_assoc, map, Some, None, IsSome, is_some, sym, ap, ◌∙◌, refl, subst, arith, inl, inr, ⊎_elim}
+use Rattle.std.proofs.Common.{Option, ◌≡◌, ℕ, zero, suc, ◌+◌, ◌<◌, ◌≤◌, ◌-◌, true, false, nat_lt, cond, List, [], ◌∷◌, ◌++◌, length, take, append_assoc, map, Some, None, IsSome, is_some, sym, ap, ◌∙◌, refl, subst, arith, inl, inr, ⊎_elim}
 use Rattle.std.specs.List.{AllByRecursion}
 use Rattle.std.specs.List.Sorted.{IsStrictlySortedBy}
 use Rattle.std.specs.Option.{option_map}
-use Rattle.std.specs.Ordering.{nat_cmp, is_lt, is_eq, ordering_then, ordering_reverse}
+use Rattle.std.specs.Ordering.{is_eq, ordering_then, ordering_reverse}
 use Rattle.std.specs.declared.cmp.Ordering.{Ordering}
 use Rattle.std.specs.declared.cmp.Ordering.TheVariants.{Less, Equal, Greater}
 use Rattle.std.specs.FinMap as fin
-use Rattle.std.proofs.lemmas.Cmp.{tied_itself, ranked, nat_cmp_total, nat_list_cmp_total}
-use Rattle.std.proofs.lemmas.Bool.{cases_lt}
+use Rattle.std.proofs.lemmas.Cmp.{tied_itself, nat_cmp_total, nat_list_cmp_total}
 use Rattle.index_model.specs.Places.{IsAt}
 use Rattle.plain_tree.specs.declared.calls.Entry.{Entry}
 use Rattle.plain_tree.specs.Links.{name_cmp}
@@ -25,125 +24,15 @@ use Rattle.std.specs.Option.{IfSome, IfNone}
 use Rattle.file_tree.specs.Seen.{Held, held, IsShown}
 use Rattle.file_tree.proofs.WalkLemmas.{none_past}
 use Rattle.file_tree.specs.Listing.{line_of, lines_in, lines_at}
-use Rattle.file_tree.specs.Order.{IsIn, pair_cmp, key_cmp, key_at, Ascend, IsNode, IsOrdered, IsInDir, IsChildAt, IsRun, IsRunAt}
+use Rattle.file_tree.specs.Order.{IsIn, pair_cmp, key_cmp, key_at, Ascend, IsInDir, IsChildAt, IsRun, IsRunAt}
 use Rattle.file_tree.proofs.PathLemmas.{some_same, number_is, node_at}
 use Rattle.file_tree.proofs.ShownLemmas.{spot, kept_at, stands_in}
+use Rattle.plain_tree.proofs.Validity.{child_listed}
+use Rattle.file_tree.proofs.EditLemmas.{parent_ends}
 use Rattle.file_tree.proofs.PlainLemmas.{plain_get}
 use Rattle.file_tree.proofs.ReadLemmas.{sort_same}
-use Rattle.file_tree.proofs.MemberLemmas.{Up, of_all, to_all, in_front, in_rest, in_either, up_front, up_rest, halves}
-use Rattle.file_tree.proofs.KeyLemmas.{Before, as_up, from_up, key_of}
-
--- ---- the part of an order that a directory has
-
-none_less : (x : Name) → is_lt (name_cmp x []) ≡ true → ⊥
-none_less [] e = cc
-none_less (b ∷ x) e = cc
-
--- what comes before all names of a directory, and what doesn't
-lower : (at : Held) (n : ℕ) (z : Spot) (d : ℕ) → at n ≡ Some z → is_lt (key_cmp (key_at at n) (Some (d, []))) ≡ true → z.parent < d
-lower at n z d is less = by (nat_cmp z.parent d) refl (sym (ap (λ a. is_lt (key_cmp a (Some (d, [])))) (key_of at n z is)) ∙ less)
-  where
-    by : (r : Ordering) → nat_cmp z.parent d ≡ r → is_lt (ordering_then r (name_cmp z.name [])) ≡ true → z.parent < d
-    by Less e low = ranked z.parent d Less (sym e)
-    by Equal e low = absurd (none_less z.name low)
-    by Greater e low = cc
-
-upper : (at : Held) (n : ℕ) (z : Spot) (d : ℕ) → at n ≡ Some z → is_lt (key_cmp (key_at at n) (Some (d, []))) ≡ false → d ≤ z.parent
-upper at n z d is past = by (nat_cmp z.parent d) refl (sym (ap (λ a. is_lt (key_cmp a (Some (d, [])))) (key_of at n z is)) ∙ past)
-  where
-    by : (r : Ordering) → nat_cmp z.parent d ≡ r → is_lt (ordering_then r (name_cmp z.name [])) ≡ false → d ≤ z.parent
-    by Less e fails = cc
-    by Equal e fails = let same : z.parent ≡ d = ranked z.parent d Equal (sym e) in omega (arith, same)
-    by Greater e fails = let more : d < z.parent = ranked z.parent d Greater (sym e) in omega (arith, more)
-
-nothing_left : {X : Type 0} (n : ℕ) → ◌≡◌ {A = List X} (drop n []) []
-nothing_left zero = refl
-nothing_left (suc n) = refl
-
-drop_drop : {X : Type 0} (i k : ℕ) (xs : List X) → drop k (drop i xs) ≡ drop (i + k) xs
-drop_drop zero k xs = let e : k ≡ 0 + k = omega arith in ap (λ n. drop n xs) e
-drop_drop (suc i) k [] = nothing_left k ∙ sym (nothing_left (suc i + k))
-drop_drop (suc i) k (x ∷ xs) = let e : suc (i + k) ≡ suc i + k = omega arith in drop_drop i k xs ∙ ap (λ n. drop n (x ∷ xs)) e
-
--- what stands in a part stands before its end
-in_part : {X : Type 0} (i k : ℕ) (xs : List X) (x : X) → IsIn x (take k (drop i xs)) → IsIn x (take (i + k) xs)
-in_part zero k xs x here = let e : k ≡ 0 + k = omega arith in subst (λ n. IsIn x (take n xs)) e here
-in_part (suc i) zero xs x here = absurd here
-in_part (suc i) (suc k) [] x here = absurd here
-in_part (suc i) (suc k) (y ∷ xs) x here = let e : suc (i + suc k) ≡ suc i + suc k = omega arith in subst (λ n. IsIn x (take n (y ∷ xs))) e (inr (in_part i (suc k) xs x here))
-
-in_take : {X : Type 0} (k : ℕ) (xs : List X) (x : X) → IsIn x (take k xs) → IsIn x xs
-in_take k xs x here = subst (IsIn x) (halves k xs) (in_front x (take k xs) (drop k xs) here)
-
-in_drop : {X : Type 0} (k : ℕ) (xs : List X) (x : X) → IsIn x (drop k xs) → IsIn x xs
-in_drop k xs x here = subst (IsIn x) (halves k xs) (in_rest x (take k xs) (drop k xs) here)
-
-at_both : (i k : ℕ) (xs : List ℕ) → k < i → i ≤ length xs → (x : ℕ) × IsIn x (take i xs) × IsIn x (drop k xs)
-at_both zero k xs lt le = absurd (omega (arith, lt))
-at_both (suc i) k [] lt le = absurd (omega (arith, le))
-at_both (suc i) zero (x ∷ xs) lt le = (x, inl refl, inl refl)
-at_both (suc i) (suc k) (x ∷ xs) lt le = let more = at_both i k xs (omega (arith, lt)) (omega (arith, le)) in (more.0, inr more.1, more.2)
-
-there_is : (at : Held) (n : ℕ) → IsSome (at n) → (z : Spot) × (at n ≡ Some z)
-there_is at n some = by (at n) refl
-  where
-    by : (o : Option Spot) → at n ≡ o → (z : Spot) × (at n ≡ Some z)
-    by None e = let wrong : false ≡ true = sym (ap is_some e) ∙ some in cc
-    by (Some z) e = (z, e)
-
-module _ (at : Held) (order : List ℕ) (o : IsOrdered at order) (dir first last : ℕ)
-    (first_comes : AllByRecursion (λ n. is_lt (key_cmp (key_at at n) (Some (dir, []))) ≡ true) (take first order))
-    (first_past : AllByRecursion (λ n. is_lt (key_cmp (key_at at n) (Some (dir, []))) ≡ false) (drop first order))
-    (last_comes : AllByRecursion (λ n. is_lt (key_cmp (key_at at n) (Some (dir + 1, []))) ≡ true) (take last order))
-    (last_past : AllByRecursion (λ n. is_lt (key_cmp (key_at at n) (Some (dir + 1, []))) ≡ false) (drop last order)) where
-  kept_of : (n : ℕ) → IsIn n order → (z : Spot) × (at n ≡ Some z)
-  kept_of n here = there_is at n (of_all (IsNode at) n order o.each here).1
-
-  in_lower : (n : ℕ) (z : Spot) → at n ≡ Some z → IsIn n (take first order) → z.parent < dir
-  in_lower n z is here = lower at n z dir is (of_all (λ n. is_lt (key_cmp (key_at at n) (Some (dir, []))) ≡ true) n (take first order) first_comes here)
-
-  in_upper : (n : ℕ) (z : Spot) → at n ≡ Some z → IsIn n (drop last order) → dir + 1 ≤ z.parent
-  in_upper n z is here = upper at n z (dir + 1) is (of_all (λ n. is_lt (key_cmp (key_at at n) (Some (dir + 1, []))) ≡ false) n (drop last order) last_past here)
-
-  pub run_order : first ≤ length order → first ≤ last
-  run_order within = ⊎_elim
-      (λ (less : last < first).
-      let both = at_both first last order less within in
-      let spot = kept_of both.0 (in_take first order both.0 both.1) in
-      absurd (omega (arith, in_lower both.0 spot.0 spot.1 both.1, in_upper both.0 spot.0 spot.1 both.2)))
-      (λ right. right)
-      (cases_lt last first)
-
-  pub run_is : first ≤ last → IsRun at dir (take (last - first) (drop first order))
-  run_is le = record {
-    each = to_all (IsInDir at dir) part (λ n here.
-        let low = in_take (last - first) (drop first order) n here in
-        let within = in_drop first order n low in
-        let spot = kept_of n within in
-        let end : first + (last - first) ≡ last = omega (arith, le) in
-        let before_last : IsIn n (take last order) = subst (λ k. IsIn n (take k order)) end (in_part first (last - first) order n here) in
-        let less = lower at n spot.0 (dir + 1) spot.1 (of_all (λ n. is_lt (key_cmp (key_at at n) (Some (dir + 1, []))) ≡ true) n (take last order) last_comes before_last) in
-        let more = upper at n spot.0 dir spot.1 (of_all (λ n. is_lt (key_cmp (key_at at n) (Some (dir, []))) ≡ false) n (drop first order) first_past low) in
-        record { other = (of_all (IsNode at) n order o.each within).0; spot = spot.0; is = spot.1; parent = omega (arith, less, more) });
-    every = λ n in_dir.
-        let node : IsNode at n = (in_dir.other, ap is_some in_dir.is) in
-        ⊎_elim
-        (λ front. absurd (omega (arith, in_lower n in_dir.spot in_dir.is front, in_dir.parent)))
-        (λ (rest : IsIn n (drop first order)). ⊎_elim
-        (λ here. here)
-        (λ (behind : IsIn n (drop (last - first) (drop first order))).
-        let end : first + (last - first) ≡ last = omega (arith, le) in
-        let there : IsIn n (drop last order) = subst (IsIn n) (drop_drop first (last - first) order ∙ ap (λ k. drop k order) end) behind in
-        absurd (omega (arith, in_upper n in_dir.spot in_dir.is there, in_dir.parent)))
-        (in_either n part (drop (last - first) (drop first order)) (subst (IsIn n) (sym (halves (last - first) (drop first order))) rest)))
-        (in_either n (take first order) (drop first order) (subst (IsIn n) (sym (halves first order)) (o.every n node)));
-    ascend = from_up at part (up_front (Before at) part (drop (last - first) (drop first order))
-        (subst (Up (Before at)) (sym (halves (last - first) (drop first order)))
-        (up_rest (Before at) (take first order) (drop first order) (subst (Up (Before at)) (sym (halves first order)) (as_up at order o.ascend)))));
-  }
-    where
-      part : List ℕ
-      part = take (last - first) (drop first order)
+use Rattle.file_tree.proofs.MemberLemmas.{of_all, to_all, in_front, in_rest, in_either}
+use Rattle.file_tree.proofs.KeyLemmas.{key_of}
 
 -- ---- names of a directory
 
@@ -289,11 +178,6 @@ lines_are at m s dir ns r tape p there = listed (lines_at at ns) (plain_nodes ta
         ∙ ap (λ k. Some k) (sym (sort_same tape node.kind))
         ∙ sym (ap sort_at (plain_get tape m (p ++ q ∷ []) ∙ ap (option_map (plain_node_of tape)) e))
 
--- so many lines as numbers
-pub count_lines : (at : Held) (dir : ℕ) (ns : List ℕ) → AllByRecursion (IsInDir at dir) ns → length (lines_at at ns) ≡ length ns
-count_lines at dir [] each = refl
-count_lines at dir (n ∷ ns) each = ap (λ o. length (lines_in o ++ lines_at at ns)) each.0.is ∙ ap (λ k. suc k) (count_lines at dir ns each.1)
-
 lines_more : (at : Held) (ns : List ℕ) (i n : ℕ) (z : Spot) → IsAt ns i n → at n ≡ Some z → lines_at at (take (suc i) ns) ≡ lines_at at (take i ns) ++ line_of z ∷ []
 lines_more at [] i n z is kept = cc
 lines_more at (k ∷ ns) zero n z is kept = ap (λ o. lines_in o ++ []) (ap at (some_same k n is) ∙ kept)
@@ -325,3 +209,21 @@ above_there spots m s q r k is = by (fin.get m q) refl
 
 pub all_some : (at : Held) (dir : ℕ) (ns : List ℕ) → AllByRecursion (IsInDir at dir) ns → AllByRecursion (λ n. IsSome (at n)) ns
 all_some at dir ns each = to_all (λ n. IsSome (at n)) ns (λ n here. ap is_some (of_all (IsInDir at dir) n ns each here).is)
+
+-- ---- whether anything is in a directory
+
+pub some_in : (at : Held) (m : Nodes) (s : IsShown at m) (dir : ℕ) (p : Path) → number_at m p ≡ Some dir → (n : ℕ) → IsInDir at dir n
+    → (tape : Tape) → true ≡ nat_lt 0 (length (plain.entries_in (plain_nodes tape m) p))
+some_in at m s dir p there n d tape =
+    let here = stands_in at m s n d.spot p d.is d.other (there ∙ ap (λ k. Some k) (sym d.parent)) in
+    child_listed (plain_nodes tape m) p (p ++ d.spot.name ∷ []) (plain_node_of tape d.spot.node)
+    (plain_get tape m (p ++ d.spot.name ∷ []) ∙ ap (option_map (plain_node_of tape)) here) (not_top p d.spot.name) (parent_ends p d.spot.name)
+  where
+    not_top : (p : Path) (x : Name) → p ++ x ∷ [] ≡ [] → ⊥
+    not_top [] x e = cc
+    not_top (y ∷ p) x e = cc
+
+pub none_in : (at : Held) (m : Nodes) (s : IsShown at m) (dir : ℕ) (p : Path) → number_at m p ≡ Some dir → ((n : ℕ) → IsInDir at dir n → ⊥)
+    → (tape : Tape) → false ≡ nat_lt 0 (length (plain.entries_in (plain_nodes tape m) p))
+none_in at m s dir p there none tape =
+    ap (λ (es : List Entry). nat_lt 0 (length es)) (lines_are at m s dir [] (record { each = tt; every = λ n d. absurd (none n d); ascend = tt }) tape p there)

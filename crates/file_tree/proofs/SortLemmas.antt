@@ -1,7 +1,6 @@
--- The numbers of all nodes, sorted by their directories and names.
-use Rattle.std.proofs.Common.{Option, ◌≡◌, ◌≢◌, ℕ, zero, suc, ◌+◌, ◌-◌, ◌<◌, ◌≤◌, Bool, false, List, [], ◌∷◌, ◌++◌, length, get_or, Some, None, IsSome, sym, ap, ◌∙◌, refl, subst, arith, inl, inr}
-use Rattle.std.specs.List.{AllByRecursion, swap, range_with_len}
-use Rattle.std.proofs.lemmas.Bool.{cases_eq}
+-- The numbers of the nodes in a directory, sorted by their names.
+use Rattle.std.proofs.Common.{◌≡◌, ◌≢◌, ℕ, zero, suc, ◌+◌, ◌-◌, ◌<◌, ◌≤◌, Bool, false, List, [], ◌∷◌, ◌++◌, length, get_or, Some, is_some, sym, ap, ◌∙◌, refl, subst, arith}
+use Rattle.std.specs.List.{AllByRecursion, swap}
 use Rattle.std.specs.List.Sorted.{IsPermutation, IsSortedBy}
 use Rattle.std.specs.Cmp.{IsStrictWeakOrder}
 use Rattle.std.specs.Ordering.{is_lt}
@@ -14,14 +13,14 @@ use Rattle.std.proofs.lemmas.List.Sorted.{IsPermutation-keeps, IsPermutation-sym
 use Rattle.std.proofs.lemmas.Option.{get_or_from_slice_get, slice_get_within}
 use Rattle.index_model.specs.Places.{IsAt}
 use Rattle.index_faults.proofs.Exchanged.{goes_to}
-use Rattle.file_tree.specs.declared.nodes.Spot.{Spot}
-use Rattle.file_tree.specs.Seen.{Held, held}
-use Rattle.file_tree.specs.Places.{used}
-use Rattle.file_tree.specs.Order.{IsIn, key_cmp, key_at, IsNode, KeysDiffer, IsOrdered}
+use Rattle.file_tree.specs.Seen.{Held}
+use Rattle.file_tree.specs.declared.chains.By.TheVariants as ways
+use Rattle.file_tree.specs.Chains.{Differ, IsChainOf, classes_of}
+use Rattle.file_tree.specs.Order.{IsIn, key_cmp, key_at, IsNode, KeysDiffer, IsInDir, IsRun}
 use Rattle.file_tree.proofs.PathLemmas.{some_same}
-use Rattle.file_tree.proofs.PlaceLemmas.{held_within, used_most}
 use Rattle.file_tree.proofs.MemberLemmas.{Up, placed, found, of_all, to_all, moved_in, still_apart}
 use Rattle.file_tree.proofs.KeyLemmas.{Before, from_up, key_total, after}
+use Rattle.file_tree.proofs.ClassLemmas.{in_class, of_class}
 
 -- a number that stands at two places
 pub record Twice (ns : List ℕ) : Type 0 where
@@ -44,9 +43,6 @@ pairs_up R (x ∷ xs) each = (
   to_all (R x) xs (λ y here. let at = placed y xs here in each 0 (suc at.0) x y (omega arith) refl at.1),
   pairs_up R xs (λ i j a b lt is also. each (suc i) (suc j) a b (omega (arith, lt)) is also),
 )
-
-abbrev pub lower_key : Held → ℕ → ℕ → Bool
-lower_key at a b = is_lt (key_cmp (key_at at a) (key_at at b))
 
 pub weak : (at : Held) → IsStrictWeakOrder (λ a b. is_lt (key_cmp (key_at at a) (key_at at b)))
 weak at = ranks_by key_total (key_at at)
@@ -71,66 +67,25 @@ sorted_up at ns sorted none nodes differ = pairs_up (Before at) ns (λ i j a b l
     let one : b ≡ a = differ b a (of_all (IsNode at) b ns nodes (found b ns j also)) (of_all (IsNode at) a ns nodes (found a ns i is)) same in
     none (record { one = i; two = j; differ = λ e. omega (arith, lt, e); n = a; is = is; also = also ∙ ap (λ x. Some x) one })))
 
--- ---- the numbers from 1 on
+-- a list without a number twice has none at two places
+no_twice : (ns : List ℕ) → Differ ns → (i j n : ℕ) → i ≢ j → IsAt ns i n → IsAt ns j n → ⊥
+no_twice [] apart i j n differ is also = cc
+no_twice (m ∷ ns) apart zero zero n differ is also = differ refl
+no_twice (m ∷ ns) apart zero (suc j) n differ is also = apart.0 (subst (λ k. IsIn k ns) (sym (some_same m n is)) (found n ns j also))
+no_twice (m ∷ ns) apart (suc i) zero n differ is also = apart.0 (subst (λ k. IsIn k ns) (sym (some_same m n also)) (found n ns i is))
+no_twice (m ∷ ns) apart (suc i) (suc j) n differ is also = no_twice ns apart.1 i j n (λ e. differ (ap suc e)) is also
 
-ranged : (from count : ℕ) (n : ℕ) → IsIn n (range_with_len from count) → (from ≤ n) × (n < from + count)
-ranged from zero n none = elim none [ ]
-ranged from (suc count) n (inl same) = (omega (arith, same), omega (arith, same))
-ranged from (suc count) n (inr more) = let rest = ranged (from + 1) count n more in (omega (arith, rest.0), omega (arith, rest.1))
-
-in_range : (from count : ℕ) (n : ℕ) → from ≤ n → n < from + count → IsIn n (range_with_len from count)
-in_range from zero n low high = absurd (omega (arith, low, high))
-in_range from (suc count) n low high = elim (cases_eq n from) [
-  | inl same ↦ inl same
-  | inr differ ↦ inr (in_range (from + 1) count n (omega (arith, low, differ)) (omega (arith, high)))
-]
-
-at_range : (from count i n : ℕ) → IsAt (range_with_len from count) i n → n ≡ from + i
-at_range from zero i n is = cc
-at_range from (suc count) zero n is = omega (arith, some_same from n is)
-at_range from (suc count) (suc i) n is = omega (arith, at_range (from + 1) count i n is)
-
-range_more : (from count : ℕ) → range_with_len from count ++ (from + count) ∷ [] ≡ range_with_len from (suc count)
-range_more from zero = let e : from + 0 ≡ from = omega arith in ap (λ n. n ∷ []) e
-range_more from (suc count) = let e : from + suc count ≡ from + 1 + count = omega arith in ap (λ n. from ∷ (range_with_len (from + 1) count ++ n ∷ [])) e ∙ ap (λ l. from ∷ l) (range_more (from + 1) count)
-
-pub range_next : (number : ℕ) → 1 ≤ number → range_with_len 1 (number - 1) ++ number ∷ [] ≡ range_with_len 1 (number + 1 - 1)
-range_next number some =
-    let last : number ≡ 1 + (number - 1) = omega (arith, some) in
-    let count : suc (number - 1) ≡ number + 1 - 1 = omega (arith, some) in
-    ap (λ n. range_with_len 1 (number - 1) ++ n ∷ []) last ∙ range_more 1 (number - 1) ∙ ap (range_with_len 1) count
-
-pub range_long : (from count : ℕ) → length (range_with_len from count) ≡ count
-range_long from zero = refl
-range_long from (suc count) = ap suc (range_long (from + 1) count)
-
-once : (from count : ℕ) → Twice (range_with_len from count) → ⊥
-once from count t = t.differ (omega (arith, at_range from count t.one t.n t.is, at_range from count t.two t.n t.also))
-
--- where all places are used, something is kept at each
-pub all_held : (spots : List (Option Spot)) → used spots ≡ length spots → (n : ℕ) → n < length spots → IsSome (held spots n)
-all_held [] full n lt = absurd (omega (arith, lt))
-all_held (None ∷ spots) full n lt = absurd (omega (arith, full, used_most spots))
-all_held (Some z ∷ spots) full zero lt = refl
-all_held (Some z ∷ spots) full (suc n) lt = all_held spots (omega (arith, full)) n (omega (arith, lt))
-
-pub ordered_all : (spots : List (Option Spot)) (ns sorted : List ℕ) → used spots ≡ length spots → KeysDiffer (held spots) → ns ≡ range_with_len 1 (length spots - 1) → IsPermutation ns sorted
-    → IsSortedBy (λ a b. is_lt (key_cmp (key_at (held spots) a) (key_at (held spots) b))) sorted → IsOrdered (held spots) sorted
-ordered_all spots ns sorted full differ are moved sort =
+pub run_sorted : (at : Held) (count dir : ℕ) (ns sorted : List ℕ) → IsChainOf (classes_of ways.Dir count at) dir ns → KeysDiffer at
+    → IsPermutation ns sorted → IsSortedBy (λ a b. is_lt (key_cmp (key_at at a) (key_at at b))) sorted → IsRun at dir sorted
+run_sorted at count dir ns sorted chain differ moved sort =
     let back = IsPermutation-sym ns sorted moved in
-    let nodes : AllByRecursion (IsNode (held spots)) sorted = to_all (IsNode (held spots)) sorted (λ n here.
-    let bounds = ranged 1 (length spots - 1) n (subst (IsIn n) are (moved_in sorted ns back n here)) in
-    (λ e. omega (arith, e, bounds.0), all_held spots full n (omega (arith, bounds.0, bounds.1)))) in
+    let each : AllByRecursion (IsInDir at dir) sorted =
+    to_all (IsInDir at dir) sorted (λ n here. in_class at count dir n (chain.each n (moved_in sorted ns back n here))) in
+    let nodes : AllByRecursion (IsNode at) sorted =
+    to_all (IsNode at) sorted (λ n here. let d = of_all (IsInDir at dir) n sorted each here in (d.other, ap is_some d.is)) in
     record {
-      each = nodes;
-      every = λ n node.
-          let within : n < length spots = held_within spots n node.1 in
-          let some : 1 ≤ n = positive n node.0 in
-          moved_in ns sorted moved n (subst (IsIn n) (sym are) (in_range 1 (length spots - 1) n some (omega (arith, within, some))));
-      ascend = from_up (held spots) sorted (sorted_up (held spots) sorted sort
-          (λ t. once 1 (length spots - 1) (subst Twice are (IsPermutation-keeps sorted Twice t twice_swap ns back))) nodes differ);
+      each = each;
+      every = λ n d. moved_in ns sorted moved n (chain.every n (of_class at count dir n d));
+      ascend = from_up at sorted (sorted_up at sorted sort
+          (λ t. let once = IsPermutation-keeps sorted Twice t twice_swap ns back in no_twice ns chain.apart once.one once.two once.n once.differ once.is once.also) nodes differ);
     }
-  where
-    positive : (n : ℕ) → n ≢ 0 → 1 ≤ n
-    positive zero some = absurd (some refl)
-    positive (suc n) some = omega arith

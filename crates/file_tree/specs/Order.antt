@@ -1,5 +1,6 @@
--- The order of the nodes that is kept beside their places, and the places that are empty.
-use Rattle.std.specs.Prelude.{◌≡◌, ◌≢◌, ◌⊎◌, ⊤, ℕ, ◌+◌, ◌<◌, ◌≤◌, List, [], ◌∷◌, ◌++◌, length, map, Option, Some, None, IsSome}
+-- The order of the nodes in their directories, and the places that are empty.
+use Rattle.std.specs.Prelude.{◌≡◌, ◌≢◌, ◌⊎◌, ⊤, ℕ, ◌+◌, ◌<◌, ◌≤◌, List, [], ◌∷◌, ◌++◌, length, map, Option, Some}
+use Rattle.std.specs.Prelude.{None, IsSome}
 use Rattle.std.specs.List.{AllByRecursion}
 use Rattle.std.specs.List.Sorted.{IsStrictlySortedBy}
 use Rattle.std.specs.Option.{option_map, option_cmp}
@@ -47,26 +48,10 @@ IsNode at n = (n ≢ 0) × IsSome (at n)
 abbrev pub KeysDiffer : Held → Type 0
 KeysDiffer at = (a b : ℕ) → IsNode at a → IsNode at b → key_at at a ≡ key_at at b → a ≡ b
 
--- the numbers of all nodes but the root, by their directories and their names
-pub record IsOrdered (at : Held) (order : List ℕ) : Type 0 where
-  pub each : AllByRecursion (IsNode at) order
-  pub every : (n : ℕ) → IsNode at n → IsIn n order
-  pub ascend : Ascend at order
-
 -- nothing is kept at these numbers, which are below a bound, and none stands there twice
 abbrev pub AreEmpty : Held → ℕ → List ℕ → Type 0
 AreEmpty at bound [] = ⊤
 AreEmpty at bound (n ∷ ns) = (n < bound) × (at n ≡ None) × (IsIn n ns → ⊥) × AreEmpty at bound ns
-
--- Beside the places stand the order of the nodes, and the numbers of empty places. There is memory for both, whatever is
--- kept at the places that there are.
-pub record IsIndexed (spots : List (Option Spot)) (order free : List ℕ) (order_room free_room : ℕ) : Type 0 where
-  pub ordered : IsOrdered (held spots) order
-  pub empty : AreEmpty (held spots) (length spots) free
-  pub counted : length order + 1 ≡ used spots
-  pub places : length order + length free + 1 ≡ length spots
-  pub order_fits : length spots ≤ order_room
-  pub free_fits : length spots ≤ free_room
 
 -- at the number a node is kept in this directory
 pub record IsInDir (at : Held) (dir n : ℕ) : Type 0 where
@@ -86,8 +71,8 @@ pub record IsRun (at : Held) (dir : ℕ) (numbers : List ℕ) : Type 0 where
   pub every : (n : ℕ) → IsInDir at dir n → IsIn n numbers
   pub ascend : Ascend at numbers
 
--- the numbers stand at paths that are the directory's with one name more, and those names ascend; all that stand there are
--- told
+-- the numbers stand at paths that are the directory's with one name more, and those names ascend; all that stand there
+-- are told
 pub record IsRunAt (m : Nodes) (path : Path) (numbers : List ℕ) : Type 0 where
   pub names : List Name
   pub each : map (λ (name : Name). number_at m (path ++ name ∷ [])) names ≡ map (λ n. Some n) numbers

@@ -1,7 +1,10 @@
 ghost use Rattle.std.specs.Prelude.{◌≡◌, ◌+◌, ◌++◌, [], ◌∷◌, IfOk, Ok, Err, None, if◌then◌else◌};
 ghost use Rattle.plain_tree.specs.Paths as paths;
 ghost use Rattle.plain_tree.specs.Paths.{Path};
-ghost use Rattle.plain_tree.specs.Refusals.{bad_name as why_bad_name, no_node as why_no_node, no_dir as why_no_dir, no_file as why_no_file, exists_at, not_empty, first_of, refuse_if, too_many, too_long as why_too_long, new_refusal as why_not_new, refusal_of};
+ghost use Rattle.plain_tree.specs.Refusals.{bad_name as why_bad_name, no_node as why_no_node, no_dir as why_no_dir};
+ghost use Rattle.plain_tree.specs.Refusals.{no_file as why_no_file, exists_at, not_empty, first_of, refuse_if};
+ghost use Rattle.plain_tree.specs.Refusals.{too_many, too_long as why_too_long, new_refusal as why_not_new};
+ghost use Rattle.plain_tree.specs.Refusals.{refusal_of};
 ghost use Rattle.file_tree.specs.Tree.{StandsAt, plain_of, whole};
 ghost use Rattle.file_tree.specs.Places.{IsThere};
 ghost use Rattle.file_tree.specs.Ready.{IsPlaced, IsPlacedBy, IsChecked, AreChecked, made_in, about};

@@ -2,11 +2,13 @@
 #![tactic(auto)]
 
 mod carried;
+mod chains;
 mod changes;
 mod checks;
 mod found;
 mod laws;
 mod listing;
+mod members;
 mod mount;
 mod nodes;
 mod order;

@@ -6,10 +6,12 @@ ghost use Rattle.file_tree.specs.Seen.{held};
 ghost use Rattle.file_tree.specs.Order.{AreEmpty};
 ghost use Rattle.file_tree.specs.Places.{used, CanStore, IsSetIn};
 
+use crate::chains::{By, Chains};
 use crate::changes::Change;
 use crate::listing::lines_of;
+use crate::members::{chained, child, cut_out, first_child, put_in, widen};
 use crate::nodes::Node;
-use crate::order::{child, ordered, place_at, place_of, push_run, run};
+use crate::order::{push_run, run};
 use crate::raws::Letters;
 use crate::store::Store;
 use crate::told::{places_of, told_node};
@@ -19,13 +21,16 @@ use std::alloc::Global;
 use std::marker::Model;
 use tape_types::{List, Moment, NoMemory, Text};
 
-/// The nodes at their numbers, and beside them the order in which they stand in their directories. So a name is found in
-/// the time of a logarithm, and what is in a directory stands together, by the bytes of the names.
+/// The nodes at their numbers, and beside them two sets of chains: the nodes of one directory, and those to which a
+/// directory and a name give one number. So a node is found, put in, moved and taken out in a time that the count of the
+/// others hardly changes, as long as few names share such a number.
 #[derive(Drop)]
 pub struct Places {
     store: Store,
-    order: Vec<u32>,
+    siblings: Chains,
+    names: Chains,
     free: Vec<u32>,
+    alloc: Global,
 }
 
 impl Model for Places {
@@ -36,7 +41,7 @@ impl Model for Places {
     ghost use Rattle.file_tree.specs.declared.nodes.Node.{Node};
     ghost use Rattle.file_tree.specs.contracts.nodes.Node as node;
     ghost use Rattle.file_tree.specs.Places.{Stored, least};
-    ghost use Rattle.file_tree.specs.Order.{IsIndexed};
+    ghost use Rattle.file_tree.specs.Beside.{IsIndexed};
 
     ghost Value = { Stored };
 
@@ -46,16 +51,17 @@ impl Model for Places {
 
     ghost view = { λ a. record {
       nodes = a.store.nodes;
-      spare = least a.store.spare (vec_capacity a.order - length a.store.spots) (vec_capacity a.free - length a.store.spots);
+      spare = least a.store.spare (length a.siblings.links.items - length a.store.spots)
+          (vec_capacity a.free - length a.store.spots);
       slots = length a.store.spots;
     } };
 
-    ghost invariant = { λ a. IsIndexed a.store.spots a.order.items a.free.items (vec_capacity a.order)
-        (vec_capacity a.free) };
+    ghost invariant = { λ a. IsIndexed a.store.spots a.siblings a.names a.free.items (vec_capacity a.free) };
 }
 
 impl Places {
-    ghost use Rattle.std.specs.Prelude.{◌≡◌, ◌≢◌, ℕ, ◌+◌, ◌≤◌, nat_lt, length, List, [], ◌∷◌, ◌++◌, map, Some, OnOk, IfOk, IfErr};
+    ghost use Rattle.std.specs.Prelude.{◌≡◌, ◌≢◌, ℕ, ◌+◌, ◌≤◌, nat_lt, length, List, [], ◌∷◌, ◌++◌, map, Some, OnOk};
+    ghost use Rattle.std.specs.Prelude.{IfOk, IfErr};
     ghost use Rattle.std.specs.FinMap as fin;
     ghost use Rattle.file_tree.specs.declared.nodes.Node.{Node};
     ghost use Rattle.plain_tree.specs.Paths.{Path, parent_of, last_name};
@@ -72,11 +78,18 @@ impl Places {
         requires { length store.spots ≡ fin.len store.nodes }
         ensures { IfOk result (λ t. t.nodes ≡ store.nodes) }
     {
-        let mut order = ordered(alloc, store.spots())?;
-        order.reserve(1)?;
+        let slots = store.spots().len();
+        let siblings = chained(alloc, By::Dir, slots, slots, store.spots())?;
+        let names = chained(alloc, By::Name, 2 * slots, slots, store.spots())?;
         let mut free = Vec::new(alloc);
-        free.reserve(store.spots().len())?;
-        Ok(Places { store, order, free })
+        free.reserve(slots)?;
+        Ok(Places {
+            store,
+            siblings,
+            names,
+            free,
+            alloc,
+        })
     }
 
     pub fn len(&self) -> u32
@@ -110,11 +123,11 @@ impl Places {
     }
 
     /// The numbers of what is in a directory, by the bytes of the names.
-    fn run(&self, dir: u32) -> &[u32]
+    fn run(&self, alloc: Global, dir: u32) -> Result<Vec<u32>, NoMemory>
         requires { IsThere self.now.nodes dir }
-        ensures { IsRunOf self.now.nodes dir result.now }
+        ensures { IfOk result (λ numbers. IsRunOf self.now.nodes dir numbers.items) }
     {
-        run(self.store.spots(), &self.order, dir)
+        run(alloc, self.store.spots(), &self.siblings, dir)
     }
 
     /// The numbers of all nodes, in the order of their paths.
@@ -126,7 +139,8 @@ impl Places {
         let mut open = vec![in alloc; 0u32; 1]?;
         while let Some(number) = open.pop() {
             numbers.push(number)?;
-            push_run(&mut open, self.run(number))?;
+            let inside = self.run(alloc, number)?;
+            push_run(&mut open, &inside)?;
         }
         Ok(numbers)
     }
@@ -187,7 +201,11 @@ impl Places {
         ensures { (path : Path) → number_at self.now.nodes path ≡ Some dir
             → number_at self.now.nodes (path ++ name.now ∷ []) ≡ result }
     {
-        child(self.store.spots(), &self.order, dir, name.as_str())
+        let name = name.as_str();
+        match first_child(self.store.spots(), &self.siblings, dir, name) {
+            Some(number) => Some(number),
+            None => child(self.store.spots(), &self.names, dir, name),
+        }
     }
 
     /// Whether anything stands directly in a directory.
@@ -196,7 +214,8 @@ impl Places {
         ensures { (path : Path) → number_at self.now.nodes path ≡ Some dir
             → result ≡ nat_lt 0 (length (entries_in (plain_nodes whole self.now.nodes) path)) }
     {
-        run(self.store.spots(), &self.order, dir).len() > 0
+        let _shown = self.store.spots();
+        self.siblings.first(dir) != 0
     }
 
     /// What stands directly in a directory, by the bytes of the names.
@@ -205,8 +224,8 @@ impl Places {
         ensures { IfOk result (λ entries. (tape : Tape) (path : Path) → number_at self.now.nodes path ≡ Some dir
             → entries ≡ entries_in (plain_nodes tape self.now.nodes) path) }
     {
-        let numbers = run(self.store.spots(), &self.order, dir);
-        lines_of(alloc, self.store.spots(), numbers)
+        let numbers = run(alloc, self.store.spots(), &self.siblings, dir)?;
+        lines_of(alloc, self.store.spots(), &numbers)
     }
 
     /// The number of the node at a path, or of the last one on the way there.
@@ -232,9 +251,11 @@ impl Places {
     {
         self.store.reserve()?;
         let slots = self.store.spots().len();
-        self.order.reserve(slots + 1 - self.order.len())?;
         self.free.reserve(slots + 1 - self.free.len())?;
-        Ok(())
+        widen(&mut self.names, self.alloc, self.store.spots())?;
+        self.names.reserve_link(slots)?;
+        self.siblings.reserve_class(slots)?;
+        self.siblings.reserve_link(slots)
     }
 
     /// Puts a node under a name into a directory, and gives it a number that no node has. Takes no memory.
@@ -245,11 +266,10 @@ impl Places {
         ensures fresh { (path : Path) → number_at self.old.nodes path ≢ Some result }
         ensures room { self.old.spare ≤ self.new.spare + 1 }
     {
-        let place = place_of(self.store.spots(), &self.order, dir, name.as_str());
+        let _shown = self.store.spots();
         let number = store_node(&mut self.store, &mut self.free, dir, name, node);
-        if self.order.insert(place, number).is_err() {
-            unreachable!();
-        }
+        put_in(&mut self.siblings, self.store.spots(), number);
+        put_in(&mut self.names, self.store.spots(), number);
         number
     }
 
@@ -261,8 +281,8 @@ impl Places {
             → self.new.nodes ≡ fin.remove self.old.nodes path }
         ensures room { self.new.spare ≡ self.old.spare }
     {
-        let place = place_at(self.store.spots(), &self.order, number);
-        self.order.remove(place);
+        cut_out(&mut self.siblings, self.store.spots(), number);
+        cut_out(&mut self.names, self.store.spots(), number);
         self.store.take(number);
         let end = self.free.len();
         if self.free.insert(end, number).is_err() {
@@ -277,13 +297,11 @@ impl Places {
             → number_at self.old.nodes up ≡ Some dir → self.new.nodes ≡ moved from (up ++ name ∷ []) self.old.nodes }
         ensures room { self.new.spare ≡ self.old.spare }
     {
-        let from = place_at(self.store.spots(), &self.order, number);
-        self.order.remove(from);
-        let to = place_of(self.store.spots(), &self.order, dir, name.as_str());
+        cut_out(&mut self.siblings, self.store.spots(), number);
+        cut_out(&mut self.names, self.store.spots(), number);
         self.store.shift(number, dir, name);
-        if self.order.insert(to, number).is_err() {
-            unreachable!();
-        }
+        put_in(&mut self.siblings, self.store.spots(), number);
+        put_in(&mut self.names, self.store.spots(), number);
     }
 
     /// Changes a node. Takes no memory.
@@ -321,7 +339,8 @@ fn store_node(store: &mut Store, free: &mut Vec<u32>, dir: u32, name: Text, node
     ensures unused { held store.old.spots result ≡ None }
     ensures empty { AreEmpty (held store.new.spots) (length store.new.spots) free.new.items }
     ensures filled { used store.new.spots ≡ used store.old.spots + 1 }
-    ensures places { length store.new.spots + length free.old.items ≡ length store.old.spots + length free.new.items + 1 }
+    ensures places { length store.new.spots + length free.old.items
+        ≡ length store.old.spots + length free.new.items + 1 }
     ensures slots { length store.new.spots ≤ length store.old.spots + 1 }
     ensures room { store.old.spare ≤ store.new.spare + 1 }
     ensures capacity { vec_capacity free.new ≡ vec_capacity free.old }

@@ -44,7 +44,8 @@ impl Model for Store {
 }
 
 impl Store {
-    ghost use Rattle.std.specs.Prelude.{◌≡◌, ◌≢◌, ℕ, ◌+◌, ◌<◌, ◌≤◌, List, [], ◌∷◌, ◌++◌, length, Some, None, IsOk, OnOk, IfOk};
+    ghost use Rattle.std.specs.Prelude.{◌≡◌, ◌≢◌, ℕ, ◌+◌, ◌<◌, ◌≤◌, List, [], ◌∷◌, ◌++◌, length, Some, None, IsOk};
+    ghost use Rattle.std.specs.Prelude.{OnOk, IfOk};
     ghost use Rattle.std.specs.FinMap as fin;
     ghost use Rattle.file_tree.specs.declared.nodes.Node.{Node};
     ghost use Rattle.file_tree.specs.declared.nodes.Spot.{Spot};
@@ -52,7 +53,8 @@ impl Store {
     ghost use Rattle.file_tree.specs.Tree.{number_at, moved};
     ghost use Rattle.file_tree.specs.Changes.{CanChange, IsChangedAt, IsChangedBy, IsRoomier, HasRoom};
     ghost use Rattle.plain_tree.specs.Paths.{Path, parent_of};
-    ghost use Rattle.file_tree.specs.Places.{used, IsStored, IsThere, CanFill, CanAppend, CanTake, CanShift, IsSetIn, IsChangedIn};
+    ghost use Rattle.file_tree.specs.Places.{used, IsStored, IsThere, CanFill, CanAppend, CanTake, CanShift, IsSetIn};
+    ghost use Rattle.file_tree.specs.Places.{IsChangedIn};
 
     /// The root alone.
     pub fn new(alloc: Global, root: Node) -> Result<Store, NoMemory>

@@ -74,7 +74,8 @@ impl Model for Tree {
 }
 
 impl Tree {
-    ghost use Rattle.std.specs.Prelude.{◌≡◌, ◌≢◌, ℕ, ◌+◌, ◌^◌, ◌≤◌, ◌==◌, if◌then◌else◌, nat_lt, length, List, [], ◌∷◌, ◌++◌, Some, OnOk, IfOk};
+    ghost use Rattle.std.specs.Prelude.{◌≡◌, ◌≢◌, ℕ, ◌+◌, ◌^◌, ◌≤◌, ◌==◌, if◌then◌else◌, nat_lt, length, List, []};
+    ghost use Rattle.std.specs.Prelude.{◌∷◌, ◌++◌, Some, OnOk, IfOk};
     ghost use Rattle.std.specs.FinMap as fin;
     ghost use Rattle.extent_map.specs.Laid.{Laid, Room, overlaid, resized};
     ghost use Rattle.extent_map.specs.Cells.{Tape};
@@ -93,10 +94,11 @@ impl Tree {
     ghost use Rattle.file_tree.specs.Told.{told_nodes};
     ghost use Rattle.file_tree.specs.Valid.{IsFileOf, IsGood};
     ghost use Rattle.file_tree.specs.Blocks.{AddsNoBlock, AddsBlocksOf};
-    ghost use Rattle.file_tree.specs.Edits.{CanMake, CanUnlink, CanMoveTo, CanWrite, IsAfter, IsWritten, IsTruncated, NumbersCome, AllLie, OthersLie, KeepsVolume};
+    ghost use Rattle.file_tree.specs.Edits.{CanMake, CanUnlink, CanMoveTo, CanWrite, IsAfter, IsWritten, IsTruncated};
+    ghost use Rattle.file_tree.specs.Edits.{NumbersCome, AllLie, OthersLie, KeepsVolume};
 
-    /// The tree of a valid index. The letters are those of the index partition and the data partition, and each block of
-    /// the volume has so many bytes. The extents that have bytes are on one of these partitions.
+    /// The tree of a valid index. The letters are those of the index partition and the data partition, and each block
+    /// of the volume has so many bytes. The extents that have bytes are on one of these partitions.
     pub fn from_index(
         alloc: Global,
         index: &Index,
@@ -189,8 +191,8 @@ impl Tree {
         self.places.list(alloc, dir)
     }
 
-    /// The nodes in the order of the document (LTFS 2.4 on the index): a directory before what is in it, and children by
-    /// the bytes of their names. The letters are those of the index partition and the data partition.
+    /// The nodes in the order of the document (LTFS 2.4 on the index): a directory before what is in it, and children
+    /// by the bytes of their names. The letters are those of the index partition and the data partition.
     pub fn to_nodes(
         &self,
         alloc: Global,

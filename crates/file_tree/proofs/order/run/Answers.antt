@@ -1,18 +1,15 @@
-use Rattle.std.proofs.Common.{sym, subst}
+use Rattle.std.proofs.Common.{length, subst, rules}
 use Rattle.file_tree.specs.Seen.{held}
-use Rattle.file_tree.specs.Order.{IsRun}
-use Rattle.file_tree.proofs.RunLemmas.{run_order, run_is}
+use Rattle.file_tree.specs.Chains.{IsChainOf, classes_of}
+use Rattle.file_tree.proofs.SortLemmas.{sorted_by, run_sorted}
 use Rattle.file_tree.proofs.order.run.Goals as goal
-
-pub part-requires-clause-rise : goal.part-requires-clause-rise
-part-requires-clause-rise c =
-    run_order (held c.args.spots.now) c.args.order.now c.requires.ordered c.args.dir c.place_of-first.result c.place_of-last.result
-    c.place_of-first.ensures.before c.place_of-first.ensures.past c.place_of-last.ensures.before c.place_of-last.ensures.past c.place_of-first.ensures.bound
 
 pub returns : goal.returns
 returns c =
-    let order = run_order (held c.args.spots.now) c.args.order.now c.requires.ordered c.args.dir c.place_of-first.result c.place_of-last.result
-    c.place_of-first.ensures.before c.place_of-first.ensures.past c.place_of-last.ensures.before c.place_of-last.ensures.past c.place_of-first.ensures.bound in
-    subst (λ l. IsRun (held c.args.spots.now) c.args.dir l) (sym c.part.ensures)
-    (run_is (held c.args.spots.now) c.args.order.now c.requires.ordered c.args.dir c.place_of-first.result c.place_of-last.result
-    c.place_of-first.ensures.before c.place_of-first.ensures.past c.place_of-last.ensures.before c.place_of-last.ensures.past order)
+    let at = held c.args.spots.now in
+    let count = length c.args.siblings.now.firsts.items in
+    run_sorted at count c.args.dir c.in_ok-numbers.numbers.items c.sort_unstable_by.new.self.items
+    (subst (λ b. IsChainOf (classes_of b count at) c.args.dir c.in_ok-numbers.numbers.items) c.requires.by
+    (c.in_ok-numbers.ensures (classes_of c.args.siblings.now.by count at) c.requires.linked))
+    c.requires.apart c.sort_unstable_by.ensures.permutation
+    (sorted_by at c.sort_unstable_by.new.self.items c.sort_unstable_by.ensures.sorted (λ a r f'. search rules))

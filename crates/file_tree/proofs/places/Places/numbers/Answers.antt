@@ -46,12 +46,13 @@ loop-number-preserved c =
     let split : c.loop-number.open.items ≡ c.pop.new.self.items ++ c.in-Some.number ∷ [] = search rules in
     let w = subst (λ l. Walked m c.loop-number.numbers.items l) (ap reverse split ∙ reverse-append c.pop.new.self.items (c.in-Some.number ∷ [])) c.loop-number.invariant in
     let pushed : c.push.new.self.items ≡ c.loop-number.numbers.items ++ c.in-Some.number ∷ [] = search rules in
-    let rest : reverse c.push_run.new.numbers.items ≡ c.run.result.now ++ reverse c.pop.new.self.items =
-    ap reverse c.in_ok-push_run.ensures ∙ reverse-append c.pop.new.self.items (reverse c.run.result.now) ∙ ap (λ l. l ++ reverse c.pop.new.self.items) (reverse-reverse c.run.result.now) in
+    let rest : reverse c.push_run.new.numbers.items ≡ c.in_ok-inside.inside.items ++ reverse c.pop.new.self.items =
+    ap reverse (c.in_ok-push_run.ensures ∙ ap (λ l. c.pop.new.self.items ++ reverse l) c.deref.ensures.value) ∙ reverse-append c.pop.new.self.items (reverse c.in_ok-inside.inside.items)
+    ∙ ap (λ l. l ++ reverse c.pop.new.self.items) (reverse-reverse c.in_ok-inside.inside.items) in
     let there = w.rest_there.0 in
     subst (λ l. Walked m l (reverse c.push_run.new.numbers.items)) (sym pushed)
     (subst (λ l. Walked m (c.loop-number.numbers.items ++ c.in-Some.number ∷ []) l) (sym rest)
-    (walk_steps m (one_number (held i.store.spots) m s.shown) c.in-Some.number there.0 there.1 c.loop-number.numbers.items (reverse c.pop.new.self.items) c.run.result.now w (c.run.ensures there.0 there.1)
+    (walk_steps m (one_number (held i.store.spots) m s.shown) c.in-Some.number there.0 there.1 c.loop-number.numbers.items (reverse c.pop.new.self.items) c.in_ok-inside.inside.items w (c.in_ok-inside.ensures there.0 there.1)
     (above_there i.store.spots m s.shown)))
 
 pub returns : goal.returns
