@@ -1,6 +1,6 @@
 // Measures how a cartridge is mounted: mounts the one in the folder that the first word names, as often as the second
-// word says. Prints how many nodes it has, or why it has none. With the word `clock` behind it, it also prints the least
-// time of a mount by the clock.
+// word says. Prints how many nodes it has, or why it has none. With the word `clock` behind it, it also prints the
+// least time of a mount by the clock.
 #![tactic(auto)]
 
 use file_drive::FileDrive;
