@@ -1,6 +1,6 @@
 #!/usr/bin/env bash
-# Runs the tests of `serve`, with no proof, on a copy of the crates in which they stand in the program in place of its
-# own. A line tells how many have passed; where one fails, all that was said is told.
+# Runs the tests of `serve`, with no proof, on a copy of the crates in which they stand in the program. A line tells how
+# many have passed; where one fails, all that was said is told.
 # With --all as the first word: also those that take long, which stand behind "By hand." and are no tests of the gate.
 # With --only logs as the first words: those of that file, which are no tests of the gate. What follows goes to
 # `rt try`, as `-- WORD` for the tests whose names have that word. Then all is told.
@@ -28,10 +28,6 @@ piece=$copy/crates/tape_edge/src/input.rt
 sed -i 's/^const PIECE: usize = 131072;$/const PIECE: usize = 4096;/' "$piece"
 grep -q '^const PIECE: usize = 4096;$' "$piece"
 src=$copy/crates/ltfs_server/src
-for name in $(grep -A 1 '^#\[cfg(test)\]$' "$src/main.rt" | sed -n 's/^mod \(.*\);$/\1/p'); do
-  rm "$src/$name.rt"
-done
-sed -i '/^#\[cfg(test)\]$/,+1d' "$src/main.rt"
 for name in $names; do
   sed "\\|$skipped|,/^}\$/d" "$here/$name.rt.in" > "$src/$name.rt"
   printf '#[cfg(test)]\nmod %s;\n' "$name" >> "$src/main.rt"

@@ -6,24 +6,14 @@ mod formats;
 mod labels;
 mod laws;
 mod lists;
-#[cfg(test)]
-mod made;
 mod making;
-#[cfg(test)]
-mod order;
 mod plain;
-#[cfg(test)]
-mod rows;
 mod running;
 mod scripts;
-#[cfg(test)]
-mod served;
 mod server;
 mod serves;
 mod session;
 mod telling;
-#[cfg(test)]
-mod tests;
 mod timed;
 
 use file_drive::FileDrive;
