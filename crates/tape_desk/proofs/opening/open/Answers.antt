@@ -1,4 +1,4 @@
-use Rattle.std.proofs.Common.{ℕ, List, subst, sym}
+use Rattle.std.proofs.Common.{ℕ, List, ap, subst, sym}
 use Rattle.tape_desk.specs.Dealing.{AreCounts}
 use Rattle.tape_desk.proofs.Deals.{can_deal}
 use Rattle.tape_desk.proofs.opening.open.Goals as goal
@@ -9,3 +9,6 @@ deal-passes-requires-clause-whole g c =
     c.in-Ok-new.ensures.pass c.requires.fresh c.requires.sessions
     (subst (λ (counts : List ℕ). AreCounts c.args.volume.fixed c.args.sessions counts) (sym c.as_slice.ensures.value)
     c.in-Some.ensures)
+
+pub returns-in-Ok-new-clause-ok : goal.returns-in-Ok-new-clause-ok
+returns-in-Ok-new-clause-ok g c = c.deal-passes.ensures c.args.volume.fixed (ap (λ w. w.fixed) c.in-Ok-new.ensures.pass)
