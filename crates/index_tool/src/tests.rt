@@ -27,20 +27,20 @@ const OTHER: &str = "<?xml version=\"1.0\" encoding=\"UTF-8\"?>\n\
     \x20   <fileuid>1</fileuid>\n\
     \x20   <name>Archive</name>\n\
     \x20   <creationtime>2020-01-28T19:39:50.715656751Z</creationtime>\n\
-    \x20     <changetime>2020-01-28T19:39:50.715656751Z</changetime>\n\
-    \x20     <modifytime>2020-01-28T19:39:50.715656751Z</modifytime>\n\
-    \x20     <accesstime>2020-01-28T19:39:50.715656751Z</accesstime>\n\
-    \x20     <backuptime>2020-01-28T19:39:50.715656751Z</backuptime>\n\
+    \x20   <changetime>2020-01-28T19:39:50.715656751Z</changetime>\n\
+    \x20   <modifytime>2020-01-28T19:39:50.715656751Z</modifytime>\n\
+    \x20   <accesstime>2020-01-28T19:39:50.715656751Z</accesstime>\n\
+    \x20   <backuptime>2020-01-28T19:39:50.715656751Z</backuptime>\n\
     \x20   <readonly>false</readonly>\n\
     \x20   <contents>\n\
     \x20     <directory>\n\
     \x20       <fileuid>2</fileuid>\n\
     \x20       <name>docs</name>\n\
     \x20       <creationtime>2020-01-28T19:39:50.715656751Z</creationtime>\n\
-    \x20     <changetime>2020-01-28T19:39:50.715656751Z</changetime>\n\
-    \x20     <modifytime>2020-01-28T19:39:50.715656751Z</modifytime>\n\
-    \x20     <accesstime>2020-01-28T19:39:50.715656751Z</accesstime>\n\
-    \x20     <backuptime>2020-01-28T19:39:50.715656751Z</backuptime>\n\
+    \x20       <changetime>2020-01-28T19:39:50.715656751Z</changetime>\n\
+    \x20       <modifytime>2020-01-28T19:39:50.715656751Z</modifytime>\n\
+    \x20       <accesstime>2020-01-28T19:39:50.715656751Z</accesstime>\n\
+    \x20       <backuptime>2020-01-28T19:39:50.715656751Z</backuptime>\n\
     \x20       <readonly>false</readonly>\n\
     \x20       <contents>\n\
     \x20         <file>\n\
@@ -48,10 +48,10 @@ const OTHER: &str = "<?xml version=\"1.0\" encoding=\"UTF-8\"?>\n\
     \x20           <name>read me.txt</name>\n\
     \x20           <length>5</length>\n\
     \x20           <creationtime>2020-01-28T19:39:50.715656751Z</creationtime>\n\
-    \x20     <changetime>2020-01-28T19:39:50.715656751Z</changetime>\n\
-    \x20     <modifytime>2020-01-28T19:39:50.715656751Z</modifytime>\n\
-    \x20     <accesstime>2020-01-28T19:39:50.715656751Z</accesstime>\n\
-    \x20     <backuptime>2020-01-28T19:39:50.715656751Z</backuptime>\n\
+    \x20           <changetime>2020-01-28T19:39:50.715656751Z</changetime>\n\
+    \x20           <modifytime>2020-01-28T19:39:50.715656751Z</modifytime>\n\
+    \x20           <accesstime>2020-01-28T19:39:50.715656751Z</accesstime>\n\
+    \x20           <backuptime>2020-01-28T19:39:50.715656751Z</backuptime>\n\
     \x20           <readonly>false</readonly>\n\
     \x20           <openforwrite>false</openforwrite>\n\
     \x20           <extentinfo>\n\
@@ -71,10 +71,10 @@ const OTHER: &str = "<?xml version=\"1.0\" encoding=\"UTF-8\"?>\n\
     \x20       <name>latest</name>\n\
     \x20       <length>16</length>\n\
     \x20       <creationtime>2020-01-28T19:39:50.715656751Z</creationtime>\n\
-    \x20     <changetime>2020-01-28T19:39:50.715656751Z</changetime>\n\
-    \x20     <modifytime>2020-01-28T19:39:50.715656751Z</modifytime>\n\
-    \x20     <accesstime>2020-01-28T19:39:50.715656751Z</accesstime>\n\
-    \x20     <backuptime>2020-01-28T19:39:50.715656751Z</backuptime>\n\
+    \x20       <changetime>2020-01-28T19:39:50.715656751Z</changetime>\n\
+    \x20       <modifytime>2020-01-28T19:39:50.715656751Z</modifytime>\n\
+    \x20       <accesstime>2020-01-28T19:39:50.715656751Z</accesstime>\n\
+    \x20       <backuptime>2020-01-28T19:39:50.715656751Z</backuptime>\n\
     \x20       <readonly>false</readonly>\n\
     \x20       <symlink>docs/read me.txt</symlink>\n\
     \x20     </file>\n\

@@ -25,7 +25,7 @@ use Rattle.ltfs_server.specs.Came.{CameOf, WasRun}
 use Rattle.ltfs_server.specs.Serving.{HoldsTree, IsBegun, IsLookedAt}
 use Rattle.ltfs_server.specs.declared.running.CameTo.{CameTo}
 use Rattle.ltfs_server.proofs.LabelRanges.{block_in_range}
-use Rattle.ltfs_server.proofs.LetterRanges.{letters_in_range}
+use Rattle.mount_recover.proofs.LetterRanges.{letters_in_range}
 use Rattle.ltfs_server.proofs.Told.{if_some, of_some}
 
 -- what was mounted can be served

@@ -3,9 +3,7 @@ pub mod CameSteps
 pub mod EndedRuns
 pub mod FormatClauses
 pub mod LabelClauses
-pub mod LabelKept
 pub mod LabelRanges
-pub mod LetterRanges
 pub mod ListClauses
 pub mod MakeClauses
 pub mod MakeSteps

@@ -2,9 +2,11 @@
 use Rattle.std.proofs.Common.{ℕ, zero, suc, ◌≤◌, ◌<◌, ◌≡◌, ◌≢◌, inl, inr, List, [], ◌∷◌, Option, Some, None, Result, Ok, Err, IfOk, IfErr, refl, sym, ◌∙◌, ap, subst, arith}
 use Rattle.std.specs.Prelude.{IfSome, Bool, true, false, cond, nat_lt}
 use Rattle.std.specs.List.{AllByRecursion}
+use Rattle.std.proofs.lemmas.Bool.Decides.{nat_tests}
 use Rattle.tape_types.specs.declared.cartridges.Cartridge.{Cartridge}
 use Rattle.tape_types.specs.declared.cartridges.Item.{Item}
 use Rattle.tape_types.specs.declared.cartridges.Limits.{Limits}
+use Rattle.tape_types.specs.declared.cartridges.Part.TheVariants.{Ip, Dp}
 use Rattle.index_model.specs.declared.indexes.Index.{Index}
 use Rattle.ltfs_label.specs.declared.Label.{Label}
 use Rattle.tape_content.specs.Readings as readings
@@ -21,13 +23,15 @@ use Rattle.tape_meaning.specs.declared.labels.Labels.{Labels}
 use Rattle.volume_scan.specs.declared.content.Construct.{Construct}
 use Rattle.volume_scan.specs.declared.content.Content.{Content}
 use Rattle.volume_scan.specs.Scans.{AreBetween, IsInPlaces, places_of}
-use Rattle.mount_recover.specs.Lasts.{AreInPlaces, AreLasts, AreSoundLasts, HasNone, IsChosen, IsDecided, IsFirstOutside, IsIpEnd, IsScan, IsSeen, IsSound, IsSoundChoice, IsSoundLast, dp_ends, index_in, newest, place_in, standing_of}
+use Rattle.mount_recover.specs.Lasts.{AreInPlaces, AreLasts, AreSoundLasts, HasNone, IsChosen, IsDecided, IsFirstOutside, IsIpEnd, IsPicked, IsScan, IsSeen, IsSound, IsSoundChoice, IsSoundLast, dp_ends, dp_in, index_in, ip_in, newest, place_in, standing_of, twin_of}
 use Rattle.mount_recover.specs.Labels.{AreCounts}
 use Rattle.mount_recover.specs.Steps.{Blames}
 use Rattle.mount_recover.specs.declared.choices.Choice.{Choice}
 use Rattle.mount_recover.specs.declared.choices.Standing.{Standing}
 use Rattle.mount_recover.specs.declared.lasts.Last.{Last}
 use Rattle.mount_recover.specs.declared.lasts.Lasts.{Lasts}
+use Rattle.mount_recover.specs.declared.lasts.Lasts.TheVariants as found
+use Rattle.mount_recover.specs.declared.lasts.Twin.{Twin}
 use Rattle.mount_recover.specs.declared.scans.Scans.{Scans}
 use Rattle.volume_scan.proofs.Told.{lacks_form}
 
@@ -97,6 +101,17 @@ dp_in_range capacity label (Some l) end least sound ends = (
   omega (arith, ends, sound.place.block),
 )
 
+-- an index of its generation is beside that of the data partition
+pub picked_alike : (twin : Twin) (dp : Last) → IsPicked (ip_in (found.Alike twin dp)) (Some dp) dp Dp
+picked_alike twin dp = record {
+  index = ap (λ (b : Bool). Some (cond b (twin_of dp.index twin) dp.index)) (not_below dp.index.generation);
+  side_is = ap (λ (b : Bool). cond b Ip Dp) (not_below dp.index.generation);
+  on = refl;
+}
+  where
+    not_below : (n : ℕ) → nat_lt n n ≡ false
+    not_below n = grind (arith, nat_tests)
+
 -- ---- what is decided
 
 module _ (c : Cartridge) (labels : Labels) (s : Scans) (lasts : Lasts) (scan : IsScan labels s c) (are : AreLasts labels.ip lasts c) where
@@ -111,13 +126,13 @@ module _ (c : Cartridge) (labels : Labels) (s : Scans) (lasts : Lasts) (scan : I
     dp = none_newest (indexes_of c.dp) (ap place_in (sym none.1) ∙ are.dp.place);
   }
 
-  module _ (choice : Choice) (is : IsChosen lasts choice) (ip : IsIpEnd s.ip (standing_of lasts.ip) choice.ends.ip)
-      (dp : choice.ends.dp ≡ dp_ends (standing_of lasts.dp)) where
+  module _ (choice : Choice) (is : IsChosen lasts choice) (ip : IsIpEnd s.ip (standing_of (ip_in lasts)) choice.ends.ip)
+      (dp : choice.ends.dp ≡ dp_ends (standing_of (dp_in lasts))) where
     ip_is : choice.ends.ip ≡ ip_end c
-    ip_is = ends_ip c.ip lasts.ip s.ip choice.ends.ip scan.ip are.ip.place ip
+    ip_is = ends_ip c.ip (ip_in lasts) s.ip choice.ends.ip scan.ip are.ip.place ip
 
     dp_is : choice.ends.dp ≡ dp_end c
-    dp_is = dp ∙ ends_dp (indexes_of c.dp) lasts.dp are.dp.place
+    dp_is = dp ∙ ends_dp (indexes_of c.dp) (dp_in lasts) are.dp.place
 
     pub decided : AllByRecursion (FitsNode labels.ip choice.ends.ip choice.ends.dp) choice.index.nodes → IsDecided labels lasts choice c
     decided fits = record {
@@ -138,9 +153,9 @@ module _ (c : Cartridge) (labels : Labels) (s : Scans) (lasts : Lasts) (scan : I
         record {
           labels = labels;
           forms = forms;
-          on_dp = index_in lasts.dp;
+          on_dp = index_in (dp_in lasts);
           dp_last = are.dp.index;
-          on_ip = index_in lasts.ip;
+          on_ip = index_in (ip_in lasts);
           ip_last = are.ip.index;
           index = choice.index;
           choice = is.picked.index ∙ ap (λ (x : Index). Some x) (sym is.index);
@@ -166,23 +181,23 @@ sound_index label (Some i) (Some d) capacity other index ip dp is = either (nat_
     either false e = let same : d.index ≡ index = cc e in subst (IsSound label) same dp.index
 
 pub sound_choice : (label : Label) (s : Scans) (lasts : Lasts) (choice : Choice) (limits : Limits) → IsChosen lasts choice
-    → IsIpEnd s.ip (standing_of lasts.ip) choice.ends.ip → choice.ends.dp ≡ dp_ends (standing_of lasts.dp)
+    → IsIpEnd s.ip (standing_of (ip_in lasts)) choice.ends.ip → choice.ends.dp ≡ dp_ends (standing_of (dp_in lasts))
     → AllByRecursion (FitsNode label choice.ends.ip choice.ends.dp) choice.index.nodes → AreInPlaces limits s → AreSoundLasts label limits lasts
     → IsSoundChoice label limits choice
 sound_choice label s lasts choice limits is ip dp fits places sound =
     let least : 4 ≤ limits.cap_dp = omega (arith, from_four s.dp.constructs 4 s.dp.lead places.1.constructs, places.1.lead, places.1.front) in
-    let d = dp_in_range limits.cap_dp label lasts.dp choice.ends.dp least sound.dp dp in
+    let d = dp_in_range limits.cap_dp label (dp_in lasts) choice.ends.dp least sound.dp dp in
     record {
-      index = subst (IsSound label) (sym is.index) (sound_index label lasts.ip lasts.dp limits.cap_ip limits.cap_dp is.last.index sound.ip sound.dp is.picked.index);
+      index = subst (IsSound label) (sym is.index) (sound_index label (ip_in lasts) (dp_in lasts) limits.cap_ip limits.cap_dp is.last.index sound.ip sound.dp is.picked.index);
       fits = fits;
       last_dp = subst (λ (o : Option Standing). IfSome o (λ s. s.place.first < choice.ends.dp)) (sym is.dp) d.2;
-      ip = ip_in_range limits.cap_ip label lasts.ip s.ip choice.ends.ip places.0 sound.ip ip;
+      ip = ip_in_range limits.cap_ip label (ip_in lasts) s.ip choice.ends.ip places.0 sound.ip ip;
       dp = (d.0, d.1);
     }
 
 -- what a check of the extents answers
-module _ (labels : Labels) (s : Scans) (lasts : Lasts) (choice : Choice) (is : IsChosen lasts choice) (ip : IsIpEnd s.ip (standing_of lasts.ip) choice.ends.ip)
-    (dp : choice.ends.dp ≡ dp_ends (standing_of lasts.dp)) where
+module _ (labels : Labels) (s : Scans) (lasts : Lasts) (choice : Choice) (is : IsChosen lasts choice) (ip : IsIpEnd s.ip (standing_of (ip_in lasts)) choice.ends.ip)
+    (dp : choice.ends.dp ≡ dp_ends (standing_of (dp_in lasts))) where
   pub ok_decided : (r : Result Choice MountErr)
       → IfOk r (λ x. (x ≡ choice) × AllByRecursion (FitsNode labels.ip choice.ends.ip choice.ends.dp) choice.index.nodes)
       → IfOk r (λ x. (c : Cartridge) → IsScan labels s c → AreLasts labels.ip lasts c → IsDecided labels lasts x c)

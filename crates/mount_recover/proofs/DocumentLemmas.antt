@@ -1,7 +1,10 @@
 -- Reading the document of an index.
-use Rattle.std.proofs.Common.{ℕ, zero, suc, ◌+◌, ◌*◌, ◌-◌, ◌^◌, ◌≤◌, ◌<◌, ◌≡◌, List, [], ◌∷◌, ◌++◌, length, take, slice_get, get_or, Option, Some, None, Ok, refl, sym, ◌∙◌, ap, subst, arith, append_assoc}
-use Rattle.std.specs.List.{concat}
+use Rattle.std.proofs.Common.{ℕ, zero, suc, ◌+◌, ◌*◌, ◌-◌, ◌^◌, ◌≤◌, ◌<◌, ◌≡◌, Bool, true, false, List, [], ◌∷◌, ◌++◌, length, take, drop, slice_get, get_or, Option, Some, None, Ok, refl, sym, ◌∙◌, ap, subst, arith, append_assoc, length-append, length-drop, take-add, take_all, take_at}
+use Rattle.std.specs.Prelude.{nat_eq}
+use Rattle.std.specs.List.{concat, starts_with}
 use Rattle.std.proofs.lemmas.Option.{slice_get-get_or}
+use Rattle.std.proofs.lemmas.Bool.Decides.{Decides-eqb}
+use Rattle.std.proofs.lemmas.Slice.Eq.{starts_is}
 use Rattle.tape_types.specs.declared.cartridges.Cartridge.{Cartridge}
 use Rattle.tape_types.specs.declared.cartridges.Item.{Item}
 use Rattle.tape_types.specs.declared.cartridges.Item.TheVariants.{Block, Mark, Torn}
@@ -28,8 +31,9 @@ use Rattle.tape_content.proofs.Whole.{front_within}
 use Rattle.tape_meaning.specs.Pointers.{indexes_of}
 use Rattle.volume_scan.specs.declared.content.Construct.{Construct}
 use Rattle.volume_scan.specs.Scans.{places_of}
-use Rattle.mount_recover.specs.Lasts.{IsBadText, IsDocument, IsInPlace, IsNewest, StandAt, newest, told}
+use Rattle.mount_recover.specs.Lasts.{IsBadText, IsDocument, IsInPlace, IsNewest, IsPut, StandAt, newest, told}
 use Rattle.mount_recover.specs.Steps.{IsFree, IsSince, IsStep}
+use Rattle.mount_recover.specs.declared.documents.Beside.{Beside}
 use Rattle.mount_recover.specs.declared.starts.Start.{Start}
 use Rattle.mount_recover.proofs.StandLemmas.{newest_stands}
 use Rattle.mount_recover.proofs.StepLemmas.{at_told, looks_more, since_next}
@@ -53,31 +57,59 @@ concat_more (x ∷ bs) zero b is = let same : x ≡ b = cc is in append_nil x �
     append_nil (a ∷ x) = ap (λ (l : List ℕ). a ∷ l) (append_nil x)
 concat_more (x ∷ bs) (suc n) b is = ap (λ (l : List ℕ). x ++ l) (concat_more bs n b is) ∙ sym (append_assoc x (concat (take n bs)) b)
 
-take_whole : (n : ℕ) (bs : List (List ℕ)) → length bs ≡ n → take n bs ≡ bs
-take_whole zero [] is = refl
-take_whole zero (b ∷ bs) is = absurd (omega (arith, is))
-take_whole (suc n) [] is = absurd (omega (arith, is))
-take_whole (suc n) (b ∷ bs) is = ap (λ (l : List (List ℕ)). b ∷ l) (take_whole n bs (omega (arith, is)))
+-- ---- a block behind the bytes that are read
+
+pub rest_of : (at : ℕ) (xs : List ℕ) → take (length xs - at) (drop at xs) ≡ drop at xs
+rest_of at xs = take_all (length xs - at) (drop at xs) (omega (arith, length-drop at xs))
+
+module _ (read : Beside) (block before : List ℕ) (within : read.at ≤ length before) where
+  pub stands_there : starts_with nat_eq (drop read.at before) block ≡ true
+      → IsPut read block before before (record { at = read.at + length block; same = read.same })
+  stands_there begins =
+      let rest : drop read.at before ≡ block ++ drop (length block) (drop read.at before) =
+      (starts_is Decides-eqb (drop read.at before) block (starts_with nat_eq (drop read.at before) block) refl).0 begins in
+      let there : take (length block) (drop read.at before) ≡ block =
+      ap (take (length block)) rest ∙ take_at block (drop (length block) (drop read.at before)) (length block) refl in
+      record {
+        within = omega (
+          arith,
+          within,
+          length-drop read.at before,
+          ap length rest,
+          length-append block (drop (length block) (drop read.at before)),
+        );
+        bytes = take-add read.at (length block) before ∙ ap (λ (l : List ℕ). take read.at before ++ l) there;
+        same = λ is. (is, refl);
+      }
+
+  pub put_there : (after : List ℕ) (at : ℕ) → after ≡ take read.at before ++ block → at ≡ length after
+      → IsPut read block before after (record { at = at; same = false })
+  put_there after at is long =
+      record { within = omega (arith, long); bytes = take_all at after (omega (arith, long)) ∙ is; same = λ bad. absurd (cc bad) }
 
 module _ {D : Type 0} (drive : Ghosts D) where
-  -- so many blocks have been read
-  pub record Going (first now : D) (before document : List ℕ) (blocks done : ℕ) : Type 0 where
+  -- so many blocks have been read, in place of a text
+  pub record Going (first now : D) (before document : List ℕ) (blocks done : ℕ) (read : Beside) : Type 0 where
     pub looks : Looks drive (done * drive.MOST) first now
     pub head : (at : Place) × (drive.head now ≡ Some at)
     pub later : drive.faults first ≤ drive.faults now
     pub within : done ≤ blocks
+    pub put : read.at ≤ length document
+    pub same : read.same ≡ true → document ≡ before
     pub told : (at : Place) (c : Cartridge) (bs : List (List ℕ)) → drive.head first ≡ Some at → drive.held first ≡ Some c → length bs ≡ blocks
         → StandAt (items_of at.part c) at.pos bs
-        → (drive.head now ≡ Some (record { part = at.part; pos = at.pos + done })) × (document ≡ before ++ concat (take done bs))
+        → (drive.head now ≡ Some (record { part = at.part; pos = at.pos + done })) × (take read.at document ≡ concat (take done bs))
 
   pub begun : (first : D) (before : List ℕ) (blocks : ℕ) → drive.commands first ≤ 2 ^ 64 - 1 → (at : Place) × (drive.head first ≡ Some at)
-      → Going first first before before blocks 0
+      → Going first first before before blocks 0 (record { at = 0; same = true })
   begun first before blocks commands head = record {
     looks = subst (λ (most : ℕ). Looks drive most first first) (none drive.MOST) (no_looks drive first commands);
     head = head;
     later = omega arith;
     within = omega arith;
-    told = λ at c bs h k len stand. (h ∙ ap Some (place_same at), sym (append_nil before));
+    put = omega arith;
+    same = λ is. refl;
+    told = λ at c bs h k len stand. (h ∙ ap Some (place_same at), refl);
   }
     where
       none : (k : ℕ) → 0 ≡ 0 * k
@@ -86,31 +118,32 @@ module _ {D : Type 0} (drive : Ghosts D) where
       place_same : (at : Place) → at ≡ record { part = at.part; pos = at.pos + 0 }
       place_same at = let same : at.pos ≡ at.pos + 0 = omega arith in λ i. record { part = at.part; pos = same i }
 
-      append_nil : (x : List ℕ) → x ++ [] ≡ x
-      append_nil [] = refl
-      append_nil (a ∷ x) = ap (λ (l : List ℕ). a ∷ l) (append_nil x)
-
-  pub goes_on : (first now after : D) (before document more : List ℕ) (blocks done : ℕ) → Going first now before document blocks done → done < blocks
+  pub goes_on : (first now after : D) (before document more buffer : List ℕ) (blocks done : ℕ) (read next_read : Beside)
+      → Going first now before document blocks done read → done < blocks
       → (at : Place) × (drive.head after ≡ Some at) → drive.faults now ≤ drive.faults after → Looks drive drive.MOST now after
+      → IsPut read buffer document more next_read
       → ((at : Place) (c : Cartridge) (b : List ℕ) → drive.head now ≡ Some at → drive.held now ≡ Some c → item_at at c ≡ Some (Block b)
-      → (drive.head after ≡ Some (next at)) × (more ≡ document ++ b))
-      → Going first after before more blocks (done + 1)
-  goes_on first now after before document more blocks done going lt head later look step = record {
+      → (drive.head after ≡ Some (next at)) × (buffer ≡ b))
+      → Going first after before more blocks (done + 1) next_read
+  goes_on first now after before document more buffer blocks done read next_read going lt head later look put step = record {
     looks =
         subst (λ (most : ℕ). Looks drive most first after) (one_more done drive.MOST)
         (then_looks drive (done * drive.MOST) drive.MOST first now after going.looks look);
     head = head;
     later = omega (arith, going.later, later);
     within = omega (arith, lt);
+    put = put.within;
+    same = λ is. (put.same is).1 ∙ going.same (put.same is).0;
     told = λ at c bs h k len stand.
         let t = going.told at c bs h k len stand in
         let is : slice_get bs done ≡ Some (get_or bs done []) = slice_get-get_or bs done [] (omega (arith, len, lt)) in
         let s = step (record { part = at.part; pos = at.pos + done }) c (get_or bs done []) t.0 (going.looks.held ∙ k) (stand done (get_or bs done []) is) in (
           s.0 ∙ ap Some (place_more at),
-          s.1
-              ∙ ap (λ (l : List ℕ). l ++ get_or bs done []) t.1
-              ∙ append_assoc before (concat (take done bs)) (get_or bs done [])
-              ∙ ap (λ (l : List ℕ). before ++ l) (sym (concat_more bs done (get_or bs done []) is) ∙ ap (λ (n : ℕ). concat (take n bs)) next_is),
+          put.bytes
+              ∙ ap (λ (l : List ℕ). l ++ buffer) t.1
+              ∙ ap (λ (l : List ℕ). concat (take done bs) ++ l) s.1
+              ∙ sym (concat_more bs done (get_or bs done []) is)
+              ∙ ap (λ (n : ℕ). concat (take n bs)) next_is,
         );
   }
     where
@@ -123,16 +156,19 @@ module _ {D : Type 0} (drive : Ghosts D) where
       place_more : (at : Place) → next (record { part = at.part; pos = at.pos + done }) ≡ record { part = at.part; pos = at.pos + (done + 1) }
       place_more at = let same : at.pos + done + 1 ≡ at.pos + (done + 1) = omega arith in λ i. record { part = at.part; pos = same i }
 
-  pub all_read : (first now : D) (before document : List ℕ) (blocks done : ℕ) → Going first now before document blocks done → blocks ≤ done
-      → (at : Place) (c : Cartridge) (bs : List (List ℕ)) → drive.head first ≡ Some at → drive.held first ≡ Some c → length bs ≡ blocks
-      → StandAt (items_of at.part c) at.pos bs → document ≡ before ++ concat bs
-  all_read first now before document blocks done going le at c bs h k len stand =
-      (going.told at c bs h k len stand).1 ∙ ap (λ (l : List (List ℕ)). before ++ concat l) (take_whole done bs (omega (arith, going.within, le, len)))
+  module _ (first now : D) (before document left : List ℕ) (blocks done : ℕ) (read : Beside)
+      (going : Going first now before document blocks done read) (le : blocks ≤ done) (cut : left ≡ take read.at document) where
+    pub all_read : (at : Place) (c : Cartridge) (bs : List (List ℕ)) → drive.head first ≡ Some at → drive.held first ≡ Some c → length bs ≡ blocks
+        → StandAt (items_of at.part c) at.pos bs → left ≡ concat bs
+    all_read at c bs h k len stand =
+        cut ∙ (going.told at c bs h k len stand).1 ∙ ap concat (take_all done bs (omega (arith, going.within, le, len)))
 
-  pub all_looks : (first now : D) (before document : List ℕ) (blocks done : ℕ) → Going first now before document blocks done → blocks ≤ done
-      → Looks drive (blocks * drive.MOST) first now
-  all_looks first now before document blocks done going le =
-      let same : done ≡ blocks = omega (arith, going.within, le) in subst (λ (n : ℕ). Looks drive (n * drive.MOST) first now) same going.looks
+    pub all_same : read.same ≡ true → read.at ≡ length document → left ≡ before
+    all_same same long = cut ∙ take_all read.at document (omega (arith, long)) ∙ going.same same
+
+    pub all_looks : Looks drive (blocks * drive.MOST) first now
+    all_looks =
+        let same : done ≡ blocks = omega (arith, going.within, le) in subst (λ (n : ℕ). Looks drive (n * drive.MOST) first now) same going.looks
 
 -- ---- where the newest index of a partition stands
 
@@ -152,7 +188,7 @@ newests_within part place None known = tt
 newests_within part place (Some c) known = newest_within (items_of part c) place known
 
 document_told : (items : List Item) (place : Construct) (blocks : ℕ) (document : List ℕ) → IsNewest items place → blocks ≡ place.after - place.first - 1
-    → ((bs : List (List ℕ)) → length bs ≡ blocks → StandAt items place.first bs → document ≡ [] ++ concat bs) → IsDocument document (indexes_of items)
+    → ((bs : List (List ℕ)) → length bs ≡ blocks → StandAt items place.first bs → document ≡ concat bs) → IsDocument document (indexes_of items)
 document_told items place blocks document known count read = is_document (indexes_of items) refl known.stands
   where
     is_document : (ks : List readings.Construct) → indexes_of items ≡ ks → newest ks ≡ Some place → IsDocument document ks
@@ -164,21 +200,23 @@ document_told items place blocks document known count read = is_document (indexe
         (subst (λ (n : ℕ). StandAt items n k.blocks) (ap (λ (p : Construct). p.first) same) (newest_stands items k older known.form are))
 
 -- the document was read
-pub document_step : {D : Type 0} (drive : Ghosts D) (start : Start) (a b d : D) (part : Part) (place : Construct) (blocks : ℕ) (before document : List ℕ)
-    → before ≡ [] → IsSince drive start a → IsInPlace (capacity part start.limits) place → IfSome (drive.held a) (λ c. IsNewest (items_of part c) place)
+pub document_step : {D : Type 0} (drive : Ghosts D) (start : Start) (a b d : D) (part : Part) (place : Construct) (blocks : ℕ) (same : Bool)
+    (before document : List ℕ) → IsSince drive start a → IsInPlace (capacity part start.limits) place
+    → IfSome (drive.held a) (λ c. IsNewest (items_of part c) place)
     → blocks ≡ place.after - place.first - 1 → Looks drive drive.MOST a b → drive.faults a ≤ drive.faults b
     → drive.head b ≡ Some (record { part = part; pos = place.first }) → Looks drive (blocks * drive.MOST) b d → drive.faults b ≤ drive.faults d
     → ((at : Place) (c : Cartridge) (bs : List (List ℕ)) → drive.head b ≡ Some at → drive.held b ≡ Some c → length bs ≡ blocks
-    → StandAt (items_of at.part c) at.pos bs → document ≡ before ++ concat bs)
-    → IsStep drive start (1 + capacity part start.limits) a d (λ (done : Unit {0}) c. IsDocument document (indexes_of (items_of part c))) (λ done. Unit {0}) IsFree (Ok tt)
-document_step drive start a b d part place blocks before document empty since in_place known count look later head looks more read =
+    → StandAt (items_of at.part c) at.pos bs → document ≡ concat bs) → (same ≡ true → document ≡ before)
+    → IsStep drive start (1 + capacity part start.limits) a d (λ (same : Bool) c. IsDocument document (indexes_of (items_of part c)))
+    (λ same. same ≡ true → document ≡ before) IsFree (Ok same)
+document_step drive start a b d part place blocks same before document since in_place known count look later head looks more read alike =
     let both = looks_more drive start (1 + blocks) (1 + capacity part start.limits) a d (omega (arith, count, in_place.after))
     (subst (λ (most : ℕ). Looks drive most a d) (one_first blocks drive.MOST) (then_looks drive drive.MOST (blocks * drive.MOST) a b d look looks)) in
     let now : start.faults ≤ drive.faults d = omega (arith, since.faults, later, more) in
     record {
       found = λ c h. document_told (items_of part c) place blocks document (at_told (λ c. IsNewest (items_of part c) place) h known) count
-          (λ bs len stand. read (record { part = part; pos = place.first }) c bs head (look.held ∙ h) len stand ∙ ap (λ (l : List ℕ). l ++ concat bs) empty);
-      any = tt;
+          (λ bs len stand. read (record { part = part; pos = place.first }) c bs head (look.held ∙ h) len stand);
+      any = alike;
       refused = tt;
       counts = record { later = now; told = tt };
       looks = both;

@@ -1,7 +1,9 @@
 -- The last indexes of a cartridge.
 use Rattle.std.proofs.Common.{ℕ, ◌≤◌, ◌≡◌, ◌≢◌, List, [], ◌∷◌, ◌++◌, length, map, reverse, Option, Some, None, refl, sym, ◌∙◌, ap, subst, arith}
+use Rattle.std.specs.Prelude.{IfSome}
 use Rattle.tape_types.specs.declared.cartridges.Cartridge.{Cartridge}
 use Rattle.tape_types.specs.declared.cartridges.Item.{Item}
+use Rattle.tape_types.specs.declared.cartridges.Limits.{Limits}
 use Rattle.tape_types.specs.declared.cartridges.Part.{Part}
 use Rattle.tape_types.specs.declared.cartridges.Part.TheVariants.{Ip, Dp}
 use Rattle.tape_types.specs.declared.cartridges.Place.{Place}
@@ -21,8 +23,9 @@ use Rattle.volume_scan.specs.declared.content.Construct.{Construct}
 use Rattle.volume_scan.specs.declared.content.Content.{Content}
 use Rattle.volume_scan.specs.Scans.{AreBetween, IsInPlaces, places_of}
 use Rattle.mount_recover.specs.Labels.{AreCounts}
-use Rattle.mount_recover.specs.Lasts.{IsBadNewest, IsBadText, IsDocument, IsInPlace, IsKnownDp, IsKnownIp, IsLastDp, IsLastIp, IsNewest, IsOfNewest, IsParted, IsScan, IsSeen, index_in, newest}
+use Rattle.mount_recover.specs.Lasts.{AreLasts, AreLastsWith, AreSoundLasts, AreSoundWith, IsBadNewest, IsBadText, IsDocument, IsInPlace, IsKnownDp, IsKnownIp, IsLastDp, IsLastIp, IsNewest, IsOfNewest, IsParted, IsScan, IsSeen, IsSoundLast, index_in, ip_in, newest}
 use Rattle.mount_recover.specs.declared.lasts.Last.{Last}
+use Rattle.mount_recover.specs.declared.lasts.Lasts.{Lasts}
 use Rattle.mount_recover.specs.declared.scans.Scans.{Scans}
 use Rattle.mount_recover.specs.Steps.{Blames, IsFree}
 use Rattle.mount_recover.proofs.ScanLemmas.{none_left, parted}
@@ -136,10 +139,10 @@ module _ (c : Cartridge) (labels : Labels) (place : Construct) (older : List Con
 
 -- ---- the index partition
 
-module _ (c : Cartridge) (labels : Labels) (place : Construct) (dps : List Construct) (on_dp : Option Last)
-    (known : IsKnownIp labels place dps (index_in on_dp) c) where
+module _ (c : Cartridge) (labels : Labels) (place : Construct) (dps : List Construct) (on_dp : Option Index)
+    (known : IsKnownIp labels place dps on_dp c) where
   pub blamed_ip : (e : MountErr) → IsBadNewest (indexes_of c.ip) labels.ip.uuid (record { part = Ip; pos = place.first }) e → Blames e c
-  blamed_ip e bad = blamed c labels known.forms Ip place (index_in on_dp) (λ is. known.dp_last) known.newest.stands e bad
+  blamed_ip e bad = blamed c labels known.forms Ip place on_dp (λ is. known.dp_last) known.newest.stands e bad
 
   module _ (index : Index) (of : IsOfNewest labels.ip index (indexes_of c.ip)) where
     first_ip : (k : readings.Construct) (older : List readings.Construct) → indexes_of c.ip ≡ k ∷ older → place.first ≡ first_of k
@@ -148,24 +151,36 @@ module _ (c : Cartridge) (labels : Labels) (place : Construct) (dps : List Const
         let same : places_of k ≡ place = cc both in
         sym (ap (λ (p : Construct). p.first) same)
 
-    pub right_ip : ((k : readings.Construct) (ks : List readings.Construct) → place.first ≡ first_of k → dps ≡ map places_of (reverse ks)
-        → PointsOnIp labels.ip k ks (index_in on_dp) index) → IsLastIp labels.ip on_dp (Some (record { index = index; place = place })) c
+    pub right_ip : ((k : readings.Construct) → place.first ≡ first_of k → PointsOnIp labels.ip k (indexes_of c.dp) on_dp index)
+        → IsLastIp labels.ip on_dp (Some (record { index = index; place = place })) c
     right_ip points = record { index = last_is (indexes_of c.ip) refl of known.newest.stands; place = sym known.newest.stands }
       where
         last_is : (ks : List readings.Construct) → indexes_of c.ip ≡ ks → IsOfNewest labels.ip index ks → newest ks ≡ Some place
-            → IsLastOnIp labels.ip ks (indexes_of c.dp) (index_in on_dp) (Some index)
+            → IsLastOnIp labels.ip ks (indexes_of c.dp) on_dp (Some index)
         last_is [] are of stands = absurd of
-        last_is (k ∷ older) are of stands = (index, refl, of, points k (indexes_of c.dp) (first_ip k older are) known.dps_are)
+        last_is (k ∷ older) are of stands = (index, refl, of, points k (first_ip k older are))
 
-    pub wrong_ip : ((k : readings.Construct) (ks : List readings.Construct) → place.first ≡ first_of k → dps ≡ map places_of (reverse ks)
-        → ¬ PointsOnIp labels.ip k ks (index_in on_dp) index) → Blames (errors.WrongPointer (record { part = Ip; pos = place.first })) c
+    pub wrong_ip : ((k : readings.Construct) → place.first ≡ first_of k → ¬ PointsOnIp labels.ip k (indexes_of c.dp) on_dp index)
+        → Blames (errors.WrongPointer (record { part = Ip; pos = place.first })) c
     wrong_ip wrong = blame (indexes_of c.ip) refl of
       where
         blame : (ks : List readings.Construct) → indexes_of c.ip ≡ ks → IsOfNewest labels.ip index ks → Blames (errors.WrongPointer (record { part = Ip; pos = place.first })) c
         blame [] are of = absurd of
         blame (k ∷ older) are of =
-            wrong_pointer c labels known.forms Ip place (index_in on_dp) (λ is. known.dp_last) known.newest.stands k older are index of
-            (wrong k (indexes_of c.dp) (first_ip k older are) known.dps_are)
+            wrong_pointer c labels known.forms Ip place on_dp (λ is. known.dp_last) known.newest.stands k older are index of (wrong k (first_ip k older are))
+
+-- ---- both
+
+pub are_lasts : (label : Label) (dp : Option Last) (lasts : Lasts) (c : Cartridge) → IsLastDp label dp c → AreLastsWith label dp lasts c → AreLasts label lasts c
+are_lasts label dp lasts c last is = record {
+  dp = subst (λ (o : Option Last). IsLastDp label o c) (sym is.dp_is) last;
+  ip = subst (λ (o : Option Last). IsLastIp label (index_in o) (ip_in lasts) c) (sym is.dp_is) is.ip;
+}
+
+pub are_sound : (label : Label) (limits : Limits) (dp : Option Last) (lasts : Lasts) → IfSome dp (IsSoundLast label limits.cap_dp)
+    → AreSoundWith label limits.cap_ip dp lasts → AreSoundLasts label limits lasts
+are_sound label limits dp lasts last is =
+    record { dp = subst (λ (o : Option Last). IfSome o (IsSoundLast label limits.cap_dp)) (sym is.dp_is) last; ip = is.ip }
 
 -- ---- what a scan makes known
 
@@ -196,11 +211,11 @@ no_dp c labels s scan none =
     let are = none_left (indexes_of c.dp) s.dp.constructs scan.dp.constructs none in
     record { index = subst (λ (ks : List readings.Construct). IsLastOnDp labels.ip ks None) (sym are) refl; place = sym (ap newest are) }
 
-pub no_ip : (c : Cartridge) (labels : Labels) (s : Scans) (on_dp : Option Last) → IsScan labels s c → length s.ip.constructs ≡ 0 → IsLastIp labels.ip on_dp None c
+pub no_ip : (c : Cartridge) (labels : Labels) (s : Scans) (on_dp : Option Index) → IsScan labels s c → length s.ip.constructs ≡ 0 → IsLastIp labels.ip on_dp None c
 no_ip c labels s on_dp scan none =
     let are = none_left (indexes_of c.ip) s.ip.constructs scan.ip.constructs none in
     record {
-      index = subst (λ (ks : List readings.Construct). IsLastOnIp labels.ip ks (indexes_of c.dp) (index_in on_dp) None) (sym are) refl;
+      index = subst (λ (ks : List readings.Construct). IsLastOnIp labels.ip ks (indexes_of c.dp) on_dp None) (sym are) refl;
       place = sym (ap newest are);
     }
 

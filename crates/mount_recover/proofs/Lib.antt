@@ -2,11 +2,14 @@ pub mod ChoiceLemmas
 pub mod DocumentLemmas
 pub mod ExtentLemmas
 pub mod FlagLemmas
+pub mod LabelKept
 pub mod LabelLemmas
 pub mod LastLemmas
+pub mod LetterRanges
 pub mod MountLemmas
 pub mod PointerLemmas
 pub mod ReadLemmas
 pub mod ScanLemmas
 pub mod StandLemmas
 pub mod StepLemmas
+pub mod TwinLemmas

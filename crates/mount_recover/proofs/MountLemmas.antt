@@ -36,7 +36,7 @@ use Rattle.mount_recover.specs.declared.scans.Scans.{Scans}
 use Rattle.mount_recover.specs.declared.starts.Start.{Start}
 use Rattle.mount_recover.proofs.ScanLemmas.{long_front, seen}
 use Rattle.mount_recover.proofs.StepLemmas.{since_next}
-use Rattle.mount_recover.specs.Lasts.{Agrees, AreScanned, IsMounted, IsScan, IsSoundChoice, IsSoundMount, EndsAs, IsDecided, IsMountedAs, TellsBoth, TellsStanding, index_in, newest, place_in, side, last_on, standing_of}
+use Rattle.mount_recover.specs.Lasts.{Agrees, AreScanned, IsMounted, IsScan, IsSoundChoice, IsSoundMount, EndsAs, IsDecided, IsMountedAs, TellsBoth, TellsStanding, dp_in, index_in, ip_in, newest, place_in, side, last_on, standing_of}
 use Rattle.mount_recover.specs.declared.choices.Choice.{Choice}
 use Rattle.mount_recover.specs.declared.choices.Standing.{Standing}
 use Rattle.mount_recover.specs.declared.flags.Flags.{Flags}
@@ -69,7 +69,7 @@ block_of : (l : Last) (ks : List readings.Construct) → place_in (Some l) ≡ n
 block_of l [] is = absurd (cc is)
 block_of l (k ∷ older) is = ap (λ (p : Construct). Some p.first) (sym (place_is l k older is))
 
-spot_of : (label : Label) (l : Last) (ks : List readings.Construct) → place_in (Some l) ≡ newest ks
+pub spot_of : (label : Label) (l : Last) (ks : List readings.Construct) → place_in (Some l) ≡ newest ks
     → newest_spot label ks ≡ Some (record { letter = label.dpart; block = l.place.first })
 spot_of label l [] is = absurd (cc is)
 spot_of label l (k ∷ older) is =
@@ -152,16 +152,16 @@ module _ (c : Cartridge) (labels : Labels) (lasts : Lasts) (choice : Choice) (d 
   found = record {
     labels = labels;
     forms = d.forms;
-    on_dp = index_in lasts.dp;
+    on_dp = index_in (dp_in lasts);
     dp_last = d.lasts_are.dp.index;
-    on_ip = index_in lasts.ip;
+    on_ip = index_in (ip_in lasts);
     ip_last = d.lasts_are.ip.index;
     index = choice.index;
     choice = d.choice_is.picked.index ∙ ap (λ (x : Index). Some x) (sym d.choice_is.index);
     within = d.within;
   }
 
-  place_on : (part : Part) (last : Last) → last_on part lasts.ip lasts.dp ≡ Some last → last_place part c ≡ Some (record { part = part; pos = last.place.first })
+  place_on : (part : Part) (last : Last) → last_on part (ip_in lasts) (dp_in lasts) ≡ Some last → last_place part c ≡ Some (record { part = part; pos = last.place.first })
   place_on Ip last is = ap (option_map (λ (pos : ℕ). record { part = Ip; pos = pos })) (block_of last (indexes_of c.ip) (ap place_in (sym is) ∙ d.lasts_are.ip.place))
   place_on Dp last is = ap (option_map (λ (pos : ℕ). record { part = Dp; pos = pos })) (block_of last (indexes_of c.dp) (ap place_in (sym is) ∙ d.lasts_are.dp.place))
 
@@ -170,13 +170,13 @@ module _ (c : Cartridge) (labels : Labels) (lasts : Lasts) (choice : Choice) (d 
       place_on choice.chosen.part d.choice_is.last d.choice_is.picked.on
       ∙ (λ i. Some (record { part = choice.chosen.part; pos = sym d.choice_is.first i }))
 
-  place : chosen_place (index_in lasts.ip) (index_in lasts.dp) c ≡ Some choice.chosen
-  place = chosen_side (index_in lasts.ip) (index_in lasts.dp) c ∙ ap (λ (p : Part). last_place p c) d.choice_is.picked.side_is ∙ own
+  place : chosen_place (index_in (ip_in lasts)) (index_in (dp_in lasts)) c ≡ Some choice.chosen
+  place = chosen_side (index_in (ip_in lasts)) (index_in (dp_in lasts)) c ∙ ap (λ (p : Part). last_place p c) d.choice_is.picked.side_is ∙ own
 
   on_dp_is : choice.chosen.part ≡ Dp → last_place Dp c ≡ Some choice.chosen
   on_dp_is is = subst (λ (p : Part). last_place p c ≡ Some choice.chosen) is own
 
-  ip_on_is : (choice.chosen.part ≡ Dp) ↔ ((indexes_of c.dp ≢ []) × (chosen_place (index_in lasts.ip) (index_in lasts.dp) c ≡ last_place Dp c))
+  ip_on_is : (choice.chosen.part ≡ Dp) ↔ ((indexes_of c.dp ≢ []) × (chosen_place (index_in (ip_in lasts)) (index_in (dp_in lasts)) c ≡ last_place Dp c))
   ip_on_is = (
     (λ is. (
       (λ none. let bad : Some choice.chosen ≡ None = sym (on_dp_is is) ∙ ap (λ (ks : List readings.Construct). option_map (λ (pos : ℕ). record { part = Dp; pos = pos }) (last_block ks)) none in cc bad),
@@ -188,10 +188,10 @@ module _ (c : Cartridge) (labels : Labels) (lasts : Lasts) (choice : Choice) (d 
   module _ (flags : Flags) (ip : (flags.ip_ends ≡ true) ↔ EndsAs c.ip choice.ip) (dp : (flags.dp_ends ≡ true) ↔ EndsAs c.dp choice.dp)
       (noted : (flags.noted ≡ true) ↔ TellsBoth c labels.ip.uuid choice.ip choice.dp) where
     ip_ends : (flags.ip_ends ≡ true) ↔ EndsWithLast c.ip (indexes_of c.ip)
-    ip_ends = both (subst (λ (s : Option Standing). (flags.ip_ends ≡ true) ↔ EndsAs c.ip s) d.choice_is.ip ip) (ends_same c.ip lasts.ip (indexes_of c.ip) d.lasts_are.ip.place)
+    ip_ends = both (subst (λ (s : Option Standing). (flags.ip_ends ≡ true) ↔ EndsAs c.ip s) d.choice_is.ip ip) (ends_same c.ip (ip_in lasts) (indexes_of c.ip) d.lasts_are.ip.place)
 
     dp_ends : (flags.dp_ends ≡ true) ↔ EndsWithLast c.dp (indexes_of c.dp)
-    dp_ends = both (subst (λ (s : Option Standing). (flags.dp_ends ≡ true) ↔ EndsAs c.dp s) d.choice_is.dp dp) (ends_same c.dp lasts.dp (indexes_of c.dp) d.lasts_are.dp.place)
+    dp_ends = both (subst (λ (s : Option Standing). (flags.dp_ends ≡ true) ↔ EndsAs c.dp s) d.choice_is.dp dp) (ends_same c.dp (dp_in lasts) (indexes_of c.dp) d.lasts_are.dp.place)
 
     dp_done_is : ((choice.chosen.part ≡ Dp) × (flags.dp_ends ≡ true)) ↔ IsDpDone c found
     dp_done_is = (
@@ -203,8 +203,8 @@ module _ (c : Cartridge) (labels : Labels) (lasts : Lasts) (choice : Choice) (d 
     ip_done_is = (
       (λ both.
           let a = both.1 in
-          let i = standing_some lasts.ip a.ip (sym d.choice_is.ip ∙ a.ip_is) in
-          let k = standing_some lasts.dp a.dp (sym d.choice_is.dp ∙ a.dp_is) in
+          let i = standing_some (ip_in lasts) a.ip (sym d.choice_is.ip ∙ a.ip_is) in
+          let k = standing_some (dp_in lasts) a.dp (sym d.choice_is.dp ∙ a.dp_is) in
           let stands : place_in (Some k.0) ≡ newest (indexes_of c.dp) = ap place_in (sym k.1) ∙ d.lasts_are.dp.place in
           record {
             ends = ip_ends.0 both.0;
@@ -219,8 +219,8 @@ module _ (c : Cartridge) (labels : Labels) (lasts : Lasts) (choice : Choice) (d 
             has_dp = not_empty k.0 (indexes_of c.dp) stands;
           }),
       λ done.
-          let i = index_some lasts.ip done.on_ip done.last in
-          let k = place_some lasts.dp (indexes_of c.dp) d.lasts_are.dp.place done.has_dp in
+          let i = index_some (ip_in lasts) done.on_ip done.last in
+          let k = place_some (dp_in lasts) (indexes_of c.dp) d.lasts_are.dp.place done.has_dp in
           let stands : place_in (Some k.0) ≡ newest (indexes_of c.dp) = ap place_in (sym k.1) ∙ d.lasts_are.dp.place in (
             ip_ends.1 done.ends,
             record {
@@ -236,23 +236,23 @@ module _ (c : Cartridge) (labels : Labels) (lasts : Lasts) (choice : Choice) (d 
 
     noted_ip : TellsStanding c.note_ip c.vcr labels.ip.uuid choice.ip ↔ IsNoted c labels.ip Ip
     noted_ip =
-        tells_noted c labels.ip Ip lasts.ip choice.ip d.choice_is.ip d.lasts_are.ip.place
+        tells_noted c labels.ip Ip (ip_in lasts) choice.ip d.choice_is.ip d.lasts_are.ip.place
         (λ index is. (
-          index_in lasts.dp,
+          index_in (dp_in lasts),
           d.lasts_are.dp.index,
-          subst (λ (o : Option Index). IsLastOnIp labels.ip (indexes_of c.ip) (indexes_of c.dp) (index_in lasts.dp) o) is d.lasts_are.ip.index,
+          subst (λ (o : Option Index). IsLastOnIp labels.ip (indexes_of c.ip) (indexes_of c.dp) (index_in (dp_in lasts)) o) is d.lasts_are.ip.index,
         ))
         (λ index reads.
-        last_ip_once labels.ip (indexes_of c.ip) (indexes_of c.dp) reads.0 (index_in lasts.ip) (Some index)
-        (subst (λ (o : Option Index). IsLastOnIp labels.ip (indexes_of c.ip) (indexes_of c.dp) o (index_in lasts.ip))
-        (last_dp_once labels.ip (indexes_of c.dp) (index_in lasts.dp) reads.0 d.lasts_are.dp.index reads.1) d.lasts_are.ip.index)
+        last_ip_once labels.ip (indexes_of c.ip) (indexes_of c.dp) reads.0 (index_in (ip_in lasts)) (Some index)
+        (subst (λ (o : Option Index). IsLastOnIp labels.ip (indexes_of c.ip) (indexes_of c.dp) o (index_in (ip_in lasts)))
+        (last_dp_once labels.ip (indexes_of c.dp) (index_in (dp_in lasts)) reads.0 d.lasts_are.dp.index reads.1) d.lasts_are.ip.index)
         reads.2)
 
     noted_dp : TellsStanding c.note_dp c.vcr labels.ip.uuid choice.dp ↔ IsNoted c labels.ip Dp
     noted_dp =
-        tells_noted c labels.ip Dp lasts.dp choice.dp d.choice_is.dp d.lasts_are.dp.place
+        tells_noted c labels.ip Dp (dp_in lasts) choice.dp d.choice_is.dp d.lasts_are.dp.place
         (λ index is. subst (λ (o : Option Index). IsLastOnDp labels.ip (indexes_of c.dp) o) is d.lasts_are.dp.index)
-        (λ index reads. last_dp_once labels.ip (indexes_of c.dp) (index_in lasts.dp) (Some index) d.lasts_are.dp.index reads)
+        (λ index reads. last_dp_once labels.ip (indexes_of c.dp) (index_in (dp_in lasts)) (Some index) d.lasts_are.dp.index reads)
 
     noted_is : TellsBoth c labels.ip.uuid choice.ip choice.dp ↔ AreNoted c labels.ip
     noted_is = (
@@ -272,7 +272,7 @@ module _ (c : Cartridge) (labels : Labels) (lasts : Lasts) (choice : Choice) (d 
       last_dp =
           made.last_dp
           ∙ ap (option_map (λ (s : Standing). s.place.first)) d.choice_is.dp
-          ∙ first_last lasts.dp (indexes_of c.dp) d.lasts_are.dp.place;
+          ∙ first_last (dp_in lasts) (indexes_of c.dp) d.lasts_are.dp.place;
       ip_on = both made.ip_on ip_on_is;
       dp_done = both made.dp_done dp_done_is;
       ip_done = both made.ip_done ip_done_is;

@@ -1,14 +1,15 @@
 -- Which indexes a pointer names.
-use Rattle.std.proofs.Common.{ℕ, zero, suc, ◌+◌, ◌<◌, ◌≡◌, ◌≢◌, ◌⊎◌, ⊎_elim, inl, inr, List, [], ◌∷◌, ◌++◌, length, map, reverse, slice_get, get_or, Option, Some, None, refl, sym, ◌∙◌, ap, subst}
-use Rattle.std.specs.Prelude.{◌↔◌}
+use Rattle.std.proofs.Common.{ℕ, zero, suc, ◌+◌, ◌<◌, ◌≤◌, ◌≡◌, Bool, ◌≢◌, ◌⊎◌, ⊎_elim, inl, inr, List, [], ◌∷◌, ◌++◌, length, map, reverse, slice_get, get_or, Option, Some, None, refl, sym, ◌∙◌, ap, subst}
+use Rattle.std.specs.Prelude.{◌↔◌, IsTrue}
+use Rattle.index_model.specs.declared.indexes.Index.{Index}
 use Rattle.index_model.specs.declared.indexes.Spot.{Spot}
 use Rattle.ltfs_label.specs.declared.Label.{Label}
 use Rattle.tape_content.specs.Readings as readings
-use Rattle.tape_meaning.specs.Pointers.{NamesOneOf}
+use Rattle.tape_meaning.specs.Pointers.{NamesOneOf, PointsBack, newest_spot}
 use Rattle.volume_scan.specs.declared.content.Construct.{Construct}
 use Rattle.volume_scan.specs.Scans.{places_of}
 use Rattle.std.proofs.lemmas.Option.{get_or_from_slice_get, slice_get_within}
-use Rattle.mount_recover.specs.Lasts.{HasFirst}
+use Rattle.mount_recover.specs.Lasts.{HasFirst, generation_in}
 use Rattle.mount_recover.proofs.ScanLemmas.{last_first}
 
 pub nowhere : (places : List Construct) (block n : ℕ) → ((k : ℕ) (d : Construct) → k < n → (get_or places k d).first ≢ block) → length places ≡ n → HasFirst places block → ⊥
@@ -84,3 +85,18 @@ names label spot ks places are = (
   λ h. there_named label spot ks h.0 (subst (λ (l : List Construct). HasFirst l spot.block) are h.1),
   λ n. let h = named_there label spot ks n in (h.0, subst (λ (l : List Construct). HasFirst l spot.block) (sym are) h.1),
 )
+
+-- ---- where an index of the index partition points back to, by the generation of the data partition's last one
+
+module _ (label : Label) (index : Index) (ks : List readings.Construct) (r : Bool) where
+  pub back_none : (dp : Option Index) → None ≡ generation_in dp → IsTrue r ↔ (index.back ≡ None) → IsTrue r ↔ PointsBack label index ks dp
+  back_none None is same = same
+  back_none (Some d) is same = absurd (cc is)
+
+  abbrev Back : ℕ → Type 0
+  Back n =
+      ((n ≤ index.generation) × (index.back ≡ newest_spot label ks)) ⊎ ((index.generation < n) × NamesOneOf label index.back ks)
+
+  pub back_some : (n : ℕ) (dp : Option Index) → Some n ≡ generation_in dp → IsTrue r ↔ Back n → IsTrue r ↔ PointsBack label index ks dp
+  back_some n None is same = absurd (cc is)
+  back_some n (Some d) is same = let told : n ≡ d.generation = cc is in subst (λ (m : ℕ). IsTrue r ↔ Back m) told same

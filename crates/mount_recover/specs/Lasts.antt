@@ -1,6 +1,6 @@
 -- What a mount finds of the indexes of a cartridge.
-use Rattle.std.specs.Prelude.{ℕ, ◌+◌, ◌*◌, ◌≤◌, ◌<◌, ◌≡◌, ◌≢◌, ◌↔◌, ◌⊎◌, nat_lt, cond, true, List, [], ◌∷◌, ◌++◌}
-use Rattle.std.specs.Prelude.{length, map, reverse}
+use Rattle.std.specs.Prelude.{ℕ, ◌+◌, ◌*◌, ◌^◌, ◌≤◌, ◌<◌, ◌≡◌, ◌≢◌, ◌↔◌, ◌⊎◌, nat_lt, cond, true, List, [], ◌∷◌, ◌++◌}
+use Rattle.std.specs.Prelude.{length, map, reverse, take}
 use Rattle.std.specs.Prelude.{Option, Some, None, IfSome, Result, Ok, Err, slice_get}
 use Rattle.std.specs.List.{AllByRecursion}
 use Rattle.std.specs.Option.{option_map}
@@ -15,8 +15,10 @@ use Rattle.tape_types.specs.declared.cartridges.Place.{Place}
 use Rattle.tape_types.specs.Cartridges.{items_of}
 use Rattle.coherency.specs.Notes.{HasValues}
 use Rattle.coherency.specs.declared.Coherency.{Coherency}
+use Rattle.index_model.specs.Canonical.{canonical}
 use Rattle.index_model.specs.Grammar.{IndexText, Stops}
 use Rattle.index_model.specs.Valid.{IsValid}
+use Rattle.index_model.specs.Values.{IndexValue, Tells}
 use Rattle.index_model.specs.declared.errors.IndexErr.{IndexErr}
 use Rattle.index_model.specs.declared.errors.IndexErr.TheVariants as index_errors
 use Rattle.index_model.specs.declared.indexes.Index.{Index}
@@ -37,8 +39,11 @@ use Rattle.volume_scan.specs.declared.content.Construct.{Construct}
 use Rattle.volume_scan.specs.declared.content.Content.{Content}
 use Rattle.volume_scan.specs.Scans.{IsContent, IsInPlaces, places_of}
 use Rattle.mount_recover.specs.declared.scans.Scans.{Scans}
+use Rattle.mount_recover.specs.declared.documents.Beside.{Beside}
 use Rattle.mount_recover.specs.declared.lasts.Last.{Last}
 use Rattle.mount_recover.specs.declared.lasts.Lasts.{Lasts}
+use Rattle.mount_recover.specs.declared.lasts.Lasts.TheVariants as found
+use Rattle.mount_recover.specs.declared.lasts.Twin.{Twin}
 use Rattle.mount_recover.specs.declared.choices.Standing.{Standing}
 use Rattle.mount_recover.specs.Labels.{IsSpelled}
 use Rattle.mount_recover.specs.declared.choices.Choice.{Choice}
@@ -105,6 +110,12 @@ abbrev pub IsDocument : List ℕ → List readings.Construct → Type 0
 IsDocument text [] = ⊥
 IsDocument text (k ∷ older) = text ≡ text_of k
 
+-- a block was put behind what is read of a document, which stands in place of a text
+pub record IsPut (read : Beside) (block before after : List ℕ) (next : Beside) : Type 0 where
+  pub within : next.at ≤ length after
+  pub bytes : take next.at after ≡ take read.at before ++ block
+  pub same : next.same ≡ true → (read.same ≡ true) × (after ≡ before)
+
 abbrev pub IsOfNewest : Label → Index → List readings.Construct → Type 0
 IsOfNewest label index [] = ⊥
 IsOfNewest label index (k ∷ older) = IsOfVolume label k index
@@ -158,6 +169,40 @@ pub record IsKnownIp (labels : Labels) (place : Construct) (dps : List Construct
   pub dps_are : dps ≡ map places_of (reverse (indexes_of c.dp))
   pub dp_last : IsLastOnDp labels.ip (indexes_of c.dp) on_dp
 
+-- an index with the pointers of another that is like it
+abbrev pub twin_of : Index → Twin → Index
+twin_of index twin = record index { here = twin.here; back = Some twin.back }
+
+-- a text in memory is the one that is written of an index
+pub record IsTextOf (index : Index) (text : List ℕ) : Type 0 where
+  pub is : (v : IndexValue) → Tells index v → text ≡ canonical v
+  pub in_memory : length text < 2 ^ 64
+
+-- what an index points to that stands there on the index partition, where this is the last place on the data partition
+pub record IsTwinAt (label : Label) (place dp : Construct) (twin : Twin) : Type 0 where
+  pub place_is : twin.place ≡ place
+  pub here : twin.here ≡ record { letter = label.index; block = place.first }
+  pub back : twin.back ≡ record { letter = label.dpart; block = dp.first }
+
+-- the last index of each partition, and where it stands
+abbrev pub ip_in : Lasts → Option Last
+ip_in found.None = None
+ip_in (found.OnIp ip) = Some ip
+ip_in (found.OnDp dp) = None
+ip_in (found.OnBoth ip dp) = Some ip
+ip_in (found.Alike ip dp) = Some (record { index = twin_of dp.index ip; place = ip.place })
+
+abbrev pub dp_in : Lasts → Option Last
+dp_in found.None = None
+dp_in (found.OnIp ip) = None
+dp_in (found.OnDp dp) = Some dp
+dp_in (found.OnBoth ip dp) = Some dp
+dp_in (found.Alike ip dp) = Some dp
+
+abbrev pub generation_in : Option Index → Option ℕ
+generation_in None = None
+generation_in (Some index) = Some index.generation
+
 abbrev pub index_in : Option Last → Option Index
 index_in None = None
 index_in (Some l) = Some l.index
@@ -181,17 +226,26 @@ pub record IsLastDp (label : Label) (last : Option Last) (c : Cartridge) : Type 
   pub place : place_in last ≡ newest (indexes_of c.dp)
 
 -- the same of the index partition
-pub record IsLastIp (label : Label) (on_dp last : Option Last) (c : Cartridge) : Type 0 where
-  pub index : IsLastOnIp label (indexes_of c.ip) (indexes_of c.dp) (index_in on_dp) (index_in last)
+pub record IsLastIp (label : Label) (on_dp : Option Index) (last : Option Last) (c : Cartridge) : Type 0 where
+  pub index : IsLastOnIp label (indexes_of c.ip) (indexes_of c.dp) on_dp (index_in last)
   pub place : place_in last ≡ newest (indexes_of c.ip)
 
 pub record AreLasts (label : Label) (lasts : Lasts) (c : Cartridge) : Type 0 where
-  pub dp : IsLastDp label lasts.dp c
-  pub ip : IsLastIp label lasts.dp lasts.ip c
+  pub dp : IsLastDp label (dp_in lasts) c
+  pub ip : IsLastIp label (index_in (dp_in lasts)) (ip_in lasts) c
 
 pub record AreSoundLasts (label : Label) (limits : Limits) (lasts : Lasts) : Type 0 where
-  pub dp : IfSome lasts.dp (IsSoundLast label limits.cap_dp)
-  pub ip : IfSome lasts.ip (IsSoundLast label limits.cap_ip)
+  pub dp : IfSome (dp_in lasts) (IsSoundLast label limits.cap_dp)
+  pub ip : IfSome (ip_in lasts) (IsSoundLast label limits.cap_ip)
+
+-- the last indexes, where that of the data partition is this one
+pub record AreLastsWith (label : Label) (dp : Option Last) (lasts : Lasts) (c : Cartridge) : Type 0 where
+  pub dp_is : dp_in lasts ≡ dp
+  pub ip : IsLastIp label (index_in dp) (ip_in lasts) c
+
+pub record AreSoundWith (label : Label) (capacity : ℕ) (dp : Option Last) (lasts : Lasts) : Type 0 where
+  pub dp_is : dp_in lasts ≡ dp
+  pub ip : IfSome (ip_in lasts) (IsSoundLast label capacity)
 
 -- what is kept of the last index of a partition
 abbrev pub standing_of : Option Last → Option Standing
@@ -218,14 +272,14 @@ pub record IsPicked (ip dp : Option Last) (last : Last) (part : Part) : Type 0 w
 -- that index and what is kept of the last ones; or none, where there is no index
 pub record IsChosen (lasts : Lasts) (choice : Choice) : Type 0 where
   pub last : Last
-  pub picked : IsPicked lasts.ip lasts.dp last choice.chosen.part
+  pub picked : IsPicked (ip_in lasts) (dp_in lasts) last choice.chosen.part
   pub index : choice.index ≡ last.index
   pub first : choice.chosen.pos ≡ last.place.first
-  pub ip : choice.ip ≡ standing_of lasts.ip
-  pub dp : choice.dp ≡ standing_of lasts.dp
+  pub ip : choice.ip ≡ standing_of (ip_in lasts)
+  pub dp : choice.dp ≡ standing_of (dp_in lasts)
 
 abbrev pub HasNone : Lasts → Type 0
-HasNone lasts = (lasts.ip ≡ None) × (lasts.dp ≡ None)
+HasNone lasts = (ip_in lasts ≡ None) × (dp_in lasts ≡ None)
 
 -- where the next item of a partition goes, by what is kept of its last index
 abbrev pub dp_ends : Option Standing → ℕ

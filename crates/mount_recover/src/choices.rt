@@ -5,7 +5,7 @@ ghost use Rattle.tape_types.specs.declared.cartridges.Cartridge.{Cartridge};
 ghost use Rattle.tape_types.specs.declared.cartridges.Limits.{Limits as LimitsOf};
 ghost use Rattle.mount_recover.specs.Lasts.{AreInPlaces, AreLasts, AreSoundLasts, HasNone, IsChosen, IsDecided};
 ghost use Rattle.mount_recover.specs.Lasts.{IsPicked, IsScan, IsSoundChoice};
-ghost use Rattle.mount_recover.specs.Lasts.{IsFirstOutside, IsIpEnd, dp_ends, standing_of};
+ghost use Rattle.mount_recover.specs.Lasts.{IsFirstOutside, IsIpEnd, dp_ends, dp_in, ip_in, standing_of};
 ghost use Rattle.mount_recover.specs.Labels.{AreCounts};
 ghost use Rattle.std.specs.List.{AllByRecursion};
 ghost use Rattle.tape_meaning.specs.Meaning.{FitsNode};
@@ -71,16 +71,15 @@ fn check(label: &Label, choice: Choice) -> Result<Choice, MountErr>
 
 fn choose(scans: &Scans, lasts: Lasts) -> Option<Choice>
     ensures chosen { MatchOption result (HasNone lasts) (IsChosen lasts) }
-    ensures ip { IfSome result (λ choice. IsIpEnd scans.now.ip (standing_of lasts.ip) choice.ends.ip) }
-    ensures dp { IfSome result (λ choice. choice.ends.dp ≡ dp_ends (standing_of lasts.dp)) }
+    ensures ip { IfSome result (λ choice. IsIpEnd scans.now.ip (standing_of (ip_in lasts)) choice.ends.ip) }
+    ensures dp { IfSome result (λ choice. choice.ends.dp ≡ dp_ends (standing_of (dp_in lasts))) }
 {
-    let ip = kept(&lasts.ip);
-    let dp = kept(&lasts.dp);
+    let (ip, dp) = standings(&lasts);
     let ends = Ends {
         ip: end_of_ip(&scans.ip, ip),
         dp: end_of_dp(dp),
     };
-    match pick(lasts.ip, lasts.dp) {
+    match pick(lasts) {
         None => None,
         Some((last, part)) => Some(Choice {
             chosen: Place {
@@ -95,17 +94,34 @@ fn choose(scans: &Scans, lasts: Lasts) -> Option<Choice>
     }
 }
 
-/// What is kept of a last index.
-fn kept(last: &Option<Last>) -> Option<Standing>
-    ensures { result ≡ standing_of last.now }
+/// What is kept of the last index of the index partition and of the data partition.
+fn standings(lasts: &Lasts) -> (Option<Standing>, Option<Standing>)
+    ensures ip { result.0 ≡ standing_of (ip_in lasts.now) }
+    ensures dp { result.1 ≡ standing_of (dp_in lasts.now) }
 {
-    match last {
-        None => None,
-        Some(last) => Some(Standing {
-            place: last.place,
-            generation: last.index.generation,
-            back: last.index.back,
-        }),
+    match lasts {
+        Lasts::None => (None, None),
+        Lasts::OnIp(ip) => (Some(kept(ip)), None),
+        Lasts::OnDp(dp) => (None, Some(kept(dp))),
+        Lasts::OnBoth { ip, dp } => (Some(kept(ip)), Some(kept(dp))),
+        Lasts::Alike { ip, dp } => {
+            let ip = Standing {
+                place: ip.place,
+                generation: dp.index.generation,
+                back: Some(ip.back),
+            };
+            (Some(ip), Some(kept(dp)))
+        }
+    }
+}
+
+fn kept(last: &Last) -> Standing
+    ensures { Some result ≡ standing_of (Some last.now) }
+{
+    Standing {
+        place: last.place,
+        generation: last.index.generation,
+        back: last.index.back,
     }
 }
 
@@ -136,14 +152,16 @@ fn end_of_dp(last: Option<Standing>) -> u64
 }
 
 /// The last index of the greater generation, that of the data partition on a tie, and its partition.
-fn pick(ip: Option<Last>, dp: Option<Last>) -> Option<(Last, Part)>
-    ensures { MatchOption result ((ip ≡ None) × (dp ≡ None)) (λ x. IsPicked ip dp x.0 x.1) }
+#[tactic(auto, using(crate::proofs::ChoiceLemmas::picked_alike))]
+fn pick(lasts: Lasts) -> Option<(Last, Part)>
+    ensures { MatchOption result (HasNone lasts) (λ x. IsPicked (ip_in lasts) (dp_in lasts) x.0 x.1) }
 {
-    match (ip, dp) {
-        (None, None) => None,
-        (None, Some(dp)) => Some((dp, Part::Dp)),
-        (Some(ip), None) => Some((ip, Part::Ip)),
-        (Some(ip), Some(dp)) => Some(newer(ip, dp)),
+    match lasts {
+        Lasts::None => None,
+        Lasts::OnIp(ip) => Some((ip, Part::Ip)),
+        Lasts::OnDp(dp) => Some((dp, Part::Dp)),
+        Lasts::OnBoth { ip, dp } => Some(newer(ip, dp)),
+        Lasts::Alike { dp, .. } => Some((dp, Part::Dp)),
     }
 }
 

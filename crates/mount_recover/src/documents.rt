@@ -1,6 +1,6 @@
 //! The documents of indexes.
 
-ghost use Rattle.std.specs.Prelude.{◌≡◌, ◌≤◌, ◌<◌, ◌+◌, ◌++◌, ◌*◌, ◌^◌, ◌-◌, ℕ, List, length, Some, vec_capacity};
+ghost use Rattle.std.specs.Prelude.{◌≡◌, ◌≤◌, ◌<◌, ◌+◌, ◌*◌, ◌^◌, ◌-◌, ℕ, List, length, Some, true, vec_capacity};
 ghost use Rattle.std.specs.Prelude.{OnOk, IfOk, IfErr, IfSome};
 ghost use Rattle.std.specs.List.{concat};
 ghost use Rattle.tape_drive.specs.Commands.{item_at};
@@ -11,7 +11,7 @@ ghost use Rattle.tape_types.specs.declared.cartridges.Item.TheVariants as items;
 ghost use Rattle.index_model.specs.Grammar.{IndexText};
 ghost use Rattle.tape_meaning.specs.Pointers.{indexes_of};
 ghost use Rattle.mount_recover.specs.Labels.{IsStopped};
-ghost use Rattle.mount_recover.specs.Lasts.{IsBadText, IsDocument, IsInPlace, IsNewest, StandAt, told};
+ghost use Rattle.mount_recover.specs.Lasts.{IsBadText, IsDocument, IsInPlace, IsNewest, IsPut, StandAt, told};
 ghost use Rattle.mount_recover.specs.Steps.{IsFree, IsSince, IsStep};
 
 use crate::items::{Stop, buffer};
@@ -20,13 +20,14 @@ use crate::starts::Start;
 use index_model::{Index, IndexErr};
 use index_read::read_index;
 use ltfs_label::Label;
-use std::alloc::Global;
+use std::alloc::{AllocError, Global};
 use tape_drive::Drive;
 use tape_meaning::MountErr;
 use tape_types::{Part, Place};
 use volume_scan::Construct;
 
-/// Reads the document of the last index of a partition, which stands there, in place of what was read before it.
+/// Reads the document of the last index of a partition, which stands there, in place of a text, and tells whether it is
+/// that text.
 pub fn read_document<D: Drive>(
     alloc: Global,
     drive: &mut D,
@@ -35,17 +36,18 @@ pub fn read_document<D: Drive>(
     place: Construct,
     block: u32,
     document: &mut Vec<u8>,
-) -> Result<(), MountErr>
+) -> Result<bool, MountErr>
     requires since { IsSince D.Drive start drive.old }
     requires place { IsInPlace (capacity part start.limits) place }
     requires known { IfSome (D.held drive.old) (λ c. IsNewest (items_of part c) place) }
     ensures { IsStep D.Drive start (1 + capacity part start.limits) drive.old drive.new
-        (λ done c. IsDocument document.new.items (indexes_of (items_of part c))) (λ done. Unit {0}) IsFree result }
+        (λ same c. IsDocument document.new.items (indexes_of (items_of part c)))
+        (λ same. same ≡ true → document.new.items ≡ document.old.items) IsFree result }
 {
     let blocks = place.after - place.first - 1;
     let mut buffer = buffer(alloc)?;
-    document.clear();
-    document.reserve_exact(blocks.saturating_mul(u64::from(block)) as usize)?;
+    let most = blocks.saturating_mul(u64::from(block)) as usize;
+    document.reserve_exact(most.saturating_sub(document.len()))?;
     match drive.locate(Place {
         part,
         pos: place.first,
@@ -54,62 +56,98 @@ pub fn read_document<D: Drive>(
         Err(_) => return Err(failed(drive, start.faults)),
     }
     match read_blocks(drive, blocks, &mut buffer, document) {
-        Ok(()) => Ok(()),
+        Ok(same) => Ok(same),
         Err(Stop::Drive) => Err(failed(drive, start.faults)),
         Err(Stop::NoMemory) => Err(MountErr::NoMemory),
     }
 }
 
-/// Appends the bytes of so many blocks from the head on.
+/// How far a document is read, in place of a text that it may be.
+#[derive(Clone, Copy)]
+struct Beside {
+    /// How many of its bytes are read.
+    at: usize,
+    /// Whether that text begins with them.
+    same: bool,
+}
+
+/// Reads so many blocks from the head on in place of a text, and tells whether they are that text.
 fn read_blocks<D: Drive>(
     drive: &mut D,
     blocks: u64,
     buffer: &mut Vec<u8>,
     document: &mut Vec<u8>,
-) -> Result<(), Stop>
+) -> Result<bool, Stop>
     requires located { (at : Place) × (D.head drive.old ≡ Some at) }
     requires room { 1048576 ≤ vec_capacity buffer.old }
     requires commands { D.commands drive.old ≤ 2 ^ 64 - 1 }
     ensures told { OnOk result ((at : Place) (c : Cartridge) (bs : List (List ℕ)) → D.head drive.old ≡ Some at
         → D.held drive.old ≡ Some c → length bs ≡ blocks → StandAt (items_of at.part c) at.pos bs
-        → document.new.items ≡ document.old.items ++ concat bs) }
+        → document.new.items ≡ concat bs) }
+    ensures same { IfOk result (λ same. same ≡ true → document.new.items ≡ document.old.items) }
     ensures looks { Looks D.Drive (blocks * D.MOST) drive.old drive.new }
     ensures cause { IsStopped (D.faults drive.old) (D.faults drive.new) result }
 {
+    let mut read = Beside { at: 0, same: true };
     let mut done = 0;
     while done < blocks {
-        match append_block(drive, buffer, document) {
-            Ok(()) => {}
+        match read_block(drive, buffer, document, read) {
+            Ok(next) => read = next,
             Err(stop) => return Err(stop),
         }
         done += 1;
     }
-    Ok(())
+    let same = read.same && read.at == document.len();
+    document.truncate(read.at);
+    Ok(same)
 }
 
-/// Appends the bytes of the block at the head.
-fn append_block<D: Drive>(
+/// Reads the block at the head.
+fn read_block<D: Drive>(
     drive: &mut D,
     buffer: &mut Vec<u8>,
     document: &mut Vec<u8>,
-) -> Result<(), Stop>
+    read: Beside,
+) -> Result<Beside, Stop>
     requires located { (at : Place) × (D.head drive.old ≡ Some at) }
     requires room { 1048576 ≤ vec_capacity buffer.old }
+    requires within { read.at ≤ length document.old.items }
     ensures room { 1048576 ≤ vec_capacity buffer.new }
     ensures head { OnOk result ((at : Place) × (D.head drive.new ≡ Some at)) }
+    ensures put { IfOk result (λ next. IsPut read buffer.new.items document.old.items document.new.items next) }
     ensures told { OnOk result ((at : Place) (c : Cartridge) (b : List ℕ) → D.head drive.old ≡ Some at
         → D.held drive.old ≡ Some c → item_at at c ≡ Some (items.Block b)
-        → (D.head drive.new ≡ Some (next at)) × (document.new.items ≡ document.old.items ++ b)) }
+        → (D.head drive.new ≡ Some (next at)) × (buffer.new.items ≡ b)) }
     ensures looks { Looks D.Drive D.MOST drive.old drive.new }
     ensures cause { IsStopped (D.faults drive.old) (D.faults drive.new) result }
 {
     match drive.read(buffer) {
-        Ok(_) => match document.extend_from_slice(buffer.as_slice()) {
-            Ok(()) => Ok(()),
+        Ok(_) => match put_block(document, read, buffer.as_slice()) {
+            Ok(next) => Ok(next),
             Err(_) => Err(Stop::NoMemory),
         },
         Err(_) => Err(Stop::Drive),
     }
+}
+
+/// Puts a block behind the bytes that are read, where it may stand already.
+fn put_block(document: &mut Vec<u8>, read: Beside, block: &[u8]) -> Result<Beside, AllocError>
+    requires { read.at ≤ length document.old.items }
+    ensures { IfOk result (λ next. IsPut read block.now document.old.items document.new.items next) }
+{
+    let rest = &document[read.at..];
+    if rest.starts_with(block) {
+        return Ok(Beside {
+            at: read.at + block.len(),
+            same: read.same,
+        });
+    }
+    document.truncate(read.at);
+    document.extend_from_slice(block)?;
+    Ok(Beside {
+        at: document.len(),
+        same: false,
+    })
 }
 
 /// The index of the volume with this label that a document is, which stands there.

@@ -1,24 +1,28 @@
 //! The last indexes of a cartridge.
 
-ghost use Rattle.std.specs.Prelude.{◌≡◌, ◌+◌, IfSome};
+ghost use Rattle.std.specs.Prelude.{◌≡◌, ◌+◌, ℕ, None, Option, Some, IfErr, IfOk, IfSome, OnOk};
+ghost use Rattle.index_model.specs.declared.indexes.Index.{Index as IndexOf};
 ghost use Rattle.tape_meaning.specs.Pointers.{indexes_of};
+ghost use Rattle.tape_types.specs.declared.cartridges.Cartridge.{Cartridge};
 ghost use Rattle.tape_types.specs.Cartridges.{capacity, items_of};
-ghost use Rattle.mount_recover.specs.Lasts.{AreInPlaces, AreLasts, AreSoundLasts, IsBadNewest, IsInPlace, IsKnownDp};
-ghost use Rattle.mount_recover.specs.Lasts.{IsKnownIp};
+ghost use Rattle.mount_recover.specs.Labels.{AreCounts, AreLabels};
+ghost use Rattle.mount_recover.specs.Lasts.{AreInPlaces, AreLasts, AreLastsWith, AreSoundLasts, AreSoundWith};
+ghost use Rattle.mount_recover.specs.Lasts.{IsBadNewest, IsDocument, IsInPlace, IsKnownDp, IsKnownIp};
 ghost use Rattle.mount_recover.specs.Lasts.{IsLastDp, IsLastIp, IsNewest, IsOfNewest, IsScan, IsSound, IsSoundLast};
-ghost use Rattle.mount_recover.specs.Lasts.{index_in};
+ghost use Rattle.mount_recover.specs.Lasts.{IsTextOf, IsTwinAt, generation_in, twin_of};
 ghost use Rattle.mount_recover.specs.Steps.{Blames, IsSince, IsStep};
 
 use crate::documents::{read_document, read_text};
 use crate::pointers::{points_on_dp, points_on_ip};
 use crate::scans::Scans;
 use crate::starts::Start;
-use index_model::Index;
+use index_model::{Index, Spot};
+use index_write::index_text;
 use ltfs_label::Label;
 use std::alloc::Global;
 use tape_drive::Drive;
 use tape_meaning::{Labels, MountErr};
-use tape_types::{Part, Place};
+use tape_types::{NoMemory, Part, Place};
 use volume_scan::Construct;
 
 /// The last index of a partition, and where it stands.
@@ -28,11 +32,23 @@ pub struct Last {
     pub place: Construct,
 }
 
+/// An index of the index partition that is the data partition's last one but for its pointers: where it stands, and
+/// what they are.
+#[derive(Clone, Copy)]
+pub struct Twin {
+    pub place: Construct,
+    pub here: Spot,
+    pub back: Spot,
+}
+
 /// The last index of each partition that has one.
 #[derive(Drop)]
-pub struct Lasts {
-    pub ip: Option<Last>,
-    pub dp: Option<Last>,
+pub enum Lasts {
+    None,
+    OnIp(Last),
+    OnDp(Last),
+    OnBoth { ip: Last, dp: Last },
+    Alike { ip: Twin, dp: Last },
 }
 
 /// Reads the last index of each partition, that of the data partition first. The second document takes the memory of
@@ -45,6 +61,7 @@ pub fn read_lasts<D: Drive>(
     scans: &Scans,
 ) -> Result<Lasts, MountErr>
     requires since { IsSince D.Drive start drive.old }
+    requires sound { AreLabels labels.now }
     requires places { AreInPlaces start.limits scans.now }
     requires known { IfSome (D.held drive.old) (IsScan labels.now scans.now) }
     ensures { IsStep D.Drive start ((1 + start.limits.cap_dp) + (1 + start.limits.cap_ip)) drive.old drive.new
@@ -52,8 +69,7 @@ pub fn read_lasts<D: Drive>(
 {
     let mut document = Vec::new(alloc);
     let dp = last_on_dp(alloc, drive, start, labels, scans, &mut document)?;
-    let ip = last_on_ip(alloc, drive, start, labels, scans, &dp, &mut document)?;
-    Ok(Lasts { ip, dp })
+    last_on_ip(alloc, drive, start, labels, scans, dp, &mut document)
 }
 
 fn last_on_dp<D: Drive>(
@@ -102,54 +118,177 @@ fn read_on_dp<D: Drive>(
     Ok(Some(Last { index, place }))
 }
 
+/// Reads the last index of the index partition, in place of the document of the data partition's.
 fn last_on_ip<D: Drive>(
     alloc: Global,
     drive: &mut D,
     start: Start,
     labels: &Labels,
     scans: &Scans,
-    on_dp: &Option<Last>,
+    dp: Option<Last>,
     document: &mut Vec<u8>,
-) -> Result<Option<Last>, MountErr>
+) -> Result<Lasts, MountErr>
     requires since { IsSince D.Drive start drive.old }
+    requires sound { AreLabels labels.now }
     requires places { AreInPlaces start.limits scans.now }
     requires known { IfSome (D.held drive.old) (IsScan labels.now scans.now) }
-    requires on_dp { IfSome (D.held drive.old) (IsLastDp labels.now.ip on_dp.now) }
-    ensures { IsStep D.Drive start (1 + start.limits.cap_ip) drive.old drive.new (IsLastIp labels.now.ip on_dp.now)
-        (λ last. IfSome last (IsSoundLast labels.now.ip start.limits.cap_ip)) Blames result }
+    requires dp { IfSome (D.held drive.old) (IsLastDp labels.now.ip dp) }
+    requires sound_dp { IfSome dp (IsSoundLast labels.now.ip start.limits.cap_dp) }
+    ensures { IsStep D.Drive start (1 + start.limits.cap_ip) drive.old drive.new (AreLastsWith labels.now.ip dp)
+        (AreSoundWith labels.now.ip start.limits.cap_ip dp) Blames result }
 {
     let dps = scans.dp.constructs.as_slice();
-    match scans.ip.constructs.as_slice().split_last() {
-        None => Ok(None),
-        Some((place, _)) => read_on_ip(alloc, drive, start, labels, *place, dps, on_dp, document),
+    match (scans.ip.constructs.as_slice().split_last(), dp) {
+        (None, None) => Ok(Lasts::None),
+        (None, Some(dp)) => Ok(Lasts::OnDp(dp)),
+        (Some((place, _)), None) => read_alone(alloc, drive, start, labels, *place, dps, document),
+        (Some((place, _)), Some(dp)) => {
+            read_beside(alloc, drive, start, labels, *place, dps, dp, document)
+        }
     }
 }
 
-/// Reads the last index of the index partition, which stands there.
-fn read_on_ip<D: Drive>(
+/// Reads the last index of the index partition, where the data partition has none.
+fn read_alone<D: Drive>(
     alloc: Global,
     drive: &mut D,
     start: Start,
     labels: &Labels,
     place: Construct,
     dps: &[Construct],
-    on_dp: &Option<Last>,
     document: &mut Vec<u8>,
-) -> Result<Option<Last>, MountErr>
+) -> Result<Lasts, MountErr>
     requires since { IsSince D.Drive start drive.old }
     requires place { IsInPlace start.limits.cap_ip place }
-    requires known { IfSome (D.held drive.old) (IsKnownIp labels.now place dps.now (index_in on_dp.now)) }
-    ensures { IsStep D.Drive start (1 + start.limits.cap_ip) drive.old drive.new (IsLastIp labels.now.ip on_dp.now)
-        (λ last. IfSome last (IsSoundLast labels.now.ip start.limits.cap_ip)) Blames result }
+    requires known { IfSome (D.held drive.old) (IsKnownIp labels.now place dps.now None) }
+    ensures { IsStep D.Drive start (1 + start.limits.cap_ip) drive.old drive.new (AreLastsWith labels.now.ip None)
+        (AreSoundWith labels.now.ip start.limits.cap_ip None) Blames result }
 {
-    let index = read_last(alloc, drive, start, &labels.ip, Part::Ip, place, document)?;
-    if !points_on_ip(&labels.ip, place.first, dps, on_dp, &index) {
-        return Err(MountErr::WrongPointer(Place {
-            part: Part::Ip,
-            pos: place.first,
-        }));
+    read_document(
+        alloc,
+        drive,
+        start,
+        Part::Ip,
+        place,
+        labels.ip.block,
+        document,
+    )?;
+    match told_on_ip(alloc, labels, place, dps, None, document.as_slice()) {
+        Ok(ip) => Ok(Lasts::OnIp(ip)),
+        Err(fault) => Err(fault),
     }
-    Ok(Some(Last { index, place }))
+}
+
+/// Reads the last index of the index partition beside that of the data partition, which it mostly is but for its
+/// pointers.
+fn read_beside<D: Drive>(
+    alloc: Global,
+    drive: &mut D,
+    start: Start,
+    labels: &Labels,
+    place: Construct,
+    dps: &[Construct],
+    dp: Last,
+    document: &mut Vec<u8>,
+) -> Result<Lasts, MountErr>
+    requires since { IsSince D.Drive start drive.old }
+    requires sound { AreLabels labels.now }
+    requires place { IsInPlace start.limits.cap_ip place }
+    requires known { IfSome (D.held drive.old) (IsKnownIp labels.now place dps.now (Some dp.index)) }
+    requires dp { IfSome (D.held drive.old) (IsLastDp labels.now.ip (Some dp)) }
+    requires sound_dp { IsSoundLast labels.now.ip start.limits.cap_dp dp }
+    ensures { IsStep D.Drive start (1 + start.limits.cap_ip) drive.old drive.new (AreLastsWith labels.now.ip (Some dp))
+        (AreSoundWith labels.now.ip start.limits.cap_ip (Some dp)) Blames result }
+{
+    let mut dp = dp;
+    let twin = twin_at(&labels.ip, place, dp.place);
+    match write_twin(&mut dp.index, twin, document) {
+        Ok(()) => {}
+        Err(NoMemory) => return Err(MountErr::NoMemory),
+    }
+    if read_document(
+        alloc,
+        drive,
+        start,
+        Part::Ip,
+        place,
+        labels.ip.block,
+        document,
+    )? {
+        return Ok(Lasts::Alike { ip: twin, dp });
+    }
+    let generation = Some(dp.index.generation);
+    match told_on_ip(alloc, labels, place, dps, generation, document.as_slice()) {
+        Ok(ip) => Ok(Lasts::OnBoth { ip, dp }),
+        Err(fault) => Err(fault),
+    }
+}
+
+/// What an index that stands there on the index partition points to, where it is not older than the last one of the
+/// data partition.
+fn twin_at(label: &Label, place: Construct, dp: Construct) -> Twin
+    ensures { IsTwinAt label.now place dp result }
+{
+    Twin {
+        place,
+        here: Spot {
+            letter: label.index,
+            block: place.first,
+        },
+        back: Spot {
+            letter: label.dpart,
+            block: dp.first,
+        },
+    }
+}
+
+/// Puts the text of an index with these pointers in place of a document.
+fn write_twin(index: &mut Index, twin: Twin, document: &mut Vec<u8>) -> Result<(), NoMemory>
+    ensures index { index.new ≡ index.old }
+    ensures text { OnOk result (IsTextOf (twin_of index.old twin) document.new.items) }
+{
+    let (here, back) = (index.here, index.back);
+    index.here = twin.here;
+    index.back = Some(twin.back);
+    document.clear();
+    let done = index_text(index, document);
+    let _in_memory = document.len();
+    index.here = here;
+    index.back = back;
+    done
+}
+
+/// The last index of the index partition, whose document this is, beside one of this generation on the data partition,
+/// or none.
+fn told_on_ip(
+    alloc: Global,
+    labels: &Labels,
+    place: Construct,
+    dps: &[Construct],
+    on_dp: Option<u64>,
+    document: &[u8],
+) -> Result<Last, MountErr>
+    ensures sound { IfOk result (λ ip. (capacity : ℕ) → IsInPlace capacity place
+        → IsSoundLast labels.now.ip capacity ip) }
+    ensures found { IfOk result (λ ip. (c : Cartridge) (dp : Option IndexOf) → on_dp ≡ generation_in dp
+        → IsKnownIp labels.now place dps.now dp c → IsDocument document.now (indexes_of c.ip)
+        → IsLastIp labels.now.ip dp (Some ip) c) }
+    ensures refused { IfErr result (λ e. (c : Cartridge) (dp : Option IndexOf) → on_dp ≡ generation_in dp
+        → IsKnownIp labels.now place dps.now dp c → IsDocument document.now (indexes_of c.ip) → Blames e c) }
+    ensures counts { IfErr result (λ e. (before now : ℕ) → AreCounts before now e) }
+{
+    let at = Place {
+        part: Part::Ip,
+        pos: place.first,
+    };
+    let index = match read_text(alloc, document, &labels.ip, at) {
+        Ok(index) => index,
+        Err(fault) => return Err(fault),
+    };
+    if !points_on_ip(&labels.ip, place.first, dps, on_dp, &index) {
+        return Err(MountErr::WrongPointer(at));
+    }
+    Ok(Last { index, place })
 }
 
 /// What the last index of a partition reads as, which stands there.

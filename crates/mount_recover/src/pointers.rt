@@ -1,13 +1,13 @@
 //! Where indexes point to.
 
 ghost use Rattle.std.specs.Prelude.{◌≡◌, ◌≤◌, ◌<◌, ◌⊎◌, ◌↔◌, List, map, reverse, Option, IsTrue};
+ghost use Rattle.index_model.specs.declared.indexes.Index.{Index as IndexOf};
 ghost use Rattle.index_model.specs.declared.indexes.Spot.{Spot as SpotOf};
 ghost use Rattle.tape_content.specs.Readings.{Construct as ConstructOf, first_of};
 ghost use Rattle.tape_meaning.specs.Pointers.{NamesOneOf, PointsBack, PointsOnDp, PointsOnIp, newest_spot};
 ghost use Rattle.volume_scan.specs.Scans.{places_of};
-ghost use Rattle.mount_recover.specs.Lasts.{HasFirst, index_in};
+ghost use Rattle.mount_recover.specs.Lasts.{HasFirst, generation_in};
 
-use crate::lasts::Last;
 use index_model::{Index, Spot};
 use ltfs_label::Label;
 use volume_scan::Construct;
@@ -44,16 +44,18 @@ fn spot_of_last(label: &Label, places: &[Construct]) -> Option<Spot>
     }
 }
 
-/// Whether the last index of the index partition points to itself, and back to where it must on the data partition.
+/// Whether the last index of the index partition points to itself, and back to where it must on the data partition,
+/// whose last one is of this generation where there is one.
 pub fn points_on_ip(
     label: &Label,
     first: u64,
     dps: &[Construct],
-    on_dp: &Option<Last>,
+    on_dp: Option<u64>,
     index: &Index,
 ) -> bool
-    ensures { (k : ConstructOf) (ks : List ConstructOf) → first ≡ first_of k → dps.now ≡ map places_of (reverse ks)
-        → IsTrue result ↔ PointsOnIp label.now k ks (index_in on_dp.now) index.now }
+    ensures { (k : ConstructOf) (ks : List ConstructOf) (dp : Option IndexOf) → first ≡ first_of k
+        → dps.now ≡ map places_of (reverse ks) → on_dp ≡ generation_in dp
+        → IsTrue result ↔ PointsOnIp label.now k ks dp index.now }
 {
     is_here(
         index,
@@ -76,13 +78,13 @@ fn is_back(index: &Index, back: Option<Spot>) -> bool
     index.back == back
 }
 
-fn points_back(label: &Label, index: &Index, dps: &[Construct], on_dp: &Option<Last>) -> bool
-    ensures { (ks : List ConstructOf) → dps.now ≡ map places_of (reverse ks)
-        → IsTrue result ↔ PointsBack label.now index.now ks (index_in on_dp.now) }
+fn points_back(label: &Label, index: &Index, dps: &[Construct], on_dp: Option<u64>) -> bool
+    ensures { (ks : List ConstructOf) (dp : Option IndexOf) → dps.now ≡ map places_of (reverse ks)
+        → on_dp ≡ generation_in dp → IsTrue result ↔ PointsBack label.now index.now ks dp }
 {
     match on_dp {
         None => is_back(index, None),
-        Some(last) => points_back_from(label, index, dps, last.index.generation),
+        Some(generation) => points_back_from(label, index, dps, generation),
     }
 }
 

@@ -1,5 +1,5 @@
 use Rattle.std.proofs.Common.{arith}
-use Rattle.mount_recover.specs.Lasts.{AreLasts, IsScan}
+use Rattle.mount_recover.specs.Lasts.{AreLasts, IsScan, dp_in, ip_in}
 use Rattle.mount_recover.proofs.FlagLemmas.{front_of}
 use Rattle.mount_recover.proofs.MountLemmas.{free_blames, mounts, sound_mount}
 use Rattle.mount_recover.proofs.StepLemmas.{at_told, found_after, given_step, more_step, no_step, stops, told_then}
@@ -16,12 +16,12 @@ returns-in-Err g c =
 pub read_flags-requires-clause-ip : goal.read_flags-requires-clause-ip
 read_flags-requires-clause-ip g c =
     told_then (g.D.Drive.held c.args.drive.now) c.requires.known
-    (λ held k. front_of held.ip c.args.scans.now.ip c.args.lasts.ip c.in-Ok.choice.ip k.0.ip k.1.ip.place (c.in-Ok.ensures.found held k.0 k.1).choice_is.ip)
+    (λ held k. front_of held.ip c.args.scans.now.ip (ip_in c.args.lasts) c.in-Ok.choice.ip k.0.ip k.1.ip.place (c.in-Ok.ensures.found held k.0 k.1).choice_is.ip)
 
 pub read_flags-requires-clause-dp : goal.read_flags-requires-clause-dp
 read_flags-requires-clause-dp g c =
     told_then (g.D.Drive.held c.args.drive.now) c.requires.known
-    (λ held k. front_of held.dp c.args.scans.now.dp c.args.lasts.dp c.in-Ok.choice.dp k.0.dp k.1.dp.place (c.in-Ok.ensures.found held k.0 k.1).choice_is.dp)
+    (λ held k. front_of held.dp c.args.scans.now.dp (dp_in c.args.lasts) c.in-Ok.choice.dp k.0.dp k.1.dp.place (c.in-Ok.ensures.found held k.0 k.1).choice_is.dp)
 
 pub returns-in_err-flags : goal.returns-in_err-flags
 returns-in_err-flags g c =

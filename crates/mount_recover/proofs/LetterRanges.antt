@@ -23,7 +23,7 @@ use Rattle.index_read.proofs.Ranges.{leaf_range}
 use Rattle.ltfs_label.specs.Values.{LabelValue, blank, set_leaf}
 use Rattle.ltfs_label.specs.Reading.{value_from}
 use Rattle.ltfs_label.specs.Grammar.{LabelText}
-use Rattle.ltfs_server.proofs.LabelKept.{all_keep, all_there, joined}
+use Rattle.mount_recover.proofs.LabelKept.{all_keep, all_there, joined}
 
 either : {A : Type 0} (b : Bool) (x y : Result A PieceErr) (z : A) → cond b x y ≡ Ok z → (x ≡ Ok z) ⊎ (y ≡ Ok z)
 either true x y z e = inl e
