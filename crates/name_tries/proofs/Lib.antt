@@ -1,0 +1,12 @@
+pub mod ItemLemmas
+pub mod BitLemmas
+pub mod TrieLemmas
+pub mod WayLemmas
+pub mod PairLemmas
+pub mod KeyLemmas
+pub mod PutLemmas
+pub mod CutLemmas
+pub mod CallLemmas
+pub mod OrderLemmas
+pub mod ListLemmas
+pub mod LoopLemmas

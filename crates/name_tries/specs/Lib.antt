@@ -1,0 +1,5 @@
+pub mod Bits
+pub mod Tries
+pub mod Ways
+pub mod Keys
+pub mod Listing

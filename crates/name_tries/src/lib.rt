@@ -1,0 +1,9 @@
+//! Names in directories, found by their bits: a trie for each directory, linked by index.
+#![tactic(auto)]
+
+mod bits;
+mod forks;
+mod tries;
+
+pub use forks::{Branch, Fork};
+pub use tries::Tries;
