@@ -28,7 +28,8 @@ use Rattle.file_tree.specs.Mounts.{Letters, IsKindOf, IsNodeOf, IsPathOf, IsBuil
 use Rattle.file_tree.specs.Mounts.IsPathOf.{root, below}
 use Rattle.file_tree.specs.Told.{raw_of, place_of, name_or, told_kind_of, told_of, told_nodes}
 use Rattle.file_tree.specs.Indexes.{NamesAscend, kind_in_order, node_in_order, IndexesAreToldAgain}
-use Rattle.file_tree.proofs.PathLemmas.{by_last, no_name, some_same}
+use Rattle.name_tries.proofs.ItemLemmas.{some_same}
+use Rattle.file_tree.proofs.PathLemmas.{by_last, no_name}
 use Rattle.file_tree.proofs.ToldLemmas.{entry_get, get_entry, entry_place, sorted_map_entries, last_is, parent_is}
 use Rattle.file_tree.proofs.OrderLemmas.{parent_less, ascends}
 use Rattle.file_tree.proofs.MountLemmas.{at_path, told_at, path_once, ends}

@@ -24,7 +24,7 @@ use Rattle.file_tree.specs.Tree.{Nodes, FileTree, plain_node_of, plain_kind_of, 
 use Rattle.file_tree.specs.Mounts.{Letters}
 use Rattle.file_tree.specs.Told.{place_of, name_or, raw_of, told_kind_of, told_of, told_in, told_nodes}
 use Rattle.file_tree.specs.Valid.{IsGood, IsFileOf, AreFilesOf}
-use Rattle.file_tree.proofs.PathLemmas.{some_same}
+use Rattle.name_tries.proofs.ItemLemmas.{some_same}
 use Rattle.file_tree.proofs.PlainLemmas.{plain_get}
 use Rattle.file_tree.proofs.ToldLemmas.{entry_get, entry_place, last_is}
 use Rattle.file_tree.proofs.OrderLemmas as order

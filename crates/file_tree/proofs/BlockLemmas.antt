@@ -18,7 +18,8 @@ use Rattle.file_tree.specs.Tree.{Nodes, FileTree, HasLaid, plain_kind_of, plain_
 use Rattle.file_tree.specs.Edits.{OthersLie, AllLie}
 use Rattle.file_tree.specs.Blocks.{TreeStandsIn, AddsNoBlock, AddsBlocksOf, BlocksMakeTheTree, EndsHold}
 use Rattle.file_tree.specs.Valid.{NumbersDiffer}
-use Rattle.file_tree.proofs.PathLemmas.{same_nodes, some_same, number_is}
+use Rattle.name_tries.proofs.ItemLemmas.{some_same}
+use Rattle.file_tree.proofs.PathLemmas.{same_nodes, number_is}
 use Rattle.file_tree.proofs.PlainLemmas.{plain_get}
 
 -- ---- the same blocks make the same tree

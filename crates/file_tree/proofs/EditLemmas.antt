@@ -18,7 +18,8 @@ use Rattle.file_tree.specs.Tree.{Nodes, number_at, moved, HasLaid, plain_node_of
 use Rattle.file_tree.specs.Changes.{IsChangedAt}
 use Rattle.plain_tree.specs.Paths.{Path}
 use Rattle.file_tree.specs.Valid.{IsFileOf, AreFilesOf, NumbersDiffer}
-use Rattle.file_tree.proofs.PathLemmas.{same_nodes, get_here, get_other, gone_here, gone_other, is_or_not, some_same, number_is, node_at}
+use Rattle.name_tries.proofs.ItemLemmas.{some_same}
+use Rattle.file_tree.proofs.PathLemmas.{same_nodes, get_here, get_other, gone_here, gone_other, is_or_not, number_is, node_at}
 use Rattle.file_tree.proofs.PlainLemmas.{plain_get, plain_insert}
 use Rattle.file_tree.proofs.UpdateLemmas.{from_where, stay, come}
 
@@ -158,10 +159,6 @@ remove_files size m p all q n room is kind = ⊎_elim
   where
     gone : (m : Nodes) (p : List (List ℕ)) → fin.get (fin.remove m p) p ≡ None
     gone m p = Rattle.file_tree.proofs.PathLemmas.gone_here m p
-
-pub remove_numbers : (m : Nodes) (p : List (List ℕ)) (n : ℕ) → ((q : List (List ℕ)) → number_at m q ≡ Some n → q ≡ p) → (q : List (List ℕ)) (k : ℕ) → number_at m p ≡ Some n → number_at m q ≡ Some k → k ≢ n → number_at (fin.remove m p) q ≡ Some k
-remove_numbers m p n only q k there is apart =
-    ap (option_map (λ (n : Node). n.number)) (gone_other m p q (λ e. apart (some_same k n (sym is ∙ ap (number_at m) e ∙ there)))) ∙ is
 
 module _ (m : Nodes) (p : Path) where
   -- what is there now was there before

@@ -16,7 +16,8 @@ use Rattle.plain_tree.specs.Paths.{Name, Path}
 use Rattle.file_tree.specs.Tree.{Nodes, moved}
 use Rattle.file_tree.specs.Changes.{IsChangedAt}
 use Rattle.file_tree.specs.Valid.{IsFit, AreFit}
-use Rattle.file_tree.proofs.PathLemmas.{by_last, same_last, get_here, get_other, is_or_not, some_same}
+use Rattle.name_tries.proofs.ItemLemmas.{some_same}
+use Rattle.file_tree.proofs.PathLemmas.{by_last, same_last, get_here, get_other, is_or_not}
 use Rattle.file_tree.proofs.EditLemmas.{was_there}
 use Rattle.file_tree.proofs.UpdateLemmas.{from_where}
 use Rattle.file_tree.proofs.ToldLemmas.{last_is}

@@ -1,125 +1,117 @@
--- All that is kept comes into chains, one number after the other.
-use Rattle.std.proofs.Common.{Option, ◌≡◌, ◌≢◌, ℕ, ◌+◌, ◌<◌, ◌≤◌, true, false, cond, nat_lt, List, length, Some, None, sym, ap, ◌∙◌, refl, subst, arith, inl, inr, ⊎_elim}
+-- All that is kept comes under names, one number after the other.
+use Rattle.std.proofs.Common.{Option, ◌≡◌, ◌≢◌, ℕ, ◌+◌, ◌<◌, ◌≤◌, true, false, cond, nat_lt, List, length, Some, None, is_some, sym, ap, ◌∙◌, refl, subst, arith, inl, inr, ⊎_elim}
 use Rattle.std.proofs.lemmas.Bool.Decides.{nat_tests}
 use Rattle.std.proofs.lemmas.Bool.{cases_eq, cases_lt}
-use Rattle.file_tree.specs.declared.chains.By.{By}
-use Rattle.file_tree.specs.declared.chains.Chains.{Chains}
+use Rattle.name_tries.specs.Keys.{AreTries}
+use Rattle.name_tries.specs.declared.tries.Tries.{Tries}
+use Rattle.name_tries.proofs.ItemLemmas.{none_not}
 use Rattle.file_tree.specs.declared.nodes.Spot.{Spot}
-use Rattle.file_tree.specs.Chains.{Classes, AreLinked, IsClassed, CanPush, class_of, classes_of, AreIn}
-use Rattle.file_tree.specs.Seen.{Held, held}
-use Rattle.plain_tree.specs.Paths.{Name}
-use Rattle.file_tree.proofs.ClassLemmas.{class_at, class_now, class_there, has_class, linked_same}
+use Rattle.file_tree.specs.Beside.{key_in, keys_of, KeysDiffer, AreNamed, CanName}
+use Rattle.file_tree.specs.Seen.{Held, held, IsKept}
+use Rattle.file_tree.proofs.KeyLemmas.{key_at, no_root_key, key_same, of_key, named_same}
 use Rattle.file_tree.proofs.PlaceLemmas.{held_past}
 
--- the classes of the numbers below one
-abbrev pub until : ℕ → Classes → Classes
-until k f n = cond (nat_lt n k) (f n) None
+-- what is kept at the numbers below one
+abbrev pub until : ℕ → Held → Held
+until k at n = cond (nat_lt n k) (at n) None
 
-inside : (k : ℕ) (f : Classes) (n : ℕ) → n < k → until k f n ≡ f n
-inside k f n lt = let holds : nat_lt n k ≡ true = grind (arith, nat_tests, lt) in ap (λ b. cond b (f n) None) holds
+inside : (k : ℕ) (at : Held) (n : ℕ) → n < k → until k at n ≡ at n
+inside k at n lt = let holds : nat_lt n k ≡ true = grind (arith, nat_tests, lt) in ap (λ b. cond b (at n) None) holds
 
-outside : (k : ℕ) (f : Classes) (n : ℕ) → k ≤ n → until k f n ≡ None
-outside k f n le = let fails : nat_lt n k ≡ false = grind (arith, nat_tests, le) in ap (λ b. cond b (f n) None) fails
+outside : (k : ℕ) (at : Held) (n : ℕ) → k ≤ n → until k at n ≡ None
+outside k at n le = let fails : nat_lt n k ≡ false = grind (arith, nat_tests, le) in ap (λ b. cond b (at n) None) fails
 
--- the chains so far
-pub record AreGathered (by : By) (classes numbers : ℕ) (spots : List (Option Spot)) (chains : Chains) (k : ℕ) : Type 0 where
-  pub linked : AreLinked chains (until k (classes_of by classes (held spots)))
-  pub same_by : chains.by ≡ by
-  pub as_many : length chains.firsts.items ≡ classes
-  pub links : length chains.links.items ≡ numbers
+free_now : (k : ℕ) (at : Held) → until k at k ≡ None
+free_now k at = outside k at k (omega arith)
 
-zero_none : (by : By) (count : ℕ) (at : Held) → classes_of by count at 0 ≡ None
-zero_none by count at = none (classes_of by count at 0) refl
+-- what is kept at one number comes to it
+one_more : (k : ℕ) (at : Held) → IsKept (until k at) (until (k + 1) at) k (at k)
+one_more k at = record {
+  here = inside (k + 1) at k (omega arith);
+  others = λ n apart. ⊎_elim
+      (λ (low : n < k). inside (k + 1) at n (omega (arith, low)) ∙ sym (inside k at n low))
+      (λ (high : k ≤ n). outside (k + 1) at n (omega (arith, high, apart)) ∙ sym (outside k at n high))
+      (cases_lt n k);
+}
+
+until_held : (k : ℕ) (at : Held) (n : ℕ) (z : Spot) → until k at n ≡ Some z → at n ≡ Some z
+until_held k at n z is = ⊎_elim
+    (λ (low : n < k). sym (inside k at n low) ∙ is)
+    (λ (high : k ≤ n). absurd (none_not (until k at n) z (outside k at n high) is))
+    (cases_lt n k)
+
+pub not_there : (at : Held) (n : ℕ) → is_some (at n) ≡ false → at n ≡ None
+not_there at n none = by (at n) refl none
   where
-    none : (o : Option ℕ) → classes_of by count at 0 ≡ o → classes_of by count at 0 ≡ None
-    none None e = e
-    none (Some class) e = absurd ((has_class by count at 0 class e).0 refl)
+    by : (o : Option Spot) → at n ≡ o → is_some (at n) ≡ false → at n ≡ None
+    by None e none = e
+    by (Some z) e none = let wrong : true ≡ false = sym (ap is_some e) ∙ none in cc
 
-module _ (by : By) (classes numbers : ℕ) (spots : List (Option Spot)) where
-  abbrev f : Classes
-  f = classes_of by classes (held spots)
+-- below 1 there is no node, and below the count of the places there are all
+no_keys : (at : Held) (n : ℕ) → keys_of (until 1 at) n ≡ None
+no_keys at n = elim (cases_eq n 0) [
+  | inl e ↦ no_root_key (until 1 at) n e
+  | inr other ↦ key_at (until 1 at) n None other (outside 1 at n (omega (arith, other)))
+]
 
-  pub gather_first : (chains : Chains) → AreLinked chains (λ n. None) → chains.by ≡ by → length chains.firsts.items ≡ classes → length chains.links.items ≡ numbers
-      → AreGathered by classes numbers spots chains 1
-  gather_first chains l same many links = record {
-    linked = linked_same chains (λ n. None) (until 1 f) l (λ n. ⊎_elim
-        (λ (low : n < 1). inside 1 f n low ∙ (let e : n ≡ 0 = omega (arith, low) in ap f e) ∙ zero_none by classes (held spots))
-        (λ (high : 1 ≤ n). outside 1 f n high)
-        (cases_lt n 1));
-    same_by = same;
-    as_many = many;
-    links = links;
+no_more_keys : (k : ℕ) (at : Held) → at k ≡ None → (n : ℕ) → keys_of (until (k + 1) at) n ≡ keys_of (until k at) n
+no_more_keys k at none n = key_same (until k at) (until (k + 1) at) n (elim (cases_eq n k) [
+  | inl e ↦ ap (until (k + 1) at) e ∙ (one_more k at).here ∙ none ∙ sym (free_now k at) ∙ ap (until k at) (sym e)
+  | inr apart ↦ (one_more k at).others n apart
+])
+
+all_keys : (spots : List (Option Spot)) (k : ℕ) → length spots ≤ k → (n : ℕ) → keys_of (held spots) n ≡ keys_of (until k (held spots)) n
+all_keys spots k all n = key_same (until k (held spots)) (held spots) n (⊎_elim
+    (λ (low : n < k). sym (inside k (held spots) n low))
+    (λ (high : k ≤ n). held_past spots n (omega (arith, high, all)) ∙ sym (outside k (held spots) n high))
+    (cases_lt n k))
+
+-- the names so far
+pub record AreSpelled (spots : List (Option Spot)) (names : Tries) (k : ℕ) : Type 0 where
+  pub named : AreNamed names (until k (held spots))
+  pub dirs : length spots ≤ length names.roots.items
+  pub numbers : length names.owned.items ≡ length spots
+
+module _ (spots : List (Option Spot)) where
+  pub spell_first : (names : Tries) → AreTries names (λ n. None) → length spots ≤ length names.roots.items → length names.owned.items ≡ length spots
+      → AreSpelled spots names 1
+  spell_first names w dirs numbers = record {
+    named = named_same names (λ n. None) (keys_of (until 1 (held spots))) w (no_keys (held spots));
+    dirs = dirs;
+    numbers = numbers;
   }
 
-  next_others : (k n : ℕ) → (n ≡ k → ⊥) → until (k + 1) f n ≡ until k f n
-  next_others k n apart = ⊎_elim
-      (λ (low : n < k). inside (k + 1) f n (omega (arith, low)) ∙ sym (inside k f n low))
-      (λ (high : k ≤ n). outside (k + 1) f n (omega (arith, high, apart)) ∙ sym (outside k f n high))
-      (cases_lt n k)
+  module _ (names : Tries) (k : ℕ) (g : AreSpelled spots names k) where
+    pub spell_none : held spots k ≡ None → AreSpelled spots names (k + 1)
+    spell_none none = record {
+      named = named_same names (keys_of (until k (held spots))) (keys_of (until (k + 1) (held spots))) g.named (no_more_keys k (held spots) none);
+      dirs = g.dirs;
+      numbers = g.numbers;
+    }
 
-  pub gather_none : (chains : Chains) (k : ℕ) → AreGathered by classes numbers spots chains k → k ≢ 0 → held spots k ≡ None → AreGathered by classes numbers spots chains (k + 1)
-  gather_none chains k g other none = record {
-    linked = linked_same chains (until k f) (until (k + 1) f) g.linked (λ n. elim (cases_eq n k) [
-      | inl e ↦ ap (until (k + 1) f) e ∙ inside (k + 1) f k (omega arith) ∙ class_at by classes (held spots) k None other none ∙ sym (outside k f n (omega (arith, e)))
-      | inr apart ↦ next_others k n apart
-    ]);
-    same_by = g.same_by;
-    as_many = g.as_many;
-    links = g.links;
-  }
+    pub spelled : length spots ≤ k → AreNamed names (held spots)
+    spelled all = named_same names (keys_of (until k (held spots))) (keys_of (held spots)) g.named (all_keys spots k all)
 
-  pub free_now : (k : ℕ) → until k f k ≡ None
-  free_now k = outside k f k (omega arith)
+    module _ (z : Spot) (other : k ≢ 0) (is : held spots k ≡ Some z) where
+      pub spell_can : KeysDiffer (held spots) → k < length spots → z.parent < length spots
+          → CanName names spots (until k (held spots)) (until (k + 1) (held spots)) k
+      spell_can differ within below = record {
+        old = g.named;
+        free = free_now k (held spots);
+        other = other;
+        spot = z;
+        kept = subst (IsKept (until k (held spots)) (until (k + 1) (held spots)) k) is (one_more k (held spots));
+        there = until_held (k + 1) (held spots);
+        within = omega (arith, within, g.numbers);
+        below = omega (arith, below, g.dirs);
+        apart = λ j same.
+            let h = of_key (until k (held spots)) j (key_in z) same in
+            let there = until_held k (held spots) j h.1 h.2 in
+            let one : j ≡ k = differ j k (key_in z)
+            (key_at (held spots) j (Some h.1) h.0 there ∙ ap (λ x. Some x) h.3) (key_at (held spots) k (Some z) other is) in
+            none_not (until k (held spots) j) h.1 (ap (until k (held spots)) one ∙ free_now k (held spots)) h.2;
+      }
 
-  pub now_classed : (k class : ℕ) (z : Spot) → k ≢ 0 → held spots k ≡ Some z → class_of by classes z.parent z.name ≡ class
-      → IsClassed (until k f) (until (k + 1) f) k (Some class)
-  now_classed k class z other kept is = record {
-    here = inside (k + 1) f k (omega arith) ∙ class_there by classes (held spots) k z class other kept is;
-    others = λ n apart. next_others k n apart;
-  }
-
-  pub gathered : (chains : Chains) (k : ℕ) → AreGathered by classes numbers spots chains k → length spots ≤ k → AreIn chains (held spots)
-  gathered chains k g all = subst (λ b. AreLinked chains (classes_of b (length chains.firsts.items) (held spots))) (sym g.same_by)
-      (subst (λ c. AreLinked chains (classes_of by c (held spots))) (sym g.as_many)
-      (linked_same chains (until k f) f g.linked (λ n. ⊎_elim
-      (λ (low : n < k). sym (inside k f n low))
-      (λ (high : k ≤ n). past n (omega (arith, high, all)) ∙ sym (outside k f n high))
-      (cases_lt n k))))
-    where
-      past : (n : ℕ) → length spots ≤ n → f n ≡ None
-      past n le = elim (cases_eq n 0) [
-        | inl e ↦ ap f e ∙ zero_none by classes (held spots)
-        | inr other ↦ class_at by classes (held spots) n None other (held_past spots n le)
-      ]
-
--- the class that was computed by chains so far
-pub gather_class : (by : By) (classes numbers : ℕ) (spots : List (Option Spot)) (chains : Chains) (k : ℕ) → AreGathered by classes numbers spots chains k
-    → (z : Spot) (x : Name) (class : ℕ) → x ≡ z.name → class ≡ class_of chains.by (length chains.firsts.items) z.parent x
-    → class_of by classes z.parent z.name ≡ class
-gather_class by classes numbers spots chains k g z x class named is =
-    ap (λ b. class_of b classes z.parent z.name) (sym g.same_by) ∙ ap (λ c. class_of chains.by c z.parent z.name) (sym g.as_many)
-    ∙ class_now chains.by (length chains.firsts.items) z x class named is
-
-pub gather_can : (by : By) (classes numbers : ℕ) (spots : List (Option Spot)) (chains : Chains) (k class : ℕ) (z : Spot) → AreGathered by classes numbers spots chains k
-    → k ≢ 0 → k < numbers → class_of by classes z.parent z.name ≡ class → class_of by classes z.parent z.name < classes → CanPush chains class k
-gather_can by classes numbers spots chains k class z g other within is below = record {
-  classes = until k (classes_of by classes (held spots));
-  linked = g.linked;
-  free = free_now by classes numbers spots k;
-  some = other;
-  within = omega (arith, within, g.links);
-  below = omega (arith, is, below, g.as_many);
-}
-
-pub gather_some : (by : By) (classes numbers : ℕ) (spots : List (Option Spot)) (chains new : Chains) (k class : ℕ) (z : Spot) → AreGathered by classes numbers spots chains k
-    → k ≢ 0 → held spots k ≡ Some z → class_of by classes z.parent z.name ≡ class
-    → ((before next : Classes) → AreLinked chains before → before k ≡ None → IsClassed before next k (Some class) → AreLinked new next)
-    → new.by ≡ chains.by → length new.firsts.items ≡ length chains.firsts.items → length new.links.items ≡ length chains.links.items
-    → AreGathered by classes numbers spots new (k + 1)
-gather_some by classes numbers spots chains new k class z g other kept is push same many links = record {
-  linked = push (until k (classes_of by classes (held spots))) (until (k + 1) (classes_of by classes (held spots))) g.linked
-      (free_now by classes numbers spots k) (now_classed by classes numbers spots k class z other kept is);
-  same_by = same ∙ g.same_by;
-  as_many = many ∙ g.as_many;
-  links = links ∙ g.links;
-}
+      pub spell_some : (new : Tries) → AreNamed new (until (k + 1) (held spots)) → length new.roots.items ≡ length names.roots.items
+          → length new.owned.items ≡ length names.owned.items → AreSpelled spots new (k + 1)
+      spell_some new named dirs numbers = record { named = named; dirs = omega (arith, g.dirs, dirs); numbers = numbers ∙ g.numbers }

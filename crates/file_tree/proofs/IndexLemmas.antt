@@ -30,7 +30,8 @@ use Rattle.file_tree.specs.Mounts.IsPathOf.{root, below}
 use Rattle.file_tree.specs.Told.{letter_of, raw_of, told_kind_of, name_or, told_of, told_nodes}
 use Rattle.file_tree.specs.Valid.{IsGood, IsFileOf}
 use Rattle.file_tree.specs.Indexes.{TellsTree, IsFitVolume, AreLetters, without_room, as_told, IsSameTree, IndexesComeBack}
-use Rattle.file_tree.proofs.PathLemmas.{by_last, same_nodes, some_same}
+use Rattle.name_tries.proofs.ItemLemmas.{some_same}
+use Rattle.file_tree.proofs.PathLemmas.{by_last, same_nodes}
 use Rattle.file_tree.proofs.PlainLemmas.{plain_get, plain_len}
 use Rattle.file_tree.proofs.RawLemmas.{nothing_cut}
 use Rattle.file_tree.proofs.ToldLemmas.{entry_get, get_entry, last_is}

@@ -24,7 +24,8 @@ use Rattle.file_tree.specs.Places.{IsThere, CanTake, CanShift}
 use Rattle.file_tree.specs.Valid.{AreFilesOf, NumbersDiffer, AreFit, IsGood}
 use Rattle.file_tree.specs.Blocks.{AddsNoBlock}
 use Rattle.file_tree.specs.Edits.{CanUnlink, CanMoveTo, IsAfter, NumbersCome, OthersLie, AllLie}
-use Rattle.file_tree.proofs.PathLemmas.{by_last, longer, gone_other, some_same, number_is, node_at}
+use Rattle.name_tries.proofs.ItemLemmas.{some_same}
+use Rattle.file_tree.proofs.PathLemmas.{by_last, longer, gone_other, number_is, node_at}
 use Rattle.file_tree.proofs.PlainLemmas.{plain_remove, plain_moved, none_plain}
 use Rattle.file_tree.proofs.TreeLemmas.{after_free, free_too, same_tree, good_after}
 use Rattle.file_tree.proofs.EditLemmas.{move_files, move_back, move_differ, node_moves, number_moves, parent_ends, change_numbers, change_plain, change_lies_both, change_differ, change_files_same, remove_files, remove_back, remove_differ}

@@ -18,16 +18,12 @@ pub mod WriteLemmas
 pub mod ReadLemmas
 pub mod RawLemmas
 pub mod MemberLemmas
-pub mod ChainLemmas
 pub mod SortedRaws
 pub mod KeyLemmas
-pub mod ClassLemmas
-pub mod SoughtLemmas
+pub mod NameLemmas
 pub mod GatherLemmas
 pub mod IndexedLemmas
-pub mod SortLemmas
 pub mod RunLemmas
-pub mod EntriesLemmas
 pub mod PreorderLemmas
 pub mod MountLemmas
 pub mod MountedBlocks

@@ -7,7 +7,8 @@ use Rattle.std.proofs.lemmas.List.Sorted.{IsPermutation-keeps}
 use Rattle.index_model.specs.Places.{IsAt}
 use Rattle.index_faults.proofs.Exchanged.{IsMoved, goes_to}
 use Rattle.file_tree.specs.Order.{IsIn}
-use Rattle.file_tree.proofs.PathLemmas.{some_same}
+use Rattle.name_tries.proofs.ItemLemmas.{some_same}
+pub use Rattle.name_tries.proofs.ItemLemmas.{in_front, in_rest, in_either}
 
 module _ {X : Type 0} where
   pub placed : (x : X) (xs : List X) → IsIn x xs → (i : ℕ) × IsAt xs i x
@@ -28,20 +29,6 @@ module _ {X : Type 0} where
   pub to_all : (P : X → Type 0) (xs : List X) → ((x : X) → IsIn x xs → P x) → AllByRecursion P xs
   to_all P [] each = tt
   to_all P (x ∷ xs) each = (each x (inl refl), to_all P xs (λ y more. each y (inr more)))
-
-  pub in_front : (x : X) (xs ys : List X) → IsIn x xs → IsIn x (xs ++ ys)
-  in_front x [] ys none = elim none [ ]
-  in_front x (y ∷ xs) ys (inl same) = inl same
-  in_front x (y ∷ xs) ys (inr more) = inr (in_front x xs ys more)
-
-  pub in_rest : (x : X) (xs ys : List X) → IsIn x ys → IsIn x (xs ++ ys)
-  in_rest x [] ys more = more
-  in_rest x (y ∷ xs) ys more = inr (in_rest x xs ys more)
-
-  pub in_either : (x : X) (xs ys : List X) → IsIn x (xs ++ ys) → IsIn x xs ⊎ IsIn x ys
-  in_either x [] ys more = inr more
-  in_either x (y ∷ xs) ys (inl same) = inl (inl same)
-  in_either x (y ∷ xs) ys (inr more) = ⊎_elim (λ here. inl (inr here)) (λ there. inr there) (in_either x xs ys more)
 
   pub moved_in : (xs ys : List X) → IsPermutation xs ys → (x : X) → IsIn x xs → IsIn x ys
   moved_in xs ys moved x here = IsPermutation-keeps xs (IsIn x) here

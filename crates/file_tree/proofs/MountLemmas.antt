@@ -30,7 +30,8 @@ use Rattle.file_tree.specs.Valid.{AreFilesOf}
 use Rattle.file_tree.specs.Mounts.{Letters, IsKindOf, IsNodeOf, IsPathOf, Stands, IsTold, IsBuilt, IsOnVolume, AreTold, CanMount}
 use Rattle.file_tree.specs.Mounts.IsPathOf.{root, below}
 use Rattle.file_tree.specs.Raws.{IsRaw, AreApart, AllApart, CanKeep, LiesWell}
-use Rattle.file_tree.proofs.PathLemmas.{no_name, same_last, by_last, get_here, get_other, is_or_not, some_same, number_is}
+use Rattle.name_tries.proofs.ItemLemmas.{some_same}
+use Rattle.file_tree.proofs.PathLemmas.{no_name, same_last, by_last, get_here, get_other, is_or_not, number_is}
 use Rattle.file_tree.proofs.PlainLemmas.{plain_get, plain_len}
 use Rattle.file_tree.proofs.EditLemmas.{parent_ends, insert_files}
 use Rattle.file_tree.proofs.RawLemmas.{all_both}

@@ -13,7 +13,7 @@ use Rattle.index_model.specs.Valid.{IsValid}
 use Rattle.plain_tree.proofs.MoveLemmas.{both_true}
 use Rattle.file_tree.specs.Mounts.{Letters, IsOnVolume, EndsNear, CanMount}
 use Rattle.file_tree.specs.OnVolume.{on_volume, kind_on_volume}
-use Rattle.file_tree.proofs.PathLemmas.{some_same}
+use Rattle.name_tries.proofs.ItemLemmas.{some_same}
 
 equal : (a b : ℕ) → eqb a b ≡ true → a ≡ b
 equal a b e = grind (arith, nat_tests)

@@ -25,7 +25,8 @@ use Rattle.file_tree.specs.Tree.{Nodes, FileTree, plain_node_of, plain_kind_of, 
 use Rattle.file_tree.specs.Mounts.{Letters}
 use Rattle.file_tree.specs.Told.{place_of, told_kind_of, told_of, told_in, told_nodes}
 use Rattle.file_tree.specs.Valid.{IsGood}
-use Rattle.file_tree.proofs.PathLemmas.{by_last, no_name, some_same}
+use Rattle.name_tries.proofs.ItemLemmas.{some_same}
+use Rattle.file_tree.proofs.PathLemmas.{by_last, no_name}
 use Rattle.file_tree.proofs.PlainLemmas.{plain_get}
 use Rattle.file_tree.proofs.ToldLemmas.{entry_get, get_entry, entry_place, sorted_map_entries, parent_is}
 

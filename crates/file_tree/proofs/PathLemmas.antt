@@ -5,6 +5,7 @@ use Rattle.std.specs.List.{list_any}
 use Rattle.std.specs.FinMap as fin
 use Rattle.std.proofs.lemmas.Bool.Decides.{nat_tests}
 use Rattle.std.proofs.lemmas.List.{length-append}
+pub use Rattle.name_tries.proofs.ItemLemmas.{some_same}
 use Rattle.plain_tree.specs.Paths.{path_cmp, same_path}
 use Rattle.plain_tree.proofs.NodeLemmas.{path_total, path_exact}
 use Rattle.plain_tree.proofs.MoveLemmas.{same_is, is_same, not_true}
@@ -67,9 +68,6 @@ module _ {X : Type 0} where
 
   pub same_nodes : (m n : fin.FinMap path_cmp X) → ((q : List (List ℕ)) → fin.get m q ≡ fin.get n q) → m ≡ n
   same_nodes m n same = fin.same_map path_total path_exact m n same
-
-pub some_same : {X : Type 0} (x y : X) → ◌≡◌ {A = Option X} (Some x) (Some y) → x ≡ y
-some_same x y e = cc
 
 -- an element of a list that passes a test
 pub passing : {X : Type 0} (t : X → Bool) (xs : List X) → list_any t xs ≡ true → (x : X) × (t x ≡ true)

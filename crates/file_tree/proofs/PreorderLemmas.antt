@@ -14,7 +14,8 @@ use Rattle.file_tree.specs.declared.nodes.Node.{Node}
 use Rattle.file_tree.specs.Tree.{Nodes, number_at}
 use Rattle.file_tree.specs.Places.{IsThere}
 use Rattle.file_tree.specs.Order.{IsIn, IsRunAt}
-use Rattle.file_tree.proofs.PathLemmas.{some_same, number_is, node_at}
+use Rattle.name_tries.proofs.ItemLemmas.{some_same}
+use Rattle.file_tree.proofs.PathLemmas.{number_is, node_at}
 use Rattle.file_tree.proofs.MemberLemmas.{Up, of_all, to_all, in_front, in_rest, in_either, up_join, same_up, no_longer}
 use Rattle.file_tree.proofs.ToldLemmas.{OnePath, entry_get, get_entry, sorted_map_entries}
 use Rattle.file_tree.proofs.OrderLemmas.{parent_less, ascends}

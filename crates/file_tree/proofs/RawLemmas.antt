@@ -1,5 +1,5 @@
 -- The extents that an index tells of a file, one after the other.
-use Rattle.std.proofs.Common.{◌⊎◌, ◌≡◌, ◌≢◌, ℕ, zero, suc, ◌+◌, ◌-◌, ◌<◌, ◌≤◌, ◌^◌, min, Bool, true, false, cond, ltb, leb, List, [], ◌∷◌, ◌++◌, length, take, drop, get_or, map, sym, ap, ◌∙◌, refl, subst, arith, inl, inr, ⊎_elim}
+use Rattle.std.proofs.Common.{◌⊎◌, ◌≡◌, ℕ, zero, suc, ◌+◌, ◌-◌, ◌<◌, ◌≤◌, min, Bool, true, false, cond, ltb, leb, List, [], ◌∷◌, ◌++◌, length, take, drop, get_or, map, sym, ap, ◌∙◌, refl, subst, arith, inl, inr, ⊎_elim}
 use Rattle.std.specs.List.{AllByRecursion, filter}
 use Rattle.std.proofs.lemmas.List.Sums.{fold-append}
 use Rattle.std.proofs.lemmas.Grind.{flat_map-append}
@@ -58,23 +58,6 @@ one_more letters length front raw =
     ∙ ap (λ l. cut length (map (extent_of letters) front) ++ l) (append-nil (before length (extent_of letters raw)))
 
 module _ (letters : Letters) (size long : ℕ) (front rest : List RawExtent) (raw : RawExtent) (laid : Laid) (p : IsPlaced letters size long front (raw ∷ rest) laid) (apart : AllByRecursion (AreApart raw) rest) where
-  -- an extent that isn't within the file is left out
-  pub placed_none : (raw.count ≡ 0) ⊎ (long ≤ raw.offset) → IsPlaced letters size long (front ++ raw ∷ []) rest laid
-  placed_none out = record {
-    block_size = p.block_size;
-    short = p.short;
-    good = p.good;
-    extents = p.extents ∙ ap by_offset (sym (one_more letters long front raw ∙ ap (λ l. cut long (map (extent_of letters) front) ++ l) (none out) ∙ append-nil (cut long (map (extent_of letters) front))));
-    apart = p.apart.1;
-  }
-    where
-      none : (raw.count ≡ 0) ⊎ (long ≤ raw.offset) → before long (extent_of letters raw) ≡ []
-      none (inr past) = before_none long (extent_of letters raw) past
-      none (inl empty) = ap (λ n. cond (Rattle.std.proofs.Common.eqb n 0) [] ((record (extent_of letters raw) { count = n }) ∷ [])) least
-        where
-          least : min raw.count (long - raw.offset) ≡ 0
-          least = omega (arith, empty)
-
   module _ (new : Extent) (next : Laid) (is : new ≡ front_of (long - raw.offset) (extent_of letters raw)) (some : 0 < raw.count) (within : raw.offset < long) (over : next ≡ overlaid laid new) (good : IsLaid next) where
     new_offset : new.offset ≡ raw.offset
     new_offset = ap (λ (e : Extent). e.offset) is
@@ -117,19 +100,6 @@ placed_all letters size long raws laid next p is =
     is ∙ ap (λ es. record { block_size = laid.block_size; length = long; extents = es }) (nothing_cut laid.block_size 0 laid.length long laid.extents p.good.are_laid p.short ∙ p.extents)
     ∙ ap (λ n. record { block_size = n; length = long; extents = by_offset (cut long (map (extent_of letters) raws)) }) p.block_size
 
-pub placed_first : (letters : Letters) (size long : ℕ) (raws : List RawExtent) (laid : Laid) → 1 ≤ size → laid ≡ record { block_size = size; length = 0; extents = [] } → IsPlaced letters size long [] raws laid
-placed_first letters size long raws laid some is = record {
-  block_size = ap (λ (f : Laid). f.block_size) is;
-  short = omega (arith, ap (λ (f : Laid). f.length) is);
-  good = subst IsLaid (sym is) (record { some_block = some; can_be = omega arith; are_laid = omega arith });
-  extents = ap (λ (f : Laid). f.extents) is;
-  apart = subst (λ (f : Laid). AllByRecursion (LieApart f.extents) raws) (sym is) (all raws);
-}
-  where
-    all : (raws : List RawExtent) → AllByRecursion (LieApart []) raws
-    all [] = tt
-    all (r ∷ raws) = (tt, all raws)
-
 -- the extent at an index, and what is before and behind it
 raw_at : (letters : Letters) (size : ℕ) (raws : List RawExtent) (i : ℕ) (d : RawExtent) → i < length raws → AllByRecursion (IsRaw letters size) raws → AllApart raws
     → (drop i raws ≡ get_or raws i d ∷ drop (suc i) raws) × (take (suc i) raws ≡ take i raws ++ get_or raws i d ∷ []) × IsRaw letters size (get_or raws i d) × AllByRecursion (AreApart (get_or raws i d)) (drop (suc i) raws)
@@ -138,9 +108,6 @@ raw_at letters size (r ∷ raws) zero d lt each apart = (refl, refl, each.0, apa
 raw_at letters size (r ∷ raws) (suc i) d lt each apart =
     let more = raw_at letters size raws i d (omega arith) each.1 apart.1 in
     (more.0, ap (λ l. r ∷ l) more.1, more.2, more.3)
-
-pub is_raw_at : (letters : Letters) (size : ℕ) (raws : List RawExtent) (i : ℕ) (d : RawExtent) → i < length raws → AllByRecursion (IsRaw letters size) raws → AllApart raws → IsRaw letters size (get_or raws i d)
-is_raw_at letters size raws i d lt each apart = (raw_at letters size raws i d lt each apart).2
 
 -- one more of what is told
 pub placed_step : (letters : Letters) (size long : ℕ) (raws : List RawExtent) (i : ℕ) (d : RawExtent) (laid next : Laid) → i < length raws → AreRaws letters size long raws

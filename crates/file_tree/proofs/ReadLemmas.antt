@@ -26,7 +26,8 @@ use Rattle.plain_tree.specs.declared.calls.Sort.TheVariants as sorts
 use Rattle.std.proofs.lemmas.Bool.Decides.{nat_tests}
 use Rattle.file_tree.proofs.WriteLemmas.{long_as}
 use Rattle.file_tree.specs.Places.{IsLast}
-use Rattle.file_tree.proofs.PathLemmas.{some_same, node_at}
+use Rattle.name_tries.proofs.ItemLemmas.{some_same}
+use Rattle.file_tree.proofs.PathLemmas.{node_at}
 use Rattle.file_tree.proofs.ShownLemmas.{stands}
 use Rattle.file_tree.proofs.PlainLemmas.{plain_get, plain_none, plain_len}
 

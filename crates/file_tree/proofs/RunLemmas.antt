@@ -1,13 +1,13 @@
 -- What is in a directory, by the bytes of the names.
-use Rattle.std.proofs.Common.{Option, ◌≡◌, ℕ, zero, suc, ◌+◌, ◌<◌, ◌≤◌, ◌-◌, true, false, nat_lt, cond, List, [], ◌∷◌, ◌++◌, length, take, append_assoc, map, Some, None, IsSome, is_some, sym, ap, ◌∙◌, refl, subst, arith, inl, inr, ⊎_elim}
+use Rattle.std.proofs.Common.{Option, Bool, IsTrue, IsFalse, ◌≡◌, ℕ, zero, suc, ◌+◌, true, false, nat_lt, cond, List, [], ◌∷◌, ◌++◌, length, take, append_assoc, map, Some, None, IsSome, sym, ap, ◌∙◌, refl, subst, arith, inl, inr, ⊎_elim}
 use Rattle.std.specs.List.{AllByRecursion}
 use Rattle.std.specs.List.Sorted.{IsStrictlySortedBy}
 use Rattle.std.specs.Option.{option_map}
-use Rattle.std.specs.Ordering.{is_eq, ordering_then, ordering_reverse}
+use Rattle.std.specs.Ordering.{is_eq, ordering_reverse}
 use Rattle.std.specs.declared.cmp.Ordering.{Ordering}
 use Rattle.std.specs.declared.cmp.Ordering.TheVariants.{Less, Equal, Greater}
 use Rattle.std.specs.FinMap as fin
-use Rattle.std.proofs.lemmas.Cmp.{tied_itself, nat_cmp_total, nat_list_cmp_total}
+use Rattle.std.proofs.lemmas.Cmp.{tied_itself, nat_list_cmp_total}
 use Rattle.index_model.specs.Places.{IsAt}
 use Rattle.plain_tree.specs.declared.calls.Entry.{Entry}
 use Rattle.plain_tree.specs.Links.{name_cmp}
@@ -18,89 +18,78 @@ use Rattle.plain_tree.proofs.ListedLemmas.{pairs, sort_at, listed}
 use Rattle.extent_map.specs.Cells.{Tape}
 use Rattle.file_tree.specs.declared.nodes.Node.{Node}
 use Rattle.file_tree.specs.declared.nodes.Spot.{Spot}
-use Rattle.file_tree.specs.Tree.{Nodes, number_at, plain_node_of, plain_nodes}
-use Rattle.file_tree.specs.Reads.{sort_in}
+use Rattle.file_tree.specs.Tree.{Nodes, number_at, plain_node_of, plain_nodes, whole}
 use Rattle.std.specs.Option.{IfSome, IfNone}
 use Rattle.file_tree.specs.Seen.{Held, held, IsShown}
 use Rattle.file_tree.proofs.WalkLemmas.{none_past}
 use Rattle.file_tree.specs.Listing.{line_of, lines_in, lines_at}
-use Rattle.file_tree.specs.Order.{IsIn, pair_cmp, key_cmp, key_at, Ascend, IsInDir, IsChildAt, IsRun, IsRunAt}
-use Rattle.file_tree.proofs.PathLemmas.{some_same, number_is, node_at}
+use Rattle.file_tree.specs.Beside.{Key, keys_of}
+use Rattle.file_tree.specs.Order.{IsIn, IsRunAt}
+use Rattle.name_tries.specs.Keys.{name_of, name_in}
+use Rattle.name_tries.specs.Listing.{Ascend, IsListed}
+use Rattle.name_tries.proofs.ItemLemmas.{some_same}
+use Rattle.file_tree.proofs.PathLemmas.{number_is, node_at}
 use Rattle.file_tree.proofs.ShownLemmas.{spot, kept_at, stands_in}
 use Rattle.plain_tree.proofs.Validity.{child_listed}
 use Rattle.file_tree.proofs.EditLemmas.{parent_ends}
 use Rattle.file_tree.proofs.PlainLemmas.{plain_get}
 use Rattle.file_tree.proofs.ReadLemmas.{sort_same}
-use Rattle.file_tree.proofs.MemberLemmas.{of_all, to_all, in_front, in_rest, in_either}
-use Rattle.file_tree.proofs.KeyLemmas.{key_of}
+use Rattle.file_tree.proofs.MemberLemmas.{to_all, in_front, in_rest, in_either}
+use Rattle.file_tree.proofs.KeyLemmas.{key_at, of_key}
+use Rattle.file_tree.proofs.NameLemmas.{near_held}
 
 -- ---- names of a directory
-
-abbrev name_in : Option Spot → Name
-name_in None = []
-name_in (Some z) = z.name
-
-abbrev names_at : Held → List ℕ → List Name
-names_at at ns = map (λ n. name_in (at n)) ns
 
 named_in : {X Y : Type 0} (f : X → Y) (x : X) (xs : List X) → IsIn x xs → IsIn (f x) (map f xs)
 named_in f x [] none = elim none [ ]
 named_in f x (y ∷ xs) (inl same) = inl (ap f same)
 named_in f x (y ∷ xs) (inr more) = inr (named_in f x xs more)
 
-names_ascend : (at : Held) (dir : ℕ) (ns : List ℕ) → AllByRecursion (IsInDir at dir) ns → Ascend at ns → IsStrictlySortedBy name_cmp (names_at at ns)
+names_ascend : (name : ℕ → Name) (ns : List ℕ) → Ascend name ns → IsStrictlySortedBy name_cmp (map name ns)
 unfolding IsStrictlySortedBy
-names_ascend at dir [] each up = tt
-names_ascend at dir (n ∷ ns) each up = (later ns each.1 up.0, names_ascend at dir ns each.1 up.1)
+names_ascend name [] up = tt
+names_ascend name (n ∷ ns) up = (later ns up.0, names_ascend name ns up.1)
   where
-    one : (k : ℕ) → IsInDir at dir k → key_cmp (key_at at n) (key_at at k) ≡ Less → name_cmp (name_in (at n)) (name_in (at k)) ≡ Less
-    one k d less =
-        let keys : pair_cmp (dir, each.0.spot.name) (dir, d.spot.name) ≡ Less =
-        ap (λ p. pair_cmp (p, each.0.spot.name) (dir, d.spot.name)) (sym each.0.parent) ∙ ap (λ p. pair_cmp (each.0.spot.parent, each.0.spot.name) (p, d.spot.name)) (sym d.parent)
-        ∙ ap (λ a. key_cmp a (Some (d.spot.parent, d.spot.name))) (sym (key_of at n each.0.spot each.0.is)) ∙ ap (key_cmp (key_at at n)) (sym (key_of at k d.spot d.is)) ∙ less in
-        ap (λ z. name_cmp (name_in z) (name_in (at k))) each.0.is ∙ ap (λ z. name_cmp each.0.spot.name (name_in z)) d.is
-        ∙ sym (ap (λ r. ordering_then r (name_cmp each.0.spot.name d.spot.name)) (tied_itself nat_cmp_total dir)) ∙ keys
-
-    later : (ks : List ℕ) → AllByRecursion (IsInDir at dir) ks → AllByRecursion (λ k. key_cmp (key_at at n) (key_at at k) ≡ Less) ks → AllByRecursion (λ y. name_cmp (name_in (at n)) y ≡ Less) (names_at at ks)
-    later [] dirs all = tt
-    later (k ∷ ks) dirs all = (one k dirs.0 all.0, later ks dirs.1 all.1)
+    later : (ks : List ℕ) → ((m : ℕ) → IsIn m ks → name_cmp (name n) (name m) ≡ Less) → AllByRecursion (λ y. name_cmp (name n) y ≡ Less) (map name ks)
+    later [] up = tt
+    later (k ∷ ks) up = (up k (inl refl), later ks (λ m here. up m (inr here)))
 
 module _ (at : Held) (m : Nodes) (s : IsShown at m) (dir : ℕ) (p : Path) (there : number_at m p ≡ Some dir) where
-  -- what is in the directory stands under its name, and what stands there is in it
-  pub in_dir_stands : (n : ℕ) → (d : IsInDir at dir n) → number_at m (p ++ d.spot.name ∷ []) ≡ Some n
-  in_dir_stands n d =
-      let here = stands_in at m s n d.spot p d.is d.other (there ∙ ap (λ k. Some k) (sym d.parent)) in
-      number_is m (p ++ d.spot.name ∷ []) d.spot.node here ∙ ap (λ k. Some k) (s.numbered n d.spot d.is)
+  -- what has a name in the directory stands under it, and what stands there has that name
+  named_node : (n : ℕ) (name : Name) → keys_of at n ≡ Some (dir, name) → (z : Spot) × (at n ≡ Some z) × (fin.get m (p ++ name ∷ []) ≡ Some z.node)
+  named_node n name is =
+      let h = of_key at n (dir, name) is in
+      (h.1, h.2, ap (λ (k : Key). fin.get m (p ++ k.1 ∷ [])) (sym h.3) ∙ stands_in at m s n h.1 p h.2 h.0 (there ∙ ap (λ (k : Key). Some k.0) (sym h.3)))
 
-  pub stands_in_dir : (name : Name) (n : ℕ) → number_at m (p ++ name ∷ []) ≡ Some n → IsChildAt at dir name n
-  stands_in_dir name n is =
+  named_stands : (n : ℕ) (name : Name) → keys_of at n ≡ Some (dir, name) → number_at m (p ++ name ∷ []) ≡ Some n
+  named_stands n name is =
+      let h = named_node n name is in
+      number_is m (p ++ name ∷ []) h.0.node h.2 ∙ ap (λ k. Some k) (s.numbered n h.0 h.1)
+
+  stands_named : (name : Name) (n : ℕ) → number_at m (p ++ name ∷ []) ≡ Some n → keys_of at n ≡ Some (dir, name)
+  stands_named name n is =
       let node = node_at m (p ++ name ∷ []) n is in
       let up = node_at m p dir there in
-      record {
-        there = record {
-          other = λ e. s.behind p name node.0 node.1 (node.2 ∙ e);
-          spot = spot up.0.number name node.0;
-          is = ap at (sym node.2) ∙ kept_at at m s p name node.0 up.0 node.1 up.1;
-          parent = up.2;
-        };
-        named = refl;
-      }
+      key_at at n (Some (spot up.0.number name node.0)) (λ e. s.behind p name node.0 node.1 (node.2 ∙ e))
+      (ap at (sym node.2) ∙ kept_at at m s p name node.0 up.0 node.1 up.1) ∙ ap (λ k. Some (k, name)) up.2
 
-  pub run_at : (ns : List ℕ) → IsRun at dir ns → IsRunAt m p ns
+  pub run_at : (ns : List ℕ) → IsListed (keys_of at) dir ns → IsRunAt m p ns
   run_at ns r = record {
-    names = names_at at ns;
+    names = map (name_in (keys_of at)) ns;
     each = all ns r.each;
     every = λ name n is.
-        let c = stands_in_dir name n is in
-        subst (λ x. IsIn x (names_at at ns)) (ap name_in c.there.is ∙ c.named) (named_in (λ k. name_in (at k)) n ns (r.every n c.there));
-    ascend = names_ascend at dir ns r.each r.ascend;
+        let key = stands_named name n is in
+        subst (λ x. IsIn x (map (name_in (keys_of at)) ns)) (ap name_of key) (named_in (name_in (keys_of at)) n ns (r.every n name key));
+    ascend = names_ascend (name_in (keys_of at)) ns r.ascend;
   }
     where
-      all : (ks : List ℕ) → AllByRecursion (IsInDir at dir) ks → map (λ (name : Name). number_at m (p ++ name ∷ [])) (names_at at ks) ≡ map (λ k. Some k) ks
-      all [] dirs = refl
-      all (k ∷ ks) dirs =
-          ap (λ o. o ∷ map (λ (name : Name). number_at m (p ++ name ∷ [])) (names_at at ks)) (ap (λ z. number_at m (p ++ name_in z ∷ [])) dirs.0.is ∙ in_dir_stands k dirs.0)
-          ∙ ap (λ l. Some k ∷ l) (all ks dirs.1)
+      all : (ks : List ℕ) → ((k : ℕ) → IsIn k ks → (name : Name) × (keys_of at k ≡ Some (dir, name)))
+          → map (λ (name : Name). number_at m (p ++ name ∷ [])) (map (name_in (keys_of at)) ks) ≡ map (λ k. Some k) ks
+      all [] each = refl
+      all (k ∷ ks) each =
+          let told = each k (inl refl) in
+          ap (λ o. o ∷ map (λ (name : Name). number_at m (p ++ name ∷ [])) (map (name_in (keys_of at)) ks)) (ap (λ x. number_at m (p ++ name_of x ∷ [])) told.1 ∙ named_stands k told.0 told.1)
+          ∙ ap (λ l. Some k ∷ l) (all ks (λ j here. each j (inr here)))
 
 -- ---- lines
 
@@ -146,35 +135,39 @@ of_line at (k ∷ ns) e here = ⊎_elim
     one (Some z) (inl same) = (z, refl, same)
     one (Some z) (inr none) = absurd none
 
-line_names : (at : Held) (dir : ℕ) (ns : List ℕ) → AllByRecursion (IsInDir at dir) ns → map (λ (e : Entry). e.name) (lines_at at ns) ≡ names_at at ns
+line_names : (at : Held) (dir : ℕ) (ns : List ℕ) → ((n : ℕ) → IsIn n ns → (name : Name) × (keys_of at n ≡ Some (dir, name)))
+    → map (λ (e : Entry). e.name) (lines_at at ns) ≡ map (name_in (keys_of at)) ns
 line_names at dir [] each = refl
 line_names at dir (n ∷ ns) each =
-    ap (λ o. map (λ (e : Entry). e.name) (lines_in o ++ lines_at at ns)) each.0.is ∙ ap (λ l. each.0.spot.name ∷ l) (line_names at dir ns each.1)
-    ∙ ap (λ o. name_in o ∷ names_at at ns) (sym each.0.is)
+    let told = each n (inl refl) in
+    let h = of_key at n (dir, told.0) told.1 in
+    ap (λ o. map (λ (e : Entry). e.name) (lines_in o ++ lines_at at ns)) h.2 ∙ ap (λ l. h.1.name ∷ l) (line_names at dir ns (λ k here. each k (inr here)))
+    ∙ ap (λ x. x ∷ map (name_in (keys_of at)) ns) (ap (λ (k : Key). k.1) h.3 ∙ sym (ap name_of told.1))
 
-pub lines_are : (at : Held) (m : Nodes) → IsShown at m → (dir : ℕ) (ns : List ℕ) → IsRun at dir ns
+pub lines_are : (at : Held) (m : Nodes) → IsShown at m → (dir : ℕ) (ns : List ℕ) → IsListed (keys_of at) dir ns
     → (tape : Tape) (p : Path) → number_at m p ≡ Some dir → lines_at at ns ≡ plain.entries_in (plain_nodes tape m) p
 lines_are at m s dir ns r tape p there = listed (lines_at at ns) (plain_nodes tape m) p sorted (λ q. by q (fin.get m (p ++ q ∷ [])) refl)
   where
     sorted : IsStrictlySortedBy name_cmp (map (λ (e : Entry). e.name) (lines_at at ns))
-    sorted = subst (IsStrictlySortedBy name_cmp) (sym (line_names at dir ns r.each)) (names_ascend at dir ns r.each r.ascend)
+    sorted = subst (IsStrictlySortedBy name_cmp) (sym (line_names at dir ns r.each)) (names_ascend (name_in (keys_of at)) ns r.ascend)
 
     by : (q : Name) (o : Option Node) → fin.get m (p ++ q ∷ []) ≡ o → fin.find name_cmp q (pairs (lines_at at ns)) ≡ sort_at (fin.get (plain_nodes tape m) (p ++ q ∷ []))
     by q None e =
         no_line (lines_at at ns) q (λ line here named.
         let from = of_line at ns line here in
-        let in_dir = of_all (IsInDir at dir) from.0 ns r.each from.2 in
-        let same : from.1 ≡ in_dir.spot = some_same from.1 in_dir.spot (sym from.3 ∙ in_dir.is) in
-        let stands = in_dir_stands at m s dir p there from.0 in_dir in
-        let name : in_dir.spot.name ≡ q = ap (λ (z : Spot). z.name) (sym same) ∙ ap (λ (x : Entry). x.name) (sym from.4) ∙ named in
+        let told = r.each from.0 from.2 in
+        let h = of_key at from.0 (dir, told.0) told.1 in
+        let same : from.1 ≡ h.1 = some_same from.1 h.1 (sym from.3 ∙ h.2) in
+        let name : told.0 ≡ q = sym (ap (λ (k : Key). k.1) h.3) ∙ ap (λ (z : Spot). z.name) (sym same) ∙ ap (λ (x : Entry). x.name) (sym from.4) ∙ named in
+        let stands = named_stands at m s dir p there from.0 told.0 told.1 in
         let wrong : None ≡ Some from.0 = sym (ap (option_map (λ (n : Node). n.number)) e) ∙ ap (λ x. number_at m (p ++ x ∷ [])) (sym name) ∙ stands in cc)
         ∙ sym (ap sort_at (plain_get tape m (p ++ q ∷ []) ∙ ap (option_map (plain_node_of tape)) e))
     by q (Some node) e =
-        let c = stands_in_dir at m s dir p there q node.number (number_is m (p ++ q ∷ []) node e) in
-        let line = found_line (lines_at at ns) sorted (line_of c.there.spot) (line_in at ns node.number c.there.spot c.there.is (r.every node.number c.there)) in
+        let key = stands_named at m s dir p there q node.number (number_is m (p ++ q ∷ []) node e) in
         let up = node_at m p dir there in
-        let same : c.there.spot ≡ spot up.0.number q node = some_same c.there.spot (spot up.0.number q node) (sym c.there.is ∙ kept_at at m s p q node up.0 e up.1) in
-        ap (λ x. fin.find name_cmp x (pairs (lines_at at ns))) (sym c.named) ∙ line ∙ ap (λ (z : Spot). Some (sort_in z.node.kind)) same
+        let kept = kept_at at m s p q node up.0 e up.1 in
+        let z : Spot = spot up.0.number q node in
+        found_line (lines_at at ns) sorted (line_of z) (line_in at ns node.number z kept (r.every node.number q key))
         ∙ ap (λ k. Some k) (sym (sort_same tape node.kind))
         ∙ sym (ap sort_at (plain_get tape m (p ++ q ∷ []) ∙ ap (option_map (plain_node_of tape)) e))
 
@@ -189,15 +182,18 @@ lines_next at ns i n z is kept = let e : i + 1 ≡ suc i = omega arith in ap (λ
 
 -- ---- what a search tells
 
-pub child_result : (at : Held) (m : Nodes) → IsShown at m → (dir : ℕ) (name asked : Name) (r : Option ℕ) → name ≡ asked → IfSome r (IsChildAt at dir name) → IfNone r ((n : ℕ) → IsChildAt at dir name n → ⊥)
+pub child_result : (at : Held) (m : Nodes) → IsShown at m → (dir : ℕ) (name asked : Name) (r : Option ℕ) → name ≡ asked
+    → IfSome r (λ n. keys_of at n ≡ Some (dir, name)) → IfNone r ((n : ℕ) → keys_of at n ≡ Some (dir, name) → ⊥)
     → (p : Path) → number_at m p ≡ Some dir → number_at m (p ++ asked ∷ []) ≡ r
 child_result at m s dir name asked (Some n) same told none p there =
-    ap (λ x. number_at m (p ++ x ∷ [])) (sym (told.named ∙ same)) ∙ in_dir_stands at m s dir p there n told.there
+    ap (λ x. number_at m (p ++ x ∷ [])) (sym same) ∙ named_stands at m s dir p there n name told
 child_result at m s dir name asked None same told none p there = by (fin.get m (p ++ asked ∷ [])) refl
   where
     by : (o : Option Node) → fin.get m (p ++ asked ∷ []) ≡ o → number_at m (p ++ asked ∷ []) ≡ None
     by None e = ap (option_map (λ (n : Node). n.number)) e
-    by (Some node) e = absurd (none node.number (subst (λ x. IsChildAt at dir x node.number) (sym same) (stands_in_dir at m s dir p there asked node.number (number_is m (p ++ asked ∷ []) node e))))
+    by (Some node) e =
+        let key = stands_named at m s dir p there asked node.number (number_is m (p ++ asked ∷ []) node e) in
+        absurd (none node.number (key ∙ ap (λ x. Some (dir, x)) (sym same)))
 
 -- where a path leads to a node, so do those above
 pub above_there : (spots : List (Option Spot)) (m : Nodes) → IsShown (held spots) m → (q r : Path) (k : ℕ) → number_at m (q ++ r) ≡ Some k → (j : ℕ) × (number_at m q ≡ Some j)
@@ -207,23 +203,24 @@ above_there spots m s q r k is = by (fin.get m q) refl
     by (Some node) e = (node.number, number_is m q node e)
     by None e = let wrong : None ≡ Some k = sym (ap (option_map (λ (n : Node). n.number)) (none_past spots m s q r e)) ∙ is in cc
 
-pub all_some : (at : Held) (dir : ℕ) (ns : List ℕ) → AllByRecursion (IsInDir at dir) ns → AllByRecursion (λ n. IsSome (at n)) ns
-all_some at dir ns each = to_all (λ n. IsSome (at n)) ns (λ n here. ap is_some (of_all (IsInDir at dir) n ns each here).is)
+pub all_some : (at : Held) (dir : ℕ) (ns : List ℕ) → IsListed (keys_of at) dir ns → AllByRecursion (λ n. IsSome (at n)) ns
+all_some at dir ns r = to_all (λ n. IsSome (at n)) ns (λ n here. let told = r.each n here in near_held at n dir told.0 told.1)
 
 -- ---- whether anything is in a directory
 
-pub some_in : (at : Held) (m : Nodes) (s : IsShown at m) (dir : ℕ) (p : Path) → number_at m p ≡ Some dir → (n : ℕ) → IsInDir at dir n
-    → (tape : Tape) → true ≡ nat_lt 0 (length (plain.entries_in (plain_nodes tape m) p))
-some_in at m s dir p there n d tape =
-    let here = stands_in at m s n d.spot p d.is d.other (there ∙ ap (λ k. Some k) (sym d.parent)) in
-    child_listed (plain_nodes tape m) p (p ++ d.spot.name ∷ []) (plain_node_of tape d.spot.node)
-    (plain_get tape m (p ++ d.spot.name ∷ []) ∙ ap (option_map (plain_node_of tape)) here) (not_top p d.spot.name) (parent_ends p d.spot.name)
+pub anything_in : (at : Held) (m : Nodes) → IsShown at m → (dir : ℕ) (p : Path) → number_at m p ≡ Some dir → (some : Bool)
+    → (IsTrue some → (n : ℕ) × (name : Name) × (keys_of at n ≡ Some (dir, name)))
+    → (IsFalse some → (n : ℕ) (name : Name) → keys_of at n ≡ Some (dir, name) → ⊥)
+    → some ≡ nat_lt 0 (length (plain.entries_in (plain_nodes whole m) p))
+anything_in at m s dir p there true some none =
+    let told = some refl in
+    let h = named_node at m s dir p there told.0 told.1 told.2 in
+    child_listed (plain_nodes whole m) p (p ++ told.1 ∷ []) (plain_node_of whole h.0.node)
+    (plain_get whole m (p ++ told.1 ∷ []) ∙ ap (option_map (plain_node_of whole)) h.2) (not_top p told.1) (parent_ends p told.1)
   where
     not_top : (p : Path) (x : Name) → p ++ x ∷ [] ≡ [] → ⊥
     not_top [] x e = cc
     not_top (y ∷ p) x e = cc
-
-pub none_in : (at : Held) (m : Nodes) (s : IsShown at m) (dir : ℕ) (p : Path) → number_at m p ≡ Some dir → ((n : ℕ) → IsInDir at dir n → ⊥)
-    → (tape : Tape) → false ≡ nat_lt 0 (length (plain.entries_in (plain_nodes tape m) p))
-none_in at m s dir p there none tape =
-    ap (λ (es : List Entry). nat_lt 0 (length es)) (lines_are at m s dir [] (record { each = tt; every = λ n d. absurd (none n d); ascend = tt }) tape p there)
+anything_in at m s dir p there false some none =
+    let empty : IsListed (keys_of at) dir [] = record { each = λ n here. absurd here; every = λ n name is. absurd (none refl n name is); ascend = tt } in
+    ap (λ (es : List Entry). nat_lt 0 (length es)) (lines_are at m s dir [] empty whole p there)

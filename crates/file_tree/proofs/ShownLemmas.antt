@@ -5,7 +5,8 @@ use Rattle.file_tree.specs.declared.nodes.Node.{Node}
 use Rattle.file_tree.specs.declared.nodes.Spot.{Spot}
 use Rattle.file_tree.specs.Tree.{Nodes, number_at}
 use Rattle.file_tree.specs.Seen.{Held, IsShown}
-use Rattle.file_tree.proofs.PathLemmas.{by_last, longer, same_nodes, some_same, path_of, number_is, node_at}
+use Rattle.name_tries.proofs.ItemLemmas.{some_same}
+use Rattle.file_tree.proofs.PathLemmas.{by_last, longer, path_of, number_is, node_at}
 
 abbrev pub spot : ℕ → List ℕ → Node → Spot
 spot parent name node = record { parent = parent; name = name; node = node }
@@ -97,34 +98,3 @@ module _ (at : Held) (m : Nodes) (s : IsShown at m) where
           let one : spot up.0.number more.1 x.node ≡ x = same_spot _ _ (sym (kept_at more.0 more.1 x.node up.0 here up.1) ∙ ap at same ∙ is) in
           let dirs : more.0 ≡ p = one_number more.0 p x.parent (number_is m more.0 up.0 up.1 ∙ ap (λ (z : Spot). Some z.parent) one) dir in
           ap (λ u. fin.get m (u ++ x.name ∷ [])) (sym dirs) ∙ ap (λ z. fin.get m (more.0 ++ z ∷ [])) (sym (ap (λ (z : Spot). z.name) one)) ∙ here
-
--- two maps that are seen are one
-module _ (at : Held) (m n : Nodes) (s : IsShown at m) (t : IsShown at n) where
-  too_step : (q : List (List ℕ)) (node : Node) → ((u : List (List ℕ)) (dir : Node) → length u < length q → fin.get m u ≡ Some dir → fin.get n u ≡ Some dir) → fin.get m q ≡ Some node → fin.get n q ≡ Some node
-  too_step q node above is = ⊎_elim
-      (λ (e : q ≡ []).
-      let here : fin.get m [] ≡ Some node = ap (fin.get m) (sym e) ∙ is in
-      let root = node_at n [] 0 t.root in
-      let one : spot 0 [] root.0 ≡ spot 0 [] node = same_spot _ _ (sym (t.rooted root.0 root.1) ∙ s.rooted node here) in
-      ap (fin.get n) e ∙ root.1 ∙ ap (λ (z : Spot). Some z.node) one)
-      (λ (more : (u : List (List ℕ)) × (y : List ℕ) × (q ≡ u ++ y ∷ [])). below more.0 more.1 more.2)
-      (by_last q)
-    where
-      below : (u : List (List ℕ)) (x : List ℕ) → q ≡ u ++ x ∷ [] → fin.get n q ≡ Some node
-      below u x e =
-          let here : fin.get m (u ++ x ∷ []) ≡ Some node = ap (fin.get m) (sym e) ∙ is in
-          let dir = dir_of at m s u x node here in
-          let dir_too : fin.get n u ≡ Some dir.0 = above u dir.0 (omega (arith, ap length e, longer u x)) dir.1 in
-          ap (fin.get n) e ∙ stands_in at n t node.number (spot dir.0.number x node) u (kept_at at m s u x node dir.0 here dir.1) (s.behind u x node here) (number_is n u dir.0 dir_too)
-
-  too : (k : ℕ) (q : List (List ℕ)) (node : Node) → length q ≤ k → fin.get m q ≡ Some node → fin.get n q ≡ Some node
-  too zero q node short is = too_step q node (λ u dir less _. absurd (omega (arith, less, short))) is
-  too (suc k) q node short is = too_step q node (λ u dir less there. too k u dir (omega (arith, less, short)) there) is
-
-pub one_map : (at : Held) (m n : Nodes) → IsShown at m → IsShown at n → m ≡ n
-one_map at m n s t = same_nodes m n (λ q. by q (fin.get m q) (fin.get n q) refl refl)
-  where
-    by : (q : List (List ℕ)) (a b : Option Node) → fin.get m q ≡ a → fin.get n q ≡ b → fin.get m q ≡ fin.get n q
-    by q None None e f = e ∙ sym f
-    by q (Some x) b e f = e ∙ sym (too at m n s t (length q) q x (omega arith) e)
-    by q None (Some y) e f = too at n m t s (length q) q y (omega arith) f ∙ sym f

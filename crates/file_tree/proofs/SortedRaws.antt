@@ -14,7 +14,7 @@ use Rattle.extent_map.specs.Laid.{front_of, before, cut, put_among}
 use Rattle.file_tree.specs.Mounts.{Letters, extent_of, by_offset, laid_of}
 use Rattle.file_tree.specs.Raws.{IsRaw, AreApart, AllApart, AreRaws}
 use Rattle.file_tree.specs.Order.{IsIn}
-use Rattle.file_tree.proofs.PathLemmas.{some_same}
+use Rattle.name_tries.proofs.ItemLemmas.{some_same}
 use Rattle.file_tree.proofs.MemberLemmas.{placed, found, of_all, to_all, in_front, in_rest, in_either, moved_in, still_apart, Up, same_up}
 use Rattle.file_tree.proofs.RawLemmas.{all_put}
 

@@ -10,7 +10,8 @@ use Rattle.file_tree.specs.declared.nodes.Spot.{Spot}
 use Rattle.file_tree.specs.Tree.{Nodes, number_at, moved, plain_nodes, whole}
 use Rattle.file_tree.specs.Seen.{Held, held, IsShown, IsKept, walk, node_in}
 use Rattle.file_tree.specs.Places.{used, IsStored, IsSetIn, IsChangedIn}
-use Rattle.file_tree.proofs.PathLemmas.{gone_here, gone_other, is_or_not, no_name, get_here, get_other, some_same, has_it, number_is, node_at}
+use Rattle.name_tries.proofs.ItemLemmas.{some_same}
+use Rattle.file_tree.proofs.PathLemmas.{gone_here, gone_other, is_or_not, no_name, get_here, get_other, has_it, number_is, node_at}
 use Rattle.file_tree.proofs.ShownLemmas.{one_number, spot}
 use Rattle.file_tree.proofs.WalkLemmas.{only}
 use Rattle.plain_tree.proofs.SeenLemmas.{unlike}

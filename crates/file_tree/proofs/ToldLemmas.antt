@@ -16,7 +16,8 @@ use Rattle.file_tree.specs.Mounts.{Letters}
 use Rattle.index_model.specs.declared.nodes.Node as told
 use Rattle.file_tree.specs.Told.{place_of, name_or, told_node_of, told_of, AreApart, ArePlaces}
 use Rattle.file_tree.specs.declared.nodes.Spot.{Spot}
-use Rattle.file_tree.proofs.PathLemmas.{by_last, some_same, number_is, node_at}
+use Rattle.name_tries.proofs.ItemLemmas.{some_same}
+use Rattle.file_tree.proofs.PathLemmas.{by_last, number_is, node_at}
 use Rattle.file_tree.proofs.ShownLemmas.{spot, same_spot}
 use Rattle.file_tree.proofs.PlaceLemmas.{there_held, held_within, parent_now}
 
@@ -99,9 +100,6 @@ parent_is p x = ap (λ k. take k (p ++ x ∷ [])) (omega (arith, length-append p
     front : (p : Path) → take (length p) (p ++ x ∷ []) ≡ p
     front [] = refl
     front (y ∷ p) = ap (λ l. y ∷ l) (front p)
-
-pub name_of_root : (m : Nodes) (volume : List ℕ) → OnePath m → number_at m [] ≡ Some 0 → (p : Path) → number_at m p ≡ Some 0 → volume ≡ name_or volume (last_name p)
-name_of_root m volume one root p is = ap (λ q. name_or volume (last_name q)) (one [] p 0 root is)
 
 pub name_of_other : (m : Nodes) (volume name : List ℕ) (n : ℕ) → n ≢ 0 → number_at m [] ≡ Some 0 → ((p : Path) (x : List ℕ) → number_at m (p ++ x ∷ []) ≡ Some n → name ≡ x) → (p : Path) → number_at m p ≡ Some n → name ≡ name_or volume (last_name p)
 name_of_other m volume name n some root named p is = ⊎_elim

@@ -30,7 +30,8 @@ use Rattle.plain_tree.specs.Paths.{Path}
 use Rattle.file_tree.specs.Valid.{IsFileOf, AreFilesOf, NumbersDiffer, AreFit, IsGood}
 use Rattle.file_tree.specs.Blocks.{AddsNoBlock}
 use Rattle.file_tree.specs.Edits.{making, CanMake, IsNewKind, IsAfter, NumbersCome, OthersLie}
-use Rattle.file_tree.proofs.PathLemmas.{same_last, get_here, some_same, number_is}
+use Rattle.name_tries.proofs.ItemLemmas.{some_same}
+use Rattle.file_tree.proofs.PathLemmas.{same_last, get_here, number_is}
 use Rattle.file_tree.proofs.PlainLemmas.{plain_insert, plain_len, none_plain}
 use Rattle.file_tree.proofs.RefusalLemmas.{alike}
 use Rattle.file_tree.proofs.EditLemmas.{parent_ends, put_numbers, put_lies, put_back, put_differ, insert_files, change_numbers, change_plain, change_lies, change_lies_both, change_differ, change_files_same}
@@ -107,12 +108,6 @@ module _ (t : FileTree) (good : IsGood t) (dir : ℕ) (name : List ℕ) (sort : 
 
   pub make_space : fin.len t.nodes < 65536
   make_space = omega (arith, stand.space, plain_len whole t.nodes)
-
-  pub make_room : t.highest < 2 ^ 62
-  make_room = by (can_stand plain_kinds.Dir (plain_of whole t) q at (sym (made_by sort q can.call (plain_of whole t) at can.made_by).0 ∙ can.free) (good.valid whole))
-    where
-      by : (c : CanStand (plain_nodes whole t.nodes) q (plain.new_node plain_kinds.Dir (t.highest + 1) at)) → t.highest < 2 ^ 62
-      by c = omega (arith, c.room, c.next)
 
   pub can_put : (slots : ℕ) → CanPut (record { nodes = t.nodes; spare = t.spare; slots = slots }) dir name
   can_put slots = record { path = can.path; stands = can.stands; free = make_free; space = make_space; room = can.room }

@@ -13,7 +13,8 @@ use Rattle.file_tree.specs.declared.nodes.Node.{Node}
 use Rattle.file_tree.specs.declared.nodes.Spot.{Spot}
 use Rattle.file_tree.specs.Tree.{Nodes, number_at, moved}
 use Rattle.file_tree.specs.Seen.{Held, IsShown, IsKept}
-use Rattle.file_tree.proofs.PathLemmas.{by_last, no_name, same_last, longer, get_here, get_other, gone_here, gone_other, is_or_not, some_same, has_it, number_is, node_at}
+use Rattle.name_tries.proofs.ItemLemmas.{some_same}
+use Rattle.file_tree.proofs.PathLemmas.{by_last, no_name, same_last, longer, get_here, get_other, gone_here, gone_other, is_or_not, has_it, number_is, node_at}
 use Rattle.file_tree.proofs.ShownLemmas.{spot, same_spot, root_number, dir_of, one_path, stands}
 
 same_or_not : (a b : ℕ) → (a ≡ b) ⊎ (a ≡ b → ⊥)

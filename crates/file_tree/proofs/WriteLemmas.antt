@@ -27,7 +27,8 @@ use Rattle.file_tree.specs.Changes.{IsChangedAt, LiesNow, IsRelaid, relaid_as, I
 use Rattle.file_tree.specs.Valid.{IsFileOf, AreFilesOf, NumbersDiffer, AreFit, IsGood}
 use Rattle.file_tree.specs.Blocks.{TreeStandsIn, AddsNoBlock, AddsBlocksOf}
 use Rattle.file_tree.specs.Edits.{IsWritten, IsTruncated, IsLongAt, IsNear, OthersLie, AllLie}
-use Rattle.file_tree.proofs.PathLemmas.{get_here, get_other, is_or_not, some_same, number_is}
+use Rattle.name_tries.proofs.ItemLemmas.{some_same}
+use Rattle.file_tree.proofs.PathLemmas.{get_here, get_other, is_or_not, number_is}
 use Rattle.file_tree.proofs.PlainLemmas.{plain_get, plain_insert, inserted_same}
 use Rattle.file_tree.proofs.TreeLemmas.{same_tree}
 use Rattle.file_tree.proofs.EditLemmas.{change_numbers, change_plain, change_others_both, change_differ, change_files}
@@ -199,12 +200,6 @@ resized_lies m file n present laid f has differ long is =
   where
     eq_false : (a b : ℕ) → a ≢ b → eqb a b ≡ false
     eq_false a b e = grind (arith, nat_tests)
-
-pub same_lies : (m : Nodes) (file n : ℕ) (laid : Laid) → HasLaid m file laid → laid.length ≡ n → HasLaid m file (cond (eqb n laid.length) laid (resized laid n))
-same_lies m file n laid has long = subst (λ g. HasLaid m file g) (sym (ap (λ b. cond b laid (resized laid n)) (eq_true n laid.length (sym long)))) has
-  where
-    eq_true : (a b : ℕ) → a ≡ b → eqb a b ≡ true
-    eq_true a b e = grind (arith, nat_tests)
 
 -- the length of a file is what is read of it
 pub long_is : (m : Nodes) (file present : ℕ) (laid : Laid) → HasLaid m file laid → ((path : List (List ℕ)) → number_at m path ≡ Some file → IsLongAt m path present) → laid.length ≡ present

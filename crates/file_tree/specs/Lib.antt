@@ -4,7 +4,6 @@ pub mod Seen
 pub mod Changes
 pub mod Places
 pub mod Order
-pub mod Chains
 pub mod Beside
 pub mod Valid
 pub mod Edits

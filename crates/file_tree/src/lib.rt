@@ -2,16 +2,15 @@
 #![tactic(auto)]
 
 mod carried;
-mod chains;
 mod changes;
 mod checks;
 mod found;
+mod guesses;
 mod laws;
 mod listing;
 mod members;
 mod mount;
 mod nodes;
-mod order;
 mod places;
 mod raws;
 mod ready;

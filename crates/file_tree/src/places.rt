@@ -1,4 +1,5 @@
-ghost use Rattle.std.specs.Prelude.{◌≡◌, ◌≢◌, ℕ, ◌+◌, ◌<◌, ◌≤◌, [], ◌∷◌, ◌++◌, length, Some, None, vec_capacity};
+ghost use Rattle.std.specs.Prelude.{◌≡◌, ◌≢◌, ℕ, ◌+◌, ◌<◌, ◌≤◌, [], ◌∷◌, ◌++◌, length, reverse, Some, None};
+ghost use Rattle.std.specs.Prelude.{OnOk, vec_capacity};
 ghost use Rattle.std.specs.FinMap as fin;
 ghost use Rattle.plain_tree.specs.Paths.{Path};
 ghost use Rattle.file_tree.specs.Tree.{number_at};
@@ -6,31 +7,31 @@ ghost use Rattle.file_tree.specs.Seen.{held};
 ghost use Rattle.file_tree.specs.Order.{AreEmpty};
 ghost use Rattle.file_tree.specs.Places.{used, CanStore, IsSetIn};
 
-use crate::chains::{By, Chains};
 use crate::changes::Change;
+use crate::guesses::Guesses;
 use crate::listing::lines_of;
-use crate::members::{chained, child, cut_out, first_child, put_in, widen};
+use crate::members::{child, name_in, name_out, named};
 use crate::nodes::Node;
-use crate::order::{push_run, run};
 use crate::raws::Letters;
 use crate::store::Store;
 use crate::told::{places_of, told_node};
 use index_model::Node as ToldNode;
+use name_tries::Tries;
 use plain_tree::Entry;
 use std::alloc::Global;
 use std::marker::Model;
 use tape_types::{List, Moment, NoMemory, Text};
 
-/// The nodes at their numbers, and beside them two sets of chains: the nodes of one directory, and those to which a
-/// directory and a name give one number. So a node is found, put in, moved and taken out in a time that the count of the
-/// others hardly changes, as long as few names share such a number.
+/// The nodes at their numbers, and beside them for each directory a trie over the names in it. So a node is found past at
+/// most nine forks for each byte of the longest name there, however many others there are, and is put in, moved and taken
+/// out by a few such look-ups. What is in a directory is told along its trie, in the order of the names. Where more than
+/// a few forks lead to a name, the node that is likely under it is looked at before.
 #[derive(Drop)]
 pub struct Places {
     store: Store,
-    siblings: Chains,
-    names: Chains,
+    names: Tries,
+    guesses: Guesses,
     free: Vec<u32>,
-    alloc: Global,
 }
 
 impl Model for Places {
@@ -51,12 +52,12 @@ impl Model for Places {
 
     ghost view = { λ a. record {
       nodes = a.store.nodes;
-      spare = least a.store.spare (length a.siblings.links.items - length a.store.spots)
+      spare = least a.store.spare (length a.names.owned.items - length a.store.spots)
           (vec_capacity a.free - length a.store.spots);
       slots = length a.store.spots;
     } };
 
-    ghost invariant = { λ a. IsIndexed a.store.spots a.siblings a.names a.free.items (vec_capacity a.free) };
+    ghost invariant = { λ a. IsIndexed a.store.spots a.names a.free.items (vec_capacity a.free) };
 }
 
 impl Places {
@@ -79,16 +80,18 @@ impl Places {
         ensures { IfOk result (λ t. t.nodes ≡ store.nodes) }
     {
         let slots = store.spots().len();
-        let siblings = chained(alloc, By::Dir, slots, slots, store.spots())?;
-        let names = chained(alloc, By::Name, 2 * slots, slots, store.spots())?;
+        let names = named(alloc, store.spots())?;
         let mut free = Vec::new(alloc);
         free.reserve(slots)?;
+        let mut guesses = Guesses {
+            numbers: Vec::new(alloc),
+        };
+        guesses.widen(store.spots())?;
         Ok(Places {
             store,
-            siblings,
             names,
+            guesses,
             free,
-            alloc,
         })
     }
 
@@ -127,7 +130,8 @@ impl Places {
         requires { IsThere self.now.nodes dir }
         ensures { IfOk result (λ numbers. IsRunOf self.now.nodes dir numbers.items) }
     {
-        run(alloc, self.store.spots(), &self.siblings, dir)
+        let _shown = self.store.spots();
+        self.names.numbers(alloc, dir)
     }
 
     /// The numbers of all nodes, in the order of their paths.
@@ -201,11 +205,13 @@ impl Places {
         ensures { (path : Path) → number_at self.now.nodes path ≡ Some dir
             → number_at self.now.nodes (path ++ name.now ∷ []) ≡ result }
     {
+        let spots = self.store.spots();
         let name = name.as_str();
-        match first_child(self.store.spots(), &self.siblings, dir, name) {
-            Some(number) => Some(number),
-            None => child(self.store.spots(), &self.names, dir, name),
-        }
+        let guess = match self.names.near(dir, name.as_bytes()) {
+            Some(number) => number,
+            None => self.guesses.likely(dir, name.as_bytes()),
+        };
+        child(spots, &self.names, guess, dir, name)
     }
 
     /// Whether anything stands directly in a directory.
@@ -215,7 +221,7 @@ impl Places {
             → result ≡ nat_lt 0 (length (entries_in (plain_nodes whole self.now.nodes) path)) }
     {
         let _shown = self.store.spots();
-        self.siblings.first(dir) != 0
+        self.names.has_any(dir)
     }
 
     /// What stands directly in a directory, by the bytes of the names.
@@ -224,8 +230,9 @@ impl Places {
         ensures { IfOk result (λ entries. (tape : Tape) (path : Path) → number_at self.now.nodes path ≡ Some dir
             → entries ≡ entries_in (plain_nodes tape self.now.nodes) path) }
     {
-        let numbers = run(alloc, self.store.spots(), &self.siblings, dir)?;
-        lines_of(alloc, self.store.spots(), &numbers)
+        let spots = self.store.spots();
+        let numbers = self.names.numbers(alloc, dir)?;
+        lines_of(alloc, spots, &numbers)
     }
 
     /// The number of the node at a path, or of the last one on the way there.
@@ -252,10 +259,9 @@ impl Places {
         self.store.reserve()?;
         let slots = self.store.spots().len();
         self.free.reserve(slots + 1 - self.free.len())?;
-        widen(&mut self.names, self.alloc, self.store.spots())?;
-        self.names.reserve_link(slots)?;
-        self.siblings.reserve_class(slots)?;
-        self.siblings.reserve_link(slots)
+        self.guesses.widen(self.store.spots())?;
+        self.names.reserve_dir(slots)?;
+        self.names.reserve_number(slots)
     }
 
     /// Puts a node under a name into a directory, and gives it a number that no node has. Takes no memory.
@@ -268,8 +274,8 @@ impl Places {
     {
         let _shown = self.store.spots();
         let number = store_node(&mut self.store, &mut self.free, dir, name, node);
-        put_in(&mut self.siblings, self.store.spots(), number);
-        put_in(&mut self.names, self.store.spots(), number);
+        name_in(&mut self.names, self.store.spots(), number);
+        self.guesses.note(self.store.spots(), number);
         number
     }
 
@@ -281,8 +287,7 @@ impl Places {
             → self.new.nodes ≡ fin.remove self.old.nodes path }
         ensures room { self.new.spare ≡ self.old.spare }
     {
-        cut_out(&mut self.siblings, self.store.spots(), number);
-        cut_out(&mut self.names, self.store.spots(), number);
+        name_out(&mut self.names, self.store.spots(), number);
         self.store.take(number);
         let end = self.free.len();
         if self.free.insert(end, number).is_err() {
@@ -297,11 +302,10 @@ impl Places {
             → number_at self.old.nodes up ≡ Some dir → self.new.nodes ≡ moved from (up ++ name ∷ []) self.old.nodes }
         ensures room { self.new.spare ≡ self.old.spare }
     {
-        cut_out(&mut self.siblings, self.store.spots(), number);
-        cut_out(&mut self.names, self.store.spots(), number);
+        name_out(&mut self.names, self.store.spots(), number);
         self.store.shift(number, dir, name);
-        put_in(&mut self.siblings, self.store.spots(), number);
-        put_in(&mut self.names, self.store.spots(), number);
+        name_in(&mut self.names, self.store.spots(), number);
+        self.guesses.note(self.store.spots(), number);
     }
 
     /// Changes a node. Takes no memory.
@@ -358,4 +362,16 @@ fn store_node(store: &mut Store, free: &mut Vec<u32>, dir: u32, name: Text, node
             number
         }
     }
+}
+
+/// Puts in the numbers of a run, the last one first.
+fn push_run(numbers: &mut Vec<u32>, run: &[u32]) -> Result<(), NoMemory>
+    ensures { OnOk result (numbers.new.items ≡ numbers.old.items ++ reverse run.now) }
+{
+    let mut left = run.len();
+    while left > 0 {
+        left -= 1;
+        numbers.push(run[left])?;
+    }
+    Ok(())
 }

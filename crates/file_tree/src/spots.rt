@@ -1,4 +1,5 @@
 ghost use Rattle.std.specs.Prelude.{◌≡◌, ◌+◌, ◌-◌, None, Some, ◌<◌, length, IsSome, OnOk, vec_len, vec_capacity};
+ghost use Rattle.std.specs.Option.{option_copied};
 ghost use Rattle.file_tree.specs.declared.nodes.Spot.{Spot};
 ghost use Rattle.file_tree.specs.Seen.{held};
 ghost use Rattle.file_tree.specs.Changes.{CanChange, IsChangedBy, IsRoomier, HasRoom};
@@ -10,6 +11,16 @@ use tape_types::{Moment, NoMemory, Text};
 
 /// What is kept at each number.
 pub type Spots = Vec<Option<Spot>>;
+
+/// What is kept at a number, if anything is.
+pub fn kept(spots: &[Option<Spot>], number: u32) -> Option<&Spot>
+    ensures { option_copied result ≡ held spots.now number }
+{
+    match spots.get(number as usize) {
+        Some(spot) => spot.as_ref(),
+        None => None,
+    }
+}
 
 /// What is kept at a number.
 pub fn spot_at(spots: &[Option<Spot>], number: u32) -> &Spot

@@ -1,38 +1,40 @@
-use Rattle.std.proofs.Common.{sym, ap, ◌∙◌}
-use Rattle.std.specs.Ordering.{is_eq}
+use Rattle.std.proofs.Common.{true≢false, ◌≡◌, ℕ, Some, sym, ap, ◌∙◌, subst}
+use Rattle.std.specs.Option.{IfNone}
+use Rattle.name_tries.proofs.ItemLemmas.{some_same, none_not}
+use Rattle.file_tree.specs.declared.nodes.Spot.{Spot}
 use Rattle.file_tree.specs.Seen.{held}
-use Rattle.file_tree.proofs.SoughtLemmas.{sought_first, sought_held, sought_within, sought_more, sought_shorter, sought_none, child_there}
+use Rattle.file_tree.specs.Beside.{keys_of}
+use Rattle.file_tree.proofs.WalkLemmas.{name_Decides}
+use Rattle.file_tree.proofs.NameLemmas.{near_held, child_there, child_missing}
 use Rattle.file_tree.proofs.members.child.Goals as goal
-
-pub loop-number-init : goal.loop-number-init
-loop-number-init c = λ o.
-    sought_first c.args.names.now (held c.args.spots.now) o c.args.dir c.args.name.now c.class.result c.first-number.result c.class.ensures c.requires.below c.first-number.ensures
 
 pub spot_at-requires : goal.spot_at-requires
 spot_at-requires c =
-    sought_held c.args.names.now (held c.args.spots.now) c.requires.linked c.args.dir c.args.name.now c.loop-number.number (c.loop-number.invariant c.requires.linked) c.loop-number-test.true
+    let at = held c.args.spots.now in
+    let told = (c.in_ok-number.ensures {u = tt}).found (keys_of at) c.requires.named in
+    near_held at c.in_ok-number.number c.args.dir told.0 told.1
 
-pub returns-then-is_eq-clause-found : goal.returns-then-is_eq-clause-found
-returns-then-is_eq-clause-found c =
-    child_there (held c.args.spots.now) c.args.dir c.args.name.now c.loop-number.number c.spot_at.result.now c.loop-number-test.true c.spot_at.ensures
-    (ap is_eq (sym c.compare.ensures) ∙ sym c.is_eq.ensures ∙ c.if-is_eq.true)
+pub returns-in_err-number-clause-missing : goal.returns-in_err-number-clause-missing
+returns-in_err-number-clause-missing c =
+    let at = held c.args.spots.now in
+    subst (λ r. IfNone r ((n : ℕ) → keys_of at n ≡ Some (c.args.dir, c.args.name.now) → ⊥)) (sym c.from_residual.ensures)
+    (child_missing at c.args.dir c.args.name.now c.nearest.result
+    (λ n is. c.nearest.ensures.only (keys_of at) n c.requires.named (is ∙ ap (λ x. Some (c.args.dir, x)) (sym c.as_bytes.ensures.value)))
+    (λ m z is. absurd (none_not c.nearest.result m (c.in_err-number.was {u = tt}) is)))
 
-pub after-number-requires : goal.after-number-requires
-after-number-requires c =
-    sought_within c.args.names.now (held c.args.spots.now) c.requires.linked c.args.dir c.args.name.now c.loop-number.number (c.loop-number.invariant c.requires.linked) c.loop-number-test.true
-
-pub loop-number-smaller : goal.loop-number-smaller
-loop-number-smaller c =
-    sought_shorter c.args.names.now (held c.args.spots.now) c.requires.linked c.args.dir c.args.name.now c.loop-number.number c.after-number.result c.spot_at.result.now
-    (c.loop-number.invariant c.requires.linked) c.loop-number-test.true c.spot_at.ensures
-    (ap is_eq (sym c.compare.ensures) ∙ sym c.is_eq.ensures ∙ c.if-is_eq.false) c.after-number.ensures
-
-pub loop-number-preserved : goal.loop-number-preserved
-loop-number-preserved c = λ o.
-    sought_more c.args.names.now (held c.args.spots.now) o c.args.dir c.args.name.now c.loop-number.number c.after-number.result c.spot_at.result.now
-    (c.loop-number.invariant o) c.loop-number-test.true c.spot_at.ensures
-    (ap is_eq (sym c.compare.ensures) ∙ sym c.is_eq.ensures ∙ c.if-is_eq.false) c.after-number.ensures
+pub returns-then-eq-clause-found : goal.returns-then-eq-clause-found
+returns-then-eq-clause-found c =
+    let at = held c.args.spots.now in
+    let told = (c.in_ok-number.ensures {u = tt}).found (keys_of at) c.requires.named in
+    child_there at c.args.dir c.args.name.now c.in_ok-number.number told.0 told.1 c.spot_at.result.now c.spot_at.ensures
+    (sym c.as_str.ensures ∙ (name_Decides c.as_str.result.now c.args.name.now).0 (sym c.eq.ensures ∙ c.if-eq.true))
 
 pub returns-clause-missing : goal.returns-clause-missing
 returns-clause-missing c =
-    sought_none c.args.names.now (held c.args.spots.now) c.requires.linked c.args.dir c.args.name.now c.loop-number.number (c.loop-number.invariant c.requires.linked) c.loop-number-test.false
+    let at = held c.args.spots.now in
+    child_missing at c.args.dir c.args.name.now c.nearest.result
+    (λ n is. c.nearest.ensures.only (keys_of at) n c.requires.named (is ∙ ap (λ x. Some (c.args.dir, x)) (sym c.as_bytes.ensures.value)))
+    (λ m z is there named.
+    let same : c.in_ok-number.number ≡ m = some_same c.in_ok-number.number m (sym (c.in_ok-number.was {u = tt}) ∙ is) in
+    let one = some_same c.spot_at.result.now z (sym c.spot_at.ensures ∙ ap at same ∙ there) in
+    true≢false (sym ((name_Decides c.as_str.result.now c.args.name.now).1 (c.as_str.ensures ∙ ap (λ (s : Spot). s.name) one ∙ named)) ∙ sym c.eq.ensures ∙ c.if-eq.false))

@@ -7,7 +7,7 @@ use Rattle.file_tree.proofs.places.Places.change.Goals as goal
 pub invariant_of-self : goal.invariant_of-self
 invariant_of-self c =
     let i = c.self.inside in
-    changed_indexed _ i.store.spots c.change.new.self.spots i.siblings i.names i.free.items (vec_capacity i.free) c.args.number c.self.invariant c.change.ensures.spots
+    changed_indexed _ i.store.spots c.change.new.self.spots i.names i.free.items (vec_capacity i.free) c.args.number c.self.invariant c.change.ensures.spots
 
 pub returns-clause-changed : goal.returns-clause-changed
 returns-clause-changed c =

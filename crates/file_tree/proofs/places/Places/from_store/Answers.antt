@@ -1,20 +1,16 @@
-use Rattle.std.proofs.Common.{◌≡◌, ◌*◌, ◌<◌, length, Some, sym, ap, subst, arith}
-use Rattle.file_tree.specs.declared.chains.By.TheVariants as ways
-use Rattle.file_tree.specs.Chains.{class_of}
+use Rattle.std.proofs.Common.{◌≡◌, length, Some, sym, ap, subst, arith}
 use Rattle.file_tree.specs.Seen.{held}
-use Rattle.file_tree.proofs.IndexedLemmas.{dir_below, names_below}
+use Rattle.file_tree.specs.Beside.{KeysDiffer}
+use Rattle.file_tree.proofs.IndexedLemmas.{dir_below, keys_differ}
 use Rattle.file_tree.proofs.places.Places.from_store.Goals as goal
 
-pub chained-requires-clause-below : goal.chained-requires-clause-below
-chained-requires-clause-below c n z is =
+pub named-requires-clause-below : goal.named-requires-clause-below
+named-requires-clause-below c n z is =
     let s = c.spots-slots.ensures.stored in
     let spots = c.args.store.spots in
     let here : held spots n ≡ Some z = subst (λ l. held l n ≡ Some z) c.spots.ensures.spots is in
-    omega (arith, dir_below spots c.args.store.nodes s.shown n z here, ap length c.spots-slots.ensures.spots)
+    omega (arith, dir_below spots c.args.store.nodes s.shown n z here, ap length c.spots.ensures.spots)
 
-pub chained-requires-2-clause-below : goal.chained-requires-2-clause-below
-chained-requires-2-clause-below c n z is =
-    let s = c.spots-slots.ensures.stored in
-    let spots = c.args.store.spots in
-    subst (λ k. class_of ways.Name (2 * k) z.parent z.name < 2 * k) (sym (ap length c.spots-slots.ensures.spots))
-    (names_below spots c.args.store.nodes s.shown s.few n z (subst (λ l. held l n ≡ Some z) c.spots-2.ensures.spots is))
+pub named-requires-clause-apart : goal.named-requires-clause-apart
+named-requires-clause-apart c =
+    subst (λ l. KeysDiffer (held l)) (sym c.spots.ensures.spots) (keys_differ c.args.store.spots c.args.store.nodes c.spots-slots.ensures.stored.shown)

@@ -1,49 +1,42 @@
-use Rattle.std.proofs.Common.{◌≡◌, IsSome, sym, ap, ◌∙◌, subst, arith}
+use Rattle.std.proofs.Common.{◌≡◌, IsSome, sym, ap, ◌∙◌, subst}
 use Rattle.std.specs.List.{AllByRecursion}
+use Rattle.file_tree.specs.Beside.{keys_of}
 use Rattle.file_tree.specs.Places.{Stored}
 use Rattle.file_tree.specs.Seen.{held}
-use Rattle.file_tree.specs.Chains.{AreIn}
 use Rattle.file_tree.specs.Listing.{lines_at}
-use Rattle.file_tree.specs.Order.{KeysDiffer, IsRun}
-use Rattle.file_tree.proofs.PlaceLemmas.{stored_now, there_held, held_within}
+use Rattle.file_tree.proofs.PlaceLemmas.{stored_now}
 use Rattle.file_tree.proofs.ReadLemmas.{if_ok}
-use Rattle.file_tree.proofs.IndexedLemmas.{keys_differ}
+use Rattle.file_tree.proofs.IndexedLemmas.{dir_within}
 use Rattle.file_tree.proofs.RunLemmas.{lines_are, all_some}
 use Rattle.file_tree.proofs.places.Places.list.Goals as goal
 
-pub run-requires-clause-linked : goal.run-requires-clause-linked
-run-requires-clause-linked c = subst (λ l. AreIn c.self.inside.siblings (held l)) (sym c.spots.ensures.spots) c.self.invariant.siblings_in
+pub numbers-requires-clause-are : goal.numbers-requires-clause-are
+numbers-requires-clause-are c = (keys_of (held c.self.inside.store.spots), c.self.invariant.names_in)
 
-pub run-requires-clause-apart : goal.run-requires-clause-apart
-run-requires-clause-apart c =
+pub numbers-requires-clause-below : goal.numbers-requires-clause-below
+numbers-requires-clause-below c =
     let i = c.self.inside in
     let m = c.args.self.now.nodes in
     let same : i.store.nodes ≡ m = ap (λ (t : Stored). t.nodes) c.self.view_is in
-    let s = stored_now i.store.spots _ i.store.nodes m c.spots.ensures.stored same in
-    subst (λ l. KeysDiffer (held l)) (sym c.spots.ensures.spots) (keys_differ i.store.spots m s.shown)
-
-pub run-requires-clause-below : goal.run-requires-clause-below
-run-requires-clause-below c =
-    let i = c.self.inside in
-    let m = c.args.self.now.nodes in
-    let same : i.store.nodes ≡ m = ap (λ (t : Stored). t.nodes) c.self.view_is in
-    let s = stored_now i.store.spots _ i.store.nodes m c.spots.ensures.stored same in
-    omega (arith, held_within i.store.spots c.args.dir (there_held (held i.store.spots) m s.shown c.args.dir c.requires), c.self.invariant.siblings_fit, c.self.invariant.classes_fit)
+    let s = stored_now i.store.spots _ i.store.nodes m c.spots-spots.ensures.stored same in
+    dir_within i.store.spots i.names i.free.items _ c.self.invariant m s.shown c.args.dir c.requires
 
 pub lines_of-requires : goal.lines_of-requires
 lines_of-requires c =
-    subst (λ l. AllByRecursion (λ n. IsSome (held l n)) c.deref.result.now) (c.spots.ensures.spots ∙ sym c.spots-2.ensures.spots)
-    (subst (AllByRecursion (λ n. IsSome (held c.spots.result.now n))) (sym c.deref.ensures.value)
-    (all_some (held c.spots.result.now) c.args.dir c.in_ok-numbers.numbers.items c.in_ok-numbers.ensures.each))
+    let at = held c.self.inside.store.spots in
+    subst (λ l. AllByRecursion (λ n. IsSome (held l n)) c.deref.result.now) (sym c.spots-spots.ensures.spots)
+    (subst (AllByRecursion (λ n. IsSome (at n))) (sym c.deref.ensures.value)
+    (all_some at c.args.dir c.in_ok-numbers.numbers.items (c.in_ok-numbers.ensures (keys_of at) c.self.invariant.names_in)))
 
 pub returns : goal.returns
 returns c =
     let i = c.self.inside in
     let m = c.args.self.now.nodes in
     let same : i.store.nodes ≡ m = ap (λ (t : Stored). t.nodes) c.self.view_is in
-    let s = stored_now i.store.spots _ i.store.nodes m c.spots.ensures.stored same in
-    let r = subst (λ l. IsRun (held l) c.args.dir c.in_ok-numbers.numbers.items) c.spots.ensures.spots c.in_ok-numbers.ensures in
+    let s = stored_now i.store.spots _ i.store.nodes m c.spots-spots.ensures.stored same in
+    let at = held i.store.spots in
+    let r = c.in_ok-numbers.ensures (keys_of at) c.self.invariant.names_in in
     if_ok c.lines_of.result
-    (λ entries is tape path there. is ∙ ap (λ l. lines_at (held l) c.deref.result.now) c.spots-2.ensures.spots ∙ ap (lines_at (held i.store.spots)) c.deref.ensures.value
-    ∙ lines_are (held i.store.spots) m s.shown c.args.dir c.in_ok-numbers.numbers.items r tape path there)
+    (λ entries is tape path there. is ∙ ap (λ l. lines_at (held l) c.deref.result.now) c.spots-spots.ensures.spots ∙ ap (lines_at at) c.deref.ensures.value
+    ∙ lines_are at m s.shown c.args.dir c.in_ok-numbers.numbers.items r tape path there)
     c.lines_of.ensures

@@ -2,7 +2,7 @@ use Rattle.std.proofs.Common.{◌≡◌, sym, ap, ◌∙◌, subst, List, [], �
 use Rattle.index_model.specs.declared.nodes.Node as told
 use Rattle.index_model.specs.Places.{IsAt}
 use Rattle.file_tree.specs.Mounts.{AreTold, IsBuilt}
-use Rattle.file_tree.proofs.PathLemmas.{some_same}
+use Rattle.name_tries.proofs.ItemLemmas.{some_same}
 use Rattle.file_tree.proofs.MountLemmas.{are_told}
 use Rattle.file_tree.proofs.MountedGood.{built_good}
 use Rattle.file_tree.proofs.tree.Tree.from_index.Goals as goal

@@ -1,5 +1,5 @@
 use Rattle.std.proofs.Common.{◌≡◌, ◌≤◌, ◌++◌, length, drop, reverse}
-use Rattle.file_tree.proofs.order.push_run.Given as goal
+use Rattle.file_tree.proofs.places.push_run.Given as goal
 
 abbrev pub invariant-loop-left : goal.invariant-loop-left
 invariant-loop-left l = (l.left ≤ length l.run) × (l.numbers.items ≡ l.initial.numbers.items ++ reverse (drop l.left l.run))
