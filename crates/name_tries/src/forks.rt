@@ -13,8 +13,8 @@ use crate::bits::{Bit, is_one};
 use std::alloc::Global;
 use tape_types::NoMemory;
 
-/// So many forks are gone past in less time than a node is looked at.
-const FEW: u8 = 6;
+/// Past no more forks than these a name is found sooner than by a guess.
+const FEW: u8 = 1;
 
 /// Where a link leads: to a number, or to the fork at a place.
 #[derive(Clone, Copy)]
