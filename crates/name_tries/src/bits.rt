@@ -15,10 +15,10 @@ pub fn is_one(name: &[u8], byte: usize, within: u8) -> bool
     ensures bit { result ≡ bit_of name.now byte within }
     ensures range { byte < 2 ^ 64 }
 {
-    if byte >= name.len() {
-        return false;
+    match name.get(byte) {
+        Some(at) => (within == 0) | ((u32::from(*at) >> (8 - within)) % 2 == 1),
+        None => false,
     }
-    within == 0 || (name[byte] >> (8 - within)) % 2 == 1
 }
 
 /// The first bit at which two names part.
