@@ -9,7 +9,7 @@ use Rattle.file_tree.specs.declared.nodes.Spot.{Spot}
 use Rattle.file_tree.specs.declared.nodes.Node.{Node}
 use Rattle.file_tree.specs.Tree.{Nodes, number_at}
 use Rattle.file_tree.specs.Seen.{Held, held, IsKept, IsShown}
-use Rattle.file_tree.specs.Places.{IsSetIn, IsChangedIn, IsThere}
+use Rattle.file_tree.specs.Places.{Stored, IsStored, IsSetIn, IsChangedIn, IsThere}
 use Rattle.file_tree.specs.Beside.{Key, key_in, keys_of, KeysDiffer, IsNode, AreNamed, CanName, IsIndexed}
 use Rattle.file_tree.specs.Order.{IsIn, AreEmpty}
 use Rattle.name_tries.proofs.ItemLemmas.{some_same, none_not}
@@ -120,6 +120,18 @@ dir_below spots m s n z is =
 pub dir_within : (spots : List (Option Spot)) (names : Tries) (free : List ℕ) (free_room : ℕ) → IsIndexed spots names free free_room
     → (m : Nodes) → IsShown (held spots) m → (dir : ℕ) → IsThere m dir → dir < length names.roots.items
 dir_within spots names free free_room i m s dir there = omega (arith, held_within spots dir (there_held (held spots) m s dir there), i.names_fit, i.dirs_fit)
+
+-- what is kept shows the nodes as the tree has them now
+pub shown_now : (spots : List (Option Spot)) (count : ℕ) (before now : Stored) → IsStored spots count before.nodes → before ≡ now
+    → IsShown (held spots) now.nodes
+shown_now spots count before now stored is = (subst (λ (t : Stored). IsStored spots count t.nodes) is stored).shown
+
+-- so there is a trie for a directory of it
+pub dir_fits : (spots : List (Option Spot)) (names : Tries) (free : List ℕ) (free_room : ℕ) → IsIndexed spots names free free_room
+    → (count : ℕ) (before now : Stored) → IsStored spots count before.nodes → before ≡ now
+    → (dir : ℕ) → IsThere now.nodes dir → dir < length names.roots.items
+dir_fits spots names free free_room i count before now stored is dir there =
+    dir_within spots names free free_room i now.nodes (shown_now spots count before now stored is) dir there
 
 -- no node has a name under which nothing stands
 no_key : (at : Held) (m : Nodes) → IsShown at m → (p : Path) (dir : ℕ) (name : Name) → number_at m p ≡ Some dir → fin.get m (p ++ name ∷ []) ≡ None

@@ -2,34 +2,51 @@ use crate::nodes::Spot;
 use crate::spots::kept;
 use tape_types::NoMemory;
 
-/// A node for each number that a directory and a name may give: the one that came last under such a name. It only chooses
-/// which node is looked at first, and may be none or a wrong one, so nothing is promised of it.
-#[derive(Drop)]
-pub struct Guesses {
-    pub numbers: Vec<u32>,
+/// A node, with the mark of the directory and the name under which it came.
+#[derive(Clone, Copy)]
+pub struct Guess {
+    pub mark: u32,
+    pub number: u32,
 }
 
-/// How many numbers there are for each place, at least and when there are more of them.
-const FEWEST: usize = 2;
+/// Nodes by the marks of their directories and names, in each row the last ones that came there. They only choose which
+/// node is looked at first, and may be none or wrong ones, so nothing is promised of them.
+#[derive(Drop)]
+pub struct Guesses {
+    pub rows: Vec<[Guess; 4]>,
+}
 
-const MOST: usize = 4;
+/// For more nodes than these there is one row more.
+const NODES: usize = 2;
+
+const NO_GUESS: Guess = Guess { mark: 0, number: 0 };
+
+/// A number that a directory and a name give (FNV).
+fn mark_of(dir: u32, name: &[u8]) -> u32 {
+    let mut mark = dir.wrapping_mul(0x9e37_79b9);
+    for byte in name {
+        mark = (mark ^ u32::from(*byte)).wrapping_mul(16_777_619);
+    }
+    mark
+}
 
 impl Guesses {
-    /// The place of a directory and a name among the numbers (FNV).
-    fn place(&self, dir: u32, name: &[u8]) -> usize {
-        let mut hash = dir.wrapping_mul(0x9e37_79b9);
-        for byte in name {
-            hash = (hash ^ u32::from(*byte)).wrapping_mul(16_777_619);
-        }
-        (u64::from(hash).wrapping_mul(self.numbers.len() as u64) >> 32) as usize
+    /// The row of a mark.
+    fn place(&self, mark: u32) -> usize {
+        (u64::from(mark).wrapping_mul(self.rows.len() as u64) >> 32) as usize
     }
 
     /// The node that may be under a name in a directory.
     pub fn likely(&self, dir: u32, name: &[u8]) -> u32 {
-        match self.numbers.get(self.place(dir, name)) {
-            Some(number) => *number,
-            None => 0,
+        let mark = mark_of(dir, name);
+        if let Some(row) = self.rows.get(self.place(mark)) {
+            for guess in row {
+                if guess.mark == mark {
+                    return guess.number;
+                }
+            }
         }
+        0
     }
 
     /// A node came under its name into its directory.
@@ -40,19 +57,26 @@ impl Guesses {
     }
 
     fn note_spot(&mut self, spot: &Spot) {
-        let place = self.place(spot.parent, spot.name.as_str().as_bytes());
-        if let Some(guess) = self.numbers.get_mut(place) {
-            *guess = spot.node.number;
+        let mark = mark_of(spot.parent, spot.name.as_str().as_bytes());
+        let place = self.place(mark);
+        if let Some(row) = self.rows.get_mut(place) {
+            let [first, second, third, _] = *row;
+            let last = Guess {
+                mark,
+                number: spot.node.number,
+            };
+            *row = [last, first, second, third];
         }
     }
 
-    /// Makes room for more of them, where there are few for so many places.
+    /// Makes as many rows as there are places, where there are few for these.
     pub fn widen(&mut self, spots: &[Option<Spot>]) -> Result<(), NoMemory> {
-        if self.numbers.len() / FEWEST >= spots.len() {
+        if spots.len() / NODES <= self.rows.len() {
             return Ok(());
         }
-        for _ in self.numbers.len()..spots.len().saturating_mul(MOST) {
-            self.numbers.push(0)?;
+        self.rows.clear();
+        for _ in spots {
+            self.rows.push([NO_GUESS; 4])?;
         }
         for spot in spots {
             if let Some(spot) = spot {

@@ -55,8 +55,28 @@ fn is_child(spots: &[Option<Spot>], number: u32, dir: u32, name: &str) -> bool
     }
 }
 
-/// The number of the node under a name in a directory, of which there is a guess.
-pub fn child(spots: &[Option<Spot>], names: &Tries, guess: u32, dir: u32, name: &str) -> Option<u32>
+/// The number of the node under a name in a directory, by its trie.
+pub fn child(spots: &[Option<Spot>], names: &Tries, dir: u32, name: &str) -> Option<u32>
+    requires named { AreNamed names.now (held spots.now) }
+    requires below { dir < length names.now.roots.items }
+    ensures found { IfSome result (λ n. keys_of (held spots.now) n ≡ Some (dir, name.now)) }
+    ensures missing { IfNone result ((n : ℕ) → keys_of (held spots.now) n ≡ Some (dir, name.now) → ⊥) }
+{
+    let number = names.nearest(dir, name.as_bytes())?;
+    if spot_at(spots, number).name.as_str() == name {
+        return Some(number);
+    }
+    None
+}
+
+/// The same, where there is a guess.
+pub fn likely_child(
+    spots: &[Option<Spot>],
+    names: &Tries,
+    guess: u32,
+    dir: u32,
+    name: &str,
+) -> Option<u32>
     requires named { AreNamed names.now (held spots.now) }
     requires below { dir < length names.now.roots.items }
     ensures found { IfSome result (λ n. keys_of (held spots.now) n ≡ Some (dir, name.now)) }
@@ -65,11 +85,7 @@ pub fn child(spots: &[Option<Spot>], names: &Tries, guess: u32, dir: u32, name: 
     if is_child(spots, guess, dir, name) {
         return Some(guess);
     }
-    let number = names.nearest(dir, name.as_bytes())?;
-    if spot_at(spots, number).name.as_str() == name {
-        return Some(number);
-    }
-    None
+    child(spots, names, dir, name)
 }
 
 /// Takes the number of a node out from under its name.

@@ -10,7 +10,7 @@ ghost use Rattle.file_tree.specs.Places.{used, CanStore, IsSetIn};
 use crate::changes::Change;
 use crate::guesses::Guesses;
 use crate::listing::lines_of;
-use crate::members::{child, name_in, name_out, named};
+use crate::members::{child, likely_child, name_in, name_out, named};
 use crate::nodes::Node;
 use crate::raws::Letters;
 use crate::store::Store;
@@ -84,7 +84,7 @@ impl Places {
         let mut free = Vec::new(alloc);
         free.reserve(slots)?;
         let mut guesses = Guesses {
-            numbers: Vec::new(alloc),
+            rows: Vec::new(alloc),
         };
         guesses.widen(store.spots())?;
         Ok(Places {
@@ -199,8 +199,20 @@ impl Places {
         Ok(nodes)
     }
 
-    /// The number of the node under a name in a directory.
+    /// The number of the node under a name in a directory, by its trie. A call that changes the directory goes along
+    /// that in any case.
     pub fn child(&self, dir: u32, name: &Text) -> Option<u32>
+        requires { IsThere self.now.nodes dir }
+        ensures { (path : Path) → number_at self.now.nodes path ≡ Some dir
+            → number_at self.now.nodes (path ++ name.now ∷ []) ≡ result }
+    {
+        let spots = self.store.spots();
+        let name = name.as_str();
+        child(spots, &self.names, dir, name)
+    }
+
+    /// The same, by a likely node where more than a few forks lead to the name.
+    fn step(&self, dir: u32, name: &Text) -> Option<u32>
         requires { IsThere self.now.nodes dir }
         ensures { (path : Path) → number_at self.now.nodes path ≡ Some dir
             → number_at self.now.nodes (path ++ name.now ∷ []) ≡ result }
@@ -211,7 +223,7 @@ impl Places {
             Some(number) => number,
             None => self.guesses.likely(dir, name.as_bytes()),
         };
-        child(spots, &self.names, guess, dir, name)
+        likely_child(spots, &self.names, guess, dir, name)
     }
 
     /// Whether anything stands directly in a directory.
@@ -243,7 +255,7 @@ impl Places {
         let mut number = 0;
         let _shown = self.store.len();
         for name in path {
-            match self.child(number, name) {
+            match self.step(number, name) {
                 Some(next) => number = next,
                 None => return Err(number),
             }
