@@ -43,7 +43,7 @@ pub fn named(alloc: Global, spots: &[Option<Spot>]) -> Result<Tries, NoMemory>
 }
 
 /// Whether the node with a number is under a name in a directory.
-fn is_child(spots: &[Option<Spot>], number: u32, dir: u32, name: &str) -> bool
+pub fn is_child(spots: &[Option<Spot>], number: u32, dir: u32, name: &str) -> bool
     ensures { IsTrue result → keys_of (held spots.now) number ≡ Some (dir, name.now) }
 {
     if number == 0 {
@@ -67,25 +67,6 @@ pub fn child(spots: &[Option<Spot>], names: &Tries, dir: u32, name: &str) -> Opt
         return Some(number);
     }
     None
-}
-
-/// The same, where there is a guess.
-pub fn likely_child(
-    spots: &[Option<Spot>],
-    names: &Tries,
-    guess: u32,
-    dir: u32,
-    name: &str,
-) -> Option<u32>
-    requires named { AreNamed names.now (held spots.now) }
-    requires below { dir < length names.now.roots.items }
-    ensures found { IfSome result (λ n. keys_of (held spots.now) n ≡ Some (dir, name.now)) }
-    ensures missing { IfNone result ((n : ℕ) → keys_of (held spots.now) n ≡ Some (dir, name.now) → ⊥) }
-{
-    if is_child(spots, guess, dir, name) {
-        return Some(guess);
-    }
-    child(spots, names, dir, name)
 }
 
 /// Takes the number of a node out from under its name.

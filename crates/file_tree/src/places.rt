@@ -10,7 +10,7 @@ ghost use Rattle.file_tree.specs.Places.{used, CanStore, IsSetIn};
 use crate::changes::Change;
 use crate::guesses::Guesses;
 use crate::listing::lines_of;
-use crate::members::{child, likely_child, name_in, name_out, named};
+use crate::members::{child, is_child, name_in, name_out, named};
 use crate::nodes::Node;
 use crate::raws::Letters;
 use crate::store::Store;
@@ -218,12 +218,15 @@ impl Places {
             → number_at self.now.nodes (path ++ name.now ∷ []) ≡ result }
     {
         let spots = self.store.spots();
-        let name = name.as_str();
-        let guess = match self.names.near(dir, name.as_bytes()) {
+        let asked = name.as_str();
+        let guess = match self.names.near(dir, asked.as_bytes()) {
             Some(number) => number,
-            None => self.guesses.likely(dir, name.as_bytes()),
+            None => self.guesses.likely(dir, asked.as_bytes()),
         };
-        likely_child(spots, &self.names, guess, dir, name)
+        if is_child(spots, guess, dir, asked) {
+            return Some(guess);
+        }
+        self.child(dir, name)
     }
 
     /// Whether anything stands directly in a directory.

@@ -4,7 +4,7 @@ use Rattle.std.proofs.lemmas.Option.{slice_get_within}
 use Rattle.name_tries.specs.Bits.{Name, bit_of}
 use Rattle.name_tries.specs.Tries.{Trie, leaf, inner, HasLeaf, HasFork, Shows, IsAt, nearest_in}
 use Rattle.name_tries.specs.Ways.{Step, whole_of, side, last_side, first_at, IsTowards, IsWayToLeaf}
-use Rattle.name_tries.specs.Keys.{Keys, name_of, name_in, IsRoot, AreTries, CanCut, CanHandOver}
+use Rattle.name_tries.specs.Keys.{Keys, name_of, name_in, IsRoot, AreTries, CanPut, CanCut, CanHandOver}
 use Rattle.name_tries.specs.declared.forks.Branch.{Branch}
 use Rattle.name_tries.specs.declared.forks.Branch.TheVariants as branch
 use Rattle.name_tries.specs.declared.forks.Fork.{Fork}
@@ -79,6 +79,18 @@ module _ (tries : Tries) (keys : Keys) (w : AreTries tries keys) (dir : ℕ) whe
       let here : HasLeaf n t = subst (λ (u : Trie). HasLeaf n u) (some_same was.0 t (sym was.1 ∙ is)) was.2 in
       ap (λ (y : Name). nearest_in y t) (sym (ap name_of there)) ∙ nearest_is (name_in keys) t n (w.tries dir t is).parts here
 
+-- ---- the root that a call reads
+
+pub root_read : (tries : Tries) (dir : ℕ) (r : Option Branch) (root : Branch) → dir < length tries.roots.items → r ≡ get_or tries.roots.items dir r
+    → r ≡ Some root → slice_get tries.roots.items dir ≡ Some (Some root)
+root_read tries dir r root below read some = read_at tries.roots.items dir r below read ∙ ap (λ (o : Option Branch). Some o) some
+
+-- it leads to the trie into which a number is put
+pub put_root : (tries : Tries) (keys : Keys) (dir n : ℕ) (x near : Name) (can : CanPut tries keys dir n x near) (r : Option Branch) (root : Branch)
+    → r ≡ get_or tries.roots.items dir r → r ≡ Some root → IsAt tries.forks.items root can.trie
+put_root tries keys dir n x near can r root read some = root_at tries keys can.are dir can.trie root can.shape
+    (root_read tries dir r root (dir_within tries keys can.are dir can.trie can.shape) read some)
+
 -- ---- the way to a number that is cut
 
 pub record IsCutWay (tries : Tries) (keys : Keys) (w : AreTries tries keys) (dir : ℕ) (x : Name) (above : Option Side) (way : Way) (root : ℕ)
@@ -107,7 +119,7 @@ pub found_way : (tries : Tries) (keys : Keys) (dir n : ℕ) (x : Name) (can : Ca
     → ((t : Trie) → IsAt forks (branch.Inner root) t → IsWayToLeaf forks t x above way) → IsCutWay tries keys can.are dir x above way root
 found_way tries keys dir n x can o root forks above way read first same to =
     cut_way tries keys can.are dir x above way root forks same
-    (read_at tries.roots.items dir o (can.are.below n dir x can.there) read ∙ ap (λ (r : Option Branch). Some r) (first_is o root first)) to
+    (root_read tries dir o (branch.Inner root) (can.are.below n dir x can.there) read (first_is o root first)) to
 
 module _ {tries : Tries} {keys : Keys} {w : AreTries tries keys} {dir : ℕ} {x : Name} {above : Option Side} {way : Way} {root : ℕ}
     (c : IsCutWay tries keys w dir x above way root) where

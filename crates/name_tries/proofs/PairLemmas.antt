@@ -10,9 +10,6 @@ use Rattle.name_tries.proofs.ItemLemmas.{some_same, set_here, set_other}
 
 module _ (owned next_owned owners next_owners : List ℕ) (places n f : ℕ) (paired : ArePaired owned owners places)
     (over : IsHandedOver owned next_owned owners next_owners n f) (owns : slice_get owned over.owner ≡ Some f) where
-  m : ℕ
-  m = over.owner
-
   abbrev s : ℕ
   s = over.spare
 

@@ -1,27 +1,18 @@
-use Rattle.std.proofs.Common.{sym, subst}
+use Rattle.std.proofs.Common.{Some, sym, subst}
 use Rattle.file_tree.specs.Seen.{held, IsShown}
-use Rattle.file_tree.specs.Beside.{AreNamed}
 use Rattle.file_tree.proofs.IndexedLemmas.{shown_now, dir_fits}
 use Rattle.file_tree.proofs.RunLemmas.{child_result}
 use Rattle.file_tree.proofs.places.Places.step.Goals as goal
-
-pub likely_child-requires-clause-named : goal.likely_child-requires-clause-named
-likely_child-requires-clause-named c = subst (λ l. AreNamed c.self.inside.names (held l)) (sym c.spots-spots.ensures.spots) c.self.invariant.names_in
-
-pub likely_child-requires-clause-below : goal.likely_child-requires-clause-below
-likely_child-requires-clause-below c =
-    let i = c.self.inside in
-    dir_fits i.store.spots i.names i.free.items _ c.self.invariant _ _ _ c.spots-spots.ensures.stored c.self.view_is c.args.dir c.requires
 
 pub near-requires-clause-below : goal.near-requires-clause-below
 near-requires-clause-below c =
     let i = c.self.inside in
     dir_fits i.store.spots i.names i.free.items _ c.self.invariant _ _ _ c.spots-spots.ensures.stored c.self.view_is c.args.dir c.requires
 
-pub returns : goal.returns
-returns c path there =
-    let i = c.self.inside in
+pub returns-then-is_child : goal.returns-then-is_child
+returns-then-is_child c path there =
     let m = c.args.self.now.nodes in
-    let shows = shown_now i.store.spots _ _ _ c.spots-spots.ensures.stored c.self.view_is in
-    let shown = subst (λ l. IsShown (held l) m) (sym c.spots-spots.ensures.spots) shows in
-    child_result (held c.spots-spots.result.now) m shown c.args.dir c.as_str-name.result.now c.args.name.now c.likely_child.result c.as_str-name.ensures c.likely_child.ensures.found c.likely_child.ensures.missing path there
+    let spots = c.spots-spots in
+    let shows = shown_now c.self.inside.store.spots _ _ _ spots.ensures.stored c.self.view_is in
+    let shown = subst (λ l. IsShown (held l) m) (sym spots.ensures.spots) shows in
+    child_result (held spots.result.now) m shown c.args.dir c.as_str-asked.result.now c.args.name.now (Some _) c.as_str-asked.ensures (c.is_child.ensures c.if-is_child.true) tt path there

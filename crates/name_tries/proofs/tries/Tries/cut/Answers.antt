@@ -8,7 +8,7 @@ use Rattle.name_tries.specs.declared.forks.Fork.{Fork}
 use Rattle.name_tries.specs.declared.forks.Side.{Side}
 use Rattle.name_tries.proofs.ItemLemmas.{some_same, read_at}
 use Rattle.name_tries.proofs.CutLemmas.{cut_only, cut_beside}
-use Rattle.name_tries.proofs.CallLemmas.{first_is, trie_at, found_way, last_is, some_last, place_at, above_within, can_hand_over}
+use Rattle.name_tries.proofs.CallLemmas.{first_is, root_read, trie_at, found_way, last_is, some_last, place_at, above_within, can_hand_over}
 use Rattle.name_tries.proofs.tries.Tries.cut.Goals as goal
 
 pub returns-in_default-clause-are : goal.returns-in_default-clause-are
@@ -24,9 +24,8 @@ pub way_to_leaf-above-requires : goal.way_to_leaf-above-requires
 way_to_leaf-above-requires c =
     let old = c.args.self.now in
     let can = c.requires.1 in
-    let there : slice_get old.roots.items c.args.dir ≡ Some (Some (branch.Inner c.in-Some.root)) =
-    read_at old.roots.items c.args.dir c.index.result.now (can.are.below c.args.number c.args.dir c.args.name.now can.there) c.index.ensures
-    ∙ ap (λ (r : Option Branch). Some r) (first_is c.index.result.now c.in-Some.root (sym c.in-Some.ensures)) in
+    let there = root_read old c.args.dir c.index.result.now (branch.Inner c.in-Some.root)
+    (can.are.below c.args.number c.args.dir c.args.name.now can.there) c.index.ensures (first_is c.index.result.now c.in-Some.root (sym c.in-Some.ensures)) in
     let t = trie_at old c.requires.0 can.are c.args.dir (branch.Inner c.in-Some.root) there in
     (t.0, subst (λ (l : List Fork). IsAt l (branch.Inner c.in-Some.root) t.0) (sym c.deref.ensures.value) t.2)
 

@@ -1,13 +1,12 @@
-use Rattle.std.proofs.Common.{◌≡◌, Bool, vec_items, List, Option, Some, ℕ, slice_get, sym, ap, ◌∙◌, subst, arith}
+use Rattle.std.proofs.Common.{◌≡◌, Bool, vec_items, List, Some, ℕ, slice_get, sym, ap, ◌∙◌, subst, arith}
 use Rattle.std.proofs.lemmas.List.{length-set}
 use Rattle.name_tries.specs.Bits.{level}
 use Rattle.name_tries.specs.Tries.{Trie, IsAt, Shows}
 use Rattle.name_tries.specs.Ways.{parted_fork, IsWayUpTo}
 use Rattle.name_tries.specs.Keys.{AreTriesIn}
-use Rattle.name_tries.specs.declared.forks.Branch.{Branch}
 use Rattle.name_tries.specs.declared.forks.Fork.{Fork}
 use Rattle.name_tries.proofs.ItemLemmas.{read_at, none_not}
-use Rattle.name_tries.proofs.CallLemmas.{dir_within, root_is, root_at, side_within}
+use Rattle.name_tries.proofs.CallLemmas.{dir_within, root_is, put_root, side_within}
 use Rattle.name_tries.proofs.BitLemmas.{in_bytes}
 use Rattle.name_tries.proofs.PutLemmas.{put_beside}
 use Rattle.name_tries.proofs.tries.Tries.put.Goals as goal
@@ -31,10 +30,7 @@ pub way_to-way-requires-clause-there : goal.way_to-way-requires-clause-there
 way_to-way-requires-clause-there c =
     let tries = c.args.self.now in
     let can = c.requires.1 in
-    let there : slice_get tries.roots.items c.args.dir ≡ Some (Some c.in-Some.root) =
-    read_at tries.roots.items c.args.dir c.index.result.now (dir_within tries c.requires.0 can.are c.args.dir can.trie can.shape) c.index.ensures
-    ∙ ap (λ (r : Option Branch). Some r) c.in-Some.is in
-    let at = root_at tries c.requires.0 can.are c.args.dir can.trie c.in-Some.root can.shape there in
+    let at = put_root tries c.requires.0 c.args.dir c.args.number c.args.name.now c.args.near.now can c.index.result.now c.in-Some.root c.index.ensures c.in-Some.is in
     (can.trie, subst (λ (l : List Fork). IsAt l c.in-Some.root can.trie) (sym c.deref.ensures.value) at)
 
 pub index_mut-requires : goal.index_mut-requires
@@ -49,10 +45,7 @@ pub link-requires : goal.link-requires
 link-requires c =
     let tries = c.args.self.now in
     let can = c.requires.1 in
-    let there : slice_get tries.roots.items c.args.dir ≡ Some (Some c.in-Some.root) =
-    read_at tries.roots.items c.args.dir c.index.result.now (dir_within tries c.requires.0 can.are c.args.dir can.trie can.shape) c.index.ensures
-    ∙ ap (λ (r : Option Branch). Some r) c.in-Some.is in
-    let at = root_at tries c.requires.0 can.are c.args.dir can.trie c.in-Some.root can.shape there in
+    let at = put_root tries c.requires.0 c.args.dir c.args.number c.args.name.now c.args.near.now can c.index.result.now c.in-Some.root c.index.ensures c.in-Some.is in
     let way = c.way_to-way.ensures can.trie (subst (λ (l : List Fork). IsAt l c.in-Some.root can.trie) (sym c.deref.ensures.value) at) in
     record {
       root = dir_within tries c.requires.0 can.are c.args.dir can.trie can.shape;
@@ -68,10 +61,7 @@ pub returns-clause-are : goal.returns-clause-are
 returns-clause-are c = λ before next can now.
     let old = c.args.self.now in
     let new = c.link.new.self in
-    let there : slice_get old.roots.items c.args.dir ≡ Some (Some c.in-Some.root) =
-    read_at old.roots.items c.args.dir c.index.result.now (dir_within old before can.are c.args.dir can.trie can.shape) c.index.ensures
-    ∙ ap (λ (r : Option Branch). Some r) c.in-Some.is in
-    let at = root_at old before can.are c.args.dir can.trie c.in-Some.root can.shape there in
+    let at = put_root old before c.args.dir c.args.number c.args.name.now c.args.near.now can c.index.result.now c.in-Some.root c.index.ensures c.in-Some.is in
     let owns : slice_get old.owned.items c.args.number ≡ Some c.index-place.result.now =
     read_at old.owned.items c.args.number c.index-place.result.now can.within c.index-place.ensures in
     let way = subst (λ (l : List Fork). IsWayUpTo l can.trie c.args.name.now (level c.parting-bit.result.byte c.parting-bit.result.within) c.way_to-way.result)
