@@ -16,8 +16,8 @@ pub struct Guesses {
     pub rows: Vec<[Guess; 4]>,
 }
 
-/// For more nodes than these there is one row more.
-const NODES: usize = 2;
+/// There is a row for so many places, at least.
+const PLACES: usize = 2;
 
 const NO_GUESS: Guess = Guess { mark: 0, number: 0 };
 
@@ -69,9 +69,9 @@ impl Guesses {
         }
     }
 
-    /// Makes as many rows as there are places, where there are few for these.
+    /// Makes as many rows as there are places, where there are too few.
     pub fn widen(&mut self, spots: &[Option<Spot>]) -> Result<(), NoMemory> {
-        if spots.len() / NODES <= self.rows.len() {
+        if spots.len() / PLACES <= self.rows.len() {
             return Ok(());
         }
         self.rows.clear();
