@@ -1,5 +1,6 @@
 -- The bits of names: names that are alike up to a level, and names that differ.
 use Rattle.std.proofs.Common.{List, Option, ◌≡◌, ◌≢◌, ℕ, zero, suc, ◌+◌, ◌-◌, ◌/◌, ◌%◌, ◌^◌, ◌<◌, ◌≤◌, true, false, ◌==◌, ◌||◌, get_or, Fits, w8, [], ◌∷◌, length, Some, None, slice_get, sym, ap, ◌∙◌, refl, subst, arith, inl, inr, shr-shr}
+use Rattle.std.proofs.Math.Nat.{zero-div}
 use Rattle.std.specs.List.{slice_index_or}
 use Rattle.std.proofs.lemmas.Option.{get_or_from_slice_get}
 use Rattle.std.proofs.lemmas.Bool.Decides.{nat_tests}
@@ -44,20 +45,48 @@ same_half x y k half rest =
 pub bit_some : (b w : ℕ) → w ≢ 0 → bit_in (Some b) w ≡ (b / 2 ^ (8 - w) % 2 == 1)
 bit_some b w apart = let fails : (w == 0) ≡ false = grind (arith, nat_tests, apart) in ap (λ v. v || (b / 2 ^ (8 - w) % 2 == 1)) fails
 
-module _ (x y most : ℕ) (x_byte : x < 256) (y_byte : y < 256) (same : (w : ℕ) → w < most → bit_in (Some x) w ≡ bit_in (Some y) w) where
-  same_bit : (k j : ℕ) → k + suc j ≡ 8 → suc j < most → x / 2 ^ k % 2 ≡ y / 2 ^ k % 2
+-- a 1 before the eight bits of a byte changes none of them, and is there itself
+high : (b k : ℕ) → k < 8 → (256 + b) / 2 ^ k % 2 ≡ b / 2 ^ k % 2
+high b zero lt = omega arith
+high b (suc zero) lt = omega arith
+high b (suc (suc zero)) lt = omega arith
+high b (suc (suc (suc zero))) lt = omega arith
+high b (suc (suc (suc (suc zero)))) lt = omega arith
+high b (suc (suc (suc (suc (suc zero))))) lt = omega arith
+high b (suc (suc (suc (suc (suc (suc zero)))))) lt = omega arith
+high b (suc (suc (suc (suc (suc (suc (suc zero))))))) lt = omega arith
+high b (suc (suc (suc (suc (suc (suc (suc (suc k)))))))) lt = let no : ⊥ = omega (arith, lt) in absurd no
+
+pub shifted_bit : (b w : ℕ) → b < 256 → w < 9 → ((256 + b) / 2 ^ (8 - w) % 2 == 1) ≡ bit_in (Some b) w
+shifted_bit b zero byte nine = let one : (256 + b) / 2 ^ 8 % 2 ≡ 1 = omega (arith, byte) in ap (λ (n : ℕ). n == 1) one
+shifted_bit b (suc w) byte nine =
+    ap (λ (n : ℕ). n == 1) (high b (8 - suc w) (omega arith)) ∙ sym (bit_some b (suc w) (omega arith))
+
+-- no byte has no 1
+pub none_bit : (w : ℕ) → (0 / 2 ^ (8 - w) % 2 == 1) ≡ false
+none_bit w = let none : 0 / 2 ^ (8 - w) ≡ 0 = zero-div (2 ^ (8 - w)) in ap (λ (n : ℕ). n % 2 == 1) none
+
+-- numbers of nine bits of which the first ones are the same
+module _ (a b most : ℕ) (a_nine : a < 512) (b_nine : b < 512) (same : (w : ℕ) → w < most → (a / 2 ^ (8 - w) % 2 == 1) ≡ (b / 2 ^ (8 - w) % 2 == 1)) where
+  same_bit : (k j : ℕ) → k + j ≡ 8 → j < most → a / 2 ^ k % 2 ≡ b / 2 ^ k % 2
   same_bit k j is lt =
-      let w_is : 8 - suc j ≡ k = omega arith in
-      let bits : (x / 2 ^ (8 - suc j) % 2 == 1) ≡ (y / 2 ^ (8 - suc j) % 2 == 1) =
-      sym (bit_some x (suc j) (omega arith)) ∙ same (suc j) (omega arith) ∙ bit_some y (suc j) (omega arith) in
-      same_rest (x / 2 ^ k) (y / 2 ^ k) (subst (λ (n : ℕ). (x / 2 ^ n % 2 == 1) ≡ (y / 2 ^ n % 2 == 1)) w_is bits)
+      let w_is : 8 - j ≡ k = omega arith in
+      same_rest (a / 2 ^ k) (b / 2 ^ k) (subst (λ (n : ℕ). (a / 2 ^ n % 2 == 1) ≡ (b / 2 ^ n % 2 == 1)) w_is (same j lt))
+
+  pub same_above : (k j : ℕ) → k + j ≡ 8 → j < most → a / 2 ^ k ≡ b / 2 ^ k
+  same_above k zero is lt = let k_is : k ≡ 8 = omega arith in subst (λ (n : ℕ). a / 2 ^ n ≡ b / 2 ^ n) (sym k_is) first
+    where
+      first : a / 2 ^ 8 ≡ b / 2 ^ 8
+      first = let rest : a / 2 ^ 8 % 2 ≡ b / 2 ^ 8 % 2 = same_bit 8 0 refl lt in omega (arith, a_nine, b_nine, rest)
+  same_above k (suc j) is lt = same_half a b k (same_above (k + 1) j (omega arith) (omega arith)) (same_bit k (suc j) is lt)
+
+module _ (x y most : ℕ) (x_byte : x < 256) (y_byte : y < 256) (same : (w : ℕ) → w < most → bit_in (Some x) w ≡ bit_in (Some y) w) where
+  same_of_eight : (w : ℕ) → w < most → (x / 2 ^ (8 - w) % 2 == 1) ≡ (y / 2 ^ (8 - w) % 2 == 1)
+  same_of_eight zero lt = let none : x / 2 ^ 8 ≡ y / 2 ^ 8 = omega (arith, x_byte, y_byte) in ap (λ (n : ℕ). n % 2 == 1) none
+  same_of_eight (suc w) lt = sym (bit_some x (suc w) (omega arith)) ∙ same (suc w) lt ∙ bit_some y (suc w) (omega arith)
 
   pub same_upper : (k j : ℕ) → k + j ≡ 8 → j < most → x / 2 ^ k ≡ y / 2 ^ k
-  same_upper k zero is lt = let k_is : k ≡ 8 = omega arith in subst (λ (n : ℕ). x / 2 ^ n ≡ y / 2 ^ n) (sym k_is) whole
-    where
-      whole : x / 2 ^ 8 ≡ y / 2 ^ 8
-      whole = omega (arith, x_byte, y_byte)
-  same_upper k (suc j) is lt = same_half x y k (same_upper (k + 1) j (omega arith) (omega arith)) (same_bit k j is lt)
+  same_upper k j is lt = same_above x y most (omega (arith, x_byte)) (omega (arith, y_byte)) same_of_eight k j is lt
 
 same_byte : (x y : ℕ) → x < 256 → y < 256 → ((w : ℕ) → w < 9 → bit_in (Some x) w ≡ bit_in (Some y) w) → x ≡ y
 same_byte x y x_byte y_byte same = let e = same_upper x y 9 x_byte y_byte same 0 8 refl (omega arith) in omega (arith, e)

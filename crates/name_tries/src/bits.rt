@@ -1,4 +1,4 @@
-ghost use Rattle.std.specs.Prelude.{◌≡◌, ◌≢◌, ℕ, ◌^◌, ◌<◌, slice_get};
+ghost use Rattle.std.specs.Prelude.{◌≡◌, ◌≢◌, ℕ, ◌-◌, ◌/◌, ◌%◌, ◌^◌, ◌<◌, ◌==◌, slice_get};
 ghost use Rattle.name_tries.specs.Bits.{bit_of, IsParting};
 
 /// A bit of names. Each name has nine at a byte: the first one says whether the name is as long as that, the others are
@@ -15,10 +15,7 @@ pub fn is_one(name: &[u8], byte: usize, within: u8) -> bool
     ensures bit { result ≡ bit_of name.now byte within }
     ensures range { byte < 2 ^ 64 }
 {
-    match name.get(byte) {
-        Some(at) => (within == 0) | ((u32::from(*at) >> (8 - within)) % 2 == 1),
-        None => false,
-    }
+    (bits_at(name, byte) >> (8 - within)) % 2 == 1
 }
 
 /// The first bit at which two names part.
@@ -45,6 +42,17 @@ fn same_bytes(one: &[u8], other: &[u8]) -> usize
     most
 }
 
+/// The nine bits of a name at a byte as a number, the first one the highest.
+fn bits_at(name: &[u8], byte: usize) -> u32
+    ensures bits { (w : ℕ) → w < 9 → (result / 2 ^ (8 - w) % 2 == 1) ≡ bit_of name.now byte w }
+    ensures small { result < 512 }
+{
+    match name.get(byte) {
+        Some(at) => 256 + u32::from(*at),
+        None => 0,
+    }
+}
+
 /// At which bit of a byte two names part.
 fn parting_in(one: &[u8], other: &[u8], byte: usize) -> u8
     requires { slice_get one.now byte ≢ slice_get other.now byte }
@@ -52,8 +60,9 @@ fn parting_in(one: &[u8], other: &[u8], byte: usize) -> u8
     ensures alike { (w : ℕ) → w < result → bit_of one.now byte w ≡ bit_of other.now byte w }
     ensures apart { bit_of one.now byte result ≢ bit_of other.now byte result }
 {
+    let (a, b) = (bits_at(one, byte), bits_at(other, byte));
     for within in 0..9u8 {
-        if is_one(one, byte, within) != is_one(other, byte, within) {
+        if a >> (8 - within) != b >> (8 - within) {
             return within;
         }
     }

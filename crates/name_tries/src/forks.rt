@@ -11,16 +11,70 @@ ghost use Rattle.name_tries.specs.Keys.{IsSet};
 
 use crate::bits::{Bit, is_one};
 use std::alloc::Global;
+use std::marker::Model;
 use tape_types::NoMemory;
 
 /// Past no more forks than these a name is found sooner than by a guess.
 const FEW: u8 = 1;
 
-/// Where a link leads: to a number, or to the fork at a place.
+/// What hangs at a side of a fork: a number, or the fork at a place.
 #[derive(Clone, Copy)]
 pub enum Branch {
     Leaf(u32),
     Inner(u32),
+}
+
+/// The words of forks are those from here on.
+const FORKS: u64 = 1 << 32;
+
+/// A branch in one word, which is read and chosen at once where a name is followed.
+#[derive(Clone, Copy)]
+pub struct Link {
+    word: u64,
+}
+
+impl Model for Link {
+    ghost use Rattle.name_tries.specs.declared.forks.Branch.{Branch};
+
+    ghost Value = { Branch };
+
+    ghost use Rattle.name_tries.specs.Links.{branch_in, link_to, IsWord, link_back};
+
+    ghost view = { branch_in };
+
+    ghost invariant = { IsWord };
+
+    ghost inverse = { link_to };
+
+    ghost inverse_ok = { link_back };
+}
+
+impl Link {
+    pub fn leaf(number: u32) -> Link
+        ensures { result ≡ branch.Leaf number }
+    {
+        Link {
+            word: u64::from(number),
+        }
+    }
+
+    pub fn inner(place: u32) -> Link
+        ensures { result ≡ branch.Inner place }
+    {
+        Link {
+            word: FORKS + u64::from(place),
+        }
+    }
+
+    pub fn target(self) -> Branch
+        ensures { result ≡ self }
+    {
+        if self.word < FORKS {
+            Branch::Leaf(self.word as u32)
+        } else {
+            Branch::Inner((self.word - FORKS) as u32)
+        }
+    }
 }
 
 /// Names that are the same up to a bit, at which some have a 0 and the others a 1.
@@ -28,8 +82,8 @@ pub enum Branch {
 pub struct Fork {
     pub byte: usize,
     pub within: u8,
-    pub zero: Branch,
-    pub one: Branch,
+    pub zero: Link,
+    pub one: Link,
 }
 
 /// One side of the fork at a place.
@@ -43,49 +97,49 @@ pub struct Side {
 #[derive(Clone, Copy)]
 pub struct Way {
     pub side: Option<Side>,
-    pub below: Branch,
+    pub below: Link,
 }
 
 /// What hangs on one side of a fork.
-pub fn branch_of(fork: Fork, one: bool) -> Branch
+pub fn branch_of(fork: Fork, one: bool) -> Link
     ensures { result ≡ branch_at one fork }
 {
     if one { fork.one } else { fork.zero }
 }
 
 /// The place of a fork.
-fn inner(branch: Branch) -> Option<u32>
-    ensures { result ≡ inner_at branch }
+fn inner(at: Link) -> Option<u32>
+    ensures { result ≡ inner_at at }
 {
-    match branch {
+    match at.target() {
         Branch::Leaf(_) => None,
         Branch::Inner(place) => Some(place),
     }
 }
 
 /// The number to which a branch leads, where it leads to no fork.
-pub fn number_of(at: Branch) -> Option<u32>
+pub fn number_of(at: Link) -> Option<u32>
     ensures { IfSome result (λ n. at ≡ branch.Leaf n) }
 {
-    match at {
+    match at.target() {
         Branch::Leaf(number) => Some(number),
         Branch::Inner(_) => None,
     }
 }
 
 /// The place of the fork to which a root leads.
-pub fn first_fork(root: Option<Branch>) -> Option<u32>
+pub fn first_fork(root: Option<Link>) -> Option<u32>
     ensures { result ≡ first_at root }
 {
     inner(root?)
 }
 
 /// The fork at which a number, on the side that is told, parts from what hangs at a branch.
-pub fn parted(bit: Bit, one: bool, number: u32, below: Branch) -> Fork
+pub fn parted(bit: Bit, one: bool, number: u32, below: Link) -> Fork
     ensures { result ≡ parted_fork one bit.byte bit.within number below }
 {
     let Bit { byte, within } = bit;
-    let leaf = Branch::Leaf(number);
+    let leaf = Link::leaf(number);
     if one {
         Fork {
             byte,
@@ -119,7 +173,7 @@ fn pass(forks: &[Fork], place: u32, name: &[u8]) -> Way
 }
 
 /// The number to which the bits of a name lead.
-pub fn nearest(forks: &[Fork], root: Branch, name: &[u8]) -> u32
+pub fn nearest(forks: &[Fork], root: Link, name: &[u8]) -> u32
     requires { (t : Trie) × IsAt forks.now root t }
     ensures { (t : Trie) → IsAt forks.now root t → result ≡ nearest_in name.now t }
 {
@@ -127,7 +181,7 @@ pub fn nearest(forks: &[Fork], root: Branch, name: &[u8]) -> u32
     while let Some(place) = inner(at) {
         at = pass(forks, place, name).below;
     }
-    match at {
+    match at.target() {
         Branch::Leaf(number) => number,
         Branch::Inner(_) => unreachable!(),
     }
@@ -143,7 +197,7 @@ fn is_before(fork: Fork, bit: Bit) -> bool
 }
 
 /// Where the bits of a name lead past a few forks at most.
-pub fn few_on(forks: &[Fork], root: Branch, name: &[u8]) -> Branch
+pub fn few_on(forks: &[Fork], root: Link, name: &[u8]) -> Link
     requires { (t : Trie) × IsAt forks.now root t }
     ensures { (t : Trie) → IsAt forks.now root t → IsTowards forks.now result name.now t }
 {
@@ -158,7 +212,7 @@ pub fn few_on(forks: &[Fork], root: Branch, name: &[u8]) -> Branch
 }
 
 /// The fork to which a branch leads, if it is of a bit before this one.
-fn fork_before(forks: &[Fork], at: Branch, bit: Bit) -> Option<u32>
+fn fork_before(forks: &[Fork], at: Link, bit: Bit) -> Option<u32>
     requires there { (s : Trie) × IsAt forks.now at s }
     requires within { bit.within < 9 }
     ensures some { IfSome result (λ place. inner_at at ≡ Some place) }
@@ -174,7 +228,7 @@ fn fork_before(forks: &[Fork], at: Branch, bit: Bit) -> Option<u32>
 }
 
 /// The way of a name up to the first fork that isn't of a bit before this one.
-pub fn way_to(forks: &[Fork], root: Branch, name: &[u8], bit: Bit) -> Way
+pub fn way_to(forks: &[Fork], root: Link, name: &[u8], bit: Bit) -> Way
     requires there { (t : Trie) × IsAt forks.now root t }
     requires within { bit.within < 9 }
     ensures { (t : Trie) → IsAt forks.now root t
@@ -207,7 +261,7 @@ pub fn way_to_leaf(forks: &[Fork], root: u32, name: &[u8]) -> (Option<Side>, Way
 }
 
 /// Sets a branch at the side of a fork.
-pub fn set_branch(forks: &mut [Fork], side: Side, at: Branch)
+pub fn set_branch(forks: &mut [Fork], side: Side, at: Link)
     requires { side.fork < length forks.old }
     ensures { IsSet forks.old forks.new side.fork side.one at }
 {
@@ -219,14 +273,14 @@ pub fn set_branch(forks: &mut [Fork], side: Side, at: Branch)
 }
 
 /// The numbers below a branch, by the bits of their names.
-pub fn numbers_below(alloc: Global, forks: &[Fork], root: Branch) -> Result<Vec<u32>, NoMemory>
+pub fn numbers_below(alloc: Global, forks: &[Fork], root: Link) -> Result<Vec<u32>, NoMemory>
     requires { (t : Trie) × AreOnce t × Shows forks.now root t }
     ensures { IfOk result (λ numbers. (t : Trie) → AreOnce t → Shows forks.now root t → numbers.items ≡ numbers_in t) }
 {
     let mut numbers = Vec::new(alloc);
     let mut left = vec![in alloc; root; 1]?;
     while let Some(at) = left.pop() {
-        match at {
+        match at.target() {
             Branch::Leaf(number) => numbers.push(number)?,
             Branch::Inner(place) => push_sides(&mut left, forks[place as usize])?,
         }
@@ -235,7 +289,7 @@ pub fn numbers_below(alloc: Global, forks: &[Fork], root: Branch) -> Result<Vec<
 }
 
 /// Puts in the branches of a fork, the first one last.
-fn push_sides(left: &mut Vec<Branch>, fork: Fork) -> Result<(), NoMemory>
+fn push_sides(left: &mut Vec<Link>, fork: Fork) -> Result<(), NoMemory>
     ensures { OnOk result (left.new.items ≡ left.old.items ++ fork.one ∷ fork.zero ∷ []) }
 {
     left.push(fork.one)?;

@@ -5,5 +5,5 @@ mod bits;
 mod forks;
 mod tries;
 
-pub use forks::{Branch, Fork};
+pub use forks::{Branch, Fork, Link};
 pub use tries::Tries;

@@ -3,7 +3,7 @@ ghost use Rattle.name_tries.specs.declared.forks.Fork.{Fork as TheFork};
 
 use crate::bits::{is_one, parting};
 use crate::forks::{
-    Branch, Fork, Side, branch_of, few_on, first_fork, nearest, number_of, numbers_below, parted,
+    Fork, Link, Side, branch_of, few_on, first_fork, nearest, number_of, numbers_below, parted,
     set_branch, way_to, way_to_leaf,
 };
 use std::alloc::Global;
@@ -16,7 +16,7 @@ use tape_types::NoMemory;
 /// A trie has one fork less than numbers, so each number brings the place of a fork: putting one in takes no memory.
 #[derive(Drop)]
 pub struct Tries {
-    pub roots: Vec<Option<Branch>>,
+    pub roots: Vec<Option<Link>>,
     pub forks: Vec<Fork>,
     /// The place of a fork that comes with each number.
     pub owned: Vec<u32>,
@@ -31,7 +31,7 @@ fn reserve_fork(forks: &mut Vec<Fork>, places: usize) -> Result<(), NoMemory>
     ensures room { OnOk result (places ≤ length forks.old.items → places < length forks.new.items) }
 {
     if forks.len() <= places {
-        forks.push(NO_FORK)?;
+        forks.push(no_fork())?;
     }
     Ok(())
 }
@@ -52,12 +52,14 @@ fn reserve_owner(owners: &mut Vec<u32>, number: usize) -> Result<(), NoMemory>
     Ok(())
 }
 
-const NO_FORK: Fork = Fork {
-    byte: 0,
-    within: 0,
-    zero: Branch::Leaf(0),
-    one: Branch::Leaf(0),
-};
+fn no_fork() -> Fork {
+    Fork {
+        byte: 0,
+        within: 0,
+        zero: Link::leaf(0),
+        one: Link::leaf(0),
+    }
+}
 
 impl Tries {
     ghost use Rattle.std.specs.Prelude.{◌≡◌, ℕ, ◌+◌, ◌<◌, ◌≤◌, max, length, Some, None, OnOk, IfOk, IfSome, IsTrue};
@@ -172,7 +174,7 @@ impl Tries {
         ensures dirs { length self.new.roots.items ≡ length self.old.roots.items }
         ensures numbers { length self.new.owned.items ≡ length self.old.owned.items }
     {
-        self.roots[dir as usize] = Some(Branch::Leaf(number));
+        self.roots[dir as usize] = Some(Link::leaf(number));
     }
 
     /// Puts a number under a name into a directory, in which another name is the nearest one. Takes no memory.
@@ -195,7 +197,7 @@ impl Tries {
             number,
             way.below,
         );
-        self.link(dir, way.side, Branch::Inner(place));
+        self.link(dir, way.side, Link::inner(place));
     }
 
     /// Takes a number that has a name in a directory out of it.
@@ -219,7 +221,7 @@ impl Tries {
     }
 
     /// Lets a side of a fork, or the root of a directory, lead to a branch.
-    fn link(&mut self, dir: u32, side: Option<Side>, at: Branch)
+    fn link(&mut self, dir: u32, side: Option<Side>, at: Link)
         requires { CanLink self.old.roots.items self.old.forks.items dir side }
         ensures linked { IsLinked self.old.roots.items self.new.roots.items self.old.forks.items self.new.forks.items
             dir side at }

@@ -1,4 +1,4 @@
-use Rattle.std.proofs.Common.{sym, ap, subst, arith}
+use Rattle.std.proofs.Common.{sym, ap, ◌∙◌, subst, arith}
 use Rattle.name_tries.specs.Tries.{Shows}
 use Rattle.name_tries.specs.declared.forks.Branch.{Branch}
 use Rattle.name_tries.specs.declared.forks.Way.{Way}
@@ -33,4 +33,4 @@ loop-place-preserved c = λ t is.
 
 pub returns : goal.returns
 returns c = λ t is.
-    way_ends c.args.forks.now c.loop-place.at c.args.name.now t c.in-Leaf.number (c.loop-place.invariant t is) c.in-Leaf.is
+    way_ends c.args.forks.now c.loop-place.at c.args.name.now t c.in-Leaf.number (c.loop-place.invariant t is) (sym c.target.ensures ∙ c.in-Leaf.is)

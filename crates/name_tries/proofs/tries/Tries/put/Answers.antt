@@ -1,9 +1,10 @@
-use Rattle.std.proofs.Common.{◌≡◌, Bool, vec_items, List, Some, ℕ, slice_get, sym, ap, ◌∙◌, subst, arith}
+use Rattle.std.proofs.Common.{◌≡◌, Bool, vec_items, List, Some, ℕ, slice_get, set, sym, ap, ◌∙◌, subst, arith}
 use Rattle.std.proofs.lemmas.List.{length-set}
 use Rattle.name_tries.specs.Bits.{level}
 use Rattle.name_tries.specs.Tries.{Trie, IsAt, Shows}
 use Rattle.name_tries.specs.Ways.{parted_fork, IsWayUpTo}
-use Rattle.name_tries.specs.Keys.{AreTriesIn}
+use Rattle.name_tries.specs.Keys.{AreTriesIn, IsLinked}
+use Rattle.name_tries.specs.declared.forks.Branch.{Branch}
 use Rattle.name_tries.specs.declared.forks.Fork.{Fork}
 use Rattle.name_tries.proofs.ItemLemmas.{read_at, none_not}
 use Rattle.name_tries.proofs.CallLemmas.{dir_within, root_is, put_root, side_within}
@@ -74,4 +75,6 @@ returns-clause-are c = λ before next can now.
     (put_beside old.roots.items new.roots.items old.forks.items new.forks.items old.owned.items old.owners.items before next c.args.dir c.args.number
     c.index-place.result.now c.args.name.now c.args.near.now c.parting-bit.result.byte c.parting-bit.result.within c.parted.result c.way_to-way.result
     can.are can.trie can.shape can.nearest can.free can.within (dir_within old before can.are c.args.dir can.trie can.shape) (in_bytes c.args.name.now c.type_inv.name) now owns
-    c.parting-bit.ensures way fork_is c.link.ensures.linked))
+    c.parting-bit.ensures way fork_is
+    (subst (λ (b : Branch). IsLinked old.roots.items new.roots.items (set old.forks.items c.index-place.result.now c.parted.result) new.forks.items
+    c.args.dir c.way_to-way.result.side b) c.inner.ensures c.link.ensures.linked)))
