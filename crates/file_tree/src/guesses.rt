@@ -2,24 +2,19 @@ use crate::nodes::Spot;
 use crate::spots::kept;
 use tape_types::NoMemory;
 
-/// A node, with the mark of the directory and the name under which it came.
-#[derive(Clone, Copy)]
-pub struct Guess {
-    pub mark: u32,
-    pub number: u32,
-}
-
-/// Nodes by the marks of their directories and names, in each row the last ones that came there. They only choose which
-/// node is looked at first, and may be none or wrong ones, so nothing is promised of them.
+/// Nodes by the marks of their directories and names: in each slot the last one that came there, half of its mark above
+/// half of its number. They only choose which node is looked at first, and may be none or wrong ones, so nothing is
+/// promised of them.
 #[derive(Drop)]
 pub struct Guesses {
-    pub rows: Vec<[Guess; 4]>,
+    pub slots: Vec<u32>,
 }
 
-/// There is a row for so many places, at least.
-const PLACES: usize = 2;
+/// There are so many slots for each place of a node, at least, and twice as many when they are made.
+const SLOTS: usize = 4;
 
-const NO_GUESS: Guess = Guess { mark: 0, number: 0 };
+/// Past what half a slot holds.
+const HALF: u32 = 1 << 16;
 
 /// A number that a directory and a name give (FNV).
 fn mark_of(dir: u32, name: &[u8]) -> u32 {
@@ -31,22 +26,18 @@ fn mark_of(dir: u32, name: &[u8]) -> u32 {
 }
 
 impl Guesses {
-    /// The row of a mark.
+    /// The slot of a mark.
     fn place(&self, mark: u32) -> usize {
-        (u64::from(mark).wrapping_mul(self.rows.len() as u64) >> 32) as usize
+        (u64::from(mark).wrapping_mul(self.slots.len() as u64) >> 32) as usize
     }
 
     /// The node that may be under a name in a directory.
     pub fn likely(&self, dir: u32, name: &[u8]) -> u32 {
         let mark = mark_of(dir, name);
-        if let Some(row) = self.rows.get(self.place(mark)) {
-            for guess in row {
-                if guess.mark == mark {
-                    return guess.number;
-                }
-            }
+        match self.slots.get(self.place(mark)) {
+            Some(slot) if slot / HALF == mark % HALF => slot % HALF,
+            _ => 0,
         }
-        0
     }
 
     /// A node came under its name into its directory.
@@ -59,25 +50,18 @@ impl Guesses {
     fn note_spot(&mut self, spot: &Spot) {
         let mark = mark_of(spot.parent, spot.name.as_str().as_bytes());
         let place = self.place(mark);
-        if let Some(row) = self.rows.get_mut(place) {
-            let [first, second, third, _] = *row;
-            let last = Guess {
-                mark,
-                number: spot.node.number,
-            };
-            *row = [last, first, second, third];
+        if let Some(slot) = self.slots.get_mut(place) {
+            *slot = mark % HALF * HALF + spot.node.number % HALF;
         }
     }
 
-    /// Makes as many rows as there are places, where there are too few.
+    /// Makes slots for as many places as there are, where there are too few.
     pub fn widen(&mut self, spots: &[Option<Spot>]) -> Result<(), NoMemory> {
-        if spots.len() / PLACES <= self.rows.len() {
+        if spots.len().saturating_mul(SLOTS) <= self.slots.len() {
             return Ok(());
         }
-        self.rows.clear();
-        for _ in spots {
-            self.rows.push([NO_GUESS; 4])?;
-        }
+        self.slots.clear();
+        self.slots.resize(spots.len().saturating_mul(2 * SLOTS), 0)?;
         for spot in spots {
             if let Some(spot) = spot {
                 self.note_spot(spot);

@@ -84,7 +84,7 @@ impl Places {
         let mut free = Vec::new(alloc);
         free.reserve(slots)?;
         let mut guesses = Guesses {
-            rows: Vec::new(alloc),
+            slots: Vec::new(alloc),
         };
         guesses.widen(store.spots())?;
         Ok(Places {
