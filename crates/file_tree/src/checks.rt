@@ -304,9 +304,15 @@ fn move_in(
     Ok(Ready::Move { number, dir })
 }
 
+/// Whether two paths are one. Long ones mostly differ in their last names.
 pub fn same_path(a: &[Text], b: &[Text]) -> bool
     ensures { result ≡ paths.same_path a.now b.now }
 {
+    if let (Some(last), Some(other)) = (a.last(), b.last()) {
+        if last != other {
+            return false;
+        }
+    }
     a == b
 }
 
@@ -314,5 +320,5 @@ pub fn same_path(a: &[Text], b: &[Text]) -> bool
 fn is_below(front: &[Text], path: &[Text]) -> bool
     ensures { result ≡ paths.is_below front.now path.now }
 {
-    path.starts_with(front) && path.len() != front.len()
+    path.len() != front.len() && path.starts_with(front)
 }
