@@ -1,10 +1,12 @@
 //! Makes, finds, renames and removes the nodes of a tree, as `tree_speed` does, in a tree as one would write it with
-//! std: nodes in a vector, and in each directory an ordered map from names to numbers.
+//! std: nodes in a vector, and in each directory an ordered map from names to numbers. With the word `clock` it prints
+//! the least time of a round too, of which the calls alone are timed.
 //!
 //! build:  rustc -C opt-level=3 -C target-cpu=native -o tree tree.rs
-//! run:    ./tree wide 65536 10 make
+//! run:    ./tree wide 65536 10 make clock
 
 use std::collections::BTreeMap;
+use std::time::{Duration, Instant};
 
 const MOST_NODES: u32 = 65_536;
 
@@ -334,45 +336,132 @@ fn path_of(shape: Shape, letter: char, k: u32) -> Vec<String> {
     path
 }
 
+#[derive(Clone, Copy, PartialEq)]
+enum What {
+    Make,
+    Find,
+    Rename,
+    Remove,
+    Mount,
+    Tell,
+}
+
+enum Call {
+    Make(Vec<String>, bool),
+    Find(Vec<String>),
+    Rename(Vec<String>, Vec<String>),
+    Remove(Vec<String>),
+}
+
+fn call_of(shape: Shape, nodes: u32, what: What, letter: char, turn: u32) -> Call {
+    match what {
+        What::Make => Call::Make(path_of(shape, letter, turn), is_dir(shape, turn)),
+        What::Find => {
+            let k = (u64::from(turn) * 7919 % (u64::from(nodes) - 1)) as u32 + 1;
+            Call::Find(path_of(shape, letter, k))
+        }
+        What::Rename => {
+            let k = nodes - turn;
+            let other = if letter == 'f' { 'g' } else { 'f' };
+            let mut to = path_of(shape, letter, parent_of(shape, k));
+            to.push(name_of(shape, other, k));
+            Call::Rename(path_of(shape, letter, k), to)
+        }
+        _ => Call::Remove(path_of(shape, letter, nodes - turn)),
+    }
+}
+
+fn names_in(call: &Call) -> usize {
+    match call {
+        Call::Make(path, _) | Call::Find(path) | Call::Remove(path) => path.len(),
+        Call::Rename(from, to) => from.len() + to.len(),
+    }
+}
+
+/// Calls are made ready and done in batches, which are full with so many names.
+const FULL: usize = 1000;
+
+fn answer(tree: &mut Tree, call: &Call) -> u32 {
+    match call {
+        Call::Make(path, is_dir) => {
+            tree.make(path, *is_dir, AT).unwrap();
+        }
+        Call::Find(path) => return tree.find(path).unwrap(),
+        Call::Rename(from, to) => tree.rename(from, to, AT).unwrap(),
+        Call::Remove(path) => tree.remove(path, AT).unwrap(),
+    }
+    0
+}
+
+/// Does a round, and gives a sum over what was found and the time of the calls.
+fn timed(tree: &mut Tree, shape: Shape, nodes: u32, what: What, letter: char) -> (u64, Duration) {
+    let (mut sum, mut took) = (0u64, Duration::ZERO);
+    let (mut calls, mut names) = (Vec::new(), 0);
+    for turn in 1..nodes {
+        let call = call_of(shape, nodes, what, letter, turn);
+        names += names_in(&call);
+        calls.push(call);
+        if names >= FULL || turn + 1 == nodes {
+            let start = Instant::now();
+            for call in &calls {
+                sum = sum.wrapping_mul(31).wrapping_add(u64::from(answer(tree, call)));
+            }
+            took += start.elapsed();
+            (calls, names) = (Vec::new(), 0);
+        }
+    }
+    (sum, took)
+}
+
 fn make_all(shape: Shape, nodes: u32) -> Tree {
     let mut tree = Tree::new();
-    for k in 1..nodes {
-        tree.make(&path_of(shape, 'f', k), is_dir(shape, k), AT).unwrap();
+    for turn in 1..nodes {
+        answer(&mut tree, &call_of(shape, nodes, What::Make, 'f', turn));
     }
     tree
 }
 
-fn find_all(tree: &Tree, shape: Shape, nodes: u32) -> u64 {
-    let mut sum = 0u64;
-    for k in 1..nodes {
-        let path = path_of(shape, 'f', k * 7919 % (nodes - 1) + 1);
-        sum = sum.wrapping_mul(31).wrapping_add(u64::from(tree.find(&path).unwrap()));
-    }
-    sum
+fn begun(shape: Shape, nodes: u32, what: What) -> Tree {
+    if what == What::Make { Tree::new() } else { make_all(shape, nodes) }
 }
 
-fn paths_all(shape: Shape, nodes: u32) -> u64 {
-    let mut sum = 0u64;
-    for k in 1..nodes {
-        let path = path_of(shape, 'f', k * 7919 % (nodes - 1) + 1);
-        sum = sum.wrapping_mul(31).wrapping_add(path.len() as u64);
+/// Does the rounds of calls, and gives what is left, the sum of the last round, and the least time of a round.
+fn call_often(shape: Shape, nodes: u32, rounds: u64, what: What) -> (Tree, u64, Duration) {
+    let mut tree = begun(shape, nodes, what);
+    let (mut sum, mut least) = (0, Duration::MAX);
+    for at in 0..rounds {
+        if at > 0 && (what == What::Make || what == What::Remove) {
+            tree = begun(shape, nodes, what);
+        }
+        let letter = if what == What::Rename && at % 2 == 1 { 'g' } else { 'f' };
+        let (found, took) = timed(&mut tree, shape, nodes, what, letter);
+        (sum, least) = (found, least.min(took));
     }
-    sum
+    (tree, sum, least)
 }
 
-fn rename_all(tree: &mut Tree, shape: Shape, nodes: u32, letters: (char, char)) {
-    for k in (1..nodes).rev() {
-        let from = path_of(shape, letters.0, k);
-        let mut to = path_of(shape, letters.0, parent_of(shape, k));
-        to.push(name_of(shape, letters.1, k));
-        tree.rename(&from, &to, AT).unwrap();
+fn mount_often(shape: Shape, nodes: u32, rounds: u64) -> (Tree, u64, Duration) {
+    let told = told_of(shape, nodes);
+    let (mut sum, mut least) = (0, Duration::MAX);
+    for _ in 0..rounds {
+        let start = Instant::now();
+        let tree = Tree::from_nodes(&told, (b'a', b'b'));
+        least = least.min(start.elapsed());
+        sum = tree.nodes.len() as u64;
     }
+    (Tree::from_nodes(&told, (b'a', b'b')), sum, least)
 }
 
-fn remove_all(tree: &mut Tree, shape: Shape, nodes: u32) {
-    for k in (1..nodes).rev() {
-        tree.remove(&path_of(shape, 'f', k), AT).unwrap();
+fn tell_often(shape: Shape, nodes: u32, rounds: u64) -> (Tree, u64, Duration) {
+    let tree = Tree::from_nodes(&told_of(shape, nodes), (b'a', b'b'));
+    let (mut sum, mut least) = (0, Duration::MAX);
+    for _ in 0..rounds {
+        let start = Instant::now();
+        let told = tree.to_nodes((b'a', b'b'));
+        least = least.min(start.elapsed());
+        sum = told.len() as u64;
     }
+    (tree, sum, least)
 }
 
 fn with_extents(told: &mut [Told]) {
@@ -432,51 +521,22 @@ fn main() {
         "chain" => Shape::Chain,
         _ => Shape::Deep,
     };
-    let mut sum = 0;
-    let mut tree = Tree::new();
-    match words[4].as_str() {
-        "make" => {
-            for _ in 0..rounds {
-                tree = make_all(shape, nodes);
-            }
-        }
-        "find" => {
-            tree = make_all(shape, nodes);
-            for _ in 0..rounds {
-                sum = find_all(&tree, shape, nodes);
-            }
-        }
-        "rename" => {
-            tree = make_all(shape, nodes);
-            for k in 0..rounds {
-                let letters = if k % 2 == 0 { ('f', 'g') } else { ('g', 'f') };
-                rename_all(&mut tree, shape, nodes, letters);
-            }
-        }
-        "remove" => {
-            for _ in 0..rounds {
-                tree = make_all(shape, nodes);
-                remove_all(&mut tree, shape, nodes);
-            }
-        }
-        "mount" | "tell" => {
-            let told = told_of(shape, nodes);
-            let is_mount = words[4] == "mount";
-            tree = Tree::from_nodes(&told, (b'a', b'b'));
-            for _ in 0..rounds {
-                if is_mount {
-                    tree = Tree::from_nodes(&told, (b'a', b'b'));
-                } else {
-                    sum = tree.to_nodes((b'a', b'b')).len() as u64;
-                }
-            }
-        }
-        _ => {
-            for _ in 0..rounds {
-                sum = paths_all(shape, nodes);
-            }
-        }
-    }
-    let _ = (tree.highest, sum);
+    let what = match words[4].as_str() {
+        "make" => What::Make,
+        "find" => What::Find,
+        "rename" => What::Rename,
+        "remove" => What::Remove,
+        "mount" => What::Mount,
+        _ => What::Tell,
+    };
+    let (tree, sum, least) = match what {
+        What::Mount => mount_often(shape, nodes, rounds),
+        What::Tell => tell_often(shape, nodes, rounds),
+        _ => call_often(shape, nodes, rounds, what),
+    };
+    let _ = tree.highest;
     println!("{} nodes, {:016x}, {:016x}", tree.nodes.len() - tree.free.len(), sum_of(&tree), sum);
+    if words.get(5).is_some_and(|word| word == "clock") {
+        println!("{} us", least.as_micros());
+    }
 }

@@ -6,7 +6,7 @@ ghost use Rattle.file_tree.specs.Edits.{making};
 ghost use Rattle.file_tree.specs.Ready.{IsReady};
 ghost use Rattle.file_tree.specs.Tree.{StandsAt, plain_of, whole};
 
-use file_tree::{Ready, Tree};
+use file_tree::{Found, Ready, Tree};
 use plain_tree::{Call, Sort};
 use std::alloc::Global;
 use tape_types::{Moment, NoMemory, Text};
@@ -17,8 +17,20 @@ pub const AT: Moment = Moment {
     nanos: 0,
 };
 
+/// Finds, makes, renames or removes a node, where the tree doesn't refuse that. Gives the number of what was found.
+pub fn answer(alloc: Global, tree: &mut Tree, call: &Call) -> Result<u32, NoMemory> {
+    if let Call::Stat { path } = call {
+        return Ok(match tree.find(path.as_slice()) {
+            Found::Node(number) => number,
+            _ => 0,
+        });
+    }
+    apply(alloc, tree, call)?;
+    Ok(0)
+}
+
 /// Makes, renames or removes a node, where the tree doesn't refuse that.
-pub fn apply(alloc: Global, tree: &mut Tree, call: &Call) -> Result<(), NoMemory> {
+fn apply(alloc: Global, tree: &mut Tree, call: &Call) -> Result<(), NoMemory> {
     match tree.place(alloc, call)? {
         Ok(ready) => change(alloc, tree, call, ready),
         Err(_) => Ok(()),

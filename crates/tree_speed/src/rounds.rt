@@ -1,270 +1,139 @@
-ghost use Rattle.std.specs.Prelude.{◌≤◌, IfOk, IfSome};
-ghost use Rattle.index_model.specs.Valid.{IsValid};
+ghost use Rattle.std.specs.Prelude.{◌<◌, ◌≤◌};
 
-use crate::calls::apply;
-use crate::shapes::Shape;
-use crate::volumes::{LETTERS, bare_tree, index_of_chain, index_with_extents, mount};
-use file_tree::{Found, Tree};
-use index_model::{Index, Kind, Node};
+use crate::batch::Batch;
+use crate::calls::answer;
+use crate::left::{Done, Left, Rounds};
+use crate::shapes::{Shape, Size};
+use crate::stopped::Stopped;
+use crate::volumes::bare_tree;
+use file_tree::Tree;
 use plain_tree::Call;
 use std::alloc::Global;
-use tape_types::NoMemory;
+use std::time::{Clock, Duration};
+use tape_types::{List, NoMemory, Text};
 
+/// The calls of a round.
 #[derive(Clone, Copy, Debug, PartialEq, Eq)]
-pub enum What {
+pub enum Round {
+    /// Makes all nodes, a directory before what is in it.
     Make,
+    /// Finds all nodes, in some order.
     Find,
+    /// Gives all nodes another first letter, what is in a directory before the directory.
     Rename,
+    /// Removes all nodes, what is in a directory before the directory.
     Remove,
-    Mount,
-    Tell,
-    /// The paths alone.
-    Paths,
 }
 
-/// What is measured.
-#[derive(Clone, Copy)]
-pub struct Task {
-    pub shape: Shape,
-    pub nodes: u32,
-    pub rounds: u64,
-    pub what: What,
+/// Does the rounds, and tells what is left. In each round the calls alone are timed: not the making of their paths, and
+/// not what brings the tree back to where a round begins.
+pub fn run<R: Clock>(rt: &R, alloc: Global, size: Size, round: Round) -> Result<Left, Stopped>
+    requires { 2 ≤ size.nodes }
+{
+    let mut tree = begun(alloc, size, round)?;
+    let mut rounds = Rounds::none();
+    for at in 0..size.rounds {
+        if at > 0 && (round == Round::Make || round == Round::Remove) {
+            tree = begun(alloc, size, round)?;
+        }
+        let done = timed(rt, alloc, &mut tree, size, round, letter_of(round, at))?;
+        rounds = rounds.and(done);
+    }
+    Ok(rounds.left(alloc, &tree)?)
 }
 
-/// What is there in the end.
-#[derive(Clone, Copy)]
-pub struct Left {
-    pub nodes: u32,
-    /// A sum over the nodes.
-    pub told: u64,
-    /// A sum over what was found.
-    pub sum: u64,
+/// The tree with which rounds begin.
+fn begun(alloc: Global, size: Size, round: Round) -> Result<Tree, Stopped>
+    requires { 2 ≤ size.nodes }
+{
+    match round {
+        Round::Make => bare_tree(alloc),
+        _ => made(alloc, size),
+    }
 }
 
-fn what_is_left(alloc: Global, tree: &Tree, sum: u64) -> Result<Left, NoMemory> {
-    let nodes = tree.to_nodes(alloc, LETTERS)?;
-    Ok(Left {
-        nodes: tree.count(),
-        told: sum_of(nodes.as_slice()),
-        sum,
+/// A tree with all nodes.
+pub fn made(alloc: Global, size: Size) -> Result<Tree, Stopped>
+    requires { 2 ≤ size.nodes }
+{
+    let mut tree = bare_tree(alloc)?;
+    for turn in 1..size.nodes {
+        let call = call_of(alloc, size, Round::Make, 'f', turn)?;
+        let _found = answer(alloc, &mut tree, &call)?;
+    }
+    Ok(tree)
+}
+
+/// The first letter of all names before a round. Each round of renames changes it.
+fn letter_of(round: Round, at: u64) -> char {
+    if round == Round::Rename && at % 2 == 1 {
+        return 'g';
+    }
+    'f'
+}
+
+/// Does a round on a tree whose names begin with a letter.
+fn timed<R: Clock>(
+    rt: &R,
+    alloc: Global,
+    tree: &mut Tree,
+    size: Size,
+    round: Round,
+    letter: char,
+) -> Result<Done, Stopped>
+    requires { 2 ≤ size.nodes }
+{
+    let mut done = Done {
+        sum: 0,
+        took: Duration::ZERO,
+    };
+    let mut batch = Batch::new(alloc);
+    for turn in 1..size.nodes {
+        batch.add(call_of(alloc, size, round, letter, turn)?)?;
+        if batch.is_full() || turn + 1 == size.nodes {
+            done = batch.answer(rt, alloc, tree, done)?;
+            batch = Batch::new(alloc);
+        }
+    }
+    Ok(done)
+}
+
+/// The call that has a turn in a round.
+fn call_of(
+    alloc: Global,
+    size: Size,
+    round: Round,
+    letter: char,
+    turn: u32,
+) -> Result<Call, NoMemory>
+    requires some { 1 ≤ turn }
+    requires below { turn < size.nodes }
+{
+    let Size { shape, nodes, .. } = size;
+    let node = match round {
+        Round::Make => turn,
+        Round::Find => (u64::from(turn) * 7919 % (u64::from(nodes) - 1)) as u32 + 1,
+        Round::Rename | Round::Remove => nodes - turn,
+    };
+    let path = shape.path(alloc, letter, node)?;
+    Ok(match round {
+        Round::Make if shape.is_dir(node) => Call::Mkdir { path },
+        Round::Make => Call::Create { path },
+        Round::Find => Call::Stat { path },
+        Round::Rename => Call::Rename {
+            from: path,
+            to: renamed(alloc, shape, letter, node)?,
+        },
+        Round::Remove => Call::Remove { path },
     })
 }
 
-fn sum_of(nodes: &[Node]) -> u64 {
-    let mut sum = 0;
-    for node in nodes {
-        sum = mixed(mixed(sum, u64::from(node.parent)), node.uid);
-        for byte in node.name.as_str().as_bytes() {
-            sum = mixed(sum, u64::from(*byte));
-        }
-        sum = with_kind(sum, &node.kind);
-    }
-    sum
-}
-
-fn mixed(sum: u64, number: u64) -> u64 {
-    sum.wrapping_mul(31).wrapping_add(number)
-}
-
-fn with_kind(sum: u64, kind: &Kind) -> u64 {
-    let Kind::File { length, extents } = kind else {
-        return sum;
-    };
-    let mut sum = mixed(sum, *length);
-    for raw in extents.as_slice() {
-        sum = mixed(sum, raw.block)
-            .wrapping_add(raw.offset)
-            .wrapping_add(raw.byte)
-            .wrapping_add(raw.count)
-            .wrapping_add(u64::from(raw.letter));
-    }
-    sum
-}
-
-/// Does what is measured, and tells what is left.
-pub fn run(alloc: Global, task: Task) -> Result<Option<Left>, NoMemory>
-    requires { 2 ≤ task.nodes }
+/// The path of a node with another first letter of its name.
+fn renamed(alloc: Global, shape: Shape, letter: char, node: u32) -> Result<List<Text>, NoMemory>
+    requires { 0 < node }
 {
-    match task.what {
-        What::Mount | What::Tell => run_index(alloc, task),
-        What::Make | What::Remove => run_making(alloc, task),
-        What::Find | What::Rename | What::Paths => run_calls(alloc, task),
-    }
-}
-
-fn run_making(alloc: Global, task: Task) -> Result<Option<Left>, NoMemory>
-    requires { 2 ≤ task.nodes }
-{
-    let Some(mut tree) = bare_tree(alloc)? else {
-        return Ok(None);
-    };
-    for _ in 0..task.rounds {
-        match bare_tree(alloc)? {
-            Some(bare) => tree = bare,
-            None => return Ok(None),
-        }
-        make_all(alloc, &mut tree, task)?;
-        if task.what == What::Remove {
-            remove_all(alloc, &mut tree, task)?;
-        }
-    }
-    Ok(Some(what_is_left(alloc, &tree, 0)?))
-}
-
-fn run_calls(alloc: Global, task: Task) -> Result<Option<Left>, NoMemory>
-    requires { 2 ≤ task.nodes }
-{
-    let Some(mut tree) = bare_tree(alloc)? else {
-        return Ok(None);
-    };
-    if task.what != What::Paths {
-        make_all(alloc, &mut tree, task)?;
-    }
-    let mut sum = 0;
-    for round in 0..task.rounds {
-        match task.what {
-            What::Find => sum = find_all(alloc, &tree, task)?,
-            What::Rename => rename_all(alloc, &mut tree, task, letters_of(round))?,
-            _ => sum = paths_all(alloc, task)?,
-        }
-    }
-    Ok(Some(what_is_left(alloc, &tree, sum)?))
-}
-
-/// The first letters of all names before a round of renames, and after it.
-fn letters_of(round: u64) -> (char, char) {
-    if round % 2 == 0 {
-        return ('f', 'g');
-    }
-    ('g', 'f')
-}
-
-fn make_all(alloc: Global, tree: &mut Tree, task: Task) -> Result<(), NoMemory>
-    requires { 2 ≤ task.nodes }
-{
-    for node in 1..task.nodes {
-        let path = task.shape.path(alloc, 'f', node)?;
-        let call = if task.shape.is_dir(node) {
-            Call::Mkdir { path }
-        } else {
-            Call::Create { path }
-        };
-        apply(alloc, tree, &call)?;
-    }
-    Ok(())
-}
-
-/// Some node, another one in each round until all were.
-fn picked(task: Task, turn: u32) -> u32
-    requires { 2 ≤ task.nodes }
-{
-    (u64::from(turn) * 7919 % (u64::from(task.nodes) - 1)) as u32 + 1
-}
-
-fn find_all(alloc: Global, tree: &Tree, task: Task) -> Result<u64, NoMemory>
-    requires { 2 ≤ task.nodes }
-{
-    let mut sum = 0;
-    for turn in 1..task.nodes {
-        let path = task.shape.path(alloc, 'f', picked(task, turn))?;
-        if let Found::Node(number) = tree.find(path.as_slice()) {
-            sum = mixed(sum, u64::from(number));
-        }
-    }
-    Ok(sum)
-}
-
-fn paths_all(alloc: Global, task: Task) -> Result<u64, NoMemory>
-    requires { 2 ≤ task.nodes }
-{
-    let mut sum = 0;
-    for turn in 1..task.nodes {
-        let path = task.shape.path(alloc, 'f', picked(task, turn))?;
-        sum = mixed(sum, path.len() as u64);
-    }
-    Ok(sum)
-}
-
-/// Gives all nodes another first letter, what is in a directory before the directory.
-fn rename_all(
-    alloc: Global,
-    tree: &mut Tree,
-    task: Task,
-    letters: (char, char),
-) -> Result<(), NoMemory>
-    requires { 2 ≤ task.nodes }
-{
-    for turn in 1..task.nodes {
-        let node = task.nodes - turn;
-        let from = task.shape.path(alloc, letters.0, node)?;
-        let mut to = task.shape.path(alloc, letters.0, task.shape.parent(node))?;
-        to.push(task.shape.name(alloc, letters.1, node)?)?;
-        apply(alloc, tree, &Call::Rename { from, to })?;
-    }
-    Ok(())
-}
-
-fn remove_all(alloc: Global, tree: &mut Tree, task: Task) -> Result<(), NoMemory>
-    requires { 2 ≤ task.nodes }
-{
-    for turn in 1..task.nodes {
-        let path = task.shape.path(alloc, 'f', task.nodes - turn)?;
-        apply(alloc, tree, &Call::Remove { path })?;
-    }
-    Ok(())
-}
-
-fn run_index(alloc: Global, task: Task) -> Result<Option<Left>, NoMemory>
-    requires { 2 ≤ task.nodes }
-{
-    let Some(index) = index_of(alloc, task)? else {
-        return Ok(None);
-    };
-    match task.what {
-        What::Mount => mount_often(alloc, &index, task.rounds),
-        _ => tell_often(alloc, &index, task.rounds),
-    }
-}
-
-/// The index of a tree of this shape.
-fn index_of(alloc: Global, task: Task) -> Result<Option<Index>, NoMemory>
-    requires { 2 ≤ task.nodes }
-    ensures { IfOk result (λ found. IfSome found IsValid) }
-{
-    if task.shape == Shape::Chain {
-        return index_of_chain(alloc, task.nodes);
-    }
-    let Some(mut tree) = bare_tree(alloc)? else {
-        return Ok(None);
-    };
-    make_all(alloc, &mut tree, task)?;
-    index_with_extents(alloc, &tree)
-}
-
-fn mount_often(alloc: Global, index: &Index, rounds: u64) -> Result<Option<Left>, NoMemory>
-    requires { IsValid index.now }
-{
-    let Some(mut tree) = mount(alloc, index)? else {
-        return Ok(None);
-    };
-    for _ in 0..rounds {
-        match mount(alloc, index)? {
-            Some(again) => tree = again,
-            None => return Ok(None),
-        }
-    }
-    Ok(Some(what_is_left(alloc, &tree, 0)?))
-}
-
-fn tell_often(alloc: Global, index: &Index, rounds: u64) -> Result<Option<Left>, NoMemory>
-    requires { IsValid index.now }
-{
-    let Some(tree) = mount(alloc, index)? else {
-        return Ok(None);
-    };
-    let mut sum = 0;
-    for _ in 0..rounds {
-        sum = tree.to_nodes(alloc, LETTERS)?.len() as u64;
-    }
-    Ok(Some(what_is_left(alloc, &tree, sum)?))
+    let other = if letter == 'f' { 'g' } else { 'f' };
+    let mut path = shape.path(alloc, letter, shape.parent(node))?;
+    path.push(shape.name(alloc, other, node)?)?;
+    Ok(path)
 }

@@ -16,6 +16,16 @@ pub enum Shape {
     Mixed,
 }
 
+/// What is measured.
+#[derive(Clone, Copy)]
+pub struct Size {
+    pub shape: Shape,
+    /// How many nodes, with the root.
+    pub nodes: u32,
+    /// How often a thing is done.
+    pub rounds: u64,
+}
+
 impl Shape {
     /// The directory that a node is in.
     pub fn parent(self, node: u32) -> u32

@@ -1,8 +1,9 @@
 ghost use Rattle.index_model.specs.Valid.{IsValid};
-ghost use Rattle.std.specs.Prelude.{IfOk, IfSome};
+ghost use Rattle.std.specs.Prelude.{IfOk};
 
 use crate::calls::AT;
 use crate::shapes::Shape;
+use crate::stopped::Stopped;
 use crate::volume::can_mount;
 use file_tree::{Carried, Heading, Letters, Tree};
 use index_model::{Index, Kind, Node, RawExtent, Spot};
@@ -45,24 +46,24 @@ fn index_of(alloc: Global, highest: u64, nodes: List<Node>) -> Result<Index, NoM
 }
 
 /// The tree of an index that was read, where it is one of the volume.
-pub fn mount(alloc: Global, index: &Index) -> Result<Option<Tree>, NoMemory>
+pub fn mount(alloc: Global, index: &Index) -> Result<Tree, Stopped>
     requires { IsValid index.now }
 {
     if !can_mount(index, LETTERS, BLOCK_SIZE) {
-        return Ok(None);
+        return Err(Stopped::NotMounted);
     }
-    Ok(Some(Tree::from_index(alloc, index, LETTERS, BLOCK_SIZE)?))
+    Ok(Tree::from_index(alloc, index, LETTERS, BLOCK_SIZE)?)
 }
 
 /// The index as it is read from its text.
-fn read_again(alloc: Global, index: &Index) -> Result<Option<Index>, NoMemory>
-    ensures { IfOk result (λ found. IfSome found IsValid) }
+fn read_again(alloc: Global, index: &Index) -> Result<Index, Stopped>
+    ensures { IfOk result IsValid }
 {
     let mut text = Vec::new(alloc);
     index_text(index, &mut text)?;
     match read_index(alloc, &text) {
-        Ok(index) => Ok(Some(index)),
-        Err(_) => Ok(None),
+        Ok(index) => Ok(index),
+        Err(_) => Err(Stopped::NotMounted),
     }
 }
 
@@ -85,11 +86,8 @@ fn node_of(parent: u32, uid: u64, name: Text) -> Node {
 }
 
 /// A tree with the root alone.
-pub fn bare_tree(alloc: Global) -> Result<Option<Tree>, NoMemory> {
-    match read_again(alloc, &bare(alloc)?)? {
-        Some(index) => mount(alloc, &index),
-        None => Ok(None),
-    }
+pub fn bare_tree(alloc: Global) -> Result<Tree, Stopped> {
+    mount(alloc, &read_again(alloc, &bare(alloc)?)?)
 }
 
 /// So many nodes, each in the one before.
@@ -131,16 +129,16 @@ fn file_of(alloc: Global, uid: u64) -> Result<Kind, NoMemory> {
 }
 
 /// The index of a tree, with an extent in each file.
-pub fn index_with_extents(alloc: Global, tree: &Tree) -> Result<Option<Index>, NoMemory>
-    ensures { IfOk result (λ found. IfSome found IsValid) }
+pub fn index_with_extents(alloc: Global, tree: &Tree) -> Result<Index, Stopped>
+    ensures { IfOk result IsValid }
 {
     let nodes = with_extents(alloc, tree.to_nodes(alloc, LETTERS)?)?;
     read_again(alloc, &index_of(alloc, tree.highest(), nodes)?)
 }
 
 /// The index of so many directories in one another.
-pub fn index_of_chain(alloc: Global, count: u32) -> Result<Option<Index>, NoMemory>
-    ensures { IfOk result (λ found. IfSome found IsValid) }
+pub fn index_of_chain(alloc: Global, count: u32) -> Result<Index, Stopped>
+    ensures { IfOk result IsValid }
 {
     let nodes = chain(alloc, count)?;
     read_again(alloc, &index_of(alloc, u64::from(count), nodes)?)

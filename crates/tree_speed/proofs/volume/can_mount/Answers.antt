@@ -1,4 +1,4 @@
-use Rattle.std.proofs.Common.{◌≡◌, sym, ap, ◌∙◌, List, arith}
+use Rattle.std.proofs.Common.{sym, ap, ◌∙◌, List, arith}
 use Rattle.std.specs.List.{list_all}
 use Rattle.index_model.specs.declared.nodes.Node.{Node}
 use Rattle.file_tree.specs.OnVolume.{kind_on_volume}
