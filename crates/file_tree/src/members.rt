@@ -94,7 +94,8 @@ pub fn name_in(names: &mut Tries, spots: &[Option<Spot>], number: u32)
         None => names.put_first(spot.parent, number),
         Some(near) => {
             let other = spot_at(spots, near);
-            names.put(spot.parent, number, name, other.name.as_str().as_bytes());
+            let other = other.name.as_str().as_bytes();
+            names.put(spot.parent, number, name, other, near);
         }
     }
 }

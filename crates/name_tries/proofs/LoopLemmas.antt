@@ -1,8 +1,8 @@
 -- Loops that go along a trie, fork by fork.
-use Rattle.std.proofs.Common.{Option, ◌≡◌, ℕ, ◌+◌, ◌-◌, ◌*◌, ◌^◌, ◌<◌, ◌≤◌, Bool, true, false, List, [], ◌∷◌, ◌++◌, Some, None, slice_get, sym, ap, ap₂, ◌∙◌, refl, subst, arith}
+use Rattle.std.proofs.Common.{Option, ◌≡◌, ℕ, ◌+◌, ◌-◌, ◌^◌, ◌<◌, ◌≤◌, Bool, true, false, List, [], ◌∷◌, ◌++◌, Some, None, slice_get, sym, ap, ap₂, ◌∙◌, refl, subst, arith}
 use Rattle.name_tries.specs.Bits.{Name, bit_of, level}
 use Rattle.name_tries.specs.Tries.{Trie, leaf, inner, IsAbove, Shows, IsAt, nearest_in}
-use Rattle.name_tries.specs.Ways.{Step, on_zero, on_one, whole_of, side, side_of, last_side, IsTaken, AreTaken, IsFrom, inner_at, branch_at, past, IsWay, IsTowards, IsWayToLeaf}
+use Rattle.name_tries.specs.Ways.{Step, on_zero, on_one, whole_of, side, side_of, last_side, IsTaken, AreTaken, IsFrom, inner_at, branch_at, past, most, left_at, left_of, left, IsWay, IsTowards, IsWayToLeaf}
 use Rattle.name_tries.specs.declared.forks.Branch.{Branch}
 use Rattle.name_tries.specs.declared.forks.Branch.TheVariants as branch
 use Rattle.name_tries.specs.declared.forks.Fork.{Fork}
@@ -82,27 +82,10 @@ from_there forks (inner b w g l r) at f k p is goes there le =
     let rise : level k.byte k.within ≡ level b w = sym (ap (λ (h : Fork). level h.byte h.within) same) ∙ ap₂ level is.1.3 is.1.4 in
     omega (arith, rise, le)
 
--- ---- a measure
-
--- more than each level
-abbrev most : ℕ
-most = 9 * 2 ^ 64
-
-left_at : Option Fork → ℕ
-left_at None = 0
-left_at (Some k) = most - level k.byte k.within
-
-left_of : List Fork → Option ℕ → ℕ
-left_of forks None = 0
-left_of forks (Some f) = left_at (slice_get forks f)
-
--- how far the levels can rise from a branch on
-pub left : List Fork → Branch → ℕ
-left forks at = left_of forks (inner_at at)
+-- ---- the levels that are left
 
 pub left_less : (forks : List Fork) (at next : Branch) (f : ℕ) (k : Fork) (s : Trie) → inner_at at ≡ Some f → slice_get forks f ≡ Some k
     → level k.byte k.within < most → IsAbove (level k.byte k.within) s → Shows forks next s → left forks next < left forks at
-unfolding left left_of left_at
 left_less forks at next f k (leaf m) goes there lt above shown =
     let now : left_of forks (inner_at next) ≡ 0 = ap (λ b. left_of forks (inner_at b)) shown in
     let was : left_of forks (inner_at at) ≡ most - level k.byte k.within = ap (left_of forks) goes ∙ ap left_at there in
@@ -129,6 +112,25 @@ way_goes_on forks at next x t f k on goes there is =
       same = sym (nearest_part x (level k.byte k.within + 1) (p.step ∷ []) p.next (p.taken (level k.byte k.within + 1) (omega arith), tt))
           ∙ ap (nearest_in x) (sym p.is) ∙ on.same;
     }
+
+-- past one fork the name leads to the same number, and fewer levels are left
+pub on_past : (forks : List Fork) (at : Branch) (next : Way) (x : Name) (t : Trie) (f : ℕ) → IsTowards forks at x t → inner_at at ≡ Some f
+    → ((k : Fork) → slice_get forks f ≡ Some k → next ≡ past f (bit_of x k.byte k.within) k)
+    → ((k : Fork) → slice_get forks f ≡ Some k → k.byte < 2 ^ 64)
+    → IsTowards forks next.below x t × (left forks next.below < left forks at)
+on_past forks at next x t f on goes is range =
+    let k = fork_there forks x on.part at f on.is goes in
+    let p = passed forks x on.part at f k.0 on.is goes k.1 in
+    let below = ap (λ (v : Way). v.below) (is k.0 k.1) in (
+      way_goes_on forks at next.below x t f k.0 on goes k.1 below,
+      left_less forks at next.below f k.0 p.next goes k.1 (omega (arith, range k.0 k.1, k.2))
+          p.above (subst (λ (b : Branch). Shows forks b p.next) (sym below) p.at.1),
+    )
+
+-- what leads to where a name leads from a part on, leads to where it leads from the whole on
+pub towards_on : (forks : List Fork) (at next : Branch) (x : Name) (t : Trie) (on : IsTowards forks at x t) → IsTowards forks next x on.part
+    → IsTowards forks next x t
+towards_on forks at next x t on more = record { part = more.part; is = more.is; same = more.same ∙ on.same }
 
 pub way_ends : (forks : List Fork) (at : Branch) (x : Name) (t : Trie) (n : ℕ) → IsTowards forks at x t → at ≡ branch.Leaf n → n ≡ nearest_in x t
 way_ends forks at x t n on is = ends on.part on.is.1 ∙ on.same

@@ -1,5 +1,5 @@
 -- Ways through a trie, from its first fork down to a part of it.
-use Rattle.std.specs.Prelude.{◌≡◌, ⊤, ℕ, ◌<◌, ◌≤◌, Bool, true, false, if◌then◌else◌, List, [], ◌∷◌, Option, Some, None}
+use Rattle.std.specs.Prelude.{◌≡◌, ⊤, ℕ, ◌-◌, ◌*◌, ◌^◌, ◌<◌, ◌≤◌, Bool, true, false, if◌then◌else◌, List, [], ◌∷◌, Option, Some, None}
 use Rattle.std.specs.Prelude.{slice_get}
 use Rattle.name_tries.specs.Bits.{Name, bit_of, level}
 use Rattle.name_tries.specs.Tries.{Trie, leaf, inner, Rises, Shows, IsAt, nearest_in}
@@ -54,6 +54,22 @@ inner_at (branch.Inner f) = Some f
 abbrev pub first_at : Option Branch → Option ℕ
 first_at None = None
 first_at (Some at) = inner_at at
+
+-- more than each level
+abbrev pub most : ℕ
+most = 9 * 2 ^ 64
+
+abbrev pub left_at : Option Fork → ℕ
+left_at None = 0
+left_at (Some k) = most - level k.byte k.within
+
+abbrev pub left_of : List Fork → Option ℕ → ℕ
+left_of forks None = 0
+left_of forks (Some f) = left_at (slice_get forks f)
+
+-- how far the levels can rise from a branch on
+abbrev pub left : List Fork → Branch → ℕ
+left forks at = left_of forks (inner_at at)
 
 -- the fork with a number on one side and a branch on the other
 abbrev pub parted_fork : Bool → ℕ → ℕ → ℕ → Branch → Fork

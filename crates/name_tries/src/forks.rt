@@ -1,11 +1,11 @@
-ghost use Rattle.std.specs.Prelude.{◌≡◌, ℕ, ◌^◌, ◌<◌, nat_lt, [], ◌∷◌, ◌++◌, length, Some, None, IfSome, IfNone};
+ghost use Rattle.std.specs.Prelude.{◌≡◌, ℕ, ◌^◌, ◌<◌, ◌≤◌, nat_lt, [], ◌∷◌, ◌++◌, length, Some, None, IfSome, IfNone};
 ghost use Rattle.std.specs.Prelude.{IfOk, OnOk, slice_get};
 ghost use Rattle.name_tries.specs.declared.forks.Branch.TheVariants as branch;
 ghost use Rattle.name_tries.specs.declared.forks.Fork.{Fork as TheFork};
 ghost use Rattle.name_tries.specs.Bits.{bit_of, level};
 ghost use Rattle.name_tries.specs.Tries.{Trie, AreOnce, Shows, IsAt, nearest_in};
 ghost use Rattle.name_tries.specs.Listing.{numbers_in};
-ghost use Rattle.name_tries.specs.Ways.{IsFrom, IsTowards, branch_at, past, inner_at, first_at, parted_fork};
+ghost use Rattle.name_tries.specs.Ways.{IsFrom, IsTowards, branch_at, past, inner_at, first_at, parted_fork, left};
 ghost use Rattle.name_tries.specs.Ways.{IsWayUpTo, IsWayToLeaf};
 ghost use Rattle.name_tries.specs.Keys.{IsSet};
 
@@ -172,8 +172,33 @@ fn pass(forks: &[Fork], place: u32, name: &[u8]) -> Way
     }
 }
 
+/// Whether a way took the side of a 1 last.
+fn took_one(way: Way) -> bool {
+    match way.side {
+        Some(side) => side.one,
+        None => false,
+    }
+}
+
+/// Goes past all forks at which a name has a 1, and past the first one at which it has a 0.
+fn past_ones(forks: &[Fork], root: Link, name: &[u8]) -> Link
+    requires { (t : Trie) × IsAt forks.now root t }
+    ensures towards { (t : Trie) → IsAt forks.now root t → IsTowards forks.now result name.now t }
+    ensures less { left forks.now result ≤ left forks.now root }
+{
+    let mut at = root;
+    while let Some(place) = inner(at) {
+        let way = pass(forks, place, name);
+        at = way.below;
+        if !took_one(way) {
+            return at;
+        }
+    }
+    at
+}
+
 /// The number to which the bits of a name lead.
-pub fn nearest(forks: &[Fork], root: Link, name: &[u8]) -> u32
+fn nearest_by_chance(forks: &[Fork], root: Link, name: &[u8]) -> u32
     requires { (t : Trie) × IsAt forks.now root t }
     ensures { (t : Trie) → IsAt forks.now root t → result ≡ nearest_in name.now t }
 {
@@ -184,6 +209,38 @@ pub fn nearest(forks: &[Fork], root: Link, name: &[u8]) -> u32
     match at.target() {
         Branch::Leaf(number) => number,
         Branch::Inner(_) => unreachable!(),
+    }
+}
+
+/// The same. A 1 and a 0 are gone past at different places of the code, so that the processor foretells the way of a
+/// name that comes after one like it. Where names come by chance, that costs more than it gains.
+fn nearest_in_turn(forks: &[Fork], root: Link, name: &[u8]) -> u32
+    requires { (t : Trie) × IsAt forks.now root t }
+    ensures { (t : Trie) → IsAt forks.now root t → result ≡ nearest_in name.now t }
+{
+    let mut at = root;
+    while let Some(place) = inner(at) {
+        let way = pass(forks, place, name);
+        at = way.below;
+        if took_one(way) {
+            at = past_ones(forks, at, name);
+        }
+    }
+    match at.target() {
+        Branch::Leaf(number) => number,
+        Branch::Inner(_) => unreachable!(),
+    }
+}
+
+/// The number to which the bits of a name lead, whether names come in turn or by chance.
+pub fn nearest(forks: &[Fork], root: Link, name: &[u8], in_turn: bool) -> u32
+    requires { (t : Trie) × IsAt forks.now root t }
+    ensures { (t : Trie) → IsAt forks.now root t → result ≡ nearest_in name.now t }
+{
+    if in_turn {
+        nearest_in_turn(forks, root, name)
+    } else {
+        nearest_by_chance(forks, root, name)
     }
 }
 

@@ -22,7 +22,15 @@ pub struct Tries {
     pub owned: Vec<u32>,
     /// With which number the place of each fork comes.
     pub owners: Vec<u32>,
+    /// The number that was put in last beside another.
+    pub last: u32,
+    /// Whether names seem to come in their order or against it: the number beside is close to the one that was put in
+    /// before. This only chooses how the next names are followed.
+    pub in_turn: bool,
 }
+
+/// Numbers that are apart no more than this are close.
+const CLOSE: u32 = 16;
 
 /// Makes room for one fork more, where there is none for this many.
 fn reserve_fork(forks: &mut Vec<Fork>, places: usize) -> Result<(), NoMemory>
@@ -81,6 +89,8 @@ impl Tries {
             forks: Vec::new(alloc),
             owned: Vec::new(alloc),
             owners: Vec::new(alloc),
+            last: 0,
+            in_turn: false,
         }
     }
 
@@ -127,7 +137,7 @@ impl Tries {
             → result ≡ Some n }
     {
         let root = self.roots[dir as usize]?;
-        Some(nearest(&self.forks, root, name))
+        Some(nearest(&self.forks, root, name, self.in_turn))
     }
 
     /// The same, if no more than a few forks lead there, so that it costs little to ask.
@@ -177,8 +187,9 @@ impl Tries {
         self.roots[dir as usize] = Some(Link::leaf(number));
     }
 
-    /// Puts a number under a name into a directory, in which another name is the nearest one. Takes no memory.
-    pub fn put(&mut self, dir: u32, number: u32, name: &[u8], near: &[u8])
+    /// Puts a number under a name into a directory, in which another name is the nearest one. Takes no memory. The number
+    /// of that name tells whether names come in turn.
+    pub fn put(&mut self, dir: u32, number: u32, name: &[u8], near: &[u8], beside: u32)
         requires { (keys : Keys) × CanPut self.old keys dir number name.now near.now }
         ensures are { (before next : Keys) → CanPut self.old before dir number name.now near.now
             → IsKeyed before next number (Some (dir, name.now)) → AreTries self.new next }
@@ -198,6 +209,8 @@ impl Tries {
             way.below,
         );
         self.link(dir, way.side, Link::inner(place));
+        self.in_turn = beside.abs_diff(self.last) <= CLOSE;
+        self.last = number;
     }
 
     /// Takes a number that has a name in a directory out of it.

@@ -1,7 +1,7 @@
 use Rattle.name_tries.specs.Bits.{level}
 use Rattle.name_tries.specs.Tries.{Trie, IsAt}
 use Rattle.name_tries.specs.Ways.{IsWay}
-use Rattle.name_tries.proofs.LoopLemmas.{left}
+use Rattle.name_tries.specs.Ways.{left}
 use Rattle.name_tries.proofs.forks.way_to.Given as goal
 
 abbrev pub invariant-loop-place : goal.invariant-loop-place
