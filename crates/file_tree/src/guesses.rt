@@ -10,8 +10,11 @@ pub struct Guesses {
     pub slots: Vec<u32>,
 }
 
-/// There are so many slots for each place of a node, at least, and twice as many when they are made.
-const SLOTS: usize = 4;
+/// There are so many slots for each place of a node, at least.
+const FEWEST: usize = 2;
+
+/// There are so many when they are made. Each time all nodes are noted again, so that isn't done at each doubling.
+const MOST: usize = 8;
 
 /// Past what half a slot holds.
 const HALF: u32 = 1 << 16;
@@ -57,11 +60,11 @@ impl Guesses {
 
     /// Makes slots for as many places as there are, where there are too few.
     pub fn widen(&mut self, spots: &[Option<Spot>]) -> Result<(), NoMemory> {
-        if spots.len().saturating_mul(SLOTS) <= self.slots.len() {
+        if spots.len().saturating_mul(FEWEST) <= self.slots.len() {
             return Ok(());
         }
         self.slots.clear();
-        self.slots.resize(spots.len().saturating_mul(2 * SLOTS), 0)?;
+        self.slots.resize(spots.len().saturating_mul(MOST), 0)?;
         for spot in spots {
             if let Some(spot) = spot {
                 self.note_spot(spot);
