@@ -5,21 +5,26 @@ use crate::left::{Done, Left, Rounds};
 use crate::rounds::made;
 use crate::shapes::{Shape, Size};
 use crate::stopped::Stopped;
-use crate::volumes::{LETTERS, index_of_chain, index_with_extents, mount};
+use crate::volume::can_mount;
+use crate::volumes::{BLOCK_SIZE, LETTERS, index_of_chain, index_with_extents, mount};
+use file_tree::Tree;
 use index_model::Index;
 use std::alloc::Global;
 use std::time::{Clock, Instant};
 
-/// Mounts the index so many times, and tells what is left. Each tree is let go before the next one is mounted, which
-/// isn't counted.
+/// Mounts the index so many times, and tells what is left. That it can be mounted is tested once, and each tree is let go
+/// before the next one is mounted, which isn't counted.
 pub fn mount_often<R: Clock>(rt: &R, alloc: Global, size: Size) -> Result<Left, Stopped>
     requires { 2 ≤ size.nodes }
 {
     let index = index_of(alloc, size)?;
+    if !can_mount(&index, LETTERS, BLOCK_SIZE) {
+        return Err(Stopped::NotMounted);
+    }
     let mut rounds = Rounds::none();
     for _ in 0..size.rounds {
         let start = Instant::now(rt)?;
-        let tree = mount(alloc, &index)?;
+        let tree = Tree::from_index(alloc, &index, LETTERS, BLOCK_SIZE)?;
         rounds = rounds.and(Done {
             took: start.elapsed(rt)?,
             sum: u64::from(tree.count()),

@@ -14,7 +14,7 @@ use tape_types::{List, NoMemory, Text, Times};
 
 pub const LETTERS: Letters = (b'a', b'b');
 
-const BLOCK_SIZE: u32 = 524_288;
+pub const BLOCK_SIZE: u32 = 524_288;
 
 /// What the indexes tell of their volume.
 fn carried() -> Carried {
