@@ -1,8 +1,10 @@
 -- A node comes under its name in its directory.
 use Rattle.std.proofs.Common.{Option, ◌≡◌, ◌≢◌, ℕ, ◌<◌, List, length, Some, None, IsSome, is_some, sym, ap, ◌∙◌, refl, subst}
 use Rattle.std.specs.Option.{option_map}
-use Rattle.name_tries.specs.Keys.{Keys, AreTries, IsKeyed, CanPutFirst, CanPut, CanCut, name_in, name_of}
+use Rattle.name_tries.specs.Keys.{Keys, AreTries, IsKeyed, CanPutFirst, CanPut, CanCut, name_in, name_of, number_in}
 use Rattle.name_tries.specs.Tries.{Trie, nearest_in}
+use Rattle.name_tries.specs.Ways.{IsTowards}
+use Rattle.name_tries.specs.declared.forks.Near.{Near}
 use Rattle.name_tries.specs.declared.tries.Tries.{Tries}
 use Rattle.name_tries.proofs.ItemLemmas.{some_same, none_not}
 use Rattle.file_tree.specs.declared.nodes.Spot.{Spot}
@@ -37,40 +39,48 @@ module _ (names : Tries) (spots : List (Option Spot)) (at next : Held) (n : ℕ)
   pub is_keyed : IsKeyed (keys_of at) (keys_of next) n (Some (z.parent, x))
   is_keyed = subst (λ (k : Key). IsKeyed (keys_of at) (keys_of next) n (Some k)) keys (keys_kept at next n (Some q.spot) q.other q.kept)
 
-  module _ (r : Option ℕ) (leads : (keys : Keys) (w : AreTries names keys) → r ≡ option_map (nearest_in x) (w.shape z.parent)) where
+  module _ (r : Option Near) (leads : (keys : Keys) (w : AreTries names keys)
+      → option_map number_in r ≡ option_map (nearest_in x) (w.shape z.parent)) where
     -- the directory has nothing in it
     pub can_put_first : r ≡ None → CanPutFirst names (keys_of at) z.parent n
     can_put_first none = record {
       are = q.old;
-      none = no_trie x (q.old.shape z.parent) (sym (leads (keys_of at) q.old) ∙ none);
+      none = no_trie x (q.old.shape z.parent) (sym (leads (keys_of at) q.old) ∙ ap (option_map number_in) none);
       free = key_at at n None q.other q.free;
       within = q.within;
       below = low;
     }
 
     -- another node is the nearest one
-    module _ (m : ℕ) (some : r ≡ Some m) (found : (keys : Keys) → AreTries names keys → (other : Name) × (keys m ≡ Some (z.parent, other))) where
-      near : (w : Spot) × (at m ≡ Some w) × (held spots m ≡ Some w) × (keys_of at m ≡ Some (z.parent, w.name))
-      near =
+    module _ (near : Near) (some : r ≡ Some near)
+        (found : (keys : Keys) → AreTries names keys → (other : Name) × (keys near.number ≡ Some (z.parent, other))) where
+      abbrev m : ℕ
+      m = near.number
+
+      beside : (w : Spot) × (at m ≡ Some w) × (held spots m ≡ Some w) × (keys_of at m ≡ Some (z.parent, w.name))
+      beside =
           let f = found (keys_of at) q.old in
           let h = of_key at m (z.parent, f.0) f.1 in
           let apart : m ≢ n = λ e. none_not (at m) h.1 (ap at e ∙ q.free) h.2 in
           (h.1, h.2, q.there m h.1 (q.kept.others m apart ∙ h.2), f.1 ∙ ap (λ (k : Key). Some (z.parent, k.1)) (sym h.3))
 
       pub near_there : IsSome (held spots m)
-      near_there = ap is_some near.2
+      near_there = ap is_some beside.2
 
-      pub can_put : (w : Spot) → held spots m ≡ Some w → (y : Name) → y ≡ w.name → CanPut names (keys_of at) z.parent n x y
-      can_put w there y named =
-          let t = a_trie x (q.old.shape z.parent) m (sym (leads (keys_of at) q.old) ∙ some) in
-          let one : near.0 ≡ w = some_same near.0 w (sym near.2 ∙ there) in
-          let is_y : near.0.name ≡ y = ap (λ (s : Spot). s.name) one ∙ sym named in
+      pub can_put : (w : Spot) → held spots m ≡ Some w → (y : Name) → y ≡ w.name
+          → ((keys : Keys) (w : AreTries names keys) (t : Trie) → w.shape z.parent ≡ Some t → IsTowards names.forks.items near.from x t)
+          → CanPut names (keys_of at) z.parent n x near y
+      can_put w there y named from =
+          let t = a_trie x (q.old.shape z.parent) m (sym (leads (keys_of at) q.old) ∙ ap (option_map number_in) some) in
+          let one : beside.0 ≡ w = some_same beside.0 w (sym beside.2 ∙ there) in
+          let is_y : beside.0.name ≡ y = ap (λ (s : Spot). s.name) one ∙ sym named in
           record {
             are = q.old;
             trie = t.0;
             shape = t.1;
-            nearest = ap (name_in (keys_of at)) t.2 ∙ ap name_of near.3 ∙ is_y;
-            apart = λ e. q.apart m (near.3 ∙ ap (λ s. Some (z.parent, s)) (is_y ∙ sym e) ∙ ap (λ k. Some k) (sym keys));
+            nearest = ap (name_in (keys_of at)) t.2 ∙ ap name_of beside.3 ∙ is_y;
+            from = from (keys_of at) q.old t.0 t.1;
+            apart = λ e. q.apart m (beside.3 ∙ ap (λ s. Some (z.parent, s)) (is_y ∙ sym e) ∙ ap (λ k. Some k) (sym keys));
             free = key_at at n None q.other q.free;
             within = q.within;
           }

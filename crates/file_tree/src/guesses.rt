@@ -1,5 +1,6 @@
 use crate::nodes::Spot;
 use crate::spots::kept;
+use std::alloc::Global;
 use tape_types::NoMemory;
 
 /// Nodes by the marks of their directories and names: in each slot the last one that came there, half of its mark above
@@ -29,6 +30,21 @@ fn mark_of(dir: u32, name: &[u8]) -> u32 {
 }
 
 impl Guesses {
+    /// No nodes, with slots for so many places.
+    pub fn new(alloc: Global, places: usize) -> Result<Guesses, NoMemory> {
+        let mut guesses = Guesses {
+            slots: Vec::new(alloc),
+        };
+        guesses.make_slots(places)?;
+        Ok(guesses)
+    }
+
+    /// Makes empty slots for so many places.
+    fn make_slots(&mut self, places: usize) -> Result<(), NoMemory> {
+        self.slots.clear();
+        Ok(self.slots.resize(places.saturating_mul(MOST), 0)?)
+    }
+
     /// The slot of a mark.
     fn place(&self, mark: u32) -> usize {
         (u64::from(mark).wrapping_mul(self.slots.len() as u64) >> 32) as usize
@@ -63,8 +79,7 @@ impl Guesses {
         if spots.len().saturating_mul(FEWEST) <= self.slots.len() {
             return Ok(());
         }
-        self.slots.clear();
-        self.slots.resize(spots.len().saturating_mul(MOST), 0)?;
+        self.make_slots(spots.len())?;
         for spot in spots {
             if let Some(spot) = spot {
                 self.note_spot(spot);

@@ -3,6 +3,7 @@ ghost use Rattle.name_tries.specs.Keys.{AreTries};
 ghost use Rattle.file_tree.specs.Seen.{Held, held, IsKept};
 ghost use Rattle.file_tree.specs.Beside.{keys_of, KeysDiffer, IsNode, AreNamed, CanName, AreBelow};
 
+use crate::guesses::Guesses;
 use crate::nodes::Spot;
 use crate::spots::{kept, spot_at};
 use name_tries::Tries;
@@ -24,8 +25,12 @@ fn unnamed(alloc: Global, numbers: usize) -> Result<Tries, NoMemory>
     Ok(names)
 }
 
-/// What is kept at each number but 0, by the names.
-pub fn named(alloc: Global, spots: &[Option<Spot>]) -> Result<Tries, NoMemory>
+/// What is kept at each number but 0, by the names. All of it becomes likely.
+pub fn named(
+    alloc: Global,
+    spots: &[Option<Spot>],
+    guesses: &mut Guesses,
+) -> Result<Tries, NoMemory>
     requires small { length spots.now < 4294967296 }
     requires below { AreBelow (length spots.now) (held spots.now) }
     requires apart { KeysDiffer (held spots.now) }
@@ -36,6 +41,7 @@ pub fn named(alloc: Global, spots: &[Option<Spot>]) -> Result<Tries, NoMemory>
     let mut names = unnamed(alloc, spots.len())?;
     for number in 1..spots.len() {
         if spots[number].is_some() {
+            guesses.note(spots, number as u32);
             name_in(&mut names, spots, number as u32);
         }
     }
@@ -55,16 +61,22 @@ pub fn is_child(spots: &[Option<Spot>], number: u32, dir: u32, name: &str) -> bo
     }
 }
 
-/// The number of the node under a name in a directory, by its trie.
+/// The number of the node under a name in a directory, by its trie. Where names come in turn, that which comes next is
+/// looked at before.
 pub fn child(spots: &[Option<Spot>], names: &Tries, dir: u32, name: &str) -> Option<u32>
     requires named { AreNamed names.now (held spots.now) }
     requires below { dir < length names.now.roots.items }
     ensures found { IfSome result (λ n. keys_of (held spots.now) n ≡ Some (dir, name.now)) }
     ensures missing { IfNone result ((n : ℕ) → keys_of (held spots.now) n ≡ Some (dir, name.now) → ⊥) }
 {
-    let number = names.nearest(dir, name.as_bytes())?;
-    if spot_at(spots, number).name.as_str() == name {
-        return Some(number);
+    if let Some(next) = names.next() {
+        if is_child(spots, next, dir, name) {
+            return Some(next);
+        }
+    }
+    let near = names.nearest(dir, name.as_bytes())?;
+    if spot_at(spots, near.number).name.as_str() == name {
+        return Some(near.number);
     }
     None
 }
@@ -93,9 +105,9 @@ pub fn name_in(names: &mut Tries, spots: &[Option<Spot>], number: u32)
     match names.nearest(spot.parent, name) {
         None => names.put_first(spot.parent, number),
         Some(near) => {
-            let other = spot_at(spots, near);
+            let other = spot_at(spots, near.number);
             let other = other.name.as_str().as_bytes();
-            names.put(spot.parent, number, name, other, near);
+            names.put(spot.parent, number, name, near, other);
         }
     }
 }

@@ -38,7 +38,7 @@ fn store_nodes(
     ensures files { IfOk result (λ store. AreFilesOf block_size store.nodes) }
 {
     let root = node_from(alloc, &nodes[0], letters, block_size)?;
-    let mut store = Store::new(alloc, root)?;
+    let mut store = Store::new(alloc, root, nodes.len())?;
     for at in 1..nodes.len() {
         add_node(&mut store, alloc, nodes, at, letters, block_size)?;
     }

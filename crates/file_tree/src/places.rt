@@ -80,13 +80,10 @@ impl Places {
         ensures { IfOk result (λ t. t.nodes ≡ store.nodes) }
     {
         let slots = store.spots().len();
-        let names = named(alloc, store.spots())?;
+        let mut guesses = Guesses::new(alloc, slots)?;
+        let names = named(alloc, store.spots(), &mut guesses)?;
         let mut free = Vec::new(alloc);
         free.reserve(slots)?;
-        let mut guesses = Guesses {
-            slots: Vec::new(alloc),
-        };
-        guesses.widen(store.spots())?;
         Ok(Places {
             store,
             names,
@@ -289,8 +286,9 @@ impl Places {
     {
         let _shown = self.store.spots();
         let number = store_node(&mut self.store, &mut self.free, dir, name, node);
-        name_in(&mut self.names, self.store.spots(), number);
-        self.guesses.note(self.store.spots(), number);
+        let spots = self.store.spots();
+        self.guesses.note(spots, number);
+        name_in(&mut self.names, spots, number);
         number
     }
 
@@ -319,8 +317,9 @@ impl Places {
     {
         name_out(&mut self.names, self.store.spots(), number);
         self.store.shift(number, dir, name);
-        name_in(&mut self.names, self.store.spots(), number);
-        self.guesses.note(self.store.spots(), number);
+        let spots = self.store.spots();
+        self.guesses.note(spots, number);
+        name_in(&mut self.names, spots, number);
     }
 
     /// Changes a node. Takes no memory.

@@ -56,13 +56,13 @@ impl Store {
     ghost use Rattle.file_tree.specs.Places.{used, IsStored, IsThere, CanFill, CanAppend, CanTake, CanShift, IsSetIn};
     ghost use Rattle.file_tree.specs.Places.{IsChangedIn};
 
-    /// The root alone.
-    pub fn new(alloc: Global, root: Node) -> Result<Store, NoMemory>
+    /// The root alone, with room for so many places.
+    pub fn new(alloc: Global, root: Node, places: usize) -> Result<Store, NoMemory>
         requires { root.number ≡ 0 }
         ensures nodes { IfOk result (λ t. t.nodes ≡ fin.insert fin.empty [] root) }
         ensures slots { IfOk result (λ t. length t.spots ≡ 1) }
     {
-        let mut spots = Vec::new(alloc);
+        let mut spots = Vec::with_capacity(alloc, places)?;
         spots.push(Some(Spot {
             parent: 0,
             name: Text::from_string(String::new(alloc)),

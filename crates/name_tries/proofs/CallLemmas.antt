@@ -3,11 +3,13 @@ use Rattle.std.proofs.Common.{get_or, Option, ◌≡◌, ℕ, ◌<◌, List, [],
 use Rattle.std.proofs.lemmas.Option.{slice_get_within}
 use Rattle.name_tries.specs.Bits.{Name, bit_of}
 use Rattle.name_tries.specs.Tries.{Trie, leaf, inner, HasLeaf, HasFork, Shows, IsAt, nearest_in}
-use Rattle.name_tries.specs.Ways.{Step, whole_of, side, last_side, first_at, IsTowards, IsWayToLeaf}
+use Rattle.name_tries.specs.Ways.{Step, whole_of, side, last_side, first_at, IsTowards, IsWayToLast}
 use Rattle.name_tries.specs.Keys.{Keys, name_of, name_in, IsRoot, AreTries, CanPut, CanCut, CanHandOver}
 use Rattle.name_tries.specs.declared.forks.Branch.{Branch}
 use Rattle.name_tries.specs.declared.forks.Branch.TheVariants as branch
 use Rattle.name_tries.specs.declared.forks.Fork.{Fork}
+use Rattle.name_tries.specs.declared.forks.Near.{Near}
+use Rattle.name_tries.specs.declared.forks.Last.{Last}
 use Rattle.name_tries.specs.declared.forks.Side.{Side}
 use Rattle.name_tries.specs.declared.forks.Way.{Way}
 use Rattle.name_tries.specs.declared.tries.Tries.{Tries}
@@ -86,55 +88,65 @@ pub root_read : (tries : Tries) (dir : ℕ) (r : Option Branch) (root : Branch) 
 root_read tries dir r root below read some = read_at tries.roots.items dir r below read ∙ ap (λ (o : Option Branch). Some o) some
 
 -- it leads to the trie into which a number is put
-pub put_root : (tries : Tries) (keys : Keys) (dir n : ℕ) (x near : Name) (can : CanPut tries keys dir n x near) (r : Option Branch) (root : Branch)
+pub put_root : (tries : Tries) (keys : Keys) (dir n : ℕ) (x : Name) (near : Near) (other : Name) (can : CanPut tries keys dir n x near other)
+    (r : Option Branch) (root : Branch)
     → r ≡ get_or tries.roots.items dir r → r ≡ Some root → IsAt tries.forks.items root can.trie
-put_root tries keys dir n x near can r root read some = root_at tries keys can.are dir can.trie root can.shape
+put_root tries keys dir n x near other can r root read some = root_at tries keys can.are dir can.trie root can.shape
     (root_read tries dir r root (dir_within tries keys can.are dir can.trie can.shape) read some)
+
+-- and the name can be followed from there, as the call reads the forks
+pub put_way : (tries : Tries) (keys : Keys) (dir n : ℕ) (x : Name) (near : Near) (other : Name) (can : CanPut tries keys dir n x near other)
+    (r : Option Branch) (root : Branch) (forks : List Fork) → r ≡ get_or tries.roots.items dir r → r ≡ Some root → forks ≡ tries.forks.items
+    → IsAt forks root can.trie × IsTowards forks near.from x can.trie
+put_way tries keys dir n x near other can r root forks read some same = (
+  subst (λ (l : List Fork). IsAt l root can.trie) (sym same) (put_root tries keys dir n x near other can r root read some),
+  subst (λ (l : List Fork). IsTowards l near.from x can.trie) (sym same) can.from,
+)
 
 -- ---- the way to a number that is cut
 
-pub record IsCutWay (tries : Tries) (keys : Keys) (w : AreTries tries keys) (dir : ℕ) (x : Name) (above : Option Side) (way : Way) (root : ℕ)
+pub record IsCutWay (tries : Tries) (keys : Keys) (w : AreTries tries keys) (dir : ℕ) (x : Name) (last : Last) (root : ℕ)
     : Type 0 where
   pub trie : Trie
   pub shape : w.shape dir ≡ Some trie
-  pub to : IsWayToLeaf tries.forks.items trie x above way
+  pub to : IsWayToLast tries.forks.items trie x last
   pub shown : Shows tries.forks.items (branch.Inner root) trie
 
-pub cut_way : (tries : Tries) (keys : Keys) (w : AreTries tries keys) (dir : ℕ) (x : Name) (above : Option Side) (way : Way) (root : ℕ)
+pub cut_way : (tries : Tries) (keys : Keys) (w : AreTries tries keys) (dir : ℕ) (x : Name) (last : Last) (root : ℕ)
     (forks : List Fork) → forks ≡ tries.forks.items → slice_get tries.roots.items dir ≡ Some (Some (branch.Inner root))
-    → ((t : Trie) → IsAt forks (branch.Inner root) t → IsWayToLeaf forks t x above way) → IsCutWay tries keys w dir x above way root
-cut_way tries keys w dir x above way root forks same there to =
+    → ((t : Trie) → IsAt forks (branch.Inner root) t → IsWayToLast forks t x last) → IsCutWay tries keys w dir x last root
+cut_way tries keys w dir x last root forks same there to =
     let t = trie_at tries keys w dir (branch.Inner root) there in
     record {
       trie = t.0;
       shape = t.1;
-      to = subst (λ (l : List Fork). IsWayToLeaf l t.0 x above way) same
+      to = subst (λ (l : List Fork). IsWayToLast l t.0 x last) same
           (to t.0 (subst (λ (l : List Fork). IsAt l (branch.Inner root) t.0) (sym same) t.2));
       shown = t.2.1;
     }
 
 -- the same, from what is read
 pub found_way : (tries : Tries) (keys : Keys) (dir n : ℕ) (x : Name) (can : CanCut tries keys dir n x) (o : Option Branch) (root : ℕ) (forks : List Fork)
-    (above : Option Side) (way : Way) → o ≡ get_or tries.roots.items dir o → first_at o ≡ Some root → forks ≡ tries.forks.items
-    → ((t : Trie) → IsAt forks (branch.Inner root) t → IsWayToLeaf forks t x above way) → IsCutWay tries keys can.are dir x above way root
-found_way tries keys dir n x can o root forks above way read first same to =
-    cut_way tries keys can.are dir x above way root forks same
+    (last : Last) → o ≡ get_or tries.roots.items dir o → first_at o ≡ Some root → forks ≡ tries.forks.items
+    → ((t : Trie) → IsAt forks (branch.Inner root) t → IsWayToLast forks t x last) → IsCutWay tries keys can.are dir x last root
+found_way tries keys dir n x can o root forks last read first same to =
+    cut_way tries keys can.are dir x last root forks same
     (root_read tries dir o (branch.Inner root) (can.are.below n dir x can.there) read (first_is o root first)) to
 
-module _ {tries : Tries} {keys : Keys} {w : AreTries tries keys} {dir : ℕ} {x : Name} {above : Option Side} {way : Way} {root : ℕ}
-    (c : IsCutWay tries keys w dir x above way root) where
+module _ {tries : Tries} {keys : Keys} {w : AreTries tries keys} {dir : ℕ} {x : Name} {last : Last} {root : ℕ}
+    (c : IsCutWay tries keys w dir x last root) where
   -- the side that was taken last
-  pub last_is : (last : Side) → way.side ≡ Some last → last ≡ side c.to.place (bit_of x c.to.byte c.to.within)
-  last_is last is = some_same last (side c.to.place (bit_of x c.to.byte c.to.within)) (sym is ∙ ap (λ (v : Way). v.side) c.to.ends)
+  pub last_is : (s : Side) → last.side ≡ Some s → s ≡ side c.to.place (bit_of x c.to.byte c.to.within)
+  last_is s is = some_same s (side c.to.place (bit_of x c.to.byte c.to.within)) (sym is ∙ ap (λ (v : Way). v.side) c.to.ends)
 
-  pub some_last : way.side ≡ None → ⊥
-  some_last none = none_not way.side (side c.to.place (bit_of x c.to.byte c.to.within)) none (ap (λ (v : Way). v.side) c.to.ends)
+  pub some_last : last.side ≡ None → ⊥
+  some_last none = none_not last.side (side c.to.place (bit_of x c.to.byte c.to.within)) none (ap (λ (v : Way). v.side) c.to.ends)
 
   pub place_at : c.to.place < length tries.forks.items
   place_at = slice_get_within tries.forks.items c.to.place c.to.fork c.to.there
 
-  pub above_within : (s : Side) → above ≡ Some s → s.fork < length tries.forks.items
-  above_within s is = side_within tries.forks.items (branch.Inner root) above c.to.steps
+  pub above_within : (s : Side) → last.above ≡ Some s → s.fork < length tries.forks.items
+  above_within s is = side_within tries.forks.items (branch.Inner root) last.above c.to.steps
       (inner c.to.byte c.to.within c.to.place c.to.zero c.to.one)
       (subst (λ (u : Trie). Shows tries.forks.items (branch.Inner root) u) c.to.is c.shown) c.to.side s is
 

@@ -4,11 +4,11 @@ use Rattle.std.proofs.lemmas.Bool.{cases_eq}
 use Rattle.std.proofs.lemmas.List.{length-set}
 use Rattle.name_tries.specs.Bits.{Name, bit_of, level}
 use Rattle.name_tries.specs.Tries.{Trie, leaf, inner, HasLeaf, HasFork, AreOnce, IsAbove, Rises, Parts, nearest_in, Shows}
-use Rattle.name_tries.specs.Ways.{Step, whole_of, AreTaken, inner_at, branch_at, IsWayToLeaf}
+use Rattle.name_tries.specs.Ways.{Step, whole_of, AreTaken, inner_at, branch_at, IsWayToLast}
 use Rattle.name_tries.specs.Keys.{Keys, name_of, name_in, IsRoot, IsOwned, IsTrieOf, ArePaired, AreTriesIn, IsKeyed, IsLinked, IsHandedOver}
 use Rattle.name_tries.specs.declared.forks.Branch.{Branch}
 use Rattle.name_tries.specs.declared.forks.Fork.{Fork}
-use Rattle.name_tries.specs.declared.forks.Side.{Side}
+use Rattle.name_tries.specs.declared.forks.Last.{Last}
 use Rattle.name_tries.specs.declared.forks.Way.{Way}
 use Rattle.name_tries.proofs.ItemLemmas.{some_same, none_not, set_here, set_other}
 use Rattle.name_tries.proofs.TrieLemmas.{nearest_is, parts_same, shows_kept}
@@ -128,10 +128,10 @@ module _ (roots : List (Option Branch)) (forks : List Fork) (owned owners : List
 -- ---- a number beside others
 
 module _ (roots next_roots : List (Option Branch)) (forks next : List Fork) (owned next_owned owners next_owners : List ℕ)
-    (before after : Keys) (dir k : ℕ) (x : Name) (up : Option Side) (way : Way) (w : AreTriesIn roots forks owned owners before)
+    (before after : Keys) (dir k : ℕ) (x : Name) (last : Last) (w : AreTriesIn roots forks owned owners before)
     (t : Trie) (t_is : w.shape dir ≡ Some t) (there : before k ≡ Some (dir, x)) (below : dir < length roots)
-    (now : IsKeyed before after k None) (to : IsWayToLeaf forks t x up way) (ends : inner_at way.below ≡ None)
-    (linked : IsLinked roots next_roots forks next dir up (branch_at (not (bit_of x to.byte to.within)) to.fork))
+    (now : IsKeyed before after k None) (to : IsWayToLast forks t x last) (ends : inner_at last.below ≡ None)
+    (linked : IsLinked roots next_roots forks next dir last.above (branch_at (not (bit_of x to.byte to.within)) to.fork))
     (over : IsHandedOver owned next_owned owners next_owners k to.place) where
   abbrev v : Bool
   v = bit_of x to.byte to.within
@@ -179,7 +179,7 @@ module _ (roots next_roots : List (Option Branch)) (forks next : List Fork) (own
   -- on the side of the name there is nothing but the number
   side_is : side_trie v to.zero to.one ≡ leaf k
   side_is =
-      let below_is : way.below ≡ branch_at v to.fork = ap (λ (h : Way). h.below) to.ends in
+      let below_is : last.below ≡ branch_at v to.fork = ap (λ (h : Way). h.below) to.ends in
       let one = side_leaf forks (branch_at v to.fork) (side_trie v to.zero to.one) (sym (ap inner_at below_is) ∙ ends)
       (side_shown forks to.fork v to.zero to.one to.shows_zero to.shows_one) in
       let nearest : nearest_in x t ≡ k = ap (λ (y : Name). nearest_in y t) (sym name_k) ∙ nearest_is name t k old.parts k_there in
@@ -270,7 +270,7 @@ module _ (roots next_roots : List (Option Branch)) (forks next : List Fork) (own
 
   shown : Shows next (branch_at (not v) to.fork) part
   shown = shows_kept forks next part (branch_at (not v) to.fork)
-      (λ g h here was. linked_near roots next_roots forks next dir up (branch_at (not v) to.fork) linked s steps to.side once_whole g h
+      (λ g h here was. linked_near roots next_roots forks next dir last.above (branch_at (not v) to.fork) linked s steps to.side once_whole g h
       (rest_fork to.byte to.within to.place k to.zero to.one v g here) was)
       (side_shown forks to.fork (not v) to.zero to.one to.shows_zero to.shows_one)
 
@@ -282,14 +282,14 @@ module _ (roots next_roots : List (Option Branch)) (forks next : List Fork) (own
 
   cut_change : IsChanged roots next_roots forks next owned next_owned owners next_owners before after dir k w (Some (whole_of steps part))
   cut_change = record {
-    root_here = linked_root roots next_roots forks next dir up (branch_at (not v) to.fork) linked s steps to.side once_whole part shown below
+    root_here = linked_root roots next_roots forks next dir last.above (branch_at (not v) to.fork) linked s steps to.side once_whole part shown below
         (λ r is. subst (λ (o : Option Trie). IsRoot forks r o) (t_is ∙ ap (λ u. Some u) to.is) (w.rooted dir r is));
     trie_here = λ u is. subst (λ (z : Trie). IsTrieOf next_owned next_owners after dir z) (some_same (whole_of steps part) u is) trie_is;
     every_here = λ n y is. (whole_of steps part, refl, every n y is (cases_eq n k));
-    roots_other = linked_others roots next_roots forks next dir up (branch_at (not v) to.fork) linked s steps to.side;
-    roots_long = (linked_long roots next_roots forks next dir up (branch_at (not v) to.fork) linked s steps to.side).0;
+    roots_other = linked_others roots next_roots forks next dir last.above (branch_at (not v) to.fork) linked s steps to.side;
+    roots_long = (linked_long roots next_roots forks next dir last.above (branch_at (not v) to.fork) linked s steps to.side).0;
     keep = λ d g u h other u_is here was.
-        linked_far roots next_roots forks next dir up (branch_at (not v) to.fork) linked s steps to.side g h
+        linked_far roots next_roots forks next dir last.above (branch_at (not v) to.fork) linked s steps to.side g h
         (λ inside. other (forks_apart roots forks owned owners before w d dir g u t u_is t_is here
         (subst (λ (z : Trie). HasFork g z) (sym to.is) inside))) was;
     own = owned_there;
@@ -301,7 +301,7 @@ module _ (roots next_roots : List (Option Branch)) (forks next : List Fork) (own
     bytes_here = λ d y is. absurd (none_not (after k) (d, y) now.here is);
     owned_long = ap length over.owned_is ∙ length-set (set owned over.owner over.spare) k to.place ∙ length-set owned over.owner over.spare;
     paired = subst (λ (i : ℕ). ArePaired next_owned next_owners i)
-        (sym (linked_long roots next_roots forks next dir up (branch_at (not v) to.fork) linked s steps to.side).1)
+        (sym (linked_long roots next_roots forks next dir last.above (branch_at (not v) to.fork) linked s steps to.side).1)
         (still_paired owned next_owned owners next_owners (length forks) k to.place w.paired over owns);
   }
 

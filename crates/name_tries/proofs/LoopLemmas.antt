@@ -1,12 +1,12 @@
 -- Loops that go along a trie, fork by fork.
-use Rattle.std.proofs.Common.{Option, ◌≡◌, ℕ, ◌+◌, ◌-◌, ◌^◌, ◌<◌, ◌≤◌, Bool, true, false, List, [], ◌∷◌, ◌++◌, Some, None, slice_get, sym, ap, ap₂, ◌∙◌, refl, subst, arith}
+use Rattle.std.proofs.Common.{◌≡◌, ℕ, ◌+◌, ◌-◌, ◌^◌, ◌<◌, ◌≤◌, Bool, true, false, List, [], ◌∷◌, ◌++◌, Some, None, slice_get, sym, ap, ap₂, ◌∙◌, refl, subst, arith}
 use Rattle.name_tries.specs.Bits.{Name, bit_of, level}
 use Rattle.name_tries.specs.Tries.{Trie, leaf, inner, IsAbove, Shows, IsAt, nearest_in}
-use Rattle.name_tries.specs.Ways.{Step, on_zero, on_one, whole_of, side, side_of, last_side, IsTaken, AreTaken, IsFrom, inner_at, branch_at, past, most, left_at, left_of, left, IsWay, IsTowards, IsWayToLeaf}
+use Rattle.name_tries.specs.Ways.{Step, on_zero, on_one, whole_of, side, side_of, last_side, IsTaken, AreTaken, IsFrom, inner_at, branch_at, past, most, left_at, left_of, left, IsWay, IsTowards, way_of, IsWayToLast}
 use Rattle.name_tries.specs.declared.forks.Branch.{Branch}
 use Rattle.name_tries.specs.declared.forks.Branch.TheVariants as branch
 use Rattle.name_tries.specs.declared.forks.Fork.{Fork}
-use Rattle.name_tries.specs.declared.forks.Side.{Side}
+use Rattle.name_tries.specs.declared.forks.Last.{Last}
 use Rattle.name_tries.specs.declared.forks.Way.{Way}
 use Rattle.name_tries.proofs.ItemLemmas.{some_same, none_not}
 use Rattle.name_tries.proofs.WayLemmas.{whole_more, side_more, taken_far, taken_more, nearest_part}
@@ -97,21 +97,48 @@ left_less forks at next f k (inner b w g l r) goes there lt above shown =
     let rise : level shown.1.byte shown.1.within ≡ level b w = ap₂ level shown.3 shown.4 in
     omega (arith, now, was, lt, rise, above)
 
+-- a fork that isn't before a level stands at the front of what begins behind it
+pub from_level : (forks : List Fork) (part : Trie) (at : Branch) (f : ℕ) (k : Fork) (p : ℕ) → IsAt forks at part → inner_at at ≡ Some f
+    → slice_get forks f ≡ Some k → IsFrom p part → p ≤ level k.byte k.within
+from_level forks (leaf m) at f k p is goes there le = absurd (none_not (inner_at at) f (ap inner_at is.1) goes)
+from_level forks (inner b w g l r) at f k p is goes there le =
+    let e : g ≡ f = some_same g f (sym (ap inner_at is.1.0) ∙ goes) in
+    let same : is.1.1 ≡ k = some_same is.1.1 k (sym is.1.2 ∙ ap (slice_get forks) e ∙ there) in
+    let rise : level k.byte k.within ≡ level b w = sym (ap (λ (h : Fork). level h.byte h.within) same) ∙ ap₂ level is.1.3 is.1.4 in
+    omega (arith, rise, le)
+
 -- ---- to the nearest one
 
 pub way_begins : (forks : List Fork) (root : Branch) (x : Name) (t : Trie) → IsAt forks root t → IsTowards forks root x t
-way_begins forks root x t is = record { part = t; is = is; same = refl }
+way_begins forks root x t is = record { p = 0; steps = []; part = t; whole = refl; taken = tt; from = at_front t; is = is }
+  where
+    at_front : (u : Trie) → IsFrom 0 u
+    at_front (leaf m) = tt
+    at_front (inner b w g l r) = omega arith
 
 pub way_goes_on : (forks : List Fork) (at next : Branch) (x : Name) (t : Trie) (f : ℕ) (k : Fork) → IsTowards forks at x t → inner_at at ≡ Some f
     → slice_get forks f ≡ Some k → next ≡ branch_at (bit_of x k.byte k.within) k → IsTowards forks next x t
 way_goes_on forks at next x t f k on goes there is =
-    let p = passed forks x on.part at f k on.is goes there in
+    let q = passed forks x on.part at f k on.is goes there in
+    let le = from_level forks on.part at f k on.p on.is goes there on.from in
+    let p = level k.byte k.within + 1 in
     record {
-      part = p.next;
-      is = subst (λ (b : Branch). IsAt forks b p.next) (sym is) p.at;
-      same = sym (nearest_part x (level k.byte k.within + 1) (p.step ∷ []) p.next (p.taken (level k.byte k.within + 1) (omega arith), tt))
-          ∙ ap (nearest_in x) (sym p.is) ∙ on.same;
+      p = p;
+      steps = on.steps ++ q.step ∷ [];
+      part = q.next;
+      whole = on.whole ∙ ap (whole_of on.steps) q.is ∙ sym (whole_more on.steps (q.step ∷ []) q.next);
+      taken = taken_more x p on.steps q.step (taken_far x on.p p on.steps (omega (arith, le)) on.taken) (q.taken p (omega arith));
+      from = behind (level k.byte k.within) q.next q.above;
+      is = subst (λ (b : Branch). IsAt forks b q.next) (sym is) q.at;
     }
+  where
+    behind : (p : ℕ) (u : Trie) → IsAbove p u → IsFrom (p + 1) u
+    behind p (leaf m) above = tt
+    behind p (inner b w g l r) above = omega (arith, above)
+
+-- the name leads to the same number from there
+pub same_nearest : (forks : List Fork) (at : Branch) (x : Name) (t : Trie) (on : IsTowards forks at x t) → nearest_in x on.part ≡ nearest_in x t
+same_nearest forks at x t on = sym (nearest_part x on.p on.steps on.part on.taken) ∙ sym (ap (nearest_in x) on.whole)
 
 -- past one fork the name leads to the same number, and fewer levels are left
 pub on_past : (forks : List Fork) (at : Branch) (next : Way) (x : Name) (t : Trie) (f : ℕ) → IsTowards forks at x t → inner_at at ≡ Some f
@@ -127,13 +154,8 @@ on_past forks at next x t f on goes is range =
           p.above (subst (λ (b : Branch). Shows forks b p.next) (sym below) p.at.1),
     )
 
--- what leads to where a name leads from a part on, leads to where it leads from the whole on
-pub towards_on : (forks : List Fork) (at next : Branch) (x : Name) (t : Trie) (on : IsTowards forks at x t) → IsTowards forks next x on.part
-    → IsTowards forks next x t
-towards_on forks at next x t on more = record { part = more.part; is = more.is; same = more.same ∙ on.same }
-
 pub way_ends : (forks : List Fork) (at : Branch) (x : Name) (t : Trie) (n : ℕ) → IsTowards forks at x t → at ≡ branch.Leaf n → n ≡ nearest_in x t
-way_ends forks at x t n on is = ends on.part on.is.1 ∙ on.same
+way_ends forks at x t n on is = ends on.part on.is.1 ∙ same_nearest forks at x t on
   where
     ends : (part : Trie) → Shows forks at part → n ≡ nearest_in x part
     ends (leaf m) shown = some_leaf (sym is ∙ shown)
@@ -163,11 +185,28 @@ up_goes_on forks way next x p t f k w goes there lt is =
       shown = subst (λ (b : Branch). Shows forks b q.next) (sym (ap (λ (v : Way). v.below) is)) q.at.1;
     }
 
+-- the way past a fork on it
+pub up_from : (forks : List Fork) (at : Branch) (next : Way) (x : Name) (p : ℕ) (t : Trie) (f : ℕ) (k : Fork) → IsTowards forks at x t
+    → inner_at at ≡ Some f → slice_get forks f ≡ Some k → level k.byte k.within < p → next ≡ past f (bit_of x k.byte k.within) k
+    → IsWay forks t x p next
+up_from forks at next x p t f k on goes there lt is =
+    let q = passed forks x on.part at f k on.is goes there in
+    let le = from_level forks on.part at f k on.p on.is goes there on.from in
+    record {
+      steps = on.steps ++ q.step ∷ [];
+      part = q.next;
+      is = on.whole ∙ ap (whole_of on.steps) q.is ∙ sym (whole_more on.steps (q.step ∷ []) q.next);
+      taken = taken_more x p on.steps q.step (taken_far x on.p p on.steps (omega (arith, le, lt)) on.taken) (q.taken p lt);
+      side = ap (λ (v : Way). v.side) is ∙ sym q.side ∙ sym (side_more None on.steps q.step);
+      rises = q.at.0;
+      shown = subst (λ (b : Branch). Shows forks b q.next) (sym (ap (λ (v : Way). v.below) is)) q.at.1;
+    }
+
 -- ---- to the last fork
 
 -- the way past the first fork
 pub down_begins : (forks : List Fork) (root : ℕ) (x : Name) (t : Trie) (k : Fork) (way : Way) → IsAt forks (branch.Inner root) t
-    → slice_get forks root ≡ Some k → way ≡ past root (bit_of x k.byte k.within) k → IsWayToLeaf forks t x None way
+    → slice_get forks root ≡ Some k → way ≡ past root (bit_of x k.byte k.within) k → IsWayToLast forks t x (record { above = None; side = way.side; below = way.below })
 down_begins forks root x (leaf m) k way is there past_is = let wrong : branch.Inner root ≡ branch.Leaf m = is.1 in cc
 down_begins forks root x (inner b w g l r) k way is there past_is =
     let e : root ≡ g = same_inner is.1.0 in
@@ -206,13 +245,13 @@ pub record IsSideOf (forks : List Fork) (t : Trie) (x : Name) (w : ℕ) (way : W
   pub at : IsAt forks way.below next
   pub above : IsAbove w next
 
-pub side_taken : (forks : List Fork) (t : Trie) (x : Name) (above : Option Side) (way : Way) (w : IsWayToLeaf forks t x above way)
-    → IsSideOf forks t x (level w.byte w.within) way
-side_taken forks t x above way w = at (bit_of x w.byte w.within) refl
+pub side_taken : (forks : List Fork) (t : Trie) (x : Name) (last : Last) (w : IsWayToLast forks t x last)
+    → IsSideOf forks t x (level w.byte w.within) (way_of last)
+side_taken forks t x last w = at (bit_of x w.byte w.within) refl
   where
-    at : (v : Bool) → bit_of x w.byte w.within ≡ v → IsSideOf forks t x (level w.byte w.within) way
+    at : (v : Bool) → bit_of x w.byte w.within ≡ v → IsSideOf forks t x (level w.byte w.within) (way_of last)
     at true bit =
-        let ends : way ≡ past w.place true w.fork = w.ends ∙ ap (λ v. past w.place v w.fork) bit in
+        let ends : way_of last ≡ past w.place true w.fork = w.ends ∙ ap (λ v. past w.place v w.fork) bit in
         record {
           steps = w.steps ++ on_one w.byte w.within w.place w.zero ∷ [];
           next = w.one;
@@ -224,7 +263,7 @@ side_taken forks t x above way w = at (bit_of x w.byte w.within) refl
           above = w.rises.2;
         }
     at false bit =
-        let ends : way ≡ past w.place false w.fork = w.ends ∙ ap (λ v. past w.place v w.fork) bit in
+        let ends : way_of last ≡ past w.place false w.fork = w.ends ∙ ap (λ v. past w.place v w.fork) bit in
         record {
           steps = w.steps ++ on_zero w.byte w.within w.place w.one ∷ [];
           next = w.zero;
@@ -237,16 +276,17 @@ side_taken forks t x above way w = at (bit_of x w.byte w.within) refl
         }
 
 -- the way past one fork more
-pub down_goes_on : (forks : List Fork) (t : Trie) (x : Name) (above : Option Side) (way next : Way) (f : ℕ) (k : Fork)
-    → IsWayToLeaf forks t x above way → inner_at way.below ≡ Some f → slice_get forks f ≡ Some k
-    → next ≡ past f (bit_of x k.byte k.within) k → IsWayToLeaf forks t x way.side next
-down_goes_on forks t x above way next f k w goes there past_is = on s.next s.is s.at s.above
+pub down_goes_on : (forks : List Fork) (t : Trie) (x : Name) (last : Last) (next : Way) (f : ℕ) (k : Fork)
+    → IsWayToLast forks t x last → inner_at last.below ≡ Some f → slice_get forks f ≡ Some k
+    → next ≡ past f (bit_of x k.byte k.within) k → IsWayToLast forks t x (record { above = last.side; side = next.side; below = next.below })
+down_goes_on forks t x last next f k w goes there past_is = on s.next s.is s.at s.above
   where
-    s : IsSideOf forks t x (level w.byte w.within) way
-    s = side_taken forks t x above way w
+    s : IsSideOf forks t x (level w.byte w.within) (way_of last)
+    s = side_taken forks t x last w
 
-    on : (u : Trie) → t ≡ whole_of s.steps u → IsAt forks way.below u → IsAbove (level w.byte w.within) u → IsWayToLeaf forks t x way.side next
-    on (leaf m) is at rise = absurd (none_not (inner_at way.below) f (ap inner_at at.1) goes)
+    on : (u : Trie) → t ≡ whole_of s.steps u → IsAt forks last.below u → IsAbove (level w.byte w.within) u
+        → IsWayToLast forks t x (record { above = last.side; side = next.side; below = next.below })
+    on (leaf m) is at rise = absurd (none_not (inner_at last.below) f (ap inner_at at.1) goes)
     on (inner b v g l r) is at rise =
         let e : f ≡ g = some_same f g (sym goes ∙ ap inner_at at.1.0) in
         let same : k ≡ at.1.1 = some_same k at.1.1 (sym there ∙ ap (slice_get forks) e ∙ at.1.2) in
@@ -270,3 +310,18 @@ down_goes_on forks t x above way next f k w goes there past_is = on s.next s.is 
           ends = past_is ∙ ap₂ (λ (i : ℕ) (h : Fork). past i (bit_of x h.byte h.within) h) e same
               ∙ ap₂ (λ (c u : ℕ). past g (bit_of x c u) at.1.1) at.1.3 at.1.4;
         }
+
+-- past one fork more, with fewer levels left
+pub down_past : (forks : List Fork) (t : Trie) (x : Name) (last : Last) (next : Way) (f : ℕ) → IsWayToLast forks t x last
+    → inner_at last.below ≡ Some f
+    → ((k : Fork) → slice_get forks f ≡ Some k → next ≡ past f (bit_of x k.byte k.within) k)
+    → ((k : Fork) → slice_get forks f ≡ Some k → k.byte < 2 ^ 64)
+    → IsWayToLast forks t x (record { above = last.side; side = next.side; below = next.below }) × (left forks next.below < left forks last.below)
+down_past forks t x last next f w goes is range =
+    let s = side_taken forks t x last w in
+    let k = fork_there forks x s.next last.below f s.at goes in
+    let p = passed forks x s.next last.below f k.0 s.at goes k.1 in (
+      down_goes_on forks t x last next f k.0 w goes k.1 (is k.0 k.1),
+      left_less forks last.below next.below f k.0 p.next goes k.1 (omega (arith, range k.0 k.1, k.2)) p.above
+          (subst (λ (b : Branch). Shows forks b p.next) (sym (ap (λ (v : Way). v.below) (is k.0 k.1))) p.at.1),
+    )

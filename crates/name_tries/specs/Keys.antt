@@ -2,9 +2,10 @@
 use Rattle.std.specs.Prelude.{◌≡◌, ℕ, Bool, ◌<◌, ◌≤◌, List, [], length, Option, Some, None, slice_get, set}
 use Rattle.name_tries.specs.Bits.{Name, AreBytes}
 use Rattle.name_tries.specs.Tries.{Trie, HasLeaf, HasFork, AreOnce, Rises, Parts, Shows, nearest_in}
-use Rattle.name_tries.specs.Ways.{with_branch}
+use Rattle.name_tries.specs.Ways.{with_branch, IsTowards}
 use Rattle.name_tries.specs.declared.forks.Branch.{Branch}
 use Rattle.name_tries.specs.declared.forks.Fork.{Fork}
+use Rattle.name_tries.specs.declared.forks.Near.{Near}
 use Rattle.name_tries.specs.declared.forks.Side.{Side}
 use Rattle.name_tries.specs.declared.tries.Tries.{Tries}
 
@@ -60,6 +61,9 @@ pub record AreTriesIn (roots : List (Option Branch)) (forks : List Fork) (owned 
 abbrev pub AreTries : Tries → Keys → Type 0
 AreTries tries keys = AreTriesIn tries.roots.items tries.forks.items tries.owned.items tries.owners.items keys
 
+abbrev pub number_in : Near → ℕ
+number_in near = near.number
+
 -- ---- what calls need, and what they leave
 
 -- one number has this key now, or none, and all others what they had
@@ -76,12 +80,13 @@ pub record CanPutFirst (tries : Tries) (keys : Keys) (dir n : ℕ) : Type 0 wher
   pub below : dir < length tries.roots.items
 
 -- another name is the nearest one in the directory, and the number has no name
-pub record CanPut (tries : Tries) (keys : Keys) (dir n : ℕ) (name near : Name) : Type 0 where
+pub record CanPut (tries : Tries) (keys : Keys) (dir n : ℕ) (name : Name) (near : Near) (other : Name) : Type 0 where
   pub are : AreTries tries keys
   pub trie : Trie
   pub shape : are.shape dir ≡ Some trie
-  pub nearest : name_in keys (nearest_in name trie) ≡ near
-  pub apart : name ≡ near → ⊥
+  pub nearest : name_in keys (nearest_in name trie) ≡ other
+  pub from : IsTowards tries.forks.items near.from name trie
+  pub apart : name ≡ other → ⊥
   pub free : keys n ≡ None
   pub within : n < length tries.owned.items
 

@@ -2,11 +2,13 @@
 use Rattle.std.specs.Prelude.{◌≡◌, ⊤, ℕ, ◌-◌, ◌*◌, ◌^◌, ◌<◌, ◌≤◌, Bool, true, false, if◌then◌else◌, List, [], ◌∷◌, Option, Some, None}
 use Rattle.std.specs.Prelude.{slice_get}
 use Rattle.name_tries.specs.Bits.{Name, bit_of, level}
-use Rattle.name_tries.specs.Tries.{Trie, leaf, inner, Rises, Shows, IsAt, nearest_in}
+use Rattle.name_tries.specs.Tries.{Trie, leaf, inner, Rises, Shows, IsAt}
 use Rattle.name_tries.specs.declared.forks.Branch.{Branch}
 use Rattle.name_tries.specs.declared.forks.Branch.TheVariants as branch
 use Rattle.name_tries.specs.declared.forks.Fork.{Fork}
+use Rattle.name_tries.specs.declared.forks.Last.{Last}
 use Rattle.name_tries.specs.declared.forks.Side.{Side}
+use Rattle.name_tries.specs.declared.forks.Trail.{Trail}
 use Rattle.name_tries.specs.declared.forks.Way.{Way}
 
 -- a fork of which one side was taken, with what hangs on the other
@@ -87,11 +89,23 @@ with_branch one at k = if one then record k { one = at } else record k { zero = 
 abbrev pub past : ℕ → Bool → Fork → Way
 past f one k = record { side = Some (side f one); below = branch_at one k }
 
--- a part of a trie to which the bits of a name lead
+-- a part of a trie to which the bits of a name lead, past all forks below a level
 pub record IsTowards (forks : List Fork) (at : Branch) (x : Name) (t : Trie) : Type 0 where
+  pub p : ℕ
+  pub steps : List Step
   pub part : Trie
+  pub whole : t ≡ whole_of steps part
+  pub taken : AreTaken x p steps
+  pub from : IsFrom p part
   pub is : IsAt forks at part
-  pub same : nearest_in x part ≡ nearest_in x t
+
+-- all branches of a trail lead to such parts
+pub record AreTowards (forks : List Fork) (trail : Trail) (x : Name) (t : Trie) : Type 0 where
+  pub at : IsTowards forks trail.at x t
+  pub last : IsTowards forks trail.last x t
+  pub second : IsTowards forks trail.second x t
+  pub third : IsTowards forks trail.third x t
+  pub fourth : IsTowards forks trail.fourth x t
 
 -- the way of a name through the forks below a level
 pub record IsWay (forks : List Fork) (t : Trie) (x : Name) (p : ℕ) (way : Way) : Type 0 where
@@ -108,8 +122,11 @@ pub record IsWayUpTo (forks : List Fork) (t : Trie) (x : Name) (p : ℕ) (way : 
   pub to : IsWay forks t x p way
   pub ends : IsFrom p to.part
 
--- the way of a name to the fork of which one side is a number
-pub record IsWayToLeaf (forks : List Fork) (t : Trie) (x : Name) (above : Option Side) (last : Way) : Type 0 where
+abbrev pub way_of : Last → Way
+way_of last = record { side = last.side; below = last.below }
+
+-- the way of a name to a fork, and past it
+pub record IsWayToLast (forks : List Fork) (t : Trie) (x : Name) (last : Last) : Type 0 where
   pub steps : List Step
   pub byte : ℕ
   pub within : ℕ
@@ -118,7 +135,7 @@ pub record IsWayToLeaf (forks : List Fork) (t : Trie) (x : Name) (above : Option
   pub one : Trie
   pub is : t ≡ whole_of steps (inner byte within place zero one)
   pub taken : AreTaken x (level byte within) steps
-  pub side : above ≡ last_side None steps
+  pub side : last.above ≡ last_side None steps
   pub rises : Rises (inner byte within place zero one)
   pub fork : Fork
   pub there : slice_get forks place ≡ Some fork
@@ -126,4 +143,4 @@ pub record IsWayToLeaf (forks : List Fork) (t : Trie) (x : Name) (above : Option
   pub within_is : fork.within ≡ within
   pub shows_zero : Shows forks fork.zero zero
   pub shows_one : Shows forks fork.one one
-  pub ends : last ≡ past place (bit_of x byte within) fork
+  pub ends : way_of last ≡ past place (bit_of x byte within) fork

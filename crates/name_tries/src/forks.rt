@@ -1,12 +1,12 @@
-ghost use Rattle.std.specs.Prelude.{◌≡◌, ℕ, ◌^◌, ◌<◌, ◌≤◌, nat_lt, [], ◌∷◌, ◌++◌, length, Some, None, IfSome, IfNone};
-ghost use Rattle.std.specs.Prelude.{IfOk, OnOk, slice_get};
+ghost use Rattle.std.specs.Prelude.{◌≡◌, ℕ, ◌^◌, ◌<◌, ◌≤◌, nat_lt, List, [], ◌∷◌, ◌++◌, length, Some, None};
+ghost use Rattle.std.specs.Prelude.{IfSome, IfNone, IfOk, OnOk, slice_get};
 ghost use Rattle.name_tries.specs.declared.forks.Branch.TheVariants as branch;
 ghost use Rattle.name_tries.specs.declared.forks.Fork.{Fork as TheFork};
-ghost use Rattle.name_tries.specs.Bits.{bit_of, level};
+ghost use Rattle.name_tries.specs.Bits.{Name, bit_of, level};
 ghost use Rattle.name_tries.specs.Tries.{Trie, AreOnce, Shows, IsAt, nearest_in};
 ghost use Rattle.name_tries.specs.Listing.{numbers_in};
-ghost use Rattle.name_tries.specs.Ways.{IsFrom, IsTowards, branch_at, past, inner_at, first_at, parted_fork, left};
-ghost use Rattle.name_tries.specs.Ways.{IsWayUpTo, IsWayToLeaf};
+ghost use Rattle.name_tries.specs.Ways.{IsFrom, IsTowards, AreTowards, branch_at, past, inner_at, first_at};
+ghost use Rattle.name_tries.specs.Ways.{parted_fork, left, IsWay, IsWayUpTo, IsWayToLast};
 ghost use Rattle.name_tries.specs.Keys.{IsSet};
 
 use crate::bits::{Bit, is_one};
@@ -172,75 +172,136 @@ fn pass(forks: &[Fork], place: u32, name: &[u8]) -> Way
     }
 }
 
+/// How far a name was followed: what hangs there, whether the side of a 1 was taken last, and the branches to the last
+/// forks on the way. Where there were fewer forks, these lead to the first one.
+#[derive(Clone, Copy)]
+pub struct Trail {
+    pub at: Link,
+    pub one: bool,
+    pub last: Link,
+    pub second: Link,
+    pub third: Link,
+    pub fourth: Link,
+}
+
+/// The number to which the bits of a name lead, and a branch on the way there, mostly that to its fourth last fork.
+#[derive(Clone, Copy)]
+pub struct Near {
+    pub number: u32,
+    pub from: Link,
+}
+
+/// No fork was gone past.
+fn trail_from(root: Link) -> Trail
+    ensures { (forks : List TheFork) (name : Name) (t : Trie) → IsAt forks root t → AreTowards forks result name t }
+{
+    Trail {
+        at: root,
+        one: false,
+        last: root,
+        second: root,
+        third: root,
+        fourth: root,
+    }
+}
+
+/// Goes past one fork more.
+fn trail_past(forks: &[Fork], trail: Trail, place: u32, name: &[u8]) -> Trail
+    requires on { (t : Trie) × AreTowards forks.now trail name.now t }
+    requires place { inner_at trail.at ≡ Some place }
+    ensures towards { (t : Trie) → AreTowards forks.now trail name.now t → AreTowards forks.now result name.now t }
+    ensures less { left forks.now result.at < left forks.now trail.at }
+{
+    let way = pass(forks, place, name);
+    Trail {
+        at: way.below,
+        one: took_one(way.side),
+        last: trail.at,
+        second: trail.last,
+        third: trail.second,
+        fourth: trail.third,
+    }
+}
+
 /// Whether a way took the side of a 1 last.
-fn took_one(way: Way) -> bool {
-    match way.side {
+fn took_one(side: Option<Side>) -> bool {
+    match side {
         Some(side) => side.one,
         None => false,
     }
 }
 
 /// Goes past all forks at which a name has a 1, and past the first one at which it has a 0.
-fn past_ones(forks: &[Fork], root: Link, name: &[u8]) -> Link
-    requires { (t : Trie) × IsAt forks.now root t }
-    ensures towards { (t : Trie) → IsAt forks.now root t → IsTowards forks.now result name.now t }
-    ensures less { left forks.now result ≤ left forks.now root }
+fn past_ones(forks: &[Fork], from: Trail, name: &[u8]) -> Trail
+    requires { (t : Trie) × AreTowards forks.now from name.now t }
+    ensures towards { (t : Trie) → AreTowards forks.now from name.now t → AreTowards forks.now result name.now t }
+    ensures less { left forks.now result.at ≤ left forks.now from.at }
 {
-    let mut at = root;
-    while let Some(place) = inner(at) {
-        let way = pass(forks, place, name);
-        at = way.below;
-        if !took_one(way) {
-            return at;
+    let mut trail = from;
+    while let Some(place) = inner(trail.at) {
+        trail = trail_past(forks, trail, place, name);
+        if !trail.one {
+            return trail;
         }
     }
-    at
+    trail
 }
 
-/// The number to which the bits of a name lead.
-fn nearest_by_chance(forks: &[Fork], root: Link, name: &[u8]) -> u32
+/// Follows a name to a number.
+fn follow_by_chance(forks: &[Fork], root: Link, name: &[u8]) -> Trail
     requires { (t : Trie) × IsAt forks.now root t }
-    ensures { (t : Trie) → IsAt forks.now root t → result ≡ nearest_in name.now t }
+    ensures towards { (t : Trie) → IsAt forks.now root t → AreTowards forks.now result name.now t }
+    ensures ends { inner_at result.at ≡ None }
 {
-    let mut at = root;
-    while let Some(place) = inner(at) {
-        at = pass(forks, place, name).below;
+    let mut trail = trail_from(root);
+    while let Some(place) = inner(trail.at) {
+        trail = trail_past(forks, trail, place, name);
     }
-    match at.target() {
-        Branch::Leaf(number) => number,
-        Branch::Inner(_) => unreachable!(),
-    }
+    trail
 }
 
 /// The same. A 1 and a 0 are gone past at different places of the code, so that the processor foretells the way of a
 /// name that comes after one like it. Where names come by chance, that costs more than it gains.
-fn nearest_in_turn(forks: &[Fork], root: Link, name: &[u8]) -> u32
+fn follow_in_turn(forks: &[Fork], root: Link, name: &[u8]) -> Trail
     requires { (t : Trie) × IsAt forks.now root t }
-    ensures { (t : Trie) → IsAt forks.now root t → result ≡ nearest_in name.now t }
+    ensures towards { (t : Trie) → IsAt forks.now root t → AreTowards forks.now result name.now t }
+    ensures ends { inner_at result.at ≡ None }
 {
-    let mut at = root;
-    while let Some(place) = inner(at) {
-        let way = pass(forks, place, name);
-        at = way.below;
-        if took_one(way) {
-            at = past_ones(forks, at, name);
+    let mut trail = trail_from(root);
+    while let Some(place) = inner(trail.at) {
+        trail = trail_past(forks, trail, place, name);
+        if trail.one {
+            trail = past_ones(forks, trail, name);
         }
     }
-    match at.target() {
-        Branch::Leaf(number) => number,
-        Branch::Inner(_) => unreachable!(),
-    }
+    trail
 }
 
-/// The number to which the bits of a name lead, whether names come in turn or by chance.
-pub fn nearest(forks: &[Fork], root: Link, name: &[u8], in_turn: bool) -> u32
+/// The same, whether names come in turn or by chance.
+fn follow(forks: &[Fork], root: Link, name: &[u8], in_turn: bool) -> Trail
     requires { (t : Trie) × IsAt forks.now root t }
-    ensures { (t : Trie) → IsAt forks.now root t → result ≡ nearest_in name.now t }
+    ensures towards { (t : Trie) → IsAt forks.now root t → AreTowards forks.now result name.now t }
+    ensures ends { inner_at result.at ≡ None }
 {
     if in_turn {
-        nearest_in_turn(forks, root, name)
-    } else {
-        nearest_by_chance(forks, root, name)
+        return follow_in_turn(forks, root, name);
+    }
+    follow_by_chance(forks, root, name)
+}
+
+/// The number to which the bits of a name lead.
+pub fn nearest(forks: &[Fork], root: Link, name: &[u8], in_turn: bool) -> Near
+    requires { (t : Trie) × IsAt forks.now root t }
+    ensures number { (t : Trie) → IsAt forks.now root t → result.number ≡ nearest_in name.now t }
+    ensures from { (t : Trie) → IsAt forks.now root t → IsTowards forks.now result.from name.now t }
+{
+    let trail = follow(forks, root, name, in_turn);
+    match trail.at.target() {
+        Branch::Leaf(number) => Near {
+            number,
+            from: trail.fourth,
+        },
+        Branch::Inner(_) => unreachable!(),
     }
 }
 
@@ -284,37 +345,129 @@ fn fork_before(forks: &[Fork], at: Link, bit: Bit) -> Option<u32>
     None
 }
 
-/// The way of a name up to the first fork that isn't of a bit before this one.
-pub fn way_to(forks: &[Fork], root: Link, name: &[u8], bit: Bit) -> Way
-    requires there { (t : Trie) × IsAt forks.now root t }
+/// The way of a name past the fork at a branch on it, if that is of a bit before this one, and else no way yet.
+fn way_from(forks: &[Fork], root: Link, from: Link, name: &[u8], bit: Bit) -> Way
+    requires there { (t : Trie) × IsAt forks.now root t × IsTowards forks.now from name.now t }
     requires within { bit.within < 9 }
-    ensures { (t : Trie) → IsAt forks.now root t
+    ensures { (t : Trie) → IsAt forks.now root t → IsTowards forks.now from name.now t
+        → IsWay forks.now t name.now (level bit.byte bit.within) result }
+{
+    match fork_before(forks, from, bit) {
+        Some(place) => pass(forks, place, name),
+        None => Way {
+            side: None,
+            below: root,
+        },
+    }
+}
+
+/// The way of a name up to the first fork that isn't of a bit before this one. It is begun at a branch on it, or where
+/// that lies too far on, at the root.
+pub fn way_to(forks: &[Fork], root: Link, from: Link, name: &[u8], bit: Bit) -> Way
+    requires there { (t : Trie) × IsAt forks.now root t × IsTowards forks.now from name.now t }
+    requires within { bit.within < 9 }
+    ensures { (t : Trie) → IsAt forks.now root t → IsTowards forks.now from name.now t
         → IsWayUpTo forks.now t name.now (level bit.byte bit.within) result }
 {
-    let mut way = Way {
-        side: None,
-        below: root,
-    };
+    let mut way = way_from(forks, root, from, name, bit);
     while let Some(place) = fork_before(forks, way.below, bit) {
         way = pass(forks, place, name);
     }
     way
 }
 
-/// The side that leads to the last fork on the way of a name, and the way past that fork, which ends at a number.
-pub fn way_to_leaf(forks: &[Fork], root: u32, name: &[u8]) -> (Option<Side>, Way)
+/// The side that leads to the last fork on a way, that fork's own side, and what hangs there.
+#[derive(Clone, Copy)]
+pub struct Last {
+    pub above: Option<Side>,
+    pub side: Option<Side>,
+    pub below: Link,
+}
+
+/// The first fork is the last one so far.
+fn last_from(forks: &[Fork], root: u32, name: &[u8]) -> Last
     requires { (t : Trie) × IsAt forks.now (branch.Inner root) t }
-    ensures way { (t : Trie) → IsAt forks.now (branch.Inner root) t
-        → IsWayToLeaf forks.now t name.now result.0 result.1 }
-    ensures leaf { inner_at result.1.below ≡ None }
+    ensures { (t : Trie) → IsAt forks.now (branch.Inner root) t → IsWayToLast forks.now t name.now result }
 {
-    let mut above = None;
-    let mut way = pass(forks, root, name);
-    while let Some(place) = inner(way.below) {
-        above = way.side;
-        way = pass(forks, place, name);
+    let way = pass(forks, root, name);
+    Last {
+        above: None,
+        side: way.side,
+        below: way.below,
     }
-    (above, way)
+}
+
+/// Goes past one fork more.
+fn last_past(forks: &[Fork], last: Last, place: u32, name: &[u8]) -> Last
+    requires on { (t : Trie) × IsWayToLast forks.now t name.now last }
+    requires place { inner_at last.below ≡ Some place }
+    ensures on { (t : Trie) → IsWayToLast forks.now t name.now last → IsWayToLast forks.now t name.now result }
+    ensures less { left forks.now result.below < left forks.now last.below }
+{
+    let way = pass(forks, place, name);
+    Last {
+        above: last.side,
+        side: way.side,
+        below: way.below,
+    }
+}
+
+/// Goes past all forks at which a name has a 1, and past the first one at which it has a 0.
+fn last_ones(forks: &[Fork], from: Last, name: &[u8]) -> Last
+    requires { (t : Trie) × IsWayToLast forks.now t name.now from }
+    ensures on { (t : Trie) → IsWayToLast forks.now t name.now from → IsWayToLast forks.now t name.now result }
+    ensures less { left forks.now result.below ≤ left forks.now from.below }
+{
+    let mut last = from;
+    while let Some(place) = inner(last.below) {
+        last = last_past(forks, last, place, name);
+        if !took_one(last.side) {
+            return last;
+        }
+    }
+    last
+}
+
+/// Goes on to a number.
+fn last_by_chance(forks: &[Fork], from: Last, name: &[u8]) -> Last
+    requires { (t : Trie) × IsWayToLast forks.now t name.now from }
+    ensures on { (t : Trie) → IsWayToLast forks.now t name.now from → IsWayToLast forks.now t name.now result }
+    ensures leaf { inner_at result.below ≡ None }
+{
+    let mut last = from;
+    while let Some(place) = inner(last.below) {
+        last = last_past(forks, last, place, name);
+    }
+    last
+}
+
+/// The same, where names come in turn.
+fn last_in_turn(forks: &[Fork], from: Last, name: &[u8]) -> Last
+    requires { (t : Trie) × IsWayToLast forks.now t name.now from }
+    ensures on { (t : Trie) → IsWayToLast forks.now t name.now from → IsWayToLast forks.now t name.now result }
+    ensures leaf { inner_at result.below ≡ None }
+{
+    let mut last = from;
+    while let Some(place) = inner(last.below) {
+        last = last_past(forks, last, place, name);
+        if took_one(last.side) {
+            last = last_ones(forks, last, name);
+        }
+    }
+    last
+}
+
+/// The way of a name to the last fork on it, past which there is a number.
+pub fn way_to_last(forks: &[Fork], root: u32, name: &[u8], in_turn: bool) -> Last
+    requires { (t : Trie) × IsAt forks.now (branch.Inner root) t }
+    ensures on { (t : Trie) → IsAt forks.now (branch.Inner root) t → IsWayToLast forks.now t name.now result }
+    ensures leaf { inner_at result.below ≡ None }
+{
+    let first = last_from(forks, root, name);
+    if in_turn {
+        return last_in_turn(forks, first, name);
+    }
+    last_by_chance(forks, first, name)
 }
 
 /// Sets a branch at the side of a fork.

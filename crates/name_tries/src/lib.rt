@@ -4,6 +4,7 @@
 mod bits;
 mod forks;
 mod tries;
+mod turns;
 
-pub use forks::{Branch, Fork, Link};
+pub use forks::{Branch, Fork, Link, Near};
 pub use tries::Tries;

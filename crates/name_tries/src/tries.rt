@@ -3,9 +3,10 @@ ghost use Rattle.name_tries.specs.declared.forks.Fork.{Fork as TheFork};
 
 use crate::bits::{is_one, parting};
 use crate::forks::{
-    Fork, Link, Side, branch_of, few_on, first_fork, nearest, number_of, numbers_below, parted,
-    set_branch, way_to, way_to_leaf,
+    Fork, Link, Near, Side, branch_of, few_on, first_fork, nearest, number_of, numbers_below,
+    parted, set_branch, way_to, way_to_last,
 };
+use crate::turns::Turns;
 use std::alloc::Global;
 use tape_types::NoMemory;
 
@@ -22,15 +23,8 @@ pub struct Tries {
     pub owned: Vec<u32>,
     /// With which number the place of each fork comes.
     pub owners: Vec<u32>,
-    /// The number that was put in last beside another.
-    pub last: u32,
-    /// Whether names seem to come in their order or against it: the number beside is close to the one that was put in
-    /// before. This only chooses how the next names are followed.
-    pub in_turn: bool,
+    pub turns: Turns,
 }
-
-/// Numbers that are apart no more than this are close.
-const CLOSE: u32 = 16;
 
 /// Makes room for one fork more, where there is none for this many.
 fn reserve_fork(forks: &mut Vec<Fork>, places: usize) -> Result<(), NoMemory>
@@ -74,9 +68,10 @@ impl Tries {
     ghost use Rattle.std.specs.Prelude.{IsFalse};
     ghost use Rattle.std.specs.Option.{option_map};
     ghost use Rattle.name_tries.specs.Bits.{Name, AreBytes};
-    ghost use Rattle.name_tries.specs.Tries.{nearest_in};
+    ghost use Rattle.name_tries.specs.Tries.{Trie, nearest_in};
+    ghost use Rattle.name_tries.specs.Ways.{IsTowards};
     ghost use Rattle.name_tries.specs.Listing.{IsListed};
-    ghost use Rattle.name_tries.specs.Keys.{Keys, AreTries, IsKeyed, CanPutFirst, CanPut, CanCut};
+    ghost use Rattle.name_tries.specs.Keys.{Keys, AreTries, number_in, IsKeyed, CanPutFirst, CanPut, CanCut};
     ghost use Rattle.name_tries.specs.Keys.{CanLink, IsLinked, CanHandOver, IsHandedOver};
 
     /// No directories, and no room for numbers.
@@ -89,8 +84,7 @@ impl Tries {
             forks: Vec::new(alloc),
             owned: Vec::new(alloc),
             owners: Vec::new(alloc),
-            last: 0,
-            in_turn: false,
+            turns: Turns::new(),
         }
     }
 
@@ -125,19 +119,22 @@ impl Tries {
         Ok(self.owned.push(number as u32)?)
     }
 
-    /// The number in a directory to which the bits of a name lead. If any has this name, it is this one.
-    pub fn nearest(&self, dir: u32, name: &[u8]) -> Option<u32>
+    /// The number in a directory to which the bits of a name lead. If any has this name, it is this one. Beside it there
+    /// is from where on it can be followed again.
+    pub fn nearest(&self, dir: u32, name: &[u8]) -> Option<Near>
         requires are { (keys : Keys) × AreTries self.now keys }
         requires below { dir < length self.now.roots.items }
         ensures is { (keys : Keys) (w : AreTries self.now keys)
-            → result ≡ option_map (nearest_in name.now) (w.shape dir) }
-        ensures found { IfSome result (λ n. (keys : Keys) → AreTries self.now keys
-            → (other : Name) × (keys n ≡ Some (dir, other))) }
+            → option_map number_in result ≡ option_map (nearest_in name.now) (w.shape dir) }
+        ensures found { IfSome result (λ near. (keys : Keys) → AreTries self.now keys
+            → (other : Name) × (keys near.number ≡ Some (dir, other))) }
         ensures only { (keys : Keys) (n : ℕ) → AreTries self.now keys → keys n ≡ Some (dir, name.now)
-            → result ≡ Some n }
+            → option_map number_in result ≡ Some n }
+        ensures from { IfSome result (λ near. (keys : Keys) (w : AreTries self.now keys) (t : Trie)
+            → w.shape dir ≡ Some t → IsTowards self.now.forks.items near.from name.now t) }
     {
         let root = self.roots[dir as usize]?;
-        Some(nearest(&self.forks, root, name, self.in_turn))
+        Some(nearest(&self.forks, root, name, self.turns.in_turn()))
     }
 
     /// The same, if no more than a few forks lead there, so that it costs little to ask.
@@ -151,6 +148,11 @@ impl Tries {
     {
         let root = self.roots[dir as usize]?;
         number_of(few_on(&self.forks, root, name))
+    }
+
+    /// The number that may be asked for next.
+    pub fn next(&self) -> Option<u32> {
+        self.turns.next()
     }
 
     /// Whether there is anything in a directory.
@@ -187,11 +189,10 @@ impl Tries {
         self.roots[dir as usize] = Some(Link::leaf(number));
     }
 
-    /// Puts a number under a name into a directory, in which another name is the nearest one. Takes no memory. The number
-    /// of that name tells whether names come in turn.
-    pub fn put(&mut self, dir: u32, number: u32, name: &[u8], near: &[u8], beside: u32)
-        requires { (keys : Keys) × CanPut self.old keys dir number name.now near.now }
-        ensures are { (before next : Keys) → CanPut self.old before dir number name.now near.now
+    /// Puts a number under a name into a directory, in which another name is the nearest one. Takes no memory.
+    pub fn put(&mut self, dir: u32, number: u32, name: &[u8], near: Near, other: &[u8])
+        requires { (keys : Keys) × CanPut self.old keys dir number name.now near other.now }
+        ensures are { (before next : Keys) → CanPut self.old before dir number name.now near other.now
             → IsKeyed before next number (Some (dir, name.now)) → AreTries self.new next }
         ensures dirs { length self.new.roots.items ≡ length self.old.roots.items }
         ensures numbers { length self.new.owned.items ≡ length self.old.owned.items }
@@ -199,8 +200,8 @@ impl Tries {
         let Some(root) = self.roots[dir as usize] else {
             unreachable!()
         };
-        let bit = parting(name, near);
-        let way = way_to(&self.forks, root, name, bit);
+        let bit = parting(name, other);
+        let way = way_to(&self.forks, root, near.from, name, bit);
         let place = self.owned[number as usize];
         self.forks[place as usize] = parted(
             bit,
@@ -209,8 +210,7 @@ impl Tries {
             way.below,
         );
         self.link(dir, way.side, Link::inner(place));
-        self.in_turn = beside.abs_diff(self.last) <= CLOSE;
-        self.last = number;
+        self.turns.came_beside(number, near.number);
     }
 
     /// Takes a number that has a name in a directory out of it.
@@ -225,11 +225,12 @@ impl Tries {
             self.roots[dir as usize] = None;
             return;
         };
-        let (above, way) = way_to_leaf(&self.forks, root, name);
+        let way = way_to_last(&self.forks, root, name, self.turns.in_turn());
         if let Some(last) = way.side {
             let other = branch_of(self.forks[last.fork as usize], !last.one);
-            self.link(dir, above, other);
+            self.link(dir, way.above, other);
             self.hand_over(number, last.fork);
+            self.turns.came(number);
         }
     }
 

@@ -35,7 +35,8 @@ put-requires c = (
   can_put c.args.names.now c.args.spots.now c.requires.0 c.requires.1 c.args.number c.requires.2
       c.spot_at-spot.result.now c.spot_at-spot.ensures c.as_bytes-name.result.now (c.as_bytes-name.ensures.value ∙ c.as_str.ensures)
       c.nearest.result c.nearest.ensures.is c.in-Some.near c.in-Some.is (c.in-Some.ensures {u = tt}).found
-      c.spot_at-other.result.now c.spot_at-other.ensures c.as_bytes-other.result.now (c.as_bytes-other.ensures.value ∙ c.as_str-in-Some.ensures),
+      c.spot_at-other.result.now c.spot_at-other.ensures c.as_bytes-other.result.now (c.as_bytes-other.ensures.value ∙ c.as_str-in-Some.ensures)
+      (c.in-Some.ensures {u = tt}).from,
 )
 
 pub returns-in-None-clause-named : goal.returns-in-None-clause-named
@@ -55,5 +56,5 @@ returns-in-Some-clause-named c at next q =
     c.put.ensures.are (keys_of at) (keys_of next)
     (can_put c.args.names.now c.args.spots.now at next c.args.number q z c.spot_at-spot.ensures x spelled c.nearest.result c.nearest.ensures.is
     c.in-Some.near c.in-Some.is (c.in-Some.ensures {u = tt}).found
-    c.spot_at-other.result.now c.spot_at-other.ensures c.as_bytes-other.result.now (c.as_bytes-other.ensures.value ∙ c.as_str-in-Some.ensures))
+    c.spot_at-other.result.now c.spot_at-other.ensures c.as_bytes-other.result.now (c.as_bytes-other.ensures.value ∙ c.as_str-in-Some.ensures) (c.in-Some.ensures {u = tt}).from)
     (is_keyed c.args.names.now c.args.spots.now at next c.args.number q z c.spot_at-spot.ensures x spelled)

@@ -1,12 +1,15 @@
 use Rattle.std.proofs.Common.{sym, ap}
 use Rattle.name_tries.specs.declared.forks.Way.{Way}
-use Rattle.name_tries.proofs.LoopLemmas.{fork_there, way_goes_on}
+use Rattle.name_tries.proofs.LoopLemmas.{fork_there, way_begins, way_goes_on}
 use Rattle.name_tries.proofs.forks.few_on.Goals as goal
 
 pub pass-at-requires : goal.pass-at-requires
 pass-at-requires c =
     let on = c.loop.invariant c.requires.0 c.requires.1 in
     fork_there c.args.forks.now c.args.name.now on.part c.loop.at c.in-Some.place on.is (sym c.in-Some.ensures)
+
+pub loop-init : goal.loop-init
+loop-init c = λ t is. way_begins c.args.forks.now c.args.root c.args.name.now t is
 
 pub loop-preserved : goal.loop-preserved
 loop-preserved c = λ t is.

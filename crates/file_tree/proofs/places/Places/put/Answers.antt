@@ -21,7 +21,7 @@ name_in-requires c =
     let here : n < length next = held_within next n (ap is_some set.kept.here) in
     let can = new_name i.store.spots next i.names i.free.items _ c.self.invariant m s.shown n z set.kept c.requires.path c.requires.stands c.requires.free c.store_node-number.ensures.unused
     (omega (arith, here, room, c.requires.room, c.store_node-number.ensures.slots)) in
-    (held i.store.spots, held next, subst (λ l. CanName i.names l (held i.store.spots) (held next) n) (sym c.spots.ensures.spots) can)
+    (held i.store.spots, held next, subst (λ l. CanName i.names l (held i.store.spots) (held next) n) (sym c.spots-spots.ensures.spots) can)
 
 pub invariant_of-self : goal.invariant_of-self
 invariant_of-self c =
@@ -40,7 +40,7 @@ invariant_of-self c =
     (omega (arith, here, room, c.requires.room, c.store_node-number.ensures.slots)) in
     let names = c.name_in.ensures in
     record {
-      names_in = names.named (held i.store.spots) (held next) (subst (λ l. CanName i.names l (held i.store.spots) (held next) n) (sym c.spots.ensures.spots) can);
+      names_in = names.named (held i.store.spots) (held next) (subst (λ l. CanName i.names l (held i.store.spots) (held next) n) (sym c.spots-spots.ensures.spots) can);
       empty = c.store_node-number.ensures.empty;
       places = omega (arith, c.store_node-number.ensures.filled, c.store_node-number.ensures.places, inv.places);
       names_fit = omega (arith, names.numbers, room, c.requires.room, c.store_node-number.ensures.slots);

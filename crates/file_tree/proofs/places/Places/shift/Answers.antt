@@ -38,7 +38,7 @@ name_in-requires c =
     let fewer = out.named (without at n) (subst (λ l. IsKept (held l) (without at n) n None) (sym c.spots.ensures.spots) (taken_out at n)) in
     let free = none_plain whole m (c.requires.up ++ c.args.name ∷ []) (c.requires.can.free (c.requires.up ++ c.args.name ∷ []) (below_self (c.requires.up ++ c.args.name ∷ []))) in
     let can = next_name i.store.spots next i.names i.free.items _ c.self.invariant m s.shown n z set.kept c.requires.up c.requires.dir_stands free node c.name_out.new.names fewer out.numbers out.dirs in
-    (without at n, held next, subst (λ l. CanName c.name_out.new.names l (without at n) (held next) n) (sym c.spots-2.ensures.spots) can)
+    (without at n, held next, subst (λ l. CanName c.name_out.new.names l (without at n) (held next) n) (sym c.spots-spots.ensures.spots) can)
 
 pub invariant_of-self : goal.invariant_of-self
 invariant_of-self c =
@@ -60,7 +60,7 @@ invariant_of-self c =
     let can = next_name i.store.spots next i.names i.free.items _ inv m s.shown n z set.kept c.requires.up c.requires.dir_stands free node c.name_out.new.names fewer out.numbers out.dirs in
     let names = c.name_in.ensures in
     record {
-      names_in = names.named (without at n) (held next) (subst (λ l. CanName c.name_out.new.names l (without at n) (held next) n) (sym c.spots-2.ensures.spots) can);
+      names_in = names.named (without at n) (held next) (subst (λ l. CanName c.name_out.new.names l (without at n) (held next) n) (sym c.spots-spots.ensures.spots) can);
       empty = still_empty i.store.spots next i.free.items n (Some z) inv.empty node.1 set.kept c.shift.ensures.slots;
       places = omega (arith, c.shift.ensures.filled, c.shift.ensures.slots, inv.places);
       names_fit = omega (arith, names.numbers, out.numbers, inv.names_fit, c.shift.ensures.slots);

@@ -20,8 +20,8 @@ returns-in_default-clause-are c = λ before next can now.
     cut_only old.roots.items old.forks.items old.owned.items old.owners.items before next c.args.dir c.args.number c.args.name.now can.are can.there
     below now c.index.result.now root_is (λ at is. sym (ap first_at is) ∙ sym c.first_fork.ensures ∙ c.in_default.is)
 
-pub way_to_leaf-above-requires : goal.way_to_leaf-above-requires
-way_to_leaf-above-requires c =
+pub way_to_last-way-requires : goal.way_to_last-way-requires
+way_to_last-way-requires c =
     let old = c.args.self.now in
     let can = c.requires.1 in
     let there = root_read old c.args.dir c.index.result.now (branch.Inner c.in-Some.root)
@@ -33,7 +33,7 @@ pub index-requires-in-Some-side : goal.index-requires-in-Some-side
 index-requires-in-Some-side c =
     let old = c.args.self.now in
     let way = found_way old c.requires.0 c.args.dir c.args.number c.args.name.now c.requires.1 c.index.result.now c.in-Some.root c.deref.result.now
-    c.way_to_leaf-above.result.0 c.way_to_leaf-above.result.1 c.index.ensures (sym c.in-Some.ensures) c.deref.ensures.value c.way_to_leaf-above.ensures.way in
+    c.way_to_last-way.result c.index.ensures (sym c.in-Some.ensures) c.deref.ensures.value c.way_to_last-way.ensures.on in
     let last = last_is way c.in-Some-side.last c.in-Some-side.is in
     omega (arith, ap (λ (s : Side). s.fork) last, place_at way, old.forks.ok.0)
 
@@ -42,7 +42,7 @@ link-requires c =
     let old = c.args.self.now in
     let can = c.requires.1 in
     let way = found_way old c.requires.0 c.args.dir c.args.number c.args.name.now can c.index.result.now c.in-Some.root c.deref.result.now
-    c.way_to_leaf-above.result.0 c.way_to_leaf-above.result.1 c.index.ensures (sym c.in-Some.ensures) c.deref.ensures.value c.way_to_leaf-above.ensures.way in
+    c.way_to_last-way.result c.index.ensures (sym c.in-Some.ensures) c.deref.ensures.value c.way_to_last-way.ensures.on in
     record { root = can.are.below c.args.number c.args.dir c.args.name.now can.there; fork = above_within way }
 
 pub hand_over-requires : goal.hand_over-requires
@@ -50,7 +50,7 @@ hand_over-requires c =
     let old = c.args.self.now in
     let can = c.requires.1 in
     let way = found_way old c.requires.0 c.args.dir c.args.number c.args.name.now can c.index.result.now c.in-Some.root c.deref.result.now
-    c.way_to_leaf-above.result.0 c.way_to_leaf-above.result.1 c.index.ensures (sym c.in-Some.ensures) c.deref.ensures.value c.way_to_leaf-above.ensures.way in
+    c.way_to_last-way.result c.index.ensures (sym c.in-Some.ensures) c.deref.ensures.value c.way_to_last-way.ensures.on in
     let last = last_is way c.in-Some-side.last c.in-Some-side.is in
     subst (λ (f : ℕ). CanHandOver c.link.new.self.owned.items c.link.new.self.owners.items c.args.number f) (sym (ap (λ (s : Side). s.fork) last))
     (subst (λ (l : List ℕ). CanHandOver l c.link.new.self.owners.items c.args.number way.to.place) (sym (ap vec_items c.link.ensures.owned))
@@ -64,7 +64,7 @@ returns-in-Some-side-clause-are c = λ before next can now.
     let mid = c.link.new.self in
     let n = c.args.number in
     let way = found_way old before c.args.dir c.args.number c.args.name.now can c.index.result.now c.in-Some.root c.deref.result.now
-    c.way_to_leaf-above.result.0 c.way_to_leaf-above.result.1 c.index.ensures (sym c.in-Some.ensures) c.deref.ensures.value c.way_to_leaf-above.ensures.way in
+    c.way_to_last-way.result c.index.ensures (sym c.in-Some.ensures) c.deref.ensures.value c.way_to_last-way.ensures.on in
     let last = last_is way c.in-Some-side.last c.in-Some-side.is in
     let place_is = ap (λ (s : Side). s.fork) last in
     let fork = c.index-in-Some-side.result.now in
@@ -74,7 +74,7 @@ returns-in-Some-side-clause-are c = λ before next can now.
     let at_is = c.branch_of-other.ensures
     ∙ ap₂ (λ (v : Bool) (k : Fork). branch_at (not v) k) (ap (λ (s : Side). s.one) last) fork_is in
     let linked = subst (λ (b : Branch). IsLinked old.roots.items mid.roots.items old.forks.items mid.forks.items c.args.dir
-    c.way_to_leaf-above.result.0 b) at_is c.link.ensures.linked in
+    c.way_to_last-way.result.above b) at_is c.link.ensures.linked in
     let over = subst (λ (f : ℕ). IsHandedOver old.owned.items new.owned.items old.owners.items new.owners.items n f) place_is
     (subst (λ (l : List ℕ). IsHandedOver l new.owned.items old.owners.items new.owners.items n c.in-Some-side.last.fork)
     (ap vec_items c.link.ensures.owned)
@@ -83,12 +83,12 @@ returns-in-Some-side-clause-are c = λ before next can now.
     subst (λ (l : List (Option Branch)). AreTriesIn l new.forks.items new.owned.items new.owners.items next) (sym (ap vec_items c.hand_over.ensures.roots))
     (subst (λ (l : List Fork). AreTriesIn mid.roots.items l new.owned.items new.owners.items next) (sym (ap vec_items c.hand_over.ensures.forks))
     (cut_beside old.roots.items mid.roots.items old.forks.items mid.forks.items old.owned.items new.owned.items old.owners.items new.owners.items
-    before next c.args.dir n c.args.name.now c.way_to_leaf-above.result.0 c.way_to_leaf-above.result.1 can.are way.trie way.shape can.there
-    (can.are.below n c.args.dir c.args.name.now can.there) now way.to c.way_to_leaf-above.ensures.leaf linked over))
+    before next c.args.dir n c.args.name.now c.way_to_last-way.result can.are way.trie way.shape can.there
+    (can.are.below n c.args.dir c.args.name.now can.there) now way.to c.way_to_last-way.ensures.leaf linked over))
 
 pub returns-in_default-side-clause-are : goal.returns-in_default-side-clause-are
 returns-in_default-side-clause-are c = λ before next can now.
     let old = c.args.self.now in
     let way = found_way old before c.args.dir c.args.number c.args.name.now can c.index.result.now c.in-Some.root c.deref.result.now
-    c.way_to_leaf-above.result.0 c.way_to_leaf-above.result.1 c.index.ensures (sym c.in-Some.ensures) c.deref.ensures.value c.way_to_leaf-above.ensures.way in
+    c.way_to_last-way.result c.index.ensures (sym c.in-Some.ensures) c.deref.ensures.value c.way_to_last-way.ensures.on in
     absurd (some_last way c.in_default-side.is)

@@ -11,7 +11,7 @@ returns-clause-found c = λ keys w.
     let root_is = root_read tries dir c.index.result.now c.in_ok-root.root c.requires.below c.index.ensures c.in_ok-root.was in
     let t = trie_at tries keys w dir c.in_ok-root.root root_is in
     let found = nearest_found tries keys w dir t.0 c.args.name.now t.1 in
-    (found.0, ap keys (c.nearest.ensures t.0 (subst (λ (l : List Fork). IsAt l c.in_ok-root.root t.0) (sym c.deref.ensures.value) t.2)) ∙ found.1)
+    (found.0, ap keys (c.nearest.ensures.number t.0 (subst (λ (l : List Fork). IsAt l c.in_ok-root.root t.0) (sym c.deref.ensures.value) t.2)) ∙ found.1)
 
 pub returns-clause-only : goal.returns-clause-only
 returns-clause-only c = λ keys n w there.
@@ -19,4 +19,5 @@ returns-clause-only c = λ keys n w there.
     let dir = c.args.dir in
     let root_is = root_read tries dir c.index.result.now c.in_ok-root.root c.requires.below c.index.ensures c.in_ok-root.was in
     let t = trie_at tries keys w dir c.in_ok-root.root root_is in
-    ap (λ (i : ℕ). Some i) (c.nearest.ensures t.0 (subst (λ (l : List Fork). IsAt l c.in_ok-root.root t.0) (sym c.deref.ensures.value) t.2) ∙ nearest_only tries keys w dir t.0 c.args.name.now n t.1 there)
+    ap (λ (i : ℕ). Some i) (c.nearest.ensures.number t.0 (subst (λ (l : List Fork). IsAt l c.in_ok-root.root t.0) (sym c.deref.ensures.value) t.2)
+    ∙ nearest_only tries keys w dir t.0 c.args.name.now n t.1 there)
