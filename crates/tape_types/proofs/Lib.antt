@@ -1,6 +1,7 @@
 pub mod CivilLemmas
 pub mod DayLemmas
 pub mod DigitLemmas
+pub mod NameLemmas
 pub mod ShownLemmas
 pub mod TextLemmas
 pub mod UuidLemmas

@@ -1,5 +1,5 @@
 -- Which texts may be names of nodes (LTFS 2.4 on names). A name is given by its bytes in UTF-8.
-use Rattle.std.specs.Prelude.{◌≡◌, ◌⊎◌, ℕ, List, Bool, not, length, nat_lt, ◌==◌, ◌||◌, if◌then◌else◌, Option, Some}
+use Rattle.std.specs.Prelude.{◌≡◌, ◌⊎◌, ℕ, List, Bool, not, length, nat_lt, ◌==◌, ◌||◌, ◌&&◌, if◌then◌else◌, Option, Some}
 use Rattle.std.specs.Prelude.{None, Result, Ok, Err, codes}
 use Rattle.std.specs.List.{list_any}
 use Rattle.std.specs.Str.{chars, bytes_eq}
@@ -29,3 +29,7 @@ name_fault name =
 abbrev pub IsNameAnswer : List ℕ → Result Unit NameErr → Type 0
 IsNameAnswer name (Ok _) = name_fault name ≡ None
 IsNameAnswer name (Err fault) = (fault ≡ faults.NoMemory) ⊎ (name_fault name ≡ Some fault)
+
+-- an ASCII character that any name may have
+abbrev pub is_plain : ℕ → Bool
+is_plain b = nat_lt b 128 && not (b == 47) && not (b == 0)

@@ -1,7 +1,8 @@
-ghost use Rattle.std.specs.Prelude.{◌≡◌, length, IfOk};
+ghost use Rattle.std.specs.List.{list_all};
+ghost use Rattle.std.specs.Prelude.{◌≡◌, length, IfOk, IsTrue, None};
 ghost use Rattle.std.specs.Str.{chars};
 ghost use Rattle.unicode_normalization.specs.Forms.{is_nfc};
-ghost use Rattle.tape_types.specs.Names.{IsNameAnswer, has_byte, is_dot};
+ghost use Rattle.tape_types.specs.Names.{IsNameAnswer, has_byte, is_dot, is_plain, name_fault};
 
 use std::alloc::{AllocError, Global};
 
@@ -28,6 +29,9 @@ pub enum NameErr {
 pub fn check_name(alloc: Global, name: &str) -> Result<(), NameErr>
     ensures { IsNameAnswer name.now result }
 {
+    if is_common(name) {
+        return Ok(());
+    }
     if name.is_empty() {
         return Err(NameErr::Empty);
     }
@@ -48,6 +52,23 @@ pub fn check_name(alloc: Global, name: &str) -> Result<(), NameErr>
         Ok(false) => Err(NameErr::NotNfc),
         Err(AllocError) => Err(NameErr::NoMemory),
     }
+}
+
+/// Whether a name is of at most 255 plain characters, the first of them no dot. Most names are, and have no fault.
+#[tactic(auto, using(crate::proofs::NameLemmas::common))]
+fn is_common(name: &str) -> bool
+    ensures { IsTrue result → name_fault name.now ≡ None }
+{
+    let Some(first) = name.as_bytes().first() else {
+        return false;
+    };
+    *first != b'.' && name.len() <= 255 && are_plain(name)
+}
+
+fn are_plain(name: &str) -> bool
+    ensures { result ≡ list_all is_plain name.now }
+{
+    name.bytes().all(|b| b < 128 && b != b'/' && b != 0)
 }
 
 fn char_count(name: &str) -> usize

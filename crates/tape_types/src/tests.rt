@@ -52,6 +52,8 @@ fn other_texts_are_no_times(rt: HostRuntime) {
 fn names_are_refused_by_their_first_fault(rt: HostRuntime) {
     let longest = "é".repeat(rt.alloc(), 255).expect(&rt, "memory");
     let too_long = "/".repeat(rt.alloc(), 256).expect(&rt, "memory");
+    let longest_plain = "a".repeat(rt.alloc(), 255).expect(&rt, "memory");
+    let too_long_plain = "a".repeat(rt.alloc(), 256).expect(&rt, "memory");
     let cases = [
         ("", Err(NameErr::Empty)),
         (too_long.as_str(), Err(NameErr::Long)),
@@ -62,6 +64,13 @@ fn names_are_refused_by_their_first_fault(rt: HostRuntime) {
         ("e\u{301}", Err(NameErr::NotNfc)),
         ("...", Ok(())),
         ("é", Ok(())),
+        ("a/b", Err(NameErr::Slash)),
+        ("a\0", Err(NameErr::Nul)),
+        (".a", Ok(())),
+        ("A~\u{7f}\u{1}", Ok(())),
+        ("a\u{301}", Err(NameErr::NotNfc)),
+        (longest_plain.as_str(), Ok(())),
+        (too_long_plain.as_str(), Err(NameErr::Long)),
         (longest.as_str(), Ok(())),
     ];
     for (name, want) in cases {
