@@ -185,7 +185,7 @@ fn free_in(tree: &Tree, dir: u32, name: &Text) -> Result<u32, Refusal>
         ∷ too_many (plain_of whole tree.now) ∷ []))
         tree.now path result }
 {
-    if tree.child(dir, name).is_some() {
+    if tree.taken(dir, name).is_some() {
         return Err(Refusal::Exists);
     }
     if is_full(tree) {
@@ -295,7 +295,7 @@ fn move_in(
         return Ok(Ready::Same);
     }
     let (number, dir) = numbers;
-    if tree.child(dir, name).is_some() {
+    if tree.taken(dir, name).is_some() {
         return Err(Refusal::Exists);
     }
     if is_below(from, to) {

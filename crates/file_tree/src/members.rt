@@ -61,19 +61,13 @@ pub fn is_child(spots: &[Option<Spot>], number: u32, dir: u32, name: &str) -> bo
     }
 }
 
-/// The number of the node under a name in a directory, by its trie. Where names come in turn, that which comes next is
-/// looked at before.
+/// The number of the node under a name in a directory, by its trie.
 pub fn child(spots: &[Option<Spot>], names: &Tries, dir: u32, name: &str) -> Option<u32>
     requires named { AreNamed names.now (held spots.now) }
     requires below { dir < length names.now.roots.items }
     ensures found { IfSome result (λ n. keys_of (held spots.now) n ≡ Some (dir, name.now)) }
     ensures missing { IfNone result ((n : ℕ) → keys_of (held spots.now) n ≡ Some (dir, name.now) → ⊥) }
 {
-    if let Some(next) = names.next() {
-        if is_child(spots, next, dir, name) {
-            return Some(next);
-        }
-    }
     let near = names.nearest(dir, name.as_bytes())?;
     if spot_at(spots, near.number).name.as_str() == name {
         return Some(near.number);

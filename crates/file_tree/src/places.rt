@@ -196,9 +196,9 @@ impl Places {
         Ok(nodes)
     }
 
-    /// The number of the node under a name in a directory, by its trie. A call that changes the directory goes along
-    /// that in any case.
-    pub fn child(&self, dir: u32, name: &Text) -> Option<u32>
+    /// The number of the node under a name in a directory, by its trie. So a name is looked for that is mostly free: what
+    /// puts one in goes along the same forks.
+    pub fn taken(&self, dir: u32, name: &Text) -> Option<u32>
         requires { IsThere self.now.nodes dir }
         ensures { (path : Path) → number_at self.now.nodes path ≡ Some dir
             → number_at self.now.nodes (path ++ name.now ∷ []) ≡ result }
@@ -208,22 +208,45 @@ impl Places {
         child(spots, &self.names, dir, name)
     }
 
-    /// The same, by a likely node where more than a few forks lead to the name.
-    fn step(&self, dir: u32, name: &Text) -> Option<u32>
+    /// The same, where a likely node is looked at before.
+    fn likely_child(&self, likely: u32, dir: u32, name: &Text) -> Option<u32>
         requires { IsThere self.now.nodes dir }
         ensures { (path : Path) → number_at self.now.nodes path ≡ Some dir
             → number_at self.now.nodes (path ++ name.now ∷ []) ≡ result }
     {
         let spots = self.store.spots();
         let asked = name.as_str();
-        let guess = match self.names.near(dir, asked.as_bytes()) {
-            Some(number) => number,
-            None => self.guesses.likely(dir, asked.as_bytes()),
-        };
-        if is_child(spots, guess, dir, asked) {
-            return Some(guess);
+        if is_child(spots, likely, dir, asked) {
+            return Some(likely);
         }
-        self.child(dir, name)
+        self.taken(dir, name)
+    }
+
+    /// The number of the node under a name in a directory. Where names come in turn, that which comes next is likely.
+    pub fn child(&self, dir: u32, name: &Text) -> Option<u32>
+        requires { IsThere self.now.nodes dir }
+        ensures { (path : Path) → number_at self.now.nodes path ≡ Some dir
+            → number_at self.now.nodes (path ++ name.now ∷ []) ≡ result }
+    {
+        match self.names.next() {
+            Some(next) => self.likely_child(next, dir, name),
+            None => self.taken(dir, name),
+        }
+    }
+
+    /// The same on the way along a path. Where more than a few forks lead to the name, it is guessed which one is likely.
+    fn step(&self, dir: u32, name: &Text) -> Option<u32>
+        requires { IsThere self.now.nodes dir }
+        ensures { (path : Path) → number_at self.now.nodes path ≡ Some dir
+            → number_at self.now.nodes (path ++ name.now ∷ []) ≡ result }
+    {
+        let _shown = self.store.spots();
+        let bytes = name.as_str().as_bytes();
+        let likely = match self.names.near(dir, bytes) {
+            Some(number) => number,
+            None => self.guesses.likely(dir, bytes),
+        };
+        self.likely_child(likely, dir, name)
     }
 
     /// Whether anything stands directly in a directory.

@@ -155,6 +155,15 @@ impl Tree {
         self.places.child(dir, name)
     }
 
+    /// The same, of a name that is mostly free.
+    pub fn taken(&self, dir: u32, name: &Text) -> Option<u32>
+        requires { IsThere self.now.nodes dir }
+        ensures { (path : Path) → StandsAt self.now path dir
+            → number_at self.now.nodes (path ++ name.now ∷ []) ≡ result }
+    {
+        self.places.taken(dir, name)
+    }
+
     /// What a node is.
     pub fn sort(&self, number: u32) -> Sort
         requires { IsThere self.now.nodes number }

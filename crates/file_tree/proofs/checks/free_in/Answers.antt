@@ -7,16 +7,16 @@ use Rattle.file_tree.proofs.checks.free_in.Goals as goal
 
 pub returns-then-is_some : goal.returns-then-is_some
 returns-then-is_some c path stands =
-    taken c.args.tree.now (path ++ c.args.name.now ∷ []) c.child.result (too_many (plain_of whole c.args.tree.now)) (c.child.ensures path stands) (sym c.is_some.ensures ∙ c.if-is_some.true)
+    taken c.args.tree.now (path ++ c.args.name.now ∷ []) c.taken.result (too_many (plain_of whole c.args.tree.now)) (c.taken.ensures path stands) (sym c.is_some.ensures ∙ c.if-is_some.true)
 
 pub returns-then-is_full : goal.returns-then-is_full
 returns-then-is_full c path stands =
-    not_taken c.args.tree.now (path ++ c.args.name.now ∷ []) c.child.result (too_many (plain_of whole c.args.tree.now)) (c.child.ensures path stands) (sym c.is_some.ensures ∙ c.if-is_some.false)
+    not_taken c.args.tree.now (path ++ c.args.name.now ∷ []) c.taken.result (too_many (plain_of whole c.args.tree.now)) (c.taken.ensures path stands) (sym c.is_some.ensures ∙ c.if-is_some.false)
     ∙ sym c.is_full.ensures ∙ ap (λ b. refuse_if b refusals.TooMany) c.if-is_full.true
 
 pub returns : goal.returns
 returns c path stands = (
-  not_taken c.args.tree.now (path ++ c.args.name.now ∷ []) c.child.result (too_many (plain_of whole c.args.tree.now)) (c.child.ensures path stands) (sym c.is_some.ensures ∙ c.if-is_some.false)
+  not_taken c.args.tree.now (path ++ c.args.name.now ∷ []) c.taken.result (too_many (plain_of whole c.args.tree.now)) (c.taken.ensures path stands) (sym c.is_some.ensures ∙ c.if-is_some.false)
       ∙ sym c.is_full.ensures ∙ ap (λ b. refuse_if b refusals.TooMany) c.if-is_full.false,
   stands,
 )

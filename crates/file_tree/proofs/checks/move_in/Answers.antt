@@ -17,19 +17,19 @@ returns-then-same_path c up number dir split =
 
 pub returns-then-is_some : goal.returns-then-is_some
 returns-then-is_some c up number dir split =
-    moved_taken c.args.tree.now c.args.from.now c.args.to.now c.child.result (sym c.same_path.ensures ∙ c.if-same_path.false)
-    (ap (number_at c.args.tree.now.nodes) split ∙ c.child.ensures up dir) (sym c.is_some.ensures ∙ c.if-is_some.true)
+    moved_taken c.args.tree.now c.args.from.now c.args.to.now c.taken.result (sym c.same_path.ensures ∙ c.if-same_path.false)
+    (ap (number_at c.args.tree.now.nodes) split ∙ c.taken.ensures up dir) (sym c.is_some.ensures ∙ c.if-is_some.true)
 
 pub returns-then-is_below : goal.returns-then-is_below
 returns-then-is_below c up number dir split =
-    moved_freely c.args.tree.now c.args.from.now c.args.to.now c.child.result (sym c.same_path.ensures ∙ c.if-same_path.false)
-    (ap (number_at c.args.tree.now.nodes) split ∙ c.child.ensures up dir) (sym c.is_some.ensures ∙ c.if-is_some.false)
+    moved_freely c.args.tree.now c.args.from.now c.args.to.now c.taken.result (sym c.same_path.ensures ∙ c.if-same_path.false)
+    (ap (number_at c.args.tree.now.nodes) split ∙ c.taken.ensures up dir) (sym c.is_some.ensures ∙ c.if-is_some.false)
     ∙ ap (λ b. refuse_if b refusals.Inside) (sym c.is_below.ensures ∙ c.if-is_below.true)
 
 pub returns : goal.returns
 returns c up number dir split = (
-  moved_freely c.args.tree.now c.args.from.now c.args.to.now c.child.result (sym c.same_path.ensures ∙ c.if-same_path.false)
-      (ap (number_at c.args.tree.now.nodes) split ∙ c.child.ensures up dir) (sym c.is_some.ensures ∙ c.if-is_some.false)
+  moved_freely c.args.tree.now c.args.from.now c.args.to.now c.taken.result (sym c.same_path.ensures ∙ c.if-same_path.false)
+      (ap (number_at c.args.tree.now.nodes) split ∙ c.taken.ensures up dir) (sym c.is_some.ensures ∙ c.if-is_some.false)
       ∙ ap (λ b. refuse_if b refusals.Inside) (sym c.is_below.ensures ∙ c.if-is_below.false),
   (
     λ same. let wrong : true ≡ false = sym (is_same c.args.from.now c.args.to.now same) ∙ sym c.same_path.ensures ∙ c.if-same_path.false in cc,

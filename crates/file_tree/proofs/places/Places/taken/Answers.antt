@@ -3,7 +3,7 @@ use Rattle.file_tree.specs.Seen.{held, IsShown}
 use Rattle.file_tree.specs.Beside.{AreNamed}
 use Rattle.file_tree.proofs.IndexedLemmas.{shown_now, dir_fits}
 use Rattle.file_tree.proofs.RunLemmas.{child_result}
-use Rattle.file_tree.proofs.places.Places.child.Goals as goal
+use Rattle.file_tree.proofs.places.Places.taken.Goals as goal
 
 pub child-requires-clause-named : goal.child-requires-clause-named
 child-requires-clause-named c = subst (λ l. AreNamed c.self.inside.names (held l)) (sym c.spots-spots.ensures.spots) c.self.invariant.names_in
