@@ -9,9 +9,6 @@ ghost use Rattle.coherency.specs.Frame.{has_frame};
 
 use tape_types::{Note, parse_uuid, uuid_text};
 
-#[cfg(test)]
-mod tests;
-
 /// What a note says of its partition.
 #[derive(Clone, Copy, Debug, PartialEq, Eq)]
 pub struct Coherency {

@@ -7,9 +7,6 @@ ghost use Rattle.doc_children.specs.Children.{Holds, bits_of, code, first_missin
 
 use doc_fields::Tag;
 
-#[cfg(test)]
-mod tests;
-
 /// The children that have stood in an open element.
 #[derive(Clone, Copy, Debug, PartialEq, Eq)]
 pub struct Children {

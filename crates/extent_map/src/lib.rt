@@ -7,8 +7,6 @@ mod laws;
 mod pieces;
 mod reading;
 mod replies;
-#[cfg(test)]
-mod tests;
 
 pub use extents::Extents;
 pub use laws::{

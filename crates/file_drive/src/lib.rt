@@ -14,10 +14,3 @@ mod partition;
 mod window;
 
 pub use drive::FileDrive;
-
-#[cfg(test)]
-mod recorded;
-#[cfg(test)]
-mod tests;
-#[cfg(test)]
-mod trial;

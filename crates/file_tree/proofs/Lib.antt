@@ -29,7 +29,6 @@ pub mod MountLemmas
 pub mod MountedBlocks
 pub mod MountedGood
 pub mod CallLemmas
-pub mod BareLemmas
 pub mod ToldLemmas
 pub mod OrderLemmas
 pub mod AgreeLemmas

@@ -3,8 +3,6 @@
 
 mod head;
 mod laws;
-#[cfg(test)]
-mod tests;
 mod transfers;
 mod work;
 

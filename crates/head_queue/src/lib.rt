@@ -12,8 +12,6 @@ mod owners;
 mod places;
 mod queues;
 mod steps;
-#[cfg(test)]
-mod tests;
 mod walks;
 
 pub use laws::{picks_may_come, sweeps_are_short};

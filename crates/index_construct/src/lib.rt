@@ -6,9 +6,6 @@ ghost use Rattle.std.specs.Int.{div_ceil};
 ghost use Rattle.index_construct.specs.Blocks.{block_at, blocks_of};
 ghost use Rattle.index_construct.specs.Laws.{AreCutInOneWay};
 
-#[cfg(test)]
-mod tests;
-
 /// How many blocks of this size the bytes of a document take.
 pub fn blocks(n: u64, block: u32) -> u64
     requires { 1 ≤ block }

@@ -5,14 +5,6 @@
 mod extents;
 mod faults;
 mod names;
-#[cfg(test)]
-mod orders;
-#[cfg(test)]
-mod rows;
-#[cfg(test)]
-mod slow;
-#[cfg(test)]
-mod tests;
 mod uids;
 
 pub use faults::first_fault;

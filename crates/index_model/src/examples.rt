@@ -11,7 +11,7 @@ ghost use Rattle.index_model.specs.declared.faults.Fault.TheVariants as faults;
 ghost use Rattle.index_model.specs.Valid.{IsValid};
 
 /// The archive is valid, and of each index that is damaged in one way that fault is told.
-fn the_definitions_tell_valid_from_damaged()
+pub fn the_definitions_tell_valid_from_damaged()
     ensures valid { (at : Moment) (times : Times) → IsValid (archive at times) }
     ensures touching { (times : Times) → AreFiles (with_file times (kinds.File 5 touching)) }
     ensures late { (times : Times) → ¬ AreInOrder (late_node times) }

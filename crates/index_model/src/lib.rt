@@ -3,22 +3,16 @@
 #![tactic(auto)]
 
 mod errors;
-#[cfg(test)]
 mod examples;
 mod faults;
 mod indexes;
 mod laws;
 mod nodes;
-#[cfg(test)]
-mod rows;
-#[cfg(test)]
-mod slow;
 mod telling;
-#[cfg(test)]
-mod tests;
 mod text_list;
 
 pub use errors::IndexErr;
+pub use examples::the_definitions_tell_valid_from_damaged;
 pub use faults::Fault;
 pub use indexes::{Index, Policy, Spot};
 pub use laws::{directories_stand_together, indexes_tell_one_value, one_fault_is_told};

@@ -2,8 +2,6 @@
 #![tactic(auto)]
 
 mod outcomes;
-#[cfg(test)]
-mod tests;
 mod tool;
 mod words;
 

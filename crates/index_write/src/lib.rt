@@ -5,8 +5,6 @@
 mod fields;
 mod lengths;
 mod nodes;
-#[cfg(test)]
-mod tests;
 mod volume;
 mod writing;
 

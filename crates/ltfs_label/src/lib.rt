@@ -3,8 +3,6 @@
 
 mod errors;
 mod reading;
-#[cfg(test)]
-mod tests;
 mod walking;
 mod writing;
 

@@ -3,8 +3,6 @@
 #![tactic(auto)]
 
 mod names;
-#[cfg(test)]
-mod tests;
 
 pub use names::{
     ESCAPED, NameText, ReadNameErr, has_special, name_text, names_read_back, read_name,

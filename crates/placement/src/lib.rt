@@ -4,8 +4,6 @@
 mod laws;
 mod patterns;
 mod policies;
-#[cfg(test)]
-mod tests;
 
 pub use laws::choices_are_computed;
 pub use patterns::matches;

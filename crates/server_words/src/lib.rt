@@ -4,8 +4,6 @@
 mod forms;
 mod laws;
 mod reading;
-#[cfg(test)]
-mod tests;
 mod volumes;
 
 pub use forms::WordsErr;

@@ -6,8 +6,6 @@ mod gates;
 mod input;
 mod memory;
 mod streams;
-#[cfg(test)]
-mod tests;
 mod traits;
 
 pub use clocks::{StepClock, SystemClock};

@@ -5,8 +5,6 @@ mod cartridges;
 mod lists;
 mod moments;
 mod names;
-#[cfg(test)]
-mod tests;
 mod texts;
 mod times;
 mod uuids;

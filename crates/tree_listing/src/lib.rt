@@ -4,8 +4,6 @@
 mod errors;
 mod lines;
 mod listing;
-#[cfg(test)]
-mod tests;
 mod texts;
 mod trees;
 

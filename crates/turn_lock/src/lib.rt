@@ -15,8 +15,6 @@ mod lock;
 mod logged;
 mod pass;
 mod rule;
-#[cfg(test)]
-mod tests;
 
 pub use lock::TurnLock;
 pub use logged::Logged;

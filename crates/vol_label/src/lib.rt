@@ -5,9 +5,6 @@ ghost use Rattle.std.specs.Prelude.{◌≡◌, ◌+◌, ◌<◌, ◌≤◌, ◌+
 ghost use Rattle.vol_label.specs.declared.Vol1.{Vol1};
 ghost use Rattle.vol_label.specs.Table.{IsFault, IsRecord, IsVol1, is_printable, may_stand, record_of};
 
-#[cfg(test)]
-mod tests;
-
 /// The label in a VOL1 record. Each byte is a space or a visible character of ASCII, 20h
 /// to 7Eh.
 #[derive(Clone, Copy, Debug, PartialEq, Eq)]

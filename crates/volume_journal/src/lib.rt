@@ -4,8 +4,6 @@
 
 mod lists;
 mod placements;
-#[cfg(test)]
-mod tests;
 mod trails;
 
 pub use placements::{Placements, Stored, What};

@@ -4,8 +4,6 @@
 mod reading;
 mod readings;
 mod stands;
-#[cfg(test)]
-mod tests;
 
 pub use reading::Reading;
 pub use readings::Readings;

@@ -5,8 +5,6 @@ mod content;
 mod errors;
 mod reading;
 mod scanning;
-#[cfg(test)]
-mod tests;
 
 pub use content::{Construct, Content};
 pub use errors::ScanErr;

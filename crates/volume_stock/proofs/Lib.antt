@@ -6,7 +6,6 @@ pub mod WriteSteps
 pub mod Stands
 pub mod StartLemmas
 pub mod LookLemmas
-pub mod BareMounts
 pub mod SyncLaw
 pub mod Texts
 pub mod PieceStands

@@ -1,7 +1,0 @@
-use Rattle.std.proofs.Common.{◌≡◌, length}
-use Rattle.std.specs.Prelude.{All}
-use Rattle.tape_types.specs.Cartridges.{IsItem}
-use Rattle.head_core.proofs.tests.part.Given as goal
-
-abbrev pub invariant-loop-letter : goal.invariant-loop-letter
-invariant-loop-letter l = record { count : length l.items.items ≡ l.letter-index; each : All IsItem l.items.items }
