@@ -1,8 +1,8 @@
 """How each group of tests tells what came of its cases.
 
-A group is a program `tests/GROUP/run [NAME]`. It runs all its cases, or the one of that name, prints a line for each,
-behind one that failed what was wanted and what came, and at the end `N passed, N failed`. It ends with 0 where none
-failed, with 1 where one did, and with 2 where no case has that name.
+A group is a program `tests/GROUP/run [NAME]`. It runs all its cases, or the one of that name, or those whose names
+have it in front of a `/`. It prints a line for each, behind one that failed what was wanted and what came, and at the
+end `N passed, N failed`. It ends with 0 where none failed, with 1 where one did, and with 2 where no case has that name.
 """
 
 import concurrent.futures
@@ -41,10 +41,10 @@ def run_group(cases, words, jobs=None):
     """Runs a group. `cases` has a function for each name, which returns its differences; a text stands for one whose
     kind has no wanted and no found. Up to `jobs` run side by side, and they are told in their order. Returns the status.
     """
-    if len(words) > 1 or words and words[0] not in cases:
+    names = chosen(cases, words)
+    if not names:
         print("one case at most is named" if len(words) > 1 else f"no case is named {words[0]}", file=sys.stderr)
         return 2
-    names = words or list(cases)
     failed = 0
     with concurrent.futures.ThreadPoolExecutor(jobs or os.cpu_count()) as pool:
         for name, came in [(name, pool.submit(guarded, cases[name])) for name in names]:
@@ -56,6 +56,13 @@ def run_group(cases, words, jobs=None):
                 print("\n".join(lines), flush=True)
     print(f"{len(names) - failed} passed, {failed} failed", flush=True)
     return 1 if failed else 0
+
+
+def chosen(names, words):
+    """Returns those of the names which these words of a group choose, and none where they are out of form."""
+    if len(words) > 1:
+        return []
+    return [name for name in names if not words or name == words[0] or name.startswith(f"{words[0]}/")]
 
 
 def guarded(case):
