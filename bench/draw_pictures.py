@@ -23,8 +23,8 @@ class Picture:
             ' font-family="Helvetica, Arial, sans-serif" font-size="14" role="img">',
             f"<title>{title}</title>",
             f'<rect width="{width}" height="{height}" fill="{PAPER}"/>',
-            '<defs><marker id="tip" viewBox="0 0 10 10" refX="9" refY="5" markerWidth="7" markerHeight="7" orient="auto">'
-            f'<path d="M0,0 L10,5 L0,10 z" fill="{INK}"/></marker></defs>',
+            '<defs><marker id="tip" viewBox="0 0 10 10" refX="9" refY="5" markerWidth="7" markerHeight="7"'
+            f' orient="auto"><path d="M0,0 L10,5 L0,10 z" fill="{INK}"/></marker></defs>',
         ]
 
     def text(self, x, y, words, anchor="start", color=INK, size=14, bold=False):
