@@ -1,0 +1,1 @@
+cat "$TOP/examples/labels.log"

@@ -1,0 +1,1 @@
+python3 "$TOP/bench/make_cartridge.py" tape --blocks 64 --size 65536
