@@ -76,11 +76,12 @@ def numbered(text):
 
 
 def run(tool, path):
-    """What it says, its processor time in seconds, and the most memory in MiB, by the program `time`."""
-    with open(path, "rb") as source:
-        done = subprocess.run(["/usr/bin/time", "-f", "%U %S %M", tool, "check"], stdin=source, capture_output=True)
-    user, system, memory = done.stderr.decode().split("\n")[-2].split()
-    return done.stdout.decode().strip(), float(user) + float(system), int(memory) / 1024
+    """What it says, its processor time in seconds, and the most memory in MiB."""
+    with open(path, "rb") as source, subprocess.Popen([tool, "check"], stdin=source, stdout=subprocess.PIPE) as running:
+        said = running.stdout.read().decode().strip()
+        used = os.wait4(running.pid, 0)[2]
+        running.returncode = 0
+    return said, used.ru_utime + used.ru_stime, used.ru_maxrss / 1024
 
 
 def main():

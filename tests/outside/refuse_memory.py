@@ -3,7 +3,7 @@
 
 usage: refuse_memory.py PROGRAM REFUSE.SO [--sessions N] [--first N] [--last N] [--each]
 
-REFUSE.SO is built from bench/refuse.c. Each of the script's sessions makes a file, writes it, synchronises and reads it,
+REFUSE.SO is built from refuse.c. Each of the script's sessions makes a file, writes it, synchronises and reads it,
 in a thread of its own. A run with nothing refused tells how many requests there are, and how many before the first
 thread. Then each is refused in a run of its own over a folder that was just formatted, and
 

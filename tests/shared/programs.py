@@ -3,7 +3,7 @@
 import os
 import subprocess
 
-from cases import TOP
+from cases import TOP, chosen, run_group
 
 # Each program, and words with which it reads nothing but an empty input.
 PROGRAMS = {"ltfs_server": "plain", "index_tool": "check"}
@@ -26,6 +26,16 @@ def build(names=PROGRAMS):
         return str(error)
     said = [(it.communicate()[1].decode(errors="replace"), it.returncode) for it in started]
     return "".join(text for text, status in said if status == NOT_STARTED)
+
+
+def run_group_of_programs(cases, words):
+    """Runs a group whose cases run the programs, once these are built. Returns the status."""
+    names = chosen(cases, words)
+    wrong = build() if names else ""
+    if wrong:
+        print(f"{wrong}\n0 passed, {len(names)} failed", flush=True)
+        return 1
+    return run_group(cases, words)
 
 
 def proved(name):

@@ -12,7 +12,7 @@ from check_log import judge
 
 
 def runs(text):
-    text = "".join(line.removeprefix("    ") + "\n" for line in text.split("\n"))
+    text = "".join((line[4:] if line.startswith("    ") else line) + "\n" for line in text.split("\n"))
     for piece in text.split("# script\n")[1:]:
         script, _, rest = piece.partition("# log\n")
         log, _, _ = rest.partition("# end")
