@@ -2,7 +2,7 @@
 
     about     what the case shows, in one sentence
     words     the commands, one a line: `ltfs_server` or `index_tool` and words, split as a shell splits them
-    stdin     standard input of the last command, and stdin.1, stdin.2 .. those of the others by their numbers; else empty
+    stdin     standard input of the last command, and stdin.1, stdin.2 .. those of the others by number; else empty
     stdout    what all commands print, one after the other; else nothing
     status    how each command ends, one a line; else each with 0
     before    what the folder `tape` holds that stands where the commands run: a folder, or a file with the path of one

@@ -9,8 +9,9 @@ import xml.etree.ElementTree as tree
 
 from index_text import GROUP, TIMES, ending, moment
 
-VOLUME = ["creator", "comment", "volumeuuid", "generationnumber", "updatetime", "location", "previousgenerationlocation",
-          "allowpolicyupdate", "dataplacementpolicy", "volumelockstate", "highestfileuid", "directory"]
+VOLUME = ["creator", "comment", "volumeuuid", "generationnumber", "updatetime", "location",
+          "previousgenerationlocation", "allowpolicyupdate", "dataplacementpolicy", "volumelockstate",
+          "highestfileuid", "directory"]
 TAIL = TIMES + ["readonly"]
 
 
@@ -46,7 +47,8 @@ def check_leaf(node, uid):
     count = str(1 + uid * 7919 % 2097152)
     is_same(node.findtext("length"), count)
     extents = [[(c.tag, c.text) for c in e] for e in node.find("extentinfo")]
-    is_same(extents, [[("fileoffset", "0"), ("partition", "b"), ("startblock", str(4 + uid * 3)), ("byteoffset", "0"), ("bytecount", count)]])
+    is_same(extents, [[("fileoffset", "0"), ("partition", "b"), ("startblock", str(4 + uid * 3)), ("byteoffset", "0"),
+                       ("bytecount", count)]])
 
 
 def check_directory(node, uid, name):

@@ -3,11 +3,11 @@
 
 usage: compare_serve.py PROGRAM [--rounds N] [--seed N]
 
-Each round formats a folder, with or without a policy, and serves one to four scripts of up to 16 sessions on it, one after
-the other. Sessions run in threads, so the log says in which order their calls came: it has to have each session's calls
-once and in order, and the plain tree runs the lines of all scripts in the order of the logs. All replies have to be the
-same, a `full` alone apart, behind which a round ends; and what `list` prints at the end has to be the tree that the plain
-run's own calls tell.
+Each round formats a folder, with or without a policy, and serves one to four scripts of up to 16 sessions on it, one
+after the other. Sessions run in threads, so the log says in which order their calls came: it has to have each
+session's calls once and in order, and the plain tree runs the lines of all scripts in the order of the logs. All
+replies have to be the same, a `full` alone apart, behind which a round ends; and what `list` prints at the end has to
+be the tree that the plain run's own calls tell.
 """
 import argparse
 import random
@@ -112,7 +112,8 @@ def judge(program, rng, folder):
 
 
 def compare(program, whole, ordered, got):
-    """What differs from the plain tree in the last calls, and whether one found no space, behind which none is compared."""
+    """What differs from the plain tree in the last calls, and whether one found no space, behind which none is
+    compared."""
     status, told = run(program, ["plain", "--at", TIME], "".join(line + "\n" for line in whole))
     if status:
         return f"plain: {told[-200:]}", False

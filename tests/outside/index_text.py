@@ -69,7 +69,8 @@ def document(count):
               + element("volumeuuid", "30a91a08-daae-48d1-ae75-69804e61d2ea") + element("generationnumber", 3)
               + element("updatetime", moment(0, 0)) + element("location", spot(9))
               + element("previousgenerationlocation", spot(5)) + element("allowpolicyupdate", "true")
-              + element("dataplacementpolicy", element("indexpartitioncriteria", element("size", 1000000) + name("name", "*.txt")))
+              + element("dataplacementpolicy",
+                        element("indexpartitioncriteria", element("size", 1000000) + name("name", "*.txt")))
               + element("volumelockstate", "unlocked") + element("highestfileuid", count))
     return ('<?xml version="1.0" encoding="UTF-8"?>'
             + element("ltfsindex", volume + directory(1, "Archive", "".join(groups)), ' version="2.4.0"')).encode()

@@ -3,11 +3,11 @@
 
 usage: kill_serve.py PROGRAM [--rounds N] [--seed N] [--sessions N] [--longest SECONDS]
 
-The script makes 320 files, those of each session one after the other, with a sync behind each ten of a session. Whenever it
-was killed, `list` has to tell each session's first files with their whole lengths, of which the last may be empty where
-another session's sync came between its two calls; with one session they are the files up to some sync. A serving without
-calls closes the volume, and `list` tells the same then. A killed process loses nothing that it handed to the system, so this
-says nothing of a machine that stops.
+The script makes 320 files, those of each session one after the other, with a sync behind each ten of a session.
+Whenever it was killed, `list` has to tell each session's first files with their whole lengths, of which the last may
+be empty where another session's sync came between its two calls; with one session they are the files up to some sync.
+A serving without calls closes the volume, and `list` tells the same then. A killed process loses nothing that it
+handed to the system, so this says nothing of a machine that stops.
 """
 import argparse
 import collections

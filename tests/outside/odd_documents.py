@@ -77,7 +77,8 @@ def numbered(text):
 
 def run(tool, path):
     """What it says, its processor time in seconds, and the most memory in MiB."""
-    with open(path, "rb") as source, subprocess.Popen([tool, "check"], stdin=source, stdout=subprocess.PIPE) as running:
+    with open(path, "rb") as source, \
+            subprocess.Popen([tool, "check"], stdin=source, stdout=subprocess.PIPE) as running:
         said = running.stdout.read().decode().strip()
         used = os.wait4(running.pid, 0)[2]
         running.returncode = 0

@@ -3,9 +3,9 @@
 
     random_cartridges.py PROGRAM SEED ROUNDS
 
-First of a small volume each item is replaced by one of each kind, and each partition is cut after each item; then so many
-cartridges by chance. The cartridge is written into a folder by the rules of docs/FORMATS.md, and read again here by code that
-shares nothing with the server. Nothing in the folder may change.
+First of a small volume each item is replaced by one of each kind, and each partition is cut after each item; then so
+many cartridges by chance. The cartridge is written into a folder by the rules of docs/FORMATS.md, and read again here
+by code that shares nothing with the server. Nothing in the folder may change.
 """
 import os
 import random
@@ -181,25 +181,27 @@ class Volumes:
         rnd = self.rnd
         block = rnd.choice([3, 4, 4, 4, 5, end - 1, end - 1, end, 2 ** 52, 2 ** 62])
         byte = rnd.choice([0, 0, 0, 1, 4095, 4096])
-        count = rnd.choice([0, 1, 1, 5, SIZE - byte, (end - block) * SIZE - byte, (end - block) * SIZE - byte + 1, 2 ** 40])
+        rest = (end - block) * SIZE - byte
+        count = rnd.choice([0, 1, 1, 5, SIZE - byte, rest, rest + 1, 2 ** 40])
         if rnd.random() < 0.8:
             block, byte, count = 4, 0, rnd.choice([1, 3, (end - 4) * SIZE])
         count = max(count, 0)
         letter = self.often("b", "a", "c")
         name = rnd.choice(["a", "b", "a b", "50%", "z&amp;", "é", ".a", "B"]) + str(uid % 2)
         kind = (f"<symlink>{name}</symlink>" if rnd.random() < 0.2 else
-                f"<extentinfo><extent><fileoffset>0</fileoffset><partition>{letter}</partition><startblock>{block}</startblock>"
-                f"<byteoffset>{byte}</byteoffset><bytecount>{count}</bytecount></extent></extentinfo>")
-        return (f"<file><fileuid>{uid}</fileuid><name>{name}</name><length>{min(count, 2 ** 40)}</length>{slow_reader.TIMES}"
-                f"<readonly>false</readonly>{kind}</file>")
+                f"<extentinfo><extent><fileoffset>0</fileoffset><partition>{letter}</partition>"
+                f"<startblock>{block}</startblock><byteoffset>{byte}</byteoffset>"
+                f"<bytecount>{count}</bytecount></extent></extentinfo>")
+        return (f"<file><fileuid>{uid}</fileuid><name>{name}</name><length>{min(count, 2 ** 40)}</length>"
+                f"{slow_reader.TIMES}<readonly>false</readonly>{kind}</file>")
 
     def nodes(self, end):
         rnd = self.rnd
         parts = [self.file(uid, end) for uid in rnd.sample(range(2, 9), rnd.choice([0, 0, 1, 1, 2]))]
         if rnd.random() < 0.3:
             inside = self.file(20, end) if rnd.random() < 0.5 else ""
-            parts.append(f"<directory><fileuid>11</fileuid><name>{rnd.choice(['docs', 'a!', 'a'])}</name>{slow_reader.TIMES}"
-                         f"<readonly>false</readonly><contents>{inside}</contents></directory>")
+            parts.append(f"<directory><fileuid>11</fileuid><name>{rnd.choice(['docs', 'a!', 'a'])}</name>"
+                         f"{slow_reader.TIMES}<readonly>false</readonly><contents>{inside}</contents></directory>")
         rnd.shuffle(parts)
         return "".join(parts)
 
@@ -254,7 +256,8 @@ class Volumes:
         item = items[at]
         if isinstance(item, bytes):
             k = rnd.randrange(len(item))
-            item = rnd.choice([item[:k], item[:k] + bytes([rnd.choice(b"0<>b9 ")]) + item[k + 1:], item + b" "]) or b"x"
+            other = bytes([rnd.choice(b"0<>b9 ")])
+            item = rnd.choice([item[:k], item[:k] + other + item[k + 1:], item + b" "]) or b"x"
         return items[:at] + [item] + items[at + 1:]
 
 

@@ -3,9 +3,9 @@
 
     random_documents.py TOOL SEED ROUNDS
 
-Half of them are documents of slow_reader.py's table with a few pieces damaged, half are random trees whose parts come in
-any order, some with UIDs, names, lengths or extents that don't agree. Of each document that is accepted the one form has
-to be accepted too, with the same answer, and has to be its own one form.
+Half of them are documents of slow_reader.py's table with a few pieces damaged, half are random trees whose parts come
+in any order, some with UIDs, names, lengths or extents that don't agree. Of each document that is accepted the one
+form has to be accepted too, with the same answer, and has to be its own one form.
 """
 import random
 import re
@@ -19,10 +19,12 @@ import slow_reader  # noqa: E402
 
 TIMES = ["creationtime", "changetime", "modifytime", "accesstime", "backuptime"]
 ODD = [p.encode() for p in (
-    "& &amp; &lt; &#65; &#x41; &#0; &#xD800; &bad; < > \" ' \0 \u00e9 \ufffe \U0001F600 00 0 - + . .. / % %41 %00 %2F true false "
+    "& &amp; &lt; &#65; &#x41; &#0; &#xD800; &bad; < > \" ' \0 \u00e9 \ufffe \U0001F600 "
+    "00 0 - + . .. / % %41 %00 %2F true false "
     "18446744073709551615 18446744073709551616 1099511627776 1099511627777 4611686018427387904 4611686018427387905 "
     "<a/> <symlink>x</symlink> <openforwrite>1</openforwrite> <![CDATA[a]]>").split(" ")]
-ODD += [b" ", b"\t", b"\r", b"\r\n", b"\xff", b"\xc3", b"<!-- x -->", b"<?x y?>", b' percentencoded="true"', b' version="2.4.0"']
+ODD += [b" ", b"\t", b"\r", b"\r\n", b"\xff", b"\xc3", b"<!-- x -->", b"<?x y?>", b' percentencoded="true"',
+        b' version="2.4.0"']
 
 
 def tokens(text):
@@ -112,7 +114,8 @@ class Trees:
     def extent(self):
         offset = self.rnd.choice([0, 1, 5, 2 ** 62, 2 ** 62 - 1]) if self.slips_now() else self.rnd.randrange(40) * 3
         count = self.rnd.choice([0, 1, 4, 2 ** 61, 2 ** 62]) if self.slips_now() else self.rnd.choice([0, 1, 3])
-        values = {"fileoffset": offset, "partition": self.rnd.choice("ab"), "startblock": 7, "byteoffset": 0, "bytecount": count}
+        values = {"fileoffset": offset, "partition": self.rnd.choice("ab"), "startblock": 7, "byteoffset": 0,
+                  "bytecount": count}
         return self.element("extent", self.mixed([self.element(*value) for value in values.items()]))
 
     def file(self):
@@ -151,7 +154,8 @@ class Trees:
                      self.element("dataplacementpolicy", policy), self.element("volumelockstate", "permlocked")]:
             if self.rnd.random() < 0.3:
                 parts.append(more)
-        head = self.rnd.choice(["", '<?xml version="1.0"?>', "<?xml version='1.0' encoding='utf-8' standalone='no' ?>"])
+        head = self.rnd.choice(["", '<?xml version="1.0"?>',
+                                "<?xml version='1.0' encoding='utf-8' standalone='no' ?>"])
         return f'{head}<ltfsindex version="2.{self.rnd.randrange(5)}.0">{self.mixed(parts)}</ltfsindex>\n'.encode()
 
 

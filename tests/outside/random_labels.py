@@ -3,8 +3,8 @@
 
     random_labels.py PROGRAM SEED ROUNDS
 
-The cartridge is written into a folder by the rules of docs/FORMATS.md, and read again here by code that shares nothing with
-the server. Nothing in the folder may change.
+The cartridge is written into a folder by the rules of docs/FORMATS.md, and read again here by code that shares
+nothing with the server. Nothing in the folder may change.
 """
 import os
 import random
@@ -20,7 +20,8 @@ import slow_reader  # noqa: E402
 from slow_reader import Refuse  # noqa: E402
 
 LEAVES = {
-    "label": {"creator": "text", "formattime": "time", "volumeuuid": "uuid", "blocksize": "blocksize", "compression": "truth"},
+    "label": {"creator": "text", "formattime": "time", "volumeuuid": "uuid", "blocksize": "blocksize",
+              "compression": "truth"},
     "place": {"partition": "letter"},
     "pair": {"index": "letter", "data": "letter"},
 }
@@ -189,7 +190,8 @@ def main():
         kinds["ok" if want[1] == 0 else want[0].strip()] += 1
         if got != want or files_of(folder) != before:
             wrong += 1
-            print(f"cartridge {k}: wanted {want}, got {got}, files {'stay' if files_of(folder) == before else 'changed'}")
+            files = "stay" if files_of(folder) == before else "changed"
+            print(f"cartridge {k}: wanted {want}, got {got}, files {files}")
         shutil.rmtree(folder)
     print(f"{rounds} cartridges, {wrong} wrong: {dict(kinds.most_common())}")
     return 1 if wrong else 0

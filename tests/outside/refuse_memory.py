@@ -1,5 +1,5 @@
 #!/usr/bin/env python3
-"""Refuses each request for memory of `serve` in turn, and looks at what is printed and what the folder stands for then.
+"""Refuses each request for memory of `serve` in turn; looks at what is printed and what the folder stands for then.
 
 usage: refuse_memory.py PROGRAM REFUSE.SO [--sessions N] [--first N] [--last N] [--each]
 
@@ -10,8 +10,8 @@ thread. Then each is refused in a run of its own over a folder that was just for
 - the run ends with one of the statuses 0, 4, 7 and 8, with the line that belongs to it;
 - each reply is that of a plain tree, or tells a fault or want of memory;
 - where nothing but how it ended is printed, and no thread was made yet, the folder is as it was, byte by byte;
-- `list` tells of each session none of its file, an empty one or the whole one, and the whole one where the session was told
-  that it was synchronised.
+- `list` tells of each session none of its file, an empty one or the whole one, and the whole one where the session
+  was told that it was synchronised.
 """
 import argparse
 import collections

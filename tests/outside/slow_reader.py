@@ -21,9 +21,11 @@ class Refuse(Exception):
 
 
 SPACE = b" \t\n\r"
+REFERENCES = {"amp": 38, "lt": 60, "gt": 62, "quot": 34, "apos": 39}
 LEAF = {  # form of each leaf, by its parent
     "index": {"creator": "text", "comment": "text", "volumeuuid": "uuid", "generationnumber": "generation",
-              "updatetime": "time", "allowpolicyupdate": "truth", "volumelockstate": "lock", "highestfileuid": "number"},
+              "updatetime": "time", "allowpolicyupdate": "truth", "volumelockstate": "lock",
+              "highestfileuid": "number"},
     "spot": {"partition": "letter", "startblock": "bounded"},
     "policy": {},
     "criteria": {"size": "bounded", "name": "anyname"},
@@ -41,7 +43,8 @@ NODE.update({t: "time" for t in ["creationtime", "changetime", "modifytime", "ac
 for p in ["root", "directory", "file"]:
     LEAF[p].update(NODE)
 PARENT = {
-    "index": {"location": "spot", "previousgenerationlocation": "spot", "dataplacementpolicy": "policy", "directory": "root"},
+    "index": {"location": "spot", "previousgenerationlocation": "spot", "dataplacementpolicy": "policy",
+              "directory": "root"},
     "spot": {}, "policy": {"indexpartitioncriteria": "criteria"}, "criteria": {},
     "root": {"contents": "contents", "extendedattributes": "attributes"},
     "directory": {"contents": "contents", "extendedattributes": "attributes"},
@@ -51,8 +54,8 @@ PARENT = {
 }
 FIVE = ["creationtime", "changetime", "modifytime", "accesstime", "backuptime"]
 REQUIRED = {
-    "index": ["creator", "volumeuuid", "generationnumber", "updatetime", "location", "allowpolicyupdate", "highestfileuid",
-              "directory"],
+    "index": ["creator", "volumeuuid", "generationnumber", "updatetime", "location", "allowpolicyupdate",
+              "highestfileuid", "directory"],
     "spot": ["partition", "startblock"], "policy": ["indexpartitioncriteria"], "criteria": ["size"],
     "root": ["fileuid", "name"] + FIVE + ["readonly", "contents"],
     "directory": ["fileuid", "name"] + FIVE + ["readonly", "contents"],
@@ -263,7 +266,7 @@ class Reader:
                 m = re.match(r"&(?:(amp|lt|gt|quot|apos)|#([0-9]+)|#x([0-9a-fA-F]+));", good[i:])
                 n = None
                 if m:
-                    n = {"amp": 38, "lt": 60, "gt": 62, "quot": 34, "apos": 39}[m[1]] if m[1] else int(m[2]) if m[2] else int(m[3], 16)
+                    n = REFERENCES[m[1]] if m[1] else int(m[2]) if m[2] else int(m[3], 16)
                 if n is None or not allowed(n):
                     if cut and bad is None and could_be_reference(good[i:]):
                         raise Refuse("Syntax", len(self.text))
@@ -539,6 +542,12 @@ def row(kind, old, new, mark=None, shift=0):
     return text, f"{kind} {place + shift}" if kind in ("Syntax", "Unknown", "Twice", "Number", "Name") else kind
 
 
+def second_extent(offset):
+    """The end of the file's extents with its extent once more, at this offset."""
+    extent = FILE[FILE.index("<extent>"):FILE.index("</extentinfo>")]
+    return "</extent>" + extent.replace(">0<", f">{offset}<", 1) + "</extentinfo>"
+
+
 PLAIN = "<readonly>false</readonly>"
 TABLE = [
     (ARCHIVE.encode(), "ok 3 4"),
@@ -549,7 +558,8 @@ TABLE = [
     (changed('<?xml version="1.0" encoding="UTF-8"?>', "\n ")[0], "ok 3 4"),
     (changed("<symlink>docs/read me.txt</symlink>", "<symlink/>")[0], "ok 3 4"),
     (changed("<symlink>docs/read me.txt</symlink>", "")[0], "ok 3 4"),
-    (changed("<extentinfo>", "<extendedattributes></extendedattributes><openforwrite>1</openforwrite><extentinfo>")[0], "ok 3 4"),
+    (changed("<extentinfo>", "<extendedattributes></extendedattributes><openforwrite>1</openforwrite><extentinfo>")[0],
+     "ok 3 4"),
     (changed("<name>Archive</name>", "<name></name>")[0], "ok 3 4"),
     (changed("<name>Archive</name>", "<name>..</name>")[0], "ok 3 4"),
     (changed('version="2.4.0"', "version = '2.0.999'")[0], "ok 3 4"),
@@ -578,11 +588,13 @@ TABLE = [
     # Missing
     (changed("<creator>Example LTFS 2.4.0.0 - Linux - ltfs</creator>", "")[0], "Missing creator"),
     (changed("<partition>b</partition><startblock>9</startblock>", "")[0], "Missing partition"),
-    (changed("<location><partition>b</partition><startblock>9</startblock></location>", "<location/>")[0], "Missing partition"),
+    (changed("<location><partition>b</partition><startblock>9</startblock></location>", "<location/>")[0],
+     "Missing partition"),
     (changed("<length>5</length>", "")[0], "Missing length"),
     (changed("<bytecount>5</bytecount>", "")[0], "Missing bytecount"),
     (changed(f"<contents>{FILE}</contents>", "")[0], "Missing contents"),
-    (changed("<volumelockstate>", "<dataplacementpolicy></dataplacementpolicy><volumelockstate>")[0], "Missing indexpartitioncriteria"),
+    (changed("<volumelockstate>", "<dataplacementpolicy></dataplacementpolicy><volumelockstate>")[0],
+     "Missing indexpartitioncriteria"),
     # Number
     row("Number", "<generationnumber>3<", "<generationnumber>0<", "0</generationnumber"),
     row("Number", "<generationnumber>3<", f"<generationnumber>{2 ** 62 + 1}<", "4611686018427387905"),
@@ -611,7 +623,8 @@ TABLE = [
     row("Syntax", "<creator>", "<!-- x --><creator>", "!-- x"),
     row("Syntax", "<creator>", "x<creator>", "x<creator"),
     row("Syntax", "<name>docs</name>", '<name percentencoded="x" y="1">docs</name>', 'x" y'),
-    row("Syntax", "<name>docs</name>", '<name percentencoded="true" percentencoded="true">docs</name>', 'percentencoded="true">docs'),
+    row("Syntax", "<name>docs</name>", '<name percentencoded="true" percentencoded="true">docs</name>',
+        'percentencoded="true">docs'),
     row("Syntax", PLAIN, "<readonly>falsex</readonly>", "x</readonly"),
     row("Syntax", PLAIN, "<readonly>trux</readonly>", "trux"),
     row("Syntax", PLAIN, "<readonly></readonly>", "</readonly>"),
@@ -632,8 +645,8 @@ TABLE = [
     (changed("<name>latest<", "<name>docs<")[0], "SameName 4"),
     (changed("<length>5<", f"<length>{2 ** 40 + 1}<")[0], "Extent 3"),
     (changed("<fileoffset>0<", f"<fileoffset>{2 ** 62 - 4}<")[0], "Extent 3"),
-    (changed("</extent></extentinfo>", "</extent>" + FILE[FILE.index("<extent>"):FILE.index("</extentinfo>")].replace(">0<", ">4<", 1) + "</extentinfo>")[0], "Overlap 3"),
-    (changed("</extent></extentinfo>", "</extent>" + FILE[FILE.index("<extent>"):FILE.index("</extentinfo>")].replace(">0<", ">5<", 1) + "</extentinfo>")[0], "ok 3 4"),
+    (changed("</extent></extentinfo>", second_extent(4))[0], "Overlap 3"),
+    (changed("</extent></extentinfo>", second_extent(5))[0], "ok 3 4"),
     # bytes that aren't UTF-8
     (ARCHIVE.encode() + b"\xff", f"Syntax {len(ARCHIVE)}"),
     (ARCHIVE.replace("Nightly", "Nightl\xff").encode("latin-1"), f"Syntax {ARCHIVE.index('Nightly') + 6}"),

@@ -4,8 +4,8 @@
 usage: check_log.py SCRIPT LOG      say what is wrong first, with its line in the log, or that the log holds
        check_log.py --self-test     judge the logs in rows.py, and each of them broken in one way
 
-A log is lines of words, and lines that begin with `#`. What is told of the start comes first. Calls stand in the order of
-the history, acknowledgements and events in their own order; the three may be mixed.
+A log is lines of words, and lines that begin with `#`. What is told of the start comes first. Calls stand in the
+order of the history, acknowledgements and events in their own order; the three may be mixed.
 
     volume block 4096 caps 1000 1000 ends 4 7 generation 1 last 5 ip_on yes      what is left out is as it stands here
     policy SIZE PATTERN/PATTERN                           which files may go to the index partition
@@ -13,8 +13,8 @@ the history, acknowledgements and events in their own order; the three may be mi
     node file UID PATH TIME LENGTH
     extent PATH OFFSET PART BLOCK BYTE COUNT BYTES        where it stands in the file and on tape, and the bytes there
     moment TIME                                           each call has this moment
-    drive COMMANDS FAULTS COMMANDS FAULTS                 the counts of the drive at the start and at the end; each command of it
-                                                          counts as one
+    drive COMMANDS FAULTS COMMANDS FAULTS                 the counts of the drive at the start and at the end; each
+                                                          command of it counts as one
     call PLACE WHO.NTH done|void TIME REPLY               a call of the history, with its reply as it is printed
     ack PLACE COMMAND
     wants TICKET PART POS  queues PART POS  syncs TICKET  synced TICKET  drains WHO  rests WHO
@@ -319,7 +319,8 @@ class Check:
             self.check_commands(line, before, (commands, command))
             before = commands, command
         if len(self.log.acks) != len(head.answered):
-            raise Wrong(self.log.calls[-1].at, f"{len(head.answered)} syncs were answered, {len(self.log.acks)} acknowledged")
+            counts = f"{len(head.answered)} syncs were answered, {len(self.log.acks)} acknowledged"
+            raise Wrong(self.log.calls[-1].at, counts)
         if drive:
             self.check_commands(drive, before, (head.commands, drive.words[2]))
             if head.last_fault and not drive.words[1] <= head.last_fault[1] <= drive.words[3]:

@@ -3,8 +3,8 @@
 
 usage: check_runs.py < RUNS
 
-A run stands between the lines `# script`, `# log` and `# end`: the script, and the log as check_log.py reads it. All lines
-may have four spaces in front, as a run of the tests prints them.
+A run stands between the lines `# script`, `# log` and `# end`: the script, and the log as check_log.py reads it. All
+lines may have four spaces in front, as a run of the tests prints them.
 """
 import sys
 

@@ -1,7 +1,7 @@
 """Logs of worked runs, written by hand, and each of them broken in one way.
 
-A row has a name, a script, a log, and pairs of what stands once in the log and what is put in its place. A broken log is no
-log of that script. All volumes are freshly formatted with blocks of 4,096 bytes, where nothing else is said.
+A row has a name, a script, a log, and pairs of what stands once in the log and what is put in its place. A broken log
+is no log of that script. All volumes are freshly formatted with blocks of 4,096 bytes, where nothing else is said.
 """
 
 T = "2024-01-02T03:04:05.000000000Z"
@@ -23,8 +23,9 @@ MOMENT = f"moment {T}\n"
 
 READ_BACK = "1 create /a\n1 write /a 0 text:hello\n1 sync\n1 read /a 0 5\n"
 
-READ_BACK_LOG = (MOMENT + "drive 40 0 51 0\n" + calls(1, "ok", "ok", "synced", "bytes 5 68656c6c6f") + each("queues", 7, 5)
-                 + "syncs 2\n" + each("worked", 7, 5) + "synced 2\nack 2 49\nwants 3 dp 7\nserved 3 dp 7\nclosed 2 6 11\n")
+READ_BACK_LOG = (MOMENT + "drive 40 0 51 0\n" + calls(1, "ok", "ok", "synced", "bytes 5 68656c6c6f")
+                 + each("queues", 7, 5) + "syncs 2\n" + each("worked", 7, 5)
+                 + "synced 2\nack 2 49\nwants 3 dp 7\nserved 3 dp 7\nclosed 2 6 11\n")
 
 READ_BACK_BROKEN = [
     ("bytes 5 68656c6c6f", "bytes 5 68656c6c70"),                      # other bytes
@@ -72,10 +73,11 @@ SWEEP_LOG = ("volume ends 4 200 last 197\n" + one_block(2, "/h", 29, "head") + o
              + "served 3 dp 50\nserved 1 dp 90\nserved 2 dp 20\nclosed 1 4 159\n")
 
 SWEEP_BROKEN = [
-    ("served 3 dp 50\nserved 1 dp 90\nserved 2 dp 20", "served 1 dp 90\nserved 3 dp 50\nserved 2 dp 20"),   # as they came
-    ("served 3 dp 50\nserved 1 dp 90\nserved 2 dp 20", "served 3 dp 50\nserved 2 dp 20\nserved 1 dp 90"),   # back too early
-    ("served 3 dp 50\nserved 1 dp 90\nserved 2 dp 20", "served 2 dp 20\nserved 3 dp 50\nserved 1 dp 90"),   # the lowest first
-    ("served 3 dp 50\nserved 1 dp 90\n", "served 3 dp 50\nserved 3 dp 90\n"),                               # for another call
+    # as they came, back too early, the lowest first, and for another call
+    ("served 3 dp 50\nserved 1 dp 90\nserved 2 dp 20", "served 1 dp 90\nserved 3 dp 50\nserved 2 dp 20"),
+    ("served 3 dp 50\nserved 1 dp 90\nserved 2 dp 20", "served 3 dp 50\nserved 2 dp 20\nserved 1 dp 90"),
+    ("served 3 dp 50\nserved 1 dp 90\nserved 2 dp 20", "served 2 dp 20\nserved 3 dp 50\nserved 1 dp 90"),
+    ("served 3 dp 50\nserved 1 dp 90\n", "served 3 dp 50\nserved 3 dp 90\n"),
     ("served 1 dp 90", "served 1 dp 91"),
     ("served 2 dp 20\n", ""),
     ("served 2 dp 20\n", "served 2 dp 20\nserved 2 dp 20\n"),
@@ -95,7 +97,8 @@ SWEEP_BROKEN = [
 SAME_PLACE = "2 read /a 0 4\n1 read /a 0 4\n"
 
 SAME_PLACE_LOG = ("volume ends 4 200 last 197\n" + one_block(2, "/a", 50, "same")
-                  + f"call 0 2.0 done {T} bytes 4 73616d65\nwants 0 dp 50\ncall 1 1.0 done {T} bytes 4 73616d65\nwants 1 dp 50\n"
+                  + f"call 0 2.0 done {T} bytes 4 73616d65\nwants 0 dp 50\n"
+                  + f"call 1 1.0 done {T} bytes 4 73616d65\nwants 1 dp 50\n"
                   + "served 0 dp 50\nserved 1 dp 50\nclosed 1 2 51\n")
 
 SAME_PLACE_BROKEN = [
@@ -138,8 +141,8 @@ FAILED_BROKEN = [
 
 DRAINED = "1 create /a\n" + "".join(f"1 write /a {65536 * k} fill:61:65536\n" for k in range(6))
 
-DRAINED_LOG = ("drive 40 0 72 0\n" + calls(1, *["ok"] * 7) + each("queues", 7, 80) + "drains 1\n" + each("worked", 7, 16)
-               + "rests 1\n" + each("queues", 87, 16) + "closed 2 16 7\n")
+DRAINED_LOG = ("drive 40 0 72 0\n" + calls(1, *["ok"] * 7) + each("queues", 7, 80) + "drains 1\n"
+               + each("worked", 7, 16) + "rests 1\n" + each("queues", 87, 16) + "closed 2 16 7\n")
 
 DRAINED_BROKEN = [
     ("drains 1\n" + each("worked", 7, 16) + "rests 1\n", ""),              # placed while 80 ops stand
@@ -182,8 +185,9 @@ FAILED_DRAIN_BROKEN = [
 
 ON_IP = "1 create /a.txt\n1 write /a.txt 0 text:abc\n1 sync\n"
 
-ON_IP_LOG = ("policy 1000000 *.txt\n" + calls(1, "ok", "ok", "synced") + "queues ip 4\nqueues ip 5\n" + each("queues", 7, 4)
-             + "syncs 2\nworked ip 4\nworked ip 5\n" + each("worked", 7, 4) + "synced 2\nack 2 50\nclosed 2 6 6\n")
+ON_IP_LOG = ("policy 1000000 *.txt\n" + calls(1, "ok", "ok", "synced") + "queues ip 4\nqueues ip 5\n"
+             + each("queues", 7, 4) + "syncs 2\nworked ip 4\nworked ip 5\n" + each("worked", 7, 4)
+             + "synced 2\nack 2 50\nclosed 2 6 6\n")
 
 ON_IP_BROKEN = [
     ("queues ip 4\nqueues ip 5\n", "queues dp 7\n"),                       # the policy isn't kept
@@ -200,7 +204,8 @@ ON_IP_BROKEN = [
 FULL = ("1 create /a\n1 write /a 0 fill:61:65536\n1 write /a 65536 fill:62:65536\n1 write /a 131072 fill:63:53248\n"
         "1 write /a 184320 fill:64:1\n1 sync\n")
 
-FULL_LOG = ("volume caps 64 64\ndrive 40 0 137 0\n" + calls(1, *["ok"] * 4) + calls(1, "full 53 52", place=4, nth=4, fate="void")
+FULL_LOG = ("volume caps 64 64\ndrive 40 0 137 0\n" + calls(1, *["ok"] * 4)
+            + calls(1, "full 53 52", place=4, nth=4, fate="void")
             + calls(1, "synced", place=5, nth=5) + each("queues", 7, 49) + "syncs 5\n" + each("worked", 7, 49)
             + "synced 5\nack 5 137\nclosed 2 49 7\n")
 
@@ -216,8 +221,9 @@ FULL_BROKEN = [
 
 TWO = READ_BACK + "2 mkdir /b\n2 sync\n"
 
-TWO_LOG = (calls(1, "ok", "ok", "synced") + each("queues", 7, 5) + "syncs 2\n" + each("worked", 7, 5) + "synced 2\nack 2 49\n"
-           + calls(2, "ok", place=3) + calls(1, "bytes 5 68656c6c6f", place=4, nth=3) + "wants 4 dp 7\n"
+TWO_LOG = (calls(1, "ok", "ok", "synced") + each("queues", 7, 5) + "syncs 2\n" + each("worked", 7, 5)
+           + "synced 2\nack 2 49\n" + calls(2, "ok", place=3)
+           + calls(1, "bytes 5 68656c6c6f", place=4, nth=3) + "wants 4 dp 7\n"
            + calls(2, "synced", place=5, nth=1) + each("queues", 11, 4) + "syncs 5\n" + each("worked", 11, 4)
            + "synced 5\nack 5 56\nserved 4 dp 7\nclosed 3 10 14\n")
 
@@ -235,7 +241,8 @@ TWO_BROKEN = [
 BOTH_WAYS = "3 read /h 0 4\n2 read /b 0 4\n1 read /a 0 4\n"
 
 BOTH_WAYS_LOG = ("volume ends 4 200 last 197\n" + one_block(2, "/h", 19, "head") + one_block(3, "/a", 30, "high")
-                 + one_block(4, "/b", 10, "less") + f"call 0 3.0 done {T} bytes 4 68656164\nwants 0 dp 19\nserved 0 dp 19\n"
+                 + one_block(4, "/b", 10, "less")
+                 + f"call 0 3.0 done {T} bytes 4 68656164\nwants 0 dp 19\nserved 0 dp 19\n"
                  + f"call 1 2.0 done {T} bytes 4 6c657373\nwants 1 dp 10\ncall 2 1.0 done {T} bytes 4 68696768\n"
                  + "wants 2 dp 30\nserved 2 dp 30\nserved 1 dp 10\nclosed 1 3 50\n")
 
@@ -265,7 +272,8 @@ HELD_BROKEN = [
 DAMAGED = "1 read /a 0 3\n1 read /a 0 5\n"
 
 DAMAGED_LOG = (f"volume ends 4 8 last 6\nnode file 2 /a {T} 5\nextent /a 0 dp 4 0 5 text:abc\n"
-               + calls(1, "bytes 3 616263", "no Damaged") + "wants 0 dp 4\nserved 0 dp 4\nwants 1 dp 4\nserved 1 dp 4\nclosed 1 2 5\n")
+               + calls(1, "bytes 3 616263", "no Damaged")
+               + "wants 0 dp 4\nserved 0 dp 4\nwants 1 dp 4\nserved 1 dp 4\nclosed 1 2 5\n")
 
 DAMAGED_BROKEN = [("no Damaged", "bytes 5 6162630000"), ("bytes 3 616263", "no Damaged")]
 

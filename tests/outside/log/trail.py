@@ -1,8 +1,8 @@
 """The head of a drive: what waits for it, which step is the next one, and whose step that is.
 
-A step goes to the nearest ahead of the head: on its own partition before the other, ahead before behind, then by position,
-then by arrival. A request is a block that a read wants. Of the ops only the first waits, and only where a sync waits or a
-session drains; it counts as come before all requests.
+A step goes to the nearest ahead of the head: on its own partition before the other, ahead before behind, then by
+position, then by arrival. A request is a block that a read wants. Of the ops only the first waits, and only where a
+sync waits or a session drains; it counts as come before all requests.
 """
 
 ROOM = 64
@@ -77,7 +77,8 @@ class Head:
         return min(keys)
 
     def follow(self, line, next_verb):
-        """Take an event that is no submission's. Answers who owns its fault: ("call", place), ("session", who), or None."""
+        """Take an event that is no submission's. Answers who owns its fault: ("call", place), ("session", who), or
+        None."""
         if self.syncs and self.syncs[0].due <= self.done and line.kind != "synced":
             raise Wrong(line.at, f"sync {self.syncs[0].ticket} has all that it waits for, and is not answered first")
         if line.kind == "served":

@@ -1,7 +1,7 @@
 """A script, the plain file tree on which its calls are made, and the length of the index that tells the tree.
 
-Paths are tuples of names. What a file holds is a list of extents, each with the place of its first block on tape and its
-bytes; where it has fewer bytes than its count, the rest is lost. What no extent covers is zero.
+Paths are tuples of names. What a file holds is a list of extents, each with the place of its first block on tape and
+its bytes; where it has fewer bytes than its count, the rest is lost. What no extent covers is zero.
 """
 import unicodedata
 import urllib.parse
@@ -92,7 +92,8 @@ class Extent:
             return None
         skipped = first - self.offset
         blocks, byte = divmod(self.byte + skipped, size)
-        return Extent(first, self.part, self.block + blocks, byte, end - first, self.data[skipped:skipped + end - first])
+        data = self.data[skipped:skipped + end - first]
+        return Extent(first, self.part, self.block + blocks, byte, end - first, data)
 
 
 class Node:
@@ -201,7 +202,8 @@ class Tree:
     def range_of(self, path, offset, count):
         """The extents of what is read, and how many bytes that is."""
         end = min(offset + count, self.nodes[path].length)
-        return [e for e in (e.cut(offset, end, self.block) for e in self.nodes[path].extents) if e], max(0, end - offset)
+        pieces = (e.cut(offset, end, self.block) for e in self.nodes[path].extents)
+        return [e for e in pieces if e], max(0, end - offset)
 
     def read(self, path, offset, count):
         extents, count = self.range_of(path, offset, count)
@@ -257,7 +259,8 @@ def node_len(path, node, root_name):
     if node.sort == "link":
         return leaf("file", "") + both + leaf("length", len(node.text.encode())) + name_leaf("symlink", node.text)
     extents = sum(leaf("extent", "") + leaf("fileoffset", e.offset) + leaf("partition", "a")
-                  + leaf("startblock", e.block) + leaf("byteoffset", e.byte) + leaf("bytecount", e.count) for e in node.extents)
+                  + leaf("startblock", e.block) + leaf("byteoffset", e.byte) + leaf("bytecount", e.count)
+                  for e in node.extents)
     return leaf("file", "") + both + leaf("length", node.length) + leaf("extentinfo", "") + extents
 
 
