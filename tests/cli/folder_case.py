@@ -12,6 +12,7 @@
     streams   of the last command, a line for each: `stdin folder` (it can't be read), `stdout full` (nothing can be
               written to it), `stdout closed`
     through   what is printed goes through this program before it is compared
+    proved    why the case is tried with the proved program alone, or with one that LTFS_SERVER or INDEX_TOOL names
 
 A file with the ending .py or .sh in place of one without is a program, for Python or bash, that prints what the file
 would hold; `through` is always one, and before.sh or before.py writes into `tape`. Programs run where the commands do,
@@ -26,8 +27,8 @@ import subprocess
 import sys
 import tempfile
 
-from cases import TOP, compare
-from programs import program
+from cases import TOP, NotTried, compare
+from programs import is_checked, program
 
 SECONDS = 900
 RUNNERS = {".py": sys.executable, ".sh": "bash"}
@@ -94,9 +95,14 @@ def start(words, stdin, streams, where, printed, said):
             os.close(source)
 
 
+def commands_of(folder):
+    """Returns the words of each command of the case."""
+    return [shlex.split(line) for line in (folder / "words").read_text().splitlines() if line]
+
+
 def run_commands(folder, where, apart):
     """Runs the commands of the case. Returns how they ended, and the paths of what they printed and said."""
-    lines = [shlex.split(line) for line in (folder / "words").read_text().splitlines() if line]
+    lines = commands_of(folder)
     streams = told(folder, "streams", where) or b""
     streams = dict(line.split(" ") for line in streams.decode().splitlines())
     statuses, printed, said = [], apart / "printed", apart / "said"
@@ -128,6 +134,9 @@ def compare_tape(folder, before, after):
 
 def run_case(folder):
     """Runs the case of a folder, and returns what came otherwise than it is wanted."""
+    why = folder / "proved"
+    if why.exists() and any(is_checked(line[0]) for line in commands_of(folder)):
+        return NotTried(why.read_text().strip())
     with tempfile.TemporaryDirectory() as made:
         where, apart = pathlib.Path(made, "here"), pathlib.Path(made, "apart")
         where.mkdir()

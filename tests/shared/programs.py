@@ -16,6 +16,11 @@ def program(name):
     return os.path.abspath(named) if named else str(TOP / name)
 
 
+def is_checked(name):
+    """Whether the launcher runs a checked program, which takes a hundred times as long, in place of the proved one."""
+    return not os.environ.get(name.upper()) and not proved(name)
+
+
 def build(names=PROGRAMS):
     """Runs each program once, side by side, so that a launcher builds what is not built. Returns what they said that
     can't be started."""
