@@ -17,7 +17,7 @@ def program(name):
 
 
 def is_checked(name):
-    """Whether the launcher runs a checked program, which takes a hundred times as long, in place of the proved one."""
+    """Whether the launcher runs a checked program, which is far slower, in place of the proved one."""
     return not os.environ.get(name.upper()) and not proved(name)
 
 
