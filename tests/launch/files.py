@@ -1,0 +1,195 @@
+"""Files of one's own, put into a volume and got out of it."""
+
+import hashlib
+import os
+import random
+import signal
+import subprocess
+import time
+
+from cases import compare
+from clones import environment, fresh_folder, ready, run, run_at_terminal, volume
+
+MIB = 2**20
+
+
+def some_bytes(count, seed=1):
+    return random.Random(seed).randbytes(count) if hasattr(random.Random, "randbytes") else os.urandom(count)
+
+
+def put(folder, path, file, given=b"", **more):
+    return run([ready() / "ltfs_put", folder, path, file], fresh_folder(), given, **more)
+
+
+def get(folder, path, *file, **more):
+    return run([ready() / "ltfs_get", folder, path, *file], fresh_folder(), **more)
+
+
+def copy_and_compare(folder, path, file, of):
+    """Puts the file, gets it into another one, and compares the two."""
+    ran, copy = put(folder, path, file), fresh_folder() / "copy"
+    found = compare(f"status of the put of {of}", 0, ran.status) + compare(f"output of the put of {of}", b"", ran.out)
+    ran = get(folder, path, copy)
+    found += compare(f"status of the get of {of}", 0, ran.status) + compare(f"output of the get of {of}", b"", ran.out)
+    same = copy.exists() and digest(copy) == digest(file)
+    return found + compare(f"whether {of} came back as it was", True, same)
+
+
+def digest(file):
+    with file.open("rb") as it:
+        return hashlib.sha256(it.read()).hexdigest()
+
+
+def sums(folder):
+    """What each file of the folder holds."""
+    return {it.name: digest(it) for it in folder.iterdir()}
+
+
+def sizes():
+    folder, here, found = volume(ready()), fresh_folder(), []
+    for count in (0, 1, 2, 65_536, 65_537, MIB):
+        file = here / str(count)
+        file.write_bytes(some_bytes(count))
+        found += copy_and_compare(folder, f"/{count}", file, f"{count} bytes")
+    listed = run(["./ltfs_server", "list", folder], ready()).out.decode().splitlines()
+    return found + compare("lines of the volume", 8, len(listed))
+
+
+def names():
+    folder, here, found = volume(ready()), fresh_folder(), []
+    run(["./ltfs_server", "serve", folder], ready(), b"1 mkdir /a%20b\n")
+    for name in ("x y  z", "100%", "%41", "é", "日本", "-x", "--help", "'\"\\$`*?", "tab\there"):
+        file = here / "file"
+        file.write_bytes(name.encode())
+        found += copy_and_compare(folder, f"/a b/{name}", file, name)
+    ran = run(["./ltfs_server", "serve", folder], ready(), b"1 list /a%20b\n")
+    wanted = ("0 1.0 names 9 f:%09 f:%09")[:13]
+    found += compare("how the listing begins", wanted, ran.out.decode()[:13])
+    return found + compare("whether it has `A`", False, b"f:A" in ran.out)
+
+
+def repeated():
+    """A file of one byte repeated, with some others between, is put in few bytes of script."""
+    folder, file = volume(ready()), fresh_folder() / "file"
+    file.write_bytes(bytes(3 * MIB) + b"\xff" * MIB + b"end" + bytes(65_536))
+    return copy_and_compare(folder, "/file", file, "repeated bytes")
+
+
+def two_runs():
+    """A file of more bytes than a script has."""
+    folder, file = volume(ready()), fresh_folder() / "file"
+    file.write_bytes(bytes(1_020 * 65_536) + some_bytes(5 * 65_536 + 1))
+    ran = put(folder, "/file", file)
+    found = compare("status", 0, ran.status)
+    served = run(["./ltfs_server", "serve", folder], ready(), b"1 stat /file\n1 read /file 66846700 50\n").out.decode()
+    found += compare("length", str(file.stat().st_size), served.split()[4])
+    wanted = file.read_bytes()[66_846_700:66_846_750].hex()
+    return found + compare("bytes at the seam", wanted, served.splitlines()[1].split()[-1])
+
+
+def large():
+    """A file of 200 MiB, the most of it one byte repeated, so that the checked program gets through it in time."""
+    folder, file = volume(ready()), fresh_folder() / "file"
+    with file.open("wb") as it:
+        it.write(some_bytes(100_000))
+        it.truncate(100 * MIB)
+        it.seek(100 * MIB)
+        it.write(some_bytes(MIB, 2))
+        it.truncate(200 * MIB)
+    return copy_and_compare(folder, "/file", file, "200 MiB")
+
+
+def replaced():
+    """What a file held is replaced by less, and a directory is not replaced."""
+    folder, here = volume(ready()), fresh_folder()
+    (here / "long").write_bytes(some_bytes(70_000))
+    (here / "short").write_bytes(b"short")
+    found = copy_and_compare(folder, "/file", here / "long", "the first")
+    found += copy_and_compare(folder, "/file", here / "short", "the second")
+    run(["./ltfs_server", "serve", folder], ready(), b"1 mkdir /dir\n")
+    ran = put(folder, "/dir", here / "short")
+    found += compare("status of a put over a directory", 9, ran.status)
+    return found + compare("its line", "ltfs_put: 1 1.1 no IsDir (truncate /dir)", ran.lines()[-1])
+
+
+def standard_streams():
+    folder = volume(ready())
+    given = some_bytes(100_000)
+    found = compare("status of the put", 0, put(folder, "/file", "-", given).status)
+    ran = get(folder, "/file")
+    return found + compare("status of the get", 0, ran.status) + compare("whether it is the same", True, ran.out == given)
+
+
+def failures():
+    """The volume's own line, and the status: the run's own, or 9 where a call was refused."""
+    folder, empty, here, found = volume(ready()), fresh_folder(), fresh_folder(), []
+    file = here / "file"
+    file.write_bytes(b"x")
+    put(folder, "/here", file)
+    for ran, status, line in (
+        (put(folder, "/no/x", file), 9, "ltfs_put: 0 1.0 no NotFound (create /no/x)"),
+        (put(folder, "/", file), 9, "ltfs_put: 0 1.0 no Root (create /)"),
+        (put(folder, "/e\u0301", file), 9, "ltfs_put: 0 1.0 no BadName (create /e%CC%81)"),
+        (put(folder, "x", file), 2, "ltfs_put: script 1 Path"),
+        (put(folder, b"/\xff", file), 2, "ltfs_put: script 1 Path"),
+        (put(empty, "/x", file), 3, "ltfs_put: volume Vol1 ip"),
+        (put(empty / "missing", "/x", file), 4, "ltfs_put: drive 0 1"),
+        (put(folder, "/x", here / "missing"), 5, "ltfs_put: FILE can't be read: No such file or directory"),
+        (put(folder, "/x", here), 5, "ltfs_put: FILE can't be read: Is a directory"),
+        (get(folder, "/x"), 9, "ltfs_get: 0 1.0 no NotFound (stat /x)"),
+        (get(folder, "/"), 9, "ltfs_get: 1 1.1 no IsDir (read /)"),
+        (get(empty, "/x"), 3, "ltfs_get: volume Vol1 ip"),
+        (get(folder, "/here", here / "missing" / "x"), 6, "ltfs_get: FILE can't be written: No such file or directory"),
+        (run([ready() / "ltfs_put", folder], here), 1, "usage: ltfs_put DIR PATH FILE; 'ltfs_put --help' tells more"),
+        (run([ready() / "ltfs_get"], here), 1, "usage: ltfs_get DIR PATH [FILE]; 'ltfs_get --help' tells more"),
+    ):
+        found += compare(f"status where {line}", status, ran.status) + compare("last line", line, ran.lines()[-1])
+    full = run([ready() / "ltfs_get", folder, "/here"], here, stdout=open("/dev/full", "wb"))
+    return found + compare("status of a get into a full disk", 6, full.status)
+
+
+def left_as_it_was():
+    """A get changes neither the volume, nor, where it fails, the file that stands there; and it leaves no other."""
+    folder, here = volume(ready()), fresh_folder()
+    (here / "file").write_bytes(b"as it was")
+    put(folder, "/file", here / "file")
+    before = sums(folder)
+    found = compare("status", 0, get(folder, "/file", here / "copy").status)
+    found += compare("the volume's files", before, sums(folder))
+    found += compare("status of another", 9, get(folder, "/missing", here / "file").status)
+    found += compare("the file that stood there", b"as it was", (here / "file").read_bytes())
+    return found + compare("files", ["copy", "file"], sorted(os.listdir(here)))
+
+
+def told_to_stop():
+    folder, here = volume(ready()), fresh_folder()
+    words = [ready() / "ltfs_put", folder, "/file", "-"]
+    process = subprocess.Popen(words, cwd=here, env=environment(), stdin=subprocess.PIPE, stderr=subprocess.PIPE)
+    time.sleep(2)
+    process.send_signal(signal.SIGTERM)
+    err = process.communicate(timeout=60)[1].decode().splitlines()
+    return compare("status", 143, process.returncode) + compare("last line", "ltfs_put: cut off", err[-1])
+
+
+def progress():
+    folder, file = volume(ready()), fresh_folder() / "file"
+    file.write_bytes(bytes(MIB))
+    ran = run_at_terminal([ready() / "ltfs_put", folder, "/file", file], fresh_folder())
+    found = compare("status", 0, ran.status) + compare("what is shown", b"\rltfs_put: 1.0 of 1.0 MiB\n", ran.err[-26:])
+    ran = run_at_terminal([ready() / "ltfs_get", folder, "/file", file], fresh_folder())
+    return found + compare("what is shown then", b"\rltfs_get: 1.0 of 1.0 MiB\n", ran.err[-26:])
+
+
+CASES = {
+    "large": large,
+    "two_runs": two_runs,
+    "sizes": sizes,
+    "names": names,
+    "repeated": repeated,
+    "replaced": replaced,
+    "standard_streams": standard_streams,
+    "failures": failures,
+    "left_as_it_was": left_as_it_was,
+    "told_to_stop": told_to_stop,
+    "progress": progress,
+}
