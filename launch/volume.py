@@ -35,7 +35,7 @@ def escaped(path):
 
 
 class Runs:
-    """Runs of the server over the volume in a folder. What the launcher says is passed on once, and not with each run."""
+    """Runs of the server over the volume in a folder. What the launcher says is passed on once."""
 
     def __init__(self, folder):
         self.folder = folder
@@ -43,8 +43,8 @@ class Runs:
         self.server = None
 
     def replies(self, calls):
-        """Runs the calls in one session, and yields each one's reply. Raises a failure where one is refused, or the run
-        is: with the line that the server printed."""
+        """Runs the calls in one session, and yields each one's reply. Where one or the run is refused, it raises the
+        failure with the line that the server printed."""
         script = b"".join(b"1 %s\n" % it for it in calls)
         words = [str(TOP / "ltfs_server"), "serve", self.folder]
         pipes = {"stdin": subprocess.PIPE, "stdout": subprocess.PIPE, "stderr": subprocess.PIPE}

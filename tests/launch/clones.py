@@ -19,6 +19,8 @@ LIMIT = 900
 NOBODY = 65_534
 FIRST_LOG = (TOP / "examples/first.log").read_bytes()
 FIRST_SCRIPT = (TOP / "examples/first.script").read_bytes()
+# Where a work tree has programs, checked or proved.
+PROGRAMS = ("launch/built/*-*", "crates/ltfs_server/out/ltfs_server", "crates/index_tool/out/index_tool")
 UUID = "30a91a08-daae-48d1-ae75-69804e61d2ea"
 
 
@@ -158,10 +160,10 @@ def unwritable_runs():
 
 @once
 def ready():
-    """A clone with both programs, proved where the work tree has them so, else checked. It shares the builds of others."""
+    """A clone with both programs: those of the work tree, or the checked ones that other cases build."""
     where = clone("ready")
     (where / "launch/built").mkdir(exist_ok=True)
-    for it in [*TOP.glob("launch/built/*-*"), *TOP.glob("crates/*/out/ltfs_server"), *TOP.glob("crates/*/out/index_tool")]:
+    for it in (it for some in PROGRAMS for it in TOP.glob(some)):
         if it.is_file():
             (where / it.relative_to(TOP)).parent.mkdir(exist_ok=True)
             shutil.copy(it, where / it.relative_to(TOP))

@@ -28,9 +28,9 @@ def get(folder, path, *file, **more):
 def copy_and_compare(folder, path, file, of):
     """Puts the file, gets it into another one, and compares the two."""
     ran, copy = put(folder, path, file), fresh_folder() / "copy"
-    found = compare(f"status of the put of {of}", 0, ran.status) + compare(f"output of the put of {of}", b"", ran.out)
+    found = compare(f"status of the put of {of}", 0, ran.status) + compare("its output", b"", ran.out)
     ran = get(folder, path, copy)
-    found += compare(f"status of the get of {of}", 0, ran.status) + compare(f"output of the get of {of}", b"", ran.out)
+    found += compare(f"status of the get of {of}", 0, ran.status) + compare("its output", b"", ran.out)
     same = copy.exists() and digest(copy) == digest(file)
     return found + compare(f"whether {of} came back as it was", True, same)
 
@@ -117,7 +117,8 @@ def standard_streams():
     given = some_bytes(100_000)
     found = compare("status of the put", 0, put(folder, "/file", "-", given).status)
     ran = get(folder, "/file")
-    return found + compare("status of the get", 0, ran.status) + compare("whether it is the same", True, ran.out == given)
+    found += compare("status of the get", 0, ran.status)
+    return found + compare("whether it is the same", True, ran.out == given)
 
 
 def failures():
@@ -139,7 +140,7 @@ def failures():
         (get(folder, "/x"), 9, "ltfs_get: 0 1.0 no NotFound (stat /x)"),
         (get(folder, "/"), 9, "ltfs_get: 1 1.1 no IsDir (read /)"),
         (get(empty, "/x"), 3, "ltfs_get: volume Vol1 ip"),
-        (get(folder, "/here", here / "missing" / "x"), 6, "ltfs_get: FILE can't be written: No such file or directory"),
+        (get(folder, "/here", here / "no/x"), 6, "ltfs_get: FILE can't be written: No such file or directory"),
         (run([ready() / "ltfs_put", folder], here), 1, "usage: ltfs_put DIR PATH FILE; 'ltfs_put --help' tells more"),
         (run([ready() / "ltfs_get"], here), 1, "usage: ltfs_get DIR PATH [FILE]; 'ltfs_get --help' tells more"),
     ):

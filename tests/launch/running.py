@@ -1,16 +1,14 @@
 """What the launchers say to who asks, and how they run a program that is there."""
 
 import os
-import pathlib
 import re
 import shlex
 import signal
-import subprocess
 import time
 
 from cases import compare
-from clones import (FIRST_LOG, FIRST_SCRIPT, TOP, clone, environment, fresh_folder, ready, run, run_at_terminal,
-                    volume, without_rt)
+from clones import (FIRST_LOG, FIRST_SCRIPT, clone, environment, fresh_folder, ready, run, run_at_terminal,
+                    volume, with_index_tool, without_rt)
 
 COMMANDS = {
     "ltfs_server": ["plain", "label", "format", "list", "serve", "make"],
@@ -47,7 +45,8 @@ def help_in_fresh_clone():
                      run(["./ltfs_server"], where, env=env).out)
     ran = run(["./ltfs_server", "help", "fly"], where, env=env)
     told = "ltfs_server: no command is named 'fly'; './ltfs_server help' tells which there are"
-    return found + compare("status of help of no command", 1, ran.status) + compare("standard error", [told], ran.lines())
+    found += compare("status of help of no command", 1, ran.status)
+    return found + compare("standard error of help of no command", [told], ran.lines())
 
 
 def example_of(text):
@@ -128,7 +127,8 @@ def sentences():
         behind = [it for it in told.lines() if it not in plain.lines()]
         found += compare("sentences" + of, 1 if status else 0, len(behind))
         if behind:
-            found += compare("how it begins", f"ltfs_server: status {status}: ", behind[0][:len("ltfs_server: status 1: ")])
+            begins = f"ltfs_server: status {status}: "
+            found += compare("how it begins", begins, behind[0][:len(begins)])
     return found
 
 
@@ -149,7 +149,7 @@ def ended_at_terminal():
 
 
 def folders():
-    """The folder of a cartridge may be relative, missing, a link, or begin with a hyphen, and its place have spaces."""
+    """The folder of a cartridge may be relative, missing, a link, begin with a hyphen, or have a space."""
     where, here, found = ready(), fresh_folder(), []
     (here / "link").symlink_to(volume(where))
     (here / "--help").symlink_to(here / "link")
@@ -170,7 +170,8 @@ def folders():
         (1, "words\n", ["list"]),
     ):
         ran = run(["./server", *words], here, given)
-        found += compare(f"output of {words}", text, ran.out.decode()) + compare(f"status of {words}", status, ran.status)
+        found += compare(f"output of {words}", text, ran.out.decode())
+        found += compare(f"status of {words}", status, ran.status)
     return found + compare("whether a folder was made", False, (here / "missing").exists())
 
 
@@ -179,6 +180,14 @@ def environment_is_no_matter():
     env = environment(ASAN_OPTIONS="help=1:exitcode=3", LD_PRELOAD="/nowhere.so", LANG="C")
     ran = run(["./ltfs_server", "plain"], ready(), FIRST_SCRIPT, env)
     return compare("status", 0, ran.status) + compare("output", FIRST_LOG, ran.out)
+
+
+def limited_addresses():
+    """The checks want more addresses than a limit leaves."""
+    where = with_index_tool("limited addresses")
+    ran = run(["bash", "-c", "ulimit -v 4000000; ./index_tool check"], where)
+    told = ["index_tool: the checked program can't run where 'ulimit -v' sets a limit"]
+    return compare("status", 125, ran.status) + compare("standard error", told, ran.lines())
 
 
 def input_is_left():
@@ -197,5 +206,6 @@ CASES = {
     "ended_at_terminal": ended_at_terminal,
     "folders": folders,
     "environment_is_no_matter": environment_is_no_matter,
+    "limited_addresses": limited_addresses,
     "input_is_left": input_is_left,
 }
