@@ -75,16 +75,11 @@ def repeated():
     return copy_and_compare(folder, "/file", file, "repeated bytes")
 
 
-def two_runs():
-    """A file of more bytes than a script has."""
+def two_scripts():
+    """A file of more bytes than a script can have in hexadecimal."""
     folder, file = volume(ready()), fresh_folder() / "file"
-    file.write_bytes(bytes(1_020 * 65_536) + some_bytes(5 * 65_536 + 1))
-    ran = put(folder, "/file", file)
-    found = compare("status", 0, ran.status)
-    served = run(["./ltfs_server", "serve", folder], ready(), b"1 stat /file\n1 read /file 66846700 50\n").out.decode()
-    found += compare("length", str(file.stat().st_size), served.split()[4])
-    wanted = file.read_bytes()[66_846_700:66_846_750].hex()
-    return found + compare("bytes at the seam", wanted, served.splitlines()[1].split()[-1])
+    file.write_bytes(some_bytes(9 * MIB + 1))
+    return copy_and_compare(folder, "/file", file, "9 MiB and a byte")
 
 
 def large():
@@ -183,7 +178,7 @@ def progress():
 
 CASES = {
     "large": large,
-    "two_runs": two_runs,
+    "two_scripts": two_scripts,
     "sizes": sizes,
     "names": names,
     "repeated": repeated,
