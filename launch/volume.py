@@ -45,25 +45,32 @@ class Runs:
     def replies(self, calls):
         """Runs the calls in one session, and yields each one's reply. Where one or the run is refused, it raises the
         failure with the line that the server printed."""
-        script = b"".join(b"1 %s\n" % it for it in calls)
         words = [str(TOP / "ltfs_server"), "serve", self.folder]
         pipes = {"stdin": subprocess.PIPE, "stdout": subprocess.PIPE, "stderr": subprocess.PIPE}
         with subprocess.Popen(words, **pipes) as self.server:
-            passing = threading.Thread(target=self.pass_on, args=[self.server.stderr], daemon=True)
-            passing.start()
-            self.send(script)
-            refused = last = b""
-            for nth, line in enumerate(self.server.stdout):
-                last = line.rstrip(b"\n")
-                if nth < len(calls) and last.startswith(b"%d 1.%d " % (nth, nth)):
-                    reply = last.split(b" ", 2)[2]
-                    is_done = reply.split(b" ")[0] not in (b"no", b"full", b"fault", b"nomemory")
-                    if is_done and not refused:
-                        yield reply
-                    elif not is_done and not self.forgives(calls[nth], reply):
-                        refused = refused or b"%s (%s)" % (last, shown(calls[nth]))
-            status = self.server.wait()
-            passing.join()
+            try:
+                yield from self.read_replies(calls)
+            except BaseException:
+                # A server that still reads must not take a part of a script for the whole.
+                self.server.terminate()
+                raise
+
+    def read_replies(self, calls):
+        passing = threading.Thread(target=self.pass_on, args=[self.server.stderr], daemon=True)
+        passing.start()
+        self.send(b"".join(b"1 %s\n" % it for it in calls))
+        refused = last = b""
+        for nth, line in enumerate(self.server.stdout):
+            last = line.rstrip(b"\n")
+            if nth < len(calls) and last.startswith(b"%d 1.%d " % (nth, nth)):
+                reply = last.split(b" ", 2)[2]
+                is_done = reply.split(b" ")[0] not in (b"no", b"full", b"fault", b"nomemory")
+                if is_done and not refused:
+                    yield reply
+                elif not is_done and not self.forgives(calls[nth], reply):
+                    refused = refused or b"%s (%s)" % (last, shown(calls[nth]))
+        status = self.server.wait()
+        passing.join()
         if status < 0:
             raise Failure(f"signal {-status} ended ltfs_server", 128 - status)
         if refused or status:
@@ -87,11 +94,6 @@ class Runs:
                 self.said.add(line)
                 sys.stderr.buffer.write(line)
                 sys.stderr.flush()
-
-    def stop(self):
-        if self.server and self.server.poll() is None:
-            self.server.terminate()
-            self.server.wait()
 
 
 def shown(call):
@@ -120,6 +122,8 @@ def end_with(copy, name, folder, *words):
     runs = Runs(folder)
 
     def stop(number, _):
+        for it in SIGNALS:
+            signal.signal(it, signal.SIG_IGN)
         raise Failure("cut off", 128 + number)
 
     for it in SIGNALS:
@@ -130,7 +134,3 @@ def end_with(copy, name, folder, *words):
     except Failure as failure:
         print(f"{name}: {failure.line}", file=sys.stderr)
         return failure.status
-    finally:
-        for it in SIGNALS:
-            signal.signal(it, signal.SIG_IGN)
-        runs.stop()

@@ -19,8 +19,6 @@ LIMIT = 900
 NOBODY = 65_534
 FIRST_LOG = (TOP / "examples/first.log").read_bytes()
 FIRST_SCRIPT = (TOP / "examples/first.script").read_bytes()
-# Where a work tree has programs, checked or proved.
-PROGRAMS = ("launch/built/*-*", "crates/ltfs_server/out/ltfs_server", "crates/index_tool/out/index_tool")
 UUID = "30a91a08-daae-48d1-ae75-69804e61d2ea"
 
 
@@ -163,10 +161,12 @@ def ready():
     """A clone with both programs: those of the work tree, or the checked ones that other cases build."""
     where = clone("ready")
     (where / "launch/built").mkdir(exist_ok=True)
-    for it in (it for some in PROGRAMS for it in TOP.glob(some)):
-        if it.is_file():
-            (where / it.relative_to(TOP)).parent.mkdir(exist_ok=True)
-            shutil.copy(it, where / it.relative_to(TOP))
+    for it in TOP.glob("launch/built/*-*"):
+        shutil.copy(it, where / "launch/built")
+    for name in ("ltfs_server", "index_tool"):
+        if b", proved\n" in run([f"./{name}", "--version"], TOP).out:
+            (where / f"crates/{name}/out").mkdir()
+            shutil.copy(TOP / f"crates/{name}/out/{name}", where / f"crates/{name}/out")
     if not is_kept(where, "ltfs_server"):
         for it in (first_runs()[0] / "launch/built").glob("ltfs_server-*"):
             shutil.copy(it, where / "launch/built")
@@ -180,9 +180,11 @@ def with_index_tool(name):
     """A clone with the checked program of index_tool and no proved one."""
     where = clone(name)
     (where / "launch/built").mkdir(exist_ok=True)
-    kept = list((ready() / "launch/built").glob("index_tool-*"))
-    for it in kept or (unwritable_runs()[1] / "ltfs_server").glob("index_tool-*"):
+    for it in (ready() / "launch/built").glob("index_tool-*"):
         shutil.copy(it, where / "launch/built")
+    if not is_kept(where, "index_tool"):
+        for it in (unwritable_runs()[1] / "ltfs_server").glob("index_tool-*"):
+            shutil.copy(it, where / "launch/built")
     return where
 
 

@@ -8,7 +8,7 @@ import subprocess
 import time
 
 from cases import compare
-from clones import environment, fresh_folder, ready, run, run_at_terminal, volume
+from clones import environment, fresh_folder, processes_of, ready, run, run_at_terminal, volume
 
 MIB = 2**20
 
@@ -158,13 +158,19 @@ def left_as_it_was():
 
 
 def told_to_stop():
-    folder, here = volume(ready()), fresh_folder()
-    words = [ready() / "ltfs_put", folder, "/file", "-"]
-    process = subprocess.Popen(words, cwd=here, env=environment(), stdin=subprocess.PIPE, stderr=subprocess.PIPE)
+    """A put that is cut off ends its run, and the volume can still be read."""
+    folder, file = volume(ready()), fresh_folder() / "file"
+    file.write_bytes(some_bytes(7 * MIB))
+    words = [ready() / "ltfs_put", folder, "/file", file]
+    process = subprocess.Popen(words, env=environment(), stdin=subprocess.DEVNULL, stderr=subprocess.PIPE)
     time.sleep(2)
     process.send_signal(signal.SIGTERM)
     err = process.communicate(timeout=60)[1].decode().splitlines()
-    return compare("status", 143, process.returncode) + compare("last line", "ltfs_put: cut off", err[-1])
+    found = compare("processes that are left", [], processes_of(folder))
+    if process.returncode == 0:
+        return found  # the proved program may be done by then
+    found += compare("status", 143, process.returncode) + compare("last line", "ltfs_put: cut off", err[-1])
+    return found + compare("status of a list", 0, run(["./ltfs_server", "list", folder], ready()).status)
 
 
 def progress():
