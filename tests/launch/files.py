@@ -1,6 +1,8 @@
 """Files of one's own, put into a volume and got out of it."""
 
 import hashlib
+import importlib.machinery
+import importlib.util
 import os
 import random
 import signal
@@ -8,7 +10,7 @@ import subprocess
 import time
 
 from cases import compare
-from clones import environment, fresh_folder, processes_of, ready, run, run_at_terminal, volume
+from clones import TOP, environment, fresh_folder, processes_of, ready, run, run_at_terminal, volume
 
 MIB = 2**20
 
@@ -69,10 +71,20 @@ def names():
 
 
 def repeated():
-    """A file of one byte repeated, with some others between, is put in few bytes of script."""
-    folder, file = volume(ready()), fresh_folder() / "file"
-    file.write_bytes(bytes(3 * MIB) + b"\xff" * MIB + b"end" + bytes(65_536))
-    return copy_and_compare(folder, "/file", file, "repeated bytes")
+    """Pieces of one byte repeated, and of zeros, at the front, in the middle and at the end."""
+    folder, here, found = volume(ready()), fresh_folder(), []
+    ones, some, zeros = b"\xff" * 200_000, some_bytes(65_536), bytes(131_072)
+    for name, pieces in {
+        "ones": [ones],
+        "zeros": [zeros],
+        "zeros and a byte": [zeros, b"x"],
+        "zeros in the middle": [some, zeros, some],
+        "zeros at the end": [some, ones, zeros, b"\0"],
+        "fewer zeros": [zeros[:100]],
+    }.items():
+        (here / name).write_bytes(b"".join(pieces))
+        found += copy_and_compare(folder, "/file", here / name, name)
+    return found
 
 
 def two_scripts():
@@ -83,7 +95,7 @@ def two_scripts():
 
 
 def large():
-    """A file of 200 MiB, the most of it one byte repeated, so that the checked program gets through it in time."""
+    """A file of 200 MiB, the most of it zeros, so that the checked program gets through it in time."""
     folder, file = volume(ready()), fresh_folder() / "file"
     with file.open("wb") as it:
         it.write(some_bytes(100_000))
@@ -92,6 +104,43 @@ def large():
         it.write(some_bytes(MIB, 2))
         it.truncate(200 * MIB)
     return copy_and_compare(folder, "/file", file, "200 MiB")
+
+
+def limits():
+    """No script of a put passes a limit, and all that isn't zeros is written, in the order of the file."""
+    loader = importlib.machinery.SourceFileLoader("ltfs_put", str(TOP / "ltfs_put"))
+    program = importlib.util.module_from_spec(importlib.util.spec_from_loader("ltfs_put", loader))
+    loader.exec_module(program)
+    some, ones = bytes(range(256)) * 256, b"\1" * 65_536
+    path, found = b"/" + b"x" * 700, []
+    for name, pieces in {"bytes": [some] * 300, "one byte": [ones] * 2_500, "zeros": [bytes(65_536)] * 3_000,
+                         "all": [some, ones, bytes(65_536)] * 500, "small": [b"12"] * 3_000}.items():
+        lengths, done = [], 0
+        for calls, done in program.scripts(path, Pieces(pieces)):
+            lines = [b"1 %s\n" % it for it in calls]
+            found += compare(f"calls of {name} are too many", False, len(calls) > 1_024)
+            found += compare(f"a script of {name} is too long", False, sum(map(len, lines)) > 16_777_216)
+            writes = [it.split(b" ") for it in calls if it.startswith(b"write ")]
+            lengths += [written(it[3]) for it in writes]
+            found += compare(f"writes of {name} are too large", False, sum(written(it[3]) for it in writes) > 64 * MIB)
+        found += compare(f"bytes of {name} that are written", sum(len(it) for it in pieces if any(it)), sum(lengths))
+        found += compare(f"bytes of {name} that are done", sum(map(len, pieces)), done)
+    return found
+
+
+class Pieces:
+    """A file that gives these pieces, whatever it is asked for."""
+
+    def __init__(self, pieces):
+        self.left = iter(pieces)
+
+    def read(self, _):
+        return next(self.left, b"")
+
+
+def written(word):
+    """How many bytes a write's last word stands for."""
+    return int(word.split(b":")[2]) if word.startswith(b"fill:") else (len(word) - len(b"hex:")) // 2
 
 
 def replaced():
@@ -188,6 +237,7 @@ CASES = {
     "sizes": sizes,
     "names": names,
     "repeated": repeated,
+    "limits": limits,
     "replaced": replaced,
     "standard_streams": standard_streams,
     "failures": failures,
