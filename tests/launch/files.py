@@ -10,7 +10,7 @@ import subprocess
 import time
 
 from cases import compare
-from clones import TOP, environment, fresh_folder, processes_of, ready, run, run_at_terminal, volume
+from clones import TOP, clone, environment, fresh_folder, processes_of, ready, run, run_at_terminal, volume
 
 MIB = 2**20
 
@@ -94,16 +94,63 @@ def two_scripts():
     return copy_and_compare(folder, "/file", file, "9 MiB and a byte")
 
 
-def large():
+def large_file():
     """A file of 200 MiB, the most of it zeros, so that the checked program gets through it in time."""
-    folder, file = volume(ready()), fresh_folder() / "file"
+    file = fresh_folder() / "file"
     with file.open("wb") as it:
         it.write(some_bytes(100_000))
-        it.truncate(100 * MIB)
-        it.seek(100 * MIB)
-        it.write(some_bytes(MIB, 2))
+        it.seek(128 * MIB - 50_000)
+        it.write(some_bytes(100_000, 2))
         it.truncate(200 * MIB)
-    return copy_and_compare(folder, "/file", file, "200 MiB")
+    return file
+
+
+def large():
+    """200 MiB are put. The proved program gets them back; of the checked one three pieces are read, since it takes
+    a second or more for each MiB."""
+    folder, file = volume(ready()), large_file()
+    if b", proved\n" in run(["./ltfs_server", "--version"], ready()).out:
+        return copy_and_compare(folder, "/file", file, "200 MiB")
+    found = compare("status of the put", 0, put(folder, "/file", file).status)
+    given, pieces = b"1 stat /file\n", []
+    for at in (0, 128 * MIB - 60_000, 200 * MIB - 200_000):
+        given += b"1 read /file %d 200000\n" % at
+        with file.open("rb") as it:
+            it.seek(at)
+            pieces.append(it.read(200_000).hex())
+    lines = run(["./ltfs_server", "serve", folder], ready(), given).out.decode().splitlines()
+    found += compare("length", str(200 * MIB), lines[0].split()[4])
+    return found + compare("whether the pieces are the same", pieces, [it.split()[-1] for it in lines[1:4]])
+
+
+# In place of the server: it answers `stat` and `read` from a plain file, and its time changes where it is told so.
+STAND_IN = """#!/usr/bin/env python3
+import os, sys
+with open(os.environ["STANDS_FOR"], "rb") as file:
+    for nth, line in enumerate(sys.stdin):
+        words = line.split()
+        if words[1] == "stat":
+            when = os.getpid() if "CHANGES" in os.environ else 1
+            print(f"{nth} 1.{nth} file 2 {os.fstat(file.fileno()).st_size} {when}")
+        else:
+            file.seek(int(words[3]))
+            piece = file.read(int(words[4]))
+            print(f"{nth} 1.{nth} bytes {len(piece)} {piece.hex()}".rstrip())
+print("closed 1 0 0")
+"""
+
+
+def many_runs():
+    """200 MiB come back in several runs, and a file that changes between two of them is refused."""
+    where, file, copy = clone("many runs"), large_file(), fresh_folder() / "copy"
+    (where / "ltfs_server").write_text(STAND_IN)
+    words = ["./ltfs_get", "tape", "/file", copy]
+    ran = run(words, where, env=environment(STANDS_FOR=file, CHANGES=1))
+    found = compare("status where it changes", 9, ran.status) + compare("a copy", False, copy.exists())
+    found += compare("its line", ["ltfs_get: the file changed while it was read"], ran.lines())
+    ran = run(words, where, env=environment(STANDS_FOR=file))
+    found += compare("status", 0, ran.status) + compare("standard error", [], ran.lines())
+    return found + compare("whether it came back as it was", digest(file), digest(copy))
 
 
 def limits():
@@ -233,6 +280,7 @@ def progress():
 
 CASES = {
     "large": large,
+    "many_runs": many_runs,
     "two_scripts": two_scripts,
     "sizes": sizes,
     "names": names,
