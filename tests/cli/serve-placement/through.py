@@ -1,5 +1,5 @@
-"""Behind the output: of the last index, the policy and whether it may be
-changed, and each file's name, length and the partition of its extent."""
+"""Behind the output: of the last index, the policy and whether it may be changed, and each file's name, length and the
+partition of its extent."""
 
 import os
 import re

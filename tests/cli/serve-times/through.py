@@ -1,4 +1,5 @@
-"""Behind the output: of the last index, each node's name and the days of its creation, change, modify, access and backup."""
+"""Behind the output: each node's name in the last index, and the days of its creation, change, modify, access and
+backup times."""
 
 import os
 import re
