@@ -24,21 +24,23 @@ use Rattle.server_words.specs.declared.reading.Command.{Command}
 use Rattle.server_words.specs.declared.reading.Command.TheVariants as commands
 use Rattle.server_words.proofs.FormLemmas.{format_named, label_named, list_named, make_named, names_differ, one_form, one_make, one_serve, plain_named, serve_named}
 use Rattle.server_words.proofs.VolumeLemmas.{one_format}
-use Rattle.ltfs_server.specs.Formats.{unformatted}
+use Rattle.basic_commands.specs.Formats.{unformatted}
 use Rattle.ltfs_server.specs.Making.{unmade}
-use Rattle.ltfs_server.specs.Outcomes.{IsTold, of_format, of_label, of_list, of_make, of_memory, of_no_form, of_plain, of_serve, unlabelled, unlisted}
-use Rattle.ltfs_server.specs.Promises.{DoesAsked, DoesFormat, DoesLabel, DoesList, DoesMake, DoesPlain, DoesServe, RunScripts}
-use Rattle.ltfs_server.specs.Runs.{Gives, IsOneOf, Taken, TakesNothing, Written}
+use Rattle.basic_commands.specs.Outcomes.{IsTold, unlabelled, unlisted}
+use Rattle.ltfs_server.specs.Outcomes.{of_format, of_label, of_list, of_make, of_memory, of_no_form, of_plain, of_serve}
+use Rattle.basic_commands.specs.Promises.{DoesFormat, DoesLabel, DoesList, DoesPlain}
+use Rattle.ltfs_server.specs.Promises.{DoesAsked, DoesMake, DoesServe, RunScripts}
+use Rattle.basic_commands.specs.Runs.{Gives, IsOneOf, Taken, TakesNothing, Written}
 use Rattle.ltfs_server.specs.Serving.{one_moment, unscripted}
-use Rattle.ltfs_server.specs.declared.plain.PlainEnd.TheVariants as plains
-use Rattle.ltfs_server.specs.declared.scripts.Unread.TheVariants as unread
-use Rattle.ltfs_server.proofs.FormatClauses.{format_does}
-use Rattle.ltfs_server.proofs.LabelClauses.{label_does}
-use Rattle.ltfs_server.proofs.ListClauses.{list_does}
+use Rattle.basic_commands.specs.declared.plain.PlainEnd.TheVariants as plains
+use Rattle.basic_commands.specs.declared.scripts.Unread.TheVariants as unread
+use Rattle.basic_commands.proofs.FormatClauses.{format_does}
+use Rattle.basic_commands.proofs.LabelClauses.{label_does}
+use Rattle.basic_commands.proofs.ListClauses.{list_does}
 use Rattle.ltfs_server.proofs.MakeClauses.{make_does}
-use Rattle.ltfs_server.proofs.PlainClauses.{plain_does}
+use Rattle.basic_commands.proofs.PlainClauses.{plain_does}
 use Rattle.ltfs_server.proofs.ServeClauses.{serve_does}
-use Rattle.ltfs_server.proofs.Told.{by_six, by_status, by_text, if_some, none_of}
+use Rattle.basic_commands.proofs.Told.{by_six, by_status, by_text, if_some, none_of}
 use Rattle.tape_drive.proofs.Looking.{no_looks}
 
 -- a status that is one of these is no other

@@ -24,9 +24,9 @@ use Rattle.session_run.specs.declared.ran.RanEnd.TheVariants as run_ends
 use Rattle.ltfs_server.specs.Came.{CameOf, WasRun}
 use Rattle.ltfs_server.specs.Serving.{HoldsTree, IsBegun, IsLookedAt}
 use Rattle.ltfs_server.specs.declared.running.CameTo.{CameTo}
-use Rattle.ltfs_server.proofs.LabelRanges.{block_in_range}
+use Rattle.basic_commands.proofs.LabelRanges.{block_in_range}
 use Rattle.mount_recover.proofs.LetterRanges.{letters_in_range}
-use Rattle.ltfs_server.proofs.Told.{if_some, of_some}
+use Rattle.basic_commands.proofs.Told.{if_some, of_some}
 
 -- what was mounted can be served
 pub is_mount : (limits : Limits) (m : Mounted) → IsSoundMount limits m → IsMount limits m

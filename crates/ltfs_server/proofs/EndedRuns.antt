@@ -10,7 +10,7 @@ use Rattle.tape_drive.specs.declared.drive.Drive.{Ghosts}
 use Rattle.volume_model.specs.Faults.{AreRises}
 use Rattle.volume_model.specs.Headline.{Failed, last_fault}
 use Rattle.volume_order.specs.Kept.{seen}
-use Rattle.ltfs_server.specs.Runs.{IsOneOf}
+use Rattle.basic_commands.specs.Runs.{IsOneOf}
 use Rattle.ltfs_server.specs.Serving.{EndsRun}
 
 -- faults that rose one after the other ended above where they began, or at the end of the count

@@ -1,17 +1,8 @@
 pub mod Asked
 pub mod CameSteps
 pub mod EndedRuns
-pub mod FormatClauses
-pub mod LabelClauses
-pub mod LabelRanges
-pub mod ListClauses
 pub mod MakeClauses
 pub mod MakeSteps
-pub mod MountClauses
-pub mod MountedTree
-pub mod PlainClauses
-pub mod RunLemmas
 pub mod Sentences
 pub mod ServeClauses
 pub mod ServeSteps
-pub mod Told

@@ -12,16 +12,17 @@ use Rattle.tape_drive.specs.declared.drive.Drive.{Ghosts}
 use Rattle.tape_meaning.specs.Meaning.{Found}
 use Rattle.mount_recover.specs.Steps.{Blames}
 use Rattle.volume_model.specs.Headline.{Closed, Failed, Short}
-use Rattle.ltfs_server.specs.Headline.{IsMountFaultPrinted}
-use Rattle.ltfs_server.specs.Labels.{mount_status}
+use Rattle.basic_commands.specs.Headline.{IsMountFaultPrinted}
+use Rattle.basic_commands.specs.Labels.{mount_status}
 use Rattle.ltfs_server.specs.Making.{IsMadeEnd, IsMadeFailurePrinted, IsMadeRun, IsMadeShortPrinted, IsSummaryPrinted, MadeEnd, made, made_log, made_status, made_text, starved, unmade}
 use Rattle.ltfs_server.specs.Outcomes.{EndsAs, of_make}
-use Rattle.ltfs_server.specs.Promises.{DoesMake, ReadsAsNone}
-use Rattle.ltfs_server.specs.Runs.{IsOneOf, Written}
+use Rattle.basic_commands.specs.Promises.{ReadsAsNone}
+use Rattle.ltfs_server.specs.Promises.{DoesMake}
+use Rattle.basic_commands.specs.Runs.{IsOneOf, Written}
 use Rattle.ltfs_server.specs.Serving.{HoldsTree}
 use Rattle.ltfs_server.proofs.EndedRuns.{done_or_refused, failed_rose}
-use Rattle.ltfs_server.proofs.MountClauses.{among_refused, blamed, drive_told, found_done, memory_told, mount_isnt, mount_known}
-use Rattle.ltfs_server.proofs.Told.{by_six, by_status, by_text, if_some, of_some}
+use Rattle.basic_commands.proofs.MountClauses.{among_refused, blamed, drive_told, found_done, memory_told, mount_isnt, mount_known}
+use Rattle.basic_commands.proofs.Told.{by_six, by_status, by_text, if_some, of_some}
 
 -- ---- statuses
 

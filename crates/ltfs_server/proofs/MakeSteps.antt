@@ -16,16 +16,16 @@ use Rattle.volume_model.specs.declared.answers.CloseEnd.TheVariants as ends
 use Rattle.volume_model.specs.declared.contract.Closed.{Closed as ClosedVolume}
 use Rattle.volume_runs.specs.Laws.{IsRun}
 use Rattle.ltfs_server.specs.Came.{CameOf, WasRun}
-use Rattle.ltfs_server.specs.Labels.{mount_status, mount_text}
+use Rattle.basic_commands.specs.Labels.{mount_status, mount_text}
 use Rattle.ltfs_server.specs.Making.{IsMadeEnd, MadeEnd, closed_line, made, made_log, made_status, made_text, starved, unmade}
-use Rattle.ltfs_server.specs.Outcomes.{IsTold}
+use Rattle.basic_commands.specs.Outcomes.{IsTold}
 use Rattle.ltfs_server.specs.Promises.{DoesMake}
-use Rattle.ltfs_server.specs.Runs.{Written}
+use Rattle.basic_commands.specs.Runs.{Written}
 use Rattle.ltfs_server.specs.Serving.{HoldsTree, IsLookedAt, TimedView, close_status, one_moment}
 use Rattle.ltfs_server.specs.declared.running.CameTo.{CameTo}
 use Rattle.ltfs_server.specs.declared.running.CameTo.TheVariants as came
 use Rattle.ltfs_server.proofs.MakeClauses.{make_does}
-use Rattle.ltfs_server.proofs.Told.{if_some}
+use Rattle.basic_commands.proofs.Told.{if_some}
 
 -- a clock that gives the moment of the words has it as its one moment
 pub timed_makes : {C : Type 0} (one : C → Option Moment) (at : Option Moment) (clock : C) (timed : TimedView C) → timed ≡ record { at = at; clock = clock }

@@ -12,11 +12,12 @@ use Rattle.volume_model.specs.Headline.{Closed, Failed, IsEndOf, IsServeRun, Ser
 use Rattle.volume_model.specs.Meanings.{cartridges}
 use Rattle.volume_order.specs.Kept.{seen}
 use Rattle.ltfs_server.specs.Making.{IsMadeEnd, MadeEnd, made, made_log, made_status, made_text, starved, unmade}
-use Rattle.ltfs_server.specs.Outcomes.{IsTold}
+use Rattle.basic_commands.specs.Outcomes.{IsTold}
 use Rattle.ltfs_server.specs.Promises.{DoesAsked, DoesMake, DoesServe}
-use Rattle.ltfs_server.specs.Runs.{IsOneOf, Run, Taken, Written}
+use Rattle.basic_commands.specs.Runs.{IsOneOf, Taken, Written}
+use Rattle.ltfs_server.specs.Outcomes.{Run}
 use Rattle.ltfs_server.specs.Sentence.{AreNodesTold, Asked, Asks, IsClosedSo, IsScriptAsked, IsWantPrinted, Sentence, SentenceHolds, to_make, to_serve, told_text}
-use Rattle.ltfs_server.proofs.Told.{none_of}
+use Rattle.basic_commands.proofs.Told.{none_of}
 use Rattle.ltfs_server.specs.Serving.{IsServedEnd, ServedEnd, one_moment, served, served_log, served_status, served_text, unclosed, unscripted, unserved, unwritten}
 
 -- ---- statuses

@@ -13,16 +13,17 @@ use Rattle.tape_drive.specs.declared.drive.Drive.{Ghosts}
 use Rattle.tape_meaning.specs.Meaning.{Found}
 use Rattle.mount_recover.specs.Steps.{Blames}
 use Rattle.volume_model.specs.Headline.{Closed, Failed, ServeEnd, Short}
-use Rattle.ltfs_server.specs.Headline.{IsMountFaultPrinted, IsReadFaultPrinted, IsRefusalPrinted}
-use Rattle.ltfs_server.specs.Labels.{mount_status}
+use Rattle.basic_commands.specs.Headline.{IsMountFaultPrinted, IsReadFaultPrinted, IsRefusalPrinted}
+use Rattle.basic_commands.specs.Labels.{mount_status}
 use Rattle.ltfs_server.specs.Outcomes.{EndsAs, of_serve}
-use Rattle.ltfs_server.specs.Promises.{DoesServe, ReadsAsNone}
-use Rattle.ltfs_server.specs.Runs.{IsOneOf, Taken, Written}
+use Rattle.basic_commands.specs.Promises.{ReadsAsNone}
+use Rattle.ltfs_server.specs.Promises.{DoesServe}
+use Rattle.basic_commands.specs.Runs.{IsOneOf, Taken, Written}
 use Rattle.ltfs_server.specs.Serving.{HoldsTree, IsClosePrinted, IsFailurePrinted, IsRefusedPrinted, IsServedEnd, IsServedRun, IsServedTo, IsShortPrinted, ServedEnd, served, served_log, served_status, served_text, unclosed, unscripted, unserved, unwritten}
-use Rattle.ltfs_server.specs.declared.scripts.Unread.TheVariants as unread
+use Rattle.basic_commands.specs.declared.scripts.Unread.TheVariants as unread
 use Rattle.ltfs_server.proofs.EndedRuns.{done_or_refused, failed_rose}
-use Rattle.ltfs_server.proofs.MountClauses.{blamed, drive_told, found_done, memory_told, mount_isnt, mount_known}
-use Rattle.ltfs_server.proofs.Told.{by_six, by_status, by_text, if_some, of_some}
+use Rattle.basic_commands.proofs.MountClauses.{blamed, drive_told, found_done, memory_told, mount_isnt, mount_known}
+use Rattle.basic_commands.proofs.Told.{by_six, by_status, by_text, if_some, of_some}
 
 -- ---- statuses
 

@@ -23,15 +23,16 @@ use Rattle.volume_model.specs.declared.contract.Closed as contract
 use Rattle.volume_order.specs.Kept.{seen}
 use Rattle.volume_runs.specs.Laws.{IsRun}
 use Rattle.ltfs_server.specs.Came.{WasRun}
-use Rattle.ltfs_server.specs.Labels.{mount_status, mount_text}
-use Rattle.ltfs_server.specs.Outcomes.{IsTold}
+use Rattle.basic_commands.specs.Labels.{mount_status, mount_text}
+use Rattle.basic_commands.specs.Outcomes.{IsTold}
 use Rattle.ltfs_server.specs.Promises.{DoesServe}
-use Rattle.ltfs_server.specs.Runs.{IsScriptIn, Taken, Written}
-use Rattle.ltfs_server.specs.Serving.{HoldsTree, IsServedEnd, IsServedRun, IsUnread, ServedEnd, TimedView, close_line, close_status, one_moment, served, served_log, served_status, served_text, unclosed, unread_status, unread_text, unscripted, unserved, unwritten}
-use Rattle.ltfs_server.specs.declared.scripts.Unread.{Unread}
-use Rattle.ltfs_server.specs.declared.scripts.Unread.TheVariants as unread
+use Rattle.basic_commands.specs.Runs.{IsScriptIn, Taken, Written}
+use Rattle.basic_commands.specs.Scripts.{IsUnread, unread_status, unread_text}
+use Rattle.ltfs_server.specs.Serving.{HoldsTree, IsServedEnd, IsServedRun, ServedEnd, TimedView, close_line, close_status, one_moment, served, served_log, served_status, served_text, unclosed, unscripted, unserved, unwritten}
+use Rattle.basic_commands.specs.declared.scripts.Unread.{Unread}
+use Rattle.basic_commands.specs.declared.scripts.Unread.TheVariants as unread
 use Rattle.ltfs_server.proofs.ServeClauses.{serve_does}
-use Rattle.ltfs_server.proofs.Told.{if_some}
+use Rattle.basic_commands.proofs.Told.{if_some}
 
 -- want of memory blames no cartridge
 pub nothing_blamed : (held : Option Cartridge) → IfSome held (λ c. Blames errors.NoMemory c)

@@ -1,12 +1,6 @@
 pub mod Came
-pub mod Formats
-pub mod Headline
-pub mod Labels
-pub mod Listings
 pub mod Making
 pub mod Outcomes
 pub mod Promises
-pub mod Runs
 pub mod Sentence
 pub mod Serving
-pub mod Sessions

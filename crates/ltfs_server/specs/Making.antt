@@ -28,10 +28,10 @@ use Rattle.volume_model.specs.Served.{CanTell}
 use Rattle.volume_model.specs.declared.answers.CloseEnd.{CloseEnd}
 use Rattle.volume_model.specs.declared.answers.CloseEnd.TheVariants as ends
 use Rattle.volume_order.specs.Kept.{seen}
-use Rattle.ltfs_server.specs.Formats.{full_text}
-use Rattle.ltfs_server.specs.Headline.{IsDriveFaultPrinted}
-use Rattle.ltfs_server.specs.Labels.{mount_status, mount_text}
-use Rattle.ltfs_server.specs.Runs.{Written}
+use Rattle.basic_commands.specs.Formats.{full_text}
+use Rattle.basic_commands.specs.Headline.{IsDriveFaultPrinted}
+use Rattle.basic_commands.specs.Labels.{mount_status, mount_text}
+use Rattle.basic_commands.specs.Runs.{Written}
 use Rattle.ltfs_server.specs.Serving.{EndsRun, HoldsTree}
 
 -- ---- the summary

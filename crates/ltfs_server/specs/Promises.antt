@@ -3,123 +3,25 @@ use Rattle.std.specs.Prelude.{◌≡◌, ◌⊎◌, ℕ, ◌+◌, ◌*◌, List,
 use Rattle.std.specs.Global.{Global}
 use Rattle.std.specs.Io.KnownBytes.{Appends}
 use Rattle.tape_types.specs.Counts.{Rose}
-use Rattle.tape_types.specs.declared.cartridges.Cartridge.{Cartridge}
 use Rattle.tape_types.specs.declared.moments.Moment.{Moment}
-use Rattle.plain_tree.specs.Tree.{Tree}
 use Rattle.session_script.specs.Grammar.{script_of}
 use Rattle.session_script.specs.declared.logs.Log.{Log}
 use Rattle.tape_drive.specs.Looks.{Looks}
 use Rattle.tape_drive.specs.declared.drive.Drive.{Ghosts}
-use Rattle.tape_meaning.specs.Carried.{Carried}
-use Rattle.tape_meaning.specs.Labels.{HasLabels}
-use Rattle.tape_meaning.specs.Meaning.{Found, Reads}
-use Rattle.tape_meaning.specs.declared.labels.Labels.{Labels}
-use Rattle.format_volume.specs.Writes.{Goes}
+use Rattle.tape_meaning.specs.Meaning.{Found}
 use Rattle.server_words.specs.Forms.{HasNoForm, IsFormat, IsFormatWords, IsLabel, IsList, IsMake, IsMakeWords, IsPlain}
 use Rattle.server_words.specs.Forms.{IsPlainWords, IsServe, IsServeWords}
 use Rattle.server_words.specs.declared.volumes.FormatWords.{FormatWords}
-use Rattle.ltfs_server.specs.Formats.{AlwaysFits, FormatEnd, IsFormatEnd, IsFormattedAs, IsFullPrinted, NeverFits}
-use Rattle.ltfs_server.specs.Formats.{formatted_text}
-use Rattle.ltfs_server.specs.Headline.{AreLabelsPrinted, IsCheckPrinted, IsDriveFaultPrinted, IsListingPrinted}
-use Rattle.ltfs_server.specs.Headline.{IsMountFaultPrinted, IsPartPrinted, IsPlainRun, IsPrinted, IsReadFaultPrinted}
-use Rattle.ltfs_server.specs.Headline.{IsRefusalPrinted}
+use Rattle.basic_commands.specs.Headline.{IsMountFaultPrinted, IsReadFaultPrinted}
+use Rattle.basic_commands.specs.Headline.{IsRefusalPrinted}
 use Rattle.ltfs_server.specs.Making.{IsMadeEnd, IsMadeFailurePrinted, IsMadeRun, IsMadeShortPrinted, IsSummaryPrinted}
 use Rattle.ltfs_server.specs.Making.{MadeEnd}
-use Rattle.ltfs_server.specs.Outcomes.{Ending, EndsAs, IsCaused, IsLabelEnd, IsListEnd, IsPlainEnd, LabelEnd, ListEnd}
-use Rattle.ltfs_server.specs.Outcomes.{of_format, of_label, of_list, of_make, of_plain, of_serve}
-use Rattle.ltfs_server.specs.Runs.{Gives, IsOneOf, IsRunOf, Taken, TakesNothing, Written, looked}
+use Rattle.ltfs_server.specs.Outcomes.{Ending, EndsAs, IsCaused}
+use Rattle.ltfs_server.specs.Outcomes.{of_make, of_serve}
+use Rattle.basic_commands.specs.Promises.{DoesFormat, DoesLabel, DoesList, DoesPlain, ReadsAsNone}
+use Rattle.basic_commands.specs.Runs.{Gives, IsOneOf, Taken, TakesNothing, Written}
 use Rattle.ltfs_server.specs.Serving.{IsClosePrinted, IsFailurePrinted, IsRefusedPrinted, IsServedEnd, IsServedRun}
 use Rattle.ltfs_server.specs.Serving.{IsShortPrinted, ServedEnd, one_moment}
-use Rattle.ltfs_server.specs.declared.plain.PlainEnd.{PlainEnd}
-
--- `plain`, with a moment or with those of the clock
-pub record DoesPlain {D : Type 0} (at : Option Moment) (gives : Gives) (source : Taken) (sink : Written) (old new : D)
-    (status : ℕ) (log : Option Log) : Type 0 where
-  pub statuses : IsOneOf status (0 ∷ 2 ∷ 5 ∷ 6 ∷ 7 ∷ [])
-  -- the log, wherever there is one, is that of a run of the script that was left in the source
-  pub history : IfSome log (IsRunOf (IsPlainRun at gives) source)
-  pub refused : IsOneOf status (2 ∷ 5 ∷ []) → log ≡ None
-  pub printed : status ≡ 0 → IsPrinted sink.old sink.new log
-  -- an input that is no script is told, unless a stream fails or memory is refused, and only such an input
-  pub script : IfSome source.left (λ text. IsErr (script_of text) → IsOneOf status (2 ∷ 5 ∷ 6 ∷ 7 ∷ []))
-  pub only_script : status ≡ 2 → IsRefusalPrinted source.left sink.old sink.new
-  pub only_read : status ≡ 5 → IsReadFaultPrinted source.before source.now sink.old sink.new
-  pub only_write : status ≡ 6 → Rose sink.before sink.now
-  pub memory : status ≡ 7 → Appends sink.old sink.new (codes "memory\n")
-  -- with a script and no fault all is done, unless memory is refused
-  pub complete : ¬ (Rose source.before source.now) → ¬ (Rose sink.before sink.now)
-      → IfSome source.left (λ text. IsOk (script_of text) → IsOneOf status (0 ∷ 7 ∷ []))
-  pub drive : new ≡ old
-  pub told : (end : PlainEnd) × IsPlainEnd source gives at end × EndsAs (of_plain end) sink status log
-
--- `label`, of the cartridge that the drive held, where it tells that
-pub record DoesLabel {D : Type 0} (drive : Ghosts D) (old new : D) (sink : Written) (status : ℕ) (log : Option Log)
-    : Type 0 where
-  pub statuses : IsOneOf status (0 ∷ 3 ∷ 4 ∷ 6 ∷ 7 ∷ [])
-  pub printed : status ≡ 0 → AreLabelsPrinted (drive.held old) sink.old sink.new
-  -- a cartridge that is no volume is told by its first check that fails, unless the drive or the sink fails or memory
-  -- is refused, and only such a cartridge
-  pub volume : IfSome (drive.held old)
-      (λ c. ((l : Labels) → ¬ HasLabels c l) → IsOneOf status (3 ∷ 4 ∷ 6 ∷ 7 ∷ []))
-  pub only_volume : status ≡ 3 → IsCheckPrinted (drive.held old) sink.old sink.new
-  pub only_drive : status ≡ 4 → IsDriveFaultPrinted (drive.faults old) (drive.faults new) sink.old sink.new
-  pub only_write : status ≡ 6 → Rose sink.before sink.now
-  pub memory : status ≡ 7 → Appends sink.old sink.new (codes "memory\n")
-  -- with a volume and no fault all is done, unless memory is refused
-  pub complete : ¬ (Rose (drive.faults old) (drive.faults new)) → ¬ (Rose sink.before sink.now)
-      → IfSome (drive.held old) (λ c. (l : Labels) → HasLabels c l → IsOneOf status (0 ∷ 7 ∷ []))
-  -- the cartridge is only looked at
-  pub looks : Looks drive (12 * drive.MOST) old new
-  pub no_log : log ≡ None
-  pub told : (end : LabelEnd) × IsLabelEnd (looked drive old new) end × EndsAs (of_label end) sink status log
-
--- no tree is what the cartridge reads as
-abbrev pub ReadsAsNone : Cartridge → Type 0
-ReadsAsNone c = (facts : Carried) (tree : Tree) (generation : ℕ) → ¬ Reads c facts tree generation
-
--- `list`, of the cartridge that the drive held, where it tells that
-pub record DoesList {D : Type 0} (drive : Ghosts D) (old new : D) (sink : Written) (status : ℕ) (log : Option Log)
-    : Type 0 where
-  pub statuses : IsOneOf status (0 ∷ 3 ∷ 4 ∷ 6 ∷ 7 ∷ [])
-  pub printed : status ≡ 0 → IsListingPrinted (drive.held old) sink.old sink.new
-  -- a cartridge that reads as no tree is told by its first check that fails, unless the drive or the sink fails or
-  -- memory is refused, and only such a cartridge
-  pub volume : IfSome (drive.held old) (λ c. ReadsAsNone c → IsOneOf status (3 ∷ 4 ∷ 6 ∷ 7 ∷ []))
-  pub only_volume : status ≡ 3 → IsMountFaultPrinted (drive.held old) sink.old sink.new
-  pub only_drive : status ≡ 4 → IsDriveFaultPrinted (drive.faults old) (drive.faults new) sink.old sink.new
-  pub only_write : status ≡ 6 → Rose sink.before sink.now
-  -- whole lines of the tree from the front may stand before the line that tells it
-  pub memory : status ≡ 7 → IsPartPrinted (drive.held old) sink.old sink.new
-  -- with a cartridge that passes all checks and no fault all is done, unless memory is refused
-  pub complete : ¬ (Rose (drive.faults old) (drive.faults new)) → ¬ (Rose sink.before sink.now)
-      → IfSome (drive.held old) (λ c. Found c → IsOneOf status (0 ∷ 7 ∷ []))
-  -- the cartridge is only looked at
-  pub looks : Looks drive ((23 + 2 * (drive.limits old).cap_ip + 2 * (drive.limits old).cap_dp) * drive.MOST) old new
-  pub no_log : log ≡ None
-  pub told : (end : ListEnd) × IsListEnd (looked drive old new) end × EndsAs (of_list end) sink status log
-
--- `format`, with the values of the words, of whatever cartridge the drive held
-pub record DoesFormat {D : Type 0} (asked : FormatWords) (gives : Gives) (drive : Ghosts D) (old new : D)
-    (sink : Written) (status : ℕ) (log : Option Log) : Type 0 where
-  pub statuses : IsOneOf status (0 ∷ 4 ∷ 6 ∷ 7 ∷ 8 ∷ [])
-  -- the cartridge is the empty volume that was asked for, and its UUID is told
-  pub done : status ≡ 0
-      → IsFormattedAs drive asked gives old new × Appends sink.old sink.new (formatted_text asked.volume.uuid)
-  -- a volume without room is told by its numbers, unless the sink fails or memory is refused, and only such a volume
-  pub full : NeverFits asked gives (drive.limits old) → IsOneOf status (6 ∷ 7 ∷ 8 ∷ [])
-  pub only_full : status ≡ 8 → IsFullPrinted asked gives (drive.limits old) sink.old sink.new × (new ≡ old)
-  pub only_drive : status ≡ 4 → IsDriveFaultPrinted (drive.faults old) (drive.faults new) sink.old sink.new
-  pub only_write : status ≡ 6 → Rose sink.before sink.now
-  pub memory : status ≡ 7 → Appends sink.old sink.new (codes "memory\n")
-  -- with room and no fault all is done, unless memory is refused
-  pub complete : ¬ (Rose (drive.faults old) (drive.faults new)) → ¬ (Rose sink.before sink.now)
-      → AlwaysFits asked gives (drive.limits old) → IsOneOf status (0 ∷ 7 ∷ [])
-  -- without a fault of the drive it is as it was, unless all is done
-  pub untouched : IsOneOf status (7 ∷ 8 ∷ []) → ¬ (Rose (drive.faults old) (drive.faults new)) → new ≡ old
-  -- whatever comes of it: the limits stay, and a drive that doesn't tell doesn't begin to
-  pub goes : Goes drive old new
-  pub no_log : log ≡ None
-  pub told : (end : FormatEnd) × IsFormatEnd drive asked gives old new end × EndsAs (of_format end) sink status log
 
 -- `serve`, with one moment or none, of the cartridge that the drive held, where it tells that
 pub record DoesServe {D : Type 0} (moment : Option Moment) (source : Taken) (drive : Ghosts D) (old new : D)

@@ -29,7 +29,8 @@ use Rattle.volume_order.specs.Kept.{seen}
 use Rattle.volume_runs.specs.Memory.{IsReady, Survives}
 use Rattle.server_words.specs.Forms.{IsMakeWords, IsServeWords}
 use Rattle.ltfs_server.specs.Making.{HasNodes, summary_text}
-use Rattle.ltfs_server.specs.Runs.{IsOneOf, IsScriptIn, Run, Taken, Written}
+use Rattle.basic_commands.specs.Runs.{IsOneOf, IsScriptIn, Taken, Written}
+use Rattle.ltfs_server.specs.Outcomes.{Run}
 use Rattle.ltfs_server.specs.Serving.{one_moment}
 
 -- ---- what was asked

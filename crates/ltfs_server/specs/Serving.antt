@@ -1,12 +1,10 @@
 -- What `serve` comes to: when it comes to that, and what is told then.
-use Rattle.std.specs.Prelude.{◌≡◌, ◌⊎◌, ◌≤◌, ℕ, ◌+◌, ◌*◌, List, ◌++◌, Option, Some, None, Err, IfSome, codes, decimal}
+use Rattle.std.specs.Prelude.{◌≡◌, ◌⊎◌, ◌≤◌, ℕ, ◌+◌, ◌*◌, List, ◌++◌, Option, Some, None, IfSome, codes, decimal}
 use Rattle.std.specs.Io.KnownBytes.{Appends}
-use Rattle.tape_types.specs.Counts.{IsRise}
 use Rattle.tape_types.specs.declared.cartridges.Cartridge.{Cartridge}
 use Rattle.tape_types.specs.declared.cartridges.Twin.{Twin}
 use Rattle.tape_types.specs.declared.moments.Moment.{Moment}
 use Rattle.plain_tree.specs.Tree.{Tree}
-use Rattle.session_script.specs.Grammar.{script_of}
 use Rattle.session_script.specs.LogText.{log_text}
 use Rattle.session_script.specs.declared.logs.Log.{Log}
 use Rattle.session_script.specs.declared.scripts.ScriptLine.{ScriptLine}
@@ -24,29 +22,11 @@ use Rattle.volume_model.specs.Served.{Fixed}
 use Rattle.volume_model.specs.declared.answers.CloseEnd.{CloseEnd}
 use Rattle.volume_model.specs.declared.answers.CloseEnd.TheVariants as ends
 use Rattle.volume_order.specs.Kept.{seen}
-use Rattle.ltfs_server.specs.Headline.{IsDriveFaultPrinted, refusal_line, source_line}
-use Rattle.ltfs_server.specs.Labels.{mount_status, mount_text}
-use Rattle.ltfs_server.specs.Runs.{IsRunOf, IsScriptIn, Taken, Written}
-use Rattle.ltfs_server.specs.declared.scripts.Unread.{Unread}
-use Rattle.ltfs_server.specs.declared.scripts.Unread.TheVariants as unread
-
--- ---- why there is no script
-
-abbrev pub unread_status : Unread → ℕ
-unread_status (unread.Script refusal) = 2
-unread_status (unread.Source counts) = 5
-unread_status unread.NoMemory = 7
-
-abbrev pub unread_text : Unread → List ℕ
-unread_text (unread.Script refusal) = refusal_line refusal
-unread_text (unread.Source counts) = source_line counts
-unread_text unread.NoMemory = codes "memory\n"
-
--- when it is so
-abbrev pub IsUnread : Taken → Unread → Type 0
-IsUnread source (unread.Script refusal) = IfSome source.left (λ text. script_of text ≡ Err refusal)
-IsUnread source (unread.Source counts) = IsRise source.before source.now counts.before counts.after
-IsUnread source unread.NoMemory = Unit {0}
+use Rattle.basic_commands.specs.Headline.{IsDriveFaultPrinted}
+use Rattle.basic_commands.specs.Labels.{mount_status, mount_text}
+use Rattle.basic_commands.specs.Scripts.{IsUnread, unread_status, unread_text}
+use Rattle.basic_commands.specs.Runs.{IsRunOf, IsScriptIn, Taken, Written}
+use Rattle.basic_commands.specs.declared.scripts.Unread.{Unread}
 
 -- ---- how a volume was closed
 

@@ -1,19 +1,11 @@
 // The volume server's program.
 #![tactic(auto)]
 
-mod ended;
-mod formats;
-mod labels;
 mod laws;
-mod lists;
 mod making;
-mod plain;
 mod running;
-mod scripts;
 mod server;
 mod serves;
-mod session;
-mod telling;
 mod timed;
 
 use file_drive::FileDrive;

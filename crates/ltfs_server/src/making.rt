@@ -8,16 +8,15 @@ ghost use Rattle.volume_model.specs.Ends.{bounded};
 ghost use Rattle.ltfs_server.specs.Came.{CameOf, WasRun};
 ghost use Rattle.ltfs_server.specs.Making.{bytes_in, bytes_read, closed_line, done_count, is_done, is_refused, summary};
 ghost use Rattle.ltfs_server.specs.Promises.{DoesMake};
-ghost use Rattle.ltfs_server.specs.Runs.{written};
+ghost use Rattle.basic_commands.specs.Runs.{written};
 ghost use Rattle.ltfs_server.specs.Serving.{one_moment};
 
-use crate::ended::Ended;
-use crate::formats::full_text;
-use crate::labels::{drive_text, mount_status, mount_text};
 use crate::running::{CameTo, run_calls};
 use crate::serves::close_status;
-use crate::telling::{bytes_of, tell, tell_made};
 use crate::timed::TimedClock;
+use basic_commands::{
+    Ended, bytes_of, drive_text, full_text, mount_status, mount_text, tell, tell_made,
+};
 use plain_tree::Answer;
 use session_script::{Log, Reply, make_script};
 use std::alloc::Global;

@@ -4,20 +4,16 @@ ghost use Rattle.server_words.specs.Forms.{HasNoForm, IsFormatWords, IsLabel, Is
 ghost use Rattle.server_words.specs.Forms.{IsPlainWords, IsServe, IsServeWords};
 ghost use Rattle.server_words.specs.declared.volumes.FormatWords.{FormatWords};
 ghost use Rattle.ltfs_server.specs.Outcomes.{Ending, EndsAs, IsCaused};
-ghost use Rattle.ltfs_server.specs.Promises.{ComesOf, DoesAsked, DoesFormat, DoesLabel, DoesList, DoesMake};
-ghost use Rattle.ltfs_server.specs.Promises.{DoesPlain, DoesServe, RefusesWords};
-ghost use Rattle.ltfs_server.specs.Runs.{TakesNothing, taken, written};
+ghost use Rattle.basic_commands.specs.Promises.{DoesFormat, DoesLabel, DoesList, DoesPlain};
+ghost use Rattle.ltfs_server.specs.Promises.{ComesOf, DoesAsked, DoesMake};
+ghost use Rattle.ltfs_server.specs.Promises.{DoesServe, RefusesWords};
+ghost use Rattle.basic_commands.specs.Runs.{TakesNothing, taken, written};
 ghost use Rattle.ltfs_server.specs.Sentence.{Asked, Asks, SentenceHolds};
 ghost use Rattle.ltfs_server.specs.Serving.{one_moment};
 
-use crate::ended::Ended;
-use crate::formats::run_format;
-use crate::labels::run_label;
-use crate::lists::run_list;
 use crate::making::run_make;
-use crate::plain::run_plain;
 use crate::serves::run_serve;
-use crate::telling::tell;
+use basic_commands::{Ended, run_format, run_label, run_list, run_plain, tell};
 use server_words::{Command, WordsErr, read_words};
 use std::alloc::Global;
 use std::sync::Wait;

@@ -7,15 +7,14 @@ ghost use Rattle.session_script.specs.declared.scripts.ScriptLine.{ScriptLine};
 ghost use Rattle.tape_edge.specs.Clocks.{IsSince1970};
 ghost use Rattle.ltfs_server.specs.Came.{CameOf, WasRun};
 ghost use Rattle.ltfs_server.specs.Promises.{DoesServe};
-ghost use Rattle.ltfs_server.specs.Runs.{IsScriptIn, Taken, taken, written};
+ghost use Rattle.basic_commands.specs.Runs.{IsScriptIn, Taken, taken, written};
 ghost use Rattle.ltfs_server.specs.Serving.{close_line, close_status, one_moment};
 
-use crate::ended::Ended;
-use crate::labels::{mount_status, mount_text};
 use crate::running::{CameTo, run_calls};
-use crate::scripts::{read_calls, unread_status, unread_text};
-use crate::telling::{tell, tell_made};
 use crate::timed::TimedClock;
+use basic_commands::{
+    Ended, mount_status, mount_text, read_calls, tell, tell_made, unread_status, unread_text,
+};
 use session_script::{Log, log_text};
 use std::alloc::Global;
 use std::sync::Wait;

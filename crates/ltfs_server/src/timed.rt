@@ -2,7 +2,7 @@
 
 ghost use Rattle.std.specs.Prelude.{◌≡◌, IfSome};
 ghost use Rattle.tape_edge.specs.Clocks.{IsSince1970};
-ghost use Rattle.ltfs_server.specs.Headline.{IsMoment};
+ghost use Rattle.basic_commands.specs.Headline.{IsMoment};
 ghost use Rattle.ltfs_server.specs.Serving.{one_moment};
 
 use std::marker::Model;

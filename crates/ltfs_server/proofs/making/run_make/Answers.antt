@@ -1,7 +1,7 @@
 use Rattle.std.proofs.Common.{List, subst, arith}
 use Rattle.session_script.specs.declared.scripts.ScriptLine.{ScriptLine}
 use Rattle.ltfs_server.specs.Came.{CameOf}
-use Rattle.ltfs_server.specs.Runs.{written}
+use Rattle.basic_commands.specs.Runs.{written}
 use Rattle.ltfs_server.specs.Serving.{one_moment}
 use Rattle.ltfs_server.proofs.MakeSteps.{make_unbegun, timed_makes}
 use Rattle.ltfs_server.proofs.making.run_make.Goals as goal

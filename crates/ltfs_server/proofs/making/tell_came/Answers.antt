@@ -1,4 +1,4 @@
-use Rattle.ltfs_server.specs.Labels.{mount_text}
+use Rattle.basic_commands.specs.Labels.{mount_text}
 use Rattle.ltfs_server.proofs.MakeSteps.{make_unmounted, make_unrun, run_of}
 use Rattle.ltfs_server.proofs.making.tell_came.Goals as goal
 

@@ -3,7 +3,7 @@ use Rattle.tape_types.specs.declared.cartridges.Limits.{Limits}
 use Rattle.mount_recover.specs.Steps.{Blames}
 use Rattle.tape_meaning.specs.Mounts.{IsMount}
 use Rattle.ltfs_server.proofs.CameSteps.{is_mount}
-use Rattle.ltfs_server.proofs.Told.{if_some}
+use Rattle.basic_commands.proofs.Told.{if_some}
 use Rattle.ltfs_server.proofs.running.run_calls.Goals as goal
 
 pub run_mounted-requires-clause-mount : goal.run_mounted-requires-clause-mount

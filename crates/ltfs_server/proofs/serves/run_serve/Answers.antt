@@ -1,6 +1,7 @@
 use Rattle.std.proofs.Common.{arith}
-use Rattle.ltfs_server.specs.Runs.{taken, written}
-use Rattle.ltfs_server.specs.Serving.{one_moment, unread_text}
+use Rattle.basic_commands.specs.Runs.{taken, written}
+use Rattle.basic_commands.specs.Scripts.{unread_text}
+use Rattle.ltfs_server.specs.Serving.{one_moment}
 use Rattle.ltfs_server.proofs.ServeSteps.{serve_unread, timed_does}
 use Rattle.ltfs_server.proofs.serves.run_serve.Goals as goal
 

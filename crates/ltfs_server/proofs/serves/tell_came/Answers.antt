@@ -1,7 +1,7 @@
 use Rattle.std.proofs.Common.{refl, subst, inl}
 use Rattle.tape_meaning.specs.declared.errors.MountErr.TheVariants as errors
 use Rattle.ltfs_server.specs.Came.{CameOf}
-use Rattle.ltfs_server.specs.Labels.{mount_text}
+use Rattle.basic_commands.specs.Labels.{mount_text}
 use Rattle.ltfs_server.specs.declared.running.CameTo.TheVariants as came
 use Rattle.ltfs_server.proofs.ServeSteps.{nothing_blamed, serve_unmounted}
 use Rattle.ltfs_server.proofs.serves.tell_came.Goals as goal

@@ -1,0 +1,9 @@
+pub mod FormatClauses
+pub mod LabelClauses
+pub mod LabelRanges
+pub mod ListClauses
+pub mod MountClauses
+pub mod MountedTree
+pub mod PlainClauses
+pub mod RunLemmas
+pub mod Told

@@ -1,0 +1,9 @@
+pub mod Formats
+pub mod Headline
+pub mod Labels
+pub mod Listings
+pub mod Outcomes
+pub mod Promises
+pub mod Runs
+pub mod Scripts
+pub mod Sessions

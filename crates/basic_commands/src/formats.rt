@@ -1,0 +1,90 @@
+ghost use Rattle.std.specs.Prelude.{◌≡◌, None, IfOk};
+ghost use Rattle.format_volume.specs.Refusals.{spec_fault};
+ghost use Rattle.basic_commands.specs.Formats.{format_status, format_text, formatted_text, full_text};
+ghost use Rattle.basic_commands.specs.Promises.{DoesFormat};
+ghost use Rattle.basic_commands.specs.Runs.{written};
+
+use crate::ended::Ended;
+use crate::labels::drive_text;
+use crate::session::moment;
+use crate::telling::{bytes_of, tell, tell_made};
+use format_volume::{FormatErr, format};
+use server_words::FormatWords;
+use std::alloc::Global;
+use tape_drive::Drive;
+use tape_edge::{Clock, Sink};
+use tape_types::{Bytes, NoMemory, uuid_text};
+
+/// The command `format`: makes the cartridge the empty volume of the words, whatever it held, and writes its UUID. Its
+/// moment is the given one, or else the clock's next.
+pub fn run_format<D: Drive, K: Sink, C: Clock>(
+    alloc: Global,
+    asked: FormatWords,
+    drive: D,
+    out: &mut K,
+    mut clock: C,
+) -> Ended<D>
+    requires { spec_fault asked.volume ≡ None }
+    ensures { DoesFormat asked (C.gives clock) D.Drive drive result.drive (written K.Sink out.old out.new)
+        result.status result.log }
+{
+    let at = moment(asked.at, &mut clock);
+    let line = match formatted_text(alloc, asked.volume.uuid) {
+        Ok(line) => line,
+        Err(NoMemory) => return tell(out, b"memory\n", 7, None, drive),
+    };
+    let mut spec = asked.volume;
+    spec.at = at;
+    let mut drive = drive;
+    match format(alloc, &mut drive, &spec) {
+        Ok(()) => tell(out, line.as_slice(), 0, None, drive),
+        Err(error) => tell_made(
+            out,
+            format_text(alloc, error),
+            format_status(error),
+            None,
+            drive,
+        ),
+    }
+}
+
+/// That the volume with this UUID was made.
+fn formatted_text(alloc: Global, uuid: u128) -> Result<Bytes, NoMemory>
+    ensures { IfOk result (λ text. text ≡ formatted_text uuid) }
+{
+    let mut text = Vec::new(alloc);
+    text.extend_from_slice(b"formatted ")?;
+    text.extend_from_slice(&uuid_text(uuid))?;
+    text.push(b'\n')?;
+    Ok(Bytes::from_vec(text))
+}
+
+/// That a partition has too few positions.
+pub fn full_text(alloc: Global, need: u64, limit: u64) -> Result<Bytes, NoMemory>
+    ensures { IfOk result (λ text. text ≡ full_text need limit) }
+{
+    Ok(bytes_of(format!(in alloc; "full {need} {limit}\n")?))
+}
+
+/// Why a cartridge was not formatted. A value that a volume may not have is a word of no form.
+fn format_text(alloc: Global, error: FormatErr) -> Result<Bytes, NoMemory>
+    ensures { IfOk result (λ text. text ≡ format_text error) }
+{
+    match error {
+        FormatErr::BadSpec(_) => Ok(bytes_of(format!(in alloc; "words\n")?)),
+        FormatErr::Full { need, limit } => full_text(alloc, need, limit),
+        FormatErr::Drive(counts) => drive_text(alloc, counts),
+        FormatErr::NoMemory => Ok(bytes_of(format!(in alloc; "memory\n")?)),
+    }
+}
+
+fn format_status(error: FormatErr) -> u8
+    ensures { result ≡ format_status error }
+{
+    match error {
+        FormatErr::BadSpec(_) => 1,
+        FormatErr::Full { .. } => 8,
+        FormatErr::Drive(_) => 4,
+        FormatErr::NoMemory => 7,
+    }
+}
