@@ -31,7 +31,8 @@ use Rattle.ltfs_server.specs.Outcomes.{of_format, of_label, of_list, of_make, of
 use Rattle.basic_commands.specs.Promises.{DoesFormat, DoesLabel, DoesList, DoesPlain}
 use Rattle.ltfs_server.specs.Promises.{DoesAsked, DoesMake, DoesServe, RunScripts}
 use Rattle.basic_commands.specs.Runs.{Gives, IsOneOf, Taken, TakesNothing, Written}
-use Rattle.ltfs_server.specs.Serving.{one_moment, unscripted}
+use Rattle.session_run.specs.Timed.{one_moment}
+use Rattle.ltfs_server.specs.Serving.{unscripted}
 use Rattle.basic_commands.specs.declared.plain.PlainEnd.TheVariants as plains
 use Rattle.basic_commands.specs.declared.scripts.Unread.TheVariants as unread
 use Rattle.basic_commands.proofs.FormatClauses.{format_does}

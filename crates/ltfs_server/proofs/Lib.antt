@@ -1,5 +1,4 @@
 pub mod Asked
-pub mod CameSteps
 pub mod EndedRuns
 pub mod MakeClauses
 pub mod MakeSteps

@@ -19,7 +19,7 @@ use Rattle.ltfs_server.specs.Outcomes.{EndsAs, of_make}
 use Rattle.basic_commands.specs.Promises.{ReadsAsNone}
 use Rattle.ltfs_server.specs.Promises.{DoesMake}
 use Rattle.basic_commands.specs.Runs.{IsOneOf, Written}
-use Rattle.ltfs_server.specs.Serving.{HoldsTree}
+use Rattle.session_run.specs.Serving.{HoldsTree}
 use Rattle.ltfs_server.proofs.EndedRuns.{done_or_refused, failed_rose}
 use Rattle.basic_commands.proofs.MountClauses.{among_refused, blamed, drive_told, found_done, memory_told, mount_isnt, mount_known}
 use Rattle.basic_commands.proofs.Told.{by_six, by_status, by_text, if_some, of_some}

@@ -11,19 +11,18 @@ use Rattle.tape_meaning.specs.declared.errors.MountErr.TheVariants as errors
 use Rattle.mount_recover.specs.Labels.{AreCounts}
 use Rattle.mount_recover.specs.Steps.{Blames}
 use Rattle.volume_model.specs.Headline.{Closed, Failed, Short}
-use Rattle.volume_model.specs.declared.answers.CloseEnd.{CloseEnd}
-use Rattle.volume_model.specs.declared.answers.CloseEnd.TheVariants as ends
-use Rattle.volume_model.specs.declared.contract.Closed.{Closed as ClosedVolume}
-use Rattle.volume_runs.specs.Laws.{IsRun}
-use Rattle.ltfs_server.specs.Came.{CameOf, WasRun}
 use Rattle.basic_commands.specs.Labels.{mount_status, mount_text}
 use Rattle.ltfs_server.specs.Making.{IsMadeEnd, MadeEnd, closed_line, made, made_log, made_status, made_text, starved, unmade}
 use Rattle.basic_commands.specs.Outcomes.{IsTold}
 use Rattle.ltfs_server.specs.Promises.{DoesMake}
 use Rattle.basic_commands.specs.Runs.{Written}
-use Rattle.ltfs_server.specs.Serving.{HoldsTree, IsLookedAt, TimedView, close_status, one_moment}
-use Rattle.ltfs_server.specs.declared.running.CameTo.{CameTo}
-use Rattle.ltfs_server.specs.declared.running.CameTo.TheVariants as came
+use Rattle.session_run.specs.Serving.{IsLookedAt, IsServedSo, IsUnserved, IsWhole, Whole, end_line}
+use Rattle.session_run.specs.declared.ends.ServeEnd.{ServeEnd as VolumeEnd}
+use Rattle.session_run.specs.declared.ends.ServeEnd.TheVariants as ends
+use Rattle.session_run.specs.declared.ends.Served.{Served}
+use Rattle.ltfs_server.specs.Serving.{end_status}
+use Rattle.ltfs_server.proofs.ServeSteps.{blames, no_counts}
+use Rattle.session_run.specs.Timed.{TimedView, one_moment}
 use Rattle.ltfs_server.proofs.MakeClauses.{make_does}
 use Rattle.basic_commands.proofs.Told.{if_some}
 
@@ -57,62 +56,54 @@ module _ {D : Type 0} (drive : Ghosts D) (moment : Option Moment) (count : ℕ) 
     faults = omega arith;
   }) told
 
-  -- the cartridge was not mounted, which is told, or that memory was refused
-  unmounted_does : (old mid : D) (e : MountErr) → IfSome (drive.held old) (λ c. Blames e c) → AreCounts (drive.faults old) (drive.faults mid) e → IsLookedAt drive old mid
-      → (wanted : ℕ) → wanted ≡ mount_status e → IsTold wanted (mount_text e) sink status ⊎ IsTold 7 (codes "memory\n") sink status → Does old mid None
-  unmounted_does old mid e is counts looked wanted status_is (inl told) = looked_does old mid e is counts looked (subst (λ w. IsTold w (mount_text e) sink status) status_is told)
-  unmounted_does old mid e is counts looked wanted status_is (inr told) = make_starved old mid mid None refl refl looked told
-
-  pub make_unmounted : (old mid new : D) (log : Option Log) (e : MountErr) (k : CameTo D) → k ≡ came.Unmounted e mid → CameOf drive (made_script count) moment old k
-      → new ≡ mid → log ≡ None → (wanted : ℕ) → wanted ≡ mount_status e → IsTold wanted (mount_text e) sink status ⊎ IsTold 7 (codes "memory\n") sink status → Does old new log
-  make_unmounted old mid new log e k is of same none wanted status_is told =
-      let it : CameOf drive (made_script count) moment old (came.Unmounted e mid) = subst (λ (k : CameTo D). CameOf drive (made_script count) moment old k) is of in
-      subst (λ d. Does old d log) (sym same) (subst (Does old mid) (sym none) (unmounted_does old mid e it.0 it.1 it.2 wanted status_is told))
-
-  -- memory was refused before the first call
-  pub make_unrun : (old mid new : D) (log : Option Log) (k : CameTo D) → k ≡ came.Starved mid → CameOf drive (made_script count) moment old k
-      → new ≡ mid → log ≡ None → IsTold 7 (codes "memory\n") sink status → Does old new log
-  make_unrun old mid new log k is of same none told =
-      make_starved old mid new log same none (subst (λ (k : CameTo D). CameOf drive (made_script count) moment old k) is of) told
-
 -- ---- a script that was run
 
-module _ {D : Type 0} (drive : Ghosts D) (moment : Option Moment) (count : ℕ) (start now : D) (log : Log) (nodes : ℕ) (sink : Written) (status : ℕ)
-    (tree : HoldsTree (drive.held start)) (limits : drive.limits now ≡ drive.limits start) (untold : drive.held start ≡ None → drive.held now ≡ None) where
-  abbrev Runs : CloseEnd → Type 0
-  Runs outcome = IsRun drive (made_script count) moment start now log outcome nodes
-
-  abbrev Does_so : Type 0
-  Does_so = DoesMake moment count drive start now sink status (Some log)
-
-  does : (end : MadeEnd) → IsMadeEnd drive start now moment count end → made_log end ≡ Some log → IsTold (made_status end) (made_text end) sink status → Does_so
+module _ {D : Type 0} (drive : Ghosts D) (moment : Option Moment) (count : ℕ) (start now : D) (log : Log) (sink : Written) (status : ℕ)
+    (limits : drive.limits now ≡ drive.limits start) (untold : drive.held start ≡ None → drive.held now ≡ None) where
+  does : (end : MadeEnd) → IsMadeEnd drive start now moment count end → made_log end ≡ Some log → IsTold (made_status end) (made_text end) sink status
+      → DoesMake moment count drive start now sink status (Some log)
   does end is logged told = make_does drive start now moment count sink (Some log) status end is
       (λ none. absurd (let bad : None ≡ Some log = sym none ∙ logged in cc bad)) limits untold (sym logged, told)
 
-  by_outcome : (outcome : CloseEnd) → Runs outcome → IsTold (close_status outcome) (closed_line log outcome nodes) sink status → Does_so
-  by_outcome (ends.Done generation) run told =
-      does (made log (Closed generation) nodes) (tree, record { ended = record { run = run.run; ends = run.end }; nodes_are = run.nodes_are }) refl told
-  by_outcome (ends.Full need limit) run told =
-      does (made log (Short need limit) nodes) (tree, record { ended = record { run = run.run; ends = run.end }; nodes_are = run.nodes_are }) refl told
-  by_outcome (ends.Fault counts) run told =
-      does (made log (Failed counts) nodes) (tree, record { ended = record { run = run.run; ends = run.end }; nodes_are = run.nodes_are }) refl told
-  by_outcome ends.NoMemory run told = does (starved log) run.run refl told
+  -- it ended so, and the line of that is told
+  by_end : (end : VolumeEnd) → IsServedSo drive start now moment (made_script count) log end → IsTold (end_status end) (closed_line (Some log) end) sink status
+      → DoesMake moment count drive start now sink status (Some log)
+  by_end (ends.Done generation s t n) so told =
+      does (made log (Closed generation) n) (so.mounted, record { ended = record { run = so.run; ends = so.ends.closed }; nodes_are = so.ends.nodes_are }) refl told
+  by_end (ends.Full need limit) so told =
+      does (made log (Short need limit) 0) (so.mounted, record { ended = record { run = so.run; ends = so.ends }; nodes_are = λ tree mounted can. tt }) refl told
+  by_end (ends.Drive counts) so told =
+      does (made log (Failed counts) 0) (so.mounted, record { ended = record { run = so.run; ends = so.ends }; nodes_are = λ tree mounted can. tt }) refl told
+  by_end ends.NoMemory so told = does (starved log) so.run refl told
+  by_end (ends.Volume error) so told = absurd so.ends
 
-  -- the line of the close is told, or that memory was refused for that
-  pub closed_does : (outcome : CloseEnd) → Runs outcome → (wanted : ℕ) → wanted ≡ close_status outcome
-      → IsTold wanted (closed_line log outcome nodes) sink status ⊎ IsTold 7 (codes "memory\n") sink status → Does_so
-  closed_does outcome run wanted status_is (inl told) = by_outcome outcome run (subst (λ w. IsTold w (closed_line log outcome nodes) sink status) status_is told)
-  closed_does outcome run wanted status_is (inr told) = does (starved log) run.run refl told
+-- ---- whatever came of it
 
--- the same of what came of it
-pub make_ran : {D : Type 0} (drive : Ghosts D) (moment : Option Moment) (count : ℕ) (start new : D) (closed : ClosedVolume D) (sink : Written) (status : ℕ) (log : Option Log)
-    → WasRun drive (made_script count) moment start closed → new ≡ closed.drive → log ≡ Some closed.log → (wanted : ℕ) → wanted ≡ close_status closed.outcome
-    → IsTold wanted (closed_line closed.log closed.outcome closed.nodes) sink status ⊎ IsTold 7 (codes "memory\n") sink status → DoesMake moment count drive start new sink status log
-make_ran drive moment count start new closed sink status log was same logged wanted status_is told =
-    subst (λ d. DoesMake moment count drive start d sink status log) (sym same) (subst (DoesMake moment count drive start closed.drive sink status) (sym logged)
-    (closed_does drive moment count start closed.drive closed.log closed.nodes sink status was.mounted was.limits was.untold closed.outcome was.run wanted status_is told))
+module _ {D : Type 0} (drive : Ghosts D) (moment : Option Moment) (count : ℕ) (sink : Written) (status : ℕ) (start now : D) where
+  -- no call was made, for this cause
+  by_cause : (end : VolumeEnd) → IsLookedAt drive start now → IsUnserved (drive.held start) (drive.faults start) (drive.faults now) end → IsTold (end_status end) (end_line end) sink status
+      → DoesMake moment count drive start now sink status None
+  by_cause (ends.Volume e) looked cause told =
+      looked_does drive moment count sink status start now e (blames e (drive.held start) cause.0 cause.1) (no_counts e _ _ cause.0) looked
+      (subst (λ w. IsTold w (mount_text e) sink status) (sym cause.0) told)
+  by_cause (ends.Drive counts) looked cause told =
+      looked_does drive moment count sink status start now (errors.Drive counts) (if_some (drive.held start) (λ c. Blames (errors.Drive counts) c) (λ c held. tt)) cause looked told
+  by_cause ends.NoMemory looked cause told = make_starved drive moment count sink status start now now None refl refl looked told
+  by_cause (ends.Done generation s t n) looked cause told = absurd cause
+  by_cause (ends.Full need limit) looked cause told = absurd cause
 
--- and where it came to that
-pub run_of : {D : Type 0} (drive : Ghosts D) (moment : Option Moment) (count : ℕ) (start : D) (closed : ClosedVolume D) (k : CameTo D) → k ≡ came.Run closed
-    → CameOf drive (made_script count) moment start k → WasRun drive (made_script count) moment start closed
-run_of {D} drive moment count start closed k is of = subst (λ (k : CameTo D). CameOf drive (made_script count) moment start k) is of
+  -- the end is told, or that memory was refused for that
+  by_log : (log : Option Log) (end : VolumeEnd) → IsWhole drive start now moment (made_script count) log end → (wanted : ℕ) → wanted ≡ end_status end
+      → IsTold wanted (closed_line log end) sink status ⊎ IsTold 7 (codes "memory\n") sink status → DoesMake moment count drive start now sink status log
+  by_log None end whole wanted status_is (inl told) = by_cause end whole.0 whole.1 (subst (λ w. IsTold w (closed_line None end) sink status) status_is told)
+  by_log None end whole wanted status_is (inr told) = make_starved drive moment count sink status start now now None refl refl whole.0 told
+  by_log (Some log) end whole wanted status_is (inl told) =
+      by_end drive moment count start now log sink status whole.limits whole.untold end whole (subst (λ w. IsTold w (closed_line (Some log) end) sink status) status_is told)
+  by_log (Some log) end whole wanted status_is (inr told) = does drive moment count start now log sink status whole.limits whole.untold (starved log) whole.run refl told
+
+pub make_told : {D : Type 0} (drive : Ghosts D) (moment : Option Moment) (count : ℕ) (sink : Written) (status : ℕ) (start new : D) (s : Served D) (result : Option Log)
+    → Whole drive start moment (made_script count) s → new ≡ s.drive → result ≡ s.log → (wanted : ℕ) → wanted ≡ end_status s.end
+    → IsTold wanted (closed_line s.log s.end) sink status ⊎ IsTold 7 (codes "memory\n") sink status → DoesMake moment count drive start new sink status result
+make_told drive moment count sink status start new s result whole back same wanted status_is told =
+    subst (λ d. DoesMake moment count drive start d sink status result) (sym back) (subst (DoesMake moment count drive start s.drive sink status) (sym same)
+    (by_log drive moment count sink status start s.drive s.log s.end whole wanted status_is told))

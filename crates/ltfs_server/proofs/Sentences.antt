@@ -18,7 +18,8 @@ use Rattle.basic_commands.specs.Runs.{IsOneOf, Taken, Written}
 use Rattle.ltfs_server.specs.Outcomes.{Run}
 use Rattle.ltfs_server.specs.Sentence.{AreNodesTold, Asked, Asks, IsClosedSo, IsScriptAsked, IsWantPrinted, Sentence, SentenceHolds, to_make, to_serve, told_text}
 use Rattle.basic_commands.proofs.Told.{none_of}
-use Rattle.ltfs_server.specs.Serving.{IsServedEnd, ServedEnd, one_moment, served, served_log, served_status, served_text, unclosed, unscripted, unserved, unwritten}
+use Rattle.session_run.specs.Timed.{one_moment}
+use Rattle.ltfs_server.specs.Serving.{IsServedEnd, ServedEnd, served, served_log, served_status, served_text, unclosed, unscripted, unserved, unwritten}
 
 -- ---- statuses
 

@@ -19,7 +19,8 @@ use Rattle.ltfs_server.specs.Outcomes.{EndsAs, of_serve}
 use Rattle.basic_commands.specs.Promises.{ReadsAsNone}
 use Rattle.ltfs_server.specs.Promises.{DoesServe}
 use Rattle.basic_commands.specs.Runs.{IsOneOf, Taken, Written}
-use Rattle.ltfs_server.specs.Serving.{HoldsTree, IsClosePrinted, IsFailurePrinted, IsRefusedPrinted, IsServedEnd, IsServedRun, IsServedTo, IsShortPrinted, ServedEnd, served, served_log, served_status, served_text, unclosed, unscripted, unserved, unwritten}
+use Rattle.session_run.specs.Serving.{HoldsTree}
+use Rattle.ltfs_server.specs.Serving.{IsClosePrinted, IsFailurePrinted, IsRefusedPrinted, IsServedEnd, IsServedRun, IsServedTo, IsShortPrinted, ServedEnd, served, served_log, served_status, served_text, unclosed, unscripted, unserved, unwritten}
 use Rattle.basic_commands.specs.declared.scripts.Unread.TheVariants as unread
 use Rattle.ltfs_server.proofs.EndedRuns.{done_or_refused, failed_rose}
 use Rattle.basic_commands.proofs.MountClauses.{blamed, drive_told, found_done, memory_told, mount_isnt, mount_known}

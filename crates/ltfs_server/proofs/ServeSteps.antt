@@ -6,10 +6,11 @@ use Rattle.tape_types.specs.declared.moments.Moment.{Moment}
 use Rattle.session_script.specs.LogText.{log_text}
 use Rattle.session_script.specs.declared.logs.Log.{Log}
 use Rattle.session_script.specs.declared.scripts.ScriptLine.{ScriptLine}
-use Rattle.head_trail.specs.Trail.{steps, travel}
+use Rattle.head_trail.specs.Trail.{steps}
 use Rattle.tape_drive.specs.Looks.{Looks}
 use Rattle.tape_drive.specs.declared.drive.Drive.{Ghosts}
 use Rattle.tape_drive.proofs.Looking.{more_looks, no_looks}
+use Rattle.tape_meaning.specs.Faults.{MountFault}
 use Rattle.tape_meaning.specs.declared.errors.MountErr.{MountErr}
 use Rattle.tape_meaning.specs.declared.errors.MountErr.TheVariants as errors
 use Rattle.mount_recover.specs.Labels.{AreCounts}
@@ -17,18 +18,19 @@ use Rattle.mount_recover.specs.Steps.{Blames}
 use Rattle.volume_model.specs.Ends.{bounded}
 use Rattle.volume_model.specs.Headline.{Closed, Failed, IsEndOf, IsServeRun, ServeEnd, Short, serve_text, status_of}
 use Rattle.volume_model.specs.Meanings.{cartridges}
-use Rattle.volume_model.specs.declared.answers.CloseEnd.{CloseEnd}
-use Rattle.volume_model.specs.declared.answers.CloseEnd.TheVariants as ends
-use Rattle.volume_model.specs.declared.contract.Closed as contract
 use Rattle.volume_order.specs.Kept.{seen}
-use Rattle.volume_runs.specs.Laws.{IsRun}
-use Rattle.ltfs_server.specs.Came.{WasRun}
+use Rattle.session_run.specs.Serving.{IsServedSo, IsUnserved, IsWhole, Whole, end_line, IsLookedAt}
+use Rattle.session_run.specs.declared.ends.ServeEnd.{ServeEnd as VolumeEnd}
+use Rattle.session_run.specs.declared.ends.ServeEnd.TheVariants as ends
+use Rattle.session_run.specs.declared.ends.Served.{Served}
 use Rattle.basic_commands.specs.Labels.{mount_status, mount_text}
 use Rattle.basic_commands.specs.Outcomes.{IsTold}
 use Rattle.ltfs_server.specs.Promises.{DoesServe}
 use Rattle.basic_commands.specs.Runs.{IsScriptIn, Taken, Written}
 use Rattle.basic_commands.specs.Scripts.{IsUnread, unread_status, unread_text}
-use Rattle.ltfs_server.specs.Serving.{HoldsTree, IsServedEnd, IsServedRun, ServedEnd, TimedView, close_line, close_status, one_moment, served, served_log, served_status, served_text, unclosed, unscripted, unserved, unwritten}
+use Rattle.session_run.specs.Serving.{HoldsTree}
+use Rattle.session_run.specs.Timed.{TimedView, one_moment}
+use Rattle.ltfs_server.specs.Serving.{IsServedEnd, end_status, told_whole, IsServedRun, ServedEnd, served, served_log, served_status, served_text, unclosed, unscripted, unserved, unwritten}
 use Rattle.basic_commands.specs.declared.scripts.Unread.{Unread}
 use Rattle.basic_commands.specs.declared.scripts.Unread.TheVariants as unread
 use Rattle.ltfs_server.proofs.ServeClauses.{serve_does}
@@ -37,6 +39,33 @@ use Rattle.basic_commands.proofs.Told.{if_some}
 -- want of memory blames no cartridge
 pub nothing_blamed : (held : Option Cartridge) → IfSome held (λ c. Blames errors.NoMemory c)
 nothing_blamed held = if_some held (λ c. Blames errors.NoMemory c) (λ c is. tt)
+
+-- a fault of the cartridge blames it, and has no counts
+pub blames : (e : MountErr) (held : Option Cartridge) → mount_status e ≡ 3 → IfSome held (λ c. MountFault c e) → IfSome held (λ c. Blames e c)
+blames (errors.Vol1 part) held three is = is
+blames (errors.Label part) held three is = is
+blames errors.LabelsDiffer held three is = is
+blames (errors.Layout place) held three is = is
+blames errors.NoIndex held three is = is
+blames (errors.BadIndex place why) held three is = is
+blames (errors.WrongVolume place) held three is = is
+blames (errors.WrongPointer place) held three is = is
+blames (errors.BadExtent uid) held three is = is
+blames (errors.Drive said) held three is = absurd (cc three)
+blames errors.NoMemory held three is = absurd (cc three)
+
+pub no_counts : (e : MountErr) (before now : ℕ) → mount_status e ≡ 3 → AreCounts before now e
+no_counts (errors.Vol1 part) before now three = tt
+no_counts (errors.Label part) before now three = tt
+no_counts errors.LabelsDiffer before now three = tt
+no_counts (errors.Layout place) before now three = tt
+no_counts errors.NoIndex before now three = tt
+no_counts (errors.BadIndex place why) before now three = tt
+no_counts (errors.WrongVolume place) before now three = tt
+no_counts (errors.WrongPointer place) before now three = tt
+no_counts (errors.BadExtent uid) before now three = tt
+no_counts (errors.Drive said) before now three = absurd (cc three)
+no_counts errors.NoMemory before now three = tt
 
 module _ {D : Type 0} (drive : Ghosts D) (moment : Option Moment) (source : Taken) (sink : Written) (status : ℕ) where
   -- nothing was done, and why there is no script is told, or that memory was refused
@@ -98,29 +127,51 @@ module _ {D : Type 0} (drive : Ghosts D) (moment : Option Moment) (source : Take
   ended end result tree run ends same told = does result (served log end)
       (tree, record { script = script; spelled = is.spelled; whole = is.whole; run = record { run = run; ends = ends } }) same refl told
 
-  by_outcome : (outcome : CloseEnd) (s t n : ℕ) (result : Option Log) → IsRun drive script moment start now log outcome n → s ≡ bounded (steps log.events) → t ≡ bounded (travel log.events)
-      → HoldsTree (drive.held start) → result ≡ Some log
-      → IsTold (close_status outcome) (log_text log ++ close_line outcome s t) sink status → DoesServe moment source drive start now sink status result
-  by_outcome (ends.Done generation) s t n result run steps_are travel_is tree same told =
-      ended (Closed generation) result tree run.run run.end same
-      (subst (λ m. IsTold 0 (log_text log ++ close_line (ends.Done generation) (bounded (steps log.events)) m) sink status) travel_is
-      (subst (λ m. IsTold 0 (log_text log ++ close_line (ends.Done generation) m t) sink status) steps_are told))
-  by_outcome (ends.Full need limit) s t n result run steps_are travel_is tree same told = ended (Short need limit) result tree run.run run.end same told
-  by_outcome (ends.Fault counts) s t n result run steps_are travel_is tree same told = ended (Failed counts) result tree run.run run.end same told
-  by_outcome ends.NoMemory s t n result run steps_are travel_is tree same told = does result (unclosed log) (run_of run.run) same refl told
+  by_end : (end : VolumeEnd) → IsServedSo drive start now moment script log end → IsTold (end_status end) (log_text log ++ end_line end) sink status
+      → DoesServe moment source drive start now sink status (Some log)
+  by_end (ends.Done generation s t n) is_so told =
+      ended (Closed generation) (Some log) is_so.mounted is_so.run is_so.ends.closed refl
+      (subst (λ m. IsTold 0 (log_text log ++ end_line (ends.Done generation (bounded (steps log.events)) m n)) sink status) is_so.ends.travel_is
+      (subst (λ m. IsTold 0 (log_text log ++ end_line (ends.Done generation m t n)) sink status) is_so.ends.steps_are told))
+  by_end (ends.Full need limit) is_so told = ended (Short need limit) (Some log) is_so.mounted is_so.run is_so.ends refl told
+  by_end (ends.Drive counts) is_so told = ended (Failed counts) (Some log) is_so.mounted is_so.run is_so.ends refl told
+  by_end ends.NoMemory is_so told = does (Some log) (unclosed log) (run_of is_so.run) refl refl told
+  by_end (ends.Volume error) is_so told = absurd is_so.ends
 
--- the log and the end are told, or that memory was refused for that
-pub run_does : {D : Type 0} (drive : Ghosts D) (moment : Option Moment) (source : Taken) (sink : Written) (status : ℕ) (script : List ScriptLine) (start new : D) (closed : contract.Closed D) (result : Option Log)
-    → IsScriptIn source script → WasRun drive script moment start closed → new ≡ closed.drive → result ≡ Some closed.log → (wanted : ℕ) → wanted ≡ close_status closed.outcome
-    → IsTold wanted (log_text closed.log ++ close_line closed.outcome closed.steps closed.travel) sink status ⊎ IsTold 7 (codes "memory\n") sink status
-    → DoesServe moment source drive start new sink status result
-run_does drive moment source sink status script start new closed result is was back same wanted status_is told =
-    subst (λ d. DoesServe moment source drive start d sink status result) (sym back) (by told)
-  where
-    by : IsTold wanted (log_text closed.log ++ close_line closed.outcome closed.steps closed.travel) sink status ⊎ IsTold 7 (codes "memory\n") sink status
-        → DoesServe moment source drive start closed.drive sink status result
-    by (inl told) = by_outcome drive moment source sink status script is start closed.drive closed.log was.limits was.untold closed.outcome closed.steps closed.travel closed.nodes result
-        was.run was.steps_are was.travel_is was.mounted same
-        (subst (λ w. IsTold w (log_text closed.log ++ close_line closed.outcome closed.steps closed.travel) sink status) status_is told)
-    by (inr told) = does drive moment source sink status script is start closed.drive closed.log was.limits was.untold result (unwritten closed.log)
-        (run_of drive moment source sink status script is start closed.drive closed.log was.limits was.untold was.run.run) same refl told
+-- ---- whatever came of it
+
+module _ {D : Type 0} (drive : Ghosts D) (moment : Option Moment) (source : Taken) (sink : Written) (status : ℕ) (script : List ScriptLine) (is : IsScriptIn source script) (start now : D) where
+  -- no call was made, for this cause
+  unserved_does : (e : MountErr) → IfSome (drive.held start) (λ c. Blames e c) → AreCounts (drive.faults start) (drive.faults now) e → IsLookedAt drive start now
+      → IsTold (mount_status e) (mount_text e) sink status → DoesServe moment source drive start now sink status None
+  unserved_does e blamed counts looked told =
+      serve_unmounted drive moment source sink status start now now None e refl refl (script, is) blamed counts looked.looks (mount_status e) refl (inl told)
+
+  by_cause : (end : VolumeEnd) → IsLookedAt drive start now → IsUnserved (drive.held start) (drive.faults start) (drive.faults now) end → IsTold (end_status end) (end_line end) sink status
+      → DoesServe moment source drive start now sink status None
+  by_cause (ends.Volume e) looked cause told =
+      unserved_does e (blames e (drive.held start) cause.0 cause.1) (no_counts e _ _ cause.0) looked
+      (subst (λ w. IsTold w (mount_text e) sink status) (sym cause.0) told)
+  by_cause (ends.Drive counts) looked cause told =
+      unserved_does (errors.Drive counts) (if_some (drive.held start) (λ c. Blames (errors.Drive counts) c) (λ c held. tt)) cause looked told
+  by_cause ends.NoMemory looked cause told = unserved_does errors.NoMemory (nothing_blamed (drive.held start)) tt looked told
+  by_cause (ends.Done generation s t n) looked cause told = absurd cause
+  by_cause (ends.Full need limit) looked cause told = absurd cause
+
+  -- the end is told, behind the log where there is one, or that memory was refused for that
+  by_log : (log : Option Log) (end : VolumeEnd) → IsWhole drive start now moment script log end → (wanted : ℕ) → wanted ≡ end_status end
+      → IsTold wanted (told_whole log end) sink status ⊎ IsTold 7 (codes "memory\n") sink status → DoesServe moment source drive start now sink status log
+  by_log None end whole wanted status_is (inl told) = by_cause end whole.0 whole.1 (subst (λ w. IsTold w (end_line end) sink status) status_is told)
+  by_log None end whole wanted status_is (inr told) = unserved_does errors.NoMemory (nothing_blamed (drive.held start)) tt whole.0 told
+  by_log (Some log) end whole wanted status_is (inl told) =
+      by_end drive moment source sink status script is start now log whole.limits whole.untold end whole (subst (λ w. IsTold w (log_text log ++ end_line end) sink status) status_is told)
+  by_log (Some log) end whole wanted status_is (inr told) =
+      does drive moment source sink status script is start now log whole.limits whole.untold (Some log) (unwritten log)
+      (run_of drive moment source sink status script is start now log whole.limits whole.untold whole.run) refl refl told
+
+pub serve_told : {D : Type 0} (drive : Ghosts D) (moment : Option Moment) (source : Taken) (sink : Written) (status : ℕ) (script : List ScriptLine) (start new : D) (s : Served D) (result : Option Log)
+    → Whole drive start moment script s → IsScriptIn source script → new ≡ s.drive → result ≡ s.log → (wanted : ℕ) → wanted ≡ end_status s.end
+    → IsTold wanted (told_whole s.log s.end) sink status ⊎ IsTold 7 (codes "memory\n") sink status → DoesServe moment source drive start new sink status result
+serve_told drive moment source sink status script start new s result whole is back same wanted status_is told =
+    subst (λ d. DoesServe moment source drive start d sink status result) (sym back) (subst (DoesServe moment source drive start s.drive sink status) (sym same)
+    (by_log drive moment source sink status script is start s.drive s.log s.end whole wanted status_is told))

@@ -1,4 +1,3 @@
-pub mod Came
 pub mod Making
 pub mod Outcomes
 pub mod Promises

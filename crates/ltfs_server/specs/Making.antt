@@ -19,20 +19,19 @@ use Rattle.tape_meaning.specs.Carried.{carried}
 use Rattle.tape_meaning.specs.Meaning.{Reads}
 use Rattle.tape_meaning.specs.Mounts.{Mounts}
 use Rattle.tape_meaning.specs.declared.errors.MountErr.{MountErr}
-use Rattle.tape_meaning.specs.declared.errors.MountErr.TheVariants as errors
 use Rattle.tape_meaning.specs.declared.mounted.Mounted.{Mounted}
 use Rattle.volume_model.specs.Ends.{bounded}
 use Rattle.volume_model.specs.Headline.{Closed, Failed, IsServeRun, ServeEnd, Short, end_text, status_of, tree_of_log}
 use Rattle.volume_model.specs.Meanings.{cartridges}
 use Rattle.volume_model.specs.Served.{CanTell}
-use Rattle.volume_model.specs.declared.answers.CloseEnd.{CloseEnd}
-use Rattle.volume_model.specs.declared.answers.CloseEnd.TheVariants as ends
 use Rattle.volume_order.specs.Kept.{seen}
-use Rattle.basic_commands.specs.Formats.{full_text}
+use Rattle.session_run.specs.Serving.{HoldsTree, end_line}
+use Rattle.session_run.specs.declared.ends.ServeEnd.{ServeEnd as VolumeEnd}
+use Rattle.session_run.specs.declared.ends.ServeEnd.TheVariants as ends
 use Rattle.basic_commands.specs.Headline.{IsDriveFaultPrinted}
 use Rattle.basic_commands.specs.Labels.{mount_status, mount_text}
 use Rattle.basic_commands.specs.Runs.{Written}
-use Rattle.ltfs_server.specs.Serving.{EndsRun, HoldsTree}
+use Rattle.ltfs_server.specs.Serving.{EndsRun}
 
 -- ---- the summary
 
@@ -71,12 +70,10 @@ abbrev pub summary_text : Log → ServeEnd → (nodes : ℕ) → List ℕ
 summary_text log (Closed generation) nodes = summary log nodes
 summary_text log end nodes = end_text log end
 
--- the same of a close, which may have been refused memory
-abbrev pub closed_line : Log → CloseEnd → (nodes : ℕ) → List ℕ
-closed_line log (ends.Done generation) nodes = summary log nodes
-closed_line log (ends.Full need limit) nodes = full_text need limit
-closed_line log (ends.Fault counts) nodes = mount_text (errors.Drive counts)
-closed_line log ends.NoMemory nodes = codes "memory\n"
+-- the summary where all calls were made and the volume was closed, or else the line of the end
+abbrev pub closed_line : Option Log → VolumeEnd → List ℕ
+closed_line (Some log) (ends.Done generation steps travel nodes) = summary log nodes
+closed_line log end = end_line end
 
 -- ---- what it comes to
 

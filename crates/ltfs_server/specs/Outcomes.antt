@@ -11,7 +11,8 @@ use Rattle.ltfs_server.specs.Making.{IsMadeEnd, MadeEnd, made_log, made_status, 
 use Rattle.basic_commands.specs.Outcomes.{IsLabelEnd, IsListEnd, IsPlainEnd, IsTold, LabelEnd, ListEnd, label_status}
 use Rattle.basic_commands.specs.Outcomes.{label_text, list_status, list_text, plain_log, plain_status, plain_text}
 use Rattle.basic_commands.specs.Runs.{Gives, Taken, TakesNothing, Written, looked}
-use Rattle.ltfs_server.specs.Serving.{IsServedEnd, ServedEnd, one_moment, served_log, served_status, served_text}
+use Rattle.session_run.specs.Timed.{one_moment}
+use Rattle.ltfs_server.specs.Serving.{IsServedEnd, ServedEnd, served_log, served_status, served_text}
 use Rattle.basic_commands.specs.declared.plain.PlainEnd.{PlainEnd}
 
 -- a run by its words, what its clock may give, its clock's one moment where it has one, and its source

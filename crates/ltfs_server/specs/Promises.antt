@@ -21,7 +21,8 @@ use Rattle.ltfs_server.specs.Outcomes.{of_make, of_serve}
 use Rattle.basic_commands.specs.Promises.{DoesFormat, DoesLabel, DoesList, DoesPlain, ReadsAsNone}
 use Rattle.basic_commands.specs.Runs.{Gives, IsOneOf, Taken, TakesNothing, Written}
 use Rattle.ltfs_server.specs.Serving.{IsClosePrinted, IsFailurePrinted, IsRefusedPrinted, IsServedEnd, IsServedRun}
-use Rattle.ltfs_server.specs.Serving.{IsShortPrinted, ServedEnd, one_moment}
+use Rattle.session_run.specs.Timed.{one_moment}
+use Rattle.ltfs_server.specs.Serving.{IsShortPrinted, ServedEnd}
 
 -- `serve`, with one moment or none, of the cartridge that the drive held, where it tells that
 pub record DoesServe {D : Type 0} (moment : Option Moment) (source : Taken) (drive : Ghosts D) (old new : D)

@@ -31,7 +31,7 @@ use Rattle.server_words.specs.Forms.{IsMakeWords, IsServeWords}
 use Rattle.ltfs_server.specs.Making.{HasNodes, summary_text}
 use Rattle.basic_commands.specs.Runs.{IsOneOf, IsScriptIn, Taken, Written}
 use Rattle.ltfs_server.specs.Outcomes.{Run}
-use Rattle.ltfs_server.specs.Serving.{one_moment}
+use Rattle.session_run.specs.Timed.{one_moment}
 
 -- ---- what was asked
 

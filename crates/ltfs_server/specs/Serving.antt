@@ -1,63 +1,42 @@
 -- What `serve` comes to: when it comes to that, and what is told then.
-use Rattle.std.specs.Prelude.{◌≡◌, ◌⊎◌, ◌≤◌, ℕ, ◌+◌, ◌*◌, List, ◌++◌, Option, Some, None, IfSome, codes, decimal}
+use Rattle.std.specs.Prelude.{◌⊎◌, ℕ, ◌+◌, List, ◌++◌, Option, Some, None, IfSome, codes}
 use Rattle.std.specs.Io.KnownBytes.{Appends}
-use Rattle.tape_types.specs.declared.cartridges.Cartridge.{Cartridge}
 use Rattle.tape_types.specs.declared.cartridges.Twin.{Twin}
 use Rattle.tape_types.specs.declared.moments.Moment.{Moment}
-use Rattle.plain_tree.specs.Tree.{Tree}
 use Rattle.session_script.specs.LogText.{log_text}
 use Rattle.session_script.specs.declared.logs.Log.{Log}
 use Rattle.session_script.specs.declared.scripts.ScriptLine.{ScriptLine}
-use Rattle.tape_drive.specs.Looks.{Looks}
 use Rattle.tape_drive.specs.declared.drive.Drive.{Ghosts}
 use Rattle.mount_recover.specs.Labels.{AreCounts}
 use Rattle.mount_recover.specs.Steps.{Blames}
-use Rattle.tape_meaning.specs.Carried.{Carried, carried}
-use Rattle.tape_meaning.specs.Meaning.{Reads}
-use Rattle.tape_meaning.specs.Mounts.{Mounts}
 use Rattle.tape_meaning.specs.declared.errors.MountErr.{MountErr}
 use Rattle.volume_model.specs.Headline.{Closed, Failed, IsEndOf, IsServeRun, ServeEnd, Short, serve_text, status_of}
 use Rattle.volume_model.specs.Meanings.{cartridges}
-use Rattle.volume_model.specs.Served.{Fixed}
-use Rattle.volume_model.specs.declared.answers.CloseEnd.{CloseEnd}
-use Rattle.volume_model.specs.declared.answers.CloseEnd.TheVariants as ends
 use Rattle.volume_order.specs.Kept.{seen}
+use Rattle.session_run.specs.Serving.{HoldsTree, end_line}
+use Rattle.session_run.specs.declared.ends.ServeEnd.{ServeEnd as VolumeEnd}
+use Rattle.session_run.specs.declared.ends.ServeEnd.TheVariants as ends
 use Rattle.basic_commands.specs.Headline.{IsDriveFaultPrinted}
 use Rattle.basic_commands.specs.Labels.{mount_status, mount_text}
 use Rattle.basic_commands.specs.Scripts.{IsUnread, unread_status, unread_text}
 use Rattle.basic_commands.specs.Runs.{IsRunOf, IsScriptIn, Taken, Written}
 use Rattle.basic_commands.specs.declared.scripts.Unread.{Unread}
 
--- ---- how a volume was closed
+-- ---- how serving ended
 
-abbrev pub close_status : CloseEnd → ℕ
-close_status (ends.Done generation) = 0
-close_status (ends.Full need limit) = 8
-close_status (ends.Fault counts) = 4
-close_status ends.NoMemory = 7
+abbrev pub end_status : VolumeEnd → ℕ
+end_status (ends.Done generation steps travel nodes) = 0
+end_status (ends.Volume error) = 3
+end_status (ends.Drive counts) = 4
+end_status (ends.Full need limit) = 8
+end_status ends.NoMemory = 7
 
--- `closed GENERATION STEPS TRAVEL`, or the line of the fault, or that memory was refused
-abbrev pub close_line : CloseEnd → (steps travel : ℕ) → List ℕ
-close_line (ends.Done generation) steps travel = codes "closed "
-    ++ (decimal generation
-    ++ (codes " " ++ (decimal steps ++ (codes " " ++ (decimal travel ++ codes "\n")))))
-close_line (ends.Full need limit) steps travel =
-    codes "full " ++ (decimal need ++ (codes " " ++ (decimal limit ++ codes "\n")))
-close_line (ends.Fault counts) steps travel =
-    codes "drive " ++ (decimal counts.before ++ (codes " " ++ (decimal counts.after ++ codes "\n")))
-close_line ends.NoMemory steps travel = codes "memory\n"
+-- the line of the end, behind the log, where there is one
+abbrev pub told_whole : Option Log → VolumeEnd → List ℕ
+told_whole None end = end_line end
+told_whole (Some log) end = log_text log ++ end_line end
 
 -- ---- what it comes to
-
--- the moment of the words, or else the clock's one moment, where it has one
-abbrev pub one_moment : Option Moment → Option Moment → Option Moment
-one_moment (Some at) one = Some at
-one_moment None one = one
-
--- a clock that gives the moment of the words, where they have one
-pub record TimedView (C : Type 0) : Type 0 where
-  pub at : Option Moment
-  pub clock : C
 
 -- There was no script; the cartridge wasn't mounted, or memory was refused before the first call; the script was
 -- served, and the volume closed so; memory was refused to the close; or to the text of all that.
@@ -89,10 +68,6 @@ served_log (unserved error) = None
 served_log (served log end) = Some log
 served_log (unclosed log) = Some log
 served_log (unwritten log) = Some log
-
--- the cartridge reads as some tree, where the drive told it
-abbrev pub HoldsTree : Option Cartridge → Type 0
-HoldsTree held = IfSome held (λ c. (facts : Carried) × (tree : Tree) × (generation : ℕ) × Reads c facts tree generation)
 
 -- the run of a script, between two moments of a drive, ended so
 pub record EndsRun {D : Type 0} (drive : Ghosts D) (old new : D) (moment : Option Moment) (end : ServeEnd)
@@ -144,18 +119,3 @@ abbrev pub IsRefusedPrinted : Written → Option Log → Type 0
 IsRefusedPrinted sink None = Appends sink.old sink.new (codes "memory\n")
 IsRefusedPrinted sink (Some log) =
     Appends sink.old sink.new (codes "memory\n") ⊎ Appends sink.old sink.new (log_text log ++ codes "memory\n")
-
--- ---- on the way
-
--- the drive was only looked at, to mount its cartridge
-pub record IsLookedAt {D : Type 0} (drive : Ghosts D) (start now : D) : Type 0 where
-  pub looks : Looks drive ((23 + 2 * (drive.limits start).cap_ip + 2 * (drive.limits start).cap_dp) * drive.MOST)
-      start now
-  pub faults : drive.faults start ≤ drive.faults now
-
--- a volume was begun on a drive that was only looked at, with what it mounted of the cartridge
-pub record IsBegun {D : Type 0} (drive : Ghosts D) (start : D) (fixed : Fixed D) : Type 0 where
-  pub looked : IsLookedAt drive start fixed.first
-  pub since : fixed.since ≡ drive.commands start
-  pub mounted : (c : Cartridge) → drive.held fixed.first ≡ Some c → Mounts c fixed.mounted
-      × Reads c (carried fixed.mounted.index) fixed.tree fixed.mounted.newest

@@ -3,10 +3,8 @@
 
 mod laws;
 mod making;
-mod running;
 mod server;
 mod serves;
-mod timed;
 
 use file_drive::FileDrive;
 use server::run;

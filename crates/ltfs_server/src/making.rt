@@ -5,19 +5,16 @@ ghost use Rattle.session_script.specs.Made.{made_script};
 ghost use Rattle.tape_edge.specs.Clocks.{IsSince1970};
 ghost use Rattle.tape_types.specs.declared.moments.Moment.{Moment as Instant};
 ghost use Rattle.volume_model.specs.Ends.{bounded};
-ghost use Rattle.ltfs_server.specs.Came.{CameOf, WasRun};
+ghost use Rattle.session_run.specs.Serving.{Whole};
 ghost use Rattle.ltfs_server.specs.Making.{bytes_in, bytes_read, closed_line, done_count, is_done, is_refused, summary};
 ghost use Rattle.ltfs_server.specs.Promises.{DoesMake};
 ghost use Rattle.basic_commands.specs.Runs.{written};
-ghost use Rattle.ltfs_server.specs.Serving.{one_moment};
+ghost use Rattle.session_run.specs.Timed.{one_moment};
 
-use crate::running::{CameTo, run_calls};
-use crate::serves::close_status;
-use crate::timed::TimedClock;
-use basic_commands::{
-    Ended, bytes_of, drive_text, full_text, mount_status, mount_text, tell, tell_made,
-};
+use crate::serves::end_status;
+use basic_commands::{Ended, bytes_of, tell, tell_made};
 use plain_tree::Answer;
+use session_run::{ServeEnd, Served, TimedClock, end_line, serve_volume};
 use session_script::{Log, Reply, make_script};
 use std::alloc::Global;
 use std::sync::Wait;
@@ -25,7 +22,6 @@ use std::thread::Threads;
 use tape_drive::Drive;
 use tape_edge::{Clock, Gate, Sink};
 use tape_types::{Bytes, Moment, NoMemory};
-use volume_model::{CloseEnd, Closed};
 
 /// The command `make`: runs the script that is made for a count on the volume of the cartridge in the drive, closes the
 /// volume, and writes how many calls were placed and done, how many bytes were read, and how many nodes the tree has.
@@ -54,56 +50,30 @@ pub fn run_make<
     match make_script(alloc, count) {
         Ok(script) => {
             let clock = TimedClock::new(at, clock);
-            tell_came(alloc, run_calls(rt, alloc, script, drive, clock, gate), out)
+            let served = serve_volume(rt, alloc, drive, clock, script, gate);
+            tell_served(alloc, served, out)
         }
         Err(NoMemory) => tell(out, b"memory\n", 7, None, drive),
     }
 }
 
-/// Tells what came of a made script.
-fn tell_came<D: Drive, K: Sink>(alloc: Global, came: CameTo<D>, out: &mut K) -> Ended<D>
-    ensures { (count : ℕ) (moment : Maybe Instant) (start : D) → CameOf D.Drive (made_script count) moment start came
+/// Tells how serving a made script ended, and what was done until then.
+fn tell_served<D: Drive, K: Sink>(alloc: Global, served: Served<D>, out: &mut K) -> Ended<D>
+    ensures { (count : ℕ) (moment : Maybe Instant) (start : D) → Whole D.Drive start moment (made_script count) served
         → DoesMake moment count D.Drive start result.drive (written K.Sink out.old out.new) result.status result.log }
 {
-    match came {
-        CameTo::Unmounted(error, drive) => tell_made(
-            out,
-            mount_text(alloc, error),
-            mount_status(error),
-            None,
-            drive,
-        ),
-        CameTo::Starved(drive) => tell(out, b"memory\n", 7, None, drive),
-        CameTo::Run(closed) => tell_closed(alloc, closed, out),
-    }
-}
-
-/// Tells how the volume was closed, and what was done until then.
-fn tell_closed<D: Drive, K: Sink>(alloc: Global, closed: Closed<D>, out: &mut K) -> Ended<D>
-    ensures { (count : ℕ) (moment : Maybe Instant) (start : D) → WasRun D.Drive (made_script count) moment start closed
-        → DoesMake moment count D.Drive start result.drive (written K.Sink out.old out.new) result.status result.log }
-{
-    let Closed {
-        drive,
-        log,
-        outcome,
-        nodes,
-        steps: _,
-        travel: _,
-    } = closed;
-    let text = closed_text(alloc, &log, outcome, nodes);
-    tell_made(out, text, close_status(outcome), Some(log), drive)
+    let Served { drive, log, end } = served;
+    let text = closed_text(alloc, &log, &end);
+    tell_made(out, text, end_status(&end), log, drive)
 }
 
 /// The summary, or why the volume was not closed.
-fn closed_text(alloc: Global, log: &Log, outcome: CloseEnd, nodes: u32) -> Result<Bytes, NoMemory>
-    ensures { IfOk result (λ text. text ≡ closed_line log.now outcome nodes) }
+fn closed_text(alloc: Global, log: &Option<Log>, end: &ServeEnd) -> Result<Bytes, NoMemory>
+    ensures { IfOk result (λ text. text ≡ closed_line log.now end.now) }
 {
-    match outcome {
-        CloseEnd::Done { .. } => summary(alloc, log, nodes),
-        CloseEnd::Full { need, limit } => full_text(alloc, need, limit),
-        CloseEnd::Fault(counts) => drive_text(alloc, counts),
-        CloseEnd::NoMemory => Ok(bytes_of(format!(in alloc; "memory\n")?)),
+    match (log, end) {
+        (Some(log), ServeEnd::Done { nodes, .. }) => summary(alloc, log, *nodes),
+        _ => end_line(alloc, end),
     }
 }
 

@@ -9,7 +9,7 @@ ghost use Rattle.ltfs_server.specs.Promises.{ComesOf, DoesAsked, DoesMake};
 ghost use Rattle.ltfs_server.specs.Promises.{DoesServe, RefusesWords};
 ghost use Rattle.basic_commands.specs.Runs.{TakesNothing, taken, written};
 ghost use Rattle.ltfs_server.specs.Sentence.{Asked, Asks, SentenceHolds};
-ghost use Rattle.ltfs_server.specs.Serving.{one_moment};
+ghost use Rattle.session_run.specs.Timed.{one_moment};
 
 use crate::making::run_make;
 use crate::serves::run_serve;

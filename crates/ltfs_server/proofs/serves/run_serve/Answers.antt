@@ -1,17 +1,17 @@
 use Rattle.std.proofs.Common.{arith}
 use Rattle.basic_commands.specs.Runs.{taken, written}
 use Rattle.basic_commands.specs.Scripts.{unread_text}
-use Rattle.ltfs_server.specs.Serving.{one_moment}
+use Rattle.session_run.specs.Timed.{one_moment}
 use Rattle.ltfs_server.proofs.ServeSteps.{serve_unread, timed_does}
 use Rattle.ltfs_server.proofs.serves.run_serve.Goals as goal
 
 pub returns-in-Ok : goal.returns-in-Ok
 returns-in-Ok g c =
     let source = taken g.S.Source c.args.script.now c.read_calls.new.source in
-    let clock = c.new.result in
-    timed_does g.C.Clock.one c.args.at c.args.clock clock c.new.ensures g.D.Drive source
-    c.args.drive c.tell_came.result.drive (written g.K.Sink c.args.out.now c.tell_came.new.out) c.tell_came.result.status c.tell_came.result.log
-    (c.tell_came.ensures _ (one_moment clock.at (g.C.Clock.one clock.clock)) c.args.drive source c.run_calls-came.ensures c.in-Ok.ensures.read)
+    let clock = c.new-clock.result in
+    timed_does g.C.Clock.one c.args.at c.args.clock clock c.new-clock.ensures g.D.Drive source
+    c.args.drive c.tell_served.result.drive (written g.K.Sink c.args.out.now c.tell_served.new.out) c.tell_served.result.status c.tell_served.result.log
+    (c.tell_served.ensures _ (one_moment clock.at (g.C.Clock.one clock.clock)) c.args.drive source c.serve_volume-served.ensures c.in-Ok.ensures.read)
 
 pub returns-in-Err : goal.returns-in-Err
 returns-in-Err g c =

@@ -3,13 +3,13 @@
 ghost use Rattle.std.specs.Prelude.{◌≡◌, IfSome};
 ghost use Rattle.tape_edge.specs.Clocks.{IsSince1970};
 ghost use Rattle.basic_commands.specs.Headline.{IsMoment};
-ghost use Rattle.ltfs_server.specs.Serving.{one_moment};
+ghost use Rattle.session_run.specs.Timed.{one_moment};
 
 use std::marker::Model;
 use tape_edge::Clock;
 use tape_types::Moment;
 
-/// A clock that gives the moment of the words, or else those of another clock.
+/// A clock that gives one moment, or else those of another clock.
 #[derive(Drop)]
 pub struct TimedClock<C: Clock> {
     at: Option<Moment>,
@@ -19,7 +19,7 @@ pub struct TimedClock<C: Clock> {
 impl<C: Clock> Model for TimedClock<C> {
     ghost use Rattle.std.specs.Prelude.{IfSome};
     ghost use Rattle.tape_edge.specs.Clocks.{IsSince1970};
-    ghost use Rattle.ltfs_server.specs.Serving.{TimedView};
+    ghost use Rattle.session_run.specs.Timed.{TimedView};
 
     ghost Value = { TimedView C };
 

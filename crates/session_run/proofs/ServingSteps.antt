@@ -1,6 +1,7 @@
--- What comes of a script, step by step: what was mounted can be served, a volume was begun, and it was run and closed.
+-- What serving gives, step by step: what was mounted can be served, a volume was begun, and it was run and closed.
 use Rattle.std.proofs.Common.{◌≡◌, ◌∙◌, ℕ, ◌+◌, ◌*◌, ◌-◌, ◌^◌, ◌≤◌, List, [], ◌∷◌, filter_map, min, Option, Some, refl, sym, ap, subst, arith}
 use Rattle.std.specs.Prelude.{IfSome}
+use Rattle.tape_types.specs.declared.cartridges.Cartridge.{Cartridge}
 use Rattle.tape_types.specs.declared.cartridges.Limits.{Limits}
 use Rattle.tape_types.specs.declared.cartridges.Twin.{Twin}
 use Rattle.tape_types.specs.declared.moments.Moment.{Moment}
@@ -9,21 +10,27 @@ use Rattle.head_trail.specs.Trail.{fault_of, steps, travel}
 use Rattle.tape_drive.specs.declared.drive.Drive.{Ghosts}
 use Rattle.tape_meaning.specs.Carried.{carried}
 use Rattle.tape_meaning.specs.Mounts.{IsMount, Mounts}
+use Rattle.tape_meaning.specs.declared.errors.MountErr.{MountErr}
+use Rattle.tape_meaning.specs.declared.errors.MountErr.TheVariants as errors
 use Rattle.tape_meaning.specs.declared.mounted.Mounted.{Mounted}
+use Rattle.mount_recover.specs.Labels.{AreCounts}
 use Rattle.mount_recover.specs.Lasts.{IsSoundMount}
+use Rattle.mount_recover.specs.Steps.{Blames}
 use Rattle.volume_model.specs.Ends.{Closes, Starts, begun, bounded}
 use Rattle.volume_model.specs.Faults.{AreRises}
 use Rattle.volume_model.specs.Meanings.{cartridges}
-use Rattle.volume_model.specs.Served.{View}
+use Rattle.volume_model.specs.Served.{Fixed, View}
+use Rattle.volume_model.specs.declared.answers.CloseEnd.{CloseEnd}
+use Rattle.volume_model.specs.declared.answers.CloseEnd.TheVariants as close_ends
 use Rattle.volume_model.specs.declared.contract.Closed.{Closed}
 use Rattle.volume_order.specs.Kept.{seen}
 use Rattle.volume_runs.specs.Laws.{IsRun, PlaysAreRuns}
 use Rattle.session_run.specs.Ran.{HasRun, IsServedWhole}
 use Rattle.session_run.specs.declared.ran.RanEnd.{RanEnd}
 use Rattle.session_run.specs.declared.ran.RanEnd.TheVariants as run_ends
-use Rattle.ltfs_server.specs.Came.{CameOf, WasRun}
-use Rattle.ltfs_server.specs.Serving.{HoldsTree, IsBegun, IsLookedAt}
-use Rattle.ltfs_server.specs.declared.running.CameTo.{CameTo}
+use Rattle.session_run.specs.Serving.{EndsSo, HoldsTree, IsBegun, IsLookedAt, IsServedSo, IsUnserved, IsWhole, Whole, closed_end, mount_end}
+use Rattle.session_run.specs.declared.ends.ServeEnd.{ServeEnd}
+use Rattle.session_run.specs.declared.ends.Served.{Served}
 use Rattle.basic_commands.proofs.LabelRanges.{block_in_range}
 use Rattle.mount_recover.proofs.LetterRanges.{letters_in_range}
 use Rattle.basic_commands.proofs.Told.{if_some, of_some}
@@ -55,8 +62,8 @@ module _ {D : Type 0} (drive : Ghosts D) (start first : D) (mounted : Mounted) (
   }
 
   -- it has the script and the moment that it was begun with
-  pub came_on : (came : CameTo D) → CameOf drive v.fixed.script v.fixed.moment start came → CameOf drive script moment start came
-  came_on came is = subst (λ (w : View D). CameOf drive w.fixed.script w.fixed.moment start came) starts.begins is
+  pub whole_on : (served : Served D) → Whole drive start v.fixed.moment v.fixed.script served → Whole drive start moment script served
+  whole_on served is = subst (λ (w : View D). Whole drive start w.fixed.moment w.fixed.script served) starts.begins is
 
 -- ---- a volume that was closed
 
@@ -91,11 +98,22 @@ module _ {D : Type 0} (drive : Ghosts D) (plays : PlaysAreRuns drive) (start : D
       let served : min (drive.faults v.fixed.first) (2 ^ 64 - 1) ≤ drive.faults v.drive = rose_to _ _ (filter_map fault_of v.events) whole.promised.served.orderly.faults.rises in
       omega (arith, range, on.looked.faults, served, closes.faults)
 
-  was : drive.faults start ≤ 2 ^ 64 - 1 → WasRun drive v.fixed.script v.fixed.moment start closed
+  ends_so : (outcome : CloseEnd) (step_count travel_sum nodes : ℕ) → IsRun drive v.fixed.script v.fixed.moment start closed.drive closed.log outcome nodes
+      → step_count ≡ bounded (steps closed.log.events) → travel_sum ≡ bounded (travel closed.log.events)
+      → EndsSo drive start closed.drive v.fixed.moment v.fixed.script closed.log (closed_end outcome step_count travel_sum nodes)
+  ends_so (close_ends.Done generation) step_count travel_sum nodes run steps_are travel_is =
+      record { closed = run.end; steps_are = steps_are; travel_is = travel_is; nodes_are = run.nodes_are }
+  ends_so (close_ends.Full need limit) step_count travel_sum nodes run steps_are travel_is = run.end
+  ends_so (close_ends.Fault counts) step_count travel_sum nodes run steps_are travel_is = run.end
+  ends_so close_ends.NoMemory step_count travel_sum nodes run steps_are travel_is = tt
+
+  was : drive.faults start ≤ 2 ^ 64 - 1
+      → IsServedSo drive start closed.drive v.fixed.moment v.fixed.script closed.log (closed_end closed.outcome closed.steps closed.travel closed.nodes)
   was range = record {
-    run = ran;
-    steps_are = closes.steps_are ∙ ap (λ events. bounded (steps events)) (sym closes.log_is.events);
-    travel_is = closes.travel_is ∙ ap (λ events. bounded (travel events)) (sym closes.log_is.events);
+    run = ran.run;
+    ends = ends_so closed.outcome closed.steps closed.travel closed.nodes ran
+        (closes.steps_are ∙ ap (λ events. bounded (steps events)) (sym closes.log_is.events))
+        (closes.travel_is ∙ ap (λ events. bounded (travel events)) (sym closes.log_is.events));
     mounted = tree;
     faults = faults_rose range;
     limits = closes.limits ∙ on.looked.looks.limits;
@@ -107,9 +125,39 @@ pub ran_whole : {D : Type 0} (drive : Ghosts D) (old new : View D) (outcome : Ra
 ran_whole drive old new outcome done has = subst (HasRun drive old new) done has
 
 -- of the volume as it was begun, which has what no call changes
-pub was_run : {D : Type 0} (drive : Ghosts D) → PlaysAreRuns drive → (start : D) (begun v : View D) (closed : Closed D) → v.fixed ≡ begun.fixed → drive.faults start ≤ 2 ^ 64 - 1
-    → IsBegun drive start begun.fixed → IsServedWhole drive v
+pub was_served : {D : Type 0} (drive : Ghosts D) → PlaysAreRuns drive → (start : D) (begun v : View D) (closed : Closed D) (served : Served D)
+    → served.drive ≡ closed.drive → served.log ≡ Some closed.log → served.end ≡ closed_end closed.outcome closed.steps closed.travel closed.nodes
+    → v.fixed ≡ begun.fixed → drive.faults start ≤ 2 ^ 64 - 1 → IsBegun drive start begun.fixed → IsServedWhole drive v
     → Closes cartridges (seen drive v.fixed.first) (seen drive v.drive) (seen drive closed.drive) v closed.drive closed.log closed.outcome closed.steps closed.travel closed.nodes
-    → WasRun drive begun.fixed.script begun.fixed.moment start closed
-was_run drive plays start begun v closed same range on whole closes =
-    subst (λ f. WasRun drive f.script f.moment start closed) same (was drive plays start v closed (subst (IsBegun drive start) (sym same) on) whole closes range)
+    → Whole drive start begun.fixed.moment begun.fixed.script served
+was_served {D} drive plays start begun v closed served drive_is log_is end_is same range on whole closes =
+    subst (λ d. IsWhole drive start d begun.fixed.moment begun.fixed.script served.log served.end) (sym drive_is)
+    (subst (λ l. IsWhole drive start closed.drive begun.fixed.moment begun.fixed.script l served.end) (sym log_is)
+    (subst (λ e. IsServedSo drive start closed.drive begun.fixed.moment begun.fixed.script closed.log e) (sym end_is)
+    (subst (λ (f : Fixed D). IsServedSo drive start closed.drive f.moment f.script closed.log (closed_end closed.outcome closed.steps closed.travel closed.nodes)) same
+    (was drive plays start v closed (subst (IsBegun drive start) (sym same) on) whole closes range))))
+
+-- ---- no call was made
+
+-- the cartridge was not mounted
+mount_ends : (e : MountErr) (held : Option Cartridge) (before now : ℕ) → IfSome held (λ c. Blames e c) → AreCounts before now e → IsUnserved held before now (mount_end e)
+mount_ends (errors.Vol1 part) held before now blamed counts = (refl, blamed)
+mount_ends (errors.Label part) held before now blamed counts = (refl, blamed)
+mount_ends errors.LabelsDiffer held before now blamed counts = (refl, blamed)
+mount_ends (errors.Layout place) held before now blamed counts = (refl, blamed)
+mount_ends errors.NoIndex held before now blamed counts = (refl, blamed)
+mount_ends (errors.BadIndex place why) held before now blamed counts = (refl, blamed)
+mount_ends (errors.WrongVolume place) held before now blamed counts = (refl, blamed)
+mount_ends (errors.WrongPointer place) held before now blamed counts = (refl, blamed)
+mount_ends (errors.BadExtent uid) held before now blamed counts = (refl, blamed)
+mount_ends (errors.Drive said) held before now blamed counts = counts
+mount_ends errors.NoMemory held before now blamed counts = tt
+
+pub unmounted : {D : Type 0} (drive : Ghosts D) (start now : D) (e : MountErr) (end : ServeEnd) → end ≡ mount_end e
+    → ((c : Cartridge) → drive.held start ≡ Some c → Blames e c) → AreCounts (drive.faults start) (drive.faults now) e → IsLookedAt drive start now
+    → IsLookedAt drive start now × IsUnserved (drive.held start) (drive.faults start) (drive.faults now) end
+unmounted drive start now e end end_is blamed counts looked = (
+  looked,
+  subst (IsUnserved (drive.held start) (drive.faults start) (drive.faults now)) (sym end_is)
+      (mount_ends e (drive.held start) (drive.faults start) (drive.faults now) (if_some (drive.held start) (λ c. Blames e c) blamed) counts),
+)

@@ -1,0 +1,18 @@
+use Rattle.std.proofs.Common.{◌∙◌, sym, subst, arith}
+use Rattle.tape_types.specs.declared.cartridges.Limits.{Limits}
+use Rattle.tape_meaning.specs.Mounts.{IsMount}
+use Rattle.session_run.proofs.ServingSteps.{is_mount, unmounted}
+use Rattle.session_run.proofs.serving.serve_volume.Goals as goal
+
+pub serve_mounted-requires-clause-mount : goal.serve_mounted-requires-clause-mount
+serve_mounted-requires-clause-mount g c = λ lifetimes outlives.
+    subst (λ (l : Limits). IsMount l c.in-Ok.mounted) (sym c.in-Ok.ensures.looks.limits) (is_mount _ c.in-Ok.mounted c.in-Ok.ensures.any)
+
+pub returns-in-Ok : goal.returns-in-Ok
+returns-in-Ok g c = c.serve_mounted.ensures c.args.drive (omega (arith, c.faults-faults_are_in_range.ensures))
+    (record { looks = c.in-Ok.ensures.looks; faults = c.in-Ok.ensures.counts.later }) (c.of-since.ensures ∙ c.commands.ensures)
+
+pub returns-in-Err : goal.returns-in-Err
+returns-in-Err g c =
+    unmounted g.D.Drive c.args.drive c.mount.new.drive c.in-Err.error c.mount_end.result c.mount_end.ensures c.in-Err.ensures.refused c.in-Err.ensures.counts.told
+    (record { looks = c.in-Err.ensures.looks; faults = c.in-Err.ensures.counts.later })
