@@ -3,7 +3,7 @@
 A console block is fenced as ```console. A line `$ COMMAND` begins a command, which goes on behind a line that ends with
 a backslash; what follows, up to the next command, is what it prints on standard output. All commands run in their
 order, in one shell and one temporary folder, which has the launchers of the repository and a copy of its examples.
-Those that run all tests or prove the program are left out.
+Those that run all tests or prove the program are left out. A command that can't be started fails in any case.
 """
 
 import os
@@ -19,6 +19,14 @@ from programs import PROGRAMS, program
 SECONDS = 900
 LEFT_OUT = re.compile(r"(bash )?(\./)?(\.ci/run|tests/run)\b|.* --prove\b")
 HELPERS = ["ltfs_put", "ltfs_get"]
+# The shell ends with 126 and 127 what can't be started, and a launcher with 125.
+NOT_STARTED = range(125, 128)
+# A command, and then how it ended, which the next one may ask for.
+STEP = """\
+{{ {command}
+}} < /dev/null > "$APART/{number}" 2> "$APART/{number}.said"
+ended=$?; echo "$ended" > "$APART/{number}.status"; (exit "$ended")
+"""
 
 
 def commands_of(text):
@@ -49,6 +57,20 @@ def furnish(where):
             (where / name).symlink_to(TOP / name)
 
 
+def compare_step(apart, number, command, wanted):
+    """Returns what a command printed otherwise than it stands below it."""
+    what = f"README.md, line {number}, {command}"
+    status, said = apart / f"{number}.status", apart / f"{number}.said"
+    if not status.exists():
+        return [f"{what}: it was not run to its end"]
+    found = compare(what, wanted, (apart / str(number)).read_text(errors="backslashreplace"))
+    if int(status.read_text()) in NOT_STARTED:
+        found.append(f"{what}: it ends with {status.read_text()}")
+    if found and said.stat().st_size:
+        found.append("standard error:\n" + said.read_text(errors="replace"))
+    return found
+
+
 def run_readme():
     """Runs the case, and returns what was printed otherwise than it stands there."""
     commands = commands_of((TOP / "README.md").read_text(encoding="utf-8"))
@@ -59,18 +81,13 @@ def run_readme():
         where.mkdir()
         apart.mkdir()
         furnish(where)
-        script = "".join(f'{{ {command}\n}} < /dev/null > "$APART/{number}" 2> "$APART/{number}.said"\n'
-                         for number, command, _ in commands)
+        script = "".join(STEP.format(command=command, number=number) for number, command, _ in commands)
         (apart / "script").write_text(script)
         shell = subprocess.run(["bash", str(apart / "script")], cwd=where, env={**os.environ, "APART": str(apart)},
                                stdin=subprocess.DEVNULL, stderr=subprocess.PIPE, timeout=SECONDS)
         found = []
-        for number, command, wanted in commands:
-            printed, said = apart / str(number), apart / f"{number}.said"
-            came = printed.read_text(errors="backslashreplace") if printed.exists() else "it was not run"
-            found += compare(f"README.md, line {number}, {command}", wanted, came)
-            if wanted != came and said.exists() and said.stat().st_size:
-                found.append("standard error:\n" + said.read_text(errors="replace"))
+        for step in commands:
+            found += compare_step(apart, *step)
         if shell.stderr:
             found.append("the shell says:\n" + shell.stderr.decode(errors="replace"))
         return found
