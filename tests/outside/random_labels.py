@@ -63,18 +63,24 @@ def read_record(block):
 
 
 def items_of(folder, part):
+    """The items of a partition: a block's bytes, or a word. A `below` begins below the end of the item directly before
+    it, so that a read of it is a fault of the drive; what reads as torn has neither a beginning nor an end."""
     def read(end):
         path = os.path.join(folder, part + end)
         return open(path, "rb").read() if os.path.exists(path) else b""
     entries, data = read(".map"), read(".dat")
-    items = []
+    items, end = [], None
     for at in range(0, len(entries) // 16 * 16, 16):
         kind = entries[at:at + 1]
         length, place = (int.from_bytes(entries[at + a:at + b], "big") for a, b in [(4, 8), (8, 16)])
-        if kind == b"B" and 1 <= length <= 1048576 and place + length <= len(data):
-            items.append(data[place:place + length])
-        else:
-            items.append("mark" if kind == b"M" else "torn")
+        is_block = kind == b"B" and 1 <= length <= 1048576 and place + length <= len(data)
+        if not is_block and kind != b"M":
+            items.append("torn")
+            end = None
+            continue
+        is_below = end is not None and place < end
+        items.append("below" if is_below else data[place:place + length] if is_block else "mark")
+        end = place + length if is_block else place
     return items + ["end"] * 4
 
 
@@ -85,6 +91,8 @@ def said(folder):
     for name, at, read, found in [("Vol1", 0, read_record, records), ("Label", 2, read_label, labels)]:
         for part in ("ip", "dp"):
             block, mark = items[part][at:at + 2]
+            if block == "below" or isinstance(block, bytes) and mark == "below":
+                return "drive 0 1\n", 4
             found[part] = read(block) if isinstance(block, bytes) and mark == "mark" else None
             if found[part] is None:
                 return f"volume {name} {part}\n", 3
