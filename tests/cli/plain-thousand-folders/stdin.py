@@ -1,4 +1,4 @@
-"""A thousand folders in one another with a file at the bottom: the top is renamed, and the file read by its new path."""
+"""A thousand folders in one another and a file at the bottom: the top is renamed, the file read by its new path."""
 below = "/d" * 999 + "/f"
 for k in range(1, 1001):
     print("1 mkdir " + "/d" * k)
