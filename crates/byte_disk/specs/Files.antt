@@ -1,5 +1,5 @@
 -- The bytes of a disk's files, and what a write makes of them.
-use Rattle.std.specs.Prelude.{ℕ, ◌+◌, ◌^◌, ◌≤◌, ◌<◌, ◌≡◌, ◌⊎◌, max, List, ◌++◌, take, drop, length, slice_get, All}
+use Rattle.std.specs.Prelude.{ℕ, ◌+◌, ◌^◌, ◌≤◌, ◌<◌, ◌≡◌, ◌⊎◌, max, List, ◌++◌, take, drop, length, slice_index, All}
 use Rattle.std.specs.Prelude.{Result, Ok, Err}
 use Rattle.byte_disk.specs.declared.disk.File.{File}
 use Rattle.byte_disk.specs.declared.disk.File.TheVariants.{Ip, Dp, Cm}
@@ -45,7 +45,7 @@ IsOutside at n i = (i < at) ⊎ (at + n ≤ i)
 -- Any bytes stand in the range. Outside of it each byte that was there is there. The file is no shorter than it was, and
 -- no longer than it was or than the range reaches.
 pub record IsAnyIn (at n : ℕ) (old new : List ℕ) : Type 0 where
-  pub outside : (i : ℕ) → i < length old → IsOutside at n i → slice_get new i ≡ slice_get old i
+  pub outside : (i : ℕ) → i < length old → IsOutside at n i → slice_index new i ≡ slice_index old i
   pub no_shorter : length old ≤ length new
   pub no_longer : length new ≤ max (length old) (at + n)
   pub bytes : AreBytes old → AreBytes new

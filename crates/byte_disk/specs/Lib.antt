@@ -1,2 +1,9 @@
 pub mod Commands
 pub mod Files
+pub mod Images
+pub mod Laws
+pub mod Memory
+pub mod Mixed
+pub mod Record
+pub mod Since
+pub mod Walks

@@ -1,0 +1,9 @@
+pub mod Acts
+pub mod Chosen
+pub mod Exact
+pub mod Kept
+pub mod Meets
+pub mod Mixing
+pub mod Since
+pub mod Walking
+pub mod Written
