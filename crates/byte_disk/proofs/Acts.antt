@@ -9,7 +9,7 @@ use Rattle.byte_disk.specs.declared.record.Change.{Change}
 use Rattle.byte_disk.specs.declared.record.Act.{Act}
 use Rattle.byte_disk.specs.declared.record.Act.TheVariants.{Wrote, Synced}
 use Rattle.byte_disk.specs.declared.record.Entry.{Entry}
-use Rattle.byte_disk.specs.Files.{Files, IsAnyIn, IsBroken, KeepsOthers, bytes_of, with_bytes}
+use Rattle.byte_disk.specs.Files.{Files, IsBroken, KeepsOthers, bytes_of, with_bytes}
 use Rattle.byte_disk.specs.Record.{undo, pending, LeavesFile, Leaves, LeftWithin, LeftSince, Numbered, IsRecordOf}
 use Rattle.byte_disk.proofs.Kept.{record_kept, held_left}
 

@@ -1,13 +1,12 @@
 -- What an image by choice has at each place.
-use Rattle.std.proofs.Common.{ℕ, ◌+◌, ◌-◌, ◌^◌, ◌≤◌, ◌<◌, ◌≡◌, ◌⊎◌, ⊎_elim, inl, inr, min, max, List, [], ◌∷◌, ◌++◌, take, drop, length, get_or, refl, sym, ◌∙◌, ap, subst, arith}
-use Rattle.std.specs.Prelude.{All}
+use Rattle.std.proofs.Common.{ℕ, ◌+◌, ◌-◌, ◌^◌, ◌≤◌, ◌<◌, ◌≡◌, ◌⊎◌, ⊎_elim, inl, inr, min, max, List, [], ◌∷◌, ◌++◌, take, drop, length, get_or, refl, ◌∙◌, ap, arith}
 use Rattle.std.proofs.lemmas.Bool.{cases_lt}
 use Rattle.std.proofs.lemmas.List.{length-append, length-take, length-drop, get_or_append_left, get_or-take, get_or-drop}
 use Rattle.std.proofs.lemmas.List.Elements.{All-append, All-take, All-drop}
 use Rattle.byte_disk.specs.declared.record.Change.{Change}
-use Rattle.byte_disk.specs.Files.{AreBytes, IsOutside, bytes_at, written}
+use Rattle.byte_disk.specs.Files.{AreBytes, IsOutside, bytes_at}
 use Rattle.byte_disk.specs.Record.{AreKept, unwritten}
-use Rattle.byte_disk.specs.Images.{original, reach, IsPending, shortest, longest, IsLeft, chosen_in, chosen, image_of}
+use Rattle.byte_disk.specs.Images.{reach, IsPending, shortest, longest, IsLeft, chosen_in, chosen, image_of}
 use Rattle.byte_disk.proofs.Kept.{kept_bytes}
 use Rattle.byte_disk.proofs.Written.{length_written, written_below, written_inside, written_above, written_bytes}
 

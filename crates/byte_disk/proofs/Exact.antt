@@ -1,5 +1,5 @@
 -- What a crash may leave is told by places, and is what choices give.
-use Rattle.std.proofs.Common.{ℕ, ◌+◌, ◌-◌, ◌≤◌, ◌<◌, ◌≡◌, ⊎_elim, inl, inr, min, max, List, [], ◌∷◌, length, get_or, refl, sym, ◌∙◌, ap, subst, arith}
+use Rattle.std.proofs.Common.{ℕ, ◌+◌, ◌≤◌, ◌<◌, ◌≡◌, ⊎_elim, inl, inr, min, max, List, [], ◌∷◌, length, refl, sym, ◌∙◌, ap, subst, arith}
 use Rattle.std.proofs.lemmas.Bool.{cases_lt}
 use Rattle.std.proofs.lemmas.List.{ext_get_or}
 use Rattle.byte_disk.specs.declared.disk.File.TheVariants.{Ip, Dp, Cm}
@@ -7,7 +7,7 @@ use Rattle.byte_disk.specs.declared.record.Change.{Change}
 use Rattle.byte_disk.specs.declared.record.Entry.{Entry}
 use Rattle.byte_disk.specs.Files.{Files, IsOutside}
 use Rattle.byte_disk.specs.Record.{AreKept, IsRecordOf, Leaves, LeavesFile, pending, unwritten}
-use Rattle.byte_disk.specs.Images.{AreLeft, AreFiles, Gives, IsLeft, IsPending, crash_image, image_of, longest, reach, shortest}
+use Rattle.byte_disk.specs.Images.{AreLeft, AreFiles, Gives, IsLeft, IsPending, crash_image, image_of, longest, shortest}
 use Rattle.byte_disk.proofs.Kept.{record_kept}
 use Rattle.byte_disk.proofs.Chosen.{covered, image_left, image_length, image_pending, image_settled, length_le, outside_of, pending_or, shortest_le}
 

@@ -9,7 +9,7 @@ use Rattle.byte_disk.specs.declared.record.Act.{Act}
 use Rattle.byte_disk.specs.declared.record.Act.TheVariants.{Wrote, Synced}
 use Rattle.byte_disk.specs.declared.record.Entry.{Entry}
 use Rattle.byte_disk.specs.Files.{Files, bytes_of, with_bytes, written, AreBytes}
-use Rattle.byte_disk.specs.Record.{change_of, unwritten, undo, pending_after, pending, LeavesFile, Numbered, IsKept, AreKept, IsActKept, IsRecordOf, IsSound}
+use Rattle.byte_disk.specs.Record.{change_of, unwritten, undo, pending_after, pending, LeavesFile, Numbered, AreKept, IsActKept, IsRecordOf, IsSound}
 use Rattle.byte_disk.proofs.Written.{put_back, put_kept}
 
 -- the number of commands rises

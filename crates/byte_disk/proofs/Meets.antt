@@ -1,19 +1,17 @@
 -- What the trait asks of every command, from what a command does to the view.
-use Rattle.std.proofs.Common.{ℕ, ◌+◌, ◌-◌, ◌^◌, ◌≤◌, ◌<◌, ◌≡◌, inl, inr, min, List, [], ◌∷◌, take, length, Some, Result, Ok, Err, refl, sym, ap, subst, arith}
+use Rattle.std.proofs.Common.{ℕ, ◌+◌, ◌-◌, ◌^◌, ◌≤◌, ◌≡◌, inl, inr, min, List, ◌∷◌, take, length, Some, Result, Ok, Err, refl, sym, ap, subst, arith}
 use Rattle.std.specs.Prelude.{OnOk}
 use Rattle.std.proofs.lemmas.List.{length-take}
 use Rattle.tape_types.specs.Counts.{HasCause}
 use Rattle.crash_steps.specs.Crashes.{Crashes, NothingNew}
 use Rattle.byte_disk.specs.declared.disk.File.{File}
 use Rattle.byte_disk.specs.declared.disk.File.TheVariants.{Ip, Dp, Cm}
-use Rattle.byte_disk.specs.declared.record.Change.{Change}
 use Rattle.byte_disk.specs.declared.record.Act.{Act}
 use Rattle.byte_disk.specs.declared.record.Act.TheVariants.{Wrote, Synced}
-use Rattle.byte_disk.specs.declared.record.Entry.{Entry}
-use Rattle.byte_disk.specs.Files.{Files, AreBytes, IsAnyIn, IsBroken, IsWritten, KeepsOthers, AfterWrite, bytes_of, with_bytes, written}
+use Rattle.byte_disk.specs.Files.{Files, AreBytes, IsBroken, IsWritten, AfterWrite, bytes_of, with_bytes, written}
 use Rattle.byte_disk.specs.Commands.{IsOneMore, IsFileSure, WithinWrite}
-use Rattle.byte_disk.specs.Record.{change_of, undo, Leaves, LeftSince, IsSound}
-use Rattle.byte_disk.specs.Memory.{View, acted, begun, failed, starved_out, put, Looked, RanWrite, RanSync, IsSane}
+use Rattle.byte_disk.specs.Record.{change_of, undo, Leaves, LeftSince}
+use Rattle.byte_disk.specs.Memory.{View, acted, begun, failed, starved_out, Looked, RanWrite, RanSync, IsSane}
 use Rattle.byte_disk.proofs.Written.{put_any}
 use Rattle.byte_disk.proofs.Kept.{put_undone}
 use Rattle.byte_disk.proofs.Acts.{acts, any_same, quiet, sync_back, synced_sure, write_back}

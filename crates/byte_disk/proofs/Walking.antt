@@ -1,5 +1,5 @@
 -- A walk back over a record goes by the definitions of what was, what reaches and what is chosen.
-use Rattle.std.proofs.Common.{ℕ, ◌+◌, ◌-◌, ◌^◌, ◌≤◌, ◌<◌, ◌≡◌, Bool, true, false, min, max, List, [], ◌∷◌, take, length, get_or, refl, sym, ◌∙◌, ap, subst, arith}
+use Rattle.std.proofs.Common.{ℕ, ◌+◌, ◌-◌, ◌≤◌, ◌<◌, ◌≡◌, Bool, true, false, max, List, [], ◌∷◌, take, length, get_or, refl, ◌∙◌, ap, subst, arith}
 use Rattle.std.specs.Prelude.{if◌then◌else◌, reverse}
 use Rattle.std.proofs.lemmas.List.{reverse-append, take_more}
 use Rattle.byte_disk.specs.declared.disk.File.{File}
@@ -7,7 +7,7 @@ use Rattle.byte_disk.specs.declared.record.Change.{Change}
 use Rattle.byte_disk.specs.declared.record.Act.{Act}
 use Rattle.byte_disk.specs.declared.record.Act.TheVariants.{Wrote, Synced}
 use Rattle.byte_disk.specs.declared.record.Entry.{Entry}
-use Rattle.byte_disk.specs.Record.{is_same, pending_after, pending, unwritten, AreKept}
+use Rattle.byte_disk.specs.Record.{is_same, pending_after, unwritten, AreKept}
 use Rattle.byte_disk.specs.Images.{original, reach, chosen, chosen_in}
 use Rattle.byte_disk.specs.Walks.{is_sync_of, undone_by, reach_by, chosen_by, IsKeptIf, IsKeptBy}
 

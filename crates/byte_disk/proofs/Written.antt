@@ -1,10 +1,8 @@
 -- What `written` makes of a list, place by place.
 use Rattle.std.proofs.Common.{ℕ, ◌+◌, ◌-◌, ◌^◌, ◌≤◌, ◌<◌, ◌≡◌, ⊎_elim, max, min, List, ◌++◌, take, drop, length, get_or, sym, ◌∙◌, ap, subst, arith}
-use Rattle.std.specs.Prelude.{All}
 use Rattle.std.proofs.lemmas.Bool.{cases_lt}
 use Rattle.std.proofs.lemmas.List.{length-append, length-take, length-drop, length-take-le, get_or-append_right, get_or_append_left, get_or-take, get_or-drop, same_lists}
 use Rattle.std.proofs.lemmas.List.Elements.{All-append, All-take, All-drop}
-use Rattle.byte_disk.specs.declared.record.Change.{Change}
 use Rattle.byte_disk.specs.Files.{AreBytes, IsAnyIn, bytes_at, written}
 use Rattle.byte_disk.specs.Record.{change_of, unwritten, IsKept}
 

@@ -1,4 +1,4 @@
-use Rattle.std.proofs.Common.{◌≡◌, ◌∙◌, List, ℕ, sym, subst}
+use Rattle.std.proofs.Common.{◌∙◌, List, ℕ, sym, subst}
 use Rattle.std.specs.Prelude.{reverse}
 use Rattle.byte_disk.specs.declared.record.Entry.{Entry}
 use Rattle.byte_disk.specs.Files.{bytes_of}

@@ -1,4 +1,4 @@
-use Rattle.std.proofs.Common.{ℕ, ◌+◌, ◌≡◌, ◌≤◌, ◌<◌, ◌-◌, ◌^◌, sym, ◌∙◌, ap, subst, List, [], ◌∷◌, ◌++◌, length}
+use Rattle.std.proofs.Common.{ℕ, ◌≡◌, ◌≤◌, ◌<◌, ◌-◌, ◌^◌, sym, ◌∙◌, ap, subst, List, [], ◌∷◌, ◌++◌, length}
 use Rattle.std.specs.Prelude.{reverse}
 use Rattle.byte_disk.specs.declared.record.Act.TheVariants.{Wrote}
 use Rattle.byte_disk.specs.declared.record.Change.{Change}
