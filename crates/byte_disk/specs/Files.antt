@@ -42,8 +42,8 @@ KeepsOthers Cm old new = (new.ip ≡ old.ip) × (new.dp ≡ old.dp)
 abbrev pub IsOutside : ℕ → ℕ → ℕ → Type 0
 IsOutside at n i = (i < at) ⊎ (at + n ≤ i)
 
--- Any bytes stand in the range. Outside of it each byte that was there is there. The file is no shorter than it was, and
--- no longer than it was or than the range reaches.
+-- Any bytes stand in the range. Outside of it each byte that was there is there. The file is no shorter than it was,
+-- and no longer than it was or than the range reaches.
 pub record IsAnyIn (at n : ℕ) (old new : List ℕ) : Type 0 where
   pub outside : (i : ℕ) → i < length old → IsOutside at n i → slice_index new i ≡ slice_index old i
   pub no_shorter : length old ≤ length new

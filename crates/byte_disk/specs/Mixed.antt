@@ -1,5 +1,6 @@
 -- The lists of bytes by which the disk in memory crashes: one byte everywhere, or bytes by a seed.
-use Rattle.std.specs.Prelude.{ℕ, zero, suc, ◌+◌, ◌-◌, ◌*◌, ◌/◌, ◌%◌, ◌^◌, ◌==◌, Bool, if◌then◌else◌, List, [], ◌∷◌, length, get_or, replicate}
+use Rattle.std.specs.Prelude.{ℕ, zero, suc, ◌+◌, ◌-◌, ◌*◌, ◌/◌, ◌%◌, ◌^◌, ◌==◌, Bool, if◌then◌else◌, List, [], ◌∷◌}
+use Rattle.std.specs.Prelude.{length, get_or, replicate}
 use Rattle.byte_disk.specs.declared.disk.File.{File}
 use Rattle.byte_disk.specs.declared.disk.File.TheVariants.{Ip, Dp, Cm}
 use Rattle.byte_disk.specs.declared.record.Change.{Change}
@@ -41,7 +42,8 @@ mixed_bytes s i (suc n) held old = mixed_byte (stir s) i held old ∷ mixed_byte
 -- with a length that a crash may leave
 abbrev pub mixed_file : ℕ → List ℕ → List Change → List ℕ
 mixed_file s held ws =
-    mixed_bytes (stir s) 0 (shortest held ws + drawn (stir s) (longest held ws - shortest held ws + 1)) held (original held ws)
+    let size : ℕ = shortest held ws + drawn (stir s) (longest held ws - shortest held ws + 1) in
+    mixed_bytes (stir s) 0 size held (original held ws)
 
 abbrev pub seed_of : File → ℕ → ℕ
 seed_of Ip seed = seed

@@ -15,9 +15,9 @@ use crate::walks::{choose, go_back, reached};
 use tape_types::{Bytes, List, NoMemory};
 
 impl MemDisk {
-    /// A disk as a crash may leave it now, with nothing pending, by a list of bytes for each file. The file is as long as
-    /// its list, or as near to that as a crash may leave it. In the ranges of the writes since its last sync it has the
-    /// list's bytes, and elsewhere those that read.
+    /// A disk as a crash may leave it now, with nothing pending, by a list of bytes for each file. The file is as long
+    /// as its list, or as near to that as a crash may leave it. In the ranges of the writes since its last sync it has
+    /// the list's bytes, and elsewhere those that read.
     pub fn crash_with(&self, ip: &[u8], dp: &[u8], cm: &[u8]) -> Result<MemDisk, NoMemory>
         ensures image { IfOk result (λ d. d ≡ made (crash_image self.now.held self.now.acts
             (record { ip = ip.now; dp = dp.now; cm = cm.now })) []) }
@@ -47,8 +47,8 @@ impl MemDisk {
         self.crash_with(ip.as_slice(), dp.as_slice(), cm.as_slice())
     }
 
-    /// The same with a length and bytes by a seed: wherever a write is pending the byte that reads, the one of the file's
-    /// last sync, or any.
+    /// The same with a length and bytes by a seed: wherever a write is pending the byte that reads, the one of the
+    /// file's last sync, or any.
     pub fn crash_by(&self, seed: u64) -> Result<MemDisk, NoMemory>
         ensures image { IfOk result (λ d. d ≡ made (crash_image self.now.held self.now.acts
             (mixed seed self.now.held self.now.acts)) []) }
@@ -129,8 +129,8 @@ pub fn crash_gives_all(disk: &MemDisk)
     let _sound = disk.acts();
 }
 
-/// What a crash may have left since the number of commands was t is what it may leave now, and what it could leave right
-/// before or right after an act of the record that had begun at that number or later.
+/// What a crash may have left since the number of commands was t is what it may leave now, and what it could leave
+/// right before or right after an act of the record that had begun at that number or later.
 pub fn since_gives_all(disk: &MemDisk)
     ensures { (t : ℕ) (image : Files)
         → ⟦<MemDisk as ByteDisk>⟧.left_since disk.now t image ↔ GaveSince disk.now.held disk.now.acts t image }

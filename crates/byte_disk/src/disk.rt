@@ -64,8 +64,8 @@ pub trait ByteDisk: Drop {
         ensures crash { Crashes NothingNew (commands self.old)
             (leaves self.old) (leaves self.new) (left_since self.old) (left_since self.new) };
 
-    /// Writes bytes to a file from a place on that is at most its length. They end below 2^62. Until a sync of this file
-    /// succeeds, a crash leaves any bytes in their place, also where the write fails.
+    /// Writes bytes to a file from a place on that is at most its length. They end below 2^62. Until a sync of this
+    /// file succeeds, a crash leaves any bytes in their place, also where the write fails.
     fn write(&mut self, file: File, at: u64, bytes: &[u8]) -> Result<(), DiskFault>
         requires within { IfSome (held self.old) (λ d. at ≤ length (bytes_of file d)) }
         requires end { at + length bytes.now < 2 ^ 62 }
