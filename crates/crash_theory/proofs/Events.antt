@@ -8,12 +8,12 @@ use Rattle.tape_types.specs.declared.cartridges.Item.TheVariants.{Block, Mark}
 use Rattle.tape_types.specs.declared.cartridges.Part.{Part}
 use Rattle.tape_types.specs.declared.cartridges.Part.TheVariants.{Ip, Dp}
 use Rattle.session_script.specs.declared.logs.Ack.{Ack}
-use Rattle.tape_drive.specs.Crashes.{NothingNew}
+use Rattle.tape_drive.specs.Crashes.{NothingNew, WithinFlush}
 use Rattle.tape_layout.specs.declared.ops.Op.{Op}
 use Rattle.tape_layout.specs.declared.ops.Op.TheVariants as ops
 use Rattle.crash_theory.specs.Events.{IsDone, IsFailed, Within}
 use Rattle.crash_theory.specs.Fine.{IsFine}
-use Rattle.crash_theory.specs.Images.{AreUpTo, IsGrounded, IsImage, IsNext, IsSound}
+use Rattle.crash_theory.specs.Images.{AreHonest, AreUpTo, IsGrounded, IsImage, IsNext, IsSound}
 use Rattle.crash_theory.specs.Kept.{IsHeld, IsStep, IsSureAfter, Kept, Moment, ReadsAs, Wait, plan_of}
 use Rattle.crash_theory.specs.Made.{Base, Entry, Job, Made, Trees, Volume, after, does, least, makes, put_on}
 use Rattle.crash_theory.proofs.Acks.{held_on, waiting_on}
@@ -47,6 +47,11 @@ put_base Dp x whole s = refl
 -- ---- one op
 
 module _ (v : Volume) (t : Trees) (plan : Cartridge) (whole : Option Entry) (s : Made) (held : Cartridge) where
+  -- honest notes know no greater reference than their cartridge has
+  held_up : AreHonest v held → AreUpTo v held.vcr held
+  held_up honest Ip note has same = honest.ip.not_ahead note has same
+  held_up honest Dp note has same = honest.dp.not_ahead note has same
+
   -- what a crash may leave within it
   pub within_image : (op : Op) → IsNext op s → ReadsAs v t plan s held → IsSound v t plan s → IsSound v t plan (does op whole s)
       → (before c : Cartridge) → IsImage v t plan s.base before → AreUpTo v held.vcr before → Within op held before c
@@ -59,9 +64,13 @@ module _ (v : Volume) (t : Trees) (plan : Cartridge) (whole : Option Entry) (s :
     written v t plan place.part place.pos Mark whole s held before c reads.ip reads.dp next.0 next.1 sound then up image w,
     up_to_carried v held.vcr c before w.rest.note_ip w.rest.note_dp up,
   )
-  within_image (ops.Flush place) next reads sound then before c image up w = (
+  within_image (ops.Flush place) next reads sound then before c image up (inl w) = (
     subst (λ (d : Cartridge). IsImage v t plan s.base d) (sym w) image,
     subst (λ (d : Cartridge). AreUpTo v held.vcr d) (sym w) up,
+  )
+  within_image (ops.Flush place) next reads sound then before c image up (inr w) = (
+    subst (λ (d : Cartridge). IsImage v t plan s.base d) (sym w) reads.image,
+    subst (λ (d : Cartridge). AreUpTo v held.vcr d) (sym w) (held_up reads.image.honest),
   )
 
   -- how the cartridge reads once it is done
@@ -221,3 +230,16 @@ kept_read v t s since d e done jobs waits acks k same step =
   where
     each : (before c : Cartridge) → d.leaves before → NothingNew before c → IsImage v t (plan_of s jobs) s.base c × AreUpTo v d.held.vcr c
     each before c may is = subst (λ (x : Cartridge). IsImage v t (plan_of s jobs) s.base x × AreUpTo v d.held.vcr x) (sym is) (k.images before may)
+
+-- nothing is done but a flush
+pub kept_flushed : (v : Volume) (t : Trees) (s : Made) (since : ℕ) (d e : Moment) (done : ℕ) (jobs : List Job) (waits : List Wait) (acks : List Ack)
+    → Kept v t s since d done jobs waits acks → e.held ≡ d.held → IsStep (WithinFlush d.held) d e → Kept v t s since e done jobs waits acks
+kept_flushed v t s since d e done jobs waits acks k same step =
+    step_kept v t s since d done jobs waits acks k (WithinFlush d.held) e step each
+    (subst (λ (c : Cartridge). ReadsAs v t (plan_of s jobs) s c) (sym same) k.reads)
+    (omega (arith, ap (λ (c : Cartridge). c.vcr) same))
+    (subst (λ (c : Cartridge). AreUpTo v c.vcr c) (sym same) k.notes)
+  where
+    each : (before c : Cartridge) → d.leaves before → WithinFlush d.held before c → IsImage v t (plan_of s jobs) s.base c × AreUpTo v d.held.vcr c
+    each before c may (inl is) = subst (λ (x : Cartridge). IsImage v t (plan_of s jobs) s.base x × AreUpTo v d.held.vcr x) (sym is) (k.images before may)
+    each before c may (inr is) = subst (λ (x : Cartridge). IsImage v t (plan_of s jobs) s.base x × AreUpTo v d.held.vcr x) (sym is) (k.reads.image, k.notes)

@@ -11,7 +11,7 @@ use Rattle.crash_theory.specs.Starts.{begun_with, made_of}
 use Rattle.crash_theory.proofs.Admits.{served_unchanged}
 use Rattle.crash_theory.proofs.Closes.{admitted_close, close_leaves}
 use Rattle.crash_theory.proofs.Data.{admitted_data}
-use Rattle.crash_theory.proofs.Events.{kept_done, kept_failed, kept_read}
+use Rattle.crash_theory.proofs.Events.{kept_done, kept_failed, kept_flushed, kept_read}
 use Rattle.crash_theory.proofs.Fines.{fine, fine_same, weaker}
 use Rattle.crash_theory.proofs.Gives.{acked_fine, history_stands, next_reached, now_fine}
 use Rattle.crash_theory.proofs.Growth.{fine_on, kept_on, planned_changed, planned_on, still_covered}
@@ -45,6 +45,8 @@ module _ {D : Type 0} (drive : Ghosts D) where
         kept_failed x.volume x.trees x.made x.since (moment_of drive old before) (moment_of drive new now) x.done job jobs x.waits x.acks kept step is;
     read = λ x old new c kept step.
         kept_read x.volume x.trees x.made x.since (moment_of drive old c) (moment_of drive new c) x.done x.jobs x.waits x.acks kept refl step;
+    flushed = λ x old new c kept step.
+        kept_flushed x.volume x.trees x.made x.since (moment_of drive old c) (moment_of drive new c) x.done x.jobs x.waits x.acks kept refl step;
     noted = λ x old new before now part note values kept sure has vcr tells step after.
         kept_noted x.volume x.trees x.made x.since (moment_of drive old before) (moment_of drive new now) x.done x.jobs x.waits x.acks kept sure part note values has vcr tells step after;
     sure = λ old new before now part note pending step noted settled.

@@ -4,7 +4,7 @@ use Rattle.tape_types.specs.declared.cartridges.Cartridge.{Cartridge}
 use Rattle.tape_types.specs.declared.cartridges.Item.TheVariants.{Block, Mark}
 use Rattle.tape_types.specs.Cartridges.{items_of}
 use Rattle.tape_drive.specs.Commands.{IsBroken, IsWritten}
-use Rattle.tape_drive.specs.Crashes.{NothingNew, WithinWrite}
+use Rattle.tape_drive.specs.Crashes.{WithinFlush, WithinWrite}
 use Rattle.tape_layout.specs.declared.ops.Op.{Op}
 use Rattle.tape_layout.specs.declared.ops.Op.TheVariants as ops
 
@@ -24,7 +24,7 @@ IsFailed (ops.Flush place) old new = new ≡ old
 abbrev pub Within : Op → (held before image : Cartridge) → Type 0
 Within (ops.Put place bytes) held before image = WithinWrite place.part place.pos (Block bytes) held before image
 Within (ops.Mark place) held before image = WithinWrite place.part place.pos Mark held before image
-Within (ops.Flush place) held before image = NothingNew before image
+Within (ops.Flush place) held before image = WithinFlush held before image
 
 -- its position is at most one past the last item
 abbrev pub IsReached : Op → Cartridge → Type 0

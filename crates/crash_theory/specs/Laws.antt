@@ -10,7 +10,7 @@ use Rattle.plain_tree.specs.Tree.{Tree}
 use Rattle.index_model.specs.declared.indexes.Index.{Index}
 use Rattle.session_script.specs.declared.logs.Ack.{Ack}
 use Rattle.tape_drive.specs.Commands.{IsNoted}
-use Rattle.tape_drive.specs.Crashes.{IsSettled, NothingNew, WithinNote}
+use Rattle.tape_drive.specs.Crashes.{IsSettled, NothingNew, WithinFlush, WithinNote}
 use Rattle.tape_drive.specs.declared.drive.Drive.{Ghosts}
 use Rattle.tape_layout.specs.Ops.{end_of}
 use Rattle.tape_meaning.specs.Meaning.{Stands}
@@ -98,7 +98,8 @@ pub record StartsAreKept {D : Type 0} (drive : Ghosts D) : Type 0 where
       × ((space : Space) → IsFirstSpace c generation space
       → IsServing drive (first_state v c since tree can.stands.reads.found.on_ip last) space d c)
 
--- A job that was done is one less; one that failed stands; a step that reads leaves all as it was; and a note that
+-- A job that was done is one less; one that failed stands; a step that reads leaves all as it was, and so does a flush
+-- that is no job; and a note that
 -- tells of the last index of its partition may be written where nothing is pending, and nothing is pending once it
 -- is.
 pub record StepsKeep {D : Type 0} (drive : Ghosts D) : Type 0 where
@@ -112,6 +113,8 @@ pub record StepsKeep {D : Type 0} (drive : Ghosts D) : Type 0 where
       → IsKept drive (with_jobs (job ∷ jobs) x) new now
   pub read : (x : State) (old new : D) (c : Cartridge) → IsKept drive x old c
       → IsStep NothingNew (moment_of drive old c) (moment_of drive new c) → IsKept drive x new c
+  pub flushed : (x : State) (old new : D) (c : Cartridge) → IsKept drive x old c
+      → IsStep (WithinFlush c) (moment_of drive old c) (moment_of drive new c) → IsKept drive x new c
   pub noted : (x : State) (old new : D) (before now : Cartridge) (part : Part) (note : Note) (values : Coherency)
       → IsKept drive x old before → HasNothingPending (moment_of drive old before)
       → HasValues note values → values.vcr ≡ before.vcr → TellsOfLast before x.volume.labels.ip part values

@@ -159,7 +159,7 @@ ops_keep = record {
 op_unseen : (o : Op) (held image : Cartridge) → WithinOp o held image image
 op_unseen (op.Put at bytes) held image = write_unseen at.part at.pos (item.Block bytes) held image
 op_unseen (op.Mark at) held image = write_unseen at.part at.pos item.Mark held image
-op_unseen (op.Flush at) held image = refl
+op_unseen (op.Flush at) held image = inl refl
 
 put_left : (at : Place) (x : Item) (end : StepDone) (old new : Cartridge) → AfterPut at x end old new → WithinWrite at.part at.pos x old old new
 put_left at x (done.Read answer) old new w = absurd w
@@ -176,7 +176,7 @@ put_left at x (done.Failed counts) old new w = record {
 op_left : (o : Op) (end : StepDone) (old new : Cartridge) → AfterOp o end old new → WithinOp o old old new
 op_left (op.Put at bytes) end old new w = put_left at (item.Block bytes) end old new w
 op_left (op.Mark at) end old new w = put_left at item.Mark end old new w
-op_left (op.Flush at) end old new w = w
+op_left (op.Flush at) end old new w = inl w
 
 within_front : (at : Place) (x : Item) (held before image : Cartridge) → IsWithin at held → WithinWrite at.part at.pos x held before image
     → front_of at before ≡ front_of at held → front_of at image ≡ front_of at held
@@ -191,12 +191,14 @@ op_front : (o : Op) (held before image : Cartridge) → IsWithin (place_of o) he
     → front_of (place_of o) before ≡ front_of (place_of o) held → front_of (place_of o) image ≡ front_of (place_of o) held
 op_front (op.Put at bytes) held before image within w is = within_front at (item.Block bytes) held before image within w is
 op_front (op.Mark at) held before image within w is = within_front at item.Mark held before image within w is
-op_front (op.Flush at) held before image within w is = ap (λ (c : Cartridge). front_of at c) w ∙ is
+op_front (op.Flush at) held before image within (inl w) is = ap (λ (c : Cartridge). front_of at c) w ∙ is
+op_front (op.Flush at) held before image within (inr w) is = ap (λ (c : Cartridge). front_of at c) w
 
-op_rest : (o : Op) (held before image : Cartridge) → WithinOp o held before image → KeepsRest (place_of o).part before image
-op_rest (op.Put at bytes) held before image w = w.rest
-op_rest (op.Mark at) held before image w = w.rest
-op_rest (op.Flush at) held before image w = same_rest at.part before image w
+op_rest : (o : Op) (held before image : Cartridge) → WithinOp o held before image → KeepsRest (place_of o).part before image ⊎ (image ≡ held)
+op_rest (op.Put at bytes) held before image w = inl w.rest
+op_rest (op.Mark at) held before image w = inl w.rest
+op_rest (op.Flush at) held before image (inl w) = inl (same_rest at.part before image w)
+op_rest (op.Flush at) held before image (inr w) = inr w
 
 pub crashes_keep : CrashesKeepFronts
 crashes_keep = record { unseen = op_unseen; left = op_left; front = op_front; rest = op_rest }

@@ -1,5 +1,5 @@
 -- What the definitions of a step say together.
-use Rattle.std.specs.Prelude.{ℕ, ◌+◌, ◌-◌, ◌^◌, ◌≤◌, ◌<◌, ◌≡◌, List, take, length, Some}
+use Rattle.std.specs.Prelude.{ℕ, ◌+◌, ◌-◌, ◌^◌, ◌≤◌, ◌<◌, ◌≡◌, ◌⊎◌, List, take, length, Some}
 use Rattle.tape_types.specs.declared.cartridges.Cartridge.{Cartridge}
 use Rattle.tape_types.specs.declared.cartridges.Item.{Item}
 use Rattle.tape_types.specs.declared.cartridges.Item.TheVariants as item
@@ -51,7 +51,7 @@ pub record OpsKeepFronts : Type 0 where
       → AfterOp (op.Mark at) end old new → (counts : Twin) × (end ≡ done.Failed counts) × (new ≡ old)
 
 -- What a crash may leave within an op: what it could leave before, how the cartridge reads after the op, and nothing in
--- which the front of the op's place, the other partition or an attribute has changed.
+-- which the front of the op's place, the other partition or an attribute has changed; but a flush may leave what reads.
 pub record CrashesKeepFronts : Type 0 where
   pub unseen : (o : Op) (held image : Cartridge) → WithinOp o held image image
   pub left : (o : Op) (end : StepDone) (old new : Cartridge) → AfterOp o end old new → WithinOp o old old new
@@ -59,7 +59,7 @@ pub record CrashesKeepFronts : Type 0 where
       → front_of (place_of o) before ≡ front_of (place_of o) held
       → front_of (place_of o) image ≡ front_of (place_of o) held
   pub rest : (o : Op) (held before image : Cartridge) → WithinOp o held before image
-      → KeepsRest (place_of o).part before image
+      → KeepsRest (place_of o).part before image ⊎ (image ≡ held)
 
 -- Where a flush succeeds on a drive that tells its cartridge, a crash from then on leaves that one, until the next
 -- step.

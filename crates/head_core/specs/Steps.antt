@@ -8,7 +8,7 @@ use Rattle.tape_types.specs.declared.cartridges.Cartridge.{Cartridge}
 use Rattle.tape_types.specs.Cartridges.{items_of, capacity, next}
 use Rattle.tape_types.specs.Counts.{Rose}
 use Rattle.tape_drive.specs.Commands.{item_at, IsRead, FillsBuffer, after_read, IsWritten, IsBroken}
-use Rattle.tape_drive.specs.Crashes.{WithinWrite, NothingNew, Crashes, IsSure, IsSettled}
+use Rattle.tape_drive.specs.Crashes.{WithinWrite, WithinFlush, Crashes, IsSure}
 use Rattle.tape_drive.specs.Looks.{Looks}
 use Rattle.tape_drive.specs.declared.drive.Drive.{Ghosts}
 use Rattle.tape_layout.specs.declared.ops.Op.{Op}
@@ -80,7 +80,7 @@ IsEndOfOp (op.Flush at) end = IsEndOfFlush end
 abbrev pub WithinOp : Op → (held before image : Cartridge) → Type 0
 WithinOp (op.Put at bytes) held before image = WithinWrite at.part at.pos (item.Block bytes) held before image
 WithinOp (op.Mark at) held before image = WithinWrite at.part at.pos item.Mark held before image
-WithinOp (op.Flush at) held before image = NothingNew before image
+WithinOp (op.Flush at) held before image = WithinFlush held before image
 
 -- where the head stands after a step at a place
 abbrev pub head_after : Place → StepDone → Option Place → Option Place
@@ -115,11 +115,10 @@ TellsFaults before now done.Wrote = Unit {0}
 TellsFaults before now done.Flushed = Unit {0}
 TellsFaults before now (done.Failed counts) = (counts.before ≡ before) × (counts.after ≡ now) × Rose before now
 
--- What a step makes sure of all that a crash may leave: after an item was written no earlier volume change reference
--- and no earlier attribute comes back, and after a flush nothing is pending.
+-- what a step makes sure of all that a crash may leave: after a flush nothing is pending
 abbrev pub MakesSure : StepDone → Option Cartridge → (Cartridge → Type 0) → Type 0
 MakesSure (done.Read answer) held leaves = Unit {0}
-MakesSure done.Wrote held leaves = IsSettled held leaves
+MakesSure done.Wrote held leaves = Unit {0}
 MakesSure done.Flushed held leaves = IsSure held leaves
 MakesSure (done.Failed counts) held leaves = Unit {0}
 
@@ -139,9 +138,15 @@ pub record IsReadStep {D : Type 0} (drive : Ghosts D) (at : Place) (end : StepDo
   pub made : IsMade drive at 2 end old new
   pub looks : Looks drive (2 * drive.MOST) old new
 
+-- an op puts an item on tape
+abbrev pub IsWrite : Op → Type 0
+IsWrite (op.Put at bytes) = Unit {0}
+IsWrite (op.Mark at) = Unit {0}
+IsWrite (op.Flush at) = ⊥
+
 -- An op was done, or was to be done. Where the drive tells its cartridge, this says how it reads then, and what a crash
--- may have left of it at each moment of the step and may leave now. With one command alone nothing was written: the
--- drive failed to locate, or the op is a flush.
+-- may have left of it at each moment of the step and may leave now. With one command alone no item was written: the
+-- drive failed to locate.
 pub record IsOpStep {D : Type 0} (drive : Ghosts D) (o : Op) (end : StepDone) (old new : D) : Type 0 where
   pub ends : IsEndOfOp o end
   pub made : IsMade drive (place_of o) (most_commands o) end old new
@@ -149,7 +154,7 @@ pub record IsOpStep {D : Type 0} (drive : Ghosts D) (o : Op) (end : StepDone) (o
       → (d : Cartridge) × (drive.held new ≡ Some d) × AfterOp o end c d
   pub crash : (c : Cartridge) → drive.held old ≡ Some c → Crashes (WithinOp o c) (drive.commands old)
       (drive.leaves old) (drive.leaves new) (drive.left_since old) (drive.left_since new)
-  pub one_command : drive.commands new < min (drive.commands old + 2) (2 ^ 64 - 1) → Looks drive drive.MOST old new
+  pub one_command : IsWrite o → drive.commands new < min (drive.commands old + 2) (2 ^ 64 - 1) → Looks drive drive.MOST old new
 
 -- a step of a head
 abbrev pub IsStep : {D : Type 0} → Ghosts D → Work → StepDone → (old new : D) → Type 0

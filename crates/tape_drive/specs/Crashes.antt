@@ -1,11 +1,12 @@
 -- What a crash may leave of a cartridge.
-use Rattle.std.specs.Prelude.{ℕ, ◌+◌, ◌-◌, ◌^◌, ◌≤◌, ◌≡◌, ◌⊎◌, min, List, [], ◌∷◌, ◌++◌, take, Option, Some, None}
+use Rattle.std.specs.Prelude.{ℕ, ◌≡◌, ◌⊎◌, List, [], ◌∷◌, ◌++◌, take, Option, Some, None}
 use Rattle.tape_types.specs.declared.cartridges.Part.{Part}
 use Rattle.tape_types.specs.declared.cartridges.Item.{Item}
 use Rattle.tape_types.specs.declared.cartridges.Note.{Note}
 use Rattle.tape_types.specs.declared.cartridges.Cartridge.{Cartridge}
 use Rattle.tape_types.specs.Cartridges.{items_of}
-use Rattle.tape_drive.specs.Commands.{KeepsRest, VcrRose, IsCutShort, IsNoted}
+use Rattle.tape_drive.specs.Commands.{KeepsRest, VcrRose, IsCutShort, IsNoted, IsWritten}
+pub use Rattle.crash_steps.specs.Crashes.{Crashes, NothingNew, OnlyReads, IsSure}
 
 -- Within a write: the partition is cut at the position, and there stands nothing, a Torn or the item.
 abbrev pub IsCut : ℕ → Item → List Item → List Item → Type 0
@@ -23,34 +24,14 @@ pub record WithinWrite (part : Part) (pos : ℕ) (x : Item) (held before image :
 abbrev pub WithinNote : Part → Note → Cartridge → Cartridge → Type 0
 WithinNote part note before image = (image ≡ before) ⊎ IsNoted part note before image
 
--- within any other command: nothing that a crash couldn't leave before
-abbrev pub NothingNew : Cartridge → Cartridge → Type 0
-NothingNew before image = image ≡ before
+-- within a flush: as a crash could leave it before, or as it reads
+abbrev pub WithinFlush : (held before image : Cartridge) → Type 0
+WithinFlush held before image = (image ≡ before) ⊎ (image ≡ held)
 
--- What a crash may leave after a command is what it could leave before, after a step that the command allows. What
--- it may have left since a number that the commands had reached before is all that it could have left by then, and no
--- more than that and such a step.
-pub record Crashes (step : Cartridge → Cartridge → Type 0) (count : ℕ) (leaves_old leaves_new : Cartridge → Type 0)
-    (since_old since_new : ℕ → Cartridge → Type 0) : Type 0 where
-  pub now : (image : Cartridge) → leaves_new image → (before : Cartridge) × leaves_old before × step before image
-  pub since : (t : ℕ) (image : Cartridge) → t ≤ count → since_new t image
-      → since_old t image ⊎ ((before : Cartridge) × leaves_old before × step before image)
-  pub kept : (t : ℕ) (image : Cartridge) → t ≤ count → since_old t image → since_new t image
-
--- What a run of commands that only read leaves to a crash: nothing that it couldn't leave before, and since a number
--- that the commands had reached before, just what it could have left by then. It has at most so many commands.
-pub record OnlyReads (most count_old count_new : ℕ) (leaves_old leaves_new : Cartridge → Type 0)
-    (since_old since_new : ℕ → Cartridge → Type 0) : Type 0 where
-  pub later : count_old ≤ count_new
-  pub bound : count_new ≤ min (count_old + most) (2 ^ 64 - 1)
-  pub leaves : (image : Cartridge) → leaves_new image → leaves_old image
-  pub since : (t : ℕ) (image : Cartridge) → t ≤ count_old → since_new t image → since_old t image
-  pub kept : (t : ℕ) (image : Cartridge) → t ≤ count_old → since_old t image → since_new t image
-
--- nothing is pending: where the cartridge is told, every crash leaves it as it reads
-abbrev pub IsSure : Option Cartridge → (Cartridge → Type 0) → Type 0
-IsSure None leaves = Unit {0}
-IsSure (Some held) leaves = (image : Cartridge) → leaves image → image ≡ held
+-- within a write and the flush behind it: as within the write, or as the cartridge reads once it is written
+abbrev pub WithinDurably : Part → ℕ → Item → (held before image : Cartridge) → Type 0
+WithinDurably part pos x held before image =
+    WithinWrite part pos x held before image ⊎ IsWritten part pos x held image
 
 -- an image has the volume change reference and both attributes as they read
 pub record HasState (held image : Cartridge) : Type 0 where

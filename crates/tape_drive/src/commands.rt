@@ -1,5 +1,5 @@
 // The commands of the drive in memory.
-ghost use Rattle.std.specs.Prelude.{◌≡◌, ◌≤◌, ◌<◌, ◌+◌, ◌-◌, ◌^◌, length, IfOk, vec_capacity, Some};
+ghost use Rattle.std.specs.Prelude.{◌≡◌, ◌≤◌, ◌<◌, ◌+◌, ◌-◌, ◌^◌, length, IfOk, OnOk, vec_capacity, Some};
 ghost use Rattle.tape_types.specs.declared.cartridges.Place.{Place};
 ghost use Rattle.tape_types.specs.declared.cartridges.Item.{Item};
 ghost use Rattle.tape_types.specs.declared.cartridges.Item.TheVariants as item;
@@ -7,6 +7,7 @@ ghost use Rattle.tape_types.specs.declared.cartridges.Note.TheVariants as kind;
 ghost use Rattle.tape_types.specs.declared.cartridges.Cartridge.{Cartridge};
 ghost use Rattle.tape_types.specs.Cartridges.{items_of, note_of, capacity, next, IsItem};
 ghost use Rattle.tape_drive.specs.Commands.{HasRoom, item_at, IsRead, after_read};
+ghost use Rattle.tape_drive.specs.Crashes.{IsSettled};
 ghost use Rattle.tape_drive.specs.Memory.{RanLocate, RanRead, Ran, RanPut, IsSane};
 ghost use Rattle.tape_drive.specs.Record.{with_note, undo};
 ghost use Rattle.tape_drive.specs.declared.record.Act.TheVariants.{Flushed, Noted, Settled};
@@ -171,6 +172,7 @@ impl Drive for MemDrive {
         requires size { length bytes.now ≤ 1048576 }
         ensures ran { (at : Place) × (self.old.head ≡ Some at)
             × RanPut result Cmd.Write at (item.Block bytes.now) self.old self.new }
+        ensures settled { OnOk result (IsSettled (Some self.new.held) (Leaves self.new.held self.new.acts)) }
         ensures sane { IsSane self.old }
     {
         let item = block(self.alloc(), bytes);
@@ -181,6 +183,7 @@ impl Drive for MemDrive {
         requires located { HasRoom self.old.head self.old.limits }
         ensures ran { (at : Place) × (self.old.head ≡ Some at)
             × RanPut result Cmd.Mark at item.Mark self.old self.new }
+        ensures settled { OnOk result (IsSettled (Some self.new.held) (Leaves self.new.held self.new.acts)) }
         ensures sane { IsSane self.old }
     {
         self.put_item(Cmd::Mark, Ok(Item::Mark))

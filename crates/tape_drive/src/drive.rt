@@ -10,7 +10,7 @@ ghost use Rattle.tape_types.specs.Cartridges.{items_of, note_of, capacity, next,
 ghost use Rattle.tape_types.specs.Counts.{HasCause};
 ghost use Rattle.tape_drive.specs.Commands.{HasRoom, Counted, item_at, IsRead, FillsBuffer, after_read, AfterWrite};
 ghost use Rattle.tape_drive.specs.Commands.{AfterNote};
-ghost use Rattle.tape_drive.specs.Crashes.{WithinWrite, WithinNote, NothingNew, Crashes, IsSure, IsSettled};
+ghost use Rattle.tape_drive.specs.Crashes.{WithinWrite, WithinNote, WithinFlush, NothingNew, Crashes, IsSure, IsSettled};
 
 use tape_types::{Limits, Note, Part, Place};
 
@@ -125,7 +125,6 @@ pub trait Drive: Drop {
         ensures limits { limits self.new ≡ limits self.old }
         ensures count { Counted MOST (commands self.old) (commands self.new) }
         ensures cause { HasCause (faults self.old) (faults self.new) result }
-        ensures settled { OnOk result (IsSettled (held self.new) (leaves self.new)) }
         ensures crash { (at : Place) (c : Cartridge) → head self.old ≡ Some at → held self.old ≡ Some c
             → Crashes (WithinWrite at.part at.pos (item.Block bytes.now) c) (commands self.old)
             (leaves self.old) (leaves self.new) (left_since self.old) (left_since self.new) };
@@ -144,7 +143,6 @@ pub trait Drive: Drop {
         ensures limits { limits self.new ≡ limits self.old }
         ensures count { Counted MOST (commands self.old) (commands self.new) }
         ensures cause { HasCause (faults self.old) (faults self.new) result }
-        ensures settled { OnOk result (IsSettled (held self.new) (leaves self.new)) }
         ensures crash { (at : Place) (c : Cartridge) → head self.old ≡ Some at → held self.old ≡ Some c
             → Crashes (WithinWrite at.part at.pos item.Mark c) (commands self.old)
             (leaves self.old) (leaves self.new) (left_since self.old) (left_since self.new) };
@@ -158,7 +156,7 @@ pub trait Drive: Drop {
         ensures limits { limits self.new ≡ limits self.old }
         ensures count { Counted MOST (commands self.old) (commands self.new) }
         ensures cause { HasCause (faults self.old) (faults self.new) result }
-        ensures crash { Crashes NothingNew (commands self.old)
+        ensures crash { (c : Cartridge) → held self.old ≡ Some c → Crashes (WithinFlush c) (commands self.old)
             (leaves self.old) (leaves self.new) (left_since self.old) (left_since self.new) };
 
     /// Reads the coherency attribute of a partition (LTFS 2.4 on volume coherency information).

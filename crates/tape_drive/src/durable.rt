@@ -5,7 +5,7 @@ ghost use Rattle.tape_types.specs.declared.cartridges.Item.TheVariants as item;
 ghost use Rattle.tape_types.specs.Cartridges.{items_of, capacity};
 ghost use Rattle.tape_types.specs.Counts.{HasCause};
 ghost use Rattle.tape_drive.specs.Commands.{Counted, item_at};
-ghost use Rattle.tape_drive.specs.Crashes.{WithinWrite, Crashes};
+ghost use Rattle.tape_drive.specs.Crashes.{Crashes, WithinDurably};
 
 use crate::drive::{Drive, DriveErr};
 use tape_types::Place;
@@ -19,9 +19,10 @@ pub fn write_durably<D: Drive>(drive: &mut D, place: Place, bytes: &[u8]) -> Res
     requires size { length bytes.now ≤ 1048576 }
     ensures kept { IfOk result (λ t. (c image : Cartridge) → D.held drive.old ≡ Some c → t < 2 ^ 64 - 1
         → D.left_since drive.new t image → item_at place image ≡ Some (item.Block bytes.now)) }
-    // A crash at any moment of the call leaves what one could leave before, or what it may leave within the write.
+    // A crash at any moment of the call leaves what one could leave before, or what it may leave within the write, or
+    // the cartridge as it reads once that is done.
     ensures any_moment { (c : Cartridge) → D.held drive.old ≡ Some c
-        → Crashes (WithinWrite place.part place.pos (item.Block bytes.now) c) (D.commands drive.old)
+        → Crashes (WithinDurably place.part place.pos (item.Block bytes.now) c) (D.commands drive.old)
         (D.leaves drive.old) (D.leaves drive.new) (D.left_since drive.old) (D.left_since drive.new) }
     ensures limits { D.limits drive.new ≡ D.limits drive.old }
     ensures count { Counted (3 * D.MOST) (D.commands drive.old) (D.commands drive.new) }

@@ -213,7 +213,7 @@ module _ {D : Type 0} (drive : Ghosts D) where
         told = it.1 ∙ ap (λ (h : Cartridge). Some h) it.2;
         ops_are = c.ops_are;
         plan = c.plan;
-        kept = (steps_keep drive).read (state_at v planned c.made c.done c.jobs) old new c.held c.kept
+        kept = (steps_keep drive).flushed (state_at v planned c.made c.done c.jobs) old new c.held c.kept
             (step.made.commands.later, step.crash c.held c.told);
       }
 

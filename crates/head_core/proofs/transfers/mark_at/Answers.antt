@@ -10,7 +10,7 @@ returns-in-Ok-mark g c = record {
   told = λ h is. c.in-Ok-mark.ensures.told c.args.place h c.in-Ok.ensures.head (c.in-Ok.ensures.held ∙ is);
   crash = put_crashes g.D.Drive c.args.place item.Mark _ _ _ c.in-Ok.ensures.held c.in-Ok.ensures.head
       c.in-Ok.ensures.count.later c.in-Ok.ensures.crash c.in-Ok-mark.ensures.crash;
-  one_command = λ short. absurd (omega (arith, short, c.in-Ok.ensures.count.at_least, c.in-Ok-mark.ensures.count.at_least));
+  one_command = λ write short. absurd (omega (arith, short, c.in-Ok.ensures.count.at_least, c.in-Ok-mark.ensures.count.at_least));
 }
 
 pub returns-in-Err-mark : goal.returns-in-Err-mark
@@ -20,5 +20,5 @@ returns-in-Err-mark g c = record {
   told = λ h is. c.in-Err-mark.ensures.told c.args.place h c.in-Ok.ensures.head (c.in-Ok.ensures.held ∙ is);
   crash = put_crashes g.D.Drive c.args.place item.Mark _ _ _ c.in-Ok.ensures.held c.in-Ok.ensures.head
       c.in-Ok.ensures.count.later c.in-Ok.ensures.crash c.in-Err-mark.ensures.crash;
-  one_command = λ short. absurd (omega (arith, short, c.in-Ok.ensures.count.at_least, c.in-Err-mark.ensures.count.at_least));
+  one_command = λ write short. absurd (omega (arith, short, c.in-Ok.ensures.count.at_least, c.in-Err-mark.ensures.count.at_least));
 }

@@ -1,4 +1,4 @@
-use Rattle.std.proofs.Common.{ℕ, ◌+◌, ◌≡◌, ◌≤◌, ◌<◌, ◌-◌, ◌^◌, List, [], ◌∷◌, ◌++◌, take, length, get_or, Option, Some, sym, ◌∙◌, ap, subst, arith}
+use Rattle.std.proofs.Common.{ℕ, ◌+◌, ◌≡◌, ◌≤◌, ◌<◌, ◌-◌, ◌^◌, inl, inr, List, [], ◌∷◌, ◌++◌, take, length, get_or, Option, Some, sym, ◌∙◌, ap, subst, arith}
 use Rattle.std.specs.Prelude.{slice_get, IfSome}
 use Rattle.std.proofs.lemmas.List.{length-append, length-take-le}
 use Rattle.std.proofs.Math.Seq.{get_or-append_seam}
@@ -7,8 +7,11 @@ use Rattle.tape_types.specs.declared.cartridges.Cartridge.{Cartridge}
 use Rattle.tape_types.specs.declared.cartridges.Item.{Item}
 use Rattle.tape_types.specs.declared.cartridges.Item.TheVariants as item
 use Rattle.tape_types.specs.Cartridges.{items_of}
-use Rattle.tape_drive.specs.Commands.{item_at}
-use Rattle.tape_drive.specs.Crashes.{IsSure}
+use Rattle.tape_types.specs.declared.cartridges.Place.{Place}
+use Rattle.crash_steps.proofs.Joined.{alone, behind_looks, joined, widened}
+use Rattle.tape_drive.specs.Commands.{IsWritten, item_at}
+use Rattle.tape_drive.specs.Crashes.{Crashes, IsSure, NothingNew, WithinDurably, WithinFlush, WithinWrite}
+use Rattle.tape_drive.proofs.Acts.{write_same}
 use Rattle.tape_drive.proofs.durable.write_durably.Goals as goal
 
 -- an item that was appended stands at the position of the cut
@@ -33,3 +36,53 @@ returns-in-Ok-flush-clause-kept g c held image is below left =
     ap (λ (d : Cartridge). item_at place d) (sure image now)
     ∙ ap (λ (l : List Item). slice_get l place.pos) told.2.items
     ∙ stands place.pos x (items_of place.part held) within
+
+-- ---- what a crash may leave at any moment
+
+flushed_within : (at : Place) (x : Item) (held now before mid image : Cartridge) → IsWritten at.part at.pos x held now
+    → WithinWrite at.part at.pos x held before mid → WithinFlush now mid image → WithinDurably at.part at.pos x held before image
+flushed_within at x held now before mid image is within (inl e) = inl (subst (λ (c : Cartridge). WithinWrite at.part at.pos x held before c) (sym e) within)
+flushed_within at x held now before mid image is within (inr e) = inr (subst (λ (c : Cartridge). IsWritten at.part at.pos x held c) (sym e) is)
+
+module _ (at : Place) (x : Item) (held : Cartridge) {m n k : ℕ} {leaves_a leaves_b leaves_c leaves_d : Cartridge → Type 0}
+    {since_a since_b since_c since_d : ℕ → Cartridge → Type 0} where
+  lost_crashes : Crashes NothingNew m leaves_a leaves_b since_a since_b
+      → Crashes (WithinDurably at.part at.pos x held) m leaves_a leaves_b since_a since_b
+  lost_crashes first = alone (λ image. inl (write_same at.part at.pos x held image)) first
+
+  put_crashes : m ≤ n → Crashes NothingNew m leaves_a leaves_b since_a since_b
+      → Crashes (WithinWrite at.part at.pos x held) n leaves_b leaves_c since_b since_c
+      → Crashes (WithinWrite at.part at.pos x held) m leaves_a leaves_c since_a since_c
+  put_crashes le first second = behind_looks (write_same at.part at.pos x held) le first second
+
+  flushed_crashes : (now : Cartridge) → IsWritten at.part at.pos x held now → m ≤ n → n ≤ k
+      → Crashes NothingNew m leaves_a leaves_b since_a since_b
+      → Crashes (WithinWrite at.part at.pos x held) n leaves_b leaves_c since_b since_c
+      → Crashes (WithinFlush now) k leaves_c leaves_d since_c since_d
+      → Crashes (WithinDurably at.part at.pos x held) m leaves_a leaves_d since_a since_d
+  flushed_crashes now is le later first second third =
+      joined (λ before image within. inl within) (λ before mid image within step. flushed_within at x held now before mid image is within step)
+      (omega (arith, le, later)) (put_crashes le first second) third
+
+pub returns-in-Err-clause-any_moment : goal.returns-in-Err-clause-any_moment
+returns-in-Err-clause-any_moment g c held is = lost_crashes c.args.place (item.Block c.args.bytes.now) held c.in-Err.ensures.crash
+
+pub returns-in-Err-write-clause-any_moment : goal.returns-in-Err-write-clause-any_moment
+returns-in-Err-write-clause-any_moment g c held is =
+    widened (λ before image within. inl within)
+    (put_crashes c.args.place (item.Block c.args.bytes.now) held c.in-Ok.ensures.count.later c.in-Ok.ensures.crash
+    (c.in-Err-write.ensures.crash c.args.place held c.in-Ok.ensures.head (c.in-Ok.ensures.held ∙ is)))
+
+pub returns-in-Ok-flush-clause-any_moment : goal.returns-in-Ok-flush-clause-any_moment
+returns-in-Ok-flush-clause-any_moment g c held is =
+    let told = c.in-Ok-write.ensures.told c.args.place held c.in-Ok.ensures.head (c.in-Ok.ensures.held ∙ is) in
+    flushed_crashes c.args.place (item.Block c.args.bytes.now) held told.0 told.2 c.in-Ok.ensures.count.later c.in-Ok-write.ensures.count.later
+    c.in-Ok.ensures.crash (c.in-Ok-write.ensures.crash c.args.place held c.in-Ok.ensures.head (c.in-Ok.ensures.held ∙ is))
+    (c.in-Ok-flush.ensures.crash told.0 told.1)
+
+pub returns-in-Err-flush-clause-any_moment : goal.returns-in-Err-flush-clause-any_moment
+returns-in-Err-flush-clause-any_moment g c held is =
+    let told = c.in-Ok-write.ensures.told c.args.place held c.in-Ok.ensures.head (c.in-Ok.ensures.held ∙ is) in
+    flushed_crashes c.args.place (item.Block c.args.bytes.now) held told.0 told.2 c.in-Ok.ensures.count.later c.in-Ok-write.ensures.count.later
+    c.in-Ok.ensures.crash (c.in-Ok-write.ensures.crash c.args.place held c.in-Ok.ensures.head (c.in-Ok.ensures.held ∙ is))
+    (c.in-Err-flush.ensures.crash told.0 told.1)

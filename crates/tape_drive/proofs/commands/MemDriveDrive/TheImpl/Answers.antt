@@ -8,9 +8,9 @@ use Rattle.tape_types.specs.Cartridges.{note_of}
 use Rattle.tape_drive.specs.declared.record.Act.TheVariants.{Flushed, Noted, Settled}
 use Rattle.tape_drive.specs.declared.drive.DriveErr.{DriveErr}
 use Rattle.tape_drive.specs.declared.schedule.Cmd.TheVariants as cmd
-use Rattle.tape_drive.specs.Crashes.{NothingNew, WithinNote}
+use Rattle.tape_drive.specs.Crashes.{Crashes, NothingNew, WithinFlush, WithinNote}
 use Rattle.tape_drive.specs.Commands.{AfterNote}
-use Rattle.tape_drive.specs.Record.{with_note}
+use Rattle.tape_drive.specs.Record.{with_note, Leaves, LeftSince}
 use Rattle.tape_drive.proofs.Acts.{within_note}
 use Rattle.tape_drive.proofs.Sound.{undo_note}
 use Rattle.tape_drive.proofs.Meets.{locate_meets, read_meets, read_held, ran_meets, ran_settles, put_meets, put_settles, note_told}
@@ -63,7 +63,6 @@ write-tells x c =
       limits = m.limits;
       count = m.count;
       cause = m.cause;
-      settled = put_settles (Unit {0}) DriveErr c.result cmd.Write at block old new ran;
       crash = put_crash (Unit {0}) DriveErr cmd.Write at block old new is c.result c.ensures.sane ran;
     }
 
@@ -84,7 +83,6 @@ mark-tells x c =
       limits = m.limits;
       count = m.count;
       cause = m.cause;
-      settled = put_settles (Unit {0}) DriveErr c.result cmd.Mark at item.Mark old new ran;
       crash = put_crash (Unit {0}) DriveErr cmd.Mark at item.Mark old new is c.result c.ensures.sane ran;
     }
 
@@ -92,7 +90,7 @@ pub flush-tells : goal.flush-tells
 flush-tells x c =
     let old = c.args.self.now in
     let new = c.new.self.now in
-    let m = ran_meets (Unit {0}) DriveErr c.result cmd.Flush Flushed old.held NothingNew old new c.ensures.sane refl (λ image. refl) (λ before image same. same) c.ensures.ran in
+    let m = ran_meets (Unit {0}) DriveErr c.result cmd.Flush Flushed old.held (WithinFlush old.held) old new c.ensures.sane refl (λ image. inl refl) (λ before image same. inl same) c.ensures.ran in
     record {
       sure = ran_settles (Unit {0}) DriveErr c.result cmd.Flush Flushed old.held old new c.ensures.ran;
       head = search rules;
@@ -101,7 +99,7 @@ flush-tells x c =
       limits = m.limits;
       count = m.count;
       cause = m.cause;
-      crash = m.crash;
+      crash = λ held is. subst (λ (d : Cartridge). Crashes (WithinFlush d) old.commands (Leaves old.held old.acts) (Leaves new.held new.acts) (LeftSince old.commands old.held old.acts) (LeftSince new.commands new.held new.acts)) (cc) m.crash;
     }
 
 pub read_note-tells : goal.read_note-tells
