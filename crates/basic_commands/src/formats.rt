@@ -1,4 +1,5 @@
 ghost use Rattle.std.specs.Prelude.{◌≡◌, None, IfOk};
+ghost use Rattle.tape_drive.specs.Crashes.{AllowsAll};
 ghost use Rattle.format_volume.specs.Refusals.{spec_fault};
 ghost use Rattle.basic_commands.specs.Formats.{format_status, format_text, formatted_text, full_text};
 ghost use Rattle.basic_commands.specs.Promises.{DoesFormat};
@@ -16,7 +17,7 @@ use tape_edge::{Clock, Sink};
 use tape_types::{Bytes, NoMemory, uuid_text};
 
 /// The command `format`: makes the cartridge the empty volume of the words, whatever it held, and writes its UUID. Its
-/// moment is the given one, or else the clock's next.
+/// moment is the given one, or else the clock's next. A crash may leave anything on the way.
 pub fn run_format<D: Drive, K: Sink, C: Clock>(
     alloc: Global,
     asked: FormatWords,
@@ -24,7 +25,8 @@ pub fn run_format<D: Drive, K: Sink, C: Clock>(
     out: &mut K,
     mut clock: C,
 ) -> Ended<D>
-    requires { spec_fault asked.volume ≡ None }
+    requires fine { spec_fault asked.volume ≡ None }
+    requires all { AllowsAll D.allows }
     ensures { DoesFormat asked (C.gives clock) D.Drive drive result.drive (written K.Sink out.old out.new)
         result.status result.log }
 {

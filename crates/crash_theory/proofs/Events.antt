@@ -231,10 +231,19 @@ kept_read v t s since d e done jobs waits acks k same step =
     each : (before c : Cartridge) → d.leaves before → NothingNew before c → IsImage v t (plan_of s jobs) s.base c × AreUpTo v d.held.vcr c
     each before c may is = subst (λ (x : Cartridge). IsImage v t (plan_of s jobs) s.base x × AreUpTo v d.held.vcr x) (sym is) (k.images before may)
 
--- nothing is done but a flush
-pub kept_flushed : (v : Volume) (t : Trees) (s : Made) (since : ℕ) (d e : Moment) (done : ℕ) (jobs : List Job) (waits : List Wait) (acks : List Ack)
+-- what a crash may leave within the first op is fine, before that is asked for
+pub op_may_leave : (v : Volume) (t : Trees) (s : Made) (since : ℕ) (d : Moment) (done : ℕ) (job : Job) (jobs : List Job) (waits : List Wait) (acks : List Ack)
+    → Kept v t s since d done (job ∷ jobs) waits acks
+    → (before c : Cartridge) → d.leaves before → Within job.op d.held before c → IsFine v t (least s.base) c
+op_may_leave v t s since d done job jobs waits acks k before c may w =
+    let i = k.images before may in
+    fine v t (plan_of s (job ∷ jobs)) s.base k.sound.grounded c
+    (within_image v t (plan_of s (job ∷ jobs)) job.whole s d.held job.op k.safe.0 k.reads k.sound k.safe.1 before c i.0 i.1 w).0
+
+-- a flush beside the jobs
+pub kept_beside : (v : Volume) (t : Trees) (s : Made) (since : ℕ) (d e : Moment) (done : ℕ) (jobs : List Job) (waits : List Wait) (acks : List Ack)
     → Kept v t s since d done jobs waits acks → e.held ≡ d.held → IsStep (WithinFlush d.held) d e → Kept v t s since e done jobs waits acks
-kept_flushed v t s since d e done jobs waits acks k same step =
+kept_beside v t s since d e done jobs waits acks k same step =
     step_kept v t s since d done jobs waits acks k (WithinFlush d.held) e step each
     (subst (λ (c : Cartridge). ReadsAs v t (plan_of s jobs) s c) (sym same) k.reads)
     (omega (arith, ap (λ (c : Cartridge). c.vcr) same))

@@ -24,6 +24,9 @@ use Rattle.crash_theory.specs.Kept.{HasNothingPending, IsStep, Moment, ReadsAs, 
 use Rattle.crash_theory.specs.Kept as kept
 use Rattle.crash_theory.specs.Made.{Job, Made, Trees, Volume}
 use Rattle.crash_theory.proofs.Images.{image_of, same_cartridge}
+use Rattle.crash_theory.specs.Fine.{IsFine}
+use Rattle.crash_theory.specs.Made.{least}
+use Rattle.crash_theory.proofs.Fines.{fine}
 use Rattle.crash_theory.proofs.Events.{step_kept}
 
 -- ---- the values of a note
@@ -194,3 +197,24 @@ module _ (v : Volume) (t : Trees) (s : Made) (since : ℕ) (d e : Moment) (done 
       (noted_reads v t plan s d.held k.reads k.notes part note values has vcr tells e.held w)
       (omega (arith, w.vcr))
       (subst (λ (n : ℕ). AreUpTo v n e.held) (sym w.vcr) notes)
+
+-- nothing has happened
+stays : (part : Part) (note : Note) (d : Moment) → IsStep (WithinNote part note) d d
+stays part note d = (
+  omega arith,
+  record {
+    now = λ c may. (c, may, inl refl);
+    since = λ n c le left. inl left;
+    kept = λ n c le left. left;
+  },
+)
+
+-- what a crash may leave within a note is fine, before that is asked for
+pub note_may_leave : (v : Volume) (t : Trees) (s : Made) (since : ℕ) (d : Moment) (done : ℕ) (jobs : List Job) (waits : List Wait) (acks : List Ack)
+    → kept.Kept v t s since d done jobs waits acks → HasNothingPending d
+    → (part : Part) (note : Note) (values : Coherency) → HasValues note values → values.vcr ≡ d.held.vcr
+    → TellsOfLast d.held v.labels.ip part values
+    → (before c : Cartridge) → d.leaves before → WithinNote part note before c → IsFine v t (least s.base) c
+note_may_leave v t s since d done jobs waits acks k sure part note values has vcr tells before c may w =
+    fine v t (plan_of s jobs) s.base k.sound.grounded c
+    (each_note v t s since d d done jobs waits acks k sure part note values has vcr tells (stays part note d) before c may w).0

@@ -11,12 +11,12 @@ use Rattle.crash_theory.specs.Starts.{begun_with, made_of}
 use Rattle.crash_theory.proofs.Admits.{served_unchanged}
 use Rattle.crash_theory.proofs.Closes.{admitted_close, close_leaves}
 use Rattle.crash_theory.proofs.Data.{admitted_data}
-use Rattle.crash_theory.proofs.Events.{kept_done, kept_failed, kept_flushed, kept_read}
+use Rattle.crash_theory.proofs.Events.{kept_beside, op_may_leave, kept_done, kept_failed, kept_read}
 use Rattle.crash_theory.proofs.Fines.{fine, fine_same, weaker}
 use Rattle.crash_theory.proofs.Gives.{acked_fine, history_stands, next_reached, now_fine}
 use Rattle.crash_theory.proofs.Growth.{fine_on, kept_on, planned_changed, planned_on, still_covered}
 use Rattle.crash_theory.proofs.Indexes.{admitted_index, index_served, index_settled}
-use Rattle.crash_theory.proofs.Noted.{kept_noted, noted_sure}
+use Rattle.crash_theory.proofs.Noted.{kept_noted, note_may_leave, noted_sure}
 use Rattle.crash_theory.proofs.Starts.{begins_to_serve, has_last}
 
 pub images_are_fine : ImagesAreFine
@@ -46,7 +46,7 @@ module _ {D : Type 0} (drive : Ghosts D) where
     read = λ x old new c kept step.
         kept_read x.volume x.trees x.made x.since (moment_of drive old c) (moment_of drive new c) x.done x.jobs x.waits x.acks kept refl step;
     flushed = λ x old new c kept step.
-        kept_flushed x.volume x.trees x.made x.since (moment_of drive old c) (moment_of drive new c) x.done x.jobs x.waits x.acks kept refl step;
+        kept_beside x.volume x.trees x.made x.since (moment_of drive old c) (moment_of drive new c) x.done x.jobs x.waits x.acks kept refl step;
     noted = λ x old new before now part note values kept sure has vcr tells step after.
         kept_noted x.volume x.trees x.made x.since (moment_of drive old before) (moment_of drive new now) x.done x.jobs x.waits x.acks kept sure part note values has vcr tells step after;
     sure = λ old new before now part note pending step noted settled.
@@ -92,6 +92,10 @@ module _ {D : Type 0} (drive : Ghosts D) where
     next = λ x job jobs d held kept. next_reached x.volume x.trees x.made x.since (moment_of drive d held) x.done job jobs x.waits x.acks kept;
     now = λ x d held c kept leaves. now_fine x.volume x.trees x.made x.since (moment_of drive d held) x.done x.jobs x.waits x.acks kept c leaves;
     always = λ x d held c kept left. kept.always c left;
+    op_may = λ x job jobs d held before c kept leaves within.
+        op_may_leave x.volume x.trees x.made x.since (moment_of drive d held) x.done job jobs x.waits x.acks kept before c leaves within;
+    note_may = λ x d held before c part note values kept sure has vcr tells leaves within.
+        note_may_leave x.volume x.trees x.made x.since (moment_of drive d held) x.done x.jobs x.waits x.acks kept sure part note values has vcr tells before c leaves within;
     since = λ x front a behind d held c kept parts less left.
         acked_fine x.volume x.trees x.made x.since (moment_of drive d held) x.done x.jobs x.waits x.acks kept front a behind parts less c left;
     synced = λ x d held kept same. history_stands x.volume x.trees x.made x.since (moment_of drive d held) x.done x.jobs x.waits x.acks kept same;

@@ -98,8 +98,7 @@ pub record StartsAreKept {D : Type 0} (drive : Ghosts D) : Type 0 where
       × ((space : Space) → IsFirstSpace c generation space
       → IsServing drive (first_state v c since tree can.stands.reads.found.on_ip last) space d c)
 
--- A job that was done is one less; one that failed stands; a step that reads leaves all as it was, and so does a flush
--- that is no job; and a note that
+-- A job that was done is one less; one that failed stands; a step that reads leaves all as it was; and a note that
 -- tells of the last index of its partition may be written where nothing is pending, and nothing is pending once it
 -- is.
 pub record StepsKeep {D : Type 0} (drive : Ghosts D) : Type 0 where
@@ -184,6 +183,13 @@ pub record KeptGives {D : Type 0} (drive : Ghosts D) : Type 0 where
       → IsFine x.volume x.trees (least x.made.base) c
   pub always : (x : State) (d : D) (held c : Cartridge) → IsKept drive x d held → drive.left_since d x.since c
       → IsFine x.volume x.trees 0 c
+  pub op_may : (x : State) (job : Job) (jobs : List Job) (d : D) (held before c : Cartridge)
+      → IsKept drive (with_jobs (job ∷ jobs) x) d held → drive.leaves d before → Within job.op held before c
+      → IsFine x.volume x.trees (least x.made.base) c
+  pub note_may : (x : State) (d : D) (held before c : Cartridge) (part : Part) (note : Note) (values : Coherency)
+      → IsKept drive x d held → HasNothingPending (moment_of drive d held)
+      → HasValues note values → values.vcr ≡ held.vcr → TellsOfLast held x.volume.labels.ip part values
+      → drive.leaves d before → WithinNote part note before c → IsFine x.volume x.trees (least x.made.base) c
   pub since : (x : State) (front : List Ack) (a : Ack) (behind : List Ack) (d : D) (held c : Cartridge)
       → IsKept drive x d held → x.acks ≡ front ++ a ∷ behind → a.command < 2 ^ 64 - 1
       → drive.left_since d a.command c → IsFine x.volume x.trees a.place c

@@ -92,6 +92,8 @@ impl<R: Files + AllocGlobal + Drop> Drive for FileDrive<R> {
 
     ghost left_since = { λ _ _ _. Unit {0} };
 
+    ghost allows = { λ image. Unit {0} };
+
     ghost only_now = { λ _ _ _ left. left };
 
     ghost counts_now = { λ _ _ _ _ left. left };

@@ -1,5 +1,6 @@
 //! A cartridge becomes an empty volume.
 
+ghost use Rattle.tape_drive.specs.Crashes.{AllowsAll};
 ghost use Rattle.std.specs.Prelude.{◌≡◌, ◌+◌, ◌≤◌, length, Some, None, IfErr, OnOk};
 ghost use Rattle.std.specs.Int.{div_ceil};
 ghost use Rattle.tape_drive.specs.Crashes.{IsSure};
@@ -34,6 +35,7 @@ use tape_types::{Bytes, Limits, Part, Twin};
 /// that has fewer, and how many it has: both before any command. `Drive` where the drive failed, with its count of
 /// faults before and after, and `NoMemory` where memory was refused, which is before any command too.
 pub fn format<D: Drive>(alloc: Global, drive: &mut D, spec: &FormatSpec) -> Result<(), FormatErr>
+    requires all { AllowsAll D.allows }
     ensures stands { OnOk result ((c : Cartridge) → D.held drive.new ≡ Some c → IsEmptyVolume spec.now c) }
     ensures holds { OnOk result (HoldsVolume D.Drive spec.now drive.old drive.new) }
     ensures sure { OnOk result (IsSure (D.held drive.new) (D.leaves drive.new)) }
@@ -91,6 +93,7 @@ fn full(texts: &Texts, spec: &FormatSpec, limits: Limits) -> Option<(u64, u64)>
 /// Writes all of a volume: its labels, its indexes and its notes.
 #[tactic(auto, using(crate::proofs::WriteLemmas::then_goes))]
 fn write_volume<D: Drive>(drive: &mut D, texts: &Texts, spec: &FormatSpec) -> Result<(), DriveErr>
+    requires all { AllowsAll D.allows }
     requires texts { AreTextsOf spec.now texts.now }
     requires can { CanStand spec.now (D.limits drive.old) }
     ensures holds { OnOk result (HoldsVolume D.Drive spec.now drive.old drive.new) }
@@ -108,6 +111,7 @@ fn write_volume<D: Drive>(drive: &mut D, texts: &Texts, spec: &FormatSpec) -> Re
 /// Writes the items of both partitions.
 #[tactic(auto, using(crate::proofs::WriteLemmas::then_goes, crate::proofs::TextLemmas::ip_one_block, crate::proofs::TextLemmas::dp_one_block))]
 fn write_items<D: Drive>(drive: &mut D, texts: &Texts, spec: &FormatSpec) -> Result<(), DriveErr>
+    requires all { AllowsAll D.allows }
     requires texts { AreTextsOf spec.now texts.now }
     requires can { CanStand spec.now (D.limits drive.old) }
     ensures done { OnOk result (WritesBoth D.Drive 0 (items_on parts.Ip spec.now) (items_on parts.Dp spec.now)
@@ -125,6 +129,7 @@ fn write_items<D: Drive>(drive: &mut D, texts: &Texts, spec: &FormatSpec) -> Res
 /// Writes the labels of both partitions.
 #[tactic(auto, using(crate::proofs::WriteLemmas::then_goes))]
 fn write_both_labels<D: Drive>(drive: &mut D, texts: &Texts) -> Result<(), DriveErr>
+    requires all { AllowsAll D.allows }
     requires ip_room { 4 ≤ (D.limits drive.old).cap_ip }
     requires dp_room { 4 ≤ (D.limits drive.old).cap_dp }
     requires ip_label { IsOneBlock texts.now.ip_label }
@@ -153,6 +158,7 @@ fn write_both_labels<D: Drive>(drive: &mut D, texts: &Texts) -> Result<(), Drive
 /// Writes the indexes of both partitions: first that of the data partition, to which the other points back.
 #[tactic(auto, using(crate::proofs::WriteLemmas::then_goes))]
 fn write_both_indexes<D: Drive>(drive: &mut D, texts: &Texts, block: u32) -> Result<(), DriveErr>
+    requires all { AllowsAll D.allows }
     requires ip_labels { HasItems 4 parts.Ip (D.held drive.old) }
     requires dp_labels { HasItems 4 parts.Dp (D.held drive.old) }
     requires ip_room { 6 + div_ceil (length texts.now.ip_index) block ≤ (D.limits drive.old).cap_ip }
@@ -173,6 +179,7 @@ fn write_both_indexes<D: Drive>(drive: &mut D, texts: &Texts, block: u32) -> Res
 
 /// Writes the index of the index partition, where that to which it points back is durable.
 fn write_pointing<D: Drive>(drive: &mut D, doc: &[u8], block: u32) -> Result<(), DriveErr>
+    requires all { AllowsAll D.allows }
     requires labels { HasItems 4 parts.Ip (D.held drive.old) }
     requires durable { IsSure (D.held drive.old) (D.leaves drive.old) }
     requires room { 6 + div_ceil (length doc.now) block ≤ (D.limits drive.old).cap_ip }

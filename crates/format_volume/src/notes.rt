@@ -1,5 +1,6 @@
 //! The notes of a volume that was written.
 
+ghost use Rattle.tape_drive.specs.Crashes.{AllowsAll};
 ghost use Rattle.std.specs.Prelude.{◌≡◌, OnOk, IfOk, Some};
 ghost use Rattle.coherency.specs.Notes.{IsNote, note_of};
 ghost use Rattle.tape_drive.specs.Commands.{IsNoted};
@@ -19,6 +20,7 @@ use tape_types::Part;
 /// Writes the note of a partition, with nothing pending before and after.
 #[tactic(auto, using(crate::proofs::WriteLemmas::goes))]
 fn put_note<D: Drive>(drive: &mut D, part: Part, note: &[u8; 70]) -> Result<(), DriveErr>
+    requires all { AllowsAll D.allows }
     requires sure { IsSure (D.held drive.old) (D.leaves drive.old) }
     ensures told { OnOk result ((c : Cartridge) → D.held drive.old ≡ Some c
         → (d : Cartridge) × (D.held drive.new ≡ Some d) × IsNoted part (Kept note.now) c d) }
@@ -35,6 +37,7 @@ fn put_note<D: Drive>(drive: &mut D, part: Part, note: &[u8; 70]) -> Result<(), 
 /// Writes this note on both partitions.
 #[tactic(auto, using(crate::proofs::WriteLemmas::then_goes))]
 fn put_both<D: Drive>(drive: &mut D, note: &[u8; 70]) -> Result<(), DriveErr>
+    requires all { AllowsAll D.allows }
     requires sure { IsSure (D.held drive.old) (D.leaves drive.old) }
     ensures told { OnOk result ((c : Cartridge) → D.held drive.old ≡ Some c
         → D.held drive.new ≡ Some (record c { note_ip = Kept note.now; note_dp = Kept note.now })) }
@@ -67,6 +70,7 @@ fn reference<D: Drive>(drive: &mut D) -> Result<u64, DriveErr>
 /// Writes the notes of a volume of which nothing is pending, with its volume change reference.
 #[tactic(auto, using(crate::proofs::WriteLemmas::then_goes))]
 pub fn write_notes<D: Drive>(drive: &mut D, spec: &FormatSpec) -> Result<(), DriveErr>
+    requires all { AllowsAll D.allows }
     requires sure { IsSure (D.held drive.old) (D.leaves drive.old) }
     ensures told { OnOk result ((c : Cartridge) → D.held drive.old ≡ Some c
         → (D.held drive.new ≡ Some (with_notes spec.now c))

@@ -1,5 +1,6 @@
 //! Items are written one behind the other.
 
+ghost use Rattle.tape_drive.specs.Crashes.{AllowsAll};
 ghost use Rattle.std.specs.Prelude.{◌≡◌, ◌≤◌, ◌+◌, ℕ, List, [], ◌∷◌, ◌++◌, length, map, OnOk, Some};
 ghost use Rattle.index_construct.specs.Blocks.{blocks_of};
 ghost use Rattle.std.specs.Int.{div_ceil};
@@ -21,6 +22,7 @@ use tape_types::{Part, Place};
 /// Writes a block at the head.
 #[tactic(auto, using(crate::proofs::WriteLemmas::one_written, crate::proofs::WriteLemmas::goes))]
 fn put_block<D: Drive>(drive: &mut D, bytes: &[u8]) -> Result<(), DriveErr>
+    requires all { AllowsAll D.allows }
     requires located { HasRoom (D.head drive.old) (D.limits drive.old) }
     requires some { 1 ≤ length bytes.now }
     requires size { length bytes.now ≤ 1048576 }
@@ -38,6 +40,7 @@ fn put_block<D: Drive>(drive: &mut D, bytes: &[u8]) -> Result<(), DriveErr>
 /// Writes a mark at the head.
 #[tactic(auto, using(crate::proofs::WriteLemmas::one_written, crate::proofs::WriteLemmas::goes))]
 fn put_mark<D: Drive>(drive: &mut D) -> Result<(), DriveErr>
+    requires all { AllowsAll D.allows }
     requires located { HasRoom (D.head drive.old) (D.limits drive.old) }
     ensures done { (at : Place) → D.head drive.old ≡ Some at
         → OnOk result (Writes D.Drive at.part at.pos (Mark ∷ []) drive.old drive.new) }
@@ -53,6 +56,7 @@ fn put_mark<D: Drive>(drive: &mut D) -> Result<(), DriveErr>
 /// Writes a block and a mark at the head.
 #[tactic(auto, using(crate::proofs::WriteLemmas::then_written, crate::proofs::WriteLemmas::then_goes))]
 fn put_marked<D: Drive>(drive: &mut D, bytes: &[u8]) -> Result<(), DriveErr>
+    requires all { AllowsAll D.allows }
     requires located { HasPlaces 2 (D.head drive.old) (D.limits drive.old) }
     requires some { 1 ≤ length bytes.now }
     requires size { length bytes.now ≤ 1048576 }
@@ -75,6 +79,7 @@ pub fn write_labels<D: Drive>(
     volume: &[u8],
     label: &[u8],
 ) -> Result<(), DriveErr>
+    requires all { AllowsAll D.allows }
     requires room { 4 ≤ capacity part (D.limits drive.old) }
     requires some_volume { 1 ≤ length volume.now }
     requires volume_size { length volume.now ≤ 1048576 }
@@ -96,6 +101,7 @@ pub fn write_labels<D: Drive>(
 
 /// Writes all blocks of a document at the head, behind whatever was written from a position on.
 fn put_blocks<D: Drive>(drive: &mut D, doc: &[u8], block: u32) -> Result<(), DriveErr>
+    requires all { AllowsAll D.allows }
     requires located { HasPlaces (div_ceil (length doc.now) block) (D.head drive.old) (D.limits drive.old) }
     requires some { 1 ≤ block }
     requires size { block ≤ 1048576 }
@@ -119,6 +125,7 @@ fn put_blocks<D: Drive>(drive: &mut D, doc: &[u8], block: u32) -> Result<(), Dri
 
 /// Writes the mark that opens a construct, and all blocks of its document.
 fn put_document<D: Drive>(drive: &mut D, doc: &[u8], block: u32) -> Result<(), DriveErr>
+    requires all { AllowsAll D.allows }
     requires located { HasPlaces (1 + div_ceil (length doc.now) block) (D.head drive.old) (D.limits drive.old) }
     requires some { 1 ≤ block }
     requires size { block ≤ 1048576 }
@@ -136,6 +143,7 @@ fn put_document<D: Drive>(drive: &mut D, doc: &[u8], block: u32) -> Result<(), D
 /// Writes a construct at the head: a document's blocks between two marks.
 #[tactic(auto, using(crate::proofs::WriteLemmas::then_written, crate::proofs::WriteLemmas::then_goes))]
 fn put_construct<D: Drive>(drive: &mut D, doc: &[u8], block: u32) -> Result<(), DriveErr>
+    requires all { AllowsAll D.allows }
     requires located { HasPlaces (2 + div_ceil (length doc.now) block) (D.head drive.old) (D.limits drive.old) }
     requires some { 1 ≤ block }
     requires size { block ≤ 1048576 }
@@ -158,6 +166,7 @@ pub fn write_index<D: Drive>(
     doc: &[u8],
     block: u32,
 ) -> Result<(), DriveErr>
+    requires all { AllowsAll D.allows }
     requires labels { HasItems 4 part (D.held drive.old) }
     requires room { 6 + div_ceil (length doc.now) block ≤ capacity part (D.limits drive.old) }
     requires some { 1 ≤ block }

@@ -1,11 +1,11 @@
 -- What a crash may leave in a locate and a write behind it.
-use Rattle.std.proofs.Common.{ℕ, ◌≤◌, ◌≡◌, ◌∙◌, inl, refl, Some}
+use Rattle.std.proofs.Common.{ℕ, ◌≤◌, ◌≡◌, ◌∙◌, inl, refl, sym, subst, Some}
 use Rattle.tape_types.specs.declared.cartridges.Cartridge.{Cartridge}
 use Rattle.tape_types.specs.declared.cartridges.Item.{Item}
 use Rattle.tape_types.specs.declared.cartridges.Part.{Part}
 use Rattle.tape_types.specs.declared.cartridges.Place.{Place}
 use Rattle.crash_steps.proofs.Joined.{alone, behind_looks}
-use Rattle.tape_drive.specs.Crashes.{Crashes, NothingNew, WithinWrite}
+use Rattle.tape_drive.specs.Crashes.{Crashes, LeavesAllowed, NothingNew, WithinWrite}
 use Rattle.tape_drive.specs.declared.drive.Drive.{Ghosts}
 
 -- within a write all may be as it could be before
@@ -34,3 +34,10 @@ module _ {D : Type 0} (drive : Ghosts D) where
       → Crashes (WithinWrite at.part at.pos x held) (drive.commands a) (drive.leaves a) (drive.leaves b)
       (drive.left_since a) (drive.left_since b)
   lost_crashes at x a b first held is = alone (write_unseen at.part at.pos x held) first
+
+-- a command that comes after one that leaves nothing new needs no more to be allowed than it did before that one
+pub allowed_then : (step : Cartridge → Cartridge → Type 0) (m : ℕ) (l0 l1 allows : Cartridge → Type 0)
+    (s0 s1 : ℕ → Cartridge → Type 0) → Crashes NothingNew m l0 l1 s0 s1 → LeavesAllowed step l0 allows
+    → LeavesAllowed step l1 allows
+allowed_then step m l0 l1 allows s0 s1 first may before image left within =
+    let d = first.now before left in may before image (subst l0 (sym d.2) d.1) within

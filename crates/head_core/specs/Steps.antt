@@ -8,7 +8,7 @@ use Rattle.tape_types.specs.declared.cartridges.Cartridge.{Cartridge}
 use Rattle.tape_types.specs.Cartridges.{items_of, capacity, next}
 use Rattle.tape_types.specs.Counts.{Rose}
 use Rattle.tape_drive.specs.Commands.{item_at, IsRead, FillsBuffer, after_read, IsWritten, IsBroken}
-use Rattle.tape_drive.specs.Crashes.{WithinWrite, WithinFlush, Crashes, IsSure}
+use Rattle.tape_drive.specs.Crashes.{WithinWrite, WithinFlush, Crashes, IsSure, LeavesAllowed}
 use Rattle.tape_drive.specs.Looks.{Looks}
 use Rattle.tape_drive.specs.declared.drive.Drive.{Ghosts}
 use Rattle.tape_layout.specs.declared.ops.Op.{Op}
@@ -81,6 +81,15 @@ abbrev pub WithinOp : Op → (held before image : Cartridge) → Type 0
 WithinOp (op.Put at bytes) held before image = WithinWrite at.part at.pos (item.Block bytes) held before image
 WithinOp (op.Mark at) held before image = WithinWrite at.part at.pos item.Mark held before image
 WithinOp (op.Flush at) held before image = WithinFlush held before image
+
+-- every image that a crash may leave within an op is allowed, where the drive tells its cartridge
+abbrev pub MayDo : {D : Type 0} → Ghosts D → Op → D → Type 0
+MayDo drive o d = (c : Cartridge) → drive.held d ≡ Some c → LeavesAllowed (WithinOp o c) (drive.leaves d) drive.allows
+
+-- of a step: a read leaves nothing new
+abbrev pub MayStep : {D : Type 0} → Ghosts D → Work → D → Type 0
+MayStep drive (work.Read at) d = Unit {0}
+MayStep drive (work.Do o) d = MayDo drive o.now d
 
 -- where the head stands after a step at a place
 abbrev pub head_after : Place → StepDone → Option Place → Option Place

@@ -4,9 +4,9 @@ ghost use Rattle.std.specs.Prelude.{◌≡◌, IfOk, IfErr, Some, []};
 ghost use Rattle.tape_types.specs.declared.cartridges.Cartridge.{Cartridge};
 ghost use Rattle.tape_types.specs.declared.cartridges.Note.TheVariants as kind;
 ghost use Rattle.tape_drive.specs.Commands.{AfterNote};
-ghost use Rattle.tape_drive.specs.Crashes.{Crashes, NothingNew, WithinNote};
+ghost use Rattle.tape_drive.specs.Crashes.{Crashes, LeavesAllowed, NothingNew, WithinNote};
 ghost use Rattle.head_core.specs.Attributes.{IsAttributeCommand};
-ghost use Rattle.head_core.specs.Steps.{CanStep, IsBlockAfter, IsFound, IsStep};
+ghost use Rattle.head_core.specs.Steps.{CanStep, IsBlockAfter, IsFound, IsStep, MayStep};
 
 use crate::transfers::{counts, do_op, read_at};
 use crate::work::{StepDone, Work};
@@ -56,7 +56,8 @@ impl<D: Drive> Head<D> {
     /// then, which the next step does anyway.
     #[tactic(auto, using(crate::proofs::Reach::can_do_again, crate::proofs::Reach::can_read_again))]
     pub fn step(&mut self, work: Work<'_>) -> StepDone
-        requires { CanStep work (D.limits self.old.drive) (D.held self.old.drive) }
+        requires can { CanStep work (D.limits self.old.drive) (D.held self.old.drive) }
+        requires may { MayStep D.Drive work self.old.drive }
         ensures step { IsStep D.Drive work.entry result self.old.drive self.new.drive }
         ensures block { IsBlockAfter work.entry result self.old.block self.new.block }
         ensures found { (c : Cartridge) → D.held self.old.drive ≡ Some c
@@ -105,6 +106,8 @@ impl<D: Drive> Head<D> {
     /// Writes the coherency attribute of a partition (LTFS 2.4 on volume coherency information). A failure tells the
     /// drive's count of faults before and after, and leaves the old attribute or the new one.
     pub fn write_note(&mut self, part: Part, note: &[u8; 70]) -> Result<(), Twin>
+        requires may { (c : Cartridge) → D.held self.old.drive ≡ Some c
+            → LeavesAllowed (WithinNote part (kind.Kept note.now)) (D.leaves self.old.drive) D.allows }
         ensures told { (c : Cartridge) → D.held self.old.drive ≡ Some c → (d : Cartridge)
             × (D.held self.new.drive ≡ Some d) × AfterNote result part (kind.Kept note.now) c d }
         ensures command { IsAttributeCommand D.Drive result self.old.drive self.new.drive }

@@ -3,7 +3,7 @@
 ghost use Rattle.std.specs.Prelude.{◌≡◌, ◌≤◌, length, vec_capacity, IfSome, Some};
 ghost use Rattle.tape_types.specs.declared.cartridges.Cartridge.{Cartridge};
 ghost use Rattle.tape_layout.specs.declared.ops.Op.TheVariants as kind;
-ghost use Rattle.head_core.specs.Steps.{CanDo, IsBlockRead, IsFoundAt, IsInReach, IsOpStep, IsReadStep};
+ghost use Rattle.head_core.specs.Steps.{CanDo, IsBlockRead, IsFoundAt, IsInReach, IsOpStep, IsReadStep, MayDo};
 
 use crate::work::StepDone;
 use tape_drive::Drive;
@@ -37,7 +37,8 @@ pub(crate) fn read_at<D: Drive>(drive: &mut D, place: Place, buffer: &mut Vec<u8
 
 /// Does an op.
 pub(crate) fn do_op<D: Drive>(drive: &mut D, op: &Op) -> StepDone
-    requires { CanDo op.now (D.limits drive.old) (D.held drive.old) }
+    requires can { CanDo op.now (D.limits drive.old) (D.held drive.old) }
+    requires may { MayDo D.Drive op.now drive.old }
     ensures { IsOpStep D.Drive op.now result drive.old drive.new }
 {
     match op {
@@ -53,6 +54,7 @@ fn write_at<D: Drive>(drive: &mut D, place: Place, bytes: &[u8]) -> StepDone
     requires place { IsInReach place (D.limits drive.old) (D.held drive.old) }
     requires some { 1 ≤ length bytes.now }
     requires size { length bytes.now ≤ 1048576 }
+    requires may { MayDo D.Drive (Op.Put place bytes.now) drive.old }
     ensures { IsOpStep D.Drive (Op.Put place bytes.now) result drive.old drive.new }
 {
     let before = drive.faults();
@@ -68,7 +70,8 @@ fn write_at<D: Drive>(drive: &mut D, place: Place, bytes: &[u8]) -> StepDone
 /// Writes a mark at a place.
 #[tactic(auto, using(crate::proofs::Runs::lost_crashes))]
 fn mark_at<D: Drive>(drive: &mut D, place: Place) -> StepDone
-    requires { IsInReach place (D.limits drive.old) (D.held drive.old) }
+    requires place { IsInReach place (D.limits drive.old) (D.held drive.old) }
+    requires may { MayDo D.Drive (Op.Mark place) drive.old }
     ensures { IsOpStep D.Drive (Op.Mark place) result drive.old drive.new }
 {
     let before = drive.faults();
@@ -83,6 +86,7 @@ fn mark_at<D: Drive>(drive: &mut D, place: Place) -> StepDone
 
 /// Makes both partitions durable; the place says at which end that was asked for.
 fn flush<D: Drive>(drive: &mut D, place: Place) -> StepDone
+    requires may { MayDo D.Drive (Op.Flush place) drive.old }
     ensures { IsOpStep D.Drive (Op.Flush place) result drive.old drive.new }
 {
     let before = drive.faults();

@@ -1,5 +1,6 @@
 pub mod Asked
 pub mod EndedRuns
+pub mod FencedLemmas
 pub mod MakeClauses
 pub mod MakeSteps
 pub mod Sentences

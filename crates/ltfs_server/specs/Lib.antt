@@ -1,3 +1,4 @@
+pub mod Allowed
 pub mod Making
 pub mod Outcomes
 pub mod Promises

@@ -1,6 +1,7 @@
 // The volume server's program.
 #![tactic(auto)]
 
+mod fenced;
 mod laws;
 mod making;
 mod server;

@@ -7,6 +7,7 @@ ghost use Rattle.tape_types.specs.declared.moments.Moment.{Moment as Instant};
 ghost use Rattle.volume_model.specs.Ends.{bounded};
 ghost use Rattle.session_run.specs.Serving.{Whole};
 ghost use Rattle.ltfs_server.specs.Making.{bytes_in, bytes_read, closed_line, done_count, is_done, is_refused, summary};
+ghost use Rattle.volume_crashes.specs.May.{MayServe};
 ghost use Rattle.ltfs_server.specs.Promises.{DoesMake};
 ghost use Rattle.basic_commands.specs.Runs.{written};
 ghost use Rattle.session_run.specs.Timed.{one_moment};
@@ -43,6 +44,7 @@ pub fn run_make<
 ) -> Ended<D>
     requires few { count ≤ 1024 }
     requires since { IfSome at IsSince1970 }
+    requires allowed { MayServe D.Drive (made_script count) (one_moment at (C.one clock)) drive }
     ensures { DoesMake (one_moment at (C.one clock)) count D.Drive drive result.drive (written K.Sink out.old out.new)
         result.status result.log }
 {

@@ -10,6 +10,10 @@ ghost use Rattle.ltfs_server.specs.Promises.{DoesServe, RefusesWords};
 ghost use Rattle.basic_commands.specs.Runs.{TakesNothing, taken, written};
 ghost use Rattle.ltfs_server.specs.Sentence.{Asked, Asks, SentenceHolds};
 ghost use Rattle.session_run.specs.Timed.{one_moment};
+ghost use Rattle.session_script.specs.Made.{made_script};
+ghost use Rattle.tape_drive.specs.Crashes.{AllowsAll};
+ghost use Rattle.volume_crashes.specs.May.{MayServe};
+ghost use Rattle.ltfs_server.specs.Allowed.{MayServeLeft};
 
 use crate::making::run_make;
 use crate::serves::run_serve;
@@ -39,6 +43,13 @@ pub fn run<
     clock: C,
     gate: &G,
 ) -> Ended<D>
+    // A drive that tells its cartridge has an owner, who allows what a crash may leave of it. For `format` everything is
+    // allowed; for `serve` and `make` everything, or what the script may leave of the cartridge's tree.
+    requires formats { (asked : FormatWords) → IsFormatWords words.now.items asked → AllowsAll D.allows }
+    requires serves { (at : Option Instant) → IsServeWords words.now.items at
+        → MayServeLeft D.Drive (S.left script.old) (one_moment at (C.one clock)) drive }
+    requires makes { (count : ℕ) (at : Option Instant) → IsMakeWords words.now.items count at
+        → MayServe D.Drive (made_script count) (one_moment at (C.one clock)) drive }
     // `plain` runs the script that is left in the source on a plain tree, prints the log, and leaves the drive alone.
     ensures plain { (at : Option Instant) → IsPlainWords words.now.items at
         → DoesPlain at (C.gives clock) (taken S.Source script.old script.new) (written K.Sink out.old out.new)
@@ -110,6 +121,11 @@ fn run_asked<
     clock: C,
     gate: &G,
 ) -> Ended<D>
+    requires formats { (asked : FormatWords) → IsFormatWords words.now.items asked → AllowsAll D.allows }
+    requires serves { (at : Option Instant) → IsServeWords words.now.items at
+        → MayServeLeft D.Drive (S.left script.old) (one_moment at (C.one clock)) drive }
+    requires makes { (count : ℕ) (at : Option Instant) → IsMakeWords words.now.items count at
+        → MayServe D.Drive (made_script count) (one_moment at (C.one clock)) drive }
     ensures { DoesAsked words.now.items (C.gives clock) (C.one clock) (taken S.Source script.old script.new)
         (written K.Sink out.old out.new) D.Drive drive result.drive result.status result.log }
 {

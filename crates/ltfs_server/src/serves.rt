@@ -7,6 +7,7 @@ ghost use Rattle.tape_edge.specs.Clocks.{IsSince1970};
 ghost use Rattle.basic_commands.specs.Runs.{IsScriptIn, Taken, taken, written};
 ghost use Rattle.session_run.specs.Serving.{Whole};
 ghost use Rattle.session_run.specs.Timed.{one_moment};
+ghost use Rattle.ltfs_server.specs.Allowed.{MayServeLeft};
 ghost use Rattle.ltfs_server.specs.Promises.{DoesServe};
 ghost use Rattle.ltfs_server.specs.Serving.{end_status, told_whole};
 
@@ -40,6 +41,7 @@ pub fn run_serve<
     gate: &G,
 ) -> Ended<D>
     requires since { IfSome at IsSince1970 }
+    requires allowed { MayServeLeft D.Drive (S.left script.old) (one_moment at (C.one clock)) drive }
     ensures { DoesServe (one_moment at (C.one clock)) (taken S.Source script.old script.new) D.Drive drive result.drive
         (written K.Sink out.old out.new) result.status result.log }
 {

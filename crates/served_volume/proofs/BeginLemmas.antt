@@ -21,6 +21,7 @@ use Rattle.volume_order.specs.Kept.{seen}
 use Rattle.volume_stock.specs.Mounted.{CanStart, StartsFrom, letters_of}
 use Rattle.volume_stock.specs.Stocks.{IsStock, Stocked}
 use Rattle.volume_stock.proofs.MountLaws.{mounts_can_start}
+use Rattle.volume_crashes.specs.May.{MayStart}
 use Rattle.volume_parts.specs.Parts.{Parts, view_of}
 use Rattle.volume_calls.specs.StartLaws.{IsFresh, first_tape}
 use Rattle.volume_calls.proofs.Begun.{volumes_run}
@@ -126,13 +127,14 @@ module _ {D : Type 0} (drive : Ghosts D)
     (counts_now : (d : D) (t : ℕ) (image : Cartridge) → t ≤ drive.commands d → drive.leaves d image
     → drive.left_since d t image)
     (script : List ScriptLine) (m : Mounted) (first : D) (one next : Option Moment) (since : ℕ) (p : Parts D) where
-  begins_now : CanBegin drive script m first
+  begins_now : CanBegin drive script m first → MayStart drive m first script one since
       → IsFresh drive (fixed_of drive.held script m first p.stock.tree one since) p
       → BeginsServed drive (fixed_of drive.held script m first p.stock.tree one since) m first one next p
-  begins_now can fresh =
+  begins_now can may fresh =
       let fixed = fixed_of drive.held script m first p.stock.tree one since in
       let then = next_moment one next in
-      let b = volumes_run drive counts_now fixed then p can.sessions can.range can.mount can.mounts fresh in
+      let b = volumes_run drive counts_now fixed then p can.sessions can.range can.mount can.mounts fresh
+      (λ reads. may fixed.tree reads) in
       record {
         serving = record {
           runs = b.runs;
@@ -147,17 +149,17 @@ module _ {D : Type 0} (drive : Ghosts D)
   -- so it is with what was noted
   pub begins_served : (m' : Mounted) (first' : D) (tree' : FileTree) (one' : Option Moment) (calls sessions : ℕ)
       → IsNoted m m' first first' p.stock.tree tree' one one' → CanBegin drive script m first
-      → calls ≡ length script → sessions ≡ greatest_session script
+      → MayStart drive m first script one since → calls ≡ length script → sessions ≡ greatest_session script
       → ((fixed : Fixed D) → BeginsWith drive fixed first m calls sessions p.stock.tree → IsFresh drive fixed p)
       → BeginsServed drive (fixed_of drive.held script m' first' tree' one' since) m first one next p
-  begins_served m' first' tree' one' calls sessions noted can calls_are sessions_are fresh =
+  begins_served m' first' tree' one' calls sessions noted can may calls_are sessions_are fresh =
       let same : ◌≡◌ {A = Mounted × D × FileTree × Option Moment} (m, first, p.stock.tree, one)
       (m', first', tree', one') =
       λ i. (sym noted.mounted i, sym noted.drive i, sym noted.stock i, sym noted.clock i) in
       subst (λ (k : Mounted × D × FileTree × Option Moment).
       BeginsServed drive (fixed_of drive.held script k.0 k.1 k.2 k.3 since) m first one next p)
       same
-      (begins_now can (fresh (fixed_of drive.held script m first p.stock.tree one since) record {
+      (begins_now can may (fresh (fixed_of drive.held script m first p.stock.tree one since) record {
         first_is = refl;
         mounted_is = refl;
         calls_are = sym calls_are;

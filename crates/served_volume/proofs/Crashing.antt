@@ -34,13 +34,13 @@ use Rattle.volume_closing.proofs.Keeps.{closes_are_safe}
 use Rattle.volume_closing.proofs.Leaves.{closed_stand}
 use Rattle.served_volume.specs.Commands.{AreOpsDone, EndsWith}
 use Rattle.served_volume.specs.Finish.{AdmitsOnDp, IsAdmittedOnIp, lasts_of}
+use Rattle.served_volume.specs.May.{AreReady, MayTell}
 use Rattle.served_volume.specs.Promised.{CanClose}
 use Rattle.served_volume.proofs.Admitted as admitted
 use Rattle.served_volume.proofs.Exact.{does_there}
 use Rattle.served_volume.proofs.CloseGiven.{near, no_waits, reads_too}
-use Rattle.served_volume.proofs.Keeping.{AreReady, Survives, ends_survive, ops_survive}
+use Rattle.served_volume.proofs.Keeping.{Survives, ends_survive, ops_survive}
 use Rattle.served_volume.proofs.Mid.{fits, mid_end, mid_generation, mid_last, mid_ops}
-use Rattle.served_volume.proofs.Noting.{MayTell}
 use Rattle.served_volume.proofs.Settled.{none_done}
 use Rattle.served_volume.proofs.Still.{IsStill, mounts_tell, or_left, still}
 use Rattle.served_volume.proofs.There.{close_ops_are, closed_rests, closing_ops, planned2, there_last}
@@ -153,13 +153,27 @@ module _ {D : Type 0} (drive : Ghosts D) (fixed : Fixed D) (next : Option Moment
     q1 = safe_dp.0
 
     -- the index partition is short: only these ops are done
+    pub mid_closing : IsClosing drive v q1 mid.layout.ops p.drive
+    mid_closing = subst (λ (l : List Op). IsClosing drive v q1 l p.drive)
+        (sym (mid_ops drive fixed next at p can mid dp)) safe_dp.1.closing
+
     pub short_survives : (new : D) (result : Result Unit Twin) → AreOpsDone drive mid.layout.ops p.drive new result
         → Survives drive v new
-    short_survives new result does =
-        ops_survive drive v q1 ops1 p.drive new result
-        (subst (λ (l : List Op). AreOpsDone drive l p.drive new result) (mid_ops drive fixed next at p can mid dp)
-        does)
-        safe_dp.1.closing
+    short_survives new result does = ops_survive drive v q1 mid.layout.ops p.drive new result does mid_closing
+
+    -- what stands once the index of the index partition was admitted is left of a close, and the notes may come behind
+    pub record ClosesBy (last : Stocked) : Type 0 where
+      pub plan : Planned
+      pub closing : IsClosing drive v plan last.layout.ops p.drive
+      pub ready : AreReady drive v plan last.layout.ops (lasts_of mid) p.drive
+
+    closes_by : (last : Stocked) (ops : List Op) (q : Planned) → last.layout.ops ≡ ops → IsClosing drive v q ops p.drive
+        → AreReady drive v q ops (lasts_of mid) p.drive → ClosesBy last
+    closes_by last ops q are closing ready = record {
+      plan = q;
+      closing = subst (λ (l : List Op). IsClosing drive v q l p.drive) (sym are) closing;
+      ready = subst (λ (l : List Op). AreReady drive v q l (lasts_of mid) p.drive) (sym are) ready;
+    }
 
     -- ---- with the index of the index partition
 
@@ -213,13 +227,8 @@ module _ {D : Type 0} (drive : Ghosts D) (fixed : Fixed D) (next : Option Moment
           (done.1.dp refl ∙ sym (items_last Dp)) in
           (done.0, done.1.told, closed_rests drive fixed next at p can ops1 p.drive middle does, tells_of done.0 stands)
 
-      pub went_survives : (last : Stocked) (notes : Bool) (new : D) (result : Result Unit Twin)
-          → last.layout.ops ≡ ops2
-          → EndsWith drive last.layout.ops (lasts_of mid) notes p.drive new result → Survives drive v new
-      went_survives last notes new result are ends =
-          ends_survive drive v q2 ops2 (lasts_of mid) notes p.drive new result
-          (subst (λ (l : List Op). EndsWith drive l (lasts_of mid) notes p.drive new result) are ends) closing_last
-          went_ready
+      went_closes : (last : Stocked) → last.layout.ops ≡ ops2 → ClosesBy last
+      went_closes last are = closes_by last ops2 q2 are closing_last went_ready
 
     -- ---- without one
 
@@ -245,23 +254,22 @@ module _ {D : Type 0} (drive : Ghosts D) (fixed : Fixed D) (next : Option Moment
             still_tells q1 safe_dp.1.label,
           )
 
-      pub still_survives : (last : Stocked) (notes : Bool) (new : D) (result : Result Unit Twin) → last ≡ mid
-          → EndsWith drive last.layout.ops (lasts_of mid) notes p.drive new result → Survives drive v new
-      still_survives last notes new result same ends =
-          ends_survive drive v q1 ops1 (lasts_of mid) notes p.drive new result
-          (subst (λ (l : List Op). EndsWith drive l (lasts_of mid) notes p.drive new result)
-          (ap (λ (s : Stocked). s.layout.ops) same ∙ mid_ops drive fixed next at p can mid dp) ends)
+      still_closes : (last : Stocked) → last ≡ mid → ClosesBy last
+      still_closes last same = closes_by last ops1 q1
+          (ap (λ (s : Stocked). s.layout.ops) same ∙ mid_ops drive fixed next at p can mid dp)
           safe_dp.1.closing still_ready
 
     -- ---- either
 
+    pub last_closes : (last : Stocked) (due : Bool) → IsAdmittedOnIp g st1 at mid last due → ClosesBy last
+    last_closes last true ip = went_closes ip.1.fits last
+        (ip.1.ops
+        ∙ ap (λ (l : List Op). l ++ closing_ops drive fixed next at p can) (mid_ops drive fixed next at p can mid dp))
+    last_closes last false ip = still_closes ip.0 last ip.1
+
     pub admitted_survives : (last : Stocked) (due notes : Bool) (new : D) (result : Result Unit Twin)
         → IsAdmittedOnIp g st1 at mid last due
         → EndsWith drive last.layout.ops (lasts_of mid) notes p.drive new result → Survives drive v new
-    admitted_survives last true notes new result ip ends =
-        went_survives ip.1.fits last notes new result
-        (ip.1.ops
-        ∙ ap (λ (l : List Op). l ++ closing_ops drive fixed next at p can) (mid_ops drive fixed next at p can mid dp))
-        ends
-    admitted_survives last false notes new result ip ends =
-        still_survives ip.0 last notes new result ip.1 ends
+    admitted_survives last due notes new result ip ends =
+        let by = last_closes last due ip in
+        ends_survive drive v by.plan last.layout.ops (lasts_of mid) notes p.drive new result ends by.closing by.ready

@@ -19,7 +19,8 @@ use Rattle.volume_closing.specs.Closing.{IsAtRest}
 use Rattle.served_volume.specs.Commands as closing
 use Rattle.served_volume.specs.Commands.{DoesOps, EndsWith, IsDpNoteWritten, IsNoteWritten}
 use Rattle.served_volume.specs.Commands.{IsVcrRead, Lasts, WritesNotes, WritesNotesIf, values_of}
-use Rattle.served_volume.proofs.Noting.{MayTell, may_tell, note_rests, read_rests}
+use Rattle.served_volume.specs.May.{MayTell}
+use Rattle.served_volume.proofs.Noting.{may_tell, note_rests, read_rests}
 
 -- ---- one note has one set of values
 

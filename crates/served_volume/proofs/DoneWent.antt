@@ -39,7 +39,7 @@ use Rattle.volume_tape.proofs.Ends.{ops_append}
 use Rattle.volume_closing.specs.Indexed.{EndsWithTree, cartridge_on}
 use Rattle.volume_closing.proofs.Opened.{put_items}
 use Rattle.served_volume.specs.Commands.{Lasts, values_of}
-use Rattle.served_volume.proofs.Noting.{MayTell}
+use Rattle.served_volume.specs.May.{MayTell}
 
 -- ---- the items of a close's index
 

@@ -21,7 +21,8 @@ use Rattle.volume_closing.proofs.Keeps.{closes_are_safe}
 use Rattle.served_volume.specs.Commands as closing
 use Rattle.served_volume.specs.Commands.{AreOpsDone, DoesOps, EndsWith, FailsOp, IsDpNoteWritten, IsNoteWritten}
 use Rattle.served_volume.specs.Commands.{Lasts, WritesNotes, WritesNotesIf, values_of}
-use Rattle.served_volume.proofs.Noting.{MayTell, may_tell, note_either, note_rests, note_step, read_rests, read_step}
+use Rattle.served_volume.specs.May.{AreReady, MayTell}
+use Rattle.served_volume.proofs.Noting.{may_tell, note_either, note_rests, note_step, read_rests, read_step}
 
 module _ {D : Type 0} (drive : Ghosts D) (v : View D) where
   abbrev safe : ClosesAreSafe drive
@@ -54,7 +55,7 @@ module _ {D : Type 0} (drive : Ghosts D) (v : View D) where
 
     -- ---- notes
 
-    note_keeps : (part : Part) (values : Coherency) (old new : D) (result : Result Unit Twin) (c : Cartridge)
+    pub note_keeps : (part : Part) (values : Coherency) (old new : D) (result : Result Unit Twin) (c : Cartridge)
         → IsNoteWritten drive part values old new result → IsClosing drive v planned [] old → IsAtRest drive old
         → drive.held old ≡ Some c → values.vcr ≡ c.vcr → TellsOfLast c planned.labels.ip part values
         → IsClosing drive v planned [] new
@@ -98,11 +99,6 @@ module _ {D : Type 0} (drive : Ghosts D) (v : View D) where
 
     -- ---- all of it
 
-    -- behind the ops the notes may be written
-    abbrev pub AreReady : List Op → Lasts → D → Type 0
-    AreReady ops lasts old = (mid : D) → DoesOps drive ops old [] mid → IsClosing drive v planned [] mid
-        → (c : Cartridge) × (drive.held mid ≡ Some c) × IsAtRest drive mid × MayTell c planned.labels.ip lasts
-
     notes_if : (notes : Bool) (lasts : Lasts) (old new : D) (result : Result Unit Twin) (c : Cartridge)
         → WritesNotesIf drive lasts notes old new result → IsClosing drive v planned [] old → IsAtRest drive old
         → drive.held old ≡ Some c → MayTell c planned.labels.ip lasts → IsClosing drive v planned [] new
@@ -111,8 +107,8 @@ module _ {D : Type 0} (drive : Ghosts D) (v : View D) where
         subst (λ (d : D). IsClosing drive v planned [] d) (sym w.0) is
 
     pub ends_survive : (ops : List Op) (lasts : Lasts) (due : Bool) (old new : D) (result : Result Unit Twin)
-        → EndsWith drive ops lasts due old new result → IsClosing drive v planned ops old → AreReady ops lasts old
-        → Survives new
+        → EndsWith drive ops lasts due old new result → IsClosing drive v planned ops old
+        → AreReady drive v planned ops lasts old → Survives new
     ends_survive ops lasts due _ _ _ (closing.in_ops counts old new fails) c ready =
         fails_survive ops old new counts fails c
     ends_survive ops lasts due _ _ _ (closing.in_notes old mid new result does notes) c ready =

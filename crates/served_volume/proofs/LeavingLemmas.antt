@@ -17,7 +17,7 @@ use Rattle.volume_model.specs.declared.answers.CloseEnd.{CloseEnd}
 use Rattle.volume_order.specs.Kept.{seen}
 use Rattle.volume_order.proofs.PhaseLaw.{nothing_waits}
 use Rattle.volume_parts.specs.Parts.{Parts, view_of}
-use Rattle.served_volume.specs.Promised.{CanClose, ClosesEnd}
+use Rattle.served_volume.specs.Promised.{CanClose, ClosesEnd, IsToClose}
 use Rattle.served_volume.specs.Leaving.{IsClosed}
 use Rattle.served_volume.specs.Serving.{IsServing, next_moment}
 use Rattle.served_volume.proofs.Counting.{placed_within}
@@ -62,6 +62,18 @@ module _ {D : Type 0} (drive : Ghosts D) (fixed : Fixed D) (one next : Option Mo
 
 -- ---- a close
 
+module _ {D : Type 0} (drive : Ghosts D) (fixed : Fixed D) (one next : Option Moment) (p : Parts D) (v : View D)
+    (serving : IsServing drive fixed one next p) (is : view_of fixed (next_moment one next) p ≡ v)
+    (nothing : NothingWaits (greatest_session v.fixed.script) v.marks) where
+  pub to_close : (at : Moment) → IfSome (next_moment one next) (λ m. at ≡ m) → IsToClose drive at p
+  to_close at moment = record {
+    fixed = fixed;
+    next = next_moment one next;
+    runs = serving.runs;
+    nothing = subst (λ (w : View D). NothingWaits (greatest_session w.fixed.script) w.marks) (sym is) nothing;
+    moment = moment;
+  }
+
 module _ {D : Type 0} (drive : Ghosts D) (law : ClosesEnd drive) (fixed : Fixed D) (one next : Option Moment)
     (p : Parts D) (v : View D) (serving : IsServing drive fixed one next p)
     (is : view_of fixed (next_moment one next) p ≡ v)
@@ -69,12 +81,9 @@ module _ {D : Type 0} (drive : Ghosts D) (law : ClosesEnd drive) (fixed : Fixed 
   -- what the law asks of the volume
   can_close : (at : Moment) → IfSome (next_moment one next) (λ m. at ≡ m) → IsGood p.stock.tree
       → CanClose drive fixed (next_moment one next) at p
-  can_close at moment good = record {
-    runs = serving.runs;
-    nothing = subst (λ (w : View D). NothingWaits (greatest_session w.fixed.script) w.marks) (sym is) nothing;
-    moment = moment;
-    good = good;
-  }
+  can_close at moment good =
+      let c = to_close drive fixed one next p v serving is nothing at moment in
+      record { runs = c.runs; nothing = c.nothing; moment = c.moment; good = good }
 
   pub closes : (noted : Bool) (at : Moment) (new : D) (log : Log) (outcome : CloseEnd) (step_count travel_sum nodes : ℕ)
       → noted ≡ fixed.mounted.noted → IfSome (next_moment one next) (λ m. at ≡ m)

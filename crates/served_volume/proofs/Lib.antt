@@ -27,6 +27,7 @@ mod Given
 pub mod Keeping
 mod LeavingLemmas
 mod Made
+mod MayLemmas
 pub mod Mid
 pub mod Nodes
 pub mod Noting

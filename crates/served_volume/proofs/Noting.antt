@@ -18,13 +18,9 @@ use Rattle.crash_theory.specs.Moments.{moment_of}
 use Rattle.volume_closing.specs.Closing.{IsAtRest}
 use Rattle.volume_closing.proofs.Keeps.{closes_are_safe}
 use Rattle.served_volume.specs.Commands.{IsNoteWritten, IsVcrRead, Lasts, values_of}
+use Rattle.served_volume.specs.May.{MayTell}
 
 -- ---- what notes may tell
-
--- both notes may tell of the last indexes, whatever the volume change reference is
-pub record MayTell (c : Cartridge) (label : Label) (lasts : Lasts) : Type 0 where
-  pub ip : (vcr : ℕ) → TellsOfLast c label Ip (values_of lasts vcr lasts.on_ip)
-  pub dp : (vcr block : ℕ) → lasts.on_dp ≡ Some block → TellsOfLast c label Dp (values_of lasts vcr block)
 
 module _ (c d : Cartridge) (label : Label) (ip_is : d.ip ≡ c.ip) (dp_is : d.dp ≡ c.dp) where
   last_same : (part : Part) (note : Coherency) → TellsOfLast c label part note → TellsOfLast d label part note

@@ -80,7 +80,7 @@ module _ {D : Type 0} (drive : Ghosts D) (fixed : Fixed D) (next : Option Moment
   -- ---- a step
 
   pub can_step : CanStep drive p
-  can_step = steps_can_be_made drive fixed runs.plan runs.planned next p runs.kept runs.tied
+  can_step = steps_can_be_made drive fixed runs.plan runs.planned next p runs.kept runs.tied runs.allowed
 
   limits_are : p.stock.layout.limits ≡ drive.limits p.drive
   limits_are = ap (λ (l : Layout). l.limits) runs.tied.stock.layout ∙ sym runs.kept.order.orderly.limits

@@ -29,7 +29,7 @@ use Rattle.served_volume.specs.Commands.{Lasts}
 use Rattle.served_volume.specs.Promised.{CanClose}
 use Rattle.served_volume.proofs.Admitted as admitted
 use Rattle.served_volume.proofs.Ended.{ends_at_last}
-use Rattle.served_volume.proofs.Noting.{MayTell}
+use Rattle.served_volume.specs.May.{MayTell}
 use Rattle.served_volume.proofs.Unchanged.{unchanged}
 use Rattle.volume_crashes.proofs.Bridge.{some_same}
 

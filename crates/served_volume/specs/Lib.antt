@@ -5,6 +5,7 @@ pub mod Doing
 pub mod Drains
 pub mod Finish
 pub mod Leaving
+pub mod May
 pub mod Promised
 pub mod Serving
 pub mod Turns

@@ -19,6 +19,14 @@ use Rattle.volume_parts.specs.Parts.{Parts, view_of}
 use Rattle.volume_calls.specs.Running.{IsRunning}
 use Rattle.served_volume.specs.Finish.{Finishes}
 
+-- nothing waits in a volume that runs, and the clock gives this moment
+pub record IsToClose {D : Type 0} (drive : Ghosts D) (at : Moment) (p : Parts D) : Type 0 where
+  pub fixed : Fixed D
+  pub next : Option Moment
+  pub runs : IsRunning drive fixed next p
+  pub nothing : NothingWaits (greatest_session fixed.script) p.listed.marks
+  pub moment : IfSome next (λ m. at ≡ m)
+
 -- Nothing waits in a volume that runs, its tree is such as an index may tell, and the clock gives this moment.
 pub record CanClose {D : Type 0} (drive : Ghosts D) (fixed : Fixed D) (next : Option Moment) (at : Moment) (p : Parts D)
     : Type 0 where

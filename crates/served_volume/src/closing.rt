@@ -3,7 +3,7 @@
 ghost use Rattle.std.specs.Prelude.{◌≡◌, ◌≤◌, [], true, All, is_some, length, vec_capacity};
 ghost use Rattle.volume_core.specs.Seen.{seen_parts};
 ghost use Rattle.served_volume.specs.Leaving.{IsClosed};
-ghost use Rattle.served_volume.specs.Turns.{Runs};
+ghost use Rattle.served_volume.specs.Promised.{IsToClose};
 
 use crate::costs::costs_of;
 use crate::finishing::finish;
@@ -17,7 +17,7 @@ use volume_model::{Closed, Left};
 /// Makes the commands of a close at a moment, and gives back the drive with the log, what that has cost, and how many
 /// nodes the tree has. The replies of the log, which are all there, are moved into a vector that has room for them.
 pub fn close<D: Drive>(parts: Parts<D>, noted: bool, at: Moment, told: Vec<Reply>) -> Closed<D>
-    requires runs { Runs D.Drive (seen_parts parts) }
+    requires can { IsToClose D.Drive at (seen_parts parts) }
     requires there { All (λ r. is_some r ≡ true) parts.placements.replies }
     requires empty { told.items ≡ [] }
     requires room { length parts.placements.replies ≤ vec_capacity told }

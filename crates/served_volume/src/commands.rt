@@ -5,6 +5,7 @@ ghost use Rattle.head_core.specs.Steps.{IsOpStep};
 ghost use Rattle.tape_layout.specs.declared.ops.Op.{Op as Standing};
 ghost use Rattle.served_volume.specs.Commands.{AreOpsDone, EndsWith};
 ghost use Rattle.served_volume.specs.Doing.{CanDoAll, IsOneDone, lasts_in};
+ghost use Rattle.served_volume.specs.May.{MayDoAll, MayEnd};
 
 use crate::notes::{Last, write_notes_if};
 use head_core::{Head, StepDone, Work};
@@ -19,7 +20,8 @@ pub fn end_with<D: Drive>(
     last: Last,
     notes: bool,
 ) -> Result<(), Twin>
-    requires { CanDoAll D.Drive stock.old.layout.ops head.old.drive }
+    requires can { CanDoAll D.Drive stock.old.layout.ops head.old.drive }
+    requires may { MayEnd D.Drive stock.old.layout.ops (lasts_in last) head.old.drive }
     ensures { EndsWith D.Drive stock.old.layout.ops (lasts_in last) notes head.old.drive head.new.drive result }
 {
     match do_ops(head, stock) {
@@ -30,7 +32,8 @@ pub fn end_with<D: Drive>(
 
 /// Does all ops that stand, up to one that fails.
 pub fn do_ops<D: Drive>(head: &mut Head<D>, stock: &mut Stock) -> Result<(), Twin>
-    requires { CanDoAll D.Drive stock.old.layout.ops head.old.drive }
+    requires can { CanDoAll D.Drive stock.old.layout.ops head.old.drive }
+    requires may { MayDoAll D.Drive stock.old.layout.ops head.old.drive }
     ensures { AreOpsDone D.Drive stock.old.layout.ops head.old.drive head.new.drive result }
 {
     while stock.waiting() > 0 {
@@ -46,6 +49,7 @@ pub fn do_ops<D: Drive>(head: &mut Head<D>, stock: &mut Stock) -> Result<(), Twi
 fn do_first<D: Drive>(head: &mut Head<D>, stock: &mut Stock) -> Result<(), Twin>
     requires some { 1 ≤ length stock.old.layout.ops }
     requires can { CanDoAll D.Drive stock.old.layout.ops head.old.drive }
+    requires may { MayDoAll D.Drive stock.old.layout.ops head.old.drive }
     ensures { (op : Standing) × (later : List Standing) × (stock.old.layout.ops ≡ op ∷ later)
         × IsOneDone D.Drive op later stock.new.layout.ops head.old.drive head.new.drive result }
 {

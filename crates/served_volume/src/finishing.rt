@@ -4,10 +4,10 @@ ghost use Rattle.std.specs.Prelude.{◌≡◌, ◌+◌, ◌||◌, not, Option};
 ghost use Rattle.tape_types.specs.declared.moments.Moment.{Moment as Instant};
 ghost use Rattle.tape_layout.specs.Plans.{AreStanding};
 ghost use Rattle.volume_model.specs.Served.{Fixed};
-ghost use Rattle.volume_calls.specs.Running.{IsRunning};
 ghost use Rattle.volume_core.specs.Seen.{seen_parts};
 ghost use Rattle.served_volume.specs.Doing.{lasts_in};
 ghost use Rattle.served_volume.specs.Finish.{Finishes, close_end, lasts_of, short_end};
+ghost use Rattle.served_volume.specs.Promised.{CanClose};
 
 use crate::commands::{do_ops, end_with};
 use crate::notes::Last;
@@ -22,7 +22,7 @@ use volume_stock::Stock;
 /// tell of the last indexes, where one went to the index partition or they weren't right at the mount. A command that
 /// failed is the last one.
 pub fn finish<D: Drive>(parts: &mut Parts<D>, noted: bool, at: Moment) -> CloseEnd
-    requires { (fixed : Fixed D) × (next : Option Instant) × IsRunning D.Drive fixed next (seen_parts parts.old) }
+    requires { (fixed : Fixed D) × (next : Option Instant) × CanClose D.Drive fixed next at (seen_parts parts.old) }
     ensures finishes { Finishes D.Drive noted at (seen_parts parts.old).stock (seen_parts parts.old).drive
         (seen_parts parts.new).drive result }
     ensures placements { parts.new.placements ≡ parts.old.placements }

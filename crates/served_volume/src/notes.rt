@@ -3,6 +3,7 @@
 ghost use Rattle.std.specs.Prelude.{◌≡◌};
 ghost use Rattle.served_volume.specs.Commands.{IsDpNoteWritten, IsNoteWritten, WritesNotes, WritesNotesIf, values_of};
 ghost use Rattle.served_volume.specs.Doing.{lasts_in};
+ghost use Rattle.served_volume.specs.May.{MayWriteDpNote, MayWriteNote, MayWriteNotes};
 
 use coherency::{Coherency, encode_note};
 use head_core::Head;
@@ -21,6 +22,7 @@ pub struct Last {
 
 /// Writes the notes where they are due.
 pub fn write_notes_if<D: Drive>(head: &mut Head<D>, last: Last, due: bool) -> Result<(), Twin>
+    requires may { MayWriteNotes D.Drive (lasts_in last) head.old.drive }
     ensures { WritesNotesIf D.Drive (lasts_in last) due head.old.drive head.new.drive result }
 {
     if !due {
@@ -31,6 +33,7 @@ pub fn write_notes_if<D: Drive>(head: &mut Head<D>, last: Last, due: bool) -> Re
 
 /// Reads the volume change reference, and writes the note of the index partition and that of the data partition.
 fn write_notes<D: Drive>(head: &mut Head<D>, last: Last) -> Result<(), Twin>
+    requires may { MayWriteNotes D.Drive (lasts_in last) head.old.drive }
     ensures { WritesNotes D.Drive (lasts_in last) head.old.drive head.new.drive result }
 {
     let vcr = match head.vcr() {
@@ -45,6 +48,7 @@ fn write_notes<D: Drive>(head: &mut Head<D>, last: Last) -> Result<(), Twin>
 
 /// Writes the note of the data partition, where that has an index.
 fn write_dp_note<D: Drive>(head: &mut Head<D>, last: Last, vcr: u64) -> Result<(), Twin>
+    requires may { MayWriteDpNote D.Drive (lasts_in last) vcr head.old.drive }
     ensures { IsDpNoteWritten D.Drive (lasts_in last) vcr head.old.drive head.new.drive result }
 {
     match last.on_dp {
@@ -67,6 +71,7 @@ fn values(last: Last, vcr: u64, block: u64) -> Coherency
 
 /// Writes a note with these values on a partition.
 fn write_note<D: Drive>(head: &mut Head<D>, part: Part, values: Coherency) -> Result<(), Twin>
+    requires may { MayWriteNote D.Drive part values head.old.drive }
     ensures { IsNoteWritten D.Drive part values head.old.drive head.new.drive result }
 {
     let note = encode_note(&values);

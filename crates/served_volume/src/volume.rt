@@ -11,6 +11,7 @@ ghost use Rattle.volume_model.specs.Served.{IsServed};
 ghost use Rattle.volume_model.specs.Steps.{DrainsOnce, Turns};
 ghost use Rattle.volume_model.specs.Submits.{CanSubmit, Submits};
 ghost use Rattle.volume_order.specs.Kept.{seen};
+ghost use Rattle.volume_crashes.specs.May.{MayStart};
 ghost use Rattle.served_volume.specs.Serving.{next_moment};
 
 use crate::closing::close;
@@ -90,6 +91,7 @@ impl<D: Drive, C: Clock> Volume<D, C> {
         requires mounts { IfSome (D.held drive) (λ c. Mounts c mounted) }
         requires mount { IsMount (D.limits drive) mounted }
         requires reached { since.value ≤ D.commands drive }
+        requires allowed { MayStart D.Drive mounted drive script (C.one clock) since.value }
         ensures err { IfErr result (λ k. (k.drive ≡ drive) × (k.clock ≡ clock)) }
         ensures ok { IfOk result (λ v. Starts cartridges (seen D.Drive drive) mounted drive script since.value
             (next_moment (C.one clock) (C.next clock)) (C.one clock) v) }

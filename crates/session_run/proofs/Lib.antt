@@ -1,3 +1,4 @@
+pub mod Allowed
 pub mod Running
 pub mod ServingSteps
 pub mod Whole

@@ -3,6 +3,7 @@
 ghost use Rattle.std.specs.Prelude.{◌≡◌, ◌≤◌, ◌-◌, ◌^◌, IfSome};
 ghost use Rattle.tape_meaning.specs.Mounts.{IsMount, Mounts};
 ghost use Rattle.volume_model.specs.Ends.{begun};
+ghost use Rattle.volume_crashes.specs.May.{MayServe, MayStart};
 ghost use Rattle.session_run.specs.Serving.{IsBegun, IsLookedAt, Whole};
 
 use crate::ends::{ServeEnd, Served, mount_end, of_close};
@@ -20,7 +21,8 @@ use tape_meaning::Mounted;
 use volume_model::Kept;
 use volume_runs::plays_are_runs;
 
-/// Mounts the cartridge in a drive, runs all sessions of a script on its volume, and closes the volume.
+/// Mounts the cartridge in a drive, runs all sessions of a script on its volume, and closes the volume. Each command is
+/// made only where the owner of the drive allows all that a crash may leave of it.
 pub fn serve_volume<R: Threads + Wait + Sync, D: Drive + Send, C: Clock + Send, G: Gate + Sync>(
     rt: &R,
     alloc: Global,
@@ -29,6 +31,7 @@ pub fn serve_volume<R: Threads + Wait + Sync, D: Drive + Send, C: Clock + Send, 
     script: Script,
     gate: &G,
 ) -> Served<D>
+    requires allowed { MayServe D.Drive script (C.one clock) drive }
     ensures { Whole D.Drive drive (C.one clock) script result }
 {
     let _capacities_are_in_range = drive.limits();
@@ -59,6 +62,7 @@ fn serve_mounted<R: Threads + Wait + Sync, D: Drive + Send, C: Clock + Send, G: 
     requires mounts { IfSome (D.held drive) (λ c. Mounts c mounted) }
     requires mount { IsMount (D.limits drive) mounted }
     requires reached { since.value ≤ D.commands drive }
+    requires allowed { MayStart D.Drive mounted drive script (C.one clock) since.value }
     ensures { (start : D) → D.faults start ≤ 2 ^ 64 - 1 → IsLookedAt D.Drive start drive
         → since.value ≡ D.commands start → Whole D.Drive start (C.one clock) script result }
 {

@@ -33,6 +33,14 @@ abbrev pub WithinDurably : Part → ℕ → Item → (held before image : Cartri
 WithinDurably part pos x held before image =
     WithinWrite part pos x held before image ⊎ IsWritten part pos x held image
 
+-- every image that a crash may leave within a command of such a step, or after it, is allowed
+abbrev pub LeavesAllowed : (step : Cartridge → Cartridge → Type 0) → (leaves allows : Cartridge → Type 0) → Type 0
+LeavesAllowed step leaves allows = (before image : Cartridge) → leaves before → step before image → allows image
+
+-- everything is allowed
+abbrev pub AllowsAll : (Cartridge → Type 0) → Type 0
+AllowsAll allows = (image : Cartridge) → allows image
+
 -- an image has the volume change reference and both attributes as they read
 pub record HasState (held image : Cartridge) : Type 0 where
   pub vcr : image.vcr ≡ held.vcr

@@ -111,6 +111,8 @@ impl Drive for MemDrive {
 
     ghost left_since = { λ m t image. LeftSince m.commands m.held m.acts t image };
 
+    ghost allows = { λ image. Unit {0} };
+
     ghost only_now = { λ m image lt h. laws.only_now m.commands m.held m.acts image lt h };
 
     ghost counts_now = { λ m t image le h. laws.counts_now m.commands m.held m.acts t image h };

@@ -11,6 +11,7 @@ ghost use Rattle.tape_types.specs.Counts.{HasCause};
 ghost use Rattle.tape_drive.specs.Commands.{HasRoom, Counted, item_at, IsRead, FillsBuffer, after_read, AfterWrite};
 ghost use Rattle.tape_drive.specs.Commands.{AfterNote};
 ghost use Rattle.tape_drive.specs.Crashes.{WithinWrite, WithinNote, WithinFlush, NothingNew, Crashes, IsSure, IsSettled};
+ghost use Rattle.tape_drive.specs.Crashes.{LeavesAllowed};
 
 use tape_types::{Limits, Note, Part, Place};
 
@@ -60,6 +61,9 @@ pub trait Drive: Drop {
 
     // What a crash may have left, at this moment or at an earlier one since the number of commands reached this.
     ghost left_since: { Self → ℕ → Cartridge → Type 0 };
+
+    // What the owner of such a drive allows a crash to leave.
+    ghost allows: { Cartridge → Type 0 };
 
     /// The capacities, of 4 to 2^40 positions each.
     fn limits(&self) -> Limits
@@ -114,6 +118,8 @@ pub trait Drive: Drop {
         requires located { HasRoom (head self.old) (limits self.old) }
         requires some { 1 ≤ length bytes.now }
         requires size { length bytes.now ≤ 1048576 }
+        requires allowed { (at : Place) (c : Cartridge) → head self.old ≡ Some at → held self.old ≡ Some c
+            → LeavesAllowed (WithinWrite at.part at.pos (item.Block bytes.now) c) (leaves self.old) allows }
         ensures head { (at : Place) → head self.old ≡ Some at → OnOk result (head self.new ≡ Some (next at)) }
         ensures lost { OnErr result (head self.new ≡ None) }
         ensures told { (at : Place) (c : Cartridge) → head self.old ≡ Some at → held self.old ≡ Some c
@@ -132,6 +138,8 @@ pub trait Drive: Drop {
     /// Cuts the partition at the head, and appends a file mark.
     fn mark(&mut self) -> Result<(), DriveErr>
         requires located { HasRoom (head self.old) (limits self.old) }
+        requires allowed { (at : Place) (c : Cartridge) → head self.old ≡ Some at → held self.old ≡ Some c
+            → LeavesAllowed (WithinWrite at.part at.pos item.Mark c) (leaves self.old) allows }
         ensures head { (at : Place) → head self.old ≡ Some at → OnOk result (head self.new ≡ Some (next at)) }
         ensures lost { OnErr result (head self.new ≡ None) }
         ensures told { (at : Place) (c : Cartridge) → head self.old ≡ Some at → held self.old ≡ Some c
@@ -149,6 +157,8 @@ pub trait Drive: Drop {
 
     /// Makes both partitions durable as they read.
     fn flush(&mut self) -> Result<(), DriveErr>
+        requires allowed { (c : Cartridge) → held self.old ≡ Some c
+            → LeavesAllowed (WithinFlush c) (leaves self.old) allows }
         ensures sure { OnOk result (IsSure (held self.new) (leaves self.new)) }
         ensures head { OnOk result (head self.new ≡ head self.old) }
         ensures lost { OnErr result (head self.new ≡ None) }
@@ -174,6 +184,8 @@ pub trait Drive: Drop {
 
     /// Writes the coherency attribute of a partition.
     fn write_note(&mut self, part: Part, note: &[u8; 70]) -> Result<(), DriveErr>
+        requires allowed { (c : Cartridge) → held self.old ≡ Some c
+            → LeavesAllowed (WithinNote part (kind.Kept note.now)) (leaves self.old) allows }
         ensures told { (c : Cartridge) → held self.old ≡ Some c → (d : Cartridge) × (held self.new ≡ Some d)
             × AfterNote result part (kind.Kept note.now) c d }
         ensures untold { held self.old ≡ None → held self.new ≡ None }

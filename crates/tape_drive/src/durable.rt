@@ -5,7 +5,7 @@ ghost use Rattle.tape_types.specs.declared.cartridges.Item.TheVariants as item;
 ghost use Rattle.tape_types.specs.Cartridges.{items_of, capacity};
 ghost use Rattle.tape_types.specs.Counts.{HasCause};
 ghost use Rattle.tape_drive.specs.Commands.{Counted, item_at};
-ghost use Rattle.tape_drive.specs.Crashes.{Crashes, WithinDurably};
+ghost use Rattle.tape_drive.specs.Crashes.{Crashes, LeavesAllowed, WithinDurably};
 
 use crate::drive::{Drive, DriveErr};
 use tape_types::Place;
@@ -17,6 +17,8 @@ pub fn write_durably<D: Drive>(drive: &mut D, place: Place, bytes: &[u8]) -> Res
     requires room { place.pos < capacity place.part (D.limits drive.old) }
     requires some { 1 ≤ length bytes.now }
     requires size { length bytes.now ≤ 1048576 }
+    requires allowed { (c : Cartridge) → D.held drive.old ≡ Some c
+        → LeavesAllowed (WithinDurably place.part place.pos (item.Block bytes.now) c) (D.leaves drive.old) D.allows }
     ensures kept { IfOk result (λ t. (c image : Cartridge) → D.held drive.old ≡ Some c → t < 2 ^ 64 - 1
         → D.left_since drive.new t image → item_at place image ≡ Some (item.Block bytes.now)) }
     // A crash at any moment of the call leaves what one could leave before, or what it may leave within the write, or

@@ -53,7 +53,7 @@ module _ {D : Type 0} (drive : Ghosts D) (fixed : Fixed D) where
 module _ {D : Type 0} (drive : Ghosts D)
     (counts_now : (d : D) (t : ℕ) (image : Cartridge) → t ≤ drive.commands d → drive.leaves d image → drive.left_since d t image) where
   pub volumes_run : VolumesRun drive
-  volumes_run fixed next p sessions range mount mounts fresh =
+  volumes_run fixed next p sessions range mount mounts fresh allowed =
       let b = beginnings_are_tied drive counts_now fixed next p sessions range mount mounts fresh in
       record {
         starts = record {
@@ -74,5 +74,6 @@ module _ {D : Type 0} (drive : Ghosts D)
               (λ can. subst (IsSafeNow drive (b.plan can) (drive.limits fixed.first))
               (view_begun drive fixed next p fresh) (b.kept.safe can))
               (items_at drive fixed next p fresh b.planned b.tied (mounts_at drive fixed mounts)));
+          allowed = allowed b.reads_as;
         };
       }

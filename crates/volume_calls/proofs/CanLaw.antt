@@ -1,7 +1,7 @@
 -- Of a volume that is tied the next step can be made.
 use Rattle.std.specs.Prelude.{◌≡◌, ◌⊎◌, ◌==◌, ◌&&◌, ◌||◌, ◌^◌, ℕ, ◌+◌, ◌≤◌, ◌<◌, Bool, true, false, cond, List, [], ◌∷◌, ◌++◌, length, map, Option, Some, None, IfSome, slice_get}
 use Rattle.std.specs.List.{list_any}
-use Rattle.std.proofs.Common.{inl, inr, refl, sym, ap, subst, ◌∙◌, arith, length-append}
+use Rattle.std.proofs.Common.{⊎_elim, inl, inr, refl, sym, ap, subst, ◌∙◌, arith, length-append}
 use Rattle.std.proofs.lemmas.Bool.{cases_Bool, eq-eqb, ne_eqb, or_left, or_right}
 use Rattle.std.proofs.lemmas.List.{map-append}
 use Rattle.tape_types.specs.Cartridges.{IsLimits, capacity, items_of}
@@ -11,16 +11,21 @@ use Rattle.tape_types.specs.declared.cartridges.Part.{Part}
 use Rattle.tape_types.specs.declared.cartridges.Part.TheVariants.{Ip, Dp}
 use Rattle.tape_types.specs.declared.cartridges.Place.{Place}
 use Rattle.tape_types.specs.declared.moments.Moment.{Moment}
+use Rattle.tape_drive.specs.Crashes.{AllowsAll, LeavesAllowed}
 use Rattle.tape_drive.specs.declared.drive.Drive.{Ghosts}
-use Rattle.head_core.specs.Steps.{CanDo, IsInReach}
+use Rattle.head_core.specs.Steps.{CanDo, IsInReach, MayDo, WithinOp}
 use Rattle.head_queue.specs.Waiting.{request}
 use Rattle.head_trail.specs.Waiting as waiting
 use Rattle.head_trail.specs.Waiting.{Request, State, Waiter, first_of, is_calm, waiting_op}
+use Rattle.tape_meaning.specs.Carried.{carried}
 use Rattle.tape_layout.specs.Ops.{HasRoom, end_of, place_of}
 use Rattle.tape_layout.specs.declared.ops.Op.{Op}
 use Rattle.tape_layout.specs.declared.ops.Op.TheVariants.{Flush, Mark, Put}
 use Rattle.volume_model.specs.Served.{Fixed, headed, is_waiting}
-use Rattle.volume_crashes.specs.Safe.{items_by}
+use Rattle.volume_crashes.specs.Laws.{CanServe}
+use Rattle.volume_crashes.specs.May.{AllowsServed, IsAllowed}
+use Rattle.volume_crashes.specs.Safe.{items_by, space_now}
+use Rattle.volume_crashes.proofs.May.{steps_may}
 use Rattle.volume_journal.specs.Trails.{due_ticket, first_waiter, longest, state}
 use Rattle.volume_journal.specs.declared.trails.Waiter.TheVariants as waiters
 use Rattle.volume_laws.specs.Kept.{IsKept, Plan}
@@ -173,17 +178,40 @@ module _ {D : Type 0} (drive : Ghosts D) (fixed : Fixed D) (plan : Plan drive fi
       (or_right (list_any (λ (q : Request). q.ticket == ticket) st.requests) (list_any (λ (s : Waiter). s.ticket == ticket) st.syncs)
       (sync_waits st st.syncs st.drains ticket e))
 
-  can_step : CanStep drive p
-  can_step = record {
-    some = λ k h none. some_waits st p.stock.layout.ops k (are_due p.trail.events) tied.none_due kept.order.orderly.standing
-        (sym tied.queue ∙ ap (map request) none) h;
-    waiting = λ op later first. calm_or_first st p.stock.layout.ops op later kept.order.orderly.standing first (cases_Bool (is_calm st));
-    none = λ none. none_waits st p.stock.layout.ops kept.order.orderly.standing none;
-    op = λ op later size first room le. can_do op (drive.limits p.drive) (drive.held p.drive) size room le (within_op op later first);
-    near = near_op;
-    request = λ ticket place r. (in_reach ticket place r, near ticket place r, reading ticket place r, unanswered ticket place r);
-    sync = sync_unanswered;
-  }
+  -- ---- what may be left
+
+  module _ (allowed : IsAllowed drive fixed) where
+    -- what a crash may leave of an op is allowed: all is, or what the script may leave
+    may_op : (op : Op) (later : List Op) → p.stock.layout.ops ≡ op ∷ later → MayDo drive op p.drive
+    may_op op later first c told = by (drive.held fixed.first) refl
+      where
+        by : (held : Option Cartridge) → drive.held fixed.first ≡ held
+            → LeavesAllowed (WithinOp op c) (drive.leaves p.drive) drive.allows
+        by None none =
+            let wrong : None ≡ Some c = sym (kept.order.orderly.untold none) ∙ told in
+            absurd (cc)
+        by (Some b) is = ⊎_elim
+            (λ (all : AllowsAll drive.allows). λ before image left within. all image)
+            (λ (it : CanServe drive fixed
+            × AllowsServed drive.allows fixed.script fixed.moment (carried fixed.mounted.index) fixed.tree).
+            steps_may drive (plan it.0) (space_now (drive.limits fixed.first) (view_of fixed next p))
+            (view_of fixed next p) op later (kept.safe it.0) first kept.order.orderly.placed kept.order.orderly.moments
+            it.1 c told)
+            (allowed b is)
+
+    can_step : CanStep drive p
+    can_step = record {
+      some = λ k h none. some_waits st p.stock.layout.ops k (are_due p.trail.events) tied.none_due kept.order.orderly.standing
+          (sym tied.queue ∙ ap (map request) none) h;
+      waiting = λ op later first. calm_or_first st p.stock.layout.ops op later kept.order.orderly.standing first (cases_Bool (is_calm st));
+      none = λ none. none_waits st p.stock.layout.ops kept.order.orderly.standing none;
+      op = λ op later size first room le. can_do op (drive.limits p.drive) (drive.held p.drive) size room le (within_op op later first);
+      near = near_op;
+      may = may_op;
+      request = λ ticket place r. (in_reach ticket place r, near ticket place r, reading ticket place r, unanswered ticket place r);
+      sync = sync_unanswered;
+    }
 
 pub steps_can_be_made : {D : Type 0} (drive : Ghosts D) → StepsCanBeMade drive
-steps_can_be_made drive fixed plan planned next p kept tied = can_step drive fixed plan planned next p kept tied
+steps_can_be_made drive fixed plan planned next p kept tied allowed =
+    can_step drive fixed plan planned next p kept tied allowed

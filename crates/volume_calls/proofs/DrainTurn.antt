@@ -71,6 +71,7 @@ module _ {D : Type 0} (drive : Ghosts D)
             who answer drains e.once run.writes;
         answers = e.answers;
         closes = closes_on after answer new e;
+        allowed = run.allowed;
       },
     )
 

@@ -169,5 +169,6 @@ module _ {D : Type 0} (drive : Ghosts D)
               due_with drive fixed runs.planned before placed.at old runs.tied c.good
               (placed_within first v w who nth answer shown.submits.placing (shown.rightly.truth can)
               placed history done calls.Sync is) changed p items label_is);
+          allowed = runs.allowed;
         },
       )

@@ -99,6 +99,7 @@ module _ {D : Type 0} (drive : Ghosts D)
       closes = turned_ready drive fixed next next runs.plan runs.planned old new t.added runs.closes
           (record { way = runs.tied.way; driven = driven; still = t.step.counts.still; fixed = refl; on = t.step.on })
           t.history;
+      allowed = runs.allowed;
     },
   )
 

@@ -6,6 +6,8 @@ use Rattle.tape_drive.specs.declared.drive.Drive.{Ghosts}
 use Rattle.plain_tree.specs.declared.calls.Call.{Call}
 use Rattle.session_script.specs.Sessions.{HasSessions}
 use Rattle.tape_layout.specs.declared.ops.Op.{Op}
+use Rattle.tape_meaning.specs.Carried.{carried}
+use Rattle.tape_meaning.specs.Meaning.{Reads}
 use Rattle.tape_meaning.specs.Mounts.{IsMount, Mounts}
 use Rattle.file_tree.specs.Valid.{IsGood}
 use Rattle.volume_model.specs.Ends.{Starts}
@@ -20,6 +22,7 @@ use Rattle.volume_model.specs.declared.answers.Drained.TheVariants as the_draine
 use Rattle.volume_model.specs.declared.answers.Submitted.{Submitted}
 use Rattle.volume_model.specs.declared.answers.Submitted.TheVariants as submitted
 use Rattle.volume_model.specs.declared.answers.Turn.{Turn}
+use Rattle.volume_crashes.specs.May.{IsAllowed}
 use Rattle.volume_order.specs.Kept.{seen}
 use Rattle.volume_order.specs.Sides.{AsksOneMoment, HasOneMoment}
 use Rattle.volume_parts.specs.Parts.{Parts, view_of}
@@ -34,7 +37,7 @@ abbrev pub RunningIsPromised : {D : Type 0} → Ghosts D → Type 0
 RunningIsPromised {D} drive = (fixed : Fixed D) (next : Option Moment) (p : Parts D) → IsRunning drive fixed next p
     → IsServed cartridges (seen drive fixed.first) (seen drive p.drive) (view_of fixed next p)
 
--- a volume that was mounted runs, and it starts as is promised
+-- A volume that was mounted runs, and it starts as is promised; its tree is one as which the cartridge reads.
 pub record BeginsRunning {D : Type 0} (drive : Ghosts D) (fixed : Fixed D) (next : Option Moment) (p : Parts D)
     : Type 0 where
   pub starts : Starts cartridges (seen drive fixed.first) fixed.mounted fixed.first fixed.script fixed.since next
@@ -45,6 +48,8 @@ abbrev pub VolumesRun : {D : Type 0} → Ghosts D → Type 0
 VolumesRun {D} drive = (fixed : Fixed D) (next : Option Moment) (p : Parts D) → HasSessions fixed.script
     → IsLimits (drive.limits fixed.first) → IsMount (drive.limits fixed.first) fixed.mounted
     → IfSome (drive.held fixed.first) (λ c. Mounts c fixed.mounted) → IsFresh drive fixed p
+    → (IfSome (drive.held fixed.first) (λ c. Reads c (carried fixed.mounted.index) fixed.tree fixed.mounted.newest)
+    → IsAllowed drive fixed)
     → BeginsRunning drive fixed next p
 
 -- ---- submissions

@@ -14,6 +14,7 @@ use Rattle.tape_meaning.specs.Pointers.{indexes_of}
 use Rattle.volume_model.specs.Served.{Fixed, View}
 use Rattle.volume_truth.specs.Draining.{DrainsForWrites}
 use Rattle.volume_crashes.specs.Laws.{CanServe}
+use Rattle.volume_crashes.specs.May.{IsAllowed}
 use Rattle.volume_crashes.specs.Safe.{space_now}
 use Rattle.volume_laws.specs.Kept.{CanRead, IsKept, Plan}
 use Rattle.volume_closing.specs.Indexed.{IsIndexed}
@@ -49,7 +50,8 @@ pub record IsReadyToClose {D : Type 0} (drive : Ghosts D) (fixed : Fixed D) (pla
   pub indexed : CanRead drive fixed → IsIndexed planned (drive.limits fixed.first) v
 
 -- All that is promised of the volume is kept, with a plan; its parts are tied, on a tape that is that plan; a session
--- drains for a write alone; the answers of reads are kept until they are handed out; and it can be closed.
+-- drains for a write alone; the answers of reads are kept until they are handed out; it can be closed; and the owner of
+-- its drive allows what its script may leave.
 pub record IsRunning {D : Type 0} (drive : Ghosts D) (fixed : Fixed D) (next : Option Moment) (p : Parts D)
     : Type 0 where
   pub planned : Items
@@ -60,3 +62,4 @@ pub record IsRunning {D : Type 0} (drive : Ghosts D) (fixed : Fixed D) (next : O
   pub writes : DrainsForWrites (view_of fixed next p)
   pub answers : HasAnswers p
   pub closes : IsReadyToClose drive fixed plan planned (view_of fixed next p)
+  pub allowed : IsAllowed drive fixed

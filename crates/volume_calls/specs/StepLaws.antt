@@ -4,7 +4,7 @@ use Rattle.tape_types.specs.declared.moments.Moment.{Moment}
 use Rattle.tape_types.specs.declared.cartridges.Place.{Place}
 use Rattle.tape_drive.specs.declared.drive.Drive.{Ghosts}
 use Rattle.session_script.specs.declared.logs.Event.{Event}
-use Rattle.head_core.specs.Steps.{CanDo, IsInReach}
+use Rattle.head_core.specs.Steps.{CanDo, IsInReach, MayDo}
 use Rattle.head_trail.specs.Trail.{steps}
 use Rattle.head_trail.specs.Waiting.{is_calm, waiting_op}
 use Rattle.tape_layout.specs.Ops.{HasRoom, place_of}
@@ -17,6 +17,7 @@ use Rattle.volume_order.specs.Sides.{TurnsInOrder}
 use Rattle.volume_truth.specs.Within.{AnswersTruly}
 use Rattle.volume_crashes.specs.Changes.{AreDriven}
 use Rattle.volume_crashes.specs.Laws.{CanServe}
+use Rattle.volume_crashes.specs.May.{IsAllowed}
 use Rattle.volume_journal.specs.Trails.{first_waiter, state}
 use Rattle.volume_journal.specs.declared.trails.Waiter.TheVariants as waiters
 use Rattle.volume_laws.specs.Kept.{CanRead, IsKept, Plan}
@@ -50,7 +51,7 @@ StepsShow {D} drive = (fixed : Fixed D) (plan : Plan drive fixed) (planned : Ite
 
 -- ---- that a step can be made
 
--- What the head needs of a volume that is kept and tied.
+-- What the head needs of a volume that is kept and tied, and of which the drive's owner allows what it may leave.
 pub record CanStep {D : Type 0} (drive : Ghosts D) (p : Parts D) : Type 0 where
   -- where a reply has still to come, or a session drains, there is something to pick
   pub some : (k : ℕ) → is_waiting (state p.trail) k ≡ true → (p.queue.waiting ≡ []) → (op : Op) × (later : List Op)
@@ -63,6 +64,8 @@ pub record CanStep {D : Type 0} (drive : Ghosts D) (p : Parts D) : Type 0 where
   pub op : (op : Op) (later : List Op) (size : ℕ) → p.stock.layout.ops ≡ op ∷ later
       → HasRoom (drive.limits p.drive) size op → size ≤ 1048576 → CanDo op (drive.limits p.drive) (drive.held p.drive)
   pub near : (op : Op) (later : List Op) → p.stock.layout.ops ≡ op ∷ later → (place_of op).pos < 2 ^ 63
+  -- and what a crash may leave of it is allowed
+  pub may : (op : Op) (later : List Op) → p.stock.layout.ops ≡ op ∷ later → MayDo drive op p.drive
   -- each request can be read, is of a read that waits, and has no reply yet
   pub request : (ticket : ℕ) (place : Place) → IsOneRequest p.queue.waiting ticket place
       → IsInReach place (drive.limits p.drive) (drive.held p.drive) × (place.pos < 2 ^ 63) × IsOneRead p.reads ticket
@@ -73,4 +76,5 @@ pub record CanStep {D : Type 0} (drive : Ghosts D) (p : Parts D) : Type 0 where
 
 abbrev pub StepsCanBeMade : {D : Type 0} → Ghosts D → Type 0
 StepsCanBeMade {D} drive = (fixed : Fixed D) (plan : Plan drive fixed) (planned : Items) (next : Option Moment)
-    (p : Parts D) → IsKept drive fixed plan (view_of fixed next p) → IsTied drive fixed planned p → CanStep drive p
+    (p : Parts D) → IsKept drive fixed plan (view_of fixed next p) → IsTied drive fixed planned p
+    → IsAllowed drive fixed → CanStep drive p

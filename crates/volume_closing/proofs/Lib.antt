@@ -12,3 +12,4 @@ pub mod Newest
 pub mod Mounted
 pub mod IndexLaw
 pub mod Rests
+pub mod May

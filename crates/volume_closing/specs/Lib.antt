@@ -4,3 +4,4 @@ pub mod Near
 pub mod Whole
 pub mod Ready
 pub mod Indexed
+pub mod May

@@ -11,3 +11,4 @@ pub mod Placing
 pub mod Asked
 pub mod Turned
 pub mod Grown
+pub mod May

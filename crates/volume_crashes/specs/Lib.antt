@@ -1,3 +1,4 @@
 pub mod Safe
 pub mod Changes
 pub mod Laws
+pub mod May

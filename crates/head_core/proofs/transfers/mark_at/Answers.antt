@@ -1,6 +1,8 @@
-use Rattle.std.proofs.Common.{rules, ◌∙◌, arith}
+use Rattle.std.proofs.Common.{rules, ◌≡◌, ◌∙◌, arith, subst, sym}
 use Rattle.tape_types.specs.declared.cartridges.Item.TheVariants as item
-use Rattle.head_core.proofs.Runs.{put_crashes}
+use Rattle.tape_types.specs.declared.cartridges.Place.{Place}
+use Rattle.tape_drive.specs.Crashes.{LeavesAllowed, WithinWrite}
+use Rattle.head_core.proofs.Runs.{allowed_then, put_crashes}
 use Rattle.head_core.proofs.transfers.mark_at.Goals as goal
 
 pub returns-in-Ok-mark : goal.returns-in-Ok-mark
@@ -22,3 +24,9 @@ returns-in-Err-mark g c = record {
       c.in-Ok.ensures.count.later c.in-Ok.ensures.crash c.in-Err-mark.ensures.crash;
   one_command = λ write short. absurd (omega (arith, short, c.in-Ok.ensures.count.at_least, c.in-Err-mark.ensures.count.at_least));
 }
+
+pub mark-requires-clause-allowed : goal.mark-requires-clause-allowed
+mark-requires-clause-allowed g c at h is held =
+    let same : c.args.place ≡ at = let e = c.in-Ok.ensures.head in cc in
+    subst (λ (p : Place). LeavesAllowed (WithinWrite p.part p.pos (item.Mark) h) (g.D.Drive.leaves c.locate.new.self)
+        g.D.Drive.allows) same (allowed_then _ _ _ _ _ _ _ c.in-Ok.ensures.crash (c.requires.may h (sym c.in-Ok.ensures.held ∙ held)))

@@ -16,9 +16,14 @@ returns-in-Ok-List g c =
     list_asked _ _ _ _ _ g.D.Drive _ _ _ _ (asked_list _ _ _ c.as_slice.ensures.value c.in-Ok-List.field-0-is c.in-Ok-List.ensures)
     (record { left = refl; faults = refl }) c.run_list.ensures
 
-pub run_format-requires : goal.run_format-requires
-run_format-requires g c =
+pub run_format-requires-clause-fine : goal.run_format-requires-clause-fine
+run_format-requires-clause-fine g c =
     (asked_format _ _ _ c.in-Ok-Format.asked c.as_slice.ensures.value c.in-Ok-Format.field-0-is c.in-Ok-Format.ensures).3.fine
+
+pub run_format-requires-clause-all : goal.run_format-requires-clause-all
+run_format-requires-clause-all g c =
+    c.requires.formats c.in-Ok-Format.asked
+    (asked_format _ _ _ c.in-Ok-Format.asked c.as_slice.ensures.value c.in-Ok-Format.field-0-is c.in-Ok-Format.ensures)
 
 pub returns-in-Ok-Format : goal.returns-in-Ok-Format
 returns-in-Ok-Format g c =
@@ -28,6 +33,11 @@ returns-in-Ok-Format g c =
 pub run_serve-requires-clause-since : goal.run_serve-requires-clause-since
 run_serve-requires-clause-since g c κs within =
     given_since _ c.in-Ok-Serve.at (asked_serve _ _ _ c.in-Ok-Serve.at c.as_slice.ensures.value c.in-Ok-Serve.field-0-is c.in-Ok-Serve.ensures).3.moment
+
+pub run_serve-requires-clause-allowed : goal.run_serve-requires-clause-allowed
+run_serve-requires-clause-allowed g c κs within =
+    c.requires.serves c.in-Ok-Serve.at
+    (asked_serve _ _ _ c.in-Ok-Serve.at c.as_slice.ensures.value c.in-Ok-Serve.field-0-is c.in-Ok-Serve.ensures)
 
 pub returns-in-Ok-Serve : goal.returns-in-Ok-Serve
 returns-in-Ok-Serve g c =
@@ -40,6 +50,11 @@ run_make-requires-clause-few g c κs within =
 pub run_make-requires-clause-since : goal.run_make-requires-clause-since
 run_make-requires-clause-since g c κs within =
     given_since _ c.in-Ok-Make.at (asked_make _ _ _ c.in-Ok-Make.count c.in-Ok-Make.at c.as_slice.ensures.value c.in-Ok-Make.field-0-is c.in-Ok-Make.ensures).3.moment
+
+pub run_make-requires-clause-allowed : goal.run_make-requires-clause-allowed
+run_make-requires-clause-allowed g c κs within =
+    c.requires.makes c.in-Ok-Make.count c.in-Ok-Make.at
+    (asked_make _ _ _ c.in-Ok-Make.count c.in-Ok-Make.at c.as_slice.ensures.value c.in-Ok-Make.field-0-is c.in-Ok-Make.ensures)
 
 pub returns-in-Ok-Make : goal.returns-in-Ok-Make
 returns-in-Ok-Make g c =

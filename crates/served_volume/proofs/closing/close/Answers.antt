@@ -7,4 +7,16 @@ pub costs_of-cost-requires : goal.costs_of-cost-requires
 costs_of-cost-requires g c =
     subst IsTrail
     (sym (c.take_log-drive.ensures.log_is.events ∙ ap (λ (t : Journaled). t.events) c.finish-outcome.ensures.trail))
-    c.requires.runs.runs.kept.order.orderly.trail
+    c.requires.can.runs.kept.order.orderly.trail
+
+pub finish-outcome-requires : goal.finish-outcome-requires
+finish-outcome-requires g c = (
+  c.requires.can.fixed,
+  c.requires.can.next,
+  record {
+    runs = c.requires.can.runs;
+    nothing = c.requires.can.nothing;
+    moment = c.requires.can.moment;
+    good = c.count-nodes.ensures.good;
+  },
+)

@@ -1,5 +1,17 @@
 use Rattle.served_volume.specs.Commands.{EndsWith}
+use Rattle.served_volume.specs.Doing.{lasts_in}
+use Rattle.served_volume.proofs.MayLemmas.{may_do, may_write}
 use Rattle.served_volume.proofs.commands.end_with.Goals as goal
+
+pub do_ops-requires-clause-may : goal.do_ops-requires-clause-may
+do_ops-requires-clause-may g c =
+    may_do g.D.Drive c.args.stock.now.layout.ops (lasts_in c.args.last) c.args.head.now.drive c.requires.may
+
+pub write_notes_if-requires : goal.write_notes_if-requires
+write_notes_if-requires g c = record {
+  may = may_write g.D.Drive c.args.stock.now.layout.ops (lasts_in c.args.last) c.args.head.now.drive
+      c.do_ops.new.head.drive c.requires.may c.in-Ok.ensures;
+}
 
 pub returns-in-Err : goal.returns-in-Err
 returns-in-Err g c =

@@ -7,9 +7,12 @@ use Rattle.tape_layout.specs.declared.errors.AdmitErr.TheVariants.{Full}
 use Rattle.volume_core.specs.Seen.{seen_parts}
 use Rattle.volume_stock.specs.Closed.{IsDpChange}
 use Rattle.served_volume.specs.Doing.{CanDoAll, lasts_in}
+use Rattle.served_volume.specs.Commands.{Lasts}
 use Rattle.served_volume.specs.Finish.{AdmitsOnIp, Finishes}
+use Rattle.served_volume.specs.May.{MayDoAll, MayEnd}
 use Rattle.served_volume.proofs.AdmitLemmas.{AppliesIp, admits_dp, admits_ip, can_do_last, can_do_mid, short_ip}
 use Rattle.served_volume.proofs.EndLemmas.{same_end, short, some_mapped, went}
+use Rattle.served_volume.proofs.MayLemmas.{may_end, may_short}
 use Rattle.served_volume.proofs.finishing.finish.Goals as goal
 
 pub returns-in_default-clause-finishes : goal.returns-in_default-clause-finishes
@@ -30,8 +33,8 @@ returns-in-Err-NoMemory-clause-finishes g c = Finishes.no_memory
 pub returns-clause-finishes : goal.returns-clause-finishes
 returns-clause-finishes g c = Finishes.no_memory
 
-pub end_with-told-requires : goal.end_with-told-requires
-end_with-told-requires g c =
+pub end_with-told-requires-clause-can : goal.end_with-told-requires-clause-can
+end_with-told-requires-clause-can g c =
     let dp = option_map (λ doc. doc.items) c.in-Ok.texts.dp in
     let ip = option_map (λ doc. doc.items) c.in-Ok.texts.ip in
     let held = c.args.parts.now.stock in
@@ -40,8 +43,23 @@ end_with-told-requires g c =
     tt}).applied in
     let went_on = admits_ip c.args.at held mid dp ip (c.in-Ok.ensures {u = tt}).texts did c.admit_ip.new.self
     (c.in-Ok-admit_ip.ensures {u = tt}).applied in
-    can_do_last g.D.Drive c.requires.0 c.requires.1 (seen_parts c.args.parts.now) c.requires.2 c.args.at mid did
+    can_do_last g.D.Drive c.requires.0 c.requires.1 (seen_parts c.args.parts.now) c.requires.2.runs c.args.at mid did
     c.last_of-last.ensures.standing c.admit_ip.new.self (is_some ip) went_on
+
+pub end_with-told-requires-clause-may : goal.end_with-told-requires-clause-may
+end_with-told-requires-clause-may g c =
+    let dp = option_map (λ doc. doc.items) c.in-Ok.texts.dp in
+    let ip = option_map (λ doc. doc.items) c.in-Ok.texts.ip in
+    let held = c.args.parts.now.stock in
+    let mid = c.admit_dp.new.self in
+    let did = admits_dp c.args.at held mid dp ip (c.in-Ok.ensures {u = tt}).texts (c.in-Ok-admit_dp.ensures {u =
+    tt}).applied in
+    let went_on = admits_ip c.args.at held mid dp ip (c.in-Ok.ensures {u = tt}).texts did c.admit_ip.new.self
+    (c.in-Ok-admit_ip.ensures {u = tt}).applied in
+    subst (λ (l : Lasts). MayEnd g.D.Drive c.admit_ip.new.self.layout.ops l c.args.parts.now.head.drive)
+    (sym c.last_of-last.ensures.last)
+    (may_end g.D.Drive g.met.D.Drive.counts_now c.requires.0 c.requires.1 c.args.at (seen_parts c.args.parts.now)
+    c.requires.2 mid did c.admit_ip.new.self (is_some ip) went_on)
 
 pub returns-in-Ok-admit_ip-clause-finishes : goal.returns-in-Ok-admit_ip-clause-finishes
 returns-in-Ok-admit_ip-clause-finishes g c =
@@ -60,8 +78,8 @@ returns-in-Ok-admit_ip-clause-finishes g c =
     (some_mapped (λ doc. doc.items) c.in-Ok.texts.ip ∙ sym c.is_some-due.ensures) went_on)
     c.are_notes_due-notes.ensures c.last_of-last.ensures.last refl c.end_with-told.ensures c.done.ensures
 
-pub do_ops-told-requires : goal.do_ops-told-requires
-do_ops-told-requires g c =
+pub do_ops-told-requires-clause-can : goal.do_ops-told-requires-clause-can
+do_ops-told-requires-clause-can g c =
     let dp = option_map (λ doc. doc.items) c.in-Ok.texts.dp in
     let ip = option_map (λ doc. doc.items) c.in-Ok.texts.ip in
     let held = c.args.parts.now.stock in
@@ -70,8 +88,21 @@ do_ops-told-requires g c =
     tt}).applied in
     subst (λ (l : Plan). CanDoAll g.D.Drive l.ops c.args.parts.now.head.drive)
     (sym ((c.in-Err-Full-admit_ip.ensures {u = tt}).leaves).layout)
-    (can_do_mid g.D.Drive c.requires.0 c.requires.1 (seen_parts c.args.parts.now) c.requires.2 c.args.at mid did
+    (can_do_mid g.D.Drive c.requires.0 c.requires.1 (seen_parts c.args.parts.now) c.requires.2.runs c.args.at mid did
     c.last_of-last.ensures.standing)
+
+pub do_ops-told-requires-clause-may : goal.do_ops-told-requires-clause-may
+do_ops-told-requires-clause-may g c =
+    let dp = option_map (λ doc. doc.items) c.in-Ok.texts.dp in
+    let ip = option_map (λ doc. doc.items) c.in-Ok.texts.ip in
+    let held = c.args.parts.now.stock in
+    let mid = c.admit_dp.new.self in
+    let did = admits_dp c.args.at held mid dp ip (c.in-Ok.ensures {u = tt}).texts (c.in-Ok-admit_dp.ensures {u =
+    tt}).applied in
+    subst (λ (l : Plan). MayDoAll g.D.Drive l.ops c.args.parts.now.head.drive)
+    (sym ((c.in-Err-Full-admit_ip.ensures {u = tt}).leaves).layout)
+    (may_short g.D.Drive g.met.D.Drive.counts_now c.requires.0 c.requires.1 c.args.at (seen_parts c.args.parts.now)
+    c.requires.2 mid did)
 
 pub returns-in-Err-Full-admit_ip-clause-finishes :
     goal.returns-in-Err-Full-admit_ip-clause-finishes

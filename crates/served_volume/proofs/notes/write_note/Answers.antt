@@ -9,3 +9,8 @@ returns g c = record {
   command = c.write_note.ensures.command;
   crash = c.write_note.ensures.crash;
 }
+
+pub write_note-requires : goal.write_note-requires
+write_note-requires g c = record {
+  may = λ held told. c.requires.may (Kept c.encode_note-note.result) held c.encode_note-note.ensures.decodes told;
+}

@@ -1,9 +1,38 @@
 use Rattle.std.specs.Prelude.{Err, Ok}
-use Rattle.std.proofs.Common.{subst}
+use Rattle.std.proofs.Common.{subst, sym}
 use Rattle.tape_types.specs.declared.cartridges.Part.TheVariants.{Ip}
 use Rattle.coherency.specs.declared.Coherency.{Coherency}
 use Rattle.served_volume.specs.Commands.{IsNoteWritten, WritesNotes}
+use Rattle.served_volume.specs.Doing.{lasts_in}
+use Rattle.served_volume.specs.May.{MayWriteNote}
+use Rattle.served_volume.proofs.MayLemmas.{may_dp, may_ip}
 use Rattle.served_volume.proofs.notes.write_notes.Goals as goal
+
+pub write_note-requires : goal.write_note-requires
+write_note-requires g c = record {
+  may = subst (λ (v : Coherency). MayWriteNote g.D.Drive Ip v c.vcr.new.self.drive) (sym c.values.ensures)
+      (may_ip g.D.Drive (lasts_in c.args.last) c.in-Ok.vcr c.args.head.now.drive c.vcr.new.self.drive c.requires.may
+      (record {
+        value = c.in-Ok.ensures.value;
+        command = c.in-Ok.ensures.command;
+        held = c.in-Ok.ensures.held;
+        crash = c.in-Ok.ensures.crash;
+      }));
+}
+
+pub write_dp_note-requires : goal.write_dp_note-requires
+write_dp_note-requires g c = record {
+  may = may_dp g.D.Drive (lasts_in c.args.last) c.in-Ok.vcr c.args.head.now.drive c.vcr.new.self.drive
+      c.write_note.new.head.drive c.requires.may
+      (record {
+        value = c.in-Ok.ensures.value;
+        command = c.in-Ok.ensures.command;
+        held = c.in-Ok.ensures.held;
+        crash = c.in-Ok.ensures.crash;
+      })
+      (subst (λ (v : Coherency). IsNoteWritten g.D.Drive Ip v c.vcr.new.self.drive c.write_note.new.head.drive
+      (Ok tt)) c.values.ensures c.in-Ok-write_note.ensures);
+}
 
 pub returns-in-Err : goal.returns-in-Err
 returns-in-Err g c =

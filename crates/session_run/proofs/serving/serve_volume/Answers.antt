@@ -1,12 +1,19 @@
 use Rattle.std.proofs.Common.{◌∙◌, sym, subst, arith}
 use Rattle.tape_types.specs.declared.cartridges.Limits.{Limits}
 use Rattle.tape_meaning.specs.Mounts.{IsMount}
+use Rattle.session_run.proofs.Allowed.{may_start}
 use Rattle.session_run.proofs.ServingSteps.{is_mount, unmounted}
 use Rattle.session_run.proofs.serving.serve_volume.Goals as goal
 
 pub serve_mounted-requires-clause-mount : goal.serve_mounted-requires-clause-mount
 serve_mounted-requires-clause-mount g c = λ lifetimes outlives.
     subst (λ (l : Limits). IsMount l c.in-Ok.mounted) (sym c.in-Ok.ensures.looks.limits) (is_mount _ c.in-Ok.mounted c.in-Ok.ensures.any)
+
+pub serve_mounted-requires-clause-allowed : goal.serve_mounted-requires-clause-allowed
+serve_mounted-requires-clause-allowed g c = λ lifetimes outlives.
+    may_start g.D.Drive _ c.args.drive c.mount.new.drive c.in-Ok.ensures.looks c.of-since.result.value
+    (c.of-since.ensures ∙ c.commands.ensures) c.in-Ok.mounted c.args.script (g.C.Clock.one c.args.clock)
+    c.in-Ok.ensures.found c.requires.allowed
 
 pub returns-in-Ok : goal.returns-in-Ok
 returns-in-Ok g c = c.serve_mounted.ensures c.args.drive (omega (arith, c.faults-faults_are_in_range.ensures))

@@ -1,4 +1,4 @@
-use Rattle.std.proofs.Common.{ℕ, ◌+◌, ◌≡◌, ◌≤◌, ◌<◌, ◌-◌, ◌^◌, inl, inr, List, [], ◌∷◌, ◌++◌, take, length, get_or, Option, Some, sym, ◌∙◌, ap, subst, arith}
+use Rattle.std.proofs.Common.{ℕ, ◌+◌, ◌≡◌, ◌≤◌, ◌<◌, ◌-◌, ◌^◌, inl, inr, List, [], ◌∷◌, ◌++◌, take, length, get_or, Option, Some, None, ⊎_elim, refl, sym, ◌∙◌, ap, subst, arith}
 use Rattle.std.specs.Prelude.{slice_get, IfSome}
 use Rattle.std.proofs.lemmas.List.{length-append, length-take-le}
 use Rattle.std.proofs.Math.Seq.{get_or-append_seam}
@@ -10,7 +10,7 @@ use Rattle.tape_types.specs.Cartridges.{items_of}
 use Rattle.tape_types.specs.declared.cartridges.Place.{Place}
 use Rattle.crash_steps.proofs.Joined.{alone, behind_looks, joined, widened}
 use Rattle.tape_drive.specs.Commands.{IsWritten, item_at}
-use Rattle.tape_drive.specs.Crashes.{Crashes, IsSure, NothingNew, WithinDurably, WithinFlush, WithinWrite}
+use Rattle.tape_drive.specs.Crashes.{Crashes, IsSure, LeavesAllowed, NothingNew, WithinDurably, WithinFlush, WithinWrite}
 use Rattle.tape_drive.proofs.Acts.{write_same}
 use Rattle.tape_drive.proofs.durable.write_durably.Goals as goal
 
@@ -86,3 +86,41 @@ returns-in-Err-flush-clause-any_moment g c held is =
     flushed_crashes c.args.place (item.Block c.args.bytes.now) held told.0 told.2 c.in-Ok.ensures.count.later c.in-Ok-write.ensures.count.later
     c.in-Ok.ensures.crash (c.in-Ok-write.ensures.crash c.args.place held c.in-Ok.ensures.head (c.in-Ok.ensures.held ∙ is))
     (c.in-Err-flush.ensures.crash told.0 told.1)
+
+-- ---- what may be left is allowed
+
+pub write-requires-clause-allowed : goal.write-requires-clause-allowed
+write-requires-clause-allowed g c at h is held before image may within =
+    let same : at ≡ c.args.place = let e = c.in-Ok.ensures.head in cc in
+    let first = c.in-Ok.ensures.crash.now before may in
+    let step : WithinWrite c.args.place.part c.args.place.pos (item.Block c.args.bytes.now) h before image = subst (λ (p : Place). WithinWrite p.part p.pos (item.Block c.args.bytes.now) h before image) same within in
+    c.requires.allowed h (sym c.in-Ok.ensures.held ∙ held) before image (subst (λ (d : Cartridge). g.D.Drive.leaves c.args.drive.now d) (sym first.2) first.1) (inl step)
+
+flush_allowed : (place : Place) (x : Item) (first mid last : Option Cartridge) (leaves0 leaves1 leaves2 allows : Cartridge → Type 0)
+    → mid ≡ first → (mid ≡ None → last ≡ None)
+    → ((c : Cartridge) → mid ≡ Some c → (d : Cartridge) × (last ≡ Some d) × IsWritten place.part place.pos x c d)
+    → ((c image : Cartridge) → mid ≡ Some c → leaves2 image → (before : Cartridge) × leaves1 before × WithinWrite place.part place.pos x c before image)
+    → ((image : Cartridge) → leaves1 image → leaves0 image)
+    → ((c : Cartridge) → first ≡ Some c → LeavesAllowed (WithinDurably place.part place.pos x c) leaves0 allows)
+    → (h : Cartridge) → last ≡ Some h → LeavesAllowed (WithinFlush h) leaves2 allows
+flush_allowed place x first None last leaves0 leaves1 leaves2 allows same untold told within back may h is before image left w =
+    let none : last ≡ None = untold refl in absurd (cc)
+flush_allowed place x first (Some c) last leaves0 leaves1 leaves2 allows same untold told within back may h is before image left w =
+    let from = within c before refl left in
+    let d = told c refl in
+    let it : d.0 ≡ h = let a = d.1 in cc in
+    may c (sym same) from.0 image (back from.0 from.1)
+    (flushed_within place x c h from.0 before image (subst (λ (y : Cartridge). IsWritten place.part place.pos x c y) it d.2) from.2 w)
+
+pub flush-requires : goal.flush-requires
+flush-requires g c =
+    let place = c.args.place in
+    record {
+      allowed = flush_allowed place (item.Block c.args.bytes.now) (g.D.Drive.held c.args.drive.now) (g.D.Drive.held c.locate.new.self)
+          (g.D.Drive.held c.write.new.self) (g.D.Drive.leaves c.args.drive.now) (g.D.Drive.leaves c.locate.new.self) (g.D.Drive.leaves c.write.new.self)
+          g.D.Drive.allows c.in-Ok.ensures.held c.in-Ok-write.ensures.untold
+          (λ h is. c.in-Ok-write.ensures.told place h c.in-Ok.ensures.head is)
+          (λ h image is left. (c.in-Ok-write.ensures.crash place h c.in-Ok.ensures.head is).now image left)
+          (λ image left. let from = c.in-Ok.ensures.crash.now image left in subst (λ (d : Cartridge). g.D.Drive.leaves c.args.drive.now d) (sym from.2) from.1)
+          c.requires.allowed;
+    }

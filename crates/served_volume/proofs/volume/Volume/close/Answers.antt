@@ -1,8 +1,9 @@
-use Rattle.served_volume.proofs.LeavingLemmas.{all_have_room, all_there, closes}
+use Rattle.served_volume.proofs.LeavingLemmas.{all_have_room, all_there, closes, to_close}
 use Rattle.served_volume.proofs.volume.Volume.close.Goals as goal
 
-pub close-requires-clause-runs : goal.close-requires-clause-runs
-close-requires-clause-runs g c = record { fixed = _; next = _; runs = c.self.invariant.0.runs }
+pub close-requires-clause-can : goal.close-requires-clause-can
+close-requires-clause-can g c =
+    to_close g.D.Drive _ _ _ _ _ c.self.invariant.0 c.self.view_is c.requires c.ask-at.result c.ask-at.ensures.given
 
 pub close-requires-clause-there : goal.close-requires-clause-there
 close-requires-clause-there g c =

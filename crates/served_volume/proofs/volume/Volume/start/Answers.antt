@@ -31,6 +31,7 @@ begins g c =
       mount = c.requires.mount;
       mounts = c.requires.mounts;
     }
+    c.requires.allowed
     c.len-calls.ensures (c.from-sessions.ensures ∙ c.sessions.ensures.greatest) begun.fresh
 
 pub invariant_of-result : goal.invariant_of-result

@@ -12,12 +12,15 @@ use Rattle.volume_core.proofs.PickLemmas.{op_allowed, waits_first}
 use Rattle.volume_core.proofs.StepLemmas.{does_op, fails_op}
 use Rattle.volume_core.proofs.parts.Parts.do_op.Goals as goal
 
-pub step-requires : goal.step-requires
-step-requires g c =
+pub step-requires-clause-can : goal.step-requires-clause-can
+step-requires-clause-can g c =
     let e = c.in-Some.ensures {u = tt} in
     c.requires.can.op c.in-Some.op.now _ c.args.self.now.stock.layout.block_size e.first
     (subst (λ (limits : Limits). HasRoom limits c.args.self.now.stock.layout.block_size c.in-Some.op.now) c.requires.ready.limits e.room)
     c.requires.ready.size
+
+pub step-requires-clause-may : goal.step-requires-clause-may
+step-requires-clause-may g c = c.requires.can.may c.in-Some.op.now _ (c.in-Some.ensures {u = tt}).first
 
 pub fail_op-requires-clause-allowed : goal.fail_op-requires-clause-allowed
 fail_op-requires-clause-allowed g c =

@@ -5,8 +5,8 @@ use Rattle.volume_core.proofs.PickLemmas.{has_read, one_request, request_allowed
 use Rattle.volume_core.proofs.StepLemmas.{fails_read, reads_block}
 use Rattle.volume_core.proofs.parts.Parts.serve.Goals as goal
 
-pub step-requires : goal.step-requires
-step-requires g c = (c.requires.can.request c.args.owner c.args.place (one_request g.D.Drive (seen_parts c.args.self.now) c.requires.can c.requires.ready c.args.node c.args.owner c.args.place c.requires.picked)).0
+pub step-requires-clause-can : goal.step-requires-clause-can
+step-requires-clause-can g c = (c.requires.can.request c.args.owner c.args.place (one_request g.D.Drive (seen_parts c.args.self.now) c.requires.can c.requires.ready c.args.node c.args.owner c.args.place c.requires.picked)).0
 
 pub fail_read-requires-clause-allowed : goal.fail_read-requires-clause-allowed
 fail_read-requires-clause-allowed g c =

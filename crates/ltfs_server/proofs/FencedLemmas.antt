@@ -1,0 +1,61 @@
+-- An owner who allows what the ordered run may leave allows the run.
+use Rattle.std.specs.Prelude.{◌≡◌, ℕ, List, Option, Some, Ok, IfSome, String, codes}
+use Rattle.std.specs.Global.{Global}
+use Rattle.std.proofs.Common.{inr, refl, sym, subst, ◌∙◌, ap}
+use Rattle.tape_types.specs.declared.moments.Moment.{Moment}
+use Rattle.plain_tree.specs.Tree.{Tree}
+use Rattle.session_script.specs.Grammar.{script_of}
+use Rattle.session_script.specs.declared.scripts.ScriptLine.{ScriptLine}
+use Rattle.tape_drive.specs.Crashes.{AllowsAll}
+use Rattle.tape_drive.specs.declared.drive.Drive.{Ghosts}
+use Rattle.tape_meaning.specs.Carried.{Carried}
+use Rattle.tape_meaning.specs.Meaning.{Stands}
+use Rattle.server_words.specs.Forms.{IsFormatWords, IsMakeWords, IsServeWords}
+use Rattle.server_words.specs.declared.volumes.FormatWords.{FormatWords}
+use Rattle.server_words.proofs.FormLemmas.{format_named, make_named, names_differ, one_serve, serve_named}
+use Rattle.session_run.specs.Timed.{one_moment}
+use Rattle.volume_model.specs.Crash.{IsSound}
+use Rattle.volume_model.specs.Meanings.{cartridges}
+use Rattle.volume_model.specs.Served.{CanTell}
+use Rattle.volume_crashes.specs.May.{AllowsServed, MayServe}
+use Rattle.volume_crashes.specs.Safe.{seen_by}
+use Rattle.ltfs_server.specs.Allowed.{MayServeLeft}
+
+-- one text spells one script
+one_script : (left : Option (List ℕ)) (text : List ℕ) (script own : List ScriptLine) → left ≡ Some text
+    → script_of text ≡ Ok own → IfSome left (λ t. script_of t ≡ Ok script) → script ≡ own
+one_script left text script own is spelled same =
+    let here : script_of text ≡ Ok script = subst (λ (l : Option (List ℕ)). IfSome l (λ t. script_of t ≡ Ok script)) is same in
+    cc
+
+module _ {D : Type 0} (drive : Ghosts D) (d : D) (words : List (String Global)) (left : Option (List ℕ))
+    (one : Option Moment) (own : List ScriptLine) (moment : Option Moment) (facts : Carried) (tree : Tree)
+    (allows : AllowsServed drive.allows own moment facts tree) where
+  pub may_serve : (at : Option Moment) × IsServeWords words at × (one_moment at one ≡ moment)
+      → (text : List ℕ) × (left ≡ Some text) × (script_of text ≡ Ok own)
+      → (generation : ℕ) × CanTell (λ c. Stands c facts tree generation × IsSound cartridges c) (drive.commands d)
+      (seen_by drive d)
+      → (at : Option Moment) → IsServeWords words at → MayServeLeft drive left (one_moment at one) d
+  may_serve given spelled stands at is script same c told =
+      let at_is : at ≡ given.0 = one_serve words at given.0 is given.1 in
+      let moment_is : one_moment at one ≡ moment = ap (λ (a : Option Moment). one_moment a one) at_is ∙ given.2 in
+      let script_is : script ≡ own = one_script left spelled.0 script own spelled.1 spelled.2 same in
+      inr (
+        facts,
+        tree,
+        stands.0,
+        stands.1,
+        subst (λ (e : List ScriptLine × Option Moment). AllowsServed drive.allows e.0 e.1 facts tree)
+            (λ i. (sym script_is i, sym moment_is i)) allows,
+      )
+
+  pub may_make : (at : Option Moment) × IsServeWords words at × (one_moment at one ≡ moment)
+      → (count : ℕ) (time : Option Moment) (script : List ScriptLine) → IsMakeWords words count time
+      → MayServe drive script (one_moment time one) d
+  may_make given count time script are = absurd (names_differ words (codes "serve") (codes "make") refl
+      (serve_named words (given.0, given.1)) (make_named words (count, time, are)))
+
+  pub may_format : (at : Option Moment) × IsServeWords words at × (one_moment at one ≡ moment)
+      → (asked : FormatWords) → IsFormatWords words asked → AllowsAll drive.allows
+  may_format given asked are = absurd (names_differ words (codes "serve") (codes "format") refl
+      (serve_named words (given.0, given.1)) (format_named words (asked, are)))
