@@ -132,8 +132,8 @@ last_fault first log = by (filter_map fault_of log.events)
     by : List Twin → ℕ
     by faults = fold (λ _ t. t.after) first.faults faults
 
--- When serving ends so: the cartridge stands for the tree of the whole history, with nothing pending; the close is
--- short by its numbers; or the drive's count of faults rose in the close, after all faults of the log.
+-- When serving ends so: the close had the space, and the cartridge stands for the tree of the whole history, with nothing
+-- pending; the close is short by its numbers; or the drive's count of faults rose in the close, after all faults of the log.
 abbrev pub IsEndOf : Meaning → List ScriptLine → Drive → Drive → Log → ServeEnd → Type 0
 IsEndOf m script first now log (Closed generation) =
     (tree : Tree) (mounted : Mounted)
@@ -142,6 +142,7 @@ IsEndOf m script first now log (Closed generation) =
     → (on : Option ℕ) × (at : Moment) × IsOn (given_of script tree mounted first) log.events log.history on
     × IsDoneClose m first now mounted tree (tree_of_log script tree log (length log.history))
     (closing (given_of script tree mounted first) on log.history at).space.newest generation
+    × ((need limit : ℕ) → ¬ IsCloseShort (given_of script tree mounted first) on log.history at need limit)
 IsEndOf m script first now log (Short need limit) =
     (tree : Tree) (mounted : Mounted)
     → CanTell

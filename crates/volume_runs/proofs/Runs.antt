@@ -128,6 +128,17 @@ module _ {D : Type 0} (drive : Ghosts D) (script : List ScriptLine) (at : Option
     short m need limit is =
         subst (λ (e : Given × List Placed). IsCloseShort e.0 v.on e.1 m need limit) (λ i. (given_is i, history i)) is
 
+    -- one that is done had the space
+    roomy : (m : Moment)
+        → ((need limit : ℕ) → ¬ IsCloseShort (given v (seen drive v.fixed.first)) v.on v.history m need limit)
+        → (need limit : ℕ)
+        → ¬ IsCloseShort (given_of script tree mounted (seen drive start)) v.on log.history m need limit
+    roomy m room need limit is =
+        let same : ◌≡◌ {A = Given × List Placed} (given v (seen drive v.fixed.first), v.history)
+        (given_of script tree mounted (seen drive start), log.history) =
+        λ i. (given_is i, history i) in
+        room need limit (subst (λ (e : Given × List Placed). IsCloseShort e.0 v.on e.1 m need limit) (sym same) is)
+
   -- what a crash leaves
   survives : (facts : Carried) (tree : Tree) (generation : ℕ)
       → CanTell (StandsSound facts tree generation) (drive.commands start) (seen drive start)
@@ -172,6 +183,7 @@ module _ {D : Type 0} (drive : Ghosts D) (script : List ScriptLine) (at : Option
         (rightly mounted tree can).on_is,
         done mounted tree can closes.at generation
             (e.1 (told mounted tree can)),
+        roomy mounted tree can closes.at e.0,
       )
   ends_so (ends.Full need limit) e =
       λ tree mounted can.
