@@ -1,9 +1,8 @@
 //! A cartridge becomes an empty volume.
 
-ghost use Rattle.tape_drive.specs.Crashes.{AllowsAll};
 ghost use Rattle.std.specs.Prelude.{◌≡◌, ◌+◌, ◌≤◌, length, Some, None, IfErr, OnOk};
 ghost use Rattle.std.specs.Int.{div_ceil};
-ghost use Rattle.tape_drive.specs.Crashes.{IsSure};
+ghost use Rattle.tape_drive.specs.Crashes.{AllowsAll, IsSure};
 ghost use Rattle.tape_types.specs.declared.cartridges.Cartridge.{Cartridge};
 ghost use Rattle.tape_types.specs.declared.cartridges.Part.TheVariants as parts;
 ghost use Rattle.tape_types.specs.Counts.{HasCause};
@@ -27,7 +26,8 @@ use tape_drive::{Drive, DriveErr};
 use tape_types::{Bytes, Limits, Part, Twin};
 
 /// Makes the cartridge in a drive an empty volume (LTFS 2.4 on labels, index constructs and volume coherency
-/// information), whatever it held before. Nothing is pending then.
+/// information), whatever it held before. Nothing is pending then. On the way a crash may leave anything, so the drive's
+/// owner has to allow that.
 ///
 /// # Errors
 ///

@@ -1,10 +1,9 @@
 //! The notes of a volume that was written.
 
-ghost use Rattle.tape_drive.specs.Crashes.{AllowsAll};
 ghost use Rattle.std.specs.Prelude.{◌≡◌, OnOk, IfOk, Some};
 ghost use Rattle.coherency.specs.Notes.{IsNote, note_of};
 ghost use Rattle.tape_drive.specs.Commands.{IsNoted};
-ghost use Rattle.tape_drive.specs.Crashes.{IsSure};
+ghost use Rattle.tape_drive.specs.Crashes.{AllowsAll, IsSure};
 ghost use Rattle.tape_types.specs.declared.cartridges.Cartridge.{Cartridge};
 ghost use Rattle.tape_types.specs.declared.cartridges.Note.TheVariants.{Kept};
 ghost use Rattle.tape_types.specs.Counts.{HasCause};

@@ -1,11 +1,10 @@
 //! Items are written one behind the other.
 
-ghost use Rattle.tape_drive.specs.Crashes.{AllowsAll};
 ghost use Rattle.std.specs.Prelude.{◌≡◌, ◌≤◌, ◌+◌, ℕ, List, [], ◌∷◌, ◌++◌, length, map, OnOk, Some};
 ghost use Rattle.index_construct.specs.Blocks.{blocks_of};
 ghost use Rattle.std.specs.Int.{div_ceil};
 ghost use Rattle.tape_drive.specs.Commands.{HasRoom};
-ghost use Rattle.tape_drive.specs.Crashes.{IsSure};
+ghost use Rattle.tape_drive.specs.Crashes.{AllowsAll, IsSure};
 ghost use Rattle.tape_types.specs.declared.cartridges.Item.{Item};
 ghost use Rattle.tape_types.specs.declared.cartridges.Item.TheVariants.{Block, Mark};
 ghost use Rattle.tape_types.specs.declared.cartridges.Part.{Part};

@@ -38,6 +38,7 @@ pub enum DriveErr {
 /// A drive with one cartridge of two partitions (LTFS 2.4 on partitions).
 ///
 /// The eight calls from `locate` to `vcr` are its commands. After one that failed the head has to be located again.
+/// Those that write require that the drive's owner allows all that a crash may leave within them or after them.
 pub trait Drive: Drop {
     /// By how much one command may raise the number of commands.
     const MOST: u64;

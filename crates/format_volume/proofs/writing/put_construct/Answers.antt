@@ -14,7 +14,8 @@ returns-in-Ok-clause-done g c = λ at head.
     (c.put_mark.ensures.done (record { part = at.part; pos = at.pos + length before }) first.head)
 
 pub put_mark-requires : goal.put_mark-requires
-put_mark-requires g c = record { all = c.requires.all;
+put_mark-requires g c = record {
+  all = c.requires.all;
   located = construct_room g.D.Drive c.args.block c.args.doc.now c.requires.some c.requires.located.0 c.args.drive.now
       c.put_document.new.drive c.requires.located.2 (c.in-Ok.ensures.done c.requires.located.0 c.requires.located.1)
       c.in-Ok.ensures.goes.limits;
