@@ -11,7 +11,8 @@ use Rattle.plain_tree.specs.Tree.{Tree}
 use Rattle.tape_layout.specs.declared.ops.Op.{Op}
 use Rattle.volume_space.specs.Standing.{Given, Standing}
 use Rattle.volume_space.proofs.TreeLaw.{are_replays}
-use Rattle.volume_model.specs.Ends.{IsDoneClose, IsEnd, TellsNodes}
+use Rattle.tape_meaning.specs.Carried.{carried}
+use Rattle.volume_model.specs.Ends.{LeavesTree, IsDoneClose, IsEnd, TellsNodes}
 use Rattle.volume_model.specs.Meanings.{cartridges}
 use Rattle.volume_model.specs.Served.{Fixed, View, tree_after}
 use Rattle.volume_model.specs.declared.answers.CloseEnd.{CloseEnd}
@@ -22,7 +23,7 @@ use Rattle.volume_laws.specs.Kept.{CanRead}
 use Rattle.volume_stock.specs.Stocks.{Stocked}
 use Rattle.volume_tape.specs.Planned.{Items, tape_on}
 use Rattle.volume_parts.specs.Parts.{Parts, view_of}
-use Rattle.served_volume.specs.Commands.{EndsWith}
+use Rattle.served_volume.specs.Commands.{AreOpsDone, EndsWith}
 use Rattle.served_volume.specs.Finish as finish
 use Rattle.served_volume.specs.Finish.{AdmitsOnDp, AdmitsOnIp, Finishes, IsAdmittedOnIp, IsShortOnIp, close_end}
 use Rattle.served_volume.specs.Finish.{lasts_of, short_end}
@@ -30,7 +31,7 @@ use Rattle.served_volume.specs.Promised.{CanClose, ClosesEnd, EndsAsPromised}
 use Rattle.served_volume.proofs.Admitted as admitted
 use Rattle.served_volume.proofs.Alike.{known_alike}
 use Rattle.served_volume.proofs.Counts.{GoesOn, GoesTo, ends_to, ops_to, stays}
-use Rattle.served_volume.proofs.Crashing.{admitted_survives, now_survives, short_survives}
+use Rattle.served_volume.proofs.Crashing.{admitted_survives, now_survives, short_holds, short_survives}
 use Rattle.served_volume.proofs.DoneClose.{shown_done}
 use Rattle.served_volume.proofs.DoneLast.{shown_last}
 use Rattle.served_volume.proofs.DoneNotes.{AllDone, all_done}
@@ -38,7 +39,7 @@ use Rattle.served_volume.proofs.DoneStill.{shown_still}
 use Rattle.served_volume.proofs.Keeping.{Survives}
 use Rattle.served_volume.proofs.Mid.{admitted_ip, mid_generation, mid_ops}
 use Rattle.served_volume.proofs.Nodes.{as_many}
-use Rattle.served_volume.proofs.Shorts.{fits_dp, not_short, short_on_dp, short_on_ip}
+use Rattle.served_volume.proofs.Shorts.{dp_short, fits_dp, not_short, short_on_dp, short_on_ip}
 use Rattle.served_volume.proofs.Still.{still}
 use Rattle.served_volume.proofs.There.{closing_ops}
 
@@ -83,6 +84,17 @@ module _ {D : Type 0} (drive : Ghosts D)
 
   -- ---- too little space
 
+  -- what is held once all ops are done that stand then
+  HoldsWhole : D → Result Unit Twin → Type 0
+  HoldsWhole new (Ok done) = LeavesTree cartridges (carried fixed.mounted.index) tree (seen drive new)
+  HoldsWhole new (Err counts) = Unit {0}
+
+  holds_whole : (mid : Stocked) (dp : AdmitsOnDp at p.stock mid) (new : D) (result : Result Unit Twin)
+      → AreOpsDone drive mid.layout.ops p.drive new result → CanServe drive fixed → HoldsWhole new result
+  holds_whole mid dp new (Ok done) does serve =
+      short_holds drive fixed next at p can counts_now serve mid dp new (Ok done) does
+  holds_whole mid dp new (Err counts) does serve = tt
+
   on_dp_end : (need limit : ℕ) → finish.IsShortOnDp at p.stock need limit
       → EndsAsPromised drive fixed next at p p.drive (outcomes.Full need limit)
   on_dp_end need limit short =
@@ -90,21 +102,29 @@ module _ {D : Type 0} (drive : Ghosts D)
         short_on_dp (tape_on planned) g p.on p.listed.history at p.stock
             (admitted.held drive fixed next at p planned can.runs.tied) need limit short,
         λ so. refl,
+        λ serve fits. absurd (fits (
+          need,
+          limit,
+          dp_short (tape_on planned) g p.on p.listed.history at p.stock
+              (admitted.held drive fixed next at p planned can.runs.tied) need limit short,
+        )),
       )
       (λ serve. now_survives drive fixed next at p can counts_now serve)
 
   module _ (mid : Stocked) (dp : AdmitsOnDp at p.stock mid) where
     on_ip_end : (need limit : ℕ) (new : D) (result : Result Unit Twin) → IsShortOnIp at p.stock need limit
         → GoesTo drive p.drive new result → (CanServe drive fixed → Survives drive v new)
+        → (CanServe drive fixed → HoldsWhole new result)
         → EndsAsPromised drive fixed next at p new (short_end need limit result)
-    on_ip_end need limit new (Ok done) short goes crash =
+    on_ip_end need limit new (Ok done) short goes crash holds =
         let stock = admitted.held drive fixed next at p planned can.runs.tied in
         with_end new (outcomes.Full need limit) goes.goes tt (
           short_on_ip (tape_on planned) g p.on p.listed.history at p.stock stock need limit mid dp short,
           λ so. absurd (fits_dp (tape_on planned) g p.on p.listed.history at p.stock stock mid dp so),
+          λ serve fits. holds serve,
         )
         crash
-    on_ip_end need limit new (Err counts) short goes crash =
+    on_ip_end need limit new (Err counts) short goes crash holds =
         with_end new (outcomes.Fault counts) goes.goes tt goes.tells crash
 
     -- ---- all was admitted
@@ -161,6 +181,7 @@ module _ {D : Type 0} (drive : Ghosts D)
   ended _ _ (finish.short_on_ip need limit mid new result dp short does) =
       on_ip_end mid dp need limit new result short (ops_to drive mid.layout.ops p.drive new result does)
       (λ serve. short_survives drive fixed next at p can counts_now serve mid dp new result does)
+      (λ serve. holds_whole mid dp new result does serve)
   ended _ _ (finish.went mid last due new result dp ip ends) =
       went_end mid dp last due new result ip ends
       (ends_to drive last.layout.ops (lasts_of mid) (due || not noted) p.drive new result ends)

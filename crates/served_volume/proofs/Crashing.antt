@@ -1,7 +1,7 @@
 -- What a crash leaves of a volume that is closed.
 use Rattle.std.proofs.Common.{◌≡◌, ℕ, ◌+◌, ◌≤◌, ◌&&◌, not, Bool, true, false, List, [], ◌∷◌, ◌++◌, Option, None, refl}
 use Rattle.std.proofs.Common.{sym, ap, subst, ◌∙◌, append-nil, arith}
-use Rattle.std.specs.Prelude.{Result}
+use Rattle.std.specs.Prelude.{Result, Ok, Err, length}
 use Rattle.tape_types.specs.declared.cartridges.Cartridge.{Cartridge}
 use Rattle.tape_types.specs.declared.cartridges.Part.{Part}
 use Rattle.tape_types.specs.declared.cartridges.Part.TheVariants.{Ip, Dp}
@@ -12,13 +12,21 @@ use Rattle.index_model.specs.declared.indexes.Index.{Index}
 use Rattle.ltfs_label.specs.declared.Label.{Label}
 use Rattle.tape_layout.specs.declared.ops.Op.{Op}
 use Rattle.crash_theory.specs.Left.{StandsClosed}
-use Rattle.crash_theory.specs.Made.{part_items}
+use Rattle.crash_theory.specs.Fine.{IsSame}
+use Rattle.crash_theory.specs.Made.{Job, Made, after, least, part_items}
+use Rattle.crash_theory.proofs.Stated.{kept_gives}
 use Rattle.crash_theory.specs.Plans.{IsCloseDue, close_jobs, index_jobs}
 use Rattle.volume_space.specs.Closing.{close_limit, close_need, close_text, is_dp_due, is_ip_due}
 use Rattle.volume_space.specs.Space as space
 use Rattle.volume_space.specs.Space.{Space, first_space, index, is_over, ops_of}
 use Rattle.volume_space.specs.Standing.{Given, Standing, rules, sync_text}
-use Rattle.volume_model.specs.Served.{Fixed, View}
+use Rattle.plain_tree.specs.Tree.{Tree}
+use Rattle.tape_meaning.specs.Carried.{carried}
+use Rattle.tape_meaning.specs.Meaning.{Stands}
+use Rattle.volume_model.specs.Ends.{LeavesTree}
+use Rattle.volume_model.specs.Meanings.{cartridges}
+use Rattle.volume_model.specs.Served.{Fixed, View, tree_after}
+use Rattle.volume_order.specs.Kept.{seen}
 use Rattle.volume_stock.specs.Stocks.{Stocked}
 use Rattle.volume_crashes.specs.Laws.{CanServe}
 use Rattle.volume_crashes.specs.Safe.{Planned, trees_of, volume_of, with_jobs}
@@ -27,11 +35,11 @@ use Rattle.volume_laws.specs.Kept.{CanRead}
 use Rattle.volume_tape.specs.Planned.{Items, with_ops}
 use Rattle.volume_tape.proofs.Agrees.{plans_agree}
 use Rattle.volume_parts.specs.Parts.{Parts, view_of}
-use Rattle.volume_closing.specs.Closing.{HasSpace, IsAtRest, IsClosing}
+use Rattle.volume_closing.specs.Closing.{HasSpace, IsAtRest, IsClosing, state_at}
 use Rattle.volume_closing.specs.Laws.{close_ops}
 use Rattle.volume_closing.proofs.Aheads.{none_is_ahead}
 use Rattle.volume_closing.proofs.Keeps.{closes_are_safe}
-use Rattle.volume_closing.proofs.Leaves.{closed_stand}
+use Rattle.volume_closing.proofs.Leaves.{closed_stand, no_jobs}
 use Rattle.served_volume.specs.Commands.{AreOpsDone, EndsWith}
 use Rattle.served_volume.specs.Finish.{AdmitsOnDp, IsAdmittedOnIp, lasts_of}
 use Rattle.served_volume.specs.May.{AreReady, MayTell}
@@ -39,7 +47,7 @@ use Rattle.served_volume.specs.Promised.{CanClose}
 use Rattle.served_volume.proofs.Admitted as admitted
 use Rattle.served_volume.proofs.Exact.{does_there}
 use Rattle.served_volume.proofs.CloseGiven.{near, no_waits, reads_too}
-use Rattle.served_volume.proofs.Keeping.{Survives, ends_survive, ops_survive}
+use Rattle.served_volume.proofs.Keeping.{Survives, does_keep, ends_survive, ops_survive}
 use Rattle.served_volume.proofs.Mid.{fits, mid_end, mid_generation, mid_last, mid_ops}
 use Rattle.served_volume.proofs.Settled.{none_done}
 use Rattle.served_volume.proofs.Still.{IsStill, mounts_tell, or_left, still}
@@ -160,6 +168,38 @@ module _ {D : Type 0} (drive : Ghosts D) (fixed : Fixed D) (next : Option Moment
     pub short_survives : (new : D) (result : Result Unit Twin) → AreOpsDone drive mid.layout.ops p.drive new result
         → Survives drive v new
     short_survives new result does = ops_survive drive v q1 mid.layout.ops p.drive new result does mid_closing
+
+    -- once all of these ops are done, the cartridge and whatever a crash leaves of it stands for the whole tree
+    ShortHolds : D → Result Unit Twin → Type 0
+    ShortHolds new (Ok done) = LeavesTree cartridges (carried fixed.mounted.index) (tree_after v (length p.listed.history))
+        (seen drive new)
+    ShortHolds new (Err counts) = Unit {0}
+
+    pub short_holds : (new : D) (result : Result Unit Twin) → AreOpsDone drive mid.layout.ops p.drive new result
+        → ShortHolds new result
+    short_holds new (Ok done) does =
+        let c = does_keep drive v q1 mid.layout.ops [] p.drive new does mid_closing in
+        let none_left : c.jobs ≡ [] = no_jobs c.jobs c.ops_are in
+        let made_is : c.made ≡ q1.made =
+        ap (λ (jobs : List Job). after c.made jobs) (sym none_left) ∙ c.plan in
+        let same : IsSame (trees_of v) (least c.made.base) (trees_of v).count =
+        subst (λ (s : Made). IsSame (trees_of v) (least s.base) (trees_of v).count) (sym made_is)
+        (safe_dp.1.has.covered safe_dp.1.unchanged) in
+        let x = state_at v q1 c.made c.done c.jobs in
+        let now = (kept_gives drive).synced x new c.held c.kept same in
+        record {
+          held = c.held;
+          told = c.told;
+          generation = now.0;
+          stands = now.1;
+          left = λ image left.
+              let fine = (kept_gives drive).now x new c.held image c.kept left in (
+                fine.generation,
+                subst (λ (t : Tree). Stands image (carried fixed.mounted.index) t fine.generation)
+                    (same fine.place fine.low fine.high) fine.stands,
+              );
+        }
+    short_holds new (Err counts) does = tt
 
     -- what stands once the index of the index partition was admitted is left of a close, and the notes may come behind
     pub record ClosesBy (last : Stocked) : Type 0 where

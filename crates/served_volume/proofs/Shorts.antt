@@ -8,7 +8,7 @@ use Rattle.volume_space.specs.Closing.{close_limit, close_need, is_ip_due}
 use Rattle.volume_space.specs.Standing.{Given, Standing, is_on, standing}
 use Rattle.volume_stock.specs.Closed.{closed_dp}
 use Rattle.volume_stock.specs.Stocks.{IsStock, Stocked}
-use Rattle.volume_model.specs.Ends.{IsCloseShort, IsShortOnDp}
+use Rattle.volume_model.specs.Ends.{IsCloseShort, IsDpShort, IsShortOnDp}
 use Rattle.served_volume.specs.Finish.{AdmitsOnDp, AdmitsOnIp, IsAdmittedOnIp, IsShortOnIp}
 use Rattle.served_volume.specs.Finish as told
 
@@ -27,10 +27,13 @@ module _ (tape : Tape) (g : Given) (on : Option ℕ) (history : List Placed) (at
   abbrev st : Standing
   st = standing g on history (length history)
 
-  pub short_on_dp : (need limit : ℕ) → told.IsShortOnDp at held need limit → IsCloseShort g on history at need limit
-  short_on_dp need limit short =
+  pub dp_short : (need limit : ℕ) → told.IsShortOnDp at held need limit → IsDpShort g on_now st at need limit
+  dp_short need limit short =
       let full = short tape g on_now st stock in
-      inl (record { over = full.over; need_is = full.need_is; limit_is = full.limit_is })
+      record { over = full.over; need_is = full.need_is; limit_is = full.limit_is }
+
+  pub short_on_dp : (need limit : ℕ) → told.IsShortOnDp at held need limit → IsCloseShort g on history at need limit
+  short_on_dp need limit short = inl (dp_short need limit short)
 
   -- an index of the data partition that was admitted isn't short there
   pub fits_dp : (mid : Stocked) → AdmitsOnDp at held mid → IsShortOnDp g on history at → ⊥

@@ -18,7 +18,11 @@ vcr_of (Some c) = c.vcr
 
 -- no generation is left for the close
 pub full_is : (at : Moment) → IsEnd by_reference (drive_at 0 None) (drive_at 30 None) (drive_at 30 None) (last_generation at) 30 at (ends.Full (2 ^ 62 + 1) (2 ^ 62))
-full_is at = (inl (record { over = refl; need_is = refl; limit_is = refl }), λ short. refl)
+full_is at = (
+  inl (record { over = refl; need_is = refl; limit_is = refl }),
+  λ short. refl,
+  λ can fits. absurd (fits (2 ^ 62 + 1, 2 ^ 62, record { over = refl; need_is = refl; limit_is = refl })),
+)
 
 -- and it made a command
 pub full_with_command_isnt : (at : Moment) → ¬ IsEnd by_reference (drive_at 0 None) (drive_at 30 None) (drive_at 31 None) (last_generation at) 31 at (ends.Full (2 ^ 62 + 1) (2 ^ 62))

@@ -11,7 +11,7 @@ use Rattle.plain_tree.specs.declared.calls.Placed.{Placed}
 use Rattle.session_script.specs.declared.scripts.ScriptLine.{ScriptLine}
 use Rattle.session_script.specs.declared.logs.Log.{Log}
 use Rattle.head_trail.specs.Trail.{steps, travel}
-use Rattle.tape_meaning.specs.Carried.{carried}
+use Rattle.tape_meaning.specs.Carried.{Carried, carried}
 use Rattle.tape_meaning.specs.declared.mounted.Mounted.{Mounted}
 use Rattle.volume_space.specs.Space.{is_over, need_of, limit_of, index_need}
 use Rattle.volume_space.specs.Closing.{close_ask, close_text, closing, is_ip_due}
@@ -106,8 +106,17 @@ pub record IsDoneClose (m : Meaning) (first now : Drive) (mounted : Mounted) (be
   pub sound : IfSome first.held (λ c. IsSound m c) → IsSound m held
   pub alike : m.AreAlike held (carried mounted.index) tree generation ⊎ IsLeftApart m first mounted before generation
 
+-- The cartridge stands for this tree, in some generation, and so does whatever a crash leaves of it.
+pub record LeavesTree (m : Meaning) (facts : Carried) (tree : Tree) (now : Drive) : Type 0 where
+  pub held : Cartridge
+  pub told : now.held ≡ Some held
+  pub generation : ℕ
+  pub stands : m.Stands held facts tree generation
+  pub left : (image : Cartridge) → now.leavings.now image → (other : ℕ) × m.Stands image facts tree other
+
 -- How a close at a moment ends: it had the space, it is done, and the cartridge is closed; it had too little, and
--- made no command where the data partition is short; or a command failed. Want of memory leaves the drive as it was.
+-- made no command where the data partition is short, and holds the tree of the whole history where the index partition
+-- alone is; or a command failed. Want of memory leaves the drive as it was.
 abbrev pub IsEnd : {D : Type 0} → Meaning → Drive → Drive → Drive → View D → D → Moment → CloseEnd → Type 0
 IsEnd m first before now v drive at (ends.Done generation) =
     ((need limit : ℕ) → ¬ IsCloseShort (given v first) v.on v.history at need limit)
@@ -117,6 +126,9 @@ IsEnd m first before now v drive at (ends.Done generation) =
 IsEnd m first before now v drive at (ends.Full need limit) =
     IsCloseShort (given v first) v.on v.history at need limit
     × (IsShortOnDp (given v first) v.on v.history at → drive ≡ v.drive)
+    × (CanTell (λ c. m.Stands c (carried v.fixed.mounted.index) v.fixed.tree v.fixed.mounted.newest × IsSound m c)
+    v.fixed.since first → ¬ IsShortOnDp (given v first) v.on v.history at
+    → LeavesTree m (carried v.fixed.mounted.index) (tree_after v (length v.history)) now)
 IsEnd m first before now v drive at (ends.Fault counts) = IsRise before.faults now.faults counts.before counts.after
 IsEnd m first before now v drive at ends.NoMemory = drive ≡ v.drive
 

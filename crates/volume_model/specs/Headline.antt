@@ -24,7 +24,7 @@ use Rattle.volume_model.specs.Acks.{AreAcks, AreReached, AreSyncs}
 use Rattle.volume_model.specs.Asking.{AreAsked, AreGrouped, AreNeeded, AreOfReads, ArePutOff}
 use Rattle.volume_model.specs.Steps.{does_dp_flush}
 use Rattle.volume_model.specs.Crash.{Meaning, IsSound, SurvivesCrashes}
-use Rattle.volume_model.specs.Ends.{IsCloseShort, IsDoneClose, bounded}
+use Rattle.volume_model.specs.Ends.{IsCloseShort, IsDoneClose, IsShortOnDp, LeavesTree, bounded}
 use Rattle.volume_model.specs.Faults.{AreFaults}
 use Rattle.volume_model.specs.Replies.{AreReplies}
 use Rattle.volume_model.specs.Served.{Drive, CanTell, given_of, queued}
@@ -133,7 +133,8 @@ last_fault first log = by (filter_map fault_of log.events)
     by faults = fold (λ _ t. t.after) first.faults faults
 
 -- When serving ends so: the close had the space, and the cartridge stands for the tree of the whole history, with nothing
--- pending; the close is short by its numbers; or the drive's count of faults rose in the close, after all faults of the log.
+-- pending; the close is short by its numbers, and where the index partition alone is, the cartridge holds the tree of the
+-- whole history; or the drive's count of faults rose in the close, after all faults of the log.
 abbrev pub IsEndOf : Meaning → List ScriptLine → Drive → Drive → Log → ServeEnd → Type 0
 IsEndOf m script first now log (Closed generation) =
     (tree : Tree) (mounted : Mounted)
@@ -149,4 +150,7 @@ IsEndOf m script first now log (Short need limit) =
     (λ c. m.Reads c (carried mounted.index) tree mounted.newest × m.Mounts c mounted) first.commands first
     → (on : Option ℕ) × (at : Moment) × IsOn (given_of script tree mounted first) log.events log.history on
     × IsCloseShort (given_of script tree mounted first) on log.history at need limit
+    × (CanTell (λ c. m.Stands c (carried mounted.index) tree mounted.newest × IsSound m c) first.commands first
+    → ¬ IsShortOnDp (given_of script tree mounted first) on log.history at
+    → LeavesTree m (carried mounted.index) (tree_of_log script tree log (length log.history)) now)
 IsEndOf m script first now log (Failed counts) = IsRise (last_fault first log) now.faults counts.before counts.after

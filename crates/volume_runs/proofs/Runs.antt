@@ -18,7 +18,7 @@ use Rattle.tape_meaning.specs.declared.mounted.Mounted.{Mounted}
 use Rattle.volume_space.specs.Closing.{closing}
 use Rattle.volume_space.specs.Standing.{Given, admitted}
 use Rattle.volume_model.specs.Crash.{SurvivesCrashes}
-use Rattle.volume_model.specs.Ends.{Closes, IsCloseShort, IsDoneClose, IsEnd, TellsNodes}
+use Rattle.volume_model.specs.Ends.{Closes, IsCloseShort, IsDoneClose, IsEnd, IsShortOnDp, LeavesTree, TellsNodes}
 use Rattle.volume_model.specs.Headline.{IsServeRun, IsTrueLog, tree_of_log}
 use Rattle.volume_model.specs.Meanings.{cartridges}
 use Rattle.volume_model.specs.Mount.{facts_of}
@@ -128,6 +128,28 @@ module _ {D : Type 0} (drive : Ghosts D) (script : List ScriptLine) (at : Option
     short m need limit is =
         subst (λ (e : Given × List Placed). IsCloseShort e.0 v.on e.1 m need limit) (λ i. (given_is i, history i)) is
 
+    -- one that is short on the index partition alone leaves the tree of the whole history
+    leaves_tree : (CanTell (StandsSound (carried v.fixed.mounted.index) v.fixed.tree v.fixed.mounted.newest)
+        v.fixed.since (seen drive v.fixed.first)
+        → ¬ IsShortOnDp (given v (seen drive v.fixed.first)) v.on v.history closes.at
+        → LeavesTree cartridges (carried v.fixed.mounted.index) (tree_after v (length v.history)) (seen drive now))
+        → CanTell (StandsSound (carried mounted.index) tree mounted.newest) (drive.commands start) (seen drive start)
+        → ¬ IsShortOnDp (given_of script tree mounted (seen drive start)) v.on log.history closes.at
+        → LeavesTree cartridges (carried mounted.index) (tree_of_log script tree log (length log.history))
+        (seen drive now)
+    leaves_tree leaves serve fits =
+        let same : ◌≡◌ {A = Given × List Placed} (given v (seen drive v.fixed.first), v.history)
+        (given_of script tree mounted (seen drive start), log.history) =
+        λ i. (given_is i, history i) in
+        subst
+        (λ (e : List Placed × Mounted × Tree × List ScriptLine).
+        LeavesTree cartridges (carried e.1.index) (replay (calls_of e.3) e.2 (take (length e.0) e.0)) (seen drive now))
+        (λ i. (history i, mounted_is i, tree_is i, played.script_is i))
+        (leaves
+        (told_stood drive played.most start v.fixed.first played.looked v.fixed.since played.since v.fixed.mounted
+        v.fixed.tree played.mounted (carried mounted.index) tree mounted.newest serve)
+        (λ short. fits (subst (λ (e : Given × List Placed). IsShortOnDp e.0 v.on e.1 closes.at) same short)))
+
     -- one that is done had the space
     roomy : (m : Moment)
         → ((need limit : ℕ) → ¬ IsCloseShort (given v (seen drive v.fixed.first)) v.on v.history m need limit)
@@ -186,8 +208,13 @@ module _ {D : Type 0} (drive : Ghosts D) (script : List ScriptLine) (at : Option
         roomy mounted tree can closes.at e.0,
       )
   ends_so (ends.Full need limit) e =
-      λ tree mounted can.
-      (v.on, closes.at, (rightly mounted tree can).on_is, short mounted tree can closes.at need limit e.0)
+      λ tree mounted can. (
+        v.on,
+        closes.at,
+        (rightly mounted tree can).on_is,
+        short mounted tree can closes.at need limit e.0,
+        leaves_tree mounted tree can e.2,
+      )
   ends_so (ends.Fault counts) e = record {
     lowest = omega (
       arith,
