@@ -1,5 +1,5 @@
 -- What a crash may leave after a command and another one behind it.
-use Rattle.std.proofs.Common.{ℕ, ◌≤◌, ◌≡◌, ⊎_elim, inl, inr, sym, subst, arith}
+use Rattle.std.proofs.Common.{ℕ, ◌≤◌, ⊎_elim, inl, inr, sym, subst, arith}
 use Rattle.crash_steps.specs.Crashes.{Crashes, NothingNew}
 
 -- Two commands, and a step that allows the first one alone and both one after the other.

@@ -29,4 +29,4 @@ pub mark-requires-clause-allowed : goal.mark-requires-clause-allowed
 mark-requires-clause-allowed g c at h is held =
     let same : c.args.place ≡ at = let e = c.in-Ok.ensures.head in cc in
     subst (λ (p : Place). LeavesAllowed (WithinWrite p.part p.pos (item.Mark) h) (g.D.Drive.leaves c.locate.new.self)
-        g.D.Drive.allows) same (allowed_then _ _ _ _ _ _ _ c.in-Ok.ensures.crash (c.requires.may h (sym c.in-Ok.ensures.held ∙ held)))
+    g.D.Drive.allows) same (allowed_then _ _ _ _ _ _ _ c.in-Ok.ensures.crash (c.requires.may h (sym c.in-Ok.ensures.held ∙ held)))

@@ -44,25 +44,28 @@ flushed_within : (at : Place) (x : Item) (held now before mid image : Cartridge)
 flushed_within at x held now before mid image is within (inl e) = inl (subst (λ (c : Cartridge). WithinWrite at.part at.pos x held before c) (sym e) within)
 flushed_within at x held now before mid image is within (inr e) = inr (subst (λ (c : Cartridge). IsWritten at.part at.pos x held c) (sym e) is)
 
-module _ (at : Place) (x : Item) (held : Cartridge) {m n k : ℕ} {leaves_a leaves_b leaves_c leaves_d : Cartridge → Type 0}
-    {since_a since_b since_c since_d : ℕ → Cartridge → Type 0} where
-  lost_crashes : Crashes NothingNew m leaves_a leaves_b since_a since_b
-      → Crashes (WithinDurably at.part at.pos x held) m leaves_a leaves_b since_a since_b
-  lost_crashes first = alone (λ image. inl (write_same at.part at.pos x held image)) first
+lost_crashes : (at : Place) (x : Item) (held : Cartridge) {m : ℕ} {leaves_a leaves_b : Cartridge → Type 0}
+    {since_a since_b : ℕ → Cartridge → Type 0} → Crashes NothingNew m leaves_a leaves_b since_a since_b
+    → Crashes (WithinDurably at.part at.pos x held) m leaves_a leaves_b since_a since_b
+lost_crashes at x held first = alone (λ image. inl (write_same at.part at.pos x held image)) first
 
-  put_crashes : m ≤ n → Crashes NothingNew m leaves_a leaves_b since_a since_b
-      → Crashes (WithinWrite at.part at.pos x held) n leaves_b leaves_c since_b since_c
-      → Crashes (WithinWrite at.part at.pos x held) m leaves_a leaves_c since_a since_c
-  put_crashes le first second = behind_looks (write_same at.part at.pos x held) le first second
+put_crashes : (at : Place) (x : Item) (held : Cartridge) {m n : ℕ} {leaves_a leaves_b leaves_c : Cartridge → Type 0}
+    {since_a since_b since_c : ℕ → Cartridge → Type 0} → m ≤ n
+    → Crashes NothingNew m leaves_a leaves_b since_a since_b
+    → Crashes (WithinWrite at.part at.pos x held) n leaves_b leaves_c since_b since_c
+    → Crashes (WithinWrite at.part at.pos x held) m leaves_a leaves_c since_a since_c
+put_crashes at x held le first second = behind_looks (write_same at.part at.pos x held) le first second
 
-  flushed_crashes : (now : Cartridge) → IsWritten at.part at.pos x held now → m ≤ n → n ≤ k
-      → Crashes NothingNew m leaves_a leaves_b since_a since_b
-      → Crashes (WithinWrite at.part at.pos x held) n leaves_b leaves_c since_b since_c
-      → Crashes (WithinFlush now) k leaves_c leaves_d since_c since_d
-      → Crashes (WithinDurably at.part at.pos x held) m leaves_a leaves_d since_a since_d
-  flushed_crashes now is le later first second third =
-      joined (λ before image within. inl within) (λ before mid image within step. flushed_within at x held now before mid image is within step)
-      (omega (arith, le, later)) (put_crashes le first second) third
+flushed_crashes : (at : Place) (x : Item) (held now : Cartridge) {m n k : ℕ}
+    {leaves_a leaves_b leaves_c leaves_d : Cartridge → Type 0}
+    {since_a since_b since_c since_d : ℕ → Cartridge → Type 0} → IsWritten at.part at.pos x held now → m ≤ n → n ≤ k
+    → Crashes NothingNew m leaves_a leaves_b since_a since_b
+    → Crashes (WithinWrite at.part at.pos x held) n leaves_b leaves_c since_b since_c
+    → Crashes (WithinFlush now) k leaves_c leaves_d since_c since_d
+    → Crashes (WithinDurably at.part at.pos x held) m leaves_a leaves_d since_a since_d
+flushed_crashes at x held now is le later first second third =
+    joined (λ before image within. inl within) (λ before mid image within step. flushed_within at x held now before mid image is within step)
+    (omega (arith, le, later)) (put_crashes at x held le first second) third
 
 pub returns-in-Err-clause-any_moment : goal.returns-in-Err-clause-any_moment
 returns-in-Err-clause-any_moment g c held is = lost_crashes c.args.place (item.Block c.args.bytes.now) held c.in-Err.ensures.crash
