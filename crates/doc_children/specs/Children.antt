@@ -12,7 +12,7 @@ use Rattle.doc_fields.specs.declared.tags.Tag.TheVariants.{HighestFileUid, Direc
 use Rattle.doc_fields.specs.declared.tags.Tag.TheVariants.{CreationTime, ChangeTime, ModifyTime, AccessTime, BackupTime}
 use Rattle.doc_fields.specs.declared.tags.Tag.TheVariants.{ReadOnly, OpenForWrite, ExtendedAttributes, Contents}
 use Rattle.doc_fields.specs.declared.tags.Tag.TheVariants.{ExtentInfo, Symlink, Extent, FileOffset, ByteOffset}
-use Rattle.doc_fields.specs.declared.tags.Tag.TheVariants.{ByteCount}
+use Rattle.doc_fields.specs.declared.tags.Tag.TheVariants.{ByteCount, Xattr, Key, Value}
 use Rattle.doc_children.specs.declared.Children.{Children}
 
 -- a number for each element
@@ -60,6 +60,9 @@ code Extent = 39
 code FileOffset = 40
 code ByteOffset = 41
 code ByteCount = 42
+code Xattr = 43
+code Key = 44
+code Value = 45
 
 abbrev pub member : Tag → List Tag → Bool
 member t [] = false

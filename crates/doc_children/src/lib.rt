@@ -99,5 +99,8 @@ fn code_of(tag: Tag) -> u32
         Tag::FileOffset => 40,
         Tag::ByteOffset => 41,
         Tag::ByteCount => 42,
+        Tag::Xattr => 43,
+        Tag::Key => 44,
+        Tag::Value => 45,
     }
 }

@@ -4,7 +4,7 @@ use Rattle.std.proofs.lemmas.Bool.{and_parts}
 use Rattle.std.proofs.lemmas.Str.{IsUtf8-append, IsUtf8-nil}
 use Rattle.doc_fields.specs.declared.tags.Tag.{Tag}
 use Rattle.doc_fields.specs.declared.starts.Attribute.{Attribute}
-use Rattle.doc_fields.specs.declared.starts.Attribute.TheVariants.{Absent, Version, Percent}
+use Rattle.doc_fields.specs.declared.starts.Attribute.TheVariants.{Absent, Version, Percent, Base64, Plain}
 use Rattle.doc_fields.specs.declared.starts.Start.{Start}
 use Rattle.doc_fields.specs.Space.{space_end}
 use Rattle.doc_fields.specs.Tags.{spelled}
@@ -110,6 +110,8 @@ attribute_valid Absent = IsUtf8-nil
 attribute_valid Version = ascii_valid (attribute_text Version) refl
 attribute_valid (Percent true) = ascii_valid (attribute_text (Percent true)) refl
 attribute_valid (Percent false) = ascii_valid (attribute_text (Percent false)) refl
+attribute_valid Base64 = ascii_valid (attribute_text Base64) refl
+attribute_valid Plain = ascii_valid (attribute_text Plain) refl
 
 start_valid : (tag : Tag) (a : Attribute) → HasTags tag a → IsUtf8 (start_text tag a)
 start_valid tag a h = IsUtf8-append (60 ∷ spelled tag ++ attribute_text a) (62 ∷ []) (IsUtf8-append (60 ∷ spelled tag) (attribute_text a) (ascii_valid (60 ∷ spelled tag) h.name) (attribute_valid a)) (ascii_valid (62 ∷ []) refl)

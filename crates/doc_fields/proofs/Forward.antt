@@ -14,7 +14,7 @@ use Rattle.tape_types.specs.Times.{civil_in}
 use Rattle.tape_types.specs.Uuids.{uuid_in}
 use Rattle.doc_fields.specs.Reading.{Read, ◌>>=◌, between, byte, fault, literal_at, one_at, syntax_at, unknown_at}
 use Rattle.doc_fields.specs.Space.{is_space, run_end, space_end}
-use Rattle.doc_fields.specs.StartTag.{attribute_at, behind_at, begins_name, closes_at, first_at, in_name, is_known, is_version, name_at, named_at, percent_of, quoted_at, rest_at, second_at, tag_or_unknown, value_at, version_at}
+use Rattle.doc_fields.specs.StartTag.{attribute_at, behind_at, begins_name, closes_at, first_at, in_name, is_known, is_version, name_at, named_at, attribute_of, quoted_at, rest_at, second_at, tag_or_unknown, value_at, version_at}
 use Rattle.doc_fields.specs.EndTag.{end_at}
 use Rattle.doc_fields.specs.Tags.{is_root, spelled, tag_named}
 use Rattle.doc_fields.specs.Numbers.{digits, number_at, number_of}
@@ -157,7 +157,7 @@ first_after : (tag : Tag) (from : ℕ) (text : List ℕ) (at : ℕ) (o : Option 
 first_after tag from text at None s low e = omega (arith, closes_after tag _ text (space_end text at) s e, space_after text at)
 first_after tag from text at (Some name) s low e =
     let v = then_ok (value_at text name.1) _ s e in
-    let a = then_ok (percent_of (between text v.0.0 v.0.1) v.0.0) _ s v.2 in
+    let a = then_ok (attribute_of tag (between text v.0.0 v.0.1) v.0.0) _ s v.2 in
     omega (arith, low, value_after text name.1 v.0 v.1, behind_after tag a.0 from text (v.0.1 + 1) s a.2)
 
 version_after : (tag : Tag) (from : ℕ) (text : List ℕ) (at : ℕ) (o : Option (ℕ × ℕ)) (s : Start) → IfSome o (λ n. at ≤ n.1) → version_at tag from text at o ≡ Ok s → at < s.next

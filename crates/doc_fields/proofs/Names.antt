@@ -2,7 +2,7 @@
 use Rattle.std.proofs.Common.{◌≡◌, ℕ, ◌-◌, Bool, true, false, cond, List, [], ◌∷◌, length, get_or, Option, Some, None, refl, sym, ap, ◌∙◌, arith, ◌↔◌, IsTrue}
 use Rattle.std.specs.Cmp.Lexicographic.{bytes_decides}
 use Rattle.doc_fields.specs.declared.tags.Tag.{Tag}
-use Rattle.doc_fields.specs.declared.tags.Tag.TheVariants.{LtfsLabel, LtfsIndex, Creator, Comment, FormatTime, VolumeUuid, Location, Partition, Partitions, IndexLetter, DataLetter, BlockSize, Compression, GenerationNumber, UpdateTime, PreviousGenerationLocation, StartBlock, AllowPolicyUpdate, DataPlacementPolicy, IndexPartitionCriteria, Size, VolumeLockState, HighestFileUid, Directory, File, FileUid, Name, Length, CreationTime, ChangeTime, ModifyTime, AccessTime, BackupTime, ReadOnly, OpenForWrite, ExtendedAttributes, Contents, ExtentInfo, Symlink, Extent, FileOffset, ByteOffset, ByteCount}
+use Rattle.doc_fields.specs.declared.tags.Tag.TheVariants.{LtfsLabel, LtfsIndex, Creator, Comment, FormatTime, VolumeUuid, Location, Partition, Partitions, IndexLetter, DataLetter, BlockSize, Compression, GenerationNumber, UpdateTime, PreviousGenerationLocation, StartBlock, AllowPolicyUpdate, DataPlacementPolicy, IndexPartitionCriteria, Size, VolumeLockState, HighestFileUid, Directory, File, FileUid, Name, Length, CreationTime, ChangeTime, ModifyTime, AccessTime, BackupTime, ReadOnly, OpenForWrite, ExtendedAttributes, Contents, ExtentInfo, Symlink, Extent, FileOffset, ByteOffset, ByteCount, Xattr, Key, Value}
 use Rattle.doc_fields.specs.Likely.{likely}
 use Rattle.doc_fields.specs.Tags.{spelled, all_tags, same, first_named, tag_named}
 
@@ -52,6 +52,9 @@ named Extent = refl
 named FileOffset = refl
 named ByteOffset = refl
 named ByteCount = refl
+named Xattr = refl
+named Key = refl
+named Value = refl
 
 -- and is the one that its name's length and ends tell of
 abbrev guess : List ℕ → Tag
@@ -101,6 +104,9 @@ guessed Extent = refl
 guessed FileOffset = refl
 guessed ByteOffset = refl
 guessed ByteCount = refl
+guessed Xattr = refl
+guessed Key = refl
+guessed Value = refl
 
 found : (name : List ℕ) (ts : List Tag) (t : Tag) → first_named name ts ≡ Some t → name ≡ spelled t
 found name [] t e = absurd cc

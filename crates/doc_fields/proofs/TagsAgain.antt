@@ -3,11 +3,11 @@ use Rattle.std.proofs.Common.{◌≡◌, ℕ, ◌+◌, Bool, true, false, eqb, l
 use Rattle.std.proofs.lemmas.Bool.Decides.{nat_tests}
 use Rattle.std.proofs.lemmas.List.{get_or-drop}
 use Rattle.doc_fields.specs.declared.tags.Tag.{Tag}
-use Rattle.doc_fields.specs.declared.tags.Tag.TheVariants.{LtfsLabel, LtfsIndex, Creator, Comment, FormatTime, VolumeUuid, Location, Partition, Partitions, IndexLetter, DataLetter, BlockSize, Compression, GenerationNumber, UpdateTime, PreviousGenerationLocation, StartBlock, AllowPolicyUpdate, DataPlacementPolicy, IndexPartitionCriteria, Size, VolumeLockState, HighestFileUid, Directory, File, FileUid, Name, Length, CreationTime, ChangeTime, ModifyTime, AccessTime, BackupTime, ReadOnly, OpenForWrite, ExtendedAttributes, Contents, ExtentInfo, Symlink, Extent, FileOffset, ByteOffset, ByteCount}
+use Rattle.doc_fields.specs.declared.tags.Tag.TheVariants.{LtfsLabel, LtfsIndex, Creator, Comment, FormatTime, VolumeUuid, Location, Partition, Partitions, IndexLetter, DataLetter, BlockSize, Compression, GenerationNumber, UpdateTime, PreviousGenerationLocation, StartBlock, AllowPolicyUpdate, DataPlacementPolicy, IndexPartitionCriteria, Size, VolumeLockState, HighestFileUid, Directory, File, FileUid, Name, Length, CreationTime, ChangeTime, ModifyTime, AccessTime, BackupTime, ReadOnly, OpenForWrite, ExtendedAttributes, Contents, ExtentInfo, Symlink, Extent, FileOffset, ByteOffset, ByteCount, Xattr, Key, Value}
 use Rattle.doc_fields.specs.declared.starts.Attribute.{Attribute}
-use Rattle.doc_fields.specs.declared.starts.Attribute.TheVariants.{Absent, Version, Percent}
+use Rattle.doc_fields.specs.declared.starts.Attribute.TheVariants.{Absent, Version, Percent, Base64, Plain}
 use Rattle.doc_fields.specs.Space.{is_space, run_end, space_end}
-use Rattle.doc_fields.specs.Tags.{spelled, is_root, is_escapable}
+use Rattle.doc_fields.specs.Tags.{spelled, is_root, is_escapable, is_typed}
 use Rattle.doc_fields.specs.StartTag.{begins_name, in_name, name_at, quoted_at, is_version, is_known, attribute_at, value_at, closes_at, behind_at, rest_at, named_at, start_at}
 use Rattle.doc_fields.specs.EndTag.{end_at}
 use Rattle.doc_fields.specs.Written.{attribute_text, start_text, end_text, may_have}
@@ -58,6 +58,9 @@ name_good Extent = (refl, refl, refl)
 name_good FileOffset = (refl, refl, refl)
 name_good ByteOffset = (refl, refl, refl)
 name_good ByteCount = (refl, refl, refl)
+name_good Xattr = (refl, refl, refl)
+name_good Key = (refl, refl, refl)
+name_good Value = (refl, refl, refl)
 
 no_root : (t : Tag) → is_escapable t ≡ true → is_root t ≡ false
 no_root LtfsLabel e = absurd cc
@@ -103,6 +106,105 @@ no_root Extent e = absurd cc
 no_root FileOffset e = absurd cc
 no_root ByteOffset e = absurd cc
 no_root ByteCount e = absurd cc
+no_root Xattr e = absurd cc
+no_root Key e = refl
+no_root Value e = absurd cc
+
+no_type : (t : Tag) → is_escapable t ≡ true → is_typed t ≡ false
+no_type LtfsLabel e = absurd cc
+no_type LtfsIndex e = absurd cc
+no_type Creator e = absurd cc
+no_type Comment e = absurd cc
+no_type FormatTime e = absurd cc
+no_type VolumeUuid e = absurd cc
+no_type Location e = absurd cc
+no_type Partition e = absurd cc
+no_type Partitions e = absurd cc
+no_type IndexLetter e = absurd cc
+no_type DataLetter e = absurd cc
+no_type BlockSize e = absurd cc
+no_type Compression e = absurd cc
+no_type GenerationNumber e = absurd cc
+no_type UpdateTime e = absurd cc
+no_type PreviousGenerationLocation e = absurd cc
+no_type StartBlock e = absurd cc
+no_type AllowPolicyUpdate e = absurd cc
+no_type DataPlacementPolicy e = absurd cc
+no_type IndexPartitionCriteria e = absurd cc
+no_type Size e = absurd cc
+no_type VolumeLockState e = absurd cc
+no_type HighestFileUid e = absurd cc
+no_type Directory e = absurd cc
+no_type File e = absurd cc
+no_type FileUid e = absurd cc
+no_type Name e = refl
+no_type Length e = absurd cc
+no_type CreationTime e = absurd cc
+no_type ChangeTime e = absurd cc
+no_type ModifyTime e = absurd cc
+no_type AccessTime e = absurd cc
+no_type BackupTime e = absurd cc
+no_type ReadOnly e = absurd cc
+no_type OpenForWrite e = absurd cc
+no_type ExtendedAttributes e = absurd cc
+no_type Contents e = absurd cc
+no_type ExtentInfo e = absurd cc
+no_type Symlink e = refl
+no_type Extent e = absurd cc
+no_type FileOffset e = absurd cc
+no_type ByteOffset e = absurd cc
+no_type ByteCount e = absurd cc
+no_type Xattr e = absurd cc
+no_type Key e = refl
+no_type Value e = absurd cc
+
+typed : (t : Tag) → is_typed t ≡ true → (is_root t ≡ false) × (is_escapable t ≡ false)
+typed LtfsLabel e = absurd cc
+typed LtfsIndex e = absurd cc
+typed Creator e = absurd cc
+typed Comment e = absurd cc
+typed FormatTime e = absurd cc
+typed VolumeUuid e = absurd cc
+typed Location e = absurd cc
+typed Partition e = absurd cc
+typed Partitions e = absurd cc
+typed IndexLetter e = absurd cc
+typed DataLetter e = absurd cc
+typed BlockSize e = absurd cc
+typed Compression e = absurd cc
+typed GenerationNumber e = absurd cc
+typed UpdateTime e = absurd cc
+typed PreviousGenerationLocation e = absurd cc
+typed StartBlock e = absurd cc
+typed AllowPolicyUpdate e = absurd cc
+typed DataPlacementPolicy e = absurd cc
+typed IndexPartitionCriteria e = absurd cc
+typed Size e = absurd cc
+typed VolumeLockState e = absurd cc
+typed HighestFileUid e = absurd cc
+typed Directory e = absurd cc
+typed File e = absurd cc
+typed FileUid e = absurd cc
+typed Name e = absurd cc
+typed Length e = absurd cc
+typed CreationTime e = absurd cc
+typed ChangeTime e = absurd cc
+typed ModifyTime e = absurd cc
+typed AccessTime e = absurd cc
+typed BackupTime e = absurd cc
+typed ReadOnly e = absurd cc
+typed OpenForWrite e = absurd cc
+typed ExtendedAttributes e = absurd cc
+typed Contents e = absurd cc
+typed ExtentInfo e = absurd cc
+typed Symlink e = absurd cc
+typed Extent e = absurd cc
+typed FileOffset e = absurd cc
+typed ByteOffset e = absurd cc
+typed ByteCount e = absurd cc
+typed Xattr e = absurd cc
+typed Key e = absurd cc
+typed Value e = (refl, refl)
 
 first_of : (s rest : List ℕ) → ltb 0 (length s) ≡ true → get_or (s ++ rest) 0 0 ≡ get_or s 0 0
 first_of [] rest e = absurd cc
@@ -209,6 +311,7 @@ percent_true : (text : List ℕ) (tag : Tag) (from at : ℕ) (rest : List ℕ) �
 unfolding rest_at
 percent_true text tag from at rest may e =
     let other = no_root tag may in
+    let plain = no_type tag may in
     let known : is_known tag (codes "percentencoded") ≡ true = rw (other, may) refl in
     let k = known_again tag 112 (codes "ercentencoded") text from at (34 ∷ codes "true" ++ 34 ∷ 62 ∷ rest) known refl refl refl refl refl e in
     let a = next_is text at (codes " percentencoded") (61 ∷ 34 ∷ codes "true" ++ 34 ∷ 62 ∷ rest) e in
@@ -221,12 +324,13 @@ percent_true text tag from at rest may e =
     let behind : at + 17 + 4 + 1 ≡ at + 22 = omega arith in
     let h = behind_again text tag (Percent true) from (at + 22) rest b in
     let last : at + 22 + 1 ≡ at + 23 = omega arith in
-    rw (k, other, there, v, begin, word, behind, h, last) refl
+    rw (k, other, there, v, begin, word, plain, behind, h, last) refl
 
 percent_false : (text : List ℕ) (tag : Tag) (from at : ℕ) (rest : List ℕ) → is_escapable tag ≡ true → drop at text ≡ codes " percentencoded=\"false\"" ++ 62 ∷ rest → rest_at tag from text at ≡ Ok (record { tag = tag; attribute = Percent false; empty = false; next = at + 24 })
 unfolding rest_at
 percent_false text tag from at rest may e =
     let other = no_root tag may in
+    let plain = no_type tag may in
     let known : is_known tag (codes "percentencoded") ≡ true = rw (other, may) refl in
     let k = known_again tag 112 (codes "ercentencoded") text from at (34 ∷ codes "false" ++ 34 ∷ 62 ∷ rest) known refl refl refl refl refl e in
     let a = next_is text at (codes " percentencoded") (61 ∷ 34 ∷ codes "false" ++ 34 ∷ 62 ∷ rest) e in
@@ -239,7 +343,45 @@ percent_false text tag from at rest may e =
     let behind : at + 17 + 5 + 1 ≡ at + 23 = omega arith in
     let h = behind_again text tag (Percent false) from (at + 23) rest b in
     let last : at + 23 + 1 ≡ at + 24 = omega arith in
-    rw (k, other, there, v, begin, word, behind, h, last) refl
+    rw (k, other, there, v, begin, word, plain, behind, h, last) refl
+
+type_base64 : (text : List ℕ) (tag : Tag) (from at : ℕ) (rest : List ℕ) → is_typed tag ≡ true → drop at text ≡ codes " type=\"base64\"" ++ 62 ∷ rest → rest_at tag from text at ≡ Ok (record { tag = tag; attribute = Base64; empty = false; next = at + 15 })
+unfolding rest_at
+type_base64 text tag from at rest may e =
+    let other = (typed tag may).0 in
+    let plain = (typed tag may).1 in
+    let known : is_known tag (codes "type") ≡ true = rw (other, plain, may) refl in
+    let k = known_again tag 116 (codes "ype") text from at (34 ∷ codes "base64" ++ 34 ∷ 62 ∷ rest) known refl refl refl refl refl e in
+    let a = next_is text at (codes " type") (61 ∷ 34 ∷ codes "base64" ++ 34 ∷ 62 ∷ rest) e in
+    let there : at + 1 + 4 ≡ at + 5 = omega arith in
+    let v = value_again text (at + 5) (codes "base64") (62 ∷ rest) refl a in
+    let c = next_is text at (codes " type=\"") (codes "base64" ++ 34 ∷ 62 ∷ rest) e in
+    let begin : at + 5 + 1 + 1 ≡ at + 7 = omega arith in
+    let word = between_again text (at + 7) (codes "base64") (34 ∷ 62 ∷ rest) c in
+    let b = next_is text at (codes " type=\"base64\"") (62 ∷ rest) e in
+    let behind : at + 7 + 6 + 1 ≡ at + 14 = omega arith in
+    let h = behind_again text tag Base64 from (at + 14) rest b in
+    let last : at + 14 + 1 ≡ at + 15 = omega arith in
+    rw (k, other, there, v, begin, word, may, behind, h, last) refl
+
+type_text : (text : List ℕ) (tag : Tag) (from at : ℕ) (rest : List ℕ) → is_typed tag ≡ true → drop at text ≡ codes " type=\"text\"" ++ 62 ∷ rest → rest_at tag from text at ≡ Ok (record { tag = tag; attribute = Plain; empty = false; next = at + 13 })
+unfolding rest_at
+type_text text tag from at rest may e =
+    let other = (typed tag may).0 in
+    let plain = (typed tag may).1 in
+    let known : is_known tag (codes "type") ≡ true = rw (other, plain, may) refl in
+    let k = known_again tag 116 (codes "ype") text from at (34 ∷ codes "text" ++ 34 ∷ 62 ∷ rest) known refl refl refl refl refl e in
+    let a = next_is text at (codes " type") (61 ∷ 34 ∷ codes "text" ++ 34 ∷ 62 ∷ rest) e in
+    let there : at + 1 + 4 ≡ at + 5 = omega arith in
+    let v = value_again text (at + 5) (codes "text") (62 ∷ rest) refl a in
+    let c = next_is text at (codes " type=\"") (codes "text" ++ 34 ∷ 62 ∷ rest) e in
+    let begin : at + 5 + 1 + 1 ≡ at + 7 = omega arith in
+    let word = between_again text (at + 7) (codes "text") (34 ∷ 62 ∷ rest) c in
+    let b = next_is text at (codes " type=\"text\"") (62 ∷ rest) e in
+    let behind : at + 7 + 4 + 1 ≡ at + 12 = omega arith in
+    let h = behind_again text tag Plain from (at + 12) rest b in
+    let last : at + 12 + 1 ≡ at + 13 = omega arith in
+    rw (k, other, there, v, begin, word, may, behind, h, last) refl
 
 -- the rest of a start tag, by its attribute
 pub rest_again : (text : List ℕ) (tag : Tag) (a : Attribute) (from at : ℕ) (rest : List ℕ) → may_have tag a ≡ true → drop at text ≡ attribute_text a ++ 62 ∷ rest → rest_at tag from text at ≡ Ok (record { tag = tag; attribute = a; empty = false; next = at + length (attribute_text a) + 1 })
@@ -256,6 +398,12 @@ rest_again text tag (Percent true) from at rest may e =
 rest_again text tag (Percent false) from at rest may e =
     let there : at + 24 ≡ at + 23 + 1 = omega arith in
     percent_false text tag from at rest may e ∙ rw there refl
+rest_again text tag Base64 from at rest may e =
+    let there : at + 15 ≡ at + 14 + 1 = omega arith in
+    type_base64 text tag from at rest may e ∙ rw there refl
+rest_again text tag Plain from at rest may e =
+    let there : at + 13 ≡ at + 12 + 1 = omega arith in
+    type_text text tag from at rest may e ∙ rw there refl
 
 -- the byte behind the name
 name_ends : (a : Attribute) (rest : List ℕ) → (c : ℕ) × (more : List ℕ) × (attribute_text a ++ 62 ∷ rest ≡ c ∷ more) × (in_name c ≡ false)
@@ -263,6 +411,8 @@ name_ends Absent rest = (62, rest, refl, refl)
 name_ends Version rest = (32, codes "version=\"2.4.0\"" ++ 62 ∷ rest, refl, refl)
 name_ends (Percent true) rest = (32, codes "percentencoded=\"true\"" ++ 62 ∷ rest, refl, refl)
 name_ends (Percent false) rest = (32, codes "percentencoded=\"false\"" ++ 62 ∷ rest, refl, refl)
+name_ends Base64 rest = (32, codes "type=\"base64\"" ++ 62 ∷ rest, refl, refl)
+name_ends Plain rest = (32, codes "type=\"text\"" ++ 62 ∷ rest, refl, refl)
 
 -- a start tag, its name, and its rest
 pub record IsOpened (text : List ℕ) (tag : Tag) (a : Attribute) (at : ℕ) : Type 0 where

@@ -11,6 +11,9 @@ found key (row ∷ rows) other = if key == row.0 then row.1 else found key rows 
 abbrev pub of_four : ℕ → Tag
 of_four first = found first ((100, tag.DataLetter) ∷ (115, tag.Size) ∷ (102, tag.File) ∷ []) tag.Name
 
+abbrev pub of_five : ℕ → Tag
+of_five first = found first ((105, tag.IndexLetter) ∷ (120, tag.Xattr) ∷ []) tag.Value
+
 abbrev pub of_six : ℕ → Tag
 of_six first = found first ((108, tag.Length) ∷ []) tag.Extent
 
@@ -46,8 +49,9 @@ of_twelve first = found first ((99, tag.CreationTime) ∷ []) tag.OpenForWrite
 
 abbrev pub likely : ℕ → ℕ → ℕ → Tag
 likely length first last = found length (
-    (4, of_four first)
-    ∷ (5, tag.IndexLetter)
+    (3, tag.Key)
+    ∷ (4, of_four first)
+    ∷ (5, of_five first)
     ∷ (6, of_six first)
     ∷ (7, of_seven first last)
     ∷ (8, of_eight first)

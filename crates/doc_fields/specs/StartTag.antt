@@ -9,7 +9,7 @@ use Rattle.doc_fields.specs.declared.starts.Attribute.{Attribute}
 use Rattle.doc_fields.specs.declared.starts.Attribute.TheVariants as attribute
 use Rattle.doc_fields.specs.declared.starts.Start.{Start}
 use Rattle.doc_fields.specs.Space.{run_end, space_end}
-use Rattle.doc_fields.specs.Tags.{tag_named, is_root, is_escapable, same}
+use Rattle.doc_fields.specs.Tags.{tag_named, is_root, is_escapable, is_typed, same}
 use Rattle.doc_fields.specs.Reading.{◌>>=◌, Read, byte, between, fault, syntax_at, unknown_at, one_at}
 
 abbrev pub in_range : ℕ → ℕ → ℕ → Bool
@@ -48,6 +48,7 @@ is_version v =
 -- whether an element may have an attribute
 abbrev pub is_known : Tag → List ℕ → Bool
 is_known tag name = is_root tag && same name (codes "version") || is_escapable tag && same name (codes "percentencoded")
+    || is_typed tag && same name (codes "type")
 
 -- What follows in a start tag whose `<` stands at `from`: nothing more, or an attribute that the element may have,
 -- with the first place of its name and the place behind it.
@@ -71,6 +72,16 @@ percent_of v at =
     if same v (codes "true") then Ok (attribute.Percent true)
     else (if same v (codes "false") then Ok (attribute.Percent false) else syntax_at at)
 
+-- how the text of a value is to be read
+abbrev pub type_of : List ℕ → ℕ → Read Attribute
+type_of v at =
+    if same v (codes "base64") then Ok attribute.Base64
+    else (if same v (codes "text") then Ok attribute.Plain else syntax_at at)
+
+-- the attribute that an element may have, by its value
+abbrev pub attribute_of : Tag → List ℕ → ℕ → Read Attribute
+attribute_of tag v at = if is_typed tag then type_of v at else percent_of v at
+
 -- the end of a start tag
 unfoldable pub closes_at : Tag → Attribute → List ℕ → ℕ → Read Start
 closes_at tag a text at =
@@ -92,7 +103,7 @@ abbrev pub first_at : Tag → ℕ → List ℕ → ℕ → Option (ℕ × ℕ) �
 first_at tag from text at None = closes_at tag attribute.Absent text (space_end text at)
 first_at tag from text at (Some name) = do
   v ← value_at text name.1
-  a ← percent_of (between text v.0 v.1) v.0
+  a ← attribute_of tag (between text v.0 v.1) v.0
   behind_at tag a from text (v.1 + 1)
 
 -- a version that isn't read comes before all that is wrong behind it, but for an attribute that isn't known

@@ -12,7 +12,7 @@ use Rattle.doc_fields.specs.declared.tags.Tag.TheVariants.{HighestFileUid, Direc
 use Rattle.doc_fields.specs.declared.tags.Tag.TheVariants.{CreationTime, ChangeTime, ModifyTime, AccessTime, BackupTime}
 use Rattle.doc_fields.specs.declared.tags.Tag.TheVariants.{ReadOnly, OpenForWrite, ExtendedAttributes, Contents}
 use Rattle.doc_fields.specs.declared.tags.Tag.TheVariants.{ExtentInfo, Symlink, Extent, FileOffset, ByteOffset}
-use Rattle.doc_fields.specs.declared.tags.Tag.TheVariants.{ByteCount}
+use Rattle.doc_fields.specs.declared.tags.Tag.TheVariants.{ByteCount, Xattr, Key, Value}
 
 -- an element's name
 abbrev pub spelled : Tag → List ℕ
@@ -59,6 +59,9 @@ spelled Extent = codes "extent"
 spelled FileOffset = codes "fileoffset"
 spelled ByteOffset = codes "byteoffset"
 spelled ByteCount = codes "bytecount"
+spelled Xattr = codes "xattr"
+spelled Key = codes "key"
+spelled Value = codes "value"
 
 abbrev pub all_tags : List Tag
 all_tags =
@@ -67,7 +70,7 @@ all_tags =
     ∷ PreviousGenerationLocation ∷ StartBlock ∷ AllowPolicyUpdate ∷ DataPlacementPolicy ∷ IndexPartitionCriteria
     ∷ Size ∷ VolumeLockState ∷ HighestFileUid ∷ Directory ∷ File ∷ FileUid ∷ Name ∷ Length ∷ CreationTime
     ∷ ChangeTime ∷ ModifyTime ∷ AccessTime ∷ BackupTime ∷ ReadOnly ∷ OpenForWrite ∷ ExtendedAttributes
-    ∷ Contents ∷ ExtentInfo ∷ Symlink ∷ Extent ∷ FileOffset ∷ ByteOffset ∷ ByteCount ∷ []
+    ∷ Contents ∷ ExtentInfo ∷ Symlink ∷ Extent ∷ FileOffset ∷ ByteOffset ∷ ByteCount ∷ Xattr ∷ Key ∷ Value ∷ []
 
 -- whether two lists of bytes are the same
 abbrev pub same : List ℕ → List ℕ → Bool
@@ -91,4 +94,10 @@ is_root _ = false
 abbrev pub is_escapable : Tag → Bool
 is_escapable Name = true
 is_escapable Symlink = true
+is_escapable Key = true
 is_escapable _ = false
+
+-- the element whose text is of a type that it may tell
+abbrev pub is_typed : Tag → Bool
+is_typed Value = true
+is_typed _ = false

@@ -5,21 +5,25 @@ use Rattle.std.specs.Prelude.{if◌then◌else◌}
 use Rattle.std.specs.List.{flat_map}
 use Rattle.doc_fields.specs.declared.tags.Tag.{Tag}
 use Rattle.doc_fields.specs.declared.starts.Attribute.{Attribute}
-use Rattle.doc_fields.specs.declared.starts.Attribute.TheVariants.{Absent, Version, Percent}
-use Rattle.doc_fields.specs.Tags.{spelled, is_root, is_escapable}
+use Rattle.doc_fields.specs.declared.starts.Attribute.TheVariants.{Absent, Version, Percent, Base64, Plain}
+use Rattle.doc_fields.specs.Tags.{spelled, is_root, is_escapable, is_typed}
 
 abbrev pub attribute_text : Attribute → List ℕ
 attribute_text Absent = []
 attribute_text Version = codes " version=\"2.4.0\""
 attribute_text (Percent true) = codes " percentencoded=\"true\""
 attribute_text (Percent false) = codes " percentencoded=\"false\""
+attribute_text Base64 = codes " type=\"base64\""
+attribute_text Plain = codes " type=\"text\""
 
--- the attribute that is written with an element: a root has its version, and only a name and the text of a symbolic
--- link may say whether they have escapes of percent signs
+-- the attribute that is written with an element: a root has its version, a name, a key and the text of a symbolic link
+-- may say whether they have escapes of percent signs, and a value of which type its text is
 abbrev pub may_have : Tag → Attribute → Bool
 may_have tag Absent = not (is_root tag)
 may_have tag Version = is_root tag
 may_have tag (Percent is) = is_escapable tag
+may_have tag Base64 = is_typed tag
+may_have tag Plain = is_typed tag
 
 abbrev pub start_text : Tag → Attribute → List ℕ
 start_text tag a = 60 ∷ spelled tag ++ attribute_text a ++ 62 ∷ []

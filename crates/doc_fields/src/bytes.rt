@@ -58,7 +58,8 @@ pub fn begins(word: &[u8], bytes: &[u8]) -> bool
     bytes.starts_with(word)
 }
 
-fn is_space(byte: u8) -> bool
+/// Space, tab, line feed and carriage return are white space.
+pub fn is_space(byte: u8) -> bool
     ensures { result ≡ is_space byte }
 {
     byte == b' ' || byte == b'\t' || byte == b'\n' || byte == b'\r'

@@ -14,7 +14,7 @@ mod texts;
 mod values;
 mod writing;
 
-pub use bytes::{byte, skip_space};
+pub use bytes::{byte, is_space, skip_space};
 pub use declaration::read_head;
 pub use errors::{FieldErr, Why};
 pub use laws::{

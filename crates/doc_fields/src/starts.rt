@@ -6,8 +6,9 @@ ghost use Rattle.doc_fields.specs.EndTag.{end_at};
 ghost use Rattle.doc_fields.specs.Space.{run_end};
 ghost use Rattle.doc_fields.specs.StartTag.{attribute_at, begins_name, behind_at, closes_at, first_at, in_name};
 ghost use Rattle.doc_fields.specs.StartTag.{in_range, is_known, is_version, name_at, named_at, no_version, percent_of};
+ghost use Rattle.doc_fields.specs.StartTag.{attribute_of, type_of};
 ghost use Rattle.doc_fields.specs.StartTag.{quoted_at, rest_at, second_at, start_at, value_at, version_at, versioned};
-ghost use Rattle.doc_fields.specs.Tags.{is_escapable, is_root};
+ghost use Rattle.doc_fields.specs.Tags.{is_escapable, is_root, is_typed};
 
 use crate::bytes::{byte, literal, one, skip_space, syntax};
 use crate::errors::{FieldErr, Why};
@@ -20,8 +21,12 @@ pub enum Attribute {
     Absent,
     /// `version`, of a root: one that is read, 2.0 to 2.4. It is written as 2.4.0.
     Version,
-    /// `percentencoded`, of a name or of the text of a symbolic link.
+    /// `percentencoded`, of a name, a key or the text of a symbolic link.
     Percent(bool),
+    /// `type` of a value whose text stands for bytes in base64.
+    Base64,
+    /// `type` of a value that is its text.
+    Plain,
 }
 
 /// A start tag.
@@ -150,7 +155,16 @@ fn is_escapable(tag: Tag) -> bool
     ensures { result ≡ is_escapable tag }
 {
     match tag {
-        Tag::Name | Tag::Symlink => true,
+        Tag::Name | Tag::Symlink | Tag::Key => true,
+        _ => false,
+    }
+}
+
+fn is_typed(tag: Tag) -> bool
+    ensures { result ≡ is_typed tag }
+{
+    match tag {
+        Tag::Value => true,
         _ => false,
     }
 }
@@ -161,6 +175,7 @@ fn is_known(tag: Tag, name: &[u8]) -> bool
 {
     is_root(tag) && name == b"version".as_slice()
         || is_escapable(tag) && name == b"percentencoded".as_slice()
+        || is_typed(tag) && name == b"type".as_slice()
 }
 
 /// Finds the attribute that follows, if one does: the place of its name and the place
@@ -221,6 +236,30 @@ fn percent_of(value: &[u8], at: usize) -> Result<Attribute, FieldErr>
     Err(syntax(at))
 }
 
+/// How the text of a value is to be read.
+fn type_of(value: &[u8], at: usize) -> Result<Attribute, FieldErr>
+    ensures { result ≡ type_of value.now at }
+{
+    if value == b"base64".as_slice() {
+        return Ok(Attribute::Base64);
+    }
+    if value == b"text".as_slice() {
+        return Ok(Attribute::Plain);
+    }
+    Err(syntax(at))
+}
+
+/// The attribute that an element may have, by its value.
+fn attribute_of(tag: Tag, value: &[u8], at: usize) -> Result<Attribute, FieldErr>
+    ensures { result ≡ attribute_of tag value.now at }
+{
+    if is_typed(tag) {
+        type_of(value, at)
+    } else {
+        percent_of(value, at)
+    }
+}
+
 #[tactic(auto, unfolding(crate::specs::StartTag::closes_at))]
 fn closes(tag: Tag, attribute: Attribute, text: &[u8], at: usize) -> Result<Start, FieldErr>
     requires { at ≤ length text.now }
@@ -277,8 +316,8 @@ fn read_other(
         return closes(tag, Attribute::Absent, text, skip_space(text, at));
     };
     let (start, end) = value(text, name.1)?;
-    let percent = percent_of(&text[start..end], start)?;
-    behind(tag, percent, from, text, end + 1)
+    let attribute = attribute_of(tag, &text[start..end], start)?;
+    behind(tag, attribute, from, text, end + 1)
 }
 
 /// The refusal of a root whose version isn't read: an attribute that isn't known comes

@@ -1,7 +1,8 @@
 //! The elements of the two documents, and their names.
 
 ghost use Rattle.std.specs.Prelude.{◌≡◌, true};
-ghost use Rattle.doc_fields.specs.Likely.{likely, of_four, of_six, of_seven, of_eight, of_nine, of_ten, of_twelve};
+ghost use Rattle.doc_fields.specs.Likely.{likely, of_four, of_five, of_six, of_seven, of_eight, of_nine, of_ten};
+ghost use Rattle.doc_fields.specs.Likely.{of_twelve};
 ghost use Rattle.doc_fields.specs.Reading.{has_no_zero};
 ghost use Rattle.doc_fields.specs.Tags.{spelled, tag_named};
 
@@ -53,6 +54,9 @@ pub enum Tag {
     FileOffset,
     ByteOffset,
     ByteCount,
+    Xattr,
+    Key,
+    Value,
 }
 
 /// The name of an element.
@@ -104,6 +108,9 @@ pub fn name_of(tag: Tag) -> &'static [u8]
         Tag::FileOffset => b"fileoffset",
         Tag::ByteOffset => b"byteoffset",
         Tag::ByteCount => b"bytecount",
+        Tag::Xattr => b"xattr",
+        Tag::Key => b"key",
+        Tag::Value => b"value",
     }
 }
 
@@ -128,7 +135,8 @@ fn likely(length: usize, first: u8, last: u8) -> Tag
 {
     match length {
         4 => of_four(first),
-        5 => Tag::IndexLetter,
+        3 => Tag::Key,
+        5 => of_five(first),
         6 => of_six(first),
         7 => of_seven(first, last),
         8 => of_eight(first),
@@ -155,6 +163,16 @@ fn of_four(first: u8) -> Tag
         b's' => Tag::Size,
         b'f' => Tag::File,
         _ => Tag::Name,
+    }
+}
+
+fn of_five(first: u8) -> Tag
+    ensures { result ≡ of_five first }
+{
+    match first {
+        b'i' => Tag::IndexLetter,
+        b'x' => Tag::Xattr,
+        _ => Tag::Value,
     }
 }
 

@@ -29,6 +29,8 @@ fn attribute_text(attribute: Attribute) -> &'static [u8]
         Attribute::Version => b" version=\"2.4.0\"",
         Attribute::Percent(true) => b" percentencoded=\"true\"",
         Attribute::Percent(false) => b" percentencoded=\"false\"",
+        Attribute::Base64 => b" type=\"base64\"",
+        Attribute::Plain => b" type=\"text\"",
     }
 }
 
