@@ -15,7 +15,7 @@ use Rattle.doc_elements.specs.declared.schema.Form.{Form}
 use Rattle.doc_elements.specs.declared.schema.Form.TheVariants as form
 use Rattle.doc_elements.specs.declared.schema.Place.{Place}
 use Rattle.doc_elements.specs.Documents.{Accepts, Halts, IsAccepted, IsStopped, Open, Point, Reaches, after, at_end, at_head, at_piece, counted, fresh, head_of, readable}
-use Rattle.doc_elements.specs.Pieces.{Frame, Piece, Val, ◌>>=◌, closes, empty_value, in_range, is_too_great, leaf, leaf_at, least, letter, lift, lock, name_in, name_of, named, number, number_in, opens, piece_at, spaced, time, truth, uuid, value_in, whole, words}
+use Rattle.doc_elements.specs.Pieces.{Frame, Piece, Val, ◌>>=◌, bytes, bytes_in, bytes_of, closes, empty_value, in_range, is_too_great, leaf, leaf_at, least, letter, lift, lock, name_in, name_of, named, number, number_in, opens, piece_at, spaced, time, truth, uuid, value_in, whole, words}
 use Rattle.doc_elements.proofs.Inversion.{What, bind_ok, lift_ok, piece_is}
 use Rattle.doc_elements.proofs.Once.{Final, IsFinal}
 use Rattle.doc_elements.proofs.Steps.{point}
@@ -68,6 +68,14 @@ name_in_after f from start text v e =
     let end : a.0.1 ≡ v.1 = ap (λ (p : Val × ℕ). p.1) (same_ok (words b.0, a.0.1) v b.2) in
     omega (arith, text_after text start.next a.0 (lift_ok (text_at text start.next) a.0 a.1), end)
 
+bytes_in_after : (start : Start) (text : List ℕ) (v : Val × ℕ) → bytes_in start text ≡ Ok v → start.next ≤ v.1
+unfolding bytes_in
+bytes_in_after start text v e =
+    let a = bind_ok (lift (text_at text start.next)) (λ x. bytes_of start.attribute text (space_end text start.next) x >>= λ bs. Ok (bytes bs, x.1)) v e in
+    let b = bind_ok (bytes_of start.attribute text (space_end text start.next) a.0) (λ bs. Ok (bytes bs, a.0.1)) v a.2 in
+    let end : a.0.1 ≡ v.1 = ap (λ (p : Val × ℕ). p.1) (same_ok (bytes b.0, a.0.1) v b.2) in
+    omega (arith, text_after text start.next a.0 (lift_ok (text_at text start.next) a.0 a.1), end)
+
 text_in_after : (start : Start) (text : List ℕ) (v : Val × ℕ) → (lift (text_at text start.next) >>= λ x. Ok (words x.0, x.1)) ≡ Ok v → start.next ≤ v.1
 text_in_after start text v e =
     let a = bind_ok (lift (text_at text start.next)) (λ x. Ok (words x.0, x.1)) v e in
@@ -82,6 +90,8 @@ value_after form.Text from start text v e = text_in_after start text v e
 value_after form.VolumeName from start text v e = name_in_after form.VolumeName from start text v e
 value_after form.NodeName from start text v e = name_in_after form.NodeName from start text v e
 value_after form.AnyName from start text v e = name_in_after form.AnyName from start text v e
+value_after form.Key from start text v e = name_in_after form.Key from start text v e
+value_after form.Value from start text v e = bytes_in_after start text v e
 value_after form.Time from start text v e =
     behind_space text start.next v.1 (spaced_after time text (time_at text (space_end text start.next)) (space_end text start.next) v (time_after text (space_end text start.next)) e)
 value_after form.Uuid from start text v e =
@@ -108,6 +118,8 @@ empty_after form.Text from at v e = let end : at ≡ v.1 = ap (λ (p : Val × �
 empty_after form.VolumeName from at v e = empty_name form.VolumeName from at v e
 empty_after form.NodeName from at v e = empty_name form.NodeName from at v e
 empty_after form.AnyName from at v e = empty_name form.AnyName from at v e
+empty_after form.Key from at v e = empty_name form.Key from at v e
+empty_after form.Value from at v e = let end : at ≡ v.1 = ap (λ (p : Val × ℕ). p.1) (same_ok (bytes [], at) v e) in omega (arith, end)
 empty_after _ from at v e = absurd (no_fault (errors.Syntax at) v e)
 
 leaf_after : (f : Form) (tag : Tag) (from : ℕ) (start : Start) (text : List ℕ) (v : Val × ℕ) → leaf_at f tag from start text ≡ Ok v → start.next ≤ v.1

@@ -9,5 +9,8 @@ pub mod Ends
 pub mod Timed
 pub mod Written
 pub mod WrittenItems
+pub mod Base64Lemmas
+pub mod WrittenNames
 pub mod WrittenValues
+pub mod WrittenAttributes
 pub mod WrittenAgain

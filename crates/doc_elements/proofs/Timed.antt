@@ -14,7 +14,7 @@ use Rattle.doc_elements.specs.declared.errors.PieceErr.{PieceErr}
 use Rattle.doc_elements.specs.declared.schema.Form.{Form}
 use Rattle.doc_elements.specs.declared.schema.Form.TheVariants as form
 use Rattle.doc_elements.specs.Documents.{Point, Reaches, after, counted}
-use Rattle.doc_elements.specs.Pieces.{Frame, Piece, Val, ◌>>=◌, closes, empty_value, in_range, leaf, leaf_at, letter, lift, lock, name_in, name_of, named, number, number_in, spaced, time, truth, uuid, value_in, words}
+use Rattle.doc_elements.specs.Pieces.{Frame, Piece, Val, ◌>>=◌, bytes, bytes_in, bytes_of, closes, empty_value, in_range, leaf, leaf_at, letter, lift, lock, name_in, name_of, named, number, number_in, spaced, time, truth, uuid, value_in, words}
 use Rattle.doc_elements.specs.Elements.{IsTimed, IsTimedPiece}
 use Rattle.doc_elements.proofs.Inversion.{What, bind_ok, lift_ok, piece_is}
 
@@ -37,6 +37,13 @@ name_timed f from start text v e =
     let b = bind_ok (name_of f from start.attribute text a.0) (λ name. Ok (words name, a.0.1)) v a.2 in
     as_value (words b.0) a.0.1 v b.2 tt
 
+bytes_timed : (start : Start) (text : List ℕ) (v : Val × ℕ) → bytes_in start text ≡ Ok v → IsTimed v.0
+unfolding bytes_in
+bytes_timed start text v e =
+    let a = bind_ok (lift (text_at text start.next)) (λ x. bytes_of start.attribute text (space_end text start.next) x >>= λ bs. Ok (bytes bs, x.1)) v e in
+    let b = bind_ok (bytes_of start.attribute text (space_end text start.next) a.0) (λ bs. Ok (bytes bs, a.0.1)) v a.2 in
+    as_value (bytes b.0) a.0.1 v b.2 tt
+
 number_timed : (f : Form) (text : List ℕ) (at : ℕ) (v : Val × ℕ) → number_in f text at ≡ Ok v → IsTimed v.0
 unfolding number_in
 number_timed f text at v e =
@@ -51,6 +58,8 @@ value_timed form.Text from start text v e =
 value_timed form.VolumeName from start text v e = name_timed form.VolumeName from start text v e
 value_timed form.NodeName from start text v e = name_timed form.NodeName from start text v e
 value_timed form.AnyName from start text v e = name_timed form.AnyName from start text v e
+value_timed form.Key from start text v e = name_timed form.Key from start text v e
+value_timed form.Value from start text v e = bytes_timed start text v e
 value_timed form.Time from start text v e = spaced_timed time text (time_at text (space_end text start.next)) v (time_read text (space_end text start.next)) e
 value_timed form.Uuid from start text v e = spaced_timed uuid text (uuid_at text (space_end text start.next)) v (λ x h. tt) e
 value_timed form.Letter from start text v e = spaced_timed letter text (letter_at text (space_end text start.next)) v (λ x h. tt) e
@@ -69,6 +78,8 @@ empty_timed form.Text from at v e = as_value (words []) at v e tt
 empty_timed form.VolumeName from at v e = named_timed form.VolumeName from at v e
 empty_timed form.NodeName from at v e = named_timed form.NodeName from at v e
 empty_timed form.AnyName from at v e = named_timed form.AnyName from at v e
+empty_timed form.Key from at v e = named_timed form.Key from at v e
+empty_timed form.Value from at v e = as_value (bytes []) at v e tt
 empty_timed _ from at v e = absurd cc
 
 leaf_timed : (f : Form) (tag : Tag) (from : ℕ) (start : Start) (text : List ℕ) (v : Val × ℕ) → leaf_at f tag from start text ≡ Ok v → IsTimed v.0

@@ -20,9 +20,9 @@ use Rattle.doc_elements.specs.declared.schema.Place.{Place}
 use Rattle.doc_elements.specs.declared.schema.Form.{Form}
 use Rattle.doc_elements.specs.declared.schema.Child.TheVariants as child
 use Rattle.doc_elements.specs.Elements.{Item, plain, bare, nested, Items, no_items, item, item_tag}
-use Rattle.doc_elements.specs.Pieces.{Val, words, time, uuid, letter, number, truth, lock, value_in, has_any}
+use Rattle.doc_elements.specs.Pieces.{Val, words, time, uuid, letter, number, truth, lock, bytes, value_in, has_any}
 use Rattle.doc_elements.specs.Schema.{rule, required, tag_of, may_repeat, excludes}
-use Rattle.doc_elements.specs.Written.{element, encoding}
+use Rattle.doc_elements.specs.Written.{bytes_text, bytes_type, element, encoding}
 
 -- ---- the text of elements
 
@@ -36,6 +36,7 @@ shown tag text = by (is_escapable tag)
 
 abbrev pub attribute_of : Tag → Val → Attribute
 attribute_of tag (words text) = encoding (shown tag text)
+attribute_of tag (bytes bs) = bytes_type bs
 attribute_of tag _ = Absent
 
 abbrev pub content_of : Tag → Val → List ℕ
@@ -46,6 +47,7 @@ content_of tag (letter b) = b ∷ []
 content_of tag (number n) = decimal n
 content_of tag (truth is) = bool_text is
 content_of tag (lock state) = lock_word state
+content_of tag (bytes bs) = bytes_text bs
 
 abbrev mutual
   pub text_of : Item → List ℕ

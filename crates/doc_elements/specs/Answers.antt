@@ -4,8 +4,8 @@ use Rattle.tape_types.specs.Times.{civil_of}
 use Rattle.doc_elements.specs.declared.errors.PieceErr.{PieceErr}
 use Rattle.doc_elements.specs.declared.errors.PieceErr.TheVariants as errors
 use Rattle.doc_elements.specs.Schema.{is_node}
-use Rattle.doc_elements.specs.Pieces.{Val, words, time, uuid, letter, number, truth, lock, Piece as Told, opens, whole}
-use Rattle.doc_elements.specs.Pieces.{closes, leaf}
+use Rattle.doc_elements.specs.Pieces.{Val, words, time, uuid, letter, number, truth, lock, bytes, Piece as Told, opens}
+use Rattle.doc_elements.specs.Pieces.{whole, closes, leaf}
 use Rattle.doc_elements.specs.declared.pieces.Piece.{Piece}
 use Rattle.doc_elements.specs.declared.pieces.Piece.TheVariants as code_pieces
 use Rattle.doc_elements.specs.declared.values.Value.{Value}
@@ -19,6 +19,7 @@ val_of (code.Letter byte) = letter byte
 val_of (code.Number n) = number n
 val_of (code.Truth is) = truth is
 val_of (code.Lock state) = lock state
+val_of (code.Bytes bs) = bytes bs
 
 abbrev pub piece_of : Piece → Told
 piece_of (code_pieces.Opens p) = opens p

@@ -1,9 +1,11 @@
 -- The piece of a document that follows: an end tag of the innermost open parent, a start tag of a parent, or a whole
 -- leaf.
 use Rattle.std.specs.Prelude.{ℕ, ◌+◌, ◌^◌, List, [], Bool, true, false, Option, Some, None, Result, Ok, Err, length}
-use Rattle.std.specs.Prelude.{nat_le, nat_lt, not, ◌==◌, ◌&&◌, if◌then◌else◌}
+use Rattle.std.specs.Prelude.{nat_le, nat_lt, not, filter, ◌==◌, ◌&&◌, if◌then◌else◌}
 use Rattle.std.specs.List.{list_any}
 use Rattle.std.specs.Str.{chars, is_utf8}
+use Rattle.base64.specs.Engines.{standard}
+use Rattle.base64.specs.GeneralPurpose.{decoded_of}
 use Rattle.tape_types.specs.declared.times.Civil.{Civil}
 use Rattle.tape_types.specs.Names.{has_byte, is_dot}
 use Rattle.doc_fields.specs.declared.errors.Why.{Why}
@@ -14,7 +16,7 @@ use Rattle.doc_fields.specs.declared.starts.Start.{Start}
 use Rattle.doc_fields.specs.declared.tags.Tag.{Tag}
 use Rattle.doc_fields.specs.declared.values.LockState.{LockState}
 use Rattle.doc_fields.specs.Reading.{Read, byte}
-use Rattle.doc_fields.specs.Space.{space_end}
+use Rattle.doc_fields.specs.Space.{is_space, space_end}
 use Rattle.doc_fields.specs.Numbers.{number_at}
 use Rattle.doc_fields.specs.Texts.{text_at}
 use Rattle.doc_fields.specs.Values.{bool_at, letter_at, lock_at, time_at, uuid_at}
@@ -22,6 +24,7 @@ use Rattle.doc_fields.specs.StartTag.{named_at, rest_at}
 use Rattle.doc_fields.specs.EndTag.{end_at}
 use Rattle.doc_children.specs.Children.{member, first_missing}
 use Rattle.ltfs_text.specs.Names.{decoded}
+use Rattle.node_keys.specs.Keys.{is_key}
 use Rattle.doc_elements.specs.declared.errors.PieceErr.{PieceErr}
 use Rattle.doc_elements.specs.declared.errors.PieceErr.TheVariants as errors
 use Rattle.doc_elements.specs.declared.schema.Place.{Place}
@@ -40,6 +43,7 @@ pub data Val : Type 0 where
   number : ℕ → Val
   truth : Bool → Val
   lock : LockState → Val
+  bytes : List ℕ → Val
 
 pub data Piece : Type 0 where
   opens : Place → Piece
@@ -110,6 +114,7 @@ is_volume_name name = nat_le (length (chars name)) 255 && not (has_byte 47 name)
 abbrev pub is_name : Form → List ℕ → Bool
 is_name form.VolumeName name = is_volume_name name
 is_name form.NodeName name = is_volume_name name && nat_lt 0 (length name) && not (is_dot name)
+is_name form.Key name = is_key name
 is_name _ name = true
 
 -- whether the start tag says that the text is percent-encoded
@@ -119,7 +124,7 @@ is_encoded _ = false
 
 -- the name that bytes are, which may have been percent-encoded; `from` is where its element begins
 abbrev pub named : Form → ℕ → List ℕ → Result (List ℕ) PieceErr
-named f from bytes = if is_utf8 bytes && is_name f bytes then Ok bytes else Err (errors.Name from)
+named f from name = if is_utf8 name && is_name f name then Ok name else Err (errors.Name from)
 
 -- the name that a text stands for, behind which a place is told; one that the document ends within could go on
 abbrev pub name_of : Form → ℕ → Attribute → List ℕ → List ℕ × ℕ → Result (List ℕ) PieceErr
@@ -133,12 +138,49 @@ name_in f from start text = do
   name ← name_of f from start.attribute text v
   Ok (words name, v.1)
 
+-- whether the start tag says that the text is in base64
+abbrev pub is_base64 : Attribute → Bool
+is_base64 attribute.Base64 = true
+is_base64 _ = false
+
+-- white space may stand anywhere in base64
+abbrev pub without_space : List ℕ → List ℕ
+without_space text = filter (λ b. not (is_space b)) text
+
+-- the bytes of which a text is the encoding: of the alphabet with `+` and `/`, with padding, and with no bits left over
+-- (RFC 4648, section 4)
+unfoldable pub from_base64 : List ℕ → Option (List ℕ)
+from_base64 text = decoded_of standard (without_space text)
+
+-- the bytes that a text stands for, in base64 or as it is
+abbrev pub bytes_told : Bool → List ℕ → Option (List ℕ)
+bytes_told in_base64 text = if in_base64 then from_base64 text else Some text
+
+abbrev pub some_bytes : ℕ → Option (List ℕ) → Result (List ℕ) PieceErr
+some_bytes at (Some bs) = Ok bs
+some_bytes at None = Err (errors.Syntax at)
+
+-- the bytes of a value by its text, behind which a place is told; one that the document ends within could go on
+abbrev pub bytes_of : Attribute → List ℕ → ℕ → List ℕ × ℕ → Result (List ℕ) PieceErr
+bytes_of attribute text at v =
+    if v.1 == length text then Err (errors.Syntax (length text))
+    else some_bytes at (bytes_told (is_base64 attribute) v.0)
+
+-- the bytes of a value that stands behind its start tag
+unfoldable pub bytes_in : Start → List ℕ → Result (Val × ℕ) PieceErr
+bytes_in start text = do
+  v ← lift (text_at text start.next)
+  bs ← bytes_of start.attribute text (space_end text start.next) v
+  Ok (bytes bs, v.1)
+
 -- the value of a leaf behind its start tag, which begins at `from`, and the place of its end tag
 abbrev pub value_in : Form → ℕ → Start → List ℕ → Result (Val × ℕ) PieceErr
 value_in form.Text from start text = lift (text_at text start.next) >>= λ v. Ok (words v.0, v.1)
 value_in form.VolumeName from start text = name_in form.VolumeName from start text
 value_in form.NodeName from start text = name_in form.NodeName from start text
 value_in form.AnyName from start text = name_in form.AnyName from start text
+value_in form.Key from start text = name_in form.Key from start text
+value_in form.Value from start text = bytes_in start text
 value_in form.Time from start text = spaced time text (time_at text (space_end text start.next))
 value_in form.Uuid from start text = spaced uuid text (uuid_at text (space_end text start.next))
 value_in form.Letter from start text = spaced letter text (letter_at text (space_end text start.next))
@@ -149,12 +191,14 @@ value_in form.Number from start text = number_in form.Number text (space_end tex
 value_in form.Bounded from start text = number_in form.Bounded text (space_end text start.next)
 value_in form.Generation from start text = number_in form.Generation text (space_end text start.next)
 
--- only a text and a name may be empty
+-- only a text, a name and a value may be empty
 abbrev pub empty_value : Form → ℕ → ℕ → Result (Val × ℕ) PieceErr
 empty_value form.Text from at = Ok (words [], at)
 empty_value form.VolumeName from at = named form.VolumeName from [] >>= λ name. Ok (words name, at)
 empty_value form.NodeName from at = named form.NodeName from [] >>= λ name. Ok (words name, at)
 empty_value form.AnyName from at = named form.AnyName from [] >>= λ name. Ok (words name, at)
+empty_value form.Key from at = named form.Key from [] >>= λ name. Ok (words name, at)
+empty_value form.Value from at = Ok (bytes [], at)
 empty_value _ from at = Err (errors.Syntax at)
 
 -- the rest of a leaf, behind its start tag

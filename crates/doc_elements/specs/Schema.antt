@@ -12,7 +12,7 @@ use Rattle.doc_fields.specs.declared.tags.Tag.TheVariants.{HighestFileUid, Direc
 use Rattle.doc_fields.specs.declared.tags.Tag.TheVariants.{CreationTime, ChangeTime, ModifyTime, AccessTime, BackupTime}
 use Rattle.doc_fields.specs.declared.tags.Tag.TheVariants.{ReadOnly, OpenForWrite, ExtendedAttributes, Contents}
 use Rattle.doc_fields.specs.declared.tags.Tag.TheVariants.{ExtentInfo, Symlink, Extent, FileOffset, ByteOffset}
-use Rattle.doc_fields.specs.declared.tags.Tag.TheVariants.{ByteCount}
+use Rattle.doc_fields.specs.declared.tags.Tag.TheVariants.{ByteCount, Xattr, Key, Value}
 use Rattle.doc_elements.specs.declared.schema.Place.{Place}
 use Rattle.doc_elements.specs.declared.schema.Place.TheVariants as place
 use Rattle.doc_elements.specs.declared.schema.Form.{Form}
@@ -112,6 +112,12 @@ abbrev pub extents_rule : Tag → Child
 extents_rule Extent = child.Parent place.Extent
 extents_rule _ = child.Unknown
 
+-- an extended attribute
+abbrev pub xattr_rule : Tag → Child
+xattr_rule Key = child.Leaf form.Key
+xattr_rule Value = child.Leaf form.Value
+xattr_rule _ = child.Unknown
+
 -- what an element is as a child, by its parent
 abbrev pub rule : Place → Tag → Child
 rule place.Label tag = label_rule tag
@@ -129,6 +135,7 @@ rule place.File tag = file_rule tag
 rule place.Attributes tag = child.Unknown
 rule place.ExtentInfo tag = extents_rule tag
 rule place.Extent tag = extent_rule tag
+rule place.Xattr tag = xattr_rule tag
 
 -- the children that a parent must have
 abbrev pub required : Place → List Tag
@@ -152,6 +159,7 @@ required place.File =
 required place.Attributes = []
 required place.ExtentInfo = []
 required place.Extent = FileOffset ∷ Partition ∷ StartBlock ∷ ByteOffset ∷ ByteCount ∷ []
+required place.Xattr = Key ∷ Value ∷ []
 
 -- the element of a parent
 abbrev pub tag_of : Place → Tag
@@ -170,6 +178,7 @@ tag_of place.File = File
 tag_of place.Attributes = ExtendedAttributes
 tag_of place.ExtentInfo = ExtentInfo
 tag_of place.Extent = Extent
+tag_of place.Xattr = Xattr
 
 -- whether a parent may have an element any number of times
 abbrev pub may_repeat : Place → Tag → Bool
@@ -209,3 +218,4 @@ place_code place.Extent = 11
 place_code place.Label = 12
 place_code place.Own = 13
 place_code place.Letters = 14
+place_code place.Xattr = 15

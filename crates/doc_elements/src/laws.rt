@@ -1,12 +1,20 @@
-//! Laws of documents: each text is one, or stops, and in one way.
+//! Laws of documents: each text is one, or stops, and in one way; what is written of an attribute is read again.
 
-ghost use Rattle.std.specs.Prelude.{◌≡◌, ◌≤◌, ◌⊎◌, ℕ, List, IsUtf8};
+ghost use Rattle.std.specs.Prelude.{◌≡◌, ◌≤◌, ◌⊎◌, ◌+◌, ◌∷◌, ◌++◌, ℕ, List, IsUtf8, Ok, Some, drop, length, true};
 ghost use Rattle.std.specs.List.{AllByRecursion};
+ghost use Rattle.base64.specs.Engines.{standard};
+ghost use Rattle.base64.specs.GeneralPurpose.{IsBytes, encode_of};
+ghost use Rattle.node_keys.specs.Keys.{is_key};
+ghost use Rattle.doc_fields.specs.declared.starts.Start.{Start};
+ghost use Rattle.doc_fields.specs.Written.{escape};
+ghost use Rattle.ltfs_text.specs.Names.{written};
 ghost use Rattle.doc_elements.specs.declared.errors.PieceErr.{PieceErr};
+ghost use Rattle.doc_elements.specs.declared.schema.Form.TheVariants as form;
 ghost use Rattle.doc_elements.specs.declared.schema.Place.{Place as ThePlace};
 ghost use Rattle.doc_elements.specs.Documents.{Accepts, IsAccepted, IsStopped, StopsAt};
 ghost use Rattle.doc_elements.specs.Elements.{IsMade, IsTimedPiece};
-ghost use Rattle.doc_elements.specs.Pieces.{Piece as ThePiece};
+ghost use Rattle.doc_elements.specs.Pieces.{Piece as ThePiece, bytes, from_base64, value_in, without_space, words};
+ghost use Rattle.doc_elements.specs.Written.{bytes_text, bytes_type, encoding};
 
 /// A text is a whole document of a root or stops, never both, and each in one way.
 pub fn texts_are_read_in_one_way()
@@ -26,4 +34,17 @@ pub fn pieces_are_elements()
     ensures only { (doc : ThePlace) (text : List ℕ) (ps : List ThePiece) → IsMade doc text ps → Accepts doc text ps }
     ensures timed { (doc : ThePlace) (text : List ℕ) (ps : List ThePiece) → Accepts doc text ps →
         AllByRecursion IsTimedPiece ps }
+{}
+
+/// The key and the bytes of an extended attribute that are written are read again behind the start tag that is written
+/// with them. A text in base64 that is read is, but for its white space, the one text of its bytes.
+pub fn attributes_read_back()
+    ensures keys { (key text rest : List ℕ) (from : ℕ) (start : Start) → IsUtf8 key → is_key key ≡ true →
+        start.attribute ≡ encoding (written key) → drop start.next text ≡ escape (written key).text ++ 60 ∷ rest →
+        value_in form.Key from start text ≡ Ok (words key, start.next + length (escape (written key).text)) }
+    ensures values { (bs text rest : List ℕ) (from : ℕ) (start : Start) → IsBytes bs →
+        start.attribute ≡ bytes_type bs → drop start.next text ≡ bytes_text bs ++ 60 ∷ rest →
+        value_in form.Value from start text ≡ Ok (bytes bs, start.next + length (bytes_text bs)) }
+    ensures one_text { (text bs : List ℕ) → IsBytes text → from_base64 text ≡ Some bs →
+        without_space text ≡ encode_of standard bs }
 {}

@@ -2,6 +2,7 @@
 //! the piece of a document that follows (LTFS 2.4 on the format label and on the index).
 #![tactic(auto)]
 
+mod encodings;
 mod errors;
 mod heads;
 mod laws;
@@ -12,7 +13,7 @@ mod values;
 
 pub use errors::PieceErr;
 pub use heads::{readable, skip_head};
-pub use laws::{pieces_are_elements, texts_are_read_in_one_way};
+pub use laws::{attributes_read_back, pieces_are_elements, texts_are_read_in_one_way};
 pub use pieces::{Frame, Piece, next_piece};
 pub use schema::{Place, is_node, tag_of};
 pub use values::Value;

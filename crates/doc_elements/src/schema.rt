@@ -4,7 +4,7 @@ ghost use Rattle.std.specs.Prelude.{◌≡◌};
 ghost use Rattle.doc_elements.specs.Schema.{contents_rule, criteria_rule, directory_rule, excludes, extent_rule};
 ghost use Rattle.doc_elements.specs.Schema.{extents_rule, file_rule, index_rule, is_node, label_rule, letters_rule};
 ghost use Rattle.doc_elements.specs.Schema.{may_repeat, node_rule, own_rule, policy_rule, required, rule, spot_rule};
-ghost use Rattle.doc_elements.specs.Schema.{tag_of};
+ghost use Rattle.doc_elements.specs.Schema.{tag_of, xattr_rule};
 
 use doc_fields::Tag;
 
@@ -35,6 +35,8 @@ pub enum Place {
     Attributes,
     ExtentInfo,
     Extent,
+    /// One extended attribute.
+    Xattr,
 }
 
 /// The form of a leaf's value.
@@ -47,6 +49,10 @@ pub enum Form {
     NodeName,
     /// Any text, which may be percent-encoded as a name.
     AnyName,
+    /// The key of an extended attribute, which may be percent-encoded too.
+    Key,
+    /// Bytes, as a text or in base64.
+    Value,
     Time,
     Uuid,
     Letter,
@@ -219,6 +225,16 @@ fn child_of_extents(tag: Tag) -> Child
     }
 }
 
+fn child_of_xattr(tag: Tag) -> Child
+    ensures { result ≡ xattr_rule tag }
+{
+    match tag {
+        Tag::Key => Child::Leaf(Form::Key),
+        Tag::Value => Child::Leaf(Form::Value),
+        _ => Child::Unknown,
+    }
+}
+
 /// What an element is as a child of a parent.
 pub fn child_of(place: Place, tag: Tag) -> Child
     ensures { result ≡ rule place tag }
@@ -238,6 +254,7 @@ pub fn child_of(place: Place, tag: Tag) -> Child
         Place::Attributes => Child::Unknown,
         Place::ExtentInfo => child_of_extents(tag),
         Place::Extent => child_of_extent(tag),
+        Place::Xattr => child_of_xattr(tag),
     }
 }
 
@@ -260,6 +277,7 @@ pub fn tag_of(place: Place) -> Tag
         Place::Attributes => Tag::ExtendedAttributes,
         Place::ExtentInfo => Tag::ExtentInfo,
         Place::Extent => Tag::Extent,
+        Place::Xattr => Tag::Xattr,
     }
 }
 
@@ -322,6 +340,7 @@ pub fn required(place: Place) -> &'static [Tag]
             Tag::ByteOffset,
             Tag::ByteCount,
         ],
+        Place::Xattr => &[Tag::Key, Tag::Value],
     }
 }
 

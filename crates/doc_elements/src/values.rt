@@ -5,10 +5,12 @@ ghost use Rattle.std.specs.Str.{chars, is_utf8};
 ghost use Rattle.tape_types.specs.Names.{has_byte};
 ghost use Rattle.ltfs_text.specs.Names.{decoded};
 ghost use Rattle.doc_elements.specs.declared.errors.PieceErr.TheVariants as errors;
-ghost use Rattle.doc_elements.specs.Pieces.{empty_value, is_encoded, is_name, is_too_great, is_volume_name, leaf_at};
-ghost use Rattle.doc_elements.specs.Pieces.{least, name_in, named, number_in, value_in};
+ghost use Rattle.doc_elements.specs.Pieces.{bytes_in, bytes_told, empty_value, is_base64, is_encoded, is_name};
+ghost use Rattle.doc_elements.specs.Pieces.{is_too_great, is_volume_name, leaf_at, least, name_in, named, number_in};
+ghost use Rattle.doc_elements.specs.Pieces.{some_bytes, value_in};
 ghost use Rattle.doc_elements.specs.Answers.{Gives, val_of};
 
+use crate::encodings::bytes_told;
 use crate::errors::PieceErr;
 use crate::schema::Form;
 use doc_fields::{
@@ -16,8 +18,9 @@ use doc_fields::{
     read_time, read_u64, read_uuid, skip_space,
 };
 use ltfs_text::{ReadNameErr, read_name};
+use node_keys::is_key;
 use std::alloc::Global;
-use tape_types::{Moment, NoMemory, Text};
+use tape_types::{Bytes, Moment, NoMemory, Text};
 
 /// The value of a leaf.
 #[derive(Drop)]
@@ -29,6 +32,7 @@ pub enum Value {
     Number(u64),
     Truth(bool),
     Lock(LockState),
+    Bytes(Bytes),
 }
 
 fn is_too_great(form: Form, number: u64) -> bool
@@ -105,6 +109,7 @@ fn is_name(form: Form, name: &str) -> bool
     match form {
         Form::VolumeName => is_volume_name(name),
         Form::NodeName => is_volume_name(name) && !name.is_empty() && name != "." && name != "..",
+        Form::Key => is_key(name),
         _ => true,
     }
 }
@@ -178,6 +183,42 @@ fn name(
     Ok((Value::Text(name), next))
 }
 
+fn is_base64(attribute: Attribute) -> bool
+    ensures { result ≡ is_base64 attribute }
+{
+    match attribute {
+        Attribute::Base64 => true,
+        _ => false,
+    }
+}
+
+/// The bytes that a text stands for, whose first byte behind white space stands at a place.
+#[tactic(auto, using(crate::proofs::Base64Lemmas::bytes_found, crate::proofs::Base64Lemmas::bytes_missed))]
+fn found(alloc: Global, at: usize, text: Text, in_base64: bool) -> Result<Bytes, PieceErr>
+    ensures { Gives (λ bs. bs) result (some_bytes at (bytes_told in_base64 text)) }
+{
+    match bytes_told(alloc, text.as_str().as_bytes(), in_base64)? {
+        None => Err(PieceErr::Syntax(at)),
+        Some(bytes) => Ok(bytes),
+    }
+}
+
+/// The bytes of a value, and the place of its end tag.
+#[tactic(auto, unfolding(crate::specs::Pieces::bytes_in))]
+fn bytes(alloc: Global, start: Start, text: &[u8]) -> Result<(Value, usize), PieceErr>
+    requires { start.next ≤ length text.now }
+    ensures value { Gives (λ x. (val_of x.0, x.1)) result (bytes_in start text.now) }
+    ensures within { IfOk result (λ x. (start.next ≤ x.1) × (x.1 ≤ length text.now)) }
+{
+    let at = skip_space(text, start.next);
+    let (words, next) = read_text(alloc, text, start.next)?;
+    if next == text.len() {
+        return Err(PieceErr::Syntax(next));
+    }
+    let bytes = found(alloc, at, words, is_base64(start.attribute))?;
+    Ok((Value::Bytes(bytes), next))
+}
+
 /// The value of a leaf behind its start tag, and the place of its end tag.
 fn value_in(
     alloc: Global,
@@ -196,7 +237,10 @@ fn value_in(
             let (words, next) = read_text(alloc, text, start.next)?;
             Ok((Value::Text(words), next))
         }
-        Form::VolumeName | Form::NodeName | Form::AnyName => name(alloc, form, from, start, text),
+        Form::VolumeName | Form::NodeName | Form::AnyName | Form::Key => {
+            name(alloc, form, from, start, text)
+        }
+        Form::Value => bytes(alloc, start, text),
         Form::BlockSize | Form::Number | Form::Bounded | Form::Generation => {
             number(form, text, at)
         }
@@ -236,10 +280,11 @@ fn empty_value(
     let empty = Text::from_string(String::new(alloc));
     match form {
         Form::Text => Ok((Value::Text(empty), at)),
-        Form::VolumeName | Form::NodeName | Form::AnyName => {
+        Form::VolumeName | Form::NodeName | Form::AnyName | Form::Key => {
             let name = named(alloc, form, from, empty, false)?;
             Ok((Value::Text(name), at))
         }
+        Form::Value => Ok((Value::Bytes(Bytes::new(alloc)), at)),
         _ => Err(PieceErr::Syntax(at)),
     }
 }

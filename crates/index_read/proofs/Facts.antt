@@ -61,7 +61,7 @@ not_again p seen (item i is) t fits there once =
 
 places : List Place
 places = place.Index ∷ place.Here ∷ place.Back ∷ place.Policy ∷ place.Criteria ∷ place.Root ∷ place.Directory ∷ place.Contents ∷ place.File ∷ place.Attributes ∷ place.ExtentInfo ∷ place.Extent ∷ place.Label ∷ place.Own ∷ place.Letters
-    ∷ []
+    ∷ place.Xattr ∷ []
 
 numbered : ℕ → List Place → Place
 numbered n [] = place.Index

@@ -21,7 +21,7 @@ use Rattle.doc_elements.specs.declared.schema.Form.TheVariants as form
 use Rattle.doc_elements.specs.declared.schema.Child.{Child}
 use Rattle.doc_elements.specs.declared.schema.Child.TheVariants as child
 use Rattle.doc_elements.specs.Schema.{rule, required, tag_of}
-use Rattle.doc_elements.specs.Pieces.{Val, words, time, uuid, letter, number, truth, lock, ◌>>=◌, lift, spaced, in_range, number_in, name_in, name_of, named, value_in, empty_value, leaf_at}
+use Rattle.doc_elements.specs.Pieces.{Val, words, time, uuid, letter, number, truth, lock, bytes, ◌>>=◌, lift, spaced, in_range, number_in, name_in, name_of, named, bytes_in, bytes_of, value_in, empty_value, leaf_at}
 use Rattle.doc_elements.specs.Elements.{Item, plain, bare, nested, Items, no_items, item, item_tag, Spelled, AllSpelled, MayFollow}
 use Rattle.index_model.specs.Grammar.{or_else, own, told}
 use Rattle.doc_elements.proofs.Inversion.{bind_ok}
@@ -32,6 +32,8 @@ HasForm form.Text v = (t : List ℕ) × (v ≡ words t)
 HasForm form.VolumeName v = (t : List ℕ) × (v ≡ words t)
 HasForm form.NodeName v = (t : List ℕ) × (v ≡ words t)
 HasForm form.AnyName v = (t : List ℕ) × (v ≡ words t)
+HasForm form.Key v = (t : List ℕ) × (v ≡ words t)
+HasForm form.Value v = (bs : List ℕ) × (v ≡ bytes bs)
 HasForm form.Time v = (c : Civil) × (v ≡ time c)
 HasForm form.Uuid v = (n : ℕ) × (v ≡ uuid n)
 HasForm form.Letter v = (b : ℕ) × (v ≡ letter b)
@@ -76,11 +78,20 @@ name_form f from start text v n e =
     let b = bind_ok (name_of f from start.attribute text a.0) _ (v, n) a.2 in
     (b.0, first_of _ v _ n b.2)
 
+bytes_form : (start : Start) (text : List ℕ) (v : Val) (n : ℕ) → bytes_in start text ≡ Ok (v, n) → (bs : List ℕ) × (v ≡ bytes bs)
+unfolding bytes_in
+bytes_form start text v n e =
+    let a = bind_ok (lift (text_at text start.next)) _ (v, n) e in
+    let b = bind_ok (bytes_of start.attribute text (space_end text start.next) a.0) _ (v, n) a.2 in
+    (b.0, first_of _ v _ n b.2)
+
 value_form : (f : Form) (from : ℕ) (start : Start) (text : List ℕ) (v : Val) (n : ℕ) → value_in f from start text ≡ Ok (v, n) → HasForm f v
 value_form form.Text from start text v n e = let b = bind_ok (lift (text_at text start.next)) _ (v, n) e in (b.0.0, first_of _ v _ n b.2)
 value_form form.VolumeName from start text v n e = name_form form.VolumeName from start text v n e
 value_form form.NodeName from start text v n e = name_form form.NodeName from start text v n e
 value_form form.AnyName from start text v n e = name_form form.AnyName from start text v n e
+value_form form.Key from start text v n e = name_form form.Key from start text v n e
+value_form form.Value from start text v n e = bytes_form start text v n e
 value_form form.Time from start text v n e = spaced_form time text (time_at text (space_end text start.next)) v n e
 value_form form.Uuid from start text v n e = spaced_form uuid text (uuid_at text (space_end text start.next)) v n e
 value_form form.Letter from start text v n e = spaced_form letter text (letter_at text (space_end text start.next)) v n e
@@ -96,6 +107,8 @@ empty_form form.Text from at v n e = ([], first_of _ v _ n e)
 empty_form form.VolumeName from at v n e = let b = bind_ok (named form.VolumeName from []) _ (v, n) e in (b.0, first_of _ v _ n b.2)
 empty_form form.NodeName from at v n e = let b = bind_ok (named form.NodeName from []) _ (v, n) e in (b.0, first_of _ v _ n b.2)
 empty_form form.AnyName from at v n e = let b = bind_ok (named form.AnyName from []) _ (v, n) e in (b.0, first_of _ v _ n b.2)
+empty_form form.Key from at v n e = let b = bind_ok (named form.Key from []) _ (v, n) e in (b.0, first_of _ v _ n b.2)
+empty_form form.Value from at v n e = ([], first_of _ v _ n e)
 empty_form _ from at v n e = absurd cc
 
 leaf_form : (f : Form) (tag : Tag) (from : ℕ) (start : Start) (text : List ℕ) (v : Val) (n : ℕ) → leaf_at f tag from start text ≡ Ok (v, n) → HasForm f v

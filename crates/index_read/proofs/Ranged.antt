@@ -13,7 +13,7 @@ use Rattle.doc_elements.specs.declared.schema.Form.TheVariants as form
 use Rattle.doc_elements.specs.declared.schema.Child.{Child}
 use Rattle.doc_elements.specs.declared.schema.Child.TheVariants as child
 use Rattle.doc_elements.specs.Schema.{rule, place_code}
-use Rattle.doc_elements.specs.Pieces.{Val, words, time, uuid, letter, number, truth, lock}
+use Rattle.doc_elements.specs.Pieces.{Val, words, time, uuid, letter, number, truth, lock, bytes}
 use Rattle.doc_elements.specs.Elements.{Item, plain, bare, nested, Items, no_items, item, item_tag, Spelled, AllSpelled}
 use Rattle.index_model.specs.Grammar.{or_else, own, told, own_children, inside, names_in}
 use Rattle.index_read.proofs.Facts.{same_place}
@@ -99,6 +99,7 @@ names_ranged (item (plain Name (letter b)) is) h = names_ranged is h.1
 names_ranged (item (plain Name (number n)) is) h = names_ranged is h.1
 names_ranged (item (plain Name (truth b)) is) h = names_ranged is h.1
 names_ranged (item (plain Name (lock state)) is) h = names_ranged is h.1
+names_ranged (item (plain Name (bytes bs)) is) h = names_ranged is h.1
 names_ranged (item (plain _ v) is) h = names_ranged is h.1
 names_ranged (item (bare q) is) h = names_ranged is h.1
 names_ranged (item (nested q x) is) h = names_ranged is h.1

@@ -163,6 +163,8 @@ empty_range form.Text from at v n e = as_value (InRange form.Text) (words []) v 
 empty_range form.VolumeName from at v n e = empty_name form.VolumeName from at v n (λ h. cc h) e
 empty_range form.NodeName from at v n e = empty_name form.NodeName from at v n (λ h. cc h) e
 empty_range form.AnyName from at v n e = empty_name form.AnyName from at v n (λ h. cc h) e
+empty_range form.Key from at v n e = tt
+empty_range form.Value from at v n e = tt
 empty_range _ from at v n e = absurd cc
 
 pub leaf_range : (f : Form) (tag : Tag) (from : ℕ) (start : Start) (text : List ℕ) (v : Val) (n : ℕ) → leaf_at f tag from start text ≡ Ok (v, n) → InRange f v

@@ -12,7 +12,7 @@ use Rattle.doc_children.specs.Children.{code}
 use Rattle.doc_elements.specs.declared.schema.Place.{Place}
 use Rattle.doc_elements.specs.declared.schema.Place.TheVariants as place
 use Rattle.doc_elements.specs.Elements.{IsTimed, IsTimedPiece, plain}
-use Rattle.doc_elements.specs.Pieces.{Piece, Val, closes, leaf, letter, lock, number, opens, time, truth, uuid, whole, words}
+use Rattle.doc_elements.specs.Pieces.{Piece, Val, bytes, closes, leaf, letter, lock, number, opens, time, truth, uuid, whole, words}
 use Rattle.doc_elements.proofs.Timed.{reached_timed}
 use Rattle.index_model.specs.declared.indexes.Index.{Index}
 use Rattle.index_model.specs.declared.nodes.Kind.{Kind}
@@ -40,6 +40,7 @@ time_timed old (Some (letter b)) h k = h
 time_timed old (Some (number n)) h k = h
 time_timed old (Some (truth b)) h k = h
 time_timed old (Some (lock s)) h k = h
+time_timed old (Some (bytes bs)) h k = h
 
 pub record HaveMoments (t : TimesValue) : Type 0 where
   pub create : HasMoment t.create

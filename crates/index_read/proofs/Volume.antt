@@ -9,7 +9,7 @@ use Rattle.doc_elements.specs.declared.schema.Place.TheVariants as place
 use Rattle.doc_elements.specs.declared.schema.Form.TheVariants as form
 use Rattle.doc_elements.specs.declared.schema.Child.TheVariants as child
 use Rattle.doc_elements.specs.Schema.{rule, spot_rule, criteria_rule, tag_of}
-use Rattle.doc_elements.specs.Pieces.{Val, words, time, uuid, letter, number, truth, lock}
+use Rattle.doc_elements.specs.Pieces.{Val, words, time, uuid, letter, number, truth, lock, bytes}
 use Rattle.doc_elements.specs.Elements.{Item, plain, bare, nested, Items, no_items, item}
 use Rattle.index_model.specs.Grammar.{own, told, names_in}
 use Rattle.index_read.specs.Told.{State, letter_or, number_or, name_told, spot_with, policy_with, leaf_told, items_told}
@@ -75,6 +75,7 @@ names_step Name (letter b) more = refl
 names_step Name (number n) more = refl
 names_step Name (truth is) more = refl
 names_step Name (lock state) more = refl
+names_step Name (bytes bs) more = refl
 names_step _ v more = refl
 
 policy_step : (seen : List Tag) (tag : Tag) (v : Val) (more : Items) (p : Policy) → Fits place.Criteria seen more → policy_told more (policy_with (plain tag v) p) ≡ policy_told (item (plain tag v) more) p

@@ -59,6 +59,7 @@ child_within place.ExtentInfo place.Extent e h = refl
 child_within place.ExtentInfo _ e h = absurd cc
 child_within place.Extent place.Extent e h = absurd cc
 child_within place.Extent _ e h = absurd cc
+child_within place.Xattr q e h = absurd cc
 
 begun_within : (q : Place) (node : ℕ) (s : State) → is_within q ≡ true → (begun q node s).volume ≡ s.volume
 begun_within place.Index node s h = refl

@@ -1,101 +1,26 @@
 -- The values of leaves that are written are read again.
-use Rattle.std.proofs.Common.{◌≡◌, ℕ, ◌+◌, ◌^◌, ◌<◌, ◌≤◌, Bool, true, false, eqb, nat_le, nat_lt, List, [], ◌∷◌, ◌++◌, length, get_or, drop, Ok, IsUtf8, refl, ap, ◌∙◌, inl, inr, arith}
-use Rattle.std.specs.Prelude.{⊤}
-use Rattle.std.specs.Fmt.{decimal}
-use Rattle.std.specs.List.{list_all, list_any}
+use Rattle.std.proofs.Common.{◌≡◌, ℕ, ◌^◌, ◌<◌, ◌≤◌, true, false, nat_le, nat_lt, List, ◌∷◌, length, get_or, IsUtf8, refl, arith}
 use Rattle.std.specs.Str.{chars}
-use Rattle.std.proofs.lemmas.Bool.{and_parts, or_parts}
 use Rattle.std.proofs.lemmas.Bool.Decides.{nat_tests}
-use Rattle.std.proofs.lemmas.Str.{IsUtf8-from_ascii, scalars-chars}
-use lib.Utf8.{scalar, scalars, scalar_cases}
-use Rattle.percent_encoding.specs.Percent.{percent_encode}
-use Rattle.percent_encoding.proofs.PercentLemmas.{IsAscii-percent_encode}
-use Rattle.tape_types.specs.declared.moments.Moment.{Moment}
-use Rattle.tape_types.specs.declared.times.Civil.{Civil}
-use Rattle.tape_types.specs.Times.{civil_of, civil_text, time_text}
-use Rattle.tape_types.specs.Uuids.{uuid_text}
-use Rattle.tape_types.proofs.UuidLemmas.{length-uuid}
-use Rattle.doc_fields.specs.declared.starts.Attribute.{Attribute}
-use Rattle.doc_fields.specs.declared.starts.Start.{Start}
 use Rattle.doc_fields.specs.declared.tags.Tag.{Tag}
-use Rattle.doc_fields.specs.declared.tags.Tag.TheVariants.{Creator, Comment, Name, Symlink}
+use Rattle.doc_fields.specs.declared.tags.Tag.TheVariants.{Comment, Name, Symlink}
 use Rattle.doc_fields.specs.declared.values.LockState.{LockState}
 use Rattle.doc_fields.specs.declared.values.LockState.TheVariants.{Unlocked, Locked, PermLocked}
-use Rattle.doc_fields.specs.Space.{is_space, space_end}
-use Rattle.doc_fields.specs.Texts.{is_allowed, IsWritable}
+use Rattle.doc_fields.specs.Space.{is_space}
 use Rattle.doc_fields.specs.Values.{lock_word}
-use Rattle.doc_fields.specs.Written.{bool_text, escape}
-use Rattle.doc_fields.proofs.Again.{next_is, space_again, within}
-use Rattle.doc_fields.proofs.TextsAgain.{escape_valid, text_again}
-use Rattle.doc_fields.proofs.ValuesAgain.{bool_again, decimal_written, length_time, letter_again, lock_again, number_again, time_again, uuid_again}
-use Rattle.doc_fields.proofs.WrittenBytes.{ascii_valid, civil_valid, decimal_first, decimal_valid, one_valid, space_first, time_first, uuid_first, uuid_valid}
-use Rattle.ltfs_text.specs.declared.names.TheConstants.{ESCAPED}
-use Rattle.ltfs_text.specs.Names.{decoded, has_special, is_special, written}
-use Rattle.ltfs_text.proofs.Texts.{encodes_as, written_back, written_plain}
-use Rattle.doc_elements.specs.declared.schema.Form.{Form}
+use Rattle.doc_fields.proofs.TextsAgain.{escape_valid}
+use Rattle.doc_fields.proofs.ValuesAgain.{lock_again}
+use Rattle.doc_fields.proofs.WrittenBytes.{ascii_valid, decimal_valid, space_first}
+use Rattle.ltfs_text.specs.Names.{written}
 use Rattle.doc_elements.specs.declared.schema.Form.TheVariants as form
-use Rattle.index_model.specs.Canonical.{encoding}
 use Rattle.index_model.specs.Names.{IsVolumeName, IsNodeName}
-use Rattle.doc_elements.specs.Pieces.{words, time, uuid, letter, number, truth, lock, is_encoded, is_name, is_too_great, is_volume_name, least, name_in, number_in, value_in}
+use Rattle.doc_elements.specs.Pieces.{words, letter, number, lock, is_name, is_volume_name}
 use Rattle.index_model.specs.Texts.{IsLetter, IsPlainText}
-use Rattle.doc_elements.proofs.Names.{utf8_is}
 use Rattle.doc_elements.proofs.WrittenItems.{ReadsBack}
+use Rattle.doc_elements.proofs.WrittenNames.{name_in_back, valid_name}
 use Rattle.doc_elements.proofs.WrittenValues.{behind, letter_back as sign_back, number_in_back, words_in_back}
 
--- ---- the text of a name may stand in a document
-
-allowed_one : (c : ℕ) → scalar c ≡ true → is_special c ≡ false → is_allowed c ≡ true
-allowed_one c e plain = elim (scalar_cases c e) [
-  | inl low ↦ grind (arith, nat_tests)
-  | inr high ↦ let least = high.0 in let most = high.1 in grind (arith, nat_tests)
-]
-
-all_allowed : (cs : List ℕ) → scalars cs ≡ true → list_any is_special cs ≡ false → list_all is_allowed cs ≡ true
-all_allowed [] e plain = refl
-all_allowed (c ∷ cs) e plain =
-    let x = and_parts (scalar c) (scalars cs) e in
-    let y = or_parts (is_special c) (list_any is_special cs) plain in
-    rw (allowed_one c x.0 y.0) (all_allowed cs x.1 y.1)
-
-written_utf8 : (name : List ℕ) → IsUtf8 name → IsUtf8 (written name).text
-written_utf8 name u =
-    elim (has_special name) as (λ b. has_special name ≡ b → IsUtf8 (written name).text) [
-      | true ↦ λ e. rw (e, ← encodes_as name) (IsUtf8-from_ascii (percent_encode ESCAPED name) (IsAscii-percent_encode ESCAPED name))
-      | false ↦ λ e. rw e u
-    ] refl
-
-pub name_writable : (name : List ℕ) → IsUtf8 name → IsWritable (written name).text
-name_writable name u =
-    let valid = written_utf8 name u in
-    (valid, all_allowed (chars (written name).text) (scalars-chars (written name).text valid) (written_plain name))
-
 -- ---- names
-
--- a form that is a name's, whose leaf is read as one
-abbrev pub OfName : Form → Type 0
-OfName form.VolumeName = ⊤
-OfName form.NodeName = ⊤
-OfName form.AnyName = ⊤
-OfName _ = ⊥
-
-encoded_is : (name : List ℕ) → is_encoded (encoding (written name)) ≡ (written name).percent
-encoded_is name = go (written name).percent
-  where
-    go : (b : Bool) → is_encoded (encoding (record { text = []; percent = b })) ≡ b
-    go true = refl
-    go false = refl
-
-name_in_back : (f : Form) (name : List ℕ) → IsUtf8 name → is_name f name ≡ true → (text : List ℕ) (from : ℕ) (start : Start) (rest : List ℕ) → start.attribute ≡ encoding (written name) → drop start.next text ≡ escape (written name).text ++ 60 ∷ rest → name_in f from start text ≡ Ok (words name, start.next + length (escape (written name).text))
-unfolding name_in
-name_in_back f name u good text from start rest a e =
-    let read = text_again text start.next (written name).text rest (name_writable name u) e in
-    let inside = within text (start.next + length (escape (written name).text)) 60 rest (next_is text start.next (escape (written name).text) (60 ∷ rest) e) in
-    let test : eqb (start.next + length (escape (written name).text)) (length text) ≡ false = grind (arith, nat_tests) in
-    let bytes : decoded (is_encoded start.attribute) (written name).text ≡ name = ap (λ (x : Attribute). decoded (is_encoded x) (written name).text) a ∙ ap (λ (b : Bool). decoded b (written name).text) (encoded_is name) ∙ (written_back name u).bytes in
-    rw (read, test, bytes, utf8_is name u, good) refl
-
-valid_name : (name : List ℕ) → IsUtf8 name → IsUtf8 (escape (written name).text)
-valid_name name u = escape_valid (written name).text (name_writable name u)
 
 pub pattern_back : (name : List ℕ) → IsUtf8 name → ReadsBack form.AnyName Name (words name)
 pattern_back name u = record { again = λ text from start rest a e. name_in_back form.AnyName name u refl text from start rest a e; valid = valid_name name u }

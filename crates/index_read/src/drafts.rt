@@ -99,7 +99,7 @@ fn put_index(index: &mut Index, tag: Tag, value: Value)
         Value::Uuid(number) => put_index_uuid(index, tag, number),
         Value::Truth(is) => put_index_truth(index, tag, is),
         Value::Lock(state) => put_index_lock(index, tag, state),
-        Value::Letter(_) => {}
+        _ => {}
     }
 }
 

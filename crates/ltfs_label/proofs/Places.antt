@@ -232,6 +232,8 @@ abbrev is_plain_form : Form → Bool
 is_plain_form form.VolumeName = false
 is_plain_form form.NodeName = false
 is_plain_form form.AnyName = false
+is_plain_form form.Key = false
+is_plain_form form.Value = false
 is_plain_form _ = true
 
 label_form : (tag : Tag) (f : Form) → label_rule tag ≡ child.Leaf f → is_plain_form f ≡ true
@@ -276,6 +278,8 @@ value_plain form.Text from start text e = then_plain (lift (text_at text start.n
 value_plain form.VolumeName from start text e = absurd cc
 value_plain form.NodeName from start text e = absurd cc
 value_plain form.AnyName from start text e = absurd cc
+value_plain form.Key from start text e = absurd cc
+value_plain form.Value from start text e = absurd cc
 value_plain form.Time from start text e = spaced_plain time text (time_at text (space_end text start.next))
 value_plain form.Uuid from start text e = spaced_plain uuid text (uuid_at text (space_end text start.next))
 value_plain form.Letter from start text e = spaced_plain letter text (letter_at text (space_end text start.next))
@@ -291,6 +295,8 @@ empty_plain form.Text from at e = tt
 empty_plain form.VolumeName from at e = absurd cc
 empty_plain form.NodeName from at e = absurd cc
 empty_plain form.AnyName from at e = absurd cc
+empty_plain form.Key from at e = absurd cc
+empty_plain form.Value from at e = absurd cc
 empty_plain _ from at e = refl
 
 leaf_plain : (f : Form) (tag : Tag) (from : ℕ) (start : Start) (text : List ℕ) → is_plain_form f ≡ true → IsPlain (leaf_at f tag from start text)

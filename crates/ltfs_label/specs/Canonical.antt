@@ -13,7 +13,8 @@ use Rattle.doc_fields.specs.declared.starts.Attribute.TheVariants.{Absent, Versi
 use Rattle.doc_fields.specs.Texts.{is_allowed}
 use Rattle.doc_fields.specs.Values.{lock_word}
 use Rattle.doc_fields.specs.Written.{start_text, end_text, bool_text, escape}
-use Rattle.doc_elements.specs.Pieces.{Val, words, time, uuid, letter, number, truth, lock}
+use Rattle.doc_elements.specs.Pieces.{Val, words, time, uuid, letter, number, truth, lock, bytes}
+use Rattle.doc_elements.specs.Written.{bytes_text}
 pub use Rattle.doc_elements.specs.Written.{element, head}
 use Rattle.ltfs_label.specs.Values.{LabelValue}
 
@@ -29,6 +30,7 @@ content_of (letter byte) = byte ∷ []
 content_of (number n) = decimal n
 content_of (truth is) = bool_text is
 content_of (lock state) = lock_word state
+content_of (bytes bs) = bytes_text bs
 
 abbrev pub leaf_text : Tag → Val → List ℕ
 leaf_text tag v = element tag (content_of v)

@@ -122,7 +122,7 @@ fn put_leaf(label: &mut Label, tag: Tag, value: Value)
         Value::Letter(letter) => put_letter(label, tag, letter),
         Value::Number(number) => put_number(label, tag, number),
         Value::Truth(truth) => put_truth(label, tag, truth),
-        Value::Lock(_) => {}
+        _ => {}
     }
 }
 
