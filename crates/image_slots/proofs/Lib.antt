@@ -1,0 +1,9 @@
+pub mod Blanks
+pub mod Bytes
+pub mod Chains
+pub mod Choosing
+pub mod Gates
+pub mod Opened
+pub mod Pairs
+pub mod Upkeep
+pub mod Values

@@ -1,0 +1,13 @@
+use Rattle.std.proofs.Common.{arith}
+use Rattle.image_slots.specs.Pieces.{AreEmpty, HasFirst}
+use Rattle.image_slots.proofs.Chains.{failed_piece, then_piece}
+use Rattle.image_slots.proofs.making.write_first.Goals as goal
+
+pub write_body-requires : goal.write_body-requires
+write_body-requires g c = c.in-Ok.ensures.ready
+
+pub returns-in-Ok : goal.returns-in-Ok
+returns-in-Ok g c = then_piece g.B.ByteDisk HasFirst AreEmpty c.in-Ok.ensures c.write_body.ensures
+
+pub returns-in-Err : goal.returns-in-Err
+returns-in-Err g c = failed_piece g.B.ByteDisk HasFirst AreEmpty 2 4 (omega arith) c.in-Err.ensures
