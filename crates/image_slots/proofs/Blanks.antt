@@ -1,12 +1,11 @@
 -- How the first header is made on a blank disk, a piece at a time.
-use Rattle.std.proofs.Common.{ℕ, ◌+◌, ◌-◌, ◌≤◌, ◌<◌, ◌≡◌, ◌≢◌, ◌⊎◌, ⊎_elim, inl, inr, max, List, [], ◌∷◌, ◌++◌, take, drop, length, replicate, get_or, refl, sym, ◌∙◌, ap, subst, arith}
+use Rattle.std.proofs.Common.{ℕ, ◌+◌, ◌≤◌, ◌<◌, ◌≡◌, ⊎_elim, inl, inr, List, [], ◌∷◌, ◌++◌, drop, length, replicate, get_or, refl, sym, ◌∙◌, ap, subst, arith}
 use Rattle.std.proofs.lemmas.Bool.{cases_lt}
 use Rattle.std.proofs.lemmas.List.{append-nil, drop_all, length-append, length-drop}
 use Rattle.byte_disk.specs.Files.{Files, bytes_at, written}
-use Rattle.image_slots.specs.Slots.{HasValue, IsBlank, Stores, first_value}
+use Rattle.image_slots.specs.Slots.{HasValue, first_value}
 use Rattle.image_slots.specs.Sides.{CountsAt}
 use Rattle.image_slots.specs.Blank.{BeginsWith, IsBegun, IsBodied, IsGated, IsMade, IsShort, bodied}
-use Rattle.image_slots.specs.Calls.{first_header}
 use Rattle.image_slots.specs.Pieces.{AreEmpty, HasFirst, IsTouched}
 use Rattle.image_slots.specs.declared.sides.Side.TheVariants.{First}
 use Rattle.image_slots.proofs.Bytes.{touched_run}

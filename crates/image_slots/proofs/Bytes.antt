@@ -1,6 +1,6 @@
 -- What stays in a list of which a range was written, and what stands in that range.
-use Rattle.std.proofs.Common.{ℕ, ◌+◌, ◌-◌, ◌≤◌, ◌<◌, ◌≡◌, ◌⊎◌, ⊎_elim, inl, inr, max, min, List, [], ◌∷◌, ◌++◌, take, drop, length, get_or, refl, sym, ◌∙◌, ap, subst, arith}
-use Rattle.std.proofs.lemmas.List.{append_assoc, length-append, length-take, length-drop, length-take-le, get_or-take, get_or-drop, ext_get_or, drop_at, take_at}
+use Rattle.std.proofs.Common.{ℕ, ◌+◌, ◌-◌, ◌≤◌, ◌<◌, ◌≡◌, ◌⊎◌, ⊎_elim, inl, inr, List, [], ◌∷◌, ◌++◌, take, drop, length, get_or, refl, sym, ◌∙◌, ap, arith}
+use Rattle.std.proofs.lemmas.List.{append_assoc, length-take, length-drop, length-take-le, get_or-take, get_or-drop, ext_get_or, drop_at, take_at}
 use Rattle.byte_disk.specs.Files.{IsAnyIn, bytes_at, written}
 use Rattle.byte_disk.proofs.Written.{length_written, written_below, written_inside, written_above}
 use Rattle.image_slots.specs.Pieces.{IsTouched}

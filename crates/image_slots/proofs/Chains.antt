@@ -1,9 +1,9 @@
 -- What a crash may leave of commands one after the other, and of pieces of a set.
-use Rattle.std.proofs.Common.{ℕ, ◌+◌, ◌-◌, ◌^◌, ◌≤◌, ◌<◌, ◌≡◌, ◌⊎◌, ⊎_elim, inl, inr, min, List, [], ◌∷◌, length, Option, Some, None, Result, Ok, Err, OnOk, IfSome, refl, sym, ◌∙◌, ap, subst, arith}
+use Rattle.std.proofs.Common.{ℕ, ◌+◌, ◌≤◌, ◌≡◌, ⊎_elim, inl, inr, List, length, Option, Some, None, Result, Ok, Err, OnOk, IfSome, refl, sym, ◌∙◌, ap, subst, arith}
 use Rattle.std.proofs.lemmas.Option.{same_Some}
 use Rattle.tape_types.specs.Counts.{HasCause, Rose}
 use Rattle.crash_steps.specs.Crashes.{Crashes, NothingNew}
-use Rattle.byte_disk.specs.Files.{Files, IsBroken, IsWritten, AfterWrite, bytes_of, written}
+use Rattle.byte_disk.specs.Files.{Files, IsBroken, IsWritten, bytes_of, written}
 use Rattle.byte_disk.specs.Commands.{IsOneMore, IsFileSure, WithinWrite}
 use Rattle.byte_disk.specs.declared.disk.ByteDisk.{Ghosts}
 use Rattle.byte_disk.specs.declared.disk.File.{File}
@@ -130,10 +130,14 @@ module _ {D T E : Type 0} (disk : Ghosts D) (at : ℕ) (bytes : List ℕ) (a b :
       → IsPut disk at bytes r a c
   put_synced r c told untold count later crash sure held count_2 cause crash_2 = record {
     told = λ d is. let t = told d is in
-        let same : t.0.cm ≡ written at bytes d.cm = t.2.put in
-        (t.0, held ∙ t.1, t.2.others.0, t.2.others.1,
-        subst (λ (l : List ℕ). IsTouched at (length bytes) d.cm l) (sym same) (written_touched at bytes d.cm (held_has (disk.held a) (λ (f : Files). at ≤ length f.cm) within d is)),
-        on_ok r same);
+        let same : t.0.cm ≡ written at bytes d.cm = t.2.put in (
+          t.0,
+          held ∙ t.1,
+          t.2.others.0,
+          t.2.others.1,
+          subst (λ (l : List ℕ). IsTouched at (length bytes) d.cm l) (sym same) (written_touched at bytes d.cm (held_has (disk.held a) (λ (f : Files). at ≤ length f.cm) within d is)),
+          on_ok r same,
+        );
     untold = λ none. held ∙ untold none;
     sure = sure_of r sure;
     crash = after_write crash crash_2;
@@ -144,9 +148,11 @@ module _ {D T E : Type 0} (disk : Ghosts D) (at : ℕ) (bytes : List ℕ) (a b :
       on_ok : {P : Type 0} (r : Result T E) → P → OnOk r P
       on_ok (Ok x) p = p
       on_ok (Err e) p = tt
+
       sure_of : (r : Result T E) → OnOk r (IsFileSure Cm (disk.held c) (disk.leaves c)) → OnOk r (IsHeaderSure disk c)
       sure_of (Ok x) h = λ d image is left. sure_told Cm (disk.held c) (disk.leaves c) h d image is left
       sure_of (Err e) h = tt
+
       after_write : CrashesIn disk (WithinWrite Cm at (length bytes)) a b → CrashesIn disk NothingNew b c
           → CrashesIn disk (WithinWrite Cm at (length bytes)) a c
       after_write first second = record {
@@ -203,10 +209,11 @@ module _ {D : Type 0} (disk : Ghosts D) (P : Files → Type 0) (R : List ℕ →
           let t = told d was.1 in
           let one : t.0 ≡ e = same_files (disk.held b) e t.0 is t.1 in
           let now = ready d was.1 in
-          let at_d : R t.0.ip t.0.dp = subst (λ (l : List ℕ). R l t.0.dp) (sym t.2) (subst (λ (l : List ℕ). R d.ip l) (sym t.3) now.1) in
-          (subst (λ (f : Files). After f.cm) one (subst After (sym t.4) (ends d.cm now.0)),
-          subst (λ (f : Files). R f.ip f.dp) one at_d,
-          λ image left. (sure e image is left, rest d now image left))
+          let at_d : R t.0.ip t.0.dp = subst (λ (l : List ℕ). R l t.0.dp) (sym t.2) (subst (λ (l : List ℕ). R d.ip l) (sym t.3) now.1) in (
+            subst (λ (f : Files). After f.cm) one (subst After (sym t.4) (ends d.cm now.0)),
+            subst (λ (f : Files). R f.ip f.dp) one at_d,
+            λ image left. (sure e image is left, rest d now image left),
+          )
         where
           rest : (d : Files) → (Before d.cm × R d.ip d.dp × ((image : Files) → disk.leaves a image → (image.cm ≡ d.cm) × R image.ip image.dp))
               → (image : Files) → disk.leaves b image → R image.ip image.dp

@@ -1,11 +1,11 @@
 -- The value of a header, told by where its slots lie.
-use Rattle.std.proofs.Common.{ℕ, ◌+◌, ◌-◌, ◌≤◌, ◌<◌, ◌≡◌, ◌≢◌, ◌⊎◌, ◌==◌, ⊎_elim, inl, inr, Bool, true, false, nat_lt, if◌then◌else◌, List, take, drop, length, get_or, Option, Some, None, option_map, refl, sym, ◌∙◌, ap, subst, arith}
+use Rattle.std.proofs.Common.{ℕ, ◌<◌, ◌≡◌, ◌≢◌, ◌⊎◌, ◌==◌, ⊎_elim, inl, inr, Bool, true, false, nat_lt, if◌then◌else◌, List, drop, length, get_or, Option, Some, None, option_map, refl, sym, ◌∙◌, ap, subst, arith}
 use Rattle.std.proofs.lemmas.Bool.{eq-eqb, eqb-true}
 use Rattle.std.proofs.lemmas.List.{get_or-take, get_or-drop, drop-take, drop-drop, take_all, length-drop}
 use Rattle.std.proofs.lemmas.Option.{same_Some}
 use Rattle.byte_disk.specs.Files.{Files, bytes_at}
-use Rattle.image_slots.specs.Slots.{Counts, HasValue, IsBlank, IsOpen, Stores, first_of, first_value, second_of, serial_of, value_in}
-use Rattle.image_slots.specs.Sides.{CountsAt, CountsIn, IsRead, chosen, gate_in, gate_of, other_of, side_by, side_in, value_at}
+use Rattle.image_slots.specs.Slots.{Counts, HasValue, IsOpen, Stores, first_of, second_of, serial_of, value_in}
+use Rattle.image_slots.specs.Sides.{CountsIn, chosen, gate_in, side_by, side_in, value_at}
 use Rattle.image_slots.specs.declared.sides.Side.{Side}
 use Rattle.image_slots.specs.declared.sides.Side.TheVariants.{First, Second}
 
@@ -24,12 +24,17 @@ second_value_in cm size = drop-drop 1 256 cm ∙ sym (take_all 255 (drop 257 cm)
 -- a slot beside another counts, by their bytes
 to_counts : (a b : List ℕ) (ga gb : ℕ) (va vb v : List ℕ) → get_or a 0 0 ≡ ga → get_or b 0 0 ≡ gb → value_in a ≡ va → value_in b ≡ vb
     → ga ≡ 1 → va ≡ v → (gb ≢ 1) ⊎ (serial_of vb < serial_of v) → Counts a b × (v ≡ value_in a)
-to_counts a b ga gb va vb v ea eb ia ib one is lesser =
-    ((ea ∙ one, ⊎_elim
-    (λ (closed : gb ≢ 1). inl (λ (bad : IsOpen b). closed (sym eb ∙ bad)))
-    (λ (less : serial_of vb < serial_of v). inr (subst (λ (x : List ℕ). serial_of x < serial_of (value_in a)) (sym ib)
-    (subst (λ (x : List ℕ). serial_of vb < serial_of x) (sym (ia ∙ is)) less)))
-    lesser), sym (ia ∙ is))
+to_counts a b ga gb va vb v ea eb ia ib one is lesser = (
+  (
+    ea ∙ one,
+    ⊎_elim
+        (λ (closed : gb ≢ 1). inl (λ (bad : IsOpen b). closed (sym eb ∙ bad)))
+        (λ (less : serial_of vb < serial_of v). inr (subst (λ (x : List ℕ). serial_of x < serial_of (value_in a)) (sym ib)
+        (subst (λ (x : List ℕ). serial_of vb < serial_of x) (sym (ia ∙ is)) less)))
+        lesser,
+  ),
+  sym (ia ∙ is),
+)
 
 from_counts : (a b : List ℕ) (gb : ℕ) (vb v : List ℕ) → get_or b 0 0 ≡ gb → value_in b ≡ vb
     → Counts a b → v ≡ value_in a → (gb ≢ 1) ⊎ (serial_of vb < serial_of v)
@@ -51,18 +56,24 @@ has_value Second cm v c = record {
 
 pub counts_in : (cm v : List ℕ) → HasValue cm v → (side : Side) × CountsIn side cm v
 counts_in cm v h = ⊎_elim
-    (λ (one : Counts (first_of cm) (second_of cm) × (v ≡ value_in (first_of cm))). (First, record {
-      size = h.size;
-      gate = sym (first_gate cm) ∙ one.0.0;
-      body = sym (first_value_in cm) ∙ sym one.1;
-      lesser = from_counts (first_of cm) (second_of cm) _ _ v (second_gate cm) (second_value_in cm h.size) one.0 one.1;
-    }))
-    (λ (two : Counts (second_of cm) (first_of cm) × (v ≡ value_in (second_of cm))). (Second, record {
-      size = h.size;
-      gate = sym (second_gate cm) ∙ two.0.0;
-      body = sym (second_value_in cm h.size) ∙ sym two.1;
-      lesser = from_counts (second_of cm) (first_of cm) _ _ v (first_gate cm) (first_value_in cm) two.0 two.1;
-    }))
+    (λ (one : Counts (first_of cm) (second_of cm) × (v ≡ value_in (first_of cm))). (
+      First,
+      record {
+        size = h.size;
+        gate = sym (first_gate cm) ∙ one.0.0;
+        body = sym (first_value_in cm) ∙ sym one.1;
+        lesser = from_counts (first_of cm) (second_of cm) _ _ v (second_gate cm) (second_value_in cm h.size) one.0 one.1;
+      },
+    ))
+    (λ (two : Counts (second_of cm) (first_of cm) × (v ≡ value_in (second_of cm))). (
+      Second,
+      record {
+        size = h.size;
+        gate = sym (second_gate cm) ∙ two.0.0;
+        body = sym (second_value_in cm h.size) ∙ sym two.1;
+        lesser = from_counts (second_of cm) (first_of cm) _ _ v (first_gate cm) (first_value_in cm) two.0 two.1;
+      },
+    ))
     h.counts
 
 -- ---- the side that counts, computed
@@ -166,6 +177,7 @@ chosen_value cm v e = sized (length cm == 512) refl e
     sided None size is h = absurd (cc h)
     sided (Some side) size is h = subst (λ (x : List ℕ). HasValue cm x) (same_Some (value_at side cm) v h)
         (has_value side cm (value_at side cm) (side_counts side cm size is))
+
     sized : (t : Bool) → (length cm == 512) ≡ t → (if t then option_map (λ (side : Side). value_at side cm) (side_in cm) else None) ≡ Some v → HasValue cm v
     sized true size h = sided (side_in cm) (eqb-true (length cm) 512 size) refl h
     sized false size h = absurd (cc h)

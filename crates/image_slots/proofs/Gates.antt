@@ -1,11 +1,11 @@
 -- What a set writes to a header, a piece at a time.
-use Rattle.std.proofs.Common.{ℕ, ◌+◌, ◌≤◌, ◌<◌, ◌≡◌, ◌≢◌, ◌⊎◌, ◌==◌, ⊎_elim, inl, inr, Bool, true, false, List, [], ◌∷◌, length, get_or, refl, sym, ◌∙◌, ap, subst, arith}
+use Rattle.std.proofs.Common.{ℕ, ◌+◌, ◌≤◌, ◌<◌, ◌≡◌, ◌≢◌, ◌⊎◌, ◌==◌, ⊎_elim, inl, inr, true, false, List, [], ◌∷◌, length, get_or, sym, ◌∙◌, subst, arith}
 use Rattle.std.proofs.lemmas.Bool.{cases_eq, eq-eqb, eqb-true}
 use Rattle.byte_disk.specs.Files.{Files, IsOutside, bytes_at, written}
 use Rattle.image_slots.specs.Slots.{HasValue, serial_of}
 use Rattle.image_slots.specs.Sides.{CountsAt, CountsIn, IsRead, gate_in, gate_of, other_of}
 use Rattle.image_slots.specs.Calls.{IsClosedBeside, IsPrepared}
-use Rattle.image_slots.specs.Pieces.{Any, HasOne, IsTouched}
+use Rattle.image_slots.specs.Pieces.{HasOne, IsTouched}
 use Rattle.image_slots.specs.declared.sides.Side.{Side}
 use Rattle.image_slots.specs.declared.sides.Side.TheVariants.{First, Second}
 use Rattle.image_slots.proofs.Bytes.{touched_run, touched_size, written_byte, written_run, written_touched}
@@ -53,6 +53,7 @@ module _ (side : Side) (old : List ℕ) where
       out : (own + 256 ≤ there) ⊎ (there + 256 ≤ own) → IsOutside at n own
       out (inl h) = inl (omega (arith, h, from))
       out (inr h) = inr (omega (arith, h, upto))
+
       run : (own + 256 ≤ there) ⊎ (there + 256 ≤ own) → (own + 1 + 255 ≤ at) ⊎ (at + n ≤ own + 1)
       run (inl h) = inl (omega (arith, h, from))
       run (inr h) = inr (omega (arith, h, upto))
@@ -71,10 +72,11 @@ module _ (side : Side) (old : List ℕ) where
 
   pub close_ends : (x : List ℕ) → IsRead side true old x → IsClosedBeside side old (written there (0 ∷ []) x)
   close_ends x read =
-      let within : there ≤ length x = omega (arith, read.0.size, low (other_of side)) in
-      (close_counts x (written there (0 ∷ []) x) read.0 (opened (gate_in (other_of side) x) read.1) (written_touched there (0 ∷ []) x within),
-      λ (one : gate_in (other_of side) (written there (0 ∷ []) x) ≡ 1).
-      let e : get_or (written there (0 ∷ []) x) there 0 ≡ 1 = one in omega (arith, written_byte there 0 x within, e))
+      let within : there ≤ length x = omega (arith, read.0.size, low (other_of side)) in (
+        close_counts x (written there (0 ∷ []) x) read.0 (opened (gate_in (other_of side) x) read.1) (written_touched there (0 ∷ []) x within),
+        λ (one : gate_in (other_of side) (written there (0 ∷ []) x) ≡ 1).
+            let e : get_or (written there (0 ∷ []) x) there 0 ≡ 1 = one in omega (arith, written_byte there 0 x within, e),
+      )
 
   -- ---- the value is written behind it
   shut_gate : (x y : List ℕ) (n : ℕ) → CountsIn side x old → gate_in (other_of side) x ≢ 1 → IsTouched (there + 1) n x y
@@ -90,9 +92,11 @@ module _ (side : Side) (old : List ℕ) where
   value_ends new x long h =
       let within : there + 1 ≤ length x = omega (arith, h.0.size, low (other_of side)) in
       let t = written_touched (there + 1) new x within in
-      let shut = shut_gate x (written (there + 1) new x) (length new) h.0 h.1 t in
-      (kept x (written (there + 1) new x) h.0 t (omega arith) (omega (arith, long)) (inl shut), shut,
-      subst (λ (k : ℕ). bytes_at (there + 1) k (written (there + 1) new x) ≡ new) long (written_run (there + 1) new x within))
+      let shut = shut_gate x (written (there + 1) new x) (length new) h.0 h.1 t in (
+        kept x (written (there + 1) new x) h.0 t (omega arith) (omega (arith, long)) (inl shut),
+        shut,
+        subst (λ (k : ℕ). bytes_at (there + 1) k (written (there + 1) new x) ≡ new) long (written_run (there + 1) new x within),
+      )
 
   -- ---- the gate is opened
   module _ (new x y : List ℕ) (later : serial_of old < serial_of new) (h : IsPrepared side old new x) (t : IsTouched there 1 x y) where

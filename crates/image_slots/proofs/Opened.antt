@@ -1,9 +1,9 @@
 -- What a value is found by, one command after another.
-use Rattle.std.proofs.Common.{ℕ, ◌+◌, ◌≤◌, ◌<◌, ◌≡◌, ◌≢◌, ◌⊎◌, ◌==◌, ◌&&◌, ⊎_elim, inl, inr, Bool, true, false, MatchBool, List, [], take, drop, length, get_or, Option, Some, None, Result, Ok, Err, IfOk, IfErr, OnOk, IfSome, refl, sym, ◌∙◌, ap, subst, arith}
+use Rattle.std.proofs.Common.{ℕ, ◌+◌, ◌≤◌, ◌<◌, ◌≡◌, ◌==◌, ◌&&◌, ⊎_elim, inl, inr, Bool, true, false, MatchBool, List, length, get_or, Option, Some, None, Result, Ok, Err, IfOk, IfErr, OnOk, IfSome, refl, sym, ◌∙◌, ap, subst, arith}
 use Rattle.std.proofs.lemmas.Bool.{eqb-true, eqb-false}
 use Rattle.std.proofs.lemmas.List.{nil_from_length, take_all}
 use Rattle.tape_types.specs.Counts.{HasCause, Rose}
-use Rattle.crash_steps.specs.Crashes.{Crashes, NothingNew}
+use Rattle.crash_steps.specs.Crashes.{NothingNew}
 use Rattle.byte_disk.specs.Files.{Files, bytes_of, bytes_at}
 use Rattle.byte_disk.specs.Commands.{IsOneMore, IsFileSure}
 use Rattle.byte_disk.specs.declared.disk.ByteDisk.{Ghosts}
@@ -17,8 +17,8 @@ use Rattle.image_slots.specs.declared.sides.Side.TheVariants.{First}
 use Rattle.image_slots.specs.Slots.{HasValue, IsBlank, Stores, first_value}
 use Rattle.image_slots.specs.Sides.{IsRead}
 use Rattle.image_slots.specs.Blank.{IsMade, IsShort}
-use Rattle.image_slots.specs.Calls.{AreMeasured, Blames, Finds, HasFaults, IsLook, IsMeasured, IsOpened, IsOpening, Opens, WithinOpen, first_header}
-use Rattle.image_slots.specs.Pieces.{AreEmpty, AtMost, CrashesIn, HasFirst, IsHeaderSure, IsPiece, IsReady, Within}
+use Rattle.image_slots.specs.Calls.{AreMeasured, Finds, HasFaults, IsLook, IsMeasured, IsOpening, Opens, WithinOpen, first_header}
+use Rattle.image_slots.specs.Pieces.{AreEmpty, AtMost, CrashesIn, HasFirst, IsHeaderSure, IsPiece, IsReady}
 use Rattle.image_slots.proofs.Blanks.{made_counts}
 use Rattle.image_slots.proofs.Chains.{both_steps, held_has, join_same, later_cause, more_at_most, no_step, old_image, one_at_most, other_step, same_files, sure_told, then_at_most, told_before, where_told}
 use Rattle.image_slots.proofs.Choosing.{has_value}
@@ -91,6 +91,7 @@ module _ {D : Type 0} (disk : Ghosts D) where
           → IfOk r (λ (n : ℕ). (d : Files) → disk.held a ≡ Some d → n ≡ length (bytes_of file d))
       told (Ok n) h = λ d is. h d (held ∙ is)
       told (Err e) h = tt
+
       still : (r : Result ℕ E) → OnOk r ((d image : Files) → disk.held c ≡ Some d → disk.leaves c image → bytes_of file image ≡ bytes_of file d)
       still (Ok n) = λ d image is left. sure_told file (disk.held b) (disk.leaves b) sure d image (sym held_2 ∙ is) (old_image crash_2 image left)
       still (Err e) = tt
@@ -129,9 +130,10 @@ module _ {D : Type 0} (disk : Ghosts D) where
         let at_b : disk.held b ≡ Some d = sym second.held ∙ is in
         let both = both_true_of (n == 0) (m == 0) yes in
         let ip = first.value d (sym first.held ∙ at_b) in
-        let dp = second.value d at_b in
-        (first.sure d image at_b (old_image second.crash image left) ∙ nil_from_length d.ip (sym ip ∙ eqb-true n 0 both.0),
-        second.sure d image is left ∙ nil_from_length d.dp (sym dp ∙ eqb-true m 0 both.1));
+        let dp = second.value d at_b in (
+          first.sure d image at_b (old_image second.crash image left) ∙ nil_from_length d.ip (sym ip ∙ eqb-true n 0 both.0),
+          second.sure d image is left ∙ nil_from_length d.dp (sym dp ∙ eqb-true m 0 both.1),
+        );
     crash = both_steps join_same first.count.later first.crash second.crash;
     count = then_at_most first.count second.count;
     cause = record { later = omega (arith, first.cause.later, second.cause.later); failed = tt };
@@ -142,6 +144,7 @@ module _ {D : Type 0} (disk : Ghosts D) where
       told true true d ep eq ip dp = (nil_from_length d.ip (sym ip ∙ eqb-true n 0 ep), nil_from_length d.dp (sym dp ∙ eqb-true m 0 eq))
       told true false d ep eq ip dp = λ (empty : AreEmpty d.ip d.dp). eqb-false m 0 eq (dp ∙ ap (λ (l : List ℕ). length l) empty.1)
       told false q d ep eq ip dp = λ (empty : AreEmpty d.ip d.dp). eqb-false n 0 ep (ip ∙ ap (λ (l : List ℕ). length l) empty.0)
+
       both_true_of : (p q : Bool) → (p && q) ≡ true → (p ≡ true) × (q ≡ true)
       both_true_of true true e = (refl, refl)
       both_true_of true false e = absurd (cc e)
@@ -238,18 +241,28 @@ module _ {D : Type 0} (disk : Ghosts D) where
         kept = λ other. refl;
         made = λ blank. absurd (no_blank d size blank);
       }
-      by (Err Header) d size finds = (refl, λ v. ⊎_elim
-          (λ (first : IsBlank d × (v ≡ first_value)). no_blank d size first.0)
-          (λ (has : HasValue d.cm v). finds v has))
+      by (Err Header) d size finds = (
+        refl,
+        λ v. ⊎_elim
+            (λ (first : IsBlank d × (v ≡ first_value)). no_blank d size first.0)
+            (λ (has : HasValue d.cm v). finds v has),
+      )
       by (Err Disk) d size finds = (refl, refl)
 
   -- a header that is too long
   pub opens_long : (n : ℕ) (a : D) → IfSome (disk.held a) (λ (d : Files). length d.cm ≡ n) → 512 < n → IsOpening disk 12 (Err Header) a a
   opens_long n a size long = record {
-    told = λ d is. (d, is, (refl, λ v.
-        let count : length d.cm ≡ n = held_has (disk.held a) (λ (f : Files). length f.cm ≡ n) size d is in ⊎_elim
-        (λ (first : IsBlank d × (v ≡ first_value)). absurd (omega (arith, first.0.cm, count, long)))
-        (λ (has : HasValue d.cm v). absurd (omega (arith, has.size, count, long)))));
+    told = λ d is. (
+      d,
+      is,
+      (
+        refl,
+        λ v.
+            let count : length d.cm ≡ n = held_has (disk.held a) (λ (f : Files). length f.cm ≡ n) size d is in ⊎_elim
+            (λ (first : IsBlank d × (v ≡ first_value)). absurd (omega (arith, first.0.cm, count, long)))
+            (λ (has : HasValue d.cm v). absurd (omega (arith, has.size, count, long))),
+      ),
+    );
     untold = λ none. none;
     sure = tt;
     crash = λ d is. no_step (disk.commands a) (disk.leaves a) (disk.left_since a) (λ image left. inl refl);
@@ -261,9 +274,16 @@ module _ {D : Type 0} (disk : Ghosts D) where
   pub opens_short : {E : Type 0} (a b : D) → IfSome (disk.held a) (λ (d : Files). IsShort d.cm) → AreMeasured {E = E} disk (Ok false) a b
       → IsOpening disk 12 (Err Header) a b
   opens_short a b size m = record {
-    told = λ d is. (d, m.held ∙ is, (refl, λ v. ⊎_elim
-        (λ (first : IsBlank d × (v ≡ first_value)). m.value d is (first.0.ip, first.0.dp))
-        (λ (has : HasValue d.cm v). absurd (omega (arith, has.size, held_has (disk.held a) (λ (f : Files). IsShort f.cm) size d is)))));
+    told = λ d is. (
+      d,
+      m.held ∙ is,
+      (
+        refl,
+        λ v. ⊎_elim
+            (λ (first : IsBlank d × (v ≡ first_value)). m.value d is (first.0.ip, first.0.dp))
+            (λ (has : HasValue d.cm v). absurd (omega (arith, has.size, held_has (disk.held a) (λ (f : Files). IsShort f.cm) size d is))),
+      ),
+    );
     untold = λ none. m.held ∙ none;
     sure = tt;
     crash = λ d is. nothing_opens m.crash;
@@ -287,9 +307,11 @@ module _ {D : Type 0} (disk : Ghosts D) where
   pub blank_ready : {E : Type 0} (a b : D) → IfSome (disk.held a) (λ (d : Files). IsShort d.cm) → IsHeaderSure disk a
       → AreMeasured {E = E} disk (Ok true) a b → IsReady disk AreEmpty IsShort b
   blank_ready a b size sure m = λ d is.
-      let was : disk.held a ≡ Some d = sym m.held ∙ is in
-      (held_has (disk.held a) (λ (f : Files). IsShort f.cm) size d was, m.value d was,
-      λ image left. (sure d image was (old_image m.crash image left), m.sure refl d image is left))
+      let was : disk.held a ≡ Some d = sym m.held ∙ is in (
+        held_has (disk.held a) (λ (f : Files). IsShort f.cm) size d was,
+        m.value d was,
+        λ image left. (sure d image was (old_image m.crash image left), m.sure refl d image is left),
+      )
 
   -- the making, behind the look
   pub opens_made : {T E : Type 0} (r : Result T E) (end : Result Found OpenErr) (a b c : D) → IfSome (disk.held a) (λ (d : Files). IsShort d.cm) → IsHeaderSure disk a
@@ -312,8 +334,10 @@ module _ {D : Type 0} (disk : Ghosts D) where
     where
       ready : IsReady disk AreEmpty IsShort b
       ready = blank_ready a b size sure m
+
       short : (d : Files) → disk.held a ≡ Some d → IsShort d.cm
       short d is = held_has (disk.held a) (λ (f : Files). IsShort f.cm) size d is
+
       ends : (r : Result T E) (end : Result Found OpenErr) (d e : Files) → IsMaking r end → OnOk r (IsReady disk AreEmpty IsMade c) → disk.held c ≡ Some e
           → e.ip ≡ d.ip → e.dp ≡ d.dp → IsShort d.cm → AreEmpty d.ip d.dp → Opens end d e
       ends (Err x) (Err Disk) d e same ready is ip dp less empty = (ip, dp)
@@ -337,10 +361,12 @@ module _ {D : Type 0} (disk : Ghosts D) where
             kept = λ other. absurd (other blank);
             made = λ again. made;
           }
+
       sures : (r : Result T E) (end : Result Found OpenErr) → IsMaking r end → OnOk r (IsReady disk AreEmpty IsMade c) → OnOk end (IsHeaderSure disk c)
       sures r (Err why) same ready = tt
       sures (Err x) (Ok f) same ready = absurd same
       sures (Ok x) (Ok f) same ready = λ d image is left. ((ready d is).2 image left).0
+
       fails : (r : Result T E) (end : Result Found OpenErr) → IsMaking r end → disk.faults a ≤ disk.faults b → HasCause (disk.faults b) (disk.faults c) r
           → HasFaults (disk.faults a) (disk.faults c) end
       fails (Ok x) (Ok f) same le h = record { later = omega (arith, le, h.later); failed = tt }
@@ -372,6 +398,7 @@ module _ {D : Type 0} (disk : Ghosts D) where
       → IsRead f.side f.beside f.value d.cm × ((image : Files) → disk.leaves b image → image.cm ≡ d.cm)
   opened_ready f a b o d is =
       let was = told_before (disk.held a) (disk.held b) o.untold d is in
-      let t = o.told was.0 was.1 in
-      (subst (λ (x : Files). IsRead f.side f.beside f.value x.cm) (same_files (disk.held b) d t.0 is t.1) t.2.found,
-      λ image left. o.sure d image is left)
+      let t = o.told was.0 was.1 in (
+        subst (λ (x : Files). IsRead f.side f.beside f.value x.cm) (same_files (disk.held b) d t.0 is t.1) t.2.found,
+        λ image left. o.sure d image is left,
+      )

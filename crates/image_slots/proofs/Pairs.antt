@@ -1,9 +1,9 @@
 -- What the gates of two slots do to the value that is chosen.
-use Rattle.std.proofs.Common.{ℕ, ◌+◌, ◌≤◌, ◌<◌, ◌≡◌, ◌≢◌, ◌⊎◌, ◌==◌, ⊎_elim, inl, inr, Bool, true, false, if◌then◌else◌, List, ◌∷◌, ◌++◌, take, drop, length, get_or, Option, Some, None, option_map, refl, sym, ◌∙◌, ap, arith}
+use Rattle.std.proofs.Common.{ℕ, ◌+◌, ◌≡◌, ◌≢◌, ◌⊎◌, ◌==◌, ⊎_elim, inl, inr, Bool, true, false, if◌then◌else◌, List, ◌∷◌, ◌++◌, take, drop, length, get_or, Option, Some, None, option_map, refl, sym, ◌∙◌, ap, arith}
 use Rattle.std.proofs.lemmas.Bool.{cases_eq, eq-eqb}
 use Rattle.std.proofs.lemmas.List.{length-append, length-drop, get_or_append_left, get_or-append-add, drop-append-le, drop-drop, drop_at, take_at, take_all}
 use Rattle.image_slots.specs.Slots.{IsOpen, serial_of}
-use Rattle.image_slots.specs.Sides.{chosen, gate_in, side_by, side_in, value_at}
+use Rattle.image_slots.specs.Sides.{chosen, side_by, side_in, value_at}
 use Rattle.image_slots.specs.declared.sides.Side.{Side}
 use Rattle.image_slots.specs.declared.sides.Side.TheVariants.{First, Second}
 use Rattle.image_slots.proofs.Choosing.{gate_closed}

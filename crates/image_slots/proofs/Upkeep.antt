@@ -1,10 +1,9 @@
 -- What is true of every value of the type stays true.
-use Rattle.std.proofs.Common.{ℕ, ◌+◌, ◌-◌, ◌^◌, ◌≤◌, ◌<◌, ◌≡◌, ◌⊎◌, ⊎_elim, inl, inr, Bool, true, false, List, length, Option, Some, None, Result, Ok, Err, OnOk, IfSome, refl, sym, ◌∙◌, ap, subst, arith}
-use Rattle.crash_steps.specs.Crashes.{Crashes, NothingNew}
-use Rattle.byte_disk.specs.Files.{AfterWrite, Files, KeepsOthers, bytes_of}
+use Rattle.std.proofs.Common.{ℕ, ◌-◌, ◌^◌, ◌≤◌, ◌<◌, ◌≡◌, ◌⊎◌, ⊎_elim, inl, inr, Bool, true, false, List, length, Option, Some, None, Result, Ok, Err, IfSome, refl, sym, ◌∙◌, ap, subst, arith}
+use Rattle.crash_steps.specs.Crashes.{NothingNew}
+use Rattle.byte_disk.specs.Files.{AfterWrite, Files, KeepsOthers}
 use Rattle.byte_disk.specs.Commands.{IsOneMore, WithinWrite}
 use Rattle.byte_disk.specs.declared.disk.ByteDisk.{Ghosts}
-use Rattle.byte_disk.specs.declared.disk.File.{File}
 use Rattle.tape_types.specs.Counts.{HasCause}
 use Rattle.tape_types.specs.declared.cartridges.Part.{Part}
 use Rattle.tape_types.specs.declared.cartridges.Part.TheVariants.{Ip, Dp}
@@ -20,7 +19,7 @@ use Rattle.image_slots.specs.Sides.{IsRead, other_of}
 use Rattle.image_slots.specs.Calls.{IsLook}
 use Rattle.image_slots.specs.Pieces.{Any, CrashesIn, HasOne, IsHeaderSure, IsPiece, IsReady, WithinSet}
 use Rattle.image_slots.specs.State.{IsCommand, IsKept, IsRecovered, IsSet, Knows, View, file_of, is_steady, next_value}
-use Rattle.image_slots.proofs.Chains.{no_step, old_image, same_files, told_before, where_told}
+use Rattle.image_slots.proofs.Chains.{no_step, same_files, told_before, where_told}
 use Rattle.image_slots.proofs.Choosing.{has_value}
 
 one_has : (cm old new : List ℕ) → HasValue cm old ⊎ HasValue cm new → (v : List ℕ) × HasValue cm v
@@ -42,13 +41,15 @@ image_has_value (Open after) side beside value leaves d h image left = one_has i
 knows_over : (known : Known) (side : Side) (beside : Bool) (value : List ℕ) (la lb : Files → Type 0) (d e : Files) → e.cm ≡ d.cm
     → ((image : Files) → lb image → (before : Files) × la before × (image.cm ≡ before.cm))
     → Knows known side beside value la d → Knows known side beside value lb e
-knows_over Steady side beside value la lb d e same back h =
-    (subst (λ (l : List ℕ). IsRead side beside value l) (sym same) h.0,
-    λ image left. let was = back image left in was.2 ∙ h.1 was.0 was.1 ∙ sym same)
-knows_over (Open after) side beside value la lb d e same back h =
-    (subst (λ (l : List ℕ). HasValue l value ⊎ HasValue l after) (sym same) h.0,
-    λ image left. let was = back image left in
-    subst (λ (l : List ℕ). HasValue l value ⊎ HasValue l after) (sym was.2) (h.1 was.0 was.1))
+knows_over Steady side beside value la lb d e same back h = (
+  subst (λ (l : List ℕ). IsRead side beside value l) (sym same) h.0,
+  λ image left. let was = back image left in was.2 ∙ h.1 was.0 was.1 ∙ sym same,
+)
+knows_over (Open after) side beside value la lb d e same back h = (
+  subst (λ (l : List ℕ). HasValue l value ⊎ HasValue l after) (sym same) h.0,
+  λ image left. let was = back image left in
+      subst (λ (l : List ℕ). HasValue l value ⊎ HasValue l after) (sym was.2) (h.1 was.0 was.1),
+)
 
 pub opened_at : {D : Type 0} (a : D) (side : Side) (value : List ℕ) (beside : Bool) (known : Known) (m n : ℕ) → m ≡ n
     → ◌≡◌ {A = View D} (record { disk = a; side = side; value = value; beside = beside; known = known; opened = m })
@@ -158,9 +159,10 @@ module _ {D : Type 0} (disk : Ghosts D) where
       → IsKept disk (record { disk = b; side = s.side; value = s.value; beside = s.beside; known = Open new; opened = s.opened })
   kept_failed x s b new kept piece = kept_by s b s.side s.value s.beside (Open new) kept piece.count.later piece.untold piece.crash
       (λ d before image is left within. one_has image.cm s.value new within.2)
-      (λ d e is now. let t = piece.told d is in
-      (subst (λ (f : Files). HasOne s.value new f) (same_files (disk.held b) e t.0 now t.1) t.4,
-      λ image left. let was = (piece.crash d is).now image left in was.2.2))
+      (λ d e is now. let t = piece.told d is in (
+        subst (λ (f : Files). HasOne s.value new f) (same_files (disk.held b) e t.0 now t.1) t.4,
+        λ image left. let was = (piece.crash d is).now image left in was.2.2,
+      ))
 
   -- what a set leaves, by how its commands ended
   set_done_at : {After : List ℕ → Type 0} {E : Type 0} (s : View D) (b : D) (rest new : List ℕ) (x : Unit {0}) → new ≡ next_value s.value rest → s.known ≡ Steady

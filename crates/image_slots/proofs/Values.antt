@@ -1,9 +1,9 @@
 -- A value is its serial number and the rest.
-use Rattle.std.proofs.Common.{ℕ, ◌+◌, ◌<◌, ◌≡◌, ◌^◌, ◌∙◌, List, ◌++◌, take, drop, length, replicate, refl, ap}
+use Rattle.std.proofs.Common.{ℕ, ◌+◌, ◌<◌, ◌≡◌, ◌^◌, ◌∙◌, List, ◌++◌, take, drop, length, replicate, ap}
 use Rattle.std.specs.Int.{w64, to_be_bytes}
 use Rattle.std.proofs.lemmas.List.{append-nil}
 use Rattle.std.proofs.lemmas.Nat.{from_be_bytes-to_be_bytes_8}
-use Rattle.image_slots.specs.Slots.{first_value, serial_of}
+use Rattle.image_slots.specs.Slots.{serial_of}
 
 abbrev pub put_field : ℕ → List ℕ → List ℕ → List ℕ
 put_field at field old = take at old ++ field ++ drop (at + length field) old

@@ -1,5 +1,5 @@
 -- What the calls leave of a disk, and what they answer.
-use Rattle.std.specs.Prelude.{ℕ, ◌≤◌, ◌≡◌, ◌≢◌, ◌⊎◌, Bool, true, MatchBool, List, [], ◌∷◌, ◌++◌, replicate, length, Option, Some, None}
+use Rattle.std.specs.Prelude.{ℕ, ◌≤◌, ◌≡◌, ◌≢◌, ◌⊎◌, Bool, true, MatchBool, List, ◌∷◌, ◌++◌, replicate, length, Some, None}
 use Rattle.std.specs.Prelude.{Result, Ok, Err, IfOk, IfErr, OnOk}
 use Rattle.std.specs.Int.{w64, to_be_bytes}
 use Rattle.tape_types.specs.Counts.{HasCause, Rose}

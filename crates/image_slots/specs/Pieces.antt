@@ -1,12 +1,12 @@
 -- What the commands of a set, and those that make a header, leave of a disk.
-use Rattle.std.specs.Prelude.{ℕ, ◌+◌, ◌≤◌, ◌<◌, ◌≡◌, ◌⊎◌, max, List, [], length, slice_index, Option, Some, None, Result, OnOk}
+use Rattle.std.specs.Prelude.{ℕ, ◌+◌, ◌≤◌, ◌<◌, ◌≡◌, ◌⊎◌, max, List, [], length, slice_index, Some, None, Result, OnOk}
 use Rattle.tape_types.specs.Counts.{HasCause}
 use Rattle.crash_steps.specs.Crashes.{Crashes}
 use Rattle.byte_disk.specs.Files.{Files, IsOutside, written}
 use Rattle.byte_disk.specs.Commands.{WithinWrite}
 use Rattle.byte_disk.specs.declared.disk.File.TheVariants.{Cm}
 use Rattle.byte_disk.specs.declared.disk.ByteDisk.{Ghosts}
-use Rattle.image_slots.specs.Slots.{HasValue, IsBlank, Stores, first_value}
+use Rattle.image_slots.specs.Slots.{HasValue, Stores, first_value}
 
 -- so many commands at most
 pub record AtMost (most before now : ℕ) : Type 0 where

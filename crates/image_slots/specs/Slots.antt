@@ -1,7 +1,7 @@
 -- The two slots of the header file, and the value that counts. A slot has 256 bytes: its gate, and a value of 255 bytes
 -- that begins with its serial number, the highest byte first.
-use Rattle.std.specs.Prelude.{ℕ, ◌+◌, ◌<◌, ◌≡◌, ◌⊎◌, ◌==◌, Bool, true, false, nat_lt, if◌then◌else◌, List, [], take, drop, length}
-use Rattle.std.specs.Prelude.{slice_index, replicate, ◌++◌, Option, Some, None}
+use Rattle.std.specs.Prelude.{ℕ, ◌<◌, ◌≡◌, ◌⊎◌, List, [], take, drop, length}
+use Rattle.std.specs.Prelude.{slice_index, replicate, ◌++◌}
 use Rattle.std.specs.List.{slice_range}
 use Rattle.std.specs.Int.{w64, from_be_bytes, to_be_bytes}
 use Rattle.byte_disk.specs.Files.{Files}

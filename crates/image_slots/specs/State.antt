@@ -1,5 +1,5 @@
 -- What is known of a value, and of what a crash may leave of it.
-use Rattle.std.specs.Prelude.{ℕ, ◌+◌, ◌-◌, ◌^◌, ◌≤◌, ◌<◌, ◌≡◌, Bool, true, false, List, ◌++◌, Option, Some, None, Result, Ok, Err, IfErr}
+use Rattle.std.specs.Prelude.{ℕ, ◌+◌, ◌-◌, ◌^◌, ◌≤◌, ◌<◌, ◌≡◌, Bool, true, false, List, ◌++◌, Some, None, Result, Ok, Err, IfErr}
 use Rattle.std.specs.Int.{w64, to_be_bytes}
 use Rattle.crash_steps.specs.Crashes.{NothingNew}
 use Rattle.byte_disk.specs.Commands.{IsOneMore}

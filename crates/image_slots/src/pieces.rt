@@ -45,11 +45,7 @@ fn close_gate<B: ByteDisk>(disk: &mut B, side: Side, beside: bool) -> Result<(),
 }
 
 /// Writes the value behind that gate, which is durably closed.
-fn write_value<B: ByteDisk>(
-    disk: &mut B,
-    side: Side,
-    value: &[u8; 255],
-) -> Result<(), DiskFault>
+fn write_value<B: ByteDisk>(disk: &mut B, side: Side, value: &[u8; 255]) -> Result<(), DiskFault>
     requires size { IfSome (B.held disk.old) (λ d. length d.cm ≡ 512) }
     ensures size { IfSome (B.held disk.new) (λ d. length d.cm ≡ 512) }
     ensures piece { (old : List ℕ) → IsReady B.ByteDisk Any (IsClosedBeside side old) disk.old
@@ -59,10 +55,7 @@ fn write_value<B: ByteDisk>(
 }
 
 /// Opens that gate, behind which the value is durable.
-fn open_gate<B: ByteDisk>(
-    disk: &mut B,
-    side: Side,
-) -> Result<(), DiskFault>
+fn open_gate<B: ByteDisk>(disk: &mut B, side: Side) -> Result<(), DiskFault>
     requires size { IfSome (B.held disk.old) (λ d. length d.cm ≡ 512) }
     ensures { (old new : List ℕ) → serial_of old < serial_of new
         → IsReady B.ByteDisk Any (IsPrepared side old new) disk.old

@@ -1,4 +1,4 @@
-use Rattle.std.proofs.Common.{Ok, Bool, ℕ, sym, subst}
+use Rattle.std.proofs.Common.{Ok, Bool, sym, subst}
 use Rattle.image_slots.specs.Calls.{AreMeasured}
 use Rattle.image_slots.proofs.Opened.{both_measured, first_fails, second_fails}
 use Rattle.image_slots.proofs.finding.are_empty.Goals as goal

@@ -1,4 +1,4 @@
-use Rattle.std.proofs.Common.{rules, arith, ◌≡◌, ◌<◌}
+use Rattle.std.proofs.Common.{rules}
 use Rattle.image_slots.proofs.Opened.{opens_long, opens_look, size_of, short_size}
 use Rattle.image_slots.proofs.finding.find_in.Goals as goal
 

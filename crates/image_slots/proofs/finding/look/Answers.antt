@@ -1,4 +1,4 @@
-use Rattle.std.proofs.Common.{rules, refl}
+use Rattle.std.proofs.Common.{refl}
 use Rattle.image_slots.proofs.Opened.{look_fails, looked, whole_within}
 use Rattle.image_slots.proofs.finding.look.Goals as goal
 

@@ -1,4 +1,4 @@
-use Rattle.std.proofs.Common.{Bool, Ok, refl, subst, arith}
+use Rattle.std.proofs.Common.{Bool, Ok, subst, arith}
 use Rattle.image_slots.specs.Calls.{AreMeasured}
 use Rattle.image_slots.proofs.Opened.{blank_ready, opens_made, opens_not, opens_short}
 use Rattle.image_slots.proofs.finding.make_if_blank.Goals as goal

@@ -1,6 +1,3 @@
-use Rattle.std.proofs.Common.{subst, sym}
-use Rattle.byte_disk.specs.Files.{Files}
-use Rattle.image_slots.proofs.Chains.{more_at_most, one_at_most}
 use Rattle.image_slots.proofs.Opened.{settle_fails, settled, settled_sure}
 use Rattle.image_slots.proofs.finding.settle.Goals as goal
 

@@ -1,9 +1,7 @@
-use Rattle.std.proofs.Common.{arith, ℕ, List, [], ◌∷◌, ◌≡◌, ◌≤◌, length, refl, replicate, subst, sym}
-use Rattle.byte_disk.specs.Files.{Files}
-use Rattle.image_slots.specs.Blank.{IsBegun, IsBodied, IsGated, IsMade, IsShort, bodied}
-use Rattle.image_slots.specs.Pieces.{AreEmpty, HasFirst, IsPut}
-use Rattle.image_slots.specs.Slots.{first_value}
-use Rattle.image_slots.proofs.Blanks.{long_of, gate_each, gate_ends}
+use Rattle.std.proofs.Common.{arith, [], ◌∷◌}
+use Rattle.image_slots.specs.Blank.{IsBodied, IsGated}
+use Rattle.image_slots.specs.Pieces.{AreEmpty, HasFirst}
+use Rattle.image_slots.proofs.Blanks.{gate_each, gate_ends}
 use Rattle.image_slots.proofs.Chains.{piece_of, ready_has}
 use Rattle.image_slots.proofs.making.open_first.Goals as goal
 

@@ -1,6 +1,5 @@
-use Rattle.std.proofs.Common.{arith, ℕ, List, [], ◌∷◌, ◌≡◌, ◌≤◌, length, refl, replicate, subst, sym}
-use Rattle.byte_disk.specs.Files.{Files}
-use Rattle.image_slots.specs.Blank.{IsBegun, IsBodied, IsGated, IsMade, IsShort, bodied}
+use Rattle.std.proofs.Common.{arith, ℕ, List, refl, replicate, subst}
+use Rattle.image_slots.specs.Blank.{IsBegun, IsBodied}
 use Rattle.image_slots.specs.Pieces.{AreEmpty, HasFirst, IsPut}
 use Rattle.image_slots.specs.Slots.{first_value}
 use Rattle.image_slots.proofs.Blanks.{long_of, body_each, body_ends}

@@ -1,8 +1,6 @@
-use Rattle.std.proofs.Common.{arith, ℕ, List, [], ◌∷◌, ◌≡◌, ◌≤◌, length, refl, replicate, subst, sym}
-use Rattle.byte_disk.specs.Files.{Files}
-use Rattle.image_slots.specs.Blank.{IsBegun, IsBodied, IsGated, IsMade, IsShort, bodied}
-use Rattle.image_slots.specs.Pieces.{AreEmpty, HasFirst, IsPut}
-use Rattle.image_slots.specs.Slots.{first_value}
+use Rattle.std.proofs.Common.{refl, replicate}
+use Rattle.image_slots.specs.Blank.{IsGated, IsMade, bodied}
+use Rattle.image_slots.specs.Pieces.{AreEmpty, HasFirst}
 use Rattle.image_slots.proofs.Blanks.{long_of, rest_each, rest_ends}
 use Rattle.image_slots.proofs.Chains.{piece_of, ready_has}
 use Rattle.image_slots.proofs.making.write_rest.Goals as goal

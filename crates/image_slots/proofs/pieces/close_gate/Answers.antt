@@ -1,5 +1,4 @@
-use Rattle.std.proofs.Common.{rules, arith, ℕ, ◌+◌, ◌≤◌, Bool, true, false, List, [], ◌∷◌, ◌≡◌, ◌==◌, ◌∙◌, ap, sym, subst, inl, length}
-use Rattle.byte_disk.specs.Files.{Files}
+use Rattle.std.proofs.Common.{arith, ℕ, Bool, true, [], ◌∷◌, ◌≡◌, ◌==◌, ◌∙◌, ap, subst, inl}
 use Rattle.image_slots.specs.Calls.{IsClosedBeside}
 use Rattle.image_slots.specs.Pieces.{Any, HasOne, IsPut, IsReady}
 use Rattle.image_slots.specs.Sides.{IsRead, gate_in, gate_of, other_of}

@@ -1,4 +1,4 @@
-use Rattle.std.proofs.Common.{ℕ, List, true, arith}
+use Rattle.std.proofs.Common.{ℕ, List, arith}
 use Rattle.image_slots.specs.Pieces.{Any, HasOne}
 use Rattle.image_slots.proofs.Chains.{failed_piece, then_piece}
 use Rattle.image_slots.proofs.pieces.commit.Goals as goal

@@ -1,5 +1,4 @@
-use Rattle.std.proofs.Common.{arith, true, ℕ, ◌≤◌, List, [], ◌∷◌, ◌≡◌, ◌∙◌, ap, sym, subst}
-use Rattle.byte_disk.specs.Files.{Files}
+use Rattle.std.proofs.Common.{arith, true, ℕ, [], ◌∷◌, ◌≡◌, ◌∙◌, ap, subst}
 use Rattle.image_slots.specs.Calls.{IsPrepared}
 use Rattle.image_slots.specs.Pieces.{Any, HasOne, IsPut}
 use Rattle.image_slots.specs.Sides.{IsRead, gate_of, other_of}

@@ -1,8 +1,7 @@
-use Rattle.std.proofs.Common.{rules, arith, ℕ, ◌+◌, ◌≤◌, List, [], ◌∷◌, ◌≡◌, ◌∙◌, ap, sym, subst, length}
-use Rattle.byte_disk.specs.Files.{Files}
+use Rattle.std.proofs.Common.{rules, arith, ℕ, ◌+◌, List, ◌≡◌, ◌∙◌, ap, subst, length}
 use Rattle.image_slots.specs.Calls.{IsClosedBeside, IsPrepared}
 use Rattle.image_slots.specs.Pieces.{Any, HasOne, IsPut}
-use Rattle.image_slots.specs.Sides.{IsRead, gate_of, other_of}
+use Rattle.image_slots.specs.Sides.{gate_of, other_of}
 use Rattle.image_slots.proofs.Chains.{piece_of, put_size, within_size}
 use Rattle.image_slots.proofs.Gates.{value_each, value_ends}
 use Rattle.image_slots.proofs.pieces.write_value.Goals as goal

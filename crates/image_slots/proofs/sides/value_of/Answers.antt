@@ -1,4 +1,4 @@
-use Rattle.std.proofs.Common.{rules, arith, ℕ, List, ◌≡◌, ◌<◌, ◌^◌, ◌∙◌, sym, ap, length}
+use Rattle.std.proofs.Common.{rules, ℕ, List, ◌≡◌, ◌<◌, ◌^◌, ◌∙◌, ap, length}
 use Rattle.image_slots.specs.Slots.{serial_of}
 use Rattle.image_slots.proofs.Values.{put_field, serial_back, value_made}
 use Rattle.image_slots.proofs.sides.value_of.Goals as goal

@@ -1,11 +1,9 @@
-use Rattle.std.proofs.Common.{ℕ, List, ◌+◌, ◌≤◌, ◌≡◌, ◌∙◌, ap, sym, subst, length, IfOk, IfSome, OnOk, Some, None, Option}
-use Rattle.crash_steps.specs.Crashes.{NothingNew}
-use Rattle.byte_disk.specs.Commands.{IsFileSure, WithinWrite}
-use Rattle.byte_disk.specs.Files.{AfterWrite, Files, bytes_at, bytes_of}
+use Rattle.std.proofs.Common.{◌≡◌, subst, length, IfOk, Some}
+use Rattle.byte_disk.specs.Files.{Files, bytes_of}
 use Rattle.byte_disk.specs.declared.disk.File.{File}
-use Rattle.image_slots.specs.State.{IsCommand, View, file_of}
+use Rattle.image_slots.specs.State.{file_of}
 use Rattle.image_slots.proofs.Chains.{one_at_most}
-use Rattle.image_slots.proofs.Upkeep.{commanded, kept_look, kept_write}
+use Rattle.image_slots.proofs.Upkeep.{commanded, kept_look}
 use Rattle.image_slots.proofs.slots.Slots.length.Goals as goal
 
 pub invariant_of-self : goal.invariant_of-self

@@ -1,20 +1,20 @@
-use Rattle.std.proofs.Common.{ℕ, List, ◌+◌, ◌≤◌, ◌≡◌, ◌∙◌, ap, sym, subst, length, IfOk, IfSome, OnOk, Some, None, Option}
-use Rattle.crash_steps.specs.Crashes.{NothingNew}
-use Rattle.byte_disk.specs.Commands.{IsFileSure, WithinWrite}
-use Rattle.byte_disk.specs.Files.{AfterWrite, Files, bytes_at, bytes_of}
+use Rattle.std.proofs.Common.{◌+◌, ◌≤◌, ◌≡◌, sym, subst, length, IfSome, OnOk, Some}
+use Rattle.byte_disk.specs.Files.{Files, bytes_at, bytes_of}
 use Rattle.byte_disk.specs.declared.disk.File.{File}
-use Rattle.image_slots.specs.State.{IsCommand, View, file_of}
+use Rattle.image_slots.specs.State.{file_of}
 use Rattle.image_slots.proofs.Chains.{one_at_most}
-use Rattle.image_slots.proofs.Upkeep.{commanded, kept_look, kept_write}
+use Rattle.image_slots.proofs.Upkeep.{commanded, kept_look}
 use Rattle.image_slots.proofs.slots.Slots.read.Goals as goal
 
 pub invariant_of-self : goal.invariant_of-self
 invariant_of-self g c = kept_look g.B.ByteDisk _ c.read.new.self c.self.invariant (one_at_most c.read.ensures.count).later c.read.ensures.held c.read.ensures.crash
 
 pub read-requires : goal.read-requires
-read-requires g c = record { within =
-    subst (λ (f : File). IfSome (g.B.ByteDisk.held c.self.inside.disk) (λ d. c.args.at + length c.args.buf.now ≤ length (bytes_of f d))) (sym c.file_of.ensures)
-    (subst (λ v. IfSome (g.B.ByteDisk.held v.disk) (λ d. c.args.at + length c.args.buf.now ≤ length (bytes_of (file_of c.args.part) d))) (sym c.self.view_is) c.requires.within) }
+read-requires g c = record {
+  within =
+      subst (λ (f : File). IfSome (g.B.ByteDisk.held c.self.inside.disk) (λ d. c.args.at + length c.args.buf.now ≤ length (bytes_of f d))) (sym c.file_of.ensures)
+      (subst (λ v. IfSome (g.B.ByteDisk.held v.disk) (λ d. c.args.at + length c.args.buf.now ≤ length (bytes_of (file_of c.args.part) d))) (sym c.self.view_is) c.requires.within);
+}
 
 pub returns-clause-value : goal.returns-clause-value
 returns-clause-value g c =

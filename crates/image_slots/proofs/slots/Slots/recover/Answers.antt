@@ -1,4 +1,4 @@
-use Rattle.std.proofs.Common.{sym, ◌∙◌}
+use Rattle.std.proofs.Common.{sym}
 use Rattle.image_slots.proofs.Upkeep.{kept_found, kept_look, kept_size, not_recovered, recovered, recovered_before, unknown_at}
 use Rattle.image_slots.proofs.slots.Slots.recover.Goals as goal
 

@@ -1,6 +1,6 @@
-use Rattle.std.proofs.Common.{rules, arith, ℕ, List, ◌+◌, ◌-◌, ◌^◌, ◌<◌, ◌≡◌, ◌∙◌, ◌++◌, Ok, Err, ap, sym, subst}
+use Rattle.std.proofs.Common.{rules, arith, ℕ, ◌+◌, ◌-◌, ◌^◌, ◌<◌, ◌≡◌, ◌∙◌, ◌++◌, Err, ap, sym, subst}
 use Rattle.std.specs.Int.{w64, to_be_bytes}
-use Rattle.image_slots.specs.declared.errors.SetErr.TheVariants.{Disk, Serial}
+use Rattle.image_slots.specs.declared.errors.SetErr.TheVariants.{Serial}
 use Rattle.image_slots.specs.Slots.{serial_of}
 use Rattle.image_slots.specs.State.{IsSet, next_value}
 use Rattle.image_slots.proofs.Upkeep.{kept_failed, kept_set, kept_size, set_done, set_failed, set_spent, steady_ready, steady_at}
