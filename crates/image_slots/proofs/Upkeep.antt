@@ -135,6 +135,14 @@ module _ {D : Type 0} (disk : Ghosts D) where
       let p = subst (λ (k : Known). Knows k s.side s.beside s.value (disk.leaves s.disk) d) steady (kept.present d is) in
       (p.0, tt, λ image left. (p.1 image left, tt))
 
+  -- the value that is known is there
+  pub known_left : (s : View D) → IsKept disk s → s.known ≡ Steady → (d : Files) → disk.held s.disk ≡ Some d
+      → HasValue d.cm s.value × ((image : Files) → disk.leaves s.disk image → HasValue image.cm s.value)
+  known_left s kept steady d is =
+      let now = steady_ready s kept steady d is in
+      let has : HasValue d.cm s.value = has_value s.side d.cm s.value now.0.0 in
+      (has, λ image left. subst (λ (l : List ℕ). HasValue l s.value) (sym (now.2 image left).0) has)
+
   pub kept_size : (s : View D) → IsKept disk s → IfSome (disk.held s.disk) (λ (d : Files). length d.cm ≡ 512)
   kept_size s kept = where_told (disk.held s.disk) (λ (d : Files). length d.cm ≡ 512)
       (λ d is. (held_has_value s.known s.side s.beside s.value (disk.leaves s.disk) d (kept.present d is)).1.size)

@@ -53,6 +53,11 @@ pub record IsKept {D : Type 0} (disk : Ghosts D) (s : View D) : Type 0 where
   pub present : (d : Files) → disk.held s.disk ≡ Some d
       → Knows s.known s.side s.beside s.value (disk.leaves s.disk) d
 
+-- Where the value is known, it is the one of the header that reads, and of each that a crash may leave.
+abbrev pub KnownAreLeft : {D : Type 0} → Ghosts D → Type 0
+KnownAreLeft {D} disk = (s : View D) → IsKept disk s → s.known ≡ Steady → (d : Files) → disk.held s.disk ≡ Some d
+    → HasValue d.cm s.value × ((image : Files) → disk.leaves s.disk image → HasValue image.cm s.value)
+
 abbrev pub is_steady : Known → Bool
 is_steady Steady = true
 is_steady (Open after) = false

@@ -1,10 +1,13 @@
 //! What the gates of the two slots do, and that a header has one value at most.
-ghost use Rattle.std.specs.Prelude.{ℕ, ◌≡◌, ◌≢◌, ◌⊎◌, ◌↔◌, List, ◌∷◌, ◌++◌, length, Some};
+ghost use Rattle.std.specs.Prelude.{ℕ, ◌≡◌, ◌⊎◌, List, ◌∷◌, ◌++◌, length, Some};
 ghost use Rattle.byte_disk.specs.Files.{Files};
 ghost use Rattle.image_slots.specs.Sides.{chosen};
 ghost use Rattle.image_slots.specs.Slots.{HasValue, IsOpen, Stores};
+ghost use Rattle.image_slots.specs.State.{KnownAreLeft};
 
-/// A header has a value exactly where one is chosen, and that one alone; so has a disk.
+use byte_disk::ByteDisk;
+
+/// A header has a value exactly where one is chosen, and that one alone. A disk has one value at most.
 pub fn values_are_chosen()
     ensures found { (cm v : List ℕ) → chosen cm ≡ Some v → HasValue cm v }
     ensures only { (cm v : List ℕ) → HasValue cm v → chosen cm ≡ Some v }
@@ -29,4 +32,10 @@ pub fn a_gate_is_before_or_after()
     ensures first { (a value : List ℕ) (gate : ℕ) → length a ≡ 256 → length value ≡ 255
         → (chosen ((gate ∷ value) ++ a) ≡ chosen ((0 ∷ value) ++ a))
         ⊎ (chosen ((gate ∷ value) ++ a) ≡ chosen ((1 ∷ value) ++ a)) }
+{}
+
+/// Over any disk that tells what it holds: a value that is known is the one that reads, and the one that every crash
+/// leaves.
+pub fn known_values_are_left<B: ByteDisk>()
+    ensures { KnownAreLeft B.ByteDisk }
 {}

@@ -12,6 +12,8 @@ mod slots;
 
 pub use errors::{OpenErr, SetErr};
 pub use known::Known;
-pub use laws::{a_gate_is_before_or_after, closed_slots_say_nothing, values_are_chosen};
+pub use laws::{
+    a_gate_is_before_or_after, closed_slots_say_nothing, known_values_are_left, values_are_chosen,
+};
 pub use sides::Side;
 pub use slots::{OpenFail, Slots};
