@@ -1,0 +1,19 @@
+use tape_types::Part;
+
+/// Why the files of a disk are no image.
+#[derive(Clone, Copy, Debug, PartialEq, Eq)]
+pub enum Refusal {
+    /// No slot counts, or the one that does is out of form.
+    Header,
+    /// The record of this number is at fault, or the records before it don't fill what they are to fill.
+    Record(Part, u64),
+}
+
+/// Why the records of a partition were not found.
+#[derive(Clone, Copy, Debug, PartialEq, Eq)]
+pub enum WalkErr {
+    /// The record of this number is at fault, or the records before it don't fill what they are to fill.
+    Record(u64),
+    /// The disk has failed.
+    Disk,
+}
