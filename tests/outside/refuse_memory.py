@@ -1,22 +1,27 @@
 #!/usr/bin/env python3
-"""Refuses each request for memory of `serve` in turn; looks at what is printed and what the folder stands for then.
+"""Refuses each request for memory of a run in turn; looks at what is printed and what the folder stands for then.
 
-usage: refuse_memory.py PROGRAM REFUSE.SO [--sessions N] [--first N] [--last N] [--each]
+usage: refuse_memory.py PROGRAM REFUSE.SO [--sessions N | --made] [--first N] [--last N] [--each]
 
-REFUSE.SO is built from refuse.c. Each of the script's sessions makes a file, writes it, synchronises and reads it,
-in a thread of its own. A run with nothing refused tells how many requests there are, and how many before the first
-thread. Then each is refused in a run of its own over a folder that was just formatted, and
+REFUSE.SO is built from refuse.c. The run is one of `serve`: each of the script's sessions makes a file, writes it,
+synchronises and reads it, in a thread of its own. A run with nothing refused tells how many requests there are, and how
+many before the first thread. Then each is refused in a run of its own over a folder that was just formatted, and
 
 - the run ends with one of the statuses 0, 4, 7 and 8, with the line that belongs to it;
 - each reply is that of a plain tree, or tells a fault or want of memory;
 - where nothing but how it ended is printed, and no thread was made yet, the folder is as it was, byte by byte;
 - `list` tells of each session none of its file, an empty one or the whole one, and the whole one where the session
   was told that it was synchronised.
+
+With --made it is one of `make DIR 5`, in which each of eight sessions makes a folder and a file, and writes, reads and
+renames that. No log is printed, so the summary has to count those calls as done that the listing shows to be done, and
+the reads by the bytes that were read: one request that is refused leaves at most one call without memory.
 """
 import argparse
 import collections
 import filecmp
 import pathlib
+import re
 import shutil
 import subprocess
 import sys
@@ -25,6 +30,7 @@ import tempfile
 TIME = "2024-01-02T03:04:05.000000000Z"
 UUID = "30a91a08-daae-48d1-ae75-69804e61d2ea"
 LENGTH = 5000
+SUMMARY = re.compile(r"made 40 (\d+) (\d+) (\d+)")
 
 
 def script(sessions):
@@ -75,6 +81,21 @@ def wrong_files(listed, sessions, synced):
     return "files of no session" if files else None
 
 
+def wrong_sum(line, listed):
+    """What is wrong with a summary of `make DIR 5`, beside what `list` tells of the tree."""
+    told = SUMMARY.fullmatch(line)
+    if not told:
+        return f"no summary: {line[:80]}"
+    done, read, nodes = map(int, told.groups())
+    tree = [words for words in (line.split(" ") for line in listed) if words[0] in ("d", "f")]
+    files = [(int(words[2]), words[3]) for words in tree if words[0] == "f"]
+    lengths = [length for length, _ in files]
+    # Each node but the root was made, each file with bytes was written, and each file was read, unless its bytes lack.
+    right = len(tree) - 1 + sum(length > 0 for length in lengths) + sum(path.endswith("/g0") for _, path in files)
+    right += len(files) - (sum(lengths) != read)
+    return None if (done, nodes) == (right, len(tree)) else f"{line}, where {right} are done and {len(tree)} nodes there"
+
+
 def same(one, other):
     """Whether two folders have the same files, byte by byte."""
     names = sorted(path.name for path in one.iterdir())
@@ -84,7 +105,7 @@ def same(one, other):
 
 class Trial:
     def __init__(self, asked, folder):
-        self.program, self.refuse, self.sessions = asked.program, asked.refuse, asked.sessions
+        self.program, self.refuse, self.sessions, self.made = asked.program, asked.refuse, asked.sessions, asked.made
         self.empty, self.used, self.told = folder / "empty", folder / "used", folder / "told"
         self.empty.mkdir()
         self.run(["format", str(self.empty), "TAPE01", UUID, "--block", "4096", "--at", TIME])
@@ -95,33 +116,39 @@ class Trial:
         done = subprocess.run([self.program, *words], input=text, capture_output=True, text=True, env=env, timeout=60)
         return done.returncode, done.stdout.splitlines()
 
-    def serve(self, refused):
+    def start(self, refused):
         shutil.rmtree(self.used, ignore_errors=True)
         shutil.copytree(self.empty, self.used)
+        if self.made:
+            return self.run(["make", str(self.used), "5", "--at", TIME], "", refused)
         return self.run(["serve", str(self.used), "--at", TIME], script(self.sessions), refused)
 
     def count(self):
         """How many requests there are, and how many before the first thread."""
-        self.serve(0)
+        self.start(0)
         count, self.alone = map(int, self.told.read_text().split())
         return count, self.alone
 
     def judge(self, refused):
         """How a run ended, and what is wrong with it, if anything."""
-        status, lines = self.serve(refused)
+        status, lines = self.start(refused)
         last = lines.pop() if lines else ""
         end = f"{status} {last.split(' ')[0]}"
-        if end not in ("0 closed", "4 drive", "7 memory", "8 full"):
+        if end not in ("0 made" if self.made else "0 closed", "4 drive", "7 memory", "8 full"):
             return end, "it ends so"
         if not lines:
-            end += " alone"
-        if not lines and refused <= self.alone:
+            end = f"{status} {' '.join(last.split(' ')[:3])}" if status == 0 else f"{end} alone"
+        if status and not lines and refused <= self.alone:
             return end, None if same(self.empty, self.used) else "the folder has changed"
-        fault, synced = wrong_log(lines, self.sessions)
+        fault, synced = (None, set()) if self.made else wrong_log(lines, self.sessions)
         if fault:
             return end, fault
-        status, listed = self.run(["list", str(self.used)])
-        return end, f"list ends with {status}" if status else wrong_files(listed, self.sessions, synced)
+        listing, listed = self.run(["list", str(self.used)])
+        if listing:
+            return end, f"list ends with {listing}"
+        if not self.made:
+            return end, wrong_files(listed, self.sessions, synced)
+        return end, wrong_sum(last, listed) if status == 0 else None
 
 
 def main():
@@ -129,6 +156,7 @@ def main():
     words.add_argument("program")
     words.add_argument("refuse")
     words.add_argument("--sessions", type=int, default=2)
+    words.add_argument("--made", action="store_true")
     words.add_argument("--first", type=int, default=1)
     words.add_argument("--last", type=int)
     words.add_argument("--each", action="store_true", help="print how each run ends")
