@@ -69,6 +69,14 @@ class Copy:
             names += tests_in(module, text)
         return names
 
+    def add_inside(self, crate, file):
+        """Adds a file of tests to the module that its folder names, whose private functions they call, and returns the
+        names of the tests."""
+        outer, inner, text = file.parent.name, file.name.removesuffix(ENDING), file.read_text()
+        with open(self.source(crate) / f"{outer}.rt", "a") as module:
+            module.write(f"#[cfg(test)]\nmod {inner} {{\n{text}}}\n")
+        return tests_in(f"{outer}::{inner}", text)
+
     def run(self, crate, only=None):
         """Runs the tests of a crate, or those with this word in their names. Returns what came of each by its name, and
         all that was said."""
