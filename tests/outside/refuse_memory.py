@@ -93,7 +93,9 @@ def wrong_sum(line, listed):
     # Each node but the root was made, each file with bytes was written, and each file was read, unless its bytes lack.
     right = len(tree) - 1 + sum(length > 0 for length in lengths) + sum(path.endswith("/g0") for _, path in files)
     right += len(files) - (sum(lengths) != read)
-    return None if (done, nodes) == (right, len(tree)) else f"{line}, where {right} are done and {len(tree)} nodes there"
+    if (done, nodes) != (right, len(tree)):
+        return f"{line}, where {right} are done and there are {len(tree)} nodes"
+    return None
 
 
 def same(one, other):
