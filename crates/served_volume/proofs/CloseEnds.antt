@@ -85,7 +85,7 @@ module _ {D : Type 0} (drive : Ghosts D)
   -- ---- too little space
 
   -- what is held once all ops are done that stand then
-  HoldsWhole : D → Result Unit Twin → Type 0
+  abbrev HoldsWhole : D → Result Unit Twin → Type 0
   HoldsWhole new (Ok done) = LeavesTree cartridges (carried fixed.mounted.index) tree (seen drive new)
   HoldsWhole new (Err counts) = Unit {0}
 

@@ -160,17 +160,20 @@ module _ {D : Type 0} (drive : Ghosts D) (fixed : Fixed D) (next : Option Moment
     abbrev q1 : Planned
     q1 = safe_dp.0
 
-    -- the index partition is short: only these ops are done
-    pub mid_closing : IsClosing drive v q1 mid.layout.ops p.drive
-    mid_closing = subst (λ (l : List Op). IsClosing drive v q1 l p.drive)
+    closes_mid : IsClosing drive v q1 mid.layout.ops p.drive
+    closes_mid = subst (λ (l : List Op). IsClosing drive v q1 l p.drive)
         (sym (mid_ops drive fixed next at p can mid dp)) safe_dp.1.closing
+
+    -- the index partition is short: only these ops are done
+    pub mid_closing : (q : Planned) × IsClosing drive v q mid.layout.ops p.drive
+    mid_closing = (q1, closes_mid)
 
     pub short_survives : (new : D) (result : Result Unit Twin) → AreOpsDone drive mid.layout.ops p.drive new result
         → Survives drive v new
-    short_survives new result does = ops_survive drive v q1 mid.layout.ops p.drive new result does mid_closing
+    short_survives new result does = ops_survive drive v q1 mid.layout.ops p.drive new result does closes_mid
 
     -- once all of these ops are done, the cartridge and whatever a crash leaves of it stands for the whole tree
-    ShortHolds : D → Result Unit Twin → Type 0
+    abbrev pub ShortHolds : D → Result Unit Twin → Type 0
     ShortHolds new (Ok done) = LeavesTree cartridges (carried fixed.mounted.index) (tree_after v (length p.listed.history))
         (seen drive new)
     ShortHolds new (Err counts) = Unit {0}
@@ -178,7 +181,7 @@ module _ {D : Type 0} (drive : Ghosts D) (fixed : Fixed D) (next : Option Moment
     pub short_holds : (new : D) (result : Result Unit Twin) → AreOpsDone drive mid.layout.ops p.drive new result
         → ShortHolds new result
     short_holds new (Ok done) does =
-        let c = does_keep drive v q1 mid.layout.ops [] p.drive new does mid_closing in
+        let c = does_keep drive v q1 mid.layout.ops [] p.drive new does closes_mid in
         let none_left : c.jobs ≡ [] = no_jobs c.jobs c.ops_are in
         let made_is : c.made ≡ q1.made =
         ap (λ (jobs : List Job). after c.made jobs) (sym none_left) ∙ c.plan in

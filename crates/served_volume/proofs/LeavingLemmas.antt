@@ -81,6 +81,7 @@ module _ {D : Type 0} (drive : Ghosts D) (law : ClosesEnd drive) (fixed : Fixed 
   -- what the law asks of the volume
   can_close : (at : Moment) → IfSome (next_moment one next) (λ m. at ≡ m) → IsGood p.stock.tree
       → CanClose drive fixed (next_moment one next) at p
+  unfolding to_close
   can_close at moment good =
       let c = to_close drive fixed one next p v serving is nothing at moment in
       record { runs = c.runs; nothing = c.nothing; moment = c.moment; good = good }

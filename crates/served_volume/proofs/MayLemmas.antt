@@ -179,12 +179,9 @@ module _ {D : Type 0} (drive : Ghosts D)
 
   module _ (mid : Stocked) (dp : AdmitsOnDp at p.stock mid) where
     pub may_short : MayDoAll drive mid.layout.ops p.drive
-    may_short = served_or (IsAllowedClose drive mid.layout.ops p.drive) (λ serve allowed. record {
-      planned = _;
-      view = v;
-      allowed = allowed;
-      closing = mid_closing drive fixed next at p can counts_now serve mid dp;
-    })
+    may_short = served_or (IsAllowedClose drive mid.layout.ops p.drive) (λ serve allowed.
+        let it = mid_closing drive fixed next at p can counts_now serve mid dp in
+        record { planned = it.0; view = v; allowed = allowed; closing = it.1 })
 
     pub may_end : (last : Stocked) (due : Bool) → AdmitsOnIp at p.stock mid last due
         → MayEnd drive last.layout.ops (lasts_of mid) p.drive
