@@ -6,7 +6,6 @@ use Rattle.tape_types.specs.declared.moments.Moment.{Moment}
 use Rattle.plain_tree.specs.Tree.{Tree}
 use Rattle.session_script.specs.Grammar.{script_of}
 use Rattle.session_script.specs.declared.scripts.ScriptLine.{ScriptLine}
-use Rattle.tape_drive.specs.Crashes.{AllowsAll}
 use Rattle.tape_drive.specs.declared.drive.Drive.{Ghosts}
 use Rattle.tape_meaning.specs.Carried.{Carried}
 use Rattle.tape_meaning.specs.Meaning.{Stands}
@@ -17,7 +16,7 @@ use Rattle.session_run.specs.Timed.{one_moment}
 use Rattle.volume_model.specs.Crash.{IsSound}
 use Rattle.volume_model.specs.Meanings.{cartridges}
 use Rattle.volume_model.specs.Served.{CanTell}
-use Rattle.volume_crashes.specs.May.{AllowsServed, MayServe}
+use Rattle.volume_crashes.specs.May.{AllowsServed}
 use Rattle.volume_crashes.specs.Safe.{seen_by}
 use Rattle.ltfs_server.specs.Allowed.{MayServeLeft}
 
@@ -28,15 +27,23 @@ one_script left text script own is spelled same =
     let here : script_of text ≡ Ok script = subst (λ (l : Option (List ℕ)). IfSome l (λ t. script_of t ≡ Ok script)) is same in
     cc
 
-module _ {D : Type 0} (drive : Ghosts D) (d : D) (words : List (String Global)) (left : Option (List ℕ))
-    (one : Option Moment) (own : List ScriptLine) (moment : Option Moment) (facts : Carried) (tree : Tree)
-    (allows : AllowsServed drive.allows own moment facts tree) where
-  pub may_serve : (at : Option Moment) × IsServeWords words at × (one_moment at one ≡ moment)
+module _ (words : List (String Global)) (one moment : Option Moment)
+    (given : (at : Option Moment) × IsServeWords words at × (one_moment at one ≡ moment)) where
+  pub no_make : (count : ℕ) (at : Option Moment) → IsMakeWords words count at → ⊥
+  no_make count at are = names_differ words (codes "serve") (codes "make") refl
+      (serve_named words (given.0, given.1)) (make_named words (count, at, are))
+
+  pub no_format : (asked : FormatWords) → IsFormatWords words asked → ⊥
+  no_format asked are = names_differ words (codes "serve") (codes "format") refl
+      (serve_named words (given.0, given.1)) (format_named words (asked, are))
+
+  pub may_serve : {D : Type 0} (drive : Ghosts D) (d : D) (left : Option (List ℕ)) (own : List ScriptLine) (facts : Carried)
+      (tree : Tree) → AllowsServed drive.allows own moment facts tree
       → (text : List ℕ) × (left ≡ Some text) × (script_of text ≡ Ok own)
       → (generation : ℕ) × CanTell (λ c. Stands c facts tree generation × IsSound cartridges c) (drive.commands d)
       (seen_by drive d)
       → (at : Option Moment) → IsServeWords words at → MayServeLeft drive left (one_moment at one) d
-  may_serve given spelled stands at is script same c told =
+  may_serve drive d left own facts tree allows spelled stands at is script same c told =
       let at_is : at ≡ given.0 = one_serve words at given.0 is given.1 in
       let moment_is : one_moment at one ≡ moment = ap (λ (a : Option Moment). one_moment a one) at_is ∙ given.2 in
       let script_is : script ≡ own = one_script left spelled.0 script own spelled.1 spelled.2 same in
@@ -48,14 +55,3 @@ module _ {D : Type 0} (drive : Ghosts D) (d : D) (words : List (String Global)) 
         subst (λ (e : List ScriptLine × Option Moment). AllowsServed drive.allows e.0 e.1 facts tree)
             (λ i. (sym script_is i, sym moment_is i)) allows,
       )
-
-  pub may_make : (at : Option Moment) × IsServeWords words at × (one_moment at one ≡ moment)
-      → (count : ℕ) (time : Option Moment) (script : List ScriptLine) → IsMakeWords words count time
-      → MayServe drive script (one_moment time one) d
-  may_make given count time script are = absurd (names_differ words (codes "serve") (codes "make") refl
-      (serve_named words (given.0, given.1)) (make_named words (count, time, are)))
-
-  pub may_format : (at : Option Moment) × IsServeWords words at × (one_moment at one ≡ moment)
-      → (asked : FormatWords) → IsFormatWords words asked → AllowsAll drive.allows
-  may_format given asked are = absurd (names_differ words (codes "serve") (codes "format") refl
-      (serve_named words (given.0, given.1)) (format_named words (asked, are)))

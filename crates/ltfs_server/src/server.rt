@@ -43,8 +43,8 @@ pub fn run<
     clock: C,
     gate: &G,
 ) -> Ended<D>
-    // A drive that tells its cartridge has an owner, who allows what a crash may leave of it. For `format` everything is
-    // allowed; for `serve` and `make` everything, or what the script may leave of the cartridge's tree.
+    // A drive that tells its cartridge has an owner, who allows what a crash may leave of it. For `format` everything
+    // is allowed; for `serve` and `make` everything, or what the script may leave of the cartridge's tree.
     requires formats { (asked : FormatWords) → IsFormatWords words.now.items asked → AllowsAll D.allows }
     requires serves { (at : Option Instant) → IsServeWords words.now.items at
         → MayServeLeft D.Drive (S.left script.old) (one_moment at (C.one clock)) drive }
