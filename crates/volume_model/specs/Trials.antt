@@ -171,12 +171,23 @@ honest_below n = record by_reference { IsHonest = λ c. c.vcr < n }
 abbrev pub alike_below : ℕ → Meaning
 alike_below n = record by_reference { AreAlike = λ c facts tree generation. c.vcr < n }
 
--- up to the 33rd command a crash leaves the first cartridge or the one after two placements, and since the 34th the
--- latter alone
-abbrev pub flushed_at_34 : Leavings
-flushed_at_34 = record {
+-- up to the 33rd command a crash leaves the cartridge with this number too, or the one after two placements, and since
+-- the 34th the latter alone
+abbrev pub left_until_33 : ℕ → Leavings
+left_until_33 n = record {
   now = λ image. image ≡ cartridge 2;
-  since = λ t image. (image ≡ cartridge 2) ⊎ ((t ≤ 33) × (image ≡ cartridge 0));
+  since = λ t image. (image ≡ cartridge 2) ⊎ ((t ≤ 33) × (image ≡ cartridge n));
+}
+
+-- up to the 33rd the first one
+abbrev pub flushed_at_34 : Leavings
+flushed_at_34 = left_until_33 0
+
+-- a crash leaves the first cartridge whenever it comes
+abbrev pub never_flushed : Leavings
+never_flushed = record {
+  now = λ image. (image ≡ cartridge 2) ⊎ (image ≡ cartridge 0);
+  since = λ t image. (image ≡ cartridge 2) ⊎ (image ≡ cartridge 0);
 }
 
 -- ---- space over a history

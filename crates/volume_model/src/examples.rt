@@ -21,7 +21,7 @@ ghost use Rattle.volume_model.specs.Trials.{calls_of_one, with_a, write, read, c
 ghost use Rattle.volume_model.specs.Trials.{last_void, path, small_volume, twice_written, with_policy};
 ghost use Rattle.volume_model.specs.Trials.{with_small_blocks, four_done, placed, ack, sync_replies, fault_replies};
 ghost use Rattle.volume_model.specs.Trials.{fault_of_another, sync_marks, drain_marks, log_of, by_reference};
-ghost use Rattle.volume_model.specs.Trials.{flushed_at_34, mounted, numbered, synced};
+ghost use Rattle.volume_model.specs.Trials.{flushed_at_34, left_until_33, mounted, never_flushed, numbered, synced};
 ghost use Rattle.volume_space.specs.Space.{ops_of};
 ghost use Rattle.volume_space.specs.Standing.{admitted, standing, Given};
 ghost use Rattle.volume_space.specs.Trials.{empty_volume, on_dp, on_ip, after_asks, for_ip, places as places_in};
@@ -66,6 +66,8 @@ pub fn the_definitions_tell_replies()
         → ¬ IsReply fates.Done (record (calm tree) { own = twin 0 1 ∷ [] }) (write (codes "d")) (fault 0 1) }
     ensures drain_fault_is { (tree : Tree)
         → IsReply fates.Void (record (calm tree) { sessions = twin 0 1 ∷ [] }) (write (codes "d")) (fault 0 1) }
+    ensures void_sync_isnt { (tree : Tree)
+        → ¬ IsReply fates.Void (record (calm tree) { sessions = twin 0 1 ∷ [] }) Sync (fault 0 1) }
 {}
 
 /// Replies and ops over whole histories.
@@ -143,6 +145,10 @@ pub fn the_definitions_tell_crashes()
     ensures acknowledged_is { SurvivesCrashes by_reference plain_facts numbered 4 (ack 2 34 ∷ []) flushed_at_34 30 }
     ensures acknowledged_early_isnt { ¬ SurvivesCrashes by_reference plain_facts numbered 4
         (ack 2 33 ∷ []) flushed_at_34 30 }
+    ensures acknowledged_late_isnt { ¬ SurvivesCrashes by_reference plain_facts numbered 4
+        (ack 2 18446744073709551614 ∷ []) never_flushed 30 }
+    ensures left_before_isnt { ¬ SurvivesCrashes by_reference plain_facts numbered 4 [] (left_until_33 9) 30 }
+    ensures dishonest_before_isnt { ¬ SurvivesCrashes (honest_below 3) plain_facts numbered 4 [] (left_until_33 3) 30 }
 {}
 
 /// Turns that the definitions accept, and turns that are damaged in one way.
