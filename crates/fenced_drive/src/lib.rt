@@ -3,5 +3,7 @@
 #![tactic(auto)]
 
 mod fenced;
+mod laws;
 
 pub use fenced::{Fenced, Order, Unowned};
+pub use laws::{an_owner_allows_the_promise, an_owner_forbids_erasing};
