@@ -1,17 +1,17 @@
 -- Each step of the head lowers the load.
-use Rattle.std.specs.Prelude.{◌≡◌, ◌==◌, ◌&&◌, ◌||◌, not, ℕ, zero, suc, ◌+◌, ◌≤◌, Bool, true, false, cond, List, [], ◌∷◌, ◌++◌, length, filter, map, drop, Option, Some, None, nat_le}
+use Rattle.std.specs.Prelude.{◌≡◌, ◌==◌, ◌&&◌, ◌||◌, not, ℕ, zero, suc, ◌+◌, ◌≤◌, Bool, true, false, cond, List, [], ◌∷◌, ◌++◌, length, filter, fold, map, drop, Option, Some, None, nat_le}
 use Rattle.std.specs.List.{list_any}
 use Rattle.std.proofs.Common.{refl, sym, ap, subst, ◌∙◌, arith, length-append}
-use Rattle.std.proofs.lemmas.List.{length-map}
+use Rattle.std.proofs.lemmas.List.{length-map, length_push}
 use Rattle.std.proofs.lemmas.List.Filters.{length-filter_both}
 use Rattle.std.proofs.lemmas.List.Sums.{length-filter, sum_by-cons}
 use Rattle.tape_types.specs.declared.cartridges.Place.{Place}
 use Rattle.tape_types.specs.declared.cartridges.Twin.{Twin}
 use Rattle.session_script.specs.declared.logs.Event.{Event}
 use Rattle.session_script.specs.declared.logs.Event.TheVariants.{Wants, Queues, Syncs, Synced, Drains, Rests, Served, Worked}
-use Rattle.head_trail.specs.Load.{IsSubmitted, StepsLowerTheLoad, load, lowers}
-use Rattle.head_trail.specs.Trail.{after, after_op, allows, asks, takes_op, takes_request, without_first_waiter}
-use Rattle.head_trail.specs.Waiting.{Op, Request, State, Waiter, is_calm, is_least, keys, ops, put_at, request_key, same_place, waiting_op, first_of}
+use Rattle.head_trail.specs.Load.{IsSubmitted, StepsLowerTheLoad, TrailsChangeTheLoad, WaitsAreLoad, is_submitted, load, lowers}
+use Rattle.head_trail.specs.Trail.{after, after_op, allows, asks, is_trail_from, steps, takes_op, takes_request, without_first_waiter}
+use Rattle.head_trail.specs.Waiting.{Op, Request, State, Waiter, is_calm, is_least, keys, ops, put_at, request_key, same_place, waiting_op, with_flushes, first_of}
 use Rattle.head_trail.proofs.TrailLaw.{first_of as left_of, second_of as right_of}
 
 -- ---- lists
@@ -107,3 +107,51 @@ lowered st (Worked place (Some counts)) h free =
 
 pub steps_lower_the_load : StepsLowerTheLoad
 steps_lower_the_load = lowered
+
+-- ---- a trail
+
+-- as many ops are ended as stood in the group
+pub flushes_long : (places : List Place) → length (with_flushes places) ≡ length places
+flushes_long [] = refl
+flushes_long (p ∷ places) = ap suc (flushes_long places)
+
+queued_one : (st : State) (place : Place)
+    → length (ops (record st { group = st.group ++ place ∷ [] })) ≡ length (ops st) + 1
+queued_one st place =
+    omega (arith, length-append st.ended (map put_at (st.group ++ place ∷ [])), length-map (st.group ++ place ∷ []) put_at, length_push st.group place, length-append st.ended (map put_at st.group), length-map st.group put_at)
+
+synced_one : (st : State) (ticket : ℕ) → load (after st (Syncs ticket)) ≡ load st + 1
+synced_one st ticket =
+    omega (arith, length-append (st.ended ++ with_flushes st.group) [], length-append st.ended (with_flushes st.group), flushes_long st.group, length-append st.ended (map put_at st.group), length-map st.group put_at, length_push st.syncs (record { ticket = ticket; due = st.done + length (st.ended ++ with_flushes st.group) }))
+
+pub trails_change_the_load : TrailsChangeTheLoad
+trails_change_the_load st [] h = omega arith
+trails_change_the_load st (e ∷ later) h =
+    by e (left_of (allows st e) (is_trail_from (after st e) later) h)
+    (trails_change_the_load (after st e) later (right_of (allows st e) (is_trail_from (after st e) later) h))
+  where
+    by : (e : Event) → allows st e ≡ true
+        → load (fold after (after st e) later) + steps later ≤ load (after st e) + length (filter is_submitted later)
+        → load (fold after st (e ∷ later)) + steps (e ∷ later) ≤ load st + length (filter is_submitted (e ∷ later))
+    by (Wants ticket place) may rest = omega (arith, rest, length_push st.requests (record { ticket = ticket; place = place; arrival = st.arrived }))
+    by (Queues place) may rest = omega (arith, rest, queued_one st place)
+    by (Syncs ticket) may rest = omega (arith, rest, synced_one st ticket)
+    by (Drains who) may rest = omega (arith, rest, length_push st.drains who)
+    by (Synced ticket) may rest = omega (arith, rest, lowered st (Synced ticket) may (λ no. no))
+    by (Rests who) may rest = omega (arith, rest, lowered st (Rests who) may (λ no. no))
+    by (Served ticket place fault) may rest = omega (arith, rest, lowered st (Served ticket place fault) may (λ no. no))
+    by (Worked place fault) may rest = omega (arith, rest, lowered st (Worked place fault) may (λ no. no))
+
+-- ---- who waits
+
+some_stand : {X : Type 0} (p : X → Bool) (xs : List X) → list_any p xs ≡ true → 1 ≤ length xs
+some_stand p [] h = absurd (cc h)
+some_stand p (x ∷ xs) h = omega arith
+
+pub waits_are_load : WaitsAreLoad
+waits_are_load st ticket h = by (list_any (λ (r : Request). r.ticket == ticket) st.requests) refl h
+  where
+    by : (some : Bool) → list_any (λ (r : Request). r.ticket == ticket) st.requests ≡ some
+        → (some || list_any (λ (s : Waiter). s.ticket == ticket) st.syncs) ≡ true → 1 ≤ load st
+    by true is h = omega (arith, some_stand (λ (r : Request). r.ticket == ticket) st.requests is)
+    by false is h = omega (arith, some_stand (λ (s : Waiter). s.ticket == ticket) st.syncs h)

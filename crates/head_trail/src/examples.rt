@@ -1,7 +1,7 @@
 ghost use Rattle.session_script.specs.declared.logs.Event.{Event};
 ghost use Rattle.std.specs.Prelude.{◌≡◌, ◌↔◌, List, true, false, [], ◌∷◌};
 ghost use Rattle.head_trail.specs.Waiting.{is_least, keys, op_key, put_at, request_key, is_at_rest};
-ghost use Rattle.head_trail.specs.Load.{StepsLowerTheLoad};
+ghost use Rattle.head_trail.specs.Load.{StepsLowerTheLoad, TrailsChangeTheLoad, WaitsAreLoad};
 ghost use Rattle.head_trail.specs.Trail.{EachIsAllowed, IsTrail, IsCost, is_trail, is_trail_from, after_all, owned};
 ghost use Rattle.head_trail.specs.Trail.{owned_by, of_call, of_session};
 ghost use Rattle.head_trail.specs.Rows.{twin, dp, ip, both_wait, with_op, request, three_requests, two_reads};
@@ -72,4 +72,12 @@ pub fn trails_allow_each_event()
 #[tactic(auto, using(crate::proofs::LoadLaw::steps_lower_the_load))]
 pub fn each_step_lowers_the_load()
     ensures { StepsLowerTheLoad }
+{}
+
+/// So a trail takes one away for each of its steps at least, and adds one at most for each event of a submission; and
+/// while a block or a flush has to come for a call, something is left.
+#[tactic(auto, using(crate::proofs::LoadLaw::trails_change_the_load, crate::proofs::LoadLaw::waits_are_load))]
+pub fn loads_bound_what_waits()
+    ensures trails { TrailsChangeTheLoad }
+    ensures waits { WaitsAreLoad }
 {}

@@ -4,5 +4,6 @@
 mod examples;
 
 pub use examples::{
-    each_step_lowers_the_load, the_definitions_tell_trails, trails_allow_each_event,
+    each_step_lowers_the_load, loads_bound_what_waits, the_definitions_tell_trails,
+    trails_allow_each_event,
 };
