@@ -27,7 +27,7 @@ rose_since first last now before after least rise = omega (arith, least, rise.lo
 pub failed_rose : {D : Type 0} (drive : Ghosts D) (old new : D) (moment : Option Moment) (script : List ScriptLine) (log : Log) (counts : Twin)
     → EndsRun drive old new moment (Failed counts) script log → Rose (drive.faults old) (drive.faults new)
 failed_rose drive old new moment script log counts is =
-    let least : min (drive.faults old) (2 ^ 64 - 1) ≤ last_fault (seen drive old) log = rises_end (drive.faults old) (drive.faults new) (filter_map fault_of log.events) is.run.log_is.faults.rises in
+    let least : min (drive.faults old) (2 ^ 64 - 1) ≤ last_fault (seen drive old) log = rises_end (drive.faults old) (drive.faults new) (filter_map fault_of log.events) is.run.serves.log_is.faults.rises in
     let rise : IsRise (last_fault (seen drive old) log) (drive.faults new) counts.before counts.after = is.ends in
     rose_since (drive.faults old) (last_fault (seen drive old) log) (drive.faults new) counts.before counts.after least rise
 

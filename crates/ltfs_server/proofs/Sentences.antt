@@ -11,6 +11,7 @@ use Rattle.session_script.specs.declared.scripts.ScriptLine.{ScriptLine}
 use Rattle.volume_model.specs.Headline.{Closed, Failed, IsEndOf, IsServeRun, ServeEnd, Short, status_of}
 use Rattle.volume_model.specs.Meanings.{cartridges}
 use Rattle.volume_order.specs.Kept.{seen}
+use Rattle.volume_runs.specs.Went.{IsRunBy}
 use Rattle.ltfs_server.specs.Making.{IsMadeEnd, MadeEnd, made, made_log, made_status, made_text, starved, unmade}
 use Rattle.basic_commands.specs.Outcomes.{IsTold}
 use Rattle.ltfs_server.specs.Promises.{DoesAsked, DoesMake, DoesServe}
@@ -45,7 +46,7 @@ not_six (Short need limit) six = cc six
 record Runs {D : Type 0} (asked : Asked) (moment : Option Moment) (source : Taken) (drive : Ghosts D) (old new : D) (log : Log) : Type 0 where
   script : List ScriptLine
   is_asked : IsScriptAsked asked source script
-  run : IsServeRun cartridges script moment (seen drive old) (seen drive new) log
+  run : IsRunBy drive script moment old new log
 
 module _ {D : Type 0} (asked : Asked) (moment : Option Moment) (source : Taken) (drive : Ghosts D) (old new : D) (sink : Written) (status : ℕ) (log : Log) where
   whole : (r : Runs asked moment source drive old new log)
@@ -53,13 +54,14 @@ module _ {D : Type 0} (asked : Asked) (moment : Option Moment) (source : Taken) 
       → (status ≡ 7 → IsWantPrinted asked sink log) → (status ≡ 6 → Rose sink.before sink.now) → IsOneOf status (0 ∷ 4 ∷ 6 ∷ 7 ∷ 8 ∷ [])
       → Sentence asked moment source drive old new sink status log
   whole r close memory write known =
-      let l = r.run.log_is in record {
+      let l = r.run.serves.log_is in record {
         script = r.script;
         is_asked = r.is_asked;
         history = record { once_in_order = l.history; moments = l.moments; replied = l.answered };
         steps = record { trail = l.trail; at_rest = l.at_rest; syncs = l.syncs; reads = l.reads; faults = l.faults; acks = l.acks; reached = l.reached };
-        replies = r.run.truly;
-        crash = r.run.crash;
+        replies = r.run.serves.truly;
+        crash = r.run.serves.crash;
+        went = r.run.went;
         close = close;
         memory = memory;
         only_write = write;

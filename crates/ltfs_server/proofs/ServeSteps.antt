@@ -16,9 +16,10 @@ use Rattle.tape_meaning.specs.declared.errors.MountErr.TheVariants as errors
 use Rattle.mount_recover.specs.Labels.{AreCounts}
 use Rattle.mount_recover.specs.Steps.{Blames}
 use Rattle.volume_model.specs.Ends.{bounded}
-use Rattle.volume_model.specs.Headline.{Closed, Failed, IsEndOf, IsServeRun, ServeEnd, Short, serve_text, status_of}
+use Rattle.volume_model.specs.Headline.{Closed, Failed, IsEndOf, ServeEnd, Short, serve_text, status_of}
 use Rattle.volume_model.specs.Meanings.{cartridges}
 use Rattle.volume_order.specs.Kept.{seen}
+use Rattle.volume_runs.specs.Went.{IsRunBy}
 use Rattle.session_run.specs.Serving.{IsServedSo, IsUnserved, IsWhole, Whole, end_line, IsLookedAt}
 use Rattle.session_run.specs.declared.ends.ServeEnd.{ServeEnd as VolumeEnd}
 use Rattle.session_run.specs.declared.ends.ServeEnd.TheVariants as ends
@@ -112,7 +113,7 @@ timed_does {C} one at clock timed same drive source old new sink status log does
 
 module _ {D : Type 0} (drive : Ghosts D) (moment : Option Moment) (source : Taken) (sink : Written) (status : ℕ) (script : List ScriptLine) (is : IsScriptIn source script)
     (start now : D) (log : Log) (limits : drive.limits now ≡ drive.limits start) (untold : drive.held start ≡ None → drive.held now ≡ None) where
-  run_of : IsServeRun cartridges script moment (seen drive start) (seen drive now) log → IsServedRun drive start now moment source log
+  run_of : IsRunBy drive script moment start now log → IsServedRun drive start now moment source log
   run_of run = record { script = script; spelled = is.spelled; whole = is.whole; run = run }
 
   does : (result : Option Log) (end : ServedEnd) → IsServedEnd drive start now moment source end → result ≡ Some log → served_log end ≡ Some log
@@ -121,7 +122,7 @@ module _ {D : Type 0} (drive : Ghosts D) (moment : Option Moment) (source : Take
       (λ none. absurd (let bad : None ≡ Some log = sym none ∙ logged in cc bad)) limits untold (result_is ∙ sym logged, told)
 
   -- it ended so, which is told
-  ended : (end : ServeEnd) (result : Option Log) → HoldsTree (drive.held start) → IsServeRun cartridges script moment (seen drive start) (seen drive now) log
+  ended : (end : ServeEnd) (result : Option Log) → HoldsTree (drive.held start) → IsRunBy drive script moment start now log
       → IsEndOf cartridges script (seen drive start) (seen drive now) log end → result ≡ Some log
       → IsTold (status_of end) (serve_text log end) sink status → DoesServe moment source drive start now sink status result
   ended end result tree run ends same told = does result (served log end)

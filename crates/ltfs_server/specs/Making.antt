@@ -21,10 +21,11 @@ use Rattle.tape_meaning.specs.Mounts.{Mounts}
 use Rattle.tape_meaning.specs.declared.errors.MountErr.{MountErr}
 use Rattle.tape_meaning.specs.declared.mounted.Mounted.{Mounted}
 use Rattle.volume_model.specs.Ends.{bounded}
-use Rattle.volume_model.specs.Headline.{Closed, Failed, IsServeRun, ServeEnd, Short, end_text, status_of, tree_of_log}
+use Rattle.volume_model.specs.Headline.{Closed, Failed, ServeEnd, Short, end_text, status_of, tree_of_log}
 use Rattle.volume_model.specs.Meanings.{cartridges}
 use Rattle.volume_model.specs.Served.{CanTell}
 use Rattle.volume_order.specs.Kept.{seen}
+use Rattle.volume_runs.specs.Went.{IsRunBy}
 use Rattle.session_run.specs.Serving.{HoldsTree, end_line}
 use Rattle.session_run.specs.declared.ends.ServeEnd.{ServeEnd as VolumeEnd}
 use Rattle.session_run.specs.declared.ends.ServeEnd.TheVariants as ends
@@ -108,7 +109,7 @@ HasNodes end tree nodes = Unit {0}
 module _ {D : Type 0} (drive : Ghosts D) (old new : D) (moment : Option Moment) (count : ℕ) where
   -- the log is that of a run of the script with so many calls a session
   abbrev pub IsMadeRun : Log → Type 0
-  IsMadeRun log = IsServeRun cartridges (made_script count) moment (seen drive old) (seen drive new) log
+  IsMadeRun log = IsRunBy drive (made_script count) moment old new log
 
   -- and that run ended so, with so many nodes in the tree of its whole history, where the drive could tell
   pub record IsMadeTo (end : ServeEnd) (log : Log) (nodes : ℕ) : Type 0 where

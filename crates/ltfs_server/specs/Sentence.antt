@@ -27,6 +27,7 @@ use Rattle.volume_model.specs.Meanings.{cartridges}
 use Rattle.volume_model.specs.Served.{CanTell, Drive}
 use Rattle.volume_order.specs.Kept.{seen}
 use Rattle.volume_runs.specs.Memory.{IsReady, Survives}
+use Rattle.volume_runs.specs.Went.{WentBy}
 use Rattle.server_words.specs.Forms.{IsMakeWords, IsServeWords}
 use Rattle.ltfs_server.specs.Making.{HasNodes, summary_text}
 use Rattle.basic_commands.specs.Runs.{IsOneOf, IsScriptIn, Taken, Written}
@@ -125,7 +126,9 @@ IsWantPrinted (to_make count) sink log = Appends sink.old sink.new (codes "memor
 
 -- ---- the sentence
 
--- It holds wherever there is a log, whatever status the run ended with.
+-- It holds wherever there is a log, whatever status the run ended with. How it went: the mount only looked, each step of
+-- the head was an act of the drive, each acknowledgement has the drive's number of commands as it was given, and what a
+-- crash could have left as each call returned held all that was acknowledged by then, and nothing that was placed later.
 pub record Sentence {D : Type 0} (asked : Asked) (moment : Option Moment) (source : Taken) (drive : Ghosts D)
     (old new : D) (sink : Written) (status : ℕ) (log : Log) : Type 0 where
   pub script : List ScriptLine
@@ -134,6 +137,7 @@ pub record Sentence {D : Type 0} (asked : Asked) (moment : Option Moment) (sourc
   pub steps : AreHeadSteps script (seen drive old) (seen drive new) log
   pub replies : AreAnswers script (seen drive old) log
   pub crash : IsFoundAgain script (seen drive old) (seen drive new) log
+  pub went : WentBy drive script old new log
   pub close : IsOneOf status (0 ∷ 4 ∷ 8 ∷ []) → IsClosedSo asked script drive old new sink status log
   pub memory : status ≡ 7 → IsWantPrinted asked sink log
   pub only_write : status ≡ 6 → Rose sink.before sink.now

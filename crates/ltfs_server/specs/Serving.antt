@@ -10,9 +10,10 @@ use Rattle.tape_drive.specs.declared.drive.Drive.{Ghosts}
 use Rattle.mount_recover.specs.Labels.{AreCounts}
 use Rattle.mount_recover.specs.Steps.{Blames}
 use Rattle.tape_meaning.specs.declared.errors.MountErr.{MountErr}
-use Rattle.volume_model.specs.Headline.{Closed, Failed, IsEndOf, IsServeRun, ServeEnd, Short, serve_text, status_of}
+use Rattle.volume_model.specs.Headline.{Closed, Failed, IsEndOf, ServeEnd, Short, serve_text, status_of}
 use Rattle.volume_model.specs.Meanings.{cartridges}
 use Rattle.volume_order.specs.Kept.{seen}
+use Rattle.volume_runs.specs.Went.{IsRunBy}
 use Rattle.session_run.specs.Serving.{HoldsTree, end_line}
 use Rattle.session_run.specs.declared.ends.ServeEnd.{ServeEnd as VolumeEnd}
 use Rattle.session_run.specs.declared.ends.ServeEnd.TheVariants as ends
@@ -72,14 +73,14 @@ served_log (unwritten log) = Some log
 -- the run of a script, between two moments of a drive, ended so
 pub record EndsRun {D : Type 0} (drive : Ghosts D) (old new : D) (moment : Option Moment) (end : ServeEnd)
     (script : List ScriptLine) (log : Log) : Type 0 where
-  pub run : IsServeRun cartridges script moment (seen drive old) (seen drive new) log
+  pub run : IsRunBy drive script moment old new log
   pub ends : IsEndOf cartridges script (seen drive old) (seen drive new) log end
 
 module _ {D : Type 0} (drive : Ghosts D) (old new : D) (moment : Option Moment) (source : Taken) where
   -- the log is that of a run of the script that was left in the source
   abbrev pub IsServedRun : Log → Type 0
   IsServedRun log =
-      IsRunOf (λ script l. IsServeRun cartridges script moment (seen drive old) (seen drive new) l) source log
+      IsRunOf (λ script l. IsRunBy drive script moment old new l) source log
 
   -- and that run ended so
   abbrev pub IsServedTo : ServeEnd → Log → Type 0

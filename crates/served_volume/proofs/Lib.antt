@@ -1,3 +1,4 @@
+mod Acting
 pub mod AdmitLemmas
 pub mod Admitted
 pub mod Alike

@@ -1,6 +1,6 @@
 //! The volume, and its calls.
 
-ghost use Rattle.std.specs.Prelude.{◌≡◌, ◌≤◌, ℕ, [], length, IfErr, IfOk, IfSome};
+ghost use Rattle.std.specs.Prelude.{◌≡◌, ◌≤◌, ◌+◌, ◌-◌, ℕ, [], length, IfErr, IfOk, IfSome};
 ghost use Rattle.session_script.specs.Grammar.{calls_of};
 ghost use Rattle.session_script.specs.Sessions.{greatest_session};
 ghost use Rattle.tape_meaning.specs.Mounts.{IsMount, Mounts};
@@ -12,6 +12,8 @@ ghost use Rattle.volume_model.specs.Steps.{DrainsOnce, Turns};
 ghost use Rattle.volume_model.specs.Submits.{CanSubmit, Submits};
 ghost use Rattle.volume_order.specs.Kept.{seen};
 ghost use Rattle.volume_crashes.specs.May.{MayStart};
+ghost use Rattle.volume_logs.specs.Acts.{Moves};
+ghost use Rattle.volume_logs.specs.Loads.{load_of, taken_by, taken_by_drain};
 ghost use Rattle.served_volume.specs.Serving.{next_moment};
 
 use crate::closing::close;
@@ -135,6 +137,7 @@ impl<D: Drive, C: Clock> Volume<D, C> {
             self.new }
         ensures submits { Submits (seen D.Drive self.old.fixed.first) (seen D.Drive self.new.drive) self.old self.new
             who nth result }
+        ensures load { load_of self.new ≤ load_of self.old + (length self.new.events - length self.old.events) }
     {
         let call = self.script.call(who, nth);
         submit(&mut self.parts, &mut self.clock, self.alloc, call, who, nth)
@@ -142,6 +145,10 @@ impl<D: Drive, C: Clock> Volume<D, C> {
 
     /// Hands out the reply of a session that waits for a place, or makes a step of the head where the reply isn't
     /// there. It takes no memory.
+    ///
+    /// A turn that doesn't bring the reply takes one away at least of what is left to do; no turn adds to that, and a
+    /// submission adds one at most for each of its events. So a session has as many turns at most before its reply
+    /// comes as there was left to do when its call was placed, and as submissions have added since.
     pub fn turn(&mut self, ticket: u64) -> Turn
         requires { (who : ℕ) × (phase who self.old.marks ≡ waits ticket) }
         ensures served { IsServed cartridges (seen D.Drive self.new.fixed.first) (seen D.Drive self.new.drive)
@@ -149,6 +156,8 @@ impl<D: Drive, C: Clock> Volume<D, C> {
         ensures turns { (who : ℕ) → phase who self.old.marks ≡ waits ticket
             → Turns D.MOST (seen D.Drive self.old.drive) (seen D.Drive self.new.drive) self.old self.new who ticket
             result }
+        ensures moves { Moves D.Drive self.old self.new }
+        ensures load { load_of self.new + taken_by result ≤ load_of self.old }
     {
         turn(&mut self.parts, ticket)
     }
@@ -161,6 +170,8 @@ impl<D: Drive, C: Clock> Volume<D, C> {
             self.new }
         ensures drains { DrainsOnce D.MOST (seen D.Drive self.old.drive) (seen D.Drive self.new.drive) self.old self.new
             who result }
+        ensures moves { Moves D.Drive self.old self.new }
+        ensures load { load_of self.new + taken_by_drain result ≤ load_of self.old }
     {
         // Its calls are counted in 32 bits.
         let _calls = self.script.count(who);

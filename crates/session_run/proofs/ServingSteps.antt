@@ -85,6 +85,7 @@ module _ {D : Type 0} (drive : Ghosts D) (plays : PlaysAreRuns drive) (start : D
     mounted = on.mounted;
     served = whole.promised.served;
     logged = whole.promised.logged;
+    gone = whole.promised.gone;
     history = whole.history;
     count = whole.promised.count;
     nothing = whole.nothing;

@@ -13,8 +13,8 @@ use Rattle.session_script.specs.declared.scripts.ScriptLine.{ScriptLine}
 use Rattle.tape_drive.specs.declared.drive.Drive.{Ghosts}
 use Rattle.tape_desk.specs.Passes.{AreAll, AreDealt, ArePartsOf, DeskView, IsPartOf, IsRested}
 use Rattle.tape_desk.specs.Promised.{IsPromised}
+use Rattle.tape_desk.proofs.Shelved.{begun_keeps}
 use Rattle.volume_logs.specs.Laws.{LogsGoOn}
-use Rattle.volume_logs.specs.Logged.{IsLogged}
 use Rattle.volume_model.specs.Ends.{begun}
 use Rattle.volume_model.specs.Marks.{NothingWaits, idle, phase, place_in}
 use Rattle.volume_model.specs.Meanings.{cartridges}
@@ -163,9 +163,4 @@ none_to_serve {D} drive v law is served has none = record {
 }
   where
     promised : IsPromised drive v
-    promised = record {
-      served = served;
-      logged = subst (λ (w : View D). IsLogged cartridges (seen drive v.fixed.first) w) (sym is)
-          (law.begins v.fixed v.next);
-      count = ap (λ (w : View D). length w.replies) is ∙ sym (ap (λ (w : View D). length w.history) is);
-    }
+    promised = begun_keeps drive v law is served

@@ -18,12 +18,13 @@ use Rattle.tape_meaning.specs.declared.errors.MountErr.{MountErr}
 use Rattle.tape_meaning.specs.declared.errors.MountErr.TheVariants as errors
 use Rattle.tape_meaning.specs.declared.mounted.Mounted.{Mounted}
 use Rattle.volume_model.specs.Ends.{bounded}
-use Rattle.volume_model.specs.Headline.{Closed, Failed, IsEndOf, IsServeRun, Short, tree_of_log}
+use Rattle.volume_model.specs.Headline.{Closed, Failed, IsEndOf, Short, tree_of_log}
 use Rattle.volume_model.specs.Meanings.{cartridges}
 use Rattle.volume_model.specs.Served.{CanTell, Fixed}
 use Rattle.volume_model.specs.declared.answers.CloseEnd.{CloseEnd}
 use Rattle.volume_model.specs.declared.answers.CloseEnd.TheVariants as closes
 use Rattle.volume_order.specs.Kept.{seen}
+use Rattle.volume_runs.specs.Went.{IsRunBy}
 use Rattle.basic_commands.specs.Formats.{full_text}
 use Rattle.basic_commands.specs.Labels.{mount_status, mount_text}
 use Rattle.session_run.specs.declared.ends.ServeEnd.{ServeEnd}
@@ -89,7 +90,7 @@ module _ {D : Type 0} (drive : Ghosts D) (start now : D) (at : Option Moment) (s
   -- The log is that of a run of the script, and it ended so. Whatever comes of it: faults are never fewer, the limits
   -- stay, and a drive that doesn't tell doesn't begin to.
   pub record IsServedSo (end : ServeEnd) : Type 0 where
-    pub run : IsServeRun cartridges script at (seen drive start) (seen drive now) log
+    pub run : IsRunBy drive script at start now log
     pub ends : EndsSo end
     pub mounted : HoldsTree (drive.held start)
     pub faults : drive.faults start ≤ drive.faults now

@@ -1,6 +1,6 @@
 mod Entered
 mod Making
-mod Shelved
+pub mod Shelved
 mod Taken
 pub mod Crossing
 pub mod Deals

@@ -1,10 +1,11 @@
 -- What is promised of a volume stays so over each of its calls, and the call's marks are those of its session.
 use Rattle.std.specs.Prelude.{◌≡◌, ℕ, List, [], ◌∷◌, ◌++◌, length, map, Option}
-use Rattle.std.proofs.Common.{refl, sym, ap, ◌∙◌, arith}
+use Rattle.std.proofs.Common.{refl, sym, ap, ◌∙◌, subst, arith}
 use Rattle.std.proofs.lemmas.List.{length_push}
 use Rattle.tape_drive.specs.declared.drive.Drive.{Ghosts}
 use Rattle.plain_tree.specs.declared.calls.Fate.{Fate}
 use Rattle.session_script.specs.declared.logs.Reply.{Reply}
+use Rattle.volume_model.specs.Ends.{begun}
 use Rattle.volume_model.specs.Marks.{draining, mark, marks_of_drain, marks_of_submit, marks_of_turn, phase, waits}
 use Rattle.volume_model.specs.Meanings.{cartridges}
 use Rattle.volume_model.specs.Served.{Drive, IsServed, View}
@@ -17,7 +18,9 @@ use Rattle.volume_model.specs.declared.answers.Submitted.TheVariants as submitte
 use Rattle.volume_model.specs.declared.answers.Turn.{Turn}
 use Rattle.volume_model.specs.declared.answers.Turn.TheVariants as turns
 use Rattle.volume_order.specs.Kept.{seen}
+use Rattle.volume_logs.specs.Acts.{IsGone, Moves}
 use Rattle.volume_logs.specs.Laws.{LogsGoOn}
+use Rattle.volume_logs.specs.Logged.{IsLogged}
 use Rattle.tape_desk.specs.Promised.{IsPromised}
 use Rattle.tape_desk.specs.Turns.{kinds_of_drain, kinds_of_submit, kinds_of_turn}
 
@@ -81,6 +84,19 @@ module _ {D : Type 0} (old new : View D) (count : length old.replies ≡ length 
 
 -- ---- what is promised
 
+-- It is so of a volume of which nothing was asked.
+pub begun_keeps : {D : Type 0} (drive : Ghosts D) (v : View D) → LogsGoOn drive cartridges → v ≡ begun v.fixed v.next
+    → IsServed cartridges (seen drive v.fixed.first) (seen drive v.drive) v → IsPromised drive v
+begun_keeps {D} drive v law is served = record {
+  served = served;
+  logged = subst (λ (w : View D). IsLogged cartridges (seen drive v.fixed.first) w) (sym is)
+      (law.begins v.fixed v.next);
+  gone = subst (λ (w : View D). IsGone drive cartridges w) (sym is)
+      (law.gone_begins v.fixed v.next
+      (subst (λ (w : View D). IsServed cartridges (seen drive w.fixed.first) (seen drive w.drive) w) is served));
+  count = ap (λ (w : View D). length w.replies) is ∙ sym (ap (λ (w : View D). length w.history) is);
+}
+
 module _ {D : Type 0} (drive : Ghosts D) (law : LogsGoOn drive cartridges) (who : ℕ) (old new : View D)
     (kept : IsPromised drive old)
     (served : IsServed cartridges (seen drive new.fixed.first) (seen drive new.drive) new) where
@@ -89,21 +105,26 @@ module _ {D : Type 0} (drive : Ghosts D) (law : LogsGoOn drive cartridges) (who 
   submit_keeps nth answer can s = record {
     served = served;
     logged = law.submitted old new who nth answer kept.served served can s kept.logged;
+    gone = law.moved old new served (law.submission_moves old new who nth answer s) kept.gone;
     count = submitted_count old new kept.count (seen drive old.fixed.first) (seen drive new.drive) who nth answer s;
   }
 
   pub turn_keeps : (ticket : ℕ) (answer : Turn) → phase who old.marks ≡ waits ticket
-      → Turns drive.MOST (seen drive old.drive) (seen drive new.drive) old new who ticket answer → IsPromised drive new
-  turn_keeps ticket answer waiting s = record {
+      → Turns drive.MOST (seen drive old.drive) (seen drive new.drive) old new who ticket answer → Moves drive old new
+      → IsPromised drive new
+  turn_keeps ticket answer waiting s moves = record {
     served = served;
     logged = law.turned old new who ticket answer kept.served served waiting s kept.logged;
+    gone = law.moved old new served moves kept.gone;
     count = s.replies.count ∙ kept.count ∙ sym (ap length s.history);
   }
 
   pub drain_keeps : (answer : Drained) → phase who old.marks ≡ draining
-      → DrainsOnce drive.MOST (seen drive old.drive) (seen drive new.drive) old new who answer → IsPromised drive new
-  drain_keeps answer drains s = record {
+      → DrainsOnce drive.MOST (seen drive old.drive) (seen drive new.drive) old new who answer → Moves drive old new
+      → IsPromised drive new
+  drain_keeps answer drains s moves = record {
     served = served;
     logged = law.drained old new who answer kept.served served drains s kept.logged;
+    gone = law.moved old new served moves kept.gone;
     count = drained_count old new kept.count drive.MOST (seen drive old.drive) (seen drive new.drive) who answer s;
   }

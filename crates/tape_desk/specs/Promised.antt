@@ -4,10 +4,13 @@ use Rattle.tape_drive.specs.declared.drive.Drive.{Ghosts}
 use Rattle.volume_model.specs.Meanings.{cartridges}
 use Rattle.volume_model.specs.Served.{IsServed, View}
 use Rattle.volume_order.specs.Kept.{seen}
+use Rattle.volume_logs.specs.Acts.{IsGone}
 use Rattle.volume_logs.specs.Logged.{IsLogged}
 
--- all that is promised of a served volume and of its log, and each placement has its place among the replies
+-- all that is promised of a served volume and of its log; each step of it was an act of the drive; and each placement has
+-- its place among the replies
 pub record IsPromised {D : Type 0} (drive : Ghosts D) (v : View D) : Type 0 where
   pub served : IsServed cartridges (seen drive v.fixed.first) (seen drive v.drive) v
   pub logged : IsLogged cartridges (seen drive v.fixed.first) v
+  pub gone : IsGone drive cartridges v
   pub count : length v.replies ≡ length v.history

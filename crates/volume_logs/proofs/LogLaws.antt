@@ -35,7 +35,9 @@ use Rattle.volume_truth.proofs.Asked.{GoesTo, goes_next, stays_there}
 use Rattle.volume_truth.proofs.Submitted.{submissions_do_none}
 use Rattle.volume_logs.specs.Laws.{LogsGoOn}
 use Rattle.volume_logs.specs.Logged.{IsAskedRightly, IsLogged}
+use Rattle.volume_logs.proofs.Asking.{submission_moves}
 use Rattle.volume_logs.proofs.Begun.{are_begun}
+use Rattle.volume_logs.proofs.Gone.{gone_begins, gone_holds, moved}
 use Rattle.volume_logs.proofs.OnLaw.{on_stays, on_steps, on_whole}
 use Rattle.volume_logs.proofs.ReadLaw.{reads_next, reads_stay}
 
@@ -247,4 +249,8 @@ logs_go_on drive m = record {
       goes_on drive m old new t.fixed served serves (turn_shows drive old new who ticket answer t) is;
   drained = λ old new who answer served serves drains d is.
       goes_on drive m old new d.fixed served serves (drain_shows drive old new who answer d) is;
+  gone_begins = gone_begins drive m;
+  submission_moves = submission_moves drive;
+  moved = moved drive m;
+  gone_holds = gone_holds drive m;
 }

@@ -1,6 +1,11 @@
 -- That each call of a served volume keeps what its log tells.
-use Rattle.std.specs.Prelude.{ℕ, ◌≡◌, Option}
+use Rattle.std.specs.Prelude.{ℕ, ◌≡◌, ◌+◌, ◌-◌, ◌^◌, ◌<◌, List, [], filter_map, Option}
 use Rattle.tape_types.specs.declared.moments.Moment.{Moment}
+use Rattle.plain_tree.specs.declared.calls.Placed.{Placed}
+use Rattle.session_script.specs.declared.logs.Ack.{Ack}
+use Rattle.session_script.specs.declared.logs.Event.{Event}
+use Rattle.head_trail.specs.Trail.{fault_of}
+use Rattle.head_trail.specs.Waiting.{State, first_of, ops, start}
 use Rattle.volume_model.specs.Crash.{Meaning}
 use Rattle.volume_model.specs.Ends.{begun}
 use Rattle.volume_model.specs.Marks.{draining, phase, waits}
@@ -12,6 +17,7 @@ use Rattle.volume_model.specs.declared.answers.Submitted.{Submitted}
 use Rattle.volume_model.specs.declared.answers.Turn.{Turn}
 use Rattle.tape_drive.specs.declared.drive.Drive.{Ghosts}
 use Rattle.volume_order.specs.Kept.{seen}
+use Rattle.volume_logs.specs.Acts.{HasGone, IsActOf, IsGone, IsServedThen, Moves, StandsBehind, commands_in, numbered}
 use Rattle.volume_logs.specs.Logged.{IsLogged}
 
 -- It is so at the start, and stays so over each call: what is promised of the volume is so before and after the call.
@@ -32,3 +38,25 @@ pub record LogsGoOn {D : Type 0} (drive : Ghosts D) (m : Meaning) : Type 0 where
       → IsServed m (seen drive new.fixed.first) (seen drive new.drive) new → phase who old.marks ≡ draining
       → DrainsOnce drive.MOST (seen drive old.drive) (seen drive new.drive) old new who answer
       → IsLogged m (seen drive old.fixed.first) old → IsLogged m (seen drive new.fixed.first) new
+  pub gone_begins : (fixed : Fixed D) (next : Option Moment)
+      → IsServed m (seen drive fixed.first) (seen drive fixed.first) (begun fixed next)
+      → IsGone drive m (begun fixed next)
+  pub submission_moves : (old new : View D) (who nth : ℕ) (answer : Submitted)
+      → Submits (seen drive old.fixed.first) (seen drive new.drive) old new who nth answer → Moves drive old new
+  pub moved : (old new : View D) → IsServed m (seen drive new.fixed.first) (seen drive new.drive) new
+      → Moves drive old new → IsGone drive m old → IsGone drive m new
+  pub gone_holds : (v : View D) → IsGone drive m v → IsServedThen drive m v.fixed v.history v.acks v.drive
+
+-- Once an item was put, the head stands one behind its place; once a place was read, it stands there or one behind it.
+abbrev pub HeadsFollowActs : {D : Type 0} → Ghosts D → Type 0
+HeadsFollowActs {D} drive = (st : State) (old new : D) (e : Event) → IsActOf drive st old new e
+    → StandsBehind e (first_of (ops st)) (drive.head new)
+
+-- Where each command counts one, no step failed and the count doesn't stand at its end, a trail has one list of acks:
+-- each has the number of the last command that its sync waited for.
+abbrev pub AcksAreExact : {D : Type 0} → Ghosts D → Type 0
+AcksAreExact {D} drive = (first last : D) (history : List Placed) (trail : List Event) (acks : List Ack)
+    → HasGone drive (λ history acks d. Unit {0}) first history trail acks last → drive.MOST ≡ 1
+    → filter_map fault_of trail ≡ [] → drive.commands last < 2 ^ 64 - 1
+    → (acks ≡ numbered start (drive.commands first) trail)
+    × (drive.commands last ≡ drive.commands first + commands_in start trail)

@@ -1,2 +1,4 @@
 pub mod Logged
+pub mod Acts
+pub mod Loads
 pub mod Laws

@@ -17,9 +17,8 @@ use Rattle.tape_meaning.specs.Carried.{Carried, carried}
 use Rattle.tape_meaning.specs.declared.mounted.Mounted.{Mounted}
 use Rattle.volume_space.specs.Closing.{closing}
 use Rattle.volume_space.specs.Standing.{Given, admitted}
-use Rattle.volume_model.specs.Crash.{SurvivesCrashes}
 use Rattle.volume_model.specs.Ends.{Closes, IsCloseShort, IsDoneClose, IsEnd, IsShortOnDp, LeavesTree, TellsNodes}
-use Rattle.volume_model.specs.Headline.{IsServeRun, IsTrueLog, tree_of_log}
+use Rattle.volume_model.specs.Headline.{IsTrueLog, tree_of_log}
 use Rattle.volume_model.specs.Meanings.{cartridges}
 use Rattle.volume_model.specs.Mount.{facts_of}
 use Rattle.volume_model.specs.Replies.{AreReplies}
@@ -27,8 +26,11 @@ use Rattle.volume_model.specs.Served.{CanTell, IsTrue, View, given, given_of, qu
 use Rattle.volume_model.specs.declared.answers.CloseEnd.{CloseEnd}
 use Rattle.volume_model.specs.declared.answers.CloseEnd.TheVariants as ends
 use Rattle.volume_order.specs.Kept.{seen}
+use Rattle.volume_logs.specs.Acts.{HasGone, IsServedThen, SurvivesThen}
 use Rattle.volume_logs.specs.Logged.{IsAskedRightly}
+use Rattle.volume_logs.proofs.Gone.{gone_also}
 use Rattle.volume_runs.specs.Laws.{EndsSo, IsPlayed, PlaysAreRuns}
+use Rattle.volume_runs.specs.Went.{IsFoundThen, IsRunBy, WentBy}
 use Rattle.volume_runs.proofs.Began.{IsFound, ReadsAs, StandsSound, same_mounted, same_read, same_stood, same_stood_facts, told_read, told_stood}
 use Rattle.volume_runs.proofs.Ends.{done_since}
 use Rattle.volume_runs.proofs.Logs.{events_are, history_is, last_is, replies_are, served_log}
@@ -161,12 +163,10 @@ module _ {D : Type 0} (drive : Ghosts D) (script : List ScriptLine) (at : Option
         λ i. (given_is i, history i) in
         room need limit (subst (λ (e : Given × List Placed). IsCloseShort e.0 v.on e.1 m need limit) (sym same) is)
 
-  -- what a crash leaves
-  survives : (facts : Carried) (tree : Tree) (generation : ℕ)
-      → CanTell (StandsSound facts tree generation) (drive.commands start) (seen drive start)
-      → SurvivesCrashes cartridges facts (tree_of_log script tree log) (length log.history) log.acks
-      (seen drive now).leavings (drive.commands start)
-  survives facts tree generation can =
+  -- what a crash leaves by a moment, as it is said since the run began
+  found_then : (placed : List Placed) (acks : List Ack) (d : D)
+      → IsServedThen drive cartridges v.fixed placed acks d → IsFoundThen drive script start placed acks d
+  found_then placed acks d served facts tree generation can =
       let facts_are : carried v.fixed.mounted.index ≡ facts =
       sym (same_stood_facts drive played.most start v.fixed.first played.looked v.fixed.since played.since
       v.fixed.mounted v.fixed.tree played.mounted facts tree generation can) in
@@ -174,25 +174,40 @@ module _ {D : Type 0} (drive : Ghosts D) (script : List ScriptLine) (at : Option
       sym (same_stood drive played.most start v.fixed.first played.looked v.fixed.since played.since
       v.fixed.mounted v.fixed.tree played.mounted facts tree generation can) in
       subst
-      (λ (e : Carried × Tree × List ScriptLine × List Placed × List Ack × ℕ).
-      SurvivesCrashes cartridges e.0 (λ k. replay (calls_of e.2) e.1 (take k e.3)) (length e.3) e.4
-      (seen drive now).leavings e.5)
-      (λ i. (
-        facts_are i,
-        tree_is i,
-        played.script_is i,
-        history i,
-        sym closes.log_is.acks i,
-        played.since i,
-      ))
-      (closes.crash (told_stood drive played.most start v.fixed.first played.looked v.fixed.since played.since
-      v.fixed.mounted v.fixed.tree played.mounted facts tree generation can))
+      (λ (e : Carried × Tree × List ScriptLine × ℕ). SurvivesThen drive cartridges e.2 e.0 e.1 e.3 placed acks d)
+      (λ i. (facts_are i, tree_is i, played.script_is i, played.since i))
+      (served (told_stood drive played.most start v.fixed.first played.looked v.fixed.since played.since v.fixed.mounted
+      v.fixed.tree played.mounted facts tree generation can))
 
-  run : IsServeRun cartridges script at (seen drive start) (seen drive now) log
+  acks : v.acks ≡ log.acks
+  acks = sym closes.log_is.acks
+
+  went : WentBy drive script start now log
+  went = record {
+    most = played.most;
+    first = v.fixed.first;
+    last = v.drive;
+    looked = played.looked;
+    mounted = λ c told. (v.fixed.mounted, v.fixed.tree, played.mounted c told);
+    gone = subst
+        (λ (e : List Placed × List Event × List Ack).
+        HasGone drive (IsFoundThen drive script start) v.fixed.first e.0 e.1 e.2 v.drive)
+        (λ i. (history i, events i, acks i))
+        (gone_also drive (IsServedThen drive cartridges v.fixed) (IsFoundThen drive script start) v.fixed.first v.drive
+        v.history v.events v.acks found_then played.gone);
+    commands = closes.later;
+    faults = closes.faults;
+  }
+
+  run : IsRunBy drive script at start now log
   run = record {
-    log_is = served_log drive script at start v log played closes.log_is now closes.later closes.faults;
-    truly = λ tree mounted can. true_log mounted tree can;
-    crash = survives;
+    serves = record {
+      log_is = served_log drive script at start v log played closes.log_is now closes.later closes.faults;
+      truly = λ tree mounted can. true_log mounted tree can;
+      crash = subst (λ (e : List Placed × List Ack). IsFoundThen drive script start e.0 e.1 now)
+          (λ i. (history i, acks i)) (found_then v.history v.acks now closes.crash);
+    };
+    went = went;
   }
 
   ends_so : (end : CloseEnd)

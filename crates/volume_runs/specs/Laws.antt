@@ -15,14 +15,16 @@ use Rattle.tape_meaning.specs.Meaning.{Reads}
 use Rattle.tape_meaning.specs.Mounts.{Mounts}
 use Rattle.tape_meaning.specs.declared.mounted.Mounted.{Mounted}
 use Rattle.volume_model.specs.Ends.{Closes, TellsNodes}
-use Rattle.volume_model.specs.Headline.{IsEndOf, IsServeRun, Closed, Failed, Short, tree_of_log}
+use Rattle.volume_model.specs.Headline.{IsEndOf, Closed, Failed, Short, tree_of_log}
 use Rattle.volume_model.specs.Marks.{NothingWaits}
 use Rattle.volume_model.specs.Meanings.{cartridges}
 use Rattle.volume_model.specs.Served.{CanTell, IsServed, View}
 use Rattle.volume_model.specs.declared.answers.CloseEnd.{CloseEnd}
 use Rattle.volume_model.specs.declared.answers.CloseEnd.TheVariants as ends
 use Rattle.volume_order.specs.Kept.{seen}
+use Rattle.volume_logs.specs.Acts.{IsGone}
 use Rattle.volume_logs.specs.Logged.{IsLogged}
+use Rattle.volume_runs.specs.Went.{IsRunBy}
 
 -- A volume was begun over a drive that had only been looked at since a run began, to mount it. Of crashes is spoken
 -- since then. All calls of the script were placed, each has its place among the replies, and nothing waits.
@@ -38,6 +40,7 @@ pub record IsPlayed {D : Type 0} (drive : Ghosts D) (script : List ScriptLine) (
       × Reads c (carried v.fixed.mounted.index) v.fixed.tree v.fixed.mounted.newest
   pub served : IsServed cartridges (seen drive v.fixed.first) (seen drive v.drive) v
   pub logged : IsLogged cartridges (seen drive v.fixed.first) v
+  pub gone : IsGone drive cartridges v
   pub history : IsInterleaving (calls_of script) v.history
   pub count : length v.replies ≡ length v.history
   pub nothing : NothingWaits (greatest_session script) v.marks
@@ -56,7 +59,7 @@ EndsSo drive script start now log ends.NoMemory = Unit {0}
 -- close that is done tells how many nodes the tree has that the whole history leaves.
 pub record IsRun {D : Type 0} (drive : Ghosts D) (script : List ScriptLine) (at : Option Moment) (start now : D)
     (log : Log) (outcome : CloseEnd) (nodes : ℕ) : Type 0 where
-  pub run : IsServeRun cartridges script at (seen drive start) (seen drive now) log
+  pub run : IsRunBy drive script at start now log
   pub end : EndsSo drive script start now log outcome
   pub nodes_are : (tree : Tree) (mounted : Mounted)
       → CanTell (λ c. Reads c (carried mounted.index) tree mounted.newest × Mounts c mounted) (drive.commands start)

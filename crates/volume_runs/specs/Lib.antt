@@ -1,2 +1,3 @@
+pub mod Went
 pub mod Laws
 pub mod Memory

@@ -11,7 +11,7 @@ drain_turn-answer-requires g c = known_phase c.args.who c.args.pass.now c.requir
 
 pub invariant_of-leave : goal.invariant_of-leave
 invariant_of-leave g c = drain_keeps g.D.Drive c.logs_go_on.ensures c.args.who c.volume.inside.volume c.drain_turn-answer.new.self c.volume.invariant
-    c.drain_turn-answer.ensures.served c.drain_turn-answer.result (known_phase c.args.who c.args.pass.now c.requires.own c.enter.result c.volume.inside.volume c.volume.view_is c.enter.ensures.own draining c.requires.drains) (c.drain_turn-answer.ensures.drains)
+    c.drain_turn-answer.ensures.served c.drain_turn-answer.result (known_phase c.args.who c.args.pass.now c.requires.own c.enter.result c.volume.inside.volume c.volume.view_is c.enter.ensures.own draining c.requires.drains) (c.drain_turn-answer.ensures.drains) c.drain_turn-answer.ensures.moves
 
 pub leave-requires-clause-adds : goal.leave-requires-clause-adds
 leave-requires-clause-adds g c = adds_own c.args.who c.args.pass.now c.requires.own c.enter.result c.volume.inside.volume c.volume.view_is c.enter.ensures.own (kinds_of_drain (length c.volume.inside.volume.history) c.drain_turn-answer.result) c.drain_turn-answer.new.self.marks

@@ -10,7 +10,7 @@ turn-answer-requires g c = (c.args.who, known_phase c.args.who c.args.pass.now c
 
 pub invariant_of-leave : goal.invariant_of-leave
 invariant_of-leave g c = turn_keeps g.D.Drive c.logs_go_on.ensures c.args.who c.volume.inside.volume c.turn-answer.new.self c.volume.invariant
-    c.turn-answer.ensures.served c.args.ticket c.turn-answer.result (known_phase c.args.who c.args.pass.now c.requires.own c.enter.result c.volume.inside.volume c.volume.view_is c.enter.ensures.own (waits c.args.ticket) c.requires.waits) (c.turn-answer.ensures.turns c.args.who (known_phase c.args.who c.args.pass.now c.requires.own c.enter.result c.volume.inside.volume c.volume.view_is c.enter.ensures.own (waits c.args.ticket) c.requires.waits))
+    c.turn-answer.ensures.served c.args.ticket c.turn-answer.result (known_phase c.args.who c.args.pass.now c.requires.own c.enter.result c.volume.inside.volume c.volume.view_is c.enter.ensures.own (waits c.args.ticket) c.requires.waits) (c.turn-answer.ensures.turns c.args.who (known_phase c.args.who c.args.pass.now c.requires.own c.enter.result c.volume.inside.volume c.volume.view_is c.enter.ensures.own (waits c.args.ticket) c.requires.waits)) c.turn-answer.ensures.moves
 
 pub leave-requires-clause-fixed : goal.leave-requires-clause-fixed
 leave-requires-clause-fixed g c = fixed_stays c.args.who c.args.pass.now c.requires.own c.enter.result c.volume.inside.volume c.volume.view_is c.enter.ensures.own c.turn-answer.new.self.fixed c.enter.ensures.fixed

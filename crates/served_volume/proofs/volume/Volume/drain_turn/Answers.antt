@@ -1,7 +1,9 @@
 use Rattle.std.proofs.Common.{rules, ◌≡◌, ◌<◌, ◌^◌, sym, subst, arith}
 use Rattle.volume_model.specs.Marks.{draining, phase}
 use Rattle.volume_model.specs.Served.{View}
+use Rattle.volume_logs.proofs.Loading.{drain_takes}
 use Rattle.volume_core.specs.Seen.{seen_parts}
+use Rattle.served_volume.proofs.Acting.{drain_moves}
 use Rattle.served_volume.proofs.Serves.{drain_adds, drain_serves_on}
 use Rattle.served_volume.proofs.volume.Volume.drain_turn.Goals as goal
 
@@ -24,6 +26,25 @@ returns-clause-drains g c =
     (seen_parts c.self.inside.parts) c.self.invariant.0 c.drain.ensures.counted c.args.who (g.C.Clock.one c.drain.new.clock)
     (g.C.Clock.next c.drain.new.clock) c.drain.result (seen_parts c.drain.new.parts) c.drain.ensures.drains c.args.self.now
     c.self.view_is c.requires
+
+pub returns-clause-moves : goal.returns-clause-moves
+returns-clause-moves g c =
+    drain_moves g.D.Drive _ (g.C.Clock.one c.self.inside.clock) (g.C.Clock.next c.self.inside.clock)
+    (seen_parts c.self.inside.parts) c.self.invariant.0 c.args.who (g.C.Clock.one c.drain.new.clock)
+    (g.C.Clock.next c.drain.new.clock) c.drain.result (seen_parts c.drain.new.parts) c.drain.ensures.drains
+    c.args.self.now c.self.view_is
+
+pub returns-clause-load : goal.returns-clause-load
+returns-clause-load g c =
+    let s = drain_serves_on g.D.Drive g.met.D.Drive.only_now _ (g.C.Clock.one c.self.inside.clock)
+    (g.C.Clock.next c.self.inside.clock) (seen_parts c.self.inside.parts) c.self.invariant.0 c.drain.ensures.counted
+    c.args.who (g.C.Clock.one c.drain.new.clock) (g.C.Clock.next c.drain.new.clock) c.drain.result
+    (seen_parts c.drain.new.parts) c.drain.ensures.drains c.args.self.now c.self.view_is c.requires in
+    drain_takes _ _ _ _ _ c.args.who c.drain.result s.promised.orderly.trail
+    (drain_adds g.D.Drive g.met.D.Drive.only_now _ (g.C.Clock.one c.self.inside.clock)
+    (g.C.Clock.next c.self.inside.clock) (seen_parts c.self.inside.parts) c.self.invariant.0 c.drain.ensures.counted
+    c.args.who (g.C.Clock.one c.drain.new.clock) (g.C.Clock.next c.drain.new.clock) c.drain.result
+    (seen_parts c.drain.new.parts) c.drain.ensures.drains c.args.self.now c.self.view_is c.requires)
 
 pub returns-clause-served : goal.returns-clause-served
 returns-clause-served g c =

@@ -1,5 +1,6 @@
 use Rattle.std.specs.Prelude.{◌≤◌, vec_capacity}
 use Rattle.std.proofs.Common.{sym, subst}
+use Rattle.volume_logs.proofs.Loading.{submission_adds}
 use Rattle.volume_core.specs.Seen.{seen_parts}
 use Rattle.served_volume.specs.Serving.{fixed_of, next_moment}
 use Rattle.served_volume.specs.Turns.{told}
@@ -57,3 +58,7 @@ returns-clause-served g c = (done g c).served
 
 pub returns-clause-submits : goal.returns-clause-submits
 returns-clause-submits g c = (done g c).submits
+
+pub returns-clause-load : goal.returns-clause-load
+returns-clause-load g c =
+    submission_adds _ _ _ _ c.args.who c.args.nth c.submit.result (done g c).served.orderly.trail (done g c).submits

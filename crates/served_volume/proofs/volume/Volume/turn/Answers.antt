@@ -1,7 +1,9 @@
 use Rattle.std.proofs.Common.{◌≡◌, sym, subst, arith}
 use Rattle.volume_model.specs.Marks.{phase, waits}
 use Rattle.volume_model.specs.Served.{View}
+use Rattle.volume_logs.proofs.Loading.{turn_takes}
 use Rattle.volume_core.specs.Seen.{seen_parts}
+use Rattle.served_volume.proofs.Acting.{turn_moves}
 use Rattle.served_volume.proofs.Serves.{turn_adds, turn_serves_on}
 use Rattle.served_volume.proofs.volume.Volume.turn.Goals as goal
 
@@ -19,6 +21,24 @@ returns-clause-turns g c =
     turn_adds g.D.Drive g.met.D.Drive.only_now _ (g.C.Clock.one c.self.inside.clock) (g.C.Clock.next c.self.inside.clock)
     (seen_parts c.self.inside.parts) c.self.invariant.0 c.turn.ensures.counted c.args.ticket c.turn.result
     (seen_parts c.turn.new.parts) c.turn.ensures.turns c.args.self.now c.self.view_is
+
+pub returns-clause-moves : goal.returns-clause-moves
+returns-clause-moves g c =
+    turn_moves g.D.Drive _ (g.C.Clock.one c.self.inside.clock) (g.C.Clock.next c.self.inside.clock)
+    (seen_parts c.self.inside.parts) c.self.invariant.0 c.args.ticket c.turn.result (seen_parts c.turn.new.parts)
+    c.turn.ensures.turns c.args.self.now c.self.view_is c.requires
+
+pub returns-clause-load : goal.returns-clause-load
+returns-clause-load g c =
+    let s = turn_serves_on g.D.Drive g.met.D.Drive.only_now _ (g.C.Clock.one c.self.inside.clock)
+    (g.C.Clock.next c.self.inside.clock) (seen_parts c.self.inside.parts) c.self.invariant.0 c.turn.ensures.counted
+    c.args.ticket c.turn.result (seen_parts c.turn.new.parts) c.turn.ensures.turns c.args.self.now c.self.view_is
+    c.requires in
+    turn_takes _ _ _ _ _ c.requires.0 c.args.ticket c.turn.result s.promised.orderly.trail
+    (turn_adds g.D.Drive g.met.D.Drive.only_now _ (g.C.Clock.one c.self.inside.clock)
+    (g.C.Clock.next c.self.inside.clock) (seen_parts c.self.inside.parts) c.self.invariant.0 c.turn.ensures.counted
+    c.args.ticket c.turn.result (seen_parts c.turn.new.parts) c.turn.ensures.turns c.args.self.now c.self.view_is
+    c.requires.0 c.requires.1)
 
 pub returns-clause-served : goal.returns-clause-served
 returns-clause-served g c =
