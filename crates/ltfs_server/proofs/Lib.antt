@@ -3,6 +3,7 @@ pub mod EndedRuns
 pub mod FencedLemmas
 pub mod MakeClauses
 pub mod MakeSteps
+pub mod Readiness
 pub mod Sentences
 pub mod ServeClauses
 pub mod ServeSteps

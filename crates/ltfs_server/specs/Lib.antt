@@ -4,3 +4,4 @@ pub mod Outcomes
 pub mod Promises
 pub mod Sentence
 pub mod Serving
+pub mod Ready

@@ -1,5 +1,6 @@
 //! What the headline says of the drive in memory, in words of that drive's record alone.
 
+ghost use Rattle.ltfs_server.specs.Ready.{LeavesReady};
 ghost use Rattle.ltfs_server.specs.Sentence.{SurvivesInMemory};
 
 use tape_drive::{Drive, MemDrive};
@@ -15,3 +16,9 @@ pub fn headlines_survive_in_memory(drive: &MemDrive)
     runs_are_in_memory();
     runs_in_memory_survive(drive);
 }
+
+/// Over any drive that tells its cartridge: `format`, and then one run after the other that is closed, leave it ready for
+/// the next run, which is what the headline asks of a drive.
+pub fn drives_are_left_ready<D: Drive>()
+    ensures { LeavesReady D.Drive }
+{}
