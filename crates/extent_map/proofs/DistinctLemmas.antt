@@ -1,5 +1,5 @@
 -- The places of a plan, each once.
-use Rattle.std.proofs.Common.{◌≡◌, ℕ, zero, suc, ◌+◌, replicate, Some, Bool, true, false, cond, not, ◌&&◌, ◌||◌, eqb, List, [], ◌∷◌, ◌++◌, take, sym, ap, ◌∙◌, refl, arith, append-nil}
+use Rattle.std.proofs.Common.{◌≡◌, ℕ, zero, suc, ◌+◌, replicate, Some, Bool, true, false, cond, not, ◌||◌, List, [], ◌∷◌, ◌++◌, take, sym, ap, ◌∙◌, refl, arith, append-nil}
 use Rattle.std.specs.List.{filter, flat_map, list_any}
 use Rattle.std.specs.Prelude.{slice_get}
 use Rattle.std.proofs.lemmas.Option.{slice_get_within, get_or_from_slice_get}
@@ -9,12 +9,12 @@ use Rattle.std.specs.Ordering.{nat_cmp, bool_cmp, is_eq, ordering_then}
 use Rattle.std.specs.declared.cmp.Ordering.{Ordering}
 use Rattle.std.specs.declared.cmp.Ordering.TheVariants.{Less, Equal, Greater}
 use Rattle.std.specs.FinMap as fin
-use Rattle.std.proofs.lemmas.Bool.Decides.{nat_tests}
 use Rattle.std.proofs.lemmas.List.Elements.{filter-append}
 use Rattle.std.proofs.lemmas.List.Concat.{flat_map-append}
 use Rattle.tape_types.specs.declared.cartridges.Part.{Part}
 use Rattle.tape_types.specs.declared.cartridges.Part.TheVariants.{Ip, Dp}
 use Rattle.tape_types.specs.declared.cartridges.Place.{Place}
+use Rattle.tape_types.proofs.Places.{same_back, same_itself, same_places}
 use Rattle.plain_tree.specs.Cells.{bytes_of}
 use Rattle.extent_map.specs.Cells.{Tape}
 use Rattle.extent_map.specs.Pieces.{read_piece}
@@ -22,28 +22,7 @@ use Rattle.extent_map.specs.declared.pieces.Piece.{Piece}
 use Rattle.extent_map.specs.declared.pieces.Piece.TheVariants.{Zeros, Stored}
 use Rattle.extent_map.specs.Replies.{same_part, same_place, place_in, distinct, has_place, with_new, key_of, key_cmp, AreMet, places_in, bytes_in, size_of, Places, gathered_piece, gathered, IsGathered, RepliesGather}
 use Rattle.extent_map.proofs.TakenBytes.{zeros_there}
-use Rattle.extent_map.proofs.ReplyLemmas.{same_places, dropped, joined}
-
-same_part_back : (a b : Part) → same_part a b ≡ same_part b a
-same_part_back Ip Ip = refl
-same_part_back Dp Dp = refl
-same_part_back Ip Dp = refl
-same_part_back Dp Ip = refl
-
-same_back : (a b : Place) → same_place a b ≡ same_place b a
-same_back a b =
-    let pos : eqb a.pos b.pos ≡ eqb b.pos a.pos = grind (arith, nat_tests) in
-    ap (λ t. t && eqb a.pos b.pos) (same_part_back a.part b.part) ∙ ap (λ t. same_part b.part a.part && t) pos
-
-same_self : (a : Place) → same_place a a ≡ true
-same_self a = by a.part
-  where
-    pos : eqb a.pos a.pos ≡ true
-    pos = grind (arith, nat_tests)
-
-    by : (p : Part) → (same_part p p && eqb a.pos a.pos) ≡ true
-    by Ip = pos
-    by Dp = pos
+use Rattle.extent_map.proofs.ReplyLemmas.{dropped, joined}
 
 -- what differs from one place is there with and without that one
 has_filtered : (x y : Place) (ds : List Place) → same_place y x ≡ false → has_place y (filter (λ other. not (same_place x other)) ds) ≡ has_place y ds
@@ -159,7 +138,7 @@ met_more met next places y are new p = by (same_place p y) refl
         any_false false = refl
 
         other : (b : Bool) → is_at (key_cmp (key_of y)) (key_of p) ≡ b → is_at (key_cmp (key_of y)) (key_of p) ≡ false
-        other true is = let wrong : true ≡ false = sym (ap (same_place p) (alike y p is) ∙ same_self p) ∙ e in cc
+        other true is = let wrong : true ≡ false = sym (ap (same_place p) (alike y p is) ∙ same_itself p) ∙ e in cc
         other false is = is
 
 pub fresh_place : (met : BTreeSet (Bool × ℕ)) (places : List Place) (y : Place) (key : Bool × ℕ) (added : Bool) → AreMet met places → key ≡ key_of y → added ≡ not (contains key_cmp met key) → added ≡ true → has_place y places ≡ false
@@ -195,7 +174,7 @@ all_read : (tape : Tape) (read : Places) (pieces : List Piece) → ((place : Pla
 all_read tape read [] each = refl
 all_read tape read (Zeros count ∷ pieces) each = ap (λ l. replicate count (Some 0) ++ l) (all_read tape read pieces each)
 all_read tape read (Stored place byte count ∷ pieces) each =
-    ap (λ t. cond t (read_piece tape (Stored place byte count)) (replicate count (Some 0)) ++ gathered tape read pieces) (each place (ap (λ t. t || has_place place (flat_map place_in pieces)) (same_self place)))
+    ap (λ t. cond t (read_piece tape (Stored place byte count)) (replicate count (Some 0)) ++ gathered tape read pieces) (each place (ap (λ t. t || has_place place (flat_map place_in pieces)) (same_itself place)))
     ∙ ap (λ l. read_piece tape (Stored place byte count) ++ l) (all_read tape read pieces (λ other there. each other (right_too (same_place other place) (has_place other (flat_map place_in pieces)) there)))
 
 zeros_joined : (m n : ℕ) → ◌≡◌ {A = List ℕ} (replicate (m + n) 0) (replicate m 0 ++ replicate n 0)

@@ -1,15 +1,13 @@
 -- The bytes of a range, gathered block by block.
-use Rattle.std.proofs.Common.{Option, ◌≡◌, ℕ, zero, suc, ◌+◌, ◌<◌, ◌≤◌, Bool, true, false, cond, List, [], ◌∷◌, ◌++◌, length, take, drop, map, replicate, get_or, Some, None, ◌&&◌, eqb, sym, ap, ◌∙◌, refl, subst, arith, append_assoc, append-nil}
+use Rattle.std.proofs.Common.{Option, ◌≡◌, ℕ, zero, suc, ◌+◌, ◌<◌, ◌≤◌, Bool, true, false, cond, List, [], ◌∷◌, ◌++◌, length, take, drop, map, replicate, get_or, Some, None, sym, ap, ◌∙◌, refl, subst, arith, append_assoc, append-nil}
 use Rattle.std.specs.Prelude.{slice_get}
 use Rattle.std.specs.Option.{option_map}
 use Rattle.std.specs.List.{range_with_len, flat_map}
-use Rattle.std.proofs.lemmas.Bool.Decides.{nat_tests}
 use Rattle.std.proofs.lemmas.List.{length-append, length-take-le, length-drop, take_all, drop_all}
 use Rattle.std.proofs.lemmas.List.Concat.{flat_map-append}
 use Rattle.std.proofs.lemmas.List.FromFn.{length-map-range_with_len}
-use Rattle.tape_types.specs.declared.cartridges.Part.{Part}
-use Rattle.tape_types.specs.declared.cartridges.Part.TheVariants.{Ip, Dp}
 use Rattle.tape_types.specs.declared.cartridges.Place.{Place}
+use Rattle.tape_types.proofs.Places.{same_places}
 use Rattle.plain_tree.specs.Cells.{Cell, bytes_of, range_of}
 use Rattle.plain_tree.proofs.PageLemmas.{ranges_same}
 use Rattle.extent_map.specs.declared.pieces.Piece.{Piece}
@@ -17,7 +15,7 @@ use Rattle.extent_map.specs.declared.pieces.Piece.TheVariants.{Zeros, Stored}
 use Rattle.extent_map.specs.Laid.{Laid}
 use Rattle.extent_map.specs.Cells.{Tape, file_cells, cell_at}
 use Rattle.extent_map.specs.Pieces.{read_piece}
-use Rattle.extent_map.specs.Replies.{same_part, same_place, bytes_in, size_of, Places, gathered_piece, gathered, with_place, IsBlock, IsGathered, IsGatheredPiece, IsFilledPiece, IsPutAt}
+use Rattle.extent_map.specs.Replies.{same_place, bytes_in, size_of, Places, gathered_piece, gathered, with_place, IsBlock, IsGathered, IsGatheredPiece, IsFilledPiece, IsPutAt}
 use borrow.Rule.Slice.PartMut.{put_mid, post_of}
 
 some_is : {X : Type 0} (x y : X) → ◌≡◌ {A = Option X} (Some x) (Some y) → x ≡ y
@@ -96,22 +94,6 @@ long_piece tape read (Stored place byte count) = by (read place)
 -- what the block gives of a piece at its place
 pub from_block : (tape : Tape) (place : Place) (block : List ℕ) → IsBlock tape place block → (byte count : ℕ) → read_piece tape (Stored place byte count) ≡ map (λ i. slice_get block (byte + i)) (range_with_len 0 count)
 from_block tape place block is byte count = ranges_same (λ i. tape place.part place.pos (byte + i)) (λ i. slice_get block (byte + i)) 0 0 count (λ k lt. is (byte + (0 + k)))
-
-same_parts : (a b : Part) → same_part a b ≡ true → a ≡ b
-same_parts Ip Ip e = refl
-same_parts Dp Dp e = refl
-same_parts Ip Dp e = cc
-same_parts Dp Ip e = cc
-
-pub same_places : (a b : Place) → same_place a b ≡ true → a ≡ b
-same_places a b e = by (same_part a.part b.part) refl e
-  where
-    by : (t : Bool) → same_part a.part b.part ≡ t → (t && eqb a.pos b.pos) ≡ true → a ≡ b
-    by true is pos =
-        let part : a.part ≡ b.part = same_parts a.part b.part is in
-        let position : a.pos ≡ b.pos = grind (arith, nat_tests) in
-        ap (λ p. record { part = p; pos = a.pos }) part ∙ ap (λ n. record { part = b.part; pos = n }) position
-    by false is pos = cc
 
 -- a piece at another place is as it was
 pub kept_piece : (tape : Tape) (read : Places) (place stands : Place) (byte count : ℕ) (bytes : List ℕ) → same_place place stands ≡ false

@@ -1,27 +1,18 @@
 -- How the bytes of a range are gathered, block by block.
-use Rattle.std.specs.Prelude.{◌≡◌, ℕ, ◌+◌, ◌&&◌, ◌==◌, Bool, true, false, not, List, [], ◌∷◌, ◌++◌, length, take, drop}
+use Rattle.std.specs.Prelude.{◌≡◌, ℕ, ◌+◌, Bool, true, false, not, List, [], ◌∷◌, ◌++◌, length, take, drop}
 use Rattle.std.specs.Prelude.{replicate, Some, None, slice_get, if◌then◌else◌}
 use Rattle.std.specs.List.{filter, flat_map, list_any}
 use Rattle.std.specs.BTreeSet.{BTreeSet, contains}
 use Rattle.std.specs.Ordering.{nat_cmp, bool_cmp, ordering_then}
 use Rattle.std.specs.declared.cmp.Ordering.{Ordering}
-use Rattle.tape_types.specs.declared.cartridges.Part.{Part}
-use Rattle.tape_types.specs.declared.cartridges.Part.TheVariants.{Ip, Dp}
+pub use Rattle.tape_types.specs.Cartridges.{same_part, same_place}
+use Rattle.tape_types.specs.declared.cartridges.Part.TheVariants.{Dp}
 use Rattle.tape_types.specs.declared.cartridges.Place.{Place}
 use Rattle.extent_map.specs.declared.pieces.Piece.{Piece}
 use Rattle.extent_map.specs.declared.pieces.Piece.TheVariants.{Zeros, Stored}
 use Rattle.plain_tree.specs.Cells.{Cell, bytes_of}
 use Rattle.extent_map.specs.Cells.{Tape}
 use Rattle.extent_map.specs.Pieces.{read_piece}
-
-abbrev pub same_part : Part → Part → Bool
-same_part Ip Ip = true
-same_part Dp Dp = true
-same_part Ip Dp = false
-same_part Dp Ip = false
-
-abbrev pub same_place : Place → Place → Bool
-same_place a b = same_part a.part b.part && a.pos == b.pos
 
 -- the place of a piece that stands on tape
 abbrev pub place_in : Piece → List Place

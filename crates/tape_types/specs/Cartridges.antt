@@ -1,5 +1,5 @@
 -- Cartridges and their parts (LTFS 2.4 on partitions and on medium auxiliary memory).
-use Rattle.std.specs.Prelude.{ℕ, ◌+◌, ◌≤◌, ◌^◌, List, length, All}
+use Rattle.std.specs.Prelude.{ℕ, ◌==◌, ◌+◌, ◌≤◌, ◌^◌, ◌&&◌, Bool, true, false, List, length, All}
 use Rattle.tape_types.specs.declared.cartridges.Part.{Part}
 use Rattle.tape_types.specs.declared.cartridges.Part.TheVariants.{Ip, Dp}
 use Rattle.tape_types.specs.declared.cartridges.Place.{Place}
@@ -32,6 +32,17 @@ capacity Dp limits = limits.cap_dp
 -- one position further
 abbrev pub next : Place → Place
 next at = record { part = at.part; pos = at.pos + 1 }
+
+-- whether two partitions are one
+abbrev pub same_part : Part → Part → Bool
+same_part Ip Ip = true
+same_part Ip Dp = false
+same_part Dp Ip = false
+same_part Dp Dp = true
+
+-- whether two positions are one
+abbrev pub same_place : Place → Place → Bool
+same_place a b = same_part a.part b.part && a.pos == b.pos
 
 -- a block has 1 to 1,048,576 bytes
 abbrev pub IsItem : Item → Type 0

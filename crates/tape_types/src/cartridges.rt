@@ -5,7 +5,7 @@ use crate::texts::{Bytes, NoMemory};
 use std::alloc::Global;
 
 /// One of the two partitions of a cartridge (LTFS 2.4 on partitions).
-#[derive(Clone, Copy, Debug, PartialEq, Eq)]
+#[derive(Clone, Copy, Debug, PartialEq, Eq, Hash)]
 pub enum Part {
     /// The index partition.
     Ip,
@@ -14,7 +14,7 @@ pub enum Part {
 }
 
 /// A position of a partition, counted in items from its beginning.
-#[derive(Clone, Copy, Debug, PartialEq, Eq)]
+#[derive(Clone, Copy, Debug, PartialEq, Eq, Hash)]
 pub struct Place {
     pub part: Part,
     pub pos: u64,

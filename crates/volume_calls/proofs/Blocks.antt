@@ -1,51 +1,18 @@
 -- Which blocks of a read were met once one more was read.
-use Rattle.std.specs.Prelude.{◌≡◌, ◌==◌, ◌&&◌, ◌||◌, not, ℕ, Bool, true, false, List, [], ◌∷◌, filter, map, if◌then◌else◌}
+use Rattle.std.specs.Prelude.{◌≡◌, ◌==◌, ◌||◌, not, ℕ, Bool, true, false, List, [], ◌∷◌, filter, map, if◌then◌else◌}
 use Rattle.std.specs.List.{list_any}
 use Rattle.std.proofs.Common.{refl, sym, ap, subst, ◌∙◌}
-use Rattle.std.proofs.lemmas.Bool.{and_parts, both_ways, eqb-true, eq-eqb, false_from_ne_true}
-use Rattle.tape_types.specs.declared.cartridges.Part.{Part}
-use Rattle.tape_types.specs.declared.cartridges.Part.TheVariants.{Ip, Dp}
+use Rattle.std.proofs.lemmas.Bool.{and_parts, both_ways, false_from_ne_true}
 use Rattle.tape_types.specs.declared.cartridges.Place.{Place}
-use Rattle.extent_map.specs.Replies.{Places, same_part as same_part_of, same_place as same_place_of, with_place}
+use Rattle.tape_types.proofs.Places.{same_itself, same_places}
+use Rattle.extent_map.specs.Replies.{Places, with_place}
 use Rattle.head_queue.specs.Waiting.{Waiting, request}
 use Rattle.head_trail.specs.Trail.{asks}
-use Rattle.head_trail.specs.Waiting.{Request, same_part, same_place}
+use Rattle.head_trail.specs.Waiting.{Request, same_place}
 use Rattle.volume_order.proofs.Lists.{any_filter_same}
 use Rattle.volume_order.proofs.Turning.{any_weaker}
 use Rattle.volume_parts.specs.Tied.{is_of}
 use Rattle.volume_calls.proofs.Misses.{all_gone}
-
-part_is : (a b : Part) → same_part a b ≡ true → a ≡ b
-part_is Ip Ip e = refl
-part_is Ip Dp e = absurd (cc)
-part_is Dp Ip e = absurd (cc)
-part_is Dp Dp e = refl
-
-part_is_of : (a b : Part) → same_part_of a b ≡ true → a ≡ b
-part_is_of Ip Ip e = refl
-part_is_of Ip Dp e = absurd (cc)
-part_is_of Dp Ip e = absurd (cc)
-part_is_of Dp Dp e = refl
-
-part_itself : (a : Part) → same_part_of a a ≡ true
-part_itself Ip = refl
-part_itself Dp = refl
-
-place_by : (a b : Place) → a.part ≡ b.part → a.pos ≡ b.pos → a ≡ b
-place_by a b part pos = λ i. record { part = part i; pos = pos i }
-
-pub place_is : (a b : Place) → same_place a b ≡ true → a ≡ b
-place_is a b e =
-    let parts = and_parts (same_part a.part b.part) (a.pos == b.pos) e in
-    place_by a b (part_is a.part b.part parts.0) (eqb-true a.pos b.pos parts.1)
-
-place_is_of : (a b : Place) → same_place_of a b ≡ true → a ≡ b
-place_is_of a b e =
-    let parts = and_parts (same_part_of a.part b.part) (a.pos == b.pos) e in
-    place_by a b (part_is_of a.part b.part parts.0) (eqb-true a.pos b.pos parts.1)
-
-place_itself : (a : Place) → same_place_of a a ≡ true
-place_itself a = ap (λ b. b && a.pos == a.pos) (part_itself a.part) ∙ eq-eqb a.pos a.pos refl
 
 -- which requests are left of a read
 abbrev pub left_for : ℕ → Place → List Request → List Request
@@ -58,27 +25,27 @@ met_there : (rs : List Request) (ticket : ℕ) (place q : Place) → place ≡ q
     → met_in (left_for ticket place rs) ticket q ≡ true
 met_there rs ticket place q same = ap not (subst (λ p. list_any (asks ticket p) (left_for ticket place rs) ≡ false) same (all_gone (asks ticket place) rs))
 
-met_else : (rs : List Request) (ticket : ℕ) (place q : Place) → same_place_of place q ≡ false
+met_else : (rs : List Request) (ticket : ℕ) (place q : Place) → same_place place q ≡ false
     → met_in (left_for ticket place rs) ticket q ≡ met_in rs ticket q
 met_else rs ticket place q other = ap not (any_filter_same (asks ticket q) (λ (r : Request). not (asks ticket place r)) rs passes)
   where
     passes : (r : Request) → asks ticket q r ≡ true → not (asks ticket place r) ≡ true
     passes r at = ap not (false_from_ne_true (asks ticket place r) (λ both.
-        let here = place_is r.place place (and_parts (r.ticket == ticket) (same_place r.place place) both).1 in
-        let there = place_is r.place q (and_parts (r.ticket == ticket) (same_place r.place q) at).1 in
-        both_ways (same_place_of place q) other (subst (λ p. same_place_of place p ≡ true) (sym here ∙ there) (place_itself place))))
+        let here = same_places r.place place (and_parts (r.ticket == ticket) (same_place r.place place) both).1 in
+        let there = same_places r.place q (and_parts (r.ticket == ticket) (same_place r.place q) at).1 in
+        both_ways (same_place place q) other (subst (λ p. same_place place p ≡ true) (sym here ∙ there) (same_itself place))))
 
 -- that block, and those that were met before
-met_at : (rs : List Request) (ticket : ℕ) (place q : Place) (b : Bool) → same_place_of place q ≡ b
+met_at : (rs : List Request) (ticket : ℕ) (place q : Place) (b : Bool) → same_place place q ≡ b
     → with_place (met_in rs ticket) place q ≡ met_in (left_for ticket place rs) ticket q
 met_at rs ticket place q true is =
-    ap (λ b. if b then true else met_in rs ticket q) is ∙ sym (met_there rs ticket place q (place_is_of place q is))
+    ap (λ b. if b then true else met_in rs ticket q) is ∙ sym (met_there rs ticket place q (same_places place q is))
 met_at rs ticket place q false is =
     ap (λ b. if b then true else met_in rs ticket q) is ∙ sym (met_else rs ticket place q is)
 
 pub met_now : (rs : List Request) (ticket : ℕ) (place : Place)
     → with_place (met_in rs ticket) place ≡ met_in (left_for ticket place rs) ticket
-met_now rs ticket place = λ i q. (met_at rs ticket place q (same_place_of place q) refl) i
+met_now rs ticket place = λ i q. (met_at rs ticket place q (same_place place q) refl) i
 
 -- where nothing is asked for a read any more, all its blocks were met
 pub all_met : (rs : List Request) (ticket : ℕ) (q : Place) → list_any (is_of ticket) rs ≡ false

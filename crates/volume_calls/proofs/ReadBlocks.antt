@@ -19,7 +19,7 @@ use Rattle.extent_map.specs.Pieces.{planned}
 use Rattle.extent_map.specs.Replies.{distinct, has_place, place_in, places_in, same_part, same_place}
 use Rattle.extent_map.specs.declared.pieces.Piece.{Piece}
 use Rattle.extent_map.specs.declared.pieces.Piece.TheVariants.{Stored, Zeros}
-use Rattle.extent_map.proofs.ReplyLemmas.{same_places}
+use Rattle.tape_types.proofs.Places.{same_places}
 use Rattle.file_tree.specs.declared.nodes.Kind.{Kind}
 use Rattle.file_tree.specs.declared.nodes.Kind.TheVariants as kinds
 use Rattle.file_tree.specs.declared.nodes.Node.{Node}

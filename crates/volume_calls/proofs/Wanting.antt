@@ -1,5 +1,5 @@
 -- A read that asks for its blocks waits with the others.
-use Rattle.std.proofs.Common.{◌≡◌, ℕ, ◌+◌, ◌<◌, ◌≤◌, ◌==◌, ◌&&◌, ◌||◌, eqb, not, Bool, true, false, List, [], ◌∷◌, ◌++◌, length, map, Option, Some, None, append-nil, append_assoc, refl, sym, ap, subst, ◌∙◌, arith}
+use Rattle.std.proofs.Common.{◌≡◌, ℕ, ◌+◌, ◌<◌, ◌≤◌, ◌==◌, ◌&&◌, ◌||◌, not, Bool, true, false, List, [], ◌∷◌, ◌++◌, length, map, Option, Some, None, append-nil, append_assoc, refl, sym, ap, subst, ◌∙◌, arith}
 use Rattle.std.specs.Prelude.{All, IfSome, fold, slice_get, slice_index_or}
 use Rattle.std.specs.List.{list_any}
 use Rattle.std.proofs.lemmas.Bool.Decides.{nat_tests}
@@ -7,19 +7,17 @@ use Rattle.std.proofs.lemmas.List.Elements.{All-append, All-cons, All-head, All-
 use Rattle.std.proofs.lemmas.List.Folds.{list_any-append, list_any_none}
 use Rattle.std.proofs.lemmas.List.Quantifiers.{all_pairs_push}
 use Rattle.tape_types.specs.declared.cartridges.Cartridge.{Cartridge}
-use Rattle.tape_types.specs.declared.cartridges.Part.{Part}
-use Rattle.tape_types.specs.declared.cartridges.Part.TheVariants.{Dp, Ip}
 use Rattle.tape_types.specs.declared.cartridges.Place.{Place}
+use Rattle.tape_types.proofs.Places.{same_back}
 use Rattle.plain_tree.specs.Calls.{answer}
 use Rattle.plain_tree.specs.History.{call_at}
 use Rattle.plain_tree.specs.declared.calls.Call.{Call}
 use Rattle.plain_tree.specs.declared.calls.Placed.{Placed}
 use Rattle.session_script.specs.declared.logs.Event.{Event}
 use Rattle.session_script.specs.declared.logs.Event.TheVariants.{Wants}
-use Rattle.extent_map.specs.Replies as replies
 use Rattle.extent_map.specs.Replies.{Places, has_place}
 use Rattle.head_trail.specs.Trail.{after, asks}
-use Rattle.head_trail.specs.Waiting.{Request, State, same_part, same_place}
+use Rattle.head_trail.specs.Waiting.{Request, State, same_place}
 use Rattle.tape_layout.specs.declared.ops.Op.{Op}
 use Rattle.volume_space.specs.Standing.{Given, Standing, standing}
 use Rattle.volume_order.proofs.Lists.{at_within}
@@ -51,35 +49,17 @@ requests_are here (place ∷ places) st =
 
 -- ---- what is asked for
 
-parts_turned : (a b : Part) → same_part a b ≡ replies.same_part b a
-parts_turned Ip Ip = refl
-parts_turned Ip Dp = refl
-parts_turned Dp Ip = refl
-parts_turned Dp Dp = refl
-
-parts_same : (a b : Part) → same_part a b ≡ replies.same_part a b
-parts_same Ip Ip = refl
-parts_same Ip Dp = refl
-parts_same Dp Ip = refl
-parts_same Dp Dp = refl
-
-places_turned : (a b : Place) → same_place a b ≡ replies.same_place b a
-places_turned a b =
-    let pos : eqb a.pos b.pos ≡ eqb b.pos a.pos = grind (arith, nat_tests) in
-    ap (λ t. t && eqb a.pos b.pos) (parts_turned a.part b.part) ∙ ap (λ t. replies.same_part b.part a.part && t) pos
-
 pub has_same : (place : Place) (places : List Place) → list_any (same_place place) places ≡ has_place place places
 has_same place [] = refl
 has_same place (x ∷ xs) =
-    ap (λ t. (t && place.pos == x.pos) || list_any (same_place place) xs) (parts_same place.part x.part)
-    ∙ ap (λ t. replies.same_place place x || t) (has_same place xs)
+    ap (λ t. same_place place x || t) (has_same place xs)
 
 asked_for : (here arrived : ℕ) (places : List Place) (place : Place) → list_any (asks here place) (requests_for here arrived places) ≡ has_place place places
 asked_for here arrived [] place = refl
 asked_for here arrived (x ∷ xs) place =
     ap (λ t. (t && same_place x place) || list_any (asks here place) (requests_for here (arrived + 1) xs)) (number_itself here)
-    ∙ ap (λ t. t || list_any (asks here place) (requests_for here (arrived + 1) xs)) (places_turned x place)
-    ∙ ap (λ t. replies.same_place place x || t) (asked_for here (arrived + 1) xs place)
+    ∙ ap (λ t. t || list_any (asks here place) (requests_for here (arrived + 1) xs)) (same_back x place)
+    ∙ ap (λ t. same_place place x || t) (asked_for here (arrived + 1) xs place)
 
 others_ask : (here arrived : ℕ) (places : List Place) (ticket : ℕ) (place : Place) → (here == ticket) ≡ false → list_any (asks ticket place) (requests_for here arrived places) ≡ false
 others_ask here arrived [] ticket place other = refl

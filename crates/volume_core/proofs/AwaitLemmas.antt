@@ -54,7 +54,8 @@ use Rattle.volume_parts.specs.Parts.{Parts}
 use Rattle.volume_parts.specs.Placing.{PlacesCall, Waits, marks_for}
 use Rattle.volume_core.specs.Asking.{Awaits, CanAsk, CanPlace, Finishes, IsSubmitted, Reserves, Stands}
 use Rattle.volume_core.specs.Wanted.{AreTakenFrom, AsksBlocks, CanWantBlocks, HasEvents, HasHeld, HasRequests, IsFetched, held_among, unheld}
-use Rattle.volume_core.proofs.FillLemmas.{gathering_alike, held_or_wanted, held_there, or_first, or_second, same_itself, stored_place}
+use Rattle.tape_types.proofs.Places.{same_itself}
+use Rattle.volume_core.proofs.FillLemmas.{gathering_alike, held_or_wanted, held_there, or_first, or_second, stored_place}
 use Rattle.volume_core.proofs.QueueLemmas.{none_is_due}
 use Rattle.volume_core.proofs.SubmitLemmas.{as_it_was, placed_answered}
 use Rattle.volume_core.proofs.RequestLemmas.{state_after}

@@ -1,20 +1,17 @@
 -- What a read takes of what is held.
-use Rattle.std.proofs.Common.{◌≡◌, ℕ, zero, suc, ◌+◌, ◌<◌, ◌≤◌, ◌&&◌, ◌||◌, eqb, not, Bool, true, false, cond, List, [], ◌∷◌, ◌++◌, length, take, get_or, replicate, Option, Some, None, is_none, is_some, ⊎_elim, refl, sym, ap, subst, ◌∙◌, arith, append_assoc, append-nil, take-suc}
+use Rattle.std.proofs.Common.{◌≡◌, ℕ, zero, suc, ◌+◌, ◌<◌, ◌≤◌, ◌||◌, not, Bool, true, false, cond, List, [], ◌∷◌, ◌++◌, length, take, get_or, replicate, Option, Some, None, is_none, is_some, ⊎_elim, refl, sym, ap, subst, ◌∙◌, arith, append_assoc, append-nil, take-suc}
 use Rattle.std.specs.List.{filter, flat_map}
 use Rattle.std.specs.Prelude.{Contains, filter_map}
-use Rattle.std.proofs.lemmas.Bool.Decides.{nat_tests}
 use Rattle.std.proofs.lemmas.List.Elements.{filter-append}
 use Rattle.std.proofs.lemmas.List.Folds.{list_any-append}
-use Rattle.tape_types.specs.declared.cartridges.Part.{Part}
-use Rattle.tape_types.specs.declared.cartridges.Part.TheVariants.{Dp, Ip}
 use Rattle.tape_types.specs.declared.cartridges.Place.{Place}
 use Rattle.plain_tree.specs.Cells.{Cell, bytes_of}
 use Rattle.extent_map.specs.Cells.{Tape}
 use Rattle.extent_map.specs.Pieces.{read_piece}
-use Rattle.extent_map.specs.Replies.{Places, distinct, gathered, gathered_piece, has_place, place_in, places_in, same_part, same_place, with_place}
+use Rattle.extent_map.specs.Replies.{Places, distinct, gathered, gathered_piece, has_place, place_in, places_in, same_place, with_place}
 use Rattle.extent_map.specs.declared.pieces.Piece.{Piece}
 use Rattle.extent_map.specs.declared.pieces.Piece.TheVariants.{Stored, Zeros}
-use Rattle.extent_map.proofs.ReplyLemmas.{same_places}
+use Rattle.tape_types.proofs.Places.{same_back, same_itself, same_places}
 use Rattle.tape_layout.specs.Ops.{held_in}
 use Rattle.tape_layout.specs.declared.ops.Op.{Op}
 use Rattle.volume_model.specs.Submits.{stored_at}
@@ -32,27 +29,6 @@ or_first false b e = absurd cc
 pub or_second : (a b : Bool) → b ≡ true → (a || b) ≡ true
 or_second true b e = refl
 or_second false b e = e
-
-pub same_itself : (a : Place) → same_place a a ≡ true
-same_itself a = by a.part
-  where
-    pos : eqb a.pos a.pos ≡ true
-    pos = grind (arith, nat_tests)
-
-    by : (p : Part) → (same_part p p && eqb a.pos a.pos) ≡ true
-    by Ip = pos
-    by Dp = pos
-
-parts_turned : (a b : Part) → same_part a b ≡ same_part b a
-parts_turned Ip Ip = refl
-parts_turned Ip Dp = refl
-parts_turned Dp Ip = refl
-parts_turned Dp Dp = refl
-
-pub places_turned : (a b : Place) → same_place a b ≡ same_place b a
-places_turned a b =
-    let pos : eqb a.pos b.pos ≡ eqb b.pos a.pos = grind (arith, nat_tests) in
-    ap (λ t. t && eqb a.pos b.pos) (parts_turned a.part b.part) ∙ ap (λ t. same_part b.part a.part && t) pos
 
 has_filtered : (x y : Place) (ds : List Place) → same_place y x ≡ false
     → has_place y (filter (λ other. not (same_place x other)) ds) ≡ has_place y ds
@@ -227,7 +203,7 @@ module _ (ops : List Op) (places : List Place) (place : Place) (start old new : 
 
       with_one : (other : Place) (ps : List Place) → with_place (λ p. has_place p ps) place other ≡ has_place other (ps ++ place ∷ [])
       with_one other ps =
-          ap (λ a. cond a true (has_place other ps)) (places_turned place other)
+          ap (λ a. cond a true (has_place other ps)) (same_back place other)
           ∙ turn (same_place other place) (has_place other ps)
           ∙ sym (list_any-append (same_place other) ps (place ∷ []))
 
