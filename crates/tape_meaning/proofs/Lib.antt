@@ -2,6 +2,8 @@ pub mod Decided
 pub mod Extents
 pub mod Faulty
 pub mod Frame
+pub mod Honest
+mod HonestTrials
 pub mod IndexOrStops
 pub mod Judged
 pub mod Known

@@ -47,6 +47,12 @@ pub record IsHonest (c : Cartridge) : Type 0 where
   pub ip : IsHonestNote c labels.ip Ip
   pub dp : IsHonestNote c labels.ip Dp
 
+-- The notes are honest as far as the cartridge has labels. One without any is refused before the place that a note
+-- names is gone to.
+abbrev pub HasHonestNotes : Cartridge → Type 0
+HasHonestNotes c =
+    (labels : Labels) → HasLabels c labels → IsHonestNote c labels.ip Ip × IsHonestNote c labels.ip Dp
+
 -- a partition's note has the cartridge's volume change reference and the volume's UUID, and tells of its last index
 pub record IsNoted (c : Cartridge) (label : Label) (part : Part) : Type 0 where
   pub note : Coherency

@@ -1,14 +1,21 @@
 -- Labels, indexes and extents by hand, on which the definitions are tried.
-use Rattle.std.specs.Prelude.{ℕ, List, [], ◌∷◌, false, Option, Some, None}
+use Rattle.std.specs.Prelude.{◌≡◌, ℕ, List, [], ◌∷◌, false, Option, Some, None}
 use Rattle.tape_types.specs.declared.cartridges.Cartridge.{Cartridge}
+use Rattle.tape_types.specs.declared.cartridges.Item.{Item}
+use Rattle.tape_types.specs.declared.cartridges.Item.TheVariants.{Block, Mark}
 use Rattle.tape_types.specs.declared.cartridges.Note.TheVariants.{Absent}
+use Rattle.coherency.specs.Notes.{HasValues}
+use Rattle.coherency.specs.declared.Coherency.{Coherency}
 use Rattle.tape_content.specs.Readings.{Construct}
 use Rattle.tape_content.specs.Worked.{empty_dp, first_index, second_index, synced_dp}
+use Rattle.index_model.specs.Grammar.{IndexText}
 use Rattle.index_model.specs.declared.indexes.Index.{Index}
 use Rattle.index_model.specs.declared.indexes.Spot.{Spot}
 use Rattle.index_model.specs.declared.nodes.RawExtent.{RawExtent}
 use Rattle.ltfs_label.specs.declared.Label.{Label}
 use Rattle.ltfs_label.specs.Values.{LabelValue, epoch, label_of}
+use Rattle.tape_meaning.specs.Labels.{HasLabels}
+use Rattle.tape_meaning.specs.declared.labels.Labels.{Labels}
 
 -- the volume of the index partition `a` and the data partition `b`, with blocks of 4,096 bytes
 abbrev pub label : Label
@@ -72,3 +79,38 @@ in_index = label_of label
 
 abbrev pub in_data : LabelValue
 in_data = record (label_of label) { location = 98 }
+
+-- a partition with a record, a label and the text of one index, which stands at position 5
+abbrev pub with_index : (vol1 label text : List ℕ) → List Item
+with_index vol1 label text = Block vol1 ∷ Mark ∷ Block label ∷ Mark ∷ Mark ∷ Block text ∷ Mark ∷ []
+
+-- a partition has one index, of generation 2, with these pointers
+pub record HasOne (items : List Item) (here : Spot) (back : Option Spot) : Type 0 where
+  pub vol1 : List ℕ
+  pub label_text : List ℕ
+  pub text : List ℕ
+  pub items_are : items ≡ with_index vol1 label_text text
+  pub index : Index
+  pub spelled : IndexText text index
+  pub uuid : index.uuid ≡ 7
+  pub generation : index.generation ≡ 2
+  pub here_is : index.here ≡ here
+  pub back_is : index.back ≡ back
+
+-- A volume of the volume change reference 3, with an index on each partition. That of the data partition has this back
+-- pointer, and both notes have these values.
+pub record IsClosed (c : Cartridge) (back : Option Spot) (values : Coherency) : Type 0 where
+  pub labels : Labels
+  pub has : HasLabels c labels
+  pub uuid : labels.ip.uuid ≡ 7
+  pub on_a : labels.ip.index ≡ 97
+  pub on_b : labels.ip.dpart ≡ 98
+  pub ip : HasOne c.ip (record { letter = 97; block = 5 }) (Some (record { letter = 98; block = 5 }))
+  pub dp : HasOne c.dp (record { letter = 98; block = 5 }) back
+  pub vcr : c.vcr ≡ 3
+  pub ip_note : HasValues c.note_ip values
+  pub dp_note : HasValues c.note_dp values
+
+-- what a note says
+abbrev pub note : (vcr generation block uuid : ℕ) → Coherency
+note vcr generation block uuid = record { vcr = vcr; generation = generation; block = block; uuid = uuid }

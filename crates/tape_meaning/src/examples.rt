@@ -1,16 +1,20 @@
 //! Indexes and extents by hand, on which the definitions are tried.
 
-ghost use Rattle.std.specs.Prelude.{◌≡◌, ℕ, List, [], ◌∷◌, true, Some, None};
+ghost use Rattle.std.specs.Prelude.{◌≡◌, ℕ, List, [], ◌∷◌, true, Option, Some, None};
+ghost use Rattle.tape_types.specs.declared.cartridges.Cartridge.{Cartridge};
+ghost use Rattle.tape_types.specs.declared.cartridges.Note.{Note};
 ghost use Rattle.tape_types.specs.declared.cartridges.Item.TheVariants.{Block, Mark, Torn};
 ghost use Rattle.tape_meaning.specs.Labels.{AreOfOneVolume, HasSomeLabel, HasSomeRecord};
 ghost use Rattle.tape_types.specs.declared.cartridges.Part.TheVariants.{Ip, Dp};
+ghost use Rattle.index_model.specs.declared.indexes.Spot.{Spot};
 ghost use Rattle.index_model.specs.declared.nodes.Kind.TheVariants.{File};
 ghost use Rattle.tape_meaning.specs.Meaning.{Fits, FitsKind, dp_end, ip_end};
 ghost use Rattle.tape_meaning.specs.Mounts.{chosen_place, last_place};
+ghost use Rattle.tape_meaning.specs.Notes.{HasHonestNotes};
 ghost use Rattle.tape_meaning.specs.Pointers.{PointsBack, PointsOnDp, PointsOnIp, chosen, last_block, newest_spot};
 ghost use Rattle.tape_content.specs.Worked.{first_index, second_index};
 ghost use Rattle.tape_meaning.specs.Worked.{cartridge, extent, in_data, in_index, index, label, last, on_a, on_b};
-ghost use Rattle.tape_meaning.specs.Worked.{third_index, two};
+ghost use Rattle.tape_meaning.specs.Worked.{IsClosed, note, third_index, two};
 
 /// Which index is chosen, and where it stands: that of the greater generation, and on a tie the data partition's. Where
 /// the partitions end.
@@ -90,4 +94,19 @@ pub fn the_definitions_tell_labels()
     ensures no_mark { (bytes text : List ℕ) → ¬ HasSomeLabel (Block bytes ∷ Mark ∷ Block text ∷ Block text ∷ []) }
     ensures no_label { (bytes : List ℕ) → ¬ HasSomeLabel (Block bytes ∷ Mark ∷ Mark ∷ Mark ∷ []) }
     ensures no_first_mark { (bytes : List ℕ) → ¬ HasSomeRecord (Block bytes ∷ Torn ∷ []) }
+{}
+
+/// Which notes are honest: those that name the last index of their partition, its generation and its place; of a volume
+/// change reference that has passed, or of another volume, whatever else they say; and of a cartridge without labels
+/// any. The last index of the data partition points back rightly.
+pub fn the_definitions_tell_honest_notes()
+    ensures right { (c : Cartridge) → IsClosed c None (note 3 2 5 7) → HasHonestNotes c }
+    ensures behind { (c : Cartridge) (back : Option Spot) → IsClosed c back (note 2 1 9 7) → HasHonestNotes c }
+    ensures other_volume { (c : Cartridge) (back : Option Spot) → IsClosed c back (note 4 1 9 8) → HasHonestNotes c }
+    ensures ahead { (c : Cartridge) → IsClosed c None (note 4 2 5 7) → ¬ HasHonestNotes c }
+    ensures other_block { (c : Cartridge) → IsClosed c None (note 3 2 6 7) → ¬ HasHonestNotes c }
+    ensures other_generation { (c : Cartridge) → IsClosed c None (note 3 1 5 7) → ¬ HasHonestNotes c }
+    ensures wrong_back { (c : Cartridge) → IsClosed c (Some (on_b 4)) (note 3 2 5 7) → ¬ HasHonestNotes c }
+    ensures blank { (vcr : ℕ) (ip dp : Note)
+        → HasHonestNotes (record { ip = []; dp = []; vcr = vcr; note_ip = ip; note_dp = dp }) }
 {}

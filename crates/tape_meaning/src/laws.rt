@@ -3,6 +3,7 @@
 ghost use Rattle.std.specs.Prelude.{◌≡◌, ◌≢◌, ◌⊎◌, ◌≤◌, ◌<◌, ℕ, List, [], ◌++◌, Some, IfSome, take};
 ghost use Rattle.std.specs.List.{AllByRecursion};
 ghost use Rattle.tape_types.specs.declared.cartridges.Cartridge.{Cartridge};
+ghost use Rattle.tape_types.specs.declared.cartridges.Note.TheVariants.{Absent};
 ghost use Rattle.tape_types.specs.declared.cartridges.Part.{Part};
 ghost use Rattle.tape_types.specs.declared.cartridges.Place.{Place};
 ghost use Rattle.tape_types.specs.Cartridges.{note_of};
@@ -26,7 +27,8 @@ ghost use Rattle.tape_meaning.specs.Kept.{Keeps};
 ghost use Rattle.tape_meaning.specs.Labels.{HasLabels};
 ghost use Rattle.tape_meaning.specs.Meaning.{FitsNode, Found, IsConsistent, IsTreeOf, Reads};
 ghost use Rattle.tape_meaning.specs.Mounts.{IsDpDone, IsIpDone, Mounts, chosen_place};
-ghost use Rattle.tape_meaning.specs.Notes.{AreNoted, IsCoherent, IsHonest, IsHonestNote, TellsOfLast};
+ghost use Rattle.tape_meaning.specs.Notes.{AreNoted, HasHonestNotes, IsCoherent, IsHonest, IsHonestNote};
+ghost use Rattle.tape_meaning.specs.Notes.{TellsOfLast};
 ghost use Rattle.tape_meaning.specs.Pointers.{PointsBack, letter_of};
 ghost use Rattle.tape_meaning.specs.declared.errors.MountErr.{MountErr};
 ghost use Rattle.tape_meaning.specs.declared.labels.Labels.{Labels};
@@ -94,6 +96,15 @@ pub fn notes_tell_of_the_last_indexes()
     ensures honest { (c : Cartridge) (labels : Labels)
         → HasLabels c labels → IsHonest c → IsCoherent c → AreNoted c labels.ip }
     ensures coherent { (c : Cartridge) (labels : Labels) → HasLabels c labels → AreNoted c labels.ip → IsCoherent c }
+{}
+
+/// An honest cartridge has honest notes, and a cartridge with labels and honest notes is honest. Notes are honest where
+/// they are absent, and where there are no labels.
+pub fn honest_cartridges_have_honest_notes()
+    ensures honest { (c : Cartridge) → IsHonest c → HasHonestNotes c }
+    ensures labelled { (c : Cartridge) (labels : Labels) → HasLabels c labels → HasHonestNotes c → IsHonest c }
+    ensures absent { (c : Cartridge) → c.note_ip ≡ Absent → c.note_dp ≡ Absent → HasHonestNotes c }
+    ensures unlabelled { (c : Cartridge) → ((labels : Labels) → ¬ HasLabels c labels) → HasHonestNotes c }
 {}
 
 /// Each text is that of an index or stops, and that of a label or stops.
