@@ -3,6 +3,7 @@ pub mod HeadLemmas
 pub mod ImageLemmas
 pub mod Looking
 pub mod Pieces
+pub mod ReadLemmas
 pub mod RecordLemmas
 pub mod Stepping
 pub mod ValueLemmas

@@ -1,9 +1,10 @@
 -- Runs of a disk's commands that only read.
-use Rattle.std.proofs.Common.{ℕ, ◌+◌, ◌-◌, ◌^◌, ◌≤◌, ◌≡◌, ◌∙◌, ⊎_elim, refl, sym, subst, arith}
+use Rattle.std.proofs.Common.{ℕ, ◌+◌, ◌-◌, ◌^◌, ◌≤◌, ◌≡◌, ◌∙◌, Result, ⊎_elim, refl, sym, subst, arith}
 use Rattle.crash_steps.specs.Crashes.{Crashes, NothingNew, OnlyReads}
 use Rattle.byte_disk.specs.Commands.{IsOneMore}
 use Rattle.byte_disk.specs.Files.{Files}
 use Rattle.byte_disk.specs.declared.disk.ByteDisk.{Ghosts}
+use Rattle.image_slots.specs.State.{IsCommand, IsOver, View}
 use Rattle.image_format.specs.Looks.{Looks}
 
 -- no command
@@ -56,24 +57,45 @@ more_reads le reads = record {
   kept = reads.kept;
 }
 
+no_change : {B : Type 0} (s : View B) → IsOver s s
+no_change s = record { side = refl; value = refl; beside = refl; known = refl; opened = refl }
+
+then_over : {B : Type 0} {a b c : View B} → IsOver a b → IsOver b c → IsOver a c
+then_over first second = record {
+  side = second.side ∙ first.side;
+  value = second.value ∙ first.value;
+  beside = second.beside ∙ first.beside;
+  known = second.known ∙ first.known;
+  opened = second.opened ∙ first.opened;
+}
+
 module _ {B : Type 0} (disk : Ghosts B) where
-  pub no_looks : (d : B) → disk.commands d ≤ 2 ^ 64 - 1 → Looks disk 0 d d
-  no_looks d most = record { held = refl; faults = omega arith; reads = no_reads (disk.commands d) (disk.leaves d) (disk.left_since d) most }
+  pub no_looks : (s : View B) → disk.commands s.disk ≤ 2 ^ 64 - 1 → Looks disk 0 s s
+  no_looks s most = record {
+    over = no_change s;
+    held = refl;
+    faults = omega arith;
+    reads = no_reads (disk.commands s.disk) (disk.leaves s.disk) (disk.left_since s.disk) most;
+  }
 
-  pub one_look : (a b : B)
-      → ((t : ℕ) (image : Files) → t ≤ disk.commands a → disk.leaves a image → disk.left_since a t image)
-      → disk.held b ≡ disk.held a → disk.faults a ≤ disk.faults b → IsOneMore (disk.commands a) (disk.commands b)
-      → Crashes NothingNew (disk.commands a) (disk.leaves a) (disk.leaves b) (disk.left_since a) (disk.left_since b)
-      → Looks disk 1 a b
-  one_look a b counts_now held faults counted crashes =
-      record { held = held; faults = faults; reads = one_read counts_now counted crashes }
+  pub one_look : {T E : Type 0} (end : Result T E) (a b : View B)
+      → ((t : ℕ) (image : Files) → t ≤ disk.commands a.disk → disk.leaves a.disk image → disk.left_since a.disk t image)
+      → disk.held b.disk ≡ disk.held a.disk → IsCommand disk NothingNew end a b → Looks disk 1 a b
+  one_look end a b counts_now held done = record {
+    over = done.over;
+    held = held;
+    faults = done.cause.later;
+    reads = one_read counts_now done.count done.crash;
+  }
 
-  pub then_looks : (m n : ℕ) (a b c : B) → Looks disk m a b → Looks disk n b c → Looks disk (m + n) a c
+  pub then_looks : (m n : ℕ) (a b c : View B) → Looks disk m a b → Looks disk n b c → Looks disk (m + n) a c
   then_looks m n a b c first second = record {
+    over = then_over first.over second.over;
     held = second.held ∙ first.held;
     faults = omega (arith, first.faults, second.faults);
     reads = then_reads first.reads second.reads;
   }
 
-  pub more_looks : (m n : ℕ) (a b : B) → m ≤ n → Looks disk m a b → Looks disk n a b
-  more_looks m n a b le looks = record { held = looks.held; faults = looks.faults; reads = more_reads le looks.reads }
+  pub more_looks : (m n : ℕ) (a b : View B) → m ≤ n → Looks disk m a b → Looks disk n a b
+  more_looks m n a b le looks =
+      record { over = looks.over; held = looks.held; faults = looks.faults; reads = more_reads le looks.reads }

@@ -8,6 +8,7 @@ use Rattle.tape_types.specs.declared.cartridges.Item.{Item}
 use Rattle.byte_disk.specs.Files.{Files, bytes_of}
 use Rattle.byte_disk.specs.declared.disk.ByteDisk.{Ghosts}
 use Rattle.byte_disk.specs.declared.disk.File.{File}
+use Rattle.image_slots.specs.State.{View}
 use Rattle.image_format.specs.declared.refusal.WalkErr.{WalkErr}
 use Rattle.image_format.specs.declared.refusal.WalkErr.TheVariants as errors
 use Rattle.image_format.specs.declared.values.Half.{Half}
@@ -90,16 +91,16 @@ module _ (count end : ℕ) (file : List ℕ) (n at : ℕ) (offsets : List ℕ) (
       ∙ ap (in_front come.items) (first_none (count - n) n (rest_of at end file) (omega (arith, lt)) (none_by (first_item (rest_of at end file)) refl (sym e)))
 
 -- what a walk keeps from one record to the next
-pub record Going {B : Type 0} (disk : Ghosts B) (first now : B) (file : File) (count end number at : ℕ) (w : Window) (offsets : List ℕ) : Type 0 where
+pub record Going {B : Type 0} (disk : Ghosts B) (first now : View B) (file : File) (count end number at : ℕ) (w : Window) (offsets : List ℕ) : Type 0 where
   pub piece : IsPiece end w
   pub low : w.from ≤ at
   pub high : at ≤ end
   pub looks : Looks disk (min number (w.from / 65532)) first now
-  pub shows : (d : Files) → disk.held first ≡ Some d → Shows (bytes_of file d) w
-  pub read : (d : Files) → disk.held first ≡ Some d → HasCome count end (bytes_of file d) number at offsets
+  pub shows : (d : Files) → disk.held first.disk ≡ Some d → Shows (bytes_of file d) w
+  pub read : (d : Files) → disk.held first.disk ≡ Some d → HasCome count end (bytes_of file d) number at offsets
 
-pub start_going : {B : Type 0} (disk : Ghosts B) (first : B) (file : File) (count end : ℕ) (w : Window) → IsPiece end w → w.from ≡ 0
-    → disk.commands first ≤ 2 ^ 64 - 1 → ((d : Files) → disk.held first ≡ Some d → Shows (bytes_of file d) w)
+pub start_going : {B : Type 0} (disk : Ghosts B) (first : View B) (file : File) (count end : ℕ) (w : Window) → IsPiece end w → w.from ≡ 0
+    → disk.commands first.disk ≤ 2 ^ 64 - 1 → ((d : Files) → disk.held first.disk ≡ Some d → Shows (bytes_of file d) w)
     → Going disk first first file count end 0 0 w []
 start_going disk first file count end w piece from most shows = record {
   piece = piece;
@@ -110,20 +111,20 @@ start_going disk first file count end w piece from most shows = record {
   read = λ d held. begins count end (bytes_of file d);
 }
 
-module _ {B : Type 0} (disk : Ghosts B) (first now : B) (file : File) (count end number at : ℕ) (w : Window) (offsets : List ℕ)
+module _ {B : Type 0} (disk : Ghosts B) (first now : View B) (file : File) (count end number at : ℕ) (w : Window) (offsets : List ℕ)
     (going : Going disk first now file count end number at w offsets) where
   -- what was told of the disk at first is told of it now
-  pub still : {P : Files → Type 0} → ((d : Files) → disk.held first ≡ Some d → P d) → (d : Files) → disk.held now ≡ Some d → P d
+  pub still : {P : Files → Type 0} → ((d : Files) → disk.held first.disk ≡ Some d → P d) → (d : Files) → disk.held now.disk ≡ Some d → P d
   still each d held = each d (sym going.looks.held ∙ held)
 
-  later : (after : B) (v : Window) → w.from ≤ v.from → Looks disk (min 1 (v.from / 65532 - w.from / 65532)) now after
+  later : (after : View B) (v : Window) → w.from ≤ v.from → Looks disk (min 1 (v.from / 65532 - w.from / 65532)) now after
       → Looks disk (min (number + 1) (v.from / 65532)) first after
   later after v further look =
       more_looks disk (min number (w.from / 65532) + min 1 (v.from / 65532 - w.from / 65532)) (min (number + 1) (v.from / 65532)) first after
       (omega (arith, further)) (then_looks disk (min number (w.from / 65532)) (min 1 (v.from / 65532 - w.from / 65532)) first now after going.looks look)
 
   -- the bound of a walk holds of what was read by then
-  pub all_looks : (after : B) (v : Window) → number < count → IsPiece end v → w.from ≤ v.from
+  pub all_looks : (after : View B) (v : Window) → number < count → IsPiece end v → w.from ≤ v.from
       → Looks disk (min 1 (v.from / 65532 - w.from / 65532)) now after → Looks disk (min count (end / 65532)) first after
   all_looks after v lt piece further look =
       more_looks disk (min (number + 1) (v.from / 65532)) (min count (end / 65532)) first after
@@ -132,9 +133,9 @@ module _ {B : Type 0} (disk : Ghosts B) (first now : B) (file : File) (count end
   pub end_looks : number ≡ count → Looks disk (min count (end / 65532)) first now
   end_looks is = more_looks disk (min number (w.from / 65532)) (min count (end / 65532)) first now (omega (arith, is, going.piece.from)) going.looks
 
-  pub goes_on : (after : B) (v : Window) (k : ℕ) → number < count → IsPiece end v → v.from ≤ at → w.from ≤ v.from → at + k ≤ end
-      → ((d : Files) → disk.held now ≡ Some d → Shows (bytes_of file d) v)
-      → ((d : Files) → disk.held now ≡ Some d → Some k ≡ width_at at end (bytes_of file d))
+  pub goes_on : (after : View B) (v : Window) (k : ℕ) → number < count → IsPiece end v → v.from ≤ at → w.from ≤ v.from → at + k ≤ end
+      → ((d : Files) → disk.held now.disk ≡ Some d → Shows (bytes_of file d) v)
+      → ((d : Files) → disk.held now.disk ≡ Some d → Some k ≡ width_at at end (bytes_of file d))
       → Looks disk (min 1 (v.from / 65532 - w.from / 65532)) now after
       → Going disk first after file count end (number + 1) (at + k) v (offsets ++ at ∷ [])
   goes_on after v k lt piece low further high shows told look = record {
@@ -146,11 +147,11 @@ module _ {B : Type 0} (disk : Ghosts B) (first now : B) (file : File) (count end
     read = λ d held. comes count end (bytes_of file d) number at offsets (going.read d held) k lt (told d (going.looks.held ∙ held));
   }
 
-  pub at_fault : number < count → ((d : Files) → disk.held now ≡ Some d → None ≡ width_at at end (bytes_of file d))
-      → (d : Files) → disk.held first ≡ Some d → first_items count 0 (take end (bytes_of file d)) ≡ Err number
+  pub at_fault : number < count → ((d : Files) → disk.held now.disk ≡ Some d → None ≡ width_at at end (bytes_of file d))
+      → (d : Files) → disk.held first.disk ≡ Some d → first_items count 0 (take end (bytes_of file d)) ≡ Err number
   at_fault lt told d held = faulty count end (bytes_of file d) number at offsets (going.read d held) lt (told d (going.looks.held ∙ held))
 
-  pub at_end : number ≡ count → (d : Files) → disk.held first ≡ Some d → HasCome count end (bytes_of file d) count at offsets
+  pub at_end : number ≡ count → (d : Files) → disk.held first.disk ≡ Some d → HasCome count end (bytes_of file d) count at offsets
   at_end is d held = subst (λ (k : ℕ). HasCome count end (bytes_of file d) k at offsets) is (going.read d held)
 
 -- what a whole walk tells
@@ -179,7 +180,7 @@ module _ (h : Half) (file : List ℕ) (end : ℕ) (offsets : List ℕ) (is : end
   told_fault T errors.Disk walked = tt
 
 -- the length of a file is asked first, and then it is walked over
-module _ {B : Type 0} (disk : Ghosts B) (first mid last : B) (count end most : ℕ) (one : Looks disk 1 first mid)
+module _ {B : Type 0} (disk : Ghosts B) (first mid last : View B) (count end most : ℕ) (one : Looks disk 1 first mid)
     (rest : Looks disk (min count (end / 65532) + 1) mid last) (le : end ≤ most) where
   abbrev sum : ℕ
   sum = 1 + (min count (end / 65532) + 1)
@@ -189,7 +190,7 @@ module _ {B : Type 0} (disk : Ghosts B) (first mid last : B) (count end most : �
       more_looks disk sum (min count (most / 65532) + 2) first last (omega (arith, le))
       (then_looks disk 1 (min count (end / 65532) + 1) first mid last one rest)
 
-  pub whole_commands : disk.commands last ≤ disk.commands first + most / 65532 + 2
+  pub whole_commands : disk.commands last.disk ≤ disk.commands first.disk + most / 65532 + 2
   whole_commands =
       let all = then_looks disk 1 (min count (end / 65532) + 1) first mid last one rest in
       omega (arith, le, all.reads.bound)

@@ -1,6 +1,6 @@
 -- The cartridge of three files, or why there is none.
 use Rattle.std.specs.Prelude.{ℕ, ◌+◌, ◌≡◌, ◌≤◌, ◌⊎◌, ◌==◌, ◌&&◌, Bool, true, false, nat_lt, nat_le, if◌then◌else◌, List, [], ◌∷◌, ◌++◌}
-use Rattle.std.specs.Prelude.{length, slice_index, Option, Some, None, Result, Ok, Err}
+use Rattle.std.specs.Prelude.{length, Option, Some, None, Result, Ok, Err}
 use Rattle.tape_types.specs.declared.cartridges.Cartridge.{Cartridge}
 use Rattle.tape_types.specs.declared.cartridges.Item.{Item}
 use Rattle.tape_types.specs.declared.cartridges.Item.TheVariants as item
@@ -8,7 +8,8 @@ use Rattle.tape_types.specs.declared.cartridges.Limits.{Limits}
 use Rattle.tape_types.specs.declared.cartridges.Note.TheVariants.{Absent}
 use Rattle.tape_types.specs.declared.cartridges.Part.TheVariants.{Ip, Dp}
 use Rattle.byte_disk.specs.Files.{Files}
-use Rattle.image_slots.specs.Slots.{HasValue, IsBlank, first_of, second_of, serial_of, value_in}
+use Rattle.image_slots.specs.Sides.{chosen}
+use Rattle.image_slots.specs.Slots.{HasValue, IsBlank}
 use Rattle.image_format.specs.declared.refusal.Refusal.{Refusal}
 use Rattle.image_format.specs.declared.refusal.Refusal.TheVariants.{Header, Record}
 use Rattle.image_format.specs.declared.values.Half.{Half}
@@ -19,27 +20,6 @@ use Rattle.image_format.specs.Values.{IsValue, flag, value_of}
 -- nothing was made yet
 abbrev pub is_blank : Files → Bool
 is_blank d = (length d.ip == 0) && (length d.dp == 0) && nat_lt (length d.cm) 512
-
-abbrev pub is_open : List ℕ → Bool
-is_open slot = slice_index slot 0 == 1
-
--- of two open slots the one with the greater serial number counts, and none of two with the same
-abbrev pub later_of : List ℕ → List ℕ → Option (List ℕ)
-later_of a b =
-    if nat_lt (serial_of b) (serial_of a) then Some a else if nat_lt (serial_of a) (serial_of b) then Some b else None
-
-abbrev pub counting : Bool → Bool → List ℕ → List ℕ → Option (List ℕ)
-counting true true a b = later_of a b
-counting true false a b = Some a
-counting false true a b = Some b
-counting false false a b = None
-
--- the value of a header
-abbrev pub value_that_counts : List ℕ → Option (List ℕ)
-value_that_counts cm =
-    if length cm == 512
-    then counting (is_open (first_of cm)) (is_open (second_of cm)) (value_in (first_of cm)) (value_in (second_of cm))
-    else None
 
 -- the records fit the capacity, with the Torn behind them
 abbrev pub Fits : ℕ → Half → Type 0
@@ -65,7 +45,7 @@ header_by limits None = None
 header_by limits (Some raw) = fitting limits (value_of raw)
 
 abbrev pub header : Limits → List ℕ → Option SlotValue
-header limits cm = header_by limits (value_that_counts cm)
+header limits cm = header_by limits (chosen cm)
 
 -- what stands behind the records
 abbrev pub tail_of : Bool → List Item

@@ -1,6 +1,7 @@
 pub mod Images
 pub mod Looks
 pub mod Offsets
+pub mod Reading
 pub mod Records
 pub mod Values
 pub mod Walks

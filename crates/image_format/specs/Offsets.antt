@@ -4,8 +4,6 @@ use Rattle.tape_types.specs.declared.cartridges.Item.{Item}
 use Rattle.tape_types.specs.declared.cartridges.Limits.{Limits}
 use Rattle.tape_types.specs.declared.cartridges.Part.{Part}
 use Rattle.tape_types.specs.declared.cartridges.Part.TheVariants.{Ip, Dp}
-use Rattle.byte_disk.specs.declared.disk.File.{File}
-use Rattle.byte_disk.specs.declared.disk.File.TheVariants as file
 use Rattle.image_format.specs.Records.{width}
 
 -- where the records of items begin, of which the first one begins at a place
@@ -28,7 +26,7 @@ abbrev pub KeepsOther : Part → Offsets → Offsets → Type 0
 KeepsOther Ip old new = (new.limits ≡ old.limits) × (new.dp ≡ old.dp)
 KeepsOther Dp old new = (new.limits ≡ old.limits) × (new.ip ≡ old.ip)
 
--- the file of a partition's items
-abbrev pub file_of : Part → File
-file_of Ip = file.Ip
-file_of Dp = file.Dp
+-- the room with other offsets for a partition
+abbrev pub with_offsets : Part → List ℕ → Offsets → Offsets
+with_offsets Ip offsets room = record { limits = room.limits; ip = offsets; dp = room.dp }
+with_offsets Dp offsets room = record { limits = room.limits; ip = room.ip; dp = offsets }

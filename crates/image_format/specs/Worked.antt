@@ -4,7 +4,8 @@ use Rattle.tape_types.specs.declared.cartridges.Cartridge.{Cartridge}
 use Rattle.tape_types.specs.declared.cartridges.Item.{Item}
 use Rattle.tape_types.specs.declared.cartridges.Item.TheVariants.{Block, Mark, Torn}
 use Rattle.tape_types.specs.declared.cartridges.Limits.{Limits}
-use Rattle.tape_types.specs.declared.cartridges.Note.TheVariants.{Absent}
+use Rattle.tape_types.specs.declared.cartridges.Note.{Note}
+use Rattle.tape_types.specs.declared.cartridges.Note.TheVariants.{Absent, Kept}
 use Rattle.byte_disk.specs.Files.{Files}
 use Rattle.image_format.specs.declared.values.Half.{Half}
 use Rattle.image_format.specs.declared.values.SlotValue.{SlotValue}
@@ -72,3 +73,22 @@ torn_end torn = with_ip (record_bytes abc ++ record_bytes Mark) (raw 1 (slot 3 2
 -- images with one thing wrong
 abbrev pub of_slot : Half → Files
 of_slot ip = with_ip (record_bytes abc ++ record_bytes Mark) (raw 1 (slot 3 2 ip) ++ closed)
+
+-- an image with records and a note on each partition
+abbrev pub note_by : ℕ → Note
+note_by byte = Kept (replicate 70 byte)
+
+abbrev pub full_with : List ℕ → List ℕ → Files
+full_with ip dp = record {
+  ip = ip;
+  dp = dp;
+  cm = raw 1 (record {
+    serial = 4;
+    vcr = 6;
+    ip = record { count = 1; end = 5; torn = true; note = note_by 105 };
+    dp = record { count = 2; end = 13; torn = false; note = note_by 100 };
+  }) ++ closed;
+}
+
+abbrev pub full_cartridge : Cartridge
+full_cartridge = record { ip = Mark ∷ Torn ∷ []; dp = abc ∷ Mark ∷ []; vcr = 6; note_ip = note_by 105; note_dp = note_by 100 }

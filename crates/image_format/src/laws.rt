@@ -1,21 +1,19 @@
 // That the relations on bytes and the functions that compute say the same.
-ghost use Rattle.std.specs.Prelude.{ℕ, ◌≡◌, ◌↔◌, List, length, Some, Ok, Err, Result};
+ghost use Rattle.std.specs.Prelude.{ℕ, ◌≡◌, List, length, Some, Ok, Err, Result};
 ghost use Rattle.tape_types.specs.declared.cartridges.Cartridge.{Cartridge};
 ghost use Rattle.tape_types.specs.declared.cartridges.Item.{Item};
 ghost use Rattle.tape_types.specs.declared.cartridges.Limits.{Limits};
 ghost use Rattle.byte_disk.specs.Files.{Files, AreBytes};
-ghost use Rattle.image_slots.specs.Slots.{HasValue};
 ghost use Rattle.image_format.specs.declared.heads.Head.{Head};
 ghost use Rattle.image_format.specs.declared.refusal.Refusal.{Refusal};
 ghost use Rattle.image_format.specs.declared.values.Half.{Half};
 ghost use Rattle.image_format.specs.declared.values.SlotValue.{SlotValue};
-ghost use Rattle.image_format.specs.Images.{IsSaid, image, value_that_counts};
+ghost use Rattle.image_format.specs.Images.{IsSaid, image};
 ghost use Rattle.image_format.specs.Records.{AreRecords, IsFaultAt, IsHead, head_bytes, head_of, items_in};
 ghost use Rattle.image_format.specs.Values.{IsSized, IsValue, value_bytes, value_of};
 
-/// The value that counts in a header, and what it says. What is written of a value reads back.
+/// What a value says. What is written of one reads back.
 pub fn values_are_told()
-    ensures counts { (cm raw : List ℕ) → (value_that_counts cm ≡ Some raw) ↔ HasValue cm raw }
     ensures written { (s : SlotValue) → IsSized s → IsValue (value_bytes s) s }
     ensures found { (raw : List ℕ) (s : SlotValue) → IsValue raw s → value_of raw ≡ Some s }
     ensures only { (raw : List ℕ) (s : SlotValue) → length raw ≡ 255 → value_of raw ≡ Some s → IsValue raw s }

@@ -9,9 +9,18 @@ pub enum Refusal {
     Record(Part, u64),
 }
 
+/// Why nothing was read of the files of a disk.
+#[derive(Clone, Copy, Debug, PartialEq, Eq)]
+pub enum ReadErr {
+    /// They are no image.
+    Refused(Refusal),
+    /// The disk has failed.
+    Disk,
+}
+
 /// Why the records of a partition were not found.
 #[derive(Clone, Copy, Debug, PartialEq, Eq)]
-pub enum WalkErr {
+pub(crate) enum WalkErr {
     /// The record of this number is at fault, or the records before it don't fill what they are to fill.
     Record(u64),
     /// The disk has failed.

@@ -8,7 +8,7 @@ ghost use Rattle.image_format.specs.Records.{record_bytes};
 ghost use Rattle.image_format.specs.declared.refusal.Refusal.TheVariants.{Header, Record};
 ghost use Rattle.image_format.specs.Worked.{small, half, slot, raw, closed, abc, with_ip, cartridge, first_slot};
 ghost use Rattle.image_format.specs.Worked.{second_slot, third_slot, made, one_written, one_flushed, in_body, in_gate};
-ghost use Rattle.image_format.specs.Worked.{behind_torn, torn_end, of_slot};
+ghost use Rattle.image_format.specs.Worked.{behind_torn, torn_end, of_slot, full_with, full_cartridge};
 
 /// The bytes of slots and records.
 pub fn slots_are_told()
@@ -31,6 +31,8 @@ pub fn images_are_read()
     ensures gate_after { image small (in_gate 1) ≡ Ok (cartridge (abc ∷ []) 1) }
     ensures torn { image small (torn_end true) ≡ Ok (cartridge (abc ∷ item.Torn ∷ []) 2) }
     ensures whole { image small (torn_end false) ≡ Ok (cartridge (abc ∷ []) 2) }
+    ensures full { image small (full_with (record_bytes item.Mark) (record_bytes abc ++ record_bytes item.Mark))
+        ≡ Ok full_cartridge }
     ensures behind_torn { image small behind_torn ≡ Ok (cartridge (abc ∷ item.Torn ∷ item.Mark ∷ []) 3) }
 {}
 
@@ -47,5 +49,7 @@ pub fn images_are_refused()
     ensures too_many { image small (of_slot (half 3 13 false)) ≡ Err (Record part.Ip 2) }
     ensures too_few { image small (of_slot (half 1 13 false)) ≡ Err (Record part.Ip 1) }
     ensures all { image small (of_slot (half 2 13 false)) ≡ Ok (cartridge (abc ∷ item.Mark ∷ []) 2) }
+    ensures data { image small (full_with (record_bytes item.Mark) (record_bytes abc)) ≡ Err (Record part.Dp 1) }
+    ensures both { image small (full_with [] (record_bytes abc)) ≡ Err (Record part.Ip 0) }
     ensures past_file { image small (of_slot (half 2 14 false)) ≡ Err (Record part.Ip 2) }
 {}

@@ -1,9 +1,5 @@
-use Rattle.image_format.proofs.ImageLemmas.{counted_found, counted_only}
 use Rattle.image_format.proofs.ValueLemmas.{value_found, value_only, value_reads}
 use Rattle.image_format.proofs.laws.values_are_told.Goals as goal
-
-pub returns-clause-counts : goal.returns-clause-counts
-returns-clause-counts c = λ cm raw. (counted_only cm raw, counted_found cm raw)
 
 pub returns-clause-found : goal.returns-clause-found
 returns-clause-found c = λ raw s is. value_found raw s is
