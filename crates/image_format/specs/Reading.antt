@@ -21,7 +21,8 @@ pub record IsHeaderOf (limits : Limits) (d : Files) (said : Option SlotValue) : 
 
 -- a walk over the records of a partition tells where they begin, or the first one at fault
 abbrev pub IsFoundIn : {T : Type 0} → Part → Half → List ℕ → Result T ReadErr → List ℕ → Type 0
-IsFoundIn part h file (Ok _) offsets = (items : List Item) × (items_in h file ≡ Ok items) × (offsets ≡ offsets_from 0 items)
+IsFoundIn part h file (Ok _) offsets =
+    (items : List Item) × (items_in h file ≡ Ok items) × (offsets ≡ offsets_from 0 items)
 IsFoundIn part h file (Err (Refused why)) offsets = (n : ℕ) × (why ≡ Record part n) × (items_in h file ≡ Err n)
 IsFoundIn part h file (Err Disk) offsets = Unit {0}
 

@@ -91,4 +91,10 @@ full_with ip dp = record {
 }
 
 abbrev pub full_cartridge : Cartridge
-full_cartridge = record { ip = Mark ∷ Torn ∷ []; dp = abc ∷ Mark ∷ []; vcr = 6; note_ip = note_by 105; note_dp = note_by 100 }
+full_cartridge = record {
+  ip = Mark ∷ Torn ∷ [];
+  dp = abc ∷ Mark ∷ [];
+  vcr = 6;
+  note_ip = note_by 105;
+  note_dp = note_by 100;
+}

@@ -1,5 +1,6 @@
 // Room for where the records of both partitions begin.
-ghost use Rattle.std.specs.Prelude.{ℕ, ◌≡◌, ◌≤◌, ◌<◌, ◌+◌, ◌^◌, ◌/◌, List, [], ◌∷◌, ◌++◌, min, length, take, vec_capacity, Some, None, IfOk, IfErr, IfSome};
+ghost use Rattle.std.specs.Prelude.{ℕ, ◌≡◌, ◌≤◌, ◌<◌, ◌+◌, ◌^◌, ◌/◌, List, [], ◌∷◌, ◌++◌, min, length, take};
+ghost use Rattle.std.specs.Prelude.{vec_capacity, Some, None, IfOk, IfErr, IfSome};
 ghost use Rattle.tape_types.specs.Cartridges.{capacity};
 ghost use Rattle.byte_disk.specs.Files.{Files, bytes_of};
 ghost use Rattle.image_slots.specs.State.{file_of};
@@ -108,7 +109,8 @@ impl Room {
         ensures limits { self.new.limits ≡ self.old.limits }
         ensures commands { (d : Files) → B.held slots.old.disk ≡ Some d → B.commands slots.new.disk
             ≤ B.commands slots.old.disk + (length d.ip / 65532 + 2) + (length d.dp / 65532 + 2) }
-        ensures looks { Looks B.ByteDisk ((self.old.limits.cap_ip + 2) + (self.old.limits.cap_dp + 2)) slots.old slots.new }
+        ensures looks { Looks B.ByteDisk ((self.old.limits.cap_ip + 2) + (self.old.limits.cap_dp + 2)) slots.old
+            slots.new }
         ensures cause { IfErr result (IsBlamed (header_by self.old.limits (Some slots.old.value) ≡ None)
             (B.faults slots.old.disk) (B.faults slots.new.disk)) }
     {
@@ -146,7 +148,8 @@ impl Room {
         ensures limits { self.new.limits ≡ self.old.limits }
         ensures commands { (d : Files) → B.held slots.old.disk ≡ Some d → B.commands slots.new.disk
             ≤ B.commands slots.old.disk + (length d.ip / 65532 + 2) + (length d.dp / 65532 + 2) }
-        ensures looks { Looks B.ByteDisk ((self.old.limits.cap_ip + 2) + (self.old.limits.cap_dp + 2)) slots.old slots.new }
+        ensures looks { Looks B.ByteDisk ((self.old.limits.cap_ip + 2) + (self.old.limits.cap_dp + 2)) slots.old
+            slots.new }
         ensures cause { IfErr result (IsBlamed ⊥ (B.faults slots.old.disk) (B.faults slots.new.disk)) }
     {
         match self.walk(slots, Part::Ip, &value.ip) {

@@ -55,7 +55,8 @@ pub(crate) fn fill<B: ByteDisk>(
     requires within { (d : Files) → B.held slots.old.disk ≡ Some d → end ≤ length (bytes_of (file_of part) d) }
     ensures piece { IsPiece end window.new }
     ensures from { window.new.from ≡ from }
-    ensures shows { (d : Files) → B.held slots.old.disk ≡ Some d → OnOk result (Shows (bytes_of (file_of part) d) window.new) }
+    ensures shows { (d : Files) → B.held slots.old.disk ≡ Some d
+        → OnOk result (Shows (bytes_of (file_of part) d) window.new) }
     ensures looks { Looks B.ByteDisk 1 slots.old slots.new }
     ensures cause { OnErr result (Rose (B.faults slots.old.disk) (B.faults slots.new.disk)) }
 {
@@ -101,7 +102,8 @@ pub(crate) fn width_at<B: ByteDisk>(
     ensures piece { IsPiece end window.new }
     ensures low { window.new.from ≤ at }
     ensures further { window.old.from ≤ window.new.from }
-    ensures shows { (d : Files) → B.held slots.old.disk ≡ Some d → OnOk result (Shows (bytes_of (file_of part) d) window.new) }
+    ensures shows { (d : Files) → B.held slots.old.disk ≡ Some d
+        → OnOk result (Shows (bytes_of (file_of part) d) window.new) }
     ensures told { (d : Files) → B.held slots.old.disk ≡ Some d
         → IfOk result (λ w. w ≡ width_at at end (bytes_of (file_of part) d)) }
     ensures within { IfOk result (λ w. IfSome w (λ n. at + n ≤ end)) }
@@ -134,7 +136,8 @@ fn bring<B: ByteDisk>(
     ensures piece { IsPiece end window.new }
     ensures head { HasHeadAt at window.new }
     ensures further { window.old.from ≤ window.new.from }
-    ensures shows { (d : Files) → B.held slots.old.disk ≡ Some d → OnOk result (Shows (bytes_of (file_of part) d) window.new) }
+    ensures shows { (d : Files) → B.held slots.old.disk ≡ Some d
+        → OnOk result (Shows (bytes_of (file_of part) d) window.new) }
     ensures looks { Looks B.ByteDisk (min 1 (window.new.from / 65532 - window.old.from / 65532)) slots.old slots.new }
     ensures cause { OnErr result (Rose (B.faults slots.old.disk) (B.faults slots.new.disk)) }
 {
