@@ -1,6 +1,10 @@
-//! Extended attributes of nodes: which texts may be their keys.
+//! Extended attributes of nodes: which texts may be their keys, and all attributes of a node by their keys.
 #![tactic(auto)]
 
+mod keys;
+mod laws;
 mod xattrs;
 
+pub use keys::Keys;
+pub use laws::lists_say_maps;
 pub use xattrs::{Xattr, is_key};

@@ -1,17 +1,29 @@
 //! One extended attribute (LTFS 2.4 on extended attributes).
 
-ghost use Rattle.std.specs.Prelude.{◌≡◌, length};
+ghost use Rattle.std.specs.Prelude.{◌≡◌, length, IfOk};
 ghost use Rattle.std.specs.Str.{chars};
 ghost use Rattle.tape_types.specs.Names.{has_byte};
 ghost use Rattle.node_keys.specs.Keys.{is_key};
 
-use tape_types::{Bytes, Text};
+use std::alloc::Global;
+use tape_types::{Bytes, NoMemory, Text};
 
 /// An extended attribute of a node.
 #[derive(Drop)]
 pub struct Xattr {
     pub key: Text,
     pub value: Bytes,
+}
+
+impl Xattr {
+    pub fn try_clone(&self, alloc: Global) -> Result<Xattr, NoMemory>
+        ensures { IfOk result (λ copy. copy ≡ self.now) }
+    {
+        Ok(Xattr {
+            key: self.key.try_clone(alloc)?,
+            value: self.value.try_clone(alloc)?,
+        })
+    }
 }
 
 #[tactic(auto, using(std::proofs::lemmas::Str::chars_from_encodes))]

@@ -1,0 +1,5 @@
+pub mod Changed
+pub mod Cuts
+pub mod Ordered
+pub mod PlaceLemmas
+pub mod SortLemmas
