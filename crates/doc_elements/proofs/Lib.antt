@@ -1,3 +1,4 @@
+pub mod BareTexts
 pub mod Names
 pub mod Parents
 pub mod Inversion

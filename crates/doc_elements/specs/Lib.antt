@@ -1,3 +1,4 @@
+pub mod Bare
 pub mod Schema
 pub mod Pieces
 pub mod Documents

@@ -1,7 +1,10 @@
 //! Bytes that stand in a document as a text or in base64.
 
-ghost use Rattle.std.specs.Prelude.{◌≡◌, IfOk, MatchOption, None, Some};
+ghost use Rattle.std.specs.Prelude.{◌≡◌, ◌≤◌, ◌<◌, length, IfOk, IfSome, MatchOption, None, Some, Ok};
 ghost use Rattle.std.specs.Option.{option_map};
+ghost use Rattle.doc_fields.specs.Reading.{between};
+ghost use Rattle.doc_fields.specs.Texts.{text_at};
+ghost use Rattle.doc_elements.specs.Bare.{is_bare};
 ghost use Rattle.doc_elements.specs.Pieces.{bytes_told, from_base64, without_space};
 
 use base64::DecodeAllocError;
@@ -9,6 +12,31 @@ use base64::engine::general_purpose::STANDARD;
 use doc_fields::is_space;
 use std::alloc::{AllocError, Global};
 use tape_types::{Bytes, NoMemory};
+
+/// Whether a byte stands for itself in a text, and is a character.
+fn is_bare(byte: u8) -> bool
+    ensures { result ≡ is_bare byte }
+{
+    byte == b'\t' || byte == b'\n' || b' ' <= byte && byte < 128 && byte != b'&'
+}
+
+/// Where the text ends that begins at a place and has bare bytes alone; none of other texts.
+#[tactic(auto, using(crate::proofs::BareTexts::bare_none, crate::proofs::BareTexts::bare_more, crate::proofs::BareTexts::bare_read))]
+pub fn bare_end(text: &[u8], at: usize) -> Option<usize>
+    requires { at ≤ length text.now }
+    ensures within { IfSome result (λ end. (at ≤ end) × (end < length text.now)) }
+    ensures text { IfSome result (λ end. text_at text.now at ≡ Ok (between text.now at end, end)) }
+{
+    for i in at..text.len() {
+        if text[i] == b'<' {
+            return Some(i);
+        }
+        if !is_bare(text[i]) {
+            return None;
+        }
+    }
+    None
+}
 
 /// A text without its white space.
 fn without_space(alloc: Global, text: &[u8]) -> Result<Vec<u8>, AllocError>

@@ -10,7 +10,7 @@ ghost use Rattle.doc_elements.specs.Pieces.{is_too_great, is_volume_name, leaf_a
 ghost use Rattle.doc_elements.specs.Pieces.{some_bytes, value_in};
 ghost use Rattle.doc_elements.specs.Answers.{Gives, val_of};
 
-use crate::encodings::bytes_told;
+use crate::encodings::{bare_end, bytes_told};
 use crate::errors::PieceErr;
 use crate::schema::Form;
 use doc_fields::{
@@ -194,10 +194,10 @@ fn is_base64(attribute: Attribute) -> bool
 
 /// The bytes that a text stands for, whose first byte behind white space stands at a place.
 #[tactic(auto, using(crate::proofs::Base64Lemmas::bytes_found, crate::proofs::Base64Lemmas::bytes_missed))]
-fn found(alloc: Global, at: usize, text: Text, in_base64: bool) -> Result<Bytes, PieceErr>
-    ensures { Gives (λ bs. bs) result (some_bytes at (bytes_told in_base64 text)) }
+fn found(alloc: Global, at: usize, text: &[u8], in_base64: bool) -> Result<Bytes, PieceErr>
+    ensures { Gives (λ bs. bs) result (some_bytes at (bytes_told in_base64 text.now)) }
 {
-    match bytes_told(alloc, text.as_str().as_bytes(), in_base64)? {
+    match bytes_told(alloc, text, in_base64)? {
         None => Err(PieceErr::Syntax(at)),
         Some(bytes) => Ok(bytes),
     }
@@ -211,11 +211,16 @@ fn bytes(alloc: Global, start: Start, text: &[u8]) -> Result<(Value, usize), Pie
     ensures within { IfOk result (λ x. (start.next ≤ x.1) × (x.1 ≤ length text.now)) }
 {
     let at = skip_space(text, start.next);
+    let in_base64 = is_base64(start.attribute);
+    if let Some(end) = bare_end(text, start.next) {
+        let bytes = found(alloc, at, &text[start.next..end], in_base64)?;
+        return Ok((Value::Bytes(bytes), end));
+    }
     let (words, next) = read_text(alloc, text, start.next)?;
     if next == text.len() {
         return Err(PieceErr::Syntax(next));
     }
-    let bytes = found(alloc, at, words, is_base64(start.attribute))?;
+    let bytes = found(alloc, at, words.as_str().as_bytes(), in_base64)?;
     Ok((Value::Bytes(bytes), next))
 }
 
