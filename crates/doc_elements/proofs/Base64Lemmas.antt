@@ -36,7 +36,7 @@ bytes_found at o bs is = ap (some_bytes at) is
 pub bytes_missed : (at : ℕ) (o : Option (List ℕ)) → o ≡ None → some_bytes at o ≡ Err (errors.Syntax at)
 bytes_missed at o is = ap (some_bytes at) is
 
-from_ok : (r : Result (List ℕ) DecodeError) (bs : List ℕ) → result_ok r ≡ Some bs → r ≡ Ok bs
+pub from_ok : (r : Result (List ℕ) DecodeError) (bs : List ℕ) → result_ok r ≡ Some bs → r ≡ Ok bs
 from_ok (Ok x) bs e =
     let both_are : ◌≡◌ {A = Option (List ℕ)} (Some x) (Some bs) = e in
     let same : x ≡ bs = cc in
@@ -154,11 +154,11 @@ encoded_back bs are =
 
 -- ---- what is read has one text
 
-cons_bytes : (x : ℕ) (xs : List ℕ) → x < 256 → IsBytes xs → IsBytes (x ∷ xs)
+pub cons_bytes : (x : ℕ) (xs : List ℕ) → x < 256 → IsBytes xs → IsBytes (x ∷ xs)
 cons_bytes x xs lt are zero = lt
 cons_bytes x xs lt are (suc i) = are i
 
-kept_bytes : (p : ℕ → Bool) (xs : List ℕ) → IsBytes xs → IsBytes (filter p xs)
+pub kept_bytes : (p : ℕ → Bool) (xs : List ℕ) → IsBytes xs → IsBytes (filter p xs)
 kept_bytes p [] are = are
 kept_bytes p (x ∷ xs) are =
     let rest = kept_bytes p xs (λ i. are (suc i)) in

@@ -10,6 +10,7 @@ pub mod Ends
 pub mod Timed
 pub mod Written
 pub mod WrittenItems
+pub mod Base64Blocks
 pub mod Base64Lemmas
 pub mod WrittenNames
 pub mod WrittenValues

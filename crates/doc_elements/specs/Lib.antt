@@ -1,4 +1,5 @@
 pub mod Bare
+pub mod Blocks
 pub mod Schema
 pub mod Pieces
 pub mod Documents

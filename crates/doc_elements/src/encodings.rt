@@ -1,10 +1,14 @@
 //! Bytes that stand in a document as a text or in base64.
 
-ghost use Rattle.std.specs.Prelude.{◌≡◌, ◌≤◌, ◌<◌, length, IfOk, IfSome, MatchOption, None, Some, Ok};
+ghost use Rattle.std.specs.Prelude.{◌≡◌, ◌≤◌, ◌<◌, ◌++◌, ◌∷◌, ℕ, List, length, if◌then◌else◌, IfOk, IfSome, MatchOption};
+ghost use Rattle.std.specs.Prelude.{None, Some, Ok};
 ghost use Rattle.std.specs.Option.{option_map};
+ghost use Rattle.base64.specs.Engines.{standard};
+ghost use Rattle.base64.specs.GeneralPurpose.{IsBytes, decoded_of};
 ghost use Rattle.doc_fields.specs.Reading.{between};
 ghost use Rattle.doc_fields.specs.Texts.{text_at};
 ghost use Rattle.doc_elements.specs.Bare.{is_bare};
+ghost use Rattle.doc_elements.specs.Blocks.{behind};
 ghost use Rattle.doc_elements.specs.Pieces.{bytes_told, from_base64, without_space};
 
 use base64::DecodeAllocError;
@@ -38,29 +42,84 @@ pub fn bare_end(text: &[u8], at: usize) -> Option<usize>
     None
 }
 
-/// A text without its white space.
-fn without_space(alloc: Global, text: &[u8]) -> Result<Vec<u8>, AllocError>
-    ensures { IfOk result (λ v. v.items ≡ without_space text.now) }
+/// The bytes that symbols of base64 stand for, or none.
+fn decode_symbols(alloc: Global, symbols: &[u8]) -> Result<Option<Vec<u8>>, AllocError>
+    ensures value { IfOk result (λ found. option_map (λ v. v.items) found ≡ decoded_of standard symbols.now) }
+    ensures bytes { IfOk result (λ found. IfSome found (λ v. IsBytes v.items)) }
+    ensures symbols { IsBytes symbols.now }
 {
-    let mut out = Vec::with_capacity(alloc, text.len())?;
-    for byte in text {
-        if !is_space(*byte) {
-            out.push(*byte)?;
-        }
-    }
-    Ok(out)
-}
-
-/// The bytes that a text in base64 stands for, or none.
-fn decode(alloc: Global, text: &[u8]) -> Result<Option<Vec<u8>>, AllocError>
-    ensures { IfOk result (λ v. option_map (λ b. b.items) v ≡ from_base64 text.now) }
-{
-    let packed = without_space(alloc, text)?;
-    match STANDARD.decode(alloc, packed.as_slice()) {
+    match STANDARD.decode(alloc, symbols) {
         Ok(bytes) => Ok(Some(bytes)),
         Err(DecodeAllocError::OutOfMemory) => Err(AllocError),
         Err(DecodeAllocError::DecodeError(_)) => Ok(None),
     }
+}
+
+/// Decodes a full block in front of a symbol, with which the next one begins; or tells that the whole stands for none.
+fn take_block(
+    alloc: Global,
+    out: &mut Vec<u8>,
+    block: &mut Vec<u8>,
+    next: u8,
+) -> Result<bool, AllocError>
+    requires { length block.old.items ≡ 1024 }
+    ensures { IfOk result (λ taken. (rest : List ℕ) → IsBytes rest
+        → behind out.old.items (block.old.items ++ next ∷ rest)
+        ≡ (if taken then behind out.new.items (block.new.items ++ rest) else None)) }
+{
+    let Some(bytes) = decode_symbols(alloc, block.as_slice())? else {
+        return Ok(false);
+    };
+    if bytes.len() != 768 {
+        return Ok(false);
+    }
+    out.extend_from_slice(bytes.as_slice())?;
+    block.clear();
+    block.push(next)?;
+    Ok(true)
+}
+
+/// Takes the next byte of a text in base64; or tells that the whole stands for no bytes.
+fn take_byte(
+    alloc: Global,
+    out: &mut Vec<u8>,
+    block: &mut Vec<u8>,
+    byte: u8,
+) -> Result<bool, AllocError>
+    ensures { IfOk result (λ taken. (rest : List ℕ) → IsBytes rest
+        → behind out.old.items (block.old.items ++ without_space (byte ∷ rest))
+        ≡ (if taken then behind out.new.items (block.new.items ++ without_space rest) else None)) }
+{
+    if is_space(byte) {
+        return Ok(true);
+    }
+    if block.len() == 1024 {
+        return take_block(alloc, out, block, byte);
+    }
+    block.push(byte)?;
+    Ok(true)
+}
+
+fn symbol_count(text: &[u8]) -> usize {
+    text.iter().filter(|byte| !is_space(**byte)).count()
+}
+
+/// The bytes that a text in base64 stands for, or none. It is decoded in blocks of 1,024 symbols.
+fn decode(alloc: Global, text: &[u8]) -> Result<Option<Vec<u8>>, AllocError>
+    ensures { IfOk result (λ v. option_map (λ b. b.items) v ≡ from_base64 text.now) }
+{
+    let mut out = Vec::with_capacity(alloc, symbol_count(text) / 4 * 3)?;
+    let mut block = Vec::with_capacity(alloc, 1024)?;
+    for byte in text {
+        if !take_byte(alloc, &mut out, &mut block, *byte)? {
+            return Ok(None);
+        }
+    }
+    let Some(last) = decode_symbols(alloc, block.as_slice())? else {
+        return Ok(None);
+    };
+    out.extend_from_slice(last.as_slice())?;
+    Ok(Some(out))
 }
 
 /// The bytes that a text stands for, in base64 or as it is, or none.

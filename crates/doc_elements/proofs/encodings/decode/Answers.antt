@@ -1,19 +1,19 @@
-use Rattle.std.proofs.Common.{◌≡◌, sym, ap, subst, ◌∙◌}
-use Rattle.base64.specs.Engines.{standard}
-use Rattle.base64.specs.GeneralPurpose.{decode_of, IsDecodeFailure}
-use Rattle.base64.specs.declared.decode.DecodeAllocError.TheVariants.{DecodeError as Failed}
-use Rattle.doc_elements.specs.Pieces.{without_space}
-use Rattle.doc_elements.proofs.Base64Lemmas.{told, refused}
+use Rattle.std.proofs.Common.{◌≡◌, Bool, true, false, rules, arith}
+use Rattle.base64.specs.GeneralPurpose.{IsBytes}
+use Rattle.doc_elements.proofs.Base64Blocks.{begun, goes_on, stops}
 use Rattle.doc_elements.proofs.encodings.decode.Goals as goal
 
-pub returns-in-Ok : goal.returns-in-Ok
-returns-in-Ok c =
-    let same : without_space c.args.text.now ≡ c.as_slice.result.now = sym (c.as_slice.ensures.value ∙ c.in_ok-packed.ensures) in
-    sym (told c.args.text.now c.in-Ok.bytes.items (ap (decode_of standard) same ∙ c.in-Ok.ensures.ok))
+pub loop-byte-init : goal.loop-byte-init
+loop-byte-init c = begun c.args.text.now c.in_ok-out.out.items c.in_ok-block.block.items c.in_ok-out.ensures.items c.in_ok-block.ensures.items
 
-pub returns : goal.returns
-returns c =
-    let same : without_space c.args.text.now ≡ c.as_slice.result.now = sym (c.as_slice.ensures.value ∙ c.in_ok-packed.ensures) in
-    let failed : IsDecodeFailure standard c.as_slice.result.now (Failed c.in-Err-DecodeError.field-0-0) =
-    subst (IsDecodeFailure standard c.as_slice.result.now) c.in-Err-DecodeError.field-0-is c.in-Err-DecodeError.ensures.err in
-    sym (refused c.args.text.now c.in-Err-DecodeError.field-0-0 (ap (decode_of standard) same ∙ failed))
+pub returns-then-not-branch : goal.returns-then-not-branch
+returns-then-not-branch c =
+    let bytes : IsBytes c.args.text.now = λ i. let fits = c.type_inv.text i in omega arith in
+    stops c.args.text.now c.loop-byte.out.items c.loop-byte.block.items c.take_byte.new.out.items c.take_byte.new.block.items c.loop-byte.byte-index c.in_ok-take_byte.field-0
+    c.loop-byte.invariant c.loop-byte-test.true bytes (c.in_ok-take_byte.ensures {u = tt}) c.if-not-branch.true
+
+pub loop-byte-preserved : goal.loop-byte-preserved
+loop-byte-preserved c =
+    let bytes : IsBytes c.args.text.now = λ i. let fits = c.type_inv.text i in omega arith in
+    goes_on c.args.text.now c.loop-byte.out.items c.loop-byte.block.items c.take_byte.new.out.items c.take_byte.new.block.items c.loop-byte.byte-index c.in_ok-take_byte.field-0
+    c.loop-byte.invariant c.loop-byte-test.true bytes (c.in_ok-take_byte.ensures {u = tt}) c.if-not-branch.false
