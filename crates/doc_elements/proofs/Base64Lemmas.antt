@@ -1,8 +1,7 @@
 -- Base64: what a text in it stands for, and that what is written in it is read again.
-use Rattle.std.proofs.Common.{◌≡◌, ℕ, zero, suc, ◌*◌, ◌+◌, ◌/◌, ◌%◌, ◌<◌, ◌≤◌, Bool, true, false, eqb, nat_le, nat_lt, not, cond, ◌&&◌, ◌==◌, List, [], ◌∷◌, ◌++◌, length, replicate, slice_index, filter, Option, Some, None, Result, Ok, Err, refl, ap, ◌∙◌, arith}
+use Rattle.std.proofs.Common.{◌≡◌, ℕ, zero, suc, ◌*◌, ◌+◌, ◌/◌, ◌%◌, ◌<◌, Bool, true, false, eqb, nat_le, nat_lt, not, cond, ◌&&◌, ◌==◌, List, [], ◌∷◌, ◌++◌, length, replicate, slice_index, filter, Option, Some, None, Result, Ok, Err, refl, ap, ◌∙◌, arith}
 use Rattle.std.specs.List.{list_all}
 use Rattle.std.specs.Result.{result_ok}
-use Rattle.std.specs.Str.{chars}
 use Rattle.std.proofs.lemmas.Bool.{and_from}
 use Rattle.std.proofs.lemmas.Bool.Decides.{nat_tests}
 use Rattle.std.proofs.lemmas.Str.{IsUtf8-from_ascii, chars-IsAscii}
@@ -25,10 +24,6 @@ use Rattle.doc_elements.specs.Pieces.{from_base64, some_bytes, without_space}
 pub told : (text bs : List ℕ) → decode_of standard (without_space text) ≡ Ok bs → from_base64 text ≡ Some bs
 unfolding from_base64 decoded_of
 told text bs is = ap result_ok is
-
-pub refused : (text : List ℕ) (e : DecodeError) → decode_of standard (without_space text) ≡ Err e → from_base64 text ≡ None
-unfolding from_base64 decoded_of
-refused text e is = ap result_ok is
 
 pub bytes_found : (at : ℕ) (o : Option (List ℕ)) (bs : List ℕ) → o ≡ Some bs → some_bytes at o ≡ Ok bs
 bytes_found at o bs is = ap (some_bytes at) is

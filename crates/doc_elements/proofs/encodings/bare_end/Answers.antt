@@ -1,4 +1,4 @@
-use Rattle.std.proofs.Common.{◌≡◌, Bool, true, false, eqb, get_or, arith, rules}
+use Rattle.std.proofs.Common.{◌≡◌, true, false, eqb, get_or, arith, rules}
 use Rattle.std.proofs.lemmas.Bool.Decides.{nat_tests}
 use Rattle.doc_elements.specs.Bare.{is_bare}
 use Rattle.doc_elements.proofs.BareTexts.{bare_more}

@@ -1,4 +1,4 @@
-use Rattle.std.proofs.Common.{◌≡◌, Bool, true, false, rules, arith}
+use Rattle.std.proofs.Common.{arith}
 use Rattle.base64.specs.GeneralPurpose.{IsBytes}
 use Rattle.doc_elements.proofs.Base64Blocks.{begun, goes_on, stops}
 use Rattle.doc_elements.proofs.encodings.decode.Goals as goal

@@ -1,7 +1,6 @@
 use Rattle.std.proofs.Common.{sym, subst}
 use Rattle.base64.specs.Engines.{standard}
 use Rattle.base64.specs.GeneralPurpose.{IsDecodeFailure}
-use Rattle.base64.specs.declared.decode.DecodeAllocError.TheVariants.{DecodeError as Failed}
 use Rattle.base64.proofs.Streams.{decoded_of-ok}
 use Rattle.doc_elements.proofs.Base64Blocks.{decoded_none}
 use Rattle.doc_elements.proofs.encodings.decode_symbols.Goals as goal
