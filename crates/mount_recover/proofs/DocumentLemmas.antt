@@ -24,18 +24,17 @@ use Rattle.index_model.specs.declared.errors.IndexErr.{IndexErr}
 use Rattle.index_model.specs.declared.errors.IndexErr.TheVariants as index_errors
 use Rattle.index_read.specs.Answers.{UnlessMemory}
 use Rattle.tape_content.specs.Readings as readings
-use Rattle.tape_content.specs.Readings.{after_of, first_of, front}
+use Rattle.tape_content.specs.Readings.{after_of, front}
 use Rattle.tape_content.specs.Ends.{end_dp}
-use Rattle.tape_content.proofs.Placed.{end_dp_within}
+use Rattle.tape_content.proofs.Placed.{AreOrdered, content_placed, end_dp_within}
 use Rattle.tape_content.proofs.Whole.{front_within}
-use Rattle.tape_meaning.specs.Pointers.{indexes_of}
+use Rattle.tape_meaning.specs.Pointers.{text_of}
 use Rattle.volume_scan.specs.declared.content.Construct.{Construct}
-use Rattle.volume_scan.specs.Scans.{places_of}
-use Rattle.mount_recover.specs.Lasts.{IsBadText, IsDocument, IsInPlace, IsNewest, IsPut, StandAt, newest, told}
+use Rattle.mount_recover.specs.Lasts.{HasIndexAt, IsBadText, IsInPlace, IsPut, IsTrueAt, StandAt, told}
 use Rattle.mount_recover.specs.Steps.{IsFree, IsSince, IsStep}
 use Rattle.mount_recover.specs.declared.documents.Beside.{Beside}
 use Rattle.mount_recover.specs.declared.starts.Start.{Start}
-use Rattle.mount_recover.proofs.StandLemmas.{newest_stands}
+use Rattle.mount_recover.proofs.StandLemmas.{index_stands}
 use Rattle.mount_recover.proofs.StepLemmas.{at_told, looks_more, since_next}
 
 -- what a read of a block leaves
@@ -170,51 +169,56 @@ module _ {D : Type 0} (drive : Ghosts D) where
     all_looks =
         let same : done ≡ blocks = omega (arith, going.within, le) in subst (λ (n : ℕ). Looks drive (n * drive.MOST) first now) same going.looks
 
--- ---- where the newest index of a partition stands
+-- ---- where an index of a partition stands
 
-newest_is : (k : readings.Construct) (older : List readings.Construct) (place : Construct) → newest (k ∷ older) ≡ Some place → places_of k ≡ place
-newest_is k older place is = cc
+-- one of these indexes ends within the last of them
+one_within : (newer : List readings.Construct) (k : readings.Construct) (older : List readings.Construct) → AreOrdered (newer ++ k ∷ older)
+    → after_of k ≤ end_dp (newer ++ k ∷ older)
+one_within [] k older ordered = omega arith
+one_within (q ∷ newer) k older ordered = omega (arith, one_within newer k older ordered.2, ordered.1)
 
-pub newest_within : (items : List Item) (place : Construct) → IsNewest items place → place.first ≤ length items
-newest_within items place known = within (indexes_of items) known.stands (end_dp_within items known.long)
-  where
-    within : (ks : List readings.Construct) → newest ks ≡ Some place → end_dp ks ≤ length (front items) → place.first ≤ length items
-    within [] is le = absurd (cc is)
-    within (k ∷ older) is le = omega (arith, ap (λ (p : Construct). p.first) (newest_is k older place is), le, front_within items)
+pub index_within : (items : List Item) (place : Construct) → HasIndexAt items place → place.first ≤ length items
+index_within items place known =
+    let ordered = subst AreOrdered known.parts (content_placed items).ordered in
+    let ends : end_dp (known.newer ++ known.k ∷ known.older) ≤ length (front items) =
+    subst (λ (ks : List readings.Construct). end_dp ks ≤ length (front items)) known.parts (end_dp_within items known.long) in
+    omega (
+      arith,
+      ap (λ (p : Construct). p.first) known.place_is,
+      one_within known.newer known.k known.older ordered,
+      ends,
+      front_within items,
+    )
 
-pub newests_within : (part : Part) (place : Construct) (o : Option Cartridge) → IfSome o (λ c. IsNewest (items_of part c) place)
+pub indexes_within : (part : Part) (place : Construct) (o : Option Cartridge) → IfSome o (λ c. HasIndexAt (items_of part c) place)
     → IfSome o (λ c. place.first ≤ length (items_of part c))
-newests_within part place None known = tt
-newests_within part place (Some c) known = newest_within (items_of part c) place known
+indexes_within part place None known = tt
+indexes_within part place (Some c) known = index_within (items_of part c) place known
 
-document_told : (items : List Item) (place : Construct) (blocks : ℕ) (document : List ℕ) → IsNewest items place → blocks ≡ place.after - place.first - 1
-    → ((bs : List (List ℕ)) → length bs ≡ blocks → StandAt items place.first bs → document ≡ concat bs) → IsDocument document (indexes_of items)
-document_told items place blocks document known count read = is_document (indexes_of items) refl known.stands
-  where
-    is_document : (ks : List readings.Construct) → indexes_of items ≡ ks → newest ks ≡ Some place → IsDocument document ks
-    is_document [] are is = absurd (cc is)
-    is_document (k ∷ older) are is =
-        let same = newest_is k older place is in
-        read k.blocks
-        (omega (arith, count, ap (λ (p : Construct). p.first) same, ap (λ (p : Construct). p.after) same))
-        (subst (λ (n : ℕ). StandAt items n k.blocks) (ap (λ (p : Construct). p.first) same) (newest_stands items k older known.form are))
+document_told : (items : List Item) (place : Construct) (blocks : ℕ) (document : List ℕ) → HasIndexAt items place → blocks ≡ place.after - place.first - 1
+    → ((bs : List (List ℕ)) → length bs ≡ blocks → StandAt items place.first bs → document ≡ concat bs)
+    → IsTrueAt items place (λ k. document ≡ text_of k)
+document_told items place blocks document known count read = λ newer k older are same.
+    read k.blocks
+    (omega (arith, count, ap (λ (p : Construct). p.first) same, ap (λ (p : Construct). p.after) same))
+    (subst (λ (n : ℕ). StandAt items n k.blocks) (ap (λ (p : Construct). p.first) same) (index_stands items newer k older known.form are))
 
 -- the document was read
 pub document_step : {D : Type 0} (drive : Ghosts D) (start : Start) (a b d : D) (part : Part) (place : Construct) (blocks : ℕ) (same : Bool)
     (before document : List ℕ) → IsSince drive start a → IsInPlace (capacity part start.limits) place
-    → IfSome (drive.held a) (λ c. IsNewest (items_of part c) place)
+    → IfSome (drive.held a) (λ c. HasIndexAt (items_of part c) place)
     → blocks ≡ place.after - place.first - 1 → Looks drive drive.MOST a b → drive.faults a ≤ drive.faults b
     → drive.head b ≡ Some (record { part = part; pos = place.first }) → Looks drive (blocks * drive.MOST) b d → drive.faults b ≤ drive.faults d
     → ((at : Place) (c : Cartridge) (bs : List (List ℕ)) → drive.head b ≡ Some at → drive.held b ≡ Some c → length bs ≡ blocks
     → StandAt (items_of at.part c) at.pos bs → document ≡ concat bs) → (same ≡ true → document ≡ before)
-    → IsStep drive start (1 + capacity part start.limits) a d (λ (same : Bool) c. IsDocument document (indexes_of (items_of part c)))
+    → IsStep drive start (place.after - place.first) a d (λ (same : Bool) c. IsTrueAt (items_of part c) place (λ k. document ≡ text_of k))
     (λ same. same ≡ true → document ≡ before) IsFree (Ok same)
 document_step drive start a b d part place blocks same before document since in_place known count look later head looks more read alike =
-    let both = looks_more drive start (1 + blocks) (1 + capacity part start.limits) a d (omega (arith, count, in_place.after))
+    let both = looks_more drive start (1 + blocks) (place.after - place.first) a d (omega (arith, count, in_place.block))
     (subst (λ (most : ℕ). Looks drive most a d) (one_first blocks drive.MOST) (then_looks drive drive.MOST (blocks * drive.MOST) a b d look looks)) in
     let now : start.faults ≤ drive.faults d = omega (arith, since.faults, later, more) in
     record {
-      found = λ c h. document_told (items_of part c) place blocks document (at_told (λ c. IsNewest (items_of part c) place) h known) count
+      found = λ c h. document_told (items_of part c) place blocks document (at_told (λ c. HasIndexAt (items_of part c) place) h known) count
           (λ bs len stand. read (record { part = part; pos = place.first }) c bs head (look.held ∙ h) len stand);
       any = alike;
       refused = tt;

@@ -23,12 +23,71 @@ use Rattle.volume_scan.specs.declared.content.Construct.{Construct}
 use Rattle.volume_scan.specs.declared.content.Content.{Content}
 use Rattle.volume_scan.specs.Scans.{AreBetween, IsInPlaces, places_of}
 use Rattle.mount_recover.specs.Labels.{AreCounts}
-use Rattle.mount_recover.specs.Lasts.{AreLasts, AreLastsWith, AreSoundLasts, AreSoundWith, IsBadNewest, IsBadText, IsDocument, IsInPlace, IsKnownDp, IsKnownIp, IsLastDp, IsLastIp, IsNewest, IsOfNewest, IsParted, IsScan, IsSeen, IsSoundLast, index_in, ip_in, newest}
+use Rattle.mount_recover.specs.Lasts.{AreLasts, AreLastsWith, AreSoundLasts, AreSoundWith, HasIndexAt, IsBadNewest, IsBadText, IsDocument, IsInPlace, IsKnownDp, IsKnownIp, IsLastDp, IsLastIp, IsNewest, IsNoText, IsOfNewest, IsParted, IsScan, IsSeen, IsSoundLast, IsTrueAt, index_in, ip_in, newest}
 use Rattle.mount_recover.specs.declared.lasts.Last.{Last}
 use Rattle.mount_recover.specs.declared.lasts.Lasts.{Lasts}
 use Rattle.mount_recover.specs.declared.scans.Scans.{Scans}
 use Rattle.mount_recover.specs.Steps.{Blames, IsFree}
 use Rattle.mount_recover.proofs.ScanLemmas.{none_left, parted}
+
+-- ---- what is read of an index that stands there
+
+pub of_volume_at : (label : Label) (items : List Item) (place : Construct) (document : List ℕ) (index : Index)
+    → IsTrueAt items place (λ k. document ≡ text_of k) → IndexText document index → index.uuid ≡ label.uuid
+    → IsTrueAt items place (λ k. IsOfVolume label k index)
+of_volume_at label items place document index read text uuid = λ newer k older are same.
+    record { text = subst (λ (t : List ℕ). IndexText t index) (read newer k older are same) text; uuid = uuid }
+
+pub no_text_at : (items : List Item) (place : Construct) (document : List ℕ) (uuid : ℕ) (at : Place) (e : MountErr)
+    → IsTrueAt items place (λ k. document ≡ text_of k) → IsBadText document uuid at e → IsTrueAt items place (λ k. IsNoText (text_of k) uuid at e)
+no_text_at items place document uuid at e read bad = λ newer k older are same.
+    none (text_of k) e (subst (λ (t : List ℕ). IsBadText t uuid at e) (read newer k older are same) bad)
+  where
+    none : (text : List ℕ) (e : MountErr) → IsBadText text uuid at e → IsNoText text uuid at e
+    none text (errors.Drive counts) bad = tt
+    none text e bad = bad
+
+pub free_at : (items : List Item) (place : Construct) (uuid : ℕ) (at : Place) (e : MountErr) (c : Cartridge) → IsFree e c
+    → IsTrueAt items place (λ k. IsNoText (text_of k) uuid at e)
+free_at items place uuid at (errors.Drive counts) c free = λ newer k older are same. tt
+free_at items place uuid at errors.NoMemory c free = λ newer k older are same. tt
+free_at items place uuid at e c free = absurd free
+
+-- ---- what is so of the newest index, where it stands there
+
+newest_is : (k : readings.Construct) (older : List readings.Construct) (place : Construct) → newest (k ∷ older) ≡ Some place → places_of k ≡ place
+newest_is k older place is = cc
+
+pub newest_there : (items : List Item) (place : Construct) → IsNewest items place → HasIndexAt items place
+newest_there items place known = there (indexes_of items) refl known.stands
+  where
+    there : (ks : List readings.Construct) → indexes_of items ≡ ks → newest ks ≡ Some place → HasIndexAt items place
+    there [] are is = absurd (cc is)
+    there (k ∷ older) are is =
+        record { form = known.form; long = known.long; newer = []; k = k; older = older; parts = are; place_is = newest_is k older place is }
+
+of_newest_there : (Says : readings.Construct → Type 0) (Is : List readings.Construct → Type 0) (items : List Item) (place : Construct)
+    → IsNewest items place → IsTrueAt items place Says
+    → ((k : readings.Construct) (older : List readings.Construct) → Says k → Is (k ∷ older)) → Is (indexes_of items)
+of_newest_there Says Is items place known says is = of (indexes_of items) refl known.stands
+  where
+    of : (ks : List readings.Construct) → indexes_of items ≡ ks → newest ks ≡ Some place → Is ks
+    of [] are at = absurd (cc at)
+    of (k ∷ older) are at = is k older (says [] k older are (newest_is k older place at))
+
+pub newest_document : (items : List Item) (place : Construct) (document : List ℕ) → IsNewest items place
+    → IsTrueAt items place (λ k. document ≡ text_of k) → IsDocument document (indexes_of items)
+newest_document items place document known read =
+    of_newest_there (λ k. document ≡ text_of k) (IsDocument document) items place known read (λ k older is. is)
+
+newest_bad : (items : List Item) (place : Construct) (uuid : ℕ) (at : Place) (e : MountErr) → IsNewest items place
+    → IsTrueAt items place (λ k. IsNoText (text_of k) uuid at e) → IsBadNewest (indexes_of items) uuid at e
+newest_bad items place uuid at e known none =
+    of_newest_there (λ k. IsNoText (text_of k) uuid at e) (λ ks. IsBadNewest ks uuid at e) items place known none (λ k older is. bad k older e is)
+  where
+    bad : (k : readings.Construct) (older : List readings.Construct) (e : MountErr) → IsNoText (text_of k) uuid at e → IsBadNewest (k ∷ older) uuid at e
+    bad k older (errors.Drive counts) is = tt
+    bad k older e is = is
 
 -- ---- what a document tells of the newest index
 
@@ -48,13 +107,6 @@ pub bad_counts : (text : List ℕ) (uuid : ℕ) (place : Place) (e : MountErr) (
 bad_counts text uuid place (errors.Drive counts) before now bad = absurd bad
 bad_counts text uuid place errors.NoMemory before now bad = tt
 bad_counts text uuid place e before now bad = tt
-
-pub free_newest : (ks : List readings.Construct) (uuid : ℕ) (place : Place) (e : MountErr) (c : Cartridge) (k : Construct) → newest ks ≡ Some k → IsFree e c
-    → IsBadNewest ks uuid place e
-free_newest [] uuid place e c k some free = absurd (cc some)
-free_newest (q ∷ older) uuid place (errors.Drive counts) c k some free = tt
-free_newest (q ∷ older) uuid place errors.NoMemory c k some free = tt
-free_newest (q ∷ older) uuid place e c k some free = absurd free
 
 -- ---- why the last index of a partition is refused
 
@@ -115,12 +167,15 @@ module _ (c : Cartridge) (labels : Labels) (forms : HasForms c labels) (part : P
 -- ---- the data partition
 
 module _ (c : Cartridge) (labels : Labels) (place : Construct) (older : List Construct) (known : IsKnownDp labels place older c) where
-  pub blamed_dp : (e : MountErr) → IsBadNewest (indexes_of c.dp) labels.ip.uuid (record { part = Dp; pos = place.first }) e → Blames e c
-  blamed_dp e bad = blamed c labels known.forms Dp place None (λ is. absurd (cc is)) known.newest.stands e bad
+  pub blamed_dp : (e : MountErr) → IsTrueAt c.dp place (λ k. IsNoText (text_of k) labels.ip.uuid (record { part = Dp; pos = place.first }) e)
+      → Blames e c
+  blamed_dp e none =
+      blamed c labels known.forms Dp place None (λ is. absurd (cc is)) known.newest.stands e
+      (newest_bad c.dp place labels.ip.uuid (record { part = Dp; pos = place.first }) e known.newest none)
 
-  module _ (index : Index) (of : IsOfNewest labels.ip index (indexes_of c.dp)) where
+  module _ (index : Index) (of : IsTrueAt c.dp place (λ k. IsOfVolume labels.ip k index)) where
     of_last : IsOfVolume labels.ip known.parted.last index
-    of_last = subst (IsOfNewest labels.ip index) known.parted.parts of
+    of_last = of [] known.parted.last known.parted.before known.parted.parts (sym known.parted.place_is)
 
     pub right_dp : ((k : readings.Construct) (ks : List readings.Construct) → place.first ≡ first_of k → older ≡ map places_of (reverse ks)
         → PointsOnDp labels.ip k ks index) → IsLastDp labels.ip (Some (record { index = index; place = place })) c

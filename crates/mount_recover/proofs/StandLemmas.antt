@@ -85,27 +85,35 @@ all_stand (g ∷ gs) tail at =
       all_moved (items_of_group g) (flat_map items_of_group gs ++ tail) at (constructs_from (at + length (items_of_group g)) gs) (all_stand gs tail (at + length (items_of_group g))),
     )
 
--- the first of a reversed list is one of the list
-last_of_all : (P : Construct → Type 0) (ks : List Construct) (k : Construct) (older : List Construct) → ks ≡ reverse (k ∷ older) → AllByRecursion P ks → P k
-last_of_all P ks k older is all = in_end (reverse older) (subst (AllByRecursion P) (is ∙ reverse-append (k ∷ []) older) all)
+-- one of a reversed list is one of the list
+one_of_all : (P : Construct → Type 0) (ks newer : List Construct) (k : Construct) (older : List Construct) → ks ≡ reverse (newer ++ k ∷ older)
+    → AllByRecursion P ks → P k
+one_of_all P ks newer k older is all =
+    within (reverse older) (reverse newer) (subst (AllByRecursion P) (is ∙ parts) all)
   where
-    in_end : (xs : List Construct) → AllByRecursion P (xs ++ k ∷ []) → P k
-    in_end [] both = both.0
-    in_end (x ∷ xs) both = in_end xs both.1
+    parts : reverse (newer ++ k ∷ older) ≡ reverse older ++ k ∷ reverse newer
+    parts =
+        reverse-append newer (k ∷ older)
+        ∙ ap (λ (ks : List Construct). ks ++ reverse newer) (reverse-append (k ∷ []) older)
+        ∙ append_assoc (reverse older) (reverse (k ∷ [])) (reverse newer)
 
--- the blocks of the newest index of a partition stand there
-pub newest_stands : (items : List Item) (k : Construct) (older : List Construct) → HasForm items → indexes_of items ≡ k ∷ older
-    → StandAt items (first_of k) k.blocks
-newest_stands items k older f is = λ i b at.
+    within : (xs ys : List Construct) → AllByRecursion P (xs ++ k ∷ ys) → P k
+    within [] ys both = both.0
+    within (x ∷ xs) ys both = within xs ys both.1
+
+-- the blocks of an index of a partition stand there
+pub index_stands : (items : List Item) (newer : List Construct) (k : Construct) (older : List Construct) → HasForm items
+    → indexes_of items ≡ newer ++ k ∷ older → StandAt items (first_of k) k.blocks
+index_stands items newer k older f is = λ i b at.
     subst (λ (n : ℕ). slice_get items n ≡ Some (Block b)) (omega (arith, stood.0))
     (get_front items _ (Block b) (get_drop 4 (front items) _ (Block b)
     (subst (λ (l : List Item). slice_get l (k.mark + 1 - 4 + i) ≡ Some (Block b)) (sym f.spelled) (stood.1 i b at))))
   where
-    ordered : constructs_from 4 f.groups ≡ reverse (k ∷ older)
+    ordered : constructs_from 4 f.groups ≡ reverse (newer ++ k ∷ older)
     ordered =
         sym (reverse-reverse (constructs_from 4 f.groups))
         ∙ ap (λ (ks : List Construct). reverse ks) (sym (ap (λ (s : content.Content). s.constructs) (form items f)) ∙ is)
 
     stood : IsStood 4 (flat_map items_of_group f.groups ++ items_of_tail f.lead f.begun) k
-    stood = last_of_all (IsStood 4 (flat_map items_of_group f.groups ++ items_of_tail f.lead f.begun)) (constructs_from 4 f.groups) k older ordered
+    stood = one_of_all (IsStood 4 (flat_map items_of_group f.groups ++ items_of_tail f.lead f.begun)) (constructs_from 4 f.groups) newer k older ordered
         (all_stand f.groups (items_of_tail f.lead f.begun) 4)

@@ -100,6 +100,21 @@ pub record IsNewest (items : List Item) (place : Construct) : Type 0 where
   pub long : 4 ≤ length (front items)
   pub stands : newest (indexes_of items) ≡ Some place
 
+-- an index of a partition stands there
+pub record HasIndexAt (items : List Item) (place : Construct) : Type 0 where
+  pub form : HasForm items
+  pub long : 4 ≤ length (front items)
+  pub newer : List readings.Construct
+  pub k : readings.Construct
+  pub older : List readings.Construct
+  pub parts : indexes_of items ≡ newer ++ k ∷ older
+  pub place_is : places_of k ≡ place
+
+-- what is true of each index of a partition that stands there
+abbrev pub IsTrueAt : List Item → Construct → (readings.Construct → Type 0) → Type 0
+IsTrueAt items place Says = (newer : List readings.Construct) (k : readings.Construct) (older : List readings.Construct)
+    → indexes_of items ≡ newer ++ k ∷ older → places_of k ≡ place → Says k
+
 -- these blocks stand one behind the other from a position on
 abbrev pub StandAt : List Item → ℕ → List (List ℕ) → Type 0
 StandAt items pos blocks =
@@ -127,6 +142,11 @@ IsBadText text uuid place (errors.WrongVolume at) =
     (at ≡ place) × ((index : Index) × IndexText text index × (index.uuid ≢ uuid))
 IsBadText text uuid place errors.NoMemory = Unit {0}
 IsBadText text uuid place e = ⊥
+
+-- the same, where a failed drive tells nothing of it
+abbrev pub IsNoText : List ℕ → ℕ → Place → MountErr → Type 0
+IsNoText text uuid place (errors.Drive counts) = Unit {0}
+IsNoText text uuid place e = IsBadText text uuid place e
 
 -- so is the document of the newest of these indexes; a failed drive tells nothing of it
 abbrev pub IsBadNewest : List readings.Construct → ℕ → Place → MountErr → Type 0

@@ -9,9 +9,10 @@ ghost use Rattle.tape_types.specs.Cartridges.{capacity, items_of, next};
 ghost use Rattle.tape_types.specs.declared.cartridges.Cartridge.{Cartridge};
 ghost use Rattle.tape_types.specs.declared.cartridges.Item.TheVariants as items;
 ghost use Rattle.index_model.specs.Grammar.{IndexText};
-ghost use Rattle.tape_meaning.specs.Pointers.{indexes_of};
+ghost use Rattle.tape_meaning.specs.Pointers.{IsOfVolume, text_of};
 ghost use Rattle.mount_recover.specs.Labels.{IsStopped};
-ghost use Rattle.mount_recover.specs.Lasts.{IsBadText, IsDocument, IsInPlace, IsNewest, IsPut, StandAt, told};
+ghost use Rattle.mount_recover.specs.Lasts.{HasIndexAt, IsBadText, IsInPlace, IsNoText, IsPut, IsSound, IsTrueAt};
+ghost use Rattle.mount_recover.specs.Lasts.{StandAt, told};
 ghost use Rattle.mount_recover.specs.Steps.{IsFree, IsSince, IsStep};
 
 use crate::items::{Stop, buffer};
@@ -26,8 +27,40 @@ use tape_meaning::MountErr;
 use tape_types::{Part, Place};
 use volume_scan::Construct;
 
-/// Reads the document of the last index of a partition, which stands there, in place of a text, and tells whether it is
-/// that text.
+/// What an index of a partition reads as, which stands there: an index of the volume with this label, or why it is none,
+/// as a mount tells it. Its document takes the memory of the one that was read before. Nothing is written.
+///
+/// # Errors
+///
+/// `BadIndex` and `WrongVolume` with the place of its first block; `Drive` where the drive failed, and `NoMemory` where
+/// memory was refused.
+pub fn read_index_at<D: Drive>(
+    alloc: Global,
+    drive: &mut D,
+    start: Start,
+    label: &Label,
+    part: Part,
+    place: Construct,
+    document: &mut Vec<u8>,
+) -> Result<Index, MountErr>
+    requires since { IsSince D.Drive start drive.old }
+    requires place { IsInPlace (capacity part start.limits) place }
+    requires known { IfSome (D.held drive.old) (λ c. HasIndexAt (items_of part c) place) }
+    ensures { IsStep D.Drive start (place.after - place.first) drive.old drive.new
+        (λ index c. IsTrueAt (items_of part c) place (λ k. IsOfVolume label.now k index)) (IsSound label.now)
+        (λ e c. IsTrueAt (items_of part c) place (λ k. IsNoText (text_of k) label.now.uuid
+        (record { part = part; pos = place.first }) e)) result }
+{
+    read_document(alloc, drive, start, part, place, label.block, document)?;
+    let pos = place.first;
+    match read_text(alloc, document.as_slice(), label, Place { part, pos }) {
+        Ok(index) => Ok(index),
+        Err(fault) => Err(fault),
+    }
+}
+
+/// Reads the document of an index of a partition, which stands there, in place of a text, and tells whether it is that
+/// text.
 pub fn read_document<D: Drive>(
     alloc: Global,
     drive: &mut D,
@@ -39,9 +72,9 @@ pub fn read_document<D: Drive>(
 ) -> Result<bool, MountErr>
     requires since { IsSince D.Drive start drive.old }
     requires place { IsInPlace (capacity part start.limits) place }
-    requires known { IfSome (D.held drive.old) (λ c. IsNewest (items_of part c) place) }
-    ensures { IsStep D.Drive start (1 + capacity part start.limits) drive.old drive.new
-        (λ same c. IsDocument document.new.items (indexes_of (items_of part c)))
+    requires known { IfSome (D.held drive.old) (λ c. HasIndexAt (items_of part c) place) }
+    ensures { IsStep D.Drive start (place.after - place.first) drive.old drive.new
+        (λ same c. IsTrueAt (items_of part c) place (λ k. document.new.items ≡ text_of k))
         (λ same. same ≡ true → document.new.items ≡ document.old.items) IsFree result }
 {
     let blocks = place.after - place.first - 1;

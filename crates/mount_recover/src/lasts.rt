@@ -4,15 +4,14 @@ ghost use Rattle.std.specs.Prelude.{◌≡◌, ◌+◌, ℕ, None, Option, Some,
 ghost use Rattle.index_model.specs.declared.indexes.Index.{Index as IndexOf};
 ghost use Rattle.tape_meaning.specs.Pointers.{indexes_of};
 ghost use Rattle.tape_types.specs.declared.cartridges.Cartridge.{Cartridge};
-ghost use Rattle.tape_types.specs.Cartridges.{capacity, items_of};
 ghost use Rattle.mount_recover.specs.Labels.{AreCounts, AreLabels};
 ghost use Rattle.mount_recover.specs.Lasts.{AreInPlaces, AreLasts, AreLastsWith, AreSoundLasts, AreSoundWith};
-ghost use Rattle.mount_recover.specs.Lasts.{IsBadNewest, IsDocument, IsInPlace, IsKnownDp, IsKnownIp};
-ghost use Rattle.mount_recover.specs.Lasts.{IsLastDp, IsLastIp, IsNewest, IsOfNewest, IsScan, IsSound, IsSoundLast};
+ghost use Rattle.mount_recover.specs.Lasts.{IsDocument, IsInPlace, IsKnownDp, IsKnownIp};
+ghost use Rattle.mount_recover.specs.Lasts.{IsLastDp, IsLastIp, IsScan, IsSoundLast};
 ghost use Rattle.mount_recover.specs.Lasts.{IsTextOf, IsTwinAt, generation_in, twin_of};
 ghost use Rattle.mount_recover.specs.Steps.{Blames, IsSince, IsStep};
 
-use crate::documents::{read_document, read_text};
+use crate::documents::{read_document, read_index_at, read_text};
 use crate::pointers::{points_on_dp, points_on_ip};
 use crate::scans::Scans;
 use crate::starts::Start;
@@ -108,7 +107,7 @@ fn read_on_dp<D: Drive>(
     ensures { IsStep D.Drive start (1 + start.limits.cap_dp) drive.old drive.new (IsLastDp labels.now.ip)
         (λ last. IfSome last (IsSoundLast labels.now.ip start.limits.cap_dp)) Blames result }
 {
-    let index = read_last(alloc, drive, start, &labels.ip, Part::Dp, place, document)?;
+    let index = read_index_at(alloc, drive, start, &labels.ip, Part::Dp, place, document)?;
     if !points_on_dp(&labels.ip, place.first, older, &index) {
         return Err(MountErr::WrongPointer(Place {
             part: Part::Dp,
@@ -289,30 +288,4 @@ fn told_on_ip(
         return Err(MountErr::WrongPointer(at));
     }
     Ok(Last { index, place })
-}
-
-/// What the last index of a partition reads as, which stands there.
-fn read_last<D: Drive>(
-    alloc: Global,
-    drive: &mut D,
-    start: Start,
-    label: &Label,
-    part: Part,
-    place: Construct,
-    document: &mut Vec<u8>,
-) -> Result<Index, MountErr>
-    requires since { IsSince D.Drive start drive.old }
-    requires place { IsInPlace (capacity part start.limits) place }
-    requires known { IfSome (D.held drive.old) (λ c. IsNewest (items_of part c) place) }
-    ensures { IsStep D.Drive start (1 + capacity part start.limits) drive.old drive.new
-        (λ index c. IsOfNewest label.now index (indexes_of (items_of part c))) (IsSound label.now)
-        (λ e c. IsBadNewest (indexes_of (items_of part c)) label.now.uuid (record { part = part; pos = place.first }) e)
-        result }
-{
-    read_document(alloc, drive, start, part, place, label.block, document)?;
-    let pos = place.first;
-    match read_text(alloc, document.as_slice(), label, Place { part, pos }) {
-        Ok(index) => Ok(index),
-        Err(fault) => Err(fault),
-    }
 }

@@ -13,6 +13,8 @@ mod pointers;
 mod scans;
 mod starts;
 
+pub use documents::read_index_at;
 pub use labels::read_labels;
 pub use mounting::mount;
+pub use starts::{Start, begin};
 pub use tape_meaning::{Labels, MountErr, Mounted};

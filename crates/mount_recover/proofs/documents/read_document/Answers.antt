@@ -1,10 +1,10 @@
 use Rattle.std.proofs.Common.{refl, ◌∙◌}
 use Rattle.tape_drive.proofs.Looking.{one_look}
-use Rattle.mount_recover.proofs.DocumentLemmas.{document_step, newests_within}
+use Rattle.mount_recover.proofs.DocumentLemmas.{document_step, indexes_within}
 use Rattle.mount_recover.proofs.documents.read_document.Goals as goal
 
 pub locate-requires-clause-within : goal.locate-requires-clause-within
-locate-requires-clause-within g c = newests_within c.args.part c.args.place (g.D.Drive.held c.args.drive.now) c.requires.known
+locate-requires-clause-within g c = indexes_within c.args.part c.args.place (g.D.Drive.held c.args.drive.now) c.requires.known
 
 pub returns-in-Ok-read_blocks : goal.returns-in-Ok-read_blocks
 returns-in-Ok-read_blocks g c =
