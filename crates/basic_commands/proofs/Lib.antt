@@ -1,6 +1,5 @@
 pub mod FormatClauses
 pub mod LabelClauses
-pub mod LabelRanges
 pub mod ListClauses
 pub mod MountClauses
 pub mod MountedTree

@@ -1,88 +1,26 @@
 -- What was mounted has a tree.
-use Rattle.std.proofs.Common.{◌≡◌, ◌∙◌, ℕ, zero, suc, ◌+◌, ◌*◌, ◌/◌, ◌<◌, ◌≤◌, ◌^◌, List, [], ◌∷◌, refl, sym, ap, subst, arith, inl, inr, ◌⊎◌}
-use Rattle.std.specs.List.{AllByRecursion}
-use Rattle.std.proofs.Math.Nat.{div-le_self}
-use Rattle.std.proofs.lemmas.Nat.{mul-le}
+use Rattle.std.proofs.Common.{◌≡◌, ◌∙◌, refl, sym, ap, subst, arith}
 use Rattle.tape_types.specs.Cartridges.{IsLimits}
 use Rattle.tape_types.specs.declared.cartridges.Cartridge.{Cartridge}
 use Rattle.tape_types.specs.declared.cartridges.Limits.{Limits}
-use Rattle.tape_types.specs.declared.cartridges.Part.{Part}
-use Rattle.tape_types.specs.declared.cartridges.Part.TheVariants.{Ip, Dp}
-use Rattle.index_model.specs.Extents.{IsFileAt}
-use Rattle.index_model.specs.Places.{IsAt}
-use Rattle.index_model.specs.declared.nodes.Node.{Node}
-use Rattle.index_model.specs.declared.nodes.RawExtent.{RawExtent}
 use Rattle.extent_map.specs.Cells.{tape_of}
-use Rattle.file_tree.specs.Mounts.{CanMount, EndsNear, IsOnVolume}
+use Rattle.file_tree.specs.Mounts.{CanMount}
 use Rattle.file_tree.specs.Mounts as mounts
-use Rattle.file_tree.proofs.PathLemmas.{some_same}
 use Rattle.ltfs_label.specs.declared.Label.{Label}
 use Rattle.mount_recover.specs.Lasts.{IsSoundMount}
+use Rattle.mount_recover.proofs.MountedTree.{fits_can_mount}
 use Rattle.tape_meaning.specs.Carried.{carried}
-use Rattle.tape_meaning.specs.Meaning.{Fits, FitsKind, FitsNode, end_on}
 use Rattle.tape_meaning.specs.Mounts.{Mounts}
 use Rattle.tape_meaning.specs.Pointers.{letter_of}
 use Rattle.tape_meaning.specs.declared.mounted.Mounted.{Mounted}
 use Rattle.basic_commands.specs.Listings.{IsListingOf, listing_of}
 use Rattle.basic_commands.specs.declared.lists.FoundTree.{FoundTree}
-use Rattle.basic_commands.proofs.LabelRanges.{block_in_range}
-
--- the block of a size within an end that is near
-near_enough : (block size byte count end cap pos inside : ℕ) → 1 ≤ size → size ≤ 2 ^ 20 → end ≤ cap → cap ≤ 2 ^ 40 → block * size + byte + count ≤ end * size
-    → inside < count → block + (byte + inside) / size ≡ pos → pos ≤ 2 ^ 62
-near_enough block size byte count end cap pos inside some small below most high within here =
-    let ends : end * size ≤ 2 ^ 40 * 2 ^ 20 = mul-le end size (2 ^ 40) (2 ^ 20) (omega (arith, below, most)) small in
-    let begins : block * 1 ≤ block * size = mul-le block 1 block size (omega arith) some in
-    let one : block * 1 ≡ block = omega arith in
-    let least : (byte + inside) / size ≤ byte + inside = div-le_self (byte + inside) size in
-    omega (arith, ends, begins, one, least, high, within, here)
-
-module _ (label : Label) (ip dp cap_ip cap_dp : ℕ) (some : 1 ≤ label.block) (small : label.block ≤ 2 ^ 20) (ip_end : ip ≤ cap_ip) (dp_end : dp ≤ cap_dp)
-    (ip_most : cap_ip ≤ 2 ^ 40) (dp_most : cap_dp ≤ 2 ^ 40) where
-  on_one : (part : Part) (letter : ℕ) → letter ≡ letter_of label part → (letter ≡ label.index) ⊎ (letter ≡ label.dpart)
-  on_one Ip letter is = inl is
-  on_one Dp letter is = inr is
-
-  end_most : (part : Part) → end_on part ip dp ≤ 2 ^ 40
-  end_most Ip = omega (arith, ip_end, ip_most)
-  end_most Dp = omega (arith, dp_end, dp_most)
-
-  on_volume : (raws : List RawExtent) → AllByRecursion (λ e. 0 < e.count → Fits label ip dp e) raws → AllByRecursion (IsOnVolume (label.index, label.dpart) label.block) raws
-  on_volume [] fits = tt
-  on_volume (raw ∷ raws) fits = ((λ bytes. let f = fits.0 bytes in (on_one f.part raw.letter f.letter, f.byte)), on_volume raws fits.1)
-
-  near : (raws : List RawExtent) → AllByRecursion (λ e. 0 < e.count → Fits label ip dp e) raws → AllByRecursion (EndsNear (label.index, label.dpart) label.block) raws
-  near [] fits = tt
-  near (raw ∷ raws) fits = (
-    (λ part pos stands.
-        let f = fits.0 (omega (arith, stands.within)) in
-        near_enough raw.block label.block raw.byte raw.count (end_on f.part ip dp) (2 ^ 40) pos stands.byte some small (end_most f.part) (omega arith) f.high stands.within stands.here),
-    near raws fits.1,
-  )
-
-  fits_at : (nodes : List Node) (at : ℕ) (node : Node) → AllByRecursion (FitsNode label ip dp) nodes → IsAt nodes at node → FitsNode label ip dp node
-  fits_at [] at node all is = absurd (cc is)
-  fits_at (n ∷ nodes) zero node all is = subst (FitsNode label ip dp) (some_same n node is) all.0
-  fits_at (n ∷ nodes) (suc at) node all is = fits_at nodes at node all.1 is
-
-  file_fits : (nodes : List Node) (at bytes : ℕ) (raws : List RawExtent) → AllByRecursion (FitsNode label ip dp) nodes → IsFileAt nodes at bytes raws
-      → AllByRecursion (λ e. 0 < e.count → Fits label ip dp e) raws
-  file_fits nodes at bytes raws all file = subst (FitsKind label ip dp) file.file (fits_at nodes at file.node all file.is)
 
 -- the index that was mounted can be made a tree
 pub can_mount : (limits : Limits) (m : Mounted) → IsLimits limits → IsSoundMount limits m → CanMount m.index (m.label.index, m.label.dpart) m.label.block
 can_mount limits m range sound =
-    let size = block_in_range sound.spelled.0 _ sound.spelled.1 in
-    let some : 1 ≤ m.label.block = omega (arith, size.0) in
-    let small : m.label.block ≤ 2 ^ 20 = omega (arith, size.1) in record {
-      valid = sound.valid;
-      differ = sound.letters;
-      some_block = some;
-      on_volume = λ at bytes raws file. on_volume m.label m.end_ip m.end_dp limits.cap_ip limits.cap_dp some small sound.ip_end.1 sound.dp_end.1 range.ip_most range.dp_most raws
-          (file_fits m.label m.end_ip m.end_dp limits.cap_ip limits.cap_dp some small sound.ip_end.1 sound.dp_end.1 range.ip_most range.dp_most m.index.nodes at bytes raws sound.fits file);
-      near = λ at bytes raws file. near m.label m.end_ip m.end_dp limits.cap_ip limits.cap_dp some small sound.ip_end.1 sound.dp_end.1 range.ip_most range.dp_most raws
-          (file_fits m.label m.end_ip m.end_dp limits.cap_ip limits.cap_dp some small sound.ip_end.1 sound.dp_end.1 range.ip_most range.dp_most m.index.nodes at bytes raws sound.fits file);
-    }
+    fits_can_mount m.label m.end_ip m.end_dp m.index sound.spelled sound.letters sound.valid (omega (arith, sound.ip_end.1, range.ip_most))
+    (omega (arith, sound.dp_end.1, range.dp_most)) sound.fits
 
 -- the tree of the index that is found is what the cartridge reads as
 pub is_listing : (c : Cartridge) (m : Mounted) (found : FoundTree) → Mounts c m → mounts.IsTreeOf (m.label.index, m.label.dpart) m.label.block m.index found.tree

@@ -4,9 +4,11 @@ pub mod ExtentLemmas
 pub mod FlagLemmas
 pub mod LabelKept
 pub mod LabelLemmas
+pub mod LabelRanges
 pub mod LastLemmas
 pub mod LetterRanges
 pub mod MountLemmas
+pub mod MountedTree
 pub mod PointerLemmas
 pub mod ReadLemmas
 pub mod ScanLemmas
