@@ -12,7 +12,7 @@ use Rattle.tape_meaning.specs.Meaning.{Found, Fits, end_on}
 use Rattle.tape_meaning.specs.Pointers.{IsOfVolume, PointsOnDp, letter_of, text_of}
 use Rattle.tape_meaning.specs.Worked.{extent, index, label, on_b, third_index, two}
 use Rattle.generation_view.specs.Chain.{AreLinks, Breaks, IsBrokenBehind, IsBrokenOnWay, IsChain, IsLink, IsWayTo, LacksGeneration}
-use Rattle.generation_view.specs.Worked.{Reads, all_three, file, middle, newest, oldest, three}
+use Rattle.generation_view.specs.Worked.{Reads, all_three, crossed, file, middle, newest, oldest, three}
 use Rattle.generation_view.specs.declared.errors.BreakWhy.{BreakWhy}
 use Rattle.generation_view.specs.declared.errors.BreakWhy.TheVariants as breaks
 
@@ -178,9 +178,6 @@ mark_is_none f = by f.part f.letter f.high
     by : (part : Part) → ◌≡◌ {A = ℕ} 98 (letter_of label part) → 8 * 4096 + 0 + 1 ≤ end_on part 4 8 * 4096 → ⊥
     by Ip letter high = omega (arith, letter)
     by Dp letter high = omega (arith, high)
-
-abbrev crossed : Index
-crossed = record middle { nodes = file 2 98 7 0 4096 ∷ file 3 98 8 0 1 ∷ file 4 98 9 0 1 ∷ [] }
 
 pub crosses : (r : Reads newest crossed oldest) → IsBrokenBehind three r.found (newest ∷ []) 9 (breaks.Extent 3)
 crosses r = at_second crossed oldest r (breaks.Extent 3) (

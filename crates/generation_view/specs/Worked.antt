@@ -46,6 +46,10 @@ middle = record (index 2 (on_b 9) (Some (on_b 5))) { nodes = file 2 98 7 0 4096 
 abbrev pub newest : Index
 newest = record (index 4 (on_b 12) (Some (on_b 9))) { nodes = file 2 98 7 0 4096 ∷ [] }
 
+-- the second with two files more, one on its opening mark and one in itself
+abbrev pub crossed : Index
+crossed = record middle { nodes = file 2 98 7 0 4096 ∷ file 3 98 8 0 1 ∷ file 4 98 9 0 1 ∷ [] }
+
 -- the cartridge mounts, and its indexes read as these
 pub record Reads (third second first : Index) : Type 0 where
   pub found : Found three

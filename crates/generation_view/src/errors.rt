@@ -1,6 +1,8 @@
-//! Why a chain breaks.
+//! Why a chain breaks, and why nothing is told of one.
 
 use index_model::IndexErr;
+use tape_meaning::MountErr;
+use tape_types::{Place, Twin};
 
 /// Why the chain of indexes breaks at one of them: the first test that it fails.
 #[derive(Clone, Copy, Debug, PartialEq, Eq)]
@@ -15,4 +17,19 @@ pub enum BreakWhy {
     Rises,
     /// An extent of the file with this UID doesn't end before the index, or before the index partition's end.
     Extent(u64),
+}
+
+/// Why no generation is told.
+#[derive(Clone, Copy, Debug, PartialEq, Eq)]
+pub enum ViewErr {
+    /// The cartridge doesn't mount.
+    Mount(MountErr),
+    /// The chain breaks at the index with this first block.
+    Broken(Place, BreakWhy),
+    /// The way that was needed is sound, and has no such generation.
+    NoGeneration(u64),
+    /// The drive failed: its count of faults before and after.
+    Drive(Twin),
+    /// Memory was refused.
+    NoMemory,
 }

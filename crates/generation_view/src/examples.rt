@@ -11,7 +11,7 @@ ghost use Rattle.tape_types.specs.declared.cartridges.Cartridge.{Cartridge};
 ghost use Rattle.tape_meaning.specs.Meaning.{Found};
 ghost use Rattle.generation_view.specs.Chain.{AreLinks, Breaks, IsBefore, IsBrokenBehind, IsBrokenOnWay, IsChain};
 ghost use Rattle.generation_view.specs.Chain.{IsOlder, IsWayTo, LacksGeneration, behind, last_generation};
-ghost use Rattle.generation_view.specs.Worked.{Reads, all_three, file, middle, newest, oldest, three};
+ghost use Rattle.generation_view.specs.Worked.{Reads, all_three, crossed, file, middle, newest, oldest, three};
 ghost use Rattle.generation_view.specs.declared.errors.BreakWhy.TheVariants.{Text, Volume, Pointer, Rises, Extent};
 
 /// What is asked of the links of a chain beside what a mount asks of the last index.
@@ -66,8 +66,7 @@ pub fn the_definitions_tell_breaks()
         → IsBrokenBehind three r.found (newest ∷ []) 9 Pointer }
     ensures same { (r : Reads newest (index 4 (on_b 9) (Some (on_b 5))) oldest)
         → IsBrokenBehind three r.found (newest ∷ []) 9 Rises }
-    ensures extent { (r : Reads newest (record middle { nodes = file 2 98 7 0 4096 ∷ file 3 98 8 0 1 ∷ file 4 98 9 0 1 ∷ [] })
-        oldest) → IsBrokenBehind three r.found (newest ∷ []) 9 (Extent 3) }
+    ensures extent { (r : Reads newest crossed oldest) → IsBrokenBehind three r.found (newest ∷ []) 9 (Extent 3) }
     ensures not_so_far { (r : Reads newest (index 4 (on_b 9) (Some (on_b 5))) oldest)
         → IsWayTo three r.found 4 [] newest }
     ensures on_way { (r : Reads newest (index 4 (on_b 9) (Some (on_b 5))) oldest)

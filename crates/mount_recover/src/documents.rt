@@ -27,8 +27,8 @@ use tape_meaning::MountErr;
 use tape_types::{Part, Place};
 use volume_scan::Construct;
 
-/// What an index of a partition reads as, which stands there: an index of the volume with this label, or why it is none,
-/// as a mount tells it. Its document takes the memory of the one that was read before. Nothing is written.
+/// What an index of a partition reads as, which stands there: an index of the volume with this label, or why it is
+/// none, as a mount tells it. Its document takes the memory of the one that was read before. Nothing is written.
 ///
 /// # Errors
 ///

@@ -14,7 +14,10 @@ mod scans;
 mod starts;
 
 pub use documents::read_index_at;
+pub use extents::{Ends, first_outside};
 pub use labels::read_labels;
 pub use mounting::mount;
+pub use pointers::points_on_dp;
+pub use scans::scan_one;
 pub use starts::{Start, begin};
 pub use tape_meaning::{Labels, MountErr, Mounted};

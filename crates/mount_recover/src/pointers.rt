@@ -12,7 +12,7 @@ use index_model::{Index, Spot};
 use ltfs_label::Label;
 use volume_scan::Construct;
 
-/// Whether the last index of the data partition points to itself, and back to the last of those before it.
+/// Whether an index of the data partition points to itself, and back to the last of those before it.
 pub fn points_on_dp(label: &Label, first: u64, older: &[Construct], index: &Index) -> bool
     ensures { (k : ConstructOf) (ks : List ConstructOf) → first ≡ first_of k → older.now ≡ map places_of (reverse ks)
         → IsTrue result ↔ PointsOnDp label.now k ks index.now }

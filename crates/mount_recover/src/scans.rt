@@ -35,7 +35,7 @@ pub fn scan_both<D: Drive>(alloc: Global, drive: &mut D, start: Start) -> Result
 }
 
 /// Reads a partition with labels.
-fn scan_one<D: Drive>(
+pub fn scan_one<D: Drive>(
     alloc: Global,
     drive: &mut D,
     start: Start,

@@ -1,0 +1,18 @@
+use Rattle.std.proofs.Common.{arith}
+use Rattle.tape_types.specs.declared.cartridges.Cartridge.{Cartridge}
+use Rattle.tape_meaning.specs.Mounts.{Mounts}
+use Rattle.mount_recover.proofs.StepLemmas.{given_step, known, stops, then_step}
+use Rattle.generation_view.proofs.telling.walk_all.Goals as goal
+
+pub returns-in_err-mounted : goal.returns-in_err-mounted
+returns-in_err-mounted g c =
+    given_step g.D.Drive c.args.start c.from_residual.ensures.1
+    (stops g.D.Drive c.args.start (omega arith) c.in_err-mounted.ensures (λ held h blames. blames))
+
+pub walk_mounted-requires-clause-known : goal.walk_mounted-requires-clause-known
+walk_mounted-requires-clause-known g c =
+    known g.D.Drive c.args.start c.in_ok-mounted.ensures (λ (x : Cartridge). Mounts x c.in_ok-mounted.mounted) (λ held h m. m)
+
+pub returns : goal.returns
+returns g c =
+    then_step g.D.Drive c.args.start c.in_ok-mounted.ensures c.walk_mounted.ensures (λ held h m walk tells. tells) (λ m walk any. any) (λ held h m e blames. blames)

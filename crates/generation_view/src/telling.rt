@@ -1,0 +1,186 @@
+//! All generations of a volume.
+
+ghost use Rattle.std.specs.Prelude.{◌≡◌, ◌≤◌, ◌+◌, ◌*◌, length, Some, IfOk, IfErr, IfSome};
+ghost use Rattle.tape_types.specs.declared.cartridges.Cartridge.{Cartridge};
+ghost use Rattle.tape_drive.specs.Looks.{Looks};
+ghost use Rattle.tape_meaning.specs.Meaning.{Found};
+ghost use Rattle.tape_meaning.specs.Mounts.{Mounts};
+ghost use Rattle.volume_scan.specs.Scans.{AreBetween};
+ghost use Rattle.mount_recover.specs.Lasts.{IsSoundMount};
+ghost use Rattle.mount_recover.specs.Steps.{Blames, IsFree, IsSince, IsStep};
+ghost use Rattle.generation_view.specs.Told.{AreKnown, HasCounts, IsToldOf, RefusesChain, TellsChain, TellsWalk, refusal};
+
+use crate::errors::{BreakWhy, ViewErr};
+use crate::links::{Step, read_link};
+use index_model::Index;
+use ltfs_label::Label;
+use mount_recover::{Start, begin, mount, scan_one};
+use std::alloc::Global;
+use tape_drive::Drive;
+use tape_meaning::{MountErr, Mounted};
+use tape_types::{List, Moment, Part, Place};
+use volume_scan::Construct;
+
+/// A generation of a volume, as its index on the data partition tells it.
+#[derive(Clone, Copy, Debug, PartialEq, Eq)]
+pub struct Generation {
+    pub number: u64,
+    /// The first block of the index.
+    pub block: u64,
+    /// When the volume was last changed.
+    pub updated: Moment,
+    /// How many nodes its tree has, the root among them.
+    pub nodes: u32,
+}
+
+/// How a chain ends.
+#[derive(Drop)]
+pub enum Walked {
+    /// It is whole: its generations, the newest first.
+    Whole(List<Generation>),
+    /// It breaks at the index with this first block.
+    Broken(u64, BreakWhy),
+}
+
+/// The generations that the data partition of a volume still has, the newest first. Nothing is written (LTFS 2.4 on
+/// back pointers).
+///
+/// # Errors
+///
+/// `Mount` where the cartridge doesn't mount; `Broken` at the first index from the newest back that is no link, with
+/// its first block and the first test that it fails; `Drive` where the drive failed, and `NoMemory` where memory was
+/// refused.
+pub fn generations<D: Drive>(alloc: Global, drive: &mut D) -> Result<List<Generation>, ViewErr>
+    ensures found { IfOk result (λ told. (c : Cartridge) → D.held drive.old ≡ Some c → TellsChain told c) }
+    ensures refused { IfErr result (λ e. (c : Cartridge) → D.held drive.old ≡ Some c → RefusesChain e c) }
+    ensures counts { HasCounts (D.faults drive.old) (D.faults drive.new) result }
+    ensures looks { Looks D.Drive
+        ((26 + 2 * (D.limits drive.old).cap_ip + 5 * (D.limits drive.old).cap_dp) * D.MOST) drive.old drive.new }
+{
+    let start = begin(drive);
+    match walk_all(alloc, drive, start) {
+        Ok(Walked::Whole(told)) => Ok(told),
+        Ok(Walked::Broken(pos, why)) => Err(ViewErr::Broken(
+            Place {
+                part: Part::Dp,
+                pos,
+            },
+            why,
+        )),
+        Err(fault) => Err(refusal(fault)),
+    }
+}
+
+/// What a mount's refusal is here.
+fn refusal(fault: MountErr) -> ViewErr
+    ensures { result ≡ refusal fault }
+{
+    match fault {
+        MountErr::Drive(counts) => ViewErr::Drive(counts),
+        MountErr::NoMemory => ViewErr::NoMemory,
+        _ => ViewErr::Mount(fault),
+    }
+}
+
+/// Mounts the cartridge, and walks along the chain.
+fn walk_all<D: Drive>(alloc: Global, drive: &mut D, start: Start) -> Result<Walked, MountErr>
+    requires since { IsSince D.Drive start drive.old }
+    requires now { start.faults ≡ D.faults drive.old }
+    ensures { IsStep D.Drive start ((23 + 2 * start.limits.cap_ip + 2 * start.limits.cap_dp)
+        + ((1 + start.limits.cap_dp) + start.limits.cap_dp)) drive.old drive.new
+        (λ walk c. (found : Found c) × TellsWalk c found walk) (λ walk. Unit {0}) Blames result }
+{
+    let mounted = mount_first(alloc, drive, start)?;
+    walk_mounted(alloc, drive, start, &mounted)
+}
+
+fn mount_first<D: Drive>(alloc: Global, drive: &mut D, start: Start) -> Result<Mounted, MountErr>
+    requires since { IsSince D.Drive start drive.old }
+    requires now { start.faults ≡ D.faults drive.old }
+    ensures { IsStep D.Drive start (23 + 2 * start.limits.cap_ip + 2 * start.limits.cap_dp) drive.old drive.new
+        (λ m c. Mounts c m) (IsSoundMount start.limits) Blames result }
+{
+    mount(alloc, drive)
+}
+
+/// Reads the data partition of what was mounted, and walks along the chain.
+fn walk_mounted<D: Drive>(
+    alloc: Global,
+    drive: &mut D,
+    start: Start,
+    mounted: &Mounted,
+) -> Result<Walked, MountErr>
+    requires since { IsSince D.Drive start drive.old }
+    requires known { IfSome (D.held drive.old) (λ c. Mounts c mounted.now) }
+    ensures { IsStep D.Drive start ((1 + start.limits.cap_dp) + start.limits.cap_dp) drive.old drive.new
+        (λ walk c. (found : Found c) × TellsWalk c found walk) (λ walk. Unit {0}) Blames result }
+{
+    let scan = scan_one(alloc, drive, start, Part::Dp)?;
+    walk(
+        alloc,
+        drive,
+        start,
+        &mounted.label,
+        mounted.end_ip,
+        scan.constructs.into_vec(),
+    )
+}
+
+/// Goes back along the chain, whose indexes stand there with the oldest first.
+fn walk<D: Drive>(
+    alloc: Global,
+    drive: &mut D,
+    start: Start,
+    label: &Label,
+    end_ip: u64,
+    places: Vec<Construct>,
+) -> Result<Walked, MountErr>
+    requires since { IsSince D.Drive start drive.old }
+    requires inside { AreBetween 4 start.limits.cap_dp places.items }
+    requires known { IfSome (D.held drive.old) (AreKnown end_ip places.items) }
+    ensures { IsStep D.Drive start start.limits.cap_dp drive.old drive.new
+        (λ walk c. (found : Found c) → found.labels.ip ≡ label.now → TellsWalk c found walk) (λ walk. Unit {0})
+        IsFree result }
+{
+    let mut left = places;
+    let mut after = None;
+    let mut document = Vec::new(alloc);
+    let mut told = List::new(alloc);
+    while let Some(place) = left.pop() {
+        match read_link(
+            alloc,
+            drive,
+            start,
+            label,
+            end_ip,
+            place,
+            left.as_slice(),
+            after,
+            &mut document,
+        ) {
+            Ok(Step::Link(block, index)) => {
+                after = Some(index.generation);
+                match told.push(told_of(block, &index)) {
+                    Ok(()) => {}
+                    Err(_) => return Err(MountErr::NoMemory),
+                }
+            }
+            Ok(Step::Broken(block, why)) => return Ok(Walked::Broken(block, why)),
+            Err(fault) => return Err(fault),
+        }
+    }
+    Ok(Walked::Whole(told))
+}
+
+/// What is told of an index with this first block.
+fn told_of(block: u64, index: &Index) -> Generation
+    requires { length index.now.nodes ≤ 65536 }
+    ensures { IsToldOf block index.now result }
+{
+    Generation {
+        number: index.generation,
+        block,
+        updated: index.updated,
+        nodes: index.nodes.len() as u32,
+    }
+}
