@@ -1,7 +1,7 @@
 -- How a run goes on, call by call, and what number of commands each acknowledgement has.
-use Rattle.std.specs.Prelude.{◌≡◌, ◌≢◌, ◌⊎◌, ◌<◌, ◌≤◌, ◌+◌, ◌*◌, ◌-◌, ◌^◌, cond, ℕ, Bool, true, false, List, [], ◌∷◌, ◌++◌, All}
-use Rattle.std.specs.Prelude.{filter_map, fold, map, Option, Some, None}
-use Rattle.std.proofs.Common.{refl, sym, ap, ◌∙◌, subst, arith, append_assoc, inl, inr}
+use Rattle.std.specs.Prelude.{◌≡◌, ◌≢◌, ◌⊎◌, ◌<◌, ◌≤◌, ◌+◌, ◌*◌, ◌-◌, ◌^◌, cond, min, ℕ, Bool, true, false, List, [], ◌∷◌, ◌++◌, All}
+use Rattle.std.specs.Prelude.{filter_map, fold, length, map, Option, Some, None}
+use Rattle.std.proofs.Common.{refl, sym, ap, ◌∙◌, subst, arith, append_assoc, length-append, inl, inr}
 use Rattle.std.proofs.lemmas.List.{map-append}
 use Rattle.std.proofs.lemmas.List.Elements.{All-head, All-tail, filter_map-append}
 use Rattle.std.proofs.lemmas.List.Sums.{fold-append}
@@ -18,7 +18,7 @@ use Rattle.session_script.specs.declared.logs.Event.TheVariants as events
 use Rattle.head_core.specs.Steps.{IsCounted, IsEndOfFlush, IsEndOfOp, IsEndOfPut, IsEndOfRead, head_after, least_commands, most_commands}
 use Rattle.head_core.specs.declared.work.StepDone.{StepDone}
 use Rattle.head_core.specs.declared.work.StepDone.TheVariants as ends
-use Rattle.head_trail.specs.Trail.{after, after_all, fault_of}
+use Rattle.head_trail.specs.Trail.{after, after_all, fault_of, step_to, steps}
 use Rattle.head_trail.specs.Waiting as waiting
 use Rattle.head_trail.specs.Waiting.{State, first_of, ops, start}
 use Rattle.tape_layout.specs.Ops.{place_of}
@@ -34,7 +34,7 @@ use Rattle.volume_order.specs.Kept.{seen}
 use Rattle.volume_logs.specs.Acts as acts
 use Rattle.volume_logs.specs.Acts.{AreActs, EndedSo, HasGone, IsActOf, IsGone, IsServedThen, Moves, commands_in}
 use Rattle.volume_logs.specs.Acts.{StandsBehind, commands_of, numbered}
-use Rattle.volume_logs.specs.Laws.{AcksAreExact, HeadsFollowActs}
+use Rattle.volume_logs.specs.Laws.{AcksAreExact, HeadsFollowActs, StepsTakeCommands}
 
 -- The acks of events one behind the other.
 pub acks_append : (commands : ℕ) (xs ys : List Event)
@@ -323,3 +323,64 @@ exact_of drive Holds first last _ _ _
 pub acks_are_exact : {D : Type 0} (drive : Ghosts D) → AcksAreExact drive
 acks_are_exact drive first last history trail acks gone one none low =
     exact_of drive (λ history acks d. Unit {0}) first last history trail acks gone one none low
+
+-- ---- steps and commands
+
+no_steps : (added : List Event) → All (λ e. is_step e ≡ false) added → steps added ≡ 0
+no_steps [] none = refl
+no_steps (e ∷ later) none =
+    by e (All-head (λ (e : Event). is_step e ≡ false) e later none)
+    (no_steps later (All-tail (λ (e : Event). is_step e ≡ false) e later none))
+  where
+    by : (e : Event) → is_step e ≡ false → steps later ≡ 0 → steps (e ∷ later) ≡ 0
+    by (events.Wants ticket place) is rest = rest
+    by (events.Queues place) is rest = rest
+    by (events.Syncs ticket) is rest = rest
+    by (events.Synced ticket) is rest = rest
+    by (events.Drains who) is rest = rest
+    by (events.Rests who) is rest = rest
+    by (events.Served ticket place fault) is rest = absurd (cc is)
+    by (events.Worked place fault) is rest = absurd (cc is)
+
+takes_one : (end : StepDone) → 1 ≤ least_commands end
+takes_one (ends.Read answer) = omega arith
+takes_one ends.Wrote = omega arith
+takes_one ends.Flushed = omega arith
+takes_one (ends.Failed counts) = omega arith
+
+steps_of : {D : Type 0} (drive : Ghosts D) (st : State) (old new : D) (added : List Event)
+    → AreActs drive st old new added → min (drive.commands old + steps added) (2 ^ 64 - 1) ≤ drive.commands new
+steps_of drive st old new _ (acts.none added all still) =
+    omega (arith, ap drive.commands still, no_steps added all)
+steps_of drive st old new _ (acts.one e others act all) = by e act
+  where
+    by : (e : Event) → IsActOf drive st old new e
+        → min (drive.commands old + steps (e ∷ others)) (2 ^ 64 - 1) ≤ drive.commands new
+    by (events.Worked place fault) (op, later, end, first, at, well, step) =
+        omega (arith, step.made.commands.at_least, takes_one end, no_steps others all)
+    by (events.Served ticket place fault) (end, well, step) =
+        omega (arith, step.made.commands.at_least, takes_one end, no_steps others all)
+    by (events.Wants ticket place) act = absurd act
+    by (events.Queues place) act = absurd act
+    by (events.Syncs ticket) act = absurd act
+    by (events.Synced ticket) act = absurd act
+    by (events.Drains who) act = absurd act
+    by (events.Rests who) act = absurd act
+
+risen : {D : Type 0} (drive : Ghosts D) (Holds : List Placed → List Ack → D → Type 0) (first last : D)
+    (history : List Placed) (trail : List Event) (acks : List Ack)
+    → HasGone drive Holds first history trail acks last
+    → min (drive.commands first + steps trail) (2 ^ 64 - 1) ≤ drive.commands last
+risen drive Holds first _ _ _ _ (acts.begun holds) = omega arith
+risen drive Holds first last _ _ _ (acts.called history placed trail added acks old _ gone few act holds) =
+    omega (
+      arith,
+      risen drive Holds first old history trail acks gone,
+      steps_of drive (after_all trail) old last added act,
+      ap length (filter_map-append step_to trail added),
+      length-append (filter_map step_to trail) (filter_map step_to added),
+    )
+
+pub steps_take_commands : {D : Type 0} (drive : Ghosts D) → StepsTakeCommands drive
+steps_take_commands drive first last history trail acks gone =
+    risen drive (λ history acks d. Unit {0}) first last history trail acks gone

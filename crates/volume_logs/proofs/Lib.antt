@@ -6,3 +6,4 @@ pub mod LogLaws
 pub mod Gone
 pub mod Asking
 pub mod Loading
+pub mod WrongWays

@@ -1,10 +1,11 @@
 -- That each call of a served volume keeps what its log tells.
-use Rattle.std.specs.Prelude.{ℕ, ◌≡◌, ◌+◌, ◌-◌, ◌^◌, ◌<◌, List, [], filter_map, Option}
+use Rattle.std.specs.Prelude.{ℕ, ◌≡◌, ◌+◌, ◌-◌, ◌^◌, ◌<◌, ◌≤◌, min, List, [], ◌∷◌, filter_map, Option}
 use Rattle.tape_types.specs.declared.moments.Moment.{Moment}
 use Rattle.plain_tree.specs.declared.calls.Placed.{Placed}
 use Rattle.session_script.specs.declared.logs.Ack.{Ack}
 use Rattle.session_script.specs.declared.logs.Event.{Event}
-use Rattle.head_trail.specs.Trail.{fault_of}
+use Rattle.head_trail.specs.Rows.{one_sync, two_faults}
+use Rattle.head_trail.specs.Trail.{fault_of, steps}
 use Rattle.head_trail.specs.Waiting.{State, first_of, ops, start}
 use Rattle.volume_model.specs.Crash.{Meaning}
 use Rattle.volume_model.specs.Ends.{begun}
@@ -60,3 +61,34 @@ AcksAreExact {D} drive = (first last : D) (history : List Placed) (trail : List 
     → filter_map fault_of trail ≡ [] → drive.commands last < 2 ^ 64 - 1
     → (acks ≡ numbered start (drive.commands first) trail)
     × (drive.commands last ≡ drive.commands first + commands_in start trail)
+
+-- Each step has taken a command at least, unless the count stands at its end.
+abbrev pub StepsTakeCommands : {D : Type 0} → Ghosts D → Type 0
+StepsTakeCommands {D} drive = (first last : D) (history : List Placed) (trail : List Event) (acks : List Ack)
+    → HasGone drive (λ history acks d. Unit {0}) first history trail acks last
+    → min (drive.commands first + steps trail) (2 ^ 64 - 1) ≤ drive.commands last
+
+-- one acknowledgement
+abbrev pub ack : ℕ → ℕ → List Ack
+ack place command = record { place = place; command = command } ∷ []
+
+-- a way along a trail of which a command counts one, and the count is low
+pub record IsLowWay {D : Type 0} (drive : Ghosts D) (first : D) (trail : List Event) (acks : List Ack) (last : D)
+    : Type 0 where
+  pub one : drive.MOST ≡ 1
+  pub low : drive.commands last < 2 ^ 64 - 1
+  pub history : List Placed
+  pub gone : HasGone drive (λ history acks d. Unit {0}) first history trail acks last
+
+-- Of a run with one sync, a way has the acknowledgement at the ninth command, and no other; and it has eleven commands. A
+-- drive that failed in one command isn't told of two faults.
+pub record WrongWaysAreNone {D : Type 0} (drive : Ghosts D) : Type 0 where
+  pub acknowledged : (first last : D) (command : ℕ) → IsLowWay drive first one_sync (ack 2 command) last
+      → command ≡ drive.commands first + 9
+  pub late_isnt : (first last : D) → ¬ IsLowWay drive first one_sync (ack 2 (drive.commands first + 10)) last
+  pub early_isnt : (first last : D) → ¬ IsLowWay drive first one_sync (ack 2 (drive.commands first + 8)) last
+  pub missing_isnt : (first last : D) → ¬ IsLowWay drive first one_sync [] last
+  pub retried_isnt : (first last : D) (acks : List Ack) → IsLowWay drive first one_sync acks last
+      → ¬ (drive.commands last ≡ drive.commands first + 12)
+  pub told_twice_isnt : (first last : D) (acks : List Ack) → IsLowWay drive first two_faults acks last
+      → ¬ (drive.commands last ≡ drive.commands first + 3)

@@ -1,7 +1,7 @@
 //! Laws of logs, over any drive.
 
 ghost use Rattle.volume_model.specs.Meanings.{cartridges};
-ghost use Rattle.volume_logs.specs.Laws.{AcksAreExact, HeadsFollowActs, LogsGoOn};
+ghost use Rattle.volume_logs.specs.Laws.{AcksAreExact, HeadsFollowActs, LogsGoOn, StepsTakeCommands, WrongWaysAreNone};
 
 use tape_drive::Drive;
 
@@ -21,4 +21,13 @@ pub fn acks_are_exact<D: Drive>()
 #[tactic(auto, using(crate::proofs::Gone::heads_follow_acts))]
 pub fn heads_follow_acts<D: Drive>()
     ensures { HeadsFollowActs D.Drive }
+{}
+
+/// Each step takes a command at least; and worked runs have no other acknowledgements and no other number of commands
+/// than these: none that came late or early, none left out, none of a step that was done twice in silence, and no fault
+/// told twice.
+#[tactic(auto, using(crate::proofs::Gone::steps_take_commands, crate::proofs::WrongWays::wrong_ways_are_none))]
+pub fn wrong_ways_are_none<D: Drive>()
+    ensures steps { StepsTakeCommands D.Drive }
+    ensures rows { WrongWaysAreNone D.Drive }
 {}

@@ -4,4 +4,4 @@
 
 mod laws;
 
-pub use laws::{acks_are_exact, heads_follow_acts, logs_go_on};
+pub use laws::{acks_are_exact, heads_follow_acts, logs_go_on, wrong_ways_are_none};
