@@ -188,7 +188,8 @@ module _ {D : Type 0} (drive : Ghosts D) (script : List ScriptLine) (at : Option
     first = v.fixed.first;
     last = v.drive;
     looked = played.looked;
-    mounted = λ c told. (v.fixed.mounted, v.fixed.tree, played.mounted c told);
+    mounted = λ c told.
+        let found = played.mounted c told in (v.fixed.mounted, v.fixed.tree, found.0, found.1);
     gone = subst
         (λ (e : List Placed × List Event × List Ack).
         HasGone drive (IsFoundThen drive script start) v.fixed.first e.0 e.1 e.2 v.drive)
