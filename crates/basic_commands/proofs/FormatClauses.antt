@@ -5,7 +5,7 @@ use Rattle.tape_types.specs.Counts.{Rose}
 use Rattle.tape_types.specs.declared.moments.Moment.{Moment}
 use Rattle.session_script.specs.declared.logs.Log.{Log}
 use Rattle.tape_drive.specs.declared.drive.Drive.{Ghosts}
-use Rattle.tape_meaning.specs.declared.errors.MountErr.TheVariants as mounts
+use Rattle.cartridge_meaning.specs.declared.errors.MountErr.TheVariants as mounts
 use Rattle.format_volume.specs.Outcomes.{AreCounts, CanStand, IsUntouched, Refuses}
 use Rattle.format_volume.specs.Refusals.{spec_fault}
 use Rattle.format_volume.specs.Volumes.{full}
@@ -13,8 +13,8 @@ use Rattle.format_volume.specs.Writes.{Goes}
 use Rattle.format_volume.proofs.WriteLemmas.{goes_still}
 use Rattle.format_volume.specs.declared.requests.FormatErr.{FormatErr}
 use Rattle.format_volume.specs.declared.requests.FormatErr.TheVariants as errors
-use Rattle.server_words.specs.Volumes.{spec_at}
-use Rattle.server_words.specs.declared.volumes.FormatWords.{FormatWords}
+use Rattle.command_line.specs.Volumes.{spec_at}
+use Rattle.command_line.specs.declared.volumes.FormatWords.{FormatWords}
 use Rattle.basic_commands.specs.Formats.{AlwaysFits, FormatEnd, IsFormatEnd, IsFormatted, IsFormattedAs, IsFullPrinted, IsMadeAt, IsUnformatted, NeverFits, end_status, end_text, format_status, format_text, formatted, formatted_text, unformatted, untold}
 use Rattle.basic_commands.specs.Headline.{IsDriveFaultPrinted}
 use Rattle.basic_commands.specs.Labels.{mount_text}

@@ -8,10 +8,10 @@ use Rattle.tape_drive.specs.Looks.{Looks}
 use Rattle.tape_drive.specs.declared.drive.Drive.{Ghosts}
 use Rattle.mount_recover.specs.Labels.{AreCounts, Fails}
 use Rattle.mount_recover.proofs.LabelLemmas.{is_read_as}
-use Rattle.tape_meaning.specs.Labels.{HasLabels}
-use Rattle.tape_meaning.specs.declared.labels.Labels.{Labels}
-use Rattle.tape_meaning.specs.declared.errors.MountErr.{MountErr}
-use Rattle.tape_meaning.specs.declared.errors.MountErr.TheVariants as errors
+use Rattle.cartridge_meaning.specs.Labels.{HasLabels}
+use Rattle.cartridge_meaning.specs.declared.labels.Labels.{Labels}
+use Rattle.cartridge_meaning.specs.declared.errors.MountErr.{MountErr}
+use Rattle.cartridge_meaning.specs.declared.errors.MountErr.TheVariants as errors
 use Rattle.basic_commands.specs.Headline.{AreLabelsPrinted, IsCheckPrinted, IsDriveFaultPrinted}
 use Rattle.basic_commands.specs.Labels.{mount_status, mount_text}
 use Rattle.basic_commands.specs.Outcomes.{EndsAs, IsLabelEnd, IsTold, LabelEnd, label_status, label_text, labelled, of_label, unlabelled}

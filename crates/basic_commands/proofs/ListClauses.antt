@@ -13,9 +13,9 @@ use Rattle.tape_drive.specs.declared.drive.Drive.{Ghosts}
 use Rattle.mount_recover.specs.Labels.{AreCounts}
 use Rattle.mount_recover.specs.Steps.{Blames}
 use Rattle.tape_edge.specs.Streams.{AppendsFront}
-use Rattle.tape_meaning.specs.declared.errors.MountErr.{MountErr}
-use Rattle.tape_meaning.specs.declared.errors.MountErr.TheVariants as errors
-use Rattle.tape_meaning.specs.Meaning.{Found}
+use Rattle.cartridge_meaning.specs.declared.errors.MountErr.{MountErr}
+use Rattle.cartridge_meaning.specs.declared.errors.MountErr.TheVariants as errors
+use Rattle.cartridge_meaning.specs.Meaning.{Found}
 use Rattle.tree_listing.specs.Listing.{IsCutShort, first_lines, listing_text}
 use Rattle.tree_listing.specs.declared.errors.ListErr.{ListErr}
 use Rattle.tree_listing.specs.declared.errors.ListErr.TheVariants as list_errors

@@ -6,11 +6,11 @@ use Rattle.tape_types.specs.Counts.{Rose}
 use Rattle.tape_types.specs.declared.cartridges.Cartridge.{Cartridge}
 use Rattle.mount_recover.specs.Labels.{AreCounts}
 use Rattle.mount_recover.specs.Steps.{Blames}
-use Rattle.tape_meaning.specs.Faults.{MountFault}
-use Rattle.tape_meaning.specs.Meaning.{Found}
-use Rattle.tape_meaning.proofs.OneFault.{found_no_fault}
-use Rattle.tape_meaning.specs.declared.errors.MountErr.{MountErr}
-use Rattle.tape_meaning.specs.declared.errors.MountErr.TheVariants as errors
+use Rattle.cartridge_meaning.specs.Faults.{MountFault}
+use Rattle.cartridge_meaning.specs.Meaning.{Found}
+use Rattle.cartridge_meaning.proofs.OneFault.{found_no_fault}
+use Rattle.cartridge_meaning.specs.declared.errors.MountErr.{MountErr}
+use Rattle.cartridge_meaning.specs.declared.errors.MountErr.TheVariants as errors
 use Rattle.basic_commands.specs.Headline.{IsDriveFaultPrinted}
 use Rattle.basic_commands.specs.Labels.{mount_status, mount_text}
 use Rattle.basic_commands.specs.Runs.{IsOneOf}

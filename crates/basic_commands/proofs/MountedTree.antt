@@ -9,10 +9,10 @@ use Rattle.file_tree.specs.Mounts as mounts
 use Rattle.ltfs_label.specs.declared.Label.{Label}
 use Rattle.mount_recover.specs.Lasts.{IsSoundMount}
 use Rattle.mount_recover.proofs.MountedTree.{fits_can_mount}
-use Rattle.tape_meaning.specs.Carried.{carried}
-use Rattle.tape_meaning.specs.Mounts.{Mounts}
-use Rattle.tape_meaning.specs.Pointers.{letter_of}
-use Rattle.tape_meaning.specs.declared.mounted.Mounted.{Mounted}
+use Rattle.cartridge_meaning.specs.Carried.{carried}
+use Rattle.cartridge_meaning.specs.Mounts.{Mounts}
+use Rattle.cartridge_meaning.specs.Pointers.{letter_of}
+use Rattle.cartridge_meaning.specs.declared.mounted.Mounted.{Mounted}
 use Rattle.basic_commands.specs.Listings.{IsListingOf, listing_of}
 use Rattle.basic_commands.specs.declared.lists.FoundTree.{FoundTree}
 

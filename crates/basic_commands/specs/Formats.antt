@@ -8,7 +8,7 @@ use Rattle.tape_types.specs.declared.cartridges.Twin.{Twin}
 use Rattle.tape_types.specs.declared.moments.Moment.{Moment}
 use Rattle.tape_drive.specs.Crashes.{IsSure}
 use Rattle.tape_drive.specs.declared.drive.Drive.{Ghosts}
-use Rattle.tape_meaning.specs.declared.errors.MountErr.TheVariants as mounts
+use Rattle.cartridge_meaning.specs.declared.errors.MountErr.TheVariants as mounts
 use Rattle.format_volume.specs.Meanings.{IsEmptyVolume}
 use Rattle.format_volume.specs.Outcomes.{AreCounts, CanStand, IsSureSince}
 use Rattle.format_volume.specs.Steps.{HoldsVolume}
@@ -16,8 +16,8 @@ use Rattle.format_volume.specs.Volumes.{full}
 use Rattle.format_volume.specs.declared.requests.FormatErr.{FormatErr}
 use Rattle.format_volume.specs.declared.requests.FormatErr.TheVariants as errors
 use Rattle.format_volume.specs.declared.requests.FormatSpec.{FormatSpec}
-use Rattle.server_words.specs.Volumes.{spec_at}
-use Rattle.server_words.specs.declared.volumes.FormatWords.{FormatWords}
+use Rattle.command_line.specs.Volumes.{spec_at}
+use Rattle.command_line.specs.declared.volumes.FormatWords.{FormatWords}
 use Rattle.basic_commands.specs.Headline.{IsMoment}
 use Rattle.basic_commands.specs.Labels.{mount_text}
 use Rattle.basic_commands.specs.Runs.{Gives}

@@ -6,11 +6,11 @@ use Rattle.tape_types.specs.Counts.{IsRise, Rose}
 use Rattle.tape_types.specs.declared.moments.Moment.{Moment}
 use Rattle.tape_types.specs.declared.cartridges.Cartridge.{Cartridge}
 use Rattle.mount_recover.specs.Labels.{Fails}
-use Rattle.tape_meaning.specs.Labels.{HasLabels}
-use Rattle.tape_meaning.specs.declared.labels.Labels.{Labels}
-use Rattle.tape_meaning.specs.declared.errors.MountErr.{MountErr}
-use Rattle.tape_meaning.specs.Faults.{MountFault}
-use Rattle.tape_meaning.specs.declared.errors.MountErr.TheVariants as errors
+use Rattle.cartridge_meaning.specs.Labels.{HasLabels}
+use Rattle.cartridge_meaning.specs.declared.labels.Labels.{Labels}
+use Rattle.cartridge_meaning.specs.declared.errors.MountErr.{MountErr}
+use Rattle.cartridge_meaning.specs.Faults.{MountFault}
+use Rattle.cartridge_meaning.specs.declared.errors.MountErr.TheVariants as errors
 use Rattle.tape_types.specs.declared.cartridges.Twin.{Twin}
 use Rattle.tree_listing.specs.Listing.{first_lines}
 use Rattle.basic_commands.specs.Labels.{labels_text, mount_status, mount_text}

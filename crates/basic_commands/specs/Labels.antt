@@ -9,9 +9,9 @@ use Rattle.vol_label.specs.declared.Vol1.{Vol1}
 use Rattle.ltfs_label.specs.declared.Label.{Label}
 use Rattle.tape_types.specs.declared.cartridges.Place.{Place}
 use Rattle.index_model.specs.Telling.{refusal_text}
-use Rattle.tape_meaning.specs.declared.labels.Labels.{Labels}
-use Rattle.tape_meaning.specs.declared.errors.MountErr.{MountErr}
-use Rattle.tape_meaning.specs.declared.errors.MountErr.TheVariants as errors
+use Rattle.cartridge_meaning.specs.declared.labels.Labels.{Labels}
+use Rattle.cartridge_meaning.specs.declared.errors.MountErr.{MountErr}
+use Rattle.cartridge_meaning.specs.declared.errors.MountErr.TheVariants as errors
 
 abbrev pub part_name : Part → List ℕ
 part_name parts.Ip = codes "ip"

@@ -6,10 +6,10 @@ use Rattle.index_model.specs.declared.indexes.Spot.{Spot}
 use Rattle.plain_tree.specs.Tree.{Tree}
 use Rattle.extent_map.specs.Cells.{Tape}
 use Rattle.file_tree.specs.Tree.{plain_of}
-use Rattle.tape_meaning.specs.Carried.{Carried}
-use Rattle.tape_meaning.specs.Meaning.{Reads}
-use Rattle.tape_meaning.specs.Mounts.{chosen_place}
-use Rattle.tape_meaning.specs.Pointers.{letter_of}
+use Rattle.cartridge_meaning.specs.Carried.{Carried}
+use Rattle.cartridge_meaning.specs.Meaning.{Reads}
+use Rattle.cartridge_meaning.specs.Mounts.{chosen_place}
+use Rattle.cartridge_meaning.specs.Pointers.{letter_of}
 use Rattle.tree_listing.specs.Listing.{listing_text}
 use Rattle.basic_commands.specs.declared.lists.FoundTree.{FoundTree}
 

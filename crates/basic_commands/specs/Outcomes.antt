@@ -8,9 +8,9 @@ use Rattle.session_script.specs.Grammar.{script_of}
 use Rattle.session_script.specs.declared.logs.Log.{Log}
 use Rattle.mount_recover.specs.Labels.{AreCounts, Fails}
 use Rattle.mount_recover.specs.Steps.{Blames}
-use Rattle.tape_meaning.specs.Labels.{HasLabels}
-use Rattle.tape_meaning.specs.declared.labels.Labels.{Labels}
-use Rattle.tape_meaning.specs.declared.errors.MountErr.{MountErr}
+use Rattle.cartridge_meaning.specs.Labels.{HasLabels}
+use Rattle.cartridge_meaning.specs.declared.labels.Labels.{Labels}
+use Rattle.cartridge_meaning.specs.declared.errors.MountErr.{MountErr}
 use Rattle.tree_listing.specs.Listing.{first_lines}
 use Rattle.basic_commands.specs.Formats.{FormatEnd, end_status, end_text}
 use Rattle.basic_commands.specs.Labels.{labels_text, mount_status, mount_text}

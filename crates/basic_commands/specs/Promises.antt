@@ -10,12 +10,12 @@ use Rattle.session_script.specs.Grammar.{script_of}
 use Rattle.session_script.specs.declared.logs.Log.{Log}
 use Rattle.tape_drive.specs.Looks.{Looks}
 use Rattle.tape_drive.specs.declared.drive.Drive.{Ghosts}
-use Rattle.tape_meaning.specs.Carried.{Carried}
-use Rattle.tape_meaning.specs.Labels.{HasLabels}
-use Rattle.tape_meaning.specs.Meaning.{Found, Reads}
-use Rattle.tape_meaning.specs.declared.labels.Labels.{Labels}
+use Rattle.cartridge_meaning.specs.Carried.{Carried}
+use Rattle.cartridge_meaning.specs.Labels.{HasLabels}
+use Rattle.cartridge_meaning.specs.Meaning.{Found, Reads}
+use Rattle.cartridge_meaning.specs.declared.labels.Labels.{Labels}
 use Rattle.format_volume.specs.Writes.{Goes}
-use Rattle.server_words.specs.declared.volumes.FormatWords.{FormatWords}
+use Rattle.command_line.specs.declared.volumes.FormatWords.{FormatWords}
 use Rattle.basic_commands.specs.Formats.{AlwaysFits, FormatEnd, IsFormatEnd, IsFormattedAs, IsFullPrinted, NeverFits}
 use Rattle.basic_commands.specs.Formats.{formatted_text}
 use Rattle.basic_commands.specs.Headline.{AreLabelsPrinted, IsCheckPrinted, IsDriveFaultPrinted, IsListingPrinted}

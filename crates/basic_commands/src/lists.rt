@@ -1,7 +1,7 @@
 ghost use Rattle.std.specs.Prelude.{◌≡◌, ◌+◌, ◌*◌, Some, IfOk, IfErr};
 ghost use Rattle.extent_map.specs.Cells.{Tape, tape_of};
 ghost use Rattle.tape_drive.specs.Looks.{Looks};
-ghost use Rattle.tape_meaning.specs.Pointers.{letter_of};
+ghost use Rattle.cartridge_meaning.specs.Pointers.{letter_of};
 ghost use Rattle.tape_types.specs.declared.cartridges.Cartridge.{Cartridge};
 ghost use Rattle.mount_recover.specs.Labels.{HasCounts};
 ghost use Rattle.mount_recover.specs.Steps.{Blames};

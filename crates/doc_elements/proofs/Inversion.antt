@@ -13,10 +13,10 @@ use Rattle.doc_elements.specs.declared.schema.Child.TheVariants as child
 use Rattle.doc_elements.specs.declared.errors.PieceErr.{PieceErr}
 use Rattle.doc_elements.specs.declared.errors.PieceErr.TheVariants as errors
 use Rattle.doc_elements.specs.Schema.{rule, required, tag_of, may_repeat, excludes}
-use Rattle.doc_children.specs.Children.{member, first_missing}
+use Rattle.doc_elements.specs.Children.{member, first_missing}
 use Rattle.doc_elements.specs.Pieces.{Piece, opens, whole, closes, leaf, Frame, ◌>>=◌, lift, none_missing, beside, has_any, if_known, opens_node, verdict, unknown_first, leaf_at, made, child_at, close_at, piece_at}
 use Rattle.doc_elements.specs.Elements.{Starts, MayFollow}
-use Rattle.doc_children.proofs.Tags.{named_opens, end_closes}
+use Rattle.doc_elements.proofs.Tags.{named_opens, end_closes}
 use Rattle.doc_elements.proofs.Parents.{rule_tag}
 
 -- ---- tools

@@ -1,3 +1,6 @@
+pub mod Bits
+pub mod Missing
+pub mod Tags
 pub mod BareTexts
 pub mod Names
 pub mod Parents

@@ -12,7 +12,7 @@ use Rattle.doc_fields.specs.Written.{attribute_text, end_text, start_text}
 use Rattle.doc_fields.proofs.Again.{next_is, space_again}
 use Rattle.doc_fields.proofs.TagsAgain.{end_again, opened}
 use Rattle.doc_fields.proofs.WrittenBytes.{ascii_valid}
-use Rattle.doc_children.specs.Children.{member}
+use Rattle.doc_elements.specs.Children.{member}
 use Rattle.doc_elements.specs.declared.schema.Place.{Place}
 use Rattle.doc_elements.specs.declared.schema.Form.{Form}
 use Rattle.doc_elements.specs.declared.schema.Child.{Child}

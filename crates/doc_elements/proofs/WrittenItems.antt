@@ -13,7 +13,7 @@ use Rattle.doc_fields.specs.Values.{lock_word}
 use Rattle.doc_fields.specs.Written.{bool_text, end_text, escape, may_have, start_text}
 use Rattle.doc_fields.proofs.Again.{all_pass}
 use Rattle.doc_fields.proofs.WrittenBytes.{is_ascii}
-use Rattle.doc_children.specs.Children.{member, first_missing}
+use Rattle.doc_elements.specs.Children.{member, first_missing}
 use Rattle.ltfs_text.specs.declared.names.NameText.{NameText}
 use Rattle.ltfs_text.specs.Names.{written}
 use Rattle.doc_elements.specs.declared.schema.Place.{Place}

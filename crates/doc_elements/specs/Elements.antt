@@ -8,7 +8,7 @@ use Rattle.doc_fields.specs.declared.starts.Start.{Start}
 use Rattle.doc_fields.specs.Space.{space_end}
 use Rattle.doc_fields.specs.StartTag.{named_at, rest_at}
 use Rattle.doc_fields.specs.EndTag.{end_at}
-use Rattle.doc_children.specs.Children.{member, first_missing}
+use Rattle.doc_elements.specs.Children.{member, first_missing}
 use Rattle.doc_elements.specs.declared.schema.Place.{Place}
 use Rattle.doc_elements.specs.declared.schema.Form.{Form}
 use Rattle.doc_elements.specs.declared.schema.Child.{Child}

@@ -1,3 +1,4 @@
+pub mod Children
 pub mod Bare
 pub mod Blocks
 pub mod Schema

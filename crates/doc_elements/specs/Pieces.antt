@@ -22,7 +22,7 @@ use Rattle.doc_fields.specs.Texts.{text_at}
 use Rattle.doc_fields.specs.Values.{bool_at, letter_at, lock_at, time_at, uuid_at}
 use Rattle.doc_fields.specs.StartTag.{named_at, rest_at}
 use Rattle.doc_fields.specs.EndTag.{end_at}
-use Rattle.doc_children.specs.Children.{member, first_missing}
+use Rattle.doc_elements.specs.Children.{member, first_missing}
 use Rattle.ltfs_text.specs.Names.{decoded}
 use Rattle.node_keys.specs.Keys.{is_key}
 use Rattle.doc_elements.specs.declared.errors.PieceErr.{PieceErr}

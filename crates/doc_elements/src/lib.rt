@@ -2,6 +2,7 @@
 //! the piece of a document that follows (LTFS 2.4 on the format label and on the index).
 #![tactic(auto)]
 
+mod children;
 mod encodings;
 mod errors;
 mod heads;
@@ -11,6 +12,7 @@ mod pieces;
 mod schema;
 mod values;
 
+pub use children::Children;
 pub use errors::PieceErr;
 pub use heads::{readable, skip_head};
 pub use laws::{attributes_read_back, pieces_are_elements, texts_are_read_in_one_way};

@@ -2,17 +2,17 @@
 
 ghost use Rattle.std.specs.Prelude.{◌≡◌, ◌≤◌, ◌<◌, ◌+◌, ℕ, true, List, length, IfOk};
 ghost use Rattle.doc_fields.specs.declared.tags.Tag.{Tag};
-ghost use Rattle.doc_children.specs.Children.{Holds, first_missing};
+ghost use Rattle.doc_elements.specs.Children.{Holds, first_missing};
 ghost use Rattle.doc_elements.specs.Pieces.{beside, child_at, close_at, has_any, made, none_missing, opens_node};
 ghost use Rattle.doc_elements.specs.Pieces.{piece_at, verdict};
 ghost use Rattle.doc_elements.specs.Schema.{required};
 ghost use Rattle.doc_elements.specs.Answers.{Gives, HasRoom, piece_of};
 
+use crate::children::Children;
 use crate::errors::PieceErr;
 use crate::likely::likely;
 use crate::schema::{Child, Place, child_of, excludes, is_node, may_repeat, required, tag_of};
 use crate::values::{Value, leaf};
-use doc_children::Children;
 use doc_fields::{Start, Tag, Why, byte, plain_start, read_end, read_name, read_rest, skip_space};
 use std::alloc::Global;
 

@@ -8,8 +8,8 @@ use Rattle.tape_types.specs.declared.moments.Moment.{Moment}
 use Rattle.plain_tree.specs.Tree.{Tree}
 use Rattle.session_script.specs.declared.scripts.ScriptLine.{ScriptLine}
 use Rattle.tape_drive.specs.Crashes.{LeavesAllowed, WithinWrite}
-use Rattle.tape_meaning.specs.Carried.{Carried}
-use Rattle.volume_crashes.specs.May.{IsLeftBy}
+use Rattle.cartridge_meaning.specs.Carried.{Carried}
+use Rattle.crash_laws.specs.May.{IsLeftBy}
 use Rattle.fenced_drive.specs.Laws.{AllowsThePromise, ForbidsErasing}
 
 pub allows_the_promise : AllowsThePromise

@@ -10,11 +10,11 @@ use Rattle.plain_tree.specs.declared.calls.Placed.{Placed}
 use Rattle.session_script.specs.Grammar.{calls_of}
 use Rattle.session_script.specs.declared.scripts.ScriptLine.{ScriptLine}
 use Rattle.tape_drive.specs.Crashes.{LeavesAllowed, WithinWrite}
-use Rattle.tape_meaning.specs.Carried.{Carried}
-use Rattle.volume_model.specs.Crash.{IsSound, StandsWithin}
-use Rattle.volume_model.specs.Meanings.{cartridges}
-use Rattle.volume_model.specs.Served.{IsPlacedSoFar}
-use Rattle.volume_crashes.specs.May.{IsLeftBy}
+use Rattle.cartridge_meaning.specs.Carried.{Carried}
+use Rattle.serving_promise.specs.Crash.{IsSound, StandsWithin}
+use Rattle.serving_promise.specs.Meanings.{cartridges}
+use Rattle.serving_promise.specs.Served.{IsPlacedSoFar}
+use Rattle.crash_laws.specs.May.{IsLeftBy}
 
 -- Each image that is allowed is sound, and stands for the tree after some first placements of a history of the script.
 abbrev pub AllowsThePromise : Type 0

@@ -3,7 +3,7 @@ ghost use Rattle.std.specs.Prelude.{◌≡◌, List, Option};
 ghost use Rattle.plain_tree.specs.Tree.{Tree};
 ghost use Rattle.session_script.specs.declared.scripts.ScriptLine.{ScriptLine};
 ghost use Rattle.tape_drive.specs.Crashes.{AllowsAll};
-ghost use Rattle.tape_meaning.specs.Carried.{Carried};
+ghost use Rattle.cartridge_meaning.specs.Carried.{Carried};
 ghost use Rattle.tape_types.specs.declared.moments.Moment.{Moment};
 
 use std::marker::PhantomData;
@@ -50,7 +50,7 @@ impl<D: Unowned, O: Order> Fenced<D, O> {
 }
 
 impl<D: Unowned, O: Order> Drive for Fenced<D, O> {
-    ghost use Rattle.volume_crashes.specs.May.{IsLeftBy};
+    ghost use Rattle.crash_laws.specs.May.{IsLeftBy};
 
     const MOST: u64 = D::MOST;
 

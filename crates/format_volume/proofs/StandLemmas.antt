@@ -21,18 +21,18 @@ use Rattle.index_model.specs.Grammar.{IndexText}
 use Rattle.index_model.specs.declared.nodes.Node.{Node}
 use Rattle.index_read.proofs.WrittenLinks.{document_read}
 use Rattle.ltfs_label.specs.Values.{label_of}
-use Rattle.tape_content.specs.Ends.{IsOneAtMost}
+use Rattle.content_laws.specs.Ends.{IsOneAtMost}
 use Rattle.plain_tree.specs.Tree.{Tree, empty_tree}
 use Rattle.plain_tree.specs.Tree as plain
 use Rattle.plain_tree.specs.declared.nodes.Kind.TheVariants as plain_kinds
-use Rattle.tape_content.specs.Content.{Content}
-use Rattle.tape_content.specs.Readings.{Construct, HasForm, after_of, front, readable}
-use Rattle.tape_content.proofs.Grown.{index_appended}
-use Rattle.tape_content.proofs.Whole.{front_append, front_blocks}
-use Rattle.tape_meaning.specs.Labels.{AreOfOneVolume, HasLabels}
-use Rattle.tape_meaning.specs.Meaning.{AreAlike, Found, HasOneIndex, IsConsistent, IsTreeOf, Stands}
-use Rattle.tape_meaning.specs.Notes.{IsCoherent, IsHonest, IsHonestNote, LastReads}
-use Rattle.tape_meaning.specs.Pointers.{IsLastOnDp, IsLastOnIp, IsOfVolume, indexes_of, last_block}
+use Rattle.content_laws.specs.Content.{Content}
+use Rattle.content_laws.specs.Readings.{Construct, HasForm, after_of, front, readable}
+use Rattle.content_laws.proofs.Grown.{index_appended}
+use Rattle.content_laws.proofs.Whole.{front_append, front_blocks}
+use Rattle.cartridge_meaning.specs.Labels.{AreOfOneVolume, HasLabels}
+use Rattle.cartridge_meaning.specs.Meaning.{AreAlike, Found, HasOneIndex, IsConsistent, IsTreeOf, Stands}
+use Rattle.cartridge_meaning.specs.Notes.{IsCoherent, IsHonest, IsHonestNote, LastReads}
+use Rattle.cartridge_meaning.specs.Pointers.{IsLastOnDp, IsLastOnIp, IsOfVolume, indexes_of, last_block}
 use Rattle.tape_types.specs.declared.cartridges.Cartridge.{Cartridge}
 use Rattle.tape_types.specs.declared.cartridges.Item.{Item}
 use Rattle.tape_types.specs.declared.cartridges.Item.TheVariants.{Block, Mark}

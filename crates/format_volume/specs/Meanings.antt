@@ -3,11 +3,11 @@ use Rattle.std.specs.Prelude.{true, None}
 use Rattle.tape_types.specs.declared.cartridges.Cartridge.{Cartridge}
 use Rattle.tape_types.specs.declared.cartridges.Part.TheVariants.{Ip, Dp}
 use Rattle.plain_tree.specs.Tree.{empty_tree}
-use Rattle.tape_meaning.specs.Carried.{Carried}
-use Rattle.tape_meaning.specs.Labels.{HasLabels}
-use Rattle.tape_meaning.specs.Meaning.{AreAlike, HasOneIndex, IsConsistent, Stands}
-use Rattle.tape_meaning.specs.Notes.{IsCoherent, IsHonest}
-use Rattle.tape_meaning.specs.declared.labels.Labels.{Labels}
+use Rattle.cartridge_meaning.specs.Carried.{Carried}
+use Rattle.cartridge_meaning.specs.Labels.{HasLabels}
+use Rattle.cartridge_meaning.specs.Meaning.{AreAlike, HasOneIndex, IsConsistent, Stands}
+use Rattle.cartridge_meaning.specs.Notes.{IsCoherent, IsHonest}
+use Rattle.cartridge_meaning.specs.declared.labels.Labels.{Labels}
 use Rattle.format_volume.specs.declared.requests.FormatSpec.{FormatSpec}
 use Rattle.format_volume.specs.Volumes.{label_on, record_for}
 

@@ -7,11 +7,11 @@ use Rattle.extent_map.specs.Cells.{tape_of}
 use Rattle.index_model.specs.declared.indexes.Index.{Index}
 use Rattle.index_read.proofs.Exact.{one_index_text}
 use Rattle.ltfs_label.specs.declared.Label.{Label}
-use Rattle.tape_content.specs.Readings.{Construct}
-use Rattle.tape_meaning.specs.Meaning.{Found, IsTreeOf, ip_end}
-use Rattle.tape_meaning.specs.Pointers.{IsLastOnDp, IsOfVolume, PointsOnDp, indexes_of, text_of}
-use Rattle.tape_meaning.proofs.Frame.{nodes_further}
-use Rattle.tape_meaning.proofs.OneTree.{tree_once}
+use Rattle.content_laws.specs.Readings.{Construct}
+use Rattle.cartridge_meaning.specs.Meaning.{Found, IsTreeOf, ip_end}
+use Rattle.cartridge_meaning.specs.Pointers.{IsLastOnDp, IsOfVolume, PointsOnDp, indexes_of, text_of}
+use Rattle.cartridge_meaning.proofs.Frame.{nodes_further}
+use Rattle.cartridge_meaning.proofs.OneTree.{tree_once}
 use Rattle.generation_view.specs.Chain.{AreLinks, GenTree, IsLink, IsWayTo}
 
 -- an index is a link in one way

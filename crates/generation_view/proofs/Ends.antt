@@ -8,13 +8,13 @@ use Rattle.index_model.specs.declared.indexes.Index.{Index}
 use Rattle.index_model.specs.declared.nodes.Node.{Node}
 use Rattle.index_read.proofs.Exact.{never_both, one_index_text, one_refusal}
 use Rattle.ltfs_label.specs.declared.Label.{Label}
-use Rattle.tape_content.specs.Readings.{Construct, first_of}
-use Rattle.tape_meaning.specs.Meaning.{FitsNode, Found, ip_end}
-use Rattle.tape_meaning.specs.Pointers.{IsOfVolume, PointsOnDp, indexes_of, text_of}
-use Rattle.tape_meaning.proofs.Decided.{FirstOutside, all_or_first, known_on_dp}
-use Rattle.tape_meaning.proofs.Extents.{all_middle, first_once}
-use Rattle.tape_meaning.proofs.IndexOrStops.{index_or_stops}
-use Rattle.tape_meaning.proofs.Known.{Known, known_eq, known_lt}
+use Rattle.content_laws.specs.Readings.{Construct, first_of}
+use Rattle.cartridge_meaning.specs.Meaning.{FitsNode, Found, ip_end}
+use Rattle.cartridge_meaning.specs.Pointers.{IsOfVolume, PointsOnDp, indexes_of, text_of}
+use Rattle.cartridge_meaning.proofs.Decided.{FirstOutside, all_or_first, known_on_dp}
+use Rattle.cartridge_meaning.proofs.Extents.{all_middle, first_once}
+use Rattle.cartridge_meaning.proofs.IndexOrStops.{index_or_stops}
+use Rattle.cartridge_meaning.proofs.Known.{Known, known_eq, known_lt}
 use Rattle.mount_recover.specs.Lasts.{IsFirstOutside}
 use Rattle.generation_view.specs.Chain.{AreLinks, AreNewer, Breaks, IsBrokenBehind, IsBrokenOnWay, IsChain, IsLink, IsOlder, IsWayTo, LacksGeneration, behind, last_generation}
 use Rattle.generation_view.specs.declared.errors.BreakWhy.{BreakWhy}

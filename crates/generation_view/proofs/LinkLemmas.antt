@@ -6,11 +6,11 @@ use Rattle.tape_types.specs.declared.cartridges.Place.{Place}
 use Rattle.tape_drive.specs.declared.drive.Drive.{Ghosts}
 use Rattle.index_model.specs.declared.indexes.Index.{Index}
 use Rattle.ltfs_label.specs.declared.Label.{Label}
-use Rattle.tape_content.specs.Readings as readings
-use Rattle.tape_meaning.specs.Meaning.{FitsNode, ip_end}
-use Rattle.tape_meaning.specs.Pointers.{IsOfVolume, PointsOnDp, text_of}
-use Rattle.tape_meaning.specs.declared.errors.MountErr.{MountErr}
-use Rattle.tape_meaning.specs.declared.errors.MountErr.TheVariants as errors
+use Rattle.content_laws.specs.Readings as readings
+use Rattle.cartridge_meaning.specs.Meaning.{FitsNode, ip_end}
+use Rattle.cartridge_meaning.specs.Pointers.{IsOfVolume, PointsOnDp, text_of}
+use Rattle.cartridge_meaning.specs.declared.errors.MountErr.{MountErr}
+use Rattle.cartridge_meaning.specs.declared.errors.MountErr.TheVariants as errors
 use Rattle.volume_scan.specs.declared.content.Construct.{Construct}
 use Rattle.volume_scan.specs.Scans.{places_of}
 use Rattle.mount_recover.specs.Lasts.{IsFirstOutside, IsNoText}

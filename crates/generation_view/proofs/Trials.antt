@@ -7,10 +7,10 @@ use Rattle.index_model.specs.declared.indexes.Spot.{Spot}
 use Rattle.ltfs_label.specs.declared.Label.{Label}
 use Rattle.tape_types.specs.declared.cartridges.Part.{Part}
 use Rattle.tape_types.specs.declared.cartridges.Part.TheVariants.{Ip, Dp}
-use Rattle.tape_content.specs.Worked.{first_index, second_index}
-use Rattle.tape_meaning.specs.Meaning.{Found, Fits, end_on}
-use Rattle.tape_meaning.specs.Pointers.{IsOfVolume, PointsOnDp, letter_of, text_of}
-use Rattle.tape_meaning.specs.Worked.{extent, index, label, on_b, third_index, two}
+use Rattle.content_laws.specs.Worked.{first_index, second_index}
+use Rattle.cartridge_meaning.specs.Meaning.{Found, Fits, end_on}
+use Rattle.cartridge_meaning.specs.Pointers.{IsOfVolume, PointsOnDp, letter_of, text_of}
+use Rattle.cartridge_meaning.specs.Worked.{extent, index, label, on_b, third_index, two}
 use Rattle.generation_view.specs.Chain.{AreLinks, Breaks, IsBrokenBehind, IsBrokenOnWay, IsChain, IsLink, IsWayTo, LacksGeneration}
 use Rattle.generation_view.specs.Worked.{Reads, all_three, crossed, file, middle, newest, oldest, three}
 use Rattle.generation_view.specs.declared.errors.BreakWhy.{BreakWhy}

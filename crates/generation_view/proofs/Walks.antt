@@ -7,12 +7,12 @@ use Rattle.tape_drive.specs.declared.drive.Drive.{Ghosts}
 use Rattle.tape_drive.proofs.Looking.{no_looks, then_looks}
 use Rattle.index_model.specs.declared.indexes.Index.{Index}
 use Rattle.ltfs_label.specs.declared.Label.{Label}
-use Rattle.tape_content.specs.Readings as readings
-use Rattle.tape_content.specs.Readings.{first_of}
-use Rattle.tape_meaning.specs.Meaning.{Found, ip_end}
-use Rattle.tape_meaning.specs.Pointers.{indexes_of}
-use Rattle.tape_meaning.specs.declared.errors.MountErr.{MountErr}
-use Rattle.tape_meaning.specs.declared.errors.MountErr.TheVariants as mount_errors
+use Rattle.content_laws.specs.Readings as readings
+use Rattle.content_laws.specs.Readings.{first_of}
+use Rattle.cartridge_meaning.specs.Meaning.{Found, ip_end}
+use Rattle.cartridge_meaning.specs.Pointers.{indexes_of}
+use Rattle.cartridge_meaning.specs.declared.errors.MountErr.{MountErr}
+use Rattle.cartridge_meaning.specs.declared.errors.MountErr.TheVariants as mount_errors
 use Rattle.volume_scan.specs.declared.content.Construct.{Construct}
 use Rattle.volume_scan.specs.Scans.{AreBetween, places_of}
 use Rattle.mount_recover.specs.Lasts.{HasIndexAt, IsInPlace}

@@ -7,9 +7,9 @@ use Rattle.index_model.specs.Grammar.{IndexText, Stops}
 use Rattle.index_model.specs.declared.indexes.Index.{Index}
 use Rattle.index_model.specs.declared.nodes.Node.{Node}
 use Rattle.ltfs_label.specs.declared.Label.{Label}
-use Rattle.tape_content.specs.Readings.{Construct, first_of}
-use Rattle.tape_meaning.specs.Meaning.{FitsNode, Found, IsTreeOf, ip_end}
-use Rattle.tape_meaning.specs.Pointers.{IsOfVolume, PointsOnDp, indexes_of, text_of}
+use Rattle.content_laws.specs.Readings.{Construct, first_of}
+use Rattle.cartridge_meaning.specs.Meaning.{FitsNode, Found, IsTreeOf, ip_end}
+use Rattle.cartridge_meaning.specs.Pointers.{IsOfVolume, PointsOnDp, indexes_of, text_of}
 use Rattle.mount_recover.specs.Lasts.{IsFirstOutside}
 use Rattle.generation_view.specs.declared.errors.BreakWhy.{BreakWhy}
 use Rattle.generation_view.specs.declared.errors.BreakWhy.TheVariants as breaks

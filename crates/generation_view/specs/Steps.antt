@@ -2,10 +2,10 @@
 use Rattle.std.specs.Prelude.{ℕ, ◌≡◌, List, Option, Some, None}
 use Rattle.tape_types.specs.declared.cartridges.Cartridge.{Cartridge}
 use Rattle.ltfs_label.specs.declared.Label.{Label}
-use Rattle.tape_content.specs.Readings as readings
-use Rattle.tape_content.specs.Readings.{first_of}
-use Rattle.tape_meaning.specs.declared.errors.MountErr.{MountErr}
-use Rattle.tape_meaning.specs.declared.errors.MountErr.TheVariants as errors
+use Rattle.content_laws.specs.Readings as readings
+use Rattle.content_laws.specs.Readings.{first_of}
+use Rattle.cartridge_meaning.specs.declared.errors.MountErr.{MountErr}
+use Rattle.cartridge_meaning.specs.declared.errors.MountErr.TheVariants as errors
 use Rattle.volume_scan.specs.declared.content.Construct.{Construct}
 use Rattle.mount_recover.specs.Lasts.{IsSound}
 use Rattle.generation_view.specs.Chain.{Breaks, IsLink}

@@ -4,15 +4,15 @@ use Rattle.tape_types.specs.Counts.{Rose}
 use Rattle.tape_types.specs.declared.cartridges.Cartridge.{Cartridge}
 use Rattle.tape_types.specs.declared.cartridges.Part.TheVariants.{Dp}
 use Rattle.index_model.specs.declared.indexes.Index.{Index}
-use Rattle.tape_content.specs.Readings as readings
-use Rattle.tape_content.specs.Readings.{HasForm, first_of, front}
-use Rattle.tape_meaning.specs.Faults.{MountFault}
-use Rattle.tape_meaning.specs.Meaning.{Found, ip_end}
-use Rattle.tape_meaning.specs.Pointers.{indexes_of}
+use Rattle.content_laws.specs.Readings as readings
+use Rattle.content_laws.specs.Readings.{HasForm, first_of, front}
+use Rattle.cartridge_meaning.specs.Faults.{MountFault}
+use Rattle.cartridge_meaning.specs.Meaning.{Found, ip_end}
+use Rattle.cartridge_meaning.specs.Pointers.{indexes_of}
 use Rattle.volume_scan.specs.declared.content.Construct.{Construct}
 use Rattle.volume_scan.specs.Scans.{places_of}
-use Rattle.tape_meaning.specs.declared.errors.MountErr.{MountErr}
-use Rattle.tape_meaning.specs.declared.errors.MountErr.TheVariants as mount_errors
+use Rattle.cartridge_meaning.specs.declared.errors.MountErr.{MountErr}
+use Rattle.cartridge_meaning.specs.declared.errors.MountErr.TheVariants as mount_errors
 use Rattle.ltfs_label.specs.declared.Label.{Label}
 use Rattle.generation_view.specs.Chain.{AreLinks, IsBrokenBehind, IsChain, behind, last_generation}
 use Rattle.generation_view.specs.declared.errors.ViewErr.{ViewErr}

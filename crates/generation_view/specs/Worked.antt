@@ -9,11 +9,11 @@ use Rattle.index_model.specs.Grammar.{IndexText}
 use Rattle.index_model.specs.declared.indexes.Index.{Index}
 use Rattle.index_model.specs.declared.nodes.Node.{Node}
 use Rattle.index_model.specs.declared.nodes.Kind.TheVariants.{File}
-use Rattle.tape_content.specs.Worked.{block, first_index, second_index, synced_dp}
-use Rattle.tape_content.specs.Readings.{Construct}
-use Rattle.tape_meaning.specs.Meaning.{Found}
-use Rattle.tape_meaning.specs.Pointers.{text_of}
-use Rattle.tape_meaning.specs.Worked.{cartridge, extent, index, label, on_b, third_index, two}
+use Rattle.content_laws.specs.Worked.{block, first_index, second_index, synced_dp}
+use Rattle.content_laws.specs.Readings.{Construct}
+use Rattle.cartridge_meaning.specs.Meaning.{Found}
+use Rattle.cartridge_meaning.specs.Pointers.{text_of}
+use Rattle.cartridge_meaning.specs.Worked.{cartridge, extent, index, label, on_b, third_index, two}
 
 -- a file with this UID, and so many bytes from a block of the partition with this letter on
 abbrev pub file : (uid letter block byte count : ℕ) → Node

@@ -1,7 +1,7 @@
 //! Why a chain breaks, and why nothing is told of one.
 
+use cartridge_meaning::MountErr;
 use index_model::IndexErr;
-use tape_meaning::MountErr;
 use tape_types::{Place, Twin};
 
 /// Why the chain of indexes breaks at one of them: the first test that it fails.

@@ -4,11 +4,11 @@ ghost use Rattle.std.specs.Prelude.{◌≡◌, ◌+◌, ℕ, List, [], ◌∷◌
 ghost use Rattle.index_model.specs.declared.errors.IndexErr.{IndexErr};
 ghost use Rattle.index_model.specs.Grammar.{Stops};
 ghost use Rattle.index_model.specs.declared.indexes.Index.{Index};
-ghost use Rattle.tape_content.specs.Worked.{first_index, second_index};
-ghost use Rattle.tape_meaning.specs.Pointers.{indexes_of, text_of};
-ghost use Rattle.tape_meaning.specs.Worked.{cartridge, index, label, on_b, third_index, two};
+ghost use Rattle.content_laws.specs.Worked.{first_index, second_index};
+ghost use Rattle.cartridge_meaning.specs.Pointers.{indexes_of, text_of};
+ghost use Rattle.cartridge_meaning.specs.Worked.{cartridge, index, label, on_b, third_index, two};
 ghost use Rattle.tape_types.specs.declared.cartridges.Cartridge.{Cartridge};
-ghost use Rattle.tape_meaning.specs.Meaning.{Found};
+ghost use Rattle.cartridge_meaning.specs.Meaning.{Found};
 ghost use Rattle.generation_view.specs.Chain.{AreLinks, Breaks, IsBefore, IsBrokenBehind, IsBrokenOnWay, IsChain};
 ghost use Rattle.generation_view.specs.Chain.{IsOlder, IsWayTo, LacksGeneration, behind, last_generation};
 ghost use Rattle.generation_view.specs.Worked.{Reads, all_three, crossed, file, middle, newest, oldest, three};

@@ -2,9 +2,9 @@
 
 ghost use Rattle.std.specs.Prelude.{◌≡◌, ◌<◌, ◌-◌, ◌++◌, ◌∷◌, ◌↔◌, List, Option, Some, IfSome, IsTrue, MatchOption, map, reverse};
 ghost use Rattle.tape_types.specs.declared.cartridges.Cartridge.{Cartridge};
-ghost use Rattle.tape_content.specs.Readings.{Construct as ConstructOf};
-ghost use Rattle.tape_meaning.specs.Meaning.{ip_end};
-ghost use Rattle.tape_meaning.specs.Pointers.{IsOfVolume, indexes_of};
+ghost use Rattle.content_laws.specs.Readings.{Construct as ConstructOf};
+ghost use Rattle.cartridge_meaning.specs.Meaning.{ip_end};
+ghost use Rattle.cartridge_meaning.specs.Pointers.{IsOfVolume, indexes_of};
 ghost use Rattle.volume_scan.specs.Scans.{places_of};
 ghost use Rattle.mount_recover.specs.Lasts.{HasIndexAt, IsInPlace, IsSound};
 ghost use Rattle.mount_recover.specs.Steps.{IsFree, IsSince, IsStep};
@@ -12,12 +12,12 @@ ghost use Rattle.generation_view.specs.Chain.{Breaks, IsLink, IsOlder};
 ghost use Rattle.generation_view.specs.Steps.{IsSoundStep, IsStepTo, why_in};
 
 use crate::errors::BreakWhy;
+use cartridge_meaning::MountErr;
 use index_model::Index;
 use ltfs_label::Label;
 use mount_recover::{Ends, Start, first_outside, points_on_dp, read_index_at};
 use std::alloc::Global;
 use tape_drive::Drive;
-use tape_meaning::MountErr;
 use tape_types::Part;
 use volume_scan::Construct;
 

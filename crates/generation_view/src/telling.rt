@@ -3,8 +3,8 @@
 ghost use Rattle.std.specs.Prelude.{◌≡◌, ◌≤◌, ◌+◌, ◌*◌, length, Some, IfOk, IfErr, IfSome};
 ghost use Rattle.tape_types.specs.declared.cartridges.Cartridge.{Cartridge};
 ghost use Rattle.tape_drive.specs.Looks.{Looks};
-ghost use Rattle.tape_meaning.specs.Meaning.{Found};
-ghost use Rattle.tape_meaning.specs.Mounts.{Mounts};
+ghost use Rattle.cartridge_meaning.specs.Meaning.{Found};
+ghost use Rattle.cartridge_meaning.specs.Mounts.{Mounts};
 ghost use Rattle.volume_scan.specs.Scans.{AreBetween};
 ghost use Rattle.mount_recover.specs.Lasts.{IsSoundMount};
 ghost use Rattle.mount_recover.specs.Steps.{Blames, IsFree, IsSince, IsStep};
@@ -12,12 +12,12 @@ ghost use Rattle.generation_view.specs.Told.{AreKnown, HasCounts, IsToldOf, Refu
 
 use crate::errors::{BreakWhy, ViewErr};
 use crate::links::{Step, read_link};
+use cartridge_meaning::{MountErr, Mounted};
 use index_model::Index;
 use ltfs_label::Label;
 use mount_recover::{Start, begin, mount, scan_one};
 use std::alloc::Global;
 use tape_drive::Drive;
-use tape_meaning::{MountErr, Mounted};
 use tape_types::{List, Moment, Part, Place};
 use volume_scan::Construct;
 

@@ -7,7 +7,7 @@ use Rattle.doc_fields.specs.declared.tags.Tag.TheVariants.{UpdateTime, StartBloc
 use Rattle.doc_fields.specs.declared.tags.Tag.TheVariants.{VolumeLockState, HighestFileUid, FileUid, Name, Length}
 use Rattle.doc_fields.specs.declared.tags.Tag.TheVariants.{CreationTime, ChangeTime, ModifyTime, AccessTime, BackupTime}
 use Rattle.doc_fields.specs.declared.tags.Tag.TheVariants.{ReadOnly, Symlink, FileOffset, ByteOffset, ByteCount}
-use Rattle.doc_children.specs.Children.{code}
+use Rattle.doc_elements.specs.Children.{code}
 use Rattle.index_model.specs.declared.indexes.Index.{Index}
 use Rattle.index_model.specs.declared.indexes.Policy.{Policy}
 use Rattle.index_model.specs.declared.indexes.Spot.{Spot}

@@ -2,7 +2,7 @@
 use Rattle.std.proofs.Common.{◌≡◌, ℕ, List, [], ◌∷◌, ◌++◌, Bool, true, false, ◌==◌, ◌&&◌, not, length, Some, None, IsUtf8, refl, sym, ap, subst, ◌∙◌, arith}
 use Rattle.doc_fields.specs.declared.tags.Tag.{Tag}
 use Rattle.doc_fields.specs.declared.tags.Tag.TheVariants.{Directory}
-use Rattle.doc_children.specs.Children.{code, member}
+use Rattle.doc_elements.specs.Children.{code, member}
 use Rattle.index_model.specs.declared.nodes.Kind.TheVariants as kinds
 use Rattle.doc_elements.specs.declared.schema.Place.TheVariants as place
 use Rattle.doc_elements.specs.declared.schema.Child.{Child}

@@ -13,7 +13,7 @@ use Rattle.doc_fields.specs.Space.{space_end}
 use Rattle.doc_fields.specs.Tags.{all_tags}
 use Rattle.doc_fields.specs.Texts.{text_at}
 use Rattle.doc_fields.specs.Values.{bool_at, letter_at, lock_at, time_at, uuid_at}
-use Rattle.doc_children.specs.Children.{code, member, first_missing}
+use Rattle.doc_elements.specs.Children.{code, member, first_missing}
 use Rattle.doc_elements.specs.declared.errors.PieceErr.{PieceErr}
 use Rattle.doc_elements.specs.declared.schema.Place.{Place}
 use Rattle.doc_elements.specs.declared.schema.Form.{Form}

@@ -8,7 +8,7 @@ use Rattle.tape_types.specs.Times.{civil_of}
 use Rattle.doc_fields.specs.declared.tags.Tag.{Tag}
 use Rattle.doc_fields.specs.declared.tags.Tag.TheVariants.{UpdateTime, CreationTime, ChangeTime, ModifyTime, AccessTime, BackupTime}
 use Rattle.doc_fields.proofs.Moments.{HasMoment}
-use Rattle.doc_children.specs.Children.{code}
+use Rattle.doc_elements.specs.Children.{code}
 use Rattle.doc_elements.specs.declared.schema.Place.{Place}
 use Rattle.doc_elements.specs.declared.schema.Place.TheVariants as place
 use Rattle.doc_elements.specs.Elements.{IsTimed, IsTimedPiece, plain}

@@ -3,7 +3,7 @@ use Rattle.std.proofs.Common.{◌≡◌, ℕ, List, [], ◌∷◌, Bool, true, f
 use Rattle.std.proofs.lemmas.Bool.{eq-eqb}
 use Rattle.doc_fields.specs.declared.tags.Tag.{Tag}
 use Rattle.doc_fields.specs.declared.tags.Tag.TheVariants.{Creator, Comment, VolumeUuid, GenerationNumber, UpdateTime, AllowPolicyUpdate, VolumeLockState, HighestFileUid, Size}
-use Rattle.doc_children.specs.Children.{code, member}
+use Rattle.doc_elements.specs.Children.{code, member}
 use Rattle.index_model.specs.declared.indexes.Policy.{Policy}
 use Rattle.index_model.specs.declared.indexes.Spot.{Spot}
 use Rattle.doc_elements.specs.declared.schema.Place.{Place}

@@ -13,7 +13,7 @@ use Rattle.doc_fields.specs.Tags.{spelled}
 use Rattle.doc_fields.specs.Written.{may_have}
 use Rattle.doc_fields.proofs.Again.{all_pass}
 use Rattle.doc_fields.proofs.WrittenBytes.{is_ascii}
-use Rattle.doc_children.specs.Children.{member}
+use Rattle.doc_elements.specs.Children.{member}
 use Rattle.ltfs_text.specs.Names.{written}
 use Rattle.index_model.specs.declared.indexes.Policy.{Policy}
 use Rattle.index_model.specs.declared.indexes.Spot.{Spot}

@@ -1,7 +1,7 @@
 -- What a reader keeps while it goes from piece to piece.
 use Rattle.std.specs.Prelude.{◌≡◌, ◌⊎◌, IsUtf8, ℕ, List, [], ◌∷◌, ◌++◌, Bool, true, false, map, length}
 use Rattle.doc_fields.specs.declared.tags.Tag.{Tag}
-use Rattle.doc_children.specs.Children.{children_of}
+use Rattle.doc_elements.specs.Children.{children_of}
 use Rattle.index_model.specs.declared.errors.IndexErr.{IndexErr}
 use Rattle.doc_elements.specs.declared.schema.Place.TheVariants as place
 use Rattle.doc_elements.specs.Schema.{tag_of}

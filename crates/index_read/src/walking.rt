@@ -10,8 +10,7 @@ ghost use Rattle.doc_elements.specs.Documents.{Halted};
 ghost use Rattle.index_read.specs.Walks.{Keeps, Opened, Walked, coded, level_in, opened_after, stacked, with_tag};
 
 use crate::drafts::Draft;
-use doc_children::Children;
-use doc_elements::{Frame, Piece, PieceErr, Place, is_node, next_piece, tag_of};
+use doc_elements::{Children, Frame, Piece, PieceErr, Place, is_node, next_piece, tag_of};
 use doc_fields::Tag;
 use std::alloc::{AllocError, Global};
 use tape_types::NoMemory;

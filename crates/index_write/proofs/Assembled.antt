@@ -82,8 +82,8 @@ volume_joined a b c d e f g h i j k = simp (append_assoc)
 pub four : (o a b c d o1 o2 o3 n : List ℕ) → o1 ≡ o ++ a → o2 ≡ o1 ++ b → o3 ≡ o2 ++ c → n ≡ o3 ++ d → n ≡ o ++ (a ++ (b ++ c) ++ d)
 four o a b c d o1 o2 o3 n e1 e2 e3 e4 = rw (e4, e3, e2, e1) (simp (append_assoc))
 
-pub volume_parts : (v : VolumeFacts) → volume_front v ++ spot Location v.here ++ if_told v.back (spot PreviousGenerationLocation) ++ volume_rear v ≡ volume_text v
+pub state_laws : (v : VolumeFacts) → volume_front v ++ spot Location v.here ++ if_told v.back (spot PreviousGenerationLocation) ++ volume_rear v ≡ volume_text v
 unfolding volume_front volume_rear
-volume_parts v = volume_joined (words Creator v.creator) (if_told v.comment (words Comment)) (element VolumeUuid (uuid_text v.uuid)) (number GenerationNumber v.generation) (time UpdateTime v.updated)
+state_laws v = volume_joined (words Creator v.creator) (if_told v.comment (words Comment)) (element VolumeUuid (uuid_text v.uuid)) (number GenerationNumber v.generation) (time UpdateTime v.updated)
     (spot Location v.here) (if_told v.back (spot PreviousGenerationLocation))
     (truth AllowPolicyUpdate v.allow) (if_told v.policy policy) (if_told v.lock (λ state. element VolumeLockState (lock_word state))) (number HighestFileUid v.highest)

@@ -20,7 +20,7 @@ use Rattle.index_model.specs.declared.nodes.RawExtent.{RawExtent}
 use Rattle.index_model.specs.Canonical.{canonical, directory_text, head, if_told, nodes_text, policy, spot, volume_text, words, element, extent, file_front, file_text, link_text, name, number, time, times, truth}
 use Rattle.index_model.specs.Values.{IndexValue, Nodes, no_nodes, directory, file, link, VolumeFacts, all_nodes, count, listed, value_in, NodeFacts, NodeValue, TimesValue, value_of}
 use Rattle.index_write.specs.Parts.{spot_text, volume_front, volume_rear}
-use Rattle.index_write.proofs.Assembled.{volume_parts}
+use Rattle.index_write.proofs.Assembled.{state_laws}
 use Rattle.index_write.specs.Sizes.{bounded, directory_length, facts_length, node_length, nodes_sum, size}
 
 pub add_bounded : (a b : ℕ) → min (bounded a + b) (2 ^ 64 - 1) ≡ bounded (a + b)
@@ -203,7 +203,7 @@ volume_total v w x y z all is_w is_x is_y is_z is =
     let c = if_told v.back (spot PreviousGenerationLocation) in
     let d = volume_rear v in
     let count = cat (a ++ b ++ c) d _ _ (cat (a ++ b) c _ _ (cat a b _ _ refl (el Location (spot_text v.here) _ 21 refl refl)) refl) refl in
-    of_volume (length (volume_text v)) (length a) (length (spot_text v.here)) (length c) (length d) w x y z all (ap (λ (t : List ℕ). length t) (sym (volume_parts v)) ∙ count) is_w is_x is_y is_z is
+    of_volume (length (volume_text v)) (length a) (length (spot_text v.here)) (length c) (length d) w x y z all (ap (λ (t : List ℕ). length t) (sym (state_laws v)) ∙ count) is_w is_x is_y is_z is
 
 -- ---- the document
 

@@ -16,7 +16,7 @@ use Rattle.doc_fields.specs.Texts.{text_at}
 use Rattle.doc_fields.specs.Values.{bool_at, letter_at, lock_at, time_at, uuid_at}
 use Rattle.doc_fields.specs.StartTag.{named_at, rest_at}
 use Rattle.doc_fields.specs.Declaration.{head_at}
-use Rattle.doc_children.specs.Children.{first_missing, member}
+use Rattle.doc_elements.specs.Children.{first_missing, member}
 use Rattle.doc_elements.specs.declared.errors.PieceErr.{PieceErr}
 use Rattle.doc_elements.specs.declared.errors.PieceErr.TheVariants as pieces
 use Rattle.doc_elements.specs.declared.schema.Child.{Child}

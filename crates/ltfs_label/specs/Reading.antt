@@ -2,7 +2,7 @@
 use Rattle.std.specs.Prelude.{◌≡◌, ◌≤◌, ⊤, ℕ, List, [], ◌∷◌, ◌++◌, Bool, true, false, Option, Some, None, Result, Ok}
 use Rattle.std.specs.Prelude.{Err}
 use Rattle.doc_fields.specs.declared.tags.Tag.TheVariants.{BlockSize}
-use Rattle.doc_children.specs.Children.{children_of}
+use Rattle.doc_elements.specs.Children.{children_of}
 use Rattle.doc_elements.specs.declared.errors.PieceErr.{PieceErr}
 use Rattle.doc_elements.specs.declared.errors.PieceErr.TheVariants as pieces
 use Rattle.doc_elements.specs.declared.pieces.Frame as code_frame

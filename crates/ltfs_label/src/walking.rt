@@ -10,8 +10,7 @@ ghost use Rattle.ltfs_label.specs.Reading.{FitsBlock, Keeps, Walked, coded, set,
 ghost use Rattle.ltfs_label.specs.Values.{blank, epoch, label_of, set_leaf};
 
 use crate::Label;
-use doc_children::Children;
-use doc_elements::{Frame, Piece, PieceErr, Place, Value, next_piece, tag_of};
+use doc_elements::{Children, Frame, Piece, PieceErr, Place, Value, next_piece, tag_of};
 use doc_fields::Tag;
 use std::alloc::{AllocError, Global};
 use tape_types::{Moment, Text};

@@ -11,19 +11,19 @@ use Rattle.session_script.specs.Words.{number_of}
 use Rattle.session_script.specs.declared.logs.Log.{Log}
 use Rattle.tape_drive.specs.Looks.{Looks}
 use Rattle.tape_drive.specs.declared.drive.Drive.{Ghosts}
-use Rattle.tape_meaning.specs.declared.errors.MountErr.TheVariants as errors
+use Rattle.cartridge_meaning.specs.declared.errors.MountErr.TheVariants as errors
 use Rattle.format_volume.specs.Writes.{Goes}
 use Rattle.format_volume.specs.declared.requests.FormatErr.TheVariants as refusals
 use Rattle.format_volume.proofs.WriteLemmas.{goes_still}
-use Rattle.server_words.specs.Forms.{HasNoForm, IsFormat, IsFormatWords, IsLabel, IsList, IsMake, IsMakeWords, IsPlain, IsPlainWords, IsServe, IsServeWords, IsSpelledBy, count_told, make_app}
-use Rattle.server_words.specs.Options.{IsMomentGiven, value_of}
-use Rattle.server_words.specs.declared.volumes.FormatWords.{FormatWords}
-use Rattle.server_words.specs.declared.forms.WordsErr.{WordsErr}
-use Rattle.server_words.specs.declared.forms.WordsErr.TheVariants as word_errors
-use Rattle.server_words.specs.declared.reading.Command.{Command}
-use Rattle.server_words.specs.declared.reading.Command.TheVariants as commands
-use Rattle.server_words.proofs.FormLemmas.{format_named, label_named, list_named, make_named, names_differ, one_form, one_make, one_serve, plain_named, serve_named}
-use Rattle.server_words.proofs.VolumeLemmas.{one_format}
+use Rattle.command_line.specs.Forms.{HasNoForm, IsFormat, IsFormatWords, IsLabel, IsList, IsMake, IsMakeWords, IsPlain, IsPlainWords, IsServe, IsServeWords, IsSpelledBy, count_told, make_app}
+use Rattle.command_line.specs.Options.{IsMomentGiven, value_of}
+use Rattle.command_line.specs.declared.volumes.FormatWords.{FormatWords}
+use Rattle.command_line.specs.declared.forms.WordsErr.{WordsErr}
+use Rattle.command_line.specs.declared.forms.WordsErr.TheVariants as word_errors
+use Rattle.command_line.specs.declared.reading.Command.{Command}
+use Rattle.command_line.specs.declared.reading.Command.TheVariants as commands
+use Rattle.command_line.proofs.FormLemmas.{format_named, label_named, list_named, make_named, names_differ, one_form, one_make, one_serve, plain_named, serve_named}
+use Rattle.command_line.proofs.VolumeLemmas.{one_format}
 use Rattle.basic_commands.specs.Formats.{unformatted}
 use Rattle.ltfs_server.specs.Making.{unmade}
 use Rattle.basic_commands.specs.Outcomes.{IsTold, unlabelled, unlisted}

@@ -5,11 +5,11 @@ use Rattle.tape_types.specs.declared.cartridges.Twin.{Twin}
 use Rattle.tape_types.specs.declared.moments.Moment.{Moment}
 use Rattle.session_script.specs.declared.logs.Log.{Log}
 use Rattle.session_script.specs.declared.scripts.ScriptLine.{ScriptLine}
-use Rattle.head_trail.specs.Trail.{fault_of}
+use Rattle.event_laws.specs.Trail.{fault_of}
 use Rattle.tape_drive.specs.declared.drive.Drive.{Ghosts}
-use Rattle.volume_model.specs.Faults.{AreRises}
-use Rattle.volume_model.specs.Headline.{Failed, last_fault}
-use Rattle.volume_order.specs.Kept.{seen}
+use Rattle.serving_promise.specs.Faults.{AreRises}
+use Rattle.serving_promise.specs.Headline.{Failed, last_fault}
+use Rattle.order_laws.specs.Kept.{seen}
 use Rattle.basic_commands.specs.Runs.{IsOneOf}
 use Rattle.ltfs_server.specs.Serving.{EndsRun}
 

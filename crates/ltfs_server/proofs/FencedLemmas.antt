@@ -7,17 +7,17 @@ use Rattle.plain_tree.specs.Tree.{Tree}
 use Rattle.session_script.specs.Grammar.{script_of}
 use Rattle.session_script.specs.declared.scripts.ScriptLine.{ScriptLine}
 use Rattle.tape_drive.specs.declared.drive.Drive.{Ghosts}
-use Rattle.tape_meaning.specs.Carried.{Carried}
-use Rattle.tape_meaning.specs.Meaning.{Stands}
-use Rattle.server_words.specs.Forms.{IsFormatWords, IsMakeWords, IsServeWords}
-use Rattle.server_words.specs.declared.volumes.FormatWords.{FormatWords}
-use Rattle.server_words.proofs.FormLemmas.{format_named, make_named, names_differ, one_serve, serve_named}
+use Rattle.cartridge_meaning.specs.Carried.{Carried}
+use Rattle.cartridge_meaning.specs.Meaning.{Stands}
+use Rattle.command_line.specs.Forms.{IsFormatWords, IsMakeWords, IsServeWords}
+use Rattle.command_line.specs.declared.volumes.FormatWords.{FormatWords}
+use Rattle.command_line.proofs.FormLemmas.{format_named, make_named, names_differ, one_serve, serve_named}
 use Rattle.session_run.specs.Timed.{one_moment}
-use Rattle.volume_model.specs.Crash.{IsSound}
-use Rattle.volume_model.specs.Meanings.{cartridges}
-use Rattle.volume_model.specs.Served.{CanTell}
-use Rattle.volume_crashes.specs.May.{AllowsServed}
-use Rattle.volume_crashes.specs.Safe.{seen_by}
+use Rattle.serving_promise.specs.Crash.{IsSound}
+use Rattle.serving_promise.specs.Meanings.{cartridges}
+use Rattle.serving_promise.specs.Served.{CanTell}
+use Rattle.crash_laws.specs.May.{AllowsServed}
+use Rattle.crash_laws.specs.Safe.{seen_by}
 use Rattle.ltfs_server.specs.Allowed.{MayServeLeft}
 
 -- one text spells one script

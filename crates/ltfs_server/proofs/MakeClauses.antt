@@ -9,9 +9,9 @@ use Rattle.session_script.specs.Made.{made_script}
 use Rattle.session_script.specs.declared.logs.Log.{Log}
 use Rattle.tape_drive.specs.Looks.{Looks}
 use Rattle.tape_drive.specs.declared.drive.Drive.{Ghosts}
-use Rattle.tape_meaning.specs.Meaning.{Found}
+use Rattle.cartridge_meaning.specs.Meaning.{Found}
 use Rattle.mount_recover.specs.Steps.{Blames}
-use Rattle.volume_model.specs.Headline.{Closed, Failed, Short}
+use Rattle.serving_promise.specs.Headline.{Closed, Failed, Short}
 use Rattle.basic_commands.specs.Headline.{IsMountFaultPrinted}
 use Rattle.basic_commands.specs.Labels.{mount_status}
 use Rattle.ltfs_server.specs.Making.{IsMadeEnd, IsMadeFailurePrinted, IsMadeRun, IsMadeShortPrinted, IsSummaryPrinted, MadeEnd, made, made_log, made_status, made_text, starved, unmade}

@@ -6,11 +6,11 @@ use Rattle.session_script.specs.Made.{made_script}
 use Rattle.session_script.specs.declared.logs.Log.{Log}
 use Rattle.tape_drive.specs.declared.drive.Drive.{Ghosts}
 use Rattle.tape_drive.proofs.Looking.{more_looks, no_looks}
-use Rattle.tape_meaning.specs.declared.errors.MountErr.{MountErr}
-use Rattle.tape_meaning.specs.declared.errors.MountErr.TheVariants as errors
+use Rattle.cartridge_meaning.specs.declared.errors.MountErr.{MountErr}
+use Rattle.cartridge_meaning.specs.declared.errors.MountErr.TheVariants as errors
 use Rattle.mount_recover.specs.Labels.{AreCounts}
 use Rattle.mount_recover.specs.Steps.{Blames}
-use Rattle.volume_model.specs.Headline.{Closed, Failed, Short}
+use Rattle.serving_promise.specs.Headline.{Closed, Failed, Short}
 use Rattle.basic_commands.specs.Labels.{mount_status, mount_text}
 use Rattle.ltfs_server.specs.Making.{IsMadeEnd, MadeEnd, closed_line, made, made_log, made_status, made_text, starved, unmade}
 use Rattle.basic_commands.specs.Outcomes.{IsTold}

@@ -6,18 +6,18 @@ use Rattle.tape_types.specs.declared.moments.Moment.{Moment}
 use Rattle.tape_drive.specs.declared.drive.Drive.{Ghosts}
 use Rattle.plain_tree.specs.Tree.{Tree, empty_tree}
 use Rattle.session_script.specs.declared.logs.Log.{Log}
-use Rattle.tape_meaning.specs.Carried.{Carried, carried}
-use Rattle.tape_meaning.specs.Meaning.{Reads}
-use Rattle.tape_meaning.specs.Mounts.{Mounts}
-use Rattle.tape_meaning.specs.declared.mounted.Mounted.{Mounted}
-use Rattle.tape_meaning.proofs.OneWay.{same_facts, same_tree}
+use Rattle.cartridge_meaning.specs.Carried.{Carried, carried}
+use Rattle.cartridge_meaning.specs.Meaning.{Reads}
+use Rattle.cartridge_meaning.specs.Mounts.{Mounts}
+use Rattle.cartridge_meaning.specs.declared.mounted.Mounted.{Mounted}
+use Rattle.cartridge_meaning.proofs.OneWay.{same_facts, same_tree}
 use Rattle.format_volume.specs.Meanings.{carried_for}
 use Rattle.format_volume.specs.declared.requests.FormatSpec.{FormatSpec}
-use Rattle.volume_model.specs.Crash.{IsSound}
-use Rattle.volume_model.specs.Headline.{Closed, Failed, IsEndOf, ServeEnd, Short, status_of, tree_of_log}
-use Rattle.volume_model.specs.Meanings.{cartridges}
-use Rattle.volume_model.specs.Served.{CanTell}
-use Rattle.volume_order.specs.Kept.{seen}
+use Rattle.serving_promise.specs.Crash.{IsSound}
+use Rattle.serving_promise.specs.Headline.{Closed, Failed, IsEndOf, ServeEnd, Short, status_of, tree_of_log}
+use Rattle.serving_promise.specs.Meanings.{cartridges}
+use Rattle.serving_promise.specs.Served.{CanTell}
+use Rattle.order_laws.specs.Kept.{seen}
 use Rattle.basic_commands.specs.Formats.{IsFormatted}
 use Rattle.basic_commands.specs.Runs.{Taken, Written}
 use Rattle.ltfs_server.specs.Ready.{IsReadyFor, LeavesReady}

@@ -8,10 +8,10 @@ use Rattle.session_script.specs.Made.{made_script}
 use Rattle.session_script.specs.LogText.{log_text}
 use Rattle.session_script.specs.declared.logs.Log.{Log}
 use Rattle.session_script.specs.declared.scripts.ScriptLine.{ScriptLine}
-use Rattle.volume_model.specs.Headline.{Closed, Failed, IsEndOf, IsServeRun, ServeEnd, Short, status_of}
-use Rattle.volume_model.specs.Meanings.{cartridges}
-use Rattle.volume_order.specs.Kept.{seen}
-use Rattle.volume_runs.specs.Went.{IsRunBy}
+use Rattle.serving_promise.specs.Headline.{Closed, Failed, IsEndOf, IsServeRun, ServeEnd, Short, status_of}
+use Rattle.serving_promise.specs.Meanings.{cartridges}
+use Rattle.order_laws.specs.Kept.{seen}
+use Rattle.run_laws.specs.Went.{IsRunBy}
 use Rattle.ltfs_server.specs.Making.{IsMadeEnd, MadeEnd, made, made_log, made_status, made_text, starved, unmade}
 use Rattle.basic_commands.specs.Outcomes.{IsTold}
 use Rattle.ltfs_server.specs.Promises.{DoesAsked, DoesMake, DoesServe}

@@ -10,9 +10,9 @@ use Rattle.session_script.specs.declared.logs.Log.{Log}
 use Rattle.session_script.specs.declared.scripts.ScriptLine.{ScriptLine}
 use Rattle.tape_drive.specs.Looks.{Looks}
 use Rattle.tape_drive.specs.declared.drive.Drive.{Ghosts}
-use Rattle.tape_meaning.specs.Meaning.{Found}
+use Rattle.cartridge_meaning.specs.Meaning.{Found}
 use Rattle.mount_recover.specs.Steps.{Blames}
-use Rattle.volume_model.specs.Headline.{Closed, Failed, ServeEnd, Short}
+use Rattle.serving_promise.specs.Headline.{Closed, Failed, ServeEnd, Short}
 use Rattle.basic_commands.specs.Headline.{IsMountFaultPrinted, IsReadFaultPrinted, IsRefusalPrinted}
 use Rattle.basic_commands.specs.Labels.{mount_status}
 use Rattle.ltfs_server.specs.Outcomes.{EndsAs, of_serve}

@@ -6,20 +6,20 @@ use Rattle.tape_types.specs.declared.moments.Moment.{Moment}
 use Rattle.session_script.specs.LogText.{log_text}
 use Rattle.session_script.specs.declared.logs.Log.{Log}
 use Rattle.session_script.specs.declared.scripts.ScriptLine.{ScriptLine}
-use Rattle.head_trail.specs.Trail.{steps}
+use Rattle.event_laws.specs.Trail.{steps}
 use Rattle.tape_drive.specs.Looks.{Looks}
 use Rattle.tape_drive.specs.declared.drive.Drive.{Ghosts}
 use Rattle.tape_drive.proofs.Looking.{more_looks, no_looks}
-use Rattle.tape_meaning.specs.Faults.{MountFault}
-use Rattle.tape_meaning.specs.declared.errors.MountErr.{MountErr}
-use Rattle.tape_meaning.specs.declared.errors.MountErr.TheVariants as errors
+use Rattle.cartridge_meaning.specs.Faults.{MountFault}
+use Rattle.cartridge_meaning.specs.declared.errors.MountErr.{MountErr}
+use Rattle.cartridge_meaning.specs.declared.errors.MountErr.TheVariants as errors
 use Rattle.mount_recover.specs.Labels.{AreCounts}
 use Rattle.mount_recover.specs.Steps.{Blames}
-use Rattle.volume_model.specs.Ends.{bounded}
-use Rattle.volume_model.specs.Headline.{Closed, Failed, IsEndOf, ServeEnd, Short, serve_text, status_of}
-use Rattle.volume_model.specs.Meanings.{cartridges}
-use Rattle.volume_order.specs.Kept.{seen}
-use Rattle.volume_runs.specs.Went.{IsRunBy}
+use Rattle.serving_promise.specs.Ends.{bounded}
+use Rattle.serving_promise.specs.Headline.{Closed, Failed, IsEndOf, ServeEnd, Short, serve_text, status_of}
+use Rattle.serving_promise.specs.Meanings.{cartridges}
+use Rattle.order_laws.specs.Kept.{seen}
+use Rattle.run_laws.specs.Went.{IsRunBy}
 use Rattle.session_run.specs.Serving.{IsServedSo, IsUnserved, IsWhole, Whole, end_line, IsLookedAt}
 use Rattle.session_run.specs.declared.ends.ServeEnd.{ServeEnd as VolumeEnd}
 use Rattle.session_run.specs.declared.ends.ServeEnd.TheVariants as ends

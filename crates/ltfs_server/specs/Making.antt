@@ -15,17 +15,17 @@ use Rattle.session_script.specs.declared.logs.Reply.TheVariants as replies
 use Rattle.tape_drive.specs.declared.drive.Drive.{Ghosts}
 use Rattle.mount_recover.specs.Labels.{AreCounts}
 use Rattle.mount_recover.specs.Steps.{Blames}
-use Rattle.tape_meaning.specs.Carried.{carried}
-use Rattle.tape_meaning.specs.Meaning.{Reads}
-use Rattle.tape_meaning.specs.Mounts.{Mounts}
-use Rattle.tape_meaning.specs.declared.errors.MountErr.{MountErr}
-use Rattle.tape_meaning.specs.declared.mounted.Mounted.{Mounted}
-use Rattle.volume_model.specs.Ends.{bounded}
-use Rattle.volume_model.specs.Headline.{Closed, Failed, ServeEnd, Short, end_text, status_of, tree_of_log}
-use Rattle.volume_model.specs.Meanings.{cartridges}
-use Rattle.volume_model.specs.Served.{CanTell}
-use Rattle.volume_order.specs.Kept.{seen}
-use Rattle.volume_runs.specs.Went.{IsRunBy}
+use Rattle.cartridge_meaning.specs.Carried.{carried}
+use Rattle.cartridge_meaning.specs.Meaning.{Reads}
+use Rattle.cartridge_meaning.specs.Mounts.{Mounts}
+use Rattle.cartridge_meaning.specs.declared.errors.MountErr.{MountErr}
+use Rattle.cartridge_meaning.specs.declared.mounted.Mounted.{Mounted}
+use Rattle.serving_promise.specs.Ends.{bounded}
+use Rattle.serving_promise.specs.Headline.{Closed, Failed, ServeEnd, Short, end_text, status_of, tree_of_log}
+use Rattle.serving_promise.specs.Meanings.{cartridges}
+use Rattle.serving_promise.specs.Served.{CanTell}
+use Rattle.order_laws.specs.Kept.{seen}
+use Rattle.run_laws.specs.Went.{IsRunBy}
 use Rattle.session_run.specs.Serving.{HoldsTree, end_line}
 use Rattle.session_run.specs.declared.ends.ServeEnd.{ServeEnd as VolumeEnd}
 use Rattle.session_run.specs.declared.ends.ServeEnd.TheVariants as ends

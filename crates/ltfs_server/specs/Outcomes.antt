@@ -4,8 +4,8 @@ use Rattle.std.specs.Global.{Global}
 use Rattle.tape_types.specs.declared.moments.Moment.{Moment}
 use Rattle.tape_drive.specs.declared.drive.Drive.{Ghosts}
 use Rattle.session_script.specs.declared.logs.Log.{Log}
-use Rattle.server_words.specs.Forms.{HasNoForm, IsFormatWords, IsLabel, IsList, IsMakeWords, IsPlainWords, IsServeWords}
-use Rattle.server_words.specs.declared.volumes.FormatWords.{FormatWords}
+use Rattle.command_line.specs.Forms.{HasNoForm, IsFormatWords, IsLabel, IsList, IsMakeWords, IsPlainWords, IsServeWords}
+use Rattle.command_line.specs.declared.volumes.FormatWords.{FormatWords}
 use Rattle.basic_commands.specs.Formats.{FormatEnd, IsFormatEnd, end_status, end_text}
 use Rattle.ltfs_server.specs.Making.{IsMadeEnd, MadeEnd, made_log, made_status, made_text}
 use Rattle.basic_commands.specs.Outcomes.{IsLabelEnd, IsListEnd, IsPlainEnd, IsTold, LabelEnd, ListEnd, label_status}

@@ -8,10 +8,10 @@ use Rattle.session_script.specs.Grammar.{script_of}
 use Rattle.session_script.specs.declared.logs.Log.{Log}
 use Rattle.tape_drive.specs.Looks.{Looks}
 use Rattle.tape_drive.specs.declared.drive.Drive.{Ghosts}
-use Rattle.tape_meaning.specs.Meaning.{Found}
-use Rattle.server_words.specs.Forms.{HasNoForm, IsFormat, IsFormatWords, IsLabel, IsList, IsMake, IsMakeWords, IsPlain}
-use Rattle.server_words.specs.Forms.{IsPlainWords, IsServe, IsServeWords}
-use Rattle.server_words.specs.declared.volumes.FormatWords.{FormatWords}
+use Rattle.cartridge_meaning.specs.Meaning.{Found}
+use Rattle.command_line.specs.Forms.{HasNoForm, IsFormat, IsFormatWords, IsLabel, IsList, IsMake, IsMakeWords, IsPlain}
+use Rattle.command_line.specs.Forms.{IsPlainWords, IsServe, IsServeWords}
+use Rattle.command_line.specs.declared.volumes.FormatWords.{FormatWords}
 use Rattle.basic_commands.specs.Headline.{IsMountFaultPrinted, IsReadFaultPrinted}
 use Rattle.basic_commands.specs.Headline.{IsRefusalPrinted}
 use Rattle.ltfs_server.specs.Making.{IsMadeEnd, IsMadeFailurePrinted, IsMadeRun, IsMadeShortPrinted, IsSummaryPrinted}

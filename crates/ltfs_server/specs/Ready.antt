@@ -5,14 +5,14 @@ use Rattle.tape_types.specs.declared.moments.Moment.{Moment}
 use Rattle.tape_drive.specs.declared.drive.Drive.{Ghosts}
 use Rattle.plain_tree.specs.Tree.{Tree, empty_tree}
 use Rattle.session_script.specs.declared.logs.Log.{Log}
-use Rattle.tape_meaning.specs.Carried.{Carried}
+use Rattle.cartridge_meaning.specs.Carried.{Carried}
 use Rattle.format_volume.specs.Meanings.{carried_for}
 use Rattle.format_volume.specs.declared.requests.FormatSpec.{FormatSpec}
-use Rattle.volume_model.specs.Crash.{IsSound}
-use Rattle.volume_model.specs.Headline.{tree_of_log}
-use Rattle.volume_model.specs.Meanings.{cartridges}
-use Rattle.volume_model.specs.Served.{CanTell}
-use Rattle.volume_order.specs.Kept.{seen}
+use Rattle.serving_promise.specs.Crash.{IsSound}
+use Rattle.serving_promise.specs.Headline.{tree_of_log}
+use Rattle.serving_promise.specs.Meanings.{cartridges}
+use Rattle.serving_promise.specs.Served.{CanTell}
+use Rattle.order_laws.specs.Kept.{seen}
 use Rattle.basic_commands.specs.Formats.{IsFormatted}
 use Rattle.basic_commands.specs.Runs.{Taken, Written}
 use Rattle.ltfs_server.specs.Sentence.{Asked, Sentence}

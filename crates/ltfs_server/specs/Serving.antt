@@ -9,11 +9,11 @@ use Rattle.session_script.specs.declared.scripts.ScriptLine.{ScriptLine}
 use Rattle.tape_drive.specs.declared.drive.Drive.{Ghosts}
 use Rattle.mount_recover.specs.Labels.{AreCounts}
 use Rattle.mount_recover.specs.Steps.{Blames}
-use Rattle.tape_meaning.specs.declared.errors.MountErr.{MountErr}
-use Rattle.volume_model.specs.Headline.{Closed, Failed, IsEndOf, ServeEnd, Short, serve_text, status_of}
-use Rattle.volume_model.specs.Meanings.{cartridges}
-use Rattle.volume_order.specs.Kept.{seen}
-use Rattle.volume_runs.specs.Went.{IsRunBy}
+use Rattle.cartridge_meaning.specs.declared.errors.MountErr.{MountErr}
+use Rattle.serving_promise.specs.Headline.{Closed, Failed, IsEndOf, ServeEnd, Short, serve_text, status_of}
+use Rattle.serving_promise.specs.Meanings.{cartridges}
+use Rattle.order_laws.specs.Kept.{seen}
+use Rattle.run_laws.specs.Went.{IsRunBy}
 use Rattle.session_run.specs.Serving.{HoldsTree, end_line}
 use Rattle.session_run.specs.declared.ends.ServeEnd.{ServeEnd as VolumeEnd}
 use Rattle.session_run.specs.declared.ends.ServeEnd.TheVariants as ends

@@ -2,14 +2,14 @@
 
 ghost use Rattle.std.specs.Prelude.{◌≡◌, ℕ, List, Option, Ok, Some};
 ghost use Rattle.session_script.specs.Grammar.{script_of};
-ghost use Rattle.server_words.specs.Forms.{IsServeWords};
+ghost use Rattle.command_line.specs.Forms.{IsServeWords};
 ghost use Rattle.session_run.specs.Timed.{one_moment};
-ghost use Rattle.tape_meaning.specs.Meaning.{Stands};
+ghost use Rattle.cartridge_meaning.specs.Meaning.{Stands};
 ghost use Rattle.tape_types.specs.declared.moments.Moment.{Moment as Instant};
-ghost use Rattle.volume_model.specs.Crash.{IsSound};
-ghost use Rattle.volume_model.specs.Meanings.{cartridges};
-ghost use Rattle.volume_model.specs.Served.{CanTell};
-ghost use Rattle.volume_order.specs.Kept.{seen};
+ghost use Rattle.serving_promise.specs.Crash.{IsSound};
+ghost use Rattle.serving_promise.specs.Meanings.{cartridges};
+ghost use Rattle.serving_promise.specs.Served.{CanTell};
+ghost use Rattle.order_laws.specs.Kept.{seen};
 ghost use Rattle.basic_commands.specs.Runs.{taken, written};
 ghost use Rattle.ltfs_server.specs.Sentence.{SentenceHolds, to_serve};
 

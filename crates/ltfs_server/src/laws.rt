@@ -3,8 +3,8 @@
 ghost use Rattle.ltfs_server.specs.Ready.{LeavesReady};
 ghost use Rattle.ltfs_server.specs.Sentence.{SurvivesInMemory};
 
+use run_laws::{runs_are_in_memory, runs_in_memory_survive};
 use tape_drive::{Drive, MemDrive};
-use volume_runs::{runs_are_in_memory, runs_in_memory_survive};
 
 /// A run of `serve` or of `make` has left this drive and a log, and had begun with a drive in memory whose cartridge
 /// stood for a tree and was sound, with nothing pending. Each image that a crash may leave now by two cuts, and each

@@ -4,10 +4,10 @@ ghost use Rattle.std.specs.Prelude.{◌≡◌, ◌≤◌, ℕ, Option as Maybe, 
 ghost use Rattle.session_script.specs.Made.{made_script};
 ghost use Rattle.tape_edge.specs.Clocks.{IsSince1970};
 ghost use Rattle.tape_types.specs.declared.moments.Moment.{Moment as Instant};
-ghost use Rattle.volume_model.specs.Ends.{bounded};
+ghost use Rattle.serving_promise.specs.Ends.{bounded};
 ghost use Rattle.session_run.specs.Serving.{Whole};
 ghost use Rattle.ltfs_server.specs.Making.{bytes_in, bytes_read, closed_line, done_count, is_done, is_refused, summary};
-ghost use Rattle.volume_crashes.specs.May.{MayServe};
+ghost use Rattle.crash_laws.specs.May.{MayServe};
 ghost use Rattle.ltfs_server.specs.Promises.{DoesMake};
 ghost use Rattle.basic_commands.specs.Runs.{written};
 ghost use Rattle.session_run.specs.Timed.{one_moment};

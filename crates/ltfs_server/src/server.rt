@@ -1,8 +1,8 @@
 ghost use Rattle.std.specs.Prelude.{ℕ, Option};
 ghost use Rattle.tape_types.specs.declared.moments.Moment.{Moment as Instant};
-ghost use Rattle.server_words.specs.Forms.{HasNoForm, IsFormatWords, IsLabel, IsList, IsMakeWords, IsPlain};
-ghost use Rattle.server_words.specs.Forms.{IsPlainWords, IsServe, IsServeWords};
-ghost use Rattle.server_words.specs.declared.volumes.FormatWords.{FormatWords};
+ghost use Rattle.command_line.specs.Forms.{HasNoForm, IsFormatWords, IsLabel, IsList, IsMakeWords, IsPlain};
+ghost use Rattle.command_line.specs.Forms.{IsPlainWords, IsServe, IsServeWords};
+ghost use Rattle.command_line.specs.declared.volumes.FormatWords.{FormatWords};
 ghost use Rattle.ltfs_server.specs.Outcomes.{Ending, EndsAs, IsCaused};
 ghost use Rattle.basic_commands.specs.Promises.{DoesFormat, DoesLabel, DoesList, DoesPlain};
 ghost use Rattle.ltfs_server.specs.Promises.{ComesOf, DoesAsked, DoesMake};
@@ -12,13 +12,13 @@ ghost use Rattle.ltfs_server.specs.Sentence.{Asked, Asks, SentenceHolds};
 ghost use Rattle.session_run.specs.Timed.{one_moment};
 ghost use Rattle.session_script.specs.Made.{made_script};
 ghost use Rattle.tape_drive.specs.Crashes.{AllowsAll};
-ghost use Rattle.volume_crashes.specs.May.{MayServe};
+ghost use Rattle.crash_laws.specs.May.{MayServe};
 ghost use Rattle.ltfs_server.specs.Allowed.{MayServeLeft};
 
 use crate::making::run_make;
 use crate::serves::run_serve;
 use basic_commands::{Ended, run_format, run_label, run_list, run_plain, tell};
-use server_words::{Command, WordsErr, read_words};
+use command_line::{Command, WordsErr, read_words};
 use std::alloc::Global;
 use std::sync::Wait;
 use std::thread::Threads;

@@ -9,17 +9,17 @@ use Rattle.tape_types.specs.declared.cartridges.Limits.{Limits}
 use Rattle.tape_types.specs.declared.cartridges.Part.TheVariants.{Ip, Dp}
 use Rattle.index_model.specs.declared.indexes.Index.{Index}
 use Rattle.ltfs_label.specs.declared.Label.{Label}
-use Rattle.tape_content.specs.Readings as readings
-use Rattle.tape_content.specs.Readings.{HasForm, after_of, front}
-use Rattle.tape_content.specs.Content.{Phase, Data, Index as InIndex, Bad, content}
-use Rattle.tape_content.specs.Ends.{end_dp, end_ip, end_ip_in, lead_of}
-use Rattle.tape_content.proofs.Placed.{EndsAt, content_placed, pos_is}
-use Rattle.tape_content.proofs.ReadForms.{never_both}
-use Rattle.tape_meaning.specs.Meaning.{FitsNode, HasForms, dp_end, ip_end}
-use Rattle.tape_meaning.specs.Pointers.{chosen, indexes_of}
-use Rattle.tape_meaning.specs.declared.errors.MountErr.{MountErr}
-use Rattle.tape_meaning.specs.declared.errors.MountErr.TheVariants as errors
-use Rattle.tape_meaning.specs.declared.labels.Labels.{Labels}
+use Rattle.content_laws.specs.Readings as readings
+use Rattle.content_laws.specs.Readings.{HasForm, after_of, front}
+use Rattle.content_laws.specs.Content.{Phase, Data, Index as InIndex, Bad, content}
+use Rattle.content_laws.specs.Ends.{end_dp, end_ip, end_ip_in, lead_of}
+use Rattle.content_laws.proofs.Placed.{EndsAt, content_placed, pos_is}
+use Rattle.content_laws.proofs.ReadForms.{never_both}
+use Rattle.cartridge_meaning.specs.Meaning.{FitsNode, HasForms, dp_end, ip_end}
+use Rattle.cartridge_meaning.specs.Pointers.{chosen, indexes_of}
+use Rattle.cartridge_meaning.specs.declared.errors.MountErr.{MountErr}
+use Rattle.cartridge_meaning.specs.declared.errors.MountErr.TheVariants as errors
+use Rattle.cartridge_meaning.specs.declared.labels.Labels.{Labels}
 use Rattle.volume_scan.specs.declared.content.Construct.{Construct}
 use Rattle.volume_scan.specs.declared.content.Content.{Content}
 use Rattle.volume_scan.specs.Scans.{AreBetween, IsInPlaces, places_of}

@@ -23,12 +23,12 @@ use Rattle.index_model.specs.Grammar.{Stops}
 use Rattle.index_model.specs.declared.errors.IndexErr.{IndexErr}
 use Rattle.index_model.specs.declared.errors.IndexErr.TheVariants as index_errors
 use Rattle.index_read.specs.Answers.{UnlessMemory}
-use Rattle.tape_content.specs.Readings as readings
-use Rattle.tape_content.specs.Readings.{after_of, front}
-use Rattle.tape_content.specs.Ends.{end_dp}
-use Rattle.tape_content.proofs.Placed.{AreOrdered, content_placed, end_dp_within}
-use Rattle.tape_content.proofs.Whole.{front_within}
-use Rattle.tape_meaning.specs.Pointers.{text_of}
+use Rattle.content_laws.specs.Readings as readings
+use Rattle.content_laws.specs.Readings.{after_of, front}
+use Rattle.content_laws.specs.Ends.{end_dp}
+use Rattle.content_laws.proofs.Placed.{AreOrdered, content_placed, end_dp_within}
+use Rattle.content_laws.proofs.Whole.{front_within}
+use Rattle.cartridge_meaning.specs.Pointers.{text_of}
 use Rattle.volume_scan.specs.declared.content.Construct.{Construct}
 use Rattle.mount_recover.specs.Lasts.{HasIndexAt, IsBadText, IsInPlace, IsPut, IsTrueAt, StandAt, told}
 use Rattle.mount_recover.specs.Steps.{IsFree, IsSince, IsStep}

@@ -3,7 +3,7 @@ use Rattle.std.proofs.Common.{ℕ, zero, suc, ◌+◌, ◌≤◌, ◌≡◌, Lis
 use Rattle.std.specs.List.{AllByRecursion}
 use Rattle.index_model.specs.declared.nodes.Node.{Node}
 use Rattle.ltfs_label.specs.declared.Label.{Label}
-use Rattle.tape_meaning.specs.Meaning.{FitsNode}
+use Rattle.cartridge_meaning.specs.Meaning.{FitsNode}
 use Rattle.mount_recover.specs.Lasts.{IsFirstOutside}
 
 module _ {X : Type 0} (P : X → Type 0) where

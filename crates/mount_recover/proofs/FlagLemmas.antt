@@ -22,10 +22,10 @@ use Rattle.tape_drive.specs.declared.drive.Drive.{Ghosts}
 use Rattle.tape_drive.proofs.Looking.{then_looks}
 use Rattle.coherency.specs.Notes.{HasValues, IsNote}
 use Rattle.coherency.specs.declared.Coherency.{Coherency}
-use Rattle.tape_content.specs.Readings as readings
-use Rattle.tape_content.specs.Ends.{end_dp}
-use Rattle.tape_content.proofs.Placed.{end_dp_within}
-use Rattle.tape_meaning.specs.Pointers.{indexes_of}
+use Rattle.content_laws.specs.Readings as readings
+use Rattle.content_laws.specs.Ends.{end_dp}
+use Rattle.content_laws.proofs.Placed.{end_dp_within}
+use Rattle.cartridge_meaning.specs.Pointers.{indexes_of}
 use Rattle.volume_scan.specs.declared.content.Construct.{Construct}
 use Rattle.volume_scan.specs.declared.content.Content.{Content}
 use Rattle.mount_recover.specs.Lasts.{EndsAs, IsFront, IsSeen, TellsStanding, newest, place_in, standing_of}
@@ -35,8 +35,8 @@ use Rattle.mount_recover.specs.declared.lasts.Last.{Last}
 use Rattle.mount_recover.specs.declared.starts.Start.{Start}
 use Rattle.mount_recover.proofs.ChoiceLemmas.{place_is}
 use Rattle.mount_recover.proofs.StepLemmas.{at_told, since_next}
-use Rattle.tape_content.specs.Readings.{front}
-use Rattle.tape_content.proofs.Whole.{front_within}
+use Rattle.content_laws.specs.Readings.{front}
+use Rattle.content_laws.proofs.Whole.{front_within}
 
 pub fits_count : (c : Cartridge) (part : Part) (limits : Limits) → FitsLimits limits c → length (items_of part c) ≤ capacity part limits
 fits_count c Ip limits fits = fits.ip.count

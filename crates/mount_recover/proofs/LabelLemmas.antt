@@ -12,10 +12,10 @@ use Rattle.vol_label.specs.Table.{IsRecord}
 use Rattle.ltfs_label.proofs.Texts.{one_value}
 use Rattle.ltfs_label.specs.Grammar.{LabelText}
 use Rattle.ltfs_label.specs.Values.{LabelValue, label_of}
-use Rattle.tape_meaning.specs.declared.labels.Labels.{Labels}
-use Rattle.tape_meaning.specs.declared.errors.MountErr.{MountErr}
-use Rattle.tape_meaning.specs.declared.errors.MountErr.TheVariants as errors
-use Rattle.tape_meaning.specs.Labels.{AreOfOneVolume, HasLabel, HasLabels, HasRecord}
+use Rattle.cartridge_meaning.specs.declared.labels.Labels.{Labels}
+use Rattle.cartridge_meaning.specs.declared.errors.MountErr.{MountErr}
+use Rattle.cartridge_meaning.specs.declared.errors.MountErr.TheVariants as errors
+use Rattle.cartridge_meaning.specs.Labels.{AreOfOneVolume, HasLabel, HasLabels, HasRecord}
 use Rattle.mount_recover.specs.Labels.{Fails, IsReadAs, Refuses}
 use Rattle.mount_recover.proofs.ReadLemmas.{same_block}
 

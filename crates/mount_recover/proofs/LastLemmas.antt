@@ -11,14 +11,14 @@ use Rattle.tape_types.specs.Cartridges.{items_of}
 use Rattle.index_model.specs.Grammar.{IndexText, Stops}
 use Rattle.index_model.specs.declared.indexes.Index.{Index}
 use Rattle.ltfs_label.specs.declared.Label.{Label}
-use Rattle.tape_content.specs.Readings as readings
-use Rattle.tape_content.specs.Readings.{first_of}
-use Rattle.tape_meaning.specs.Faults.{ComesTo, HasBadIndex, HasOtherVolume, Points}
-use Rattle.tape_meaning.specs.Meaning.{HasForms}
-use Rattle.tape_meaning.specs.Pointers.{IsLastOnDp, IsLastOnIp, IsOfVolume, PointsOnDp, PointsOnIp, indexes_of, text_of}
-use Rattle.tape_meaning.specs.declared.errors.MountErr.{MountErr}
-use Rattle.tape_meaning.specs.declared.errors.MountErr.TheVariants as errors
-use Rattle.tape_meaning.specs.declared.labels.Labels.{Labels}
+use Rattle.content_laws.specs.Readings as readings
+use Rattle.content_laws.specs.Readings.{first_of}
+use Rattle.cartridge_meaning.specs.Faults.{ComesTo, HasBadIndex, HasOtherVolume, Points}
+use Rattle.cartridge_meaning.specs.Meaning.{HasForms}
+use Rattle.cartridge_meaning.specs.Pointers.{IsLastOnDp, IsLastOnIp, IsOfVolume, PointsOnDp, PointsOnIp, indexes_of, text_of}
+use Rattle.cartridge_meaning.specs.declared.errors.MountErr.{MountErr}
+use Rattle.cartridge_meaning.specs.declared.errors.MountErr.TheVariants as errors
+use Rattle.cartridge_meaning.specs.declared.labels.Labels.{Labels}
 use Rattle.volume_scan.specs.declared.content.Construct.{Construct}
 use Rattle.volume_scan.specs.declared.content.Content.{Content}
 use Rattle.volume_scan.specs.Scans.{AreBetween, IsInPlaces, places_of}

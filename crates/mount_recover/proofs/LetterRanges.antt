@@ -7,7 +7,7 @@ use Rattle.doc_fields.specs.declared.starts.Start.{Start}
 use Rattle.doc_fields.specs.Space.{space_end}
 use Rattle.doc_fields.specs.EndTag.{end_at}
 use Rattle.doc_fields.specs.Values.{letter_at}
-use Rattle.doc_children.specs.Children.{code, member}
+use Rattle.doc_elements.specs.Children.{code, member}
 use Rattle.doc_elements.specs.declared.errors.PieceErr.{PieceErr}
 use Rattle.doc_elements.specs.declared.schema.Place.{Place}
 use Rattle.doc_elements.specs.declared.schema.Place.TheVariants as place

@@ -10,26 +10,26 @@ use Rattle.tape_types.specs.declared.cartridges.Place.{Place}
 use Rattle.tape_types.specs.Cartridges.{items_of, note_of}
 use Rattle.index_model.specs.declared.indexes.Index.{Index}
 use Rattle.ltfs_label.specs.declared.Label.{Label}
-use Rattle.tape_content.specs.Readings as readings
-use Rattle.tape_content.specs.Ends.{EndsWithLast}
-use Rattle.tape_meaning.specs.Meaning.{Found}
-use Rattle.tape_meaning.specs.Mounts.{IsDpDone, IsIpDone, Mounts, chosen_place, last_place}
-use Rattle.tape_meaning.specs.Notes.{AreNoted, IsNoted, LastReads}
-use Rattle.tape_meaning.specs.Pointers.{IsLastOnDp, IsLastOnIp, indexes_of, last_block, newest_spot}
-use Rattle.tape_meaning.specs.declared.labels.Labels.{Labels}
-use Rattle.tape_meaning.specs.declared.mounted.Mounted.{Mounted}
-use Rattle.tape_meaning.proofs.OneFault.{found_no_fault}
-use Rattle.tape_meaning.proofs.OneWay.{last_dp_once, last_ip_once}
+use Rattle.content_laws.specs.Readings as readings
+use Rattle.content_laws.specs.Ends.{EndsWithLast}
+use Rattle.cartridge_meaning.specs.Meaning.{Found}
+use Rattle.cartridge_meaning.specs.Mounts.{IsDpDone, IsIpDone, Mounts, chosen_place, last_place}
+use Rattle.cartridge_meaning.specs.Notes.{AreNoted, IsNoted, LastReads}
+use Rattle.cartridge_meaning.specs.Pointers.{IsLastOnDp, IsLastOnIp, indexes_of, last_block, newest_spot}
+use Rattle.cartridge_meaning.specs.declared.labels.Labels.{Labels}
+use Rattle.cartridge_meaning.specs.declared.mounted.Mounted.{Mounted}
+use Rattle.cartridge_meaning.proofs.OneFault.{found_no_fault}
+use Rattle.cartridge_meaning.proofs.OneWay.{last_dp_once, last_ip_once}
 use Rattle.volume_scan.specs.declared.content.Construct.{Construct}
 use Rattle.std.specs.List.{AllByRecursion}
 use Rattle.tape_types.specs.declared.cartridges.Limits.{Limits}
 use Rattle.index_model.specs.Valid.{IsValid}
 use Rattle.tape_drive.specs.Looks.{Looks}
 use Rattle.tape_drive.specs.declared.drive.Drive.{Ghosts}
-use Rattle.tape_meaning.specs.Labels.{HasLabels}
-use Rattle.tape_meaning.specs.Meaning.{FitsNode}
-use Rattle.tape_meaning.specs.declared.errors.MountErr.{MountErr}
-use Rattle.tape_meaning.specs.declared.errors.MountErr.TheVariants as errors
+use Rattle.cartridge_meaning.specs.Labels.{HasLabels}
+use Rattle.cartridge_meaning.specs.Meaning.{FitsNode}
+use Rattle.cartridge_meaning.specs.declared.errors.MountErr.{MountErr}
+use Rattle.cartridge_meaning.specs.declared.errors.MountErr.TheVariants as errors
 use Rattle.mount_recover.specs.Labels.{AreLabels, Fails, HasCounts, IsSpelled}
 use Rattle.mount_recover.specs.Steps.{Blames, IsFree, IsSince, IsStep}
 use Rattle.mount_recover.specs.declared.scans.Scans.{Scans}

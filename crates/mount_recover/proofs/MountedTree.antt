@@ -14,8 +14,8 @@ use Rattle.index_model.specs.declared.nodes.RawExtent.{RawExtent}
 use Rattle.file_tree.specs.Mounts.{CanMount, EndsNear, IsOnVolume}
 use Rattle.file_tree.proofs.PathLemmas.{some_same}
 use Rattle.ltfs_label.specs.declared.Label.{Label}
-use Rattle.tape_meaning.specs.Meaning.{Fits, FitsKind, FitsNode, end_on}
-use Rattle.tape_meaning.specs.Pointers.{letter_of}
+use Rattle.cartridge_meaning.specs.Meaning.{Fits, FitsKind, FitsNode, end_on}
+use Rattle.cartridge_meaning.specs.Pointers.{letter_of}
 use Rattle.mount_recover.specs.Labels.{IsSpelled}
 use Rattle.mount_recover.proofs.LabelRanges.{block_in_range}
 

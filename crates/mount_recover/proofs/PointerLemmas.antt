@@ -4,8 +4,8 @@ use Rattle.std.specs.Prelude.{◌↔◌, IsTrue}
 use Rattle.index_model.specs.declared.indexes.Index.{Index}
 use Rattle.index_model.specs.declared.indexes.Spot.{Spot}
 use Rattle.ltfs_label.specs.declared.Label.{Label}
-use Rattle.tape_content.specs.Readings as readings
-use Rattle.tape_meaning.specs.Pointers.{NamesOneOf, PointsBack, newest_spot}
+use Rattle.content_laws.specs.Readings as readings
+use Rattle.cartridge_meaning.specs.Pointers.{NamesOneOf, PointsBack, newest_spot}
 use Rattle.volume_scan.specs.declared.content.Construct.{Construct}
 use Rattle.volume_scan.specs.Scans.{places_of}
 use Rattle.std.proofs.lemmas.Option.{get_or_from_slice_get, slice_get_within}

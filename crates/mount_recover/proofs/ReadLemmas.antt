@@ -20,7 +20,7 @@ use Rattle.ltfs_label.specs.Reading.{IsReadOr}
 use Rattle.ltfs_label.specs.declared.Label.{Label}
 use Rattle.ltfs_label.specs.declared.errors.LabelErr.{LabelErr}
 use Rattle.ltfs_label.specs.declared.errors.LabelErr.TheVariants as errors
-use Rattle.tape_meaning.specs.Labels.{HasLabel, HasSomeLabel, HasSomeRecord, IsMarkedBlock}
+use Rattle.cartridge_meaning.specs.Labels.{HasLabel, HasSomeLabel, HasSomeRecord, IsMarkedBlock}
 use Rattle.mount_recover.specs.Labels.{IsSpelled, is_block, is_mark, is_no_memory}
 
 pub block_is : (x : Option Item) (answer : Got) (buf : List ℕ) → IsRead x answer buf → is_block answer ≡ true → x ≡ Some (Block buf)

@@ -12,20 +12,20 @@ use Rattle.tape_types.specs.declared.cartridges.Part.TheVariants.{Ip, Dp}
 use Rattle.tape_types.specs.Cartridges.{capacity, items_of}
 use Rattle.tape_drive.specs.Looks.{Looks}
 use Rattle.tape_drive.specs.declared.drive.Drive.{Ghosts}
-use Rattle.tape_meaning.specs.declared.errors.MountErr.{MountErr}
-use Rattle.tape_meaning.specs.declared.errors.MountErr.TheVariants as errors
-use Rattle.tape_content.specs.Readings.{HasForm, constructs_from, front, items_of_group, items_of_tail}
-use Rattle.tape_content.specs.Readings as readings
-use Rattle.tape_content.specs.Content.{phase_of}
-use Rattle.tape_content.specs.Content as content
-use Rattle.tape_content.specs.Ends.{lead_of}
-use Rattle.tape_content.proofs.ReadForms.{form}
+use Rattle.cartridge_meaning.specs.declared.errors.MountErr.{MountErr}
+use Rattle.cartridge_meaning.specs.declared.errors.MountErr.TheVariants as errors
+use Rattle.content_laws.specs.Readings.{HasForm, constructs_from, front, items_of_group, items_of_tail}
+use Rattle.content_laws.specs.Readings as readings
+use Rattle.content_laws.specs.Content.{phase_of}
+use Rattle.content_laws.specs.Content as content
+use Rattle.content_laws.specs.Ends.{lead_of}
+use Rattle.content_laws.proofs.ReadForms.{form}
 use Rattle.volume_scan.specs.declared.content.Construct.{Construct}
 use Rattle.volume_scan.specs.declared.content.Content.{Content}
 use Rattle.volume_scan.specs.declared.errors.ScanErr.{ScanErr}
 use Rattle.volume_scan.specs.Scans.{HasCounts, IsContent, IsInPlaces, places_of}
-use Rattle.tape_meaning.specs.Faults.{LacksFormOn}
-use Rattle.tape_meaning.specs.Labels.{HasLabel, HasRecord}
+use Rattle.cartridge_meaning.specs.Faults.{LacksFormOn}
+use Rattle.cartridge_meaning.specs.Labels.{HasLabel, HasRecord}
 use Rattle.ltfs_label.specs.Values.{LabelValue, label_of}
 use Rattle.vol_label.specs.declared.Vol1.{Vol1}
 use Rattle.mount_recover.specs.Lasts.{HasSomeLabels, IsSeen, LacksLayout}

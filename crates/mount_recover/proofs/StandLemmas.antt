@@ -6,11 +6,11 @@ use Rattle.std.proofs.lemmas.Option.{slice_get-map}
 use Rattle.std.specs.Option.{option_map}
 use Rattle.tape_types.specs.declared.cartridges.Item.{Item}
 use Rattle.tape_types.specs.declared.cartridges.Item.TheVariants.{Block, Mark, Torn}
-use Rattle.tape_content.specs.Readings.{Construct, Group, HasForm, constructs_from, first_of, front, items_of_group, items_of_tail}
-use Rattle.tape_content.specs.Content.{content}
-use Rattle.tape_content.specs.Content as content
-use Rattle.tape_content.proofs.ReadForms.{form}
-use Rattle.tape_meaning.specs.Pointers.{indexes_of}
+use Rattle.content_laws.specs.Readings.{Construct, Group, HasForm, constructs_from, first_of, front, items_of_group, items_of_tail}
+use Rattle.content_laws.specs.Content.{content}
+use Rattle.content_laws.specs.Content as content
+use Rattle.content_laws.proofs.ReadForms.{form}
+use Rattle.cartridge_meaning.specs.Pointers.{indexes_of}
 use Rattle.mount_recover.specs.Lasts.{StandAt}
 
 -- an item of a list stands in it also where it is a part of a longer list

@@ -7,7 +7,7 @@ use Rattle.tape_types.specs.Cartridges.{FitsLimits}
 use Rattle.tape_drive.specs.Looks.{Looks}
 use Rattle.tape_drive.specs.declared.drive.Drive.{Ghosts}
 use Rattle.tape_drive.proofs.Looking.{more_looks, no_looks, then_looks}
-use Rattle.tape_meaning.specs.declared.errors.MountErr.{MountErr}
+use Rattle.cartridge_meaning.specs.declared.errors.MountErr.{MountErr}
 use Rattle.mount_recover.specs.Labels.{AreCounts}
 use Rattle.mount_recover.specs.Steps.{IsSince, IsStep}
 use Rattle.mount_recover.specs.declared.starts.Start.{Start}

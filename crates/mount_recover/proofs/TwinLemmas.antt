@@ -10,10 +10,10 @@ use Rattle.index_model.specs.Valid.{IsSpot, IsValid}
 use Rattle.index_model.specs.declared.indexes.Index.{Index}
 use Rattle.index_model.specs.declared.indexes.Spot.{Spot}
 use Rattle.index_read.proofs.WrittenLinks.{document_read}
-use Rattle.tape_content.specs.Readings as readings
-use Rattle.tape_content.specs.Readings.{first_of}
-use Rattle.tape_meaning.specs.Pointers.{PointsOnIp, indexes_of}
-use Rattle.tape_meaning.specs.declared.labels.Labels.{Labels}
+use Rattle.content_laws.specs.Readings as readings
+use Rattle.content_laws.specs.Readings.{first_of}
+use Rattle.cartridge_meaning.specs.Pointers.{PointsOnIp, indexes_of}
+use Rattle.cartridge_meaning.specs.declared.labels.Labels.{Labels}
 use Rattle.volume_scan.specs.declared.content.Construct.{Construct}
 use Rattle.mount_recover.specs.Labels.{AreLabels}
 use Rattle.mount_recover.specs.Lasts.{IsDocument, IsInPlace, IsKnownIp, IsLastDp, IsLastIp, IsSoundLast, IsTextOf, IsTwinAt, twin_of}

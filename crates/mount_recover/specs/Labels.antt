@@ -9,11 +9,11 @@ use Rattle.ltfs_label.specs.declared.errors.LabelErr.TheVariants as label_errors
 use Rattle.ltfs_label.specs.Grammar.{LabelText}
 use Rattle.ltfs_label.specs.Values.{label_of}
 use Rattle.ltfs_label.specs.declared.Label.{Label}
-use Rattle.tape_meaning.specs.Faults.{HasUnlikeLabels, LacksLabel, LacksRecord}
-use Rattle.tape_meaning.specs.Labels.{AreOfOneVolume}
-use Rattle.tape_meaning.specs.declared.labels.Labels.{Labels}
-use Rattle.tape_meaning.specs.declared.errors.MountErr.{MountErr}
-use Rattle.tape_meaning.specs.declared.errors.MountErr.TheVariants as errors
+use Rattle.cartridge_meaning.specs.Faults.{HasUnlikeLabels, LacksLabel, LacksRecord}
+use Rattle.cartridge_meaning.specs.Labels.{AreOfOneVolume}
+use Rattle.cartridge_meaning.specs.declared.labels.Labels.{Labels}
+use Rattle.cartridge_meaning.specs.declared.errors.MountErr.{MountErr}
+use Rattle.cartridge_meaning.specs.declared.errors.MountErr.TheVariants as errors
 use Rattle.mount_recover.specs.declared.items.Stop.{Stop}
 use Rattle.mount_recover.specs.declared.items.Stop.TheVariants as stops
 

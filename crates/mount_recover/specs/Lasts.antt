@@ -25,16 +25,16 @@ use Rattle.index_model.specs.declared.indexes.Index.{Index}
 use Rattle.index_model.specs.declared.nodes.Node.{Node}
 use Rattle.index_model.specs.declared.nodes.RawExtent.{RawExtent}
 use Rattle.ltfs_label.specs.declared.Label.{Label}
-use Rattle.tape_content.specs.Readings.{HasForm, LacksForm, front}
-use Rattle.tape_content.specs.Readings as readings
-use Rattle.tape_content.specs.Content.{content}
-use Rattle.tape_content.specs.Ends.{lead_of}
-use Rattle.tape_meaning.specs.Labels.{HasLabels}
-use Rattle.tape_meaning.specs.Meaning.{AreWithin, FitsNode, HasForms, dp_end, ip_end}
-use Rattle.tape_meaning.specs.Pointers.{IsLastOnDp, IsLastOnIp, IsOfVolume, chosen, indexes_of, text_of}
-use Rattle.tape_meaning.specs.declared.errors.MountErr.{MountErr}
-use Rattle.tape_meaning.specs.declared.errors.MountErr.TheVariants as errors
-use Rattle.tape_meaning.specs.declared.labels.Labels.{Labels}
+use Rattle.content_laws.specs.Readings.{HasForm, LacksForm, front}
+use Rattle.content_laws.specs.Readings as readings
+use Rattle.content_laws.specs.Content.{content}
+use Rattle.content_laws.specs.Ends.{lead_of}
+use Rattle.cartridge_meaning.specs.Labels.{HasLabels}
+use Rattle.cartridge_meaning.specs.Meaning.{AreWithin, FitsNode, HasForms, dp_end, ip_end}
+use Rattle.cartridge_meaning.specs.Pointers.{IsLastOnDp, IsLastOnIp, IsOfVolume, chosen, indexes_of, text_of}
+use Rattle.cartridge_meaning.specs.declared.errors.MountErr.{MountErr}
+use Rattle.cartridge_meaning.specs.declared.errors.MountErr.TheVariants as errors
+use Rattle.cartridge_meaning.specs.declared.labels.Labels.{Labels}
 use Rattle.volume_scan.specs.declared.content.Construct.{Construct}
 use Rattle.volume_scan.specs.declared.content.Content.{Content}
 use Rattle.volume_scan.specs.Scans.{IsContent, IsInPlaces, places_of}
@@ -48,7 +48,7 @@ use Rattle.mount_recover.specs.declared.choices.Standing.{Standing}
 use Rattle.mount_recover.specs.Labels.{IsSpelled}
 use Rattle.mount_recover.specs.declared.choices.Choice.{Choice}
 use Rattle.mount_recover.specs.declared.flags.Flags.{Flags}
-use Rattle.tape_meaning.specs.declared.mounted.Mounted.{Mounted}
+use Rattle.cartridge_meaning.specs.declared.mounted.Mounted.{Mounted}
 
 abbrev pub HasSomeLabels : Cartridge → Type 0
 HasSomeLabels c = (labels : Labels) × HasLabels c labels

@@ -8,16 +8,16 @@ ghost use Rattle.mount_recover.specs.Lasts.{IsPicked, IsScan, IsSoundChoice};
 ghost use Rattle.mount_recover.specs.Lasts.{IsFirstOutside, IsIpEnd, dp_ends, dp_in, ip_in, standing_of};
 ghost use Rattle.mount_recover.specs.Labels.{AreCounts};
 ghost use Rattle.std.specs.List.{AllByRecursion};
-ghost use Rattle.tape_meaning.specs.Meaning.{FitsNode};
-ghost use Rattle.tape_meaning.specs.declared.errors.MountErr.TheVariants as errors;
+ghost use Rattle.cartridge_meaning.specs.Meaning.{FitsNode};
+ghost use Rattle.cartridge_meaning.specs.declared.errors.MountErr.TheVariants as errors;
 ghost use Rattle.mount_recover.specs.Steps.{Blames};
 
 use crate::extents::{Ends, first_outside};
 use crate::lasts::{Last, Lasts};
 use crate::scans::Scans;
+use cartridge_meaning::{Labels, MountErr};
 use index_model::{Index, Spot};
 use ltfs_label::Label;
-use tape_meaning::{Labels, MountErr};
 use tape_types::{Part, Place};
 use volume_scan::{Construct, Content};
 

@@ -2,7 +2,7 @@
 
 ghost use Rattle.std.specs.Prelude.{◌≡◌, ◌<◌, ◌+◌, ◌*◌, ◌≤◌, ◌↔◌, IsTrue, MatchOption};
 ghost use Rattle.std.specs.List.{AllByRecursion};
-ghost use Rattle.tape_meaning.specs.Meaning.{Fits, FitsKind, FitsNode};
+ghost use Rattle.cartridge_meaning.specs.Meaning.{Fits, FitsKind, FitsNode};
 ghost use Rattle.mount_recover.specs.Lasts.{IsFirstOutside, LiesOn};
 
 use index_model::{Kind, Node, RawExtent};

@@ -1,7 +1,7 @@
 //! Whether the partitions end with their last indexes, and what the notes tell.
 
 ghost use Rattle.std.specs.Prelude.{◌≡◌, ◌≤◌, ◌↔◌, ◌+◌, true, length, Some, IfSome, IsTrue};
-ghost use Rattle.tape_content.specs.Readings.{front};
+ghost use Rattle.content_laws.specs.Readings.{front};
 ghost use Rattle.tape_drive.specs.declared.drive.Got.TheVariants as found;
 ghost use Rattle.tape_types.specs.Cartridges.{capacity, items_of};
 ghost use Rattle.mount_recover.specs.Lasts.{EndsAs, IsFront, TellsBoth, TellsStanding};
@@ -12,10 +12,10 @@ use crate::items::buffer;
 use crate::labels::failed;
 use crate::scans::Scans;
 use crate::starts::Start;
+use cartridge_meaning::MountErr;
 use coherency::decode_note;
 use std::alloc::Global;
 use tape_drive::{Drive, Got};
-use tape_meaning::MountErr;
 use tape_types::{Limits, Note, Part, Place};
 
 /// Whether each partition ends with its last index, and both notes tell of these.

@@ -12,7 +12,7 @@ ghost use Rattle.tape_types.specs.declared.cartridges.Cartridge.{Cartridge};
 ghost use Rattle.vol_label.specs.declared.Vol1.{Vol1};
 ghost use Rattle.ltfs_label.specs.Values.{LabelValue, label_of};
 ghost use Rattle.ltfs_label.specs.Grammar.{LabelText};
-ghost use Rattle.tape_meaning.specs.Labels.{HasLabel, HasRecord, HasSomeLabel, HasSomeRecord, IsMarkedBlock};
+ghost use Rattle.cartridge_meaning.specs.Labels.{HasLabel, HasRecord, HasSomeLabel, HasSomeRecord, IsMarkedBlock};
 ghost use Rattle.mount_recover.specs.Labels.{IsSpelled, IsStopped, is_block, is_mark, is_no_memory};
 
 use ltfs_label::{Label, LabelErr, read_label};

@@ -3,20 +3,20 @@
 ghost use Rattle.std.specs.Prelude.{◌≡◌, ◌≤◌, ◌*◌, Some, length, IfOk, IfErr, IfSome, IsTrue, ◌↔◌};
 ghost use Rattle.ltfs_label.specs.Values.{label_of};
 ghost use Rattle.tape_drive.specs.Looks.{Looks};
-ghost use Rattle.tape_meaning.specs.Labels.{AreInTheirPlaces, AreOfOneLayout, AreOfOneOrigin, AreOfOneVolume};
-ghost use Rattle.tape_meaning.specs.Labels.{HasLabel, HasLabels, HasRecord, HasSomeLabel, HasSomeRecord};
-ghost use Rattle.tape_meaning.specs.declared.labels.Labels.{Labels as Found};
-ghost use Rattle.tape_meaning.specs.declared.errors.MountErr.TheVariants as errors;
+ghost use Rattle.cartridge_meaning.specs.Labels.{AreInTheirPlaces, AreOfOneLayout, AreOfOneOrigin, AreOfOneVolume};
+ghost use Rattle.cartridge_meaning.specs.Labels.{HasLabel, HasLabels, HasRecord, HasSomeLabel, HasSomeRecord};
+ghost use Rattle.cartridge_meaning.specs.declared.labels.Labels.{Labels as Found};
+ghost use Rattle.cartridge_meaning.specs.declared.errors.MountErr.TheVariants as errors;
 ghost use Rattle.mount_recover.specs.Labels.{AreLabels, Fails, HasCounts, IsReadAs, IsSpelled, Refuses};
 ghost use Rattle.tape_types.specs.Times.{civil_of};
 ghost use Rattle.tape_types.specs.Cartridges.{capacity, items_of};
 ghost use Rattle.tape_types.specs.declared.cartridges.Cartridge.{Cartridge};
 
 use crate::items::{Buffers, Stop, read_label_of, read_record};
+use cartridge_meaning::{Labels, MountErr};
 use ltfs_label::Label;
 use std::alloc::Global;
 use tape_drive::Drive;
-use tape_meaning::{Labels, MountErr};
 use tape_types::{Moment, Part, Twin};
 use vol_label::Vol1;
 

@@ -2,7 +2,7 @@
 
 ghost use Rattle.std.specs.Prelude.{◌≡◌, ◌+◌, ℕ, None, Option, Some, IfErr, IfOk, IfSome, OnOk};
 ghost use Rattle.index_model.specs.declared.indexes.Index.{Index as IndexOf};
-ghost use Rattle.tape_meaning.specs.Pointers.{indexes_of};
+ghost use Rattle.cartridge_meaning.specs.Pointers.{indexes_of};
 ghost use Rattle.tape_types.specs.declared.cartridges.Cartridge.{Cartridge};
 ghost use Rattle.mount_recover.specs.Labels.{AreCounts, AreLabels};
 ghost use Rattle.mount_recover.specs.Lasts.{AreInPlaces, AreLasts, AreLastsWith, AreSoundLasts, AreSoundWith};
@@ -15,12 +15,12 @@ use crate::documents::{read_document, read_index_at, read_text};
 use crate::pointers::{points_on_dp, points_on_ip};
 use crate::scans::Scans;
 use crate::starts::Start;
+use cartridge_meaning::{Labels, MountErr};
 use index_model::{Index, Spot};
 use index_write::index_text;
 use ltfs_label::Label;
 use std::alloc::Global;
 use tape_drive::Drive;
-use tape_meaning::{Labels, MountErr};
 use tape_types::{NoMemory, Part, Place};
 use volume_scan::Construct;
 

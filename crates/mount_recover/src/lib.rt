@@ -13,6 +13,7 @@ mod pointers;
 mod scans;
 mod starts;
 
+pub use cartridge_meaning::{Labels, MountErr, Mounted};
 pub use documents::read_index_at;
 pub use extents::{Ends, first_outside};
 pub use labels::read_labels;
@@ -20,4 +21,3 @@ pub use mounting::mount;
 pub use pointers::points_on_dp;
 pub use scans::scan_one;
 pub use starts::{Start, begin};
-pub use tape_meaning::{Labels, MountErr, Mounted};

@@ -3,9 +3,9 @@
 ghost use Rattle.std.specs.Prelude.{◌≡◌, ◌+◌, ◌*◌, ◌↔◌, true, Some, IfOk, IfErr, IfSome, IsTrue};
 ghost use Rattle.tape_drive.specs.Looks.{Looks};
 ghost use Rattle.tape_types.specs.declared.cartridges.Cartridge.{Cartridge};
-ghost use Rattle.tape_meaning.specs.Labels.{HasLabels};
-ghost use Rattle.tape_meaning.specs.Meaning.{Found};
-ghost use Rattle.tape_meaning.specs.Mounts.{Mounts};
+ghost use Rattle.cartridge_meaning.specs.Labels.{HasLabels};
+ghost use Rattle.cartridge_meaning.specs.Meaning.{Found};
+ghost use Rattle.cartridge_meaning.specs.Mounts.{Mounts};
 ghost use Rattle.mount_recover.specs.Labels.{AreLabels, HasCounts};
 ghost use Rattle.std.specs.Option.{option_map};
 ghost use Rattle.mount_recover.specs.declared.choices.Standing.{Standing as StandingOf};
@@ -19,11 +19,11 @@ use crate::labels::read_labels;
 use crate::lasts::{Lasts, read_lasts};
 use crate::scans::{Scans, scan_both};
 use crate::starts::{Start, begin};
+use cartridge_meaning::{Labels, MountErr, Mounted};
 use index_model::Spot;
 use ltfs_label::Label;
 use std::alloc::Global;
 use tape_drive::Drive;
-use tape_meaning::{Labels, MountErr, Mounted};
 use tape_types::Part;
 
 /// Reads what the cartridge in a drive stands for, and writes nothing (LTFS 2.4 on mounting).

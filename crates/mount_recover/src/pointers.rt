@@ -3,8 +3,8 @@
 ghost use Rattle.std.specs.Prelude.{◌≡◌, ◌≤◌, ◌<◌, ◌⊎◌, ◌↔◌, List, map, reverse, Option, IsTrue};
 ghost use Rattle.index_model.specs.declared.indexes.Index.{Index as IndexOf};
 ghost use Rattle.index_model.specs.declared.indexes.Spot.{Spot as SpotOf};
-ghost use Rattle.tape_content.specs.Readings.{Construct as ConstructOf, first_of};
-ghost use Rattle.tape_meaning.specs.Pointers.{NamesOneOf, PointsBack, PointsOnDp, PointsOnIp, newest_spot};
+ghost use Rattle.content_laws.specs.Readings.{Construct as ConstructOf, first_of};
+ghost use Rattle.cartridge_meaning.specs.Pointers.{NamesOneOf, PointsBack, PointsOnDp, PointsOnIp, newest_spot};
 ghost use Rattle.volume_scan.specs.Scans.{places_of};
 ghost use Rattle.mount_recover.specs.Lasts.{HasFirst, generation_in};
 

@@ -1,7 +1,7 @@
 //! What stands on both partitions.
 
 ghost use Rattle.std.specs.Prelude.{◌≤◌, ◌+◌, length, IfSome};
-ghost use Rattle.tape_content.specs.Readings.{front};
+ghost use Rattle.content_laws.specs.Readings.{front};
 ghost use Rattle.tape_types.specs.Cartridges.{capacity, items_of};
 ghost use Rattle.volume_scan.specs.Scans.{IsContent, IsInPlaces};
 ghost use Rattle.mount_recover.specs.Lasts.{AreInPlaces, AreScanned, HasSomeLabels, LacksLayout};
@@ -9,9 +9,9 @@ ghost use Rattle.mount_recover.specs.Steps.{Blames, IsSince, IsStep};
 
 use crate::labels::failed;
 use crate::starts::Start;
+use cartridge_meaning::MountErr;
 use std::alloc::Global;
 use tape_drive::Drive;
-use tape_meaning::MountErr;
 use tape_types::{Part, Place};
 use volume_scan::{Content, ScanErr, scan};
 

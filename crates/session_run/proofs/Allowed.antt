@@ -8,16 +8,16 @@ use Rattle.session_script.specs.declared.scripts.ScriptLine.{ScriptLine}
 use Rattle.tape_drive.specs.Crashes.{AllowsAll}
 use Rattle.tape_drive.specs.Looks.{Looks}
 use Rattle.tape_drive.specs.declared.drive.Drive.{Ghosts}
-use Rattle.tape_meaning.specs.Carried.{Carried, carried}
-use Rattle.tape_meaning.specs.Meaning.{Reads, Stands}
-use Rattle.tape_meaning.specs.Mounts.{Mounts}
-use Rattle.tape_meaning.specs.declared.mounted.Mounted.{Mounted}
-use Rattle.volume_model.specs.Crash.{IsSound}
-use Rattle.volume_model.specs.Meanings.{cartridges}
-use Rattle.volume_model.specs.Served.{CanTell}
-use Rattle.volume_crashes.specs.May.{AllowsServed, MayServe, MayStart}
-use Rattle.volume_crashes.specs.Safe.{seen_by}
-use Rattle.volume_runs.proofs.Began.{same_stood, same_stood_facts, told_stood}
+use Rattle.cartridge_meaning.specs.Carried.{Carried, carried}
+use Rattle.cartridge_meaning.specs.Meaning.{Reads, Stands}
+use Rattle.cartridge_meaning.specs.Mounts.{Mounts}
+use Rattle.cartridge_meaning.specs.declared.mounted.Mounted.{Mounted}
+use Rattle.serving_promise.specs.Crash.{IsSound}
+use Rattle.serving_promise.specs.Meanings.{cartridges}
+use Rattle.serving_promise.specs.Served.{CanTell}
+use Rattle.crash_laws.specs.May.{AllowsServed, MayServe, MayStart}
+use Rattle.crash_laws.specs.Safe.{seen_by}
+use Rattle.run_laws.proofs.Began.{same_stood, same_stood_facts, told_stood}
 
 module _ {D : Type 0} (drive : Ghosts D) (most : ℕ) (start first : D) (looked : Looks drive most start first)
     (since : ℕ) (since_is : since ≡ drive.commands start) (mounted : Mounted) (script : List ScriptLine)

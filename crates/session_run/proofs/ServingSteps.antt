@@ -6,25 +6,25 @@ use Rattle.tape_types.specs.declared.cartridges.Limits.{Limits}
 use Rattle.tape_types.specs.declared.cartridges.Twin.{Twin}
 use Rattle.tape_types.specs.declared.moments.Moment.{Moment}
 use Rattle.session_script.specs.declared.scripts.ScriptLine.{ScriptLine}
-use Rattle.head_trail.specs.Trail.{fault_of, steps, travel}
+use Rattle.event_laws.specs.Trail.{fault_of, steps, travel}
 use Rattle.tape_drive.specs.declared.drive.Drive.{Ghosts}
-use Rattle.tape_meaning.specs.Carried.{carried}
-use Rattle.tape_meaning.specs.Mounts.{IsMount, Mounts}
-use Rattle.tape_meaning.specs.declared.errors.MountErr.{MountErr}
-use Rattle.tape_meaning.specs.declared.errors.MountErr.TheVariants as errors
-use Rattle.tape_meaning.specs.declared.mounted.Mounted.{Mounted}
+use Rattle.cartridge_meaning.specs.Carried.{carried}
+use Rattle.cartridge_meaning.specs.Mounts.{IsMount, Mounts}
+use Rattle.cartridge_meaning.specs.declared.errors.MountErr.{MountErr}
+use Rattle.cartridge_meaning.specs.declared.errors.MountErr.TheVariants as errors
+use Rattle.cartridge_meaning.specs.declared.mounted.Mounted.{Mounted}
 use Rattle.mount_recover.specs.Labels.{AreCounts}
 use Rattle.mount_recover.specs.Lasts.{IsSoundMount}
 use Rattle.mount_recover.specs.Steps.{Blames}
-use Rattle.volume_model.specs.Ends.{Closes, Starts, begun, bounded}
-use Rattle.volume_model.specs.Faults.{AreRises}
-use Rattle.volume_model.specs.Meanings.{cartridges}
-use Rattle.volume_model.specs.Served.{Fixed, View}
-use Rattle.volume_model.specs.declared.answers.CloseEnd.{CloseEnd}
-use Rattle.volume_model.specs.declared.answers.CloseEnd.TheVariants as close_ends
-use Rattle.volume_model.specs.declared.contract.Closed.{Closed}
-use Rattle.volume_order.specs.Kept.{seen}
-use Rattle.volume_runs.specs.Laws.{IsRun, PlaysAreRuns}
+use Rattle.serving_promise.specs.Ends.{Closes, Starts, begun, bounded}
+use Rattle.serving_promise.specs.Faults.{AreRises}
+use Rattle.serving_promise.specs.Meanings.{cartridges}
+use Rattle.serving_promise.specs.Served.{Fixed, View}
+use Rattle.serving_promise.specs.declared.answers.CloseEnd.{CloseEnd}
+use Rattle.serving_promise.specs.declared.answers.CloseEnd.TheVariants as close_ends
+use Rattle.serving_promise.specs.declared.contract.Closed.{Closed}
+use Rattle.order_laws.specs.Kept.{seen}
+use Rattle.run_laws.specs.Laws.{IsRun, PlaysAreRuns}
 use Rattle.session_run.specs.Ran.{HasRun, IsServedWhole}
 use Rattle.session_run.specs.declared.ran.RanEnd.{RanEnd}
 use Rattle.session_run.specs.declared.ran.RanEnd.TheVariants as run_ends

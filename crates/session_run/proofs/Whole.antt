@@ -14,13 +14,13 @@ use Rattle.tape_drive.specs.declared.drive.Drive.{Ghosts}
 use Rattle.tape_desk.specs.Passes.{AreAll, AreDealt, ArePartsOf, DeskView, IsPartOf, IsRested}
 use Rattle.tape_desk.specs.Promised.{IsPromised}
 use Rattle.tape_desk.proofs.Shelved.{begun_keeps}
-use Rattle.volume_logs.specs.Laws.{LogsGoOn}
-use Rattle.volume_model.specs.Ends.{begun}
-use Rattle.volume_model.specs.Marks.{NothingWaits, idle, phase, place_in}
-use Rattle.volume_model.specs.Meanings.{cartridges}
-use Rattle.volume_model.specs.Served.{Fixed, IsServed, View, placed_by}
-use Rattle.volume_order.specs.Kept.{seen}
-use Rattle.volume_order.proofs.Placing.{as_many_places}
+use Rattle.log_laws.specs.Laws.{LogsGoOn}
+use Rattle.serving_promise.specs.Ends.{begun}
+use Rattle.serving_promise.specs.Marks.{NothingWaits, idle, phase, place_in}
+use Rattle.serving_promise.specs.Meanings.{cartridges}
+use Rattle.serving_promise.specs.Served.{Fixed, IsServed, View, placed_by}
+use Rattle.order_laws.specs.Kept.{seen}
+use Rattle.order_laws.proofs.Placing.{as_many_places}
 use Rattle.session_run.specs.Ran.{IsDone, IsServedWhole}
 
 -- ---- sessions that the script doesn't have

@@ -6,25 +6,25 @@ use Rattle.tape_types.specs.declared.moments.Moment.{Moment}
 use Rattle.plain_tree.specs.Tree.{Tree}
 use Rattle.session_script.specs.declared.logs.Log.{Log}
 use Rattle.session_script.specs.declared.scripts.ScriptLine.{ScriptLine}
-use Rattle.head_trail.specs.Trail.{steps, travel}
+use Rattle.event_laws.specs.Trail.{steps, travel}
 use Rattle.tape_drive.specs.Looks.{Looks}
 use Rattle.tape_drive.specs.declared.drive.Drive.{Ghosts}
 use Rattle.mount_recover.specs.Labels.{AreCounts}
-use Rattle.tape_meaning.specs.Carried.{Carried, carried}
-use Rattle.tape_meaning.specs.Faults.{MountFault}
-use Rattle.tape_meaning.specs.Meaning.{Reads}
-use Rattle.tape_meaning.specs.Mounts.{Mounts}
-use Rattle.tape_meaning.specs.declared.errors.MountErr.{MountErr}
-use Rattle.tape_meaning.specs.declared.errors.MountErr.TheVariants as errors
-use Rattle.tape_meaning.specs.declared.mounted.Mounted.{Mounted}
-use Rattle.volume_model.specs.Ends.{bounded}
-use Rattle.volume_model.specs.Headline.{Closed, Failed, IsEndOf, Short, tree_of_log}
-use Rattle.volume_model.specs.Meanings.{cartridges}
-use Rattle.volume_model.specs.Served.{CanTell, Fixed}
-use Rattle.volume_model.specs.declared.answers.CloseEnd.{CloseEnd}
-use Rattle.volume_model.specs.declared.answers.CloseEnd.TheVariants as closes
-use Rattle.volume_order.specs.Kept.{seen}
-use Rattle.volume_runs.specs.Went.{IsRunBy}
+use Rattle.cartridge_meaning.specs.Carried.{Carried, carried}
+use Rattle.cartridge_meaning.specs.Faults.{MountFault}
+use Rattle.cartridge_meaning.specs.Meaning.{Reads}
+use Rattle.cartridge_meaning.specs.Mounts.{Mounts}
+use Rattle.cartridge_meaning.specs.declared.errors.MountErr.{MountErr}
+use Rattle.cartridge_meaning.specs.declared.errors.MountErr.TheVariants as errors
+use Rattle.cartridge_meaning.specs.declared.mounted.Mounted.{Mounted}
+use Rattle.serving_promise.specs.Ends.{bounded}
+use Rattle.serving_promise.specs.Headline.{Closed, Failed, IsEndOf, Short, tree_of_log}
+use Rattle.serving_promise.specs.Meanings.{cartridges}
+use Rattle.serving_promise.specs.Served.{CanTell, Fixed}
+use Rattle.serving_promise.specs.declared.answers.CloseEnd.{CloseEnd}
+use Rattle.serving_promise.specs.declared.answers.CloseEnd.TheVariants as closes
+use Rattle.order_laws.specs.Kept.{seen}
+use Rattle.run_laws.specs.Went.{IsRunBy}
 use Rattle.basic_commands.specs.Formats.{full_text}
 use Rattle.basic_commands.specs.Labels.{mount_status, mount_text}
 use Rattle.session_run.specs.declared.ends.ServeEnd.{ServeEnd}

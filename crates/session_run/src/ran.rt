@@ -2,18 +2,18 @@
 
 ghost use Rattle.std.specs.Prelude.{◌≡◌, ◌≤◌};
 ghost use Rattle.session_script.specs.Sessions.{greatest_session};
-ghost use Rattle.volume_model.specs.Ends.{begun};
+ghost use Rattle.serving_promise.specs.Ends.{begun};
 ghost use Rattle.session_run.specs.Ran.{HasRun};
 
 use crate::threads::make_all;
-use served_volume::Volume;
+use log_laws::logs_go_on;
 use std::alloc::Global;
 use std::sync::Wait;
 use std::thread::Threads;
 use tape_desk::Desk;
 use tape_drive::Drive;
 use tape_edge::{Clock, Gate};
-use volume_logs::logs_go_on;
+use volume_core::Volume;
 
 /// How a run of sessions ended.
 #[derive(Clone, Copy, Debug, PartialEq, Eq)]

@@ -1,15 +1,17 @@
 //! A script on the cartridge in a drive, whoever tells afterwards what came of it.
 
 ghost use Rattle.std.specs.Prelude.{◌≡◌, ◌≤◌, ◌-◌, ◌^◌, IfSome};
-ghost use Rattle.tape_meaning.specs.Mounts.{IsMount, Mounts};
-ghost use Rattle.volume_model.specs.Ends.{begun};
-ghost use Rattle.volume_crashes.specs.May.{MayServe, MayStart};
+ghost use Rattle.cartridge_meaning.specs.Mounts.{IsMount, Mounts};
+ghost use Rattle.serving_promise.specs.Ends.{begun};
+ghost use Rattle.crash_laws.specs.May.{MayServe, MayStart};
 ghost use Rattle.session_run.specs.Serving.{IsBegun, IsLookedAt, Whole};
 
 use crate::ends::{ServeEnd, Served, mount_end, of_close};
 use crate::ran::{Ran, RanEnd, run_sessions};
+use cartridge_meaning::Mounted;
 use mount_recover::mount;
-use served_volume::Volume;
+use run_laws::plays_are_runs;
+use serving_promise::Kept;
 use session_script::Script;
 use std::alloc::Global;
 use std::snapshot::Snapshot;
@@ -17,9 +19,7 @@ use std::sync::Wait;
 use std::thread::Threads;
 use tape_drive::Drive;
 use tape_edge::{Clock, Gate};
-use tape_meaning::Mounted;
-use volume_model::Kept;
-use volume_runs::plays_are_runs;
+use volume_core::Volume;
 
 /// Mounts the cartridge in a drive, runs all sessions of a script on its volume, and closes the volume. Each command is
 /// made only where the owner of the drive allows all that a crash may leave of it.

@@ -6,9 +6,9 @@ use denote.Struct.Record.{declared}
 use Rattle.std.proofs.Crossing.{crosses}
 use Rattle.tape_drive.specs.declared.drive.Drive as drives
 use Rattle.tape_edge.specs.declared.traits.Clock as clocks
-use Rattle.volume_core.specs.contracts.parts.Parts as parts
-use Rattle.served_volume.specs.contracts.volume.Volume as volumes
-use Rattle.served_volume.specs.contracts.volume.Volume.TheInside as volume
+use Rattle.volume_steps.specs.contracts.parts.Parts as parts
+use Rattle.volume_core.specs.contracts.volume.Volume as volumes
+use Rattle.volume_core.specs.contracts.volume.Volume.TheInside as volume
 use Rattle.turn_lock.proofs.Crossing as crossing
 use Rattle.tape_desk.specs.contracts.shelf.Shelf as shelves
 use Rattle.tape_desk.specs.contracts.shelf.Shelf.TheInside as shelf

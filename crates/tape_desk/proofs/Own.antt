@@ -8,9 +8,9 @@ use native.Mathlib.Decide.{ℕ_discrete}
 use Rattle.turn_lock.specs.Sums.{times}
 use Rattle.turn_lock.specs.Histories.{Sees, own_entries}
 use Rattle.turn_lock.proofs.Callers.{own_of_one}
-use Rattle.volume_model.specs.Marks.{kinds_of}
-use Rattle.volume_model.specs.declared.marks.Kind.{Kind}
-use Rattle.volume_model.specs.declared.marks.Mark.{Mark}
+use Rattle.serving_promise.specs.Marks.{kinds_of}
+use Rattle.serving_promise.specs.declared.marks.Kind.{Kind}
+use Rattle.serving_promise.specs.declared.marks.Mark.{Mark}
 
 abbrev pub who_of : Mark → ℕ
 who_of m = m.who

@@ -5,22 +5,22 @@ use Rattle.std.proofs.lemmas.List.{length_push}
 use Rattle.tape_drive.specs.declared.drive.Drive.{Ghosts}
 use Rattle.plain_tree.specs.declared.calls.Fate.{Fate}
 use Rattle.session_script.specs.declared.logs.Reply.{Reply}
-use Rattle.volume_model.specs.Ends.{begun}
-use Rattle.volume_model.specs.Marks.{draining, mark, marks_of_drain, marks_of_submit, marks_of_turn, phase, waits}
-use Rattle.volume_model.specs.Meanings.{cartridges}
-use Rattle.volume_model.specs.Served.{Drive, IsServed, View}
-use Rattle.volume_model.specs.Steps.{DrainsOnce, OnlyAnswers, Turns}
-use Rattle.volume_model.specs.Submits.{CanSubmit, Places, Submits}
-use Rattle.volume_model.specs.declared.answers.Drained.{Drained}
-use Rattle.volume_model.specs.declared.answers.Drained.TheVariants as drained
-use Rattle.volume_model.specs.declared.answers.Submitted.{Submitted}
-use Rattle.volume_model.specs.declared.answers.Submitted.TheVariants as submitted
-use Rattle.volume_model.specs.declared.answers.Turn.{Turn}
-use Rattle.volume_model.specs.declared.answers.Turn.TheVariants as turns
-use Rattle.volume_order.specs.Kept.{seen}
-use Rattle.volume_logs.specs.Acts.{IsGone, Moves}
-use Rattle.volume_logs.specs.Laws.{LogsGoOn}
-use Rattle.volume_logs.specs.Logged.{IsLogged}
+use Rattle.serving_promise.specs.Ends.{begun}
+use Rattle.serving_promise.specs.Marks.{draining, mark, marks_of_drain, marks_of_submit, marks_of_turn, phase, waits}
+use Rattle.serving_promise.specs.Meanings.{cartridges}
+use Rattle.serving_promise.specs.Served.{Drive, IsServed, View}
+use Rattle.serving_promise.specs.Steps.{DrainsOnce, OnlyAnswers, Turns}
+use Rattle.serving_promise.specs.Submits.{CanSubmit, Places, Submits}
+use Rattle.serving_promise.specs.declared.answers.Drained.{Drained}
+use Rattle.serving_promise.specs.declared.answers.Drained.TheVariants as drained
+use Rattle.serving_promise.specs.declared.answers.Submitted.{Submitted}
+use Rattle.serving_promise.specs.declared.answers.Submitted.TheVariants as submitted
+use Rattle.serving_promise.specs.declared.answers.Turn.{Turn}
+use Rattle.serving_promise.specs.declared.answers.Turn.TheVariants as turns
+use Rattle.order_laws.specs.Kept.{seen}
+use Rattle.log_laws.specs.Acts.{IsGone, Moves}
+use Rattle.log_laws.specs.Laws.{LogsGoOn}
+use Rattle.log_laws.specs.Logged.{IsLogged}
 use Rattle.tape_desk.specs.Promised.{IsPromised}
 use Rattle.tape_desk.specs.Turns.{kinds_of_drain, kinds_of_submit, kinds_of_turn}
 

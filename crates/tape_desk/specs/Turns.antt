@@ -4,18 +4,18 @@ use Rattle.session_script.specs.Grammar.{calls_of}
 use Rattle.session_script.specs.declared.logs.Reply.{Reply}
 use Rattle.session_script.specs.declared.logs.Reply.TheVariants as replies
 use Rattle.turn_lock.specs.Passes.{PassView}
-use Rattle.volume_model.specs.Marks.{hands_of, idle, kinds_of, phase, places_of}
-use Rattle.volume_model.specs.Served.{Fixed}
-use Rattle.volume_model.specs.declared.answers.Drained.{Drained}
-use Rattle.volume_model.specs.declared.answers.Drained.TheVariants as drained
-use Rattle.volume_model.specs.declared.answers.Submitted.{Submitted}
-use Rattle.volume_model.specs.declared.answers.Submitted.TheVariants as submitted
-use Rattle.volume_model.specs.declared.answers.Turn.{Turn}
-use Rattle.volume_model.specs.declared.answers.Turn.TheVariants as turns
-use Rattle.volume_model.specs.declared.marks.Kind.{Kind}
-use Rattle.volume_model.specs.declared.marks.Kind.TheVariants.{Places as places, Hands as hands, Begins as begins}
-use Rattle.volume_model.specs.declared.marks.Kind.TheVariants.{Rests as rests}
-use Rattle.volume_model.specs.declared.marks.Mark.{Mark}
+use Rattle.serving_promise.specs.Marks.{hands_of, idle, kinds_of, phase, places_of}
+use Rattle.serving_promise.specs.Served.{Fixed}
+use Rattle.serving_promise.specs.declared.answers.Drained.{Drained}
+use Rattle.serving_promise.specs.declared.answers.Drained.TheVariants as drained
+use Rattle.serving_promise.specs.declared.answers.Submitted.{Submitted}
+use Rattle.serving_promise.specs.declared.answers.Submitted.TheVariants as submitted
+use Rattle.serving_promise.specs.declared.answers.Turn.{Turn}
+use Rattle.serving_promise.specs.declared.answers.Turn.TheVariants as turns
+use Rattle.serving_promise.specs.declared.marks.Kind.{Kind}
+use Rattle.serving_promise.specs.declared.marks.Kind.TheVariants.{Places as places, Hands as hands, Begins as begins}
+use Rattle.serving_promise.specs.declared.marks.Kind.TheVariants.{Rests as rests}
+use Rattle.serving_promise.specs.declared.marks.Mark.{Mark}
 
 -- ---- which marks a turn adds
 

@@ -1,21 +1,21 @@
 //! A session's call, turn by turn.
 
 ghost use Rattle.std.specs.Prelude.{◌≡◌, ◌∷◌, [], ℕ};
-ghost use Rattle.volume_model.specs.Marks.{draining, phase, waits};
-ghost use Rattle.volume_model.specs.declared.marks.Kind.TheVariants.{Hands as hands};
+ghost use Rattle.serving_promise.specs.Marks.{draining, phase, waits};
+ghost use Rattle.serving_promise.specs.declared.marks.Kind.TheVariants.{Hands as hands};
 ghost use Rattle.tape_desk.specs.Passes.{Calls, HasMore};
 ghost use Rattle.tape_desk.specs.Turns.{CanPlace, GoesOn, IsMade, IsOwn};
 ghost use Rattle.tape_desk.specs.Turns.{kinds_of_drain, kinds_of_submit, kinds_of_turn, kinds_of_wait};
 
 use crate::pass::DeskPass;
 use crate::shelf::Shelf;
+use log_laws::logs_go_on;
+use serving_promise::{Drained, Submitted, Turn};
 use session_script::Reply;
 use std::sync::Wait;
 use tape_drive::Drive;
 use tape_edge::{Clock, Gate};
 use turn_lock::{Pass, TurnLock};
-use volume_logs::logs_go_on;
-use volume_model::{Drained, Submitted, Turn};
 
 /// The turns of a call. The session passes the gate before each of them.
 #[derive(Drop)]

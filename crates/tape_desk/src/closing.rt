@@ -2,17 +2,17 @@
 
 ghost use Rattle.std.specs.Prelude.{◌≡◌, false};
 ghost use Rattle.session_script.specs.Sessions.{greatest_session};
-ghost use Rattle.volume_model.specs.Marks.{NothingWaits};
+ghost use Rattle.serving_promise.specs.Marks.{NothingWaits};
 ghost use Rattle.tape_desk.specs.Gathering.{IsPassOf, TakesIn};
 ghost use Rattle.tape_desk.specs.Passes.{AreAll, ArePartsOf};
 ghost use Rattle.tape_desk.specs.Promised.{IsPromised};
 
 use crate::pass::DeskPass;
 use crate::shelf::Shelf;
-use served_volume::Volume;
 use tape_drive::Drive;
 use tape_edge::Clock;
 use turn_lock::{Pass, TurnLock};
+use volume_core::Volume;
 
 /// The volume behind a lock, once all passes were handed in.
 pub fn gather<D: Drive, C: Clock>(

@@ -2,8 +2,8 @@
 
 ghost use Rattle.std.specs.Prelude.{◌≡◌, ◌≤◌, IfOk, IfErr};
 ghost use Rattle.session_script.specs.Sessions.{greatest_session};
-ghost use Rattle.volume_model.specs.Ends.{begun};
-ghost use Rattle.volume_model.specs.Marks.{NothingWaits};
+ghost use Rattle.serving_promise.specs.Ends.{begun};
+ghost use Rattle.serving_promise.specs.Marks.{NothingWaits};
 ghost use Rattle.tape_desk.specs.Passes.{AreAll, AreDealt, ArePartsOf, Calls, HasMore};
 ghost use Rattle.tape_desk.specs.Promised.{IsPromised};
 
@@ -12,7 +12,6 @@ use crate::closing::gather;
 use crate::opening::open;
 use crate::pass::DeskPass;
 use crate::shelf::Shelf;
-use served_volume::Volume;
 use session_script::Reply;
 use std::alloc::Global;
 use std::marker::Model;
@@ -20,6 +19,7 @@ use std::sync::Wait;
 use tape_drive::Drive;
 use tape_edge::{Clock, Gate};
 use turn_lock::TurnLock;
+use volume_core::Volume;
 
 /// A served volume that sessions share. Contracts see which one it is.
 pub struct Desk<D: Drive, C: Clock> {

@@ -2,19 +2,19 @@
 
 ghost use Rattle.std.specs.Prelude.{◌≡◌, ◌≤◌, ◌<◌, ◌∷◌, [], length, vec_capacity, IfOk, IfErr, IfSome, Some};
 ghost use Rattle.session_script.specs.Sessions.{greatest_session};
-ghost use Rattle.volume_model.specs.Ends.{begun};
-ghost use Rattle.volume_model.specs.Served.{Fixed};
+ghost use Rattle.serving_promise.specs.Ends.{begun};
+ghost use Rattle.serving_promise.specs.Served.{Fixed};
 ghost use Rattle.tape_desk.specs.Dealing.{AreCounts, CanBegin, CanDeal};
 ghost use Rattle.tape_desk.specs.Passes.{AreDealt, view_of};
 
 use crate::pass::DeskPass;
 use crate::shelf::Shelf;
-use served_volume::Volume;
+use log_laws::logs_go_on;
 use std::alloc::Global;
 use tape_drive::Drive;
 use tape_edge::Clock;
 use turn_lock::{Pass, TurnLock};
-use volume_logs::logs_go_on;
+use volume_core::Volume;
 
 /// A lock around a volume of which nothing was asked, and the passes of its sessions, in order.
 pub fn open<D: Drive, C: Clock>(

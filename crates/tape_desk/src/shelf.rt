@@ -3,13 +3,13 @@
 ghost use Rattle.std.specs.Prelude.{◌≡◌};
 ghost use Rattle.tape_desk.specs.Promised.{IsPromised};
 
-use served_volume::Volume;
+use serving_promise::Mark;
 use std::marker::Model;
 use std::snapshot::Snapshot;
 use tape_drive::Drive;
 use tape_edge::Clock;
 use turn_lock::Logged;
-use volume_model::Mark;
+use volume_core::Volume;
 
 /// A volume that is shared, with all that is promised of it. Its history is the list of its marks.
 #[derive(Drop)]
@@ -22,7 +22,7 @@ impl<D: Drive, C: Clock> Model for Shelf<D, C> {
     ghost use Rattle.std.specs.Coded.{codes, coded_list, coded_ℕ};
     ghost use Rattle.plain_tree.specs.Paths.{path_cmp};
     ghost use Rattle.plain_tree.specs.contracts.nodes.Node as node;
-    ghost use Rattle.volume_model.specs.Served.{View};
+    ghost use Rattle.serving_promise.specs.Served.{View};
     ghost use Rattle.tape_desk.specs.Promised.{IsPromised};
 
     ghost Value = { View D };
@@ -44,7 +44,7 @@ impl<D: Drive, C: Clock> Model for Constant<D, C> {
     ghost use Rattle.std.specs.Coded.{codes, coded_list, coded_ℕ};
     ghost use Rattle.plain_tree.specs.Paths.{path_cmp};
     ghost use Rattle.plain_tree.specs.contracts.nodes.Node as node;
-    ghost use Rattle.volume_model.specs.Served.{Fixed};
+    ghost use Rattle.serving_promise.specs.Served.{Fixed};
 
     ghost Value = { Fixed D };
 

@@ -1,89 +1,46 @@
--- Calls that the stock refuses, or for which it has no room.
-use Rattle.std.specs.Prelude.{◌≡◌, Bool, Option, Some, None, Result, Ok, Err}
-use Rattle.std.proofs.Common.{refl, sym, subst}
+-- How a close ends, by what was admitted and what its commands did.
+use Rattle.std.specs.Prelude.{ℕ, ◌≡◌, ◌||◌, not, Bool, Option, Some, None, is_some, Result}
+use Rattle.std.specs.Option.{option_map}
+use Rattle.std.proofs.Common.{refl, sym, ap, subst, ◌∙◌}
+use Rattle.tape_types.specs.declared.cartridges.Twin.{Twin}
 use Rattle.tape_types.specs.declared.moments.Moment.{Moment}
-use Rattle.extent_map.specs.Cells.{Tape}
-use Rattle.plain_tree.specs.Refusals.{refusal_of}
-use Rattle.plain_tree.specs.declared.calls.Call.{Call}
-use Rattle.plain_tree.specs.declared.calls.Call.TheVariants as calls
-use Rattle.plain_tree.specs.declared.calls.Refusal.{Refusal}
-use Rattle.tape_layout.specs.declared.errors.AdmitErr.{AdmitErr}
-use Rattle.tape_layout.specs.declared.errors.AdmitErr.TheVariants as errors
-use Rattle.volume_space.specs.Standing.{Given, Standing}
-use Rattle.volume_stock.specs.Applied.{IsApplied, IsChange, IsUnchanged, LeavesAll}
-use Rattle.volume_stock.specs.Stocks.{IsStock, Stocked}
-use Rattle.volume_journal.specs.Trails.{Journaled}
-use Rattle.volume_parts.specs.Parts.{Parts}
-use Rattle.volume_parts.specs.Placing.{IsVoidFor}
-use Rattle.volume_core.specs.Asking.{Reserves, told_void}
-use Rattle.volume_core.proofs.ChangeLemmas.{DoneAlways}
+use Rattle.tape_drive.specs.declared.drive.Drive.{Ghosts}
+use Rattle.tape_layout.specs.Plans.{Plan}
+use Rattle.held_volume.specs.Stocks.{Stocked}
+use Rattle.serving_promise.specs.declared.answers.CloseEnd.{CloseEnd}
+use Rattle.volume_core.specs.Commands.{AreOpsDone, EndsWith, Lasts}
+use Rattle.volume_core.specs.Finish.{AdmitsOnDp, AdmitsOnIp, Finishes, IsShortOnIp, close_end, lasts_of, short_end}
 
-pub change_told : (call : Call) (at : Moment) (stock next : Stocked) (error : AdmitErr)
-    → ((early : Tape) (g : Given) (on : Bool) (st : Standing) → IsStock early g on st stock
-    → IsApplied early g on st call at stock next (Err error))
-    → IsVoidFor stock call at (told_void error)
-change_told call at stock next (errors.Full need limit) applied = applied
-change_told call at stock next errors.NoMemory applied = tt
+pub some_mapped : {X Y : Type 0} (f : X → Y) (o : Option X) → is_some (option_map f o) ≡ is_some o
+some_mapped f None = refl
+some_mapped f (Some x) = refl
 
-pub sync_told : (at : Moment) (stock next : Stocked) (error : AdmitErr)
-    → ((early : Tape) (g : Given) (on : Bool) (st : Standing) → IsStock early g on st stock
-    → IsChange early g on st calls.Sync at stock next (Err error))
-    → IsVoidFor stock calls.Sync at (told_void error)
-sync_told at stock next (errors.Full need limit) applied = λ early g on st is. (refl, applied early g on st is)
-sync_told at stock next errors.NoMemory applied = tt
+module _ {D : Type 0} (drive : Ghosts D) (noted : Bool) (at : Moment) (held mid : Stocked) (old new : D)
+    (told : Result (Unit {0}) Twin) (outcome : CloseEnd) where
+  pub went : (last : Stocked) (due notes : Bool) (lasts : Lasts) (generation : ℕ) → AdmitsOnDp at held mid
+      → AdmitsOnIp at held mid last due → notes ≡ (due || not noted) → lasts ≡ lasts_of mid
+      → generation ≡ lasts.generation
+      → EndsWith drive last.layout.ops lasts notes old new told
+      → outcome ≡ close_end generation told → Finishes drive noted at held old new outcome
+  went last due notes lasts generation dp ip notes_is lasts_is generation_is ends is =
+      let same : generation ≡ mid.frame.generation = generation_is ∙ ap (λ (l : Lasts). l.generation) lasts_is in
+      subst (λ (e : CloseEnd). Finishes drive noted at held old new e)
+      (sym (is ∙ ap (λ n. close_end n told) same))
+      (Finishes.went mid last due new told dp ip
+      (subst (λ b. EndsWith drive last.layout.ops (lasts_of mid) b old new told) notes_is
+      (subst (λ (l : Lasts). EndsWith drive last.layout.ops l notes old new told) lasts_is ends)))
 
--- the stock may have memory for more, and the trail
-pub reserves_both : {D : Type 0} (old : Parts D) (stock : Stocked) (trail : Journaled) → IsUnchanged old.stock stock
-    → trail.events ≡ old.trail.events → trail.acks ≡ old.trail.acks → trail.kept ≡ old.trail.kept
-    → Reserves old (record old { stock = stock; trail = trail })
-reserves_both old stock trail unchanged events acks kept = record {
-  drive = refl;
-  stock = unchanged;
-  on = refl;
-  events = events;
-  acks = acks;
-  kept = kept;
-  waiting = refl;
-  arrived = refl;
-  reads = refl;
-  history = refl;
-  replies = refl;
-  marks = refl;
-  calls = refl;
-  sessions = refl;
-}
+  pub short : (last : Stocked) (need limit : ℕ) → AdmitsOnDp at held mid → IsShortOnIp at held need limit
+      → last.layout ≡ mid.layout → AreOpsDone drive last.layout.ops old new told → outcome ≡ short_end need limit told
+      → Finishes drive noted at held old new outcome
+  short last need limit dp ip same done is =
+      subst (λ (e : CloseEnd). Finishes drive noted at held old new e) (sym is)
+      (Finishes.short_on_ip need limit mid new told dp ip
+      (subst (λ (l : Plan). AreOpsDone drive l.ops old new told) same done))
 
--- ---- what a call of the stock answers
-
--- what it says of a result
-abbrev pub Applied : Call → Moment → Stocked → Stocked → Result (Option Refusal) AdmitErr → Type 0
-Applied call at old next r = (early : Tape) (g : Given) (on : Bool) (st : Standing) → IsStock early g on st old
-    → IsApplied early g on st call at old next r
-
-pub done_of : (call : Call) (at : Moment) (old next : Stocked) (r : Result (Option Refusal) AdmitErr) → r ≡ Ok None
-    → Applied call at old next r → DoneAlways call at old next
-done_of call at old next r is applied = subst (λ (x : Result (Option Refusal) AdmitErr). Applied call at old next x) is applied
-
-pub refused_of : (call : Call) (at : Moment) (old next : Stocked) (refusal : Refusal) (r : Result (Option Refusal) AdmitErr)
-    → r ≡ Ok (Some refusal) → Applied call at old next r
-    → (early : Tape) (g : Given) (on : Bool) (st : Standing) → IsStock early g on st old → refusal_of st.tree call ≡ Some refusal
-refused_of call at old next refusal r is applied =
-    subst (λ (x : Result (Option Refusal) AdmitErr). Applied call at old next x) is applied
-
-pub told_of : (call : Call) (at : Moment) (old next : Stocked) (error : AdmitErr) (r : Result (Option Refusal) AdmitErr)
-    → r ≡ Err error → Applied call at old next r → IsVoidFor old call at (told_void error)
-told_of call at old next error r is applied =
-    change_told call at old next error
-    (subst (λ (x : Result (Option Refusal) AdmitErr). Applied call at old next x) is applied)
-
-pub same_of : (old next : Stocked) (refusal : Refusal) (r : Result (Option Refusal) AdmitErr) → r ≡ Ok (Some refusal)
-    → LeavesAll old next r → next ≡ old
-same_of old next refusal r is leaves = subst (λ (x : Result (Option Refusal) AdmitErr). LeavesAll old next x) is leaves
-
-pub unchanged_of : (old next : Stocked) (error : AdmitErr) (r : Result (Option Refusal) AdmitErr) → r ≡ Err error
-    → LeavesAll old next r → IsUnchanged old next
-unchanged_of old next error r is leaves = subst (λ (x : Result (Option Refusal) AdmitErr). LeavesAll old next x) is leaves
-
-pub unchanged_same : (old next : Stocked) → next ≡ old → IsUnchanged old next
-unchanged_same old next is =
-    subst (λ (x : Stocked). IsUnchanged old x) (sym is) (record { layout = refl; frame = refl; stands = λ tape g on st stands. stands })
+-- the numbers by other names
+pub same_end : (need limit need_told limit_told : ℕ) (told : Result (Unit {0}) Twin) (outcome : CloseEnd)
+    → need ≡ need_told → limit ≡ limit_told → outcome ≡ short_end need limit told
+    → outcome ≡ short_end need_told limit_told told
+same_end need limit need_told limit_told told outcome need_is limit_is is =
+    is ∙ (λ i. short_end (need_is i) (limit_is i) told)

@@ -1,20 +1,43 @@
-mod AnswerLemmas
-mod AwaitLemmas
-mod ChangeLemmas
-mod EndLemmas
-mod FillLemmas
-mod IndexLemmas
-mod OpLemmas
-mod PickLemmas
-mod PlacingLemmas
-pub mod QueueLemmas
-mod ReadLemmas
-mod RequestLemmas
-mod RunLemmas
-mod StepLemmas
-pub mod SubmitLemmas
-mod SyncDone
-mod SyncLemmas
-mod SyncedLemmas
-pub mod TiedLemmas
-mod WaitLemmas
+mod Acting
+pub mod AdmitLemmas
+pub mod Admitted
+pub mod Alike
+mod AskLemmas
+mod BeginLemmas
+pub mod Built
+pub mod CloseEnds
+pub mod CloseGiven
+pub mod CostLemmas
+mod Counting
+pub mod Counts
+pub mod Crashing
+pub mod DoLemmas
+pub mod DoneClose
+pub mod DoneIndexed
+pub mod DoneLast
+pub mod DoneNotes
+pub mod DoneStill
+pub mod DoneWent
+pub mod EndLemmas
+pub mod Ended
+mod Ends
+pub mod Equal
+pub mod Exact
+mod Faulted
+mod Given
+pub mod Keeping
+mod LeavingLemmas
+mod Made
+mod MayLemmas
+pub mod Mid
+pub mod Nodes
+pub mod Noting
+mod Ready
+pub mod Same
+mod Serves
+pub mod Settled
+pub mod Shorts
+pub mod Still
+mod Submissions
+pub mod There
+pub mod Unchanged

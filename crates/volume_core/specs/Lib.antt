@@ -1,5 +1,11 @@
-pub mod Asking
-pub mod Handed
-pub mod Moves
-pub mod Seen
-pub mod Wanted
+pub mod Beginning
+pub mod Commands
+pub mod Costs
+pub mod Doing
+pub mod Drains
+pub mod Finish
+pub mod Leaving
+pub mod May
+pub mod Promised
+pub mod Serving
+pub mod Turns

@@ -1,17 +1,17 @@
-//! What a volume that is served makes of its parts, over any drive: a step of the head, and each call of a session.
+//! A volume that is served, over any drive: from its mount to the log of all calls that its sessions made.
 #![tactic(auto)]
 
-mod drains;
-mod fetches;
-mod handing;
-mod looks;
-mod ops;
-mod parts;
-mod placing;
-mod requests;
-mod steps;
-mod submits;
-mod syncs;
+mod closing;
+mod commands;
+mod costs;
+mod draining;
+mod finishing;
+mod laws;
+mod leaving;
+mod notes;
+mod starting;
+mod submitting;
+mod turning;
+mod volume;
 
-pub use parts::Parts;
-pub use placing::Asked;
+pub use volume::Volume;

@@ -6,8 +6,8 @@ use Rattle.tape_types.specs.declared.cartridges.Cartridge.{Cartridge}
 use Rattle.tape_types.specs.declared.cartridges.Limits.{Limits}
 use Rattle.tape_types.specs.declared.cartridges.Part.{Part}
 use Rattle.tape_types.specs.declared.cartridges.Part.TheVariants.{Ip, Dp}
-use Rattle.tape_content.specs.Readings.{front}
-use Rattle.tape_content.proofs.Whole.{front_within}
+use Rattle.content_laws.specs.Readings.{front}
+use Rattle.content_laws.proofs.Whole.{front_within}
 use Rattle.volume_scan.specs.declared.content.Content.{Content}
 use Rattle.volume_scan.specs.declared.reading.Reading.{Reading}
 use Rattle.volume_scan.specs.Scans.{IsContent}

@@ -7,12 +7,12 @@ use Rattle.tape_types.specs.declared.cartridges.Item.TheVariants.{Block, Mark, T
 use Rattle.tape_drive.specs.Commands.{IsRead}
 use Rattle.tape_drive.specs.declared.drive.Got.{Got}
 use Rattle.tape_drive.specs.declared.drive.Got.TheVariants as got
-use Rattle.tape_content.specs.Readings.{after_of, first_of, front}
-use Rattle.tape_content.specs.Readings as readings
-use Rattle.tape_content.specs.Content.{Phase, Data, Index, Bad, content, seen, seen_in, start}
-use Rattle.tape_content.specs.Content as content
-use Rattle.tape_content.specs.Ends.{lead_of}
-use Rattle.tape_content.proofs.Placed.{bad_for_good}
+use Rattle.content_laws.specs.Readings.{after_of, first_of, front}
+use Rattle.content_laws.specs.Readings as readings
+use Rattle.content_laws.specs.Content.{Phase, Data, Index, Bad, content, seen, seen_in, start}
+use Rattle.content_laws.specs.Content as content
+use Rattle.content_laws.specs.Ends.{lead_of}
+use Rattle.content_laws.proofs.Placed.{bad_for_good}
 use Rattle.volume_scan.specs.declared.content.Construct.{Construct}
 use Rattle.volume_scan.specs.declared.content.Content.{Content}
 use Rattle.volume_scan.specs.declared.reading.Reading.{Reading}

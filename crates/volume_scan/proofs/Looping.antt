@@ -6,9 +6,9 @@ use Rattle.tape_types.specs.declared.cartridges.Cartridge.{Cartridge}
 use Rattle.tape_types.specs.declared.cartridges.Item.{Item}
 use Rattle.tape_types.specs.declared.cartridges.Part.{Part}
 use Rattle.tape_types.specs.declared.cartridges.Place.{Place}
-use Rattle.tape_content.specs.Readings.{front}
-use Rattle.tape_content.specs.Content.{Bad}
-use Rattle.tape_content.proofs.Whole.{front_within}
+use Rattle.content_laws.specs.Readings.{front}
+use Rattle.content_laws.specs.Content.{Bad}
+use Rattle.content_laws.proofs.Whole.{front_within}
 use Rattle.tape_drive.specs.Commands.{IsRead, after_read, item_at}
 use Rattle.tape_drive.specs.Looks.{Looks}
 use Rattle.tape_drive.proofs.Looking.{more_looks, then_looks}

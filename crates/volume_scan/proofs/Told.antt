@@ -4,14 +4,14 @@ use Rattle.std.proofs.lemmas.List.{length-map, reverse-reverse}
 use Rattle.std.specs.List.{flat_map}
 use Rattle.tape_types.specs.declared.cartridges.Item.{Item}
 use Rattle.tape_types.specs.declared.cartridges.Item.TheVariants.{Block}
-use Rattle.tape_content.specs.Readings.{HasForm, LacksForm, constructs_from, front, items_of_group, items_of_tail}
-use Rattle.tape_content.specs.Readings as readings
-use Rattle.tape_content.specs.Content.{Phase, Data, Index, Bad, content, phase_of}
-use Rattle.tape_content.specs.Content as content
-use Rattle.tape_content.specs.Ends.{lead_of}
-use Rattle.tape_content.proofs.ReadForms.{form, never_both, stops}
-use Rattle.tape_content.proofs.SomeForm.{either}
-use Rattle.tape_content.proofs.Placed.{pos_is}
+use Rattle.content_laws.specs.Readings.{HasForm, LacksForm, constructs_from, front, items_of_group, items_of_tail}
+use Rattle.content_laws.specs.Readings as readings
+use Rattle.content_laws.specs.Content.{Phase, Data, Index, Bad, content, phase_of}
+use Rattle.content_laws.specs.Content as content
+use Rattle.content_laws.specs.Ends.{lead_of}
+use Rattle.content_laws.proofs.ReadForms.{form, never_both, stops}
+use Rattle.content_laws.proofs.SomeForm.{either}
+use Rattle.content_laws.proofs.Placed.{pos_is}
 use Rattle.volume_scan.specs.declared.content.Content.{Content}
 use Rattle.volume_scan.specs.Scans.{IsContent, places_of}
 

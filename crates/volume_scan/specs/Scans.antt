@@ -3,8 +3,8 @@ use Rattle.std.specs.Prelude.{ℕ, ◌+◌, ◌≤◌, ◌≡◌, List, [], ◌�
 use Rattle.std.specs.List.{flat_map}
 use Rattle.tape_types.specs.Counts.{Rose}
 use Rattle.tape_types.specs.declared.cartridges.Item.{Item}
-use Rattle.tape_content.specs.Readings.{HasForm, LacksForm, after_of, constructs_from, first_of, front, items_of_group}
-use Rattle.tape_content.specs.Readings as readings
+use Rattle.content_laws.specs.Readings.{HasForm, LacksForm, after_of, constructs_from, first_of, front, items_of_group}
+use Rattle.content_laws.specs.Readings as readings
 use Rattle.volume_scan.specs.declared.content.Construct.{Construct}
 use Rattle.volume_scan.specs.declared.content.Content.{Content}
 use Rattle.volume_scan.specs.declared.errors.ScanErr.{ScanErr}

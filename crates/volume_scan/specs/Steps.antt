@@ -2,9 +2,9 @@
 use Rattle.std.specs.Prelude.{ℕ, Bool, true, false, ◌+◌, ◌≤◌, ◌<◌, ◌≡◌, List, [], ◌∷◌, ◌++◌, length, map, drop, reverse}
 use Rattle.std.specs.Prelude.{fold, Option, Some, None}
 use Rattle.tape_types.specs.declared.cartridges.Item.{Item}
-use Rattle.tape_content.specs.Readings.{front}
-use Rattle.tape_content.specs.Content.{Phase, Data, Index, Bad, seen}
-use Rattle.tape_content.specs.Content as content
+use Rattle.content_laws.specs.Readings.{front}
+use Rattle.content_laws.specs.Content.{Phase, Data, Index, Bad, seen}
+use Rattle.content_laws.specs.Content as content
 use Rattle.tape_drive.specs.declared.drive.Got.{Got}
 use Rattle.tape_drive.specs.declared.drive.Got.TheVariants as got
 use Rattle.volume_scan.specs.declared.content.Construct.{Construct}

@@ -1,7 +1,7 @@
 //! Reading a partition to its end.
 
 ghost use Rattle.std.specs.Prelude.{◌≡◌, ◌≤◌, ◌+◌, ◌-◌, ◌*◌, ◌^◌, length, Some, vec_capacity, IfOk, IfSome};
-ghost use Rattle.tape_content.specs.Readings.{front};
+ghost use Rattle.content_laws.specs.Readings.{front};
 ghost use Rattle.tape_drive.specs.Looks.{Looks};
 ghost use Rattle.tape_types.specs.Cartridges.{capacity, items_of};
 ghost use Rattle.tape_types.specs.declared.cartridges.Cartridge.{Cartridge};

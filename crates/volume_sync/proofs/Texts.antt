@@ -8,8 +8,8 @@ use Rattle.index_model.specs.Order.{AreInOrder}
 use Rattle.index_model.specs.Values.{IndexValue, Tells}
 use Rattle.index_model.specs.declared.indexes.Index.{Index}
 use Rattle.index_model.proofs.SomeValue.{some_value}
-use Rattle.volume_space.specs.Files.{canon}
-use Rattle.volume_space.proofs.ToldValue.{told_text}
+use Rattle.space_laws.specs.Files.{canon}
+use Rattle.space_laws.proofs.ToldValue.{told_text}
 
 -- a text begins with its declaration
 begins : (first rest last : List ℕ) → 1 ≤ length (head ++ first ++ rest ++ last)

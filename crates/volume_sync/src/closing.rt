@@ -1,7 +1,7 @@
 //! The admission of the index of a close.
 
 ghost use Rattle.std.specs.Prelude.{◌≡◌, ◌≤◌, ◌^◌, IfOk, length};
-ghost use Rattle.volume_space.specs.Files.{canon};
+ghost use Rattle.space_laws.specs.Files.{canon};
 ghost use Rattle.volume_sync.specs.Frames.{IsCloseOf, close_index};
 
 use crate::documents::{heading, index_document};

@@ -2,7 +2,7 @@
 
 ghost use Rattle.std.specs.Prelude.{◌≡◌, ◌≤◌, ◌^◌, IfOk, length};
 ghost use Rattle.file_tree.specs.Carried.{index_of_tree};
-ghost use Rattle.volume_space.specs.Files.{canon};
+ghost use Rattle.space_laws.specs.Files.{canon};
 ghost use Rattle.volume_sync.specs.Frames.{heading_of, letters_of};
 
 use crate::frames::Frame;

@@ -1,7 +1,7 @@
 //! The admission of the index of a sync.
 
 ghost use Rattle.std.specs.Prelude.{◌≡◌, ◌≤◌, ◌^◌, IfOk, length};
-ghost use Rattle.volume_space.specs.Files.{canon};
+ghost use Rattle.space_laws.specs.Files.{canon};
 ghost use Rattle.volume_sync.specs.Frames.{IsSync, sync_index};
 
 use crate::documents::{heading, index_document};

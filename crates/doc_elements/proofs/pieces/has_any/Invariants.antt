@@ -1,6 +1,6 @@
 use Rattle.std.proofs.Common.{◌≡◌, List, drop}
 use Rattle.doc_fields.specs.declared.tags.Tag.{Tag}
-use Rattle.doc_children.specs.Children.{Holds}
+use Rattle.doc_elements.specs.Children.{Holds}
 use Rattle.doc_elements.specs.Pieces.{has_any}
 use Rattle.doc_elements.proofs.pieces.has_any.Given as goal
 

@@ -1,7 +1,7 @@
 use Rattle.std.proofs.Common.{◌≡◌, ◌∙◌, true, false, List, sym, ap, subst}
 use Rattle.std.specs.List.{AllByRecursion}
 use Rattle.index_model.specs.declared.nodes.Node.{Node}
-use Rattle.tape_meaning.specs.Meaning.{FitsNode}
+use Rattle.cartridge_meaning.specs.Meaning.{FitsNode}
 use Rattle.volume_scan.specs.declared.content.Construct.{Construct}
 use Rattle.mount_recover.specs.Lasts.{IsFirstOutside}
 use Rattle.generation_view.proofs.LinkLemmas.{all_before, one_behind}

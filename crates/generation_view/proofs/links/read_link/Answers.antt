@@ -1,5 +1,5 @@
 use Rattle.std.proofs.Common.{◌≡◌, ◌∙◌, sym, ap, arith}
-use Rattle.tape_meaning.specs.Meaning.{ip_end}
+use Rattle.cartridge_meaning.specs.Meaning.{ip_end}
 use Rattle.tape_types.specs.declared.cartridges.Cartridge.{Cartridge}
 use Rattle.volume_scan.specs.declared.content.Construct.{Construct}
 use Rattle.mount_recover.specs.Lasts.{HasIndexAt}

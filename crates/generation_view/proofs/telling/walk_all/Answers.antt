@@ -1,6 +1,6 @@
 use Rattle.std.proofs.Common.{arith}
 use Rattle.tape_types.specs.declared.cartridges.Cartridge.{Cartridge}
-use Rattle.tape_meaning.specs.Mounts.{Mounts}
+use Rattle.cartridge_meaning.specs.Mounts.{Mounts}
 use Rattle.mount_recover.proofs.StepLemmas.{given_step, known, stops, then_step}
 use Rattle.generation_view.proofs.telling.walk_all.Goals as goal
 

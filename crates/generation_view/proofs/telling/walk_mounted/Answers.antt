@@ -1,7 +1,7 @@
 use Rattle.std.proofs.Common.{sym, arith}
 use Rattle.tape_types.specs.declared.cartridges.Cartridge.{Cartridge}
 use Rattle.tape_types.specs.declared.cartridges.Part.TheVariants.{Dp}
-use Rattle.tape_meaning.specs.Mounts.{Mounts}
+use Rattle.cartridge_meaning.specs.Mounts.{Mounts}
 use Rattle.mount_recover.proofs.MountLemmas.{free_blames}
 use Rattle.mount_recover.proofs.ScanLemmas.{long_front}
 use Rattle.mount_recover.proofs.StepLemmas.{at_told, given_step, known, stops, then_step, told_then}

@@ -1,6 +1,6 @@
 use Rattle.std.proofs.Common.{rules, ◌≡◌, ◌≤◌, ℕ, List, [], ◌∷◌, ◌++◌, Bool, true, false, map, length, Ok, refl, sym, ap, subst, ◌∙◌, arith}
 use Rattle.std.proofs.lemmas.List.{length-map}
-use Rattle.doc_children.specs.declared.Children.{Children}
+use Rattle.doc_elements.specs.declared.children.Children.{Children}
 use Rattle.doc_elements.specs.declared.schema.Place.TheVariants as place
 use Rattle.doc_elements.specs.Pieces.{Piece}
 use Rattle.doc_elements.specs.Documents.{Reaches, fresh}

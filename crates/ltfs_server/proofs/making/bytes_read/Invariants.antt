@@ -1,5 +1,5 @@
 use Rattle.std.proofs.Common.{◌≡◌, take}
-use Rattle.volume_model.specs.Ends.{bounded}
+use Rattle.serving_promise.specs.Ends.{bounded}
 use Rattle.ltfs_server.specs.Making.{bytes_read}
 use Rattle.ltfs_server.proofs.making.bytes_read.Given as goal
 

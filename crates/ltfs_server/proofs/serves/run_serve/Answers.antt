@@ -2,7 +2,7 @@ use Rattle.std.proofs.Common.{arith, rules, subst, sym}
 use Rattle.basic_commands.specs.Runs.{taken, written}
 use Rattle.basic_commands.specs.Scripts.{unread_text}
 use Rattle.session_run.specs.Timed.{TimedView, one_moment}
-use Rattle.volume_crashes.specs.May.{MayServe}
+use Rattle.crash_laws.specs.May.{MayServe}
 use Rattle.ltfs_server.proofs.ServeSteps.{serve_unread, timed_does}
 use Rattle.ltfs_server.proofs.serves.run_serve.Goals as goal
 

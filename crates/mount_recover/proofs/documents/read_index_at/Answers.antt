@@ -1,6 +1,6 @@
 use Rattle.std.proofs.Common.{◌≡◌, List, ℕ, subst, sym, arith}
 use Rattle.tape_types.specs.Cartridges.{items_of}
-use Rattle.tape_meaning.specs.Pointers.{text_of}
+use Rattle.cartridge_meaning.specs.Pointers.{text_of}
 use Rattle.index_read.proofs.ValidIndexes.{index_valid}
 use Rattle.mount_recover.specs.Lasts.{IsTrueAt}
 use Rattle.mount_recover.proofs.LastLemmas.{bad_counts, free_at, no_text_at, of_volume_at}

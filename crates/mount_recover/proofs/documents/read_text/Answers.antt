@@ -1,5 +1,5 @@
 use Rattle.std.proofs.Common.{subst, sym}
-use Rattle.tape_meaning.specs.declared.errors.MountErr.{MountErr}
+use Rattle.cartridge_meaning.specs.declared.errors.MountErr.{MountErr}
 use Rattle.mount_recover.specs.Lasts.{IsBadText}
 use Rattle.mount_recover.proofs.DocumentLemmas.{bad_text}
 use Rattle.mount_recover.proofs.documents.read_text.Goals as goal

@@ -1,7 +1,7 @@
 use Rattle.std.proofs.Common.{◌∙◌, ◌<◌, get_or, refl, sym}
 use Rattle.std.proofs.lemmas.Option.{slice_get-get_or}
 use Rattle.index_model.specs.declared.nodes.RawExtent.{RawExtent}
-use Rattle.tape_meaning.specs.Meaning.{Fits}
+use Rattle.cartridge_meaning.specs.Meaning.{Fits}
 use Rattle.mount_recover.proofs.ExtentLemmas.{all_at, all_more, all_whole}
 use Rattle.mount_recover.proofs.extents.all_fit.Goals as goal
 

@@ -1,7 +1,7 @@
 use Rattle.std.proofs.Common.{◌<◌, take}
 use Rattle.std.specs.List.{AllByRecursion}
 use Rattle.index_model.specs.declared.nodes.RawExtent.{RawExtent}
-use Rattle.tape_meaning.specs.Meaning.{Fits}
+use Rattle.cartridge_meaning.specs.Meaning.{Fits}
 use Rattle.mount_recover.proofs.extents.all_fit.Given as goal
 
 abbrev pub invariant-loop-extent : goal.invariant-loop-extent

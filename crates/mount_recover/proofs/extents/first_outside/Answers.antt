@@ -1,6 +1,6 @@
 use Rattle.std.proofs.Common.{◌≡◌, ◌∙◌, length, false, true, refl, sym}
 use Rattle.std.proofs.lemmas.Option.{slice_get_read}
-use Rattle.tape_meaning.specs.Meaning.{FitsNode}
+use Rattle.cartridge_meaning.specs.Meaning.{FitsNode}
 use Rattle.mount_recover.proofs.ExtentLemmas.{all_more, all_whole, first_outside}
 use Rattle.mount_recover.proofs.extents.first_outside.Goals as goal
 

@@ -1,6 +1,6 @@
 use Rattle.std.proofs.Common.{take}
 use Rattle.std.specs.List.{AllByRecursion}
-use Rattle.tape_meaning.specs.Meaning.{FitsNode}
+use Rattle.cartridge_meaning.specs.Meaning.{FitsNode}
 use Rattle.mount_recover.proofs.extents.first_outside.Given as goal
 
 abbrev pub invariant-loop-node : goal.invariant-loop-node

@@ -1,7 +1,7 @@
 use Rattle.std.proofs.Common.{◌≡◌, length, refl, arith}
 use Rattle.tape_types.specs.Cartridges.{FitsLimits, items_of}
-use Rattle.tape_content.specs.Readings.{front}
-use Rattle.tape_content.proofs.Whole.{front_within}
+use Rattle.content_laws.specs.Readings.{front}
+use Rattle.content_laws.proofs.Whole.{front_within}
 use Rattle.tape_drive.proofs.Looking.{one_look}
 use Rattle.mount_recover.proofs.FlagLemmas.{at_capacity, end_step}
 use Rattle.mount_recover.proofs.StepLemmas.{at_told, more_step, no_step, told_then}

@@ -1,6 +1,6 @@
 use Rattle.std.proofs.Common.{◌≡◌, true, false, sym, ◌∙◌}
 use Rattle.ltfs_label.specs.Values.{label_of}
-use Rattle.tape_meaning.specs.Labels.{HasSomeRecord}
+use Rattle.cartridge_meaning.specs.Labels.{HasSomeRecord}
 use Rattle.mount_recover.proofs.LabelLemmas.{where_told, given_back, refused}
 use Rattle.mount_recover.proofs.labels.read_all.Goals as goal
 

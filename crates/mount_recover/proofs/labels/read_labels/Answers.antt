@@ -1,5 +1,5 @@
 use Rattle.std.proofs.Common.{◌≡◌, Some}
-use Rattle.tape_meaning.specs.Labels.{HasLabels}
+use Rattle.cartridge_meaning.specs.Labels.{HasLabels}
 use Rattle.mount_recover.specs.Labels.{Fails}
 use Rattle.mount_recover.proofs.LabelLemmas.{is_read_as, where_err, where_ok}
 use Rattle.mount_recover.proofs.labels.read_labels.Goals as goal

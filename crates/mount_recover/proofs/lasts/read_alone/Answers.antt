@@ -1,5 +1,5 @@
 use Rattle.std.proofs.Common.{List, ℕ, None, refl, subst, sym, arith}
-use Rattle.tape_meaning.specs.Pointers.{indexes_of}
+use Rattle.cartridge_meaning.specs.Pointers.{indexes_of}
 use Rattle.mount_recover.specs.Lasts.{IsDocument, IsKnownIp}
 use Rattle.mount_recover.proofs.LastLemmas.{newest_document, newest_there}
 use Rattle.mount_recover.proofs.MountLemmas.{free_blames}

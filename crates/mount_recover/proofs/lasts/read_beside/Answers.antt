@@ -1,6 +1,6 @@
 use Rattle.std.proofs.Common.{List, ℕ, Some, refl, subst, sym, arith}
 use Rattle.index_model.specs.declared.indexes.Index.{Index}
-use Rattle.tape_meaning.specs.Pointers.{indexes_of}
+use Rattle.cartridge_meaning.specs.Pointers.{indexes_of}
 use Rattle.mount_recover.specs.Lasts.{AreLastsWith, AreSoundWith, IsDocument, IsKnownIp, IsLastDp, IsTextOf, twin_of}
 use Rattle.mount_recover.specs.declared.lasts.Lasts.TheVariants as found
 use Rattle.mount_recover.proofs.LastLemmas.{newest_document, newest_there}

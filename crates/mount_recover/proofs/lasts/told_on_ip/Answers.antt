@@ -1,5 +1,5 @@
 use Rattle.std.proofs.Common.{◌≡◌, ◌∙◌, true, false, sym}
-use Rattle.tape_meaning.specs.Pointers.{indexes_of}
+use Rattle.cartridge_meaning.specs.Pointers.{indexes_of}
 use Rattle.index_read.proofs.ValidIndexes.{index_valid}
 use Rattle.mount_recover.proofs.LastLemmas.{bad_counts, bad_newest, blamed_ip, of_newest, right_ip, wrong_ip}
 use Rattle.mount_recover.proofs.lasts.told_on_ip.Goals as goal

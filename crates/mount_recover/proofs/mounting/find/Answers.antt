@@ -1,5 +1,5 @@
 use Rattle.std.proofs.Common.{arith}
-use Rattle.tape_meaning.specs.Labels.{HasLabels}
+use Rattle.cartridge_meaning.specs.Labels.{HasLabels}
 use Rattle.mount_recover.proofs.StepLemmas.{given_step, known, stops, then_step}
 use Rattle.mount_recover.proofs.mounting.find.Goals as goal
 

@@ -1,5 +1,5 @@
 use Rattle.std.proofs.Common.{arith}
-use Rattle.tape_meaning.specs.Labels.{HasLabels}
+use Rattle.cartridge_meaning.specs.Labels.{HasLabels}
 use Rattle.mount_recover.specs.Lasts.{IsScan}
 use Rattle.mount_recover.proofs.MountLemmas.{scan_of}
 use Rattle.mount_recover.proofs.StepLemmas.{at_told, given_step, known, stops, then_step, told_then}

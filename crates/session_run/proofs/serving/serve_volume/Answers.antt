@@ -1,6 +1,6 @@
 use Rattle.std.proofs.Common.{◌∙◌, sym, subst, arith}
 use Rattle.tape_types.specs.declared.cartridges.Limits.{Limits}
-use Rattle.tape_meaning.specs.Mounts.{IsMount}
+use Rattle.cartridge_meaning.specs.Mounts.{IsMount}
 use Rattle.session_run.proofs.Allowed.{may_start}
 use Rattle.session_run.proofs.ServingSteps.{is_mount, unmounted}
 use Rattle.session_run.proofs.serving.serve_volume.Goals as goal

@@ -1,7 +1,7 @@
 use Rattle.std.proofs.Common.{◌≡◌, Vec, ℕ, Global, IfOk, subst}
 use Rattle.file_tree.specs.Carried.{index_of_tree}
 use Rattle.file_tree.specs.declared.carried.Heading.{Heading}
-use Rattle.volume_space.specs.Files.{canon}
+use Rattle.space_laws.specs.Files.{canon}
 use Rattle.volume_sync.specs.Frames.{letters_of}
 use Rattle.volume_sync.proofs.closing.close_document.Goals as goal
 

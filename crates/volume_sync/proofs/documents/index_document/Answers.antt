@@ -7,7 +7,7 @@ use Rattle.index_model.specs.declared.nodes.Node.{Node}
 use Rattle.file_tree.proofs.OrderLemmas.{told_in_order}
 use Rattle.file_tree.specs.Carried.{index_of_tree}
 use Rattle.file_tree.specs.Mounts.{Letters}
-use Rattle.volume_space.specs.Files.{canon}
+use Rattle.space_laws.specs.Files.{canon}
 use Rattle.volume_sync.proofs.Texts.{text_is}
 use Rattle.volume_sync.proofs.documents.index_document.Goals as goal
 

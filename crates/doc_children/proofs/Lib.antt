@@ -1,3 +1,0 @@
-pub mod Bits
-pub mod Missing
-pub mod Tags

@@ -1,0 +1,7 @@
+use Rattle.std.proofs.Common.{rules}
+use Rattle.event_journal.proofs.placements.Placements.new.Goals as goal
+use Rattle.event_journal.proofs.PlacementLemmas.{new_listed}
+
+pub invariant_of-result : goal.invariant_of-result
+invariant_of-result c =
+    new_listed _ _ _ _ _ _ _ _ (search rules) (search rules) (search rules) (search rules) (search rules) (search rules)

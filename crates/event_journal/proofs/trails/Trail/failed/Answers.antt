@@ -1,0 +1,12 @@
+use Rattle.std.proofs.Common.{arith, ◌≡◌, true, Some, sym, subst}
+use Rattle.event_laws.specs.Trail.{after_all, allows}
+use Rattle.session_script.specs.declared.logs.Event.TheVariants as events
+use Rattle.event_journal.specs.Trails.{Journaled, state}
+use Rattle.event_journal.proofs.trails.Trail.failed.Goals as goal
+use Rattle.event_journal.proofs.TrailLemmas.{failed_tracked}
+
+pub invariant_of-self : goal.invariant_of-self
+invariant_of-self c =
+    let may : allows (after_all c.self.inside.events.items) (events.Served c.args.ticket c.args.place (Some c.args.counts)) ≡ true =
+    subst (λ (j : Journaled). allows (state j) (events.Served c.args.ticket c.args.place (Some c.args.counts)) ≡ true) (sym c.self.view_is) c.requires in
+    failed_tracked _ _ _ _ _ _ _ _ _ _ _ _ _ _ c.self.invariant may c.push.ensures.items (omega (arith, c.push.ensures.len, c.push.ensures.capacity))

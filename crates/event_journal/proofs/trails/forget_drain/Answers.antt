@@ -1,0 +1,6 @@
+use Rattle.std.proofs.Common.{rules, not, ◌==◌}
+use Rattle.std.proofs.lemmas.Fn.{filter_same}
+use Rattle.event_journal.proofs.trails.forget_drain.Goals as goal
+
+pub returns-clause-left : goal.returns-clause-left
+returns-clause-left c = filter_same _ (λ w. not (w == c.args.who)) _ (λ x b f' k. search rules) _ _ c.retain.ensures.filtered

@@ -1,0 +1,170 @@
+-- What calls that store nothing ask of the tape.
+use Rattle.std.proofs.Common.{◌≡◌, ◌≢◌, ℕ, Bool, true, false, cond, eqb, length, Option, Some, None, sym, ap, ◌∙◌, refl, subst, arith}
+use Rattle.std.specs.FinMap as fin
+use Rattle.std.proofs.lemmas.Bool.Decides.{nat_tests}
+use Rattle.tape_types.specs.declared.moments.Moment.{Moment}
+use Rattle.plain_tree.specs.Paths.{Path, same_path}
+use Rattle.plain_tree.specs.Refusals.{refusal_of}
+use Rattle.plain_tree.specs.Tree as plain
+use Rattle.plain_tree.specs.Tree.{cells_at}
+use Rattle.plain_tree.specs.declared.calls.Call.{Call}
+use Rattle.plain_tree.specs.declared.calls.Call.TheVariants as asks
+use Rattle.plain_tree.specs.declared.calls.Refusal.{Refusal}
+use Rattle.plain_tree.specs.declared.calls.Sort.TheVariants as sorts
+use Rattle.extent_map.specs.Cells.{Tape}
+use Rattle.extent_map.specs.Laid.{Laid, Room, resized}
+use Rattle.file_tree.specs.Blocks.{AddsNoBlock}
+use Rattle.file_tree.specs.Edits.{making, IsTruncated, KeepsVolume, NumbersCome, OthersLie}
+use Rattle.file_tree.specs.Tree.{FileTree, HasExtents, HasLaid, StandsAt, plain_kind_of, plain_of, whole}
+use Rattle.file_tree.specs.Valid.{IsGood}
+use Rattle.file_tree.proofs.TreeLemmas.{after_free, free_too}
+use Rattle.file_tree.proofs.WriteLemmas.{long_as}
+use Rattle.space_laws.specs.Files.{Files, with_file}
+use Rattle.space_laws.specs.Space.{change, nothing}
+use Rattle.space_laws.specs.Standing.{Given, Standing, ask_of, ask_unless, uid_at}
+use Rattle.held_volume.specs.Applied.{IsChanging, IsStill}
+use Rattle.held_volume.specs.Steps.{IsStep}
+use Rattle.held_volume.specs.Stocks.{LieAs}
+use Rattle.held_volume.proofs.Lies.{path_of, plain_there}
+use Rattle.held_volume.proofs.TreeSteps.{changed_as}
+use Rattle.held_volume.proofs.Uids.{length_mark}
+
+abbrev IsNoRead : Call → Type 0
+IsNoRead call = (path : Path) (offset count : ℕ) → call ≡ asks.Read path offset count → ⊥
+
+pub unrefused : (tape : Tape) (t : FileTree) (tree : plain.Tree) (call : Call) → IsNoRead call → refusal_of (plain_of whole t) call ≡ None → plain_of tape t ≡ tree → refusal_of tree call ≡ None
+unrefused tape t tree call other free is = ap (λ tree. refusal_of tree call) (sym is) ∙ free_too tape t call other free
+
+module _ (before next : FileTree) (at : Moment) where
+  pub mkdir_changes : (path : Path) → refusal_of (plain_of whole before) (asks.Mkdir path) ≡ None → IsStep (asks.Mkdir path) at before next → IsChanging (asks.Mkdir path) at before next
+  mkdir_changes path free step = record {
+    plain = step.plain;
+    volume = step.volume;
+    blocks = step.blocks;
+    asks = λ tape g st is. ap (λ r. ask_unless r change) (unrefused tape before st.tree (asks.Mkdir path) (λ p o c e. cc) free is);
+    lies = λ tape g on st is held. step.lies st.files held;
+  }
+
+  pub create_changes : (path : Path) → refusal_of (plain_of whole before) (asks.Create path) ≡ None → IsStep (asks.Create path) at before next → IsChanging (asks.Create path) at before next
+  create_changes path free step = record {
+    plain = step.plain;
+    volume = step.volume;
+    blocks = step.blocks;
+    asks = λ tape g st is. ap (λ r. ask_unless r change) (unrefused tape before st.tree (asks.Create path) (λ p o c e. cc) free is);
+    lies = λ tape g on st is held. step.lies st.files held;
+  }
+
+  pub remove_changes : (path : Path) → refusal_of (plain_of whole before) (asks.Remove path) ≡ None → IsStep (asks.Remove path) at before next → IsChanging (asks.Remove path) at before next
+  remove_changes path free step = record {
+    plain = step.plain;
+    volume = step.volume;
+    blocks = step.blocks;
+    asks = λ tape g st is. ap (λ r. ask_unless r change) (unrefused tape before st.tree (asks.Remove path) (λ p o c e. cc) free is);
+    lies = λ tape g on st is held. step.lies st.files held;
+  }
+
+  pub rename_changes : (from to : Path) → same_path from to ≡ false → refusal_of (plain_of whole before) (asks.Rename from to) ≡ None → IsStep (asks.Rename from to) at before next → IsChanging (asks.Rename from to) at before next
+  rename_changes from to apart free step = record {
+    plain = step.plain;
+    volume = step.volume;
+    blocks = step.blocks;
+    asks = λ tape g st is. ap (λ r. ask_unless r (cond (same_path from to) nothing change)) (unrefused tape before st.tree (asks.Rename from to) (λ p o c e. cc) free is)
+        ∙ ap (λ b. cond b nothing change) apart;
+    lies = λ tape g on st is held. step.lies st.files held;
+  }
+
+-- ---- calls that ask nothing
+
+pub asks_nothing : (r : Option Refusal) → ask_unless r nothing ≡ nothing
+asks_nothing None = refl
+asks_nothing (Some refusal) = refl
+
+module _ (t : FileTree) (at : Moment) where
+  pub read_still : (path : Path) (offset count : ℕ) → IsStill (asks.Read path offset count) at t t
+  read_still path offset count = record { same = refl; asks = λ tape g st is. asks_nothing (refusal_of st.tree (asks.Read path offset count)) }
+
+  pub list_still : (path : Path) → IsStill (asks.Listing path) at t t
+  list_still path = record { same = refl; asks = λ tape g st is. asks_nothing (refusal_of st.tree (asks.Listing path)) }
+
+  pub stat_still : (path : Path) → IsStill (asks.Stat path) at t t
+  stat_still path = record { same = refl; asks = λ tape g st is. asks_nothing (refusal_of st.tree (asks.Stat path)) }
+
+  pub rename_still : (from to : Path) → same_path from to ≡ true → IsStill (asks.Rename from to) at t t
+  rename_still from to same = record {
+    same = refl;
+    asks = λ tape g st is. ap (λ b. ask_unless (refusal_of st.tree (asks.Rename from to)) (cond b nothing change)) same ∙ asks_nothing (refusal_of st.tree (asks.Rename from to));
+  }
+
+-- ---- lengths
+
+-- the file at a path has as many cells as it is long
+pub cells_long : (tape : Tape) (t : FileTree) (path : Path) (file : ℕ) (room : Room) → IsGood t → StandsAt t path file → HasExtents t.nodes file room
+    → length (cells_at (plain_of tape t).nodes path) ≡ room.laid.length
+cells_long tape t path file room good stands has =
+    let same : path ≡ has.path = path_of t path has.path has.node file good stands has.there has.is in
+    let there = plain_there tape t path has.node (ap (fin.get t.nodes) same ∙ has.there) in
+    (rw there (ap (λ k. length (plain.cells_of_kind (plain_kind_of tape k))) has.file)) ∙ long_as tape room.laid
+
+pub has_laid : (t : FileTree) (file : ℕ) (room : Room) → HasExtents t.nodes file room → HasLaid t.nodes file room.laid
+has_laid t file room has = record { path = has.path; node = has.node; there = has.there; is = has.is; room = room; file = has.file; lies = refl }
+
+module _ (t : FileTree) (path : Path) (file : ℕ) (room : Room) (size : ℕ) (at : Moment) (good : IsGood t) (stands : StandsAt t path file) (has : HasExtents t.nodes file room)
+    (free : refusal_of (plain_of whole t) (asks.Truncate path size) ≡ None) where
+  test_is : (b : Bool) → eqb size room.laid.length ≡ b → (tape : Tape) (g : Given) (st : Standing) → plain_of tape t ≡ st.tree → ask_of g st (asks.Truncate path size) at ≡ cond b nothing change
+  test_is b test tape g st is =
+      ap (λ r. ask_unless r (cond (eqb size (length (cells_at st.tree.nodes path))) nothing change)) (unrefused tape t st.tree (asks.Truncate path size) (λ p o c e. cc) free is)
+      ∙ ap (λ n. cond (eqb size n) nothing change) (ap (λ (tree : plain.Tree). length (cells_at tree.nodes path)) (sym is) ∙ cells_long tape t path file room good stands has)
+      ∙ ap (λ b. cond b nothing change) test
+
+  pub cut_still : room.laid.length ≡ size → IsStill (asks.Truncate path size) at t t
+  cut_still e = record { same = refl; asks = test_is true (same_number e) }
+    where
+      same_number : room.laid.length ≡ size → eqb size room.laid.length ≡ true
+      same_number e = grind (arith, nat_tests, e)
+
+  module _ (next : FileTree) (good_next : IsGood next) (other : room.laid.length ≢ size) (plain_is : IsTruncated file size at t next) (numbers : NumbersCome (λ p. p) t next)
+      (lies_now : (laid : Laid) → HasLaid t.nodes file laid → HasLaid next.nodes file (cond (eqb size laid.length) laid (resized laid size)))
+      (others : OthersLie file t next) (adds : AddsNoBlock t next) (volume : KeepsVolume t next) where
+    differs : eqb size room.laid.length ≡ false
+    differs = grind (arith, nat_tests, other)
+
+    now : HasLaid next.nodes file (resized room.laid size)
+    now = subst (λ b. HasLaid next.nodes file (cond b room.laid (resized room.laid size))) differs (lies_now room.laid (has_laid t file room has))
+
+    highest : next.highest ≡ t.highest
+    highest = ap (λ (tree : plain.Tree). tree.highest) (plain_is whole path stands) ∙ by (eqb size (length (cells_at (plain_of whole t).nodes path)))
+      where
+        by : (b : Bool) → (cond b (plain_of whole t) (record (plain_of whole t) { nodes = plain.changed_at (plain.file_changed (λ cells. Rattle.plain_tree.specs.Cells.resized cells size) at) path (plain_of whole t).nodes })).highest ≡ t.highest
+        by true = refl
+        by false = refl
+
+    pub cut_changes : IsChanging (asks.Truncate path size) at t next
+    cut_changes = record {
+      plain = λ tape. plain_is tape path stands ∙ sym (after_free (plain_of tape t) (asks.Truncate path size) at (free_too tape t (asks.Truncate path size) (λ p o c e. cc) free));
+      volume = volume;
+      blocks = adds;
+      asks = test_is false differs;
+      lies = λ tape g on st is held. subst (λ (files : Files). LieAs files next)
+          (ap (λ (tree : plain.Tree). with_file (uid_at tree.nodes path) (λ f. resized f size) st.files) is)
+          (changed_as t next path file room.laid (λ f. resized f size) good good_next stands (has_laid t file room has) now
+          (λ tape q. ap (λ (tree : plain.Tree). Rattle.plain_tree.specs.Valid.mark_at tree.nodes q) (plain_is tape path stands) ∙ length_mark (plain_of tape t) path size at q)
+          numbers others highest volume tape st.files held);
+    }
+
+-- ---- the arms of a match on the call
+
+module _ (before next : FileTree) (at : Moment) (call : Call) (free : refusal_of (plain_of whole before) call ≡ None) where
+  free_as : (other : Call) → call ≡ other → refusal_of (plain_of whole before) other ≡ None
+  free_as other is = ap (refusal_of (plain_of whole before)) (sym is) ∙ free
+
+  pub mkdir_arm : (path slice : Path) → call ≡ asks.Mkdir path → slice ≡ path → ((c : Call) → making sorts.Dir slice ≡ Some c → IsStep c at before next) → IsChanging call at before next
+  mkdir_arm path slice is same steps = subst (λ c. IsChanging c at before next) (sym is)
+      (mkdir_changes before next at path (free_as (asks.Mkdir path) is) (steps (asks.Mkdir path) (ap (λ p. Some (asks.Mkdir p)) same)))
+
+  pub create_arm : (path slice : Path) → call ≡ asks.Create path → slice ≡ path → ((c : Call) → making sorts.File slice ≡ Some c → IsStep c at before next) → IsChanging call at before next
+  create_arm path slice is same steps = subst (λ c. IsChanging c at before next) (sym is)
+      (create_changes before next at path (free_as (asks.Create path) is) (steps (asks.Create path) (ap (λ p. Some (asks.Create p)) same)))
+
+  pub remove_arm : (path slice : Path) → call ≡ asks.Remove path → slice ≡ path → IsStep (asks.Remove slice) at before next → IsChanging call at before next
+  remove_arm path slice is same step = subst (λ c. IsChanging c at before next) (sym is)
+      (remove_changes before next at path (free_as (asks.Remove path) is) (subst (λ p. IsStep (asks.Remove p) at before next) same step))

@@ -1,0 +1,82 @@
+//! Answers of calls that look at the tree alone.
+
+ghost use Rattle.std.specs.Prelude.{◌≡◌, Bool, None, IfOk};
+ghost use Rattle.extent_map.specs.Cells.{Tape};
+ghost use Rattle.plain_tree.specs.Calls.{answer};
+ghost use Rattle.plain_tree.specs.Refusals.{no_node, refusal_of};
+ghost use Rattle.file_tree.specs.Tree.{StandsAt, plain_of, whole};
+ghost use Rattle.tape_layout.specs.Plans.{Plan};
+ghost use Rattle.space_laws.specs.Standing.{Given, Standing};
+ghost use Rattle.held_volume.specs.Reads.{IsPlanOfAtMost, IsReadPlan};
+ghost use Rattle.held_volume.specs.Stocks.{IsStock, stocked};
+ghost use Rattle.volume_sync.specs.declared.frames.Frame.{Frame};
+
+use extent_map::Piece;
+use file_tree::{Found, Tree};
+use plain_tree::{Answer, Call, Refusal, Sort};
+use std::alloc::Global;
+use tape_types::{List, NoMemory, Text};
+
+/// What a listing of a path is answered.
+pub fn list(tree: &Tree, alloc: Global, path: &[Text]) -> Result<Answer, NoMemory>
+    ensures { IfOk result (λ a. (tape : Tape) → a ≡ answer (plain_of tape tree.now) (Call.Listing path.now)) }
+{
+    match tree.find(path) {
+        Found::Node(number) => match tree.sort(number) {
+            Sort::Dir => match tree.children(alloc, number) {
+                Ok(entries) => Ok(Answer::Names(entries)),
+                Err(e) => Err(e),
+            },
+            Sort::File => Ok(Answer::Refused(Refusal::NotDir)),
+            Sort::Link => Ok(Answer::Refused(Refusal::NotDir)),
+        },
+        Found::Missing => Ok(Answer::Refused(Refusal::NotFound)),
+        Found::NotDir => Ok(Answer::Refused(Refusal::NotDir)),
+    }
+}
+
+/// What is told of the node at a path.
+pub fn stat(tree: &Tree, alloc: Global, path: &[Text]) -> Result<Answer, NoMemory>
+    ensures { IfOk result (λ a. (tape : Tape) → a ≡ answer (plain_of tape tree.now) (Call.Stat path.now)) }
+{
+    match tree.find(path) {
+        Found::Node(number) => match tree.facts(alloc, number) {
+            Ok(facts) => Ok(Answer::Facts(facts)),
+            Err(e) => Err(e),
+        },
+        Found::Missing => Ok(Answer::Refused(Refusal::NotFound)),
+        Found::NotDir => Ok(Answer::Refused(Refusal::NotDir)),
+    }
+}
+
+/// The number of the node at a path.
+fn node_at(tree: &Tree, path: &[Text]) -> u32
+    requires { no_node (plain_of whole tree.now).nodes path.now ≡ None }
+    ensures { StandsAt tree.now path.now result }
+{
+    match tree.find(path) {
+        Found::Node(number) => number,
+        Found::Missing | Found::NotDir => unreachable!(),
+    }
+}
+
+/// The pieces of a read that isn't refused, up to the end of the file.
+pub fn plan(
+    tree: &Tree,
+    alloc: Global,
+    path: &[Text],
+    offset: u64,
+    count: u64,
+) -> Result<List<Piece>, NoMemory>
+    requires { refusal_of (plain_of whole tree.now) (Call.Read path.now offset count) ≡ None }
+    ensures reads { IfOk result (λ pieces. (l : Plan) (f : Frame) (tape : Tape) (g : Given) (on : Bool) (st : Standing)
+        → IsStock tape g on st (stocked tree.now l f) → IsReadPlan tape st tree.now path.now offset count pieces) }
+    ensures most { IfOk result (λ pieces. IsPlanOfAtMost tree.now.block_size count pieces) }
+{
+    let file = node_at(tree, path);
+    let _count = tree.count();
+    let extents = tree.extents(file);
+    let from = offset.min(extents.length());
+    let within = count.min(extents.length() - from);
+    extents.plan(alloc, from, within)
+}

@@ -1,0 +1,398 @@
+//! What is held of a volume.
+
+ghost use Rattle.std.specs.Prelude.{◌≡◌, ◌≤◌, ◌^◌, [], ◌∷◌, Bool, true, None, drop, length};
+ghost use Rattle.std.specs.Prelude.{OnErr, IfOk, IfSome, MatchOption};
+ghost use Rattle.std.specs.Option.{option_map};
+ghost use Rattle.extent_map.specs.Cells.{Tape};
+ghost use Rattle.space_laws.specs.Standing.{Given, Standing, first_standing, rules};
+ghost use Rattle.held_volume.specs.Mounted.{CanStart, StartsFrom, letters_of};
+ghost use Rattle.plain_tree.specs.Calls.{answer};
+ghost use Rattle.plain_tree.specs.Refusals.{refusal_of};
+ghost use Rattle.std.specs.FinMap as fin;
+ghost use Rattle.file_tree.specs.Mounts.{IsTreeOf};
+ghost use Rattle.file_tree.specs.Ready.{IsReady};
+ghost use Rattle.file_tree.specs.Tree.{plain_of, whole};
+ghost use Rattle.file_tree.specs.Valid.{IsGood};
+ghost use Rattle.tape_layout.specs.Ops.{HasRoom, held_in};
+ghost use Rattle.tape_layout.specs.Plans.{AreStanding, Plan};
+ghost use Rattle.held_volume.specs.Applied.{IsApplied, IsChange, IsRefusedAs, IsUnchanged, LeavesAll, StoresNothing};
+ghost use Rattle.held_volume.specs.Closed.{IsDpChange, IsDpDocument, IsIpDocument, IsIpEnd, closed_dp};
+ghost use Rattle.held_volume.specs.Reads.{IsPlanOfAtMost, IsReadPlan};
+ghost use Rattle.held_volume.specs.Stocks.{IsStock, stocked, with_change};
+ghost use Rattle.held_volume.specs.Syncs.{BringsAtMost, IsDocument};
+
+use crate::changes::{change_tree, number_of};
+use crate::closings::{ClosingTexts, admit_on_ip, closing_texts};
+use crate::looks::{list, plan, stat};
+use crate::syncs::{admit_due, due_document, most_ops, sync};
+use crate::writes::write;
+use cartridge_meaning::Mounted;
+use extent_map::Piece;
+use file_tree::{Carried, Ready, Tree};
+use ltfs_label::Label;
+use plain_tree::{Answer, Call, Refusal};
+use std::alloc::Global;
+use std::marker::Model;
+use tape_layout::{AdmitErr, Layout, Op};
+use tape_types::{Bytes, Limits, List, Moment, NoMemory, Place, Text};
+use volume_sync::Frame;
+
+/// What is held of a volume while it is served: its tree, what is admitted for the tape and not done yet, and what its
+/// next index stands on.
+#[derive(Drop)]
+pub struct Stock {
+    tree: Tree,
+    layout: Layout,
+    frame: Frame,
+    alloc: Global,
+}
+
+impl Model for Stock {
+    ghost use Rattle.std.specs.Prelude.{◌≤◌, ◌^◌};
+    ghost use Rattle.held_volume.specs.Stocks.{Stocked, stocked};
+    ghost use Rattle.std.specs.Coded.{codes};
+    ghost use Rattle.file_tree.specs.contracts.tree.Tree as shown;
+
+    ghost Value = { Stocked };
+
+    ghost coded = { Prim.hlevel (codes, shown.the_row.coded) };
+
+    ghost view = { λ a. stocked a.tree a.layout a.frame };
+
+    ghost invariant = { λ a. a.frame.generation ≤ 2 ^ 62 };
+}
+
+impl Stock {
+    /// What is held of a volume that was mounted, on a drive with these capacities: its tree, and no op. Each extent of
+    /// its index ends before the end of its partition.
+    pub fn start(alloc: Global, mounted: Mounted, limits: Limits) -> Result<Stock, NoMemory>
+        requires { CanStart limits mounted }
+        ensures stands { IfOk result (λ s. (tape : Tape) (g : Given) → StartsFrom tape limits mounted g
+            → IsStock tape g mounted.ip_on (first_standing g) s) }
+        ensures ops { IfOk result (λ s. s.layout.ops ≡ []) }
+        ensures tree { IfOk result (λ s. IsTreeOf (letters_of mounted) mounted.label.block mounted.index s.tree) }
+        ensures good { IfOk result (λ s. IsGood s.tree) }
+    {
+        let letters = (mounted.label.index, mounted.label.dpart);
+        let block = mounted.label.block;
+        let tree = Tree::from_index(alloc, &mounted.index, letters, block)?;
+        let _count = tree.count();
+        let carried = Carried::of_index(alloc, &mounted.index)?;
+        let layout = Layout::new(
+            alloc,
+            limits,
+            block,
+            mounted.end_ip,
+            mounted.end_dp,
+            mounted.ip_on,
+        );
+        let frame = Frame {
+            label: mounted.label,
+            carried,
+            generation: mounted.newest,
+            last_dp: mounted.last_dp,
+            changed: false,
+            dp_done: mounted.dp_done,
+            ip_done: mounted.ip_done,
+            noted: mounted.noted,
+        };
+        Ok(Stock {
+            tree,
+            layout,
+            frame,
+            alloc,
+        })
+    }
+
+    /// Makes a call at a moment, and tells why the tree refuses it. A call that is refused, and one that doesn't fit on
+    /// the tape, leaves all as it was, and so does one for which memory is refused.
+    pub fn apply(&mut self, call: &Call, at: Moment) -> Result<Option<Refusal>, AdmitErr>
+        ensures applied { (early : Tape) (g : Given) (on : Bool) (st : Standing) → IsStock early g on st self.old
+            → IsApplied early g on st call.now at self.old self.new result }
+        ensures leaves { LeavesAll self.old self.new result }
+    {
+        let ready = match self.tree.place(self.alloc, call)? {
+            Ok(ready) => ready,
+            Err(refusal) => return Ok(Some(refusal)),
+        };
+        let done = change(
+            self.alloc,
+            &mut self.tree,
+            &mut self.layout,
+            &mut self.frame,
+            call,
+            ready,
+            at,
+        );
+        match done {
+            Ok(()) => Ok(None),
+            Err(e) => Err(e),
+        }
+    }
+
+    /// Why the tree refuses a call, where no byte is lost on the tape.
+    pub fn check(&self, call: &Call) -> Result<Option<Refusal>, NoMemory>
+        ensures refusal { IfOk result (λ refusal. refusal ≡ refusal_of (plain_of whole self.now.tree) call.now) }
+        ensures told { IfOk result (λ refusal. (tape : Tape) (g : Given) (on : Bool) (st : Standing)
+            → IsStock tape g on st self.now → IsRefusedAs st.tree call.now refusal) }
+    {
+        self.tree.check(self.alloc, call)
+    }
+
+    /// The pieces of a read that isn't refused, of at most so many bytes from an offset on, up to the end of the file.
+    pub fn plan(&self, path: &[Text], offset: u64, count: u64) -> Result<List<Piece>, NoMemory>
+        requires { refusal_of (plain_of whole self.now.tree) (Call.Read path.now offset count) ≡ None }
+        ensures reads { IfOk result (λ pieces. (tape : Tape) (g : Given) (on : Bool) (st : Standing)
+            → IsStock tape g on st self.now → IsReadPlan tape st self.now.tree path.now offset count pieces) }
+        ensures most { IfOk result (λ pieces. IsPlanOfAtMost self.now.tree.block_size count pieces) }
+    {
+        plan(&self.tree, self.alloc, path, offset, count)
+    }
+
+    /// The text of the index that a sync at a moment admits, or none where nothing has changed since the last one.
+    pub fn document(&self, at: Moment) -> Result<Option<Vec<u8>>, NoMemory>
+        ensures document { IfOk result (λ due. (tape : Tape) (g : Given) (on : Bool) (st : Standing)
+            → IsStock tape g on st self.now → IsDocument g st at (option_map (λ doc. doc.items) due)) }
+        ensures some { IfOk result (λ due. IfSome due (λ doc. 1 ≤ length doc.items)) }
+    {
+        due_document(self.alloc, &self.tree, &self.layout, &self.frame, at)
+    }
+
+    /// Admits the text that `document` gave.
+    pub fn sync(&mut self, due: &Option<Vec<u8>>) -> Result<(), AdmitErr>
+        requires { IfSome due.now (λ doc. 1 ≤ length doc.items) }
+        ensures applied { (early : Tape) (g : Given) (on : Bool) (st : Standing) (at : Moment)
+            → IsStock early g on st self.old → IsDocument g st at (option_map (λ doc. doc.items) due.now)
+            → IsChange early g on st Call.Sync at self.old self.new result }
+        ensures leaves { OnErr result (IsUnchanged self.old self.new) }
+    {
+        admit_due(&mut self.layout, &mut self.frame, due)
+    }
+
+    /// The texts of the indexes that a close at a moment admits. That on the index partition tells of the one on the
+    /// data partition as if it were admitted.
+    pub fn closing_texts(&self, at: Moment) -> Result<ClosingTexts, NoMemory>
+        ensures texts { IfOk result (λ c. (tape : Tape) (g : Given) (on : Bool) (st : Standing)
+            → IsStock tape g on st self.now
+            → IsDpDocument g st at (option_map (λ doc. doc.items) c.dp)
+            × IsIpDocument g (closed_dp g on st at) at (option_map (λ doc. doc.items) c.ip)) }
+        ensures some_dp { IfOk result (λ c. IfSome c.dp (λ doc. 1 ≤ length doc.items)) }
+        ensures some_ip { IfOk result (λ c. IfSome c.ip (λ doc. 1 ≤ length doc.items)) }
+    {
+        closing_texts(self.alloc, &self.tree, &self.layout, &self.frame, at)
+    }
+
+    /// Admits the text that a close has on the data partition.
+    pub fn admit_dp(&mut self, due: &Option<Vec<u8>>) -> Result<(), AdmitErr>
+        requires { IfSome due.now (λ doc. 1 ≤ length doc.items) }
+        ensures applied { (early : Tape) (g : Given) (on : Bool) (st : Standing) (at : Moment)
+            → IsStock early g on st self.old → IsDpDocument g st at (option_map (λ doc. doc.items) due.now)
+            → IsDpChange early g on st at self.old self.new result }
+        ensures leaves { OnErr result (IsUnchanged self.old self.new) }
+    {
+        admit_due(&mut self.layout, &mut self.frame, due)
+    }
+
+    /// Admits the text that a close has on the index partition, behind what it has admitted on the data partition.
+    pub fn admit_ip(&mut self, due: &Option<Vec<u8>>) -> Result<(), AdmitErr>
+        requires { IfSome due.now (λ doc. 1 ≤ length doc.items) }
+        ensures applied { (early : Tape) (g : Given) (on : Bool) (st : Standing) (at : Moment)
+            → IsStock early g on st self.old → IsIpDocument g st at (option_map (λ doc. doc.items) due.now)
+            → IsIpEnd (option_map (λ doc. doc.items) due.now) g st at self.old self.new result }
+        ensures leaves { OnErr result (IsUnchanged self.old self.new) }
+    {
+        admit_on_ip(&mut self.layout, &mut self.frame, due)
+    }
+
+    /// The label of the volume.
+    pub fn label(&self) -> &Label
+        ensures { result.now ≡ self.now.frame.label }
+    {
+        &self.frame.label
+    }
+
+    /// The newest generation, up to 2^62.
+    pub fn generation(&self) -> u64
+        ensures generation { result ≡ self.now.frame.generation }
+        ensures most { result ≤ 2 ^ 62 }
+    {
+        self.frame.generation
+    }
+
+    /// The first block of the last index that was admitted on the data partition.
+    pub fn last_dp(&self) -> Option<u64>
+        ensures { result ≡ self.now.frame.last_dp }
+    {
+        self.frame.last_dp
+    }
+
+    /// Whether both coherency attributes were those of the last indexes when the volume was mounted.
+    pub fn noted(&self) -> bool
+        ensures { result ≡ self.now.frame.noted }
+    {
+        self.frame.noted
+    }
+
+    /// How many ops a write of these bytes, or a sync whose index has this text, brings at most.
+    pub fn most_ops(&self, bytes: &[u8]) -> usize
+        ensures { (tape : Tape) (g : Given) (on : Bool) (st : Standing) → IsStock tape g on st self.now
+            → BringsAtMost (rules g) on st.space (length bytes.now) result }
+    {
+        let _count = self.tree.count();
+        most_ops(bytes, self.frame.label.block.max(1))
+    }
+
+    /// What a listing of a path is answered.
+    pub fn list(&self, path: &[Text]) -> Result<Answer, NoMemory>
+        ensures { IfOk result (λ a. (tape : Tape) → a ≡ answer (plain_of tape self.now.tree) (Call.Listing path.now)) }
+    {
+        list(&self.tree, self.alloc, path)
+    }
+
+    /// What is told of the node at a path.
+    pub fn stat(&self, path: &[Text]) -> Result<Answer, NoMemory>
+        ensures { IfOk result (λ a. (tape : Tape) → a ≡ answer (plain_of tape self.now.tree) (Call.Stat path.now)) }
+    {
+        stat(&self.tree, self.alloc, path)
+    }
+
+    /// The first flush of the data partition is done: from now on files may go to the index partition.
+    pub fn on(&mut self)
+        ensures layout { self.new ≡ record self.old { layout = record self.old.layout { ip_on = true } } }
+        ensures stands { (tape : Tape) (g : Given) (on : Bool) (st : Standing) → IsStock tape g on st self.old
+            → IsStock tape g true st self.new }
+    {
+        self.layout.place_on_ip();
+    }
+
+    /// How many nodes the tree has, the root among them.
+    pub fn count(&self) -> u32
+        ensures count { result ≡ fin.len self.now.tree.nodes }
+        ensures good { IsGood self.now.tree }
+    {
+        self.tree.count()
+    }
+
+    /// How many ops stand.
+    pub fn waiting(&self) -> u64
+        ensures { result ≡ length self.now.layout.ops }
+    {
+        self.layout.waiting()
+    }
+
+    /// Where the next item of the index partition goes, and of the data partition.
+    pub fn ends(&self) -> (u64, u64)
+        ensures ends { result ≡ record { 0 = self.now.layout.ends.ip; 1 = self.now.layout.ends.dp } }
+        ensures standing { AreStanding self.now.layout.limits self.now.layout.block_size self.now.layout.ends
+            self.now.layout.ops }
+    {
+        self.layout.ends()
+    }
+
+    /// The bytes that stand to be written at a place. It costs the logarithm of the ops that stand.
+    pub fn held(&self, place: Place) -> Option<&Bytes>
+        ensures { option_map (λ b. b.now) result ≡ held_in place self.now.layout.ops }
+    {
+        self.layout.held(place)
+    }
+
+    /// The op that is to be done next.
+    pub fn next_op(&self) -> Option<&Op>
+        ensures first { MatchOption result (self.now.layout.ops ≡ [])
+            (λ op. self.now.layout.ops ≡ op.now ∷ drop 1 self.now.layout.ops) }
+        ensures room { IfSome result (λ op. HasRoom self.now.layout.limits self.now.layout.block_size op.now) }
+    {
+        self.layout.next_op()
+    }
+
+    /// The first op was done.
+    pub fn done_op(&mut self)
+        requires { 1 ≤ length self.old.layout.ops }
+        ensures ops { self.new
+            ≡ record self.old { layout = record self.old.layout { ops = drop 1 self.old.layout.ops } } }
+        ensures stands { (tape : Tape) (g : Given) (on : Bool) (st : Standing) → IsStock tape g on st self.old
+            → IsStock tape g on st self.new }
+    {
+        self.layout.done_op();
+    }
+}
+
+/// Makes a call that the tree doesn't refuse.
+fn change(
+    alloc: Global,
+    tree: &mut Tree,
+    layout: &mut Layout,
+    frame: &mut Frame,
+    call: &Call,
+    ready: Ready,
+    at: Moment,
+) -> Result<(), AdmitErr>
+    requires free { refusal_of (plain_of whole tree.old) call.now ≡ None }
+    requires ready { IsReady tree.old call.now ready }
+    requires generation { frame.old.generation ≤ 2 ^ 62 }
+    ensures applied { (early : Tape) (g : Given) (on : Bool) (st : Standing)
+        → IsStock early g on st (stocked tree.old layout.old frame.old)
+        → IsChange early g on st call.now at (stocked tree.old layout.old frame.old)
+        (stocked tree.new layout.new frame.new) result }
+    ensures err { OnErr result (IsUnchanged (stocked tree.old layout.old frame.old)
+        (stocked tree.new layout.new frame.new)) }
+    ensures generation { frame.new.generation ≤ 2 ^ 62 }
+{
+    match call {
+        Call::Write {
+            path,
+            offset,
+            bytes,
+        } => {
+            let path = path.as_slice();
+            let file = number_of(tree, path, ready);
+            write(
+                tree,
+                layout,
+                frame,
+                path,
+                file,
+                *offset,
+                bytes.as_slice(),
+                at,
+            )
+        }
+        Call::Sync => sync(alloc, tree, layout, frame, at),
+        _ => change_alone(alloc, tree, frame, call, ready, at),
+    }
+}
+
+/// Makes a call that isn't refused and stores nothing.
+fn change_alone(
+    alloc: Global,
+    tree: &mut Tree,
+    frame: &mut Frame,
+    call: &Call,
+    ready: Ready,
+    at: Moment,
+) -> Result<(), AdmitErr>
+    requires free { refusal_of (plain_of whole tree.old) call.now ≡ None }
+    requires ready { IsReady tree.old call.now ready }
+    requires stores { StoresNothing call.now }
+    ensures applied { (l : Plan) (early : Tape) (g : Given) (on : Bool) (st : Standing)
+        → IsStock early g on st (stocked tree.old l frame.old)
+        → IsChange early g on st call.now at (stocked tree.old l frame.old) (stocked tree.new l frame.new) result }
+    ensures err { OnErr result ((l : Plan)
+        → IsUnchanged (stocked tree.old l frame.old) (stocked tree.new l frame.new)) }
+    ensures generation { frame.new.generation ≡ frame.old.generation }
+{
+    let Ok(changed) = change_tree(tree, alloc, call, ready, at) else {
+        return Err(AdmitErr::NoMemory);
+    };
+    note(frame, changed);
+    Ok(())
+}
+
+/// Notes whether the tree has changed.
+fn note(frame: &mut Frame, changed: bool)
+    ensures { frame.new ≡ with_change changed frame.old }
+{
+    if changed {
+        frame.changed = true;
+    }
+}

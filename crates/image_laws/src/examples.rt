@@ -1,0 +1,30 @@
+//! A small volume, on which the definitions are tried.
+
+ghost use Rattle.std.specs.Prelude.{Some, None};
+ghost use Rattle.index_model.specs.declared.indexes.Index.{Index};
+ghost use Rattle.image_laws.specs.Examples.{TellsAhead, TellsCovered, TellsImages, TellsIp, TellsLater, TellsNext};
+ghost use Rattle.image_laws.specs.Examples.{TellsRoles};
+ghost use Rattle.image_laws.specs.JobExamples.{TellsClose, TellsJobs};
+ghost use Rattle.image_laws.specs.Made.{Entry};
+ghost use Rattle.image_laws.specs.Worked.{entry, mounted};
+
+/// Which index each image of a sync has, and how many placements that covers.
+pub fn the_definitions_tell_a_sync()
+    ensures images { (first second : Entry) → TellsImages (mounted first None) second }
+    ensures covered { (first second : Entry) → TellsCovered (mounted first None) first second }
+    ensures later { (first second third : Entry) → TellsLater (mounted first None) second third }
+    ensures roles { (first : Entry) → TellsRoles (mounted first None) }
+{}
+
+/// Which ops may come next, what is flushed of the index partition, and when its index stays ahead.
+pub fn the_definitions_tell_modes()
+    ensures next { (first ahead : Entry) → TellsNext (mounted first None) (mounted first (Some ahead)) }
+    ensures ip { (first : Entry) → TellsIp (mounted first None) }
+    ensures ahead { (index : Index) → TellsAhead index }
+{}
+
+/// Which ops are admitted and where they go, and what a close makes of a small volume.
+pub fn the_definitions_tell_jobs()
+    ensures jobs { (e : Entry) → TellsJobs e }
+    ensures close { (first second : Entry) → TellsClose first second }
+{}

@@ -1,0 +1,57 @@
+-- What is done at a place stays so.
+use Rattle.std.proofs.Common.{◌≡◌, ⊎_elim, ◌∙◌, ◌||◌, Bool, true, false, List, ◌∷◌, ◌++◌, map, None, refl, sym, arith}
+use Rattle.std.specs.List.{list_any}
+use Rattle.tape_types.specs.declared.cartridges.Place.{Place}
+use Rattle.file_tree.specs.Blocks.{LiesBelow, TreeStandsIn}
+use Rattle.file_tree.specs.Tree.{FileTree}
+use Rattle.event_laws.specs.Trail.{puts_at}
+use Rattle.tape_layout.specs.declared.ops.Op.{Op}
+use Rattle.tape_layout.specs.Ops.{AreNext, held_in}
+use Rattle.serving_promise.specs.Served.{headed}
+use Rattle.held_volume.specs.Stocks.{ends_of}
+use Rattle.plan_laws.specs.Laws.{PlacesStay}
+use Rattle.plan_laws.specs.Planned.{IsDoneAt, IsPutBy, Items, NoMarks, ends_in, with_ops}
+use Rattle.plan_laws.proofs.Marks.{put_by_either, puts_behind}
+use Rattle.plan_laws.proofs.Tells.{later_put}
+use Rattle.plan_laws.proofs.Stays.{further}
+
+-- a test that isn't passed is failed
+not_passed : (b : Bool) → (b ≡ true → ⊥) → b ≡ false
+not_passed true never = absurd (never refl)
+not_passed false never = refl
+
+passed_not : (b : Bool) → b ≡ false → b ≡ true → ⊥
+passed_not true failed passed = cc failed
+passed_not false failed passed = cc passed
+
+place_wanted : (planned : Items) (ops : List Op) (tree : FileTree) (place : Place)
+    → LiesBelow (ends_of (ends_in planned)) tree → NoMarks ops tree → TreeStandsIn tree place.part place.pos
+    → held_in place ops ≡ None → IsDoneAt planned ops place
+place_wanted planned ops tree place below none stands free = record {
+  below = below place.part place.pos stands;
+  free =
+      not_passed (list_any (puts_at place) (map headed ops))
+      (λ put. let has = none place.part place.pos stands put in cc (sym has.1 ∙ free));
+}
+
+place_added : (planned : Items) (ops asked : List Op) (place : Place) → AreNext (ends_in planned) asked
+    → IsDoneAt planned ops place → IsDoneAt (with_ops asked planned) (ops ++ asked) place
+place_added planned ops asked place next d = record {
+  below = further planned asked place.part place.pos d.below;
+  free = not_passed (list_any (puts_at place) (map headed (ops ++ asked))) (λ put. ⊎_elim
+      (λ (old : IsPutBy ops place). passed_not (list_any (puts_at place) (map headed ops)) d.free old)
+      (λ (new : IsPutBy asked place). omega (arith, d.below, puts_behind asked (ends_in planned) place next new))
+      (put_by_either place ops asked put));
+}
+
+place_done : (planned : Items) (op : Op) (ops : List Op) (place : Place) → IsDoneAt planned (op ∷ ops) place
+    → IsDoneAt planned ops place
+place_done planned op ops place d = record {
+  below = d.below;
+  free = not_passed (list_any (puts_at place) (map headed ops)) (λ put.
+      passed_not (puts_at place (headed op) || list_any (puts_at place) (map headed ops)) d.free
+      (later_put (puts_at place (headed op)) (list_any (puts_at place) (map headed ops)) put));
+}
+
+pub places_stay : PlacesStay
+places_stay = record { wanted = place_wanted; added = place_added; done = place_done }

@@ -1,0 +1,192 @@
+-- What events leave: who owns a fault, how many ops are done, and how many stand.
+use Rattle.std.specs.Prelude.{◌≡◌, ◌+◌, ◌||◌, ℕ, suc, Bool, true, false, cond, List, [], ◌∷◌, ◌++◌, All, length, fold, map, filter_map, scan, Contains, Option, Some, None}
+use Rattle.std.specs.List.{list_all, list_any}
+use Rattle.std.proofs.Common.{refl, sym, ap, ◌∙◌, subst, arith, length-append}
+use Rattle.std.proofs.lemmas.List.{length-map}
+use Rattle.std.proofs.lemmas.List.Elements.{Contains-append_left, filter_map-append}
+use Rattle.std.proofs.lemmas.List.Folds.{list_all-append, list_any-append}
+use Rattle.tape_types.specs.declared.cartridges.Place.{Place}
+use Rattle.tape_types.specs.declared.cartridges.Twin.{Twin}
+use Rattle.session_script.specs.declared.logs.Event.{Event}
+use Rattle.session_script.specs.declared.logs.Event.TheVariants.{Wants, Queues, Syncs, Synced, Drains, Rests, Served, Worked}
+use Rattle.event_laws.specs.Trail.{IsTrail, Owner, after, after_all, after_op, allows, both, fault_of, is_answer, is_of, is_trail_from, owned, owned_by, owner_of, takes_op, without_first_waiter}
+use Rattle.event_laws.specs.Waiting.{Op, Request, State, Waiter, first_of, is_calm, ops, put_at, start, waiting_op, with_flushes}
+use Rattle.serving_promise.specs.Served.{queued}
+use Rattle.serving_promise.specs.Steps.{AreOfStep, no_step, one_step, is_step}
+use Rattle.reply_laws.specs.Laws.{OwnersKeepFaults}
+use Rattle.reply_laws.specs.Sides.{does_op}
+use Rattle.reply_laws.proofs.Lists.{and_first, and_second, picks_none, scan_append}
+
+-- ---- faults
+
+owned_on : (events added : List Event) → owned (events ++ added) ≡ owned events ++ filter_map (λ o. o) (scan after (λ st e. both (owner_of st e) (fault_of e)) (after_all events) added)
+owned_on events added =
+    ap (filter_map (λ o. o)) (scan_append after (λ st e. both (owner_of st e) (fault_of e)) start events added)
+    ∙ filter_map-append (λ o. o) (scan after (λ st e. both (owner_of st e) (fault_of e)) start events) (scan after (λ st e. both (owner_of st e) (fault_of e)) (after_all events) added)
+
+pub owners_keep_faults : OwnersKeepFaults
+owners_keep_faults owner events added counts has =
+    let later = filter_map (λ o. o) (scan after (λ st e. both (owner_of st e) (fault_of e)) (after_all events) added) in
+    subst (λ (twins : List Twin). Contains twins counts)
+    (sym (ap (filter_map (λ (e : Owner × Twin). cond (is_of owner e.0) (Some e.1) None)) (owned_on events added) ∙ filter_map-append (λ (e : Owner × Twin). cond (is_of owner e.0) (Some e.1) None) (owned events) later))
+    (Contains-append_left (owned_by owner events) (filter_map (λ (e : Owner × Twin). cond (is_of owner e.0) (Some e.1) None) later) counts has)
+
+-- ---- ops that stand, that were done, and that were queued
+
+flushes_long : (places : List Place) → length (with_flushes places) ≡ length places
+flushes_long [] = refl
+flushes_long (p ∷ later) = ap suc (flushes_long later)
+
+-- how many ops stand, and how many were done
+abbrev ever : State → ℕ
+ever st = length (ops st) + st.done
+
+-- an op that waits stands
+done_one : (head : Place) (arrived : ℕ) (requests : List Request) (done : ℕ) (ended : List Op) (group : List Place) (syncs : List Waiter) (drains : List ℕ) (op : Op)
+    → first_of (ended ++ map put_at group) ≡ Some op
+    → ever (after_op (Some op) (record { head = head; arrived = arrived; requests = requests; done = done; ended = ended; group = group; syncs = syncs; drains = drains }))
+    ≡ length (ended ++ map put_at group) + done
+done_one head arrived requests done [] [] syncs drains op is = absurd (let no : None ≡ Some op = is in cc)
+done_one head arrived requests done [] (p ∷ group) syncs drains op is = omega arith
+done_one head arrived requests done (o ∷ ended) group syncs drains op is = omega arith
+
+waits_first : (calm : Bool) (first : Option Op) (op : Op) → cond calm None first ≡ Some op → first ≡ Some op
+waits_first true first op e = cc
+waits_first false first op e = e
+
+worked : (st : State) (waits : Option Op) → waiting_op st ≡ waits → ever (after_op waits st) ≡ ever st
+worked st None is = refl
+worked st (Some op) is = done_one st.head st.arrived st.requests st.done st.ended st.group st.syncs st.drains op (waits_first (is_calm st) (first_of (ops st)) op is)
+
+failed : (head : Place) (arrived : ℕ) (requests : List Request) (done : ℕ) (ended : List Op) (group : List Place) (syncs : List Waiter) (drains : List ℕ)
+    → ever (without_first_waiter (record { head = head; arrived = arrived; requests = requests; done = done; ended = ended; group = group; syncs = syncs; drains = drains }))
+    ≡ length (ended ++ map put_at group) + done
+failed head arrived requests done ended group [] drains = refl
+failed head arrived requests done ended group (s ∷ syncs) drains = refl
+
+ever_one : (st : State) (e : Event) → ever (after st e) ≡ ever st + length (filter_map queued (e ∷ []))
+ever_one st (Wants ticket place) = omega arith
+ever_one st (Queues place) =
+    omega (arith, length-append st.ended (map put_at (st.group ++ place ∷ [])), length-map (st.group ++ place ∷ []) put_at, length-append st.group (place ∷ []), length-append st.ended (map put_at st.group), length-map st.group put_at)
+ever_one st (Syncs ticket) =
+    omega (arith, length-append (st.ended ++ with_flushes st.group) (map put_at []), length-append st.ended (with_flushes st.group), flushes_long st.group, length-append st.ended (map put_at st.group), length-map st.group put_at)
+ever_one st (Synced ticket) = omega arith
+ever_one st (Drains who) = omega arith
+ever_one st (Rests who) = omega arith
+ever_one st (Served ticket place None) = omega arith
+ever_one st (Served ticket place (Some counts)) = omega arith
+ever_one st (Worked place None) = omega (arith, worked st (waiting_op st) refl)
+ever_one st (Worked place (Some counts)) = omega (arith, failed st.head st.arrived st.requests st.done st.ended st.group st.syncs st.drains)
+
+ever_from : (st : State) (events : List Event) → ever (fold after st events) ≡ ever st + length (filter_map queued events)
+ever_from st [] = omega arith
+ever_from st (e ∷ later) =
+    omega (arith, ever_from (after st e) later, ever_one st e, ap length (filter_map-append queued (e ∷ []) later), length-append (filter_map queued (e ∷ [])) (filter_map queued later))
+
+-- the ops that were queued are those that stand and those that were done
+pub queued_or_done : (events : List Event) → length (ops (after_all events)) + (after_all events).done ≡ length (filter_map queued events)
+queued_or_done events = omega (arith, ever_from start events)
+
+-- ---- what a step has done
+
+pub trail_behind : (events added : List Event) → IsTrail (events ++ added) → is_trail_from (after_all events) added ≡ true
+trail_behind events added is =
+    and_second (list_all (λ may. may) (scan after allows start events)) (is_trail_from (after_all events) added)
+    (sym (ap (list_all (λ may. may)) (scan_append after allows start events added) ∙ list_all-append (λ may. may) (scan after allows start events) (scan after allows (after_all events) added)) ∙ is)
+
+-- how many ops a step has done
+abbrev pub done_by : List Event → ℕ
+done_by added = cond (list_any does_op added) 1 0
+
+after_waiting : (head : Place) (arrived : ℕ) (requests : List Request) (done : ℕ) (ended : List Op) (group : List Place) (syncs : List Waiter) (drains : List ℕ) (op : Op)
+    → (after_op (Some op) (record { head = head; arrived = arrived; requests = requests; done = done; ended = ended; group = group; syncs = syncs; drains = drains })).done ≡ done + 1
+after_waiting head arrived requests done [] group syncs drains op = refl
+after_waiting head arrived requests done (o ∷ ended) group syncs drains op = refl
+
+taken : (st : State) (place : Place) (waits : Option Op) → takes_op st place waits ≡ true → (after_op waits st).done ≡ st.done + 1
+taken st place None h = absurd (cc)
+taken st place (Some op) h = after_waiting st.head st.arrived st.requests st.done st.ended st.group st.syncs st.drains op
+
+failed_done : (head : Place) (arrived : ℕ) (requests : List Request) (done : ℕ) (ended : List Op) (group : List Place) (syncs : List Waiter) (drains : List ℕ)
+    → (without_first_waiter (record { head = head; arrived = arrived; requests = requests; done = done; ended = ended; group = group; syncs = syncs; drains = drains })).done ≡ done
+failed_done head arrived requests done ended group [] drains = refl
+failed_done head arrived requests done ended group (s ∷ syncs) drains = refl
+
+done_one_more : (st : State) (e : Event) → allows st e ≡ true → (after st e).done ≡ st.done + cond (does_op e) 1 0
+done_one_more st (Wants ticket place) h = omega arith
+done_one_more st (Queues place) h = omega arith
+done_one_more st (Syncs ticket) h = omega arith
+done_one_more st (Synced ticket) h = omega arith
+done_one_more st (Drains who) h = omega arith
+done_one_more st (Rests who) h = omega arith
+done_one_more st (Served ticket place None) h = omega arith
+done_one_more st (Served ticket place (Some counts)) h = omega arith
+done_one_more st (Worked place None) h = taken st place (waiting_op st) (and_first (takes_op st place (waiting_op st)) _ h)
+done_one_more st (Worked place (Some counts)) h = omega (arith, failed_done st.head st.arrived st.requests st.done st.ended st.group st.syncs st.drains)
+
+-- an event that does no op leaves the count of those that were done
+kept_one : (st : State) (e : Event) → does_op e ≡ false → (after st e).done ≡ st.done
+kept_one st (Wants ticket place) h = refl
+kept_one st (Queues place) h = refl
+kept_one st (Syncs ticket) h = refl
+kept_one st (Synced ticket) h = refl
+kept_one st (Drains who) h = refl
+kept_one st (Rests who) h = refl
+kept_one st (Served ticket place None) h = refl
+kept_one st (Served ticket place (Some counts)) h = refl
+kept_one st (Worked place None) h = cc
+kept_one st (Worked place (Some counts)) h = failed_done st.head st.arrived st.requests st.done st.ended st.group st.syncs st.drains
+
+or_first : (a b : Bool) → (a || b) ≡ false → a ≡ false
+or_first false b e = refl
+or_first true b e = cc
+
+or_second : (a b : Bool) → (a || b) ≡ false → b ≡ false
+or_second false b e = e
+or_second true b e = cc
+
+pub none_done : (st : State) (events : List Event) → list_any does_op events ≡ false → (fold after st events).done ≡ st.done
+none_done st [] h = refl
+none_done st (e ∷ later) h = none_done (after st e) later (or_second (does_op e) (list_any does_op later) h) ∙ kept_one st e (or_first (does_op e) (list_any does_op later) h)
+
+an_answer : (e : Event) → is_answer e ≡ true → does_op e ≡ false
+an_answer (Synced ticket) h = refl
+an_answer _ h = cc
+
+answers_do_none : (answers : List Event) → All (λ a. is_answer a ≡ true) answers → list_any does_op answers ≡ false
+answers_do_none [] all = refl
+answers_do_none (a ∷ later) all =
+    ap (λ b. b || list_any does_op later) (an_answer a (all 0 a (omega arith)))
+    ∙ answers_do_none later (λ k d less. all (suc k) d (omega (arith, less)))
+
+or_none : (a b : Bool) → b ≡ false → (a || b) ≡ a
+or_none true b h = refl
+or_none false b h = h
+
+-- what a step of the head, and events behind it that do no op, have done
+pub step_done : (st : State) (made rest : List Event) → AreOfStep made → list_any does_op rest ≡ false → is_trail_from st (made ++ rest) ≡ true → (fold after st (made ++ rest)).done ≡ st.done + done_by (made ++ rest)
+step_done st _ rest no_step none is = omega (arith, none_done st rest none, ap {B = ℕ} (λ b. cond b 1 0) none)
+step_done st _ rest (one_step e answers step all) none is =
+    let later : list_any does_op (answers ++ rest) ≡ false = list_any-append does_op answers rest ∙ ap (λ b. b || list_any does_op rest) (answers_do_none answers all) ∙ none in
+    none_done (after st e) (answers ++ rest) later
+    ∙ done_one_more st e (and_first (allows st e) (is_trail_from (after st e) (answers ++ rest)) is)
+    ∙ ap (λ b. st.done + cond b 1 0) (sym (or_none (does_op e) (list_any does_op (answers ++ rest)) later))
+
+answer_queues : (e : Event) → is_answer e ≡ true → queued e ≡ None
+answer_queues (Synced ticket) h = refl
+answer_queues _ h = cc
+
+step_queues : (e : Event) → is_step e ≡ true → queued e ≡ None
+step_queues (Served ticket place fault) h = refl
+step_queues (Worked place fault) h = refl
+step_queues _ h = cc
+
+answers_queue_none : (answers : List Event) → All (λ a. is_answer a ≡ true) answers → filter_map queued answers ≡ []
+answers_queue_none [] all = refl
+answers_queue_none (a ∷ later) all =
+    picks_none queued a later (answer_queues a (all 0 a (omega arith)))
+    ∙ answers_queue_none later (λ k d less. all (suc k) d (omega (arith, less)))
+
+pub steps_queue_none : (made : List Event) → AreOfStep made → filter_map queued made ≡ []
+steps_queue_none _ no_step = refl
+steps_queue_none _ (one_step e answers step all) = picks_none queued e answers (step_queues e step) ∙ answers_queue_none answers all

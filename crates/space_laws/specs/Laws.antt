@@ -1,0 +1,66 @@
+-- What the definitions of space say together.
+use Rattle.std.specs.Prelude.{◌≡◌, ℕ, ◌+◌, ◌++◌, Bool, List, take, Option, Some}
+use Rattle.tape_types.specs.declared.moments.Moment.{Moment}
+use Rattle.tape_types.specs.declared.cartridges.Part.{Part}
+use Rattle.tape_types.specs.declared.cartridges.Part.TheVariants.{Ip, Dp}
+use Rattle.tape_types.specs.declared.cartridges.Place.{Place}
+use Rattle.plain_tree.specs.History.{replay}
+use Rattle.plain_tree.specs.declared.calls.Call.{Call}
+use Rattle.plain_tree.specs.declared.calls.Fate.TheVariants as fates
+use Rattle.plain_tree.specs.declared.calls.Placed.{Placed}
+use Rattle.index_model.specs.Canonical.{canonical}
+use Rattle.index_model.specs.Values.{IndexValue, Tells}
+use Rattle.index_model.specs.declared.indexes.Index.{Index}
+use Rattle.tape_layout.specs.declared.ops.Op.{Op}
+use Rattle.tape_layout.specs.Admissions.{Admission, close_admission, data_admission, index_admission}
+use Rattle.tape_layout.specs.Ops.{construct, end_of}
+use Rattle.space_laws.specs.Files.{canon, value_of}
+use Rattle.space_laws.specs.Space.{Ask, Rules, Space, after, after_close, index, index_need, limit_of, need_of}
+use Rattle.space_laws.specs.Space.{nothing, ops_of, part_for, plan_of, store}
+use Rattle.space_laws.specs.Standing.{Given, Standing, after_done, after_placed, ask_of, standing}
+
+-- what a layout admits in this space, and where
+abbrev pub admission_of : Rules → Bool → Space → List Op → Ask → Place → Admission
+admission_of v on s ops ask place = record {
+  need = need_of v on s ask;
+  limit = limit_of v on s ask;
+  place = place;
+  after = plan_of v on (after v on s ask) (ops ++ ops_of v on s ask);
+}
+
+-- where the next item of a partition goes
+abbrev pub end_place : Part → Space → Place
+end_place part s = record { part = part; pos = end_of part s.ends }
+
+-- what a layout admits is one step of the space, with the need, the limit and the ops of that step
+pub record AreSteps : Type 0 where
+  pub stored : (v : Rules) (on : Bool) (s : Space) (ops : List Op) (wanted : Bool) (bytes : List ℕ)
+      → data_admission (plan_of v on s ops) wanted bytes
+      ≡ admission_of v on s ops (store wanted bytes) (end_place (part_for v on s wanted bytes) s)
+  pub indexed : (v : Rules) (on : Bool) (s : Space) (ops : List Op) (text : List ℕ)
+      → index_admission (plan_of v on s ops) (s.newest + 1) text
+      ≡ admission_of v on s ops (index text) (record { part = Dp; pos = s.ends.dp + 1 })
+  pub closed : (v : Rules) (on : Bool) (s : Space) (ops : List Op) (text : List ℕ)
+      → close_admission (plan_of v on s ops) text ≡ record {
+        need = index_need v Ip s text;
+        limit = v.limits.cap_ip;
+        place = record { part = Ip; pos = s.ends.ip + 1 };
+        after = plan_of v on (after_close v text s) (ops ++ construct v.block_size Ip s.ends.ip text);
+      }
+
+-- the tree that stands after the first placements is the one that they leave
+abbrev pub TreesAreReplays : Type 0
+TreesAreReplays =
+    (g : Given) (on : Option ℕ) (history : List Placed) (k : ℕ)
+    → (standing g on history k).tree ≡ replay g.calls g.tree (take k history)
+
+-- a void placement is no step, and a call that asks nothing of the tape, which leaves the tree, isn't either
+pub record AreStill : Type 0 where
+  pub void : (g : Given) (on : Bool) (st : Standing) (p : Placed) → p.fate ≡ fates.Void → after_placed g on st p ≡ st
+  pub nothing_asked : (g : Given) (on : Bool) (st : Standing) (call : Call) (at : Moment)
+      → ask_of g st call at ≡ nothing → after_done g on st call at ≡ st
+
+-- the value of an index that tells one is that value, and its text is the one text of that
+pub record ValuesAreTold : Type 0 where
+  pub value : (index : Index) (v : IndexValue) → Tells index v → value_of index ≡ Some v
+  pub text : (index : Index) (v : IndexValue) → Tells index v → canon index ≡ canonical v

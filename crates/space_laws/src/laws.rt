@@ -1,0 +1,25 @@
+ghost use Rattle.space_laws.specs.Laws.{AreSteps, AreStill, TreesAreReplays, ValuesAreTold};
+
+/// What a layout admits is one step of the space.
+#[tactic(auto, using(crate::proofs::Steps::are_steps))]
+pub fn admissions_are_steps()
+    ensures { AreSteps }
+{}
+
+/// The tree that stands after the first placements is the one that the history leaves.
+#[tactic(auto, using(crate::proofs::TreeLaw::are_replays))]
+pub fn trees_are_replays()
+    ensures { TreesAreReplays }
+{}
+
+/// A void placement and a call that asks nothing change nothing.
+#[tactic(auto, using(crate::proofs::Steps::are_still))]
+pub fn nothing_asked_is_no_step()
+    ensures { AreStill }
+{}
+
+/// The value of an index, as it is gathered from the nodes by their parents, is the one that the index tells.
+#[tactic(auto, using(crate::proofs::ToldValue::values_are_told))]
+pub fn values_are_told()
+    ensures { ValuesAreTold }
+{}

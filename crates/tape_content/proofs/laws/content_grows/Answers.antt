@@ -1,8 +1,0 @@
-use Rattle.tape_content.proofs.Grown.{blocks_appended, index_appended}
-use Rattle.tape_content.proofs.laws.content_grows.Goals as goal
-
-pub returns-clause-blocks : goal.returns-clause-blocks
-returns-clause-blocks c = blocks_appended
-
-pub returns-clause-index : goal.returns-clause-index
-returns-clause-index c = index_appended

@@ -1,8 +1,0 @@
-use Rattle.tape_content.proofs.ReadForms.{form, stops}
-use Rattle.tape_content.proofs.laws.what_is_read_is_the_form.Goals as goal
-
-pub returns-clause-form : goal.returns-clause-form
-returns-clause-form c = form
-
-pub returns-clause-stops : goal.returns-clause-stops
-returns-clause-stops c = stops

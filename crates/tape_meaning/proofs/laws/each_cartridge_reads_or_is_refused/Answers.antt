@@ -1,5 +1,0 @@
-use Rattle.tape_meaning.proofs.Judged.{judged}
-use Rattle.tape_meaning.proofs.laws.each_cartridge_reads_or_is_refused.Goals as goal
-
-pub returns : goal.returns
-returns c = judged

@@ -1,9 +1,0 @@
-use Rattle.tape_types.specs.declared.cartridges.Part.TheVariants.{Ip}
-use Rattle.volume_core.proofs.FillLemmas.{taken_next}
-use Rattle.volume_core.proofs.fetches.take_held.Goals as goal
-
-pub loop-place-preserved : goal.loop-place-preserved
-loop-place-preserved c =
-    taken_next c.args.stock.now.layout.ops c.args.places.now c.loop-place.place-index (record { part = Ip; pos = 0 })
-    c.args.reading.now c.loop-place.reading c.take_block.new.reading c.args.wanted.now c.loop-place.wanted
-    c.take_block.new.wanted c.loop-place-test.true c.loop-place.invariant c.in_ok-take_block.ensures

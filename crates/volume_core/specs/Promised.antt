@@ -1,0 +1,56 @@
+-- What the close of a volume shows, over any drive.
+use Rattle.std.specs.Prelude.{◌≡◌, ◌≤◌, Bool, Option, None, IfSome, length}
+use Rattle.std.specs.FinMap as fin
+use Rattle.tape_types.specs.declared.moments.Moment.{Moment}
+use Rattle.tape_drive.specs.declared.drive.Drive.{Ghosts}
+use Rattle.session_script.specs.Sessions.{greatest_session}
+use Rattle.file_tree.specs.Valid.{IsGood}
+use Rattle.cartridge_meaning.specs.Carried.{carried}
+use Rattle.serving_promise.specs.Crash.{SurvivesCrashes}
+use Rattle.serving_promise.specs.Ends.{IsEnd, TellsNodes}
+use Rattle.serving_promise.specs.Marks.{NothingWaits}
+use Rattle.serving_promise.specs.Meanings.{cartridges}
+use Rattle.serving_promise.specs.Served.{Fixed, tree_after}
+use Rattle.serving_promise.specs.declared.answers.CloseEnd.{CloseEnd}
+use Rattle.order_laws.specs.Kept.{seen}
+use Rattle.crash_laws.specs.Laws.{CanServe}
+use Rattle.promise_laws.specs.Kept.{CanRead}
+use Rattle.state_laws.specs.Parts.{Parts, view_of}
+use Rattle.call_laws.specs.Running.{IsRunning}
+use Rattle.volume_core.specs.Finish.{Finishes}
+
+-- nothing waits in a volume that runs, and the clock gives this moment
+pub record IsToClose {D : Type 0} (drive : Ghosts D) (at : Moment) (p : Parts D) : Type 0 where
+  pub fixed : Fixed D
+  pub next : Option Moment
+  pub runs : IsRunning drive fixed next p
+  pub nothing : NothingWaits (greatest_session fixed.script) p.listed.marks
+  pub moment : IfSome next (λ m. at ≡ m)
+
+-- Nothing waits in a volume that runs, its tree is such as an index may tell, and the clock gives this moment.
+pub record CanClose {D : Type 0} (drive : Ghosts D) (fixed : Fixed D) (next : Option Moment) (at : Moment) (p : Parts D)
+    : Type 0 where
+  pub runs : IsRunning drive fixed next p
+  pub nothing : NothingWaits (greatest_session fixed.script) p.listed.marks
+  pub moment : IfSome next (λ m. at ≡ m)
+  pub good : IsGood p.stock.tree
+
+-- What its close gives, beside the log and what that has cost.
+pub record EndsAsPromised {D : Type 0} (drive : Ghosts D) (fixed : Fixed D) (next : Option Moment) (at : Moment)
+    (p : Parts D) (new : D) (outcome : CloseEnd) : Type 0 where
+  pub nodes : CanRead drive fixed
+      → TellsNodes outcome (tree_after (view_of fixed next p) (length p.listed.history)) (fin.len p.stock.tree.nodes)
+  pub end : IsEnd cartridges (seen drive fixed.first) (seen drive p.drive) (seen drive new)
+      (view_of fixed next p) new at outcome
+  pub later : drive.commands p.drive ≤ drive.commands new
+  pub faults : drive.faults p.drive ≤ drive.faults new
+  pub limits : drive.limits new ≡ drive.limits fixed.first
+  pub untold : drive.held fixed.first ≡ None → drive.held new ≡ None
+  pub crash : CanServe drive fixed → SurvivesCrashes cartridges (carried fixed.mounted.index)
+      (tree_after (view_of fixed next p)) (length p.listed.history) p.trail.acks (seen drive new).leavings fixed.since
+
+-- A volume that is closed ends as is promised.
+abbrev pub ClosesEnd : {D : Type 0} → Ghosts D → Type 0
+ClosesEnd {D} drive = (fixed : Fixed D) (next : Option Moment) (at : Moment) (p : Parts D) (noted : Bool) (new : D)
+    (outcome : CloseEnd) → CanClose drive fixed next at p → noted ≡ fixed.mounted.noted
+    → Finishes drive noted at p.stock p.drive new outcome → EndsAsPromised drive fixed next at p new outcome

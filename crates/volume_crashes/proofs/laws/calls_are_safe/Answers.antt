@@ -1,5 +1,0 @@
-use Rattle.volume_crashes.proofs.Placing.{calls_are_safe}
-use Rattle.volume_crashes.proofs.laws.calls_are_safe.Goals as goal
-
-pub returns : goal.returns
-returns g c = calls_are_safe g.D.Drive g.met.D.Drive.only_now

@@ -1,8 +1,0 @@
--- That a mount tells the label of its cartridge.
-use Rattle.std.proofs.Common.{ap, ◌∙◌}
-use Rattle.tape_meaning.specs.declared.labels.Labels.{Labels}
-use Rattle.tape_meaning.proofs.OneWay.{same_labels}
-use Rattle.volume_due.specs.Laws.{MountsTellLabels}
-
-pub tell_labels : MountsTellLabels
-tell_labels c m found mounts = mounts.label ∙ ap (λ (l : Labels). l.ip) (same_labels c mounts.found found)

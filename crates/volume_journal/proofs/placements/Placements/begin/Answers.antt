@@ -1,9 +1,0 @@
-use Rattle.std.proofs.Common.{arith, ◌≤◌, sym, subst}
-use Rattle.volume_journal.specs.Placements.{Listed}
-use Rattle.volume_journal.proofs.placements.Placements.begin.Goals as goal
-use Rattle.volume_journal.proofs.PlacementLemmas.{begin_listed}
-
-pub invariant_of-self : goal.invariant_of-self
-invariant_of-self c =
-    begin_listed _ _ _ _ _ _ _ _ _ _ c.args.who c.self.invariant c.requires.low (subst (λ (l : Listed). c.args.who ≤ l.sessions) (sym c.self.view_is) c.requires.high) c.push.ensures.items
-    (subst (λ (l : Listed). 2 ≤ l.spare) (sym c.self.view_is) c.requires.room) (omega (arith, c.push.ensures.len, c.push.ensures.capacity))

@@ -1,7 +1,0 @@
-use Rattle.std.proofs.Common.{rules}
-use Rattle.volume_journal.proofs.placements.Placements.new.Goals as goal
-use Rattle.volume_journal.proofs.PlacementLemmas.{new_listed}
-
-pub invariant_of-result : goal.invariant_of-result
-invariant_of-result c =
-    new_listed _ _ _ _ _ _ _ _ (search rules) (search rules) (search rules) (search rules) (search rules) (search rules)

@@ -1,8 +1,0 @@
-use Rattle.std.proofs.Common.{◌≡◌, drop, map}
-use Rattle.head_trail.specs.Waiting.{first_of}
-use Rattle.volume_model.specs.Faults.{kept_for}
-use Rattle.volume_journal.specs.Trails.{kept_as}
-use Rattle.volume_journal.proofs.trails.fault_for.Given as goal
-
-abbrev pub invariant-loop-fault : goal.invariant-loop-fault
-invariant-loop-fault l = first_of (kept_for l.who (map kept_as l.kept)) ≡ first_of (kept_for l.who (map kept_as (drop l.fault-index l.kept)))

@@ -1,6 +1,0 @@
-use Rattle.std.proofs.Common.{rules, not, ◌==◌}
-use Rattle.std.proofs.lemmas.Fn.{filter_same}
-use Rattle.volume_journal.proofs.trails.forget_sync.Goals as goal
-
-pub returns-clause-left : goal.returns-clause-left
-returns-clause-left c = filter_same _ (λ s. not (s.ticket == c.args.ticket)) _ (λ x b f' k. search rules) _ _ c.retain.ensures.filtered

@@ -1,5 +1,0 @@
-use Rattle.volume_order.proofs.BeginLaw.{volumes_begin}
-use Rattle.volume_order.proofs.laws.volumes_begin_in_order.Goals as goal
-
-pub returns : goal.returns
-returns g c = volumes_begin g.D.Drive

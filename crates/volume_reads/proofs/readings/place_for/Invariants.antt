@@ -1,6 +1,0 @@
-use Rattle.std.proofs.Common.{◌≡◌, drop}
-use Rattle.volume_reads.specs.Waiting.{answer_for}
-use Rattle.volume_reads.proofs.readings.place_for.Given as goal
-
-abbrev pub invariant-loop-at : goal.invariant-loop-at
-invariant-loop-at l = answer_for l.ticket l.answered ≡ answer_for l.ticket (drop l.at l.answered)

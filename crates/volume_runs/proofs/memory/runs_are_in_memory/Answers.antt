@@ -1,4 +1,0 @@
-use Rattle.volume_runs.proofs.memory.runs_are_in_memory.Goals as goal
-
-pub returns : goal.returns
-returns c script at first now log run = run

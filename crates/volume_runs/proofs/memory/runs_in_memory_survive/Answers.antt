@@ -1,5 +1,0 @@
-use Rattle.volume_runs.proofs.Images.{run_survives}
-use Rattle.volume_runs.proofs.memory.runs_in_memory_survive.Goals as goal
-
-pub returns : goal.returns
-returns c = run_survives c.args.drive.now (λ t image. (c.since_gives_all.ensures t image).1)

@@ -1,0 +1,388 @@
+-- Reads that are answered at once, and reads that wait.
+use Rattle.std.specs.Prelude.{ℕ, suc, ◌≡◌, ◌≢◌, ◌+◌, ◌≤◌, ◌||◌, not, Bool, true, false, List, [], ◌∷◌, ◌++◌, All, AllPairs, Contains, Option, Some, None, filter, filter_map, fold, is_none, length, map}
+use Rattle.std.specs.List.{flat_map, list_any}
+use Rattle.std.proofs.Common.{refl, sym, ap, subst, ◌∙◌, arith}
+use Rattle.std.proofs.lemmas.List.Elements.{All-cons, All-filter, filter_passes}
+use Rattle.std.proofs.lemmas.List.Kept.{AllPairs-cons, AllPairs-filter}
+use Rattle.tape_types.specs.declared.cartridges.Place.{Place}
+use Rattle.tape_types.specs.declared.moments.Moment.{Moment}
+use Rattle.plain_tree.specs.Calls.{answer, answer_unless, value_of}
+use Rattle.plain_tree.specs.Cells.{bytes_of}
+use Rattle.plain_tree.specs.Refusals.{refusal_of}
+use Rattle.plain_tree.specs.declared.calls.Answer.{Answer}
+use Rattle.plain_tree.specs.declared.calls.Answer.TheVariants as the_answers
+use Rattle.plain_tree.specs.declared.calls.Call.{Call}
+use Rattle.plain_tree.specs.declared.calls.Call.TheVariants as calls
+use Rattle.plain_tree.specs.declared.calls.Fate.TheVariants as fates
+use Rattle.plain_tree.specs.declared.calls.Refusal.{Refusal}
+use Rattle.extent_map.specs.Cells.{Tape}
+use Rattle.extent_map.specs.Pieces.{read_piece}
+use Rattle.extent_map.specs.Replies.{distinct, has_place, place_in, places_in, same_place}
+use Rattle.extent_map.specs.declared.pieces.Piece.{Piece}
+use Rattle.extent_map.specs.declared.pieces.Piece.TheVariants.{Stored, Zeros}
+use Rattle.session_script.specs.declared.logs.Event.{Event}
+use Rattle.session_script.specs.declared.logs.Reply.TheVariants as the_replies
+use Rattle.file_tree.specs.Blocks.{TreeStandsIn}
+use Rattle.file_tree.specs.Tree.{FileTree, plain_of, whole}
+use Rattle.event_laws.specs.Trail.{IsTrail, after, after_all, is_trail_from, puts_at}
+use Rattle.event_laws.specs.Waiting as waiting
+use Rattle.event_laws.specs.Waiting.{Request, State}
+use Rattle.head_queue.specs.Queued.{Queued, requests}
+use Rattle.head_queue.specs.Waiting.{Waiting, request}
+use Rattle.tape_drive.specs.declared.drive.Drive.{Ghosts}
+use Rattle.tape_layout.specs.Ops.{held_in}
+use Rattle.tape_layout.specs.declared.ops.Op.{Op}
+use Rattle.space_laws.specs.Space.{nothing}
+use Rattle.space_laws.specs.Standing.{Given, Standing, ask_unless, uid_at}
+use Rattle.serving_promise.specs.Served.{headed}
+use Rattle.serving_promise.specs.Submits.{blocks_in, stored_at}
+use Rattle.serving_promise.specs.declared.answers.Submitted.{Submitted}
+use Rattle.serving_promise.specs.declared.answers.Submitted.TheVariants as submitted
+use Rattle.held_volume.specs.Applied.{IsRefusedAs}
+use Rattle.held_volume.specs.Reads as reads
+use Rattle.held_volume.specs.Reads.{IsReadPlan, PiecesStandIn}
+use Rattle.held_volume.specs.Stocks.{IsStock, Stocked}
+use Rattle.event_journal.specs.Placements.{Listed}
+use Rattle.event_journal.specs.Trails.{Journaled, state}
+use Rattle.group_laws.specs.Groups.{requests_for}
+use Rattle.group_laws.specs.Laws.{HasWanted, wants_at}
+use Rattle.group_laws.proofs.TrailLemmas.{reads_may_want}
+use Rattle.waiting_reads.specs.Gathering.{Gathering, IsAnswered, IsGathering, got_or_damaged, read_answer}
+use Rattle.plan_laws.specs.Planned.{IsPlan, Items, NoMarks, tape_on}
+use Rattle.plan_laws.proofs.Plans.{plan_held}
+use Rattle.state_laws.specs.Parts.{Parts}
+use Rattle.state_laws.specs.Placing.{PlacesCall, Waits, marks_for}
+use Rattle.volume_steps.specs.Asking.{Awaits, CanAsk, CanPlace, Finishes, IsSubmitted, Reserves, Stands}
+use Rattle.volume_steps.specs.Wanted.{AreTakenFrom, AsksBlocks, CanWantBlocks, HasEvents, HasHeld, HasRequests, IsFetched, held_among, unheld}
+use Rattle.tape_types.proofs.Places.{same_itself}
+use Rattle.volume_steps.proofs.FillLemmas.{gathering_alike, held_or_wanted, held_there, or_first, or_second, stored_place}
+use Rattle.volume_steps.proofs.QueueLemmas.{none_is_due}
+use Rattle.volume_steps.proofs.SubmitLemmas.{as_it_was, placed_answered}
+use Rattle.volume_steps.proofs.RequestLemmas.{state_after}
+use Rattle.call_laws.specs.SubmitLaws as made
+
+-- ---- reads that are refused
+
+nothing_asked : (r : Option Refusal) → ask_unless r nothing ≡ nothing
+nothing_asked None = refl
+nothing_asked (Some why) = refl
+
+pub read_refused : {D : Type 0} (drive : Ghosts D) (who nth : ℕ) (path : List (List ℕ)) (offset count : ℕ) (at : Moment) (why : Refusal)
+    (result : Submitted) (old new : Parts D) → CanAsk who old
+    → refusal_of (plain_of whole old.stock.tree) (calls.Read path offset count) ≡ Some why
+    → ((tape : Tape) (g : Given) (on : Bool) (st : Standing) → IsStock tape g on st old.stock
+    → refusal_of st.tree (calls.Read path offset count) ≡ Some why)
+    → Finishes who nth at fates.Done (the_replies.Answer (the_answers.Refused why)) result old new
+    → IsSubmitted drive who nth at old new (calls.Read path offset count) result
+read_refused drive who nth path offset count at why result old new can is told f =
+    placed_answered drive who nth (calls.Read path offset count) at (the_answers.Refused why) result old old new can.trail
+    (λ items g on st plan stock. (
+      sym (ap (λ r. answer_unless r (value_of st.tree (calls.Read path offset count))) (told (tape_on items) g on st stock)),
+      nothing_asked (refusal_of st.tree (calls.Read path offset count)),
+    ))
+    (λ free. let clash : Some why ≡ None = sym is ∙ free in absurd cc)
+    (λ synced. cc)
+    refl (as_it_was old) f
+
+pub call_refused : {D : Type 0} (drive : Ghosts D) (who nth : ℕ) (call : Call) (path : List (List ℕ)) (offset count : ℕ) (at : Moment)
+    (found : Option Refusal) (why : Refusal) (result : Submitted) (old new : Parts D) → CanAsk who old
+    → call ≡ calls.Read path offset count → found ≡ Some why → found ≡ refusal_of (plain_of whole old.stock.tree) call
+    → ((tape : Tape) (g : Given) (on : Bool) (st : Standing) → IsStock tape g on st old.stock → IsRefusedAs st.tree call found)
+    → Finishes who nth at fates.Done (the_replies.Answer (the_answers.Refused why)) result old new
+    → IsSubmitted drive who nth at old new call result
+call_refused drive who nth call path offset count at found why result old new can is some refused told f =
+    subst (λ (c : Call). IsSubmitted drive who nth at old new c result) (sym is)
+    (read_refused drive who nth path offset count at why result old new can
+    (sym (ap (refusal_of (plain_of whole old.stock.tree)) is) ∙ sym refused ∙ some)
+    (λ tape g on st stock.
+    let known : refusal_of st.tree call ≡ Some why = subst (λ r. IsRefusedAs st.tree call r) some (told tape g on st stock) in
+    sym (ap (refusal_of st.tree) is) ∙ known)
+    f)
+
+-- ---- what was fetched
+
+answers_alike : (o : Option (List ℕ)) → reads.answer_of o ≡ got_or_damaged o
+answers_alike None = refl
+answers_alike (Some bytes) = refl
+
+-- the blocks that are held stand on the tape that is planned
+planned_held : (items : Items) (ops : List Op) → IsPlan items ops → HasHeld (tape_on items) ops
+planned_held items ops plan place bytes held = plan_held items ops place bytes plan held
+
+fetched_gathers : (stock : Stocked) (ticket : ℕ) (path : List (List ℕ)) (offset count : ℕ) (read : Gathering) (wanted : List Place)
+    → IsFetched stock ticket path offset count read wanted → (items : Items) → IsPlan items stock.layout.ops
+    → IsGathering (tape_on items) (λ place. not (has_place place wanted)) read
+fetched_gathers stock ticket path offset count read wanted f items plan =
+    gathering_alike (tape_on items) (held_among stock.layout.ops (places_in read.pieces)) (λ place. not (has_place place wanted)) read
+    (λ place has.
+    held_or_wanted stock.layout.ops place (places_in read.pieces) has
+    ∙ ap (λ (ps : List Place). not (has_place place ps)) (sym f.wanted_are))
+    (f.gathers (tape_on items) (planned_held items stock.layout.ops plan))
+
+-- a place of the read that isn't wanted is held
+fetched_held : (stock : Stocked) (ticket : ℕ) (path : List (List ℕ)) (offset count : ℕ) (read : Gathering) (wanted : List Place)
+    → IsFetched stock ticket path offset count read wanted → (place : Place) → has_place place (places_in read.pieces) ≡ true
+    → has_place place wanted ≡ false → (bytes : List ℕ) × (held_in place stock.layout.ops ≡ Some bytes)
+fetched_held stock ticket path offset count read wanted f place has out =
+    held_there stock.layout.ops place (places_in read.pieces) has
+    (sym (ap (has_place place) f.wanted_are) ∙ out)
+
+none_by : {X : Type 0} (xs : List X) → length xs ≡ 0 → xs ≡ []
+none_by [] is = refl
+none_by (x ∷ xs) is = absurd (omega (arith, is))
+
+blocks_are : (stock : Stocked) (path : List (List ℕ)) (offset count : ℕ) (read : Gathering) (tape : Tape) (g : Given) (st : Standing)
+    → IsReadPlan tape st stock.tree path offset count read.pieces
+    → filter_map stored_at read.pieces ≡ blocks_in (st.files (uid_at st.tree.nodes path)) offset count
+blocks_are stock path offset count read tape g st p = ap (filter_map stored_at) p.pieces_are
+
+answer_is : (stock : Stocked) (path : List (List ℕ)) (offset count : ℕ) (read : Gathering) (tape : Tape) (st : Standing)
+    → IsReadPlan tape st stock.tree path offset count read.pieces
+    → answer st.tree (calls.Read path offset count) ≡ read_answer tape read.pieces
+answer_is stock path offset count read tape st p = p.answers ∙ answers_alike (bytes_of (flat_map (read_piece tape) read.pieces))
+
+-- ---- reads that are answered
+
+pub read_told : {D : Type 0} (drive : Ghosts D) (who nth : ℕ) (path : List (List ℕ)) (offset count : ℕ) (at : Moment) (told : Answer)
+    (read : Gathering) (wanted : List Place) (result : Submitted) (old new : Parts D) → CanAsk who old
+    → IsFetched old.stock (length old.listed.history) path offset count read wanted → length wanted ≡ 0
+    → IsAnswered read told → told ≢ the_answers.Synced
+    → Finishes who nth at fates.Done (the_replies.Answer told) result old new
+    → IsSubmitted drive who nth at old new (calls.Read path offset count) result
+read_told drive who nth path offset count at told read wanted result old new can f none is no_sync finishes =
+    let out : (place : Place) → has_place place wanted ≡ false = λ place. ap (has_place place) (none_by wanted none) in
+    let here : ℕ = length old.listed.history in
+    placed_answered drive who nth (calls.Read path offset count) at told result old old new can.trail
+    (λ items g on st plan stock. (
+      is (tape_on items) (λ place. not (has_place place wanted))
+          (fetched_gathers old.stock here path offset count read wanted f items plan) (λ place has. ap not (out place))
+          ∙ sym (answer_is old.stock path offset count read (tape_on items) st (f.plan (tape_on items) g on st stock)),
+      nothing_asked (refusal_of st.tree (calls.Read path offset count)),
+    ))
+    (λ free tape g on st stock place has.
+    fetched_held old.stock here path offset count read wanted f place
+    (stored_place place read.pieces
+    (subst (λ (ps : List Place). Contains ps place)
+    (sym (blocks_are old.stock path offset count read tape g st (f.plan tape g on st stock))) has))
+    (out place))
+    no_sync refl (as_it_was old) finishes
+
+-- ---- the places that are wanted
+
+is_none_by : {X : Type 0} (o : Option X) → is_none o ≡ true → o ≡ None
+is_none_by None is = refl
+is_none_by (Some x) is = absurd cc
+
+or_false : (a : Bool) → not a ≡ true → (a || false) ≡ false
+or_false true is = absurd cc
+or_false false is = refl
+
+all_mapped : (P Q : Place → Type 0) (places : List Place) → ((place : Place) → P place → Q place) → All P places → All Q places
+all_mapped P Q places h all k d lt = h _ (all k d lt)
+
+all_both : (P Q R : Place → Type 0) (places : List Place) → ((place : Place) → P place → Q place → R place) → All P places
+    → All Q places → All R places
+all_both P Q R places h one other k d lt = h _ (one k d lt) (other k d lt)
+
+no_place : (P : Place → Type 0) → All P []
+no_place P k d lt = absurd (omega (arith, lt))
+
+all_there : (places : List Place) → All (λ place. has_place place places ≡ true) places
+all_there [] = no_place (λ place. has_place place [] ≡ true)
+all_there (p ∷ ps) =
+    All-cons (λ place. has_place place (p ∷ ps) ≡ true) p ps (or_first (same_place p p) (has_place p ps) (same_itself p))
+    (all_mapped (λ place. has_place place ps ≡ true) (λ place. has_place place (p ∷ ps) ≡ true) ps
+    (λ place has. or_second (same_place place p) (has_place place ps) has) (all_there ps))
+
+abbrev Apart : Place → Place → Type 0
+Apart a b = has_place a (b ∷ []) ≡ false
+
+no_pair : AllPairs Apart []
+no_pair i j d lt within = absurd (omega (arith, within))
+
+apart_once : (places : List Place) → AllPairs Apart (distinct places)
+apart_once [] = no_pair
+apart_once (p ∷ ps) =
+    AllPairs-cons Apart p (filter (λ other. not (same_place p other)) (distinct ps))
+    (all_mapped (λ other. not (same_place p other) ≡ true) (Apart p) (filter (λ other. not (same_place p other)) (distinct ps))
+    (λ other is. or_false (same_place p other) is) (filter_passes (λ other. not (same_place p other)) (distinct ps)))
+    (AllPairs-filter Apart (λ other. not (same_place p other)) (distinct ps) (apart_once ps))
+
+-- ---- reads that wait
+
+placed_on : {D : Type 0} (who nth : ℕ) (at : Moment) (old mid new : Parts D) → mid.listed ≡ old.listed
+    → PlacesCall who nth at fates.Done None mid new → PlacesCall who nth at fates.Done None old new
+placed_on who nth at old mid new same p = record {
+  history = p.history ∙ ap (λ (l : Listed). l.history ++ record { who = who; nth = nth; at = at; fate = fates.Done } ∷ []) same;
+  replies = p.replies ∙ ap (λ (l : Listed). l.replies ++ None ∷ []) same;
+  marks = p.marks ∙ ap (λ (l : Listed). l.marks ++ marks_for who (length l.history) None) same;
+  calls = p.calls ∙ ap (λ (l : Listed). l.calls) same;
+  sessions = p.sessions ∙ ap (λ (l : Listed). l.sessions) same;
+}
+
+pub read_waits : {D : Type 0} (drive : Ghosts D) (who nth : ℕ) (path : List (List ℕ)) (offset count : ℕ) (at : Moment) (read : Gathering)
+    (wanted : List Place) (result : Submitted) (old mid new : Parts D)
+    → refusal_of (plain_of whole old.stock.tree) (calls.Read path offset count) ≡ None
+    → IsFetched old.stock (length old.listed.history) path offset count read wanted → 1 ≤ length wanted
+    → AsksBlocks (length old.listed.history) wanted read old mid → Awaits who nth at result mid new
+    → IsSubmitted drive who nth at old new (calls.Read path offset count) result
+read_waits drive who nth path offset count at read wanted result old mid new free f some a w =
+    let here : ℕ = length old.listed.history in
+    let ops : List Op = old.stock.layout.ops in
+    let places : List Place = places_in read.pieces in
+    let trail_is : new.trail ≡ mid.trail = ap (λ (p : Parts _). p.trail) w.others in
+    let queue_is : new.queue ≡ mid.queue = ap (λ (p : Parts _). p.queue) w.others in
+    let there : state new.trail ≡ fold after (state old.trail) (wants_at here wanted) =
+    ap state trail_is ∙ state_after here wanted old.trail mid.trail a.events.events in
+    let has : HasWanted here wanted (state old.trail) (fold after (state old.trail) (wants_at here wanted)) =
+    reads_may_want.wanted (state old.trail) here wanted in
+    let waits : Waits who nth path offset count at old new = record {
+      free = free;
+      read = read;
+      ticket = f.ticket_is;
+      wanted = wanted;
+      some = some;
+      apart = subst (λ (ps : List Place). AllPairs Apart ps) (sym f.wanted_are)
+          (AllPairs-filter Apart (λ place. is_none (held_in place ops)) places (apart_once (flat_map place_in read.pieces)));
+      unheld = subst (λ (ps : List Place). All (λ (place : Place). held_in place ops ≡ None) ps) (sym f.wanted_are)
+          (all_mapped (λ place. is_none (held_in place ops) ≡ true) (λ place. held_in place ops ≡ None) (unheld ops places)
+          (λ place is. is_none_by (held_in place ops) is) (filter_passes (λ place. is_none (held_in place ops)) places));
+      of_read = subst (λ (ps : List Place). All (λ (place : Place). has_place place places ≡ true) ps) (sym f.wanted_are)
+          (All-filter (λ place. is_none (held_in place ops)) (λ place. has_place place places ≡ true) places (all_there places));
+      others = fetched_held old.stock here path offset count read wanted f;
+      pieces = λ tape g on st stock. (
+        blocks_are old.stock path offset count read tape g st (f.plan tape g on st stock),
+        answer_is old.stock path offset count read tape st (f.plan tape g on st stock),
+      );
+      gathers = fetched_gathers old.stock here path offset count read wanted f;
+      stock = ap (λ (p : Parts _). p.stock) w.others ∙ a.stock;
+      moves = record {
+        drive = ap (λ (p : Parts _). p.drive) w.others ∙ a.drive;
+        on = ap (λ (p : Parts _). p.on) w.others ∙ a.on;
+        kept = ap (λ (t : Journaled). t.kept) trail_is ∙ a.events.kept;
+        trail = subst (λ (es : List Event). IsTrail es) (sym (ap (λ (t : Journaled). t.events) trail_is)) a.trail;
+      };
+      events = ap (λ (t : Journaled). t.events) trail_is ∙ a.events.events;
+      acks = ap (λ (t : Journaled). t.acks) trail_is ∙ a.events.acks;
+      tied = λ queued arrived. (
+        ap requests queue_is ∙ a.requests.requests_are
+            ∙ ap (λ (rs : List Request). rs ++ requests_for here old.queue.arrived wanted) queued
+            ∙ ap (λ n. (state old.trail).requests ++ requests_for here n wanted) arrived
+            ∙ sym (ap (λ (st : State). st.requests) there ∙ has.requests),
+        ap (λ (q : Queued). q.arrived) queue_is ∙ a.requests.arrived ∙ ap (λ n. n + length wanted) arrived
+            ∙ sym (ap (λ (st : State). st.arrived) there ∙ has.arrived),
+      );
+      reads = ap (λ (p : Parts _). p.reads) w.others ∙ a.reads;
+      places = placed_on who nth at old mid new a.listed w.places;
+    } in
+    subst (λ (end : Submitted). IsSubmitted drive who nth at old new (calls.Read path offset count) end)
+    (ap (λ (l : Listed). submitted.Wait (length l.history)) (sym a.listed) ∙ sym w.waits)
+    ([], made.waits path offset count refl waits)
+
+-- ---- and their requests may come
+
+all_distinct : (P : Place → Type 0) (places : List Place) → All P places → All P (distinct places)
+all_distinct P [] all = all
+all_distinct P (p ∷ ps) all =
+    All-cons P p (filter (λ other. not (same_place p other)) (distinct ps)) (all 0 p (omega arith))
+    (All-filter (λ other. not (same_place p other)) P (distinct ps)
+    (all_distinct P ps (λ k d lt. all (suc k) d (omega (arith, lt)))))
+
+all_stand : (tree : FileTree) (pieces : List Piece) → PiecesStandIn tree pieces
+    → All (λ (place : Place). TreeStandsIn tree place.part place.pos) (flat_map place_in pieces)
+all_stand tree [] stand = no_place (λ (place : Place). TreeStandsIn tree place.part place.pos)
+all_stand tree (Zeros count ∷ pieces) stand = all_stand tree pieces stand.1
+all_stand tree (Stored at byte count ∷ pieces) stand =
+    All-cons (λ (place : Place). TreeStandsIn tree place.part place.pos) at (flat_map place_in pieces) stand.0
+    (all_stand tree pieces stand.1)
+
+not_passed : (b : Bool) → (b ≡ true → ⊥) → b ≡ false
+not_passed true never = absurd (never refl)
+not_passed false never = refl
+
+no_op_puts : (ops : List Op) (tree : FileTree) (place : Place) → NoMarks ops tree → TreeStandsIn tree place.part place.pos
+    → is_none (held_in place ops) ≡ true → list_any (puts_at place) (map headed ops) ≡ false
+no_op_puts ops tree place marks stands none =
+    not_passed (list_any (puts_at place) (map headed ops))
+    (λ put. let has = marks place.part place.pos stands put in
+    let clash : ◌≡◌ {A = Option (List ℕ)} None (Some has.0) = sym (is_none_by (held_in place ops) none) ∙ has.1 in cc)
+
+pub may_want : {D : Type 0} (who : ℕ) (path : List (List ℕ)) (offset count : ℕ) (read : Gathering) (wanted : List Place) (p : Parts D)
+    → CanAsk who p → Stands p → CanWantBlocks p → IsFetched p.stock (length p.listed.history) path offset count read wanted
+    → is_trail_from (state p.trail) (wants_at (length p.listed.history) wanted) ≡ true
+may_want who path offset count read wanted p can stands can_want f =
+    let ops : List Op = p.stock.layout.ops in
+    let places : List Place = places_in read.pieces in
+    let keep : Place → Bool = λ place. is_none (held_in place ops) in
+    let stand : All (λ (place : Place). TreeStandsIn p.stock.tree place.part place.pos) places =
+    all_distinct (λ (place : Place). TreeStandsIn p.stock.tree place.part place.pos) (flat_map place_in read.pieces)
+    (all_stand p.stock.tree read.pieces (f.plan (tape_on stands.planned) stands.g stands.on stands.st stands.stock).stand) in
+    let free : All (λ (place : Place). list_any (puts_at place) (map headed ops) ≡ false) (unheld ops places) =
+    all_both (λ (place : Place). TreeStandsIn p.stock.tree place.part place.pos) (λ place. keep place ≡ true)
+    (λ (place : Place). list_any (puts_at place) (map headed ops) ≡ false) (unheld ops places)
+    (λ place there none. no_op_puts ops p.stock.tree place can_want.marks there none)
+    (All-filter keep (λ (place : Place). TreeStandsIn p.stock.tree place.part place.pos) places stand) (filter_passes keep places) in
+    subst (λ (ps : List Place). is_trail_from (state p.trail) (wants_at (length p.listed.history) ps) ≡ true) (sym f.wanted_are)
+    (reads_may_want.may (state p.trail) (length p.listed.history) (unheld ops places) record {
+      calm = none_is_due (state p.trail) can.none_due;
+      first = can_want.first;
+      apart = reads_may_want.some keep places (reads_may_want.once read.pieces);
+      free = subst (λ (all : List waiting.Op). All (λ (place : Place). list_any (puts_at place) all ≡ false) (unheld ops places)) (sym can_want.ops) free;
+    })
+
+-- ---- memory, and what is asked for
+
+-- memory that is reserved leaves what may come
+pub may_still : (old mid : Journaled) (events : List Event) → mid.events ≡ old.events → is_trail_from (state old) events ≡ true
+    → is_trail_from (state mid) events ≡ true
+may_still old mid events same may =
+    ap (λ (es : List Event). is_trail_from (after_all es) events) same ∙ may
+
+pub can_place_on : (who : ℕ) (old new : Listed) → new ≡ old → CanPlace who old → CanPlace who new
+can_place_on who old new same can = subst (λ (l : Listed). CanPlace who l) (sym same) can
+
+pub asks_blocks : {D : Type 0} (ticket : ℕ) (wanted : List Place) (read : Gathering) (old mid new : Parts D) → Reserves old mid
+    → mid.stock ≡ old.stock → mid.listed ≡ old.listed
+    → new ≡ record mid { trail = new.trail; queue = new.queue; reads = new.reads }
+    → HasEvents ticket wanted mid.trail new.trail → IsTrail new.trail.events → HasRequests ticket wanted mid.queue new.queue
+    → new.reads ≡ mid.reads ++ read ∷ [] → AsksBlocks ticket wanted read old new
+asks_blocks ticket wanted read old mid new r stock listed others events trail asked reads = record {
+  drive = ap (λ (p : Parts _). p.drive) others ∙ r.drive;
+  stock = ap (λ (p : Parts _). p.stock) others ∙ stock;
+  on = ap (λ (p : Parts _). p.on) others ∙ r.on;
+  events = record {
+    events = events.events ∙ ap (λ (es : List Event). es ++ wants_at ticket wanted) r.events;
+    acks = events.acks ∙ r.acks;
+    kept = events.kept ∙ r.kept;
+  };
+  trail = trail;
+  requests = record {
+    requests_are = asked.requests_are
+        ∙ ap (λ (ws : List Waiting). map request ws ++ requests_for ticket mid.queue.arrived wanted) r.waiting
+        ∙ ap (λ n. requests old.queue ++ requests_for ticket n wanted) r.arrived;
+    arrived = asked.arrived ∙ ap (λ n. n + length wanted) r.arrived;
+  };
+  reads = reads ∙ ap (λ (gs : List Gathering). gs ++ read ∷ []) r.reads;
+  listed = ap (λ (p : Parts _). p.listed) others ∙ listed;
+}
+
+-- ---- what was fetched is a read
+
+pub fetched : (stock : Stocked) (ticket : ℕ) (path : List (List ℕ)) (offset count : ℕ) (pieces : List Piece) (first read : Gathering)
+    (places empty wanted : List Place)
+    → ((tape : Tape) (g : Given) (on : Bool) (st : Standing) → IsStock tape g on st stock
+    → IsReadPlan tape st stock.tree path offset count pieces)
+    → first.ticket ≡ ticket → first.pieces ≡ pieces → ((tape : Tape) → IsGathering tape (λ place. false) first)
+    → places ≡ places_in first.pieces → empty ≡ [] → AreTakenFrom stock.layout.ops places first read empty wanted
+    → IsFetched stock ticket path offset count read wanted
+fetched stock ticket path offset count pieces first read places empty wanted plan ticket_is pieces_are begins places_are none t =
+    let here : places ≡ places_in read.pieces = places_are ∙ ap places_in (sym t.pieces) in
+    record {
+      ticket_is = t.ticket ∙ ticket_is;
+      plan = λ tape g on st is.
+          subst (λ (ps : List Piece). IsReadPlan tape st stock.tree path offset count ps) (sym (t.pieces ∙ pieces_are)) (plan tape g on st is);
+      gathers = λ tape holds.
+          subst (λ (ps : List Place). IsGathering tape (held_among stock.layout.ops ps) read) here (t.gathers tape holds (begins tape));
+      wanted_are = t.wanted ∙ ap (λ (ps : List Place). ps ++ unheld stock.layout.ops places) none
+          ∙ ap (unheld stock.layout.ops) here;
+    }

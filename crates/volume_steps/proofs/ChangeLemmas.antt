@@ -1,0 +1,253 @@
+-- Calls that change the tree, and the ops that they queue.
+use Rattle.std.specs.Prelude.{ℕ, ◌≡◌, ◌==◌, ◌+◌, ◌-◌, ◌*◌, ◌≤◌, Bool, true, false, cond, List, [], ◌∷◌, ◌++◌, length, map, Option, Some, None, Result, Ok, Err, OnOk}
+use Rattle.std.specs.Option.{unwrap_or}
+use Rattle.std.proofs.Common.{refl, sym, ap, subst, ◌∙◌, arith}
+use Rattle.std.proofs.lemmas.List.{length-map}
+use Rattle.tape_types.specs.declared.moments.Moment.{Moment}
+use Rattle.tape_types.specs.declared.cartridges.Part.TheVariants.{Ip, Dp}
+use Rattle.tape_types.specs.declared.cartridges.Place.{Place}
+use Rattle.extent_map.specs.Cells.{Tape}
+use Rattle.plain_tree.specs.Calls.{answer_unless, value_of}
+use Rattle.plain_tree.specs.Paths.{last_name, same_path}
+use Rattle.plain_tree.specs.Refusals.{refusal_of}
+use Rattle.plain_tree.specs.Tree.{cells_at}
+use Rattle.plain_tree.specs.declared.calls.Answer.TheVariants as the_answers
+use Rattle.plain_tree.specs.declared.calls.Call.{Call}
+use Rattle.plain_tree.specs.declared.calls.Call.TheVariants.{Mkdir, Create, Write, Truncate, Read, Listing, Stat, Rename, Remove, Sync}
+use Rattle.plain_tree.specs.declared.calls.Fate.TheVariants as fates
+use Rattle.plain_tree.specs.declared.calls.Refusal.{Refusal}
+use Rattle.placement.specs.Computed.{chooses_ip}
+use Rattle.session_script.specs.declared.logs.Event.{Event}
+use Rattle.session_script.specs.declared.logs.Reply.TheVariants as the_replies
+use Rattle.file_tree.specs.Blocks.{LiesBelow}
+use Rattle.file_tree.specs.Tree.{plain_of, whole}
+use Rattle.tape_drive.specs.declared.drive.Drive.{Ghosts}
+use Rattle.tape_layout.specs.Ops.{place_of}
+use Rattle.tape_layout.specs.Plans.{AreStanding, Plan}
+use Rattle.tape_layout.specs.declared.errors.AdmitErr.{AdmitErr}
+use Rattle.tape_layout.specs.declared.ops.Op.{Op}
+use Rattle.tape_layout.specs.declared.standing.Ends.{Ends}
+use Rattle.space_laws.specs.Space.{Ask, after, change, nothing, ops_of}
+use Rattle.space_laws.specs.Standing.{Given, Standing, ask_of, ask_unless, ask_unrefused, length_after, rules}
+use Rattle.serving_promise.specs.Replies.{may_wait}
+use Rattle.serving_promise.specs.Submits.{queues_at}
+use Rattle.serving_promise.specs.declared.answers.Submitted.{Submitted}
+use Rattle.held_volume.specs.Applied.{IsDone, IsLate}
+use Rattle.held_volume.specs.Syncs.{BringsAtMost}
+use Rattle.held_volume.specs.Stocks.{IsStock, Stocked, ends_of}
+use Rattle.event_journal.specs.Trails.{Journaled}
+use Rattle.plan_laws.specs.Planned.{tape_on, with_ops}
+use Rattle.plan_laws.proofs.Stays.{tapes_stay}
+use Rattle.state_laws.specs.Parts.{Parts}
+use Rattle.state_laws.specs.Placing.{AreHeld, Changes, IsVoidFor, only_looks}
+use Rattle.volume_steps.specs.Asking.{CanAsk, Finishes, IsSubmitted, QueuesDone, Reserves, Stands, run, told_void}
+use Rattle.call_laws.specs.SubmitLaws as made
+use Rattle.volume_steps.proofs.RunLemmas.{AsksNoText, between, between_length, runs_of_ops}
+use Rattle.volume_steps.proofs.SubmitLemmas.{placed_answered, placed_void}
+
+-- ---- what is asked
+
+no_text_unless : (r : Option Refusal) (ask : Ask) → AsksNoText ask → AsksNoText (ask_unless r ask)
+no_text_unless None ask is = is
+no_text_unless (Some why) ask is = omega arith
+
+no_text_cond : (b : Bool) → AsksNoText (cond b nothing change)
+no_text_cond true = omega arith
+no_text_cond false = omega arith
+
+no_text_unrefused : (g : Given) (st : Standing) (call : Call) (at : Moment) → may_wait call ≡ false
+    → AsksNoText (ask_unrefused g st call at)
+no_text_unrefused g st (Mkdir path) at is = omega arith
+no_text_unrefused g st (Create path) at is = omega arith
+no_text_unrefused g st (Write path offset []) at is = omega arith
+no_text_unrefused g st (Write path offset (b ∷ bytes)) at is = omega arith
+no_text_unrefused g st (Truncate path size) at is = no_text_cond (size == length (cells_at st.tree.nodes path))
+no_text_unrefused g st (Read path offset count) at is = omega arith
+no_text_unrefused g st (Listing path) at is = omega arith
+no_text_unrefused g st (Stat path) at is = omega arith
+no_text_unrefused g st (Rename from to) at is = no_text_cond (same_path from to)
+no_text_unrefused g st (Remove path) at is = omega arith
+no_text_unrefused g st Sync at is = cc
+
+pub no_text : (g : Given) (st : Standing) (call : Call) (at : Moment) → may_wait call ≡ false → AsksNoText (ask_of g st call at)
+no_text g st call at is =
+    no_text_unless (refusal_of st.tree call) (ask_unrefused g st call at) (no_text_unrefused g st call at is)
+
+-- ---- the room of a write
+
+on_ok : {X E : Type 0} (r : Result X E) (A B : Type 0) → (A → B) → OnOk r A → OnOk r B
+on_ok (Ok x) A B f h = f h
+on_ok (Err e) A B f h = tt
+
+brings_by : (g : Given) (on : Bool) (st : Standing) (r : Option Refusal) (path : List (List ℕ)) (offset : ℕ) (bytes : List ℕ) (at : Moment) (most spare : ℕ)
+    → BringsAtMost (rules g) on st.space (length bytes) most → 2 * most ≤ spare
+    → 2 * length (ops_of (rules g) on st.space (ask_unless r (ask_unrefused g st (Write path offset bytes) at))) ≤ spare
+brings_by g on st (Some why) path offset bytes at most spare brings room = omega arith
+brings_by g on st None path offset [] at most spare brings room = omega arith
+brings_by g on st None path offset (b ∷ bytes) at most spare brings room =
+    let wanted : Bool = chooses_ip g.mounted.index.policy (unwrap_or (last_name path) []) (length_after st path (offset + length (b ∷ bytes))) in
+    omega (arith, brings.stores wanted (b ∷ bytes) refl, room)
+
+-- so the ops of a write are few enough
+abbrev pub HasRoomFor : Stocked → Call → ℕ → Type 0
+HasRoomFor stock call spare = (tape : Tape) (g : Given) (on : Bool) (st : Standing) (at : Moment) → IsStock tape g on st stock
+    → 2 * length (ops_of (rules g) on st.space (ask_of g st call at)) ≤ spare
+
+pub write_room : {X E : Type 0} (r : Result X E) (stock : Stocked) (call : Call) (path : List (List ℕ)) (offset : ℕ) (bytes read : List ℕ)
+    (most spare : ℕ) → call ≡ Write path offset bytes → read ≡ bytes
+    → ((tape : Tape) (g : Given) (on : Bool) (st : Standing) → IsStock tape g on st stock
+    → BringsAtMost (rules g) on st.space (length read) most)
+    → OnOk r (2 * most ≤ spare) → OnOk r (HasRoomFor stock call spare)
+write_room r stock call path offset bytes read most spare is same brings room =
+    on_ok r (2 * most ≤ spare) (HasRoomFor stock call spare)
+    (λ enough tape g on st at stands.
+    subst (λ (c : Call). 2 * length (ops_of (rules g) on st.space (ask_of g st c at)) ≤ spare) (sym is)
+    (brings_by g on st (refusal_of st.tree (Write path offset bytes)) path offset bytes at most spare
+    (subst (λ (b : List ℕ). BringsAtMost (rules g) on st.space (length b) most) same (brings tape g on st stands)) enough)) room
+
+-- ---- where the ends are once a call is done
+
+some_bytes : (g : Given) (on : Bool) (st : Standing) (tape : Tape) (stock : Stocked) → IsStock tape g on st stock
+    → AreStanding stock.layout.limits stock.layout.block_size stock.layout.ends stock.layout.ops → 1 ≤ g.mounted.label.block
+some_bytes g on st tape stock is standing = subst (λ (l : Plan). 1 ≤ l.block_size) is.layout standing.can_be.some
+
+pub late_ends : {D : Type 0} (p : Parts D) (s : Stands p) (call : Call) (at : Moment) (next : Stocked)
+    → AreStanding p.stock.layout.limits p.stock.layout.block_size p.stock.layout.ends p.stock.layout.ops
+    → IsDone (tape_on s.planned) s.g s.on s.st call at p.stock next
+    → next.layout.ends ≡ (after (rules s.g) s.on s.st.space (ask_of s.g s.st call at)).ends
+late_ends p s call at next standing d =
+    let ask : Ask = ask_of s.g s.st call at in
+    let asked : List Op = ops_of (rules s.g) s.on s.st.space ask in
+    let late : IsLate (tape_on s.planned) (tape_on (with_ops asked s.planned)) s.g s.on s.st ask p.stock.tree =
+    tapes_stay.late s.planned asked p.stock.tree s.g s.on s.st ask
+    (subst (λ (e : Ends). LiesBelow (ends_of e) p.stock.tree) s.ends s.stock.below) refl s.ends
+    (some_bytes s.g s.on s.st (tape_on s.planned) p.stock s.stock standing) in
+    ap (λ (l : Plan). l.ends) (d.stands (tape_on (with_ops asked s.planned)) late).layout
+
+-- the places between the ends are those of the ops
+pub queued_are : {D : Type 0} (p : Parts D) (s : Stands p) (call : Call) (at : Moment) (next : Stocked) → may_wait call ≡ false
+    → AreStanding p.stock.layout.limits p.stock.layout.block_size p.stock.layout.ends p.stock.layout.ops
+    → IsDone (tape_on s.planned) s.g s.on s.st call at p.stock next
+    → between p.stock.layout.ends next.layout.ends ≡ map place_of (ops_of (rules s.g) s.on s.st.space (ask_of s.g s.st call at))
+queued_are p s call at next no_wait standing d =
+    let was : p.stock.layout.ends ≡ s.st.space.ends = ap (λ (l : Plan). l.ends) s.stock.layout in
+    ap (λ (e : Ends). between e next.layout.ends) was
+    ∙ runs_of_ops (rules s.g) s.on s.st.space (ask_of s.g s.st call at) next.layout.ends (no_text s.g s.st call at no_wait)
+    (late_ends p s call at next standing d)
+
+-- ---- the call
+
+-- what the stock says of a call that is done
+abbrev pub DoneAlways : Call → Moment → Stocked → Stocked → Type 0
+DoneAlways call at old next = (early : Tape) (g : Given) (on : Bool) (st : Standing) → IsStock early g on st old
+    → (refusal_of (plain_of whole old.tree) call ≡ None) × IsDone early g on st call at old next
+
+pub change_room : {D : Type 0} (p : Parts D) (s : Stands p) (call : Call) (at : Moment) (next : Stocked) (spare ip dp : ℕ)
+    → may_wait call ≡ false → ip ≡ p.stock.layout.ends.ip → dp ≡ p.stock.layout.ends.dp
+    → AreStanding p.stock.layout.limits p.stock.layout.block_size p.stock.layout.ends p.stock.layout.ops
+    → DoneAlways call at p.stock next
+    → ((tape : Tape) (g : Given) (on : Bool) (st : Standing) (at : Moment) → IsStock tape g on st p.stock
+    → 2 * length (ops_of (rules g) on st.space (ask_of g st call at)) ≤ spare)
+    → 2 * ((next.layout.ends.ip - ip) + (next.layout.ends.dp - dp)) ≤ spare
+change_room p s call at next spare ip dp no_wait ip_is dp_is standing done room =
+    let d : IsDone (tape_on s.planned) s.g s.on s.st call at p.stock next = (done (tape_on s.planned) s.g s.on s.st s.stock).1 in
+    let asked : List Op = ops_of (rules s.g) s.on s.st.space (ask_of s.g s.st call at) in
+    let same : length (between p.stock.layout.ends next.layout.ends) ≡ length (map place_of asked) =
+    ap (λ (ps : List Place). length ps) (queued_are p s call at next no_wait standing d) in
+    let places : length (map place_of asked) ≡ length asked = length-map asked place_of in
+    omega (
+      arith,
+      room (tape_on s.planned) s.g s.on s.st at s.stock,
+      between_length p.stock.layout.ends next.layout.ends,
+      same,
+      places,
+      ip_is,
+      dp_is,
+    )
+
+pub change_done : {D : Type 0} (drive : Ghosts D) (who nth : ℕ) (call : Call) (at : Moment) (result : Submitted) (ip dp : ℕ)
+    (next : Stocked) (trail : Journaled) (old new : Parts D) (s : Stands old) → may_wait call ≡ false
+    → only_looks call ≡ false → ip ≡ old.stock.layout.ends.ip → dp ≡ old.stock.layout.ends.dp
+    → AreStanding old.stock.layout.limits old.stock.layout.block_size old.stock.layout.ends old.stock.layout.ops
+    → DoneAlways call at old.stock next → trail.events ≡ old.trail.events → trail.acks ≡ old.trail.acks
+    → trail.kept ≡ old.trail.kept
+    → QueuesDone who nth at (run Ip ip (next.layout.ends.ip - ip) ++ run Dp dp (next.layout.ends.dp - dp)) result
+    (record old { stock = next; trail = trail }) new
+    → IsSubmitted drive who nth at old new call result
+change_done drive who nth call at result ip dp next trail old new s no_wait no_look ip_is dp_is standing done events acks kept q =
+    let d : IsDone (tape_on s.planned) s.g s.on s.st call at old.stock next = (done (tape_on s.planned) s.g s.on s.st s.stock).1 in
+    let asked : List Op = ops_of (rules s.g) s.on s.st.space (ask_of s.g s.st call at) in
+    let places : run Ip ip (next.layout.ends.ip - ip) ++ run Dp dp (next.layout.ends.dp - dp) ≡ map place_of asked =
+    ap (λ k. run Ip k (next.layout.ends.ip - k) ++ run Dp dp (next.layout.ends.dp - dp)) ip_is
+    ∙ ap (λ k. run Ip old.stock.layout.ends.ip (next.layout.ends.ip - old.stock.layout.ends.ip) ++ run Dp k (next.layout.ends.dp - k)) dp_is
+    ∙ queued_are old s call at next no_wait standing d in
+    let stock : new.stock ≡ next = ap (λ (p : Parts _). p.stock) q.others in
+    let changes : Changes who nth call at old new = record {
+      no_wait = no_wait;
+      no_look = no_look;
+      applied = λ early g on st is.
+          ((done early g on st is).0, subst (λ (x : Stocked). IsDone early g on st call at old.stock x) (sym stock) (done early g on st is).1);
+      asked = asked;
+      ops = ap (λ (x : Stocked). x.layout.ops) stock ∙ d.ops;
+      moves = record {
+        drive = ap (λ (p : Parts _). p.drive) q.others;
+        on = ap (λ (p : Parts _). p.on) q.others;
+        kept = q.queues.kept ∙ kept;
+        trail = q.queues.trail;
+      };
+      wants = record {
+        waiting = ap (λ (p : Parts _). p.queue.waiting) q.others;
+        arrived = ap (λ (p : Parts _). p.queue.arrived) q.others;
+        reads = ap (λ (p : Parts _). p.reads) q.others;
+      };
+      events = q.queues.events ∙ ap (λ (es : List Event). es ++ queues_at (run Ip ip (next.layout.ends.ip - ip) ++ run Dp dp (next.layout.ends.dp - dp))) events
+          ∙ ap (λ (ps : List Place). old.trail.events ++ queues_at ps) places;
+      acks = q.queues.acks ∙ acks;
+      places = record {
+        history = q.places.history;
+        replies = q.places.replies;
+        marks = q.places.marks;
+        calls = q.places.calls;
+        sessions = q.places.sessions;
+      };
+    } in
+    subst (λ (end : Submitted). IsSubmitted drive who nth at old new call end) (sym q.ready) (asked, made.changes changes)
+
+-- ---- it is refused, or doesn't fit
+
+holds_none : (stock : Stocked) (call : Call) → may_wait call ≡ false → AreHeld stock call
+holds_none stock (Listing path) is = tt
+holds_none stock (Stat path) is = tt
+holds_none stock (Mkdir path) is = tt
+holds_none stock (Create path) is = tt
+holds_none stock (Write path offset bytes) is = tt
+holds_none stock (Truncate path size) is = tt
+holds_none stock (Read path offset count) is = cc
+holds_none stock (Rename from to) is = tt
+holds_none stock (Remove path) is = tt
+holds_none stock Sync is = tt
+
+pub change_refused : {D : Type 0} (drive : Ghosts D) (who nth : ℕ) (call : Call) (at : Moment) (result : Submitted) (refusal : Refusal)
+    (old mid new : Parts D) → CanAsk who old → may_wait call ≡ false
+    → ((early : Tape) (g : Given) (on : Bool) (st : Standing) → IsStock early g on st old.stock
+    → refusal_of st.tree call ≡ Some refusal)
+    → mid.stock ≡ old.stock → Reserves old mid
+    → Finishes who nth at fates.Done (the_replies.Answer (the_answers.Refused refusal)) result mid new
+    → IsSubmitted drive who nth at old new call result
+change_refused drive who nth call at result refusal old mid new can no_wait refused same r f =
+    placed_answered drive who nth call at (the_answers.Refused refusal) result old mid new can.trail
+    (λ items g on st plan stock.
+    let is : refusal_of st.tree call ≡ Some refusal = refused (tape_on items) g on st stock in (
+      sym (ap (λ (o : Option Refusal). answer_unless o (value_of st.tree call)) is),
+      ap (λ (o : Option Refusal). ask_unless o (ask_unrefused g st call at)) is,
+    ))
+    (holds_none old.stock call no_wait) (λ e. cc) same r f
+
+abbrev pub VoidAlways : Call → Moment → Stocked → AdmitErr → Type 0
+VoidAlways call at stock error = IsVoidFor stock call at (told_void error)
+
+pub change_void : {D : Type 0} (drive : Ghosts D) (who nth : ℕ) (call : Call) (at : Moment) (result : Submitted) (error : AdmitErr)
+    (old mid new : Parts D) → CanAsk who old → VoidAlways call at old.stock error → Reserves old mid
+    → Finishes who nth at fates.Void (told_void error) result mid new → IsSubmitted drive who nth at old new call result
+change_void drive who nth call at result error old mid new can told r f =
+    placed_void drive who nth call at (told_void error) result old mid new can.trail told r f

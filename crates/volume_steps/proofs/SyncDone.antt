@@ -1,0 +1,208 @@
+-- A sync that was admitted.
+use Rattle.std.specs.Prelude.{ℕ, ◌≡◌, ◌+◌, ◌-◌, ◌*◌, ◌<◌, ◌≤◌, Bool, true, false, cond, List, ◌∷◌, ◌++◌, length, map, Option, Some, None, Result, Ok, Err, OnOk}
+use Rattle.std.proofs.Common.{refl, sym, ap, subst, ◌∙◌, arith, length-append}
+use Rattle.tape_types.specs.declared.moments.Moment.{Moment}
+use Rattle.tape_types.specs.declared.cartridges.Place.{Place}
+use Rattle.extent_map.specs.Cells.{Tape}
+use Rattle.plain_tree.specs.Refusals.{refusal_of}
+use Rattle.plain_tree.specs.declared.calls.Call.TheVariants as calls
+use Rattle.plain_tree.specs.declared.calls.Fate.TheVariants as fates
+use Rattle.plain_tree.specs.declared.calls.Refusal.{Refusal}
+use Rattle.session_script.specs.declared.logs.Event.{Event}
+use Rattle.session_script.specs.declared.logs.Event.TheVariants as the_events
+use Rattle.session_script.specs.declared.logs.Ack.{Ack}
+use Rattle.event_laws.specs.Trail.{after_all}
+use Rattle.event_laws.specs.Waiting as waiting
+use Rattle.tape_drive.specs.declared.drive.Drive.{Ghosts}
+use Rattle.tape_layout.specs.Ops.{place_of}
+use Rattle.tape_layout.specs.Plans.{AreStanding, Plan}
+use Rattle.tape_layout.specs.declared.ops.Op.{Op}
+use Rattle.tape_layout.specs.declared.standing.Ends.{Ends}
+use Rattle.space_laws.specs.Space.{Ask, index, nothing, ops_of}
+use Rattle.space_laws.specs.Standing.{Given, Standing, ask_of, ask_unless, ask_unrefused, rules, sync_text}
+use Rattle.serving_promise.specs.Submits.{queues_at, synced_at}
+use Rattle.serving_promise.specs.declared.answers.Submitted.{Submitted}
+use Rattle.held_volume.specs.Applied.{IsDone}
+use Rattle.held_volume.specs.Stocks.{IsStock, Stocked}
+use Rattle.held_volume.specs.Syncs.{BringsAtMost, IsDocument}
+use Rattle.event_journal.specs.Trails.{Journaled}
+use Rattle.plan_laws.specs.Planned.{tape_on}
+use Rattle.state_laws.specs.Parts.{Parts}
+use Rattle.state_laws.specs.Placing.{PlacesCall, Syncs, synced_here, synced_reply}
+use Rattle.state_laws.specs.Stepping.{acks_at}
+use Rattle.call_laws.specs.SubmitLaws as made
+use Rattle.call_laws.specs.SubmitLaws.{synced_answer}
+use Rattle.volume_steps.specs.Asking.{CanAsk, CanQueueSync, IsSubmitted, Queues, QueuesSync, Stands, WaitsSynced, index_places}
+use Rattle.volume_steps.proofs.ChangeLemmas.{late_ends}
+use Rattle.volume_steps.proofs.IndexLemmas.{AsksText, index_are, index_least, places_long}
+
+text_unless : (r : Option Refusal) (ask : Ask) → AsksText ask → AsksText (ask_unless r ask)
+text_unless None ask is = is
+text_unless (Some why) ask is = omega arith
+
+text_cond : (b : Bool) (text : List ℕ) → AsksText (cond b (index text) nothing)
+text_cond true text = omega arith
+text_cond false text = omega arith
+
+asks_text : (g : Given) (st : Standing) (at : Moment) → AsksText (ask_of g st calls.Sync at)
+asks_text g st at = text_unless (refusal_of st.tree calls.Sync) (ask_unrefused g st calls.Sync at)
+    (text_cond st.space.changed (sync_text g st at))
+
+-- where the ops of a sync stand, and how many they are
+module _ {D : Type 0} (p : Parts D) (s : Stands p) (at : Moment) (next : Stocked)
+    (standing : AreStanding p.stock.layout.limits p.stock.layout.block_size p.stock.layout.ends p.stock.layout.ops)
+    (d : IsDone (tape_on s.planned) s.g s.on s.st calls.Sync at p.stock next) where
+  abbrev asked : List Op
+  asked = ops_of (rules s.g) s.on s.st.space (ask_of s.g s.st calls.Sync at)
+
+  pub added_are : length next.layout.ops ≡ length p.stock.layout.ops + length asked
+  added_are = ap (λ (os : List Op). length os) d.ops ∙ length-append p.stock.layout.ops asked
+
+  pub sync_places : (ip dp count : ℕ) → ip ≡ p.stock.layout.ends.ip → dp ≡ p.stock.layout.ends.dp → count ≡ length p.stock.layout.ops
+      → index_places ip dp next.layout.ends.dp (length next.layout.ops - count) ≡ map place_of asked
+  sync_places ip dp count ip_is dp_is count_is =
+      let ends : p.stock.layout.ends ≡ s.st.space.ends = ap (λ (l : Plan). l.ends) s.stock.layout in
+      let same_ip : ip ≡ s.st.space.ends.ip = ip_is ∙ ap (λ (e : Ends). e.ip) ends in
+      let same_dp : dp ≡ s.st.space.ends.dp = dp_is ∙ ap (λ (e : Ends). e.dp) ends in
+      let many : length next.layout.ops - count ≡ length asked = omega (arith, added_are, count_is) in
+      ap (λ k. index_places k dp next.layout.ends.dp (length next.layout.ops - count)) same_ip
+      ∙ ap (λ k. index_places s.st.space.ends.ip k next.layout.ends.dp (length next.layout.ops - count)) same_dp
+      ∙ index_are (rules s.g) s.on s.st.space (ask_of s.g s.st calls.Sync at) next.layout.ends.dp (length next.layout.ops - count)
+      (asks_text s.g s.st at) (ap (λ (e : Ends). e.dp) (late_ends p s calls.Sync at next standing d)) many
+
+pub can_queue : {D : Type 0} (p : Parts D) (s : Stands p) (at : Moment) (next : Stocked) (trail : Journaled) (ip dp count : ℕ)
+    → trail.events ≡ p.trail.events
+    → AreStanding p.stock.layout.limits p.stock.layout.block_size p.stock.layout.ends p.stock.layout.ops
+    → ((early : Tape) (g : Given) (on : Bool) (st : Standing) → IsStock early g on st p.stock
+    → IsDone early g on st calls.Sync at p.stock next)
+    → ip ≡ p.stock.layout.ends.ip → dp ≡ p.stock.layout.ends.dp → count ≡ length p.stock.layout.ops
+    → ((tape : Tape) (g : Given) (on : Bool) (st : Standing) → IsStock tape g on st p.stock
+    → 2 * length (ops_of (rules g) on st.space (ask_of g st calls.Sync at)) + 2 ≤ trail.spare)
+    → CanQueueSync ip dp count next trail
+can_queue p s at next trail ip dp count same standing done ip_is dp_is count_is room =
+    let d : IsDone (tape_on s.planned) s.g s.on s.st calls.Sync at p.stock next = done (tape_on s.planned) s.g s.on s.st s.stock in
+    let ops : List Op = ops_of (rules s.g) s.on s.st.space (ask_of s.g s.st calls.Sync at) in
+    let more : length next.layout.ops ≡ length p.stock.layout.ops + length ops = added_are p s at next standing d in
+    let many : length next.layout.ops - count ≡ length ops = omega (arith, more, count_is) in
+    let same_dp : dp ≡ s.st.space.ends.dp = dp_is ∙ ap (λ (l : Plan). l.ends.dp) s.stock.layout in
+    let places : length (index_places ip dp next.layout.ends.dp (length next.layout.ops - count)) ≡ length ops =
+    places_long (index_places ip dp next.layout.ends.dp (length next.layout.ops - count)) ops
+    (sync_places p s at next standing d ip dp count ip_is dp_is count_is) in
+    record {
+      many = omega (arith, more, count_is);
+      some = λ after.
+          subst (λ k. (next.layout.ends.dp - k) + 1 ≤ length next.layout.ops - count) (sym same_dp)
+          (index_least (rules s.g) s.on s.st.space (ask_of s.g s.st calls.Sync at) next.layout.ends.dp (length next.layout.ops - count)
+          (asks_text s.g s.st at) (ap (λ (e : Ends). e.dp) (late_ends p s calls.Sync at next standing d)) many
+          (subst (λ k. k < next.layout.ends.dp) same_dp after));
+      ops = omega (arith, more, places, s.ops, ap (λ (es : List Event). length (waiting.ops (after_all es))) same);
+      room = omega (arith, many, room (tape_on s.planned) s.g s.on s.st s.stock);
+    }
+
+-- ---- the room of a sync
+
+on_ok : {X E : Type 0} (r : Result X E) (A B : Type 0) → (A → B) → OnOk r A → OnOk r B
+on_ok (Ok x) A B f h = f h
+on_ok (Err e) A B f h = tt
+
+abbrev pub HasRoomForSync : Stocked → Option (List ℕ) → ℕ → Type 0
+HasRoomForSync stock due spare = (tape : Tape) (g : Given) (on : Bool) (st : Standing) (at : Moment) → IsStock tape g on st stock
+    → IsDocument g st at due → 2 * length (ops_of (rules g) on st.space (ask_of g st calls.Sync at)) + 2 ≤ spare
+
+pub sync_room_some : {X E : Type 0} (r : Result X E) (stock : Stocked) (due : Option (List ℕ)) (doc : List ℕ) (most more spare : ℕ)
+    → due ≡ Some doc
+    → ((tape : Tape) (g : Given) (on : Bool) (st : Standing) → IsStock tape g on st stock
+    → BringsAtMost (rules g) on st.space (length doc) most)
+    → more ≡ most + 1 → OnOk r (2 * more ≤ spare) → OnOk r (HasRoomForSync stock due spare)
+sync_room_some r stock due doc most more spare is brings one room =
+    on_ok r (2 * more ≤ spare) (HasRoomForSync stock due spare)
+    (λ enough tape g on st at stands told.
+    let both : (st.space.changed ≡ true) × (doc ≡ sync_text g st at) =
+    subst (λ (o : Option (List ℕ)). IsDocument g st at o) is told in
+    let ask : ask_of g st calls.Sync at ≡ index (sync_text g st at) =
+    ap (λ b. cond b (index (sync_text g st at)) nothing) both.0 in
+    let few : length (ops_of (rules g) on st.space (index (sync_text g st at))) ≤ most =
+    (brings tape g on st stands).indexes (sync_text g st at) (ap (λ (t : List ℕ). length t) (sym both.1)) in
+    subst (λ (a : Ask). 2 * length (ops_of (rules g) on st.space a) + 2 ≤ spare) (sym ask) (omega (arith, few, one, enough))) room
+
+pub sync_room_none : {X E : Type 0} (r : Result X E) (stock : Stocked) (due : Option (List ℕ)) (spare : ℕ) → due ≡ None
+    → OnOk r (2 * 1 ≤ spare) → OnOk r (HasRoomForSync stock due spare)
+sync_room_none r stock due spare is room =
+    on_ok r (2 * 1 ≤ spare) (HasRoomForSync stock due spare)
+    (λ enough tape g on st at stands told.
+    let unchanged : st.space.changed ≡ false = subst (λ (o : Option (List ℕ)). IsDocument g st at o) is told in
+    let ask : ask_of g st calls.Sync at ≡ nothing = ap (λ b. cond b (index (sync_text g st at)) nothing) unchanged in
+    subst (λ (a : Ask). 2 * length (ops_of (rules g) on st.space a) + 2 ≤ spare) (sym ask) (omega (arith, enough))) room
+
+-- ---- what is queued
+
+pub can_after : {D : Type 0} (who : ℕ) (places : List Place) (mid : Journaled) (p : Parts D) → CanAsk who p → Queues places p.trail mid
+    → CanAsk who (record p { trail = mid })
+can_after who places mid p can q = record { place = can.place; trail = q.trail; none_due = q.none_due }
+
+pub queues_sync : {D : Type 0} (drive : Ghosts D) (who nth : ℕ) (at : Moment) (ip dp next added count : ℕ) (result : Submitted)
+    (mid : Journaled) (old new : Parts D) → next ≡ old.stock.layout.ends.dp → added ≡ length old.stock.layout.ops - count
+    → Queues (index_places ip dp next added) old.trail mid
+    → WaitsSynced drive who nth at result (record old { trail = mid }) new
+    → QueuesSync drive who nth at (index_places ip dp old.stock.layout.ends.dp (length old.stock.layout.ops - count)) result old new
+queues_sync drive who nth at ip dp next added count result mid old new next_is added_is q w = record {
+  mid = mid;
+  queues = subst (λ k. Queues (index_places ip dp k (length old.stock.layout.ops - count)) old.trail mid) next_is
+      (subst (λ k. Queues (index_places ip dp next k) old.trail mid) added_is q);
+  waits = w;
+}
+
+pub sync_made : {D : Type 0} (drive : Ghosts D) (who nth : ℕ) (at : Moment) (result : Submitted) (ip dp count : ℕ) (next : Stocked)
+    (trail : Journaled) (old new : Parts D) (s : Stands old) → trail.events ≡ old.trail.events → trail.acks ≡ old.trail.acks
+    → trail.kept ≡ old.trail.kept → ip ≡ old.stock.layout.ends.ip → dp ≡ old.stock.layout.ends.dp
+    → count ≡ length old.stock.layout.ops
+    → AreStanding old.stock.layout.limits old.stock.layout.block_size old.stock.layout.ends old.stock.layout.ops
+    → ((early : Tape) (g : Given) (on : Bool) (st : Standing) → IsStock early g on st old.stock
+    → IsDone early g on st calls.Sync at old.stock next)
+    → QueuesSync drive who nth at (index_places ip dp next.layout.ends.dp (length next.layout.ops - count)) result
+    (record old { stock = next; trail = trail }) new
+    → IsSubmitted drive who nth at old new calls.Sync result
+sync_made drive who nth at result ip dp count next trail old new s events acks kept ip_is dp_is count_is standing done q =
+    let d : IsDone (tape_on s.planned) s.g s.on s.st calls.Sync at old.stock next = done (tape_on s.planned) s.g s.on s.st s.stock in
+    let ops : List Op = ops_of (rules s.g) s.on s.st.space (ask_of s.g s.st calls.Sync at) in
+    let here : ℕ = length old.listed.history in
+    let w = q.waits in
+    let places : index_places ip dp next.layout.ends.dp (length next.layout.ops - count) ≡ map place_of ops =
+    sync_places old s at next standing d ip dp count ip_is dp_is count_is in
+    let stock : new.stock ≡ next = ap (λ (p : Parts _). p.stock) w.others in
+    let mid : q.mid.events ≡ old.trail.events ++ queues_at (map place_of ops) =
+    q.queues.events
+    ∙ ap (λ (es : List Event). es ++ queues_at (index_places ip dp next.layout.ends.dp (length next.layout.ops - count))) events
+    ∙ ap (λ (ps : List Place). old.trail.events ++ queues_at ps) places in
+    let syncs : Syncs drive who nth at old new = record {
+      applied = λ early g on st is.
+          subst (λ (x : Stocked). IsDone early g on st calls.Sync at old.stock x) (sym stock) (done early g on st is);
+      asked = ops;
+      ops = ap (λ (x : Stocked). x.layout.ops) stock ∙ d.ops;
+      moves = record {
+        drive = ap (λ (p : Parts _). p.drive) w.others;
+        on = ap (λ (p : Parts _). p.on) w.others;
+        kept = w.kept ∙ q.queues.kept ∙ kept;
+        trail = w.trail;
+      };
+      wants = record {
+        waiting = ap (λ (p : Parts _). p.queue.waiting) w.others;
+        arrived = ap (λ (p : Parts _). p.queue.arrived) w.others;
+        reads = ap (λ (p : Parts _). p.reads) w.others;
+      };
+      events = w.events ∙ ap (λ (es : List Event). es ++ the_events.Syncs here ∷ synced_at here (waiting.ops (after_all es))) mid;
+      acks = w.acks ∙ ap (λ (told : List Ack). told ++ acks_at (drive.commands old.drive) (synced_here here next.layout.ops)) (q.queues.acks ∙ acks)
+          ∙ ap (λ (x : Stocked). old.trail.acks ++ acks_at (drive.commands old.drive) (synced_here here x.layout.ops)) (sym stock);
+      none_due = w.none_due;
+      places = subst (λ (x : Stocked). PlacesCall who nth at fates.Done (synced_reply x.layout.ops) old new) (sym stock)
+          (record {
+            history = w.places.history;
+            replies = w.places.replies;
+            marks = w.places.marks;
+            calls = w.places.calls;
+            sessions = w.places.sessions;
+          });
+    } in
+    let end : result ≡ synced_answer here new.stock.layout.ops =
+    w.result_is ∙ ap (λ (x : Stocked). synced_answer here x.layout.ops) (sym stock) in
+    subst (λ (e : Submitted). IsSubmitted drive who nth at old new calls.Sync e) (sym end) (ops, made.syncs refl syncs)

@@ -1,0 +1,73 @@
+use Rattle.std.specs.Prelude.{ℕ, ◌≡◌, List, [], ◌∷◌, ◌++◌}
+use Rattle.std.proofs.Common.{refl, sym, ap, subst, ◌∙◌}
+use Rattle.plain_tree.specs.declared.calls.Answer.{Answer}
+use Rattle.waiting_reads.specs.Waiting.{IsFilledOne}
+use Rattle.volume_steps.specs.Seen.{seen_parts}
+use Rattle.volume_steps.proofs.ReadLemmas.{TakesRequest, is_answered, waits_on}
+use Rattle.volume_steps.proofs.parts.Parts.take_block.Goals as goal
+
+pub returns-then-waits : goal.returns-then-waits
+returns-then-waits g c =
+    waits_on c.args.owner c.args.place c.args.self.now.head.block _ _ record {
+      drive = refl;
+      only = record {
+        stock = refl;
+        on = refl;
+        acks = c.served.ensures.acks;
+        kept = c.served.ensures.kept;
+        listed = record { history = refl; marks = refl; calls = refl; sessions = refl };
+        trail = c.head-at.ensures.trail;
+        arrived = c.remove.ensures.arrived;
+      };
+      events = c.served.ensures.events;
+      request = record {
+        front = c.requires.node.1.front;
+        one = c.requires.node.0;
+        behind = c.requires.node.1.behind;
+        waiting_is = c.requires.node.1.parts;
+        owner_is = c.requires.node.3;
+        place_is = c.requires.node.4;
+      };
+      queue = c.remove.ensures.waiting record {
+        front = c.requires.node.1.front;
+        here = c.requires.node.0;
+        behind = c.requires.node.1.behind;
+        parts = c.requires.node.1.parts;
+        node = c.requires.node.2;
+      };
+    }
+    (subst (λ (block : List ℕ). IsFilledOne c.args.owner c.args.place block c.args.self.now.reads.reads c.fill.new.self.reads) c.block.ensures c.fill.ensures.filled) refl c.fill.ensures.answered
+    (sym c.waits.ensures ∙ c.if-waits.true)
+
+pub returns : goal.returns
+returns g c =
+    is_answered c.args.owner c.args.place c.args.self.now.head.block c.finish-answer.result c.fill.new.self.reads _ _ record {
+      drive = refl;
+      only = record {
+        stock = refl;
+        on = refl;
+        acks = c.served.ensures.acks;
+        kept = c.served.ensures.kept;
+        listed = record { history = c.answer.ensures.history; marks = c.answer.ensures.marks; calls = c.answer.ensures.calls; sessions = c.answer.ensures.sessions };
+        trail = c.head-at.ensures.trail;
+        arrived = c.remove.ensures.arrived;
+      };
+      events = c.served.ensures.events;
+      request = record {
+        front = c.requires.node.1.front;
+        one = c.requires.node.0;
+        behind = c.requires.node.1.behind;
+        waiting_is = c.requires.node.1.parts;
+        owner_is = c.requires.node.3;
+        place_is = c.requires.node.4;
+      };
+      queue = c.remove.ensures.waiting record {
+        front = c.requires.node.1.front;
+        here = c.requires.node.0;
+        behind = c.requires.node.1.behind;
+        parts = c.requires.node.1.parts;
+        node = c.requires.node.2;
+      };
+    }
+    (subst (λ (block : List ℕ). IsFilledOne c.args.owner c.args.place block c.args.self.now.reads.reads c.fill.new.self.reads) c.block.ensures c.fill.ensures.filled)
+    c.finish-answer.ensures.finished c.answer.ensures.replies (c.finish-answer.ensures.answered ∙ ap (λ (kept : List (ℕ × Answer)). kept ++ (c.args.owner, c.finish-answer.result) ∷ []) c.fill.ensures.answered) (sym c.waits.ensures ∙ c.if-waits.false)

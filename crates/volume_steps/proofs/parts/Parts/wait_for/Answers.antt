@@ -1,0 +1,29 @@
+use Rattle.std.proofs.Common.{List, length, subst}
+use Rattle.tape_types.specs.declared.cartridges.Place.{Place}
+use Rattle.plain_tree.specs.declared.calls.Call.TheVariants as calls
+use Rattle.volume_steps.specs.Seen.{seen_parts}
+use Rattle.volume_steps.specs.Wanted.{AsksBlocks}
+use Rattle.volume_steps.proofs.AwaitLemmas.{can_place_on, read_waits}
+use Rattle.volume_steps.proofs.SubmitLemmas.{no_memory}
+use Rattle.volume_steps.proofs.parts.Parts.wait_for.Goals as goal
+
+pub place_waiting-requires : goal.place_waiting-requires
+place_waiting-requires g c =
+    can_place_on c.args.asked.who c.args.self.now.placements c.ask.new.self.placements c.in-Ok.ensures.ok.listed
+    c.requires.can.place
+
+pub returns-in-Ok-clause-submits : goal.returns-in-Ok-clause-submits
+returns-in-Ok-clause-submits g c path offset count free f =
+    let old = seen_parts c.args.self.now in
+    let mid = seen_parts c.ask.new.self in
+    read_waits g.D.Drive c.args.asked.who c.args.asked.nth path offset count c.args.asked.at c.args.reading c.args.wanted
+    c.place_waiting.result old mid (seen_parts c.place_waiting.new.self) free f c.requires.some
+    (subst (λ (ps : List Place). AsksBlocks (length c.args.self.now.placements.history) ps c.args.reading old mid)
+    c.as_slice.ensures c.in-Ok.ensures.ok)
+    c.place_waiting.ensures
+
+pub returns-clause-submits : goal.returns-clause-submits
+returns-clause-submits g c path offset count free f =
+    no_memory g.D.Drive c.args.asked.who c.args.asked.nth (calls.Read path offset count) c.args.asked.at c.void.result
+    (seen_parts c.args.self.now) (seen_parts c.ask.new.self) (seen_parts c.void.new.self) c.requires.can c.in-Err.ensures.err
+    c.void.ensures

@@ -1,0 +1,174 @@
+-- What the parts of a step do to the parts of a volume.
+use Rattle.std.specs.Prelude.{ℕ, ◌≡◌, ◌≤◌, ◌==◌, not, ◌&&◌, Bool, true, false, cond, drop, List, [], ◌∷◌, ◌++◌, filter}
+use Rattle.std.specs.Prelude.{length, Option, Some, None, slice_get}
+use Rattle.std.specs.List.{list_any}
+use Rattle.tape_types.specs.declared.cartridges.Part.TheVariants.{Dp}
+use Rattle.tape_types.specs.declared.cartridges.Place.{Place}
+use Rattle.tape_types.specs.declared.cartridges.Twin.{Twin}
+use Rattle.plain_tree.specs.declared.calls.Answer.{Answer}
+use Rattle.session_script.specs.declared.logs.Event.TheVariants as the_events
+use Rattle.session_script.specs.declared.logs.Reply.{Reply}
+use Rattle.session_script.specs.declared.logs.Reply.TheVariants as the_replies
+use Rattle.event_laws.specs.Trail.{IsTrail}
+use Rattle.event_laws.specs.Waiting.{State, Waiter, same_part, waiting_op}
+use Rattle.head_queue.specs.Queued.{requests}
+use Rattle.tape_drive.specs.declared.drive.Drive.{Ghosts}
+use Rattle.tape_layout.specs.declared.ops.Op.{Op}
+use Rattle.tape_layout.specs.Ops.{place_of}
+use Rattle.serving_promise.specs.Served.{headed, is_flush}
+use Rattle.event_journal.specs.Trails.{due_ticket, first_waiter, kept_for_drain, state}
+use Rattle.waiting_reads.specs.Gathering.{Gathering}
+use Rattle.waiting_reads.specs.Waiting.{IsFilledBy, answer_for}
+use Rattle.state_laws.specs.Parts.{Parts}
+use Rattle.state_laws.specs.Stepping.{IsOneRead, IsOneRequest, IsReadOn, KeepsListed, ReadsOnly, acks_at, all_synced}
+use Rattle.state_laws.specs.Stepping.{on_done, replied, settles_dp, synced_events, told_fault}
+
+-- there is something for the head: a request, or an op for which somebody waits
+abbrev pub HasWork : {D : Type 0} → Parts D → Type 0
+HasWork p = p.queue.waiting ≡ [] → (op : Op) × (later : List Op)
+    × (p.stock.layout.ops ≡ op ∷ later) × (waiting_op (state p.trail) ≡ Some (headed op))
+
+-- the place from which on files may go to the index partition, or else this one
+abbrev pub on_from : ℕ → Option ℕ → Option ℕ
+on_from here (Some first) = Some first
+on_from here None = Some here
+
+-- the first op stands at this place, is a flush or not, and somebody waits for it
+pub record IsFirstOp {D : Type 0} (p : Parts D) (place : Place) (flush : Bool) : Type 0 where
+  pub op : Op
+  pub later : List Op
+  pub first : p.stock.layout.ops ≡ op ∷ later
+  pub place_is : place ≡ place_of op
+  pub flush_is : flush ≡ is_flush op
+  pub waits : waiting_op (state p.trail) ≡ Some (headed op)
+
+-- no sync that waits has its reply
+abbrev pub SyncsWait : State → List (Option Reply) → Type 0
+SyncsWait st told = (ticket : ℕ) → list_any (λ (s : Waiter). s.ticket == ticket) st.syncs ≡ true
+    → slice_get told ticket ≡ Some None
+
+-- The head has something to do, and what waits for it is what the events leave.
+pub record IsReady {D : Type 0} (drive : Ghosts D) (p : Parts D) : Type 0 where
+  pub limits : p.stock.layout.limits ≡ drive.limits p.drive
+  pub size : p.stock.layout.block_size ≤ 1048576
+  pub work : HasWork p
+  pub syncs : SyncsWait (state p.trail) p.listed.replies
+  pub queue : requests p.queue ≡ (state p.trail).requests
+  pub none_due : due_ticket (state p.trail) ≡ None
+  pub answers : (k : ℕ) (a : Answer) → answer_for k p.answered ≡ Some a
+      → slice_get p.listed.replies k ≡ Some (Some (the_replies.Answer a))
+
+-- these syncs were answered, at this number of commands, and nothing else changed
+pub record AnswersSome {D : Type 0} (commands : ℕ) (tickets : List ℕ) (old new : Parts D) : Type 0 where
+  pub drive : new.drive ≡ old.drive
+  pub stock : new.stock ≡ old.stock
+  pub on : new.on ≡ old.on
+  pub events : new.trail.events ≡ old.trail.events ++ synced_events tickets
+  pub acks : new.trail.acks ≡ old.trail.acks ++ acks_at commands tickets
+  pub kept : new.trail.kept ≡ old.trail.kept
+  pub listed : KeepsListed old new
+  pub replies : new.listed.replies ≡ all_synced tickets old.listed.replies
+  pub queue : new.queue ≡ old.queue
+  pub answered : new.answered ≡ old.answered
+  pub reads : new.reads ≡ old.reads
+
+-- and none is left that is due
+pub record AnswersSyncs {D : Type 0} (commands : ℕ) (tickets : List ℕ) (old new : Parts D) : Type 0 where
+  pub answers : AnswersSome commands tickets old new
+  pub trail : IsTrail new.trail.events
+  pub none_due : due_ticket (state new.trail) ≡ None
+
+-- The first op failed on the drive: who has waited longest is told.
+pub record TellsFault {D : Type 0} (op : Op) (counts : Twin) (old new : Parts D) : Type 0 where
+  pub drive : new.drive ≡ old.drive
+  pub stock : new.stock ≡ old.stock
+  pub on : new.on ≡ old.on
+  pub events : new.trail.events ≡ old.trail.events ++ the_events.Worked (place_of op) (Some counts) ∷ []
+  pub trail : IsTrail new.trail.events
+  pub acks : new.trail.acks ≡ old.trail.acks
+  pub kept : new.trail.kept ≡ old.trail.kept ++ kept_for_drain (state old.trail) counts
+  pub listed : KeepsListed old new
+  pub replies : new.listed.replies ≡ told_fault (first_waiter (state old.trail)) counts old.listed.replies
+  pub queue : new.queue ≡ old.queue
+  pub answered : new.answered ≡ old.answered
+  pub reads : new.reads ≡ old.reads
+
+-- the answer of a read that has met all its blocks is kept, too
+abbrev pub KeepsAnswer : {D : Type 0} → Bool → ℕ → Parts D → Parts D → Type 0
+KeepsAnswer true ticket old new = new.answered ≡ old.answered
+KeepsAnswer false ticket old new = (gives : Answer) × (new.answered ≡ old.answered ++ (ticket, gives) ∷ [])
+    × (new.listed.replies ≡ replied ticket (the_replies.Answer gives) old.listed.replies)
+
+-- The block of a request was read.
+pub record TakesBlock {D : Type 0} (ticket : ℕ) (place : Place) (block : List ℕ) (old new : Parts D) : Type 0 where
+  pub drive : new.drive ≡ old.drive
+  pub only : ReadsOnly old new
+  pub events : new.trail.events ≡ old.trail.events ++ the_events.Served ticket place None ∷ []
+  pub request : IsOneRequest old.queue.waiting ticket place
+  pub queue : new.queue.waiting ≡ request.front ++ request.behind
+  pub read : IsOneRead old.reads ticket
+  pub next : Gathering
+  pub filled : IsFilledBy place block read.one next
+  pub answered : KeepsAnswer (list_any (λ w. w.owner == ticket) new.queue.waiting) ticket old new
+  pub reads : IsReadOn (list_any (λ w. w.owner == ticket) new.queue.waiting) ticket read.front read.behind next
+      new.reads old.listed.replies new.listed.replies
+
+-- The step for a request failed.
+pub record MissesBlock {D : Type 0} (ticket : ℕ) (place : Place) (counts : Twin) (old new : Parts D) : Type 0 where
+  pub drive : new.drive ≡ old.drive
+  pub only : ReadsOnly old new
+  pub events : new.trail.events ≡ old.trail.events ++ the_events.Served ticket place (Some counts) ∷ []
+  pub request : IsOneRequest old.queue.waiting ticket place
+  pub queue : new.queue.waiting ≡ filter (λ w. not (w.owner == ticket)) old.queue.waiting
+  pub read : IsOneRead old.reads ticket
+  pub answered : new.answered ≡ old.answered
+  pub reads : new.reads ≡ read.front ++ read.behind
+  pub replies : new.listed.replies ≡ replied ticket (the_replies.Fault counts) old.listed.replies
+
+-- placement on the index partition begins with the first flush of the data partition
+abbrev pub settles : Place → Bool → Bool
+settles place flush = flush && same_part place.part Dp
+
+abbrev pub on_settled : Bool → ℕ → Option ℕ → Option ℕ
+on_settled true here on = on_from here on
+on_settled false here on = on
+
+-- the first op is taken out
+pub record TakesOp {D : Type 0} (place : Place) (flush : Bool) (old new : Parts D) : Type 0 where
+  pub drive : new.drive ≡ old.drive
+  pub stock : new.stock ≡ record old.stock {
+    layout = record old.stock.layout {
+      ops = drop 1 old.stock.layout.ops;
+      ip_on = cond (settles place flush) true old.stock.layout.ip_on;
+    };
+  }
+  pub on : new.on ≡ on_settled (settles place flush) (length old.listed.history) old.on
+  pub events : new.trail.events ≡ old.trail.events ++ the_events.Worked place None ∷ []
+  pub acks : new.trail.acks ≡ old.trail.acks
+  pub kept : new.trail.kept ≡ old.trail.kept
+  pub listed : new.listed ≡ old.listed
+  pub queue : new.queue ≡ old.queue
+  pub answered : new.answered ≡ old.answered
+  pub reads : new.reads ≡ old.reads
+
+-- an op that the head has done is taken out, and each sync that is due then was answered
+pub record FinishesOp {D : Type 0} (commands : ℕ) (op : Op) (tickets : List ℕ) (old new : Parts D) : Type 0 where
+  pub drive : new.drive ≡ old.drive
+  pub first : old.stock.layout.ops ≡ op ∷ new.stock.layout.ops
+  pub stock : new.stock ≡ record old.stock {
+    layout = record old.stock.layout {
+      ops = new.stock.layout.ops;
+      ip_on = cond (settles_dp op) true old.stock.layout.ip_on;
+    };
+  }
+  pub on : new.on ≡ on_done op (length old.listed.history) old.on
+  pub events : new.trail.events ≡ old.trail.events ++ the_events.Worked (place_of op) None ∷ synced_events tickets
+  pub trail : IsTrail new.trail.events
+  pub none_due : due_ticket (state new.trail) ≡ None
+  pub acks : new.trail.acks ≡ old.trail.acks ++ acks_at commands tickets
+  pub kept : new.trail.kept ≡ old.trail.kept
+  pub listed : KeepsListed old new
+  pub replies : new.listed.replies ≡ all_synced tickets old.listed.replies
+  pub queue : new.queue ≡ old.queue
+  pub answered : new.answered ≡ old.answered
+  pub reads : new.reads ≡ old.reads

@@ -1,0 +1,97 @@
+-- What a read takes of what is held, and what it wants from the tape.
+use Rattle.std.specs.Prelude.{ℕ, ◌≡◌, ◌+◌, ◌==◌, Bool, false, List, [], ◌∷◌, ◌++◌, Option, Some, None, filter, is_none}
+use Rattle.std.specs.Prelude.{is_some, length, map}
+use Rattle.std.specs.List.{list_any}
+use Rattle.tape_types.specs.declared.cartridges.Place.{Place}
+use Rattle.extent_map.specs.Cells.{Tape}
+use Rattle.extent_map.specs.Replies.{IsBlock, Places, has_place, places_in}
+use Rattle.event_laws.specs.Trail.{IsTrail}
+use Rattle.event_laws.specs.Waiting as waiting
+use Rattle.event_laws.specs.Waiting.{Request}
+use Rattle.head_queue.specs.Queued.{Queued, requests}
+use Rattle.tape_layout.specs.Ops.{held_in}
+use Rattle.tape_layout.specs.declared.ops.Op.{Op}
+use Rattle.space_laws.specs.Standing.{Given, Standing}
+use Rattle.serving_promise.specs.Served.{Fixed, headed}
+use Rattle.held_volume.specs.Reads.{IsReadPlan}
+use Rattle.held_volume.specs.Stocks.{IsStock, Stocked}
+use Rattle.event_journal.specs.Trails.{Journaled, state}
+use Rattle.group_laws.specs.Groups.{requests_for}
+use Rattle.group_laws.specs.Laws.{wants_at}
+use Rattle.waiting_reads.specs.Gathering.{Gathering, IsGathering}
+use Rattle.waiting_reads.specs.Waiting.{IsFilledBy}
+use Rattle.tape_drive.specs.declared.drive.Drive.{Ghosts}
+use Rattle.plan_laws.specs.Planned.{Items, NoMarks}
+use Rattle.state_laws.specs.Parts.{Parts}
+use Rattle.state_laws.specs.Tied.{IsTied}
+
+-- A read may want blocks: no request is one of the next placement, the events have the ops that stand, and no mark is
+-- put where a block of the tree stands.
+pub record CanWantBlocks {D : Type 0} (p : Parts D) : Type 0 where
+  pub first : list_any (λ (r : Request). r.ticket == length p.listed.history) (state p.trail).requests ≡ false
+  pub ops : waiting.ops (state p.trail) ≡ map headed p.stock.layout.ops
+  pub marks : NoMarks p.stock.layout.ops p.stock.tree
+
+-- so may those of a volume that is tied
+abbrev pub TiedReadsMayWant : {D : Type 0} → Ghosts D → Type 0
+TiedReadsMayWant {D} drive = (fixed : Fixed D) (planned : Items) (p : Parts D) → IsTied drive fixed planned p
+    → map headed p.stock.layout.ops ≡ waiting.ops (state p.trail) → CanWantBlocks p
+
+-- those of these places for which no op holds a block
+abbrev pub unheld : List Op → List Place → List Place
+unheld ops places = filter (λ place. is_none (held_in place ops)) places
+
+-- and those for which one does
+abbrev pub held_among : List Op → List Place → Places
+held_among ops places place = has_place place (filter (λ other. is_some (held_in other ops)) places)
+
+-- the blocks that ops hold stand on this tape
+abbrev pub HasHeld : Tape → List Op → Type 0
+HasHeld tape ops = (place : Place) (bytes : List ℕ) → held_in place ops ≡ Some bytes → IsBlock tape place bytes
+
+-- A block that is held is put into the read, and any other is wanted.
+abbrev pub IsTakenFrom : Option (List ℕ) → Place → Gathering → Gathering → List Place → List Place → Type 0
+IsTakenFrom (Some bytes) place old new before after = IsFilledBy place bytes old new × (after ≡ before)
+IsTakenFrom None place old new before after = (new ≡ old) × (after ≡ before ++ place ∷ [])
+
+-- so it is with each of these places
+pub record AreTakenFrom (ops : List Op) (places : List Place) (old new : Gathering) (before after : List Place)
+    : Type 0 where
+  pub ticket : new.ticket ≡ old.ticket
+  pub pieces : new.pieces ≡ old.pieces
+  pub gathers : (tape : Tape) → HasHeld tape ops → IsGathering tape (λ place. false) old
+      → IsGathering tape (held_among ops places) new
+  pub wanted : after ≡ before ++ unheld ops places
+
+-- A read of a range has the blocks that are held, and wants the others.
+pub record IsFetched (stock : Stocked) (ticket : ℕ) (path : List (List ℕ)) (offset count : ℕ) (read : Gathering)
+    (wanted : List Place) : Type 0 where
+  pub ticket_is : read.ticket ≡ ticket
+  pub plan : (tape : Tape) (g : Given) (on : Bool) (st : Standing) → IsStock tape g on st stock
+      → IsReadPlan tape st stock.tree path offset count read.pieces
+  pub gathers : (tape : Tape) → HasHeld tape stock.layout.ops
+      → IsGathering tape (held_among stock.layout.ops (places_in read.pieces)) read
+  pub wanted_are : wanted ≡ unheld stock.layout.ops (places_in read.pieces)
+
+-- the events have requests of a read for these places
+pub record HasEvents (ticket : ℕ) (places : List Place) (old new : Journaled) : Type 0 where
+  pub events : new.events ≡ old.events ++ wants_at ticket places
+  pub acks : new.acks ≡ old.acks
+  pub kept : new.kept ≡ old.kept
+
+-- and so has the queue
+pub record HasRequests (ticket : ℕ) (places : List Place) (old new : Queued) : Type 0 where
+  pub requests_are : requests new ≡ requests old ++ requests_for ticket old.arrived places
+  pub arrived : new.arrived ≡ old.arrived + length places
+
+-- a read waits for these blocks, and nothing else is done
+pub record AsksBlocks {D : Type 0} (ticket : ℕ) (wanted : List Place) (read : Gathering) (old new : Parts D)
+    : Type 0 where
+  pub drive : new.drive ≡ old.drive
+  pub stock : new.stock ≡ old.stock
+  pub on : new.on ≡ old.on
+  pub events : HasEvents ticket wanted old.trail new.trail
+  pub trail : IsTrail new.trail.events
+  pub requests : HasRequests ticket wanted old.queue new.queue
+  pub reads : new.reads ≡ old.reads ++ read ∷ []
+  pub listed : new.listed ≡ old.listed

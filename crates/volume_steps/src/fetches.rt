@@ -1,0 +1,293 @@
+//! Reads, which are answered at once where all their blocks are held, and else wait for the others.
+
+ghost use Rattle.std.specs.Prelude.{◌≡◌, ◌≢◌, ◌+◌, ◌*◌, ◌^◌, ◌≤◌, ◌<◌, ℕ, List as Items, None, IfOk, OnErr, OnOk};
+ghost use Rattle.std.specs.Prelude.{length, true};
+ghost use Rattle.extent_map.specs.Replies.{bytes_in as bytes_of_piece, size_of};
+ghost use Rattle.file_tree.specs.Tree.{plain_of, whole};
+ghost use Rattle.event_laws.specs.Trail.{IsTrail, is_trail_from};
+ghost use Rattle.plain_tree.specs.Refusals.{refusal_of};
+ghost use Rattle.plain_tree.specs.declared.calls.Call.TheVariants as calls;
+ghost use Rattle.tape_layout.specs.Ops.{held_in};
+ghost use Rattle.group_laws.specs.Laws.{wants_at};
+ghost use Rattle.event_journal.specs.Trails.{state};
+ghost use Rattle.serving_promise.specs.declared.answers.Submitted.TheVariants as submitted;
+ghost use Rattle.volume_steps.specs.Asking.{CanAsk, IsSubmitted, Reserves, Stands};
+ghost use Rattle.volume_steps.specs.Seen.{seen_parts};
+ghost use Rattle.volume_steps.specs.Wanted.{AreTakenFrom, AsksBlocks, CanWantBlocks, HasEvents, HasRequests, IsFetched};
+ghost use Rattle.volume_steps.specs.Wanted.{IsTakenFrom, TiedReadsMayWant};
+
+use crate::parts::Parts;
+use crate::placing::Asked;
+use event_journal::Trail;
+use extent_map::Piece;
+use head_queue::Queue;
+use held_volume::Stock;
+use plain_tree::{Answer, Call};
+use serving_promise::Submitted;
+use std::alloc::Global;
+use tape_drive::Drive;
+use tape_layout::AdmitErr;
+use tape_types::{List, NoMemory, Place, Text};
+use waiting_reads::{Reading, Readings};
+
+/// How many bytes a read has room for at most.
+const MOST: u64 = 1_099_511_627_776;
+
+/// A read that has the blocks that are held, and the places of those that it wants.
+struct Fetched {
+    reading: Reading,
+    wanted: List<Place>,
+}
+
+impl<D: Drive> Parts<D> {
+    /// Reads at most so many bytes of a file, from an offset on.
+    #[tactic(auto, using(crate::proofs::SubmitLemmas::ready_no_drain))]
+    pub fn read_bytes(
+        &mut self,
+        asked: Asked,
+        alloc: Global,
+        call: &Call,
+        path: &[Text],
+        offset: u64,
+        count: u64,
+    ) -> Submitted
+        requires can { CanAsk asked.who (seen_parts self.old) }
+        requires stands { Stands (seen_parts self.old) }
+        requires wants { CanWantBlocks (seen_parts self.old) }
+        requires is_read { call.now ≡ calls.Read path.now offset count }
+        ensures submits { IsSubmitted D.Drive asked.who asked.nth asked.at (seen_parts self.old) (seen_parts self.new)
+            call.now result }
+        ensures answered { self.new.reads.answered ≡ self.old.reads.answered }
+        ensures placed { result ≢ submitted.Drain }
+    {
+        match self.stock.check(call) {
+            Ok(None) => self.read_file(asked, alloc, path, offset, count),
+            Ok(Some(refusal)) => {
+                self.answer(asked, Answer::Refused(refusal), Answer::Refused(refusal))
+            }
+            Err(NoMemory) => self.void(asked, AdmitErr::NoMemory),
+        }
+    }
+
+    /// Reads a file that is there.
+    #[tactic(auto, using(crate::proofs::SubmitLemmas::ready_no_drain))]
+    fn read_file(
+        &mut self,
+        asked: Asked,
+        alloc: Global,
+        path: &[Text],
+        offset: u64,
+        count: u64,
+    ) -> Submitted
+        requires can { CanAsk asked.who (seen_parts self.old) }
+        requires stands { Stands (seen_parts self.old) }
+        requires wants { CanWantBlocks (seen_parts self.old) }
+        requires free { refusal_of (plain_of whole self.old.stock.tree) (calls.Read path.now offset count) ≡ None }
+        ensures submits { IsSubmitted D.Drive asked.who asked.nth asked.at (seen_parts self.old) (seen_parts self.new)
+            (calls.Read path.now offset count) result }
+        ensures answered { self.new.reads.answered ≡ self.old.reads.answered }
+        ensures placed { result ≢ submitted.Drain }
+    {
+        let here = self.placements.len();
+        match fetch(&self.stock, alloc, here, path, offset, count) {
+            Ok(fetched) => {
+                let Fetched { reading, wanted } = fetched;
+                self.read_on(asked, reading, wanted)
+            }
+            Err(NoMemory) => self.void(asked, AdmitErr::NoMemory),
+        }
+    }
+
+    /// Answers a read that wants no block, and has another wait.
+    #[tactic(auto, using(crate::proofs::SubmitLemmas::ready_no_drain))]
+    fn read_on(&mut self, asked: Asked, reading: Reading, wanted: List<Place>) -> Submitted
+        requires can { CanAsk asked.who (seen_parts self.old) }
+        requires may { is_trail_from (state self.old.trail) (wants_at (length self.old.placements.history) wanted)
+            ≡ true }
+        ensures submits { (path : Items (Items ℕ)) (offset count : ℕ)
+            → refusal_of (plain_of whole self.old.stock.tree) (calls.Read path offset count) ≡ None
+            → IsFetched self.old.stock (length self.old.placements.history) path offset count reading wanted
+            → IsSubmitted D.Drive asked.who asked.nth asked.at (seen_parts self.old) (seen_parts self.new)
+            (calls.Read path offset count) result }
+        ensures answered { self.new.reads.answered ≡ self.old.reads.answered }
+        ensures placed { result ≢ submitted.Drain }
+    {
+        if wanted.len() == 0 {
+            let (told, kept) = reading.pair();
+            self.answer(asked, told, kept)
+        } else {
+            self.wait_for(asked, reading, wanted)
+        }
+    }
+
+    /// A read waits for these blocks, one or more.
+    #[tactic(auto, using(crate::proofs::AwaitLemmas::can_place_on, crate::proofs::SubmitLemmas::ready_no_drain, crate::proofs::SubmitLemmas::waits_no_drain))]
+    fn wait_for(&mut self, asked: Asked, reading: Reading, wanted: List<Place>) -> Submitted
+        requires can { CanAsk asked.who (seen_parts self.old) }
+        requires some { 1 ≤ length wanted }
+        requires may { is_trail_from (state self.old.trail) (wants_at (length self.old.placements.history) wanted)
+            ≡ true }
+        ensures submits { (path : Items (Items ℕ)) (offset count : ℕ)
+            → refusal_of (plain_of whole self.old.stock.tree) (calls.Read path offset count) ≡ None
+            → IsFetched self.old.stock (length self.old.placements.history) path offset count reading wanted
+            → IsSubmitted D.Drive asked.who asked.nth asked.at (seen_parts self.old) (seen_parts self.new)
+            (calls.Read path offset count) result }
+        ensures answered { self.new.reads.answered ≡ self.old.reads.answered }
+        ensures placed { result ≢ submitted.Drain }
+    {
+        match self.ask(reading, wanted.as_slice()) {
+            Ok(()) => self.place_waiting(asked),
+            Err(NoMemory) => self.void(asked, AdmitErr::NoMemory),
+        }
+    }
+
+    /// Asks for blocks, and has the read wait for them.
+    #[tactic(auto, using(crate::proofs::AwaitLemmas::asks_blocks, crate::proofs::AwaitLemmas::may_still))]
+    fn ask(&mut self, reading: Reading, wanted: &[Place]) -> Result<(), NoMemory>
+        requires may { is_trail_from (state self.old.trail) (wants_at (length self.old.placements.history) wanted.now)
+            ≡ true }
+        ensures ok { OnOk result (AsksBlocks (length self.old.placements.history) wanted.now reading
+            (seen_parts self.old) (seen_parts self.new)) }
+        ensures err { OnErr result (Reserves (seen_parts self.old) (seen_parts self.new)) }
+        ensures answered { self.new.reads.answered ≡ self.old.reads.answered }
+    {
+        let here = self.placements.len();
+        self.reserve_asked(wanted.len())?;
+        ask_all(&mut self.trail, &mut self.queue, here, wanted);
+        self.reads.add(reading);
+        Ok(())
+    }
+
+    /// Makes room for a read that asks for so many blocks.
+    #[tactic(auto, using(crate::proofs::SubmitLemmas::reserved))]
+    fn reserve_asked(&mut self, count: usize) -> Result<(), NoMemory>
+        ensures reserves { Reserves (seen_parts self.old) (seen_parts self.new) }
+        ensures stock { self.new.stock ≡ self.old.stock }
+        ensures placements { self.new.placements ≡ self.old.placements }
+        ensures answered { self.new.reads.answered ≡ self.old.reads.answered }
+        ensures events { OnOk result (2 * count ≤ self.new.trail.spare) }
+        ensures requests { OnOk result (count ≤ self.new.queue.spare) }
+        ensures reads { OnOk result (1 ≤ self.new.reads.spare) }
+    {
+        self.trail.reserve(count)?;
+        reserve_requests(&mut self.queue, count)?;
+        self.reads.reserve()
+    }
+}
+
+/// Makes room for so many requests.
+fn reserve_requests(queue: &mut Queue, count: usize) -> Result<(), NoMemory>
+    ensures waiting { queue.new.waiting ≡ queue.old.waiting }
+    ensures arrived { queue.new.arrived ≡ queue.old.arrived }
+    ensures room { OnOk result (count ≤ queue.new.spare) }
+{
+    let most = u32::MAX as usize;
+    let there = queue.len();
+    if there > most || count > most - there {
+        return Err(NoMemory);
+    }
+    queue.reserve(count as u32)
+}
+
+/// Asks for blocks, one after the other.
+#[tactic(auto, using(crate::proofs::RequestLemmas::asking_begins, crate::proofs::RequestLemmas::asking_allowed, crate::proofs::RequestLemmas::asking_room, crate::proofs::RequestLemmas::asking_requests, crate::proofs::RequestLemmas::asking_events, crate::proofs::RequestLemmas::asking_ends))]
+fn ask_all(trail: &mut Trail, queue: &mut Queue, ticket: u64, wanted: &[Place])
+    requires may { is_trail_from (state trail.old) (wants_at ticket wanted.now) ≡ true }
+    requires events { 2 * length wanted.now ≤ trail.old.spare }
+    requires requests { length wanted.now ≤ queue.old.spare }
+    ensures events { HasEvents ticket wanted.now trail.old trail.new }
+    ensures trail { IsTrail trail.new.events }
+    ensures requests { HasRequests ticket wanted.now queue.old queue.new }
+{
+    for place in wanted {
+        trail.wants(ticket, *place);
+        let _node = queue.add(ticket, *place);
+    }
+    let _head = trail.head();
+}
+
+/// A read of a range, with all blocks that are held.
+fn fetch(
+    stock: &Stock,
+    alloc: Global,
+    ticket: u64,
+    path: &[Text],
+    offset: u64,
+    count: u64,
+) -> Result<Fetched, NoMemory>
+    requires { refusal_of (plain_of whole stock.now.tree) (calls.Read path.now offset count) ≡ None }
+    ensures { IfOk result (λ f. IsFetched stock.now ticket path.now offset count f.reading f.wanted) }
+{
+    let pieces = stock.plan(path, offset, count)?;
+    if !is_small(pieces.as_slice()) {
+        return Err(NoMemory);
+    }
+    let mut reading = Reading::new(alloc, ticket, pieces)?;
+    let places = reading.places(alloc)?;
+    let mut wanted = List::new(alloc);
+    take_held(stock, &mut reading, places.as_slice(), &mut wanted)?;
+    Ok(Fetched { reading, wanted })
+}
+
+/// Whether there is room for the bytes of these pieces.
+fn is_small(pieces: &[Piece]) -> bool
+    ensures { result ≡ true → size_of pieces.now ≤ 2 ^ 40 }
+{
+    let mut total = 0;
+    for piece in pieces {
+        let count = bytes_in(piece);
+        if count > MOST - total {
+            return false;
+        }
+        total += count;
+    }
+    true
+}
+
+/// How many bytes a piece has.
+fn bytes_in(piece: &Piece) -> u64
+    ensures { result ≡ bytes_of_piece piece.now }
+{
+    match piece {
+        Piece::Zeros { count } => *count,
+        Piece::Stored { count, .. } => u64::from(*count),
+    }
+}
+
+/// Puts what is held of these places into a read, and notes the others.
+#[tactic(auto, using(crate::proofs::FillLemmas::taken_begins, crate::proofs::FillLemmas::taken_ends))]
+fn take_held(
+    stock: &Stock,
+    reading: &mut Reading,
+    places: &[Place],
+    wanted: &mut List<Place>,
+) -> Result<(), NoMemory>
+    ensures { OnOk result (AreTakenFrom stock.now.layout.ops places.now reading.old reading.new wanted.old wanted.new) }
+{
+    for place in places {
+        take_block(stock, reading, *place, wanted)?;
+    }
+    Ok(())
+}
+
+/// Puts the block at a place into a read, where it is held, and else notes the place.
+fn take_block(
+    stock: &Stock,
+    reading: &mut Reading,
+    place: Place,
+    wanted: &mut List<Place>,
+) -> Result<(), NoMemory>
+    ensures { OnOk result (IsTakenFrom (held_in place stock.now.layout.ops) place reading.old reading.new wanted.old
+        wanted.new) }
+{
+    match stock.held(place) {
+        Some(bytes) => reading.fill(place, bytes.as_slice()),
+        None => wanted.push(place)?,
+    }
+    Ok(())
+}
+
+/// Reads of a volume that is tied may want blocks.
+pub fn tied_reads_may_want<D: Drive>()
+    ensures { TiedReadsMayWant D.Drive }
+{}

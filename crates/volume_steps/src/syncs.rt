@@ -1,0 +1,188 @@
+//! Syncs.
+
+ghost use Rattle.std.specs.Prelude.{◌≡◌, ◌≢◌, ◌+◌, ◌-◌, ◌*◌, ◌<◌, ◌≤◌, ◌^◌, Bool, nat_lt, length, None, Some, IfSome};
+ghost use Rattle.std.specs.Prelude.{OnOk};
+ghost use Rattle.std.specs.Option.{option_map};
+ghost use Rattle.extent_map.specs.Cells.{Tape};
+ghost use Rattle.tape_types.specs.declared.moments.Moment.{Moment};
+ghost use Rattle.event_laws.specs.Trail.{IsTrail};
+ghost use Rattle.event_laws.specs.Waiting.{ops};
+ghost use Rattle.plain_tree.specs.declared.calls.Call.TheVariants as calls;
+ghost use Rattle.space_laws.specs.Space.{ops_of};
+ghost use Rattle.space_laws.specs.Standing.{Given, Standing, ask_of, rules};
+ghost use Rattle.held_volume.specs.Stocks.{IsStock};
+ghost use Rattle.held_volume.specs.Syncs.{IsDocument};
+ghost use Rattle.event_journal.specs.Trails.{due_ticket, state};
+ghost use Rattle.serving_promise.specs.declared.answers.Submitted.TheVariants as submitted;
+ghost use Rattle.volume_steps.specs.Asking.{AnswersSync, Awaits, CanAsk, CanPlace, CanQueueSync, IsSubmitted, Queues};
+ghost use Rattle.volume_steps.specs.Asking.{QueuesSync, Stands, WaitsSynced, flush_at, index_places, run};
+ghost use Rattle.volume_steps.specs.Seen.{seen_parts};
+
+use crate::parts::Parts;
+use crate::placing::Asked;
+use crate::submits::queue_run;
+use event_journal::Trail;
+use held_volume::Stock;
+use plain_tree::Answer;
+use serving_promise::Submitted;
+use tape_drive::Drive;
+use tape_layout::AdmitErr;
+use tape_types::{NoMemory, Part, Place};
+
+impl<D: Drive> Parts<D> {
+    /// Admits the index of a sync where the tree has changed since the last one, and queues its ops.
+    #[tactic(auto, using(crate::proofs::SubmitLemmas::no_memory_here, crate::proofs::SubmitLemmas::ready_no_drain))]
+    pub fn sync(&mut self, asked: Asked) -> Submitted
+        requires can { CanAsk asked.who (seen_parts self.old) }
+        requires stands { Stands (seen_parts self.old) }
+        ensures submits { IsSubmitted D.Drive asked.who asked.nth asked.at (seen_parts self.old) (seen_parts self.new)
+            calls.Sync result }
+        ensures answered { self.new.reads.answered ≡ self.old.reads.answered }
+        ensures placed { result ≢ submitted.Drain }
+    {
+        match self.stock.document(asked.at) {
+            Ok(due) => self.sync_text(asked, &due),
+            Err(NoMemory) => self.void(asked, AdmitErr::NoMemory),
+        }
+    }
+
+    /// Admits the text of the index of a sync, and queues its ops.
+    #[tactic(auto, using(crate::proofs::SubmitLemmas::ready_no_drain, crate::proofs::SubmitLemmas::synced_no_drain))]
+    fn sync_text(&mut self, asked: Asked, due: &Option<Vec<u8>>) -> Submitted
+        requires can { CanAsk asked.who (seen_parts self.old) }
+        requires stands { Stands (seen_parts self.old) }
+        requires some { IfSome due.now (λ doc. 1 ≤ length doc.items) }
+        requires document { (tape : Tape) (g : Given) (on : Bool) (st : Standing) → IsStock tape g on st self.old.stock
+            → IsDocument g st asked.at (option_map (λ doc. doc.items) due.now) }
+        ensures submits { IsSubmitted D.Drive asked.who asked.nth asked.at (seen_parts self.old) (seen_parts self.new)
+            calls.Sync result }
+        ensures answered { self.new.reads.answered ≡ self.old.reads.answered }
+        ensures placed { result ≢ submitted.Drain }
+    {
+        let (ip, dp) = self.stock.ends();
+        let count = self.stock.waiting();
+        if reserve_sync(&self.stock, &mut self.trail, due).is_err() {
+            return self.void(asked, AdmitErr::NoMemory);
+        }
+        match self.stock.sync(due) {
+            Ok(()) => self.queue_sync(asked, ip, dp, count),
+            Err(error) => self.void(asked, error),
+        }
+    }
+
+    /// Queues the ops of a sync that was admitted, from these ends on and behind so many ops.
+    fn queue_sync(&mut self, asked: Asked, ip: u64, dp: u64, count: u64) -> Submitted
+        requires can { CanAsk asked.who (seen_parts self.old) }
+        requires numbers { CanQueueSync ip dp count self.old.stock self.old.trail }
+        requires waiter { 1 ≤ self.old.trail.waiters }
+        ensures { QueuesSync D.Drive asked.who asked.nth asked.at (index_places ip dp self.old.stock.layout.ends.dp
+            (length self.old.stock.layout.ops - count)) result (seen_parts self.old) (seen_parts self.new) }
+    {
+        let (_, next) = self.stock.ends();
+        let added = self.stock.waiting() - count;
+        queue_index(&mut self.trail, ip, dp, next, added);
+        self.wait_synced(asked)
+    }
+
+    /// A sync waits for the ops that stand, or is answered where there are none.
+    #[tactic(auto, using(crate::proofs::WaitLemmas::may_sync, crate::proofs::WaitLemmas::due_now, crate::proofs::WaitLemmas::answered_now, crate::proofs::WaitLemmas::waits_on))]
+    fn wait_synced(&mut self, asked: Asked) -> Submitted
+        requires can { CanAsk asked.who (seen_parts self.old) }
+        requires ops { length (ops (state self.old.trail)) ≡ length self.old.stock.layout.ops }
+        requires room { 2 ≤ self.old.trail.spare }
+        requires waiter { 1 ≤ self.old.trail.waiters }
+        ensures { WaitsSynced D.Drive asked.who asked.nth asked.at result (seen_parts self.old) (seen_parts self.new) }
+    {
+        let here = self.placements.len();
+        let standing = self.stock.waiting();
+        self.trail.syncs(here, standing);
+        if standing == 0 {
+            self.answer_sync(asked, here)
+        } else {
+            self.await_sync(asked)
+        }
+    }
+
+    /// Answers a sync that is due, and is placed now.
+    fn answer_sync(&mut self, asked: Asked, here: u64) -> Submitted
+        requires place { CanPlace asked.who self.old.placements }
+        requires due { due_ticket (state self.old.trail) ≡ Some here }
+        ensures { AnswersSync D.Drive asked.who asked.nth asked.at here result (seen_parts self.old)
+            (seen_parts self.new) }
+    {
+        let commands = self.head.commands();
+        self.trail.synced(here, commands);
+        let _head = self.trail.head();
+        self.answer(asked, Answer::Synced, Answer::Synced)
+    }
+
+    /// Places a sync that waits.
+    fn await_sync(&mut self, asked: Asked) -> Submitted
+        requires { CanPlace asked.who self.old.placements }
+        ensures awaits { Awaits asked.who asked.nth asked.at result (seen_parts self.old) (seen_parts self.new) }
+        ensures trail { IsTrail self.old.trail.events }
+    {
+        let _head = self.trail.head();
+        self.place_waiting(asked)
+    }
+}
+
+/// Makes room for the events of a sync, and for the sync among those that wait.
+#[tactic(auto, using(crate::proofs::SyncDone::sync_room_some, crate::proofs::SyncDone::sync_room_none))]
+fn reserve_sync(stock: &Stock, trail: &mut Trail, due: &Option<Vec<u8>>) -> Result<(), NoMemory>
+    ensures events { trail.new.events ≡ trail.old.events }
+    ensures acks { trail.new.acks ≡ trail.old.acks }
+    ensures kept { trail.new.kept ≡ trail.old.kept }
+    ensures room { OnOk result ((tape : Tape) (g : Given) (on : Bool) (st : Standing) (at : Moment)
+        → IsStock tape g on st stock.now → IsDocument g st at (option_map (λ doc. doc.items) due.now)
+        → 2 * length (ops_of (rules g) on st.space (ask_of g st calls.Sync at)) + 2 ≤ trail.new.spare) }
+    ensures waiters { OnOk result (1 ≤ trail.new.waiters) }
+{
+    match due {
+        Some(doc) => match stock.most_ops(doc.as_slice()).checked_add(1) {
+            Some(most) => trail.reserve(most),
+            None => Err(NoMemory),
+        },
+        None => trail.reserve(1),
+    }
+}
+
+/// Queues the ops of the index of a sync, with which the data partition goes on from one end to the next: a flush of
+/// the index partition is first, where there are more than the index has.
+#[tactic(auto, using(crate::proofs::IndexLemmas::index_room, crate::proofs::IndexLemmas::index_room_then, crate::proofs::IndexLemmas::index_left, crate::proofs::IndexLemmas::index_some, crate::proofs::IndexLemmas::index_none))]
+fn queue_index(trail: &mut Trail, ip: u64, dp: u64, next: u64, added: u64)
+    requires none_due { due_ticket (state trail.old) ≡ None }
+    requires near { next < 2 ^ 63 }
+    requires some { dp < next → (next - dp) + 1 ≤ added }
+    requires room { 2 * added ≤ trail.old.spare }
+    ensures queues { Queues (index_places ip dp next added) trail.old trail.new }
+    ensures spare { trail.old.spare ≤ trail.new.spare + 2 * added }
+    ensures waiters { trail.new.waiters ≡ trail.old.waiters }
+{
+    if dp < next {
+        queue_flush(trail, ip, next - dp + 1 < added);
+        queue_run(trail, Part::Dp, dp, next + 1);
+    } else {
+        let _head = trail.head();
+    }
+}
+
+/// Queues a flush of the index partition, or nothing.
+#[tactic(auto, using(crate::proofs::QueueLemmas::may_queue, crate::proofs::QueueLemmas::queues_none, crate::proofs::QueueLemmas::queues_one, crate::proofs::QueueLemmas::queues_flush, crate::proofs::QueueLemmas::queues_no_flush))]
+fn queue_flush(trail: &mut Trail, ip: u64, flush: bool)
+    requires none_due { due_ticket (state trail.old) ≡ None }
+    requires room { 2 * length (flush_at flush ip) ≤ trail.old.spare }
+    ensures queues { Queues (flush_at flush ip) trail.old trail.new }
+    ensures spare { trail.old.spare ≤ trail.new.spare + 2 * length (flush_at flush ip) }
+    ensures waiters { trail.new.waiters ≡ trail.old.waiters }
+{
+    if flush {
+        trail.queues(Place {
+            part: Part::Ip,
+            pos: ip,
+        });
+        let _head = trail.head();
+    } else {
+        let _head = trail.head();
+    }
+}

@@ -1,5 +1,0 @@
-use Rattle.volume_truth.proofs.AskLaws.{drain_turns_ask_truly}
-use Rattle.volume_truth.proofs.asks.drain_turns_ask_truly.Goals as goal
-
-pub returns : goal.returns
-returns g c = drain_turns_ask_truly g.S.Serve.seen

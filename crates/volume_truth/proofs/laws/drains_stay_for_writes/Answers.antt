@@ -1,5 +1,0 @@
-use Rattle.volume_truth.proofs.Draining.{drains_stay_for_writes}
-use Rattle.volume_truth.proofs.laws.drains_stay_for_writes.Goals as goal
-
-pub returns : goal.returns
-returns g c = drains_stay_for_writes g.S.Serve.seen
