@@ -4,7 +4,7 @@ use Rattle.std.proofs.Common.{◌≡◌, ℕ, zero, suc, ◌+◌, ◌*◌, ◌<�
 use Rattle.std.specs.Result.{result_ok}
 use Rattle.std.proofs.lemmas.Bool.Decides.{nat_tests}
 use Rattle.std.specs.Io.KnownBytes.{prepend_known}
-use Rattle.std.proofs.lemmas.List.{append-nil, append_assoc, length-append, take_at, drop_at, take_all, drop_more, get_or-drop}
+use Rattle.std.proofs.lemmas.List.{append-nil, append_assoc, length-append, take_at, drop_at, take_all, drop_all, drop_more, get_or-drop}
 use Rattle.base64.specs.declared.decode.DecodeError.{DecodeError}
 use Rattle.base64.specs.Decode.{IsDecodeTable, or_else, symbol_error, group_error, group_bytes, groups_error, groups_bytes, groups_before_last, decode_error, decode_outcome, lone_error}
 use Rattle.base64.specs.Engines.{standard}
@@ -141,13 +141,10 @@ block_refused out block rest size some bytes other = cases (decode_of standard (
 
 -- ---- byte by byte
 
-nothing_in_front : (o : Option (List ℕ)) → prepend_known [] o ≡ o
+-- nothing stands in front of what is left
+pub nothing_in_front : (o : Option (List ℕ)) → prepend_known [] o ≡ o
 nothing_in_front None = refl
 nothing_in_front (Some xs) = refl
-
-pub begun : (text out block : List ℕ) → out ≡ [] → block ≡ [] → behind out (block ++ without_space text) ≡ from_base64 text
-unfolding from_base64
-begun text out block none also = rw (none, also) (nothing_in_front (decoded_of standard (without_space text)))
 
 -- a step with the next byte of a text
 abbrev pub Takes : List ℕ → List ℕ → ℕ → List ℕ → List ℕ → Bool → Type 0
@@ -156,18 +153,53 @@ Takes out block byte next more taken = (rest : List ℕ) → IsBytes rest → be
 pub dropped : (n : ℕ) (text : List ℕ) → IsBytes text → IsBytes (drop n text)
 dropped n text bytes i = subst (λ b. b < 256) (sym (get_or-drop n text i 0)) (bytes (n + i))
 
-abbrev IsLeft : List ℕ → ℕ → List ℕ → List ℕ → Type 0
-IsLeft text i out block = behind out (block ++ without_space (drop i text)) ≡ from_base64 text
+-- some bytes of a text were taken, and the others are to be
+abbrev pub IsLeft : List ℕ → List ℕ → List ℕ → ℕ → List ℕ → List ℕ → Type 0
+IsLeft first begun bytes i out block =
+    (rest : List ℕ) → IsBytes rest → behind out (block ++ without_space (drop i bytes ++ rest)) ≡ behind first (begun ++ without_space (bytes ++ rest))
 
-pub goes_on : (text out block next more : List ℕ) (i : ℕ) (taken : Bool) → IsLeft text i out block → i < length text → IsBytes text → Takes out block (get_or text i 0) next more taken → taken ≡ true → IsLeft text (i + 1) next more
-goes_on text out block next more i taken kept lt bytes step is =
-    sym (ap (λ b. if b then behind next (more ++ without_space (drop (i + 1) text)) else None) is) ∙ sym (step (drop (i + 1) text) (dropped (i + 1) text bytes))
-    ∙ ap (λ l. behind out (block ++ without_space l)) (sym (drop_more text i 0 lt)) ∙ kept
+-- one byte more is taken
+pub goes_on : (first begun bytes out block next more : List ℕ) (i : ℕ) (taken : Bool) → IsLeft first begun bytes i out block → i < length bytes → IsBytes bytes → Takes out block (get_or bytes i 0) next more taken → taken ≡ true
+    → IsLeft first begun bytes (i + 1) next more
+goes_on first begun bytes out block next more i taken kept lt are step is rest others =
+    sym (ap (λ b. if b then behind next (more ++ without_space (drop (i + 1) bytes ++ rest)) else None) is) ∙ sym (step (drop (i + 1) bytes ++ rest) (joined (drop (i + 1) bytes) rest (dropped (i + 1) bytes are) others))
+    ∙ ap (λ l. behind out (block ++ without_space (l ++ rest))) (sym (drop_more bytes i 0 lt)) ∙ kept rest others
 
-pub stops : (text out block next more : List ℕ) (i : ℕ) (taken : Bool) → IsLeft text i out block → i < length text → IsBytes text → Takes out block (get_or text i 0) next more taken → taken ≡ false → None ≡ from_base64 text
-stops text out block next more i taken kept lt bytes step is =
-    sym (ap (λ b. if b then behind next (more ++ without_space (drop (i + 1) text)) else None) is) ∙ sym (step (drop (i + 1) text) (dropped (i + 1) text bytes))
-    ∙ ap (λ l. behind out (block ++ without_space l)) (sym (drop_more text i 0 lt)) ∙ kept
+-- a byte is refused, and so the whole stands for none
+pub stops : (first begun bytes out block next more : List ℕ) (i : ℕ) (taken : Bool) → IsLeft first begun bytes i out block → i < length bytes → IsBytes bytes → Takes out block (get_or bytes i 0) next more taken → taken ≡ false
+    → (rest : List ℕ) → IsBytes rest → behind first (begun ++ without_space (bytes ++ rest)) ≡ None
+stops first begun bytes out block next more i taken kept lt are step is rest others =
+    sym (kept rest others) ∙ ap (λ l. behind out (block ++ without_space (l ++ rest))) (drop_more bytes i 0 lt)
+    ∙ step (drop (i + 1) bytes ++ rest) (joined (drop (i + 1) bytes) rest (dropped (i + 1) bytes are) others)
+    ∙ ap (λ b. if b then behind next (more ++ without_space (drop (i + 1) bytes ++ rest)) else None) is
+
+-- all bytes are taken
+pub taken_all : (first begun bytes out block : List ℕ) (i : ℕ) → IsLeft first begun bytes i out block → length bytes ≤ i
+    → (rest : List ℕ) → IsBytes rest → behind first (begun ++ without_space (bytes ++ rest)) ≡ behind out (block ++ without_space rest)
+taken_all first begun bytes out block i kept le rest others =
+    sym (kept rest others) ∙ ap (λ l. behind out (block ++ without_space (l ++ rest))) (drop_all i bytes le)
+
+-- what taking these bytes says
+abbrev pub TakesAll : List ℕ → List ℕ → List ℕ → List ℕ → List ℕ → Bool → Type 0
+TakesAll out block bytes next more taken =
+    (rest : List ℕ) → IsBytes rest → behind out (block ++ without_space (bytes ++ rest)) ≡ (if taken then behind next (more ++ without_space rest) else None)
+
+none_are : IsBytes []
+none_are i = omega arith
+
+whole : (text out block : List ℕ) → out ≡ [] → block ≡ [] → behind out (block ++ without_space (text ++ [])) ≡ from_base64 text
+unfolding from_base64
+whole text out block none also = rw (none, also, append-nil text) (nothing_in_front (decoded_of standard (without_space text)))
+
+-- a text that was refused stands for no bytes
+pub decodes_none : (text out block next more : List ℕ) (taken : Bool) → out ≡ [] → block ≡ [] → TakesAll out block text next more taken → taken ≡ false → None ≡ from_base64 text
+decodes_none text out block next more taken none also all is =
+    sym (ap (λ b. if b then behind next (more ++ without_space []) else None) is) ∙ sym (all [] none_are) ∙ whole text out block none also
+
+-- a text that was taken stands for what its last symbols make of what stands in front of them
+pub decodes_all : (text out block next more : List ℕ) (taken : Bool) → out ≡ [] → block ≡ [] → TakesAll out block text next more taken → taken ≡ true → behind next more ≡ from_base64 text
+decodes_all text out block next more taken none also all is =
+    ap (behind next) (sym (append-nil more)) ∙ sym (ap (λ b. if b then behind next (more ++ without_space []) else None) is) ∙ sym (all [] none_are) ∙ whole text out block none also
 
 -- a block that stands for none, or for another count of bytes
 pub no_bytes : (block : List ℕ) → None ≡ decoded_of standard block → (bs : List ℕ) → decoded_of standard block ≡ Some bs → length bs ≡ 768 → ⊥

@@ -14,6 +14,7 @@ pub mod Timed
 pub mod Written
 pub mod WrittenItems
 pub mod Base64Blocks
+pub mod Base64Characters
 pub mod Base64Lemmas
 pub mod WrittenNames
 pub mod WrittenValues

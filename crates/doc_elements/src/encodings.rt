@@ -3,8 +3,10 @@
 ghost use Rattle.std.specs.Prelude.{◌≡◌, ◌≤◌, ◌<◌, ◌++◌, ◌∷◌, ℕ, List, length, if◌then◌else◌, None, Some, Ok};
 ghost use Rattle.std.specs.Prelude.{IfOk, IfSome, MatchOption};
 ghost use Rattle.std.specs.Option.{option_map};
+ghost use Rattle.std.specs.Str.{encode_utf8_all};
 ghost use Rattle.base64.specs.Engines.{standard};
 ghost use Rattle.base64.specs.GeneralPurpose.{IsBytes, decoded_of};
+ghost use Rattle.doc_fields.specs.Characters.{characters};
 ghost use Rattle.doc_fields.specs.Reading.{between};
 ghost use Rattle.doc_fields.specs.Texts.{text_at};
 ghost use Rattle.doc_elements.specs.Bare.{is_bare};
@@ -13,7 +15,7 @@ ghost use Rattle.doc_elements.specs.Pieces.{bytes_told, from_base64, without_spa
 
 use base64::DecodeAllocError;
 use base64::engine::general_purpose::STANDARD;
-use doc_fields::is_space;
+use doc_fields::{Characters, is_space};
 use std::alloc::{AllocError, Global};
 use tape_types::{Bytes, NoMemory};
 
@@ -100,6 +102,37 @@ fn take_byte(
     Ok(true)
 }
 
+/// Takes the next bytes of a text in base64; or tells that the whole stands for no bytes.
+fn take_bytes(
+    alloc: Global,
+    out: &mut Vec<u8>,
+    block: &mut Vec<u8>,
+    bytes: &[u8],
+) -> Result<bool, AllocError>
+    ensures { IfOk result (λ taken. (rest : List ℕ) → IsBytes rest
+        → behind out.old.items (block.old.items ++ without_space (bytes.now ++ rest))
+        ≡ (if taken then behind out.new.items (block.new.items ++ without_space rest) else None)) }
+{
+    for byte in bytes {
+        if !take_byte(alloc, out, block, *byte)? {
+            return Ok(false);
+        }
+    }
+    Ok(true)
+}
+
+/// The bytes that a text in base64 stands for whose last symbols are in a block, or none.
+fn take_last(alloc: Global, out: Vec<u8>, block: &[u8]) -> Result<Option<Vec<u8>>, AllocError>
+    ensures { IfOk result (λ v. option_map (λ b. b.items) v ≡ behind out.items block.now) }
+{
+    let mut out = out;
+    let Some(last) = decode_symbols(alloc, block)? else {
+        return Ok(None);
+    };
+    out.extend_from_slice(last.as_slice())?;
+    Ok(Some(out))
+}
+
 fn symbol_count(text: &[u8]) -> usize {
     text.iter().filter(|byte| !is_space(**byte)).count()
 }
@@ -110,16 +143,44 @@ fn decode(alloc: Global, text: &[u8]) -> Result<Option<Vec<u8>>, AllocError>
 {
     let mut out = Vec::with_capacity(alloc, symbol_count(text) / 4 * 3)?;
     let mut block = Vec::with_capacity(alloc, 1024)?;
-    for byte in text {
-        if !take_byte(alloc, &mut out, &mut block, *byte)? {
+    if !take_bytes(alloc, &mut out, &mut block, text)? {
+        return Ok(None);
+    }
+    take_last(alloc, out, block.as_slice())
+}
+
+/// How many of the characters that are left of a text aren't white space.
+fn count_symbols(left: Characters) -> usize {
+    let mut left = left;
+    let mut count: usize = 0;
+    while let Some(Ok(c)) = left.next() {
+        if !c.is_ascii_whitespace() {
+            count = count.saturating_add(1);
+        }
+    }
+    count
+}
+
+/// The same of a text with references or carriage returns, character by character, so that it takes no memory beside
+/// that of [`decode`].
+fn decode_characters(alloc: Global, left: Characters) -> Result<Option<Vec<u8>>, AllocError>
+    ensures { (cs : List ℕ) → characters left.entry ≡ Ok cs
+        → IfOk result (λ v. option_map (λ b. b.items) v ≡ from_base64 (encode_utf8_all cs)) }
+{
+    let mut out = Vec::with_capacity(alloc, count_symbols(left.clone()?) / 4 * 3)?;
+    let mut block = Vec::with_capacity(alloc, 1024)?;
+    let mut left = left;
+    while let Some(taken) = left.next() {
+        let Ok(c) = taken else {
+            return Ok(None);
+        };
+        let mut spelled = [0; 4];
+        let bytes = c.encode_utf8(&mut spelled).as_bytes();
+        if !take_bytes(alloc, &mut out, &mut block, bytes)? {
             return Ok(None);
         }
     }
-    let Some(last) = decode_symbols(alloc, block.as_slice())? else {
-        return Ok(None);
-    };
-    out.extend_from_slice(last.as_slice())?;
-    Ok(Some(out))
+    take_last(alloc, out, block.as_slice())
 }
 
 /// The bytes that a text stands for, in base64 or as it is, or none.
@@ -131,6 +192,17 @@ pub fn bytes_told(alloc: Global, text: &[u8], in_base64: bool) -> Result<Option<
         return Ok(Some(Bytes::from_vec(Vec::from_slice(alloc, text)?)));
     }
     match decode(alloc, text)? {
+        None => Ok(None),
+        Some(bytes) => Ok(Some(Bytes::from_vec(bytes))),
+    }
+}
+
+/// The bytes that the characters which are left of a text stand for in base64, or none.
+pub fn bytes_of_characters(alloc: Global, left: Characters) -> Result<Option<Bytes>, NoMemory>
+    ensures { (cs : List ℕ) → characters left.entry ≡ Ok cs → IfOk result (λ found. MatchOption found
+        (from_base64 (encode_utf8_all cs) ≡ None) (λ bs. from_base64 (encode_utf8_all cs) ≡ Some bs)) }
+{
+    match decode_characters(alloc, left)? {
         None => Ok(None),
         Some(bytes) => Ok(Some(Bytes::from_vec(bytes))),
     }

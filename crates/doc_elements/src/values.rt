@@ -1,21 +1,23 @@
 //! The values of leaves.
 
 ghost use Rattle.std.specs.Prelude.{◌≡◌, ◌≤◌, ◌<◌, ◌==◌, length, nat_lt, if◌then◌else◌, IfOk, MatchOption, true, false};
-ghost use Rattle.std.specs.Str.{chars, is_utf8};
+ghost use Rattle.std.specs.Prelude.{List, Ok, ℕ};
+ghost use Rattle.std.specs.Str.{chars, encode_utf8_all, is_utf8};
+ghost use Rattle.doc_fields.specs.Characters.{characters};
 ghost use Rattle.tape_types.specs.Names.{has_byte};
 ghost use Rattle.ltfs_text.specs.Names.{decoded};
 ghost use Rattle.doc_elements.specs.declared.errors.PieceErr.TheVariants as errors;
-ghost use Rattle.doc_elements.specs.Pieces.{bytes_in, bytes_told, empty_value, is_base64, is_encoded, is_name};
+ghost use Rattle.doc_elements.specs.Pieces.{bytes_in, bytes_told, empty_value, from_base64, is_base64, is_encoded, is_name};
 ghost use Rattle.doc_elements.specs.Pieces.{is_too_great, is_volume_name, leaf_at, least, name_in, named, number_in};
 ghost use Rattle.doc_elements.specs.Pieces.{some_bytes, value_in};
 ghost use Rattle.doc_elements.specs.Answers.{Gives, val_of};
 
-use crate::encodings::{bare_end, bytes_told};
+use crate::encodings::{bare_end, bytes_of_characters, bytes_told};
 use crate::errors::PieceErr;
 use crate::schema::Form;
 use doc_fields::{
-    Attribute, LockState, Start, Tag, read_bool, read_end, read_letter, read_lock, read_text,
-    read_time, read_u64, read_uuid, skip_space,
+    Attribute, Characters, LockState, Start, Tag, read_bool, read_characters, read_end,
+    read_letter, read_lock, read_text, read_time, read_u64, read_uuid, skip_space,
 };
 use ltfs_text::{ReadNameErr, read_name};
 use node_keys::is_key;
@@ -203,6 +205,35 @@ fn found(alloc: Global, at: usize, text: &[u8], in_base64: bool) -> Result<Bytes
     }
 }
 
+/// The bytes that the characters of a text stand for in base64, whose first byte behind white space stands at a place.
+#[tactic(auto, using(crate::proofs::Base64Lemmas::bytes_found, crate::proofs::Base64Lemmas::bytes_missed))]
+fn found_in(alloc: Global, at: usize, left: Characters) -> Result<Bytes, PieceErr>
+    ensures { (cs : List ℕ) → characters left.entry ≡ Ok cs
+        → Gives (λ bs. bs) result (some_bytes at (from_base64 (encode_utf8_all cs))) }
+{
+    match bytes_of_characters(alloc, left)? {
+        None => Err(PieceErr::Syntax(at)),
+        Some(bytes) => Ok(bytes),
+    }
+}
+
+/// The bytes of a value in base64 with references or carriage returns, and the place of its end tag.
+#[tactic(auto, unfolding(crate::specs::Pieces::bytes_in))]
+fn decoded_bytes(alloc: Global, start: Start, text: &[u8]) -> Result<(Value, usize), PieceErr>
+    requires within { start.next ≤ length text.now }
+    requires base64 { is_base64 start.attribute ≡ true }
+    ensures value { Gives (λ x. (val_of x.0, x.1)) result (bytes_in start text.now) }
+    ensures within { IfOk result (λ x. (start.next ≤ x.1) × (x.1 ≤ length text.now)) }
+{
+    let at = skip_space(text, start.next);
+    let (left, next) = read_characters(text, start.next)?;
+    if next == text.len() {
+        return Err(PieceErr::Syntax(next));
+    }
+    let bytes = found_in(alloc, at, left)?;
+    Ok((Value::Bytes(bytes), next))
+}
+
 /// The bytes of a value, and the place of its end tag.
 #[tactic(auto, unfolding(crate::specs::Pieces::bytes_in))]
 fn bytes(alloc: Global, start: Start, text: &[u8]) -> Result<(Value, usize), PieceErr>
@@ -216,11 +247,14 @@ fn bytes(alloc: Global, start: Start, text: &[u8]) -> Result<(Value, usize), Pie
         let bytes = found(alloc, at, &text[start.next..end], in_base64)?;
         return Ok((Value::Bytes(bytes), end));
     }
+    if in_base64 {
+        return decoded_bytes(alloc, start, text);
+    }
     let (words, next) = read_text(alloc, text, start.next)?;
     if next == text.len() {
         return Err(PieceErr::Syntax(next));
     }
-    let bytes = found(alloc, at, words.as_str().as_bytes(), in_base64)?;
+    let bytes = found(alloc, at, words.as_str().as_bytes(), false)?;
     Ok((Value::Bytes(bytes), next))
 }
 

@@ -1,10 +1,12 @@
 pub mod Again
+pub mod Allowed
 pub mod Escapes
 pub mod Forward
 pub mod HeadAgain
 pub mod Moments
 pub mod Names
 pub mod NumberLemmas
+pub mod Passing
 pub mod PlainTags
 pub mod References
 pub mod Runs

@@ -1,10 +1,9 @@
 -- Tags that stand as they are written.
-use Rattle.std.proofs.Common.{◌≡◌, ℕ, ◌+◌, Bool, true, false, List, length, drop, not, Ok, sym, ap, ◌∙◌}
+use Rattle.std.proofs.Common.{◌≡◌, ℕ, ◌+◌, true, false, List, length, drop, not, Ok, sym, ap, ◌∙◌}
 use Rattle.doc_fields.specs.declared.tags.Tag.{Tag}
-use Rattle.doc_fields.specs.declared.starts.Start.{Start}
 use Rattle.doc_fields.specs.declared.starts.Attribute.TheVariants.{Absent}
 use Rattle.doc_fields.specs.EndTag.{end_at}
-use Rattle.doc_fields.specs.Reading.{Read, begins}
+use Rattle.doc_fields.specs.Reading.{begins}
 use Rattle.doc_fields.specs.StartTag.{named_at, rest_at}
 use Rattle.doc_fields.specs.Tags.{is_root, spelled}
 use Rattle.doc_fields.specs.Written.{end_text, start_text}

@@ -1,3 +1,4 @@
+pub mod Characters
 pub mod Declaration
 pub mod EndTag
 pub mod Likely

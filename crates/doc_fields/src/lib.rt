@@ -3,6 +3,7 @@
 #![tactic(auto)]
 
 mod bytes;
+mod characters;
 mod declaration;
 mod errors;
 mod laws;
@@ -15,6 +16,7 @@ mod values;
 mod writing;
 
 pub use bytes::{byte, is_space, skip_space};
+pub use characters::Characters;
 pub use declaration::read_head;
 pub use errors::{FieldErr, Why};
 pub use laws::{
@@ -24,7 +26,7 @@ pub use numbers::read_u64;
 pub use plain_tags::{plain_end, plain_start};
 pub use starts::{Attribute, Start, read_end, read_name, read_rest, read_start};
 pub use tags::{Tag, name_of, tag_of};
-pub use texts::read_text;
+pub use texts::{read_characters, read_text};
 pub use values::{LockState, read_bool, read_letter, read_lock, read_time, read_uuid};
 pub use writing::{
     put_bool, put_end, put_letter, put_lock, put_start, put_text, put_time, put_u64, put_uuid,

@@ -1,8 +1,11 @@
 //! The text of an element.
 
-ghost use Rattle.std.specs.Prelude.{◌≡◌, ◌≤◌, ◌<◌, ◌+◌, ◌^◌, ◌⊎◌, ◌==◌, not, length, drop, take, IfOk, IfSome};
+ghost use Rattle.std.specs.Prelude.{◌≡◌, ◌≤◌, ◌<◌, ◌+◌, ◌^◌, ◌⊎◌, ◌==◌, not, length, drop, take, IfErr, IfOk};
+ghost use Rattle.std.specs.Prelude.{IfSome, List, ℕ, Ok, Err};
 ghost use Rattle.std.specs.Prelude.{string_bytes};
 ghost use Rattle.std.specs.List.{list_all};
+ghost use Rattle.std.specs.Str.{encode_utf8_all};
+ghost use Rattle.doc_fields.specs.Characters.{characters};
 ghost use Rattle.doc_fields.specs.Reading.{Gives, begins, between};
 ghost use Rattle.doc_fields.specs.Space.{run_end};
 ghost use Rattle.doc_fields.specs.Texts.{digit_of, finished, is_allowed, is_cut_number, is_cut_reference, is_simple};
@@ -10,6 +13,7 @@ ghost use Rattle.doc_fields.specs.Texts.{line_feeds, numbered, reference, resolv
 ghost use Rattle.doc_fields.specs.Texts.{unit_at};
 
 use crate::bytes::{begins, syntax};
+use crate::characters::Characters;
 use crate::errors::FieldErr;
 use crate::numbers::is_digit;
 use std::alloc::Global;
@@ -153,7 +157,7 @@ fn is_cut_reference(rest: &[u8]) -> bool
 
 /// The character that one at a place stands for, with the bytes behind it, and how many
 /// characters more that takes. `cut` says that the document ends behind these bytes.
-fn unit(cut: bool, at: usize, c: char, rest: &[u8]) -> Result<(char, usize), FieldErr>
+pub(crate) fn unit(cut: bool, at: usize, c: char, rest: &[u8]) -> Result<(char, usize), FieldErr>
     requires { at + 1 + length rest.now < 2 ^ 64 }
     ensures { result ≡ unit_at cut at c rest.now }
 {
@@ -211,22 +215,12 @@ fn resolve_each(alloc: Global, cut: bool, at: usize, text: &str) -> Result<Text,
     ensures { Gives (λ t. t) result (resolved_text cut at text.now) }
 {
     let mut out = String::new(alloc);
-    let mut place = at;
-    let mut skip = 0;
-    let mut rest = text.chars();
-    while let Some(c) = rest.next() {
-        if skip > 0 {
-            skip -= 1;
-        } else {
-            match unit(cut, place, c, rest.as_str().as_bytes()) {
-                Ok((given, more)) => {
-                    out.push(given)?;
-                    skip = more;
-                }
-                Err(fault) => return Err(fault),
-            }
+    let mut left = Characters::of(cut, at, text);
+    while let Some(taken) = left.next() {
+        match taken {
+            Ok(c) => out.push(c)?,
+            Err(fault) => return Err(fault),
         }
-        place += c.len_utf8();
     }
     Ok(Text::from_string(out))
 }
@@ -282,4 +276,74 @@ pub fn read_text(alloc: Global, text: &[u8], at: usize) -> Result<(Text, usize),
     let end = text_end(text, at);
     let value = run_text(alloc, end == text.len(), at, &text[at..end])?;
     Ok((value, end))
+}
+
+/// Whether each of these characters may stand there.
+fn look_over(left: Characters) -> Result<(), FieldErr>
+    ensures ok { IfOk result (λ _. (cs : List ℕ) × (characters left.entry ≡ Ok cs)) }
+    ensures err { IfErr result (λ e. characters left.entry ≡ Err e) }
+{
+    let mut left = left;
+    while let Some(taken) = left.next() {
+        if let Err(fault) = taken {
+            return Err(fault);
+        }
+    }
+    Ok(())
+}
+
+/// The characters of a text from a place on, each of which may stand there.
+#[tactic(auto, using(crate::proofs::TextSteps::looked_over, crate::proofs::TextSteps::looked_to), unfolding(crate::specs::Texts::resolved_text))]
+fn characters_of<'a>(cut: bool, at: usize, text: &'a str) -> Result<Characters<'a>, FieldErr>
+    requires { at + length text.now < 2 ^ 64 }
+    ensures ok { IfOk result (λ x. (cs : List ℕ) × (characters x ≡ Ok cs)
+        × (resolved_text cut at text.now ≡ Ok (encode_utf8_all cs))) }
+    ensures err { IfErr result (λ e. resolved_text cut at text.now ≡ Err e) }
+{
+    match look_over(Characters::of(cut, at, text)) {
+        Ok(()) => Ok(Characters::of(cut, at, text)),
+        Err(fault) => Err(fault),
+    }
+}
+
+/// The characters of a run of bytes from a place on.
+#[tactic(auto, unfolding(crate::specs::Texts::run_text))]
+fn run_characters<'a>(ended: bool, at: usize, run: &'a [u8]) -> Result<Characters<'a>, FieldErr>
+    requires { at + length run.now < 2 ^ 64 }
+    ensures ok { IfOk result (λ x. (cs : List ℕ) × (characters x ≡ Ok cs)
+        × (run_text ended at run.now ≡ Ok (encode_utf8_all cs))) }
+    ensures err { IfErr result (λ e. run_text ended at run.now ≡ Err e) }
+{
+    let valid = match str::from_utf8(run) {
+        Ok(whole) => return characters_of(ended, at, whole),
+        Err(fault) => fault.valid_up_to(),
+    };
+    let Ok(front) = str::from_utf8(&run[..valid]) else {
+        unreachable!()
+    };
+    match characters_of(false, at, front) {
+        Ok(_) => Err(syntax(at + valid)),
+        Err(fault) => Err(fault),
+    }
+}
+
+/// Looks over the text of an element as [`read_text`] reads it, and gives its characters and the place where it ends.
+/// Takes no memory.
+///
+/// # Errors
+///
+/// Those of [`read_text`] but for want of memory.
+#[tactic(auto, using(crate::proofs::TextSteps::text_read, crate::proofs::TextSteps::text_refused, crate::proofs::Allowed::characters_are_bytes))]
+pub fn read_characters<'a>(text: &'a [u8], at: usize) -> Result<(Characters<'a>, usize), FieldErr>
+    requires { at ≤ length text.now }
+    ensures ok { IfOk result (λ x. (cs : List ℕ) × (characters x.0 ≡ Ok cs)
+        × (text_at text.now at ≡ Ok (encode_utf8_all cs, x.1))) }
+    ensures err { IfErr result (λ e. text_at text.now at ≡ Err e) }
+    ensures within { IfOk result (λ x. (at ≤ x.1) × (x.1 ≤ length text.now)) }
+{
+    let end = text_end(text, at);
+    match run_characters(end == text.len(), at, &text[at..end]) {
+        Ok(characters) => Ok((characters, end)),
+        Err(fault) => Err(fault),
+    }
 }

@@ -1,19 +1,16 @@
-use Rattle.std.proofs.Common.{arith}
-use Rattle.base64.specs.GeneralPurpose.{IsBytes}
-use Rattle.doc_elements.proofs.Base64Blocks.{begun, goes_on, stops}
+use Rattle.std.proofs.Common.{◌≡◌, ◌∙◌, ℕ, List, Option, IfOk, ap, subst}
+use Rattle.std.specs.Option.{option_map}
+use Rattle.doc_elements.specs.Blocks.{behind}
+use Rattle.doc_elements.proofs.Base64Blocks.{decodes_all, decodes_none}
 use Rattle.doc_elements.proofs.encodings.decode.Goals as goal
-
-pub loop-byte-init : goal.loop-byte-init
-loop-byte-init c = begun c.args.text.now c.in_ok-out.out.items c.in_ok-block.block.items c.in_ok-out.ensures.items c.in_ok-block.ensures.items
 
 pub returns-then-not-branch : goal.returns-then-not-branch
 returns-then-not-branch c =
-    let bytes : IsBytes c.args.text.now = λ i. let fits = c.type_inv.text i in omega arith in
-    stops c.args.text.now c.loop-byte.out.items c.loop-byte.block.items c.take_byte.new.out.items c.take_byte.new.block.items c.loop-byte.byte-index c.in_ok-take_byte.field-0
-    c.loop-byte.invariant c.loop-byte-test.true bytes (c.in_ok-take_byte.ensures {u = tt}) c.if-not-branch.true
+    decodes_none c.args.text.now c.in_ok-out.out.items c.in_ok-block.block.items c.take_bytes.new.out.items c.take_bytes.new.block.items c.in_ok-take_bytes.field-0 c.in_ok-out.ensures.items c.in_ok-block.ensures.items
+    (c.in_ok-take_bytes.ensures {u = tt}) c.if-not-branch.true
 
-pub loop-byte-preserved : goal.loop-byte-preserved
-loop-byte-preserved c =
-    let bytes : IsBytes c.args.text.now = λ i. let fits = c.type_inv.text i in omega arith in
-    goes_on c.args.text.now c.loop-byte.out.items c.loop-byte.block.items c.take_byte.new.out.items c.take_byte.new.block.items c.loop-byte.byte-index c.in_ok-take_byte.field-0
-    c.loop-byte.invariant c.loop-byte-test.true bytes (c.in_ok-take_byte.ensures {u = tt}) c.if-not-branch.false
+pub returns : goal.returns
+returns c =
+    let all = decodes_all c.args.text.now c.in_ok-out.out.items c.in_ok-block.block.items c.take_bytes.new.out.items c.take_bytes.new.block.items c.in_ok-take_bytes.field-0 c.in_ok-out.ensures.items c.in_ok-block.ensures.items
+    (c.in_ok-take_bytes.ensures {u = tt}) c.if-not-branch.false in
+    subst (λ (o : Option (List ℕ)). IfOk c.take_last.result (λ v. option_map (λ b. b.items) v ≡ o)) (ap (behind c.take_bytes.new.out.items) c.as_slice.ensures.value ∙ all) c.take_last.ensures
