@@ -1,9 +1,9 @@
 -- Base64 is decoded from the characters of a text.
-use Rattle.std.proofs.Common.{◌≡◌, ℕ, Bool, true, false, List, [], ◌∷◌, ◌++◌, Option, Some, None, Result, Ok, Err, refl, sym, ap, ◌∙◌, subst, append-nil, append_assoc, if◌then◌else◌}
+use Rattle.std.proofs.Common.{◌≡◌, ℕ, Bool, true, false, List, [], ◌∷◌, ◌++◌, Some, None, Ok, Err, refl, sym, ap, ◌∙◌, append-nil, if◌then◌else◌}
 use Rattle.std.specs.Char.{encode_utf8}
 use Rattle.std.specs.Str.{encode_utf8_all}
 use Rattle.base64.specs.Engines.{standard}
-use Rattle.base64.specs.GeneralPurpose.{IsBytes, decoded_of}
+use Rattle.base64.specs.GeneralPurpose.{decoded_of}
 use Rattle.doc_fields.specs.declared.errors.FieldErr.{FieldErr}
 use Rattle.doc_fields.specs.Characters.{IsTaken, Left, characters}
 use Rattle.doc_fields.specs.Reading.{Read}

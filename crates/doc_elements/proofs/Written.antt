@@ -1,10 +1,9 @@
 -- A document that is written round its elements is spelled.
-use Rattle.std.proofs.Common.{◌≡◌, ℕ, ◌+◌, true, List, [], ◌∷◌, ◌++◌, length, drop, Ok, IsUtf8, refl, sym, ap, subst, ◌∙◌, arith, length-append, append-nil}
+use Rattle.std.proofs.Common.{◌≡◌, ℕ, ◌+◌, true, List, [], ◌++◌, length, drop, Ok, IsUtf8, refl, sym, ap, subst, ◌∙◌, arith, length-append, append-nil}
 use Rattle.std.proofs.lemmas.Str.{IsUtf8-append}
 use Rattle.doc_fields.specs.declared.tags.Tag.TheVariants.{LtfsLabel, LtfsIndex}
 use Rattle.doc_fields.specs.declared.starts.Attribute.TheVariants.{Version}
 use Rattle.doc_fields.specs.Space.{space_end}
-use Rattle.doc_fields.specs.Tags.{spelled}
 use Rattle.doc_fields.specs.Written.{end_text, start_text}
 use Rattle.doc_fields.proofs.Again.{next_is, space_again}
 use Rattle.doc_fields.proofs.HeadAgain.{head_again}

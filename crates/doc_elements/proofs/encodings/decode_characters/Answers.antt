@@ -1,11 +1,7 @@
-use Rattle.std.proofs.Common.{◌≡◌, ◌∙◌, ℕ, List, Option, Some, Ok, Result, IfOk, ap, subst}
-use Rattle.std.specs.Option.{option_map}
-use Rattle.std.specs.Str.{encode_utf8_all}
+use Rattle.std.proofs.Common.{◌∙◌, ℕ, Some, Result, subst}
 use Rattle.doc_fields.specs.declared.errors.FieldErr.{FieldErr}
 use Rattle.doc_fields.specs.Characters.{IsTaken, characters}
-use Rattle.doc_elements.specs.Blocks.{behind}
-use Rattle.doc_elements.specs.Pieces.{from_base64}
-use Rattle.doc_elements.proofs.Base64Characters.{decoding_begins, decoding_ends, decoding_goes_on, decoding_stops}
+use Rattle.doc_elements.proofs.Base64Characters.{decoding_begins, decoding_goes_on, decoding_stops}
 use Rattle.doc_elements.proofs.encodings.decode_characters.Goals as goal
 
 pub loop-taken-init : goal.loop-taken-init
