@@ -7,101 +7,45 @@ use Rattle.turn_lock.specs.Sums.{times}
 use Rattle.turn_lock.specs.Histories.{longer}
 
 module _ {M F : Type 0} where
-  -- with no ticket, these numbers, this history seen
-  abbrev pub calm : ℕ → List ℕ → List M → F → Knowledge M F
-  calm seats ns seen f = record {
-    ticket = None;
-    served = false;
-    numbers = ns;
+  -- a seat alone, with nothing of another one beside its own
+  abbrev pub alone : (ticket : Option ℕ) (served : Bool) (numbers : List ℕ) (seen : List M) (seats : ℕ) (fixed : Option F) → Knowledge M F
+  alone ticket served numbers seen seats fixed = record {
+    ticket = ticket;
+    served = served;
+    numbers = numbers;
     seen = seen;
     joined_numbers = [];
     joined_seen = [];
     joined_fixed = None;
     seats = seats;
-    fixed = Some f;
+    fixed = fixed;
   }
+
+  -- with no ticket, these numbers, this history seen
+  abbrev pub calm : ℕ → List ℕ → List M → F → Knowledge M F
+  calm seats ns seen f = alone None false ns seen seats (Some f)
 
   -- what is left of a seat that was joined to another
   abbrev pub spent : Knowledge M F
-  spent = record {
-    ticket = None;
-    served = false;
-    numbers = [];
-    seen = [];
-    joined_numbers = [];
-    joined_seen = [];
-    joined_fixed = None;
-    seats = 0;
-    fixed = None;
-  }
+  spent = alone None false [] [] 0 None
 
   -- with the ticket n
   abbrev pub drew : Knowledge M F → ℕ → Knowledge M F
-  drew v n = record {
-    ticket = Some n;
-    served = false;
-    numbers = v.numbers;
-    seen = v.seen;
-    joined_numbers = [];
-    joined_seen = [];
-    joined_fixed = None;
-    seats = v.seats;
-    fixed = v.fixed;
-  }
+  drew v n = alone (Some n) false v.numbers v.seen v.seats v.fixed
 
   -- with its ticket served, and the whole history seen
   abbrev pub in_turn : Knowledge M F → List M → Knowledge M F
-  in_turn v whole = record {
-    ticket = v.ticket;
-    served = true;
-    numbers = v.numbers;
-    seen = whole;
-    joined_numbers = [];
-    joined_seen = [];
-    joined_fixed = None;
-    seats = v.seats;
-    fixed = v.fixed;
-  }
+  in_turn v whole = alone v.ticket true v.numbers whole v.seats v.fixed
 
   -- with no ticket any more
   abbrev pub ended : Knowledge M F → Knowledge M F
-  ended v = record {
-    ticket = None;
-    served = false;
-    numbers = v.numbers;
-    seen = v.seen;
-    joined_numbers = [];
-    joined_seen = [];
-    joined_fixed = None;
-    seats = v.seats;
-    fixed = v.fixed;
-  }
+  ended v = alone None false v.numbers v.seen v.seats v.fixed
 
   abbrev pub without_last : Knowledge M F → Knowledge M F
-  without_last v = record {
-    ticket = None;
-    served = false;
-    numbers = take (length v.numbers - 1) v.numbers;
-    seen = v.seen;
-    joined_numbers = [];
-    joined_seen = [];
-    joined_fixed = None;
-    seats = v.seats;
-    fixed = v.fixed;
-  }
+  without_last v = alone None false (take (length v.numbers - 1) v.numbers) v.seen v.seats v.fixed
 
   abbrev pub last_alone : Knowledge M F → Knowledge M F
-  last_alone v = record {
-    ticket = None;
-    served = false;
-    numbers = drop (length v.numbers - 1) v.numbers;
-    seen = v.seen;
-    joined_numbers = [];
-    joined_seen = [];
-    joined_fixed = None;
-    seats = v.seats;
-    fixed = v.fixed;
-  }
+  last_alone v = alone None false (drop (length v.numbers - 1) v.numbers) v.seen v.seats v.fixed
 
   -- the other's numbers and history beside its own, and what that one knew of the part that stays
   abbrev pub beside : Knowledge M F → Knowledge M F → Knowledge M F
@@ -119,17 +63,7 @@ module _ {M F : Type 0} where
 
   -- the numbers of both, and the longer history
   abbrev pub merged : Knowledge M F → Knowledge M F
-  merged v = record {
-    ticket = None;
-    served = false;
-    numbers = v.numbers ++ v.joined_numbers;
-    seen = longer v.seen v.joined_seen;
-    joined_numbers = [];
-    joined_seen = [];
-    joined_fixed = None;
-    seats = v.seats;
-    fixed = v.fixed;
-  }
+  merged v = alone None false (v.numbers ++ v.joined_numbers) (longer v.seen v.joined_seen) v.seats v.fixed
 
   -- the same but for its numbers
   pub record SameBut (v w : Knowledge M F) : Type 0 where
