@@ -47,7 +47,7 @@ block_read (Some (Block d)) answer buf b read is = let same : d ≡ b = cc is in
 pub after_block_read : (answer : Got) (at : Place) → answer ≡ got.Block → after_read answer at ≡ next at
 after_block_read answer at is = subst (λ (a : Got). after_read a at ≡ next at) (sym is) refl
 
-concat_more : (bs : List (List ℕ)) (n : ℕ) (b : List ℕ) → slice_get bs n ≡ Some b → concat (take (suc n) bs) ≡ concat (take n bs) ++ b
+pub concat_more : (bs : List (List ℕ)) (n : ℕ) (b : List ℕ) → slice_get bs n ≡ Some b → concat (take (suc n) bs) ≡ concat (take n bs) ++ b
 concat_more [] n b is = absurd (cc is)
 concat_more (x ∷ bs) zero b is = let same : x ≡ b = cc is in append_nil x ∙ same
   where
@@ -201,7 +201,7 @@ document_told : (items : List Item) (place : Construct) (blocks : ℕ) (document
 document_told items place blocks document known count read = λ newer k older are same.
     read k.blocks
     (omega (arith, count, ap (λ (p : Construct). p.first) same, ap (λ (p : Construct). p.after) same))
-    (subst (λ (n : ℕ). StandAt items n k.blocks) (ap (λ (p : Construct). p.first) same) (index_stands items newer k older known.form are))
+    (subst (λ (n : ℕ). StandAt items n k.blocks) (ap (λ (p : Construct). p.first) same) (index_stands items newer k older known.form are).stand)
 
 -- the document was read
 pub document_step : {D : Type 0} (drive : Ghosts D) (start : Start) (a b d : D) (part : Part) (place : Construct) (blocks : ℕ) (same : Bool)

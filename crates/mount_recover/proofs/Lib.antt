@@ -1,5 +1,6 @@
 pub mod ChoiceLemmas
 pub mod DocumentLemmas
+pub mod EndingLemmas
 pub mod ExtentLemmas
 pub mod FlagLemmas
 pub mod LabelKept
@@ -9,6 +10,8 @@ pub mod LastLemmas
 pub mod LetterRanges
 pub mod MountLemmas
 pub mod MountedTree
+pub mod NoteLemmas
+pub mod NotedLemmas
 pub mod PointerLemmas
 pub mod ReadLemmas
 pub mod ScanLemmas

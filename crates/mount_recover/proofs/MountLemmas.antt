@@ -81,7 +81,7 @@ first_last None [] is = refl
 first_last None (k ∷ older) is = absurd (cc is)
 first_last (Some l) ks is = sym (block_of l ks is)
 
-ends_same : (items : List Item) (last : Option Last) (ks : List readings.Construct) → place_in last ≡ newest ks
+pub ends_same : (items : List Item) (last : Option Last) (ks : List readings.Construct) → place_in last ≡ newest ks
     → EndsAs items (standing_of last) ↔ EndsWithLast items ks
 ends_same items None [] is = ((λ ends. ends), λ ends. ends)
 ends_same items None (k ∷ older) is = absurd (cc is)

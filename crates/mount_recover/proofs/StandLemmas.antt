@@ -1,5 +1,5 @@
 -- Where the blocks of the indexes of a partition stand.
-use Rattle.std.proofs.Common.{ℕ, zero, suc, ◌+◌, ◌-◌, ◌≤◌, ◌≡◌, List, [], ◌∷◌, ◌++◌, length, map, reverse, drop, slice_get, Option, Some, sym, ◌∙◌, ap, subst, arith}
+use Rattle.std.proofs.Common.{ℕ, zero, suc, ◌+◌, ◌-◌, ◌≤◌, ◌≡◌, List, [], ◌∷◌, ◌++◌, length, map, reverse, drop, slice_get, Option, Some, refl, sym, ◌∙◌, ap, subst, arith}
 use Rattle.std.specs.List.{AllByRecursion, flat_map}
 use Rattle.std.proofs.lemmas.List.{append_assoc, length-map, reverse-append, reverse-reverse}
 use Rattle.std.proofs.lemmas.Option.{slice_get-map}
@@ -11,7 +11,7 @@ use Rattle.content_laws.specs.Content.{content}
 use Rattle.content_laws.specs.Content as content
 use Rattle.content_laws.proofs.ReadForms.{form}
 use Rattle.cartridge_meaning.specs.Pointers.{indexes_of}
-use Rattle.mount_recover.specs.Lasts.{StandAt}
+use Rattle.mount_recover.specs.Noted.{IsIndexAt}
 
 -- an item of a list stands in it also where it is a part of a longer list
 get_front : (items : List Item) (i : ℕ) (x : Item) → slice_get (front items) i ≡ Some x → slice_get items i ≡ Some x
@@ -48,28 +48,52 @@ get_before [] ys i x is = absurd (cc is)
 get_before (y ∷ xs) ys zero x is = is
 get_before (y ∷ xs) ys (suc i) x is = get_before xs ys i x is
 
--- the blocks of an index stand from its first on
+-- an index stands there, its opening mark counted from the first of these items
 abbrev IsStood : ℕ → List Item → Construct → Type 0
-IsStood at items k = (at ≤ k.mark) × StandAt items (k.mark + 1 - at) k.blocks
+IsStood at items k = (at ≤ k.mark) × IsIndexAt items (k.mark - at) k.blocks
 
 in_group : (g : Group) (rest : List Item) (at : ℕ) → IsStood at (items_of_group g ++ rest) (record { mark = at + length g.data_blocks; blocks = g.index_blocks })
-in_group g rest at = (omega arith, stand)
+in_group g rest at = (
+  omega arith,
+  record {
+    opens = there 0 Mark refl (at + length g.data_blocks - at) (omega arith);
+    stand = λ i b is.
+        let block : slice_get (map Block g.index_blocks) i ≡ Some (Block b) = slice_get-map Block g.index_blocks i ∙ ap (λ (o : Option (List ℕ)). option_map Block o) is in
+        there (suc i) (Block b) (get_before (map Block g.index_blocks) (Mark ∷ []) i (Block b) block) (at + length g.data_blocks - at + 1 + i) (omega arith);
+    closes =
+        there (suc (length (map Block g.index_blocks) + 0)) Mark (get_behind (map Block g.index_blocks) (Mark ∷ []) 0 Mark refl)
+        (at + length g.data_blocks - at + 1 + length g.index_blocks) (omega (arith, length-map g.index_blocks Block));
+  },
+)
   where
     behind : List Item
     behind = map Block g.index_blocks ++ Mark ∷ []
 
-    stand : StandAt (items_of_group g ++ rest) (at + length g.data_blocks + 1 - at) g.index_blocks
-    stand i b is =
-        let block : slice_get (map Block g.index_blocks) i ≡ Some (Block b) = slice_get-map Block g.index_blocks i ∙ ap (λ (o : Option (List ℕ)). option_map Block o) is in
-        let marked : slice_get (Mark ∷ behind) (suc i) ≡ Some (Block b) = get_before (map Block g.index_blocks) (Mark ∷ []) i (Block b) block in
-        let all = get_before (items_of_group g) rest _ (Block b) (get_behind (map Block g.data_blocks) (Mark ∷ behind) (suc i) (Block b) marked) in
-        subst (λ (k : ℕ). slice_get (items_of_group g ++ rest) k ≡ Some (Block b)) (omega (arith, length-map g.data_blocks Block)) all
+    there : (i : ℕ) (x : Item) → slice_get (Mark ∷ behind) i ≡ Some x → (k : ℕ) → length g.data_blocks + i ≡ k
+        → slice_get (items_of_group g ++ rest) k ≡ Some x
+    there i x is k same =
+        let all = get_before (items_of_group g) rest _ x (get_behind (map Block g.data_blocks) (Mark ∷ behind) i x is) in
+        subst (λ (n : ℕ). slice_get (items_of_group g ++ rest) n ≡ Some x) (omega (arith, same, length-map g.data_blocks Block)) all
+
+-- an index of a part of a list stands in the whole list
+further : (items others : List Item) (mark other : ℕ) (blocks : List (List ℕ))
+    → ((i k : ℕ) (x : Item) → mark + i ≡ k → slice_get items k ≡ Some x → slice_get others (other + i) ≡ Some x) → IsIndexAt items mark blocks → IsIndexAt others other blocks
+further items others mark other blocks moves s = record {
+  opens = at 0 other Mark (omega arith) (moves 0 mark Mark (omega arith) s.opens);
+  stand = λ i b is. at (1 + i) (other + 1 + i) (Block b) (omega arith) (moves (1 + i) (mark + 1 + i) (Block b) (omega arith) (s.stand i b is));
+  closes = at (1 + length blocks) (other + 1 + length blocks) Mark (omega arith) (moves (1 + length blocks) (mark + 1 + length blocks) Mark (omega arith) s.closes);
+}
+  where
+    at : (i k : ℕ) (x : Item) → other + i ≡ k → slice_get others (other + i) ≡ Some x → slice_get others k ≡ Some x
+    at i k x same is = subst (λ (n : ℕ). slice_get others n ≡ Some x) same is
 
 moved : (xs rest : List Item) (at : ℕ) (k : Construct) → IsStood (at + length xs) rest k → IsStood at (xs ++ rest) k
 moved xs rest at k s = (
   omega (arith, s.0),
-  λ i b is.
-      subst (λ (n : ℕ). slice_get (xs ++ rest) n ≡ Some (Block b)) (omega (arith, s.0)) (get_behind xs rest _ (Block b) (s.1 i b is)),
+  further rest (xs ++ rest) (k.mark - (at + length xs)) (k.mark - at) k.blocks
+      (λ i n x same is.
+      subst (λ (m : ℕ). slice_get (xs ++ rest) m ≡ Some x) (omega (arith, s.0, same)) (get_behind xs rest n x is))
+      s.1,
 )
 
 all_moved : (xs rest : List Item) (at : ℕ) (ks : List Construct) → AllByRecursion (IsStood (at + length xs) rest) ks → AllByRecursion (IsStood at (xs ++ rest)) ks
@@ -101,13 +125,16 @@ one_of_all P ks newer k older is all =
     within [] ys both = both.0
     within (x ∷ xs) ys both = within xs ys both.1
 
--- the blocks of an index of a partition stand there
+-- each index of a partition stands there
 pub index_stands : (items : List Item) (newer : List Construct) (k : Construct) (older : List Construct) → HasForm items
-    → indexes_of items ≡ newer ++ k ∷ older → StandAt items (first_of k) k.blocks
-index_stands items newer k older f is = λ i b at.
-    subst (λ (n : ℕ). slice_get items n ≡ Some (Block b)) (omega (arith, stood.0))
-    (get_front items _ (Block b) (get_drop 4 (front items) _ (Block b)
-    (subst (λ (l : List Item). slice_get l (k.mark + 1 - 4 + i) ≡ Some (Block b)) (sym f.spelled) (stood.1 i b at))))
+    → indexes_of items ≡ newer ++ k ∷ older → IsIndexAt items k.mark k.blocks
+index_stands items newer k older f is =
+    further (flat_map items_of_group f.groups ++ items_of_tail f.lead f.begun) items (k.mark - 4) k.mark k.blocks
+    (λ i n x same at.
+    subst (λ (m : ℕ). slice_get items m ≡ Some x) (omega (arith, stood.0, same))
+    (get_front items _ x (get_drop 4 (front items) n x
+    (subst (λ (l : List Item). slice_get l n ≡ Some x) (sym f.spelled) at))))
+    stood.1
   where
     ordered : constructs_from 4 f.groups ≡ reverse (newer ++ k ∷ older)
     ordered =

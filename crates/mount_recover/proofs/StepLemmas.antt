@@ -9,7 +9,9 @@ use Rattle.tape_drive.specs.declared.drive.Drive.{Ghosts}
 use Rattle.tape_drive.proofs.Looking.{more_looks, no_looks, then_looks}
 use Rattle.cartridge_meaning.specs.declared.errors.MountErr.{MountErr}
 use Rattle.mount_recover.specs.Labels.{AreCounts}
-use Rattle.mount_recover.specs.Steps.{IsSince, IsStep}
+use Rattle.tape_types.specs.Counts.{Rose}
+use Rattle.cartridge_meaning.specs.declared.errors.MountErr.TheVariants as errors
+use Rattle.mount_recover.specs.Steps.{IsFree, IsSince, IsStep, IsStepBy}
 use Rattle.mount_recover.specs.declared.starts.Start.{Start}
 
 ok_then : {T E : Type 0} (r : Result T E) {P Q : T → Type 0} → IfOk r P → ((x : T) → P x → Q x) → IfOk r Q
@@ -196,6 +198,79 @@ module _ {D : Type 0} (drive : Ghosts D) (start : Start) where
       told : (o : Option Cartridge) → ((c : Cartridge) → o ≡ Some c → P c) → IfSome o P
       told None holds = tt
       told (Some c) holds = holds c refl
+
+  -- ---- with a bound by what a drive tells
+
+  pub by_step : {T : Type 0} {m n : ℕ} {By : Cartridge → ℕ → Type 0} {a b : D} {F : T → Cartridge → Type 0} {A : T → Type 0} {R : MountErr → Cartridge → Type 0}
+      {r : Result T MountErr} → m ≤ n → IsStep drive start m a b F A R r → ((c : Cartridge) → drive.held a ≡ Some c → By c m) → IsStepBy drive start n By a b F A R r
+  by_step {m = m} le step by = record { count = m; step = step; most_is = le; by = by }
+
+  -- a step whose result is told by its cases
+  pub by_is : {T : Type 0} {m : ℕ} {By : Cartridge → ℕ → Type 0} {a b : D} {F : T → Cartridge → Type 0} {A : T → Type 0} {R : MountErr → Cartridge → Type 0}
+      {x y : T} → x ≡ y → IsStepBy drive start m By a b F A R (Ok x) → IsStepBy drive start m By a b F A R (Ok y)
+  by_is {m = m} {By = By} {a = a} {b = b} {F = F} {A = A} {R = R} is step = subst (λ z. IsStepBy drive start m By a b F A R (Ok z)) is step
+
+  -- a drive that failed
+  pub failed_by : {T : Type 0} {m n : ℕ} {By : Cartridge → ℕ → Type 0} {a b : D} {F : T → Cartridge → Type 0} {A : T → Type 0} {e : MountErr}
+      → m ≤ n → IsSince drive start a → Looks drive (m * drive.MOST) a b → drive.faults a ≤ drive.faults b
+      → Rose (drive.faults a) (drive.faults b) → e ≡ errors.Drive (record { before = start.faults; after = drive.faults b })
+      → ((c : Cartridge) → drive.held a ≡ Some c → By c m) → IsStepBy drive start n By a b F A IsFree (Err e)
+  failed_by {m = m} {b = b} le since looks later rose is by =
+      by_step le
+      (free_step (omega arith) since looks later
+      (subst (AreCounts start.faults (drive.faults b)) (sym is) (refl, refl, omega (arith, since.faults, rose)))
+      (λ c. subst (λ (x : MountErr). IsFree x c) (sym is) tt))
+      by
+
+  -- a step after one that was done
+  pub by_then : {T U : Type 0} {m n : ℕ} {By More All : Cartridge → ℕ → Type 0} {a b d : D} {F : T → Cartridge → Type 0} {A : T → Type 0} {R S V : MountErr → Cartridge → Type 0}
+      {G H : U → Cartridge → Type 0} {B C : U → Type 0} {x : T} {r : Result U MountErr}
+      → IsStepBy drive start m By a b F A R (Ok x) → IsStepBy drive start n More b d G B S r
+      → ((c : Cartridge) → drive.held a ≡ Some c → F x c → (y : U) → G y c → H y c) → (A x → (y : U) → B y → C y)
+      → ((c : Cartridge) → drive.held a ≡ Some c → F x c → (e : MountErr) → S e c → V e c)
+      → ((c : Cartridge) → drive.held a ≡ Some c → F x c → (i k : ℕ) → By c i → More c k → All c (i + k)) → IsStepBy drive start (m + n) All a d H C V r
+  by_then first second finds holds refuses counts = record {
+    count = first.count + second.count;
+    step = then_step first.step second.step finds holds refuses;
+    most_is = omega (arith, first.most_is, second.most_is);
+    by = λ c h. counts c h (first.step.found c h) first.count second.count (first.by c h) (second.by c (first.step.looks.held ∙ h));
+  }
+
+  -- a step that refuses, and so all that stands on it does
+  pub by_stops : {T U : Type 0} {m n : ℕ} {By All : Cartridge → ℕ → Type 0} {a b : D} {F : T → Cartridge → Type 0} {A : T → Type 0} {R V : MountErr → Cartridge → Type 0}
+      {H : U → Cartridge → Type 0} {C : U → Type 0} {e : MountErr} → m ≤ n → IsStepBy drive start m By a b F A R (Err e)
+      → ((c : Cartridge) → drive.held a ≡ Some c → R e c → V e c) → ((c : Cartridge) → drive.held a ≡ Some c → (i : ℕ) → By c i → All c i)
+      → IsStepBy drive start n All a b H C V (Err e)
+  by_stops le step refuses counts = record {
+    count = step.count;
+    step = stops (omega arith) step.step refuses;
+    most_is = omega (arith, le, step.most_is);
+    by = λ c h. counts c h step.count (step.by c h);
+  }
+
+  -- what is made of what a step has found
+  pub by_found : {T U : Type 0} {m n : ℕ} {By All : Cartridge → ℕ → Type 0} {a b : D} {F : T → Cartridge → Type 0} {A : T → Type 0} {R V : MountErr → Cartridge → Type 0}
+      {H : U → Cartridge → Type 0} {C : U → Type 0} {x : T} {y : U} → m ≤ n → IsStepBy drive start m By a b F A R (Ok x)
+      → ((c : Cartridge) → drive.held a ≡ Some c → F x c → H y c) → (A x → C y)
+      → ((c : Cartridge) → drive.held a ≡ Some c → F x c → (i : ℕ) → By c i → All c i) → IsStepBy drive start n All a b H C V (Ok y)
+  by_found le step finds holds counts = record {
+    count = step.count;
+    step = found_after step.step finds holds;
+    most_is = omega (arith, le, step.most_is);
+    by = λ c h. counts c h (step.step.found c h) step.count (step.by c h);
+  }
+
+  -- memory that was refused after a step
+  pub by_refused : {T U : Type 0} {m n : ℕ} {By All : Cartridge → ℕ → Type 0} {a b : D} {F : T → Cartridge → Type 0} {A : T → Type 0} {R V : MountErr → Cartridge → Type 0}
+      {H : U → Cartridge → Type 0} {C : U → Type 0} {x : T} → m ≤ n → IsStepBy drive start m By a b F A R (Ok x)
+      → ((c : Cartridge) → V errors.NoMemory c)
+      → ((c : Cartridge) → drive.held a ≡ Some c → F x c → (i : ℕ) → By c i → All c i) → IsStepBy drive start n All a b H C V (Err errors.NoMemory)
+  by_refused le step refuses counts = record {
+    count = step.count;
+    step = refused_after step.step tt (λ c h found. refuses c);
+    most_is = omega (arith, le, step.most_is);
+    by = λ c h. counts c h (step.step.found c h) step.count (step.by c h);
+  }
 
 -- what is known where a drive tells its cartridge
 pub at_told : (P : Cartridge → Type 0) {o : Option Cartridge} {c : Cartridge} → o ≡ Some c → IfSome o P → P c

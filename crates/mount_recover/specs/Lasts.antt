@@ -22,6 +22,7 @@ use Rattle.index_model.specs.Values.{IndexValue, Tells}
 use Rattle.index_model.specs.declared.errors.IndexErr.{IndexErr}
 use Rattle.index_model.specs.declared.errors.IndexErr.TheVariants as index_errors
 use Rattle.index_model.specs.declared.indexes.Index.{Index}
+use Rattle.index_model.specs.declared.indexes.Spot.{Spot}
 use Rattle.index_model.specs.declared.nodes.Node.{Node}
 use Rattle.index_model.specs.declared.nodes.RawExtent.{RawExtent}
 use Rattle.ltfs_label.specs.declared.Label.{Label}
@@ -189,9 +190,13 @@ pub record IsKnownIp (labels : Labels) (place : Construct) (dps : List Construct
   pub dps_are : dps ≡ map places_of (reverse (indexes_of c.dp))
   pub dp_last : IsLastOnDp labels.ip (indexes_of c.dp) on_dp
 
+-- an index with other pointers
+abbrev pub pointed : Index → (here back : Spot) → Index
+pointed index here back = record index { here = here; back = Some back }
+
 -- an index with the pointers of another that is like it
 abbrev pub twin_of : Index → Twin → Index
-twin_of index twin = record index { here = twin.here; back = Some twin.back }
+twin_of index twin = pointed index twin.here twin.back
 
 -- a text in memory is the one that is written of an index
 pub record IsTextOf (index : Index) (text : List ℕ) : Type 0 where

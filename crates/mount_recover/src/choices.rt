@@ -1,16 +1,17 @@
 //! The index for which a cartridge stands.
 
-ghost use Rattle.std.specs.Prelude.{◌≡◌, ℕ, None, Some, IfOk, IfErr, IfSome, IfNone, MatchOption};
+ghost use Rattle.std.specs.Prelude.{◌≡◌, ◌⊎◌, ℕ, None, Some, IfOk, IfErr, IfSome, IfNone, MatchOption};
 ghost use Rattle.tape_types.specs.declared.cartridges.Cartridge.{Cartridge};
 ghost use Rattle.tape_types.specs.declared.cartridges.Limits.{Limits as LimitsOf};
-ghost use Rattle.mount_recover.specs.Lasts.{AreInPlaces, AreLasts, AreSoundLasts, HasNone, IsChosen, IsDecided};
-ghost use Rattle.mount_recover.specs.Lasts.{IsPicked, IsScan, IsSoundChoice};
+ghost use Rattle.mount_recover.specs.Lasts.{AreLasts, AreSoundLasts, HasNone, IsChosen, IsDecided};
+ghost use Rattle.mount_recover.specs.Lasts.{IsPicked, IsSoundChoice};
+ghost use Rattle.mount_recover.specs.Noted.{AreEndsBy, AreEndsOf, AreEndsWithin};
 ghost use Rattle.mount_recover.specs.Lasts.{IsFirstOutside, IsIpEnd, dp_ends, dp_in, ip_in, standing_of};
 ghost use Rattle.mount_recover.specs.Labels.{AreCounts};
 ghost use Rattle.std.specs.List.{AllByRecursion};
-ghost use Rattle.cartridge_meaning.specs.Meaning.{FitsNode};
+ghost use Rattle.cartridge_meaning.specs.Faults.{MountFault};
+ghost use Rattle.cartridge_meaning.specs.Meaning.{FitsNode, HasForms};
 ghost use Rattle.cartridge_meaning.specs.declared.errors.MountErr.TheVariants as errors;
-ghost use Rattle.mount_recover.specs.Steps.{Blames};
 
 use crate::extents::{Ends, first_outside};
 use crate::lasts::{Last, Lasts};
@@ -41,16 +42,16 @@ pub struct Choice {
 }
 
 /// The index of the greater generation, that of the data partition on a tie, where its extents lie before the ends.
-pub fn decide(labels: &Labels, scans: &Scans, lasts: Lasts) -> Result<Choice, MountErr>
-    ensures found { IfOk result (λ choice. (c : Cartridge) → IsScan labels.now scans.now c
+pub fn decide(labels: &Labels, ends: Ends, lasts: Lasts) -> Result<Choice, MountErr>
+    ensures found { IfOk result (λ choice. (c : Cartridge) → HasForms c labels.now → AreEndsOf c ends
         → AreLasts labels.now.ip lasts c → IsDecided labels.now lasts choice c) }
-    ensures refused { IfErr result (λ e. (c : Cartridge) → IsScan labels.now scans.now c
-        → AreLasts labels.now.ip lasts c → Blames e c) }
-    ensures any { IfOk result (λ choice. (limits : LimitsOf) → AreInPlaces limits scans.now
+    ensures refused { IfErr result (λ e. (c : Cartridge) → HasForms c labels.now → AreEndsOf c ends
+        → AreLasts labels.now.ip lasts c → MountFault c e) }
+    ensures any { IfOk result (λ choice. (limits : LimitsOf) → AreEndsWithin limits (standing_of (dp_in lasts)) ends
         → AreSoundLasts labels.now.ip limits lasts → IsSoundChoice labels.now.ip limits choice) }
     ensures counts { IfErr result (λ e. (before now : ℕ) → AreCounts before now e) }
 {
-    match choose(scans, lasts) {
+    match choose(ends, lasts) {
         None => Err(MountErr::NoIndex),
         Some(choice) => check(&labels.ip, choice),
     }
@@ -69,16 +70,11 @@ fn check(label: &Label, choice: Choice) -> Result<Choice, MountErr>
     }
 }
 
-fn choose(scans: &Scans, lasts: Lasts) -> Option<Choice>
+fn choose(ends: Ends, lasts: Lasts) -> Option<Choice>
     ensures chosen { MatchOption result (HasNone lasts) (IsChosen lasts) }
-    ensures ip { IfSome result (λ choice. IsIpEnd scans.now.ip (standing_of (ip_in lasts)) choice.ends.ip) }
-    ensures dp { IfSome result (λ choice. choice.ends.dp ≡ dp_ends (standing_of (dp_in lasts))) }
+    ensures ends { IfSome result (λ choice. choice.ends ≡ ends) }
 {
     let (ip, dp) = standings(&lasts);
-    let ends = Ends {
-        ip: end_of_ip(&scans.ip, ip),
-        dp: end_of_dp(dp),
-    };
     match pick(lasts) {
         None => None,
         Some((last, part)) => Some(Choice {
@@ -91,6 +87,40 @@ fn choose(scans: &Scans, lasts: Lasts) -> Option<Choice>
             dp,
             ends,
         }),
+    }
+}
+
+/// Where the next item of each partition goes, of which this was scanned.
+pub fn ends_scanned(scans: &Scans, lasts: &Lasts) -> Ends
+    ensures ip { IsIpEnd scans.now.ip (standing_of (ip_in lasts.now)) result.ip }
+    ensures dp { result.dp ≡ dp_ends (standing_of (dp_in lasts.now)) }
+{
+    let (ip, dp) = standings(lasts);
+    Ends {
+        ip: end_of_ip(&scans.ip, ip),
+        dp: end_of_dp(dp),
+    }
+}
+
+/// Where the next item of each partition goes, where both end with these indexes.
+pub fn ends_noted(lasts: &Lasts) -> Option<Ends>
+    ensures some { IfSome result (AreEndsBy (standing_of (ip_in lasts.now)) (standing_of (dp_in lasts.now))) }
+    ensures none { IfNone result ((standing_of (ip_in lasts.now) ≡ None) ⊎ (standing_of (dp_in lasts.now) ≡ None)) }
+{
+    let (ip, dp) = standings(lasts);
+    ends_by(ip, dp)
+}
+
+fn ends_by(ip: Option<Standing>, dp: Option<Standing>) -> Option<Ends>
+    ensures some { IfSome result (AreEndsBy ip dp) }
+    ensures none { IfNone result ((ip ≡ None) ⊎ (dp ≡ None)) }
+{
+    match (ip, dp) {
+        (Some(ip), Some(dp)) => Some(Ends {
+            ip: ip.place.mark,
+            dp: dp.place.after,
+        }),
+        _ => None,
     }
 }
 

@@ -97,11 +97,11 @@ pub fn read_document<D: Drive>(
 
 /// How far a document is read, in place of a text that it may be.
 #[derive(Clone, Copy)]
-struct Beside {
+pub struct Beside {
     /// How many of its bytes are read.
-    at: usize,
+    pub at: usize,
     /// Whether that text begins with them.
-    same: bool,
+    pub same: bool,
 }
 
 /// Reads so many blocks from the head on in place of a text, and tells whether they are that text.
@@ -164,7 +164,7 @@ fn read_block<D: Drive>(
 }
 
 /// Puts a block behind the bytes that are read, where it may stand already.
-fn put_block(document: &mut Vec<u8>, read: Beside, block: &[u8]) -> Result<Beside, AllocError>
+pub fn put_block(document: &mut Vec<u8>, read: Beside, block: &[u8]) -> Result<Beside, AllocError>
     requires { read.at ≤ length document.old.items }
     ensures { IfOk result (λ next. IsPut read block.now document.old.items document.new.items next) }
 {

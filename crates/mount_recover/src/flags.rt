@@ -5,11 +5,13 @@ ghost use Rattle.content_laws.specs.Readings.{front};
 ghost use Rattle.tape_drive.specs.declared.drive.Got.TheVariants as found;
 ghost use Rattle.tape_types.specs.Cartridges.{capacity, items_of};
 ghost use Rattle.mount_recover.specs.Lasts.{EndsAs, IsFront, TellsBoth, TellsStanding};
+ghost use Rattle.mount_recover.specs.Noted.{AreNotes};
 ghost use Rattle.mount_recover.specs.Steps.{IsFree, IsSince, IsStep};
 
 use crate::choices::{Choice, Standing};
 use crate::items::buffer;
 use crate::labels::failed;
+use crate::notes::Notes;
 use crate::scans::Scans;
 use crate::starts::Start;
 use cartridge_meaning::MountErr;
@@ -26,19 +28,21 @@ pub struct Flags {
     pub noted: bool,
 }
 
-/// Reads what stands behind the fronts, and the notes of the volume with this UUID.
+/// Reads what stands behind the fronts, and tells what the notes say of the volume with this UUID.
 pub fn read_flags<D: Drive>(
     alloc: Global,
     drive: &mut D,
     start: Start,
     uuid: u128,
+    notes: &Notes,
     scans: &Scans,
     choice: &Choice,
 ) -> Result<Flags, MountErr>
     requires since { IsSince D.Drive start drive.old }
+    requires notes { IfSome (D.held drive.old) (AreNotes notes.now) }
     requires ip { IfSome (D.held drive.old) (λ c. IsFront c.ip scans.now.ip.front choice.now.ip) }
     requires dp { IfSome (D.held drive.old) (λ c. IsFront c.dp scans.now.dp.front choice.now.dp) }
-    ensures { IsStep D.Drive start (2 + 2 + 3) drive.old drive.new
+    ensures { IsStep D.Drive start (2 + 2) drive.old drive.new
         (λ flags c. ((flags.ip_ends ≡ true) ↔ EndsAs c.ip choice.now.ip)
         × ((flags.dp_ends ≡ true) ↔ EndsAs c.dp choice.now.dp)
         × ((flags.noted ≡ true) ↔ TellsBoth c uuid choice.now.ip choice.now.dp))
@@ -46,11 +50,10 @@ pub fn read_flags<D: Drive>(
 {
     let ip_ends = ends_with(alloc, drive, start, Part::Ip, scans.ip.front, choice.ip)?;
     let dp_ends = ends_with(alloc, drive, start, Part::Dp, scans.dp.front, choice.dp)?;
-    let noted = are_noted(drive, start, uuid, choice)?;
     Ok(Flags {
         ip_ends,
         dp_ends,
-        noted,
+        noted: are_noted(notes, uuid, choice),
     })
 }
 
@@ -116,7 +119,7 @@ fn is_end(got: Got) -> bool
     }
 }
 
-fn capacity_of(limits: Limits, part: Part) -> u64
+pub fn capacity_of(limits: Limits, part: Part) -> u64
     ensures { result ≡ capacity part limits }
 {
     match part {
@@ -126,28 +129,11 @@ fn capacity_of(limits: Limits, part: Part) -> u64
 }
 
 /// Whether the notes tell of both last indexes.
-fn are_noted<D: Drive>(
-    drive: &mut D,
-    start: Start,
-    uuid: u128,
-    choice: &Choice,
-) -> Result<bool, MountErr>
-    requires since { IsSince D.Drive start drive.old }
-    ensures { IsStep D.Drive start 3 drive.old drive.new
-        (λ yes c. (yes ≡ true) ↔ TellsBoth c uuid choice.now.ip choice.now.dp) (λ yes. Unit {0}) IsFree result }
+fn are_noted(notes: &Notes, uuid: u128, choice: &Choice) -> bool
+    ensures { IsTrue result ↔ (TellsStanding notes.now.ip notes.now.vcr uuid choice.now.ip
+        × TellsStanding notes.now.dp notes.now.vcr uuid choice.now.dp) }
 {
-    let ip = match drive.read_note(Part::Ip) {
-        Ok(note) => note,
-        Err(_) => return Err(failed(drive, start.faults)),
-    };
-    let dp = match drive.read_note(Part::Dp) {
-        Ok(note) => note,
-        Err(_) => return Err(failed(drive, start.faults)),
-    };
-    match drive.vcr() {
-        Ok(vcr) => Ok(tells(&ip, vcr, uuid, choice.ip) && tells(&dp, vcr, uuid, choice.dp)),
-        Err(_) => Err(failed(drive, start.faults)),
-    }
+    tells(&notes.ip, notes.vcr, uuid, choice.ip) && tells(&notes.dp, notes.vcr, uuid, choice.dp)
 }
 
 /// Whether a note tells of the last index of its partition.

@@ -34,20 +34,21 @@ pub fn read_labels<D: Drive>(alloc: Global, drive: &mut D) -> Result<Labels, Mou
     ensures counts { HasCounts (D.faults drive.old) (D.faults drive.new) result }
     ensures looks { Looks D.Drive (12 * D.MOST) drive.old drive.new }
 {
-    read_all(alloc, drive)
+    let before = drive.faults();
+    read_all(alloc, drive, before)
 }
 
-/// The same, without the clause that follows from the others.
-fn read_all<D: Drive>(alloc: Global, drive: &mut D) -> Result<Labels, MountErr>
+/// The same, without the clause that follows from the others. `before` is an earlier count of the drive's faults.
+pub fn read_all<D: Drive>(alloc: Global, drive: &mut D, before: u64) -> Result<Labels, MountErr>
+    requires before { before ≤ D.faults drive.old }
     ensures found { IfOk result (λ l. (c : Cartridge) → D.held drive.old ≡ Some c → HasLabels c l) }
     ensures refused { IfErr result (λ e. (c : Cartridge) → D.held drive.old ≡ Some c → Fails c e) }
     ensures any { IfOk result AreLabels }
-    ensures counts { HasCounts (D.faults drive.old) (D.faults drive.new) result }
+    ensures counts { HasCounts before (D.faults drive.new) result }
     ensures looks { Looks D.Drive (12 * D.MOST) drive.old drive.new }
 {
     let _capacities_are_in_range = drive.limits();
     let _commands_are_in_range = drive.commands();
-    let before = drive.faults();
     let mut buffers = Buffers::new(alloc)?;
     let ip_record = find_record(drive, Part::Ip, before, &mut buffers)?;
     let dp_record = find_record(drive, Part::Dp, before, &mut buffers)?;

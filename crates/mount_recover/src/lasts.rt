@@ -8,7 +8,7 @@ ghost use Rattle.mount_recover.specs.Labels.{AreCounts, AreLabels};
 ghost use Rattle.mount_recover.specs.Lasts.{AreInPlaces, AreLasts, AreLastsWith, AreSoundLasts, AreSoundWith};
 ghost use Rattle.mount_recover.specs.Lasts.{IsDocument, IsInPlace, IsKnownDp, IsKnownIp};
 ghost use Rattle.mount_recover.specs.Lasts.{IsLastDp, IsLastIp, IsScan, IsSoundLast};
-ghost use Rattle.mount_recover.specs.Lasts.{IsTextOf, IsTwinAt, generation_in, twin_of};
+ghost use Rattle.mount_recover.specs.Lasts.{IsTextOf, IsTwinAt, generation_in, pointed};
 ghost use Rattle.mount_recover.specs.Steps.{Blames, IsSince, IsStep};
 
 use crate::documents::{read_document, read_index_at, read_text};
@@ -201,7 +201,7 @@ fn read_beside<D: Drive>(
 {
     let mut dp = dp;
     let twin = twin_at(&labels.ip, place, dp.place);
-    match write_twin(&mut dp.index, twin, document) {
+    match write_twin(&mut dp.index, twin.here, twin.back, document) {
         Ok(()) => {}
         Err(NoMemory) => return Err(MountErr::NoMemory),
     }
@@ -242,18 +242,23 @@ fn twin_at(label: &Label, place: Construct, dp: Construct) -> Twin
 }
 
 /// Puts the text of an index with these pointers in place of a document.
-fn write_twin(index: &mut Index, twin: Twin, document: &mut Vec<u8>) -> Result<(), NoMemory>
+pub fn write_twin(
+    index: &mut Index,
+    here: Spot,
+    back: Spot,
+    document: &mut Vec<u8>,
+) -> Result<(), NoMemory>
     ensures index { index.new ≡ index.old }
-    ensures text { OnOk result (IsTextOf (twin_of index.old twin) document.new.items) }
+    ensures text { OnOk result (IsTextOf (pointed index.old here back) document.new.items) }
 {
-    let (here, back) = (index.here, index.back);
-    index.here = twin.here;
-    index.back = Some(twin.back);
+    let (was_here, was_back) = (index.here, index.back);
+    index.here = here;
+    index.back = Some(back);
     document.clear();
     let done = index_text(index, document);
     let _in_memory = document.len();
-    index.here = here;
-    index.back = back;
+    index.here = was_here;
+    index.back = was_back;
     done
 }
 

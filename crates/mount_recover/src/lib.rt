@@ -3,12 +3,15 @@
 
 mod choices;
 mod documents;
+mod endings;
 mod extents;
 mod flags;
 mod items;
 mod labels;
 mod lasts;
 mod mounting;
+mod noted;
+mod notes;
 mod pointers;
 mod scans;
 mod starts;
