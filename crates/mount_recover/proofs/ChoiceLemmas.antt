@@ -1,5 +1,5 @@
 -- The chosen index, and the ends of the partitions.
-use Rattle.std.proofs.Common.{ℕ, zero, suc, ◌≤◌, ◌<◌, ◌≡◌, ◌≢◌, inl, inr, List, [], ◌∷◌, Option, Some, None, Result, Ok, Err, IfOk, IfErr, refl, sym, ◌∙◌, ap, subst, arith}
+use Rattle.std.proofs.Common.{ℕ, zero, suc, ◌≤◌, ◌<◌, ◌≡◌, ◌≢◌, inl, inr, List, [], ◌∷◌, length, Option, Some, None, Result, Ok, Err, IfOk, IfErr, refl, sym, ◌∙◌, ap, subst, arith}
 use Rattle.std.specs.Prelude.{IfSome, Bool, true, false, cond, nat_lt}
 use Rattle.std.specs.List.{AllByRecursion}
 use Rattle.std.proofs.lemmas.Bool.Decides.{nat_tests}
@@ -25,7 +25,11 @@ use Rattle.volume_scan.specs.declared.content.Content.{Content}
 use Rattle.volume_scan.specs.Scans.{AreBetween, IsInPlaces, places_of}
 use Rattle.mount_recover.specs.Lasts.{AreInPlaces, AreLasts, AreSoundLasts, HasNone, IsChosen, IsDecided, IsFirstOutside, IsIpEnd, IsPicked, IsScan, IsSeen, IsSound, IsSoundChoice, IsSoundLast, dp_ends, dp_in, index_in, ip_in, newest, place_in, standing_of, twin_of}
 use Rattle.mount_recover.specs.Labels.{AreCounts}
-use Rattle.mount_recover.specs.Steps.{Blames}
+use Rattle.cartridge_meaning.specs.Faults.{MountFault}
+use Rattle.content_laws.proofs.Placed.{end_dp_within}
+use Rattle.content_laws.proofs.Whole.{front_within}
+use Rattle.mount_recover.specs.Noted.{AreEndsOf, AreEndsWithin}
+use Rattle.mount_recover.specs.declared.extents.Ends.{Ends}
 use Rattle.mount_recover.specs.declared.choices.Choice.{Choice}
 use Rattle.mount_recover.specs.declared.choices.Standing.{Standing}
 use Rattle.mount_recover.specs.declared.lasts.Last.{Last}
@@ -83,7 +87,7 @@ from_four : (ks : List Construct) (from to : ℕ) → AreBetween from to ks → 
 from_four [] from to b = b
 from_four (k ∷ ks) from to b = omega (arith, b.0, b.1, b.2, from_four ks k.after to b.3)
 
-ip_in_range : (capacity : ℕ) (label : Label) (last : Option Last) (found : Content) (end : ℕ) → IsInPlaces capacity found → IfSome last (IsSoundLast label capacity)
+pub ip_in_range : (capacity : ℕ) (label : Label) (last : Option Last) (found : Content) (end : ℕ) → IsInPlaces capacity found → IfSome last (IsSoundLast label capacity)
     → IsIpEnd found (standing_of last) end → (4 ≤ end) × (end ≤ capacity)
 ip_in_range capacity label None found end places sound ends =
     (omega (arith, ends, from_four found.constructs 4 found.lead places.constructs), omega (arith, ends, places.lead, places.front))
@@ -92,7 +96,7 @@ ip_in_range capacity label (Some l) found end places sound (inl ends) =
 ip_in_range capacity label (Some l) found end places sound (inr ends) =
     (omega (arith, ends.1, from_four found.constructs 4 found.lead places.constructs), omega (arith, ends.1, places.lead, places.front))
 
-dp_in_range : (capacity : ℕ) (label : Label) (last : Option Last) (end : ℕ) → 4 ≤ capacity → IfSome last (IsSoundLast label capacity)
+pub dp_in_range : (capacity : ℕ) (label : Label) (last : Option Last) (end : ℕ) → 4 ≤ capacity → IfSome last (IsSoundLast label capacity)
     → end ≡ dp_ends (standing_of last) → (4 ≤ end) × (end ≤ capacity) × IfSome (standing_of last) (λ s. s.place.first < end)
 dp_in_range capacity label None end least sound ends = (omega (arith, ends), omega (arith, ends, least), tt)
 dp_in_range capacity label (Some l) end least sound ends = (
@@ -114,11 +118,8 @@ picked_alike twin dp = record {
 
 -- ---- what is decided
 
-module _ (c : Cartridge) (labels : Labels) (s : Scans) (lasts : Lasts) (scan : IsScan labels s c) (are : AreLasts labels.ip lasts c) where
-  forms : HasForms c labels
-  forms = record { has = scan.has; ip = scan.ip.form; dp = scan.dp.form }
-
-  pub no_index : HasNone lasts → Blames errors.NoIndex c
+module _ (c : Cartridge) (labels : Labels) (ends : Ends) (lasts : Lasts) (forms : HasForms c labels) (ends_are : AreEndsOf c ends) (are : AreLasts labels.ip lasts c) where
+  pub no_index : HasNone lasts → MountFault c errors.NoIndex
   no_index none = record {
     labels = labels;
     forms = forms;
@@ -126,13 +127,12 @@ module _ (c : Cartridge) (labels : Labels) (s : Scans) (lasts : Lasts) (scan : I
     dp = none_newest (indexes_of c.dp) (ap place_in (sym none.1) ∙ are.dp.place);
   }
 
-  module _ (choice : Choice) (is : IsChosen lasts choice) (ip : IsIpEnd s.ip (standing_of (ip_in lasts)) choice.ends.ip)
-      (dp : choice.ends.dp ≡ dp_ends (standing_of (dp_in lasts))) where
+  module _ (choice : Choice) (is : IsChosen lasts choice) (same : choice.ends ≡ ends) where
     ip_is : choice.ends.ip ≡ ip_end c
-    ip_is = ends_ip c.ip (ip_in lasts) s.ip choice.ends.ip scan.ip are.ip.place ip
+    ip_is = ap (λ (e : Ends). e.ip) same ∙ ends_are.ip
 
     dp_is : choice.ends.dp ≡ dp_end c
-    dp_is = dp ∙ ends_dp (indexes_of c.dp) (dp_in lasts) are.dp.place
+    dp_is = ap (λ (e : Ends). e.dp) same ∙ ends_are.dp
 
     pub decided : AllByRecursion (FitsNode labels.ip choice.ends.ip choice.ends.dp) choice.index.nodes → IsDecided labels lasts choice c
     decided fits = record {
@@ -146,7 +146,7 @@ module _ (c : Cartridge) (labels : Labels) (s : Scans) (lasts : Lasts) (scan : I
           (subst (λ (n : ℕ). AllByRecursion (FitsNode labels.ip choice.ends.ip n) choice.index.nodes) dp_is fits);
     }
 
-    pub bad_extent : (uid : ℕ) → IsFirstOutside labels.ip choice.ends.ip choice.ends.dp choice.index.nodes uid → Blames (errors.BadExtent uid) c
+    pub bad_extent : (uid : ℕ) → IsFirstOutside labels.ip choice.ends.ip choice.ends.dp choice.index.nodes uid → MountFault c (errors.BadExtent uid)
     bad_extent uid out =
         let o = subst (λ (n : ℕ). IsFirstOutside labels.ip n (dp_end c) choice.index.nodes uid) ip_is
         (subst (λ (n : ℕ). IsFirstOutside labels.ip choice.ends.ip n choice.index.nodes uid) dp_is out) in
@@ -180,46 +180,79 @@ sound_index label (Some i) (Some d) capacity other index ip dp is = either (nat_
     either true e = let same : i.index ≡ index = cc e in subst (IsSound label) same ip.index
     either false e = let same : d.index ≡ index = cc e in subst (IsSound label) same dp.index
 
-pub sound_choice : (label : Label) (s : Scans) (lasts : Lasts) (choice : Choice) (limits : Limits) → IsChosen lasts choice
-    → IsIpEnd s.ip (standing_of (ip_in lasts)) choice.ends.ip → choice.ends.dp ≡ dp_ends (standing_of (dp_in lasts))
-    → AllByRecursion (FitsNode label choice.ends.ip choice.ends.dp) choice.index.nodes → AreInPlaces limits s → AreSoundLasts label limits lasts
-    → IsSoundChoice label limits choice
-sound_choice label s lasts choice limits is ip dp fits places sound =
-    let least : 4 ≤ limits.cap_dp = omega (arith, from_four s.dp.constructs 4 s.dp.lead places.1.constructs, places.1.lead, places.1.front) in
-    let d = dp_in_range limits.cap_dp label (dp_in lasts) choice.ends.dp least sound.dp dp in
-    record {
-      index = subst (IsSound label) (sym is.index) (sound_index label (ip_in lasts) (dp_in lasts) limits.cap_ip limits.cap_dp is.last.index sound.ip sound.dp is.picked.index);
-      fits = fits;
-      last_dp = subst (λ (o : Option Standing). IfSome o (λ s. s.place.first < choice.ends.dp)) (sym is.dp) d.2;
-      ip = ip_in_range limits.cap_ip label (ip_in lasts) s.ip choice.ends.ip places.0 sound.ip ip;
-      dp = (d.0, d.1);
-    }
+pub sound_choice : (label : Label) (ends : Ends) (lasts : Lasts) (choice : Choice) (limits : Limits) → IsChosen lasts choice → choice.ends ≡ ends
+    → AllByRecursion (FitsNode label choice.ends.ip choice.ends.dp) choice.index.nodes → AreEndsWithin limits (standing_of (dp_in lasts)) ends
+    → AreSoundLasts label limits lasts → IsSoundChoice label limits choice
+sound_choice label ends lasts choice limits is same fits within sound = record {
+  index = subst (IsSound label) (sym is.index) (sound_index label (ip_in lasts) (dp_in lasts) limits.cap_ip limits.cap_dp is.last.index sound.ip sound.dp is.picked.index);
+  fits = fits;
+  last_dp =
+      subst (λ (e : Ends). IfSome choice.dp (λ s. s.place.first < e.dp)) (sym same)
+      (subst (λ (o : Option Standing). IfSome o (λ s. s.place.first < ends.dp)) (sym is.dp) within.last_dp);
+  ip = subst (λ (e : Ends). (4 ≤ e.ip) × (e.ip ≤ limits.cap_ip)) (sym same) within.ip;
+  dp = subst (λ (e : Ends). (4 ≤ e.dp) × (e.dp ≤ limits.cap_dp)) (sym same) within.dp;
+}
 
 -- what a check of the extents answers
-module _ (labels : Labels) (s : Scans) (lasts : Lasts) (choice : Choice) (is : IsChosen lasts choice) (ip : IsIpEnd s.ip (standing_of (ip_in lasts)) choice.ends.ip)
-    (dp : choice.ends.dp ≡ dp_ends (standing_of (dp_in lasts))) where
+module _ (labels : Labels) (ends : Ends) (lasts : Lasts) (choice : Choice) (is : IsChosen lasts choice) (same : choice.ends ≡ ends) where
   pub ok_decided : (r : Result Choice MountErr)
       → IfOk r (λ x. (x ≡ choice) × AllByRecursion (FitsNode labels.ip choice.ends.ip choice.ends.dp) choice.index.nodes)
-      → IfOk r (λ x. (c : Cartridge) → IsScan labels s c → AreLasts labels.ip lasts c → IsDecided labels lasts x c)
+      → IfOk r (λ x. (c : Cartridge) → HasForms c labels → AreEndsOf c ends → AreLasts labels.ip lasts c → IsDecided labels lasts x c)
   ok_decided (Ok x) fits =
-      λ c scan are. subst (λ (y : Choice). IsDecided labels lasts y c) (sym fits.0) (decided c labels s lasts scan are choice is ip dp fits.1)
+      λ c forms ends_are are. subst (λ (y : Choice). IsDecided labels lasts y c) (sym fits.0) (decided c labels ends lasts forms ends_are are choice is same fits.1)
   ok_decided (Err e) fits = tt
 
   pub ok_sound : (r : Result Choice MountErr)
       → IfOk r (λ x. (x ≡ choice) × AllByRecursion (FitsNode labels.ip choice.ends.ip choice.ends.dp) choice.index.nodes)
-      → IfOk r (λ x. (limits : Limits) → AreInPlaces limits s → AreSoundLasts labels.ip limits lasts → IsSoundChoice labels.ip limits x)
+      → IfOk r (λ x. (limits : Limits) → AreEndsWithin limits (standing_of (dp_in lasts)) ends → AreSoundLasts labels.ip limits lasts → IsSoundChoice labels.ip limits x)
   ok_sound (Ok x) fits =
-      λ limits places sound. subst (λ (y : Choice). IsSoundChoice labels.ip limits y) (sym fits.0) (sound_choice labels.ip s lasts choice limits is ip dp fits.1 places sound)
+      λ limits within sound. subst (λ (y : Choice). IsSoundChoice labels.ip limits y) (sym fits.0) (sound_choice labels.ip ends lasts choice limits is same fits.1 within sound)
   ok_sound (Err e) fits = tt
 
-  pub err_blames : (r : Result Choice MountErr)
+  pub err_faults : (r : Result Choice MountErr)
       → IfErr r (λ e. (uid : ℕ) × (e ≡ errors.BadExtent uid) × IsFirstOutside labels.ip choice.ends.ip choice.ends.dp choice.index.nodes uid)
-      → IfErr r (λ e. (c : Cartridge) → IsScan labels s c → AreLasts labels.ip lasts c → Blames e c)
-  err_blames (Ok x) out = tt
-  err_blames (Err e) out =
-      λ c scan are. subst (λ (x : MountErr). Blames x c) (sym out.1) (bad_extent c labels s lasts scan are choice is ip dp out.0 out.2)
+      → IfErr r (λ e. (c : Cartridge) → HasForms c labels → AreEndsOf c ends → AreLasts labels.ip lasts c → MountFault c e)
+  err_faults (Ok x) out = tt
+  err_faults (Err e) out =
+      λ c forms ends_are are. subst (λ (x : MountErr). MountFault c x) (sym out.1) (bad_extent c labels ends lasts forms ends_are are choice is same out.0 out.2)
 
 pub err_counts : (r : Result Choice MountErr) (P : ℕ → Type 0) → IfErr r (λ e. (uid : ℕ) × (e ≡ errors.BadExtent uid) × P uid)
     → IfErr r (λ e. (before now : ℕ) → AreCounts before now e)
 err_counts (Ok x) P out = tt
 err_counts (Err e) P out = λ before now. subst (λ (x : MountErr). AreCounts before now x) (sym out.1) tt
+
+-- ---- the ends that were scanned
+
+pub scanned_ends : (c : Cartridge) (labels : Labels) (s : Scans) (lasts : Lasts) (ends : Ends) → IsScan labels s c → AreLasts labels.ip lasts c
+    → IsIpEnd s.ip (standing_of (ip_in lasts)) ends.ip → ends.dp ≡ dp_ends (standing_of (dp_in lasts)) → AreEndsOf c ends
+scanned_ends c labels s lasts ends scan are ip dp = record {
+  ip = ends_ip c.ip (ip_in lasts) s.ip ends.ip scan.ip are.ip.place ip;
+  dp = dp ∙ ends_dp (indexes_of c.dp) (dp_in lasts) are.dp.place;
+}
+
+pub scanned_within : (label : Label) (limits : Limits) (s : Scans) (lasts : Lasts) (ends : Ends) → AreInPlaces limits s → AreSoundLasts label limits lasts
+    → IsIpEnd s.ip (standing_of (ip_in lasts)) ends.ip → ends.dp ≡ dp_ends (standing_of (dp_in lasts)) → AreEndsWithin limits (standing_of (dp_in lasts)) ends
+scanned_within label limits s lasts ends places sound ip dp =
+    let least : 4 ≤ limits.cap_dp = omega (arith, from_four s.dp.constructs 4 s.dp.lead places.1.constructs, places.1.lead, places.1.front) in
+    let d = dp_in_range limits.cap_dp label (dp_in lasts) ends.dp least sound.dp dp in
+    record { ip = ip_in_range limits.cap_ip label (ip_in lasts) s.ip ends.ip places.0 sound.ip ip; dp = (d.0, d.1); last_dp = d.2 }
+
+-- ---- the ends of partitions that end with their last indexes
+
+data_behind : (pos : ℕ) (phase : Phase) (k : readings.Construct) (older : List readings.Construct) → EndsAt pos phase (k ∷ older) → ((at : ℕ) → phase ≢ Bad at)
+    → pos ≡ after_of k → end_ip_in pos phase (k ∷ older) ≡ k.mark
+data_behind pos (Data zero) k older at sound ends = refl
+data_behind pos (Data (suc n)) k older at sound ends = absurd (omega (arith, at, ends))
+data_behind pos (InIndex mark blocks) k older at sound ends = absurd (omega (arith, at.0, at.1, ends))
+data_behind pos (Bad n) k older at sound ends = absurd (sound n refl)
+
+-- the index partition ends at the mark of its last index, where it ends with that
+pub ends_at_mark : (items : List Item) (k : readings.Construct) (older : List readings.Construct) → HasForm items → 4 ≤ length (front items)
+    → indexes_of items ≡ k ∷ older → length items ≡ after_of k → end_ip (content items) ≡ k.mark
+ends_at_mark items k older form long are ends =
+    let placed = subst (λ (ks : List readings.Construct). EndsAt (content items).pos (content items).phase ks) are (content_placed items).ends in
+    let pos = pos_is items long (sound_phase items form) in
+    let most = subst (λ (ks : List readings.Construct). end_dp ks ≤ length (front items)) are (end_dp_within items long) in
+    ap (λ (ks : List readings.Construct). end_ip_in (content items).pos (content items).phase ks) are
+    ∙ data_behind (content items).pos (content items).phase k older placed (sound_phase items form)
+    (omega (arith, pos, most, ends, front_within items))

@@ -28,7 +28,10 @@ use Rattle.content_laws.proofs.Placed.{end_dp_within}
 use Rattle.cartridge_meaning.specs.Pointers.{indexes_of}
 use Rattle.volume_scan.specs.declared.content.Construct.{Construct}
 use Rattle.volume_scan.specs.declared.content.Content.{Content}
-use Rattle.mount_recover.specs.Lasts.{EndsAs, IsFront, IsSeen, TellsStanding, newest, place_in, standing_of}
+use Rattle.mount_recover.specs.Noted.{AreNotes}
+use Rattle.mount_recover.specs.declared.choices.Choice.{Choice}
+use Rattle.mount_recover.specs.declared.notes.Notes.{Notes}
+use Rattle.mount_recover.specs.Lasts.{EndsAs, IsFront, IsSeen, TellsBoth, TellsStanding, newest, place_in, standing_of}
 use Rattle.mount_recover.specs.Steps.{IsFree, IsSince, IsStep}
 use Rattle.mount_recover.specs.declared.choices.Standing.{Standing}
 use Rattle.mount_recover.specs.declared.lasts.Last.{Last}
@@ -118,3 +121,22 @@ pub no_note : (note : Note) (bytes : List ℕ) (vcr uuid : ℕ) (last : Option S
     → ((values : Coherency) → IsNote bytes values → ◌≡◌ {A = Option Coherency} None (Some values)) → TellsStanding note vcr uuid last → ⊥
 no_note note bytes vcr uuid last is none t =
     let bad = none t.values (subst (λ (n : Note). HasValues n t.values) is t.has) in cc bad
+
+-- the notes that were read are the cartridge's
+pub tells_both : (c : Cartridge) (notes : Notes) (uuid : ℕ) (choice : Choice) (noted : Bool) → AreNotes notes c
+    → IsTrue noted ↔ (TellsStanding notes.ip notes.vcr uuid choice.ip × TellsStanding notes.dp notes.vcr uuid choice.dp)
+    → (noted ≡ true) ↔ TellsBoth c uuid choice.ip choice.dp
+tells_both c notes uuid choice noted are is = (
+  (λ yes.
+      let both = is.0 yes in
+      record { on_ip = told notes.ip c.note_ip choice.ip are.ip both.0; on_dp = told notes.dp c.note_dp choice.dp are.dp both.1 }),
+  λ both. is.1 (back notes.ip c.note_ip choice.ip are.ip both.on_ip, back notes.dp c.note_dp choice.dp are.dp both.on_dp),
+)
+  where
+    told : (read note : Note) (last : Option Standing) → read ≡ note → TellsStanding read notes.vcr uuid last → TellsStanding note c.vcr uuid last
+    told read note last same tells =
+        subst (λ (n : ℕ). TellsStanding note n uuid last) are.vcr (subst (λ (n : Note). TellsStanding n notes.vcr uuid last) same tells)
+
+    back : (read note : Note) (last : Option Standing) → read ≡ note → TellsStanding note c.vcr uuid last → TellsStanding read notes.vcr uuid last
+    back read note last same tells =
+        subst (λ (n : ℕ). TellsStanding read n uuid last) (sym are.vcr) (subst (λ (n : Note). TellsStanding n c.vcr uuid last) (sym same) tells)

@@ -239,7 +239,7 @@ are_sound label limits dp lasts last is =
 
 -- ---- what a scan makes known
 
-forms_of : (c : Cartridge) (labels : Labels) (s : Scans) → IsScan labels s c → HasForms c labels
+pub forms_of : (c : Cartridge) (labels : Labels) (s : Scans) → IsScan labels s c → HasForms c labels
 forms_of c labels s scan = record { has = scan.has; ip = scan.ip.form; dp = scan.dp.form }
 
 newest_of : (items : List Item) (found : Content) (older : List Construct) (place : Construct) → IsSeen items found → found.constructs ≡ older ++ place ∷ []

@@ -1,3 +1,4 @@
+pub mod ByNotes
 pub mod ChoiceLemmas
 pub mod DocumentLemmas
 pub mod EndingLemmas

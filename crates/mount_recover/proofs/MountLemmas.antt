@@ -12,6 +12,7 @@ use Rattle.index_model.specs.declared.indexes.Index.{Index}
 use Rattle.ltfs_label.specs.declared.Label.{Label}
 use Rattle.content_laws.specs.Readings as readings
 use Rattle.content_laws.specs.Ends.{EndsWithLast}
+use Rattle.cartridge_meaning.specs.Faults.{MountFault}
 use Rattle.cartridge_meaning.specs.Meaning.{Found}
 use Rattle.cartridge_meaning.specs.Mounts.{IsDpDone, IsIpDone, Mounts, chosen_place, last_place}
 use Rattle.cartridge_meaning.specs.Notes.{AreNoted, IsNoted, LastReads}
@@ -37,6 +38,7 @@ use Rattle.mount_recover.specs.declared.starts.Start.{Start}
 use Rattle.mount_recover.proofs.ScanLemmas.{long_front, seen}
 use Rattle.mount_recover.proofs.StepLemmas.{since_next}
 use Rattle.mount_recover.specs.Lasts.{Agrees, AreScanned, IsMounted, IsScan, IsSoundChoice, IsSoundMount, EndsAs, IsDecided, IsMountedAs, TellsBoth, TellsStanding, dp_in, index_in, ip_in, newest, place_in, side, last_on, standing_of}
+use Rattle.mount_recover.specs.Noted.{IsChosenByNotes}
 use Rattle.mount_recover.specs.declared.choices.Choice.{Choice}
 use Rattle.mount_recover.specs.declared.choices.Standing.{Standing}
 use Rattle.mount_recover.specs.declared.flags.Flags.{Flags}
@@ -289,22 +291,27 @@ fails_blames c (errors.Drive counts) fails = tt
 fails_blames c errors.NoMemory fails = tt
 fails_blames c e fails = absurd fails
 
+pub fault_blames : (c : Cartridge) (e : MountErr) → MountFault c e → Blames e c
+fault_blames c (errors.Drive counts) fault = tt
+fault_blames c errors.NoMemory fault = tt
+fault_blames c e fault = fault
+
 pub free_blames : (c : Cartridge) (e : MountErr) → IsFree e c → Blames e c
 free_blames c (errors.Drive counts) free = tt
 free_blames c errors.NoMemory free = tt
 free_blames c e free = absurd free
 
-pub labels_step : {D : Type 0} (drive : Ghosts D) (start : Start) (a b : D) (r : Result Labels MountErr) → IsSince drive start a → start.faults ≡ drive.faults a
+pub labels_step : {D : Type 0} (drive : Ghosts D) (start : Start) (a b : D) (r : Result Labels MountErr) → IsSince drive start a
     → IfOk r (λ l. (c : Cartridge) → drive.held a ≡ Some c → HasLabels c l) → IfErr r (λ e. (c : Cartridge) → drive.held a ≡ Some c → Fails c e)
-    → IfOk r AreLabels → HasCounts (drive.faults a) (drive.faults b) r → Looks drive (12 * drive.MOST) a b
+    → IfOk r AreLabels → HasCounts start.faults (drive.faults b) r → Looks drive (12 * drive.MOST) a b
     → IsStep drive start 12 a b (λ l c. HasLabels c l) AreLabels Blames r
-labels_step drive start a b r since now found refused any counts looks = record {
+labels_step drive start a b r since found refused any counts looks = record {
   found = found;
   any = any;
   refused = blames r refused;
-  counts = subst (λ (n : ℕ). HasCounts n (drive.faults b) r) (sym now) counts;
+  counts = counts;
   looks = looks;
-  since = since_next drive start (12 * drive.MOST) a b since looks (omega (arith, now, counts.later));
+  since = since_next drive start (12 * drive.MOST) a b since looks counts.later;
 }
   where
     blames : (q : Result Labels MountErr) → IfErr q (λ e. (c : Cartridge) → drive.held a ≡ Some c → Fails c e)
@@ -318,6 +325,16 @@ scan_of c labels s has are = record {
   ip = seen c.ip s.ip (long_front Ip c (labels, has)) are.ip;
   dp = seen c.dp s.dp (long_front Dp c (labels, has)) are.dp;
 }
+
+-- what was chosen by the notes
+pub mounts_by_notes : (c : Cartridge) (labels : Labels) (choice : Choice) (flags : Flags) (m : Mounted) → IsChosenByNotes labels choice c
+    → flags.ip_ends ≡ true → flags.dp_ends ≡ true → flags.noted ≡ true → IsMountedAs labels.ip choice flags m → Mounts c m
+mounts_by_notes c labels choice flags m is ip dp noted made =
+    mounts c labels is.lasts choice is.decided flags ((λ yes. is.ip_ends), λ ends. ip) ((λ yes. is.dp_ends), λ ends. dp) ((λ yes. is.noted), λ tells. noted) m made
+
+-- the notes are honest as long as the cartridge is the same
+pub still_told : (P : Cartridge → Type 0) (a b : Option Cartridge) → b ≡ a → IfSome a P → IfSome b P
+still_told P a b same told = subst (λ (o : Option Cartridge). IfSome o P) (sym same) told
 
 pub sound_mount : (limits : Limits) (labels : Labels) (choice : Choice) (flags : Flags) (m : Mounted) → AreLabels labels
     → IsSoundChoice labels.ip limits choice → IsMountedAs labels.ip choice flags m → IsSoundMount limits m

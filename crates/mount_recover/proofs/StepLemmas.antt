@@ -205,6 +205,15 @@ module _ {D : Type 0} (drive : Ghosts D) (start : Start) where
       {r : Result T MountErr} → m ≤ n → IsStep drive start m a b F A R r → ((c : Cartridge) → drive.held a ≡ Some c → By c m) → IsStepBy drive start n By a b F A R r
   by_step {m = m} le step by = record { count = m; step = step; most_is = le; by = by }
 
+  pub by_at : {T : Type 0} {m : ℕ} {a b : D} {F : T → Cartridge → Type 0} {A : T → Type 0} {R : MountErr → Cartridge → Type 0}
+      {r : Result T MountErr} → (By : Cartridge → ℕ → Type 0) → IsStep drive start m a b F A R r → ((c : Cartridge) → By c m) → IsStepBy drive start m By a b F A R r
+  by_at {m = m} By step by = record { count = m; step = step; most_is = omega arith; by = λ c h. by c }
+
+  -- a greater bound
+  pub by_more : {T : Type 0} {m n : ℕ} {By : Cartridge → ℕ → Type 0} {a b : D} {F : T → Cartridge → Type 0} {A : T → Type 0} {R : MountErr → Cartridge → Type 0}
+      {r : Result T MountErr} → m ≤ n → IsStepBy drive start m By a b F A R r → IsStepBy drive start n By a b F A R r
+  by_more le step = record { count = step.count; step = step.step; most_is = omega (arith, le, step.most_is); by = step.by }
+
   -- a step whose result is told by its cases
   pub by_is : {T : Type 0} {m : ℕ} {By : Cartridge → ℕ → Type 0} {a b : D} {F : T → Cartridge → Type 0} {A : T → Type 0} {R : MountErr → Cartridge → Type 0}
       {x y : T} → x ≡ y → IsStepBy drive start m By a b F A R (Ok x) → IsStepBy drive start m By a b F A R (Ok y)

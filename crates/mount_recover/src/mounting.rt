@@ -1,6 +1,6 @@
 //! Mounting a cartridge.
 
-ghost use Rattle.std.specs.Prelude.{◌≡◌, ◌+◌, ◌*◌, ◌↔◌, true, Some, IfOk, IfErr, IfSome, IsTrue};
+ghost use Rattle.std.specs.Prelude.{◌≡◌, ◌≤◌, ◌+◌, ◌*◌, ◌↔◌, true, Some, IfOk, IfErr, IfSome, IsTrue};
 ghost use Rattle.tape_drive.specs.Looks.{Looks};
 ghost use Rattle.tape_types.specs.declared.cartridges.Cartridge.{Cartridge};
 ghost use Rattle.cartridge_meaning.specs.Labels.{HasLabels};
@@ -71,7 +71,10 @@ fn find<D: Drive>(alloc: Global, drive: &mut D, start: Start) -> Result<Mounted,
         (λ c n. IsKnownByNotes c → n ≤ 32 + last_blocks c)
         drive.old drive.new (λ m c. Mounts c m) (IsSoundMount start.limits) Blames result }
 {
-    let notes = read_notes(drive, start)?;
+    let notes = match read_notes(drive, start) {
+        Ok(notes) => notes,
+        Err(fault) => return Err(fault),
+    };
     find_by_notes(alloc, drive, start, &notes)
 }
 
@@ -89,7 +92,10 @@ fn find_by_notes<D: Drive>(
         (λ c n. IsKnownByNotes c → n ≤ 20 + last_blocks c)
         drive.old drive.new (λ m c. Mounts c m) (IsSoundMount start.limits) Blames result }
 {
-    let labels = find_labels(alloc, drive, start)?;
+    let labels = match find_labels(alloc, drive, start) {
+        Ok(labels) => labels,
+        Err(fault) => return Err(fault),
+    };
     find_by_labels(alloc, drive, start, labels, notes)
 }
 

@@ -1,7 +1,6 @@
 //! The index for which a cartridge stands, by its notes.
 
 ghost use Rattle.std.specs.Prelude.{◌≡◌, ◌≢◌, ◌≤◌, ◌↔◌, ◌+◌, Some, IfNone, IfOk, IfSome, IsTrue, MatchOption};
-ghost use Rattle.tape_types.specs.Cartridges.{IsLimits};
 ghost use Rattle.tape_types.specs.declared.cartridges.Cartridge.{Cartridge};
 ghost use Rattle.tape_types.specs.declared.cartridges.Limits.{Limits as LimitsOf};
 ghost use Rattle.tape_types.specs.declared.cartridges.Part.TheVariants.{Ip, Dp};
@@ -296,13 +295,7 @@ fn noted_text(
 }
 
 /// Whether an index is of the volume with this label, and as a note says.
-fn is_of_note(
-    label: &Label,
-    letter: u8,
-    note: Coherency,
-    place: Construct,
-    index: &Index,
-) -> bool
+fn is_of_note(label: &Label, letter: u8, note: Coherency, place: Construct, index: &Index) -> bool
     ensures { IsTrue result ↔ IsOfNote label.now letter note place index.now }
 {
     index.uuid == label.uuid && is_as_noted(letter, note, place, index)
@@ -337,7 +330,7 @@ fn decide_noted(labels: &Labels, lasts: Lasts) -> Option<Choice>
     ensures none { IfNone result ((c : Cartridge) (n : NamedOf) (limits : LimitsOf) → AreTold labels.now n c
         → AreLasts labels.now.ip lasts c → EndWithLasts c → AreNotedLasts labels.now.ip n limits lasts
         → ¬ Found c) }
-    ensures any { IfSome result (λ choice. (n : NamedOf) (limits : LimitsOf) → IsLimits limits
+    ensures any { IfSome result (λ choice. (n : NamedOf) (limits : LimitsOf)
         → AreNotedLasts labels.now.ip n limits lasts → IsSoundChoice labels.now.ip limits choice) }
 {
     let Some(ends) = ends_noted(&lasts) else {

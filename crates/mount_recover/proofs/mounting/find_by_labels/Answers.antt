@@ -1,23 +1,29 @@
-use Rattle.std.proofs.Common.{arith}
+use Rattle.std.proofs.Common.{refl, arith}
 use Rattle.cartridge_meaning.specs.Labels.{HasLabels}
-use Rattle.mount_recover.specs.Lasts.{IsScan}
-use Rattle.mount_recover.proofs.MountLemmas.{scan_of}
-use Rattle.mount_recover.proofs.StepLemmas.{at_told, given_step, known, stops, then_step, told_then}
+use Rattle.mount_recover.specs.Noted.{AreNotes}
+use Rattle.mount_recover.proofs.MountLemmas.{free_blames, mounts_by_notes, sound_mount, still_told}
+use Rattle.mount_recover.proofs.StepLemmas.{by_found, by_is, by_more, by_at, by_stops, by_then}
 use Rattle.mount_recover.proofs.mounting.find_by_labels.Goals as goal
 
-pub scan_both-requires-clause-labels : goal.scan_both-requires-clause-labels
-scan_both-requires-clause-labels g c = told_then (g.D.Drive.held c.args.drive.now) c.requires.known (λ held has. (c.args.labels, has))
+pub returns-in-Ok-Some : goal.returns-in-Ok-Some
+returns-in-Ok-Some g c =
+    by_found g.D.Drive c.args.start (omega arith) (by_is g.D.Drive c.args.start c.in-Ok-Some.field-0-is c.in-Ok-Some.ensures)
+    (λ held h is. mounts_by_notes held c.args.labels c.in-Ok-Some.choice _ c.mounted.result is refl refl refl c.mounted.ensures)
+    (λ sound. sound_mount c.args.start.limits c.args.labels c.in-Ok-Some.choice _ c.mounted.result c.requires.sound sound c.mounted.ensures)
+    (λ held h is i few known. few)
 
-pub returns-in_err-scans : goal.returns-in_err-scans
-returns-in_err-scans g c =
-    given_step g.D.Drive c.args.start c.from_residual.ensures.1
-    (stops g.D.Drive c.args.start (omega arith) c.in_err-scans.ensures (λ held h blames. blames))
+pub find_by_scan-requires-clause-known : goal.find_by_scan-requires-clause-known
+find_by_scan-requires-clause-known g c =
+    still_told (λ held. HasLabels held c.args.labels × AreNotes c.args.notes.now held) (g.D.Drive.held c.args.drive.now) (g.D.Drive.held c.choose_by_notes.new.drive)
+    c.in-Ok-None.ensures.step.looks.held c.requires.known
 
-pub find_by_scans-requires-clause-known : goal.find_by_scans-requires-clause-known
-find_by_scans-requires-clause-known g c =
-    known g.D.Drive c.args.start c.in_ok-scans.ensures (IsScan c.args.labels c.in_ok-scans.scans)
-    (λ held h are. scan_of held c.args.labels c.in_ok-scans.scans (at_told (λ held. HasLabels held c.args.labels) h c.requires.known) are)
+pub returns-in-Ok-None : goal.returns-in-Ok-None
+returns-in-Ok-None g c =
+    by_more g.D.Drive c.args.start (omega arith)
+    (by_then g.D.Drive c.args.start (by_is g.D.Drive c.args.start c.in-Ok-None.field-0-is c.in-Ok-None.ensures)
+    (by_at g.D.Drive c.args.start (λ held n. Unit {0}) c.find_by_scan.ensures (λ held. tt))
+    (λ held h none m mounts. mounts) (λ any m sound. sound) (λ held h none e blames. blames) (λ held h none i k few scanned known. absurd (none known)))
 
-pub returns : goal.returns
-returns g c =
-    then_step g.D.Drive c.args.start c.in_ok-scans.ensures c.find_by_scans.ensures (λ held h are m mounts. mounts) (λ are m sound. sound) (λ held h are e blames. blames)
+pub returns-in-Err : goal.returns-in-Err
+returns-in-Err g c =
+    by_stops g.D.Drive c.args.start (omega arith) c.in-Err.ensures (λ held h free. free_blames held c.in-Err.fault free) (λ held h i few known. few)
