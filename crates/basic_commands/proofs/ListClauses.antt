@@ -10,6 +10,7 @@ use Rattle.std.proofs.Math.Seq.{take-append-add}
 use Rattle.file_tree.specs.Tree.{plain_of, whole}
 use Rattle.tape_drive.specs.Looks.{Looks}
 use Rattle.tape_drive.specs.declared.drive.Drive.{Ghosts}
+use Rattle.mount_recover.specs.Known.{mount_most}
 use Rattle.mount_recover.specs.Labels.{AreCounts}
 use Rattle.mount_recover.specs.Steps.{Blames}
 use Rattle.tape_edge.specs.Streams.{AppendsFront}
@@ -81,7 +82,7 @@ all_done drive (unlisted e) c is held found still =
     found_done c drive.before drive.now e (of_some drive.held (λ c. Blames e c) c held is.0) is.1 found still
 
 pub list_does : {D : Type 0} (drive : Ghosts D) (old new : D) (sink : Written) (status : ℕ) (log : Option Log) (end : ListEnd)
-    → IsListEnd (looked drive old new) end → Looks drive ((23 + 2 * (drive.limits old).cap_ip + 2 * (drive.limits old).cap_dp) * drive.MOST) old new
+    → IsListEnd (looked drive old new) end → Looks drive (mount_most (drive.limits old) * drive.MOST) old new
     → EndsAs (of_list end) sink status log → DoesList drive old new sink status log
 list_does drive old new sink status log end is looks told =
     let seen = looked drive old new in
@@ -111,7 +112,7 @@ of_told (Some c) found sink status is told = (listing_of (tape_of c) found, is c
 
 pub found_listed : {D : Type 0} (drive : Ghosts D) (old new : D) (sink : Written) (status : ℕ) (found : FoundTree)
     → ((c : Cartridge) → drive.held old ≡ Some c → IsListingOf c (listing_of (tape_of c) found)) → ((tape : Tape) → IsListingTold (listing_of tape found) sink status)
-    → Looks drive ((23 + 2 * (drive.limits old).cap_ip + 2 * (drive.limits old).cap_dp) * drive.MOST) old new
+    → Looks drive (mount_most (drive.limits old) * drive.MOST) old new
     → DoesList drive old new sink status None
 found_listed drive old new sink status found is told looks = by_told (of_told (drive.held old) found sink status is told)
   where
@@ -125,7 +126,7 @@ found_listed drive old new sink status found is told looks = by_told (of_told (d
 -- a check that failed is told, or that memory was refused for that
 pub list_unread : {D : Type 0} (drive : Ghosts D) (old mid new : D) (sink : Written) (status : ℕ) (log : Option Log) (e : MountErr)
     → new ≡ mid → log ≡ None → ((c : Cartridge) → drive.held old ≡ Some c → Blames e c) → AreCounts (drive.faults old) (drive.faults mid) e
-    → Looks drive ((23 + 2 * (drive.limits old).cap_ip + 2 * (drive.limits old).cap_dp) * drive.MOST) old mid
+    → Looks drive (mount_most (drive.limits old) * drive.MOST) old mid
     → (wanted : ℕ) → wanted ≡ mount_status e → IsTold wanted (mount_text e) sink status ⊎ IsTold 7 (codes "memory\n") sink status → DoesList drive old new sink status log
 list_unread drive old mid new sink status log e same none is counts looks wanted status_is_that (inl told) = subst (λ d. DoesList drive old d sink status log) (sym same)
     (list_does drive old mid sink status log (unlisted e) (if_some (drive.held old) (λ c. Blames e c) is, counts) looks (none, subst (λ w. IsTold w (mount_text e) sink status) status_is_that told))

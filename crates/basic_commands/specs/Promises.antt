@@ -8,6 +8,7 @@ use Rattle.tape_types.specs.declared.moments.Moment.{Moment}
 use Rattle.plain_tree.specs.Tree.{Tree}
 use Rattle.session_script.specs.Grammar.{script_of}
 use Rattle.session_script.specs.declared.logs.Log.{Log}
+use Rattle.mount_recover.specs.Known.{mount_most}
 use Rattle.tape_drive.specs.Looks.{Looks}
 use Rattle.tape_drive.specs.declared.drive.Drive.{Ghosts}
 use Rattle.cartridge_meaning.specs.Carried.{Carried}
@@ -88,7 +89,7 @@ pub record DoesList {D : Type 0} (drive : Ghosts D) (old new : D) (sink : Writte
   pub complete : ¬ (Rose (drive.faults old) (drive.faults new)) → ¬ (Rose sink.before sink.now)
       → IfSome (drive.held old) (λ c. Found c → IsOneOf status (0 ∷ 7 ∷ []))
   -- the cartridge is only looked at
-  pub looks : Looks drive ((23 + 2 * (drive.limits old).cap_ip + 2 * (drive.limits old).cap_dp) * drive.MOST) old new
+  pub looks : Looks drive (mount_most (drive.limits old) * drive.MOST) old new
   pub no_log : log ≡ None
   pub told : (end : ListEnd) × IsListEnd (looked drive old new) end × EndsAs (of_list end) sink status log
 

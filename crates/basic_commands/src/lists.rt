@@ -1,8 +1,10 @@
-ghost use Rattle.std.specs.Prelude.{◌≡◌, ◌+◌, ◌*◌, Some, IfOk, IfErr};
+ghost use Rattle.std.specs.Prelude.{◌≡◌, ◌*◌, Some, IfOk, IfErr, IfSome};
 ghost use Rattle.extent_map.specs.Cells.{Tape, tape_of};
 ghost use Rattle.tape_drive.specs.Looks.{Looks};
+ghost use Rattle.cartridge_meaning.specs.Notes.{HasHonestNotes};
 ghost use Rattle.cartridge_meaning.specs.Pointers.{letter_of};
 ghost use Rattle.tape_types.specs.declared.cartridges.Cartridge.{Cartridge};
+ghost use Rattle.mount_recover.specs.Known.{mount_most};
 ghost use Rattle.mount_recover.specs.Labels.{HasCounts};
 ghost use Rattle.mount_recover.specs.Steps.{Blames};
 ghost use Rattle.basic_commands.specs.Listings.{IsListingOf, listing_of};
@@ -35,6 +37,7 @@ pub struct FoundTree {
 /// The command `list`: mounts the cartridge, and writes a line for each node of its tree and one for its index, a piece
 /// at a time. Nothing is written to the cartridge.
 pub fn run_list<D: Drive, K: Sink>(alloc: Global, drive: D, out: &mut K) -> Ended<D>
+    requires honest { IfSome (D.held drive) HasHonestNotes }
     ensures { DoesList D.Drive drive result.drive (written K.Sink out.old out.new) result.status result.log }
 {
     let mut drive = drive;
@@ -59,12 +62,13 @@ pub fn run_list<D: Drive, K: Sink>(alloc: Global, drive: D, out: &mut K) -> Ende
 
 /// Mounts the cartridge in a drive, and makes the tree of the index that is found.
 fn find_tree<D: Drive>(alloc: Global, drive: &mut D) -> Result<FoundTree, MountErr>
+    requires honest { IfSome (D.held drive.old) HasHonestNotes }
     ensures found { IfOk result (λ f. (c : Cartridge) → D.held drive.old ≡ Some c
         → IsListingOf c (listing_of (tape_of c) f)) }
     ensures refused { IfErr result (λ e. (c : Cartridge) → D.held drive.old ≡ Some c → Blames e c) }
     ensures counts { HasCounts (D.faults drive.old) (D.faults drive.new) result }
     ensures looks { Looks D.Drive
-        ((23 + 2 * (D.limits drive.old).cap_ip + 2 * (D.limits drive.old).cap_dp) * D.MOST) drive.old drive.new }
+        (mount_most (D.limits drive.old) * D.MOST) drive.old drive.new }
 {
     let _capacities_are_in_range = drive.limits();
     let mounted = match mount(alloc, drive) {

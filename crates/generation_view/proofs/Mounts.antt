@@ -13,6 +13,7 @@ use Rattle.cartridge_meaning.specs.declared.errors.MountErr.TheVariants as error
 use Rattle.cartridge_meaning.specs.declared.mounted.Mounted.{Mounted}
 use Rattle.volume_scan.specs.declared.content.Content.{Content}
 use Rattle.volume_scan.specs.Scans.{AreBetween, IsContent, IsInPlaces}
+use Rattle.mount_recover.specs.Known.{mount_most}
 use Rattle.mount_recover.specs.Labels.{HasCounts}
 use Rattle.mount_recover.specs.Lasts.{IsSoundMount, LacksLayout}
 use Rattle.mount_recover.specs.Steps.{Blames, IsSince, IsStep}
@@ -33,10 +34,10 @@ module _ {D : Type 0} (drive : Ghosts D) (start : Start) (a b : D) (since : IsSi
       → IfOk r (λ m. (c : Cartridge) → drive.held a ≡ Some c → Mounts c m)
       → IfErr r (λ e. (c : Cartridge) → drive.held a ≡ Some c → Blames e c)
       → IfOk r (IsSoundMount (drive.limits a)) → HasCounts (drive.faults a) (drive.faults b) r
-      → Looks drive ((23 + 2 * (drive.limits a).cap_ip + 2 * (drive.limits a).cap_dp) * drive.MOST) a b
-      → IsStep drive start (23 + 2 * start.limits.cap_ip + 2 * start.limits.cap_dp) a b (λ m c. Mounts c m) (IsSoundMount start.limits) Blames r
+      → Looks drive (mount_most (drive.limits a) * drive.MOST) a b
+      → IsStep drive start (mount_most start.limits) a b (λ m c. Mounts c m) (IsSoundMount start.limits) Blames r
   mounted_step r now found refused any counts looks =
-      let within = subst (λ (l : Limits). Looks drive ((23 + 2 * l.cap_ip + 2 * l.cap_dp) * drive.MOST) a b) since.limits looks in
+      let within = subst (λ (l : Limits). Looks drive (mount_most l * drive.MOST) a b) since.limits looks in
       record {
         found = found;
         any = subst (λ (l : Limits). IfOk r (IsSoundMount l)) since.limits any;

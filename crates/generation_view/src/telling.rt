@@ -5,7 +5,9 @@ ghost use Rattle.tape_types.specs.declared.cartridges.Cartridge.{Cartridge};
 ghost use Rattle.tape_drive.specs.Looks.{Looks};
 ghost use Rattle.cartridge_meaning.specs.Meaning.{Found};
 ghost use Rattle.cartridge_meaning.specs.Mounts.{Mounts};
+ghost use Rattle.cartridge_meaning.specs.Notes.{HasHonestNotes};
 ghost use Rattle.volume_scan.specs.Scans.{AreBetween};
+ghost use Rattle.mount_recover.specs.Known.{mount_most};
 ghost use Rattle.mount_recover.specs.Lasts.{IsSoundMount};
 ghost use Rattle.mount_recover.specs.Steps.{Blames, IsFree, IsSince, IsStep};
 ghost use Rattle.generation_view.specs.Told.{AreKnown, HasCounts, IsToldOf, RefusesChain, TellsChain, TellsWalk, refusal};
@@ -51,11 +53,12 @@ pub enum Walked {
 /// its first block and the first test that it fails; `Drive` where the drive failed, and `NoMemory` where memory was
 /// refused.
 pub fn generations<D: Drive>(alloc: Global, drive: &mut D) -> Result<List<Generation>, ViewErr>
+    requires honest { IfSome (D.held drive.old) HasHonestNotes }
     ensures found { IfOk result (λ told. (c : Cartridge) → D.held drive.old ≡ Some c → TellsChain told c) }
     ensures refused { IfErr result (λ e. (c : Cartridge) → D.held drive.old ≡ Some c → RefusesChain e c) }
     ensures counts { HasCounts (D.faults drive.old) (D.faults drive.new) result }
     ensures looks { Looks D.Drive
-        ((26 + 2 * (D.limits drive.old).cap_ip + 5 * (D.limits drive.old).cap_dp) * D.MOST) drive.old drive.new }
+        ((mount_most (D.limits drive.old) + (1 + 2 * (D.limits drive.old).cap_dp)) * D.MOST) drive.old drive.new }
 {
     let start = begin(drive);
     match walk_all(alloc, drive, start) {
@@ -85,8 +88,9 @@ fn refusal(fault: MountErr) -> ViewErr
 /// Mounts the cartridge, and walks along the chain.
 fn walk_all<D: Drive>(alloc: Global, drive: &mut D, start: Start) -> Result<Walked, MountErr>
     requires since { IsSince D.Drive start drive.old }
+    requires honest { IfSome (D.held drive.old) HasHonestNotes }
     requires now { start.faults ≡ D.faults drive.old }
-    ensures { IsStep D.Drive start ((23 + 2 * start.limits.cap_ip + 2 * start.limits.cap_dp)
+    ensures { IsStep D.Drive start (mount_most start.limits
         + ((1 + start.limits.cap_dp) + start.limits.cap_dp)) drive.old drive.new
         (λ walk c. (found : Found c) × TellsWalk c found walk) (λ walk. Unit {0}) Blames result }
 {
@@ -96,8 +100,9 @@ fn walk_all<D: Drive>(alloc: Global, drive: &mut D, start: Start) -> Result<Walk
 
 fn mount_first<D: Drive>(alloc: Global, drive: &mut D, start: Start) -> Result<Mounted, MountErr>
     requires since { IsSince D.Drive start drive.old }
+    requires honest { IfSome (D.held drive.old) HasHonestNotes }
     requires now { start.faults ≡ D.faults drive.old }
-    ensures { IsStep D.Drive start (23 + 2 * start.limits.cap_ip + 2 * start.limits.cap_dp) drive.old drive.new
+    ensures { IsStep D.Drive start (mount_most start.limits) drive.old drive.new
         (λ m c. Mounts c m) (IsSoundMount start.limits) Blames result }
 {
     mount(alloc, drive)

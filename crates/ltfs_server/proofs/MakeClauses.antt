@@ -10,6 +10,7 @@ use Rattle.session_script.specs.declared.logs.Log.{Log}
 use Rattle.tape_drive.specs.Looks.{Looks}
 use Rattle.tape_drive.specs.declared.drive.Drive.{Ghosts}
 use Rattle.cartridge_meaning.specs.Meaning.{Found}
+use Rattle.mount_recover.specs.Known.{mount_most}
 use Rattle.mount_recover.specs.Steps.{Blames}
 use Rattle.serving_promise.specs.Headline.{Closed, Failed, Short}
 use Rattle.basic_commands.specs.Headline.{IsMountFaultPrinted}
@@ -125,7 +126,7 @@ module _ {D : Type 0} (drive : Ghosts D) (old new : D) (moment : Option Moment) 
     memory_is (starved l) told = told.1
 
     pub make_does : (status : ℕ) (end : MadeEnd) → Ends end
-        → (made_log end ≡ None → Looks drive ((23 + 2 * (drive.limits old).cap_ip + 2 * (drive.limits old).cap_dp) * drive.MOST) old new)
+        → (made_log end ≡ None → Looks drive (mount_most (drive.limits old) * drive.MOST) old new)
         → drive.limits new ≡ drive.limits old → (drive.held old ≡ None → drive.held new ≡ None) → EndsAs (of_make end) sink status log → DoesMake moment count drive old new sink status log
     make_does status end is looks limits untold told =
         let w = made_status end in

@@ -11,6 +11,7 @@ use Rattle.session_script.specs.declared.scripts.ScriptLine.{ScriptLine}
 use Rattle.tape_drive.specs.Looks.{Looks}
 use Rattle.tape_drive.specs.declared.drive.Drive.{Ghosts}
 use Rattle.cartridge_meaning.specs.Meaning.{Found}
+use Rattle.mount_recover.specs.Known.{mount_most}
 use Rattle.mount_recover.specs.Steps.{Blames}
 use Rattle.serving_promise.specs.Headline.{Closed, Failed, ServeEnd, Short}
 use Rattle.basic_commands.specs.Headline.{IsMountFaultPrinted, IsReadFaultPrinted, IsRefusalPrinted}
@@ -220,7 +221,7 @@ module _ {D : Type 0} (drive : Ghosts D) (old new : D) (moment : Option Moment) 
     memory_is (unwritten l) same told = subst (IsRefusedPrinted sink) (sym same) (inl told.1)
 
     pub serve_does : (status : ℕ) (end : ServedEnd) → Ends end
-        → (served_log end ≡ None → Looks drive ((23 + 2 * (drive.limits old).cap_ip + 2 * (drive.limits old).cap_dp) * drive.MOST) old new)
+        → (served_log end ≡ None → Looks drive (mount_most (drive.limits old) * drive.MOST) old new)
         → drive.limits new ≡ drive.limits old → (drive.held old ≡ None → drive.held new ≡ None) → EndsAs (of_serve end) sink status log → DoesServe moment source drive old new sink status log
     serve_does status end is looks limits untold told =
         let w = served_status end in

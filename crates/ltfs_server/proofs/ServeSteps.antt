@@ -13,6 +13,7 @@ use Rattle.tape_drive.proofs.Looking.{more_looks, no_looks}
 use Rattle.cartridge_meaning.specs.Faults.{MountFault}
 use Rattle.cartridge_meaning.specs.declared.errors.MountErr.{MountErr}
 use Rattle.cartridge_meaning.specs.declared.errors.MountErr.TheVariants as errors
+use Rattle.mount_recover.specs.Known.{mount_most}
 use Rattle.mount_recover.specs.Labels.{AreCounts}
 use Rattle.mount_recover.specs.Steps.{Blames}
 use Rattle.serving_promise.specs.Ends.{bounded}
@@ -87,7 +88,7 @@ module _ {D : Type 0} (drive : Ghosts D) (moment : Option Moment) (source : Take
   -- the cartridge was looked at and not served, which is told, or that memory was refused
   pub serve_unmounted : (old mid new : D) (log : Option Log) (e : MountErr) → new ≡ mid → log ≡ None → ((script : List ScriptLine) × IsScriptIn source script)
       → IfSome (drive.held old) (λ c. Blames e c) → AreCounts (drive.faults old) (drive.faults mid) e
-      → Looks drive ((23 + 2 * (drive.limits old).cap_ip + 2 * (drive.limits old).cap_dp) * drive.MOST) old mid
+      → Looks drive (mount_most (drive.limits old) * drive.MOST) old mid
       → (wanted : ℕ) → wanted ≡ mount_status e → IsTold wanted (mount_text e) sink status ⊎ IsTold 7 (codes "memory\n") sink status
       → DoesServe moment source drive old new sink status log
   serve_unmounted old mid new log e same none script is counts looks wanted status_is told =

@@ -6,6 +6,7 @@ use Rattle.tape_types.specs.Counts.{Rose}
 use Rattle.tape_types.specs.declared.moments.Moment.{Moment}
 use Rattle.session_script.specs.Grammar.{script_of}
 use Rattle.session_script.specs.declared.logs.Log.{Log}
+use Rattle.mount_recover.specs.Known.{mount_most}
 use Rattle.tape_drive.specs.Looks.{Looks}
 use Rattle.tape_drive.specs.declared.drive.Drive.{Ghosts}
 use Rattle.cartridge_meaning.specs.Meaning.{Found}
@@ -54,7 +55,7 @@ pub record DoesServe {D : Type 0} (moment : Option Moment) (source : Taken) (dri
       → IfSome (drive.held old) (λ c. Found c → IsOneOf status (0 ∷ 7 ∷ 8 ∷ [])))
   -- without a log the cartridge is only looked at
   pub looks : log ≡ None
-      → Looks drive ((23 + 2 * (drive.limits old).cap_ip + 2 * (drive.limits old).cap_dp) * drive.MOST) old new
+      → Looks drive (mount_most (drive.limits old) * drive.MOST) old new
   -- whatever comes of it: the limits stay, and a drive that doesn't tell doesn't begin to
   pub limits : drive.limits new ≡ drive.limits old
   pub untold : drive.held old ≡ None → drive.held new ≡ None
@@ -85,7 +86,7 @@ pub record DoesMake {D : Type 0} (moment : Option Moment) (count : ℕ) (drive :
       → IfSome (drive.held old) (λ c. Found c → IsOneOf status (0 ∷ 7 ∷ 8 ∷ []))
   -- without a log the cartridge is only looked at
   pub looks : log ≡ None
-      → Looks drive ((23 + 2 * (drive.limits old).cap_ip + 2 * (drive.limits old).cap_dp) * drive.MOST) old new
+      → Looks drive (mount_most (drive.limits old) * drive.MOST) old new
   -- whatever comes of it: the limits stay, and a drive that doesn't tell doesn't begin to
   pub limits : drive.limits new ≡ drive.limits old
   pub untold : drive.held old ≡ None → drive.held new ≡ None
@@ -103,6 +104,10 @@ pub record RefusesWords {D : Type 0} (sink : Written) (old new : D) (status : �
 -- the words are those of a command that goes to the drive
 abbrev pub AskForDrive : List (String Global) → Type 0
 AskForDrive words = IsLabel words ⊎ (IsList words ⊎ (IsFormat words ⊎ (IsServe words ⊎ IsMake words)))
+
+-- the words are those of a command that mounts a cartridge
+abbrev pub AskToMount : List (String Global) → Type 0
+AskToMount words = IsList words ⊎ (IsServe words ⊎ IsMake words)
 
 -- the words are those of a command that reads a script
 abbrev pub ReadScripts : List (String Global) → Type 0

@@ -4,6 +4,7 @@ use Rattle.std.specs.Prelude.{IfSome, codes}
 use Rattle.std.specs.Io.KnownBytes.{Appends}
 use Rattle.tape_types.specs.Counts.{Rose}
 use Rattle.tape_types.specs.declared.moments.Moment.{Moment}
+use Rattle.mount_recover.specs.Known.{mount_most}
 use Rattle.tape_drive.specs.Looks.{Looks}
 use Rattle.tape_drive.specs.Memory.{View}
 use Rattle.tape_drive.specs.declared.drive.Drive.{Ghosts}
@@ -150,7 +151,7 @@ abbrev pub SentenceHolds : {D : Type 0} → Asked → Option Moment → Taken �
 SentenceHolds asked moment source drive old new sink status (Some log) =
     Sentence asked moment source drive old new sink status log
 SentenceHolds asked moment source drive old new sink status None =
-    Looks drive ((23 + 2 * (drive.limits old).cap_ip + 2 * (drive.limits old).cap_dp) * drive.MOST) old new
+    Looks drive (mount_most (drive.limits old) * drive.MOST) old new
 
 -- ---- the drive in memory
 

@@ -3,6 +3,7 @@
 ghost use Rattle.std.specs.Prelude.{◌≡◌, ◌≤◌, ℕ, Option as Maybe, IfOk, IfSome};
 ghost use Rattle.session_script.specs.Made.{made_script};
 ghost use Rattle.tape_edge.specs.Clocks.{IsSince1970};
+ghost use Rattle.cartridge_meaning.specs.Notes.{HasHonestNotes};
 ghost use Rattle.tape_types.specs.declared.moments.Moment.{Moment as Instant};
 ghost use Rattle.serving_promise.specs.Ends.{bounded};
 ghost use Rattle.session_run.specs.Serving.{Whole};
@@ -44,6 +45,7 @@ pub fn run_make<
 ) -> Ended<D>
     requires few { count ≤ 1024 }
     requires since { IfSome at IsSince1970 }
+    requires honest { IfSome (D.held drive) HasHonestNotes }
     requires allowed { MayServe D.Drive (made_script count) (one_moment at (C.one clock)) drive }
     ensures { DoesMake (one_moment at (C.one clock)) count D.Drive drive result.drive (written K.Sink out.old out.new)
         result.status result.log }

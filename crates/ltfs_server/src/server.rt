@@ -1,11 +1,12 @@
-ghost use Rattle.std.specs.Prelude.{ℕ, Option};
+ghost use Rattle.std.specs.Prelude.{ℕ, IfSome, Option};
 ghost use Rattle.tape_types.specs.declared.moments.Moment.{Moment as Instant};
 ghost use Rattle.command_line.specs.Forms.{HasNoForm, IsFormatWords, IsLabel, IsList, IsMakeWords, IsPlain};
 ghost use Rattle.command_line.specs.Forms.{IsPlainWords, IsServe, IsServeWords};
 ghost use Rattle.command_line.specs.declared.volumes.FormatWords.{FormatWords};
+ghost use Rattle.cartridge_meaning.specs.Notes.{HasHonestNotes};
 ghost use Rattle.ltfs_server.specs.Outcomes.{Ending, EndsAs, IsCaused};
 ghost use Rattle.basic_commands.specs.Promises.{DoesFormat, DoesLabel, DoesList, DoesPlain};
-ghost use Rattle.ltfs_server.specs.Promises.{ComesOf, DoesAsked, DoesMake};
+ghost use Rattle.ltfs_server.specs.Promises.{AskToMount, ComesOf, DoesAsked, DoesMake};
 ghost use Rattle.ltfs_server.specs.Promises.{DoesServe, RefusesWords};
 ghost use Rattle.basic_commands.specs.Runs.{TakesNothing, taken, written};
 ghost use Rattle.ltfs_server.specs.Sentence.{Asked, Asks, SentenceHolds};
@@ -43,6 +44,8 @@ pub fn run<
     clock: C,
     gate: &G,
 ) -> Ended<D>
+    // Where the cartridge is to be mounted, and the drive tells it, its notes are honest.
+    requires honest { AskToMount words.now.items → IfSome (D.held drive) HasHonestNotes }
     // A drive that tells its cartridge has an owner, who allows what a crash may leave of it. For `format` everything
     // is allowed; for `serve` and `make` everything, or what the script may leave of the cartridge's tree.
     requires formats { (asked : FormatWords) → IsFormatWords words.now.items asked → AllowsAll D.allows }
@@ -121,6 +124,7 @@ fn run_asked<
     clock: C,
     gate: &G,
 ) -> Ended<D>
+    requires honest { AskToMount words.now.items → IfSome (D.held drive) HasHonestNotes }
     requires formats { (asked : FormatWords) → IsFormatWords words.now.items asked → AllowsAll D.allows }
     requires serves { (at : Option Instant) → IsServeWords words.now.items at
         → MayServeLeft D.Drive (S.left script.old) (one_moment at (C.one clock)) drive }

@@ -4,6 +4,7 @@ ghost use Rattle.std.specs.Prelude.{◌≡◌, IfOk, IfSome, List, Option};
 ghost use Rattle.tape_types.specs.declared.moments.Moment.{Moment as Instant};
 ghost use Rattle.session_script.specs.declared.scripts.ScriptLine.{ScriptLine};
 ghost use Rattle.tape_edge.specs.Clocks.{IsSince1970};
+ghost use Rattle.cartridge_meaning.specs.Notes.{HasHonestNotes};
 ghost use Rattle.basic_commands.specs.Runs.{IsScriptIn, Taken, taken, written};
 ghost use Rattle.session_run.specs.Serving.{Whole};
 ghost use Rattle.session_run.specs.Timed.{one_moment};
@@ -41,6 +42,7 @@ pub fn run_serve<
     gate: &G,
 ) -> Ended<D>
     requires since { IfSome at IsSince1970 }
+    requires honest { IfSome (D.held drive) HasHonestNotes }
     requires allowed { MayServeLeft D.Drive (S.left script.old) (one_moment at (C.one clock)) drive }
     ensures { DoesServe (one_moment at (C.one clock)) (taken S.Source script.old script.new) D.Drive drive result.drive
         (written K.Sink out.old out.new) result.status result.log }

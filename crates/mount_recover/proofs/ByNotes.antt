@@ -1,12 +1,12 @@
 -- The choice by the notes.
-use Rattle.std.proofs.Common.{ℕ, ◌+◌, ◌-◌, ◌≤◌, ◌<◌, ◌≡◌, ◌≢◌, ◌⊎◌, inl, inr, true, List, [], ◌∷◌, length, Option, Some, None, Result, Ok, Err, IfErr, refl, sym, ◌∙◌, ap, subst, arith}
-use Rattle.std.specs.Prelude.{IfNone, IfSome, MatchOption, ◌↔◌}
+use Rattle.std.proofs.Common.{ℕ, ◌+◌, ◌≤◌, ◌<◌, ◌≡◌, ◌⊎◌, inl, inr, List, [], ◌∷◌, length, Option, Some, None, refl, sym, ◌∙◌, ap, subst, arith}
+use Rattle.std.specs.Prelude.{IfNone, IfSome, MatchOption}
 use Rattle.tape_types.specs.declared.cartridges.Cartridge.{Cartridge}
 use Rattle.tape_types.specs.declared.cartridges.Limits.{Limits}
 use Rattle.tape_types.specs.declared.cartridges.Note.{Note}
 use Rattle.tape_types.specs.declared.cartridges.Part.{Part}
 use Rattle.tape_types.specs.declared.cartridges.Part.TheVariants.{Ip, Dp}
-use Rattle.tape_types.specs.Cartridges.{FitsLimits, IsLimits, capacity, items_of, note_of}
+use Rattle.tape_types.specs.Cartridges.{FitsLimits, capacity, items_of, note_of}
 use Rattle.coherency.specs.declared.Coherency.{Coherency}
 use Rattle.coherency.specs.Notes.{IsCurrent}
 use Rattle.ltfs_label.specs.declared.Label.{Label}
@@ -16,19 +16,16 @@ use Rattle.content_laws.specs.Content.{content}
 use Rattle.content_laws.specs.Ends.{EndsWithLast, end_dp, end_ip}
 use Rattle.content_laws.proofs.Placed.{AreOrdered, content_placed, end_dp_least, end_dp_within}
 use Rattle.content_laws.proofs.Whole.{front_within}
-use Rattle.cartridge_meaning.specs.Faults.{MountFault}
 use Rattle.cartridge_meaning.specs.Labels.{HasLabels}
-use Rattle.cartridge_meaning.specs.Meaning.{Found, HasForms, dp_end, ip_end}
+use Rattle.cartridge_meaning.specs.Meaning.{Found, HasForms}
 use Rattle.cartridge_meaning.specs.Notes.{HasHonestNotes, IsCoherent, IsHonestNote}
 use Rattle.cartridge_meaning.specs.Pointers.{indexes_of}
-use Rattle.cartridge_meaning.specs.declared.errors.MountErr.{MountErr}
 use Rattle.cartridge_meaning.specs.declared.labels.Labels.{Labels}
-use Rattle.cartridge_meaning.proofs.OneFault.{found_no_fault}
 use Rattle.cartridge_meaning.proofs.OneWay.{labels_once}
 use Rattle.volume_scan.specs.declared.content.Construct.{Construct}
 use Rattle.mount_recover.specs.Known.{IsKnownByNotes, blocks_of_newest, last_blocks}
-use Rattle.mount_recover.specs.Lasts.{AreLasts, AreSoundLasts, EndsAs, IsChosen, IsDecided, IsSoundChoice, IsSoundLast, TellsBoth, TellsStanding, dp_in, ip_in, newest, place_in, standing_of}
-use Rattle.mount_recover.specs.Noted.{AreEndsBy, AreEndsOf, AreEndsWithin, AreNamed, AreNotedLasts, AreNotes, AreTold, CanBegin, EndWithLasts, IsChosenByNotes, IsCurrentAs, IsLastFrom, IsNotedLast, IsTold}
+use Rattle.mount_recover.specs.Lasts.{AreLasts, AreSoundLasts, EndsAs, IsDecided, IsSoundChoice, IsSoundLast, TellsStanding, dp_in, ip_in, newest, place_in, standing_of}
+use Rattle.mount_recover.specs.Noted.{AreEndsBy, AreEndsOf, AreEndsWithin, AreNamed, AreNotedLasts, AreNotes, AreTold, CanBegin, EndWithLasts, IsChosenByNotes, IsCurrentAs, IsNotedLast, IsTold}
 use Rattle.mount_recover.specs.declared.choices.Choice.{Choice}
 use Rattle.mount_recover.specs.declared.choices.Standing.{Standing}
 use Rattle.mount_recover.specs.declared.extents.Ends.{Ends}

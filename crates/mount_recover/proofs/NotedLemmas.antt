@@ -1,16 +1,13 @@
 -- The last indexes by the notes.
-use Rattle.std.proofs.Common.{ℕ, zero, suc, ◌+◌, ◌-◌, ◌≤◌, ◌<◌, ◌≡◌, ◌≢◌, ◌⊎◌, inl, inr, Bool, true, false, List, [], ◌∷◌, length, map, reverse, Option, Some, None, refl, sym, ◌∙◌, ap, subst, arith}
+use Rattle.std.proofs.Common.{ℕ, ◌-◌, ◌≤◌, ◌≡◌, ◌≢◌, inl, Bool, true, false, List, [], ◌∷◌, map, reverse, Option, Some, None, refl, sym, ◌∙◌, ap, subst, arith}
 use Rattle.std.proofs.lemmas.Bool.Decides.{nat_tests}
-use Rattle.std.specs.Prelude.{IfNone, IfSome, MatchOption, ◌↔◌, nat_lt, cond}
+use Rattle.std.specs.Prelude.{IfNone, IfSome, MatchOption, nat_lt, cond}
 use Rattle.tape_types.specs.declared.cartridges.Cartridge.{Cartridge}
-use Rattle.tape_types.specs.declared.cartridges.Item.{Item}
 use Rattle.tape_types.specs.declared.cartridges.Limits.{Limits}
-use Rattle.tape_types.specs.declared.cartridges.Note.{Note}
 use Rattle.tape_types.specs.declared.cartridges.Part.{Part}
 use Rattle.tape_types.specs.declared.cartridges.Part.TheVariants.{Ip, Dp}
-use Rattle.tape_types.specs.Cartridges.{IsLimits, items_of, note_of}
+use Rattle.tape_types.specs.Cartridges.{IsLimits, items_of}
 use Rattle.coherency.specs.declared.Coherency.{Coherency}
-use Rattle.coherency.specs.Notes.{HasValues, IsCurrent}
 use Rattle.index_model.specs.Grammar.{IndexText, Stops}
 use Rattle.index_model.specs.declared.errors.IndexErr.{IndexErr}
 use Rattle.index_model.specs.declared.errors.IndexErr.TheVariants as index_errors
@@ -22,28 +19,23 @@ use Rattle.ltfs_label.specs.declared.Label.{Label}
 use Rattle.content_laws.specs.Readings as readings
 use Rattle.content_laws.specs.Readings.{first_of}
 use Rattle.content_laws.specs.Ends.{EndsWithLast}
-use Rattle.cartridge_meaning.specs.Labels.{HasLabels}
-use Rattle.cartridge_meaning.specs.Meaning.{Found}
-use Rattle.cartridge_meaning.specs.Notes.{HasHonestNotes, IsCoherent, IsHonestNote, LastReads, TellsOfLast}
-use Rattle.cartridge_meaning.specs.Pointers.{IsLastOnDp, IsLastOnIp, IsOfVolume, chosen, indexes_of, last_block, letter_of, newest_spot, text_of}
+use Rattle.cartridge_meaning.specs.Pointers.{IsLastOnDp, IsLastOnIp, chosen, indexes_of, last_block, letter_of, newest_spot, text_of}
 use Rattle.cartridge_meaning.specs.declared.labels.Labels.{Labels}
 use Rattle.cartridge_meaning.proofs.OneWay.{labels_once, last_dp_once, last_ip_once}
 use Rattle.volume_scan.specs.declared.content.Construct.{Construct}
 use Rattle.volume_scan.specs.Scans.{places_of}
 use Rattle.mount_recover.specs.Known.{IsKnownByNotes}
 use Rattle.mount_recover.specs.Labels.{AreLabels}
-use Rattle.mount_recover.specs.Lasts.{AreLasts, IsDocument, IsInPlace, IsKnownIp, IsLastDp, IsLastIp, IsSoundLast, IsTextOf, IsTwinAt, dp_in, ip_in, newest, pointed, twin_of}
-use Rattle.mount_recover.specs.Noted.{AreNamed, AreNotedLasts, AreNotes, AreTold, CanBegin, EndWithLasts, EndsAt, Follows, IsAsNoted, IsCurrentAs, IsEnding, IsLastFrom, IsNotedLast, IsNotedText, IsOfNote, IsTold, lacks_memory}
+use Rattle.mount_recover.specs.Lasts.{AreLasts, IsDocument, IsInPlace, IsKnownIp, IsLastDp, IsLastIp, IsTextOf, IsTwinAt, newest, twin_of}
+use Rattle.mount_recover.specs.Noted.{AreNotedLasts, AreTold, EndWithLasts, EndsAt, Follows, IsEnding, IsLastFrom, IsNotedLast, IsNotedText, IsOfNote, IsTold, lacks_memory}
 use Rattle.mount_recover.specs.declared.endings.Ending.{Ending}
 use Rattle.mount_recover.specs.declared.lasts.Last.{Last}
 use Rattle.mount_recover.specs.declared.lasts.Lasts.{Lasts}
 use Rattle.mount_recover.specs.declared.lasts.Lasts.TheVariants as found
 use Rattle.mount_recover.specs.declared.lasts.Twin.{Twin}
 use Rattle.mount_recover.specs.declared.notes.Named.{Named}
-use Rattle.mount_recover.specs.declared.notes.Notes.{Notes}
 use Rattle.mount_recover.proofs.LastLemmas.{of_newest, right_ip}
 use Rattle.mount_recover.proofs.MountLemmas.{spot_of}
-use Rattle.mount_recover.proofs.ScanLemmas.{long_front}
 use Rattle.mount_recover.proofs.TwinLemmas.{right_twin, sound_twin}
 
 -- ---- an index that is as a note says

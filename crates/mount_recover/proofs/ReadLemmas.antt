@@ -19,7 +19,6 @@ use Rattle.ltfs_label.specs.Values.{LabelValue, label_of}
 use Rattle.ltfs_label.specs.Reading.{IsReadOr}
 use Rattle.ltfs_label.specs.declared.Label.{Label}
 use Rattle.ltfs_label.specs.declared.errors.LabelErr.{LabelErr}
-use Rattle.ltfs_label.specs.declared.errors.LabelErr.TheVariants as errors
 use Rattle.cartridge_meaning.specs.Labels.{HasLabel, HasSomeLabel, HasSomeRecord, IsMarkedBlock}
 use Rattle.mount_recover.specs.Labels.{IsSpelled, is_block, is_mark, is_no_memory}
 

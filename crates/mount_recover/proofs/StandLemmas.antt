@@ -6,7 +6,7 @@ use Rattle.std.proofs.lemmas.Option.{slice_get-map}
 use Rattle.std.specs.Option.{option_map}
 use Rattle.tape_types.specs.declared.cartridges.Item.{Item}
 use Rattle.tape_types.specs.declared.cartridges.Item.TheVariants.{Block, Mark, Torn}
-use Rattle.content_laws.specs.Readings.{Construct, Group, HasForm, constructs_from, first_of, front, items_of_group, items_of_tail}
+use Rattle.content_laws.specs.Readings.{Construct, Group, HasForm, constructs_from, front, items_of_group, items_of_tail}
 use Rattle.content_laws.specs.Content.{content}
 use Rattle.content_laws.specs.Content as content
 use Rattle.content_laws.proofs.ReadForms.{form}

@@ -1,5 +1,5 @@
 -- What a mount finds by the notes of a cartridge.
-use Rattle.std.specs.Prelude.{ℕ, ◌+◌, ◌*◌, ◌≤◌, ◌<◌, ◌≡◌, ◌≢◌, List, [], ◌∷◌, Bool, true, false, length, slice_get, Option, Some, None, MatchOption, IfSome}
+use Rattle.std.specs.Prelude.{ℕ, ◌+◌, ◌*◌, ◌≤◌, ◌<◌, ◌≡◌, List, ◌∷◌, Bool, true, false, length, slice_get, Option, Some, IfSome}
 use Rattle.std.specs.List.{concat}
 use Rattle.tape_types.specs.declared.cartridges.Cartridge.{Cartridge}
 use Rattle.tape_types.specs.declared.cartridges.Item.{Item}
@@ -28,7 +28,7 @@ use Rattle.cartridge_meaning.specs.Notes.{TellsOfLast}
 use Rattle.cartridge_meaning.specs.Pointers.{indexes_of, letter_of}
 use Rattle.cartridge_meaning.specs.declared.labels.Labels.{Labels}
 use Rattle.volume_scan.specs.declared.content.Construct.{Construct}
-use Rattle.mount_recover.specs.Lasts.{AreLasts, EndsAs, IsDecided, IsDocument, IsInPlace, IsLastDp, IsPut, IsSoundLast, StandAt, TellsBoth, dp_in, ip_in, newest}
+use Rattle.mount_recover.specs.Lasts.{EndsAs, IsDecided, IsDocument, IsInPlace, IsPut, IsSoundLast, StandAt, TellsBoth, dp_in, ip_in, newest}
 use Rattle.mount_recover.specs.declared.choices.Choice.{Choice}
 use Rattle.mount_recover.specs.declared.choices.Standing.{Standing}
 use Rattle.mount_recover.specs.declared.extents.Ends.{Ends}

@@ -13,6 +13,7 @@ use Rattle.cartridge_meaning.specs.Mounts.{IsMount, Mounts}
 use Rattle.cartridge_meaning.specs.declared.errors.MountErr.{MountErr}
 use Rattle.cartridge_meaning.specs.declared.errors.MountErr.TheVariants as errors
 use Rattle.cartridge_meaning.specs.declared.mounted.Mounted.{Mounted}
+use Rattle.mount_recover.specs.Known.{mount_most}
 use Rattle.mount_recover.specs.Labels.{AreCounts}
 use Rattle.mount_recover.specs.Lasts.{IsSoundMount}
 use Rattle.mount_recover.specs.Steps.{Blames}
@@ -76,7 +77,7 @@ module _ {D : Type 0} (drive : Ghosts D) (plays : PlaysAreRuns drive) (start : D
     (closes : Closes cartridges (seen drive v.fixed.first) (seen drive v.drive) (seen drive closed.drive) v closed.drive closed.log closed.outcome closed.steps closed.travel closed.nodes) where
   ran : IsRun drive v.fixed.script v.fixed.moment start closed.drive closed.log closed.outcome closed.nodes
   ran = plays v.fixed.script v.fixed.moment start v closed.drive closed.log closed.outcome closed.steps closed.travel closed.nodes record {
-    most = (23 + 2 * (drive.limits start).cap_ip + 2 * (drive.limits start).cap_dp) * drive.MOST;
+    most = mount_most (drive.limits start) * drive.MOST;
     looked = on.looked.looks;
     faults = on.looked.faults;
     since = on.since;

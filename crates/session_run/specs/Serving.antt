@@ -9,6 +9,7 @@ use Rattle.session_script.specs.declared.scripts.ScriptLine.{ScriptLine}
 use Rattle.event_laws.specs.Trail.{steps, travel}
 use Rattle.tape_drive.specs.Looks.{Looks}
 use Rattle.tape_drive.specs.declared.drive.Drive.{Ghosts}
+use Rattle.mount_recover.specs.Known.{mount_most}
 use Rattle.mount_recover.specs.Labels.{AreCounts}
 use Rattle.cartridge_meaning.specs.Carried.{Carried, carried}
 use Rattle.cartridge_meaning.specs.Faults.{MountFault}
@@ -51,7 +52,7 @@ HoldsTree held = IfSome held (λ c. (facts : Carried) × (tree : Tree) × (gener
 
 -- the drive was only looked at, to mount its cartridge
 pub record IsLookedAt {D : Type 0} (drive : Ghosts D) (start now : D) : Type 0 where
-  pub looks : Looks drive ((23 + 2 * (drive.limits start).cap_ip + 2 * (drive.limits start).cap_dp) * drive.MOST)
+  pub looks : Looks drive (mount_most (drive.limits start) * drive.MOST)
       start now
   pub faults : drive.faults start ≤ drive.faults now
 

@@ -2,6 +2,7 @@
 
 ghost use Rattle.std.specs.Prelude.{◌≡◌, ◌≤◌, ◌-◌, ◌^◌, IfSome};
 ghost use Rattle.cartridge_meaning.specs.Mounts.{IsMount, Mounts};
+ghost use Rattle.cartridge_meaning.specs.Notes.{HasHonestNotes};
 ghost use Rattle.serving_promise.specs.Ends.{begun};
 ghost use Rattle.crash_laws.specs.May.{MayServe, MayStart};
 ghost use Rattle.session_run.specs.Serving.{IsBegun, IsLookedAt, Whole};
@@ -31,6 +32,7 @@ pub fn serve_volume<R: Threads + Wait + Sync, D: Drive + Send, C: Clock + Send, 
     script: Script,
     gate: &G,
 ) -> Served<D>
+    requires honest { IfSome (D.held drive) HasHonestNotes }
     requires allowed { MayServe D.Drive script (C.one clock) drive }
     ensures { Whole D.Drive drive (C.one clock) script result }
 {

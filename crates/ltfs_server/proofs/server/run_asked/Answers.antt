@@ -1,4 +1,4 @@
-use Rattle.std.proofs.Common.{refl, arith}
+use Rattle.std.proofs.Common.{refl, inl, inr, arith}
 use Rattle.ltfs_server.proofs.Asked.{asked_format, asked_label, asked_list, asked_make, asked_none, asked_plain, asked_serve, form_asked, format_asked, given_since, label_asked, list_asked, make_asked, make_few, memory_asked, plain_asked, serve_asked}
 use Rattle.ltfs_server.proofs.server.run_asked.Goals as goal
 
@@ -71,3 +71,16 @@ pub returns : goal.returns
 returns g c =
     memory_asked _ _ _ _ _ g.D.Drive _ _ _ _ (record { left = refl; faults = refl }) c.tell-in-Err-NoMemory.ensures.drive
     (omega (arith, c.commands-commands_are_in_range.ensures)) c.tell-in-Err-NoMemory.ensures.log c.tell-in-Err-NoMemory.ensures.told
+
+pub run_list-requires-clause-honest : goal.run_list-requires-clause-honest
+run_list-requires-clause-honest g c =
+    c.requires.honest (inl (asked_list _ _ _ c.as_slice.ensures.value c.in-Ok-List.field-0-is c.in-Ok-List.ensures))
+
+pub run_serve-requires-clause-honest : goal.run_serve-requires-clause-honest
+run_serve-requires-clause-honest g c κs within =
+    c.requires.honest (inr (inl (c.in-Ok-Serve.at, asked_serve _ _ _ c.in-Ok-Serve.at c.as_slice.ensures.value c.in-Ok-Serve.field-0-is c.in-Ok-Serve.ensures)))
+
+pub run_make-requires-clause-honest : goal.run_make-requires-clause-honest
+run_make-requires-clause-honest g c κs within =
+    c.requires.honest
+    (inr (inr (c.in-Ok-Make.count, c.in-Ok-Make.at, asked_make _ _ _ c.in-Ok-Make.count c.in-Ok-Make.at c.as_slice.ensures.value c.in-Ok-Make.field-0-is c.in-Ok-Make.ensures)))

@@ -1,5 +1,5 @@
-use Rattle.std.proofs.Common.{◌≡◌, true, refl, sym, ◌∙◌}
-use Rattle.mount_recover.proofs.EndingLemmas.{begun, closed_any, closed_head, closed_told, goes_on, never_told, other_told, took_all, took_more}
+use Rattle.std.proofs.Common.{refl}
+use Rattle.mount_recover.proofs.EndingLemmas.{begun, closed_head, closed_told, goes_on, never_told, other_told, took_all, took_more}
 use Rattle.mount_recover.proofs.endings.read_to_mark.Goals as goal
 
 pub loop-pos-init : goal.loop-pos-init

@@ -2,7 +2,7 @@ use Rattle.std.proofs.Common.{◌≤◌, arith}
 use Rattle.cartridge_meaning.specs.Notes.{HasHonestNotes}
 use Rattle.mount_recover.specs.Noted.{AreNotes}
 use Rattle.mount_recover.proofs.MountLemmas.{free_blames, still_told}
-use Rattle.mount_recover.proofs.StepLemmas.{by_at, by_more, by_step, by_stops, by_then, known, stops}
+use Rattle.mount_recover.proofs.StepLemmas.{by_at, by_more, by_step, by_then, known, stops}
 use Rattle.mount_recover.proofs.mounting.find.Goals as goal
 
 pub find_by_notes-requires-clause-honest : goal.find_by_notes-requires-clause-honest

@@ -1,5 +1,4 @@
 use Rattle.std.proofs.Common.{arith}
-use Rattle.cartridge_meaning.specs.Meaning.{HasForms}
 use Rattle.mount_recover.specs.Lasts.{AreLasts, IsScan, dp_in, ip_in}
 use Rattle.mount_recover.specs.Noted.{AreNotes}
 use Rattle.mount_recover.proofs.ChoiceLemmas.{scanned_ends, scanned_within}

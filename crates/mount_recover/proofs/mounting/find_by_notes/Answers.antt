@@ -3,7 +3,7 @@ use Rattle.cartridge_meaning.specs.Labels.{HasLabels}
 use Rattle.cartridge_meaning.specs.Notes.{HasHonestNotes}
 use Rattle.mount_recover.specs.Noted.{AreNotes}
 use Rattle.mount_recover.proofs.MountLemmas.{still_told}
-use Rattle.mount_recover.proofs.StepLemmas.{at_told, by_at, by_more, by_step, by_stops, by_then, known, stops}
+use Rattle.mount_recover.proofs.StepLemmas.{at_told, by_at, by_more, by_step, by_then, known, stops}
 use Rattle.mount_recover.proofs.mounting.find_by_notes.Goals as goal
 
 pub find_by_labels-requires-clause-honest : goal.find_by_labels-requires-clause-honest

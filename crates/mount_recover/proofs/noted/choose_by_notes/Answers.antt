@@ -2,7 +2,7 @@ use Rattle.std.proofs.Common.{arith}
 use Rattle.tape_types.specs.Cartridges.{FitsLimits}
 use Rattle.cartridge_meaning.specs.Labels.{HasLabels}
 use Rattle.cartridge_meaning.specs.Notes.{HasHonestNotes}
-use Rattle.mount_recover.specs.Noted.{AreNotes, AreTold}
+use Rattle.mount_recover.specs.Noted.{AreNotes}
 use Rattle.mount_recover.proofs.ByNotes.{named_told, unnamed}
 use Rattle.mount_recover.proofs.StepLemmas.{at_told, both_told, by_step, no_step}
 use Rattle.mount_recover.proofs.noted.choose_by_notes.Goals as goal

@@ -1,5 +1,4 @@
-use Rattle.std.proofs.Common.{◌-◌, refl, sym, arith}
-use Rattle.std.proofs.lemmas.Option.{MatchOption-at_none}
+use Rattle.std.proofs.Common.{refl, arith}
 use Rattle.tape_types.specs.declared.cartridges.Part.TheVariants.{Dp}
 use Rattle.mount_recover.specs.Noted.{IsTold}
 use Rattle.mount_recover.proofs.NotedLemmas.{last_from, noted_dp, noted_last}

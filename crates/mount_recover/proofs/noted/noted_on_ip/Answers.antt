@@ -1,11 +1,11 @@
-use Rattle.std.proofs.Common.{◌-◌, Some, refl, sym, subst, arith}
+use Rattle.std.proofs.Common.{Some, refl, sym, subst, arith}
 use Rattle.tape_types.specs.declared.cartridges.Part.TheVariants.{Ip}
 use Rattle.cartridge_meaning.specs.Pointers.{indexes_of}
 use Rattle.content_laws.specs.Ends.{EndsWithLast}
 use Rattle.mount_recover.specs.Lasts.{IsLastDp, IsTextOf, pointed}
 use Rattle.mount_recover.specs.Noted.{AreTold}
 use Rattle.mount_recover.proofs.NotedLemmas.{alike_found, alike_sound, ip_goes_on, last_from, noted_both, sound_both}
-use Rattle.mount_recover.proofs.StepLemmas.{at_told, by_found, by_is, by_refused, by_step, by_stops, no_step, told_then}
+use Rattle.mount_recover.proofs.StepLemmas.{at_told, by_found, by_is, by_step, no_step, told_then}
 use Rattle.mount_recover.proofs.noted.noted_on_ip.Goals as goal
 
 pub read_ending-requires-clause-range : goal.read_ending-requires-clause-range
