@@ -19,8 +19,9 @@ const CAP_DP: u64 = 1048576;
 
 /// A drive over the files of a folder. It tells no content: what it reads is known when it has been read.
 ///
-/// A command fails where the system refuses a call, where a file is damaged beyond what reads as Torn, where a head
-/// is to be moved past the end, and where the volume change reference is at its end.
+/// A command fails where the system refuses a call, where a file is damaged beyond what reads as Torn, where something
+/// is to be written past the end, and where the volume change reference is at its end. The head may stand anywhere
+/// below the capacity; past the items the end is read.
 #[derive(Drop)]
 pub struct FileDrive<R: Files> {
     folder: Folder<R>,
@@ -117,7 +118,7 @@ impl<R: Files + AllocGlobal + Drop> Drive for FileDrive<R> {
 
     fn locate(&mut self, place: Place) -> Result<(), DriveErr> {
         self.begin();
-        let found = self.folder.reaches(place);
+        let found = self.folder.find();
         self.ended(found)?;
         self.head = Some(place);
         Ok(())

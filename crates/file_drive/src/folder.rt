@@ -45,10 +45,16 @@ impl<R: Files + AllocGlobal + Drop> Folder<R> {
         self.is_writable = false;
     }
 
-    /// Whether an item can stand at a place, or directly behind the last one.
-    pub fn reaches(&mut self, place: Place) -> io::Result<()> {
-        let count = self.to_read()?.part(place.part).count()?;
-        if count < place.pos {
+    /// Opens the files, if they aren't open.
+    pub fn find(&mut self) -> io::Result<()> {
+        let _files = self.to_read()?;
+        Ok(())
+    }
+
+    // That an item stands at a place, or directly in front of it: behind a gap nothing is written.
+    fn reaches(&mut self, at: Place) -> io::Result<()> {
+        let count = self.to_read()?.part(at.part).count()?;
+        if count < at.pos {
             return Err(ErrorKind::InvalidInput.into());
         }
         Ok(())
@@ -67,6 +73,7 @@ impl<R: Files + AllocGlobal + Drop> Folder<R> {
         requires inside { at.pos < 2 ^ 40 }
         requires size { length bytes.now ≤ 1048576 }
     {
+        self.reaches(at)?;
         let files = self.to_write()?;
         files.raise_vcr()?;
         files.part(at.part).write(at.pos, bytes)
@@ -75,6 +82,7 @@ impl<R: Files + AllocGlobal + Drop> Folder<R> {
     pub fn mark(&mut self, at: Place) -> io::Result<()>
         requires inside { at.pos < 2 ^ 40 }
     {
+        self.reaches(at)?;
         let files = self.to_write()?;
         files.raise_vcr()?;
         files.part(at.part).mark(at.pos)

@@ -2,6 +2,7 @@
 use Rattle.std.specs.Prelude.{◌≡◌, ℕ, List, Option, Some, Ok, IfSome, String, codes}
 use Rattle.std.specs.Global.{Global}
 use Rattle.std.proofs.Common.{inr, refl, sym, subst, ◌∙◌, ap}
+use Rattle.tape_types.specs.declared.cartridges.Cartridge.{Cartridge}
 use Rattle.tape_types.specs.declared.moments.Moment.{Moment}
 use Rattle.plain_tree.specs.Tree.{Tree}
 use Rattle.session_script.specs.Grammar.{script_of}
@@ -9,6 +10,8 @@ use Rattle.session_script.specs.declared.scripts.ScriptLine.{ScriptLine}
 use Rattle.tape_drive.specs.declared.drive.Drive.{Ghosts}
 use Rattle.cartridge_meaning.specs.Carried.{Carried}
 use Rattle.cartridge_meaning.specs.Meaning.{Stands}
+use Rattle.cartridge_meaning.specs.Notes.{HasHonestNotes}
+use Rattle.cartridge_meaning.proofs.Honest.{honest_notes}
 use Rattle.command_line.specs.Forms.{IsFormatWords, IsMakeWords, IsServeWords}
 use Rattle.command_line.specs.declared.volumes.FormatWords.{FormatWords}
 use Rattle.command_line.proofs.FormLemmas.{format_named, make_named, names_differ, one_serve, serve_named}
@@ -55,3 +58,11 @@ module _ (words : List (String Global)) (one moment : Option Moment)
         subst (λ (e : List ScriptLine × Option Moment). AllowsServed drive.allows e.0 e.1 facts tree)
             (λ i. (sym script_is i, sym moment_is i)) allows,
       )
+
+-- a sound cartridge has honest notes
+pub sound_notes : {D : Type 0} (drive : Ghosts D) (d : D) (facts : Carried) (tree : Tree)
+    → (generation : ℕ) × CanTell (λ c. Stands c facts tree generation × IsSound cartridges c) (drive.commands d)
+    (seen_by drive d) → IfSome (drive.held d) HasHonestNotes
+sound_notes drive d facts tree stands =
+    subst (λ (o : Option Cartridge). IfSome o HasHonestNotes) (sym stands.1.told)
+    (honest_notes stands.1.held stands.1.reads_as.1.honest)

@@ -1,8 +1,13 @@
 use Rattle.std.proofs.Common.{sym}
 use Rattle.fenced_drive.specs.contracts.fenced.FencedDrive.TheImpl.{ghosts}
 use Rattle.ltfs_server.specs.Sentence.{to_serve}
-use Rattle.ltfs_server.proofs.FencedLemmas.{may_serve, no_format, no_make}
+use Rattle.ltfs_server.proofs.FencedLemmas.{may_serve, no_format, no_make, sound_notes}
 use Rattle.ltfs_server.proofs.fenced.serve_fenced.Goals as goal
+
+pub run-requires-clause-honest : goal.run-requires-clause-honest
+run-requires-clause-honest g c κs within = λ asked.
+    sound_notes (ghosts g.row.D g.row.O g.D.Unowned g.D.Unowned-dict g.D.Drive g.D.Drive-dict g.O.Order g.O.Order-dict g.D.Destruct-dict)
+    c.args.drive g.O.Order.facts g.O.Order.tree c.requires.stands
 
 pub run-requires-clause-formats : goal.run-requires-clause-formats
 run-requires-clause-formats g c κs within = λ asked are.

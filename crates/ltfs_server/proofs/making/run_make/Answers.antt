@@ -1,4 +1,4 @@
-use Rattle.std.proofs.Common.{List, subst, sym, arith, rules}
+use Rattle.std.proofs.Common.{List, subst, sym, arith}
 use Rattle.session_script.specs.declared.scripts.ScriptLine.{ScriptLine}
 use Rattle.basic_commands.specs.Runs.{written}
 use Rattle.session_run.specs.Serving.{Whole}
@@ -7,13 +7,15 @@ use Rattle.crash_laws.specs.May.{MayServe}
 use Rattle.ltfs_server.proofs.MakeSteps.{make_unbegun, timed_makes}
 use Rattle.ltfs_server.proofs.making.run_make.Goals as goal
 
-pub serve_volume-served-requires : goal.serve_volume-served-requires
-serve_volume-served-requires g c =
-    let allowed = subst (λ (k : TimedView g.row.C.Denot). MayServe g.D.Drive c.in-Ok.script (one_moment k.at (g.C.Clock.one k.clock)) c.args.drive)
+pub serve_volume-served-requires-clause-allowed : goal.serve_volume-served-requires-clause-allowed
+serve_volume-served-requires-clause-allowed g c κs within =
+    subst (λ (k : TimedView g.row.C.Denot). MayServe g.D.Drive c.in-Ok.script (one_moment k.at (g.C.Clock.one k.clock)) c.args.drive)
     (sym c.new-clock.ensures)
     (subst (λ (s : List ScriptLine). MayServe g.D.Drive s (one_moment c.args.at (g.C.Clock.one c.args.clock)) c.args.drive)
-    (sym c.in-Ok.ensures) c.requires.allowed) in
-    (c.type_bounds.send-D, (search rules, (c.type_bounds.sync-R, (search rules, allowed))))
+    (sym c.in-Ok.ensures) c.requires.allowed)
+
+pub serve_volume-served-requires-clause-honest : goal.serve_volume-served-requires-clause-honest
+serve_volume-served-requires-clause-honest g c κs within = c.requires.honest
 
 pub returns-in-Ok : goal.returns-in-Ok
 returns-in-Ok g c =

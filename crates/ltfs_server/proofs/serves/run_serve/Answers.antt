@@ -1,4 +1,4 @@
-use Rattle.std.proofs.Common.{arith, rules, subst, sym}
+use Rattle.std.proofs.Common.{arith, subst, sym}
 use Rattle.basic_commands.specs.Runs.{taken, written}
 use Rattle.basic_commands.specs.Scripts.{unread_text}
 use Rattle.session_run.specs.Timed.{TimedView, one_moment}
@@ -6,11 +6,13 @@ use Rattle.crash_laws.specs.May.{MayServe}
 use Rattle.ltfs_server.proofs.ServeSteps.{serve_unread, timed_does}
 use Rattle.ltfs_server.proofs.serves.run_serve.Goals as goal
 
-pub serve_volume-served-requires : goal.serve_volume-served-requires
-serve_volume-served-requires g c =
-    let allowed = subst (λ (k : TimedView g.row.C.Denot). MayServe g.D.Drive c.in-Ok.calls (one_moment k.at (g.C.Clock.one k.clock)) c.args.drive)
-    (sym c.new-clock.ensures) (c.requires.allowed c.in-Ok.calls c.in-Ok.ensures.read.spelled) in
-    (c.type_bounds.send-D, (search rules, (c.type_bounds.sync-R, (search rules, allowed))))
+pub serve_volume-served-requires-clause-allowed : goal.serve_volume-served-requires-clause-allowed
+serve_volume-served-requires-clause-allowed g c κs within =
+    subst (λ (k : TimedView g.row.C.Denot). MayServe g.D.Drive c.in-Ok.calls (one_moment k.at (g.C.Clock.one k.clock)) c.args.drive)
+    (sym c.new-clock.ensures) (c.requires.allowed c.in-Ok.calls c.in-Ok.ensures.read.spelled)
+
+pub serve_volume-served-requires-clause-honest : goal.serve_volume-served-requires-clause-honest
+serve_volume-served-requires-clause-honest g c κs within = c.requires.honest
 
 pub returns-in-Ok : goal.returns-in-Ok
 returns-in-Ok g c =
