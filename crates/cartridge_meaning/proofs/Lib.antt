@@ -9,6 +9,7 @@ pub mod Judged
 pub mod Known
 pub mod Newest
 pub mod Noted
+pub mod NotedEnds
 pub mod OneFault
 pub mod OneMount
 pub mod OneTree

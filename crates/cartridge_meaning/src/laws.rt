@@ -1,12 +1,12 @@
 //! Laws of what a cartridge stands for.
 
-ghost use Rattle.std.specs.Prelude.{◌≡◌, ◌≢◌, ◌⊎◌, ◌≤◌, ◌<◌, ℕ, List, [], ◌++◌, Some, IfSome, take};
+ghost use Rattle.std.specs.Prelude.{◌≡◌, ◌≢◌, ◌⊎◌, ◌≤◌, ◌<◌, ◌+◌, ℕ, List, [], ◌∷◌, ◌++◌, Some, IfSome, length, take};
 ghost use Rattle.std.specs.List.{AllByRecursion};
 ghost use Rattle.tape_types.specs.declared.cartridges.Cartridge.{Cartridge};
 ghost use Rattle.tape_types.specs.declared.cartridges.Note.TheVariants.{Absent};
 ghost use Rattle.tape_types.specs.declared.cartridges.Part.{Part};
 ghost use Rattle.tape_types.specs.declared.cartridges.Place.{Place};
-ghost use Rattle.tape_types.specs.Cartridges.{note_of};
+ghost use Rattle.tape_types.specs.Cartridges.{items_of, note_of};
 ghost use Rattle.coherency.specs.Notes.{HasValues};
 ghost use Rattle.coherency.specs.declared.Coherency.{Coherency};
 ghost use Rattle.plain_tree.specs.Tree.{Tree};
@@ -20,7 +20,8 @@ ghost use Rattle.ltfs_label.specs.Values.{LabelValue};
 ghost use Rattle.ltfs_label.specs.declared.errors.LabelErr.{LabelErr};
 ghost use Rattle.index_model.specs.declared.nodes.Node.{Node};
 ghost use Rattle.ltfs_label.specs.declared.Label.{Label};
-ghost use Rattle.content_laws.specs.Readings.{Construct};
+ghost use Rattle.content_laws.specs.Readings.{Construct, IsIndexAt};
+ghost use Rattle.content_laws.specs.Ends.{EndsWithLast};
 ghost use Rattle.cartridge_meaning.specs.Carried.{Carried};
 ghost use Rattle.cartridge_meaning.specs.Faults.{MountFault};
 ghost use Rattle.cartridge_meaning.specs.Kept.{Keeps};
@@ -29,7 +30,7 @@ ghost use Rattle.cartridge_meaning.specs.Meaning.{FitsNode, Found, IsConsistent,
 ghost use Rattle.cartridge_meaning.specs.Mounts.{IsDpDone, IsIpDone, Mounts, chosen_place};
 ghost use Rattle.cartridge_meaning.specs.Notes.{AreNoted, HasHonestNotes, IsCoherent, IsHonest, IsHonestNote};
 ghost use Rattle.cartridge_meaning.specs.Notes.{TellsOfLast};
-ghost use Rattle.cartridge_meaning.specs.Pointers.{PointsBack, letter_of};
+ghost use Rattle.cartridge_meaning.specs.Pointers.{PointsBack, indexes_of, letter_of};
 ghost use Rattle.cartridge_meaning.specs.declared.errors.MountErr.{MountErr};
 ghost use Rattle.cartridge_meaning.specs.declared.labels.Labels.{Labels};
 ghost use Rattle.cartridge_meaning.specs.declared.mounted.Mounted.{Mounted};
@@ -96,6 +97,27 @@ pub fn notes_tell_of_the_last_indexes()
     ensures honest { (c : Cartridge) (labels : Labels)
         → HasLabels c labels → IsHonest c → IsCoherent c → AreNoted c labels.ip }
     ensures coherent { (c : Cartridge) (labels : Labels) → HasLabels c labels → AreNoted c labels.ip → IsCoherent c }
+{}
+
+/// With an honest note of the cartridge's volume change reference the last index of its partition stands behind the mark
+/// in front of the place that the note names. So where a mark, blocks, a mark and the end stand there, the partition ends
+/// with its last index, which has just these blocks; and where it ends with that, these stand there.
+pub fn notes_tell_how_partitions_end()
+    ensures stands { (c : Cartridge) (label : Label) (part : Part) (note : Coherency) → IsHonestNote c label part
+        → HasValues (note_of part c) note → note.uuid ≡ label.uuid → note.vcr ≡ c.vcr
+        → (k : Construct) × (older : List Construct) × (indexes_of (items_of part c) ≡ k ∷ older)
+        × (k.mark + 1 ≡ note.block) × IsIndexAt (items_of part c) k.mark k.blocks }
+    ensures ends { (c : Cartridge) (label : Label) (part : Part) (note : Coherency) → IsHonestNote c label part
+        → HasValues (note_of part c) note → note.uuid ≡ label.uuid → note.vcr ≡ c.vcr
+        → (mark : ℕ) (blocks : List (List ℕ)) → mark + 1 ≡ note.block → IsIndexAt (items_of part c) mark blocks
+        → length (items_of part c) ≡ mark + length blocks + 2
+        → EndsWithLast (items_of part c) (indexes_of (items_of part c))
+        × ((k : Construct) (older : List Construct) → indexes_of (items_of part c) ≡ k ∷ older → k.blocks ≡ blocks) }
+    ensures only { (c : Cartridge) (label : Label) (part : Part) (note : Coherency) → IsHonestNote c label part
+        → HasValues (note_of part c) note → note.uuid ≡ label.uuid → note.vcr ≡ c.vcr
+        → EndsWithLast (items_of part c) (indexes_of (items_of part c))
+        → (mark : ℕ) × (blocks : List (List ℕ)) × (mark + 1 ≡ note.block) × IsIndexAt (items_of part c) mark blocks
+        × (length (items_of part c) ≡ mark + length blocks + 2) }
 {}
 
 /// An honest cartridge has honest notes, and a cartridge with labels and honest notes is honest. Notes are honest where

@@ -18,7 +18,8 @@ pub use labels::Labels;
 pub use laws::{
     cartridges_alike_read_alike, cartridges_mount_in_one_way, cartridges_read_in_one_way,
     each_cartridge_reads_or_is_refused, faults_are_told_in_one_way,
-    honest_cartridges_have_honest_notes, notes_tell_of_the_last_indexes, texts_are_read_or_stop,
-    the_newest_index_is_chosen, what_is_found_is_right,
+    honest_cartridges_have_honest_notes, notes_tell_how_partitions_end,
+    notes_tell_of_the_last_indexes, texts_are_read_or_stop, the_newest_index_is_chosen,
+    what_is_found_is_right,
 };
 pub use mounted::Mounted;

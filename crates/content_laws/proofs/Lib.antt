@@ -7,3 +7,4 @@ pub mod Grown
 pub mod Placed
 pub mod Cuts
 pub mod IpEnds
+pub mod Stands

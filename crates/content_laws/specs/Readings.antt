@@ -1,5 +1,5 @@
 -- The form of a partition: (data* construct)* tail (LTFS 2.4 on partitions and index constructs).
-use Rattle.std.specs.Prelude.{◌≡◌, ◌≢◌, ℕ, ◌+◌, List, [], ◌∷◌, ◌++◌, Option, Some, None, length, map, drop, reverse}
+use Rattle.std.specs.Prelude.{◌≡◌, ◌≢◌, ℕ, ◌+◌, List, [], ◌∷◌, ◌++◌, Option, Some, None, length, map, drop, reverse, slice_get}
 use Rattle.std.specs.List.{AllByRecursion, flat_map}
 use Rattle.tape_types.specs.declared.cartridges.Item.{Item}
 use Rattle.tape_types.specs.declared.cartridges.Item.TheVariants.{Block, Mark, Torn}
@@ -82,3 +82,14 @@ LacksForm items at = IsEmptyAt 4 (readable items) at
 -- the indexes of a partition, the newest first
 abbrev pub constructs_of : List Group → List Construct
 constructs_of groups = reverse (constructs_from 4 groups)
+
+-- these blocks stand one behind the other from a position on
+abbrev pub StandAt : List Item → ℕ → List (List ℕ) → Type 0
+StandAt items pos blocks =
+    (i : ℕ) (b : List ℕ) → slice_get blocks i ≡ Some b → slice_get items (pos + i) ≡ Some (Block b)
+
+-- an index stands there: the mark that opens it, its blocks, and the mark that closes it
+pub record IsIndexAt (items : List Item) (mark : ℕ) (blocks : List (List ℕ)) : Type 0 where
+  pub opens : slice_get items mark ≡ Some Mark
+  pub stand : StandAt items (mark + 1) blocks
+  pub closes : slice_get items (mark + 1 + length blocks) ≡ Some Mark

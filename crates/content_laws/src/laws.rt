@@ -3,9 +3,9 @@
 ghost use Rattle.std.specs.Prelude.{◌≡◌, ◌≢◌, ◌⊎◌, ◌+◌, ◌≤◌, ℕ, List, [], ◌∷◌, ◌++◌, length, map, take};
 ghost use Rattle.tape_types.specs.declared.cartridges.Item.{Item};
 ghost use Rattle.tape_types.specs.declared.cartridges.Item.TheVariants.{Block, Mark, Torn};
-ghost use Rattle.content_laws.specs.Readings.{Construct, HasForm, LacksForm, after_of, front};
+ghost use Rattle.content_laws.specs.Readings.{Construct, HasForm, IsIndexAt, LacksForm, after_of, front};
 ghost use Rattle.content_laws.specs.Content.{Bad, Data, content, content_of};
-ghost use Rattle.content_laws.specs.Ends.{end_dp, end_ip, kept_on_ip};
+ghost use Rattle.content_laws.specs.Ends.{EndsWith, end_dp, end_ip, kept_on_ip};
 
 /// Each partition has the form in one way, or lacks it at one place, and never both.
 pub fn partitions_are_read_in_one_way()
@@ -62,4 +62,15 @@ pub fn ends_are_within()
         → (4 ≤ end_dp (content items).constructs) × (end_dp (content items).constructs ≤ length (front items)) }
     ensures ip { (items : List Item) → 4 ≤ length (front items)
         → (4 ≤ end_ip (content items)) × (end_ip (content items) ≤ length (front items)) }
+{}
+
+/// Each index of a partition stands there between its marks, and where one stands it has these blocks alone. Of a
+/// partition that ends with its last index no item is torn.
+pub fn partitions_end_with_their_last_index()
+    ensures stands { (items : List Item) (newer : List Construct) (k : Construct) (older : List Construct)
+        → HasForm items → (content items).constructs ≡ newer ++ k ∷ older → IsIndexAt items k.mark k.blocks }
+    ensures one { (items : List Item) (mark : ℕ) (blocks others : List (List ℕ)) → IsIndexAt items mark blocks
+        → IsIndexAt items mark others → blocks ≡ others }
+    ensures whole { (items : List Item) (k : Construct) (older : List Construct) → 4 ≤ length (front items)
+        → (content items).constructs ≡ k ∷ older → EndsWith items k → front items ≡ items }
 {}

@@ -24,17 +24,17 @@ use Rattle.index_model.specs.declared.errors.IndexErr.{IndexErr}
 use Rattle.index_model.specs.declared.errors.IndexErr.TheVariants as index_errors
 use Rattle.index_read.specs.Answers.{UnlessMemory}
 use Rattle.content_laws.specs.Readings as readings
-use Rattle.content_laws.specs.Readings.{after_of, front}
+use Rattle.content_laws.specs.Readings.{StandAt, after_of, front}
 use Rattle.content_laws.specs.Ends.{end_dp}
 use Rattle.content_laws.proofs.Placed.{AreOrdered, content_placed, end_dp_within}
 use Rattle.content_laws.proofs.Whole.{front_within}
 use Rattle.cartridge_meaning.specs.Pointers.{text_of}
 use Rattle.volume_scan.specs.declared.content.Construct.{Construct}
-use Rattle.mount_recover.specs.Lasts.{HasIndexAt, IsBadText, IsInPlace, IsPut, IsTrueAt, StandAt, told}
+use Rattle.mount_recover.specs.Lasts.{HasIndexAt, IsBadText, IsInPlace, IsPut, IsTrueAt, told}
 use Rattle.mount_recover.specs.Steps.{IsFree, IsSince, IsStep}
 use Rattle.mount_recover.specs.declared.documents.Beside.{Beside}
 use Rattle.mount_recover.specs.declared.starts.Start.{Start}
-use Rattle.mount_recover.proofs.StandLemmas.{index_stands}
+use Rattle.content_laws.proofs.Stands.{index_stands}
 use Rattle.mount_recover.proofs.StepLemmas.{at_told, looks_more, since_next}
 
 -- what a read of a block leaves

@@ -17,7 +17,7 @@ use Rattle.mount_recover.specs.Lasts.{IsPut}
 use Rattle.tape_types.specs.Counts.{Rose}
 use Rattle.tape_types.specs.Cartridges.{FitsLimits, capacity}
 use Rattle.content_laws.specs.Readings as readings
-use Rattle.content_laws.specs.Readings.{front}
+use Rattle.content_laws.specs.Readings.{IsIndexAt, front}
 use Rattle.content_laws.specs.Ends.{EndsWithLast, end_dp}
 use Rattle.content_laws.proofs.Placed.{AreOrdered, content_placed, end_dp_within}
 use Rattle.content_laws.proofs.Whole.{front_within}
@@ -34,10 +34,10 @@ use Rattle.mount_recover.specs.Lasts.{IsDocument, newest}
 use Rattle.mount_recover.specs.Steps.{IsFree, IsSince, IsStepBy}
 use Rattle.mount_recover.specs.declared.starts.Start.{Start}
 use Rattle.mount_recover.proofs.FlagLemmas.{fits_count}
-use Rattle.mount_recover.proofs.StandLemmas.{index_stands}
+use Rattle.content_laws.proofs.Stands.{index_stands}
 use Rattle.mount_recover.proofs.StepLemmas.{at_told, by_step, failed_by, free_step, since_next}
 use Rattle.mount_recover.specs.Noted.{EndsAt, IsEnding, IsLastFrom}
-use Rattle.mount_recover.specs.Noted.{IsAhead, IsIndexAt, IsRead, IsNext, IsPast, IsPutNext, IsRun, IsRunOf, Took}
+use Rattle.mount_recover.specs.Noted.{IsAhead, IsRead, IsNext, IsPast, IsPutNext, IsRun, IsRunOf, Took}
 use Rattle.mount_recover.specs.declared.documents.Beside.{Beside}
 use Rattle.mount_recover.specs.declared.endings.Ending.{Ending}
 use Rattle.mount_recover.specs.declared.endings.Next.{Next}

@@ -16,6 +16,5 @@ pub mod NotedLemmas
 pub mod PointerLemmas
 pub mod ReadLemmas
 pub mod ScanLemmas
-pub mod StandLemmas
 pub mod StepLemmas
 pub mod TwinLemmas

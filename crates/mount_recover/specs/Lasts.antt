@@ -6,7 +6,6 @@ use Rattle.std.specs.List.{AllByRecursion}
 use Rattle.std.specs.Option.{option_map}
 use Rattle.tape_types.specs.declared.cartridges.Cartridge.{Cartridge}
 use Rattle.tape_types.specs.declared.cartridges.Item.{Item}
-use Rattle.tape_types.specs.declared.cartridges.Item.TheVariants.{Block}
 use Rattle.tape_types.specs.declared.cartridges.Limits.{Limits}
 use Rattle.tape_types.specs.declared.cartridges.Note.{Note}
 use Rattle.tape_types.specs.declared.cartridges.Part.{Part}
@@ -115,11 +114,6 @@ pub record HasIndexAt (items : List Item) (place : Construct) : Type 0 where
 abbrev pub IsTrueAt : List Item → Construct → (readings.Construct → Type 0) → Type 0
 IsTrueAt items place Says = (newer : List readings.Construct) (k : readings.Construct) (older : List readings.Construct)
     → indexes_of items ≡ newer ++ k ∷ older → places_of k ≡ place → Says k
-
--- these blocks stand one behind the other from a position on
-abbrev pub StandAt : List Item → ℕ → List (List ℕ) → Type 0
-StandAt items pos blocks =
-    (i : ℕ) (b : List ℕ) → slice_get blocks i ≡ Some b → slice_get items (pos + i) ≡ Some (Block b)
 
 -- a text is the document of the newest of these indexes, or index the one that it tells
 abbrev pub IsDocument : List ℕ → List readings.Construct → Type 0

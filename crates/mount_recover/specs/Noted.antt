@@ -20,7 +20,7 @@ use Rattle.index_model.specs.declared.errors.IndexErr.TheVariants as index_error
 use Rattle.index_model.specs.declared.indexes.Index.{Index}
 use Rattle.ltfs_label.specs.declared.Label.{Label}
 use Rattle.content_laws.specs.Readings as readings
-use Rattle.content_laws.specs.Readings.{HasForm, front}
+use Rattle.content_laws.specs.Readings.{HasForm, IsIndexAt, front}
 use Rattle.content_laws.specs.Ends.{EndsWithLast}
 use Rattle.cartridge_meaning.specs.Meaning.{dp_end, ip_end}
 use Rattle.cartridge_meaning.specs.Labels.{HasLabels}
@@ -28,7 +28,7 @@ use Rattle.cartridge_meaning.specs.Notes.{TellsOfLast}
 use Rattle.cartridge_meaning.specs.Pointers.{indexes_of, letter_of}
 use Rattle.cartridge_meaning.specs.declared.labels.Labels.{Labels}
 use Rattle.volume_scan.specs.declared.content.Construct.{Construct}
-use Rattle.mount_recover.specs.Lasts.{EndsAs, IsDecided, IsDocument, IsInPlace, IsPut, IsSoundLast, StandAt, TellsBoth, dp_in, ip_in, newest}
+use Rattle.mount_recover.specs.Lasts.{EndsAs, IsDecided, IsDocument, IsInPlace, IsPut, IsSoundLast, TellsBoth, dp_in, ip_in, newest}
 use Rattle.mount_recover.specs.declared.choices.Choice.{Choice}
 use Rattle.mount_recover.specs.declared.choices.Standing.{Standing}
 use Rattle.mount_recover.specs.declared.extents.Ends.{Ends}
@@ -66,12 +66,6 @@ pub record AreNamed (notes : Notes) (uuid : ℕ) (limits : Limits) (n : Named) :
   pub dp_begins : CanBegin limits.cap_dp n.dp.block
 
 -- ---- an index with which a partition ends
-
--- an index stands there: the mark that opens it, its blocks, and the mark that closes it
-pub record IsIndexAt (items : List Item) (mark : ℕ) (blocks : List (List ℕ)) : Type 0 where
-  pub opens : slice_get items mark ≡ Some Mark
-  pub stand : StandAt items (mark + 1) blocks
-  pub closes : slice_get items (mark + 1 + length blocks) ≡ Some Mark
 
 -- an index whose opening mark the head of a drive stands at, or behind it, ends before a position
 pub record IsAhead {D : Type 0} (drive : Ghosts D) (now : D) (pos mark positions : ℕ) (c : Cartridge) (blocks : List (List ℕ)) : Type 0 where

@@ -9,10 +9,11 @@ ghost use Rattle.tape_types.specs.Cartridges.{capacity, items_of, next};
 ghost use Rattle.tape_types.specs.declared.cartridges.Cartridge.{Cartridge};
 ghost use Rattle.tape_types.specs.declared.cartridges.Item.TheVariants as items;
 ghost use Rattle.index_model.specs.Grammar.{IndexText};
+ghost use Rattle.content_laws.specs.Readings.{StandAt};
 ghost use Rattle.cartridge_meaning.specs.Pointers.{IsOfVolume, text_of};
 ghost use Rattle.mount_recover.specs.Labels.{IsStopped};
 ghost use Rattle.mount_recover.specs.Lasts.{HasIndexAt, IsBadText, IsInPlace, IsNoText, IsPut, IsSound, IsTrueAt};
-ghost use Rattle.mount_recover.specs.Lasts.{StandAt, told};
+ghost use Rattle.mount_recover.specs.Lasts.{told};
 ghost use Rattle.mount_recover.specs.Steps.{IsFree, IsSince, IsStep};
 
 use crate::items::{Stop, buffer};

@@ -1,17 +1,16 @@
--- Where the blocks of the indexes of a partition stand.
-use Rattle.std.proofs.Common.{ℕ, zero, suc, ◌+◌, ◌-◌, ◌≤◌, ◌≡◌, List, [], ◌∷◌, ◌++◌, length, map, reverse, drop, slice_get, Option, Some, refl, sym, ◌∙◌, ap, subst, arith}
+-- Where the indexes of a partition stand.
+use Rattle.std.proofs.Common.{ℕ, zero, suc, ◌+◌, ◌-◌, ◌≤◌, ◌≡◌, List, [], ◌∷◌, ◌++◌, length, map, reverse, drop, slice_get, Option, Some, refl, sym, ◌∙◌, ap, subst, arith, ◌<◌, get_or}
 use Rattle.std.specs.List.{AllByRecursion, flat_map}
 use Rattle.std.proofs.lemmas.List.{append_assoc, length-map, reverse-append, reverse-reverse}
-use Rattle.std.proofs.lemmas.Option.{slice_get-map}
+use Rattle.std.proofs.lemmas.Option.{slice_get-get_or, slice_get-map}
 use Rattle.std.specs.Option.{option_map}
 use Rattle.tape_types.specs.declared.cartridges.Item.{Item}
 use Rattle.tape_types.specs.declared.cartridges.Item.TheVariants.{Block, Mark, Torn}
-use Rattle.content_laws.specs.Readings.{Construct, Group, HasForm, constructs_from, front, items_of_group, items_of_tail}
-use Rattle.content_laws.specs.Content.{content}
-use Rattle.content_laws.specs.Content as content
+use Rattle.content_laws.specs.Ends.{end_dp}
+use Rattle.content_laws.proofs.Placed.{end_dp_within}
+use Rattle.content_laws.specs.Readings.{Construct, Group, HasForm, IsIndexAt, StandAt, after_of, constructs_from, front, items_of_group, items_of_tail}
+use Rattle.content_laws.specs.Content.{Content, content}
 use Rattle.content_laws.proofs.ReadForms.{form}
-use Rattle.cartridge_meaning.specs.Pointers.{indexes_of}
-use Rattle.mount_recover.specs.Noted.{IsIndexAt}
 
 -- an item of a list stands in it also where it is a part of a longer list
 get_front : (items : List Item) (i : ℕ) (x : Item) → slice_get (front items) i ≡ Some x → slice_get items i ≡ Some x
@@ -127,7 +126,7 @@ one_of_all P ks newer k older is all =
 
 -- each index of a partition stands there
 pub index_stands : (items : List Item) (newer : List Construct) (k : Construct) (older : List Construct) → HasForm items
-    → indexes_of items ≡ newer ++ k ∷ older → IsIndexAt items k.mark k.blocks
+    → (content items).constructs ≡ newer ++ k ∷ older → IsIndexAt items k.mark k.blocks
 index_stands items newer k older f is =
     further (flat_map items_of_group f.groups ++ items_of_tail f.lead f.begun) items (k.mark - 4) k.mark k.blocks
     (λ i n x same at.
@@ -139,8 +138,53 @@ index_stands items newer k older f is =
     ordered : constructs_from 4 f.groups ≡ reverse (newer ++ k ∷ older)
     ordered =
         sym (reverse-reverse (constructs_from 4 f.groups))
-        ∙ ap (λ (ks : List Construct). reverse ks) (sym (ap (λ (s : content.Content). s.constructs) (form items f)) ∙ is)
+        ∙ ap (λ (ks : List Construct). reverse ks) (sym (ap (λ (s : Content). s.constructs) (form items f)) ∙ is)
 
     stood : IsStood 4 (flat_map items_of_group f.groups ++ items_of_tail f.lead f.begun) k
     stood = one_of_all (IsStood 4 (flat_map items_of_group f.groups ++ items_of_tail f.lead f.begun)) (constructs_from 4 f.groups) newer k older ordered
         (all_stand f.groups (items_of_tail f.lead f.begun) 4)
+
+-- ---- one index stands there
+
+same_block : (items : List Item) (pos : ℕ) (bs cs : List (List ℕ)) (i : ℕ) (b c : List ℕ) → StandAt items pos bs → StandAt items pos cs
+    → slice_get bs i ≡ Some b → slice_get cs i ≡ Some c → b ≡ c
+same_block items pos bs cs i b c s t at there = let both : Some (Block b) ≡ Some (Block c) = sym (s i b at) ∙ t i c there in cc
+
+not_longer : (items : List Item) (mark : ℕ) (bs cs : List (List ℕ)) → IsIndexAt items mark bs → IsIndexAt items mark cs → length bs < length cs → ⊥
+not_longer items mark bs cs s t lt =
+    let both : Some Mark ≡ Some (Block (get_or cs (length bs) [])) = sym s.closes ∙ t.stand (length bs) (get_or cs (length bs) []) (slice_get-get_or cs (length bs) [] lt) in cc both
+
+by_items : (bs cs : List (List ℕ)) → length bs ≡ length cs → ((i : ℕ) (b c : List ℕ) → slice_get bs i ≡ Some b → slice_get cs i ≡ Some c → b ≡ c) → bs ≡ cs
+by_items [] [] long same = refl
+by_items [] (c ∷ cs) long same = absurd (omega (arith, long))
+by_items (b ∷ bs) [] long same = absurd (omega (arith, long))
+by_items (b ∷ bs) (c ∷ cs) long same =
+    let head : b ≡ c = same 0 b c refl refl in
+    let tail : bs ≡ cs = by_items bs cs (omega (arith, long)) (λ i x y at there. same (suc i) x y at there) in λ i. head i ∷ tail i
+
+-- an index that stands there has these blocks
+pub one_index : (items : List Item) (mark : ℕ) (bs cs : List (List ℕ)) → IsIndexAt items mark bs → IsIndexAt items mark cs → bs ≡ cs
+one_index items mark bs cs s t =
+    by_items bs cs (one_length (length bs) (length cs) (not_longer items mark bs cs s t) (not_longer items mark cs bs t s))
+    (λ i b c at there. same_block items (mark + 1) bs cs i b c s.stand t.stand at there)
+  where
+    one_length : (m n : ℕ) → (m < n → ⊥) → (n < m → ⊥) → m ≡ n
+    one_length zero zero less more = refl
+    one_length zero (suc n) less more = absurd (less (omega arith))
+    one_length (suc m) zero less more = absurd (more (omega arith))
+    one_length (suc m) (suc n) less more = ap suc (one_length m n (λ lt. less (omega (arith, lt))) (λ lt. more (omega (arith, lt))))
+
+-- ---- a partition that ends with its last index
+
+whole_front : (items : List Item) → length items ≤ length (front items) → front items ≡ items
+whole_front [] le = refl
+whole_front (Torn ∷ items) le = absurd (omega (arith, le))
+whole_front (Mark ∷ items) le = ap (λ (l : List Item). Mark ∷ l) (whole_front items (omega (arith, le)))
+whole_front (Block b ∷ items) le = ap (λ (l : List Item). Block b ∷ l) (whole_front items (omega (arith, le)))
+
+-- none of its items is torn
+pub ends_whole : (items : List Item) (k : Construct) (older : List Construct) → 4 ≤ length (front items) → (content items).constructs ≡ k ∷ older
+    → length items ≡ after_of k → front items ≡ items
+ends_whole items k older long are ends =
+    let within = subst (λ (ks : List Construct). end_dp ks ≤ length (front items)) are (end_dp_within items long) in
+    whole_front items (omega (arith, within, ends))
