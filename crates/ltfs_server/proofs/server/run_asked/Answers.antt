@@ -72,9 +72,9 @@ returns g c =
     memory_asked _ _ _ _ _ g.D.Drive _ _ _ _ (record { left = refl; faults = refl }) c.tell-in-Err-NoMemory.ensures.drive
     (omega (arith, c.commands-commands_are_in_range.ensures)) c.tell-in-Err-NoMemory.ensures.log c.tell-in-Err-NoMemory.ensures.told
 
-pub run_list-requires-clause-honest : goal.run_list-requires-clause-honest
-run_list-requires-clause-honest g c =
-    c.requires.honest (inl (asked_list _ _ _ c.as_slice.ensures.value c.in-Ok-List.field-0-is c.in-Ok-List.ensures))
+pub run_list-requires : goal.run_list-requires
+run_list-requires g c =
+    record { honest = c.requires.honest (inl (asked_list _ _ _ c.as_slice.ensures.value c.in-Ok-List.field-0-is c.in-Ok-List.ensures)) }
 
 pub run_serve-requires-clause-honest : goal.run_serve-requires-clause-honest
 run_serve-requires-clause-honest g c κs within =
