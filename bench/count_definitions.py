@@ -165,7 +165,7 @@ def main():
     source = lambda *parts: os.path.join(top, "crates", *parts)
     run = source("ltfs_server", "src", "server.rt")
     sentence = roots(specs, run, lambda text: [clause(text, "ensures headline")])
-    owner = roots(specs, run, lambda text: [clause(text, f"requires {name}") for name in ("formats", "serves", "makes")])
+    owner = roots(specs, run, lambda text: [clause(text, f"requires {name}") for name in ("honest", "formats", "serves", "makes")])
     traits = set()
     for path in (source("tape_drive", "src", "drive.rt"), source("tape_edge", "src", "traits.rt")):
         traits |= roots(specs, path, lambda text: [text])
