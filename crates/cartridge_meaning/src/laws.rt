@@ -99,9 +99,9 @@ pub fn notes_tell_of_the_last_indexes()
     ensures coherent { (c : Cartridge) (labels : Labels) → HasLabels c labels → AreNoted c labels.ip → IsCoherent c }
 {}
 
-/// With an honest note of the cartridge's volume change reference the last index of its partition stands behind the mark
-/// in front of the place that the note names. So where a mark, blocks, a mark and the end stand there, the partition ends
-/// with its last index, which has just these blocks; and where it ends with that, these stand there.
+/// With an honest note of the cartridge's volume change reference the last index of its partition stands behind the
+/// mark in front of the place that the note names. So where a mark, blocks, a mark and the end stand there, the
+/// partition ends with its last index, which has just these blocks; and where it ends with that, these stand there.
 pub fn notes_tell_how_partitions_end()
     ensures stands { (c : Cartridge) (label : Label) (part : Part) (note : Coherency) → IsHonestNote c label part
         → HasValues (note_of part c) note → note.uuid ≡ label.uuid → note.vcr ≡ c.vcr

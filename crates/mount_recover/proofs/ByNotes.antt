@@ -57,6 +57,7 @@ module _ (labels : Labels) (n : Named) (limits : Limits) (lasts : Lasts) (noted 
   are_by : (ends.ip ≡ noted.ip.place.mark) × (ends.dp ≡ noted.dp.place.after)
   are_by = ends_by_lasts noted.ip noted.dp (standing_of (ip_in lasts)) (standing_of (dp_in lasts)) ends (ap standing_of noted.ip_is) (ap standing_of noted.dp_is) by
 
+  -- these ends lie within the capacities
   pub noted_within : AreEndsWithin limits (standing_of (dp_in lasts)) ends
   noted_within =
       let ip = noted.ip_noted.sound.place in
@@ -68,15 +69,18 @@ module _ (labels : Labels) (n : Named) (limits : Limits) (lasts : Lasts) (noted 
       }
 
   module _ (c : Cartridge) (told : AreTold labels n c) (are : AreLasts labels.ip lasts c) (all : EndWithLasts c) where
+    -- the labels are there, and both partitions have their form
     pub noted_forms : HasForms c labels
     noted_forms = record { has = told.has; ip = told.ip.form; dp = told.dp.form }
 
+    -- these ends are those of the cartridge
     pub noted_ends : AreEndsOf c ends
     noted_ends = record {
       ip = are_by.0 ∙ sym (mark_end c noted.ip (indexes_of c.ip) refl told.ip.form told.ip.long (ap place_in (sym noted.ip_is) ∙ are.ip.place) all.ip);
       dp = are_by.1 ∙ ends_dp (indexes_of c.dp) (Some noted.dp) (ap place_in (sym noted.dp_is) ∙ are.dp.place);
     }
 
+-- last indexes that were found by the notes are sound
 pub noted_sound : (labels : Labels) (n : Named) (limits : Limits) (lasts : Lasts) → AreNotedLasts labels.ip n limits lasts → AreSoundLasts labels.ip limits lasts
 noted_sound labels n limits lasts noted = record {
   dp = subst (λ (o : Option Last). IfSome o (IsSoundLast labels.ip limits.cap_dp)) (sym noted.dp_is) noted.dp_noted.sound;
@@ -106,6 +110,7 @@ tells note vcr uuid capacity label part values l s current noted is = record {
   block = noted.first;
 }
 
+-- what is decided of them is chosen by the notes
 pub chosen_by_notes : (labels : Labels) (lasts : Lasts) (choice : Choice) (c : Cartridge) (n : Named) (limits : Limits) → IsDecided labels lasts choice c
     → AreTold labels n c → AreLasts labels.ip lasts c → EndWithLasts c → AreNotedLasts labels.ip n limits lasts → IsChosenByNotes labels choice c
 chosen_by_notes labels lasts choice c n limits decided told are all noted = record {
@@ -146,6 +151,7 @@ module _ (c : Cartridge) (labels : Labels) (has : HasLabels c labels) (honest : 
           lowest k older ordered = let least = end_dp_least older ordered.2 in omega (arith, least, ordered.1)
 
   module _ (notes : Notes) (are : AreNotes notes c) where
+    -- notes of an honest cartridge whose values are current tell of its last indexes
     pub named_told : (limits : Limits) (n : Named) → AreNamed notes labels.ip.uuid limits n → AreTold labels n c
     named_told limits n named =
         let ip = current notes.ip c.note_ip n.ip are.ip named.ip in
@@ -180,6 +186,7 @@ module _ (c : Cartridge) (labels : Labels) (has : HasLabels c labels) (honest : 
         back read note values same is =
             subst (λ (m : ℕ). IsCurrentAs read m labels.ip.uuid values) (sym are.vcr) (subst (λ (n : Note). IsCurrentAs n c.vcr labels.ip.uuid values) (sym same) is)
 
+    -- where the notes name nothing, the cartridge is not known by them
     pub unnamed : (limits : Limits) → FitsLimits limits c → ((n : Named) → AreNamed notes labels.ip.uuid limits n → ◌≡◌ {A = Option Named} None (Some n)) → ¬ IsKnownByNotes c
     unnamed limits fits none known =
         let n = coherent_named limits fits known.coherent in let bad = none n.0 n.1 in cc bad
@@ -188,6 +195,7 @@ module _ (c : Cartridge) (labels : Labels) (has : HasLabels c labels) (honest : 
 pub counts_both : (c : Cartridge) (i k : ℕ) → i ≤ 4 + blocks_of_newest (indexes_of c.dp) → k ≤ 4 + blocks_of_newest (indexes_of c.ip) → i + k ≤ 8 + last_blocks c
 counts_both c i k first second = omega (arith, first, second)
 
+-- the commands of the data partition alone
 pub count_one : (c : Cartridge) (i : ℕ) → i ≤ 4 + blocks_of_newest (indexes_of c.dp) → i ≤ 8 + last_blocks c
 count_one c i first = omega (arith, first)
 
@@ -202,6 +210,7 @@ pub maybe_chosen : (labels : Labels) (lasts : Lasts) (found : Option Choice) (c 
 maybe_chosen labels lasts None c n limits some none told are all noted = λ known. none c n limits told are all noted known.found
 maybe_chosen labels lasts (Some choice) c n limits some none told are all noted = some c n limits told are all noted
 
+-- a choice that was made is sound
 pub maybe_sound : (labels : Labels) (n : Named) (limits : Limits) (lasts : Lasts) (found : Option Choice) → AreNotedLasts labels.ip n limits lasts
     → IfSome found (λ choice. (n : Named) (limits : Limits) → AreNotedLasts labels.ip n limits lasts → IsSoundChoice labels.ip limits choice)
     → IfSome found (IsSoundChoice labels.ip limits)

@@ -195,6 +195,7 @@ sound_choice label ends lasts choice limits is same fits within sound = record {
 
 -- what a check of the extents answers
 module _ (labels : Labels) (ends : Ends) (lasts : Lasts) (choice : Choice) (is : IsChosen lasts choice) (same : choice.ends ≡ ends) where
+  -- a choice within the ends is what is decided
   pub ok_decided : (r : Result Choice MountErr)
       → IfOk r (λ x. (x ≡ choice) × AllByRecursion (FitsNode labels.ip choice.ends.ip choice.ends.dp) choice.index.nodes)
       → IfOk r (λ x. (c : Cartridge) → HasForms c labels → AreEndsOf c ends → AreLasts labels.ip lasts c → IsDecided labels lasts x c)
@@ -202,6 +203,7 @@ module _ (labels : Labels) (ends : Ends) (lasts : Lasts) (choice : Choice) (is :
       λ c forms ends_are are. subst (λ (y : Choice). IsDecided labels lasts y c) (sym fits.0) (decided c labels ends lasts forms ends_are are choice is same fits.1)
   ok_decided (Err e) fits = tt
 
+  -- it is sound over every drive
   pub ok_sound : (r : Result Choice MountErr)
       → IfOk r (λ x. (x ≡ choice) × AllByRecursion (FitsNode labels.ip choice.ends.ip choice.ends.dp) choice.index.nodes)
       → IfOk r (λ x. (limits : Limits) → AreEndsWithin limits (standing_of (dp_in lasts)) ends → AreSoundLasts labels.ip limits lasts → IsSoundChoice labels.ip limits x)
@@ -209,6 +211,7 @@ module _ (labels : Labels) (ends : Ends) (lasts : Lasts) (choice : Choice) (is :
       λ limits within sound. subst (λ (y : Choice). IsSoundChoice labels.ip limits y) (sym fits.0) (sound_choice labels.ip ends lasts choice limits is same fits.1 within sound)
   ok_sound (Err e) fits = tt
 
+  -- one that is not within them is refused
   pub err_faults : (r : Result Choice MountErr)
       → IfErr r (λ e. (uid : ℕ) × (e ≡ errors.BadExtent uid) × IsFirstOutside labels.ip choice.ends.ip choice.ends.dp choice.index.nodes uid)
       → IfErr r (λ e. (c : Cartridge) → HasForms c labels → AreEndsOf c ends → AreLasts labels.ip lasts c → MountFault c e)
@@ -223,6 +226,7 @@ err_counts (Err e) P out = λ before now. subst (λ (x : MountErr). AreCounts be
 
 -- ---- the ends that were scanned
 
+-- ends that were scanned are those of the cartridge
 pub scanned_ends : (c : Cartridge) (labels : Labels) (s : Scans) (lasts : Lasts) (ends : Ends) → IsScan labels s c → AreLasts labels.ip lasts c
     → IsIpEnd s.ip (standing_of (ip_in lasts)) ends.ip → ends.dp ≡ dp_ends (standing_of (dp_in lasts)) → AreEndsOf c ends
 scanned_ends c labels s lasts ends scan are ip dp = record {
@@ -230,6 +234,7 @@ scanned_ends c labels s lasts ends scan are ip dp = record {
   dp = dp ∙ ends_dp (indexes_of c.dp) (dp_in lasts) are.dp.place;
 }
 
+-- they lie within the capacities
 pub scanned_within : (label : Label) (limits : Limits) (s : Scans) (lasts : Lasts) (ends : Ends) → AreInPlaces limits s → AreSoundLasts label limits lasts
     → IsIpEnd s.ip (standing_of (ip_in lasts)) ends.ip → ends.dp ≡ dp_ends (standing_of (dp_in lasts)) → AreEndsWithin limits (standing_of (dp_in lasts)) ends
 scanned_within label limits s lasts ends places sound ip dp =

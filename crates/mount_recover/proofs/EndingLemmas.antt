@@ -33,7 +33,7 @@ use Rattle.mount_recover.specs.declared.items.Stop.TheVariants as stops
 use Rattle.mount_recover.specs.Lasts.{IsDocument, newest}
 use Rattle.mount_recover.specs.Steps.{IsFree, IsSince, IsStepBy}
 use Rattle.mount_recover.specs.declared.starts.Start.{Start}
-use Rattle.mount_recover.proofs.FlagLemmas.{fits_count}
+use Rattle.mount_recover.proofs.FlagLemmas.{fits_count, past}
 use Rattle.content_laws.proofs.Stands.{index_stands}
 use Rattle.mount_recover.proofs.StepLemmas.{at_told, by_step, failed_by, free_step, since_next}
 use Rattle.mount_recover.specs.Noted.{EndsAt, IsEnding, IsLastFrom}
@@ -72,6 +72,7 @@ module _ {D : Type 0} (drive : Ghosts D) where
     pub told : (c : Cartridge) (bs : List (List ℕ)) → IsAhead drive first from (from - 1) positions c bs
         → (pos - from ≤ length bs) × (take read.at document ≡ concat (take (pos - from) bs))
 
+  -- nothing has been read
   pub begun : (first : D) (from positions : ℕ) (before : List ℕ) → from < positions → drive.commands first ≤ 2 ^ 64 - 1
       → (part : Part) × (drive.head first ≡ Some (record { part = part; pos = from }))
       → Going first first from from positions before before (record { at = 0; same = true })
@@ -197,6 +198,7 @@ module _ {D : Type 0} (drive : Ghosts D) where
           let same : more ≡ document = subst (IsPutNext read buffer document more) mark puts in
           cut_is ∙ ap (take read.at) same
 
+      -- these are all blocks of the index
       pub closed_told : (c : Cartridge) (bs : List (List ℕ)) → IsAhead drive first from (from - 1) positions c bs
           → (r : Run) × (Some run ≡ Some r) × IsRunOf from left bs r
       closed_told c bs ahead =
@@ -210,6 +212,7 @@ module _ {D : Type 0} (drive : Ghosts D) where
             },
           )
 
+      -- what is so of the run whether or not the drive tells
       pub closed_any : (run.same ≡ true → (read.same ≡ true) × (read.at ≡ length more)) → IsRun from positions before left run
       closed_any all = record {
         low = omega (arith, run_is, going.low);
@@ -219,6 +222,7 @@ module _ {D : Type 0} (drive : Ghosts D) where
             cut_is ∙ take_all read.at more (omega (arith, (all is).1)) ∙ same ∙ going.same (all is).0;
       }
 
+    -- the head stands behind the mark
     pub closed_head : (after : D) (it : Next) → it ≡ nexts.Mark → ((at : Place) → drive.head now ≡ Some at → IsPast drive it at after)
         → (part : Part) → drive.head first ≡ Some (record { part = part; pos = from }) → drive.head after ≡ Some (record { part = part; pos = pos + 1 })
     closed_head after it mark heads part is =
@@ -236,6 +240,7 @@ module _ {D : Type 0} (drive : Ghosts D) where
         let below = no_mark c bs ahead it buffer t (λ mark. let bad : nexts.Other ≡ nexts.Mark = sym other ∙ mark in cc bad) in
         omega (arith, is, below)
 
+    -- so many commands were made, with the one that read the item
     pub took_more : (after : D) → Looks drive drive.MOST now after
         → Took drive first after (positions - from) (λ n. (c : Cartridge) (bs : List (List ℕ)) → IsAhead drive first from (from - 1) positions c bs → n ≤ length bs + 1)
     took_more after look = record {
@@ -252,9 +257,11 @@ module _ {D : Type 0} (drive : Ghosts D) where
 
   module _ (first now : D) (from pos positions : ℕ) (before document : List ℕ) (read : Beside)
       (going : Going first now from pos positions before document read) (le : positions ≤ pos) where
+    -- an index that is told ends before the last position
     pub never_told : (c : Cartridge) (bs : List (List ℕ)) → 1 ≤ from → IsAhead drive first from (from - 1) positions c bs → ⊥
     never_told c bs some ahead = omega (arith, (going.told c bs ahead).0, ahead.within, le, some, going.low)
 
+    -- so many commands were made to the last position
     pub took_all : 1 ≤ from
         → Took drive first now (positions - from) (λ n. (c : Cartridge) (bs : List (List ℕ)) → IsAhead drive first from (from - 1) positions c bs → n ≤ length bs + 1)
     took_all some = record {
@@ -266,11 +273,6 @@ module _ {D : Type 0} (drive : Ghosts D) where
 
 -- ---- a mark, blocks, a mark and the end
 
-past : (items : List Item) (count : ℕ) → slice_get items count ≡ None → length items ≤ count
-past [] count is = omega arith
-past (x ∷ items) zero is = absurd (cc is)
-past (x ∷ items) (suc count) is = omega (arith, past items count is)
-
 none_past : (items : List Item) (count : ℕ) → length items ≤ count → slice_get items count ≡ None
 none_past [] count le = refl
 none_past (x ∷ items) zero le = absurd (omega (arith, le))
@@ -280,6 +282,7 @@ abbrev pub IsEndingOf : ℕ → Run → Bool → Ending → Type 0
 IsEndingOf mark run ends e =
     (mark + 3 ≤ run.after) × (ends ≡ true) × (e.same ≡ run.same) × (e.place ≡ record { mark = mark; first = mark + 1; after = run.after })
 
+-- what was read is the index with which the items end, or they go on
 pub ended_told : (items : List Item) (mark : ℕ) (bs : List (List ℕ)) (document : List ℕ) (run : Run) (ends : Bool) (found : Option Ending)
     → IsIndexAt items mark bs → 1 ≤ length bs → IsRunOf (mark + 1) document bs run → (ends ≡ true) ↔ (slice_get items run.after ≡ None)
     → IfSome found (IsEndingOf mark run ends) → IfNone found ((mark + 3 ≤ run.after) → ends ≢ true)
@@ -303,6 +306,7 @@ run_is found run from document bs is told =
     let same : told.0 ≡ run = cc both in
     subst (IsRunOf from document bs) same told.2
 
+-- and none is told of no run
 pub none_is : (found : Option Run) (from : ℕ) (document : List ℕ) (bs : List (List ℕ)) → found ≡ None
     → (r : Run) × (found ≡ Some r) × IsRunOf from document bs r → ⊥
 none_is found from document bs is told = let bad : Some told.0 ≡ None = sym told.1 ∙ is in cc bad
@@ -323,6 +327,7 @@ module _ {D : Type 0} (drive : Ghosts D) (mark positions : ℕ) where
       same : mark ≡ mark + 1 - 1
       same = omega arith
 
+  -- one command was made, for the opening mark
   pub took_mark : (a b : D) → mark + 1 < positions → Looks drive drive.MOST a b
       → Took drive a b (positions + 1 - mark) (λ n. (c : Cartridge) (bs : List (List ℕ)) → IsAhead drive a mark mark positions c bs → n ≤ length bs + 3)
   took_mark a b lt look = record {
@@ -339,6 +344,7 @@ module _ {D : Type 0} (drive : Ghosts D) (mark positions : ℕ) where
       (head : (at : Place) → drive.head a ≡ Some at → drive.head b ≡ Some (next at))
       (took : Took drive b d (positions - (mark + 1))
       (λ n. (c : Cartridge) (bs : List (List ℕ)) → IsAhead drive b (mark + 1) (mark + 1 - 1) positions c bs → n ≤ length bs + 1)) where
+    -- that one and those of the run were made
     pub took_run : Took drive a d (positions + 1 - mark) (λ n. (c : Cartridge) (bs : List (List ℕ)) → IsAhead drive a mark mark positions c bs → n ≤ length bs + 3)
     took_run = record {
       count = took.count + 1;
@@ -350,6 +356,7 @@ module _ {D : Type 0} (drive : Ghosts D) (mark positions : ℕ) where
         once : (n k : ℕ) → k + n * k ≡ (n + 1) * k
         once n k = omega arith
 
+    -- these and one for the end were made
     pub took_end : (e : D) → Looks drive drive.MOST d e
         → Took drive a e (positions + 1 - mark) (λ n. (c : Cartridge) (bs : List (List ℕ)) → IsAhead drive a mark mark positions c bs → n ≤ length bs + 3)
     took_end e last = record {
@@ -418,6 +425,7 @@ last_within items mark last =
 pub stop_rose : (before now : ℕ) (stop : Stop) → stop ≡ stops.Drive → StopCause before now stop → Rose before now
 stop_rose before now stop is cause = subst (StopCause before now) is cause
 
+-- one command is one time the most of one
 pub looks_once : {D : Type 0} (drive : Ghosts D) (a b : D) → Looks drive drive.MOST a b → Looks drive (1 * drive.MOST) a b
 looks_once drive a b look = subst (λ (most : ℕ). Looks drive most a b) (once drive.MOST) look
   where
@@ -468,6 +476,7 @@ module _ {D : Type 0} (drive : Ghosts D) (start : Start) (a b d : D) (part : Par
   few_all : (c : Cartridge) → drive.held a ≡ Some c → 1 + took.count ≤ 4 + blocks_of_newest (indexes_of (items_of part c))
   few_all c h = let less = few c h in omega (arith, less)
 
+  -- the index was read, or the partition goes on
   pub ending_step : (before document : List ℕ) (found : Option Ending) → drive.faults a ≤ drive.faults d
       → ((c : Cartridge) (bs : List (List ℕ)) → (x : IsAhead drive b mark mark positions c bs) → 1 ≤ length bs
       → MatchOption found (length (items_of x.part c) ≢ mark + length bs + 2) (IsRead (items_of x.part c) mark document bs))
@@ -495,12 +504,14 @@ module _ {D : Type 0} (drive : Ghosts D) (start : Start) (a b d : D) (part : Par
         by = few_all;
       }
 
+  -- the drive failed as it was read
   pub ending_failed : {T : Type 0} {F : T → Cartridge → Type 0} {A : T → Type 0} (e : MountErr) → drive.faults a ≤ drive.faults b → drive.faults b ≤ drive.faults d
       → Rose (drive.faults b) (drive.faults d) → e ≡ errors.Drive (record { before = start.faults; after = drive.faults d })
       → IsStepBy drive start (capacity part start.limits) (λ c n. n ≤ 4 + blocks_of_newest (indexes_of (items_of part c))) a d F A IsFree (Err e)
   ending_failed e first later rose is =
       failed_by drive start most_is since all_looks (omega (arith, first, later)) (omega (arith, first, rose)) is few_all
 
+  -- memory was refused as it was read
   pub ending_refused : {T : Type 0} {F : T → Cartridge → Type 0} {A : T → Type 0} → drive.faults a ≤ drive.faults b → drive.faults b ≤ drive.faults d
       → IsStepBy drive start (capacity part start.limits) (λ c n. n ≤ 4 + blocks_of_newest (indexes_of (items_of part c))) a d F A IsFree (Err errors.NoMemory)
   ending_refused first later =

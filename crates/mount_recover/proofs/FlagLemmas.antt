@@ -41,6 +41,7 @@ use Rattle.mount_recover.proofs.StepLemmas.{at_told, since_next}
 use Rattle.content_laws.specs.Readings.{front}
 use Rattle.content_laws.proofs.Whole.{front_within}
 
+-- a partition has no more items than its capacity
 pub fits_count : (c : Cartridge) (part : Part) (limits : Limits) → FitsLimits limits c → length (items_of part c) ≤ capacity part limits
 fits_count c Ip limits fits = fits.ip.count
 fits_count c Dp limits fits = fits.dp.count
@@ -50,7 +51,8 @@ pub at_capacity : (c : Cartridge) (part : Part) (limits : Limits) (count : ℕ) 
     → count ≡ length (front (items_of part c)) → length (items_of part c) ≡ count
 at_capacity c part limits count fits le is = omega (arith, fits_count c part limits fits, le, is, front_within (items_of part c))
 
-past : (items : List Item) (count : ℕ) → slice_get items count ≡ None → length items ≤ count
+-- where no item stands there are none behind
+pub past : (items : List Item) (count : ℕ) → slice_get items count ≡ None → length items ≤ count
 past [] count is = omega arith
 past (x ∷ items) zero is = absurd (cc is)
 past (x ∷ items) (suc count) is = omega (arith, past items count is)

@@ -83,6 +83,7 @@ first_last None [] is = refl
 first_last None (k ∷ older) is = absurd (cc is)
 first_last (Some l) ks is = sym (block_of l ks is)
 
+-- the items end as what is kept of the last index says, exactly where they end with that
 pub ends_same : (items : List Item) (last : Option Last) (ks : List readings.Construct) → place_in last ≡ newest ks
     → EndsAs items (standing_of last) ↔ EndsWithLast items ks
 ends_same items None [] is = ((λ ends. ends), λ ends. ends)
@@ -291,6 +292,7 @@ fails_blames c (errors.Drive counts) fails = tt
 fails_blames c errors.NoMemory fails = tt
 fails_blames c e fails = absurd fails
 
+-- a check that fails is blamed
 pub fault_blames : (c : Cartridge) (e : MountErr) → MountFault c e → Blames e c
 fault_blames c (errors.Drive counts) fault = tt
 fault_blames c errors.NoMemory fault = tt

@@ -53,6 +53,7 @@ pub one_noted : (document : List ℕ) (label : Label) (letter : ℕ) (note : Coh
 one_noted document label letter note place index other text noted =
     subst (IsOfNote label letter note place) (one_index_text document other index noted.text text) noted.is_of
 
+-- what follows the last index of the data partition by one reading of a text does so by another
 pub one_follows : (document : List ℕ) (label : Label) (index other : Index) (dp : Last) → IndexText document index → IndexText document other
     → Follows label other dp → Follows label index dp
 one_follows document label index other dp text others follows =
@@ -127,6 +128,7 @@ module _ (c : Cartridge) (label : Label) (note : Coherency) (document : List ℕ
 
 -- ---- the data partition
 
+-- the last index of the data partition, where its document was read: none only where the partition goes on
 pub noted_dp : (c : Cartridge) (label : Label) (note : Coherency) (document text : List ℕ) (place : Construct) (found : Option Last) → text ≡ document
     → IfSome found (λ l. (l.place ≡ place) × IsNotedText text label label.dpart note place l.index)
     → ((index : Index) → IsNotedText text label label.dpart note place index → (l : Last) × (found ≡ Some l))
@@ -146,6 +148,7 @@ noted_dp c label note document text place (Some l) same some all told ends =
       ends.ends,
     )
 
+-- an index that was read is a last one found by its note
 pub noted_last : (label : Label) (part : Part) (letter capacity : ℕ) (note : Coherency) (text before after : List ℕ) (e : Ending) (found : Option Last)
     → letter ≡ letter_of label part → 5 ≤ note.block
     → IfSome found (λ l. (l.place ≡ e.place) × IsNotedText text label letter note e.place l.index)
@@ -207,6 +210,7 @@ module _ (c : Cartridge) (labels : Labels) (n : Named) (told : AreTold labels n 
       no_older (nat_lt dp.index.generation told.ip.tells.index.generation) told.ip.tells.index dp.index known.found.index refl choice
       (ap (λ (x : Index). x.generation) (sym done_is) ∙ known.ip_done.generation)
 
+  -- its last index on the index partition follows that of the data partition
   pub known_follows : Follows labels.ip told.ip.tells.index dp
   known_follows = record {
     later = later;
@@ -220,6 +224,7 @@ module _ (c : Cartridge) (labels : Labels) (n : Named) (told : AreTold labels n 
 -- the last index of the index partition, where it follows that of the data partition
 module _ (c : Cartridge) (labels : Labels) (n : Named) (told : AreTold labels n c) (dp : Last) (last : IsLastDp labels.ip (Some dp) c)
     (document : List ℕ) (place : Construct) (ends : EndsAt c.ip document place) where
+  -- what is known of the index partition
   pub known_ip : IsKnownIp labels place (map places_of (reverse (indexes_of c.dp))) (Some dp.index) c
   known_ip = record {
     forms = record { has = told.has; ip = told.ip.form; dp = told.dp.form };
@@ -228,6 +233,7 @@ module _ (c : Cartridge) (labels : Labels) (n : Named) (told : AreTold labels n 
     dp_last = last.index;
   }
 
+  -- an index that is as its note says, and follows that of the data partition, is its last one
   pub last_ip : (index : Index) → IsNotedText document labels.ip labels.ip.index n.ip place index → Follows labels.ip index dp
       → IsLastIp labels.ip (Some dp.index) (Some (record { index = index; place = place })) c
   last_ip index noted follows =
@@ -238,6 +244,7 @@ module _ (c : Cartridge) (labels : Labels) (n : Named) (told : AreTold labels n 
         back = inl (follows.later, follows.back ∙ sym (spot_of labels.ip dp (indexes_of c.dp) last.place));
       })
 
+  -- its last index has the generation of its note
   pub twin_generation : (index : Index) → IsLastIp labels.ip (Some dp.index) (Some (record { index = index; place = place })) c → index.generation ≡ n.ip.generation
   twin_generation index is =
       let here = last_dp_once labels.ip (indexes_of c.dp) told.ip.tells.last.0 (Some dp.index) told.ip.tells.last.1 last.index in
@@ -272,6 +279,7 @@ noted_both c labels n dp now document text place (Some l) same now_is some all t
       record { ip = ends.ends; dp = dp_ends },
     )
 
+-- so were both found by the notes
 pub sound_both : (labels : Labels) (n : Named) (limits : Limits) (dp now : Last) (before after text : List ℕ) (e : Ending) (found_is : Option Lasts) → now ≡ dp → 5 ≤ n.ip.block
     → IfSome found_is (λ l. (ip : Last) × (l ≡ found.OnBoth ip now) × (ip.place ≡ e.place) × IsNotedText text labels.ip labels.ip.index n.ip e.place ip.index × Follows labels.ip ip.index now)
     → IsNotedLast labels.ip Dp n.dp limits.cap_dp dp → IsEnding limits.cap_ip (n.ip.block - 1) before after e
@@ -308,6 +316,7 @@ module _ (labels : Labels) (n : Named) (limits : Limits) (dp now : Last) (now_is
     back = back_is;
   }
 
+  -- both last indexes, or the cartridge is not known by its notes
   pub alike_found : (c : Cartridge) → AreTold labels n c → IsLastDp labels.ip (Some dp) c → EndsWithLast c.dp (indexes_of c.dp)
       → (document : List ℕ) → EndsAt c.ip document e.place → IsTextOf (twin_of dp.index twin) document
       → MatchOption found_is (¬ IsKnownByNotes c) (λ lasts. AreLasts labels.ip lasts c × EndWithLasts c)
@@ -328,6 +337,7 @@ module _ (labels : Labels) (n : Named) (limits : Limits) (dp now : Last) (now_is
           subst (λ (x : Lasts). AreLasts labels.ip x c × EndWithLasts c) (ap (found.Alike twin) (sym now_is) ∙ sym has.0)
           (record { dp = last; ip = is_last }, record { ip = ends.ends; dp = dp_ends })
 
+  -- so were both found by the notes
   pub alike_sound : IfSome found_is (AreNotedLasts labels.ip n limits)
   alike_sound = of found_is some
     where
@@ -352,9 +362,10 @@ module _ (labels : Labels) (n : Named) (limits : Limits) (dp now : Last) (now_is
             follows = record { later = omega arith; back = ap (λ (s : _). Some s) back_is };
           })
 
--- a partition that doesn't end with its last index
+-- a cartridge whose index partition goes on behind its last index is not known by its notes
 pub ip_goes_on : (c : Cartridge) → ¬ EndsWithLast c.ip (indexes_of c.ip) → ¬ IsKnownByNotes c
 ip_goes_on c none known = none known.ip_done.ends
 
+-- nor one whose data partition goes on
 pub dp_goes_on : (c : Cartridge) → ¬ EndsWithLast c.dp (indexes_of c.dp) → ¬ IsKnownByNotes c
 dp_goes_on c none known = none known.dp_done.ends

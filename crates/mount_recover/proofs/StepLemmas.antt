@@ -111,20 +111,6 @@ module _ {D : Type 0} (drive : Ghosts D) (start : Start) where
     since = second.since;
   }
 
-  pub three_after : {T U W X : Type 0} {m n k : ℕ} {a b d e : D} {F : T → Cartridge → Type 0} {A : T → Type 0} {R S V Q : MountErr → Cartridge → Type 0}
-      {G : U → Cartridge → Type 0} {B : U → Type 0} {H : W → Cartridge → Type 0} {C : W → Type 0} {I : X → Cartridge → Type 0} {J : X → Type 0}
-      {x : T} {y : U} {z : W} {w : X} → IsStep drive start m a b F A R (Ok x) → IsStep drive start n b d G B S (Ok y) → IsStep drive start k d e H C V (Ok z)
-      → ((c : Cartridge) → drive.held a ≡ Some c → F x c → G y c → H z c → I w c) → (A x → B y → C z → J w)
-      → IsStep drive start (m + n + k) a e I J Q (Ok w)
-  three_after {m = m} {n = n} {k = k} {a = a} {b = b} {d = d} {e = e} first second third finds holds = record {
-    found = λ c h. finds c h (first.found c h) (second.found c (first.looks.held ∙ h)) (third.found c (second.looks.held ∙ first.looks.held ∙ h));
-    any = holds first.any second.any third.any;
-    refused = tt;
-    counts = record { later = third.counts.later; told = tt };
-    looks = looks_on (m + n) k a d e (looks_on m n a b d first.looks second.looks) third.looks;
-    since = third.since;
-  }
-
   pub refused_after : {T U : Type 0} {m : ℕ} {a b : D} {F : T → Cartridge → Type 0} {A : T → Type 0} {R V : MountErr → Cartridge → Type 0}
       {H : U → Cartridge → Type 0} {C : U → Type 0} {x : T} {e : MountErr} → IsStep drive start m a b F A R (Ok x) → AreCounts start.faults (drive.faults b) e
       → ((c : Cartridge) → drive.held a ≡ Some c → F x c → V e c) → IsStep drive start m a b H C V (Err e)
@@ -201,10 +187,12 @@ module _ {D : Type 0} (drive : Ghosts D) (start : Start) where
 
   -- ---- with a bound by what a drive tells
 
+  -- a step with a greater bound, and one by what is told
   pub by_step : {T : Type 0} {m n : ℕ} {By : Cartridge → ℕ → Type 0} {a b : D} {F : T → Cartridge → Type 0} {A : T → Type 0} {R : MountErr → Cartridge → Type 0}
       {r : Result T MountErr} → m ≤ n → IsStep drive start m a b F A R r → ((c : Cartridge) → drive.held a ≡ Some c → By c m) → IsStepBy drive start n By a b F A R r
   by_step {m = m} le step by = record { count = m; step = step; most_is = le; by = by }
 
+  -- a step with its own bound
   pub by_at : {T : Type 0} {m : ℕ} {a b : D} {F : T → Cartridge → Type 0} {A : T → Type 0} {R : MountErr → Cartridge → Type 0}
       {r : Result T MountErr} → (By : Cartridge → ℕ → Type 0) → IsStep drive start m a b F A R r → ((c : Cartridge) → By c m) → IsStepBy drive start m By a b F A R r
   by_at {m = m} By step by = record { count = m; step = step; most_is = omega arith; by = λ c h. by c }

@@ -1,5 +1,6 @@
 -- What a mount finds by the notes of a cartridge.
-use Rattle.std.specs.Prelude.{ℕ, ◌+◌, ◌*◌, ◌≤◌, ◌<◌, ◌≡◌, List, ◌∷◌, Bool, true, false, length, slice_get, Option, Some, IfSome}
+use Rattle.std.specs.Prelude.{ℕ, ◌+◌, ◌*◌, ◌≤◌, ◌<◌, ◌≡◌, List, ◌∷◌, Bool, true, false, length, Option}
+use Rattle.std.specs.Prelude.{Some, IfSome}
 use Rattle.std.specs.List.{concat}
 use Rattle.tape_types.specs.declared.cartridges.Cartridge.{Cartridge}
 use Rattle.tape_types.specs.declared.cartridges.Item.{Item}
@@ -28,7 +29,8 @@ use Rattle.cartridge_meaning.specs.Notes.{TellsOfLast}
 use Rattle.cartridge_meaning.specs.Pointers.{indexes_of, letter_of}
 use Rattle.cartridge_meaning.specs.declared.labels.Labels.{Labels}
 use Rattle.volume_scan.specs.declared.content.Construct.{Construct}
-use Rattle.mount_recover.specs.Lasts.{EndsAs, IsDecided, IsDocument, IsInPlace, IsPut, IsSoundLast, TellsBoth, dp_in, ip_in, newest}
+use Rattle.mount_recover.specs.Lasts.{EndsAs, IsDecided, IsDocument, IsInPlace, IsPut, IsSoundLast, TellsBoth}
+use Rattle.mount_recover.specs.Lasts.{dp_in, ip_in, newest}
 use Rattle.mount_recover.specs.declared.choices.Choice.{Choice}
 use Rattle.mount_recover.specs.declared.choices.Standing.{Standing}
 use Rattle.mount_recover.specs.declared.extents.Ends.{Ends}
@@ -68,7 +70,8 @@ pub record AreNamed (notes : Notes) (uuid : ℕ) (limits : Limits) (n : Named) :
 -- ---- an index with which a partition ends
 
 -- an index whose opening mark the head of a drive stands at, or behind it, ends before a position
-pub record IsAhead {D : Type 0} (drive : Ghosts D) (now : D) (pos mark positions : ℕ) (c : Cartridge) (blocks : List (List ℕ)) : Type 0 where
+pub record IsAhead {D : Type 0} (drive : Ghosts D) (now : D) (pos mark positions : ℕ) (c : Cartridge)
+    (blocks : List (List ℕ)) : Type 0 where
   pub part : Part
   pub head : drive.head now ≡ Some (record { part = part; pos = pos })
   pub held : drive.held now ≡ Some c
@@ -110,7 +113,8 @@ pub record IsRunOf (first : ℕ) (document : List ℕ) (blocks : List (List ℕ)
   pub text : document ≡ concat blocks
 
 -- an index was read with which the items of a partition end, where this tells them
-pub record IsRead (items : List Item) (mark : ℕ) (document : List ℕ) (blocks : List (List ℕ)) (e : Ending) : Type 0 where
+pub record IsRead (items : List Item) (mark : ℕ) (document : List ℕ) (blocks : List (List ℕ)) (e : Ending)
+    : Type 0 where
   pub ends : length items ≡ mark + length blocks + 2
   pub after : e.place.after ≡ mark + length blocks + 2
   pub text : document ≡ concat blocks
@@ -163,7 +167,8 @@ pub record IsOfNote (label : Label) (letter : ℕ) (values : Coherency) (place :
   pub noted : IsAsNoted letter values place index
 
 -- a document is that of such an index
-pub record IsNotedText (document : List ℕ) (label : Label) (letter : ℕ) (values : Coherency) (place : Construct) (index : Index) : Type 0 where
+pub record IsNotedText (document : List ℕ) (label : Label) (letter : ℕ) (values : Coherency) (place : Construct)
+    (index : Index) : Type 0 where
   pub text : IndexText document index
   pub is_of : IsOfNote label letter values place index
 

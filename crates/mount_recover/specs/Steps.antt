@@ -43,7 +43,8 @@ pub record IsStep {D T : Type 0} (drive : Ghosts D) (start : Start) (most : ℕ)
   pub since : IsSince drive start new
 
 -- The same, with a bound on the count of commands that goes by what the drive tells.
-pub record IsStepBy {D T : Type 0} (drive : Ghosts D) (start : Start) (most : ℕ) (By : Cartridge → ℕ → Type 0) (old new : D)
+pub record IsStepBy {D T : Type 0} (drive : Ghosts D) (start : Start) (most : ℕ) (By : Cartridge → ℕ → Type 0)
+    (old new : D)
     (Finds : T → Cartridge → Type 0) (Holds : T → Type 0) (Refuses : MountErr → Cartridge → Type 0)
     (result : Result T MountErr) : Type 0 where
   pub count : ℕ

@@ -14,7 +14,8 @@ ghost use Rattle.mount_recover.specs.Known.{IsKnownByNotes, blocks_of_newest, la
 ghost use Rattle.mount_recover.specs.Labels.{AreLabels};
 ghost use Rattle.mount_recover.specs.Lasts.{AreLasts, IsLastDp, IsSoundChoice, dp_in};
 ghost use Rattle.mount_recover.specs.Noted.{AreNotes, AreNotedLasts, AreTold, CanBegin, EndWithLasts, EndsAt};
-ghost use Rattle.mount_recover.specs.Noted.{Follows, IsAsNoted, IsChosenByNotes, IsNotedLast, IsNotedText, IsOfNote, IsTold};
+ghost use Rattle.mount_recover.specs.Noted.{Follows, IsAsNoted, IsChosenByNotes, IsNotedLast, IsNotedText};
+ghost use Rattle.mount_recover.specs.Noted.{IsOfNote, IsTold};
 ghost use Rattle.mount_recover.specs.Noted.{lacks_memory};
 ghost use Rattle.mount_recover.specs.declared.lasts.Last.{Last as LastOf};
 ghost use Rattle.mount_recover.specs.declared.lasts.Lasts.{Lasts as LastsOf};
@@ -51,9 +52,9 @@ pub fn choose_by_notes<D: Drive>(
     requires honest { IfSome (D.held drive.old) HasHonestNotes }
     requires known { IfSome (D.held drive.old) (λ c. HasLabels c labels.now × AreNotes notes.now c) }
     ensures { IsStepBy D.Drive start (start.limits.cap_dp + start.limits.cap_ip) (λ c n. n ≤ 8 + last_blocks c)
-        drive.old drive.new (λ found c. MatchOption found (¬ IsKnownByNotes c)
-        (λ choice. IsChosenByNotes labels.now choice c)) (λ found. IfSome found (IsSoundChoice labels.now.ip start.limits))
-        IsFree result }
+        drive.old drive.new
+        (λ found c. MatchOption found (¬ IsKnownByNotes c) (λ choice. IsChosenByNotes labels.now choice c))
+        (λ found. IfSome found (IsSoundChoice labels.now.ip start.limits)) IsFree result }
 {
     match what_is_named(notes, labels.ip.uuid, start.limits) {
         Some(named) => choose_named(alloc, drive, start, labels, named),
@@ -75,9 +76,9 @@ fn choose_named<D: Drive>(
     requires dp { CanBegin start.limits.cap_dp named.dp.block }
     requires known { IfSome (D.held drive.old) (AreTold labels.now named) }
     ensures { IsStepBy D.Drive start (start.limits.cap_dp + start.limits.cap_ip) (λ c n. n ≤ 8 + last_blocks c)
-        drive.old drive.new (λ found c. MatchOption found (¬ IsKnownByNotes c)
-        (λ choice. IsChosenByNotes labels.now choice c)) (λ found. IfSome found (IsSoundChoice labels.now.ip start.limits))
-        IsFree result }
+        drive.old drive.new
+        (λ found c. MatchOption found (¬ IsKnownByNotes c) (λ choice. IsChosenByNotes labels.now choice c))
+        (λ found. IfSome found (IsSoundChoice labels.now.ip start.limits)) IsFree result }
 {
     match read_noted(alloc, drive, start, labels, named) {
         Ok(Some(lasts)) => Ok(decide_noted(labels, lasts)),
