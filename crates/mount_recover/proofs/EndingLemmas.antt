@@ -37,7 +37,7 @@ use Rattle.mount_recover.proofs.FlagLemmas.{fits_count, past}
 use Rattle.content_laws.proofs.Stands.{index_stands}
 use Rattle.mount_recover.proofs.StepLemmas.{at_told, by_step, failed_by, free_step, since_next}
 use Rattle.mount_recover.specs.Noted.{EndsAt, IsEnding, IsLastFrom}
-use Rattle.mount_recover.specs.Noted.{IsAhead, IsRead, IsNext, IsPast, IsPutNext, IsRun, IsRunOf, Took}
+use Rattle.mount_recover.specs.Noted.{IsAhead, IsReadToEnd, IsNext, IsPast, IsPutNext, IsRun, IsRunOf, Took}
 use Rattle.mount_recover.specs.declared.documents.Beside.{Beside}
 use Rattle.mount_recover.specs.declared.endings.Ending.{Ending}
 use Rattle.mount_recover.specs.declared.endings.Next.{Next}
@@ -286,7 +286,7 @@ IsEndingOf mark run ends e =
 pub ended_told : (items : List Item) (mark : ℕ) (bs : List (List ℕ)) (document : List ℕ) (run : Run) (ends : Bool) (found : Option Ending)
     → IsIndexAt items mark bs → 1 ≤ length bs → IsRunOf (mark + 1) document bs run → (ends ≡ true) ↔ (slice_get items run.after ≡ None)
     → IfSome found (IsEndingOf mark run ends) → IfNone found ((mark + 3 ≤ run.after) → ends ≢ true)
-    → MatchOption found (length items ≢ mark + length bs + 2) (IsRead items mark document bs)
+    → MatchOption found (length items ≢ mark + length bs + 2) (IsReadToEnd items mark document bs)
 ended_told items mark bs document run ends None s some is end found none = λ all.
     none (omega (arith, is.after, some)) (end.1 (none_past items run.after (omega (arith, is.after, all))))
 ended_told items mark bs document run ends (Some e) s some is end found none = record {
@@ -385,7 +385,7 @@ module _ {D : Type 0} (drive : Ghosts D) (mark positions : ℕ) where
 -- ---- the index with which a partition ends
 
 ends_of : (items : List Item) (mark : ℕ) (last : IsLastFrom items mark) (document : List ℕ) (capacity : ℕ) (before : List ℕ) (found : Option Ending)
-    → MatchOption found (length items ≢ mark + length last.k.blocks + 2) (IsRead items mark document last.k.blocks)
+    → MatchOption found (length items ≢ mark + length last.k.blocks + 2) (IsReadToEnd items mark document last.k.blocks)
     → IfSome found (IsEnding capacity mark before document)
     → MatchOption found (¬ EndsWithLast items (indexes_of items)) (λ e. EndsAt items document e.place)
 ends_of items mark last document capacity before None told any = λ ends.
@@ -479,7 +479,7 @@ module _ {D : Type 0} (drive : Ghosts D) (start : Start) (a b d : D) (part : Par
   -- the index was read, or the partition goes on
   pub ending_step : (before document : List ℕ) (found : Option Ending) → drive.faults a ≤ drive.faults d
       → ((c : Cartridge) (bs : List (List ℕ)) → (x : IsAhead drive b mark mark positions c bs) → 1 ≤ length bs
-      → MatchOption found (length (items_of x.part c) ≢ mark + length bs + 2) (IsRead (items_of x.part c) mark document bs))
+      → MatchOption found (length (items_of x.part c) ≢ mark + length bs + 2) (IsReadToEnd (items_of x.part c) mark document bs))
       → IfSome found (IsEnding positions mark before document)
       → IsStepBy drive start (capacity part start.limits) (λ c n. n ≤ 4 + blocks_of_newest (indexes_of (items_of part c))) a d
       (λ (found : Option Ending) c. MatchOption found (¬ EndsWithLast (items_of part c) (indexes_of (items_of part c)))

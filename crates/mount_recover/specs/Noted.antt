@@ -113,7 +113,7 @@ pub record IsRunOf (first : ℕ) (document : List ℕ) (blocks : List (List ℕ)
   pub text : document ≡ concat blocks
 
 -- an index was read with which the items of a partition end, where this tells them
-pub record IsRead (items : List Item) (mark : ℕ) (document : List ℕ) (blocks : List (List ℕ)) (e : Ending)
+pub record IsReadToEnd (items : List Item) (mark : ℕ) (document : List ℕ) (blocks : List (List ℕ)) (e : Ending)
     : Type 0 where
   pub ends : length items ≡ mark + length blocks + 2
   pub after : e.place.after ≡ mark + length blocks + 2

@@ -11,8 +11,8 @@ ghost use Rattle.content_laws.specs.Ends.{EndsWithLast};
 ghost use Rattle.cartridge_meaning.specs.Pointers.{indexes_of};
 ghost use Rattle.mount_recover.specs.Known.{blocks_of_newest};
 ghost use Rattle.mount_recover.specs.Labels.{IsStopped};
-ghost use Rattle.mount_recover.specs.Noted.{EndsAt, IsAhead, IsEnding, IsLastFrom, IsNext, IsPast, IsPutNext, IsRead};
-ghost use Rattle.mount_recover.specs.Noted.{IsRun, IsRunOf, Took};
+ghost use Rattle.mount_recover.specs.Noted.{EndsAt, IsAhead, IsEnding, IsLastFrom, IsNext, IsPast, IsPutNext};
+ghost use Rattle.mount_recover.specs.Noted.{IsReadToEnd, IsRun, IsRunOf, Took};
 ghost use Rattle.mount_recover.specs.declared.endings.Run.{Run as RunOf};
 ghost use Rattle.mount_recover.specs.Steps.{IsFree, IsSince, IsStepBy};
 
@@ -102,7 +102,7 @@ fn read_index_here<D: Drive>(
     ensures told { IfOk result (λ found. (c : Cartridge) (bs : List (List ℕ))
         → (a : IsAhead D.Drive drive.old mark mark positions c bs) → 1 ≤ length bs
         → MatchOption found (length (items_of a.part c) ≢ mark + length bs + 2)
-        (IsRead (items_of a.part c) mark document.new.items bs)) }
+        (IsReadToEnd (items_of a.part c) mark document.new.items bs)) }
     ensures any { IfOk result (λ found. IfSome found (IsEnding positions mark document.old.items document.new.items)) }
     ensures took { Took D.Drive drive.old drive.new (positions + 1 - mark) (λ n. (c : Cartridge) (bs : List (List ℕ))
         → IsAhead D.Drive drive.old mark mark positions c bs → n ≤ length bs + 3) }
