@@ -1,5 +1,5 @@
 -- How partitions end whose notes are honest.
-use Rattle.std.proofs.Common.{ℕ, ◌+◌, ◌≡◌, List, [], ◌∷◌, length, Option, Some, refl, sym, ◌∙◌, ap, subst, arith}
+use Rattle.std.proofs.Common.{ℕ, ◌+◌, ◌≡◌, List, [], ◌∷◌, length, Some, refl, sym, ◌∙◌, ap, subst, arith}
 use Rattle.tape_types.specs.declared.cartridges.Cartridge.{Cartridge}
 use Rattle.tape_types.specs.declared.cartridges.Item.{Item}
 use Rattle.tape_types.specs.declared.cartridges.Part.{Part}
@@ -10,7 +10,7 @@ use Rattle.ltfs_label.specs.declared.Label.{Label}
 use Rattle.content_laws.specs.Readings.{Construct, HasForm, IsIndexAt}
 use Rattle.content_laws.specs.Ends.{EndsWithLast}
 use Rattle.content_laws.proofs.Stands.{index_stands, one_index}
-use Rattle.cartridge_meaning.specs.Notes.{IsHonestNote, TellsOfLast}
+use Rattle.cartridge_meaning.specs.Notes.{IsHonestNote}
 use Rattle.cartridge_meaning.specs.Pointers.{indexes_of, last_block}
 
 -- the last of these indexes, which stands behind the mark in front of a place
