@@ -1,5 +1,5 @@
 -- The sentence that the program promises for the words of `serve` and of `make`, part by part.
-use Rattle.std.specs.Prelude.{◌≡◌, ◌⊎◌, ◌+◌, ◌*◌, ℕ, true, List, [], ◌∷◌, ◌++◌, All, length, map, Option, Some, None}
+use Rattle.std.specs.Prelude.{◌≡◌, ◌⊎◌, ◌*◌, ℕ, true, List, [], ◌∷◌, ◌++◌, All, length, map, Option, Some, None}
 use Rattle.std.specs.Prelude.{IfSome, codes}
 use Rattle.std.specs.Io.KnownBytes.{Appends}
 use Rattle.tape_types.specs.Counts.{Rose}
