@@ -31,6 +31,7 @@ use Rattle.tape_layout.specs.declared.standing.Ends.{Ends}
 use Rattle.tape_layout.specs.Ops.{end_of}
 use Rattle.space_laws.specs.Standing.{Given, Standing, uid_at}
 use Rattle.serving_promise.specs.Submits.{blocks_in, stored_at}
+use Rattle.reply_laws.proofs.Distinct.{has_distinct, has_in, in_has}
 use Rattle.reply_laws.proofs.Lists.{in_cases, in_first, in_none, in_rest}
 use Rattle.held_volume.specs.Stocks.{IsStock, Stocked}
 use Rattle.held_volume.proofs.PieceStands.{StandsWhere, plan_stands}
@@ -39,60 +40,8 @@ use Rattle.state_laws.specs.Tied.{FilesStandIn}
 
 -- ---- the places of a read, each once
 
-or_first : (a b : Bool) → a ≡ true → (a || b) ≡ true
-or_first true b e = refl
-or_first false b e = absurd cc
-
-or_second : (a b : Bool) → b ≡ true → (a || b) ≡ true
-or_second true b e = refl
-or_second false b e = e
-
-same_self : (a : Place) → same_place a a ≡ true
-same_self a = by a.part
-  where
-    pos : eqb a.pos a.pos ≡ true
-    pos = grind (arith, nat_tests)
-
-    by : (p : Part) → (same_part p p && eqb a.pos a.pos) ≡ true
-    by Ip = pos
-    by Dp = pos
-
-has_filtered : (x y : Place) (ds : List Place) → same_place y x ≡ false → has_place y (filter (λ other. not (same_place x other)) ds) ≡ has_place y ds
-has_filtered x y [] other = refl
-has_filtered x y (d ∷ ds) other = by (same_place x d) refl (has_filtered x y ds other)
-  where
-    by : (b : Bool) → same_place x d ≡ b → has_place y (filter (λ other. not (same_place x other)) ds) ≡ has_place y ds
-        → has_place y (cond (not b) (d ∷ filter (λ other. not (same_place x other)) ds) (filter (λ other. not (same_place x other)) ds)) ≡ (same_place y d || has_place y ds)
-    by true e rest =
-        let d_is : d ≡ x = sym (same_places x d e) in
-        rest ∙ ap (λ t. t || has_place y ds) (sym (ap (same_place y) d_is ∙ other))
-    by false e rest = ap (λ t. same_place y d || t) rest
-
-has_distinct : (xs : List Place) (y : Place) → has_place y (distinct xs) ≡ has_place y xs
-has_distinct [] y = refl
-has_distinct (x ∷ xs) y = by (same_place y x) refl (has_distinct xs y)
-  where
-    by : (b : Bool) → same_place y x ≡ b → has_place y (distinct xs) ≡ has_place y xs
-        → (same_place y x || has_place y (filter (λ other. not (same_place x other)) (distinct xs))) ≡ (same_place y x || has_place y xs)
-    by true e same = ap (λ t. t || has_place y (filter (λ other. not (same_place x other)) (distinct xs))) e ∙ sym (ap (λ t. t || has_place y xs) e)
-    by false e same = ap (λ t. same_place y x || t) (has_filtered x y (distinct xs) e ∙ same)
-
-has_in : (place : Place) (places : List Place) → has_place place places ≡ true → Contains places place
-has_in place [] e = absurd cc
-has_in place (x ∷ xs) e = by (has_in place xs) (same_place place x) refl
-  where
-    by : (has_place place xs ≡ true → Contains xs place) → (b : Bool) → same_place place x ≡ b → Contains (x ∷ xs) place
-    by more true is = subst (λ y. Contains (y ∷ xs) place) (same_places place x is) (in_first place xs)
-    by more false is = in_rest x xs place (more (sym (ap (λ b. b || has_place place xs) is) ∙ e))
-
-pub in_has : (place : Place) (places : List Place) → Contains places place → has_place place places ≡ true
-in_has place [] has = absurd (in_none place has)
-in_has place (x ∷ xs) has = ⊎_elim
-    (λ is. or_first (same_place place x) (has_place place xs) (subst (λ y. same_place place y ≡ true) (sym is) (same_self place)))
-    (λ later. or_second (same_place place x) (has_place place xs) (in_has place xs later))
-    (in_cases x xs place has)
-
-stored_list : (pieces : List Piece) → flat_map place_in pieces ≡ filter_map stored_at pieces
+-- the places of pieces, as the promise has them
+pub stored_list : (pieces : List Piece) → flat_map place_in pieces ≡ filter_map stored_at pieces
 stored_list [] = refl
 stored_list (Zeros count ∷ pieces) = stored_list pieces
 stored_list (Stored place byte count ∷ pieces) = ap (λ places. place ∷ places) (stored_list pieces)

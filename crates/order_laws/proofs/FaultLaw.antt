@@ -128,6 +128,7 @@ module _ {D : Type 0} (first now : Drive) (v : View D) (p : Placed) (counts : Tw
           c.kept.orderly.marks (marks_are c);
       limits = c.kept.orderly.limits;
       untold = c.kept.orderly.untold;
+      cached = c.kept.orderly.cached;
     };
     sessions = c.kept.sessions;
     count = omega (arith, length_push v.replies (Some reply), length_push v.history p, c.kept.count);

@@ -15,6 +15,8 @@ use Rattle.session_script.specs.declared.logs.Reply.{Reply}
 use Rattle.event_laws.specs.Trail.{after_all, is_trail_from, step_to, steps, after as after_event}
 use Rattle.event_laws.specs.Waiting.{State, ops, start}
 use Rattle.tape_layout.specs.declared.ops.Op.{Op}
+use Rattle.block_cache.specs.Kept.{Kept}
+use Rattle.serving_promise.specs.Cached.{IsCache}
 use Rattle.serving_promise.specs.Acks.{answers, is_synced, synced_places, synced_ticket, syncs_ticket}
 use Rattle.serving_promise.specs.Faults.{kept_for, told}
 use Rattle.serving_promise.specs.Marks.{Phase, after, draining, hand_in, idle, mark, phase, place_in, places_of, waits}
@@ -80,8 +82,8 @@ module _ {D : Type 0} (first now : Drive) (old : View D) (p : Placed) (reply : O
     pub synced : is_synced reply ≡ list_any (answers (length old.history)) added
     pub kinds_are : AreKinds (length old.history) kinds reply
 
-  abbrev pub placed_view : Option Moment → Option ℕ → List Op → View D
-  placed_view next on ops = record old {
+  abbrev pub placed_view : Option Moment → Option ℕ → List Op → List Kept → View D
+  placed_view next on ops cached = record old {
     next = next;
     history = old.history ++ p ∷ [];
     replies = old.replies ++ reply ∷ [];
@@ -90,6 +92,7 @@ module _ {D : Type 0} (first now : Drive) (old : View D) (p : Placed) (reply : O
     marks = old.marks ++ map (mark p.who) kinds;
     on = on;
     ops = ops;
+    cached = cached;
   }
 
   same_owed : CanPlace → (w : ℕ) → owed (after_all (old.events ++ added)) old.kept w ≡ owed (after_all old.events) old.kept w
@@ -145,8 +148,8 @@ module _ {D : Type 0} (first now : Drive) (old : View D) (p : Placed) (reply : O
           at_here false is e = absurd (cc)
       by false e = absurd (cc)
 
-  orderly : CanPlace → (next : Option Moment) (on : Option ℕ) (standing : List Op) → map headed standing ≡ ops (after_all (old.events ++ added)) → IsOrderly first now (placed_view next on standing)
-  orderly c next on standing stand = record {
+  orderly : CanPlace → (next : Option Moment) (on : Option ℕ) (standing : List Op) (cached : List Kept) → map headed standing ≡ ops (after_all (old.events ++ added)) → IsCache (old.events ++ added) cached → IsOrderly first now (placed_view next on standing cached)
+  orderly c next on standing cached stand cache = record {
     placed = placed_push (calls_of old.fixed.script) old.history p c.kept.orderly.placed
         (c.can.next ∙ ap length (c.kept.orderly.marks.places p.who) ∙ as_many_places p.who old.history) c.can.more;
     moments = moments_push old.fixed.moment old.history p c.kept.orderly.moments c.moment;
@@ -164,6 +167,7 @@ module _ {D : Type 0} (first now : Drive) (old : View D) (p : Placed) (reply : O
         old.kept old.kept old.marks kinds c.kept.orderly.marks (marks_are c);
     limits = c.kept.orderly.limits;
     untold = c.kept.orderly.untold;
+    cached = cache;
   }
 
   more : CanPlace → (w : ℕ) → phase w (old.marks ++ map (mark p.who) kinds) ≡ draining → length (places_of w (old.marks ++ map (mark p.who) kinds)) < length (calls_of old.fixed.script w)
@@ -192,9 +196,9 @@ module _ {D : Type 0} (first now : Drive) (old : View D) (p : Placed) (reply : O
       (subst (λ (s : State). is_rising ((synced_places old.replies ++ filter_map synced_ticket added) ++ tickets s.syncs) ≡ true) (sym (after_more old.events added))
       (c.own.rises (synced_places old.replies) c.kept.rising (syncs_before (after_all old.events) old.replies (length old.history) c.kept.count c.kept.orderly.waiting)))
 
-  pub placing_keeps : CanPlace → (next : Option Moment) (on : Option ℕ) (standing : List Op) → map headed standing ≡ ops (after_all (old.events ++ added)) → IsKeptOrder first now (placed_view next on standing)
-  placing_keeps c next on standing stand = record {
-    orderly = orderly c next on standing stand;
+  pub placing_keeps : CanPlace → (next : Option Moment) (on : Option ℕ) (standing : List Op) (cached : List Kept) → map headed standing ≡ ops (after_all (old.events ++ added)) → IsCache (old.events ++ added) cached → IsKeptOrder first now (placed_view next on standing cached)
+  placing_keeps c next on standing cached stand cache = record {
+    orderly = orderly c next on standing cached stand cache;
     sessions = c.kept.sessions;
     count = omega (arith, length_push old.replies reply, length_push old.history p, c.kept.count);
     done = λ k q h r. ⊎_elim

@@ -13,6 +13,8 @@ use Rattle.session_script.specs.declared.logs.Reply.{Reply}
 use Rattle.event_laws.specs.Trail.{after as after_event, after_all, is_trail_from, step_to}
 use Rattle.event_laws.specs.Waiting.{Request, State, Waiter, ops, start}
 use Rattle.tape_layout.specs.declared.ops.Op.{Op}
+use Rattle.block_cache.specs.Kept.{Kept}
+use Rattle.serving_promise.specs.Cached.{IsCache}
 use Rattle.serving_promise.specs.Acks.{answers, synced_places, synced_ticket, syncs_ticket}
 use Rattle.serving_promise.specs.Marks.{after, draining, hand_in, idle, mark, phase, place_in, places_of, waits}
 use Rattle.serving_promise.specs.Served.{AreWaiting, Drive, IsOrderly, View, headed, is_waiting, placed_by}
@@ -61,14 +63,15 @@ module _ {D : Type 0} (first now : Drive) (v : View D) (who : ℕ) (e : Event) (
     pub others : (w : ℕ) → (who == w) ≡ false → owed (after_event (after_all v.events) e) v.kept w ≡ owed (after_all v.events) v.kept w
     pub more : after (phase who v.marks) kind ≡ draining → length (places_of who v.marks) < length (calls_of v.fixed.script who)
 
-  abbrev pub drained_view : Option Moment → Option ℕ → List Op → View D
-  drained_view next on ops = record v {
+  abbrev pub drained_view : Option Moment → Option ℕ → List Op → List Kept → View D
+  drained_view next on ops cached = record v {
     next = next;
     acks = v.acks ++ acks_for now.commands (e ∷ []);
     events = v.events ++ e ∷ [];
     marks = v.marks ++ map (mark who) (kind ∷ []);
     on = on;
     ops = ops;
+    cached = cached;
   }
 
   state_is : after_all (v.events ++ e ∷ []) ≡ after_event (after_all v.events) e
@@ -105,8 +108,8 @@ module _ {D : Type 0} (first now : Drive) (v : View D) (who : ℕ) (e : Event) (
   no_more_synced : CanDrain → synced_places v.replies ≡ synced_places v.replies ++ filter_map synced_ticket (e ∷ [])
   no_more_synced c = sym (ap (λ l. synced_places v.replies ++ l) c.of.answers_none ∙ append-nil (synced_places v.replies))
 
-  orderly : CanDrain → (next : Option Moment) (on : Option ℕ) (standing : List Op) → map headed standing ≡ ops (after_all (v.events ++ e ∷ [])) → IsOrderly first now (drained_view next on standing)
-  orderly c next on standing stand = record {
+  orderly : CanDrain → (next : Option Moment) (on : Option ℕ) (standing : List Op) (cached : List Kept) → map headed standing ≡ ops (after_all (v.events ++ e ∷ [])) → IsCache (v.events ++ e ∷ []) cached → IsOrderly first now (drained_view next on standing cached)
+  orderly c next on standing cached stand cache = record {
     placed = c.kept.orderly.placed;
     moments = c.kept.orderly.moments;
     trail = trail_more start v.events (e ∷ []) ∙ and_from (is_trail_from start v.events) (is_trail_from (after_all v.events) (e ∷ [])) c.kept.orderly.trail c.trail;
@@ -122,6 +125,7 @@ module _ {D : Type 0} (first now : Drive) (v : View D) (who : ℕ) (e : Event) (
     marks = marks_more (greatest_session v.fixed.script) who v.history v.history v.replies v.replies (after_all v.events) (after_all (v.events ++ e ∷ [])) v.kept v.kept v.marks (kind ∷ []) c.kept.orderly.marks (marks_are c);
     limits = c.kept.orderly.limits;
     untold = c.kept.orderly.untold;
+    cached = cache;
   }
 
   more_all : CanDrain → (w : ℕ) → phase w (v.marks ++ map (mark who) (kind ∷ [])) ≡ draining → length (places_of w (v.marks ++ map (mark who) (kind ∷ []))) < length (calls_of v.fixed.script w)
@@ -133,9 +137,9 @@ module _ {D : Type 0} (first now : Drive) (v : View D) (who : ℕ) (e : Event) (
       by true is h = subst (λ n. after (phase n v.marks) kind ≡ draining → length (places_of n v.marks) < length (calls_of v.fixed.script n)) (eqb-true who w is) c.more h
       by false is h = c.kept.more w h
 
-  pub draining_keeps : CanDrain → (next : Option Moment) (on : Option ℕ) (standing : List Op) → map headed standing ≡ ops (after_all (v.events ++ e ∷ [])) → IsKeptOrder first now (drained_view next on standing)
-  draining_keeps c next on standing stand = record {
-    orderly = orderly c next on standing stand;
+  pub draining_keeps : CanDrain → (next : Option Moment) (on : Option ℕ) (standing : List Op) (cached : List Kept) → map headed standing ≡ ops (after_all (v.events ++ e ∷ [])) → IsCache (v.events ++ e ∷ []) cached → IsKeptOrder first now (drained_view next on standing cached)
+  draining_keeps c next on standing cached stand cache = record {
+    orderly = orderly c next on standing cached stand cache;
     sessions = c.kept.sessions;
     count = c.kept.count;
     done = c.kept.done;
@@ -258,6 +262,7 @@ module _ {D : Type 0} (first now : Drive) (v : View D) (who ticket : ℕ) (reply
       marks = marks_more (greatest_session v.fixed.script) who v.history v.history v.replies v.replies (after_all v.events) (after_all v.events) v.kept v.kept v.marks (hands ticket reply ∷ []) c.kept.orderly.marks (hand_marks c);
       limits = c.kept.orderly.limits;
       untold = c.kept.orderly.untold;
+      cached = c.kept.orderly.cached;
     };
     sessions = c.kept.sessions;
     count = c.kept.count;

@@ -17,6 +17,8 @@ use Rattle.session_script.specs.declared.logs.Reply.{Reply}
 use Rattle.event_laws.specs.Trail.{after as after_event, after_all, fault_of, is_trail_from, of_call, steps}
 use Rattle.event_laws.specs.Waiting.{State, ops, start}
 use Rattle.tape_layout.specs.declared.ops.Op.{Op}
+use Rattle.block_cache.specs.Kept.{Kept}
+use Rattle.serving_promise.specs.Cached.{IsCache}
 use Rattle.serving_promise.specs.Acks.{answers, is_synced, synced_places, synced_ticket, syncs_ticket}
 use Rattle.serving_promise.specs.Faults.{AreRises, kept_for, told}
 use Rattle.serving_promise.specs.Served.{Drive, IsOrderly, View, headed, is_waiting}
@@ -67,8 +69,8 @@ module _ {D : Type 0} (first before now : Drive) (old : View D) (new : List (Opt
     pub limits : now.limits ≡ before.limits
     pub untold : before.held ≡ None → now.held ≡ None
 
-  abbrev pub stepped_view : D → Option Moment → Option ℕ → List Op → View D
-  stepped_view drive next on ops = record old {
+  abbrev pub stepped_view : D → Option Moment → Option ℕ → List Op → List Kept → View D
+  stepped_view drive next on ops cached = record old {
     drive = drive;
     next = next;
     replies = new;
@@ -77,6 +79,7 @@ module _ {D : Type 0} (first before now : Drive) (old : View D) (new : List (Opt
     kept = old.kept ++ drain_faults old added;
     on = on;
     ops = ops;
+    cached = cached;
   }
 
   rests : CanStep → (k : ℕ) → (slice_get old.replies k ≡ Some None → ⊥) → is_waiting (after_all old.events) k ≡ false
@@ -137,8 +140,8 @@ module _ {D : Type 0} (first before now : Drive) (old : View D) (new : List (Opt
       let moved = ap (λ (s : State). drains_of s w) (after_more old.events added) in
       omega (arith, kept, joined, counted, moved)
 
-  orderly : CanStep → (drive : D) (next : Option Moment) (on : Option ℕ) (standing : List Op) → map headed standing ≡ ops (after_all (old.events ++ added)) → IsOrderly first now (stepped_view drive next on standing)
-  orderly c drive next on standing stand = record {
+  orderly : CanStep → (drive : D) (next : Option Moment) (on : Option ℕ) (standing : List Op) (cached : List Kept) → map headed standing ≡ ops (after_all (old.events ++ added)) → IsCache (old.events ++ added) cached → IsOrderly first now (stepped_view drive next on standing cached)
+  orderly c drive next on standing cached stand cache = record {
     placed = c.kept.orderly.placed;
     moments = c.kept.orderly.moments;
     trail = trail_more start old.events added ∙ and_from (is_trail_from start old.events) (is_trail_from (after_all old.events) added) c.kept.orderly.trail c.trail;
@@ -153,11 +156,12 @@ module _ {D : Type 0} (first before now : Drive) (old : View D) (new : List (Opt
         c.kept.orderly.marks c.each (same_owed c) c.kept.once;
     limits = c.limits ∙ c.kept.orderly.limits;
     untold = λ e. c.untold (c.kept.orderly.untold e);
+    cached = cache;
   }
 
-  pub stepping_keeps : CanStep → (drive : D) (next : Option Moment) (on : Option ℕ) (standing : List Op) → map headed standing ≡ ops (after_all (old.events ++ added)) → IsKeptOrder first now (stepped_view drive next on standing)
-  stepping_keeps c drive next on standing stand = record {
-    orderly = orderly c drive next on standing stand;
+  pub stepping_keeps : CanStep → (drive : D) (next : Option Moment) (on : Option ℕ) (standing : List Op) (cached : List Kept) → map headed standing ≡ ops (after_all (old.events ++ added)) → IsCache (old.events ++ added) cached → IsKeptOrder first now (stepped_view drive next on standing cached)
+  stepping_keeps c drive next on standing cached stand cache = record {
+    orderly = orderly c drive next on standing cached stand cache;
     sessions = c.kept.sessions;
     count = c.count ∙ c.kept.count;
     done = λ k p h r. by k p h r (at old.replies k);

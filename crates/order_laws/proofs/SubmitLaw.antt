@@ -16,8 +16,12 @@ use Rattle.event_laws.specs.Waiting.{State, ops}
 use Rattle.serving_promise.specs.Acks.{answers, is_synced}
 use Rattle.serving_promise.specs.Faults.{told}
 use Rattle.serving_promise.specs.Marks.{after, draining, idle, mark}
-use Rattle.serving_promise.specs.Served.{View, headed, is_waiting}
-use Rattle.serving_promise.specs.Submits.{Adds, CanSubmit, IsOfFate, Places, acks_for, call_of, fate_for}
+use Rattle.serving_promise.specs.Served.{View, given, headed, is_waiting}
+use Rattle.serving_promise.specs.Submits.{Adds, CanSubmit, IsOfFate, Places, Submits, acks_for, call_of, fate_for}
+use Rattle.serving_promise.specs.declared.answers.Submitted.{Submitted}
+use Rattle.serving_promise.specs.Cached.{IsCache}
+use Rattle.serving_promise.proofs.CacheLaws.{submits_stay}
+use Rattle.space_laws.specs.Standing.{standing}
 use Rattle.serving_promise.specs.declared.answers.Submitted.TheVariants as submitted
 use Rattle.serving_promise.specs.declared.marks.Kind.{Kind}
 use Rattle.serving_promise.specs.declared.marks.Kind.TheVariants.{Places as places, Hands as hands, Begins as begins}
@@ -42,8 +46,8 @@ places_one : {D : Type 0} (drive : Ghosts D) (old new : View D) (who nth : ℕ) 
     → IsInOrder drive old → CanSubmit old who nth → new.fixed ≡ old.fixed → new.drive ≡ old.drive → new.kept ≡ old.kept → Places old new who nth fate reply → Adds (seen drive new.drive) old new added
     → IsOfFate fate (length old.history) old.events (call_of old who nth) added → new.marks ≡ old.marks ++ map (mark who) kinds → AreKinds (length old.history) kinds reply
     → (reply ≡ None → fate ≡ fates.Done) → HasOneMoment old → MayFollow old new added → is_waiting (after_all new.events) (length old.history) ≡ not (is_some reply) → told reply ≡ None
-    → is_synced reply ≡ list_any (answers (length old.history)) added → IsInOrder drive new
-places_one {D = D} drive old new who nth fate reply added kinds kept can fixed same_drive same_kept pl adds of marks kinds_are done moment follows waits no_fault synced =
+    → is_synced reply ≡ list_any (answers (length old.history)) added → IsCache (old.events ++ added) new.cached → IsInOrder drive new
+places_one {D = D} drive old new who nth fate reply added kinds kept can fixed same_drive same_kept pl adds of marks kinds_are done moment follows waits no_fault synced cache =
     let p = pl.placed in
     let first = seen drive old.fixed.first in
     let now = seen drive old.drive in
@@ -59,16 +63,16 @@ places_one {D = D} drive old new who nth fate reply added kinds kept can fixed s
       synced = synced;
       kinds_are = kinds_are;
     } in
-    let is : new ≡ placed_view first now old p reply added kinds new.next new.on new.ops = view_is new (placed_view first now old p reply added kinds new.next new.on new.ops) fixed same_drive refl pl.history pl.replies
-    (adds.acks ∙ ap (λ d. old.acks ++ acks_for (drive.commands d) added) same_drive) adds.events (marks ∙ ap (λ w. old.marks ++ map (mark w) kinds) (sym pl.who_is)) same_kept refl refl in
-    subst (λ (v : View D). IsInOrder drive v) (sym is) (placing_keeps first now old p reply added kinds c new.next new.on new.ops (stand_by old new added follows adds.events))
+    let is : new ≡ placed_view first now old p reply added kinds new.next new.on new.ops new.cached = view_is new (placed_view first now old p reply added kinds new.next new.on new.ops new.cached) fixed same_drive refl pl.history pl.replies
+    (adds.acks ∙ ap (λ d. old.acks ++ acks_for (drive.commands d) added) same_drive) adds.events (marks ∙ ap (λ w. old.marks ++ map (mark w) kinds) (sym pl.who_is)) same_kept refl refl refl in
+    subst (λ (v : View D). IsInOrder drive v) (sym is) (placing_keeps first now old p reply added kinds c new.next new.on new.ops new.cached (stand_by old new added follows adds.events) cache)
 
 -- ---- a drain that begins
 
 drains_one : {D : Type 0} (drive : Ghosts D) (old new : View D) (who nth : ℕ) → IsInOrder drive old → CanSubmit old who nth → new.fixed ≡ old.fixed → new.drive ≡ old.drive → new.kept ≡ old.kept
-    → new.history ≡ old.history → new.replies ≡ old.replies → Adds (seen drive new.drive) old new (events.Drains who ∷ []) → new.marks ≡ old.marks ++ map (mark who) (begins ∷ []) → MayFollow old new (events.Drains who ∷ [])
+    → new.history ≡ old.history → new.replies ≡ old.replies → Adds (seen drive new.drive) old new (events.Drains who ∷ []) → new.marks ≡ old.marks ++ map (mark who) (begins ∷ []) → MayFollow old new (events.Drains who ∷ []) → IsCache (old.events ++ events.Drains who ∷ []) new.cached
     → IsInOrder drive new
-drains_one {D = D} drive old new who nth kept can fixed same_drive same_kept history replies adds marks follows =
+drains_one {D = D} drive old new who nth kept can fixed same_drive same_kept history replies adds marks follows cache =
     let first = seen drive old.fixed.first in
     let now = seen drive old.drive in
     let st = after_all old.events in
@@ -88,9 +92,9 @@ drains_one {D = D} drive old new who nth kept can fixed same_drive same_kept his
       others = λ w other. let none : ◌≡◌ {A = ℕ} (cond (who == w) 1 0) 0 = ap {B = ℕ} (λ b. cond b 1 0) other in omega (arith, drains_more w who st.drains, none);
       more = λ e. omega (arith, can.next, can.more);
     } in
-    let is : new ≡ drained_view first now old who (events.Drains who) begins new.next new.on new.ops = view_is new (drained_view first now old who (events.Drains who) begins new.next new.on new.ops) fixed same_drive refl history replies
-    (adds.acks ∙ ap (λ d. old.acks ++ acks_for (drive.commands d) (events.Drains who ∷ [])) same_drive) adds.events marks same_kept refl refl in
-    subst (λ (v : View D). IsInOrder drive v) (sym is) (draining_keeps first now old who (events.Drains who) begins c new.next new.on new.ops (stand_by old new (events.Drains who ∷ []) follows adds.events))
+    let is : new ≡ drained_view first now old who (events.Drains who) begins new.next new.on new.ops new.cached = view_is new (drained_view first now old who (events.Drains who) begins new.next new.on new.ops new.cached) fixed same_drive refl history replies
+    (adds.acks ∙ ap (λ d. old.acks ++ acks_for (drive.commands d) (events.Drains who ∷ [])) same_drive) adds.events marks same_kept refl refl refl in
+    subst (λ (v : View D). IsInOrder drive v) (sym is) (draining_keeps first now old who (events.Drains who) begins c new.next new.on new.ops new.cached (stand_by old new (events.Drains who ∷ []) follows adds.events) cache)
 
 -- ---- each answer
 
@@ -99,14 +103,23 @@ rests_here : {D : Type 0} (drive : Ghosts D) (old : View D) → IsInOrder drive 
 rests_here drive old kept = false_from_ne_true (is_waiting (after_all old.events) (length old.history))
     (λ waits. omega (arith, kept.count, at_within old.replies (length old.history) None (kept.orderly.waiting.waits (length old.history) waits)))
 
+-- the blocks that are kept then were read
+cached_on : {D : Type 0} (drive : Ghosts D) (old new : View D) (who nth : ℕ) (answer : Submitted) → IsInOrder drive old
+    → (s : Submits (seen drive old.fixed.first) (seen drive new.drive) old new who nth answer) → IsCache (old.events ++ s.added) new.cached
+cached_on drive old new who nth answer kept s =
+    submits_stay answer (standing (given old (seen drive old.fixed.first)) old.on old.history (length old.history)) old.events s.added old.cached new.cached (call_of old who nth) kept.orderly.cached s.asks
+
 pub submissions_keep : {D : Type 0} (drive : Ghosts D) → SubmissionsKeepOrder drive
 submissions_keep drive old new who nth (submitted.Ready reply) kept can s side =
     places_one drive old new who nth (fate_for reply) (Some reply) s.added (places (length old.history) ∷ hands (length old.history) reply ∷ []) kept can s.fixed s.drive s.kept s.placing s.adds s.of_it s.marks (handed_too reply)
     (λ none. absurd (let h : Some reply ≡ None = none in cc)) side.moment side.follows side.answered.0 side.answered.1 side.answered.2
+    (cached_on drive old new who nth (submitted.Ready reply) kept s)
 submissions_keep drive old new who nth (submitted.Wait ticket) kept can s side =
     places_one drive old new who nth fates.Done None s.added (places (length old.history) ∷ []) kept can s.fixed s.drive s.kept s.placing.1 s.adds s.of_it.1
     (s.marks ∙ ap (λ n. old.marks ++ mark who (places n) ∷ []) s.placing.0) placed_alone (λ none. refl) side.moment side.follows side.answered refl
     (sym (unanswered_waits (length old.history) old.events (call_of old who nth) s.added (rests_here drive old kept)
     (ap (λ (s : State). is_waiting s (length old.history)) (sym (after_more old.events s.added) ∙ ap after_all (sym s.adds.events)) ∙ side.answered) s.of_it.1))
+    (cached_on drive old new who nth (submitted.Wait ticket) kept s)
 submissions_keep drive old new who nth submitted.Drain kept can s side =
     drains_one drive old new who nth kept can s.fixed s.drive s.kept s.placing.history s.placing.replies (subst (Adds (seen drive new.drive) old new) s.of_it s.adds) s.marks (subst (MayFollow old new) s.of_it side.follows)
+    (subst (λ (es : List Event). IsCache (old.events ++ es) new.cached) s.of_it (cached_on drive old new who nth submitted.Drain kept s))

@@ -23,6 +23,7 @@ use Rattle.serving_promise.specs.declared.marks.Kind.TheVariants.{Places as plac
 use Rattle.serving_promise.specs.declared.marks.Mark.{Mark}
 use Rattle.serving_promise.specs.Served.{View}
 use Rattle.serving_promise.specs.Steps.{IsDrained}
+use Rattle.serving_promise.proofs.CacheLaws.{none_yet}
 use Rattle.serving_promise.specs.Trials.{ack, done, fault, placed, synced, write}
 use Rattle.serving_promise.specs.Turning.{after_flush, before_flush, draining_view, drive_at, faulted, handed_marks}
 use Rattle.serving_promise.specs.declared.answers.Drained.TheVariants as drained
@@ -201,6 +202,7 @@ served_is at = record {
     };
     limits = refl;
     untold = λ e. e;
+    cached = none_yet;
   };
   sessions = one_only (λ (l : ScriptLine). (1 ≤ l.who) × (l.who ≤ 16)) (record { who = 1; call = write [] }) (omega arith, omega arith);
   count = refl;
@@ -298,6 +300,7 @@ orderly_is at = record {
   };
   limits = refl;
   untold = λ e. e;
+  cached = none_yet;
 }
 
 pub kept_isnt : (at : Moment) → ¬ IsKept (without_reply at)

@@ -20,6 +20,8 @@ use Rattle.serving_promise.specs.Marks.{after, draining, idle, mark, phase, plac
 use Rattle.serving_promise.specs.Served.{View, headed, Drive}
 use Rattle.serving_promise.specs.Steps.{AreOfStep, DrainsOnce, Turns, drain_faults, no_step, one_step, rest_of, without_session}
 use Rattle.serving_promise.specs.Submits.{acks_for}
+use Rattle.serving_promise.specs.Cached.{IsCache}
+use Rattle.serving_promise.proofs.CacheLaws.{later, steps_stay}
 use Rattle.serving_promise.specs.declared.answers.Drained.{Drained}
 use Rattle.serving_promise.specs.declared.answers.Drained.TheVariants as drained
 use Rattle.serving_promise.specs.declared.answers.Turn.{Turn}
@@ -86,20 +88,20 @@ turns_keep {D = D} drive most old new who ticket (turns.Ready reply) kept waitin
     let first = seen drive old.fixed.first in
     let before = seen drive old.drive in
     let now = seen drive new.drive in
-    let v : View D = stepped_view first before now old new.replies t.added new.drive new.next new.on new.ops in
-    let stepped : IsKeptOrder first now v = stepping_keeps first before now old new.replies t.added (turn_step drive most old new who ticket (turns.Ready reply) kept t side) new.drive new.next new.on new.ops
-    (stand_by old new t.added side.follows t.adds.events) in
+    let v : View D = stepped_view first before now old new.replies t.added new.drive new.next new.on new.ops new.cached in
+    let stepped : IsKeptOrder first now v = stepping_keeps first before now old new.replies t.added (turn_step drive most old new who ticket (turns.Ready reply) kept t side) new.drive new.next new.on new.ops new.cached
+    (stand_by old new t.added side.follows t.adds.events) (steps_stay before.held old.events t.added old.cached new.cached kept.orderly.cached t.step.cached) in
     let c : CanHand first now v who ticket reply = record { kept = stepped; waiting = waiting; there = t.answered } in
-    let is : new ≡ handed_view first now v who ticket reply = view_is new (handed_view first now v who ticket reply) t.fixed refl refl t.history refl t.adds.acks t.adds.events t.marks t.kept refl refl in
+    let is : new ≡ handed_view first now v who ticket reply = view_is new (handed_view first now v who ticket reply) t.fixed refl refl t.history refl t.adds.acks t.adds.events t.marks t.kept refl refl refl in
     subst (λ (v : View D). IsInOrder drive v) (sym is) (handing_keeps first now v who ticket reply c)
 turns_keep {D = D} drive most old new who ticket turns.More kept waiting t side =
     let first = seen drive old.fixed.first in
     let before = seen drive old.drive in
     let now = seen drive new.drive in
-    let v : View D = stepped_view first before now old new.replies t.added new.drive new.next new.on new.ops in
-    let stepped : IsKeptOrder first now v = stepping_keeps first before now old new.replies t.added (turn_step drive most old new who ticket turns.More kept t side) new.drive new.next new.on new.ops
-    (stand_by old new t.added side.follows t.adds.events) in
-    let is : new ≡ v = view_is new v t.fixed refl refl t.history refl t.adds.acks t.adds.events (t.marks ∙ append-nil old.marks) t.kept refl refl in
+    let v : View D = stepped_view first before now old new.replies t.added new.drive new.next new.on new.ops new.cached in
+    let stepped : IsKeptOrder first now v = stepping_keeps first before now old new.replies t.added (turn_step drive most old new who ticket turns.More kept t side) new.drive new.next new.on new.ops new.cached
+    (stand_by old new t.added side.follows t.adds.events) (steps_stay before.held old.events t.added old.cached new.cached kept.orderly.cached t.step.cached) in
+    let is : new ≡ v = view_is new v t.fixed refl refl t.history refl t.adds.acks t.adds.events (t.marks ∙ append-nil old.marks) t.kept refl refl refl in
     subst (λ (v : View D). IsInOrder drive v) (sym is) stepped
 
 -- ---- turns of a session that drains
@@ -145,13 +147,14 @@ drain_turns_keep {D = D} drive most old new who drained.Room kept draining_is t 
     let before = seen drive old.drive in
     let now = seen drive new.drive in
     let answered = t.answered.2 in
-    let v : View D = stepped_view first before now old new.replies t.made new.drive new.next new.on new.ops in
+    let cache : IsCache (old.events ++ t.made) new.cached = steps_stay before.held old.events t.made old.cached new.cached kept.orderly.cached t.step.cached in
+    let v : View D = stepped_view first before now old new.replies t.made new.drive new.next new.on new.ops new.cached in
     let rest : List Event = events.Rests who ∷ [] in
     let joined : old.events ++ (t.made ++ rest) ≡ (old.events ++ t.made) ++ rest = sym (append_assoc old.events t.made rest) in
     let stand : map headed new.ops ≡ ops (after_all ((old.events ++ t.made) ++ rest)) = stand_by old new (t.made ++ rest) side.follows t.adds.events ∙ ap (λ l. ops (after_all l)) joined in
     let stepped : IsKeptOrder first now v = stepping_keeps first before now old new.replies t.made
-    (drain_step drive most old new who drained.Room new.replies kept t side answered.replies.count answered.replies.each (λ k reply o n. brought (seen drive old.fixed.first) (seen drive old.drive) old t.made k reply kept t.step.shape (trail_of old new who drained.Room t.made side.follows) (side.replied k reply o n))) new.drive new.next new.on new.ops
-    (stand ∙ ap ops (after_more (old.events ++ t.made) rest)) in
+    (drain_step drive most old new who drained.Room new.replies kept t side answered.replies.count answered.replies.each (λ k reply o n. brought (seen drive old.fixed.first) (seen drive old.drive) old t.made k reply kept t.step.shape (trail_of old new who drained.Room t.made side.follows) (side.replied k reply o n))) new.drive new.next new.on new.ops new.cached
+    (stand ∙ ap ops (after_more (old.events ++ t.made) rest)) cache in
     let st = after_all (old.events ++ t.made) in
     let none : kept_for who v.kept ≡ [] = t.answered.0 in
     let less = drains_less who who st.drains in
@@ -173,33 +176,35 @@ drain_turns_keep {D = D} drive most old new who drained.Room kept draining_is t 
       more = λ e. absurd (let h : idle ≡ draining = sym to_idle ∙ e in cc);
     } in
     let acks : new.acks ≡ (old.acks ++ acks_for now.commands t.made) ++ [] = t.adds.acks ∙ ap (λ l. old.acks ++ l) (acks_rest now.commands who t.made) ∙ sym (append-nil (old.acks ++ acks_for now.commands t.made)) in
-    let is : new ≡ drained_view first now v who (events.Rests who) rests new.next new.on new.ops = view_is new (drained_view first now v who (events.Rests who) rests new.next new.on new.ops) t.fixed refl refl answered.history refl
-    acks (t.adds.events ∙ joined) t.marks (t.kept ∙ without_none who (old.kept ++ drain_faults old t.made) none) refl refl in
-    subst (λ (v : View D). IsInOrder drive v) (sym is) (draining_keeps first now v who (events.Rests who) rests c new.next new.on new.ops stand)
+    let is : new ≡ drained_view first now v who (events.Rests who) rests new.next new.on new.ops new.cached = view_is new (drained_view first now v who (events.Rests who) rests new.next new.on new.ops new.cached) t.fixed refl refl answered.history refl
+    acks (t.adds.events ∙ joined) t.marks (t.kept ∙ without_none who (old.kept ++ drain_faults old t.made) none) refl refl refl in
+    subst (λ (v : View D). IsInOrder drive v) (sym is) (draining_keeps first now v who (events.Rests who) rests c new.next new.on new.ops new.cached stand (later (old.events ++ t.made) rest new.cached cache))
 drain_turns_keep {D = D} drive most old new who drained.More kept draining_is t side =
     let first = seen drive old.fixed.first in
     let before = seen drive old.drive in
     let now = seen drive new.drive in
     let answered = t.answered.3 in
-    let v : View D = stepped_view first before now old new.replies t.made new.drive new.next new.on new.ops in
+    let cache : IsCache (old.events ++ t.made) new.cached = steps_stay before.held old.events t.made old.cached new.cached kept.orderly.cached t.step.cached in
+    let v : View D = stepped_view first before now old new.replies t.made new.drive new.next new.on new.ops new.cached in
     let stand : map headed new.ops ≡ ops (after_all (old.events ++ t.made)) = stand_by old new (t.made ++ []) side.follows t.adds.events ∙ ap (λ l. ops (after_all (old.events ++ l))) (append-nil t.made) in
     let stepped : IsKeptOrder first now v = stepping_keeps first before now old new.replies t.made
-    (drain_step drive most old new who drained.More new.replies kept t side answered.replies.count answered.replies.each (λ k reply o n. brought (seen drive old.fixed.first) (seen drive old.drive) old t.made k reply kept t.step.shape (trail_of old new who drained.More t.made side.follows) (side.replied k reply o n))) new.drive new.next new.on new.ops stand in
+    (drain_step drive most old new who drained.More new.replies kept t side answered.replies.count answered.replies.each (λ k reply o n. brought (seen drive old.fixed.first) (seen drive old.drive) old t.made k reply kept t.step.shape (trail_of old new who drained.More t.made side.follows) (side.replied k reply o n))) new.drive new.next new.on new.ops new.cached stand cache in
     let is : new ≡ v = view_is new v t.fixed refl refl answered.history refl (t.adds.acks ∙ ap (λ l. old.acks ++ acks_for now.commands l) (append-nil t.made)) (t.adds.events ∙ ap (λ l. old.events ++ l) (append-nil t.made))
-    (t.marks ∙ append-nil old.marks) (t.kept ∙ without_none who (old.kept ++ drain_faults old t.made) t.answered.0) refl refl in
+    (t.marks ∙ append-nil old.marks) (t.kept ∙ without_none who (old.kept ++ drain_faults old t.made) t.answered.0) refl refl refl in
     subst (λ (v : View D). IsInOrder drive v) (sym is) stepped
 drain_turns_keep {D = D} drive most old new who (drained.Fault counts) kept draining_is t side =
     let first = seen drive old.fixed.first in
     let before = seen drive old.drive in
     let now = seen drive new.drive in
+    let cache : IsCache (old.events ++ t.made) new.cached = steps_stay before.held old.events t.made old.cached new.cached kept.orderly.cached t.step.cached in
     let pl = t.answered.1 in
     let p = pl.placed in
-    let v : View D = stepped_view first before now old old.replies t.made new.drive old.next new.on new.ops in
+    let v : View D = stepped_view first before now old old.replies t.made new.drive old.next new.on new.ops new.cached in
     let stand : map headed new.ops ≡ ops (after_all (old.events ++ t.made)) = stand_by old new (t.made ++ []) side.follows t.adds.events ∙ ap (λ l. ops (after_all (old.events ++ l))) (append-nil t.made) in
     let stepped : IsKeptOrder first now v = stepping_keeps first before now old old.replies t.made
     (drain_step drive most old new who (drained.Fault counts) old.replies kept t side refl (λ k reply e. e)
     (λ k reply e f. subst (Brought (after_all old.events) t.made k) (some_same None reply (sym e ∙ f))
-    (own_fault (after_all old.events) t.made old.kept who k counts t.step.shape (trail_of old new who (drained.Fault counts) t.made side.follows) (λ some. t.none (inl some)) t.answered.0 (kept.orderly.waiting.none_yet k e)))) new.drive old.next new.on new.ops stand in
+    (own_fault (after_all old.events) t.made old.kept who k counts t.step.shape (trail_of old new who (drained.Fault counts) t.made side.follows) (λ some. t.none (inl some)) t.answered.0 (kept.orderly.waiting.none_yet k e)))) new.drive old.next new.on new.ops new.cached stand cache in
     let c : CanFail first now v p counts = record {
       kept = stepped;
       drains = ap (λ w. phase w old.marks) pl.who_is ∙ draining_is;
@@ -211,5 +216,5 @@ drain_turns_keep {D = D} drive most old new who (drained.Fault counts) kept drai
     let is : new ≡ failed_view first now v p counts new.next = view_is new (failed_view first now v p counts new.next) t.fixed refl refl pl.history pl.replies
     (t.adds.acks ∙ ap (λ l. old.acks ++ acks_for now.commands l) (append-nil t.made)) (t.adds.events ∙ ap (λ l. old.events ++ l) (append-nil t.made))
     (t.marks ∙ ap (λ w. old.marks ++ map (mark w) (places (length old.history) ∷ hands (length old.history) (replies.Fault counts) ∷ [])) (sym pl.who_is))
-    (t.kept ∙ ap (λ w. without_session w (old.kept ++ drain_faults old t.made)) (sym pl.who_is)) refl refl in
+    (t.kept ∙ ap (λ w. without_session w (old.kept ++ drain_faults old t.made)) (sym pl.who_is)) refl refl refl in
     subst (λ (v : View D). IsInOrder drive v) (sym is) (failing_keeps first now v p counts c new.next)

@@ -25,8 +25,8 @@ use Rattle.order_laws.proofs.Waits.{At, at, not_yet, past, there}
 
 -- two volumes with the same parts are one
 pub view_is : {D : Type 0} (a b : View D) → a.fixed ≡ b.fixed → a.drive ≡ b.drive → a.next ≡ b.next → a.history ≡ b.history → a.replies ≡ b.replies → a.acks ≡ b.acks → a.events ≡ b.events → a.marks ≡ b.marks
-    → a.kept ≡ b.kept → a.on ≡ b.on → a.ops ≡ b.ops → a ≡ b
-view_is a b fixed drive next history replies acks events marks kept on ops = λ i. record {
+    → a.kept ≡ b.kept → a.on ≡ b.on → a.ops ≡ b.ops → a.cached ≡ b.cached → a ≡ b
+view_is a b fixed drive next history replies acks events marks kept on ops cached = λ i. record {
   fixed = fixed i;
   drive = drive i;
   next = next i;
@@ -38,6 +38,7 @@ view_is a b fixed drive next history replies acks events marks kept on ops = λ 
   kept = kept i;
   on = on i;
   ops = ops i;
+  cached = cached i;
 }
 
 -- ---- moments

@@ -23,7 +23,9 @@ use Rattle.space_laws.specs.Standing.{Given, admitted, standing}
 use Rattle.serving_promise.specs.Acks.{syncs_ticket}
 use Rattle.serving_promise.specs.Asking.{blocks_of, is_read, is_write_at, stood, touches, want_of}
 use Rattle.serving_promise.specs.Served.{Drive, IsTrue, View, given, given_of, queued}
-use Rattle.serving_promise.specs.Submits.{Asks, IsOfDone, Places, PutsOff, Submits, call_of, is_put_off, may_wait_at, queues_at, standing_ops, synced_at, wanted}
+use Rattle.serving_promise.specs.Submits.{Asks, IsOfDone, Places, PutsOff, Submits, call_of, is_put_off, may_wait_at, queues_at, standing_ops, synced_at}
+use Rattle.serving_promise.specs.Cached.{IsCache, wanted}
+use Rattle.block_cache.specs.Kept.{Kept}
 use Rattle.serving_promise.specs.declared.answers.Submitted.{Submitted}
 use Rattle.serving_promise.specs.declared.answers.Submitted.TheVariants as submitted
 use Rattle.reply_laws.specs.Asks.{AskingBegins, AsksTruly, QueueTheirOps, SubmissionsAskTruly}
@@ -154,7 +156,7 @@ asking_begins seen first v none quiet = record {
 -- ---- a placement that is done
 
 module _ (g : Given) (on : Option ℕ) (history : List Placed) (p : Placed) (trail added : List Event) (call : Option Call) (done : p.fate ≡ fates.Done) (call_is : call_at g.calls p ≡ call)
-    (of_it : IsOfDone (length history) trail call added) (asks : Asks (standing g on history (length history)) trail added call)
+    (of_it : IsOfDone (length history) trail call added) (cached next : List Kept) (cache : IsCache trail cached) (asks : Asks (standing g on history (length history)) trail added cached next call)
     (few : is_write_at call ≡ true → length (ops (after_all trail)) ≤ 64)
     (queues : filter_map queued trail ≡ map place_of (admitted g on history)) (all_queues : filter_map queued (trail ++ added) ≡ map place_of (admitted g on (history ++ p ∷ []))) where
   here_at : slice_get (history ++ p ∷ []) (length history) ≡ Some p
@@ -174,30 +176,30 @@ module _ (g : Given) (on : Option ℕ) (history : List Placed) (p : Placed) (tra
         p,
         ap (slice_get (history ++ p ∷ [])) a.0 ∙ here_at,
         done,
-        ap is_read call_is ∙ reads_need (standing g on history (length history)) call place (wanted_needed (standing g on history (length history)) trail added call place asks a.1),
+        ap is_read call_is ∙ reads_need (standing g on history (length history)) call place (wanted_needed (standing g on history (length history)) trail added cached next call place asks a.1),
       )
 
   needs : (ticket : ℕ) (place : Place) → Contains (filter_map want_of added) (ticket, place) → (q : Placed) × (slice_get (history ++ p ∷ []) ticket ≡ Some q) × Contains (blocks_of (standing g on (history ++ p ∷ []) ticket) (call_at g.calls q)) place
   needs ticket place has =
       let a = asked_here ticket place has in
-      let one = wanted_needed (standing g on history (length history)) trail added call place asks a.1 in
+      let one = wanted_needed (standing g on history (length history)) trail added cached next call place asks a.1 in
       let two = subst (λ c. Contains (blocks_of (standing g on history (length history)) c) place) (sym call_is) one in
       let three = subst (λ st. Contains (blocks_of st (call_at g.calls p)) place) (sym stands_here) two in
       (p, ap (slice_get (history ++ p ∷ [])) a.0 ∙ here_at, subst (λ n. Contains (blocks_of (standing g on (history ++ p ∷ []) n) (call_at g.calls p)) place) (sym a.0) three)
 
   asked : (k : ℕ) (q : Placed) (place : Place) → (k ≡ length history) × (p ≡ q) → q.fate ≡ fates.Done → Contains (blocks_of (standing g on (history ++ p ∷ []) k) (call_at g.calls q)) place
       → Contains (filter_map want_of (trail ++ added)) (k, place) ⊎ (list_any (touches place) (trail ++ added) ≡ true)
-  asked k q place next fate has = by (needed_wanted (standing g on history (length history)) trail added call place asks three)
+  asked k q place is_last fate has = by (needed_wanted (standing g on history (length history)) trail added cached next call place cache asks three)
     where
       one : Contains (blocks_of (standing g on (history ++ p ∷ []) (length history)) (call_at g.calls p)) place
-      one = subst (λ x. Contains (blocks_of (standing g on (history ++ p ∷ []) (length history)) (call_at g.calls x)) place) (sym next.1)
-          (subst (λ n. Contains (blocks_of (standing g on (history ++ p ∷ []) n) (call_at g.calls q)) place) next.0 has)
+      one = subst (λ x. Contains (blocks_of (standing g on (history ++ p ∷ []) (length history)) (call_at g.calls x)) place) (sym is_last.1)
+          (subst (λ n. Contains (blocks_of (standing g on (history ++ p ∷ []) n) (call_at g.calls q)) place) is_last.0 has)
 
       three : Contains (blocks_of (standing g on history (length history)) call) place
       three = subst (λ c. Contains (blocks_of (standing g on history (length history)) c) place) call_is (subst (λ st. Contains (blocks_of st (call_at g.calls p)) place) stands_here one)
 
       by : Contains (filter_map wanted added) place ⊎ (list_any (touches place) trail ≡ true) → Contains (filter_map want_of (trail ++ added)) (k, place) ⊎ (list_any (touches place) (trail ++ added) ≡ true)
-      by (inl asks_it) = inl (subst (λ n. Contains (filter_map want_of (trail ++ added)) (n, place)) (sym next.0)
+      by (inl asks_it) = inl (subst (λ n. Contains (filter_map want_of (trail ++ added)) (n, place)) (sym is_last.0)
           (picked_later want_of trail added (length history, place)
           (subst (λ ws. Contains ws (length history, place)) (sym (wants_here (length history) trail call added of_it)) (pair_there (length history) (filter_map wanted added) place asks_it))))
       by (inr touched) = inr (touched_before place trail added touched)
@@ -247,11 +249,12 @@ module _ (g : Given) (on : Option ℕ) (history : List Placed) (p : Placed) (tra
 -- a submission that is placed, done or void, asks what its call needs
 placed_asks : {D : Type 0} (first now : Drive) (old new : View D) (who nth : ℕ) (answer : Submitted) (last : Option Reply) → IsTrue first old → IsTrue first new → (s : Submits first now old new who nth answer)
     → Places old new who nth fates.Done last → IsOfDone (length old.history) old.events (call_of old who nth) s.added
-    → Asks (standing (given old first) old.on old.history (length old.history)) old.events s.added (call_of old who nth)
+    → IsCache old.events old.cached
+    → Asks (standing (given old first) old.on old.history (length old.history)) old.events s.added old.cached new.cached (call_of old who nth)
     → (is_write_at (call_of old who nth) ≡ true → standing_ops old ≤ 64) → AsksTruly first old → AsksTruly first new
-placed_asks first now old new who nth answer last is_old is_new s pl of_it asks few is =
+placed_asks first now old new who nth answer last is_old is_new s pl of_it cache asks few is =
     ask_whole first old new old.on (old.history ++ pl.placed ∷ []) (old.events ++ s.added) s.fixed s.on pl.history s.adds.events
-    (done_asks (given old first) old.on old.history pl.placed old.events s.added (call_of old who nth) pl.fate_is call_is of_it asks few is_old.ops all_queues (ask_parts first old is))
+    (done_asks (given old first) old.on old.history pl.placed old.events s.added (call_of old who nth) pl.fate_is call_is of_it old.cached new.cached cache asks few is_old.ops all_queues (ask_parts first old is))
   where
     call_is : call_at (given old first).calls pl.placed ≡ call_of old who nth
     call_is = ap (λ w. slice_get ((given old first).calls w) pl.placed.nth) pl.who_is ∙ ap (λ n. slice_get ((given old first).calls who) n) pl.nth_is
@@ -293,21 +296,21 @@ not_memory told e = cc
 fault_not_memory : (counts : Twin) → submitted.Ready (replies.Fault counts) ≡ submitted.Ready replies.NoMemory → ⊥
 fault_not_memory counts e = cc
 
-submitted_asks : {D : Type 0} (first now : Drive) (old new : View D) (who nth : ℕ) (answer : Submitted) → IsTrue first old → IsTrue first new → Submits first now old new who nth answer → AsksTruly first old → AsksTruly first new
-submitted_asks first now old new who nth (submitted.Ready (replies.Answer told)) is_old is_new s is =
-    placed_asks first now old new who nth (submitted.Ready (replies.Answer told)) (Some (replies.Answer told)) is_old is_new s s.placing s.of_it s.asks
+submitted_asks : {D : Type 0} (first now : Drive) (old new : View D) (who nth : ℕ) (answer : Submitted) → IsTrue first old → IsTrue first new → IsCache old.events old.cached → Submits first now old new who nth answer → AsksTruly first old → AsksTruly first new
+submitted_asks first now old new who nth (submitted.Ready (replies.Answer told)) is_old is_new cache s is =
+    placed_asks first now old new who nth (submitted.Ready (replies.Answer told)) (Some (replies.Answer told)) is_old is_new s s.placing s.of_it cache s.asks
     (few_stood old (call_of old who nth) (submitted.Ready (replies.Answer told)) s.drain (not_drain (replies.Answer told)) (not_memory told)) is
-submitted_asks first now old new who nth (submitted.Ready (replies.Fault counts)) is_old is_new s is =
-    placed_asks first now old new who nth (submitted.Ready (replies.Fault counts)) (Some (replies.Fault counts)) is_old is_new s s.placing s.of_it s.asks
+submitted_asks first now old new who nth (submitted.Ready (replies.Fault counts)) is_old is_new cache s is =
+    placed_asks first now old new who nth (submitted.Ready (replies.Fault counts)) (Some (replies.Fault counts)) is_old is_new s s.placing s.of_it cache s.asks
     (few_stood old (call_of old who nth) (submitted.Ready (replies.Fault counts)) s.drain (not_drain (replies.Fault counts)) (fault_not_memory counts)) is
-submitted_asks first now old new who nth (submitted.Ready (replies.Full need limit)) is_old is_new s is = void_asks first now old new who nth (submitted.Ready (replies.Full need limit)) (Some (replies.Full need limit)) is_old s s.placing s.of_it is
-submitted_asks first now old new who nth (submitted.Ready replies.NoMemory) is_old is_new s is = void_asks first now old new who nth (submitted.Ready replies.NoMemory) (Some replies.NoMemory) is_old s s.placing s.of_it is
-submitted_asks first now old new who nth (submitted.Wait ticket) is_old is_new s is =
-    placed_asks first now old new who nth (submitted.Wait ticket) None is_old is_new s s.placing.1 s.of_it.1 s.asks (λ write. absurd (waits_no_write (call_of old who nth) s.of_it.0 write)) is
-submitted_asks first now old new who nth submitted.Drain is_old is_new s is =
+submitted_asks first now old new who nth (submitted.Ready (replies.Full need limit)) is_old is_new cache s is = void_asks first now old new who nth (submitted.Ready (replies.Full need limit)) (Some (replies.Full need limit)) is_old s s.placing s.of_it is
+submitted_asks first now old new who nth (submitted.Ready replies.NoMemory) is_old is_new cache s is = void_asks first now old new who nth (submitted.Ready replies.NoMemory) (Some replies.NoMemory) is_old s s.placing s.of_it is
+submitted_asks first now old new who nth (submitted.Wait ticket) is_old is_new cache s is =
+    placed_asks first now old new who nth (submitted.Wait ticket) None is_old is_new s s.placing.1 s.of_it.1 cache s.asks (λ write. absurd (waits_no_write (call_of old who nth) s.of_it.0 write)) is
+submitted_asks first now old new who nth submitted.Drain is_old is_new cache s is =
     ask_whole first old new old.on old.history (old.events ++ s.added) s.fixed s.on s.placing.history s.adds.events
     (asks_on (given old first) old.on old.on old.history old.history (λ k p. ⊥) old.events s.added (stays_there old.history) (agree_always (given old first).mounted old.on (length old.history)) is_old.ops
     (record { wants = ap (filter_map want_of) s.of_it; syncs = ap (filter_map syncs_ticket) s.of_it }) (λ k p never. absurd never) (ask_parts first old is))
 
 pub submissions_ask_truly : {D : Type 0} (seen : D → Drive) → SubmissionsAskTruly seen
-submissions_ask_truly seen first now old new who nth answer is_old is_new s is = submitted_asks (seen first) (seen now) old new who nth answer is_old is_new s is
+submissions_ask_truly seen first now old new who nth answer is_old is_new cache s is = submitted_asks (seen first) (seen now) old new who nth answer is_old is_new cache s is

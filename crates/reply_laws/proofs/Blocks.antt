@@ -17,7 +17,12 @@ use Rattle.event_laws.specs.Trail.{after, after_all, after_op, puts_at, without_
 use Rattle.event_laws.specs.Waiting.{Op, Request, State, Waiter, ops, put_at, same_part, same_place, start, waiting_op, with_flushes}
 use Rattle.space_laws.specs.Standing.{Standing, uid_at}
 use Rattle.serving_promise.specs.Asking.{blocks_of, is_read, touches, want_of}
-use Rattle.serving_promise.specs.Submits.{Asks, AsksForBlocks, IsOfDone, blocks_in, passes, queues_at, synced_at, wanted, was_read}
+use Rattle.serving_promise.specs.Submits.{Asks, IsOfDone, blocks_in, passes, queues_at, synced_at}
+use Rattle.serving_promise.specs.Cached.{IsCache, ReadsBlocks, is_held, wanted, was_read}
+use Rattle.serving_promise.proofs.CacheLaws.{passing_asks, refused_asks}
+use Rattle.extent_map.specs.Replies.{distinct}
+use Rattle.block_cache.specs.Kept.{Kept, is_cached}
+use Rattle.reply_laws.proofs.Distinct.{cached_read, distinct_in, filter_in, in_distinct, in_filter}
 use Rattle.reply_laws.proofs.Lists.{and_first, and_second, in_cases, in_first, in_none, in_rest, or_cases, or_left, or_right, picks_none}
 
 -- ---- places
@@ -171,40 +176,32 @@ read_touched place (e ∷ later) h = ⊎_elim (λ is. or_left (touches place e) 
 
 -- ---- what is asked
 
-read_asks : (st : Standing) (before added : List Event) (path : List (List ℕ)) (offset count : ℕ) → passes (refusal_of st.tree (Read path offset count)) ≡ true → Asks st before added (Some (Read path offset count))
-    → AsksForBlocks (blocks_in (st.files (uid_at st.tree.nodes path)) offset count) before added
-read_asks st before added path offset count passed asks = subst (λ (T : Type 0). T) is asks
-  where
-    is : Asks st before added (Some (Read path offset count)) ≡ AsksForBlocks (blocks_in (st.files (uid_at st.tree.nodes path)) offset count) before added
-    is = rw passed refl
-
-read_asks_none : (st : Standing) (before added : List Event) (path : List (List ℕ)) (offset count : ℕ) → passes (refusal_of st.tree (Read path offset count)) ≡ false → Asks st before added (Some (Read path offset count))
-    → filter_map wanted added ≡ []
-read_asks_none st before added path offset count passed asks = subst (λ (T : Type 0). T) is asks
-  where
-    is : Asks st before added (Some (Read path offset count)) ≡ (filter_map wanted added ≡ [])
-    is = rw passed refl
-
 none_wanted : (added : List Event) (place : Place) (P : Type 0) → filter_map wanted added ≡ [] → Contains (filter_map wanted added) place → P
 none_wanted added place P none has = absurd (in_none place (subst (λ ps. Contains ps place) none has))
 
 -- each block that is asked for is one that the call needs
-pub wanted_needed : (st : Standing) (before added : List Event) (call : Option Call) (place : Place) → Asks st before added call → Contains (filter_map wanted added) place → Contains (blocks_of st call) place
-wanted_needed st before added None place asks has = none_wanted added place _ asks has
-wanted_needed st before added (Some (Read path offset count)) place asks has = by (passes (refusal_of st.tree (Read path offset count))) refl
+pub wanted_needed : (st : Standing) (before added : List Event) (old new : List Kept) (call : Option Call) (place : Place) → Asks st before added old new call → Contains (filter_map wanted added) place
+    → Contains (blocks_of st call) place
+wanted_needed st before added old new None place asks has = none_wanted added place _ asks.0 has
+wanted_needed st before added old new (Some (Read path offset count)) place asks has = by (passes (refusal_of st.tree (Read path offset count))) refl
   where
     blocks : List Place
     blocks = blocks_in (st.files (uid_at st.tree.nodes path)) offset count
 
+    among : ReadsBlocks (distinct blocks) before added old new → Contains blocks place
+    among reads = in_distinct blocks place (in_filter (λ (at : Place). not (is_held before at || is_cached old at)) (distinct blocks) place
+        (subst (λ places. Contains places place) reads.asks has))
+
     by : (b : Bool) → passes (refusal_of st.tree (Read path offset count)) ≡ b → Contains (cond (passes (refusal_of st.tree (Read path offset count))) blocks []) place
-    by true is = subst (λ b. Contains (cond b blocks []) place) (sym is) ((read_asks st before added path offset count is asks).of_range place has)
-    by false is = none_wanted added place _ (read_asks_none st before added path offset count is asks) has
-wanted_needed st before added (Some _) place asks has = none_wanted added place _ asks has
+    by true is = subst (λ b. Contains (cond b blocks []) place) (sym is) (among (passing_asks st before added old new path offset count is asks))
+    by false is = none_wanted added place _ (refused_asks st before added old new path offset count is asks).0 has
+wanted_needed st before added old new (Some _) place asks has = none_wanted added place _ asks.0 has
 
 -- each block that the call needs is asked for, or an op put it, or it was read
-pub needed_wanted : (st : Standing) (before added : List Event) (call : Option Call) (place : Place) → Asks st before added call → Contains (blocks_of st call) place → Contains (filter_map wanted added) place ⊎ (list_any (touches place) before ≡ true)
-needed_wanted st before added None place asks has = absurd (in_none place has)
-needed_wanted st before added (Some (Read path offset count)) place asks has = by (passes (refusal_of st.tree (Read path offset count))) refl
+pub needed_wanted : (st : Standing) (before added : List Event) (old new : List Kept) (call : Option Call) (place : Place) → IsCache before old → Asks st before added old new call → Contains (blocks_of st call) place
+    → Contains (filter_map wanted added) place ⊎ (list_any (touches place) before ≡ true)
+needed_wanted st before added old new None place cache asks has = absurd (in_none place has)
+needed_wanted st before added old new (Some (Read path offset count)) place cache asks has = by (passes (refusal_of st.tree (Read path offset count))) refl
   where
     blocks : List Place
     blocks = blocks_in (st.files (uid_at st.tree.nodes path)) offset count
@@ -212,18 +209,23 @@ needed_wanted st before added (Some (Read path offset count)) place asks has = b
     blocks_are : (b : Bool) → passes (refusal_of st.tree (Read path offset count)) ≡ b → Contains (cond b blocks []) place
     blocks_are b is = subst (λ b. Contains (cond b blocks []) place) is has
 
-    touched : (list_any (puts_at place) (ops (after_all before)) ≡ true) ⊎ (list_any (was_read place) before ≡ true) → list_any (touches place) before ≡ true
-    touched (inl stands) = stands_touched place before stands
-    touched (inr read) = read_touched place before read
+    none_of_both : (b c : Bool) → b ≡ false → c ≡ false → not (b || c) ≡ true
+    none_of_both true c e f = absurd cc
+    none_of_both false true e f = absurd cc
+    none_of_both false false e f = refl
 
-    either : AsksForBlocks blocks before added → Contains blocks place → (b : Bool) → list_any (same_place place) (filter_map wanted added) ≡ b → Contains (filter_map wanted added) place ⊎ (list_any (touches place) before ≡ true)
-    either asks in_blocks true is = inl (same_in place (filter_map wanted added) is)
-    either asks in_blocks false is = inr (touched (asks.others place in_blocks is))
+    either : ReadsBlocks (distinct blocks) before added old new → Contains blocks place → (b c : Bool) → is_held before place ≡ b → is_cached old place ≡ c
+        → Contains (filter_map wanted added) place ⊎ (list_any (touches place) before ≡ true)
+    either reads in_blocks true c held kept = inr (stands_touched place before held)
+    either reads in_blocks false true held kept = inr (read_touched place before (cached_read before old place cache.read kept))
+    either reads in_blocks false false held kept = inl (subst (λ places. Contains places place) (sym reads.asks)
+        (filter_in (λ (at : Place). not (is_held before at || is_cached old at)) (distinct blocks) place (distinct_in blocks place in_blocks)
+        (none_of_both (is_held before place) (is_cached old place) held kept)))
 
     by : (b : Bool) → passes (refusal_of st.tree (Read path offset count)) ≡ b → Contains (filter_map wanted added) place ⊎ (list_any (touches place) before ≡ true)
-    by true is = either (read_asks st before added path offset count is asks) (blocks_are true is) (list_any (same_place place) (filter_map wanted added)) refl
+    by true is = either (passing_asks st before added old new path offset count is asks) (blocks_are true is) (is_held before place) (is_cached old place) refl refl
     by false is = absurd (in_none place (blocks_are false is))
-needed_wanted st before added (Some _) place asks has = absurd (in_none place has)
+needed_wanted st before added old new (Some _) place cache asks has = absurd (in_none place has)
 
 -- ---- the requests of a call that is done
 

@@ -5,6 +5,7 @@ pub mod Submitted
 pub mod Kept
 pub mod Truths
 pub mod Waiting
+pub mod Distinct
 pub mod Blocks
 pub mod Asked
 pub mod AskLaws

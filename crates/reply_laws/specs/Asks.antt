@@ -8,6 +8,7 @@ use Rattle.session_script.specs.declared.logs.Event.TheVariants as events
 use Rattle.event_laws.specs.Waiting.{Op}
 use Rattle.serving_promise.specs.Acks.{syncs_ticket}
 use Rattle.serving_promise.specs.Asking.{AreAsked, AreGrouped, AreNeeded, AreOfReads, ArePutOff}
+use Rattle.serving_promise.specs.Cached.{IsCache}
 use Rattle.serving_promise.specs.Served.{Drive, IsTrue, View, given, queued}
 use Rattle.serving_promise.specs.Steps.{DrainsOnce, Turns}
 use Rattle.serving_promise.specs.Submits.{Submits, queues_at, synced_at}
@@ -41,7 +42,7 @@ pub record QueueTheirOps : Type 0 where
 
 abbrev pub SubmissionsAskTruly : {D : Type 0} → (D → Drive) → Type 0
 SubmissionsAskTruly {D} seen = (first now : D) (old new : View D) (who nth : ℕ) (answer : Submitted)
-    → IsTrue (seen first) old → IsTrue (seen first) new
+    → IsTrue (seen first) old → IsTrue (seen first) new → IsCache old.events old.cached
     → Submits (seen first) (seen now) old new who nth answer → AsksTruly (seen first) old → AsksTruly (seen first) new
 
 abbrev pub TurnsAskTruly : {D : Type 0} → (D → Drive) → Type 0

@@ -5,6 +5,8 @@ use Rattle.tape_types.specs.declared.cartridges.Cartridge.{Cartridge}
 use Rattle.tape_types.specs.declared.moments.Moment.{Moment}
 use Rattle.plain_tree.specs.declared.calls.Placed.{Placed}
 use Rattle.cartridge_meaning.specs.Carried.{carried}
+use Rattle.block_cache.proofs.LawLemmas.{caches_stay}
+use Rattle.serving_promise.specs.Cached.{AreOnTape}
 use Rattle.serving_promise.specs.Crash.{IsSound, Meaning, SurvivesCrashes}
 use Rattle.serving_promise.specs.Ends.{begun}
 use Rattle.serving_promise.specs.Served.{CanTell, Drive, Fixed, IsOrderly, IsServed, IsTrue, tree_after}
@@ -34,7 +36,13 @@ orderly first fixed next = record {
   };
   limits = refl;
   untold = λ e. e;
+  cached = record { read = λ k d less. absurd (omega (arith, less)); kept = caches_stay.begins };
 }
+
+-- nothing is kept yet
+none_kept : (told : Option Cartridge) → IfSome told (λ c. AreOnTape c [])
+none_kept None = tt
+none_kept (Some c) = λ k d less. absurd (omega (arith, less))
 
 truly : {D : Type 0} (first : Drive) (fixed : Fixed D) (next : Option Moment) → IsTrue first (begun fixed next)
 truly first fixed next = record { replies = record { count = refl; each = λ k p reply e. cc }; ops = refl; standing = refl }
@@ -55,4 +63,4 @@ crash m first fixed next can = record {
 }
 
 pub begins_served : {D : Type 0} (m : Meaning) (first : Drive) (fixed : Fixed D) (next : Option Moment) → IsServed m first first (begun fixed next)
-begins_served m first fixed next = record { orderly = orderly first fixed next; truly = λ can. truly first fixed next; crash = λ can. crash m first fixed next can }
+begins_served m first fixed next = record { orderly = orderly first fixed next; truly = λ can. truly first fixed next; cached = none_kept first.held; crash = λ can. crash m first fixed next can }

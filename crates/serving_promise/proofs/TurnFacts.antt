@@ -55,6 +55,7 @@ flush_turn_is at = record {
     read_head = all_of_two (λ e. HeadIsRead (drive_at 33 (Some (dp 11))) e (Some (dp 11))) (Worked (dp 11) None) (Synced 2) tt tt;
     on_tape = all_of_two (λ e. IsOnTape (drive_at 34 (Some (dp 11))) (first_of (before_flush at).ops) e) (Worked (dp 11) None) (Synced 2) tt tt;
     on = refl;
+    cached = ([], refl, ([], refl, refl));
   };
   none = λ reply e. cc;
   kept = refl;
@@ -102,6 +103,7 @@ rest_turn_is at = record {
     read_head = all_of_one (λ e. HeadIsRead (drive_at 30 (Some (dp 22))) e (Some (dp 23))) (Worked (dp 22) None) tt;
     on_tape = all_of_one (λ e. IsOnTape (drive_at 32 (Some (dp 23))) (first_of (draining_view at).ops) e) (Worked (dp 22) None) tt;
     on = refl;
+    cached = ([], refl, refl);
   };
   none = λ either. absurd (⊎_elim (λ kept. omega (arith, kept)) (λ few. omega (arith, few)) either);
   kept = refl;
@@ -128,6 +130,7 @@ sync_told_is at = record {
     read_head = all_of_one (λ e. HeadIsRead (drive_at 30 None) e None) (Worked (dp 7) (Some (twin 0 1))) tt;
     on_tape = all_of_one (λ e. IsOnTape (drive_at 32 None) (first_of (both_view at).ops) e) (Worked (dp 7) (Some (twin 0 1))) tt;
     on = refl;
+    cached = ([], refl, refl);
   };
   none = λ either. absurd (⊎_elim (λ kept. omega (arith, kept)) (λ few. omega (arith, few)) either);
   kept = refl;
@@ -153,7 +156,7 @@ drain_is at = record {
   added = Drains 1 ∷ [];
   adds = record { events = refl; acks = refl };
   of_it = refl;
-  asks = refl;
+  asks = (refl, refl);
   marks = refl;
   drain = record { only = λ e. refl; each = λ e. inl refl };
 }
@@ -169,7 +172,7 @@ sync_is at = record {
   added = sync_added;
   adds = record { events = refl; acks = refl };
   of_it = (refl, (dp 8 ∷ dp 9 ∷ dp 10 ∷ dp 11 ∷ [], refl));
-  asks = refl;
+  asks = (refl, refl);
   marks = refl;
   drain = record { only = λ e. cc; each = λ e. cc };
 }

@@ -16,7 +16,8 @@ use Rattle.event_laws.specs.Trail.{after}
 use Rattle.space_laws.specs.Standing.{Given, Standing, admitted, admitted_at, standing, uid_at}
 use Rattle.serving_promise.specs.Replies.{is_write}
 use Rattle.serving_promise.specs.Served.{queued}
-use Rattle.serving_promise.specs.Submits.{blocks_in, passes, was_read}
+use Rattle.serving_promise.specs.Cached.{was_read}
+use Rattle.serving_promise.specs.Submits.{blocks_in, passes}
 
 -- ---- blocks
 

@@ -37,6 +37,7 @@ begun fixed next = record {
   kept = [];
   on = None;
   ops = [];
+  cached = [];
 }
 
 -- A volume begins with this script, mount and drive, and with the moments that its clock tells. Its tree is the one

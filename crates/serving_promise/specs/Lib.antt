@@ -5,6 +5,7 @@ pub mod Faults
 pub mod Marks
 pub mod Crash
 pub mod Meanings
+pub mod Cached
 pub mod Served
 pub mod Submits
 pub mod Steps
@@ -12,5 +13,6 @@ pub mod Ends
 pub mod Headline
 pub mod Trials
 pub mod Turning
+pub mod Keeping
 pub mod Closing
 pub mod Asking

@@ -26,7 +26,9 @@ use Rattle.tape_layout.specs.declared.ops.Op.{Op}
 use Rattle.tape_layout.specs.Ops.{place_of}
 use Rattle.tape_layout.specs.declared.ops.Op.TheVariants as ops
 use Rattle.space_laws.specs.Standing.{Given, admitted}
+use Rattle.block_cache.specs.Kept.{Kept}
 use Rattle.serving_promise.specs.Acks.{AreAcks, AreReached, AreSyncs}
+use Rattle.serving_promise.specs.Cached.{AreOnTape, IsCache}
 use Rattle.serving_promise.specs.Crash.{Meaning, Leavings, IsSound, SurvivesCrashes}
 use Rattle.serving_promise.specs.Faults.{AreFaults, kept_for}
 use Rattle.serving_promise.specs.Marks.{phase, draining, places_of, hands_of}
@@ -55,7 +57,7 @@ pub record Fixed (D : Type 0) : Type 0 where
 
 -- A reply stands at the place of its placement once it is there; a fault is kept for a session that drained.
 -- Placement on the index partition is on from a place on. The clock gives this moment next, where it tells. The ops
--- are those that stand.
+-- are those that stand, and the blocks that were read and are kept stand with the one that was used last first.
 pub record View (D : Type 0) : Type 0 where
   pub fixed : Fixed D
   pub drive : D
@@ -68,6 +70,7 @@ pub record View (D : Type 0) : Type 0 where
   pub kept : List (ℕ × Twin)
   pub on : Option ℕ
   pub ops : List Op
+  pub cached : List Kept
 
 -- each session's calls are placed in order, and none that it doesn't have
 pub record IsPlacedSoFar (calls : Calls) (history : List Placed) : Type 0 where
@@ -138,7 +141,7 @@ tree_after v k = replay (calls_of v.fixed.script) v.fixed.tree (take k v.history
 
 -- What is true over every drive: one history so far, with the moments of the clock where it has one; the events are a
 -- trail, whose syncs are those that are done, and whose faults those that are told; the acks are those of the syncs;
--- the marks tell of each session.
+-- the marks tell of each session; and the blocks that are kept were read.
 pub record IsOrderly {D : Type 0} (first now : Drive) (v : View D) : Type 0 where
   pub placed : IsPlacedSoFar (calls_of v.fixed.script) v.history
   pub moments : IfSome v.fixed.moment (λ m. All (λ p. p.at ≡ m) v.history)
@@ -152,6 +155,7 @@ pub record IsOrderly {D : Type 0} (first now : Drive) (v : View D) : Type 0 wher
   pub marks : AreMarks (greatest_session v.fixed.script) v.history v.replies (after_all v.events) v.kept v.marks
   pub limits : now.limits ≡ first.limits
   pub untold : first.held ≡ None → now.held ≡ None
+  pub cached : IsCache v.events v.cached
 
 -- What is true where the drive told a cartridge that reads as the tree: the replies are those of the tree or caused,
 -- and the ops that were queued are those that the history admits, with the bytes that it admits.
@@ -160,13 +164,14 @@ pub record IsTrue {D : Type 0} (first : Drive) (v : View D) : Type 0 where
   pub ops : filter_map queued v.events ≡ map place_of (admitted (given v first) v.on v.history)
   pub standing : AreStanding (given v first) v.on v.history v.events v.ops
 
--- The volume's own invariant as its callers see it. What a crash leaves is said where the cartridge stood for the
--- tree and was sound at the start.
+-- The volume's own invariant as its callers see it. Where the drive tells a cartridge, the blocks that are kept stand on
+-- it. What a crash leaves is said where the cartridge stood for the tree and was sound at the start.
 pub record IsServed {D : Type 0} (m : Meaning) (first now : Drive) (v : View D) : Type 0 where
   pub orderly : IsOrderly first now v
   pub truly : CanTell
       (λ c. m.Reads c (carried v.fixed.mounted.index) v.fixed.tree v.fixed.mounted.newest) v.fixed.since first
       → IsTrue first v
+  pub cached : IfSome now.held (λ c. AreOnTape c v.cached)
   pub crash : CanTell
       (λ c. m.Stands c (carried v.fixed.mounted.index) v.fixed.tree v.fixed.mounted.newest × IsSound m c)
       v.fixed.since first

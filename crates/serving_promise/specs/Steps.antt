@@ -21,6 +21,7 @@ use Rattle.event_laws.specs.Trail.{Owner, of_session, after, after_all, both, fa
 use Rattle.event_laws.specs.Trail.{steps}
 use Rattle.tape_layout.specs.declared.ops.Op as ops
 use Rattle.tape_layout.specs.declared.ops.Op.TheVariants.{Put, Mark, Flush}
+use Rattle.serving_promise.specs.Cached.{KeepsBlocks}
 use Rattle.serving_promise.specs.Faults.{kept_for}
 use Rattle.serving_promise.specs.Marks.{marks_of_turn, marks_of_drain, places_of}
 use Rattle.serving_promise.specs.Served.{Drive, View}
@@ -110,7 +111,7 @@ pub record OnlyAnswers {D : Type 0} (old new : View D) : Type 0 where
   pub next : new.next ≡ old.next
   pub replies : KeepsReplies old new
 
--- one step of the head at most, and what it brings
+-- one step of the head at most, and what it brings: a block that was read for a request is kept, or there is no memory
 pub record StepsOnce {D : Type 0} (most : ℕ) (before now : Drive) (old new : View D) (added : List Event) : Type 0 where
   pub shape : AreOfStep added
   pub counts : StepCounts most before now old new added
@@ -118,6 +119,7 @@ pub record StepsOnce {D : Type 0} (most : ℕ) (before now : Drive) (old new : V
   pub read_head : All (λ e. HeadIsRead before e now.head) added
   pub on_tape : All (λ e. IsOnTape now (first_of old.ops) e) added
   pub on : new.on ≡ on_after old added
+  pub cached : KeepsBlocks before.held added old.cached new.cached
 
 -- ---- turn
 

@@ -1,8 +1,7 @@
 -- What a submission adds to a volume.
 use Rattle.plain_tree.specs.declared.calls.Fate.{Fate}
 use Rattle.std.specs.Prelude.{◌≡◌, ◌⊎◌, ◌<◌, ◌&&◌, ◌-◌, min, nat_lt, ℕ, Bool, true, false, List, [], ◌∷◌, ◌++◌, map}
-use Rattle.std.specs.Prelude.{filter_map, length, Option, Some, None, IfSome, slice_get, Contains}
-use Rattle.std.specs.List.{list_any}
+use Rattle.std.specs.Prelude.{filter_map, length, Option, Some, None, IfSome, slice_get}
 use Rattle.tape_types.specs.declared.cartridges.Place.{Place}
 use Rattle.plain_tree.specs.declared.calls.Call.{Call}
 use Rattle.plain_tree.specs.declared.calls.Fate.TheVariants as fates
@@ -14,6 +13,7 @@ use Rattle.plain_tree.specs.declared.calls.Refusal.{Refusal}
 use Rattle.plain_tree.specs.declared.calls.Refusal.TheVariants.{Damaged}
 use Rattle.extent_map.specs.Laid.{Laid}
 use Rattle.extent_map.specs.Pieces.{planned}
+use Rattle.extent_map.specs.Replies.{distinct}
 use Rattle.extent_map.specs.declared.pieces.Piece.{Piece}
 use Rattle.extent_map.specs.declared.pieces.Piece.TheVariants.{Stored, Zeros}
 use Rattle.space_laws.specs.Standing.{Standing, standing, uid_at}
@@ -22,9 +22,11 @@ use Rattle.session_script.specs.declared.logs.Ack.{Ack}
 use Rattle.session_script.specs.declared.logs.Event.{Event}
 use Rattle.session_script.specs.declared.logs.Event.TheVariants as events
 use Rattle.session_script.specs.declared.logs.Reply.{Reply}
-use Rattle.event_laws.specs.Waiting.{Op, ops, same_place}
-use Rattle.event_laws.specs.Trail.{after_all, puts_at}
+use Rattle.event_laws.specs.Waiting.{Op, ops}
+use Rattle.event_laws.specs.Trail.{after_all}
+use Rattle.block_cache.specs.Kept.{Kept}
 use Rattle.serving_promise.specs.Acks.{synced_ticket}
+use Rattle.serving_promise.specs.Cached.{LeavesBlocks, ReadsBlocks}
 use Rattle.serving_promise.specs.Marks.{phase, idle, marks_of_submit, places_of}
 use Rattle.serving_promise.specs.Replies.{is_write, may_wait}
 use Rattle.serving_promise.specs.Served.{Drive, View, given}
@@ -138,42 +140,29 @@ stored_at (Zeros count) = None
 abbrev pub blocks_in : Laid → ℕ → ℕ → List Place
 blocks_in f offset count = filter_map stored_at (planned f offset (min count (f.length - offset)))
 
-abbrev pub wanted : Event → Option Place
-wanted (events.Wants ticket place) = Some place
-wanted _ = None
-
 -- the tree lets the read pass, or only finds a byte of it lost
 abbrev pub passes : Option Refusal → Bool
 passes None = true
 passes (Some Damaged) = true
 passes (Some _) = false
 
--- a block was read in this run without a fault
-abbrev pub was_read : Place → Event → Bool
-was_read place (events.Served ticket at None) = same_place at place
-was_read place _ = false
-
--- The head is asked for blocks of the range alone, and for each of them that no op holds and that wasn't read in this
--- run.
-pub record AsksForBlocks (blocks : List Place) (before : List Event) (added : List Event) : Type 0 where
-  pub of_range : (place : Place) → Contains (filter_map wanted added) place → Contains blocks place
-  pub others : (place : Place) → Contains blocks place → list_any (same_place place) (filter_map wanted added) ≡ false
-      → (list_any (puts_at place) (ops (after_all before)) ≡ true) ⊎ (list_any (was_read place) before ≡ true)
-
--- a read that passes asks for the blocks that it still needs, and any other call for none
-abbrev pub Asks : Standing → List Event → List Event → Option Call → Type 0
-Asks st before added (Some (Read path offset count)) =
+-- A read that passes asks for the blocks that it still needs, each once and in the order of its range, and uses those
+-- that are kept. Any other call asks for none.
+abbrev pub Asks : Standing → List Event → List Event → (old new : List Kept) → Option Call → Type 0
+Asks st before added old new (Some (Read path offset count)) =
     by (passes (refusal_of st.tree (Read path offset count)))
   where
     by : Bool → Type 0
-    by true = AsksForBlocks (blocks_in (st.files (uid_at st.tree.nodes path)) offset count) before added
-    by false = filter_map wanted added ≡ []
-Asks st before added _ = filter_map wanted added ≡ []
+    by true = ReadsBlocks (distinct (blocks_in (st.files (uid_at st.tree.nodes path)) offset count)) before added
+        old new
+    by false = LeavesBlocks added old new
+Asks st before added old new _ = LeavesBlocks added old new
 
--- a call that found no memory asks for nothing
-abbrev pub AsksUnlessVoid : Submitted → Standing → List Event → List Event → Option Call → Type 0
-AsksUnlessVoid (submitted.Ready replies.NoMemory) st before added call = filter_map wanted added ≡ []
-AsksUnlessVoid _ st before added call = Asks st before added call
+-- a call that found no memory asks for nothing, and leaves the blocks that are kept in their order
+abbrev pub AsksUnlessVoid : Submitted → Standing → List Event → List Event → (old new : List Kept) → Option Call
+    → Type 0
+AsksUnlessVoid (submitted.Ready replies.NoMemory) st before added old new call = LeavesBlocks added old new
+AsksUnlessVoid _ st before added old new call = Asks st before added old new call
 
 -- Drain comes for a write that is put off alone, and for each, but where there was no memory.
 pub record PutsOff (off : Bool) (answer : Submitted) : Type 0 where
@@ -191,6 +180,7 @@ pub record Submits {D : Type 0} (first now : Drive) (old new : View D) (who nth 
   pub adds : Adds now old new added
   pub of_it : AreOfSubmit who (length old.history) old.events (call_of old who nth) answer added
   pub asks : AsksUnlessVoid answer
-      (standing (given old first) old.on old.history (length old.history)) old.events added (call_of old who nth)
+      (standing (given old first) old.on old.history (length old.history)) old.events added old.cached new.cached
+      (call_of old who nth)
   pub marks : new.marks ≡ old.marks ++ marks_of_submit who (length old.history) answer
   pub drain : PutsOff (is_put_off old (call_of old who nth)) answer

@@ -52,6 +52,7 @@ view at drive history answered acks events marks on = record {
   kept = [];
   on = on;
   ops = [];
+  cached = [];
 }
 
 abbrev pub three_done : Moment → List Placed

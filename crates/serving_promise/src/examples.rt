@@ -258,7 +258,6 @@ pub fn plain_runs_are_served()
 {}
 
 /// A volume of which nothing was asked yet is served rightly.
-#[tactic(auto, using(crate::proofs::StartLaw::begins_served))]
 pub fn a_volume_begins_served()
     ensures { (fixed : Fixed ℕ) (next : Option Moment)
         → IsServed by_reference (drive_at 0 None) (drive_at 0 None) (begun fixed next) }

@@ -1,4 +1,5 @@
 use crate::marks::Mark;
+use block_cache::BlockCache;
 use cartridge_meaning::Mounted;
 use plain_tree::Placed;
 use session_script::{Ack, Event, ScriptLine};
@@ -17,6 +18,7 @@ pub struct Viewed<D> {
     acks: List<Ack>,
     events: List<Event>,
     marks: List<Mark>,
+    cached: BlockCache,
 }
 
 impl<D> Model for Viewed<D> {
@@ -50,5 +52,6 @@ impl<D> Model for Viewed<D> {
       kept = [];
       on = None;
       ops = [];
+      cached = a.cached;
     } };
 }
