@@ -1,5 +1,5 @@
 -- A volume stays tied as a call is placed that is done, and as its ops are admitted.
-use Rattle.std.proofs.Common.{◌≡◌, ℕ, ◌+◌, ◌<◌, ◌≤◌, Bool, List, [], ◌∷◌, ◌++◌, length, map, Option, Some, None, IfSome, sym, ap, ◌∙◌, subst, arith, length-append}
+use Rattle.std.proofs.Common.{All, ◌≡◌, ℕ, ◌+◌, ◌<◌, ◌≤◌, Bool, List, [], ◌∷◌, ◌++◌, length, map, Option, Some, None, IfSome, sym, ap, ◌∙◌, subst, arith, length-append}
 use Rattle.std.proofs.lemmas.List.{append_cancel_left}
 use Rattle.tape_types.specs.Cartridges.{capacity}
 use Rattle.tape_types.specs.declared.cartridges.Cartridge.{Cartridge}
@@ -32,7 +32,8 @@ use Rattle.plan_laws.proofs.Stays.{tapes_stay}
 use Rattle.plan_laws.proofs.Ways.{ways_go_on}
 use Rattle.state_laws.specs.Parts.{Parts}
 use Rattle.state_laws.specs.Placing.{MovesNothing, WantsNothing}
-use Rattle.state_laws.specs.Tied.{AreFilesRight, AreReading, IsTied}
+use Rattle.state_laws.specs.Tied.{AreFilesRight, AreReading, IsKeptRightly, IsTied}
+use Rattle.call_laws.proofs.Uses.{cached_more, cached_still}
 use Rattle.call_laws.proofs.Grouped.{IsAdmitted}
 use Rattle.call_laws.proofs.Reread.{reads_on}
 use Rattle.call_laws.proofs.Placed.{on_stays, reached_later}
@@ -68,6 +69,7 @@ pub record IsOne {D : Type 0} (drive : Ghosts D) (fixed : Fixed D) (planned : It
   pub sessions : new.listed.sessions ≡ old.listed.sessions
   pub moves : MovesNothing old new
   pub wants : WantsNothing old new
+  pub cached : new.cached ≡ old.cached
   pub done : IsDone (tape_on planned) (given_in drive fixed) (on_in drive fixed old) (standing_in drive fixed old) call placed.at
       old.stock new.stock
   pub ops : new.stock.layout.ops ≡ old.stock.layout.ops ++ asked
@@ -192,4 +194,7 @@ module _ {D : Type 0} (drive : Ghosts D) (fixed : Fixed D) (planned : Items) (ca
         (plans_hold.grows planned old.stock.layout.ops asked tied.plan follows);
     way = way;
     reads = reads;
+    cached = subst (λ (ops : List Op). All (IsKeptRightly (with_ops asked planned) ops held_first) new.cached) (sym one.ops)
+        (cached_still (with_ops asked planned) (old.stock.layout.ops ++ asked) held_first old.cached new.cached one.cached
+        (cached_more planned old.stock.layout.ops asked held_first old.cached follows tied.cached));
   }

@@ -21,7 +21,9 @@ use Rattle.space_laws.specs.Standing.{Given, Standing, ask_of, ask_unless, ask_u
 use Rattle.serving_promise.specs.Acks.{answers, synced_ticket}
 use Rattle.serving_promise.specs.Replies.{may_wait}
 use Rattle.serving_promise.specs.Served.{queued}
-use Rattle.serving_promise.specs.Submits.{Asks, IsOfDone, queues_at, wanted}
+use Rattle.serving_promise.specs.Cached.{wanted}
+use Rattle.serving_promise.specs.Submits.{Asks, IsOfDone, queues_at}
+use Rattle.block_cache.specs.Kept.{Kept}
 use Rattle.crash_laws.specs.Laws.{AsksNoIndex}
 use Rattle.crash_laws.specs.Safe.{items_by}
 use Rattle.plan_laws.specs.Planned.{Items, with_ops}
@@ -104,18 +106,18 @@ module _ (v : Rules) (on : Bool) (s : Space) where
   of_done here before g st Sync at asked e is = absurd (cc e)
 
 -- such a call asks for no block
-pub asks_none : (st : Standing) (before added : List Event) (call : Call) → may_wait call ≡ false → filter_map wanted added ≡ []
-    → Asks st before added (Some call)
-asks_none st before added (Mkdir path) e none = none
-asks_none st before added (Create path) e none = none
-asks_none st before added (Write path offset bytes) e none = none
-asks_none st before added (Truncate path size) e none = none
-asks_none st before added (Read path offset count) e none = absurd (cc e)
-asks_none st before added (Listing path) e none = none
-asks_none st before added (Stat path) e none = none
-asks_none st before added (Rename from to) e none = none
-asks_none st before added (Remove path) e none = none
-asks_none st before added Sync e none = none
+pub asks_none : (st : Standing) (before added : List Event) (cached next : List Kept) (call : Call) → may_wait call ≡ false → filter_map wanted added ≡ [] → next ≡ cached
+    → Asks st before added cached next (Some call)
+asks_none st before added cached next (Mkdir path) e none same = (none, same)
+asks_none st before added cached next (Create path) e none same = (none, same)
+asks_none st before added cached next (Write path offset bytes) e none same = (none, same)
+asks_none st before added cached next (Truncate path size) e none same = (none, same)
+asks_none st before added cached next (Read path offset count) e none same = absurd (cc e)
+asks_none st before added cached next (Listing path) e none same = (none, same)
+asks_none st before added cached next (Stat path) e none same = (none, same)
+asks_none st before added cached next (Rename from to) e none same = (none, same)
+asks_none st before added cached next (Remove path) e none same = (none, same)
+asks_none st before added cached next Sync e none same = (none, same)
 
 -- ---- what it is answered
 

@@ -121,6 +121,7 @@ module _ {D : Type 0} (drive : Ghosts D) (fixed : Fixed D) (plan : Plan drive fi
     sessions = c.places.sessions;
     moves = c.moves;
     wants = c.wants;
+    cached = c.cached;
     done = is_done;
     ops = c.ops;
     group = queued.admitted;
@@ -156,8 +157,8 @@ module _ {D : Type 0} (drive : Ghosts D) (fixed : Fixed D) (plan : Plan drive fi
       adds = record { events = c.events; acks = no_acks };
       of_it = subst (λ (o : Option Call). IsOfDone (length old.listed.history) old.trail.events o queues) (sym sub.is_call)
           (of_done (rules g) on st.space (length old.listed.history) old.trail.events g st call at c.asked c.no_wait asked_is);
-      asks = subst (λ (o : Option Call). Asks st old.trail.events queues o) (sym sub.is_call)
-          (asks_none st old.trail.events queues call c.no_wait (queues_want_none (map place_of c.asked)));
+      asks = subst (λ (o : Option Call). Asks st old.trail.events queues old.cached new.cached o) (sym sub.is_call)
+          (asks_none st old.trail.events queues old.cached new.cached call c.no_wait (queues_want_none (map place_of c.asked)) c.cached);
       marks = c.places.marks;
       drain = subst (λ (o : Option Call). model.PutsOff (is_put_off (view_of fixed before old) o) done) (sym sub.is_call) sub.put_off;
     };

@@ -54,7 +54,8 @@ use Rattle.plan_laws.proofs.Ways.{ways_go_on}
 use Rattle.group_laws.specs.Groups.{IsGrouped}
 use Rattle.state_laws.specs.Parts.{Parts, view_of}
 use Rattle.state_laws.specs.Stepping.{DoesOp, acks_at, all_synced, on_done, settles_dp, synced_events}
-use Rattle.state_laws.specs.Tied.{AreFilesRight, AreReading, IsTied}
+use Rattle.state_laws.specs.Tied.{AreFilesRight, AreReading, IsKeptRightly, IsTied}
+use Rattle.call_laws.proofs.Uses.{cached_done, keeps_none}
 use Rattle.call_laws.specs.StepLaws.{Stepped}
 use Rattle.call_laws.proofs.Answered.{all_count, rests, synced, synced_else, synced_here}
 use Rattle.call_laws.proofs.Counts.{step_counts, two_at_most}
@@ -139,6 +140,7 @@ module _ {D : Type 0} (drive : Ghosts D) (fixed : Fixed D) (plan : Plan drive fi
     };
     queue = old.queue;
     reads = old.reads;
+    cached = old.cached;
   }
 
   pub now_is : now ≡ new
@@ -155,6 +157,7 @@ module _ {D : Type 0} (drive : Ghosts D) (fixed : Fixed D) (plan : Plan drive fi
     };
     queue = (sym did.queue) i;
     reads = (sym did.reads) i;
+    cached = (sym did.cached) i;
   }
 
   abbrev before : View D
@@ -255,6 +258,7 @@ module _ {D : Type 0} (drive : Ghosts D) (fixed : Fixed D) (plan : Plan drive fi
     on_tape = All-cons (λ (e : Event). IsOnTape (seen drive new.drive) (first_of old.stock.layout.ops) e) (Worked (place_of op) None) (synced_events tickets) on_tape
         (of_synced (λ (e : Event). IsOnTape (seen drive new.drive) (first_of old.stock.layout.ops) e) tape_by tickets);
     on = on_is before op added (flushes (waiting_op st) op tickets waits);
+    cached = (old.cached, refl, keeps_none (drive.held old.drive) tickets old.cached);
   }
 
   order : TurnsInOrder (seen drive old.drive) (seen drive new.drive) before after_it added
@@ -364,6 +368,8 @@ module _ {D : Type 0} (drive : Ghosts D) (fixed : Fixed D) (plan : Plan drive fi
     reads = reads_done g (on_done op here old.on) old.on old.listed.history planned (drive.held fixed.first) st (after_all (old.trail.events ++ added))
         (λ k. same_standing op g old.on old.listed.history k) leaves.requests op later old.reads
         (subst (λ (l : List Op). AreReading g old.on old.listed.history planned (drive.held fixed.first) l st old.reads) did.first tied.reads);
+    cached = cached_done planned op later (drive.held fixed.first) old.cached
+        (subst (λ (l : List Op). All (IsKeptRightly planned l (drive.held fixed.first)) old.cached) did.first tied.cached);
   }
 
   pub does : Stepped drive fixed before (view_of fixed next_at new) added × IsTied drive fixed planned new

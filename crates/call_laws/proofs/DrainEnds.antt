@@ -132,7 +132,7 @@ module _ {D : Type 0} (drive : Ghosts D) (fixed : Fixed D) (planned : Items) (be
         acks = t.tape.acks ∙ went.came.adds.acks ∙ ap (λ (d : D). old.trail.acks ++ acks_for (drive.commands d) made) (sym t.tape.drive)
             ∙ ap (λ (l : List Event). old.trail.acks ++ acks_for (drive.commands new.drive) l) (sym (append-nil made));
       };
-      step = step_on drive v u w t.tape.drive t.tape.on (ap (λ (k : Stocked). k.layout.ops) t.tape.stock) drive.MOST made went.came.step;
+      step = step_on drive v u w t.tape.drive t.tape.on (ap (λ (k : Stocked). k.layout.ops) t.tape.stock) t.tape.cached drive.MOST made went.came.step;
       none = went.none;
       kept = t.kept ∙ ap (λ (l : List (ℕ × Twin)). without_session who l) went.came.kept;
       marks = t.places.marks ∙ ap (λ (ms : List Mark). ms ++ placed_and_handed who (length mid.listed.history) fault) went.came.marks
@@ -180,7 +180,7 @@ module _ {D : Type 0} (drive : Ghosts D) (fixed : Fixed D) (planned : Items) (be
 
     driven_fault : AreDriven drive v w made
     driven_fault = driven_on drive v u w t.tape.drive t.tape.on
-        (ap (λ (k : Stocked). k.layout.ops) t.tape.stock) made went.came.driven
+        (ap (λ (k : Stocked). k.layout.ops) t.tape.stock) t.tape.cached made went.came.driven
 
     pub fault_ends : Ends drive fixed planned before after who (the_drained.Fault counts) old new
     fault_ends = record {
@@ -228,7 +228,7 @@ module _ {D : Type 0} (drive : Ghosts D) (fixed : Fixed D) (planned : Items) (be
         acks = r.tape.acks ∙ went.came.adds.acks ∙ ap (λ (d : D). old.trail.acks ++ acks_for (drive.commands d) made) (sym r.tape.drive)
             ∙ ap (λ (l : List Ack). old.trail.acks ++ l) (sym (acks_rest (drive.commands new.drive) who made));
       };
-      step = step_on drive v u resting r.tape.drive r.tape.on ops_are drive.MOST made went.came.step;
+      step = step_on drive v u resting r.tape.drive r.tape.on ops_are r.tape.cached drive.MOST made went.came.step;
       none = went.none;
       kept = r.kept ∙ went.came.kept ∙ sym (without_none who (old.trail.kept ++ drain_faults v made) none_kept);
       marks = r.marks ∙ ap (λ (ms : List Mark). ms ++ mark who kinds.Rests ∷ []) went.came.marks;
@@ -276,7 +276,7 @@ module _ {D : Type 0} (drive : Ghosts D) (fixed : Fixed D) (planned : Items) (be
         }
 
     driven_rest : AreDriven drive v resting made
-    driven_rest = driven_on drive v u resting r.tape.drive r.tape.on ops_are made went.came.driven
+    driven_rest = driven_on drive v u resting r.tape.drive r.tape.on ops_are r.tape.cached made went.came.driven
 
     pub rest_ends : Ends drive fixed planned before after who the_drained.Room old new
     rest_ends = record {
@@ -308,7 +308,7 @@ module _ {D : Type 0} (drive : Ghosts D) (fixed : Fixed D) (planned : Items) (be
         events = went.came.adds.events ∙ ap (λ (l : List Event). old.trail.events ++ l) (sym (append-nil made));
         acks = went.came.adds.acks ∙ ap (λ (l : List Event). old.trail.acks ++ acks_for (drive.commands mid.drive) l) (sym (append-nil made));
       };
-      step = step_on drive v u going_on refl refl refl drive.MOST made went.came.step;
+      step = step_on drive v u going_on refl refl refl refl drive.MOST made went.came.step;
       none = went.none;
       kept = went.came.kept ∙ sym (without_none who (old.trail.kept ++ drain_faults v made) none_left);
       marks = went.came.marks ∙ sym (append-nil old.listed.marks);
@@ -335,7 +335,7 @@ module _ {D : Type 0} (drive : Ghosts D) (fixed : Fixed D) (planned : Items) (be
     more_truly can = let a = went.came.truth can in record { came = a.came; added = a.added; events = a.events; ops = a.ops }
 
     driven_more : AreDriven drive v going_on made
-    driven_more = driven_on drive v u going_on refl refl refl made went.came.driven
+    driven_more = driven_on drive v u going_on refl refl refl refl made went.came.driven
 
     pub more_ends : Ends drive fixed planned before after who the_drained.More old mid
     more_ends = record {

@@ -96,14 +96,14 @@ went_step drive fixed planned next who old new added order answers full on s tie
   answers = answers_stay old new answers on.answers s.replies.count s.replies.each s.marks;
 }
 
--- ---- what is said of a view goes on where its drive, its ops and where placement goes on stay
+-- ---- what is said of a view goes on where its drive, its ops, the blocks that are kept and where placement goes on stay
 
-module _ {D : Type 0} (drive : Ghosts D) (v u w : View D) (drive_is : w.drive ≡ u.drive) (on_is : w.on ≡ u.on) (ops_are : w.ops ≡ u.ops) where
+module _ {D : Type 0} (drive : Ghosts D) (v u w : View D) (drive_is : w.drive ≡ u.drive) (on_is : w.on ≡ u.on) (ops_are : w.ops ≡ u.ops) (cached_is : w.cached ≡ u.cached) where
   abbrev moved : View D
-  moved = record w { drive = u.drive; on = u.on; ops = u.ops }
+  moved = record w { drive = u.drive; on = u.on; ops = u.ops; cached = u.cached }
 
   moved_is : moved ≡ w
-  moved_is = λ i. record w { drive = (sym drive_is) i; on = (sym on_is) i; ops = (sym ops_are) i }
+  moved_is = λ i. record w { drive = (sym drive_is) i; on = (sym on_is) i; ops = (sym ops_are) i; cached = (sym cached_is) i }
 
   step_at : (most : ℕ) (made : List Event) → StepsOnce most (seen drive v.drive) (seen drive u.drive) v u made
       → StepsOnce most (seen drive v.drive) (seen drive u.drive) v moved made
@@ -120,6 +120,7 @@ module _ {D : Type 0} (drive : Ghosts D) (v u w : View D) (drive_is : w.drive �
     read_head = s.read_head;
     on_tape = s.on_tape;
     on = s.on;
+    cached = s.cached;
   }
 
   pub step_on : (most : ℕ) (made : List Event) → StepsOnce most (seen drive v.drive) (seen drive u.drive) v u made

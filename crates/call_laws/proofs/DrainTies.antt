@@ -20,6 +20,7 @@ use Rattle.plan_laws.specs.Planned.{Items, tape_on, with_ops}
 use Rattle.state_laws.specs.Parts.{Parts}
 use Rattle.state_laws.specs.Tied.{IsTied}
 use Rattle.call_laws.proofs.Placed.{after_void, given_in, on_after, on_in, reached_later, reads_later, reads_to, same_items, tied_still}
+use Rattle.call_laws.proofs.Uses.{cached_still}
 use Rattle.call_laws.specs.Draining.{RestsNow, TakesFault}
 
 module _ {D : Type 0} (drive : Ghosts D) (fixed : Fixed D) (planned : Items) where
@@ -50,6 +51,7 @@ module _ {D : Type 0} (drive : Ghosts D) (fixed : Fixed D) (planned : Items) whe
       reads = reads_to (given_in drive fixed old) old.on new.on old.listed.history new.listed.history planned (drive.held fixed.first) old.stock.layout.ops new.stock.layout.ops
           (state old.trail) (state new.trail) old.reads new.reads r.tape.on r.history (ap (λ (k : Stocked). k.layout.ops) r.tape.stock) r.tape.reads
           (ap (λ (st : State). st.requests) resting) tied.reads;
+      cached = cached_still planned old.stock.layout.ops (drive.held fixed.first) old.cached new.cached r.tape.cached tied.cached;
     }))
 
   module _ (who nth : ℕ) (at : Moment) (counts : Twin) (old new : Parts D) (tied : IsTied drive fixed planned old) (t : TakesFault who nth at counts old new) where
@@ -80,4 +82,5 @@ module _ {D : Type 0} (drive : Ghosts D) (fixed : Fixed D) (planned : Items) whe
           (state old.trail) (state new.trail) old.reads new.reads t.tape.on t.places.history (ap (λ (k : Stocked). k.layout.ops) t.tape.stock) t.tape.reads
           (ap (λ (st : State). st.requests) same_state)
           (reads_later (given_in drive fixed old) old.on old.listed.history placed planned (drive.held fixed.first) old.stock.layout.ops (state old.trail) old.reads tied.reads);
+      cached = cached_still planned old.stock.layout.ops (drive.held fixed.first) old.cached new.cached t.tape.cached tied.cached;
     }))

@@ -139,6 +139,7 @@ module _ {D : Type 0} (drive : Ghosts D) (fixed : Fixed D) (plan : Plan drive fi
     listed = record new.listed { history = old.listed.history; replies = told; marks = old.listed.marks; calls = old.listed.calls; sessions = old.listed.sessions };
     queue = old.queue;
     reads = old.reads;
+    cached = old.cached;
   }
 
   now_is : now ≡ new
@@ -155,6 +156,7 @@ module _ {D : Type 0} (drive : Ghosts D) (fixed : Fixed D) (plan : Plan drive fi
     };
     queue = (sym did.queue) i;
     reads = (sym did.reads) i;
+    cached = (sym did.cached) i;
   }
 
   abbrev before : View D
@@ -282,6 +284,7 @@ module _ {D : Type 0} (drive : Ghosts D) (fixed : Fixed D) (plan : Plan drive fi
     read_head = one_of (λ (x : Event). HeadIsRead (seen drive old.drive) x (drive.head new.drive)) e tt;
     on_tape = one_of (λ (x : Event). IsOnTape (seen drive new.drive) (first_of old.stock.layout.ops) x) e (tape_by drive new.drive (first_of old.stock.layout.ops) place counts);
     on = on_stays before (e ∷ []) (no_flush (waiting_op st) place counts);
+    cached = (old.cached, refl, refl);
   }
 
   stepped : Stepped drive fixed before after_it (e ∷ [])
@@ -336,6 +339,7 @@ module _ {D : Type 0} (drive : Ghosts D) (fixed : Fixed D) (plan : Plan drive fi
     way = way;
     reads = reads_stay g old.on old.on old.listed.history planned (drive.held fixed.first) st (after_all (old.trail.events ++ e ∷ [])) (λ k. refl)
         (ap (λ (s : State). s.requests) state_is ∙ leaves.requests) old.stock.layout.ops old.reads tied.reads;
+    cached = tied.cached;
   }
 
   pub fails : Stepped drive fixed before (view_of fixed next_at new) (e ∷ []) × IsTied drive fixed planned new

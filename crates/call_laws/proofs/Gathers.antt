@@ -44,7 +44,9 @@ use Rattle.plan_laws.specs.Planned.{Items, LieBelow, ends_in, tape_on}
 use Rattle.plan_laws.proofs.Tells.{tapes_tell}
 use Rattle.state_laws.specs.Parts.{Parts, view_of}
 use Rattle.state_laws.specs.Stepping.{IsReadOn, ReadsBlock, replied}
-use Rattle.state_laws.specs.Tied.{AreReading, IsReading, IsTied, is_of, was_met}
+use Rattle.state_laws.specs.Tied.{AreReading, IsKeptRightly, IsReading, IsTied, is_of, was_met}
+use Rattle.serving_promise.specs.Cached.{KeepsBlock}
+use Rattle.call_laws.proofs.Uses.{keeps_it, kept_right}
 use Rattle.call_laws.specs.StepLaws.{Stepped}
 use Rattle.call_laws.proofs.Answered.{Brings, none_brought, one_brought, one_came, one_kept, told_count}
 use Rattle.call_laws.proofs.Blocks.{all_met, left_for, met_now, owned_alike}
@@ -166,6 +168,13 @@ module _ {D : Type 0} (drive : Ghosts D) (fixed : Fixed D) (plan : Plan drive fi
   old_reads : AreReading g old.on old.listed.history planned (drive.held fixed.first) old.stock.layout.ops st (did.read.front ++ one ∷ did.read.behind)
   old_reads = subst (λ (l : List Gathering). AreReading g old.on old.listed.history planned (drive.held fixed.first) old.stock.layout.ops st l) did.read.stands.parts tied.reads
 
+  keeps_block : KeepsBlock (drive.held old.drive) e old.cached new.cached
+  keeps_block = keeps_it (drive.held old.drive) ticket place got block old.cached new.cached did.found did.cached
+
+  cached : All (IsKeptRightly planned old.stock.layout.ops (drive.held fixed.first)) new.cached
+  cached = kept_right planned old.stock.layout.ops (drive.held old.drive) (drive.held fixed.first) place got block old.cached new.cached
+      (stands drive fixed plan planned next_at old kept tied ticket place did.request) tied.way did.found tied.told did.cached tied.cached
+
   -- another one is
   module _ (more : list_any (is_of ticket) left.requests ≡ true) (on : IsReadOn true ticket did.read.front did.read.behind did.next new.reads old.listed.replies new.listed.replies) where
     waits_on : (k : ℕ) → is_waiting st k ≡ true → is_waiting left k ≡ true
@@ -202,6 +211,8 @@ module _ {D : Type 0} (drive : Ghosts D) (fixed : Fixed D) (plan : Plan drive fi
       reads = subst (λ (l : List Gathering). AreReading g old.on old.listed.history planned (drive.held fixed.first) old.stock.layout.ops left l) (sym on.0)
           (reads_with g old.on old.listed.history planned (drive.held fixed.first) old.stock.layout.ops st left ticket (λ r. not (asks ticket place r)) passes refl
           did.read.front one did.read.behind did.read.stands.ticket_is did.read.stands.others old_reads did.next did.filled.ticket next_reads);
+      keeps_block = keeps_block;
+      cached = cached;
     }
 
   -- it was the last
@@ -256,6 +267,8 @@ module _ {D : Type 0} (drive : Ghosts D) (fixed : Fixed D) (plan : Plan drive fi
       reads = subst (λ (l : List Gathering). AreReading g old.on old.listed.history planned (drive.held fixed.first) old.stock.layout.ops left l) (sym on.0)
           (reads_without g old.on old.listed.history planned (drive.held fixed.first) old.stock.layout.ops st left ticket (λ r. not (asks ticket place r)) passes refl
           did.read.front one did.read.behind did.read.stands.ticket_is did.read.stands.others old_reads gone);
+      keeps_block = keeps_block;
+      cached = cached;
     }
 
   by_more : (b : Bool) → list_any (λ (w : Waiting). w.owner == ticket) new.queue.waiting ≡ b

@@ -9,6 +9,7 @@ pub mod Rightly
 pub mod Still
 pub mod Voided
 pub mod HeldReads
+pub mod Uses
 pub mod Told
 pub mod PutOff
 pub mod ReadBlocks

@@ -40,6 +40,7 @@ use Rattle.call_laws.proofs.CanLaw.{asked_are, unanswered}
 use Rattle.call_laws.proofs.Serves.{Shows, others_wait, serves}
 use Rattle.call_laws.proofs.Splits.{any_mid}
 use Rattle.call_laws.proofs.Taken.{reads_without}
+use Rattle.call_laws.proofs.Uses.{cached_still}
 
 -- ---- small facts
 
@@ -157,6 +158,8 @@ module _ {D : Type 0} (drive : Ghosts D) (fixed : Fixed D) (plan : Plan drive fi
         (subst (λ (l : List Gathering). AreReading (given (view_of fixed next_at old) (seen drive fixed.first)) old.on old.listed.history planned (drive.held fixed.first)
         old.stock.layout.ops st l) did.read.stands.parts tied.reads)
         (all_gone (is_of ticket) st.requests));
+    keeps_block = did.cached;
+    cached = cached_still planned old.stock.layout.ops (drive.held fixed.first) old.cached new.cached did.cached tied.cached;
   }
 
   pub misses : Stepped drive fixed (view_of fixed next_at old) (view_of fixed next_at new) (e ∷ []) × IsTied drive fixed planned new

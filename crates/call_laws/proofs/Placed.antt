@@ -33,7 +33,7 @@ use Rattle.plan_laws.specs.Planned.{IsOnWay, IsPlan, Items, ends_in, tape_on, wi
 use Rattle.group_laws.specs.Groups.{IsGrouped, has_part}
 use Rattle.waiting_reads.specs.Gathering.{Gathering, IsGathering}
 use Rattle.state_laws.specs.Parts.{Parts, view_of}
-use Rattle.state_laws.specs.Tied.{AreFilesRight, AreReading, IsAsked, IsReading, IsTied, is_of}
+use Rattle.state_laws.specs.Tied.{AreFilesRight, AreReading, IsAsked, IsKeptRightly, IsReading, IsTied, is_of}
 
 -- ---- reads that wait
 
@@ -171,6 +171,7 @@ module _ {D : Type 0} (drive : Ghosts D) (fixed : Fixed D) where
     pub none_due : due_ticket (state new.trail) ≡ None
     pub group : (state new.trail).group ≡ (state old.trail).group
     pub reads : AreReading (given_in old) new.on new.listed.history planned (drive.held fixed.first) new.stock.layout.ops (state new.trail) new.reads
+    pub cached : All (IsKeptRightly planned old.stock.layout.ops (drive.held fixed.first)) new.cached
 
   pub tied_still : (planned : Items) (old new : Parts D) → IsTied drive fixed planned old → LeavesTape planned old new → IsTied drive fixed (with_ops [] planned) new
   tied_still planned old new tied h = subst (λ (ps : Items). IsTied drive fixed ps new) (sym (same_items planned)) (record {
@@ -193,6 +194,7 @@ module _ {D : Type 0} (drive : Ghosts D) (fixed : Fixed D) where
     plan = subst (λ (l : List Op). IsPlan planned l) (sym h.ops) tied.plan;
     way = λ c held. subst (λ (l : List Op). IsOnWay planned l c) (sym h.ops) (tied.way c (ap drive.held (sym h.drive_is) ∙ held));
     reads = h.reads;
+    cached = subst (λ (l : List Op). All (IsKeptRightly planned l (drive.held fixed.first)) new.cached) (sym h.ops) h.cached;
   })
     where
       stock : IsStock (tape_on planned) (given_in old) (on_in new) (stands_in new) new.stock

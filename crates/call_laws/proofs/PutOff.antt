@@ -16,7 +16,8 @@ use Rattle.space_laws.specs.Standing.{Standing, is_on, standing}
 use Rattle.serving_promise.specs.Replies.{is_write}
 use Rattle.serving_promise.specs.Served.{Fixed, headed}
 use Rattle.serving_promise.specs.Submits as model
-use Rattle.serving_promise.specs.Submits.{Asks, AsksUnlessVoid, call_of, is_put_off, standing_ops, wanted}
+use Rattle.serving_promise.specs.Submits.{Asks, AsksUnlessVoid, call_of, is_put_off, standing_ops}
+use Rattle.block_cache.specs.Kept.{Kept}
 use Rattle.serving_promise.specs.declared.answers.Submitted.TheVariants as submitted
 use Rattle.promise_laws.specs.Kept.{Plan, SubmitsRightly}
 use Rattle.held_volume.specs.Stocks.{IsStock, Stocked}
@@ -28,20 +29,21 @@ use Rattle.state_laws.specs.Placing.{PutsOff}
 use Rattle.state_laws.specs.Tied.{IsTied}
 use Rattle.call_laws.specs.SubmitLaws.{IsSubmission, Shown}
 use Rattle.call_laws.proofs.Placed.{given_in, on_in, reads_to, stands_in, tied_still}
+use Rattle.call_laws.proofs.Uses.{cached_still}
 use Rattle.call_laws.proofs.Rightly.{adds_none, follows_by, longer_than}
 
 -- only a write is put off, which asks for no block
-wants_none : (st : Standing) (past : List Event) (who n : ℕ) (call : Call) → (is_write call && nat_lt 64 n) ≡ true → Asks st past (Drains who ∷ []) (Some call)
-wants_none st past who n (calls.Write path offset bytes) off = refl
-wants_none st past who n (calls.Read path offset count) off = absurd cc
-wants_none st past who n (calls.Mkdir path) off = absurd cc
-wants_none st past who n (calls.Create path) off = absurd cc
-wants_none st past who n (calls.Truncate path size) off = absurd cc
-wants_none st past who n (calls.Listing path) off = absurd cc
-wants_none st past who n (calls.Stat path) off = absurd cc
-wants_none st past who n (calls.Rename from to) off = absurd cc
-wants_none st past who n (calls.Remove path) off = absurd cc
-wants_none st past who n calls.Sync off = absurd cc
+wants_none : (st : Standing) (past : List Event) (cached next : List Kept) (who n : ℕ) (call : Call) → next ≡ cached → (is_write call && nat_lt 64 n) ≡ true → Asks st past (Drains who ∷ []) cached next (Some call)
+wants_none st past cached next who n (calls.Write path offset bytes) same off = (refl, same)
+wants_none st past cached next who n (calls.Read path offset count) same off = absurd cc
+wants_none st past cached next who n (calls.Mkdir path) same off = absurd cc
+wants_none st past cached next who n (calls.Create path) same off = absurd cc
+wants_none st past cached next who n (calls.Truncate path size) same off = absurd cc
+wants_none st past cached next who n (calls.Listing path) same off = absurd cc
+wants_none st past cached next who n (calls.Stat path) same off = absurd cc
+wants_none st past cached next who n (calls.Rename from to) same off = absurd cc
+wants_none st past cached next who n (calls.Remove path) same off = absurd cc
+wants_none st past cached next who n calls.Sync same off = absurd cc
 
 module _ {D : Type 0} (drive : Ghosts D) (fixed : Fixed D) (plan : Plan drive fixed) (planned : Items) (before after : Option Moment) (who nth : ℕ) (call : Call) (at : Moment) (old new : Parts D)
     (s : IsSubmission drive fixed plan planned before after who nth call at submitted.Drain old new) (v : PutsOff who old new) where
@@ -92,6 +94,7 @@ module _ {D : Type 0} (drive : Ghosts D) (fixed : Fixed D) (plan : Plan drive fi
     group = ap (λ (st : State). st.group) state_is;
     reads = reads_to (given_in drive fixed old) old.on new.on old.listed.history new.listed.history planned (drive.held fixed.first) old.stock.layout.ops new.stock.layout.ops
         (state old.trail) (state new.trail) old.reads new.reads v.moves.on v.history ops_are v.wants.reads (ap (λ (st : State). st.requests) state_is) s.tied.reads;
+    cached = cached_still planned old.stock.layout.ops (drive.held fixed.first) old.cached new.cached v.cached s.tied.cached;
   })
 
   pub shown : Shown drive fixed plan planned before after who nth submitted.Drain [] old new
@@ -105,8 +108,8 @@ module _ {D : Type 0} (drive : Ghosts D) (fixed : Fixed D) (plan : Plan drive fi
       added = Drains who ∷ [];
       adds = record { events = v.events; acks = v.acks ∙ sym (append-nil old.trail.acks) };
       of_it = refl;
-      asks = subst (λ (c : Option Call). AsksUnlessVoid submitted.Drain (stands_in drive fixed old) old.trail.events (Drains who ∷ []) c) (sym s.is_call)
-          (wants_none (stands_in drive fixed old) old.trail.events who (standing_ops (view_of fixed before old)) call (s.put_off.only refl));
+      asks = subst (λ (c : Option Call). AsksUnlessVoid submitted.Drain (stands_in drive fixed old) old.trail.events (Drains who ∷ []) old.cached new.cached c) (sym s.is_call)
+          (wants_none (stands_in drive fixed old) old.trail.events old.cached new.cached who (standing_ops (view_of fixed before old)) call v.cached (s.put_off.only refl));
       marks = v.marks;
       drain = subst (λ (c : Option Call). model.PutsOff (is_put_off (view_of fixed before old) c) submitted.Drain) (sym s.is_call) s.put_off;
     };

@@ -41,7 +41,8 @@ use Rattle.plan_laws.specs.Planned.{Items}
 use Rattle.group_laws.specs.Groups.{IsGrouped}
 use Rattle.state_laws.specs.Parts.{Parts, view_of}
 use Rattle.state_laws.specs.Stepping.{ReadsOnly}
-use Rattle.state_laws.specs.Tied.{AreReading, IsTied}
+use Rattle.state_laws.specs.Tied.{AreReading, IsKeptRightly, IsTied}
+use Rattle.serving_promise.specs.Cached.{KeepsBlock}
 use Rattle.call_laws.specs.StepLaws.{Stepped}
 use Rattle.call_laws.proofs.Counts.{step_counts}
 
@@ -128,6 +129,8 @@ module _ {D : Type 0} (drive : Ghosts D) (fixed : Fixed D) (plan : Plan drive fi
     pub rises : All (λ (t : Twin). IsRise (drive.faults old.drive) (drive.faults new.drive) t.before t.after) (filter_map fault_of (e ∷ []))
     pub queue : map request new.queue.waiting ≡ (after st e).requests
     pub reads : AreReading g old.on old.listed.history planned (drive.held fixed.first) old.stock.layout.ops (after st e) new.reads
+    pub keeps_block : KeepsBlock (drive.held old.drive) e old.cached new.cached
+    pub cached : All (IsKeptRightly planned old.stock.layout.ops (drive.held fixed.first)) new.cached
 
   module _ (shows : Shows) where
     abbrev now : Parts D
@@ -179,6 +182,7 @@ module _ {D : Type 0} (drive : Ghosts D) (fixed : Fixed D) (plan : Plan drive fi
       on_tape = All-cons (λ (x : Event). IsOnTape (seen drive new.drive) (first_of old.stock.layout.ops) x) e []
           (tape_by drive new.drive (first_of old.stock.layout.ops) ticket place fault) (λ k d less. absurd (omega (arith, less)));
       on = on_stays before (e ∷ []) (no_flush (waiting_op st) ticket place fault);
+      cached = (new.cached, shows.keeps_block, refl);
     }
 
     stepped : Stepped drive fixed before after_it (e ∷ [])
@@ -219,6 +223,7 @@ module _ {D : Type 0} (drive : Ghosts D) (fixed : Fixed D) (plan : Plan drive fi
       plan = tied.plan;
       way = λ c held. tied.way c (sym step.looks.held ∙ held);
       reads = subst (λ (s : State). AreReading g old.on old.listed.history planned (drive.held fixed.first) old.stock.layout.ops s new.reads) (sym state_is) shows.reads;
+      cached = shows.cached;
     }
 
     pub serves : Stepped drive fixed before (view_of fixed next_at new) (e ∷ []) × IsTied drive fixed planned new

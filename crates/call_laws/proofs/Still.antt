@@ -1,6 +1,6 @@
 -- A placement with its reply that leaves the stock's ops, the events and all that waits.
 use Rattle.std.proofs.Common.{◌≡◌, ℕ, ◌≤◌, false, List, [], ◌∷◌, ◌++◌, length, map, Option, Some, None, append-nil, length-append, refl, sym, ap, subst, ◌∙◌, arith}
-use Rattle.std.specs.Prelude.{IfSome}
+use Rattle.std.specs.Prelude.{All, IfSome}
 use Rattle.tape_types.specs.declared.moments.Moment.{Moment}
 use Rattle.tape_drive.specs.declared.drive.Drive.{Ghosts}
 use Rattle.plain_tree.specs.declared.calls.Call.{Call}
@@ -24,13 +24,13 @@ use Rattle.order_laws.specs.Kept.{seen}
 use Rattle.reply_laws.specs.Sides.{IsReadyHere, PlacesTruly, ops_here}
 use Rattle.reply_laws.proofs.Places.{admits}
 use Rattle.crash_laws.specs.Laws.{CanServe}
-use Rattle.promise_laws.specs.Kept.{Plan, SubmitsRightly, SyncsAreDue}
+use Rattle.promise_laws.specs.Kept.{CanRead, Plan, SubmitsRightly, SyncsAreDue}
 use Rattle.held_volume.specs.Stocks.{IsStock}
 use Rattle.event_journal.specs.Trails.{due_ticket, state}
 use Rattle.plan_laws.specs.Planned.{Items, tape_on, with_ops}
 use Rattle.state_laws.specs.Parts.{Parts, view_of}
 use Rattle.state_laws.specs.Placing.{AsksNothing, PlacesCall}
-use Rattle.state_laws.specs.Tied.{IsTied}
+use Rattle.state_laws.specs.Tied.{IsKeptRightly, IsTied}
 use Rattle.call_laws.specs.SubmitLaws.{IsSubmission, Shown}
 use Rattle.call_laws.proofs.Placed.{given_in, on_after, on_in, reached_later, reads_later, reads_to, stands_in, tied_still}
 use Rattle.call_laws.proofs.Rightly.{adds_by, follows_by, rests_here}
@@ -93,7 +93,7 @@ module _ {D : Type 0} (drive : Ghosts D) (fixed : Fixed D) (plan : Plan drive fi
       (reached_later old.on here s.tied.on_is))
 
   rightly_shown : told (Some reply) ≡ None → is_synced (Some reply) ≡ false
-      → IsReadyHere (given_in drive fixed old) (on_in drive fixed old) (stands_in drive fixed old) call at reply → admitted_here (Some call) ≡ []
+      → (CanRead drive fixed → IsReadyHere (given_in drive fixed old) (on_in drive fixed old) (stands_in drive fixed old) call at reply) → admitted_here (Some call) ≡ []
       → ((can : CanServe drive fixed) → SyncsAreDue (drive.limits fixed.first) (plan can) v w)
       → SubmitsRightly drive fixed plan v w who nth [] (submitted.Ready reply)
   rightly_shown no_fault no_sync ready none due = record {
@@ -102,7 +102,7 @@ module _ {D : Type 0} (drive : Ghosts D) (fixed : Fixed D) (plan : Plan drive fi
       follows = follows_by drive fixed before after old new [] asks.moves.trail events_are standing;
       answered = (rests, no_fault, no_sync);
     };
-    truth = λ can. subst (λ (f : Fate). PlacesTruly (seen drive fixed.first) v w who nth f (Some reply)) (sym fate_is) (truly ready none);
+    truth = λ can. subst (λ (f : Fate). PlacesTruly (seen drive fixed.first) v w who nth f (Some reply)) (sym fate_is) (truly (ready can) none);
     ops = λ can. adds_by drive fixed before after old new placed [] places.history (ops_are ∙ sym (append-nil old.stock.layout.ops)) (admits_none none);
     size = λ can. omega (arith, s.tied.mount.blocks.0);
     due = due;
@@ -111,8 +111,9 @@ module _ {D : Type 0} (drive : Ghosts D) (fixed : Fixed D) (plan : Plan drive fi
   tied_after : stands_in drive fixed new ≡ stands_in drive fixed old
       → ((st : Standing) → IsStock (tape_on planned) (given_in drive fixed old) (on_in drive fixed old) st old.stock
       → IsStock (tape_on planned) (given_in drive fixed old) (on_in drive fixed old) st new.stock)
+      → All (IsKeptRightly planned old.stock.layout.ops (drive.held fixed.first)) new.cached
       → IsTied drive fixed (with_ops [] planned) new
-  tied_after stands stock = tied_still drive fixed planned old new s.tied (record {
+  tied_after stands stock cached = tied_still drive fixed planned old new s.tied (record {
     drive_is = asks.moves.drive;
     ops = ops_are;
     calls = places.calls;
@@ -128,18 +129,20 @@ module _ {D : Type 0} (drive : Ghosts D) (fixed : Fixed D) (plan : Plan drive fi
     reads = reads_to (given_in drive fixed old) old.on new.on (old.listed.history ++ placed ∷ []) new.listed.history planned (drive.held fixed.first) old.stock.layout.ops new.stock.layout.ops
         (state old.trail) (state new.trail) old.reads new.reads asks.moves.on places.history ops_are asks.wants.reads (ap (λ (st : State). st.requests) state_is)
         (reads_later (given_in drive fixed old) old.on old.listed.history placed planned (drive.held fixed.first) old.stock.layout.ops (state old.trail) old.reads s.tied.reads);
+    cached = cached;
   })
 
   pub still_shown : IsOfFate fate here old.trail.events (Some call) []
-      → AsksUnlessVoid (submitted.Ready reply) (stands_in drive fixed old) old.trail.events [] (Some call)
+      → AsksUnlessVoid (submitted.Ready reply) (stands_in drive fixed old) old.trail.events [] old.cached new.cached (Some call)
       → told (Some reply) ≡ None → is_synced (Some reply) ≡ false
-      → IsReadyHere (given_in drive fixed old) (on_in drive fixed old) (stands_in drive fixed old) call at reply → admitted_here (Some call) ≡ []
+      → (CanRead drive fixed → IsReadyHere (given_in drive fixed old) (on_in drive fixed old) (stands_in drive fixed old) call at reply) → admitted_here (Some call) ≡ []
       → ((can : CanServe drive fixed) → SyncsAreDue (drive.limits fixed.first) (plan can) v w)
       → stands_in drive fixed new ≡ stands_in drive fixed old
       → ((st : Standing) → IsStock (tape_on planned) (given_in drive fixed old) (on_in drive fixed old) st old.stock
       → IsStock (tape_on planned) (given_in drive fixed old) (on_in drive fixed old) st new.stock)
+      → All (IsKeptRightly planned old.stock.layout.ops (drive.held fixed.first)) new.cached
       → Shown drive fixed plan planned before after who nth (submitted.Ready reply) [] old new
-  still_shown of_it wants no_fault no_sync ready none due stands stock = record {
+  still_shown of_it wants no_fault no_sync ready none due stands stock cached = record {
     submits = record {
       fixed = refl;
       drive = asks.moves.drive;
@@ -158,10 +161,10 @@ module _ {D : Type 0} (drive : Ghosts D) (fixed : Fixed D) (plan : Plan drive fi
       adds = record { events = events_are; acks = asks.acks ∙ sym (append-nil old.trail.acks) };
       of_it = subst (λ (f : Fate). IsOfFate f here old.trail.events (call_of v who nth) []) (sym fate_is)
           (subst (λ (c : Option Call). IsOfFate fate here old.trail.events c []) (sym s.is_call) of_it);
-      asks = subst (λ (c : Option Call). AsksUnlessVoid (submitted.Ready reply) (stands_in drive fixed old) old.trail.events [] c) (sym s.is_call) wants;
+      asks = subst (λ (c : Option Call). AsksUnlessVoid (submitted.Ready reply) (stands_in drive fixed old) old.trail.events [] old.cached new.cached c) (sym s.is_call) wants;
       marks = places.marks;
       drain = subst (λ (c : Option Call). model.PutsOff (is_put_off v c) (submitted.Ready reply)) (sym s.is_call) s.put_off;
     };
     rightly = rightly_shown no_fault no_sync ready none due;
-    tied = tied_after stands stock;
+    tied = tied_after stands stock cached;
   }

@@ -31,7 +31,8 @@ use Rattle.serving_promise.specs.Acks.{answers, synced_ticket}
 use Rattle.serving_promise.specs.Marks.{marks_of_submit}
 use Rattle.serving_promise.specs.Served.{Fixed, headed, queued}
 use Rattle.serving_promise.specs.Submits as model
-use Rattle.serving_promise.specs.Submits.{Asks, IsOfDone, acks_for, is_put_off, may_wait_at, queues_at, synced_at, wanted}
+use Rattle.serving_promise.specs.Submits.{Asks, IsOfDone, acks_for, is_put_off, may_wait_at, queues_at, synced_at}
+use Rattle.serving_promise.specs.Cached.{wanted}
 use Rattle.serving_promise.specs.declared.answers.Submitted.{Submitted}
 use Rattle.serving_promise.specs.declared.answers.Submitted.TheVariants as submitted
 use Rattle.order_laws.specs.Kept.{seen}
@@ -188,6 +189,7 @@ module _ {D : Type 0} (drive : Ghosts D) (fixed : Fixed D) (plan : Plan drive fi
     sessions = s.places.sessions;
     moves = s.moves;
     wants = s.wants;
+    cached = s.cached;
     done = is_done;
     ops = s.ops;
     group = group;
@@ -211,8 +213,8 @@ module _ {D : Type 0} (drive : Ghosts D) (fixed : Fixed D) (plan : Plan drive fi
   of_done : IsOfDone here old.trail.events (model.call_of (view_of fixed before old) who nth) added
   of_done = subst (λ (o : Option Call). IsOfDone here old.trail.events o added) (sym sub.is_call) (map place_of s.asked, refl)
 
-  asks : Asks st old.trail.events added (model.call_of (view_of fixed before old) who nth)
-  asks = subst (λ (o : Option Call). Asks st old.trail.events added o) (sym sub.is_call) none
+  asks : Asks st old.trail.events added old.cached new.cached (model.call_of (view_of fixed before old) who nth)
+  asks = subst (λ (o : Option Call). Asks st old.trail.events added old.cached new.cached o) (sym sub.is_call) (none, s.cached)
     where
       none : filter_map wanted added ≡ []
       none = filter_map-append wanted queues (events.Syncs here ∷ synced_at here standing)
@@ -238,7 +240,7 @@ module _ {D : Type 0} (drive : Ghosts D) (fixed : Fixed D) (plan : Plan drive fi
     -- of each answer it is shown what differs
     shown_by : model.Placing (view_of fixed before old) (view_of fixed next new) who nth answer
         → model.AreOfSubmit who here old.trail.events (model.call_of (view_of fixed before old) who nth) answer added
-        → model.AsksUnlessVoid answer st old.trail.events added (model.call_of (view_of fixed before old) who nth)
+        → model.AsksUnlessVoid answer st old.trail.events added old.cached new.cached (model.call_of (view_of fixed before old) who nth)
         → new.listed.marks ≡ old.listed.marks ++ marks_of_submit who here answer
         → IsAnswered (state new.trail) added here answer
         → SubmitsWithin (seen drive fixed.first) (view_of fixed before old) (view_of fixed next new) who nth answer

@@ -1,7 +1,6 @@
 -- A call that is answered at once and leaves all as it was.
-use Rattle.std.proofs.Common.{◌≡◌, ℕ, Bool, true, false, List, [], length, map, Option, Some, refl, sym, ap, subst, ◌∙◌, inl}
-use Rattle.std.specs.Prelude.{filter_map}
-use Rattle.std.specs.List.{list_any}
+use Rattle.std.proofs.Common.{◌≡◌, ◌≢◌, ℕ, Bool, true, false, List, [], length, map, Option, Some, None, refl, sym, ap, subst, ◌∙◌}
+use Rattle.std.specs.Prelude.{All, IfSome, slice_index_or}
 use Rattle.tape_types.specs.declared.moments.Moment.{Moment}
 use Rattle.tape_drive.specs.declared.drive.Drive.{Ghosts}
 use Rattle.plain_tree.specs.Calls.{answer}
@@ -17,23 +16,32 @@ use Rattle.plain_tree.specs.History.{call_at}
 use Rattle.session_script.specs.declared.logs.Event.{Event}
 use Rattle.session_script.specs.declared.logs.Reply.TheVariants as replies
 use Rattle.extent_map.specs.Cells.{Tape}
-use Rattle.event_laws.specs.Trail.{after_all, puts_at}
+use Rattle.event_laws.specs.Trail.{after_all}
 use Rattle.event_laws.specs.Waiting.{ops}
 use Rattle.space_laws.specs.Space.{Ask, is_over, ops_of}
-use Rattle.space_laws.specs.Standing.{Given, Standing, rules, uid_at}
+use Rattle.space_laws.specs.Standing.{Standing, rules, uid_at}
 use Rattle.serving_promise.specs.Acks.{is_synced}
 use Rattle.serving_promise.specs.Served.{Fixed, headed}
-use Rattle.serving_promise.specs.Submits.{Asks, AsksForBlocks, IsOfDone, blocks_in, passes, wanted}
+use Rattle.serving_promise.specs.Submits.{Asks, IsOfDone, blocks_in, passes}
+use Rattle.serving_promise.proofs.CacheLaws.{asks_passing, asks_refused, used_all_all}
+use Rattle.block_cache.specs.Kept.{Kept, used_all}
 use Rattle.serving_promise.specs.declared.answers.Submitted.TheVariants as submitted
-use Rattle.reply_laws.proofs.Lists.{in_none, next_same}
+use Rattle.reply_laws.proofs.Lists.{next_same}
 use Rattle.promise_laws.specs.Kept.{Plan}
 use Rattle.held_volume.specs.Stocks.{IsStock, Stocked}
 use Rattle.plan_laws.specs.Planned.{Items, tape_on}
 use Rattle.state_laws.specs.Parts.{Parts}
-use Rattle.state_laws.specs.Placing.{Answers, AreHeld}
+use Rattle.state_laws.specs.Placing.{Answers, IsPlannedBlock, MayUse, UsesKept, found_of}
+use Rattle.extent_map.specs.Replies.{distinct}
+use Rattle.state_laws.specs.Tied.{IsKeptRightly, IsTied}
+use Rattle.tape_types.specs.declared.cartridges.Cartridge.{Cartridge}
+use Rattle.plain_tree.specs.declared.calls.Refusal.{Refusal}
+use Rattle.file_tree.specs.Tree.{FileTree, plain_of, whole}
+use Rattle.file_tree.specs.Valid.{IsGood}
 use Rattle.call_laws.specs.SubmitLaws.{IsSubmission, Shown}
 use Rattle.call_laws.proofs.Placed.{after_nothing, given_in, on_in, stands_in}
-use Rattle.call_laws.proofs.HeldReads.{held_put, passes_free}
+use Rattle.call_laws.proofs.HeldReads.{free_passes, passes_free}
+use Rattle.call_laws.proofs.Uses.{asked_is, cached_still, found_is}
 use Rattle.call_laws.proofs.Still.{still_shown}
 
 -- ---- it is no sync
@@ -49,63 +57,97 @@ unsynced (answers.Names entries) isnt = refl
 unsynced (answers.Facts facts) isnt = refl
 unsynced (answers.Refused refusal) isnt = refl
 
-no_sync : (tree : Tree) (call : Call) (told : Answer) → (IsSyncs told → ⊥) → told ≡ answer tree call → call ≡ calls.Sync → ⊥
-no_sync tree call told isnt is sync = isnt (is ∙ ap (answer tree) sync)
+no_sync : (planned : Items) (cached : List Kept) (tree : Tree) (call : Call) (told : Answer) → (IsSyncs told → ⊥) → (MayUse planned cached call → told ≡ answer tree call) → call ≡ calls.Sync → ⊥
+no_sync planned cached tree call told isnt is sync =
+    isnt (subst (λ (c : Call). MayUse planned cached c → told ≡ answer tree c) sync is tt)
 
 -- so it may add nothing to the events
-of_none : (tree : Tree) (call : Call) (told : Answer) (here : ℕ) (past : List Event) → (IsSyncs told → ⊥) → told ≡ answer tree call → IsOfDone here past (Some call) []
-of_none tree calls.Sync told here past isnt is = absurd (isnt is)
-of_none tree (calls.Read path offset count) told here past isnt is = ([], refl)
-of_none tree (calls.Write path offset bytes) told here past isnt is = ([], refl)
-of_none tree (calls.Mkdir path) told here past isnt is = refl
-of_none tree (calls.Create path) told here past isnt is = refl
-of_none tree (calls.Truncate path size) told here past isnt is = refl
-of_none tree (calls.Listing path) told here past isnt is = refl
-of_none tree (calls.Stat path) told here past isnt is = refl
-of_none tree (calls.Rename from to) told here past isnt is = refl
-of_none tree (calls.Remove path) told here past isnt is = refl
+of_none : (planned : Items) (cached : List Kept) (tree : Tree) (call : Call) (told : Answer) (here : ℕ) (past : List Event) → (IsSyncs told → ⊥) → (MayUse planned cached call → told ≡ answer tree call) → IsOfDone here past (Some call) []
+of_none planned cached tree calls.Sync told here past isnt is = absurd (isnt (is tt))
+of_none planned cached tree (calls.Read path offset count) told here past isnt is = ([], refl)
+of_none planned cached tree (calls.Write path offset bytes) told here past isnt is = ([], refl)
+of_none planned cached tree (calls.Mkdir path) told here past isnt is = refl
+of_none planned cached tree (calls.Create path) told here past isnt is = refl
+of_none planned cached tree (calls.Truncate path size) told here past isnt is = refl
+of_none planned cached tree (calls.Listing path) told here past isnt is = refl
+of_none planned cached tree (calls.Stat path) told here past isnt is = refl
+of_none planned cached tree (calls.Rename from to) told here past isnt is = refl
+of_none planned cached tree (calls.Remove path) told here past isnt is = refl
 
 -- ---- what a read asks for
 
-pub asks_blocks : (st : Standing) (past added : List Event) (path : List (List ℕ)) (offset count : ℕ)
-    → passes (refusal_of st.tree (calls.Read path offset count)) ≡ true
-    → AsksForBlocks (blocks_in (st.files (uid_at st.tree.nodes path)) offset count) past added → Asks st past added (Some (calls.Read path offset count))
-asks_blocks st past added path offset count passed h = subst (λ (T : Type 0). T) (sym is) h
-  where
-    is : Asks st past added (Some (calls.Read path offset count)) ≡ AsksForBlocks (blocks_in (st.files (uid_at st.tree.nodes path)) offset count) past added
-    is = rw passed refl
+-- a read that is refused isn't one that passes but for bytes that are lost
+refused_isnt : (tape : Tape) (t : FileTree) (path : List (List ℕ)) (offset count : ℕ) → passes (refusal_of (plain_of tape t) (calls.Read path offset count)) ≡ false
+    → refusal_of (plain_of whole t) (calls.Read path offset count) ≢ None
+refused_isnt tape t path offset count refused free = absurd (let h : false ≡ true = sym refused ∙ free_passes tape t path offset count free in cc)
 
-asks_no_block : (st : Standing) (past : List Event) (path : List (List ℕ)) (offset count : ℕ)
-    → passes (refusal_of st.tree (calls.Read path offset count)) ≡ false → Asks st past [] (Some (calls.Read path offset count))
-asks_no_block st past path offset count passed = subst (λ (T : Type 0). T) (sym is) refl
-  where
-    is : Asks st past [] (Some (calls.Read path offset count)) ≡ (filter_map wanted [] ≡ [])
-    is = rw passed refl
+-- its blocks are all held or kept, and any other call asks for none
+module _ {D : Type 0} (drive : Ghosts D) (fixed : Fixed D) (planned : Items) (p : Parts D) (next : List Kept) (tied : IsTied drive fixed planned p) (good : IsGood p.stock.tree)
+    (standing : map headed p.stock.layout.ops ≡ ops (after_all p.trail.events)) where
+  abbrev st : Standing
+  st = stands_in drive fixed p
 
--- its blocks are all held, and any other call asks for none
-wants_none : (tape : Tape) (g : Given) (on : Bool) (st : Standing) (stock : Stocked) (call : Call) (past : List Event) → IsStock tape g on st stock
-    → map headed stock.layout.ops ≡ ops (after_all past) → AreHeld stock call → Asks st past [] (Some call)
-wants_none tape g on st stock (calls.Read path offset count) past is standing held = by (passes (refusal_of st.tree (calls.Read path offset count))) refl
-  where
-    by : (b : Bool) → passes (refusal_of st.tree (calls.Read path offset count)) ≡ b → Asks st past [] (Some (calls.Read path offset count))
-    by false passed = asks_no_block st past path offset count passed
-    by true passed =
-        let free = passes_free tape stock.tree path offset count (ap (λ (t : Tree). passes (refusal_of t (calls.Read path offset count))) is.plain ∙ passed) in
-        asks_blocks st past [] path offset count passed (record {
-          of_range = λ place has. absurd (in_none place has);
-          others = λ place has none.
-              let block = held free tape g on st is place has in
-              inl (sym (ap (list_any (puts_at place)) standing) ∙ held_put place stock.layout.ops block.0 block.1);
-        })
-wants_none tape g on st stock (calls.Mkdir path) past is standing held = refl
-wants_none tape g on st stock (calls.Create path) past is standing held = refl
-wants_none tape g on st stock (calls.Write path offset bytes) past is standing held = refl
-wants_none tape g on st stock (calls.Truncate path size) past is standing held = refl
-wants_none tape g on st stock (calls.Listing path) past is standing held = refl
-wants_none tape g on st stock (calls.Stat path) past is standing held = refl
-wants_none tape g on st stock (calls.Rename from to) past is standing held = refl
-wants_none tape g on st stock (calls.Remove path) past is standing held = refl
-wants_none tape g on st stock calls.Sync past is standing held = refl
+  wants_none : (call : Call) → UsesKept p.stock p.cached next call → Asks st p.trail.events [] p.cached next (Some call)
+  wants_none (calls.Read path offset count) uses = by (passes (refusal_of st.tree (calls.Read path offset count))) refl
+    where
+      by : (b : Bool) → passes (refusal_of st.tree (calls.Read path offset count)) ≡ b → Asks st p.trail.events [] p.cached next (Some (calls.Read path offset count))
+      by false refused = asks_refused st p.trail.events [] p.cached next path offset count refused (
+          refl,
+          uses.0 (refused_isnt (tape_on planned) p.stock.tree path offset count (ap (λ (t : Tree). passes (refusal_of t (calls.Read path offset count))) tied.stock.plain ∙ refused)),
+        )
+      by true passed =
+          let free = passes_free (tape_on planned) p.stock.tree path offset count (ap (λ (t : Tree). passes (refusal_of t (calls.Read path offset count))) tied.stock.plain ∙ passed) in
+          let used = uses.1 free (tape_on planned) (given_in drive fixed p) (on_in drive fixed p) st tied.stock in
+          asks_passing st p.trail.events [] p.cached next path offset count passed (record {
+            asks = sym used.0 ∙ sym (asked_is drive fixed planned p tied good standing path offset count free);
+            uses = used.1 ∙ ap (used_all p.cached) (sym (found_is drive fixed planned p tied good standing path offset count free));
+          })
+  wants_none (calls.Mkdir path) uses = (refl, uses)
+  wants_none (calls.Create path) uses = (refl, uses)
+  wants_none (calls.Write path offset bytes) uses = (refl, uses)
+  wants_none (calls.Truncate path size) uses = (refl, uses)
+  wants_none (calls.Listing path) uses = (refl, uses)
+  wants_none (calls.Stat path) uses = (refl, uses)
+  wants_none (calls.Rename from to) uses = (refl, uses)
+  wants_none (calls.Remove path) uses = (refl, uses)
+  wants_none calls.Sync uses = (refl, uses)
+
+  same : next ≡ p.cached → All (IsKeptRightly planned p.stock.layout.ops (drive.held fixed.first)) next
+  same is = cached_still planned p.stock.layout.ops (drive.held fixed.first) p.cached next is tied.cached
+
+  -- what is kept stays right
+  used_right : (call : Call) → UsesKept p.stock p.cached next call → All (IsKeptRightly planned p.stock.layout.ops (drive.held fixed.first)) next
+  used_right (calls.Read path offset count) uses = by (refusal_of (plain_of whole p.stock.tree) (calls.Read path offset count)) refl
+    where
+      by : (o : Option Refusal) → refusal_of (plain_of whole p.stock.tree) (calls.Read path offset count) ≡ o → All (IsKeptRightly planned p.stock.layout.ops (drive.held fixed.first)) next
+      by None free =
+          subst (All (IsKeptRightly planned p.stock.layout.ops (drive.held fixed.first))) (sym (uses.1 free (tape_on planned) (given_in drive fixed p) (on_in drive fixed p) st tied.stock).1)
+          (used_all_all (IsKeptRightly planned p.stock.layout.ops (drive.held fixed.first)) p.cached (found_of p.stock.layout.ops p.cached (distinct (blocks_in (st.files (uid_at st.tree.nodes path)) offset count))) tied.cached)
+      by (Some refusal) refused = cached_still planned p.stock.layout.ops (drive.held fixed.first) p.cached next
+          (uses.0 (λ none. absurd (let h : Some refusal ≡ None = sym refused ∙ none in cc))) tied.cached
+  used_right (calls.Mkdir path) uses = same uses
+  used_right (calls.Create path) uses = same uses
+  used_right (calls.Write path offset bytes) uses = same uses
+  used_right (calls.Truncate path size) uses = same uses
+  used_right (calls.Listing path) uses = same uses
+  used_right (calls.Stat path) uses = same uses
+  used_right (calls.Rename from to) uses = same uses
+  used_right (calls.Remove path) uses = same uses
+  used_right calls.Sync uses = same uses
+
+  -- a read may use them where the drive told a cartridge
+  pub may_use : (call : Call) (c : Cartridge) → drive.held fixed.first ≡ Some c → MayUse planned p.cached call
+  may_use (calls.Read path offset count) c told = λ k d less.
+      subst (λ (o : Option Cartridge). IfSome o (λ c. IsPlannedBlock planned (slice_index_or p.cached k d))) told (tied.cached k d less).bytes
+  may_use (calls.Mkdir path) c told = tt
+  may_use (calls.Create path) c told = tt
+  may_use (calls.Write path offset bytes) c told = tt
+  may_use (calls.Truncate path size) c told = tt
+  may_use (calls.Listing path) c told = tt
+  may_use (calls.Stat path) c told = tt
+  may_use (calls.Rename from to) c told = tt
+  may_use (calls.Remove path) c told = tt
+  may_use calls.Sync c told = tt
 
 pub some_call : (a b : Call) → Some a ≡ Some b → a ≡ b
 some_call a b e = cc
@@ -121,14 +163,15 @@ module _ {D : Type 0} (drive : Ghosts D) where
       let p : Placed = record { who = who; nth = nth; at = at; fate = fates.Done } in
       let is = v.told_is planned g on st s.tied.plan s.tied.stock in
       still_shown drive fixed plan planned before after who nth call at (replies.Answer told) fates.Done old new s refl v.asks v.places (ap (λ (k : Stocked). k.layout.ops) v.stock)
-      (of_none st.tree call told (length old.listed.history) old.trail.events v.no_sync is.0)
-      (wants_none (tape_on planned) g on st old.stock call old.trail.events s.tied.stock s.kept.order.orderly.standing v.held)
+      (of_none planned old.cached st.tree call told (length old.listed.history) old.trail.events v.no_sync is.0)
+      (wants_none drive fixed planned old new.cached s.tied s.good s.kept.order.orderly.standing call v.uses)
       refl (unsynced told v.no_sync)
-      (record { within = ap (λ (ask : Ask). is_over (rules g) on st.space ask) is.1; answered = is.0 })
+      (λ can. record { within = ap (λ (ask : Ask). is_over (rules g) on st.space ask) is.1; answered = is.0 (may_use drive fixed planned old new.cached s.tied s.good s.kept.order.orderly.standing call can.held can.told) })
       (ap (λ (ask : Ask). ops_of (rules g) on st.space ask) is.1)
       (λ can q history done sync.
       let same : p ≡ q = next_same old.listed.history p q (sym v.places.history ∙ history) in
       let called : Some call ≡ Some calls.Sync = sym s.is_call ∙ ap (call_at g.calls) same ∙ sync in
-      absurd (no_sync st.tree call told v.no_sync is.0 (some_call call calls.Sync called)))
+      absurd (no_sync planned old.cached st.tree call told v.no_sync is.0 (some_call call calls.Sync called)))
       (after_nothing drive fixed old new p call v.asks.moves.on v.places.history refl s.is_call is.1)
       (λ st is. subst (λ (k : Stocked). IsStock (tape_on planned) g on st k) (sym v.stock) is)
+      (used_right drive fixed planned old new.cached s.tied s.good s.kept.order.orderly.standing call v.uses)

@@ -48,6 +48,7 @@ handed_is who ticket reply p new h = λ i. record {
   reads = h.reads i;
   answered = h.answered i;
   on = h.on i;
+  cached = h.cached i;
 }
 
 tied_handed : {D : Type 0} (drive : Ghosts D) (fixed : Fixed D) (planned : Items) (p : Parts D) (who ticket : ℕ) (reply : Reply)
@@ -72,6 +73,7 @@ tied_handed drive fixed planned p who ticket reply block spare t = record {
   plan = t.plan;
   way = t.way;
   reads = t.reads;
+  cached = t.cached;
 }
 
 module _ {D : Type 0} (drive : Ghosts D)

@@ -78,6 +78,7 @@ came_none drive fixed plan v kept counted = record {
     read_head = All-nil (λ e. HeadIsRead (seen drive v.drive) e (drive.head v.drive));
     on_tape = All-nil (λ e. IsOnTape (seen drive v.drive) (first_of v.ops) e);
     on = on_stays v v.on;
+    cached = refl;
   };
   kept = sym (append-nil v.kept);
   order = record {
@@ -161,6 +162,7 @@ module _ {D : Type 0} (drive : Ghosts D) (fixed : Fixed D) (old v : View D) (add
     read_head = came.step.read_head;
     on_tape = came.step.on_tape;
     on = came.step.on;
+    cached = came.step.cached;
   }
 
   -- the reply is there, and is handed out

@@ -32,7 +32,7 @@ use Rattle.group_laws.specs.Groups.{IsGrouped}
 use Rattle.waiting_reads.specs.Gathering.{Gathering}
 use Rattle.due_laws.proofs.Behind.{begin_behind}
 use Rattle.state_laws.specs.Parts.{Parts, view_of}
-use Rattle.state_laws.specs.Tied.{AreFilesRight, AreReading, FilesStandIn, IsAsked, IsReading, IsTied}
+use Rattle.state_laws.specs.Tied.{AreFilesRight, AreReading, FilesStandIn, IsAsked, IsKeptRightly, IsReading, IsTied}
 use Rattle.call_laws.specs.StartLaws.{IsFresh}
 use Rattle.call_laws.proofs.StartFiled.{in_tree}
 use Rattle.call_laws.proofs.First.{IsFirst, first_items}
@@ -59,6 +59,7 @@ view_begun drive fixed next p e = λ i. record {
   kept = e.kept i;
   on = e.on i;
   ops = e.ops i;
+  cached = e.cached i;
 }
 
 module _ {D : Type 0} (drive : Ghosts D) (fixed : Fixed D) where
@@ -156,4 +157,6 @@ module _ {D : Type 0} (drive : Ghosts D) (fixed : Fixed D) where
       way = λ c held. of_ops (λ ops. IsOnWay planned ops c) (f.way c (ap drive.held (sym e.drive_is) ∙ held));
       reads = none_read (given (view_of fixed None p) (seen drive fixed.first)) p.on p.listed.history
           p.stock.layout.ops;
+      cached = subst (All (IsKeptRightly planned p.stock.layout.ops (drive.held fixed.first))) (sym e.cached)
+          (All-nil (IsKeptRightly planned p.stock.layout.ops (drive.held fixed.first)));
     }

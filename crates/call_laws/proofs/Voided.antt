@@ -25,6 +25,8 @@ use Rattle.state_laws.specs.Placing.{Voids}
 use Rattle.call_laws.specs.SubmitLaws.{IsSubmission, Shown}
 use Rattle.call_laws.proofs.Placed.{after_void, given_in, on_in, stands_in}
 use Rattle.call_laws.proofs.Still.{still_shown}
+use Rattle.call_laws.proofs.Uses.{cached_still}
+use Rattle.block_cache.specs.Kept.{Kept}
 
 unless_nothing : (r : Option Refusal) → ask_unless r nothing ≡ nothing
 unless_nothing None = refl
@@ -35,21 +37,21 @@ pub read_asks : (g : Given) (st : Standing) (path : List (List ℕ)) (offset cou
 read_asks g st path offset count at = unless_nothing (refusal_of st.tree (calls.Read path offset count))
 
 -- so it is never over a limit, and no other call waits for a block
-full_wants : (g : Given) (on : Bool) (st : Standing) (call : Call) (at : Moment) (need limit : ℕ) (past : List Event) → IsFull g on st call at need limit
-    → AsksUnlessVoid (submitted.Ready (replies.Full need limit)) st past [] (Some call)
-full_wants g on st (calls.Read path offset count) at need limit past full =
+full_wants : (g : Given) (on : Bool) (st : Standing) (call : Call) (at : Moment) (need limit : ℕ) (past : List Event) (cached next : List Kept) → next ≡ cached → IsFull g on st call at need limit
+    → AsksUnlessVoid (submitted.Ready (replies.Full need limit)) st past [] cached next (Some call)
+full_wants g on st (calls.Read path offset count) at need limit past cached next same full =
     let fits : is_over (rules g) on st.space (ask_of g st (calls.Read path offset count) at) ≡ false =
     ap (λ (ask : Ask). is_over (rules g) on st.space ask) (read_asks g st path offset count at) in
     absurd (true≢false (sym full.over ∙ fits))
-full_wants g on st (calls.Mkdir path) at need limit past full = refl
-full_wants g on st (calls.Create path) at need limit past full = refl
-full_wants g on st (calls.Write path offset bytes) at need limit past full = refl
-full_wants g on st (calls.Truncate path size) at need limit past full = refl
-full_wants g on st (calls.Listing path) at need limit past full = refl
-full_wants g on st (calls.Stat path) at need limit past full = refl
-full_wants g on st (calls.Rename from to) at need limit past full = refl
-full_wants g on st (calls.Remove path) at need limit past full = refl
-full_wants g on st calls.Sync at need limit past full = refl
+full_wants g on st (calls.Mkdir path) at need limit past cached next same full = (refl, same)
+full_wants g on st (calls.Create path) at need limit past cached next same full = (refl, same)
+full_wants g on st (calls.Write path offset bytes) at need limit past cached next same full = (refl, same)
+full_wants g on st (calls.Truncate path size) at need limit past cached next same full = (refl, same)
+full_wants g on st (calls.Listing path) at need limit past cached next same full = (refl, same)
+full_wants g on st (calls.Stat path) at need limit past cached next same full = (refl, same)
+full_wants g on st (calls.Rename from to) at need limit past cached next same full = (refl, same)
+full_wants g on st (calls.Remove path) at need limit past cached next same full = (refl, same)
+full_wants g on st calls.Sync at need limit past cached next same full = (refl, same)
 
 void_isnt_done : fates.Void ≡ fates.Done → ⊥
 void_isnt_done e = cc
@@ -60,17 +62,19 @@ module _ {D : Type 0} (drive : Ghosts D) where
       → Shown drive fixed plan planned before after who nth (submitted.Ready reply) [] old new
   shown fixed plan planned before after who nth call at replies.NoMemory old new s v =
       still_shown drive fixed plan planned before after who nth call at replies.NoMemory fates.Void old new s refl v.asks v.places (ap (λ l. l.ops) v.stock.layout)
-      refl refl refl refl tt refl
+      refl (refl, v.cached) refl refl (λ can. tt) refl
       (λ can q is done. absurd (void_isnt_done (ap (λ (p : Placed). p.fate) (next_same old.listed.history (record { who = who; nth = nth; at = at; fate = fates.Void }) q (sym v.places.history ∙ is)) ∙ done)))
       (after_void drive fixed old new (record { who = who; nth = nth; at = at; fate = fates.Void }) v.asks.moves.on v.places.history refl)
       (λ st is. v.stock.stands (tape_on planned) (given_in drive fixed old) (on_in drive fixed old) st is)
+      (cached_still planned old.stock.layout.ops (drive.held fixed.first) old.cached new.cached v.cached s.tied.cached)
   shown fixed plan planned before after who nth call at (replies.Full need limit) old new s v =
       let full = (v.void (tape_on planned) (given_in drive fixed old) (on_in drive fixed old) (stands_in drive fixed old) s.tied.stock).1 in
       still_shown drive fixed plan planned before after who nth call at (replies.Full need limit) fates.Void old new s refl v.asks v.places (ap (λ l. l.ops) v.stock.layout)
-      refl (full_wants (given_in drive fixed old) (on_in drive fixed old) (stands_in drive fixed old) call at need limit old.trail.events full) refl refl
-      (record { over = full.over; need_is = full.need_is; limit_is = full.limit_is }) refl
+      refl (full_wants (given_in drive fixed old) (on_in drive fixed old) (stands_in drive fixed old) call at need limit old.trail.events old.cached new.cached v.cached full) refl refl
+      (λ can. record { over = full.over; need_is = full.need_is; limit_is = full.limit_is }) refl
       (λ can q is done. absurd (void_isnt_done (ap (λ (p : Placed). p.fate) (next_same old.listed.history (record { who = who; nth = nth; at = at; fate = fates.Void }) q (sym v.places.history ∙ is)) ∙ done)))
       (after_void drive fixed old new (record { who = who; nth = nth; at = at; fate = fates.Void }) v.asks.moves.on v.places.history refl)
       (λ st is. v.stock.stands (tape_on planned) (given_in drive fixed old) (on_in drive fixed old) st is)
+      (cached_still planned old.stock.layout.ops (drive.held fixed.first) old.cached new.cached v.cached s.tied.cached)
   shown fixed plan planned before after who nth call at (replies.Answer told) old new s v = absurd v.void
   shown fixed plan planned before after who nth call at (replies.Fault counts) old new s v = absurd v.void

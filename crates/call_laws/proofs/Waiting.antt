@@ -1,5 +1,5 @@
 -- A read that waits for blocks.
-use Rattle.std.proofs.Common.{◌≡◌, ℕ, ◌≤◌, Bool, true, false, List, [], ◌∷◌, ◌++◌, length, map, Option, Some, None, append-nil, length-append, refl, sym, ap, subst, ◌∙◌, inl, arith}
+use Rattle.std.proofs.Common.{◌≡◌, ℕ, ◌≤◌, not, Bool, true, false, List, [], ◌∷◌, ◌++◌, length, map, Option, Some, None, append-nil, length-append, refl, sym, ap, subst, ◌∙◌, inl, arith}
 use Rattle.std.specs.Prelude.{All, Contains, IfSome, filter_map, fold, slice_index_or, ◌==◌, ◌||◌}
 use Rattle.std.specs.List.{list_any}
 use Rattle.std.proofs.lemmas.Bool.{false_from_ne_true}
@@ -15,7 +15,7 @@ use Rattle.plain_tree.specs.declared.calls.Call.TheVariants as calls
 use Rattle.plain_tree.specs.declared.calls.Fate.TheVariants as fates
 use Rattle.plain_tree.specs.declared.calls.Placed.{Placed}
 use Rattle.session_script.specs.declared.logs.Event.{Event}
-use Rattle.extent_map.specs.Replies.{has_place, places_in}
+use Rattle.extent_map.specs.Replies.{distinct, has_place, places_in}
 use Rattle.event_laws.specs.Trail.{after_all, puts_at}
 use Rattle.event_laws.specs.Trail.{after as next_state}
 use Rattle.event_laws.specs.Waiting.{State, ops, same_place}
@@ -26,7 +26,13 @@ use Rattle.space_laws.specs.Standing.{Given, Standing, ask_of, rules, uid_at}
 use Rattle.serving_promise.specs.Acks.{synced_ticket}
 use Rattle.serving_promise.specs.Served.{Fixed, View, headed, is_waiting}
 use Rattle.serving_promise.specs.Submits as model
-use Rattle.serving_promise.specs.Submits.{AsksUnlessVoid, AreOfSubmit, acks_for, blocks_in, call_of, is_put_off, passes, stored_at, wanted}
+use Rattle.serving_promise.specs.Submits.{AsksUnlessVoid, AreOfSubmit, acks_for, blocks_in, call_of, is_put_off, passes, stored_at}
+use Rattle.serving_promise.specs.Cached.{wanted}
+use Rattle.serving_promise.proofs.CacheLaws.{asks_passing, used_all_all}
+use Rattle.block_cache.specs.Kept.{is_cached, used_all}
+use Rattle.tape_types.specs.declared.cartridges.Cartridge.{Cartridge}
+use Rattle.reply_laws.proofs.Distinct.{in_distinct}
+use Rattle.waiting_reads.specs.Gathering.{IsGathering}
 use Rattle.serving_promise.specs.declared.answers.Submitted.TheVariants as submitted
 use Rattle.order_laws.specs.Kept.{seen}
 use Rattle.reply_laws.specs.Sides.{PlacesTruly, ops_here}
@@ -40,16 +46,17 @@ use Rattle.plan_laws.specs.Planned.{IsDoneAt, Items, ends_in, tape_on, with_ops}
 use Rattle.crash_laws.proofs.Submitted.{state_after}
 use Rattle.group_laws.specs.Groups.{requests_for}
 use Rattle.state_laws.specs.Parts.{Parts, view_of}
-use Rattle.state_laws.specs.Placing.{Waits}
-use Rattle.state_laws.specs.Tied.{AreReading, FilesStandIn, IsTied, is_of}
+use Rattle.state_laws.specs.Placing.{Waits, found_of, is_held, wanted_of}
+use Rattle.state_laws.specs.Tied.{AreReading, FilesStandIn, IsKeptRightly, IsTied, is_of}
 use Rattle.call_laws.specs.SubmitLaws.{IsSubmission, Shown}
-use Rattle.call_laws.proofs.HeldReads.{free_passes, held_put}
+use Rattle.call_laws.proofs.HeldReads.{free_passes}
+use Rattle.call_laws.proofs.Uses.{all_left, asked_is, found_is, wanted_unheld}
 use Rattle.call_laws.proofs.Placed.{after_nothing, given_in, on_after, on_in, reached_later, reads_to, stands_in, tied_still}
-use Rattle.call_laws.proofs.ReadBlocks.{all_below, blocks_stand, place_stored, stored_place}
+use Rattle.call_laws.proofs.ReadBlocks.{all_below, blocks_stand, stored_list}
 use Rattle.call_laws.proofs.Rightly.{adds_by, follows_by}
-use Rattle.call_laws.proofs.Told.{asks_blocks, some_call}
+use Rattle.call_laws.proofs.Told.{may_use, some_call}
 use Rattle.call_laws.proofs.Voided.{read_asks}
-use Rattle.call_laws.proofs.Wanting.{asks_it, has_same, kept_by, reads_more, requests_are, wants_of}
+use Rattle.call_laws.proofs.Wanting.{asks_it, kept_by, reads_more, requests_are, wants_of}
 
 -- ---- the events of a read
 
@@ -110,21 +117,14 @@ module _ {D : Type 0} (drive : Ghosts D) (fixed : Fixed D) (plan : Plan drive fi
   pieces_are : filter_map stored_at w.read.pieces ≡ blocks
   pieces_are = (w.pieces (tape_on planned) g (on_in drive fixed old) st s.tied.stock).0
 
-  -- the blocks that it asks for are its own
-  of_it : (place : Place) → Contains w.wanted place → Contains blocks place
-  of_it place has =
-      let own : has_place place (places_in w.read.pieces) ≡ true =
-      subst (λ (x : Place). has_place x (places_in w.read.pieces) ≡ true) has.2 (w.of_read has.0 place has.1) in
-      subst (λ (ps : List Place). Contains ps place) pieces_are (place_stored place w.read.pieces own)
+  places_are : places_in w.read.pieces ≡ distinct blocks
+  places_are = ap distinct (stored_list w.read.pieces ∙ pieces_are)
 
-  others : (place : Place) → Contains blocks place → list_any (same_place place) (filter_map wanted added) ≡ false
-      → list_any (puts_at place) (ops (after_all old.trail.events)) ≡ true
-  others place has none =
-      let not_wanted : has_place place w.wanted ≡ false =
-      sym (has_same place w.wanted) ∙ ap (list_any (same_place place)) (sym (wanted_are here w.wanted)) ∙ none in
-      let own : has_place place (places_in w.read.pieces) ≡ true = stored_place place w.read.pieces (subst (λ (ps : List Place). Contains ps place) (sym pieces_are) has) in
-      let block = w.others place own not_wanted in
-      sym (ap (list_any (puts_at place)) s.kept.order.orderly.standing) ∙ held_put place old.stock.layout.ops block.0 block.1
+  wanted_is : w.wanted ≡ wanted_of old.stock.layout.ops old.cached (distinct blocks)
+  wanted_is = w.wanted_is ∙ ap (wanted_of old.stock.layout.ops old.cached) places_are
+
+  used_are : new.cached ≡ used_all old.cached (found_of old.stock.layout.ops old.cached (distinct blocks))
+  used_are = w.uses ∙ ap (λ (places : List Place). used_all old.cached (found_of old.stock.layout.ops old.cached places)) places_are
 
   passed : passes (refusal_of st.tree call) ≡ true
   passed = ap (λ (t : Tree). passes (refusal_of t call)) (sym s.tied.stock.plain) ∙ free_passes (tape_on planned) old.stock.tree path offset count w.free
@@ -134,14 +134,22 @@ module _ {D : Type 0} (drive : Ghosts D) (fixed : Fixed D) (plan : Plan drive fi
 
   -- each stands on tape already
   done : All (IsDoneAt planned old.stock.layout.ops) w.wanted
-  done = λ k d less.
-      let place = slice_index_or w.wanted k d in
-      let there = stand place (subst (λ (ps : List Place). Contains ps place) pieces_are (place_stored place w.read.pieces (w.of_read k d less))) in
-      record {
+  done = subst (All (IsDoneAt planned old.stock.layout.ops)) (sym wanted_is)
+      (all_left (IsDoneAt planned old.stock.layout.ops) (λ place. not (is_held old.stock.layout.ops place || is_cached old.cached place)) (distinct blocks)
+      (λ place has free. let there = stand place (in_distinct blocks place has) in (record {
         below = s.tied.files.below place.part place.pos there;
         free = false_from_ne_true (list_any (puts_at place) (map headed old.stock.layout.ops))
-            (λ put. let block = s.tied.files.bytes place.part place.pos there put in none_some block.0 (sym (w.unheld k d less) ∙ block.1));
-      }
+            (λ put. let block = s.tied.files.bytes place.part place.pos there put in
+            none_some block.0 (sym (wanted_unheld old.stock.layout.ops old.cached place free) ∙ block.1));
+      })))
+
+  -- what is kept is planned, where the drive told a cartridge
+  gathered : IfSome (drive.held fixed.first) (λ c. IsGathering (tape_on planned) (λ place. not (has_place place w.wanted)) w.read)
+  gathered = by (drive.held fixed.first) refl
+    where
+      by : (o : Option Cartridge) → drive.held fixed.first ≡ o → IfSome o (λ c. IsGathering (tape_on planned) (λ place. not (has_place place w.wanted)) w.read)
+      by None is = tt
+      by (Some c) is = w.gathers planned s.tied.plan (may_use drive fixed planned old new.cached s.tied s.good s.kept.order.orderly.standing call c is)
 
   standing_is : map headed new.stock.layout.ops ≡ ops (after_all new.trail.events)
   standing_is =
@@ -181,7 +189,7 @@ module _ {D : Type 0} (drive : Ghosts D) (fixed : Fixed D) (plan : Plan drive fi
       (reads_more g old.on old.listed.history placed planned (drive.held fixed.first) old.stock.layout.ops (state old.trail) (state new.trail) old.reads w.read w.wanted call s.tied.reads
       requests_new w.ticket s.is_call (w.pieces (tape_on planned) g (on_in drive fixed old) st s.tied.stock).1
       (all_below (ends_in planned) w.read.pieces (λ place has. s.tied.files.below place.part place.pos (stand place (subst (λ (ps : List Place). Contains ps place) pieces_are has))))
-      (w.gathers planned s.tied.plan) w.some done)
+      gathered w.some done)
 
   reached : IfSome new.on (λ first. first ≤ length new.listed.history)
   reached = subst (λ (o : Option ℕ). IfSome o (λ first. first ≤ length new.listed.history)) (sym w.moves.on)
@@ -225,6 +233,8 @@ module _ {D : Type 0} (drive : Ghosts D) (fixed : Fixed D) (plan : Plan drive fi
     none_due = ap due_ticket state_is ∙ kept_by due_ticket here (λ x place. refl) w.wanted (state old.trail) ∙ s.tied.none_due;
     group = ap (λ (x : State). x.group) state_is ∙ kept_by (λ (x : State). x.group) here (λ x place. refl) w.wanted (state old.trail);
     reads = reading;
+    cached = subst (All (IsKeptRightly planned old.stock.layout.ops (drive.held fixed.first))) (sym used_are)
+        (used_all_all (IsKeptRightly planned old.stock.layout.ops (drive.held fixed.first)) old.cached (found_of old.stock.layout.ops old.cached (distinct blocks)) s.tied.cached);
   })
 
   read_shown : Shown drive fixed plan planned before after who nth (submitted.Wait here) [] old new
@@ -253,10 +263,10 @@ module _ {D : Type 0} (drive : Ghosts D) (fixed : Fixed D) (plan : Plan drive fi
             ∙ sym (ap (λ (tickets : List ℕ). old.trail.acks ++ map (λ ticket. record { place = ticket; command = drive.commands new.drive }) tickets) (no_acks here w.wanted));
       };
       of_it = subst (λ (c : Option Call). AreOfSubmit who here old.trail.events c (submitted.Wait here) added) (sym s.is_call) (refl, (w.wanted, refl));
-      asks = subst (λ (c : Option Call). AsksUnlessVoid (submitted.Wait here) st old.trail.events added c) (sym s.is_call)
-          (asks_blocks st old.trail.events added path offset count passed (record {
-            of_range = λ place has. of_it place (subst (λ (ps : List Place). Contains ps place) (wanted_are here w.wanted) has);
-            others = λ place has none. inl (others place has none);
+      asks = subst (λ (c : Option Call). AsksUnlessVoid (submitted.Wait here) st old.trail.events added old.cached new.cached c) (sym s.is_call)
+          (asks_passing st old.trail.events added old.cached new.cached path offset count passed (record {
+            asks = wanted_are here w.wanted ∙ wanted_is ∙ sym (asked_is drive fixed planned old s.tied s.good s.kept.order.orderly.standing path offset count w.free);
+            uses = used_are ∙ ap (used_all old.cached) (sym (found_is drive fixed planned old s.tied s.good s.kept.order.orderly.standing path offset count w.free));
           }));
       marks = w.places.marks;
       drain = subst (λ (c : Option Call). model.PutsOff (is_put_off v c) (submitted.Wait here)) (sym s.is_call) s.put_off;

@@ -91,15 +91,11 @@ or_before false b e = absurd cc
 
 -- ---- reads
 
-if_any : {X Y : Type 0} (o : Option X) → Y → IfSome o (λ x. Y)
-if_any None y = tt
-if_any (Some x) y = y
-
 module _ (g : Given) (on : Option ℕ) (history : List Placed) (p : Placed) (planned : Items) (told : Option Cartridge) (ops : List Op) (st now : State) (reads : List Gathering) (read : Gathering)
     (places : List Place) (call : Call) (h : AreReading g on history planned told ops st reads)
     (requests : now.requests ≡ st.requests ++ requests_for (length history) st.arrived places) (ticket : read.ticket ≡ length history) (call_is : call_at g.calls p ≡ Some call)
     (answers : answer (standing g on history (length history)).tree call ≡ read_answer (tape_on planned) read.pieces) (below : LieBelow (ends_in planned) read.pieces)
-    (gathers : IsGathering (tape_on planned) (λ place. not (has_place place places)) read) (some : 1 ≤ length places) (done : All (IsDoneAt planned ops) places) where
+    (gathers : IfSome told (λ c. IsGathering (tape_on planned) (λ place. not (has_place place places)) read)) (some : 1 ≤ length places) (done : All (IsDoneAt planned ops) places) where
   abbrev here : ℕ
   here = length history
 
@@ -158,7 +154,7 @@ module _ (g : Given) (on : Option ℕ) (history : List Placed) (p : Placed) (pla
         ∙ ap (λ (s : Standing). answer s.tree call) ((standing_goes_on g on history p).stands here (omega arith))
         ∙ answers;
     below = below;
-    gathering = if_any told (subst (λ (f : Places). IsGathering (tape_on planned) f read) (λ i place. new_met place i) gathers);
+    gathering = subst (λ (f : Places). IfSome told (λ c. IsGathering (tape_on planned) f read)) (λ i place. new_met place i) gathers;
     asked = ap (λ (n : ℕ). list_any (is_of n) now.requests) ticket ∙ ap (list_any (is_of here)) requests ∙ list_any-append (is_of here) st.requests news
         ∙ ap (λ t. list_any (is_of here) st.requests || t) (asks_it here st.arrived places some) ∙ or_true (list_any (is_of here) st.requests);
   }

@@ -18,7 +18,7 @@ use Rattle.state_laws.specs.Parts.{Parts}
 use Rattle.state_laws.specs.Placing.{PlacesCall}
 use Rattle.call_laws.specs.Handing.{StepsOn}
 
--- nothing of the tape, of reads and of placement changes
+-- nothing of the tape, of reads, of the blocks that are kept and of placement changes
 pub record KeepsTape {D : Type 0} (old new : Parts D) : Type 0 where
   pub drive : new.drive ≡ old.drive
   pub stock : new.stock ≡ old.stock
@@ -26,6 +26,7 @@ pub record KeepsTape {D : Type 0} (old new : Parts D) : Type 0 where
   pub reads : new.reads ≡ old.reads
   pub answered : new.answered ≡ old.answered
   pub on : new.on ≡ old.on
+  pub cached : new.cached ≡ old.cached
   pub acks : new.trail.acks ≡ old.trail.acks
 
 -- The fault that is kept for the session is taken, and its write is placed void with it.

@@ -29,6 +29,7 @@ pub record HandsOut {D : Type 0} (who ticket : ℕ) (reply : Reply) (old new : P
   pub queue : new.queue ≡ old.queue
   pub reads : new.reads ≡ old.reads
   pub on : new.on ≡ old.on
+  pub cached : new.cached ≡ old.cached
 
 -- The answers that were kept still are, and no other but those that came; and each that came of a read is.
 pub record KeepsAnswers {D : Type 0} (old new : Parts D) : Type 0 where

@@ -42,6 +42,7 @@ pub record IsFresh {D : Type 0} (drive : Ghosts D) (fixed : Fixed D) (p : Parts 
   pub reads : p.reads ≡ []
   pub answered : p.answered ≡ []
   pub on : p.on ≡ None
+  pub cached : p.cached ≡ []
   pub ops : p.stock.layout.ops ≡ []
   pub stands : (tape : Tape) (g : Given) → StartsFrom tape (drive.limits fixed.first) fixed.mounted g
       → IsStock tape g fixed.mounted.ip_on (first_standing g) p.stock

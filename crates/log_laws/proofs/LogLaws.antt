@@ -171,14 +171,16 @@ submitted_on first now old new who nth submitted.Drain s is =
     (on_stays (given old first) old.events (stays_there old.history) s.added old.on
     (submissions_do_none who (length old.history) old.events (call_of old who nth) submitted.Drain s.added s.of_it) is)
 
-submission_shows : {D : Type 0} (drive : Ghosts D) (old new : View D) (who nth : ℕ) (answer : Submitted)
+submission_shows : {D : Type 0} (drive : Ghosts D) (m : Meaning) (old new : View D) (who nth : ℕ) (answer : Submitted)
+    → IsServed m (seen drive old.fixed.first) (seen drive old.drive) old
     → Submits (seen drive old.fixed.first) (seen drive new.drive) old new who nth answer
     → Shows (seen drive old.fixed.first) old new
-submission_shows drive old new who nth answer s = record {
+submission_shows drive m old new who nth answer served s = record {
   reads = submitted_reads (seen drive old.fixed.first) (seen drive new.drive) old new who nth answer s;
   truly = λ is_old is_new all. record {
     asks =
-        submissions_ask_truly (seen drive) old.fixed.first new.drive old new who nth answer is_old is_new s all.asks;
+        submissions_ask_truly (seen drive) old.fixed.first new.drive old new who nth answer is_old is_new
+        served.orderly.cached s all.asks;
     on_is = submitted_on (seen drive old.fixed.first) (seen drive new.drive) old new who nth answer s all.on_is;
   };
 }
@@ -244,7 +246,7 @@ pub logs_go_on : {D : Type 0} (drive : Ghosts D) (m : Meaning) → LogsGoOn driv
 logs_go_on drive m = record {
   begins = begins drive m;
   submitted = λ old new who nth answer served serves can s is.
-      goes_on drive m old new s.fixed served serves (submission_shows drive old new who nth answer s) is;
+      goes_on drive m old new s.fixed served serves (submission_shows drive m old new who nth answer served s) is;
   turned = λ old new who ticket answer served serves waits t is.
       goes_on drive m old new t.fixed served serves (turn_shows drive old new who ticket answer t) is;
   drained = λ old new who answer served serves drains d is.

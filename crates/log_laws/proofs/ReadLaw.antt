@@ -15,7 +15,8 @@ use Rattle.event_laws.specs.Trail.{after_all}
 use Rattle.event_laws.specs.Waiting.{Op, ops}
 use Rattle.space_laws.specs.Standing.{Given}
 use Rattle.serving_promise.specs.Asking.{AreOfReads, is_read, want_of}
-use Rattle.serving_promise.specs.Submits.{IsOfDone, queues_at, synced_at, wanted}
+use Rattle.serving_promise.specs.Cached.{wanted}
+use Rattle.serving_promise.specs.Submits.{IsOfDone, queues_at, synced_at}
 use Rattle.reply_laws.proofs.AskLaws.{none_of}
 use Rattle.reply_laws.proofs.Asked.{GoesTo, goes_next, of_reads_on}
 use Rattle.reply_laws.proofs.Blocks.{pair_back, queues_want, synced_want, wants_here}

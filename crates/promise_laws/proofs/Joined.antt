@@ -44,8 +44,9 @@ module _ {D : Type 0} (drive : Ghosts D) (v w : View D) (fixed : Fixed D) (same 
 
 module _ {D : Type 0} (drive : Ghosts D) where
   pub kept_is_promised : KeptIsPromised drive
-  kept_is_promised fixed plan v kept = record {
+  kept_is_promised fixed plan v kept on = record {
     orderly = kept.order.orderly;
+    cached = on;
     truly = λ can. (true_there drive v v fixed kept.fixed_is (kept.truth (subst (CanRead drive) kept.fixed_is can))).truth;
     crash = λ can.
         let now = subst (CanServe drive) kept.fixed_is can in

@@ -1,8 +1,9 @@
 -- What each call of a served volume keeps, over any drive.
-use Rattle.std.specs.Prelude.{ℕ, ◌≡◌, Option}
+use Rattle.std.specs.Prelude.{ℕ, ◌≡◌, Option, IfSome}
 use Rattle.tape_types.specs.declared.moments.Moment.{Moment}
 use Rattle.tape_drive.specs.declared.drive.Drive.{Ghosts}
 use Rattle.cartridge_meaning.specs.Mounts.{Mounts}
+use Rattle.serving_promise.specs.Cached.{AreOnTape}
 use Rattle.serving_promise.specs.Ends.{begun}
 use Rattle.serving_promise.specs.Marks.{draining, phase, waits}
 use Rattle.serving_promise.specs.Meanings.{cartridges}
@@ -17,9 +18,10 @@ use Rattle.crash_laws.specs.Laws.{CanServe}
 use Rattle.order_laws.specs.Kept.{seen}
 use Rattle.promise_laws.specs.Kept.{DrainsRightly, IsKept, IsKeptOn, Plan, SubmitsRightly, TurnsRightly}
 
--- what is kept is all that is promised
+-- what is kept is all that is promised, where the blocks that are kept stand on the cartridge that the drive tells
 abbrev pub KeptIsPromised : {D : Type 0} → Ghosts D → Type 0
 KeptIsPromised {D} drive = (fixed : Fixed D) (plan : Plan drive fixed) (v : View D) → IsKept drive fixed plan v
+    → IfSome (drive.held v.drive) (λ c. AreOnTape c v.cached)
     → IsServed cartridges (seen drive v.fixed.first) (seen drive v.drive) v
 
 -- it is kept of a volume of which nothing was asked yet, by the plan that is what stands on the cartridge

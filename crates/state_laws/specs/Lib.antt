@@ -1,4 +1,4 @@
 pub mod Parts
-pub mod Tied
 pub mod Stepping
 pub mod Placing
+pub mod Tied

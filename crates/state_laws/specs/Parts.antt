@@ -7,11 +7,12 @@ use Rattle.event_journal.specs.Trails.{Journaled}
 use Rattle.event_journal.specs.Placements.{Listed}
 use Rattle.head_queue.specs.Queued.{Queued}
 use Rattle.waiting_reads.specs.Gathering.{Gathering}
+use Rattle.block_cache.specs.Kept.{Kept}
 use Rattle.serving_promise.specs.Served.{Fixed, View}
 
 -- The drive, the bytes of the block that was read last, what is held of the volume, its events, the requests that wait,
--- its placements, the reads that wait, the answers of reads that were not handed out yet, and from which place of the
--- history on files may go to the index partition.
+-- its placements, the reads that wait, the answers of reads that were not handed out yet, from which place of the
+-- history on files may go to the index partition, and the blocks that were read and are kept.
 pub record Parts (D : Type 0) : Type 0 where
   pub drive : D
   pub block : List ℕ
@@ -22,6 +23,7 @@ pub record Parts (D : Type 0) : Type 0 where
   pub reads : List Gathering
   pub answered : List (ℕ × Answer)
   pub on : Option ℕ
+  pub cached : List Kept
 
 -- what contracts see of it
 abbrev pub view_of : {D : Type 0} → Fixed D → Option Moment → Parts D → View D
@@ -37,4 +39,5 @@ view_of fixed next p = record {
   kept = p.trail.kept;
   on = p.on;
   ops = p.stock.layout.ops;
+  cached = p.cached;
 }

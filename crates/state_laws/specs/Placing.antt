@@ -1,7 +1,7 @@
 -- What a submission makes of the parts of a volume.
-use Rattle.std.specs.Prelude.{ℕ, ◌≡◌, ◌≢◌, ◌<◌, ◌≤◌, not, Bool, true, false, List, [], ◌∷◌, ◌++◌, All, AllPairs}
-use Rattle.std.specs.Prelude.{Contains, filter_map, length, map, Option, Some, None, Result, Ok, Err}
-use Rattle.std.specs.List.{list_any}
+use Rattle.std.specs.Prelude.{ℕ, ◌≡◌, ◌≢◌, ◌<◌, ◌≤◌, ◌&&◌, ◌||◌, not, Bool, true, false, List, [], ◌∷◌, ◌++◌, All}
+use Rattle.std.specs.Prelude.{filter, filter_map, is_some, length, map, slice_get, Option, Some, None}
+use Rattle.tape_types.specs.declared.cartridges.Item.TheVariants as the_items
 use Rattle.tape_types.specs.declared.cartridges.Place.{Place}
 use Rattle.tape_types.specs.declared.moments.Moment.{Moment}
 use Rattle.plain_tree.specs.Calls.{answer}
@@ -14,7 +14,7 @@ use Rattle.plain_tree.specs.declared.calls.Fate.{Fate}
 use Rattle.plain_tree.specs.declared.calls.Fate.TheVariants as fates
 use Rattle.plain_tree.specs.declared.calls.Placed.{Placed}
 use Rattle.extent_map.specs.Cells.{Tape}
-use Rattle.extent_map.specs.Replies.{Places, has_place, places_in}
+use Rattle.extent_map.specs.Replies.{distinct, has_place, places_in}
 use Rattle.extent_map.specs.Laid.{Laid}
 use Rattle.extent_map.specs.Pieces.{planned}
 use Rattle.session_script.specs.declared.logs.Event.{Event}
@@ -35,6 +35,7 @@ use Rattle.serving_promise.specs.Replies.{may_wait}
 use Rattle.serving_promise.specs.Submits.{blocks_in, queues_at, stored_at, synced_at}
 use Rattle.serving_promise.specs.declared.marks.Mark.{Mark}
 use Rattle.serving_promise.specs.declared.marks.Kind.TheVariants as kinds
+use Rattle.block_cache.specs.Kept.{Kept, is_cached, used_all}
 use Rattle.held_volume.specs.Applied.{IsDone, IsFull, IsUnchanged}
 use Rattle.held_volume.specs.Stocks.{IsStock, Stocked}
 use Rattle.event_journal.specs.Trails.{Journaled, due_ticket, state}
@@ -95,28 +96,54 @@ pub record Voids {D : Type 0} (who nth : ℕ) (call : Call) (at : Moment) (reply
   pub void : IsVoidFor old.stock call at reply
   pub stock : IsUnchanged old.stock new.stock
   pub asks : AsksNothing old new
+  pub cached : new.cached ≡ old.cached
   pub places : PlacesCall who nth at fates.Void (Some reply) old new
 
 -- ---- calls that are answered at once and leave all as it was
 
--- the tree's answer, on the tape that there is once all ops are done, and nothing is asked of the tape
-abbrev pub IsAnswerFor : Stocked → Call → Moment → Answer → Type 0
-IsAnswerFor stock call at told = (items : Items) (g : Given) (on : Bool) (st : Standing) → IsPlan items stock.layout.ops
-    → IsStock (tape_on items) g on st stock → (told ≡ answer st.tree call) × (ask_of g st call at ≡ space.nothing)
+-- what is kept of a block is what is planned at its place
+abbrev pub IsPlannedBlock : Items → Kept → Type 0
+IsPlannedBlock planned block = slice_get (planned block.0.part) block.0.pos ≡ Some (the_items.Block block.1)
 
--- it may be a read that the tree lets pass, but for bytes that are lost: all its blocks are held then
-abbrev pub AreHeld : Stocked → Call → Type 0
-AreHeld stock (calls.Read path offset count) =
-    refusal_of (plain_of whole stock.tree) (calls.Read path offset count) ≡ None
-    → (tape : Tape) (g : Given) (on : Bool) (st : Standing) → IsStock tape g on st stock → (place : Place)
-    → Contains (blocks_in (st.files (uid_at st.tree.nodes path)) offset count) place
-    → (bytes : List ℕ) × (held_in place stock.layout.ops ≡ Some bytes)
-AreHeld stock call = Unit {0}
+-- a read may be answered by blocks that are kept
+abbrev pub MayUse : Items → List Kept → Call → Type 0
+MayUse planned cached (calls.Read path offset count) = All (IsPlannedBlock planned) cached
+MayUse planned cached _ = Unit {0}
+
+-- the tree's answer, on the tape that there is once all ops are done, and nothing is asked of the tape
+abbrev pub IsAnswerFor : Stocked → List Kept → Call → Moment → Answer → Type 0
+IsAnswerFor stock cached call at told = (items : Items) (g : Given) (on : Bool) (st : Standing)
+    → IsPlan items stock.layout.ops → IsStock (tape_on items) g on st stock
+    → (MayUse items cached call → told ≡ answer st.tree call) × (ask_of g st call at ≡ space.nothing)
+
+-- an op holds a block for this place
+abbrev pub is_held : List Op → Place → Bool
+is_held ops place = is_some (held_in place ops)
+
+-- of these places, those for which no op holds a block, and none is kept
+abbrev pub wanted_of : List Op → List Kept → List Place → List Place
+wanted_of ops cached places = filter (λ place. not (is_held ops place || is_cached cached place)) places
+
+-- those for which no op holds a block, and one is kept
+abbrev pub found_of : List Op → List Kept → List Place → List Place
+found_of ops cached places = filter (λ place. not (is_held ops place) && is_cached cached place) places
+
+-- It may be a read that the tree lets pass, but for bytes that are lost: all its blocks are held or kept then, and those
+-- that are kept were used. Any other call uses none.
+abbrev pub UsesKept : Stocked → (old new : List Kept) → Call → Type 0
+UsesKept stock old new (calls.Read path offset count) =
+    (refusal_of (plain_of whole stock.tree) (calls.Read path offset count) ≢ None → new ≡ old)
+    × (refusal_of (plain_of whole stock.tree) (calls.Read path offset count) ≡ None
+    → (tape : Tape) (g : Given) (on : Bool) (st : Standing) → IsStock tape g on st stock
+    → (wanted_of stock.layout.ops old (distinct (blocks_in (st.files (uid_at st.tree.nodes path)) offset count)) ≡ [])
+    × (new ≡ used_all old
+    (found_of stock.layout.ops old (distinct (blocks_in (st.files (uid_at st.tree.nodes path)) offset count)))))
+UsesKept stock old new call = new ≡ old
 
 pub record Answers {D : Type 0} (who nth : ℕ) (call : Call) (at : Moment) (told : Answer) (old new : Parts D)
     : Type 0 where
-  pub told_is : IsAnswerFor old.stock call at told
-  pub held : AreHeld old.stock call
+  pub told_is : IsAnswerFor old.stock old.cached call at told
+  pub uses : UsesKept old.stock old.cached new.cached call
   pub no_sync : told ≢ the_answers.Synced
   pub stock : new.stock ≡ old.stock
   pub asks : AsksNothing old new
@@ -139,6 +166,7 @@ pub record Changes {D : Type 0} (who nth : ℕ) (call : Call) (at : Moment) (old
   pub ops : new.stock.layout.ops ≡ old.stock.layout.ops ++ asked
   pub moves : MovesNothing old new
   pub wants : WantsNothing old new
+  pub cached : new.cached ≡ old.cached
   pub events : new.trail.events ≡ old.trail.events ++ queues_at (map place_of asked)
   pub acks : new.trail.acks ≡ old.trail.acks
   pub places : PlacesCall who nth at fates.Done (Some (the_replies.Answer the_answers.Done)) old new
@@ -161,6 +189,7 @@ pub record Syncs {D : Type 0} (drive : Ghosts D) (who nth : ℕ) (at : Moment) (
   pub ops : new.stock.layout.ops ≡ old.stock.layout.ops ++ asked
   pub moves : MovesNothing old new
   pub wants : WantsNothing old new
+  pub cached : new.cached ≡ old.cached
   pub events : new.trail.events ≡ old.trail.events ++ queues_at (map place_of asked)
       ++ the_events.Syncs (length old.listed.history)
       ∷ synced_at (length old.listed.history)
@@ -172,7 +201,8 @@ pub record Syncs {D : Type 0} (drive : Ghosts D) (who nth : ℕ) (at : Moment) (
 
 -- ---- reads that wait
 
--- A read has the bytes of the blocks that are held, and asks for all others.
+-- A read has the bytes of the blocks that are held, and of those that are kept, which were used then. It asks for all
+-- others.
 pub record Waits {D : Type 0} (who nth : ℕ) (path : List (List ℕ)) (offset count : ℕ) (at : Moment) (old new : Parts D)
     : Type 0 where
   pub free : refusal_of (plain_of whole old.stock.tree) (calls.Read path offset count) ≡ None
@@ -180,16 +210,13 @@ pub record Waits {D : Type 0} (who nth : ℕ) (path : List (List ℕ)) (offset c
   pub ticket : read.ticket ≡ length old.listed.history
   pub wanted : List Place
   pub some : 1 ≤ length wanted
-  pub apart : AllPairs (λ (a b : Place). has_place a (b ∷ []) ≡ false) wanted
-  pub unheld : All (λ (place : Place). held_in place old.stock.layout.ops ≡ None) wanted
-  pub of_read : All (λ (place : Place). has_place place (places_in read.pieces) ≡ true) wanted
-  pub others : (place : Place) → has_place place (places_in read.pieces) ≡ true → has_place place wanted ≡ false
-      → (bytes : List ℕ) × (held_in place old.stock.layout.ops ≡ Some bytes)
+  pub wanted_is : wanted ≡ wanted_of old.stock.layout.ops old.cached (places_in read.pieces)
+  pub uses : new.cached ≡ used_all old.cached (found_of old.stock.layout.ops old.cached (places_in read.pieces))
   -- the pieces are those of the read, whatever stands
   pub pieces : (tape : Tape) (g : Given) (on : Bool) (st : Standing) → IsStock tape g on st old.stock
       → (filter_map stored_at read.pieces ≡ blocks_in (st.files (uid_at st.tree.nodes path)) offset count)
       × (answer st.tree (calls.Read path offset count) ≡ read_answer tape read.pieces)
-  pub gathers : (items : Items) → IsPlan items old.stock.layout.ops
+  pub gathers : (items : Items) → IsPlan items old.stock.layout.ops → All (IsPlannedBlock items) old.cached
       → IsGathering (tape_on items) (λ place. not (has_place place wanted)) read
   pub stock : new.stock ≡ old.stock
   pub moves : MovesNothing old new
@@ -208,6 +235,7 @@ pub record PutsOff {D : Type 0} (who : ℕ) (old new : Parts D) : Type 0 where
   pub stock : new.stock ≡ old.stock
   pub moves : MovesNothing old new
   pub wants : WantsNothing old new
+  pub cached : new.cached ≡ old.cached
   pub events : new.trail.events ≡ old.trail.events ++ the_events.Drains who ∷ []
   pub acks : new.trail.acks ≡ old.trail.acks
   pub history : new.listed.history ≡ old.listed.history

@@ -1,5 +1,5 @@
 -- What a step of the head makes of the parts of a volume.
-use Rattle.std.specs.Prelude.{ℕ, ◌≡◌, ◌≢◌, ◌&&◌, ◌==◌, not, Bool, true, false, cond, List, [], ◌∷◌, ◌++◌, filter, fold}
+use Rattle.std.specs.Prelude.{ℕ, ◌≡◌, ◌≢◌, ◌⊎◌, ◌&&◌, ◌==◌, not, Bool, true, false, cond, List, [], ◌∷◌, ◌++◌, filter, fold}
 use Rattle.std.specs.Prelude.{length, map, Option, Some, None, slice_get, slice_set}
 use Rattle.std.specs.List.{list_any}
 use Rattle.tape_types.specs.declared.cartridges.Cartridge.{Cartridge}
@@ -8,6 +8,8 @@ use Rattle.tape_types.specs.declared.cartridges.Place.{Place}
 use Rattle.tape_types.specs.declared.cartridges.Twin.{Twin}
 use Rattle.tape_drive.specs.declared.drive.Drive.{Ghosts}
 use Rattle.tape_drive.specs.declared.drive.Got.{Got}
+use Rattle.tape_drive.specs.declared.drive.Got.TheVariants as gots
+use Rattle.block_cache.specs.Kept.{Kept, with_block}
 use Rattle.plain_tree.specs.declared.calls.Answer.{Answer}
 use Rattle.plain_tree.specs.declared.calls.Answer.TheVariants as the_answers
 use Rattle.extent_map.specs.Replies.{Places, has_place, places_in}
@@ -93,6 +95,7 @@ pub record DoesOp {D : Type 0} (drive : Ghosts D) (op : Op) (end : StepDone) (ti
   pub replies : new.listed.replies ≡ all_synced tickets old.listed.replies
   pub queue : new.queue ≡ old.queue
   pub reads : new.reads ≡ old.reads
+  pub cached : new.cached ≡ old.cached
 
 -- who has waited longest is told of a fault, where it is a sync
 abbrev pub told_fault : Option Waiter → Twin → List (Option Reply) → List (Option Reply)
@@ -115,6 +118,7 @@ pub record FailsOp {D : Type 0} (drive : Ghosts D) (op : Op) (later : List Op) (
   pub replies : new.listed.replies ≡ told_fault (first_waiter (state old.trail)) counts old.listed.replies
   pub queue : new.queue ≡ old.queue
   pub reads : new.reads ≡ old.reads
+  pub cached : new.cached ≡ old.cached
 
 -- ---- reads
 
@@ -157,6 +161,11 @@ pub record ReadsOnly {D : Type 0} (old new : Parts D) : Type 0 where
   pub trail : IsTrail new.trail.events
   pub arrived : new.queue.arrived ≡ old.queue.arrived
 
+-- A block that was read is kept, or there is no memory for it. What isn't a block isn't kept.
+abbrev pub IsKeptAfter : Got → Place → List ℕ → (old new : List Kept) → Type 0
+IsKeptAfter gots.Block place block old new = (new ≡ old) ⊎ (new ≡ with_block place block old)
+IsKeptAfter _ place block old new = new ≡ old
+
 -- A block was read for a request.
 pub record ReadsBlock {D : Type 0} (drive : Ghosts D) (ticket : ℕ) (place : Place) (got : Got) (block : List ℕ)
     (old new : Parts D) : Type 0 where
@@ -171,6 +180,7 @@ pub record ReadsBlock {D : Type 0} (drive : Ghosts D) (ticket : ℕ) (place : Pl
   pub filled : IsFilledBy place block read.one next
   pub reads : IsReadOn (list_any (λ w. w.owner == ticket) new.queue.waiting) ticket read.front read.behind next
       new.reads old.listed.replies new.listed.replies
+  pub cached : IsKeptAfter got place block old.cached new.cached
 
 -- The step for a request failed: its read is told, and wants nothing more.
 pub record FailsRead {D : Type 0} (drive : Ghosts D) (ticket : ℕ) (place : Place) (counts : Twin) (old new : Parts D)
@@ -183,6 +193,7 @@ pub record FailsRead {D : Type 0} (drive : Ghosts D) (ticket : ℕ) (place : Pla
   pub read : IsOneRead old.reads ticket
   pub reads : new.reads ≡ read.front ++ read.behind
   pub replies : new.listed.replies ≡ replied ticket (the_replies.Fault counts) old.listed.replies
+  pub cached : new.cached ≡ old.cached
 
 -- ---- what a step shows
 

@@ -37,8 +37,10 @@ use Rattle.held_volume.specs.Stocks.{IsStock}
 use Rattle.event_journal.specs.Trails.{due_ticket, state}
 use Rattle.plan_laws.specs.Planned.{Items, IsDoneAt, IsOnWay, IsPlan, IsPutBy, LieBelow, ends_in, tape_on}
 use Rattle.group_laws.specs.Groups.{IsGrouped}
+use Rattle.block_cache.specs.Kept.{Kept}
 use Rattle.waiting_reads.specs.Gathering.{Gathering, IsGathering, read_answer}
 use Rattle.state_laws.specs.Parts.{Parts, view_of}
+use Rattle.state_laws.specs.Placing.{IsPlannedBlock}
 
 -- a request waits for this place of the history
 abbrev pub is_of : ℕ → Request → Bool
@@ -76,6 +78,11 @@ pub record AreReading (g : Given) (on : Option ℕ) (history : List Placed) (pla
   pub apart : AllPairs (λ (a b : Gathering). (a.ticket == b.ticket) ≡ false) reads
   pub asked : All (IsAsked planned ops reads) st.requests
 
+-- a block that is kept stands on tape already, and where the drive told a cartridge at the start, with its bytes
+pub record IsKeptRightly (planned : Items) (ops : List Op) (told : Option Cartridge) (block : Kept) : Type 0 where
+  pub stands : IsDoneAt planned ops block.0
+  pub bytes : IfSome told (λ c. IsPlannedBlock planned block)
+
 -- a byte of some file stands in the block at this position
 pub record FilesStandIn (files : Files) (part : Part) (pos : ℕ) : Type 0 where
   pub uid : ℕ
@@ -90,8 +97,8 @@ pub record AreFilesRight (files : Files) (ends : Ends) (ops : List Op) : Type 0 
       → (block : List ℕ) × (held_in (record { part = part; pos = pos }) ops ≡ Some block)
 
 -- The parts of a volume that is served from a mount: the queue has the requests of its events, and no sync is due; what
--- is held is what stands, on the tape that there is once all ops are done; and where the drive tells a cartridge, that
--- is on the way there. Where it tells none, it told none at the start. All that is planned lies within the capacities.
+-- is held is what stands, on the tape that there is once all ops are done, as do the blocks that are kept; and where the
+-- drive tells a cartridge, that is on the way there. Where it tells none, it told none at the start. All that is planned lies within the capacities.
 pub record IsTied {D : Type 0} (drive : Ghosts D) (fixed : Fixed D) (planned : Items) (p : Parts D) : Type 0 where
   pub limits : IsLimits (drive.limits fixed.first)
   pub mount : IsMount (drive.limits fixed.first) fixed.mounted
@@ -116,6 +123,7 @@ pub record IsTied {D : Type 0} (drive : Ghosts D) (fixed : Fixed D) (planned : I
   pub way : (c : Cartridge) → drive.held p.drive ≡ Some c → IsOnWay planned p.stock.layout.ops c
   pub reads : AreReading (given (view_of fixed None p) (seen drive fixed.first)) p.on p.listed.history planned
       (drive.held fixed.first) p.stock.layout.ops (state p.trail) p.reads
+  pub cached : All (IsKeptRightly planned p.stock.layout.ops (drive.held fixed.first)) p.cached
 
 -- what is planned is what the theory of crashes knows of, on the volume that was mounted
 pub record IsKnownAs (label : Label) (known : Planned) (planned : Items) : Type 0 where
