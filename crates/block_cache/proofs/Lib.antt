@@ -1,3 +1,4 @@
 pub mod KeptLemmas
 pub mod LawLemmas
+mod UseLemmas
 mod WorkedLemmas

@@ -1,7 +1,7 @@
 //! A cache of blocks.
 
 ghost use Rattle.std.specs.Prelude.{◌≡◌, ◌⊎◌, true, [], length, IfOk, option_copied};
-ghost use Rattle.block_cache.specs.Kept.{AreKept, bytes_at, is_cached, used, with_block};
+ghost use Rattle.block_cache.specs.Kept.{AreKept, bytes_at, is_cached, used, used_all, with_block};
 
 use lru::LruCache;
 use std::alloc::Global;
@@ -9,10 +9,12 @@ use std::marker::Model;
 use std::num::NonZeroUsize;
 use tape_types::{Bytes, NoMemory, Place};
 
-/// At most 64 blocks that were read, each with its place, the one that was used last first.
+/// At most 64 blocks that were read, each with its place, the one that was used last first; and where memory for more
+/// comes from.
 #[derive(Drop)]
 pub struct BlockCache {
     blocks: LruCache<Place, Bytes>,
+    alloc: Global,
 }
 
 impl Model for BlockCache {
@@ -35,7 +37,7 @@ impl BlockCache {
             unreachable!();
         };
         let blocks = LruCache::new(alloc, most)?;
-        Ok(BlockCache { blocks })
+        Ok(BlockCache { blocks, alloc })
     }
 
     /// The block at a place, where it is kept. It doesn't count as used.
@@ -63,6 +65,26 @@ impl BlockCache {
         match self.blocks.put(place, bytes) {
             Ok(_) => (),
             Err(_) => (),
+        }
+    }
+
+    /// Keeps a copy of a block that was read, or changes nothing where there is no memory for it.
+    pub fn keep_copy(&mut self, place: Place, bytes: &[u8])
+        ensures { (self.new ≡ with_block place bytes.now self.old) ⊎ (self.new ≡ self.old) }
+    {
+        let mut copy = Bytes::new(self.alloc);
+        if copy.extend(bytes).is_ok() {
+            self.keep(place, copy);
+        }
+    }
+
+    /// The blocks at these places were used, one after the other.
+    #[tactic(auto, using(crate::proofs::UseLemmas::used_next, crate::proofs::UseLemmas::used_ends))]
+    pub fn used_all(&mut self, places: &[Place])
+        ensures { self.new ≡ used_all self.old places.now }
+    {
+        for place in places {
+            self.used(*place);
         }
     }
 

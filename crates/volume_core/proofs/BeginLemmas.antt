@@ -37,8 +37,8 @@ pub can_start : (limits told : Limits) (m : Mounted) → told ≡ limits → IsL
 can_start limits told m is range mount =
     mounts_can_start told m range (subst (λ (l : Limits). IsMount l m) (sym is) mount)
 
--- no event has come, nothing waits, nothing was placed and nothing is read; there is room for so many calls of so many
--- sessions
+-- no event has come, nothing waits, nothing was placed, nothing is read and no block is kept; there is room for so many
+-- calls of so many sessions
 pub record AreNew {D : Type 0} (calls sessions : ℕ) (p : Parts D) : Type 0 where
   pub events : p.trail.events ≡ []
   pub acks : p.trail.acks ≡ []
@@ -53,6 +53,7 @@ pub record AreNew {D : Type 0} (calls sessions : ℕ) (p : Parts D) : Type 0 whe
   pub reads : p.reads ≡ []
   pub answered : p.answered ≡ []
   pub on : p.on ≡ None
+  pub cached : p.cached ≡ []
 
 -- what is held is what stands first, from this mount on
 pub record IsStarted (limits : Limits) (m : Mounted) (stock : Stocked) : Type 0 where
@@ -80,6 +81,7 @@ are_fresh {D = D} drive fixed first m limits calls sessions p begins limits_are 
   reads = new.reads;
   answered = new.answered;
   on = new.on;
+  cached = new.cached;
   ops = stock.ops;
   stands = λ tape g from.
       let here = subst (λ (l : Limits). StartsFrom tape l fixed.mounted g)

@@ -129,6 +129,7 @@ module _ {D : Type 0} (who nth : ℕ) (at : Moment) (counts : Twin) (old new : H
       reads = ap (λ (p : Held D). p.reads.reads) others;
       answered = ap (λ (p : Held D). p.reads.answered) others;
       on = ap (λ (p : Held D). p.on) others;
+      cached = ap (λ (p : Held D). p.cache) others;
       acks = ap (λ (p : Held D). p.trail.acks) others ∙ acks;
     };
     places = subst (λ n. PlacesCall who n at fates.Void (Some (Fault counts)) (seen_parts old) (seen_parts new)) nth_is

@@ -8,6 +8,7 @@ ghost use Rattle.call_laws.specs.StartLaws.{IsFresh};
 ghost use Rattle.volume_steps.specs.Seen.{seen_parts};
 ghost use Rattle.volume_core.specs.Beginning.{BeginsWith};
 
+use block_cache::BlockCache;
 use cartridge_meaning::Mounted;
 use event_journal::{Placements, Trail};
 use head_core::Head;
@@ -41,6 +42,9 @@ pub fn begin<D: Drive>(
     let Ok(placements) = Placements::new(alloc, calls, sessions) else {
         return Err(drive);
     };
+    let Ok(cache) = BlockCache::new(alloc) else {
+        return Err(drive);
+    };
     match Head::new(alloc, drive) {
         Ok(head) => Ok(Parts {
             head,
@@ -50,6 +54,7 @@ pub fn begin<D: Drive>(
             placements,
             reads: Readings::new(alloc),
             on: None,
+            cache,
         }),
         Err(drive) => Err(drive),
     }

@@ -1,8 +1,8 @@
 -- Reads that are answered at once, and reads that wait.
-use Rattle.std.specs.Prelude.{ℕ, suc, ◌≡◌, ◌≢◌, ◌+◌, ◌≤◌, ◌||◌, not, Bool, true, false, List, [], ◌∷◌, ◌++◌, All, AllPairs, Contains, Option, Some, None, filter, filter_map, fold, is_none, length, map}
+use Rattle.std.specs.Prelude.{ℕ, suc, cond, slice_get, ◌≡◌, ◌≢◌, ◌+◌, ◌≤◌, ◌||◌, not, Bool, true, false, List, [], ◌∷◌, ◌++◌, All, AllPairs, Contains, Option, Some, None, filter, filter_map, fold, is_none, length, map}
 use Rattle.std.specs.List.{flat_map, list_any}
 use Rattle.std.proofs.Common.{refl, sym, ap, subst, ◌∙◌, arith}
-use Rattle.std.proofs.lemmas.List.Elements.{All-cons, All-filter, filter_passes}
+use Rattle.std.proofs.lemmas.List.Elements.{All-cons, All-filter, All-head, All-tail, filter_passes}
 use Rattle.std.proofs.lemmas.List.Kept.{AllPairs-cons, AllPairs-filter}
 use Rattle.tape_types.specs.declared.cartridges.Place.{Place}
 use Rattle.tape_types.specs.declared.moments.Moment.{Moment}
@@ -17,7 +17,7 @@ use Rattle.plain_tree.specs.declared.calls.Fate.TheVariants as fates
 use Rattle.plain_tree.specs.declared.calls.Refusal.{Refusal}
 use Rattle.extent_map.specs.Cells.{Tape}
 use Rattle.extent_map.specs.Pieces.{read_piece}
-use Rattle.extent_map.specs.Replies.{distinct, has_place, place_in, places_in, same_place}
+use Rattle.extent_map.specs.Replies.{IsBlock, distinct, has_place, place_in, places_in, same_place}
 use Rattle.extent_map.specs.declared.pieces.Piece.{Piece}
 use Rattle.extent_map.specs.declared.pieces.Piece.TheVariants.{Stored, Zeros}
 use Rattle.session_script.specs.declared.logs.Event.{Event}
@@ -51,11 +51,16 @@ use Rattle.waiting_reads.specs.Gathering.{Gathering, IsAnswered, IsGathering, go
 use Rattle.plan_laws.specs.Planned.{IsPlan, Items, NoMarks, tape_on}
 use Rattle.plan_laws.proofs.Plans.{plan_held}
 use Rattle.state_laws.specs.Parts.{Parts}
-use Rattle.state_laws.specs.Placing.{PlacesCall, Waits, marks_for}
+use Rattle.state_laws.specs.Placing.{IsPlannedBlock, PlacesCall, Waits, found_of, is_held, marks_for, wanted_of}
 use Rattle.volume_steps.specs.Asking.{Awaits, CanAsk, CanPlace, Finishes, IsSubmitted, Reserves, Stands}
-use Rattle.volume_steps.specs.Wanted.{AreTakenFrom, AsksBlocks, CanWantBlocks, HasEvents, HasHeld, HasRequests, IsFetched, held_among, unheld}
-use Rattle.tape_types.proofs.Places.{same_itself}
-use Rattle.volume_steps.proofs.FillLemmas.{gathering_alike, held_or_wanted, held_there, or_first, or_second, stored_place}
+use Rattle.volume_steps.specs.Wanted.{AreTakenFrom, AsksBlocks, CanWantBlocks, HasEvents, HasHeld, HasKept, HasRequests, IsFetched, there_among}
+use Rattle.tape_types.proofs.Places.{same_places}
+use Rattle.tape_types.specs.declared.cartridges.Item.{Item}
+use Rattle.extent_map.specs.Cells.{byte_in}
+use Rattle.block_cache.specs.Kept.{Kept, bytes_at, is_cached, used_all}
+use Rattle.call_laws.proofs.ReadBlocks.{stored_list}
+use Rattle.call_laws.proofs.Uses.{wanted_unheld}
+use Rattle.volume_steps.proofs.FillLemmas.{gathering_alike, there_or_wanted}
 use Rattle.volume_steps.proofs.QueueLemmas.{none_is_due}
 use Rattle.volume_steps.proofs.SubmitLemmas.{as_it_was, placed_answered}
 use Rattle.volume_steps.proofs.RequestLemmas.{state_after}
@@ -75,12 +80,12 @@ pub read_refused : {D : Type 0} (drive : Ghosts D) (who nth : ℕ) (path : List 
     → Finishes who nth at fates.Done (the_replies.Answer (the_answers.Refused why)) result old new
     → IsSubmitted drive who nth at old new (calls.Read path offset count) result
 read_refused drive who nth path offset count at why result old new can is told f =
-    placed_answered drive who nth (calls.Read path offset count) at (the_answers.Refused why) result old old new can.trail
+    placed_answered drive who nth (calls.Read path offset count) at (the_answers.Refused why) result old old new old.cached can.trail
     (λ items g on st plan stock. (
-      sym (ap (λ r. answer_unless r (value_of st.tree (calls.Read path offset count))) (told (tape_on items) g on st stock)),
+      λ may. sym (ap (λ r. answer_unless r (value_of st.tree (calls.Read path offset count))) (told (tape_on items) g on st stock)),
       nothing_asked (refusal_of st.tree (calls.Read path offset count)),
     ))
-    (λ free. let clash : Some why ≡ None = sym is ∙ free in absurd cc)
+    (λ isnt. refl, λ free. let clash : Some why ≡ None = sym is ∙ free in absurd cc)
     (λ synced. cc)
     refl (as_it_was old) f
 
@@ -109,23 +114,33 @@ answers_alike (Some bytes) = refl
 planned_held : (items : Items) (ops : List Op) → IsPlan items ops → HasHeld (tape_on items) ops
 planned_held items ops plan place bytes held = plan_held items ops place bytes plan held
 
-fetched_gathers : (stock : Stocked) (ticket : ℕ) (path : List (List ℕ)) (offset count : ℕ) (read : Gathering) (wanted : List Place)
-    → IsFetched stock ticket path offset count read wanted → (items : Items) → IsPlan items stock.layout.ops
-    → IsGathering (tape_on items) (λ place. not (has_place place wanted)) read
-fetched_gathers stock ticket path offset count read wanted f items plan =
-    gathering_alike (tape_on items) (held_among stock.layout.ops (places_in read.pieces)) (λ place. not (has_place place wanted)) read
-    (λ place has.
-    held_or_wanted stock.layout.ops place (places_in read.pieces) has
-    ∙ ap (λ (ps : List Place). not (has_place place ps)) (sym f.wanted_are))
-    (f.gathers (tape_on items) (planned_held items stock.layout.ops plan))
+-- and so do those that are kept
+kept_by : (items : Items) (place : Place) (block : Kept) (bytes : List ℕ) → same_place place block.0 ≡ true → block.1 ≡ bytes → IsPlannedBlock items block → IsBlock (tape_on items) place bytes
+kept_by items place block bytes at is planned byte =
+    ap (λ (p : Place). byte_in (slice_get (items p.part) p.pos) byte) (same_places place block.0 at)
+    ∙ ap (λ (o : Option Item). byte_in o byte) planned ∙ ap (λ (bs : List ℕ). slice_get bs byte) is
 
--- a place of the read that isn't wanted is held
-fetched_held : (stock : Stocked) (ticket : ℕ) (path : List (List ℕ)) (offset count : ℕ) (read : Gathering) (wanted : List Place)
-    → IsFetched stock ticket path offset count read wanted → (place : Place) → has_place place (places_in read.pieces) ≡ true
-    → has_place place wanted ≡ false → (bytes : List ℕ) × (held_in place stock.layout.ops ≡ Some bytes)
-fetched_held stock ticket path offset count read wanted f place has out =
-    held_there stock.layout.ops place (places_in read.pieces) has
-    (sym (ap (has_place place) f.wanted_are) ∙ out)
+planned_kept : (items : Items) (cached : List Kept) → All (IsPlannedBlock items) cached → HasKept (tape_on items) cached
+planned_kept items [] all place bytes is = absurd (let no : None ≡ Some bytes = is in cc)
+planned_kept items (block ∷ cached) all place bytes is = by (same_place place block.0) refl is (planned_kept items cached (All-tail (IsPlannedBlock items) block cached all) place bytes)
+  where
+    some_inside : (a b : List ℕ) → Some a ≡ Some b → a ≡ b
+    some_inside a b e = cc
+
+    by : (b : Bool) → same_place place block.0 ≡ b → cond b (Some block.1) (bytes_at cached place) ≡ Some bytes
+        → (bytes_at cached place ≡ Some bytes → IsBlock (tape_on items) place bytes) → IsBlock (tape_on items) place bytes
+    by true at e rest = kept_by items place block bytes at (some_inside block.1 bytes e) (All-head (IsPlannedBlock items) block cached all)
+    by false at e rest = rest e
+
+fetched_gathers : (stock : Stocked) (cached : List Kept) (ticket : ℕ) (path : List (List ℕ)) (offset count : ℕ) (read : Gathering) (wanted found : List Place)
+    → IsFetched stock cached ticket path offset count read wanted found → (items : Items) → IsPlan items stock.layout.ops → All (IsPlannedBlock items) cached
+    → IsGathering (tape_on items) (λ place. not (has_place place wanted)) read
+fetched_gathers stock cached ticket path offset count read wanted found f items plan kept =
+    gathering_alike (tape_on items) (there_among stock.layout.ops cached (places_in read.pieces)) (λ place. not (has_place place wanted)) read
+    (λ place has.
+    there_or_wanted stock.layout.ops cached place (places_in read.pieces) has
+    ∙ ap (λ (ps : List Place). not (has_place place ps)) (sym f.wanted_are))
+    (f.gathers (tape_on items) (planned_held items stock.layout.ops plan) (planned_kept items cached kept))
 
 none_by : {X : Type 0} (xs : List X) → length xs ≡ 0 → xs ≡ []
 none_by [] is = refl
@@ -141,44 +156,40 @@ answer_is : (stock : Stocked) (path : List (List ℕ)) (offset count : ℕ) (rea
     → answer st.tree (calls.Read path offset count) ≡ read_answer tape read.pieces
 answer_is stock path offset count read tape st p = p.answers ∙ answers_alike (bytes_of (flat_map (read_piece tape) read.pieces))
 
+-- the places of the read are its blocks, each once
+places_are : (stock : Stocked) (path : List (List ℕ)) (offset count : ℕ) (read : Gathering) (tape : Tape) (g : Given) (st : Standing)
+    → IsReadPlan tape st stock.tree path offset count read.pieces
+    → places_in read.pieces ≡ distinct (blocks_in (st.files (uid_at st.tree.nodes path)) offset count)
+places_are stock path offset count read tape g st p = ap distinct (stored_list read.pieces ∙ blocks_are stock path offset count read tape g st p)
+
 -- ---- reads that are answered
 
 pub read_told : {D : Type 0} (drive : Ghosts D) (who nth : ℕ) (path : List (List ℕ)) (offset count : ℕ) (at : Moment) (told : Answer)
-    (read : Gathering) (wanted : List Place) (result : Submitted) (old new : Parts D) → CanAsk who old
-    → IsFetched old.stock (length old.listed.history) path offset count read wanted → length wanted ≡ 0
+    (read : Gathering) (wanted found : List Place) (result : Submitted) (old new : Parts D) (cached : List Kept) → CanAsk who old
+    → refusal_of (plain_of whole old.stock.tree) (calls.Read path offset count) ≡ None
+    → IsFetched old.stock old.cached (length old.listed.history) path offset count read wanted found → length wanted ≡ 0
+    → cached ≡ used_all old.cached found
     → IsAnswered read told → told ≢ the_answers.Synced
-    → Finishes who nth at fates.Done (the_replies.Answer told) result old new
+    → Finishes who nth at fates.Done (the_replies.Answer told) result (record old { cached = cached }) new
     → IsSubmitted drive who nth at old new (calls.Read path offset count) result
-read_told drive who nth path offset count at told read wanted result old new can f none is no_sync finishes =
+read_told drive who nth path offset count at told read wanted found result old new cached can free f none uses is no_sync finishes =
     let out : (place : Place) → has_place place wanted ≡ false = λ place. ap (has_place place) (none_by wanted none) in
     let here : ℕ = length old.listed.history in
-    placed_answered drive who nth (calls.Read path offset count) at told result old old new can.trail
+    placed_answered drive who nth (calls.Read path offset count) at told result old old new cached can.trail
     (λ items g on st plan stock. (
-      is (tape_on items) (λ place. not (has_place place wanted))
-          (fetched_gathers old.stock here path offset count read wanted f items plan) (λ place has. ap not (out place))
+      λ may. is (tape_on items) (λ place. not (has_place place wanted))
+          (fetched_gathers old.stock old.cached here path offset count read wanted found f items plan may) (λ place has. ap not (out place))
           ∙ sym (answer_is old.stock path offset count read (tape_on items) st (f.plan (tape_on items) g on st stock)),
       nothing_asked (refusal_of st.tree (calls.Read path offset count)),
     ))
-    (λ free tape g on st stock place has.
-    fetched_held old.stock here path offset count read wanted f place
-    (stored_place place read.pieces
-    (subst (λ (ps : List Place). Contains ps place)
-    (sym (blocks_are old.stock path offset count read tape g st (f.plan tape g on st stock))) has))
-    (out place))
+    (λ isnt. absurd (isnt free),
+    λ unrefused tape g on st stock.
+    let same = places_are old.stock path offset count read tape g st (f.plan tape g on st stock) in
+    (ap (wanted_of old.stock.layout.ops old.cached) (sym same) ∙ sym f.wanted_are ∙ none_by wanted none,
+    uses ∙ ap (used_all old.cached) (f.found_are ∙ ap (found_of old.stock.layout.ops old.cached) same)))
     no_sync refl (as_it_was old) finishes
 
 -- ---- the places that are wanted
-
-is_none_by : {X : Type 0} (o : Option X) → is_none o ≡ true → o ≡ None
-is_none_by None is = refl
-is_none_by (Some x) is = absurd cc
-
-or_false : (a : Bool) → not a ≡ true → (a || false) ≡ false
-or_false true is = absurd cc
-or_false false is = refl
-
-all_mapped : (P Q : Place → Type 0) (places : List Place) → ((place : Place) → P place → Q place) → All P places → All Q places
-all_mapped P Q places h all k d lt = h _ (all k d lt)
 
 all_both : (P Q R : Place → Type 0) (places : List Place) → ((place : Place) → P place → Q place → R place) → All P places
     → All Q places → All R places
@@ -187,32 +198,11 @@ all_both P Q R places h one other k d lt = h _ (one k d lt) (other k d lt)
 no_place : (P : Place → Type 0) → All P []
 no_place P k d lt = absurd (omega (arith, lt))
 
-all_there : (places : List Place) → All (λ place. has_place place places ≡ true) places
-all_there [] = no_place (λ place. has_place place [] ≡ true)
-all_there (p ∷ ps) =
-    All-cons (λ place. has_place place (p ∷ ps) ≡ true) p ps (or_first (same_place p p) (has_place p ps) (same_itself p))
-    (all_mapped (λ place. has_place place ps ≡ true) (λ place. has_place place (p ∷ ps) ≡ true) ps
-    (λ place has. or_second (same_place place p) (has_place place ps) has) (all_there ps))
-
-abbrev Apart : Place → Place → Type 0
-Apart a b = has_place a (b ∷ []) ≡ false
-
-no_pair : AllPairs Apart []
-no_pair i j d lt within = absurd (omega (arith, within))
-
-apart_once : (places : List Place) → AllPairs Apart (distinct places)
-apart_once [] = no_pair
-apart_once (p ∷ ps) =
-    AllPairs-cons Apart p (filter (λ other. not (same_place p other)) (distinct ps))
-    (all_mapped (λ other. not (same_place p other) ≡ true) (Apart p) (filter (λ other. not (same_place p other)) (distinct ps))
-    (λ other is. or_false (same_place p other) is) (filter_passes (λ other. not (same_place p other)) (distinct ps)))
-    (AllPairs-filter Apart (λ other. not (same_place p other)) (distinct ps) (apart_once ps))
-
 -- ---- reads that wait
 
-placed_on : {D : Type 0} (who nth : ℕ) (at : Moment) (old mid new : Parts D) → mid.listed ≡ old.listed
-    → PlacesCall who nth at fates.Done None mid new → PlacesCall who nth at fates.Done None old new
-placed_on who nth at old mid new same p = record {
+placed_on : {D : Type 0} (who nth : ℕ) (at : Moment) (old mid new : Parts D) (cached : List Kept) → mid.listed ≡ old.listed
+    → PlacesCall who nth at fates.Done None (record mid { cached = cached }) new → PlacesCall who nth at fates.Done None old new
+placed_on who nth at old mid new cached same p = record {
   history = p.history ∙ ap (λ (l : Listed). l.history ++ record { who = who; nth = nth; at = at; fate = fates.Done } ∷ []) same;
   replies = p.replies ∙ ap (λ (l : Listed). l.replies ++ None ∷ []) same;
   marks = p.marks ∙ ap (λ (l : Listed). l.marks ++ marks_for who (length l.history) None) same;
@@ -221,15 +211,14 @@ placed_on who nth at old mid new same p = record {
 }
 
 pub read_waits : {D : Type 0} (drive : Ghosts D) (who nth : ℕ) (path : List (List ℕ)) (offset count : ℕ) (at : Moment) (read : Gathering)
-    (wanted : List Place) (result : Submitted) (old mid new : Parts D)
+    (wanted found : List Place) (result : Submitted) (old mid new : Parts D) (cached : List Kept)
     → refusal_of (plain_of whole old.stock.tree) (calls.Read path offset count) ≡ None
-    → IsFetched old.stock (length old.listed.history) path offset count read wanted → 1 ≤ length wanted
-    → AsksBlocks (length old.listed.history) wanted read old mid → Awaits who nth at result mid new
+    → IsFetched old.stock old.cached (length old.listed.history) path offset count read wanted found → 1 ≤ length wanted
+    → AsksBlocks (length old.listed.history) wanted read old mid → cached ≡ used_all mid.cached found
+    → Awaits who nth at result (record mid { cached = cached }) new
     → IsSubmitted drive who nth at old new (calls.Read path offset count) result
-read_waits drive who nth path offset count at read wanted result old mid new free f some a w =
+read_waits drive who nth path offset count at read wanted found result old mid new cached free f some a used w =
     let here : ℕ = length old.listed.history in
-    let ops : List Op = old.stock.layout.ops in
-    let places : List Place = places_in read.pieces in
     let trail_is : new.trail ≡ mid.trail = ap (λ (p : Parts _). p.trail) w.others in
     let queue_is : new.queue ≡ mid.queue = ap (λ (p : Parts _). p.queue) w.others in
     let there : state new.trail ≡ fold after (state old.trail) (wants_at here wanted) =
@@ -242,19 +231,13 @@ read_waits drive who nth path offset count at read wanted result old mid new fre
       ticket = f.ticket_is;
       wanted = wanted;
       some = some;
-      apart = subst (λ (ps : List Place). AllPairs Apart ps) (sym f.wanted_are)
-          (AllPairs-filter Apart (λ place. is_none (held_in place ops)) places (apart_once (flat_map place_in read.pieces)));
-      unheld = subst (λ (ps : List Place). All (λ (place : Place). held_in place ops ≡ None) ps) (sym f.wanted_are)
-          (all_mapped (λ place. is_none (held_in place ops) ≡ true) (λ place. held_in place ops ≡ None) (unheld ops places)
-          (λ place is. is_none_by (held_in place ops) is) (filter_passes (λ place. is_none (held_in place ops)) places));
-      of_read = subst (λ (ps : List Place). All (λ (place : Place). has_place place places ≡ true) ps) (sym f.wanted_are)
-          (All-filter (λ place. is_none (held_in place ops)) (λ place. has_place place places ≡ true) places (all_there places));
-      others = fetched_held old.stock here path offset count read wanted f;
+      wanted_is = f.wanted_are;
+      uses = ap (λ (p : Parts _). p.cached) w.others ∙ used ∙ ap (λ (blocks : List Kept). used_all blocks found) a.cached ∙ ap (used_all old.cached) f.found_are;
       pieces = λ tape g on st stock. (
         blocks_are old.stock path offset count read tape g st (f.plan tape g on st stock),
         answer_is old.stock path offset count read tape st (f.plan tape g on st stock),
       );
-      gathers = fetched_gathers old.stock here path offset count read wanted f;
+      gathers = fetched_gathers old.stock old.cached here path offset count read wanted found f;
       stock = ap (λ (p : Parts _). p.stock) w.others ∙ a.stock;
       moves = record {
         drive = ap (λ (p : Parts _). p.drive) w.others ∙ a.drive;
@@ -273,7 +256,7 @@ read_waits drive who nth path offset count at read wanted result old mid new fre
             ∙ sym (ap (λ (st : State). st.arrived) there ∙ has.arrived),
       );
       reads = ap (λ (p : Parts _). p.reads) w.others ∙ a.reads;
-      places = placed_on who nth at old mid new a.listed w.places;
+      places = placed_on who nth at old mid new cached a.listed w.places;
     } in
     subst (λ (end : Submitted). IsSubmitted drive who nth at old new (calls.Read path offset count) end)
     (ap (λ (l : Listed). submitted.Wait (length l.history)) (sym a.listed) ∙ sym w.waits)
@@ -300,34 +283,34 @@ not_passed : (b : Bool) → (b ≡ true → ⊥) → b ≡ false
 not_passed true never = absurd (never refl)
 not_passed false never = refl
 
-no_op_puts : (ops : List Op) (tree : FileTree) (place : Place) → NoMarks ops tree → TreeStandsIn tree place.part place.pos
-    → is_none (held_in place ops) ≡ true → list_any (puts_at place) (map headed ops) ≡ false
-no_op_puts ops tree place marks stands none =
+no_op_puts : (ops : List Op) (cached : List Kept) (tree : FileTree) (place : Place) → NoMarks ops tree → TreeStandsIn tree place.part place.pos
+    → not (is_held ops place || is_cached cached place) ≡ true → list_any (puts_at place) (map headed ops) ≡ false
+no_op_puts ops cached tree place marks stands none =
     not_passed (list_any (puts_at place) (map headed ops))
     (λ put. let has = marks place.part place.pos stands put in
-    let clash : ◌≡◌ {A = Option (List ℕ)} None (Some has.0) = sym (is_none_by (held_in place ops) none) ∙ has.1 in cc)
+    let clash : ◌≡◌ {A = Option (List ℕ)} None (Some has.0) = sym (wanted_unheld ops cached place none) ∙ has.1 in cc)
 
-pub may_want : {D : Type 0} (who : ℕ) (path : List (List ℕ)) (offset count : ℕ) (read : Gathering) (wanted : List Place) (p : Parts D)
-    → CanAsk who p → Stands p → CanWantBlocks p → IsFetched p.stock (length p.listed.history) path offset count read wanted
+pub may_want : {D : Type 0} (who : ℕ) (path : List (List ℕ)) (offset count : ℕ) (read : Gathering) (wanted found : List Place) (p : Parts D)
+    → CanAsk who p → Stands p → CanWantBlocks p → IsFetched p.stock p.cached (length p.listed.history) path offset count read wanted found
     → is_trail_from (state p.trail) (wants_at (length p.listed.history) wanted) ≡ true
-may_want who path offset count read wanted p can stands can_want f =
+may_want who path offset count read wanted found p can stands can_want f =
     let ops : List Op = p.stock.layout.ops in
     let places : List Place = places_in read.pieces in
-    let keep : Place → Bool = λ place. is_none (held_in place ops) in
+    let keep : Place → Bool = λ place. not (is_held ops place || is_cached p.cached place) in
     let stand : All (λ (place : Place). TreeStandsIn p.stock.tree place.part place.pos) places =
     all_distinct (λ (place : Place). TreeStandsIn p.stock.tree place.part place.pos) (flat_map place_in read.pieces)
     (all_stand p.stock.tree read.pieces (f.plan (tape_on stands.planned) stands.g stands.on stands.st stands.stock).stand) in
-    let free : All (λ (place : Place). list_any (puts_at place) (map headed ops) ≡ false) (unheld ops places) =
+    let free : All (λ (place : Place). list_any (puts_at place) (map headed ops) ≡ false) (wanted_of ops p.cached places) =
     all_both (λ (place : Place). TreeStandsIn p.stock.tree place.part place.pos) (λ place. keep place ≡ true)
-    (λ (place : Place). list_any (puts_at place) (map headed ops) ≡ false) (unheld ops places)
-    (λ place there none. no_op_puts ops p.stock.tree place can_want.marks there none)
+    (λ (place : Place). list_any (puts_at place) (map headed ops) ≡ false) (wanted_of ops p.cached places)
+    (λ place there none. no_op_puts ops p.cached p.stock.tree place can_want.marks there none)
     (All-filter keep (λ (place : Place). TreeStandsIn p.stock.tree place.part place.pos) places stand) (filter_passes keep places) in
     subst (λ (ps : List Place). is_trail_from (state p.trail) (wants_at (length p.listed.history) ps) ≡ true) (sym f.wanted_are)
-    (reads_may_want.may (state p.trail) (length p.listed.history) (unheld ops places) record {
+    (reads_may_want.may (state p.trail) (length p.listed.history) (wanted_of ops p.cached places) record {
       calm = none_is_due (state p.trail) can.none_due;
       first = can_want.first;
       apart = reads_may_want.some keep places (reads_may_want.once read.pieces);
-      free = subst (λ (all : List waiting.Op). All (λ (place : Place). list_any (puts_at place) all ≡ false) (unheld ops places)) (sym can_want.ops) free;
+      free = subst (λ (all : List waiting.Op). All (λ (place : Place). list_any (puts_at place) all ≡ false) (wanted_of ops p.cached places)) (sym can_want.ops) free;
     })
 
 -- ---- memory, and what is asked for
@@ -364,25 +347,28 @@ asks_blocks ticket wanted read old mid new r stock listed others events trail as
   };
   reads = reads ∙ ap (λ (gs : List Gathering). gs ++ read ∷ []) r.reads;
   listed = ap (λ (p : Parts _). p.listed) others ∙ listed;
+  cached = ap (λ (p : Parts _). p.cached) others ∙ r.cached;
 }
 
 -- ---- what was fetched is a read
 
-pub fetched : (stock : Stocked) (ticket : ℕ) (path : List (List ℕ)) (offset count : ℕ) (pieces : List Piece) (first read : Gathering)
-    (places empty wanted : List Place)
+pub fetched : (stock : Stocked) (cached : List Kept) (ticket : ℕ) (path : List (List ℕ)) (offset count : ℕ) (pieces : List Piece) (first read : Gathering)
+    (places empty wanted bare found : List Place)
     → ((tape : Tape) (g : Given) (on : Bool) (st : Standing) → IsStock tape g on st stock
     → IsReadPlan tape st stock.tree path offset count pieces)
     → first.ticket ≡ ticket → first.pieces ≡ pieces → ((tape : Tape) → IsGathering tape (λ place. false) first)
-    → places ≡ places_in first.pieces → empty ≡ [] → AreTakenFrom stock.layout.ops places first read empty wanted
-    → IsFetched stock ticket path offset count read wanted
-fetched stock ticket path offset count pieces first read places empty wanted plan ticket_is pieces_are begins places_are none t =
+    → places ≡ places_in first.pieces → empty ≡ [] → bare ≡ [] → AreTakenFrom stock.layout.ops cached places first read empty wanted bare found
+    → IsFetched stock cached ticket path offset count read wanted found
+fetched stock cached ticket path offset count pieces first read places empty wanted bare found plan ticket_is pieces_are begins places_are none no_found t =
     let here : places ≡ places_in read.pieces = places_are ∙ ap places_in (sym t.pieces) in
     record {
       ticket_is = t.ticket ∙ ticket_is;
       plan = λ tape g on st is.
           subst (λ (ps : List Piece). IsReadPlan tape st stock.tree path offset count ps) (sym (t.pieces ∙ pieces_are)) (plan tape g on st is);
-      gathers = λ tape holds.
-          subst (λ (ps : List Place). IsGathering tape (held_among stock.layout.ops ps) read) here (t.gathers tape holds (begins tape));
-      wanted_are = t.wanted ∙ ap (λ (ps : List Place). ps ++ unheld stock.layout.ops places) none
-          ∙ ap (unheld stock.layout.ops) here;
+      gathers = λ tape holds keeps.
+          subst (λ (ps : List Place). IsGathering tape (there_among stock.layout.ops cached ps) read) here (t.gathers tape holds keeps (begins tape));
+      wanted_are = t.wanted_are ∙ ap (λ (ps : List Place). ps ++ wanted_of stock.layout.ops cached places) none
+          ∙ ap (wanted_of stock.layout.ops cached) here;
+      found_are = t.found_are ∙ ap (λ (ps : List Place). ps ++ found_of stock.layout.ops cached places) no_found
+          ∙ ap (found_of stock.layout.ops cached) here;
     }

@@ -39,7 +39,8 @@ use Rattle.event_journal.specs.Trails.{Journaled}
 use Rattle.plan_laws.specs.Planned.{tape_on, with_ops}
 use Rattle.plan_laws.proofs.Stays.{tapes_stay}
 use Rattle.state_laws.specs.Parts.{Parts}
-use Rattle.state_laws.specs.Placing.{AreHeld, Changes, IsVoidFor, only_looks}
+use Rattle.block_cache.specs.Kept.{Kept}
+use Rattle.state_laws.specs.Placing.{Changes, IsVoidFor, only_looks, UsesKept}
 use Rattle.volume_steps.specs.Asking.{CanAsk, Finishes, IsSubmitted, QueuesDone, Reserves, Stands, run, told_void}
 use Rattle.call_laws.specs.SubmitLaws as made
 use Rattle.volume_steps.proofs.RunLemmas.{AsksNoText, between, between_length, runs_of_ops}
@@ -200,6 +201,7 @@ change_done drive who nth call at result ip dp next trail old new s no_wait no_l
         arrived = ap (λ (p : Parts _). p.queue.arrived) q.others;
         reads = ap (λ (p : Parts _). p.reads) q.others;
       };
+      cached = ap (λ (p : Parts _). p.cached) q.others;
       events = q.queues.events ∙ ap (λ (es : List Event). es ++ queues_at (run Ip ip (next.layout.ends.ip - ip) ++ run Dp dp (next.layout.ends.dp - dp))) events
           ∙ ap (λ (ps : List Place). old.trail.events ++ queues_at ps) places;
       acks = q.queues.acks ∙ acks;
@@ -215,17 +217,17 @@ change_done drive who nth call at result ip dp next trail old new s no_wait no_l
 
 -- ---- it is refused, or doesn't fit
 
-holds_none : (stock : Stocked) (call : Call) → may_wait call ≡ false → AreHeld stock call
-holds_none stock (Listing path) is = tt
-holds_none stock (Stat path) is = tt
-holds_none stock (Mkdir path) is = tt
-holds_none stock (Create path) is = tt
-holds_none stock (Write path offset bytes) is = tt
-holds_none stock (Truncate path size) is = tt
-holds_none stock (Read path offset count) is = cc
-holds_none stock (Rename from to) is = tt
-holds_none stock (Remove path) is = tt
-holds_none stock Sync is = tt
+uses_none : (stock : Stocked) (cached next : List Kept) (call : Call) → may_wait call ≡ false → next ≡ cached → UsesKept stock cached next call
+uses_none stock cached next (Listing path) is same = same
+uses_none stock cached next (Stat path) is same = same
+uses_none stock cached next (Mkdir path) is same = same
+uses_none stock cached next (Create path) is same = same
+uses_none stock cached next (Write path offset bytes) is same = same
+uses_none stock cached next (Truncate path size) is same = same
+uses_none stock cached next (Read path offset count) is same = cc
+uses_none stock cached next (Rename from to) is same = same
+uses_none stock cached next (Remove path) is same = same
+uses_none stock cached next Sync is same = same
 
 pub change_refused : {D : Type 0} (drive : Ghosts D) (who nth : ℕ) (call : Call) (at : Moment) (result : Submitted) (refusal : Refusal)
     (old mid new : Parts D) → CanAsk who old → may_wait call ≡ false
@@ -235,13 +237,13 @@ pub change_refused : {D : Type 0} (drive : Ghosts D) (who nth : ℕ) (call : Cal
     → Finishes who nth at fates.Done (the_replies.Answer (the_answers.Refused refusal)) result mid new
     → IsSubmitted drive who nth at old new call result
 change_refused drive who nth call at result refusal old mid new can no_wait refused same r f =
-    placed_answered drive who nth call at (the_answers.Refused refusal) result old mid new can.trail
+    placed_answered drive who nth call at (the_answers.Refused refusal) result old mid new mid.cached can.trail
     (λ items g on st plan stock.
     let is : refusal_of st.tree call ≡ Some refusal = refused (tape_on items) g on st stock in (
-      sym (ap (λ (o : Option Refusal). answer_unless o (value_of st.tree call)) is),
+      λ may. sym (ap (λ (o : Option Refusal). answer_unless o (value_of st.tree call)) is),
       ap (λ (o : Option Refusal). ask_unless o (ask_unrefused g st call at)) is,
     ))
-    (holds_none old.stock call no_wait) (λ e. cc) same r f
+    (uses_none old.stock old.cached mid.cached call no_wait r.cached) (λ e. cc) same r f
 
 abbrev pub VoidAlways : Call → Moment → Stocked → AdmitErr → Type 0
 VoidAlways call at stock error = IsVoidFor stock call at (told_void error)

@@ -46,6 +46,7 @@ reserves_both old stock trail unchanged events acks kept = record {
   waiting = refl;
   arrived = refl;
   reads = refl;
+  cached = refl;
   history = refl;
   replies = refl;
   marks = refl;

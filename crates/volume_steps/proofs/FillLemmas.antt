@@ -1,24 +1,24 @@
 -- What a read takes of what is held.
-use Rattle.std.proofs.Common.{◌≡◌, ℕ, zero, suc, ◌+◌, ◌<◌, ◌≤◌, ◌||◌, not, Bool, true, false, cond, List, [], ◌∷◌, ◌++◌, length, take, get_or, replicate, Option, Some, None, is_none, is_some, ⊎_elim, refl, sym, ap, subst, ◌∙◌, arith, append_assoc, append-nil, take-suc}
+use Rattle.std.proofs.Common.{◌≡◌, ℕ, zero, suc, ◌+◌, ◌<◌, ◌≤◌, ◌||◌, ◌&&◌, not, Bool, true, false, cond, List, [], ◌∷◌, ◌++◌, length, take, get_or, replicate, Option, Some, None, is_some, refl, sym, ap, subst, ◌∙◌, arith, append_assoc, append-nil, take-suc}
 use Rattle.std.specs.List.{filter, flat_map}
-use Rattle.std.specs.Prelude.{Contains, filter_map}
 use Rattle.std.proofs.lemmas.List.Elements.{filter-append}
 use Rattle.std.proofs.lemmas.List.Folds.{list_any-append}
 use Rattle.tape_types.specs.declared.cartridges.Place.{Place}
 use Rattle.plain_tree.specs.Cells.{Cell, bytes_of}
 use Rattle.extent_map.specs.Cells.{Tape}
 use Rattle.extent_map.specs.Pieces.{read_piece}
-use Rattle.extent_map.specs.Replies.{Places, distinct, gathered, gathered_piece, has_place, place_in, places_in, same_place, with_place}
+use Rattle.extent_map.specs.Replies.{IsBlock, Places, gathered, gathered_piece, has_place, place_in, places_in, same_place, with_place}
 use Rattle.extent_map.specs.declared.pieces.Piece.{Piece}
 use Rattle.extent_map.specs.declared.pieces.Piece.TheVariants.{Stored, Zeros}
 use Rattle.tape_types.proofs.Places.{same_back, same_itself, same_places}
 use Rattle.tape_layout.specs.Ops.{held_in}
 use Rattle.tape_layout.specs.declared.ops.Op.{Op}
-use Rattle.serving_promise.specs.Submits.{stored_at}
-use Rattle.reply_laws.proofs.Lists.{in_cases, in_none}
 use Rattle.waiting_reads.specs.Gathering.{Gathering, HasSoFar, IsGathering}
 use Rattle.waiting_reads.specs.Waiting.{IsFilledBy}
-use Rattle.volume_steps.specs.Wanted.{AreTakenFrom, IsTakenFrom, held_among, unheld}
+use Rattle.block_cache.specs.Kept.{Kept, bytes_at, is_cached}
+use Rattle.reply_laws.proofs.Distinct.{has_distinct}
+use Rattle.state_laws.specs.Placing.{is_held, wanted_of}
+use Rattle.volume_steps.specs.Wanted.{AreTakenFrom, HasHeld, HasKept, IsTakenFrom, there_among}
 
 -- ---- places
 
@@ -29,46 +29,6 @@ or_first false b e = absurd cc
 pub or_second : (a b : Bool) → b ≡ true → (a || b) ≡ true
 or_second true b e = refl
 or_second false b e = e
-
-has_filtered : (x y : Place) (ds : List Place) → same_place y x ≡ false
-    → has_place y (filter (λ other. not (same_place x other)) ds) ≡ has_place y ds
-has_filtered x y [] other = refl
-has_filtered x y (d ∷ ds) other = by (same_place x d) refl (has_filtered x y ds other)
-  where
-    by : (b : Bool) → same_place x d ≡ b → has_place y (filter (λ other. not (same_place x other)) ds) ≡ has_place y ds
-        → has_place y (cond (not b) (d ∷ filter (λ other. not (same_place x other)) ds) (filter (λ other. not (same_place x other)) ds)) ≡ (same_place y d || has_place y ds)
-    by true e rest =
-        let d_is : d ≡ x = sym (same_places x d e) in
-        rest ∙ ap (λ t. t || has_place y ds) (sym (ap (same_place y) d_is ∙ other))
-    by false e rest = ap (λ t. same_place y d || t) rest
-
-has_distinct : (xs : List Place) (y : Place) → has_place y (distinct xs) ≡ has_place y xs
-has_distinct [] y = refl
-has_distinct (x ∷ xs) y = by (same_place y x) refl (has_distinct xs y)
-  where
-    by : (b : Bool) → same_place y x ≡ b → has_place y (distinct xs) ≡ has_place y xs
-        → (same_place y x || has_place y (filter (λ other. not (same_place x other)) (distinct xs))) ≡ (same_place y x || has_place y xs)
-    by true e same = ap (λ t. t || has_place y (filter (λ other. not (same_place x other)) (distinct xs))) e ∙ sym (ap (λ t. t || has_place y xs) e)
-    by false e same = ap (λ t. same_place y x || t) (has_filtered x y (distinct xs) e ∙ same)
-
-in_has : (place : Place) (places : List Place) → Contains places place → has_place place places ≡ true
-in_has place [] has = absurd (in_none place has)
-in_has place (x ∷ xs) has = ⊎_elim
-    (λ is. or_first (same_place place x) (has_place place xs) (subst (λ y. same_place place y ≡ true) (sym is) (same_itself place)))
-    (λ later. or_second (same_place place x) (has_place place xs) (in_has place xs later))
-    (in_cases x xs place has)
-
-stored_list : (pieces : List Piece) → flat_map place_in pieces ≡ filter_map stored_at pieces
-stored_list [] = refl
-stored_list (Zeros count ∷ pieces) = stored_list pieces
-stored_list (Stored place byte count ∷ pieces) = ap (λ places. place ∷ places) (stored_list pieces)
-
--- where a piece stands is one of the places of the read
-pub stored_place : (place : Place) (pieces : List Piece) → Contains (filter_map stored_at pieces) place
-    → has_place place (places_in pieces) ≡ true
-stored_place place pieces has =
-    has_distinct (flat_map place_in pieces) place
-    ∙ in_has place (flat_map place_in pieces) (subst (λ places. Contains places place) (sym (stored_list pieces)) has)
 
 -- ---- which of the places are held
 
@@ -107,34 +67,21 @@ has_failed test place (x ∷ xs) fails = by (test x) refl (has_failed test place
     by true pass rest = ap (λ t. t || has_place place (filter test xs)) (other (same_place place x) refl pass) ∙ rest
     by false pass rest = rest
 
-none_some : {X : Type 0} (o : Option X) → is_none o ≡ not (is_some o)
-none_some None = refl
-none_some (Some x) = refl
-
--- of the places of the read, those that are held are those that aren't wanted
-pub held_or_wanted : (ops : List Op) (place : Place) (places : List Place) → has_place place places ≡ true
-    → held_among ops places place ≡ not (has_place place (unheld ops places))
-held_or_wanted ops place places has = by (is_some (held_in place ops)) refl
+-- of the places of the read, those that are there are those that aren't wanted
+pub there_or_wanted : (ops : List Op) (cached : List Kept) (place : Place) (places : List Place) → has_place place places ≡ true
+    → there_among ops cached places place ≡ not (has_place place (wanted_of ops cached places))
+there_or_wanted ops cached place places has = by (is_held ops place || is_cached cached place) refl
   where
-    by : (b : Bool) → is_some (held_in place ops) ≡ b → held_among ops places place ≡ not (has_place place (unheld ops places))
+    there : Place → Bool
+    there p = is_held ops p || is_cached cached p
+
+    by : (b : Bool) → (is_held ops place || is_cached cached place) ≡ b → there_among ops cached places place ≡ not (has_place place (wanted_of ops cached places))
     by true is =
-        has_passed (λ p. is_some (held_in p ops)) place places has is
-        ∙ ap not (sym (has_failed (λ p. is_none (held_in p ops)) place places (none_some (held_in place ops) ∙ ap not is)))
+        has_passed (λ p. is_held ops p || is_cached cached p) place places has is
+        ∙ ap not (sym (has_failed (λ p. not (is_held ops p || is_cached cached p)) place places (ap not is)))
     by false is =
-        has_failed (λ p. is_some (held_in p ops)) place places is
-        ∙ ap not (sym (has_passed (λ p. is_none (held_in p ops)) place places has (none_some (held_in place ops) ∙ ap not is)))
-
--- one that isn't wanted is held
-pub held_there : (ops : List Op) (place : Place) (places : List Place) → has_place place places ≡ true
-    → has_place place (unheld ops places) ≡ false → (bytes : List ℕ) × (held_in place ops ≡ Some bytes)
-held_there ops place places has out = by (held_in place ops) refl
-  where
-    by : (o : Option (List ℕ)) → held_in place ops ≡ o → (bytes : List ℕ) × (held_in place ops ≡ Some bytes)
-    by (Some bytes) is = (bytes, is)
-    by None is =
-        let there : has_place place (unheld ops places) ≡ true = has_passed (λ p. is_none (held_in p ops)) place places has (ap is_none is) in
-        let clash : true ≡ false = sym there ∙ out in
-        cc
+        has_failed (λ p. is_held ops p || is_cached cached p) place places is
+        ∙ ap not (sym (has_passed (λ p. not (is_held ops p || is_cached cached p)) place places has (ap not is)))
 
 -- ---- sets of places that agree on those of the pieces
 
@@ -165,77 +112,118 @@ gathering_alike tape one other g alike is = record { has = by g.whole is.has; lo
 
 -- ---- block after block
 
-pub taken_begins : (ops : List Op) (g : Gathering) (wanted : List Place) → AreTakenFrom ops [] g g wanted wanted
-taken_begins ops g wanted = record {
+pub taken_begins : (ops : List Op) (cached : List Kept) (g : Gathering) (wanted found : List Place) → AreTakenFrom ops cached [] g g wanted wanted found found
+taken_begins ops cached g wanted found = record {
   ticket = refl;
   pieces = refl;
-  gathers = λ tape holds is. is;
-  wanted = sym (append-nil wanted);
+  gathers = λ tape holds keeps is. is;
+  wanted_are = sym (append-nil wanted);
+  found_are = sym (append-nil found);
 }
 
--- a block is held, or wanted
-module _ (ops : List Op) (places : List Place) (place : Place) (start old new : Gathering) (first before after : List Place)
-    (t : AreTakenFrom ops places start old first before) where
-  taken_held : (bytes : List ℕ) → held_in place ops ≡ Some bytes → IsFilledBy place bytes old new → after ≡ before
-      → AreTakenFrom ops (places ++ place ∷ []) start new first after
-  taken_held bytes held filled same =
-      let more : filter (λ p. is_some (held_in p ops)) (places ++ place ∷ []) ≡ filter (λ p. is_some (held_in p ops)) places ++ place ∷ [] =
-      filter-append (λ p. is_some (held_in p ops)) places (place ∷ [])
-      ∙ ap (λ b. filter (λ p. is_some (held_in p ops)) places ++ cond b (place ∷ []) []) (ap is_some held) in
-      let others : unheld ops (places ++ place ∷ []) ≡ unheld ops places =
-      filter-append (λ p. is_none (held_in p ops)) places (place ∷ [])
-      ∙ ap (λ b. unheld ops places ++ cond b (place ∷ []) []) (ap is_none held) ∙ append-nil (unheld ops places) in
+-- a block is kept where its bytes are found
+pub cached_has : (cached : List Kept) (place : Place) → is_cached cached place ≡ is_some (bytes_at cached place)
+cached_has [] place = refl
+cached_has (block ∷ cached) place = by (same_place place block.0) (cached_has cached place)
+  where
+    by : (b : Bool) → is_cached cached place ≡ is_some (bytes_at cached place) → (b || is_cached cached place) ≡ is_some (cond b (Some block.1) (bytes_at cached place))
+    by true rest = refl
+    by false rest = rest
+
+-- a block is held, or kept, or wanted
+module _ (ops : List Op) (cached : List Kept) (places : List Place) (place : Place) (start old new : Gathering) (first before after known found later : List Place)
+    (t : AreTakenFrom ops cached places start old first before known found) where
+  grown : (test : Place → Bool) (b : Bool) → test place ≡ b → filter test (places ++ place ∷ []) ≡ filter test places ++ cond b (place ∷ []) []
+  grown test b is = filter-append test places (place ∷ []) ∙ ap (λ b. filter test places ++ cond b (place ∷ []) []) is
+
+  list_stays : (test : Place → Bool) (from a b : List Place) → test place ≡ false → b ≡ a → a ≡ from ++ filter test places → b ≡ from ++ filter test (places ++ place ∷ [])
+  list_stays test from a b fails same was =
+      same ∙ was ∙ ap (λ (ps : List Place). from ++ ps) (sym (grown test false fails ∙ append-nil (filter test places)))
+
+  list_grows : (test : Place → Bool) (from a b : List Place) → test place ≡ true → b ≡ a ++ place ∷ [] → a ≡ from ++ filter test places → b ≡ from ++ filter test (places ++ place ∷ [])
+  list_grows test from a b passes more was =
+      more ∙ ap (λ (ps : List Place). ps ++ place ∷ []) was ∙ append_assoc from (filter test places) (place ∷ [])
+      ∙ ap (λ (ps : List Place). from ++ ps) (sym (grown test true passes))
+
+  turn : (a b : Bool) → cond a true b ≡ (b || (a || false))
+  turn true true = refl
+  turn true false = refl
+  turn false true = refl
+  turn false false = refl
+
+  with_one : (other : Place) (ps : List Place) → with_place (λ p. has_place p ps) place other ≡ has_place other (ps ++ place ∷ [])
+  with_one other ps =
+      ap (λ a. cond a true (has_place other ps)) (same_back place other)
+      ∙ turn (same_place other place) (has_place other ps)
+      ∙ sym (list_any-append (same_place other) ps (place ∷ []))
+
+  gathers_there : (bytes : List ℕ) → (is_held ops place || is_cached cached place) ≡ true → ((tape : Tape) → HasHeld tape ops → HasKept tape cached → IsBlock tape place bytes)
+      → IsFilledBy place bytes old new → (tape : Tape) → HasHeld tape ops → HasKept tape cached → IsGathering tape (λ place. false) start
+      → IsGathering tape (there_among ops cached (places ++ place ∷ [])) new
+  gathers_there bytes is stands filled tape holds keeps begins =
+      gathering_alike tape (with_place (there_among ops cached places) place) (there_among ops cached (places ++ place ∷ [])) new
+      (λ other has. with_one other (filter (λ p. is_held ops p || is_cached cached p) places) ∙ ap (has_place other) (sym (grown (λ p. is_held ops p || is_cached cached p) true is)))
+      (filled.filled tape (there_among ops cached places) (stands tape holds keeps) (t.gathers tape holds keeps begins))
+
+  gathers_still : (is_held ops place || is_cached cached place) ≡ false → new ≡ old → (tape : Tape) → HasHeld tape ops → HasKept tape cached → IsGathering tape (λ place. false) start
+      → IsGathering tape (there_among ops cached (places ++ place ∷ [])) new
+  gathers_still is same tape holds keeps begins =
+      subst (λ (g : Gathering). IsGathering tape (there_among ops cached (places ++ place ∷ [])) g) (sym same)
+      (gathering_alike tape (there_among ops cached places) (there_among ops cached (places ++ place ∷ [])) old
+      (λ other has. ap (has_place other) (sym (grown (λ p. is_held ops p || is_cached cached p) false is ∙ append-nil (filter (λ p. is_held ops p || is_cached cached p) places))))
+      (t.gathers tape holds keeps begins))
+
+  taken_held : (bytes : List ℕ) → held_in place ops ≡ Some bytes → IsFilledBy place bytes old new → after ≡ before → later ≡ found
+      → AreTakenFrom ops cached (places ++ place ∷ []) start new first after known later
+  taken_held bytes held filled same same_found =
+      let there : is_held ops place ≡ true = ap is_some held in
       record {
         ticket = filled.ticket ∙ t.ticket;
         pieces = filled.pieces ∙ t.pieces;
-        gathers = λ tape holds is.
-            gathering_alike tape (with_place (held_among ops places) place) (held_among ops (places ++ place ∷ [])) new
-            (λ other has. with_one other (filter (λ p. is_some (held_in p ops)) places) ∙ ap (has_place other) (sym more))
-            (filled.filled tape (held_among ops places) (holds place bytes held) (t.gathers tape holds is));
-        wanted = same ∙ t.wanted ∙ ap (λ (ps : List Place). first ++ ps) (sym others);
-      }
-    where
-      turn : (a b : Bool) → cond a true b ≡ (b || (a || false))
-      turn true true = refl
-      turn true false = refl
-      turn false true = refl
-      turn false false = refl
-
-      with_one : (other : Place) (ps : List Place) → with_place (λ p. has_place p ps) place other ≡ has_place other (ps ++ place ∷ [])
-      with_one other ps =
-          ap (λ a. cond a true (has_place other ps)) (same_back place other)
-          ∙ turn (same_place other place) (has_place other ps)
-          ∙ sym (list_any-append (same_place other) ps (place ∷ []))
-
-  taken_wanted : held_in place ops ≡ None → new ≡ old → after ≡ before ++ place ∷ []
-      → AreTakenFrom ops (places ++ place ∷ []) start new first after
-  taken_wanted none same more =
-      let others : filter (λ p. is_some (held_in p ops)) (places ++ place ∷ []) ≡ filter (λ p. is_some (held_in p ops)) places =
-      filter-append (λ p. is_some (held_in p ops)) places (place ∷ [])
-      ∙ ap (λ b. filter (λ p. is_some (held_in p ops)) places ++ cond b (place ∷ []) []) (ap is_some none)
-      ∙ append-nil (filter (λ p. is_some (held_in p ops)) places) in
-      let wanted : unheld ops (places ++ place ∷ []) ≡ unheld ops places ++ place ∷ [] =
-      filter-append (λ p. is_none (held_in p ops)) places (place ∷ [])
-      ∙ ap (λ b. unheld ops places ++ cond b (place ∷ []) []) (ap is_none none) in
-      record {
-        ticket = ap (λ (g : Gathering). g.ticket) same ∙ t.ticket;
-        pieces = ap (λ (g : Gathering). g.pieces) same ∙ t.pieces;
-        gathers = λ tape holds is.
-            subst (λ (g : Gathering). IsGathering tape (held_among ops (places ++ place ∷ [])) g) (sym same)
-            (gathering_alike tape (held_among ops places) (held_among ops (places ++ place ∷ [])) old
-            (λ other has. ap (has_place other) (sym others)) (t.gathers tape holds is));
-        wanted = more ∙ ap (λ (ps : List Place). ps ++ place ∷ []) t.wanted ∙ append_assoc first (unheld ops places) (place ∷ [])
-            ∙ ap (λ (ps : List Place). first ++ ps) (sym wanted);
+        gathers = gathers_there bytes (ap (λ b. b || is_cached cached place) there) (λ tape holds keeps. holds place bytes held) filled;
+        wanted_are = list_stays (λ p. not (is_held ops p || is_cached cached p)) first before after (ap (λ b. not (b || is_cached cached place)) there) same t.wanted_are;
+        found_are = list_stays (λ p. not (is_held ops p) && is_cached cached p) known found later (ap (λ b. not b && is_cached cached place) there) same_found t.found_are;
       }
 
-  pub taken_on : IsTakenFrom (held_in place ops) place old new before after
-      → AreTakenFrom ops (places ++ place ∷ []) start new first after
-  taken_on = by (held_in place ops) refl
+  module _ (none : held_in place ops ≡ None) where
+    unheld : is_held ops place ≡ false
+    unheld = ap is_some none
+
+    taken_kept : (bytes : List ℕ) → bytes_at cached place ≡ Some bytes → IsFilledBy place bytes old new → after ≡ before → later ≡ found ++ place ∷ []
+        → AreTakenFrom ops cached (places ++ place ∷ []) start new first after known later
+    taken_kept bytes kept filled same more =
+        let kept_is : is_cached cached place ≡ true = cached_has cached place ∙ ap is_some kept in
+        let there : (is_held ops place || is_cached cached place) ≡ true = ap (λ b. b || is_cached cached place) unheld ∙ kept_is in
+        record {
+          ticket = filled.ticket ∙ t.ticket;
+          pieces = filled.pieces ∙ t.pieces;
+          gathers = gathers_there bytes there (λ tape holds keeps. keeps place bytes kept) filled;
+          wanted_are = list_stays (λ p. not (is_held ops p || is_cached cached p)) first before after (ap not there) same t.wanted_are;
+          found_are = list_grows (λ p. not (is_held ops p) && is_cached cached p) known found later (ap (λ b. not b && is_cached cached place) unheld ∙ kept_is) more t.found_are;
+        }
+
+    taken_wanted : bytes_at cached place ≡ None → new ≡ old → after ≡ before ++ place ∷ [] → later ≡ found
+        → AreTakenFrom ops cached (places ++ place ∷ []) start new first after known later
+    taken_wanted unkept same more same_found =
+        let kept_isnt : is_cached cached place ≡ false = cached_has cached place ∙ ap is_some unkept in
+        let nowhere : (is_held ops place || is_cached cached place) ≡ false = ap (λ b. b || is_cached cached place) unheld ∙ kept_isnt in
+        record {
+          ticket = ap (λ (g : Gathering). g.ticket) same ∙ t.ticket;
+          pieces = ap (λ (g : Gathering). g.pieces) same ∙ t.pieces;
+          gathers = gathers_still nowhere same;
+          wanted_are = list_grows (λ p. not (is_held ops p || is_cached cached p)) first before after (ap not nowhere) more t.wanted_are;
+          found_are = list_stays (λ p. not (is_held ops p) && is_cached cached p) known found later (ap (λ b. not b && is_cached cached place) unheld ∙ kept_isnt) same_found t.found_are;
+        }
+
+  pub taken_on : IsTakenFrom (held_in place ops) (bytes_at cached place) place old new before after found later
+      → AreTakenFrom ops cached (places ++ place ∷ []) start new first after known later
+  taken_on = by (held_in place ops) refl (bytes_at cached place) refl
     where
-      by : (o : Option (List ℕ)) → held_in place ops ≡ o → IsTakenFrom o place old new before after
-          → AreTakenFrom ops (places ++ place ∷ []) start new first after
-      by (Some bytes) held is = taken_held bytes held is.0 is.1
-      by None held is = taken_wanted held is.0 is.1
+      by : (o : Option (List ℕ)) → held_in place ops ≡ o → (k : Option (List ℕ)) → bytes_at cached place ≡ k → IsTakenFrom o k place old new before after found later
+          → AreTakenFrom ops cached (places ++ place ∷ []) start new first after known later
+      by (Some bytes) held k kept is = taken_held bytes held is.0 is.1 is.2
+      by None held (Some bytes) kept is = taken_kept held bytes kept is.0 is.1 is.2
+      by None held None kept is = taken_wanted held kept is.0 is.1 is.2
 
 -- a list grows by its next item
 pub next_place : (places : List Place) (i : ℕ) (d : Place) → i < length places
@@ -250,19 +238,15 @@ all_places [] (suc i) le = refl
 all_places (p ∷ ps) zero le = absurd (omega (arith, le))
 all_places (p ∷ ps) (suc i) le = ap (λ l. p ∷ l) (all_places ps i (omega (arith, le)))
 
-pub taken_next : (ops : List Op) (places : List Place) (i : ℕ) (d : Place) (start old new : Gathering) (first before after : List Place)
-    → i < length places → AreTakenFrom ops (take i places) start old first before
-    → IsTakenFrom (held_in (get_or places i d) ops) (get_or places i d) old new before after
-    → AreTakenFrom ops (take (i + 1) places) start new first after
-taken_next ops places i d start old new first before after lt t is =
-    subst (λ (ps : List Place). AreTakenFrom ops ps start new first after) (sym (next_place places i d lt))
-    (taken_on ops (take i places) (get_or places i d) start old new first before after t is)
+pub taken_next : (ops : List Op) (cached : List Kept) (places : List Place) (i : ℕ) (d : Place) (start old new : Gathering) (first before after known found later : List Place)
+    → i < length places → AreTakenFrom ops cached (take i places) start old first before known found
+    → IsTakenFrom (held_in (get_or places i d) ops) (bytes_at cached (get_or places i d)) (get_or places i d) old new before after found later
+    → AreTakenFrom ops cached (take (i + 1) places) start new first after known later
+taken_next ops cached places i d start old new first before after known found later lt t is =
+    subst (λ (ps : List Place). AreTakenFrom ops cached ps start new first after known later) (sym (next_place places i d lt))
+    (taken_on ops cached (take i places) (get_or places i d) start old new first before after known found later t is)
 
-pub taken_ends : (ops : List Op) (places : List Place) (i : ℕ) (start new : Gathering) (first after : List Place)
-    → length places ≤ i → AreTakenFrom ops (take i places) start new first after → AreTakenFrom ops places start new first after
-taken_ends ops places i start new first after le t =
-    subst (λ (ps : List Place). AreTakenFrom ops ps start new first after) (all_places places i le) t
-
-pub taken_by : (o held : Option (List ℕ)) (place : Place) (old new : Gathering) (before after : List Place) → o ≡ held
-    → IsTakenFrom o place old new before after → IsTakenFrom held place old new before after
-taken_by o held place old new before after is t = subst (λ h. IsTakenFrom h place old new before after) is t
+pub taken_ends : (ops : List Op) (cached : List Kept) (places : List Place) (i : ℕ) (start new : Gathering) (first after known later : List Place)
+    → length places ≤ i → AreTakenFrom ops cached (take i places) start new first after known later → AreTakenFrom ops cached places start new first after known later
+taken_ends ops cached places i start new first after known later le t =
+    subst (λ (ps : List Place). AreTakenFrom ops cached ps start new first after known later) (all_places places i le) t

@@ -97,6 +97,7 @@ finishes commands op later tickets old mid new first t a =
       queue = s.queue ∙ t.queue;
       answered = s.answered ∙ t.answered;
       reads = s.reads ∙ t.reads;
+      cached = s.cached ∙ t.cached;
     }
 
 abbrev head_or : Op → List Op → Op

@@ -12,7 +12,8 @@ use Rattle.head_queue.specs.Waiting.{Waiting}
 use Rattle.waiting_reads.specs.Gathering.{Gathering}
 use Rattle.waiting_reads.specs.Waiting.{IsFilledOne, IsFinished, IsForgotten, IsTakenOut, StandsAt, has_ticket}
 use Rattle.state_laws.specs.Parts.{Parts}
-use Rattle.state_laws.specs.Stepping.{IsOneRead, IsOneRequest, IsReadAnswer, IsReadOn, KeepsListed, ReadsOnly, replied}
+use Rattle.state_laws.specs.Stepping.{IsKeptAfter, IsOneRead, IsOneRequest, IsReadAnswer, IsReadOn, KeepsListed, ReadsOnly, replied}
+use Rattle.tape_drive.specs.declared.drive.Got.{Got}
 use Rattle.volume_steps.specs.Moves.{MissesBlock, TakesBlock}
 use Rattle.volume_steps.proofs.SyncLemmas.{same_number}
 
@@ -64,18 +65,19 @@ once ticket (x ∷ front) (y ∷ other) a b behind later e f g h i =
 -- ---- a block
 
 -- what is the same however it goes on: the events, and one request less
-pub record TakesRequest {D : Type 0} (ticket : ℕ) (place : Place) (block : List ℕ) (old new : Parts D) : Type 0 where
+pub record TakesRequest {D : Type 0} (ticket : ℕ) (place : Place) (got : Got) (block : List ℕ) (old new : Parts D) : Type 0 where
   pub drive : new.drive ≡ old.drive
   pub only : ReadsOnly old new
   pub events : new.trail.events ≡ old.trail.events ++ Served ticket place None ∷ []
   pub request : IsOneRequest old.queue.waiting ticket place
   pub queue : new.queue.waiting ≡ request.front ++ request.behind
+  pub cached : IsKeptAfter got place block old.cached new.cached
 
-pub waits_on : {D : Type 0} (ticket : ℕ) (place : Place) (block : List ℕ) (old new : Parts D) → TakesRequest ticket place block old new
+pub waits_on : {D : Type 0} (ticket : ℕ) (place : Place) (got : Got) (block : List ℕ) (old new : Parts D) → TakesRequest ticket place got block old new
     → IsFilledOne ticket place block old.reads new.reads → new.listed.replies ≡ old.listed.replies
     → new.answered ≡ old.answered
-    → list_any (λ (w : Waiting). w.owner == ticket) new.queue.waiting ≡ true → TakesBlock ticket place block old new
-waits_on ticket place block old new t filled told answered more = record {
+    → list_any (λ (w : Waiting). w.owner == ticket) new.queue.waiting ≡ true → TakesBlock ticket place got block old new
+waits_on ticket place got block old new t filled told answered more = record {
   drive = t.drive;
   only = t.only;
   events = t.events;
@@ -86,14 +88,15 @@ waits_on ticket place block old new t filled told answered more = record {
   filled = filled.filled;
   answered = rw more answered;
   reads = rw more (filled.new_is, told);
+  cached = t.cached;
 }
 
-pub is_answered : {D : Type 0} (ticket : ℕ) (place : Place) (block : List ℕ) (gives : Answer) (mid : List Gathering) (old new : Parts D)
-    → TakesRequest ticket place block old new → IsFilledOne ticket place block old.reads mid → IsFinished ticket mid new.reads gives
+pub is_answered : {D : Type 0} (ticket : ℕ) (place : Place) (got : Got) (block : List ℕ) (gives : Answer) (mid : List Gathering) (old new : Parts D)
+    → TakesRequest ticket place got block old new → IsFilledOne ticket place block old.reads mid → IsFinished ticket mid new.reads gives
     → new.listed.replies ≡ replied ticket (the_replies.Answer gives) old.listed.replies
     → new.answered ≡ old.answered ++ (ticket, gives) ∷ []
-    → list_any (λ (w : Waiting). w.owner == ticket) new.queue.waiting ≡ false → TakesBlock ticket place block old new
-is_answered ticket place block gives mid old new t filled finished told answered none =
+    → list_any (λ (w : Waiting). w.owner == ticket) new.queue.waiting ≡ false → TakesBlock ticket place got block old new
+is_answered ticket place got block gives mid old new t filled finished told answered none =
     let out = finished.taken in
     let next_ticket : filled.next.ticket ≡ ticket = filled.filled.ticket ∙ filled.stood.ticket_is in
     let same : IsSame out.front filled.front finished.one filled.next out.behind filled.behind =
@@ -113,6 +116,7 @@ is_answered ticket place block gives mid old new t filled finished told answered
       filled = filled.filled;
       answered = rw none (gives, answered, told);
       reads = rw none (left, (gives, told, subst (λ (r : Gathering). IsReadAnswer r gives) same.ones (finished.no_sync, finished.answered)));
+      cached = t.cached;
     }
 
 pub missed : {D : Type 0} (ticket : ℕ) (place : Place) (counts : Twin) (old new : Parts D) → new.drive ≡ old.drive → ReadsOnly old new
@@ -120,8 +124,9 @@ pub missed : {D : Type 0} (ticket : ℕ) (place : Place) (counts : Twin) (old ne
     → IsOneRequest old.queue.waiting ticket place
     → new.queue.waiting ≡ filter (λ (w : Waiting). not (w.owner == ticket)) old.queue.waiting
     → IsForgotten ticket old.reads new.reads → new.answered ≡ old.answered
-    → new.listed.replies ≡ replied ticket (the_replies.Fault counts) old.listed.replies → MissesBlock ticket place counts old new
-missed ticket place counts old new drive only events request queue forgotten answered told =
+    → new.listed.replies ≡ replied ticket (the_replies.Fault counts) old.listed.replies → new.cached ≡ old.cached
+    → MissesBlock ticket place counts old new
+missed ticket place counts old new drive only events request queue forgotten answered told cached =
     let out = forgotten.taken in
     record {
       drive = drive;
@@ -133,4 +138,5 @@ missed ticket place counts old new drive only events request queue forgotten ans
       answered = answered;
       reads = out.new_is;
       replies = told;
+      cached = cached;
     }

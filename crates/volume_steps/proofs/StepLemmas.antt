@@ -53,6 +53,7 @@ module _ {D : Type 0} (drive : Ghosts D) where
     replies = f.replies;
     queue = f.queue;
     reads = f.reads;
+    cached = f.cached;
   }
 
   pub does_op : (op : Op) (end : StepDone) (tickets : List ℕ) (old new : Parts D) (d : D) (block : List ℕ) → AreRight old
@@ -87,6 +88,7 @@ module _ {D : Type 0} (drive : Ghosts D) where
     replies = f.replies;
     queue = f.queue;
     reads = f.reads;
+    cached = f.cached;
   }
 
   pub fails_op : (op : Op) (later : List Op) (counts : Twin) (old new : Parts D) (d : D) (block : List ℕ) → old.stock.layout.ops ≡ op ∷ later
@@ -119,7 +121,7 @@ module _ {D : Type 0} (drive : Ghosts D) where
   block_read : (ticket : ℕ) (place : Place) (got : Got) (block : List ℕ) (old new : Parts D) (d : D)
       → IsReadStep drive place (ends.Read got) old.drive d
       → ((c : Cartridge) → drive.held old.drive ≡ Some c → IsFoundAt place (ends.Read got) block c)
-      → TakesBlock ticket place block (with_head d block old) new → ReadsBlock drive ticket place got block old new
+      → TakesBlock ticket place got block (with_head d block old) new → ReadsBlock drive ticket place got block old new
   block_read ticket place got block old new d step found t = record {
     step = subst (λ (now : D). IsReadStep drive place (ends.Read got) old.drive now) (sym t.drive) step;
     found = found;
@@ -131,6 +133,7 @@ module _ {D : Type 0} (drive : Ghosts D) where
     next = t.next;
     filled = t.filled;
     reads = t.reads;
+    cached = t.cached;
   }
 
   answer_kept : (waits : Bool) (ticket : ℕ) (old new : Parts D) (d : D) (block : List ℕ)
@@ -142,7 +145,7 @@ module _ {D : Type 0} (drive : Ghosts D) where
       → AreRight old → slice_get old.listed.replies ticket ≡ Some None
       → IsReadStep drive place (ends.Read got) old.drive d
       → ((c : Cartridge) → drive.held old.drive ≡ Some c → IsFoundAt place (ends.Read got) block c)
-      → TakesBlock ticket place block (with_head d block old) new → SomeStep drive old new
+      → TakesBlock ticket place got block (with_head d block old) new → SomeStep drive old new
   reads_block ticket place got block old new d right none step found t = (
     _,
     record {
@@ -163,6 +166,7 @@ module _ {D : Type 0} (drive : Ghosts D) where
     read = m.read;
     reads = m.reads;
     replies = m.replies;
+    cached = m.cached;
   }
 
   pub fails_read : (ticket : ℕ) (place : Place) (counts : Twin) (old new : Parts D) (d : D) (block : List ℕ)

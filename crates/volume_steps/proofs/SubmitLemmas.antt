@@ -35,14 +35,15 @@ use Rattle.serving_promise.specs.declared.answers.Submitted.TheVariants as submi
 use Rattle.held_volume.specs.Applied.{IsUnchanged}
 use Rattle.held_volume.specs.Stocks.{Stocked}
 use Rattle.state_laws.specs.Parts.{Parts}
-use Rattle.state_laws.specs.Placing.{Answers, AreHeld, AsksNothing, IsAnswerFor, IsVoidFor, PlacesCall, PutsOff, Voids, marks_for, only_looks}
+use Rattle.state_laws.specs.Placing.{Answers, AsksNothing, IsAnswerFor, IsVoidFor, PlacesCall, PutsOff, UsesKept, Voids, marks_for, only_looks}
+use Rattle.block_cache.specs.Kept.{Kept}
 use Rattle.volume_steps.specs.Asking.{CanAsk, Finishes, IsSubmitted, Reserves}
 use Rattle.call_laws.specs.SubmitLaws as made
 
 -- memory that is reserved before a call is placed doesn't count
-pub placed_over : {D : Type 0} (who nth : ℕ) (at : Moment) (fate : Fate) (reply : Option Reply) (old mid new : Parts D)
-    → Reserves old mid → PlacesCall who nth at fate reply mid new → PlacesCall who nth at fate reply old new
-placed_over who nth at fate reply old mid new r p = record {
+placed_using : {D : Type 0} (who nth : ℕ) (at : Moment) (fate : Fate) (reply : Option Reply) (old mid new : Parts D) (cached : List Kept)
+    → Reserves old mid → PlacesCall who nth at fate reply (record mid { cached = cached }) new → PlacesCall who nth at fate reply old new
+placed_using who nth at fate reply old mid new cached r p = record {
   history = p.history
       ∙ ap (λ (h : List Placed). h ++ record { who = who; nth = nth; at = at; fate = fate } ∷ []) r.history;
   replies = p.replies ∙ ap (λ (rs : List (Option Reply)). rs ++ reply ∷ []) r.replies;
@@ -52,9 +53,13 @@ placed_over who nth at fate reply old mid new r p = record {
   sessions = p.sessions ∙ r.sessions;
 }
 
-asks_nothing : {D : Type 0} (who nth : ℕ) (at : Moment) (fate : Fate) (reply : Reply) (result : Submitted) (old mid new : Parts D)
-    → Reserves old mid → Finishes who nth at fate reply result mid new → IsTrail old.trail.events → AsksNothing old new
-asks_nothing who nth at fate reply result old mid new r f trail =
+pub placed_over : {D : Type 0} (who nth : ℕ) (at : Moment) (fate : Fate) (reply : Option Reply) (old mid new : Parts D)
+    → Reserves old mid → PlacesCall who nth at fate reply mid new → PlacesCall who nth at fate reply old new
+placed_over who nth at fate reply old mid new r p = placed_using who nth at fate reply old mid new mid.cached r p
+
+asks_nothing : {D : Type 0} (who nth : ℕ) (at : Moment) (fate : Fate) (reply : Reply) (result : Submitted) (old mid new : Parts D) (cached : List Kept)
+    → Reserves old mid → Finishes who nth at fate reply result (record mid { cached = cached }) new → IsTrail old.trail.events → AsksNothing old new
+asks_nothing who nth at fate reply result old mid new cached r f trail =
     let events : new.trail.events ≡ old.trail.events = ap (λ (p : Parts _). p.trail.events) f.others ∙ r.events in
     record {
       moves = record {
@@ -81,24 +86,27 @@ placed_void drive who nth call at reply result old mid new trail told r f =
     let voids : Voids who nth call at reply old new = record {
       void = told;
       stock = subst (λ (s : Stocked). IsUnchanged old.stock s) (sym same) r.stock;
-      asks = asks_nothing who nth at fates.Void reply result old mid new r f trail;
+      asks = asks_nothing who nth at fates.Void reply result old mid new mid.cached r f trail;
+      cached = ap (λ (p : Parts _). p.cached) f.others ∙ r.cached;
       places = placed_over who nth at fates.Void (Some reply) old mid new r f.places;
     } in
     subst (λ (end : Submitted). IsSubmitted drive who nth at old new call end) (sym f.ready) ([], made.voids reply voids)
 
 -- a call that is answered and leaves all as it was
 pub placed_answered : {D : Type 0} (drive : Ghosts D) (who nth : ℕ) (call : Call) (at : Moment) (told : Answer) (result : Submitted)
-    (old mid new : Parts D) → IsTrail old.trail.events → IsAnswerFor old.stock call at told → AreHeld old.stock call
+    (old mid new : Parts D) (cached : List Kept) → IsTrail old.trail.events → IsAnswerFor old.stock old.cached call at told
+    → UsesKept old.stock old.cached cached call
     → told ≢ the_answers.Synced → mid.stock ≡ old.stock → Reserves old mid
-    → Finishes who nth at fates.Done (the_replies.Answer told) result mid new → IsSubmitted drive who nth at old new call result
-placed_answered drive who nth call at told result old mid new trail is held no_sync stock r f =
+    → Finishes who nth at fates.Done (the_replies.Answer told) result (record mid { cached = cached }) new
+    → IsSubmitted drive who nth at old new call result
+placed_answered drive who nth call at told result old mid new cached trail is uses no_sync stock r f =
     let answers : Answers who nth call at told old new = record {
       told_is = is;
-      held = held;
+      uses = subst (λ (now : List Kept). UsesKept old.stock old.cached now call) (sym (ap (λ (p : Parts _). p.cached) f.others)) uses;
       no_sync = no_sync;
       stock = ap (λ (p : Parts _). p.stock) f.others ∙ stock;
-      asks = asks_nothing who nth at fates.Done (the_replies.Answer told) result old mid new r f trail;
-      places = placed_over who nth at fates.Done (Some (the_replies.Answer told)) old mid new r f.places;
+      asks = asks_nothing who nth at fates.Done (the_replies.Answer told) result old mid new cached r f trail;
+      places = placed_using who nth at fates.Done (Some (the_replies.Answer told)) old mid new cached r f.places;
     } in
     subst (λ (end : Submitted). IsSubmitted drive who nth at old new call end) (sym f.ready) ([], made.tells told answers)
 
@@ -114,6 +122,7 @@ as_it_was p = record {
   waiting = refl;
   arrived = refl;
   reads = refl;
+  cached = refl;
   history = refl;
   replies = refl;
   marks = refl;
@@ -162,27 +171,27 @@ looks_unsynced t (Rename from to) is = cc
 looks_unsynced t (Remove path) is = cc
 looks_unsynced t Sync is = cc
 
-holds_nothing : (stock : Stocked) (call : Call) → only_looks call ≡ true → AreHeld stock call
-holds_nothing stock (Listing path) is = tt
-holds_nothing stock (Stat path) is = tt
-holds_nothing stock (Mkdir path) is = tt
-holds_nothing stock (Create path) is = tt
-holds_nothing stock (Write path offset bytes) is = tt
-holds_nothing stock (Truncate path size) is = tt
-holds_nothing stock (Read path offset count) is = cc
-holds_nothing stock (Rename from to) is = tt
-holds_nothing stock (Remove path) is = tt
-holds_nothing stock Sync is = tt
+uses_nothing : (stock : Stocked) (cached : List Kept) (call : Call) → only_looks call ≡ true → UsesKept stock cached cached call
+uses_nothing stock cached (Listing path) is = refl
+uses_nothing stock cached (Stat path) is = refl
+uses_nothing stock cached (Mkdir path) is = refl
+uses_nothing stock cached (Create path) is = refl
+uses_nothing stock cached (Write path offset bytes) is = refl
+uses_nothing stock cached (Truncate path size) is = refl
+uses_nothing stock cached (Read path offset count) is = cc
+uses_nothing stock cached (Rename from to) is = refl
+uses_nothing stock cached (Remove path) is = refl
+uses_nothing stock cached Sync is = refl
 
 pub look_told : {D : Type 0} (drive : Ghosts D) (who nth : ℕ) (call : Call) (at : Moment) (told : Answer) (result : Submitted)
     (old new : Parts D) → CanAsk who old → only_looks call ≡ true
     → ((tape : Tape) → told ≡ answer (plain_of tape old.stock.tree) call)
     → Finishes who nth at fates.Done (the_replies.Answer told) result old new → IsSubmitted drive who nth at old new call result
 look_told drive who nth call at told result old new can looks is f =
-    placed_answered drive who nth call at told result old old new can.trail
+    placed_answered drive who nth call at told result old old new old.cached can.trail
     (λ items g on st plan stock.
-    (is (tape_on items) ∙ ap (λ (t : Tree). answer t call) stock.plain, looks_ask g st call at looks))
-    (holds_nothing old.stock call looks)
+    (λ may. is (tape_on items) ∙ ap (λ (t : Tree). answer t call) stock.plain, looks_ask g st call at looks))
+    (uses_nothing old.stock old.cached call looks)
     (λ synced. looks_unsynced (plain_of whole old.stock.tree) call looks (sym (is whole) ∙ synced))
     refl (as_it_was old) f
 
@@ -206,8 +215,8 @@ pub reserved : {D : Type 0} (old new : Parts D) → new.drive ≡ old.drive → 
     → new.queue.waiting ≡ old.queue.waiting → new.queue.arrived ≡ old.queue.arrived → new.reads ≡ old.reads
     → new.listed.history ≡ old.listed.history → new.listed.replies ≡ old.listed.replies
     → new.listed.marks ≡ old.listed.marks → new.listed.calls ≡ old.listed.calls
-    → new.listed.sessions ≡ old.listed.sessions → Reserves old new
-reserved old new drive stock on events acks kept waiting arrived reads history replies marks calls sessions = record {
+    → new.listed.sessions ≡ old.listed.sessions → new.cached ≡ old.cached → Reserves old new
+reserved old new drive stock on events acks kept waiting arrived reads history replies marks calls sessions cached = record {
   drive = drive;
   stock = subst (λ (s : Stocked). IsUnchanged old.stock s) (sym stock) (as_it_was old).stock;
   on = on;
@@ -217,6 +226,7 @@ reserved old new drive stock on events acks kept waiting arrived reads history r
   waiting = waiting;
   arrived = arrived;
   reads = reads;
+  cached = cached;
   history = history;
   replies = replies;
   marks = marks;
@@ -246,6 +256,7 @@ puts_off who old mid new many r stock others events acks kept trail history repl
     arrived = ap (λ (p : Parts _). p.queue.arrived) others ∙ r.arrived;
     reads = ap (λ (p : Parts _). p.reads) others ∙ r.reads;
   };
+  cached = ap (λ (p : Parts _). p.cached) others ∙ r.cached;
   events = events ∙ ap (λ (es : List Event). es ++ the_events.Drains who ∷ []) r.events;
   acks = acks ∙ r.acks;
   history = history ∙ r.history;

@@ -190,6 +190,7 @@ sync_made drive who nth at result ip dp count next trail old new s events acks k
         arrived = ap (λ (p : Parts _). p.queue.arrived) w.others;
         reads = ap (λ (p : Parts _). p.reads) w.others;
       };
+      cached = ap (λ (p : Parts _). p.cached) w.others;
       events = w.events ∙ ap (λ (es : List Event). es ++ the_events.Syncs here ∷ synced_at here (waiting.ops (after_all es))) mid;
       acks = w.acks ∙ ap (λ (told : List Ack). told ++ acks_at (drive.commands old.drive) (synced_here here next.layout.ops)) (q.queues.acks ∙ acks)
           ∙ ap (λ (x : Stocked). old.trail.acks ++ acks_at (drive.commands old.drive) (synced_here here x.layout.ops)) (sym stock);

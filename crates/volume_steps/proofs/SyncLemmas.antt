@@ -133,6 +133,7 @@ none_answered commands p = record {
   queue = refl;
   answered = refl;
   reads = refl;
+  cached = refl;
 }
 
 -- what the answer of one sync changes
@@ -148,6 +149,7 @@ pub record AnswersOne {D : Type 0} (commands ticket : ℕ) (old new : Parts D) :
   pub queue : new.queue ≡ old.queue
   pub answered : new.answered ≡ old.answered
   pub reads : new.reads ≡ old.reads
+  pub cached : new.cached ≡ old.cached
 
 pub one_more_answered : {D : Type 0} (commands ticket : ℕ) (tickets : List ℕ) (old mid new : Parts D)
     → AnswersSome commands tickets old mid → AnswersOne commands ticket mid new → AnswersSome commands (tickets ++ ticket ∷ []) old new
@@ -173,6 +175,7 @@ one_more_answered commands ticket tickets old mid new a b = record {
   queue = b.queue ∙ a.queue;
   answered = b.answered ∙ a.answered;
   reads = b.reads ∙ a.reads;
+  cached = b.cached ∙ a.cached;
 }
 
 -- what is known while syncs are answered

@@ -83,6 +83,7 @@ pub record Reserves {D : Type 0} (old new : Parts D) : Type 0 where
   pub waiting : new.queue.waiting ≡ old.queue.waiting
   pub arrived : new.queue.arrived ≡ old.queue.arrived
   pub reads : new.reads ≡ old.reads
+  pub cached : new.cached ≡ old.cached
   pub history : new.listed.history ≡ old.listed.history
   pub replies : new.listed.replies ≡ old.listed.replies
   pub marks : new.listed.marks ≡ old.listed.marks

@@ -13,6 +13,7 @@ use Rattle.event_laws.specs.Trail.{IsTrail}
 use Rattle.event_laws.specs.Waiting.{State, Waiter, same_part, waiting_op}
 use Rattle.head_queue.specs.Queued.{requests}
 use Rattle.tape_drive.specs.declared.drive.Drive.{Ghosts}
+use Rattle.tape_drive.specs.declared.drive.Got.{Got}
 use Rattle.tape_layout.specs.declared.ops.Op.{Op}
 use Rattle.tape_layout.specs.Ops.{place_of}
 use Rattle.serving_promise.specs.Served.{headed, is_flush}
@@ -20,8 +21,8 @@ use Rattle.event_journal.specs.Trails.{due_ticket, first_waiter, kept_for_drain,
 use Rattle.waiting_reads.specs.Gathering.{Gathering}
 use Rattle.waiting_reads.specs.Waiting.{IsFilledBy, answer_for}
 use Rattle.state_laws.specs.Parts.{Parts}
-use Rattle.state_laws.specs.Stepping.{IsOneRead, IsOneRequest, IsReadOn, KeepsListed, ReadsOnly, acks_at, all_synced}
-use Rattle.state_laws.specs.Stepping.{on_done, replied, settles_dp, synced_events, told_fault}
+use Rattle.state_laws.specs.Stepping.{IsKeptAfter, IsOneRead, IsOneRequest, IsReadOn, KeepsListed, ReadsOnly, acks_at}
+use Rattle.state_laws.specs.Stepping.{all_synced, on_done, replied, settles_dp, synced_events, told_fault}
 
 -- there is something for the head: a request, or an op for which somebody waits
 abbrev pub HasWork : {D : Type 0} → Parts D → Type 0
@@ -71,6 +72,7 @@ pub record AnswersSome {D : Type 0} (commands : ℕ) (tickets : List ℕ) (old n
   pub queue : new.queue ≡ old.queue
   pub answered : new.answered ≡ old.answered
   pub reads : new.reads ≡ old.reads
+  pub cached : new.cached ≡ old.cached
 
 -- and none is left that is due
 pub record AnswersSyncs {D : Type 0} (commands : ℕ) (tickets : List ℕ) (old new : Parts D) : Type 0 where
@@ -92,6 +94,7 @@ pub record TellsFault {D : Type 0} (op : Op) (counts : Twin) (old new : Parts D)
   pub queue : new.queue ≡ old.queue
   pub answered : new.answered ≡ old.answered
   pub reads : new.reads ≡ old.reads
+  pub cached : new.cached ≡ old.cached
 
 -- the answer of a read that has met all its blocks is kept, too
 abbrev pub KeepsAnswer : {D : Type 0} → Bool → ℕ → Parts D → Parts D → Type 0
@@ -99,8 +102,9 @@ KeepsAnswer true ticket old new = new.answered ≡ old.answered
 KeepsAnswer false ticket old new = (gives : Answer) × (new.answered ≡ old.answered ++ (ticket, gives) ∷ [])
     × (new.listed.replies ≡ replied ticket (the_replies.Answer gives) old.listed.replies)
 
--- The block of a request was read.
-pub record TakesBlock {D : Type 0} (ticket : ℕ) (place : Place) (block : List ℕ) (old new : Parts D) : Type 0 where
+-- The block of a request was read, or what else stood there.
+pub record TakesBlock {D : Type 0} (ticket : ℕ) (place : Place) (got : Got) (block : List ℕ) (old new : Parts D)
+    : Type 0 where
   pub drive : new.drive ≡ old.drive
   pub only : ReadsOnly old new
   pub events : new.trail.events ≡ old.trail.events ++ the_events.Served ticket place None ∷ []
@@ -112,6 +116,7 @@ pub record TakesBlock {D : Type 0} (ticket : ℕ) (place : Place) (block : List 
   pub answered : KeepsAnswer (list_any (λ w. w.owner == ticket) new.queue.waiting) ticket old new
   pub reads : IsReadOn (list_any (λ w. w.owner == ticket) new.queue.waiting) ticket read.front read.behind next
       new.reads old.listed.replies new.listed.replies
+  pub cached : IsKeptAfter got place block old.cached new.cached
 
 -- The step for a request failed.
 pub record MissesBlock {D : Type 0} (ticket : ℕ) (place : Place) (counts : Twin) (old new : Parts D) : Type 0 where
@@ -123,6 +128,7 @@ pub record MissesBlock {D : Type 0} (ticket : ℕ) (place : Place) (counts : Twi
   pub read : IsOneRead old.reads ticket
   pub answered : new.answered ≡ old.answered
   pub reads : new.reads ≡ read.front ++ read.behind
+  pub cached : new.cached ≡ old.cached
   pub replies : new.listed.replies ≡ replied ticket (the_replies.Fault counts) old.listed.replies
 
 -- placement on the index partition begins with the first flush of the data partition
@@ -150,6 +156,7 @@ pub record TakesOp {D : Type 0} (place : Place) (flush : Bool) (old new : Parts 
   pub queue : new.queue ≡ old.queue
   pub answered : new.answered ≡ old.answered
   pub reads : new.reads ≡ old.reads
+  pub cached : new.cached ≡ old.cached
 
 -- an op that the head has done is taken out, and each sync that is due then was answered
 pub record FinishesOp {D : Type 0} (commands : ℕ) (op : Op) (tickets : List ℕ) (old new : Parts D) : Type 0 where
@@ -172,3 +179,4 @@ pub record FinishesOp {D : Type 0} (commands : ℕ) (op : Op) (tickets : List �
   pub queue : new.queue ≡ old.queue
   pub answered : new.answered ≡ old.answered
   pub reads : new.reads ≡ old.reads
+  pub cached : new.cached ≡ old.cached

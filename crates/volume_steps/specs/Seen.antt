@@ -13,4 +13,5 @@ seen_parts p = record {
   reads = p.reads.reads;
   answered = p.reads.answered;
   on = p.on;
+  cached = p.cache;
 }

@@ -1,6 +1,6 @@
 -- What a read takes of what is held, and what it wants from the tape.
-use Rattle.std.specs.Prelude.{ℕ, ◌≡◌, ◌+◌, ◌==◌, Bool, false, List, [], ◌∷◌, ◌++◌, Option, Some, None, filter, is_none}
-use Rattle.std.specs.Prelude.{is_some, length, map}
+use Rattle.std.specs.Prelude.{ℕ, ◌≡◌, ◌+◌, ◌==◌, ◌||◌, Bool, false, List, [], ◌∷◌, ◌++◌, Option, Some, None, filter}
+use Rattle.std.specs.Prelude.{length, map}
 use Rattle.std.specs.List.{list_any}
 use Rattle.tape_types.specs.declared.cartridges.Place.{Place}
 use Rattle.extent_map.specs.Cells.{Tape}
@@ -22,7 +22,9 @@ use Rattle.waiting_reads.specs.Gathering.{Gathering, IsGathering}
 use Rattle.waiting_reads.specs.Waiting.{IsFilledBy}
 use Rattle.tape_drive.specs.declared.drive.Drive.{Ghosts}
 use Rattle.plan_laws.specs.Planned.{Items, NoMarks}
+use Rattle.block_cache.specs.Kept.{Kept, bytes_at, is_cached}
 use Rattle.state_laws.specs.Parts.{Parts}
+use Rattle.state_laws.specs.Placing.{found_of, is_held, wanted_of}
 use Rattle.state_laws.specs.Tied.{IsTied}
 
 -- A read may want blocks: no request is one of the next placement, the events have the ops that stand, and no mark is
@@ -37,41 +39,48 @@ abbrev pub TiedReadsMayWant : {D : Type 0} → Ghosts D → Type 0
 TiedReadsMayWant {D} drive = (fixed : Fixed D) (planned : Items) (p : Parts D) → IsTied drive fixed planned p
     → map headed p.stock.layout.ops ≡ waiting.ops (state p.trail) → CanWantBlocks p
 
--- those of these places for which no op holds a block
-abbrev pub unheld : List Op → List Place → List Place
-unheld ops places = filter (λ place. is_none (held_in place ops)) places
-
--- and those for which one does
-abbrev pub held_among : List Op → List Place → Places
-held_among ops places place = has_place place (filter (λ other. is_some (held_in other ops)) places)
+-- those of these places for which an op holds a block, or one is kept
+abbrev pub there_among : List Op → List Kept → List Place → Places
+there_among ops cached places place = has_place place (filter (λ other. is_held ops other || is_cached cached other) places)
 
 -- the blocks that ops hold stand on this tape
 abbrev pub HasHeld : Tape → List Op → Type 0
 HasHeld tape ops = (place : Place) (bytes : List ℕ) → held_in place ops ≡ Some bytes → IsBlock tape place bytes
 
--- A block that is held is put into the read, and any other is wanted.
-abbrev pub IsTakenFrom : Option (List ℕ) → Place → Gathering → Gathering → List Place → List Place → Type 0
-IsTakenFrom (Some bytes) place old new before after = IsFilledBy place bytes old new × (after ≡ before)
-IsTakenFrom None place old new before after = (new ≡ old) × (after ≡ before ++ place ∷ [])
+-- so do those that are kept
+abbrev pub HasKept : Tape → List Kept → Type 0
+HasKept tape cached = (place : Place) (bytes : List ℕ) → bytes_at cached place ≡ Some bytes → IsBlock tape place bytes
+
+-- A block that is held is put into the read, and so is one that is kept, which is noted as found. Any other is wanted.
+abbrev pub IsTakenFrom : (held kept : Option (List ℕ)) → Place → Gathering → Gathering → (wanted more : List Place)
+    → (found later : List Place) → Type 0
+IsTakenFrom (Some bytes) kept place old new wanted more found later = IsFilledBy place bytes old new × (more ≡ wanted)
+    × (later ≡ found)
+IsTakenFrom None (Some bytes) place old new wanted more found later = IsFilledBy place bytes old new × (more ≡ wanted)
+    × (later ≡ found ++ place ∷ [])
+IsTakenFrom None None place old new wanted more found later = (new ≡ old) × (more ≡ wanted ++ place ∷ [])
+    × (later ≡ found)
 
 -- so it is with each of these places
-pub record AreTakenFrom (ops : List Op) (places : List Place) (old new : Gathering) (before after : List Place)
-    : Type 0 where
+pub record AreTakenFrom (ops : List Op) (cached : List Kept) (places : List Place) (old new : Gathering)
+    (wanted more found later : List Place) : Type 0 where
   pub ticket : new.ticket ≡ old.ticket
   pub pieces : new.pieces ≡ old.pieces
-  pub gathers : (tape : Tape) → HasHeld tape ops → IsGathering tape (λ place. false) old
-      → IsGathering tape (held_among ops places) new
-  pub wanted : after ≡ before ++ unheld ops places
+  pub gathers : (tape : Tape) → HasHeld tape ops → HasKept tape cached → IsGathering tape (λ place. false) old
+      → IsGathering tape (there_among ops cached places) new
+  pub wanted_are : more ≡ wanted ++ wanted_of ops cached places
+  pub found_are : later ≡ found ++ found_of ops cached places
 
--- A read of a range has the blocks that are held, and wants the others.
-pub record IsFetched (stock : Stocked) (ticket : ℕ) (path : List (List ℕ)) (offset count : ℕ) (read : Gathering)
-    (wanted : List Place) : Type 0 where
+-- A read of a range has the blocks that are held or kept, and wants the others.
+pub record IsFetched (stock : Stocked) (cached : List Kept) (ticket : ℕ) (path : List (List ℕ)) (offset count : ℕ)
+    (read : Gathering) (wanted found : List Place) : Type 0 where
   pub ticket_is : read.ticket ≡ ticket
   pub plan : (tape : Tape) (g : Given) (on : Bool) (st : Standing) → IsStock tape g on st stock
       → IsReadPlan tape st stock.tree path offset count read.pieces
-  pub gathers : (tape : Tape) → HasHeld tape stock.layout.ops
-      → IsGathering tape (held_among stock.layout.ops (places_in read.pieces)) read
-  pub wanted_are : wanted ≡ unheld stock.layout.ops (places_in read.pieces)
+  pub gathers : (tape : Tape) → HasHeld tape stock.layout.ops → HasKept tape cached
+      → IsGathering tape (there_among stock.layout.ops cached (places_in read.pieces)) read
+  pub wanted_are : wanted ≡ wanted_of stock.layout.ops cached (places_in read.pieces)
+  pub found_are : found ≡ found_of stock.layout.ops cached (places_in read.pieces)
 
 -- the events have requests of a read for these places
 pub record HasEvents (ticket : ℕ) (places : List Place) (old new : Journaled) : Type 0 where
@@ -94,4 +103,5 @@ pub record AsksBlocks {D : Type 0} (ticket : ℕ) (wanted : List Place) (read : 
   pub trail : IsTrail new.trail.events
   pub requests : HasRequests ticket wanted old.queue new.queue
   pub reads : new.reads ≡ old.reads ++ read ∷ []
+  pub cached : new.cached ≡ old.cached
   pub listed : new.listed ≡ old.listed

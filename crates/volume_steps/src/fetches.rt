@@ -1,4 +1,4 @@
-//! Reads, which are answered at once where all their blocks are held, and else wait for the others.
+//! Reads, which are answered at once where all their blocks are held or kept, and else wait for the others.
 
 ghost use Rattle.std.specs.Prelude.{◌≡◌, ◌≢◌, ◌+◌, ◌*◌, ◌^◌, ◌≤◌, ◌<◌, ℕ, List as Items, None, IfOk, OnErr, OnOk};
 ghost use Rattle.std.specs.Prelude.{length, true};
@@ -9,6 +9,7 @@ ghost use Rattle.plain_tree.specs.Refusals.{refusal_of};
 ghost use Rattle.plain_tree.specs.declared.calls.Call.TheVariants as calls;
 ghost use Rattle.tape_layout.specs.Ops.{held_in};
 ghost use Rattle.group_laws.specs.Laws.{wants_at};
+ghost use Rattle.block_cache.specs.Kept.{bytes_at};
 ghost use Rattle.event_journal.specs.Trails.{state};
 ghost use Rattle.serving_promise.specs.declared.answers.Submitted.TheVariants as submitted;
 ghost use Rattle.volume_steps.specs.Asking.{CanAsk, IsSubmitted, Reserves, Stands};
@@ -16,6 +17,7 @@ ghost use Rattle.volume_steps.specs.Seen.{seen_parts};
 ghost use Rattle.volume_steps.specs.Wanted.{AreTakenFrom, AsksBlocks, CanWantBlocks, HasEvents, HasRequests, IsFetched};
 ghost use Rattle.volume_steps.specs.Wanted.{IsTakenFrom, TiedReadsMayWant};
 
+use block_cache::BlockCache;
 use crate::parts::Parts;
 use crate::placing::Asked;
 use event_journal::Trail;
@@ -33,10 +35,11 @@ use waiting_reads::{Reading, Readings};
 /// How many bytes a read has room for at most.
 const MOST: u64 = 1_099_511_627_776;
 
-/// A read that has the blocks that are held, and the places of those that it wants.
+/// A read that has the blocks that are held or kept, the places of those that it wants, and of those that were kept.
 struct Fetched {
     reading: Reading,
     wanted: List<Place>,
+    found: List<Place>,
 }
 
 impl<D: Drive> Parts<D> {
@@ -89,24 +92,35 @@ impl<D: Drive> Parts<D> {
         ensures placed { result ≢ submitted.Drain }
     {
         let here = self.placements.len();
-        match fetch(&self.stock, alloc, here, path, offset, count) {
+        match fetch(&self.stock, &self.cache, alloc, here, path, offset, count) {
             Ok(fetched) => {
-                let Fetched { reading, wanted } = fetched;
-                self.read_on(asked, reading, wanted)
+                let Fetched {
+                    reading,
+                    wanted,
+                    found,
+                } = fetched;
+                self.read_on(asked, reading, wanted, found)
             }
             Err(NoMemory) => self.void(asked, AdmitErr::NoMemory),
         }
     }
 
-    /// Answers a read that wants no block, and has another wait.
+    /// Answers a read that wants no block, and has another wait. The blocks that it found were used then.
     #[tactic(auto, using(crate::proofs::SubmitLemmas::ready_no_drain))]
-    fn read_on(&mut self, asked: Asked, reading: Reading, wanted: List<Place>) -> Submitted
+    fn read_on(
+        &mut self,
+        asked: Asked,
+        reading: Reading,
+        wanted: List<Place>,
+        found: List<Place>,
+    ) -> Submitted
         requires can { CanAsk asked.who (seen_parts self.old) }
         requires may { is_trail_from (state self.old.trail) (wants_at (length self.old.placements.history) wanted)
             ≡ true }
         ensures submits { (path : Items (Items ℕ)) (offset count : ℕ)
             → refusal_of (plain_of whole self.old.stock.tree) (calls.Read path offset count) ≡ None
-            → IsFetched self.old.stock (length self.old.placements.history) path offset count reading wanted
+            → IsFetched self.old.stock self.old.cache (length self.old.placements.history) path offset count reading
+            wanted found
             → IsSubmitted D.Drive asked.who asked.nth asked.at (seen_parts self.old) (seen_parts self.new)
             (calls.Read path offset count) result }
         ensures answered { self.new.reads.answered ≡ self.old.reads.answered }
@@ -114,29 +128,40 @@ impl<D: Drive> Parts<D> {
     {
         if wanted.len() == 0 {
             let (told, kept) = reading.pair();
+            self.cache.used_all(found.as_slice());
             self.answer(asked, told, kept)
         } else {
-            self.wait_for(asked, reading, wanted)
+            self.wait_for(asked, reading, wanted, found)
         }
     }
 
-    /// A read waits for these blocks, one or more.
+    /// A read waits for these blocks, one or more. Those that it found were used then.
     #[tactic(auto, using(crate::proofs::AwaitLemmas::can_place_on, crate::proofs::SubmitLemmas::ready_no_drain, crate::proofs::SubmitLemmas::waits_no_drain))]
-    fn wait_for(&mut self, asked: Asked, reading: Reading, wanted: List<Place>) -> Submitted
+    fn wait_for(
+        &mut self,
+        asked: Asked,
+        reading: Reading,
+        wanted: List<Place>,
+        found: List<Place>,
+    ) -> Submitted
         requires can { CanAsk asked.who (seen_parts self.old) }
         requires some { 1 ≤ length wanted }
         requires may { is_trail_from (state self.old.trail) (wants_at (length self.old.placements.history) wanted)
             ≡ true }
         ensures submits { (path : Items (Items ℕ)) (offset count : ℕ)
             → refusal_of (plain_of whole self.old.stock.tree) (calls.Read path offset count) ≡ None
-            → IsFetched self.old.stock (length self.old.placements.history) path offset count reading wanted
+            → IsFetched self.old.stock self.old.cache (length self.old.placements.history) path offset count reading
+            wanted found
             → IsSubmitted D.Drive asked.who asked.nth asked.at (seen_parts self.old) (seen_parts self.new)
             (calls.Read path offset count) result }
         ensures answered { self.new.reads.answered ≡ self.old.reads.answered }
         ensures placed { result ≢ submitted.Drain }
     {
         match self.ask(reading, wanted.as_slice()) {
-            Ok(()) => self.place_waiting(asked),
+            Ok(()) => {
+                self.cache.used_all(found.as_slice());
+                self.place_waiting(asked)
+            }
             Err(NoMemory) => self.void(asked, AdmitErr::NoMemory),
         }
     }
@@ -206,9 +231,10 @@ fn ask_all(trail: &mut Trail, queue: &mut Queue, ticket: u64, wanted: &[Place])
     let _head = trail.head();
 }
 
-/// A read of a range, with all blocks that are held.
+/// A read of a range, with all blocks that are held or kept.
 fn fetch(
     stock: &Stock,
+    cache: &BlockCache,
     alloc: Global,
     ticket: u64,
     path: &[Text],
@@ -216,7 +242,7 @@ fn fetch(
     count: u64,
 ) -> Result<Fetched, NoMemory>
     requires { refusal_of (plain_of whole stock.now.tree) (calls.Read path.now offset count) ≡ None }
-    ensures { IfOk result (λ f. IsFetched stock.now ticket path.now offset count f.reading f.wanted) }
+    ensures { IfOk result (λ f. IsFetched stock.now cache.now ticket path.now offset count f.reading f.wanted f.found) }
 {
     let pieces = stock.plan(path, offset, count)?;
     if !is_small(pieces.as_slice()) {
@@ -225,8 +251,14 @@ fn fetch(
     let mut reading = Reading::new(alloc, ticket, pieces)?;
     let places = reading.places(alloc)?;
     let mut wanted = List::new(alloc);
-    take_held(stock, &mut reading, places.as_slice(), &mut wanted)?;
-    Ok(Fetched { reading, wanted })
+    let mut found = List::new(alloc);
+    let places = places.as_slice();
+    take_held(stock, cache, &mut reading, places, &mut wanted, &mut found)?;
+    Ok(Fetched {
+        reading,
+        wanted,
+        found,
+    })
 }
 
 /// Whether there is room for the bytes of these pieces.
@@ -254,34 +286,62 @@ fn bytes_in(piece: &Piece) -> u64
     }
 }
 
-/// Puts what is held of these places into a read, and notes the others.
+/// Puts what is held or kept of these places into a read, and notes the others; those that were kept are noted, too.
 #[tactic(auto, using(crate::proofs::FillLemmas::taken_begins, crate::proofs::FillLemmas::taken_ends))]
 fn take_held(
     stock: &Stock,
+    cache: &BlockCache,
     reading: &mut Reading,
     places: &[Place],
     wanted: &mut List<Place>,
+    found: &mut List<Place>,
 ) -> Result<(), NoMemory>
-    ensures { OnOk result (AreTakenFrom stock.now.layout.ops places.now reading.old reading.new wanted.old wanted.new) }
+    ensures { OnOk result (AreTakenFrom stock.now.layout.ops cache.now places.now reading.old reading.new wanted.old
+        wanted.new found.old found.new) }
 {
     for place in places {
-        take_block(stock, reading, *place, wanted)?;
+        take_block(stock, cache, reading, *place, wanted, found)?;
     }
     Ok(())
 }
 
-/// Puts the block at a place into a read, where it is held, and else notes the place.
+/// Puts the block at a place into a read, where it is held or kept, and else notes the place.
 fn take_block(
     stock: &Stock,
+    cache: &BlockCache,
     reading: &mut Reading,
     place: Place,
     wanted: &mut List<Place>,
+    found: &mut List<Place>,
 ) -> Result<(), NoMemory>
-    ensures { OnOk result (IsTakenFrom (held_in place stock.now.layout.ops) place reading.old reading.new wanted.old
-        wanted.new) }
+    ensures { OnOk result (IsTakenFrom (held_in place stock.now.layout.ops) (bytes_at cache.now place) place reading.old
+        reading.new wanted.old wanted.new found.old found.new) }
 {
     match stock.held(place) {
-        Some(bytes) => reading.fill(place, bytes.as_slice()),
+        Some(bytes) => {
+            reading.fill(place, bytes.as_slice());
+            Ok(())
+        }
+        None => take_kept(cache, reading, place, wanted, found),
+    }
+}
+
+/// Puts the block at a place into a read, where it is kept, and else notes the place.
+fn take_kept(
+    cache: &BlockCache,
+    reading: &mut Reading,
+    place: Place,
+    wanted: &mut List<Place>,
+    found: &mut List<Place>,
+) -> Result<(), NoMemory>
+    ensures { OnOk result (IsTakenFrom None (bytes_at cache.now place) place reading.old reading.new wanted.old
+        wanted.new found.old found.new) }
+{
+    match cache.find(place) {
+        Some(bytes) => {
+            found.push(place)?;
+            reading.fill(place, bytes.as_slice());
+        }
         None => wanted.push(place)?,
     }
     Ok(())

@@ -12,13 +12,14 @@ ghost use Rattle.tape_layout.specs.declared.ops.Op.{Op as Done};
 ghost use Rattle.tape_layout.specs.Ops.{place_of};
 ghost use Rattle.event_journal.specs.Trails.{first_waiter, state};
 ghost use Rattle.waiting_reads.specs.Waiting.{HasTicket};
-ghost use Rattle.state_laws.specs.Stepping.{IsOneRequest, KeepsListed, told_fault};
+ghost use Rattle.state_laws.specs.Stepping.{IsKeptAfter, IsOneRequest, KeepsListed, told_fault};
 ghost use Rattle.call_laws.specs.StepLaws.{CanStep};
 ghost use Rattle.call_laws.specs.Handing.{StepsOn};
 ghost use Rattle.volume_steps.specs.Seen.{seen_parts};
 ghost use Rattle.volume_steps.specs.Moves.{AnswersSyncs, FinishesOp, IsFirstOp, IsReady, MissesBlock, SyncsWait};
 ghost use Rattle.volume_steps.specs.Moves.{TakesBlock, TakesOp, TellsFault, on_from};
 
+use block_cache::BlockCache;
 use crate::ops::{flushes, place, settles};
 use crate::parts::Parts;
 use crate::requests::forget_requests;
@@ -27,7 +28,7 @@ use head_core::{StepDone, Work};
 use head_queue::Pick;
 use plain_tree::Answer;
 use session_script::Reply;
-use tape_drive::Drive;
+use tape_drive::{Drive, Got};
 use tape_types::{Place, Twin};
 
 impl<D: Drive> Parts<D> {
@@ -175,25 +176,26 @@ impl<D: Drive> Parts<D> {
     {
         match self.head.step(Work::Read(place)) {
             StepDone::Failed(counts) => self.fail_read(owner, place, counts),
-            StepDone::Read(_) => self.take_block(node, owner, place),
+            StepDone::Read(got) => self.take_block(node, owner, place, got),
             StepDone::Wrote | StepDone::Flushed => unreachable!(),
         }
     }
 
-    /// A block was read: its read has its bytes, and is answered once it has them all.
-    fn take_block(&mut self, node: u32, owner: u64, place: Place)
+    /// A block was read: its read has its bytes, and is answered once it has them all. A copy is kept.
+    fn take_block(&mut self, node: u32, owner: u64, place: Place, got: Got)
         requires allowed { allows (state self.old.trail) (the_events.Served owner place None) ≡ true }
         requires near { place.pos < 2 ^ 63 }
         requires node { (one : Waiting) × IsIn self.old.queue.waiting one × (one.node ≡ node) × (one.owner ≡ owner)
             × (one.place ≡ place) }
         requires read { HasTicket (seen_parts self.old).reads owner }
         requires none { slice_get (seen_parts self.old).listed.replies owner ≡ Some None }
-        ensures { TakesBlock owner place (seen_parts self.old).block (seen_parts self.old) (seen_parts self.new) }
+        ensures { TakesBlock owner place got (seen_parts self.old).block (seen_parts self.old) (seen_parts self.new) }
     {
         self.trail.served(owner, place);
         let _at = self.trail.head();
         self.queue.remove(node);
         self.reads.fill(owner, place, self.head.block());
+        keep_block(&mut self.cache, place, got, self.head.block());
         if self.queue.waits(owner) {
             return;
         }
@@ -214,5 +216,17 @@ impl<D: Drive> Parts<D> {
         forget_requests(&mut self.queue, owner);
         self.reads.forget(owner);
         self.placements.answer(owner, Reply::Fault(counts));
+    }
+}
+
+/// Keeps a copy of a block that was read, where there is memory for it. What isn't a block isn't kept.
+fn keep_block(cache: &mut BlockCache, place: Place, got: Got, block: &[u8])
+    ensures { IsKeptAfter got place block.now cache.old cache.new }
+{
+    match got {
+        Got::Block => cache.keep_copy(place, block),
+        Got::Mark => (),
+        Got::End => (),
+        Got::Torn => (),
     }
 }

@@ -8,16 +8,16 @@ start-requires g c =
     let l = c.limits-limits in
     can_start (g.D.Drive.limits c.args.drive) l.result c.args.mounted l.ensures.value l.ensures.range c.requires
 
-pub returns-in-Ok-new-2-clause-fresh : goal.returns-in-Ok-new-2-clause-fresh
-returns-in-Ok-new-2-clause-fresh g c fixed begins =
+pub returns-in-Ok-new-3-clause-fresh : goal.returns-in-Ok-new-3-clause-fresh
+returns-in-Ok-new-3-clause-fresh g c fixed begins =
     let D = g.row.D.Denot in
     let stock = c.in-Ok.ensures {u = tt} in
     let placed = c.in-Ok-new.ensures {u = tt} in
-    let trail = c.new-in-Ok-new-2.ensures in
-    let queue = c.new-in-Ok-new-2-2.ensures in
-    let reads = c.new-in-Ok-new-2-3.ensures in
+    let trail = c.new-in-Ok-new-3.ensures in
+    let queue = c.new-in-Ok-new-3-2.ensures in
+    let reads = c.new-in-Ok-new-3-3.ensures in
     are_fresh g.D.Drive fixed c.args.drive c.args.mounted c.limits-limits.result c.args.calls c.args.sessions _ begins
-    c.limits-limits.ensures.value (ap (λ (h : HeadView D). h.drive) (c.in-Ok-new-2.ensures {u = tt}).made)
+    c.limits-limits.ensures.value (ap (λ (h : HeadView D). h.drive) (c.in-Ok-new-3.ensures {u = tt}).made)
     record {
       events = trail.events;
       acks = trail.acks;
@@ -32,5 +32,6 @@ returns-in-Ok-new-2-clause-fresh g c fixed begins =
       reads = reads.reads;
       answered = reads.answered;
       on = refl;
+      cached = c.in-Ok-new-2.ensures {u = tt};
     }
     record { ops = stock.ops; stands = stock.stands; tree = stock.tree }

@@ -4,4 +4,5 @@ use Rattle.volume_steps.proofs.fetches.take_held.Given as goal
 
 abbrev pub invariant-loop-place : goal.invariant-loop-place
 invariant-loop-place l =
-    AreTakenFrom l.stock.layout.ops (take l.place-index l.places) l.fn.reading l.reading l.fn.wanted l.wanted
+    AreTakenFrom l.stock.layout.ops l.cache (take l.place-index l.places) l.fn.reading l.reading l.fn.wanted l.wanted
+    l.fn.found l.found

@@ -31,5 +31,6 @@ loop-ticket-preserved g c = (
     queue = refl;
     answered = refl;
     reads = refl;
+    cached = refl;
   },
 )

@@ -31,4 +31,5 @@ returns g c op here =
       queue = ap (λ (p : Held D). p.queue) same;
       answered = ap (λ (p : Held D). p.reads.answered) same;
       reads = ap (λ (p : Held D). p.reads.reads) same;
+      cached = ap (λ (p : Held D). p.cache) same;
     }

@@ -15,4 +15,4 @@ returns g c =
       arrived = c.forget_requests.ensures.arrived;
     }
     c.failed.ensures.events c.requires.request c.forget_requests.ensures.waiting c.forget.ensures.forgotten c.forget.ensures.answered
-    c.answer.ensures.replies
+    c.answer.ensures.replies refl

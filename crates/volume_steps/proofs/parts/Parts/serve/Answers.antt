@@ -38,6 +38,6 @@ returns-in-Failed g c =
 
 pub returns-in-Read : goal.returns-in-Read
 returns-in-Read g c =
-    reads_block g.D.Drive c.args.owner c.args.place c.in-Read.field-0 c.step.new.self.block (seen_parts c.args.self.now)
+    reads_block g.D.Drive c.args.owner c.args.place c.in-Read.got c.step.new.self.block (seen_parts c.args.self.now)
     (seen_parts c.take_block.new.self) c.step.new.self.drive c.requires.ready.answers (c.requires.can.request c.args.owner c.args.place (one_request g.D.Drive (seen_parts c.args.self.now) c.requires.can c.requires.ready c.args.node c.args.owner c.args.place c.requires.picked)).3 (c.in-Read.ensures {u = tt}).step
     (c.in-Read.ensures {u = tt}).found c.take_block.ensures

@@ -2,13 +2,14 @@ use Rattle.std.specs.Prelude.{ℕ, ◌≡◌, List, [], ◌∷◌, ◌++◌}
 use Rattle.std.proofs.Common.{refl, sym, ap, subst, ◌∙◌}
 use Rattle.plain_tree.specs.declared.calls.Answer.{Answer}
 use Rattle.waiting_reads.specs.Waiting.{IsFilledOne}
+use Rattle.state_laws.specs.Stepping.{IsKeptAfter}
 use Rattle.volume_steps.specs.Seen.{seen_parts}
 use Rattle.volume_steps.proofs.ReadLemmas.{TakesRequest, is_answered, waits_on}
 use Rattle.volume_steps.proofs.parts.Parts.take_block.Goals as goal
 
 pub returns-then-waits : goal.returns-then-waits
 returns-then-waits g c =
-    waits_on c.args.owner c.args.place c.args.self.now.head.block _ _ record {
+    waits_on c.args.owner c.args.place c.args.got c.args.self.now.head.block _ _ record {
       drive = refl;
       only = record {
         stock = refl;
@@ -35,13 +36,14 @@ returns-then-waits g c =
         parts = c.requires.node.1.parts;
         node = c.requires.node.2;
       };
+      cached = subst (λ (block : List ℕ). IsKeptAfter c.args.got c.args.place block c.args.self.now.cache c.keep_block.new.cache) c.block-2.ensures c.keep_block.ensures;
     }
     (subst (λ (block : List ℕ). IsFilledOne c.args.owner c.args.place block c.args.self.now.reads.reads c.fill.new.self.reads) c.block.ensures c.fill.ensures.filled) refl c.fill.ensures.answered
     (sym c.waits.ensures ∙ c.if-waits.true)
 
 pub returns : goal.returns
 returns g c =
-    is_answered c.args.owner c.args.place c.args.self.now.head.block c.finish-answer.result c.fill.new.self.reads _ _ record {
+    is_answered c.args.owner c.args.place c.args.got c.args.self.now.head.block c.finish-answer.result c.fill.new.self.reads _ _ record {
       drive = refl;
       only = record {
         stock = refl;
@@ -68,6 +70,7 @@ returns g c =
         parts = c.requires.node.1.parts;
         node = c.requires.node.2;
       };
+      cached = subst (λ (block : List ℕ). IsKeptAfter c.args.got c.args.place block c.args.self.now.cache c.keep_block.new.cache) c.block-2.ensures c.keep_block.ensures;
     }
     (subst (λ (block : List ℕ). IsFilledOne c.args.owner c.args.place block c.args.self.now.reads.reads c.fill.new.self.reads) c.block.ensures c.fill.ensures.filled)
     c.finish-answer.ensures.finished c.answer.ensures.replies (c.finish-answer.ensures.answered ∙ ap (λ (kept : List (ℕ × Answer)). kept ++ (c.args.owner, c.finish-answer.result) ∷ []) c.fill.ensures.answered) (sym c.waits.ensures ∙ c.if-waits.false)

@@ -1,4 +1,5 @@
-use Rattle.std.proofs.Common.{List, length, subst}
+use Rattle.std.proofs.Common.{List, ap, length, subst, ◌∙◌}
+use Rattle.block_cache.specs.Kept.{used_all}
 use Rattle.tape_types.specs.declared.cartridges.Place.{Place}
 use Rattle.plain_tree.specs.declared.calls.Call.TheVariants as calls
 use Rattle.volume_steps.specs.Seen.{seen_parts}
@@ -17,9 +18,10 @@ returns-in-Ok-clause-submits g c path offset count free f =
     let old = seen_parts c.args.self.now in
     let mid = seen_parts c.ask.new.self in
     read_waits g.D.Drive c.args.asked.who c.args.asked.nth path offset count c.args.asked.at c.args.reading c.args.wanted
-    c.place_waiting.result old mid (seen_parts c.place_waiting.new.self) free f c.requires.some
+    c.args.found c.place_waiting.result old mid (seen_parts c.place_waiting.new.self) c.used_all.new.self free f c.requires.some
     (subst (λ (ps : List Place). AsksBlocks (length c.args.self.now.placements.history) ps c.args.reading old mid)
     c.as_slice.ensures c.in-Ok.ensures.ok)
+    (c.used_all.ensures ∙ ap (used_all mid.cached) c.as_slice-in-Ok.ensures)
     c.place_waiting.ensures
 
 pub returns-clause-submits : goal.returns-clause-submits
