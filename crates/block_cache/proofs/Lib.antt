@@ -2,3 +2,4 @@ pub mod KeptLemmas
 pub mod LawLemmas
 mod UseLemmas
 mod WorkedLemmas
+pub mod Crossing

@@ -89,6 +89,7 @@ impl BlockCache {
     }
 
     /// How many blocks are kept.
+    #[tactic(auto, using(crate::proofs::Crossing::cache_send))]
     pub fn len(&self) -> usize
         ensures count { result ≡ length self.now }
         ensures kept { AreKept self.now }

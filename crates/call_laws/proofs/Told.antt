@@ -92,9 +92,9 @@ module _ {D : Type 0} (drive : Ghosts D) (fixed : Fixed D) (planned : Items) (p 
     where
       by : (b : Bool) → passes (refusal_of st.tree (calls.Read path offset count)) ≡ b → Asks st p.trail.events [] p.cached next (Some (calls.Read path offset count))
       by false refused = asks_refused st p.trail.events [] p.cached next path offset count refused (
-          refl,
-          uses.0 (refused_isnt (tape_on planned) p.stock.tree path offset count (ap (λ (t : Tree). passes (refusal_of t (calls.Read path offset count))) tied.stock.plain ∙ refused)),
-        )
+        refl,
+        uses.0 (refused_isnt (tape_on planned) p.stock.tree path offset count (ap (λ (t : Tree). passes (refusal_of t (calls.Read path offset count))) tied.stock.plain ∙ refused)),
+      )
       by true passed =
           let free = passes_free (tape_on planned) p.stock.tree path offset count (ap (λ (t : Tree). passes (refusal_of t (calls.Read path offset count))) tied.stock.plain ∙ passed) in
           let used = uses.1 free (tape_on planned) (given_in drive fixed p) (on_in drive fixed p) st tied.stock in

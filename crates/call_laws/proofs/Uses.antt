@@ -162,7 +162,10 @@ pub keeps_it : (told : Option Cartridge) (ticket : ℕ) (place : Place) (got : G
     → KeepsBlock told (events.Served ticket place None) old new
 keeps_it told ticket place gots.Block block old new found (inl is) = inl is
 keeps_it told ticket place gots.Block block old new found (inr is) = inr (
-    block, is, if_told told (λ c. slice_get (Rattle.tape_types.specs.Cartridges.items_of place.part c) place.pos ≡ Some (item.Block block)) (λ c e. read_block (item_at place c) block (found c e)))
+  block,
+  is,
+  if_told told (λ c. slice_get (Rattle.tape_types.specs.Cartridges.items_of place.part c) place.pos ≡ Some (item.Block block)) (λ c e. read_block (item_at place c) block (found c e)),
+)
 keeps_it told ticket place gots.Mark block old new found is = inl is
 keeps_it told ticket place gots.End block old new found is = inl is
 keeps_it told ticket place gots.Torn block old new found is = inl is

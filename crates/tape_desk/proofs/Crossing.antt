@@ -6,6 +6,10 @@ use denote.Struct.Record.{declared}
 use Rattle.std.proofs.Crossing.{crosses}
 use Rattle.tape_drive.specs.declared.drive.Drive as drives
 use Rattle.tape_edge.specs.declared.traits.Clock as clocks
+use Rattle.block_cache.proofs.Crossing.{cache_send}
+use Rattle.held_volume.specs.contracts.stocks.Stock as stocks
+use Rattle.event_journal.specs.contracts.placements.Placements as placements
+use Rattle.waiting_reads.specs.contracts.readings.Readings as readings
 use Rattle.volume_steps.specs.contracts.parts.Parts as parts
 use Rattle.volume_core.specs.contracts.volume.Volume as volumes
 use Rattle.volume_core.specs.contracts.volume.Volume.TheInside as volume
@@ -17,8 +21,33 @@ use Rattle.tape_desk.specs.contracts.pass.DeskPass.TheInside as pass
 use Rattle.tape_desk.specs.contracts.desk.Desk as desks
 use Rattle.tape_desk.specs.contracts.desk.Desk.TheInside as desk
 
+-- the parts of a volume, the larger ones each for itself
+stock_send : IsSend stocks.the_row
+stock_send = search (crosses, sendable) depth 60 fits 100000
+
+placements_send : IsSend placements.the_row
+placements_send = search (crosses, sendable) depth 60 fits 100000
+
+readings_send : IsSend readings.the_row
+readings_send = search (crosses, sendable) depth 60 fits 100000
+
 parts_send : (D : RattleType) (d : drives.Ghosts D.Denot) → IsSend D → IsSend (parts.the_row D d)
-parts_send D d s = search (crosses, sendable) depth 60 fits 100000
+parts_send D d s = declared_send (declared (parts.struct D d) (parts.the_propositions D.Denot)) (
+  search (crosses, sendable) depth 60 fits 100000,
+  (
+    search (stock_send, sendable) depth 60 fits 100000,
+    (
+      search (crosses, sendable) depth 60 fits 100000,
+      (
+        search (crosses, sendable) depth 60 fits 100000,
+        (
+          search (placements_send, sendable) depth 60 fits 100000,
+          (search (readings_send, sendable) depth 60 fits 100000, (search (crosses, sendable) depth 60 fits 100000, (search (cache_send, sendable) depth 60 fits 100000, tt))),
+        ),
+      ),
+    ),
+  ),
+)
 
 module _ (D C : RattleType) (d : drives.Ghosts D.Denot) (c : clocks.Ghosts C.Denot) (s : IsSend D) (t : IsSend C) where
   -- its fields one by one, since they are too many for one search

@@ -181,12 +181,14 @@ read_told drive who nth path offset count at told read wanted found result old n
           (fetched_gathers old.stock old.cached here path offset count read wanted found f items plan may) (λ place has. ap not (out place))
           ∙ sym (answer_is old.stock path offset count read (tape_on items) st (f.plan (tape_on items) g on st stock)),
       nothing_asked (refusal_of st.tree (calls.Read path offset count)),
-    ))
-    (λ isnt. absurd (isnt free),
-    λ unrefused tape g on st stock.
-    let same = places_are old.stock path offset count read tape g st (f.plan tape g on st stock) in
-    (ap (wanted_of old.stock.layout.ops old.cached) (sym same) ∙ sym f.wanted_are ∙ none_by wanted none,
-    uses ∙ ap (used_all old.cached) (f.found_are ∙ ap (found_of old.stock.layout.ops old.cached) same)))
+    )) (
+      λ isnt. absurd (isnt free),
+      λ unrefused tape g on st stock.
+          let same = places_are old.stock path offset count read tape g st (f.plan tape g on st stock) in (
+            ap (wanted_of old.stock.layout.ops old.cached) (sym same) ∙ sym f.wanted_are ∙ none_by wanted none,
+            uses ∙ ap (used_all old.cached) (f.found_are ∙ ap (found_of old.stock.layout.ops old.cached) same),
+          ),
+    )
     no_sync refl (as_it_was old) finishes
 
 -- ---- the places that are wanted

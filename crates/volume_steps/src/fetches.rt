@@ -17,9 +17,9 @@ ghost use Rattle.volume_steps.specs.Seen.{seen_parts};
 ghost use Rattle.volume_steps.specs.Wanted.{AreTakenFrom, AsksBlocks, CanWantBlocks, HasEvents, HasRequests, IsFetched};
 ghost use Rattle.volume_steps.specs.Wanted.{IsTakenFrom, TiedReadsMayWant};
 
-use block_cache::BlockCache;
 use crate::parts::Parts;
 use crate::placing::Asked;
+use block_cache::BlockCache;
 use event_journal::Trail;
 use extent_map::Piece;
 use head_queue::Queue;

@@ -19,10 +19,10 @@ ghost use Rattle.volume_steps.specs.Seen.{seen_parts};
 ghost use Rattle.volume_steps.specs.Moves.{AnswersSyncs, FinishesOp, IsFirstOp, IsReady, MissesBlock, SyncsWait};
 ghost use Rattle.volume_steps.specs.Moves.{TakesBlock, TakesOp, TellsFault, on_from};
 
-use block_cache::BlockCache;
 use crate::ops::{flushes, place, settles};
 use crate::parts::Parts;
 use crate::requests::forget_requests;
+use block_cache::BlockCache;
 use event_journal::Waiter;
 use head_core::{StepDone, Work};
 use head_queue::Pick;

@@ -18,6 +18,7 @@ returns g c = record {
     reads = refl;
     answered = refl;
     on = refl;
+    cached = refl;
     acks = c.rests.ensures.acks;
   };
   history = c.rest.ensures.history;
