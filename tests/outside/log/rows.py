@@ -55,6 +55,21 @@ READ_BACK_BROKEN = [
     ("closed 2 6 11", "closed 2 5 11"),
 ]
 
+# ---- the block is read once more: it is kept, so no head step is made
+
+READ_TWICE = READ_BACK + "1 read /a 0 5\n"
+
+READ_TWICE_LOG = (MOMENT + "drive 40 0 51 0\n"
+                  + calls(1, "ok", "ok", "synced", "bytes 5 68656c6c6f", "bytes 5 68656c6c6f")
+                  + each("queues", 7, 5) + "syncs 2\n" + each("worked", 7, 5)
+                  + "synced 2\nack 2 49\nwants 3 dp 7\nserved 3 dp 7\nclosed 2 6 11\n")
+
+READ_TWICE_BROKEN = [
+    ("wants 3 dp 7\nserved 3 dp 7\n", ""),                             # nothing was read that could be kept
+    ("served 3 dp 7\n", "served 3 dp 7 fault 0 1\n"),                  # its step failed
+    ("closed 2 6 11", "closed 2 7 12"),
+]
+
 # ---- one session after the other reads a block: with the head at 30, first 50, then 90, and then 20
 
 SWEEP = "4 read /h 0 4\n1 read /a 0 4\n2 read /b 0 4\n3 read /c 0 4\n"
@@ -273,12 +288,13 @@ DAMAGED = "1 read /a 0 3\n1 read /a 0 5\n"
 
 DAMAGED_LOG = (f"volume ends 4 8 last 6\nnode file 2 /a {T} 5\nextent /a 0 dp 4 0 5 text:abc\n"
                + calls(1, "bytes 3 616263", "no Damaged")
-               + "wants 0 dp 4\nserved 0 dp 4\nwants 1 dp 4\nserved 1 dp 4\nclosed 1 2 5\n")
+               + "wants 0 dp 4\nserved 0 dp 4\nclosed 1 1 4\n")
 
 DAMAGED_BROKEN = [("no Damaged", "bytes 5 6162630000"), ("bytes 3 616263", "no Damaged")]
 
 ROWS = [
     ("read back", READ_BACK, READ_BACK_LOG, READ_BACK_BROKEN),
+    ("read twice", READ_TWICE, READ_TWICE_LOG, READ_TWICE_BROKEN),
     ("sweep", SWEEP, SWEEP_LOG, SWEEP_BROKEN),
     ("same place", SAME_PLACE, SAME_PLACE_LOG, SAME_PLACE_BROKEN),
     ("failed", FAILED, FAILED_LOG, FAILED_BROKEN),
