@@ -18,6 +18,7 @@ use Rattle.extent_map.specs.Laid.{IsLaid, Laid, Room}
 use Rattle.extent_map.specs.Pieces.{planned}
 use Rattle.extent_map.specs.Replies.{distinct, has_place, place_in, places_in, same_part, same_place}
 use Rattle.extent_map.specs.declared.pieces.Piece.{Piece}
+use Rattle.extent_map.proofs.DistinctLemmas.{has_distinct}
 use Rattle.extent_map.specs.declared.pieces.Piece.TheVariants.{Stored, Zeros}
 use Rattle.tape_types.proofs.Places.{same_places}
 use Rattle.file_tree.specs.declared.nodes.Kind.{Kind}
@@ -31,7 +32,7 @@ use Rattle.tape_layout.specs.declared.standing.Ends.{Ends}
 use Rattle.tape_layout.specs.Ops.{end_of}
 use Rattle.space_laws.specs.Standing.{Given, Standing, uid_at}
 use Rattle.serving_promise.specs.Submits.{blocks_in, stored_at}
-use Rattle.reply_laws.proofs.Distinct.{has_distinct, has_in, in_has}
+use Rattle.reply_laws.proofs.Distinct.{has_in, in_has}
 use Rattle.reply_laws.proofs.Lists.{in_cases, in_first, in_none, in_rest}
 use Rattle.held_volume.specs.Stocks.{IsStock, Stocked}
 use Rattle.held_volume.proofs.PieceStands.{StandsWhere, plan_stands}

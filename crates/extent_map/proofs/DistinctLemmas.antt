@@ -157,7 +157,8 @@ old_place met places y key added are is told new = sym (are y) ∙ ap (contains 
 
 -- ---- the bytes of all blocks
 
-has_distinct : (xs : List Place) (y : Place) → has_place y (distinct xs) ≡ has_place y xs
+-- a list has the places that it has with each once
+pub has_distinct : (xs : List Place) (y : Place) → has_place y (distinct xs) ≡ has_place y xs
 has_distinct [] y = refl
 has_distinct (x ∷ xs) y = by (same_place y x) refl (has_distinct xs y)
   where

@@ -2,13 +2,11 @@
 use Rattle.std.proofs.Common.{◌≡◌, ◌⊎◌, ℕ, ◌&&◌, ◌||◌, eqb, not, Bool, true, false, cond, List, [], ◌∷◌, ⊎_elim, inl, inr, refl, sym, ap, subst, ◌∙◌, arith}
 use Rattle.std.specs.List.{filter, list_any}
 use Rattle.std.specs.Prelude.{All, Contains}
-use Rattle.std.proofs.lemmas.Bool.Decides.{nat_tests}
 use Rattle.std.proofs.lemmas.List.Elements.{All-head, All-tail}
-use Rattle.tape_types.specs.declared.cartridges.Part.{Part}
-use Rattle.tape_types.specs.declared.cartridges.Part.TheVariants.{Dp, Ip}
 use Rattle.tape_types.specs.declared.cartridges.Place.{Place}
-use Rattle.tape_types.proofs.Places.{same_places}
-use Rattle.extent_map.specs.Replies.{distinct, has_place, same_part, same_place}
+use Rattle.tape_types.proofs.Places.{same_itself, same_places}
+use Rattle.extent_map.proofs.DistinctLemmas.{has_distinct}
+use Rattle.extent_map.specs.Replies.{distinct, has_place, same_place}
 use Rattle.session_script.specs.declared.logs.Event.{Event}
 use Rattle.block_cache.specs.Kept.{Kept, is_cached, stands_at}
 use Rattle.serving_promise.specs.Cached.{was_read}
@@ -22,37 +20,6 @@ or_second : (a b : Bool) → b ≡ true → (a || b) ≡ true
 or_second true b e = refl
 or_second false b e = e
 
-same_self : (a : Place) → same_place a a ≡ true
-same_self a = by a.part
-  where
-    pos : eqb a.pos a.pos ≡ true
-    pos = grind (arith, nat_tests)
-
-    by : (p : Part) → (same_part p p && eqb a.pos a.pos) ≡ true
-    by Ip = pos
-    by Dp = pos
-
-has_filtered : (x y : Place) (ds : List Place) → same_place y x ≡ false → has_place y (filter (λ other. not (same_place x other)) ds) ≡ has_place y ds
-has_filtered x y [] other = refl
-has_filtered x y (d ∷ ds) other = by (same_place x d) refl (has_filtered x y ds other)
-  where
-    by : (b : Bool) → same_place x d ≡ b → has_place y (filter (λ other. not (same_place x other)) ds) ≡ has_place y ds
-        → has_place y (cond (not b) (d ∷ filter (λ other. not (same_place x other)) ds) (filter (λ other. not (same_place x other)) ds)) ≡ (same_place y d || has_place y ds)
-    by true e rest =
-        let d_is : d ≡ x = sym (same_places x d e) in
-        rest ∙ ap (λ t. t || has_place y ds) (sym (ap (same_place y) d_is ∙ other))
-    by false e rest = ap (λ t. same_place y d || t) rest
-
--- a list has the places that it has with each once
-pub has_distinct : (xs : List Place) (y : Place) → has_place y (distinct xs) ≡ has_place y xs
-has_distinct [] y = refl
-has_distinct (x ∷ xs) y = by (same_place y x) refl (has_distinct xs y)
-  where
-    by : (b : Bool) → same_place y x ≡ b → has_place y (distinct xs) ≡ has_place y xs
-        → (same_place y x || has_place y (filter (λ other. not (same_place x other)) (distinct xs))) ≡ (same_place y x || has_place y xs)
-    by true e same = ap (λ t. t || has_place y (filter (λ other. not (same_place x other)) (distinct xs))) e ∙ sym (ap (λ t. t || has_place y xs) e)
-    by false e same = ap (λ t. same_place y x || t) (has_filtered x y (distinct xs) e ∙ same)
-
 pub has_in : (place : Place) (places : List Place) → has_place place places ≡ true → Contains places place
 has_in place [] e = absurd cc
 has_in place (x ∷ xs) e = by (has_in place xs) (same_place place x) refl
@@ -64,7 +31,7 @@ has_in place (x ∷ xs) e = by (has_in place xs) (same_place place x) refl
 pub in_has : (place : Place) (places : List Place) → Contains places place → has_place place places ≡ true
 in_has place [] has = absurd (in_none place has)
 in_has place (x ∷ xs) has = ⊎_elim
-    (λ is. or_first (same_place place x) (has_place place xs) (subst (λ y. same_place place y ≡ true) (sym is) (same_self place)))
+    (λ is. or_first (same_place place x) (has_place place xs) (subst (λ y. same_place place y ≡ true) (sym is) (same_itself place)))
     (λ later. or_second (same_place place x) (has_place place xs) (in_has place xs later))
     (in_cases x xs place has)
 

@@ -16,7 +16,7 @@ use Rattle.tape_layout.specs.declared.ops.Op.{Op}
 use Rattle.waiting_reads.specs.Gathering.{Gathering, HasSoFar, IsGathering}
 use Rattle.waiting_reads.specs.Waiting.{IsFilledBy}
 use Rattle.block_cache.specs.Kept.{Kept, bytes_at, is_cached}
-use Rattle.reply_laws.proofs.Distinct.{has_distinct}
+use Rattle.extent_map.proofs.DistinctLemmas.{has_distinct}
 use Rattle.state_laws.specs.Placing.{is_held, wanted_of}
 use Rattle.volume_steps.specs.Wanted.{AreTakenFrom, HasHeld, HasKept, IsTakenFrom, there_among}
 
