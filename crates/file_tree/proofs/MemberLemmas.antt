@@ -5,7 +5,7 @@ use Rattle.std.specs.List.{AllByRecursion, swap}
 use Rattle.std.specs.List.Sorted.{IsPermutation}
 use Rattle.std.proofs.lemmas.List.Sorted.{IsPermutation-keeps}
 use Rattle.index_model.specs.Places.{IsAt}
-use Rattle.index_faults.proofs.Exchanged.{IsMoved, goes_to}
+use Rattle.index_model.proofs.Exchanged.{IsMoved, goes_to}
 use Rattle.file_tree.specs.Order.{IsIn}
 use Rattle.name_tries.proofs.ItemLemmas.{some_same}
 pub use Rattle.name_tries.proofs.ItemLemmas.{in_front, in_rest, in_either}

@@ -9,7 +9,7 @@ use Rattle.std.proofs.lemmas.List.Sorted.{IsPermutation-keeps, IsPermutation-sym
 use Rattle.tape_types.specs.declared.cartridges.Extent.{Extent}
 use Rattle.index_model.specs.declared.nodes.RawExtent.{RawExtent}
 use Rattle.index_model.specs.Places.{IsAt}
-use Rattle.index_faults.proofs.Exchanged.{goes_to}
+use Rattle.index_model.proofs.Exchanged.{goes_to}
 use Rattle.extent_map.specs.Laid.{front_of, before, cut, put_among}
 use Rattle.file_tree.specs.Mounts.{Letters, extent_of, by_offset, laid_of}
 use Rattle.file_tree.specs.Raws.{IsRaw, AreApart, AllApart, AreRaws}

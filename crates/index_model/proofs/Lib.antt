@@ -7,3 +7,4 @@ pub mod ArchiveFacts
 pub mod DamagedFacts
 pub mod OneValue
 pub mod SomeValue
+pub mod Exchanged
