@@ -58,6 +58,18 @@ module _ {D : Type 0} (drive : Ghosts D) (start : Start) where
     since = second.since;
   }
 
+  -- a step of so many commands is one of more
+  pub step_of_more : {T : Type 0} {m n : ℕ} {a b : D} {F : T → Cartridge → Type 0} {A : T → Type 0} {R : MountErr → Cartridge → Type 0} {r : Result T MountErr}
+      → m ≤ n → IsStep drive start m a b F A R r → IsStep drive start n a b F A R r
+  step_of_more {m = m} {n = n} {a = a} {b = b} le step = record {
+    found = step.found;
+    any = step.any;
+    refused = step.refused;
+    counts = step.counts;
+    looks = looks_more m n a b le step.looks;
+    since = step.since;
+  }
+
   -- a step that refuses, and so all that stands on it does
   pub stops : {T U : Type 0} {m n : ℕ} {a b : D} {F : T → Cartridge → Type 0} {A : T → Type 0} {R V : MountErr → Cartridge → Type 0}
       {H : U → Cartridge → Type 0} {C : U → Type 0} {e : MountErr} → m ≤ n → IsStep drive start m a b F A R (Err e)

@@ -129,6 +129,43 @@ fn find_by_labels<D: Drive>(
     }
 }
 
+/// Reads what the cartridge in a drive stands for by all that stands on both partitions, whatever its notes say, and
+/// writes nothing: for what has to read the data partition in any case. The errors are those of [`mount`].
+pub fn mount_by_scan<D: Drive>(
+    alloc: Global,
+    drive: &mut D,
+    start: Start,
+) -> Result<Mounted, MountErr>
+    requires since { IsSince D.Drive start drive.old }
+    ensures { IsStep D.Drive start (23 + 2 * start.limits.cap_ip + 2 * start.limits.cap_dp) drive.old drive.new
+        (λ m c. Mounts c m) (IsSoundMount start.limits) Blames result }
+{
+    let notes = match read_notes(drive, start) {
+        Ok(notes) => notes,
+        Err(fault) => return Err(fault),
+    };
+    scan_with_notes(alloc, drive, start, &notes)
+}
+
+/// Where the notes are known.
+fn scan_with_notes<D: Drive>(
+    alloc: Global,
+    drive: &mut D,
+    start: Start,
+    notes: &Notes,
+) -> Result<Mounted, MountErr>
+    requires since { IsSince D.Drive start drive.old }
+    requires notes { IfSome (D.held drive.old) (AreNotes notes.now) }
+    ensures { IsStep D.Drive start (20 + 2 * start.limits.cap_ip + 2 * start.limits.cap_dp) drive.old drive.new
+        (λ m c. Mounts c m) (IsSoundMount start.limits) Blames result }
+{
+    let labels = match find_labels(alloc, drive, start) {
+        Ok(labels) => labels,
+        Err(fault) => return Err(fault),
+    };
+    find_by_scan(alloc, drive, start, labels, notes)
+}
+
 /// By all that stands on both partitions.
 fn find_by_scan<D: Drive>(
     alloc: Global,
