@@ -1,0 +1,76 @@
+-- What a step of a tape leaves of it.
+use Rattle.std.specs.Prelude.{ℕ, ◌+◌, ◌≤◌, ◌≡◌, ◌⊎◌, Option, Some, None, Result, Ok, Err, OnOk}
+use Rattle.tape_types.specs.Counts.{Rose}
+use Rattle.tape_types.specs.declared.cartridges.Cartridge.{Cartridge}
+use Rattle.crash_steps.specs.Crashes.{NothingNew}
+use Rattle.byte_disk.specs.Files.{Files}
+use Rattle.byte_disk.specs.declared.disk.ByteDisk.{Ghosts}
+use Rattle.image_slots.specs.Pieces.{AtMost}
+use Rattle.image_slots.specs.State.{IsOver}
+use Rattle.image_format.specs.Images.{header, header_by, image_by}
+use Rattle.image_format.specs.declared.values.SlotValue.{SlotValue}
+use Rattle.image_tape.specs.declared.doubt.Doubt.TheVariants.{Settled}
+use Rattle.image_tape.specs.Halves.{with_serial}
+use Rattle.image_tape.specs.Tape.{CrashesOn, Stands, View, cut_to, held_of}
+
+-- all but the disk and its value is as it was
+pub record Keeps {D : Type 0} (old new : View D) : Type 0 where
+  pub over : IsOver old.slots new.slots
+  pub room : new.room ≡ old.room
+  pub base : new.base ≡ old.base
+  pub reads : new.reads ≡ old.reads
+  pub doubt : new.doubt ≡ old.doubt
+  pub head : new.head ≡ old.head
+  pub faults : new.faults ≡ old.faults
+  pub opened : new.opened ≡ old.opened
+
+-- what no step changes
+pub record Stays {D : Type 0} (old new : View D) : Type 0 where
+  pub limits : new.room.limits ≡ old.room.limits
+  pub head : new.head ≡ old.head
+  pub faults : new.faults ≡ old.faults
+  pub opened : new.opened ≡ old.opened
+
+-- so many commands of the disk at most, which only read; the cartridge reads as before
+pub record Looks {D : Type 0} (disk : Ghosts D) (most : ℕ) (old new : View D) : Type 0 where
+  pub stays : Stays old new
+  pub held : held_of disk new ≡ held_of disk old
+  pub count : AtMost most (disk.commands old.slots.disk) (disk.commands new.slots.disk)
+  pub crash : CrashesOn disk old.room.limits NothingNew old.slots.disk new.slots.disk
+
+-- from one cartridge to that or another one
+abbrev pub FromTo : (from to before image : Cartridge) → Type 0
+FromTo from to before image = (before ≡ from) × ((image ≡ from) ⊎ (image ≡ to))
+
+-- the cartridge reads as the one that was to be, or where that failed as that or as before
+abbrev pub AfterCommit : {T E : Type 0} → Result T E → (from to : Cartridge) → Option Cartridge → Type 0
+AfterCommit (Ok _) from to held = held ≡ Some to
+AfterCommit (Err _) from to held = (held ≡ Some from) ⊎ (held ≡ Some to)
+
+-- A value was set, or was to be set; with it so much reads.
+pub record IsCommit {D T E : Type 0} (disk : Ghosts D) (value reads : SlotValue) (end : Result T E) (old new : View D) : Type 0 where
+  pub stays : Stays old new
+  pub count : AtMost 6 (disk.commands old.slots.disk) (disk.commands new.slots.disk)
+  pub untold : disk.held old.slots.disk ≡ None → disk.held new.slots.disk ≡ None
+  pub told : (d : Files) (from to : Cartridge) → disk.held old.slots.disk ≡ Some d → image_by d (Some old.reads) ≡ Ok from
+      → image_by d (Some reads) ≡ Ok to → AfterCommit end from to (held_of disk new)
+  pub crash : (d : Files) (from to : Cartridge) → disk.held old.slots.disk ≡ Some d → image_by d (Some old.base) ≡ Ok from
+      → image_by d (Some value) ≡ Ok to → CrashesOn disk old.room.limits (FromTo from to) old.slots.disk new.slots.disk
+
+-- a header of this value would be right, and with it so much would read
+abbrev pub MayStand : {D : Type 0} → Ghosts D → (value reads : SlotValue) → View D → Type 0
+MayStand disk value reads v = (d : Files) → disk.held v.slots.disk ≡ Some d
+    → Stands v.room.limits value reads (cut_to reads v.room) (disk.leaves v.slots.disk) d
+
+-- the value was set, with the next serial number
+pub record IsTaken {D : Type 0} (value reads : SlotValue) (old new : View D) : Type 0 where
+  pub base : new.base ≡ with_serial (old.base.serial + 1) value
+  pub reads_are : new.reads ≡ reads
+  pub room : new.room ≡ cut_to reads old.room
+  pub doubt : new.doubt ≡ Settled
+
+-- the header says this value, and so does that of each image that a crash may leave
+pub record IsFound {D : Type 0} (disk : Ghosts D) (v : View D) (s : SlotValue) : Type 0 where
+  pub value : header_by v.room.limits (Some v.slots.value) ≡ Some s
+  pub reads : (d : Files) → disk.held v.slots.disk ≡ Some d → header v.room.limits d.cm ≡ Some s
+  pub left : (d image : Files) → disk.held v.slots.disk ≡ Some d → disk.leaves v.slots.disk image → header v.room.limits image.cm ≡ Some s

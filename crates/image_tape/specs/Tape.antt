@@ -1,0 +1,149 @@
+-- The cartridge of a tape over a disk of byte files, and what a crash may leave of it.
+use Rattle.std.specs.Prelude.{ℕ, ◌+◌, ◌-◌, ◌^◌, ◌≤◌, ◌<◌, ◌≡◌, ◌⊎◌, ◌==◌, Bool, true, false, if◌then◌else◌, List, take, length}
+use Rattle.std.specs.Prelude.{Option, Some, None, Result, Ok, Err}
+use Rattle.std.specs.List.{flat_map}
+use Rattle.tape_types.specs.Cartridges.{IsLimits}
+use Rattle.tape_types.specs.declared.cartridges.Cartridge.{Cartridge}
+use Rattle.tape_types.specs.declared.cartridges.Item.{Item}
+use Rattle.tape_types.specs.declared.cartridges.Limits.{Limits}
+use Rattle.tape_types.specs.declared.cartridges.Place.{Place}
+use Rattle.crash_steps.specs.Crashes.{Crashes}
+use Rattle.byte_disk.specs.Files.{Files}
+use Rattle.byte_disk.specs.declared.disk.ByteDisk.{Ghosts}
+use Rattle.image_slots.specs.State as slot
+use Rattle.image_slots.specs.declared.known.Known.TheVariants.{Steady}
+use Rattle.image_format.specs.declared.refusal.Refusal.{Refusal}
+use Rattle.image_format.specs.declared.values.Half.{Half}
+use Rattle.image_format.specs.declared.values.SlotValue.{SlotValue}
+use Rattle.image_format.specs.Images.{Fits, Opens, header, header_by, image_by}
+use Rattle.image_format.specs.Offsets.{Offsets, offsets_from}
+use Rattle.image_format.specs.Records.{AreRecords, record_bytes}
+use Rattle.image_tape.specs.declared.doubt.Doubt.{Doubt}
+use Rattle.image_tape.specs.declared.doubt.Doubt.TheVariants.{Settled, Open}
+
+-- The disk with its value; where records begin; what the header says, and what would be said of all that reads; what is
+-- known of these; where the head stands; the count of faults; and the number of the disk's commands since which every
+-- crash leaves an image.
+pub record View (D : Type 0) : Type 0 where
+  pub slots : slot.View D
+  pub room : Offsets
+  pub base : SlotValue
+  pub reads : SlotValue
+  pub doubt : Doubt
+  pub head : Option Place
+  pub faults : ℕ
+  pub opened : ℕ
+
+abbrev pub given : Result Cartridge Refusal → Option Cartridge
+given (Ok c) = Some c
+given (Err why) = None
+
+-- the header says this value, which its serial number tells
+abbrev pub says : SlotValue → Option SlotValue → Bool
+says s None = false
+says s (Some t) = t.serial == s.serial
+
+-- what would be said of all that reads, on a disk of these files
+abbrev pub reading_by : Doubt → (base reads : SlotValue) → Option SlotValue → SlotValue
+reading_by Settled base reads said = reads
+reading_by (Open value after) base reads said = if says base said then reads else after
+
+abbrev pub reading : {D : Type 0} → View D → Files → SlotValue
+reading v d = reading_by v.doubt v.base v.reads (header v.room.limits d.cm)
+
+abbrev pub held_by : {D : Type 0} → View D → Option Files → Option Cartridge
+held_by v None = None
+held_by v (Some d) = given (image_by d (Some (reading v d)))
+
+-- the cartridge as it reads, where the disk tells its files
+abbrev pub held_of : {D : Type 0} → Ghosts D → View D → Option Cartridge
+held_of disk v = held_by v (disk.held v.slots.disk)
+
+-- a crash leaves files that open as this cartridge
+abbrev pub LeavesOn : {D : Type 0} → Ghosts D → Limits → D → Cartridge → Type 0
+LeavesOn disk limits b c = (image : Files) × disk.leaves b image × Opens limits image c
+
+abbrev pub SinceOn : {D : Type 0} → Ghosts D → Limits → D → ℕ → Cartridge → Type 0
+SinceOn disk limits b t c = (image : Files) × disk.left_since b t image × Opens limits image c
+
+-- what commands of the disk leave of the cartridge to a crash, now and since
+abbrev pub CrashesOn : {D : Type 0} → Ghosts D → Limits → (Cartridge → Cartridge → Type 0) → (old new : D) → Type 0
+CrashesOn disk limits step old new = Crashes step (disk.commands old) (LeavesOn disk limits old) (LeavesOn disk limits new)
+    (SinceOn disk limits old) (SinceOn disk limits new)
+
+-- Some of the items that lie in a file count, the first ones: those of `said`. `reads` says what all of them are, and
+-- their records begin at the offsets.
+pub record Lie (said reads : Half) (offsets file : List ℕ) (items : List Item) : Type 0 where
+  pub records : AreRecords reads file items
+  pub offsets_are : offsets ≡ offsets_from 0 items
+  pub fewer : said.count ≤ reads.count
+  pub end : said.end ≡ length (flat_map record_bytes (take said.count items))
+
+-- what counts lies in the files of a crash as it does in those that read
+pub record Agree (said : SlotValue) (d image : Files) : Type 0 where
+  pub ip : take said.ip.end image.ip ≡ take said.ip.end d.ip
+  pub dp : take said.dp.end image.dp ≡ take said.dp.end d.dp
+
+-- What `said` says of the files may be the header's word: it fits the capacities, it has the reference and the notes that
+-- read, and the items that it counts are the first ones of those that read, also in what a crash leaves.
+pub record Stands (limits : Limits) (said reads : SlotValue) (room : Offsets) (leaves : Files → Type 0) (d : Files) : Type 0 where
+  pub ip : List Item
+  pub dp : List Item
+  pub in_ip : Lie said.ip reads.ip room.ip d.ip ip
+  pub in_dp : Lie said.dp reads.dp room.dp d.dp dp
+  pub agree : (image : Files) → leaves image → Agree said d image
+  pub vcr : reads.vcr ≡ said.vcr
+  pub note_ip : reads.ip.note ≡ said.ip.note
+  pub note_dp : reads.dp.note ≡ said.dp.note
+  pub fits_ip : Fits limits.cap_ip said.ip
+  pub fits_dp : Fits limits.cap_dp said.dp
+
+-- the first records alone
+abbrev pub cut_to : SlotValue → Offsets → Offsets
+cut_to reads room = record {
+  limits = room.limits;
+  ip = take reads.ip.count room.ip;
+  dp = take reads.dp.count room.dp;
+}
+
+-- there is an offset for each record, and no more than there is room for
+pub record Holds (room : Offsets) (reads : SlotValue) : Type 0 where
+  pub ip : length room.ip ≡ reads.ip.count
+  pub dp : length room.dp ≡ reads.dp.count
+  pub fits_ip : Fits room.limits.cap_ip reads.ip
+  pub fits_dp : Fits room.limits.cap_dp reads.dp
+
+-- the header says one of two values
+abbrev pub SaysOne : Limits → (base value : SlotValue) → Files → Type 0
+SaysOne limits base value d = (header limits d.cm ≡ Some base) ⊎ (header limits d.cm ≡ Some value)
+
+-- what is known of the files
+abbrev pub Tells : {D : Type 0} → Doubt → View D → (Files → Type 0) → Files → Type 0
+Tells Settled v leaves d =
+    Stands v.room.limits v.base v.reads v.room leaves d × (header v.room.limits d.cm ≡ Some v.base)
+    × ((image : Files) → leaves image → header v.room.limits image.cm ≡ Some v.base)
+    × (header_by v.room.limits (Some v.slots.value) ≡ Some v.base)
+Tells (Open value reads) v leaves d =
+    Stands v.room.limits v.base v.reads v.room leaves d
+    × Stands v.room.limits value reads (cut_to reads v.room) leaves d
+    × SaysOne v.room.limits v.base value d × ((image : Files) → leaves image → SaysOne v.room.limits v.base value image)
+    × (value.serial ≡ v.base.serial + 1)
+
+-- what is known without them
+abbrev pub Suits : {D : Type 0} → Doubt → View D → Type 0
+Suits Settled v = v.slots.known ≡ Steady
+Suits (Open value reads) v = Holds (cut_to reads v.room) reads
+
+-- where the disk tells its files, each disk that may have been left since then opens
+abbrev pub AlwaysOpens : {D : Type 0} → Ghosts D → Limits → ℕ → D → Type 0
+AlwaysOpens disk limits since b = (d : Files) → disk.held b ≡ Some d → since < 2 ^ 64 - 1
+    → (image : Files) → disk.left_since b since image → (c : Cartridge) × Opens limits image c
+
+-- what is true of every tape
+pub record IsKept {D : Type 0} (disk : Ghosts D) (v : View D) : Type 0 where
+  pub limits : IsLimits v.room.limits
+  pub holds : Holds v.room v.reads
+  pub suits : Suits v.doubt v
+  pub reached : v.opened ≤ disk.commands v.slots.disk
+  pub always : AlwaysOpens disk v.room.limits v.opened v.slots.disk
+  pub tells : (d : Files) → disk.held v.slots.disk ≡ Some d → Tells v.doubt v (disk.leaves v.slots.disk) d
