@@ -4,3 +4,4 @@ pub mod Opening
 pub mod Upkeep
 pub mod Surely
 pub mod Setting
+pub mod Telling

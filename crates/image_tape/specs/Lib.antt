@@ -1,3 +1,4 @@
+pub mod Ends
 pub mod Halves
 pub mod Steps
 pub mod Tape

@@ -1,6 +1,7 @@
 //! A tape drive over a disk of byte files.
 #![tactic(auto)]
 
+mod commands;
 mod doubt;
 mod halves;
 mod settling;
