@@ -5,3 +5,5 @@ pub mod Upkeep
 pub mod Surely
 pub mod Setting
 pub mod Telling
+pub mod RecordLemmas
+pub mod Spots

@@ -86,7 +86,7 @@ module _ {D : Type 0} (disk : Ghosts D) where
   pub is_sure_at : (v w : View D) → v ≡ w → IsKept disk v → w.doubt ≡ Settled → IsSure disk w
   is_sure_at v w is kept settled = is_sure w (subst (λ (x : View D). IsKept disk x) is kept) settled
 
-  held_is_whole : (v : View D) (kept : IsKept disk v) (settled : v.doubt ≡ Settled) (c : Cartridge) → held_of disk v ≡ Some c
+  pub held_is_whole : (v : View D) (kept : IsKept disk v) (settled : v.doubt ≡ Settled) (c : Cartridge) → held_of disk v ≡ Some c
       → (d : Files) × (is : disk.held v.slots.disk ≡ Some d) × (c ≡ whole (tells_of v kept settled d is).0)
   held_is_whole v kept settled c is =
       let told = told_files v settled c is in

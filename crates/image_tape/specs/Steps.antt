@@ -1,9 +1,16 @@
 -- What a step of a tape leaves of it.
-use Rattle.std.specs.Prelude.{ℕ, ◌+◌, ◌≤◌, ◌≡◌, ◌⊎◌, Option, Some, None, Result, Ok, Err, OnOk}
+use Rattle.std.specs.Prelude.{ℕ, ◌+◌, ◌^◌, ◌<◌, ◌≤◌, ◌≡◌, ◌⊎◌, List, length, Option, Some, None, Result, Ok, Err, OnOk}
 use Rattle.tape_types.specs.Counts.{Rose}
 use Rattle.tape_types.specs.declared.cartridges.Cartridge.{Cartridge}
 use Rattle.crash_steps.specs.Crashes.{NothingNew}
-use Rattle.byte_disk.specs.Files.{Files}
+use Rattle.tape_types.specs.Cartridges.{IsItem, capacity}
+use Rattle.tape_types.specs.declared.cartridges.Item.{Item}
+use Rattle.tape_types.specs.declared.cartridges.Place.{Place}
+use Rattle.tape_drive.specs.Commands.{FillsBuffer, IsRead, item_at}
+use Rattle.tape_drive.specs.declared.drive.Got.{Got}
+use Rattle.tape_drive.specs.declared.drive.Got.TheVariants as got
+use Rattle.byte_disk.specs.Files.{Files, bytes_at}
+use Rattle.image_format.specs.Records.{record_bytes, width}
 use Rattle.byte_disk.specs.declared.disk.ByteDisk.{Ghosts}
 use Rattle.image_slots.specs.Pieces.{AtMost}
 use Rattle.image_slots.specs.State.{IsOver}
@@ -74,3 +81,16 @@ pub record IsFound {D : Type 0} (disk : Ghosts D) (v : View D) (s : SlotValue) :
   pub value : header_by v.room.limits (Some v.slots.value) ≡ Some s
   pub reads : (d : Files) → disk.held v.slots.disk ≡ Some d → header v.room.limits d.cm ≡ Some s
   pub left : (d image : Files) → disk.held v.slots.disk ≡ Some d → disk.leaves v.slots.disk image → header v.room.limits image.cm ≡ Some s
+
+-- the record of an item begins there
+pub record HasRecord (from : ℕ) (x : Item) (file : List ℕ) : Type 0 where
+  pub sound : IsItem x
+  pub within : from + width x ≤ length file
+  pub range : from + width x < 2 ^ 62
+  pub bytes : bytes_at from (width x) file ≡ record_bytes x
+
+-- what is answered at a place
+pub record IsReading {D : Type 0} (disk : Ghosts D) (at : Place) (found : Got) (buf : List ℕ) (v : View D) : Type 0 where
+  pub item : v.doubt ≡ Settled → (c : Cartridge) → held_of disk v ≡ Some c → IsRead (item_at at c) found buf
+  pub bytes : FillsBuffer found buf
+  pub at_capacity : capacity at.part v.room.limits ≤ at.pos → found ≡ got.End

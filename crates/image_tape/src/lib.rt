@@ -4,6 +4,7 @@
 mod commands;
 mod doubt;
 mod halves;
+mod reading;
 mod settling;
 mod tape;
 
