@@ -7,3 +7,4 @@ pub mod Setting
 pub mod Telling
 pub mod RecordLemmas
 pub mod Spots
+pub mod Wholes

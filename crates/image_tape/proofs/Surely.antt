@@ -257,3 +257,6 @@ module _ {D : Type 0} (disk : Ghosts D) where
   pub looked_recovered : (end : Result (Unit {0}) OpenErr) (v w : View D) (s : slot.View D) → v ≡ w → slot.IsRecovered disk end v.slots s
       → Looks disk 2 w (with_slots s v)
   looked_recovered end v w s is done = looked 2 v w s is done.held done.count done.crash
+
+  pub settled_in : (v w : View D) → v ≡ w → w.doubt ≡ Settled → v.doubt ≡ Settled
+  settled_in v w is settled = ap (λ (x : View D). x.doubt) is ∙ settled

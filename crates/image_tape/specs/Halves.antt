@@ -20,9 +20,11 @@ with_serial serial s = record { serial = serial; vcr = s.vcr; ip = s.ip; dp = s.
 abbrev pub with_vcr : ℕ → SlotValue → SlotValue
 with_vcr vcr s = record { serial = s.serial; vcr = vcr; ip = s.ip; dp = s.dp }
 
+abbrev pub noted : Note → Half → Half
+noted note half = record { count = half.count; end = half.end; torn = half.torn; note = note }
+
 abbrev pub with_note : Part → Note → SlotValue → SlotValue
-with_note Ip note s = with_half Ip (record { count = s.ip.count; end = s.ip.end; torn = s.ip.torn; note = note }) s
-with_note Dp note s = with_half Dp (record { count = s.dp.count; end = s.dp.end; torn = s.dp.torn; note = note }) s
+with_note part note s = with_half part (noted note (half_of part s)) s
 
 -- the partition ends behind so many records, in this place
 abbrev pub ended : ℕ → ℕ → Bool → Half → Half

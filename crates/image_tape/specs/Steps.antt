@@ -6,7 +6,10 @@ use Rattle.crash_steps.specs.Crashes.{NothingNew}
 use Rattle.tape_types.specs.Cartridges.{IsItem, capacity}
 use Rattle.tape_types.specs.declared.cartridges.Item.{Item}
 use Rattle.tape_types.specs.declared.cartridges.Place.{Place}
-use Rattle.tape_drive.specs.Commands.{FillsBuffer, IsRead, item_at}
+use Rattle.tape_drive.specs.Commands.{AfterNote, FillsBuffer, IsRead, item_at}
+use Rattle.tape_drive.specs.Crashes.{IsSure, WithinFlush, WithinNote}
+use Rattle.tape_types.specs.declared.cartridges.Note.{Note}
+use Rattle.tape_types.specs.declared.cartridges.Part.{Part}
 use Rattle.tape_drive.specs.declared.drive.Got.{Got}
 use Rattle.tape_drive.specs.declared.drive.Got.TheVariants as got
 use Rattle.byte_disk.specs.Files.{Files, bytes_at}
@@ -18,7 +21,7 @@ use Rattle.image_format.specs.Images.{header, header_by, image_by}
 use Rattle.image_format.specs.declared.values.SlotValue.{SlotValue}
 use Rattle.image_tape.specs.declared.doubt.Doubt.TheVariants.{Settled}
 use Rattle.image_tape.specs.Halves.{with_serial}
-use Rattle.image_tape.specs.Tape.{CrashesOn, Stands, View, cut_to, held_of}
+use Rattle.image_tape.specs.Tape.{CrashesOn, LeavesOn, Stands, View, cut_to, held_of}
 
 -- all but the disk and its value is as it was
 pub record Keeps {D : Type 0} (old new : View D) : Type 0 where
@@ -94,3 +97,33 @@ pub record IsReading {D : Type 0} (disk : Ghosts D) (at : Place) (found : Got) (
   pub item : v.doubt ≡ Settled → (c : Cartridge) → held_of disk v ≡ Some c → IsRead (item_at at c) found buf
   pub bytes : FillsBuffer found buf
   pub at_capacity : capacity at.part v.room.limits ≤ at.pos → found ≡ got.End
+
+-- nothing of the tape changed but its disk
+pub record IsAlike {D : Type 0} (old new : View D) : Type 0 where
+  pub room : new.room ≡ old.room
+  pub base : new.base ≡ old.base
+  pub reads : new.reads ≡ old.reads
+  pub doubt : new.doubt ≡ old.doubt
+
+-- every crash leaves the partitions' files as they read
+abbrev pub AreStored : {D : Type 0} → Ghosts D → View D → Type 0
+AreStored disk v = (d image : Files) → disk.held v.slots.disk ≡ Some d → disk.leaves v.slots.disk image → (image.ip ≡ d.ip) × (image.dp ≡ d.dp)
+
+-- all that reads was made durable, or was to be
+pub record IsStored {D T E : Type 0} (disk : Ghosts D) (most : ℕ) (end : Result T E) (old new : View D) : Type 0 where
+  pub stays : Stays old new
+  pub count : AtMost most (disk.commands old.slots.disk) (disk.commands new.slots.disk)
+  pub held : held_of disk new ≡ held_of disk old
+  pub sure : OnOk end (IsSure (held_of disk new) (LeavesOn disk new.room.limits new.slots.disk))
+  pub crash : (c : Cartridge) → held_of disk old ≡ Some c
+      → CrashesOn disk old.room.limits (WithinFlush c) old.slots.disk new.slots.disk
+
+-- an attribute was set, or was to be set
+pub record IsNoteSet {D T E : Type 0} (disk : Ghosts D) (part : Part) (note : Note) (end : Result T E) (old new : View D) : Type 0 where
+  pub stays : Stays old new
+  pub count : AtMost 6 (disk.commands old.slots.disk) (disk.commands new.slots.disk)
+  pub settled : OnOk end (new.doubt ≡ Settled)
+  pub untold : held_of disk old ≡ None → held_of disk new ≡ None
+  pub told : (c : Cartridge) → held_of disk old ≡ Some c → (e : Cartridge) × (held_of disk new ≡ Some e) × AfterNote end part note c e
+  pub crash : (c : Cartridge) → held_of disk old ≡ Some c
+      → CrashesOn disk old.room.limits (WithinNote part note) old.slots.disk new.slots.disk

@@ -1,6 +1,6 @@
 // What a header says of either partition.
 ghost use Rattle.std.specs.Prelude.{◌≡◌, length};
-ghost use Rattle.image_tape.specs.Halves.{half_of, with_half, with_serial};
+ghost use Rattle.image_tape.specs.Halves.{ended, half_of, with_half, with_note, with_serial, with_vcr};
 ghost use Rattle.image_format.specs.Values.{IsSized, IsSizedHalf, IsSizedNote};
 ghost use Rattle.image_tape.specs.Tape.{cut_to};
 
@@ -49,6 +49,55 @@ pub(crate) fn cut_to(reads: &SlotValue, room: &mut Room)
 {
     room.cut(Part::Ip, reads.ip.count);
     room.cut(Part::Dp, reads.dp.count);
+}
+
+/// The value with this attribute of a partition.
+pub(crate) fn with_note(part: Part, note: Note, value: &SlotValue) -> SlotValue
+    ensures { result ≡ with_note part note value.now }
+{
+    let Half {
+        count, end, torn, ..
+    } = half_of(part, value);
+    let half = Half {
+        count,
+        end,
+        torn,
+        note,
+    };
+    with_half(part, half, value)
+}
+
+/// The value that says that a partition ends behind so many records, in this place.
+pub(crate) fn ended(
+    part: Part,
+    count: u64,
+    end: u64,
+    torn: bool,
+    value: &SlotValue,
+) -> SlotValue
+    ensures { result ≡ with_half part (ended count end torn (half_of part value.now)) value.now }
+{
+    let Half { note, .. } = half_of(part, value);
+    let half = Half {
+        count,
+        end,
+        torn,
+        note,
+    };
+    with_half(part, half, value)
+}
+
+/// The value with another volume change reference.
+pub(crate) fn with_vcr(vcr: u64, value: &SlotValue) -> SlotValue
+    ensures { result ≡ with_vcr vcr value.now }
+{
+    let SlotValue { serial, ip, dp, .. } = *value;
+    SlotValue {
+        serial,
+        vcr,
+        ip,
+        dp,
+    }
 }
 
 /// The value with another serial number.

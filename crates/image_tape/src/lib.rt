@@ -6,6 +6,7 @@ mod doubt;
 mod halves;
 mod reading;
 mod settling;
+mod storing;
 mod tape;
 
 pub use doubt::Doubt;
