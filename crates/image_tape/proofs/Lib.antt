@@ -8,3 +8,4 @@ pub mod Telling
 pub mod RecordLemmas
 pub mod Spots
 pub mod Wholes
+pub mod Rising

@@ -114,7 +114,7 @@ module _ {D : Type 0} (disk : Ghosts D) where
   told_or_not v None is = inl refl
   told_or_not v (Some d) is = inr (d, is)
 
-  untold_held : (v : View D) → disk.held v.slots.disk ≡ None → held_of disk v ≡ None
+  pub untold_held : (v : View D) → disk.held v.slots.disk ≡ None → held_of disk v ≡ None
   untold_held v is = ap (λ (o : Option Files). held_by v o) is
 
   after_same : {T E : Type 0} (r : Result T E) (c : Cartridge) (held : Option Cartridge) → AfterCommit r c c held → held ≡ Some c
@@ -253,7 +253,7 @@ module _ {D : Type 0} (disk : Ghosts D) where
   settled_taken (Ok x) value reads w n taken = taken.doubt
   settled_taken (Err why) value reads w n taken = tt
 
-  none_held : (v : View D) → IsKept disk v → v.doubt ≡ Settled → held_of disk v ≡ None → disk.held v.slots.disk ≡ None
+  pub none_held : (v : View D) → IsKept disk v → v.doubt ≡ Settled → held_of disk v ≡ None → disk.held v.slots.disk ≡ None
   none_held v kept settled none = ⊎_elim
       (λ (is : disk.held v.slots.disk ≡ None). is)
       (λ (t : (d : Files) × (disk.held v.slots.disk ≡ Some d)).

@@ -8,6 +8,7 @@ mod reading;
 mod settling;
 mod storing;
 mod tape;
+mod writing;
 
 pub use doubt::Doubt;
 pub use tape::ImageTape;
