@@ -9,3 +9,4 @@ pub mod RecordLemmas
 pub mod Spots
 pub mod Wholes
 pub mod Rising
+pub mod Behind

@@ -16,7 +16,9 @@ use Rattle.image_format.specs.declared.values.SlotValue.{SlotValue}
 use Rattle.image_format.specs.Offsets.{offsets_of, with_offsets}
 use Rattle.image_tape.specs.declared.doubt.Doubt.TheVariants.{Settled}
 use Rattle.image_tape.specs.Halves.{ended, half_of, with_half}
-use Rattle.image_tape.specs.Steps.{IsAlike, Stays}
+use Rattle.image_format.specs.Images.{tail_of}
+use Rattle.image_format.specs.Values.{flag}
+use Rattle.image_tape.specs.Steps.{Stays}
 use Rattle.image_tape.specs.Tape.{CrashesOn, View, held_of}
 
 -- the reference went up; the partition stays, or was cut at a position
@@ -71,22 +73,56 @@ pub record Appends {D T E : Type 0} (disk : Ghosts D) (most : ℕ) (part : Part)
   pub untold : held_of disk old ≡ None → held_of disk new ≡ None
   pub told : (c : Cartridge) → held_of disk old ≡ Some c → (e : Cartridge) × (held_of disk new ≡ Some e)
       × (items : List Item) × Appended end x (items_of part c) items × HasItems part items c e
-  pub crash : CrashesOn disk old.room.limits NothingNew old.slots.disk new.slots.disk
+  pub crash : (c : Cartridge) → held_of disk old ≡ Some c → CrashesOn disk old.room.limits NothingNew old.slots.disk new.slots.disk
 
--- the bytes in front of a place stay, and where they are written these follow
-abbrev pub HasBehind : {T E : Type 0} → Result T E → ℕ → List ℕ → (old new : List ℕ) → Type 0
-HasBehind (Ok _) at bytes old new = (at + length bytes ≤ length new) × (take (at + length bytes) new ≡ take at old ++ bytes)
-HasBehind (Err _) at bytes old new = (at ≤ length new) × (take at new ≡ take at old)
+-- these bytes stand behind so many others
+pub record StandBehind (at : ℕ) (bytes file : List ℕ) : Type 0 where
+  pub front : List ℕ
+  pub place : length front ≡ at
+  pub within : at + length bytes ≤ length file
+  pub is : take (at + length bytes) file ≡ front ++ bytes
 
--- Bytes were written behind the end of what reads in a partition, or were to be.
-pub record WritesBehind {D T E : Type 0} (disk : Ghosts D) (most : ℕ) (part : Part) (bytes : List ℕ) (end : Result T E) (old new : View D) : Type 0 where
+-- bytes were written to a file, from a place on
+pub record FollowsIn (at : ℕ) (bytes old new : List ℕ) : Type 0 where
+  pub within : at + length bytes ≤ length new
+  pub is : take (at + length bytes) new ≡ take at old ++ bytes
+
+-- So many commands of the disk at most, which no reading sees and no crash shows; the cartridge reads as before.
+pub record Hides {D : Type 0} (disk : Ghosts D) (most : ℕ) (old new : View D) : Type 0 where
   pub stays : Stays old new
-  pub alike : IsAlike old new
+  pub held : held_of disk new ≡ held_of disk old
   pub count : AtMost most (disk.commands old.slots.disk) (disk.commands new.slots.disk)
-  pub untold : disk.held old.slots.disk ≡ None → disk.held new.slots.disk ≡ None
-  pub told : (d : Files) → disk.held old.slots.disk ≡ Some d → (e : Files) × (disk.held new.slots.disk ≡ Some e)
-      × KeepsOthers (file_of part) d e × HasBehind end (half_of part old.reads).end bytes (bytes_of (file_of part) d) (bytes_of (file_of part) e)
-  pub crash : CrashesOn disk old.room.limits NothingNew old.slots.disk new.slots.disk
+  pub crash : (c : Cartridge) → held_of disk old ≡ Some c → CrashesOn disk old.room.limits NothingNew old.slots.disk new.slots.disk
+
+-- what a put makes of the items of a partition
+abbrev pub put_items : {T E : Type 0} → Result T E → Item → List Item → List Item
+put_items (Ok _) x items = items ++ x ∷ []
+put_items (Err _) x items = items ++ item.Torn ∷ []
+
+-- An item was put behind the records of a partition, or was to be; then the partition ends with a Torn.
+pub record Puts {D T E : Type 0} (disk : Ghosts D) (part : Part) (x : Item) (end : Result T E) (old new : View D) : Type 0 where
+  pub stays : Stays old new
+  pub count : AtMost 2 (disk.commands old.slots.disk) (disk.commands new.slots.disk)
+  pub settled : new.doubt ≡ Settled
+  pub untold : held_of disk old ≡ None → held_of disk new ≡ None
+  pub told : (c : Cartridge) → held_of disk old ≡ Some c → (items : List Item) × (e : Cartridge)
+      × (items_of part c ≡ items ++ tail_of (half_of part old.reads).torn) × (held_of disk new ≡ Some e) × HasItems part (put_items end x items) c e
+  pub crash : (c : Cartridge) → held_of disk old ≡ Some c → CrashesOn disk old.room.limits NothingNew old.slots.disk new.slots.disk
+  pub whole : OnOk end ((half_of part new.reads).torn ≡ false)
+  pub one_more : OnOk end ((half_of part new.reads).count ≡ (half_of part old.reads).count + 1)
+
+-- a Torn behind the records of a partition has become a record, or was to
+pub record Fills {D T E : Type 0} (disk : Ghosts D) (part : Part) (end : Result T E) (old new : View D) : Type 0 where
+  pub hides : Hides disk 2 old new
+  pub settled : new.doubt ≡ Settled
+  pub whole : OnOk end ((half_of part new.reads).torn ≡ false)
+  pub count : OnOk end ((half_of part new.reads).count ≡ (half_of part old.reads).count + flag (half_of part old.reads).torn)
+
+-- the record of a position begins there, or would
+pub record IsPlace {D : Type 0} (at : Place) (end : ℕ) (v : View D) : Type 0 where
+  pub most : at.pos ≤ (half_of at.part v.reads).count
+  pub is : ((at.pos < (half_of at.part v.reads).count) × (end ≡ get_or (offsets_of at.part v.room) at.pos 0))
+      ⊎ ((at.pos ≡ (half_of at.part v.reads).count) × (end ≡ (half_of at.part v.reads).end))
 
 -- the header counts the record of a position, which begins there
 pub record IsCounted {D : Type 0} (at : Place) (end : ℕ) (v : View D) : Type 0 where

@@ -1,19 +1,20 @@
 // Items are written.
-ghost use Rattle.std.specs.Prelude.{◌≡◌, ◌≤◌, ◌<◌, ◌+◌, ◌^◌, ◌++◌, length, IfSome, IfNone, OnOk, Some};
+ghost use Rattle.std.specs.Prelude.{◌≡◌, ◌≤◌, ◌<◌, ◌+◌, ◌^◌, ◌++◌, length, IfSome, IfNone, OnOk, Some, None};
 ghost use Rattle.tape_types.specs.Cartridges.{IsItem, capacity};
 ghost use Rattle.tape_types.specs.declared.cartridges.Item.{Item};
-ghost use Rattle.image_format.specs.Offsets.{offsets_of};
+ghost use Rattle.byte_disk.specs.Files.{Files, bytes_of};
+ghost use Rattle.image_slots.specs.State.{file_of};
 ghost use Rattle.image_format.specs.Records.{IsHead, head_bytes, record_bytes};
 ghost use Rattle.image_format.specs.Values.{flag};
-ghost use Rattle.image_format.proofs.HeadLemmas.{body_of, head_for};
 ghost use Rattle.image_tape.specs.declared.doubt.Doubt.TheVariants.{Settled};
 ghost use Rattle.image_tape.specs.Halves.{half_of};
-ghost use Rattle.image_tape.specs.Writes.{Appends, Cuts, IsCounted, IsUncounted, Rises, WritesBehind};
+ghost use Rattle.image_tape.specs.Steps.{IsAlike};
+ghost use Rattle.image_tape.specs.Writes.{Appends, Cuts, Fills, FollowsIn, Hides, IsCounted, IsPlace, IsUncounted, Puts, Rises, StandBehind};
 
 use crate::halves::{ended, half_of, with_vcr};
 use crate::tape::ImageTape;
 use byte_disk::{ByteDisk, DiskFault};
-use image_format::{Head, encode_head};
+use image_format::{Half, Head, encode_head};
 use tape_drive::DriveErr;
 use tape_types::{Part, Place};
 
@@ -49,5 +50,128 @@ impl<B: ByteDisk> ImageTape<B> {
             return Some(self.room.offsets(at.part)[at.pos as usize]);
         }
         None
+    }
+
+    // Cuts a partition at a place, at which the header counts nothing.
+    fn cut(&mut self, at: Place)
+        requires settled { self.old.doubt ≡ Settled }
+        requires uncounted { (d : Files) → B.held self.old.slots.disk ≡ Some d
+            → (half_of at.part self.old.base).count ≤ at.pos }
+        ensures cut { Cuts B.ByteDisk at self.old self.new }
+        ensures room { (half_of at.part self.new.reads).count + flag (half_of at.part self.new.reads).torn ≤ at.pos }
+    {
+        if let Some(end) = self.end_at(at) {
+            self.room.cut(at.part, at.pos);
+            self.reads = ended(at.part, at.pos, end, false, &self.reads);
+        }
+    }
+
+    // Where the record at a place begins, or would begin behind the others.
+    fn end_at(&self, at: Place) -> Option<u64>
+        ensures some { IfSome result (λ end. IsPlace at end self.now) }
+        ensures none { IfNone result ((half_of at.part self.now.reads).count < at.pos) }
+    {
+        let half = half_of(at.part, &self.reads);
+        if at.pos < half.count {
+            return Some(self.room.offsets(at.part)[at.pos as usize]);
+        }
+        if at.pos == half.count {
+            return Some(half.end);
+        }
+        None
+    }
+
+    // Appends an item to a partition. Where it fails the partition may end with a Torn.
+    fn append(&mut self, part: Part, head: Head, bytes: &[u8]) -> Result<(), DriveErr>
+        requires settled { self.old.doubt ≡ Settled }
+        requires room { (half_of part self.old.reads).count + flag (half_of part self.old.reads).torn
+            < capacity part self.old.room.limits }
+        requires head { IsHead head }
+        requires size { length bytes.now ≤ 1048576 }
+        requires sound { (x : Item) × IsItem x × (record_bytes x ≡ head_bytes head ++ bytes.now) }
+        ensures { (x : Item) → IsItem x → record_bytes x ≡ head_bytes head ++ bytes.now
+            → Appends B.ByteDisk 4 part x result self.old self.new }
+    {
+        match self.fill(part) {
+            Ok(()) => self.put(part, head, bytes),
+            Err(why) => Err(why),
+        }
+    }
+
+    // Makes a Torn behind the records of a partition a record, so that others may follow.
+    fn fill(&mut self, part: Part) -> Result<(), DriveErr>
+        requires settled { self.old.doubt ≡ Settled }
+        requires room { (half_of part self.old.reads).count + flag (half_of part self.old.reads).torn
+            < capacity part self.old.room.limits }
+        ensures { Fills B.ByteDisk part result self.old self.new }
+    {
+        if !half_of(part, &self.reads).torn {
+            return Ok(());
+        }
+        self.put(part, Head::Torn, &[])
+    }
+
+    // Puts an item behind the records of a partition. Where it fails the partition ends with a Torn.
+    fn put(&mut self, part: Part, head: Head, bytes: &[u8]) -> Result<(), DriveErr>
+        requires settled { self.old.doubt ≡ Settled }
+        requires room { (half_of part self.old.reads).count < capacity part self.old.room.limits }
+        requires head { IsHead head }
+        requires size { length bytes.now ≤ 1048576 }
+        requires sound { (x : Item) × IsItem x × (record_bytes x ≡ head_bytes head ++ bytes.now) }
+        ensures { (x : Item) → IsItem x → record_bytes x ≡ head_bytes head ++ bytes.now
+            → Puts B.ByteDisk part x result self.old self.new }
+    {
+        match self.write_record(part, head, bytes) {
+            Ok(()) => {
+                let Half { count, end, .. } = half_of(part, &self.reads);
+                let more = end.saturating_add(5 + bytes.len() as u64);
+                self.room.push(part, end);
+                self.reads = ended(part, count.saturating_add(1), more, false, &self.reads);
+                Ok(())
+            }
+            Err(why) => {
+                let Half { count, end, .. } = half_of(part, &self.reads);
+                self.reads = ended(part, count, end, true, &self.reads);
+                Err(why)
+            }
+        }
+    }
+
+    // Writes a record behind those of a partition.
+    fn write_record(&mut self, part: Part, head: Head, bytes: &[u8]) -> Result<(), DriveErr>
+        requires settled { self.old.doubt ≡ Settled }
+        requires head { IsHead head }
+        requires size { length bytes.now ≤ 1048576 }
+        ensures hides { Hides B.ByteDisk 2 self.old self.new }
+        ensures alike { IsAlike self.old self.new }
+        ensures behind { OnOk result ((e : Files) → B.held self.new.slots.disk ≡ Some e
+            → StandBehind (half_of part self.old.reads).end (head_bytes head ++ bytes.now) (bytes_of (file_of part) e)) }
+    {
+        let end = half_of(part, &self.reads).end;
+        if end >= 1 << 61 {
+            return Err(DriveErr::Failed);
+        }
+        if let Err(why) = self.write_behind(part, end, &encode_head(head)) {
+            return Err(why);
+        }
+        self.write_behind(part, end + 5, bytes)
+    }
+
+    // Writes bytes from there on, behind the records of a partition.
+    fn write_behind(&mut self, part: Part, at: u64, bytes: &[u8]) -> Result<(), DriveErr>
+        requires settled { self.old.doubt ≡ Settled }
+        requires place { (half_of part self.old.reads).end ≤ at }
+        requires within { IfSome (B.held self.old.slots.disk) (λ d. at ≤ length (bytes_of (file_of part) d)) }
+        requires end { at + length bytes.now < 2 ^ 62 }
+        ensures hides { Hides B.ByteDisk 1 self.old self.new }
+        ensures alike { IsAlike self.old self.new }
+        ensures told { (d : Files) → B.held self.old.slots.disk ≡ Some d → (e : Files) × (B.held self.new.slots.disk ≡ Some e)
+            × OnOk result (FollowsIn at bytes.now (bytes_of (file_of part) d) (bytes_of (file_of part) e)) }
+        ensures untold { B.held self.old.slots.disk ≡ None → B.held self.new.slots.disk ≡ None }
+    {
+        if let Err(DiskFault) = self.slots.write(part, at, bytes) {
+            return Err(DriveErr::Failed);
+        }
+        Ok(())
     }
 }
