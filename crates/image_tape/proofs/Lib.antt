@@ -10,3 +10,4 @@ pub mod Spots
 pub mod Wholes
 pub mod Rising
 pub mod Behind
+pub mod Shaping

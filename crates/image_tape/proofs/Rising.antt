@@ -56,7 +56,7 @@ cut_end said reads pos end offsets file items less lt is lie =
 shorter_front : (n m : ℕ) (a b : List ℕ) → n ≤ m → take m a ≡ take m b → take n a ≡ take n b
 shorter_front n m a b le same = sym (take-take n m a le) ∙ ap (λ (l : List ℕ). take n l) same ∙ take-take n m b le
 
-cut_items : (pos : ℕ) (items : List Item) (torn : Bool) → pos ≤ length items → take pos items ++ tail_of false ≡ take pos (items ++ tail_of torn)
+pub cut_items : (pos : ℕ) (items : List Item) (torn : Bool) → pos ≤ length items → take pos items ++ tail_of false ≡ take pos (items ++ tail_of torn)
 cut_items pos items torn le = append-nil (take pos items) ∙ sym (take-append-le pos items (tail_of torn) le)
 
 module _ {D : Type 0} (disk : Ghosts D) (v : View D) (kept : IsKept disk v) (settled : v.doubt ≡ Settled) (vcr : ℕ) (next : vcr ≡ v.reads.vcr + 1) (range : vcr < 2 ^ 64) where
