@@ -11,3 +11,5 @@ pub mod Wholes
 pub mod Rising
 pub mod Behind
 pub mod Shaping
+pub mod Appending
+pub mod Writings

@@ -230,9 +230,9 @@ module _ {D T E : Type 0} (disk : Ghosts D) (r : Result T E) (at : Place) (value
 
   pub rises_by : ((d : Files) (is : disk.held v.slots.disk ≡ Some d) → HasRisen at.part at.pos (whole (st d is)) (whole (stands d is)))
       → ((d : Files) (is : disk.held v.slots.disk ≡ Some d) (x : Item) → WithinWrite at.part at.pos x (whole (st d is)) (counted (st d is)) (counted (stands d is)))
-      → ((d : Files) → disk.held v.slots.disk ≡ Some d → (half_of at.part value).count ≤ at.pos)
+      → ((d : Files) → disk.held v.slots.disk ≡ Some d → (half_of at.part value).count ≤ at.pos) → v.reads.vcr + 1 < 2 ^ 64
       → IsCommit disk value reads r v n → OnOk r (IsTaken value reads v n) → Rises disk at r v n
-  rises_by has within below done taken = record {
+  rises_by has within below low done taken = record {
     stays = done.stays;
     count = done.count;
     settled = settled_taken disk r value reads v n taken;
@@ -244,6 +244,9 @@ module _ {D T E : Type 0} (disk : Ghosts D) (r : Result T E) (at : Place) (value
         after_rise r at.part at.pos c to (held_of disk n) (subst (λ (y : Cartridge). HasRisen at.part at.pos y to) (sym t.2) (has t.0 t.1))
         (subst (λ (y : Cartridge). AfterCommit r y to (held_of disk n)) (sym t.2)
         (done.told t.0 (whole (st t.0 t.1)) to t.1 (is_whole (st t.0 t.1)) (is_whole (stands t.0 t.1))));
+    at_end = λ c held most.
+        let t = held_is_whole disk v kept settled c held in
+        absurd (omega (arith, low, most, ap (λ (y : Cartridge). y.vcr) t.2));
     crash = λ x c held.
         let t = held_is_whole disk v kept settled c held in
         let from = counted (st t.0 t.1) in
@@ -270,6 +273,7 @@ rises_not disk at why v = record {
   cut = tt;
   untold = λ none. none;
   told = λ c held. (c, held, inl refl);
+  at_end = λ c held most. (refl, held);
   crash = λ x c held. no_step (disk.commands v.slots.disk) _ _
       (λ image left. record { items = inl (refl, inl refl); rest = record { other_part = refl; note_ip = refl; note_dp = refl } });
 }
@@ -289,6 +293,7 @@ module _ {D T E : Type 0} (disk : Ghosts D) (r : Result T E) (at : Place) (base 
       (λ (two : (half_of at.part v.reads).count ≤ at.pos).
       subst (λ (h : Half). h.count ≤ at.pos) (sym (half_with at.part vcr v.base)) (fewer_of at.part d told two))
       uncounted)
+      (omega (arith, next, range))
       (back (λ b s x. IsCommit disk b s r x n) base reads (with_vcr vcr v.base) (with_vcr vcr v.reads) v w eb er is done)
       (back (λ b s x. OnOk r (IsTaken b s x n)) base reads (with_vcr vcr v.base) (with_vcr vcr v.reads) v w eb er is taken))
     where
@@ -307,6 +312,7 @@ module _ {D T E : Type 0} (disk : Ghosts D) (r : Result T E) (at : Place) (base 
       (cut_has disk v kept settled_v vcr next range at.part at.pos end counted_at.in_base counted_at.in_reads counted_at.place)
       (cut_within disk v kept settled_v vcr next range at.part at.pos end counted_at.in_base counted_at.in_reads counted_at.place)
       (λ d told. cut_count at.part at.pos end (with_vcr vcr v.base))
+      (omega (arith, next, range))
       (back (λ b s x. IsCommit disk b s r x n) base reads _ _ v w eb er is done)
       (back (λ b s x. OnOk r (IsTaken b s x n)) base reads _ _ v w eb er is taken))
     where

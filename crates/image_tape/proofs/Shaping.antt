@@ -479,3 +479,7 @@ module _ {D : Type 0} (disk : Ghosts D) (part : Part) (a v w : View D) (is : v �
       let done = puts_by {T = Unit {0}} (Err why) reads' v.room may refl (torn_items disk v kept settled part count end same ends) tt tt in
       (subst (λ (s : SlotValue). IsKept disk (shaped disk s v.room v)) (sym es) kept',
       subst (λ (s : SlotValue). Puts {T = Unit {0}} {E = DriveErr} disk part x (Err why) a (shaped disk s v.room v)) (sym es) done)
+
+-- a cut of a tape is one of its equal
+pub renamed_cut : {D : Type 0} (disk : Ghosts D) (at : Place) (v w n : View D) → v ≡ w → Cuts disk at v n → Cuts disk at w n
+renamed_cut {D = D} disk at v w n is h = subst (λ (x : View D). Cuts disk at x n) is h

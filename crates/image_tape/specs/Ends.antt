@@ -1,11 +1,19 @@
 -- What a command of a tape leaves of it.
-use Rattle.std.specs.Prelude.{ℕ, ◌+◌, ◌-◌, ◌^◌, ◌≤◌, ◌≡◌, min, Option, Some, None, Result, Ok, Err, OnOk, OnErr}
+use Rattle.std.specs.Prelude.{ℕ, ◌+◌, ◌-◌, ◌^◌, ◌≤◌, ◌≡◌, min, Option, Some, None, Result, Ok, Err, OnOk, OnErr, IfOk, IsErr, List}
 use Rattle.tape_types.specs.Counts.{HasCause}
 use Rattle.tape_types.specs.declared.cartridges.Cartridge.{Cartridge}
 use Rattle.tape_types.specs.declared.cartridges.Place.{Place}
-use Rattle.tape_drive.specs.Commands.{Counted}
-use Rattle.tape_drive.specs.Crashes.{IsSettled, NothingNew}
+use Rattle.tape_types.specs.declared.cartridges.Item.{Item}
+use Rattle.tape_types.specs.declared.cartridges.Note.{Note}
+use Rattle.tape_types.specs.declared.cartridges.Part.{Part}
+use Rattle.tape_types.specs.Cartridges.{capacity, next}
+use Rattle.tape_drive.specs.declared.drive.Got.{Got}
+use Rattle.tape_drive.specs.declared.drive.Got.TheVariants as got
+use Rattle.tape_drive.specs.Commands.{AfterNote, AfterWrite, Counted, FillsBuffer, IsRead, after_read, item_at}
+use Rattle.tape_drive.specs.Crashes as crash
+use Rattle.tape_drive.specs.Crashes.{IsSettled, NothingNew, WithinFlush, WithinNote, WithinWrite}
 use Rattle.byte_disk.specs.declared.disk.ByteDisk.{Ghosts}
+use Rattle.image_tape.specs.declared.doubt.Doubt.TheVariants.{Settled}
 use Rattle.image_tape.specs.Tape.{CrashesOn, LeavesOn, View, held_of}
 
 -- the head has to be located again, and a fault more is counted
@@ -21,14 +29,26 @@ failed v = record {
   opened = v.opened;
 }
 
-abbrev pub finished : {D T E : Type 0} → Result T E → View D → View D
-finished (Ok _) v = v
-finished (Err _) v = failed v
+-- the head stands there
+abbrev pub with_head : {D : Type 0} → Option Place → View D → View D
+with_head head v = record {
+  slots = v.slots;
+  room = v.room;
+  base = v.base;
+  reads = v.reads;
+  doubt = v.doubt;
+  head = head;
+  faults = v.faults;
+  opened = v.opened;
+}
+
+abbrev pub finished : {D T E : Type 0} → Result T E → Option Place → View D → View D
+finished (Ok _) head v = with_head head v
+finished (Err _) head v = failed v
 
 -- the end of a command
-pub record IsFinished {D T E : Type 0} (disk : Ghosts D) (end result : Result T E) (old new : View D) : Type 0 where
-  pub after : new ≡ finished end old
-  pub same : result ≡ end
+pub record IsFinished {D T E : Type 0} (disk : Ghosts D) (end : Result T E) (head : Option Place) (old new : View D) : Type 0 where
+  pub after : new ≡ finished end head old
   pub count : disk.commands old.slots.disk ≤ 2 ^ 64 - 1
   pub faults : old.faults ≤ 2 ^ 64 - 1
 
@@ -46,9 +66,40 @@ pub record IsLooked {D T E : Type 0} (disk : Ghosts D) (end : Result T E) (old n
   pub held : held_of disk new ≡ held_of disk old
   pub crash : CrashesOn disk old.room.limits NothingNew old.slots.disk new.slots.disk
 
-pub record Located {D T E : Type 0} (disk : Ghosts D) (end : Result T E) (place : Place) (old new : View D) : Type 0 where
+-- a command that writes an item at a place
+pub record Wrote {D T E : Type 0} (disk : Ghosts D) (at : Place) (x : Item) (end : Result T E) (old new : View D) : Type 0 where
+  pub ends : Ends disk end old new
+  pub head : OnOk end (new.head ≡ Some (next at))
+  pub untold : held_of disk old ≡ None → held_of disk new ≡ None
+  pub told : (c : Cartridge) → held_of disk old ≡ Some c → (e : Cartridge) × (held_of disk new ≡ Some e) × AfterWrite end at.part at.pos x c e
+  pub at_end : (c : Cartridge) → held_of disk old ≡ Some c → 2 ^ 64 - 1 ≤ c.vcr → IsErr end × (held_of disk new ≡ Some c)
+  pub crash : (c : Cartridge) → held_of disk old ≡ Some c
+      → CrashesOn disk old.room.limits (WithinWrite at.part at.pos x c) old.slots.disk new.slots.disk
+
+-- a flush
+pub record Flushed {D T E : Type 0} (disk : Ghosts D) (end : Result T E) (old new : View D) : Type 0 where
+  pub ends : Ends disk end old new
+  pub head : OnOk end (new.head ≡ old.head)
+  pub held : held_of disk new ≡ held_of disk old
+  pub sure : OnOk end (crash.IsSure (held_of disk new) (LeavesOn disk new.room.limits new.slots.disk))
+  pub crash : (c : Cartridge) → held_of disk old ≡ Some c → CrashesOn disk old.room.limits (WithinFlush c) old.slots.disk new.slots.disk
+
+-- a write of an attribute
+pub record Noted {D T E : Type 0} (disk : Ghosts D) (part : Part) (note : Note) (end : Result T E) (old new : View D) : Type 0 where
+  pub ends : Ends disk end old new
+  pub head : OnOk end (new.head ≡ old.head)
+  pub settled : OnOk end (new.doubt ≡ Settled)
+  pub untold : held_of disk old ≡ None → held_of disk new ≡ None
+  pub told : (c : Cartridge) → held_of disk old ≡ Some c → (e : Cartridge) × (held_of disk new ≡ Some e) × AfterNote end part note c e
+  pub crash : (c : Cartridge) → held_of disk old ≡ Some c → CrashesOn disk old.room.limits (WithinNote part note) old.slots.disk new.slots.disk
+
+-- a read at a place
+pub record HasRead {D E : Type 0} (disk : Ghosts D) (at : Place) (end : Result Got E) (buf : List ℕ) (old new : View D) : Type 0 where
   pub looked : IsLooked disk end old new
-  pub head : OnOk end (new.head ≡ Some place)
+  pub head : IfOk end (λ found. new.head ≡ Some (after_read found at))
+  pub item : IfOk end (λ found. (c : Cartridge) → held_of disk old ≡ Some c → IsRead (item_at at c) found buf)
+  pub bytes : IfOk end (λ found. FillsBuffer found buf)
+  pub at_capacity : IfOk end (λ found. capacity at.part old.room.limits ≤ at.pos → found ≡ got.End)
 
 -- every crash leaves the reference and the attributes as they read
 abbrev pub IsSure : {D : Type 0} → Ghosts D → View D → Type 0

@@ -1,12 +1,12 @@
 -- What the steps of a write leave of the cartridge.
-use Rattle.std.specs.Prelude.{ℕ, ◌+◌, ◌^◌, ◌<◌, ◌≤◌, ◌≡◌, ◌⊎◌, Bool, true, false, if◌then◌else◌, List, [], ◌∷◌, ◌++◌, take, length, get_or, Option, Some, None, Result, Ok, Err, OnOk}
+use Rattle.std.specs.Prelude.{ℕ, ◌+◌, ◌-◌, ◌^◌, ◌<◌, ◌≤◌, ◌≡◌, ◌⊎◌, Bool, true, false, if◌then◌else◌, List, [], ◌∷◌, ◌++◌, take, length, get_or, Option, Some, None, Result, Ok, Err, OnOk, IsErr}
 use Rattle.tape_types.specs.Cartridges.{items_of}
 use Rattle.tape_types.specs.declared.cartridges.Cartridge.{Cartridge}
 use Rattle.tape_types.specs.declared.cartridges.Item.{Item}
 use Rattle.tape_types.specs.declared.cartridges.Item.TheVariants as item
 use Rattle.tape_types.specs.declared.cartridges.Part.{Part}
 use Rattle.tape_types.specs.declared.cartridges.Place.{Place}
-use Rattle.tape_drive.specs.Commands.{KeepsRest, VcrRose}
+use Rattle.tape_drive.specs.Commands.{AfterWrite, KeepsRest, VcrRose}
 use Rattle.tape_drive.specs.Crashes.{NothingNew, WithinWrite}
 use Rattle.byte_disk.specs.Files.{Files, KeepsOthers, bytes_of}
 use Rattle.byte_disk.specs.declared.disk.ByteDisk.{Ghosts}
@@ -41,6 +41,7 @@ pub record Rises {D T E : Type 0} (disk : Ghosts D) (at : Place) (end : Result T
   pub cut : OnOk end ((d : Files) → disk.held new.slots.disk ≡ Some d → (half_of at.part new.base).count ≤ at.pos)
   pub untold : held_of disk old ≡ None → held_of disk new ≡ None
   pub told : (c : Cartridge) → held_of disk old ≡ Some c → (e : Cartridge) × (held_of disk new ≡ Some e) × AfterRise end at.part at.pos c e
+  pub at_end : (c : Cartridge) → held_of disk old ≡ Some c → 2 ^ 64 - 1 ≤ c.vcr → IsErr end × (held_of disk new ≡ Some c)
   pub crash : (x : Item) (c : Cartridge) → held_of disk old ≡ Some c
       → CrashesOn disk old.room.limits (WithinWrite at.part at.pos x c) old.slots.disk new.slots.disk
 
@@ -136,3 +137,22 @@ IsUncounted at v = ((half_of at.part v.base).count ≤ at.pos) ⊎ ((half_of at.
 -- the partition ends before a position
 abbrev pub cut_value : Part → (pos end : ℕ) → SlotValue → SlotValue
 cut_value part pos end s = with_half part (ended pos end false (half_of part s)) s
+
+-- a partition was cut at a place, and an item appended, or was to be
+pub record Replaces {D T E : Type 0} (disk : Ghosts D) (at : Place) (x : Item) (end : Result T E) (old new : View D) : Type 0 where
+  pub stays : Stays old new
+  pub count : AtMost 4 (disk.commands old.slots.disk) (disk.commands new.slots.disk)
+  pub untold : held_of disk old ≡ None → held_of disk new ≡ None
+  pub told : (c : Cartridge) → held_of disk old ≡ Some c → (e : Cartridge) × (held_of disk new ≡ Some e)
+      × (items : List Item) × Appended end x (take at.pos (items_of at.part c)) items × HasItems at.part items c e
+  pub crash : (c : Cartridge) → held_of disk old ≡ Some c → CrashesOn disk old.room.limits NothingNew old.slots.disk new.slots.disk
+
+-- an item was written at a place, or was to be
+pub record Writes {D T E : Type 0} (disk : Ghosts D) (most : ℕ) (at : Place) (x : Item) (end : Result T E) (old new : View D) : Type 0 where
+  pub stays : Stays old new
+  pub count : AtMost most (disk.commands old.slots.disk) (disk.commands new.slots.disk)
+  pub untold : held_of disk old ≡ None → held_of disk new ≡ None
+  pub told : (c : Cartridge) → held_of disk old ≡ Some c → (e : Cartridge) × (held_of disk new ≡ Some e) × AfterWrite end at.part at.pos x c e
+  pub at_end : (c : Cartridge) → held_of disk old ≡ Some c → 2 ^ 64 - 1 ≤ c.vcr → IsErr end × (held_of disk new ≡ Some c)
+  pub crash : (c : Cartridge) → held_of disk old ≡ Some c
+      → CrashesOn disk old.room.limits (WithinWrite at.part at.pos x c) old.slots.disk new.slots.disk

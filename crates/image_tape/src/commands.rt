@@ -1,13 +1,16 @@
 // The commands of the tape.
-ghost use Rattle.std.specs.Prelude.{◌≡◌, ◌≤◌, ◌<◌, length, vec_capacity, IfOk, IfSome, OnOk, Some, Ok, Err};
+ghost use Rattle.std.specs.Prelude.{◌≡◌, ◌≤◌, ◌<◌, ◌++◌, ◌^◌, length, vec_capacity, IfOk, IfSome, OnOk, Some, None, Ok, Err};
+ghost use Rattle.tape_drive.specs.declared.drive.DriveErr.{DriveErr};
+ghost use Rattle.tape_types.specs.declared.cartridges.Item.{Item};
+ghost use Rattle.image_format.specs.Records.{IsHead, head_bytes, record_bytes};
 ghost use Rattle.tape_types.specs.declared.cartridges.Cartridge.{Cartridge};
 ghost use Rattle.tape_types.specs.declared.cartridges.Item.TheVariants as item;
 ghost use Rattle.tape_types.specs.declared.cartridges.Note.TheVariants as kind;
 ghost use Rattle.tape_types.specs.declared.cartridges.Place.{Place};
-ghost use Rattle.tape_types.specs.Cartridges.{capacity, items_of, next, note_of};
+ghost use Rattle.tape_types.specs.Cartridges.{IsItem, capacity, items_of, next, note_of};
 ghost use Rattle.tape_drive.specs.Commands.{HasRoom};
 ghost use Rattle.image_tape.specs.declared.doubt.Doubt.TheVariants.{Settled};
-ghost use Rattle.image_tape.specs.Ends.{IsFinished, IsLooked, IsSure, Located};
+ghost use Rattle.image_tape.specs.Ends.{Flushed, HasRead, IsFinished, IsLooked, IsSure, Noted, Wrote};
 ghost use Rattle.image_tape.specs.Halves.{half_of};
 ghost use Rattle.image_tape.specs.Tape.{held_of};
 
@@ -20,29 +23,124 @@ use tape_drive::{Drive, DriveErr, Got};
 use tape_types::{Limits, Note, Part, Place};
 
 impl<B: ByteDisk> ImageTape<B> {
-    // A command that changes nothing.
-    fn look(&mut self) -> Result<(), DriveErr>
+    // A command that changes nothing. Where it succeeds the head stands there.
+    fn look(&mut self, head: Option<Place>) -> Result<(), DriveErr>
         ensures looked { IsLooked B.ByteDisk result self.old self.new }
-        ensures head { OnOk result (self.new.head ≡ self.old.head) }
+        ensures head { OnOk result (self.new.head ≡ head) }
         ensures settled { OnOk result (self.new.doubt ≡ Settled) }
     {
-        let end = self.begin();
-        self.finish(end)
-    }
-
-    // Ends a command. One that failed counts as a fault, and the head has to be located again.
-    pub(crate) fn finish(&mut self, end: Result<(), DriveErr>) -> Result<(), DriveErr>
-        ensures { IsFinished B.ByteDisk end result self.old self.new }
-    {
-        let _count = self.slots.commands();
-        match end {
-            Ok(()) => Ok(()),
+        match self.begin() {
+            Ok(()) => {
+                self.end(head);
+                Ok(())
+            }
             Err(why) => {
-                self.head = None;
-                self.faults = self.faults.saturating_add(1);
+                self.fail();
                 Err(why)
             }
         }
+    }
+
+    // Ends a command that succeeded. The head stands there.
+    fn end(&mut self, head: Option<Place>)
+        ensures { IsFinished B.ByteDisk (Ok {T = Unit {0}} {E = DriveErr} tt) head self.old self.new }
+    {
+        let _count = self.slots.commands();
+        self.head = head;
+    }
+
+    // Ends a command that failed. It counts as a fault, and the head has to be located again.
+    fn fail(&mut self)
+        ensures { IsFinished B.ByteDisk (Err {T = Unit {0}} {E = DriveErr} DriveErr.Failed) None self.old self.new }
+    {
+        let _count = self.slots.commands();
+        self.head = None;
+        self.faults = self.faults.saturating_add(1);
+    }
+
+    // Reads the item at a place.
+    fn read_item(&mut self, at: Place, buf: &mut Vec<u8>) -> Result<Got, DriveErr>
+        requires room { 1048576 ≤ vec_capacity buf.old }
+        ensures room { 1048576 ≤ vec_capacity buf.new }
+        ensures ran { HasRead B.ByteDisk at result buf.new.items self.old self.new }
+    {
+        match self.begin() {
+            Ok(()) => match self.read_at(at, buf) {
+                Ok((got, place)) => {
+                    self.end(Some(place));
+                    Ok(got)
+                }
+                Err(why) => {
+                    self.fail();
+                    Err(why)
+                }
+            },
+            Err(why) => {
+                self.fail();
+                Err(why)
+            }
+        }
+    }
+
+    // Sets the attribute of a partition.
+    fn put_note(&mut self, part: Part, note: Note) -> Result<(), DriveErr>
+        ensures { Noted B.ByteDisk part note result self.old self.new }
+    {
+        let head = self.head;
+        match self.begin() {
+            Ok(()) => match self.set_note(part, note) {
+                Ok(()) => {
+                    self.end(head);
+                    Ok(())
+                }
+                Err(why) => {
+                    self.fail();
+                    Err(why)
+                }
+            },
+            Err(why) => {
+                self.fail();
+                Err(why)
+            }
+        }
+    }
+
+    // Writes an item at a place.
+    fn put_item(&mut self, at: Place, head: Head, bytes: &[u8]) -> Result<(), DriveErr>
+        requires room { at.pos < capacity at.part self.old.room.limits }
+        requires head { IsHead head }
+        requires size { length bytes.now ≤ 1048576 }
+        requires sound { (x : Item) × IsItem x × (record_bytes x ≡ head_bytes head ++ bytes.now) }
+        ensures { (x : Item) → IsItem x → record_bytes x ≡ head_bytes head ++ bytes.now
+            → Wrote B.ByteDisk at x result self.old self.new }
+    {
+        match self.begin() {
+            Ok(()) => match self.write_at(at, head, bytes) {
+                Ok(()) => {
+                    self.end(Some(next(at)));
+                    Ok(())
+                }
+                Err(why) => {
+                    self.fail();
+                    Err(why)
+                }
+            },
+            Err(why) => {
+                self.fail();
+                Err(why)
+            }
+        }
+    }
+}
+
+// One position further.
+fn next(at: Place) -> Place
+    requires { at.pos < 2 ^ 40 }
+    ensures { result ≡ next at }
+{
+    Place {
+        part: at.part,
+        pos: at.pos + 1,
     }
 }
 
@@ -91,29 +189,66 @@ impl<B: ByteDisk> Drive for ImageTape<B> {
     fn locate(&mut self, place: Place) -> Result<(), DriveErr>
         requires within { IfSome (held_of B.ByteDisk self.old) (λ c. place.pos ≤ length (items_of place.part c)) }
         requires room { place.pos < capacity place.part self.old.room.limits }
-        ensures located { Located B.ByteDisk result place self.old self.new }
+        ensures looked { IsLooked B.ByteDisk result self.old self.new }
+        ensures head { OnOk result (self.new.head ≡ Some place) }
     {
-        if let Err(why) = self.look() {
-            return Err(why);
+        self.look(Some(place))
+    }
+
+    fn read(&mut self, buf: &mut Vec<u8>) -> Result<Got, DriveErr>
+        requires located { (at : Place) × (self.old.head ≡ Some at) }
+        requires room { 1048576 ≤ vec_capacity buf.old }
+        ensures room { 1048576 ≤ vec_capacity buf.new }
+        ensures ran { (at : Place) → self.old.head ≡ Some at → HasRead B.ByteDisk at result buf.new.items self.old self.new }
+    {
+        let Some(at) = self.head else {
+            unreachable!()
+        };
+        self.read_item(at, buf)
+    }
+
+    fn write(&mut self, bytes: &[u8]) -> Result<(), DriveErr>
+        requires located { HasRoom self.old.head self.old.room.limits }
+        requires some { 1 ≤ length bytes.now }
+        requires size { length bytes.now ≤ 1048576 }
+        ensures ran { (at : Place) → self.old.head ≡ Some at → Wrote B.ByteDisk at (item.Block bytes.now) result self.old self.new }
+    {
+        let Some(at) = self.head else {
+            unreachable!()
+        };
+        self.put_item(at, Head::Block(bytes.len() as u32), bytes)
+    }
+
+    fn mark(&mut self) -> Result<(), DriveErr>
+        requires located { HasRoom self.old.head self.old.room.limits }
+        ensures ran { (at : Place) → self.old.head ≡ Some at → Wrote B.ByteDisk at item.Mark result self.old self.new }
+    {
+        let Some(at) = self.head else {
+            unreachable!()
+        };
+        self.put_item(at, Head::Mark, &[])
+    }
+
+    fn flush(&mut self) -> Result<(), DriveErr>
+        ensures { Flushed B.ByteDisk result self.old self.new }
+    {
+        let head = self.head;
+        match self.begin() {
+            Ok(()) => match self.settle_all() {
+                Ok(()) => {
+                    self.end(head);
+                    Ok(())
+                }
+                Err(why) => {
+                    self.fail();
+                    Err(why)
+                }
+            },
+            Err(why) => {
+                self.fail();
+                Err(why)
+            }
         }
-        self.head = Some(place);
-        Ok(())
-    }
-
-    fn read(&mut self, buf: &mut Vec<u8>) -> Result<Got, DriveErr> {
-        unreachable!()
-    }
-
-    fn write(&mut self, bytes: &[u8]) -> Result<(), DriveErr> {
-        unreachable!()
-    }
-
-    fn mark(&mut self) -> Result<(), DriveErr> {
-        unreachable!()
-    }
-
-    fn flush(&mut self) -> Result<(), DriveErr> {
-        unreachable!()
     }
 
     fn read_note(&mut self, part: Part) -> Result<Note, DriveErr>
@@ -122,14 +257,19 @@ impl<B: ByteDisk> Drive for ImageTape<B> {
         ensures head { OnOk result (self.new.head ≡ self.old.head) }
         ensures settled { OnOk result (IsSure B.ByteDisk self.new) }
     {
-        if let Err(why) = self.look() {
+        if let Err(why) = self.look(self.head) {
             return Err(why);
         }
         Ok(half_of(part, &self.reads).note)
     }
 
-    fn write_note(&mut self, part: Part, note: &[u8; 70]) -> Result<(), DriveErr> {
-        unreachable!()
+    fn write_note(&mut self, part: Part, note: &[u8; 70]) -> Result<(), DriveErr>
+        ensures ran { Noted B.ByteDisk part (kind.Kept note.now) result self.old self.new }
+        ensures settled { OnOk result (IsSure B.ByteDisk self.new) }
+    {
+        let end = self.put_note(part, Note::Kept(*note));
+        let _kept = self.doubt;
+        end
     }
 
     fn vcr(&mut self) -> Result<u64, DriveErr>
@@ -138,7 +278,7 @@ impl<B: ByteDisk> Drive for ImageTape<B> {
         ensures head { OnOk result (self.new.head ≡ self.old.head) }
         ensures settled { OnOk result (IsSure B.ByteDisk self.new) }
     {
-        if let Err(why) = self.look() {
+        if let Err(why) = self.look(self.head) {
             return Err(why);
         }
         Ok(self.reads.vcr)

@@ -9,7 +9,7 @@ ghost use Rattle.image_format.specs.Values.{flag};
 ghost use Rattle.image_tape.specs.declared.doubt.Doubt.TheVariants.{Settled};
 ghost use Rattle.image_tape.specs.Halves.{half_of};
 ghost use Rattle.image_tape.specs.Steps.{IsAlike};
-ghost use Rattle.image_tape.specs.Writes.{Appends, Cuts, Fills, FollowsIn, Hides, IsCounted, IsPlace, IsUncounted, Puts, Rises, StandBehind};
+ghost use Rattle.image_tape.specs.Writes.{Appends, Cuts, Fills, FollowsIn, Hides, IsCounted, IsPlace, IsUncounted, Puts, Replaces, Rises, StandBehind, Writes};
 
 use crate::halves::{ended, half_of, with_vcr};
 use crate::tape::ImageTape;
@@ -19,6 +19,43 @@ use tape_drive::DriveErr;
 use tape_types::{Part, Place};
 
 impl<B: ByteDisk> ImageTape<B> {
+    // Cuts a partition at a place, and appends an item.
+    pub(crate) fn write_at(
+        &mut self,
+        at: Place,
+        head: Head,
+        bytes: &[u8],
+    ) -> Result<(), DriveErr>
+        requires settled { self.old.doubt ≡ Settled }
+        requires room { at.pos < capacity at.part self.old.room.limits }
+        requires head { IsHead head }
+        requires size { length bytes.now ≤ 1048576 }
+        requires sound { (x : Item) × IsItem x × (record_bytes x ≡ head_bytes head ++ bytes.now) }
+        ensures { (x : Item) → IsItem x → record_bytes x ≡ head_bytes head ++ bytes.now
+            → Writes B.ByteDisk 10 at x result self.old self.new }
+    {
+        match self.rise(at) {
+            Ok(()) => self.replace(at, head, bytes),
+            Err(why) => Err(why),
+        }
+    }
+
+    // The same once the reference went up.
+    fn replace(&mut self, at: Place, head: Head, bytes: &[u8]) -> Result<(), DriveErr>
+        requires settled { self.old.doubt ≡ Settled }
+        requires uncounted { (d : Files) → B.held self.old.slots.disk ≡ Some d
+            → (half_of at.part self.old.base).count ≤ at.pos }
+        requires room { at.pos < capacity at.part self.old.room.limits }
+        requires head { IsHead head }
+        requires size { length bytes.now ≤ 1048576 }
+        requires sound { (x : Item) × IsItem x × (record_bytes x ≡ head_bytes head ++ bytes.now) }
+        ensures { (x : Item) → IsItem x → record_bytes x ≡ head_bytes head ++ bytes.now
+            → Replaces B.ByteDisk at x result self.old self.new }
+    {
+        self.cut(at);
+        self.append(at.part, head, bytes)
+    }
+
     // Lets the reference go up, durably. Where the header counts an item at the place, it no longer counts it, nor
     // what is behind.
     fn rise(&mut self, at: Place) -> Result<(), DriveErr>
