@@ -13,3 +13,4 @@ pub mod Behind
 pub mod Shaping
 pub mod Appending
 pub mod Writings
+pub mod Ending

@@ -21,7 +21,7 @@ use Rattle.tape_types.specs.declared.cartridges.Item.{Item}
 use Rattle.image_format.specs.Images.{cartridge_of, header, image_by}
 use Rattle.image_tape.specs.declared.doubt.Doubt.{Doubt}
 use Rattle.image_tape.specs.declared.doubt.Doubt.TheVariants.{Settled, Open}
-use Rattle.image_tape.specs.Ends.{Ends, IsFinished, IsLooked, IsSure, failed, finished}
+use Rattle.image_tape.specs.Ends.{IsSure}
 use Rattle.image_tape.specs.Halves.{half_of}
 use Rattle.image_tape.specs.Steps.{Looks}
 use Rattle.image_tape.specs.Tape.{CrashesOn, IsKept, LeavesOn, SinceOn, Stands, Suits, Tells, View, given, held_by, held_of, reading_by}

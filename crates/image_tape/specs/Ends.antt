@@ -42,13 +42,15 @@ with_head head v = record {
   opened = v.opened;
 }
 
-abbrev pub finished : {D T E : Type 0} → Result T E → Option Place → View D → View D
-finished (Ok _) head v = with_head head v
-finished (Err _) head v = failed v
+-- the end of a command that succeeded
+pub record IsEnded {D : Type 0} (disk : Ghosts D) (head : Option Place) (old new : View D) : Type 0 where
+  pub after : new ≡ with_head head old
+  pub count : disk.commands old.slots.disk ≤ 2 ^ 64 - 1
+  pub faults : old.faults ≤ 2 ^ 64 - 1
 
--- the end of a command
-pub record IsFinished {D T E : Type 0} (disk : Ghosts D) (end : Result T E) (head : Option Place) (old new : View D) : Type 0 where
-  pub after : new ≡ finished end head old
+-- the end of one that failed
+pub record IsFailed {D : Type 0} (disk : Ghosts D) (old new : View D) : Type 0 where
+  pub after : new ≡ failed old
   pub count : disk.commands old.slots.disk ≤ 2 ^ 64 - 1
   pub faults : old.faults ≤ 2 ^ 64 - 1
 

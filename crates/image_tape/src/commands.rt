@@ -1,6 +1,5 @@
 // The commands of the tape.
-ghost use Rattle.std.specs.Prelude.{◌≡◌, ◌≤◌, ◌<◌, ◌++◌, ◌^◌, length, vec_capacity, IfOk, IfSome, OnOk, Some, None, Ok, Err};
-ghost use Rattle.tape_drive.specs.declared.drive.DriveErr.{DriveErr};
+ghost use Rattle.std.specs.Prelude.{◌≡◌, ◌≤◌, ◌<◌, ◌++◌, ◌^◌, length, vec_capacity, IfOk, IfSome, OnOk, Some};
 ghost use Rattle.tape_types.specs.declared.cartridges.Item.{Item};
 ghost use Rattle.image_format.specs.Records.{IsHead, head_bytes, record_bytes};
 ghost use Rattle.tape_types.specs.declared.cartridges.Cartridge.{Cartridge};
@@ -10,7 +9,7 @@ ghost use Rattle.tape_types.specs.declared.cartridges.Place.{Place};
 ghost use Rattle.tape_types.specs.Cartridges.{IsItem, capacity, items_of, next, note_of};
 ghost use Rattle.tape_drive.specs.Commands.{HasRoom};
 ghost use Rattle.image_tape.specs.declared.doubt.Doubt.TheVariants.{Settled};
-ghost use Rattle.image_tape.specs.Ends.{Flushed, HasRead, IsFinished, IsLooked, IsSure, Noted, Wrote};
+ghost use Rattle.image_tape.specs.Ends.{Flushed, HasRead, IsEnded, IsFailed, IsLooked, IsSure, Noted, Wrote};
 ghost use Rattle.image_tape.specs.Halves.{half_of};
 ghost use Rattle.image_tape.specs.Tape.{held_of};
 
@@ -43,7 +42,7 @@ impl<B: ByteDisk> ImageTape<B> {
 
     // Ends a command that succeeded. The head stands there.
     fn end(&mut self, head: Option<Place>)
-        ensures { IsFinished B.ByteDisk (Ok {T = Unit {0}} {E = DriveErr} tt) head self.old self.new }
+        ensures { IsEnded B.ByteDisk head self.old self.new }
     {
         let _count = self.slots.commands();
         self.head = head;
@@ -51,7 +50,7 @@ impl<B: ByteDisk> ImageTape<B> {
 
     // Ends a command that failed. It counts as a fault, and the head has to be located again.
     fn fail(&mut self)
-        ensures { IsFinished B.ByteDisk (Err {T = Unit {0}} {E = DriveErr} DriveErr.Failed) None self.old self.new }
+        ensures { IsFailed B.ByteDisk self.old self.new }
     {
         let _count = self.slots.commands();
         self.head = None;

@@ -1,0 +1,266 @@
+-- The end of a command.
+use Rattle.std.proofs.Common.{◌≡◌, ℕ, ◌+◌, ◌-◌, ◌^◌, ◌≤◌, ◌⊎◌, inl, inr, min, List, Option, Some, None, Result, Ok, Err, OnOk, OnErr, IfOk, refl, sym, ap, ◌∙◌, subst, arith}
+use Rattle.crash_steps.specs.Crashes.{NothingNew}
+use Rattle.crash_steps.proofs.Joined.{alone, behind_looks}
+use Rattle.tape_types.specs.Counts.{HasCause, Rose}
+use Rattle.byte_disk.specs.Files.{Files}
+use Rattle.tape_types.specs.Cartridges.{capacity, next}
+use Rattle.tape_types.specs.declared.cartridges.Cartridge.{Cartridge}
+use Rattle.tape_types.specs.declared.cartridges.Item.{Item}
+use Rattle.tape_types.specs.declared.cartridges.Limits.{Limits}
+use Rattle.tape_types.specs.declared.cartridges.Note.{Note}
+use Rattle.tape_types.specs.declared.cartridges.Part.{Part}
+use Rattle.tape_types.specs.declared.cartridges.Place.{Place}
+use Rattle.tape_drive.specs.Commands.{AfterNote, AfterWrite, Counted, IsBroken, after_read}
+use Rattle.tape_drive.specs.Crashes.{IsSure, WithinFlush, WithinNote, WithinWrite}
+use Rattle.tape_drive.specs.declared.drive.DriveErr.{DriveErr}
+use Rattle.tape_drive.specs.declared.drive.Got.{Got}
+use Rattle.byte_disk.specs.declared.disk.ByteDisk.{Ghosts}
+use Rattle.image_slots.specs.Pieces.{AtMost}
+use Rattle.image_slots.proofs.Chains.{more_at_most, then_at_most}
+use Rattle.image_tape.specs.declared.doubt.Doubt.TheVariants.{Settled}
+use Rattle.image_tape.specs.Ends.{Ends, Flushed, HasRead, IsEnded, IsFailed, IsLooked, Noted, Wrote, failed, with_head}
+use Rattle.image_tape.specs.Steps.{IsNoteSet, IsReading, IsStored, Looks, Stays}
+use Rattle.image_tape.specs.Tape.{CrashesOn, LeavesOn, View, held_by, held_of}
+use Rattle.image_tape.specs.Writes.{Writes}
+use Rattle.image_tape.proofs.Surely.{then_looks}
+use Rattle.image_tape.proofs.Writings.{written_after}
+
+abbrev place_is : Place → Option Place
+place_is p = Some p
+
+module _ {D : Type 0} (disk : Ghosts D) where
+  counted : (m : ℕ) (a b : View D) → m ≤ 16 → AtMost m (disk.commands a.slots.disk) (disk.commands b.slots.disk)
+      → Rose (disk.commands a.slots.disk) (disk.commands b.slots.disk) → disk.commands b.slots.disk ≤ 2 ^ 64 - 1
+      → Counted 16 (disk.commands a.slots.disk) (disk.commands b.slots.disk)
+  counted m a b le count rose most = record {
+    later = count.later;
+    at_least = rose;
+    at_most = omega (arith, le, count.bound, most);
+  }
+
+  held_head : (head : Option Place) (v : View D) (o : Option Files) → held_by (with_head head v) o ≡ held_by v o
+  held_head head v None = refl
+  held_head head v (Some d) = refl
+
+  held_failed : (v : View D) (o : Option Files) → held_by (failed v) o ≡ held_by v o
+  held_failed v None = refl
+  held_failed v (Some d) = refl
+
+  -- a command that succeeded
+  module _ {T E : Type 0} (x : T) (m : ℕ) (head : Option Place) (a b c : View D) (le : m ≤ 16) (stays : Stays a b)
+      (count : AtMost m (disk.commands a.slots.disk) (disk.commands b.slots.disk)) (rose : Rose (disk.commands a.slots.disk) (disk.commands b.slots.disk)) (ended : IsEnded disk head b c) where
+    pub ends_well : Ends {T = T} {E = E} disk (Ok x) a c
+    ends_well = subst (λ (v : View D). Ends {T = T} {E = E} disk (Ok x) a v) (sym ended.after) (record {
+      limits = stays.limits;
+      opened = stays.opened;
+      lost = tt;
+      count = counted m a b le count rose ended.count;
+      cause = record { later = omega (arith, stays.faults); failed = tt };
+    })
+
+  -- one that failed
+  module _ {T E : Type 0} (why : E) (m : ℕ) (a b c : View D) (le : m ≤ 16) (stays : Stays a b) (count : AtMost m (disk.commands a.slots.disk) (disk.commands b.slots.disk))
+      (rose : Rose (disk.commands a.slots.disk) (disk.commands b.slots.disk)) (ended : IsFailed disk b c) where
+    pub ends_badly : Ends {T = T} {E = E} disk (Err why) a c
+    ends_badly = subst (λ (v : View D). Ends {T = T} {E = E} disk (Err why) a v) (sym ended.after) (record {
+      limits = stays.limits;
+      opened = stays.opened;
+      lost = refl;
+      count = counted m a b le count rose ended.count;
+      cause = record { later = omega (arith, stays.faults, ended.faults); failed = omega (arith, stays.faults) };
+    })
+
+  ended_held : (head : Option Place) (b c : View D) → IsEnded disk head b c → held_of disk c ≡ held_of disk b
+  ended_held head b c ended = ap (λ (v : View D). held_of disk v) ended.after ∙ held_head head b (disk.held b.slots.disk)
+
+  failed_held : (b c : View D) → IsFailed disk b c → held_of disk c ≡ held_of disk b
+  failed_held b c ended = ap (λ (v : View D). held_of disk v) ended.after ∙ held_failed b (disk.held b.slots.disk)
+
+  ended_disk : (head : Option Place) (b c : View D) → IsEnded disk head b c → c.slots.disk ≡ b.slots.disk
+  ended_disk head b c ended = ap (λ (v : View D). v.slots.disk) ended.after
+
+  failed_disk : (b c : View D) → IsFailed disk b c → c.slots.disk ≡ b.slots.disk
+  failed_disk b c ended = ap (λ (v : View D). v.slots.disk) ended.after
+
+  at_disk : {step : Cartridge → Cartridge → Type 0} (limits : Limits) (a : D) (b c : View D) → c.slots.disk ≡ b.slots.disk → CrashesOn disk limits step a b.slots.disk
+      → CrashesOn disk limits step a c.slots.disk
+  at_disk {step = step} limits a b c same crash = subst (λ (d : D). CrashesOn disk limits step a d) (sym same) crash
+
+  -- that only read
+  pub looked_well : {T E : Type 0} (x : T) (m : ℕ) (head : Option Place) (a b c : View D) → m ≤ 16 → Looks disk m a b
+      → Rose (disk.commands a.slots.disk) (disk.commands b.slots.disk) → IsEnded disk head b c → IsLooked {T = T} {E = E} disk (Ok x) a c
+  looked_well x m head a b c le looks rose ended = record {
+    ends = ends_well x m head a b c le looks.stays looks.count rose ended;
+    held = ended_held head b c ended ∙ looks.held;
+    crash = at_disk a.room.limits a.slots.disk b c (ended_disk head b c ended) looks.crash;
+  }
+
+  pub looked_badly : {T E : Type 0} (why : E) (m : ℕ) (a b c : View D) → m ≤ 16 → Looks disk m a b → Rose (disk.commands a.slots.disk) (disk.commands b.slots.disk)
+      → IsFailed disk b c → IsLooked {T = T} {E = E} disk (Err why) a c
+  looked_badly why m a b c le looks rose ended = record {
+    ends = ends_badly why m a b c le looks.stays looks.count rose ended;
+    held = failed_held b c ended ∙ looks.held;
+    crash = at_disk a.room.limits a.slots.disk b c (failed_disk b c ended) looks.crash;
+  }
+
+  rose_on : (a b c : View D) → Rose (disk.commands a.slots.disk) (disk.commands b.slots.disk) → disk.commands b.slots.disk ≤ disk.commands c.slots.disk
+      → Rose (disk.commands a.slots.disk) (disk.commands c.slots.disk)
+  rose_on a b c rose later = omega (arith, rose, later)
+
+  -- an item was written
+  module _ {T E : Type 0} (at : Place) (x : Item) (a b c e : View D) (looks : Looks disk 3 a b) (rose : Rose (disk.commands a.slots.disk) (disk.commands b.slots.disk)) where
+    pub wrote_well : (u : T) → Writes {T = T} {E = E} disk 10 at x (Ok u) b c → IsEnded disk (Some (next at)) c e → Wrote {T = T} {E = E} disk at x (Ok u) a e
+    wrote_well u done ended =
+        let all = written_after disk at x (Ok u) 3 10 a b c looks done in
+        record {
+          ends = ends_well u 13 (Some (next at)) a c e (omega arith) all.stays all.count (rose_on a b c rose done.count.later) ended;
+          head = ap (λ (v : View D). v.head) ended.after;
+          untold = λ none. ended_held (Some (next at)) c e ended ∙ all.untold none;
+          told = λ y held. let t = all.told y held in (t.0, ended_held (Some (next at)) c e ended ∙ t.1, t.2);
+          at_end = λ y held most. let t = all.at_end y held most in (t.0, ended_held (Some (next at)) c e ended ∙ t.1);
+          crash = λ y held. at_disk a.room.limits a.slots.disk c e (ended_disk (Some (next at)) c e ended) (all.crash y held);
+        }
+
+    pub wrote_badly : (why : E) → Writes {T = T} {E = E} disk 10 at x (Err why) b c → IsFailed disk c e → Wrote {T = T} {E = E} disk at x (Err why) a e
+    wrote_badly why done ended =
+        let all = written_after disk at x (Err why) 3 10 a b c looks done in
+        record {
+          ends = ends_badly why 13 a c e (omega arith) all.stays all.count (rose_on a b c rose done.count.later) ended;
+          head = tt;
+          untold = λ none. failed_held c e ended ∙ all.untold none;
+          told = λ y held. let t = all.told y held in (t.0, failed_held c e ended ∙ t.1, t.2);
+          at_end = λ y held most. let t = all.at_end y held most in (t.0, failed_held c e ended ∙ t.1);
+          crash = λ y held. at_disk a.room.limits a.slots.disk c e (failed_disk c e ended) (all.crash y held);
+        }
+
+  pub wrote_not : {T E : Type 0} (at : Place) (x : Item) (a b e : View D) → Looks disk 3 a b → Rose (disk.commands a.slots.disk) (disk.commands b.slots.disk)
+      → (why : E) → IsFailed disk b e → Wrote {T = T} {E = E} disk at x (Err why) a e
+  wrote_not at x a b e looks rose why ended = record {
+    ends = ends_badly why 3 a b e (omega arith) looks.stays looks.count rose ended;
+    head = tt;
+    untold = λ none. failed_held b e ended ∙ looks.held ∙ none;
+    told = λ y held. (y, failed_held b e ended ∙ looks.held ∙ held,
+        record { items = inl (refl, inl refl); rest = record { other_part = refl; note_ip = refl; note_dp = refl } });
+    at_end = λ y held most. (refl, failed_held b e ended ∙ looks.held ∙ held);
+    crash = λ y held. at_disk a.room.limits a.slots.disk b e (failed_disk b e ended)
+        (alone (λ image. record { items = inl (refl, inl refl); rest = record { other_part = refl; note_ip = refl; note_dp = refl } }) looks.crash);
+  }
+
+  -- all was made durable
+  module _ {T E : Type 0} (a b c e : View D) (looks : Looks disk 3 a b) (rose : Rose (disk.commands a.slots.disk) (disk.commands b.slots.disk)) where
+    stored_crash : (r : Result T E) → IsStored disk 8 r b c → (x : Cartridge) → held_of disk a ≡ Some x → CrashesOn disk a.room.limits (WithinFlush x) a.slots.disk c.slots.disk
+    stored_crash r done x held = behind_looks (λ image. inl refl) looks.count.later looks.crash
+        (subst (λ (l : Limits). CrashesOn disk l (WithinFlush x) b.slots.disk c.slots.disk) looks.stays.limits (done.crash x (looks.held ∙ held)))
+
+    stored_stays : (r : Result T E) → IsStored disk 8 r b c → Stays a c
+    stored_stays r done = record {
+      limits = done.stays.limits ∙ looks.stays.limits;
+      head = done.stays.head ∙ looks.stays.head;
+      faults = done.stays.faults ∙ looks.stays.faults;
+      opened = done.stays.opened ∙ looks.stays.opened;
+    }
+
+    pub flushed_well : (u : T) (head : Option Place) → head ≡ a.head → IsStored {T = T} {E = E} disk 8 (Ok u) b c → IsEnded disk head c e → Flushed {T = T} {E = E} disk (Ok u) a e
+    flushed_well u head same done ended = record {
+      ends = ends_well u 11 head a c e (omega arith) (stored_stays (Ok u) done) (then_at_most looks.count done.count) (rose_on a b c rose done.count.later) ended;
+      head = ap (λ (v : View D). v.head) ended.after ∙ same;
+      held = ended_held head c e ended ∙ done.held ∙ looks.held;
+      sure = subst (λ (v : View D). IsSure (held_of disk v) (LeavesOn disk v.room.limits v.slots.disk)) (sym ended.after)
+          (subst (λ (o : Option Cartridge). IsSure o (LeavesOn disk c.room.limits c.slots.disk)) (sym (held_head head c (disk.held c.slots.disk))) done.sure);
+      crash = λ x held. at_disk a.room.limits a.slots.disk c e (ended_disk head c e ended) (stored_crash (Ok u) done x held);
+    }
+
+    pub flushed_badly : (why : E) → IsStored {T = T} {E = E} disk 8 (Err why) b c → IsFailed disk c e → Flushed {T = T} {E = E} disk (Err why) a e
+    flushed_badly why done ended = record {
+      ends = ends_badly why 11 a c e (omega arith) (stored_stays (Err why) done) (then_at_most looks.count done.count) (rose_on a b c rose done.count.later) ended;
+      head = tt;
+      held = failed_held c e ended ∙ done.held ∙ looks.held;
+      sure = tt;
+      crash = λ x held. at_disk a.room.limits a.slots.disk c e (failed_disk c e ended) (stored_crash (Err why) done x held);
+    }
+
+  pub flushed_not : {T E : Type 0} (a b e : View D) → Looks disk 3 a b → Rose (disk.commands a.slots.disk) (disk.commands b.slots.disk) → (why : E) → IsFailed disk b e
+      → Flushed {T = T} {E = E} disk (Err why) a e
+  flushed_not a b e looks rose why ended = record {
+    ends = ends_badly why 3 a b e (omega arith) looks.stays looks.count rose ended;
+    head = tt;
+    held = failed_held b e ended ∙ looks.held;
+    sure = tt;
+    crash = λ x held. at_disk a.room.limits a.slots.disk b e (failed_disk b e ended) (alone (λ image. inl refl) looks.crash);
+  }
+
+  -- an attribute was set
+  module _ {T E : Type 0} (part : Part) (note : Note) (a b c e : View D) (looks : Looks disk 3 a b) (rose : Rose (disk.commands a.slots.disk) (disk.commands b.slots.disk)) where
+    noted_crash : (r : Result T E) → IsNoteSet disk part note r b c → (x : Cartridge) → held_of disk a ≡ Some x
+        → CrashesOn disk a.room.limits (WithinNote part note) a.slots.disk c.slots.disk
+    noted_crash r done x held = behind_looks (λ image. inl refl) looks.count.later looks.crash
+        (subst (λ (l : Limits). CrashesOn disk l (WithinNote part note) b.slots.disk c.slots.disk) looks.stays.limits (done.crash x (looks.held ∙ held)))
+
+    noted_stays : (r : Result T E) → IsNoteSet disk part note r b c → Stays a c
+    noted_stays r done = record {
+      limits = done.stays.limits ∙ looks.stays.limits;
+      head = done.stays.head ∙ looks.stays.head;
+      faults = done.stays.faults ∙ looks.stays.faults;
+      opened = done.stays.opened ∙ looks.stays.opened;
+    }
+
+    pub noted_well : (u : T) (head : Option Place) → head ≡ a.head → IsNoteSet {T = T} {E = E} disk part note (Ok u) b c → IsEnded disk head c e
+        → Noted {T = T} {E = E} disk part note (Ok u) a e
+    noted_well u head same done ended = record {
+      ends = ends_well u 9 head a c e (omega arith) (noted_stays (Ok u) done) (then_at_most looks.count done.count) (rose_on a b c rose done.count.later) ended;
+      head = ap (λ (v : View D). v.head) ended.after ∙ same;
+      settled = ap (λ (v : View D). v.doubt) ended.after ∙ done.settled;
+      untold = λ none. ended_held head c e ended ∙ done.untold (looks.held ∙ none);
+      told = λ x held. let t = done.told x (looks.held ∙ held) in (t.0, ended_held head c e ended ∙ t.1, t.2);
+      crash = λ x held. at_disk a.room.limits a.slots.disk c e (ended_disk head c e ended) (noted_crash (Ok u) done x held);
+    }
+
+    pub noted_badly : (why : E) → IsNoteSet {T = T} {E = E} disk part note (Err why) b c → IsFailed disk c e → Noted {T = T} {E = E} disk part note (Err why) a e
+    noted_badly why done ended = record {
+      ends = ends_badly why 9 a c e (omega arith) (noted_stays (Err why) done) (then_at_most looks.count done.count) (rose_on a b c rose done.count.later) ended;
+      head = tt;
+      settled = tt;
+      untold = λ none. failed_held c e ended ∙ done.untold (looks.held ∙ none);
+      told = λ x held. let t = done.told x (looks.held ∙ held) in (t.0, failed_held c e ended ∙ t.1, t.2);
+      crash = λ x held. at_disk a.room.limits a.slots.disk c e (failed_disk c e ended) (noted_crash (Err why) done x held);
+    }
+
+  pub noted_not : {T E : Type 0} (part : Part) (note : Note) (a b e : View D) → Looks disk 3 a b → Rose (disk.commands a.slots.disk) (disk.commands b.slots.disk)
+      → (why : E) → IsFailed disk b e → Noted {T = T} {E = E} disk part note (Err why) a e
+  noted_not part note a b e looks rose why ended = record {
+    ends = ends_badly why 3 a b e (omega arith) looks.stays looks.count rose ended;
+    head = tt;
+    settled = tt;
+    untold = λ none. failed_held b e ended ∙ looks.held ∙ none;
+    told = λ x held. (x, failed_held b e ended ∙ looks.held ∙ held, inl refl);
+    crash = λ x held. at_disk a.room.limits a.slots.disk b e (failed_disk b e ended) (alone (λ image. inl refl) looks.crash);
+  }
+
+  -- an item was read
+  pub read_well : (at : Place) (found : Got) (place : Place) (buf : List ℕ) (a b c e : View D) → Looks disk 3 a b → Rose (disk.commands a.slots.disk) (disk.commands b.slots.disk)
+      → b.doubt ≡ Settled → IsReading disk at found buf b → Looks disk 2 b c → place ≡ after_read found at → IsEnded disk (Some place) c e
+      → HasRead {E = DriveErr} disk at (Ok found) buf a e
+  read_well at found place buf a b c e looks rose settled reading more is ended = record {
+    looked = looked_well found 5 (Some place) a c e (omega arith) (then_looks disk 3 2 a b c looks more) (rose_on a b c rose more.count.later) ended;
+    head = ap (λ (v : View D). v.head) ended.after ∙ ap (λ (p : Place). place_is p) is;
+    item = λ x held. reading.item settled x (looks.held ∙ held);
+    bytes = reading.bytes;
+    at_capacity = λ le. reading.at_capacity (subst (λ (l : Limits). capacity at.part l ≤ at.pos) (sym looks.stays.limits) le);
+  }
+
+  pub read_badly : (at : Place) (why : DriveErr) (buf : List ℕ) (m : ℕ) (a c e : View D) → m ≤ 16 → Looks disk m a c → Rose (disk.commands a.slots.disk) (disk.commands c.slots.disk)
+      → IsFailed disk c e → HasRead {E = DriveErr} disk at (Err why) buf a e
+  read_badly at why buf m a c e le looks rose ended = record {
+    looked = looked_badly why m a c e le looks rose ended;
+    head = tt;
+    item = tt;
+    bytes = tt;
+    at_capacity = tt;
+  }
+
+  pub read_late : (at : Place) (why : DriveErr) (buf : List ℕ) (a b c e : View D) → Looks disk 3 a b → Rose (disk.commands a.slots.disk) (disk.commands b.slots.disk) → Looks disk 2 b c
+      → IsFailed disk c e → HasRead {E = DriveErr} disk at (Err why) buf a e
+  read_late at why buf a b c e looks rose more ended =
+      read_badly at why buf 5 a c e (omega arith) (then_looks disk 3 2 a b c looks more) (rose_on a b c rose more.count.later) ended
+

@@ -1,0 +1,10 @@
+use Rattle.std.proofs.Common.{rules, arith}
+use Rattle.image_tape.proofs.Ending.{looked_badly, looked_well}
+use Rattle.image_tape.proofs.tape.ImageTape.look.Goals as goal
+
+pub returns-in-Ok-clause-looked : goal.returns-in-Ok-clause-looked
+returns-in-Ok-clause-looked g c = looked_well g.B.ByteDisk tt 3 c.args.head c.args.self.now c.begin.new.self c.end.new.self (omega arith) c.begin.ensures.looks c.begin.ensures.rose c.end.ensures
+
+pub returns-in-Err-clause-looked : goal.returns-in-Err-clause-looked
+returns-in-Err-clause-looked g c =
+    looked_badly g.B.ByteDisk c.in-Err.why 3 c.args.self.now c.begin.new.self c.fail.new.self (omega arith) c.begin.ensures.looks c.begin.ensures.rose c.fail.ensures
