@@ -1,5 +1,6 @@
 -- The end of a command.
 use Rattle.std.proofs.Common.{◌≡◌, ℕ, ◌+◌, ◌-◌, ◌^◌, ◌≤◌, ◌⊎◌, inl, inr, min, List, Option, Some, None, Result, Ok, Err, OnOk, OnErr, IfOk, refl, sym, ap, ◌∙◌, subst, arith}
+use Rattle.std.proofs.lemmas.Option.{same_Some}
 use Rattle.crash_steps.specs.Crashes.{NothingNew}
 use Rattle.crash_steps.proofs.Joined.{alone, behind_looks}
 use Rattle.tape_types.specs.Counts.{HasCause, Rose}
@@ -264,3 +265,21 @@ module _ {D : Type 0} (disk : Ghosts D) where
   read_late at why buf a b c e looks rose more ended =
       read_badly at why buf 5 a c e (omega arith) (then_looks disk 3 2 a b c looks more) (rose_on a b c rose more.count.later) ended
 
+
+  pub ended_at : (place other : Place) (b c : View D) → place ≡ other → IsEnded disk (Some place) b c → IsEnded disk (Some other) b c
+  ended_at place other b c same ended = subst (λ (p : Place). IsEnded disk (Some p) b c) same ended
+
+  pub head_in : (v w : View D) → v ≡ w → v.head ≡ w.head
+  head_in v w is = ap (λ (x : View D). x.head) is
+
+  -- at the place where the head stands
+  one_place : (v w : View D) (place at : Place) → v ≡ w → v.head ≡ Some place → w.head ≡ Some at → place ≡ at
+  one_place v w place at is there head = same_Some place at (sym there ∙ head_in v w is ∙ head)
+
+  pub wrote_there : {T E : Type 0} (x : Item) (r : Result T E) (v w e : View D) (place : Place) → v ≡ w → v.head ≡ Some place → Wrote disk place x r w e
+      → (at : Place) → w.head ≡ Some at → Wrote disk at x r w e
+  wrote_there x r v w e place is there done at head = subst (λ (p : Place). Wrote disk p x r w e) (one_place v w place at is there head) done
+
+  pub read_there : {E : Type 0} (r : Result Got E) (buf : List ℕ) (v w e : View D) (place : Place) → v ≡ w → v.head ≡ Some place → HasRead disk place r buf w e
+      → (at : Place) → w.head ≡ Some at → HasRead disk at r buf w e
+  read_there r buf v w e place is there done at head = subst (λ (p : Place). HasRead disk p r buf w e) (one_place v w place at is there head) done

@@ -90,7 +90,7 @@ fits_of : (part : Part) {D : Type 0} (v : View D) → Holds v.room v.reads
 fits_of Ip v holds = holds.fits_ip
 fits_of Dp v holds = holds.fits_dp
 
-cap_of : (part : Part) {D : Type 0} (disk : Ghosts D) (v : View D) → IsKept disk v → capacity part v.room.limits ≤ 2 ^ 40
+pub cap_of : (part : Part) {D : Type 0} (disk : Ghosts D) (v : View D) → IsKept disk v → capacity part v.room.limits ≤ 2 ^ 40
 cap_of Ip disk v kept = kept.limits.ip_most
 cap_of Dp disk v kept = kept.limits.dp_most
 
@@ -151,3 +151,7 @@ module _ {D : Type 0} (disk : Ghosts D) (v : View D) (kept : IsKept disk v) wher
 
 abbrev pub some_head : Head → Option Head
 some_head h = Some h
+
+-- a position below the capacity is small
+pub room_small : {D : Type 0} (disk : Ghosts D) (at : Place) (v w : View D) → v ≡ w → IsKept disk v → at.pos < capacity at.part w.room.limits → at.pos < 2 ^ 40
+room_small {D = D} disk at v w is kept room = omega (arith, room, cap_of at.part disk v kept, ap (λ (x : View D). capacity at.part x.room.limits) is)

@@ -139,3 +139,7 @@ module _ {D : Type 0} (disk : Ghosts D) where
     always = kept.always;
     tells = λ d is. tells_in v head faults v.doubt d (kept.tells d is);
   }
+
+  pub is_sure_when : {T E : Type 0} (r : Result T E) (v w : View D) → v ≡ w → IsKept disk v → OnOk r (w.doubt ≡ Settled) → OnOk r (IsSure disk w)
+  is_sure_when (Ok x) v w is kept settled = is_sure_at v w is kept settled
+  is_sure_when (Err why) v w is kept settled = tt

@@ -113,10 +113,12 @@ impl<B: ByteDisk> ImageTape<B> {
         ensures { (x : Item) → IsItem x → record_bytes x ≡ head_bytes head ++ bytes.now
             → Wrote B.ByteDisk at x result self.old self.new }
     {
+        let _kept = self.doubt;
+        let behind = next(at);
         match self.begin() {
             Ok(()) => match self.write_at(at, head, bytes) {
                 Ok(()) => {
-                    self.end(Some(next(at)));
+                    self.end(Some(behind));
                     Ok(())
                 }
                 Err(why) => {

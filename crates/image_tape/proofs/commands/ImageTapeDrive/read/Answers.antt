@@ -1,0 +1,6 @@
+use Rattle.image_tape.proofs.Ending.{read_there}
+use Rattle.image_tape.proofs.commands.ImageTapeDrive.read.Goals as goal
+
+pub returns-clause-ran : goal.returns-clause-ran
+returns-clause-ran g c =
+    read_there g.B.ByteDisk c.read_item.result c.read_item.new.buf.items _ _ c.read_item.new.self c.in-Some.at c.self.view_is c.in-Some.is c.read_item.ensures.ran

@@ -1,0 +1,13 @@
+use Rattle.std.proofs.Common.{refl}
+use Rattle.tape_types.specs.declared.cartridges.Item.TheVariants as item
+use Rattle.image_tape.proofs.Ending.{wrote_there}
+use Rattle.image_tape.proofs.commands.ImageTapeDrive.write.Goals as goal
+
+pub put_item-requires-clause-sound : goal.put_item-requires-clause-sound
+put_item-requires-clause-sound g c = (item.Block c.args.bytes.now, (c.requires.some, c.requires.size), refl)
+
+pub returns : goal.returns
+returns g c = record {
+  ran = wrote_there g.B.ByteDisk (item.Block c.args.bytes.now) c.put_item.result _ _ c.put_item.new.self c.in-Some.at c.self.view_is c.in-Some.is
+      (c.put_item.ensures (item.Block c.args.bytes.now) (c.requires.some, c.requires.size) refl);
+}

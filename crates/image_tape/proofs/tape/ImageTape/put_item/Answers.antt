@@ -1,0 +1,24 @@
+use Rattle.std.proofs.Common.{rules, arith, ◌∙◌, ap, sym, subst}
+use Rattle.tape_types.specs.Cartridges.{next}
+use Rattle.tape_types.specs.declared.cartridges.Place.{Place}
+use Rattle.tape_types.specs.Cartridges.{capacity}
+use Rattle.image_tape.proofs.Ending.{ended_at, wrote_badly, wrote_not, wrote_well}
+use Rattle.image_tape.proofs.Spots.{room_small}
+use Rattle.image_tape.proofs.tape.ImageTape.put_item.Goals as goal
+
+pub next-behind-requires : goal.next-behind-requires
+next-behind-requires g c = room_small g.B.ByteDisk c.args.at _ _ c.self.view_is c.self.invariant c.requires.room
+
+pub returns-in-Ok-write_at : goal.returns-in-Ok-write_at
+returns-in-Ok-write_at g c = λ x sound same.
+    wrote_well g.B.ByteDisk c.args.at x c.args.self.now c.begin.new.self c.write_at.new.self c.end.new.self c.in-Ok.ensures.looks c.in-Ok.ensures.rose tt
+    (c.in-Ok-write_at.ensures x sound same) (ended_at g.B.ByteDisk c.next-behind.result (next c.args.at) _ _ c.next-behind.ensures c.end.ensures)
+
+pub returns-in-Err-write_at : goal.returns-in-Err-write_at
+returns-in-Err-write_at g c = λ x sound same.
+    wrote_badly g.B.ByteDisk c.args.at x c.args.self.now c.begin.new.self c.write_at.new.self c.fail.new.self c.in-Ok.ensures.looks c.in-Ok.ensures.rose c.in-Err-write_at.why
+    (c.in-Err-write_at.ensures x sound same) c.fail.ensures
+
+pub returns-in-Err : goal.returns-in-Err
+returns-in-Err g c = λ x sound same.
+    wrote_not g.B.ByteDisk c.args.at x c.args.self.now c.begin.new.self c.fail-in-Err.new.self c.in-Err.ensures.looks c.in-Err.ensures.rose c.in-Err.why c.fail-in-Err.ensures

@@ -1,0 +1,18 @@
+use Rattle.std.proofs.Common.{arith}
+use Rattle.image_tape.proofs.Ending.{read_badly, read_late, read_well}
+use Rattle.image_tape.proofs.tape.ImageTape.read_item.Goals as goal
+
+pub returns-in-Ok-read_at-clause-ran : goal.returns-in-Ok-read_at-clause-ran
+returns-in-Ok-read_at-clause-ran g c =
+    read_well g.B.ByteDisk c.args.at c.in-Ok-read_at.got c.in-Ok-read_at.place c.read_at.new.buf.items c.args.self.now c.begin.new.self c.read_at.new.self c.end.new.self
+    c.in-Ok.ensures.looks c.in-Ok.ensures.rose c.in-Ok.ensures.settled c.in-Ok-read_at.ensures.reading c.read_at.ensures.looks c.in-Ok-read_at.ensures.place c.end.ensures
+
+pub returns-in-Err-read_at-clause-ran : goal.returns-in-Err-read_at-clause-ran
+returns-in-Err-read_at-clause-ran g c =
+    read_late g.B.ByteDisk c.args.at c.in-Err-read_at.why c.read_at.new.buf.items c.args.self.now c.begin.new.self c.read_at.new.self c.fail.new.self c.in-Ok.ensures.looks
+    c.in-Ok.ensures.rose c.read_at.ensures.looks c.fail.ensures
+
+pub returns-in-Err-clause-ran : goal.returns-in-Err-clause-ran
+returns-in-Err-clause-ran g c =
+    read_badly g.B.ByteDisk c.args.at c.in-Err.why _ 3 c.args.self.now c.begin.new.self c.fail-in-Err.new.self (omega arith) c.in-Err.ensures.looks c.in-Err.ensures.rose
+    c.fail-in-Err.ensures
