@@ -1,7 +1,7 @@
 -- The end of a command.
 use Rattle.std.proofs.Common.{◌≡◌, ℕ, ◌+◌, ◌-◌, ◌^◌, ◌≤◌, ◌⊎◌, inl, inr, min, List, Option, Some, None, Result, Ok, Err, OnOk, OnErr, IfOk, refl, sym, ap, ◌∙◌, subst, arith}
 use Rattle.std.proofs.lemmas.Option.{same_Some}
-use Rattle.crash_steps.specs.Crashes.{NothingNew}
+use Rattle.crash_steps.specs.Crashes.{Crashes, NothingNew}
 use Rattle.crash_steps.proofs.Joined.{alone, behind_looks}
 use Rattle.tape_types.specs.Counts.{HasCause, Rose}
 use Rattle.byte_disk.specs.Files.{Files}
@@ -12,17 +12,18 @@ use Rattle.tape_types.specs.declared.cartridges.Limits.{Limits}
 use Rattle.tape_types.specs.declared.cartridges.Note.{Note}
 use Rattle.tape_types.specs.declared.cartridges.Part.{Part}
 use Rattle.tape_types.specs.declared.cartridges.Place.{Place}
-use Rattle.tape_drive.specs.Commands.{AfterNote, AfterWrite, Counted, IsBroken, after_read}
+use Rattle.tape_drive.specs.Commands.{AfterNote, AfterWrite, Counted, IsBroken, IsRead, after_read, item_at}
 use Rattle.tape_drive.specs.Crashes.{IsSure, WithinFlush, WithinNote, WithinWrite}
 use Rattle.tape_drive.specs.declared.drive.DriveErr.{DriveErr}
 use Rattle.tape_drive.specs.declared.drive.Got.{Got}
+use Rattle.tape_drive.specs.declared.drive.Got.TheVariants as got
 use Rattle.byte_disk.specs.declared.disk.ByteDisk.{Ghosts}
 use Rattle.image_slots.specs.Pieces.{AtMost}
 use Rattle.image_slots.proofs.Chains.{more_at_most, then_at_most}
 use Rattle.image_tape.specs.declared.doubt.Doubt.TheVariants.{Settled}
 use Rattle.image_tape.specs.Ends.{Ends, Flushed, HasRead, IsEnded, IsFailed, IsLooked, Noted, Wrote, failed, with_head}
 use Rattle.image_tape.specs.Steps.{IsNoteSet, IsReading, IsStored, Looks, Stays}
-use Rattle.image_tape.specs.Tape.{CrashesOn, LeavesOn, View, held_by, held_of}
+use Rattle.image_tape.specs.Tape.{CrashesOn, LeavesOn, SinceOn, View, held_by, held_of}
 use Rattle.image_tape.specs.Writes.{Writes}
 use Rattle.image_tape.proofs.Surely.{then_looks}
 use Rattle.image_tape.proofs.Writings.{written_after}
@@ -283,3 +284,38 @@ module _ {D : Type 0} (disk : Ghosts D) where
   pub read_there : {E : Type 0} (r : Result Got E) (buf : List ℕ) (v w e : View D) (place : Place) → v ≡ w → v.head ≡ Some place → HasRead disk place r buf w e
       → (at : Place) → w.head ≡ Some at → HasRead disk at r buf w e
   read_there r buf v w e place is there done at head = subst (λ (p : Place). HasRead disk p r buf w e) (one_place v w place at is there head) done
+
+-- what a command leaves to a crash, as the tape's own
+pub crash_at : {D : Type 0} (disk : Ghosts D) {step : Cartridge → Cartridge → Type 0} (a b : View D) → b.room.limits ≡ a.room.limits
+    → CrashesOn disk a.room.limits step a.slots.disk b.slots.disk
+    → Crashes step (disk.commands a.slots.disk) (LeavesOn disk a.room.limits a.slots.disk) (LeavesOn disk b.room.limits b.slots.disk)
+    (SinceOn disk a.room.limits a.slots.disk) (SinceOn disk b.room.limits b.slots.disk)
+crash_at disk {step = step} a b same crash =
+    subst (λ (l : Limits). Crashes step (disk.commands a.slots.disk) (LeavesOn disk a.room.limits a.slots.disk) (LeavesOn disk l b.slots.disk)
+    (SinceOn disk a.room.limits a.slots.disk) (SinceOn disk l b.slots.disk)) (sym same) crash
+
+-- of a read at whatever place the head has
+module _ {D : Type 0} (disk : Ghosts D) (r : Result Got DriveErr) (buf : List ℕ) (a b : View D) (ran : (at : Place) → a.head ≡ Some at → HasRead disk at r buf a b) where
+  pub items_read : IfOk r (λ found. (at : Place) (c : Cartridge) → a.head ≡ Some at → held_of disk a ≡ Some c → IsRead (item_at at c) found buf)
+  items_read = by r ran
+    where
+      by : (r : Result Got DriveErr) → ((at : Place) → a.head ≡ Some at → HasRead disk at r buf a b)
+          → IfOk r (λ found. (at : Place) (c : Cartridge) → a.head ≡ Some at → held_of disk a ≡ Some c → IsRead (item_at at c) found buf)
+      by (Ok found) ran = λ at c head held. (ran at head).item c held
+      by (Err why) ran = tt
+
+  pub ends_read : IfOk r (λ found. (at : Place) → a.head ≡ Some at → capacity at.part a.room.limits ≤ at.pos → found ≡ got.End)
+  ends_read = by r ran
+    where
+      by : (r : Result Got DriveErr) → ((at : Place) → a.head ≡ Some at → HasRead disk at r buf a b)
+          → IfOk r (λ found. (at : Place) → a.head ≡ Some at → capacity at.part a.room.limits ≤ at.pos → found ≡ got.End)
+      by (Ok found) ran = λ at head le. (ran at head).at_capacity le
+      by (Err why) ran = tt
+
+  pub heads_read : IfOk r (λ found. (at : Place) → a.head ≡ Some at → b.head ≡ Some (after_read found at))
+  heads_read = by r ran
+    where
+      by : (r : Result Got DriveErr) → ((at : Place) → a.head ≡ Some at → HasRead disk at r buf a b)
+          → IfOk r (λ found. (at : Place) → a.head ≡ Some at → b.head ≡ Some (after_read found at))
+      by (Ok found) ran = λ at head. (ran at head).head
+      by (Err why) ran = tt

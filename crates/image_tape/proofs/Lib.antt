@@ -14,3 +14,4 @@ pub mod Shaping
 pub mod Appending
 pub mod Writings
 pub mod Ending
+pub mod Fitting

@@ -1,27 +1,114 @@
 -- Each command does what the trait asks.
-use Rattle.std.proofs.Common.{◌≡◌, Some, refl, ap, subst, rules}
+use Rattle.image_tape.proofs.Ending.{crash_at, ends_read, heads_read, items_read}
 use Rattle.image_tape.proofs.commands.ImageTapeDrive.TheImpl.Goals as goal
 
 pub locate-tells : goal.locate-tells
-locate-tells g x c = ?
+locate-tells g x c = record {
+  head = c.ensures.head;
+  lost = c.ensures.looked.ends.lost;
+  held = c.ensures.looked.held;
+  limits = c.ensures.looked.ends.limits;
+  count = c.ensures.looked.ends.count;
+  cause = c.ensures.looked.ends.cause;
+  crash = crash_at g.B.ByteDisk c.args.self.now c.new.self.now c.ensures.looked.ends.limits c.ensures.looked.crash;
+}
 
 pub read-tells : goal.read-tells
-read-tells g x c = ?
+read-tells g x c =
+    let ran = c.ensures.ran c.requires.located.0 c.requires.located.1 in
+    record {
+      room = c.ensures.room;
+      item = items_read g.B.ByteDisk c.result c.new.buf.now.items c.args.self.now c.new.self.now c.ensures.ran;
+      bytes = ran.bytes;
+      at_capacity = ends_read g.B.ByteDisk c.result c.new.buf.now.items c.args.self.now c.new.self.now c.ensures.ran;
+      head = heads_read g.B.ByteDisk c.result c.new.buf.now.items c.args.self.now c.new.self.now c.ensures.ran;
+      lost = ran.looked.ends.lost;
+      held = ran.looked.held;
+      limits = ran.looked.ends.limits;
+      count = ran.looked.ends.count;
+      cause = ran.looked.ends.cause;
+      crash = crash_at g.B.ByteDisk c.args.self.now c.new.self.now ran.looked.ends.limits ran.looked.crash;
+    }
 
 pub write-tells : goal.write-tells
-write-tells g x c = ?
+write-tells g x c =
+    let at = c.requires.located.0 in
+    let ran = c.ensures.ran at c.requires.located.1 in
+    record {
+      head = λ at head. (c.ensures.ran at head).head;
+      lost = ran.ends.lost;
+      told = λ at y head held. (c.ensures.ran at head).told y held;
+      untold = ran.untold;
+      vcr_at_end = ran.at_end;
+      limits = ran.ends.limits;
+      count = ran.ends.count;
+      cause = ran.ends.cause;
+      crash = λ at y head held. let r = c.ensures.ran at head in crash_at g.B.ByteDisk c.args.self.now c.new.self.now r.ends.limits (r.crash y held);
+    }
 
 pub mark-tells : goal.mark-tells
-mark-tells g x c = ?
+mark-tells g x c =
+    let at = c.requires.located.0 in
+    let ran = c.ensures.ran at c.requires.located.1 in
+    record {
+      head = λ at head. (c.ensures.ran at head).head;
+      lost = ran.ends.lost;
+      told = λ at y head held. (c.ensures.ran at head).told y held;
+      untold = ran.untold;
+      vcr_at_end = ran.at_end;
+      limits = ran.ends.limits;
+      count = ran.ends.count;
+      cause = ran.ends.cause;
+      crash = λ at y head held. let r = c.ensures.ran at head in crash_at g.B.ByteDisk c.args.self.now c.new.self.now r.ends.limits (r.crash y held);
+    }
 
 pub flush-tells : goal.flush-tells
-flush-tells g x c = ?
+flush-tells g x c = record {
+  sure = c.ensures.sure;
+  head = c.ensures.head;
+  lost = c.ensures.ends.lost;
+  held = c.ensures.held;
+  limits = c.ensures.ends.limits;
+  count = c.ensures.ends.count;
+  cause = c.ensures.ends.cause;
+  crash = λ y held. crash_at g.B.ByteDisk c.args.self.now c.new.self.now c.ensures.ends.limits (c.ensures.crash y held);
+}
 
 pub read_note-tells : goal.read_note-tells
-read_note-tells g x c = ?
+read_note-tells g x c = record {
+  value = c.ensures.value;
+  settled = c.ensures.settled;
+  head = c.ensures.head;
+  lost = c.ensures.looked.ends.lost;
+  held = c.ensures.looked.held;
+  limits = c.ensures.looked.ends.limits;
+  count = c.ensures.looked.ends.count;
+  cause = c.ensures.looked.ends.cause;
+  crash = crash_at g.B.ByteDisk c.args.self.now c.new.self.now c.ensures.looked.ends.limits c.ensures.looked.crash;
+}
 
 pub write_note-tells : goal.write_note-tells
-write_note-tells g x c = ?
+write_note-tells g x c = record {
+  told = c.ensures.ran.told;
+  untold = c.ensures.ran.untold;
+  settled = c.ensures.settled;
+  head = c.ensures.ran.head;
+  lost = c.ensures.ran.ends.lost;
+  limits = c.ensures.ran.ends.limits;
+  count = c.ensures.ran.ends.count;
+  cause = c.ensures.ran.ends.cause;
+  crash = λ y held. crash_at g.B.ByteDisk c.args.self.now c.new.self.now c.ensures.ran.ends.limits (c.ensures.ran.crash y held);
+}
 
 pub vcr-tells : goal.vcr-tells
-vcr-tells g x c = ?
+vcr-tells g x c = record {
+  value = c.ensures.value;
+  settled = c.ensures.settled;
+  head = c.ensures.head;
+  lost = c.ensures.looked.ends.lost;
+  held = c.ensures.looked.held;
+  limits = c.ensures.looked.ends.limits;
+  count = c.ensures.looked.ends.count;
+  cause = c.ensures.looked.ends.cause;
+  crash = crash_at g.B.ByteDisk c.args.self.now c.new.self.now c.ensures.looked.ends.limits c.ensures.looked.crash;
+}
