@@ -32,7 +32,7 @@ use Rattle.image_tape.specs.Tape.{Agree, AlwaysOpens, CrashesOn, IsKept, Lie, St
 use Rattle.image_tape.specs.Writes.{FollowsIn, Hides, StandBehind}
 use Rattle.image_tape.proofs.Fronts.{all_bytes, front_size, same_records}
 use Rattle.image_tape.proofs.Lifting.{goes_on, lifted, same_cartridge}
-use Rattle.image_tape.proofs.Opening.{agreed_opens, counted, is_whole, whole}
+use Rattle.image_tape.proofs.Opened.{agreed_opens, counted, is_whole, whole}
 use Rattle.image_tape.proofs.Telling.{held_whole, told_files, tells_of}
 use Rattle.image_tape.proofs.Upkeep.{with_slots}
 

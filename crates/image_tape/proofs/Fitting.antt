@@ -21,7 +21,7 @@ use Rattle.image_format.specs.Values.{flag}
 use Rattle.image_tape.specs.declared.doubt.Doubt.{Doubt}
 use Rattle.image_tape.specs.declared.doubt.Doubt.TheVariants.{Settled, Open}
 use Rattle.image_tape.specs.Tape.{Holds, IsKept, Stands, Suits, Tells, View, given, held_by, held_of, reading_by, says}
-use Rattle.image_tape.proofs.Opening.{is_whole, whole}
+use Rattle.image_tape.proofs.Opened.{is_whole, whole}
 
 tail_items : (t : Bool) → All IsItem (tail_of t)
 tail_items true = All-cons IsItem item.Torn [] tt (All-nil IsItem)

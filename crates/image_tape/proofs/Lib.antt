@@ -1,6 +1,6 @@
 pub mod Fronts
 pub mod Lifting
-pub mod Opening
+pub mod Opened
 pub mod Upkeep
 pub mod Surely
 pub mod Setting
@@ -15,3 +15,4 @@ pub mod Appending
 pub mod Writings
 pub mod Ending
 pub mod Fitting
+pub mod Beginning

@@ -31,7 +31,7 @@ use Rattle.image_tape.specs.Halves.{half_of}
 use Rattle.image_tape.specs.Steps.{HasRecord}
 use Rattle.image_tape.specs.Tape.{Lie, Stands}
 use Rattle.image_tape.proofs.Fronts.{all_bytes, front_bytes, offset_is, offsets_size}
-use Rattle.image_tape.proofs.Opening.{whole}
+use Rattle.image_tape.proofs.Opened.{whole}
 
 item_size : (x : Item) → IsItem x → width x ≤ 1048581
 item_size (item.Block bytes) is = omega (arith, is.1)

@@ -25,7 +25,7 @@ use Rattle.image_tape.specs.Steps.{AfterCommit, FromTo, IsCommit, IsTaken, MaySt
 use Rattle.image_tape.specs.Tape.{CrashesOn, Holds, IsKept, Lie, Stands, View, cut_to, held_of}
 use Rattle.image_tape.specs.Writes.{AfterRise, HasRisen, IsCounted, IsUncounted, Rises, cut_value}
 use Rattle.image_tape.proofs.Fronts.{all_bytes, fewer_offsets, fewer_records, front_size, offset_is}
-use Rattle.image_tape.proofs.Opening.{counted, is_counted, is_whole, whole}
+use Rattle.image_tape.proofs.Opened.{counted, is_counted, is_whole, whole}
 use Rattle.image_tape.proofs.Telling.{held_is_whole, tells_of}
 use Rattle.image_tape.proofs.Wholes.{all_hold, back, lie_like, none_held, settled_taken, untold_held}
 

@@ -30,7 +30,7 @@ use Rattle.image_tape.specs.Halves.{with_serial}
 use Rattle.image_tape.specs.Steps.{AfterCommit, FromTo, IsCommit, IsTaken, MayStand, Stays}
 use Rattle.image_tape.specs.Tape.{Agree, AlwaysOpens, CrashesOn, Holds, IsKept, SaysOne, Stands, Suits, Tells, View, cut_to, given, held_by, held_of, reading_by, says}
 use Rattle.image_tape.proofs.Lifting.{goes_on, lifted, same_cartridge}
-use Rattle.image_tape.proofs.Opening.{agreed_opens, counted, is_counted}
+use Rattle.image_tape.proofs.Opened.{agreed_opens, counted, is_counted}
 use Rattle.image_tape.proofs.Surely.{header_of_value}
 use Rattle.image_tape.proofs.Upkeep.{stands_over, with_slots}
 

@@ -31,7 +31,7 @@ use Rattle.image_tape.specs.Steps.{IsAlike, Stays}
 use Rattle.image_tape.specs.Tape.{AlwaysOpens, Holds, IsKept, Lie, Stands, Suits, Tells, View, given, held_by, held_of, reading_by}
 use Rattle.image_tape.specs.Writes.{Cuts, HasItems, Hides, IsPlace, Puts, StandBehind, cut_value, put_items}
 use Rattle.image_tape.proofs.Fronts.{all_bytes, fewer_offsets, fewer_records, offset_is, offsets_more, one_more_record}
-use Rattle.image_tape.proofs.Opening.{is_whole, whole}
+use Rattle.image_tape.proofs.Opened.{is_whole, whole}
 use Rattle.image_tape.proofs.RecordLemmas.{end_size}
 use Rattle.image_tape.proofs.Behind.{head_size}
 use Rattle.image_tape.proofs.Rising.{cut_items}

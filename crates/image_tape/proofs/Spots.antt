@@ -30,7 +30,7 @@ use Rattle.image_tape.specs.declared.doubt.Doubt.TheVariants.{Settled, Open}
 use Rattle.image_tape.specs.Halves.{half_of}
 use Rattle.image_tape.specs.Steps.{HasRecord, IsReading}
 use Rattle.image_tape.specs.Tape.{Holds, IsKept, Stands, Tells, View, held_of}
-use Rattle.image_tape.proofs.Opening.{whole}
+use Rattle.image_tape.proofs.Opened.{whole}
 use Rattle.image_tape.proofs.RecordLemmas.{InPart, at_record, block_read, block_within, head_read, in_part, mark_read, record_at, torn_read}
 use Rattle.image_tape.proofs.Telling.{held_is_whole, tells_of}
 

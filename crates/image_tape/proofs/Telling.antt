@@ -26,7 +26,7 @@ use Rattle.image_tape.specs.Halves.{half_of}
 use Rattle.image_tape.specs.Steps.{Looks}
 use Rattle.image_tape.specs.Tape.{CrashesOn, IsKept, LeavesOn, SinceOn, Stands, Suits, Tells, View, given, held_by, held_of, reading_by}
 use Rattle.image_tape.proofs.Lifting.{same_cartridge}
-use Rattle.image_tape.proofs.Opening.{agreed_opens, counted, is_whole, whole}
+use Rattle.image_tape.proofs.Opened.{agreed_opens, counted, is_whole, whole}
 
 abbrev read_as : Cartridge → Result Cartridge Refusal
 read_as c = Ok c

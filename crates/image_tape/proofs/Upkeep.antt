@@ -17,7 +17,7 @@ use Rattle.image_tape.specs.declared.doubt.Doubt.{Doubt}
 use Rattle.image_tape.specs.declared.doubt.Doubt.TheVariants.{Settled, Open}
 use Rattle.image_tape.specs.Tape.{Agree, IsKept, Lie, SaysOne, Stands, Suits, Tells, View, held_by, held_of}
 use Rattle.image_tape.proofs.Lifting.{goes_on}
-use Rattle.image_tape.proofs.Opening.{agreed_opens, counted}
+use Rattle.image_tape.proofs.Opened.{agreed_opens, counted}
 
 -- the same tape over another disk
 abbrev pub with_slots : {D : Type 0} → slot.View D → View D → View D

@@ -31,7 +31,7 @@ use Rattle.image_tape.specs.Halves.{half_of, noted, with_half, with_note, with_s
 use Rattle.image_tape.specs.Steps.{AfterCommit, AreStored, FromTo, IsCommit, IsNoteSet, IsStored, IsTaken, Looks, MayStand, Stays}
 use Rattle.image_tape.specs.Tape.{CrashesOn, Holds, IsKept, LeavesOn, Lie, Stands, View, cut_to, held_by, held_of}
 use Rattle.image_tape.proofs.Fronts.{all_bytes}
-use Rattle.image_tape.proofs.Opening.{counted, is_counted, is_whole, whole}
+use Rattle.image_tape.proofs.Opened.{counted, is_counted, is_whole, whole}
 use Rattle.image_tape.proofs.Telling.{held_is_whole, held_whole, left_counted, tells_of}
 
 -- halves with the same numbers say the same of a file

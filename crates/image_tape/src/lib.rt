@@ -3,7 +3,9 @@
 
 mod commands;
 mod doubt;
+mod errors;
 mod halves;
+mod opening;
 mod reading;
 mod settling;
 mod storing;
@@ -11,4 +13,6 @@ mod tape;
 mod writing;
 
 pub use doubt::Doubt;
+pub use errors::OpenErr;
+pub use opening::OpenFail;
 pub use tape::ImageTape;
