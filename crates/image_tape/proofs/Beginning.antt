@@ -1,5 +1,5 @@
 -- A tape that is opened is one.
-use Rattle.std.proofs.Common.{◌≡◌, ℕ, ◌+◌, ◌-◌, ◌^◌, ◌<◌, ◌≤◌, Bool, true, false, ◌&&◌, nat_lt, nat_le, List, take, length, Option, Some, None, refl, sym, ap, ◌∙◌, subst, arith}
+use Rattle.std.proofs.Common.{◌≡◌, ℕ, ◌+◌, ◌-◌, ◌^◌, ◌<◌, ◌≤◌, Bool, true, false, ◌&&◌, nat_lt, nat_le, List, take, length, Option, Some, None, Result, Ok, Err, refl, sym, ap, ◌∙◌, subst, arith}
 use Rattle.std.specs.Prelude.{if◌then◌else◌}
 use Rattle.std.specs.List.{flat_map}
 use Rattle.std.proofs.lemmas.Bool.{and_parts, leb-true, ltb-true}
@@ -8,21 +8,33 @@ use Rattle.tape_types.specs.Cartridges.{IsLimits}
 use Rattle.tape_types.specs.declared.cartridges.Cartridge.{Cartridge}
 use Rattle.tape_types.specs.declared.cartridges.Item.{Item}
 use Rattle.tape_types.specs.declared.cartridges.Limits.{Limits}
-use Rattle.byte_disk.specs.Files.{Files}
+use Rattle.byte_disk.specs.Files.{AreBytes, Files}
 use Rattle.byte_disk.specs.declared.disk.ByteDisk.{Ghosts}
 use Rattle.image_slots.specs.State as slot
 use Rattle.image_slots.specs.declared.known.Known.TheVariants.{Steady}
 use Rattle.image_format.specs.declared.values.Half.{Half}
 use Rattle.image_format.specs.declared.values.SlotValue.{SlotValue}
-use Rattle.image_format.specs.Images.{Fits, Opens, fits, fitting, header_by}
+use Rattle.image_format.specs.Images.{Fits, Opens, cartridge_of, fits, fitting, header_by, image, image_by, joined}
+use Rattle.image_format.specs.Looks.{Looks}
+use Rattle.image_format.specs.Reading.{IsRead}
+use Rattle.image_format.specs.declared.refusal.ReadErr.{ReadErr}
+use Rattle.image_format.specs.declared.refusal.ReadErr.TheVariants.{Refused}
+use Rattle.image_format.specs.declared.refusal.ReadErr.TheVariants as re
+use Rattle.image_format.specs.declared.refusal.Refusal.{Refusal}
+use Rattle.image_format.specs.declared.refusal.Refusal.TheVariants as rh
+use Rattle.image_format.proofs.RecordLemmas.{records_only}
+use Rattle.image_tape.specs.declared.errors.OpenErr.{OpenErr}
 use Rattle.image_format.specs.Offsets.{Offsets, offsets_from}
-use Rattle.image_format.specs.Records.{AreRecords, record_bytes}
+use Rattle.image_format.specs.Records.{AreRecords, items_in, record_bytes}
 use Rattle.image_format.specs.Values.{flag, value_of}
 use Rattle.image_tape.specs.declared.doubt.Doubt.TheVariants.{Settled}
-use Rattle.image_tape.specs.Opens.{IsTellable}
-use Rattle.image_tape.specs.Tape.{IsKept, Lie, Stands, View}
-use Rattle.image_tape.proofs.Fronts.{all_bytes}
-use Rattle.image_tape.proofs.Opened.{agreed_opens, counted}
+use Rattle.image_tape.specs.Opens.{AreBytesOf, AreSynced, HasFault, HasOpened, IsReason, IsRefused, IsTellable, RefusedAs, reason_of}
+use Rattle.image_tape.specs.Tape.{IsKept, LeavesOn, Lie, Stands, View}
+use Rattle.image_tape.proofs.Fronts.{all_bytes, offsets_size}
+use Rattle.image_tape.proofs.Opened.{agreed_opens, counted, is_whole, whole}
+use Rattle.image_tape.proofs.Lifting.{same_cartridge}
+use Rattle.image_tape.proofs.Telling.{held_whole, left_counted, tells_of}
+use Rattle.image_tape.proofs.Wholes.{counted_whole}
 use Rattle.image_tape.proofs.Surely.{header_of_value}
 
 fits_half : (n cap : ℕ) (t : Bool) → (if t then nat_lt n cap else nat_le n cap) ≡ true → n + flag t ≤ cap
@@ -96,3 +108,91 @@ module _ {D : Type 0} (disk : Ghosts D) (s : slot.View D) (room : Offsets) (valu
           told.said,
         );
       }
+
+-- every record of a value that was read has its offset
+pub read_counts : (limits : Limits) (d : Files) (s : SlotValue) (room : Offsets) → AreBytes d.ip × AreBytes d.dp → IsRead limits d (Ok s) room
+    → (length room.ip ≡ s.ip.count) × (length room.dp ≡ s.dp.count)
+read_counts limits d s room bytes h =
+    let found = h.3 in
+    (ap length found.at_ip ∙ offsets_size 0 h.0 ∙ (records_only s.ip d.ip h.0 bytes.0 found.in_ip).count,
+    ap length found.at_dp ∙ offsets_size 0 h.1 ∙ (records_only s.dp d.dp h.1 bytes.1 found.in_dp).count)
+
+pub uncounted : {D : Type 0} (disk : Ghosts D) (limits : Limits) (old : D) (s : SlotValue) (room : Offsets) (all : Bool) → AreBytesOf disk old
+    → ((d : Files) → disk.held old ≡ Some d → IsRead limits d (Ok s) room)
+    → (length room.ip ≡ s.ip.count → length room.dp ≡ s.dp.count → all ≡ true) → all ≡ false → (d : Files) → disk.held old ≡ Some d → ⊥
+uncounted disk limits old s room all bytes read both isnt d is =
+    let counts = read_counts limits d s room (bytes d is) (read d is) in
+    let bad : true ≡ false = sym (both counts.0 counts.1) ∙ isnt in cc bad
+
+pub tellable : {D : Type 0} (disk : Ghosts D) (limits : Limits) (a b c : slot.View D) (room : Offsets) (value : SlotValue) → AreBytesOf disk a.disk
+    → AreSynced disk b → disk.held b.disk ≡ disk.held a.disk → header_by limits (Some b.value) ≡ Some value → Looks disk ((limits.cap_ip + 2) + (limits.cap_dp + 2)) b c
+    → ((d : Files) → disk.held b.disk ≡ Some d → IsRead limits d (Ok value) room) → length room.ip ≡ value.ip.count → length room.dp ≡ value.dp.count
+    → IsTellable disk limits c room value
+tellable disk limits a b c room value bytes synced held said looks read ip dp = record {
+  said = ap (λ (l : List ℕ). header_by limits (Some l)) looks.over.value ∙ said;
+  count_ip = ip;
+  count_dp = dp;
+  synced = λ d left is now. synced d left (sym looks.held ∙ is) (looks.reads.leaves left now);
+  records = λ d is.
+      let at_b : disk.held b.disk ≡ Some d = sym looks.held ∙ is in
+      let are = bytes d (sym held ∙ at_b) in
+      let h = read d at_b in
+      let found = h.3 in
+      (h.0, h.1, records_only value.ip d.ip h.0 are.0 found.in_ip, records_only value.dp d.dp h.1 are.1 found.in_dp, found.at_ip, found.at_dp);
+}
+
+abbrev read_ok : Cartridge → Result Cartridge Refusal
+read_ok c = Ok c
+
+module _ {D : Type 0} (disk : Ghosts D) (limits : Limits) (old : D) (s : slot.View D) (room : Offsets) (value : SlotValue) (opened : ℕ) where
+  abbrev pub begun : View D
+  begun = record { slots = s; room = room; base = value; reads = value; doubt = Settled; head = None; faults = 0; opened = opened }
+
+  opened_here : IsKept disk begun → opened ≡ disk.commands s.disk → room.limits ≡ limits → disk.held s.disk ≡ disk.held old
+      → ((d : Files) → disk.held old ≡ Some d → IsRead limits d (Ok value) room) → HasOpened disk limits old begun
+  opened_here kept now same held read = record {
+    limits_are = same;
+    head = refl;
+    faults = refl;
+    opened = now;
+    untold = λ none. held ∙ none;
+    told = λ d is_old.
+        let is : disk.held s.disk ≡ Some d = held ∙ is_old in
+        let st = (tells_of disk begun kept refl d is).0 in
+        let h = read d is_old in
+        let found = h.3 in
+        let joined_is : image_by d (Some value) ≡ Ok (cartridge_of value h.0 h.1) =
+        ap (λ (r : Result (List Item) ℕ). joined value r (items_in value.dp d.dp)) found.in_ip
+        ∙ ap (λ (r : Result (List Item) ℕ). joined value (Ok h.0) r) found.in_dp in
+        let one : whole st ≡ cartridge_of value h.0 h.1 = same_cartridge (image_by d (Some value)) (cartridge_of value h.0 h.1) (whole st) joined_is (is_whole st) in
+        (whole st, h.4 ∙ ap (λ (c : Cartridge). read_ok c) (sym one), held_whole disk begun kept refl d is, λ x left.
+        left_counted disk begun kept refl d is x (subst (λ (l : Limits). LeavesOn disk l s.disk x) (sym same) left) ∙ counted_whole disk value.serial st refl);
+  }
+
+  pub has_opened : (t : View D) → t ≡ begun → IsKept disk t → opened ≡ disk.commands s.disk → room.limits ≡ limits → disk.held s.disk ≡ disk.held old
+      → ((d : Files) → disk.held old ≡ Some d → IsRead limits d (Ok value) room) → HasOpened disk limits old t
+  has_opened t is kept now same held read = subst (λ (v : View D). HasOpened disk limits old v) (sym is)
+      (opened_here (subst (λ (v : View D). IsKept disk v) is kept) now same held read)
+
+refused_by : {D : Type 0} (disk : Ghosts D) (limits : Limits) (old : D) (room : Offsets) (why : ReadErr) (before after : ℕ) (d : Files) → IsRead limits d (Err why) room
+    → RefusedAs limits d (reason_of why before after)
+refused_by disk limits old room (Refused rh.Header) before after d h = h
+refused_by disk limits old room (Refused (rh.Record part n)) before after d h = h
+refused_by disk limits old room re.Disk before after d h = tt
+
+fault_by : (why : ReadErr) (before after : ℕ) → before ≤ after → IsReason before after why → HasFault before after (reason_of why before after)
+fault_by (Refused rh.Header) before after le h = tt
+fault_by (Refused (rh.Record part n)) before after le h = tt
+fault_by re.Disk before after le h = record { lowest = omega arith; rose = h; highest = omega arith }
+
+pub is_refused : {D : Type 0} (disk : Ghosts D) (limits : Limits) (old : D) (s new : D) (room : Offsets) (why : ReadErr) (before after : ℕ) (reason : OpenErr)
+    → reason ≡ reason_of why before after → new ≡ s → before ≡ disk.faults old → after ≡ disk.faults s → disk.faults old ≤ disk.faults s → disk.held s ≡ disk.held old
+    → ((d : Files) → disk.held old ≡ Some d → IsRead limits d (Err why) room) → IsReason (disk.faults old) (disk.faults s) why
+    → IsRefused disk limits reason old new
+is_refused {D = D} disk limits old s new room why before after reason is same eb ea later held read cause =
+    subst (λ (b : D). IsRefused disk limits reason old b) (sym same)
+    (subst (λ (r : OpenErr). IsRefused disk limits r old s) (sym (is ∙ ap (λ (n : ℕ). reason_of why n after) eb ∙ ap (λ (n : ℕ). reason_of why (disk.faults old) n) ea)) (record {
+      told = λ d is_old. refused_by disk limits old room why (disk.faults old) (disk.faults s) d (read d is_old);
+      untold = λ none. held ∙ none;
+      fault = fault_by why (disk.faults old) (disk.faults s) later cause;
+    }))

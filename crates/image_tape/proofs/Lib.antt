@@ -16,3 +16,4 @@ pub mod Writings
 pub mod Ending
 pub mod Fitting
 pub mod Beginning
+pub mod First

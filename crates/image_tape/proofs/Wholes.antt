@@ -126,7 +126,7 @@ module _ {D : Type 0} (disk : Ghosts D) where
   kept_at v w is kept = subst (λ (x : View D). IsKept disk x) is kept
 
   -- what counts is all that reads, where the header says so
-  counted_whole : {limits : Limits} {base reads : SlotValue} {room : Offsets} {leaves : Files → Type 0} {d : Files} (n : ℕ) (st : Stands limits base reads room leaves d)
+  pub counted_whole : {limits : Limits} {base reads : SlotValue} {room : Offsets} {leaves : Files → Type 0} {d : Files} (n : ℕ) (st : Stands limits base reads room leaves d)
       → base ≡ with_serial n reads → counted st ≡ whole st
   counted_whole {base = base} {reads = reads} n st is =
       ap (λ (s : SlotValue). cartridge_of s (take s.ip.count st.ip) (take s.dp.count st.dp)) is

@@ -3,9 +3,17 @@ use Rattle.std.specs.Prelude.{ℕ, ◌+◌, ◌≤◌, ◌≡◌, List, length, 
 use Rattle.tape_types.specs.declared.cartridges.Cartridge.{Cartridge}
 use Rattle.tape_types.specs.declared.cartridges.Item.{Item}
 use Rattle.tape_types.specs.declared.cartridges.Limits.{Limits}
-use Rattle.byte_disk.specs.Files.{Files}
+use Rattle.byte_disk.specs.Files.{AreBytes, Files}
 use Rattle.byte_disk.specs.declared.disk.ByteDisk.{Ghosts}
+use Rattle.tape_types.specs.Counts.{IsRise, Rose}
+use Rattle.image_format.specs.declared.refusal.ReadErr.{ReadErr}
+use Rattle.image_format.specs.declared.refusal.ReadErr.TheVariants as read
+use Rattle.image_slots.specs.declared.errors.OpenErr as slots
+use Rattle.image_slots.specs.declared.errors.OpenErr.TheVariants as slot_errors
 use Rattle.image_slots.specs.State as slot
+use Rattle.image_format.specs.declared.refusal.Refusal.TheVariants as refusal
+use Rattle.image_tape.specs.declared.errors.OpenErr.{OpenErr}
+use Rattle.image_tape.specs.declared.errors.OpenErr.TheVariants.{Header, Record, Disk}
 use Rattle.image_format.specs.Images.{cartridge_of, header_by, image}
 use Rattle.image_format.specs.Offsets.{Offsets, offsets_from}
 use Rattle.image_format.specs.Records.{AreRecords}
@@ -25,3 +33,49 @@ pub record IsTellable {D : Type 0} (disk : Ghosts D) (limits : Limits) (s : slot
   pub synced : AreSynced disk s
   pub records : (d : Files) → disk.held s.disk ≡ Some d → (ip dp : List Item) × AreRecords value.ip d.ip ip × AreRecords value.dp d.dp dp
       × (room.ip ≡ offsets_from 0 ip) × (room.dp ≡ offsets_from 0 dp)
+
+-- the tape that was opened over a disk
+pub record HasOpened {D : Type 0} (disk : Ghosts D) (limits : Limits) (old : D) (t : View D) : Type 0 where
+  pub limits_are : t.room.limits ≡ limits
+  pub head : t.head ≡ None
+  pub faults : t.faults ≡ 0
+  pub opened : t.opened ≡ disk.commands t.slots.disk
+  pub untold : disk.held old ≡ None → disk.held t.slots.disk ≡ None
+  pub told : (d : Files) → disk.held old ≡ Some d → (c : Cartridge) × (image limits d ≡ Ok c) × (held_of disk t ≡ Some c)
+      × ((x : Cartridge) → LeavesOn disk limits t.slots.disk x → x ≡ c)
+
+-- why the files of a disk were refused
+abbrev pub RefusedAs : Limits → Files → OpenErr → Type 0
+RefusedAs limits d Header = image limits d ≡ Err refusal.Header
+RefusedAs limits d (Record part n) = image limits d ≡ Err (refusal.Record part n)
+RefusedAs limits d (Disk counts) = Unit {0}
+
+-- a fault of the disk is told by two values of its count, which rose meanwhile
+abbrev pub HasFault : (before now : ℕ) → OpenErr → Type 0
+HasFault before now Header = Unit {0}
+HasFault before now (Record part n) = Unit {0}
+HasFault before now (Disk counts) = IsRise before now counts.before counts.after
+
+-- why no tape was opened
+pub record IsRefused {D : Type 0} (disk : Ghosts D) (limits : Limits) (why : OpenErr) (old new : D) : Type 0 where
+  pub told : (d : Files) → disk.held old ≡ Some d → RefusedAs limits d why
+  pub untold : disk.held old ≡ None → disk.held new ≡ None
+  pub fault : HasFault (disk.faults old) (disk.faults new) why
+
+-- where the disk tells its files, they are of bytes
+abbrev pub AreBytesOf : {D : Type 0} → Ghosts D → D → Type 0
+AreBytesOf disk b = (d : Files) → disk.held b ≡ Some d → AreBytes d.ip × AreBytes d.dp
+
+-- what is told of why nothing was read
+abbrev pub IsReason : (before now : ℕ) → ReadErr → Type 0
+IsReason before now (read.Refused why) = Unit {0}
+IsReason before now read.Disk = Rose before now
+
+abbrev pub reason_of : ReadErr → (before after : ℕ) → OpenErr
+reason_of (read.Refused refusal.Header) before after = Header
+reason_of (read.Refused (refusal.Record part n)) before after = Record part n
+reason_of read.Disk before after = Disk (record { before = before; after = after })
+
+abbrev pub header_reason : slots.OpenErr → (before after : ℕ) → OpenErr
+header_reason slot_errors.Header before after = Header
+header_reason slot_errors.Disk before after = Disk (record { before = before; after = after })
