@@ -1,5 +1,5 @@
 -- An item is appended, behind a Torn that has become a record.
-use Rattle.std.proofs.Common.{◌≡◌, ℕ, ◌+◌, ◌≤◌, ◌⊎◌, inl, inr, Bool, true, false, List, [], ◌∷◌, ◌++◌, Option, Some, None, Result, Ok, Err, OnOk, refl, sym, ap, ◌∙◌, subst, arith}
+use Rattle.std.proofs.Common.{◌≡◌, ◌+◌, inl, inr, Bool, true, false, List, [], ◌∷◌, ◌++◌, Option, Some, None, Result, Ok, Err, OnOk, refl, sym, ap, ◌∙◌, subst, arith}
 use Rattle.std.proofs.lemmas.List.{append-nil}
 use Rattle.tape_types.specs.Cartridges.{items_of}
 use Rattle.tape_types.specs.declared.cartridges.Cartridge.{Cartridge}
@@ -14,10 +14,9 @@ use Rattle.byte_disk.specs.declared.disk.ByteDisk.{Ghosts}
 use Rattle.image_slots.proofs.Chains.{both_steps, join_same, more_at_most, then_at_most}
 use Rattle.image_format.specs.Images.{tail_of}
 use Rattle.image_format.specs.Values.{flag}
-use Rattle.image_tape.specs.declared.doubt.Doubt.TheVariants.{Settled}
 use Rattle.image_tape.specs.Halves.{half_of}
 use Rattle.image_tape.specs.Tape.{CrashesOn, View, held_of}
-use Rattle.image_tape.specs.Writes.{Appended, Appends, Fills, HasItems, Hides, Puts, put_items}
+use Rattle.image_tape.specs.Writes.{Appended, Appends, Fills, Hides, Puts, put_items}
 
 -- cartridges with the same in each place are one
 pub one_cartridge : (part : Part) (c e : Cartridge) → items_of part e ≡ items_of part c → e.vcr ≡ c.vcr → KeepsRest part c e → e ≡ c
@@ -66,11 +65,17 @@ module _ {D T E : Type 0} (disk : Ghosts D) (part : Part) (r : Result T E) (a n 
     count = more_at_most 2 4 (omega arith) filled.hides.count;
     settled = filled.settled;
     untold = λ none. filled.hides.held ∙ none;
-    told = λ c held. (c, filled.hides.held ∙ held, items_of part c, inl refl, record {
-      are = refl;
-      vcr = refl;
-      rest = record { other_part = refl; note_ip = refl; note_dp = refl };
-    });
+    told = λ c held. (
+      c,
+      filled.hides.held ∙ held,
+      items_of part c,
+      inl refl,
+      record {
+        are = refl;
+        vcr = refl;
+        rest = record { other_part = refl; note_ip = refl; note_dp = refl };
+      },
+    );
     crash = filled.hides.crash;
   }
 

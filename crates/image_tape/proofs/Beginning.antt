@@ -14,7 +14,7 @@ use Rattle.image_slots.specs.State as slot
 use Rattle.image_slots.specs.declared.known.Known.TheVariants.{Steady}
 use Rattle.image_format.specs.declared.values.Half.{Half}
 use Rattle.image_format.specs.declared.values.SlotValue.{SlotValue}
-use Rattle.image_format.specs.Images.{Fits, Opens, cartridge_of, fits, fitting, header_by, image, image_by, joined}
+use Rattle.image_format.specs.Images.{Fits, cartridge_of, fits, fitting, header_by, image_by, joined}
 use Rattle.image_format.specs.Looks.{Looks}
 use Rattle.image_format.specs.Reading.{IsRead}
 use Rattle.image_format.specs.declared.refusal.ReadErr.{ReadErr}
@@ -113,9 +113,10 @@ module _ {D : Type 0} (disk : Ghosts D) (s : slot.View D) (room : Offsets) (valu
 pub read_counts : (limits : Limits) (d : Files) (s : SlotValue) (room : Offsets) → AreBytes d.ip × AreBytes d.dp → IsRead limits d (Ok s) room
     → (length room.ip ≡ s.ip.count) × (length room.dp ≡ s.dp.count)
 read_counts limits d s room bytes h =
-    let found = h.3 in
-    (ap length found.at_ip ∙ offsets_size 0 h.0 ∙ (records_only s.ip d.ip h.0 bytes.0 found.in_ip).count,
-    ap length found.at_dp ∙ offsets_size 0 h.1 ∙ (records_only s.dp d.dp h.1 bytes.1 found.in_dp).count)
+    let found = h.3 in (
+      ap length found.at_ip ∙ offsets_size 0 h.0 ∙ (records_only s.ip d.ip h.0 bytes.0 found.in_ip).count,
+      ap length found.at_dp ∙ offsets_size 0 h.1 ∙ (records_only s.dp d.dp h.1 bytes.1 found.in_dp).count,
+    )
 
 pub uncounted : {D : Type 0} (disk : Ghosts D) (limits : Limits) (old : D) (s : SlotValue) (room : Offsets) (all : Bool) → AreBytesOf disk old
     → ((d : Files) → disk.held old ≡ Some d → IsRead limits d (Ok s) room)
@@ -164,9 +165,13 @@ module _ {D : Type 0} (disk : Ghosts D) (limits : Limits) (old : D) (s : slot.Vi
         let joined_is : image_by d (Some value) ≡ Ok (cartridge_of value h.0 h.1) =
         ap (λ (r : Result (List Item) ℕ). joined value r (items_in value.dp d.dp)) found.in_ip
         ∙ ap (λ (r : Result (List Item) ℕ). joined value (Ok h.0) r) found.in_dp in
-        let one : whole st ≡ cartridge_of value h.0 h.1 = same_cartridge (image_by d (Some value)) (cartridge_of value h.0 h.1) (whole st) joined_is (is_whole st) in
-        (whole st, h.4 ∙ ap (λ (c : Cartridge). read_ok c) (sym one), held_whole disk begun kept refl d is, λ x left.
-        left_counted disk begun kept refl d is x (subst (λ (l : Limits). LeavesOn disk l s.disk x) (sym same) left) ∙ counted_whole disk value.serial st refl);
+        let one : whole st ≡ cartridge_of value h.0 h.1 = same_cartridge (image_by d (Some value)) (cartridge_of value h.0 h.1) (whole st) joined_is (is_whole st) in (
+          whole st,
+          h.4 ∙ ap (λ (c : Cartridge). read_ok c) (sym one),
+          held_whole disk begun kept refl d is,
+          λ x left.
+              left_counted disk begun kept refl d is x (subst (λ (l : Limits). LeavesOn disk l s.disk x) (sym same) left) ∙ counted_whole disk value.serial st refl,
+        );
   }
 
   pub has_opened : (t : View D) → t ≡ begun → IsKept disk t → opened ≡ disk.commands s.disk → room.limits ≡ limits → disk.held s.disk ≡ disk.held old

@@ -1,6 +1,6 @@
 -- What is written behind the records that read shows in no image.
-use Rattle.std.proofs.Common.{◌≡◌, ℕ, ◌+◌, ◌-◌, ◌^◌, ◌<◌, ◌≤◌, ◌⊎◌, ⊎_elim, inl, inr, min, max, Bool, true, false, List, [], ◌∷◌, ◌++◌, take, drop, length, get_or, Option, Some, None, Result, Ok, Err, IfSome, OnOk, refl, sym, ap, ◌∙◌, subst, arith}
-use Rattle.std.proofs.lemmas.List.{append_assoc, drop-drop, length-append, length-take, length-take-le, take-append-le, take-take, take_at}
+use Rattle.std.proofs.Common.{◌≡◌, ℕ, ◌+◌, ◌≤◌, inl, List, ◌++◌, take, drop, length, Option, Some, None, Result, Ok, Err, IfSome, OnOk, refl, sym, ap, ◌∙◌, subst, arith}
+use Rattle.std.proofs.lemmas.List.{append_assoc, length-append, length-take, length-take-le, take_at}
 use Rattle.crash_steps.specs.Crashes.{NothingNew}
 use Rattle.tape_types.specs.declared.cartridges.Cartridge.{Cartridge}
 use Rattle.tape_types.specs.declared.cartridges.Item.{Item}
@@ -8,10 +8,10 @@ use Rattle.tape_types.specs.declared.cartridges.Limits.{Limits}
 use Rattle.tape_types.specs.declared.cartridges.Part.{Part}
 use Rattle.tape_types.specs.declared.cartridges.Part.TheVariants.{Ip, Dp}
 use Rattle.byte_disk.specs.Commands.{WithinWrite}
-use Rattle.byte_disk.specs.Files.{AfterWrite, Files, IsBroken, IsWritten, KeepsOthers, bytes_at, bytes_of, written}
+use Rattle.byte_disk.specs.Files.{AfterWrite, Files, KeepsOthers, bytes_of}
 use Rattle.byte_disk.specs.declared.disk.ByteDisk.{Ghosts}
 use Rattle.byte_disk.proofs.Written.{length_written}
-use Rattle.image_slots.specs.Pieces.{AtMost, CrashesIn, IsTouched}
+use Rattle.image_slots.specs.Pieces.{IsTouched}
 use Rattle.image_slots.specs.State as slot
 use Rattle.image_slots.specs.State.{file_of}
 use Rattle.image_slots.proofs.Bytes.{any_touched, touched_run, written_touched}
@@ -23,17 +23,16 @@ use Rattle.image_format.specs.Images.{Opens, header, header_by, image_by}
 use Rattle.image_format.specs.Offsets.{Offsets}
 use Rattle.image_format.specs.declared.heads.Head.{Head}
 use Rattle.image_format.specs.declared.heads.Head.TheVariants as heads
-use Rattle.image_format.specs.Records.{AreRecords, head_bytes}
+use Rattle.image_format.specs.Records.{head_bytes}
 use Rattle.image_tape.specs.declared.doubt.Doubt.{Doubt}
 use Rattle.image_tape.specs.declared.doubt.Doubt.TheVariants.{Settled}
 use Rattle.image_tape.specs.Halves.{half_of}
-use Rattle.image_tape.specs.Steps.{Looks}
 use Rattle.image_tape.specs.Tape.{Agree, AlwaysOpens, CrashesOn, IsKept, Lie, Stands, Suits, Tells, View, given, held_by, held_of, reading_by}
 use Rattle.image_tape.specs.Writes.{FollowsIn, Hides, StandBehind}
 use Rattle.image_tape.proofs.Fronts.{all_bytes, front_size, same_records}
 use Rattle.image_tape.proofs.Lifting.{goes_on, lifted, same_cartridge}
 use Rattle.image_tape.proofs.Opened.{agreed_opens, counted, is_whole, whole}
-use Rattle.image_tape.proofs.Telling.{held_whole, told_files, tells_of}
+use Rattle.image_tape.proofs.Telling.{told_files, tells_of}
 use Rattle.image_tape.proofs.Upkeep.{with_slots}
 
 -- bytes in front of a write stay
@@ -211,9 +210,10 @@ module _ {D T E : Type 0} (disk : Ghosts D) (r : Result T E) (part : Part) (at :
       let same : t.0 ≡ e = same_files (disk.held s.disk) e t.0 now t.1 in
       let after = subst (λ (f : Files). AfterWrite r (file_of part) at bytes d f) same t.2 in
       let touches = write_touches r part at bytes d e (within d held) after in
-      let ends = ends_of part (tells d held).0 in
-      (stays_touched part v.reads at (length bytes) d e touches.0 touches.1 place ends.1,
-      stays_touched part v.base at (length bytes) d e touches.0 touches.1 (omega (arith, ends.0, place)) (omega (arith, ends.0, ends.1)))
+      let ends = ends_of part (tells d held).0 in (
+        stays_touched part v.reads at (length bytes) d e touches.0 touches.1 place ends.1,
+        stays_touched part v.base at (length bytes) d e touches.0 touches.1 (omega (arith, ends.0, place)) (omega (arith, ends.0, ends.1)),
+      )
 
   pub kept_behind : IsKept disk (with_slots s v)
   kept_behind = record {
@@ -276,9 +276,12 @@ module _ {D T E : Type 0} (disk : Ghosts D) (r : Result T E) (part : Part) (at :
   pub follows_at : (r' : Result T E) → r ≡ r' → (d : Files) → disk.held w.slots.disk ≡ Some d → (e : Files) × (disk.held s.disk ≡ Some e)
       × OnOk r' (FollowsIn at bytes (bytes_of (file_of part) d) (bytes_of (file_of part) e))
   follows_at r' same d held =
-      let t = told d (told_at d held) in
-      (t.0, t.1, subst (λ (x : Result T E). OnOk x (FollowsIn at bytes (bytes_of (file_of part) d) (bytes_of (file_of part) t.0))) same
-      (write_follows r part at bytes d t.0 (within d (told_at d held)) t.2))
+      let t = told d (told_at d held) in (
+        t.0,
+        t.1,
+        subst (λ (x : Result T E). OnOk x (FollowsIn at bytes (bytes_of (file_of part) d) (bytes_of (file_of part) t.0))) same
+            (write_follows r part at bytes d t.0 (within d (told_at d held)) t.2),
+      )
 
 module _ {D : Type 0} (disk : Ghosts D) where
   pub no_hides : (v : View D) → Hides disk 0 v v

@@ -1,9 +1,9 @@
 -- The end of a command.
-use Rattle.std.proofs.Common.{◌≡◌, ℕ, ◌+◌, ◌-◌, ◌^◌, ◌≤◌, ◌⊎◌, inl, inr, min, List, Option, Some, None, Result, Ok, Err, OnOk, OnErr, IfOk, refl, sym, ap, ◌∙◌, subst, arith}
+use Rattle.std.proofs.Common.{◌≡◌, ℕ, ◌-◌, ◌^◌, ◌≤◌, inl, List, Option, Some, None, Result, Ok, Err, IfOk, refl, sym, ap, ◌∙◌, subst, arith}
 use Rattle.std.proofs.lemmas.Option.{same_Some}
-use Rattle.crash_steps.specs.Crashes.{Crashes, NothingNew}
+use Rattle.crash_steps.specs.Crashes.{Crashes}
 use Rattle.crash_steps.proofs.Joined.{alone, behind_looks}
-use Rattle.tape_types.specs.Counts.{HasCause, Rose}
+use Rattle.tape_types.specs.Counts.{Rose}
 use Rattle.byte_disk.specs.Files.{Files}
 use Rattle.tape_types.specs.Cartridges.{capacity, next}
 use Rattle.tape_types.specs.declared.cartridges.Cartridge.{Cartridge}
@@ -12,14 +12,14 @@ use Rattle.tape_types.specs.declared.cartridges.Limits.{Limits}
 use Rattle.tape_types.specs.declared.cartridges.Note.{Note}
 use Rattle.tape_types.specs.declared.cartridges.Part.{Part}
 use Rattle.tape_types.specs.declared.cartridges.Place.{Place}
-use Rattle.tape_drive.specs.Commands.{AfterNote, AfterWrite, Counted, IsBroken, IsRead, after_read, item_at}
-use Rattle.tape_drive.specs.Crashes.{IsSure, WithinFlush, WithinNote, WithinWrite}
+use Rattle.tape_drive.specs.Commands.{Counted, IsRead, after_read, item_at}
+use Rattle.tape_drive.specs.Crashes.{IsSure, WithinFlush, WithinNote}
 use Rattle.tape_drive.specs.declared.drive.DriveErr.{DriveErr}
 use Rattle.tape_drive.specs.declared.drive.Got.{Got}
 use Rattle.tape_drive.specs.declared.drive.Got.TheVariants as got
 use Rattle.byte_disk.specs.declared.disk.ByteDisk.{Ghosts}
 use Rattle.image_slots.specs.Pieces.{AtMost}
-use Rattle.image_slots.proofs.Chains.{more_at_most, then_at_most}
+use Rattle.image_slots.proofs.Chains.{then_at_most}
 use Rattle.image_tape.specs.declared.doubt.Doubt.TheVariants.{Settled}
 use Rattle.image_tape.specs.Ends.{Ends, Flushed, HasRead, IsEnded, IsFailed, IsLooked, Noted, Wrote, failed, with_head}
 use Rattle.image_tape.specs.Steps.{IsNoteSet, IsReading, IsStored, Looks, Stays}
@@ -142,8 +142,11 @@ module _ {D : Type 0} (disk : Ghosts D) where
     ends = ends_badly why 3 a b e (omega arith) looks.stays looks.count rose ended;
     head = tt;
     untold = λ none. failed_held b e ended ∙ looks.held ∙ none;
-    told = λ y held. (y, failed_held b e ended ∙ looks.held ∙ held,
-        record { items = inl (refl, inl refl); rest = record { other_part = refl; note_ip = refl; note_dp = refl } });
+    told = λ y held. (
+      y,
+      failed_held b e ended ∙ looks.held ∙ held,
+      record { items = inl (refl, inl refl); rest = record { other_part = refl; note_ip = refl; note_dp = refl } },
+    );
     at_end = λ y held most. (refl, failed_held b e ended ∙ looks.held ∙ held);
     crash = λ y held. at_disk a.room.limits a.slots.disk b e (failed_disk b e ended)
         (alone (λ image. record { items = inl (refl, inl refl); rest = record { other_part = refl; note_ip = refl; note_dp = refl } }) looks.crash);
@@ -265,7 +268,6 @@ module _ {D : Type 0} (disk : Ghosts D) where
       → IsFailed disk c e → HasRead {E = DriveErr} disk at (Err why) buf a e
   read_late at why buf a b c e looks rose more ended =
       read_badly at why buf 5 a c e (omega arith) (then_looks disk 3 2 a b c looks more) (rose_on a b c rose more.count.later) ended
-
 
   pub ended_at : (place other : Place) (b c : View D) → place ≡ other → IsEnded disk (Some place) b c → IsEnded disk (Some other) b c
   ended_at place other b c same ended = subst (λ (p : Place). IsEnded disk (Some p) b c) same ended

@@ -17,3 +17,4 @@ pub mod Ending
 pub mod Fitting
 pub mod Beginning
 pub mod First
+pub mod Always

@@ -1,14 +1,14 @@
 -- What commands of the disk leave of the cartridge.
-use Rattle.std.proofs.Common.{◌≡◌, ℕ, ◌+◌, ◌-◌, ◌^◌, ◌<◌, ◌≤◌, ◌⊎◌, ⊎_elim, inl, inr, Some, Result, Ok, Err, refl, sym, ap, ◌∙◌, subst, arith}
+use Rattle.std.proofs.Common.{◌≡◌, ℕ, ◌≤◌, ⊎_elim, inl, inr, Some, Result, Ok, refl, sym, ◌∙◌, subst}
 use Rattle.tape_types.specs.declared.cartridges.Cartridge.{Cartridge}
 use Rattle.tape_types.specs.declared.cartridges.Limits.{Limits}
-use Rattle.crash_steps.specs.Crashes.{Crashes, NothingNew}
+use Rattle.crash_steps.specs.Crashes.{NothingNew}
 use Rattle.byte_disk.specs.Files.{Files}
 use Rattle.byte_disk.specs.declared.disk.ByteDisk.{Ghosts}
 use Rattle.image_slots.specs.Pieces.{CrashesIn}
-use Rattle.image_format.specs.Images.{Opens, image}
+use Rattle.image_format.specs.Images.{Opens}
 use Rattle.image_format.specs.declared.refusal.Refusal.{Refusal}
-use Rattle.image_tape.specs.Tape.{AlwaysOpens, CrashesOn, LeavesOn, SinceOn}
+use Rattle.image_tape.specs.Tape.{AlwaysOpens, CrashesOn, LeavesOn}
 
 pub same_cartridge : (r : Result Cartridge Refusal) (c e : Cartridge) → r ≡ Ok c → r ≡ Ok e → e ≡ c
 same_cartridge r c e is also = let same : Ok c ≡ Ok e = sym is ∙ also in cc same
@@ -21,7 +21,7 @@ module _ {D : Type 0} (disk : Ghosts D) (limits : Limits) where
       → CrashesOn disk limits step a b
   lifted {disk_step = disk_step} {step = step} a b crash each =
       let from : (left : Files) (c : Cartridge) → Opens limits left c → (before : Files) × disk.leaves a before × disk_step before left
-          → (was : Cartridge) × LeavesOn disk limits a was × step was c =
+      → (was : Cartridge) × LeavesOn disk limits a was × step was c =
       λ left c opens came.
       let past = each came.0 left c came.1 came.2 opens in (past.0, (came.0, came.1, past.1), past.2) in
       record {

@@ -1,18 +1,16 @@
 -- The cartridges that the files of a disk open as.
-use Rattle.std.proofs.Common.{◌≡◌, ℕ, ◌+◌, ◌<◌, ◌≤◌, ◌⊎◌, inl, inr, Bool, true, false, ◌==◌, ◌&&◌, nat_lt, List, length, take, Option, Some, None, Result, Ok, Err, refl, sym, ap, ◌∙◌, subst, arith}
+use Rattle.std.proofs.Common.{◌≡◌, ℕ, ◌<◌, Bool, false, ◌==◌, ◌&&◌, nat_lt, List, length, take, Some, Result, Ok, ap, ◌∙◌, arith}
 use Rattle.std.specs.Prelude.{if◌then◌else◌}
 use Rattle.std.proofs.lemmas.Bool.{and_parts, ltb-true, false_from_ne_true}
-use Rattle.std.proofs.lemmas.List.{take-take}
 use Rattle.tape_types.specs.declared.cartridges.Cartridge.{Cartridge}
 use Rattle.tape_types.specs.declared.cartridges.Item.{Item}
 use Rattle.tape_types.specs.declared.cartridges.Limits.{Limits}
 use Rattle.byte_disk.specs.Files.{Files}
-use Rattle.image_format.specs.declared.refusal.Refusal.{Refusal}
 use Rattle.image_format.specs.declared.values.Half.{Half}
 use Rattle.image_format.specs.declared.values.SlotValue.{SlotValue}
-use Rattle.image_format.specs.Images.{Opens, blank, cartridge_of, header, image, image_by, is_blank, joined}
+use Rattle.image_format.specs.Images.{Opens, blank, cartridge_of, header, image_by, is_blank, joined}
 use Rattle.image_format.specs.Offsets.{Offsets}
-use Rattle.image_format.specs.Records.{AreRecords, items_in, record_bytes}
+use Rattle.image_format.specs.Records.{AreRecords, items_in}
 use Rattle.image_format.proofs.ImageLemmas.{header_only}
 use Rattle.image_format.proofs.RecordLemmas.{records_found}
 use Rattle.image_tape.specs.Tape.{Agree, Lie, Stands}

@@ -1,8 +1,8 @@
 -- A record is found where it begins, and what stands at a place.
-use Rattle.std.proofs.Common.{◌≡◌, ℕ, zero, suc, ◌+◌, ◌-◌, ◌*◌, ◌^◌, ◌<◌, ◌≤◌, ◌⊎◌, inl, inr, Bool, true, false, List, [], ◌∷◌, ◌++◌, take, drop, length, get_or, Option, Some, None, IfSome, refl, sym, ap, ◌∙◌, subst, arith}
+use Rattle.std.proofs.Common.{◌≡◌, ℕ, ◌+◌, ◌*◌, ◌^◌, ◌<◌, ◌≤◌, Bool, true, false, List, [], ◌∷◌, ◌++◌, take, drop, length, get_or, Some, None, refl, sym, ap, ◌∙◌, subst, arith}
 use Rattle.std.specs.Prelude.{slice_get}
 use Rattle.std.specs.List.{All, flat_map}
-use Rattle.std.proofs.lemmas.List.{append_assoc, drop_at, drop-drop, drop-take, drop_more, get_or_append_left, get_or_at, length-append, length-drop, length-take-le, take-append-drop, take-take, take_at}
+use Rattle.std.proofs.lemmas.List.{drop_at, drop-drop, drop-take, drop_more, get_or_append_left, get_or_at, length-append, take-take, take_at}
 use Rattle.std.proofs.lemmas.List.Elements.{All-head, All-tail, All-drop}
 use Rattle.std.proofs.lemmas.Option.{slice_get-get_or, slice_get_past}
 use Rattle.tape_types.specs.Cartridges.{IsItem, items_of}
@@ -13,24 +13,22 @@ use Rattle.tape_types.specs.declared.cartridges.Limits.{Limits}
 use Rattle.tape_types.specs.declared.cartridges.Part.{Part}
 use Rattle.tape_types.specs.declared.cartridges.Part.TheVariants.{Ip, Dp}
 use Rattle.tape_drive.specs.Commands.{IsRead}
-use Rattle.tape_drive.specs.declared.drive.Got.{Got}
 use Rattle.tape_drive.specs.declared.drive.Got.TheVariants as got
 use Rattle.byte_disk.specs.Files.{Files, bytes_at, bytes_of}
 use Rattle.image_slots.specs.State.{file_of}
-use Rattle.image_format.specs.declared.heads.Head.{Head}
 use Rattle.image_format.specs.declared.heads.Head.TheVariants as head
 use Rattle.image_format.specs.declared.values.Half.{Half}
 use Rattle.image_format.specs.declared.values.SlotValue.{SlotValue}
 use Rattle.image_format.specs.Images.{tail_of}
 use Rattle.image_format.specs.Offsets.{Offsets, offsets_from, offsets_of}
-use Rattle.image_format.specs.Records.{AreRecords, IsHead, head_bytes, head_of, record_bytes, size_of, width}
+use Rattle.image_format.specs.Records.{AreRecords, IsHead, head_bytes, head_of, record_bytes, width}
 use Rattle.image_format.specs.Values.{flag}
 use Rattle.image_format.proofs.HeadLemmas.{head_for, head_found}
 use Rattle.image_format.proofs.Pieces.{inside}
 use Rattle.image_tape.specs.Halves.{half_of}
 use Rattle.image_tape.specs.Steps.{HasRecord}
-use Rattle.image_tape.specs.Tape.{Lie, Stands}
-use Rattle.image_tape.proofs.Fronts.{all_bytes, front_bytes, offset_is, offsets_size}
+use Rattle.image_tape.specs.Tape.{Stands}
+use Rattle.image_tape.proofs.Fronts.{all_bytes, front_bytes, offset_is}
 use Rattle.image_tape.proofs.Opened.{whole}
 
 item_size : (x : Item) → IsItem x → width x ≤ 1048581
@@ -57,9 +55,13 @@ has_record h file items n are most lt =
     let split : take h.end file ≡ before ++ (record_bytes x ++ flat_map record_bytes (drop (n + 1) items)) =
     are.bytes ∙ front_bytes n items ∙ ap (λ (l : List Item). before ++ flat_map record_bytes l) rest in
     let size : length before + width x ≤ h.end =
-    omega (arith, all_bytes h file items are, ap length (front_bytes n items ∙ ap (λ (l : List Item). before ++ flat_map record_bytes l) rest),
-    length-append before (record_bytes x ++ flat_map record_bytes (drop (n + 1) items)),
-    length-append (record_bytes x) (flat_map record_bytes (drop (n + 1) items))) in
+    omega (
+      arith,
+      all_bytes h file items are,
+      ap length (front_bytes n items ∙ ap (λ (l : List Item). before ++ flat_map record_bytes l) rest),
+      length-append before (record_bytes x ++ flat_map record_bytes (drop (n + 1) items)),
+      length-append (record_bytes x) (flat_map record_bytes (drop (n + 1) items)),
+    ) in
     record {
       sound = All-head IsItem x (drop (n + 1) items) (subst (λ (l : List Item). All IsItem l) rest (All-drop IsItem n items are.each));
       within = omega (arith, size, are.end);
@@ -106,12 +108,14 @@ pub block_read : (from size place : ℕ) (x : Item) (file bytes : List ℕ) → 
     → bytes ≡ bytes_at place size file → IsRead (Some x) got.Block bytes
 block_read from size place (item.Block block) file bytes has is at read =
     let long : length block ≡ size = cc is in
-    let whole_width : width (item.Block block) ≡ 5 + size = omega (arith, long) in
-    (refl, read ∙ ap (λ (k : ℕ). take size (drop k file)) at
-    ∙ ap (λ (l : List ℕ). take size l) (sym (drop-drop 5 from file))
-    ∙ sym (drop-take 5 size (drop from file))
-    ∙ ap (λ (k : ℕ). drop 5 (take k (drop from file))) (sym whole_width)
-    ∙ ap (λ (l : List ℕ). drop 5 l) has.bytes)
+    let whole_width : width (item.Block block) ≡ 5 + size = omega (arith, long) in (
+      refl,
+      read ∙ ap (λ (k : ℕ). take size (drop k file)) at
+          ∙ ap (λ (l : List ℕ). take size l) (sym (drop-drop 5 from file))
+          ∙ sym (drop-take 5 size (drop from file))
+          ∙ ap (λ (k : ℕ). drop 5 (take k (drop from file))) (sym whole_width)
+          ∙ ap (λ (l : List ℕ). drop 5 l) has.bytes,
+    )
 block_read from size place item.Mark file bytes has is at read = absurd (cc is)
 block_read from size place item.Torn file bytes has is at read = absurd (cc is)
 

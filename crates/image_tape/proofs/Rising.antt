@@ -1,11 +1,10 @@
 -- The reference goes up, and a partition is cut with it.
-use Rattle.std.proofs.Common.{◌≡◌, ℕ, ◌+◌, ◌-◌, ◌^◌, ◌<◌, ◌≤◌, ◌⊎◌, ⊎_elim, inl, inr, Bool, true, false, List, [], ◌++◌, take, length, get_or, Option, Some, None, Result, Ok, Err, OnOk, refl, sym, ap, ◌∙◌, subst, arith}
+use Rattle.std.proofs.Common.{◌≡◌, ℕ, ◌+◌, ◌^◌, ◌<◌, ◌≤◌, ⊎_elim, inl, inr, Bool, false, List, ◌++◌, take, length, get_or, Option, Some, None, Result, Ok, Err, OnOk, refl, sym, ap, ◌∙◌, subst, arith}
 use Rattle.std.specs.List.{flat_map}
 use Rattle.std.proofs.lemmas.List.{append-nil, take-append-le, take-take, length-take-le}
 use Rattle.tape_types.specs.Cartridges.{items_of}
 use Rattle.tape_types.specs.declared.cartridges.Cartridge.{Cartridge}
 use Rattle.tape_types.specs.declared.cartridges.Item.{Item}
-use Rattle.tape_types.specs.declared.cartridges.Limits.{Limits}
 use Rattle.tape_types.specs.declared.cartridges.Part.{Part}
 use Rattle.tape_types.specs.declared.cartridges.Part.TheVariants.{Ip, Dp}
 use Rattle.tape_types.specs.declared.cartridges.Place.{Place}
@@ -16,15 +15,15 @@ use Rattle.byte_disk.specs.declared.disk.ByteDisk.{Ghosts}
 use Rattle.image_slots.proofs.Chains.{no_step, other_step, told_before}
 use Rattle.image_format.specs.declared.values.Half.{Half}
 use Rattle.image_format.specs.declared.values.SlotValue.{SlotValue}
-use Rattle.image_format.specs.Images.{cartridge_of, image_by, tail_of}
-use Rattle.image_format.specs.Offsets.{Offsets, offsets_from, offsets_of}
+use Rattle.image_format.specs.Images.{cartridge_of, tail_of}
+use Rattle.image_format.specs.Offsets.{offsets_of}
 use Rattle.image_format.specs.Records.{record_bytes}
 use Rattle.image_tape.specs.declared.doubt.Doubt.TheVariants.{Settled}
-use Rattle.image_tape.specs.Halves.{ended, half_of, with_half, with_serial, with_vcr}
-use Rattle.image_tape.specs.Steps.{AfterCommit, FromTo, IsCommit, IsTaken, MayStand}
-use Rattle.image_tape.specs.Tape.{CrashesOn, Holds, IsKept, Lie, Stands, View, cut_to, held_of}
+use Rattle.image_tape.specs.Halves.{ended, half_of, with_serial, with_vcr}
+use Rattle.image_tape.specs.Steps.{AfterCommit, IsCommit, IsTaken, MayStand}
+use Rattle.image_tape.specs.Tape.{Holds, IsKept, Lie, Stands, View, cut_to, held_of}
 use Rattle.image_tape.specs.Writes.{AfterRise, HasRisen, IsCounted, IsUncounted, Rises, cut_value}
-use Rattle.image_tape.proofs.Fronts.{all_bytes, fewer_offsets, fewer_records, front_size, offset_is}
+use Rattle.image_tape.proofs.Fronts.{fewer_offsets, fewer_records, front_size, offset_is}
 use Rattle.image_tape.proofs.Opened.{counted, is_counted, is_whole, whole}
 use Rattle.image_tape.proofs.Telling.{held_is_whole, tells_of}
 use Rattle.image_tape.proofs.Wholes.{all_hold, back, lie_like, none_held, settled_taken, untold_held}
@@ -50,8 +49,13 @@ cut_end said reads pos end offsets file items less lt is lie =
     let within : pos < length items = omega (arith, lt, lie.records.count) in
     let place : end ≡ length (flat_map record_bytes (take pos items)) =
     is ∙ ap (λ (l : List ℕ). get_or l pos 0) lie.offsets_are ∙ offset_is 0 pos items 0 within ∙ omega arith in
-    omega (arith, place, lie.end, ap (λ (l : List Item). length (flat_map record_bytes l)) (take-take pos said.count items (omega (arith, less))),
-    front_size pos (take said.count items))
+    omega (
+      arith,
+      place,
+      lie.end,
+      ap (λ (l : List Item). length (flat_map record_bytes l)) (take-take pos said.count items (omega (arith, less))),
+      front_size pos (take said.count items),
+    )
 
 shorter_front : (n m : ℕ) (a b : List ℕ) → n ≤ m → take m a ≡ take m b → take n a ≡ take n b
 shorter_front n m a b le same = sym (take-take n m a le) ∙ ap (λ (l : List ℕ). take n l) same ∙ take-take n m b le
@@ -300,6 +304,7 @@ module _ {D T E : Type 0} (disk : Ghosts D) (r : Result T E) (at : Place) (base 
       half_with : (part : Part) (k : ℕ) (s : SlotValue) → half_of part (with_vcr k s) ≡ half_of part s
       half_with Ip k s = refl
       half_with Dp k s = refl
+
       fewer_of : (part : Part) (d : Files) → disk.held v.slots.disk ≡ Some d → (half_of part v.reads).count ≤ at.pos → (half_of part v.base).count ≤ at.pos
       fewer_of Ip d told two = omega (arith, two, (tells_of disk v kept settled_v d told).0.in_ip.fewer)
       fewer_of Dp d told two = omega (arith, two, (tells_of disk v kept settled_v d told).0.in_dp.fewer)

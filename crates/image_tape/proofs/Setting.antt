@@ -1,5 +1,5 @@
 -- A value is set, or was to be set.
-use Rattle.std.proofs.Common.{◌≡◌, ℕ, ◌+◌, ◌-◌, ◌^◌, ◌<◌, ◌≤◌, ◌⊎◌, ⊎_elim, inl, inr, Bool, true, false, List, ◌++◌, take, drop, length, Option, Some, None, Result, Ok, Err, refl, sym, ap, ◌∙◌, subst, arith}
+use Rattle.std.proofs.Common.{◌≡◌, ℕ, ◌+◌, ◌⊎◌, ⊎_elim, inl, inr, Bool, true, false, List, ◌++◌, take, drop, Option, Some, None, Result, Ok, Err, refl, sym, ap, ◌∙◌, subst, arith}
 use Rattle.std.specs.Prelude.{◌&&◌, if◌then◌else◌, slice_range}
 use Rattle.image_format.specs.declared.values.Half.{Half}
 use Rattle.std.specs.Int.{w64, to_be_bytes}
@@ -8,27 +8,27 @@ use Rattle.tape_types.specs.declared.cartridges.Limits.{Limits}
 use Rattle.tape_drive.specs.declared.drive.DriveErr.{DriveErr}
 use Rattle.byte_disk.specs.Files.{Files}
 use Rattle.byte_disk.specs.declared.disk.ByteDisk.{Ghosts}
-use Rattle.image_slots.specs.Pieces.{AtMost, CrashesIn, HasOne, WithinSet}
+use Rattle.image_slots.specs.Pieces.{HasOne, WithinSet}
 use Rattle.image_slots.specs.Slots.{HasValue, serial_of}
 use Rattle.image_slots.specs.State as slot
 use Rattle.image_slots.specs.declared.errors.SetErr.{SetErr}
-use Rattle.image_slots.specs.declared.errors.SetErr.TheVariants.{Disk, Serial}
+use Rattle.image_slots.specs.declared.errors.SetErr.TheVariants.{Serial}
 use Rattle.image_slots.specs.declared.known.Known.TheVariants.{Steady}
-use Rattle.image_slots.proofs.Chains.{more_at_most, no_step, same_files, told_before}
+use Rattle.image_slots.proofs.Chains.{no_step, same_files, told_before}
 use Rattle.image_slots.proofs.Choosing.{value_chosen}
 use Rattle.image_format.specs.declared.refusal.Refusal.{Refusal}
 use Rattle.image_format.specs.declared.values.SlotValue.{SlotValue}
 use Rattle.image_format.specs.Images.{Opens, fits, fitting, header, header_by, image_by, joined}
 use Rattle.image_format.specs.Offsets.{Offsets}
 use Rattle.image_format.specs.Records.{items_in}
-use Rattle.image_format.specs.Values.{IsSized, IsValue, half_of, number_at, value_by, value_bytes}
-use Rattle.image_format.proofs.ImageLemmas.{header_found, header_only}
+use Rattle.image_format.specs.Values.{IsSized, half_of, number_at, value_by, value_bytes}
+use Rattle.image_format.proofs.ImageLemmas.{header_found}
 use Rattle.image_format.proofs.ValueLemmas.{value_reads}
 use Rattle.image_tape.specs.declared.doubt.Doubt.{Doubt}
 use Rattle.image_tape.specs.declared.doubt.Doubt.TheVariants.{Settled, Open}
 use Rattle.image_tape.specs.Halves.{with_serial}
-use Rattle.image_tape.specs.Steps.{AfterCommit, FromTo, IsCommit, IsTaken, MayStand, Stays}
-use Rattle.image_tape.specs.Tape.{Agree, AlwaysOpens, CrashesOn, Holds, IsKept, SaysOne, Stands, Suits, Tells, View, cut_to, given, held_by, held_of, reading_by, says}
+use Rattle.image_tape.specs.Steps.{FromTo, IsCommit, IsTaken, MayStand}
+use Rattle.image_tape.specs.Tape.{Agree, AlwaysOpens, CrashesOn, Holds, IsKept, SaysOne, Stands, Tells, View, cut_to, given, held_by, reading_by, says}
 use Rattle.image_tape.proofs.Lifting.{goes_on, lifted, same_cartridge}
 use Rattle.image_tape.proofs.Opened.{agreed_opens, counted, is_counted}
 use Rattle.image_tape.proofs.Surely.{header_of_value}
@@ -130,16 +130,24 @@ module _ {D : Type 0} (disk : Ghosts D) (v : View D) (s : slot.View D) (value re
   told_set e is =
       let was = told_before (disk.held v.slots.disk) (disk.held s.disk) done.untold e is in
       let t = done.told was.0 was.1 in
-      let same : e ≡ t.0 = same_files (disk.held s.disk) t.0 e t.1 is in
-      (was.0, was.1, ap (λ (f : Files). f.ip) same ∙ t.2, ap (λ (f : Files). f.dp) same ∙ t.3,
-      subst (λ (f : Files). HasOne v.slots.value (slot.next_value v.slots.value rest) f) (sym same) t.4)
+      let same : e ≡ t.0 = same_files (disk.held s.disk) t.0 e t.1 is in (
+        was.0,
+        was.1,
+        ap (λ (f : Files). f.ip) same ∙ t.2,
+        ap (λ (f : Files). f.dp) same ∙ t.3,
+        subst (λ (f : Files). HasOne v.slots.value (slot.next_value v.slots.value rest) f) (sym same) t.4,
+      )
 
   always_set : AlwaysOpens disk v.room.limits v.opened s.disk
   always_set = goes_on disk v.room.limits v.opened v.slots.disk s.disk kept.reached kept.always
       (λ e is.
-      let was = told_set e is in
-      (was.0, was.1, done.crash was.0 was.1, λ before left left_before within.
-      let one = one_opens was.0 was.1 before left left_before within in (one.0, one.1)))
+      let was = told_set e is in (
+        was.0,
+        was.1,
+        done.crash was.0 was.1,
+        λ before left left_before within.
+            let one = one_opens was.0 was.1 before left left_before within in (one.0, one.1),
+      ))
 
   left_from : (d : Files) → disk.held v.slots.disk ≡ Some d → (left : Files) → disk.leaves s.disk left
       → (before : Files) × disk.leaves v.slots.disk before × (left.ip ≡ before.ip) × (left.dp ≡ before.dp)
@@ -179,8 +187,7 @@ module _ {D : Type 0} (disk : Ghosts D) (v : View D) (s : slot.View D) (value re
             let value_is : s.value ≡ value_bytes value = new_value ∙ is_next was.0 was.1 in
             let st1 = stands was.0 was.1 in
             let head : header v.room.limits e.cm ≡ Some value =
-            written_says v.room.limits e.cm value st1 sized (subst (λ (l : List ℕ). HasValue e.cm l) value_is known.0) in
-            (
+            written_says v.room.limits e.cm value st1 sized (subst (λ (l : List ℕ). HasValue e.cm l) value_is known.0) in (
               stands_over (disk.leaves v.slots.disk) (disk.leaves s.disk) was.0 e st1 was.2 was.3 (left_from was.0 was.1),
               head,
               λ left now. written_says v.room.limits left.cm value st1 sized (subst (λ (l : List ℕ). HasValue left.cm l) value_is (known.1 left now)),
@@ -209,8 +216,7 @@ module _ {D : Type 0} (disk : Ghosts D) (v : View D) (s : slot.View D) (value re
     reached = omega (arith, kept.reached, done.count.later);
     always = always_set;
     tells = λ e is.
-        let was = told_set e is in
-        (
+        let was = told_set e is in (
           stands_over (disk.leaves v.slots.disk) (disk.leaves s.disk) was.0 e (st0 was.0 was.1) was.2 was.3 (left_from was.0 was.1),
           stands_over (disk.leaves v.slots.disk) (disk.leaves s.disk) was.0 e (stands was.0 was.1) was.2 was.3 (left_from was.0 was.1),
           says_one was.0 e was.1 was.4,
@@ -228,11 +234,17 @@ module _ {D : Type 0} (disk : Ghosts D) (v : View D) (s : slot.View D) (value re
       lifted disk v.room.limits v.slots.disk s.disk (done.crash d is)
       (λ before left c left_before within opens.
       let one = one_opens d is before left left_before within in
-      let same : c ≡ one.0 = same_cartridge _ one.0 c one.1 opens in
-      (counted (st0 d is), before_opens d is before left_before, (is_from, ⊎_elim
-      (λ (old : one.0 ≡ counted (st0 d is)). inl (same ∙ old ∙ is_from))
-      (λ (new : one.0 ≡ counted (stands d is)). inr (same ∙ new ∙ is_to))
-      one.2)))
+      let same : c ≡ one.0 = same_cartridge _ one.0 c one.1 opens in (
+        counted (st0 d is),
+        before_opens d is before left_before,
+        (
+          is_from,
+          ⊎_elim
+              (λ (old : one.0 ≡ counted (st0 d is)). inl (same ∙ old ∙ is_from))
+              (λ (new : one.0 ≡ counted (stands d is)). inr (same ∙ new ∙ is_to))
+              one.2,
+        ),
+      ))
 
   pub is_set : (room : Offsets) (doubt : Doubt) → doubt ≡ Settled → room.limits ≡ v.room.limits → IsCommit {T = Unit {0}} {E = DriveErr} disk value reads (Ok tt) v (set_view room doubt)
   is_set room doubt sure same = record {

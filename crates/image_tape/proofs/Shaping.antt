@@ -1,7 +1,7 @@
 -- What reads becomes shorter or longer, and nothing on the disk changes.
-use Rattle.std.proofs.Common.{◌≡◌, ℕ, ◌+◌, ◌-◌, ◌*◌, ◌^◌, ◌<◌, ◌≤◌, ◌⊎◌, ⊎_elim, inl, inr, min, Bool, true, false, List, [], ◌∷◌, ◌++◌, take, length, get_or, Option, Some, None, Result, Ok, Err, OnOk, refl, sym, ap, ◌∙◌, subst, arith}
-use Rattle.std.specs.List.{All, flat_map}
-use Rattle.std.proofs.lemmas.List.{append-nil, append_assoc, length-append, length-take-le, take-append-le, take-take, take_all, take_at}
+use Rattle.std.proofs.Common.{◌≡◌, ℕ, ◌+◌, ◌-◌, ◌*◌, ◌^◌, ◌<◌, ◌≤◌, ◌⊎◌, inl, inr, min, Bool, true, false, List, [], ◌∷◌, ◌++◌, take, length, get_or, Option, Some, Result, Ok, Err, OnOk, refl, sym, ap, ◌∙◌, subst, arith}
+use Rattle.std.specs.List.{flat_map}
+use Rattle.std.proofs.lemmas.List.{append-nil, length-append, length-take-le, take-append-le, take-take, take_all, take_at}
 use Rattle.tape_types.specs.Cartridges.{IsItem, IsLimits, capacity, items_of}
 use Rattle.tape_types.specs.declared.cartridges.Cartridge.{Cartridge}
 use Rattle.tape_types.specs.declared.cartridges.Item.{Item}
@@ -10,24 +10,20 @@ use Rattle.tape_types.specs.declared.cartridges.Limits.{Limits}
 use Rattle.tape_types.specs.declared.cartridges.Part.{Part}
 use Rattle.tape_types.specs.declared.cartridges.Part.TheVariants.{Ip, Dp}
 use Rattle.tape_types.specs.declared.cartridges.Place.{Place}
-use Rattle.tape_drive.specs.Commands.{KeepsRest}
 use Rattle.tape_drive.specs.declared.drive.DriveErr.{DriveErr}
 use Rattle.byte_disk.specs.Files.{Files, bytes_of}
 use Rattle.byte_disk.specs.declared.disk.ByteDisk.{Ghosts}
 use Rattle.image_slots.specs.State.{file_of}
-use Rattle.image_slots.specs.declared.known.Known.TheVariants.{Steady}
-use Rattle.image_format.specs.declared.refusal.Refusal.{Refusal}
 use Rattle.image_format.specs.declared.values.Half.{Half}
 use Rattle.image_format.specs.declared.values.SlotValue.{SlotValue}
-use Rattle.image_format.specs.Images.{cartridge_of, header, header_by, image_by, tail_of}
+use Rattle.image_format.specs.Images.{header, header_by, image_by, tail_of}
 use Rattle.image_format.specs.Offsets.{Offsets, offsets_from, offsets_of, with_offsets}
 use Rattle.image_format.specs.declared.heads.Head.{Head}
 use Rattle.image_format.specs.Records.{AreRecords, head_bytes, record_bytes, width}
-use Rattle.image_format.specs.Values.{flag}
 use Rattle.image_tape.specs.declared.doubt.Doubt.{Doubt}
 use Rattle.image_tape.specs.declared.doubt.Doubt.TheVariants.{Settled}
 use Rattle.image_tape.specs.Halves.{ended, half_of, with_half}
-use Rattle.image_tape.specs.Steps.{IsAlike, Stays}
+use Rattle.image_tape.specs.Steps.{IsAlike}
 use Rattle.image_tape.specs.Tape.{AlwaysOpens, Holds, IsKept, Lie, Stands, Suits, Tells, View, given, held_by, held_of, reading_by}
 use Rattle.image_tape.specs.Writes.{Cuts, HasItems, Hides, IsPlace, Puts, StandBehind, cut_value, put_items}
 use Rattle.image_tape.proofs.Fronts.{all_bytes, fewer_offsets, fewer_records, offset_is, offsets_more, one_more_record}
@@ -361,13 +357,16 @@ module _ {D : Type 0} (disk : Ghosts D) where
           untold = λ none. untold_held disk (shaped reads' room' v) (none_held disk v kept settled none);
           told = λ c held.
               let t = held_is_whole disk v kept settled c held in
-              let e = whole (may t.0 t.1) in
-              (e, held_shaped v reads' room' settled t.0 t.1 may,
-              subst (λ (y : Cartridge). HasItems at.part (take at.pos (items_of at.part y)) y e) (sym t.2)
-              (short_items at.part at.pos end least place.most place.is t.0 t.1));
-        } in
-        (subst (λ (o : Offsets). IsKept disk (shaped reads o v)) (sym er) (subst (λ (x : SlotValue). IsKept disk (shaped x room' v)) (sym es) kept'),
-        subst (λ (o : Offsets). Cuts disk at v (shaped reads o v)) (sym er) (subst (λ (x : SlotValue). Cuts disk at v (shaped x room' v)) (sym es) done))
+              let e = whole (may t.0 t.1) in (
+                e,
+                held_shaped v reads' room' settled t.0 t.1 may,
+                subst (λ (y : Cartridge). HasItems at.part (take at.pos (items_of at.part y)) y e) (sym t.2)
+                    (short_items at.part at.pos end least place.most place.is t.0 t.1),
+              );
+        } in (
+          subst (λ (o : Offsets). IsKept disk (shaped reads o v)) (sym er) (subst (λ (x : SlotValue). IsKept disk (shaped x room' v)) (sym es) kept'),
+          subst (λ (o : Offsets). Cuts disk at v (shaped reads o v)) (sym er) (subst (λ (x : SlotValue). Cuts disk at v (shaped x room' v)) (sym es) done),
+        )
 
     -- nothing to cut
     pub cuts_not : (at : Place) → (half_of at.part v.reads).count < at.pos → Cuts disk at v v
@@ -379,14 +378,23 @@ module _ {D : Type 0} (disk : Ghosts D) where
       untold = λ none. none;
       told = λ c held.
           let t = held_is_whole disk v kept settled c held in
-          let st = st0 t.0 t.1 in
-          (c, held, record {
-            are = sym (take_all at.pos (items_of at.part c)
-                (omega (arith, ap length (ap (λ (y : Cartridge). items_of at.part y) t.2 ∙ items_are at.part st),
-                length-append (records_of at.part st) (tail_of (half_of at.part v.reads).torn), records_count at.part st, tail_size (half_of at.part v.reads).torn, past)));
-            vcr = refl;
-            rest = record { other_part = refl; note_ip = refl; note_dp = refl };
-          });
+          let st = st0 t.0 t.1 in (
+            c,
+            held,
+            record {
+              are = sym (take_all at.pos (items_of at.part c)
+                  (omega (
+                    arith,
+                    ap length (ap (λ (y : Cartridge). items_of at.part y) t.2 ∙ items_are at.part st),
+                    length-append (records_of at.part st) (tail_of (half_of at.part v.reads).torn),
+                    records_count at.part st,
+                    tail_size (half_of at.part v.reads).torn,
+                    past,
+                  )));
+              vcr = refl;
+              rest = record { other_part = refl; note_ip = refl; note_dp = refl };
+            },
+          );
     }
 
 half_set : (part : Part) (h : Half) (s : SlotValue) → half_of part (with_half part h s) ≡ h
@@ -420,10 +428,13 @@ module _ {D : Type 0} (disk : Ghosts D) (part : Part) (a v w : View D) (is : v �
     told = λ c held.
         let t = held_is_whole disk v kept settled c (hides.held ∙ held) in
         let st = st0 disk v kept settled t.0 t.1 in
-        let e = whole (may t.0 t.1) in
-        (records_of part st, e, ap (λ (y : Cartridge). items_of part y) t.2 ∙ items_are part st ∙ ap (λ (h : Half). records_of part st ++ tail_of h.torn) halves,
-        held_shaped disk v reads' room' settled t.0 t.1 may,
-        subst (λ (y : Cartridge). HasItems part (put_items r x (records_of part st)) y e) (sym t.2) (has t.0 t.1));
+        let e = whole (may t.0 t.1) in (
+          records_of part st,
+          e,
+          ap (λ (y : Cartridge). items_of part y) t.2 ∙ items_are part st ∙ ap (λ (h : Half). records_of part st ++ tail_of h.torn) halves,
+          held_shaped disk v reads' room' settled t.0 t.1 may,
+          subst (λ (y : Cartridge). HasItems part (put_items r x (records_of part st)) y e) (sym t.2) (has t.0 t.1),
+        );
     crash = hides.crash;
     whole = torn;
     one_more = more;
@@ -461,10 +472,11 @@ module _ {D : Type 0} (disk : Ghosts D) (part : Part) (a v w : View D) (is : v �
       let kept' = kept_shaped disk v reads' room' kept settled (more_holds disk v kept settled part count end more space_v) same may in
       let set = half_set part (ended count end false (half_of part v.reads)) v.reads in
       let done = puts_by {T = Unit {0}} (Ok tt) reads' room' may same (more_items disk v kept settled part count end x sound more ends stand)
-          (ap (λ (h : Half). h.torn) set) (ap (λ (h : Half). h.count) set ∙ more ∙ ap (λ (h : Half). h.count + 1) halves) in
-      (subst (λ (o : Offsets). IsKept disk (shaped disk reads o v)) (sym er) (subst (λ (s : SlotValue). IsKept disk (shaped disk s room' v)) (sym es) kept'),
-      subst (λ (o : Offsets). Puts {T = Unit {0}} {E = DriveErr} disk part x (Ok tt) a (shaped disk reads o v)) (sym er)
-      (subst (λ (s : SlotValue). Puts {T = Unit {0}} {E = DriveErr} disk part x (Ok tt) a (shaped disk s room' v)) (sym es) done))
+      (ap (λ (h : Half). h.torn) set) (ap (λ (h : Half). h.count) set ∙ more ∙ ap (λ (h : Half). h.count + 1) halves) in (
+        subst (λ (o : Offsets). IsKept disk (shaped disk reads o v)) (sym er) (subst (λ (s : SlotValue). IsKept disk (shaped disk s room' v)) (sym es) kept'),
+        subst (λ (o : Offsets). Puts {T = Unit {0}} {E = DriveErr} disk part x (Ok tt) a (shaped disk reads o v)) (sym er)
+            (subst (λ (s : SlotValue). Puts {T = Unit {0}} {E = DriveErr} disk part x (Ok tt) a (shaped disk s room' v)) (sym es) done),
+      )
 
   -- with a Torn
   pub puts_torn : (why : DriveErr) → (half_of part a.reads).count < capacity part a.room.limits → count ≡ (half_of part v.reads).count → end ≡ (half_of part v.reads).end
@@ -476,9 +488,10 @@ module _ {D : Type 0} (disk : Ghosts D) (part : Part) (a v w : View D) (is : v �
       let space_v : (half_of part v.reads).count < capacity part v.room.limits =
       omega (arith, space, ap (λ (h : Half). h.count) halves, ap (λ (l : Limits). capacity part l) hides.stays.limits) in
       let kept' = kept_shaped disk v reads' v.room kept settled (torn_holds disk v kept settled part count end same space_v) refl may in
-      let done = puts_by {T = Unit {0}} (Err why) reads' v.room may refl (torn_items disk v kept settled part count end same ends) tt tt in
-      (subst (λ (s : SlotValue). IsKept disk (shaped disk s v.room v)) (sym es) kept',
-      subst (λ (s : SlotValue). Puts {T = Unit {0}} {E = DriveErr} disk part x (Err why) a (shaped disk s v.room v)) (sym es) done)
+      let done = puts_by {T = Unit {0}} (Err why) reads' v.room may refl (torn_items disk v kept settled part count end same ends) tt tt in (
+        subst (λ (s : SlotValue). IsKept disk (shaped disk s v.room v)) (sym es) kept',
+        subst (λ (s : SlotValue). Puts {T = Unit {0}} {E = DriveErr} disk part x (Err why) a (shaped disk s v.room v)) (sym es) done,
+      )
 
 -- a cut of a tape is one of its equal
 pub renamed_cut : {D : Type 0} (disk : Ghosts D) (at : Place) (v w n : View D) → v ≡ w → Cuts disk at v n → Cuts disk at w n

@@ -1,15 +1,15 @@
 -- What is read of a record, and at a place.
-use Rattle.std.proofs.Common.{◌≡◌, ℕ, ◌+◌, ◌-◌, ◌^◌, ◌<◌, ◌≤◌, min, Bool, List, [], ◌++◌, length, get_or, Option, Some, None, Result, Ok, Err, IfOk, IfSome, OnOk, refl, sym, ap, ◌∙◌, subst, arith}
+use Rattle.std.proofs.Common.{◌≡◌, ℕ, ◌+◌, ◌-◌, ◌^◌, ◌<◌, ◌≤◌, min, Bool, List, [], ◌++◌, length, get_or, Option, Some, None, Result, Ok, Err, IfOk, IfSome, sym, ap, ◌∙◌, subst, arith}
 use Rattle.std.specs.Prelude.{slice_get}
 use Rattle.std.proofs.lemmas.Option.{same_Some}
-use Rattle.tape_types.specs.Cartridges.{capacity, items_of}
+use Rattle.tape_types.specs.Cartridges.{capacity}
 use Rattle.tape_types.specs.declared.cartridges.Cartridge.{Cartridge}
 use Rattle.tape_types.specs.declared.cartridges.Item.{Item}
 use Rattle.tape_types.specs.declared.cartridges.Item.TheVariants as item
 use Rattle.tape_types.specs.declared.cartridges.Part.{Part}
 use Rattle.tape_types.specs.declared.cartridges.Part.TheVariants.{Ip, Dp}
 use Rattle.tape_types.specs.declared.cartridges.Place.{Place}
-use Rattle.tape_drive.specs.Commands.{FillsBuffer, IsRead, item_at}
+use Rattle.tape_drive.specs.Commands.{FillsBuffer, IsRead}
 use Rattle.tape_drive.specs.declared.drive.DriveErr.{DriveErr}
 use Rattle.tape_drive.specs.declared.drive.Got.{Got}
 use Rattle.tape_drive.specs.declared.drive.Got.TheVariants as got
@@ -20,9 +20,9 @@ use Rattle.image_slots.proofs.Chains.{where_told, held_has}
 use Rattle.image_format.specs.declared.heads.Head.{Head}
 use Rattle.image_format.specs.declared.heads.Head.TheVariants as head
 use Rattle.image_format.specs.declared.values.Half.{Half}
-use Rattle.image_format.specs.Images.{Fits, tail_of}
-use Rattle.image_format.specs.Offsets.{offsets_from, offsets_of}
-use Rattle.image_format.specs.Records.{AreRecords, head_of, width}
+use Rattle.image_format.specs.Images.{tail_of}
+use Rattle.image_format.specs.Offsets.{offsets_of}
+use Rattle.image_format.specs.Records.{head_of, width}
 use Rattle.image_format.specs.Values.{flag}
 use Rattle.image_format.proofs.HeadLemmas.{head_for}
 use Rattle.image_tape.specs.declared.doubt.Doubt.{Doubt}
@@ -109,9 +109,11 @@ module _ {D : Type 0} (disk : Ghosts D) (v : View D) (kept : IsKept disk v) wher
       → IfSome (disk.held v.slots.disk) (λ d. (x : Item) × HasRecord from x (bytes_of (file_of part) d))
   record_stands part pos from lt at = where_told (disk.held v.slots.disk) (λ d. (x : Item) × HasRecord from x (bytes_of (file_of part) d))
       (λ d is.
-      let p = part_of part d is in
-      (get_or p.items pos item.Torn, subst (λ (k : ℕ). HasRecord k (get_or p.items pos item.Torn) (bytes_of (file_of part) d)) (sym at)
-      (record_at (half_of part v.reads) (offsets_of part v.room) (bytes_of (file_of part) d) p.items pos p.records p.offsets (small_of part) lt)))
+      let p = part_of part d is in (
+        get_or p.items pos item.Torn,
+        subst (λ (k : ℕ). HasRecord k (get_or p.items pos item.Torn) (bytes_of (file_of part) d)) (sym at)
+            (record_at (half_of part v.reads) (offsets_of part v.room) (bytes_of (file_of part) d) p.items pos p.records p.offsets (small_of part) lt),
+      ))
 
   held_part : (settled : v.doubt ≡ Settled) (part : Part) (c : Cartridge) → held_of disk v ≡ Some c
       → (d : Files) × (disk.held v.slots.disk ≡ Some d) × InPart part v.reads v.room d c

@@ -1,5 +1,5 @@
 -- The header is read anew, and one of two values is taken.
-use Rattle.std.proofs.Common.{◌≡◌, ◌≢◌, ℕ, ◌+◌, ◌-◌, ◌^◌, ◌<◌, ◌≤◌, ◌⊎◌, ⊎_elim, inl, inr, Bool, true, false, ◌==◌, List, take, length, min, Option, Some, None, Result, IfSome, refl, sym, ap, ◌∙◌, subst, arith}
+use Rattle.std.proofs.Common.{◌≡◌, ◌≢◌, ℕ, ◌+◌, ◌≤◌, inl, inr, Bool, true, false, List, Option, Some, None, Result, IfSome, refl, sym, ap, ◌∙◌, subst, arith}
 use Rattle.std.specs.Prelude.{if◌then◌else◌}
 use Rattle.std.proofs.lemmas.Bool.{eq-eqb, ne_eqb}
 use Rattle.tape_types.specs.declared.cartridges.Cartridge.{Cartridge}
@@ -15,12 +15,12 @@ use Rattle.image_slots.specs.declared.errors.OpenErr.{OpenErr}
 use Rattle.image_slots.proofs.Chains.{one_at_most, both_steps, join_same, no_step, then_at_most, more_at_most}
 use Rattle.image_slots.proofs.Choosing.{value_chosen}
 use Rattle.image_format.specs.declared.values.SlotValue.{SlotValue}
-use Rattle.image_format.specs.Images.{Opens, header, header_by, image_by}
+use Rattle.image_format.specs.Images.{header, header_by, image_by}
 use Rattle.image_format.specs.Offsets.{Offsets}
 use Rattle.image_tape.specs.declared.doubt.Doubt.{Doubt}
 use Rattle.image_tape.specs.declared.doubt.Doubt.TheVariants.{Settled, Open}
 use Rattle.image_tape.specs.Steps.{IsFound, Looks, Stays}
-use Rattle.image_tape.specs.Tape.{CrashesOn, Holds, IsKept, SaysOne, Stands, Suits, Tells, View, cut_to, given, held_by, held_of, reading_by, says}
+use Rattle.image_tape.specs.Tape.{CrashesOn, IsKept, SaysOne, Suits, Tells, View, cut_to, given, held_by, held_of, reading_by, says}
 use Rattle.image_tape.proofs.Lifting.{lifted_look}
 use Rattle.image_tape.proofs.Upkeep.{held_look, kept_look, with_slots}
 
@@ -97,8 +97,7 @@ module _ {D : Type 0} (disk : Ghosts D) where
     always = kept.always;
     tells = λ d told.
         let h = opened_tells v value reads kept unsure d told in
-        let same : s ≡ v.base = one_by_number v.room.limits v.base value s d h.2 (found.reads d told) h.4 is in
-        (
+        let same : s ≡ v.base = one_by_number v.room.limits v.base value s d h.2 (found.reads d told) h.4 is in (
           h.0,
           subst (λ (x : SlotValue). header v.room.limits d.cm ≡ Some x) same (found.reads d told),
           λ left was. subst (λ (x : SlotValue). header v.room.limits left.cm ≡ Some x) same (found.left d left told was),
@@ -116,8 +115,7 @@ module _ {D : Type 0} (disk : Ghosts D) where
     always = kept.always;
     tells = λ d told.
         let h = opened_tells v value reads kept unsure d told in
-        let same : s ≡ value = other_by_number v.room.limits v.base value s d h.2 (found.reads d told) isnt in
-        (
+        let same : s ≡ value = other_by_number v.room.limits v.base value s d h.2 (found.reads d told) isnt in (
           h.1,
           subst (λ (x : SlotValue). header v.room.limits d.cm ≡ Some x) same (found.reads d told),
           λ left was. subst (λ (x : SlotValue). header v.room.limits left.cm ≡ Some x) same (found.left d left told was),

@@ -1,20 +1,15 @@
 -- What reads on a tape whose header is known, and what a crash leaves of it.
-use Rattle.std.proofs.Common.{◌≡◌, ℕ, ◌+◌, ◌-◌, ◌^◌, ◌<◌, ◌≤◌, ◌⊎◌, inl, inr, List, [], ◌++◌, take, length, min, Option, Some, None, Result, Ok, Err, refl, sym, ap, ◌∙◌, subst, arith}
-use Rattle.std.specs.Prelude.{OnOk, OnErr}
+use Rattle.std.proofs.Common.{◌≡◌, ℕ, List, Option, Some, None, Result, Ok, Err, refl, sym, ap, ◌∙◌, subst}
+use Rattle.std.specs.Prelude.{OnOk}
 use Rattle.std.proofs.lemmas.Option.{same_Some}
-use Rattle.tape_types.specs.Counts.{HasCause, Rose}
 use Rattle.tape_types.specs.Cartridges.{note_of}
 use Rattle.tape_types.specs.declared.cartridges.Cartridge.{Cartridge}
-use Rattle.tape_types.specs.declared.cartridges.Limits.{Limits}
 use Rattle.tape_types.specs.declared.cartridges.Place.{Place}
 use Rattle.tape_types.specs.declared.cartridges.Part.{Part}
 use Rattle.tape_types.specs.declared.cartridges.Part.TheVariants.{Ip, Dp}
-use Rattle.tape_drive.specs.Commands.{Counted}
-use Rattle.tape_drive.specs.Crashes.{HasState, IsSettled, NothingNew}
-use Rattle.crash_steps.specs.Crashes.{Crashes}
+use Rattle.tape_drive.specs.Crashes.{IsSettled}
 use Rattle.byte_disk.specs.Files.{Files}
 use Rattle.byte_disk.specs.declared.disk.ByteDisk.{Ghosts}
-use Rattle.image_slots.specs.Pieces.{AtMost}
 use Rattle.image_format.specs.declared.refusal.Refusal.{Refusal}
 use Rattle.image_format.specs.declared.values.SlotValue.{SlotValue}
 use Rattle.tape_types.specs.declared.cartridges.Item.{Item}
@@ -23,8 +18,7 @@ use Rattle.image_tape.specs.declared.doubt.Doubt.{Doubt}
 use Rattle.image_tape.specs.declared.doubt.Doubt.TheVariants.{Settled, Open}
 use Rattle.image_tape.specs.Ends.{IsSure}
 use Rattle.image_tape.specs.Halves.{half_of}
-use Rattle.image_tape.specs.Steps.{Looks}
-use Rattle.image_tape.specs.Tape.{CrashesOn, IsKept, LeavesOn, SinceOn, Stands, Suits, Tells, View, given, held_by, held_of, reading_by}
+use Rattle.image_tape.specs.Tape.{IsKept, LeavesOn, Suits, Tells, View, given, held_by, held_of, reading_by}
 use Rattle.image_tape.proofs.Lifting.{same_cartridge}
 use Rattle.image_tape.proofs.Opened.{agreed_opens, counted, is_whole, whole}
 

@@ -1,21 +1,19 @@
 -- What is true of every tape stays true.
-use Rattle.std.proofs.Common.{◌≡◌, ℕ, ◌+◌, ◌-◌, ◌^◌, ◌<◌, ◌≤◌, ◌⊎◌, ⊎_elim, inl, inr, List, take, Option, Some, None, refl, sym, ap, ◌∙◌, subst, arith}
+use Rattle.std.proofs.Common.{◌≡◌, ℕ, ◌≤◌, ⊎_elim, List, take, Option, Some, None, refl, sym, ap, ◌∙◌, subst, arith}
 use Rattle.tape_types.specs.declared.cartridges.Cartridge.{Cartridge}
-use Rattle.tape_types.specs.declared.cartridges.Item.{Item}
 use Rattle.tape_types.specs.declared.cartridges.Limits.{Limits}
 use Rattle.crash_steps.specs.Crashes.{NothingNew}
 use Rattle.byte_disk.specs.Files.{Files}
 use Rattle.byte_disk.specs.declared.disk.ByteDisk.{Ghosts}
 use Rattle.image_slots.specs.Pieces.{CrashesIn}
 use Rattle.image_slots.specs.State as slot
-use Rattle.image_slots.specs.declared.known.Known.TheVariants.{Steady}
 use Rattle.image_slots.proofs.Chains.{old_image}
 use Rattle.image_format.specs.declared.values.SlotValue.{SlotValue}
 use Rattle.image_format.specs.Images.{Opens, header, header_by}
 use Rattle.image_format.specs.Offsets.{Offsets}
 use Rattle.image_tape.specs.declared.doubt.Doubt.{Doubt}
 use Rattle.image_tape.specs.declared.doubt.Doubt.TheVariants.{Settled, Open}
-use Rattle.image_tape.specs.Tape.{Agree, IsKept, Lie, SaysOne, Stands, Suits, Tells, View, held_by, held_of}
+use Rattle.image_tape.specs.Tape.{IsKept, Lie, Stands, Suits, Tells, View, held_by, held_of}
 use Rattle.image_tape.proofs.Lifting.{goes_on}
 use Rattle.image_tape.proofs.Opened.{agreed_opens, counted}
 
@@ -108,10 +106,14 @@ module _ {D : Type 0} (disk : Ghosts D) where
     reached = omega (arith, kept.reached, later);
     always = goes_on disk v.room.limits v.opened v.slots.disk s.disk kept.reached kept.always
         (λ e is.
-        let was = sym held ∙ is in
-        (e, was, crash, λ before left left_before same.
-        subst (λ (f : Files). (c : Cartridge) × Opens v.room.limits f c) (sym same)
-        (image_opens v.doubt v (disk.leaves v.slots.disk) e (kept.tells e was) before left_before)));
+        let was = sym held ∙ is in (
+          e,
+          was,
+          crash,
+          λ before left left_before same.
+              subst (λ (f : Files). (c : Cartridge) × Opens v.room.limits f c) (sym same)
+              (image_opens v.doubt v (disk.leaves v.slots.disk) e (kept.tells e was) before left_before),
+        ));
     tells = λ d is.
         tells_less v.doubt v s (disk.leaves v.slots.disk) (disk.leaves s.disk) d value (old_image crash) (kept.tells d (sym held ∙ is));
   }

@@ -1,11 +1,8 @@
 -- All that reads is counted, or an attribute is set.
-use Rattle.std.proofs.Common.{◌≡◌, ℕ, ◌+◌, ◌-◌, ◌^◌, ◌<◌, ◌≤◌, ◌⊎◌, ⊎_elim, inl, inr, List, ◌++◌, take, length, Option, Some, None, Result, Ok, Err, OnOk, refl, sym, ap, ◌∙◌, subst, arith}
+use Rattle.std.proofs.Common.{◌≡◌, ℕ, ◌+◌, ◌≤◌, ◌⊎◌, ⊎_elim, inl, inr, List, take, length, Option, Some, None, Result, Ok, Err, OnOk, refl, sym, ap, ◌∙◌, subst, arith}
 use Rattle.std.specs.List.{flat_map}
 use Rattle.std.proofs.lemmas.List.{take_all}
-use Rattle.std.proofs.lemmas.Option.{same_Some}
-use Rattle.crash_steps.specs.Crashes.{NothingNew}
 use Rattle.crash_steps.proofs.Joined.{alone, behind_looks}
-use Rattle.tape_types.specs.Cartridges.{note_of, other}
 use Rattle.tape_types.specs.declared.cartridges.Cartridge.{Cartridge}
 use Rattle.tape_types.specs.declared.cartridges.Item.{Item}
 use Rattle.tape_types.specs.declared.cartridges.Limits.{Limits}
@@ -13,22 +10,21 @@ use Rattle.tape_types.specs.declared.cartridges.Note.{Note}
 use Rattle.tape_types.specs.declared.cartridges.Part.{Part}
 use Rattle.tape_types.specs.declared.cartridges.Part.TheVariants.{Ip, Dp}
 use Rattle.tape_drive.specs.Commands.{AfterNote, IsNoted}
-use Rattle.tape_drive.specs.Crashes.{IsSure, WithinFlush, WithinNote}
+use Rattle.tape_drive.specs.Crashes.{IsSure, WithinFlush}
 use Rattle.byte_disk.specs.Commands.{IsFileSure}
-use Rattle.byte_disk.specs.Files.{Files, bytes_of}
+use Rattle.byte_disk.specs.Files.{Files}
 use Rattle.byte_disk.specs.declared.disk.ByteDisk.{Ghosts}
 use Rattle.byte_disk.specs.declared.disk.File.TheVariants as files
-use Rattle.image_slots.specs.Pieces.{AtMost}
 use Rattle.image_slots.proofs.Chains.{more_at_most, other_step, sure_told, then_at_most}
 use Rattle.image_format.specs.declared.refusal.Refusal.{Refusal}
 use Rattle.image_format.specs.declared.values.Half.{Half}
 use Rattle.image_format.specs.declared.values.SlotValue.{SlotValue}
 use Rattle.image_format.specs.Images.{cartridge_of, image_by}
-use Rattle.image_format.specs.Offsets.{Offsets, offsets_from}
-use Rattle.image_format.specs.Records.{AreRecords, record_bytes}
+use Rattle.image_format.specs.Offsets.{Offsets}
+use Rattle.image_format.specs.Records.{record_bytes}
 use Rattle.image_tape.specs.declared.doubt.Doubt.TheVariants.{Settled}
-use Rattle.image_tape.specs.Halves.{half_of, noted, with_half, with_note, with_serial}
-use Rattle.image_tape.specs.Steps.{AfterCommit, AreStored, FromTo, IsCommit, IsNoteSet, IsStored, IsTaken, Looks, MayStand, Stays}
+use Rattle.image_tape.specs.Halves.{noted, with_note, with_serial}
+use Rattle.image_tape.specs.Steps.{AfterCommit, AreStored, IsCommit, IsNoteSet, IsStored, IsTaken, Looks, MayStand}
 use Rattle.image_tape.specs.Tape.{CrashesOn, Holds, IsKept, LeavesOn, Lie, Stands, View, cut_to, held_by, held_of}
 use Rattle.image_tape.proofs.Fronts.{all_bytes}
 use Rattle.image_tape.proofs.Opened.{counted, is_counted, is_whole, whole}

@@ -1,5 +1,5 @@
 -- A whole write: the reference, the cut and the item.
-use Rattle.std.proofs.Common.{◌≡◌, ℕ, ◌+◌, ◌-◌, ◌^◌, ◌≤◌, ◌⊎◌, ⊎_elim, inl, inr, List, [], ◌∷◌, ◌++◌, take, Option, Some, None, Result, Ok, Err, OnOk, refl, sym, ap, ◌∙◌, subst, arith}
+use Rattle.std.proofs.Common.{◌≡◌, ℕ, ◌+◌, ◌⊎◌, ⊎_elim, inl, inr, List, [], ◌∷◌, ◌++◌, take, Result, Ok, Err, refl, sym, ap, ◌∙◌, subst, arith}
 use Rattle.std.proofs.lemmas.List.{take-take}
 use Rattle.crash_steps.specs.Crashes.{NothingNew}
 use Rattle.crash_steps.proofs.Joined.{behind_looks, joined}
@@ -9,16 +9,15 @@ use Rattle.tape_types.specs.declared.cartridges.Item.{Item}
 use Rattle.tape_types.specs.declared.cartridges.Item.TheVariants as item
 use Rattle.tape_types.specs.declared.cartridges.Limits.{Limits}
 use Rattle.tape_types.specs.declared.cartridges.Part.{Part}
-use Rattle.tape_types.specs.declared.cartridges.Part.TheVariants.{Ip, Dp}
 use Rattle.tape_types.specs.declared.cartridges.Place.{Place}
-use Rattle.tape_drive.specs.Commands.{AfterWrite, IsBroken, IsWritten, KeepsRest, VcrRose}
+use Rattle.tape_drive.specs.Commands.{AfterWrite, IsBroken, KeepsRest}
 use Rattle.tape_drive.specs.Crashes.{WithinWrite}
 use Rattle.byte_disk.specs.declared.disk.ByteDisk.{Ghosts}
 use Rattle.image_slots.proofs.Chains.{more_at_most, then_at_most}
 use Rattle.image_slots.specs.Pieces.{AtMost}
 use Rattle.image_tape.specs.Steps.{Looks, Stays}
-use Rattle.image_tape.specs.Tape.{CrashesOn, LeavesOn, SinceOn, View, held_of}
-use Rattle.image_tape.specs.Writes.{AfterRise, Appended, Appends, Cuts, HasItems, HasRisen, Replaces, Rises, Writes}
+use Rattle.image_tape.specs.Tape.{CrashesOn, View}
+use Rattle.image_tape.specs.Writes.{Appended, Appends, Cuts, HasItems, HasRisen, Replaces, Rises, Writes}
 
 then_rest : (part : Part) (a b c : Cartridge) → KeepsRest part a b → KeepsRest part b c → KeepsRest part a c
 then_rest part a b c one two = record {
@@ -54,12 +53,14 @@ after_write (Ok y) part pos x c m e items risen added has = record {
   rest = then_rest part c m e risen.rest has.rest;
 }
 after_write (Err why) part pos x c m e items risen added has = record {
-  items = inr (⊎_elim
-      (λ (cut : items ≡ take pos (items_of part m)). inl (has.are ∙ cut ∙ same_take part pos c m risen))
-      (λ (torn : items ≡ take pos (items_of part m) ++ item.Torn ∷ []).
-      inr (has.are ∙ torn ∙ ap (λ (l : List Item). l ++ item.Torn ∷ []) (same_take part pos c m risen)))
-      added,
-      record { by_one = has.vcr ∙ risen.vcr.by_one; in_range = omega (arith, has.vcr, risen.vcr.in_range) });
+  items = inr (
+    ⊎_elim
+        (λ (cut : items ≡ take pos (items_of part m)). inl (has.are ∙ cut ∙ same_take part pos c m risen))
+        (λ (torn : items ≡ take pos (items_of part m) ++ item.Torn ∷ []).
+        inr (has.are ∙ torn ∙ ap (λ (l : List Item). l ++ item.Torn ∷ []) (same_take part pos c m risen)))
+        added,
+    record { by_one = has.vcr ∙ risen.vcr.by_one; in_range = omega (arith, has.vcr, risen.vcr.in_range) },
+  );
   rest = then_rest part c m e risen.rest has.rest;
 }
 
@@ -83,12 +84,17 @@ module _ {D T E : Type 0} (disk : Ghosts D) (at : Place) (x : Item) (r : Result 
     untold = λ none. appended.untold (cut.untold none);
     told = λ c held.
         let m = cut.told c held in
-        let t = appended.told m.0 m.1 in
-        (t.0, t.1, t.2, subst (λ (l : List Item). Appended r x l t.2) m.2.are t.3, record {
-          are = t.4.are;
-          vcr = t.4.vcr ∙ m.2.vcr;
-          rest = then_rest at.part c m.0 t.0 m.2.rest t.4.rest;
-        });
+        let t = appended.told m.0 m.1 in (
+          t.0,
+          t.1,
+          t.2,
+          subst (λ (l : List Item). Appended r x l t.2) m.2.are t.3,
+          record {
+            are = t.4.are;
+            vcr = t.4.vcr ∙ m.2.vcr;
+            rest = then_rest at.part c m.0 t.0 m.2.rest t.4.rest;
+          },
+        );
     crash = λ c held.
         let m = cut.told c held in
         subst (λ (k : D). CrashesOn disk a.room.limits NothingNew k n.slots.disk) (ap (λ s. s.disk) cut.disk_is)

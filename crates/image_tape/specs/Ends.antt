@@ -1,5 +1,5 @@
 -- What a command of a tape leaves of it.
-use Rattle.std.specs.Prelude.{ℕ, ◌+◌, ◌-◌, ◌^◌, ◌≤◌, ◌≡◌, min, Option, Some, None, Result, Ok, Err, OnOk, OnErr, IfOk, IsErr, List}
+use Rattle.std.specs.Prelude.{ℕ, ◌+◌, ◌-◌, ◌^◌, ◌≤◌, ◌≡◌, min, Option, Some, None, Result, OnOk, OnErr, IfOk, IsErr, List}
 use Rattle.tape_types.specs.Counts.{HasCause}
 use Rattle.tape_types.specs.declared.cartridges.Cartridge.{Cartridge}
 use Rattle.tape_types.specs.declared.cartridges.Place.{Place}

@@ -1,5 +1,5 @@
 -- What a value says of either partition, and values that differ in one field.
-use Rattle.std.specs.Prelude.{ℕ, ◌+◌, Bool, true, false, List}
+use Rattle.std.specs.Prelude.{ℕ, Bool}
 use Rattle.tape_types.specs.declared.cartridges.Note.{Note}
 use Rattle.tape_types.specs.declared.cartridges.Part.{Part}
 use Rattle.tape_types.specs.declared.cartridges.Part.TheVariants.{Ip, Dp}

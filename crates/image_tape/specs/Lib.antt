@@ -1,5 +1,6 @@
 pub mod Ends
 pub mod Halves
+pub mod Laws
 pub mod Opens
 pub mod Steps
 pub mod Tape

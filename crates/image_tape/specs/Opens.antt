@@ -1,5 +1,5 @@
 -- What opening a tape finds.
-use Rattle.std.specs.Prelude.{ℕ, ◌+◌, ◌≤◌, ◌≡◌, List, length, Option, Some, None, Result, Ok, Err}
+use Rattle.std.specs.Prelude.{ℕ, ◌≡◌, List, length, Some, None, Ok, Err}
 use Rattle.tape_types.specs.declared.cartridges.Cartridge.{Cartridge}
 use Rattle.tape_types.specs.declared.cartridges.Item.{Item}
 use Rattle.tape_types.specs.declared.cartridges.Limits.{Limits}
@@ -14,7 +14,7 @@ use Rattle.image_slots.specs.State as slot
 use Rattle.image_format.specs.declared.refusal.Refusal.TheVariants as refusal
 use Rattle.image_tape.specs.declared.errors.OpenErr.{OpenErr}
 use Rattle.image_tape.specs.declared.errors.OpenErr.TheVariants.{Header, Record, Disk}
-use Rattle.image_format.specs.Images.{cartridge_of, header_by, image}
+use Rattle.image_format.specs.Images.{header_by, image}
 use Rattle.image_format.specs.Offsets.{Offsets, offsets_from}
 use Rattle.image_format.specs.Records.{AreRecords}
 use Rattle.image_format.specs.declared.values.SlotValue.{SlotValue}

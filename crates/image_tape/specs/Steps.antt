@@ -1,6 +1,5 @@
 -- What a step of a tape leaves of it.
 use Rattle.std.specs.Prelude.{ℕ, ◌+◌, ◌^◌, ◌<◌, ◌≤◌, ◌≡◌, ◌⊎◌, List, length, Option, Some, None, Result, Ok, Err, OnOk}
-use Rattle.tape_types.specs.Counts.{Rose}
 use Rattle.tape_types.specs.declared.cartridges.Cartridge.{Cartridge}
 use Rattle.crash_steps.specs.Crashes.{NothingNew}
 use Rattle.tape_types.specs.Cartridges.{IsItem, capacity}

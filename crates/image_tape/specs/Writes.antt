@@ -1,5 +1,5 @@
 -- What the steps of a write leave of the cartridge.
-use Rattle.std.specs.Prelude.{ℕ, ◌+◌, ◌-◌, ◌^◌, ◌<◌, ◌≤◌, ◌≡◌, ◌⊎◌, Bool, true, false, if◌then◌else◌, List, [], ◌∷◌, ◌++◌, take, length, get_or, Option, Some, None, Result, Ok, Err, OnOk, IsErr}
+use Rattle.std.specs.Prelude.{ℕ, ◌+◌, ◌-◌, ◌^◌, ◌<◌, ◌≤◌, ◌≡◌, ◌⊎◌, false, List, [], ◌∷◌, ◌++◌, take, length, get_or, Some, None, Result, Ok, Err, OnOk, IsErr}
 use Rattle.tape_types.specs.Cartridges.{items_of}
 use Rattle.tape_types.specs.declared.cartridges.Cartridge.{Cartridge}
 use Rattle.tape_types.specs.declared.cartridges.Item.{Item}
@@ -8,12 +8,11 @@ use Rattle.tape_types.specs.declared.cartridges.Part.{Part}
 use Rattle.tape_types.specs.declared.cartridges.Place.{Place}
 use Rattle.tape_drive.specs.Commands.{AfterWrite, KeepsRest, VcrRose}
 use Rattle.tape_drive.specs.Crashes.{NothingNew, WithinWrite}
-use Rattle.byte_disk.specs.Files.{Files, KeepsOthers, bytes_of}
+use Rattle.byte_disk.specs.Files.{Files}
 use Rattle.byte_disk.specs.declared.disk.ByteDisk.{Ghosts}
 use Rattle.image_slots.specs.Pieces.{AtMost}
-use Rattle.image_slots.specs.State.{file_of}
 use Rattle.image_format.specs.declared.values.SlotValue.{SlotValue}
-use Rattle.image_format.specs.Offsets.{offsets_of, with_offsets}
+use Rattle.image_format.specs.Offsets.{offsets_of}
 use Rattle.image_tape.specs.declared.doubt.Doubt.TheVariants.{Settled}
 use Rattle.image_tape.specs.Halves.{ended, half_of, with_half}
 use Rattle.image_format.specs.Images.{tail_of}

@@ -202,9 +202,7 @@ impl<B: ByteDisk> Drive for ImageTape<B> {
         ensures room { 1048576 ≤ vec_capacity buf.new }
         ensures ran { (at : Place) → self.old.head ≡ Some at → HasRead B.ByteDisk at result buf.new.items self.old self.new }
     {
-        let Some(at) = self.head else {
-            unreachable!()
-        };
+        let Some(at) = self.head else { unreachable!() };
         self.read_item(at, buf)
     }
 
@@ -214,9 +212,7 @@ impl<B: ByteDisk> Drive for ImageTape<B> {
         requires size { length bytes.now ≤ 1048576 }
         ensures ran { (at : Place) → self.old.head ≡ Some at → Wrote B.ByteDisk at (item.Block bytes.now) result self.old self.new }
     {
-        let Some(at) = self.head else {
-            unreachable!()
-        };
+        let Some(at) = self.head else { unreachable!() };
         self.put_item(at, Head::Block(bytes.len() as u32), bytes)
     }
 
@@ -224,9 +220,7 @@ impl<B: ByteDisk> Drive for ImageTape<B> {
         requires located { HasRoom self.old.head self.old.room.limits }
         ensures ran { (at : Place) → self.old.head ≡ Some at → Wrote B.ByteDisk at item.Mark result self.old self.new }
     {
-        let Some(at) = self.head else {
-            unreachable!()
-        };
+        let Some(at) = self.head else { unreachable!() };
         self.put_item(at, Head::Mark, &[])
     }
 

@@ -56,7 +56,10 @@ pub(crate) fn with_note(part: Part, note: Note, value: &SlotValue) -> SlotValue
     ensures { result ≡ with_note part note value.now }
 {
     let Half {
-        count, end, torn, ..
+        count,
+        end,
+        torn,
+        ..
     } = half_of(part, value);
     let half = Half {
         count,
@@ -68,13 +71,7 @@ pub(crate) fn with_note(part: Part, note: Note, value: &SlotValue) -> SlotValue
 }
 
 /// The value that says that a partition ends behind so many records, in this place.
-pub(crate) fn ended(
-    part: Part,
-    count: u64,
-    end: u64,
-    torn: bool,
-    value: &SlotValue,
-) -> SlotValue
+pub(crate) fn ended(part: Part, count: u64, end: u64, torn: bool, value: &SlotValue) -> SlotValue
     ensures { result ≡ with_half part (ended count end torn (half_of part value.now)) value.now }
 {
     let Half { note, .. } = half_of(part, value);

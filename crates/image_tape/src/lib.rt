@@ -5,6 +5,7 @@ mod commands;
 mod doubt;
 mod errors;
 mod halves;
+mod laws;
 mod opening;
 mod reading;
 mod settling;
@@ -14,5 +15,6 @@ mod writing;
 
 pub use doubt::Doubt;
 pub use errors::OpenErr;
+pub use laws::images_open;
 pub use opening::OpenFail;
 pub use tape::ImageTape;

@@ -18,11 +18,7 @@ use tape_types::{Part, Place};
 
 impl<B: ByteDisk> ImageTape<B> {
     // Reads what stands at a place, and answers where the head stands then.
-    pub(crate) fn read_at(
-        &mut self,
-        at: Place,
-        buf: &mut Vec<u8>,
-    ) -> Result<(Got, Place), DriveErr>
+    pub(crate) fn read_at(&mut self, at: Place, buf: &mut Vec<u8>) -> Result<(Got, Place), DriveErr>
         requires room { 1048576 ≤ vec_capacity buf.old }
         ensures room { 1048576 ≤ vec_capacity buf.new }
         ensures reading { IfOk result (λ found. IsReading B.ByteDisk at found.0 buf.new.items self.old) }

@@ -20,12 +20,7 @@ use tape_types::{Part, Place};
 
 impl<B: ByteDisk> ImageTape<B> {
     // Cuts a partition at a place, and appends an item.
-    pub(crate) fn write_at(
-        &mut self,
-        at: Place,
-        head: Head,
-        bytes: &[u8],
-    ) -> Result<(), DriveErr>
+    pub(crate) fn write_at(&mut self, at: Place, head: Head, bytes: &[u8]) -> Result<(), DriveErr>
         requires settled { self.old.doubt ≡ Settled }
         requires room { at.pos < capacity at.part self.old.room.limits }
         requires head { IsHead head }

@@ -1,4 +1,4 @@
-use Rattle.std.proofs.Common.{rules, ◌∙◌, sym}
+use Rattle.std.proofs.Common.{rules, ◌∙◌}
 use Rattle.image_tape.proofs.Beginning.{tellable, uncounted}
 use Rattle.image_tape.proofs.opening.read_synced.Goals as goal
 

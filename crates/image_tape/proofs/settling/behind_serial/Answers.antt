@@ -1,4 +1,4 @@
-use Rattle.std.proofs.Common.{rules, arith, ◌∙◌, drop}
+use Rattle.std.proofs.Common.{arith, ◌∙◌, drop}
 use Rattle.std.proofs.lemmas.List.{length-drop, take_all}
 use Rattle.image_tape.proofs.settling.behind_serial.Goals as goal
 

@@ -1,4 +1,3 @@
-use Rattle.std.proofs.Common.{◌∙◌, refl, sym, subst}
 use Rattle.image_tape.proofs.Surely.{chosen_after, chosen_before, found_in, kept_chosen, kept_before, open_in, steady_in}
 use Rattle.image_tape.proofs.tape.ImageTape.choose.Goals as goal
 

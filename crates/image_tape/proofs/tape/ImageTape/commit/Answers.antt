@@ -1,4 +1,4 @@
-use Rattle.std.proofs.Common.{rules, arith, ◌∙◌, Result, Err, ap, refl, sym}
+use Rattle.std.proofs.Common.{rules, ◌∙◌, Result, Err, ap, refl}
 use Rattle.image_slots.specs.declared.errors.SetErr.{SetErr}
 use Rattle.image_tape.proofs.Setting.{commit_is_open, commit_is_set, commit_is_spent, commit_kept, commit_open, commit_refused, commit_taken}
 use Rattle.image_tape.proofs.tape.ImageTape.commit.Goals as goal

@@ -1,7 +1,7 @@
-use Rattle.std.proofs.Common.{rules, ◌≡◌, ◌≤◌, ◌<◌, ◌∙◌, Some, sym, subst}
+use Rattle.std.proofs.Common.{◌≡◌, ◌≤◌, Some, sym, subst}
 use Rattle.byte_disk.specs.Files.{Files}
 use Rattle.image_tape.specs.Halves.{half_of}
-use Rattle.image_tape.specs.Writes.{Cuts, IsPlace}
+use Rattle.image_tape.specs.Writes.{IsPlace}
 use Rattle.image_tape.proofs.Shaping.{cuts, cuts_not, renamed_cut}
 use Rattle.image_tape.proofs.Surely.{settled_in}
 use Rattle.image_tape.proofs.Wholes.{kept_at}

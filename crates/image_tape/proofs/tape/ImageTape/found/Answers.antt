@@ -1,4 +1,4 @@
-use Rattle.std.proofs.Common.{IfSome, ap, ◌∙◌, subst}
+use Rattle.std.proofs.Common.{IfSome, subst}
 use Rattle.image_tape.specs.Steps.{IsFound}
 use Rattle.image_tape.proofs.Surely.{found_is, steady_in}
 use Rattle.image_tape.proofs.tape.ImageTape.found.Goals as goal

@@ -1,4 +1,4 @@
-use Rattle.std.proofs.Common.{rules, arith}
+use Rattle.std.proofs.Common.{arith}
 use Rattle.image_tape.proofs.Ending.{looked_badly, looked_well}
 use Rattle.image_tape.proofs.tape.ImageTape.look.Goals as goal
 

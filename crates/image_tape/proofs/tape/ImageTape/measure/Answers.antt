@@ -1,4 +1,3 @@
-use Rattle.image_slots.proofs.Chains.{one_at_most}
 use Rattle.image_tape.proofs.Surely.{kept_command, looked_command}
 use Rattle.image_tape.proofs.tape.ImageTape.measure.Goals as goal
 

@@ -1,4 +1,4 @@
-use Rattle.std.proofs.Common.{◌≡◌, ◌∙◌, ◌∷◌, [], ◌++◌, ap, sym}
+use Rattle.std.proofs.Common.{◌∙◌, ◌∷◌, [], ◌++◌, ap, sym}
 use Rattle.image_format.specs.declared.values.Half.{Half}
 use Rattle.image_format.specs.Offsets.{offsets_of, with_offsets}
 use Rattle.image_format.specs.Records.{head_bytes}

@@ -1,7 +1,4 @@
-use Rattle.std.proofs.Common.{rules, arith, ◌∙◌, ap, sym, subst}
 use Rattle.tape_types.specs.Cartridges.{next}
-use Rattle.tape_types.specs.declared.cartridges.Place.{Place}
-use Rattle.tape_types.specs.Cartridges.{capacity}
 use Rattle.image_tape.proofs.Ending.{ended_at, wrote_badly, wrote_not, wrote_well}
 use Rattle.image_tape.proofs.Spots.{room_small}
 use Rattle.image_tape.proofs.tape.ImageTape.put_item.Goals as goal

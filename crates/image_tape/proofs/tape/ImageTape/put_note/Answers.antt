@@ -1,4 +1,3 @@
-use Rattle.std.proofs.Common.{ap}
 use Rattle.image_tape.proofs.Ending.{head_in, noted_badly, noted_not, noted_well}
 use Rattle.image_tape.proofs.tape.ImageTape.put_note.Goals as goal
 

@@ -1,10 +1,9 @@
-use Rattle.std.proofs.Common.{rules, ◌≡◌, ◌<◌, ◌∙◌, ℕ, List, Some, IfSome, get_or, ap, sym, subst}
+use Rattle.std.proofs.Common.{◌<◌, ℕ, List, IfSome, get_or, ap, sym, subst}
 use Rattle.tape_types.specs.declared.cartridges.Item.{Item}
 use Rattle.byte_disk.specs.Files.{bytes_of}
 use Rattle.image_slots.specs.State.{file_of}
 use Rattle.image_format.specs.declared.values.Half.{Half}
 use Rattle.image_tape.specs.Steps.{HasRecord, IsReading}
-use Rattle.image_tape.specs.Halves.{half_of}
 use Rattle.image_tape.proofs.Spots.{ReadsRecord, reading_behind, reading_record, record_stands}
 use Rattle.image_tape.proofs.tape.ImageTape.read_at.Goals as goal
 

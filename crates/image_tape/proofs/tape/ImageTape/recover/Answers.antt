@@ -6,4 +6,3 @@ invariant_of-self g c = kept_recovered g.B.ByteDisk c.recover.result _ c.recover
 
 pub returns-clause-looks : goal.returns-clause-looks
 returns-clause-looks g c = looked_recovered g.B.ByteDisk c.recover.result _ _ c.recover.new.self c.self.view_is c.recover.ensures
-

@@ -1,4 +1,4 @@
-use Rattle.std.proofs.Common.{rules, ◌≡◌, ◌∙◌, ap, sym, subst}
+use Rattle.std.proofs.Common.{rules, ◌∙◌, ap, sym, subst}
 use Rattle.image_format.specs.declared.values.SlotValue.{SlotValue}
 use Rattle.image_tape.specs.Steps.{MayStand}
 use Rattle.image_tape.specs.Writes.{IsCounted, IsUncounted, cut_value}

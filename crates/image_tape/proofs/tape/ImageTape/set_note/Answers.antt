@@ -1,4 +1,3 @@
-use Rattle.std.proofs.Common.{rules, ◌≡◌, ◌∙◌, ap, sym, subst}
 use Rattle.image_tape.specs.Steps.{MayStand}
 use Rattle.image_tape.specs.Tape.{Holds, cut_to}
 use Rattle.image_tape.proofs.Surely.{settled_in}

@@ -1,4 +1,4 @@
-use Rattle.std.proofs.Common.{rules, arith}
+use Rattle.std.proofs.Common.{arith}
 use Rattle.image_tape.proofs.Wholes.{stored_after, not_stored}
 use Rattle.image_tape.proofs.tape.ImageTape.settle_all.Goals as goal
 

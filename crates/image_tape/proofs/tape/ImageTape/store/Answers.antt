@@ -1,4 +1,4 @@
-use Rattle.std.proofs.Common.{rules, arith}
+use Rattle.std.proofs.Common.{arith}
 use Rattle.image_tape.proofs.Surely.{more_looks, then_looks}
 use Rattle.image_tape.proofs.Wholes.{both_stored}
 use Rattle.image_tape.proofs.tape.ImageTape.store.Goals as goal

@@ -1,4 +1,3 @@
-use Rattle.std.proofs.Common.{rules, sym, subst}
 use Rattle.image_tape.proofs.Behind.{follows_at, hides_behind, kept_behind}
 use Rattle.image_tape.proofs.tape.ImageTape.write_behind.Goals as goal
 

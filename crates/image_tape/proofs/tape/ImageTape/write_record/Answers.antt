@@ -1,4 +1,4 @@
-use Rattle.std.proofs.Common.{rules, arith, ℕ, ◌≡◌, ◌∙◌, ap, sym, subst, length, List}
+use Rattle.std.proofs.Common.{arith, ℕ, ◌∙◌, ap, length, List}
 use Rattle.image_format.specs.declared.values.Half.{Half}
 use Rattle.image_format.specs.Records.{head_bytes}
 use Rattle.image_tape.specs.Halves.{half_of}
