@@ -4,3 +4,4 @@ pub mod Trials
 pub mod Walks
 pub mod LinkLemmas
 pub mod Mounts
+pub mod Seekings

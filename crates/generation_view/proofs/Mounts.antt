@@ -1,10 +1,7 @@
 -- A walk from the mount on.
-use Rattle.std.proofs.Common.{◌≡◌, ℕ, ◌+◌, ◌*◌, List, Some, Result, IfOk, IfErr, refl, sym, subst, ◌∙◌, arith}
+use Rattle.std.proofs.Common.{◌≡◌, ℕ, List, refl, sym, subst, ◌∙◌, arith}
 use Rattle.tape_types.specs.declared.cartridges.Cartridge.{Cartridge}
-use Rattle.tape_types.specs.declared.cartridges.Limits.{Limits}
 use Rattle.tape_types.specs.declared.cartridges.Part.TheVariants.{Dp}
-use Rattle.tape_drive.specs.Looks.{Looks}
-use Rattle.tape_drive.specs.declared.drive.Drive.{Ghosts}
 use Rattle.content_laws.proofs.ReadForms as forms
 use Rattle.cartridge_meaning.specs.Meaning.{Found}
 use Rattle.cartridge_meaning.specs.Mounts.{Mounts}
@@ -13,13 +10,9 @@ use Rattle.cartridge_meaning.specs.declared.errors.MountErr.TheVariants as error
 use Rattle.cartridge_meaning.specs.declared.mounted.Mounted.{Mounted}
 use Rattle.volume_scan.specs.declared.content.Content.{Content}
 use Rattle.volume_scan.specs.Scans.{AreBetween, IsContent, IsInPlaces}
-use Rattle.mount_recover.specs.Known.{mount_most}
-use Rattle.mount_recover.specs.Labels.{HasCounts}
-use Rattle.mount_recover.specs.Lasts.{IsSoundMount, LacksLayout}
-use Rattle.mount_recover.specs.Steps.{Blames, IsSince, IsStep}
-use Rattle.mount_recover.specs.declared.starts.Start.{Start}
+use Rattle.mount_recover.specs.Lasts.{LacksLayout}
+use Rattle.mount_recover.specs.Steps.{Blames}
 use Rattle.mount_recover.proofs.ScanLemmas.{long_front, seen}
-use Rattle.mount_recover.proofs.StepLemmas.{since_next}
 use Rattle.generation_view.specs.Told.{AreKnown, RefusesChain, TellsChain, TellsWalk, refusal}
 use Rattle.generation_view.specs.declared.errors.BreakWhy.{BreakWhy}
 use Rattle.generation_view.specs.declared.errors.ViewErr.TheVariants as view_errors
@@ -27,25 +20,6 @@ use Rattle.generation_view.specs.declared.telling.Generation.{Generation}
 use Rattle.generation_view.specs.declared.telling.Walked.{Walked}
 use Rattle.generation_view.specs.declared.telling.Walked.TheVariants as walks
 use Rattle.generation_view.proofs.Walks.{between_more}
-
-module _ {D : Type 0} (drive : Ghosts D) (start : Start) (a b : D) (since : IsSince drive start a) where
-  -- what a mount answers, as its step
-  pub mounted_step : (r : Result Mounted MountErr) → start.faults ≡ drive.faults a
-      → IfOk r (λ m. (c : Cartridge) → drive.held a ≡ Some c → Mounts c m)
-      → IfErr r (λ e. (c : Cartridge) → drive.held a ≡ Some c → Blames e c)
-      → IfOk r (IsSoundMount (drive.limits a)) → HasCounts (drive.faults a) (drive.faults b) r
-      → Looks drive (mount_most (drive.limits a) * drive.MOST) a b
-      → IsStep drive start (mount_most start.limits) a b (λ m c. Mounts c m) (IsSoundMount start.limits) Blames r
-  mounted_step r now found refused any counts looks =
-      let within = subst (λ (l : Limits). Looks drive (mount_most l * drive.MOST) a b) since.limits looks in
-      record {
-        found = found;
-        any = subst (λ (l : Limits). IfOk r (IsSoundMount l)) since.limits any;
-        refused = refused;
-        counts = subst (λ (n : ℕ). HasCounts n (drive.faults b) r) (sym now) counts;
-        looks = within;
-        since = since_next drive start _ a b since within (omega (arith, now, counts.later));
-      }
 
 -- a mounted cartridge's data partition has its form
 pub never_lacks : (c : Cartridge) (m : Mounted) (e : MountErr) → Mounts c m → LacksLayout Dp e c → Blames e c

@@ -88,11 +88,11 @@ pub record AreKnown (end_ip : ℕ) (places : List Construct) (c : Cartridge) : T
   pub places_are : places ≡ map places_of (reverse (indexes_of c.dp))
   pub end_is : end_ip ≡ ip_end c
 
--- how far a walk has come: behind these links, and this is told of them
-pub record HasCome (label : Label) (c : Cartridge) (left : List Construct) (after : Option ℕ) (told : List Generation)
+-- how far a walk has come: behind these links, of which this holds
+pub record HasCome (label : Label) (c : Cartridge) (left : List Construct) (after : Option ℕ) (So : List Index → Type 0)
     : Type 0 where
   pub done : List Index
   pub links_are : AreLinks label c None (indexes_of c.dp) done
   pub left_are : left ≡ map places_of (reverse (behind (indexes_of c.dp) done))
   pub after_is : after ≡ last_generation None done
-  pub told_is : told ≡ told_of (indexes_of c.dp) done
+  pub so : So done

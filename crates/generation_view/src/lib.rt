@@ -6,7 +6,11 @@ mod errors;
 mod examples;
 mod laws;
 mod links;
+mod scans;
+mod seeking;
 mod telling;
+mod views;
+mod ways;
 
 pub use errors::{BreakWhy, ViewErr};
 pub use examples::{
@@ -18,3 +22,4 @@ pub use laws::{
     generations_have_one_tree, indexes_link_or_break,
 };
 pub use telling::{Generation, generations};
+pub use views::{View, open_view};

@@ -1,9 +1,10 @@
 //! One index of a chain.
 
-ghost use Rattle.std.specs.Prelude.{◌≡◌, ◌<◌, ◌-◌, ◌++◌, ◌∷◌, ◌↔◌, List, Option, Some, IfSome, IsTrue, MatchOption, map, reverse};
+ghost use Rattle.std.specs.Prelude.{◌≡◌, ◌<◌, ◌-◌, ◌++◌, ◌∷◌, ◌↔◌, List, Option, Some, IfNone, IfSome, IsTrue, MatchOption, map, reverse};
+ghost use Rattle.std.specs.List.{AllByRecursion};
 ghost use Rattle.tape_types.specs.declared.cartridges.Cartridge.{Cartridge};
 ghost use Rattle.content_laws.specs.Readings.{Construct as ConstructOf};
-ghost use Rattle.cartridge_meaning.specs.Meaning.{ip_end};
+ghost use Rattle.cartridge_meaning.specs.Meaning.{FitsNode, ip_end};
 ghost use Rattle.cartridge_meaning.specs.Pointers.{IsOfVolume, indexes_of};
 ghost use Rattle.volume_scan.specs.Scans.{places_of};
 ghost use Rattle.mount_recover.specs.Lasts.{HasIndexAt, IsInPlace, IsSound};
@@ -48,7 +49,7 @@ pub fn read_link<D: Drive>(
     ensures { IsStep D.Drive start (place.after - place.first) drive.old drive.new
         (λ step c. (newer : List ConstructOf) (k : ConstructOf) (ks : List ConstructOf)
         → indexes_of c.dp ≡ newer ++ k ∷ ks → places_of k ≡ place → older.now ≡ map places_of (reverse ks)
-        → IsStepTo label.now c k ks after step) (IsSoundStep label.now) IsFree result }
+        → IsStepTo label.now c k ks after step) (IsSoundStep label.now end_ip place.mark) IsFree result }
 {
     match read_index_at(alloc, drive, start, label, Part::Dp, place, document) {
         Ok(index) => Ok(step_of(label, end_ip, place, older, after, index)),
@@ -82,7 +83,7 @@ fn step_of(
     ensures told { (c : Cartridge) (k : ConstructOf) (ks : List ConstructOf) → end_ip ≡ ip_end c → places_of k ≡ place
         → older.now ≡ map places_of (reverse ks) → IsOfVolume label.now k index
         → IsStepTo label.now c k ks after result }
-    ensures sound { IsSound label.now index → IsSoundStep label.now result }
+    ensures sound { IsSound label.now index → IsSoundStep label.now end_ip place.mark result }
 {
     match first_failing(label, end_ip, place, older, after, &index) {
         None => Step::Link(place.first, index),
@@ -99,9 +100,10 @@ fn first_failing(
     after: Option<u64>,
     index: &Index,
 ) -> Option<BreakWhy>
-    ensures { (c : Cartridge) (k : ConstructOf) (ks : List ConstructOf) → end_ip ≡ ip_end c → places_of k ≡ place
+    ensures told { (c : Cartridge) (k : ConstructOf) (ks : List ConstructOf) → end_ip ≡ ip_end c → places_of k ≡ place
         → older.now ≡ map places_of (reverse ks) → IsOfVolume label.now k index.now
         → MatchOption result (IsLink label.now c k ks after index.now) (Breaks label.now c k ks after) }
+    ensures fits { IfNone result (AllByRecursion (FitsNode label.now end_ip place.mark) index.now.nodes) }
 {
     if !points_on_dp(label, place.first, older, index) {
         return Some(BreakWhy::Pointer);

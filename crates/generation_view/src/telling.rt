@@ -5,19 +5,17 @@ ghost use Rattle.tape_types.specs.declared.cartridges.Cartridge.{Cartridge};
 ghost use Rattle.tape_drive.specs.Looks.{Looks};
 ghost use Rattle.cartridge_meaning.specs.Meaning.{Found};
 ghost use Rattle.cartridge_meaning.specs.Mounts.{Mounts};
-ghost use Rattle.cartridge_meaning.specs.Notes.{HasHonestNotes};
 ghost use Rattle.volume_scan.specs.Scans.{AreBetween};
-ghost use Rattle.mount_recover.specs.Known.{mount_most};
-ghost use Rattle.mount_recover.specs.Lasts.{IsSoundMount};
 ghost use Rattle.mount_recover.specs.Steps.{Blames, IsFree, IsSince, IsStep};
-ghost use Rattle.generation_view.specs.Told.{AreKnown, HasCounts, IsToldOf, RefusesChain, TellsChain, TellsWalk, refusal};
+ghost use Rattle.generation_view.specs.Told.{AreKnown, HasCounts, IsToldOf, RefusesChain, TellsChain, TellsWalk};
 
 use crate::errors::{BreakWhy, ViewErr};
 use crate::links::{Step, read_link};
+use crate::scans::{refusal, scan_chain};
 use cartridge_meaning::{MountErr, Mounted};
 use index_model::Index;
 use ltfs_label::Label;
-use mount_recover::{Start, begin, mount, scan_one};
+use mount_recover::{Start, begin, mount_by_scan};
 use std::alloc::Global;
 use tape_drive::Drive;
 use tape_types::{List, Moment, Part, Place};
@@ -53,12 +51,11 @@ pub enum Walked {
 /// its first block and the first test that it fails; `Drive` where the drive failed, and `NoMemory` where memory was
 /// refused.
 pub fn generations<D: Drive>(alloc: Global, drive: &mut D) -> Result<List<Generation>, ViewErr>
-    requires honest { IfSome (D.held drive.old) HasHonestNotes }
     ensures found { IfOk result (λ told. (c : Cartridge) → D.held drive.old ≡ Some c → TellsChain told c) }
     ensures refused { IfErr result (λ e. (c : Cartridge) → D.held drive.old ≡ Some c → RefusesChain e c) }
     ensures counts { HasCounts (D.faults drive.old) (D.faults drive.new) result }
     ensures looks { Looks D.Drive
-        ((mount_most (D.limits drive.old) + (1 + 2 * (D.limits drive.old).cap_dp)) * D.MOST) drive.old drive.new }
+        ((26 + 2 * (D.limits drive.old).cap_ip + 5 * (D.limits drive.old).cap_dp) * D.MOST) drive.old drive.new }
 {
     let start = begin(drive);
     match walk_all(alloc, drive, start) {
@@ -74,38 +71,16 @@ pub fn generations<D: Drive>(alloc: Global, drive: &mut D) -> Result<List<Genera
     }
 }
 
-/// What a mount's refusal is here.
-fn refusal(fault: MountErr) -> ViewErr
-    ensures { result ≡ refusal fault }
-{
-    match fault {
-        MountErr::Drive(counts) => ViewErr::Drive(counts),
-        MountErr::NoMemory => ViewErr::NoMemory,
-        _ => ViewErr::Mount(fault),
-    }
-}
-
 /// Mounts the cartridge, and walks along the chain.
 fn walk_all<D: Drive>(alloc: Global, drive: &mut D, start: Start) -> Result<Walked, MountErr>
     requires since { IsSince D.Drive start drive.old }
-    requires honest { IfSome (D.held drive.old) HasHonestNotes }
     requires now { start.faults ≡ D.faults drive.old }
-    ensures { IsStep D.Drive start (mount_most start.limits
+    ensures { IsStep D.Drive start ((23 + 2 * start.limits.cap_ip + 2 * start.limits.cap_dp)
         + ((1 + start.limits.cap_dp) + start.limits.cap_dp)) drive.old drive.new
         (λ walk c. (found : Found c) × TellsWalk c found walk) (λ walk. Unit {0}) Blames result }
 {
-    let mounted = mount_first(alloc, drive, start)?;
+    let mounted = mount_by_scan(alloc, drive, start)?;
     walk_mounted(alloc, drive, start, &mounted)
-}
-
-fn mount_first<D: Drive>(alloc: Global, drive: &mut D, start: Start) -> Result<Mounted, MountErr>
-    requires since { IsSince D.Drive start drive.old }
-    requires honest { IfSome (D.held drive.old) HasHonestNotes }
-    requires now { start.faults ≡ D.faults drive.old }
-    ensures { IsStep D.Drive start (mount_most start.limits) drive.old drive.new
-        (λ m c. Mounts c m) (IsSoundMount start.limits) Blames result }
-{
-    mount(alloc, drive)
 }
 
 /// Reads the data partition of what was mounted, and walks along the chain.
@@ -120,15 +95,8 @@ fn walk_mounted<D: Drive>(
     ensures { IsStep D.Drive start ((1 + start.limits.cap_dp) + start.limits.cap_dp) drive.old drive.new
         (λ walk c. (found : Found c) × TellsWalk c found walk) (λ walk. Unit {0}) Blames result }
 {
-    let scan = scan_one(alloc, drive, start, Part::Dp)?;
-    walk(
-        alloc,
-        drive,
-        start,
-        &mounted.label,
-        mounted.end_ip,
-        scan.constructs.into_vec(),
-    )
+    let places = scan_chain(alloc, drive, start, mounted)?;
+    walk(alloc, drive, start, &mounted.label, mounted.end_ip, places)
 }
 
 /// Goes back along the chain, whose indexes stand there with the oldest first.
