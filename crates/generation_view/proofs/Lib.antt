@@ -3,5 +3,7 @@ pub mod Ends
 pub mod Trials
 pub mod Walks
 pub mod LinkLemmas
+pub mod Fetches
 pub mod Mounts
+pub mod RangeReads
 pub mod Seekings

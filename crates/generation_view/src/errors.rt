@@ -33,3 +33,12 @@ pub enum ViewErr {
     /// Memory was refused.
     NoMemory,
 }
+
+/// Why nothing is read of a view.
+#[derive(Clone, Copy, Debug, PartialEq, Eq)]
+pub enum ReadErr {
+    /// The drive failed: its count of faults before and after.
+    Drive(Twin),
+    /// Memory was refused.
+    NoMemory,
+}

@@ -6,13 +6,14 @@ mod errors;
 mod examples;
 mod laws;
 mod links;
+mod reads;
 mod scans;
 mod seeking;
 mod telling;
 mod views;
 mod ways;
 
-pub use errors::{BreakWhy, ViewErr};
+pub use errors::{BreakWhy, ReadErr, ViewErr};
 pub use examples::{
     the_definitions_tell_breaks, the_definitions_tell_chains, the_definitions_tell_links,
     the_definitions_tell_what_is_behind,

@@ -6,17 +6,19 @@ ghost use Rattle.tape_drive.specs.Looks.{Looks};
 ghost use Rattle.generation_view.specs.Told.{HasCounts};
 ghost use Rattle.generation_view.specs.Views.{IsOpenOn, IsViewOf, RefusesView};
 
-use crate::errors::ViewErr;
+use crate::errors::{ReadErr, ViewErr};
+use crate::reads::read_file;
 use crate::scans::refusal;
 use crate::seeking::{Sought, seek};
-use file_tree::Tree;
+use file_tree::{Ready, Tree};
 use index_model::Spot;
 use mount_recover::begin;
+use plain_tree::{Answer, Call};
 use std::alloc::Global;
 use std::marker::Model;
 use std::snapshot::Snapshot;
 use tape_drive::Drive;
-use tape_types::{Part, Place};
+use tape_types::{List, NoMemory, Part, Place, Text};
 
 /// The tree of a generation of a volume, whose bytes are read from the drive on which it was opened.
 #[derive(Drop)]
@@ -90,8 +92,13 @@ pub fn open_view<D: Drive>(
 }
 
 impl<D: Drive> View<D> {
-    ghost use Rattle.std.specs.Prelude.{◌≡◌};
+    ghost use Rattle.std.specs.Prelude.{◌≡◌, length};
     ghost use Rattle.tape_types.specs.declared.cartridges.Part.TheVariants.{Dp};
+    ghost use Rattle.plain_tree.specs.Calls.{answer};
+    ghost use Rattle.plain_tree.specs.declared.calls.Call.TheVariants.{Read};
+    ghost use Rattle.extent_map.specs.Cells.{tape_of};
+    ghost use Rattle.file_tree.specs.Tree.{plain_of};
+    ghost use Rattle.generation_view.specs.Reads.{IsReadBy, blocks_read};
 
     /// Its tree.
     pub fn tree(&self) -> &Tree
@@ -121,6 +128,40 @@ impl<D: Drive> View<D> {
         Place {
             part: Part::Dp,
             pos: self.spot.block,
+        }
+    }
+
+    /// What a read of at most so many bytes of a file, from an offset on, is answered, as the plain tree answers it: a
+    /// file's bytes up to its end, or a refusal, `Damaged` where a byte is lost. Each block is read once. It needs a
+    /// drive that tells the same as when the view was opened.
+    ///
+    /// # Errors
+    ///
+    /// `Drive` where the drive failed, and `NoMemory` where memory was refused.
+    pub fn read(
+        &self,
+        alloc: Global,
+        drive: &mut D,
+        path: List<Text>,
+        offset: u64,
+        count: u64,
+    ) -> Result<Answer, ReadErr>
+        requires told { D.held drive.old ≡ self.now.told }
+        requires limits { D.limits drive.old ≡ self.now.limits }
+        ensures { IsReadBy D.Drive (length (blocks_read self.now.tree path offset count))
+            (λ c. answer (plain_of (tape_of c) self.now.tree) (Read path offset count)) drive.old drive.new result }
+    {
+        let _commands_are_in_range = drive.commands();
+        let call = Call::Read {
+            path,
+            offset,
+            count,
+        };
+        match self.tree.place(alloc, &call) {
+            Ok(Ok(Ready::At { number })) => read_file(alloc, &self.tree, drive, number, offset, count),
+            Ok(Ok(_)) => unreachable!(),
+            Ok(Err(refusal)) => Ok(Answer::Refused(refusal)),
+            Err(NoMemory) => Err(ReadErr::NoMemory),
         }
     }
 }
