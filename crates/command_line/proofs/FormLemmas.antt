@@ -15,8 +15,9 @@ use Rattle.clap.specs.declared.error.Error.{Error}
 use Rattle.clap.specs.declared.error.kind.ErrorKind.TheVariants as kinds
 use Rattle.tape_types.specs.declared.moments.Moment.{Moment}
 use Rattle.tape_types.proofs.CivilLemmas.{time_text_injective}
-use Rattle.command_line.specs.Forms.{IsBehindFolder, IsFormat, IsLabel, IsList, IsMake, IsMakeForm, IsMakeRead, IsMakeWords, IsMomentForm, IsMomentTaken, IsPlain, IsPlainForm, IsPlainWords, IsReadAs, IsServe, IsServeForm, IsServeRead, IsServeWords, IsSpelledBy, IsTakenAs, IsVolumeAsked}
+use Rattle.command_line.specs.Forms.{IsBehindFolder, IsFormat, IsGenerations, IsView, IsViewTaken, IsLabel, IsList, IsMake, IsMakeForm, IsMakeRead, IsMakeWords, IsMomentForm, IsMomentTaken, IsPlain, IsPlainForm, IsPlainWords, IsReadAs, IsServe, IsServeForm, IsServeRead, IsServeWords, IsSpelledBy, IsTakenAs, IsVolumeAsked}
 use Rattle.command_line.specs.Options.{IsMomentGiven, IsMomentRead, Takes, bare, with_moment}
+use Rattle.command_line.specs.Views.{IsViewForm}
 use Rattle.command_line.specs.Volumes.{IsVolumeForm}
 use Rattle.command_line.specs.declared.forms.WordsErr.{WordsErr}
 use Rattle.command_line.specs.declared.forms.WordsErr.TheVariants as errors
@@ -48,6 +49,12 @@ label_named words is = behind_named (codes "label") (Takes (bare (codes "label")
 
 pub list_named : (words : List (String Global)) → IsList words → IsNamed (codes "list") words
 list_named words is = behind_named (codes "list") (Takes (bare (codes "list"))) words is
+
+pub generations_named : (words : List (String Global)) → IsGenerations words → IsNamed (codes "generations") words
+generations_named words is = behind_named (codes "generations") (Takes (bare (codes "generations"))) words is
+
+pub view_named : (words : List (String Global)) → IsView words → IsNamed (codes "view") words
+view_named words is = behind_named (codes "view") (λ more. IsViewForm more is.0) words is.1
 
 pub format_named : (words : List (String Global)) → IsFormat words → IsNamed (codes "format") words
 format_named words is = behind_named (codes "format") (λ more. IsVolumeForm more is.0) words is.1
@@ -134,6 +141,8 @@ pub plain_spelled : (words : List (String Global)) (more : List Text) (r : Resul
 plain_spelled words more (Ok (commands.Plain at)) is form = (more, is, form)
 plain_spelled words more (Ok commands.Label) is form = absurd form
 plain_spelled words more (Ok commands.List) is form = absurd form
+plain_spelled words more (Ok commands.Generations) is form = absurd form
+plain_spelled words more (Ok (commands.View asked)) is form = absurd form
 plain_spelled words more (Ok (commands.Format asked)) is form = absurd form
 plain_spelled words more (Ok (commands.Serve at)) is form = absurd form
 plain_spelled words more (Ok (commands.Make count at)) is form = absurd form
@@ -142,6 +151,8 @@ plain_spelled words more (Err errors.Form) is none =
       no_plain = λ plain. none plain.0 (subst (λ w. IsPlainForm w plain.0) (ap (drop 1) (sym plain.1.1 ∙ is)) plain.1.2);
       no_label = λ label. names_differ words (codes "plain") (codes "label") refl named (label_named words label);
       no_list = λ list. names_differ words (codes "plain") (codes "list") refl named (list_named words list);
+      no_generations = λ generations. names_differ words (codes "plain") (codes "generations") refl named (generations_named words generations);
+      no_view = λ view. names_differ words (codes "plain") (codes "view") refl named (view_named words view);
       no_format = λ format. names_differ words (codes "plain") (codes "format") refl named (format_named words format);
       no_serve = λ serve. names_differ words (codes "plain") (codes "serve") refl named (serve_named words serve);
       no_make = λ make. names_differ words (codes "plain") (codes "make") refl named (make_named words make);
@@ -156,6 +167,8 @@ label_spelled words folder more (Err errors.Form) is none =
       no_plain = λ plain. names_differ words (codes "label") (codes "plain") refl named (plain_named words plain);
       no_label = λ label. none (subst (Takes (bare (codes "label"))) (ap (drop 2) (sym label.2 ∙ is)) label.3);
       no_list = λ list. names_differ words (codes "label") (codes "list") refl named (list_named words list);
+      no_generations = λ generations. names_differ words (codes "label") (codes "generations") refl named (generations_named words generations);
+      no_view = λ view. names_differ words (codes "label") (codes "view") refl named (view_named words view);
       no_format = λ format. names_differ words (codes "label") (codes "format") refl named (format_named words format);
       no_serve = λ serve. names_differ words (codes "label") (codes "serve") refl named (serve_named words serve);
       no_make = λ make. names_differ words (codes "label") (codes "make") refl named (make_named words make);
@@ -170,6 +183,8 @@ list_spelled words folder more (Err errors.Form) is none =
       no_plain = λ plain. names_differ words (codes "list") (codes "plain") refl named (plain_named words plain);
       no_label = λ label. names_differ words (codes "list") (codes "label") refl named (label_named words label);
       no_list = λ list. none (subst (Takes (bare (codes "list"))) (ap (drop 2) (sym list.2 ∙ is)) list.3);
+      no_generations = λ generations. names_differ words (codes "list") (codes "generations") refl named (generations_named words generations);
+      no_view = λ view. names_differ words (codes "list") (codes "view") refl named (view_named words view);
       no_format = λ format. names_differ words (codes "list") (codes "format") refl named (format_named words format);
       no_serve = λ serve. names_differ words (codes "list") (codes "serve") refl named (serve_named words serve);
       no_make = λ make. names_differ words (codes "list") (codes "make") refl named (make_named words make);
@@ -181,6 +196,8 @@ pub format_spelled : (words : List (String Global)) (folder : Text) (more : List
 format_spelled words folder more (Ok (commands.Plain at)) is form = absurd form
 format_spelled words folder more (Ok commands.Label) is form = absurd form
 format_spelled words folder more (Ok commands.List) is form = absurd form
+format_spelled words folder more (Ok commands.Generations) is form = absurd form
+format_spelled words folder more (Ok (commands.View asked)) is form = absurd form
 format_spelled words folder more (Ok (commands.Format asked)) is form = (folder, more, is, form)
 format_spelled words folder more (Ok (commands.Serve at)) is form = absurd form
 format_spelled words folder more (Ok (commands.Make count at)) is form = absurd form
@@ -189,6 +206,8 @@ format_spelled words folder more (Err errors.Form) is none =
       no_plain = λ plain. names_differ words (codes "format") (codes "plain") refl named (plain_named words plain);
       no_label = λ label. names_differ words (codes "format") (codes "label") refl named (label_named words label);
       no_list = λ list. names_differ words (codes "format") (codes "list") refl named (list_named words list);
+      no_generations = λ generations. names_differ words (codes "format") (codes "generations") refl named (generations_named words generations);
+      no_view = λ view. names_differ words (codes "format") (codes "view") refl named (view_named words view);
       no_format = λ format. none format.0 (subst (λ w. IsVolumeForm w format.0) (ap (drop 2) (sym format.1.2 ∙ is)) format.1.3);
       no_serve = λ serve. names_differ words (codes "format") (codes "serve") refl named (serve_named words serve);
       no_make = λ make. names_differ words (codes "format") (codes "make") refl named (make_named words make);
@@ -200,6 +219,8 @@ pub serve_spelled : (words : List (String Global)) (folder : Text) (more : List 
 serve_spelled words folder more (Ok (commands.Plain at)) is form = absurd form
 serve_spelled words folder more (Ok commands.Label) is form = absurd form
 serve_spelled words folder more (Ok commands.List) is form = absurd form
+serve_spelled words folder more (Ok commands.Generations) is form = absurd form
+serve_spelled words folder more (Ok (commands.View asked)) is form = absurd form
 serve_spelled words folder more (Ok (commands.Format asked)) is form = absurd form
 serve_spelled words folder more (Ok (commands.Serve at)) is form = (folder, more, is, form)
 serve_spelled words folder more (Ok (commands.Make count at)) is form = absurd form
@@ -208,6 +229,8 @@ serve_spelled words folder more (Err errors.Form) is none =
       no_plain = λ plain. names_differ words (codes "serve") (codes "plain") refl named (plain_named words plain);
       no_label = λ label. names_differ words (codes "serve") (codes "label") refl named (label_named words label);
       no_list = λ list. names_differ words (codes "serve") (codes "list") refl named (list_named words list);
+      no_generations = λ generations. names_differ words (codes "serve") (codes "generations") refl named (generations_named words generations);
+      no_view = λ view. names_differ words (codes "serve") (codes "view") refl named (view_named words view);
       no_format = λ format. names_differ words (codes "serve") (codes "format") refl named (format_named words format);
       no_make = λ make. names_differ words (codes "serve") (codes "make") refl named (make_named words make);
       no_serve = λ serve. none serve.0 (subst (λ w. IsServeForm w serve.0) (ap (drop 2) (sym serve.1.2 ∙ is)) serve.1.3);
@@ -219,6 +242,8 @@ pub make_spelled : (words : List (String Global)) (folder : Text) (more : List T
 make_spelled words folder more (Ok (commands.Plain at)) is form = absurd form
 make_spelled words folder more (Ok commands.Label) is form = absurd form
 make_spelled words folder more (Ok commands.List) is form = absurd form
+make_spelled words folder more (Ok commands.Generations) is form = absurd form
+make_spelled words folder more (Ok (commands.View asked)) is form = absurd form
 make_spelled words folder more (Ok (commands.Format asked)) is form = absurd form
 make_spelled words folder more (Ok (commands.Serve at)) is form = absurd form
 make_spelled words folder more (Ok (commands.Make count at)) is form = (folder, more, is, form)
@@ -227,11 +252,52 @@ make_spelled words folder more (Err errors.Form) is none =
       no_plain = λ plain. names_differ words (codes "make") (codes "plain") refl named (plain_named words plain);
       no_label = λ label. names_differ words (codes "make") (codes "label") refl named (label_named words label);
       no_list = λ list. names_differ words (codes "make") (codes "list") refl named (list_named words list);
+      no_generations = λ generations. names_differ words (codes "make") (codes "generations") refl named (generations_named words generations);
+      no_view = λ view. names_differ words (codes "make") (codes "view") refl named (view_named words view);
       no_format = λ format. names_differ words (codes "make") (codes "format") refl named (format_named words format);
       no_serve = λ serve. names_differ words (codes "make") (codes "serve") refl named (serve_named words serve);
       no_make = λ make. none make.0 make.1 (subst (λ w. IsMakeForm w make.0 make.1) (ap (drop 2) (sym make.2.2 ∙ is)) make.2.3);
     }
 make_spelled words folder more (Err errors.NoMemory) is none = tt
+
+pub generations_spelled : (words : List (String Global)) (folder : Text) (more : List Text) (r : Result Command WordsErr) → map string_bytes words ≡ codes "generations" ∷ folder ∷ more
+    → IsTakenAs (bare (codes "generations")) more commands.Generations r → IsSpelledBy words r
+generations_spelled words folder more (Ok command) is takes = subst (λ (k : Command). IsSpelledBy words (Ok k)) (sym takes.0) (folder, more, is, takes.1)
+generations_spelled words folder more (Err errors.Form) is none =
+    let named : IsNamed (codes "generations") words = (folder ∷ more, is) in record {
+      no_plain = λ plain. names_differ words (codes "generations") (codes "plain") refl named (plain_named words plain);
+      no_label = λ label. names_differ words (codes "generations") (codes "label") refl named (label_named words label);
+      no_list = λ list. names_differ words (codes "generations") (codes "list") refl named (list_named words list);
+      no_generations = λ generations. none (subst (Takes (bare (codes "generations"))) (ap (drop 2) (sym generations.2 ∙ is)) generations.3);
+      no_view = λ view. names_differ words (codes "generations") (codes "view") refl named (view_named words view);
+      no_format = λ format. names_differ words (codes "generations") (codes "format") refl named (format_named words format);
+      no_serve = λ serve. names_differ words (codes "generations") (codes "serve") refl named (serve_named words serve);
+      no_make = λ make. names_differ words (codes "generations") (codes "make") refl named (make_named words make);
+    }
+generations_spelled words folder more (Err errors.NoMemory) is none = tt
+
+pub view_spelled : (words : List (String Global)) (folder : Text) (more : List Text) (r : Result Command WordsErr) → map string_bytes words ≡ codes "view" ∷ folder ∷ more
+    → IsViewTaken more r → IsSpelledBy words r
+view_spelled words folder more (Ok (commands.Plain at)) is form = absurd form
+view_spelled words folder more (Ok commands.Label) is form = absurd form
+view_spelled words folder more (Ok commands.List) is form = absurd form
+view_spelled words folder more (Ok commands.Generations) is form = absurd form
+view_spelled words folder more (Ok (commands.View asked)) is form = (folder, more, is, form)
+view_spelled words folder more (Ok (commands.Format asked)) is form = absurd form
+view_spelled words folder more (Ok (commands.Serve at)) is form = absurd form
+view_spelled words folder more (Ok (commands.Make count at)) is form = absurd form
+view_spelled words folder more (Err errors.Form) is none =
+    let named : IsNamed (codes "view") words = (folder ∷ more, is) in record {
+      no_plain = λ plain. names_differ words (codes "view") (codes "plain") refl named (plain_named words plain);
+      no_label = λ label. names_differ words (codes "view") (codes "label") refl named (label_named words label);
+      no_list = λ list. names_differ words (codes "view") (codes "list") refl named (list_named words list);
+      no_generations = λ generations. names_differ words (codes "view") (codes "generations") refl named (generations_named words generations);
+      no_view = λ view. none view.0 (subst (λ w. IsViewForm w view.0) (ap (drop 2) (sym view.1.2 ∙ is)) view.1.3);
+      no_format = λ format. names_differ words (codes "view") (codes "format") refl named (format_named words format);
+      no_serve = λ serve. names_differ words (codes "view") (codes "serve") refl named (serve_named words serve);
+      no_make = λ make. names_differ words (codes "view") (codes "make") refl named (make_named words make);
+    }
+view_spelled words folder more (Err errors.NoMemory) is none = tt
 
 -- an error of another kind than want of memory tells that the words aren't taken
 pub not_taken : (faults : Kinds) (e : Error) → HasKind faults e → (kind_of e ≡ kinds.OutOfMemory → ⊥) → faults ≡ [] → ⊥

@@ -3,3 +3,4 @@ pub mod LawLemmas
 pub mod MakeLaws
 pub mod MakeLemmas
 pub mod VolumeLemmas
+pub mod ViewLemmas

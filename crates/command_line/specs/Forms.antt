@@ -7,11 +7,13 @@ use Rattle.clap.specs.Words.{App, Text, with_rule}
 use Rattle.session_script.specs.Words.{number_of}
 use Rattle.tape_types.specs.declared.moments.Moment.{Moment}
 use Rattle.command_line.specs.Options.{IsMomentGiven, Takes, bare, positional, value_of, with_moment}
+use Rattle.command_line.specs.Views.{IsViewForm}
 use Rattle.command_line.specs.Volumes.{IsVolumeForm}
 use Rattle.command_line.specs.declared.forms.WordsErr.{WordsErr}
 use Rattle.command_line.specs.declared.forms.WordsErr.TheVariants as errors
 use Rattle.command_line.specs.declared.reading.Command.{Command}
 use Rattle.command_line.specs.declared.reading.Command.TheVariants as commands
+use Rattle.command_line.specs.declared.views.ViewWords.{ViewWords}
 use Rattle.command_line.specs.declared.volumes.FormatWords.{FormatWords}
 
 -- such words as a command of that name takes that has no option but `--at`, and its moment
@@ -67,6 +69,18 @@ IsLabel words = IsOfFolder (codes "label") words
 abbrev pub IsList : List (String Global) → Type 0
 IsList words = IsOfFolder (codes "list") words
 
+-- the words are those of `generations DIR`
+abbrev pub IsGenerations : List (String Global) → Type 0
+IsGenerations words = IsOfFolder (codes "generations") words
+
+-- The words are `view DIR G`, with a number of 1 to 2^62, and maybe `--read PATH`.
+abbrev pub IsViewWords : List (String Global) → ViewWords → Type 0
+IsViewWords words asked = IsBehindFolder (codes "view") (λ more. IsViewForm more asked) words
+
+-- the words are of one of the forms of `view`
+abbrev pub IsView : List (String Global) → Type 0
+IsView words = (asked : ViewWords) × IsViewWords words asked
+
 -- the words are `format DIR`, and ask for this volume
 abbrev pub IsFormatWords : List (String Global) → FormatWords → Type 0
 IsFormatWords words asked = IsBehindFolder (codes "format") (λ more. IsVolumeForm more asked) words
@@ -96,16 +110,20 @@ pub record HasNoForm (words : List (String Global)) : Type 0 where
   pub no_plain : ¬ (IsPlain words)
   pub no_label : ¬ (IsLabel words)
   pub no_list : ¬ (IsList words)
+  pub no_generations : ¬ (IsGenerations words)
+  pub no_view : ¬ (IsView words)
   pub no_format : ¬ (IsFormat words)
   pub no_serve : ¬ (IsServe words)
   pub no_make : ¬ (IsMake words)
 
--- what the words spell: those of `plain` or of `serve` with this moment, those of `label` or of `list`, those of
--- `format` or of `make` with these values, or of no form
+-- what the words spell: those of `plain` or of `serve` with this moment, those of `label`, of `list` or of
+-- `generations`, those of `view`, of `format` or of `make` with these values, or of no form
 abbrev pub IsSpelledBy : List (String Global) → Result Command WordsErr → Type 0
 IsSpelledBy words (Ok (commands.Plain at)) = IsPlainWords words at
 IsSpelledBy words (Ok commands.Label) = IsLabel words
 IsSpelledBy words (Ok commands.List) = IsList words
+IsSpelledBy words (Ok commands.Generations) = IsGenerations words
+IsSpelledBy words (Ok (commands.View asked)) = IsViewWords words asked
 IsSpelledBy words (Ok (commands.Format asked)) = IsFormatWords words asked
 IsSpelledBy words (Ok (commands.Serve at)) = IsServeWords words at
 IsSpelledBy words (Ok (commands.Make count at)) = IsMakeWords words count at
@@ -151,3 +169,10 @@ IsVolumeAsked words (Ok (commands.Format asked)) = IsVolumeForm words asked
 IsVolumeAsked words (Ok command) = ⊥
 IsVolumeAsked words (Err errors.Form) = (asked : FormatWords) → ¬ (IsVolumeForm words asked)
 IsVolumeAsked words (Err errors.NoMemory) = Unit {0}
+
+-- the words behind `view` and its folder ask for this
+abbrev pub IsViewTaken : List Text → Result Command WordsErr → Type 0
+IsViewTaken words (Ok (commands.View asked)) = IsViewForm words asked
+IsViewTaken words (Ok command) = ⊥
+IsViewTaken words (Err errors.Form) = (asked : ViewWords) → ¬ (IsViewForm words asked)
+IsViewTaken words (Err errors.NoMemory) = Unit {0}

@@ -1,3 +1,4 @@
 pub mod Forms
 pub mod Options
+pub mod Views
 pub mod Volumes

@@ -4,6 +4,7 @@ ghost use Rattle.std.specs.Prelude.{◌≡◌, true, false, map, IfOk, string_by
 ghost use Rattle.clap.specs.Words.{app_of, is_simple_and_free, rule_of};
 ghost use Rattle.command_line.specs.Forms.{make_app};
 ghost use Rattle.command_line.specs.Options.{IsFoundIn, bare, option, positional, with_moment};
+ghost use Rattle.command_line.specs.Views.{view_app};
 ghost use Rattle.command_line.specs.Volumes.{format_app, with_policy, with_sizes, with_volume};
 
 use clap::error::ErrorKind;
@@ -69,6 +70,15 @@ pub fn format_command<'a>(alloc: Global) -> Result<clap::Command<'a>, AllocError
     let command = add_sizes(alloc, command)?;
     let command = add_policy(alloc, command)?;
     command.arg(option(alloc, "at"))
+}
+
+/// The command `view`: a word, and the option `--read`.
+pub fn view_command<'a>(alloc: Global) -> Result<clap::Command<'a>, AllocError>
+    ensures { IfOk result (λ c. app_of c ≡ view_app) }
+{
+    bare_command(alloc, "view")
+        .arg(positional(alloc, "generation"))?
+        .arg(option(alloc, "read"))
 }
 
 /// The command `make`: a word, and the option `--at`.

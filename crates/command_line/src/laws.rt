@@ -5,7 +5,7 @@ ghost use Rattle.std.specs.Global.{Global};
 ghost use Rattle.tape_types.specs.Times.{time_text};
 ghost use Rattle.tape_types.specs.declared.moments.Moment.{Moment};
 ghost use Rattle.tape_edge.specs.Clocks.{IsSince1970};
-ghost use Rattle.command_line.specs.Forms.{IsLabel, IsList, IsMakeWords, IsPlainWords, IsServeWords, count_told};
+ghost use Rattle.command_line.specs.Forms.{IsGenerations, IsLabel, IsList, IsMakeWords, IsPlainWords, IsServeWords, count_told};
 
 /// The plain forms of the commands are forms, with either spelling of an option and in no other number, and no other
 /// word may stand behind them.
@@ -20,6 +20,8 @@ pub fn words_are_forms()
         → map string_bytes words ≡ codes "label" ∷ folder ∷ [] → IsLabel words }
     ensures list { (words : List (String Global)) (folder : List ℕ)
         → map string_bytes words ≡ codes "list" ∷ folder ∷ [] → IsList words }
+    ensures generations { (words : List (String Global)) (folder : List ℕ)
+        → map string_bytes words ≡ codes "generations" ∷ folder ∷ [] → IsGenerations words }
     ensures serve { (words : List (String Global)) (folder : List ℕ)
         → map string_bytes words ≡ codes "serve" ∷ folder ∷ [] → IsServeWords words None }
     ensures serve_apart { (words : List (String Global)) (folder : List ℕ) (at : Moment) → IsSince1970 at

@@ -1,9 +1,10 @@
 ghost use Rattle.std.specs.Prelude.{◌≡◌, codes, map, option_map, string_bytes};
 ghost use Rattle.command_line.specs.Forms.{IsMakeRead, IsMomentTaken, IsReadAs, IsServeRead, IsSpelledBy};
-ghost use Rattle.command_line.specs.Forms.{IsTakenAs, IsVolumeAsked, count_told};
+ghost use Rattle.command_line.specs.Forms.{IsTakenAs, IsViewTaken, IsVolumeAsked, count_told};
 ghost use Rattle.command_line.specs.Options.{bare};
 
 use crate::forms::{WordsErr, bare_command, command_with_moment, find_in, make_command};
+use crate::views::{ViewWords, read_view};
 use crate::volumes::{FormatWords, read_at, read_number, read_volume};
 use std::alloc::Global;
 use tape_types::Moment;
@@ -17,6 +18,10 @@ pub enum Command {
     Label,
     /// `list`, which lists the tree for which the cartridge stands.
     List,
+    /// `generations`, which tells the generations that the data partition of the cartridge still has.
+    Generations,
+    /// `view`, which lists the tree of a generation, or reads a file of it.
+    View(ViewWords),
     /// `format`, which makes the cartridge this empty volume.
     Format(FormatWords),
     /// `serve`, which runs a script on the volume of the cartridge. Every moment is the given one, or else the clock's.
@@ -58,6 +63,12 @@ pub fn read_words(alloc: Global, words: &[String]) -> Result<Command, WordsErr>
     }
     if name == "make" {
         return read_make(alloc, &words[2..]);
+    }
+    if name == "generations" {
+        return read_bare(alloc, "generations", &words[2..], Command::Generations);
+    }
+    if name == "view" {
+        return read_viewed(alloc, &words[2..]);
     }
     Err(WordsErr::Form)
 }
@@ -152,6 +163,16 @@ fn read_format(alloc: Global, words: &[String]) -> Result<Command, WordsErr>
 {
     match read_volume(alloc, words) {
         Ok(asked) => Ok(Command::Format(asked)),
+        Err(error) => Err(error),
+    }
+}
+
+/// The command `view`, where its words follow its folder.
+fn read_viewed(alloc: Global, words: &[String]) -> Result<Command, WordsErr>
+    ensures { IsViewTaken (map string_bytes words.now) result }
+{
+    match read_view(alloc, words) {
+        Ok(asked) => Ok(Command::View(asked)),
         Err(error) => Err(error),
     }
 }

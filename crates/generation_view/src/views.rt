@@ -158,7 +158,9 @@ impl<D: Drive> View<D> {
             count,
         };
         match self.tree.place(alloc, &call) {
-            Ok(Ok(Ready::At { number })) => read_file(alloc, &self.tree, drive, number, offset, count),
+            Ok(Ok(Ready::At { number })) => read_file(
+                alloc, &self.tree, drive, number, offset, count,
+            ),
             Ok(Ok(_)) => unreachable!(),
             Ok(Err(refusal)) => Ok(Answer::Refused(refusal)),
             Err(NoMemory) => Err(ReadErr::NoMemory),

@@ -19,6 +19,9 @@ returns-clause-label c = λ words folder is. (folder, [], is, takes_bare _)
 pub returns-clause-list : goal.returns-clause-list
 returns-clause-list c = λ words folder is. (folder, [], is, takes_bare _)
 
+pub returns-clause-generations : goal.returns-clause-generations
+returns-clause-generations c = λ words folder is. (folder, [], is, takes_bare _)
+
 pub returns-clause-serve : goal.returns-clause-serve
 returns-clause-serve c = λ words folder is. (folder, [], is, none_is_form _)
 

@@ -1,6 +1,6 @@
 use Rattle.std.proofs.Common.{rules, arith, codes, sym, ◌∙◌}
 use Rattle.std.proofs.lemmas.Slice.Eq.{bytes_eq-Decides}
-use Rattle.command_line.proofs.FormLemmas.{behind, behind_folder, format_spelled, label_spelled, list_spelled, make_spelled, plain_spelled, serve_spelled}
+use Rattle.command_line.proofs.FormLemmas.{behind, behind_folder, format_spelled, generations_spelled, label_spelled, list_spelled, make_spelled, plain_spelled, serve_spelled, view_spelled}
 use Rattle.command_line.proofs.reading.read_words.Goals as goal
 
 pub returns-then-eq : goal.returns-then-eq
@@ -38,3 +38,15 @@ returns-then-eq-6 c =
     let name = sym c.as_str-name.ensures.value ∙ (bytes_eq-Decides c.as_str-name.result.now (codes "make")).0 (sym c.eq-6.ensures ∙ c.if-eq-6.true) in
     let found = behind_folder c.args.words.now _ _ (omega (arith, c.if-words-lt2.false)) c.index-words-0.is name in
     make_spelled c.args.words.now found.0 _ _ found.1 c.read_make.ensures
+
+pub returns-then-eq-7 : goal.returns-then-eq-7
+returns-then-eq-7 c =
+    let name = sym c.as_str-name.ensures.value ∙ (bytes_eq-Decides c.as_str-name.result.now (codes "generations")).0 (sym c.eq-7.ensures ∙ c.if-eq-7.true) in
+    let found = behind_folder c.args.words.now _ _ (omega (arith, c.if-words-lt2.false)) c.index-words-0.is name in
+    generations_spelled c.args.words.now found.0 _ _ found.1 c.read_bare-then-eq-7.ensures
+
+pub returns-then-eq-8 : goal.returns-then-eq-8
+returns-then-eq-8 c =
+    let name = sym c.as_str-name.ensures.value ∙ (bytes_eq-Decides c.as_str-name.result.now (codes "view")).0 (sym c.eq-8.ensures ∙ c.if-eq-8.true) in
+    let found = behind_folder c.args.words.now _ _ (omega (arith, c.if-words-lt2.false)) c.index-words-0.is name in
+    view_spelled c.args.words.now found.0 _ _ found.1 c.read_viewed.ensures
