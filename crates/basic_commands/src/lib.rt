@@ -14,7 +14,7 @@ mod telling;
 pub use ended::Ended;
 pub use formats::{full_text, run_format};
 pub use labels::{drive_text, mount_status, mount_text, run_label};
-pub use lists::run_list;
+pub use lists::{FoundTree, run_list, write_found};
 pub use plain::run_plain;
 pub use scripts::{Unread, read_calls, unread_status, unread_text};
 pub use telling::{bytes_of, tell, tell_made};

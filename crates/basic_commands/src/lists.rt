@@ -104,7 +104,7 @@ fn spot_of(mounted: &Mounted) -> Spot
 }
 
 /// Writes the listing of a tree, and answers the status with which the run ends.
-fn write_found<K: Sink>(alloc: Global, found: &FoundTree, out: &mut K) -> u8
+pub fn write_found<K: Sink>(alloc: Global, found: &FoundTree, out: &mut K) -> u8
     ensures { (tape : Tape) → IsListingTold (listing_of tape found.now) (written K.Sink out.old out.new) result }
 {
     match write_tree(alloc, &found.tree, found.generation, found.spot, out) {

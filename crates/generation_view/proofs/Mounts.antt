@@ -10,10 +10,11 @@ use Rattle.cartridge_meaning.specs.declared.errors.MountErr.TheVariants as error
 use Rattle.cartridge_meaning.specs.declared.mounted.Mounted.{Mounted}
 use Rattle.volume_scan.specs.declared.content.Content.{Content}
 use Rattle.volume_scan.specs.Scans.{AreBetween, IsContent, IsInPlaces}
+use Rattle.mount_recover.specs.Labels.{AreCounts as mount_counts}
 use Rattle.mount_recover.specs.Lasts.{LacksLayout}
 use Rattle.mount_recover.specs.Steps.{Blames}
 use Rattle.mount_recover.proofs.ScanLemmas.{long_front, seen}
-use Rattle.generation_view.specs.Told.{AreKnown, RefusesChain, TellsChain, TellsWalk, refusal}
+use Rattle.generation_view.specs.Told.{AreCounts, AreKnown, RefusesChain, TellsChain, TellsWalk, refusal}
 use Rattle.generation_view.specs.declared.errors.BreakWhy.{BreakWhy}
 use Rattle.generation_view.specs.declared.errors.ViewErr.TheVariants as view_errors
 use Rattle.generation_view.specs.declared.telling.Generation.{Generation}
@@ -56,3 +57,9 @@ pub refuses_chain : (c : Cartridge) (e : MountErr) → Blames e c → RefusesCha
 refuses_chain c (errors.Drive counts) blames = tt
 refuses_chain c errors.NoMemory blames = tt
 refuses_chain c e blames = blames
+
+-- the counts that a mount's refusal tells
+pub counts_told : (before now : ℕ) (e : MountErr) → mount_counts before now e → AreCounts before now (refusal e)
+counts_told before now (errors.Drive counts) is = is
+counts_told before now errors.NoMemory is = tt
+counts_told before now e is = tt

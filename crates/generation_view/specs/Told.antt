@@ -61,8 +61,15 @@ refusal (mount_errors.Drive counts) = errors.Drive counts
 refusal mount_errors.NoMemory = errors.NoMemory
 refusal e = errors.Mount e
 
--- a failed drive is told by its counts of faults, and only where the count rose
+-- a check, and no failed drive or want of memory
+abbrev pub IsCheck : MountErr → Type 0
+IsCheck (mount_errors.Drive counts) = ⊥
+IsCheck mount_errors.NoMemory = ⊥
+IsCheck e = Unit {0}
+
+-- a failed drive is told by its counts of faults, and only where the count rose; it is never told as a check
 abbrev pub AreCounts : (before now : ℕ) → ViewErr → Type 0
+AreCounts before now (errors.Mount e) = IsCheck e
 AreCounts before now (errors.Drive counts) = (counts.before ≡ before) × (counts.after ≡ now) × Rose before now
 AreCounts before now e = Unit {0}
 

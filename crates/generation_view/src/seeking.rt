@@ -3,6 +3,7 @@
 ghost use Rattle.std.specs.Prelude.{◌≡◌, ◌+◌, ◌*◌, IfOk, IfSome};
 ghost use Rattle.cartridge_meaning.specs.Meaning.{Found};
 ghost use Rattle.cartridge_meaning.specs.Mounts.{Mounts};
+ghost use Rattle.cartridge_meaning.specs.Notes.{HasHonestNotes};
 ghost use Rattle.volume_scan.specs.Scans.{AreBetween};
 ghost use Rattle.mount_recover.specs.Lasts.{IsSoundMount};
 ghost use Rattle.mount_recover.specs.Steps.{Blames, IsSince, IsStep};
@@ -41,6 +42,7 @@ pub fn seek<D: Drive>(
     generation: u64,
 ) -> Result<Sought, MountErr>
     requires since { IsSince D.Drive start drive.old }
+    requires honest { IfSome (D.held drive.old) HasHonestNotes }
     requires now { start.faults ≡ D.faults drive.old }
     ensures { IsStep D.Drive start ((23 + 2 * start.limits.cap_ip + 2 * start.limits.cap_dp)
         + ((1 + start.limits.cap_dp) + start.limits.cap_dp)) drive.old drive.new

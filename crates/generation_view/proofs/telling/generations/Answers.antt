@@ -1,7 +1,7 @@
-use Rattle.std.proofs.Common.{sym, subst}
-use Rattle.generation_view.specs.Told.{RefusesChain}
+use Rattle.std.proofs.Common.{ℕ, sym, subst, arith}
+use Rattle.generation_view.specs.Told.{AreCounts, RefusesChain, refusal}
 use Rattle.generation_view.specs.declared.errors.ViewErr.{ViewErr}
-use Rattle.generation_view.proofs.Mounts.{broken_told, refuses_chain, whole_told}
+use Rattle.generation_view.proofs.Mounts.{broken_told, counts_told, refuses_chain, whole_told}
 use Rattle.generation_view.proofs.telling.generations.Goals as goal
 
 pub returns-in-Ok-Whole-clause-found : goal.returns-in-Ok-Whole-clause-found
@@ -15,3 +15,11 @@ returns-in-Ok-Broken-clause-refused g c = λ held h.
 pub returns-in-Err-clause-refused : goal.returns-in-Err-clause-refused
 returns-in-Err-clause-refused g c = λ held h.
     subst (λ (e : ViewErr). RefusesChain e held) (sym c.refusal.ensures) (refuses_chain held c.in-Err.fault (c.in-Err.ensures.refused held h))
+
+pub returns-in-Err-clause-counts : goal.returns-in-Err-clause-counts
+returns-in-Err-clause-counts g c = record {
+  later = omega (arith, c.in-Err.ensures.counts.later, c.begin-start.ensures.faults);
+  told = subst (λ (e : ViewErr). AreCounts (g.D.Drive.faults c.args.drive.now) (g.D.Drive.faults c.walk_all.new.drive) e) (sym c.refusal.ensures)
+      (subst (λ (n : ℕ). AreCounts n (g.D.Drive.faults c.walk_all.new.drive) (refusal c.in-Err.fault)) c.begin-start.ensures.faults
+      (counts_told c.begin-start.result.faults (g.D.Drive.faults c.walk_all.new.drive) c.in-Err.fault c.in-Err.ensures.counts.told));
+}

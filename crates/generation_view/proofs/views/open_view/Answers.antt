@@ -1,6 +1,8 @@
-use Rattle.std.proofs.Common.{sym, subst}
+use Rattle.std.proofs.Common.{ℕ, sym, subst, arith}
+use Rattle.generation_view.specs.Told.{AreCounts, refusal}
 use Rattle.generation_view.specs.Views.{RefusesView}
 use Rattle.generation_view.specs.declared.errors.ViewErr.{ViewErr}
+use Rattle.generation_view.proofs.Mounts.{counts_told}
 use Rattle.generation_view.proofs.Seekings.{all_looks, can_be_read, refuses_view, seen_broken, seen_lacking, seen_there}
 use Rattle.generation_view.proofs.views.open_view.Goals as goal
 
@@ -31,3 +33,11 @@ returns-in-Ok-Broken-clause-refused g c = λ held h.
 pub returns-in-Err-clause-refused : goal.returns-in-Err-clause-refused
 returns-in-Err-clause-refused g c = λ held h.
     subst (λ (e : ViewErr). RefusesView c.args.generation e held) (sym c.refusal.ensures) (refuses_view held c.args.generation c.in-Err.fault (c.in-Err.ensures.refused held h))
+
+pub returns-in-Err-clause-counts : goal.returns-in-Err-clause-counts
+returns-in-Err-clause-counts g c = record {
+  later = omega (arith, c.in-Err.ensures.counts.later, c.begin-start.ensures.faults);
+  told = subst (λ (e : ViewErr). AreCounts (g.D.Drive.faults c.args.drive.now) (g.D.Drive.faults c.seek.new.drive) e) (sym c.refusal.ensures)
+      (subst (λ (n : ℕ). AreCounts n (g.D.Drive.faults c.seek.new.drive) (refusal c.in-Err.fault)) c.begin-start.ensures.faults
+      (counts_told c.begin-start.result.faults (g.D.Drive.faults c.seek.new.drive) c.in-Err.fault c.in-Err.ensures.counts.told));
+}

@@ -1,0 +1,36 @@
+ghost use Rattle.std.specs.Prelude.{IfSome};
+ghost use Rattle.cartridge_meaning.specs.Notes.{HasHonestNotes};
+ghost use Rattle.basic_commands.specs.Runs.{written};
+ghost use Rattle.view_commands.specs.Promises.{DoesGenerations};
+
+use crate::texts::{generations_text, view_status, view_text};
+use basic_commands::{Ended, tell_made};
+use generation_view::generations;
+use std::alloc::Global;
+use tape_drive::Drive;
+use tape_edge::Sink;
+
+/// The command `generations`: tells the generations that the data partition of the cartridge still has, the newest
+/// first, a line for each. Nothing is written to the cartridge.
+pub fn run_generations<D: Drive, K: Sink>(alloc: Global, drive: D, out: &mut K) -> Ended<D>
+    requires honest { IfSome (D.held drive) HasHonestNotes }
+    ensures { DoesGenerations D.Drive drive result.drive (written K.Sink out.old out.new) result.status result.log }
+{
+    let mut drive = drive;
+    match generations(alloc, &mut drive) {
+        Ok(told) => tell_made(
+            out,
+            generations_text(alloc, told.as_slice()),
+            0,
+            None,
+            drive,
+        ),
+        Err(error) => tell_made(
+            out,
+            view_text(alloc, error),
+            view_status(error),
+            None,
+            drive,
+        ),
+    }
+}
