@@ -11,7 +11,7 @@ from clones import (FIRST_LOG, FIRST_SCRIPT, clone, environment, fresh_folder, r
                     volume, with_index_tool, without_rt)
 
 COMMANDS = {
-    "ltfs_server": ["plain", "label", "format", "list", "serve", "make"],
+    "ltfs_server": ["plain", "label", "format", "list", "generations", "view", "serve", "make"],
     "index_tool": ["check", "canon"],
     "ltfs_put": [],
     "ltfs_get": [],

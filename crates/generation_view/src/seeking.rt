@@ -3,7 +3,6 @@
 ghost use Rattle.std.specs.Prelude.{◌≡◌, ◌+◌, ◌*◌, IfOk, IfSome};
 ghost use Rattle.cartridge_meaning.specs.Meaning.{Found};
 ghost use Rattle.cartridge_meaning.specs.Mounts.{Mounts};
-ghost use Rattle.cartridge_meaning.specs.Notes.{HasHonestNotes};
 ghost use Rattle.volume_scan.specs.Scans.{AreBetween};
 ghost use Rattle.mount_recover.specs.Lasts.{IsSoundMount};
 ghost use Rattle.mount_recover.specs.Steps.{Blames, IsSince, IsStep};
@@ -11,13 +10,13 @@ ghost use Rattle.generation_view.specs.Told.{AreKnown};
 ghost use Rattle.generation_view.specs.Views.{CanBeTree, IsMadeOf, IsSought, IsSoundSought};
 
 use crate::errors::BreakWhy;
-use crate::scans::{mount_first, scan_chain};
+use crate::scans::scan_chain;
 use crate::ways::{Way, walk_back};
 use cartridge_meaning::{MountErr, Mounted};
 use file_tree::Tree;
 use index_model::Spot;
 use ltfs_label::Label;
-use mount_recover::Start;
+use mount_recover::{Start, mount_by_scan};
 use std::alloc::Global;
 use tape_drive::Drive;
 use tape_types::NoMemory;
@@ -42,13 +41,12 @@ pub fn seek<D: Drive>(
     generation: u64,
 ) -> Result<Sought, MountErr>
     requires since { IsSince D.Drive start drive.old }
-    requires honest { IfSome (D.held drive.old) HasHonestNotes }
     requires now { start.faults ≡ D.faults drive.old }
     ensures { IsStep D.Drive start ((23 + 2 * start.limits.cap_ip + 2 * start.limits.cap_dp)
         + ((1 + start.limits.cap_dp) + start.limits.cap_dp)) drive.old drive.new
         (λ s c. (found : Found c) × IsSought c found generation s) (IsSoundSought start.limits) Blames result }
 {
-    let mounted = mount_first(alloc, drive, start)?;
+    let mounted = mount_by_scan(alloc, drive, start)?;
     seek_mounted(alloc, drive, start, &mounted, generation)
 }
 

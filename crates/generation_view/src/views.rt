@@ -3,7 +3,6 @@
 ghost use Rattle.std.specs.Prelude.{◌≡◌, ◌+◌, ◌*◌, Some, IfOk, IfErr, IfSome};
 ghost use Rattle.tape_types.specs.declared.cartridges.Cartridge.{Cartridge};
 ghost use Rattle.tape_drive.specs.Looks.{Looks};
-ghost use Rattle.cartridge_meaning.specs.Notes.{HasHonestNotes};
 ghost use Rattle.generation_view.specs.Told.{HasCounts};
 ghost use Rattle.generation_view.specs.Views.{IsOpenOn, IsViewOf, RefusesView};
 
@@ -65,7 +64,6 @@ pub fn open_view<D: Drive>(
     drive: &mut D,
     generation: u64,
 ) -> Result<View<D>, ViewErr>
-    requires honest { IfSome (D.held drive.old) HasHonestNotes }
     ensures found { IfOk result (λ view. (c : Cartridge) → D.held drive.old ≡ Some c → IsViewOf generation c view) }
     ensures opened { IfOk result (IsOpenOn D.Drive drive.new generation) }
     ensures refused { IfErr result (λ e. (c : Cartridge) → D.held drive.old ≡ Some c → RefusesView generation e c) }

@@ -15,19 +15,25 @@ use Rattle.cartridge_meaning.specs.declared.errors.MountErr.TheVariants as error
 use Rattle.format_volume.specs.Writes.{Goes}
 use Rattle.format_volume.specs.declared.requests.FormatErr.TheVariants as refusals
 use Rattle.format_volume.proofs.WriteLemmas.{goes_still}
-use Rattle.command_line.specs.Forms.{HasNoForm, IsFormat, IsFormatWords, IsLabel, IsList, IsMake, IsMakeWords, IsPlain, IsPlainWords, IsServe, IsServeWords, IsSpelledBy, count_told, make_app}
+use Rattle.command_line.specs.Forms.{HasNoForm, IsFormat, IsFormatWords, IsGenerations, IsLabel, IsList, IsMake, IsMakeWords, IsPlain, IsPlainWords, IsServe, IsServeWords, IsSpelledBy, IsView, IsViewWords, count_told, make_app}
 use Rattle.command_line.specs.Options.{IsMomentGiven, value_of}
+use Rattle.command_line.specs.declared.views.ViewWords.{ViewWords}
 use Rattle.command_line.specs.declared.volumes.FormatWords.{FormatWords}
 use Rattle.command_line.specs.declared.forms.WordsErr.{WordsErr}
 use Rattle.command_line.specs.declared.forms.WordsErr.TheVariants as word_errors
 use Rattle.command_line.specs.declared.reading.Command.{Command}
 use Rattle.command_line.specs.declared.reading.Command.TheVariants as commands
-use Rattle.command_line.proofs.FormLemmas.{format_named, label_named, list_named, make_named, names_differ, one_form, one_make, one_serve, plain_named, serve_named}
+use Rattle.command_line.proofs.FormLemmas.{format_named, generations_named, label_named, list_named, make_named, names_differ, one_form, one_make, one_serve, plain_named, serve_named, view_named}
+use Rattle.command_line.proofs.ViewLemmas.{one_view}
 use Rattle.command_line.proofs.VolumeLemmas.{one_format}
+use Rattle.generation_view.specs.declared.errors.ViewErr.TheVariants as view_errors
+use Rattle.view_commands.specs.Outcomes.{unseen, untold}
+use Rattle.view_commands.specs.Promises.{DoesGenerations, DoesView}
+use Rattle.view_commands.proofs.ViewClauses.{chain_does, view_does}
 use Rattle.basic_commands.specs.Formats.{unformatted}
 use Rattle.ltfs_server.specs.Making.{unmade}
 use Rattle.basic_commands.specs.Outcomes.{IsTold, unlabelled, unlisted}
-use Rattle.ltfs_server.specs.Outcomes.{of_format, of_label, of_list, of_make, of_memory, of_no_form, of_plain, of_serve}
+use Rattle.ltfs_server.specs.Outcomes.{of_format, of_generations, of_label, of_list, of_make, of_memory, of_no_form, of_plain, of_serve, of_view}
 use Rattle.basic_commands.specs.Promises.{DoesFormat, DoesLabel, DoesList, DoesPlain}
 use Rattle.ltfs_server.specs.Promises.{DoesAsked, DoesMake, DoesServe, RunScripts}
 use Rattle.basic_commands.specs.Runs.{Gives, IsOneOf, Taken, TakesNothing, Written}
@@ -93,6 +99,8 @@ module _ {D : Type 0} (words : List (String Global)) (gives : Gives) (one : Opti
         plain = λ again are. subst (λ (a : Option Moment). DoesPlain a gives source sink old new status log) (one_form words at again spelled are) does;
         label = λ label. absurd (names_differ words (codes "plain") (codes "label") refl (plain_named words is_plain) (label_named words label));
         list = λ list. absurd (names_differ words (codes "plain") (codes "list") refl (plain_named words is_plain) (list_named words list));
+        generations = λ generations. absurd (names_differ words (codes "plain") (codes "generations") refl (plain_named words is_plain) (generations_named words generations));
+        view = λ asked view. absurd (names_differ words (codes "plain") (codes "view") refl (plain_named words is_plain) (view_named words (asked, view)));
         format = λ asked format. absurd (names_differ words (codes "plain") (codes "format") refl (plain_named words is_plain) (format_named words (asked, format)));
         serve = λ again are. absurd (names_differ words (codes "plain") (codes "serve") refl (plain_named words is_plain) (serve_named words (again, are)));
         make = λ n time are. absurd (names_differ words (codes "plain") (codes "make") refl (plain_named words is_plain) (make_named words (n, time, are)));
@@ -117,6 +125,8 @@ module _ {D : Type 0} (words : List (String Global)) (gives : Gives) (one : Opti
     plain = λ at are. absurd (names_differ words (codes "plain") (codes "label") refl (plain_named words (at, are)) (label_named words spelled));
     label = λ label. does;
     list = λ list. absurd (names_differ words (codes "label") (codes "list") refl (label_named words spelled) (list_named words list));
+    generations = λ generations. absurd (names_differ words (codes "label") (codes "generations") refl (label_named words spelled) (generations_named words generations));
+    view = λ asked view. absurd (names_differ words (codes "label") (codes "view") refl (label_named words spelled) (view_named words (asked, view)));
     format = λ asked format. absurd (names_differ words (codes "label") (codes "format") refl (label_named words spelled) (format_named words (asked, format)));
     serve = λ at are. absurd (names_differ words (codes "label") (codes "serve") refl (label_named words spelled) (serve_named words (at, are)));
     make = λ n time are. absurd (names_differ words (codes "label") (codes "make") refl (label_named words spelled) (make_named words (n, time, are)));
@@ -141,6 +151,8 @@ module _ {D : Type 0} (words : List (String Global)) (gives : Gives) (one : Opti
     plain = λ at are. absurd (names_differ words (codes "plain") (codes "list") refl (plain_named words (at, are)) (list_named words spelled));
     label = λ label. absurd (names_differ words (codes "label") (codes "list") refl (label_named words label) (list_named words spelled));
     list = λ list. does;
+    generations = λ generations. absurd (names_differ words (codes "list") (codes "generations") refl (list_named words spelled) (generations_named words generations));
+    view = λ asked view. absurd (names_differ words (codes "list") (codes "view") refl (list_named words spelled) (view_named words (asked, view)));
     format = λ asked format. absurd (names_differ words (codes "list") (codes "format") refl (list_named words spelled) (format_named words (asked, format)));
     serve = λ at are. absurd (names_differ words (codes "list") (codes "serve") refl (list_named words spelled) (serve_named words (at, are)));
     make = λ n time are. absurd (names_differ words (codes "list") (codes "make") refl (list_named words spelled) (make_named words (n, time, are)));
@@ -160,6 +172,60 @@ module _ {D : Type 0} (words : List (String Global)) (gives : Gives) (one : Opti
     told = (of_list does.told.0, (spelled, nothing, does.told.1), does.told.2);
   }
 
+  pub generations_asked : IsGenerations words → TakesNothing source → DoesGenerations drive old new sink status log → DoesAsked words gives one source sink drive old new status log
+  generations_asked spelled nothing does = record {
+    plain = λ at are. absurd (names_differ words (codes "plain") (codes "generations") refl (plain_named words (at, are)) (generations_named words spelled));
+    label = λ label. absurd (names_differ words (codes "label") (codes "generations") refl (label_named words label) (generations_named words spelled));
+    list = λ list. absurd (names_differ words (codes "list") (codes "generations") refl (list_named words list) (generations_named words spelled));
+    generations = λ generations. does;
+    view = λ asked view. absurd (names_differ words (codes "generations") (codes "view") refl (generations_named words spelled) (view_named words (asked, view)));
+    format = λ asked format. absurd (names_differ words (codes "generations") (codes "format") refl (generations_named words spelled) (format_named words (asked, format)));
+    serve = λ at are. absurd (names_differ words (codes "generations") (codes "serve") refl (generations_named words spelled) (serve_named words (at, are)));
+    make = λ n time are. absurd (names_differ words (codes "generations") (codes "make") refl (generations_named words spelled) (make_named words (n, time, are)));
+    no_form = λ none. absurd (none.no_generations spelled);
+    unread = λ another third. nothing;
+    comes = record {
+      statuses = looked_all status does.statuses;
+      done = λ zero. inr (inr (inr (inr (inr (inr (inl spelled))))));
+      refused = λ one. absurd (other status 1 (0 ∷ 3 ∷ 4 ∷ 6 ∷ 7 ∷ []) refl does.statuses one);
+      script = λ two. absurd (other status 2 (0 ∷ 3 ∷ 4 ∷ 6 ∷ 7 ∷ []) refl does.statuses two);
+      volume = λ three. inr (inr (inr (inr (inl spelled))));
+      drive = λ four. inr (inr (inr (inr (inr (inl spelled)))));
+      read = λ five. absurd (other status 5 (0 ∷ 3 ∷ 4 ∷ 6 ∷ 7 ∷ []) refl does.statuses five);
+      full = λ eight. absurd (other status 8 (0 ∷ 3 ∷ 4 ∷ 6 ∷ 7 ∷ []) refl does.statuses eight);
+      logged = none_logged words log does.no_log;
+    };
+    told = (of_generations does.told.0, (spelled, nothing, does.told.1), (does.no_log, does.told.2));
+  }
+
+  pub view_asked : (asked : ViewWords) → IsViewWords words asked → TakesNothing source → DoesView asked drive old new sink status log
+      → DoesAsked words gives one source sink drive old new status log
+  view_asked asked spelled nothing does =
+      let is_view : IsView words = (asked, spelled) in record {
+        plain = λ at are. absurd (names_differ words (codes "plain") (codes "view") refl (plain_named words (at, are)) (view_named words is_view));
+        label = λ label. absurd (names_differ words (codes "label") (codes "view") refl (label_named words label) (view_named words is_view));
+        list = λ list. absurd (names_differ words (codes "list") (codes "view") refl (list_named words list) (view_named words is_view));
+        generations = λ generations. absurd (names_differ words (codes "generations") (codes "view") refl (generations_named words generations) (view_named words is_view));
+        view = λ again are. subst (λ (a : ViewWords). DoesView a drive old new sink status log) (one_view words asked again spelled are) does;
+        format = λ again format. absurd (names_differ words (codes "format") (codes "view") refl (format_named words (again, format)) (view_named words is_view));
+        serve = λ at are. absurd (names_differ words (codes "view") (codes "serve") refl (view_named words is_view) (serve_named words (at, are)));
+        make = λ n time are. absurd (names_differ words (codes "view") (codes "make") refl (view_named words is_view) (make_named words (n, time, are)));
+        no_form = λ none. absurd (none.no_view is_view);
+        unread = λ another third. nothing;
+        comes = record {
+          statuses = looked_all status does.statuses;
+          done = λ zero. inr (inr (inr (inr (inr (inr (inr is_view))))));
+          refused = λ one. absurd (other status 1 (0 ∷ 3 ∷ 4 ∷ 6 ∷ 7 ∷ []) refl does.statuses one);
+          script = λ two. absurd (other status 2 (0 ∷ 3 ∷ 4 ∷ 6 ∷ 7 ∷ []) refl does.statuses two);
+          volume = λ three. inr (inr (inr (inr (inr is_view))));
+          drive = λ four. inr (inr (inr (inr (inr (inr is_view)))));
+          read = λ five. absurd (other status 5 (0 ∷ 3 ∷ 4 ∷ 6 ∷ 7 ∷ []) refl does.statuses five);
+          full = λ eight. absurd (other status 8 (0 ∷ 3 ∷ 4 ∷ 6 ∷ 7 ∷ []) refl does.statuses eight);
+          logged = none_logged words log does.no_log;
+        };
+        told = (of_view does.told.0, (asked, spelled, nothing, does.told.1), (does.no_log, does.told.2));
+      }
+
   pub format_asked : (asked : FormatWords) → IsFormatWords words asked → TakesNothing source → DoesFormat asked gives drive old new sink status log
       → DoesAsked words gives one source sink drive old new status log
   format_asked asked spelled nothing does =
@@ -167,6 +233,8 @@ module _ {D : Type 0} (words : List (String Global)) (gives : Gives) (one : Opti
         plain = λ at are. absurd (names_differ words (codes "plain") (codes "format") refl (plain_named words (at, are)) (format_named words is_format));
         label = λ label. absurd (names_differ words (codes "label") (codes "format") refl (label_named words label) (format_named words is_format));
         list = λ list. absurd (names_differ words (codes "list") (codes "format") refl (list_named words list) (format_named words is_format));
+        generations = λ generations. absurd (names_differ words (codes "format") (codes "generations") refl (format_named words is_format) (generations_named words generations));
+        view = λ asked view. absurd (names_differ words (codes "format") (codes "view") refl (format_named words is_format) (view_named words (asked, view)));
         format = λ again are. subst (λ (a : FormatWords). DoesFormat a gives drive old new sink status log) (one_format words asked again spelled are) does;
         serve = λ at are. absurd (names_differ words (codes "format") (codes "serve") refl (format_named words is_format) (serve_named words (at, are)));
         make = λ n time are. absurd (names_differ words (codes "format") (codes "make") refl (format_named words is_format) (make_named words (n, time, are)));
@@ -193,6 +261,8 @@ module _ {D : Type 0} (words : List (String Global)) (gives : Gives) (one : Opti
         plain = λ again are. absurd (names_differ words (codes "plain") (codes "serve") refl (plain_named words (again, are)) (serve_named words is_serve));
         label = λ label. absurd (names_differ words (codes "label") (codes "serve") refl (label_named words label) (serve_named words is_serve));
         list = λ list. absurd (names_differ words (codes "list") (codes "serve") refl (list_named words list) (serve_named words is_serve));
+        generations = λ generations. absurd (names_differ words (codes "serve") (codes "generations") refl (serve_named words is_serve) (generations_named words generations));
+        view = λ asked view. absurd (names_differ words (codes "serve") (codes "view") refl (serve_named words is_serve) (view_named words (asked, view)));
         format = λ asked format. absurd (names_differ words (codes "format") (codes "serve") refl (format_named words (asked, format)) (serve_named words is_serve));
         serve = λ again are. subst (λ (a : Option Moment). DoesServe (one_moment a one) source drive old new sink status log) (one_serve words at again spelled are) does;
         make = λ n time are. absurd (names_differ words (codes "serve") (codes "make") refl (serve_named words is_serve) (make_named words (n, time, are)));
@@ -219,6 +289,8 @@ module _ {D : Type 0} (words : List (String Global)) (gives : Gives) (one : Opti
         plain = λ again are. absurd (names_differ words (codes "plain") (codes "make") refl (plain_named words (again, are)) (make_named words is_make));
         label = λ label. absurd (names_differ words (codes "label") (codes "make") refl (label_named words label) (make_named words is_make));
         list = λ list. absurd (names_differ words (codes "list") (codes "make") refl (list_named words list) (make_named words is_make));
+        generations = λ generations. absurd (names_differ words (codes "make") (codes "generations") refl (make_named words is_make) (generations_named words generations));
+        view = λ asked view. absurd (names_differ words (codes "make") (codes "view") refl (make_named words is_make) (view_named words (asked, view)));
         format = λ asked format. absurd (names_differ words (codes "format") (codes "make") refl (format_named words (asked, format)) (make_named words is_make));
         serve = λ again are. absurd (names_differ words (codes "serve") (codes "make") refl (serve_named words (again, are)) (make_named words is_make));
         make = λ n time are.
@@ -229,11 +301,11 @@ module _ {D : Type 0} (words : List (String Global)) (gives : Gives) (one : Opti
         unread = λ another third. nothing;
         comes = record {
           statuses = make_all status does.statuses;
-          done = λ zero. inr (inr (inr (inr (inr is_make))));
+          done = λ zero. inr (inr (inr (inr (inr (inl is_make)))));
           refused = λ one. absurd (other status 1 (0 ∷ 3 ∷ 4 ∷ 6 ∷ 7 ∷ 8 ∷ []) refl does.statuses one);
           script = λ two. absurd (other status 2 (0 ∷ 3 ∷ 4 ∷ 6 ∷ 7 ∷ 8 ∷ []) refl does.statuses two);
-          volume = λ three. inr (inr (inr is_make));
-          drive = λ four. inr (inr (inr (inr is_make)));
+          volume = λ three. inr (inr (inr (inl is_make)));
+          drive = λ four. inr (inr (inr (inr (inl is_make))));
           read = λ five. absurd (other status 5 (0 ∷ 3 ∷ 4 ∷ 6 ∷ 7 ∷ 8 ∷ []) refl does.statuses five);
           full = λ eight. inr (inr is_make);
           logged = if_some log (λ l. RunScripts words) (λ l is. inr (inr is_make));
@@ -250,6 +322,8 @@ module _ {D : Type 0} (words : List (String Global)) (gives : Gives) (one : Opti
         plain = λ at are. absurd (none.no_plain (at, are));
         label = λ label. absurd (none.no_label label);
         list = λ list. absurd (none.no_list list);
+        generations = λ generations. absurd (none.no_generations generations);
+        view = λ asked view. absurd (none.no_view (asked, view));
         format = λ asked format. absurd (none.no_format (asked, format));
         serve = λ at are. absurd (none.no_serve (at, are));
         make = λ n time are. absurd (none.no_make (n, time, are));
@@ -302,6 +376,8 @@ module _ {D : Type 0} (words : List (String Global)) (gives : Gives) (one : Opti
         plain = λ at are. plain_does at gives source sink old new status log (plains.NoMemory None) same tt (no_log, told);
         label = λ label. label_does drive old new sink status log (unlabelled errors.NoMemory) (if_some (drive.held old) _ (λ c held. tt), tt) (looks_no _ same range) (no_log, told);
         list = λ list. list_does drive old new sink status log (unlisted errors.NoMemory) (if_some (drive.held old) _ (λ c held. tt), tt) (looks_no _ same range) (no_log, told);
+        generations = λ generations. chain_does drive old new sink status log (untold view_errors.NoMemory) (if_some (drive.held old) _ (λ c held. tt), tt) (looks_no _ same range) no_log told;
+        view = λ asked view. view_does asked drive old new sink status log (unseen view_errors.NoMemory) (if_some (drive.held old) _ (λ c held. tt), tt) 0 (looks_no _ same range) no_log told;
         format = λ asked format. format_does drive old new asked gives sink status log (unformatted refusals.NoMemory) same (subst (λ (d : D). Goes drive old d) (sym same) (goes_still drive old)) (no_log, told);
         serve = λ at are. serve_does drive old new (one_moment at one) source sink log status (unscripted unread.NoMemory) tt (λ none. looks_no _ same range) (ap drive.limits same) (λ held. ap drive.held same ∙ held) (no_log, told);
         make = λ n time are. make_does drive old new (one_moment time one) n sink log status (unmade errors.NoMemory) (if_some (drive.held old) _ (λ c held. tt), tt) (λ none. looks_no _ same range) (ap drive.limits same) (λ held. ap drive.held same ∙ held) (no_log, told);
@@ -337,6 +413,12 @@ asked_label w words k same is spelled = subst IsLabel same (subst (λ (k : Comma
 
 pub asked_list : (w words : List (String Global)) (k : Command) → w ≡ words → k ≡ commands.List → IsSpelledBy w (Ok k) → IsList words
 asked_list w words k same is spelled = subst IsList same (subst (λ (k : Command). IsSpelledBy w (Ok k)) is spelled)
+
+pub asked_generations : (w words : List (String Global)) (k : Command) → w ≡ words → k ≡ commands.Generations → IsSpelledBy w (Ok k) → IsGenerations words
+asked_generations w words k same is spelled = subst IsGenerations same (subst (λ (k : Command). IsSpelledBy w (Ok k)) is spelled)
+
+pub asked_view : (w words : List (String Global)) (k : Command) (asked : ViewWords) → w ≡ words → k ≡ commands.View asked → IsSpelledBy w (Ok k) → IsViewWords words asked
+asked_view w words k asked same is spelled = subst (λ v. IsViewWords v asked) same (subst (λ (k : Command). IsSpelledBy w (Ok k)) is spelled)
 
 pub asked_none : (w words : List (String Global)) (e : WordsErr) → w ≡ words → e ≡ word_errors.Form → IsSpelledBy w (Err e) → HasNoForm words
 asked_none w words e same is spelled = subst HasNoForm same (subst (λ (e : WordsErr). IsSpelledBy w (Err e)) is spelled)

@@ -5,7 +5,11 @@ use Rattle.tape_types.specs.declared.moments.Moment.{Moment}
 use Rattle.tape_drive.specs.declared.drive.Drive.{Ghosts}
 use Rattle.session_script.specs.declared.logs.Log.{Log}
 use Rattle.command_line.specs.Forms.{HasNoForm, IsFormatWords, IsLabel, IsList, IsMakeWords, IsPlainWords, IsServeWords}
+use Rattle.command_line.specs.Forms.{IsGenerations, IsViewWords}
+use Rattle.command_line.specs.declared.views.ViewWords.{ViewWords}
 use Rattle.command_line.specs.declared.volumes.FormatWords.{FormatWords}
+use Rattle.view_commands.specs.Outcomes.{ChainEnd, IsChainEnd, IsViewEnd, ViewEnd, chain_status, chain_text}
+use Rattle.view_commands.specs.Outcomes.{end_status as view_end_status, end_text as view_end_text}
 use Rattle.basic_commands.specs.Formats.{FormatEnd, IsFormatEnd, end_status, end_text}
 use Rattle.ltfs_server.specs.Making.{IsMadeEnd, MadeEnd, made_log, made_status, made_text}
 use Rattle.basic_commands.specs.Outcomes.{IsLabelEnd, IsListEnd, IsPlainEnd, IsTold, LabelEnd, ListEnd, label_status}
@@ -30,6 +34,8 @@ pub data Ending : Type 0 where
   of_plain : PlainEnd → Ending
   of_label : LabelEnd → Ending
   of_list : ListEnd → Ending
+  of_generations : ChainEnd → Ending
+  of_view : ViewEnd → Ending
   of_format : FormatEnd → Ending
   of_serve : ServedEnd → Ending
   of_make : MadeEnd → Ending
@@ -40,6 +46,8 @@ status_of of_memory = 7
 status_of (of_plain end) = plain_status end
 status_of (of_label end) = label_status end
 status_of (of_list end) = list_status end
+status_of (of_generations end) = chain_status end
+status_of (of_view end) = view_end_status end
 status_of (of_format end) = end_status end
 status_of (of_serve end) = served_status end
 status_of (of_make end) = made_status end
@@ -50,6 +58,8 @@ text_of of_memory = codes "memory\n"
 text_of (of_plain end) = plain_text end
 text_of (of_label end) = label_text end
 text_of (of_list end) = list_text end
+text_of (of_generations end) = chain_text end
+text_of (of_view end) = view_end_text end
 text_of (of_format end) = end_text end
 text_of (of_serve end) = served_text end
 text_of (of_make end) = made_text end
@@ -60,6 +70,8 @@ log_of of_memory = None
 log_of (of_plain end) = plain_log end
 log_of (of_label end) = None
 log_of (of_list end) = None
+log_of (of_generations end) = None
+log_of (of_view end) = None
 log_of (of_format end) = None
 log_of (of_serve end) = served_log end
 log_of (of_make end) = made_log end
@@ -74,6 +86,10 @@ IsCaused r drive old new (of_plain end) =
 IsCaused r drive old new (of_label end) =
     IsLabel r.words × TakesNothing r.source × IsLabelEnd (looked drive old new) end
 IsCaused r drive old new (of_list end) = IsList r.words × TakesNothing r.source × IsListEnd (looked drive old new) end
+IsCaused r drive old new (of_generations end) =
+    IsGenerations r.words × TakesNothing r.source × IsChainEnd (looked drive old new) end
+IsCaused r drive old new (of_view end) =
+    (asked : ViewWords) × IsViewWords r.words asked × TakesNothing r.source × IsViewEnd asked (looked drive old new) end
 IsCaused r drive old new (of_format end) =
     (asked : FormatWords) × IsFormatWords r.words asked × TakesNothing r.source
     × IsFormatEnd drive asked r.gives old new end

@@ -12,7 +12,10 @@ use Rattle.tape_drive.specs.declared.drive.Drive.{Ghosts}
 use Rattle.cartridge_meaning.specs.Meaning.{Found}
 use Rattle.command_line.specs.Forms.{HasNoForm, IsFormat, IsFormatWords, IsLabel, IsList, IsMake, IsMakeWords, IsPlain}
 use Rattle.command_line.specs.Forms.{IsPlainWords, IsServe, IsServeWords}
+use Rattle.command_line.specs.Forms.{IsGenerations, IsView, IsViewWords}
+use Rattle.command_line.specs.declared.views.ViewWords.{ViewWords}
 use Rattle.command_line.specs.declared.volumes.FormatWords.{FormatWords}
+use Rattle.view_commands.specs.Promises.{DoesGenerations, DoesView}
 use Rattle.basic_commands.specs.Headline.{IsMountFaultPrinted, IsReadFaultPrinted}
 use Rattle.basic_commands.specs.Headline.{IsRefusalPrinted}
 use Rattle.ltfs_server.specs.Making.{IsMadeEnd, IsMadeFailurePrinted, IsMadeRun, IsMadeShortPrinted, IsSummaryPrinted}
@@ -101,9 +104,13 @@ pub record RefusesWords {D : Type 0} (sink : Written) (old new : D) (status : �
   pub drive : new ≡ old
   pub no_log : log ≡ None
 
+-- the words are those of a command that goes along the chain of a cartridge's indexes
+abbrev pub AskForChain : List (String Global) → Type 0
+AskForChain words = IsGenerations words ⊎ IsView words
+
 -- the words are those of a command that goes to the drive
 abbrev pub AskForDrive : List (String Global) → Type 0
-AskForDrive words = IsLabel words ⊎ (IsList words ⊎ (IsFormat words ⊎ (IsServe words ⊎ IsMake words)))
+AskForDrive words = IsLabel words ⊎ (IsList words ⊎ (IsFormat words ⊎ (IsServe words ⊎ (IsMake words ⊎ AskForChain words))))
 
 -- the words are those of a command that mounts a cartridge
 abbrev pub AskToMount : List (String Global) → Type 0
@@ -123,7 +130,7 @@ pub record ComesOf (words : List (String Global)) (status : ℕ) (log : Option L
   pub done : status ≡ 0 → IsPlain words ⊎ AskForDrive words
   pub refused : status ≡ 1 → HasNoForm words
   pub script : status ≡ 2 → ReadScripts words
-  pub volume : status ≡ 3 → IsLabel words ⊎ (IsList words ⊎ (IsServe words ⊎ IsMake words))
+  pub volume : status ≡ 3 → IsLabel words ⊎ (IsList words ⊎ (IsServe words ⊎ (IsMake words ⊎ AskForChain words)))
   pub drive : status ≡ 4 → AskForDrive words
   pub read : status ≡ 5 → ReadScripts words
   pub full : status ≡ 8 → IsFormat words ⊎ (IsServe words ⊎ IsMake words)
@@ -135,6 +142,8 @@ pub record DoesAsked {D : Type 0} (words : List (String Global)) (gives : Gives)
   pub plain : (at : Option Moment) → IsPlainWords words at → DoesPlain at gives source sink old new status log
   pub label : IsLabel words → DoesLabel drive old new sink status log
   pub list : IsList words → DoesList drive old new sink status log
+  pub generations : IsGenerations words → DoesGenerations drive old new sink status log
+  pub view : (asked : ViewWords) → IsViewWords words asked → DoesView asked drive old new sink status log
   pub format : (asked : FormatWords) → IsFormatWords words asked
       → DoesFormat asked gives drive old new sink status log
   pub serve : (at : Option Moment) → IsServeWords words at

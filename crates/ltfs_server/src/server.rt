@@ -2,8 +2,11 @@ ghost use Rattle.std.specs.Prelude.{ℕ, IfSome, Option};
 ghost use Rattle.tape_types.specs.declared.moments.Moment.{Moment as Instant};
 ghost use Rattle.command_line.specs.Forms.{HasNoForm, IsFormatWords, IsLabel, IsList, IsMakeWords, IsPlain};
 ghost use Rattle.command_line.specs.Forms.{IsPlainWords, IsServe, IsServeWords};
+ghost use Rattle.command_line.specs.Forms.{IsGenerations, IsViewWords};
+ghost use Rattle.command_line.specs.declared.views.ViewWords.{ViewWords};
 ghost use Rattle.command_line.specs.declared.volumes.FormatWords.{FormatWords};
 ghost use Rattle.cartridge_meaning.specs.Notes.{HasHonestNotes};
+ghost use Rattle.view_commands.specs.Promises.{DoesGenerations, DoesView};
 ghost use Rattle.ltfs_server.specs.Outcomes.{Ending, EndsAs, IsCaused};
 ghost use Rattle.basic_commands.specs.Promises.{DoesFormat, DoesLabel, DoesList, DoesPlain};
 ghost use Rattle.ltfs_server.specs.Promises.{AskToMount, ComesOf, DoesAsked, DoesMake};
@@ -25,6 +28,7 @@ use std::sync::Wait;
 use std::thread::Threads;
 use tape_drive::Drive;
 use tape_edge::{Clock, Gate, Sink, Source};
+use view_commands::{run_generations, run_view};
 
 /// Runs the program: reads the words, and does what they ask for.
 pub fn run<
@@ -63,6 +67,12 @@ pub fn run<
     // `list` prints the tree as which the cartridge reads, or which check fails, and only looks at it.
     ensures list { IsList words.now.items
         → DoesList D.Drive drive result.drive (written K.Sink out.old out.new) result.status result.log }
+    // `generations` prints the generations that the data partition of the cartridge still has, or why none, and `view`
+    // the tree of one, or a file of it; both only look at the cartridge.
+    ensures generations { IsGenerations words.now.items
+        → DoesGenerations D.Drive drive result.drive (written K.Sink out.old out.new) result.status result.log }
+    ensures view { (asked : ViewWords) → IsViewWords words.now.items asked
+        → DoesView asked D.Drive drive result.drive (written K.Sink out.old out.new) result.status result.log }
     // `format` makes the cartridge in the drive the empty volume of the words, or tells why not.
     ensures format { (asked : FormatWords) → IsFormatWords words.now.items asked
         → DoesFormat asked (C.gives clock) D.Drive drive result.drive (written K.Sink out.old out.new)
@@ -138,6 +148,8 @@ fn run_asked<
         Ok(Command::Plain { at }) => run_plain(alloc, at, drive, script, out, clock),
         Ok(Command::Label) => run_label(alloc, drive, out),
         Ok(Command::List) => run_list(alloc, drive, out),
+        Ok(Command::Generations) => run_generations(alloc, drive, out),
+        Ok(Command::View(asked)) => run_view(alloc, asked, drive, out),
         Ok(Command::Format(asked)) => run_format(alloc, asked, drive, out, clock),
         Ok(Command::Serve { at }) => run_serve(rt, alloc, at, drive, script, out, clock, gate),
         Ok(Command::Make { count, at }) => {

@@ -1,5 +1,4 @@
 ghost use Rattle.std.specs.Prelude.{IfSome};
-ghost use Rattle.cartridge_meaning.specs.Notes.{HasHonestNotes};
 ghost use Rattle.basic_commands.specs.Runs.{written};
 ghost use Rattle.view_commands.specs.Promises.{DoesGenerations};
 
@@ -13,7 +12,6 @@ use tape_edge::Sink;
 /// The command `generations`: tells the generations that the data partition of the cartridge still has, the newest
 /// first, a line for each. Nothing is written to the cartridge.
 pub fn run_generations<D: Drive, K: Sink>(alloc: Global, drive: D, out: &mut K) -> Ended<D>
-    requires honest { IfSome (D.held drive) HasHonestNotes }
     ensures { DoesGenerations D.Drive drive result.drive (written K.Sink out.old out.new) result.status result.log }
 {
     let mut drive = drive;

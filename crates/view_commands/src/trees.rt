@@ -1,7 +1,6 @@
 ghost use Rattle.std.specs.Prelude.{◌≡◌, IfSome, None, Some};
 ghost use Rattle.plain_tree.specs.Paths.{Path};
 ghost use Rattle.tape_drive.specs.Looks.{Looks};
-ghost use Rattle.cartridge_meaning.specs.Notes.{HasHonestNotes};
 ghost use Rattle.generation_view.specs.Views.{Opened};
 ghost use Rattle.basic_commands.specs.Runs.{written};
 ghost use Rattle.view_commands.specs.Outcomes.{IsReadTold, IsSeenTold};
@@ -28,7 +27,6 @@ pub fn run_view<D: Drive, K: Sink>(
     drive: D,
     out: &mut K,
 ) -> Ended<D>
-    requires honest { IfSome (D.held drive) HasHonestNotes }
     ensures { DoesView asked D.Drive drive result.drive (written K.Sink out.old out.new) result.status result.log }
 {
     let mut drive = drive;

@@ -1,5 +1,5 @@
-use Rattle.std.proofs.Common.{refl, inl, inr, arith}
-use Rattle.ltfs_server.proofs.Asked.{asked_format, asked_label, asked_list, asked_make, asked_none, asked_plain, asked_serve, form_asked, format_asked, given_since, label_asked, list_asked, make_asked, make_few, memory_asked, plain_asked, serve_asked}
+use Rattle.std.proofs.Common.{inl, inr, refl, arith}
+use Rattle.ltfs_server.proofs.Asked.{asked_format, asked_generations, asked_label, asked_list, asked_make, asked_none, asked_plain, asked_serve, asked_view, form_asked, format_asked, generations_asked, given_since, label_asked, list_asked, make_asked, make_few, memory_asked, plain_asked, serve_asked, view_asked}
 use Rattle.ltfs_server.proofs.server.run_asked.Goals as goal
 
 pub returns-in-Ok-Plain : goal.returns-in-Ok-Plain
@@ -15,6 +15,24 @@ pub returns-in-Ok-List : goal.returns-in-Ok-List
 returns-in-Ok-List g c =
     list_asked _ _ _ _ _ g.D.Drive _ _ _ _ (asked_list _ _ _ c.as_slice.ensures.value c.in-Ok-List.field-0-is c.in-Ok-List.ensures)
     (record { left = refl; faults = refl }) c.run_list.ensures
+
+pub run_generations-requires : goal.run_generations-requires
+run_generations-requires g c =
+    record { honest = c.requires.chain (inl (asked_generations _ _ _ c.as_slice.ensures.value c.in-Ok-Generations.field-0-is c.in-Ok-Generations.ensures)) }
+
+pub returns-in-Ok-Generations : goal.returns-in-Ok-Generations
+returns-in-Ok-Generations g c =
+    generations_asked _ _ _ _ _ g.D.Drive _ _ _ _ (asked_generations _ _ _ c.as_slice.ensures.value c.in-Ok-Generations.field-0-is c.in-Ok-Generations.ensures)
+    (record { left = refl; faults = refl }) c.run_generations.ensures
+
+pub run_view-requires : goal.run_view-requires
+run_view-requires g c =
+    record { honest = c.requires.chain (inr (c.in-Ok-View.asked, asked_view _ _ _ c.in-Ok-View.asked c.as_slice.ensures.value c.in-Ok-View.field-0-is c.in-Ok-View.ensures)) }
+
+pub returns-in-Ok-View : goal.returns-in-Ok-View
+returns-in-Ok-View g c =
+    view_asked _ _ _ _ _ g.D.Drive _ _ _ _ c.in-Ok-View.asked (asked_view _ _ _ c.in-Ok-View.asked c.as_slice.ensures.value c.in-Ok-View.field-0-is c.in-Ok-View.ensures)
+    (record { left = refl; faults = refl }) c.run_view.ensures
 
 pub run_format-requires-clause-fine : goal.run_format-requires-clause-fine
 run_format-requires-clause-fine g c =
