@@ -1,4 +1,3 @@
-ghost use Rattle.std.specs.Prelude.{IfSome};
 ghost use Rattle.basic_commands.specs.Runs.{written};
 ghost use Rattle.view_commands.specs.Promises.{DoesGenerations};
 

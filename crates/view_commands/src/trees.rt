@@ -1,4 +1,4 @@
-ghost use Rattle.std.specs.Prelude.{◌≡◌, IfSome, None, Some};
+ghost use Rattle.std.specs.Prelude.{◌≡◌, None, Some};
 ghost use Rattle.plain_tree.specs.Paths.{Path};
 ghost use Rattle.tape_drive.specs.Looks.{Looks};
 ghost use Rattle.generation_view.specs.Views.{Opened};
