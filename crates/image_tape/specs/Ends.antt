@@ -1,5 +1,6 @@
 -- What a command of a tape leaves of it.
-use Rattle.std.specs.Prelude.{ℕ, ◌+◌, ◌-◌, ◌^◌, ◌≤◌, ◌≡◌, min, Option, Some, None, Result, OnOk, OnErr, IfOk, IsErr, List}
+use Rattle.std.specs.Prelude.{ℕ, ◌+◌, ◌-◌, ◌^◌, ◌≤◌, ◌≡◌, min, Option, Some, None, Result, OnOk, OnErr, IfOk, IsErr}
+use Rattle.std.specs.Prelude.{List}
 use Rattle.tape_types.specs.Counts.{HasCause}
 use Rattle.tape_types.specs.declared.cartridges.Cartridge.{Cartridge}
 use Rattle.tape_types.specs.declared.cartridges.Place.{Place}
@@ -69,12 +70,15 @@ pub record IsLooked {D T E : Type 0} (disk : Ghosts D) (end : Result T E) (old n
   pub crash : CrashesOn disk old.room.limits NothingNew old.slots.disk new.slots.disk
 
 -- a command that writes an item at a place
-pub record Wrote {D T E : Type 0} (disk : Ghosts D) (at : Place) (x : Item) (end : Result T E) (old new : View D) : Type 0 where
+pub record Wrote {D T E : Type 0} (disk : Ghosts D) (at : Place) (x : Item) (end : Result T E)
+    (old new : View D) : Type 0 where
   pub ends : Ends disk end old new
   pub head : OnOk end (new.head ≡ Some (next at))
   pub untold : held_of disk old ≡ None → held_of disk new ≡ None
-  pub told : (c : Cartridge) → held_of disk old ≡ Some c → (e : Cartridge) × (held_of disk new ≡ Some e) × AfterWrite end at.part at.pos x c e
-  pub at_end : (c : Cartridge) → held_of disk old ≡ Some c → 2 ^ 64 - 1 ≤ c.vcr → IsErr end × (held_of disk new ≡ Some c)
+  pub told : (c : Cartridge) → held_of disk old ≡ Some c → (e : Cartridge) × (held_of disk new ≡ Some e)
+      × AfterWrite end at.part at.pos x c e
+  pub at_end : (c : Cartridge) → held_of disk old ≡ Some c → 2 ^ 64 - 1 ≤ c.vcr → IsErr end
+      × (held_of disk new ≡ Some c)
   pub crash : (c : Cartridge) → held_of disk old ≡ Some c
       → CrashesOn disk old.room.limits (WithinWrite at.part at.pos x c) old.slots.disk new.slots.disk
 
@@ -84,19 +88,24 @@ pub record Flushed {D T E : Type 0} (disk : Ghosts D) (end : Result T E) (old ne
   pub head : OnOk end (new.head ≡ old.head)
   pub held : held_of disk new ≡ held_of disk old
   pub sure : OnOk end (crash.IsSure (held_of disk new) (LeavesOn disk new.room.limits new.slots.disk))
-  pub crash : (c : Cartridge) → held_of disk old ≡ Some c → CrashesOn disk old.room.limits (WithinFlush c) old.slots.disk new.slots.disk
+  pub crash : (c : Cartridge) → held_of disk old ≡ Some c
+      → CrashesOn disk old.room.limits (WithinFlush c) old.slots.disk new.slots.disk
 
 -- a write of an attribute
-pub record Noted {D T E : Type 0} (disk : Ghosts D) (part : Part) (note : Note) (end : Result T E) (old new : View D) : Type 0 where
+pub record Noted {D T E : Type 0} (disk : Ghosts D) (part : Part) (note : Note) (end : Result T E)
+    (old new : View D) : Type 0 where
   pub ends : Ends disk end old new
   pub head : OnOk end (new.head ≡ old.head)
   pub settled : OnOk end (new.doubt ≡ Settled)
   pub untold : held_of disk old ≡ None → held_of disk new ≡ None
-  pub told : (c : Cartridge) → held_of disk old ≡ Some c → (e : Cartridge) × (held_of disk new ≡ Some e) × AfterNote end part note c e
-  pub crash : (c : Cartridge) → held_of disk old ≡ Some c → CrashesOn disk old.room.limits (WithinNote part note) old.slots.disk new.slots.disk
+  pub told : (c : Cartridge) → held_of disk old ≡ Some c → (e : Cartridge) × (held_of disk new ≡ Some e)
+      × AfterNote end part note c e
+  pub crash : (c : Cartridge) → held_of disk old ≡ Some c
+      → CrashesOn disk old.room.limits (WithinNote part note) old.slots.disk new.slots.disk
 
 -- a read at a place
-pub record HasRead {D E : Type 0} (disk : Ghosts D) (at : Place) (end : Result Got E) (buf : List ℕ) (old new : View D) : Type 0 where
+pub record HasRead {D E : Type 0} (disk : Ghosts D) (at : Place) (end : Result Got E) (buf : List ℕ)
+    (old new : View D) : Type 0 where
   pub looked : IsLooked disk end old new
   pub head : IfOk end (λ found. new.head ≡ Some (after_read found at))
   pub item : IfOk end (λ found. (c : Cartridge) → held_of disk old ≡ Some c → IsRead (item_at at c) found buf)

@@ -10,7 +10,8 @@ use Rattle.image_tape.specs.Tape.{LeavesOn, SinceOn, View}
 -- opens, as a cartridge that may have been left since then; and each that may be left now as one that may be left now.
 pub record ImagesOpen {D : Type 0} (disk : Ghosts D) (v : View D) : Type 0 where
   pub reached : v.opened ≤ disk.commands v.slots.disk
-  pub since : (d : Files) → disk.held v.slots.disk ≡ Some d → (t : ℕ) → v.opened ≤ t → v.opened < 2 ^ 64 - 1 → (image : Files)
+  pub since : (d : Files) → disk.held v.slots.disk ≡ Some d → (t : ℕ) → v.opened ≤ t → v.opened < 2 ^ 64 - 1
+      → (image : Files)
       → disk.left_since v.slots.disk t image
       → (c : Cartridge) × Opens v.room.limits image c × SinceOn disk v.room.limits v.slots.disk t c
   pub now : (d : Files) → disk.held v.slots.disk ≡ Some d → (image : Files) → disk.leaves v.slots.disk image

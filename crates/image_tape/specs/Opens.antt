@@ -22,16 +22,19 @@ use Rattle.image_tape.specs.Tape.{LeavesOn, View, held_of}
 
 -- every crash leaves the partitions' files as they read
 abbrev pub AreSynced : {D : Type 0} → Ghosts D → slot.View D → Type 0
-AreSynced disk s = (d left : Files) → disk.held s.disk ≡ Some d → disk.leaves s.disk left → (left.ip ≡ d.ip) × (left.dp ≡ d.dp)
+AreSynced disk s = (d left : Files) → disk.held s.disk ≡ Some d → disk.leaves s.disk left → (left.ip ≡ d.ip)
+    × (left.dp ≡ d.dp)
 
 -- A value says what lies in the files of a disk, which are durable: it is the one of the header, and the records begin
 -- at these offsets.
-pub record IsTellable {D : Type 0} (disk : Ghosts D) (limits : Limits) (s : slot.View D) (room : Offsets) (value : SlotValue) : Type 0 where
+pub record IsTellable {D : Type 0} (disk : Ghosts D) (limits : Limits) (s : slot.View D) (room : Offsets)
+    (value : SlotValue) : Type 0 where
   pub said : header_by limits (Some s.value) ≡ Some value
   pub count_ip : length room.ip ≡ value.ip.count
   pub count_dp : length room.dp ≡ value.dp.count
   pub synced : AreSynced disk s
-  pub records : (d : Files) → disk.held s.disk ≡ Some d → (ip dp : List Item) × AreRecords value.ip d.ip ip × AreRecords value.dp d.dp dp
+  pub records : (d : Files) → disk.held s.disk ≡ Some d →
+      (ip dp : List Item) × AreRecords value.ip d.ip ip × AreRecords value.dp d.dp dp
       × (room.ip ≡ offsets_from 0 ip) × (room.dp ≡ offsets_from 0 dp)
 
 -- the tape that was opened over a disk
@@ -41,7 +44,8 @@ pub record HasOpened {D : Type 0} (disk : Ghosts D) (limits : Limits) (old : D) 
   pub faults : t.faults ≡ 0
   pub opened : t.opened ≡ disk.commands t.slots.disk
   pub untold : disk.held old ≡ None → disk.held t.slots.disk ≡ None
-  pub told : (d : Files) → disk.held old ≡ Some d → (c : Cartridge) × (image limits d ≡ Ok c) × (held_of disk t ≡ Some c)
+  pub told : (d : Files) → disk.held old ≡ Some d → (c : Cartridge) × (image limits d ≡ Ok c)
+      × (held_of disk t ≡ Some c)
       × ((x : Cartridge) → LeavesOn disk limits t.slots.disk x → x ≡ c)
 
 -- why the files of a disk were refused

@@ -57,13 +57,16 @@ AfterCommit (Ok _) from to held = held ≡ Some to
 AfterCommit (Err _) from to held = (held ≡ Some from) ⊎ (held ≡ Some to)
 
 -- A value was set, or was to be set; with it so much reads.
-pub record IsCommit {D T E : Type 0} (disk : Ghosts D) (value reads : SlotValue) (end : Result T E) (old new : View D) : Type 0 where
+pub record IsCommit {D T E : Type 0} (disk : Ghosts D) (value reads : SlotValue) (end : Result T E)
+    (old new : View D) : Type 0 where
   pub stays : Stays old new
   pub count : AtMost 6 (disk.commands old.slots.disk) (disk.commands new.slots.disk)
   pub untold : disk.held old.slots.disk ≡ None → disk.held new.slots.disk ≡ None
-  pub told : (d : Files) (from to : Cartridge) → disk.held old.slots.disk ≡ Some d → image_by d (Some old.reads) ≡ Ok from
+  pub told : (d : Files) (from to : Cartridge) → disk.held old.slots.disk ≡ Some d
+      → image_by d (Some old.reads) ≡ Ok from
       → image_by d (Some reads) ≡ Ok to → AfterCommit end from to (held_of disk new)
-  pub crash : (d : Files) (from to : Cartridge) → disk.held old.slots.disk ≡ Some d → image_by d (Some old.base) ≡ Ok from
+  pub crash : (d : Files) (from to : Cartridge) → disk.held old.slots.disk ≡ Some d
+      → image_by d (Some old.base) ≡ Ok from
       → image_by d (Some value) ≡ Ok to → CrashesOn disk old.room.limits (FromTo from to) old.slots.disk new.slots.disk
 
 -- a header of this value would be right, and with it so much would read
@@ -82,7 +85,8 @@ pub record IsTaken {D : Type 0} (value reads : SlotValue) (old new : View D) : T
 pub record IsFound {D : Type 0} (disk : Ghosts D) (v : View D) (s : SlotValue) : Type 0 where
   pub value : header_by v.room.limits (Some v.slots.value) ≡ Some s
   pub reads : (d : Files) → disk.held v.slots.disk ≡ Some d → header v.room.limits d.cm ≡ Some s
-  pub left : (d image : Files) → disk.held v.slots.disk ≡ Some d → disk.leaves v.slots.disk image → header v.room.limits image.cm ≡ Some s
+  pub left : (d image : Files) → disk.held v.slots.disk ≡ Some d → disk.leaves v.slots.disk image
+      → header v.room.limits image.cm ≡ Some s
 
 -- the record of an item begins there
 pub record HasRecord (from : ℕ) (x : Item) (file : List ℕ) : Type 0 where
@@ -92,7 +96,8 @@ pub record HasRecord (from : ℕ) (x : Item) (file : List ℕ) : Type 0 where
   pub bytes : bytes_at from (width x) file ≡ record_bytes x
 
 -- what is answered at a place
-pub record IsReading {D : Type 0} (disk : Ghosts D) (at : Place) (found : Got) (buf : List ℕ) (v : View D) : Type 0 where
+pub record IsReading {D : Type 0} (disk : Ghosts D) (at : Place) (found : Got) (buf : List ℕ)
+    (v : View D) : Type 0 where
   pub item : v.doubt ≡ Settled → (c : Cartridge) → held_of disk v ≡ Some c → IsRead (item_at at c) found buf
   pub bytes : FillsBuffer found buf
   pub at_capacity : capacity at.part v.room.limits ≤ at.pos → found ≡ got.End
@@ -106,7 +111,8 @@ pub record IsAlike {D : Type 0} (old new : View D) : Type 0 where
 
 -- every crash leaves the partitions' files as they read
 abbrev pub AreStored : {D : Type 0} → Ghosts D → View D → Type 0
-AreStored disk v = (d image : Files) → disk.held v.slots.disk ≡ Some d → disk.leaves v.slots.disk image → (image.ip ≡ d.ip) × (image.dp ≡ d.dp)
+AreStored disk v = (d image : Files) → disk.held v.slots.disk ≡ Some d → disk.leaves v.slots.disk image
+    → (image.ip ≡ d.ip) × (image.dp ≡ d.dp)
 
 -- all that reads was made durable, or was to be
 pub record IsStored {D T E : Type 0} (disk : Ghosts D) (most : ℕ) (end : Result T E) (old new : View D) : Type 0 where
@@ -118,11 +124,13 @@ pub record IsStored {D T E : Type 0} (disk : Ghosts D) (most : ℕ) (end : Resul
       → CrashesOn disk old.room.limits (WithinFlush c) old.slots.disk new.slots.disk
 
 -- an attribute was set, or was to be set
-pub record IsNoteSet {D T E : Type 0} (disk : Ghosts D) (part : Part) (note : Note) (end : Result T E) (old new : View D) : Type 0 where
+pub record IsNoteSet {D T E : Type 0} (disk : Ghosts D) (part : Part) (note : Note) (end : Result T E)
+    (old new : View D) : Type 0 where
   pub stays : Stays old new
   pub count : AtMost 6 (disk.commands old.slots.disk) (disk.commands new.slots.disk)
   pub settled : OnOk end (new.doubt ≡ Settled)
   pub untold : held_of disk old ≡ None → held_of disk new ≡ None
-  pub told : (c : Cartridge) → held_of disk old ≡ Some c → (e : Cartridge) × (held_of disk new ≡ Some e) × AfterNote end part note c e
+  pub told : (c : Cartridge) → held_of disk old ≡ Some c → (e : Cartridge) × (held_of disk new ≡ Some e)
+      × AfterNote end part note c e
   pub crash : (c : Cartridge) → held_of disk old ≡ Some c
       → CrashesOn disk old.room.limits (WithinNote part note) old.slots.disk new.slots.disk

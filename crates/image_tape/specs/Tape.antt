@@ -1,5 +1,6 @@
 -- The cartridge of a tape over a disk of byte files, and what a crash may leave of it.
-use Rattle.std.specs.Prelude.{ℕ, ◌+◌, ◌-◌, ◌^◌, ◌≤◌, ◌<◌, ◌≡◌, ◌⊎◌, ◌==◌, Bool, false, if◌then◌else◌, List, take, length}
+use Rattle.std.specs.Prelude.{ℕ, ◌+◌, ◌-◌, ◌^◌, ◌≤◌, ◌<◌, ◌≡◌, ◌⊎◌, ◌==◌, Bool, false, if◌then◌else◌, List, take}
+use Rattle.std.specs.Prelude.{length}
 use Rattle.std.specs.Prelude.{Option, Some, None, Result, Ok, Err}
 use Rattle.std.specs.List.{flat_map}
 use Rattle.tape_types.specs.Cartridges.{IsLimits}
@@ -68,8 +69,8 @@ SinceOn disk limits b t c = (image : Files) × disk.left_since b t image × Open
 
 -- what commands of the disk leave of the cartridge to a crash, now and since
 abbrev pub CrashesOn : {D : Type 0} → Ghosts D → Limits → (Cartridge → Cartridge → Type 0) → (old new : D) → Type 0
-CrashesOn disk limits step old new = Crashes step (disk.commands old) (LeavesOn disk limits old) (LeavesOn disk limits new)
-    (SinceOn disk limits old) (SinceOn disk limits new)
+CrashesOn disk limits step old new =
+    Crashes step (disk.commands old) (LeavesOn disk limits old) (LeavesOn disk limits new) (SinceOn disk limits old) (SinceOn disk limits new)
 
 -- Some of the items that lie in a file count, the first ones: those of `said`. `reads` says what all of them are, and
 -- their records begin at the offsets.
@@ -84,9 +85,10 @@ pub record Agree (said : SlotValue) (d image : Files) : Type 0 where
   pub ip : take said.ip.end image.ip ≡ take said.ip.end d.ip
   pub dp : take said.dp.end image.dp ≡ take said.dp.end d.dp
 
--- What `said` says of the files may be the header's word: it fits the capacities, it has the reference and the notes that
--- read, and the items that it counts are the first ones of those that read, also in what a crash leaves.
-pub record Stands (limits : Limits) (said reads : SlotValue) (room : Offsets) (leaves : Files → Type 0) (d : Files) : Type 0 where
+-- What `said` says of the files may be the header's word: it fits the capacities, it has the reference and the notes
+-- that read, and the items that it counts are the first ones of those that read, also in what a crash leaves.
+pub record Stands (limits : Limits) (said reads : SlotValue) (room : Offsets) (leaves : Files → Type 0)
+    (d : Files) : Type 0 where
   pub ip : List Item
   pub dp : List Item
   pub in_ip : Lie said.ip reads.ip room.ip d.ip ip

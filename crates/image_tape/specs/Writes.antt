@@ -1,5 +1,6 @@
 -- What the steps of a write leave of the cartridge.
-use Rattle.std.specs.Prelude.{ℕ, ◌+◌, ◌-◌, ◌^◌, ◌<◌, ◌≤◌, ◌≡◌, ◌⊎◌, false, List, [], ◌∷◌, ◌++◌, take, length, get_or, Some, None, Result, Ok, Err, OnOk, IsErr}
+use Rattle.std.specs.Prelude.{ℕ, ◌+◌, ◌-◌, ◌^◌, ◌<◌, ◌≤◌, ◌≡◌, ◌⊎◌, false, List, [], ◌∷◌, ◌++◌, take, length, get_or}
+use Rattle.std.specs.Prelude.{Some, None, Result, Ok, Err, OnOk, IsErr}
 use Rattle.tape_types.specs.Cartridges.{items_of}
 use Rattle.tape_types.specs.declared.cartridges.Cartridge.{Cartridge}
 use Rattle.tape_types.specs.declared.cartridges.Item.{Item}
@@ -39,8 +40,10 @@ pub record Rises {D T E : Type 0} (disk : Ghosts D) (at : Place) (end : Result T
   pub settled : OnOk end (new.doubt ≡ Settled)
   pub cut : OnOk end ((d : Files) → disk.held new.slots.disk ≡ Some d → (half_of at.part new.base).count ≤ at.pos)
   pub untold : held_of disk old ≡ None → held_of disk new ≡ None
-  pub told : (c : Cartridge) → held_of disk old ≡ Some c → (e : Cartridge) × (held_of disk new ≡ Some e) × AfterRise end at.part at.pos c e
-  pub at_end : (c : Cartridge) → held_of disk old ≡ Some c → 2 ^ 64 - 1 ≤ c.vcr → IsErr end × (held_of disk new ≡ Some c)
+  pub told : (c : Cartridge) → held_of disk old ≡ Some c → (e : Cartridge) × (held_of disk new ≡ Some e)
+      × AfterRise end at.part at.pos c e
+  pub at_end : (c : Cartridge) → held_of disk old ≡ Some c → 2 ^ 64 - 1 ≤ c.vcr → IsErr end
+      × (held_of disk new ≡ Some c)
   pub crash : (x : Item) (c : Cartridge) → held_of disk old ≡ Some c
       → CrashesOn disk old.room.limits (WithinWrite at.part at.pos x c) old.slots.disk new.slots.disk
 
@@ -66,14 +69,16 @@ Appended (Ok _) x old new = new ≡ old ++ x ∷ []
 Appended (Err _) x old new = (new ≡ old) ⊎ (new ≡ old ++ item.Torn ∷ [])
 
 -- An item was appended to a partition, or was to be. A crash shows nothing of it.
-pub record Appends {D T E : Type 0} (disk : Ghosts D) (most : ℕ) (part : Part) (x : Item) (end : Result T E) (old new : View D) : Type 0 where
+pub record Appends {D T E : Type 0} (disk : Ghosts D) (most : ℕ) (part : Part) (x : Item) (end : Result T E)
+    (old new : View D) : Type 0 where
   pub stays : Stays old new
   pub count : AtMost most (disk.commands old.slots.disk) (disk.commands new.slots.disk)
   pub settled : new.doubt ≡ Settled
   pub untold : held_of disk old ≡ None → held_of disk new ≡ None
   pub told : (c : Cartridge) → held_of disk old ≡ Some c → (e : Cartridge) × (held_of disk new ≡ Some e)
       × (items : List Item) × Appended end x (items_of part c) items × HasItems part items c e
-  pub crash : (c : Cartridge) → held_of disk old ≡ Some c → CrashesOn disk old.room.limits NothingNew old.slots.disk new.slots.disk
+  pub crash : (c : Cartridge) → held_of disk old ≡ Some c
+      → CrashesOn disk old.room.limits NothingNew old.slots.disk new.slots.disk
 
 -- these bytes stand behind so many others
 pub record StandBehind (at : ℕ) (bytes file : List ℕ) : Type 0 where
@@ -92,7 +97,8 @@ pub record Hides {D : Type 0} (disk : Ghosts D) (most : ℕ) (old new : View D) 
   pub stays : Stays old new
   pub held : held_of disk new ≡ held_of disk old
   pub count : AtMost most (disk.commands old.slots.disk) (disk.commands new.slots.disk)
-  pub crash : (c : Cartridge) → held_of disk old ≡ Some c → CrashesOn disk old.room.limits NothingNew old.slots.disk new.slots.disk
+  pub crash : (c : Cartridge) → held_of disk old ≡ Some c
+      → CrashesOn disk old.room.limits NothingNew old.slots.disk new.slots.disk
 
 -- what a put makes of the items of a partition
 abbrev pub put_items : {T E : Type 0} → Result T E → Item → List Item → List Item
@@ -100,14 +106,17 @@ put_items (Ok _) x items = items ++ x ∷ []
 put_items (Err _) x items = items ++ item.Torn ∷ []
 
 -- An item was put behind the records of a partition, or was to be; then the partition ends with a Torn.
-pub record Puts {D T E : Type 0} (disk : Ghosts D) (part : Part) (x : Item) (end : Result T E) (old new : View D) : Type 0 where
+pub record Puts {D T E : Type 0} (disk : Ghosts D) (part : Part) (x : Item) (end : Result T E)
+    (old new : View D) : Type 0 where
   pub stays : Stays old new
   pub count : AtMost 2 (disk.commands old.slots.disk) (disk.commands new.slots.disk)
   pub settled : new.doubt ≡ Settled
   pub untold : held_of disk old ≡ None → held_of disk new ≡ None
   pub told : (c : Cartridge) → held_of disk old ≡ Some c → (items : List Item) × (e : Cartridge)
-      × (items_of part c ≡ items ++ tail_of (half_of part old.reads).torn) × (held_of disk new ≡ Some e) × HasItems part (put_items end x items) c e
-  pub crash : (c : Cartridge) → held_of disk old ≡ Some c → CrashesOn disk old.room.limits NothingNew old.slots.disk new.slots.disk
+      × (items_of part c ≡ items ++ tail_of (half_of part old.reads).torn) × (held_of disk new ≡ Some e)
+      × HasItems part (put_items end x items) c e
+  pub crash : (c : Cartridge) → held_of disk old ≡ Some c
+      → CrashesOn disk old.room.limits NothingNew old.slots.disk new.slots.disk
   pub whole : OnOk end ((half_of part new.reads).torn ≡ false)
   pub one_more : OnOk end ((half_of part new.reads).count ≡ (half_of part old.reads).count + 1)
 
@@ -116,7 +125,8 @@ pub record Fills {D T E : Type 0} (disk : Ghosts D) (part : Part) (end : Result 
   pub hides : Hides disk 2 old new
   pub settled : new.doubt ≡ Settled
   pub whole : OnOk end ((half_of part new.reads).torn ≡ false)
-  pub count : OnOk end ((half_of part new.reads).count ≡ (half_of part old.reads).count + flag (half_of part old.reads).torn)
+  pub count : OnOk end
+      ((half_of part new.reads).count ≡ (half_of part old.reads).count + flag (half_of part old.reads).torn)
 
 -- the record of a position begins there, or would
 pub record IsPlace {D : Type 0} (at : Place) (end : ℕ) (v : View D) : Type 0 where
@@ -138,20 +148,25 @@ abbrev pub cut_value : Part → (pos end : ℕ) → SlotValue → SlotValue
 cut_value part pos end s = with_half part (ended pos end false (half_of part s)) s
 
 -- a partition was cut at a place, and an item appended, or was to be
-pub record Replaces {D T E : Type 0} (disk : Ghosts D) (at : Place) (x : Item) (end : Result T E) (old new : View D) : Type 0 where
+pub record Replaces {D T E : Type 0} (disk : Ghosts D) (at : Place) (x : Item) (end : Result T E)
+    (old new : View D) : Type 0 where
   pub stays : Stays old new
   pub count : AtMost 4 (disk.commands old.slots.disk) (disk.commands new.slots.disk)
   pub untold : held_of disk old ≡ None → held_of disk new ≡ None
   pub told : (c : Cartridge) → held_of disk old ≡ Some c → (e : Cartridge) × (held_of disk new ≡ Some e)
       × (items : List Item) × Appended end x (take at.pos (items_of at.part c)) items × HasItems at.part items c e
-  pub crash : (c : Cartridge) → held_of disk old ≡ Some c → CrashesOn disk old.room.limits NothingNew old.slots.disk new.slots.disk
+  pub crash : (c : Cartridge) → held_of disk old ≡ Some c
+      → CrashesOn disk old.room.limits NothingNew old.slots.disk new.slots.disk
 
 -- an item was written at a place, or was to be
-pub record Writes {D T E : Type 0} (disk : Ghosts D) (most : ℕ) (at : Place) (x : Item) (end : Result T E) (old new : View D) : Type 0 where
+pub record Writes {D T E : Type 0} (disk : Ghosts D) (most : ℕ) (at : Place) (x : Item) (end : Result T E)
+    (old new : View D) : Type 0 where
   pub stays : Stays old new
   pub count : AtMost most (disk.commands old.slots.disk) (disk.commands new.slots.disk)
   pub untold : held_of disk old ≡ None → held_of disk new ≡ None
-  pub told : (c : Cartridge) → held_of disk old ≡ Some c → (e : Cartridge) × (held_of disk new ≡ Some e) × AfterWrite end at.part at.pos x c e
-  pub at_end : (c : Cartridge) → held_of disk old ≡ Some c → 2 ^ 64 - 1 ≤ c.vcr → IsErr end × (held_of disk new ≡ Some c)
+  pub told : (c : Cartridge) → held_of disk old ≡ Some c → (e : Cartridge) × (held_of disk new ≡ Some e)
+      × AfterWrite end at.part at.pos x c e
+  pub at_end : (c : Cartridge) → held_of disk old ≡ Some c → 2 ^ 64 - 1 ≤ c.vcr → IsErr end
+      × (held_of disk new ≡ Some c)
   pub crash : (c : Cartridge) → held_of disk old ≡ Some c
       → CrashesOn disk old.room.limits (WithinWrite at.part at.pos x c) old.slots.disk new.slots.disk

@@ -200,7 +200,8 @@ impl<B: ByteDisk> Drive for ImageTape<B> {
         requires located { (at : Place) × (self.old.head ≡ Some at) }
         requires room { 1048576 ≤ vec_capacity buf.old }
         ensures room { 1048576 ≤ vec_capacity buf.new }
-        ensures ran { (at : Place) → self.old.head ≡ Some at → HasRead B.ByteDisk at result buf.new.items self.old self.new }
+        ensures ran { (at : Place) → self.old.head ≡ Some at
+            → HasRead B.ByteDisk at result buf.new.items self.old self.new }
     {
         let Some(at) = self.head else { unreachable!() };
         self.read_item(at, buf)
@@ -210,7 +211,8 @@ impl<B: ByteDisk> Drive for ImageTape<B> {
         requires located { HasRoom self.old.head self.old.room.limits }
         requires some { 1 ≤ length bytes.now }
         requires size { length bytes.now ≤ 1048576 }
-        ensures ran { (at : Place) → self.old.head ≡ Some at → Wrote B.ByteDisk at (item.Block bytes.now) result self.old self.new }
+        ensures ran { (at : Place) → self.old.head ≡ Some at
+            → Wrote B.ByteDisk at (item.Block bytes.now) result self.old self.new }
     {
         let Some(at) = self.head else { unreachable!() };
         self.put_item(at, Head::Block(bytes.len() as u32), bytes)
@@ -247,7 +249,8 @@ impl<B: ByteDisk> Drive for ImageTape<B> {
     }
 
     fn read_note(&mut self, part: Part) -> Result<Note, DriveErr>
-        ensures value { IfOk result (λ note. (c : Cartridge) → held_of B.ByteDisk self.old ≡ Some c → note ≡ note_of part c) }
+        ensures value { IfOk result (λ note. (c : Cartridge) → held_of B.ByteDisk self.old ≡ Some c
+            → note ≡ note_of part c) }
         ensures looked { IsLooked B.ByteDisk result self.old self.new }
         ensures head { OnOk result (self.new.head ≡ self.old.head) }
         ensures settled { OnOk result (IsSure B.ByteDisk self.new) }

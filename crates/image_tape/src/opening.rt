@@ -7,7 +7,8 @@ ghost use Rattle.image_slots.specs.State.{IsOver};
 ghost use Rattle.image_slots.specs.declared.known.Known.TheVariants.{Steady};
 ghost use Rattle.image_format.specs.Reading.{IsRead};
 ghost use Rattle.image_tape.specs.declared.doubt.Doubt.TheVariants.{Settled};
-ghost use Rattle.image_tape.specs.Opens.{AreBytesOf, AreSynced, HasOpened, IsReason, IsRefused, IsTellable, header_reason, reason_of};
+ghost use Rattle.image_tape.specs.Opens.{AreBytesOf, AreSynced, HasOpened, IsReason, IsRefused, IsTellable};
+ghost use Rattle.image_tape.specs.Opens.{header_reason, reason_of};
 
 use crate::doubt::Doubt;
 use crate::errors::OpenErr;

@@ -1,5 +1,6 @@
 // Items are read.
-ghost use Rattle.std.specs.Prelude.{◌≡◌, ◌≤◌, ◌<◌, ◌+◌, ◌-◌, ◌^◌, ◌++◌, List, [], length, slice_get, vec_capacity, IfOk, IfSome, OnOk, Some};
+ghost use Rattle.std.specs.Prelude.{◌≡◌, ◌≤◌, ◌<◌, ◌+◌, ◌-◌, ◌^◌, ◌++◌, List, [], length, slice_get, vec_capacity};
+ghost use Rattle.std.specs.Prelude.{IfOk, IfSome, OnOk, Some};
 ghost use Rattle.tape_types.specs.declared.cartridges.Item.{Item};
 ghost use Rattle.tape_drive.specs.Commands.{FillsBuffer, IsRead, after_read};
 ghost use Rattle.byte_disk.specs.Files.{Files, bytes_at, bytes_of};
@@ -40,7 +41,8 @@ impl<B: ByteDisk> ImageTape<B> {
     // Reads the item whose record begins there.
     fn read_record(&mut self, part: Part, from: u64, buf: &mut Vec<u8>) -> Result<Got, DriveErr>
         requires room { 1048576 ≤ vec_capacity buf.old }
-        requires stands { IfSome (B.held self.old.slots.disk) (λ d. (x : Item) × HasRecord from x (bytes_of (file_of part) d)) }
+        requires stands { IfSome (B.held self.old.slots.disk) (λ d. (x : Item)
+            × HasRecord from x (bytes_of (file_of part) d)) }
         ensures room { 1048576 ≤ vec_capacity buf.new }
         ensures item { IfOk result (λ got. (d : Files) (x : Item) → B.held self.old.slots.disk ≡ Some d
             → HasRecord from x (bytes_of (file_of part) d) → IsRead (Some x) got buf.new.items) }
@@ -91,7 +93,8 @@ impl<B: ByteDisk> ImageTape<B> {
 
     // Fills the buffer with the bytes of a partition's file from there on.
     fn fetch(&mut self, part: Part, from: u64, buf: &mut [u8]) -> Result<(), DriveErr>
-        requires within { IfSome (B.held self.old.slots.disk) (λ d. from + length buf.old ≤ length (bytes_of (file_of part) d)) }
+        requires within { IfSome (B.held self.old.slots.disk)
+            (λ d. from + length buf.old ≤ length (bytes_of (file_of part) d)) }
         ensures size { length buf.new ≡ length buf.old }
         ensures value { (d : Files) → B.held self.old.slots.disk ≡ Some d
             → OnOk result (buf.new ≡ bytes_at from (length buf.old) (bytes_of (file_of part) d)) }

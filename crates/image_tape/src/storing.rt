@@ -31,7 +31,8 @@ impl<B: ByteDisk> ImageTape<B> {
         ensures alike { IsAlike self.old self.new }
         ensures held { B.held self.new.slots.disk ≡ B.held self.old.slots.disk }
         ensures left { (image : Files) → B.leaves self.new.slots.disk image → B.leaves self.old.slots.disk image }
-        ensures sure { OnOk result (IsFileSure (file_of part) (B.held self.new.slots.disk) (B.leaves self.new.slots.disk)) }
+        ensures sure { OnOk result
+            (IsFileSure (file_of part) (B.held self.new.slots.disk) (B.leaves self.new.slots.disk)) }
     {
         match self.slots.sync(part) {
             Ok(()) => Ok(()),

@@ -9,7 +9,8 @@ ghost use Rattle.image_format.specs.Values.{flag};
 ghost use Rattle.image_tape.specs.declared.doubt.Doubt.TheVariants.{Settled};
 ghost use Rattle.image_tape.specs.Halves.{half_of};
 ghost use Rattle.image_tape.specs.Steps.{IsAlike};
-ghost use Rattle.image_tape.specs.Writes.{Appends, Cuts, Fills, FollowsIn, Hides, IsCounted, IsPlace, IsUncounted, Puts, Replaces, Rises, StandBehind, Writes};
+ghost use Rattle.image_tape.specs.Writes.{Appends, Cuts, Fills, FollowsIn, Hides, IsCounted, IsPlace, IsUncounted};
+ghost use Rattle.image_tape.specs.Writes.{Puts, Replaces, Rises, StandBehind, Writes};
 
 use crate::halves::{ended, half_of, with_vcr};
 use crate::tape::ImageTape;
@@ -177,7 +178,8 @@ impl<B: ByteDisk> ImageTape<B> {
         ensures hides { Hides B.ByteDisk 2 self.old self.new }
         ensures alike { IsAlike self.old self.new }
         ensures behind { OnOk result ((e : Files) → B.held self.new.slots.disk ≡ Some e
-            → StandBehind (half_of part self.old.reads).end (head_bytes head ++ bytes.now) (bytes_of (file_of part) e)) }
+            → StandBehind (half_of part self.old.reads).end (head_bytes head ++ bytes.now)
+            (bytes_of (file_of part) e)) }
     {
         let end = half_of(part, &self.reads).end;
         if end >= 1 << 61 {
@@ -197,7 +199,8 @@ impl<B: ByteDisk> ImageTape<B> {
         requires end { at + length bytes.now < 2 ^ 62 }
         ensures hides { Hides B.ByteDisk 1 self.old self.new }
         ensures alike { IsAlike self.old self.new }
-        ensures told { (d : Files) → B.held self.old.slots.disk ≡ Some d → (e : Files) × (B.held self.new.slots.disk ≡ Some e)
+        ensures told { (d : Files) → B.held self.old.slots.disk ≡ Some d → (e : Files)
+            × (B.held self.new.slots.disk ≡ Some e)
             × OnOk result (FollowsIn at bytes.now (bytes_of (file_of part) d) (bytes_of (file_of part) e)) }
         ensures untold { B.held self.old.slots.disk ≡ None → B.held self.new.slots.disk ≡ None }
     {
