@@ -144,7 +144,7 @@ impl<D: Drive, C: Clock> Volume<D, C> {
     }
 
     /// Hands out the reply of a session that waits for a place, or makes a step of the head where the reply isn't
-    /// there. It takes no memory.
+    /// there. It needs no memory: a block that was read is kept where there is some for a copy of it.
     ///
     /// A turn that doesn't bring the reply takes one away at least of what is left to do; no turn adds to that, and a
     /// submission adds one at most for each of its events. So a session has as many turns at most before its reply
@@ -163,7 +163,7 @@ impl<D: Drive, C: Clock> Volume<D, C> {
     }
 
     /// Makes a step of the head for a session that drains, unless there is room for its write or a fault is kept for
-    /// it, with which the write is placed void. It takes no memory.
+    /// it, with which the write is placed void. It needs no memory, as a turn.
     pub fn drain_turn(&mut self, who: u16) -> Drained
         requires { phase who self.old.marks ≡ draining }
         ensures served { IsServed cartridges (seen D.Drive self.new.fixed.first) (seen D.Drive self.new.drive)
