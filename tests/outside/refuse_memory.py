@@ -4,7 +4,7 @@
 usage: refuse_memory.py PROGRAM REFUSE.SO [--sessions N | --made] [--first N] [--last N] [--each]
 
 REFUSE.SO is built from refuse.c. The run is one of `serve`: each of the script's sessions makes a file, writes it,
-synchronises and reads it, in a thread of its own. A run with nothing refused tells how many requests there are, and how
+synchronises and reads it twice, the second time from the blocks that are kept, in a thread of its own. A run with nothing refused tells how many requests there are, and how
 many before the first thread. Then each is refused in a run of its own over a folder that was just formatted, and
 
 - the run ends with one of the statuses 0, 4, 7 and 8, with the line that belongs to it;
@@ -37,12 +37,12 @@ def script(sessions):
     lines = []
     for who in range(1, sessions + 1):
         lines += [f"{who} create /f{who}", f"{who} write /f{who} 0 fill:{who:02x}:{LENGTH}", f"{who} sync",
-                  f"{who} read /f{who} 0 {LENGTH}"]
+                  *2 * [f"{who} read /f{who} 0 {LENGTH}"]]
     return "".join(line + "\n" for line in lines)
 
 
 def replies(who):
-    return ["ok", "ok", "synced", f"bytes {LENGTH} " + f"{who:02x}" * LENGTH]
+    return ["ok", "ok", "synced", *2 * [f"bytes {LENGTH} " + f"{who:02x}" * LENGTH]]
 
 
 def is_reply(reply, number, who, missed):
@@ -67,7 +67,7 @@ def wrong_log(lines, sessions):
         missed[who] |= reply == "nomemory" or reply.startswith("fault ")
         if reply == "synced" and not missed[who]:
             synced.add(who)
-    if lines and nexts[1:] != [4] * sessions:
+    if lines and nexts[1:] != [5] * sessions:
         return "calls are missing", synced
     return None, synced
 
