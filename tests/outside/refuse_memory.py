@@ -4,8 +4,9 @@
 usage: refuse_memory.py PROGRAM REFUSE.SO [--sessions N | --made] [--first N] [--last N] [--each]
 
 REFUSE.SO is built from refuse.c. The run is one of `serve`: each of the script's sessions makes a file, writes it,
-synchronises and reads it twice, the second time from the blocks that are kept, in a thread of its own. A run with nothing refused tells how many requests there are, and how
-many before the first thread. Then each is refused in a run of its own over a folder that was just formatted, and
+synchronises and reads it twice, the second time from the blocks that are kept, in a thread of its own. A run with
+nothing refused tells how many requests there are, and how many before the first thread. Then each is refused in a run
+of its own over a folder that was just formatted, and
 
 - the run ends with one of the statuses 0, 4, 7 and 8, with the line that belongs to it;
 - each reply is that of a plain tree, or tells a fault or want of memory;
