@@ -16,18 +16,10 @@ returns-in-Ok-List g c =
     list_asked _ _ _ _ _ g.D.Drive _ _ _ _ (asked_list _ _ _ c.as_slice.ensures.value c.in-Ok-List.field-0-is c.in-Ok-List.ensures)
     (record { left = refl; faults = refl }) c.run_list.ensures
 
-pub run_generations-requires : goal.run_generations-requires
-run_generations-requires g c =
-    record { honest = c.requires.chain (inl (asked_generations _ _ _ c.as_slice.ensures.value c.in-Ok-Generations.field-0-is c.in-Ok-Generations.ensures)) }
-
 pub returns-in-Ok-Generations : goal.returns-in-Ok-Generations
 returns-in-Ok-Generations g c =
     generations_asked _ _ _ _ _ g.D.Drive _ _ _ _ (asked_generations _ _ _ c.as_slice.ensures.value c.in-Ok-Generations.field-0-is c.in-Ok-Generations.ensures)
     (record { left = refl; faults = refl }) c.run_generations.ensures
-
-pub run_view-requires : goal.run_view-requires
-run_view-requires g c =
-    record { honest = c.requires.chain (inr (c.in-Ok-View.asked, asked_view _ _ _ c.in-Ok-View.asked c.as_slice.ensures.value c.in-Ok-View.field-0-is c.in-Ok-View.ensures)) }
 
 pub returns-in-Ok-View : goal.returns-in-Ok-View
 returns-in-Ok-View g c =
