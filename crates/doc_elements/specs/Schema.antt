@@ -112,6 +112,10 @@ abbrev pub extents_rule : Tag → Child
 extents_rule Extent = child.Parent place.Extent
 extents_rule _ = child.Unknown
 
+abbrev pub attributes_rule : Tag → Child
+attributes_rule Xattr = child.Parent place.Xattr
+attributes_rule _ = child.Unknown
+
 -- an extended attribute
 abbrev pub xattr_rule : Tag → Child
 xattr_rule Key = child.Leaf form.Key
@@ -132,7 +136,7 @@ rule place.Root tag = directory_rule form.VolumeName tag
 rule place.Directory tag = directory_rule form.NodeName tag
 rule place.Contents tag = contents_rule tag
 rule place.File tag = file_rule tag
-rule place.Attributes tag = child.Unknown
+rule place.Attributes tag = attributes_rule tag
 rule place.ExtentInfo tag = extents_rule tag
 rule place.Extent tag = extent_rule tag
 rule place.Xattr tag = xattr_rule tag
@@ -185,6 +189,7 @@ abbrev pub may_repeat : Place → Tag → Bool
 may_repeat place.Criteria Name = true
 may_repeat place.Contents Directory = true
 may_repeat place.Contents File = true
+may_repeat place.Attributes Xattr = true
 may_repeat place.ExtentInfo Extent = true
 may_repeat _ _ = false
 

@@ -4,7 +4,7 @@ ghost use Rattle.std.specs.Prelude.{◌≡◌};
 ghost use Rattle.doc_elements.specs.Schema.{contents_rule, criteria_rule, directory_rule, excludes, extent_rule};
 ghost use Rattle.doc_elements.specs.Schema.{extents_rule, file_rule, index_rule, is_node, label_rule, letters_rule};
 ghost use Rattle.doc_elements.specs.Schema.{may_repeat, node_rule, own_rule, policy_rule, required, rule, spot_rule};
-ghost use Rattle.doc_elements.specs.Schema.{tag_of, xattr_rule};
+ghost use Rattle.doc_elements.specs.Schema.{attributes_rule, tag_of, xattr_rule};
 
 use doc_fields::Tag;
 
@@ -31,7 +31,7 @@ pub enum Place {
     Directory,
     Contents,
     File,
-    /// Extended attributes, of which none may stand there.
+    /// Extended attributes.
     Attributes,
     ExtentInfo,
     Extent,
@@ -225,6 +225,15 @@ fn child_of_extents(tag: Tag) -> Child
     }
 }
 
+fn child_of_attributes(tag: Tag) -> Child
+    ensures { result ≡ attributes_rule tag }
+{
+    match tag {
+        Tag::Xattr => Child::Parent(Place::Xattr),
+        _ => Child::Unknown,
+    }
+}
+
 fn child_of_xattr(tag: Tag) -> Child
     ensures { result ≡ xattr_rule tag }
 {
@@ -251,7 +260,7 @@ pub fn child_of(place: Place, tag: Tag) -> Child
         Place::Directory => child_of_directory(Form::NodeName, tag),
         Place::Contents => child_of_contents(tag),
         Place::File => child_of_file(tag),
-        Place::Attributes => Child::Unknown,
+        Place::Attributes => child_of_attributes(tag),
         Place::ExtentInfo => child_of_extents(tag),
         Place::Extent => child_of_extent(tag),
         Place::Xattr => child_of_xattr(tag),
@@ -355,6 +364,10 @@ pub fn may_repeat(place: Place, tag: Tag) -> bool
         },
         Place::Contents => match tag {
             Tag::Directory | Tag::File => true,
+            _ => false,
+        },
+        Place::Attributes => match tag {
+            Tag::Xattr => true,
             _ => false,
         },
         Place::ExtentInfo => match tag {

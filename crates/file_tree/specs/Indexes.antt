@@ -4,6 +4,7 @@ use Rattle.std.specs.Option.{option_map}
 use Rattle.std.specs.FinMap as fin
 use Rattle.index_model.specs.declared.indexes.Index.{Index}
 use Rattle.std.specs.declared.cmp.Ordering.TheVariants.{Less}
+use Rattle.node_keys.specs.Keys.{list_of, map_of}
 use Rattle.index_model.specs.declared.nodes.Node as told
 use Rattle.index_model.specs.declared.nodes.Kind as told_kind
 use Rattle.index_model.specs.declared.nodes.Kind.TheVariants as told_kinds
@@ -47,9 +48,9 @@ without_room kinds.Dir = kinds.Dir
 without_room (kinds.File room) = kinds.File (record { laid = room.laid; spare = 0 })
 without_room (kinds.Link text) = kinds.Link text
 
--- a node without what an index doesn't tell: its number, and for how many extents more there is memory
+-- a node without what an index doesn't tell: its number, and for how many extents and attributes more there is memory
 abbrev pub as_told : Node → Node
-as_told node = record node { number = 0; kind = without_room node.kind }
+as_told node = record node { number = 0; keys = record node.keys { spare = 0 }; kind = without_room node.kind }
 
 -- both trees have the same name and blocks, and at each path the same node, but for its number
 pub record IsSameTree (t other : FileTree) : Type 0 where
@@ -84,9 +85,11 @@ kind_in_order letters size (told_kinds.File bytes raws) =
 kind_in_order letters size (told_kinds.Link text) = told_kinds.Link text
 
 abbrev pub node_in_order : Letters → ℕ → told.Node → told.Node
-node_in_order letters size node = record node { kind = kind_in_order letters size node.kind }
+node_in_order letters size node =
+    record node { xattrs = list_of (map_of node.xattrs); kind = kind_in_order letters size node.kind }
 
--- the tree of an index whose nodes stand by their names tells these nodes again, each file's extents by their offsets
+-- The tree of an index whose nodes stand by their names tells these nodes again, each file's extents by their offsets
+-- and each node's attributes by their keys.
 abbrev pub IndexesAreToldAgain : Type 0
 IndexesAreToldAgain = (letters : Letters) (size : ℕ) (index : Index) (t : FileTree)
     → CanMount index letters size → NamesAscend index.nodes → IsTreeOf letters size index t

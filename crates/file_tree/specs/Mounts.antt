@@ -6,12 +6,14 @@ use Rattle.std.specs.FinMap as fin
 use Rattle.tape_types.specs.declared.cartridges.Extent.{Extent}
 use Rattle.tape_types.specs.declared.cartridges.Part.{Part}
 use Rattle.tape_types.specs.declared.cartridges.Part.TheVariants as parts
+use Rattle.node_keys.specs.Keys.{map_of}
 use Rattle.index_model.specs.declared.indexes.Index.{Index}
 use Rattle.index_model.specs.declared.nodes.Node as told
 use Rattle.index_model.specs.declared.nodes.Kind as told_kind
 use Rattle.index_model.specs.declared.nodes.Kind.TheVariants as told_kinds
 use Rattle.index_model.specs.declared.nodes.RawExtent.{RawExtent}
 use Rattle.index_model.specs.Extents.{AreFiles, IsKind, IsFileAt}
+use Rattle.index_model.specs.Keys.{AreKeysApart}
 use Rattle.index_model.specs.Names.{AreNamesApart}
 use Rattle.index_model.specs.Order.{AreInOrder}
 use Rattle.index_model.specs.Places.{IsAt}
@@ -64,6 +66,7 @@ pub record IsNodeOf (letters : Letters) (size : ℕ) (node : told.Node) (n : Nod
   pub uid : n.uid ≡ node.uid
   pub times : n.times ≡ node.times
   pub readonly : n.readonly ≡ node.readonly
+  pub keys : n.keys.map ≡ map_of node.xattrs
   pub kind : IsKindOf letters size node.kind n.kind
 
 -- the path of the node at a place: the names from the root down, but for the root's
@@ -118,6 +121,7 @@ pub record AreTold (letters : Letters) (size : ℕ) (nodes : List told.Node) : T
   pub some_block : 1 ≤ size
   pub order : AreInOrder nodes
   pub names : AreNamesApart nodes
+  pub keys : AreKeysApart nodes
   pub files : AreFiles nodes
   pub kinds : AllByRecursion (λ node. IsKind node.kind) nodes
   pub on_volume : (at bytes : ℕ) (raws : List RawExtent) → IsFileAt nodes at bytes raws

@@ -4,6 +4,7 @@ use Rattle.std.specs.FinMap as fin
 use Rattle.tape_types.specs.declared.cartridges.Extent.{Extent}
 use Rattle.tape_types.specs.declared.cartridges.Part.{Part}
 use Rattle.tape_types.specs.declared.cartridges.Part.TheVariants as parts
+use Rattle.node_keys.specs.Keys.{list_of}
 use Rattle.index_model.specs.declared.nodes.Node as told
 use Rattle.index_model.specs.declared.nodes.Kind as told_kind
 use Rattle.index_model.specs.declared.nodes.Kind.TheVariants as told_kinds
@@ -47,6 +48,7 @@ told_node_of letters parent name node =
       name = name;
       times = node.times;
       readonly = node.readonly;
+      xattrs = list_of node.keys.map;
       kind = told_kind_of letters node.kind;
     }
 

@@ -69,6 +69,7 @@ plain_node_of tape node = record {
   uid = node.uid;
   times = node.times;
   readonly = node.readonly;
+  keys = node.keys.map;
   kind = plain_kind_of tape node.kind;
 }
 
@@ -83,12 +84,13 @@ plain_of tape t = record { highest = t.highest; nodes = plain_nodes tape t.nodes
 abbrev pub whole : Tape
 whole part block byte = Some 0
 
--- a node of the plain tree has the uid, the times and the readonly flag of the node that is kept; a directory is one,
--- and so is a link, with its text; a file has its cells
+-- a node of the plain tree has the uid, the times, the readonly flag and the attributes of the node that is kept; a
+-- directory is one, and so is a link, with its text; a file has its cells
 pub record PlainNodesAgree : Type 0 where
   pub uid : (tape : Tape) (node : Node) → (plain_node_of tape node).uid ≡ node.uid
   pub times : (tape : Tape) (node : Node) → (plain_node_of tape node).times ≡ node.times
   pub readonly : (tape : Tape) (node : Node) → (plain_node_of tape node).readonly ≡ node.readonly
+  pub keys : (tape : Tape) (node : Node) → (plain_node_of tape node).keys ≡ node.keys.map
   pub dir : (tape : Tape) (node : Node) → node.kind ≡ kinds.Dir → (plain_node_of tape node).kind ≡ plain_kinds.Dir
   pub link : (tape : Tape) (node : Node) (text : List ℕ) → node.kind ≡ kinds.Link text
       → (plain_node_of tape node).kind ≡ plain_kinds.Link text

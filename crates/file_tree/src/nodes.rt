@@ -1,4 +1,5 @@
 use extent_map::Extents;
+use node_keys::Keys;
 use tape_types::{Text, Times};
 
 /// What stands at a path of the tree.
@@ -9,6 +10,7 @@ pub struct Node {
     pub uid: u64,
     pub times: Times,
     pub readonly: bool,
+    pub keys: Keys,
     pub kind: Kind,
 }
 

@@ -83,6 +83,7 @@ root_of spec = record {
   name = spec.name;
   times = times_at spec.at;
   readonly = false;
+  xattrs = [];
   kind = kinds.Dir;
 }
 

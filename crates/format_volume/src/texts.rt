@@ -159,6 +159,7 @@ fn root_of(alloc: Global, spec: &FormatSpec) -> Result<Node, NoMemory>
         name: Text::from_string(String::from_str(alloc, spec.name.as_str())?),
         times: Times::all_at(spec.at),
         readonly: false,
+        xattrs: List::new(alloc),
         kind: Kind::Dir,
     })
 }

@@ -15,7 +15,7 @@ hello = record { offset = 0; letter = 98; block = 7; byte = 0; count = 5 }
 
 abbrev pub node : Times → ℕ → ℕ → List ℕ → Kind → Node
 node times parent uid name kind =
-    record { parent = parent; uid = uid; name = name; times = times; readonly = false; kind = kind }
+    record { parent = parent; uid = uid; name = name; times = times; readonly = false; xattrs = []; kind = kind }
 
 -- what stands behind the root
 abbrev pub archive_rest : Times → List Node

@@ -16,11 +16,14 @@ use Rattle.doc_fields.specs.declared.tags.Tag.TheVariants.{IndexPartitionCriteri
 use Rattle.doc_fields.specs.declared.tags.Tag.TheVariants.{HighestFileUid, Directory, File, FileUid, Name, Length}
 use Rattle.doc_fields.specs.declared.tags.Tag.TheVariants.{CreationTime, ChangeTime, ModifyTime, AccessTime, BackupTime}
 use Rattle.doc_fields.specs.declared.tags.Tag.TheVariants.{ReadOnly, Contents, ExtentInfo, Symlink, Extent, FileOffset}
-use Rattle.doc_fields.specs.declared.tags.Tag.TheVariants.{ByteOffset, ByteCount}
+use Rattle.doc_fields.specs.declared.tags.Tag.TheVariants.{ByteOffset, ByteCount, ExtendedAttributes, Key, Value}
+use Rattle.doc_fields.specs.declared.tags.Tag.TheVariants as tags
 use Rattle.doc_fields.specs.Values.{lock_word}
 use Rattle.doc_fields.specs.Written.{start_text, end_text, bool_text, escape}
 use Rattle.ltfs_text.specs.declared.names.NameText.{NameText}
 use Rattle.ltfs_text.specs.Names.{written}
+use Rattle.node_keys.specs.declared.xattrs.Xattr.{Xattr}
+use Rattle.doc_elements.specs.Written.{bytes_text, bytes_type}
 pub use Rattle.doc_elements.specs.Written.{element, encoding, head}
 use Rattle.index_model.specs.declared.indexes.Policy.{Policy}
 use Rattle.index_model.specs.declared.indexes.Spot.{Spot}
@@ -72,15 +75,26 @@ extent e = element Extent (
     ++ number ByteOffset e.byte
     ++ number ByteCount e.count)
 
+-- an extended attribute: its key as a name, its value as a text where it is one, else in base64
+abbrev pub xattr : Xattr → List ℕ
+xattr x = element tags.Xattr (
+    name Key x.key ++ start_text Value (bytes_type x.value) ++ bytes_text x.value ++ end_text Value)
+
+-- those of a node, in their order; where there are none, there is no element
+abbrev pub attributes : List Xattr → List ℕ
+attributes [] = []
+attributes (x ∷ xs) = element ExtendedAttributes (flat_map xattr (x ∷ xs))
+
 -- a directory, a file and a symbolic link; the length of a link is that of its text in bytes
 abbrev pub directory_text : NodeFacts → List ℕ → List ℕ
 directory_text f inside =
     element Directory (number FileUid f.uid ++ name Name f.name ++ times f.times ++ truth ReadOnly f.readonly
-    ++ element Contents inside)
+    ++ attributes f.xattrs ++ element Contents inside)
 
 abbrev pub file_front : NodeFacts → ℕ → List ℕ
 file_front f bytes =
     number FileUid f.uid ++ name Name f.name ++ number Length bytes ++ times f.times ++ truth ReadOnly f.readonly
+    ++ attributes f.xattrs
 
 abbrev pub file_text : NodeFacts → ℕ → List RawExtent → List ℕ
 file_text f bytes extents = element File (file_front f bytes ++ element ExtentInfo (flat_map extent extents))

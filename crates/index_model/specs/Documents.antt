@@ -23,6 +23,7 @@ refusal_told pieces.NoMemory = errors.NoMemory
 abbrev pub fault_told : Fault → IndexErr
 fault_told (faults.Uid n) = errors.Uid n
 fault_told (faults.SameName n) = errors.SameName n
+fault_told (faults.SameKey n) = errors.SameKey n
 fault_told (faults.Extent n) = errors.Extent n
 fault_told (faults.Overlap n) = errors.Overlap n
 

@@ -7,7 +7,9 @@ use Rattle.doc_fields.specs.declared.tags.Tag.TheVariants.{UpdateTime, StartBloc
 use Rattle.doc_fields.specs.declared.tags.Tag.TheVariants.{VolumeLockState, HighestFileUid, FileUid, Name, Length}
 use Rattle.doc_fields.specs.declared.tags.Tag.TheVariants.{CreationTime, ChangeTime, ModifyTime, AccessTime, BackupTime}
 use Rattle.doc_fields.specs.declared.tags.Tag.TheVariants.{ReadOnly, Symlink, FileOffset, ByteOffset, ByteCount}
+use Rattle.doc_fields.specs.declared.tags.Tag.TheVariants.{Key, Value}
 use Rattle.doc_elements.specs.Children.{code}
+use Rattle.node_keys.specs.declared.xattrs.Xattr.{Xattr}
 use Rattle.index_model.specs.declared.indexes.Index.{Index}
 use Rattle.index_model.specs.declared.indexes.Policy.{Policy}
 use Rattle.index_model.specs.declared.indexes.Spot.{Spot}
@@ -18,7 +20,7 @@ use Rattle.index_model.specs.declared.errors.IndexErr.{IndexErr}
 use Rattle.index_model.specs.declared.faults.Fault.{Fault}
 use Rattle.doc_elements.specs.Schema.{place_code}
 use Rattle.index_model.specs.Values.{NodeFacts, Nodes, no_nodes, directory, file, link, VolumeFacts, IndexValue, Tells}
-use Rattle.doc_elements.specs.Pieces.{Val, words, time, uuid, letter, number, truth, lock}
+use Rattle.doc_elements.specs.Pieces.{Val, words, time, uuid, letter, number, truth, lock, bytes}
 use Rattle.doc_elements.specs.Elements.{Item, plain, bare, nested, Items, no_items, item, DocumentText, node_count}
 use Rattle.index_model.specs.Documents.{StopsAs, fault_told}
 use Rattle.index_model.specs.Refusals.{IsToldOf}
@@ -86,6 +88,22 @@ pub record TellsVolume (is : Items) (v : VolumeFacts) : Type 0 where
   pub lock : told VolumeLockState is ≡ option_map lock v.lock
   pub highest : told HighestFileUid is ≡ Some (number v.highest)
 
+pub record TellsXattr (is : Items) (x : Xattr) : Type 0 where
+  pub key : told Key is ≡ Some (words x.key)
+  pub value : told Value is ≡ Some (bytes x.value)
+
+-- the extended attributes among children, in their order
+abbrev pub TellsXattrs : Items → List Xattr → Type 0
+TellsXattrs no_items xs = xs ≡ []
+TellsXattrs (item (nested place.Xattr is) more) xs =
+    (x : Xattr) × (behind : List Xattr) × (xs ≡ x ∷ behind) × TellsXattr is x × TellsXattrs more behind
+TellsXattrs (item _ more) xs = TellsXattrs more xs
+
+-- the extended attributes of a node, which has none where none are told
+abbrev pub HasXattrs : Option Items → List Xattr → Type 0
+HasXattrs None xs = xs ≡ []
+HasXattrs (Some is) xs = TellsXattrs is xs
+
 pub record TellsFacts (is : Items) (f : NodeFacts) : Type 0 where
   pub uid : told FileUid is ≡ Some (number f.uid)
   pub name : told Name is ≡ Some (words f.name)
@@ -95,6 +113,7 @@ pub record TellsFacts (is : Items) (f : NodeFacts) : Type 0 where
   pub access : told AccessTime is ≡ Some (time f.times.access)
   pub backup : told BackupTime is ≡ Some (time f.times.backup)
   pub readonly : told ReadOnly is ≡ Some (truth f.readonly)
+  pub xattrs : HasXattrs (inside place.Attributes is) f.xattrs
 
 pub record TellsExtent (is : Items) (e : RawExtent) : Type 0 where
   pub offset : told FileOffset is ≡ Some (number e.offset)

@@ -5,6 +5,7 @@ pub mod Order
 pub mod Names
 pub mod Uids
 pub mod Extents
+pub mod Keys
 pub mod Valid
 pub mod Refusals
 pub mod Values

@@ -1,11 +1,13 @@
 -- What is told of an index that isn't valid as a whole: the first test that fails, and the UID of the node at which it
--- fails first in the order of the document. The UIDs are tested first, then the names, then the files.
+-- fails first in the order of the document. The UIDs are tested first, then the names, the keys
+-- of attributes, and the files.
 use Rattle.std.specs.Prelude.{◌≡◌, ◌≢◌, ◌⊎◌, ℕ, ◌<◌, ◌≤◌, ◌^◌, List}
 use Rattle.index_model.specs.declared.indexes.Index.{Index}
 use Rattle.index_model.specs.declared.nodes.Node.{Node}
 use Rattle.index_model.specs.declared.faults.Fault.{Fault}
 use Rattle.index_model.specs.declared.faults.Fault.TheVariants as faults
 use Rattle.index_model.specs.Extents.{HasOverlap, IsBadFile, IsOutOfBounds}
+use Rattle.index_model.specs.Keys.{AreKeysApart, HasKeyTwice}
 use Rattle.index_model.specs.Names.{AreNamesApart, HasTakenName}
 use Rattle.index_model.specs.Places.{IsAt, IsFirst}
 use Rattle.index_model.specs.Uids.{AreUids, HasBadUid}
@@ -46,10 +48,19 @@ pub record RefusesName (index : Index) (uid : ℕ) : Type 0 where
   pub first : IsFirst (HasTakenName index.nodes) at
   pub told : IsTold index.nodes at uid
 
--- UIDs and names are right, and the first bad file is told
+-- UIDs and names are right, and the first node is told that has a key twice
+pub record RefusesKey (index : Index) (uid : ℕ) : Type 0 where
+  pub uids : AreUids index.highest index.nodes
+  pub names : AreNamesApart index.nodes
+  pub at : ℕ
+  pub first : IsFirst (HasKeyTwice index.nodes) at
+  pub told : IsTold index.nodes at uid
+
+-- UIDs, names and keys are right, and the first bad file is told
 pub record IsFirstBadFile (index : Index) (at uid : ℕ) : Type 0 where
   pub uids : AreUids index.highest index.nodes
   pub names : AreNamesApart index.nodes
+  pub keys : AreKeysApart index.nodes
   pub first : IsFirst (IsBadFile index.nodes) at
   pub told : IsTold index.nodes at uid
 
@@ -70,5 +81,6 @@ pub record RefusesOverlap (index : Index) (uid : ℕ) : Type 0 where
 abbrev pub IsToldOf : Index → Fault → Type 0
 IsToldOf index (faults.Uid n) = RefusesUid index n
 IsToldOf index (faults.SameName n) = RefusesName index n
+IsToldOf index (faults.SameKey n) = RefusesKey index n
 IsToldOf index (faults.Extent n) = RefusesExtent index n
 IsToldOf index (faults.Overlap n) = RefusesOverlap index n

@@ -15,6 +15,7 @@ refusal_text (errors.Name at) = codes "Name " ++ decimal at
 refusal_text errors.TooMany = codes "TooMany"
 refusal_text (errors.Uid uid) = codes "Uid " ++ decimal uid
 refusal_text (errors.SameName uid) = codes "SameName " ++ decimal uid
+refusal_text (errors.SameKey uid) = codes "SameKey " ++ decimal uid
 refusal_text (errors.Extent uid) = codes "Extent " ++ decimal uid
 refusal_text (errors.Overlap uid) = codes "Overlap " ++ decimal uid
 refusal_text errors.NoMemory = codes "NoMemory"

@@ -6,6 +6,7 @@ use Rattle.index_model.specs.declared.indexes.Index.{Index}
 use Rattle.index_model.specs.declared.indexes.Policy.{Policy}
 use Rattle.index_model.specs.declared.indexes.Spot.{Spot}
 use Rattle.index_model.specs.Extents.{AreFiles, IsKind}
+use Rattle.index_model.specs.Keys.{AreKeysApart, IsXattr}
 use Rattle.index_model.specs.Names.{AreNames, AreNamesApart}
 use Rattle.index_model.specs.Order.{AreInOrder}
 use Rattle.index_model.specs.Texts.{IsLetter, IsPlainText}
@@ -34,12 +35,14 @@ pub record IsFormed (index : Index) : Type 0 where
   pub count : length index.nodes ≤ 65536
   pub order : AreInOrder index.nodes
   pub names : AreNames index.nodes
+  pub xattrs : AllByRecursion (λ node. AllByRecursion IsXattr node.xattrs) index.nodes
   pub kinds : AllByRecursion (λ node. IsKind node.kind) index.nodes
 
 -- what is seen once the whole index is known
 pub record Agrees (index : Index) : Type 0 where
   pub uids : AreUids index.highest index.nodes
   pub names : AreNamesApart index.nodes
+  pub keys : AreKeysApart index.nodes
   pub files : AreFiles index.nodes
 
 -- a valid index

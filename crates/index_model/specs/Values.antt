@@ -5,6 +5,7 @@ use Rattle.doc_fields.specs.declared.values.LockState.{LockState}
 use Rattle.tape_types.specs.declared.moments.Times.{Times}
 use Rattle.tape_types.specs.declared.times.Civil.{Civil}
 use Rattle.tape_types.specs.Times.{civil_of}
+use Rattle.node_keys.specs.declared.xattrs.Xattr.{Xattr}
 use Rattle.index_model.specs.declared.indexes.Index.{Index}
 use Rattle.index_model.specs.declared.indexes.Policy.{Policy}
 use Rattle.index_model.specs.declared.indexes.Spot.{Spot}
@@ -27,6 +28,7 @@ pub record NodeFacts : Type 0 where
   pub name : List ℕ
   pub times : TimesValue
   pub readonly : Bool
+  pub xattrs : List Xattr
 
 -- the nodes of a directory in the order of the document, each directory with the nodes in it
 pub data Nodes : Type 0 where
@@ -97,7 +99,13 @@ times_of t = record {
 }
 
 abbrev pub facts_of : Node → NodeFacts
-facts_of node = record { uid = node.uid; name = node.name; times = times_of node.times; readonly = node.readonly }
+facts_of node = record {
+  uid = node.uid;
+  name = node.name;
+  times = times_of node.times;
+  readonly = node.readonly;
+  xattrs = node.xattrs;
+}
 
 abbrev pub value_of : Node → NodeValue
 value_of node = value_in node.parent (facts_of node) node.kind

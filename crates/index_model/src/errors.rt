@@ -31,6 +31,8 @@ pub enum IndexErr {
     /// See `Fault`.
     SameName(u64),
     /// See `Fault`.
+    SameKey(u64),
+    /// See `Fault`.
     Extent(u64),
     /// See `Fault`.
     Overlap(u64),
@@ -63,6 +65,7 @@ impl From<Fault> for IndexErr {
         match fault {
             Fault::Uid(uid) => IndexErr::Uid(uid),
             Fault::SameName(uid) => IndexErr::SameName(uid),
+            Fault::SameKey(uid) => IndexErr::SameKey(uid),
             Fault::Extent(uid) => IndexErr::Extent(uid),
             Fault::Overlap(uid) => IndexErr::Overlap(uid),
         }

@@ -6,6 +6,8 @@ pub enum Fault {
     Uid(u64),
     /// A node has the name of an earlier one of its directory.
     SameName(u64),
+    /// A node has two attributes of one key.
+    SameKey(u64),
     /// A file is longer than 2^40 bytes, or one of its extents ends past 2^62.
     Extent(u64),
     /// Two extents of a file share an offset.

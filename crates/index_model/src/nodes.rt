@@ -1,3 +1,4 @@
+use node_keys::Xattr;
 use tape_types::{List, Text, Times};
 
 /// A run of a file's bytes on tape, as an index tells it (LTFS 2.4 on data extents). It begins
@@ -55,5 +56,8 @@ pub struct Node {
     pub times: Times,
     /// Whether the node may not be changed.
     pub readonly: bool,
+    /// The extended attributes, in the order of the document. In a valid index no key stands
+    /// twice; there may be any number of them.
+    pub xattrs: List<Xattr>,
     pub kind: Kind,
 }

@@ -37,6 +37,7 @@ pub fn refusal_text(alloc: Global, refusal: IndexErr) -> Result<Bytes, NoMemory>
         IndexErr::TooMany => format!(in alloc; "TooMany")?,
         IndexErr::Uid(uid) => format!(in alloc; "Uid {uid}")?,
         IndexErr::SameName(uid) => format!(in alloc; "SameName {uid}")?,
+        IndexErr::SameKey(uid) => format!(in alloc; "SameKey {uid}")?,
         IndexErr::Extent(uid) => format!(in alloc; "Extent {uid}")?,
         IndexErr::Overlap(uid) => format!(in alloc; "Overlap {uid}")?,
         IndexErr::NoMemory => format!(in alloc; "NoMemory")?,

@@ -40,6 +40,10 @@ entries_of xattrs = map (λ x. (x.key, x.value)) xattrs
 abbrev pub map_of : List Xattr → KeyMap
 map_of xattrs = fin.from_entries (entries_of xattrs)
 
+-- the list that a map says, by the bytes of the keys
+abbrev pub list_of : KeyMap → List Xattr
+list_of keys = map (λ e. record { key = e.0; value = e.1 }) (fin.entries keys)
+
 -- each key stands before those behind it
 abbrev pub IsAscending : List Xattr → Type 0
 IsAscending xattrs = IsStrictlySortedBy key_cmp (keys_of xattrs)

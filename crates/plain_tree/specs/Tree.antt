@@ -29,9 +29,9 @@ pub record Tree : Type 0 where
 abbrev pub times_at : Moment → Times
 times_at at = record { create = at; change = at; modify = at; access = at; backup = at }
 
--- a node that was made at a moment
+-- a node that was made at a moment, without attributes
 abbrev pub new_node : Kind → ℕ → Moment → Node
-new_node kind uid at = record { uid = uid; times = times_at at; readonly = false; kind = kind }
+new_node kind uid at = record { uid = uid; times = times_at at; readonly = false; keys = fin.empty; kind = kind }
 
 -- the tree with the root alone
 abbrev pub empty_tree : Moment → Tree

@@ -4,6 +4,7 @@
 mod calls;
 mod changes;
 mod copies;
+mod keys;
 mod laws;
 mod links;
 mod map_tree;
@@ -15,6 +16,7 @@ mod plain;
 mod refusals;
 
 pub use calls::{Answer, Call, Entry, Facts, Fate, Placed, Refusal, Sort};
+pub use keys::NodeKeys;
 pub use laws::{
     listings_are_exact, reads_see_writes, refused_calls_change_nothing, renames_keep_nodes,
     trees_stay_valid, uids_never_return,

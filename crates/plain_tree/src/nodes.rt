@@ -1,3 +1,4 @@
+use crate::keys::NodeKeys;
 use crate::paged::PagedFile;
 use tape_types::{Text, Times};
 
@@ -7,6 +8,7 @@ pub struct Node {
     pub uid: u64,
     pub times: Times,
     pub readonly: bool,
+    pub keys: NodeKeys,
     pub kind: Kind,
 }
 

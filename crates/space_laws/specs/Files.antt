@@ -14,6 +14,7 @@ use Rattle.plain_tree.specs.declared.nodes.Kind.TheVariants as plain_kinds
 use Rattle.extent_map.specs.Laid.{Laid}
 use Rattle.file_tree.specs.Mounts.{Letters, laid_of}
 use Rattle.file_tree.specs.Told.{letter_of, raw_of, place_of, name_or}
+use Rattle.node_keys.specs.Keys.{list_of}
 use Rattle.index_model.specs.Canonical.{canonical}
 use Rattle.index_model.specs.Values.{IndexValue, Nodes, no_nodes, directory, file, link, facts_of, volume_of}
 use Rattle.index_model.specs.declared.indexes.Index.{Index}
@@ -61,6 +62,7 @@ told_node both root files paths e = record {
   name = name_or root (last_name e.0);
   times = e.1.times;
   readonly = e.1.readonly;
+  xattrs = list_of e.1.keys;
   kind = told_kind both (files e.1.uid) e.1.kind;
 }
 
