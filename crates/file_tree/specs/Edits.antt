@@ -1,5 +1,5 @@
 -- What calls on the tree need, and what they leave.
-use Rattle.std.specs.Prelude.{◌≡◌, ◌≢◌, ◌⊎◌, ◌↔◌, ℕ, ◌≤◌, ◌^◌, List, [], ◌∷◌, ◌++◌, Option, Some, None}
+use Rattle.std.specs.Prelude.{◌≡◌, ◌≢◌, ◌⊎◌, ◌↔◌, ℕ, ◌≤◌, ◌^◌, List, [], ◌∷◌, ◌++◌, false, Option, Some, None}
 use Rattle.std.specs.FinMap as fin
 use Rattle.tape_types.specs.declared.moments.Moment.{Moment}
 use Rattle.tape_types.specs.declared.cartridges.Extent.{Extent}
@@ -37,6 +37,17 @@ pub record CanMake (t : FileTree) (dir : ℕ) (name : List ℕ) (sort : Sort) : 
   pub made_by : making sort (path ++ name ∷ []) ≡ Some call
   pub free : refusal_of (plain_of whole t) call ≡ None
   pub room : 1 ≤ t.spare
+
+-- a node that was made at a moment, without attributes; a number is given when it is put into the tree
+abbrev pub made_node : ℕ → Kind → Moment → Node
+made_node uid kind at = record {
+  number = 0;
+  uid = uid;
+  times = plain.times_at at;
+  readonly = false;
+  keys = record { map = fin.empty; spare = 0 };
+  kind = kind;
+}
 
 -- what a new node of a sort is: a file has no bytes
 abbrev pub IsNewKind : ℕ → Sort → Kind → Type 0

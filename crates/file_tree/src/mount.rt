@@ -2,12 +2,14 @@ ghost use Rattle.std.specs.Prelude.{◌≡◌, ◌+◌, ◌<◌, length, OnOk, I
 ghost use Rattle.file_tree.specs.Mounts.{IsKindOf, IsNodeOf, IsBuilt, AreTold};
 ghost use Rattle.file_tree.specs.Raws.{CanKeep, LiesWell};
 ghost use Rattle.file_tree.specs.Valid.{AreFilesOf};
+ghost use Rattle.node_keys.specs.Keys.{AreKeysApart};
 
 use crate::nodes::{Kind, Node};
 use crate::places::Places;
 use crate::raws::{Letters, extents_from};
 use crate::store::Store;
 use index_model::{Kind as ToldKind, Node as ToldNode};
+use node_keys::Keys;
 use std::alloc::Global;
 use tape_types::NoMemory;
 
@@ -77,17 +79,20 @@ fn node_from(
     letters: Letters,
     block_size: u32,
 ) -> Result<Node, NoMemory>
-    requires { CanKeep letters block_size told.now.kind }
+    requires keys { AreKeysApart told.now.xattrs }
+    requires kind { CanKeep letters block_size told.now.kind }
     ensures node { IfOk result (λ node. IsNodeOf letters block_size told.now node) }
     ensures number { IfOk result (λ node. node.number ≡ 0) }
     ensures files { IfOk result (λ node. LiesWell block_size node.kind) }
 {
+    let keys = Keys::from_list(alloc, told.xattrs.as_slice())?;
     let kind = kind_from(alloc, &told.kind, letters, block_size)?;
     Ok(Node {
         number: 0,
         uid: told.uid,
         times: told.times,
         readonly: told.readonly,
+        keys,
         kind,
     })
 }

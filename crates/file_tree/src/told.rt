@@ -6,6 +6,7 @@ ghost use Rattle.file_tree.specs.Told.{AreApart};
 use crate::nodes::{Kind, Node};
 use crate::raws::Letters;
 use index_model::{Kind as ToldKind, Node as ToldNode, RawExtent};
+use node_keys::Xattr;
 use std::alloc::Global;
 use tape_types::{Extent, List, NoMemory, Part, Text};
 
@@ -34,6 +35,7 @@ pub fn told_node(
 ) -> Result<ToldNode, NoMemory>
     ensures { IfOk result (λ told. told ≡ told_node_of letters parent name node.now) }
 {
+    let xattrs = copies(alloc, node.keys.as_slice())?;
     let kind = told_kind(alloc, &node.kind, letters)?;
     Ok(ToldNode {
         parent,
@@ -41,8 +43,19 @@ pub fn told_node(
         name,
         times: node.times,
         readonly: node.readonly,
+        xattrs,
         kind,
     })
+}
+
+fn copies(alloc: Global, xattrs: &[Xattr]) -> Result<List<Xattr>, NoMemory>
+    ensures { IfOk result (λ copies. copies ≡ xattrs.now) }
+{
+    let mut copies = List::new(alloc);
+    for xattr in xattrs {
+        copies.push(xattr.try_clone(alloc)?)?;
+    }
+    Ok(copies)
 }
 
 fn told_kind(alloc: Global, kind: &Kind, letters: Letters) -> Result<ToldKind, NoMemory>

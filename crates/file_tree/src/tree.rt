@@ -1,9 +1,8 @@
-ghost use Rattle.std.specs.Prelude.{◌≡◌, ℕ, ◌≤◌, List, Some, false};
+ghost use Rattle.std.specs.Prelude.{◌≡◌, ℕ, ◌≤◌, List, Some};
 ghost use Rattle.extent_map.specs.Laid.{Room};
-ghost use Rattle.plain_tree.specs.Tree.{times_at};
 ghost use Rattle.plain_tree.specs.Paths.{Path};
 ghost use Rattle.file_tree.specs.Tree.{HasExtents, number_at};
-ghost use Rattle.file_tree.specs.Edits.{IsNewKind, IsLongAt};
+ghost use Rattle.file_tree.specs.Edits.{IsNewKind, IsLongAt, made_node};
 
 use crate::carried::{Carried, Heading};
 use crate::changes::Change;
@@ -16,6 +15,7 @@ use crate::raws::Letters;
 use crate::ready::Ready;
 use extent_map::Extents;
 use index_model::Index;
+use node_keys::Keys;
 use plain_tree::{Call, Entry, Facts, Refusal, Sort};
 use std::alloc::Global;
 use std::marker::Model;
@@ -271,7 +271,7 @@ impl Tree {
         let _is_text = name.as_str();
         let uid = self.highest + 1;
         let kind = new_kind(self.alloc, sort, self.block_size);
-        let node = new_node(uid, kind, at);
+        let node = new_node(self.alloc, uid, kind, at);
         let number = self.places.put(dir, name, node);
         self.places.change(dir, Change::Touch, at);
         self.highest = uid;
@@ -400,14 +400,16 @@ fn new_kind(alloc: Global, sort: Sort, block_size: u32) -> Kind
     }
 }
 
-fn new_node(uid: u64, kind: Kind, at: Moment) -> Node
-    ensures { result ≡ record { number = 0; uid = uid; times = times_at at; readonly = false; kind = kind } }
+/// A node without attributes. Takes no memory.
+fn new_node(alloc: Global, uid: u64, kind: Kind, at: Moment) -> Node
+    ensures { result ≡ made_node uid kind at }
 {
     Node {
         number: 0,
         uid,
         times: Times::all_at(at),
         readonly: false,
+        keys: Keys::new(alloc),
         kind,
     }
 }

@@ -4,7 +4,9 @@ ghost use Rattle.plain_tree.specs.Tree.{touched, change_noted, file_changed, wri
 ghost use Rattle.plain_tree.specs.Refusals.{missing_below};
 
 use crate::calls::{Refusal, Sort};
+use crate::keys::NodeKeys;
 use crate::nodes::{Kind, Node};
+use std::alloc::Global;
 use tape_types::{Moment, NoMemory, Times};
 
 /// A change of a node that takes no memory.
@@ -74,13 +76,15 @@ pub fn sort_of(kind: &Kind) -> Sort
     }
 }
 
-pub fn new_node(kind: Kind, uid: u64, at: Moment) -> Node
+/// A node that is made at a moment, without attributes. Takes no memory.
+pub fn new_node(alloc: Global, kind: Kind, uid: u64, at: Moment) -> Node
     ensures { result ≡ new_node kind uid at }
 {
     Node {
         uid,
         times: Times::all_at(at),
         readonly: false,
+        keys: NodeKeys::new(alloc),
         kind,
     }
 }

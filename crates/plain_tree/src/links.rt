@@ -11,6 +11,7 @@ ghost use Rattle.plain_tree.specs.Paths.{Name};
 
 use crate::calls::Entry;
 use crate::changes::{Change, change_node, put_node, sort_of, write_node};
+use crate::keys::NodeKeys;
 use crate::nodes::{Kind, Node};
 use std::alloc::Global;
 use std::collections::BTreeMap;
@@ -171,7 +172,7 @@ impl Links {
         ensures err { OnErr result (IsSame (child self.old) (child self.new)) }
     {
         let copy = name.try_clone(alloc)?;
-        self.insert(alloc, uid, copy, placeholder())?;
+        self.insert(alloc, uid, copy, placeholder(alloc))?;
         let Some(node) = self.remove(old, old_name) else {
             unreachable!();
         };
@@ -240,11 +241,12 @@ fn replace_name(names: &mut Names, name: &Text, node: Node)
 }
 
 /// What stands under a new name until the node comes.
-fn placeholder() -> Node {
+fn placeholder(alloc: Global) -> Node {
     Node {
         uid: 0,
         times: Times::all_at(Moment { secs: 0, nanos: 0 }),
         readonly: false,
+        keys: NodeKeys::new(alloc),
         kind: Kind::Dir,
     }
 }

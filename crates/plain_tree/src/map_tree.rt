@@ -104,7 +104,7 @@ impl MapTree {
         }
         let uid = self.highest + 1;
         self.nodes
-            .insert(self.alloc, path, new_node(kind, uid, at))?;
+            .insert(self.alloc, path, new_node(self.alloc, kind, uid, at))?;
         self.nodes.change(parent(path), Change::Touch, at);
         self.highest = uid;
         Ok(Answer::Done)

@@ -47,7 +47,7 @@ impl NodeMap {
         ensures { result ≡ (empty_tree at).nodes }
     {
         NodeMap {
-            root: new_node(Kind::Dir, 1, at),
+            root: new_node(alloc, Kind::Dir, 1, at),
             links: Links::new(alloc),
             count: 1,
         }
