@@ -1,5 +1,6 @@
 pub mod Changed
 pub mod Cuts
+pub mod ListLaws
 pub mod Ordered
 pub mod PlaceLemmas
 pub mod SortLemmas

@@ -45,7 +45,7 @@ ascend_sorted (y ∷ ys) up apart = sorted_from_all_adjacent key_total (keys_of 
     (ap₂ (λ a b. is_lt (key_cmp a b)) next here ∙ up k y (omega arith) within)
     (apart_from_distinct (eq_by_cmp key_cmp) (keys_of all) k (k + 1) y.key apart (omega arith) lt))
 
-tied : (r : Ordering) → is_eq r ≡ true → r ≡ Equal
+pub tied : (r : Ordering) → is_eq r ≡ true → r ≡ Equal
 tied Less e = cc
 tied Equal e = refl
 tied Greater e = cc
@@ -54,11 +54,11 @@ some_same : (a b : List ℕ) → Some a ≡ Some b → a ≡ b
 some_same a b e = ap (λ o. unwrap_or o a) e
 
 -- an attribute of the list with this key and this value
-abbrev HasOne : List Xattr → List ℕ → List ℕ → Type 0
+abbrev pub HasOne : List Xattr → List ℕ → List ℕ → Type 0
 HasOne xs key value = (x : Xattr) × Contains xs x × (x.key ≡ key) × (x.value ≡ value)
 
 -- what is found under a key is the value of one that has it
-found_one : (xs : List Xattr) (key value : List ℕ) → fin.find key_cmp key (entries_of xs) ≡ Some value → HasOne xs key value
+pub found_one : (xs : List Xattr) (key value : List ℕ) → fin.find key_cmp key (entries_of xs) ≡ Some value → HasOne xs key value
 found_one [] key value is = cc
 found_one (x ∷ xs) key value is = cases (eq_by_cmp key_cmp key x.key) refl (found_one xs key value)
   where
@@ -71,7 +71,7 @@ found_one (x ∷ xs) key value is = cases (eq_by_cmp key_cmp key x.key) refl (fo
         (rest.0, (suc rest.1.0, omega (arith, rest.1.1), rest.1.2), rest.2, rest.3)
 
 -- one that is there is found, where no key stands twice
-one_found : (xs : List Xattr) (x : Xattr) → AreKeysApart xs → Contains xs x → fin.find key_cmp x.key (entries_of xs) ≡ Some x.value
+pub one_found : (xs : List Xattr) (x : Xattr) → AreKeysApart xs → Contains xs x → fin.find key_cmp x.key (entries_of xs) ≡ Some x.value
 one_found [] x apart here = absurd (omega (arith, here.1))
 one_found (y ∷ ys) x apart (zero, within, is) =
     ap (λ (z : Xattr). fin.find key_cmp x.key (entries_of (z ∷ ys))) is ∙ ap (λ r. cond (is_eq r) (Some x.value) (fin.find key_cmp x.key (entries_of ys))) (tied_itself key_total x.key)

@@ -1,8 +1,8 @@
-ghost use Rattle.std.specs.Prelude.{◌≡◌, List};
+ghost use Rattle.std.specs.Prelude.{◌≡◌, ℕ, List, Some, Contains};
 ghost use Rattle.std.specs.FinMap as fin;
 ghost use Rattle.std.specs.List.Sorted.{IsPermutation};
 ghost use Rattle.node_keys.specs.declared.xattrs.Xattr.{Xattr};
-ghost use Rattle.node_keys.specs.Keys.{KeyMap, entries_of, map_of, IsAscending, AreKeysApart};
+ghost use Rattle.node_keys.specs.Keys.{KeyMap, entries_of, map_of, list_of, IsAscending, AreKeysApart};
 
 /// Of the lists that say a map, one ascends; where no key stands twice the order says nothing.
 #[tactic(auto, using(crate::proofs::Ordered::entries_are, crate::proofs::Ordered::one_list, crate::proofs::SortLemmas::same_map))]
@@ -12,4 +12,15 @@ pub fn lists_say_maps()
         → map_of one ≡ map_of other → one ≡ other }
     ensures any { (one other : List Xattr) → IsPermutation one other → AreKeysApart one
         → map_of one ≡ map_of other }
+{}
+
+/// A map says one list, which ascends and says this map; and what a list's map has is in the list.
+#[tactic(auto, using(crate::proofs::ListLaws::list_entries, crate::proofs::ListLaws::list_ascends, crate::proofs::ListLaws::list_apart, crate::proofs::ListLaws::map_back, crate::proofs::ListLaws::in_list))]
+pub fn maps_say_lists()
+    ensures entries { (keys : KeyMap) → entries_of (list_of keys) ≡ fin.entries keys }
+    ensures ascends { (keys : KeyMap) → IsAscending (list_of keys) }
+    ensures apart { (keys : KeyMap) → AreKeysApart (list_of keys) }
+    ensures again { (keys : KeyMap) → map_of (list_of keys) ≡ keys }
+    ensures told { (xattrs : List Xattr) (key value : List ℕ) → fin.get (map_of xattrs) key ≡ Some value
+        → Contains xattrs (record { key = key; value = value }) }
 {}

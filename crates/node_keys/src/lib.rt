@@ -6,5 +6,5 @@ mod laws;
 mod xattrs;
 
 pub use keys::Keys;
-pub use laws::lists_say_maps;
+pub use laws::{lists_say_maps, maps_say_lists};
 pub use xattrs::{Xattr, is_key};
