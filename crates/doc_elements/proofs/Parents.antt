@@ -1,13 +1,13 @@
 -- A child that is a parent has that parent's element.
 use Rattle.std.proofs.Common.{◌≡◌, sym, ap}
 use Rattle.doc_fields.specs.declared.tags.Tag.{Tag}
-use Rattle.doc_fields.specs.declared.tags.Tag.TheVariants.{Location, Partitions, PreviousGenerationLocation, DataPlacementPolicy, IndexPartitionCriteria, Directory, File, ExtendedAttributes, Contents, ExtentInfo, Extent, Key}
+use Rattle.doc_fields.specs.declared.tags.Tag.TheVariants.{Location, Partitions, PreviousGenerationLocation, DataPlacementPolicy, IndexPartitionCriteria, Directory, File, ExtendedAttributes, Contents, ExtentInfo, Extent, Key, Xattr}
 use Rattle.doc_elements.specs.declared.schema.Place.{Place}
 use Rattle.doc_elements.specs.declared.schema.Place.TheVariants as place
 use Rattle.doc_elements.specs.declared.schema.Form.{Form}
 use Rattle.doc_elements.specs.declared.schema.Form.TheVariants as form
 use Rattle.doc_elements.specs.declared.schema.Child.TheVariants as child
-use Rattle.doc_elements.specs.Schema.{contents_rule, criteria_rule, directory_rule, extent_rule, extents_rule, file_rule, index_rule, label_rule, letters_rule, node_rule, own_rule, policy_rule, rule, spot_rule, tag_of, xattr_rule}
+use Rattle.doc_elements.specs.Schema.{attributes_rule, contents_rule, criteria_rule, directory_rule, extent_rule, extents_rule, file_rule, index_rule, label_rule, letters_rule, node_rule, own_rule, policy_rule, rule, spot_rule, tag_of, xattr_rule}
 
 label_tag : (tag : Tag) (q : Place) → label_rule tag ≡ child.Parent q → tag_of q ≡ tag
 label_tag Location q e = let same : place.Own ≡ q = cc in ap tag_of (sym same)
@@ -68,6 +68,10 @@ extent_tag : (tag : Tag) (q : Place) → extent_rule tag ≡ child.Parent q → 
 extent_tag Location q e = absurd cc
 extent_tag _ q e = absurd cc
 
+attributes_tag : (tag : Tag) (q : Place) → attributes_rule tag ≡ child.Parent q → tag_of q ≡ tag
+attributes_tag Xattr q e = let same : place.Xattr ≡ q = cc in ap tag_of (sym same)
+attributes_tag _ q e = absurd cc
+
 xattr_tag : (tag : Tag) (q : Place) → xattr_rule tag ≡ child.Parent q → tag_of q ≡ tag
 xattr_tag Key q e = absurd cc
 xattr_tag _ q e = absurd cc
@@ -85,7 +89,7 @@ rule_tag place.Root tag q e = directory_tag form.VolumeName tag q e
 rule_tag place.Directory tag q e = directory_tag form.NodeName tag q e
 rule_tag place.Contents tag q e = contents_tag tag q e
 rule_tag place.File tag q e = file_tag tag q e
-rule_tag place.Attributes tag q e = absurd cc
+rule_tag place.Attributes tag q e = attributes_tag tag q e
 rule_tag place.ExtentInfo tag q e = extents_tag tag q e
 rule_tag place.Extent tag q e = extent_tag tag q e
 rule_tag place.Xattr tag q e = xattr_tag tag q e

@@ -1,5 +1,5 @@
 -- The archive is a valid index.
-use Rattle.std.proofs.Common.{◌≡◌, ℕ, ◌+◌, ◌<◌, ◌≤◌, ◌^◌, ◌&&◌, Bool, true, false, nat_le, length, List, [], ◌∷◌, codes, IsAscii, All, subst, refl, sym, ap, ◌∙◌, arith}
+use Rattle.std.proofs.Common.{◌≡◌, ℕ, zero, suc, ◌+◌, ◌<◌, ◌≤◌, ◌^◌, ◌&&◌, Bool, true, false, not, nat_le, nat_lt, length, List, [], ◌∷◌, codes, IsAscii, All, subst, refl, sym, ap, ◌∙◌, arith}
 use Rattle.std.specs.List.{AllByRecursion, list_all}
 use Rattle.std.proofs.lemmas.Bool.{and_from, and_parts}
 use Rattle.std.proofs.lemmas.Bool.Decides.{nat_tests}
@@ -12,8 +12,12 @@ use Rattle.tape_types.specs.declared.moments.Times.{Times}
 use Rattle.index_model.specs.declared.nodes.Kind.TheVariants as kinds
 use Rattle.index_model.specs.declared.nodes.Node.{Node}
 use Rattle.index_model.specs.declared.nodes.RawExtent.{RawExtent}
-use Rattle.index_model.specs.Archive.{archive, archive_nodes, archive_rest, hello, node}
+use Rattle.index_model.specs.Archive.{archive, archive_nodes, archive_rest, bin, hello, hi, node, note}
 use Rattle.index_model.specs.Extents.{AreFiles, IsFileAt, ShareOffset}
+use Rattle.base64.specs.GeneralPurpose.{IsBytes}
+use Rattle.node_keys.specs.Keys.{is_key}
+use Rattle.node_keys.specs.declared.xattrs.Xattr.{Xattr}
+use Rattle.index_model.specs.Keys.{AreKeysApart, HasKeyTwice, IsXattr}
 use Rattle.index_model.specs.Names.{AreNames, AreNamesApart, IsNodeName, IsVolumeName}
 use Rattle.index_model.specs.Order.{AreInOrder, IsDirAt, LiesIn}
 use Rattle.index_model.specs.Order.LiesIn.{itself, through}
@@ -149,6 +153,39 @@ files times = record {
   apart = λ at bytes extents h one two offset shared. one_apart one two offset (subst (λ xs. ShareOffset xs one two offset) (the_file times at bytes extents h).1 shared);
 }
 
+key : (text : List ℕ) → list_all printable text ≡ true → nat_lt 0 (length text) ≡ true → nat_le (length text) 255 ≡ true → has_byte 0 text ≡ false → is_key text ≡ true
+key text e some short no_nul =
+    rw (chars-IsAscii text (ascii text e))
+    (and_from (nat_lt 0 (length text) && nat_le (length text) 255) (not (has_byte 0 text)) (and_from (nat_lt 0 (length text)) (nat_le (length text) 255) some short) (ap not no_nul))
+
+xattr : (x : Xattr) → list_all printable x.key ≡ true → nat_lt 0 (length x.key) ≡ true → nat_le (length x.key) 255 ≡ true → has_byte 0 x.key ≡ false → IsBytes x.value → IsXattr x
+xattr x e some short no_nul are = record {
+  utf8 = IsUtf8-from_ascii x.key (ascii x.key e);
+  key = key x.key e some short no_nul;
+  bytes = are;
+}
+
+two_bytes : (a b : ℕ) → a < 256 → b < 256 → IsBytes (a ∷ b ∷ [])
+two_bytes a b small_a small_b zero = small_a
+two_bytes a b small_a small_b (suc zero) = small_b
+two_bytes a b small_a small_b (suc (suc i)) = omega arith
+
+-- of the attributes of one node no two have one key
+abbrev OnceEach : Node → Type 0
+OnceEach x = (i j : ℕ) (a b : Xattr) → i < j → IsAt x.xattrs i a → IsAt x.xattrs j b → a.key ≡ b.key → ⊥
+
+no_keys : (i j : ℕ) (a b : Xattr) → i < j → IsAt {X = Xattr} [] i a → IsAt {X = Xattr} [] j b → a.key ≡ b.key → ⊥
+no_keys i j a b less is other_is same = each {X = Xattr} (λ k x. ⊥) [] tt i a is
+
+three_keys : (i j : ℕ) (a b : Xattr) → i < j → IsAt (note ∷ bin ∷ hi ∷ []) i a → IsAt (note ∷ bin ∷ hi ∷ []) j b → a.key ≡ b.key → ⊥
+three_keys i j a b less is other_is same =
+    let long : (k : ℕ) (x : Xattr) → IsAt (note ∷ bin ∷ hi ∷ []) k x → length x.key + k ≡ 9 = each (λ k x. length x.key + k ≡ 9) (note ∷ bin ∷ hi ∷ []) (refl, (refl, (refl, tt))) in
+    omega (arith, less, long i a is, long j b other_is, ap length same)
+
+keys_apart : (times : Times) → AreKeysApart (archive_nodes times)
+keys_apart times at h =
+    each (λ k x. OnceEach x) (archive_nodes times) (no_keys, (no_keys, (three_keys, (no_keys, tt)))) at h.node h.is h.earlier h.later h.one h.other h.two h.one_is h.other_is h.same
+
 letter : (l : ℕ) → nat_le 97 l ≡ true → nat_le l 122 ≡ true → IsLetter l
 letter l from to = record { from_a = grind (arith, nat_tests); to_z = grind (arith, nat_tests) }
 
@@ -165,11 +202,12 @@ formed at times = record {
   count = omega arith;
   order = in_order times;
   names = named times;
+  xattrs = (tt, (tt, ((xattr note refl refl refl refl (two_bytes 104 105 (omega arith) (omega arith)), (xattr bin refl refl refl refl (two_bytes 0 255 (omega arith) (omega arith)), (xattr hi refl refl refl refl (two_bytes 104 105 (omega arith) (omega arith)), tt))), (tt, tt))));
   kinds = (tt, (tt, ((record { offset = omega arith; letter = letter 98 refl refl; block = omega arith; byte = omega arith; count = omega arith }, tt), (IsUtf8-from_ascii (codes "docs/read me.txt") (ascii (codes "docs/read me.txt") refl), tt))));
 }
 
 pub archive_is_valid : (at : Moment) (times : Times) → IsValid (archive at times)
 archive_is_valid at times = record {
   formed = formed at times;
-  agrees = record { uids = uids times; names = names_apart times; files = files times };
+  agrees = record { uids = uids times; names = names_apart times; keys = keys_apart times; files = files times };
 }

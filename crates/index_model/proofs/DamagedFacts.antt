@@ -7,8 +7,10 @@ use Rattle.index_model.specs.declared.nodes.Kind.{Kind}
 use Rattle.index_model.specs.declared.nodes.Kind.TheVariants as kinds
 use Rattle.index_model.specs.declared.nodes.RawExtent.{RawExtent}
 use Rattle.index_model.specs.declared.nodes.Node.{Node}
-use Rattle.index_model.specs.Archive.{archive_nodes, hello, index_of, late_node, long_file, node, node_in_file, one_name, shared_byte, touching, with_file}
+use Rattle.index_model.specs.Archive.{archive_nodes, hello, index_of, late_node, long_file, node, node_in_file, one_name, shared_byte, touching, two_notes, with_file, with_keys}
 use Rattle.index_model.specs.Extents.{AreFiles, Covers, HasOverlap, IsBadFile, IsFileAt, IsOutOfBounds, ShareOffset}
+use Rattle.node_keys.specs.declared.xattrs.Xattr.{Xattr}
+use Rattle.index_model.specs.Keys.{AreKeysApart, HasKeyTwice}
 use Rattle.index_model.specs.Names.{AreNamesApart}
 use Rattle.index_model.specs.Order.{AreInOrder, LiesIn}
 use Rattle.index_model.specs.Order.LiesIn.{through}
@@ -68,9 +70,9 @@ in_file times order =
     not_dir e = cc e
 
 -- the UIDs of a root and a file
-file_uids : (times : Times) (kind : Kind) → AreUids 2 (with_file times kind)
-file_uids times kind =
-    let nodes = with_file times kind in
+file_uids : (times : Times) (xs : List Xattr) (kind : Kind) → AreUids 2 (with_keys times xs kind)
+file_uids times xs kind =
+    let nodes = with_keys times xs kind in
     record {
       bounded = omega arith;
       least = λ at n is. omega (arith, uid at n is);
@@ -79,17 +81,41 @@ file_uids times kind =
       root = λ n is. omega (arith, uid 0 n is);
     }
   where
-    uid : (at : ℕ) (n : Node) → IsAt (with_file times kind) at n → n.uid ≡ at + 1
-    uid at n is = each (λ k x. x.uid ≡ k + 1) (with_file times kind) (refl, (refl, tt)) at n is
+    uid : (at : ℕ) (n : Node) → IsAt (with_keys times xs kind) at n → n.uid ≡ at + 1
+    uid at n is = each (λ k x. x.uid ≡ k + 1) (with_keys times xs kind) (refl, (refl, tt)) at n is
 
 -- it is the one node behind the root
-file_place : (times : Times) (kind : Kind) (at : ℕ) (n : Node) → 0 < at → IsAt (with_file times kind) at n → at ≡ 1
-file_place times kind at n behind is =
-    each (λ k x. 0 < k → k ≡ 1) (with_file times kind) ((λ h. absurd (omega (arith, h))), ((λ h. refl), tt)) at n is behind
+file_place : (times : Times) (xs : List Xattr) (kind : Kind) (at : ℕ) (n : Node) → 0 < at → IsAt (with_keys times xs kind) at n → at ≡ 1
+file_place times xs kind at n behind is =
+    each (λ k x. 0 < k → k ≡ 1) (with_keys times xs kind) ((λ h. absurd (omega (arith, h))), ((λ h. refl), tt)) at n is behind
 
-file_names : (times : Times) (kind : Kind) → AreNamesApart (with_file times kind)
-file_names times kind at other h =
-    file_place times kind at h.node h.behind_root h.is ∙ sym (file_place times kind other h.named h.other_behind_root h.other_is)
+file_names : (times : Times) (xs : List Xattr) (kind : Kind) → AreNamesApart (with_keys times xs kind)
+file_names times xs kind at other h =
+    file_place times xs kind at h.node h.behind_root h.is ∙ sym (file_place times xs kind other h.named h.other_behind_root h.other_is)
+
+-- the root has no attribute
+root_keys : (times : Times) (xs : List Xattr) (kind : Kind) (before : ℕ) → before < 1 → HasKeyTwice (with_keys times xs kind) before → ⊥
+root_keys times xs kind before small h =
+    each (λ k x. k < 1 → (i : ℕ) (a : Xattr) → IsAt x.xattrs i a → ⊥) (with_keys times xs kind)
+    ((λ _ i a is. each {X = Xattr} (λ _ _. ⊥) [] tt i a is), ((λ less. absurd (omega (arith, less))), tt)) before h.node h.is small h.earlier h.one h.one_is
+
+-- nor has the file
+file_keys : (times : Times) (kind : Kind) → AreKeysApart (with_file times kind)
+file_keys times kind at h =
+    each (λ k x. (i : ℕ) (a : Xattr) → IsAt x.xattrs i a → ⊥) (with_file times kind)
+    ((λ i a is. each {X = Xattr} (λ _ _. ⊥) [] tt i a is), ((λ i a is. each {X = Xattr} (λ _ _. ⊥) [] tt i a is), tt)) at h.node h.is h.earlier h.one h.one_is
+
+pub key_twice : (at : Moment) (times : Times) → IsToldOf (index_of at 2 (two_notes times)) (faults.SameKey 2)
+key_twice at times = record {
+  uids = file_uids times _ _;
+  names = file_names times _ _;
+  at = 1;
+  first = record {
+    here = record { node = _; is = refl; earlier = 0; later = 2; two = omega arith; one = _; one_is = refl; other = _; other_is = refl; same = refl };
+    none_before = root_keys times _ _;
+  };
+  told = record { node = _; is = refl; same = refl };
+}
 
 dir_file : (bytes : ℕ) (extents : List RawExtent) → kinds.Dir ≡ kinds.File bytes extents → ⊥
 dir_file bytes extents e = cc e
@@ -109,8 +135,9 @@ too_long at times =
     record {
       at = 1;
       bad = record {
-        uids = file_uids times _;
-        names = file_names times _;
+        uids = file_uids times [] _;
+        names = file_names times [] _;
+        keys = file_keys times _;
         first = record { here = inl out; none_before = root_fine times _ };
         told = record { node = _; is = refl; same = refl };
       };
@@ -154,8 +181,9 @@ overlap at times =
     record {
       at = 1;
       bad = record {
-        uids = file_uids times _;
-        names = file_names times _;
+        uids = file_uids times [] _;
+        names = file_names times [] _;
+        keys = file_keys times _;
         first = record { here = inr over; none_before = root_fine times _ };
         told = record { node = _; is = refl; same = refl };
       };

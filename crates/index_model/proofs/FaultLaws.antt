@@ -88,23 +88,33 @@ apart_kinds index m n a b =
 pub one_fault : (index : Index) (a b : Fault) → IsToldOf index a → IsToldOf index b → a ≡ b
 one_fault index (faults.Uid m) (faults.Uid n) h k = ap faults.Uid (same_uid index m n h k)
 one_fault index (faults.Uid m) (faults.SameName n) h k = absurd (refused_uid index m k.uids h)
+one_fault index (faults.Uid m) (faults.SameKey n) h k = absurd (refused_uid index m k.uids h)
 one_fault index (faults.Uid m) (faults.Extent n) h k = absurd (refused_uid index m k.bad.uids h)
 one_fault index (faults.Uid m) (faults.Overlap n) h k = absurd (refused_uid index m k.bad.uids h)
 one_fault index (faults.SameName m) (faults.Uid n) h k = absurd (refused_uid index n h.uids k)
 one_fault index (faults.SameName m) (faults.SameName n) h k = ap faults.SameName (told_same index.nodes h.at k.at m n (first_same _ h.at k.at h.first k.first) h.told k.told)
+one_fault index (faults.SameName m) (faults.SameKey n) h k = absurd (taken_name_no index.nodes h.at k.names h.first.here)
 one_fault index (faults.SameName m) (faults.Extent n) h k = absurd (taken_name_no index.nodes h.at k.bad.names h.first.here)
 one_fault index (faults.SameName m) (faults.Overlap n) h k = absurd (taken_name_no index.nodes h.at k.bad.names h.first.here)
+one_fault index (faults.SameKey m) (faults.Uid n) h k = absurd (refused_uid index n h.uids k)
+one_fault index (faults.SameKey m) (faults.SameName n) h k = absurd (taken_name_no index.nodes k.at h.names k.first.here)
+one_fault index (faults.SameKey m) (faults.SameKey n) h k = ap faults.SameKey (told_same index.nodes h.at k.at m n (first_same _ h.at k.at h.first k.first) h.told k.told)
+one_fault index (faults.SameKey m) (faults.Extent n) h k = absurd (k.bad.keys h.at h.first.here)
+one_fault index (faults.SameKey m) (faults.Overlap n) h k = absurd (k.bad.keys h.at h.first.here)
 one_fault index (faults.Extent m) (faults.Uid n) h k = absurd (refused_uid index n h.bad.uids k)
 one_fault index (faults.Extent m) (faults.SameName n) h k = absurd (taken_name_no index.nodes k.at h.bad.names k.first.here)
+one_fault index (faults.Extent m) (faults.SameKey n) h k = absurd (h.bad.keys k.at k.first.here)
 one_fault index (faults.Extent m) (faults.Extent n) h k = ap faults.Extent (same_file index h.at k.at m n h.bad k.bad).1
 one_fault index (faults.Extent m) (faults.Overlap n) h k = absurd (apart_kinds index m n h k)
 one_fault index (faults.Overlap m) (faults.Uid n) h k = absurd (refused_uid index n h.bad.uids k)
 one_fault index (faults.Overlap m) (faults.SameName n) h k = absurd (taken_name_no index.nodes k.at h.bad.names k.first.here)
+one_fault index (faults.Overlap m) (faults.SameKey n) h k = absurd (h.bad.keys k.at k.first.here)
 one_fault index (faults.Overlap m) (faults.Extent n) h k = absurd (apart_kinds index n m k h)
 one_fault index (faults.Overlap m) (faults.Overlap n) h k = ap faults.Overlap (same_file index h.at k.at m n h.bad k.bad).1
 
 pub agrees_no_fault : (index : Index) (a : Fault) → IsToldOf index a → ¬ Agrees index
 agrees_no_fault index (faults.Uid n) h right = refused_uid index n right.uids h
 agrees_no_fault index (faults.SameName n) h right = taken_name_no index.nodes h.at right.names h.first.here
+agrees_no_fault index (faults.SameKey n) h right = right.keys h.at h.first.here
 agrees_no_fault index (faults.Extent n) h right = bad_file index.nodes h.at right.files h.bad.first.here
 agrees_no_fault index (faults.Overlap n) h right = bad_file index.nodes h.at right.files h.bad.first.here

@@ -6,6 +6,7 @@ use Rattle.index_model.specs.declared.indexes.Index.{Index}
 use Rattle.index_model.specs.declared.nodes.Node.{Node}
 use Rattle.index_model.specs.declared.nodes.RawExtent.{RawExtent}
 use Rattle.index_model.specs.Extents.{AreFiles, EndsTooFar, IsBadFile, IsFileAt, IsOutOfBounds, ShareOffset}
+use Rattle.index_model.specs.Keys.{AreKeysApart, HasKeyTwice}
 use Rattle.index_model.specs.Names.{AreNamesApart, HasTakenName, HaveOneName}
 use Rattle.index_model.specs.Places.{IsAt, IsFirst}
 use Rattle.index_model.specs.Refusals.{IsFirstBadFile, IsToldOf}
@@ -130,9 +131,13 @@ module _ (index : Index) (none : (a : Fault) → IsToldOf index a → ⊥) where
   names : AreNamesApart index.nodes
   names = names_are index.nodes no_taken_name
 
+  keys : AreKeysApart index.nodes
+  keys = never (HasKeyTwice index.nodes)
+      (λ at first. let h = first.here in none (faults.SameKey h.node.uid) record { uids = uids; names = names; at = at; first = first; told = record { node = h.node; is = h.is; same = refl } })
+
   -- the first bad file, where its UID is told
   bad : (at bytes : ℕ) (extents : List RawExtent) → IsFirst (IsBadFile index.nodes) at → (f : IsFileAt index.nodes at bytes extents) → IsFirstBadFile index at f.node.uid
-  bad at bytes extents first f = record { uids = uids; names = names; first = first; told = record { node = f.node; is = f.is; same = refl } }
+  bad at bytes extents first f = record { uids = uids; names = names; keys = keys; first = first; told = record { node = f.node; is = f.is; same = refl } }
 
   not_out : (at : ℕ) → IsFirst (IsBadFile index.nodes) at → IsOutOfBounds index.nodes at → ⊥
   not_out at first out = none (faults.Extent out.file.node.uid) record { at = at; bad = bad at out.bytes out.extents first out.file; out = out }
@@ -148,7 +153,7 @@ module _ (index : Index) (none : (a : Fault) → IsToldOf index a → ⊥) where
   no_bad_file = never (IsBadFile index.nodes) not_first
 
   agrees : Agrees index
-  agrees = record { uids = uids; names = names; files = files_are index.nodes no_bad_file }
+  agrees = record { uids = uids; names = names; keys = keys; files = files_are index.nodes no_bad_file }
 
 pub no_fault_agrees : (index : Index) → ((a : Fault) → ¬ IsToldOf index a) → Agrees index
 no_fault_agrees index none = agrees index none

@@ -1,7 +1,9 @@
--- A small index, on which the definitions are tried: a volume `Archive` with a file in a directory, and a link to it.
+-- A small index, on which the definitions are tried: a volume `Archive` with a file in a directory, which has three
+-- attributes, and a link to it.
 use Rattle.std.specs.Prelude.{ℕ, ◌+◌, ◌^◌, List, [], ◌∷◌, Some, None, true, false, codes}
 use Rattle.tape_types.specs.declared.moments.Moment.{Moment}
 use Rattle.tape_types.specs.declared.moments.Times.{Times}
+use Rattle.node_keys.specs.declared.xattrs.Xattr.{Xattr}
 use Rattle.index_model.specs.declared.indexes.Index.{Index}
 use Rattle.doc_fields.specs.declared.values.LockState.TheVariants as locks
 use Rattle.index_model.specs.declared.nodes.Kind.{Kind}
@@ -17,11 +19,26 @@ abbrev pub node : Times → ℕ → ℕ → List ℕ → Kind → Node
 node times parent uid name kind =
     record { parent = parent; uid = uid; name = name; times = times; readonly = false; xattrs = []; kind = kind }
 
+-- a node with attributes
+abbrev pub keyed : List Xattr → Node → Node
+keyed xattrs node = record node { xattrs = xattrs }
+
+abbrev pub note : Xattr
+note = record { key = codes "user.note"; value = codes "hi" }
+
+-- bytes that are no text
+abbrev pub bin : Xattr
+bin = record { key = codes "user.bin"; value = 0 ∷ 255 ∷ [] }
+
+-- the bytes of the note under another key
+abbrev pub hi : Xattr
+hi = record { key = codes "user.hi"; value = codes "hi" }
+
 -- what stands behind the root
 abbrev pub archive_rest : Times → List Node
 archive_rest times =
     node times 0 2 (codes "docs") kinds.Dir
-    ∷ node times 1 3 (codes "read me.txt") (kinds.File 5 (hello ∷ []))
+    ∷ keyed (note ∷ bin ∷ hi ∷ []) (node times 1 3 (codes "read me.txt") (kinds.File 5 (hello ∷ [])))
     ∷ node times 0 4 (codes "latest") (kinds.Link (codes "docs/read me.txt"))
     ∷ []
 
@@ -51,14 +68,22 @@ archive at times = index_of at 4 (archive_nodes times)
 -- Damaged in one way each.
 
 -- the root, and one more node in it
+abbrev pub with_keys : Times → List Xattr → Kind → List Node
+with_keys times xattrs kind = node times 0 1 [] kinds.Dir ∷ keyed xattrs (node times 0 2 (codes "f") kind) ∷ []
+
 abbrev pub with_file : Times → Kind → List Node
-with_file times kind = node times 0 1 [] kinds.Dir ∷ node times 0 2 (codes "f") kind ∷ []
+with_file times kind = with_keys times [] kind
 
 -- two nodes of one directory with one name
 abbrev pub one_name : Times → List Node
 one_name times =
     node times 0 1 [] kinds.Dir ∷ node times 0 3 (codes "docs") kinds.Dir ∷ node times 0 2 (codes "docs") kinds.Dir
     ∷ []
+
+-- a file a byte too long, with two notes
+abbrev pub two_notes : Times → List Node
+two_notes times =
+    with_keys times (note ∷ bin ∷ record { key = codes "user.note"; value = [] } ∷ []) (kinds.File (2 ^ 40 + 1) [])
 
 -- a file a byte too long
 abbrev pub long_file : Times → List Node

@@ -2,7 +2,7 @@ ghost use Rattle.std.specs.Prelude.{◌+◌, ◌^◌};
 ghost use Rattle.tape_types.specs.declared.moments.Moment.{Moment};
 ghost use Rattle.tape_types.specs.declared.moments.Times.{Times};
 ghost use Rattle.index_model.specs.Archive.{archive, archive_nodes, index_of, late_node, long_file, node_in_file};
-ghost use Rattle.index_model.specs.Archive.{one_name, shared_byte, touching, with_file};
+ghost use Rattle.index_model.specs.Archive.{one_name, shared_byte, touching, two_notes, with_file};
 ghost use Rattle.index_model.specs.Extents.{AreFiles};
 ghost use Rattle.index_model.specs.declared.nodes.Kind.TheVariants as kinds;
 ghost use Rattle.index_model.specs.Order.{AreInOrder};
@@ -20,6 +20,7 @@ pub fn the_definitions_tell_valid_from_damaged()
         IsToldOf (index_of at (2 ^ 62 + 1) (archive_nodes times)) (faults.Uid (2 ^ 62 + 1)) }
     ensures uid { (at : Moment) (times : Times) → IsToldOf (index_of at 3 (archive_nodes times)) (faults.Uid 4) }
     ensures name { (at : Moment) (times : Times) → IsToldOf (index_of at 3 (one_name times)) (faults.SameName 2) }
+    ensures key { (at : Moment) (times : Times) → IsToldOf (index_of at 2 (two_notes times)) (faults.SameKey 2) }
     ensures long { (at : Moment) (times : Times) → IsToldOf (index_of at 2 (long_file times)) (faults.Extent 2) }
     ensures overlap { (at : Moment) (times : Times) → IsToldOf (index_of at 2 (shared_byte times)) (faults.Overlap 2) }
 {}

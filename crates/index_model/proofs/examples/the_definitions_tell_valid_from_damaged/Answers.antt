@@ -1,4 +1,4 @@
-use Rattle.index_model.proofs.DamagedFacts.{highest_over, in_file, late, name_taken, overlap, too_long, touching_fine, uid_over}
+use Rattle.index_model.proofs.DamagedFacts.{highest_over, in_file, key_twice, late, name_taken, overlap, too_long, touching_fine, uid_over}
 use Rattle.index_model.proofs.ArchiveFacts.{archive_is_valid}
 use Rattle.index_model.proofs.examples.the_definitions_tell_valid_from_damaged.Goals as goal
 
@@ -19,6 +19,9 @@ returns-clause-uid c = uid_over
 
 pub returns-clause-name : goal.returns-clause-name
 returns-clause-name c = name_taken
+
+pub returns-clause-key : goal.returns-clause-key
+returns-clause-key c = key_twice
 
 pub returns-clause-long : goal.returns-clause-long
 returns-clause-long c = too_long
