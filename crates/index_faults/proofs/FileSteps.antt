@@ -47,6 +47,7 @@ module _ (nodes : List Node) (at : ℕ) (node : Node) (is : IsAt nodes at node) 
     tells : IsNowhereBefore (IsBadFile nodes) at → (fault : Fault) → TellsFile node.uid bytes extents (Some fault) → TellsBad nodes (Some fault)
     tells none (faults.Uid n) h = h
     tells none (faults.SameName n) h = h
+    tells none (faults.SameKey n) h = h
     tells none (faults.Extent n) h =
         let out : IsOutOfBounds nodes at = record { bytes = bytes; extents = extents; file = here; out = h.1 } in
         record { at = at; first = record { here = inl out; none_before = none }; told = record { node = node; is = is; same = sym h.0 }; wrong = out }

@@ -9,3 +9,4 @@ pub mod FileSteps
 pub mod Whole
 pub mod RisingUids
 pub mod RisingNames
+pub mod KeySteps

@@ -42,14 +42,14 @@ less_from_test Less is = refl
 less_from_test Equal is = absurd (false_true is)
 less_from_test Greater is = absurd (false_true is)
 
-up_to_itself : (name other : List ℕ) → name ≡ other → IsUpTo name other
+pub up_to_itself : (name other : List ℕ) → name ≡ other → IsUpTo name other
 up_to_itself name other same = rw (same, tied_itself nat_list_cmp_total other) refl
 
-up_to_more : (one two three : List ℕ) → IsUpTo one two → slice_cmp nat_cmp two three ≡ Less → IsUpTo one three
+pub up_to_more : (one two three : List ℕ) → IsUpTo one two → slice_cmp nat_cmp two three ≡ Less → IsUpTo one three
 up_to_more one two three first less = upto nat_list_cmp_total one two three first (ap is_gt less)
 
 -- no name is up to a text that is below it
-not_below : (name below : List ℕ) → slice_cmp nat_cmp below name ≡ Less → IsUpTo name below → ⊥
+pub not_below : (name below : List ℕ) → slice_cmp nat_cmp below name ≡ Less → IsUpTo name below → ⊥
 not_below name below less up =
     let turned = nat_list_cmp_total.antisymm name below in
     false_true (sym up ∙ ap is_gt (turned ∙ ap ordering_reverse less))

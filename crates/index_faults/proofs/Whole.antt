@@ -1,12 +1,13 @@
--- What the three searches tell together.
+-- What the four searches tell together.
 use Rattle.std.proofs.Common.{◌≡◌, ◌≢◌, ℕ, ◌≤◌, ◌^◌, Option, Some, None, Result, Ok, Err, IfSome, IfNone, IfOk, inr}
 use Rattle.index_model.specs.declared.faults.Fault.{Fault}
 use Rattle.index_model.specs.declared.faults.Fault.TheVariants as faults
 use Rattle.index_model.specs.declared.indexes.Index.{Index}
 use Rattle.index_model.specs.declared.nodes.Node.{Node}
+use Rattle.index_model.specs.Keys.{AreKeysApart, HasKeyTwice}
 use Rattle.index_model.specs.Names.{HasTakenName}
 use Rattle.index_model.specs.Places.{IsAt}
-use Rattle.index_model.specs.Refusals.{IsTold, IsToldOf, RefusesName, RefusesUid}
+use Rattle.index_model.specs.Refusals.{IsTold, IsToldOf, RefusesKey, RefusesName, RefusesUid}
 use Rattle.index_model.specs.Uids.{AreUids, HasBadUid}
 use Rattle.index_model.specs.Valid.{Agrees}
 use Rattle.index_model.proofs.NoFault.{files_are, names_are, uids_are}
@@ -26,17 +27,22 @@ pub name_told : (index : Index) (uid : ℕ) → AreUids index.highest index.node
 name_told index uid uids h = record { uids = uids; at = h.at; first = h.first; told = h.told }
 
 module _ (index : Index) (uids : AreUids index.highest index.nodes) (none : TellsFirst (HasTakenName index.nodes) index.nodes None) where
+  pub key_told : (uid : ℕ) → TellsFirst (HasKeyTwice index.nodes) index.nodes (Some uid) → RefusesKey index uid
+  key_told uid h = record { uids = uids; names = names_are index.nodes none; at = h.at; first = h.first; told = h.told }
+
+module _ (index : Index) (uids : AreUids index.highest index.nodes) (none : TellsFirst (HasTakenName index.nodes) index.nodes None) (keys : AreKeysApart index.nodes) where
   fault_told : (fault : Fault) → TellsBad index.nodes (Some fault) → IsToldOf index fault
   fault_told (faults.Uid n) h = absurd h
   fault_told (faults.SameName n) h = absurd h
+  fault_told (faults.SameKey n) h = absurd h
   fault_told (faults.Extent n) h = record {
     at = h.at;
-    bad = record { uids = uids; names = names_are index.nodes none; first = h.first; told = h.told };
+    bad = record { uids = uids; names = names_are index.nodes none; keys = keys; first = h.first; told = h.told };
     out = h.wrong;
   }
   fault_told (faults.Overlap n) h = record {
     at = h.at;
-    bad = record { uids = uids; names = names_are index.nodes none; first = h.first; told = h.told };
+    bad = record { uids = uids; names = names_are index.nodes none; keys = keys; first = h.first; told = h.told };
     within = h.wrong.0;
     overlap = h.wrong.1;
   }
@@ -46,7 +52,7 @@ module _ (index : Index) (uids : AreUids index.highest index.nodes) (none : Tell
   file_told (Some fault) h = fault_told fault h
 
   agrees : (fault : Option Fault) → TellsBad index.nodes fault → IfNone fault (Agrees index)
-  agrees None h = record { uids = uids; names = names_are index.nodes none; files = files_are index.nodes h }
+  agrees None h = record { uids = uids; names = names_are index.nodes none; keys = keys; files = files_are index.nodes h }
   agrees (Some fault) h = tt
 
   pub told_ok : {E : Type 0} (r : Result (Option Fault) E) → IfOk r (TellsBad index.nodes) → IfOk r (λ fault. IfSome fault (IsToldOf index))

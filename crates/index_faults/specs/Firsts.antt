@@ -1,5 +1,6 @@
 -- What a search through the nodes tells: the UID of the first node that is wrong.
-use Rattle.std.specs.Prelude.{◌≡◌, ◌⊎◌, ℕ, ◌<◌, ◌^◌, List, Option, Some, None}
+use Rattle.std.specs.Prelude.{◌≡◌, ◌⊎◌, ℕ, ◌<◌, ◌^◌, Bool, true, false, List, Option, Some, None}
+use Rattle.node_keys.specs.declared.xattrs.Xattr.{Xattr}
 use Rattle.index_model.specs.declared.faults.Fault.{Fault}
 use Rattle.index_model.specs.declared.faults.Fault.TheVariants as faults
 use Rattle.index_model.specs.declared.nodes.Kind.{Kind}
@@ -7,7 +8,7 @@ use Rattle.index_model.specs.declared.nodes.Kind.TheVariants as kinds
 use Rattle.index_model.specs.declared.nodes.Node.{Node}
 use Rattle.index_model.specs.declared.nodes.RawExtent.{RawExtent}
 use Rattle.index_model.specs.Extents.{EndsTooFar, HasOverlap, IsBadFile, IsOutOfBounds, Overlap}
-use Rattle.index_model.specs.Places.{IsFirst}
+use Rattle.index_model.specs.Places.{IsAt, IsFirst}
 use Rattle.index_model.specs.Refusals.{IsTold}
 
 -- P holds nowhere before this place
@@ -25,6 +26,21 @@ abbrev pub TellsFirst : (ℕ → Type 0) → List Node → Option ℕ → Type 0
 TellsFirst P nodes None = (at : ℕ) → ¬ P at
 TellsFirst P nodes (Some uid) = IsToldFirst P nodes uid
 
+-- the attribute at this place has the key of an earlier one
+pub record IsAgain (xattrs : List Xattr) (at : ℕ) : Type 0 where
+  pub earlier : ℕ
+  pub before : earlier < at
+  pub one : Xattr
+  pub one_is : IsAt xattrs earlier one
+  pub other : Xattr
+  pub other_is : IsAt xattrs at other
+  pub same : one.key ≡ other.key
+
+-- whether some attribute does so
+abbrev pub TellsTwice : List Xattr → Bool → Type 0
+TellsTwice xattrs true = (at : ℕ) × IsAgain xattrs at
+TellsTwice xattrs false = (at : ℕ) → ¬ IsAgain xattrs at
+
 -- a file of so many bytes with these extents is too long, or some extent ends too far
 abbrev pub IsOut : ℕ → List RawExtent → Type 0
 IsOut bytes extents = (2 ^ 40 < bytes) ⊎ EndsTooFar extents
@@ -34,6 +50,7 @@ abbrev pub TellsFile : ℕ → ℕ → List RawExtent → Option Fault → Type 
 TellsFile uid bytes extents None = (¬ IsOut bytes extents) × (¬ Overlap extents)
 TellsFile uid bytes extents (Some (faults.Uid n)) = ⊥
 TellsFile uid bytes extents (Some (faults.SameName n)) = ⊥
+TellsFile uid bytes extents (Some (faults.SameKey n)) = ⊥
 TellsFile uid bytes extents (Some (faults.Extent n)) = (n ≡ uid) × IsOut bytes extents
 TellsFile uid bytes extents (Some (faults.Overlap n)) = (n ≡ uid) × ((¬ IsOut bytes extents) × Overlap extents)
 
@@ -55,5 +72,6 @@ abbrev pub TellsBad : List Node → Option Fault → Type 0
 TellsBad nodes None = (at : ℕ) → ¬ IsBadFile nodes at
 TellsBad nodes (Some (faults.Uid n)) = ⊥
 TellsBad nodes (Some (faults.SameName n)) = ⊥
+TellsBad nodes (Some (faults.SameKey n)) = ⊥
 TellsBad nodes (Some (faults.Extent n)) = IsToldBad nodes n (IsOutOfBounds nodes)
 TellsBad nodes (Some (faults.Overlap n)) = IsToldBad nodes n (λ at. (¬ IsOutOfBounds nodes at) × HasOverlap nodes at)

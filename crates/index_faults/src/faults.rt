@@ -2,6 +2,7 @@ ghost use Rattle.std.specs.Prelude.{IfOk, IfSome, IfNone};
 ghost use Rattle.index_model.specs.Refusals.{IsToldOf};
 ghost use Rattle.index_model.specs.Valid.{Agrees};
 
+use crate::double_keys::first_key_twice;
 use crate::extents::first_bad_file;
 use crate::names::first_taken_name;
 use crate::uids::refused_uid;
@@ -12,9 +13,9 @@ use tape_types::NoMemory;
 /// What is wrong with an index as a whole, told of the node at which it is seen first; or none,
 /// where its nodes agree (LTFS 2.4 on the index).
 ///
-/// The UIDs are tested first, then the names, then the files, each in the order of the document.
-/// The nodes may be any, in any order. It takes memory for all nodes, or for the extents of one
-/// file, and time for sorting them.
+/// The UIDs are tested first, then the names, the keys of attributes, and the files, each in the
+/// order of the document. The nodes may be any, in any order. It takes memory for all nodes, or for
+/// the attributes of one node or the extents of one file, and time for sorting them.
 pub fn first_fault(alloc: Global, index: &Index) -> Result<Option<Fault>, NoMemory>
     ensures told { IfOk result (λ fault. IfSome fault (IsToldOf index.now)) }
     ensures agrees { IfOk result (λ fault. IfNone fault (Agrees index.now)) }
@@ -25,6 +26,9 @@ pub fn first_fault(alloc: Global, index: &Index) -> Result<Option<Fault>, NoMemo
     let nodes = index.nodes.as_slice();
     if let Some(uid) = first_taken_name(alloc, nodes)? {
         return Ok(Some(Fault::SameName(uid)));
+    }
+    if let Some(uid) = first_key_twice(alloc, nodes)? {
+        return Ok(Some(Fault::SameKey(uid)));
     }
     first_bad_file(alloc, nodes)
 }

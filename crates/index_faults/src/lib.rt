@@ -1,7 +1,8 @@
 //! What is wrong with an index as a whole (LTFS 2.4 on the index): with its UIDs, with its names,
-//! or with the extents of its files.
+//! with the keys of attributes, or with the extents of its files.
 #![tactic(auto)]
 
+mod double_keys;
 mod extents;
 mod faults;
 mod names;
