@@ -10,6 +10,8 @@ use Rattle.index_model.specs.declared.nodes.Kind.TheVariants as kinds
 use Rattle.index_model.specs.declared.nodes.Node.{Node}
 use Rattle.index_model.specs.declared.nodes.RawExtent.{RawExtent}
 use Rattle.index_model.specs.Extents.{Covers, EndsTooFar, HasOverlap, IsBadFile, IsFileAt, IsOutOfBounds, Overlap}
+use Rattle.node_keys.specs.declared.xattrs.Xattr.{Xattr}
+use Rattle.index_model.specs.Keys.{AreKeysApart, HasKeyTwice}
 use Rattle.index_model.specs.Names.{AreNamesApart, HasTakenName, HaveOneName}
 use Rattle.index_model.specs.Places.{IsFirst}
 use Rattle.index_model.specs.Refusals.{IsToldOf}
@@ -50,6 +52,41 @@ known_taken_name : (nodes : List Node) (at : ℕ) → Known (HasTakenName nodes 
 known_taken_name nodes at =
     known_by (λ h. record { earlier = h.0; before = h.1; taken = h.2 }) (λ t. (t.earlier, t.before, t.taken))
     (some_below (λ k. HaveOneName nodes k at) (λ k. known_one_name nodes k at) at)
+
+-- ---- keys
+
+-- of these two attributes, of which this is the later, the keys are the same
+abbrev KeyAgain : List Xattr → ℕ → ℕ → Type 0
+KeyAgain xs later earlier = AtPlace xs earlier (λ one. AtPlace xs later (λ other. one.key ≡ other.key))
+
+known_keys : (xs : List Xattr) → Known ((later : ℕ) × (later < length xs) × ((earlier : ℕ) × (earlier < later) × KeyAgain xs later earlier))
+known_keys xs =
+    some_below (λ later. (earlier : ℕ) × (earlier < later) × KeyAgain xs later earlier)
+    (λ later. some_below (KeyAgain xs later) (λ earlier.
+    known_at xs earlier (λ one. AtPlace xs later (λ other. one.key ≡ other.key))
+    (λ one. known_at xs later (λ other. one.key ≡ other.key) (λ other. known_text one.key other.key))) later) (length xs)
+
+known_key_twice : (nodes : List Node) (at : ℕ) → Known (HasKeyTwice nodes at)
+known_key_twice nodes at =
+    known_by
+    (λ h. record {
+      node = h.0;
+      is = h.1;
+      earlier = h.2.2.0;
+      later = h.2.0;
+      two = h.2.2.1;
+      one = h.2.2.2.0;
+      one_is = h.2.2.2.1;
+      other = h.2.2.2.2.0;
+      other_is = h.2.2.2.2.1;
+      same = h.2.2.2.2.2;
+    })
+    (λ t. (
+      t.node,
+      t.is,
+      (t.later, slice_get_within t.node.xattrs t.later t.other t.other_is, (t.earlier, t.two, (t.one, t.one_is, (t.other, t.other_is, t.same)))),
+    ))
+    (known_at nodes at (λ node. (later : ℕ) × (later < length node.xattrs) × ((earlier : ℕ) × (earlier < later) × KeyAgain node.xattrs later earlier)) (λ node. known_keys node.xattrs))
 
 -- ---- files
 
@@ -137,25 +174,32 @@ module _ (index : Index) where
   abbrev pub Verdict : Type 0
   Verdict = Agrees index ⊎ ((a : Fault) × IsToldOf index a)
 
-  bad_file : AreUids index.highest index.nodes → AreNamesApart index.nodes → (at : ℕ) → IsFirst (IsBadFile index.nodes) at → Known (IsOutOfBounds index.nodes at) → Verdict
-  bad_file uids names at first (inl out) =
-      inr (faults.Extent out.file.node.uid, record { at = at; bad = record { uids = uids; names = names; first = first; told = record { node = out.file.node; is = out.file.is; same = refl } }; out = out })
-  bad_file uids names at first (inr within) = by first.here
+  bad_file : AreUids index.highest index.nodes → AreNamesApart index.nodes → AreKeysApart index.nodes → (at : ℕ) → IsFirst (IsBadFile index.nodes) at → Known (IsOutOfBounds index.nodes at) → Verdict
+  bad_file uids names keys at first (inl out) =
+      inr (faults.Extent out.file.node.uid, record { at = at; bad = record { uids = uids; names = names; keys = keys; first = first; told = record { node = out.file.node; is = out.file.is; same = refl } }; out = out })
+  bad_file uids names keys at first (inr within) = by first.here
     where
       by : IsBadFile index.nodes at → Verdict
       by (inl out) = absurd (within out)
       by (inr over) =
-          inr (faults.Overlap over.file.node.uid, record { at = at; bad = record { uids = uids; names = names; first = first; told = record { node = over.file.node; is = over.file.is; same = refl } }; within = within; overlap = over })
+          inr (faults.Overlap over.file.node.uid, record { at = at; bad = record { uids = uids; names = names; keys = keys; first = first; told = record { node = over.file.node; is = over.file.is; same = refl } }; within = within; overlap = over })
 
   place_of : (at : ℕ) → IsBadFile index.nodes at → at < length index.nodes
   place_of at (inl out) = slice_get_within index.nodes at out.file.node out.file.is
   place_of at (inr over) = slice_get_within index.nodes at over.file.node over.file.is
 
+  from_keys : AreUids index.highest index.nodes → AreNamesApart index.nodes → AreKeysApart index.nodes → Verdict
+  from_keys uids names keys = ⊎_elim
+      (λ found. bad_file uids names keys found.0 found.2 (known_out index.nodes found.0))
+      (λ none. inl (record { uids = uids; names = names; keys = keys; files = files_are index.nodes (λ at h. none at (place_of at h) h) }))
+      (first_below (IsBadFile index.nodes) (known_bad_file index.nodes) (length index.nodes))
+
   from_names : AreUids index.highest index.nodes → AreNamesApart index.nodes → Verdict
   from_names uids names = ⊎_elim
-      (λ found. bad_file uids names found.0 found.2 (known_out index.nodes found.0))
-      (λ none. inl (record { uids = uids; names = names; files = files_are index.nodes (λ at h. none at (place_of at h) h) }))
-      (first_below (IsBadFile index.nodes) (known_bad_file index.nodes) (length index.nodes))
+      (λ found. let h = found.2.here in
+      inr (faults.SameKey h.node.uid, record { uids = uids; names = names; at = found.0; first = found.2; told = record { node = h.node; is = h.is; same = refl } }))
+      (λ none. from_keys uids names (λ at h. none at (slice_get_within index.nodes at h.node h.is) h))
+      (first_below (HasKeyTwice index.nodes) (known_key_twice index.nodes) (length index.nodes))
 
   from_uids : AreUids index.highest index.nodes → Verdict
   from_uids uids = ⊎_elim
