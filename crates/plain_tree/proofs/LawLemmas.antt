@@ -1,5 +1,5 @@
 -- The laws of refusals, uids, writes and renames.
-use Rattle.std.proofs.Common.{◌⊎◌, ◌≡◌, ℕ, ◌+◌, ◌<◌, ◌≤◌, true, false, cond, eqb, List, [], ◌∷◌, length, map, Option, Some, None, sym, ap, ◌∙◌, refl, arith, ⊎_elim, inl, inr}
+use Rattle.std.proofs.Common.{◌⊎◌, ◌≡◌, ℕ, ◌+◌, ◌<◌, ◌≤◌, true, false, cond, eqb, List, [], ◌∷◌, length, map, Option, Some, None, sym, ap, subst, ◌∙◌, refl, arith, ⊎_elim, inl, inr}
 use Rattle.std.specs.FinMap as fin
 use Rattle.tape_types.specs.declared.moments.Moment.{Moment}
 use Rattle.plain_tree.specs.declared.nodes.Node.{Node}
@@ -15,7 +15,7 @@ use Rattle.plain_tree.specs.declared.calls.Refusal.{Refusal}
 use Rattle.plain_tree.specs.Cells.{Cell, written, resized}
 use Rattle.plain_tree.specs.Paths.{Path, parent_of, same_path, is_at_or_below}
 use Rattle.plain_tree.specs.Tree.{Tree, Nodes, new_node, changed_at, touch, touched, change_noted, file_changed, moved, cells_at}
-use Rattle.plain_tree.specs.Laws.{IsUnused}
+use Rattle.plain_tree.specs.Laws.{IsUnused, StandsWith}
 use Rattle.plain_tree.specs.Refusals.{refusal_of}
 use Rattle.plain_tree.specs.Calls.{answer, answer_unless, value_of, after, after_done, after_unless, with_new}
 use Rattle.plain_tree.specs.History.{Calls, call_at, after_placement, replay}
@@ -64,30 +64,34 @@ refused_keeps t call at refusal e =
 
 -- ---- uids
 
--- a tree and a later one: the highest uid has not fallen, and each uid was there or is new
+-- the one node has the uid and the attributes of the other
+abbrev IsOf : Node → Node → Type 0
+IsOf node old = (node.uid ≡ old.uid) × (node.keys ≡ old.keys)
+
+-- a tree and a later one: the highest uid has not fallen, and each node was there with its attributes, or is new and has
+-- none
 record IsLater (t next : Tree) : Type 0 where
   rises : t.highest ≤ next.highest
-  known : (path : Path) (node : Node) → fin.get next.nodes path ≡ Some node → ((q : Path) × (old : Node) × (fin.get t.nodes q ≡ Some old) × (node.uid ≡ old.uid)) ⊎ (t.highest < node.uid)
+  known : (path : Path) (node : Node) → fin.get next.nodes path ≡ Some node → ((q : Path) × (old : Node) × (fin.get t.nodes q ≡ Some old) × IsOf node old) ⊎ ((t.highest < node.uid) × (node.keys ≡ fin.empty))
 
--- each node of a map has the uid of a node of another
+-- each node of a map has the uid and the attributes of a node of another
 abbrev HasUidsOf : Nodes → Nodes → Type 0
-HasUidsOf next m = (path : Path) (node : Node) → fin.get next path ≡ Some node → (q : Path) × (old : Node) × (fin.get m q ≡ Some old) × (node.uid ≡ old.uid)
+HasUidsOf next m = (path : Path) (node : Node) → fin.get next path ≡ Some node → (q : Path) × (old : Node) × (fin.get m q ≡ Some old) × IsOf node old
 
-same_some : (x y : Node) → Some x ≡ Some y → x.uid ≡ y.uid
-same_some x y e = ap (λ o. uid_of o) e
-  where
-    uid_of : Option Node → ℕ
-    uid_of None = 0
-    uid_of (Some n) = n.uid
+same_some : (x y : Node) → Some x ≡ Some y → x ≡ y
+same_some x y e = cc
 
-uids_changed : (change : Node → Node) → ((n : Node) → (change n).uid ≡ n.uid) → (p : Path) (m : Nodes) → HasUidsOf (changed_at change p m) m
+is_of_itself : (node : Node) → IsOf node node
+is_of_itself node = (refl, refl)
+
+uids_changed : (change : Node → Node) → ((n : Node) → IsOf (change n) n) → (p : Path) (m : Nodes) → HasUidsOf (changed_at change p m) m
 uids_changed change keeps p m path node is =
-    elim (fin.get m p) as (λ o. fin.get m p ≡ o → (q : Path) × (old : Node) × (fin.get m q ≡ Some old) × (node.uid ≡ old.uid)) [
-      | None ↦ λ none. (path, node, sym (ap (λ n. fin.get n path) (changed_missing change p m none)) ∙ is, refl)
+    elim (fin.get m p) as (λ o. fin.get m p ≡ o → (q : Path) × (old : Node) × (fin.get m q ≡ Some old) × IsOf node old) [
+      | None ↦ λ none. (path, node, sym (ap (λ n. fin.get n path) (changed_missing change p m none)) ∙ is, is_of_itself node)
       | Some old ↦ λ found.
-          elim (same_path path p) as (λ b. same_path path p ≡ b → (q : Path) × (old : Node) × (fin.get m q ≡ Some old) × (node.uid ≡ old.uid)) [
-            | true ↦ λ same. (p, old, found, same_some node (change old) (sym is ∙ ap (λ n. fin.get n path) (changed_found change p m old found) ∙ here_inserted m p path (change old) same) ∙ keeps old)
-            | false ↦ λ other. (path, node, sym (ap (λ n. fin.get n path) (changed_found change p m old found) ∙ other_inserted m p path (change old) other) ∙ is, refl)
+          elim (same_path path p) as (λ b. same_path path p ≡ b → (q : Path) × (old : Node) × (fin.get m q ≡ Some old) × IsOf node old) [
+            | true ↦ λ same. (p, old, found, subst (λ n. IsOf n old) (sym (same_some node (change old) (sym is ∙ ap (λ n. fin.get n path) (changed_found change p m old found) ∙ here_inserted m p path (change old) same))) (keeps old))
+            | false ↦ λ other. (path, node, sym (ap (λ n. fin.get n path) (changed_found change p m old found) ∙ other_inserted m p path (change old) other) ∙ is, is_of_itself node)
           ] refl
     ] refl
 
@@ -95,35 +99,35 @@ uids_of_uids : (a b c : Nodes) → HasUidsOf a b → HasUidsOf b c → HasUidsOf
 uids_of_uids a b c ab bc path node is =
     let one = ab path node is in
     let two = bc one.0 one.1 one.2 in
-    (two.0, two.1, two.2, one.3 ∙ two.3)
+    (two.0, two.1, two.2, (one.3.0 ∙ two.3.0, one.3.1 ∙ two.3.1))
 
 uids_touched : (at : Moment) (p : Path) (m : Nodes) → HasUidsOf (touch at p m) m
-uids_touched at p m = uids_changed (touched at) (λ n. refl) p m
+uids_touched at p m = uids_changed (touched at) (λ n. (refl, refl)) p m
 
 uids_file : (change : List Cell → List Cell) (at : Moment) (p : Path) (m : Nodes) → HasUidsOf (changed_at (file_changed change at) p m) m
 uids_file change at p m = uids_changed (file_changed change at) (λ n. by n n.kind refl) p m
   where
-    by : (n : Node) (kind : Kind) → n.kind ≡ kind → (file_changed change at n).uid ≡ n.uid
-    by n kinds.Dir is = rw is refl
-    by n (kinds.File cells) is = rw is refl
-    by n (kinds.Link text) is = rw is refl
+    by : (n : Node) (kind : Kind) → n.kind ≡ kind → IsOf (file_changed change at n) n
+    by n kinds.Dir is = rw is (refl, refl)
+    by n (kinds.File cells) is = rw is (refl, refl)
+    by n (kinds.Link text) is = rw is (refl, refl)
 
 uids_removed : (p : Path) (m : Nodes) → HasUidsOf (fin.remove m p) m
 uids_removed p m path node is =
-    elim (same_path path p) as (λ b. same_path path p ≡ b → (q : Path) × (old : Node) × (fin.get m q ≡ Some old) × (node.uid ≡ old.uid)) [
+    elim (same_path path p) as (λ b. same_path path p ≡ b → (q : Path) × (old : Node) × (fin.get m q ≡ Some old) × IsOf node old) [
       | true ↦ λ same. let wrong : None ≡ Some node = sym (fin.get-remove path_total m p path ∙ ap (λ b. cond b None (fin.get m path)) same) ∙ is in cc
-      | false ↦ λ other. (path, node, sym (other_removed m p path other) ∙ is, refl)
+      | false ↦ λ other. (path, node, sym (other_removed m p path other) ∙ is, is_of_itself node)
     ] refl
 
 uids_moved : (from to : Path) (m : Nodes) → ((x : Path) → is_at_or_below to x ≡ true → fin.get m x ≡ None) → HasUidsOf (moved from to m) m
 uids_moved from to m free path node is =
     let now = sym (get_moved from to m path free) ∙ is in
-    elim (is_at_or_below to path) as (λ a. cond a (fin.get m (back from to path)) (cond (is_at_or_below from path) None (fin.get m path)) ≡ Some node → (q : Path) × (old : Node) × (fin.get m q ≡ Some old) × (node.uid ≡ old.uid)) [
-      | true ↦ λ e. (back from to path, node, e, refl)
+    elim (is_at_or_below to path) as (λ a. cond a (fin.get m (back from to path)) (cond (is_at_or_below from path) None (fin.get m path)) ≡ Some node → (q : Path) × (old : Node) × (fin.get m q ≡ Some old) × IsOf node old) [
+      | true ↦ λ e. (back from to path, node, e, is_of_itself node)
       | false ↦ λ e.
-          elim (is_at_or_below from path) as (λ b. cond b None (fin.get m path) ≡ Some node → (q : Path) × (old : Node) × (fin.get m q ≡ Some old) × (node.uid ≡ old.uid)) [
+          elim (is_at_or_below from path) as (λ b. cond b None (fin.get m path) ≡ Some node → (q : Path) × (old : Node) × (fin.get m q ≡ Some old) × IsOf node old) [
             | true ↦ λ e. cc
-            | false ↦ λ e. (path, node, e, refl)
+            | false ↦ λ e. (path, node, e, is_of_itself node)
           ] e
     ] now
 
@@ -132,7 +136,7 @@ later : (t : Tree) (next : Nodes) → HasUidsOf next t.nodes → IsLater t (reco
 later t next uids = record { rises = omega arith; known = λ path node is. inl (uids path node is) }
 
 later_same : (t : Tree) → IsLater t t
-later_same t = record { rises = omega arith; known = λ path node is. inl (path, node, is, refl) }
+later_same t = record { rises = omega arith; known = λ path node is. inl (path, node, is, is_of_itself node) }
 
 later_new : (kind : Kind) (t : Tree) (path : Path) (at : Moment) → IsLater t (with_new kind t path at)
 later_new kind t path at = record {
@@ -140,8 +144,11 @@ later_new kind t path at = record {
   known = λ q node is.
       let new = new_node kind (t.highest + 1) at in
       let was = uids_touched at (parent_of path) (fin.insert t.nodes path (new_node kind (t.highest + 1) at)) q node is in
-      elim (same_path was.0 path) as (λ b. same_path was.0 path ≡ b → ((p : Path) × (old : Node) × (fin.get t.nodes p ≡ Some old) × (node.uid ≡ old.uid)) ⊎ (t.highest < node.uid)) [
-        | true ↦ λ same. inr (let uid : was.1.uid ≡ t.highest + 1 = same_some was.1 (new_node kind (t.highest + 1) at) (sym was.2 ∙ here_inserted t.nodes path was.0 (new_node kind (t.highest + 1) at) same) in omega (arith, was.3))
+      elim (same_path was.0 path) as (λ b. same_path was.0 path ≡ b → ((p : Path) × (old : Node) × (fin.get t.nodes p ≡ Some old) × IsOf node old) ⊎ ((t.highest < node.uid) × (node.keys ≡ fin.empty))) [
+        | true ↦ λ same. inr (
+            let made : was.1 ≡ new = same_some was.1 new (sym was.2 ∙ here_inserted t.nodes path was.0 new same) in
+            let uid : was.1.uid ≡ t.highest + 1 = ap (λ n. n.uid) made in
+            (omega (arith, was.3.0, uid), was.3.1 ∙ ap (λ n. n.keys) made))
         | false ↦ λ other. inl (was.0, was.1, sym (other_inserted t.nodes path was.0 (new_node kind (t.highest + 1) at) other) ∙ was.2, was.3)
       ] refl;
 }
@@ -167,7 +174,7 @@ later_done t (Rename from to) at free s =
           let noted = changed_at (change_noted at) to (moved from to t.nodes) in
           later t _ (uids_of_uids _ (touch at (parent_of from) noted) t.nodes (uids_touched at (parent_of to) (touch at (parent_of from) noted))
           (uids_of_uids _ noted t.nodes (uids_touched at (parent_of from) noted)
-          (uids_of_uids _ m t.nodes (uids_changed (change_noted at) (λ n. refl) to m) (uids_moved from to t.nodes (can_move t from to s free differ).free))))
+          (uids_of_uids _ m t.nodes (uids_changed (change_noted at) (λ n. (refl, refl)) to m) (uids_moved from to t.nodes (can_move t from to s free differ).free))))
     ] refl
 later_done t (Remove path) at free s = later t _ (uids_of_uids _ (fin.remove t.nodes path) t.nodes (uids_touched at (parent_of path) (fin.remove t.nodes path)) (uids_removed path t.nodes))
 later_done t Sync at free s = later_same t
@@ -178,6 +185,13 @@ later_next t call at s =
       | None ↦ λ free. later_done t call at free s
       | Some refusal ↦ λ _. later_same t
     ] refl
+
+pub attributes_stay : (t : Tree) (call : Call) (at : Moment) → IsValid t → (path : Path) (node : Node) → fin.get (after t call at).nodes path ≡ Some node
+    → StandsWith t node.uid node.keys ⊎ ((t.highest < node.uid) × (node.keys ≡ fin.empty))
+attributes_stay t call at s path node is = ⊎_elim
+    (λ old. inl (record { path = old.0; node = old.1; there = old.2; uid_is = old.3.0; keys_are = old.3.1 }))
+    (λ new. inr new)
+    ((later_next t call at s).known path node is)
 
 -- the highest uid, without a look at what stands in the tree
 highest_done : (t : Tree) (call : Call) (at : Moment) → t.highest ≤ (after_done t call at).highest
@@ -214,8 +228,8 @@ unused_stays calls history t uid s given unused =
       valid = next_valid t call at k.valid;
       given = omega (arith, k.given, later.rises);
       unused = λ path node is e. ⊎_elim
-          (λ old. k.unused old.0 old.1 old.2 (sym old.3 ∙ e))
-          (λ new. absurd (omega (arith, k.given, new, e)))
+          (λ old. k.unused old.0 old.1 old.2 (sym old.3.0 ∙ e))
+          (λ new. absurd (omega (arith, k.given, new.0, e)))
           (later.known path node is);
     })
     calls history t (record { valid = s; given = given; unused = unused })).unused

@@ -1,5 +1,5 @@
 -- What moving a node with all below it does to each path.
-use Rattle.std.proofs.Common.{Option, ◌≡◌, ℕ, Bool, true, false, cond, ◌&&◌, ◌||◌, List, [], ◌∷◌, ◌++◌, length, take, drop, map, Some, None, is_some, sym, ap, ◌∙◌, refl, subst, Decides}
+use Rattle.std.proofs.Common.{Option, ◌≡◌, Bool, true, false, cond, ◌&&◌, ◌||◌, List, [], ◌∷◌, ◌++◌, length, take, drop, map, Some, None, is_some, sym, ap, ◌∙◌, refl, subst, Decides}
 use Rattle.std.specs.declared.cmp.Ordering.{Ordering}
 use Rattle.std.specs.declared.cmp.Ordering.TheVariants.{Less, Equal, Greater}
 use Rattle.std.specs.Ordering.{is_eq, is_lt}

@@ -1,5 +1,5 @@
 -- The order of paths, and a change of the node at one.
-use Rattle.std.proofs.Common.{◌≡◌, ℕ, true, List, Some, None, refl}
+use Rattle.std.proofs.Common.{◌≡◌, true, Some, None, refl}
 use Rattle.std.specs.declared.cmp.Ordering.{Ordering}
 use Rattle.std.specs.declared.cmp.Ordering.TheVariants.{Less, Equal, Greater}
 use Rattle.std.specs.Ordering.{is_eq}

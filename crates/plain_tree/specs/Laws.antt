@@ -1,10 +1,11 @@
 -- What is true of the tree over all calls and all lists of calls.
-use Rattle.std.specs.Prelude.{◌≡◌, ◌≢◌, ℕ, ◌<◌, ◌≤◌, List, [], ◌∷◌, ◌++◌, false, map, length, Option, Some, None}
+use Rattle.std.specs.Prelude.{◌≡◌, ◌≢◌, ◌⊎◌, ℕ, ◌<◌, ◌≤◌, List, [], ◌∷◌, ◌++◌, false, map, length, Option, Some, None}
 use Rattle.std.specs.List.{Contains}
 use Rattle.std.specs.List.Sorted.{IsStrictlySortedBy}
 use Rattle.std.specs.Ordering.{nat_cmp}
 use Rattle.std.specs.Cmp.Lexicographic.{slice_cmp}
 use Rattle.std.specs.FinMap as fin
+use Rattle.node_keys.specs.Keys.{KeyMap}
 use Rattle.tape_types.specs.declared.moments.Moment.{Moment}
 use Rattle.plain_tree.specs.declared.nodes.Node.{Node}
 use Rattle.plain_tree.specs.declared.nodes.Kind.{Kind}
@@ -44,16 +45,31 @@ pub record UidsNeverReturn : Type 0 where
   pub stays_unused : (calls : Calls) (history : List Placed) (t : Tree) (uid : ℕ) → IsValid t → uid ≤ t.highest
       → IsUnused t uid → IsUnused (replay calls t history) uid
 
--- the uid of a node, and what it holds
-abbrev pub holding : Option Node → Option (ℕ × Kind)
-holding None = None
-holding (Some node) = Some (node.uid, node.kind)
+-- some node of the tree has this uid and these attributes
+pub record StandsWith (t : Tree) (uid : ℕ) (keys : KeyMap) : Type 0 where
+  pub path : Path
+  pub node : Node
+  pub there : fin.get t.nodes path ≡ Some node
+  pub uid_is : uid ≡ node.uid
+  pub keys_are : keys ≡ node.keys
 
-abbrev pub holding_at : Tree → Path → Option (ℕ × Kind)
+-- each node that a call leaves was there before it with its attributes, or is new and has none
+abbrev pub AttributesStay : Type 0
+AttributesStay =
+    (t : Tree) (call : Call) (at : Moment) → IsValid t → (path : Path) (node : Node)
+    → fin.get (after t call at).nodes path ≡ Some node
+    → StandsWith t node.uid node.keys ⊎ ((t.highest < node.uid) × (node.keys ≡ fin.empty))
+
+-- the uid of a node, its attributes, and what it holds
+abbrev pub holding : Option Node → Option (ℕ × KeyMap × Kind)
+holding None = None
+holding (Some node) = Some (node.uid, node.keys, node.kind)
+
+abbrev pub holding_at : Tree → Path → Option (ℕ × KeyMap × Kind)
 holding_at t path = holding (fin.get t.nodes path)
 
--- Each node at or below `from` has come to `to` with its uid and what it holds, and nothing is left there. What lies
--- below the moved node is exactly as it was; what lies elsewhere keeps its uid and what it holds.
+-- Each node at or below `from` has come to `to` with its uid, its attributes and what it holds, and nothing is left
+-- there. What lies below the moved node is exactly as it was; what lies elsewhere keeps these three.
 pub record HasMoved (t next : Tree) (from to : Path) : Type 0 where
   pub moved : (x : Path) → holding_at next (to ++ x) ≡ holding_at t (from ++ x)
   pub below : (x : Path) → x ≢ [] → fin.get next.nodes (to ++ x) ≡ fin.get t.nodes (from ++ x)

@@ -1,5 +1,5 @@
 -- A tree that is kept as links, seen as a map from paths.
-use Rattle.std.specs.Prelude.{◌≡◌, ◌≢◌, ℕ, ◌+◌, ◌<◌, ◌^◌, List, [], ◌∷◌, ◌++◌, false, length, nat_lt, true, Some, None}
+use Rattle.std.specs.Prelude.{◌≡◌, ◌≢◌, ℕ, ◌+◌, ◌<◌, ◌^◌, [], ◌∷◌, ◌++◌, false, length, nat_lt, true, Some, None}
 use Rattle.std.specs.Prelude.{IsSome}
 use Rattle.std.specs.Coded.{Π_prop, coded_option, Coded-set}
 use Rattle.std.specs.Cmp.Lexicographic.{lists_total, nat_list_cmp_total}

@@ -1,4 +1,4 @@
-ghost use Rattle.plain_tree.specs.Laws.{TreesStayValid, RefusedCallsChangeNothing, UidsNeverReturn, RenamesKeepNodes};
+ghost use Rattle.plain_tree.specs.Laws.{TreesStayValid, RefusedCallsChangeNothing, UidsNeverReturn, AttributesStay, RenamesKeepNodes};
 ghost use Rattle.plain_tree.specs.Laws.{ReadsSeeWrites, ListingsAreExact};
 
 /// Every tree that calls reach is valid.
@@ -14,6 +14,11 @@ pub fn refused_calls_change_nothing()
 /// The uid of a node that is gone is never given again.
 pub fn uids_never_return()
     ensures { UidsNeverReturn }
+{}
+
+/// A node keeps its attributes, and a new one has none.
+pub fn attributes_stay()
+    ensures { AttributesStay }
 {}
 
 /// A rename moves a node and all below it as they are, and leaves all else.
