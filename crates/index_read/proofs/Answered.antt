@@ -43,6 +43,7 @@ only_memory (errors.Name at) text index i s = absurd (never_both text index _ i 
 only_memory errors.TooMany text index i s = absurd (never_both text index _ i s)
 only_memory (errors.Uid n) text index i s = absurd (never_both text index _ i s)
 only_memory (errors.SameName n) text index i s = absurd (never_both text index _ i s)
+only_memory (errors.SameKey n) text index i s = absurd (never_both text index _ i s)
 only_memory (errors.Extent n) text index i s = absurd (never_both text index _ i s)
 only_memory (errors.Overlap n) text index i s = absurd (never_both text index _ i s)
 

@@ -1,6 +1,7 @@
 -- What the children of a node tell of it: the facts that each node has.
-use Rattle.std.proofs.Common.{◌≡◌, ℕ, List, [], ◌∷◌, Bool, true, false, ◌==◌, ◌&&◌, ◌||◌, not, Option, Some, None, if◌then◌else◌, refl, sym, ap, subst, ◌∙◌}
+use Rattle.std.proofs.Common.{◌≡◌, ℕ, List, [], ◌∷◌, ◌++◌, Bool, true, false, ◌==◌, ◌&&◌, ◌||◌, not, Option, Some, None, if◌then◌else◌, refl, sym, ap, subst, ◌∙◌}
 use Rattle.std.proofs.lemmas.Bool.{eqb-true}
+use Rattle.node_keys.specs.declared.xattrs.Xattr.{Xattr}
 use Rattle.doc_fields.specs.declared.tags.Tag.{Tag}
 use Rattle.doc_fields.specs.declared.tags.Tag.TheVariants.{FileUid, Name, CreationTime, ChangeTime, ModifyTime, AccessTime, BackupTime, ReadOnly}
 use Rattle.doc_elements.specs.Children.{code, member}
@@ -11,11 +12,12 @@ use Rattle.doc_elements.specs.declared.schema.Child.{Child}
 use Rattle.doc_elements.specs.declared.schema.Child.TheVariants as child
 use Rattle.doc_elements.specs.Schema.{rule, tag_of, may_repeat, place_code}
 use Rattle.index_model.specs.Values.{NodeFacts}
-use Rattle.doc_elements.specs.Pieces.{words, time, number, truth}
+use Rattle.doc_elements.specs.Pieces.{Val, words, time, number, truth}
 use Rattle.doc_elements.specs.Elements.{Item, plain, bare, nested, Items, no_items, item, item_tag, MayFollow}
 use Rattle.index_model.specs.Grammar.{or_else, own, told, own_children, inside, TellsFacts}
 use Rattle.index_read.specs.Told.{words_or, time_or, number_or, truth_or, facts_with, blank_times}
 use Rattle.index_read.proofs.Fits.{FitsItem, Fits, same_tag, must_tell, told_form}
+use Rattle.index_read.proofs.Xattrs.{has_xattrs, no_other_xattrs, with_xattrs, xattrs_in, xattrs_or}
 use Rattle.index_read.proofs.OfForms.{IsOf, or_none, number_step, words_step, time_step, truth_step, number_known, words_known, time_known, truth_known}
 
 -- ---- elements that aren't there
@@ -122,10 +124,11 @@ facts_from is f = record {
     backup = time_or f.times.backup (told BackupTime is);
   };
   readonly = truth_or f.readonly (told ReadOnly is);
+  xattrs = xattrs_or f.xattrs (inside place.Attributes is);
 }
 
 abbrev pub blank_facts : NodeFacts
-blank_facts = record { uid = 0; name = []; times = blank_times; readonly = false }
+blank_facts = record { uid = 0; name = []; times = blank_times; readonly = false; xattrs = [] }
 
 abbrev pub facts_in : Items → NodeFacts
 facts_in is = facts_from is blank_facts
@@ -165,8 +168,10 @@ file_forms seen is fits = record {
   readonly = λ v e. told_form place.File seen is ReadOnly form.Truth v fits refl e;
 }
 
-pub facts_step : (i : Item) (is : Items) (f : NodeFacts) → FactForms is → facts_from (item i is) f ≡ facts_from is (facts_with i f)
-facts_step i is f forms =
+-- a leaf among the children
+pub facts_step : (t : Tag) (v : Val) (is : Items) (f : NodeFacts) → FactForms is → facts_from (item (plain t v) is) f ≡ facts_from is (facts_with (plain t v) f)
+facts_step t v is f forms =
+    let i = plain t v in
     rw (
       number_step f.uid (own FileUid i) (told FileUid is) forms.uid,
       words_step f.name (own Name i) (told Name is) forms.name,
@@ -176,12 +181,29 @@ facts_step i is f forms =
       time_step f.times.access (own AccessTime i) (told AccessTime is) forms.access,
       time_step f.times.backup (own BackupTime i) (told BackupTime is) forms.backup,
       truth_step f.readonly (own ReadOnly i) (told ReadOnly is) forms.readonly,
+      or_none (inside place.Attributes is),
     ) refl
 
--- a parent among the children tells none
-pub facts_parent : (q : Place) (x is : Items) (f : NodeFacts) → facts_from (item (nested q x) is) f ≡ facts_from is f
-facts_parent q x is f =
+-- a parent among the children tells none of the leaves
+no_leaves : (q : Place) (x is : Items) (f : NodeFacts) (xs : List Xattr) → record (facts_from (item (nested q x) is) f) { xattrs = xs } ≡ record (facts_from is f) { xattrs = xs }
+no_leaves q x is f xs =
     rw (or_none (told FileUid is), or_none (told Name is), or_none (told CreationTime is), or_none (told ChangeTime is), or_none (told ModifyTime is), or_none (told AccessTime is), or_none (told BackupTime is), or_none (told ReadOnly is)) refl
+
+-- one that has no attributes tells nothing
+pub facts_parent : (q : Place) (x is : Items) (f : NodeFacts) → own_children place.Attributes (nested q x) ≡ None → facts_from (item (nested q x) is) f ≡ facts_from is f
+facts_parent q x is f other =
+    let old = facts_from (item (nested q x) is) f in
+    ap (λ (o : Option Items). record old { xattrs = xattrs_or f.xattrs (or_else (inside place.Attributes is) o) }) other
+    ∙ ap (λ (o : Option Items). record old { xattrs = xattrs_or f.xattrs o }) (or_none (inside place.Attributes is))
+    ∙ no_leaves q x is f (xattrs_or f.xattrs (inside place.Attributes is))
+
+-- the attributes, where no others follow
+pub facts_attributes : (x is : Items) (f : NodeFacts) → inside place.Attributes is ≡ None → facts_from (item (nested place.Attributes x) is) f ≡ facts_from is (with_xattrs (xattrs_in x) f)
+facts_attributes x is f none =
+    let old = facts_from (item (nested place.Attributes x) is) f in
+    ap (λ (o : Option Items). record old { xattrs = xattrs_or f.xattrs (or_else o (Some x)) }) none
+    ∙ no_leaves place.Attributes x is f (f.xattrs ++ xattrs_in x)
+    ∙ ap (λ (o : Option Items). record (facts_from is f) { xattrs = xattrs_or (f.xattrs ++ xattrs_in x) o }) (sym none)
 
 pub directory_facts : (is : Items) → Fits place.Directory [] is → TellsFacts is (facts_in is)
 directory_facts is fits = record {
@@ -193,6 +215,7 @@ directory_facts is fits = record {
   access = time_known blank_times.access (told AccessTime is) (must_tell place.Directory is AccessTime form.Time fits refl refl);
   backup = time_known blank_times.backup (told BackupTime is) (must_tell place.Directory is BackupTime form.Time fits refl refl);
   readonly = truth_known false (told ReadOnly is) (must_tell place.Directory is ReadOnly form.Truth fits refl refl);
+  xattrs = has_xattrs (inside place.Attributes is) (λ x e. inside_fits place.Directory [] is place.Attributes x fits e);
 }
 
 pub file_facts : (is : Items) → Fits place.File [] is → TellsFacts is (facts_in is)
@@ -205,11 +228,13 @@ file_facts is fits = record {
   access = time_known blank_times.access (told AccessTime is) (must_tell place.File is AccessTime form.Time fits refl refl);
   backup = time_known blank_times.backup (told BackupTime is) (must_tell place.File is BackupTime form.Time fits refl refl);
   readonly = truth_known false (told ReadOnly is) (must_tell place.File is ReadOnly form.Truth fits refl refl);
+  xattrs = has_xattrs (inside place.Attributes is) (λ x e. inside_fits place.File [] is place.Attributes x fits e);
 }
 
 -- the facts that are told are these
 pub only_facts : (is : Items) (f : NodeFacts) → TellsFacts is f → f ≡ facts_in is
-only_facts is f t = rw (t.uid, t.name, t.create, t.change, t.modify, t.access, t.backup, t.readonly) refl
+only_facts is f t =
+    rw (t.uid, t.name, t.create, t.change, t.modify, t.access, t.backup, t.readonly, ← no_other_xattrs (inside place.Attributes is) f.xattrs t.xattrs) refl
 
 pub one_facts : (is : Items) (a b : NodeFacts) → TellsFacts is a → TellsFacts is b → a ≡ b
 one_facts is a b x y = only_facts is a x ∙ sym (only_facts is b y)

@@ -16,17 +16,10 @@ use Rattle.doc_elements.specs.Elements.{Item, plain, bare, nested, Items, no_ite
 use Rattle.index_model.specs.Grammar.{or_else, own, told, inside, TellsFile, TellsLink}
 use Rattle.index_read.specs.Told.{State, number_or, link_or, facts_with, kind_with, node_with, changed, item_told, items_told}
 use Rattle.index_read.proofs.Fits.{Fits, must_tell, own_form, told_form}
-use Rattle.index_read.proofs.Facts.{not_now, member_later, not_again, no_inside, inside_fits, facts_from, facts_in, file_forms, file_facts, facts_step, facts_parent, only_facts}
+use Rattle.index_read.proofs.Facts.{not_now, member_later, not_again, no_inside, inside_fits, facts_from, facts_in, file_forms, file_facts, facts_step, facts_parent, facts_attributes, only_facts}
 use Rattle.index_read.proofs.OfForms.{or_none, number_step, number_known}
 use Rattle.index_read.proofs.Extents.{changed_at, extents_in, extents_of, extents_told, has_extents, nodes_with, only_has, with_none}
-
--- ---- extended attributes
-
-pub attributes_told : (node : ℕ) (seen : List Tag) (is : Items) (s : State) → Fits place.Attributes seen is → items_told place.Attributes node is s ≡ s
-attributes_told node seen no_items s fits = refl
-attributes_told node seen (item (plain t v) is) s fits = absurd (let bad : child.Unknown ≡ child.Leaf fits.0.0 = fits.0.1 in cc)
-attributes_told node seen (item (bare q) is) s fits = absurd (let bad : child.Unknown ≡ child.Parent q = fits.0.0 in cc)
-attributes_told node seen (item (nested q x) is) s fits = absurd (let bad : child.Unknown ≡ child.Parent q = fits.0.0 in cc)
+use Rattle.index_read.proofs.Xattrs.{attributes_told, with_xattrs, xattrs_in}
 
 -- ---- a file
 
@@ -55,20 +48,20 @@ link_told seen (item (plain t v) is) s front parent f text behind fits there at 
     let kind : kind_with i (kinds.Link text) ≡ kinds.Link text = ap (link_or (kinds.Link text)) (not_now place.File seen i Symlink fits.1 there refl) in
     let now = leaf_changes i s.nodes front parent f (kinds.Link text) behind at ∙ ap (nodes_with front parent (facts_with i f) behind) kind in
     link_told (t ∷ seen) is (item_told place.File (length front) i s) front parent (facts_with i f) text behind fits.2 (member_later Symlink t seen there) now
-    ∙ ap (λ (g : NodeFacts). nodes_with front parent g behind (kinds.Link text)) (sym (facts_step i is f (file_forms (t ∷ seen) is fits.2)))
+    ∙ ap (λ (g : NodeFacts). nodes_with front parent g behind (kinds.Link text)) (sym (facts_step t v is f (file_forms (t ∷ seen) is fits.2)))
 link_told seen (item (bare place.ExtentInfo) is) s front parent f text behind fits there at =
     link_told (ExtentInfo ∷ seen) is s front parent f text behind fits.2 (member_later Symlink ExtentInfo seen there) at
-    ∙ ap (λ (g : NodeFacts). nodes_with front parent g behind (kinds.Link text)) (sym (facts_parent place.ExtentInfo no_items is f))
+    ∙ ap (λ (g : NodeFacts). nodes_with front parent g behind (kinds.Link text)) (sym (facts_parent place.ExtentInfo no_items is f refl))
 link_told seen (item (bare place.Attributes) is) s front parent f text behind fits there at =
-    link_told (ExtendedAttributes ∷ seen) is s front parent f text behind fits.2 (member_later Symlink ExtendedAttributes seen there) at
-    ∙ ap (λ (g : NodeFacts). nodes_with front parent g behind (kinds.Link text)) (sym (facts_parent place.Attributes no_items is f))
+    link_told (ExtendedAttributes ∷ seen) is s front parent (with_xattrs [] f) text behind fits.2 (member_later Symlink ExtendedAttributes seen there) (attributes_told [] no_items s front parent f (kinds.Link text) behind refl at)
+    ∙ ap (λ (g : NodeFacts). nodes_with front parent g behind (kinds.Link text)) (sym (facts_attributes no_items is f (no_inside place.File (ExtendedAttributes ∷ seen) is place.Attributes fits.2 refl refl)))
 link_told seen (item (bare _) is) s front parent f text behind fits there at = absurd (let bad = fits.0.0 in cc)
 link_told seen (item (nested place.ExtentInfo x) is) s front parent f text behind fits there at =
     link_told (ExtentInfo ∷ seen) is (items_told place.ExtentInfo (length front) x s) front parent f text behind fits.2 (member_later Symlink ExtentInfo seen there) (extents_told [] x s front parent f (kinds.Link text) behind fits.0.1 at)
-    ∙ ap (λ (g : NodeFacts). nodes_with front parent g behind (kinds.Link text)) (sym (facts_parent place.ExtentInfo x is f))
+    ∙ ap (λ (g : NodeFacts). nodes_with front parent g behind (kinds.Link text)) (sym (facts_parent place.ExtentInfo x is f refl))
 link_told seen (item (nested place.Attributes x) is) s front parent f text behind fits there at =
-    link_told (ExtendedAttributes ∷ seen) is (items_told place.Attributes (length front) x s) front parent f text behind fits.2 (member_later Symlink ExtendedAttributes seen there) (ap (λ (u : State). u.nodes) (attributes_told (length front) [] x s fits.0.1) ∙ at)
-    ∙ ap (λ (g : NodeFacts). nodes_with front parent g behind (kinds.Link text)) (sym (facts_parent place.Attributes x is f))
+    link_told (ExtendedAttributes ∷ seen) is (items_told place.Attributes (length front) x s) front parent (with_xattrs (xattrs_in x) f) text behind fits.2 (member_later Symlink ExtendedAttributes seen there) (attributes_told [] x s front parent f (kinds.Link text) behind fits.0.1 at)
+    ∙ ap (λ (g : NodeFacts). nodes_with front parent g behind (kinds.Link text)) (sym (facts_attributes x is f (no_inside place.File (ExtendedAttributes ∷ seen) is place.Attributes fits.2 refl refl)))
 link_told seen (item (nested _ x) is) s front parent f text behind fits there at = absurd (let bad = fits.0.0 in cc)
 
 -- a leaf of a file, with what follows it
@@ -77,7 +70,7 @@ file_leaf : (seen : List Tag) (t : Tag) (v : Val) (is : Items) (s : State) (fron
     → (items_told place.File (length front) (item (plain t v) is) s).nodes ≡ nodes_with front parent (facts_from (item (plain t v) is) f) behind (file_kind (item (plain t v) is) bytes es)
 file_leaf seen t v is s front parent f bytes es behind fits at later =
     by (own Symlink i) refl (leaf_changes i s.nodes front parent f (kinds.File bytes es) behind at)
-    ∙ ap (λ (g : NodeFacts). nodes_with front parent g behind (file_kind (item i is) bytes es)) (sym (facts_step i is f (file_forms (t ∷ seen) is fits.2)))
+    ∙ ap (λ (g : NodeFacts). nodes_with front parent g behind (file_kind (item i is) bytes es)) (sym (facts_step t v is f (file_forms (t ∷ seen) is fits.2)))
   where
     i : Item
     i = plain t v
@@ -108,13 +101,14 @@ file_leaf seen t v is s front parent f bytes es behind fits at later =
 file_extents : (x is : Items) (front : List NodeValue) (parent : ℕ) (f : NodeFacts) (bytes : ℕ) (es : List RawExtent) (behind : List NodeValue) → inside place.ExtentInfo is ≡ None
     → nodes_with front parent (facts_from is f) behind (file_kind is bytes (es ++ extents_in x)) ≡ nodes_with front parent (facts_from (item (nested place.ExtentInfo x) is) f) behind (file_kind (item (nested place.ExtentInfo x) is) bytes es)
 file_extents x is front parent f bytes es behind none =
-    ap (λ (g : NodeFacts). nodes_with front parent g behind (file_kind is bytes (es ++ extents_in x))) (sym (facts_parent place.ExtentInfo x is f))
+    ap (λ (g : NodeFacts). nodes_with front parent g behind (file_kind is bytes (es ++ extents_in x))) (sym (facts_parent place.ExtentInfo x is f refl))
     ∙ ap (nodes_with front parent (facts_from (item (nested place.ExtentInfo x) is) f) behind) (rw (or_none (told Length is), or_none (told Symlink is), none, append-nil (es ++ extents_in x)) refl)
 
-file_attributes : (x is : Items) (front : List NodeValue) (parent : ℕ) (f : NodeFacts) (bytes : ℕ) (es : List RawExtent) (behind : List NodeValue)
-    → nodes_with front parent (facts_from is f) behind (file_kind is bytes es) ≡ nodes_with front parent (facts_from (item (nested place.Attributes x) is) f) behind (file_kind (item (nested place.Attributes x) is) bytes es)
-file_attributes x is front parent f bytes es behind =
-    ap (λ (g : NodeFacts). nodes_with front parent g behind (file_kind is bytes es)) (sym (facts_parent place.Attributes x is f))
+-- its attributes, with what follows them
+file_attributes : (x is : Items) (front : List NodeValue) (parent : ℕ) (f : NodeFacts) (bytes : ℕ) (es : List RawExtent) (behind : List NodeValue) → inside place.Attributes is ≡ None
+    → nodes_with front parent (facts_from is (with_xattrs (xattrs_in x) f)) behind (file_kind is bytes es) ≡ nodes_with front parent (facts_from (item (nested place.Attributes x) is) f) behind (file_kind (item (nested place.Attributes x) is) bytes es)
+file_attributes x is front parent f bytes es behind none =
+    ap (λ (g : NodeFacts). nodes_with front parent g behind (file_kind is bytes es)) (sym (facts_attributes x is f none))
     ∙ ap (nodes_with front parent (facts_from (item (nested place.Attributes x) is) f) behind) (rw (or_none (told Length is), or_none (told Symlink is), or_none (inside place.ExtentInfo is)) refl)
 
 pub file_told : (seen : List Tag) (is : Items) (s : State) (front : List NodeValue) (parent : ℕ) (f : NodeFacts) (bytes : ℕ) (es : List RawExtent) (behind : List NodeValue) → Fits place.File seen is → s.nodes ≡ nodes_with front parent f behind (kinds.File bytes es)
@@ -126,15 +120,15 @@ file_told seen (item (bare place.ExtentInfo) is) s front parent f bytes es behin
     file_told (ExtentInfo ∷ seen) is s front parent f bytes (es ++ []) behind fits.2 (at ∙ ap (nodes_with front parent f behind) (with_none (kinds.File bytes es)))
     ∙ file_extents no_items is front parent f bytes es behind (no_inside place.File (ExtentInfo ∷ seen) is place.ExtentInfo fits.2 refl refl)
 file_told seen (item (bare place.Attributes) is) s front parent f bytes es behind fits at =
-    file_told (ExtendedAttributes ∷ seen) is s front parent f bytes es behind fits.2 at
-    ∙ file_attributes no_items is front parent f bytes es behind
+    file_told (ExtendedAttributes ∷ seen) is s front parent (with_xattrs [] f) bytes es behind fits.2 (attributes_told [] no_items s front parent f (kinds.File bytes es) behind refl at)
+    ∙ file_attributes no_items is front parent f bytes es behind (no_inside place.File (ExtendedAttributes ∷ seen) is place.Attributes fits.2 refl refl)
 file_told seen (item (bare _) is) s front parent f bytes es behind fits at = absurd (let bad = fits.0.0 in cc)
 file_told seen (item (nested place.ExtentInfo x) is) s front parent f bytes es behind fits at =
     file_told (ExtentInfo ∷ seen) is (items_told place.ExtentInfo (length front) x s) front parent f bytes (es ++ extents_in x) behind fits.2 (extents_told [] x s front parent f (kinds.File bytes es) behind fits.0.1 at)
     ∙ file_extents x is front parent f bytes es behind (no_inside place.File (ExtentInfo ∷ seen) is place.ExtentInfo fits.2 refl refl)
 file_told seen (item (nested place.Attributes x) is) s front parent f bytes es behind fits at =
-    file_told (ExtendedAttributes ∷ seen) is (items_told place.Attributes (length front) x s) front parent f bytes es behind fits.2 (ap (λ (u : State). u.nodes) (attributes_told (length front) [] x s fits.0.1) ∙ at)
-    ∙ file_attributes x is front parent f bytes es behind
+    file_told (ExtendedAttributes ∷ seen) is (items_told place.Attributes (length front) x s) front parent (with_xattrs (xattrs_in x) f) bytes es behind fits.2 (attributes_told [] x s front parent f (kinds.File bytes es) behind fits.0.1 at)
+    ∙ file_attributes x is front parent f bytes es behind (no_inside place.File (ExtendedAttributes ∷ seen) is place.Attributes fits.2 refl refl)
 file_told seen (item (nested _ x) is) s front parent f bytes es behind fits at = absurd (let bad = fits.0.0 in cc)
 
 -- ---- what it tells

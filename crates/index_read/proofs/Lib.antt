@@ -5,6 +5,7 @@ pub mod Fits
 pub mod OfForms
 pub mod Facts
 pub mod Extents
+pub mod Xattrs
 pub mod Files
 pub mod Nodes
 pub mod Volume

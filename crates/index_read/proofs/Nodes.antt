@@ -17,9 +17,10 @@ use Rattle.doc_elements.specs.Elements.{Item, plain, bare, nested, Items, no_ite
 use Rattle.index_model.specs.Grammar.{told, TellsFacts, TellsNodes, TellsContents}
 use Rattle.index_read.specs.Told.{State, facts_with, kind_with, link_or, begun, item_told, items_told}
 use Rattle.index_read.proofs.Fits.{HasForm, FitsItem, Fits}
-use Rattle.index_read.proofs.Facts.{not_own, follows_once, member_later, facts_from, facts_in, blank_facts, directory_forms, directory_facts, facts_step, facts_parent, only_facts}
+use Rattle.index_read.proofs.Facts.{not_own, follows_once, member_later, facts_from, facts_in, blank_facts, directory_forms, directory_facts, facts_step, facts_parent, facts_attributes, no_inside, only_facts}
 use Rattle.index_read.proofs.Extents.{nodes_with}
-use Rattle.index_read.proofs.Files.{attributes_told, leaf_changes, file_told, file_in, file_kind, file_listed, file_tells, only_file}
+use Rattle.index_read.proofs.Xattrs.{attributes_told, with_xattrs, xattrs_in}
+use Rattle.index_read.proofs.Files.{leaf_changes, file_told, file_in, file_kind, file_listed, file_tells, only_file}
 
 -- the nodes that children tell
 abbrev mutual
@@ -81,24 +82,21 @@ directory_leaf t v s front parent f behind fits at =
     let kind : kind_with (plain t v) kinds.Dir ≡ kinds.Dir = ap (link_or kinds.Dir) (not_own place.Directory (plain t v) Symlink fits refl) in
     leaf_changes (plain t v) s.nodes front parent f kinds.Dir behind at ∙ ap (nodes_with front parent (facts_with (plain t v) f) behind) kind
 
-attributes_keep : (node : ℕ) (x : Items) (s : State) (nodes : List NodeValue) → Fits place.Attributes [] x → s.nodes ≡ nodes → (items_told place.Attributes node x s).nodes ≡ nodes
-attributes_keep node x s nodes fits at = ap (λ (u : State). u.nodes) (attributes_told node [] x s fits) ∙ at
-
 rest_told : (seen : List Tag) (is : Items) (s : State) (front : List NodeValue) (parent : ℕ) (f : NodeFacts) (behind : List NodeValue) → Fits place.Directory seen is → member Contents seen ≡ true → s.nodes ≡ nodes_with front parent f behind kinds.Dir
     → (items_told place.Directory (length front) is s).nodes ≡ nodes_with front parent (facts_from is f) behind kinds.Dir
 rest_told seen no_items s front parent f behind fits there at = at
 rest_told seen (item (plain t v) is) s front parent f behind fits there at =
     rest_told (t ∷ seen) is (item_told place.Directory (length front) (plain t v) s) front parent (facts_with (plain t v) f) behind fits.2 (member_later Contents t seen there) (directory_leaf t v s front parent f behind fits.0 at)
-    ∙ ap (λ (g : NodeFacts). nodes_with front parent g behind kinds.Dir) (sym (facts_step (plain t v) is f (directory_forms (t ∷ seen) is fits.2)))
+    ∙ ap (λ (g : NodeFacts). nodes_with front parent g behind kinds.Dir) (sym (facts_step t v is f (directory_forms (t ∷ seen) is fits.2)))
 rest_told seen (item (bare place.Contents) is) s front parent f behind fits there at = absurd (follows_once place.Directory seen Contents Contents fits.1 refl there refl)
 rest_told seen (item (bare place.Attributes) is) s front parent f behind fits there at =
-    rest_told (ExtendedAttributes ∷ seen) is s front parent f behind fits.2 (member_later Contents ExtendedAttributes seen there) at
-    ∙ ap (λ (g : NodeFacts). nodes_with front parent g behind kinds.Dir) (sym (facts_parent place.Attributes no_items is f))
+    rest_told (ExtendedAttributes ∷ seen) is s front parent (with_xattrs [] f) behind fits.2 (member_later Contents ExtendedAttributes seen there) (attributes_told [] no_items s front parent f kinds.Dir behind refl at)
+    ∙ ap (λ (g : NodeFacts). nodes_with front parent g behind kinds.Dir) (sym (facts_attributes no_items is f (no_inside place.Directory (ExtendedAttributes ∷ seen) is place.Attributes fits.2 refl refl)))
 rest_told seen (item (bare _) is) s front parent f behind fits there at = absurd (let bad = fits.0.0 in cc)
 rest_told seen (item (nested place.Contents x) is) s front parent f behind fits there at = absurd (follows_once place.Directory seen Contents Contents fits.1 refl there refl)
 rest_told seen (item (nested place.Attributes x) is) s front parent f behind fits there at =
-    rest_told (ExtendedAttributes ∷ seen) is (items_told place.Attributes (length front) x s) front parent f behind fits.2 (member_later Contents ExtendedAttributes seen there) (attributes_keep (length front) x s _ fits.0.1 at)
-    ∙ ap (λ (g : NodeFacts). nodes_with front parent g behind kinds.Dir) (sym (facts_parent place.Attributes x is f))
+    rest_told (ExtendedAttributes ∷ seen) is (items_told place.Attributes (length front) x s) front parent (with_xattrs (xattrs_in x) f) behind fits.2 (member_later Contents ExtendedAttributes seen there) (attributes_told [] x s front parent f kinds.Dir behind fits.0.1 at)
+    ∙ ap (λ (g : NodeFacts). nodes_with front parent g behind kinds.Dir) (sym (facts_attributes x is f (no_inside place.Directory (ExtendedAttributes ∷ seen) is place.Attributes fits.2 refl refl)))
 rest_told seen (item (nested _ x) is) s front parent f behind fits there at = absurd (let bad = fits.0.0 in cc)
 
 -- ---- directories and their contents
@@ -147,21 +145,21 @@ mutual
   directory_told seen no_items s front parent f fits at = at
   directory_told seen (item (plain t v) is) s front parent f fits at =
       directory_told (t ∷ seen) is (item_told place.Directory (length front) (plain t v) s) front parent (facts_with (plain t v) f) fits.2 (directory_leaf t v s front parent f [] fits.0 at)
-      ∙ ap (λ (g : NodeFacts). nodes_with front parent g (listed (length front) (length front + 1) (contents_in is)) kinds.Dir) (sym (facts_step (plain t v) is f (directory_forms (t ∷ seen) is fits.2)))
+      ∙ ap (λ (g : NodeFacts). nodes_with front parent g (listed (length front) (length front + 1) (contents_in is)) kinds.Dir) (sym (facts_step t v is f (directory_forms (t ∷ seen) is fits.2)))
   directory_told seen (item (bare place.Contents) is) s front parent f fits at =
       directory_told (Contents ∷ seen) is s front parent f fits.2 at
-      ∙ ap (λ (g : NodeFacts). nodes_with front parent g (listed (length front) (length front + 1) (contents_in is)) kinds.Dir) (sym (facts_parent place.Contents no_items is f))
+      ∙ ap (λ (g : NodeFacts). nodes_with front parent g (listed (length front) (length front + 1) (contents_in is)) kinds.Dir) (sym (facts_parent place.Contents no_items is f refl))
   directory_told seen (item (bare place.Attributes) is) s front parent f fits at =
-      directory_told (ExtendedAttributes ∷ seen) is s front parent f fits.2 at
-      ∙ ap (λ (g : NodeFacts). nodes_with front parent g (listed (length front) (length front + 1) (contents_in is)) kinds.Dir) (sym (facts_parent place.Attributes no_items is f))
+      directory_told (ExtendedAttributes ∷ seen) is s front parent (with_xattrs [] f) fits.2 (attributes_told [] no_items s front parent f kinds.Dir [] refl at)
+      ∙ ap (λ (g : NodeFacts). nodes_with front parent g (listed (length front) (length front + 1) (contents_in is)) kinds.Dir) (sym (facts_attributes no_items is f (no_inside place.Directory (ExtendedAttributes ∷ seen) is place.Attributes fits.2 refl refl)))
   directory_told seen (item (bare _) is) s front parent f fits at = absurd (let bad = fits.0.0 in cc)
   directory_told seen (item (nested place.Contents x) is) s front parent f fits at =
       let now = contents_told [] x (length front) s fits.0.1 ∙ behind_one s.nodes front parent (length front) f (nodes_in x) at in
       rest_told (Contents ∷ seen) is (items_told place.Contents (length front) x s) front parent f (listed (length front) (length front + 1) (nodes_in x)) fits.2 refl now
-      ∙ ap (λ (g : NodeFacts). nodes_with front parent g (listed (length front) (length front + 1) (nodes_in x)) kinds.Dir) (sym (facts_parent place.Contents x is f))
+      ∙ ap (λ (g : NodeFacts). nodes_with front parent g (listed (length front) (length front + 1) (nodes_in x)) kinds.Dir) (sym (facts_parent place.Contents x is f refl))
   directory_told seen (item (nested place.Attributes x) is) s front parent f fits at =
-      directory_told (ExtendedAttributes ∷ seen) is (items_told place.Attributes (length front) x s) front parent f fits.2 (attributes_keep (length front) x s _ fits.0.1 at)
-      ∙ ap (λ (g : NodeFacts). nodes_with front parent g (listed (length front) (length front + 1) (contents_in is)) kinds.Dir) (sym (facts_parent place.Attributes x is f))
+      directory_told (ExtendedAttributes ∷ seen) is (items_told place.Attributes (length front) x s) front parent (with_xattrs (xattrs_in x) f) fits.2 (attributes_told [] x s front parent f kinds.Dir [] fits.0.1 at)
+      ∙ ap (λ (g : NodeFacts). nodes_with front parent g (listed (length front) (length front + 1) (contents_in is)) kinds.Dir) (sym (facts_attributes x is f (no_inside place.Directory (ExtendedAttributes ∷ seen) is place.Attributes fits.2 refl refl)))
   directory_told seen (item (nested _ x) is) s front parent f fits at = absurd (let bad = fits.0.0 in cc)
 
   pub contents_told : (seen : List Tag) (is : Items) (node : ℕ) (s : State) → Fits place.Contents seen is → (items_told place.Contents node is s).nodes ≡ s.nodes ++ listed node (length s.nodes) (nodes_in is)

@@ -8,10 +8,10 @@ use Rattle.doc_elements.specs.declared.schema.Place.{Place}
 use Rattle.doc_elements.specs.declared.schema.Form.{Form}
 use Rattle.doc_elements.specs.declared.schema.Child.TheVariants as child
 use Rattle.doc_elements.specs.Schema.{rule}
-use Rattle.doc_elements.specs.Pieces.{Val, words, time, uuid, letter, number, truth, lock}
+use Rattle.doc_elements.specs.Pieces.{Val, words, time, uuid, letter, number, truth, lock, bytes}
 use Rattle.doc_elements.specs.Elements.{Items}
 use Rattle.index_model.specs.Grammar.{or_else, told}
-use Rattle.index_read.specs.Told.{words_or, words_told, time_or, uuid_or, letter_or, number_or, truth_or, lock_told}
+use Rattle.index_read.specs.Told.{words_or, words_told, time_or, uuid_or, letter_or, number_or, truth_or, lock_told, bytes_or}
 use Rattle.index_read.proofs.Fits.{HasForm, Fits, told_form}
 
 -- where a value is told, it is of this kind
@@ -46,6 +46,10 @@ pub uuid_step : (a : ℕ) (early late : Option Val) → IsOf uuid late → uuid_
 uuid_step a early None of = refl
 uuid_step a early (Some v) of = let h = of v refl in rw h.1 refl
 
+pub bytes_step : (a : List ℕ) (early late : Option Val) → IsOf bytes late → bytes_or a (or_else late early) ≡ bytes_or (bytes_or a early) late
+bytes_step a early None of = refl
+bytes_step a early (Some v) of = let h = of v refl in rw h.1 refl
+
 pub lock_step : (a : Option LockState) (early late : Option Val) → IsOf lock late → lock_told a (or_else late early) ≡ lock_told (lock_told a early) late
 lock_step a early None of = refl
 lock_step a early (Some v) of = let h = of v refl in rw h.1 refl
@@ -75,6 +79,9 @@ truth_known a o h = let e : o ≡ Some (truth h.2.0) = h.1 ∙ ap (λ (v : Val).
 
 pub uuid_known : (a : ℕ) (o : Option Val) → IsTold uuid o → o ≡ Some (uuid (uuid_or a o))
 uuid_known a o h = let e : o ≡ Some (uuid h.2.0) = h.1 ∙ ap (λ (v : Val). Some v) h.2.1 in rw e refl
+
+pub bytes_known : (a : List ℕ) (o : Option Val) → IsTold bytes o → o ≡ Some (bytes (bytes_or a o))
+bytes_known a o h = let e : o ≡ Some (bytes h.2.0) = h.1 ∙ ap (λ (v : Val). Some v) h.2.1 in rw e refl
 
 -- a value that may be told
 

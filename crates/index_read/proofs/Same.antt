@@ -28,8 +28,9 @@ one_node a b e =
     let name = ap (λ (n : NodeValue). n.facts.name) e in
     let times = one_times a.times b.times (ap (λ (n : NodeValue). n.facts.times) e) in
     let readonly = ap (λ (n : NodeValue). n.facts.readonly) e in
+    let xattrs = ap (λ (n : NodeValue). n.facts.xattrs) e in
     let kind = ap (λ (n : NodeValue). n.kind) e in
-    λ i. record { parent = parent i; uid = uid i; name = name i; times = times i; readonly = readonly i; kind = kind i }
+    λ i. record { parent = parent i; uid = uid i; name = name i; times = times i; readonly = readonly i; xattrs = xattrs i; kind = kind i }
 
 one_nodes : (xs ys : List Node) → map value_of xs ≡ map value_of ys → xs ≡ ys
 one_nodes [] [] e = refl

@@ -32,6 +32,7 @@ begun_count _ node s = refl
 
 ended_count : (p : Place) (node : ℕ) (s : State) → length s.nodes ≡ length (ended p node s).nodes
 ended_count place.Extent node s = sym (changed_length node _ s.nodes)
+ended_count place.Xattr node s = sym (changed_length node _ s.nodes)
 ended_count _ node s = refl
 
 leaf_count : (p : Place) (node : ℕ) (i : Item) (s : State) → length s.nodes ≡ length (leaf_told p node i s).nodes

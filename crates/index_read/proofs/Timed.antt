@@ -20,7 +20,7 @@ use Rattle.index_model.specs.declared.nodes.Kind.TheVariants as kinds
 use Rattle.index_model.specs.declared.nodes.Node.{Node}
 use Rattle.index_model.specs.Grammar.{own}
 use Rattle.index_model.specs.Values.{NodeValue, TimesValue, times_of, value_of, volume_of}
-use Rattle.index_read.specs.Told.{Level, State, Tell, begun, blank, blank_node, changed, ended, epoch, leaf_told, levels_after, node_in, node_with, outermost, piece_told, time_or, with_extent}
+use Rattle.index_read.specs.Told.{Level, State, Tell, begun, blank, blank_node, changed, ended, epoch, leaf_told, levels_after, node_in, node_with, outermost, piece_told, time_or, with_extent, with_xattr}
 use Rattle.index_read.specs.Walks.{IsWhole}
 
 -- ---- what they tell
@@ -88,6 +88,7 @@ begun_timed place.Root node s h = record { updated = h.updated; nodes = all_more
 begun_timed place.Directory node s h = record { updated = h.updated; nodes = all_more IsTimedNode s.nodes _ h.nodes (blank_times node kinds.Dir) }
 begun_timed place.File node s h = record { updated = h.updated; nodes = all_more IsTimedNode s.nodes _ h.nodes (blank_times node (kinds.File 0 [])) }
 begun_timed place.Extent node s h = record { updated = h.updated; nodes = h.nodes }
+begun_timed place.Xattr node s h = record { updated = h.updated; nodes = h.nodes }
 begun_timed _ node s h = h
 
 leaf_told_timed : (p : Place) (node : ℕ) (t : Tag) (v : Val) (s : State) → IsTimed v → IsTimedState s → IsTimedState (leaf_told p node (plain t v) s)
@@ -99,10 +100,12 @@ leaf_told_timed place.Root node t v s k h = record { updated = h.updated; nodes 
 leaf_told_timed place.Directory node t v s k h = record { updated = h.updated; nodes = all_changed IsTimedNode (node_with (plain t v)) node s.nodes (λ n. node_timed t v n k) h.nodes }
 leaf_told_timed place.File node t v s k h = record { updated = h.updated; nodes = all_changed IsTimedNode (node_with (plain t v)) node s.nodes (λ n. node_timed t v n k) h.nodes }
 leaf_told_timed place.Extent node t v s k h = record { updated = h.updated; nodes = h.nodes }
+leaf_told_timed place.Xattr node t v s k h = record { updated = h.updated; nodes = h.nodes }
 leaf_told_timed _ node t v s k h = h
 
 ended_timed : (p : Place) (node : ℕ) (s : State) → IsTimedState s → IsTimedState (ended p node s)
 ended_timed place.Extent node s h = record { updated = h.updated; nodes = all_changed IsTimedNode (with_extent s.extent) node s.nodes (λ n k. k) h.nodes }
+ended_timed place.Xattr node s h = record { updated = h.updated; nodes = all_changed IsTimedNode (with_xattr s.xattr) node s.nodes (λ n k. k) h.nodes }
 ended_timed place.Index node s h = h
 ended_timed _ node s h = h
 
@@ -130,10 +133,10 @@ nodes_for [] all = ([], refl)
 nodes_for (x ∷ xs) all =
     let times = times_for x.facts.times all.0 in
     let rest = nodes_for xs all.1 in
-    let node : Node = record { parent = x.parent; uid = x.facts.uid; name = x.facts.name; times = times.0; readonly = x.facts.readonly; kind = x.kind } in
-    let same : value_of (record { parent = x.parent; uid = x.facts.uid; name = x.facts.name; times = times.0; readonly = x.facts.readonly; kind = x.kind }) ≡ x =
-    λ i. record { parent = x.parent; facts = record { uid = x.facts.uid; name = x.facts.name; times = times.1 i; readonly = x.facts.readonly }; kind = x.kind } in
-    (record { parent = x.parent; uid = x.facts.uid; name = x.facts.name; times = times.0; readonly = x.facts.readonly; kind = x.kind } ∷ rest.0, λ i. same i ∷ rest.1 i)
+    let node : Node = record { parent = x.parent; uid = x.facts.uid; name = x.facts.name; times = times.0; readonly = x.facts.readonly; xattrs = x.facts.xattrs; kind = x.kind } in
+    let same : value_of (record { parent = x.parent; uid = x.facts.uid; name = x.facts.name; times = times.0; readonly = x.facts.readonly; xattrs = x.facts.xattrs; kind = x.kind }) ≡ x =
+    λ i. record { parent = x.parent; facts = record { uid = x.facts.uid; name = x.facts.name; times = times.1 i; readonly = x.facts.readonly; xattrs = x.facts.xattrs }; kind = x.kind } in
+    (record { parent = x.parent; uid = x.facts.uid; name = x.facts.name; times = times.0; readonly = x.facts.readonly; xattrs = x.facts.xattrs; kind = x.kind } ∷ rest.0, λ i. same i ∷ rest.1 i)
 
 index_for : (s : State) → IsTimedState s → (index : Index) × (volume_of index ≡ s.volume) × (map value_of index.nodes ≡ s.nodes)
 index_for s h =

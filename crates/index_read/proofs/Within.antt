@@ -31,6 +31,7 @@ is_within place.File = true
 is_within place.Attributes = true
 is_within place.ExtentInfo = true
 is_within place.Extent = true
+is_within place.Xattr = true
 is_within _ = false
 
 child_within : (p q : Place) → rule p (tag_of q) ≡ child.Parent q → is_within p ≡ true → is_within q ≡ true
@@ -54,12 +55,14 @@ child_within place.Contents _ e h = absurd cc
 child_within place.File place.ExtentInfo e h = refl
 child_within place.File place.Attributes e h = refl
 child_within place.File _ e h = absurd cc
-child_within place.Attributes q e h = absurd cc
+child_within place.Attributes place.Xattr e h = refl
+child_within place.Attributes _ e h = absurd cc
 child_within place.ExtentInfo place.Extent e h = refl
 child_within place.ExtentInfo _ e h = absurd cc
 child_within place.Extent place.Extent e h = absurd cc
 child_within place.Extent _ e h = absurd cc
-child_within place.Xattr q e h = absurd cc
+child_within place.Xattr place.Xattr e h = absurd cc
+child_within place.Xattr _ e h = absurd cc
 
 begun_within : (q : Place) (node : ℕ) (s : State) → is_within q ≡ true → (begun q node s).volume ≡ s.volume
 begun_within place.Index node s h = refl
@@ -70,6 +73,7 @@ begun_within _ node s h = refl
 
 ended_within : (q : Place) (node : ℕ) (s : State) → (ended q node s).volume ≡ s.volume
 ended_within place.Extent node s = refl
+ended_within place.Xattr node s = refl
 ended_within _ node s = refl
 
 leaf_within : (p : Place) (node : ℕ) (i : Item) (s : State) → is_within p ≡ true → (leaf_told p node i s).volume ≡ s.volume

@@ -16,6 +16,7 @@ UnlessMemory (errors.Name at) P = P
 UnlessMemory errors.TooMany P = P
 UnlessMemory (errors.Uid n) P = P
 UnlessMemory (errors.SameName n) P = P
+UnlessMemory (errors.SameKey n) P = P
 UnlessMemory (errors.Extent n) P = P
 UnlessMemory (errors.Overlap n) P = P
 UnlessMemory errors.NoMemory P = Unit {0}

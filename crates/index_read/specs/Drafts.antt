@@ -5,4 +5,9 @@ use Rattle.index_read.specs.declared.drafts.Draft.{Draft}
 use Rattle.index_read.specs.Told.{State}
 
 abbrev pub state_of : Draft → State
-state_of d = record { volume = volume_of d.index; nodes = map value_of d.nodes.items; extent = d.extent }
+state_of d = record {
+  volume = volume_of d.index;
+  nodes = map value_of d.nodes.items;
+  extent = d.extent;
+  xattr = d.xattr;
+}

@@ -11,7 +11,9 @@ use Rattle.doc_fields.specs.declared.tags.Tag.TheVariants.{UpdateTime, StartBloc
 use Rattle.doc_fields.specs.declared.tags.Tag.TheVariants.{VolumeLockState, HighestFileUid, FileUid, Name, Length}
 use Rattle.doc_fields.specs.declared.tags.Tag.TheVariants.{CreationTime, ChangeTime, ModifyTime, AccessTime, BackupTime}
 use Rattle.doc_fields.specs.declared.tags.Tag.TheVariants.{ReadOnly, Symlink, FileOffset, ByteOffset, ByteCount}
+use Rattle.doc_fields.specs.declared.tags.Tag.TheVariants.{Key, Value}
 use Rattle.doc_fields.specs.declared.values.LockState.{LockState}
+use Rattle.node_keys.specs.declared.xattrs.Xattr.{Xattr}
 use Rattle.index_model.specs.declared.indexes.Policy.{Policy}
 use Rattle.index_model.specs.declared.indexes.Spot.{Spot}
 use Rattle.index_model.specs.declared.nodes.Kind.{Kind}
@@ -21,8 +23,8 @@ use Rattle.doc_elements.specs.declared.schema.Place.{Place}
 use Rattle.doc_elements.specs.declared.schema.Place.TheVariants as place
 use Rattle.doc_elements.specs.Schema.{is_node}
 use Rattle.index_model.specs.Values.{NodeFacts, TimesValue, NodeValue, VolumeFacts}
-use Rattle.doc_elements.specs.Pieces.{Val, words, time, uuid, letter, number, truth, lock, Piece, opens, whole, closes}
-use Rattle.doc_elements.specs.Pieces.{leaf}
+use Rattle.doc_elements.specs.Pieces.{Val, words, time, uuid, letter, number, truth, lock, bytes}
+use Rattle.doc_elements.specs.Pieces.{Piece, opens, whole, closes, leaf}
 use Rattle.doc_elements.specs.Elements.{Item, plain, bare, nested, Items, no_items, item}
 use Rattle.index_model.specs.Grammar.{own}
 
@@ -59,6 +61,10 @@ truth_or old _ = old
 abbrev pub lock_told : Option LockState → Option Val → Option LockState
 lock_told old (Some (lock state)) = Some state
 lock_told old _ = old
+
+abbrev pub bytes_or : List ℕ → Option Val → List ℕ
+bytes_or old (Some (bytes bs)) = bs
+bytes_or old _ = old
 
 -- a symbolic link, where its text is told
 abbrev pub link_or : Kind → Option Val → Kind
@@ -108,12 +114,13 @@ facts_with i f = record {
   name = words_or f.name (own Name i);
   times = times_with i f.times;
   readonly = truth_or f.readonly (own ReadOnly i);
+  xattrs = f.xattrs;
 }
 
 -- the length is a file's
 abbrev pub sized : Item → Kind → Kind
 sized i kinds.Dir = kinds.Dir
-sized i (kinds.File bytes extents) = kinds.File (number_or bytes (own Length i)) extents
+sized i (kinds.File size extents) = kinds.File (number_or size (own Length i)) extents
 sized i (kinds.Link text) = kinds.Link text
 
 abbrev pub kind_with : Item → Kind → Kind
@@ -130,6 +137,9 @@ extent_with i e = record {
   byte = number_or e.byte (own ByteOffset i);
   count = number_or e.count (own ByteCount i);
 }
+
+abbrev pub xattr_with : Item → Xattr → Xattr
+xattr_with i x = record { key = words_or x.key (own Key i); value = bytes_or x.value (own Value i) }
 
 -- ---- what stands there before anything is told
 
@@ -151,6 +161,9 @@ blank_policy = record { size = 0; names = [] }
 
 abbrev pub blank_extent : RawExtent
 blank_extent = record { offset = 0; letter = 0; block = 0; byte = 0; count = 0 }
+
+abbrev pub blank_xattr : Xattr
+blank_xattr = record { key = []; value = [] }
 
 abbrev pub blank_volume : VolumeFacts
 blank_volume = record {
@@ -179,20 +192,21 @@ blank_times = record {
 abbrev pub blank_node : ℕ → Kind → NodeValue
 blank_node parent kind = record {
   parent = parent;
-  facts = record { uid = 0; name = []; times = blank_times; readonly = false };
+  facts = record { uid = 0; name = []; times = blank_times; readonly = false; xattrs = [] };
   kind = kind;
 }
 
 -- ---- a document up to a place
 
--- what was told: of the volume, the nodes that have begun, and the extent that is being read
+-- what was told: of the volume, the nodes that have begun, and the extent and the attribute that are being read
 pub record State : Type 0 where
   pub volume : VolumeFacts
   pub nodes : List NodeValue
   pub extent : RawExtent
+  pub xattr : Xattr
 
 abbrev pub blank : State
-blank = record { volume = blank_volume; nodes = []; extent = blank_extent }
+blank = record { volume = blank_volume; nodes = []; extent = blank_extent; xattr = blank_xattr }
 
 -- the list with the element at a place changed, where there is one
 abbrev pub changed : {X : Type 0} → ℕ → (X → X) → List X → List X
@@ -213,6 +227,7 @@ begun place.Root node s = record s { nodes = s.nodes ++ blank_node 0 kinds.Dir �
 begun place.Directory node s = record s { nodes = s.nodes ++ blank_node node kinds.Dir ∷ [] }
 begun place.File node s = record s { nodes = s.nodes ++ blank_node node (kinds.File 0 []) ∷ [] }
 begun place.Extent node s = record s { extent = blank_extent }
+begun place.Xattr node s = record s { xattr = blank_xattr }
 begun _ node s = s
 
 -- a leaf of a parent
@@ -226,19 +241,24 @@ leaf_told place.Root node i s = record s { nodes = changed node (node_with i) s.
 leaf_told place.Directory node i s = record s { nodes = changed node (node_with i) s.nodes }
 leaf_told place.File node i s = record s { nodes = changed node (node_with i) s.nodes }
 leaf_told place.Extent node i s = record s { extent = extent_with i s.extent }
+leaf_told place.Xattr node i s = record s { xattr = xattr_with i s.xattr }
 leaf_told _ node i s = s
 
 abbrev pub one_more : RawExtent → Kind → Kind
 one_more e kinds.Dir = kinds.Dir
-one_more e (kinds.File bytes extents) = kinds.File bytes (extents ++ e ∷ [])
+one_more e (kinds.File size extents) = kinds.File size (extents ++ e ∷ [])
 one_more e (kinds.Link text) = kinds.Link text
 
 abbrev pub with_extent : RawExtent → NodeValue → NodeValue
 with_extent e n = record n { kind = one_more e n.kind }
 
--- a parent ends
+abbrev pub with_xattr : Xattr → NodeValue → NodeValue
+with_xattr x n = record n { facts = record n.facts { xattrs = n.facts.xattrs ++ x ∷ [] } }
+
+-- a parent ends; of an attribute nothing is left then but in its node
 abbrev pub ended : Place → ℕ → State → State
 ended place.Extent node s = record s { nodes = changed node (with_extent s.extent) s.nodes }
+ended place.Xattr node s = record s { nodes = changed node (with_xattr s.xattr) s.nodes; xattr = blank_xattr }
 ended _ node s = s
 
 -- ---- elements

@@ -6,19 +6,21 @@ ghost use Rattle.tape_types.specs.Times.{civil_of};
 ghost use Rattle.doc_fields.specs.declared.tags.Tag.TheVariants as tags;
 ghost use Rattle.index_model.specs.declared.nodes.Kind.TheVariants as kinds;
 ghost use Rattle.doc_elements.specs.Elements.{plain};
-ghost use Rattle.doc_elements.specs.Pieces.{letter, number, words, time, uuid, truth, lock};
+ghost use Rattle.doc_elements.specs.Pieces.{bytes, letter, number, words, time, uuid, truth, lock};
 ghost use Rattle.index_model.specs.Values.{facts_of, value_of, volume_of};
 ghost use Rattle.doc_elements.specs.Answers.{val_of};
 ghost use Rattle.index_read.specs.Drafts.{state_of};
-ghost use Rattle.index_read.specs.Told.{begun, blank, blank_node, blank_volume, changed, ended, epoch, extent_with};
-ghost use Rattle.index_read.specs.Told.{facts_with, kind_with, leaf_told, node_with, one_more, policy_with, spot_with};
-ghost use Rattle.index_read.specs.Told.{volume_with, with_extent};
+ghost use Rattle.index_read.specs.Told.{begun, blank, blank_node, blank_volume, blank_xattr, changed, ended, epoch};
+ghost use Rattle.index_read.specs.Told.{extent_with, facts_with, kind_with, leaf_told, node_with, one_more, policy_with};
+ghost use Rattle.index_read.specs.Told.{spot_with, volume_with, with_extent, with_xattr, xattr_with};
 
 use doc_elements::{Place, Value};
 use doc_fields::{LockState, Tag};
 use index_model::{Index, Kind, Node, Policy, RawExtent, Spot, TextList};
+use node_keys::Xattr;
 use std::alloc::Global;
-use tape_types::{List, Moment, NoMemory, Text, Times};
+use std::mem;
+use tape_types::{Bytes, List, Moment, NoMemory, Text, Times};
 
 const BLANK_SPOT: Spot = Spot {
     letter: 0,
@@ -207,18 +209,58 @@ fn put_node(node: &mut Node, tag: Tag, value: Value)
     }
 }
 
-/// An index of which a part has been read: its nodes apart, and the extent that is being read.
+fn put_key(xattr: &mut Xattr, tag: Tag, text: Text)
+    ensures { xattr.new ≡ xattr_with (plain tag (words text)) xattr.old }
+{
+    match tag {
+        Tag::Key => xattr.key = text,
+        _ => {}
+    }
+}
+
+fn put_bytes(xattr: &mut Xattr, tag: Tag, value: Bytes)
+    ensures { xattr.new ≡ xattr_with (plain tag (bytes value)) xattr.old }
+{
+    match tag {
+        Tag::Value => xattr.value = value,
+        _ => {}
+    }
+}
+
+fn put_xattr(xattr: &mut Xattr, tag: Tag, value: Value)
+    ensures { xattr.new ≡ xattr_with (plain tag (val_of value)) xattr.old }
+{
+    match value {
+        Value::Text(text) => put_key(xattr, tag, text),
+        Value::Bytes(bytes) => put_bytes(xattr, tag, bytes),
+        _ => {}
+    }
+}
+
+/// An index of which a part has been read: its nodes apart, and the extent and the extended
+/// attribute that are being read.
 #[derive(Drop)]
 pub struct Draft {
     pub index: Index,
     pub nodes: Vec<Node>,
     pub extent: RawExtent,
+    pub xattr: Xattr,
 }
 
 fn no_text(alloc: Global) -> Text
     ensures { result ≡ [] }
 {
     Text::from_string(String::new(alloc))
+}
+
+/// An extended attribute of which nothing has been told.
+fn blank_xattr(alloc: Global) -> Xattr
+    ensures { result ≡ blank_xattr }
+{
+    Xattr {
+        key: no_text(alloc),
+        value: Bytes::new(alloc),
+    }
 }
 
 fn blank_index(alloc: Global) -> Index
@@ -250,6 +292,7 @@ fn blank_node(alloc: Global, parent: u32, kind: Kind) -> Node
         name: no_text(alloc),
         times: Times::all_at(Moment { secs: 0, nanos: 0 }),
         readonly: false,
+        xattrs: List::new(alloc),
         kind,
     }
 }
@@ -299,27 +342,24 @@ fn tell_node(nodes: &mut Vec<Node>, at: u32, tag: Tag, value: Value)
     }
 }
 
-/// The list of one extent, with room for no more, since most files have just one.
-fn one_extent(alloc: Global, extent: RawExtent) -> Result<List<RawExtent>, NoMemory>
-    ensures { IfOk result (λ extents. extents ≡ extent ∷ []) }
+/// The list of one item, with room for no more.
+fn list_of_one<T: Drop>(alloc: Global, item: T) -> Result<List<T>, NoMemory>
+    ensures { IfOk result (λ items. items ≡ item ∷ []) }
 {
-    let mut extents = Vec::with_capacity(alloc, 1)?;
-    extents.push(extent)?;
-    Ok(List::from_vec(extents))
+    let mut items = Vec::with_capacity(alloc, 1)?;
+    items.push(item)?;
+    Ok(List::from_vec(items))
 }
 
-/// Puts an extent behind others.
-fn push_extent(
-    alloc: Global,
-    extents: &mut List<RawExtent>,
-    extent: RawExtent,
-) -> Result<(), NoMemory>
-    ensures { OnOk result (extents.new ≡ extents.old ++ extent ∷ []) }
+/// Puts an item behind others. The first one gets room for no more, since most files have one
+/// extent, and most nodes that have an extended attribute have just one.
+fn push_item<T: Drop>(alloc: Global, items: &mut List<T>, item: T) -> Result<(), NoMemory>
+    ensures { OnOk result (items.new ≡ items.old ++ item ∷ []) }
 {
-    if extents.len() == 0 {
-        *extents = one_extent(alloc, extent)?;
+    if items.len() == 0 {
+        *items = list_of_one(alloc, item)?;
     } else {
-        extents.push(extent)?;
+        items.push(item)?;
     }
     Ok(())
 }
@@ -328,7 +368,7 @@ fn add_extent(alloc: Global, kind: &mut Kind, extent: RawExtent) -> Result<(), N
     ensures { OnOk result (kind.new ≡ one_more extent kind.old) }
 {
     match kind {
-        Kind::File { extents, .. } => push_extent(alloc, extents, extent),
+        Kind::File { extents, .. } => push_item(alloc, extents, extent),
         _ => Ok(()),
     }
 }
@@ -349,6 +389,25 @@ fn tell_extent(
     }
 }
 
+/// Gives a node one extended attribute more.
+fn tell_xattr(
+    alloc: Global,
+    nodes: &mut Vec<Node>,
+    at: u32,
+    xattr: Xattr,
+) -> Result<(), NoMemory>
+    ensures { OnOk result (map value_of nodes.new.items
+        ≡ changed at (with_xattr xattr) (map value_of nodes.old.items)) }
+{
+    match nodes.get_mut(at as usize) {
+        Some(node) => push_item(alloc, &mut node.xattrs, xattr),
+        None => {
+            drop(xattr);
+            Ok(())
+        }
+    }
+}
+
 fn push_node(alloc: Global, nodes: &mut Vec<Node>, parent: u32, kind: Kind) -> Result<(), NoMemory>
     ensures { OnOk result (map value_of nodes.new.items ≡ map value_of nodes.old.items ++ blank_node parent kind ∷ []) }
 {
@@ -365,6 +424,7 @@ impl Draft {
             index: blank_index(alloc),
             nodes: Vec::new(alloc),
             extent: BLANK_EXTENT,
+            xattr: blank_xattr(alloc),
         }
     }
 
@@ -385,6 +445,7 @@ impl Draft {
             Place::Directory => push_node(alloc, &mut self.nodes, node, Kind::Dir)?,
             Place::File => push_file(alloc, &mut self.nodes, node)?,
             Place::Extent => self.extent = BLANK_EXTENT,
+            Place::Xattr => self.xattr = blank_xattr(alloc),
             _ => {}
         }
         Ok(())
@@ -404,6 +465,7 @@ impl Draft {
                 tell_node(&mut self.nodes, node, tag, value)
             }
             Place::Extent => put_extent(&mut self.extent, tag, &value),
+            Place::Xattr => put_xattr(&mut self.xattr, tag, value),
             _ => drop(value),
         }
         Ok(())
@@ -415,6 +477,10 @@ impl Draft {
     {
         match place {
             Place::Extent => tell_extent(alloc, &mut self.nodes, node, self.extent),
+            Place::Xattr => {
+                let xattr = mem::replace(&mut self.xattr, blank_xattr(alloc));
+                tell_xattr(alloc, &mut self.nodes, node, xattr)
+            }
             _ => Ok(()),
         }
     }

@@ -83,8 +83,8 @@ fn read(alloc: Global, text: &[u8]) -> Result<Index, IndexErr>
 /// What is wrong with the first piece that doesn't fit, a tag of a parent or a whole leaf: the
 /// first variant that holds of it, in the order `Unknown`, `Twice`, `Version`, `TooMany`,
 /// `Missing`, `Number`, `Name`, `Syntax`. Where all of the text is read, the first fault of the
-/// index as a whole: `Uid`, `SameName`, `Extent` or `Overlap`. `NoMemory` where memory is
-/// refused.
+/// index as a whole: `Uid`, `SameName`, `SameKey`, `Extent` or `Overlap`. `NoMemory` where memory
+/// is refused.
 pub fn read_index(alloc: Global, text: &[u8]) -> Result<Index, IndexErr>
     ensures found { IfOk result (λ index. IndexText text.now index) }
     ensures only { (index : IndexOf) → IndexText text.now index → IsReadOr result index }
