@@ -49,13 +49,13 @@ joined [] b front back i = back i
 joined (x ∷ a) b front back zero = front 0
 joined (x ∷ a) b front back (suc i) = joined a b (λ k. front (suc k)) back i
 
-three : (x y z : ℕ) → x < 256 → y < 256 → z < 256 → IsBytes (x ∷ y ∷ z ∷ [])
+pub three : (x y z : ℕ) → x < 256 → y < 256 → z < 256 → IsBytes (x ∷ y ∷ z ∷ [])
 three x y z first second third zero = first
 three x y z first second third (suc zero) = second
 three x y z first second third (suc (suc zero)) = third
 three x y z first second third (suc (suc (suc i))) = omega arith
 
-neither : (x y : Option DecodeError) → or_else x y ≡ None → (x ≡ None) × (y ≡ None)
+pub neither : (x y : Option DecodeError) → or_else x y ≡ None → (x ≡ None) × (y ≡ None)
 neither None y e = (refl, e)
 neither (Some x) y e = absurd (let bad : ◌≡◌ {A = Option DecodeError} (Some x) None = e in cc)
 
@@ -76,7 +76,7 @@ group dec s i table bytes none =
     let d = value dec s (i + 3) table bytes p2.1 in
     three _ _ _ (omega (arith, a, b)) (omega (arith, b, c)) (omega (arith, c, d))
 
-groups : (dec s : List ℕ) (q : ℕ) → IsDecodeTable dec → IsBytes s → groups_error dec s q ≡ None → IsBytes (groups_bytes dec s q)
+pub groups : (dec s : List ℕ) (q : ℕ) → IsDecodeTable dec → IsBytes s → groups_error dec s q ≡ None → IsBytes (groups_bytes dec s q)
 unfolding groups_error groups_bytes
 groups dec s zero table bytes none i = omega arith
 groups dec s (suc q) table bytes none i =
@@ -85,7 +85,7 @@ groups dec s (suc q) table bytes none i =
 
 -- ---- a block that stands for no 768 bytes
 
-outcome : (x : Option DecodeError) (d b : List ℕ) → decode_outcome x d ≡ Ok b → x ≡ None
+pub outcome : (x : Option DecodeError) (d b : List ℕ) → decode_outcome x d ≡ Ok b → x ≡ None
 outcome None d b e = refl
 outcome (Some x) d b e = cc e
 

@@ -38,7 +38,7 @@ from_ok (Ok x) bs e =
     ap {B = Result (List ℕ) DecodeError} (λ y. Ok y) same
 from_ok (Err d) bs e = absurd (let bad : ◌≡◌ {A = Option (List ℕ)} None (Some bs) = e in cc)
 
-decoded : (text bs : List ℕ) → from_base64 text ≡ Some bs → decode_of standard (without_space text) ≡ Ok bs
+pub decoded : (text bs : List ℕ) → from_base64 text ≡ Some bs → decode_of standard (without_space text) ≡ Ok bs
 unfolding from_base64 decoded_of
 decoded text bs e = from_ok (decode_of standard (without_space text)) bs e
 

@@ -3,7 +3,8 @@ use Rattle.std.proofs.Common.{◌≡◌, ◌⊎◌, inl, inr, ℕ, ◌+◌, ◌<
 use Rattle.std.specs.Prelude.{⊤}
 use Rattle.std.specs.List.{AllByRecursion}
 use Rattle.std.specs.Option.{option_map}
-use Rattle.doc_fields.specs.declared.tags.Tag.TheVariants.{Creator, Comment, VolumeUuid, GenerationNumber, Partition, StartBlock, Size, Name, Symlink, FileOffset, ByteOffset, ByteCount}
+use Rattle.node_keys.specs.declared.xattrs.Xattr.{Xattr}
+use Rattle.doc_fields.specs.declared.tags.Tag.TheVariants.{Creator, Comment, VolumeUuid, GenerationNumber, Partition, StartBlock, Size, Name, Symlink, FileOffset, ByteOffset, ByteCount, Key, Value}
 use Rattle.index_model.specs.declared.indexes.Policy.{Policy}
 use Rattle.index_model.specs.declared.indexes.Spot.{Spot}
 use Rattle.index_model.specs.declared.nodes.RawExtent.{RawExtent}
@@ -13,9 +14,11 @@ use Rattle.doc_elements.specs.declared.schema.Form.TheVariants as form
 use Rattle.doc_elements.specs.declared.schema.Child.TheVariants as child
 use Rattle.index_model.specs.Extents.{IsExtent}
 use Rattle.doc_elements.specs.Elements.{Item, plain, bare, nested, Items, no_items, item, nodes_of, node_count}
-use Rattle.index_model.specs.Grammar.{told, inside, own_children, or_else, TellsMaybe, TellsSpot, TellsPolicy, TellsVolume, TellsFacts, TellsExtent, TellsExtents, HasExtents, TellsFile, TellsLink, TellsNodes, TellsContents}
+use Rattle.index_model.specs.Grammar.{told, inside, own_children, or_else, TellsMaybe, TellsSpot, TellsPolicy, TellsVolume, TellsFacts, TellsExtent, TellsExtents, HasExtents, TellsXattr, TellsXattrs, HasXattrs, TellsFile, TellsLink, TellsNodes, TellsContents}
+use Rattle.index_model.specs.Keys.{IsXattr}
 use Rattle.index_model.specs.Names.{IsNodeName, IsVolumeName}
 use Rattle.doc_elements.specs.Pieces.{words, uuid, letter, number}
+use Rattle.doc_elements.specs.Pieces as val
 use Rattle.doc_elements.specs.Schema.{rule}
 use Rattle.index_model.specs.Texts.{IsPlainText}
 use Rattle.index_model.specs.Valid.{IsPolicy, IsSpot}
@@ -103,30 +106,58 @@ has_formed is es ranged t = by (inside place.ExtentInfo is) refl t
     by None e h = subst (AllByRecursion IsExtent) (sym h) tt
     by (Some js) e h = extents_formed js es (inside_ranged place.File is place.ExtentInfo js ranged e) h
 
+-- ---- extended attributes
+
+xattr_formed : (is : Items) (x : Xattr) → AreRanged place.Xattr is → TellsXattr is x → IsXattr x
+xattr_formed is x ranged t =
+    let key = told_range place.Xattr is Key form.Key (words x.key) ranged refl t.key in
+    record { utf8 = key.0; key = key.1; bytes = told_range place.Xattr is Value form.Value (val.bytes x.value) ranged refl t.value }
+
+xattrs_formed : (is : Items) (xs : List Xattr) → AreRanged place.Attributes is → TellsXattrs is xs → AllByRecursion IsXattr xs
+xattrs_formed no_items xs ranged t = subst (AllByRecursion IsXattr) (sym t) tt
+xattrs_formed (item (plain u v) is) xs ranged t = xattrs_formed is xs ranged.1 t
+xattrs_formed (item (bare q) is) xs ranged t = xattrs_formed is xs ranged.1 t
+xattrs_formed (item (nested place.Xattr x) is) xs ranged t =
+    let all : AllByRecursion IsXattr (t.0 ∷ t.1) = (xattr_formed x t.0 ranged.0 t.3, xattrs_formed is t.1 ranged.1 t.4) in
+    subst (AllByRecursion IsXattr) (sym t.2) all
+xattrs_formed (item (nested _ x) is) xs ranged t = xattrs_formed is xs ranged.1 t
+
+pub all_xattrs : (p : Place) (is : Items) (f : NodeFacts) → AreRanged p is → TellsFacts is f → AllByRecursion IsXattr f.xattrs
+all_xattrs p is f ranged t = by (inside place.Attributes is) refl t.xattrs
+  where
+    by : (o : Option Items) → inside place.Attributes is ≡ o → HasXattrs o f.xattrs → AllByRecursion IsXattr f.xattrs
+    by None e h = subst (AllByRecursion IsXattr) (sym h) tt
+    by (Some js) e h = xattrs_formed js f.xattrs (inside_ranged p is place.Attributes js ranged e) h
+
 -- ---- nodes
+
+-- what is seen of the facts of each node but the root by themselves
+pub record AreFacts (f : NodeFacts) : Type 0 where
+  pub name : IsNodeName f.name
+  pub xattrs : AllByRecursion IsXattr f.xattrs
 
 -- what is seen of each node by itself
 abbrev pub AreFormed : Nodes → Type 0
 AreFormed no_nodes = ⊤
-AreFormed (directory f inside behind) = IsNodeName f.name × AreFormed inside × AreFormed behind
-AreFormed (file f bytes extents behind) = IsNodeName f.name × AllByRecursion IsExtent extents × AreFormed behind
-AreFormed (link f text behind) = IsNodeName f.name × IsUtf8 text × AreFormed behind
+AreFormed (directory f inside behind) = AreFacts f × AreFormed inside × AreFormed behind
+AreFormed (file f bytes extents behind) = AreFacts f × AllByRecursion IsExtent extents × AreFormed behind
+AreFormed (link f text behind) = AreFacts f × IsUtf8 text × AreFormed behind
 
 pub root_named : (is : Items) (f : NodeFacts) → AreRanged place.Root is → TellsFacts is f → IsVolumeName f.name
 root_named is f ranged t = told_range place.Root is Name form.VolumeName (words f.name) ranged refl t.name
 
-directory_named : (is : Items) (f : NodeFacts) → AreRanged place.Directory is → TellsFacts is f → IsNodeName f.name
-directory_named is f ranged t = told_range place.Directory is Name form.NodeName (words f.name) ranged refl t.name
+directory_facts : (is : Items) (f : NodeFacts) → AreRanged place.Directory is → TellsFacts is f → AreFacts f
+directory_facts is f ranged t = record { name = told_range place.Directory is Name form.NodeName (words f.name) ranged refl t.name; xattrs = all_xattrs place.Directory is f ranged t }
 
-file_named : (is : Items) (f : NodeFacts) → AreRanged place.File is → TellsFacts is f → IsNodeName f.name
-file_named is f ranged t = told_range place.File is Name form.NodeName (words f.name) ranged refl t.name
+file_facts : (is : Items) (f : NodeFacts) → AreRanged place.File is → TellsFacts is f → AreFacts f
+file_facts is f ranged t = record { name = told_range place.File is Name form.NodeName (words f.name) ranged refl t.name; xattrs = all_xattrs place.File is f ranged t }
 
 file_formed : (is : Items) (nodes behind : Nodes) → AreRanged place.File is → TellsFile is nodes behind ⊎ TellsLink is nodes behind → AreFormed behind → AreFormed nodes
 file_formed is nodes behind ranged (inl t) rest =
-    let one : AreFormed (file t.facts t.bytes t.extents behind) = (file_named is t.facts ranged t.tells, has_formed is t.extents ranged t.has, rest) in
+    let one : AreFormed (file t.facts t.bytes t.extents behind) = (file_facts is t.facts ranged t.tells, has_formed is t.extents ranged t.has, rest) in
     subst AreFormed (sym t.node) one
 file_formed is nodes behind ranged (inr t) rest =
-    let one : AreFormed (link t.facts t.text behind) = (file_named is t.facts ranged t.tells, told_range place.File is Symlink form.AnyName (words t.text) ranged refl t.told_text, rest) in
+    let one : AreFormed (link t.facts t.text behind) = (file_facts is t.facts ranged t.tells, told_range place.File is Symlink form.AnyName (words t.text) ranged refl t.told_text, rest) in
     subst AreFormed (sym t.node) one
 
 mutual
@@ -135,7 +166,7 @@ mutual
   nodes_formed (item (plain u v) is) nodes ranged t = nodes_formed is nodes ranged.1 t
   nodes_formed (item (bare q) is) nodes ranged t = nodes_formed is nodes ranged.1 t
   nodes_formed (item (nested place.Directory x) is) nodes ranged t =
-      let one : AreFormed (directory t.0 t.1 t.2) = (directory_named x t.0 ranged.0 t.4, contents_formed place.Directory x t.1 ranged.0 t.5, nodes_formed is t.2 ranged.1 t.6) in
+      let one : AreFormed (directory t.0 t.1 t.2) = (directory_facts x t.0 ranged.0 t.4, contents_formed place.Directory x t.1 ranged.0 t.5, nodes_formed is t.2 ranged.1 t.6) in
       subst AreFormed (sym t.3) one
   nodes_formed (item (nested place.File x) is) nodes ranged t = file_formed x nodes t.0 ranged.0 t.1 (nodes_formed is t.0 ranged.1 t.2)
   nodes_formed (item (nested _ x) is) nodes ranged t = nodes_formed is nodes ranged.1 t

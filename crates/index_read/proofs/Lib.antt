@@ -17,6 +17,7 @@ pub mod Assembled
 pub mod Same
 pub mod Exact
 pub mod PlainTexts
+pub mod DecodedBytes
 pub mod Uuids
 pub mod Ranges
 pub mod Ranged

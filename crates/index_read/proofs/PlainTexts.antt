@@ -1,4 +1,4 @@
--- A text that is read is UTF-8, and has only characters that a document may have.
+-- A text that is read is UTF-8 and bytes, and has only characters that a document may have.
 use Rattle.std.proofs.Common.{◌≡◌, ℕ, zero, suc, ◌+◌, ◌*◌, List, [], ◌∷◌, Bool, true, false, cond, ◌==◌, ◌&&◌, length, take, drop, Option, Some, None, Ok, Err, refl, sym, ap, subst, ◌∙◌, arith}
 use Rattle.std.specs.Char.{encode_utf8}
 use Rattle.std.specs.List.{list_all}
@@ -11,6 +11,8 @@ use Rattle.doc_fields.specs.Reading.{Read, ◌>>=◌, begins, between, syntax_at
 use Rattle.doc_fields.specs.Texts.{is_allowed, named, digit_of, and_then, finished, numbered, reference, line_feeds, put_front, referred, unit_at, with_unit, resolved, resolved_text, run_text, text_at, text_end}
 use Rattle.doc_fields.specs.Values.{first_word}
 use Rattle.doc_fields.proofs.Again.{both}
+use Rattle.doc_fields.proofs.Allowed.{characters_are_bytes}
+use Rattle.base64.specs.GeneralPurpose.{IsBytes}
 use Rattle.index_model.specs.Texts.{IsPlainText}
 
 read_ok : {A B : Type 0} (r : Read A) (f : A → Read B) (y : B) → (r >>= f) ≡ Ok y → (x : A) × (r ≡ Ok x) × (f x ≡ Ok y)
@@ -116,27 +118,35 @@ plain_encoded cs e =
     let valid = all_scalar cs e in
     record { utf8 = (cs, (valid, refl)); allowed = ap (list_all is_allowed) (chars-encodes cs valid) ∙ e }
 
-resolved_plain : (cut : Bool) (at : ℕ) (text out : List ℕ) → resolved_text cut at text ≡ Ok out → IsPlainText out
+-- what is known of a text that is read
+pub record IsRead (text : List ℕ) : Type 0 where
+  pub plain : IsPlainText text
+  pub bytes : IsBytes text
+
+resolved_read : (cut : Bool) (at : ℕ) (text out : List ℕ) → resolved_text cut at text ≡ Ok out → IsRead out
 unfolding resolved_text
-resolved_plain cut at text out e =
+resolved_read cut at text out e =
     let a = read_ok (resolved cut 0 at (chars text)) _ out e in
     let same : encode_utf8_all a.0 ≡ out = cc (a.2) in
-    subst IsPlainText same (plain_encoded a.0 (all_good cut 0 at (chars text) a.0 a.1))
+    subst IsRead same record {
+      plain = plain_encoded a.0 (all_good cut 0 at (chars text) a.0 a.1);
+      bytes = characters_are_bytes (record { cut = cut; place = at; rest = text }) a.0 a.1;
+    }
 
-run_plain : (ended : Bool) (at : ℕ) (run out : List ℕ) → run_text ended at run ≡ Ok out → IsPlainText out
+run_read : (ended : Bool) (at : ℕ) (run out : List ℕ) → run_text ended at run ≡ Ok out → IsRead out
 unfolding run_text
-run_plain ended at run out e = by (utf8_valid_len run == length run) e
+run_read ended at run out e = by (utf8_valid_len run == length run) e
   where
-    by : (b : Bool) → cond b (resolved_text ended at run) (resolved_text false at (take (utf8_valid_len run) run) >>= λ _. syntax_at (at + utf8_valid_len run)) ≡ Ok out → IsPlainText out
-    by true h = resolved_plain ended at run out h
+    by : (b : Bool) → cond b (resolved_text ended at run) (resolved_text false at (take (utf8_valid_len run) run) >>= λ _. syntax_at (at + utf8_valid_len run)) ≡ Ok out → IsRead out
+    by true h = resolved_read ended at run out h
     by false h = absurd (let a = read_ok (resolved_text false at (take (utf8_valid_len run) run)) _ out h in let bad = a.2 in cc)
 
-pub text_plain : (text : List ℕ) (at : ℕ) (v : List ℕ × ℕ) → text_at text at ≡ Ok v → IsPlainText v.0
+pub text_read : (text : List ℕ) (at : ℕ) (v : List ℕ × ℕ) → text_at text at ≡ Ok v → IsRead v.0
 unfolding text_at
-text_plain text at v e =
+text_read text at v e =
     let a = read_ok (run_text (text_end text at == length text) at (between text at (text_end text at))) _ v e in
     let same : (a.0, text_end text at) ≡ v = cc (a.2) in
-    subst (λ (x : List ℕ × ℕ). IsPlainText x.0) same (run_plain _ at _ a.0 a.1)
+    subst (λ (x : List ℕ × ℕ). IsRead x.0) same (run_read _ at _ a.0 a.1)
 
 pub plain_nothing : IsPlainText []
 plain_nothing = plain_encoded [] refl

@@ -20,11 +20,14 @@ use Rattle.doc_elements.specs.declared.errors.PieceErr.{PieceErr}
 use Rattle.doc_elements.specs.declared.errors.PieceErr.TheVariants as errors
 use Rattle.doc_elements.specs.declared.schema.Form.{Form}
 use Rattle.doc_elements.specs.declared.schema.Form.TheVariants as form
+use Rattle.base64.specs.GeneralPurpose.{IsBytes}
+use Rattle.node_keys.specs.Keys.{is_key}
 use Rattle.index_model.specs.Names.{IsNodeName, IsVolumeName}
-use Rattle.doc_elements.specs.Pieces.{Val, words, uuid, letter, number, ◌>>=◌, lift, least, is_too_great, in_range, number_in, is_volume_name, is_name, is_encoded, name_in, name_of, named, value_in, empty_value, leaf_at}
+use Rattle.doc_elements.specs.Pieces.{Val, words, uuid, letter, number, bytes, ◌>>=◌, lift, least, is_too_great, in_range, number_in, is_volume_name, is_name, is_encoded, name_in, name_of, named, is_base64, from_base64, bytes_in, bytes_of, bytes_told, some_bytes, value_in, empty_value, leaf_at}
 use Rattle.index_model.specs.Texts.{IsLetter, IsPlainText}
 use Rattle.doc_elements.proofs.Inversion.{bind_ok, lift_ok, unless_ok}
-use Rattle.index_read.proofs.PlainTexts.{plain_nothing, text_plain}
+use Rattle.index_read.proofs.DecodedBytes.{base64_bytes}
+use Rattle.index_read.proofs.PlainTexts.{plain_nothing, text_read}
 use Rattle.index_read.proofs.Uuids.{uuid_fits}
 
 -- what is known of a value, by the form of its leaf
@@ -33,6 +36,8 @@ InRange form.Text (words t) = IsPlainText t
 InRange form.VolumeName (words t) = IsVolumeName t
 InRange form.NodeName (words t) = IsNodeName t
 InRange form.AnyName (words t) = IsUtf8 t
+InRange form.Key (words t) = IsUtf8 t × (is_key t ≡ true)
+InRange form.Value (bytes bs) = IsBytes bs
 InRange form.Uuid (uuid n) = n < 2 ^ 128
 InRange form.Letter (letter b) = IsLetter b
 InRange form.Bounded (number n) = n ≤ 2 ^ 62
@@ -68,16 +73,17 @@ any_name form.Text name valid e other = absurd (other refl)
 any_name form.VolumeName name valid e other = volume_name name valid e
 any_name form.NodeName name valid e other = node_name name valid e
 any_name form.AnyName name valid e other = valid
+any_name form.Key name valid e other = (valid, e)
 any_name _ name valid e other = tt
 
-named_range : (f : Form) (from : ℕ) (bytes name : List ℕ) → (f ≡ form.Text → ⊥) → named f from bytes ≡ Ok name → InRange f (words name)
-named_range f from bytes name other e = by (is_utf8 bytes && is_name f bytes) refl e
+named_range : (f : Form) (from : ℕ) (raw name : List ℕ) → (f ≡ form.Text → ⊥) → named f from raw ≡ Ok name → InRange f (words name)
+named_range f from raw name other e = by (is_utf8 raw && is_name f raw) refl e
   where
-    by : (b : Bool) → (is_utf8 bytes && is_name f bytes) ≡ b → cond b (Ok bytes) (Err (errors.Name from)) ≡ Ok name → InRange f (words name)
+    by : (b : Bool) → (is_utf8 raw && is_name f raw) ≡ b → cond b (Ok raw) (Err (errors.Name from)) ≡ Ok name → InRange f (words name)
     by true is h =
-        let parts = both (is_utf8 bytes) (is_name f bytes) is in
-        let same : bytes ≡ name = cc (h) in
-        subst (λ (t : List ℕ). InRange f (words t)) same (any_name f bytes (IsUtf8-from_is_utf8 bytes parts.0) parts.1 other)
+        let parts = both (is_utf8 raw) (is_name f raw) is in
+        let same : raw ≡ name = cc (h) in
+        subst (λ (t : List ℕ). InRange f (words t)) same (any_name f raw (IsUtf8-from_is_utf8 raw parts.0) parts.1 other)
     by false is h = absurd cc
 
 name_range : (f : Form) (from : ℕ) (start : Start) (text : List ℕ) (v : Val) (n : ℕ) → (f ≡ form.Text → ⊥) → name_in f from start text ≡ Ok (v, n) → InRange f v
@@ -90,6 +96,27 @@ name_range f from start text v n other e =
 
 empty_name : (f : Form) (from at : ℕ) (v : Val) (n : ℕ) → (f ≡ form.Text → ⊥) → ◌>>=◌ {B = Val × ℕ} (named f from []) (λ name. Ok (words name, at)) ≡ Ok (v, n) → InRange f v
 empty_name f from at v n other e = let b = bind_ok (named f from []) _ (v, n) e in as_value (InRange f) (words b.0) v _ n b.2 (named_range f from [] b.0 other b.1)
+
+-- ---- bytes
+
+some_is : (at : ℕ) (o : Option (List ℕ)) (bs : List ℕ) → some_bytes at o ≡ Ok bs → o ≡ Some bs
+some_is at (Some xs) bs e = let same : xs ≡ bs = cc (e) in ap (λ (l : List ℕ). Some l) same
+some_is at None bs e = absurd cc
+
+told_bytes : (in_base64 : Bool) (text bs : List ℕ) → IsBytes text → bytes_told in_base64 text ≡ Some bs → IsBytes bs
+told_bytes true text bs are e = base64_bytes text bs are e
+told_bytes false text bs are e = let same : text ≡ bs = cc (e) in subst IsBytes same are
+
+bytes_range : (start : Start) (text : List ℕ) (v : Val) (n : ℕ) → bytes_in start text ≡ Ok (v, n) → InRange form.Value v
+unfolding bytes_in
+bytes_range start text v n e =
+    let at = space_end text start.next in
+    let a = bind_ok (lift (text_at text start.next)) _ (v, n) e in
+    let b = bind_ok (bytes_of start.attribute text at a.0) _ (v, n) a.2 in
+    let shown = bytes_told (is_base64 start.attribute) a.0.0 in
+    let c = unless_ok (a.0.1 == length text) _ (some_bytes at shown) b.0 b.1 in
+    let read = text_read text start.next a.0 (lift_ok (text_at text start.next) a.0 a.1) in
+    as_value (InRange form.Value) (bytes b.0) v _ n b.2 (told_bytes (is_base64 start.attribute) a.0.0 b.0 read.bytes (some_is at shown b.0 c.1))
 
 -- ---- numbers, letters and identifiers
 
@@ -141,10 +168,12 @@ uuid_range text at x e = by (nat_le (at + 36) (length text)) e
 value_range : (f : Form) (from : ℕ) (start : Start) (text : List ℕ) (v : Val) (n : ℕ) → value_in f from start text ≡ Ok (v, n) → InRange f v
 value_range form.Text from start text v n e =
     let b = bind_ok (lift (text_at text start.next)) _ (v, n) e in
-    as_value (InRange form.Text) (words b.0.0) v _ n b.2 (text_plain text start.next b.0 (lift_ok (text_at text start.next) b.0 b.1))
+    as_value (InRange form.Text) (words b.0.0) v _ n b.2 (text_read text start.next b.0 (lift_ok (text_at text start.next) b.0 b.1)).plain
 value_range form.VolumeName from start text v n e = name_range form.VolumeName from start text v n (λ h. cc h) e
 value_range form.NodeName from start text v n e = name_range form.NodeName from start text v n (λ h. cc h) e
 value_range form.AnyName from start text v n e = name_range form.AnyName from start text v n (λ h. cc h) e
+value_range form.Key from start text v n e = name_range form.Key from start text v n (λ h. cc h) e
+value_range form.Value from start text v n e = bytes_range start text v n e
 value_range form.Uuid from start text v n e =
     let at = space_end text start.next in
     let b = bind_ok (lift (uuid_at text at)) _ (v, n) e in
@@ -163,8 +192,8 @@ empty_range form.Text from at v n e = as_value (InRange form.Text) (words []) v 
 empty_range form.VolumeName from at v n e = empty_name form.VolumeName from at v n (λ h. cc h) e
 empty_range form.NodeName from at v n e = empty_name form.NodeName from at v n (λ h. cc h) e
 empty_range form.AnyName from at v n e = empty_name form.AnyName from at v n (λ h. cc h) e
-empty_range form.Key from at v n e = tt
-empty_range form.Value from at v n e = tt
+empty_range form.Key from at v n e = empty_name form.Key from at v n (λ h. cc h) e
+empty_range form.Value from at v n e = as_value (InRange form.Value) (bytes []) v _ n e (λ i. omega arith)
 empty_range _ from at v n e = absurd cc
 
 pub leaf_range : (f : Form) (tag : Tag) (from : ℕ) (start : Start) (text : List ℕ) (v : Val) (n : ℕ) → leaf_at f tag from start text ≡ Ok (v, n) → InRange f v

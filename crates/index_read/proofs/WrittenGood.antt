@@ -1,13 +1,14 @@
 -- The elements of a valid index are read where they are written.
 use Rattle.std.proofs.Common.{◌≡◌, ℕ, ◌≤◌, ◌<◌, ◌^◌, Bool, true, false, not, ◌&&◌, List, [], ◌∷◌, length, Option, Some, None, IfSome, IsUtf8, refl}
-use Rattle.std.specs.Prelude.{⊤}
+use Rattle.std.specs.Prelude.{⊤, if◌then◌else◌}
 use Rattle.std.specs.List.{AllByRecursion}
 use Rattle.tape_types.specs.declared.moments.Moment.{Moment}
 use Rattle.tape_types.specs.declared.times.Civil.{Civil}
 use Rattle.tape_types.specs.Times.{civil_of}
 use Rattle.doc_fields.specs.declared.tags.Tag.{Tag}
-use Rattle.doc_fields.specs.declared.tags.Tag.TheVariants.{Creator, Comment, VolumeUuid, Partition, GenerationNumber, UpdateTime, StartBlock, AllowPolicyUpdate, Size, VolumeLockState, HighestFileUid, FileUid, Name, Length, CreationTime, ChangeTime, ModifyTime, AccessTime, BackupTime, ReadOnly, Symlink, FileOffset, ByteOffset, ByteCount}
-use Rattle.doc_fields.specs.declared.starts.Attribute.TheVariants.{Absent}
+use Rattle.doc_fields.specs.declared.tags.Tag.TheVariants.{Creator, Comment, VolumeUuid, Partition, GenerationNumber, UpdateTime, StartBlock, AllowPolicyUpdate, Size, VolumeLockState, HighestFileUid, FileUid, Name, Length, CreationTime, ChangeTime, ModifyTime, AccessTime, BackupTime, ReadOnly, Symlink, FileOffset, ByteOffset, ByteCount, ExtendedAttributes, Key, Value}
+use Rattle.doc_fields.specs.declared.starts.Attribute.TheVariants.{Absent, Base64, Plain}
+use Rattle.node_keys.specs.declared.xattrs.Xattr.{Xattr}
 use Rattle.doc_fields.specs.declared.values.LockState.{LockState}
 use Rattle.doc_fields.specs.Tags.{spelled}
 use Rattle.doc_fields.specs.Written.{may_have}
@@ -24,16 +25,20 @@ use Rattle.doc_elements.specs.declared.schema.Form.{Form}
 use Rattle.doc_elements.specs.declared.schema.Form.TheVariants as form
 use Rattle.doc_elements.specs.declared.schema.Child.TheVariants as child
 use Rattle.index_model.specs.Canonical.{encoding}
+use Rattle.doc_elements.specs.Written.{bytes_type, is_text}
 use Rattle.index_model.specs.Extents.{IsExtent}
+use Rattle.index_model.specs.Keys.{IsXattr}
 use Rattle.doc_elements.specs.Elements.{Item, plain, nested, Items, no_items, item}
 use Rattle.index_model.specs.Names.{IsVolumeName, IsNodeName}
 use Rattle.doc_elements.specs.Pieces.{Val, words, time, uuid, letter, number, truth, lock}
+use Rattle.doc_elements.specs.Pieces as val
 use Rattle.doc_elements.specs.Schema.{rule, tag_of}
 use Rattle.index_model.specs.Texts.{IsPlainText}
 use Rattle.index_model.specs.Valid.{IsSpot, IsPolicy}
 use Rattle.index_model.specs.Values.{TimesValue, NodeFacts, Nodes, no_nodes, directory, file, link, VolumeFacts, IndexValue}
 use Rattle.doc_elements.proofs.WrittenItems.{attribute_of, GoodItem, GoodItems, ReadsBack, stand}
-use Rattle.index_read.proofs.WrittenItems.{back_item, comment_item, directory_items, extent_items, extents_items, file_items, index_items, items_of, lock_item, maybe, name_items, nodes_items, policy_item, spot_items, times_items}
+use Rattle.index_read.proofs.WrittenItems.{attributes_items, back_item, comment_item, directory_items, extent_items, extents_items, file_items, index_items, items_of, lock_item, maybe, name_items, nodes_items, policy_item, spot_items, times_items, xattr_items, xattrs_items}
+use Rattle.doc_elements.proofs.WrittenAttributes.{key_back, value_back}
 use Rattle.doc_elements.proofs.WrittenValues.{creator_back, time_back, truth_back, uuid_back}
 use Rattle.index_read.proofs.WrittenValues.{bounded_back, comment_back, generation_back, letter_back, lock_back, node_name_back, number_back, pattern_back, target_back, volume_name_back}
 
@@ -54,6 +59,7 @@ pub record AreMoments (t : TimesValue) : Type 0 where
 pub record GoodFacts (f : NodeFacts) : Type 0 where
   pub uid : f.uid < 2 ^ 64
   pub times : AreMoments f.times
+  pub xattrs : AllByRecursion IsXattr f.xattrs
 
 abbrev pub GoodNodes : Nodes → Type 0
 GoodNodes no_nodes = ⊤
@@ -98,6 +104,20 @@ may_link : (text : List ℕ) → may_have Symlink (encoding (written text)) ≡ 
 may_link text = go (written text).percent
   where
     go : (b : Bool) → may_have Symlink (encoding (record { text = []; percent = b })) ≡ true
+    go true = refl
+    go false = refl
+
+may_key : (key : List ℕ) → may_have Key (encoding (written key)) ≡ true
+may_key key = go (written key).percent
+  where
+    go : (b : Bool) → may_have Key (encoding (record { text = []; percent = b })) ≡ true
+    go true = refl
+    go false = refl
+
+may_value : (bs : List ℕ) → may_have Value (bytes_type bs) ≡ true
+may_value bs = go (is_text bs)
+  where
+    go : (b : Bool) → may_have Value (if b then Plain else Base64) ≡ true
     go true = refl
     go false = refl
 
@@ -165,6 +185,26 @@ extents_good : (es : List RawExtent) → AllByRecursion IsExtent es → GoodItem
 extents_good [] h = tt
 extents_good (e ∷ es) h = (extent_good e h.0, extents_good es h.1)
 
+-- ---- extended attributes
+
+xattr_good : (x : Xattr) → IsXattr x → GoodItem place.Attributes (nested place.Xattr (xattr_items x))
+xattr_good x h = parent_good place.Attributes place.Xattr (xattr_items x) refl refl refl refl (
+  leaf_good place.Xattr Key (words x.key) form.Key refl (may_key x.key) refl (key_back x.key h.utf8 h.key),
+  (leaf_good place.Xattr Value (val.bytes x.value) form.Value refl (may_value x.value) refl (value_back x.value h.bytes), tt),
+)
+
+xattrs_stand : (xs : List Xattr) (seen : List Tag) → stand place.Attributes seen (xattrs_items xs) ≡ true
+xattrs_stand [] seen = refl
+xattrs_stand (x ∷ xs) seen = rw (repeats (member (tag_of place.Xattr) seen)) (xattrs_stand xs (tag_of place.Xattr ∷ seen))
+
+xattrs_good : (xs : List Xattr) → AllByRecursion IsXattr xs → GoodItems place.Attributes (xattrs_items xs)
+xattrs_good [] h = tt
+xattrs_good (x ∷ xs) h = (xattr_good x h.0, xattrs_good xs h.1)
+
+attributes_good : (p : Place) (xs : List Xattr) (behind : Items) → rule p ExtendedAttributes ≡ child.Parent place.Attributes → AllByRecursion IsXattr xs → GoodItems p behind → GoodItems p (attributes_items xs behind)
+attributes_good p [] behind r h good = good
+attributes_good p (x ∷ xs) behind r h good = (parent_good p place.Attributes (xattrs_items (x ∷ xs)) r refl refl (xattrs_stand (x ∷ xs) []) (xattrs_good (x ∷ xs) h), good)
+
 -- ---- directories and files
 
 -- a parent in which the times of a node stand
@@ -203,38 +243,68 @@ file_good f bytes last h name fits good = (
     leaf_good place.File Name (words f.name) form.NodeName refl (may_name f.name) refl (node_name_back f.name name),
     (
       leaf_good place.File Length (number bytes) form.Number refl refl refl (number_back Length bytes fits),
-      times_good place.File f.times (item (plain ReadOnly (truth f.readonly)) (item last no_items)) record { create = refl; change = refl; modify = refl; access = refl; backup = refl } h.times
-          (leaf_good place.File ReadOnly (truth f.readonly) form.Truth refl refl refl (truth_back ReadOnly f.readonly), (good, tt)),
+      times_good place.File f.times (item (plain ReadOnly (truth f.readonly)) (attributes_items f.xattrs (item last no_items))) record { create = refl; change = refl; modify = refl; access = refl; backup = refl } h.times
+          (leaf_good place.File ReadOnly (truth f.readonly) form.Truth refl refl refl (truth_back ReadOnly f.readonly), attributes_good place.File f.xattrs (item last no_items) refl h.xattrs (good, tt)),
     ),
   ),
 )
 
-directory_good : (p : Place) (f : NodeFacts) (inside : Nodes) → rule p FileUid ≡ child.Leaf form.Number → GoodItem p (plain Name (words f.name)) → HasTimes p → rule p ReadOnly ≡ child.Leaf form.Truth → rule p (tag_of place.Contents) ≡ child.Parent place.Contents → GoodFacts f → GoodItems place.Contents (nodes_items inside) → GoodItems p (directory_items f (nodes_items inside))
-directory_good p f inside uid name times readonly contents h good = (
+directory_good : (p : Place) (f : NodeFacts) (inside : Nodes) → rule p FileUid ≡ child.Leaf form.Number → GoodItem p (plain Name (words f.name)) → HasTimes p → rule p ReadOnly ≡ child.Leaf form.Truth → rule p ExtendedAttributes ≡ child.Parent place.Attributes → rule p (tag_of place.Contents) ≡ child.Parent place.Contents → GoodFacts f → GoodItems place.Contents (nodes_items inside) → GoodItems p (directory_items f (nodes_items inside))
+directory_good p f inside uid name times readonly marked contents h good = (
   leaf_good p FileUid (number f.uid) form.Number uid refl refl (number_back FileUid f.uid h.uid),
   (
     name,
-    times_good p f.times (item (plain ReadOnly (truth f.readonly)) (item (nested place.Contents (nodes_items inside)) no_items)) times h.times (
+    times_good p f.times (item (plain ReadOnly (truth f.readonly)) (attributes_items f.xattrs (item (nested place.Contents (nodes_items inside)) no_items))) times h.times (
       leaf_good p ReadOnly (truth f.readonly) form.Truth readonly refl refl (truth_back ReadOnly f.readonly),
-      (parent_good p place.Contents (nodes_items inside) contents refl refl (nodes_stand inside []) good, tt),
+      attributes_good p f.xattrs (item (nested place.Contents (nodes_items inside)) no_items) marked h.xattrs
+          (parent_good p place.Contents (nodes_items inside) contents refl refl (nodes_stand inside []) good, tt),
     ),
   ),
 )
+
+-- a directory and a file with attributes or without
+directory_stands : (f : NodeFacts) (inside : Items) → stand place.Directory [] (directory_items f inside) ≡ true
+directory_stands f inside = go f.xattrs
+  where
+    go : (xs : List Xattr) → stand place.Directory [] (directory_items (record f { xattrs = xs }) inside) ≡ true
+    go [] = refl
+    go (x ∷ xs) = refl
+
+root_stands : (f : NodeFacts) (inside : Items) → stand place.Root [] (directory_items f inside) ≡ true
+root_stands f inside = go f.xattrs
+  where
+    go : (xs : List Xattr) → stand place.Root [] (directory_items (record f { xattrs = xs }) inside) ≡ true
+    go [] = refl
+    go (x ∷ xs) = refl
+
+file_stands : (f : NodeFacts) (bytes : ℕ) (extents : Items) → stand place.File [] (file_items f bytes (nested place.ExtentInfo extents)) ≡ true
+file_stands f bytes extents = go f.xattrs
+  where
+    go : (xs : List Xattr) → stand place.File [] (file_items (record f { xattrs = xs }) bytes (nested place.ExtentInfo extents)) ≡ true
+    go [] = refl
+    go (x ∷ xs) = refl
+
+link_stands : (f : NodeFacts) (bytes : ℕ) (text : List ℕ) → stand place.File [] (file_items f bytes (plain Symlink (words text))) ≡ true
+link_stands f bytes text = go f.xattrs
+  where
+    go : (xs : List Xattr) → stand place.File [] (file_items (record f { xattrs = xs }) bytes (plain Symlink (words text))) ≡ true
+    go [] = refl
+    go (x ∷ xs) = refl
 
 pub nodes_good : (nodes : Nodes) → GoodNodes nodes → GoodItems place.Contents (nodes_items nodes)
 nodes_good no_nodes h = tt
 nodes_good (directory f inside behind) h = (
-  parent_good place.Contents place.Directory (directory_items f (nodes_items inside)) refl refl refl refl
-      (directory_good place.Directory f inside refl (leaf_good place.Directory Name (words f.name) form.NodeName refl (may_name f.name) refl (node_name_back f.name h.1)) record { create = refl; change = refl; modify = refl; access = refl; backup = refl } refl refl h.0 (nodes_good inside h.2)),
+  parent_good place.Contents place.Directory (directory_items f (nodes_items inside)) refl refl refl (directory_stands f (nodes_items inside))
+      (directory_good place.Directory f inside refl (leaf_good place.Directory Name (words f.name) form.NodeName refl (may_name f.name) refl (node_name_back f.name h.1)) record { create = refl; change = refl; modify = refl; access = refl; backup = refl } refl refl refl h.0 (nodes_good inside h.2)),
   nodes_good behind h.3,
 )
 nodes_good (file f bytes extents behind) h = (
-  parent_good place.Contents place.File (file_items f bytes (nested place.ExtentInfo (extents_items extents))) refl refl refl refl
+  parent_good place.Contents place.File (file_items f bytes (nested place.ExtentInfo (extents_items extents))) refl refl refl (file_stands f bytes (extents_items extents))
       (file_good f bytes (nested place.ExtentInfo (extents_items extents)) h.0 h.1 h.2 (parent_good place.File place.ExtentInfo (extents_items extents) refl refl refl (extents_stand extents []) (extents_good extents h.3))),
   nodes_good behind h.4,
 )
 nodes_good (link f text behind) h = (
-  parent_good place.Contents place.File (file_items f (length text) (plain Symlink (words text))) refl refl refl refl
+  parent_good place.Contents place.File (file_items f (length text) (plain Symlink (words text))) refl refl refl (link_stands f (length text) text)
       (file_good f (length text) (plain Symlink (words text)) h.0 h.1 h.3 (leaf_good place.File Symlink (words text) form.AnyName refl (may_link text) refl (target_back text h.2))),
   nodes_good behind h.4,
 )
@@ -288,6 +358,6 @@ pub all_good : (v : IndexValue) → GoodIndex v → GoodItems place.Index (items
 all_good v h =
     let root = directory_items v.root (nodes_items v.inside) in
     index_good v.volume root h.volume (
-    parent_good place.Index place.Root root refl refl refl refl
-    (directory_good place.Root v.root v.inside refl (leaf_good place.Root Name (words v.root.name) form.VolumeName refl (may_name v.root.name) refl (volume_name_back v.root.name h.name)) record { create = refl; change = refl; modify = refl; access = refl; backup = refl } refl refl h.root (nodes_good v.inside h.inside))
+    parent_good place.Index place.Root root refl refl refl (root_stands v.root (nodes_items v.inside))
+    (directory_good place.Root v.root v.inside refl (leaf_good place.Root Name (words v.root.name) form.VolumeName refl (may_name v.root.name) refl (volume_name_back v.root.name h.name)) record { create = refl; change = refl; modify = refl; access = refl; backup = refl } refl refl refl h.root (nodes_good v.inside h.inside))
     )

@@ -14,6 +14,7 @@ use Rattle.index_model.specs.Canonical.{canonical}
 use Rattle.doc_elements.proofs.Written.{framed, inner, written_document}
 use Rattle.index_model.specs.Extents.{AreFiles, IsExtent, IsKind}
 use Rattle.index_model.specs.Grammar.{IndexText, Spells}
+use Rattle.index_model.specs.Keys.{IsXattr}
 use Rattle.index_model.specs.Names.{IsNodeName, IsVolumeName}
 use Rattle.index_model.specs.Places.{IsAt}
 use Rattle.index_model.specs.Valid.{IsValid}
@@ -61,9 +62,10 @@ nodes_from parent at (directory f inside behind) h =
 nodes_from parent at (file f bytes extents behind) h = let kind = h.0.kind in (h.0.facts, h.0.name, kind.0, kind.1, nodes_from parent (at + 1) behind h.1)
 nodes_from parent at (link f text behind) h = let kind = h.0.kind in (h.0.facts, h.0.name, kind.0, kind.1, nodes_from parent (at + 1) behind h.1)
 
-facts_good : (highest : ℕ) (node : Node) → highest ≤ 2 ^ 62 → node.uid ≤ highest → GoodFacts (facts_of node)
-facts_good highest node bounded most = record {
+facts_good : (highest : ℕ) (node : Node) → highest ≤ 2 ^ 62 → node.uid ≤ highest → AllByRecursion IsXattr node.xattrs → GoodFacts (facts_of node)
+facts_good highest node bounded most xattrs = record {
   uid = omega arith;
+  xattrs = xattrs;
   times = record { create = (node.times.create, refl); change = (node.times.change, refl); modify = (node.times.modify, refl); access = (node.times.access, refl); backup = (node.times.backup, refl) };
 }
 
@@ -74,11 +76,14 @@ kind_good nodes at node (kinds.File bytes extents) files is e k short =
     (omega arith, k)
 kind_good nodes at node (kinds.Link text) files is e k short = (k, short)
 
+xattrs_at : (index : Index) → IsValid index → (at : ℕ) (node : Node) → IsAt index.nodes at node → AllByRecursion IsXattr node.xattrs
+xattrs_at index valid at node is = all_at (λ (n : Node). AllByRecursion IsXattr n.xattrs) index.nodes valid.formed.xattrs at node is
+
 node_good : (index : Index) → IsValid index → AreLinksShort index.nodes → (at : ℕ) (node : Node) → 0 < at → IsAt index.nodes at node → GoodValue (value_of node)
 node_good index valid short at node behind is =
     let uids = valid.agrees.uids in
     record {
-      facts = facts_good index.highest node uids.bounded (uids.most at node is);
+      facts = facts_good index.highest node uids.bounded (uids.most at node is) (xattrs_at index valid at node is);
       name = valid.formed.names.others at node behind is;
       kind = kind_good index.nodes at node node.kind valid.agrees.files is refl (all_at (λ (n : Node). IsKind n.kind) index.nodes valid.formed.kinds at node is) (all_at (λ (n : Node). IsShortLink n.kind) index.nodes short at node is);
     }
@@ -107,7 +112,7 @@ by_nodes index v valid short volume (root ∷ others) same e =
     let facts : facts_of root ≡ v.root = ap (λ (n : NodeValue). n.facts) first in
     let is : IsAt index.nodes 0 root = subst (λ (ns : List Node). IsAt ns 0 root) (sym same) refl in
     let uids = valid.agrees.uids in
-    let good = facts_good index.highest root uids.bounded (uids.most 0 root is) in
+    let good = facts_good index.highest root uids.bounded (uids.most 0 root is) (xattrs_at index valid 0 root is) in
     let name = valid.formed.names.volume root is in
     let behind = each_is (λ (n : Node). GoodValue (value_of n)) others (λ at node there. node_good index valid short (suc at) node (omega arith) (subst (λ (ns : List Node). IsAt ns (suc at) node) (sym same) there)) in
     record {

@@ -1,10 +1,12 @@
 -- The elements of an index as they are written.
 use Rattle.std.proofs.Common.{ℕ, List, [], ◌∷◌, length, Option, Some, None}
-use Rattle.doc_fields.specs.declared.tags.Tag.TheVariants.{Creator, Comment, VolumeUuid, Partition, GenerationNumber, UpdateTime, StartBlock, AllowPolicyUpdate, Size, VolumeLockState, HighestFileUid, FileUid, Name, Length, CreationTime, ChangeTime, ModifyTime, AccessTime, BackupTime, ReadOnly, Symlink, FileOffset, ByteOffset, ByteCount}
+use Rattle.doc_fields.specs.declared.tags.Tag.TheVariants.{Creator, Comment, VolumeUuid, Partition, GenerationNumber, UpdateTime, StartBlock, AllowPolicyUpdate, Size, VolumeLockState, HighestFileUid, FileUid, Name, Length, CreationTime, ChangeTime, ModifyTime, AccessTime, BackupTime, ReadOnly, Symlink, FileOffset, ByteOffset, ByteCount, Key, Value}
+use Rattle.node_keys.specs.declared.xattrs.Xattr.{Xattr}
 use Rattle.doc_fields.specs.declared.values.LockState.{LockState}
 use Rattle.doc_elements.specs.declared.schema.Place.TheVariants as place
 use Rattle.doc_elements.specs.Elements.{Item, plain, nested, Items, no_items, item}
 use Rattle.doc_elements.specs.Pieces.{words, time, uuid, letter, number, truth, lock}
+use Rattle.doc_elements.specs.Pieces as val
 use Rattle.index_model.specs.declared.indexes.Policy.{Policy}
 use Rattle.index_model.specs.declared.indexes.Spot.{Spot}
 use Rattle.index_model.specs.declared.nodes.RawExtent.{RawExtent}
@@ -60,13 +62,26 @@ times_items t behind =
     (item (plain AccessTime (time t.access))
     (item (plain BackupTime (time t.backup)) behind))))
 
+abbrev pub xattr_items : Xattr → Items
+xattr_items x = item (plain Key (words x.key)) (item (plain Value (val.bytes x.value)) no_items)
+
+abbrev pub xattrs_items : List Xattr → Items
+xattrs_items [] = no_items
+xattrs_items (x ∷ xs) = item (nested place.Xattr (xattr_items x)) (xattrs_items xs)
+
+-- the attributes of a node, where there are any, and what is behind them
+abbrev pub attributes_items : List Xattr → Items → Items
+attributes_items [] behind = behind
+attributes_items (x ∷ xs) behind = item (nested place.Attributes (xattrs_items (x ∷ xs))) behind
+
 abbrev pub directory_items : NodeFacts → Items → Items
 directory_items f inside =
     item (plain FileUid (number f.uid))
     (item (plain Name (words f.name))
     (times_items f.times
     (item (plain ReadOnly (truth f.readonly))
-    (item (nested place.Contents inside) no_items))))
+    (attributes_items f.xattrs
+    (item (nested place.Contents inside) no_items)))))
 
 -- a file with so many bytes, and what it has behind its facts
 abbrev pub file_items : NodeFacts → ℕ → Item → Items
@@ -76,7 +91,8 @@ file_items f bytes last =
     (item (plain Length (number bytes))
     (times_items f.times
     (item (plain ReadOnly (truth f.readonly))
-    (item last no_items)))))
+    (attributes_items f.xattrs
+    (item last no_items))))))
 
 abbrev pub extent_items : RawExtent → Items
 extent_items e =

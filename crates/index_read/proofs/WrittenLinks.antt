@@ -8,7 +8,7 @@ use Rattle.doc_fields.specs.declared.starts.Attribute.TheVariants.{Absent, Versi
 use Rattle.doc_fields.specs.Written.{end_text, escape, escaped, start_text}
 use Rattle.ltfs_text.specs.Names.{encoded, has_special, is_escaped, written}
 use Rattle.index_model.specs.declared.indexes.Index.{Index}
-use Rattle.index_model.specs.Canonical.{canonical, directory_text, element, encoding, file_front, file_text, head, link_text, name, nodes_text, number, times, truth, volume_text}
+use Rattle.index_model.specs.Canonical.{attributes, canonical, directory_text, element, encoding, file_front, file_text, head, link_text, name, nodes_text, number, times, truth, volume_text}
 use Rattle.index_model.specs.Grammar.{IndexText}
 use Rattle.index_model.specs.Valid.{IsValid}
 use Rattle.index_model.specs.Values.{NodeFacts, Nodes, no_nodes, directory, file, link, NodeValue, IndexValue, count, listed, all_nodes, value_of, Tells}
@@ -74,7 +74,7 @@ link_longer f text =
 
 directory_longer : (f : NodeFacts) (inside : List ℕ) → length inside ≤ length (directory_text f inside)
 directory_longer f inside =
-    let front = number FileUid f.uid ++ name Name f.name ++ times f.times ++ truth ReadOnly f.readonly in
+    let front = number FileUid f.uid ++ name Name f.name ++ times f.times ++ truth ReadOnly f.readonly ++ attributes f.xattrs in
     let contents = around (start_text Contents Absent) inside (end_text Contents) in
     let inner = behind_longer front (element Contents inside) in
     let whole = around (start_text Directory Absent) (front ++ element Contents inside) (end_text Directory) in

@@ -6,12 +6,13 @@ use Rattle.doc_fields.specs.declared.values.LockState.{LockState}
 use Rattle.index_model.specs.declared.indexes.Policy.{Policy}
 use Rattle.index_model.specs.declared.indexes.Spot.{Spot}
 use Rattle.index_model.specs.declared.nodes.RawExtent.{RawExtent}
+use Rattle.node_keys.specs.declared.xattrs.Xattr.{Xattr}
 use Rattle.doc_elements.specs.declared.schema.Place.TheVariants as place
-use Rattle.index_model.specs.Grammar.{inside, names_in, told, TellsContents, TellsExtents, TellsFacts, TellsMaybe, TellsNodes, TellsPolicy, TellsSpot, TellsVolume}
+use Rattle.index_model.specs.Grammar.{inside, names_in, told, TellsContents, TellsExtents, TellsFacts, TellsFile, TellsLink, TellsXattrs, TellsMaybe, TellsNodes, TellsPolicy, TellsSpot, TellsVolume}
 use Rattle.doc_elements.specs.Elements.{Item, Items, item, nested, no_items, node_count, nodes_of, plain}
 use Rattle.doc_elements.specs.Pieces.{words, time, uuid, number, truth, lock}
 use Rattle.index_model.specs.Values.{NodeFacts, Nodes, no_nodes, directory, file, link, VolumeFacts, IndexValue, count, listed, all_nodes}
-use Rattle.index_read.proofs.WrittenItems.{back_item, comment_item, directory_items, extents_items, file_items, index_items, items_of, lock_item, maybe, name_items, nodes_items, policy_item, spot_items}
+use Rattle.index_read.proofs.WrittenItems.{attributes_items, back_item, comment_item, directory_items, extents_items, file_items, index_items, items_of, lock_item, maybe, name_items, nodes_items, policy_item, spot_items, xattrs_items}
 
 -- ---- the volume
 
@@ -82,44 +83,81 @@ module _ (v : VolumeFacts) (root : Items) where
 
 -- ---- the nodes
 
+xattrs_tell : (xs : List Xattr) → TellsXattrs (xattrs_items xs) xs
+xattrs_tell [] = refl
+xattrs_tell (x ∷ xs) = (x, xs, refl, record { key = refl; value = refl }, xattrs_tell xs)
+
 pub directory_tells : (f : NodeFacts) (inner : Items) → TellsFacts (directory_items f inner) f
-directory_tells f inner = record { uid = refl; name = refl; create = refl; change = refl; modify = refl; access = refl; backup = refl; readonly = refl }
+directory_tells f inner = go f.xattrs
+  where
+    go : (xs : List Xattr) → TellsFacts (directory_items (record f { xattrs = xs }) inner) (record f { xattrs = xs })
+    go [] = record { uid = refl; name = refl; create = refl; change = refl; modify = refl; access = refl; backup = refl; readonly = refl; xattrs = refl }
+    go (x ∷ xs) = record { uid = refl; name = refl; create = refl; change = refl; modify = refl; access = refl; backup = refl; readonly = refl; xattrs = xattrs_tell (x ∷ xs) }
 
 extents_tell : (es : List RawExtent) → TellsExtents (extents_items es) es
 extents_tell [] = refl
 extents_tell (e ∷ es) = (e, es, refl, record { offset = refl; letter = refl; block = refl; byte = refl; count = refl }, extents_tell es)
 
+file_tells : (f : NodeFacts) (bytes : ℕ) (extents : List RawExtent) (behind : Nodes) → TellsFile (file_items f bytes (nested place.ExtentInfo (extents_items extents))) (file f bytes extents behind) behind
+file_tells f bytes extents behind = go f.xattrs
+  where
+    go : (xs : List Xattr) → TellsFile (file_items (record f { xattrs = xs }) bytes (nested place.ExtentInfo (extents_items extents))) (file (record f { xattrs = xs }) bytes extents behind) behind
+    go [] = record {
+      facts = record f { xattrs = [] };
+      bytes = bytes;
+      extents = extents;
+      node = refl;
+      tells = record { uid = refl; name = refl; create = refl; change = refl; modify = refl; access = refl; backup = refl; readonly = refl; xattrs = refl };
+      no_text = refl;
+      length = refl;
+      has = extents_tell extents;
+    }
+    go (x ∷ xs) = record {
+      facts = record f { xattrs = x ∷ xs };
+      bytes = bytes;
+      extents = extents;
+      node = refl;
+      tells = record { uid = refl; name = refl; create = refl; change = refl; modify = refl; access = refl; backup = refl; readonly = refl; xattrs = xattrs_tell (x ∷ xs) };
+      no_text = refl;
+      length = refl;
+      has = extents_tell extents;
+    }
+
+link_tells : (f : NodeFacts) (bytes : ℕ) (text : List ℕ) (behind : Nodes) → TellsLink (file_items f bytes (plain Symlink (words text))) (link f text behind) behind
+link_tells f bytes text behind = go f.xattrs
+  where
+    go : (xs : List Xattr) → TellsLink (file_items (record f { xattrs = xs }) bytes (plain Symlink (words text))) (link (record f { xattrs = xs }) text behind) behind
+    go [] = record {
+      facts = record f { xattrs = [] };
+      text = text;
+      node = refl;
+      tells = record { uid = refl; name = refl; create = refl; change = refl; modify = refl; access = refl; backup = refl; readonly = refl; xattrs = refl };
+      told_text = refl;
+    }
+    go (x ∷ xs) = record {
+      facts = record f { xattrs = x ∷ xs };
+      text = text;
+      node = refl;
+      tells = record { uid = refl; name = refl; create = refl; change = refl; modify = refl; access = refl; backup = refl; readonly = refl; xattrs = xattrs_tell (x ∷ xs) };
+      told_text = refl;
+    }
+
+-- what stands in a directory
+inner_tells : (f : NodeFacts) (inner : Items) (nodes : Nodes) → TellsNodes inner nodes → TellsContents (directory_items f inner) nodes
+inner_tells f inner nodes h = go f.xattrs
+  where
+    go : (xs : List Xattr) → TellsContents (directory_items (record f { xattrs = xs }) inner) nodes
+    go [] = h
+    go (x ∷ xs) = h
+
 pub nodes_tell : (nodes : Nodes) → TellsNodes (nodes_items nodes) nodes
 nodes_tell no_nodes = refl
-nodes_tell (directory f inner behind) = (f, inner, behind, refl, directory_tells f (nodes_items inner), nodes_tell inner, nodes_tell behind)
-nodes_tell (file f bytes extents behind) = (
-  behind,
-  inl record {
-    facts = f;
-    bytes = bytes;
-    extents = extents;
-    node = refl;
-    tells = record { uid = refl; name = refl; create = refl; change = refl; modify = refl; access = refl; backup = refl; readonly = refl };
-    no_text = refl;
-    length = refl;
-    has = extents_tell extents;
-  },
-  nodes_tell behind,
-)
-nodes_tell (link f text behind) = (
-  behind,
-  inr record {
-    facts = f;
-    text = text;
-    node = refl;
-    tells = record { uid = refl; name = refl; create = refl; change = refl; modify = refl; access = refl; backup = refl; readonly = refl };
-    told_text = refl;
-  },
-  nodes_tell behind,
-)
+nodes_tell (directory f inner behind) = (f, inner, behind, refl, directory_tells f (nodes_items inner), inner_tells f (nodes_items inner) inner (nodes_tell inner), nodes_tell behind)
+nodes_tell (file f bytes extents behind) = (behind, inl (file_tells f bytes extents behind), nodes_tell behind)
+nodes_tell (link f text behind) = (behind, inr (link_tells f (length text) text behind), nodes_tell behind)
 
 pub contents_tell : (f : NodeFacts) (nodes : Nodes) → TellsContents (directory_items f (nodes_items nodes)) nodes
-contents_tell f nodes = nodes_tell nodes
+contents_tell f nodes = inner_tells f (nodes_items nodes) nodes (nodes_tell nodes)
 
 -- ---- how many nodes there are
 
@@ -138,11 +176,19 @@ maybe_count make (Some x) is none = let e = none x in omega arith
 policy_count : (p : Policy) → nodes_of (policy_item p) ≡ 0
 policy_count p = let e = names_count p.names in omega arith
 
+xattrs_count : (xs : List Xattr) → node_count (xattrs_items xs) ≡ 0
+xattrs_count [] = refl
+xattrs_count (x ∷ xs) = let more = xattrs_count xs in omega arith
+
+attributes_count : (xs : List Xattr) (behind : Items) → node_count (attributes_items xs behind) ≡ node_count behind
+attributes_count [] behind = refl
+attributes_count (x ∷ xs) behind = let e = xattrs_count xs in omega arith
+
 directory_count : (f : NodeFacts) (inner : Items) → node_count (directory_items f inner) ≡ node_count inner
-directory_count f inner = omega arith
+directory_count f inner = let e = attributes_count f.xattrs (item (nested place.Contents inner) no_items) in omega arith
 
 file_count : (f : NodeFacts) (bytes : ℕ) (last : Item) → nodes_of last ≡ 0 → node_count (file_items f bytes last) ≡ 0
-file_count f bytes last e = omega arith
+file_count f bytes last e = let a = attributes_count f.xattrs (item last no_items) in omega arith
 
 nodes_count : (nodes : Nodes) → node_count (nodes_items nodes) ≡ count nodes
 nodes_count no_nodes = refl

@@ -2,7 +2,9 @@
 use Rattle.std.proofs.Common.{◌≡◌, ℕ, List, [], ◌∷◌, ◌++◌, length, Option, Some, None, refl, ap, ◌∙◌, append_assoc, append-nil}
 use Rattle.std.specs.List.{flat_map}
 use Rattle.tape_types.specs.Uuids.{uuid_text}
-use Rattle.doc_fields.specs.declared.tags.Tag.TheVariants.{LtfsIndex, Creator, Comment, VolumeUuid, Location, Partition, GenerationNumber, UpdateTime, PreviousGenerationLocation, StartBlock, AllowPolicyUpdate, DataPlacementPolicy, IndexPartitionCriteria, Size, VolumeLockState, HighestFileUid, Directory, File, FileUid, Name, Length, CreationTime, ChangeTime, ModifyTime, AccessTime, BackupTime, ReadOnly, Contents, ExtentInfo, Symlink, Extent, FileOffset, ByteOffset, ByteCount}
+use Rattle.doc_fields.specs.declared.tags.Tag.TheVariants.{LtfsIndex, Creator, Comment, VolumeUuid, Location, Partition, GenerationNumber, UpdateTime, PreviousGenerationLocation, StartBlock, AllowPolicyUpdate, DataPlacementPolicy, IndexPartitionCriteria, Size, VolumeLockState, HighestFileUid, Directory, File, FileUid, Name, Length, CreationTime, ChangeTime, ModifyTime, AccessTime, BackupTime, ReadOnly, Contents, ExtentInfo, Symlink, Extent, FileOffset, ByteOffset, ByteCount, ExtendedAttributes, Key, Value}
+use Rattle.doc_fields.specs.declared.tags.Tag.TheVariants as tags
+use Rattle.node_keys.specs.declared.xattrs.Xattr.{Xattr}
 use Rattle.doc_fields.specs.declared.starts.Attribute.TheVariants.{Version}
 use Rattle.doc_fields.specs.Values.{lock_word}
 use Rattle.doc_fields.specs.Written.{start_text, end_text}
@@ -10,13 +12,14 @@ use Rattle.index_model.specs.declared.indexes.Policy.{Policy}
 use Rattle.index_model.specs.declared.indexes.Spot.{Spot}
 use Rattle.index_model.specs.declared.nodes.RawExtent.{RawExtent}
 use Rattle.doc_elements.specs.declared.schema.Place.TheVariants as place
-use Rattle.index_model.specs.Canonical.{canonical, directory_text, element, extent, file_text, head, if_told, letter, link_text, name, nodes_text, number, policy, spot, time, truth, volume_text}
+use Rattle.index_model.specs.Canonical.{attributes, canonical, directory_text, element, extent, file_front, file_text, head, if_told, letter, link_text, name, nodes_text, number, policy, spot, time, truth, volume_text, xattr}
 use Rattle.index_model.specs.Canonical as text
 use Rattle.doc_elements.specs.Pieces as val
-use Rattle.doc_elements.specs.Elements.{Item, plain, nested, Items, item}
+use Rattle.doc_elements.specs.Elements.{Item, plain, nested, Items, no_items, item}
 use Rattle.index_model.specs.Values.{NodeFacts, Nodes, no_nodes, directory, file, link, IndexValue}
+use Rattle.doc_elements.specs.Written.{bytes_text, bytes_type}
 use Rattle.doc_elements.proofs.WrittenItems.{text_of, texts_of}
-use Rattle.index_read.proofs.WrittenItems.{back_item, comment_item, directory_items, extent_items, extents_items, file_items, items_of, lock_item, maybe, name_items, nodes_items, policy_item, spot_items}
+use Rattle.index_read.proofs.WrittenItems.{attributes_items, back_item, comment_item, directory_items, extent_items, extents_items, file_items, items_of, lock_item, maybe, name_items, nodes_items, policy_item, spot_items, xattr_items, xattrs_items}
 
 -- ---- how texts join
 
@@ -29,11 +32,14 @@ two_items a b = simp append-nil
 five_items : (a b c d e : List ℕ) → a ++ b ++ c ++ d ++ e ≡ a ++ (b ++ (c ++ (d ++ (e ++ []))))
 five_items a b c d e = simp (append_assoc, append-nil)
 
-nine_items : (a b c d e f g h i : List ℕ) → a ++ b ++ (c ++ d ++ e ++ f ++ g) ++ h ++ i ≡ a ++ (b ++ (c ++ (d ++ (e ++ (f ++ (g ++ (h ++ (i ++ []))))))))
-nine_items a b c d e f g h i = simp (append_assoc, append-nil)
+four_items : (a b c d : List ℕ) → a ++ b ++ c ++ d ≡ a ++ ((b ++ c ++ d) ++ [])
+four_items a b c d = simp (append_assoc, append-nil)
 
-ten_items : (a b l c d e f g h i : List ℕ) → (a ++ b ++ l ++ (c ++ d ++ e ++ f ++ g) ++ h) ++ i ≡ a ++ (b ++ (l ++ (c ++ (d ++ (e ++ (f ++ (g ++ (h ++ (i ++ [])))))))))
-ten_items a b l c d e f g h i = simp (append_assoc, append-nil)
+ten_items : (a b c d e f g h x i : List ℕ) → a ++ b ++ (c ++ d ++ e ++ f ++ g) ++ h ++ x ++ i ≡ a ++ (b ++ (c ++ (d ++ (e ++ (f ++ (g ++ (h ++ (x ++ i))))))))
+ten_items a b c d e f g h x i = simp append_assoc
+
+eleven_items : (a b l c d e f g h x i : List ℕ) → (a ++ b ++ l ++ (c ++ d ++ e ++ f ++ g) ++ h ++ x) ++ i ≡ a ++ (b ++ (l ++ (c ++ (d ++ (e ++ (f ++ (g ++ (h ++ (x ++ i)))))))))
+eleven_items a b l c d e f g h x i = simp append_assoc
 
 twelve_items : (a b c d e f g h i j k l : List ℕ) → (a ++ b ++ c ++ d ++ e ++ f ++ g ++ h ++ i ++ j ++ k) ++ l ≡ a ++ (b ++ (c ++ (d ++ (e ++ (f ++ (g ++ (h ++ (i ++ (j ++ (k ++ (l ++ [])))))))))))
 twelve_items a b c d e f g h i j k l = simp (append_assoc, append-nil)
@@ -67,17 +73,31 @@ extents_text : (es : List RawExtent) → flat_map extent es ≡ texts_of (extent
 extents_text [] = refl
 extents_text (e ∷ es) = joined (extent e) (flat_map extent es) (nested place.Extent (extent_items e)) (extents_items es) (extent_text e) (extents_text es)
 
+xattr_text : (x : Xattr) → xattr x ≡ text_of (nested place.Xattr (xattr_items x))
+xattr_text x = ap (element tags.Xattr) (four_items (name Key x.key) (start_text Value (bytes_type x.value)) (bytes_text x.value) (end_text Value))
+
+xattrs_text : (xs : List Xattr) → flat_map xattr xs ≡ texts_of (xattrs_items xs)
+xattrs_text [] = refl
+xattrs_text (x ∷ xs) = joined (xattr x) (flat_map xattr xs) (nested place.Xattr (xattr_items x)) (xattrs_items xs) (xattr_text x) (xattrs_text xs)
+
+attributes_text : (xs : List Xattr) (last : Item) → attributes xs ++ text_of last ≡ texts_of (attributes_items xs (item last no_items))
+attributes_text [] last = one_item (text_of last)
+attributes_text (x ∷ xs) last = joined (attributes (x ∷ xs)) (text_of last) (nested place.Attributes (xattrs_items (x ∷ xs))) (item last no_items) (ap (element ExtendedAttributes) (xattrs_text (x ∷ xs))) (one_item (text_of last))
+
 directory_inner : (f : NodeFacts) (inside : Items) (t : List ℕ) → t ≡ texts_of inside → directory_text f t ≡ element Directory (texts_of (directory_items f inside))
 directory_inner f inside t e =
     ap (λ (x : List ℕ). directory_text f x) e
-    ∙ ap (element Directory) (nine_items (number FileUid f.uid) (name Name f.name) (time CreationTime f.times.create) (time ChangeTime f.times.change) (time ModifyTime f.times.modify) (time AccessTime f.times.access) (time BackupTime f.times.backup) (truth ReadOnly f.readonly) (element Contents (texts_of inside)))
+    ∙ ap (element Directory) (ten_items (number FileUid f.uid) (name Name f.name) (time CreationTime f.times.create) (time ChangeTime f.times.change) (time ModifyTime f.times.modify) (time AccessTime f.times.access) (time BackupTime f.times.backup) (truth ReadOnly f.readonly) (attributes f.xattrs) (element Contents (texts_of inside)))
+    ∙ ap (λ (x : List ℕ). element Directory (number FileUid f.uid ++ (name Name f.name ++ (time CreationTime f.times.create ++ (time ChangeTime f.times.change ++ (time ModifyTime f.times.modify ++ (time AccessTime f.times.access ++ (time BackupTime f.times.backup ++ (truth ReadOnly f.readonly ++ x))))))))) (attributes_text f.xattrs (nested place.Contents inside))
 
-file_inner : (f : NodeFacts) (bytes : ℕ) (last : Item) → element File ((number FileUid f.uid ++ name Name f.name ++ number Length bytes ++ (time CreationTime f.times.create ++ time ChangeTime f.times.change ++ time ModifyTime f.times.modify ++ time AccessTime f.times.access ++ time BackupTime f.times.backup) ++ truth ReadOnly f.readonly) ++ text_of last) ≡ text_of (nested place.File (file_items f bytes last))
-file_inner f bytes last = ap (element File) (ten_items (number FileUid f.uid) (name Name f.name) (number Length bytes) (time CreationTime f.times.create) (time ChangeTime f.times.change) (time ModifyTime f.times.modify) (time AccessTime f.times.access) (time BackupTime f.times.backup) (truth ReadOnly f.readonly) (text_of last))
+file_inner : (f : NodeFacts) (bytes : ℕ) (last : Item) → element File (file_front f bytes ++ text_of last) ≡ text_of (nested place.File (file_items f bytes last))
+file_inner f bytes last =
+    ap (element File) (eleven_items (number FileUid f.uid) (name Name f.name) (number Length bytes) (time CreationTime f.times.create) (time ChangeTime f.times.change) (time ModifyTime f.times.modify) (time AccessTime f.times.access) (time BackupTime f.times.backup) (truth ReadOnly f.readonly) (attributes f.xattrs) (text_of last))
+    ∙ ap (λ (x : List ℕ). element File (number FileUid f.uid ++ (name Name f.name ++ (number Length bytes ++ (time CreationTime f.times.create ++ (time ChangeTime f.times.change ++ (time ModifyTime f.times.modify ++ (time AccessTime f.times.access ++ (time BackupTime f.times.backup ++ (truth ReadOnly f.readonly ++ x)))))))))) (attributes_text f.xattrs last)
 
 file_is : (f : NodeFacts) (bytes : ℕ) (extents : List RawExtent) → file_text f bytes extents ≡ text_of (nested place.File (file_items f bytes (nested place.ExtentInfo (extents_items extents))))
 file_is f bytes extents =
-    ap (λ (x : List ℕ). element File ((number FileUid f.uid ++ name Name f.name ++ number Length bytes ++ (time CreationTime f.times.create ++ time ChangeTime f.times.change ++ time ModifyTime f.times.modify ++ time AccessTime f.times.access ++ time BackupTime f.times.backup) ++ truth ReadOnly f.readonly) ++ element ExtentInfo x)) (extents_text extents)
+    ap (λ (x : List ℕ). element File (file_front f bytes ++ element ExtentInfo x)) (extents_text extents)
     ∙ file_inner f bytes (nested place.ExtentInfo (extents_items extents))
 
 link_is : (f : NodeFacts) (text : List ℕ) → link_text f text ≡ text_of (nested place.File (file_items f (length text) (plain Symlink (val.words text))))
