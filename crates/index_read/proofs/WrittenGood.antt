@@ -37,7 +37,7 @@ use Rattle.index_model.specs.Texts.{IsPlainText}
 use Rattle.index_model.specs.Valid.{IsSpot, IsPolicy}
 use Rattle.index_model.specs.Values.{TimesValue, NodeFacts, Nodes, no_nodes, directory, file, link, VolumeFacts, IndexValue}
 use Rattle.doc_elements.proofs.WrittenItems.{attribute_of, GoodItem, GoodItems, ReadsBack, stand}
-use Rattle.index_read.proofs.WrittenItems.{attributes_items, back_item, comment_item, directory_items, extent_items, extents_items, file_items, index_items, items_of, lock_item, maybe, name_items, nodes_items, policy_item, spot_items, times_items, xattr_items, xattrs_items}
+use Rattle.index_read.proofs.WrittenItems.{attributes_items, back_item, comment_item, directory_items, either_way, extent_items, extents_items, file_items, index_items, items_of, lock_item, maybe, name_items, nodes_items, policy_item, spot_items, times_items, xattr_items, xattrs_items}
 use Rattle.doc_elements.proofs.WrittenAttributes.{key_back, value_back}
 use Rattle.doc_elements.proofs.WrittenValues.{creator_back, time_back, truth_back, uuid_back}
 use Rattle.index_read.proofs.WrittenValues.{bounded_back, comment_back, generation_back, letter_back, lock_back, node_name_back, number_back, pattern_back, target_back, volume_name_back}
@@ -262,34 +262,17 @@ directory_good p f inside uid name times readonly marked contents h good = (
   ),
 )
 
--- a directory and a file with attributes or without
 directory_stands : (f : NodeFacts) (inside : Items) → stand place.Directory [] (directory_items f inside) ≡ true
-directory_stands f inside = go f.xattrs
-  where
-    go : (xs : List Xattr) → stand place.Directory [] (directory_items (record f { xattrs = xs }) inside) ≡ true
-    go [] = refl
-    go (x ∷ xs) = refl
+directory_stands f inside = either_way (λ xs. stand place.Directory [] (directory_items (record f { xattrs = xs }) inside) ≡ true) refl (λ x xs. refl) f.xattrs
 
 root_stands : (f : NodeFacts) (inside : Items) → stand place.Root [] (directory_items f inside) ≡ true
-root_stands f inside = go f.xattrs
-  where
-    go : (xs : List Xattr) → stand place.Root [] (directory_items (record f { xattrs = xs }) inside) ≡ true
-    go [] = refl
-    go (x ∷ xs) = refl
+root_stands f inside = either_way (λ xs. stand place.Root [] (directory_items (record f { xattrs = xs }) inside) ≡ true) refl (λ x xs. refl) f.xattrs
 
 file_stands : (f : NodeFacts) (bytes : ℕ) (extents : Items) → stand place.File [] (file_items f bytes (nested place.ExtentInfo extents)) ≡ true
-file_stands f bytes extents = go f.xattrs
-  where
-    go : (xs : List Xattr) → stand place.File [] (file_items (record f { xattrs = xs }) bytes (nested place.ExtentInfo extents)) ≡ true
-    go [] = refl
-    go (x ∷ xs) = refl
+file_stands f bytes extents = either_way (λ xs. stand place.File [] (file_items (record f { xattrs = xs }) bytes (nested place.ExtentInfo extents)) ≡ true) refl (λ x xs. refl) f.xattrs
 
 link_stands : (f : NodeFacts) (bytes : ℕ) (text : List ℕ) → stand place.File [] (file_items f bytes (plain Symlink (words text))) ≡ true
-link_stands f bytes text = go f.xattrs
-  where
-    go : (xs : List Xattr) → stand place.File [] (file_items (record f { xattrs = xs }) bytes (plain Symlink (words text))) ≡ true
-    go [] = refl
-    go (x ∷ xs) = refl
+link_stands f bytes text = either_way (λ xs. stand place.File [] (file_items (record f { xattrs = xs }) bytes (plain Symlink (words text))) ≡ true) refl (λ x xs. refl) f.xattrs
 
 pub nodes_good : (nodes : Nodes) → GoodNodes nodes → GoodItems place.Contents (nodes_items nodes)
 nodes_good no_nodes h = tt

@@ -74,6 +74,11 @@ abbrev pub attributes_items : List Xattr → Items → Items
 attributes_items [] behind = behind
 attributes_items (x ∷ xs) behind = item (nested place.Attributes (xattrs_items (x ∷ xs))) behind
 
+-- what holds without attributes and with some
+pub either_way : (P : List Xattr → Type 0) → P [] → ((x : Xattr) (xs : List Xattr) → P (x ∷ xs)) → (xs : List Xattr) → P xs
+either_way P none some [] = none
+either_way P none some (x ∷ xs) = some x xs
+
 abbrev pub directory_items : NodeFacts → Items → Items
 directory_items f inside =
     item (plain FileUid (number f.uid))

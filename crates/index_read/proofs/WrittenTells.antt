@@ -12,7 +12,7 @@ use Rattle.index_model.specs.Grammar.{inside, names_in, told, TellsContents, Tel
 use Rattle.doc_elements.specs.Elements.{Item, Items, item, nested, no_items, node_count, nodes_of, plain}
 use Rattle.doc_elements.specs.Pieces.{words, time, uuid, number, truth, lock}
 use Rattle.index_model.specs.Values.{NodeFacts, Nodes, no_nodes, directory, file, link, VolumeFacts, IndexValue, count, listed, all_nodes}
-use Rattle.index_read.proofs.WrittenItems.{attributes_items, back_item, comment_item, directory_items, extents_items, file_items, index_items, items_of, lock_item, maybe, name_items, nodes_items, policy_item, spot_items, xattrs_items}
+use Rattle.index_read.proofs.WrittenItems.{attributes_items, back_item, comment_item, directory_items, either_way, extents_items, file_items, index_items, items_of, lock_item, maybe, name_items, nodes_items, policy_item, spot_items, xattrs_items}
 
 -- ---- the volume
 
@@ -144,11 +144,7 @@ link_tells f bytes text behind = go f.xattrs
 
 -- what stands in a directory
 inner_tells : (f : NodeFacts) (inner : Items) (nodes : Nodes) → TellsNodes inner nodes → TellsContents (directory_items f inner) nodes
-inner_tells f inner nodes h = go f.xattrs
-  where
-    go : (xs : List Xattr) → TellsContents (directory_items (record f { xattrs = xs }) inner) nodes
-    go [] = h
-    go (x ∷ xs) = h
+inner_tells f inner nodes h = either_way (λ xs. TellsContents (directory_items (record f { xattrs = xs }) inner) nodes) h (λ x xs. h) f.xattrs
 
 pub nodes_tell : (nodes : Nodes) → TellsNodes (nodes_items nodes) nodes
 nodes_tell no_nodes = refl

@@ -11,7 +11,6 @@ use Rattle.doc_fields.specs.Values.{lock_word}
 use Rattle.doc_fields.proofs.TextsAgain.{escape_valid}
 use Rattle.doc_fields.proofs.ValuesAgain.{lock_again}
 use Rattle.doc_fields.proofs.WrittenBytes.{ascii_valid, decimal_valid, space_first}
-use Rattle.ltfs_text.specs.Names.{written}
 use Rattle.doc_elements.specs.declared.schema.Form.TheVariants as form
 use Rattle.index_model.specs.Names.{IsVolumeName, IsNodeName}
 use Rattle.doc_elements.specs.Pieces.{words, letter, number, lock, is_name, is_volume_name}
