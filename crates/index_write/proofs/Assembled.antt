@@ -3,13 +3,14 @@ use Rattle.std.proofs.Common.{◌≡◌, List, ℕ, Ok, Err, Result, OnOk, OnErr
 use Rattle.std.specs.List.{flat_map}
 use Rattle.std.proofs.lemmas.Grind.{flat_map-append}
 use Rattle.std.proofs.lemmas.List.{take_more}
-use Rattle.doc_fields.specs.Written.{Keeps}
-use Rattle.doc_fields.specs.declared.tags.Tag.TheVariants.{AllowPolicyUpdate, Comment, Creator, GenerationNumber, HighestFileUid, Location, PreviousGenerationLocation, UpdateTime, VolumeLockState, VolumeUuid}
+use Rattle.doc_fields.specs.declared.starts.Attribute.TheVariants.{Absent}
+use Rattle.doc_fields.specs.Written.{Keeps, start_text}
+use Rattle.doc_fields.specs.declared.tags.Tag.TheVariants.{AllowPolicyUpdate, Comment, Creator, File, FileUid, GenerationNumber, HighestFileUid, Length, Location, Name, PreviousGenerationLocation, ReadOnly, UpdateTime, VolumeLockState, VolumeUuid}
 use Rattle.doc_fields.specs.Values.{lock_word}
 use Rattle.tape_types.specs.Uuids.{uuid_text}
-use Rattle.index_model.specs.Canonical.{element, if_told, number, policy, spot, time, truth, volume_text, words}
-use Rattle.index_model.specs.Values.{VolumeFacts}
-use Rattle.index_write.specs.Parts.{volume_front, volume_rear}
+use Rattle.index_model.specs.Canonical.{attributes, element, if_told, name, number, policy, spot, time, times, truth, volume_text, words}
+use Rattle.index_model.specs.Values.{NodeFacts, VolumeFacts}
+use Rattle.index_write.specs.Parts.{file_start, traits, volume_front, volume_rear}
 use Rattle.tape_types.specs.declared.texts.NoMemory.{NoMemory}
 
 abbrev Done : Type 0
@@ -61,6 +62,16 @@ joined w s d c z = simp (append_assoc)
 -- an element whose tags stand alone
 pub file_joined : (w s d c z : List ℕ) → w ++ s ++ d ++ (c ++ z) ≡ (w ++ (s ++ d ++ c)) ++ z
 file_joined w s d c z = simp (append_assoc)
+
+front_joined : (x t r a : List ℕ) → x ++ (t ++ r ++ a) ≡ x ++ t ++ r ++ a
+front_joined x t r a = simp (append_assoc)
+
+-- what a file or a link has in front of its own last element
+pub traits_joined : (f : NodeFacts) (bytes : ℕ)
+    → start_text File Absent ++ number FileUid f.uid ++ name Name f.name ++ number Length bytes ++ traits f ≡ file_start f bytes
+unfolding traits file_start
+traits_joined f bytes =
+    front_joined (start_text File Absent ++ number FileUid f.uid ++ name Name f.name ++ number Length bytes) (times f.times) (truth ReadOnly f.readonly) (attributes f.xattrs)
 
 -- one text more of those of a list
 pub one_more : {X : Type 0} (f : X → List ℕ) (old out new : List ℕ) (xs : List X) (i : ℕ) (d : X) → i < length xs → new ≡ out ++ f (get_or xs i d) → out ≡ old ++ flat_map f (take i xs) → new ≡ old ++ flat_map f (take (i + 1) xs)

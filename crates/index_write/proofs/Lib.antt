@@ -1,3 +1,5 @@
 mod Assembled
+mod AttributeLemmas
 mod SizeLemmas
+mod Symbols
 mod Zipper

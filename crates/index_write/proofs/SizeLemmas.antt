@@ -17,7 +17,7 @@ use Rattle.doc_fields.specs.Values.{lock_word}
 use Rattle.index_model.specs.declared.nodes.Kind.TheVariants as kinds
 use Rattle.index_model.specs.declared.nodes.Node.{Node}
 use Rattle.index_model.specs.declared.nodes.RawExtent.{RawExtent}
-use Rattle.index_model.specs.Canonical.{canonical, directory_text, head, if_told, nodes_text, policy, spot, volume_text, words, element, extent, file_front, file_text, link_text, name, number, time, times, truth}
+use Rattle.index_model.specs.Canonical.{attributes, canonical, directory_text, head, if_told, nodes_text, policy, spot, volume_text, words, element, extent, file_front, file_text, link_text, name, number, time, times, truth}
 use Rattle.index_model.specs.Values.{IndexValue, Nodes, no_nodes, directory, file, link, VolumeFacts, all_nodes, count, listed, value_in, NodeFacts, NodeValue, TimesValue, value_of}
 use Rattle.index_write.specs.Parts.{spot_text, volume_front, volume_rear}
 use Rattle.index_write.proofs.Assembled.{state_laws}
@@ -90,24 +90,25 @@ times_length t =
     (el AccessTime (civil_text t.access) 30 25 refl (civil_length t.access)))
     (el BackupTime (civil_text t.backup) 30 25 refl (civil_length t.backup))
 
-facts_sum : (u n t : ℕ) → u + 19 + n + 279 + (t + 21) ≡ 319 + u + n + t
-facts_sum u n t = omega arith
+facts_sum : (u n t x : ℕ) → u + 19 + n + 279 + (t + 21) + x ≡ 319 + u + n + t + x
+facts_sum u n t x = omega arith
 
-facts_count : (f : NodeFacts) → facts_length f ≡ 319 + length (decimal f.uid) + length (name Name f.name) + length (bool_text f.readonly)
+facts_count : (f : NodeFacts) → facts_length f ≡ 319 + length (decimal f.uid) + length (name Name f.name) + length (bool_text f.readonly) + length (attributes f.xattrs)
 unfolding facts_length
 facts_count f =
     let a = number FileUid f.uid in
     let b = name Name f.name in
     let c = times f.times in
     let d = truth ReadOnly f.readonly in
-    cat (a ++ b ++ c) d _ _ (cat (a ++ b) c _ _ (cat a b _ _ (el FileUid (decimal f.uid) _ 19 refl refl) refl) (times_length f.times)) (el ReadOnly (bool_text f.readonly) _ 21 refl refl)
-    ∙ facts_sum (length (decimal f.uid)) (length (name Name f.name)) (length (bool_text f.readonly))
+    let e = attributes f.xattrs in
+    cat (a ++ b ++ c ++ d) e _ _ (cat (a ++ b ++ c) d _ _ (cat (a ++ b) c _ _ (cat a b _ _ (el FileUid (decimal f.uid) _ 19 refl refl) refl) (times_length f.times)) (el ReadOnly (bool_text f.readonly) _ 21 refl refl)) refl
+    ∙ facts_sum (length (decimal f.uid)) (length (name Name f.name)) (length (bool_text f.readonly)) (length (attributes f.xattrs))
 
-two : (l u n s t all : ℕ) → l ≡ 319 + u + n + t → s ≡ bounded n → all ≡ bounded (319 + u + s + t) → all ≡ bounded l
-two l u n s t all a b c = omega (arith, a, b, c)
+two : (l u n s t x y all : ℕ) → l ≡ 319 + u + n + t + x → s ≡ bounded n → y ≡ bounded x → all ≡ bounded (319 + u + s + t + y) → all ≡ bounded l
+two l u n s t x y all a b c d = omega (arith, a, b, c, d)
 
-pub facts_total : (f : NodeFacts) (d n t all : ℕ) → d ≡ length (decimal f.uid) → n ≡ size (name Name f.name) → t ≡ length (bool_text f.readonly) → all ≡ bounded (319 + d + n + t) → all ≡ bounded (facts_length f)
-facts_total f d n t all is_d is_n is_t is = two (facts_length f) d (length (name Name f.name)) n t all (rw (is_d, is_t) (facts_count f)) is_n is
+pub facts_total : (f : NodeFacts) (d n t y all : ℕ) → d ≡ length (decimal f.uid) → n ≡ size (name Name f.name) → t ≡ length (bool_text f.readonly) → y ≡ size (attributes f.xattrs) → all ≡ bounded (319 + d + n + t + y) → all ≡ bounded (facts_length f)
+facts_total f d n t y all is_d is_n is_t is_y is = two (facts_length f) d (length (name Name f.name)) n t (length (attributes f.xattrs)) y all (rw (is_d, is_t) (facts_count f)) is_n is_y is
 
 of_directory : (l f n all : ℕ) → l ≡ f + 44 → n ≡ bounded f → all ≡ min (n + 44) (2 ^ 64 - 1) → all ≡ bounded l
 of_directory l f n all a b c = omega (arith, a, b, c)
@@ -115,7 +116,7 @@ of_directory l f n all a b c = omega (arith, a, b, c)
 inside_count : (f : NodeFacts) (inside : List ℕ) → length (directory_text f inside) ≡ facts_length f + (length inside + 21) + 23
 unfolding facts_length
 inside_count f inside =
-    let facts = number FileUid f.uid ++ name Name f.name ++ times f.times ++ truth ReadOnly f.readonly in
+    let facts = number FileUid f.uid ++ name Name f.name ++ times f.times ++ truth ReadOnly f.readonly ++ attributes f.xattrs in
     el Directory (facts ++ element Contents inside) _ 23 refl (cat facts (element Contents inside) _ _ refl (el Contents inside _ 21 refl refl))
 
 directory_count : (f : NodeFacts) → directory_length f ≡ facts_length f + 44
@@ -128,8 +129,8 @@ directory_count f = inside_count f [] ∙ more (facts_length f)
 pub directory_total : (f : NodeFacts) (n all : ℕ) → n ≡ bounded (facts_length f) → all ≡ min (n + 44) (2 ^ 64 - 1) → all ≡ bounded (directory_length f)
 directory_total f n all is_n is = of_directory (directory_length f) (facts_length f) n all (directory_count f) is_n is
 
-front_sum : (u n l t : ℕ) → u + 19 + n + (l + 17) + 279 + (t + 21) ≡ 319 + u + n + t + l + 17
-front_sum u n l t = omega arith
+front_sum : (u n l t x : ℕ) → u + 19 + n + (l + 17) + 279 + (t + 21) + x ≡ 319 + u + n + t + x + l + 17
+front_sum u n l t x = omega arith
 
 front_count : (f : NodeFacts) (bytes : ℕ) → length (file_front f bytes) ≡ facts_length f + length (decimal bytes) + 17
 front_count f bytes =
@@ -138,8 +139,9 @@ front_count f bytes =
     let c = number Length bytes in
     let d = times f.times in
     let e = truth ReadOnly f.readonly in
-    cat (a ++ b ++ c ++ d) e _ _ (cat (a ++ b ++ c) d _ _ (cat (a ++ b) c _ _ (cat a b _ _ (el FileUid (decimal f.uid) _ 19 refl refl) refl) (el Length (decimal bytes) _ 17 refl refl)) (times_length f.times)) (el ReadOnly (bool_text f.readonly) _ 21 refl refl)
-    ∙ front_sum (length (decimal f.uid)) (length (name Name f.name)) (length (decimal bytes)) (length (bool_text f.readonly))
+    let g = attributes f.xattrs in
+    cat (a ++ b ++ c ++ d ++ e) g _ _ (cat (a ++ b ++ c ++ d) e _ _ (cat (a ++ b ++ c) d _ _ (cat (a ++ b) c _ _ (cat a b _ _ (el FileUid (decimal f.uid) _ 19 refl refl) refl) (el Length (decimal bytes) _ 17 refl refl)) (times_length f.times)) (el ReadOnly (bool_text f.readonly) _ 21 refl refl)) refl
+    ∙ front_sum (length (decimal f.uid)) (length (name Name f.name)) (length (decimal bytes)) (length (bool_text f.readonly)) (length (attributes f.xattrs))
     ∙ ap (λ (n : ℕ). n + length (decimal bytes) + 17) (sym (facts_count f))
 
 of_file : (l f d x n e all : ℕ) → l ≡ f + d + 17 + (x + 25) + 13 → n ≡ bounded f → e ≡ bounded x → all ≡ bounded (55 + n + d + e) → all ≡ bounded l

@@ -6,13 +6,13 @@ use Rattle.std.proofs.lemmas.Option.{slice_get-get_or}
 use Rattle.index_model.specs.declared.nodes.Kind.{Kind}
 use Rattle.index_model.specs.declared.nodes.Kind.TheVariants as kinds
 use Rattle.index_model.specs.declared.nodes.Node.{Node}
-use Rattle.index_model.specs.Canonical.{directory_text, name, nodes_text, number, times, truth}
+use Rattle.index_model.specs.Canonical.{attributes, directory_text, name, nodes_text, number, times, truth}
 use Rattle.doc_fields.specs.declared.starts.Attribute.TheVariants.{Absent}
 use Rattle.doc_fields.specs.declared.tags.Tag.TheVariants.{Contents, Directory, FileUid, Name, ReadOnly}
 use Rattle.doc_fields.specs.Written.{end_text, start_text}
 use Rattle.index_model.specs.Values.{IndexValue, Nodes, no_nodes, directory, file, link, NodeFacts, NodeValue, all_nodes, count, listed, value_in, value_of}
 use Rattle.index_write.specs.declared.nodes.Open.{Open}
-use Rattle.index_write.specs.Parts.{closing, node_text, opening, tree_text}
+use Rattle.index_write.specs.Parts.{closing, node_text, opening, traits, tree_text}
 use Rattle.index_write.specs.Rests.{Behind, Goes, Rests, Within, closings, coming, coming_text, opened, parent_at}
 
 cut : (nodes : List Node) (at : ℕ) (d : Node) → at < length nodes → drop at nodes ≡ get_or nodes at d ∷ drop (at + 1) nodes
@@ -88,13 +88,13 @@ outer nodes dir at x xs ((p, directory f i b) ∷ behind) within e = omega (arit
 outer nodes dir at x xs ((p, file f n l b) ∷ behind) within e = omega (arith, within.1, ap (λ (n : NodeValue). n.parent) (head_of _ _ _ _ e))
 outer nodes dir at x xs ((p, link f t b) ∷ behind) within e = omega (arith, within.1, ap (λ (n : NodeValue). n.parent) (head_of _ _ _ _ e))
 
-parts : (s u n t r c i ec ed m : List ℕ) → (s ++ (u ++ n ++ t ++ r ++ (c ++ i ++ ec)) ++ ed) ++ m ≡ (s ++ (u ++ n ++ t ++ r) ++ c) ++ (i ++ ((ec ++ ed) ++ m))
-parts s u n t r c i ec ed m = simp (append_assoc)
+parts : (s u n t r a c i ec ed m : List ℕ) → (s ++ (u ++ n ++ t ++ r ++ a ++ (c ++ i ++ ec)) ++ ed) ++ m ≡ (s ++ (u ++ n ++ (t ++ r ++ a)) ++ c) ++ (i ++ ((ec ++ ed) ++ m))
+parts s u n t r a c i ec ed m = simp (append_assoc)
 
 -- the text of a directory, which ends behind its children
 pub directory_parts : (f : NodeFacts) (inside more : List ℕ) → directory_text f inside ++ more ≡ opening f ++ (inside ++ (closing ++ more))
-unfolding opening
-directory_parts f inside more = parts (start_text Directory Absent) (number FileUid f.uid) (name Name f.name) (times f.times) (truth ReadOnly f.readonly) (start_text Contents Absent) inside (end_text Contents) (end_text Directory) more
+unfolding opening traits
+directory_parts f inside more = parts (start_text Directory Absent) (number FileUid f.uid) (name Name f.name) (times f.times) (truth ReadOnly f.readonly) (attributes f.xattrs) (start_text Contents Absent) inside (end_text Contents) (end_text Directory) more
 
 writes_inside : (nodes : List Node) (at : ℕ) (o : Open) (node : Node) (xs : List NodeValue) (inside : Nodes) (behind : Behind)
     → value_of node ∷ xs ≡ map value_of (drop at nodes) → map value_of (drop (at + 1) nodes) ≡ xs → parent_at nodes at ≡ o.dir → node.parent ≡ o.dir → length behind ≡ o.depth → o.dir < at → Within nodes o.dir behind

@@ -5,22 +5,31 @@ use Rattle.doc_fields.specs.declared.starts.Attribute.TheVariants.{Absent}
 use Rattle.doc_fields.specs.declared.tags.Tag.TheVariants.{VolumeUuid, Partition, GenerationNumber, UpdateTime}
 use Rattle.doc_fields.specs.declared.tags.Tag.TheVariants.{StartBlock, AllowPolicyUpdate, VolumeLockState}
 use Rattle.doc_fields.specs.declared.tags.Tag.TheVariants.{HighestFileUid, Creator, Comment, Directory, File, FileUid}
-use Rattle.doc_fields.specs.declared.tags.Tag.TheVariants.{Name, ReadOnly, Contents}
+use Rattle.doc_fields.specs.declared.tags.Tag.TheVariants.{Name, ReadOnly, Contents, Value}
 use Rattle.tape_types.specs.Uuids.{uuid_text}
 use Rattle.doc_fields.specs.Values.{lock_word}
 use Rattle.doc_fields.specs.Written.{start_text, end_text}
 use Rattle.index_model.specs.declared.nodes.Kind.{Kind}
 use Rattle.index_model.specs.declared.nodes.Kind.TheVariants as kinds
 use Rattle.index_model.specs.declared.indexes.Spot.{Spot}
+use Rattle.doc_elements.specs.Written.{bytes_text, bytes_type}
 use Rattle.index_model.specs.Canonical.{element, number, words, time, letter, if_told, policy, name, times, truth}
-use Rattle.index_model.specs.Canonical.{file_front, file_text, link_text, directory_text, nodes_text}
+use Rattle.index_model.specs.Canonical.{attributes, file_front, file_text, link_text, directory_text, nodes_text}
 use Rattle.index_model.specs.Values.{IndexValue, NodeFacts, NodeValue, VolumeFacts}
+
+-- the value of an extended attribute, as a text where it is one, else in base64
+abbrev pub value_text : List ℕ → List ℕ
+value_text bytes = start_text Value (bytes_type bytes) ++ bytes_text bytes ++ end_text Value
+
+-- what is told of each node behind its name and the length of a file
+unfoldable pub traits : NodeFacts → List ℕ
+traits f = times f.times ++ truth ReadOnly f.readonly ++ attributes f.xattrs
 
 -- a directory, up to its children
 unfoldable pub opening : NodeFacts → List ℕ
 opening f =
     start_text Directory Absent
-    ++ (number FileUid f.uid ++ name Name f.name ++ times f.times ++ truth ReadOnly f.readonly)
+    ++ (number FileUid f.uid ++ name Name f.name ++ traits f)
     ++ start_text Contents Absent
 
 -- a file or a link of so many bytes, up to its own last element

@@ -5,7 +5,7 @@ use Rattle.index_model.specs.declared.nodes.Node.{Node}
 use Rattle.index_model.specs.declared.nodes.Kind.{Kind}
 use Rattle.index_model.specs.declared.nodes.Kind.TheVariants as kinds
 use Rattle.doc_fields.specs.declared.tags.Tag.TheVariants.{FileUid, Name, ReadOnly}
-use Rattle.index_model.specs.Canonical.{number, name, times, truth, directory_text, file_text, link_text}
+use Rattle.index_model.specs.Canonical.{attributes, number, name, times, truth, directory_text, file_text, link_text}
 use Rattle.index_model.specs.Values.{NodeFacts, NodeValue, value_of}
 
 -- the count, or the greatest number of 64 bits where it is greater
@@ -18,7 +18,8 @@ size text = bounded (length text)
 
 -- the bytes of what is told of each node, whatever it is
 unfoldable pub facts_length : NodeFacts → ℕ
-facts_length f = length (number FileUid f.uid ++ name Name f.name ++ times f.times ++ truth ReadOnly f.readonly)
+facts_length f =
+    length (number FileUid f.uid ++ name Name f.name ++ times f.times ++ truth ReadOnly f.readonly ++ attributes f.xattrs)
 
 -- the bytes of a directory without its children
 unfoldable pub directory_length : NodeFacts → ℕ

@@ -4,7 +4,7 @@
 ghost use Rattle.std.specs.Prelude.{◌≡◌, ◌++◌, ◌∷◌, [], OnOk, OnErr};
 ghost use Rattle.std.specs.Fmt.{decimal};
 ghost use Rattle.doc_fields.specs.Written.{bool_text, escape, Keeps};
-ghost use Rattle.doc_fields.specs.declared.tags.Tag.TheVariants.{Name, Symlink};
+ghost use Rattle.doc_fields.specs.declared.tags.Tag.TheVariants.{Key, Name, Symlink};
 ghost use Rattle.index_model.specs.Canonical as canonical;
 ghost use Rattle.ltfs_text.specs.Names.{encoded, written};
 ghost use Rattle.tape_types.specs.Times.{civil_of, civil_text};
@@ -110,5 +110,19 @@ pub fn put_symlink(out: &mut Vec<u8>, text: &str) -> Result<(), NoMemory>
         put(out, b"</symlink>")
     } else {
         put_words(out, b"<symlink>", text, b"</symlink>")
+    }
+}
+
+/// The element of the key of an extended attribute.
+pub fn put_key(out: &mut Vec<u8>, key: &str) -> Result<(), NoMemory>
+    ensures ok { OnOk result (out.new.items ≡ out.old.items ++ canonical.name Key key.now) }
+    ensures err { OnErr result (Keeps out.old.items out.new.items) }
+{
+    if has_special(key) {
+        put(out, b"<key percentencoded=\"true\">")?;
+        put_encoded(out, key)?;
+        put(out, b"</key>")
+    } else {
+        put_words(out, b"<key>", key, b"</key>")
     }
 }

@@ -3,21 +3,25 @@
 ghost use Rattle.std.specs.Prelude.{◌≡◌, ◌+◌, ◌^◌, ◌-◌, length, map, min, sum};
 ghost use Rattle.std.specs.Fmt.{decimal};
 ghost use Rattle.std.specs.List.{flat_map};
+ghost use Rattle.base64.specs.Engines.{standard};
+ghost use Rattle.base64.specs.GeneralPurpose.{encode_of};
 ghost use Rattle.doc_fields.specs.Values.{lock_word};
 ghost use Rattle.doc_fields.specs.Written.{bool_text, escape, escaped};
-ghost use Rattle.doc_fields.specs.declared.tags.Tag.TheVariants.{Comment, Name, PreviousGenerationLocation, Symlink};
-ghost use Rattle.doc_fields.specs.declared.tags.Tag.TheVariants.{VolumeLockState};
+ghost use Rattle.doc_fields.specs.declared.tags.Tag.TheVariants.{Comment, Key, Name, PreviousGenerationLocation};
+ghost use Rattle.doc_fields.specs.declared.tags.Tag.TheVariants.{Symlink, VolumeLockState};
 ghost use Rattle.index_model.specs.Canonical as canonical;
 ghost use Rattle.index_model.specs.Canonical.{canonical};
 ghost use Rattle.index_model.specs.Values.{facts_of, value_of, volume_of, IndexValue, Tells};
-ghost use Rattle.index_write.specs.Parts.{spot_text, volume_front, volume_rear};
+ghost use Rattle.index_write.specs.Parts.{spot_text, value_text, volume_front, volume_rear};
 ghost use Rattle.index_write.specs.Sizes.{bounded, directory_length, facts_length, node_length, nodes_sum, size};
 ghost use Rattle.ltfs_text.specs.Names.{encoded};
 
+use crate::attributes::text_of;
 use doc_fields::LockState;
 use index_model::{Index, Kind, Node, Policy, RawExtent, Spot, TextList};
 use itoa::Buffer;
 use ltfs_text::{ESCAPED, has_special};
+use node_keys::Xattr;
 use percent_encoding::percent_encode;
 use tape_types::Text;
 
@@ -103,6 +107,67 @@ fn symlink_len(text: &str) -> u64
     }
 }
 
+fn key_len(key: &str) -> u64
+    ensures { result ≡ size (canonical.name Key key.now) }
+{
+    if has_special(key) {
+        encoded_len(key).saturating_add(b"<key percentencoded=\"true\"></key>".len() as u64)
+    } else {
+        escape_len(key.as_bytes()).saturating_add(b"<key></key>".len() as u64)
+    }
+}
+
+/// The length of these bytes in base64.
+fn symbols_len(bytes: &[u8]) -> u64
+    ensures { result ≡ size (encode_of standard bytes.now) }
+{
+    match base64::encoded_len(bytes.len(), true) {
+        Some(count) => count as u64,
+        None => u64::MAX,
+    }
+}
+
+fn value_len(bytes: &[u8]) -> u64
+    ensures { result ≡ size (value_text bytes.now) }
+{
+    match text_of(bytes) {
+        Some(text) => escape_len(text.as_bytes()).saturating_add(
+            b"<value type=\"text\"></value>".len() as u64,
+        ),
+        None => symbols_len(bytes).saturating_add(b"<value type=\"base64\"></value>".len() as u64),
+    }
+}
+
+fn xattr_len(xattr: &Xattr) -> u64
+    ensures { result ≡ size (canonical.xattr xattr.now) }
+{
+    total(&[
+        b"<xattr></xattr>".len() as u64,
+        key_len(xattr.key.as_str()),
+        value_len(xattr.value.as_slice()),
+    ])
+}
+
+fn xattrs_len(xattrs: &[Xattr]) -> u64
+    ensures { result ≡ size (flat_map canonical.xattr xattrs.now) }
+{
+    let mut sum: u64 = 0;
+    for xattr in xattrs {
+        sum = sum.saturating_add(xattr_len(xattr));
+    }
+    sum
+}
+
+/// The length of the element of all attributes of a node.
+fn attributes_len(xattrs: &[Xattr]) -> u64
+    ensures { result ≡ size (canonical.attributes xattrs.now) }
+{
+    if xattrs.is_empty() {
+        return 0;
+    }
+    xattrs_len(xattrs).saturating_add(b"<extendedattributes></extendedattributes>".len() as u64)
+}
+
 fn extent_len(extent: &RawExtent) -> u64
     ensures { result ≡ size (canonical.extent extent.now) }
 {
@@ -146,6 +211,7 @@ fn facts_len(node: &Node) -> u64
         digits_len(node.uid),
         name_len(node.name.as_str()),
         truth_len(node.readonly),
+        attributes_len(node.xattrs.as_slice()),
     ])
 }
 

@@ -2,6 +2,7 @@
 //! white space between elements.
 #![tactic(auto)]
 
+mod attributes;
 mod fields;
 mod lengths;
 mod nodes;

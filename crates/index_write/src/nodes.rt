@@ -6,8 +6,9 @@ ghost use Rattle.doc_fields.specs.Written.{Keeps};
 ghost use Rattle.index_model.specs.Canonical as canonical;
 ghost use Rattle.index_model.specs.Values.{facts_of, times_of, value_of, IndexValue, all_nodes};
 ghost use Rattle.index_write.specs.Rests.{closings, opened, parent_at, Goes, Rests};
-ghost use Rattle.index_write.specs.Parts.{closing, file_start, node_text, opening, tree_text};
+ghost use Rattle.index_write.specs.Parts.{closing, file_start, node_text, opening, traits, tree_text};
 
+use crate::attributes::put_attributes;
 use crate::fields::{put, put_moment, put_name, put_number, put_sign, put_symlink, put_truth};
 use index_model::{Kind, Node, RawExtent};
 use tape_types::{NoMemory, Text, Times};
@@ -51,6 +52,17 @@ fn put_extents(out: &mut Vec<u8>, extents: &[RawExtent]) -> Result<(), NoMemory>
     Ok(())
 }
 
+/// What is told of each node behind its name and the length of a file.
+#[tactic(auto, unfolding(crate::specs::Parts::traits))]
+fn put_traits(out: &mut Vec<u8>, node: &Node) -> Result<(), NoMemory>
+    ensures ok { OnOk result (out.new.items ≡ out.old.items ++ traits (facts_of node.now)) }
+    ensures err { OnErr result (Keeps out.old.items out.new.items) }
+{
+    put_times(out, &node.times)?;
+    put_truth(out, b"<readonly>", node.readonly, b"</readonly>")?;
+    put_attributes(out, node.xattrs.as_slice())
+}
+
 /// What a directory has before its children.
 fn put_opening(out: &mut Vec<u8>, node: &Node) -> Result<(), NoMemory>
     ensures ok { OnOk result (out.new.items ≡ out.old.items ++ opening (facts_of node.now)) }
@@ -58,8 +70,8 @@ fn put_opening(out: &mut Vec<u8>, node: &Node) -> Result<(), NoMemory>
 {
     put_number(out, b"<directory><fileuid>", node.uid, b"</fileuid>")?;
     put_name(out, node.name.as_str())?;
-    put_times(out, &node.times)?;
-    put_truth(out, b"<readonly>", node.readonly, b"</readonly><contents>")
+    put_traits(out, node)?;
+    put(out, b"<contents>")
 }
 
 /// What a file or a link of so many bytes has in front of its own last element.
@@ -70,8 +82,7 @@ fn put_front(out: &mut Vec<u8>, node: &Node, length: u64) -> Result<(), NoMemory
     put_number(out, b"<file><fileuid>", node.uid, b"</fileuid>")?;
     put_name(out, node.name.as_str())?;
     put_number(out, b"<length>", length, b"</length>")?;
-    put_times(out, &node.times)?;
-    put_truth(out, b"<readonly>", node.readonly, b"</readonly>")
+    put_traits(out, node)
 }
 
 fn put_file(
