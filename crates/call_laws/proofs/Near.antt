@@ -62,7 +62,7 @@ module _ (one other : Tape) (size : ℕ) (some : 1 ≤ size)
     same_node : (path : Path) (node : Node) → fin.get t.nodes path ≡ Some node
         → plain_node_of one node ≡ plain_node_of other node
     same_node path node there =
-        ap (λ k. record { uid = node.uid; times = node.times; readonly = node.readonly; kind = k }) (by node.kind refl)
+        ap (λ k. record (plain_node_of one node) { kind = k }) (by node.kind refl)
       where
         by : (kind : Kind) → node.kind ≡ kind → plain_kind_of one kind ≡ plain_kind_of other kind
         by kinds.Dir e = refl

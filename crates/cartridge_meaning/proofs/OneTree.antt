@@ -32,8 +32,9 @@ module _ (tape : Tape) (letters : Letters) (size : ℕ) where
       let uid = h.uid ∙ sym k.uid in
       let times = h.times ∙ sym k.times in
       let readonly = h.readonly ∙ sym k.readonly in
+      let keys = h.keys ∙ sym k.keys in
       let kind = kind_once node.kind a.kind b.kind h.kind k.kind in
-      λ i. record { uid = uid i; times = times i; readonly = readonly i; kind = kind i }
+      λ i. record { uid = uid i; times = times i; readonly = readonly i; keys = keys i; kind = kind i }
 
   module _ (nodes : List told.Node) (before : ℕ) where
     -- what stands at a path in one map stands there in another

@@ -2,6 +2,7 @@
 use Rattle.std.proofs.Common.{ℕ, zero, suc, ◌≡◌, ◌+◌, ◌<◌, ◌≤◌, List, [], ◌∷◌, ◌++◌, length, Some, ap, ◌∙◌, refl, subst, arith}
 use Rattle.std.specs.FinMap as fin
 use Rattle.std.proofs.lemmas.Option.{slice_get_within}
+use Rattle.node_keys.specs.Keys.{map_of}
 use Rattle.index_model.specs.Places.{IsAt}
 use Rattle.index_model.specs.declared.nodes.Node as told
 use Rattle.index_model.specs.declared.nodes.Kind as told_kind
@@ -30,6 +31,7 @@ node_of letters size at node = record {
   uid = node.uid;
   times = node.times;
   readonly = node.readonly;
+  keys = record { map = map_of node.xattrs; spare = 0 };
   kind = kind_of letters size node.kind;
 }
 
@@ -43,7 +45,7 @@ is_kind letters size (told_kinds.Link text) = refl
 pub is_node : (letters : Letters) (size at : ℕ) (node : told.Node)
     → IsNodeOf letters size node (node_of letters size at node)
 is_node letters size at node =
-    record { uid = refl; times = refl; readonly = refl; kind = is_kind letters size node.kind }
+    record { uid = refl; times = refl; readonly = refl; keys = refl; kind = is_kind letters size node.kind }
 
 pub some_at : {X : Type 0} (xs : List X) (k : ℕ) → k < length xs → (x : X) × IsAt xs k x
 some_at [] k lt = absurd (omega (arith, lt))

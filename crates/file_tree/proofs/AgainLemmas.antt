@@ -10,6 +10,7 @@ use Rattle.std.proofs.lemmas.Bool.{cases_lt}
 use Rattle.std.proofs.lemmas.Cmp.{tied_itself}
 use Rattle.std.proofs.lemmas.List.{append-nil}
 use Rattle.std.proofs.lemmas.Option.{slice_get_within}
+use Rattle.node_keys.specs.Keys.{list_of}
 use Rattle.index_model.specs.declared.indexes.Index.{Index}
 use Rattle.index_model.specs.declared.nodes.Node as told
 use Rattle.index_model.specs.declared.nodes.Kind as told_kind
@@ -295,16 +296,16 @@ module _ (letters : Letters) (size : ℕ) (index : Index) (can : CanMount index 
       let placed = placed_so i e is told.0 at (subst (λ k. IsPathOf nodes k e.0) number told.2) in (
         told.0,
         at,
-        same (tell e).parent told.0.parent e.1.uid told.0.uid (tell e).name told.0.name e.1.times told.0.times e.1.readonly told.0.readonly (told_kind_of letters e.1.kind) (kind_in_order letters size told.0.kind)
-            placed.parent told.3.uid placed.name told.3.times told.3.readonly (kind_again told.0.kind e.1.kind told.3.kind),
+        λ i. record {
+          parent = placed.parent i;
+          uid = told.3.uid i;
+          name = placed.name i;
+          times = told.3.times i;
+          readonly = told.3.readonly i;
+          xattrs = list_of (told.3.keys i);
+          kind = kind_again told.0.kind e.1.kind told.3.kind i;
+        },
       )
-    where
-      same : (a b c d : ℕ) (x y : Name) (f g : _) (h j : _) (k l : told_kind.Kind) → a ≡ b → c ≡ d → x ≡ y → f ≡ g → h ≡ j → k ≡ l
-          → ◌≡◌ {A = told.Node} (record { parent = a; uid = c; name = x; times = f; readonly = h; kind = k }) (record { parent = b; uid = d; name = y; times = g; readonly = j; kind = l })
-      same a b c d x y f g h j k l h1 h2 h3 h4 h5 h6 =
-          ap (λ z. record { parent = z; uid = c; name = x; times = f; readonly = h; kind = k }) h1 ∙ ap (λ z. record { parent = b; uid = z; name = x; times = f; readonly = h; kind = k }) h2
-          ∙ ap (λ z. record { parent = b; uid = d; name = z; times = f; readonly = h; kind = k }) h3 ∙ ap (λ z. record { parent = b; uid = d; name = y; times = z; readonly = h; kind = k }) h4
-          ∙ ap (λ z. record { parent = b; uid = d; name = y; times = g; readonly = z; kind = k }) h5 ∙ ap (λ z. record { parent = b; uid = d; name = y; times = g; readonly = j; kind = z }) h6
 
   pub told_again : told_nodes letters t ≡ map (node_in_order letters size) nodes
   told_again = same_by_get (map tell (fin.entries m)) (map (node_in_order letters size) nodes) (λ i. by i (slice_get (fin.entries m) i) refl)

@@ -4,6 +4,9 @@ use Rattle.std.specs.Option.{option_map}
 use Rattle.std.specs.List.{AllByRecursion, slice_get}
 use Rattle.std.specs.FinMap as fin
 use Rattle.tape_types.specs.declared.cartridges.Extent.{Extent}
+use Rattle.node_keys.specs.declared.xattrs.Xattr.{Xattr}
+use Rattle.node_keys.specs.Keys.{list_of}
+use Rattle.node_keys.proofs.ListLaws.{list_apart, places_apart}
 use Rattle.index_model.specs.declared.nodes.Node as told
 use Rattle.index_model.specs.declared.nodes.Kind as told_kind
 use Rattle.index_model.specs.declared.nodes.Kind.TheVariants as told_kinds
@@ -11,6 +14,7 @@ use Rattle.index_model.specs.declared.nodes.RawExtent.{RawExtent}
 use Rattle.index_model.specs.declared.indexes.Index.{Index}
 use Rattle.index_model.specs.Places.{IsAt}
 use Rattle.index_model.specs.Uids.{AreUids}
+use Rattle.index_model.specs.Keys.{AreKeysApart}
 use Rattle.index_model.specs.Names.{AreNamesApart}
 use Rattle.index_model.specs.Extents.{AreFiles, IsFileAt, ShareOffset}
 use Rattle.index_model.specs.Valid.{Agrees}
@@ -149,6 +153,13 @@ module _ (letters : Letters) (volume : List ℕ) (m : Nodes) (size highest : ℕ
       let path : a.u ++ a.x ∷ [] ≡ b.u ++ b.x ∷ [] = ap (λ u. u ++ a.x ∷ []) dirs ∙ ap (λ x. b.u ++ x ∷ []) names in
       sym (entry_place m at (a.u ++ a.x ∷ []) a.n a.is) ∙ ap (λ q. place_of q (fin.keys m)) path ∙ entry_place m other (b.u ++ b.x ∷ []) b.n b.is
 
+  pub keys_agree : AreKeysApart nodes
+  keys_agree at h =
+      let e = entry_at at h.node h.is in
+      let keys : List Xattr = list_of e.0.1.keys.map in
+      places_apart keys (list_apart e.0.1.keys.map) h.earlier h.later h.one h.other h.two
+      (subst (λ (n : told.Node). IsAt n.xattrs h.earlier h.one) e.2 h.one_is) (subst (λ (n : told.Node). IsAt n.xattrs h.later h.other) e.2 h.other_is) h.same
+
   file_at : (at bytes : ℕ) (raws : List RawExtent) → IsFileAt nodes at bytes raws → (room : Room) × IsFileOf size room.laid × (room.laid.length ≡ bytes) × (map (raw_of letters) room.laid.extents ≡ raws)
   file_at at bytes raws f =
       let e = entry_at at f.node f.is in
@@ -170,5 +181,6 @@ pub told_agree : (letters : Letters) (t : FileTree) → IsGood t → (index : In
 told_agree letters t good index nodes_are highest_is = record {
   uids = subst (λ h. AreUids h index.nodes) (sym highest_is) (subst (AreUids t.highest) (sym nodes_are) (uids_agree letters t.name t.nodes t.block_size t.highest (good.valid whole) good.files));
   names = subst AreNamesApart (sym nodes_are) (names_agree letters t.name t.nodes t.block_size t.highest (good.valid whole) good.files);
+  keys = subst AreKeysApart (sym nodes_are) (keys_agree letters t.name t.nodes t.block_size t.highest (good.valid whole) good.files);
   files = subst AreFiles (sym nodes_are) (files_agree letters t.name t.nodes t.block_size t.highest (good.valid whole) good.files);
 }

@@ -26,7 +26,7 @@ use Rattle.file_tree.proofs.PlainLemmas.{plain_get}
 
 module _ (one other : Tape) (t : FileTree) (alike : AreAlikeIn (TreeStandsIn t) one other) where
   same_node : (path : Path) (node : Node) → fin.get t.nodes path ≡ Some node → plain_node_of one node ≡ plain_node_of other node
-  same_node path node there = ap (λ k. record { uid = node.uid; times = node.times; readonly = node.readonly; kind = k }) (by node.kind refl)
+  same_node path node there = ap (λ k. record { uid = node.uid; times = node.times; readonly = node.readonly; keys = node.keys.map; kind = k }) (by node.kind refl)
     where
       by : (kind : Kind) → node.kind ≡ kind → plain_kind_of one kind ≡ plain_kind_of other kind
       by kinds.Dir e = refl

@@ -1,4 +1,4 @@
--- Names and texts of links stay such as an index may tell.
+-- Names, texts of links and attributes stay such as an index may tell.
 use Rattle.std.proofs.Common.{Option, ◌≡◌, ◌⊎◌, ℕ, ◌≤◌, Bool, true, false, cond, eqb, ltb, List, [], ◌∷◌, ◌++◌, length, Some, None, is_some, sym, ap, ◌∙◌, refl, subst, arith, ⊎_elim}
 use Rattle.std.specs.FinMap as fin
 use Rattle.std.specs.Str.{IsUtf8, chars}
@@ -6,6 +6,7 @@ use Rattle.std.proofs.lemmas.Bool.Decides.{nat_tests}
 use Rattle.tape_types.specs.Names.{name_fault, has_byte, is_dot}
 use Rattle.tape_types.specs.declared.names.NameErr.{NameErr}
 use Rattle.tape_types.specs.declared.names.NameErr.TheVariants as faults
+use Rattle.node_keys.specs.Keys.{KeyRoom}
 use Rattle.index_model.specs.Names.{IsNodeName}
 use Rattle.plain_tree.specs.declared.calls.Refusal.TheVariants as refusals
 use Rattle.plain_tree.specs.Paths.{is_at_or_below}
@@ -70,14 +71,15 @@ fit_insert m p node all this q n is = ⊎_elim
     (λ apart. all q n (sym (get_other m p q node apart) ∙ is))
     (is_or_not p q)
 
-pub fit_change : (m next : Nodes) (n : ℕ) (P : Node → Node → Type 0) (c : IsChangedAt m next n P) → AreFit m → ((text : List ℕ) → c.new.kind ≡ kinds.Link text → c.old.kind ≡ kinds.Link text) → AreFit next
-fit_change m next n P c all same = subst AreFit (sym c.now) (fit_insert m c.path c.new all (record {
+pub fit_change : (m next : Nodes) (n : ℕ) (P : Node → Node → Type 0) (c : IsChangedAt m next n P) → AreFit m → ((text : List ℕ) → c.new.kind ≡ kinds.Link text → c.old.kind ≡ kinds.Link text) → c.new.keys ≡ c.old.keys → AreFit next
+fit_change m next n P c all same keys = subst AreFit (sym c.now) (fit_insert m c.path c.new all (record {
   named = (all c.path c.old c.there).named;
   text = λ text is. (all c.path c.old c.there).text text (same text is);
+  keys = λ key value is. (all c.path c.old c.there).keys key value (ap (λ (k : KeyRoom). fin.get k.map key) (sym keys) ∙ is);
 }))
 
-pub fit_same : (m next : Nodes) (n : ℕ) (P : Node → Node → Type 0) (c : IsChangedAt m next n P) → c.new.kind ≡ c.old.kind → AreFit m → AreFit next
-fit_same m next n P c same all = fit_change m next n P c all (λ text is. sym same ∙ is)
+pub fit_same : (m next : Nodes) (n : ℕ) (P : Node → Node → Type 0) (c : IsChangedAt m next n P) → c.new.kind ≡ c.old.kind → c.new.keys ≡ c.old.keys → AreFit m → AreFit next
+fit_same m next n P c same keys all = fit_change m next n P c all (λ text is. sym same ∙ is) keys
 
 pub fit_remove : (m : Nodes) (p : Path) → AreFit m → AreFit (fin.remove m p)
 fit_remove m p all q n is = all q n (was_there m p q n is)
@@ -106,4 +108,5 @@ fit_move m from up name free good all q n is = ⊎_elim
           subst IsNodeName same ((all (from ++ r) n there).named (from ++ more.0) more.1 (ap (λ l. from ++ l) more.2 ∙ joined from more.0 (more.1 ∷ []))))
           last;
       text = (all (from ++ r) n there).text;
+      keys = (all (from ++ r) n there).keys;
     }

@@ -8,10 +8,12 @@ use Rattle.std.proofs.lemmas.List.{length-append, length-map, append-nil}
 use Rattle.tape_types.specs.declared.cartridges.Extent.{Extent}
 use Rattle.tape_types.specs.declared.cartridges.Part.{Part}
 use Rattle.tape_types.specs.declared.cartridges.Part.TheVariants as parts
+use Rattle.node_keys.proofs.ListLaws.{map_back, found_in_list}
 use Rattle.index_model.specs.declared.indexes.Index.{Index}
 use Rattle.index_model.specs.declared.nodes.Node as told
 use Rattle.index_model.specs.declared.nodes.RawExtent.{RawExtent}
 use Rattle.index_model.specs.Extents.{IsExtent, IsKind, IsFileAt}
+use Rattle.index_model.specs.Keys.{IsXattr}
 use Rattle.index_model.specs.Names.{IsNodeName, IsVolumeName, AreNames}
 use Rattle.index_model.specs.Places.{IsAt}
 use Rattle.index_model.specs.Texts.{IsLetter}
@@ -28,7 +30,7 @@ use Rattle.file_tree.specs.Tree.{Nodes, FileTree, plain_kind_of, plain_node_of, 
 use Rattle.file_tree.specs.Mounts.{Letters, part_of, extent_of, by_offset, laid_of, IsKindOf, IsNodeOf, IsPathOf, IsBuilt, IsOnVolume, EndsNear, CanMount}
 use Rattle.file_tree.specs.Mounts.IsPathOf.{root, below}
 use Rattle.file_tree.specs.Told.{letter_of, raw_of, told_kind_of, name_or, told_of, told_nodes}
-use Rattle.file_tree.specs.Valid.{IsGood, IsFileOf}
+use Rattle.file_tree.specs.Valid.{IsFit, IsGood, IsFileOf}
 use Rattle.file_tree.specs.Indexes.{TellsTree, IsFitVolume, AreLetters, without_room, as_told, IsSameTree, IndexesComeBack}
 use Rattle.name_tries.proofs.ItemLemmas.{some_same}
 use Rattle.file_tree.proofs.PathLemmas.{by_last, same_nodes}
@@ -147,14 +149,20 @@ module _ (letters : Letters) (t : FileTree) (good : IsGood t) where
     kind_back (kinds.File room) kind2 is file = ap without_room is.1 ∙ ap (λ (f : Laid). kinds.File (record { laid = f; spare = 0 })) (is.2 ∙ told_lies letters size room.laid differ (file room refl))
 
     node_back : (p : Path) (n n2 : Node) → fin.get m p ≡ Some n → IsNodeOf letters size (tell (p, n)) n2 → as_told n2 ≡ as_told n
-    node_back p n n2 there same = same_told n2.uid n.uid n2.times n.times n2.readonly n.readonly (without_room n2.kind) (without_room n.kind) same.uid same.times same.readonly
-        (kind_back n.kind n2.kind same.kind (λ room is. subst (λ s. IsFileOf s room.laid) (sym size_is) (good.files p n room there is)))
+    node_back p n n2 there same = λ i. record {
+      number = 0;
+      uid = same.uid i;
+      times = same.times i;
+      readonly = same.readonly i;
+      keys = record { map = keys_are i; spare = 0 };
+      kind = kind_is i;
+    }
       where
-        same_told : (a b : ℕ) (c d : _) (e f : Bool) (g h : Kind) → a ≡ b → c ≡ d → e ≡ f → g ≡ h
-            → ◌≡◌ {A = Node} (record { number = 0; uid = a; times = c; readonly = e; kind = g }) (record { number = 0; uid = b; times = d; readonly = f; kind = h })
-        same_told a b c d e f g h h1 h2 h3 h4 =
-            ap (λ x. record { number = 0; uid = x; times = c; readonly = e; kind = g }) h1 ∙ ap (λ x. record { number = 0; uid = b; times = x; readonly = e; kind = g }) h2
-            ∙ ap (λ x. record { number = 0; uid = b; times = d; readonly = x; kind = g }) h3 ∙ ap (λ x. record { number = 0; uid = b; times = d; readonly = f; kind = x }) h4
+        keys_are : n2.keys.map ≡ n.keys.map
+        keys_are = same.keys ∙ map_back n.keys.map
+
+        kind_is : without_room n2.kind ≡ without_room n.kind
+        kind_is = kind_back n.kind n2.kind same.kind (λ room is. subst (λ s. IsFileOf s room.laid) (sym size_is) (good.files p n room there is))
 
     there_again : (p : Path) (n : Node) → fin.get m p ≡ Some n → (n2 : Node) × (fin.get u p ≡ Some n2) × (as_told n2 ≡ as_told n)
     there_again p n there =
@@ -235,6 +243,13 @@ module _ (letters : Letters) (t : FileTree) (good : IsGood t) where
   kinds_told : AreLetters letters → AllByRecursion (λ (node : told.Node). IsKind node.kind) nodes
   kinds_told are = all_told are (fin.entries m) (λ i e is. kind_told are e.0 e.1 (entry_get m i e.0 e.1 is))
 
+  all_fit : (es : List (Path × Node)) → ((i : ℕ) (e : Path × Node) → slice_get es i ≡ Some e → IsFit e.0 e.1) → AllByRecursion (λ (node : told.Node). AllByRecursion IsXattr node.xattrs) (map tell es)
+  all_fit [] f = tt
+  all_fit (e ∷ es) f = (found_in_list IsXattr e.1.keys.map (f 0 e refl).keys, all_fit es (λ i e is. f (suc i) e is))
+
+  xattrs_told : AllByRecursion (λ (node : told.Node). AllByRecursion IsXattr node.xattrs) nodes
+  xattrs_told = all_fit (fin.entries m) (λ i e is. good.fit e.0 e.1 (entry_get m i e.0 e.1 is))
+
   count_told : length nodes ≤ 65536
   count_told =
       let few : fin.len (plain_nodes whole m) ≤ 65536 = (good.valid whole).few in
@@ -254,6 +269,7 @@ module _ (letters : Letters) (t : FileTree) (good : IsGood t) where
       count = subst (λ (l : List told.Node). length l ≤ 65536) (sym tells.nodes) count_told;
       order = subst Rattle.index_model.specs.Order.AreInOrder (sym tells.nodes) (order.told_in_order letters t good);
       names = subst AreNames (sym tells.nodes) names_told;
+      xattrs = subst (λ (l : List told.Node). AllByRecursion (λ (node : told.Node). AllByRecursion IsXattr node.xattrs) l) (sym tells.nodes) xattrs_told;
       kinds = subst (λ (l : List told.Node). AllByRecursion (λ (node : told.Node). IsKind node.kind) l) (sym tells.nodes) (kinds_told are);
     };
     agrees = told_agree letters t good index tells.nodes tells.highest;
@@ -322,7 +338,7 @@ kind_plain tape (kinds.Link text) = refl
 
 option_plain : (tape : Tape) (o : Option Node) → option_map (plain_node_of tape) (option_map as_told o) ≡ option_map (plain_node_of tape) o
 option_plain tape None = refl
-option_plain tape (Some n) = ap (λ k. Some (record { uid = n.uid; times = n.times; readonly = n.readonly; kind = k })) (kind_plain tape n.kind)
+option_plain tape (Some n) = ap (λ k. Some (record { uid = n.uid; times = n.times; readonly = n.readonly; keys = n.keys.map; kind = k })) (kind_plain tape n.kind)
 
 same_plain : (tape : Tape) (t other : FileTree) → IsSameTree t other → plain_of tape other ≡ plain_of tape t
 same_plain tape t other same =

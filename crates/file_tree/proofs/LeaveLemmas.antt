@@ -98,7 +98,7 @@ module _ (t : FileTree) (good : IsGood t) (number : ℕ) (at : Moment) (can : Ca
     unlink_good name_is = good_after t next (asks.Remove can.path) at good size name_is unlink_here
         (change_files_same middle next.nodes dir _ ch t.block_size (ap (λ (n : Node). n.kind) ch.changed) (subst (λ m. AreFilesOf t.block_size m) (sym middle_is) (remove_files t.block_size t.nodes can.path good.files)))
         (change_differ middle next.nodes dir _ ch (subst NumbersDiffer (sym middle_is) (remove_differ t.nodes can.path good.differ)))
-        (fit_same middle next.nodes dir _ ch (ap (λ (n : Node). n.kind) ch.changed) (subst AreFit (sym middle_is) (fit_remove t.nodes can.path good.fit)))
+        (fit_same middle next.nodes dir _ ch (ap (λ (n : Node). n.kind) ch.changed) (ap (λ (n : Node). n.keys) ch.changed) (subst AreFit (sym middle_is) (fit_remove t.nodes can.path good.fit)))
         unlink_adds
 
     pub unlink_numbers : (path : List (List ℕ)) (k : ℕ) → k ≢ number → StandsAt t path k → StandsAt next path k
@@ -257,9 +257,9 @@ module _ (t : FileTree) (good : IsGood t) (number dir : ℕ) (name : List ℕ) (
           pub move_good : next.name ≡ t.name → IsUtf8 name → IsGood next
           move_good name_is utf8 = good_after t next (asks.Rename can.path to) at good size name_is move_here files
               (change_differ left next.nodes dir _ enter (change_differ noted left old _ leave (change_differ shifted noted number _ note (subst NumbersDiffer (sym shifted_is) (move_differ t.nodes from to free good.differ)))))
-              (fit_same left next.nodes dir _ enter (ap (λ (n : Node). n.kind) enter.changed)
-              (fit_same noted left old _ leave (ap (λ (n : Node). n.kind) leave.changed)
-              (fit_same shifted noted number _ note (ap (λ (n : Node). n.kind) note.changed)
+              (fit_same left next.nodes dir _ enter (ap (λ (n : Node). n.kind) enter.changed) (ap (λ (n : Node). n.keys) enter.changed)
+              (fit_same noted left old _ leave (ap (λ (n : Node). n.kind) leave.changed) (ap (λ (n : Node). n.keys) leave.changed)
+              (fit_same shifted noted number _ note (ap (λ (n : Node). n.kind) note.changed) (ap (λ (n : Node). n.keys) note.changed)
               (subst AreFit (sym shifted_is) (fit_move t.nodes from can.up name free (move_named utf8) good.fit)))))
               (all_lie_adds t next move_lies)
             where

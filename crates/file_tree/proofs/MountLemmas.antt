@@ -10,12 +10,15 @@ use Rattle.plain_tree.specs.Valid.{is_dir, mark_of, mark_at, IsShape}
 use Rattle.plain_tree.proofs.NodeLemmas.{path_total}
 use Rattle.plain_tree.proofs.SeenLemmas.{unlike}
 use Rattle.plain_tree.proofs.LinkLemmas.{on_ok}
+use Rattle.node_keys.specs.Keys as keys
+use Rattle.node_keys.proofs.ListLaws.{apart_by_places}
 use Rattle.index_model.specs.declared.indexes.Index.{Index}
 use Rattle.index_model.specs.declared.nodes.Node as told
 use Rattle.index_model.specs.declared.nodes.Kind as told_kind
 use Rattle.index_model.specs.declared.nodes.Kind.TheVariants as told_kinds
 use Rattle.index_model.specs.declared.nodes.RawExtent.{RawExtent}
 use Rattle.index_model.specs.Extents.{IsExtent, IsKind, IsFileAt, ShareOffset}
+use Rattle.index_model.specs.Keys.{AreKeysApart}
 use Rattle.index_model.specs.Names.{HaveOneName}
 use Rattle.index_model.specs.Order.{IsDirAt}
 use Rattle.index_model.specs.Places.{IsAt}
@@ -81,6 +84,21 @@ can_keep letters size nodes t at node is = record {
         apart = all_apart raws (t.files.apart at bytes raws file);
       };
 }
+
+-- the attributes of each node can be kept
+pub keys_apart : (nodes : List told.Node) → AreKeysApart nodes → (at : ℕ) (node : told.Node) → IsAt nodes at node → keys.AreKeysApart node.xattrs
+keys_apart nodes apart at node is = apart_by_places node.xattrs (λ earlier later one other two one_is other_is same. apart at (record {
+  node = node;
+  is = is;
+  earlier = earlier;
+  later = later;
+  two = two;
+  one = one;
+  one_is = one_is;
+  other = other;
+  other_is = other_is;
+  same = same;
+}))
 
 -- ---- paths of an index
 
@@ -248,7 +266,7 @@ module _ (letters : Letters) (size : ℕ) (nodes : List told.Node) (t : AreTold 
     kept = record n { number = slots }
 
     kept_same : IsNodeOf letters size node kept
-    kept_same = record { uid = same.uid; times = same.times; readonly = same.readonly; kind = same.kind }
+    kept_same = record { uid = same.uid; times = same.times; readonly = same.readonly; keys = same.keys; kind = same.kind }
 
     renamed : ((path : List (List ℕ)) → number_at m path ≡ Some node.parent → next ≡ fin.insert m (path ++ name ∷ []) kept) → (path : List (List ℕ)) → number_at m path ≡ Some node.parent → next ≡ fin.insert m (path ++ node.name ∷ []) kept
     renamed put path stands = put path stands ∙ ap (λ x. fin.insert m (path ++ x ∷ []) kept) name_is
@@ -297,6 +315,7 @@ are_told index letters size can = record {
   some_block = can.some_block;
   order = can.valid.formed.order;
   names = can.valid.agrees.names;
+  keys = can.valid.agrees.keys;
   files = can.valid.agrees.files;
   kinds = can.valid.formed.kinds;
   on_volume = can.on_volume;

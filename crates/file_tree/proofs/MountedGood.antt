@@ -1,11 +1,15 @@
 -- That the tree of an index is good.
-use Rattle.std.proofs.Common.{◌≡◌, ℕ, ◌<◌, ◌^◌, List, length, sym, ◌∙◌, subst}
+use Rattle.std.proofs.Common.{◌≡◌, ℕ, ◌<◌, ◌^◌, List, length, sym, ap, ◌∙◌, subst}
+use Rattle.std.specs.List.{AllByRecursion}
+use Rattle.std.specs.FinMap as fin
 use Rattle.std.specs.Str.{IsUtf8}
+use Rattle.node_keys.proofs.ListLaws.{found_in_map}
 use Rattle.index_model.specs.declared.indexes.Index.{Index}
 use Rattle.index_model.specs.declared.nodes.Node as told
 use Rattle.index_model.specs.declared.nodes.Kind as told_kind
 use Rattle.index_model.specs.declared.nodes.Kind.TheVariants as told_kinds
 use Rattle.index_model.specs.Extents.{IsKind}
+use Rattle.index_model.specs.Keys.{IsXattr}
 use Rattle.index_model.specs.Names.{IsVolumeName, IsNodeName}
 use Rattle.index_model.specs.Places.{IsAt}
 use Rattle.index_model.proofs.Walks.{all_at}
@@ -46,6 +50,7 @@ module _ (index : Index) (letters : Letters) (size : ℕ) (can : CanMount index 
             let end = ends index.nodes n.number p front name t.2 e in
             subst IsNodeName end.named (can.valid.formed.names.others n.number end.node end.behind end.is);
         text = λ text link. link_of letters size t.0.kind text (subst (IsKindOf letters size t.0.kind) link t.3.kind) (all_at (λ node. IsKind node.kind) index.nodes can.valid.formed.kinds n.number t.0 t.1);
+        keys = λ key value is. found_in_map IsXattr t.0.xattrs (all_at (λ node. AllByRecursion IsXattr node.xattrs) index.nodes can.valid.formed.xattrs n.number t.0 t.1) key value (ap (λ k. fin.get k key) (sym t.3.keys) ∙ is);
       }
 
   pub built_good : AreFilesOf size m → (name : Name) (root : told.Node) → IsAt index.nodes 0 root → name ≡ root.name → size < 2 ^ 32 → (spare : ℕ)

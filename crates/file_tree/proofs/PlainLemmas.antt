@@ -114,6 +114,7 @@ plain_nodes_agree = record {
   uid = λ tape node. refl;
   times = λ tape node. refl;
   readonly = λ tape node. refl;
+  keys = λ tape node. refl;
   dir = λ tape node is. ap (plain_kind_of tape) is;
   link = λ tape node text is. ap (plain_kind_of tape) is;
   file = λ tape node room is. ap (plain_kind_of tape) is;

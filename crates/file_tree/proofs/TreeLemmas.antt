@@ -8,12 +8,14 @@ use Rattle.plain_tree.specs.declared.calls.Call.{Call}
 use Rattle.plain_tree.specs.declared.calls.Call.TheVariants as asks
 use Rattle.plain_tree.specs.declared.calls.Sort.{Sort}
 use Rattle.plain_tree.specs.declared.calls.Sort.TheVariants as sorts
+use Rattle.node_keys.specs.Keys.{key_cmp}
 use Rattle.plain_tree.specs.Paths.{parent_of}
 use Rattle.plain_tree.specs.Refusals.{refusal_of, new_refusal, bad_name}
 use Rattle.plain_tree.specs.Calls.{after, after_done, after_unless, with_new}
 use Rattle.plain_tree.specs.Tree as plain
 use Rattle.plain_tree.specs.Valid.{IsValid}
 use Rattle.plain_tree.specs.Seen.{CanStand}
+use Rattle.plain_tree.proofs.SeenLemmas.{unlike}
 use Rattle.plain_tree.proofs.Validity.{next_valid, can_stand, first_none}
 use Rattle.extent_map.specs.Cells.{Tape, file_cells}
 use Rattle.std.specs.Str.{IsUtf8}
@@ -29,7 +31,7 @@ use Rattle.file_tree.specs.Places.{CanPut}
 use Rattle.plain_tree.specs.Paths.{Path}
 use Rattle.file_tree.specs.Valid.{IsFileOf, AreFilesOf, NumbersDiffer, AreFit, IsGood}
 use Rattle.file_tree.specs.Blocks.{AddsNoBlock}
-use Rattle.file_tree.specs.Edits.{making, CanMake, IsNewKind, IsAfter, NumbersCome, OthersLie}
+use Rattle.file_tree.specs.Edits.{making, CanMake, IsNewKind, made_node, IsAfter, NumbersCome, OthersLie}
 use Rattle.name_tries.proofs.ItemLemmas.{some_same}
 use Rattle.file_tree.proofs.PathLemmas.{same_last, get_here, number_is}
 use Rattle.file_tree.proofs.PlainLemmas.{plain_insert, plain_len, none_plain}
@@ -116,7 +118,7 @@ module _ (t : FileTree) (good : IsGood t) (dir : ℕ) (name : List ℕ) (sort : 
   make_named utf8 = fit_name name utf8 (not_bad can.path name (first_none (bad_name q) _ (sym (made_by sort q can.call (plain_of whole t) at can.made_by).0 ∙ can.free)).0)
 
   module _ (next : FileTree) (number : ℕ) (node : Node) (kind : Kind) (middle : Nodes)
-      (is : node ≡ record { number = number; uid = t.highest + 1; times = plain.times_at at; readonly = false; kind = kind }) (new : IsNewKind t.block_size sort kind)
+      (is : node ≡ record (made_node (t.highest + 1) kind at) { number = number }) (new : IsNewKind t.block_size sort kind)
       (put : (path : List (List ℕ)) → number_at t.nodes path ≡ Some dir → middle ≡ fin.insert t.nodes (path ++ name ∷ []) node)
       (ch : IsChangedAt middle next.nodes dir (λ a b. b ≡ touched at a)) (highest : next.highest ≡ t.highest + 1) (size : next.block_size ≡ t.block_size)
       (fresh : (path : Path) → number_at t.nodes path ≢ Some number) where
@@ -215,9 +217,10 @@ module _ (t : FileTree) (good : IsGood t) (dir : ℕ) (name : List ℕ) (sort : 
     pub make_good : next.name ≡ t.name → IsUtf8 name → IsGood next
     make_good name_is utf8 = good_after t next can.call at good size name_is make_plain files
         (change_differ middle next.nodes dir _ ch (subst NumbersDiffer (sym middle_is) (put_differ t.nodes q node make_free good.differ (λ path stands. fresh path (stands ∙ ap (λ n. Some n) numbered)))))
-        (fit_same middle next.nodes dir _ ch (ap (λ (n : Node). n.kind) ch.changed) (subst AreFit (sym middle_is) (fit_insert t.nodes q node good.fit (record {
+        (fit_same middle next.nodes dir _ ch (ap (λ (n : Node). n.kind) ch.changed) (ap (λ (n : Node). n.keys) ch.changed) (subst AreFit (sym middle_is) (fit_insert t.nodes q node good.fit (record {
           named = λ front other e. subst IsNodeName (same_last can.path front name other e).1 (make_named utf8);
           text = λ text link. absurd (new_no_link text link);
+          keys = λ key value there. absurd (unlike (fin.get node.keys.map key) value (ap (λ (n : Node). fin.get n.keys.map key) is ∙ fin.get-empty key_cmp key) there);
         }))))
         make_adds
       where

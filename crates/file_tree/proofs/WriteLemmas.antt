@@ -47,7 +47,7 @@ plain_relaid : (tape : Tape) (g : List Cell → List Cell) (at : Moment) (before
     → plain_node_of tape next ≡ plain.file_changed g at (plain_node_of tape before)
 plain_relaid tape g at before next room laid is done cells_are =
     ap (plain_node_of tape) done.is
-    ∙ ap (λ c. plain.touched at (record { uid = before.uid; times = before.times; readonly = before.readonly; kind = plain_kinds.File c })) (ap (file_cells tape) done.lies ∙ cells_are)
+    ∙ ap (λ c. plain.touched at (record { uid = before.uid; times = before.times; readonly = before.readonly; keys = before.keys.map; kind = plain_kinds.File c })) (ap (file_cells tape) done.lies ∙ cells_are)
     ∙ sym (opened (plain_node_of tape before) (file_cells tape room.laid) (ap (plain_kind_of tape) is))
   where
     opened : (n : plain_node.Node) (c : List Cell) → n.kind ≡ plain_kinds.File c → plain.file_changed g at n ≡ plain.touched at (record n { kind = plain_kinds.File (g c) })
@@ -88,7 +88,7 @@ module _ (t next : FileTree) (good : IsGood t) (file : ℕ) (at : Moment) (room 
   was_laid = record { path = h.path; node = h.node; there = h.there; is = h.is; room = room; file = h.file; lies = refl }
 
   relaid_fit : AreFit next.nodes
-  relaid_fit = fit_change t.nodes next.nodes file _ ch good.fit (λ text link. let wrong : kinds.File done.room ≡ kinds.Link text = sym (ap (λ (n : Node). n.kind) done.is) ∙ link in cc)
+  relaid_fit = fit_change t.nodes next.nodes file _ ch good.fit (λ text link. let wrong : kinds.File done.room ≡ kinds.Link text = sym (ap (λ (n : Node). n.kind) done.is) ∙ link in cc) (ap (λ (n : Node). n.keys) done.is)
 
   pub relaid_lies : (f : Laid) → HasLaid t.nodes file f → HasLaid next.nodes file (change f)
   relaid_lies f has =
@@ -219,8 +219,8 @@ roomier_plain tape a b is = by a.kind refl (is)
     by (kinds.Link text) e r = ap (plain_node_of tape) (subst (roomier_as a b) e r)
     by (kinds.File room) e r =
         let keeps : KeepsLaid a b room.laid = subst (roomier_as a b) e r in
-        ap (plain_node_of tape) keeps.is ∙ ap (λ (f : Laid). record { uid = a.uid; times = a.times; readonly = a.readonly; kind = plain_kinds.File (file_cells tape f) }) keeps.lies
-        ∙ ap (λ k. record { uid = a.uid; times = a.times; readonly = a.readonly; kind = k }) (sym (ap (plain_kind_of tape) e))
+        ap (plain_node_of tape) keeps.is ∙ ap (λ (f : Laid). record { uid = a.uid; times = a.times; readonly = a.readonly; keys = a.keys.map; kind = plain_kinds.File (file_cells tape f) }) keeps.lies
+        ∙ ap (λ k. record { uid = a.uid; times = a.times; readonly = a.readonly; keys = a.keys.map; kind = k }) (sym (ap (plain_kind_of tape) e))
 
 module _ (t next : FileTree) (good : IsGood t) (file : ℕ) (Q : Node → Type 0) (ch : IsChangedAt t.nodes next.nodes file (λ a b. IsRoomier a b × Q b)) (highest : next.highest ≡ t.highest) (size : next.block_size ≡ t.block_size) where
   same_nodes_plain : (tape : Tape) → plain_nodes tape next.nodes ≡ plain_nodes tape t.nodes
@@ -313,6 +313,13 @@ module _ (t next : FileTree) (good : IsGood t) (file : ℕ) (Q : Node → Type 0
           let keeps : KeepsLaid ch.old ch.new old.laid = subst (roomier_as ch.old ch.new) e r in
           let wrong : kinds.File keeps.room ≡ kinds.Link text = sym (ap (λ (n : Node). n.kind) keeps.is) ∙ is in cc
 
+  same_keys : (k : Kind) → ch.old.kind ≡ k → IsRoomier ch.old ch.new → ch.new.keys ≡ ch.old.keys
+  same_keys kinds.Dir e r = ap (λ (n : Node). n.keys) (subst (roomier_as ch.old ch.new) e r)
+  same_keys (kinds.Link text) e r = ap (λ (n : Node). n.keys) (subst (roomier_as ch.old ch.new) e r)
+  same_keys (kinds.File old) e r =
+      let keeps : KeepsLaid ch.old ch.new old.laid = subst (roomier_as ch.old ch.new) e r in
+      ap (λ (n : Node). n.keys) keeps.is
+
   pub room_adds : AddsNoBlock t next
   room_adds = all_lie_adds t next room_lies
 
@@ -322,7 +329,7 @@ module _ (t next : FileTree) (good : IsGood t) (file : ℕ) (Q : Node → Type 0
     small_block = subst (λ n. n < 2 ^ 32) (sym size) good.small_block;
     differ = change_differ t.nodes next.nodes file _ ch good.differ;
     volume = subst IsVolumeName (sym name) good.volume;
-    fit = fit_change t.nodes next.nodes file _ ch good.fit was_link;
+    fit = fit_change t.nodes next.nodes file _ ch good.fit was_link (same_keys ch.old.kind refl ch.changed.0);
     near = λ part pos k. good.near part pos (room_adds part pos k);
     valid = λ tape. subst (λ (p : plain.Tree). IsValid p) (sym (room_plain tape)) (good.valid tape);
     files = subst (λ n. AreFilesOf n next.nodes) (sym size) (change_files t.nodes next.nodes file _ ch t.block_size good.files

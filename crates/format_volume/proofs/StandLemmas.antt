@@ -6,6 +6,7 @@ use Rattle.std.specs.List.{concat}
 use Rattle.std.proofs.lemmas.List.{length-map}
 use Rattle.coherency.specs.Notes.{HasValues, IsNote, note_of}
 use Rattle.extent_map.specs.Cells.{Tape, tape_of}
+use Rattle.file_tree.specs.Edits.{made_node}
 use Rattle.file_tree.specs.Mounts as mounts
 use Rattle.file_tree.specs.Tree.{FileTree, plain_nodes}
 use Rattle.file_tree.specs.declared.nodes.Node as kept
@@ -150,7 +151,7 @@ module _ (spec : FormatSpec) (fine : spec_fault spec ≡ None) (read : AreRead s
   -- ---- the tree
 
   abbrev root : kept.Node
-  root = record { number = 0; uid = 1; times = times_at spec.at; readonly = false; kind = kept_kinds.Dir }
+  root = made_node 1 kept_kinds.Dir spec.at
 
   abbrev tree : FileTree
   tree = record { highest = 1; name = spec.name; block_size = spec.block; nodes = fin.insert fin.empty [] root; spare = 0 }
@@ -161,7 +162,7 @@ module _ (spec : FormatSpec) (fine : spec_fault spec ≡ None) (read : AreRead s
     name = λ node is. let same : root_of spec ≡ node = cc is in ap (λ (n : Node). n.name) same;
     block_size = refl;
     nodes = first_built (97, 98) spec.block (root_of spec ∷ []) (root_of spec) root (fin.insert fin.empty [] root) refl refl
-        (record { uid = refl; times = refl; readonly = refl; kind = refl }) refl;
+        (record { uid = refl; times = refl; readonly = refl; keys = refl; kind = refl }) refl;
   }
 
   module _ (vcr : ℕ) where

@@ -23,6 +23,7 @@ file uid letter block byte count = record {
   name = 97 ∷ [];
   times = times_at epoch;
   readonly = false;
+  xattrs = [];
   kind = File count (extent letter block byte count ∷ []);
 }
 

@@ -54,14 +54,7 @@ module _ (tape : Tape) (both : Letters) (name : List ℕ) (files : Files) (t : F
           ∙ ap (λ (l : Rattle.extent_map.specs.Laid.Laid). told_kinds.File (length (file_cells tape room.laid)) (map (raw_of both) l.extents)) (sym (held.lies path node room there e)))
 
   node_told : (i : ℕ) (e : Path × Node) → slice_get (fin.entries t.nodes) i ≡ Some e → file_told.told_of both name (fin.keys t.nodes) e ≡ told_node both name files (fin.keys t.nodes) (line e)
-  node_told i e is = ap (λ k. record {
-    parent = place_of (parent_of e.0) (fin.keys t.nodes);
-    uid = e.1.uid;
-    name = name_or name (last_name e.0);
-    times = e.1.times;
-    readonly = e.1.readonly;
-    kind = k;
-  }) (kind_told e.0 e.1 (entry_get t.nodes i e.0 e.1 is))
+  node_told i e is = ap (λ k. record (told_node both name files (fin.keys t.nodes) (line e)) { kind = k }) (kind_told e.0 e.1 (entry_get t.nodes i e.0 e.1 is))
 
   pub told_alike : file_told.told_in both name t.nodes ≡ map (told_node both name files (fin.keys (plain_of tape t).nodes)) (fin.entries (plain_of tape t).nodes)
   told_alike =

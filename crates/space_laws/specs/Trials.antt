@@ -14,7 +14,7 @@ use Rattle.space_laws.specs.Space.{Space, Rules, Ask, store, index, after}
 
 -- a directory of the root's uid
 abbrev pub root : Moment → Node
-root at = record { parent = 0; uid = 1; name = []; times = times_at at; readonly = false; kind = kinds.Dir }
+root at = record { parent = 0; uid = 1; name = []; times = times_at at; readonly = false; xattrs = []; kind = kinds.Dir }
 
 -- the first index of an empty volume
 abbrev pub first_index : Moment → Index

@@ -1,5 +1,5 @@
 -- Whether two plain trees are one is decided, and whether two indexes carry over the same.
-use Rattle.std.proofs.Common.{◌≡◌, inl, inr, ℤ, Bool, true, false, List, [], ◌∷◌, Option, Some, None, refl, ap}
+use Rattle.std.proofs.Common.{◌≡◌, inl, inr, ℕ, ℤ, Bool, true, false, List, [], ◌∷◌, Option, Some, None, refl, ap}
 use Rattle.std.proofs.Math.IntN.{ℤ_discrete}
 use Rattle.std.proofs.Math.Logic.{by_cases}
 use Rattle.std.specs.FinMap as fin
@@ -8,6 +8,7 @@ use Rattle.tape_types.specs.declared.moments.Times.{Times}
 use Rattle.tape_types.proofs.CivilLemmas.{same_moment}
 use Rattle.doc_fields.specs.declared.values.LockState.{LockState}
 use Rattle.doc_fields.specs.declared.values.LockState.TheVariants.{Unlocked, Locked, PermLocked}
+use Rattle.node_keys.specs.Keys.{KeyMap}
 use Rattle.index_model.specs.declared.indexes.Policy.{Policy}
 use Rattle.plain_tree.specs.Cells.{Cell}
 use Rattle.plain_tree.specs.Paths.{Path}
@@ -100,23 +101,35 @@ told_kind (kinds.Link text) (kinds.Link other) =
     known_by (λ (h : text ≡ other) i. kinds.Link (h i))
     (λ (e : kinds.Link text ≡ kinds.Link other). let same : text ≡ other = cc in same) (known_text text other)
 
+told_value : AreTold (List ℕ × List ℕ)
+told_value a b =
+    known_by (λ (h : (a.0 ≡ b.0) × (a.1 ≡ b.1)) i. (h.0 i, h.1 i))
+    (λ (e : a ≡ b). (ap (λ (x : List ℕ × List ℕ). x.0) e, ap (λ (x : List ℕ × List ℕ). x.1) e))
+    (known_both (known_text a.0 b.0) (known_text a.1 b.1))
+
+told_keys : AreTold KeyMap
+told_keys a b =
+    known_by (λ (h : fin.entries a ≡ fin.entries b). fin.same_entries_map a b h)
+    (λ (e : a ≡ b). ap fin.entries e) (told_list told_value (fin.entries a) (fin.entries b))
+
 abbrev SameNode : Node → Node → Type 0
-SameNode a b = (a.uid ≡ b.uid) × ((a.times ≡ b.times) × ((a.readonly ≡ b.readonly) × (a.kind ≡ b.kind)))
+SameNode a b = (a.uid ≡ b.uid) × ((a.times ≡ b.times) × ((a.readonly ≡ b.readonly) × ((a.keys ≡ b.keys) × (a.kind ≡ b.kind))))
 
 told_node : AreTold Node
 told_node a b =
     known_by
-    (λ (h : SameNode a b) i. record { uid = h.0 i; times = h.1.0 i; readonly = h.1.1.0 i; kind = h.1.1.1 i })
+    (λ (h : SameNode a b) i. record { uid = h.0 i; times = h.1.0 i; readonly = h.1.1.0 i; keys = h.1.1.1.0 i; kind = h.1.1.1.1 i })
     (λ (e : a ≡ b). (
       ap (λ (n : Node). n.uid) e,
       (
         ap (λ (n : Node). n.times) e,
-        (ap (λ (n : Node). n.readonly) e, ap (λ (n : Node). n.kind) e),
+        (ap (λ (n : Node). n.readonly) e, (ap (λ (n : Node). n.keys) e, ap (λ (n : Node). n.kind) e)),
       ),
     ))
     (known_both (known_eq a.uid b.uid)
     (known_both (told_times a.times b.times)
-    (known_both (told_bool a.readonly b.readonly) (told_kind a.kind b.kind))))
+    (known_both (told_bool a.readonly b.readonly)
+    (known_both (told_keys a.keys b.keys) (told_kind a.kind b.kind)))))
 
 told_entry : AreTold (Path × Node)
 told_entry a b =

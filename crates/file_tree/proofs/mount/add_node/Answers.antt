@@ -2,11 +2,16 @@ use Rattle.std.proofs.Common.{sym, subst, refl, length}
 use Rattle.std.proofs.lemmas.Option.{slice_get_read}
 use Rattle.index_model.specs.Places.{IsAt}
 use Rattle.file_tree.specs.Places.{CanAppend}
-use Rattle.file_tree.proofs.MountLemmas.{can_keep, can_append, appended_built, appended_files}
+use Rattle.file_tree.proofs.MountLemmas.{keys_apart, can_keep, can_append, appended_built, appended_files}
 use Rattle.file_tree.proofs.mount.add_node.Goals as goal
 
-pub node_from-requires : goal.node_from-requires
-node_from-requires c =
+pub node_from-requires-clause-keys : goal.node_from-requires-clause-keys
+node_from-requires-clause-keys c =
+    let is : IsAt c.args.nodes.now c.args.at c.index-nodes-at.result = slice_get_read c.args.nodes.now (length c.args.nodes.now) c.args.at c.index-nodes-at.result refl c.requires.within c.index-nodes-at.is in
+    keys_apart c.args.nodes.now c.requires.told.keys c.args.at c.index-nodes-at.result is
+
+pub node_from-requires-clause-kind : goal.node_from-requires-clause-kind
+node_from-requires-clause-kind c =
     let is : IsAt c.args.nodes.now c.args.at c.index-nodes-at.result = slice_get_read c.args.nodes.now (length c.args.nodes.now) c.args.at c.index-nodes-at.result refl c.requires.within c.index-nodes-at.is in
     can_keep c.args.letters c.args.block_size c.args.nodes.now c.requires.told c.args.at c.index-nodes-at.result is
 

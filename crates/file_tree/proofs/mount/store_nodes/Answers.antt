@@ -2,8 +2,12 @@ use Rattle.std.proofs.Common.{◌≡◌, subst, refl, length, arith}
 use Rattle.std.proofs.lemmas.Option.{slice_get_read, slice_get_within}
 use Rattle.index_model.specs.Places.{IsAt}
 use Rattle.file_tree.specs.Mounts.{IsBuilt}
-use Rattle.file_tree.proofs.MountLemmas.{first_built, first_files}
+use Rattle.file_tree.proofs.MountLemmas.{keys_apart, first_built, first_files}
 use Rattle.file_tree.proofs.mount.store_nodes.Goals as goal
+
+pub node_from-requires-clause-keys : goal.node_from-requires-clause-keys
+node_from-requires-clause-keys c = keys_apart c.args.nodes.now c.requires.keys 0 c.index-nodes-0.result
+    (slice_get_read c.args.nodes.now (length c.args.nodes.now) 0 c.index-nodes-0.result refl (slice_get_within c.args.nodes.now 0 c.requires.order.root c.requires.order.first) c.index-nodes-0.is)
 
 pub loop-at-init : goal.loop-at-init
 loop-at-init c =
