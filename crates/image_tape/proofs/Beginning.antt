@@ -87,7 +87,7 @@ module _ {D : Type 0} (disk : Ghosts D) (s : slot.View D) (room : Offsets) (valu
 
   pub kept_over : slot.KnownAreLeft disk → slot.IsKept disk s → s.known ≡ Steady → IsLimits room.limits → (opened : ℕ) → opened ≡ disk.commands s.disk
       → ((image : Files) → disk.commands s.disk < 2 ^ 64 - 1 → disk.left_since s.disk (disk.commands s.disk) image → disk.leaves s.disk image)
-      → IsKept disk (record { slots = s; room = room; base = value; reads = value; doubt = Settled; head = None; faults = 0; opened = opened })
+      → IsKept disk (record { slots = s; room = room; base = value; reads = value; doubt = Settled; head = None; faults = 0; opened = opened; past = [] })
   kept_over known kept steady limits opened now only =
       let fit = value_fits room.limits s.value value told.said in
       record {
@@ -147,7 +147,7 @@ read_ok c = Ok c
 
 module _ {D : Type 0} (disk : Ghosts D) (limits : Limits) (old : D) (s : slot.View D) (room : Offsets) (value : SlotValue) (opened : ℕ) where
   abbrev pub begun : View D
-  begun = record { slots = s; room = room; base = value; reads = value; doubt = Settled; head = None; faults = 0; opened = opened }
+  begun = record { slots = s; room = room; base = value; reads = value; doubt = Settled; head = None; faults = 0; opened = opened; past = [] }
 
   opened_here : IsKept disk begun → opened ≡ disk.commands s.disk → room.limits ≡ limits → disk.held s.disk ≡ disk.held old
       → ((d : Files) → disk.held old ≡ Some d → IsRead limits d (Ok value) room) → HasOpened disk limits old begun

@@ -30,7 +30,8 @@ use Rattle.image_tape.specs.Halves.{half_of}
 use Rattle.image_tape.specs.Tape.{Agree, AlwaysOpens, CrashesOn, IsKept, Lie, Stands, Suits, Tells, View, given, held_by, held_of, reading_by}
 use Rattle.image_tape.specs.Writes.{FollowsIn, Hides, StandBehind}
 use Rattle.image_tape.proofs.Fronts.{all_bytes, front_size, same_records}
-use Rattle.image_tape.proofs.Lifting.{goes_on, lifted, same_cartridge}
+use Rattle.image_tape.proofs.Lifting.{goes_on, lifted_still, same_cartridge}
+use Rattle.image_tape.proofs.Moments.{earlier_on}
 use Rattle.image_tape.proofs.Opened.{agreed_opens, counted, is_whole, whole}
 use Rattle.image_tape.proofs.Telling.{told_files, tells_of}
 use Rattle.image_tape.proofs.Upkeep.{with_slots}
@@ -222,6 +223,7 @@ module _ {D T E : Type 0} (disk : Ghosts D) (r : Result T E) (part : Part) (at :
     suits = subst (λ (o : Doubt). Suits o (with_slots s v)) (sym settled) (done.over.known ∙ subst (λ (o : Doubt). Suits o v) settled kept.suits);
     reached = omega (arith, kept.reached, (one_at_most done.count).later);
     always = always_behind;
+    past = earlier_on disk v.past (disk.commands v.slots.disk) (disk.commands s.disk) (one_at_most done.count).later kept.past;
     tells = λ e now.
         let was = told_before (disk.held v.slots.disk) (disk.held s.disk) untold e now in
         let h = tells was.0 was.1 in
@@ -236,11 +238,12 @@ module _ {D T E : Type 0} (disk : Ghosts D) (r : Result T E) (part : Part) (at :
         );
   }
 
-  crashes_behind : (d : Files) → disk.held v.slots.disk ≡ Some d → CrashesOn disk v.room.limits NothingNew v.slots.disk s.disk
-  crashes_behind d held = lifted disk v.room.limits v.slots.disk s.disk done.crash
+  crashes_behind : (d : Files) → disk.held v.slots.disk ≡ Some d → CrashesOn disk v.room.limits NothingNew v (with_slots s v)
+  crashes_behind d held = lifted_still disk v.room.limits v.reads.vcr v.reads.vcr v.slots.disk s.disk refl
+      (λ e now. told_before (disk.held v.slots.disk) (disk.held s.disk) untold e now) done.crash
       (λ before left c left_before step opens.
       let same : c ≡ counted (tells d held).0 = same_cartridge _ _ c (left_opens d held before left left_before step) opens in
-      (counted (tells d held).0, before_opens d held before left_before, same))
+      subst (λ (x : Cartridge). Opens v.room.limits before x) (sym same) (before_opens d held before left_before))
 
   -- the same items read
   same_read : (d e : Files) → disk.held v.slots.disk ≡ Some d → disk.held s.disk ≡ Some e → image_by e (Some v.reads) ≡ image_by d (Some v.reads)
@@ -303,7 +306,7 @@ module _ {D : Type 0} (disk : Ghosts D) where
     held = second.held ∙ first.held;
     count = then_at_most first.count second.count;
     crash = λ x held. both_steps join_same first.count.later (first.crash x held)
-        (subst (λ (l : Limits). CrashesOn disk l NothingNew b.slots.disk c.slots.disk) first.stays.limits (second.crash x (first.held ∙ held)));
+        (subst (λ (l : Limits). CrashesOn disk l NothingNew b c) first.stays.limits (second.crash x (first.held ∙ held)));
   }
 
   pub more_hides : (m n : ℕ) (a b : View D) → m ≤ n → Hides disk m a b → Hides disk n a b

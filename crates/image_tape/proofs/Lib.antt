@@ -1,5 +1,6 @@
 pub mod Fronts
 pub mod Lifting
+pub mod Moments
 pub mod Opened
 pub mod Upkeep
 pub mod Surely

@@ -1,5 +1,5 @@
 -- What commands of the disk leave of the cartridge.
-use Rattle.std.proofs.Common.{◌≡◌, ℕ, ◌≤◌, ⊎_elim, inl, inr, Some, Result, Ok, refl, sym, ◌∙◌, subst}
+use Rattle.std.proofs.Common.{◌≡◌, ℕ, ◌≤◌, ⊎_elim, inl, inr, Some, Result, Ok, refl, sym, ap, ◌∙◌, subst, arith}
 use Rattle.tape_types.specs.declared.cartridges.Cartridge.{Cartridge}
 use Rattle.tape_types.specs.declared.cartridges.Limits.{Limits}
 use Rattle.crash_steps.specs.Crashes.{NothingNew}
@@ -8,24 +8,39 @@ use Rattle.byte_disk.specs.declared.disk.ByteDisk.{Ghosts}
 use Rattle.image_slots.specs.Pieces.{CrashesIn}
 use Rattle.image_format.specs.Images.{Opens}
 use Rattle.image_format.specs.declared.refusal.Refusal.{Refusal}
-use Rattle.image_tape.specs.Tape.{AlwaysOpens, CrashesOn, LeavesOn}
+use Rattle.image_tape.specs.Tape.{AheadOn, AlwaysOpens, CrashesAt, LeavesOn, with_reference}
 
 pub same_cartridge : (r : Result Cartridge Refusal) (c e : Cartridge) → r ≡ Ok c → r ≡ Ok e → e ≡ c
 same_cartridge r c e is also = let same : Ok c ≡ Ok e = sym is ∙ also in cc same
 
+-- a cartridge with the reference that it has
+pub same_reference : (vcr : ℕ) (c : Cartridge) → vcr ≡ c.vcr → with_reference vcr c ≡ c
+same_reference vcr c is = λ i. record { ip = c.ip; dp = c.dp; vcr = is i; note_ip = c.note_ip; note_dp = c.note_dp }
+
 module _ {D : Type 0} (disk : Ghosts D) (limits : Limits) where
-  -- each image that opens comes of one that opened before
-  pub lifted : {disk_step : Files → Files → Type 0} {step : Cartridge → Cartridge → Type 0} (a b : D) → CrashesIn disk disk_step a b
+  -- as it opens
+  pub opened_left : (vcr : ℕ) (b : D) (c : Cartridge) → LeavesOn disk limits b c → AheadOn disk limits vcr b c
+  opened_left vcr b c left = (c, left, inl refl)
+
+  -- Each image that opens comes of one that could be left before, and so does each with the reference that reads.
+  pub lifted : {disk_step : Files → Files → Type 0} {step : Cartridge → Cartridge → Type 0} (m n : ℕ) (a b : D) → CrashesIn disk disk_step a b
       → ((before left : Files) (c : Cartridge) → disk.leaves a before → disk_step before left → Opens limits left c
-      → (was : Cartridge) × Opens limits before was × step was c)
-      → CrashesOn disk limits step a b
-  lifted {disk_step = disk_step} {step = step} a b crash each =
+      → (was : Cartridge) × AheadOn disk limits m a was × step was c)
+      → ((left : Files) (c : Cartridge) (d : Files) → disk.held b ≡ Some d → disk.leaves b left → Opens limits left c → c.vcr ≤ n
+      → (was : Cartridge) × AheadOn disk limits m a was × step was (with_reference n c))
+      → CrashesAt disk limits step m a n b
+  lifted {disk_step = disk_step} {step = step} m n a b crash each ahead =
       let from : (left : Files) (c : Cartridge) → Opens limits left c → (before : Files) × disk.leaves a before × disk_step before left
-      → (was : Cartridge) × LeavesOn disk limits a was × step was c =
-      λ left c opens came.
-      let past = each came.0 left c came.1 came.2 opens in (past.0, (came.0, came.1, past.1), past.2) in
+      → (was : Cartridge) × AheadOn disk limits m a was × step was c =
+      λ left c opens came. each came.0 left c came.1 came.2 opens in
       record {
-        now = λ c left. from left.0 c left.2 (crash.now left.0 left.1);
+        now = λ image h. ⊎_elim
+            (λ (same : image ≡ h.0). subst (λ (x : Cartridge). (was : Cartridge) × AheadOn disk limits m a was × step was x) (sym same)
+            (from h.1.0 h.0 h.1.2 (crash.now h.1.0 h.1.1)))
+            (λ (more : ((d : Files) × (disk.held b ≡ Some d)) × (h.0.vcr ≤ n) × (image ≡ with_reference n h.0)).
+            subst (λ (x : Cartridge). (was : Cartridge) × AheadOn disk limits m a was × step was x) (sym more.2)
+            (ahead h.1.0 h.0 more.0.0 more.0.1 h.1.1 h.1.2 more.1))
+            h.2;
         since = λ t c reached left. ⊎_elim
             (λ (past : disk.left_since a t left.0). inl (left.0, past, left.2))
             (λ (came : (before : Files) × disk.leaves a before × disk_step before left.0). inr (from left.0 c left.2 came))
@@ -33,10 +48,37 @@ module _ {D : Type 0} (disk : Ghosts D) (limits : Limits) where
         kept = λ t c reached left. (left.0, crash.kept t left.0 reached left.1, left.2);
       }
 
+  -- where what is left opens as before
+  pub lifted_still : {disk_step : Files → Files → Type 0} (m n : ℕ) (a b : D) → n ≡ m
+      → ((d : Files) → disk.held b ≡ Some d → (e : Files) × (disk.held a ≡ Some e)) → CrashesIn disk disk_step a b
+      → ((before left : Files) (c : Cartridge) → disk.leaves a before → disk_step before left → Opens limits left c → Opens limits before c)
+      → CrashesAt disk limits NothingNew m a n b
+  lifted_still m n a b same told crash each = lifted m n a b crash
+      (λ before left c was step opens. (c, opened_left m a c (before, was, each before left c was step opens), refl))
+      (λ left c d held now opens le.
+      let came = crash.now left now in (
+        with_reference n c,
+        (
+          c,
+          (came.0, came.1, each came.0 left c came.1 came.2 opens),
+          inr (told d held, omega (arith, le, same), ap (λ (k : ℕ). with_reference k c) same),
+        ),
+        refl,
+      ))
+
   -- commands that only read
-  pub lifted_look : (a b : D) → CrashesIn disk NothingNew a b → CrashesOn disk limits NothingNew a b
-  lifted_look a b crash = lifted a b crash
-      (λ before left c was same opens. (c, subst (λ (f : Files). Opens limits f c) same opens, refl))
+  pub lifted_look : (m n : ℕ) (a b : D) → n ≡ m → disk.held b ≡ disk.held a → CrashesIn disk NothingNew a b → CrashesAt disk limits NothingNew m a n b
+  lifted_look m n a b same held crash = lifted_still m n a b same (λ d is. (d, sym held ∙ is)) crash
+      (λ before left c was same opens. subst (λ (f : Files). Opens limits f c) same opens)
+
+  -- no command
+  pub lifted_none : (m n : ℕ) (b : D) → ((image : Cartridge) → AheadOn disk limits n b image → AheadOn disk limits m b image)
+      → CrashesAt disk limits NothingNew m b n b
+  lifted_none m n b within = record {
+    now = λ image left. (image, within image left, refl);
+    since = λ t image reached left. inl left;
+    kept = λ t image reached left. left;
+  }
 
   -- each disk that may have been left goes on to open
   pub goes_on : {disk_step : Files → Files → Type 0} (since : ℕ) (a b : D) → since ≤ disk.commands a → AlwaysOpens disk limits since a

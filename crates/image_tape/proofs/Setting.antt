@@ -1,5 +1,5 @@
 -- A value is set, or was to be set.
-use Rattle.std.proofs.Common.{◌≡◌, ℕ, ◌+◌, ◌⊎◌, ⊎_elim, inl, inr, Bool, true, false, List, ◌++◌, take, drop, Option, Some, None, Result, Ok, Err, refl, sym, ap, ◌∙◌, subst, arith}
+use Rattle.std.proofs.Common.{◌≡◌, ℕ, ◌+◌, ◌≤◌, ◌⊎◌, ⊎_elim, inl, inr, Bool, true, false, List, ◌++◌, take, drop, Option, Some, None, Result, Ok, Err, refl, sym, ap, ◌∙◌, subst, arith}
 use Rattle.std.specs.Prelude.{◌&&◌, if◌then◌else◌, slice_range}
 use Rattle.image_format.specs.declared.values.Half.{Half}
 use Rattle.std.specs.Int.{w64, to_be_bytes}
@@ -28,10 +28,12 @@ use Rattle.image_tape.specs.declared.doubt.Doubt.{Doubt}
 use Rattle.image_tape.specs.declared.doubt.Doubt.TheVariants.{Settled, Open}
 use Rattle.image_tape.specs.Halves.{with_serial}
 use Rattle.image_tape.specs.Steps.{FromTo, IsCommit, IsTaken, MayStand}
-use Rattle.image_tape.specs.Tape.{Agree, AlwaysOpens, CrashesOn, Holds, IsKept, SaysOne, Stands, Tells, View, cut_to, given, held_by, reading_by, says}
-use Rattle.image_tape.proofs.Lifting.{goes_on, lifted, same_cartridge}
+use Rattle.image_tape.specs.Tape.{Agree, AheadOn, AlwaysOpens, CrashesAt, Holds, IsKept, SaysOne, Stands, Tells, View, cut_to, given, held_by, reading_by, says, with_reference}
+use Rattle.image_tape.proofs.Lifting.{goes_on, lifted, opened_left, same_cartridge, same_reference}
+use Rattle.image_tape.proofs.Moments.{earlier_on}
 use Rattle.image_tape.proofs.Opened.{agreed_opens, counted, is_counted}
 use Rattle.image_tape.proofs.Surely.{header_of_value}
+use Rattle.image_tape.proofs.Telling.{tells_of}
 use Rattle.image_tape.proofs.Upkeep.{stands_over, with_slots}
 
 -- the bytes of a value are its serial number and the others
@@ -168,6 +170,7 @@ module _ {D : Type 0} (disk : Ghosts D) (v : View D) (s : slot.View D) (value re
     head = v.head;
     faults = v.faults;
     opened = v.opened;
+    past = v.past;
   }
 
   pub kept_set : slot.KnownAreLeft disk → slot.IsKept disk s → s ≡ slot.after_set (Ok tt) rest s.disk v.slots → Holds (cut_to reads v.room) reads
@@ -181,6 +184,7 @@ module _ {D : Type 0} (disk : Ghosts D) (v : View D) (s : slot.View D) (value re
         suits = steady;
         reached = omega (arith, kept.reached, done.count.later);
         always = always_set;
+        past = earlier_on disk v.past (disk.commands v.slots.disk) (disk.commands s.disk) done.count.later kept.past;
         tells = λ e is.
             let was = told_set e is in
             let known = left_known s slots_kept steady e is in
@@ -206,15 +210,17 @@ module _ {D : Type 0} (disk : Ghosts D) (v : View D) (s : slot.View D) (value re
     head = v.head;
     faults = v.faults;
     opened = v.opened;
+    past = v.past;
   }
 
-  pub kept_open : Holds (cut_to reads v.room) reads → value.serial ≡ v.base.serial + 1 → IsKept disk open_view
-  kept_open holds next = record {
+  pub kept_open : Holds (cut_to reads v.room) reads → value.serial ≡ v.base.serial + 1 → value.vcr ≡ reads.vcr → IsKept disk open_view
+  kept_open holds next same_vcr = record {
     limits = kept.limits;
     holds = kept.holds;
     suits = holds;
     reached = omega (arith, kept.reached, done.count.later);
     always = always_set;
+    past = earlier_on disk v.past (disk.commands v.slots.disk) (disk.commands s.disk) done.count.later kept.past;
     tells = λ e is.
         let was = told_set e is in (
           stands_over (disk.leaves v.slots.disk) (disk.leaves s.disk) was.0 e (st0 was.0 was.1) was.2 was.3 (left_from was.0 was.1),
@@ -222,32 +228,81 @@ module _ {D : Type 0} (disk : Ghosts D) (v : View D) (s : slot.View D) (value re
           says_one was.0 e was.1 was.4,
           λ left now. says_one was.0 left was.1 (left_one was.0 was.1 left now),
           next,
+          same_vcr,
         );
   }
 
   -- what it makes of the cartridge
-  crashes_set : (d : Files) (from to : Cartridge) → disk.held v.slots.disk ≡ Some d → image_by d (Some v.base) ≡ Ok from → image_by d (Some value) ≡ Ok to
-      → CrashesOn disk v.room.limits (FromTo from to) v.slots.disk s.disk
-  crashes_set d from to is from_is to_is =
-      let is_from : counted (st0 d is) ≡ from = same_cartridge (image_by d (Some v.base)) from (counted (st0 d is)) from_is (is_counted (st0 d is)) in
-      let is_to : counted (stands d is) ≡ to = same_cartridge (image_by d (Some value)) to (counted (stands d is)) to_is (is_counted (stands d is)) in
-      lifted disk v.room.limits v.slots.disk s.disk (done.crash d is)
-      (λ before left c left_before within opens.
-      let one = one_opens d is before left left_before within in
-      let same : c ≡ one.0 = same_cartridge _ one.0 c one.1 opens in (
-        counted (st0 d is),
-        before_opens d is before left_before,
-        (
-          is_from,
-          ⊎_elim
-              (λ (old : one.0 ≡ counted (st0 d is)). inl (same ∙ old ∙ is_from))
-              (λ (new : one.0 ≡ counted (stands d is)). inr (same ∙ new ∙ is_to))
-              one.2,
-        ),
-      ))
+  module _ (d : Files) (from to : Cartridge) (is : disk.held v.slots.disk ≡ Some d) (from_is : image_by d (Some v.base) ≡ Ok from) (to_is : image_by d (Some value) ≡ Ok to) where
+    is_from : counted (st0 d is) ≡ from
+    is_from = same_cartridge (image_by d (Some v.base)) from (counted (st0 d is)) from_is (is_counted (st0 d is))
 
-  pub is_set : (room : Offsets) (doubt : Doubt) → doubt ≡ Settled → room.limits ≡ v.room.limits → IsCommit {T = Unit {0}} {E = DriveErr} disk value reads (Ok tt) v (set_view room doubt)
-  is_set room doubt sure same = record {
+    is_to : counted (stands d is) ≡ to
+    is_to = same_cartridge (image_by d (Some value)) to (counted (stands d is)) to_is (is_counted (stands d is))
+
+    abbrev Came : Cartridge → Type 0
+    Came c = (was : Cartridge) × AheadOn disk v.room.limits v.reads.vcr v.slots.disk was × FromTo (with_reference v.reads.vcr from) to was c
+
+    -- the new value comes of the old one, with the reference that read
+    came_new : (before : Files) → disk.leaves v.slots.disk before → (c : Cartridge) → c ≡ counted (stands d is) → Came c
+    came_new before was c same = (
+      with_reference v.reads.vcr (counted (st0 d is)),
+      (counted (st0 d is), (before, was, before_opens d is before was), inr ((d, is), (st0 d is).vcr, refl)),
+      inr (ap (λ (x : Cartridge). with_reference v.reads.vcr x) is_from, same ∙ is_to),
+    )
+
+    each_set : (before left : Files) (c : Cartridge) → disk.leaves v.slots.disk before → WithinSet v.slots.value (slot.next_value v.slots.value rest) before left
+        → Opens v.room.limits left c → Came c
+    each_set before left c was within opens =
+        let one = one_opens d is before left was within in
+        let same : c ≡ one.0 = same_cartridge _ one.0 c one.1 opens in
+        ⊎_elim
+        (λ (old : one.0 ≡ counted (st0 d is)). (
+          counted (st0 d is),
+          opened_left disk v.room.limits v.reads.vcr v.slots.disk (counted (st0 d is)) (before, was, before_opens d is before was),
+          inl (same ∙ old),
+        ))
+        (λ (new : one.0 ≡ counted (stands d is)). came_new before was c (same ∙ new))
+        one.2
+
+    -- where it is open which of the two there is, the reference reads as before
+    ahead_open : v.reads.vcr ≤ value.vcr → (left : Files) (c : Cartridge) (e : Files) → disk.held s.disk ≡ Some e → disk.leaves s.disk left → Opens v.room.limits left c
+        → c.vcr ≤ v.reads.vcr → Came (with_reference v.reads.vcr c)
+    ahead_open later left c e held now opens le =
+        let came = (done.crash d is).now left now in
+        let one = one_opens d is came.0 left came.1 came.2 in
+        let same : c ≡ one.0 = same_cartridge _ one.0 c one.1 opens in
+        ⊎_elim
+        (λ (old : one.0 ≡ counted (st0 d is)). (
+          with_reference v.reads.vcr (counted (st0 d is)),
+          (counted (st0 d is), (came.0, came.1, before_opens d is came.0 came.1), inr ((d, is), (st0 d is).vcr, refl)),
+          inl (ap (λ (x : Cartridge). with_reference v.reads.vcr x) (same ∙ old)),
+        ))
+        (λ (new : one.0 ≡ counted (stands d is)).
+        let number : c.vcr ≡ value.vcr = ap (λ (x : Cartridge). x.vcr) (same ∙ new) in
+        came_new came.0 came.1 (with_reference v.reads.vcr c) (same_reference v.reads.vcr c (omega (arith, number, le, later)) ∙ same ∙ new))
+        one.2
+
+    -- where it is set it has the reference that reads
+    ahead_set : value.vcr ≡ reads.vcr → ((left : Files) → disk.leaves s.disk left → header v.room.limits left.cm ≡ Some value)
+        → (left : Files) (c : Cartridge) (e : Files) → disk.held s.disk ≡ Some e → disk.leaves s.disk left → Opens v.room.limits left c
+        → c.vcr ≤ reads.vcr → Came (with_reference reads.vcr c)
+    ahead_set same_vcr headed left c e held now opens le =
+        let came = (done.crash d is).now left now in
+        let new = agreed_opens (stands d is) left (agree_back d (stands d is) came.0 left came.1 came.2.0 came.2.1) (headed left now) in
+        let same : c ≡ counted (stands d is) = same_cartridge _ (counted (stands d is)) c new opens in
+        came_new came.0 came.1 (with_reference reads.vcr c) (same_reference reads.vcr c (sym same_vcr ∙ sym (ap (λ (x : Cartridge). x.vcr) same)) ∙ same)
+
+    crashes_open : v.reads.vcr ≤ value.vcr → CrashesAt disk v.room.limits (FromTo (with_reference v.reads.vcr from) to) v.reads.vcr v.slots.disk v.reads.vcr s.disk
+    crashes_open later = lifted disk v.room.limits v.reads.vcr v.reads.vcr v.slots.disk s.disk (done.crash d is) each_set (ahead_open later)
+
+    crashes_set : value.vcr ≡ reads.vcr → ((left : Files) → disk.leaves s.disk left → header v.room.limits left.cm ≡ Some value)
+        → CrashesAt disk v.room.limits (FromTo (with_reference v.reads.vcr from) to) v.reads.vcr v.slots.disk reads.vcr s.disk
+    crashes_set same_vcr headed = lifted disk v.room.limits v.reads.vcr reads.vcr v.slots.disk s.disk (done.crash d is) each_set (ahead_set same_vcr headed)
+
+  pub is_set : (room : Offsets) (doubt : Doubt) → doubt ≡ Settled → room.limits ≡ v.room.limits → value.vcr ≡ reads.vcr
+      → IsKept disk (set_view room doubt) → IsCommit {T = Unit {0}} {E = DriveErr} disk value reads (Ok tt) v (set_view room doubt)
+  is_set room doubt sure same same_vcr set_kept = record {
     stays = record { limits = same; head = refl; faults = refl; opened = refl };
     count = done.count;
     untold = done.untold;
@@ -257,11 +312,14 @@ module _ {D : Type 0} (disk : Ghosts D) (v : View D) (s : slot.View D) (value re
         ∙ ap (λ (x : Doubt). given (image_by t.0 (Some (reading_by x value reads (header room.limits t.0.cm))))) sure
         ∙ ap given (same_image_by (Some reads) d t.0 t.2 t.3)
         ∙ given_of (image_by d (Some reads)) to to_is;
-    crash = crashes_set;
+    crash = λ d from to is from_is to_is.
+        let t = done.told d is in
+        let headed = (tells_of disk (set_view room doubt) set_kept sure t.0 t.1).2 in
+        crashes_set d from to is from_is to_is same_vcr (λ left now. subst (λ (l : Limits). header l left.cm ≡ Some value) same (headed left now));
   }
 
-  pub is_open : (why : DriveErr) → IsCommit {T = Unit {0}} {E = DriveErr} disk value reads (Err why) v open_view
-  is_open why = record {
+  pub is_open : (why : DriveErr) → v.reads.vcr ≤ value.vcr → IsCommit {T = Unit {0}} {E = DriveErr} disk value reads (Err why) v open_view
+  is_open why later = record {
     stays = record { limits = refl; head = refl; faults = refl; opened = refl };
     count = done.count;
     untold = done.untold;
@@ -270,7 +328,7 @@ module _ {D : Type 0} (disk : Ghosts D) (v : View D) (s : slot.View D) (value re
         subst (λ (o : Option Files). (held_by open_view o ≡ Some from) ⊎ (held_by open_view o ≡ Some to)) (sym t.1)
         (reads_one (says v.base (header v.room.limits t.0.cm)) v.reads reads t.0 from to
         (same_image_by (Some v.reads) d t.0 t.2 t.3 ∙ from_is) (same_image_by (Some reads) d t.0 t.2 t.3 ∙ to_is));
-    crash = crashes_set;
+    crash = λ d from to is from_is to_is. crashes_open d from to is from_is to_is later;
   }
 
 -- nothing was set
@@ -285,13 +343,7 @@ not_set disk v value reads why kept settled stands = record {
       (ap (λ (o : Option Files). held_by v o) is
       ∙ ap (λ (x : Doubt). given (image_by d (Some (reading_by x v.base v.reads (header v.room.limits d.cm))))) settled
       ∙ given_of (image_by d (Some v.reads)) from from_is);
-  crash = λ d from to is from_is to_is.
-      let h = subst (λ (o : Doubt). Tells o v (disk.leaves v.slots.disk) d) settled (kept.tells d is) in
-      let is_from : counted h.0 ≡ from = same_cartridge (image_by d (Some v.base)) from (counted h.0) from_is (is_counted h.0) in
-      no_step (disk.commands v.slots.disk) _ _
-      (λ c left.
-      let same : c ≡ counted h.0 = same_cartridge _ (counted h.0) c (agreed_opens h.0 left.0 (h.0.agree left.0 left.1) (h.2 left.0 left.1)) left.2 in
-      (same ∙ is_from, inl (same ∙ is_from)));
+  crash = λ d from to is from_is to_is. no_step (disk.commands v.slots.disk) _ _ (λ image left. inl refl);
 }
 
 abbrev pub opened_as : Cartridge → Result Cartridge Refusal
@@ -346,14 +398,17 @@ module _ {D : Type 0} (disk : Ghosts D) (v w : View D) (s : slot.View D) (value 
   pub commit_kept : slot.KnownAreLeft disk → slot.IsKept disk s → (room : Offsets) (doubt : Doubt) → room ≡ cut_to reads v.room → doubt ≡ v.doubt
       → r ≡ Ok tt → IsKept disk (set_view disk v s value' reads rest r kept settled sized stands is_next done room doubt)
   commit_kept left_known slots_kept room doubt cut same ok =
-      subst (λ (x : Offsets). IsKept disk (record { slots = s; room = x; base = value'; reads = reads; doubt = doubt; head = v.head; faults = v.faults; opened = v.opened })) (sym cut)
-      (subst (λ (x : Doubt). IsKept disk (record { slots = s; room = cut_to reads v.room; base = value'; reads = reads; doubt = x; head = v.head; faults = v.faults; opened = v.opened }))
+      subst (λ (x : Offsets). IsKept disk (record { slots = s; room = x; base = value'; reads = reads; doubt = doubt; head = v.head; faults = v.faults; opened = v.opened; past = v.past })) (sym cut)
+      (subst (λ (x : Doubt). IsKept disk (record { slots = s; room = cut_to reads v.room; base = value'; reads = reads; doubt = x; head = v.head; faults = v.faults; opened = v.opened; past = v.past }))
       (sym (same ∙ settled))
       (kept_set disk v s value' reads rest r kept settled sized stands is_next done left_known slots_kept
       (done.after ∙ ap (λ (x : Result (Unit {0}) SetErr). slot.after_set x rest s.disk v.slots) ok) holds))
 
-  pub commit_open : IsKept disk (open_view disk v s value' reads rest r kept settled sized stands is_next done)
-  commit_open = kept_open disk v s value' reads rest r kept settled sized stands is_next done holds next_serial
+  same_number : value'.vcr ≡ value.vcr
+  same_number = ap (λ (x : SlotValue). x.vcr) numbered
+
+  pub commit_open : value.vcr ≡ reads.vcr → IsKept disk (open_view disk v s value' reads rest r kept settled sized stands is_next done)
+  commit_open same_vcr = kept_open disk v s value' reads rest r kept settled sized stands is_next done holds next_serial (same_number ∙ same_vcr)
 
   -- a value says the same with another serial number
   numbered_by : (d : Files) (to : Cartridge) → disk.held v.slots.disk ≡ Some d → image_by d (Some value) ≡ Ok to → image_by d (Some value') ≡ Ok to
@@ -373,14 +428,17 @@ module _ {D : Type 0} (disk : Ghosts D) (v w : View D) (s : slot.View D) (value 
     crash = λ d from to told is_from is_to. done_as.crash d from to told is_from (numbered_by d to told is_to);
   })
 
-  pub commit_is_set : (room : Offsets) (doubt : Doubt) → room ≡ cut_to reads v.room → doubt ≡ v.doubt
+  pub commit_is_set : value.vcr ≡ reads.vcr → slot.KnownAreLeft disk → slot.IsKept disk s → (room : Offsets) (doubt : Doubt) → room ≡ cut_to reads v.room
+      → doubt ≡ v.doubt → r ≡ Ok tt
       → IsCommit {T = Unit {0}} {E = DriveErr} disk value reads (Ok tt) w (set_view disk v s value' reads rest r kept settled sized stands is_next done room doubt)
-  commit_is_set room doubt cut same = renamed (is_set disk v s value' reads rest r kept settled sized stands is_next done room doubt (same ∙ settled)
-      (ap (λ (x : Offsets). x.limits) cut))
+  commit_is_set same_vcr left_known slots_kept room doubt cut same ok =
+      renamed (is_set disk v s value' reads rest r kept settled sized stands is_next done room doubt (same ∙ settled)
+      (ap (λ (x : Offsets). x.limits) cut) (same_number ∙ same_vcr) (commit_kept left_known slots_kept room doubt cut same ok))
 
-  pub commit_is_open : (why : DriveErr)
+  pub commit_is_open : (why : DriveErr) → w.reads.vcr ≤ value.vcr
       → IsCommit {T = Unit {0}} {E = DriveErr} disk value reads (Err why) w (open_view disk v s value' reads rest r kept settled sized stands is_next done)
-  commit_is_open why = renamed (is_open disk v s value' reads rest r kept settled sized stands is_next done why)
+  commit_is_open why later = renamed (is_open disk v s value' reads rest r kept settled sized stands is_next done why
+      (omega (arith, later, same_number, ap (λ (x : View D). x.reads.vcr) is)))
 
   -- no serial number was left
   pub commit_is_spent : (why : DriveErr) → r ≡ Err Serial → IsCommit {T = Unit {0}} {E = DriveErr} disk value reads (Err why) w (with_slots s v)

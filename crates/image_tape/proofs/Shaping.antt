@@ -129,6 +129,7 @@ module _ {D : Type 0} (disk : Ghosts D) where
     head = v.head;
     faults = v.faults;
     opened = v.opened;
+    past = v.past;
   }
 
   abbrev pub MayRead : SlotValue → Offsets → View D → Type 0

@@ -1,5 +1,5 @@
 -- The header is read anew, and one of two values is taken.
-use Rattle.std.proofs.Common.{◌≡◌, ◌≢◌, ℕ, ◌+◌, ◌≤◌, inl, inr, Bool, true, false, List, Option, Some, None, Result, IfSome, refl, sym, ap, ◌∙◌, subst, arith}
+use Rattle.std.proofs.Common.{◌≡◌, ◌≢◌, ℕ, ◌+◌, ◌≤◌, ⊎_elim, inl, inr, Bool, true, false, List, Option, Some, None, Result, IfSome, refl, sym, ap, ◌∙◌, subst, arith}
 use Rattle.std.specs.Prelude.{if◌then◌else◌}
 use Rattle.std.proofs.lemmas.Bool.{eq-eqb, ne_eqb}
 use Rattle.tape_types.specs.declared.cartridges.Cartridge.{Cartridge}
@@ -12,7 +12,7 @@ use Rattle.image_slots.specs.Slots.{HasValue}
 use Rattle.image_slots.specs.State as slot
 use Rattle.image_slots.specs.declared.known.Known.TheVariants.{Steady}
 use Rattle.image_slots.specs.declared.errors.OpenErr.{OpenErr}
-use Rattle.image_slots.proofs.Chains.{one_at_most, both_steps, join_same, no_step, then_at_most, more_at_most}
+use Rattle.image_slots.proofs.Chains.{one_at_most, both_steps, join_same, then_at_most, more_at_most}
 use Rattle.image_slots.proofs.Choosing.{value_chosen}
 use Rattle.image_format.specs.declared.values.SlotValue.{SlotValue}
 use Rattle.image_format.specs.Images.{header, header_by, image_by}
@@ -20,8 +20,9 @@ use Rattle.image_format.specs.Offsets.{Offsets}
 use Rattle.image_tape.specs.declared.doubt.Doubt.{Doubt}
 use Rattle.image_tape.specs.declared.doubt.Doubt.TheVariants.{Settled, Open}
 use Rattle.image_tape.specs.Steps.{IsFound, Looks, Stays}
-use Rattle.image_tape.specs.Tape.{CrashesOn, IsKept, SaysOne, Suits, Tells, View, cut_to, given, held_by, held_of, reading_by, says}
-use Rattle.image_tape.proofs.Lifting.{lifted_look}
+use Rattle.image_tape.specs.Tape.{AheadOn, CrashesAt, CrashesOn, IsKept, LeavesOf, SaysOne, Suits, Tells, View, cut_to, given, held_by, held_of, reading_by, says, with_reference}
+use Rattle.image_tape.proofs.Lifting.{lifted_look, lifted_none, same_cartridge, same_reference}
+use Rattle.image_tape.proofs.Opened.{agreed_opens, counted}
 use Rattle.image_tape.proofs.Upkeep.{held_look, kept_look, with_slots}
 
 -- what a header says whose value is known
@@ -56,6 +57,7 @@ module _ {D : Type 0} (disk : Ghosts D) where
     head = v.head;
     faults = v.faults;
     opened = v.opened;
+    past = v.past;
   }
 
   -- the value that was to be is the one of the header
@@ -69,6 +71,7 @@ module _ {D : Type 0} (disk : Ghosts D) where
     head = v.head;
     faults = v.faults;
     opened = v.opened;
+    past = v.past;
   }
 
   pub found_is : slot.KnownAreLeft disk → (v : View D) (limits : Limits) (bytes : List ℕ) (r : Option SlotValue) → slot.IsKept disk v.slots
@@ -95,6 +98,7 @@ module _ {D : Type 0} (disk : Ghosts D) where
     suits = steady;
     reached = kept.reached;
     always = kept.always;
+    past = kept.past;
     tells = λ d told.
         let h = opened_tells v value reads kept unsure d told in
         let same : s ≡ v.base = one_by_number v.room.limits v.base value s d h.2 (found.reads d told) h.4 is in (
@@ -113,6 +117,7 @@ module _ {D : Type 0} (disk : Ghosts D) where
     suits = steady;
     reached = kept.reached;
     always = kept.always;
+    past = kept.past;
     tells = λ d told.
         let h = opened_tells v value reads kept unsure d told in
         let same : s ≡ value = other_by_number v.room.limits v.base value s d h.2 (found.reads d told) isnt in (
@@ -160,20 +165,21 @@ module _ {D : Type 0} (disk : Ghosts D) where
       sym (held_in v (Open value reads) unsure (disk.held v.slots.disk) ∙ after_by v value reads s room (disk.held v.slots.disk) found.reads isnt)
 
   -- steps that only read
-  pub looks_alike : (v w : View D) → Stays v w → w.slots.disk ≡ v.slots.disk → held_of disk w ≡ held_of disk v → Looks disk 0 v w
-  looks_alike v w stays same held = record {
+  pub looks_alike : (v w : View D) → Stays v w → w.slots.disk ≡ v.slots.disk → held_of disk w ≡ held_of disk v
+      → ((image : Cartridge) → AheadOn disk v.room.limits w.reads.vcr v.slots.disk image → LeavesOf disk v image) → Looks disk 0 v w
+  looks_alike v w stays same held within = record {
     stays = stays;
     held = held;
     count = subst (λ (b : D). AtMost 0 (disk.commands v.slots.disk) (disk.commands b)) (sym same) (record { later = omega arith; bound = omega arith });
-    crash = subst (λ (b : D). CrashesOn disk v.room.limits NothingNew v.slots.disk b) (sym same)
-        (no_step (disk.commands v.slots.disk) _ _ (λ image left. refl));
+    crash = subst (λ (b : D). CrashesAt disk v.room.limits NothingNew v.reads.vcr v.slots.disk w.reads.vcr b) (sym same)
+        (lifted_none disk v.room.limits v.reads.vcr w.reads.vcr v.slots.disk within);
   }
 
   pub stays_same : (v : View D) → Stays v v
   stays_same v = record { limits = refl; head = refl; faults = refl; opened = refl }
 
   pub no_looks : (v : View D) → Looks disk 0 v v
-  no_looks v = looks_alike v v (stays_same v) refl refl
+  no_looks v = looks_alike v v (stays_same v) refl refl (λ image left. left)
 
   pub looked : (most : ℕ) (v w : View D) (s : slot.View D) → v ≡ w → disk.held s.disk ≡ disk.held v.slots.disk → AtMost most (disk.commands v.slots.disk) (disk.commands s.disk)
       → CrashesIn disk NothingNew v.slots.disk s.disk → Looks disk most w (with_slots s v)
@@ -181,7 +187,7 @@ module _ {D : Type 0} (disk : Ghosts D) where
     stays = record { limits = refl; head = refl; faults = refl; opened = refl };
     held = held_look disk v s held;
     count = count;
-    crash = lifted_look disk v.room.limits v.slots.disk s.disk crash;
+    crash = lifted_look disk v.room.limits v.reads.vcr v.reads.vcr v.slots.disk s.disk refl held crash;
   })
 
   pub then_looks : (m n : ℕ) (a b c : View D) → Looks disk m a b → Looks disk n b c → Looks disk (m + n) a c
@@ -195,7 +201,7 @@ module _ {D : Type 0} (disk : Ghosts D) where
     held = second.held ∙ first.held;
     count = then_at_most first.count second.count;
     crash = both_steps join_same first.count.later first.crash
-        (subst (λ (l : Limits). CrashesOn disk l NothingNew b.slots.disk c.slots.disk) first.stays.limits second.crash);
+        (subst (λ (l : Limits). CrashesOn disk l NothingNew b c) first.stays.limits second.crash);
   }
 
   pub more_looks : (m n : ℕ) (a b : View D) → m ≤ n → Looks disk m a b → Looks disk n a b
@@ -224,14 +230,30 @@ module _ {D : Type 0} (disk : Ghosts D) where
       → Looks disk 0 w (with_doubt Settled v)
   chosen_before v w value reads s is unsure found same = subst (λ (x : View D). Looks disk 0 x (with_doubt Settled v)) is
       (looks_alike v (with_doubt Settled v) (record { limits = refl; head = refl; faults = refl; opened = refl }) refl
-      (held_before v value reads s unsure found same))
+      (held_before v value reads s unsure found same) (λ image left. left))
 
-  pub chosen_after : (v w : View D) (value reads s : SlotValue) (room : Offsets) → v ≡ w → v.doubt ≡ Open value reads → IsFound disk v s
+  -- the value that was to be has the reference that reads with it
+  left_after : (v : View D) (value reads s : SlotValue) → IsKept disk v → v.doubt ≡ Open value reads → IsFound disk v s → s.serial ≢ v.base.serial
+      → (image : Cartridge) → AheadOn disk v.room.limits reads.vcr v.slots.disk image → LeavesOf disk v image
+  left_after v value reads s kept unsure found isnt image h = ⊎_elim
+      (λ (it : image ≡ h.0). (h.0, h.1, inl it))
+      (λ (ahead : ((d : Files) × (disk.held v.slots.disk ≡ Some d)) × (h.0.vcr ≤ reads.vcr) × (image ≡ with_reference reads.vcr h.0)).
+      let d = ahead.0.0 in
+      let told = ahead.0.1 in
+      let t = opened_tells v value reads kept unsure d told in
+      let same : s ≡ value = other_by_number v.room.limits v.base value s d t.2 (found.reads d told) isnt in
+      let head : header v.room.limits h.1.0.cm ≡ Some value =
+      subst (λ (x : SlotValue). header v.room.limits h.1.0.cm ≡ Some x) same (found.left d h.1.0 told h.1.1) in
+      let one : h.0 ≡ counted t.1 = same_cartridge _ (counted t.1) h.0 (agreed_opens t.1 h.1.0 (t.1.agree h.1.0 h.1.1) head) h.1.2 in
+      (h.0, h.1, inl (ahead.2 ∙ same_reference reads.vcr h.0 (sym (ap (λ (x : Cartridge). x.vcr) one ∙ t.5)))))
+      h.2
+
+  pub chosen_after : (v w : View D) (value reads s : SlotValue) (room : Offsets) → v ≡ w → IsKept disk v → v.doubt ≡ Open value reads → IsFound disk v s
       → s.serial ≢ v.base.serial → room ≡ cut_to reads v.room → Looks disk 0 w (with_value value reads room v)
-  chosen_after v w value reads s room is unsure found isnt cut = subst (λ (x : View D). Looks disk 0 x (with_value value reads room v)) is
+  chosen_after v w value reads s room is kept unsure found isnt cut = subst (λ (x : View D). Looks disk 0 x (with_value value reads room v)) is
       (looks_alike v (with_value value reads room v)
       (record { limits = ap (λ (r : Offsets). r.limits) cut; head = refl; faults = refl; opened = refl }) refl
-      (held_after v value reads s room unsure found isnt))
+      (held_after v value reads s room unsure found isnt) (left_after v value reads s kept unsure found isnt))
 
   pub kept_command : {T E : Type 0} (end : Result T E) (v : View D) (s : slot.View D) → IsKept disk v → disk.held s.disk ≡ disk.held v.slots.disk
       → slot.IsCommand disk NothingNew end v.slots s → IsKept disk (with_slots s v)

@@ -1,5 +1,5 @@
 -- What reads on a tape whose header is known, and what a crash leaves of it.
-use Rattle.std.proofs.Common.{◌≡◌, ℕ, List, Option, Some, None, Result, Ok, Err, refl, sym, ap, ◌∙◌, subst}
+use Rattle.std.proofs.Common.{◌≡◌, ℕ, ◌≤◌, ⊎_elim, List, Option, Some, None, Result, Ok, Err, refl, sym, ap, ◌∙◌, subst}
 use Rattle.std.specs.Prelude.{OnOk}
 use Rattle.std.proofs.lemmas.Option.{same_Some}
 use Rattle.tape_types.specs.Cartridges.{note_of}
@@ -10,6 +10,7 @@ use Rattle.tape_types.specs.declared.cartridges.Part.TheVariants.{Ip, Dp}
 use Rattle.tape_drive.specs.Crashes.{IsSettled}
 use Rattle.byte_disk.specs.Files.{Files}
 use Rattle.byte_disk.specs.declared.disk.ByteDisk.{Ghosts}
+use Rattle.image_slots.specs.State as slot
 use Rattle.image_format.specs.declared.refusal.Refusal.{Refusal}
 use Rattle.image_format.specs.declared.values.SlotValue.{SlotValue}
 use Rattle.tape_types.specs.declared.cartridges.Item.{Item}
@@ -18,8 +19,9 @@ use Rattle.image_tape.specs.declared.doubt.Doubt.{Doubt}
 use Rattle.image_tape.specs.declared.doubt.Doubt.TheVariants.{Settled, Open}
 use Rattle.image_tape.specs.Ends.{IsSure}
 use Rattle.image_tape.specs.Halves.{half_of}
-use Rattle.image_tape.specs.Tape.{IsKept, LeavesOn, Suits, Tells, View, given, held_by, held_of, reading_by}
-use Rattle.image_tape.proofs.Lifting.{same_cartridge}
+use Rattle.image_tape.specs.Steps.{IsSteady}
+use Rattle.image_tape.specs.Tape.{AreEarlier, IsKept, LeavesOf, LeavesOn, Suits, Tells, View, given, held_by, held_of, reading_by, with_reference}
+use Rattle.image_tape.proofs.Lifting.{same_cartridge, same_reference}
 use Rattle.image_tape.proofs.Opened.{agreed_opens, counted, is_whole, whole}
 
 abbrev read_as : Cartridge → Result Cartridge Refusal
@@ -59,26 +61,36 @@ module _ {D : Type 0} (disk : Ghosts D) where
       let h = tells_of v kept settled d is in
       same_cartridge _ (counted h.0) c (agreed_opens h.0 left.0 (h.0.agree left.0 left.1) (h.2 left.0 left.1)) left.2
 
-  sure_by : (v : View D) → IsKept disk v → v.doubt ≡ Settled → (o : Option Cartridge) → held_of disk v ≡ o
-      → IsSettled o (LeavesOn disk v.room.limits v.slots.disk)
-  sure_by v kept settled None is = tt
-  sure_by v kept settled (Some c) is = λ image left.
-      let told = told_files v settled c is in
-      let h = tells_of v kept settled told.0 told.1 in
-      let is_c : c ≡ whole h.0 = same_Some c (whole h.0) (sym is ∙ held_whole v kept settled told.0 told.1) in
-      let is_left : image ≡ counted h.0 = left_counted v kept settled told.0 told.1 image left in
+  -- also with the reference that reads, where the header has it
+  pub left_known : (v : View D) (kept : IsKept disk v) (settled : v.doubt ≡ Settled) → v.base.vcr ≡ v.reads.vcr → (d : Files) (is : disk.held v.slots.disk ≡ Some d)
+      (image : Cartridge) → LeavesOf disk v image → image ≡ counted (tells_of v kept settled d is).0
+  left_known v kept settled same d is image left =
+      let one : left.0 ≡ counted (tells_of v kept settled d is).0 = left_counted v kept settled d is left.0 left.1 in
+      ⊎_elim
+      (λ (it : image ≡ left.0). it ∙ one)
+      (λ (ahead : ((e : Files) × (disk.held v.slots.disk ≡ Some e)) × (left.0.vcr ≤ v.reads.vcr) × (image ≡ with_reference v.reads.vcr left.0)).
+      ahead.2 ∙ same_reference v.reads.vcr left.0 (sym same ∙ sym (ap (λ (x : Cartridge). x.vcr) one)) ∙ one)
+      left.2
+
+  sure_by : (v : View D) → IsKept disk v → IsSteady v → (o : Option Cartridge) → held_of disk v ≡ o → IsSettled o (LeavesOf disk v)
+  sure_by v kept steady None is = tt
+  sure_by v kept steady (Some c) is = λ image left.
+      let told = told_files v steady.doubt c is in
+      let h = tells_of v kept steady.doubt told.0 told.1 in
+      let is_c : c ≡ whole h.0 = same_Some c (whole h.0) (sym is ∙ held_whole v kept steady.doubt told.0 told.1) in
+      let is_left : image ≡ counted h.0 = left_known v kept steady.doubt steady.vcr told.0 told.1 image left in
       record {
-        vcr = ap (λ (x : Cartridge). x.vcr) is_left ∙ sym h.0.vcr ∙ ap (λ (x : Cartridge). x.vcr) (sym is_c);
+        vcr = ap (λ (x : Cartridge). x.vcr) is_left ∙ steady.vcr ∙ ap (λ (x : Cartridge). x.vcr) (sym is_c);
         note_ip = ap (λ (x : Cartridge). x.note_ip) is_left ∙ sym h.0.note_ip ∙ ap (λ (x : Cartridge). x.note_ip) (sym is_c);
         note_dp = ap (λ (x : Cartridge). x.note_dp) is_left ∙ sym h.0.note_dp ∙ ap (λ (x : Cartridge). x.note_dp) (sym is_c);
       }
 
   -- the reference and the attributes are durable
-  pub is_sure : (v : View D) → IsKept disk v → v.doubt ≡ Settled → IsSure disk v
-  is_sure v kept settled = sure_by v kept settled (held_of disk v) refl
+  pub is_sure : (v : View D) → IsKept disk v → IsSteady v → IsSure disk v
+  is_sure v kept steady = sure_by v kept steady (held_of disk v) refl
 
-  pub is_sure_at : (v w : View D) → v ≡ w → IsKept disk v → w.doubt ≡ Settled → IsSure disk w
-  is_sure_at v w is kept settled = is_sure w (subst (λ (x : View D). IsKept disk x) is kept) settled
+  pub is_sure_at : (v w : View D) → v ≡ w → IsKept disk v → IsSteady w → IsSure disk w
+  is_sure_at v w is kept steady = is_sure w (subst (λ (x : View D). IsKept disk x) is kept) steady
 
   pub held_is_whole : (v : View D) (kept : IsKept disk v) (settled : v.doubt ≡ Settled) (c : Cartridge) → held_of disk v ≡ Some c
       → (d : Files) × (is : disk.held v.slots.disk ≡ Some d) × (c ≡ whole (tells_of v kept settled d is).0)
@@ -103,8 +115,8 @@ module _ {D : Type 0} (disk : Ghosts D) where
       let t = held_is_whole v kept (ap (λ (x : View D). x.doubt) is ∙ settled) c (ap (λ (x : View D). held_of disk x) is ∙ held ∙ was) in
       note_by part v.reads _ _ ∙ ap (λ (x : Cartridge). note_of part x) (sym t.2)
 
-  abbrev pub lost : View D → Option Place → ℕ → View D
-  lost v head faults = record {
+  abbrev pub lost : View D → Option Place → ℕ → List (ℕ × slot.View D) → View D
+  lost v head faults past = record {
     slots = v.slots;
     room = v.room;
     base = v.base;
@@ -113,27 +125,35 @@ module _ {D : Type 0} (disk : Ghosts D) where
     head = head;
     faults = faults;
     opened = v.opened;
+    past = past;
   }
 
-  suits_in : (v : View D) (head : Option Place) (faults : ℕ) (o : Doubt) → Suits o v → Suits o (lost v head faults)
-  suits_in v head faults Settled h = h
-  suits_in v head faults (Open value reads) h = h
+  suits_in : (v : View D) (head : Option Place) (faults : ℕ) (past : List (ℕ × slot.View D)) (o : Doubt) → Suits o v → Suits o (lost v head faults past)
+  suits_in v head faults past Settled h = h
+  suits_in v head faults past (Open value reads) h = h
 
-  tells_in : (v : View D) (head : Option Place) (faults : ℕ) (o : Doubt) (d : Files) → Tells o v (disk.leaves v.slots.disk) d → Tells o (lost v head faults) (disk.leaves v.slots.disk) d
-  tells_in v head faults Settled d h = h
-  tells_in v head faults (Open value reads) d h = h
+  tells_in : (v : View D) (head : Option Place) (faults : ℕ) (past : List (ℕ × slot.View D)) (o : Doubt) (d : Files) → Tells o v (disk.leaves v.slots.disk) d
+      → Tells o (lost v head faults past) (disk.leaves v.slots.disk) d
+  tells_in v head faults past Settled d h = h
+  tells_in v head faults past (Open value reads) d h = h
 
-  -- the head stands elsewhere, or a fault more is counted
-  pub kept_head : (v : View D) (head : Option Place) (faults : ℕ) → IsKept disk v → IsKept disk (lost v head faults)
-  kept_head v head faults kept = record {
+  -- the head stands elsewhere, or a fault more is counted; and other moments are past
+  pub kept_head : (v : View D) (head : Option Place) (faults : ℕ) (past : List (ℕ × slot.View D)) → IsKept disk v
+      → AreEarlier disk past (disk.commands v.slots.disk) → IsKept disk (lost v head faults past)
+  kept_head v head faults past kept early = record {
     limits = kept.limits;
     holds = kept.holds;
-    suits = suits_in v head faults v.doubt kept.suits;
+    suits = suits_in v head faults past v.doubt kept.suits;
     reached = kept.reached;
     always = kept.always;
-    tells = λ d is. tells_in v head faults v.doubt d (kept.tells d is);
+    past = early;
+    tells = λ d is. tells_in v head faults past v.doubt d (kept.tells d is);
   }
 
-  pub is_sure_when : {T E : Type 0} (r : Result T E) (v w : View D) → v ≡ w → IsKept disk v → OnOk r (w.doubt ≡ Settled) → OnOk r (IsSure disk w)
+  pub is_sure_when : {T E : Type 0} (r : Result T E) (v w : View D) → v ≡ w → IsKept disk v → OnOk r (IsSteady w) → OnOk r (IsSure disk w)
   is_sure_when (Ok x) v w is kept settled = is_sure_at v w is kept settled
   is_sure_when (Err why) v w is kept settled = tt
+
+  pub early_of : (v w : View D) (past : List (ℕ × slot.View D)) → v ≡ w → AreEarlier disk past (disk.commands w.slots.disk)
+      → AreEarlier disk past (disk.commands v.slots.disk)
+  early_of v w past is early = subst (λ (x : View D). AreEarlier disk past (disk.commands x.slots.disk)) (sym is) early

@@ -15,6 +15,7 @@ use Rattle.image_tape.specs.declared.doubt.Doubt.{Doubt}
 use Rattle.image_tape.specs.declared.doubt.Doubt.TheVariants.{Settled, Open}
 use Rattle.image_tape.specs.Tape.{IsKept, Lie, Stands, Suits, Tells, View, held_by, held_of}
 use Rattle.image_tape.proofs.Lifting.{goes_on}
+use Rattle.image_tape.proofs.Moments.{earlier_on}
 use Rattle.image_tape.proofs.Opened.{agreed_opens, counted}
 
 -- the same tape over another disk
@@ -28,6 +29,7 @@ with_slots s v = record {
   head = v.head;
   faults = v.faults;
   opened = v.opened;
+  past = v.past;
 }
 
 -- over files with the same partitions, where a crash leaves the partitions as it did
@@ -73,6 +75,7 @@ tells_less (Open after reads) v s la lb d value less h = (
   h.2,
   λ left is. h.3 left (less left is),
   h.4,
+  h.5,
 )
 
 -- each image opens
@@ -114,6 +117,7 @@ module _ {D : Type 0} (disk : Ghosts D) where
               subst (λ (f : Files). (c : Cartridge) × Opens v.room.limits f c) (sym same)
               (image_opens v.doubt v (disk.leaves v.slots.disk) e (kept.tells e was) before left_before),
         ));
+    past = earlier_on disk v.past (disk.commands v.slots.disk) (disk.commands s.disk) later kept.past;
     tells = λ d is.
         tells_less v.doubt v s (disk.leaves v.slots.disk) (disk.leaves s.disk) d value (old_image crash) (kept.tells d (sym held ∙ is));
   }

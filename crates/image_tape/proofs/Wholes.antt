@@ -23,12 +23,12 @@ use Rattle.image_format.specs.Images.{cartridge_of, image_by}
 use Rattle.image_format.specs.Offsets.{Offsets}
 use Rattle.image_format.specs.Records.{record_bytes}
 use Rattle.image_tape.specs.declared.doubt.Doubt.TheVariants.{Settled}
-use Rattle.image_tape.specs.Halves.{noted, with_note, with_serial}
-use Rattle.image_tape.specs.Steps.{AfterCommit, AreStored, IsCommit, IsNoteSet, IsStored, IsTaken, Looks, MayStand}
-use Rattle.image_tape.specs.Tape.{CrashesOn, Holds, IsKept, LeavesOn, Lie, Stands, View, cut_to, held_by, held_of}
+use Rattle.image_tape.specs.Halves.{noted, with_note, with_serial, with_vcr}
+use Rattle.image_tape.specs.Steps.{AfterCommit, AreStored, IsCommit, IsNoteSet, IsSteady, IsStored, IsTaken, Looks, MayStand}
+use Rattle.image_tape.specs.Tape.{CrashesOn, Holds, IsKept, LeavesOf, Lie, Stands, View, cut_to, held_by, held_of, with_reference}
 use Rattle.image_tape.proofs.Fronts.{all_bytes}
 use Rattle.image_tape.proofs.Opened.{counted, is_counted, is_whole, whole}
-use Rattle.image_tape.proofs.Telling.{held_is_whole, held_whole, left_counted, tells_of}
+use Rattle.image_tape.proofs.Telling.{held_is_whole, held_whole, left_known, tells_of}
 
 -- halves with the same numbers say the same of a file
 pub lie_like : (said reads said' reads' : Half) (offsets file : List ℕ) (items : List Item) → said'.count ≡ said.count → said'.end ≡ said.end
@@ -95,7 +95,7 @@ module _ {D : Type 0} (disk : Ghosts D) where
               ip = ap (λ (file : List ℕ). take v.reads.ip.end file) same.0;
               dp = ap (λ (file : List ℕ). take v.reads.dp.end file) same.1;
             };
-        vcr = refl;
+        vcr = omega arith;
         note_ip = refl;
         note_dp = refl;
         fits_ip = kept.holds.fits_ip;
@@ -130,14 +130,14 @@ module _ {D : Type 0} (disk : Ghosts D) where
       ∙ ap (λ (l : List Item). cartridge_of reads st.ip l) (take_all reads.dp.count st.dp (omega (arith, st.in_dp.records.count)))
 
   sure_all : (n : View D) → IsKept disk n → n.doubt ≡ Settled → (k : ℕ) → n.base ≡ with_serial k n.reads → (o : Option Cartridge) → held_of disk n ≡ o
-      → IsSure o (LeavesOn disk n.room.limits n.slots.disk)
+      → IsSure o (LeavesOf disk n)
   sure_all n kept settled k is None held = tt
   sure_all n kept settled k is (Some c) held = λ image left.
       let t = held_is_whole disk n kept settled c held in
-      left_counted disk n kept settled t.0 t.1 image left ∙ counted_whole k (tells_of disk n kept settled t.0 t.1).0 is ∙ sym t.2
+      left_known disk n kept settled (ap (λ (s : SlotValue). s.vcr) is) t.0 t.1 image left ∙ counted_whole k (tells_of disk n kept settled t.0 t.1).0 is ∙ sym t.2
 
   sure_taken : {T E : Type 0} (r : Result T E) (reads : SlotValue) (w n : View D) → IsKept disk n → OnOk r (IsTaken reads reads w n)
-      → OnOk r (IsSure (held_of disk n) (LeavesOn disk n.room.limits n.slots.disk))
+      → OnOk r (IsSure (held_of disk n) (LeavesOf disk n))
   sure_taken (Ok x) reads w n kept taken =
       sure_all n kept taken.doubt (w.base.serial + 1) (taken.base ∙ ap (λ (s : SlotValue). with_serial (w.base.serial + 1) s) (sym taken.reads_are)) (held_of disk n) refl
   sure_taken (Err why) reads w n kept taken = tt
@@ -167,9 +167,9 @@ module _ {D : Type 0} (disk : Ghosts D) where
         let to : image_by t.0 (Some reads) ≡ Ok (whole st) = ap (λ (s : SlotValue). image_by t.0 (Some s)) all ∙ is_whole st in
         other_step
         (λ before image left step. ⊎_elim
-        (λ (old : image ≡ counted st). inl (old ∙ sym step.0))
-        (λ (new : image ≡ whole st). inr (new ∙ sym t.2))
-        step.1)
+        (λ (old : image ≡ before). inl old)
+        (λ (new : (before ≡ with_reference w.reads.vcr (counted st)) × (image ≡ whole st)). inr (new.1 ∙ sym t.2))
+        step)
         (done.crash t.0 (counted st) (whole st) t.1 (is_counted st) to);
   }
 
@@ -186,7 +186,7 @@ module _ {D : Type 0} (disk : Ghosts D) where
     held = second.held ∙ first.held;
     sure = second.sure;
     crash = λ x held. behind_looks (λ image. inl refl) first.count.later first.crash
-        (subst (λ (l : Limits). CrashesOn disk l (WithinFlush x) b.slots.disk c.slots.disk) first.stays.limits (second.crash x (first.held ∙ held)));
+        (subst (λ (l : Limits). CrashesOn disk l (WithinFlush x) b c) first.stays.limits (second.crash x (first.held ∙ held)));
   }
 
   pub not_stored : {T E : Type 0} (why : E) (m n : ℕ) (a b : View D) → m ≤ n → Looks disk m a b → IsStored {T = T} disk n (Err why) a b
@@ -199,7 +199,14 @@ module _ {D : Type 0} (disk : Ghosts D) where
   }
 
   -- an attribute
-  pub noted_stand : (part : Part) (note : Note) (v : View D) → IsKept disk v → v.doubt ≡ Settled → MayStand disk (with_note part note v.base) (with_note part note v.reads) v
+  abbrev pub note_value : Part → Note → View D → SlotValue
+  note_value part note v = with_vcr v.reads.vcr (with_note part note v.base)
+
+  pub note_number : (part : Part) (note : Note) (s : SlotValue) → (with_note part note s).vcr ≡ s.vcr
+  note_number Ip note s = refl
+  note_number Dp note s = refl
+
+  pub noted_stand : (part : Part) (note : Note) (v : View D) → IsKept disk v → v.doubt ≡ Settled → MayStand disk (note_value part note v) (with_note part note v.reads) v
   noted_stand Ip note v kept settled d is =
       let st = (tells_of disk v kept settled d is).0 in
       record {
@@ -208,7 +215,7 @@ module _ {D : Type 0} (disk : Ghosts D) where
         in_ip = lie_like v.base.ip v.reads.ip (noted note v.base.ip) (noted note v.reads.ip) v.room.ip d.ip st.ip refl refl refl refl kept.holds.ip st.in_ip;
         in_dp = lie_like v.base.dp v.reads.dp v.base.dp v.reads.dp v.room.dp d.dp st.dp refl refl refl refl kept.holds.dp st.in_dp;
         agree = λ image left. let a = st.agree image left in record { ip = a.ip; dp = a.dp };
-        vcr = st.vcr;
+        vcr = omega arith;
         note_ip = refl;
         note_dp = st.note_dp;
         fits_ip = st.fits_ip;
@@ -222,7 +229,7 @@ module _ {D : Type 0} (disk : Ghosts D) where
         in_ip = lie_like v.base.ip v.reads.ip v.base.ip v.reads.ip v.room.ip d.ip st.ip refl refl refl refl kept.holds.ip st.in_ip;
         in_dp = lie_like v.base.dp v.reads.dp (noted note v.base.dp) (noted note v.reads.dp) v.room.dp d.dp st.dp refl refl refl refl kept.holds.dp st.in_dp;
         agree = λ image left. let a = st.agree image left in record { ip = a.ip; dp = a.dp };
-        vcr = st.vcr;
+        vcr = omega arith;
         note_ip = st.note_ip;
         note_dp = refl;
         fits_ip = st.fits_ip;
@@ -245,6 +252,15 @@ module _ {D : Type 0} (disk : Ghosts D) where
   after_note (Err why) part note c e held is (inl h) = (c, h, inl refl)
   after_note (Err why) part note c e held is (inr h) = (e, h, inr is)
 
+  -- the header has the reference that reads
+  pub steady_taken : {T E : Type 0} (r : Result T E) (value reads : SlotValue) (w n : View D) → value.vcr ≡ reads.vcr → OnOk r (IsTaken value reads w n)
+      → OnOk r (IsSteady n)
+  steady_taken (Ok x) value reads w n same taken = record {
+    doubt = taken.doubt;
+    vcr = ap (λ (s : SlotValue). s.vcr) taken.base ∙ same ∙ sym (ap (λ (s : SlotValue). s.vcr) taken.reads_are);
+  }
+  steady_taken (Err why) value reads w n same taken = tt
+
   pub settled_taken : {T E : Type 0} (r : Result T E) (value reads : SlotValue) (w n : View D) → OnOk r (IsTaken value reads w n) → OnOk r (n.doubt ≡ Settled)
   settled_taken (Ok x) value reads w n taken = taken.doubt
   settled_taken (Err why) value reads w n taken = tt
@@ -264,18 +280,18 @@ module _ {D : Type 0} (disk : Ghosts D) where
   whole_noted Dp note v kept settled d is = refl
 
   counted_noted : (part : Part) (note : Note) (v : View D) (kept : IsKept disk v) (settled : v.doubt ≡ Settled) (d : Files) (is : disk.held v.slots.disk ≡ Some d)
-      → IsNoted part note (counted (tells_of disk v kept settled d is).0) (counted (noted_stand part note v kept settled d is))
+      → IsNoted part note (with_reference v.reads.vcr (counted (tells_of disk v kept settled d is).0)) (counted (noted_stand part note v kept settled d is))
   unfolding noted_stand
   counted_noted Ip note v kept settled d is = record { ip = refl; dp = refl; vcr = refl; other_note = refl; written = refl }
   counted_noted Dp note v kept settled d is = record { ip = refl; dp = refl; vcr = refl; other_note = refl; written = refl }
 
   pub note_is_set : {T E : Type 0} (r : Result T E) (part : Part) (note : Note) (w n : View D) → IsKept disk w → w.doubt ≡ Settled
-      → IsCommit disk (with_note part note w.base) (with_note part note w.reads) r w n
-      → OnOk r (IsTaken (with_note part note w.base) (with_note part note w.reads) w n) → IsNoteSet disk part note r w n
+      → IsCommit disk (note_value part note w) (with_note part note w.reads) r w n
+      → OnOk r (IsTaken (note_value part note w) (with_note part note w.reads) w n) → IsNoteSet disk part note r w n
   note_is_set r part note w n kept settled done taken = record {
     stays = done.stays;
     count = done.count;
-    settled = settled_taken r (with_note part note w.base) (with_note part note w.reads) w n taken;
+    settled = steady_taken r (note_value part note w) (with_note part note w.reads) w n (sym (note_number part note w.reads)) taken;
     untold = λ none. untold_held n (done.untold (none_held w kept settled none));
     told = λ c held.
         let t = held_is_whole disk w kept settled c held in
@@ -292,13 +308,57 @@ module _ {D : Type 0} (disk : Ghosts D) where
         let st1 = noted_stand part note w kept settled t.0 t.1 in
         other_step
         (λ before image left step. ⊎_elim
-        (λ (old : image ≡ counted st). inl (old ∙ sym step.0))
-        (λ (new : image ≡ counted st1). inr
-        (subst (λ (x : Cartridge). IsNoted part note before x) (sym new)
-        (subst (λ (x : Cartridge). IsNoted part note x (counted st1)) (sym step.0) (counted_noted part note w kept settled t.0 t.1))))
-        step.1)
+        (λ (old : image ≡ before). inl old)
+        (λ (new : (before ≡ with_reference w.reads.vcr (counted st)) × (image ≡ counted st1)). inr
+        (subst (λ (x : Cartridge). IsNoted part note before x) (sym new.1)
+        (subst (λ (x : Cartridge). IsNoted part note x (counted st1)) (sym new.0) (counted_noted part note w kept settled t.0 t.1))))
+        step)
         (done.crash t.0 (counted st) (counted st1) t.1 (is_counted st) (is_counted st1));
   }
+
+module _ {D : Type 0} (disk : Ghosts D) (w : View D) (kept : IsKept disk w) (settled : w.doubt ≡ Settled) where
+  abbrev pub vcr_value : SlotValue
+  vcr_value = with_vcr w.reads.vcr w.base
+
+  -- the header as it is, with the reference that reads
+  pub vcr_stand : MayStand disk vcr_value w.reads w
+  vcr_stand d is =
+      let st = (tells_of disk w kept settled d is).0 in
+      record {
+        ip = st.ip;
+        dp = st.dp;
+        in_ip = lie_like w.base.ip w.reads.ip w.base.ip w.reads.ip w.room.ip d.ip st.ip refl refl refl refl kept.holds.ip st.in_ip;
+        in_dp = lie_like w.base.dp w.reads.dp w.base.dp w.reads.dp w.room.dp d.dp st.dp refl refl refl refl kept.holds.dp st.in_dp;
+        agree = λ image left. let a = st.agree image left in record { ip = a.ip; dp = a.dp };
+        vcr = omega arith;
+        note_ip = st.note_ip;
+        note_dp = st.note_dp;
+        fits_ip = st.fits_ip;
+        fits_dp = st.fits_dp;
+      }
+
+  counted_vcr : (d : Files) (is : disk.held w.slots.disk ≡ Some d)
+      → counted (vcr_stand d is) ≡ with_reference w.reads.vcr (counted (tells_of disk w kept settled d is).0)
+  unfolding vcr_stand
+  counted_vcr d is = refl
+
+  -- where no files are told nothing is known of what is left, so nothing is done
+  pub vcr_looks : {T E : Type 0} (r : Result T E) (n : View D) → (d : Files) → disk.held w.slots.disk ≡ Some d
+      → IsCommit disk vcr_value w.reads r w n → Looks disk 6 w n
+  vcr_looks r n d is done =
+      let st = (tells_of disk w kept settled d is).0 in
+      let st1 = vcr_stand d is in
+      record {
+        stays = done.stays;
+        held = after_same disk r (whole st) (held_of disk n) (done.told d (whole st) (whole st) is (is_whole st) (is_whole st)) ∙ sym (held_whole disk w kept settled d is);
+        count = done.count;
+        crash = other_step
+            (λ before image left step. ⊎_elim
+            (λ (old : image ≡ before). old)
+            (λ (new : (before ≡ with_reference w.reads.vcr (counted st)) × (image ≡ counted st1)). new.1 ∙ counted_vcr d is ∙ sym new.0)
+            step)
+            (done.crash d (counted st) (counted st1) is (is_counted st) (is_counted st1));
+      }
 
 -- what is said of values and of a tape is said of their equals
 pub there : {D : Type 0} (P : SlotValue → SlotValue → View D → Type 0) (base reads base' reads' : SlotValue) (v w : View D) → base ≡ base' → reads ≡ reads' → v ≡ w
@@ -312,10 +372,10 @@ pub back : {D : Type 0} (P : SlotValue → SlotValue → View D → Type 0) (bas
 back P base reads base' reads' v w eb er is h = there P base' reads' base reads w v (sym eb) (sym er) (sym is) h
 
 pub note_is_set_at : {D T E : Type 0} (disk : Ghosts D) (r : Result T E) (part : Part) (note : Note) (base reads : SlotValue) (v w n : View D) → v ≡ w → IsKept disk v
-    → w.doubt ≡ Settled → base ≡ with_note part note v.base → reads ≡ with_note part note v.reads → IsCommit disk base reads r w n
+    → w.doubt ≡ Settled → base ≡ note_value disk part note v → reads ≡ with_note part note v.reads → IsCommit disk base reads r w n
     → OnOk r (IsTaken base reads w n) → IsNoteSet disk part note r w n
 note_is_set_at {D = D} disk r part note base reads v w n is kept settled eb er done taken =
     subst (λ (x : View D). IsNoteSet disk part note r x n) is
     (note_is_set disk r part note v n kept (ap (λ (x : View D). x.doubt) is ∙ settled)
-    (back (λ b s x. IsCommit disk b s r x n) base reads (with_note part note v.base) (with_note part note v.reads) v w eb er is done)
-    (back (λ b s x. OnOk r (IsTaken b s x n)) base reads (with_note part note v.base) (with_note part note v.reads) v w eb er is taken))
+    (back (λ b s x. IsCommit disk b s r x n) base reads (note_value disk part note v) (with_note part note v.reads) v w eb er is done)
+    (back (λ b s x. OnOk r (IsTaken b s x n)) base reads (note_value disk part note v) (with_note part note v.reads) v w eb er is taken))

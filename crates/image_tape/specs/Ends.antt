@@ -14,12 +14,13 @@ use Rattle.tape_drive.specs.Commands.{AfterNote, AfterWrite, Counted, FillsBuffe
 use Rattle.tape_drive.specs.Crashes as crash
 use Rattle.tape_drive.specs.Crashes.{IsSettled, NothingNew, WithinFlush, WithinNote, WithinWrite}
 use Rattle.byte_disk.specs.declared.disk.ByteDisk.{Ghosts}
-use Rattle.image_tape.specs.declared.doubt.Doubt.TheVariants.{Settled}
-use Rattle.image_tape.specs.Tape.{CrashesOn, LeavesOn, View, held_of}
+use Rattle.image_slots.specs.State as slot
+use Rattle.image_tape.specs.Steps.{IsSteady}
+use Rattle.image_tape.specs.Tape.{CrashesOn, LeavesOf, View, held_of, with_moment}
 
--- the head has to be located again, and a fault more is counted
-abbrev pub failed : {D : Type 0} → View D → View D
-failed v = record {
+-- the head has to be located again, a fault more is counted, and these are the moments that are past
+abbrev pub failed : {D : Type 0} → List (ℕ × slot.View D) → View D → View D
+failed past v = record {
   slots = v.slots;
   room = v.room;
   base = v.base;
@@ -28,11 +29,12 @@ failed v = record {
   head = None;
   faults = min (v.faults + 1) (2 ^ 64 - 1);
   opened = v.opened;
+  past = past;
 }
 
--- the head stands there
-abbrev pub with_head : {D : Type 0} → Option Place → View D → View D
-with_head head v = record {
+-- the head stands there, and these are the moments that are past
+abbrev pub with_head : {D : Type 0} → Option Place → List (ℕ × slot.View D) → View D → View D
+with_head head past v = record {
   slots = v.slots;
   room = v.room;
   base = v.base;
@@ -41,17 +43,19 @@ with_head head v = record {
   head = head;
   faults = v.faults;
   opened = v.opened;
+  past = past;
 }
 
 -- the end of a command that succeeded
-pub record IsEnded {D : Type 0} (disk : Ghosts D) (head : Option Place) (old new : View D) : Type 0 where
-  pub after : new ≡ with_head head old
+pub record IsEnded {D : Type 0} (disk : Ghosts D) (head : Option Place) (past : List (ℕ × slot.View D))
+    (old new : View D) : Type 0 where
+  pub after : new ≡ with_head head past old
   pub count : disk.commands old.slots.disk ≤ 2 ^ 64 - 1
   pub faults : old.faults ≤ 2 ^ 64 - 1
 
 -- the end of one that failed
-pub record IsFailed {D : Type 0} (disk : Ghosts D) (old new : View D) : Type 0 where
-  pub after : new ≡ failed old
+pub record IsFailed {D : Type 0} (disk : Ghosts D) (past : List (ℕ × slot.View D)) (old new : View D) : Type 0 where
+  pub after : new ≡ failed past old
   pub count : disk.commands old.slots.disk ≤ 2 ^ 64 - 1
   pub faults : old.faults ≤ 2 ^ 64 - 1
 
@@ -59,6 +63,7 @@ pub record IsFailed {D : Type 0} (disk : Ghosts D) (old new : View D) : Type 0 w
 pub record Ends {D T E : Type 0} (disk : Ghosts D) (end : Result T E) (old new : View D) : Type 0 where
   pub limits : new.room.limits ≡ old.room.limits
   pub opened : new.opened ≡ old.opened
+  pub past : new.past ≡ with_moment old
   pub lost : OnErr end (new.head ≡ None)
   pub count : Counted 16 (disk.commands old.slots.disk) (disk.commands new.slots.disk)
   pub cause : HasCause old.faults new.faults end
@@ -67,7 +72,7 @@ pub record Ends {D T E : Type 0} (disk : Ghosts D) (end : Result T E) (old new :
 pub record IsLooked {D T E : Type 0} (disk : Ghosts D) (end : Result T E) (old new : View D) : Type 0 where
   pub ends : Ends disk end old new
   pub held : held_of disk new ≡ held_of disk old
-  pub crash : CrashesOn disk old.room.limits NothingNew old.slots.disk new.slots.disk
+  pub crash : CrashesOn disk old.room.limits NothingNew old new
 
 -- a command that writes an item at a place
 pub record Wrote {D T E : Type 0} (disk : Ghosts D) (at : Place) (x : Item) (end : Result T E)
@@ -80,28 +85,28 @@ pub record Wrote {D T E : Type 0} (disk : Ghosts D) (at : Place) (x : Item) (end
   pub at_end : (c : Cartridge) → held_of disk old ≡ Some c → 2 ^ 64 - 1 ≤ c.vcr → IsErr end
       × (held_of disk new ≡ Some c)
   pub crash : (c : Cartridge) → held_of disk old ≡ Some c
-      → CrashesOn disk old.room.limits (WithinWrite at.part at.pos x c) old.slots.disk new.slots.disk
+      → CrashesOn disk old.room.limits (WithinWrite at.part at.pos x c) old new
 
 -- a flush
 pub record Flushed {D T E : Type 0} (disk : Ghosts D) (end : Result T E) (old new : View D) : Type 0 where
   pub ends : Ends disk end old new
   pub head : OnOk end (new.head ≡ old.head)
   pub held : held_of disk new ≡ held_of disk old
-  pub sure : OnOk end (crash.IsSure (held_of disk new) (LeavesOn disk new.room.limits new.slots.disk))
+  pub sure : OnOk end (crash.IsSure (held_of disk new) (LeavesOf disk new))
   pub crash : (c : Cartridge) → held_of disk old ≡ Some c
-      → CrashesOn disk old.room.limits (WithinFlush c) old.slots.disk new.slots.disk
+      → CrashesOn disk old.room.limits (WithinFlush c) old new
 
 -- a write of an attribute
 pub record Noted {D T E : Type 0} (disk : Ghosts D) (part : Part) (note : Note) (end : Result T E)
     (old new : View D) : Type 0 where
   pub ends : Ends disk end old new
   pub head : OnOk end (new.head ≡ old.head)
-  pub settled : OnOk end (new.doubt ≡ Settled)
+  pub settled : OnOk end (IsSteady new)
   pub untold : held_of disk old ≡ None → held_of disk new ≡ None
   pub told : (c : Cartridge) → held_of disk old ≡ Some c → (e : Cartridge) × (held_of disk new ≡ Some e)
       × AfterNote end part note c e
   pub crash : (c : Cartridge) → held_of disk old ≡ Some c
-      → CrashesOn disk old.room.limits (WithinNote part note) old.slots.disk new.slots.disk
+      → CrashesOn disk old.room.limits (WithinNote part note) old new
 
 -- a read at a place
 pub record HasRead {D E : Type 0} (disk : Ghosts D) (at : Place) (end : Result Got E) (buf : List ℕ)
@@ -114,4 +119,4 @@ pub record HasRead {D E : Type 0} (disk : Ghosts D) (at : Place) (end : Result G
 
 -- every crash leaves the reference and the attributes as they read
 abbrev pub IsSure : {D : Type 0} → Ghosts D → View D → Type 0
-IsSure disk v = IsSettled (held_of disk v) (LeavesOn disk v.room.limits v.slots.disk)
+IsSure disk v = IsSettled (held_of disk v) (LeavesOf disk v)

@@ -18,7 +18,7 @@ use Rattle.image_format.specs.Images.{header_by, image}
 use Rattle.image_format.specs.Offsets.{Offsets, offsets_from}
 use Rattle.image_format.specs.Records.{AreRecords}
 use Rattle.image_format.specs.declared.values.SlotValue.{SlotValue}
-use Rattle.image_tape.specs.Tape.{LeavesOn, View, held_of}
+use Rattle.image_tape.specs.Tape.{LeavesOf, View, held_of}
 
 -- every crash leaves the partitions' files as they read
 abbrev pub AreSynced : {D : Type 0} → Ghosts D → slot.View D → Type 0
@@ -46,7 +46,7 @@ pub record HasOpened {D : Type 0} (disk : Ghosts D) (limits : Limits) (old : D) 
   pub untold : disk.held old ≡ None → disk.held t.slots.disk ≡ None
   pub told : (d : Files) → disk.held old ≡ Some d → (c : Cartridge) × (image limits d ≡ Ok c)
       × (held_of disk t ≡ Some c)
-      × ((x : Cartridge) → LeavesOn disk limits t.slots.disk x → x ≡ c)
+      × ((x : Cartridge) → LeavesOf disk t x → x ≡ c)
 
 -- why the files of a disk were refused
 abbrev pub RefusedAs : Limits → Files → OpenErr → Type 0

@@ -20,7 +20,7 @@ use Rattle.image_format.specs.Images.{header, header_by, image_by}
 use Rattle.image_format.specs.declared.values.SlotValue.{SlotValue}
 use Rattle.image_tape.specs.declared.doubt.Doubt.TheVariants.{Settled}
 use Rattle.image_tape.specs.Halves.{with_serial}
-use Rattle.image_tape.specs.Tape.{CrashesOn, LeavesOn, Stands, View, cut_to, held_of}
+use Rattle.image_tape.specs.Tape.{CrashesOn, LeavesOf, Stands, View, cut_to, held_of, with_reference}
 
 -- all but the disk and its value is as it was
 pub record Keeps {D : Type 0} (old new : View D) : Type 0 where
@@ -45,11 +45,11 @@ pub record Looks {D : Type 0} (disk : Ghosts D) (most : ℕ) (old new : View D) 
   pub stays : Stays old new
   pub held : held_of disk new ≡ held_of disk old
   pub count : AtMost most (disk.commands old.slots.disk) (disk.commands new.slots.disk)
-  pub crash : CrashesOn disk old.room.limits NothingNew old.slots.disk new.slots.disk
+  pub crash : CrashesOn disk old.room.limits NothingNew old new
 
--- from one cartridge to that or another one
+-- as before, or from one cartridge to another one
 abbrev pub FromTo : (from to before image : Cartridge) → Type 0
-FromTo from to before image = (before ≡ from) × ((image ≡ from) ⊎ (image ≡ to))
+FromTo from to before image = (image ≡ before) ⊎ ((before ≡ from) × (image ≡ to))
 
 -- the cartridge reads as the one that was to be, or where that failed as that or as before
 abbrev pub AfterCommit : {T E : Type 0} → Result T E → (from to : Cartridge) → Option Cartridge → Type 0
@@ -67,7 +67,8 @@ pub record IsCommit {D T E : Type 0} (disk : Ghosts D) (value reads : SlotValue)
       → image_by d (Some reads) ≡ Ok to → AfterCommit end from to (held_of disk new)
   pub crash : (d : Files) (from to : Cartridge) → disk.held old.slots.disk ≡ Some d
       → image_by d (Some old.base) ≡ Ok from
-      → image_by d (Some value) ≡ Ok to → CrashesOn disk old.room.limits (FromTo from to) old.slots.disk new.slots.disk
+      → image_by d (Some value) ≡ Ok to
+      → CrashesOn disk old.room.limits (FromTo (with_reference old.reads.vcr from) to) old new
 
 -- a header of this value would be right, and with it so much would read
 abbrev pub MayStand : {D : Type 0} → Ghosts D → (value reads : SlotValue) → View D → Type 0
@@ -80,6 +81,11 @@ pub record IsTaken {D : Type 0} (value reads : SlotValue) (old new : View D) : T
   pub reads_are : new.reads ≡ reads
   pub room : new.room ≡ cut_to reads old.room
   pub doubt : new.doubt ≡ Settled
+
+-- the header is known, and has the reference that reads
+pub record IsSteady {D : Type 0} (v : View D) : Type 0 where
+  pub doubt : v.doubt ≡ Settled
+  pub vcr : v.base.vcr ≡ v.reads.vcr
 
 -- the header says this value, and so does that of each image that a crash may leave
 pub record IsFound {D : Type 0} (disk : Ghosts D) (v : View D) (s : SlotValue) : Type 0 where
@@ -119,18 +125,18 @@ pub record IsStored {D T E : Type 0} (disk : Ghosts D) (most : ℕ) (end : Resul
   pub stays : Stays old new
   pub count : AtMost most (disk.commands old.slots.disk) (disk.commands new.slots.disk)
   pub held : held_of disk new ≡ held_of disk old
-  pub sure : OnOk end (IsSure (held_of disk new) (LeavesOn disk new.room.limits new.slots.disk))
+  pub sure : OnOk end (IsSure (held_of disk new) (LeavesOf disk new))
   pub crash : (c : Cartridge) → held_of disk old ≡ Some c
-      → CrashesOn disk old.room.limits (WithinFlush c) old.slots.disk new.slots.disk
+      → CrashesOn disk old.room.limits (WithinFlush c) old new
 
 -- an attribute was set, or was to be set
 pub record IsNoteSet {D T E : Type 0} (disk : Ghosts D) (part : Part) (note : Note) (end : Result T E)
     (old new : View D) : Type 0 where
   pub stays : Stays old new
   pub count : AtMost 6 (disk.commands old.slots.disk) (disk.commands new.slots.disk)
-  pub settled : OnOk end (new.doubt ≡ Settled)
+  pub settled : OnOk end (IsSteady new)
   pub untold : held_of disk old ≡ None → held_of disk new ≡ None
   pub told : (c : Cartridge) → held_of disk old ≡ Some c → (e : Cartridge) × (held_of disk new ≡ Some e)
       × AfterNote end part note c e
   pub crash : (c : Cartridge) → held_of disk old ≡ Some c
-      → CrashesOn disk old.room.limits (WithinNote part note) old.slots.disk new.slots.disk
+      → CrashesOn disk old.room.limits (WithinNote part note) old new

@@ -1,9 +1,10 @@
 -- The cartridge of a tape over a disk of byte files, and what a crash may leave of it.
-use Rattle.std.specs.Prelude.{ℕ, ◌+◌, ◌-◌, ◌^◌, ◌≤◌, ◌<◌, ◌≡◌, ◌⊎◌, ◌==◌, Bool, false, if◌then◌else◌, List, take}
+use Rattle.std.specs.Prelude.{ℕ, ◌+◌, ◌-◌, ◌^◌, ◌≤◌, ◌<◌, ◌≡◌, ◌⊎◌, ◌==◌, Bool, false, if◌then◌else◌, List, [], ◌∷◌, ◌++◌, take}
 use Rattle.std.specs.Prelude.{length}
 use Rattle.std.specs.Prelude.{Option, Some, None, Result, Ok, Err}
 use Rattle.std.specs.List.{flat_map}
 use Rattle.tape_types.specs.Cartridges.{IsLimits}
+use Rattle.tape_types.specs.Counts.{Rose}
 use Rattle.tape_types.specs.declared.cartridges.Cartridge.{Cartridge}
 use Rattle.tape_types.specs.declared.cartridges.Item.{Item}
 use Rattle.tape_types.specs.declared.cartridges.Limits.{Limits}
@@ -23,8 +24,8 @@ use Rattle.image_tape.specs.declared.doubt.Doubt.{Doubt}
 use Rattle.image_tape.specs.declared.doubt.Doubt.TheVariants.{Settled, Open}
 
 -- The disk with its value; where records begin; what the header says, and what would be said of all that reads; what is
--- known of these; where the head stands; the count of faults; and the number of the disk's commands since which every
--- crash leaves an image.
+-- known of these; where the head stands; the count of faults; the number of the disk's commands since which every crash
+-- leaves an image; and of each moment between two commands that is past, the reference that read and the disk.
 pub record View (D : Type 0) : Type 0 where
   pub slots : slot.View D
   pub room : Offsets
@@ -34,6 +35,7 @@ pub record View (D : Type 0) : Type 0 where
   pub head : Option Place
   pub faults : ℕ
   pub opened : ℕ
+  pub past : List (ℕ × slot.View D)
 
 abbrev pub given : Result Cartridge Refusal → Option Cartridge
 given (Ok c) = Some c
@@ -67,10 +69,54 @@ LeavesOn disk limits b c = (image : Files) × disk.leaves b image × Opens limit
 abbrev pub SinceOn : {D : Type 0} → Ghosts D → Limits → D → ℕ → Cartridge → Type 0
 SinceOn disk limits b t c = (image : Files) × disk.left_since b t image × Opens limits image c
 
+-- the cartridge with another reference
+abbrev pub with_reference : ℕ → Cartridge → Cartridge
+with_reference vcr c = record { ip = c.ip; dp = c.dp; vcr = vcr; note_ip = c.note_ip; note_dp = c.note_dp }
+
+-- the cartridge, or where the disk tells its files the same with a later reference, the one that reads
+abbrev pub IsAhead : {D : Type 0} → Ghosts D → (vcr : ℕ) → D → Cartridge → Cartridge → Type 0
+IsAhead disk vcr b c image = (image ≡ c)
+    ⊎ (((d : Files) × (disk.held b ≡ Some d)) × (c.vcr ≤ vcr) × (image ≡ with_reference vcr c))
+
+-- What a crash leaves is taken as it opens, or with the reference that reads, which the header may come to have before
+-- anything else of it changes.
+abbrev pub AheadOn : {D : Type 0} → Ghosts D → Limits → (vcr : ℕ) → D → Cartridge → Type 0
+AheadOn disk limits vcr b image = (c : Cartridge) × LeavesOn disk limits b c × IsAhead disk vcr b c image
+
+-- what a crash may leave of a tape
+abbrev pub LeavesOf : {D : Type 0} → Ghosts D → View D → Cartridge → Type 0
+LeavesOf disk v image = AheadOn disk v.room.limits v.reads.vcr v.slots.disk image
+
+-- a crash may have left it at one of these moments, since a number
+abbrev pub WasLeft : {D : Type 0} → Ghosts D → Limits → List (ℕ × slot.View D) → (t : ℕ) → Cartridge → Type 0
+WasLeft disk limits [] t image = ⊥
+WasLeft disk limits (m ∷ ms) t image =
+    ((t ≤ disk.commands m.1.disk) × AheadOn disk limits m.0 m.1.disk image) ⊎ WasLeft disk limits ms t image
+
+-- What a crash may have left of a tape since a number of commands: within a command of its disk; now; or at a moment
+-- that is past, as long as that number is.
+abbrev pub LeftSince : {D : Type 0} → Ghosts D → View D → ℕ → Cartridge → Type 0
+LeftSince disk v t image = SinceOn disk v.room.limits v.slots.disk t image
+    ⊎ LeavesOf disk v image
+    ⊎ (Rose t (disk.commands v.slots.disk) × WasLeft disk v.room.limits v.past t image)
+
+-- the moments that are past once this one is
+abbrev pub with_moment : {D : Type 0} → View D → List (ℕ × slot.View D)
+with_moment v = v.past ++ (v.reads.vcr, v.slots) ∷ []
+
+-- these moments are earlier than a number of commands, which stands still at its end
+abbrev pub AreEarlier : {D : Type 0} → Ghosts D → List (ℕ × slot.View D) → ℕ → Type 0
+AreEarlier disk [] n = Unit {0}
+AreEarlier disk (m ∷ ms) n = Rose (disk.commands m.1.disk) n × AreEarlier disk ms n
+
 -- what commands of the disk leave of the cartridge to a crash, now and since
-abbrev pub CrashesOn : {D : Type 0} → Ghosts D → Limits → (Cartridge → Cartridge → Type 0) → (old new : D) → Type 0
-CrashesOn disk limits step old new =
-    Crashes step (disk.commands old) (LeavesOn disk limits old) (LeavesOn disk limits new) (SinceOn disk limits old) (SinceOn disk limits new)
+abbrev pub CrashesAt : {D : Type 0} → Ghosts D → Limits → (Cartridge → Cartridge → Type 0) → (m : ℕ) → D → (n : ℕ) → D → Type 0
+CrashesAt disk limits step m a n b =
+    Crashes step (disk.commands a) (AheadOn disk limits m a) (AheadOn disk limits n b) (SinceOn disk limits a)
+    (SinceOn disk limits b)
+
+abbrev pub CrashesOn : {D : Type 0} → Ghosts D → Limits → (Cartridge → Cartridge → Type 0) → (old new : View D) → Type 0
+CrashesOn disk limits step old new = CrashesAt disk limits step old.reads.vcr old.slots.disk new.reads.vcr new.slots.disk
 
 -- Some of the items that lie in a file count, the first ones: those of `said`. `reads` says what all of them are, and
 -- their records begin at the offsets.
@@ -85,8 +131,8 @@ pub record Agree (said : SlotValue) (d image : Files) : Type 0 where
   pub ip : take said.ip.end image.ip ≡ take said.ip.end d.ip
   pub dp : take said.dp.end image.dp ≡ take said.dp.end d.dp
 
--- What `said` says of the files may be the header's word: it fits the capacities, it has the reference and the notes
--- that read, and the items that it counts are the first ones of those that read, also in what a crash leaves.
+-- What `said` says of the files may be the header's word: it fits the capacities, it has the notes that read, and the
+-- reference or an earlier one, and the items that it counts are the first ones of those that read, also in what a crash leaves.
 pub record Stands (limits : Limits) (said reads : SlotValue) (room : Offsets) (leaves : Files → Type 0)
     (d : Files) : Type 0 where
   pub ip : List Item
@@ -94,7 +140,7 @@ pub record Stands (limits : Limits) (said reads : SlotValue) (room : Offsets) (l
   pub in_ip : Lie said.ip reads.ip room.ip d.ip ip
   pub in_dp : Lie said.dp reads.dp room.dp d.dp dp
   pub agree : (image : Files) → leaves image → Agree said d image
-  pub vcr : reads.vcr ≡ said.vcr
+  pub vcr : said.vcr ≤ reads.vcr
   pub note_ip : reads.ip.note ≡ said.ip.note
   pub note_dp : reads.dp.note ≡ said.dp.note
   pub fits_ip : Fits limits.cap_ip said.ip
@@ -129,7 +175,7 @@ Tells (Open value reads) v leaves d =
     Stands v.room.limits v.base v.reads v.room leaves d
     × Stands v.room.limits value reads (cut_to reads v.room) leaves d
     × SaysOne v.room.limits v.base value d × ((image : Files) → leaves image → SaysOne v.room.limits v.base value image)
-    × (value.serial ≡ v.base.serial + 1)
+    × (value.serial ≡ v.base.serial + 1) × (value.vcr ≡ reads.vcr)
 
 -- what is known without them
 abbrev pub Suits : {D : Type 0} → Doubt → View D → Type 0
@@ -148,4 +194,5 @@ pub record IsKept {D : Type 0} (disk : Ghosts D) (v : View D) : Type 0 where
   pub suits : Suits v.doubt v
   pub reached : v.opened ≤ disk.commands v.slots.disk
   pub always : AlwaysOpens disk v.room.limits v.opened v.slots.disk
+  pub past : AreEarlier disk v.past (disk.commands v.slots.disk)
   pub tells : (d : Files) → disk.held v.slots.disk ≡ Some d → Tells v.doubt v (disk.leaves v.slots.disk) d

@@ -45,7 +45,7 @@ pub record Rises {D T E : Type 0} (disk : Ghosts D) (at : Place) (end : Result T
   pub at_end : (c : Cartridge) → held_of disk old ≡ Some c → 2 ^ 64 - 1 ≤ c.vcr → IsErr end
       × (held_of disk new ≡ Some c)
   pub crash : (x : Item) (c : Cartridge) → held_of disk old ≡ Some c
-      → CrashesOn disk old.room.limits (WithinWrite at.part at.pos x c) old.slots.disk new.slots.disk
+      → CrashesOn disk old.room.limits (WithinWrite at.part at.pos x c) old new
 
 -- other items stand in a partition, and all else is as it was
 pub record HasItems (part : Part) (items : List Item) (old new : Cartridge) : Type 0 where
@@ -58,6 +58,7 @@ pub record Cuts {D : Type 0} (disk : Ghosts D) (at : Place) (old new : View D) :
   pub stays : Stays old new
   pub disk_is : new.slots ≡ old.slots
   pub base : new.base ≡ old.base
+  pub vcr : new.reads.vcr ≡ old.reads.vcr
   pub doubt : new.doubt ≡ old.doubt
   pub untold : held_of disk old ≡ None → held_of disk new ≡ None
   pub told : (c : Cartridge) → held_of disk old ≡ Some c
@@ -78,7 +79,7 @@ pub record Appends {D T E : Type 0} (disk : Ghosts D) (most : ℕ) (part : Part)
   pub told : (c : Cartridge) → held_of disk old ≡ Some c → (e : Cartridge) × (held_of disk new ≡ Some e)
       × (items : List Item) × Appended end x (items_of part c) items × HasItems part items c e
   pub crash : (c : Cartridge) → held_of disk old ≡ Some c
-      → CrashesOn disk old.room.limits NothingNew old.slots.disk new.slots.disk
+      → CrashesOn disk old.room.limits NothingNew old new
 
 -- these bytes stand behind so many others
 pub record StandBehind (at : ℕ) (bytes file : List ℕ) : Type 0 where
@@ -98,7 +99,7 @@ pub record Hides {D : Type 0} (disk : Ghosts D) (most : ℕ) (old new : View D) 
   pub held : held_of disk new ≡ held_of disk old
   pub count : AtMost most (disk.commands old.slots.disk) (disk.commands new.slots.disk)
   pub crash : (c : Cartridge) → held_of disk old ≡ Some c
-      → CrashesOn disk old.room.limits NothingNew old.slots.disk new.slots.disk
+      → CrashesOn disk old.room.limits NothingNew old new
 
 -- what a put makes of the items of a partition
 abbrev pub put_items : {T E : Type 0} → Result T E → Item → List Item → List Item
@@ -116,7 +117,7 @@ pub record Puts {D T E : Type 0} (disk : Ghosts D) (part : Part) (x : Item) (end
       × (items_of part c ≡ items ++ tail_of (half_of part old.reads).torn) × (held_of disk new ≡ Some e)
       × HasItems part (put_items end x items) c e
   pub crash : (c : Cartridge) → held_of disk old ≡ Some c
-      → CrashesOn disk old.room.limits NothingNew old.slots.disk new.slots.disk
+      → CrashesOn disk old.room.limits NothingNew old new
   pub whole : OnOk end ((half_of part new.reads).torn ≡ false)
   pub one_more : OnOk end ((half_of part new.reads).count ≡ (half_of part old.reads).count + 1)
 
@@ -156,7 +157,7 @@ pub record Replaces {D T E : Type 0} (disk : Ghosts D) (at : Place) (x : Item) (
   pub told : (c : Cartridge) → held_of disk old ≡ Some c → (e : Cartridge) × (held_of disk new ≡ Some e)
       × (items : List Item) × Appended end x (take at.pos (items_of at.part c)) items × HasItems at.part items c e
   pub crash : (c : Cartridge) → held_of disk old ≡ Some c
-      → CrashesOn disk old.room.limits NothingNew old.slots.disk new.slots.disk
+      → CrashesOn disk old.room.limits NothingNew old new
 
 -- an item was written at a place, or was to be
 pub record Writes {D T E : Type 0} (disk : Ghosts D) (most : ℕ) (at : Place) (x : Item) (end : Result T E)
@@ -169,4 +170,4 @@ pub record Writes {D T E : Type 0} (disk : Ghosts D) (most : ℕ) (at : Place) (
   pub at_end : (c : Cartridge) → held_of disk old ≡ Some c → 2 ^ 64 - 1 ≤ c.vcr → IsErr end
       × (held_of disk new ≡ Some c)
   pub crash : (c : Cartridge) → held_of disk old ≡ Some c
-      → CrashesOn disk old.room.limits (WithinWrite at.part at.pos x c) old.slots.disk new.slots.disk
+      → CrashesOn disk old.room.limits (WithinWrite at.part at.pos x c) old new

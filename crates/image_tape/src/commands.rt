@@ -11,48 +11,89 @@ ghost use Rattle.tape_drive.specs.Commands.{HasRoom};
 ghost use Rattle.image_tape.specs.declared.doubt.Doubt.TheVariants.{Settled};
 ghost use Rattle.image_tape.specs.Ends.{Flushed, HasRead, IsEnded, IsFailed, IsLooked, IsSure, Noted, Wrote};
 ghost use Rattle.image_tape.specs.Halves.{half_of};
-ghost use Rattle.image_tape.specs.Tape.{held_of};
+ghost use Rattle.image_tape.specs.Steps.{IsSteady};
+ghost use Rattle.image_tape.specs.Tape.{AreEarlier, held_of, with_moment};
 
 use crate::doubt::Doubt;
 use crate::halves::half_of;
 use crate::tape::ImageTape;
 use byte_disk::ByteDisk;
+use http_server::Log;
 use image_format::Head;
+use image_slots::Slots;
 use tape_drive::{Drive, DriveErr, Got};
 use tape_types::{Limits, Note, Part, Place};
 
 impl<B: ByteDisk> ImageTape<B> {
+    // The moments that are past once this one is.
+    fn moment(&self) -> Log<u64, Slots<B>>
+        ensures { result.items ≡ with_moment self.now }
+    {
+        self.past.and(&self.reads.vcr, &self.slots)
+    }
+
     // A command that changes nothing. Where it succeeds the head stands there.
     fn look(&mut self, head: Option<Place>) -> Result<(), DriveErr>
         ensures looked { IsLooked B.ByteDisk result self.old self.new }
         ensures head { OnOk result (self.new.head ≡ head) }
         ensures settled { OnOk result (self.new.doubt ≡ Settled) }
     {
+        let past = self.moment();
         match self.begin() {
             Ok(()) => {
-                self.end(head);
+                self.end(head, past);
                 Ok(())
             }
             Err(why) => {
-                self.fail();
+                self.fail(past);
+                Err(why)
+            }
+        }
+    }
+
+    // A command that makes the reference durable as it reads, and changes nothing else.
+    fn look_surely(&mut self) -> Result<(), DriveErr>
+        ensures looked { IsLooked B.ByteDisk result self.old self.new }
+        ensures head { OnOk result (self.new.head ≡ self.old.head) }
+        ensures settled { OnOk result (IsSteady self.new) }
+    {
+        let past = self.moment();
+        let head = self.head;
+        match self.begin() {
+            Ok(()) => match self.settle_vcr() {
+                Ok(()) => {
+                    self.end(head, past);
+                    Ok(())
+                }
+                Err(why) => {
+                    self.fail(past);
+                    Err(why)
+                }
+            },
+            Err(why) => {
+                self.fail(past);
                 Err(why)
             }
         }
     }
 
     // Ends a command that succeeded. The head stands there.
-    fn end(&mut self, head: Option<Place>)
-        ensures { IsEnded B.ByteDisk head self.old self.new }
+    fn end(&mut self, head: Option<Place>, past: Log<u64, Slots<B>>)
+        requires { AreEarlier B.ByteDisk past.items (B.commands self.old.slots.disk) }
+        ensures { IsEnded B.ByteDisk head past.items self.old self.new }
     {
         let _count = self.slots.commands();
         self.head = head;
+        self.past = past;
     }
 
     // Ends a command that failed. It counts as a fault, and the head has to be located again.
-    fn fail(&mut self)
-        ensures { IsFailed B.ByteDisk self.old self.new }
+    fn fail(&mut self, past: Log<u64, Slots<B>>)
+        requires { AreEarlier B.ByteDisk past.items (B.commands self.old.slots.disk) }
+        ensures { IsFailed B.ByteDisk past.items self.old self.new }
     {
         let _count = self.slots.commands();
+        self.past = past;
         self.head = None;
         self.faults = self.faults.saturating_add(1);
     }
@@ -63,19 +104,20 @@ impl<B: ByteDisk> ImageTape<B> {
         ensures room { 1048576 ≤ vec_capacity buf.new }
         ensures ran { HasRead B.ByteDisk at result buf.new.items self.old self.new }
     {
+        let past = self.moment();
         match self.begin() {
             Ok(()) => match self.read_at(at, buf) {
                 Ok((got, place)) => {
-                    self.end(Some(place));
+                    self.end(Some(place), past);
                     Ok(got)
                 }
                 Err(why) => {
-                    self.fail();
+                    self.fail(past);
                     Err(why)
                 }
             },
             Err(why) => {
-                self.fail();
+                self.fail(past);
                 Err(why)
             }
         }
@@ -85,20 +127,21 @@ impl<B: ByteDisk> ImageTape<B> {
     fn put_note(&mut self, part: Part, note: Note) -> Result<(), DriveErr>
         ensures { Noted B.ByteDisk part note result self.old self.new }
     {
+        let past = self.moment();
         let head = self.head;
         match self.begin() {
             Ok(()) => match self.set_note(part, note) {
                 Ok(()) => {
-                    self.end(head);
+                    self.end(head, past);
                     Ok(())
                 }
                 Err(why) => {
-                    self.fail();
+                    self.fail(past);
                     Err(why)
                 }
             },
             Err(why) => {
-                self.fail();
+                self.fail(past);
                 Err(why)
             }
         }
@@ -114,20 +157,21 @@ impl<B: ByteDisk> ImageTape<B> {
             → Wrote B.ByteDisk at x result self.old self.new }
     {
         let _kept = self.doubt;
+        let past = self.moment();
         let behind = next(at);
         match self.begin() {
             Ok(()) => match self.write_at(at, head, bytes) {
                 Ok(()) => {
-                    self.end(Some(behind));
+                    self.end(Some(behind), past);
                     Ok(())
                 }
                 Err(why) => {
-                    self.fail();
+                    self.fail(past);
                     Err(why)
                 }
             },
             Err(why) => {
-                self.fail();
+                self.fail(past);
                 Err(why)
             }
         }
@@ -146,7 +190,9 @@ fn next(at: Place) -> Place
 }
 
 impl<B: ByteDisk> Drive for ImageTape<B> {
-    ghost use Rattle.image_tape.specs.Tape.{LeavesOn, SinceOn, held_of};
+    ghost use Rattle.std.specs.Prelude.{inl, inr};
+    ghost use Rattle.image_tape.specs.Since as laws;
+    ghost use Rattle.image_tape.specs.Tape.{LeavesOf, LeftSince, held_of};
 
     const MOST: u64 = 16;
 
@@ -162,17 +208,19 @@ impl<B: ByteDisk> Drive for ImageTape<B> {
 
     ghost commands = { λ t. B.commands t.slots.disk };
 
-    ghost leaves = { λ t image. LeavesOn B.ByteDisk t.room.limits t.slots.disk image };
+    ghost leaves = { λ t image. LeavesOf B.ByteDisk t image };
 
-    ghost left_since = { λ t n image. SinceOn B.ByteDisk t.room.limits t.slots.disk n image };
+    ghost left_since = { λ t n image. LeftSince B.ByteDisk t n image };
 
     ghost allows = { λ image. Unit {0} };
 
-    ghost only_now = { λ t image lt h. (h.0, B.only_now t.slots.disk h.0 lt h.1, h.2) };
+    ghost only_now = { λ t image lt h.
+        laws.only_now B.ByteDisk t image (λ left now. B.only_now t.slots.disk left lt now) lt h };
 
-    ghost counts_now = { λ t n image le h. (h.0, B.counts_now t.slots.disk n h.0 le h.1, h.2) };
+    ghost counts_now = { λ t n image le h. inr (inl h) };
 
-    ghost lower = { λ t n m image le h. (h.0, B.lower t.slots.disk n m h.0 le h.1, h.2) };
+    ghost lower = { λ t n m image le h.
+        laws.lower B.ByteDisk t n m image le (λ left now. B.lower t.slots.disk n m left le now) h };
 
     fn limits(&self) -> Limits {
         let _kept = self.doubt;
@@ -229,20 +277,21 @@ impl<B: ByteDisk> Drive for ImageTape<B> {
     fn flush(&mut self) -> Result<(), DriveErr>
         ensures { Flushed B.ByteDisk result self.old self.new }
     {
+        let past = self.moment();
         let head = self.head;
         match self.begin() {
             Ok(()) => match self.settle_all() {
                 Ok(()) => {
-                    self.end(head);
+                    self.end(head, past);
                     Ok(())
                 }
                 Err(why) => {
-                    self.fail();
+                    self.fail(past);
                     Err(why)
                 }
             },
             Err(why) => {
-                self.fail();
+                self.fail(past);
                 Err(why)
             }
         }
@@ -255,7 +304,7 @@ impl<B: ByteDisk> Drive for ImageTape<B> {
         ensures head { OnOk result (self.new.head ≡ self.old.head) }
         ensures settled { OnOk result (IsSure B.ByteDisk self.new) }
     {
-        if let Err(why) = self.look(self.head) {
+        if let Err(why) = self.look_surely() {
             return Err(why);
         }
         Ok(half_of(part, &self.reads).note)
@@ -276,7 +325,7 @@ impl<B: ByteDisk> Drive for ImageTape<B> {
         ensures head { OnOk result (self.new.head ≡ self.old.head) }
         ensures settled { OnOk result (IsSure B.ByteDisk self.new) }
     {
-        if let Err(why) = self.look(self.head) {
+        if let Err(why) = self.look_surely() {
             return Err(why);
         }
         Ok(self.reads.vcr)

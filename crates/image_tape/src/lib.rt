@@ -2,6 +2,7 @@
 #![tactic(auto)]
 
 mod commands;
+mod commits;
 mod doubt;
 mod errors;
 mod halves;
@@ -13,6 +14,7 @@ mod storing;
 mod tape;
 mod writing;
 
+pub use commits::Commits;
 pub use doubt::Doubt;
 pub use errors::OpenErr;
 pub use laws::images_open;

@@ -1,5 +1,5 @@
 // A tape is opened.
-ghost use Rattle.std.specs.Prelude.{◌≡◌, ◌≤◌, Some, None, IfOk, IfErr, OnOk, IsTrue, length};
+ghost use Rattle.std.specs.Prelude.{◌≡◌, ◌≤◌, Some, None, IfOk, IfErr, OnOk, IsTrue, [], length};
 ghost use Rattle.tape_types.specs.Cartridges.{IsLimits};
 ghost use Rattle.tape_types.specs.Counts.{HasCause};
 ghost use Rattle.byte_disk.specs.Files.{Files};
@@ -10,10 +10,12 @@ ghost use Rattle.image_tape.specs.declared.doubt.Doubt.TheVariants.{Settled};
 ghost use Rattle.image_tape.specs.Opens.{AreBytesOf, AreSynced, HasOpened, IsReason, IsRefused, IsTellable};
 ghost use Rattle.image_tape.specs.Opens.{header_reason, reason_of};
 
+use crate::commits::Commits;
 use crate::doubt::Doubt;
 use crate::errors::OpenErr;
 use crate::tape::ImageTape;
 use byte_disk::{ByteDisk, DiskFault};
+use http_server::Log;
 use image_format::{ReadErr, Refusal, Room, SlotValue};
 use image_slots::{OpenErr as HeaderErr, Slots, known_values_are_left};
 use tape_types::{Part, Twin};
@@ -30,7 +32,7 @@ impl<B: ByteDisk> ImageTape<B> {
     /// Opens the tape of a disk: it makes the files durable as they read, and finds the records that count. On a blank
     /// disk, whose header is short and whose partitions are empty, it makes a header first. The room has from 4 to 2^40
     /// positions for each partition.
-    pub fn open(disk: B, room: Room) -> Result<ImageTape<B>, OpenFail<B>>
+    pub fn open(disk: B, room: Room, commits: Commits) -> Result<ImageTape<B>, OpenFail<B>>
         requires limits { IsLimits room.limits }
         requires bytes { AreBytesOf B.ByteDisk disk }
         ensures opened { IfOk result (λ t. HasOpened B.ByteDisk room.limits disk t) }
@@ -39,7 +41,7 @@ impl<B: ByteDisk> ImageTape<B> {
     {
         let before = disk.faults();
         match Slots::open(disk) {
-            Ok(slots) => ImageTape::read_all(slots, room),
+            Ok(slots) => ImageTape::read_all(slots, room, commits),
             Err(fail) => {
                 let image_slots::OpenFail { disk, why } = fail;
                 let after = disk.faults();
@@ -53,7 +55,7 @@ impl<B: ByteDisk> ImageTape<B> {
     }
 
     // Makes the partitions' files durable, and reads them.
-    fn read_all(slots: Slots<B>, room: Room) -> Result<ImageTape<B>, OpenFail<B>>
+    fn read_all(slots: Slots<B>, room: Room, commits: Commits) -> Result<ImageTape<B>, OpenFail<B>>
         requires limits { IsLimits room.limits }
         requires steady { slots.known ≡ Steady }
         requires bytes { AreBytesOf B.ByteDisk slots.disk }
@@ -66,7 +68,7 @@ impl<B: ByteDisk> ImageTape<B> {
         let before = slots.faults();
         match read_synced(&mut slots, &mut room) {
             Ok(value) => {
-                let tape = ImageTape::over(slots, room, value);
+                let tape = ImageTape::over(slots, room, value, commits);
                 let _kept = tape.doubt;
                 Ok(tape)
             }
@@ -82,7 +84,7 @@ impl<B: ByteDisk> ImageTape<B> {
     }
 
     // The tape of a disk whose files are durable, and were read.
-    fn over(slots: Slots<B>, room: Room, value: SlotValue) -> ImageTape<B>
+    fn over(slots: Slots<B>, room: Room, value: SlotValue, commits: Commits) -> ImageTape<B>
         requires limits { IsLimits room.limits }
         requires steady { slots.known ≡ Steady }
         requires tellable { IsTellable B.ByteDisk room.limits slots room value }
@@ -95,6 +97,7 @@ impl<B: ByteDisk> ImageTape<B> {
           head = None;
           faults = 0;
           opened = B.commands slots.disk;
+          past = [];
         } }
     {
         let opened = slots.commands();
@@ -109,6 +112,8 @@ impl<B: ByteDisk> ImageTape<B> {
             head: None,
             faults: 0,
             opened,
+            past: Log::new(),
+            commits,
         }
     }
 }

@@ -1,13 +1,13 @@
 // What is known of a header is made sure, and a header is set.
-ghost use Rattle.std.specs.Prelude.{◌≡◌, IfSome, OnOk, drop};
+ghost use Rattle.std.specs.Prelude.{◌≡◌, ◌≤◌, IfSome, OnOk, drop};
 ghost use Rattle.tape_types.specs.Counts.{Rose};
 ghost use Rattle.image_slots.specs.declared.known.Known.TheVariants.{Steady};
 ghost use Rattle.image_tape.specs.declared.doubt.Doubt.TheVariants.{Open, Settled};
-ghost use Rattle.image_tape.specs.Steps.{IsCommit, IsFound, IsTaken, Looks, MayStand};
+ghost use Rattle.image_tape.specs.Steps.{IsCommit, IsFound, IsSteady, IsTaken, Looks, MayStand};
 ghost use Rattle.image_tape.specs.Tape.{Holds, cut_to};
 
 use crate::doubt::Doubt;
-use crate::halves::{cut_to, fields_are_sized, with_serial};
+use crate::halves::{cut_to, fields_are_sized, with_serial, with_vcr};
 use crate::tape::ImageTape;
 use byte_disk::{ByteDisk, DiskFault};
 use image_format::{SlotValue, decode_header, encode_value};
@@ -88,6 +88,20 @@ impl<B: ByteDisk> ImageTape<B> {
         Err(DriveErr::Failed)
     }
 
+    // Makes the reference durable as it reads.
+    pub(crate) fn settle_vcr(&mut self) -> Result<(), DriveErr>
+        requires { self.old.doubt ≡ Settled }
+        ensures looks { Looks B.ByteDisk 6 self.old self.new }
+        ensures settled { OnOk result (IsSteady self.new) }
+    {
+        if self.base.vcr == self.reads.vcr {
+            return Ok(());
+        }
+        let base = with_vcr(self.reads.vcr, &self.base);
+        let reads = self.reads;
+        self.commit(base, reads)
+    }
+
     // What the header says.
     fn found(&self) -> Option<SlotValue>
         requires { self.now.slots.known ≡ Steady }
@@ -102,6 +116,8 @@ impl<B: ByteDisk> ImageTape<B> {
         requires settled { self.old.doubt ≡ Settled }
         requires holds { Holds (cut_to reads self.old.room) reads }
         requires stands { MayStand B.ByteDisk value reads self.old }
+        requires vcr { value.vcr ≡ reads.vcr }
+        requires later { self.old.reads.vcr ≤ value.vcr }
         ensures commit { IsCommit B.ByteDisk value reads result self.old self.new }
         ensures set { OnOk result (IsTaken value reads self.old self.new) }
     {

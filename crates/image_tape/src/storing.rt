@@ -6,7 +6,7 @@ ghost use Rattle.image_slots.specs.State.{file_of};
 ghost use Rattle.image_tape.specs.declared.doubt.Doubt.TheVariants.{Settled};
 ghost use Rattle.image_tape.specs.Steps.{AreStored, IsAlike, IsNoteSet, IsStored, Looks};
 
-use crate::halves::with_note;
+use crate::halves::{with_note, with_vcr};
 use crate::tape::ImageTape;
 use byte_disk::{ByteDisk, DiskFault};
 use image_format::SlotValue;
@@ -72,7 +72,8 @@ impl<B: ByteDisk> ImageTape<B> {
         requires { self.old.doubt ≡ Settled }
         ensures { IsNoteSet B.ByteDisk part note result self.old self.new }
     {
-        let base = with_note(part, note, &self.base);
+        let vcr = self.reads.vcr;
+        let base = with_vcr(vcr, &with_note(part, note, &self.base));
         let reads = with_note(part, note, &self.reads);
         self.commit(base, reads)
     }

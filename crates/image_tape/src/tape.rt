@@ -2,8 +2,10 @@
 ghost use Rattle.std.specs.Prelude.{◌≡◌, ◌≤◌, Some};
 ghost use Rattle.image_tape.specs.Tape.{IsKept};
 
+use crate::commits::Commits;
 use crate::doubt::Doubt;
 use byte_disk::ByteDisk;
+use http_server::Log;
 use image_format::{Room, SlotValue};
 use image_slots::Slots;
 use std::marker::Model;
@@ -23,6 +25,9 @@ pub struct ImageTape<B: ByteDisk> {
     pub(crate) faults: u64,
     /// The number of commands that the disk had when it was opened.
     pub(crate) opened: u64,
+    /// The reference that read, and the disk, before each command so far. It takes no room.
+    pub(crate) past: Log<u64, Slots<B>>,
+    pub(crate) commits: Commits,
 }
 
 impl<B: ByteDisk> Model for ImageTape<B> {
@@ -39,6 +44,7 @@ impl<B: ByteDisk> Model for ImageTape<B> {
       head = t.head;
       faults = t.faults;
       opened = t.opened;
+      past = t.past.items;
     } };
 
     ghost invariant = { λ t. IsKept B.ByteDisk (record {
@@ -50,6 +56,7 @@ impl<B: ByteDisk> Model for ImageTape<B> {
       head = t.head;
       faults = t.faults;
       opened = t.opened;
+      past = t.past.items;
     }) };
 }
 
@@ -67,6 +74,8 @@ impl<B: ByteDisk> ImageTape<B> {
             head: _,
             faults: _,
             opened: _,
+            past: _,
+            commits: _,
         } = self;
         slots.into_disk()
     }

@@ -12,6 +12,7 @@ ghost use Rattle.image_tape.specs.Steps.{IsAlike};
 ghost use Rattle.image_tape.specs.Writes.{Appends, Cuts, Fills, FollowsIn, Hides, IsCounted, IsPlace, IsUncounted};
 ghost use Rattle.image_tape.specs.Writes.{Puts, Replaces, Rises, StandBehind, Writes};
 
+use crate::commits::Commits;
 use crate::halves::{ended, half_of, with_vcr};
 use crate::tape::ImageTape;
 use byte_disk::{ByteDisk, DiskFault};
@@ -52,8 +53,8 @@ impl<B: ByteDisk> ImageTape<B> {
         self.append(at.part, head, bytes)
     }
 
-    // Lets the reference go up, durably. Where the header counts an item at the place, it no longer counts it, nor
-    // what is behind.
+    // Lets the reference go up. Where the header counts an item at the place, it no longer counts it, nor what is
+    // behind.
     fn rise(&mut self, at: Place) -> Result<(), DriveErr>
         requires { self.old.doubt ≡ Settled }
         ensures { Rises B.ByteDisk at result self.old self.new }
@@ -69,7 +70,13 @@ impl<B: ByteDisk> ImageTape<B> {
                 let left = ended(at.part, at.pos, end, false, &reads);
                 self.commit(shorter, left)
             }
-            None => self.commit(base, reads),
+            None => match self.commits {
+                Commits::Each => self.commit(base, reads),
+                Commits::AtFlush => {
+                    self.reads = reads;
+                    Ok(())
+                }
+            },
         }
     }
 

@@ -18,5 +18,5 @@ invariant_of-self-then-found-value g c =
 
 pub returns-then-found-value-clause-looks : goal.returns-then-found-value-clause-looks
 returns-then-found-value-clause-looks g c =
-    chosen_after g.B.ByteDisk _ _ c.args.value c.args.reads _ _ c.self.view_is (open_in g.B.ByteDisk _ _ _ _ c.self.view_is c.requires.open)
+    chosen_after g.B.ByteDisk _ _ c.args.value c.args.reads _ _ c.self.view_is c.self.invariant (open_in g.B.ByteDisk _ _ _ _ c.self.view_is c.requires.open)
     (found_in g.B.ByteDisk _ _ _ c.self.view_is c.in-Some.ensures) c.if-found-self.false c.cut_to.ensures

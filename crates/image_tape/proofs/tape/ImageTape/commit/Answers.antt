@@ -20,13 +20,14 @@ pub invariant_of-self-in-Err-Disk : goal.invariant_of-self-in-Err-Disk
 invariant_of-self-in-Err-Disk g c =
     commit_open g.B.ByteDisk _ _ c.set.new.self c.args.value c.with_serial-value.result c.args.reads c.in-Some.serial c.encode_value.result c.behind_serial.result c.set.result
     c.self.view_is c.self.invariant c.requires.settled c.requires.stands c.requires.holds (search rules) c.with_serial-value.ensures c.fields_are_sized.ensures c.encode_value.ensures
-    c.behind_serial.ensures c.set.ensures
+    c.behind_serial.ensures c.set.ensures c.requires.vcr
 
 pub returns-in-Ok-clause-commit : goal.returns-in-Ok-clause-commit
 returns-in-Ok-clause-commit g c =
     commit_is_set g.B.ByteDisk _ _ c.set.new.self c.args.value c.with_serial-value.result c.args.reads c.in-Some.serial c.encode_value.result c.behind_serial.result c.set.result
     c.self.view_is c.self.invariant c.requires.settled c.requires.stands c.requires.holds (search rules) c.with_serial-value.ensures c.fields_are_sized.ensures c.encode_value.ensures
-    c.behind_serial.ensures c.set.ensures c.cut_to.new.room c.self.inside.doubt c.cut_to.ensures refl
+    c.behind_serial.ensures c.set.ensures c.requires.vcr c.known_values_are_left.ensures c.get-value.ensures.kept c.cut_to.new.room c.self.inside.doubt c.cut_to.ensures refl
+    c.in-Ok.is
 
 pub returns-in-Ok-clause-set : goal.returns-in-Ok-clause-set
 returns-in-Ok-clause-set g c =
@@ -44,4 +45,4 @@ pub returns-in-Err-Disk-clause-commit : goal.returns-in-Err-Disk-clause-commit
 returns-in-Err-Disk-clause-commit g c =
     commit_is_open g.B.ByteDisk _ _ c.set.new.self c.args.value c.with_serial-value.result c.args.reads c.in-Some.serial c.encode_value.result c.behind_serial.result c.set.result
     c.self.view_is c.self.invariant c.requires.settled c.requires.stands c.requires.holds (search rules) c.with_serial-value.ensures c.fields_are_sized.ensures c.encode_value.ensures
-    c.behind_serial.ensures c.set.ensures _
+    c.behind_serial.ensures c.set.ensures _ c.requires.later

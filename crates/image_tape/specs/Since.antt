@@ -1,0 +1,32 @@
+-- The laws of what may have been left of a tape since a number of commands.
+use Rattle.std.specs.Prelude.{ℕ, ◌-◌, ◌^◌, ◌<◌, ◌≤◌, List, [], ◌∷◌, inl, inr}
+use Rattle.std.proofs.Common.{arith, refl}
+use Rattle.tape_types.specs.declared.cartridges.Cartridge.{Cartridge}
+use Rattle.tape_types.specs.declared.cartridges.Limits.{Limits}
+use Rattle.byte_disk.specs.Files.{Files}
+use Rattle.byte_disk.specs.declared.disk.ByteDisk.{Ghosts}
+use Rattle.image_slots.specs.State as slot
+use Rattle.image_tape.specs.Tape.{LeavesOf, LeftSince, View, WasLeft}
+
+-- it is what may be left now, where that number is the present one
+pub only_now : {D : Type 0} (disk : Ghosts D) (v : View D) (image : Cartridge)
+    → ((left : Files) → disk.left_since v.slots.disk (disk.commands v.slots.disk) left → disk.leaves v.slots.disk left)
+    → disk.commands v.slots.disk < 2 ^ 64 - 1 → LeftSince disk v (disk.commands v.slots.disk) image → LeavesOf disk v image
+only_now disk v image only less (inl h) = (image, (h.0, only h.0 h.1, h.2), inl refl)
+only_now disk v image only less (inr (inl h)) = h
+only_now disk v image only less (inr (inr h)) = absurd (omega (arith, less, h.0))
+
+was_lower : {D : Type 0} (disk : Ghosts D) (limits : Limits) (ms : List (ℕ × slot.View D)) (t u : ℕ) (image : Cartridge)
+    → t ≤ u → WasLeft disk limits ms u image → WasLeft disk limits ms t image
+was_lower disk limits [] t u image le h = h
+was_lower disk limits (m ∷ ms) t u image le (inl h) = inl (omega (arith, le, h.0), h.1)
+was_lower disk limits (m ∷ ms) t u image le (inr h) = inr (was_lower disk limits ms t u image le h)
+
+-- it is no more since a greater number
+pub lower : {D : Type 0} (disk : Ghosts D) (v : View D) (t u : ℕ) (image : Cartridge) → t ≤ u
+    → ((left : Files) → disk.left_since v.slots.disk u left → disk.left_since v.slots.disk t left)
+    → LeftSince disk v u image → LeftSince disk v t image
+lower disk v t u image le less (inl h) = inl (h.0, less h.0 h.1, h.2)
+lower disk v t u image le less (inr (inl h)) = inr (inl h)
+lower disk v t u image le less (inr (inr h)) =
+    inr (inr (omega (arith, le, h.0), was_lower disk v.room.limits v.past t u image le h.1))
