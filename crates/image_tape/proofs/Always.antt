@@ -1,5 +1,5 @@
 -- Each disk that may have been left opens.
-use Rattle.std.proofs.Common.{◌≡◌, ℕ, ◌≤◌, subst}
+use Rattle.std.proofs.Common.{◌≡◌, ℕ, ◌≤◌, inl, refl, subst}
 use Rattle.byte_disk.specs.Files.{Files}
 use Rattle.byte_disk.specs.declared.disk.ByteDisk.{Ghosts}
 use Rattle.image_tape.specs.Laws.{ImagesOpen}
@@ -12,7 +12,7 @@ pub opens_always : {D : Type 0} (disk : Ghosts D) (v w : View D) → v ≡ w →
 opens_always {D = D} disk v w is kept lower = subst (λ (x : View D). ImagesOpen disk x) is (record {
   reached = kept.reached;
   since = λ d told t later short image left.
-      let o = kept.always d told short image (lower v.opened t image later left) in (o.0, o.1, (image, left, o.1));
+      let o = kept.always d told short image (lower v.opened t image later left) in (o.0, o.1, inl (image, left, o.1, (d, told)));
   now = λ d told image left.
-      let o = image_opens v.doubt v (disk.leaves v.slots.disk) d (kept.tells d told) image left in (o.0, o.1, (image, left, o.1));
+      let o = image_opens v.doubt v (disk.leaves v.slots.disk) d (kept.tells d told) image left in (o.0, o.1, (o.0, (image, left, o.1, (d, told)), inl refl));
 })

@@ -100,5 +100,5 @@ module _ {D T E : Type 0} (disk : Ghosts D) (part : Part) (x : Item) (r : Result
         let same : items_of part c ≡ t.0 = t.2 ∙ ap (λ (y : Bool). t.0 ++ tail_of y) whole ∙ append-nil t.0 in
         (t.1, t.3, put_items r x t.0, appended r (items_of part c) t.0 same, t.4);
     crash = λ c held. both_steps join_same first.count.later (first.crash c held)
-        (subst (λ (l : Limits). CrashesOn disk l NothingNew b.slots.disk n.slots.disk) first.stays.limits (second.crash c (first.held ∙ held)));
+        (subst (λ (l : Limits). CrashesOn disk l NothingNew b n) first.stays.limits (second.crash c (first.held ∙ held)));
   }

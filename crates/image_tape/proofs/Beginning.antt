@@ -29,11 +29,11 @@ use Rattle.image_format.specs.Records.{AreRecords, items_in, record_bytes}
 use Rattle.image_format.specs.Values.{flag, value_of}
 use Rattle.image_tape.specs.declared.doubt.Doubt.TheVariants.{Settled}
 use Rattle.image_tape.specs.Opens.{AreBytesOf, AreSynced, HasFault, HasOpened, IsReason, IsRefused, IsTellable, RefusedAs, reason_of}
-use Rattle.image_tape.specs.Tape.{IsKept, LeavesOn, Lie, Stands, View}
+use Rattle.image_tape.specs.Tape.{IsKept, Lie, Stands, View}
 use Rattle.image_tape.proofs.Fronts.{all_bytes, offsets_size}
 use Rattle.image_tape.proofs.Opened.{agreed_opens, counted, is_whole, whole}
 use Rattle.image_tape.proofs.Lifting.{same_cartridge}
-use Rattle.image_tape.proofs.Telling.{held_whole, left_counted, tells_of}
+use Rattle.image_tape.proofs.Telling.{held_whole, left_known, tells_of}
 use Rattle.image_tape.proofs.Wholes.{counted_whole}
 use Rattle.image_tape.proofs.Surely.{header_of_value}
 
@@ -78,7 +78,7 @@ module _ {D : Type 0} (disk : Ghosts D) (s : slot.View D) (room : Offsets) (valu
         agree = λ image left.
             let same = told.synced d image is left in
             record { ip = ap (λ (l : List ℕ). take value.ip.end l) same.0; dp = ap (λ (l : List ℕ). take value.dp.end l) same.1 };
-        vcr = refl;
+        vcr = omega arith;
         note_ip = refl;
         note_dp = refl;
         fits_ip = fit.0;
@@ -101,6 +101,7 @@ module _ {D : Type 0} (disk : Ghosts D) (s : slot.View D) (room : Offsets) (valu
             let leaves = only image (omega (arith, short, now)) at_now in
             let head = header_of_value room.limits image.cm s.value value ((known s kept steady d is).1 image leaves) told.said in
             (counted st, agreed_opens st image (st.agree image leaves) head);
+        past = tt;
         tells = λ d is. (
           stands_whole d is,
           header_of_value room.limits d.cm s.value value (known s kept steady d is).0 told.said,
@@ -169,8 +170,7 @@ module _ {D : Type 0} (disk : Ghosts D) (limits : Limits) (old : D) (s : slot.Vi
           whole st,
           h.4 ∙ ap (λ (c : Cartridge). read_ok c) (sym one),
           held_whole disk begun kept refl d is,
-          λ x left.
-              left_counted disk begun kept refl d is x (subst (λ (l : Limits). LeavesOn disk l s.disk x) (sym same) left) ∙ counted_whole disk value.serial st refl,
+          λ x left. left_known disk begun kept refl refl d is x left ∙ counted_whole disk value.serial st refl,
         );
   }
 

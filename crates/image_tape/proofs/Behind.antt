@@ -240,8 +240,9 @@ module _ {D T E : Type 0} (disk : Ghosts D) (r : Result T E) (part : Part) (at :
 
   crashes_behind : (d : Files) → disk.held v.slots.disk ≡ Some d → CrashesOn disk v.room.limits NothingNew v (with_slots s v)
   crashes_behind d held = lifted_still disk v.room.limits v.reads.vcr v.reads.vcr v.slots.disk s.disk refl
-      (λ e now. told_before (disk.held v.slots.disk) (disk.held s.disk) untold e now) done.crash
-      (λ before left c left_before step opens.
+      (λ now. told_before (disk.held v.slots.disk) (disk.held s.disk) untold now.0 now.1)
+      (λ was. let t = told was.0 was.1 in (t.0, t.1)) done.crash
+      (λ before left c left_before step opens now.
       let same : c ≡ counted (tells d held).0 = same_cartridge _ _ c (left_opens d held before left left_before step) opens in
       subst (λ (x : Cartridge). Opens v.room.limits before x) (sym same) (before_opens d held before left_before))
 

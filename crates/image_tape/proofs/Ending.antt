@@ -1,7 +1,6 @@
 -- The end of a command.
 use Rattle.std.proofs.Common.{◌≡◌, ℕ, ◌-◌, ◌^◌, ◌≤◌, inl, List, Option, Some, None, Result, Ok, Err, IfOk, refl, sym, ap, ◌∙◌, subst, arith}
 use Rattle.std.proofs.lemmas.Option.{same_Some}
-use Rattle.crash_steps.specs.Crashes.{Crashes}
 use Rattle.crash_steps.proofs.Joined.{alone, behind_looks}
 use Rattle.tape_types.specs.Counts.{Rose}
 use Rattle.byte_disk.specs.Files.{Files}
@@ -20,11 +19,13 @@ use Rattle.tape_drive.specs.declared.drive.Got.TheVariants as got
 use Rattle.byte_disk.specs.declared.disk.ByteDisk.{Ghosts}
 use Rattle.image_slots.specs.Pieces.{AtMost}
 use Rattle.image_slots.proofs.Chains.{then_at_most}
+use Rattle.image_slots.specs.State as slot
 use Rattle.image_tape.specs.declared.doubt.Doubt.TheVariants.{Settled}
 use Rattle.image_tape.specs.Ends.{Ends, Flushed, HasRead, IsEnded, IsFailed, IsLooked, Noted, Wrote, failed, with_head}
-use Rattle.image_tape.specs.Steps.{IsNoteSet, IsReading, IsStored, Looks, Stays}
-use Rattle.image_tape.specs.Tape.{CrashesOn, LeavesOn, SinceOn, View, held_by, held_of}
+use Rattle.image_tape.specs.Steps.{IsNoteSet, IsReading, IsSteady, IsStored, Looks, Stays}
+use Rattle.image_tape.specs.Tape.{AreEarlier, CrashesOn, IsKept, LeavesOf, View, held_by, held_of, with_moment}
 use Rattle.image_tape.specs.Writes.{Writes}
+use Rattle.image_tape.proofs.Moments.{remembered}
 use Rattle.image_tape.proofs.Surely.{then_looks}
 use Rattle.image_tape.proofs.Writings.{written_after}
 
@@ -41,21 +42,23 @@ module _ {D : Type 0} (disk : Ghosts D) where
     at_most = omega (arith, le, count.bound, most);
   }
 
-  held_head : (head : Option Place) (v : View D) (o : Option Files) → held_by (with_head head v) o ≡ held_by v o
-  held_head head v None = refl
-  held_head head v (Some d) = refl
+  held_head : (head : Option Place) (past : List (ℕ × slot.View D)) (v : View D) (o : Option Files) → held_by (with_head head past v) o ≡ held_by v o
+  held_head head past v None = refl
+  held_head head past v (Some d) = refl
 
-  held_failed : (v : View D) (o : Option Files) → held_by (failed v) o ≡ held_by v o
-  held_failed v None = refl
-  held_failed v (Some d) = refl
+  held_failed : (past : List (ℕ × slot.View D)) (v : View D) (o : Option Files) → held_by (failed past v) o ≡ held_by v o
+  held_failed past v None = refl
+  held_failed past v (Some d) = refl
 
   -- a command that succeeded
   module _ {T E : Type 0} (x : T) (m : ℕ) (head : Option Place) (a b c : View D) (le : m ≤ 16) (stays : Stays a b)
-      (count : AtMost m (disk.commands a.slots.disk) (disk.commands b.slots.disk)) (rose : Rose (disk.commands a.slots.disk) (disk.commands b.slots.disk)) (ended : IsEnded disk head b c) where
+      (count : AtMost m (disk.commands a.slots.disk) (disk.commands b.slots.disk)) (rose : Rose (disk.commands a.slots.disk) (disk.commands b.slots.disk))
+      (past : List (ℕ × slot.View D)) (same_past : past ≡ with_moment a) (ended : IsEnded disk head past b c) where
     pub ends_well : Ends {T = T} {E = E} disk (Ok x) a c
     ends_well = subst (λ (v : View D). Ends {T = T} {E = E} disk (Ok x) a v) (sym ended.after) (record {
       limits = stays.limits;
       opened = stays.opened;
+      past = same_past;
       lost = tt;
       count = counted m a b le count rose ended.count;
       cause = record { later = omega (arith, stays.faults); failed = tt };
@@ -63,100 +66,123 @@ module _ {D : Type 0} (disk : Ghosts D) where
 
   -- one that failed
   module _ {T E : Type 0} (why : E) (m : ℕ) (a b c : View D) (le : m ≤ 16) (stays : Stays a b) (count : AtMost m (disk.commands a.slots.disk) (disk.commands b.slots.disk))
-      (rose : Rose (disk.commands a.slots.disk) (disk.commands b.slots.disk)) (ended : IsFailed disk b c) where
+      (rose : Rose (disk.commands a.slots.disk) (disk.commands b.slots.disk)) (past : List (ℕ × slot.View D)) (same_past : past ≡ with_moment a)
+      (ended : IsFailed disk past b c) where
     pub ends_badly : Ends {T = T} {E = E} disk (Err why) a c
     ends_badly = subst (λ (v : View D). Ends {T = T} {E = E} disk (Err why) a v) (sym ended.after) (record {
       limits = stays.limits;
       opened = stays.opened;
+      past = same_past;
       lost = refl;
       count = counted m a b le count rose ended.count;
       cause = record { later = omega (arith, stays.faults, ended.faults); failed = omega (arith, stays.faults) };
     })
 
-  ended_held : (head : Option Place) (b c : View D) → IsEnded disk head b c → held_of disk c ≡ held_of disk b
-  ended_held head b c ended = ap (λ (v : View D). held_of disk v) ended.after ∙ held_head head b (disk.held b.slots.disk)
+  ended_held : (head : Option Place) (past : List (ℕ × slot.View D)) (b c : View D) → IsEnded disk head past b c → held_of disk c ≡ held_of disk b
+  ended_held head past b c ended = ap (λ (v : View D). held_of disk v) ended.after ∙ held_head head past b (disk.held b.slots.disk)
 
-  failed_held : (b c : View D) → IsFailed disk b c → held_of disk c ≡ held_of disk b
-  failed_held b c ended = ap (λ (v : View D). held_of disk v) ended.after ∙ held_failed b (disk.held b.slots.disk)
+  failed_held : (past : List (ℕ × slot.View D)) (b c : View D) → IsFailed disk past b c → held_of disk c ≡ held_of disk b
+  failed_held past b c ended = ap (λ (v : View D). held_of disk v) ended.after ∙ held_failed past b (disk.held b.slots.disk)
 
-  ended_disk : (head : Option Place) (b c : View D) → IsEnded disk head b c → c.slots.disk ≡ b.slots.disk
-  ended_disk head b c ended = ap (λ (v : View D). v.slots.disk) ended.after
+  at_end : {step : Cartridge → Cartridge → Type 0} (limits : Limits) (head : Option Place) (past : List (ℕ × slot.View D)) (a b c : View D) → IsEnded disk head past b c
+      → CrashesOn disk limits step a b → CrashesOn disk limits step a c
+  at_end {step = step} limits head past a b c ended crash = subst (λ (v : View D). CrashesOn disk limits step a v) (sym ended.after) crash
 
-  failed_disk : (b c : View D) → IsFailed disk b c → c.slots.disk ≡ b.slots.disk
-  failed_disk b c ended = ap (λ (v : View D). v.slots.disk) ended.after
+  at_fail : {step : Cartridge → Cartridge → Type 0} (limits : Limits) (past : List (ℕ × slot.View D)) (a b c : View D) → IsFailed disk past b c
+      → CrashesOn disk limits step a b → CrashesOn disk limits step a c
+  at_fail {step = step} limits past a b c ended crash = subst (λ (v : View D). CrashesOn disk limits step a v) (sym ended.after) crash
 
-  at_disk : {step : Cartridge → Cartridge → Type 0} (limits : Limits) (a : D) (b c : View D) → c.slots.disk ≡ b.slots.disk → CrashesOn disk limits step a b.slots.disk
-      → CrashesOn disk limits step a c.slots.disk
-  at_disk {step = step} limits a b c same crash = subst (λ (d : D). CrashesOn disk limits step a d) (sym same) crash
+  pub steady_end : (head : Option Place) (past : List (ℕ × slot.View D)) (b c : View D) → IsEnded disk head past b c → IsSteady b → IsSteady c
+  steady_end head past b c ended steady = subst (λ (v : View D). IsSteady v) (sym ended.after) (record { doubt = steady.doubt; vcr = steady.vcr })
 
   -- that only read
   pub looked_well : {T E : Type 0} (x : T) (m : ℕ) (head : Option Place) (a b c : View D) → m ≤ 16 → Looks disk m a b
-      → Rose (disk.commands a.slots.disk) (disk.commands b.slots.disk) → IsEnded disk head b c → IsLooked {T = T} {E = E} disk (Ok x) a c
-  looked_well x m head a b c le looks rose ended = record {
-    ends = ends_well x m head a b c le looks.stays looks.count rose ended;
-    held = ended_held head b c ended ∙ looks.held;
-    crash = at_disk a.room.limits a.slots.disk b c (ended_disk head b c ended) looks.crash;
+      → Rose (disk.commands a.slots.disk) (disk.commands b.slots.disk) → (past : List (ℕ × slot.View D)) → past ≡ with_moment a → IsEnded disk head past b c → IsLooked {T = T} {E = E} disk (Ok x) a c
+  looked_well x m head a b c le looks rose past same_past ended = record {
+    ends = ends_well x m head a b c le looks.stays looks.count rose past same_past ended;
+    held = ended_held head past b c ended ∙ looks.held;
+    crash = at_end a.room.limits head past a b c ended looks.crash;
   }
 
   pub looked_badly : {T E : Type 0} (why : E) (m : ℕ) (a b c : View D) → m ≤ 16 → Looks disk m a b → Rose (disk.commands a.slots.disk) (disk.commands b.slots.disk)
-      → IsFailed disk b c → IsLooked {T = T} {E = E} disk (Err why) a c
-  looked_badly why m a b c le looks rose ended = record {
-    ends = ends_badly why m a b c le looks.stays looks.count rose ended;
-    held = failed_held b c ended ∙ looks.held;
-    crash = at_disk a.room.limits a.slots.disk b c (failed_disk b c ended) looks.crash;
+      → (past : List (ℕ × slot.View D)) → past ≡ with_moment a → IsFailed disk past b c → IsLooked {T = T} {E = E} disk (Err why) a c
+  looked_badly why m a b c le looks rose past same_past ended = record {
+    ends = ends_badly why m a b c le looks.stays looks.count rose past same_past ended;
+    held = failed_held past b c ended ∙ looks.held;
+    crash = at_fail a.room.limits past a b c ended looks.crash;
   }
 
   rose_on : (a b c : View D) → Rose (disk.commands a.slots.disk) (disk.commands b.slots.disk) → disk.commands b.slots.disk ≤ disk.commands c.slots.disk
       → Rose (disk.commands a.slots.disk) (disk.commands c.slots.disk)
   rose_on a b c rose later = omega (arith, rose, later)
 
+  -- that made the reference durable
+  pub surely_well : {T E : Type 0} (u : T) (head : Option Place) (a b c e : View D) → Looks disk 3 a b → Rose (disk.commands a.slots.disk) (disk.commands b.slots.disk)
+      → Looks disk 6 b c → (past : List (ℕ × slot.View D)) → past ≡ with_moment a → IsEnded disk head past c e → IsLooked {T = T} {E = E} disk (Ok u) a e
+  surely_well u head a b c e looks rose more past same_past ended =
+      looked_well u 9 head a c e (omega arith) (then_looks disk 3 6 a b c looks more) (rose_on a b c rose more.count.later) past same_past ended
+
+  pub surely_badly : {T E : Type 0} (why : E) (a b c e : View D) → Looks disk 3 a b → Rose (disk.commands a.slots.disk) (disk.commands b.slots.disk)
+      → Looks disk 6 b c → (past : List (ℕ × slot.View D)) → past ≡ with_moment a → IsFailed disk past c e → IsLooked {T = T} {E = E} disk (Err why) a e
+  surely_badly why a b c e looks rose more past same_past ended =
+      looked_badly why 9 a c e (omega arith) (then_looks disk 3 6 a b c looks more) (rose_on a b c rose more.count.later) past same_past ended
+
+  -- what is past once a command has begun and gone on
+  pub early_then : (v w b c : View D) (past : List (ℕ × slot.View D)) → v ≡ w → IsKept disk v → past ≡ with_moment w → Looks disk 3 w b
+      → Rose (disk.commands w.slots.disk) (disk.commands b.slots.disk) → disk.commands b.slots.disk ≤ disk.commands c.slots.disk
+      → AreEarlier disk past (disk.commands c.slots.disk)
+  early_then v w b c past is kept same looks rose later =
+      remembered disk v w past (disk.commands c.slots.disk) is kept same (omega (arith, looks.count.later, later)) (rose_on w b c rose later)
+
   -- an item was written
-  module _ {T E : Type 0} (at : Place) (x : Item) (a b c e : View D) (looks : Looks disk 3 a b) (rose : Rose (disk.commands a.slots.disk) (disk.commands b.slots.disk)) where
-    pub wrote_well : (u : T) → Writes {T = T} {E = E} disk 10 at x (Ok u) b c → IsEnded disk (Some (next at)) c e → Wrote {T = T} {E = E} disk at x (Ok u) a e
+  module _ {T E : Type 0} (at : Place) (x : Item) (a b c e : View D) (looks : Looks disk 3 a b) (rose : Rose (disk.commands a.slots.disk) (disk.commands b.slots.disk))
+      (past : List (ℕ × slot.View D)) (same_past : past ≡ with_moment a) where
+    pub wrote_well : (u : T) → Writes {T = T} {E = E} disk 10 at x (Ok u) b c → IsEnded disk (Some (next at)) past c e → Wrote {T = T} {E = E} disk at x (Ok u) a e
     wrote_well u done ended =
         let all = written_after disk at x (Ok u) 3 10 a b c looks done in
         record {
-          ends = ends_well u 13 (Some (next at)) a c e (omega arith) all.stays all.count (rose_on a b c rose done.count.later) ended;
+          ends = ends_well u 13 (Some (next at)) a c e (omega arith) all.stays all.count (rose_on a b c rose done.count.later) past same_past ended;
           head = ap (λ (v : View D). v.head) ended.after;
-          untold = λ none. ended_held (Some (next at)) c e ended ∙ all.untold none;
-          told = λ y held. let t = all.told y held in (t.0, ended_held (Some (next at)) c e ended ∙ t.1, t.2);
-          at_end = λ y held most. let t = all.at_end y held most in (t.0, ended_held (Some (next at)) c e ended ∙ t.1);
-          crash = λ y held. at_disk a.room.limits a.slots.disk c e (ended_disk (Some (next at)) c e ended) (all.crash y held);
+          untold = λ none. ended_held (Some (next at)) past c e ended ∙ all.untold none;
+          told = λ y held. let t = all.told y held in (t.0, ended_held (Some (next at)) past c e ended ∙ t.1, t.2);
+          at_end = λ y held most. let t = all.at_end y held most in (t.0, ended_held (Some (next at)) past c e ended ∙ t.1);
+          crash = λ y held. at_end a.room.limits (Some (next at)) past a c e ended (all.crash y held);
         }
 
-    pub wrote_badly : (why : E) → Writes {T = T} {E = E} disk 10 at x (Err why) b c → IsFailed disk c e → Wrote {T = T} {E = E} disk at x (Err why) a e
+    pub wrote_badly : (why : E) → Writes {T = T} {E = E} disk 10 at x (Err why) b c → IsFailed disk past c e → Wrote {T = T} {E = E} disk at x (Err why) a e
     wrote_badly why done ended =
         let all = written_after disk at x (Err why) 3 10 a b c looks done in
         record {
-          ends = ends_badly why 13 a c e (omega arith) all.stays all.count (rose_on a b c rose done.count.later) ended;
+          ends = ends_badly why 13 a c e (omega arith) all.stays all.count (rose_on a b c rose done.count.later) past same_past ended;
           head = tt;
-          untold = λ none. failed_held c e ended ∙ all.untold none;
-          told = λ y held. let t = all.told y held in (t.0, failed_held c e ended ∙ t.1, t.2);
-          at_end = λ y held most. let t = all.at_end y held most in (t.0, failed_held c e ended ∙ t.1);
-          crash = λ y held. at_disk a.room.limits a.slots.disk c e (failed_disk c e ended) (all.crash y held);
+          untold = λ none. failed_held past c e ended ∙ all.untold none;
+          told = λ y held. let t = all.told y held in (t.0, failed_held past c e ended ∙ t.1, t.2);
+          at_end = λ y held most. let t = all.at_end y held most in (t.0, failed_held past c e ended ∙ t.1);
+          crash = λ y held. at_fail a.room.limits past a c e ended (all.crash y held);
         }
 
   pub wrote_not : {T E : Type 0} (at : Place) (x : Item) (a b e : View D) → Looks disk 3 a b → Rose (disk.commands a.slots.disk) (disk.commands b.slots.disk)
-      → (why : E) → IsFailed disk b e → Wrote {T = T} {E = E} disk at x (Err why) a e
-  wrote_not at x a b e looks rose why ended = record {
-    ends = ends_badly why 3 a b e (omega arith) looks.stays looks.count rose ended;
+      → (past : List (ℕ × slot.View D)) → past ≡ with_moment a → (why : E) → IsFailed disk past b e → Wrote {T = T} {E = E} disk at x (Err why) a e
+  wrote_not at x a b e looks rose past same_past why ended = record {
+    ends = ends_badly why 3 a b e (omega arith) looks.stays looks.count rose past same_past ended;
     head = tt;
-    untold = λ none. failed_held b e ended ∙ looks.held ∙ none;
+    untold = λ none. failed_held past b e ended ∙ looks.held ∙ none;
     told = λ y held. (
       y,
-      failed_held b e ended ∙ looks.held ∙ held,
+      failed_held past b e ended ∙ looks.held ∙ held,
       record { items = inl (refl, inl refl); rest = record { other_part = refl; note_ip = refl; note_dp = refl } },
     );
-    at_end = λ y held most. (refl, failed_held b e ended ∙ looks.held ∙ held);
-    crash = λ y held. at_disk a.room.limits a.slots.disk b e (failed_disk b e ended)
+    at_end = λ y held most. (refl, failed_held past b e ended ∙ looks.held ∙ held);
+    crash = λ y held. at_fail a.room.limits past a b e ended
         (alone (λ image. record { items = inl (refl, inl refl); rest = record { other_part = refl; note_ip = refl; note_dp = refl } }) looks.crash);
   }
 
   -- all was made durable
-  module _ {T E : Type 0} (a b c e : View D) (looks : Looks disk 3 a b) (rose : Rose (disk.commands a.slots.disk) (disk.commands b.slots.disk)) where
-    stored_crash : (r : Result T E) → IsStored disk 8 r b c → (x : Cartridge) → held_of disk a ≡ Some x → CrashesOn disk a.room.limits (WithinFlush x) a.slots.disk c.slots.disk
+  module _ {T E : Type 0} (a b c e : View D) (looks : Looks disk 3 a b) (rose : Rose (disk.commands a.slots.disk) (disk.commands b.slots.disk))
+      (past : List (ℕ × slot.View D)) (same_past : past ≡ with_moment a) where
+    stored_crash : (r : Result T E) → IsStored disk 8 r b c → (x : Cartridge) → held_of disk a ≡ Some x → CrashesOn disk a.room.limits (WithinFlush x) a c
     stored_crash r done x held = behind_looks (λ image. inl refl) looks.count.later looks.crash
-        (subst (λ (l : Limits). CrashesOn disk l (WithinFlush x) b.slots.disk c.slots.disk) looks.stays.limits (done.crash x (looks.held ∙ held)))
+        (subst (λ (l : Limits). CrashesOn disk l (WithinFlush x) b c) looks.stays.limits (done.crash x (looks.held ∙ held)))
 
     stored_stays : (r : Result T E) → IsStored disk 8 r b c → Stays a c
     stored_stays r done = record {
@@ -166,41 +192,42 @@ module _ {D : Type 0} (disk : Ghosts D) where
       opened = done.stays.opened ∙ looks.stays.opened;
     }
 
-    pub flushed_well : (u : T) (head : Option Place) → head ≡ a.head → IsStored {T = T} {E = E} disk 8 (Ok u) b c → IsEnded disk head c e → Flushed {T = T} {E = E} disk (Ok u) a e
+    pub flushed_well : (u : T) (head : Option Place) → head ≡ a.head → IsStored {T = T} {E = E} disk 8 (Ok u) b c → IsEnded disk head past c e → Flushed {T = T} {E = E} disk (Ok u) a e
     flushed_well u head same done ended = record {
-      ends = ends_well u 11 head a c e (omega arith) (stored_stays (Ok u) done) (then_at_most looks.count done.count) (rose_on a b c rose done.count.later) ended;
+      ends = ends_well u 11 head a c e (omega arith) (stored_stays (Ok u) done) (then_at_most looks.count done.count) (rose_on a b c rose done.count.later) past same_past ended;
       head = ap (λ (v : View D). v.head) ended.after ∙ same;
-      held = ended_held head c e ended ∙ done.held ∙ looks.held;
-      sure = subst (λ (v : View D). IsSure (held_of disk v) (LeavesOn disk v.room.limits v.slots.disk)) (sym ended.after)
-          (subst (λ (o : Option Cartridge). IsSure o (LeavesOn disk c.room.limits c.slots.disk)) (sym (held_head head c (disk.held c.slots.disk))) done.sure);
-      crash = λ x held. at_disk a.room.limits a.slots.disk c e (ended_disk head c e ended) (stored_crash (Ok u) done x held);
+      held = ended_held head past c e ended ∙ done.held ∙ looks.held;
+      sure = subst (λ (v : View D). IsSure (held_of disk v) (LeavesOf disk v)) (sym ended.after)
+          (subst (λ (o : Option Cartridge). IsSure o (LeavesOf disk c)) (sym (held_head head past c (disk.held c.slots.disk))) done.sure);
+      crash = λ x held. at_end a.room.limits head past a c e ended (stored_crash (Ok u) done x held);
     }
 
-    pub flushed_badly : (why : E) → IsStored {T = T} {E = E} disk 8 (Err why) b c → IsFailed disk c e → Flushed {T = T} {E = E} disk (Err why) a e
+    pub flushed_badly : (why : E) → IsStored {T = T} {E = E} disk 8 (Err why) b c → IsFailed disk past c e → Flushed {T = T} {E = E} disk (Err why) a e
     flushed_badly why done ended = record {
-      ends = ends_badly why 11 a c e (omega arith) (stored_stays (Err why) done) (then_at_most looks.count done.count) (rose_on a b c rose done.count.later) ended;
+      ends = ends_badly why 11 a c e (omega arith) (stored_stays (Err why) done) (then_at_most looks.count done.count) (rose_on a b c rose done.count.later) past same_past ended;
       head = tt;
-      held = failed_held c e ended ∙ done.held ∙ looks.held;
+      held = failed_held past c e ended ∙ done.held ∙ looks.held;
       sure = tt;
-      crash = λ x held. at_disk a.room.limits a.slots.disk c e (failed_disk c e ended) (stored_crash (Err why) done x held);
+      crash = λ x held. at_fail a.room.limits past a c e ended (stored_crash (Err why) done x held);
     }
 
-  pub flushed_not : {T E : Type 0} (a b e : View D) → Looks disk 3 a b → Rose (disk.commands a.slots.disk) (disk.commands b.slots.disk) → (why : E) → IsFailed disk b e
+  pub flushed_not : {T E : Type 0} (a b e : View D) → Looks disk 3 a b → Rose (disk.commands a.slots.disk) (disk.commands b.slots.disk) → (past : List (ℕ × slot.View D)) → past ≡ with_moment a → (why : E) → IsFailed disk past b e
       → Flushed {T = T} {E = E} disk (Err why) a e
-  flushed_not a b e looks rose why ended = record {
-    ends = ends_badly why 3 a b e (omega arith) looks.stays looks.count rose ended;
+  flushed_not a b e looks rose past same_past why ended = record {
+    ends = ends_badly why 3 a b e (omega arith) looks.stays looks.count rose past same_past ended;
     head = tt;
-    held = failed_held b e ended ∙ looks.held;
+    held = failed_held past b e ended ∙ looks.held;
     sure = tt;
-    crash = λ x held. at_disk a.room.limits a.slots.disk b e (failed_disk b e ended) (alone (λ image. inl refl) looks.crash);
+    crash = λ x held. at_fail a.room.limits past a b e ended (alone (λ image. inl refl) looks.crash);
   }
 
   -- an attribute was set
-  module _ {T E : Type 0} (part : Part) (note : Note) (a b c e : View D) (looks : Looks disk 3 a b) (rose : Rose (disk.commands a.slots.disk) (disk.commands b.slots.disk)) where
+  module _ {T E : Type 0} (part : Part) (note : Note) (a b c e : View D) (looks : Looks disk 3 a b) (rose : Rose (disk.commands a.slots.disk) (disk.commands b.slots.disk))
+      (past : List (ℕ × slot.View D)) (same_past : past ≡ with_moment a) where
     noted_crash : (r : Result T E) → IsNoteSet disk part note r b c → (x : Cartridge) → held_of disk a ≡ Some x
-        → CrashesOn disk a.room.limits (WithinNote part note) a.slots.disk c.slots.disk
+        → CrashesOn disk a.room.limits (WithinNote part note) a c
     noted_crash r done x held = behind_looks (λ image. inl refl) looks.count.later looks.crash
-        (subst (λ (l : Limits). CrashesOn disk l (WithinNote part note) b.slots.disk c.slots.disk) looks.stays.limits (done.crash x (looks.held ∙ held)))
+        (subst (λ (l : Limits). CrashesOn disk l (WithinNote part note) b c) looks.stays.limits (done.crash x (looks.held ∙ held)))
 
     noted_stays : (r : Result T E) → IsNoteSet disk part note r b c → Stays a c
     noted_stays r done = record {
@@ -210,44 +237,45 @@ module _ {D : Type 0} (disk : Ghosts D) where
       opened = done.stays.opened ∙ looks.stays.opened;
     }
 
-    pub noted_well : (u : T) (head : Option Place) → head ≡ a.head → IsNoteSet {T = T} {E = E} disk part note (Ok u) b c → IsEnded disk head c e
+    pub noted_well : (u : T) (head : Option Place) → head ≡ a.head → IsNoteSet {T = T} {E = E} disk part note (Ok u) b c → IsEnded disk head past c e
         → Noted {T = T} {E = E} disk part note (Ok u) a e
     noted_well u head same done ended = record {
-      ends = ends_well u 9 head a c e (omega arith) (noted_stays (Ok u) done) (then_at_most looks.count done.count) (rose_on a b c rose done.count.later) ended;
+      ends = ends_well u 9 head a c e (omega arith) (noted_stays (Ok u) done) (then_at_most looks.count done.count) (rose_on a b c rose done.count.later) past same_past ended;
       head = ap (λ (v : View D). v.head) ended.after ∙ same;
-      settled = ap (λ (v : View D). v.doubt) ended.after ∙ done.settled;
-      untold = λ none. ended_held head c e ended ∙ done.untold (looks.held ∙ none);
-      told = λ x held. let t = done.told x (looks.held ∙ held) in (t.0, ended_held head c e ended ∙ t.1, t.2);
-      crash = λ x held. at_disk a.room.limits a.slots.disk c e (ended_disk head c e ended) (noted_crash (Ok u) done x held);
+      settled = steady_end head past c e ended done.settled;
+      untold = λ none. ended_held head past c e ended ∙ done.untold (looks.held ∙ none);
+      told = λ x held. let t = done.told x (looks.held ∙ held) in (t.0, ended_held head past c e ended ∙ t.1, t.2);
+      crash = λ x held. at_end a.room.limits head past a c e ended (noted_crash (Ok u) done x held);
     }
 
-    pub noted_badly : (why : E) → IsNoteSet {T = T} {E = E} disk part note (Err why) b c → IsFailed disk c e → Noted {T = T} {E = E} disk part note (Err why) a e
+    pub noted_badly : (why : E) → IsNoteSet {T = T} {E = E} disk part note (Err why) b c → IsFailed disk past c e → Noted {T = T} {E = E} disk part note (Err why) a e
     noted_badly why done ended = record {
-      ends = ends_badly why 9 a c e (omega arith) (noted_stays (Err why) done) (then_at_most looks.count done.count) (rose_on a b c rose done.count.later) ended;
+      ends = ends_badly why 9 a c e (omega arith) (noted_stays (Err why) done) (then_at_most looks.count done.count) (rose_on a b c rose done.count.later) past same_past ended;
       head = tt;
       settled = tt;
-      untold = λ none. failed_held c e ended ∙ done.untold (looks.held ∙ none);
-      told = λ x held. let t = done.told x (looks.held ∙ held) in (t.0, failed_held c e ended ∙ t.1, t.2);
-      crash = λ x held. at_disk a.room.limits a.slots.disk c e (failed_disk c e ended) (noted_crash (Err why) done x held);
+      untold = λ none. failed_held past c e ended ∙ done.untold (looks.held ∙ none);
+      told = λ x held. let t = done.told x (looks.held ∙ held) in (t.0, failed_held past c e ended ∙ t.1, t.2);
+      crash = λ x held. at_fail a.room.limits past a c e ended (noted_crash (Err why) done x held);
     }
 
   pub noted_not : {T E : Type 0} (part : Part) (note : Note) (a b e : View D) → Looks disk 3 a b → Rose (disk.commands a.slots.disk) (disk.commands b.slots.disk)
-      → (why : E) → IsFailed disk b e → Noted {T = T} {E = E} disk part note (Err why) a e
-  noted_not part note a b e looks rose why ended = record {
-    ends = ends_badly why 3 a b e (omega arith) looks.stays looks.count rose ended;
+      → (past : List (ℕ × slot.View D)) → past ≡ with_moment a → (why : E) → IsFailed disk past b e → Noted {T = T} {E = E} disk part note (Err why) a e
+  noted_not part note a b e looks rose past same_past why ended = record {
+    ends = ends_badly why 3 a b e (omega arith) looks.stays looks.count rose past same_past ended;
     head = tt;
     settled = tt;
-    untold = λ none. failed_held b e ended ∙ looks.held ∙ none;
-    told = λ x held. (x, failed_held b e ended ∙ looks.held ∙ held, inl refl);
-    crash = λ x held. at_disk a.room.limits a.slots.disk b e (failed_disk b e ended) (alone (λ image. inl refl) looks.crash);
+    untold = λ none. failed_held past b e ended ∙ looks.held ∙ none;
+    told = λ x held. (x, failed_held past b e ended ∙ looks.held ∙ held, inl refl);
+    crash = λ x held. at_fail a.room.limits past a b e ended (alone (λ image. inl refl) looks.crash);
   }
 
   -- an item was read
   pub read_well : (at : Place) (found : Got) (place : Place) (buf : List ℕ) (a b c e : View D) → Looks disk 3 a b → Rose (disk.commands a.slots.disk) (disk.commands b.slots.disk)
-      → b.doubt ≡ Settled → IsReading disk at found buf b → Looks disk 2 b c → place ≡ after_read found at → IsEnded disk (Some place) c e
+      → b.doubt ≡ Settled → IsReading disk at found buf b → Looks disk 2 b c → place ≡ after_read found at
+      → (past : List (ℕ × slot.View D)) → past ≡ with_moment a → IsEnded disk (Some place) past c e
       → HasRead {E = DriveErr} disk at (Ok found) buf a e
-  read_well at found place buf a b c e looks rose settled reading more is ended = record {
-    looked = looked_well found 5 (Some place) a c e (omega arith) (then_looks disk 3 2 a b c looks more) (rose_on a b c rose more.count.later) ended;
+  read_well at found place buf a b c e looks rose settled reading more is past same_past ended = record {
+    looked = looked_well found 5 (Some place) a c e (omega arith) (then_looks disk 3 2 a b c looks more) (rose_on a b c rose more.count.later) past same_past ended;
     head = ap (λ (v : View D). v.head) ended.after ∙ ap (λ (p : Place). place_is p) is;
     item = λ x held. reading.item settled x (looks.held ∙ held);
     bytes = reading.bytes;
@@ -255,9 +283,9 @@ module _ {D : Type 0} (disk : Ghosts D) where
   }
 
   pub read_badly : (at : Place) (why : DriveErr) (buf : List ℕ) (m : ℕ) (a c e : View D) → m ≤ 16 → Looks disk m a c → Rose (disk.commands a.slots.disk) (disk.commands c.slots.disk)
-      → IsFailed disk c e → HasRead {E = DriveErr} disk at (Err why) buf a e
-  read_badly at why buf m a c e le looks rose ended = record {
-    looked = looked_badly why m a c e le looks rose ended;
+      → (past : List (ℕ × slot.View D)) → past ≡ with_moment a → IsFailed disk past c e → HasRead {E = DriveErr} disk at (Err why) buf a e
+  read_badly at why buf m a c e le looks rose past same_past ended = record {
+    looked = looked_badly why m a c e le looks rose past same_past ended;
     head = tt;
     item = tt;
     bytes = tt;
@@ -265,12 +293,12 @@ module _ {D : Type 0} (disk : Ghosts D) where
   }
 
   pub read_late : (at : Place) (why : DriveErr) (buf : List ℕ) (a b c e : View D) → Looks disk 3 a b → Rose (disk.commands a.slots.disk) (disk.commands b.slots.disk) → Looks disk 2 b c
-      → IsFailed disk c e → HasRead {E = DriveErr} disk at (Err why) buf a e
-  read_late at why buf a b c e looks rose more ended =
-      read_badly at why buf 5 a c e (omega arith) (then_looks disk 3 2 a b c looks more) (rose_on a b c rose more.count.later) ended
+      → (past : List (ℕ × slot.View D)) → past ≡ with_moment a → IsFailed disk past c e → HasRead {E = DriveErr} disk at (Err why) buf a e
+  read_late at why buf a b c e looks rose more past same_past ended =
+      read_badly at why buf 5 a c e (omega arith) (then_looks disk 3 2 a b c looks more) (rose_on a b c rose more.count.later) past same_past ended
 
-  pub ended_at : (place other : Place) (b c : View D) → place ≡ other → IsEnded disk (Some place) b c → IsEnded disk (Some other) b c
-  ended_at place other b c same ended = subst (λ (p : Place). IsEnded disk (Some p) b c) same ended
+  pub ended_at : (place other : Place) (past : List (ℕ × slot.View D)) (b c : View D) → place ≡ other → IsEnded disk (Some place) past b c → IsEnded disk (Some other) past b c
+  ended_at place other past b c same ended = subst (λ (p : Place). IsEnded disk (Some p) past b c) same ended
 
   pub head_in : (v w : View D) → v ≡ w → v.head ≡ w.head
   head_in v w is = ap (λ (x : View D). x.head) is
@@ -286,15 +314,6 @@ module _ {D : Type 0} (disk : Ghosts D) where
   pub read_there : {E : Type 0} (r : Result Got E) (buf : List ℕ) (v w e : View D) (place : Place) → v ≡ w → v.head ≡ Some place → HasRead disk place r buf w e
       → (at : Place) → w.head ≡ Some at → HasRead disk at r buf w e
   read_there r buf v w e place is there done at head = subst (λ (p : Place). HasRead disk p r buf w e) (one_place v w place at is there head) done
-
--- what a command leaves to a crash, as the tape's own
-pub crash_at : {D : Type 0} (disk : Ghosts D) {step : Cartridge → Cartridge → Type 0} (a b : View D) → b.room.limits ≡ a.room.limits
-    → CrashesOn disk a.room.limits step a.slots.disk b.slots.disk
-    → Crashes step (disk.commands a.slots.disk) (LeavesOn disk a.room.limits a.slots.disk) (LeavesOn disk b.room.limits b.slots.disk)
-    (SinceOn disk a.room.limits a.slots.disk) (SinceOn disk b.room.limits b.slots.disk)
-crash_at disk {step = step} a b same crash =
-    subst (λ (l : Limits). Crashes step (disk.commands a.slots.disk) (LeavesOn disk a.room.limits a.slots.disk) (LeavesOn disk l b.slots.disk)
-    (SinceOn disk a.room.limits a.slots.disk) (SinceOn disk l b.slots.disk)) (sym same) crash
 
 -- of a read at whatever place the head has
 module _ {D : Type 0} (disk : Ghosts D) (r : Result Got DriveErr) (buf : List ℕ) (a b : View D) (ran : (at : Place) → a.head ≡ Some at → HasRead disk at r buf a b) where

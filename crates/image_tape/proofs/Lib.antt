@@ -12,6 +12,7 @@ pub mod Wholes
 pub mod Rising
 pub mod Behind
 pub mod Shaping
+pub mod Lagging
 pub mod Appending
 pub mod Writings
 pub mod Ending

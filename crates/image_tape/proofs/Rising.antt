@@ -21,7 +21,7 @@ use Rattle.image_format.specs.Records.{record_bytes}
 use Rattle.image_tape.specs.declared.doubt.Doubt.TheVariants.{Settled}
 use Rattle.image_tape.specs.Halves.{ended, half_of, with_serial, with_vcr}
 use Rattle.image_tape.specs.Steps.{AfterCommit, IsCommit, IsTaken, MayStand}
-use Rattle.image_tape.specs.Tape.{Holds, IsKept, Lie, Stands, View, cut_to, held_of}
+use Rattle.image_tape.specs.Tape.{Holds, IsKept, Lie, Stands, View, cut_to, held_of, with_reference}
 use Rattle.image_tape.specs.Writes.{AfterRise, HasRisen, IsCounted, IsUncounted, Rises, cut_value}
 use Rattle.image_tape.proofs.Fronts.{fewer_offsets, fewer_records, front_size, offset_is}
 use Rattle.image_tape.proofs.Opened.{counted, is_counted, is_whole, whole}
@@ -77,7 +77,7 @@ module _ {D : Type 0} (disk : Ghosts D) (v : View D) (kept : IsKept disk v) (set
         in_ip = lie_like v.base.ip v.reads.ip v.base.ip v.reads.ip v.room.ip d.ip st.ip refl refl refl refl kept.holds.ip st.in_ip;
         in_dp = lie_like v.base.dp v.reads.dp v.base.dp v.reads.dp v.room.dp d.dp st.dp refl refl refl refl kept.holds.dp st.in_dp;
         agree = λ image left. let a = st.agree image left in record { ip = a.ip; dp = a.dp };
-        vcr = refl;
+        vcr = omega arith;
         note_ip = st.note_ip;
         note_dp = st.note_dp;
         fits_ip = st.fits_ip;
@@ -93,27 +93,29 @@ module _ {D : Type 0} (disk : Ghosts D) (v : View D) (kept : IsKept disk v) (set
   same_rest : (part : Part) (c : Cartridge) → KeepsRest part c c
   same_rest part c = record { other_part = refl; note_ip = refl; note_dp = refl }
 
-  with_reference : (part : Part) (s : SlotValue) (ip dp : List Item) (n : ℕ)
+  pub reference_of : (part : Part) (s : SlotValue) (ip dp : List Item) (n : ℕ)
       → (items_of part (cartridge_of (with_vcr n s) ip dp) ≡ items_of part (cartridge_of s ip dp)) × KeepsRest part (cartridge_of s ip dp) (cartridge_of (with_vcr n s) ip dp)
-  with_reference Ip s ip dp n = (refl, record { other_part = refl; note_ip = refl; note_dp = refl })
-  with_reference Dp s ip dp n = (refl, record { other_part = refl; note_ip = refl; note_dp = refl })
+  reference_of Ip s ip dp n = (refl, record { other_part = refl; note_ip = refl; note_dp = refl })
+  reference_of Dp s ip dp n = (refl, record { other_part = refl; note_ip = refl; note_dp = refl })
 
   pub risen_has : (part : Part) (pos : ℕ) (d : Files) (is : disk.held v.slots.disk ≡ Some d) → HasRisen part pos (whole (st0 d is)) (whole (risen_stand d is))
   unfolding risen_stand
   risen_has part pos d is =
       let st = st0 d is in
-      let w = with_reference part v.reads st.ip st.dp vcr in
+      let w = reference_of part v.reads st.ip st.dp vcr in
       record { items = inl w.0; vcr = rose (whole st) (cartridge_of (with_vcr vcr v.reads) st.ip st.dp) refl refl; rest = w.1 }
 
   pub risen_within : (part : Part) (pos : ℕ) (d : Files) (is : disk.held v.slots.disk ≡ Some d) (x : Item)
-      → WithinWrite part pos x (whole (st0 d is)) (counted (st0 d is)) (counted (risen_stand d is))
+      → WithinWrite part pos x (whole (st0 d is)) (with_reference v.reads.vcr (counted (st0 d is))) (counted (risen_stand d is))
   unfolding risen_stand
-  risen_within part pos d is x =
-      let st = st0 d is in
-      let ip = take v.base.ip.count st.ip in
-      let dp = take v.base.dp.count st.dp in
-      let w = with_reference part v.base ip dp vcr in
-      record { items = inl (w.0, inr (rose (whole st) (cartridge_of (with_vcr vcr v.base) ip dp) refl refl)); rest = w.1 }
+  risen_within Ip pos d is x = record {
+    items = inl (refl, inr (rose (whole (st0 d is)) _ refl refl));
+    rest = record { other_part = refl; note_ip = refl; note_dp = refl };
+  }
+  risen_within Dp pos d is x = record {
+    items = inl (refl, inr (rose (whole (st0 d is)) _ refl refl));
+    rest = record { other_part = refl; note_ip = refl; note_dp = refl };
+  }
 
   -- a partition is cut
   pub cut_stand : (part : Part) (pos end : ℕ) → pos < (half_of part v.base).count → pos < (half_of part v.reads).count → end ≡ get_or (offsets_of part v.room) pos 0
@@ -128,7 +130,7 @@ module _ {D : Type 0} (disk : Ghosts D) (v : View D) (kept : IsKept disk v) (set
         agree = λ image left.
             let a = st.agree image left in
             record { ip = shorter_front end v.base.ip.end image.ip d.ip (cut_end v.base.ip v.reads.ip pos end v.room.ip d.ip st.ip less lt place st.in_ip) a.ip; dp = a.dp };
-        vcr = refl;
+        vcr = omega arith;
         note_ip = st.note_ip;
         note_dp = st.note_dp;
         fits_ip = omega (arith, st.fits_ip, less);
@@ -144,7 +146,7 @@ module _ {D : Type 0} (disk : Ghosts D) (v : View D) (kept : IsKept disk v) (set
         agree = λ image left.
             let a = st.agree image left in
             record { ip = a.ip; dp = shorter_front end v.base.dp.end image.dp d.dp (cut_end v.base.dp v.reads.dp pos end v.room.dp d.dp st.dp less lt place st.in_dp) a.dp };
-        vcr = refl;
+        vcr = omega arith;
         note_ip = st.note_ip;
         note_dp = st.note_dp;
         fits_ip = st.fits_ip;
@@ -194,7 +196,7 @@ module _ {D : Type 0} (disk : Ghosts D) (v : View D) (kept : IsKept disk v) (set
 
   pub cut_within : (part : Part) (pos end : ℕ) (less : pos < (half_of part v.base).count) (lt : pos < (half_of part v.reads).count) (place : end ≡ get_or (offsets_of part v.room) pos 0)
       (d : Files) (is : disk.held v.slots.disk ≡ Some d) (x : Item)
-      → WithinWrite part pos x (whole (st0 d is)) (counted (st0 d is)) (counted (cut_stand part pos end less lt place d is))
+      → WithinWrite part pos x (whole (st0 d is)) (with_reference v.reads.vcr (counted (st0 d is))) (counted (cut_stand part pos end less lt place d is))
   unfolding cut_stand
   cut_within Ip pos end less lt place d is x =
       let st = st0 d is in
@@ -233,7 +235,7 @@ module _ {D T E : Type 0} (disk : Ghosts D) (r : Result T E) (at : Place) (value
   cut_taken (Err why) taken below untold = tt
 
   pub rises_by : ((d : Files) (is : disk.held v.slots.disk ≡ Some d) → HasRisen at.part at.pos (whole (st d is)) (whole (stands d is)))
-      → ((d : Files) (is : disk.held v.slots.disk ≡ Some d) (x : Item) → WithinWrite at.part at.pos x (whole (st d is)) (counted (st d is)) (counted (stands d is)))
+      → ((d : Files) (is : disk.held v.slots.disk ≡ Some d) (x : Item) → WithinWrite at.part at.pos x (whole (st d is)) (with_reference v.reads.vcr (counted (st d is))) (counted (stands d is)))
       → ((d : Files) → disk.held v.slots.disk ≡ Some d → (half_of at.part value).count ≤ at.pos) → v.reads.vcr + 1 < 2 ^ 64
       → IsCommit disk value reads r v n → OnOk r (IsTaken value reads v n) → Rises disk at r v n
   rises_by has within below low done taken = record {
@@ -253,19 +255,18 @@ module _ {D T E : Type 0} (disk : Ghosts D) (r : Result T E) (at : Place) (value
         absurd (omega (arith, low, most, ap (λ (y : Cartridge). y.vcr) t.2));
     crash = λ x c held.
         let t = held_is_whole disk v kept settled c held in
-        let from = counted (st t.0 t.1) in
+        let from = with_reference v.reads.vcr (counted (st t.0 t.1)) in
         let to = counted (stands t.0 t.1) in
         other_step
-        (λ before image left step.
-        let went : WithinWrite at.part at.pos x c before to =
-        subst (λ (y : Cartridge). WithinWrite at.part at.pos x c y to) (sym step.0)
-        (subst (λ (y : Cartridge). WithinWrite at.part at.pos x y from to) (sym t.2) (within t.0 t.1 x)) in
-        ⊎_elim
-        (λ (old : image ≡ from). subst (λ (y : Cartridge). WithinWrite at.part at.pos x c before y) (step.0 ∙ sym old)
+        (λ before image left step. ⊎_elim
+        (λ (old : image ≡ before). subst (λ (y : Cartridge). WithinWrite at.part at.pos x c before y) (sym old)
         (record { items = inl (refl, inl refl); rest = record { other_part = refl; note_ip = refl; note_dp = refl } }))
-        (λ (new : image ≡ to). subst (λ (y : Cartridge). WithinWrite at.part at.pos x c before y) (sym new) went)
-        step.1)
-        (done.crash t.0 from to t.1 (is_counted (st t.0 t.1)) (is_counted (stands t.0 t.1)));
+        (λ (new : (before ≡ from) × (image ≡ to)).
+        subst (λ (y : Cartridge). WithinWrite at.part at.pos x c before y) (sym new.1)
+        (subst (λ (y : Cartridge). WithinWrite at.part at.pos x c y to) (sym new.0)
+        (subst (λ (y : Cartridge). WithinWrite at.part at.pos x y from to) (sym t.2) (within t.0 t.1 x))))
+        step)
+        (done.crash t.0 (counted (st t.0 t.1)) to t.1 (is_counted (st t.0 t.1)) (is_counted (stands t.0 t.1)));
   }
 
 -- nothing was done
@@ -282,6 +283,18 @@ rises_not disk at why v = record {
       (λ image left. record { items = inl (refl, inl refl); rest = record { other_part = refl; note_ip = refl; note_dp = refl } });
 }
 
+-- where the header counts no item at a place, nor behind
+pub uncounted_at : {D : Type 0} (disk : Ghosts D) (at : Place) (v : View D) (kept : IsKept disk v) (settled : v.doubt ≡ Settled) → IsUncounted at v
+    → (d : Files) → disk.held v.slots.disk ≡ Some d → (half_of at.part v.base).count ≤ at.pos
+uncounted_at disk at v kept settled uncounted d told = ⊎_elim
+    (λ (one : (half_of at.part v.base).count ≤ at.pos). one)
+    (λ (two : (half_of at.part v.reads).count ≤ at.pos). fewer_of at.part two)
+    uncounted
+    where
+      fewer_of : (part : Part) → (half_of part v.reads).count ≤ at.pos → (half_of part v.base).count ≤ at.pos
+      fewer_of Ip two = omega (arith, two, (tells_of disk v kept settled d told).0.in_ip.fewer)
+      fewer_of Dp two = omega (arith, two, (tells_of disk v kept settled d told).0.in_dp.fewer)
+
 module _ {D T E : Type 0} (disk : Ghosts D) (r : Result T E) (at : Place) (base reads : SlotValue) (v w n : View D) (is : v ≡ w) (kept : IsKept disk v)
     (settled_w : w.doubt ≡ Settled) (vcr : ℕ) (next : vcr ≡ v.reads.vcr + 1) (range : vcr < 2 ^ 64) where
   settled_v : v.doubt ≡ Settled
@@ -292,11 +305,7 @@ module _ {D T E : Type 0} (disk : Ghosts D) (r : Result T E) (at : Place) (base 
   rises_uncut eb er uncounted done taken = subst (λ (x : View D). Rises disk at r x n) is
       (rises_by disk r at (with_vcr vcr v.base) (with_vcr vcr v.reads) v n kept settled_v (risen_stand disk v kept settled_v vcr next range)
       (risen_has disk v kept settled_v vcr next range at.part at.pos) (risen_within disk v kept settled_v vcr next range at.part at.pos)
-      (λ d told. ⊎_elim
-      (λ (one : (half_of at.part v.base).count ≤ at.pos). subst (λ (h : Half). h.count ≤ at.pos) (sym (half_with at.part vcr v.base)) one)
-      (λ (two : (half_of at.part v.reads).count ≤ at.pos).
-      subst (λ (h : Half). h.count ≤ at.pos) (sym (half_with at.part vcr v.base)) (fewer_of at.part d told two))
-      uncounted)
+      (λ d told. subst (λ (h : Half). h.count ≤ at.pos) (sym (half_with at.part vcr v.base)) (uncounted_at disk at v kept settled_v uncounted d told))
       (omega (arith, next, range))
       (back (λ b s x. IsCommit disk b s r x n) base reads (with_vcr vcr v.base) (with_vcr vcr v.reads) v w eb er is done)
       (back (λ b s x. OnOk r (IsTaken b s x n)) base reads (with_vcr vcr v.base) (with_vcr vcr v.reads) v w eb er is taken))
@@ -304,10 +313,6 @@ module _ {D T E : Type 0} (disk : Ghosts D) (r : Result T E) (at : Place) (base 
       half_with : (part : Part) (k : ℕ) (s : SlotValue) → half_of part (with_vcr k s) ≡ half_of part s
       half_with Ip k s = refl
       half_with Dp k s = refl
-
-      fewer_of : (part : Part) (d : Files) → disk.held v.slots.disk ≡ Some d → (half_of part v.reads).count ≤ at.pos → (half_of part v.base).count ≤ at.pos
-      fewer_of Ip d told two = omega (arith, two, (tells_of disk v kept settled_v d told).0.in_ip.fewer)
-      fewer_of Dp d told two = omega (arith, two, (tells_of disk v kept settled_v d told).0.in_dp.fewer)
 
   pub rises_cut : (end : ℕ) → IsCounted at end v → base ≡ cut_value at.part at.pos end (with_vcr vcr v.base) → reads ≡ cut_value at.part at.pos end (with_vcr vcr v.reads)
       → IsCommit disk base reads r w n → OnOk r (IsTaken base reads w n) → Rises disk at r w n

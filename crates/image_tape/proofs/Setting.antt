@@ -28,7 +28,7 @@ use Rattle.image_tape.specs.declared.doubt.Doubt.{Doubt}
 use Rattle.image_tape.specs.declared.doubt.Doubt.TheVariants.{Settled, Open}
 use Rattle.image_tape.specs.Halves.{with_serial}
 use Rattle.image_tape.specs.Steps.{FromTo, IsCommit, IsTaken, MayStand}
-use Rattle.image_tape.specs.Tape.{Agree, AheadOn, AlwaysOpens, CrashesAt, Holds, IsKept, SaysOne, Stands, Tells, View, cut_to, given, held_by, reading_by, says, with_reference}
+use Rattle.image_tape.specs.Tape.{Agree, AheadOn, AlwaysOpens, CrashesAt, Holds, IsKept, IsTold, SaysOne, Stands, Tells, View, cut_to, given, held_by, reading_by, says, with_reference}
 use Rattle.image_tape.proofs.Lifting.{goes_on, lifted, opened_left, same_cartridge, same_reference}
 use Rattle.image_tape.proofs.Moments.{earlier_on}
 use Rattle.image_tape.proofs.Opened.{agreed_opens, counted, is_counted}
@@ -240,6 +240,9 @@ module _ {D : Type 0} (disk : Ghosts D) (v : View D) (s : slot.View D) (value re
     is_to : counted (stands d is) ≡ to
     is_to = same_cartridge (image_by d (Some value)) to (counted (stands d is)) to_is (is_counted (stands d is))
 
+    now_told : IsTold disk s.disk
+    now_told = let t = done.told d is in (t.0, t.1)
+
     abbrev Came : Cartridge → Type 0
     Came c = (was : Cartridge) × AheadOn disk v.room.limits v.reads.vcr v.slots.disk was × FromTo (with_reference v.reads.vcr from) to was c
 
@@ -247,35 +250,35 @@ module _ {D : Type 0} (disk : Ghosts D) (v : View D) (s : slot.View D) (value re
     came_new : (before : Files) → disk.leaves v.slots.disk before → (c : Cartridge) → c ≡ counted (stands d is) → Came c
     came_new before was c same = (
       with_reference v.reads.vcr (counted (st0 d is)),
-      (counted (st0 d is), (before, was, before_opens d is before was), inr ((d, is), (st0 d is).vcr, refl)),
+      (counted (st0 d is), (before, was, before_opens d is before was, (d, is)), inr ((st0 d is).vcr, refl)),
       inr (ap (λ (x : Cartridge). with_reference v.reads.vcr x) is_from, same ∙ is_to),
     )
 
     each_set : (before left : Files) (c : Cartridge) → disk.leaves v.slots.disk before → WithinSet v.slots.value (slot.next_value v.slots.value rest) before left
-        → Opens v.room.limits left c → Came c
-    each_set before left c was within opens =
+        → Opens v.room.limits left c → IsTold disk v.slots.disk → Came c
+    each_set before left c was within opens told =
         let one = one_opens d is before left was within in
         let same : c ≡ one.0 = same_cartridge _ one.0 c one.1 opens in
         ⊎_elim
         (λ (old : one.0 ≡ counted (st0 d is)). (
           counted (st0 d is),
-          opened_left disk v.room.limits v.reads.vcr v.slots.disk (counted (st0 d is)) (before, was, before_opens d is before was),
+          opened_left disk v.room.limits v.reads.vcr v.slots.disk (counted (st0 d is)) (before, was, before_opens d is before was, (d, is)),
           inl (same ∙ old),
         ))
         (λ (new : one.0 ≡ counted (stands d is)). came_new before was c (same ∙ new))
         one.2
 
     -- where it is open which of the two there is, the reference reads as before
-    ahead_open : v.reads.vcr ≤ value.vcr → (left : Files) (c : Cartridge) (e : Files) → disk.held s.disk ≡ Some e → disk.leaves s.disk left → Opens v.room.limits left c
-        → c.vcr ≤ v.reads.vcr → Came (with_reference v.reads.vcr c)
-    ahead_open later left c e held now opens le =
+    ahead_open : v.reads.vcr ≤ value.vcr → (left : Files) (c : Cartridge) → disk.leaves s.disk left → Opens v.room.limits left c
+        → IsTold disk v.slots.disk → c.vcr ≤ v.reads.vcr → Came (with_reference v.reads.vcr c)
+    ahead_open later left c now opens told le =
         let came = (done.crash d is).now left now in
         let one = one_opens d is came.0 left came.1 came.2 in
         let same : c ≡ one.0 = same_cartridge _ one.0 c one.1 opens in
         ⊎_elim
         (λ (old : one.0 ≡ counted (st0 d is)). (
           with_reference v.reads.vcr (counted (st0 d is)),
-          (counted (st0 d is), (came.0, came.1, before_opens d is came.0 came.1), inr ((d, is), (st0 d is).vcr, refl)),
+          (counted (st0 d is), (came.0, came.1, before_opens d is came.0 came.1, (d, is)), inr ((st0 d is).vcr, refl)),
           inl (ap (λ (x : Cartridge). with_reference v.reads.vcr x) (same ∙ old)),
         ))
         (λ (new : one.0 ≡ counted (stands d is)).
@@ -285,20 +288,20 @@ module _ {D : Type 0} (disk : Ghosts D) (v : View D) (s : slot.View D) (value re
 
     -- where it is set it has the reference that reads
     ahead_set : value.vcr ≡ reads.vcr → ((left : Files) → disk.leaves s.disk left → header v.room.limits left.cm ≡ Some value)
-        → (left : Files) (c : Cartridge) (e : Files) → disk.held s.disk ≡ Some e → disk.leaves s.disk left → Opens v.room.limits left c
-        → c.vcr ≤ reads.vcr → Came (with_reference reads.vcr c)
-    ahead_set same_vcr headed left c e held now opens le =
+        → (left : Files) (c : Cartridge) → disk.leaves s.disk left → Opens v.room.limits left c
+        → IsTold disk v.slots.disk → c.vcr ≤ reads.vcr → Came (with_reference reads.vcr c)
+    ahead_set same_vcr headed left c now opens told le =
         let came = (done.crash d is).now left now in
         let new = agreed_opens (stands d is) left (agree_back d (stands d is) came.0 left came.1 came.2.0 came.2.1) (headed left now) in
         let same : c ≡ counted (stands d is) = same_cartridge _ (counted (stands d is)) c new opens in
         came_new came.0 came.1 (with_reference reads.vcr c) (same_reference reads.vcr c (sym same_vcr ∙ sym (ap (λ (x : Cartridge). x.vcr) same)) ∙ same)
 
     crashes_open : v.reads.vcr ≤ value.vcr → CrashesAt disk v.room.limits (FromTo (with_reference v.reads.vcr from) to) v.reads.vcr v.slots.disk v.reads.vcr s.disk
-    crashes_open later = lifted disk v.room.limits v.reads.vcr v.reads.vcr v.slots.disk s.disk (done.crash d is) each_set (ahead_open later)
+    crashes_open later = lifted disk v.room.limits v.reads.vcr v.reads.vcr v.slots.disk s.disk (done.crash d is) (λ told. (d, is)) (λ told. now_told) each_set (ahead_open later)
 
     crashes_set : value.vcr ≡ reads.vcr → ((left : Files) → disk.leaves s.disk left → header v.room.limits left.cm ≡ Some value)
         → CrashesAt disk v.room.limits (FromTo (with_reference v.reads.vcr from) to) v.reads.vcr v.slots.disk reads.vcr s.disk
-    crashes_set same_vcr headed = lifted disk v.room.limits v.reads.vcr reads.vcr v.slots.disk s.disk (done.crash d is) each_set (ahead_set same_vcr headed)
+    crashes_set same_vcr headed = lifted disk v.room.limits v.reads.vcr reads.vcr v.slots.disk s.disk (done.crash d is) (λ told. (d, is)) (λ told. now_told) each_set (ahead_set same_vcr headed)
 
   pub is_set : (room : Offsets) (doubt : Doubt) → doubt ≡ Settled → room.limits ≡ v.room.limits → value.vcr ≡ reads.vcr
       → IsKept disk (set_view room doubt) → IsCommit {T = Unit {0}} {E = DriveErr} disk value reads (Ok tt) v (set_view room doubt)

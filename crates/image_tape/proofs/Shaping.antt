@@ -23,8 +23,9 @@ use Rattle.image_format.specs.Records.{AreRecords, head_bytes, record_bytes, wid
 use Rattle.image_tape.specs.declared.doubt.Doubt.{Doubt}
 use Rattle.image_tape.specs.declared.doubt.Doubt.TheVariants.{Settled}
 use Rattle.image_tape.specs.Halves.{ended, half_of, with_half}
+use Rattle.crash_steps.specs.Crashes.{NothingNew}
 use Rattle.image_tape.specs.Steps.{IsAlike}
-use Rattle.image_tape.specs.Tape.{AlwaysOpens, Holds, IsKept, Lie, Stands, Suits, Tells, View, given, held_by, held_of, reading_by}
+use Rattle.image_tape.specs.Tape.{AlwaysOpens, CrashesAt, Holds, IsKept, Lie, Stands, Suits, Tells, View, given, held_by, held_of, reading_by}
 use Rattle.image_tape.specs.Writes.{Cuts, HasItems, Hides, IsPlace, Puts, StandBehind, cut_value, put_items}
 use Rattle.image_tape.proofs.Fronts.{all_bytes, fewer_offsets, fewer_records, offset_is, offsets_more, one_more_record}
 use Rattle.image_tape.proofs.Opened.{is_whole, whole}
@@ -118,6 +119,11 @@ same_limits : (part : Part) (l : List ℕ) (room : Offsets) → (with_offsets pa
 same_limits Ip l room = refl
 same_limits Dp l room = refl
 
+-- the reference stays
+half_number : (part : Part) (h : Half) (s : SlotValue) → (with_half part h s).vcr ≡ s.vcr
+half_number Ip h s = refl
+half_number Dp h s = refl
+
 module _ {D : Type 0} (disk : Ghosts D) where
   abbrev pub shaped : SlotValue → Offsets → View D → View D
   shaped reads room v = record {
@@ -144,6 +150,7 @@ module _ {D : Type 0} (disk : Ghosts D) where
         suits = subst (λ (o : Doubt). Suits o (shaped reads room v)) (sym settled) (subst (λ (o : Doubt). Suits o v) settled kept.suits);
         reached = kept.reached;
         always = subst (λ (l : Limits). AlwaysOpens disk l v.opened v.slots.disk) (sym same) kept.always;
+        past = kept.past;
         tells = λ d is.
             let h = tells_of disk v kept settled d is in
             subst (λ (o : Doubt). Tells o (shaped reads room v) (disk.leaves v.slots.disk) d) (sym settled) (
@@ -354,6 +361,7 @@ module _ {D : Type 0} (disk : Ghosts D) where
           stays = record { limits = limits_same; head = refl; faults = refl; opened = refl };
           disk_is = refl;
           base = refl;
+          vcr = half_number at.part (ended at.pos end false (half_of at.part v.reads)) v.reads;
           doubt = refl;
           untold = λ none. untold_held disk (shaped reads' room' v) (none_held disk v kept settled none);
           told = λ c held.
@@ -375,6 +383,7 @@ module _ {D : Type 0} (disk : Ghosts D) where
       stays = record { limits = refl; head = refl; faults = refl; opened = refl };
       disk_is = refl;
       base = refl;
+      vcr = refl;
       doubt = refl;
       untold = λ none. none;
       told = λ c held.
@@ -417,11 +426,12 @@ module _ {D : Type 0} (disk : Ghosts D) (part : Part) (a v w : View D) (is : v �
   halves = ap (λ (s : SlotValue). half_of part s) alike.reads
 
   puts_by : {T : Type 0} (r : Result T DriveErr) (reads' : SlotValue) (room' : Offsets) (may : MayRead disk reads' room' v) → room'.limits ≡ v.room.limits
+      → reads'.vcr ≡ v.reads.vcr
       → ((d : Files) (held : disk.held v.slots.disk ≡ Some d)
       → HasItems part (put_items r x (records_of part (st0 disk v kept settled d held))) (whole (st0 disk v kept settled d held)) (whole (may d held)))
       → OnOk r ((half_of part reads').torn ≡ false) → OnOk r ((half_of part reads').count ≡ (half_of part a.reads).count + 1)
       → Puts disk part x r a (shaped disk reads' room' v)
-  puts_by r reads' room' may same has torn more = record {
+  puts_by r reads' room' may same number has torn more = record {
     stays = record { limits = same ∙ hides.stays.limits; head = hides.stays.head; faults = hides.stays.faults; opened = hides.stays.opened };
     count = hides.count;
     settled = settled;
@@ -436,7 +446,7 @@ module _ {D : Type 0} (disk : Ghosts D) (part : Part) (a v w : View D) (is : v �
           held_shaped disk v reads' room' settled t.0 t.1 may,
           subst (λ (y : Cartridge). HasItems part (put_items r x (records_of part st)) y e) (sym t.2) (has t.0 t.1),
         );
-    crash = hides.crash;
+    crash = λ c held. subst (λ (n : ℕ). CrashesAt disk a.room.limits NothingNew a.reads.vcr a.slots.disk n v.slots.disk) (sym number) (hides.crash c held);
     whole = torn;
     one_more = more;
   }
@@ -472,7 +482,7 @@ module _ {D : Type 0} (disk : Ghosts D) (part : Part) (a v w : View D) (is : v �
       let same = same_limits part (offsets_of part v.room ++ (half_of part v.reads).end ∷ []) v.room in
       let kept' = kept_shaped disk v reads' room' kept settled (more_holds disk v kept settled part count end more space_v) same may in
       let set = half_set part (ended count end false (half_of part v.reads)) v.reads in
-      let done = puts_by {T = Unit {0}} (Ok tt) reads' room' may same (more_items disk v kept settled part count end x sound more ends stand)
+      let done = puts_by {T = Unit {0}} (Ok tt) reads' room' may same (half_number part (ended count end false (half_of part v.reads)) v.reads) (more_items disk v kept settled part count end x sound more ends stand)
       (ap (λ (h : Half). h.torn) set) (ap (λ (h : Half). h.count) set ∙ more ∙ ap (λ (h : Half). h.count + 1) halves) in (
         subst (λ (o : Offsets). IsKept disk (shaped disk reads o v)) (sym er) (subst (λ (s : SlotValue). IsKept disk (shaped disk s room' v)) (sym es) kept'),
         subst (λ (o : Offsets). Puts {T = Unit {0}} {E = DriveErr} disk part x (Ok tt) a (shaped disk reads o v)) (sym er)
@@ -489,7 +499,7 @@ module _ {D : Type 0} (disk : Ghosts D) (part : Part) (a v w : View D) (is : v �
       let space_v : (half_of part v.reads).count < capacity part v.room.limits =
       omega (arith, space, ap (λ (h : Half). h.count) halves, ap (λ (l : Limits). capacity part l) hides.stays.limits) in
       let kept' = kept_shaped disk v reads' v.room kept settled (torn_holds disk v kept settled part count end same space_v) refl may in
-      let done = puts_by {T = Unit {0}} (Err why) reads' v.room may refl (torn_items disk v kept settled part count end same ends) tt tt in (
+      let done = puts_by {T = Unit {0}} (Err why) reads' v.room may refl (half_number part (ended count end true (half_of part v.reads)) v.reads) (torn_items disk v kept settled part count end same ends) tt tt in (
         subst (λ (s : SlotValue). IsKept disk (shaped disk s v.room v)) (sym es) kept',
         subst (λ (s : SlotValue). Puts {T = Unit {0}} {E = DriveErr} disk part x (Err why) a (shaped disk s v.room v)) (sym es) done,
       )

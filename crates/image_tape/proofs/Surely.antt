@@ -237,15 +237,15 @@ module _ {D : Type 0} (disk : Ghosts D) where
       → (image : Cartridge) → AheadOn disk v.room.limits reads.vcr v.slots.disk image → LeavesOf disk v image
   left_after v value reads s kept unsure found isnt image h = ⊎_elim
       (λ (it : image ≡ h.0). (h.0, h.1, inl it))
-      (λ (ahead : ((d : Files) × (disk.held v.slots.disk ≡ Some d)) × (h.0.vcr ≤ reads.vcr) × (image ≡ with_reference reads.vcr h.0)).
-      let d = ahead.0.0 in
-      let told = ahead.0.1 in
+      (λ (ahead : (h.0.vcr ≤ reads.vcr) × (image ≡ with_reference reads.vcr h.0)).
+      let d = h.1.3.0 in
+      let told = h.1.3.1 in
       let t = opened_tells v value reads kept unsure d told in
       let same : s ≡ value = other_by_number v.room.limits v.base value s d t.2 (found.reads d told) isnt in
       let head : header v.room.limits h.1.0.cm ≡ Some value =
       subst (λ (x : SlotValue). header v.room.limits h.1.0.cm ≡ Some x) same (found.left d h.1.0 told h.1.1) in
       let one : h.0 ≡ counted t.1 = same_cartridge _ (counted t.1) h.0 (agreed_opens t.1 h.1.0 (t.1.agree h.1.0 h.1.1) head) h.1.2 in
-      (h.0, h.1, inl (ahead.2 ∙ same_reference reads.vcr h.0 (sym (ap (λ (x : Cartridge). x.vcr) one ∙ t.5)))))
+      (h.0, h.1, inl (ahead.1 ∙ same_reference reads.vcr h.0 (sym (ap (λ (x : Cartridge). x.vcr) one ∙ t.5)))))
       h.2
 
   pub chosen_after : (v w : View D) (value reads s : SlotValue) (room : Offsets) → v ≡ w → IsKept disk v → v.doubt ≡ Open value reads → IsFound disk v s

@@ -68,8 +68,8 @@ module _ {D : Type 0} (disk : Ghosts D) where
       let one : left.0 ≡ counted (tells_of v kept settled d is).0 = left_counted v kept settled d is left.0 left.1 in
       ⊎_elim
       (λ (it : image ≡ left.0). it ∙ one)
-      (λ (ahead : ((e : Files) × (disk.held v.slots.disk ≡ Some e)) × (left.0.vcr ≤ v.reads.vcr) × (image ≡ with_reference v.reads.vcr left.0)).
-      ahead.2 ∙ same_reference v.reads.vcr left.0 (sym same ∙ sym (ap (λ (x : Cartridge). x.vcr) one)) ∙ one)
+      (λ (ahead : (left.0.vcr ≤ v.reads.vcr) × (image ≡ with_reference v.reads.vcr left.0)).
+      ahead.1 ∙ same_reference v.reads.vcr left.0 (sym same ∙ sym (ap (λ (x : Cartridge). x.vcr) one)) ∙ one)
       left.2
 
   sure_by : (v : View D) → IsKept disk v → IsSteady v → (o : Option Cartridge) → held_of disk v ≡ o → IsSettled o (LeavesOf disk v)

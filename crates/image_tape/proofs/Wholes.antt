@@ -26,7 +26,9 @@ use Rattle.image_tape.specs.declared.doubt.Doubt.TheVariants.{Settled}
 use Rattle.image_tape.specs.Halves.{noted, with_note, with_serial, with_vcr}
 use Rattle.image_tape.specs.Steps.{AfterCommit, AreStored, IsCommit, IsNoteSet, IsSteady, IsStored, IsTaken, Looks, MayStand}
 use Rattle.image_tape.specs.Tape.{CrashesOn, Holds, IsKept, LeavesOf, Lie, Stands, View, cut_to, held_by, held_of, with_reference}
+use Rattle.crash_steps.specs.Crashes.{NothingNew}
 use Rattle.image_tape.proofs.Fronts.{all_bytes}
+use Rattle.image_tape.proofs.Lifting.{lifted_untold}
 use Rattle.image_tape.proofs.Opened.{counted, is_counted, is_whole, whole}
 use Rattle.image_tape.proofs.Telling.{held_is_whole, held_whole, left_known, tells_of}
 
@@ -342,23 +344,35 @@ module _ {D : Type 0} (disk : Ghosts D) (w : View D) (kept : IsKept disk w) (set
   unfolding vcr_stand
   counted_vcr d is = refl
 
-  -- where no files are told nothing is known of what is left, so nothing is done
-  pub vcr_looks : {T E : Type 0} (r : Result T E) (n : View D) → (d : Files) → disk.held w.slots.disk ≡ Some d
-      → IsCommit disk vcr_value w.reads r w n → Looks disk 6 w n
-  vcr_looks r n d is done =
+  vcr_told : {T E : Type 0} (r : Result T E) (n : View D) → IsCommit disk vcr_value w.reads r w n → (d : Files) → disk.held w.slots.disk ≡ Some d
+      → (held_of disk n ≡ held_of disk w) × CrashesOn disk w.room.limits NothingNew w n
+  vcr_told r n done d is =
       let st = (tells_of disk w kept settled d is).0 in
-      let st1 = vcr_stand d is in
-      record {
-        stays = done.stays;
-        held = after_same disk r (whole st) (held_of disk n) (done.told d (whole st) (whole st) is (is_whole st) (is_whole st)) ∙ sym (held_whole disk w kept settled d is);
-        count = done.count;
-        crash = other_step
+      let st1 = vcr_stand d is in (
+        after_same disk r (whole st) (held_of disk n) (done.told d (whole st) (whole st) is (is_whole st) (is_whole st)) ∙ sym (held_whole disk w kept settled d is),
+        other_step
             (λ before image left step. ⊎_elim
             (λ (old : image ≡ before). old)
             (λ (new : (before ≡ with_reference w.reads.vcr (counted st)) × (image ≡ counted st1)). new.1 ∙ counted_vcr d is ∙ sym new.0)
             step)
-            (done.crash d (counted st) (counted st1) is (is_counted st) (is_counted st1));
-      }
+            (done.crash d (counted st) (counted st1) is (is_counted st) (is_counted st1)),
+      )
+
+  vcr_untold : {T E : Type 0} (r : Result T E) (n : View D) → IsCommit disk vcr_value w.reads r w n → disk.held w.slots.disk ≡ None
+      → (held_of disk n ≡ held_of disk w) × CrashesOn disk w.room.limits NothingNew w n
+  vcr_untold r n done none = (
+    untold_held disk n (done.untold none) ∙ sym (untold_held disk w none),
+    lifted_untold disk w.room.limits w.reads.vcr n.reads.vcr w.slots.disk n.slots.disk
+        (λ told. let bad : None ≡ Some told.0 = sym none ∙ told.1 in cc bad)
+        (λ told. let bad : None ≡ Some told.0 = sym (done.untold none) ∙ told.1 in cc bad),
+  )
+
+  -- the cartridge reads as it did, and nothing new is left
+  pub vcr_looks : {T E : Type 0} (r : Result T E) (n : View D) → IsCommit disk vcr_value w.reads r w n → Looks disk 6 w n
+  vcr_looks r n done =
+      let both = ⊎_elim (vcr_untold r n done) (λ (t : (d : Files) × (disk.held w.slots.disk ≡ Some d)). vcr_told r n done t.0 t.1)
+      (told_or_not disk w (disk.held w.slots.disk) refl) in
+      record { stays = done.stays; held = both.0; count = done.count; crash = both.1 }
 
 -- what is said of values and of a tape is said of their equals
 pub there : {D : Type 0} (P : SlotValue → SlotValue → View D → Type 0) (base reads base' reads' : SlotValue) (v w : View D) → base ≡ base' → reads ≡ reads' → v ≡ w

@@ -16,7 +16,7 @@ use Rattle.byte_disk.specs.declared.disk.ByteDisk.{Ghosts}
 use Rattle.image_slots.proofs.Chains.{more_at_most, then_at_most}
 use Rattle.image_slots.specs.Pieces.{AtMost}
 use Rattle.image_tape.specs.Steps.{Looks, Stays}
-use Rattle.image_tape.specs.Tape.{CrashesOn, View}
+use Rattle.image_tape.specs.Tape.{CrashesAt, CrashesOn, View}
 use Rattle.image_tape.specs.Writes.{Appended, Appends, Cuts, HasItems, HasRisen, Replaces, Rises, Writes}
 
 then_rest : (part : Part) (a b c : Cartridge) → KeepsRest part a b → KeepsRest part b c → KeepsRest part a c
@@ -97,8 +97,9 @@ module _ {D T E : Type 0} (disk : Ghosts D) (at : Place) (x : Item) (r : Result 
         );
     crash = λ c held.
         let m = cut.told c held in
-        subst (λ (k : D). CrashesOn disk a.room.limits NothingNew k n.slots.disk) (ap (λ s. s.disk) cut.disk_is)
-        (subst (λ (l : Limits). CrashesOn disk l NothingNew b.slots.disk n.slots.disk) cut.stays.limits (appended.crash m.0 m.1));
+        subst (λ (k : ℕ). CrashesAt disk a.room.limits NothingNew k a.slots.disk n.reads.vcr n.slots.disk) cut.vcr
+        (subst (λ (k : D). CrashesAt disk a.room.limits NothingNew b.reads.vcr k n.reads.vcr n.slots.disk) (ap (λ s. s.disk) cut.disk_is)
+        (subst (λ (l : Limits). CrashesOn disk l NothingNew b n) cut.stays.limits (appended.crash m.0 m.1)));
   }
 
   pub writes_by : {U : Type 0} (first : Result U E) (u : U) → Rises {T = U} {E = E} disk at (Ok u) a b → Replaces disk at x r b n → Writes disk 10 at x r a n
@@ -114,7 +115,7 @@ module _ {D T E : Type 0} (disk : Ghosts D) (at : Place) (x : Item) (r : Result 
     crash = λ c held.
         let m = rise.told c held in
         joined (λ y z step. step) (λ y z w step same. subst (λ (k : Cartridge). WithinWrite at.part at.pos x c y k) (sym same) step) rise.count.later (rise.crash x c held)
-        (subst (λ (l : Limits). CrashesOn disk l NothingNew b.slots.disk n.slots.disk) rise.stays.limits (replaced.crash m.0 m.1));
+        (subst (λ (l : Limits). CrashesOn disk l NothingNew b n) rise.stays.limits (replaced.crash m.0 m.1));
   }
 
 pub not_written : {D T E : Type 0} (disk : Ghosts D) (at : Place) (x : Item) (why : E) (a b : View D) → Rises {T = T} disk at (Err why) a b
@@ -138,5 +139,5 @@ written_after disk at x r m n a b c first second = record {
   told = λ y held. second.told y (first.held ∙ held);
   at_end = λ y held most. second.at_end y (first.held ∙ held) most;
   crash = λ y held. behind_looks (λ image. still at.part at.pos x y image) first.count.later first.crash
-      (subst (λ (l : Limits). CrashesOn disk l (WithinWrite at.part at.pos x y) b.slots.disk c.slots.disk) first.stays.limits (second.crash y (first.held ∙ held)));
+      (subst (λ (l : Limits). CrashesOn disk l (WithinWrite at.part at.pos x y) b c) first.stays.limits (second.crash y (first.held ∙ held)));
 }

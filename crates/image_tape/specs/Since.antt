@@ -12,7 +12,7 @@ use Rattle.image_tape.specs.Tape.{LeavesOf, LeftSince, View, WasLeft}
 pub only_now : {D : Type 0} (disk : Ghosts D) (v : View D) (image : Cartridge)
     → ((left : Files) → disk.left_since v.slots.disk (disk.commands v.slots.disk) left → disk.leaves v.slots.disk left)
     → disk.commands v.slots.disk < 2 ^ 64 - 1 → LeftSince disk v (disk.commands v.slots.disk) image → LeavesOf disk v image
-only_now disk v image only less (inl h) = (image, (h.0, only h.0 h.1, h.2), inl refl)
+only_now disk v image only less (inl h) = (image, (h.0, only h.0 h.1, h.2, h.3), inl refl)
 only_now disk v image only less (inr (inl h)) = h
 only_now disk v image only less (inr (inr h)) = absurd (omega (arith, less, h.0))
 
@@ -26,7 +26,7 @@ was_lower disk limits (m ∷ ms) t u image le (inr h) = inr (was_lower disk limi
 pub lower : {D : Type 0} (disk : Ghosts D) (v : View D) (t u : ℕ) (image : Cartridge) → t ≤ u
     → ((left : Files) → disk.left_since v.slots.disk u left → disk.left_since v.slots.disk t left)
     → LeftSince disk v u image → LeftSince disk v t image
-lower disk v t u image le less (inl h) = inl (h.0, less h.0 h.1, h.2)
+lower disk v t u image le less (inl h) = inl (h.0, less h.0 h.1, h.2, h.3)
 lower disk v t u image le less (inr (inl h)) = inr (inl h)
 lower disk v t u image le less (inr (inr h)) =
     inr (inr (omega (arith, le, h.0), was_lower disk v.room.limits v.past t u image le h.1))

@@ -62,26 +62,29 @@ held_by v (Some d) = given (image_by d (Some (reading v d)))
 abbrev pub held_of : {D : Type 0} → Ghosts D → View D → Option Cartridge
 held_of disk v = held_by v (disk.held v.slots.disk)
 
--- a crash leaves files that open as this cartridge
+-- the disk tells its files
+abbrev pub IsTold : {D : Type 0} → Ghosts D → D → Type 0
+IsTold disk b = (d : Files) × (disk.held b ≡ Some d)
+
+-- a crash leaves files that open as this cartridge; of a disk that doesn't tell its files nothing is said
 abbrev pub LeavesOn : {D : Type 0} → Ghosts D → Limits → D → Cartridge → Type 0
-LeavesOn disk limits b c = (image : Files) × disk.leaves b image × Opens limits image c
+LeavesOn disk limits b c = (image : Files) × disk.leaves b image × Opens limits image c × IsTold disk b
 
 abbrev pub SinceOn : {D : Type 0} → Ghosts D → Limits → D → ℕ → Cartridge → Type 0
-SinceOn disk limits b t c = (image : Files) × disk.left_since b t image × Opens limits image c
+SinceOn disk limits b t c = (image : Files) × disk.left_since b t image × Opens limits image c × IsTold disk b
 
 -- the cartridge with another reference
 abbrev pub with_reference : ℕ → Cartridge → Cartridge
 with_reference vcr c = record { ip = c.ip; dp = c.dp; vcr = vcr; note_ip = c.note_ip; note_dp = c.note_dp }
 
--- the cartridge, or where the disk tells its files the same with a later reference, the one that reads
-abbrev pub IsAhead : {D : Type 0} → Ghosts D → (vcr : ℕ) → D → Cartridge → Cartridge → Type 0
-IsAhead disk vcr b c image = (image ≡ c)
-    ⊎ (((d : Files) × (disk.held b ≡ Some d)) × (c.vcr ≤ vcr) × (image ≡ with_reference vcr c))
+-- the cartridge, or the same with this reference, if it isn't earlier
+abbrev pub IsAhead : (vcr : ℕ) → Cartridge → Cartridge → Type 0
+IsAhead vcr c image = (image ≡ c) ⊎ ((c.vcr ≤ vcr) × (image ≡ with_reference vcr c))
 
 -- What a crash leaves is taken as it opens, or with the reference that reads, which the header may come to have before
 -- anything else of it changes.
 abbrev pub AheadOn : {D : Type 0} → Ghosts D → Limits → (vcr : ℕ) → D → Cartridge → Type 0
-AheadOn disk limits vcr b image = (c : Cartridge) × LeavesOn disk limits b c × IsAhead disk vcr b c image
+AheadOn disk limits vcr b image = (c : Cartridge) × LeavesOn disk limits b c × IsAhead vcr c image
 
 -- what a crash may leave of a tape
 abbrev pub LeavesOf : {D : Type 0} → Ghosts D → View D → Cartridge → Type 0

@@ -72,8 +72,8 @@ impl<B: ByteDisk> ImageTape<B> {
         requires { self.old.doubt ≡ Settled }
         ensures { IsNoteSet B.ByteDisk part note result self.old self.new }
     {
-        let vcr = self.reads.vcr;
-        let base = with_vcr(vcr, &with_note(part, note, &self.base));
+        let noted = with_note(part, note, &self.base);
+        let base = with_vcr(self.reads.vcr, &noted);
         let reads = with_note(part, note, &self.reads);
         self.commit(base, reads)
     }

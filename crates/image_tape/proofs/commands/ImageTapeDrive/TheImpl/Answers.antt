@@ -1,5 +1,6 @@
 -- Each command does what the trait asks.
-use Rattle.image_tape.proofs.Ending.{crash_at, ends_read, heads_read, items_read}
+use Rattle.image_tape.proofs.Ending.{ends_read, heads_read, items_read}
+use Rattle.image_tape.proofs.Moments.{crash_at}
 use Rattle.image_tape.proofs.commands.ImageTapeDrive.TheImpl.Goals as goal
 
 pub locate-tells : goal.locate-tells

@@ -1,5 +1,5 @@
 use Rattle.tape_types.specs.Cartridges.{next}
-use Rattle.image_tape.proofs.Ending.{ended_at, wrote_badly, wrote_not, wrote_well}
+use Rattle.image_tape.proofs.Ending.{early_then, ended_at, wrote_badly, wrote_not, wrote_well}
 use Rattle.image_tape.proofs.Spots.{room_small}
 use Rattle.image_tape.proofs.tape.ImageTape.put_item.Goals as goal
 
@@ -8,14 +8,29 @@ next-behind-requires g c = room_small g.B.ByteDisk c.args.at _ _ c.self.view_is 
 
 pub returns-in-Ok-write_at : goal.returns-in-Ok-write_at
 returns-in-Ok-write_at g c = λ x sound same.
-    wrote_well g.B.ByteDisk c.args.at x c.args.self.now c.begin.new.self c.write_at.new.self c.end.new.self c.in-Ok.ensures.looks c.in-Ok.ensures.rose tt
-    (c.in-Ok-write_at.ensures x sound same) (ended_at g.B.ByteDisk c.next-behind.result (next c.args.at) _ _ c.next-behind.ensures c.end.ensures)
+    wrote_well g.B.ByteDisk c.args.at x c.args.self.now c.begin.new.self c.write_at.new.self c.end.new.self c.in-Ok.ensures.looks c.in-Ok.ensures.rose c.moment-past.result.items c.moment-past.ensures tt
+    (c.in-Ok-write_at.ensures x sound same) (ended_at g.B.ByteDisk c.next-behind.result (next c.args.at) _ _ _ c.next-behind.ensures c.end.ensures)
 
 pub returns-in-Err-write_at : goal.returns-in-Err-write_at
 returns-in-Err-write_at g c = λ x sound same.
-    wrote_badly g.B.ByteDisk c.args.at x c.args.self.now c.begin.new.self c.write_at.new.self c.fail.new.self c.in-Ok.ensures.looks c.in-Ok.ensures.rose c.in-Err-write_at.why
+    wrote_badly g.B.ByteDisk c.args.at x c.args.self.now c.begin.new.self c.write_at.new.self c.fail.new.self c.in-Ok.ensures.looks c.in-Ok.ensures.rose c.moment-past.result.items c.moment-past.ensures c.in-Err-write_at.why
     (c.in-Err-write_at.ensures x sound same) c.fail.ensures
 
 pub returns-in-Err : goal.returns-in-Err
 returns-in-Err g c = λ x sound same.
-    wrote_not g.B.ByteDisk c.args.at x c.args.self.now c.begin.new.self c.fail-in-Err.new.self c.in-Err.ensures.looks c.in-Err.ensures.rose c.in-Err.why c.fail-in-Err.ensures
+    wrote_not g.B.ByteDisk c.args.at x c.args.self.now c.begin.new.self c.fail-in-Err.new.self c.in-Err.ensures.looks c.in-Err.ensures.rose c.moment-past.result.items c.moment-past.ensures c.in-Err.why c.fail-in-Err.ensures
+
+pub end-requires : goal.end-requires
+end-requires g c =
+    early_then g.B.ByteDisk _ _ c.begin.new.self c.write_at.new.self c.moment-past.result.items c.self.view_is c.self.invariant c.moment-past.ensures c.in-Ok.ensures.looks c.in-Ok.ensures.rose
+    ((c.in-Ok-write_at.ensures c.requires.sound.0 c.requires.sound.1 c.requires.sound.2).count.later)
+
+pub fail-requires : goal.fail-requires
+fail-requires g c =
+    early_then g.B.ByteDisk _ _ c.begin.new.self c.write_at.new.self c.moment-past.result.items c.self.view_is c.self.invariant c.moment-past.ensures c.in-Ok.ensures.looks c.in-Ok.ensures.rose
+    ((c.in-Err-write_at.ensures c.requires.sound.0 c.requires.sound.1 c.requires.sound.2).count.later)
+
+pub fail-in-Err-requires : goal.fail-in-Err-requires
+fail-in-Err-requires g c =
+    early_then g.B.ByteDisk _ _ c.begin.new.self c.begin.new.self c.moment-past.result.items c.self.view_is c.self.invariant c.moment-past.ensures c.in-Err.ensures.looks c.in-Err.ensures.rose
+    (omega arith)

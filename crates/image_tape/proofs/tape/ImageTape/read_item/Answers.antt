@@ -1,18 +1,33 @@
 use Rattle.std.proofs.Common.{arith}
-use Rattle.image_tape.proofs.Ending.{read_badly, read_late, read_well}
+use Rattle.image_tape.proofs.Ending.{early_then, read_badly, read_late, read_well}
 use Rattle.image_tape.proofs.tape.ImageTape.read_item.Goals as goal
 
 pub returns-in-Ok-read_at-clause-ran : goal.returns-in-Ok-read_at-clause-ran
 returns-in-Ok-read_at-clause-ran g c =
     read_well g.B.ByteDisk c.args.at c.in-Ok-read_at.got c.in-Ok-read_at.place c.read_at.new.buf.items c.args.self.now c.begin.new.self c.read_at.new.self c.end.new.self
-    c.in-Ok.ensures.looks c.in-Ok.ensures.rose c.in-Ok.ensures.settled c.in-Ok-read_at.ensures.reading c.read_at.ensures.looks c.in-Ok-read_at.ensures.place c.end.ensures
+    c.in-Ok.ensures.looks c.in-Ok.ensures.rose c.in-Ok.ensures.settled c.in-Ok-read_at.ensures.reading c.read_at.ensures.looks c.in-Ok-read_at.ensures.place c.moment-past.result.items c.moment-past.ensures c.end.ensures
 
 pub returns-in-Err-read_at-clause-ran : goal.returns-in-Err-read_at-clause-ran
 returns-in-Err-read_at-clause-ran g c =
     read_late g.B.ByteDisk c.args.at c.in-Err-read_at.why c.read_at.new.buf.items c.args.self.now c.begin.new.self c.read_at.new.self c.fail.new.self c.in-Ok.ensures.looks
-    c.in-Ok.ensures.rose c.read_at.ensures.looks c.fail.ensures
+    c.in-Ok.ensures.rose c.read_at.ensures.looks c.moment-past.result.items c.moment-past.ensures c.fail.ensures
 
 pub returns-in-Err-clause-ran : goal.returns-in-Err-clause-ran
 returns-in-Err-clause-ran g c =
-    read_badly g.B.ByteDisk c.args.at c.in-Err.why _ 3 c.args.self.now c.begin.new.self c.fail-in-Err.new.self (omega arith) c.in-Err.ensures.looks c.in-Err.ensures.rose
+    read_badly g.B.ByteDisk c.args.at c.in-Err.why _ 3 c.args.self.now c.begin.new.self c.fail-in-Err.new.self (omega arith) c.in-Err.ensures.looks c.in-Err.ensures.rose c.moment-past.result.items c.moment-past.ensures
     c.fail-in-Err.ensures
+
+pub end-requires : goal.end-requires
+end-requires g c =
+    early_then g.B.ByteDisk _ _ c.begin.new.self c.read_at.new.self c.moment-past.result.items c.self.view_is c.self.invariant c.moment-past.ensures c.in-Ok.ensures.looks c.in-Ok.ensures.rose
+    (c.read_at.ensures.looks.count.later)
+
+pub fail-requires : goal.fail-requires
+fail-requires g c =
+    early_then g.B.ByteDisk _ _ c.begin.new.self c.read_at.new.self c.moment-past.result.items c.self.view_is c.self.invariant c.moment-past.ensures c.in-Ok.ensures.looks c.in-Ok.ensures.rose
+    (c.read_at.ensures.looks.count.later)
+
+pub fail-in-Err-requires : goal.fail-in-Err-requires
+fail-in-Err-requires g c =
+    early_then g.B.ByteDisk _ _ c.begin.new.self c.begin.new.self c.moment-past.result.items c.self.view_is c.self.invariant c.moment-past.ensures c.in-Err.ensures.looks c.in-Err.ensures.rose
+    (omega arith)
