@@ -1,5 +1,5 @@
 -- A tape that is opened is one.
-use Rattle.std.proofs.Common.{◌≡◌, ℕ, ◌+◌, ◌-◌, ◌^◌, ◌<◌, ◌≤◌, Bool, true, false, ◌&&◌, nat_lt, nat_le, List, take, length, Option, Some, None, Result, Ok, Err, refl, sym, ap, ◌∙◌, subst, arith}
+use Rattle.std.proofs.Common.{◌≡◌, ℕ, ◌+◌, ◌-◌, ◌^◌, ◌<◌, ◌≤◌, Bool, true, false, ◌&&◌, nat_lt, nat_le, List, [], take, length, Option, Some, None, Result, Ok, Err, refl, sym, ap, ◌∙◌, subst, arith}
 use Rattle.std.specs.Prelude.{if◌then◌else◌}
 use Rattle.std.specs.List.{flat_map}
 use Rattle.std.proofs.lemmas.Bool.{and_parts, leb-true, ltb-true}
@@ -29,7 +29,7 @@ use Rattle.image_format.specs.Records.{AreRecords, items_in, record_bytes}
 use Rattle.image_format.specs.Values.{flag, value_of}
 use Rattle.image_tape.specs.declared.doubt.Doubt.TheVariants.{Settled}
 use Rattle.image_tape.specs.Opens.{AreBytesOf, AreSynced, HasFault, HasOpened, IsReason, IsRefused, IsTellable, RefusedAs, reason_of}
-use Rattle.image_tape.specs.Tape.{IsKept, Lie, Stands, View}
+use Rattle.image_tape.specs.Tape.{AreEarlier, IsKept, Lie, Stands, View}
 use Rattle.image_tape.proofs.Fronts.{all_bytes, offsets_size}
 use Rattle.image_tape.proofs.Opened.{agreed_opens, counted, is_whole, whole}
 use Rattle.image_tape.proofs.Lifting.{same_cartridge}
@@ -85,10 +85,11 @@ module _ {D : Type 0} (disk : Ghosts D) (s : slot.View D) (room : Offsets) (valu
         fits_dp = fit.1;
       }
 
-  pub kept_over : slot.KnownAreLeft disk → slot.IsKept disk s → s.known ≡ Steady → IsLimits room.limits → (opened : ℕ) → opened ≡ disk.commands s.disk
+  pub kept_over : slot.KnownAreLeft disk → slot.IsKept disk s → s.known ≡ Steady → IsLimits room.limits → (opened : ℕ) (past : List (ℕ × slot.View D))
+      → opened ≡ disk.commands s.disk → past ≡ []
       → ((image : Files) → disk.commands s.disk < 2 ^ 64 - 1 → disk.left_since s.disk (disk.commands s.disk) image → disk.leaves s.disk image)
-      → IsKept disk (record { slots = s; room = room; base = value; reads = value; doubt = Settled; head = None; faults = 0; opened = opened; past = [] })
-  kept_over known kept steady limits opened now only =
+      → IsKept disk (record { slots = s; room = room; base = value; reads = value; doubt = Settled; head = None; faults = 0; opened = opened; past = past })
+  kept_over known kept steady limits opened past now first only =
       let fit = value_fits room.limits s.value value told.said in
       record {
         limits = limits;
@@ -101,7 +102,7 @@ module _ {D : Type 0} (disk : Ghosts D) (s : slot.View D) (room : Offsets) (valu
             let leaves = only image (omega (arith, short, now)) at_now in
             let head = header_of_value room.limits image.cm s.value value ((known s kept steady d is).1 image leaves) told.said in
             (counted st, agreed_opens st image (st.agree image leaves) head);
-        past = tt;
+        past = subst (λ (l : List (ℕ × slot.View D)). AreEarlier disk l (disk.commands s.disk)) (sym first) tt;
         tells = λ d is. (
           stands_whole d is,
           header_of_value room.limits d.cm s.value value (known s kept steady d is).0 told.said,

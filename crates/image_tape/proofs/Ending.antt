@@ -23,7 +23,7 @@ use Rattle.image_slots.specs.State as slot
 use Rattle.image_tape.specs.declared.doubt.Doubt.TheVariants.{Settled}
 use Rattle.image_tape.specs.Ends.{Ends, Flushed, HasRead, IsEnded, IsFailed, IsLooked, Noted, Wrote, failed, with_head}
 use Rattle.image_tape.specs.Steps.{IsNoteSet, IsReading, IsSteady, IsStored, Looks, Stays}
-use Rattle.image_tape.specs.Tape.{AreEarlier, CrashesOn, IsKept, LeavesOf, View, held_by, held_of, with_moment}
+use Rattle.image_tape.specs.Tape.{AreEarlier, CrashesOn, LeavesOf, Remembers, View, held_by, held_of}
 use Rattle.image_tape.specs.Writes.{Writes}
 use Rattle.image_tape.proofs.Moments.{remembered}
 use Rattle.image_tape.proofs.Surely.{then_looks}
@@ -53,12 +53,13 @@ module _ {D : Type 0} (disk : Ghosts D) where
   -- a command that succeeded
   module _ {T E : Type 0} (x : T) (m : ℕ) (head : Option Place) (a b c : View D) (le : m ≤ 16) (stays : Stays a b)
       (count : AtMost m (disk.commands a.slots.disk) (disk.commands b.slots.disk)) (rose : Rose (disk.commands a.slots.disk) (disk.commands b.slots.disk))
-      (past : List (ℕ × slot.View D)) (same_past : past ≡ with_moment a) (ended : IsEnded disk head past b c) where
+      (past : List (ℕ × slot.View D)) (same_past : Remembers disk past a) (ended : IsEnded disk head past b c) where
     pub ends_well : Ends {T = T} {E = E} disk (Ok x) a c
     ends_well = subst (λ (v : View D). Ends {T = T} {E = E} disk (Ok x) a v) (sym ended.after) (record {
       limits = stays.limits;
       opened = stays.opened;
-      past = same_past;
+      past = same_past.are;
+      early = same_past.early;
       lost = tt;
       count = counted m a b le count rose ended.count;
       cause = record { later = omega (arith, stays.faults); failed = tt };
@@ -66,13 +67,14 @@ module _ {D : Type 0} (disk : Ghosts D) where
 
   -- one that failed
   module _ {T E : Type 0} (why : E) (m : ℕ) (a b c : View D) (le : m ≤ 16) (stays : Stays a b) (count : AtMost m (disk.commands a.slots.disk) (disk.commands b.slots.disk))
-      (rose : Rose (disk.commands a.slots.disk) (disk.commands b.slots.disk)) (past : List (ℕ × slot.View D)) (same_past : past ≡ with_moment a)
+      (rose : Rose (disk.commands a.slots.disk) (disk.commands b.slots.disk)) (past : List (ℕ × slot.View D)) (same_past : Remembers disk past a)
       (ended : IsFailed disk past b c) where
     pub ends_badly : Ends {T = T} {E = E} disk (Err why) a c
     ends_badly = subst (λ (v : View D). Ends {T = T} {E = E} disk (Err why) a v) (sym ended.after) (record {
       limits = stays.limits;
       opened = stays.opened;
-      past = same_past;
+      past = same_past.are;
+      early = same_past.early;
       lost = refl;
       count = counted m a b le count rose ended.count;
       cause = record { later = omega (arith, stays.faults, ended.faults); failed = omega (arith, stays.faults) };
@@ -97,7 +99,7 @@ module _ {D : Type 0} (disk : Ghosts D) where
 
   -- that only read
   pub looked_well : {T E : Type 0} (x : T) (m : ℕ) (head : Option Place) (a b c : View D) → m ≤ 16 → Looks disk m a b
-      → Rose (disk.commands a.slots.disk) (disk.commands b.slots.disk) → (past : List (ℕ × slot.View D)) → past ≡ with_moment a → IsEnded disk head past b c → IsLooked {T = T} {E = E} disk (Ok x) a c
+      → Rose (disk.commands a.slots.disk) (disk.commands b.slots.disk) → (past : List (ℕ × slot.View D)) → Remembers disk past a → IsEnded disk head past b c → IsLooked {T = T} {E = E} disk (Ok x) a c
   looked_well x m head a b c le looks rose past same_past ended = record {
     ends = ends_well x m head a b c le looks.stays looks.count rose past same_past ended;
     held = ended_held head past b c ended ∙ looks.held;
@@ -105,7 +107,7 @@ module _ {D : Type 0} (disk : Ghosts D) where
   }
 
   pub looked_badly : {T E : Type 0} (why : E) (m : ℕ) (a b c : View D) → m ≤ 16 → Looks disk m a b → Rose (disk.commands a.slots.disk) (disk.commands b.slots.disk)
-      → (past : List (ℕ × slot.View D)) → past ≡ with_moment a → IsFailed disk past b c → IsLooked {T = T} {E = E} disk (Err why) a c
+      → (past : List (ℕ × slot.View D)) → Remembers disk past a → IsFailed disk past b c → IsLooked {T = T} {E = E} disk (Err why) a c
   looked_badly why m a b c le looks rose past same_past ended = record {
     ends = ends_badly why m a b c le looks.stays looks.count rose past same_past ended;
     held = failed_held past b c ended ∙ looks.held;
@@ -118,25 +120,25 @@ module _ {D : Type 0} (disk : Ghosts D) where
 
   -- that made the reference durable
   pub surely_well : {T E : Type 0} (u : T) (head : Option Place) (a b c e : View D) → Looks disk 3 a b → Rose (disk.commands a.slots.disk) (disk.commands b.slots.disk)
-      → Looks disk 6 b c → (past : List (ℕ × slot.View D)) → past ≡ with_moment a → IsEnded disk head past c e → IsLooked {T = T} {E = E} disk (Ok u) a e
+      → Looks disk 6 b c → (past : List (ℕ × slot.View D)) → Remembers disk past a → IsEnded disk head past c e → IsLooked {T = T} {E = E} disk (Ok u) a e
   surely_well u head a b c e looks rose more past same_past ended =
       looked_well u 9 head a c e (omega arith) (then_looks disk 3 6 a b c looks more) (rose_on a b c rose more.count.later) past same_past ended
 
   pub surely_badly : {T E : Type 0} (why : E) (a b c e : View D) → Looks disk 3 a b → Rose (disk.commands a.slots.disk) (disk.commands b.slots.disk)
-      → Looks disk 6 b c → (past : List (ℕ × slot.View D)) → past ≡ with_moment a → IsFailed disk past c e → IsLooked {T = T} {E = E} disk (Err why) a e
+      → Looks disk 6 b c → (past : List (ℕ × slot.View D)) → Remembers disk past a → IsFailed disk past c e → IsLooked {T = T} {E = E} disk (Err why) a e
   surely_badly why a b c e looks rose more past same_past ended =
       looked_badly why 9 a c e (omega arith) (then_looks disk 3 6 a b c looks more) (rose_on a b c rose more.count.later) past same_past ended
 
   -- what is past once a command has begun and gone on
-  pub early_then : (v w b c : View D) (past : List (ℕ × slot.View D)) → v ≡ w → IsKept disk v → past ≡ with_moment w → Looks disk 3 w b
+  pub early_then : (w b c : View D) (past : List (ℕ × slot.View D)) → Remembers disk past w → Looks disk 3 w b
       → Rose (disk.commands w.slots.disk) (disk.commands b.slots.disk) → disk.commands b.slots.disk ≤ disk.commands c.slots.disk
       → AreEarlier disk past (disk.commands c.slots.disk)
-  early_then v w b c past is kept same looks rose later =
-      remembered disk v w past (disk.commands c.slots.disk) is kept same (omega (arith, looks.count.later, later)) (rose_on w b c rose later)
+  early_then w b c past same looks rose later =
+      remembered disk w past (disk.commands c.slots.disk) same (omega (arith, looks.count.later, later)) (rose_on w b c rose later)
 
   -- an item was written
   module _ {T E : Type 0} (at : Place) (x : Item) (a b c e : View D) (looks : Looks disk 3 a b) (rose : Rose (disk.commands a.slots.disk) (disk.commands b.slots.disk))
-      (past : List (ℕ × slot.View D)) (same_past : past ≡ with_moment a) where
+      (past : List (ℕ × slot.View D)) (same_past : Remembers disk past a) where
     pub wrote_well : (u : T) → Writes {T = T} {E = E} disk 10 at x (Ok u) b c → IsEnded disk (Some (next at)) past c e → Wrote {T = T} {E = E} disk at x (Ok u) a e
     wrote_well u done ended =
         let all = written_after disk at x (Ok u) 3 10 a b c looks done in
@@ -162,7 +164,7 @@ module _ {D : Type 0} (disk : Ghosts D) where
         }
 
   pub wrote_not : {T E : Type 0} (at : Place) (x : Item) (a b e : View D) → Looks disk 3 a b → Rose (disk.commands a.slots.disk) (disk.commands b.slots.disk)
-      → (past : List (ℕ × slot.View D)) → past ≡ with_moment a → (why : E) → IsFailed disk past b e → Wrote {T = T} {E = E} disk at x (Err why) a e
+      → (past : List (ℕ × slot.View D)) → Remembers disk past a → (why : E) → IsFailed disk past b e → Wrote {T = T} {E = E} disk at x (Err why) a e
   wrote_not at x a b e looks rose past same_past why ended = record {
     ends = ends_badly why 3 a b e (omega arith) looks.stays looks.count rose past same_past ended;
     head = tt;
@@ -179,7 +181,7 @@ module _ {D : Type 0} (disk : Ghosts D) where
 
   -- all was made durable
   module _ {T E : Type 0} (a b c e : View D) (looks : Looks disk 3 a b) (rose : Rose (disk.commands a.slots.disk) (disk.commands b.slots.disk))
-      (past : List (ℕ × slot.View D)) (same_past : past ≡ with_moment a) where
+      (past : List (ℕ × slot.View D)) (same_past : Remembers disk past a) where
     stored_crash : (r : Result T E) → IsStored disk 8 r b c → (x : Cartridge) → held_of disk a ≡ Some x → CrashesOn disk a.room.limits (WithinFlush x) a c
     stored_crash r done x held = behind_looks (λ image. inl refl) looks.count.later looks.crash
         (subst (λ (l : Limits). CrashesOn disk l (WithinFlush x) b c) looks.stays.limits (done.crash x (looks.held ∙ held)))
@@ -211,7 +213,7 @@ module _ {D : Type 0} (disk : Ghosts D) where
       crash = λ x held. at_fail a.room.limits past a c e ended (stored_crash (Err why) done x held);
     }
 
-  pub flushed_not : {T E : Type 0} (a b e : View D) → Looks disk 3 a b → Rose (disk.commands a.slots.disk) (disk.commands b.slots.disk) → (past : List (ℕ × slot.View D)) → past ≡ with_moment a → (why : E) → IsFailed disk past b e
+  pub flushed_not : {T E : Type 0} (a b e : View D) → Looks disk 3 a b → Rose (disk.commands a.slots.disk) (disk.commands b.slots.disk) → (past : List (ℕ × slot.View D)) → Remembers disk past a → (why : E) → IsFailed disk past b e
       → Flushed {T = T} {E = E} disk (Err why) a e
   flushed_not a b e looks rose past same_past why ended = record {
     ends = ends_badly why 3 a b e (omega arith) looks.stays looks.count rose past same_past ended;
@@ -223,7 +225,7 @@ module _ {D : Type 0} (disk : Ghosts D) where
 
   -- an attribute was set
   module _ {T E : Type 0} (part : Part) (note : Note) (a b c e : View D) (looks : Looks disk 3 a b) (rose : Rose (disk.commands a.slots.disk) (disk.commands b.slots.disk))
-      (past : List (ℕ × slot.View D)) (same_past : past ≡ with_moment a) where
+      (past : List (ℕ × slot.View D)) (same_past : Remembers disk past a) where
     noted_crash : (r : Result T E) → IsNoteSet disk part note r b c → (x : Cartridge) → held_of disk a ≡ Some x
         → CrashesOn disk a.room.limits (WithinNote part note) a c
     noted_crash r done x held = behind_looks (λ image. inl refl) looks.count.later looks.crash
@@ -259,7 +261,7 @@ module _ {D : Type 0} (disk : Ghosts D) where
     }
 
   pub noted_not : {T E : Type 0} (part : Part) (note : Note) (a b e : View D) → Looks disk 3 a b → Rose (disk.commands a.slots.disk) (disk.commands b.slots.disk)
-      → (past : List (ℕ × slot.View D)) → past ≡ with_moment a → (why : E) → IsFailed disk past b e → Noted {T = T} {E = E} disk part note (Err why) a e
+      → (past : List (ℕ × slot.View D)) → Remembers disk past a → (why : E) → IsFailed disk past b e → Noted {T = T} {E = E} disk part note (Err why) a e
   noted_not part note a b e looks rose past same_past why ended = record {
     ends = ends_badly why 3 a b e (omega arith) looks.stays looks.count rose past same_past ended;
     head = tt;
@@ -272,7 +274,7 @@ module _ {D : Type 0} (disk : Ghosts D) where
   -- an item was read
   pub read_well : (at : Place) (found : Got) (place : Place) (buf : List ℕ) (a b c e : View D) → Looks disk 3 a b → Rose (disk.commands a.slots.disk) (disk.commands b.slots.disk)
       → b.doubt ≡ Settled → IsReading disk at found buf b → Looks disk 2 b c → place ≡ after_read found at
-      → (past : List (ℕ × slot.View D)) → past ≡ with_moment a → IsEnded disk (Some place) past c e
+      → (past : List (ℕ × slot.View D)) → Remembers disk past a → IsEnded disk (Some place) past c e
       → HasRead {E = DriveErr} disk at (Ok found) buf a e
   read_well at found place buf a b c e looks rose settled reading more is past same_past ended = record {
     looked = looked_well found 5 (Some place) a c e (omega arith) (then_looks disk 3 2 a b c looks more) (rose_on a b c rose more.count.later) past same_past ended;
@@ -283,7 +285,7 @@ module _ {D : Type 0} (disk : Ghosts D) where
   }
 
   pub read_badly : (at : Place) (why : DriveErr) (buf : List ℕ) (m : ℕ) (a c e : View D) → m ≤ 16 → Looks disk m a c → Rose (disk.commands a.slots.disk) (disk.commands c.slots.disk)
-      → (past : List (ℕ × slot.View D)) → past ≡ with_moment a → IsFailed disk past c e → HasRead {E = DriveErr} disk at (Err why) buf a e
+      → (past : List (ℕ × slot.View D)) → Remembers disk past a → IsFailed disk past c e → HasRead {E = DriveErr} disk at (Err why) buf a e
   read_badly at why buf m a c e le looks rose past same_past ended = record {
     looked = looked_badly why m a c e le looks rose past same_past ended;
     head = tt;
@@ -293,7 +295,7 @@ module _ {D : Type 0} (disk : Ghosts D) where
   }
 
   pub read_late : (at : Place) (why : DriveErr) (buf : List ℕ) (a b c e : View D) → Looks disk 3 a b → Rose (disk.commands a.slots.disk) (disk.commands b.slots.disk) → Looks disk 2 b c
-      → (past : List (ℕ × slot.View D)) → past ≡ with_moment a → IsFailed disk past c e → HasRead {E = DriveErr} disk at (Err why) buf a e
+      → (past : List (ℕ × slot.View D)) → Remembers disk past a → IsFailed disk past c e → HasRead {E = DriveErr} disk at (Err why) buf a e
   read_late at why buf a b c e looks rose more past same_past ended =
       read_badly at why buf 5 a c e (omega arith) (then_looks disk 3 2 a b c looks more) (rose_on a b c rose more.count.later) past same_past ended
 

@@ -21,6 +21,9 @@ use Rattle.image_tape.proofs.Shaping.{MayRead, held_shaped, kept_shaped, shaped}
 use Rattle.image_tape.proofs.Telling.{held_is_whole, tells_of}
 use Rattle.image_tape.proofs.Wholes.{none_held, untold_held}
 
+abbrev held_as : Cartridge → Option Cartridge
+held_as x = Some x
+
 -- another reference changes no items
 items_stay : (part : Part) (n : ℕ) (c : Cartridge) → (items_of part (with_reference n c) ≡ items_of part c) × KeepsRest part c (with_reference n c)
 items_stay Ip n c = (refl, record { other_part = refl; note_ip = refl; note_dp = refl })
@@ -96,9 +99,6 @@ module _ {D : Type 0} (disk : Ghosts D) (v : View D) (kept : IsKept disk v) (set
           kept = λ k image reached h. h;
         };
   }
-    where
-      abbrev held_as : Cartridge → Option Cartridge
-      held_as x = Some x
 
 pub lags : {D T E : Type 0} (disk : Ghosts D) (v w : View D) (kept : IsKept disk v) (reads : SlotValue) (at : Place) (u : T) → v ≡ w → w.doubt ≡ Settled
     → (vcr : ℕ) → vcr ≡ v.reads.vcr + 1 → vcr < 2 ^ 64 → reads ≡ with_vcr vcr v.reads → IsUncounted at w

@@ -1,12 +1,13 @@
 -- The moments between two commands that are past.
-use Rattle.std.proofs.Common.{◌≡◌, ℕ, ◌+◌, ◌-◌, ◌^◌, ◌≤◌, ◌⊎◌, ⊎_elim, inl, inr, List, [], ◌∷◌, ◌++◌, refl, sym, subst, arith}
+use Rattle.std.proofs.Common.{◌≡◌, ℕ, ◌≤◌, ◌⊎◌, ⊎_elim, inl, inr, List, [], ◌∷◌, ◌++◌, Result, sym, subst, arith}
 use Rattle.crash_steps.specs.Crashes.{Crashes}
 use Rattle.tape_types.specs.Counts.{Rose}
 use Rattle.tape_types.specs.declared.cartridges.Cartridge.{Cartridge}
 use Rattle.tape_types.specs.declared.cartridges.Limits.{Limits}
 use Rattle.byte_disk.specs.declared.disk.ByteDisk.{Ghosts}
 use Rattle.image_slots.specs.State as slot
-use Rattle.image_tape.specs.Tape.{AheadOn, AreEarlier, CrashesOn, IsKept, LeavesOf, LeftSince, SinceOn, View, WasLeft, with_moment}
+use Rattle.image_tape.specs.Ends.{Ends}
+use Rattle.image_tape.specs.Tape.{AheadOn, AreEarlier, CrashesOn, IsKept, LeavesOf, LeftSince, Remembers, SinceOn, View, WasLeft, with_moment}
 
 module _ {D : Type 0} (disk : Ghosts D) where
   -- of a later number, too
@@ -20,14 +21,13 @@ module _ {D : Type 0} (disk : Ghosts D) where
   earlier_one (y ∷ ms) x n h rose = (h.0, earlier_one ms x n h.1 rose)
 
   -- with a moment more
-  pub earlier_with : (v : View D) (n : ℕ) → IsKept disk v → disk.commands v.slots.disk ≤ n → Rose (disk.commands v.slots.disk) n
-      → AreEarlier disk (with_moment v) n
-  earlier_with v n kept later rose = earlier_one v.past (v.reads.vcr, v.slots) n (earlier_on v.past (disk.commands v.slots.disk) n later kept.past) rose
+  pub remembered : (v : View D) (past : List (ℕ × slot.View D)) (n : ℕ) → Remembers disk past v → disk.commands v.slots.disk ≤ n
+      → Rose (disk.commands v.slots.disk) n → AreEarlier disk past n
+  remembered v past n same later rose = subst (λ (l : List (ℕ × slot.View D)). AreEarlier disk l n) (sym same.are)
+      (earlier_one v.past (v.reads.vcr, v.slots) n (earlier_on v.past (disk.commands v.slots.disk) n later same.early) rose)
 
-  pub remembered : (v w : View D) (past : List (ℕ × slot.View D)) (n : ℕ) → v ≡ w → IsKept disk v → past ≡ with_moment w
-      → disk.commands w.slots.disk ≤ n → Rose (disk.commands w.slots.disk) n → AreEarlier disk past n
-  remembered v w past n is kept same later rose = subst (λ (l : List (ℕ × slot.View D)). AreEarlier disk l n) (sym same)
-      (earlier_with w n (subst (λ (x : View D). IsKept disk x) is kept) later rose)
+  pub remembers : (v w : View D) (past : List (ℕ × slot.View D)) → v ≡ w → IsKept disk v → past ≡ with_moment w → Remembers disk past w
+  remembers v w past is kept same = record { are = same; early = (subst (λ (x : View D). IsKept disk x) is kept).past }
 
   module _ (limits : Limits) where
     -- a moment more
@@ -59,11 +59,14 @@ module _ {D : Type 0} (disk : Ghosts D) where
     left_past (m ∷ ms) t n image early (inr h) = left_past ms t n image early.1 h
 
   -- what a command leaves to a crash, as the tape's own
-  pub crash_at : {step : Cartridge → Cartridge → Type 0} (a b : View D) → AreEarlier disk a.past (disk.commands a.slots.disk) → b.room.limits ≡ a.room.limits
-      → b.past ≡ with_moment a → Rose (disk.commands a.slots.disk) (disk.commands b.slots.disk)
-      → disk.commands a.slots.disk ≤ disk.commands b.slots.disk → CrashesOn disk a.room.limits step a b
+  pub crash_at : {T E : Type 0} {step : Cartridge → Cartridge → Type 0} (end : Result T E) (a b : View D) → Ends disk end a b → CrashesOn disk a.room.limits step a b
       → Crashes step (disk.commands a.slots.disk) (LeavesOf disk a) (LeavesOf disk b) (LeftSince disk a) (LeftSince disk b)
-  crash_at {step = step} a b early same past rose later crash =
+  crash_at {step = step} end a b ends crash =
+      let same = ends.limits in
+      let past = ends.past in
+      let rose = ends.count.at_least in
+      let later = ends.count.later in
+      let early = ends.early in
       let now : (image : Cartridge) → LeavesOf disk b image → (before : Cartridge) × LeavesOf disk a before × step before image =
       λ image left. crash.now image (subst (λ (l : Limits). AheadOn disk l b.reads.vcr b.slots.disk image) same left) in
       let was : (t : ℕ) (image : Cartridge) → WasLeft disk b.room.limits b.past t image ≡ WasLeft disk a.room.limits (with_moment a) t image =

@@ -16,7 +16,7 @@ use Rattle.tape_drive.specs.Crashes.{IsSettled, NothingNew, WithinFlush, WithinN
 use Rattle.byte_disk.specs.declared.disk.ByteDisk.{Ghosts}
 use Rattle.image_slots.specs.State as slot
 use Rattle.image_tape.specs.Steps.{IsSteady}
-use Rattle.image_tape.specs.Tape.{CrashesOn, LeavesOf, View, held_of, with_moment}
+use Rattle.image_tape.specs.Tape.{AreEarlier, CrashesOn, LeavesOf, View, held_of, with_moment}
 
 -- the head has to be located again, a fault more is counted, and these are the moments that are past
 abbrev pub failed : {D : Type 0} → List (ℕ × slot.View D) → View D → View D
@@ -64,6 +64,7 @@ pub record Ends {D T E : Type 0} (disk : Ghosts D) (end : Result T E) (old new :
   pub limits : new.room.limits ≡ old.room.limits
   pub opened : new.opened ≡ old.opened
   pub past : new.past ≡ with_moment old
+  pub early : AreEarlier disk old.past (disk.commands old.slots.disk)
   pub lost : OnErr end (new.head ≡ None)
   pub count : Counted 16 (disk.commands old.slots.disk) (disk.commands new.slots.disk)
   pub cause : HasCause old.faults new.faults end

@@ -1,6 +1,5 @@
 -- The laws of what may have been left of a tape since a number of commands.
-use Rattle.std.specs.Prelude.{ℕ, ◌-◌, ◌^◌, ◌<◌, ◌≤◌, List, [], ◌∷◌, inl, inr}
-use Rattle.std.proofs.Common.{arith, refl}
+use Rattle.std.proofs.Common.{ℕ, ◌-◌, ◌^◌, ◌<◌, ◌≤◌, List, [], ◌∷◌, inl, inr, arith, refl}
 use Rattle.tape_types.specs.declared.cartridges.Cartridge.{Cartridge}
 use Rattle.tape_types.specs.declared.cartridges.Limits.{Limits}
 use Rattle.byte_disk.specs.Files.{Files}
@@ -15,6 +14,10 @@ pub only_now : {D : Type 0} (disk : Ghosts D) (v : View D) (image : Cartridge)
 only_now disk v image only less (inl h) = (image, (h.0, only h.0 h.1, h.2, h.3), inl refl)
 only_now disk v image only less (inr (inl h)) = h
 only_now disk v image only less (inr (inr h)) = absurd (omega (arith, less, h.0))
+
+-- what may be left now counts since each number
+pub counts_now : {D : Type 0} (disk : Ghosts D) (v : View D) (t : ℕ) (image : Cartridge) → LeavesOf disk v image → LeftSince disk v t image
+counts_now disk v t image h = inr (inl h)
 
 was_lower : {D : Type 0} (disk : Ghosts D) (limits : Limits) (ms : List (ℕ × slot.View D)) (t u : ℕ) (image : Cartridge)
     → t ≤ u → WasLeft disk limits ms u image → WasLeft disk limits ms t image

@@ -112,6 +112,11 @@ abbrev pub AreEarlier : {D : Type 0} → Ghosts D → List (ℕ × slot.View D) 
 AreEarlier disk [] n = Unit {0}
 AreEarlier disk (m ∷ ms) n = Rose (disk.commands m.1.disk) n × AreEarlier disk ms n
 
+-- the moments that are past once this one is; those before it are earlier
+pub record Remembers {D : Type 0} (disk : Ghosts D) (past : List (ℕ × slot.View D)) (v : View D) : Type 0 where
+  pub are : past ≡ with_moment v
+  pub early : AreEarlier disk v.past (disk.commands v.slots.disk)
+
 -- what commands of the disk leave of the cartridge to a crash, now and since
 abbrev pub CrashesAt : {D : Type 0} → Ghosts D → Limits → (Cartridge → Cartridge → Type 0) → (m : ℕ) → D → (n : ℕ) → D → Type 0
 CrashesAt disk limits step m a n b =

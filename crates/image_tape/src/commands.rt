@@ -12,7 +12,7 @@ ghost use Rattle.image_tape.specs.declared.doubt.Doubt.TheVariants.{Settled};
 ghost use Rattle.image_tape.specs.Ends.{Flushed, HasRead, IsEnded, IsFailed, IsLooked, IsSure, Noted, Wrote};
 ghost use Rattle.image_tape.specs.Halves.{half_of};
 ghost use Rattle.image_tape.specs.Steps.{IsSteady};
-ghost use Rattle.image_tape.specs.Tape.{AreEarlier, held_of, with_moment};
+ghost use Rattle.image_tape.specs.Tape.{AreEarlier, Remembers, held_of};
 
 use crate::doubt::Doubt;
 use crate::halves::half_of;
@@ -27,7 +27,7 @@ use tape_types::{Limits, Note, Part, Place};
 impl<B: ByteDisk> ImageTape<B> {
     // The moments that are past once this one is.
     fn moment(&self) -> Log<u64, Slots<B>>
-        ensures { result.items ≡ with_moment self.now }
+        ensures { Remembers B.ByteDisk result.items self.now }
     {
         self.past.and(&self.reads.vcr, &self.slots)
     }
@@ -190,7 +190,6 @@ fn next(at: Place) -> Place
 }
 
 impl<B: ByteDisk> Drive for ImageTape<B> {
-    ghost use Rattle.std.specs.Prelude.{inl, inr};
     ghost use Rattle.image_tape.specs.Since as laws;
     ghost use Rattle.image_tape.specs.Tape.{LeavesOf, LeftSince, held_of};
 
@@ -217,7 +216,7 @@ impl<B: ByteDisk> Drive for ImageTape<B> {
     ghost only_now = { λ t image lt h.
         laws.only_now B.ByteDisk t image (λ left now. B.only_now t.slots.disk left lt now) lt h };
 
-    ghost counts_now = { λ t n image le h. inr (inl h) };
+    ghost counts_now = { λ t n image le h. laws.counts_now B.ByteDisk t n image h };
 
     ghost lower = { λ t n m image le h.
         laws.lower B.ByteDisk t n m image le (λ left now. B.lower t.slots.disk n m left le now) h };

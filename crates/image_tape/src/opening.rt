@@ -101,6 +101,7 @@ impl<B: ByteDisk> ImageTape<B> {
         } }
     {
         let opened = slots.commands();
+        let past = Log::new();
         known_values_are_left::<B>();
         let _value = slots.get();
         ImageTape {
@@ -112,7 +113,7 @@ impl<B: ByteDisk> ImageTape<B> {
             head: None,
             faults: 0,
             opened,
-            past: Log::new(),
+            past,
             commits,
         }
     }

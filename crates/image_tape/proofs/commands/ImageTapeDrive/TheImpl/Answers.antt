@@ -11,7 +11,7 @@ locate-tells g x c = record {
   limits = c.ensures.looked.ends.limits;
   count = c.ensures.looked.ends.count;
   cause = c.ensures.looked.ends.cause;
-  crash = crash_at g.B.ByteDisk c.args.self.now c.new.self.now c.ensures.looked.ends.limits c.ensures.looked.crash;
+  crash = crash_at g.B.ByteDisk c.result c.args.self.now c.new.self.now c.ensures.looked.ends c.ensures.looked.crash;
 }
 
 pub read-tells : goal.read-tells
@@ -28,7 +28,7 @@ read-tells g x c =
       limits = ran.looked.ends.limits;
       count = ran.looked.ends.count;
       cause = ran.looked.ends.cause;
-      crash = crash_at g.B.ByteDisk c.args.self.now c.new.self.now ran.looked.ends.limits ran.looked.crash;
+      crash = crash_at g.B.ByteDisk c.result c.args.self.now c.new.self.now ran.looked.ends ran.looked.crash;
     }
 
 pub write-tells : goal.write-tells
@@ -44,7 +44,7 @@ write-tells g x c =
       limits = ran.ends.limits;
       count = ran.ends.count;
       cause = ran.ends.cause;
-      crash = λ at y head held. let r = c.ensures.ran at head in crash_at g.B.ByteDisk c.args.self.now c.new.self.now r.ends.limits (r.crash y held);
+      crash = λ at y head held. let r = c.ensures.ran at head in crash_at g.B.ByteDisk c.result c.args.self.now c.new.self.now r.ends (r.crash y held);
     }
 
 pub mark-tells : goal.mark-tells
@@ -60,7 +60,7 @@ mark-tells g x c =
       limits = ran.ends.limits;
       count = ran.ends.count;
       cause = ran.ends.cause;
-      crash = λ at y head held. let r = c.ensures.ran at head in crash_at g.B.ByteDisk c.args.self.now c.new.self.now r.ends.limits (r.crash y held);
+      crash = λ at y head held. let r = c.ensures.ran at head in crash_at g.B.ByteDisk c.result c.args.self.now c.new.self.now r.ends (r.crash y held);
     }
 
 pub flush-tells : goal.flush-tells
@@ -72,7 +72,7 @@ flush-tells g x c = record {
   limits = c.ensures.ends.limits;
   count = c.ensures.ends.count;
   cause = c.ensures.ends.cause;
-  crash = λ y held. crash_at g.B.ByteDisk c.args.self.now c.new.self.now c.ensures.ends.limits (c.ensures.crash y held);
+  crash = λ y held. crash_at g.B.ByteDisk c.result c.args.self.now c.new.self.now c.ensures.ends (c.ensures.crash y held);
 }
 
 pub read_note-tells : goal.read_note-tells
@@ -85,7 +85,7 @@ read_note-tells g x c = record {
   limits = c.ensures.looked.ends.limits;
   count = c.ensures.looked.ends.count;
   cause = c.ensures.looked.ends.cause;
-  crash = crash_at g.B.ByteDisk c.args.self.now c.new.self.now c.ensures.looked.ends.limits c.ensures.looked.crash;
+  crash = crash_at g.B.ByteDisk c.result c.args.self.now c.new.self.now c.ensures.looked.ends c.ensures.looked.crash;
 }
 
 pub write_note-tells : goal.write_note-tells
@@ -98,7 +98,7 @@ write_note-tells g x c = record {
   limits = c.ensures.ran.ends.limits;
   count = c.ensures.ran.ends.count;
   cause = c.ensures.ran.ends.cause;
-  crash = λ y held. crash_at g.B.ByteDisk c.args.self.now c.new.self.now c.ensures.ran.ends.limits (c.ensures.ran.crash y held);
+  crash = λ y held. crash_at g.B.ByteDisk c.result c.args.self.now c.new.self.now c.ensures.ran.ends (c.ensures.ran.crash y held);
 }
 
 pub vcr-tells : goal.vcr-tells
@@ -111,5 +111,5 @@ vcr-tells g x c = record {
   limits = c.ensures.looked.ends.limits;
   count = c.ensures.looked.ends.count;
   cause = c.ensures.looked.ends.cause;
-  crash = crash_at g.B.ByteDisk c.args.self.now c.new.self.now c.ensures.looked.ends.limits c.ensures.looked.crash;
+  crash = crash_at g.B.ByteDisk c.result c.args.self.now c.new.self.now c.ensures.looked.ends c.ensures.looked.crash;
 }

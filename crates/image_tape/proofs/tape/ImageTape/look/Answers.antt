@@ -11,10 +11,10 @@ returns-in-Err-clause-looked g c =
 
 pub end-requires : goal.end-requires
 end-requires g c =
-    early_then g.B.ByteDisk _ _ c.begin.new.self c.begin.new.self c.moment-past.result.items c.self.view_is c.self.invariant c.moment-past.ensures c.begin.ensures.looks c.begin.ensures.rose
+    early_then g.B.ByteDisk _ c.begin.new.self c.begin.new.self c.moment-past.result.items c.moment-past.ensures c.begin.ensures.looks c.begin.ensures.rose
     (omega arith)
 
 pub fail-requires : goal.fail-requires
 fail-requires g c =
-    early_then g.B.ByteDisk _ _ c.begin.new.self c.begin.new.self c.moment-past.result.items c.self.view_is c.self.invariant c.moment-past.ensures c.begin.ensures.looks c.begin.ensures.rose
+    early_then g.B.ByteDisk _ c.begin.new.self c.begin.new.self c.moment-past.result.items c.moment-past.ensures c.begin.ensures.looks c.begin.ensures.rose
     (omega arith)

@@ -1,3 +1,4 @@
+use Rattle.std.proofs.Common.{arith}
 use Rattle.tape_types.specs.Cartridges.{next}
 use Rattle.image_tape.proofs.Ending.{early_then, ended_at, wrote_badly, wrote_not, wrote_well}
 use Rattle.image_tape.proofs.Spots.{room_small}
@@ -22,15 +23,15 @@ returns-in-Err g c = λ x sound same.
 
 pub end-requires : goal.end-requires
 end-requires g c =
-    early_then g.B.ByteDisk _ _ c.begin.new.self c.write_at.new.self c.moment-past.result.items c.self.view_is c.self.invariant c.moment-past.ensures c.in-Ok.ensures.looks c.in-Ok.ensures.rose
+    early_then g.B.ByteDisk _ c.begin.new.self c.write_at.new.self c.moment-past.result.items c.moment-past.ensures c.in-Ok.ensures.looks c.in-Ok.ensures.rose
     ((c.in-Ok-write_at.ensures c.requires.sound.0 c.requires.sound.1 c.requires.sound.2).count.later)
 
 pub fail-requires : goal.fail-requires
 fail-requires g c =
-    early_then g.B.ByteDisk _ _ c.begin.new.self c.write_at.new.self c.moment-past.result.items c.self.view_is c.self.invariant c.moment-past.ensures c.in-Ok.ensures.looks c.in-Ok.ensures.rose
+    early_then g.B.ByteDisk _ c.begin.new.self c.write_at.new.self c.moment-past.result.items c.moment-past.ensures c.in-Ok.ensures.looks c.in-Ok.ensures.rose
     ((c.in-Err-write_at.ensures c.requires.sound.0 c.requires.sound.1 c.requires.sound.2).count.later)
 
-pub fail-in-Err-requires : goal.fail-in-Err-requires
-fail-in-Err-requires g c =
-    early_then g.B.ByteDisk _ _ c.begin.new.self c.begin.new.self c.moment-past.result.items c.self.view_is c.self.invariant c.moment-past.ensures c.in-Err.ensures.looks c.in-Err.ensures.rose
+pub fail-requires-in-Err : goal.fail-requires-in-Err
+fail-requires-in-Err g c =
+    early_then g.B.ByteDisk _ c.begin.new.self c.begin.new.self c.moment-past.result.items c.moment-past.ensures c.in-Err.ensures.looks c.in-Err.ensures.rose
     (omega arith)

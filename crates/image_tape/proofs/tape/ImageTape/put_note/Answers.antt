@@ -1,3 +1,4 @@
+use Rattle.std.proofs.Common.{arith}
 use Rattle.image_tape.proofs.Ending.{early_then, head_in, noted_badly, noted_not, noted_well}
 use Rattle.image_tape.proofs.tape.ImageTape.put_note.Goals as goal
 
@@ -17,15 +18,15 @@ returns-in-Err g c =
 
 pub end-requires : goal.end-requires
 end-requires g c =
-    early_then g.B.ByteDisk _ _ c.begin.new.self c.set_note.new.self c.moment-past.result.items c.self.view_is c.self.invariant c.moment-past.ensures c.in-Ok.ensures.looks c.in-Ok.ensures.rose
+    early_then g.B.ByteDisk _ c.begin.new.self c.set_note.new.self c.moment-past.result.items c.moment-past.ensures c.in-Ok.ensures.looks c.in-Ok.ensures.rose
     (c.in-Ok-set_note.ensures.count.later)
 
 pub fail-requires : goal.fail-requires
 fail-requires g c =
-    early_then g.B.ByteDisk _ _ c.begin.new.self c.set_note.new.self c.moment-past.result.items c.self.view_is c.self.invariant c.moment-past.ensures c.in-Ok.ensures.looks c.in-Ok.ensures.rose
+    early_then g.B.ByteDisk _ c.begin.new.self c.set_note.new.self c.moment-past.result.items c.moment-past.ensures c.in-Ok.ensures.looks c.in-Ok.ensures.rose
     (c.in-Err-set_note.ensures.count.later)
 
-pub fail-in-Err-requires : goal.fail-in-Err-requires
-fail-in-Err-requires g c =
-    early_then g.B.ByteDisk _ _ c.begin.new.self c.begin.new.self c.moment-past.result.items c.self.view_is c.self.invariant c.moment-past.ensures c.in-Err.ensures.looks c.in-Err.ensures.rose
+pub fail-requires-in-Err : goal.fail-requires-in-Err
+fail-requires-in-Err g c =
+    early_then g.B.ByteDisk _ c.begin.new.self c.begin.new.self c.moment-past.result.items c.moment-past.ensures c.in-Err.ensures.looks c.in-Err.ensures.rose
     (omega arith)

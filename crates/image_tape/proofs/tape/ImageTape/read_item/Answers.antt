@@ -19,15 +19,15 @@ returns-in-Err-clause-ran g c =
 
 pub end-requires : goal.end-requires
 end-requires g c =
-    early_then g.B.ByteDisk _ _ c.begin.new.self c.read_at.new.self c.moment-past.result.items c.self.view_is c.self.invariant c.moment-past.ensures c.in-Ok.ensures.looks c.in-Ok.ensures.rose
+    early_then g.B.ByteDisk _ c.begin.new.self c.read_at.new.self c.moment-past.result.items c.moment-past.ensures c.in-Ok.ensures.looks c.in-Ok.ensures.rose
     (c.read_at.ensures.looks.count.later)
 
 pub fail-requires : goal.fail-requires
 fail-requires g c =
-    early_then g.B.ByteDisk _ _ c.begin.new.self c.read_at.new.self c.moment-past.result.items c.self.view_is c.self.invariant c.moment-past.ensures c.in-Ok.ensures.looks c.in-Ok.ensures.rose
+    early_then g.B.ByteDisk _ c.begin.new.self c.read_at.new.self c.moment-past.result.items c.moment-past.ensures c.in-Ok.ensures.looks c.in-Ok.ensures.rose
     (c.read_at.ensures.looks.count.later)
 
-pub fail-in-Err-requires : goal.fail-in-Err-requires
-fail-in-Err-requires g c =
-    early_then g.B.ByteDisk _ _ c.begin.new.self c.begin.new.self c.moment-past.result.items c.self.view_is c.self.invariant c.moment-past.ensures c.in-Err.ensures.looks c.in-Err.ensures.rose
+pub fail-requires-in-Err : goal.fail-requires-in-Err
+fail-requires-in-Err g c =
+    early_then g.B.ByteDisk _ c.begin.new.self c.begin.new.self c.moment-past.result.items c.moment-past.ensures c.in-Err.ensures.looks c.in-Err.ensures.rose
     (omega arith)
