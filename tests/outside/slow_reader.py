@@ -7,6 +7,7 @@
 
 Every element is read by a call of its own; no code is shared with the server.
 """
+import base64
 import re
 import sys
 from datetime import date
@@ -34,6 +35,7 @@ LEAF = {  # form of each leaf, by its parent
     "contents": {},
     "file": {"name": "nodename", "length": "number", "openforwrite": "truth", "symlink": "anyname"},
     "attributes": {},
+    "xattr": {"key": "key", "value": "value"},
     "extents": {},
     "extent": {"fileoffset": "bounded", "partition": "letter", "startblock": "bounded", "byteoffset": "bounded",
                "bytecount": "bounded"},
@@ -50,7 +52,7 @@ PARENT = {
     "directory": {"contents": "contents", "extendedattributes": "attributes"},
     "contents": {"directory": "directory", "file": "file"},
     "file": {"extendedattributes": "attributes", "extentinfo": "extents"},
-    "attributes": {}, "extents": {"extent": "extent"}, "extent": {},
+    "attributes": {"xattr": "xattr"}, "xattr": {}, "extents": {"extent": "extent"}, "extent": {},
 }
 FIVE = ["creationtime", "changetime", "modifytime", "accesstime", "backuptime"]
 REQUIRED = {
@@ -59,10 +61,16 @@ REQUIRED = {
     "spot": ["partition", "startblock"], "policy": ["indexpartitioncriteria"], "criteria": ["size"],
     "root": ["fileuid", "name"] + FIVE + ["readonly", "contents"],
     "directory": ["fileuid", "name"] + FIVE + ["readonly", "contents"],
-    "contents": [], "file": ["fileuid", "name", "length"] + FIVE + ["readonly"], "attributes": [], "extents": [],
-    "extent": ["fileoffset", "partition", "startblock", "byteoffset", "bytecount"],
+    "contents": [], "file": ["fileuid", "name", "length"] + FIVE + ["readonly"], "attributes": [],
+    "xattr": ["key", "value"], "extents": [], "extent": ["fileoffset", "partition", "startblock", "byteoffset", "bytecount"],
 }
-MANY = {("criteria", "name"), ("contents", "directory"), ("contents", "file"), ("extents", "extent")}
+MANY = {("criteria", "name"), ("contents", "directory"), ("contents", "file"), ("attributes", "xattr"),
+        ("extents", "extent")}
+ATTRIBUTE = {  # the attribute that an element may have, and its values where they are words
+    "ltfsindex": ("version", None), "ltfslabel": ("version", None),
+    "name": ("percentencoded", ("true", "false")), "symlink": ("percentencoded", ("true", "false")),
+    "key": ("percentencoded", ("true", "false")), "value": ("type", ("text", "base64")),
+}
 KNOWN = set("ltfslabel ltfsindex formattime partitions index data blocksize compression".split())
 for table in (LEAF, PARENT):
     for inside in table.values():
@@ -163,10 +171,9 @@ class Reader:
                 end = self.name(s)
             except Refuse as r:
                 raise Refuse("Version") if wrong_version else r
-            name = self.text[s:end]
-            root = tag in ("ltfsindex", "ltfslabel") and name == b"version"
-            escaped = tag in ("name", "symlink") and name == b"percentencoded"
-            if not (root or escaped):
+            name = self.text[s:end].decode("latin-1")
+            known, values = ATTRIBUTE.get(tag, (None, None))
+            if name != known:
                 raise Refuse("Unknown", start)
             if found is not None:
                 raise Refuse("Version") if wrong_version else Refuse("Syntax", s)
@@ -174,9 +181,9 @@ class Reader:
             q = self.space(equals)
             close = self.quoted(q)
             value = self.text[q + 1:close]
-            if root:
+            if known == "version":
                 wrong_version = re.fullmatch(rb"2\.[0-4]\.[0-9]{1,3}", value) is None
-            elif value not in (b"true", b"false"):
+            elif value.decode("latin-1") not in values:
                 raise Refuse("Syntax", q + 1)
             found = value
             at = close + 1
@@ -298,7 +305,10 @@ class Reader:
             name = data.decode()
         except UnicodeDecodeError:
             raise Refuse("Name", start)
-        if form != "anyname" and (len(name) > 255 or "/" in name or "\0" in name):
+        if form == "key":
+            if not 1 <= len(name) <= 255 or "\0" in name:
+                raise Refuse("Name", start)
+        elif form != "anyname" and (len(name) > 255 or "/" in name or "\0" in name):
             raise Refuse("Name", start)
         if form == "nodename" and name in ("", ".", ".."):
             raise Refuse("Name", start)
@@ -309,16 +319,22 @@ class Reader:
         if empty:
             if form == "text":
                 return "", at
-            if form.endswith("name"):
+            if form == "value":
+                return b"", at
+            if form.endswith("name") or form == "key":
                 return self.named(form, start, percent, ""), at
             raise Refuse("Syntax", at)
         if form == "text":
             value, at = self.characters(at)
-        elif form.endswith("name"):
+        elif form.endswith("name") or form in ("key", "value"):
+            first = self.space(at)
             value, at = self.characters(at)
             if self.end_is_cut(at):
                 raise Refuse("Syntax", at)
-            value = self.named(form, start, percent, value)
+            if form == "value":
+                value = decoded(value, first) if attribute == b"base64" else value.encode()
+            else:
+                value = self.named(form, start, percent, value)
         else:
             value, at = self.value(form, self.space(at))
             at = self.space(at)
@@ -402,6 +418,18 @@ class Reader:
         return found
 
 
+def decoded(text, at):
+    """The bytes that a text in base64 stands for, which has to be what they are encoded as but for white space."""
+    symbols = "".join(c for c in text if c not in " \t\n\r")
+    try:
+        value = base64.b64decode(symbols, validate=True)
+    except ValueError:
+        value = None
+    if value is None or base64.b64encode(value).decode() != symbols:
+        raise Refuse("Syntax", at)
+    return value
+
+
 def begins_name(b):
     return 97 <= b <= 122 or 65 <= b <= 90 or b in (95, 58) or b >= 128
 
@@ -439,21 +467,26 @@ def could_be_reference(left):
     return rest == "" or int(rest, base) <= 0x10FFFF
 
 
+def attributes(facts):
+    """The keys with their values, in the order of the document."""
+    return [(dict(x)["key"], dict(x)["value"]) for _, x in facts.get("extendedattributes", [])]
+
+
 def flatten(found, nodes, parent):
-    """The nodes in the order of the document, as (parent, uid, name, kind, what)."""
+    """The nodes in the order of the document, as (parent, uid, name, kind, what, attributes)."""
     facts = dict(found)
     at = len(nodes)
-    nodes.append((parent, facts["fileuid"], facts["name"], "dir", None))
+    nodes.append((parent, facts["fileuid"], facts["name"], "dir", None, attributes(facts)))
     for tag, child in facts["contents"]:
         if tag == "directory":
             flatten(child, nodes, at)
         else:
             f = dict(child)
             if "symlink" in f:
-                nodes.append((at, f["fileuid"], f["name"], "link", f["symlink"]))
+                nodes.append((at, f["fileuid"], f["name"], "link", f["symlink"], attributes(f)))
             else:
                 extents = [(dict(e)["fileoffset"], dict(e)["bytecount"]) for _, e in f.get("extentinfo", [])]
-                nodes.append((at, f["fileuid"], f["name"], "file", (f["length"], extents)))
+                nodes.append((at, f["fileuid"], f["name"], "file", (f["length"], extents), attributes(f)))
 
 
 def last_tests(highest, nodes):
@@ -471,7 +504,10 @@ def last_tests(highest, nodes):
         if (parent, name) in names:
             raise Refuse("SameName", uid)
         names.add((parent, name))
-    for _, uid, _, kind, what in nodes:
+    for _, uid, *_, pairs in nodes:
+        if len({key for key, _ in pairs}) < len(pairs):
+            raise Refuse("SameKey", uid)
+    for _, uid, _, kind, what, _ in nodes:
         if kind != "file":
             continue
         length, extents = what
@@ -548,6 +584,24 @@ def second_extent(offset):
     return "</extent>" + extent.replace(">0<", f">{offset}<", 1) + "</extentinfo>"
 
 
+def xattr(value, key="k"):
+    return f"<xattr><key>{key}</key>{value}</xattr>"
+
+
+def with_attributes(kind, inside, mark=None):
+    """The archive with these attributes on its file, and what has to be said of it, at the place of a mark."""
+    front = "<extendedattributes>"
+    text, place = changed("<extentinfo>", f"{front}{inside}</extendedattributes><extentinfo>", mark and front + inside)
+    return text, f"{kind} {place + text[place:].index(mark.encode(), len(front))}" if mark else kind
+
+
+def twice(old, new):
+    """The archive with a piece changed, and with a key that its root has twice."""
+    pairs = xattr("<value/>") + xattr("<value/>")
+    text = changed(old, new)[0].decode()
+    return text.replace("<contents>", f"<extendedattributes>{pairs}</extendedattributes><contents>", 1).encode()
+
+
 PLAIN = "<readonly>false</readonly>"
 TABLE = [
     (ARCHIVE.encode(), "ok 3 4"),
@@ -573,7 +627,8 @@ TABLE = [
     row("Unknown", "<extentinfo>", "<extentinfo></extentinfo><extentinfo>", "<extentinfo><extent>"),
     row("Unknown", "<symlink>", "<symlink>a</symlink><symlink>", "<symlink>docs"),
     row("Unknown", "<symlink>", "<extentinfo/><symlink>", "<symlink>docs"),
-    row("Unknown", "<extentinfo>", "<extendedattributes><xattr/></extendedattributes><extentinfo>", "<xattr/>"),
+    row("Unknown", "<extentinfo>", "<xattr/><extentinfo>"),
+    row("Unknown", "<extentinfo>", "<extendedattributes><key>k</key></extendedattributes><extentinfo>", "<key>k"),
     row("Unknown", "<contents>", "<contents><symlink>a</symlink>", "<symlink>a<"),
     # Twice
     row("Twice", PLAIN, PLAIN + "<readonly>true</readonly>", "<readonly>true"),
@@ -636,6 +691,44 @@ TABLE = [
     row("Syntax", "T19:39:57", "T24:39:57", "2020-01-28T24"),
     row("Syntax", "2020-01-28T19:39:57", "2019-02-29T19:39:57", "2019-02-29"),
     row("Syntax", "<partition>b</partition><startblock>9", "<partition>B</partition><startblock>9", "B</part"),
+    # extended attributes
+    with_attributes("ok 3 4", ""),
+    with_attributes("ok 3 4", xattr("<value>v</value>")),
+    with_attributes("ok 3 4", "\n<xattr >\t<value type = 'text' > v</value >\r\n<key >k</key > </xattr >\n"),
+    with_attributes("ok 3 4", xattr('<value type="base64">A P8=</value>')),
+    with_attributes("ok 3 4", xattr('<value type="base64">&#65;P8&#x3d;&#13;</value>')),
+    with_attributes("ok 3 4", xattr("<value/>") + xattr('<value type="base64"> </value>', "l")),
+    with_attributes("ok 3 4", xattr("<value/>", "e&#x301;") + xattr("<value/>", "&#xe9;")),
+    with_attributes("ok 3 4", xattr("<value/>", "😀" * 255)),
+    with_attributes("Missing value", "<xattr><key>k</key></xattr>"),
+    with_attributes("Missing key", "<xattr><value>v</value></xattr>"),
+    with_attributes("Missing key", "<xattr/>"),
+    with_attributes("Twice", xattr("<value/><value>v</value>"), "<value>v"),
+    with_attributes("Twice", xattr("<key>l</key><value/>"), "<key>l"),
+    row("Twice", "<extentinfo>", "<extendedattributes></extendedattributes><extendedattributes/><extentinfo>",
+        "<extendedattributes/>"),
+    with_attributes("Unknown", xattr("<value/><xattr/>"), "<xattr/>"),
+    with_attributes("Unknown", "<extendedattributes/>", "<extendedattributes/>"),
+    with_attributes("Unknown", xattr('<value percentencoded="true">v</value>'), "<value p"),
+    with_attributes("Unknown", '<xattr><key type="text">k</key><value/></xattr>', "<key t"),
+    with_attributes("Unknown", '<xattr type="text"><key>k</key><value/></xattr>', "<xattr t"),
+    with_attributes("Syntax", xattr('<value type="x">v</value>'), 'x">v'),
+    with_attributes("Syntax", xattr('<value type="x" y="1">v</value>'), 'x" y'),
+    with_attributes("Syntax", xattr('<value type="text" type="base64">v</value>'), 'type="base64"'),
+    with_attributes("Syntax", xattr('<value type="base64">AP8</value>'), "AP8"),
+    with_attributes("Syntax", xattr('<value type="base64"> \n AP9=</value>'), "AP9="),
+    with_attributes("Syntax", xattr('<value type="base64">-_-_</value>'), "-_-_"),
+    with_attributes("Syntax", xattr('<value type="base64">AP8=AP8=</value>'), "AP8=AP8="),
+    with_attributes("Name", "<xattr><key/><value/></xattr>", "<key/>"),
+    with_attributes("Name", '<xattr><key percentencoded="true">%00</key><value/></xattr>', "<key p"),
+    with_attributes("Name", xattr("<value/>", "x" * 256), "<key>x"),
+    with_attributes("SameKey 3", xattr("<value>v</value>") + xattr("<value>v</value>")),
+    with_attributes("SameKey 3", xattr("<value/>") + xattr("<value/>", "l") + xattr("<value>v</value>", "&#107;")),
+    with_attributes("Missing value", xattr("<value/>") + "<xattr><key>k</key></xattr>"),
+    (twice(">latest<", ">docs<"), "SameName 4"),
+    (twice("<highestfileuid>4<", "<highestfileuid>3<"), "Uid 4"),
+    (twice("<length>5<", f"<length>{2 ** 40 + 1}<"), "SameKey 1"),
+    (twice("</extent></extentinfo>", second_extent(4)), "SameKey 1"),
     # the last tests
     (changed("<highestfileuid>4<", f"<highestfileuid>{2 ** 62 + 1}<")[0], f"Uid {2 ** 62 + 1}"),
     (changed("<highestfileuid>4<", "<highestfileuid>3<")[0], "Uid 4"),
