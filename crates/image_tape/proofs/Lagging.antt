@@ -85,16 +85,20 @@ module _ {D : Type 0} (disk : Ghosts D) (v : View D) (kept : IsKept disk v) (set
         let t = held_is_whole disk v kept settled c held in
         let number : c.vcr ≡ v.reads.vcr = ap (λ (y : Cartridge). y.vcr) t.2 in
         record {
-          now = λ image h. (h.0, (h.0, h.1, inl refl), ⊎_elim
-              (λ (it : image ≡ h.0). subst (λ (y : Cartridge). WithinWrite at.part at.pos x c h.0 y) (sym it)
-              (record { items = inl (refl, inl refl); rest = record { other_part = refl; note_ip = refl; note_dp = refl } }))
-              (λ (ahead : (h.0.vcr ≤ vcr) × (image ≡ with_reference vcr h.0)).
-              let stay = items_stay at.part vcr h.0 in
-              subst (λ (y : Cartridge). WithinWrite at.part at.pos x c h.0 y) (sym ahead.1) (record {
-                items = inl (stay.0, inr (record { by_one = omega (arith, number, next); in_range = omega (arith, range) }));
-                rest = stay.1;
-              }))
-              h.2);
+          now = λ image h. (
+            h.0,
+            (h.0, h.1, inl refl),
+            ⊎_elim
+                (λ (it : image ≡ h.0). subst (λ (y : Cartridge). WithinWrite at.part at.pos x c h.0 y) (sym it)
+                (record { items = inl (refl, inl refl); rest = record { other_part = refl; note_ip = refl; note_dp = refl } }))
+                (λ (ahead : (h.0.vcr ≤ vcr) × (image ≡ with_reference vcr h.0)).
+                let stay = items_stay at.part vcr h.0 in
+                subst (λ (y : Cartridge). WithinWrite at.part at.pos x c h.0 y) (sym ahead.1) (record {
+                  items = inl (stay.0, inr (record { by_one = omega (arith, number, next); in_range = omega (arith, range) }));
+                  rest = stay.1;
+                }))
+                h.2,
+          );
           since = λ k image reached h. inl h;
           kept = λ k image reached h. h;
         };

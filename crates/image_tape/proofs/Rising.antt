@@ -290,10 +290,10 @@ uncounted_at disk at v kept settled uncounted d told = ⊎_elim
     (λ (one : (half_of at.part v.base).count ≤ at.pos). one)
     (λ (two : (half_of at.part v.reads).count ≤ at.pos). fewer_of at.part two)
     uncounted
-    where
-      fewer_of : (part : Part) → (half_of part v.reads).count ≤ at.pos → (half_of part v.base).count ≤ at.pos
-      fewer_of Ip two = omega (arith, two, (tells_of disk v kept settled d told).0.in_ip.fewer)
-      fewer_of Dp two = omega (arith, two, (tells_of disk v kept settled d told).0.in_dp.fewer)
+  where
+    fewer_of : (part : Part) → (half_of part v.reads).count ≤ at.pos → (half_of part v.base).count ≤ at.pos
+    fewer_of Ip two = omega (arith, two, (tells_of disk v kept settled d told).0.in_ip.fewer)
+    fewer_of Dp two = omega (arith, two, (tells_of disk v kept settled d told).0.in_dp.fewer)
 
 module _ {D T E : Type 0} (disk : Ghosts D) (r : Result T E) (at : Place) (base reads : SlotValue) (v w n : View D) (is : v ≡ w) (kept : IsKept disk v)
     (settled_w : w.doubt ≡ Settled) (vcr : ℕ) (next : vcr ≡ v.reads.vcr + 1) (range : vcr < 2 ^ 64) where

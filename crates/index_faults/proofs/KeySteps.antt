@@ -153,16 +153,16 @@ module _ (nodes : List Node) (at : ℕ) (none : IsNowhereBefore (HasKeyTwice nod
   pub none_here : TellsTwice node.xattrs false → IsNowhereBefore (HasKeyTwice nodes) (at + 1)
   none_here apart = before_more (HasKeyTwice nodes) at none
       (λ h.
-          let same = ap (λ n. n.xattrs) (same_element nodes at h.node node h.is is) in
-          apart h.later record {
-            earlier = h.earlier;
-            before = h.two;
-            one = h.one;
-            one_is = subst (λ xs. IsAt xs h.earlier h.one) same h.one_is;
-            other = h.other;
-            other_is = subst (λ xs. IsAt xs h.later h.other) same h.other_is;
-            same = h.same;
-          })
+      let same = ap (λ n. n.xattrs) (same_element nodes at h.node node h.is is) in
+      apart h.later record {
+        earlier = h.earlier;
+        before = h.two;
+        one = h.one;
+        one_is = subst (λ xs. IsAt xs h.earlier h.one) same h.one_is;
+        other = h.other;
+        other_is = subst (λ xs. IsAt xs h.later h.other) same h.other_is;
+        same = h.same;
+      })
 
 pub nodes_end : (nodes : List Node) (at : ℕ) → IsNowhereBefore (HasKeyTwice nodes) at → length nodes ≤ at → (k : ℕ) → HasKeyTwice nodes k → ⊥
 nodes_end nodes at none all = nowhere (HasKeyTwice nodes) at (λ k h. omega (arith, all, slice_get_within nodes k h.node h.is)) none

@@ -1,5 +1,5 @@
 -- A whole document spells what its pieces tell.
-use Rattle.std.proofs.Common.{◌≡◌, ℕ, List, [], ◌∷◌, ◌++◌, Bool, true, false, ◌==◌, ◌&&◌, not, length, Some, None, IsUtf8, refl, sym, ap, subst, ◌∙◌, arith}
+use Rattle.std.proofs.Common.{◌≡◌, ℕ, List, [], ◌∷◌, Bool, true, false, ◌==◌, ◌&&◌, not, length, Some, None, IsUtf8, refl, sym, ap, subst, ◌∙◌}
 use Rattle.doc_fields.specs.declared.tags.Tag.{Tag}
 use Rattle.doc_fields.specs.declared.tags.Tag.TheVariants.{Directory}
 use Rattle.doc_elements.specs.Children.{code, member}
@@ -9,7 +9,7 @@ use Rattle.doc_elements.specs.declared.schema.Child.{Child}
 use Rattle.doc_elements.specs.declared.schema.Child.TheVariants as child
 use Rattle.doc_elements.specs.Schema.{rule, required}
 use Rattle.index_model.specs.Values.{NodeFacts, Nodes, value_in, listed, IndexValue, all_nodes}
-use Rattle.doc_elements.specs.Elements.{Item, plain, bare, nested, Items, no_items, item, item_tag, all_pieces}
+use Rattle.doc_elements.specs.Elements.{Item, plain, bare, nested, Items, no_items, item, item_tag}
 use Rattle.index_model.specs.Grammar.{or_else, own_children, inside, TellsFacts, TellsContents, TellsVolume, Spells}
 use Rattle.index_read.specs.Told.{State, Tell, blank, blank_spot, outermost, begun, item_told, items_told}
 use Rattle.index_read.specs.Walks.{IsWhole}

@@ -39,7 +39,7 @@ last_bytes enc dec s pad at inverse are short =
           let rest = drop at s in
           let few : length rest ≤ 4 = omega (arith, length-drop at s, short) in
           let held = (IsScanned-scan enc dec rest pad at rest no_leftover st 0 inverse (dropped at s are) few (omega arith) refl
-              ((refl, refl, λ j lt. absurd (omega (arith, lt)), λ j low lt. absurd (omega (arith, lt))), (omega arith, omega arith, omega arith, zeros)) e).1 in
+          ((refl, refl, λ j lt. absurd (omega (arith, lt)), λ j low lt. absurd (omega (arith, lt))), (omega arith, omega arith, omega arith, zeros)) e).1 in
           group_bytes (st.morsels_count * 6 / 8) _ _ _ _ (held.3 0) (held.3 1) (held.3 2) (held.3 3)
       | Err d ↦ λ e. none_bytes
     ] refl

@@ -9,7 +9,6 @@ use Rattle.index_model.specs.declared.nodes.Kind.TheVariants as kinds
 use Rattle.index_model.specs.declared.nodes.RawExtent.{RawExtent}
 use Rattle.doc_elements.specs.declared.schema.Place.TheVariants as place
 use Rattle.doc_elements.specs.declared.schema.Form.TheVariants as form
-use Rattle.doc_elements.specs.declared.schema.Child.TheVariants as child
 use Rattle.index_model.specs.Values.{NodeFacts, NodeValue, Nodes, file, link, value_in, listed}
 use Rattle.doc_elements.specs.Pieces.{Val, words}
 use Rattle.doc_elements.specs.Elements.{Item, plain, bare, nested, Items, no_items, item}

@@ -23,7 +23,7 @@ use Rattle.doc_elements.specs.declared.schema.Form.TheVariants as form
 use Rattle.base64.specs.GeneralPurpose.{IsBytes}
 use Rattle.node_keys.specs.Keys.{is_key}
 use Rattle.index_model.specs.Names.{IsNodeName, IsVolumeName}
-use Rattle.doc_elements.specs.Pieces.{Val, words, uuid, letter, number, bytes, ◌>>=◌, lift, least, is_too_great, in_range, number_in, is_volume_name, is_name, is_encoded, name_in, name_of, named, is_base64, from_base64, bytes_in, bytes_of, bytes_told, some_bytes, value_in, empty_value, leaf_at}
+use Rattle.doc_elements.specs.Pieces.{Val, words, uuid, letter, number, bytes, ◌>>=◌, lift, least, is_too_great, in_range, number_in, is_volume_name, is_name, is_encoded, name_in, name_of, named, is_base64, bytes_in, bytes_of, bytes_told, some_bytes, value_in, empty_value, leaf_at}
 use Rattle.index_model.specs.Texts.{IsLetter, IsPlainText}
 use Rattle.doc_elements.proofs.Inversion.{bind_ok, lift_ok, unless_ok}
 use Rattle.index_read.proofs.DecodedBytes.{base64_bytes}

@@ -11,8 +11,8 @@ ghost use Rattle.index_model.specs.Values.{facts_of, value_of, volume_of};
 ghost use Rattle.doc_elements.specs.Answers.{val_of};
 ghost use Rattle.index_read.specs.Drafts.{state_of};
 ghost use Rattle.index_read.specs.Told.{begun, blank, blank_node, blank_volume, blank_xattr, changed, ended, epoch};
-ghost use Rattle.index_read.specs.Told.{extent_with, facts_with, kind_with, leaf_told, node_with, one_more, policy_with};
-ghost use Rattle.index_read.specs.Told.{spot_with, volume_with, with_extent, with_xattr, xattr_with};
+ghost use Rattle.index_read.specs.Told.{extent_with, facts_with, kind_with, leaf_told, node_with, one_more};
+ghost use Rattle.index_read.specs.Told.{policy_with, spot_with, volume_with, with_extent, with_xattr, xattr_with};
 
 use doc_elements::{Place, Value};
 use doc_fields::{LockState, Tag};
@@ -390,12 +390,7 @@ fn tell_extent(
 }
 
 /// Gives a node one extended attribute more.
-fn tell_xattr(
-    alloc: Global,
-    nodes: &mut Vec<Node>,
-    at: u32,
-    xattr: Xattr,
-) -> Result<(), NoMemory>
+fn tell_xattr(alloc: Global, nodes: &mut Vec<Node>, at: u32, xattr: Xattr) -> Result<(), NoMemory>
     ensures { OnOk result (map value_of nodes.new.items
         ≡ changed at (with_xattr xattr) (map value_of nodes.old.items)) }
 {

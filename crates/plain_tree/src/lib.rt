@@ -18,8 +18,8 @@ mod refusals;
 pub use calls::{Answer, Call, Entry, Facts, Fate, Placed, Refusal, Sort};
 pub use keys::NodeKeys;
 pub use laws::{
-    attributes_stay, listings_are_exact, reads_see_writes, refused_calls_change_nothing, renames_keep_nodes,
-    trees_stay_valid, uids_never_return,
+    attributes_stay, listings_are_exact, reads_see_writes, refused_calls_change_nothing,
+    renames_keep_nodes, trees_stay_valid, uids_never_return,
 };
 pub use nodes::{Kind, Node};
 pub use plain::Plain;

@@ -9,9 +9,11 @@ loop-at-init c = begin c.args.xattrs.now c.new-seen.result c.new-seen.ensures.em
 
 pub returns-then-not-is_new : goal.returns-then-not-is_new
 returns-then-not-is_new c =
-    let is = slice_get_read c.args.xattrs.now (length c.args.xattrs.now) c.loop-at.at c.index-xattrs-at.result refl (omega arith) c.index-xattrs-at.is in
-    (c.loop-at.at, again_here c.args.xattrs.now c.loop-at.seen c.loop-at.at c.loop-at.invariant c.index-xattrs-at.result is
-        c.as_str-key.result c.as_str-key.ensures (was_had _ _ c.if-not-is_new.true c.in_ok-is_new.ensures.added))
+    let is = slice_get_read c.args.xattrs.now (length c.args.xattrs.now) c.loop-at.at c.index-xattrs-at.result refl (omega arith) c.index-xattrs-at.is in (
+      c.loop-at.at,
+      again_here c.args.xattrs.now c.loop-at.seen c.loop-at.at c.loop-at.invariant c.index-xattrs-at.result is
+          c.as_str-key.result c.as_str-key.ensures (was_had _ _ c.if-not-is_new.true c.in_ok-is_new.ensures.added),
+    )
 
 pub loop-at-preserved : goal.loop-at-preserved
 loop-at-preserved c =
