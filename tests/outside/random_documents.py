@@ -4,8 +4,8 @@
     random_documents.py TOOL SEED ROUNDS
 
 Half of them are documents of slow_reader.py's table with a few pieces damaged, half are random trees whose parts come
-in any order, some with UIDs, names, keys of attributes, lengths or extents that don't agree. Of each document that is accepted the one
-form has to be accepted too, with the same answer and the same attributes, and has to be its own one form.
+in any order, some with UIDs, names, keys of attributes, lengths or extents that don't agree. Of each document that is
+accepted the one form has to be accepted too, with the same answer and the same nodes, and has to be its own one form.
 """
 import base64
 import random

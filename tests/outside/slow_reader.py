@@ -62,7 +62,8 @@ REQUIRED = {
     "root": ["fileuid", "name"] + FIVE + ["readonly", "contents"],
     "directory": ["fileuid", "name"] + FIVE + ["readonly", "contents"],
     "contents": [], "file": ["fileuid", "name", "length"] + FIVE + ["readonly"], "attributes": [],
-    "xattr": ["key", "value"], "extents": [], "extent": ["fileoffset", "partition", "startblock", "byteoffset", "bytecount"],
+    "xattr": ["key", "value"], "extents": [],
+    "extent": ["fileoffset", "partition", "startblock", "byteoffset", "bytecount"],
 }
 MANY = {("criteria", "name"), ("contents", "directory"), ("contents", "file"), ("attributes", "xattr"),
         ("extents", "extent")}
