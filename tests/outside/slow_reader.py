@@ -35,7 +35,7 @@ LEAF = {  # form of each leaf, by its parent
     "contents": {},
     "file": {"name": "nodename", "length": "number", "openforwrite": "truth", "symlink": "anyname"},
     "attributes": {},
-    "xattr": {"key": "key", "value": "value"},
+    "xattr": {"key": "key", "value": "bytes"},
     "extents": {},
     "extent": {"fileoffset": "bounded", "partition": "letter", "startblock": "bounded", "byteoffset": "bounded",
                "bytecount": "bounded"},
@@ -67,11 +67,6 @@ REQUIRED = {
 }
 MANY = {("criteria", "name"), ("contents", "directory"), ("contents", "file"), ("attributes", "xattr"),
         ("extents", "extent")}
-ATTRIBUTE = {  # the attribute that an element may have, and its values where they are words
-    "ltfsindex": ("version", None), "ltfslabel": ("version", None),
-    "name": ("percentencoded", ("true", "false")), "symlink": ("percentencoded", ("true", "false")),
-    "key": ("percentencoded", ("true", "false")), "value": ("type", ("text", "base64")),
-}
 KNOWN = set("ltfslabel ltfsindex formattime partitions index data blocksize compression".split())
 for table in (LEAF, PARENT):
     for inside in table.values():
@@ -172,9 +167,11 @@ class Reader:
                 end = self.name(s)
             except Refuse as r:
                 raise Refuse("Version") if wrong_version else r
-            name = self.text[s:end].decode("latin-1")
-            known, values = ATTRIBUTE.get(tag, (None, None))
-            if name != known:
+            name = self.text[s:end]
+            root = tag in ("ltfsindex", "ltfslabel") and name == b"version"
+            escaped = tag in ("name", "symlink", "key") and name == b"percentencoded"
+            typed = tag == "value" and name == b"type"
+            if not (root or escaped or typed):
                 raise Refuse("Unknown", start)
             if found is not None:
                 raise Refuse("Version") if wrong_version else Refuse("Syntax", s)
@@ -182,9 +179,9 @@ class Reader:
             q = self.space(equals)
             close = self.quoted(q)
             value = self.text[q + 1:close]
-            if known == "version":
+            if root:
                 wrong_version = re.fullmatch(rb"2\.[0-4]\.[0-9]{1,3}", value) is None
-            elif value.decode("latin-1") not in values:
+            elif value not in ((b"text", b"base64") if typed else (b"true", b"false")):
                 raise Refuse("Syntax", q + 1)
             found = value
             at = close + 1
@@ -306,10 +303,9 @@ class Reader:
             name = data.decode()
         except UnicodeDecodeError:
             raise Refuse("Name", start)
-        if form == "key":
-            if not 1 <= len(name) <= 255 or "\0" in name:
-                raise Refuse("Name", start)
-        elif form != "anyname" and (len(name) > 255 or "/" in name or "\0" in name):
+        if form == "key" and (not 1 <= len(name) <= 255 or "\0" in name):
+            raise Refuse("Name", start)
+        if form in ("nodename", "volumename") and (len(name) > 255 or "/" in name or "\0" in name):
             raise Refuse("Name", start)
         if form == "nodename" and name in ("", ".", ".."):
             raise Refuse("Name", start)
@@ -320,22 +316,26 @@ class Reader:
         if empty:
             if form == "text":
                 return "", at
-            if form == "value":
+            if form == "bytes":
                 return b"", at
-            if form.endswith("name") or form == "key":
+            if form == "key" or form.endswith("name"):
                 return self.named(form, start, percent, ""), at
             raise Refuse("Syntax", at)
         if form == "text":
             value, at = self.characters(at)
-        elif form.endswith("name") or form in ("key", "value"):
+        elif form == "bytes":
             first = self.space(at)
             value, at = self.characters(at)
             if self.end_is_cut(at):
                 raise Refuse("Syntax", at)
-            if form == "value":
-                value = decoded(value, first) if attribute == b"base64" else value.encode()
-            else:
-                value = self.named(form, start, percent, value)
+            value = from_base64(value) if attribute == b"base64" else value.encode()
+            if value is None:
+                raise Refuse("Syntax", first)
+        elif form == "key" or form.endswith("name"):
+            value, at = self.characters(at)
+            if self.end_is_cut(at):
+                raise Refuse("Syntax", at)
+            value = self.named(form, start, percent, value)
         else:
             value, at = self.value(form, self.space(at))
             at = self.space(at)
@@ -419,16 +419,14 @@ class Reader:
         return found
 
 
-def decoded(text, at):
-    """The bytes that a text in base64 stands for, which has to be what they are encoded as but for white space."""
+def from_base64(text):
+    """The bytes that a text is in base64 but for its white space, with padding and no bits left over; else None."""
     symbols = "".join(c for c in text if c not in " \t\n\r")
     try:
-        value = base64.b64decode(symbols, validate=True)
+        found = base64.b64decode(symbols, validate=True)
     except ValueError:
-        value = None
-    if value is None or base64.b64encode(value).decode() != symbols:
-        raise Refuse("Syntax", at)
-    return value
+        return None
+    return found if base64.b64encode(found).decode() == symbols else None
 
 
 def begins_name(b):
@@ -469,25 +467,24 @@ def could_be_reference(left):
 
 
 def attributes(facts):
-    """The keys with their values, in the order of the document."""
-    return [(dict(x)["key"], dict(x)["value"]) for _, x in facts.get("extendedattributes", [])]
+    return [(dict(it)["key"], dict(it)["value"]) for _, it in facts.get("extendedattributes", [])]
 
 
 def flatten(found, nodes, parent):
-    """The nodes in the order of the document, as (parent, uid, name, kind, what, attributes)."""
+    """The nodes in the order of the document, as (parent, uid, name, keys and values, kind, what)."""
     facts = dict(found)
     at = len(nodes)
-    nodes.append((parent, facts["fileuid"], facts["name"], "dir", None, attributes(facts)))
+    nodes.append((parent, facts["fileuid"], facts["name"], attributes(facts), "dir", None))
     for tag, child in facts["contents"]:
         if tag == "directory":
             flatten(child, nodes, at)
         else:
             f = dict(child)
             if "symlink" in f:
-                nodes.append((at, f["fileuid"], f["name"], "link", f["symlink"], attributes(f)))
+                nodes.append((at, f["fileuid"], f["name"], attributes(f), "link", f["symlink"]))
             else:
                 extents = [(dict(e)["fileoffset"], dict(e)["bytecount"]) for _, e in f.get("extentinfo", [])]
-                nodes.append((at, f["fileuid"], f["name"], "file", (f["length"], extents), attributes(f)))
+                nodes.append((at, f["fileuid"], f["name"], attributes(f), "file", (f["length"], extents)))
 
 
 def last_tests(highest, nodes):
@@ -505,10 +502,10 @@ def last_tests(highest, nodes):
         if (parent, name) in names:
             raise Refuse("SameName", uid)
         names.add((parent, name))
-    for _, uid, *_, pairs in nodes:
-        if len({key for key, _ in pairs}) < len(pairs):
+    for _, uid, _, keyed, *_ in nodes:
+        if len({key for key, _ in keyed}) < len(keyed):
             raise Refuse("SameKey", uid)
-    for _, uid, _, kind, what, _ in nodes:
+    for _, uid, _, _, kind, what in nodes:
         if kind != "file":
             continue
         length, extents = what
@@ -585,25 +582,21 @@ def second_extent(offset):
     return "</extent>" + extent.replace(">0<", f">{offset}<", 1) + "</extentinfo>"
 
 
-def xattr(value, key="k"):
-    return f"<xattr><key>{key}</key>{value}</xattr>"
-
-
-def with_attributes(kind, inside, mark=None):
-    """The archive with these attributes on its file, and what has to be said of it, at the place of a mark."""
-    front = "<extendedattributes>"
-    text, place = changed("<extentinfo>", f"{front}{inside}</extendedattributes><extentinfo>", mark and front + inside)
-    return text, f"{kind} {place + text[place:].index(mark.encode(), len(front))}" if mark else kind
-
-
-def twice(old, new):
-    """The archive with a piece changed, and with a key that its root has twice."""
-    pairs = xattr("<value/>") + xattr("<value/>")
-    text = changed(old, new)[0].decode()
-    return text.replace("<contents>", f"<extendedattributes>{pairs}</extendedattributes><contents>", 1).encode()
-
-
 PLAIN = "<readonly>false</readonly>"
+KEPT = "<extendedattributes><xattr><key>k</key><value>v</value></xattr></extendedattributes>"
+
+
+def valued(attribute, text):
+    """An attribute whose value is told so, in front of the file's extents."""
+    return KEPT.replace("<value>v<", f"<value{attribute}>{text}<") + "<extentinfo>"
+
+
+def twice(one, other):
+    """Two attributes of these keys."""
+    pair = "".join(f"<xattr><value>v</value><key>{key}</key></xattr>" for key in (one, other))
+    return f"<extendedattributes>{pair}</extendedattributes>"
+
+
 TABLE = [
     (ARCHIVE.encode(), "ok 3 4"),
     # children in another order, white space, and empty elements of either form
@@ -618,6 +611,24 @@ TABLE = [
     (changed("<name>Archive</name>", "<name></name>")[0], "ok 3 4"),
     (changed("<name>Archive</name>", "<name>..</name>")[0], "ok 3 4"),
     (changed('version="2.4.0"', "version = '2.0.999'")[0], "ok 3 4"),
+    # attributes
+    (changed("<extentinfo>", KEPT + "<extentinfo>")[0], "ok 3 4"),
+    (ARCHIVE.replace("<contents>", KEPT + "<contents>").encode(), "ok 3 4"),
+    (changed("<symlink>", KEPT.replace("<key>k<", "<key>a/b<") + "<symlink>")[0], "ok 3 4"),
+    (ARCHIVE.replace("</symlink>", "</symlink>" + KEPT).encode(), "ok 3 4"),
+    (changed("<extentinfo>", valued("", ""))[0], "ok 3 4"),
+    (changed("<extentinfo>", valued(' type="text"', "&#13;&lt;&amp;&gt;\x7f"))[0], "ok 3 4"),
+    (changed("<extentinfo>", valued(' type="base64"', " A&#32;\n\tP8= "))[0], "ok 3 4"),
+    (changed("<extentinfo>", valued(' type="base64"', ""))[0], "ok 3 4"),
+    (changed("<extentinfo>", KEPT.replace("<key>k<", f"<key>{'é' * 255}<") + "<extentinfo>")[0], "ok 3 4"),
+    (changed("<extentinfo>", KEPT.replace("<key>k<", '<key percentencoded="true">%2E%2e%01<') + "<extentinfo>")[0],
+     "ok 3 4"),
+    (changed("<extentinfo>", twice("k", "K") + "<extentinfo>")[0], "ok 3 4"),
+    (changed("<extentinfo>", twice("e&#x301;", "&#xe9;") + "<extentinfo>")[0], "ok 3 4"),
+    (changed("<extentinfo>", twice("A", "%41") + "<extentinfo>")[0], "ok 3 4"),
+    (changed("<extentinfo>", KEPT.replace("<key>k<", f"<key>{'😀' * 255}<") + "<extentinfo>")[0], "ok 3 4"),
+    (changed("<extentinfo>", KEPT.replace("<value>v</value>", "<value/>") + "<extentinfo>")[0], "ok 3 4"),
+    (changed("<extentinfo>", valued(" type = 'base64' ", "&#65;P8&#x3d;&#13;"))[0], "ok 3 4"),
     # Unknown
     row("Unknown", "<comment>", "<remark>x</remark><comment>"),
     row("Unknown", PLAIN, '<readonly x="1">false</readonly>'),
@@ -628,14 +639,22 @@ TABLE = [
     row("Unknown", "<extentinfo>", "<extentinfo></extentinfo><extentinfo>", "<extentinfo><extent>"),
     row("Unknown", "<symlink>", "<symlink>a</symlink><symlink>", "<symlink>docs"),
     row("Unknown", "<symlink>", "<extentinfo/><symlink>", "<symlink>docs"),
+    row("Unknown", "<extentinfo>", valued(' percentencoded="true"', "v"), "<value p"),
+    row("Unknown", "<extentinfo>", KEPT.replace("<key>", '<key type="text">') + "<extentinfo>", "<key t"),
+    row("Unknown", "<extentinfo>", valued(' type="text" x="1"', "v"), "<value t"),
+    row("Unknown", "<extentinfo>", KEPT.replace("<key>", "<name>x</name><key>") + "<extentinfo>", "<name>x"),
+    row("Unknown", "<extentinfo>", KEPT.replace("<xattr>", '<xattr type="text">') + "<extentinfo>", "<xattr t"),
+    row("Unknown", "<extentinfo>", KEPT.replace("<key>", "<xattr/><key>") + "<extentinfo>", "<xattr/>"),
     row("Unknown", "<extentinfo>", "<xattr/><extentinfo>"),
-    row("Unknown", "<extentinfo>", "<extendedattributes><key>k</key></extendedattributes><extentinfo>", "<key>k"),
+    row("Unknown", "<highestfileuid>", KEPT + "<highestfileuid>"),
     row("Unknown", "<contents>", "<contents><symlink>a</symlink>", "<symlink>a<"),
     # Twice
     row("Twice", PLAIN, PLAIN + "<readonly>true</readonly>", "<readonly>true"),
     row("Twice", PLAIN, PLAIN + "<readonly !>", "<readonly !"),
     row("Twice", "<highestfileuid>", "<location/><highestfileuid>", "<location/>"),
     row("Twice", "<startblock>9", "<partition>a</partition><startblock>9", "<partition>a"),
+    row("Twice", "<extentinfo>", KEPT.replace("<value>", "<key>l</key><value>") + "<extentinfo>", "<key>l<"),
+    row("Twice", "<extentinfo>", KEPT + "<extendedattributes/><extentinfo>", "<extendedattributes/>"),
     # Version
     (changed('version="2.4.0"', 'version="2.5.0"')[0], "Version"),
     (changed('version="2.4.0"', 'version="2.4."')[0], "Version"),
@@ -651,6 +670,10 @@ TABLE = [
     (changed(f"<contents>{FILE}</contents>", "")[0], "Missing contents"),
     (changed("<volumelockstate>", "<dataplacementpolicy></dataplacementpolicy><volumelockstate>")[0],
      "Missing indexpartitioncriteria"),
+    (changed("<extentinfo>", "<extendedattributes><xattr/></extendedattributes><extentinfo>")[0], "Missing key"),
+    (changed("<extentinfo>", KEPT.replace("<value>v</value>", "") + "<extentinfo>")[0], "Missing value"),
+    (changed("<extentinfo>", KEPT.replace("<key>k</key>", "") + "<extentinfo>")[0], "Missing key"),
+    (changed("<extentinfo>", twice("k", "k</key></xattr><xattr><key>k") + "<extentinfo>")[0], "Missing value"),
     # Number
     row("Number", "<generationnumber>3<", "<generationnumber>0<", "0</generationnumber"),
     row("Number", "<generationnumber>3<", f"<generationnumber>{2 ** 62 + 1}<", "4611686018427387905"),
@@ -674,7 +697,17 @@ TABLE = [
     (changed("<name>docs</name>", '<name percentencoded="true">50%25%01%</name>')[0], "ok 3 4"),
     (changed("<name>docs</name>", '<name percentencoded="false">50%25</name>')[0], "ok 3 4"),
     row("Name", "<name>Archive</name>", "<name>a/b</name>"),
+    row("Name", "<extentinfo>", KEPT.replace("<key>k<", "<key><") + "<extentinfo>", "<key>"),
+    row("Name", "<extentinfo>", KEPT.replace("<key>k<", f"<key>{'k' * 256}<") + "<extentinfo>", "<key>"),
+    row("Name", "<extentinfo>", KEPT.replace("<key>k<", '<key percentencoded="true">%00<') + "<extentinfo>", "<key p"),
     # Syntax
+    row("Syntax", "<extentinfo>", valued(' type="x" y="1"', "v"), 'x" y'),
+    row("Syntax", "<extentinfo>", valued(' type="text" type="text"', "v"), 'type="text">'),
+    row("Syntax", "<extentinfo>", valued(' type="base64"', " AP8"), "AP8"),
+    row("Syntax", "<extentinfo>", valued(' type="base64"', "AP9="), "AP9="),
+    row("Syntax", "<extentinfo>", valued(' type="base64"', "_P8="), "_P8="),
+    row("Syntax", "<extentinfo>", valued(' type="base64"', "AP8=="), "AP8=="),
+    row("Syntax", "<extentinfo>", valued(' type="base64"', "AP8=AP8="), "AP8=AP8="),
     (b"", "Syntax 0"),
     row("Syntax", "<creator>", "<!-- x --><creator>", "!-- x"),
     row("Syntax", "<creator>", "x<creator>", "x<creator"),
@@ -692,44 +725,6 @@ TABLE = [
     row("Syntax", "T19:39:57", "T24:39:57", "2020-01-28T24"),
     row("Syntax", "2020-01-28T19:39:57", "2019-02-29T19:39:57", "2019-02-29"),
     row("Syntax", "<partition>b</partition><startblock>9", "<partition>B</partition><startblock>9", "B</part"),
-    # extended attributes
-    with_attributes("ok 3 4", ""),
-    with_attributes("ok 3 4", xattr("<value>v</value>")),
-    with_attributes("ok 3 4", "\n<xattr >\t<value type = 'text' > v</value >\r\n<key >k</key > </xattr >\n"),
-    with_attributes("ok 3 4", xattr('<value type="base64">A P8=</value>')),
-    with_attributes("ok 3 4", xattr('<value type="base64">&#65;P8&#x3d;&#13;</value>')),
-    with_attributes("ok 3 4", xattr("<value/>") + xattr('<value type="base64"> </value>', "l")),
-    with_attributes("ok 3 4", xattr("<value/>", "e&#x301;") + xattr("<value/>", "&#xe9;")),
-    with_attributes("ok 3 4", xattr("<value/>", "😀" * 255)),
-    with_attributes("Missing value", "<xattr><key>k</key></xattr>"),
-    with_attributes("Missing key", "<xattr><value>v</value></xattr>"),
-    with_attributes("Missing key", "<xattr/>"),
-    with_attributes("Twice", xattr("<value/><value>v</value>"), "<value>v"),
-    with_attributes("Twice", xattr("<key>l</key><value/>"), "<key>l"),
-    row("Twice", "<extentinfo>", "<extendedattributes></extendedattributes><extendedattributes/><extentinfo>",
-        "<extendedattributes/>"),
-    with_attributes("Unknown", xattr("<value/><xattr/>"), "<xattr/>"),
-    with_attributes("Unknown", "<extendedattributes/>", "<extendedattributes/>"),
-    with_attributes("Unknown", xattr('<value percentencoded="true">v</value>'), "<value p"),
-    with_attributes("Unknown", '<xattr><key type="text">k</key><value/></xattr>', "<key t"),
-    with_attributes("Unknown", '<xattr type="text"><key>k</key><value/></xattr>', "<xattr t"),
-    with_attributes("Syntax", xattr('<value type="x">v</value>'), 'x">v'),
-    with_attributes("Syntax", xattr('<value type="x" y="1">v</value>'), 'x" y'),
-    with_attributes("Syntax", xattr('<value type="text" type="base64">v</value>'), 'type="base64"'),
-    with_attributes("Syntax", xattr('<value type="base64">AP8</value>'), "AP8"),
-    with_attributes("Syntax", xattr('<value type="base64"> \n AP9=</value>'), "AP9="),
-    with_attributes("Syntax", xattr('<value type="base64">-_-_</value>'), "-_-_"),
-    with_attributes("Syntax", xattr('<value type="base64">AP8=AP8=</value>'), "AP8=AP8="),
-    with_attributes("Name", "<xattr><key/><value/></xattr>", "<key/>"),
-    with_attributes("Name", '<xattr><key percentencoded="true">%00</key><value/></xattr>', "<key p"),
-    with_attributes("Name", xattr("<value/>", "x" * 256), "<key>x"),
-    with_attributes("SameKey 3", xattr("<value>v</value>") + xattr("<value>v</value>")),
-    with_attributes("SameKey 3", xattr("<value/>") + xattr("<value/>", "l") + xattr("<value>v</value>", "&#107;")),
-    with_attributes("Missing value", xattr("<value/>") + "<xattr><key>k</key></xattr>"),
-    (twice(">latest<", ">docs<"), "SameName 4"),
-    (twice("<highestfileuid>4<", "<highestfileuid>3<"), "Uid 4"),
-    (twice("<length>5<", f"<length>{2 ** 40 + 1}<"), "SameKey 1"),
-    (twice("</extent></extentinfo>", second_extent(4)), "SameKey 1"),
     # the last tests
     (changed("<highestfileuid>4<", f"<highestfileuid>{2 ** 62 + 1}<")[0], f"Uid {2 ** 62 + 1}"),
     (changed("<highestfileuid>4<", "<highestfileuid>3<")[0], "Uid 4"),
@@ -737,6 +732,16 @@ TABLE = [
     (changed("<fileuid>4<", "<fileuid>2<")[0], "Uid 2"),
     (changed("<fileuid>1<", "<fileuid>5<")[0].replace(b"<highestfileuid>4", b"<highestfileuid>5"), "Uid 5"),
     (changed("<name>latest<", "<name>docs<")[0], "SameName 4"),
+    (changed("<extentinfo>", twice("k", "k") + "<extentinfo>")[0], "SameKey 3"),
+    (changed("<extentinfo>", twice("k", "k").replace("<key>", '<key percentencoded="true">') + "<extentinfo>")[0]
+     .replace(b">k<", b">%6B<", 1), "SameKey 3"),
+    (changed("<extentinfo>", twice("k", "k") + "<extentinfo>")[0].replace(b">latest<", b">docs<"), "SameName 4"),
+    (changed("<symlink>", twice("k", "k") + "<symlink>")[0].replace(b"<length>5<", b"<length>1099511627777<"),
+     "SameKey 4"),
+    (changed("<contents>", twice("k", "k") + "<contents>")[0].replace(b"<highestfileuid>4<", b"<highestfileuid>3<"),
+     "Uid 4"),
+    (ARCHIVE.replace("<contents>", twice("k", "k") + "<contents>").encode(), "SameKey 1"),
+    (changed("</extent></extentinfo>", second_extent(4) + twice("&#107;", "k"))[0], "SameKey 3"),
     (changed("<length>5<", f"<length>{2 ** 40 + 1}<")[0], "Extent 3"),
     (changed("<fileoffset>0<", f"<fileoffset>{2 ** 62 - 4}<")[0], "Extent 3"),
     (changed("</extent></extentinfo>", second_extent(4))[0], "Overlap 3"),
@@ -754,11 +759,14 @@ def run_table():
         if got != want:
             wrong += 1
             print(f"wanted {want}, got {got}: {text[:2000]!r}")
-    for cut in range(len(ARCHIVE)):
-        if said(ARCHIVE[:cut].encode()) != f"Syntax {cut}":
-            wrong += 1
-            print(f"cut at {cut}: {said(ARCHIVE[:cut].encode())}")
-    print(f"{len(TABLE)} documents and {len(ARCHIVE)} cut ones, {wrong} wrong")
+    keyed = ARCHIVE.replace("<extentinfo>", valued(' type="base64"', " AP8=\n"), 1)
+    keyed = keyed.replace("<symlink>", twice("k", "l") + "<symlink>", 1)
+    for whole in (ARCHIVE, keyed):
+        for cut in range(len(whole)):
+            if said(whole[:cut].encode()) != f"Syntax {cut}":
+                wrong += 1
+                print(f"cut at {cut}: {said(whole[:cut].encode())}")
+    print(f"{len(TABLE)} documents and {len(ARCHIVE) + len(keyed)} cut ones, {wrong} wrong")
     return wrong
 
 
