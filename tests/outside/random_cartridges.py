@@ -177,6 +177,15 @@ class Volumes:
     def often(self, right, *others):
         return self.rnd.choice(others) if self.rnd.random() < 0.06 else right
 
+    def attributes(self):
+        """None mostly; else some, rarely with a key twice."""
+        if self.rnd.random() < 0.7:
+            return ""
+        keys = ["k", self.often("l", "k"), "a/b"]
+        value = self.rnd.choice(["<value/>", "<value>v</value>", "<value type='base64'>A P8=</value>"])
+        return "".join(["<extendedattributes>", *(f"<xattr><key>{key}</key>{value}</xattr>" for key in keys),
+                        "</extendedattributes>"])
+
     def file(self, uid, end):
         rnd = self.rnd
         block = rnd.choice([3, 4, 4, 4, 5, end - 1, end - 1, end, 2 ** 52, 2 ** 62])
@@ -193,7 +202,7 @@ class Volumes:
                 f"<startblock>{block}</startblock><byteoffset>{byte}</byteoffset>"
                 f"<bytecount>{count}</bytecount></extent></extentinfo>")
         return (f"<file><fileuid>{uid}</fileuid><name>{name}</name><length>{min(count, 2 ** 40)}</length>"
-                f"{slow_reader.TIMES}<readonly>false</readonly>{kind}</file>")
+                f"{slow_reader.TIMES}<readonly>false</readonly>{self.attributes()}{kind}</file>")
 
     def nodes(self, end):
         rnd = self.rnd
@@ -201,7 +210,8 @@ class Volumes:
         if rnd.random() < 0.3:
             inside = self.file(20, end) if rnd.random() < 0.5 else ""
             parts.append(f"<directory><fileuid>11</fileuid><name>{rnd.choice(['docs', 'a!', 'a'])}</name>"
-                         f"{slow_reader.TIMES}<readonly>false</readonly><contents>{inside}</contents></directory>")
+                         f"{slow_reader.TIMES}<readonly>false</readonly>{self.attributes()}"
+                         f"<contents>{inside}</contents></directory>")
         rnd.shuffle(parts)
         return "".join(parts)
 
