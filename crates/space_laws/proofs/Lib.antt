@@ -1,3 +1,4 @@
+pub mod PlainAsks
 pub mod Steps
 pub mod TreeLaw
 pub mod SpaceFacts

@@ -1,17 +1,18 @@
 -- Which placements are steps of the space, and which aren't.
-use Rattle.std.proofs.Common.{◌≡◌, ℕ, Bool, true, false, eqb, cond, List, [], ◌∷◌, length, Option, Some, None, refl, ap, ◌∙◌}
+use Rattle.std.proofs.Common.{◌≡◌, Bool, true, false, eqb, cond, [], ◌∷◌, length, Option, Some, None, refl, ap, ◌∙◌}
 use Rattle.tape_types.specs.declared.moments.Moment.{Moment}
 use Rattle.plain_tree.specs.Calls.{after, after_done as tree_after_done, after_unless}
 use Rattle.plain_tree.specs.Paths.{same_path}
 use Rattle.plain_tree.specs.Refusals.{refusal_of}
 use Rattle.plain_tree.specs.Tree.{cells_at}
 use Rattle.plain_tree.specs.declared.calls.Call.{Call}
-use Rattle.plain_tree.specs.declared.calls.Call.TheVariants.{Mkdir, Create, Write, Truncate, Read, Listing, Stat, Rename, Remove, Sync}
+use Rattle.plain_tree.specs.declared.calls.Call.TheVariants.{Rename, Truncate, Write}
 use Rattle.plain_tree.specs.declared.calls.Fate.TheVariants as fates
 use Rattle.plain_tree.specs.declared.calls.Placed.{Placed}
 use Rattle.plain_tree.specs.declared.calls.Refusal.{Refusal}
 use Rattle.space_laws.specs.Laws.{AreSteps, AreStill}
-use Rattle.space_laws.specs.Space.{Ask, nothing, change, store, index}
+use Rattle.space_laws.proofs.PlainAsks.{ask_plainly}
+use Rattle.space_laws.specs.Space.{Ask, change, nothing}
 use Rattle.space_laws.specs.Space as space
 use Rattle.space_laws.specs.Standing.{Given, Standing, after_done, after_placed, ask_of, ask_unless, ask_unrefused, files_after, rules}
 
@@ -27,47 +28,25 @@ by_test : (b : Bool) (x : Standing) (Same : Type 0) → cond b nothing change �
 by_test true x Same e h = h refl
 by_test false x Same e h = absurd cc
 
-by_change : (s : Bool) (text : List ℕ) → cond s (index text) nothing ≡ nothing → s ≡ false
-by_change true text e = absurd cc
-by_change false text e = refl
-
 -- a call that the tree doesn't refuse leaves it
 tree_stays : (g : Given) (st : Standing) (call : Call) (at : Moment) → ask_unrefused g st call at ≡ nothing → tree_after_done st.tree call at ≡ st.tree
-tree_stays g st (Mkdir path) at e = absurd cc
-tree_stays g st (Create path) at e = absurd cc
 tree_stays g st (Write path offset []) at e = refl
 tree_stays g st (Write path offset (b ∷ bytes)) at e = absurd cc
 tree_stays g st (Truncate path size) at e = by_test (eqb size (length (cells_at st.tree.nodes path))) st _ e (λ same. rw same refl)
-tree_stays g st (Read path offset count) at e = refl
-tree_stays g st (Listing path) at e = refl
-tree_stays g st (Stat path) at e = refl
 tree_stays g st (Rename from to) at e = by_test (same_path from to) st _ e (λ same. rw same refl)
-tree_stays g st (Remove path) at e = absurd cc
-tree_stays g st Sync at e = refl
+tree_stays g st _ at e = cc
 
 tree_kept : (g : Given) (st : Standing) (call : Call) (at : Moment) (r : Option Refusal) → refusal_of st.tree call ≡ r → ask_unless r (ask_unrefused g st call at) ≡ nothing
     → after_unless r (tree_after_done st.tree call at) st.tree ≡ st.tree
 tree_kept g st call at None is e = tree_stays g st call at e
 tree_kept g st call at (Some refusal) is e = refl
 
-files_kept : (g : Given) (on : Bool) (st : Standing) (call : Call) → files_after g on st call nothing ≡ st.files
-files_kept g on st (Mkdir path) = refl
-files_kept g on st (Create path) = refl
-files_kept g on st (Write path offset bytes) = refl
-files_kept g on st (Truncate path size) = refl
-files_kept g on st (Read path offset count) = refl
-files_kept g on st (Listing path) = refl
-files_kept g on st (Stat path) = refl
-files_kept g on st (Rename from to) = refl
-files_kept g on st (Remove path) = refl
-files_kept g on st Sync = refl
-
 still : (g : Given) (on : Bool) (st : Standing) (call : Call) (at : Moment) → ask_of g st call at ≡ nothing → after_done g on st call at ≡ st
 still g on st call at e =
     let same : after st.tree call at ≡ st.tree = tree_kept g st call at (refusal_of st.tree call) refl e in
     ap (λ (ask : Ask). record { tree = after st.tree call at; files = files_after g on st call ask; space = space.after (rules g) on st.space ask }) e
     ∙ ap (λ t. record { tree = t; files = files_after g on st call nothing; space = st.space }) same
-    ∙ ap (λ f. record { tree = st.tree; files = f; space = st.space }) (files_kept g on st call)
+    ∙ ap (λ f. record { tree = st.tree; files = f; space = st.space }) (ask_plainly.files_still g on st call)
 
 pub are_still : AreStill
 are_still = record { void = void; nothing_asked = still }

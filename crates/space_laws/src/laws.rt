@@ -1,4 +1,4 @@
-ghost use Rattle.space_laws.specs.Laws.{AreSteps, AreStill, TreesAreReplays, ValuesAreTold};
+ghost use Rattle.space_laws.specs.Laws.{AreSteps, AreStill, AskPlainly, TreesAreReplays, ValuesAreTold};
 
 /// What a layout admits is one step of the space.
 #[tactic(auto, using(crate::proofs::Steps::are_steps))]
@@ -10,6 +10,13 @@ pub fn admissions_are_steps()
 #[tactic(auto, using(crate::proofs::TreeLaw::are_replays))]
 pub fn trees_are_replays()
     ensures { TreesAreReplays }
+{}
+
+/// Only a write and a sync may need room on the tape, and only a write and a truncation may lay a file anew. So a call
+/// of another kind asks for a change of the tree at most.
+#[tactic(auto, using(crate::proofs::PlainAsks::ask_plainly))]
+pub fn others_ask_plainly()
+    ensures { AskPlainly }
 {}
 
 /// A void placement and a call that asks nothing change nothing.
