@@ -214,12 +214,12 @@ impl<B: ByteDisk> Drive for ImageTape<B> {
     ghost allows = { λ image. Unit {0} };
 
     ghost only_now = { λ t image lt h.
-        laws.only_now B.ByteDisk t image (λ left now. B.only_now t.slots.disk left lt now) lt h };
+        laws.only_now _ t image (λ left now. B.only_now t.slots.disk left lt now) lt h };
 
-    ghost counts_now = { λ t n image le h. laws.counts_now B.ByteDisk t n image h };
+    ghost counts_now = { λ t n image le h. laws.counts_now _ t n image h };
 
     ghost lower = { λ t n m image le h.
-        laws.lower B.ByteDisk t n m image le (λ left now. B.lower t.slots.disk n m left le now) h };
+        laws.lower _ t n m image le (λ left now. B.lower t.slots.disk n m left le now) h };
 
     fn limits(&self) -> Limits {
         let _kept = self.doubt;

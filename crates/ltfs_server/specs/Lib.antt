@@ -5,3 +5,4 @@ pub mod Promises
 pub mod Sentence
 pub mod Serving
 pub mod Ready
+pub mod Disks

@@ -1,0 +1,78 @@
+-- What each image of a run holds of what was acknowledged.
+use Rattle.std.specs.Prelude.{◌≡◌, ◌≤◌, ◌<◌, ◌-◌, ◌^◌, nat_le, ℕ, All, Contains, List, [], ◌∷◌, length}
+use Rattle.std.proofs.Common.{⊎_elim, arith}
+use Rattle.std.proofs.lemmas.Bool.{cases_lt, leb-true}
+use Rattle.std.proofs.lemmas.List.Elements.{All-cons, All-contains, All-contains_itself, All-filter, All-head, All-nil, All-tail, filter_passes}
+use Rattle.std.specs.List.{slice_index_or}
+use Rattle.tape_types.specs.declared.cartridges.Cartridge.{Cartridge}
+use Rattle.plain_tree.specs.Tree.{Tree}
+use Rattle.session_script.specs.declared.logs.Ack.{Ack}
+use Rattle.session_script.specs.declared.logs.Log.{Log}
+use Rattle.session_script.specs.declared.scripts.ScriptLine.{ScriptLine}
+use Rattle.cartridge_meaning.specs.Carried.{Carried}
+use Rattle.serving_promise.specs.Crash.{IsSound, StandsWithin, SurvivesCrashes}
+use Rattle.serving_promise.specs.Headline.{tree_of_log}
+use Rattle.serving_promise.specs.Meanings.{cartridges}
+use Rattle.serving_promise.specs.Served.{Leavings}
+use Rattle.run_laws.specs.Memory.{HoldsAcked, acked_by}
+
+abbrev IsUpTo : ℕ → Ack → Type 0
+IsUpTo n a = a.place ≤ n
+
+-- what holds of 0 and of the place of each holds of a place up to which all of them are
+furthest : (Holds : ℕ → Type 0) → Holds 0 → (acks : List Ack) → All (λ (a : Ack). Holds a.place) acks
+    → (n : ℕ) × Holds n × All (IsUpTo n) acks
+furthest Holds first [] each = (0, first, All-nil (IsUpTo 0))
+furthest Holds first (a ∷ acks) each =
+    let more = furthest Holds first acks (All-tail (λ (b : Ack). Holds b.place) a acks each) in
+    ⊎_elim
+    (λ (further : more.0 < a.place). (
+      a.place,
+      All-head (λ (b : Ack). Holds b.place) a acks each,
+      All-cons (IsUpTo a.place) a acks (omega arith) (λ k d within. omega (arith, further, more.2 k d within)),
+    ))
+    (λ (not_further : a.place ≤ more.0). (more.0, more.1, All-cons (IsUpTo more.0) a acks not_further more.2))
+    (cases_lt more.0 a.place)
+
+module _ (script : List ScriptLine) (log : Log) (facts : Carried) (tree : Tree) (leavings : Leavings) (start : ℕ)
+    (survives : SurvivesCrashes cartridges facts (tree_of_log script tree log) (length log.history) log.acks leavings start)
+    (lower : (t u : ℕ) (image : Cartridge) → t ≤ u → leavings.since u image → leavings.since t image) where
+  abbrev IsWithin : Cartridge → ℕ → Type 0
+  IsWithin image n = StandsWithin cartridges facts (tree_of_log script tree log) n (length log.history) image
+
+  holds : (image : Cartridge) → leavings.since start image → (acks : List Ack) → All (λ (a : Ack). IsWithin image a.place) acks
+      → HoldsAcked facts script tree log acks image
+  holds image left acks each =
+      let f = furthest (IsWithin image) (survives.always image left) acks each in
+      record {
+        count = f.1.count;
+        within = f.1.not_after;
+        acked = λ ack there. omega (arith, f.1.not_before, All-contains (IsUpTo f.0) acks ack f.2 there);
+        generation = f.1.generation;
+        stands = f.1.stands;
+        sound = survives.sound image left;
+      }
+
+  -- each acknowledgement that was given by then
+  acked_each : (image : Cartridge) (count : ℕ) → count < 2 ^ 64 - 1 → leavings.since count image
+      → All (λ (a : Ack). IsWithin image a.place) (acked_by count log.acks)
+  acked_each image count less left k d within =
+      let all = All-filter (λ (a : Ack). nat_le a.command count)
+      (λ (a : Ack). a.command ≤ count → IsWithin image a.place) log.acks
+      (λ k' d' within'. λ by_then. survives.acknowledged (slice_index_or log.acks k' d')
+      (All-contains_itself log.acks k' d' within') (omega (arith, by_then, less)) image
+      (lower (slice_index_or log.acks k' d').command count image by_then left)) in
+      let passed = filter_passes (λ (a : Ack). nat_le a.command count) log.acks in
+      all k d within (leb-true (slice_index_or (acked_by count log.acks) k d).command count (passed k d within))
+
+  pub holds_then : (count : ℕ) → start ≤ count → count < 2 ^ 64 - 1 → (image : Cartridge) → leavings.since count image
+      → HoldsAcked facts script tree log (acked_by count log.acks) image
+  holds_then count began less image left = holds image (lower start count image began left) (acked_by count log.acks) (acked_each image count less left)
+
+  -- an image that counts since each number
+  pub holds_now : (image : Cartridge) → ((t : ℕ) → leavings.since t image) → ((ack : Ack) → Contains log.acks ack → ack.command < 2 ^ 64 - 1)
+      → HoldsAcked facts script tree log log.acks image
+  holds_now image left reached = holds image (left start) log.acks (λ k d within.
+      let ack = slice_index_or log.acks k d in
+      let there = All-contains_itself log.acks k d within in
+      survives.acknowledged ack there (reached ack there) image (left ack.command))

@@ -1,0 +1,61 @@
+-- What a crash leaves of a run over a tape on a disk of byte files, in words of the disk's model and of what its files mean.
+use Rattle.std.specs.Prelude.{ℕ, ◌≡◌, ◌≤◌, ◌<◌, ◌-◌, ◌^◌, List, Option, Some, Ok}
+use Rattle.tape_types.specs.declared.cartridges.Cartridge.{Cartridge}
+use Rattle.tape_types.specs.declared.cartridges.Limits.{Limits}
+use Rattle.tape_types.specs.declared.moments.Moment.{Moment}
+use Rattle.byte_disk.specs.Files.{Files}
+use Rattle.byte_disk.specs.declared.disk.ByteDisk.{Ghosts}
+use Rattle.tape_drive.specs.declared.drive.Drive.{Ghosts as Drives}
+use Rattle.image_format.specs.Images.{Opens, image}
+use Rattle.image_tape.specs.Opens.{HasOpened}
+use Rattle.image_tape.specs.Tape.{View}
+use Rattle.plain_tree.specs.Tree.{Tree}
+use Rattle.session_script.specs.declared.logs.Ack.{Ack}
+use Rattle.session_script.specs.declared.logs.Log.{Log}
+use Rattle.session_script.specs.declared.scripts.ScriptLine.{ScriptLine}
+use Rattle.basic_commands.specs.Runs.{Taken, Written}
+use Rattle.cartridge_meaning.specs.Carried.{Carried}
+use Rattle.cartridge_meaning.specs.Meaning.{Stands}
+use Rattle.serving_promise.specs.Crash.{IsSound}
+use Rattle.serving_promise.specs.Meanings.{cartridges}
+use Rattle.run_laws.specs.Memory.{HoldsAcked, acked_by}
+use Rattle.ltfs_server.specs.Sentence.{Asked, Sentence}
+
+-- a tape that was opened over a disk whose files meant a cartridge that stands for the tree and is sound
+pub record IsOpened {D : Type 0} (disk : Ghosts D) (facts : Carried) (tree : Tree) (generation : ℕ)
+    (first : View D) : Type 0 where
+  pub limits : Limits
+  pub before : D
+  pub files : Files
+  pub held : Cartridge
+  pub opened : HasOpened disk limits before first
+  pub told : disk.held before ≡ Some files
+  pub means : image limits files ≡ Ok held
+  pub stands : Stands held facts tree generation
+  pub sound : IsSound cartridges held
+  pub low : disk.commands first.slots.disk < 2 ^ 64 - 1
+
+-- A disk opens, as a cartridge that stands for the tree after some first placements of the log, with all that were
+-- placed before any of these syncs among them.
+abbrev pub OpensHolding : Limits → Carried → List ScriptLine → Tree → Log → List Ack → Files → Type 0
+OpensHolding limits facts script tree log acks image =
+    (c : Cartridge) × Opens limits image c × HoldsAcked facts script tree log acks c
+
+-- What holds of each disk that a crash may leave now, and of each that one may have left at any moment of the run, once
+-- the disk's commands had reached a number since which the tape is open.
+pub record SurvivesOnDisk {D : Type 0} (disk : Ghosts D) (facts : Carried) (script : List ScriptLine) (tree : Tree)
+    (first now : View D) (log : Log) : Type 0 where
+  pub at_end : disk.commands now.slots.disk < 2 ^ 64 - 1 → (image : Files) → disk.leaves now.slots.disk image
+      → OpensHolding now.room.limits facts script tree log log.acks image
+  pub at_any : (count : ℕ) → disk.commands first.slots.disk ≤ count → now.opened ≤ count → count < 2 ^ 64 - 1
+      → (image : Files) → disk.left_since now.slots.disk count image
+      → OpensHolding now.room.limits facts script tree log (acked_by count log.acks) image
+
+-- Where the sentence holds of a log, over a tape on a disk that tells its files, which began as it was opened, the log
+-- survives crashes of the disk.
+abbrev pub SurvivesOnDisks : {D : Type 0} → Ghosts D → Drives (View D) → View D → Type 0
+SurvivesOnDisks {D = D} disk drive now = (files : Files) → disk.held now.slots.disk ≡ Some files
+    → (asked : Asked) (moment : Option Moment) (source : Taken) (first : View D) (sink : Written) (status : ℕ) (log : Log)
+    (s : Sentence asked moment source drive first now sink status log)
+    (facts : Carried) (tree : Tree) (generation : ℕ) → IsOpened disk facts tree generation first
+    → SurvivesOnDisk disk facts s.script tree first now log
