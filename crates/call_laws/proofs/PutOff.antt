@@ -35,15 +35,7 @@ use Rattle.call_laws.proofs.Rightly.{adds_none, follows_by, longer_than}
 -- only a write is put off, which asks for no block
 wants_none : (st : Standing) (past : List Event) (cached next : List Kept) (who n : ℕ) (call : Call) → next ≡ cached → (is_write call && nat_lt 64 n) ≡ true → Asks st past (Drains who ∷ []) cached next (Some call)
 wants_none st past cached next who n (calls.Write path offset bytes) same off = (refl, same)
-wants_none st past cached next who n (calls.Read path offset count) same off = absurd cc
-wants_none st past cached next who n (calls.Mkdir path) same off = absurd cc
-wants_none st past cached next who n (calls.Create path) same off = absurd cc
-wants_none st past cached next who n (calls.Truncate path size) same off = absurd cc
-wants_none st past cached next who n (calls.Listing path) same off = absurd cc
-wants_none st past cached next who n (calls.Stat path) same off = absurd cc
-wants_none st past cached next who n (calls.Rename from to) same off = absurd cc
-wants_none st past cached next who n (calls.Remove path) same off = absurd cc
-wants_none st past cached next who n calls.Sync same off = absurd cc
+wants_none st past cached next who n _ same off = absurd cc
 
 module _ {D : Type 0} (drive : Ghosts D) (fixed : Fixed D) (plan : Plan drive fixed) (planned : Items) (before after : Option Moment) (who nth : ℕ) (call : Call) (at : Moment) (old new : Parts D)
     (s : IsSubmission drive fixed plan planned before after who nth call at submitted.Drain old new) (v : PutsOff who old new) where

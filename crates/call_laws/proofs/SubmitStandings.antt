@@ -18,7 +18,7 @@ use Rattle.plain_tree.specs.Tree as plain
 use Rattle.plain_tree.specs.declared.calls.Refusal.TheVariants.{IsDir, IsLink}
 use Rattle.plain_tree.specs.declared.nodes.Kind.TheVariants as plain_kinds
 use Rattle.plain_tree.specs.declared.calls.Call.{Call}
-use Rattle.plain_tree.specs.declared.calls.Call.TheVariants.{Mkdir, Create, Write, Truncate, Read, Listing, Stat, Rename, Remove, Sync}
+use Rattle.plain_tree.specs.declared.calls.Call.TheVariants.{Truncate, Write}
 use Rattle.plain_tree.specs.declared.calls.Fate.{Fate}
 use Rattle.plain_tree.specs.declared.calls.Fate.TheVariants as fates
 use Rattle.plain_tree.specs.declared.calls.Placed.{Placed}
@@ -212,13 +212,6 @@ module _ (g : Given) (on : Bool) (st : Standing) (planned : Items) (ops : List O
       → ((path : List (List ℕ)) (offset : ℕ) (bytes : List ℕ) → call ≡ Write path offset bytes
       → IsFileOf g.mounted.label.block (st.files (uid_at st.tree.nodes path)))
       → IsRightWith (files_after g on st call ask) ask
-  files_right (Mkdir path) ask file = same_files ask
-  files_right (Create path) ask file = same_files ask
   files_right (Write path offset bytes) ask file = stored_files path offset bytes ask (file path offset bytes refl)
   files_right (Truncate path size) ask file = cut_short_files path size ask
-  files_right (Read path offset count) ask file = same_files ask
-  files_right (Listing path) ask file = same_files ask
-  files_right (Stat path) ask file = same_files ask
-  files_right (Rename from to) ask file = same_files ask
-  files_right (Remove path) ask file = same_files ask
-  files_right Sync ask file = same_files ask
+  files_right _ ask file = same_files ask

@@ -66,13 +66,7 @@ of_none : (planned : Items) (cached : List Kept) (tree : Tree) (call : Call) (to
 of_none planned cached tree calls.Sync told here past isnt is = absurd (isnt (is tt))
 of_none planned cached tree (calls.Read path offset count) told here past isnt is = ([], refl)
 of_none planned cached tree (calls.Write path offset bytes) told here past isnt is = ([], refl)
-of_none planned cached tree (calls.Mkdir path) told here past isnt is = refl
-of_none planned cached tree (calls.Create path) told here past isnt is = refl
-of_none planned cached tree (calls.Truncate path size) told here past isnt is = refl
-of_none planned cached tree (calls.Listing path) told here past isnt is = refl
-of_none planned cached tree (calls.Stat path) told here past isnt is = refl
-of_none planned cached tree (calls.Rename from to) told here past isnt is = refl
-of_none planned cached tree (calls.Remove path) told here past isnt is = refl
+of_none planned cached tree _ told here past isnt is = refl
 
 -- ---- what a read asks for
 
@@ -102,15 +96,7 @@ module _ {D : Type 0} (drive : Ghosts D) (fixed : Fixed D) (planned : Items) (p 
             asks = sym used.0 ∙ sym (asked_is drive fixed planned p tied good standing path offset count free);
             uses = used.1 ∙ ap (used_all p.cached) (sym (found_is drive fixed planned p tied good standing path offset count free));
           })
-  wants_none (calls.Mkdir path) uses = (refl, uses)
-  wants_none (calls.Create path) uses = (refl, uses)
-  wants_none (calls.Write path offset bytes) uses = (refl, uses)
-  wants_none (calls.Truncate path size) uses = (refl, uses)
-  wants_none (calls.Listing path) uses = (refl, uses)
-  wants_none (calls.Stat path) uses = (refl, uses)
-  wants_none (calls.Rename from to) uses = (refl, uses)
-  wants_none (calls.Remove path) uses = (refl, uses)
-  wants_none calls.Sync uses = (refl, uses)
+  wants_none _ uses = (refl, uses)
 
   same : next ≡ p.cached → All (IsKeptRightly planned p.stock.layout.ops (drive.held fixed.first)) next
   same is = cached_still planned p.stock.layout.ops (drive.held fixed.first) p.cached next is tied.cached
@@ -125,29 +111,13 @@ module _ {D : Type 0} (drive : Ghosts D) (fixed : Fixed D) (planned : Items) (p 
           (used_all_all (IsKeptRightly planned p.stock.layout.ops (drive.held fixed.first)) p.cached (found_of p.stock.layout.ops p.cached (distinct (blocks_in (st.files (uid_at st.tree.nodes path)) offset count))) tied.cached)
       by (Some refusal) refused = cached_still planned p.stock.layout.ops (drive.held fixed.first) p.cached next
           (uses.0 (λ none. absurd (let h : Some refusal ≡ None = sym refused ∙ none in cc))) tied.cached
-  used_right (calls.Mkdir path) uses = same uses
-  used_right (calls.Create path) uses = same uses
-  used_right (calls.Write path offset bytes) uses = same uses
-  used_right (calls.Truncate path size) uses = same uses
-  used_right (calls.Listing path) uses = same uses
-  used_right (calls.Stat path) uses = same uses
-  used_right (calls.Rename from to) uses = same uses
-  used_right (calls.Remove path) uses = same uses
-  used_right calls.Sync uses = same uses
+  used_right _ uses = same uses
 
   -- a read may use them where the drive told a cartridge
   pub may_use : (call : Call) (c : Cartridge) → drive.held fixed.first ≡ Some c → MayUse planned p.cached call
   may_use (calls.Read path offset count) c told = λ k d less.
       subst (λ (o : Option Cartridge). IfSome o (λ c. IsPlannedBlock planned (slice_index_or p.cached k d))) told (tied.cached k d less).bytes
-  may_use (calls.Mkdir path) c told = tt
-  may_use (calls.Create path) c told = tt
-  may_use (calls.Write path offset bytes) c told = tt
-  may_use (calls.Truncate path size) c told = tt
-  may_use (calls.Listing path) c told = tt
-  may_use (calls.Stat path) c told = tt
-  may_use (calls.Rename from to) c told = tt
-  may_use (calls.Remove path) c told = tt
-  may_use calls.Sync c told = tt
+  may_use _ c told = tt
 
 pub some_call : (a b : Call) → Some a ≡ Some b → a ≡ b
 some_call a b e = cc

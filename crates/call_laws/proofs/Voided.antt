@@ -43,15 +43,7 @@ full_wants g on st (calls.Read path offset count) at need limit past cached next
     let fits : is_over (rules g) on st.space (ask_of g st (calls.Read path offset count) at) ≡ false =
     ap (λ (ask : Ask). is_over (rules g) on st.space ask) (read_asks g st path offset count at) in
     absurd (true≢false (sym full.over ∙ fits))
-full_wants g on st (calls.Mkdir path) at need limit past cached next same full = (refl, same)
-full_wants g on st (calls.Create path) at need limit past cached next same full = (refl, same)
-full_wants g on st (calls.Write path offset bytes) at need limit past cached next same full = (refl, same)
-full_wants g on st (calls.Truncate path size) at need limit past cached next same full = (refl, same)
-full_wants g on st (calls.Listing path) at need limit past cached next same full = (refl, same)
-full_wants g on st (calls.Stat path) at need limit past cached next same full = (refl, same)
-full_wants g on st (calls.Rename from to) at need limit past cached next same full = (refl, same)
-full_wants g on st (calls.Remove path) at need limit past cached next same full = (refl, same)
-full_wants g on st calls.Sync at need limit past cached next same full = (refl, same)
+full_wants g on st _ at need limit past cached next same full = (refl, same)
 
 void_isnt_done : fates.Void ≡ fates.Done → ⊥
 void_isnt_done e = cc

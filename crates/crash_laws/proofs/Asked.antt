@@ -1,5 +1,5 @@
 -- A submission in the words of what it adds to the view.
-use Rattle.std.proofs.Common.{◌≡◌, ℕ, ◌+◌, ◌-◌, ◌^◌, ◌≤◌, ◌<◌, ◌==◌, Bool, true, false, cond, List, [], ◌∷◌, ◌++◌, length, map, Option, Some, None, append-nil, refl, sym, ap, subst, ◌∙◌, arith}
+use Rattle.std.proofs.Common.{◌≡◌, ℕ, ◌+◌, ◌-◌, ◌^◌, ◌≤◌, ◌<◌, true, false, List, [], ◌∷◌, ◌++◌, length, map, Option, Some, None, append-nil, refl, sym, ap, subst, ◌∙◌, arith}
 use Rattle.std.specs.Prelude.{slice_get}
 use Rattle.std.proofs.lemmas.List.Elements.{All-cons}
 use Rattle.tape_types.specs.declared.cartridges.Cartridge.{Cartridge}
@@ -9,21 +9,19 @@ use Rattle.tape_types.specs.declared.moments.Moment.{Moment}
 use Rattle.tape_drive.specs.declared.drive.Drive.{Ghosts}
 use Rattle.tape_layout.specs.declared.ops.Op.{Op}
 use Rattle.plain_tree.specs.History.{call_at}
-use Rattle.plain_tree.specs.Paths.{same_path}
-use Rattle.plain_tree.specs.Refusals.{refusal_of}
-use Rattle.plain_tree.specs.Tree.{cells_at}
 use Rattle.plain_tree.specs.declared.calls.Call.{Call}
-use Rattle.plain_tree.specs.declared.calls.Call.TheVariants.{Mkdir, Create, Write, Truncate, Read, Listing, Stat, Rename, Remove, Sync}
+use Rattle.plain_tree.specs.declared.calls.Call.TheVariants.{Read, Sync, Write}
 use Rattle.plain_tree.specs.declared.calls.Fate.{Fate}
 use Rattle.plain_tree.specs.declared.calls.Fate.TheVariants as fates
 use Rattle.plain_tree.specs.declared.calls.Placed.{Placed}
-use Rattle.plain_tree.specs.declared.calls.Refusal.{Refusal}
 use Rattle.session_script.specs.Grammar.{calls_of}
 use Rattle.session_script.specs.declared.logs.Event.{Event}
 use Rattle.session_script.specs.declared.logs.Event.TheVariants.{Wants, Queues, Drains}
 use Rattle.session_script.specs.declared.logs.Reply.{Reply}
-use Rattle.space_laws.specs.Space.{Ask, Space, change, nothing}
-use Rattle.space_laws.specs.Standing.{Given, Standing, admitted_at, ask_of, ask_unless, ask_unrefused}
+use Rattle.space_laws.specs.Laws.{may_write_index}
+use Rattle.space_laws.specs.Space.{Space}
+use Rattle.space_laws.specs.Standing.{Given, Standing, admitted_at, ask_of}
+use Rattle.space_laws.proofs.PlainAsks.{of_other}
 use Rattle.serving_promise.specs.Served.{View}
 use Rattle.serving_promise.specs.Submits.{IsOfDone, IsOfFate, Places, Submits, call_of, fate_for, queues_at}
 use Rattle.serving_promise.specs.declared.answers.Submitted.{Submitted}
@@ -55,23 +53,8 @@ quiet_by added others is quiet = subst AreQuiet (sym is) quiet
 
 -- ---- only a sync asks for an index
 
-by_test : (b : Bool) → AsksNoIndex (cond b nothing change)
-by_test true = tt
-by_test false = tt
-
 abbrev AsksNone : Given → Standing → Call → Moment → Type 0
 AsksNone g st call at = AsksNoIndex (ask_of g st call at)
-
-by_refusal : (r : Option Refusal) (ask : Ask) → AsksNoIndex ask → AsksNoIndex (ask_unless r ask)
-by_refusal None ask none = none
-by_refusal (Some refusal) ask none = tt
-
-unless : (g : Given) (st : Standing) (call : Call) (at : Moment) → AsksNoIndex (ask_unrefused g st call at) → AsksNone g st call at
-unless g st call at none = by_refusal (refusal_of st.tree call) (ask_unrefused g st call at) none
-
-written : (g : Given) (st : Standing) (path : List (List ℕ)) (offset : ℕ) (bytes : List ℕ) (at : Moment) → AsksNone g st (Write path offset bytes) at
-written g st path offset [] at = unless g st (Write path offset []) at tt
-written g st path offset (b ∷ bytes) at = unless g st (Write path offset (b ∷ bytes)) at tt
 
 module _ {D : Type 0} (drive : Ghosts D)
     (only_now : (d : D) (image : Cartridge) → drive.commands d < 2 ^ 64 - 1 → drive.left_since d (drive.commands d) image → drive.leaves d image)
@@ -92,6 +75,9 @@ module _ {D : Type 0} (drive : Ghosts D)
 
   abbrev st : Standing
   st = standing_now limits old
+
+  asks_none : (call : Call) (at : Moment) → may_write_index call ≡ false → AsksNone g st call at
+  asks_none call at other = of_other AsksNoIndex tt tt (λ wanted bytes. tt) g st call at other
 
   asked_by : (p : Placed) (ops : List Op) (added : List Event) → s.added ≡ added → new.history ≡ old.history ++ p ∷ []
       → admitted_at g old.on old.history (length old.history) p ≡ ops → IsPlaced drive old new p ops added
@@ -135,25 +121,12 @@ module _ {D : Type 0} (drive : Ghosts D)
       none_safe drive only_now planned limits old new p [] safe (asked_by p [] [] of history (none_ops p fate is)) no_events fate is,
     ),
   )
-  by_call p (Some (Mkdir path)) history fate is of =
-      quiet_call p (Mkdir path) [] of history fate is no_events (unless g st (Mkdir path) p.at tt)
-  by_call p (Some (Create path)) history fate is of =
-      quiet_call p (Create path) [] of history fate is no_events (unless g st (Create path) p.at tt)
   by_call p (Some (Write path offset bytes)) history fate is of =
-      quiet_call p (Write path offset bytes) (queues_at of.0) of.1 history fate is (quiet_queues of.0) (written g st path offset bytes p.at)
-  by_call p (Some (Truncate path size_of)) history fate is of =
-      quiet_call p (Truncate path size_of) [] of history fate is no_events
-      (unless g st (Truncate path size_of) p.at (by_test (size_of == length (cells_at st.tree.nodes path))))
+      quiet_call p (Write path offset bytes) (queues_at of.0) of.1 history fate is (quiet_queues of.0)
+      (asks_none (Write path offset bytes) p.at refl)
   by_call p (Some (Read path offset count)) history fate is of =
       quiet_call p (Read path offset count) (map (λ place. Wants (length old.history) place) of.0) of.1 history fate is (quiet_wants (length old.history) of.0)
-      (unless g st (Read path offset count) p.at tt)
-  by_call p (Some (Listing path)) history fate is of =
-      quiet_call p (Listing path) [] of history fate is no_events (unless g st (Listing path) p.at tt)
-  by_call p (Some (Stat path)) history fate is of = quiet_call p (Stat path) [] of history fate is no_events (unless g st (Stat path) p.at tt)
-  by_call p (Some (Rename from to)) history fate is of =
-      quiet_call p (Rename from to) [] of history fate is no_events (unless g st (Rename from to) p.at (by_test (same_path from to)))
-  by_call p (Some (Remove path)) history fate is of =
-      quiet_call p (Remove path) [] of history fate is no_events (unless g st (Remove path) p.at tt)
+      (asks_none (Read path offset count) p.at refl)
   by_call p (Some Sync) history fate is of = (
     next_ops limits old (next_ask limits old Sync p.at),
     ops_by p (next_ops limits old (next_ask limits old Sync p.at)) history (done_ops p Sync fate is),
@@ -161,6 +134,8 @@ module _ {D : Type 0} (drive : Ghosts D)
         (asked_by p (next_ops limits old (next_ask limits old Sync p.at)) _ of.1 history (done_ops p Sync fate is)) (quiet_queues of.0) headed fate is size
         (due p history fate is),
   )
+  by_call p (Some call) history fate is of =
+      quiet_call p call [] of history fate is no_events (asks_none call p.at refl)
 
   -- the call of what was placed
   call_is : (fate : Fate) (reply : Option Reply) (places : Places old new who nth fate reply) → call_at g.calls places.placed ≡ call_of old who nth

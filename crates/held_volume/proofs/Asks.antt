@@ -19,9 +19,11 @@ use Rattle.file_tree.specs.Tree.{FileTree, HasExtents, HasLaid, StandsAt, plain_
 use Rattle.file_tree.specs.Valid.{IsGood}
 use Rattle.file_tree.proofs.TreeLemmas.{after_free, free_too}
 use Rattle.file_tree.proofs.WriteLemmas.{long_as}
+use Rattle.space_laws.proofs.PlainAsks.{ask_plainly}
 use Rattle.space_laws.specs.Files.{Files, with_file}
+use Rattle.space_laws.specs.Laws.{may_lay_anew}
 use Rattle.space_laws.specs.Space.{change, nothing}
-use Rattle.space_laws.specs.Standing.{Given, Standing, ask_of, ask_unless, uid_at}
+use Rattle.space_laws.specs.Standing.{Given, Standing, ask_of, ask_unless, ask_unrefused, uid_at}
 use Rattle.held_volume.specs.Applied.{IsChanging, IsStill}
 use Rattle.held_volume.specs.Steps.{IsStep}
 use Rattle.held_volume.specs.Stocks.{LieAs}
@@ -36,64 +38,26 @@ pub unrefused : (tape : Tape) (t : FileTree) (tree : plain.Tree) (call : Call) �
 unrefused tape t tree call other free is = ap (λ tree. refusal_of tree call) (sym is) ∙ free_too tape t call other free
 
 module _ (before next : FileTree) (at : Moment) where
-  pub mkdir_changes : (path : Path) → refusal_of (plain_of whole before) (asks.Mkdir path) ≡ None → IsStep (asks.Mkdir path) at before next → IsChanging (asks.Mkdir path) at before next
-  mkdir_changes path free step = record {
+  -- a step of a call that asks for a change where it isn't refused, and lays no file anew
+  pub step_changes : (call : Call) → IsNoRead call → may_lay_anew call ≡ false → ((g : Given) (st : Standing) → ask_unrefused g st call at ≡ change)
+      → refusal_of (plain_of whole before) call ≡ None → IsStep call at before next → IsChanging call at before next
+  step_changes call other lays asked free step = record {
     plain = step.plain;
     volume = step.volume;
     blocks = step.blocks;
-    asks = λ tape g st is. ap (λ r. ask_unless r change) (unrefused tape before st.tree (asks.Mkdir path) (λ p o c e. cc) free is);
-    lies = λ tape g on st is held. step.lies st.files held;
-  }
-
-  pub create_changes : (path : Path) → refusal_of (plain_of whole before) (asks.Create path) ≡ None → IsStep (asks.Create path) at before next → IsChanging (asks.Create path) at before next
-  create_changes path free step = record {
-    plain = step.plain;
-    volume = step.volume;
-    blocks = step.blocks;
-    asks = λ tape g st is. ap (λ r. ask_unless r change) (unrefused tape before st.tree (asks.Create path) (λ p o c e. cc) free is);
-    lies = λ tape g on st is held. step.lies st.files held;
-  }
-
-  pub remove_changes : (path : Path) → refusal_of (plain_of whole before) (asks.Remove path) ≡ None → IsStep (asks.Remove path) at before next → IsChanging (asks.Remove path) at before next
-  remove_changes path free step = record {
-    plain = step.plain;
-    volume = step.volume;
-    blocks = step.blocks;
-    asks = λ tape g st is. ap (λ r. ask_unless r change) (unrefused tape before st.tree (asks.Remove path) (λ p o c e. cc) free is);
-    lies = λ tape g on st is held. step.lies st.files held;
+    asks = λ tape g st is. ap (λ r. ask_unless r (ask_unrefused g st call at)) (unrefused tape before st.tree call other free is) ∙ asked g st;
+    lies = λ tape g on st is held. subst (λ (files : Files). LieAs files next) (sym (ask_plainly.files g on st call change lays)) (step.lies st.files held);
   }
 
   pub rename_changes : (from to : Path) → same_path from to ≡ false → refusal_of (plain_of whole before) (asks.Rename from to) ≡ None → IsStep (asks.Rename from to) at before next → IsChanging (asks.Rename from to) at before next
-  rename_changes from to apart free step = record {
-    plain = step.plain;
-    volume = step.volume;
-    blocks = step.blocks;
-    asks = λ tape g st is. ap (λ r. ask_unless r (cond (same_path from to) nothing change)) (unrefused tape before st.tree (asks.Rename from to) (λ p o c e. cc) free is)
-        ∙ ap (λ b. cond b nothing change) apart;
-    lies = λ tape g on st is held. step.lies st.files held;
-  }
+  rename_changes from to apart free step =
+      step_changes (asks.Rename from to) (λ p o c e. cc) refl (λ g st. ap (λ b. cond b nothing change) apart) free step
 
 -- ---- calls that ask nothing
 
 pub asks_nothing : (r : Option Refusal) → ask_unless r nothing ≡ nothing
 asks_nothing None = refl
 asks_nothing (Some refusal) = refl
-
-module _ (t : FileTree) (at : Moment) where
-  pub read_still : (path : Path) (offset count : ℕ) → IsStill (asks.Read path offset count) at t t
-  read_still path offset count = record { same = refl; asks = λ tape g st is. asks_nothing (refusal_of st.tree (asks.Read path offset count)) }
-
-  pub list_still : (path : Path) → IsStill (asks.Listing path) at t t
-  list_still path = record { same = refl; asks = λ tape g st is. asks_nothing (refusal_of st.tree (asks.Listing path)) }
-
-  pub stat_still : (path : Path) → IsStill (asks.Stat path) at t t
-  stat_still path = record { same = refl; asks = λ tape g st is. asks_nothing (refusal_of st.tree (asks.Stat path)) }
-
-  pub rename_still : (from to : Path) → same_path from to ≡ true → IsStill (asks.Rename from to) at t t
-  rename_still from to same = record {
-    same = refl;
-    asks = λ tape g st is. ap (λ b. ask_unless (refusal_of st.tree (asks.Rename from to)) (cond b nothing change)) same ∙ asks_nothing (refusal_of st.tree (asks.Rename from to));
-  }
 
 -- ---- lengths
 
@@ -159,12 +123,12 @@ module _ (before next : FileTree) (at : Moment) (call : Call) (free : refusal_of
 
   pub mkdir_arm : (path slice : Path) → call ≡ asks.Mkdir path → slice ≡ path → ((c : Call) → making sorts.Dir slice ≡ Some c → IsStep c at before next) → IsChanging call at before next
   mkdir_arm path slice is same steps = subst (λ c. IsChanging c at before next) (sym is)
-      (mkdir_changes before next at path (free_as (asks.Mkdir path) is) (steps (asks.Mkdir path) (ap (λ p. Some (asks.Mkdir p)) same)))
+      (step_changes before next at (asks.Mkdir path) (λ p o c e. cc) refl (λ g st. refl) (free_as (asks.Mkdir path) is) (steps (asks.Mkdir path) (ap (λ p. Some (asks.Mkdir p)) same)))
 
   pub create_arm : (path slice : Path) → call ≡ asks.Create path → slice ≡ path → ((c : Call) → making sorts.File slice ≡ Some c → IsStep c at before next) → IsChanging call at before next
   create_arm path slice is same steps = subst (λ c. IsChanging c at before next) (sym is)
-      (create_changes before next at path (free_as (asks.Create path) is) (steps (asks.Create path) (ap (λ p. Some (asks.Create p)) same)))
+      (step_changes before next at (asks.Create path) (λ p o c e. cc) refl (λ g st. refl) (free_as (asks.Create path) is) (steps (asks.Create path) (ap (λ p. Some (asks.Create p)) same)))
 
   pub remove_arm : (path slice : Path) → call ≡ asks.Remove path → slice ≡ path → IsStep (asks.Remove slice) at before next → IsChanging call at before next
   remove_arm path slice is same step = subst (λ c. IsChanging c at before next) (sym is)
-      (remove_changes before next at path (free_as (asks.Remove path) is) (subst (λ p. IsStep (asks.Remove p) at before next) same step))
+      (step_changes before next at (asks.Remove path) (λ p o c e. cc) refl (λ g st. refl) (free_as (asks.Remove path) is) (subst (λ p. IsStep (asks.Remove p) at before next) same step))

@@ -1,5 +1,5 @@
 -- A submission makes no command of the drive, and places one call at most.
-use Rattle.std.specs.Prelude.{◌≡◌, ◌≤◌, ℕ, false, List, [], ◌∷◌, ◌++◌, All, length, map, Option, Some, None}
+use Rattle.std.specs.Prelude.{◌≡◌, ◌≤◌, ℕ, false, List, [], ◌∷◌, ◌++◌, All, length, map, Option, Some}
 use Rattle.std.proofs.Common.{refl, sym, subst, arith, append-nil}
 use Rattle.std.proofs.lemmas.List.Elements.{All-append, All-cons, All-nil}
 use Rattle.tape_types.specs.declared.cartridges.Place.{Place}
@@ -63,17 +63,10 @@ same_still is still = subst AreStill (sym is) still
 
 done_is : (here : ℕ) (before : List Event) (call : Option Call) (added : List Event)
     → IsOfDone here before call added → AreStill added
-done_is here before None added is = same_still is no_events
 done_is here before (Some calls.Sync) added is = same_still is.1 (sync_is here before is.0)
 done_is here before (Some (calls.Read path offset count)) added is = same_still is.1 (wants_are here is.0)
 done_is here before (Some (calls.Write path offset bytes)) added is = same_still is.1 (queues_are is.0)
-done_is here before (Some (calls.Mkdir path)) added is = same_still is no_events
-done_is here before (Some (calls.Create path)) added is = same_still is no_events
-done_is here before (Some (calls.Truncate path length)) added is = same_still is no_events
-done_is here before (Some (calls.Rename from to)) added is = same_still is no_events
-done_is here before (Some (calls.Remove path)) added is = same_still is no_events
-done_is here before (Some (calls.Listing path)) added is = same_still is no_events
-done_is here before (Some (calls.Stat path)) added is = same_still is no_events
+done_is here before _ added is = same_still is no_events
 
 fate_is : (fate : Fate) (here : ℕ) (before : List Event) (call : Option Call) (added : List Event)
     → IsOfFate fate here before call added → AreStill added

@@ -1,5 +1,5 @@
 -- Calls that change the tree, and the ops that they queue.
-use Rattle.std.specs.Prelude.{ℕ, ◌≡◌, ◌==◌, ◌+◌, ◌-◌, ◌*◌, ◌≤◌, Bool, true, false, cond, List, [], ◌∷◌, ◌++◌, length, map, Option, Some, None, Result, Ok, Err, OnOk}
+use Rattle.std.specs.Prelude.{ℕ, ◌≡◌, ◌+◌, ◌-◌, ◌*◌, ◌≤◌, Bool, false, List, [], ◌∷◌, ◌++◌, length, map, Option, Some, None, Result, Ok, Err, OnOk}
 use Rattle.std.specs.Option.{unwrap_or}
 use Rattle.std.proofs.Common.{refl, sym, ap, subst, ◌∙◌, arith}
 use Rattle.std.proofs.lemmas.List.{length-map}
@@ -8,12 +8,11 @@ use Rattle.tape_types.specs.declared.cartridges.Part.TheVariants.{Ip, Dp}
 use Rattle.tape_types.specs.declared.cartridges.Place.{Place}
 use Rattle.extent_map.specs.Cells.{Tape}
 use Rattle.plain_tree.specs.Calls.{answer_unless, value_of}
-use Rattle.plain_tree.specs.Paths.{last_name, same_path}
+use Rattle.plain_tree.specs.Paths.{last_name}
 use Rattle.plain_tree.specs.Refusals.{refusal_of}
-use Rattle.plain_tree.specs.Tree.{cells_at}
 use Rattle.plain_tree.specs.declared.calls.Answer.TheVariants as the_answers
 use Rattle.plain_tree.specs.declared.calls.Call.{Call}
-use Rattle.plain_tree.specs.declared.calls.Call.TheVariants.{Mkdir, Create, Write, Truncate, Read, Listing, Stat, Rename, Remove, Sync}
+use Rattle.plain_tree.specs.declared.calls.Call.TheVariants.{Read, Sync, Write}
 use Rattle.plain_tree.specs.declared.calls.Fate.TheVariants as fates
 use Rattle.plain_tree.specs.declared.calls.Refusal.{Refusal}
 use Rattle.placement.specs.Computed.{chooses_ip}
@@ -27,7 +26,8 @@ use Rattle.tape_layout.specs.Plans.{AreStanding, Plan}
 use Rattle.tape_layout.specs.declared.errors.AdmitErr.{AdmitErr}
 use Rattle.tape_layout.specs.declared.ops.Op.{Op}
 use Rattle.tape_layout.specs.declared.standing.Ends.{Ends}
-use Rattle.space_laws.specs.Space.{Ask, after, change, nothing, ops_of}
+use Rattle.space_laws.proofs.PlainAsks.{of_other}
+use Rattle.space_laws.specs.Space.{Ask, after, ops_of}
 use Rattle.space_laws.specs.Standing.{Given, Standing, ask_of, ask_unless, ask_unrefused, length_after, rules}
 use Rattle.serving_promise.specs.Replies.{may_wait}
 use Rattle.serving_promise.specs.Submits.{queues_at}
@@ -48,31 +48,9 @@ use Rattle.volume_steps.proofs.SubmitLemmas.{placed_answered, placed_void}
 
 -- ---- what is asked
 
-no_text_unless : (r : Option Refusal) (ask : Ask) → AsksNoText ask → AsksNoText (ask_unless r ask)
-no_text_unless None ask is = is
-no_text_unless (Some why) ask is = omega arith
-
-no_text_cond : (b : Bool) → AsksNoText (cond b nothing change)
-no_text_cond true = omega arith
-no_text_cond false = omega arith
-
-no_text_unrefused : (g : Given) (st : Standing) (call : Call) (at : Moment) → may_wait call ≡ false
-    → AsksNoText (ask_unrefused g st call at)
-no_text_unrefused g st (Mkdir path) at is = omega arith
-no_text_unrefused g st (Create path) at is = omega arith
-no_text_unrefused g st (Write path offset []) at is = omega arith
-no_text_unrefused g st (Write path offset (b ∷ bytes)) at is = omega arith
-no_text_unrefused g st (Truncate path size) at is = no_text_cond (size == length (cells_at st.tree.nodes path))
-no_text_unrefused g st (Read path offset count) at is = omega arith
-no_text_unrefused g st (Listing path) at is = omega arith
-no_text_unrefused g st (Stat path) at is = omega arith
-no_text_unrefused g st (Rename from to) at is = no_text_cond (same_path from to)
-no_text_unrefused g st (Remove path) at is = omega arith
-no_text_unrefused g st Sync at is = cc
-
 pub no_text : (g : Given) (st : Standing) (call : Call) (at : Moment) → may_wait call ≡ false → AsksNoText (ask_of g st call at)
-no_text g st call at is =
-    no_text_unless (refusal_of st.tree call) (ask_unrefused g st call at) (no_text_unrefused g st call at is)
+no_text g st Sync at is = absurd (cc is)
+no_text g st call at is = of_other AsksNoText (omega arith) (omega arith) (λ wanted bytes. omega arith) g st call at refl
 
 -- ---- the room of a write
 
@@ -218,16 +196,8 @@ change_done drive who nth call at result ip dp next trail old new s no_wait no_l
 -- ---- it is refused, or doesn't fit
 
 uses_none : (stock : Stocked) (cached next : List Kept) (call : Call) → may_wait call ≡ false → next ≡ cached → UsesKept stock cached next call
-uses_none stock cached next (Listing path) is same = same
-uses_none stock cached next (Stat path) is same = same
-uses_none stock cached next (Mkdir path) is same = same
-uses_none stock cached next (Create path) is same = same
-uses_none stock cached next (Write path offset bytes) is same = same
-uses_none stock cached next (Truncate path size) is same = same
 uses_none stock cached next (Read path offset count) is same = cc
-uses_none stock cached next (Rename from to) is same = same
-uses_none stock cached next (Remove path) is same = same
-uses_none stock cached next Sync is same = same
+uses_none stock cached next _ is same = same
 
 pub change_refused : {D : Type 0} (drive : Ghosts D) (who nth : ℕ) (call : Call) (at : Moment) (result : Submitted) (refusal : Refusal)
     (old mid new : Parts D) → CanAsk who old → may_wait call ≡ false

@@ -9,7 +9,7 @@ use Rattle.plain_tree.specs.Refusals.{refusal_of}
 use Rattle.plain_tree.specs.Tree.{Tree, facts_of}
 use Rattle.plain_tree.specs.declared.nodes.Node.{Node}
 use Rattle.plain_tree.specs.declared.calls.Refusal.{Refusal}
-use Rattle.plain_tree.specs.declared.calls.Call.TheVariants.{Mkdir, Create, Write, Truncate, Read, Listing, Stat, Rename, Remove, Sync}
+use Rattle.plain_tree.specs.declared.calls.Call.TheVariants.{Listing, Read, Stat}
 use Rattle.space_laws.specs.Space.{nothing}
 use Rattle.space_laws.specs.Standing.{Given, Standing, ask_of, ask_unless}
 use Rattle.plan_laws.specs.Planned.{tape_on}
@@ -139,14 +139,7 @@ nothing_asked (Some why) = refl
 looks_ask : (g : Given) (st : Standing) (call : Call) (at : Moment) → only_looks call ≡ true → ask_of g st call at ≡ nothing
 looks_ask g st (Listing path) at is = nothing_asked (refusal_of st.tree (Listing path))
 looks_ask g st (Stat path) at is = nothing_asked (refusal_of st.tree (Stat path))
-looks_ask g st (Mkdir path) at is = cc
-looks_ask g st (Create path) at is = cc
-looks_ask g st (Write path offset bytes) at is = cc
-looks_ask g st (Truncate path size) at is = cc
-looks_ask g st (Read path offset count) at is = cc
-looks_ask g st (Rename from to) at is = cc
-looks_ask g st (Remove path) at is = cc
-looks_ask g st Sync at is = cc
+looks_ask g st _ at is = cc
 
 unsynced : (r : Option Refusal) (told : Answer) → told ≢ the_answers.Synced → answer_unless r told ≢ the_answers.Synced
 unsynced None told isnt = isnt
@@ -162,26 +155,11 @@ looks_unsynced t (Stat path) is = unsynced (refusal_of t (Stat path)) (value_of 
         let off : value_of t (Stat path) ≡ the_answers.Facts (facts_of node) = rw e refl in
         let no_way : the_answers.Facts (facts_of node) ≡ the_answers.Synced = sym off ∙ is in
         cc
-looks_unsynced t (Mkdir path) is = cc
-looks_unsynced t (Create path) is = cc
-looks_unsynced t (Write path offset bytes) is = cc
-looks_unsynced t (Truncate path size) is = cc
-looks_unsynced t (Read path offset count) is = cc
-looks_unsynced t (Rename from to) is = cc
-looks_unsynced t (Remove path) is = cc
-looks_unsynced t Sync is = cc
+looks_unsynced t _ is = cc
 
 uses_nothing : (stock : Stocked) (cached : List Kept) (call : Call) → only_looks call ≡ true → UsesKept stock cached cached call
-uses_nothing stock cached (Listing path) is = refl
-uses_nothing stock cached (Stat path) is = refl
-uses_nothing stock cached (Mkdir path) is = refl
-uses_nothing stock cached (Create path) is = refl
-uses_nothing stock cached (Write path offset bytes) is = refl
-uses_nothing stock cached (Truncate path size) is = refl
 uses_nothing stock cached (Read path offset count) is = cc
-uses_nothing stock cached (Rename from to) is = refl
-uses_nothing stock cached (Remove path) is = refl
-uses_nothing stock cached Sync is = refl
+uses_nothing stock cached _ is = refl
 
 pub look_told : {D : Type 0} (drive : Ghosts D) (who nth : ℕ) (call : Call) (at : Moment) (told : Answer) (result : Submitted)
     (old new : Parts D) → CanAsk who old → only_looks call ≡ true
