@@ -6,15 +6,14 @@ use Rattle.tape_types.specs.declared.cartridges.Part.{Part}
 use Rattle.tape_types.specs.declared.cartridges.Part.TheVariants.{Ip, Dp}
 use Rattle.index_model.specs.declared.indexes.Index.{Index}
 use Rattle.index_model.specs.declared.nodes.Kind.TheVariants as told_kinds
-use Rattle.plain_tree.specs.Paths.{Path, last_name, parent_of}
+use Rattle.plain_tree.specs.Paths.{Path}
 use Rattle.plain_tree.specs.Tree as plain
 use Rattle.plain_tree.specs.declared.nodes.Node as plain_node
 use Rattle.extent_map.specs.Cells.{Tape, file_cells}
-use Rattle.extent_map.specs.Laid.{Room}
 use Rattle.file_tree.specs.Carried.{index_of_tree}
 use Rattle.file_tree.specs.Mounts.{Letters}
 use Rattle.file_tree.specs.Told as file_told
-use Rattle.file_tree.specs.Told.{letter_of, name_or, place_of, raw_of}
+use Rattle.file_tree.specs.Told.{letter_of, raw_of}
 use Rattle.file_tree.specs.Tree.{FileTree, plain_node_of, plain_of}
 use Rattle.file_tree.specs.declared.nodes.Kind.{Kind}
 use Rattle.file_tree.specs.declared.nodes.Kind.TheVariants as kinds
