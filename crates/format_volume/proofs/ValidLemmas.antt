@@ -10,12 +10,14 @@ use Rattle.std.proofs.lemmas.Str.Ascii.{IsAscii-from_all}
 use Rattle.std.specs.Str.{IsUtf8, chars}
 use Rattle.doc_fields.specs.Texts.{is_allowed}
 use Rattle.index_model.specs.Extents.{AreFiles, IsFileAt}
+use Rattle.index_model.specs.Keys.{AreKeysApart}
 use Rattle.index_model.specs.Names.{AreNames, AreNamesApart, IsVolumeName}
 use Rattle.index_model.specs.Order.{AreInOrder}
 use Rattle.index_model.specs.Places.{IsAt}
 use Rattle.index_model.specs.Texts.{IsPlainText}
 use Rattle.index_model.specs.Uids.{AreUids}
 use Rattle.index_model.specs.Valid.{IsPolicy, IsSpot, IsValid}
+use Rattle.index_model.proofs.Walks.{none_some}
 use Rattle.index_model.specs.declared.indexes.Policy.{Policy}
 use Rattle.index_model.specs.declared.nodes.Kind.TheVariants as kinds
 use Rattle.index_model.specs.declared.nodes.Node.{Node}
@@ -141,6 +143,11 @@ uids_alone root uid = record {
 names_apart_alone : (root : Node) → AreNamesApart (root ∷ [])
 names_apart_alone root = λ at other one. absurd (omega (arith, one.behind_root, (alone root at one.node one.is).0))
 
+keys_apart_alone : (root : Node) → root.xattrs ≡ [] → AreKeysApart (root ∷ [])
+keys_apart_alone root none at h =
+    let empty = ap (λ (n : Node). n.xattrs) (sym (alone root at h.node h.is).1) ∙ none in
+    none_some h.one (subst (λ xs. IsAt xs h.earlier h.one) empty h.one_is)
+
 files_alone : (root : Node) → root.kind ≡ kinds.Dir → AreFiles (root ∷ [])
 files_alone root dir = record {
   size = λ at bytes raws file. absurd (no_file root dir at bytes raws file);
@@ -164,11 +171,13 @@ valid part spec none values = record {
     count = omega arith;
     order = order_alone (root_of spec) refl refl;
     names = names_alone (root_of spec) (name_fits spec.name (fine spec none).name values.name);
+    xattrs = (tt, tt);
     kinds = (tt, tt);
   };
   agrees = record {
     uids = uids_alone (root_of spec) refl;
     names = names_apart_alone (root_of spec);
+    keys = keys_apart_alone (root_of spec) refl;
     files = files_alone (root_of spec) refl;
   };
 }
