@@ -213,13 +213,21 @@ impl<B: ByteDisk> Drive for ImageTape<B> {
 
     ghost allows = { λ image. Unit {0} };
 
-    ghost only_now = { λ t image lt h.
-        laws.only_now _ t image (λ left now. B.only_now t.slots.disk left lt now) lt h };
+    ghost only_now = { λ t image lt h. laws.from_three h
+        (λ left. (image, (left.0, B.only_now t.slots.disk left.0 lt left.1, left.2, left.3), laws.as_it_opens _ image))
+        (λ now. now) (λ past. laws.not_past _ lt past.0) };
 
-    ghost counts_now = { λ t n image le h. laws.counts_now _ t n image h };
+    ghost counts_now = { λ t n image le h. laws.second h };
 
-    ghost lower = { λ t n m image le h.
-        laws.lower _ t n m image le (λ left now. B.lower t.slots.disk n m left le now) h };
+    ghost lower = { λ t n m image le h. laws.from_three h
+        (λ left. laws.first (left.0, B.lower t.slots.disk n m left.0 le left.1, left.2, left.3))
+        (λ now. laws.second now)
+        (λ past. laws.third (
+          laws.rose_lower n m _ le past.0,
+          laws.was_lower
+              (record { held = B.held; faults = B.faults; commands = B.commands; leaves = B.leaves; left_since = B.left_since })
+              _ t.past n m image le past.1,
+        )) };
 
     fn limits(&self) -> Limits {
         let _kept = self.doubt;
