@@ -77,11 +77,13 @@ module _ (c : Cartridge) (g : Given) (on : Bool) (st : Standing) (s : Stocked) (
       count = valid_before.formed.count;
       order = valid_before.formed.order;
       names = valid_before.formed.names;
+      xattrs = valid_before.formed.xattrs;
       kinds = valid_before.formed.kinds;
     };
     agrees = record {
       uids = valid_before.agrees.uids;
       names = valid_before.agrees.names;
+      keys = valid_before.agrees.keys;
       files = valid_before.agrees.files;
     };
   }
