@@ -38,9 +38,10 @@ valid_twin index twin valid here back = record {
     count = valid.formed.count;
     order = valid.formed.order;
     names = valid.formed.names;
+    xattrs = valid.formed.xattrs;
     kinds = valid.formed.kinds;
   };
-  agrees = record { uids = valid.agrees.uids; names = valid.agrees.names; files = valid.agrees.files };
+  agrees = record { uids = valid.agrees.uids; names = valid.agrees.names; keys = valid.agrees.keys; files = valid.agrees.files };
 }
 
 spot : (letter block : ℕ) (s : Spot) → s ≡ record { letter = letter; block = block } → IsLetter letter → block ≤ 2 ^ 40 → IsSpot s
