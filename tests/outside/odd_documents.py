@@ -93,12 +93,12 @@ def documents_with_attributes():
     names = [f"{k:06}" for k in range(100000)]
     rising, mixed = file(2, "f", attributes(names)), file(2, "f", attributes(shuffled(list(names))))
     falling = file(2, "f", attributes(names[::-1]))
-    yield "100,000 attributes of one file", index(rising), "ok 3 2", 0.2
-    yield "the last one first", index(falling), "ok 3 2", 0.2
-    yield "in any order", index(mixed), "ok 3 2", 0.2
-    yield "the first key again as the last", index(file(2, "f", attributes(names + names[:1]))), "SameKey 2", 0.2
+    yield "100,000 attributes of one file", index(rising), "ok 3 2", 1
+    yield "the last one first", index(falling), "ok 3 2", 1
+    yield "in any order", index(mixed), "ok 3 2", 1
+    yield "the first key again as the last", index(file(2, "f", attributes(names + names[:1]))), "SameKey 2", 1
     keys = shuffled(list(names))
-    yield "the same in any order", index(file(2, "f", attributes(keys + keys[:1]))), "SameKey 2", 0.2
+    yield "the same in any order", index(file(2, "f", attributes(keys + keys[:1]))), "SameKey 2", 1
     long = [f"{'k' * 249}{k:06}" for k in range(100000)]
     yield "100,000 keys that differ at their ends", index(file(2, "f", attributes(shuffled(long)))), "ok 3 2", None
     values = "".join(file(uid, f"n{uid}", "<extendedattributes><xattr><key>k</key><value type='base64'>\n"
