@@ -1,29 +1,23 @@
 -- A run over a tape on a disk survives crashes of the disk.
-use Rattle.std.specs.Prelude.{◌≡◌, ◌≤◌, ◌<◌, ◌-◌, ◌^◌, ℕ, List, Option, Some, None, Result, Ok, length}
+use Rattle.std.specs.Prelude.{◌≡◌, ◌≤◌, ◌<◌, ◌-◌, ◌^◌, ℕ, Option, Some, Ok}
 use Rattle.std.proofs.Common.{◌∙◌, sym, ap, subst, arith}
 use Rattle.tape_types.specs.declared.cartridges.Cartridge.{Cartridge}
-use Rattle.tape_types.specs.declared.moments.Moment.{Moment}
 use Rattle.byte_disk.specs.Files.{Files}
 use Rattle.byte_disk.specs.declared.disk.ByteDisk.{Ghosts}
 use Rattle.tape_drive.specs.declared.drive.Drive.{Ghosts as Drives}
 use Rattle.order_laws.specs.Kept.{seen}
 use Rattle.serving_promise.specs.Acks.{AreReached}
-use Rattle.image_format.specs.Images.{Opens, image}
-use Rattle.image_format.specs.declared.refusal.Refusal.{Refusal}
 use Rattle.image_tape.specs.Laws.{ImagesOpen}
 use Rattle.image_tape.specs.Since.{counts_now, lower, only_now}
 use Rattle.image_tape.specs.Tape.{LeavesOf, LeftSince, View, held_of}
-use Rattle.basic_commands.specs.Runs.{Taken, Written}
 use Rattle.cartridge_meaning.specs.Carried.{Carried}
 use Rattle.cartridge_meaning.specs.Meaning.{Stands}
 use Rattle.plain_tree.specs.Tree.{Tree}
-use Rattle.session_script.specs.declared.logs.Log.{Log}
-use Rattle.session_script.specs.declared.logs.Ack.{Ack}
 use Rattle.serving_promise.specs.Crash.{IsSound}
 use Rattle.serving_promise.specs.Meanings.{cartridges}
 use Rattle.serving_promise.specs.Served.{CanTell, Drive}
-use Rattle.ltfs_server.specs.Disks.{IsOpened, SurvivesOnDisk, SurvivesOnDisks}
-use Rattle.ltfs_server.specs.Sentence.{Asked, IsFoundAgain, Sentence}
+use Rattle.ltfs_server.specs.Disks.{IsOpened, SurvivesOnDisks}
+use Rattle.ltfs_server.specs.Sentence.{IsFoundAgain}
 use Rattle.ltfs_server.proofs.Holding.{holds_now, holds_then}
 
 -- what contracts see of a tape on a disk

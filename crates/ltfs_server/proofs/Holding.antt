@@ -1,5 +1,5 @@
 -- What each image of a run holds of what was acknowledged.
-use Rattle.std.specs.Prelude.{◌≡◌, ◌≤◌, ◌<◌, ◌-◌, ◌^◌, nat_le, ℕ, All, Contains, List, [], ◌∷◌, length}
+use Rattle.std.specs.Prelude.{◌≤◌, ◌<◌, ◌-◌, ◌^◌, nat_le, ℕ, All, Contains, List, [], ◌∷◌, length}
 use Rattle.std.proofs.Common.{⊎_elim, arith}
 use Rattle.std.proofs.lemmas.Bool.{cases_lt, leb-true}
 use Rattle.std.proofs.lemmas.List.Elements.{All-cons, All-contains, All-contains_itself, All-filter, All-head, All-nil, All-tail, filter_passes}
@@ -10,10 +10,9 @@ use Rattle.session_script.specs.declared.logs.Ack.{Ack}
 use Rattle.session_script.specs.declared.logs.Log.{Log}
 use Rattle.session_script.specs.declared.scripts.ScriptLine.{ScriptLine}
 use Rattle.cartridge_meaning.specs.Carried.{Carried}
-use Rattle.serving_promise.specs.Crash.{IsSound, StandsWithin, SurvivesCrashes}
+use Rattle.serving_promise.specs.Crash.{Leavings, StandsWithin, SurvivesCrashes}
 use Rattle.serving_promise.specs.Headline.{tree_of_log}
 use Rattle.serving_promise.specs.Meanings.{cartridges}
-use Rattle.serving_promise.specs.Served.{Leavings}
 use Rattle.run_laws.specs.Memory.{HoldsAcked, acked_by}
 
 abbrev IsUpTo : ℕ → Ack → Type 0

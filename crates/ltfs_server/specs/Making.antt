@@ -22,7 +22,6 @@ use Rattle.cartridge_meaning.specs.declared.errors.MountErr.{MountErr}
 use Rattle.cartridge_meaning.specs.declared.mounted.Mounted.{Mounted}
 use Rattle.serving_promise.specs.Ends.{bounded}
 use Rattle.serving_promise.specs.Headline.{Closed, Failed, ServeEnd, Short, end_text, status_of, tree_of_log}
-use Rattle.serving_promise.specs.Meanings.{cartridges}
 use Rattle.serving_promise.specs.Served.{CanTell}
 use Rattle.order_laws.specs.Kept.{seen}
 use Rattle.run_laws.specs.Went.{IsRunBy}
