@@ -42,6 +42,11 @@ pub decoded : (text bs : List ℕ) → from_base64 text ≡ Some bs → decode_o
 unfolding from_base64 decoded_of
 decoded text bs e = from_ok (decode_of standard (without_space text)) bs e
 
+-- texts that differ in white space alone stand for the same
+pub same_symbols : (text other : List ℕ) → without_space text ≡ without_space other → from_base64 text ≡ from_base64 other
+unfolding from_base64
+same_symbols text other same = ap (decoded_of standard) same
+
 -- ---- no symbol is white space or needs an escape
 
 abbrev is_plain : ℕ → Bool

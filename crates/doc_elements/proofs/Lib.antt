@@ -2,6 +2,7 @@ pub mod Bits
 pub mod Missing
 pub mod Tags
 pub mod BareTexts
+pub mod LinedTexts
 pub mod Names
 pub mod Parents
 pub mod Inversion

@@ -1,7 +1,7 @@
 //! Bytes that stand in a document as a text or in base64.
 
 ghost use Rattle.std.specs.Prelude.{◌≡◌, ◌≤◌, ◌<◌, ◌++◌, ◌∷◌, ℕ, List, length, if◌then◌else◌, None, Some, Ok};
-ghost use Rattle.std.specs.Prelude.{IfOk, IfSome, MatchOption};
+ghost use Rattle.std.specs.Prelude.{IfOk, IfSome, MatchOption, OnOk};
 ghost use Rattle.std.specs.Option.{option_map};
 ghost use Rattle.std.specs.Str.{encode_utf8_all};
 ghost use Rattle.base64.specs.Engines.{standard};
@@ -9,7 +9,7 @@ ghost use Rattle.base64.specs.GeneralPurpose.{IsBytes, decoded_of};
 ghost use Rattle.doc_fields.specs.Characters.{characters};
 ghost use Rattle.doc_fields.specs.Reading.{between};
 ghost use Rattle.doc_fields.specs.Texts.{text_at};
-ghost use Rattle.doc_elements.specs.Bare.{is_bare};
+ghost use Rattle.doc_elements.specs.Bare.{is_bare, is_lined};
 ghost use Rattle.doc_elements.specs.Blocks.{behind};
 ghost use Rattle.doc_elements.specs.Pieces.{bytes_told, from_base64, without_space};
 
@@ -27,7 +27,7 @@ fn is_bare(byte: u8) -> bool
 }
 
 /// Where the text ends that begins at a place and has bare bytes alone; none of other texts.
-#[tactic(auto, using(crate::proofs::BareTexts::bare_none, crate::proofs::BareTexts::bare_more, crate::proofs::BareTexts::bare_read))]
+#[tactic(auto, using(crate::proofs::BareTexts::run_none, crate::proofs::BareTexts::run_more_to, crate::proofs::BareTexts::bare_read))]
 pub fn bare_end(text: &[u8], at: usize) -> Option<usize>
     requires { at ≤ length text.now }
     ensures within { IfSome result (λ end. (at ≤ end) × (end < length text.now)) }
@@ -38,6 +38,33 @@ pub fn bare_end(text: &[u8], at: usize) -> Option<usize>
             return Some(i);
         }
         if !is_bare(text[i]) {
+            return None;
+        }
+    }
+    None
+}
+
+/// Whether a byte is bare, or a carriage return.
+fn is_lined(byte: u8) -> bool
+    ensures { result ≡ is_lined byte }
+{
+    is_bare(byte) || byte == b'\r'
+}
+
+/// Where the text ends that begins at a place and has bare bytes and carriage returns alone; none of other texts. What is
+/// read of it differs from what stands there in white space.
+#[tactic(auto, using(crate::proofs::BareTexts::run_none, crate::proofs::BareTexts::run_more_to, crate::proofs::LinedTexts::lined_read))]
+pub fn lined_end(text: &[u8], at: usize) -> Option<usize>
+    requires { at ≤ length text.now }
+    ensures within { IfSome result (λ end. (at ≤ end) × (end < length text.now)) }
+    ensures text { IfSome result (λ end. (read : List ℕ) × (text_at text.now at ≡ Ok (read, end))
+        × (without_space read ≡ without_space (between text.now at end))) }
+{
+    for i in at..text.len() {
+        if text[i] == b'<' {
+            return Some(i);
+        }
+        if !is_lined(text[i]) {
             return None;
         }
     }
@@ -137,10 +164,35 @@ fn symbol_count(text: &[u8]) -> usize {
     text.iter().filter(|byte| !is_space(**byte)).count()
 }
 
+/// Puts the symbols of a text in base64 behind others.
+fn push_symbols(symbols: &mut Vec<u8>, text: &[u8]) -> Result<(), AllocError>
+    ensures { OnOk result (symbols.new.items ≡ symbols.old.items ++ without_space text.now) }
+{
+    for byte in text {
+        if !is_space(*byte) {
+            symbols.push(*byte)?;
+        }
+    }
+    Ok(())
+}
+
+/// The bytes that a text in base64 stands for whose symbols fit in one block, or none.
+#[tactic(auto, unfolding(crate::specs::Pieces::from_base64))]
+fn decode_short(alloc: Global, text: &[u8]) -> Result<Option<Vec<u8>>, AllocError>
+    ensures { IfOk result (λ v. option_map (λ b. b.items) v ≡ from_base64 text.now) }
+{
+    let mut symbols = Vec::with_capacity(alloc, text.len())?;
+    push_symbols(&mut symbols, text)?;
+    decode_symbols(alloc, symbols.as_slice())
+}
+
 /// The bytes that a text in base64 stands for, or none. It is decoded in blocks of 1,024 symbols.
 fn decode(alloc: Global, text: &[u8]) -> Result<Option<Vec<u8>>, AllocError>
     ensures { IfOk result (λ v. option_map (λ b. b.items) v ≡ from_base64 text.now) }
 {
+    if text.len() <= 1024 {
+        return decode_short(alloc, text);
+    }
     let mut out = Vec::with_capacity(alloc, symbol_count(text) / 4 * 3)?;
     let mut block = Vec::with_capacity(alloc, 1024)?;
     if !take_bytes(alloc, &mut out, &mut block, text)? {

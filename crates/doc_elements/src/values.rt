@@ -12,7 +12,7 @@ ghost use Rattle.doc_elements.specs.Pieces.{is_too_great, is_volume_name, leaf_a
 ghost use Rattle.doc_elements.specs.Pieces.{some_bytes, value_in};
 ghost use Rattle.doc_elements.specs.Answers.{Gives, val_of};
 
-use crate::encodings::{bare_end, bytes_of_characters, bytes_told};
+use crate::encodings::{bare_end, bytes_of_characters, bytes_told, lined_end};
 use crate::errors::PieceErr;
 use crate::schema::Form;
 use doc_fields::{
@@ -217,8 +217,8 @@ fn found_in(alloc: Global, at: usize, left: Characters) -> Result<Bytes, PieceEr
     }
 }
 
-/// The bytes of a value in base64 with references or carriage returns, and the place of its end tag.
-#[tactic(auto, unfolding(crate::specs::Pieces::bytes_in))]
+/// The bytes of a value in base64, and the place of its end tag. One with references is decoded character by character.
+#[tactic(auto, unfolding(crate::specs::Pieces::bytes_in), using(crate::proofs::Base64Lemmas::same_symbols))]
 fn decoded_bytes(alloc: Global, start: Start, text: &[u8]) -> Result<(Value, usize), PieceErr>
     requires within { start.next ≤ length text.now }
     requires base64 { is_base64 start.attribute ≡ true }
@@ -226,6 +226,10 @@ fn decoded_bytes(alloc: Global, start: Start, text: &[u8]) -> Result<(Value, usi
     ensures within { IfOk result (λ x. (start.next ≤ x.1) × (x.1 ≤ length text.now)) }
 {
     let at = skip_space(text, start.next);
+    if let Some(end) = lined_end(text, start.next) {
+        let bytes = found(alloc, at, &text[start.next..end], true)?;
+        return Ok((Value::Bytes(bytes), end));
+    }
     let (left, next) = read_characters(text, start.next)?;
     if next == text.len() {
         return Err(PieceErr::Syntax(next));
@@ -241,14 +245,13 @@ fn bytes(alloc: Global, start: Start, text: &[u8]) -> Result<(Value, usize), Pie
     ensures value { Gives (λ x. (val_of x.0, x.1)) result (bytes_in start text.now) }
     ensures within { IfOk result (λ x. (start.next ≤ x.1) × (x.1 ≤ length text.now)) }
 {
-    let at = skip_space(text, start.next);
-    let in_base64 = is_base64(start.attribute);
-    if let Some(end) = bare_end(text, start.next) {
-        let bytes = found(alloc, at, &text[start.next..end], in_base64)?;
-        return Ok((Value::Bytes(bytes), end));
-    }
-    if in_base64 {
+    if is_base64(start.attribute) {
         return decoded_bytes(alloc, start, text);
+    }
+    let at = skip_space(text, start.next);
+    if let Some(end) = bare_end(text, start.next) {
+        let bytes = found(alloc, at, &text[start.next..end], false)?;
+        return Ok((Value::Bytes(bytes), end));
     }
     let (words, next) = read_text(alloc, text, start.next)?;
     if next == text.len() {
