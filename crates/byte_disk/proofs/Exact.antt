@@ -5,9 +5,9 @@ use Rattle.std.proofs.lemmas.List.{ext_get_or}
 use Rattle.byte_disk.specs.declared.disk.File.TheVariants.{Ip, Dp, Cm}
 use Rattle.byte_disk.specs.declared.record.Change.{Change}
 use Rattle.byte_disk.specs.declared.record.Entry.{Entry}
-use Rattle.byte_disk.specs.Files.{Files, IsOutside}
+use Rattle.byte_disk.specs.Files.{AreFiles, Files, IsOutside}
 use Rattle.byte_disk.specs.Record.{AreKept, IsRecordOf, Leaves, LeavesFile, pending, unwritten}
-use Rattle.byte_disk.specs.Images.{AreLeft, AreFiles, Gives, IsLeft, IsPending, crash_image, image_of, longest, shortest}
+use Rattle.byte_disk.specs.Images.{AreLeft, Gives, IsLeft, IsPending, crash_image, image_of, longest, shortest}
 use Rattle.byte_disk.proofs.Kept.{record_kept}
 use Rattle.byte_disk.proofs.Chosen.{covered, image_left, image_length, image_pending, image_settled, length_le, outside_of, pending_or, shortest_le}
 

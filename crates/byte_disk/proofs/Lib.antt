@@ -5,5 +5,6 @@ pub mod Kept
 pub mod Meets
 pub mod Mixing
 pub mod Since
+pub mod Told
 pub mod Walking
 pub mod Written

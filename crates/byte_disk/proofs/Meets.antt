@@ -1,17 +1,19 @@
 -- What the trait asks of every command, from what a command does to the view.
-use Rattle.std.proofs.Common.{ℕ, ◌+◌, ◌-◌, ◌^◌, ◌≤◌, ◌≡◌, inl, inr, min, List, ◌∷◌, take, length, Some, Result, Ok, Err, refl, sym, ap, subst, arith}
+use Rattle.std.proofs.Common.{ℕ, ◌+◌, ◌-◌, ◌^◌, ◌<◌, ◌≤◌, ◌≡◌, inl, inr, min, List, ◌∷◌, take, length, Some, Result, Ok, Err, refl, sym, ap, subst, arith}
 use Rattle.std.specs.Prelude.{OnOk}
 use Rattle.std.proofs.lemmas.List.{length-take}
+use Rattle.std.proofs.lemmas.List.Elements.{All-take}
 use Rattle.tape_types.specs.Counts.{HasCause}
 use Rattle.crash_steps.specs.Crashes.{Crashes, NothingNew}
 use Rattle.byte_disk.specs.declared.disk.File.{File}
 use Rattle.byte_disk.specs.declared.disk.File.TheVariants.{Ip, Dp, Cm}
 use Rattle.byte_disk.specs.declared.record.Act.{Act}
 use Rattle.byte_disk.specs.declared.record.Act.TheVariants.{Wrote, Synced}
-use Rattle.byte_disk.specs.Files.{Files, AreBytes, IsBroken, IsWritten, AfterWrite, bytes_of, with_bytes, written}
+use Rattle.byte_disk.specs.Files.{Files, AreBytes, AreFiles, IsBroken, IsWritten, AfterWrite, bytes_of, told, with_bytes, written}
 use Rattle.byte_disk.specs.Commands.{IsOneMore, IsFileSure, WithinWrite}
 use Rattle.byte_disk.specs.Record.{change_of, undo, Leaves, LeftSince}
 use Rattle.byte_disk.specs.Memory.{View, acted, begun, failed, starved_out, Looked, RanWrite, RanSync, IsSane}
+use Rattle.byte_disk.proofs.Told.{are_told, broken_files, sure_told, told_only}
 use Rattle.byte_disk.proofs.Written.{put_any}
 use Rattle.byte_disk.proofs.Kept.{put_undone}
 use Rattle.byte_disk.proofs.Acts.{acts, any_same, quiet, sync_back, synced_sure, write_back}
@@ -112,19 +114,26 @@ module _ (T E : Type 0) (file : File) (at : ℕ) (bytes : List ℕ) (old new : V
   broken_is Dp xs d le few are = record { others = (refl, refl); any = put_any at xs d.dp le (length bytes) few are }
   broken_is Cm xs d le few are = record { others = (refl, refl); any = put_any at xs d.cm le (length bytes) few are }
 
-  told_of : (r : Result T E) → AreBytes (take old.arrives bytes) → RanWrite r file at bytes old new → AfterWrite r file at bytes old.held new.held
+  -- whatever came of it, any bytes in its range stand in the file
+  broken_of : (r : Result T E) → AreBytes bytes → RanWrite r file at bytes old new → IsBroken file at (length bytes) old.held new.held
+  broken_of (Ok t) are ran =
+      subst (λ (v : View). IsBroken file at (length bytes) old.held v.held) (sym ran.1) (broken_is file bytes old.held within (omega arith) are)
+  broken_of (Err e) are (inl ran) =
+      subst (λ (v : View). IsBroken file at (length bytes) old.held v.held) (sym ran.1)
+      (broken_is file (take old.arrives bytes) old.held within (omega (arith, length-take old.arrives bytes))
+      (All-take (λ (b : ℕ). b < 2 ^ 8) old.arrives bytes are))
+  broken_of (Err e) are (inr ran) = subst (λ (v : View). IsBroken file at (length bytes) old.held v.held) (sym ran) (any_same file at (length bytes) old.held)
+
+  told_of : (r : Result T E) → AreBytes bytes → RanWrite r file at bytes old new → AfterWrite r file at bytes old.held new.held
   told_of (Ok t) are ran =
       subst (λ (v : View). IsWritten file at bytes old.held v.held) (sym ran.1) (written_is file bytes old.held)
-  told_of (Err e) are (inl ran) =
-      subst (λ (v : View). IsBroken file at (length bytes) old.held v.held) (sym ran.1)
-      (broken_is file (take old.arrives bytes) old.held within (omega (arith, length-take old.arrives bytes)) are)
-  told_of (Err e) are (inr ran) = subst (λ (v : View). IsBroken file at (length bytes) old.held v.held) (sym ran) (any_same file at (length bytes) old.held)
+  told_of (Err e) are ran = broken_of (Err e) are ran
 
-  pub write_told : (r : Result T E) → AreBytes (take old.arrives bytes) → RanWrite r file at bytes old new → (d : Files) → Some old.held ≡ Some d
-      → (e : Files) × (Some new.held ≡ Some e) × AfterWrite r file at bytes d e
-  write_told r are ran d is =
-      let same : old.held ≡ d = cc in
-      (new.held, refl, subst (λ (x : Files). AfterWrite r file at bytes x new.held) same (told_of r are ran))
+  pub write_told : (r : Result T E) → AreBytes bytes → AreFiles old.held → RanWrite r file at bytes old new → (d : Files) → told old.held ≡ Some d
+      → (e : Files) × (told new.held ≡ Some e) × AfterWrite r file at bytes d e
+  write_told r are files ran d is =
+      let after = broken_files file at (length bytes) old.held new.held (broken_of r are ran) files in
+      (new.held, are_told new.held after, subst (λ (x : Files). AfterWrite r file at bytes x new.held) (told_only old.held d is) (told_of r are ran))
 
 module _ (T E : Type 0) (file : File) (old new : View) where
   pub sync_meets : (r : Result T E) → IsSane old → RanSync r file old new → Meets r NothingNew old new
@@ -142,8 +151,8 @@ module _ (T E : Type 0) (file : File) (old new : View) where
   sync_held (Err e) (inl ran) = ap (λ (v : View). v.held) ran.1
   sync_held (Err e) (inr ran) = ap (λ (v : View). v.held) ran.1
 
-  pub sync_sure : (r : Result T E) → RanSync r file old new → OnOk r (IsFileSure file (Some new.held) (Leaves new.held new.acts))
+  pub sync_sure : (r : Result T E) → RanSync r file old new → OnOk r (IsFileSure file (told new.held) (Leaves new.held new.acts))
   sync_sure (Ok t) ran =
-      subst (λ (v : View). (image : Files) → Leaves v.held v.acts image → bytes_of file image ≡ bytes_of file v.held) (sym ran.1)
-      (λ image left. synced_sure file old.commands old.held old.acts image left)
+      subst (λ (v : View). IsFileSure file (told v.held) (Leaves v.held v.acts)) (sym ran.1)
+      (sure_told (bytes_of file) old.held _ (λ image left. synced_sure file old.commands old.held old.acts image left))
   sync_sure (Err e) ran = tt

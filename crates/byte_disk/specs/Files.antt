@@ -1,6 +1,7 @@
 -- The bytes of a disk's files, and what a write makes of them.
 use Rattle.std.specs.Prelude.{ℕ, ◌+◌, ◌^◌, ◌≤◌, ◌<◌, ◌≡◌, ◌⊎◌, max, List, ◌++◌, take, drop, length, slice_index, All}
-use Rattle.std.specs.Prelude.{Result, Ok, Err}
+use Rattle.std.specs.Prelude.{Bool, ◌&&◌, nat_lt, if◌then◌else◌, Option, Some, None, Result, Ok, Err}
+use Rattle.std.specs.List.{list_all}
 use Rattle.byte_disk.specs.declared.disk.File.{File}
 use Rattle.byte_disk.specs.declared.disk.File.TheVariants.{Ip, Dp, Cm}
 
@@ -23,6 +24,22 @@ with_bytes Cm bytes d = record { ip = d.ip; dp = d.dp; cm = bytes }
 
 abbrev pub AreBytes : List ℕ → Type 0
 AreBytes bytes = All (λ b. b < 2 ^ 8) bytes
+
+pub record AreFiles (d : Files) : Type 0 where
+  pub ip : AreBytes d.ip
+  pub dp : AreBytes d.dp
+  pub cm : AreBytes d.cm
+
+-- the same, as it can be computed
+abbrev pub is_byte : ℕ → Bool
+is_byte b = nat_lt b (2 ^ 8)
+
+abbrev pub are_files : Files → Bool
+are_files d = list_all is_byte d.ip && list_all is_byte d.dp && list_all is_byte d.cm
+
+-- What is told of lists of numbers: they are told as files where they are of bytes.
+abbrev pub told : Files → Option Files
+told d = if are_files d then Some d else None
 
 -- so many bytes from a place on
 abbrev pub bytes_at : ℕ → ℕ → List ℕ → List ℕ

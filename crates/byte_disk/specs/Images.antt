@@ -4,7 +4,7 @@ use Rattle.std.specs.Prelude.{slice_index}
 use Rattle.byte_disk.specs.declared.disk.File.TheVariants.{Ip, Dp, Cm}
 use Rattle.byte_disk.specs.declared.record.Change.{Change}
 use Rattle.byte_disk.specs.declared.record.Entry.{Entry}
-use Rattle.byte_disk.specs.Files.{Files, AreBytes, bytes_at, written}
+use Rattle.byte_disk.specs.Files.{Files, AreBytes, AreFiles, bytes_at, written}
 use Rattle.byte_disk.specs.Record.{unwritten, pending}
 
 -- a file's bytes as of its last sync, from those that read and the writes since
@@ -68,11 +68,6 @@ crash_image held es choice = record {
   dp = image_of held.dp (pending Dp es) choice.dp;
   cm = image_of held.cm (pending Cm es) choice.cm;
 }
-
-pub record AreFiles (d : Files) : Type 0 where
-  pub ip : AreBytes d.ip
-  pub dp : AreBytes d.dp
-  pub cm : AreBytes d.cm
 
 -- some three lists of bytes give this image
 abbrev pub Gives : Files → List Entry → Files → Type 0

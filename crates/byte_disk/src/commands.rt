@@ -1,6 +1,6 @@
 // The commands of the disk in memory.
-ghost use Rattle.std.specs.Prelude.{◌≡◌, ◌≤◌, ◌<◌, ◌+◌, ◌^◌, length, take, IfOk, OnOk, Some};
-ghost use Rattle.byte_disk.specs.Files.{bytes_of, bytes_at, AreBytes};
+ghost use Rattle.std.specs.Prelude.{◌≡◌, ◌≤◌, ◌<◌, ◌+◌, ◌^◌, length, take, IfOk, IfSome, OnOk};
+ghost use Rattle.byte_disk.specs.Files.{bytes_of, bytes_at, told, AreBytes};
 ghost use Rattle.byte_disk.specs.Memory.{Looked, RanWrite, RanSync, IsSane};
 
 use crate::disk::{ByteDisk, DiskFault, File};
@@ -12,7 +12,7 @@ impl ByteDisk for MemDisk {
     ghost use Rattle.byte_disk.specs.Record.{Leaves, LeftSince};
     ghost use Rattle.byte_disk.specs.Laws as laws;
 
-    ghost held = { λ m. Some m.held };
+    ghost held = { λ m. told m.held };
 
     ghost faults = { λ m. m.faults };
 
@@ -27,6 +27,8 @@ impl ByteDisk for MemDisk {
     ghost counts_now = { λ m t image le h. laws.counts_now m.commands m.held m.acts t image h };
 
     ghost lower = { λ m t u image le h. laws.lower m.commands m.held m.acts t u image le h };
+
+    ghost bytes = { λ m d is. laws.told_bytes m.held d is };
 
     fn faults(&self) -> u64 {
         self.fault_count()
@@ -48,6 +50,46 @@ impl ByteDisk for MemDisk {
     }
 
     fn read(&mut self, file: File, at: u64, buf: &mut [u8]) -> Result<(), DiskFault>
+        requires { IfSome (told self.old.held) (λ d. at + length buf.old ≤ length (bytes_of file d)) }
+        ensures size { length buf.new ≡ length buf.old }
+        ensures value { OnOk result (buf.new ≡ bytes_at at (length buf.old) (bytes_of file self.old.held)) }
+        ensures looked { Looked result self.old self.new }
+        ensures sane { IsSane self.old }
+    {
+        let _sound = self.acts();
+        self.fill(file, at, buf)
+    }
+
+    fn write(&mut self, file: File, at: u64, bytes: &[u8]) -> Result<(), DiskFault>
+        requires within { IfSome (told self.old.held) (λ d. at ≤ length (bytes_of file d)) }
+        requires end { at + length bytes.now < 2 ^ 62 }
+        ensures ran { RanWrite result file at bytes.now self.old self.new }
+        ensures sane { IsSane self.old }
+        ensures bytes { AreBytes bytes.now }
+    {
+        let _sound = self.acts();
+        are_bytes(bytes);
+        self.overwrite(file, at, bytes)
+    }
+
+    fn sync(&mut self, file: File) -> Result<(), DiskFault>
+        ensures ran { RanSync result file self.old self.new }
+        ensures sane { IsSane self.old }
+    {
+        let number = self.command_count();
+        if self.begin() {
+            return Err(self.fail());
+        }
+        match self.record_sync(number, file) {
+            Ok(()) => Ok(()),
+            Err(NoMemory) => Err(self.starve()),
+        }
+    }
+}
+
+impl MemDisk {
+    // Fills the buffer with the bytes of a file from a place on.
+    fn fill(&mut self, file: File, at: u64, buf: &mut [u8]) -> Result<(), DiskFault>
         requires { at + length buf.old ≤ length (bytes_of file self.old.held) }
         ensures size { length buf.new ≡ length buf.old }
         ensures value { OnOk result (buf.new ≡ bytes_at at (length buf.old) (bytes_of file self.old.held)) }
@@ -64,16 +106,15 @@ impl ByteDisk for MemDisk {
         }
     }
 
-    fn write(&mut self, file: File, at: u64, bytes: &[u8]) -> Result<(), DiskFault>
+    // Writes bytes to a file, or those that arrive of a write that is listed to fail.
+    fn overwrite(&mut self, file: File, at: u64, bytes: &[u8]) -> Result<(), DiskFault>
         requires within { at ≤ length (bytes_of file self.old.held) }
         requires end { at + length bytes.now < 2 ^ 62 }
         ensures ran { RanWrite result file at bytes.now self.old self.new }
         ensures sane { IsSane self.old }
-        ensures bytes { AreBytes (take self.old.arrives bytes.now) }
     {
         let number = self.command_count();
         let count = bytes.len() as u64;
-        are_bytes(first(bytes, self.arrives()));
         if self.begin() {
             let arrived = first(bytes, self.arrives());
             return match self.put(number, file, at, count, arrived) {
@@ -82,20 +123,6 @@ impl ByteDisk for MemDisk {
             };
         }
         match self.put(number, file, at, count, bytes) {
-            Ok(()) => Ok(()),
-            Err(NoMemory) => Err(self.starve()),
-        }
-    }
-
-    fn sync(&mut self, file: File) -> Result<(), DiskFault>
-        ensures ran { RanSync result file self.old self.new }
-        ensures sane { IsSane self.old }
-    {
-        let number = self.command_count();
-        if self.begin() {
-            return Err(self.fail());
-        }
-        match self.record_sync(number, file) {
             Ok(()) => Ok(()),
             Err(NoMemory) => Err(self.starve()),
         }

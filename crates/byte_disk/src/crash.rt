@@ -1,5 +1,5 @@
 // What a crash of the disk in memory may leave, by choice.
-ghost use Rattle.std.specs.Prelude.{ℕ, ◌≡◌, ◌≤◌, ◌<◌, ◌+◌, ◌-◌, ◌^◌, ◌↔◌, [], min, length, reverse, IfOk};
+ghost use Rattle.std.specs.Prelude.{ℕ, ◌≡◌, ◌≤◌, ◌<◌, ◌+◌, ◌-◌, ◌^◌, ◌↔◌, [], min, length, reverse, IfOk, Some};
 ghost use Rattle.byte_disk.specs.Files.{Files, bytes_of};
 ghost use Rattle.byte_disk.specs.Record.{pending, AreKept};
 ghost use Rattle.byte_disk.specs.Memory.{made};
@@ -134,6 +134,13 @@ pub fn crash_gives_all(disk: &MemDisk)
 pub fn since_gives_all(disk: &MemDisk)
     ensures { (t : ℕ) (image : Files)
         → ⟦<MemDisk as ByteDisk>⟧.left_since disk.now t image ↔ GaveSince disk.now.held disk.now.acts t image }
+{
+    let _sound = disk.acts();
+}
+
+/// A disk in memory tells its files.
+pub fn files_are_told(disk: &MemDisk)
+    ensures { ⟦<MemDisk as ByteDisk>⟧.held disk.now ≡ Some disk.now.held }
 {
     let _sound = disk.acts();
 }

@@ -2,7 +2,7 @@
 ghost use Rattle.std.specs.Prelude.{◌≡◌, ◌≤◌, ◌<◌, ◌^◌, ◌-◌, ◌+◌, ℕ, Option, Some, None, length, IfOk, IfSome, OnOk};
 ghost use Rattle.tape_types.specs.Counts.{HasCause};
 ghost use Rattle.crash_steps.specs.Crashes.{Crashes, NothingNew};
-ghost use Rattle.byte_disk.specs.Files.{Files, bytes_of, bytes_at, AfterWrite};
+ghost use Rattle.byte_disk.specs.Files.{Files, bytes_of, bytes_at, AfterWrite, AreFiles};
 ghost use Rattle.byte_disk.specs.Commands.{IsOneMore, WithinWrite, IsFileSure};
 
 /// One of the files of a cartridge's image.
@@ -22,7 +22,7 @@ pub struct DiskFault;
 
 /// A disk with three files of bytes. The four calls from `length` to `sync` are its commands.
 pub trait ByteDisk: Drop {
-    // The files as they read, where the disk tells them.
+    // The files as they read, where the disk tells them. They hold bytes alone.
     ghost held: { Self → Option Files };
 
     ghost faults: { Self → ℕ };
@@ -96,4 +96,7 @@ pub trait ByteDisk: Drop {
 
     // There is no more since a greater number than since a smaller one.
     ghost lower: { (s : Self) (t u : ℕ) (image : Files) → t ≤ u → left_since s u image → left_since s t image };
+
+    // What a file holds is bytes.
+    ghost bytes: { (s : Self) (d : Files) → held s ≡ Some d → AreFiles d };
 }

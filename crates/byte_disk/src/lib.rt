@@ -10,6 +10,6 @@ mod mixed;
 mod record;
 mod walks;
 
-pub use crash::{crash_gives_all, since_gives_all};
+pub use crash::{crash_gives_all, files_are_told, since_gives_all};
 pub use disk::{ByteDisk, DiskFault, File};
 pub use memory::MemDisk;

@@ -175,6 +175,13 @@ impl<B: ByteDisk> Slots<B> {
         }
     }
 
+    /// The disk, to be looked at.
+    pub fn disk(&self) -> &B
+        ensures { result.now ≡ self.now.disk }
+    {
+        &self.disk
+    }
+
     /// Gives the disk back.
     pub fn into_disk(self) -> B
         ensures { result ≡ self.disk }

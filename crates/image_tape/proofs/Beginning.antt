@@ -8,7 +8,7 @@ use Rattle.tape_types.specs.Cartridges.{IsLimits}
 use Rattle.tape_types.specs.declared.cartridges.Cartridge.{Cartridge}
 use Rattle.tape_types.specs.declared.cartridges.Item.{Item}
 use Rattle.tape_types.specs.declared.cartridges.Limits.{Limits}
-use Rattle.byte_disk.specs.Files.{AreBytes, Files}
+use Rattle.byte_disk.specs.Files.{AreFiles, Files}
 use Rattle.byte_disk.specs.declared.disk.ByteDisk.{Ghosts}
 use Rattle.image_slots.specs.State as slot
 use Rattle.image_slots.specs.declared.known.Known.TheVariants.{Steady}
@@ -28,7 +28,7 @@ use Rattle.image_format.specs.Offsets.{Offsets, offsets_from}
 use Rattle.image_format.specs.Records.{AreRecords, items_in, record_bytes}
 use Rattle.image_format.specs.Values.{flag, value_of}
 use Rattle.image_tape.specs.declared.doubt.Doubt.TheVariants.{Settled}
-use Rattle.image_tape.specs.Opens.{AreBytesOf, AreSynced, HasFault, HasOpened, IsReason, IsRefused, IsTellable, RefusedAs, reason_of}
+use Rattle.image_tape.specs.Opens.{AreSynced, HasFault, HasOpened, IsReason, IsRefused, IsTellable, RefusedAs, reason_of}
 use Rattle.image_tape.specs.Tape.{AreEarlier, IsKept, Lie, Stands, View}
 use Rattle.image_tape.proofs.Fronts.{all_bytes, offsets_size}
 use Rattle.image_tape.proofs.Opened.{agreed_opens, counted, is_whole, whole}
@@ -112,22 +112,22 @@ module _ {D : Type 0} (disk : Ghosts D) (s : slot.View D) (room : Offsets) (valu
       }
 
 -- every record of a value that was read has its offset
-pub read_counts : (limits : Limits) (d : Files) (s : SlotValue) (room : Offsets) → AreBytes d.ip × AreBytes d.dp → IsRead limits d (Ok s) room
+pub read_counts : (limits : Limits) (d : Files) (s : SlotValue) (room : Offsets) → AreFiles d → IsRead limits d (Ok s) room
     → (length room.ip ≡ s.ip.count) × (length room.dp ≡ s.dp.count)
 read_counts limits d s room bytes h =
     let found = h.3 in (
-      ap length found.at_ip ∙ offsets_size 0 h.0 ∙ (records_only s.ip d.ip h.0 bytes.0 found.in_ip).count,
-      ap length found.at_dp ∙ offsets_size 0 h.1 ∙ (records_only s.dp d.dp h.1 bytes.1 found.in_dp).count,
+      ap length found.at_ip ∙ offsets_size 0 h.0 ∙ (records_only s.ip d.ip h.0 bytes.ip found.in_ip).count,
+      ap length found.at_dp ∙ offsets_size 0 h.1 ∙ (records_only s.dp d.dp h.1 bytes.dp found.in_dp).count,
     )
 
-pub uncounted : {D : Type 0} (disk : Ghosts D) (limits : Limits) (old : D) (s : SlotValue) (room : Offsets) (all : Bool) → AreBytesOf disk old
+pub uncounted : {D : Type 0} (disk : Ghosts D) (limits : Limits) (old : D) (s : SlotValue) (room : Offsets) (all : Bool) → ((d : Files) → disk.held old ≡ Some d → AreFiles d)
     → ((d : Files) → disk.held old ≡ Some d → IsRead limits d (Ok s) room)
     → (length room.ip ≡ s.ip.count → length room.dp ≡ s.dp.count → all ≡ true) → all ≡ false → (d : Files) → disk.held old ≡ Some d → ⊥
 uncounted disk limits old s room all bytes read both isnt d is =
     let counts = read_counts limits d s room (bytes d is) (read d is) in
     let bad : true ≡ false = sym (both counts.0 counts.1) ∙ isnt in cc bad
 
-pub tellable : {D : Type 0} (disk : Ghosts D) (limits : Limits) (a b c : slot.View D) (room : Offsets) (value : SlotValue) → AreBytesOf disk a.disk
+pub tellable : {D : Type 0} (disk : Ghosts D) (limits : Limits) (a b c : slot.View D) (room : Offsets) (value : SlotValue) → ((d : Files) → disk.held a.disk ≡ Some d → AreFiles d)
     → AreSynced disk b → disk.held b.disk ≡ disk.held a.disk → header_by limits (Some b.value) ≡ Some value → Looks disk ((limits.cap_ip + 2) + (limits.cap_dp + 2)) b c
     → ((d : Files) → disk.held b.disk ≡ Some d → IsRead limits d (Ok value) room) → length room.ip ≡ value.ip.count → length room.dp ≡ value.dp.count
     → IsTellable disk limits c room value
@@ -141,7 +141,7 @@ tellable disk limits a b c room value bytes synced held said looks read ip dp = 
       let are = bytes d (sym held ∙ at_b) in
       let h = read d at_b in
       let found = h.3 in
-      (h.0, h.1, records_only value.ip d.ip h.0 are.0 found.in_ip, records_only value.dp d.dp h.1 are.1 found.in_dp, found.at_ip, found.at_dp);
+      (h.0, h.1, records_only value.ip d.ip h.0 are.ip found.in_ip, records_only value.dp d.dp h.1 are.dp found.in_dp, found.at_ip, found.at_dp);
 }
 
 abbrev read_ok : Cartridge → Result Cartridge Refusal

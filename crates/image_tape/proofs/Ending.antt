@@ -60,6 +60,7 @@ module _ {D : Type 0} (disk : Ghosts D) where
       opened = stays.opened;
       past = same_past.are;
       early = same_past.early;
+      reached = same_past.reached;
       lost = tt;
       count = counted m a b le count rose ended.count;
       cause = record { later = omega (arith, stays.faults); failed = tt };
@@ -75,6 +76,7 @@ module _ {D : Type 0} (disk : Ghosts D) where
       opened = stays.opened;
       past = same_past.are;
       early = same_past.early;
+      reached = same_past.reached;
       lost = refl;
       count = counted m a b le count rose ended.count;
       cause = record { later = omega (arith, stays.faults, ended.faults); failed = omega (arith, stays.faults) };

@@ -4,7 +4,7 @@ use Rattle.std.specs.Prelude.{if◌then◌else◌}
 use Rattle.std.proofs.lemmas.Bool.{and_from, and_parts, eq-eqb, eqb-true, le-leb, lt-ltb, ltb-true}
 use Rattle.std.proofs.lemmas.List.{nil_from_length}
 use Rattle.tape_types.specs.declared.cartridges.Limits.{Limits}
-use Rattle.byte_disk.specs.Files.{AreBytes, Files}
+use Rattle.byte_disk.specs.Files.{Files}
 use Rattle.byte_disk.specs.declared.disk.ByteDisk.{Ghosts}
 use Rattle.image_slots.specs.Calls.{IsOpened, IsOpening, first_header}
 use Rattle.image_slots.specs.Sides.{chosen}
@@ -12,14 +12,13 @@ use Rattle.image_slots.specs.Slots.{IsBlank, Stores, first_value}
 use Rattle.image_slots.specs.declared.errors.OpenErr as slots
 use Rattle.image_slots.specs.declared.errors.OpenErr.TheVariants as slot_errors
 use Rattle.image_slots.specs.declared.sides.Found.{Found}
-use Rattle.image_slots.proofs.Chains.{same_files, told_before}
 use Rattle.image_slots.proofs.Choosing.{chosen_value}
 use Rattle.image_format.specs.declared.refusal.Refusal.TheVariants as rh
 use Rattle.image_format.specs.Images.{blank, header, header_by, image, image_by, is_blank}
 use Rattle.image_format.specs.Values.{value_of}
 use Rattle.image_tape.specs.declared.errors.OpenErr.{OpenErr}
 use Rattle.image_tape.specs.declared.errors.OpenErr.TheVariants.{Header, Record, Disk}
-use Rattle.image_tape.specs.Opens.{AreBytesOf, HasFault, HasOpened, IsRefused, RefusedAs, header_reason}
+use Rattle.image_tape.specs.Opens.{HasFault, HasOpened, IsRefused, RefusedAs, header_reason}
 use Rattle.image_tape.specs.Tape.{View}
 
 is_blank_found : (d : Files) → IsBlank d → is_blank d ≡ true
@@ -62,16 +61,6 @@ same_image limits d e f h = same_by limits d e f (is_blank d) refl h
 module _ {D : Type 0} (disk : Ghosts D) where
   -- the files once the header was found
   module _ (old new : D) (f : Found) (found : IsOpening disk 14 (Ok f) old new) where
-    pub bytes_first : AreBytesOf disk old → AreBytesOf disk new
-    bytes_first bytes e is =
-        let was = told_before (disk.held old) (disk.held new) found.untold e is in
-        let t = found.told was.0 was.1 in
-        let same : e ≡ t.0 = same_files (disk.held new) t.0 e t.1 is in
-        let are = bytes was.0 was.1 in (
-          subst (λ (l : List ℕ). AreBytes l) (sym (ap (λ (x : Files). x.ip) same ∙ t.2.ip)) are.0,
-          subst (λ (l : List ℕ). AreBytes l) (sym (ap (λ (x : Files). x.dp) same ∙ t.2.dp)) are.1,
-        )
-
     opened_one : (limits : Limits) (v : View D) → HasOpened disk limits new v → HasOpened disk limits old v
     opened_one limits v h = record {
       limits_are = h.limits_are;

@@ -1,8 +1,7 @@
 -- The reference goes up before the header has it.
-use Rattle.std.proofs.Common.{◌≡◌, ℕ, ◌+◌, ◌^◌, ◌<◌, ◌≤◌, ⊎_elim, inl, inr, List, Option, Some, None, Result, Ok, refl, sym, ap, ◌∙◌, subst, arith}
+use Rattle.std.proofs.Common.{◌≡◌, ℕ, ◌+◌, ◌^◌, ◌<◌, ◌≤◌, ⊎_elim, inl, inr, Option, Some, Ok, refl, sym, ap, ◌∙◌, subst, arith}
 use Rattle.tape_types.specs.Cartridges.{items_of}
 use Rattle.tape_types.specs.declared.cartridges.Cartridge.{Cartridge}
-use Rattle.tape_types.specs.declared.cartridges.Item.{Item}
 use Rattle.tape_types.specs.declared.cartridges.Part.{Part}
 use Rattle.tape_types.specs.declared.cartridges.Part.TheVariants.{Ip, Dp}
 use Rattle.tape_types.specs.declared.cartridges.Place.{Place}
@@ -13,10 +12,10 @@ use Rattle.byte_disk.specs.declared.disk.ByteDisk.{Ghosts}
 use Rattle.image_format.specs.declared.values.SlotValue.{SlotValue}
 use Rattle.image_tape.specs.declared.doubt.Doubt.TheVariants.{Settled}
 use Rattle.image_tape.specs.Halves.{with_vcr}
-use Rattle.image_tape.specs.Tape.{Holds, IsKept, LeavesOf, View, with_reference}
+use Rattle.image_tape.specs.Tape.{Holds, IsKept, View, with_reference}
 use Rattle.image_tape.specs.Writes.{IsUncounted, Rises}
 use Rattle.image_tape.proofs.Opened.{whole}
-use Rattle.image_tape.proofs.Rising.{reference_of, uncounted_at}
+use Rattle.image_tape.proofs.Rising.{uncounted_at}
 use Rattle.image_tape.proofs.Shaping.{MayRead, held_shaped, kept_shaped, shaped}
 use Rattle.image_tape.proofs.Telling.{held_is_whole, tells_of}
 use Rattle.image_tape.proofs.Wholes.{none_held, untold_held}

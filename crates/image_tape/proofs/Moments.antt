@@ -7,7 +7,7 @@ use Rattle.tape_types.specs.declared.cartridges.Limits.{Limits}
 use Rattle.byte_disk.specs.declared.disk.ByteDisk.{Ghosts}
 use Rattle.image_slots.specs.State as slot
 use Rattle.image_tape.specs.Ends.{Ends}
-use Rattle.image_tape.specs.Tape.{AheadOn, AreEarlier, CrashesOn, IsKept, LeavesOf, LeftSince, Remembers, SinceOn, View, WasLeft, with_moment}
+use Rattle.image_tape.specs.Tape.{AheadOn, AreEarlier, CrashesOn, IsKept, IsUnclaimed, LeavesOf, LeftSince, Remembers, SinceOn, View, WasLeft, with_moment}
 
 module _ {D : Type 0} (disk : Ghosts D) where
   -- of a later number, too
@@ -27,7 +27,9 @@ module _ {D : Type 0} (disk : Ghosts D) where
       (earlier_one v.past (v.reads.vcr, v.slots) n (earlier_on v.past (disk.commands v.slots.disk) n later same.early) rose)
 
   pub remembers : (v w : View D) (past : List (ℕ × slot.View D)) → v ≡ w → IsKept disk v → past ≡ with_moment w → Remembers disk past w
-  remembers v w past is kept same = record { are = same; early = (subst (λ (x : View D). IsKept disk x) is kept).past }
+  remembers v w past is kept same =
+      let now = subst (λ (x : View D). IsKept disk x) is kept in
+      record { are = same; early = now.past; reached = now.reached }
 
   module _ (limits : Limits) where
     -- a moment more
@@ -67,6 +69,8 @@ module _ {D : Type 0} (disk : Ghosts D) where
       let rose = ends.count.at_least in
       let later = ends.count.later in
       let early = ends.early in
+      let opened = ends.opened in
+      let open_by = ends.reached in
       let now : (image : Cartridge) → LeavesOf disk b image → (before : Cartridge) × LeavesOf disk a before × step before image =
       λ image left. crash.now image (subst (λ (l : Limits). AheadOn disk l b.reads.vcr b.slots.disk image) same left) in
       let was : (t : ℕ) (image : Cartridge) → WasLeft disk b.room.limits b.past t image ≡ WasLeft disk a.room.limits (with_moment a) t image =
@@ -80,22 +84,27 @@ module _ {D : Type 0} (disk : Ghosts D) where
             (crash.since t image reached (subst (λ (l : Limits). SinceOn disk l b.slots.disk t image) same within)))
             (⊎_elim
             (λ (here : LeavesOf disk b image). inr (now image here))
+            (⊎_elim
             (λ (h : Rose t (disk.commands b.slots.disk) × WasLeft disk b.room.limits b.past t image). ⊎_elim
-            (λ (old : WasLeft disk a.room.limits a.past t image). inl (inr (inr (left_past a.room.limits a.past t (disk.commands a.slots.disk) image early old, old))))
+            (λ (old : WasLeft disk a.room.limits a.past t image).
+            inl (inr (inr (inl (left_past a.room.limits a.past t (disk.commands a.slots.disk) image early old, old)))))
             (λ (one : LeavesOf disk a image). inl (inr (inl one)))
-            (left_before a.room.limits a.past (a.reads.vcr, a.slots) t image (subst (λ (X : Type 0). X) (was t image) h.1))))
+            (left_before a.room.limits a.past (a.reads.vcr, a.slots) t image (subst (λ (X : Type 0). X) (was t image) h.1)))
+            (λ (h : IsUnclaimed disk b t). inl (inr (inr (inr (omega (arith, h.0, opened), open_by)))))))
             left;
         kept = λ t image reached left. ⊎_elim
             (λ (within : SinceOn disk a.room.limits a.slots.disk t image).
             inl (subst (λ (l : Limits). SinceOn disk l b.slots.disk t image) (sym same) (crash.kept t image reached within)))
             (⊎_elim
-            (λ (here : LeavesOf disk a image). inr (inr (
+            (λ (here : LeavesOf disk a image). inr (inr (inl (
               omega (arith, reached, rose),
               subst (λ (X : Type 0). X) (sym (was t image)) (left_one a.room.limits a.past (a.reads.vcr, a.slots) t image reached here),
-            )))
-            (λ (h : Rose t (disk.commands a.slots.disk) × WasLeft disk a.room.limits a.past t image). inr (inr (
+            ))))
+            (⊎_elim
+            (λ (h : Rose t (disk.commands a.slots.disk) × WasLeft disk a.room.limits a.past t image). inr (inr (inl (
               omega (arith, h.0, later),
               subst (λ (X : Type 0). X) (sym (was t image)) (left_more a.room.limits a.past (a.reads.vcr, a.slots) t image h.1),
             ))))
+            (λ (h : IsUnclaimed disk a t). inr (inr (inr (omega (arith, h.0, opened), omega (arith, h.1, later, opened)))))))
             left;
       }

@@ -26,7 +26,7 @@ use Rattle.image_tape.specs.Writes.{AfterRise, HasRisen, IsCounted, IsUncounted,
 use Rattle.image_tape.proofs.Fronts.{fewer_offsets, fewer_records, front_size, offset_is}
 use Rattle.image_tape.proofs.Opened.{counted, is_counted, is_whole, whole}
 use Rattle.image_tape.proofs.Telling.{held_is_whole, tells_of}
-use Rattle.image_tape.proofs.Wholes.{all_hold, back, lie_like, none_held, settled_taken, untold_held}
+use Rattle.image_tape.proofs.Wholes.{all_hold, back, lie_like, none_held, referred_stand, settled_taken, untold_held}
 
 -- the first records alone
 pub lie_cut : (said reads : Half) (pos end : ℕ) (offsets file : List ℕ) (items : List Item) → pos < reads.count → end ≡ get_or offsets pos 0
@@ -68,21 +68,8 @@ module _ {D : Type 0} (disk : Ghosts D) (v : View D) (kept : IsKept disk v) (set
   st0 d is = (tells_of disk v kept settled d is).0
 
   -- nothing is cut
-  pub risen_stand : MayStand disk (with_vcr vcr v.base) (with_vcr vcr v.reads) v
-  risen_stand d is =
-      let st = st0 d is in
-      record {
-        ip = st.ip;
-        dp = st.dp;
-        in_ip = lie_like v.base.ip v.reads.ip v.base.ip v.reads.ip v.room.ip d.ip st.ip refl refl refl refl kept.holds.ip st.in_ip;
-        in_dp = lie_like v.base.dp v.reads.dp v.base.dp v.reads.dp v.room.dp d.dp st.dp refl refl refl refl kept.holds.dp st.in_dp;
-        agree = λ image left. let a = st.agree image left in record { ip = a.ip; dp = a.dp };
-        vcr = omega arith;
-        note_ip = st.note_ip;
-        note_dp = st.note_dp;
-        fits_ip = st.fits_ip;
-        fits_dp = st.fits_dp;
-      }
+  abbrev pub risen_stand : MayStand disk (with_vcr vcr v.base) (with_vcr vcr v.reads) v
+  risen_stand = referred_stand disk v kept settled vcr vcr (omega arith)
 
   pub risen_hold : Holds (cut_to (with_vcr vcr v.reads) v.room) (with_vcr vcr v.reads)
   risen_hold = let h = all_hold disk v kept in record { ip = h.ip; dp = h.dp; fits_ip = h.fits_ip; fits_dp = h.fits_dp }
@@ -99,7 +86,7 @@ module _ {D : Type 0} (disk : Ghosts D) (v : View D) (kept : IsKept disk v) (set
   reference_of Dp s ip dp n = (refl, record { other_part = refl; note_ip = refl; note_dp = refl })
 
   pub risen_has : (part : Part) (pos : ℕ) (d : Files) (is : disk.held v.slots.disk ≡ Some d) → HasRisen part pos (whole (st0 d is)) (whole (risen_stand d is))
-  unfolding risen_stand
+  unfolding referred_stand
   risen_has part pos d is =
       let st = st0 d is in
       let w = reference_of part v.reads st.ip st.dp vcr in
@@ -107,7 +94,7 @@ module _ {D : Type 0} (disk : Ghosts D) (v : View D) (kept : IsKept disk v) (set
 
   pub risen_within : (part : Part) (pos : ℕ) (d : Files) (is : disk.held v.slots.disk ≡ Some d) (x : Item)
       → WithinWrite part pos x (whole (st0 d is)) (with_reference v.reads.vcr (counted (st0 d is))) (counted (risen_stand d is))
-  unfolding risen_stand
+  unfolding referred_stand
   risen_within Ip pos d is x = record {
     items = inl (refl, inr (rose (whole (st0 d is)) _ refl refl));
     rest = record { other_part = refl; note_ip = refl; note_dp = refl };

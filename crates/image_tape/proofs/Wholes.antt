@@ -322,9 +322,9 @@ module _ {D : Type 0} (disk : Ghosts D) (w : View D) (kept : IsKept disk w) (set
   abbrev pub vcr_value : SlotValue
   vcr_value = with_vcr w.reads.vcr w.base
 
-  -- the header as it is, with the reference that reads
-  pub vcr_stand : MayStand disk vcr_value w.reads w
-  vcr_stand d is =
+  -- the header as it is, with another reference, and all that reads with that or a greater one
+  unfoldable pub referred_stand : (n m : ℕ) → n ≤ m → MayStand disk (with_vcr n w.base) (with_vcr m w.reads) w
+  referred_stand n m le d is =
       let st = (tells_of disk w kept settled d is).0 in
       record {
         ip = st.ip;
@@ -332,16 +332,20 @@ module _ {D : Type 0} (disk : Ghosts D) (w : View D) (kept : IsKept disk w) (set
         in_ip = lie_like w.base.ip w.reads.ip w.base.ip w.reads.ip w.room.ip d.ip st.ip refl refl refl refl kept.holds.ip st.in_ip;
         in_dp = lie_like w.base.dp w.reads.dp w.base.dp w.reads.dp w.room.dp d.dp st.dp refl refl refl refl kept.holds.dp st.in_dp;
         agree = λ image left. let a = st.agree image left in record { ip = a.ip; dp = a.dp };
-        vcr = omega arith;
+        vcr = le;
         note_ip = st.note_ip;
         note_dp = st.note_dp;
         fits_ip = st.fits_ip;
         fits_dp = st.fits_dp;
       }
 
+  -- the header as it is, with the reference that reads
+  abbrev pub vcr_stand : MayStand disk vcr_value w.reads w
+  vcr_stand = referred_stand w.reads.vcr w.reads.vcr (omega arith)
+
   counted_vcr : (d : Files) (is : disk.held w.slots.disk ≡ Some d)
       → counted (vcr_stand d is) ≡ with_reference w.reads.vcr (counted (tells_of disk w kept settled d is).0)
-  unfolding vcr_stand
+  unfolding referred_stand
   counted_vcr d is = refl
 
   vcr_told : {T E : Type 0} (r : Result T E) (n : View D) → IsCommit disk vcr_value w.reads r w n → (d : Files) → disk.held w.slots.disk ≡ Some d

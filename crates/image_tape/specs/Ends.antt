@@ -65,6 +65,7 @@ pub record Ends {D T E : Type 0} (disk : Ghosts D) (end : Result T E) (old new :
   pub opened : new.opened ≡ old.opened
   pub past : new.past ≡ with_moment old
   pub early : AreEarlier disk old.past (disk.commands old.slots.disk)
+  pub reached : old.opened ≤ disk.commands old.slots.disk
   pub lost : OnErr end (new.head ≡ None)
   pub count : Counted 16 (disk.commands old.slots.disk) (disk.commands new.slots.disk)
   pub cause : HasCause old.faults new.faults end

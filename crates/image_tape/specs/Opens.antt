@@ -3,7 +3,7 @@ use Rattle.std.specs.Prelude.{ℕ, ◌≡◌, List, length, Some, None, Ok, Err}
 use Rattle.tape_types.specs.declared.cartridges.Cartridge.{Cartridge}
 use Rattle.tape_types.specs.declared.cartridges.Item.{Item}
 use Rattle.tape_types.specs.declared.cartridges.Limits.{Limits}
-use Rattle.byte_disk.specs.Files.{AreBytes, Files}
+use Rattle.byte_disk.specs.Files.{Files}
 use Rattle.byte_disk.specs.declared.disk.ByteDisk.{Ghosts}
 use Rattle.tape_types.specs.Counts.{IsRise, Rose}
 use Rattle.image_format.specs.declared.refusal.ReadErr.{ReadErr}
@@ -65,10 +65,6 @@ pub record IsRefused {D : Type 0} (disk : Ghosts D) (limits : Limits) (why : Ope
   pub told : (d : Files) → disk.held old ≡ Some d → RefusedAs limits d why
   pub untold : disk.held old ≡ None → disk.held new ≡ None
   pub fault : HasFault (disk.faults old) (disk.faults new) why
-
--- where the disk tells its files, they are of bytes
-abbrev pub AreBytesOf : {D : Type 0} → Ghosts D → D → Type 0
-AreBytesOf disk b = (d : Files) → disk.held b ≡ Some d → AreBytes d.ip × AreBytes d.dp
 
 -- what is told of why nothing was read
 abbrev pub IsReason : (before now : ℕ) → ReadErr → Type 0

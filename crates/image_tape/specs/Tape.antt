@@ -96,12 +96,17 @@ WasLeft disk limits [] t image = ⊥
 WasLeft disk limits (m ∷ ms) t image =
     ((t ≤ disk.commands m.1.disk) × AheadOn disk limits m.0 m.1.disk image) ⊎ WasLeft disk limits ms t image
 
+-- moments from before the tape was opened are among those since a number
+abbrev pub IsUnclaimed : {D : Type 0} → Ghosts D → View D → ℕ → Type 0
+IsUnclaimed disk v t = (t < v.opened) × (v.opened ≤ disk.commands v.slots.disk)
+
 -- What a crash may have left of a tape since a number of commands: within a command of its disk; now; or at a moment
--- that is past, as long as that number is.
+-- that is past, as long as that number is. Of moments from before the tape was opened nothing is claimed.
 abbrev pub LeftSince : {D : Type 0} → Ghosts D → View D → ℕ → Cartridge → Type 0
 LeftSince disk v t image = SinceOn disk v.room.limits v.slots.disk t image
     ⊎ LeavesOf disk v image
     ⊎ (Rose t (disk.commands v.slots.disk) × WasLeft disk v.room.limits v.past t image)
+    ⊎ IsUnclaimed disk v t
 
 -- the moments that are past once this one is
 abbrev pub with_moment : {D : Type 0} → View D → List (ℕ × slot.View D)
@@ -112,10 +117,11 @@ abbrev pub AreEarlier : {D : Type 0} → Ghosts D → List (ℕ × slot.View D) 
 AreEarlier disk [] n = Unit {0}
 AreEarlier disk (m ∷ ms) n = Rose (disk.commands m.1.disk) n × AreEarlier disk ms n
 
--- the moments that are past once this one is; those before it are earlier
+-- the moments that are past once this one is; those before it are earlier, and so is the opening
 pub record Remembers {D : Type 0} (disk : Ghosts D) (past : List (ℕ × slot.View D)) (v : View D) : Type 0 where
   pub are : past ≡ with_moment v
   pub early : AreEarlier disk v.past (disk.commands v.slots.disk)
+  pub reached : v.opened ≤ disk.commands v.slots.disk
 
 -- what commands of the disk leave of the cartridge to a crash, now and since
 abbrev pub CrashesAt : {D : Type 0} → Ghosts D → Limits → (Cartridge → Cartridge → Type 0) → (m : ℕ) → D → (n : ℕ) → D → Type 0

@@ -213,13 +213,13 @@ impl<B: ByteDisk> Drive for ImageTape<B> {
 
     ghost allows = { λ image. Unit {0} };
 
-    ghost only_now = { λ t image lt h. laws.from_three h
+    ghost only_now = { λ t image lt h. laws.from_four h
         (λ left. (image, (left.0, B.only_now t.slots.disk left.0 lt left.1, left.2, left.3), laws.as_it_opens _ image))
-        (λ now. now) (λ past. laws.not_past _ lt past.0) };
+        (λ now. now) (λ past. laws.not_past _ lt past.0) (λ before. laws.not_before _ _ before.0 before.1) };
 
     ghost counts_now = { λ t n image le h. laws.second h };
 
-    ghost lower = { λ t n m image le h. laws.from_three h
+    ghost lower = { λ t n m image le h. laws.from_four h
         (λ left. laws.first (left.0, B.lower t.slots.disk n m left.0 le left.1, left.2, left.3))
         (λ now. laws.second now)
         (λ past. laws.third (
@@ -227,7 +227,8 @@ impl<B: ByteDisk> Drive for ImageTape<B> {
           laws.was_lower
               (record { held = B.held; faults = B.faults; commands = B.commands; leaves = B.leaves; left_since = B.left_since })
               _ t.past n m image le past.1,
-        )) };
+        ))
+        (λ before. laws.fourth (laws.lower_yet _ _ _ le before.0, before.1)) };
 
     fn limits(&self) -> Limits {
         let _kept = self.doubt;

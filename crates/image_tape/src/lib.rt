@@ -3,6 +3,7 @@
 
 mod commands;
 mod commits;
+mod counts;
 mod doubt;
 mod errors;
 mod halves;

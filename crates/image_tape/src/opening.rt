@@ -7,7 +7,7 @@ ghost use Rattle.image_slots.specs.State.{IsOver};
 ghost use Rattle.image_slots.specs.declared.known.Known.TheVariants.{Steady};
 ghost use Rattle.image_format.specs.Reading.{IsRead};
 ghost use Rattle.image_tape.specs.declared.doubt.Doubt.TheVariants.{Settled};
-ghost use Rattle.image_tape.specs.Opens.{AreBytesOf, AreSynced, HasOpened, IsReason, IsRefused, IsTellable};
+ghost use Rattle.image_tape.specs.Opens.{AreSynced, HasOpened, IsReason, IsRefused, IsTellable};
 ghost use Rattle.image_tape.specs.Opens.{header_reason, reason_of};
 
 use crate::commits::Commits;
@@ -33,8 +33,7 @@ impl<B: ByteDisk> ImageTape<B> {
     /// disk, whose header is short and whose partitions are empty, it makes a header first. The room has from 4 to 2^40
     /// positions for each partition.
     pub fn open(disk: B, room: Room, commits: Commits) -> Result<ImageTape<B>, OpenFail<B>>
-        requires limits { IsLimits room.limits }
-        requires bytes { AreBytesOf B.ByteDisk disk }
+        requires { IsLimits room.limits }
         ensures opened { IfOk result (λ t. HasOpened B.ByteDisk room.limits disk t) }
         ensures refused { IfErr result (λ f. IsRefused B.ByteDisk room.limits f.why disk f.disk) }
         ensures room { IfErr result (λ f. f.room.limits ≡ room.limits) }
@@ -58,7 +57,6 @@ impl<B: ByteDisk> ImageTape<B> {
     fn read_all(slots: Slots<B>, room: Room, commits: Commits) -> Result<ImageTape<B>, OpenFail<B>>
         requires limits { IsLimits room.limits }
         requires steady { slots.known ≡ Steady }
-        requires bytes { AreBytesOf B.ByteDisk slots.disk }
         ensures opened { IfOk result (λ t. HasOpened B.ByteDisk room.limits slots.disk t) }
         ensures refused { IfErr result (λ f. IsRefused B.ByteDisk room.limits f.why slots.disk f.disk) }
         ensures room { IfErr result (λ f. f.room.limits ≡ room.limits) }
@@ -121,8 +119,7 @@ impl<B: ByteDisk> ImageTape<B> {
 
 // Makes the partitions' files of a disk durable, and reads what lies in them.
 fn read_synced<B: ByteDisk>(slots: &mut Slots<B>, room: &mut Room) -> Result<SlotValue, ReadErr>
-    requires steady { slots.old.known ≡ Steady }
-    requires bytes { AreBytesOf B.ByteDisk slots.old.disk }
+    requires { slots.old.known ≡ Steady }
     ensures found { IfOk result (λ s. IsTellable B.ByteDisk room.old.limits slots.new room.new s) }
     ensures told { (d : Files) → B.held slots.old.disk ≡ Some d → IsRead room.old.limits d result room.new }
     ensures held { B.held slots.new.disk ≡ B.held slots.old.disk }

@@ -61,6 +61,13 @@ impl<B: ByteDisk> Model for ImageTape<B> {
 }
 
 impl<B: ByteDisk> ImageTape<B> {
+    /// The disk, to be looked at.
+    pub fn disk(&self) -> &B
+        ensures { result.now ≡ self.now.slots.disk }
+    {
+        self.slots.disk()
+    }
+
     /// Gives the disk back.
     pub fn into_disk(self) -> B
         ensures { result ≡ self.slots.disk }

@@ -1,5 +1,5 @@
-use Rattle.std.proofs.Common.{rules, ◌∙◌, ap, arith}
-use Rattle.image_tape.proofs.Ending.{early_then, head_in, looked_badly, steady_end, surely_badly, surely_well}
+use Rattle.std.proofs.Common.{arith}
+use Rattle.image_tape.proofs.Ending.{early_then, looked_badly, steady_end, surely_badly, surely_well}
 use Rattle.image_tape.proofs.tape.ImageTape.look_surely.Goals as goal
 
 pub returns-in-Ok-settle_vcr-clause-looked : goal.returns-in-Ok-settle_vcr-clause-looked

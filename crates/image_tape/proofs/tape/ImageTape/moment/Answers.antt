@@ -1,4 +1,4 @@
-use Rattle.std.proofs.Common.{◌∙◌, ap, sym}
+use Rattle.std.proofs.Common.{◌∙◌, ap}
 use Rattle.image_tape.specs.Tape.{View, with_moment}
 use Rattle.image_tape.proofs.Moments.{remembers}
 use Rattle.image_tape.proofs.tape.ImageTape.moment.Goals as goal

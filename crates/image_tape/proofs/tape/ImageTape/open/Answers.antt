@@ -1,8 +1,5 @@
-use Rattle.image_tape.proofs.First.{bytes_first, opened_first, refused_first, refused_header}
+use Rattle.image_tape.proofs.First.{opened_first, refused_first, refused_header}
 use Rattle.image_tape.proofs.tape.ImageTape.open.Goals as goal
-
-pub read_all-requires-clause-bytes : goal.read_all-requires-clause-bytes
-read_all-requires-clause-bytes g c = bytes_first g.B.ByteDisk c.args.disk _ _ c.in-Ok.ensures.found c.requires.bytes
 
 pub returns-in-Ok-clause-opened : goal.returns-in-Ok-clause-opened
 returns-in-Ok-clause-opened g c = opened_first g.B.ByteDisk c.args.room.limits c.args.disk _ _ c.in-Ok.ensures.found c.read_all.result c.read_all.ensures.opened

@@ -1,4 +1,4 @@
-use Rattle.std.proofs.Common.{rules, ◌∙◌, ap, sym, arith}
+use Rattle.std.proofs.Common.{◌∙◌, ap, sym, arith}
 use Rattle.image_format.specs.declared.values.SlotValue.{SlotValue}
 use Rattle.image_tape.specs.Halves.{with_vcr}
 use Rattle.image_tape.specs.Steps.{MayStand}
