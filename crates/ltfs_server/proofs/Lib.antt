@@ -7,5 +7,5 @@ pub mod Readiness
 pub mod Sentences
 pub mod ServeClauses
 pub mod ServeSteps
-pub mod Holding
 pub mod Disks
+pub mod AgainLemmas

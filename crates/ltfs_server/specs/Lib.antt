@@ -6,3 +6,5 @@ pub mod Sentence
 pub mod Serving
 pub mod Ready
 pub mod Disks
+pub mod Runs
+pub mod Again

@@ -1,10 +1,11 @@
 //! What the headline says of the drive in memory, in words of that drive's record alone, and of a tape on a disk.
 
-ghost use Rattle.ltfs_server.specs.Disks.{SurvivesOnDisks};
+ghost use Rattle.ltfs_server.specs.Again.{CrashesLeaveReady};
+ghost use Rattle.ltfs_server.specs.Disks.{SurvivesOnDisks, SurvivesOnDisksInMemory};
 ghost use Rattle.ltfs_server.specs.Ready.{LeavesReady};
 ghost use Rattle.ltfs_server.specs.Sentence.{SurvivesInMemory};
 
-use byte_disk::ByteDisk;
+use byte_disk::{ByteDisk, MemDisk, crash_gives_all, files_are_told, since_gives_all};
 use image_tape::{ImageTape, images_open};
 use run_laws::{runs_are_in_memory, runs_in_memory_survive};
 use tape_drive::{Drive, MemDrive};
@@ -36,3 +37,25 @@ pub fn headlines_survive_on_disks<B: ByteDisk>(tape: &ImageTape<B>)
 {
     images_open(tape);
 }
+
+/// The same over a disk in memory, in words of that disk's record. Each disk that `crash_with`, `crash` or `crash_by`
+/// gives now, and each that one of them gave right before or right after any command of the disk that began in the run,
+/// opens, as a cartridge that stands for the tree after some first placements of the log, among them all that were placed
+/// before any sync that was acknowledged by then.
+pub fn headlines_survive_on_disks_in_memory(tape: &ImageTape<MemDisk>)
+    ensures { SurvivesOnDisksInMemory ⟦<MemDisk as ByteDisk>⟧ ⟦<ImageTape<MemDisk> as Drive>⟧ tape.now }
+{
+    headlines_survive_on_disks(tape);
+    let disk = tape.disk();
+    files_are_told(disk);
+    crash_gives_all(disk);
+    since_gives_all(disk);
+}
+
+/// A run of `serve` or of `make` had begun with a drive in memory whose cartridge stood for a tree and was sound, with
+/// nothing pending. Each image that a crash may leave of it is ready again for a run: a new drive with it stands for the
+/// tree after some first placements of the log, with all that a sync covered which was acknowledged, or for the same
+/// tree where there is no log.
+pub fn crashes_leave_drives_ready()
+    ensures { CrashesLeaveReady ⟦<MemDrive as Drive>⟧ }
+{}

@@ -6,6 +6,7 @@ mod laws;
 mod making;
 mod server;
 mod serves;
+mod twice;
 
 use file_drive::FileDrive;
 use server::run;
@@ -13,6 +14,7 @@ use std::alloc::{AllocError, Global};
 use std::env;
 use std::process::ExitCode;
 use tape_edge::{OpenGate, ReaderSource, SystemClock, WriterSink};
+use tape_types::NoMemory;
 
 fn main(rt: HostRuntime) -> ExitCode {
     let Ok(words) = words_of(&rt, rt.alloc()) else {
@@ -45,17 +47,18 @@ fn starved(rt: &HostRuntime) -> ExitCode {
     ExitCode::from(7)
 }
 
-/// The drive over the folder of the second word; without one, over a name that no folder has.
+/// The drive over the folder of the second word, with the room that it needs; without one, over a name that no folder
+/// has.
 fn drive_of(
     rt: &HostRuntime,
     alloc: Global,
     words: &Vec<String>,
-) -> Result<FileDrive<HostRuntime>, AllocError> {
+) -> Result<FileDrive<HostRuntime>, NoMemory> {
     let folder = match words.get(1) {
         Some(folder) => folder.clone()?,
         None => String::new(alloc),
     };
-    Ok(FileDrive::new(rt.clone()?, folder))
+    FileDrive::new(rt.clone()?, folder)
 }
 
 /// The words of the command line without the program's name.

@@ -4,4 +4,5 @@ pub mod Rests
 pub mod Logs
 pub mod Ends
 pub mod Runs
+pub mod Holding
 pub mod Images

@@ -1,5 +1,5 @@
 -- What a crash leaves of a run over a drive in memory, in words of that drive's record alone.
-use Rattle.std.specs.Prelude.{ℕ, ◌≡◌, ◌≤◌, ◌<◌, ◌-◌, ◌^◌, nat_le, Contains, List, filter, length, Option, Some}
+use Rattle.std.specs.Prelude.{ℕ, ◌≡◌, ◌≤◌, ◌<◌, ◌-◌, ◌^◌, nat_le, nat_lt, Contains, List, filter, length, Option, Some}
 use Rattle.tape_types.specs.declared.cartridges.Cartridge.{Cartridge}
 use Rattle.tape_types.specs.declared.cartridges.Limits.{Limits}
 use Rattle.tape_types.specs.declared.moments.Moment.{Moment}
@@ -43,6 +43,10 @@ pub record IsReady (facts : Carried) (tree : Tree) (generation : ℕ) (v : View)
 -- the acknowledgements that were given by the time of a number of commands
 abbrev pub acked_by : ℕ → List Ack → List Ack
 acked_by count acks = filter (λ a. nat_le a.command count) acks
+
+-- the acknowledgements that were given while the number of commands could still rise
+abbrev pub acked_in_count : List Ack → List Ack
+acked_in_count acks = filter (λ a. nat_lt a.command (2 ^ 64 - 1)) acks
 
 -- An image stands for the tree after some first placements of the log, with all that were placed before any of these
 -- syncs among them, and is sound.

@@ -1,7 +1,7 @@
 -- What each image of a run holds of what was acknowledged.
-use Rattle.std.specs.Prelude.{◌≤◌, ◌<◌, ◌-◌, ◌^◌, nat_le, ℕ, All, Contains, List, [], ◌∷◌, length}
+use Rattle.std.specs.Prelude.{◌≡◌, ◌≤◌, ◌<◌, ◌-◌, ◌^◌, nat_le, nat_lt, ℕ, All, Bool, true, Contains, List, [], ◌∷◌, filter, length}
 use Rattle.std.proofs.Common.{⊎_elim, arith}
-use Rattle.std.proofs.lemmas.Bool.{cases_lt, leb-true}
+use Rattle.std.proofs.lemmas.Bool.{cases_lt, leb-true, ltb-true}
 use Rattle.std.proofs.lemmas.List.Elements.{All-cons, All-contains, All-contains_itself, All-filter, All-head, All-nil, All-tail, filter_passes}
 use Rattle.std.specs.List.{slice_index_or}
 use Rattle.tape_types.specs.declared.cartridges.Cartridge.{Cartridge}
@@ -13,7 +13,7 @@ use Rattle.cartridge_meaning.specs.Carried.{Carried}
 use Rattle.serving_promise.specs.Crash.{Leavings, StandsWithin, SurvivesCrashes}
 use Rattle.serving_promise.specs.Headline.{tree_of_log}
 use Rattle.serving_promise.specs.Meanings.{cartridges}
-use Rattle.run_laws.specs.Memory.{HoldsAcked, acked_by}
+use Rattle.run_laws.specs.Memory.{HoldsAcked, acked_by, acked_in_count}
 
 abbrev IsUpTo : ℕ → Ack → Type 0
 IsUpTo n a = a.place ≤ n
@@ -52,21 +52,24 @@ module _ (script : List ScriptLine) (log : Log) (facts : Carried) (tree : Tree) 
         sound = survives.sound image left;
       }
 
-  -- each acknowledgement that was given by then
-  acked_each : (image : Cartridge) (count : ℕ) → count < 2 ^ 64 - 1 → leavings.since count image
-      → All (λ (a : Ack). IsWithin image a.place) (acked_by count log.acks)
-  acked_each image count less left k d within =
-      let all = All-filter (λ (a : Ack). nat_le a.command count)
-      (λ (a : Ack). a.command ≤ count → IsWithin image a.place) log.acks
-      (λ k' d' within'. λ by_then. survives.acknowledged (slice_index_or log.acks k' d')
-      (All-contains_itself log.acks k' d' within') (omega (arith, by_then, less)) image
-      (lower (slice_index_or log.acks k' d').command count image by_then left)) in
-      let passed = filter_passes (λ (a : Ack). nat_le a.command count) log.acks in
-      all k d within (leb-true (slice_index_or (acked_by count log.acks) k d).command count (passed k d within))
+  -- each acknowledgement that passes a test, where those that pass are of a moment since which the image counts
+  each_that : (passes : Ack → Bool) (image : Cartridge)
+      → ((a : Ack) → passes a ≡ true → (a.command < 2 ^ 64 - 1) × leavings.since a.command image)
+      → All (λ (a : Ack). IsWithin image a.place) (filter passes log.acks)
+  each_that passes image good k d within =
+      let all = All-filter passes (λ (a : Ack). passes a ≡ true → IsWithin image a.place) log.acks
+      (λ k' d' within'. λ is.
+      let ack = slice_index_or log.acks k' d' in
+      let g = good ack is in
+      survives.acknowledged ack (All-contains_itself log.acks k' d' within') g.0 image g.1) in
+      all k d within (filter_passes passes log.acks k d within)
 
   pub holds_then : (count : ℕ) → start ≤ count → count < 2 ^ 64 - 1 → (image : Cartridge) → leavings.since count image
       → HoldsAcked facts script tree log (acked_by count log.acks) image
-  holds_then count began less image left = holds image (lower start count image began left) (acked_by count log.acks) (acked_each image count less left)
+  holds_then count began less image left = holds image (lower start count image began left) (acked_by count log.acks)
+      (each_that (λ (a : Ack). nat_le a.command count) image (λ a is.
+      let by_then = leb-true a.command count is in
+      (omega (arith, by_then, less), lower a.command count image by_then left)))
 
   -- an image that counts since each number
   pub holds_now : (image : Cartridge) → ((t : ℕ) → leavings.since t image) → ((ack : Ack) → Contains log.acks ack → ack.command < 2 ^ 64 - 1)
@@ -75,3 +78,10 @@ module _ (script : List ScriptLine) (log : Log) (facts : Carried) (tree : Tree) 
       let ack = slice_index_or log.acks k d in
       let there = All-contains_itself log.acks k d within in
       survives.acknowledged ack there (reached ack there) image (left ack.command))
+
+  -- the same wherever the number of commands stands, of what was acknowledged while it could rise
+  pub holds_in_count : (image : Cartridge) → ((t : ℕ) → leavings.since t image)
+      → HoldsAcked facts script tree log (acked_in_count log.acks) image
+  holds_in_count image left = holds image (left start) (acked_in_count log.acks)
+      (each_that (λ (a : Ack). nat_lt a.command (2 ^ 64 - 1)) image
+      (λ a is. (ltb-true a.command (2 ^ 64 - 1) is, left a.command)))
