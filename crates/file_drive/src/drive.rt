@@ -6,43 +6,42 @@ ghost use Rattle.tape_types.specs.declared.cartridges.Place.{Place};
 ghost use Rattle.tape_types.specs.Counts.{HasCause};
 ghost use Rattle.tape_types.specs.Cartridges.{capacity, next};
 ghost use Rattle.tape_drive.specs.Commands.{after_read, Counted};
+ghost use Rattle.file_drive.specs.Sizes.{folder_limits};
 
-use crate::folder::Folder;
-use std::io;
-use std::rt::Files;
+use crate::calls::FolderCalls;
+use crate::stage::Stage;
+use crate::tape::folder_limits;
 use tape_drive::{Drive, DriveErr, Got};
-use tape_types::{Limits, Note, Part, Place};
+use tape_types::{Limits, NoMemory, Note, Part, Place};
 
-const CAP_IP: u64 = 65536;
-
-const CAP_DP: u64 = 1048576;
-
-/// A drive over the files of a folder. It tells no content: what it reads is known when it has been read.
+/// A drive over the image in a folder. It tells no content: what it reads is known when it has been read.
 ///
-/// A command fails where the system refuses a call, where a file is damaged beyond what reads as Torn, where something
-/// is to be written past the end, and where the volume change reference is at its end. The head may stand anywhere
-/// below the capacity; past the items the end is read.
+/// The folder is opened, and its image read, by the first command; a folder without an image counts as a blank
+/// cartridge, and one is made by the first command that writes. A command fails where the disk over the folder fails,
+/// where its files are no image, where something is to be written past the end, and where the volume change reference
+/// is at its end. The head may stand anywhere below the capacity; past the items the end is read.
 #[derive(Drop)]
-pub struct FileDrive<R: Files> {
-    folder: Folder<R>,
+pub struct FileDrive<R: FolderCalls> {
+    stage: Stage<R>,
     head: Option<Place>,
     faults: u64,
     commands: u64,
 }
 
-impl<R: Files + AllocGlobal + Drop> FileDrive<R> {
-    /// A drive that has had no command. The folder is opened by the first one; a folder that is missing is its fault.
-    pub fn new(rt: R, folder: String) -> FileDrive<R>
-        ensures head { result.head ≡ None }
-        ensures faults { result.faults ≡ 0 }
-        ensures commands { result.commands ≡ 0 }
+impl<R: FolderCalls> FileDrive<R> {
+    /// A drive that has had no command, with the room for all that a command needs. A folder that is missing is a
+    /// fault of the first one.
+    pub fn new(rt: R, folder: String) -> Result<FileDrive<R>, NoMemory>
+        ensures head { IfOk result (λ d. d.head ≡ None) }
+        ensures faults { IfOk result (λ d. d.faults ≡ 0) }
+        ensures commands { IfOk result (λ d. d.commands ≡ 0) }
     {
-        FileDrive {
-            folder: Folder::new(rt, folder),
+        Ok(FileDrive {
+            stage: Stage::new(rt, folder)?,
             head: None,
             faults: 0,
             commands: 0,
-        }
+        })
     }
 
     fn begin(&mut self)
@@ -53,8 +52,8 @@ impl<R: Files + AllocGlobal + Drop> FileDrive<R> {
         self.commands = self.commands.saturating_add(1);
     }
 
-    // How a command ended. Where it failed the head is lost, and nothing is known of the files.
-    fn ended<T: Drop>(&mut self, outcome: io::Result<T>) -> Result<T, DriveErr>
+    // How a command ended. Where it failed the head is lost.
+    fn ended<T: Drop>(&mut self, outcome: Result<T, DriveErr>) -> Result<T, DriveErr>
         ensures value { IfOk result (λ value. outcome ≡ Ok value) }
         ensures head { OnOk result (self.new.head ≡ self.old.head) }
         ensures lost { OnErr result (self.new.head ≡ None) }
@@ -63,17 +62,16 @@ impl<R: Files + AllocGlobal + Drop> FileDrive<R> {
     {
         match outcome {
             Ok(value) => Ok(value),
-            Err(_) => {
+            Err(why) => {
                 self.faults = self.faults.saturating_add(1);
                 self.head = None;
-                self.folder.forget();
-                Err(DriveErr::Failed)
+                Err(why)
             }
         }
     }
 }
 
-impl<R: Files + AllocGlobal + Drop> Drive for FileDrive<R> {
+impl<R: FolderCalls> Drive for FileDrive<R> {
     const MOST: u64 = 1;
 
     ghost MOST = { 1 };
@@ -82,7 +80,7 @@ impl<R: Files + AllocGlobal + Drop> Drive for FileDrive<R> {
 
     ghost head = { λ d. d.head };
 
-    ghost limits = { λ _. record { cap_ip = 65536; cap_dp = 1048576 } };
+    ghost limits = { λ _. folder_limits };
 
     ghost faults = { λ d. d.faults };
 
@@ -102,10 +100,7 @@ impl<R: Files + AllocGlobal + Drop> Drive for FileDrive<R> {
     ghost lower = { λ _ _ _ _ _ left. left };
 
     fn limits(&self) -> Limits {
-        Limits {
-            cap_ip: CAP_IP,
-            cap_dp: CAP_DP,
-        }
+        folder_limits()
     }
 
     fn faults(&self) -> u64 {
@@ -118,7 +113,7 @@ impl<R: Files + AllocGlobal + Drop> Drive for FileDrive<R> {
 
     fn locate(&mut self, place: Place) -> Result<(), DriveErr> {
         self.begin();
-        let found = self.folder.find();
+        let found = self.stage.locate(place);
         self.ended(found)?;
         self.head = Some(place);
         Ok(())
@@ -131,7 +126,7 @@ impl<R: Files + AllocGlobal + Drop> Drive for FileDrive<R> {
             buf.clear();
             Ok(Got::End)
         } else {
-            self.folder.read(at, buf)
+            self.stage.read(at, buf)
         };
         let got = self.ended(found)?;
         match got {
@@ -144,7 +139,7 @@ impl<R: Files + AllocGlobal + Drop> Drive for FileDrive<R> {
     fn write(&mut self, bytes: &[u8]) -> Result<(), DriveErr> {
         let Some(at) = self.head else { unreachable!() };
         self.begin();
-        let written = self.folder.write(at, bytes);
+        let written = self.stage.write(at, bytes);
         self.ended(written)?;
         self.head = Some(step(at));
         Ok(())
@@ -153,7 +148,7 @@ impl<R: Files + AllocGlobal + Drop> Drive for FileDrive<R> {
     fn mark(&mut self) -> Result<(), DriveErr> {
         let Some(at) = self.head else { unreachable!() };
         self.begin();
-        let written = self.folder.mark(at);
+        let written = self.stage.mark(at);
         self.ended(written)?;
         self.head = Some(step(at));
         Ok(())
@@ -161,35 +156,37 @@ impl<R: Files + AllocGlobal + Drop> Drive for FileDrive<R> {
 
     fn flush(&mut self) -> Result<(), DriveErr> {
         self.begin();
-        let flushed = self.folder.flush();
+        let flushed = self.stage.flush();
         self.ended(flushed)
     }
 
     fn read_note(&mut self, part: Part) -> Result<Note, DriveErr> {
         self.begin();
-        let found = self.folder.read_note(part);
+        let found = self.stage.read_note(part);
         self.ended(found)
     }
 
     fn write_note(&mut self, part: Part, note: &[u8; 70]) -> Result<(), DriveErr> {
         self.begin();
-        let written = self.folder.write_note(part, Note::Kept(*note));
+        let written = self.stage.write_note(part, note);
         self.ended(written)
     }
 
     fn vcr(&mut self) -> Result<u64, DriveErr> {
         self.begin();
-        let found = self.folder.vcr();
+        let found = self.stage.vcr();
         self.ended(found)
     }
 }
 
+// How many positions a partition has.
 fn capacity_of(part: Part) -> u64
-    ensures { result ≡ capacity part (record { cap_ip = 65536; cap_dp = 1048576 }) }
+    ensures { result ≡ capacity part folder_limits }
 {
+    let Limits { cap_ip, cap_dp } = folder_limits();
     match part {
-        Part::Ip => CAP_IP,
-        Part::Dp => CAP_DP,
+        Part::Ip => cap_ip,
+        Part::Dp => cap_dp,
     }
 }
 

@@ -1,195 +1,127 @@
-// The folder, and its five files once they are open.
-ghost use Rattle.std.specs.Prelude.{◌≤◌, ◌<◌, ◌^◌, length, vec_capacity, IfOk};
-ghost use Rattle.tape_types.specs.declared.cartridges.Place.{Place};
-ghost use Rattle.tape_drive.specs.Commands.{FillsBuffer};
+// The folder, and the files of an image in it.
+ghost use Rattle.std.specs.Prelude.{◌≡◌, length};
 
-use crate::memory::MemoryFile;
-use crate::partition::Partition;
-use crate::window::Window;
+use crate::calls::FolderCalls;
+use crate::image_files::{ImageFiles, name_of};
+use byte_disk::File;
 use std::fs::{self, OpenFile, OpenOptions};
-use std::io::{self, ErrorKind, Read, Seek, Write};
-use std::rt::Files;
-use tape_drive::Got;
-use tape_types::{Note, Part, Place};
+use std::io::{self, ErrorKind};
+use tape_types::NoMemory;
 
-/// A folder whose files are opened by the first call: to be read, and once more to be written when something is.
+/// A folder that the first call opens and claims. Each of its files is opened by the first call on it, to be read, and
+/// once more by the first one that writes to it.
 #[derive(Drop)]
-pub struct Folder<R: Files> {
+pub struct Folder<R: FolderCalls> {
     rt: R,
     path: String,
-    files: Option<Opened<R::File>>,
-    is_writable: bool,
+    folder: Option<R::File>,
+    files: ImageFiles<R>,
+    /// Whether a sync has failed. What the system has stored since then isn't known.
+    is_unsure: bool,
 }
 
-/// The files that are there. Those that are written are all there.
-#[derive(Drop)]
-struct Opened<F> {
-    ip: Partition<F>,
-    dp: Partition<F>,
-    memory: MemoryFile<F>,
-}
-
-impl<R: Files + AllocGlobal + Drop> Folder<R> {
-    pub fn new(rt: R, path: String) -> Folder<R> {
-        Folder {
+impl<R: FolderCalls> Folder<R> {
+    pub fn new(rt: R, path: String) -> Result<Folder<R>, NoMemory> {
+        let files = ImageFiles::new(rt.alloc())?;
+        Ok(Folder {
             rt,
             path,
-            files: None,
-            is_writable: false,
-        }
-    }
-
-    /// Forgets the files. What a command that failed has left isn't known, nor whether it is durable.
-    pub fn forget(&mut self) {
-        self.files = None;
-        self.is_writable = false;
-    }
-
-    /// Opens the files, if they aren't open.
-    pub fn find(&mut self) -> io::Result<()> {
-        let _files = self.to_read()?;
-        Ok(())
-    }
-
-    // That an item stands at a place, or directly in front of it: behind a gap nothing is written.
-    fn reaches(&mut self, at: Place) -> io::Result<()> {
-        let count = self.to_read()?.part(at.part).count()?;
-        if count < at.pos {
-            return Err(ErrorKind::InvalidInput.into());
-        }
-        Ok(())
-    }
-
-    pub fn read(&mut self, at: Place, buf: &mut Vec<u8>) -> io::Result<Got>
-        requires inside { at.pos < 2 ^ 40 }
-        requires room { 1048576 ≤ vec_capacity buf.old }
-        ensures room { 1048576 ≤ vec_capacity buf.new }
-        ensures bytes { IfOk result (λ answer. FillsBuffer answer buf.new.items) }
-    {
-        self.to_read()?.part(at.part).read(at.pos, buf)
-    }
-
-    pub fn write(&mut self, at: Place, bytes: &[u8]) -> io::Result<()>
-        requires inside { at.pos < 2 ^ 40 }
-        requires size { length bytes.now ≤ 1048576 }
-    {
-        self.reaches(at)?;
-        let files = self.to_write()?;
-        files.raise_vcr()?;
-        files.part(at.part).write(at.pos, bytes)
-    }
-
-    pub fn mark(&mut self, at: Place) -> io::Result<()>
-        requires inside { at.pos < 2 ^ 40 }
-    {
-        self.reaches(at)?;
-        let files = self.to_write()?;
-        files.raise_vcr()?;
-        files.part(at.part).mark(at.pos)
-    }
-
-    pub fn flush(&mut self) -> io::Result<()> {
-        self.to_write()?.sync()
-    }
-
-    pub fn read_note(&mut self, part: Part) -> io::Result<Note> {
-        Ok(self.to_read()?.memory.load()?.note(part))
-    }
-
-    pub fn write_note(&mut self, part: Part, note: Note) -> io::Result<()> {
-        let files = self.to_write()?;
-        let mut memory = files.memory.load()?;
-        memory.set_note(part, note);
-        files.memory.store(memory)
-    }
-
-    pub fn vcr(&mut self) -> io::Result<u64> {
-        Ok(self.to_read()?.memory.load()?.vcr)
-    }
-
-    fn to_read(&mut self) -> io::Result<&mut Opened<R::File>> {
-        if self.files.is_none() {
-            self.files = Some(self.open(false)?);
-        }
-        self.opened()
-    }
-
-    // The files that were missing are made, and all is durable as it reads before anything is changed.
-    fn to_write(&mut self) -> io::Result<&mut Opened<R::File>> {
-        if !self.is_writable {
-            let files = self.open(true)?;
-            files.sync()?;
-            fs::open(&self.rt, self.path.as_str())?.sync_all()?;
-            self.files = Some(files);
-            self.is_writable = true;
-        }
-        self.opened()
-    }
-
-    fn opened(&mut self) -> io::Result<&mut Opened<R::File>> {
-        match &mut self.files {
-            Some(files) => Ok(files),
-            None => Err(ErrorKind::NotFound.into()),
-        }
-    }
-
-    // The folder has to be there. To be written, its files are made where they are missing.
-    fn open(&self, to_write: bool) -> io::Result<Opened<R::File>> {
-        let _folder = fs::open(&self.rt, self.path.as_str())?;
-        Ok(Opened {
-            ip: Partition::new(
-                self.file("ip.map", to_write)?,
-                self.file("ip.dat", to_write)?,
-                Window::new(self.rt.alloc())?,
-            ),
-            dp: Partition::new(
-                self.file("dp.map", to_write)?,
-                self.file("dp.dat", to_write)?,
-                Window::new(self.rt.alloc())?,
-            ),
-            memory: MemoryFile::new(self.file("cm", to_write)?),
+            folder: None,
+            files,
+            is_unsure: false,
         })
     }
 
+    pub fn length(&mut self, file: File) -> io::Result<u64> {
+        self.find(file)?;
+        Ok(self.files.of(file).length())
+    }
+
+    pub fn read(&mut self, file: File, at: u64, buf: &mut [u8]) -> io::Result<()>
+        ensures { length buf.new ≡ length buf.old }
+    {
+        self.find(file)?;
+        self.files.of_mut(file).read(&self.rt, at, buf)
+    }
+
+    pub fn write(&mut self, file: File, at: u64, bytes: &[u8]) -> io::Result<()> {
+        self.find_to_write(file)?;
+        self.files.of_mut(file).write(&self.rt, at, bytes)
+    }
+
+    pub fn sync(&mut self, file: File) -> io::Result<()> {
+        self.find(file)?;
+        if self.is_unsure {
+            return Err(ErrorKind::Other.into());
+        }
+        let synced = self.files.of_mut(file).sync(&self.rt);
+        self.is_unsure = synced.is_err();
+        synced
+    }
+
+    // Looks for a file, if it wasn't looked for.
+    fn find(&mut self, file: File) -> io::Result<()> {
+        self.enter()?;
+        if self.files.of(file).is_found() {
+            return Ok(());
+        }
+        let found = self.open(file, false)?;
+        self.files.of_mut(file).found(found)
+    }
+
+    // The same, and opens it for writing. One that is missing is made.
+    fn find_to_write(&mut self, file: File) -> io::Result<()> {
+        self.find(file)?;
+        if self.files.of(file).is_writable() {
+            return Ok(());
+        }
+        let Some(found) = self.open(file, true)? else {
+            return Err(ErrorKind::NotFound.into());
+        };
+        self.sync_folder()?;
+        self.files.of_mut(file).found_to_write(found);
+        Ok(())
+    }
+
+    // Opens the folder and claims it, if it isn't open.
+    fn enter(&mut self) -> io::Result<()> {
+        if self.folder.is_some() {
+            return Ok(());
+        }
+        let path = self.path.as_str();
+        if !fs::metadata(&self.rt, path)?.is_dir() {
+            return Err(ErrorKind::NotADirectory.into());
+        }
+        let folder = self.rt.open_apart(OpenOptions::new().read(true), path)?;
+        self.rt.claim(&folder)?;
+        self.folder = Some(folder);
+        Ok(())
+    }
+
+    // Makes durable which files the folder has.
+    fn sync_folder(&mut self) -> io::Result<()> {
+        let Some(folder) = &self.folder else {
+            return Err(ErrorKind::NotFound.into());
+        };
+        if self.is_unsure {
+            return Err(ErrorKind::Other.into());
+        }
+        let synced = folder.sync_all();
+        self.is_unsure = synced.is_err();
+        synced
+    }
+
     // What isn't a regular file is refused: it might never answer.
-    fn file(&self, name: &str, to_write: bool) -> io::Result<Option<R::File>> {
-        let path = format!(in self.rt.alloc(); "{}/{name}", self.path.as_str())?;
+    fn open(&self, file: File, to_write: bool) -> io::Result<Option<R::File>> {
+        let path = format!(in self.rt.alloc(); "{}/{}", self.path.as_str(), name_of(file))?;
         match fs::symlink_metadata(&self.rt, path.as_str()) {
             Ok(found) if !found.is_file() => return Err(ErrorKind::Unsupported.into()),
             Err(error) if error.kind() != ErrorKind::NotFound => return Err(error),
             Err(_) if !to_write => return Ok(None),
             Ok(_) | Err(_) => {}
         }
-        let file = OpenOptions::new()
-            .read(true)
-            .write(to_write)
-            .create(to_write)
-            .open(&self.rt, path.as_str())?;
-        Ok(Some(file))
-    }
-}
-
-impl<F: Read + Write + Seek + OpenFile> Opened<F> {
-    fn part(&mut self, part: Part) -> &mut Partition<F> {
-        match part {
-            Part::Ip => &mut self.ip,
-            Part::Dp => &mut self.dp,
-        }
-    }
-
-    // The reference rises durably, or nothing has changed.
-    fn raise_vcr(&mut self) -> io::Result<()> {
-        let mut memory = self.memory.load()?;
-        if memory.vcr == u64::MAX {
-            return Err(ErrorKind::InvalidData.into());
-        }
-        memory.vcr += 1;
-        self.memory.store(memory)
-    }
-
-    fn sync(&self) -> io::Result<()> {
-        self.ip.sync()?;
-        self.dp.sync()?;
-        self.memory.sync()
+        let mut how = OpenOptions::new();
+        how.read(true).write(to_write).create(to_write);
+        Ok(Some(self.rt.open_apart(&how, path.as_str())?))
     }
 }

@@ -1,16 +1,18 @@
 //! A tape drive whose cartridge lies in the files of a folder.
 //!
-//! `ip.map` and `dp.map` have 16 bytes for each position, `ip.dat` and `dp.dat` the bytes of the blocks, and `cm`
-//! the volume change reference and the coherency attributes. A file that is missing counts as empty; the first command
-//! that may write makes it.
+//! `ip.img` and `dp.img` have the items of the partitions, and `cm.img` says how many of them count. A file that is
+//! missing counts as empty; the first command that writes makes it.
 #![tactic(auto)]
 
+mod calls;
+mod disk;
 mod drive;
-mod entry;
-mod files;
 mod folder;
-mod memory;
-mod partition;
-mod window;
+mod image_file;
+mod image_files;
+mod stage;
+mod tape;
 
+pub use calls::FolderCalls;
+pub use disk::FolderDisk;
 pub use drive::FileDrive;

@@ -1,12 +1,16 @@
 """Cartridges that are made and read by hand, for cases: by docs/FORMATS.md on the folder of a drive, and by LTFS 2.4 on
 labels and indexes. Blocks have 4,096 bytes."""
 
-import pathlib
+import os
 import re
+import sys
+
+sys.path.append(os.path.join(os.environ["TOP"], "tests", "shared"))
+import images  # noqa: E402
 
 UUID = "30a91a08-daae-48d1-ae75-69804e61d2ea"
 AT = "2024-01-02T03:04:05.000000000Z"
-TAPE = pathlib.Path("tape")
+TAPE = "tape"
 
 
 def vol1(identifier):
@@ -21,31 +25,16 @@ def label(letters, nth, compression="false"):
 <compression>{compression}</compression></ltfslabel>""".encode()
 
 
-def write_partition(part, items):
-    """Writes the files of a partition. An item is the bytes of a block, or `M` for a file mark."""
-    lines, data = b"", b""
-    for item in items:
-        block = b"" if item == "M" else item
-        kind = b"M" if item == "M" else b"B"
-        lines += kind + bytes(3) + len(block).to_bytes(4, "big") + len(data).to_bytes(8, "big")
-        data += block
-    (TAPE / f"{part}.map").write_bytes(lines)
-    (TAPE / f"{part}.dat").write_bytes(data)
-
-
-def items(part):
-    """The items of a partition, as `write_partition` takes them."""
-    lines, data = (TAPE / f"{part}.map").read_bytes(), (TAPE / f"{part}.dat").read_bytes()
-    for at in range(0, len(lines) - 15, 16):
-        length, place = int.from_bytes(lines[at + 4:at + 8], "big"), int.from_bytes(lines[at + 8:at + 16], "big")
-        yield "M" if lines[at:at + 1] == b"M" else data[place:place + length]
+def write(ip, dp):
+    """Writes the cartridge with these items, of which each is the bytes of a block, or `mark`."""
+    images.write(TAPE, ip, dp)
 
 
 def indexes(part):
     """The documents of the indexes of a partition, each with the position of its first block."""
     found, first, text = [], 0, b""
-    for at, item in enumerate(items(part)):
-        if item != "M":
+    for at, item in enumerate(images.read(TAPE)[part]):
+        if item != "mark":
             text += item
             continue
         if b"<ltfsindex " in text[:99]:

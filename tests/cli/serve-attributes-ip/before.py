@@ -3,8 +3,8 @@ import sys
 
 sys.path.append(os.path.join(os.environ["TOP"], "tests", "cli", "hand_made"))
 from attributed import index  # noqa: E402
-from cartridge import label, vol1, write_partition  # noqa: E402
+from cartridge import label, vol1, write  # noqa: E402
 
-front = [vol1("TAPE01"), "M"]
-write_partition("ip", [*front, label("ab", 0), "M", b"world", "M", index("a6", "b6", 2, ["b4", "a4"]), "M"])
-write_partition("dp", [*front, label("ab", 1), "M", b"hello", "M", index("b6", None, 1, ["b4"]), "M"])
+front = [vol1("TAPE01"), "mark"]
+write([*front, label("ab", 0), "mark", b"world", "mark", index("a6", "b6", 2, ["b4", "a4"]), "mark"],
+      [*front, label("ab", 1), "mark", b"hello", "mark", index("b6", None, 1, ["b4"]), "mark"])

@@ -4,7 +4,7 @@ import os
 import sys
 
 sys.path.append(os.path.join(os.environ["TOP"], "tests", "cli", "hand_made"))
-from cartridge import AT, UUID, label, vol1, write_partition  # noqa: E402
+from cartridge import AT, UUID, label, vol1, write  # noqa: E402
 
 TIMES = "".join(f"<{tag}time>{AT}</{tag}time>" for tag in ("creation", "change", "modify", "access", "backup"))
 FACTS = f"{TIMES}<readonly>false</readonly>"
@@ -32,5 +32,6 @@ def index(letter, back):
 
 
 POINTER = f"<previousgenerationlocation>{spot('d', 6)}</previousgenerationlocation>"
-write_partition("ip", [vol1("TAPE01"), "M", label("cd", 0), "M", b"abc", "M", index("c", POINTER), "M"])
-write_partition("dp", [vol1("TAPE01"), "M", label("cd", 1), "M", b"hello", "M", index("d", ""), "M"])
+front = [vol1("TAPE01"), "mark"]
+write([*front, label("cd", 0), "mark", b"abc", "mark", index("c", POINTER), "mark"],
+      [*front, label("cd", 1), "mark", b"hello", "mark", index("d", ""), "mark"])

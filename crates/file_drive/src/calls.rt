@@ -1,0 +1,46 @@
+//! What a disk over a folder asks of the system beside its files.
+ghost use Rattle.std.specs.Prelude.{◌≡◌, length};
+
+use std::fs::{File, OpenFile, OpenOptions};
+use std::io;
+use std::os::fd::AsRawFd;
+use std::os::unix::fs::FileExt;
+use std::rt::Files;
+
+/// The system's files, as a disk over a folder calls them.
+pub trait FolderCalls: Files + AllocGlobal + Drop {
+    /// Opens a file, and never as a standard stream, also where one of these is closed.
+    fn open_apart(&self, how: &OpenOptions, path: &str) -> io::Result<Self::File>;
+
+    /// Claims an open folder for this program alone, until it is closed. It fails where another program has it.
+    fn claim(&self, folder: &Self::File) -> io::Result<()>;
+
+    /// Fills the buffer with the bytes of a file from a place on.
+    fn read_at(&self, file: &Self::File, at: u64, buf: &mut [u8]) -> io::Result<()>
+        ensures { length buf.new ≡ length buf.old };
+
+    /// Writes bytes to a file from a place on.
+    fn write_at(&self, file: &Self::File, at: u64, bytes: &[u8]) -> io::Result<()>;
+}
+
+impl FolderCalls for HostRuntime {
+    fn open_apart(&self, how: &OpenOptions, path: &str) -> io::Result<File> {
+        let file = how.open(self, path)?;
+        if file.as_raw_fd() <= 2 {
+            return file.try_clone();
+        }
+        Ok(file)
+    }
+
+    fn claim(&self, folder: &File) -> io::Result<()> {
+        Ok(folder.try_lock()?)
+    }
+
+    fn read_at(&self, file: &File, at: u64, buf: &mut [u8]) -> io::Result<()> {
+        file.read_exact_at(buf, at)
+    }
+
+    fn write_at(&self, file: &File, at: u64, bytes: &[u8]) -> io::Result<()> {
+        file.write_all_at(bytes, at)
+    }
+}
