@@ -17,6 +17,7 @@ from collections import Counter
 
 sys.dont_write_bytecode = True
 import random_labels  # noqa: E402
+import images  # noqa: E402
 import slow_reader  # noqa: E402
 from slow_reader import Refuse  # noqa: E402
 
@@ -103,7 +104,7 @@ def lines_of(directory, path):
 
 
 def listing(folder):
-    items = {part: random_labels.items_of(folder, part)[:-4] for part in ("ip", "dp")}
+    items = images.read(folder)
     label = random_labels.read_label(items["ip"][2])
     letters = label["partitions"]["index"], label["partitions"]["data"]
     on_ip, lead, front = content_of("ip", items["ip"])
@@ -289,18 +290,6 @@ def small():
             yield ip[:left], dp[:other]
 
 
-def write(folder, part, items):
-    entries, data = b"", b""
-    for item in items:
-        length = len(item) if isinstance(item, bytes) else 0
-        kind = b"B" if isinstance(item, bytes) else {"mark": b"M", "torn": b"T"}[item]
-        entries += kind + bytes(3) + length.to_bytes(4, "big") + len(data).to_bytes(8, "big")
-        data += item if isinstance(item, bytes) else b""
-    for end, content in ((".map", entries), (".dat", data)):
-        with open(os.path.join(folder, part + end), "wb") as out:
-            out.write(content)
-
-
 def main():
     program, seed, rounds = sys.argv[1], int(sys.argv[2]), int(sys.argv[3])
     volumes, kinds, wrong = Volumes(random.Random(seed)), Counter(), 0
@@ -308,8 +297,7 @@ def main():
     for k in range(len(by_hand) + rounds):
         ip, dp = by_hand[k] if k < len(by_hand) else volumes.partitions()
         folder = tempfile.mkdtemp()
-        write(folder, "ip", ip)
-        write(folder, "dp", dp)
+        images.write(folder, ip, dp)
         before, want = random_labels.files_of(folder), said(folder)
         done = subprocess.run([program, "list", folder], stdin=subprocess.DEVNULL, capture_output=True)
         got = (done.stdout.decode(), done.returncode)

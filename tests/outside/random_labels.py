@@ -16,6 +16,8 @@ import tempfile
 from collections import Counter
 
 sys.dont_write_bytecode = True
+sys.path.append(os.path.join(os.path.dirname(os.path.dirname(os.path.abspath(__file__))), "shared"))
+import images  # noqa: E402
 import slow_reader  # noqa: E402
 from slow_reader import Refuse  # noqa: E402
 
@@ -62,37 +64,15 @@ def read_record(block):
     return block[4:10]
 
 
-def items_of(folder, part):
-    """The items of a partition: a block's bytes, or a word. A `below` begins below the end of the item directly before
-    it, so that a read of it is a fault of the drive; what reads as torn has neither a beginning nor an end."""
-    def read(end):
-        path = os.path.join(folder, part + end)
-        return open(path, "rb").read() if os.path.exists(path) else b""
-    entries, data = read(".map"), read(".dat")
-    items, end = [], None
-    for at in range(0, len(entries) // 16 * 16, 16):
-        kind = entries[at:at + 1]
-        length, place = (int.from_bytes(entries[at + a:at + b], "big") for a, b in [(4, 8), (8, 16)])
-        is_block = kind == b"B" and 1 <= length <= 1048576 and place + length <= len(data)
-        if not is_block and kind != b"M":
-            items.append("torn")
-            end = None
-            continue
-        is_below = end is not None and place < end
-        items.append("below" if is_below else data[place:place + length] if is_block else "mark")
-        end = place + length if is_block else place
-    return items + ["end"] * 4
-
-
 def said(folder):
     """What has to be printed, and the status."""
-    items = {part: items_of(folder, part) for part in ("ip", "dp")}
+    items = images.read(folder)
+    if items is None:
+        return "drive 0 1\n", 4
     records, labels = {}, {}
     for name, at, read, found in [("Vol1", 0, read_record, records), ("Label", 2, read_label, labels)]:
         for part in ("ip", "dp"):
-            block, mark = items[part][at:at + 2]
-            if block == "below" or isinstance(block, bytes) and mark == "below":
-                return "drive 0 1\n", 4
+            block, mark = (items[part] + ["end"] * 4)[at:at + 2]
             found[part] = read(block) if isinstance(block, bytes) and mark == "mark" else None
             if found[part] is None:
                 return f"volume {name} {part}\n", 3
@@ -158,28 +138,32 @@ class Cartridges:
             return record[:at] + bytes([self.rnd.choice([31, 32, 65, 126, 127, 255])]) + record[at + 1:]
         return record + b" " if kind == 1 else record[:79] if kind == 2 else record
 
+    def items(self, letter, facts):
+        rnd, text = self.rnd, self.document(letter, self.facts() if self.rnd.random() < 0.1 else facts)
+        items = [self.record(), "mark", self.damaged(text) if rnd.random() < 0.4 else text, "mark", b"more"]
+        if rnd.random() < 0.05:
+            items[rnd.randrange(4)] = rnd.choice(["mark", "torn", b"VOL1", text])
+        return items[:rnd.choice([5] * 20 + [4, 3, 1])]
+
     def write(self, folder):
         rnd, facts = self.rnd, self.facts()
         letters = "ba" if rnd.random() < 0.05 else "ab"
-        for part, letter in zip(("ip", "dp"), letters):
-            text = self.document(letter, self.facts() if rnd.random() < 0.1 else facts)
-            items = [self.record(), "mark", self.damaged(text) if rnd.random() < 0.4 else text, "mark", b"more"]
-            if rnd.random() < 0.05:
-                items[rnd.randrange(4)] = rnd.choice(["mark", "torn", b"VOL1", text])
-            entries, data = b"", b""
-            for item in items[:rnd.choice([5] * 20 + [4, 3, 1])]:
-                length = len(item) if isinstance(item, bytes) else 0
-                kind = b"B" if isinstance(item, bytes) else {"mark": b"M", "torn": b"T"}[item]
-                entries += kind + bytes(3) + length.to_bytes(4, "big") + len(data).to_bytes(8, "big")
-                data += item if isinstance(item, bytes) else b""
-            if entries and rnd.random() < 0.05:
-                at = rnd.randrange(len(entries))
-                entries = entries[:at] + bytes([rnd.choice([0, 1, 66, 77, 84, 255])]) + entries[at + 1:]
-            for end, content in ((".map", entries), (".dat", data)):
-                if rnd.random() > 0.02:
-                    cut = rnd.randrange(len(content) + 1) if rnd.random() < 0.05 else len(content)
-                    with open(os.path.join(folder, part + end), "wb") as out:
-                        out.write(content[:cut])
+        images.write(folder, *(self.items(letter, facts) for letter in letters))
+        for name in os.listdir(folder):
+            self.harm(os.path.join(folder, name))
+
+    def harm(self, path):
+        """Rarely removes a file of the image, cuts it short, or changes a byte; a header's more often."""
+        rnd = self.rnd
+        if rnd.random() < 0.01:
+            os.remove(path)
+        elif rnd.random() < (0.15 if path.endswith("cm.img") else 0.03):
+            with open(path, "rb") as source:
+                text = source.read()
+            at = rnd.choice([rnd.randrange(len(text) + 1), rnd.choice([0, 5, 16, 33, 34, 121, 122, 256])])
+            text = rnd.choice([text[:at], text[:at] + bytes([rnd.choice([0, 1, 66, 77, 84, 255])]) + text[at + 1:]])
+            with open(path, "wb") as out:
+                out.write(text)
 
 
 def files_of(folder):

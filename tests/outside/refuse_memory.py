@@ -12,7 +12,9 @@ of its own over a folder that was just formatted, and
 - each reply is that of a plain tree, or tells a fault or want of memory;
 - where nothing but how it ended is printed, and no thread was made yet, the folder is as it was, byte by byte;
 - `list` tells of each session none of its file, an empty one or the whole one, and the whole one where the session
-  was told that it was synchronised.
+  was told that it was synchronised;
+- where one session gets each reply as if nothing was refused, the head makes the steps of a run with nothing refused, and
+  one more for each block of its second read that could not be kept; and there are such blocks.
 
 With --made it is one of `make DIR 5`, in which each of eight sessions makes a folder and a file, and writes, reads and
 renames that. No log is printed, so the summary has to count those calls as done that the listing shows to be done, and
@@ -31,6 +33,7 @@ import tempfile
 TIME = "2024-01-02T03:04:05.000000000Z"
 UUID = "30a91a08-daae-48d1-ae75-69804e61d2ea"
 LENGTH = 5000
+BLOCKS = 2
 SUMMARY = re.compile(r"made 40 (\d+) (\d+) (\d+)")
 
 
@@ -71,6 +74,11 @@ def wrong_log(lines, sessions):
     if lines and nexts[1:] != [5] * sessions:
         return "calls are missing", synced
     return None, synced
+
+
+def steps_of(lines):
+    """How many steps the head made, as the line of the close tells."""
+    return int(lines[-1].split(" ")[2]) if lines and lines[-1].startswith("closed ") else 0
 
 
 def wrong_files(listed, sessions, synced):
@@ -128,9 +136,18 @@ class Trial:
 
     def count(self):
         """How many requests there are, and how many before the first thread."""
-        self.start(0)
+        _, lines = self.start(0)
+        self.steps, self.unkept = steps_of(lines), 0
         count, self.alone = map(int, self.told.read_text().split())
         return count, self.alone
+
+    def wrong_steps(self, lines):
+        """What is wrong with the steps of a run of one session, if each of its replies is right."""
+        if self.sessions != 1 or [line.split(" ", 2)[2] for line in lines[:-1]] != replies(1):
+            return None
+        more = steps_of(lines) - self.steps
+        self.unkept += more
+        return None if 0 <= more <= BLOCKS else f"{more} steps more"
 
     def judge(self, refused):
         """How a run ended, and what is wrong with it, if anything."""
@@ -150,7 +167,8 @@ class Trial:
         if listing:
             return end, f"list ends with {listing}"
         if not self.made:
-            return end, wrong_files(listed, self.sessions, synced)
+            steps = self.wrong_steps([*lines, last]) if status == 0 else None
+            return end, steps or wrong_files(listed, self.sessions, synced)
         return end, wrong_sum(last, listed) if status == 0 else None
 
 
@@ -177,6 +195,9 @@ def main():
             if fault:
                 wrong += 1
                 print(f"request {refused}: {end}: {fault}")
+    if asked.sessions == 1 and not (asked.made or asked.last or asked.first > 1) and not trial.unkept:
+        wrong += 1
+        print("each block was kept, whatever was refused")
     print(f"{count} requests, {alone} before the first thread; {wrong} wrong")
     for end, times in sorted(ends.items()):
         print(f"{times:6} {end}")

@@ -1,0 +1,138 @@
+/* Lets one call on the files of a folder fail, of a program that is dynamically linked, and tells how many there were.
+ *
+ * build:  cc -O2 -shared -fPIC -o failing.so failing.c -ldl
+ * run:    FOLDER=DIR CALL=N HOW=WORD TOLD=FILE LD_PRELOAD=./failing.so PROGRAM ..
+ *
+ * Counted are open, statx, pread, pwrite, fsync, fdatasync and flock, of the folder and of what was opened in it. The
+ * Nth does what the word says, none where N is 0: `fail` (no space, half of the bytes of a write put), `interrupt`
+ * (EINTR, once), `short` (half of the bytes of a read or a write), `kill` (the process is killed in front of it). FILE
+ * gets a letter for each call.
+ */
+#define _GNU_SOURCE
+#include <dlfcn.h>
+#include <errno.h>
+#include <fcntl.h>
+#include <signal.h>
+#include <stdarg.h>
+#include <stdlib.h>
+#include <string.h>
+#include <sys/stat.h>
+#include <sys/types.h>
+#include <unistd.h>
+
+static unsigned char ours[1024];
+static unsigned long count;
+
+static int is_ours(int fd)
+{
+	return fd >= 0 && fd < 1024 && ours[fd];
+}
+
+static int is_within(const char *path)
+{
+	const char *folder = getenv("FOLDER");
+	return folder && strncmp(path, folder, strlen(folder)) == 0;
+}
+
+/* Which word this call is to follow, by its first letter, or 0. */
+static char word_for(char letter)
+{
+	const char *nth = getenv("CALL"), *how = getenv("HOW"), *name = getenv("TOLD");
+	int told = name ? open64(name, O_WRONLY | O_CREAT | O_APPEND, 0666) : -1;
+	if (told >= 0) {
+		if (write(told, &letter, 1) != 1)
+			abort();
+		close(told);
+	}
+	if (++count != (nth ? strtoul(nth, 0, 10) : 0))
+		return 0;
+	if (how && how[0] == 'k')
+		kill(getpid(), SIGKILL);
+	errno = how && how[0] == 'i' ? EINTR : ENOSPC;
+	return how ? how[0] : 0;
+}
+
+static int fails(char word)
+{
+	return word == 'f' || word == 'i';
+}
+
+#define NEXT(name) ((__typeof__(&name))dlsym(RTLD_NEXT, #name))
+
+int open(const char *path, int flags, ...)
+{
+	va_list rest;
+	mode_t mode;
+	int fd;
+	va_start(rest, flags);
+	mode = flags & O_CREAT ? va_arg(rest, mode_t) : 0;
+	va_end(rest);
+	if (!is_within(path))
+		return NEXT(open)(path, flags, mode);
+	if (fails(word_for(flags & O_CREAT ? 'O' : 'o')))
+		return -1;
+	fd = NEXT(open)(path, flags, mode);
+	if (fd >= 0 && fd < 1024)
+		ours[fd] = 1;
+	return fd;
+}
+
+int close(int fd)
+{
+	if (is_ours(fd))
+		ours[fd] = 0;
+	return NEXT(close)(fd);
+}
+
+int statx(int dir, const char *path, int flags, unsigned int mask, struct statx *found)
+{
+	if ((is_within(path) || (!*path && is_ours(dir))) && fails(word_for('l')))
+		return -1;
+	return NEXT(statx)(dir, path, flags, mask, found);
+}
+
+ssize_t pread64(int fd, void *bytes, size_t size, off64_t at)
+{
+	char word = is_ours(fd) ? word_for('r') : 0;
+	if (fails(word))
+		return -1;
+	return NEXT(pread64)(fd, bytes, word == 's' ? (size + 1) / 2 : size, at);
+}
+
+ssize_t pread(int fd, void *bytes, size_t size, off_t at)
+{
+	return pread64(fd, bytes, size, at);
+}
+
+ssize_t pwrite64(int fd, const void *bytes, size_t size, off64_t at)
+{
+	char word = is_ours(fd) ? word_for('w') : 0;
+	if (word == 'f') {
+		if (NEXT(pwrite64)(fd, bytes, size / 2, at) < 0)
+			abort();
+		errno = ENOSPC;
+	}
+	if (fails(word))
+		return -1;
+	return NEXT(pwrite64)(fd, bytes, word == 's' ? (size + 1) / 2 : size, at);
+}
+
+ssize_t pwrite(int fd, const void *bytes, size_t size, off_t at)
+{
+	return pwrite64(fd, bytes, size, at);
+}
+
+int fsync(int fd)
+{
+	return is_ours(fd) && fails(word_for('s')) ? -1 : NEXT(fsync)(fd);
+}
+
+int fdatasync(int fd)
+{
+	return is_ours(fd) && fails(word_for('s')) ? -1 : NEXT(fdatasync)(fd);
+}
+
+int flock(int fd, int how)
+{
+	return is_ours(fd) && fails(word_for('c')) ? -1 : NEXT(flock)(fd, how);
+}
