@@ -10,6 +10,10 @@ the one before. The index partition has the same index. The notes are absent.
 import argparse
 import os
 import random
+import sys
+
+sys.path.append(os.path.join(os.path.dirname(os.path.dirname(os.path.abspath(__file__))), "tests", "shared"))
+import images  # noqa: E402
 
 UUID = "30a91a08-daae-48d1-ae75-69804e61d2ea"
 TIME = "2024-01-02T03:04:05.000000000Z"
@@ -61,17 +65,6 @@ def index(here, back, nodes, tree):
             f"{folder(1, '')}{tree}</contents></directory></ltfsindex>").encode()
 
 
-def write(where, part, items):
-    """Writes the two files of a partition. None is a mark."""
-    place = 0
-    with open(os.path.join(where, part + ".map"), "wb") as entries, open(os.path.join(where, part + ".dat"), "wb") as data:
-        for item in items:
-            length = len(item) if item is not None else 0
-            entries.write((b"M" if item is None else b"B") + bytes(3) + length.to_bytes(4, "big") + place.to_bytes(8, "big"))
-            data.write(item or b"")
-            place += length
-
-
 def cut(text, size):
     return [text[at:at + size] for at in range(0, len(text), size)]
 
@@ -93,9 +86,9 @@ def main():
     first = 4 + args.blocks + 1
     on_dp = cut(index(("b", first), None, args.nodes, tree), args.size)
     on_ip = cut(index(("a", 5), first, args.nodes, tree), args.size)
-    front = lambda letter: [record, None, label(letter, args.size), None]  # noqa: E731
-    write(args.folder, "ip", front("a") + [None] + on_ip + [None])
-    write(args.folder, "dp", (item for run in (front("b"), data, [None], on_dp, [None]) for item in run))
+    front = lambda letter: [record, "mark", label(letter, args.size), "mark"]  # noqa: E731
+    images.write(args.folder, front("a") + ["mark"] + on_ip + ["mark"],
+                 (item for run in (front("b"), data, ["mark"], on_dp, ["mark"]) for item in run))
 
 
 if __name__ == "__main__":

@@ -6,7 +6,7 @@ fn main() {
     let folder = std::env::args().nth(1).expect("a folder");
     let mut buffer = vec![0u8; 1 << 20];
     let (mut count, mut sum) = (0u64, 0u64);
-    for name in ["ip.map", "ip.dat", "dp.map", "dp.dat", "cm"] {
+    for name in ["ip.img", "dp.img", "cm.img"] {
         let path = format!("{folder}/{name}");
         if fs::metadata(&path).is_err() {
             continue;
