@@ -5,8 +5,10 @@
  *
  * Counted are open, statx, pread, pwrite, fsync, fdatasync and flock, of the folder and of what was opened in it. The
  * Nth does what the word says, none where N is 0: `fail` (no space, half of the bytes of a write put), `interrupt`
- * (EINTR, once), `short` (half of the bytes of a read or a write), `kill` (the process is killed in front of it). FILE
- * gets a letter for each call.
+ * (EINTR, once), `again` (EAGAIN, once), `short` (half of the bytes of a read or a write), `kill` (the process is
+ * killed in front of it). FILE gets a letter for each call.
+ *
+ * Without FOLDER the reads of standard input and the writes to standard output are counted in place of these.
  */
 #define _GNU_SOURCE
 #include <dlfcn.h>
@@ -48,13 +50,19 @@ static char word_for(char letter)
 		return 0;
 	if (how && how[0] == 'k')
 		kill(getpid(), SIGKILL);
-	errno = how && how[0] == 'i' ? EINTR : ENOSPC;
+	errno = how && how[0] == 'i' ? EINTR : how && how[0] == 'a' ? EAGAIN : ENOSPC;
 	return how ? how[0] : 0;
 }
 
 static int fails(char word)
 {
-	return word == 'f' || word == 'i';
+	return word == 'f' || word == 'i' || word == 'a';
+}
+
+/* The same for a call on a standard stream, if these are counted. */
+static char word_of(int fd, int stream, char letter)
+{
+	return fd == stream && !getenv("FOLDER") && getenv("CALL") ? word_for(letter) : 0;
 }
 
 #define NEXT(name) ((__typeof__(&name))dlsym(RTLD_NEXT, #name))
@@ -120,6 +128,22 @@ ssize_t pwrite64(int fd, const void *bytes, size_t size, off64_t at)
 ssize_t pwrite(int fd, const void *bytes, size_t size, off_t at)
 {
 	return pwrite64(fd, bytes, size, at);
+}
+
+ssize_t read(int fd, void *bytes, size_t size)
+{
+	char word = word_of(fd, 0, 'i');
+	if (fails(word))
+		return -1;
+	return NEXT(read)(fd, bytes, word == 's' ? (size + 1) / 2 : size);
+}
+
+ssize_t write(int fd, const void *bytes, size_t size)
+{
+	char word = word_of(fd, 1, 'p');
+	if (fails(word))
+		return -1;
+	return NEXT(write)(fd, bytes, word == 's' ? (size + 1) / 2 : size);
 }
 
 int fsync(int fd)

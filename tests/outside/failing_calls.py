@@ -13,6 +13,10 @@ call,
 
 Afterwards the folder is formatted anew, or the volume is served without a call, and both succeed. `list` leaves the
 folder as it was, byte by byte.
+
+Of a `plain` and a `serve` each read of standard input and each write to standard output fails in turn, which ends with
+`source 0 1` and 5, or with 6; is interrupted; is told to try again; or does half of its bytes. Of the last three
+nothing is seen.
 """
 import argparse
 import collections
@@ -27,8 +31,11 @@ import tempfile
 TIME = "2024-01-02T03:04:05.000000000Z"
 UUID = "30a91a08-daae-48d1-ae75-69804e61d2ea"
 SCRIPT = "".join(f"1 create /{name}\n1 write /{name} 0 fill:61:5000\n1 sync\n" for name in "fg")
+# What `plain` reads and prints in more than one call.
+LONG_SCRIPT = "1 create /f\n" + "".join(f"1 write /f {at} text:{'b' * 60_000}\n" for at in range(5)) + "1 read /f 0 9\n"
 FAULT = re.compile(r"drive (\d+) (\d+)")
 HOWS = ("fail", "interrupt", "short", "kill")
+STREAM_HOWS = ("fail", "interrupt", "again", "short")
 KILLED = -9
 
 
@@ -44,17 +51,25 @@ class Trial:
         self.run(self.words("format", self.formatted))
 
     def words(self, command, folder=None):
+        if command == "plain":
+            return [command, "--at", TIME]
         more = {"format": ["TAPE01", UUID, "--block", "4096", "--at", TIME], "serve": ["--at", TIME], "list": []}
         return [command, str(folder or self.folder), *more[command]]
 
-    def run(self, words, text="", call=None, how="fail"):
-        env = {} if call is None else {"LD_PRELOAD": self.library, "FOLDER": str(self.folder), "CALL": str(call),
-                                       "HOW": how, "TOLD": str(self.told)}
-        done = subprocess.run([self.program, *words], input=text, capture_output=True, text=True, timeout=60,
-                              env={"PATH": os.environ["PATH"], **env})
+    def run(self, words, text="", call=None, how="fail", of_streams=False):
+        env = {}
+        if call is not None:
+            env = {"LD_PRELOAD": self.library, "CALL": str(call), "HOW": how, "TOLD": str(self.told)}
+        if call is not None and not of_streams:
+            env["FOLDER"] = str(self.folder)
+        with tempfile.TemporaryFile("w+") as script:
+            script.write(text)
+            script.seek(0)
+            done = subprocess.run([self.program, *words], stdin=script, stdout=subprocess.PIPE, stderr=subprocess.PIPE,
+                                  text=True, timeout=60, env={"PATH": os.environ["PATH"], **env})
         return done.returncode, done.stdout.splitlines()
 
-    def start(self, command, call, how):
+    def start(self, command, call, how, of_streams=False):
         """Runs a command over a folder as it stands before, with a call that does not as it should."""
         shutil.rmtree(self.folder, ignore_errors=True)
         if command == "format":
@@ -62,7 +77,8 @@ class Trial:
         else:
             shutil.copytree(self.formatted, self.folder)
         self.told.unlink(missing_ok=True)
-        return self.run(self.words(command), SCRIPT if command == "serve" else "", call, how)
+        text = {"serve": SCRIPT, "plain": LONG_SCRIPT}.get(command, "")
+        return self.run(self.words(command), text, call, how, of_streams)
 
     def left_files(self, acknowledged):
         """What is wrong with the files that are left, if anything, where so many syncs were acknowledged."""
@@ -102,6 +118,22 @@ class Trial:
         return None if status == 0 and self.run(self.words("list"))[0] == 0 else f"it can't be formatted: {said}"
 
 
+def try_streams(trial, command):
+    """Returns how many runs of a command end wrong whose standard streams do not as they should."""
+    usual = trial.start(command, 0, "fail", True)
+    calls, wrong = trial.told.read_text(), 0
+    print(f"{command}: {len(calls)} calls on standard streams: {calls}")
+    for how in STREAM_HOWS:
+        for call, letter in enumerate(calls, 1):
+            wanted, came = usual, trial.start(command, call, how, True)
+            if how == "fail":
+                wanted = (5, ["source 0 1"]) if letter == "i" else (6, [])
+            if came != wanted:
+                wrong += 1
+                print(f"{command}, {how} in call {call} ({letter}): it ends with {came[0]}: {came[1][-1:]}")
+    return wrong + (usual[0] != 0 or not {"i", "p"} <= set(calls))
+
+
 def main():
     words = argparse.ArgumentParser()
     words.add_argument("program")
@@ -126,6 +158,7 @@ def main():
                         wrong += bool(fault)
                         print(f"{command}, {how} in call {call} ({calls[call - 1]}), {status}: {fault}")
                 print(f"{command}, {how}: {dict(ends)}")
+        wrong += sum(try_streams(trial, command) for command in ("plain", "serve"))
     print(f"{wrong} wrong")
     return 1 if wrong else 0
 

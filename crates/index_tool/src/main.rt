@@ -8,13 +8,13 @@ mod words;
 use std::alloc::Global;
 use std::env;
 use std::process::ExitCode;
-use tape_edge::{ReaderSource, WriterSink};
+use tape_edge::{Patient, ReaderSource, WriterSink};
 use tool::run;
 
 fn main(rt: HostRuntime) -> ExitCode {
     let words = words_of(&rt, rt.alloc());
-    let mut source = ReaderSource::new(rt.stdin());
-    let mut sink = WriterSink::new(rt.stdout());
+    let mut source = ReaderSource::new(Patient::new(rt.stdin(), &rt));
+    let mut sink = WriterSink::new(Patient::new(rt.stdout(), &rt));
     ExitCode::from(run(rt.alloc(), &words, &mut source, &mut sink))
 }
 

@@ -13,7 +13,7 @@ use server::run;
 use std::alloc::{AllocError, Global};
 use std::env;
 use std::process::ExitCode;
-use tape_edge::{OpenGate, ReaderSource, SystemClock, WriterSink};
+use tape_edge::{OpenGate, Patient, ReaderSource, SystemClock, WriterSink};
 use tape_types::NoMemory;
 
 fn main(rt: HostRuntime) -> ExitCode {
@@ -23,8 +23,8 @@ fn main(rt: HostRuntime) -> ExitCode {
     let Ok(drive) = drive_of(&rt, rt.alloc(), &words) else {
         return starved(&rt);
     };
-    let mut source = ReaderSource::new(rt.stdin());
-    let mut sink = WriterSink::new(rt.stdout());
+    let mut source = ReaderSource::new(Patient::new(rt.stdin(), &rt));
+    let mut sink = WriterSink::new(Patient::new(rt.stdout(), &rt));
     let Ok(host) = rt.clone() else {
         return starved(&rt);
     };

@@ -5,6 +5,7 @@ mod clocks;
 mod gates;
 mod input;
 mod memory;
+mod patience;
 mod streams;
 mod traits;
 
@@ -12,5 +13,6 @@ pub use clocks::{StepClock, SystemClock};
 pub use gates::{Gate, Hold, OpenGate, OrderGate};
 pub use input::{ReadFailure, read_input};
 pub use memory::{MemSink, MemSource};
+pub use patience::Patient;
 pub use streams::{ReaderSource, WriterSink};
 pub use traits::{Clock, ReadFault, Sink, Source, WriteFault};
