@@ -20,3 +20,4 @@ pub mod Fitting
 pub mod Beginning
 pub mod First
 pub mod Always
+pub mod Blaming

@@ -363,7 +363,7 @@ number_by limits raw (Some ip) None s e = absurd (cc e)
 number_by limits raw (Some ip) (Some dp) s e = ap (λ (x : SlotValue). x.serial)
     (if_taken (fits limits.cap_ip ip && fits limits.cap_dp dp) (record { serial = number_at raw 0; vcr = number_at raw 8; ip = ip; dp = dp }) s e)
 
-number_of : (limits : Limits) (raw : List ℕ) (s : SlotValue) → header_by limits (Some raw) ≡ Some s → serial_of raw ≡ s.serial
+pub number_of : (limits : Limits) (raw : List ℕ) (s : SlotValue) → header_by limits (Some raw) ≡ Some s → serial_of raw ≡ s.serial
 number_of limits raw s is = number_by limits raw (half_of (slice_range raw 16 104)) (half_of (slice_range raw 104 192)) s is
 
 -- what is true of a value is true of its equal

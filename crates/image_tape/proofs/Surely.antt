@@ -38,7 +38,7 @@ one_by_number limits base value s d (inr new) head next is =
     let equal : s ≡ value = cc same in
     absurd (omega (arith, ap (λ (x : SlotValue). x.serial) equal, next, is))
 
-other_by_number : (limits : Limits) (base value s : SlotValue) (d : Files) → SaysOne limits base value d → header limits d.cm ≡ Some s
+pub other_by_number : (limits : Limits) (base value s : SlotValue) (d : Files) → SaysOne limits base value d → header limits d.cm ≡ Some s
     → s.serial ≢ base.serial → s ≡ value
 other_by_number limits base value s d (inl old) head isnt =
     let same : Some s ≡ Some base = sym head ∙ old in

@@ -1,3 +1,4 @@
+pub mod Blames
 pub mod Ends
 pub mod Halves
 pub mod Laws

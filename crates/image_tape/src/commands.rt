@@ -8,6 +8,7 @@ ghost use Rattle.tape_types.specs.declared.cartridges.Note.TheVariants as kind;
 ghost use Rattle.tape_types.specs.declared.cartridges.Place.{Place};
 ghost use Rattle.tape_types.specs.Cartridges.{IsItem, capacity, items_of, next, note_of};
 ghost use Rattle.tape_drive.specs.Commands.{HasRoom};
+ghost use Rattle.image_tape.specs.Blames.{AreSpent, IsBlamed, IsSpent, Never};
 ghost use Rattle.image_tape.specs.declared.doubt.Doubt.TheVariants.{Settled};
 ghost use Rattle.image_tape.specs.Ends.{Flushed, HasRead, IsEnded, IsFailed, IsLooked, IsSure, Noted, Wrote};
 ghost use Rattle.image_tape.specs.Halves.{half_of};
@@ -37,6 +38,7 @@ impl<B: ByteDisk> ImageTape<B> {
         ensures looked { IsLooked B.ByteDisk result self.old self.new }
         ensures head { OnOk result (self.new.head ≡ head) }
         ensures settled { OnOk result (self.new.doubt ≡ Settled) }
+        ensures blamed { IsBlamed B.ByteDisk Never result self.old self.new }
     {
         let past = self.moment();
         match self.begin() {
@@ -56,6 +58,7 @@ impl<B: ByteDisk> ImageTape<B> {
         ensures looked { IsLooked B.ByteDisk result self.old self.new }
         ensures head { OnOk result (self.new.head ≡ self.old.head) }
         ensures settled { OnOk result (IsSteady self.new) }
+        ensures blamed { IsBlamed B.ByteDisk IsSpent result self.old self.new }
     {
         let past = self.moment();
         let head = self.head;
@@ -103,6 +106,7 @@ impl<B: ByteDisk> ImageTape<B> {
         requires room { 1048576 ≤ vec_capacity buf.old }
         ensures room { 1048576 ≤ vec_capacity buf.new }
         ensures ran { HasRead B.ByteDisk at result buf.new.items self.old self.new }
+        ensures blamed { IsBlamed B.ByteDisk Never result self.old self.new }
     {
         let past = self.moment();
         match self.begin() {
@@ -125,7 +129,8 @@ impl<B: ByteDisk> ImageTape<B> {
 
     // Sets the attribute of a partition.
     fn put_note(&mut self, part: Part, note: Note) -> Result<(), DriveErr>
-        ensures { Noted B.ByteDisk part note result self.old self.new }
+        ensures noted { Noted B.ByteDisk part note result self.old self.new }
+        ensures blamed { IsBlamed B.ByteDisk IsSpent result self.old self.new }
     {
         let past = self.moment();
         let head = self.head;
@@ -153,8 +158,9 @@ impl<B: ByteDisk> ImageTape<B> {
         requires head { IsHead head }
         requires size { length bytes.now ≤ 1048576 }
         requires sound { (x : Item) × IsItem x × (record_bytes x ≡ head_bytes head ++ bytes.now) }
-        ensures { (x : Item) → IsItem x → record_bytes x ≡ head_bytes head ++ bytes.now
+        ensures wrote { (x : Item) → IsItem x → record_bytes x ≡ head_bytes head ++ bytes.now
             → Wrote B.ByteDisk at x result self.old self.new }
+        ensures blamed { IsBlamed B.ByteDisk AreSpent result self.old self.new }
     {
         let _kept = self.doubt;
         let past = self.moment();
@@ -248,6 +254,7 @@ impl<B: ByteDisk> Drive for ImageTape<B> {
         requires room { place.pos < capacity place.part self.old.room.limits }
         ensures looked { IsLooked B.ByteDisk result self.old self.new }
         ensures head { OnOk result (self.new.head ≡ Some place) }
+        ensures blamed { IsBlamed B.ByteDisk Never result self.old self.new }
     {
         self.look(Some(place))
     }
@@ -258,6 +265,7 @@ impl<B: ByteDisk> Drive for ImageTape<B> {
         ensures room { 1048576 ≤ vec_capacity buf.new }
         ensures ran { (at : Place) → self.old.head ≡ Some at
             → HasRead B.ByteDisk at result buf.new.items self.old self.new }
+        ensures blamed { IsBlamed B.ByteDisk Never result self.old self.new }
     {
         let Some(at) = self.head else { unreachable!() };
         self.read_item(at, buf)
@@ -269,6 +277,7 @@ impl<B: ByteDisk> Drive for ImageTape<B> {
         requires size { length bytes.now ≤ 1048576 }
         ensures ran { (at : Place) → self.old.head ≡ Some at
             → Wrote B.ByteDisk at (item.Block bytes.now) result self.old self.new }
+        ensures blamed { IsBlamed B.ByteDisk AreSpent result self.old self.new }
     {
         let Some(at) = self.head else { unreachable!() };
         self.put_item(at, Head::Block(bytes.len() as u32), bytes)
@@ -277,13 +286,15 @@ impl<B: ByteDisk> Drive for ImageTape<B> {
     fn mark(&mut self) -> Result<(), DriveErr>
         requires located { HasRoom self.old.head self.old.room.limits }
         ensures ran { (at : Place) → self.old.head ≡ Some at → Wrote B.ByteDisk at item.Mark result self.old self.new }
+        ensures blamed { IsBlamed B.ByteDisk AreSpent result self.old self.new }
     {
         let Some(at) = self.head else { unreachable!() };
         self.put_item(at, Head::Mark, &[])
     }
 
     fn flush(&mut self) -> Result<(), DriveErr>
-        ensures { Flushed B.ByteDisk result self.old self.new }
+        ensures flushed { Flushed B.ByteDisk result self.old self.new }
+        ensures blamed { IsBlamed B.ByteDisk IsSpent result self.old self.new }
     {
         let past = self.moment();
         let head = self.head;
@@ -311,6 +322,7 @@ impl<B: ByteDisk> Drive for ImageTape<B> {
         ensures looked { IsLooked B.ByteDisk result self.old self.new }
         ensures head { OnOk result (self.new.head ≡ self.old.head) }
         ensures settled { OnOk result (IsSure B.ByteDisk self.new) }
+        ensures blamed { IsBlamed B.ByteDisk IsSpent result self.old self.new }
     {
         if let Err(why) = self.look_surely() {
             return Err(why);
@@ -321,6 +333,7 @@ impl<B: ByteDisk> Drive for ImageTape<B> {
     fn write_note(&mut self, part: Part, note: &[u8; 70]) -> Result<(), DriveErr>
         ensures ran { Noted B.ByteDisk part (kind.Kept note.now) result self.old self.new }
         ensures settled { OnOk result (IsSure B.ByteDisk self.new) }
+        ensures blamed { IsBlamed B.ByteDisk IsSpent result self.old self.new }
     {
         let end = self.put_note(part, Note::Kept(*note));
         let _kept = self.doubt;
@@ -332,6 +345,7 @@ impl<B: ByteDisk> Drive for ImageTape<B> {
         ensures looked { IsLooked B.ByteDisk result self.old self.new }
         ensures head { OnOk result (self.new.head ≡ self.old.head) }
         ensures settled { OnOk result (IsSure B.ByteDisk self.new) }
+        ensures blamed { IsBlamed B.ByteDisk IsSpent result self.old self.new }
     {
         if let Err(why) = self.look_surely() {
             return Err(why);

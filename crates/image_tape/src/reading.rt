@@ -8,6 +8,7 @@ ghost use Rattle.image_slots.specs.State.{file_of};
 ghost use Rattle.image_format.specs.Images.{tail_of};
 ghost use Rattle.image_format.specs.Values.{flag};
 ghost use Rattle.tape_types.specs.declared.cartridges.Place.{Place};
+ghost use Rattle.image_tape.specs.Blames.{IsBlamed, Never};
 ghost use Rattle.image_tape.specs.Steps.{HasRecord, IsReading, Looks};
 
 use crate::halves::half_of;
@@ -25,6 +26,7 @@ impl<B: ByteDisk> ImageTape<B> {
         ensures reading { IfOk result (λ found. IsReading B.ByteDisk at found.0 buf.new.items self.old) }
         ensures place { IfOk result (λ found. found.1 ≡ after_read found.0 at) }
         ensures looks { Looks B.ByteDisk 2 self.old self.new }
+        ensures blamed { IsBlamed B.ByteDisk Never result self.old self.new }
     {
         let half = half_of(at.part, &self.reads);
         if at.pos < half.count {
@@ -48,6 +50,7 @@ impl<B: ByteDisk> ImageTape<B> {
             → HasRecord from x (bytes_of (file_of part) d) → IsRead (Some x) got buf.new.items) }
         ensures bytes { IfOk result (λ got. FillsBuffer got buf.new.items) }
         ensures looks { Looks B.ByteDisk 2 self.old self.new }
+        ensures blamed { IsBlamed B.ByteDisk Never result self.old self.new }
     {
         let mut bytes = [0; 5];
         if let Err(why) = self.fetch(part, from, &mut bytes) {
@@ -81,6 +84,7 @@ impl<B: ByteDisk> ImageTape<B> {
         ensures block { IfOk result (λ got. got ≡ Got.Block) }
         ensures size { IfOk result (λ got. length buf.new.items ≡ size) }
         ensures looks { Looks B.ByteDisk 1 self.old self.new }
+        ensures blamed { IsBlamed B.ByteDisk Never result self.old self.new }
     {
         if buf.resize(size as usize, 0).is_err() {
             unreachable!()
@@ -100,6 +104,7 @@ impl<B: ByteDisk> ImageTape<B> {
             → OnOk result (buf.new ≡ bytes_at from (length buf.old) (bytes_of (file_of part) d)) }
         ensures held { B.held self.new.slots.disk ≡ B.held self.old.slots.disk }
         ensures looks { Looks B.ByteDisk 1 self.old self.new }
+        ensures blamed { IsBlamed B.ByteDisk Never result self.old self.new }
     {
         match self.slots.read(part, from, buf) {
             Ok(()) => Ok(()),

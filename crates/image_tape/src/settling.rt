@@ -1,7 +1,8 @@
 // What is known of a header is made sure, and a header is set.
-ghost use Rattle.std.specs.Prelude.{◌≡◌, ◌≤◌, IfSome, OnOk, drop};
+ghost use Rattle.std.specs.Prelude.{◌≡◌, ◌≤◌, IfSome, IfNone, None, OnOk, drop};
 ghost use Rattle.tape_types.specs.Counts.{Rose};
 ghost use Rattle.image_slots.specs.declared.known.Known.TheVariants.{Steady};
+ghost use Rattle.image_tape.specs.Blames.{IsBlamed, IsSpent, Never};
 ghost use Rattle.image_tape.specs.declared.doubt.Doubt.TheVariants.{Open, Settled};
 ghost use Rattle.image_tape.specs.Steps.{IsCommit, IsFound, IsSteady, IsTaken, Looks, MayStand};
 ghost use Rattle.image_tape.specs.Tape.{Holds, cut_to};
@@ -21,6 +22,7 @@ impl<B: ByteDisk> ImageTape<B> {
         ensures looks { Looks B.ByteDisk 3 self.old self.new }
         ensures rose { Rose (B.commands self.old.slots.disk) (B.commands self.new.slots.disk) }
         ensures settled { OnOk result (self.new.doubt ≡ Settled) }
+        ensures blamed { IsBlamed B.ByteDisk Never result self.old self.new }
     {
         match self.measure() {
             Ok(()) => self.settle(),
@@ -32,6 +34,7 @@ impl<B: ByteDisk> ImageTape<B> {
     fn measure(&mut self) -> Result<(), DriveErr>
         ensures looks { Looks B.ByteDisk 1 self.old self.new }
         ensures rose { Rose (B.commands self.old.slots.disk) (B.commands self.new.slots.disk) }
+        ensures blamed { IsBlamed B.ByteDisk Never result self.old self.new }
     {
         match self.slots.length(Part::Ip) {
             Ok(_) => Ok(()),
@@ -42,6 +45,7 @@ impl<B: ByteDisk> ImageTape<B> {
     fn settle(&mut self) -> Result<(), DriveErr>
         ensures looks { Looks B.ByteDisk 2 self.old self.new }
         ensures settled { OnOk result (self.new.doubt ≡ Settled) }
+        ensures blamed { IsBlamed B.ByteDisk Never result self.old self.new }
     {
         match self.doubt {
             Doubt::Settled => Ok(()),
@@ -57,6 +61,7 @@ impl<B: ByteDisk> ImageTape<B> {
         ensures looks { Looks B.ByteDisk 2 self.old self.new }
         ensures doubt { self.new.doubt ≡ self.old.doubt }
         ensures steady { OnOk result (self.new.slots.known ≡ Steady) }
+        ensures blamed { IsBlamed B.ByteDisk Never result self.old self.new }
     {
         match self.slots.recover() {
             Ok(()) => Ok(()),
@@ -70,6 +75,7 @@ impl<B: ByteDisk> ImageTape<B> {
         requires steady { self.old.slots.known ≡ Steady }
         ensures looks { Looks B.ByteDisk 0 self.old self.new }
         ensures settled { OnOk result (self.new.doubt ≡ Settled) }
+        ensures blamed { IsBlamed B.ByteDisk Never result self.old self.new }
     {
         let Some(found) = self.found() else {
             return Err(DriveErr::Failed);
@@ -93,6 +99,7 @@ impl<B: ByteDisk> ImageTape<B> {
         requires { self.old.doubt ≡ Settled }
         ensures looks { Looks B.ByteDisk 6 self.old self.new }
         ensures settled { OnOk result (IsSteady self.new) }
+        ensures blamed { IsBlamed B.ByteDisk IsSpent result self.old self.new }
     {
         if self.base.vcr == self.reads.vcr {
             return Ok(());
@@ -105,7 +112,8 @@ impl<B: ByteDisk> ImageTape<B> {
     // What the header says.
     fn found(&self) -> Option<SlotValue>
         requires { self.now.slots.known ≡ Steady }
-        ensures { IfSome result (λ s. IsFound B.ByteDisk self.now s) }
+        ensures found { IfSome result (λ s. IsFound B.ByteDisk self.now s) }
+        ensures none { IfNone result (B.held self.now.slots.disk ≡ None) }
     {
         known_values_are_left::<B>();
         decode_header(self.room.limits(), self.slots.get())
@@ -120,6 +128,7 @@ impl<B: ByteDisk> ImageTape<B> {
         requires later { self.old.reads.vcr ≤ value.vcr }
         ensures commit { IsCommit B.ByteDisk value reads result self.old self.new }
         ensures set { OnOk result (IsTaken value reads self.old self.new) }
+        ensures blamed { IsBlamed B.ByteDisk IsSpent result self.old self.new }
     {
         let Some(serial) = self.base.serial.checked_add(1) else {
             return Err(DriveErr::Failed);

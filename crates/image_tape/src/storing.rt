@@ -3,6 +3,7 @@ ghost use Rattle.std.specs.Prelude.{◌≡◌, OnOk};
 ghost use Rattle.byte_disk.specs.Commands.{IsFileSure};
 ghost use Rattle.byte_disk.specs.Files.{Files};
 ghost use Rattle.image_slots.specs.State.{file_of};
+ghost use Rattle.image_tape.specs.Blames.{IsBlamed, IsSpent, Never};
 ghost use Rattle.image_tape.specs.declared.doubt.Doubt.TheVariants.{Settled};
 ghost use Rattle.image_tape.specs.Steps.{AreStored, IsAlike, IsNoteSet, IsStored, Looks};
 
@@ -19,6 +20,7 @@ impl<B: ByteDisk> ImageTape<B> {
         ensures looks { Looks B.ByteDisk 2 self.old self.new }
         ensures alike { IsAlike self.old self.new }
         ensures sure { OnOk result (AreStored B.ByteDisk self.new) }
+        ensures blamed { IsBlamed B.ByteDisk Never result self.old self.new }
     {
         match self.store_part(Part::Ip) {
             Ok(()) => self.store_part(Part::Dp),
@@ -33,6 +35,7 @@ impl<B: ByteDisk> ImageTape<B> {
         ensures left { (image : Files) → B.leaves self.new.slots.disk image → B.leaves self.old.slots.disk image }
         ensures sure { OnOk result
             (IsFileSure (file_of part) (B.held self.new.slots.disk) (B.leaves self.new.slots.disk)) }
+        ensures blamed { IsBlamed B.ByteDisk Never result self.old self.new }
     {
         match self.slots.sync(part) {
             Ok(()) => Ok(()),
@@ -43,7 +46,8 @@ impl<B: ByteDisk> ImageTape<B> {
     // Makes durable all that reads.
     pub(crate) fn settle_all(&mut self) -> Result<(), DriveErr>
         requires { self.old.doubt ≡ Settled }
-        ensures { IsStored B.ByteDisk 8 result self.old self.new }
+        ensures stored { IsStored B.ByteDisk 8 result self.old self.new }
+        ensures blamed { IsBlamed B.ByteDisk IsSpent result self.old self.new }
     {
         match self.store() {
             Ok(()) => {
@@ -59,7 +63,8 @@ impl<B: ByteDisk> ImageTape<B> {
         requires settled { self.old.doubt ≡ Settled }
         requires all { reads ≡ self.old.reads }
         requires stored { AreStored B.ByteDisk self.old }
-        ensures { IsStored B.ByteDisk 6 result self.old self.new }
+        ensures stored { IsStored B.ByteDisk 6 result self.old self.new }
+        ensures blamed { IsBlamed B.ByteDisk IsSpent result self.old self.new }
     {
         let _kept = self.base;
         let end = self.commit(reads, reads);
@@ -70,7 +75,8 @@ impl<B: ByteDisk> ImageTape<B> {
     // Sets the attribute of a partition.
     pub(crate) fn set_note(&mut self, part: Part, note: Note) -> Result<(), DriveErr>
         requires { self.old.doubt ≡ Settled }
-        ensures { IsNoteSet B.ByteDisk part note result self.old self.new }
+        ensures noted { IsNoteSet B.ByteDisk part note result self.old self.new }
+        ensures blamed { IsBlamed B.ByteDisk IsSpent result self.old self.new }
     {
         let noted = with_note(part, note, &self.base);
         let base = with_vcr(self.reads.vcr, &noted);

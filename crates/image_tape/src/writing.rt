@@ -6,6 +6,7 @@ ghost use Rattle.byte_disk.specs.Files.{Files, bytes_of};
 ghost use Rattle.image_slots.specs.State.{file_of};
 ghost use Rattle.image_format.specs.Records.{IsHead, head_bytes, record_bytes};
 ghost use Rattle.image_format.specs.Values.{flag};
+ghost use Rattle.image_tape.specs.Blames.{AreSpent, IsBlamed, Never};
 ghost use Rattle.image_tape.specs.declared.doubt.Doubt.TheVariants.{Settled};
 ghost use Rattle.image_tape.specs.Halves.{half_of};
 ghost use Rattle.image_tape.specs.Steps.{IsAlike};
@@ -28,8 +29,9 @@ impl<B: ByteDisk> ImageTape<B> {
         requires head { IsHead head }
         requires size { length bytes.now ≤ 1048576 }
         requires sound { (x : Item) × IsItem x × (record_bytes x ≡ head_bytes head ++ bytes.now) }
-        ensures { (x : Item) → IsItem x → record_bytes x ≡ head_bytes head ++ bytes.now
+        ensures writes { (x : Item) → IsItem x → record_bytes x ≡ head_bytes head ++ bytes.now
             → Writes B.ByteDisk 10 at x result self.old self.new }
+        ensures blamed { IsBlamed B.ByteDisk AreSpent result self.old self.new }
     {
         match self.rise(at) {
             Ok(()) => self.replace(at, head, bytes),
@@ -46,8 +48,9 @@ impl<B: ByteDisk> ImageTape<B> {
         requires head { IsHead head }
         requires size { length bytes.now ≤ 1048576 }
         requires sound { (x : Item) × IsItem x × (record_bytes x ≡ head_bytes head ++ bytes.now) }
-        ensures { (x : Item) → IsItem x → record_bytes x ≡ head_bytes head ++ bytes.now
+        ensures replaces { (x : Item) → IsItem x → record_bytes x ≡ head_bytes head ++ bytes.now
             → Replaces B.ByteDisk at x result self.old self.new }
+        ensures blamed { IsBlamed B.ByteDisk Never result self.old self.new }
     {
         self.cut(at);
         self.append(at.part, head, bytes)
@@ -57,7 +60,8 @@ impl<B: ByteDisk> ImageTape<B> {
     // behind.
     fn rise(&mut self, at: Place) -> Result<(), DriveErr>
         requires { self.old.doubt ≡ Settled }
-        ensures { Rises B.ByteDisk at result self.old self.new }
+        ensures rises { Rises B.ByteDisk at result self.old self.new }
+        ensures blamed { IsBlamed B.ByteDisk AreSpent result self.old self.new }
     {
         let Some(vcr) = self.reads.vcr.checked_add(1) else {
             return Err(DriveErr::Failed);
@@ -129,8 +133,9 @@ impl<B: ByteDisk> ImageTape<B> {
         requires head { IsHead head }
         requires size { length bytes.now ≤ 1048576 }
         requires sound { (x : Item) × IsItem x × (record_bytes x ≡ head_bytes head ++ bytes.now) }
-        ensures { (x : Item) → IsItem x → record_bytes x ≡ head_bytes head ++ bytes.now
+        ensures appends { (x : Item) → IsItem x → record_bytes x ≡ head_bytes head ++ bytes.now
             → Appends B.ByteDisk 4 part x result self.old self.new }
+        ensures blamed { IsBlamed B.ByteDisk Never result self.old self.new }
     {
         match self.fill(part) {
             Ok(()) => self.put(part, head, bytes),
@@ -143,7 +148,8 @@ impl<B: ByteDisk> ImageTape<B> {
         requires settled { self.old.doubt ≡ Settled }
         requires room { (half_of part self.old.reads).count + flag (half_of part self.old.reads).torn
             < capacity part self.old.room.limits }
-        ensures { Fills B.ByteDisk part result self.old self.new }
+        ensures fills { Fills B.ByteDisk part result self.old self.new }
+        ensures blamed { IsBlamed B.ByteDisk Never result self.old self.new }
     {
         if !half_of(part, &self.reads).torn {
             return Ok(());
@@ -158,8 +164,9 @@ impl<B: ByteDisk> ImageTape<B> {
         requires head { IsHead head }
         requires size { length bytes.now ≤ 1048576 }
         requires sound { (x : Item) × IsItem x × (record_bytes x ≡ head_bytes head ++ bytes.now) }
-        ensures { (x : Item) → IsItem x → record_bytes x ≡ head_bytes head ++ bytes.now
+        ensures puts { (x : Item) → IsItem x → record_bytes x ≡ head_bytes head ++ bytes.now
             → Puts B.ByteDisk part x result self.old self.new }
+        ensures blamed { IsBlamed B.ByteDisk Never result self.old self.new }
     {
         match self.write_record(part, head, bytes) {
             Ok(()) => {
@@ -187,6 +194,7 @@ impl<B: ByteDisk> ImageTape<B> {
         ensures behind { OnOk result ((e : Files) → B.held self.new.slots.disk ≡ Some e
             → StandBehind (half_of part self.old.reads).end (head_bytes head ++ bytes.now)
             (bytes_of (file_of part) e)) }
+        ensures blamed { IsBlamed B.ByteDisk Never result self.old self.new }
     {
         let end = half_of(part, &self.reads).end;
         if end >= 1 << 61 {
@@ -210,6 +218,7 @@ impl<B: ByteDisk> ImageTape<B> {
             × (B.held self.new.slots.disk ≡ Some e)
             × OnOk result (FollowsIn at bytes.now (bytes_of (file_of part) d) (bytes_of (file_of part) e)) }
         ensures untold { B.held self.old.slots.disk ≡ None → B.held self.new.slots.disk ≡ None }
+        ensures blamed { IsBlamed B.ByteDisk Never result self.old self.new }
     {
         if let Err(DiskFault) = self.slots.write(part, at, bytes) {
             return Err(DriveErr::Failed);

@@ -65,14 +65,14 @@ mark-tells g x c =
 
 pub flush-tells : goal.flush-tells
 flush-tells g x c = record {
-  sure = c.ensures.sure;
-  head = c.ensures.head;
-  lost = c.ensures.ends.lost;
-  held = c.ensures.held;
-  limits = c.ensures.ends.limits;
-  count = c.ensures.ends.count;
-  cause = c.ensures.ends.cause;
-  crash = λ y held. crash_at g.B.ByteDisk c.result c.args.self.now c.new.self.now c.ensures.ends (c.ensures.crash y held);
+  sure = c.ensures.flushed.sure;
+  head = c.ensures.flushed.head;
+  lost = c.ensures.flushed.ends.lost;
+  held = c.ensures.flushed.held;
+  limits = c.ensures.flushed.ends.limits;
+  count = c.ensures.flushed.ends.count;
+  cause = c.ensures.flushed.ends.cause;
+  crash = λ y held. crash_at g.B.ByteDisk c.result c.args.self.now c.new.self.now c.ensures.flushed.ends (c.ensures.flushed.crash y held);
 }
 
 pub read_note-tells : goal.read_note-tells

@@ -2,29 +2,29 @@ use Rattle.std.proofs.Common.{arith}
 use Rattle.image_tape.proofs.Ending.{early_then, flushed_badly, flushed_not, flushed_well, head_in}
 use Rattle.image_tape.proofs.commands.ImageTapeDrive.flush.Goals as goal
 
-pub returns-in-Ok-settle_all : goal.returns-in-Ok-settle_all
-returns-in-Ok-settle_all g c =
+pub returns-in-Ok-settle_all-clause-flushed : goal.returns-in-Ok-settle_all-clause-flushed
+returns-in-Ok-settle_all-clause-flushed g c =
     flushed_well g.B.ByteDisk c.args.self.now c.begin.new.self c.settle_all.new.self c.end.new.self c.in-Ok.ensures.looks c.in-Ok.ensures.rose c.moment-past.result.items c.moment-past.ensures tt c.self.inside.head
-    (head_in g.B.ByteDisk _ _ c.self.view_is) c.in-Ok-settle_all.ensures c.end.ensures
+    (head_in g.B.ByteDisk _ _ c.self.view_is) c.in-Ok-settle_all.ensures.stored c.end.ensures
 
-pub returns-in-Err-settle_all : goal.returns-in-Err-settle_all
-returns-in-Err-settle_all g c =
+pub returns-in-Err-settle_all-clause-flushed : goal.returns-in-Err-settle_all-clause-flushed
+returns-in-Err-settle_all-clause-flushed g c =
     flushed_badly g.B.ByteDisk c.args.self.now c.begin.new.self c.settle_all.new.self c.fail.new.self c.in-Ok.ensures.looks c.in-Ok.ensures.rose c.moment-past.result.items c.moment-past.ensures c.in-Err-settle_all.why
-    c.in-Err-settle_all.ensures c.fail.ensures
+    c.in-Err-settle_all.ensures.stored c.fail.ensures
 
-pub returns-in-Err : goal.returns-in-Err
-returns-in-Err g c =
+pub returns-in-Err-clause-flushed : goal.returns-in-Err-clause-flushed
+returns-in-Err-clause-flushed g c =
     flushed_not g.B.ByteDisk c.args.self.now c.begin.new.self c.fail-in-Err.new.self c.in-Err.ensures.looks c.in-Err.ensures.rose c.moment-past.result.items c.moment-past.ensures c.in-Err.why c.fail-in-Err.ensures
 
 pub end-requires : goal.end-requires
 end-requires g c =
     early_then g.B.ByteDisk _ c.begin.new.self c.settle_all.new.self c.moment-past.result.items c.moment-past.ensures c.in-Ok.ensures.looks c.in-Ok.ensures.rose
-    (c.in-Ok-settle_all.ensures.count.later)
+    (c.in-Ok-settle_all.ensures.stored.count.later)
 
 pub fail-requires : goal.fail-requires
 fail-requires g c =
     early_then g.B.ByteDisk _ c.begin.new.self c.settle_all.new.self c.moment-past.result.items c.moment-past.ensures c.in-Ok.ensures.looks c.in-Ok.ensures.rose
-    (c.in-Err-settle_all.ensures.count.later)
+    (c.in-Err-settle_all.ensures.stored.count.later)
 
 pub fail-requires-in-Err : goal.fail-requires-in-Err
 fail-requires-in-Err g c =

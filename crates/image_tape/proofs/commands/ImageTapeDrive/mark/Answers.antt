@@ -3,7 +3,6 @@ use Rattle.tape_types.specs.declared.cartridges.Item.TheVariants as item
 use Rattle.image_tape.proofs.Ending.{wrote_there}
 use Rattle.image_tape.proofs.commands.ImageTapeDrive.mark.Goals as goal
 
-pub returns : goal.returns
-returns g c = record {
-  ran = wrote_there g.B.ByteDisk item.Mark c.put_item.result _ _ c.put_item.new.self c.in-Some.at c.self.view_is c.in-Some.is (c.put_item.ensures item.Mark tt refl);
-}
+pub returns-clause-ran : goal.returns-clause-ran
+returns-clause-ran g c =
+    wrote_there g.B.ByteDisk item.Mark c.put_item.result _ _ c.put_item.new.self c.in-Some.at c.self.view_is c.in-Some.is (c.put_item.ensures.wrote item.Mark tt refl)

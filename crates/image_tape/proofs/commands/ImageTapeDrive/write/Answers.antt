@@ -6,8 +6,7 @@ use Rattle.image_tape.proofs.commands.ImageTapeDrive.write.Goals as goal
 pub put_item-requires-clause-sound : goal.put_item-requires-clause-sound
 put_item-requires-clause-sound g c = (item.Block c.args.bytes.now, (c.requires.some, c.requires.size), refl)
 
-pub returns : goal.returns
-returns g c = record {
-  ran = wrote_there g.B.ByteDisk (item.Block c.args.bytes.now) c.put_item.result _ _ c.put_item.new.self c.in-Some.at c.self.view_is c.in-Some.is
-      (c.put_item.ensures (item.Block c.args.bytes.now) (c.requires.some, c.requires.size) refl);
-}
+pub returns-clause-ran : goal.returns-clause-ran
+returns-clause-ran g c =
+    wrote_there g.B.ByteDisk (item.Block c.args.bytes.now) c.put_item.result _ _ c.put_item.new.self c.in-Some.at c.self.view_is c.in-Some.is
+    (c.put_item.ensures.wrote (item.Block c.args.bytes.now) (c.requires.some, c.requires.size) refl)

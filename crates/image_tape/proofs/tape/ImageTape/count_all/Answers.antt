@@ -14,7 +14,7 @@ commit-end-requires-clause-stands g c =
     subst (λ (s : SlotValue). MayStand g.B.ByteDisk s s c.args.self.now) (sym c.requires.all)
     (all_stand g.B.ByteDisk c.args.self.now (kept_at g.B.ByteDisk _ _ c.self.view_is c.self.invariant) c.requires.settled c.requires.stored)
 
-pub returns : goal.returns
-returns g c =
+pub returns-clause-stored : goal.returns-clause-stored
+returns-clause-stored g c =
     counted_all g.B.ByteDisk c.commit-end.result c.args.reads c.args.self.now c.commit-end.new.self (kept_at g.B.ByteDisk _ _ c.self.view_is c.self.invariant) c.requires.settled
     c.requires.all c.commit-end.ensures.commit c.commit-end.ensures.set (kept_at g.B.ByteDisk _ _ c.self-2.view_is c.self-2.invariant)

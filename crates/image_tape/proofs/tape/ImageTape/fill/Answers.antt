@@ -5,8 +5,8 @@ use Rattle.image_tape.specs.Halves.{half_of}
 use Rattle.image_tape.proofs.Appending.{fills_by}
 use Rattle.image_tape.proofs.tape.ImageTape.fill.Goals as goal
 
-pub returns : goal.returns
-returns g c =
-    fills_by g.B.ByteDisk c.args.part c.put.result c.args.self.now c.put.new.self (c.put.ensures item.Torn tt refl)
+pub returns-clause-fills : goal.returns-clause-fills
+returns-clause-fills g c =
+    fills_by g.B.ByteDisk c.args.part c.put.result c.args.self.now c.put.new.self (c.put.ensures.puts item.Torn tt refl)
     (let torn : c.half_of.result.torn ≡ true = search rules in
     sym (ap (λ (h : Half). h.torn) c.half_of.ensures ∙ ap (λ v. (half_of c.args.part v.reads).torn) c.self.view_is) ∙ torn)

@@ -20,8 +20,8 @@ invariant_of-self g c =
     (c.push.ensures ∙ ap (λ (h : Half). with_offsets c.args.part (offsets_of c.args.part c.self.inside.room ++ h.end ∷ []) c.self.inside.room) c.half_of-count.ensures)
     c.ended-self-inside.ensures).0
 
-pub returns-in-Ok : goal.returns-in-Ok
-returns-in-Ok g c = λ x sound same.
+pub returns-in-Ok-clause-puts : goal.returns-in-Ok-clause-puts
+returns-in-Ok-clause-puts g c = λ x sound same.
     (puts_more g.B.ByteDisk c.args.part c.args.self.now _ c.write_record.new.self c.self.view_is c.self.invariant c.requires.settled c.in-Ok.ensures.hides c.in-Ok.ensures.alike
     c.saturating_add.result c.saturating_add-more.result c.push.new.self c.ended-self-inside.result x sound c.requires.room
     (count_at g.B.ByteDisk c.args.part c.args.self.now _ c.write_record.new.self c.self.view_is c.self.invariant c.requires.settled c.in-Ok.ensures.hides c.in-Ok.ensures.alike
@@ -41,8 +41,8 @@ invariant_of-self-in-Err g c =
     c.in-Err.ensures.alike c.half_of-count-in-Err.result.count c.half_of-count-in-Err.result.end c.self.inside.room c.ended-self-inside-in-Err.result c.requires.sound.0 c.in-Err.why c.requires.room
     (ap (λ (h : Half). h.count) c.half_of-count-in-Err.ensures) (ap (λ (h : Half). h.end) c.half_of-count-in-Err.ensures) c.ended-self-inside-in-Err.ensures).0
 
-pub returns-in-Err : goal.returns-in-Err
-returns-in-Err g c = λ x sound same.
+pub returns-in-Err-clause-puts : goal.returns-in-Err-clause-puts
+returns-in-Err-clause-puts g c = λ x sound same.
     (puts_torn g.B.ByteDisk c.args.part c.args.self.now _ c.write_record.new.self c.self.view_is c.self.invariant c.requires.settled c.in-Err.ensures.hides
     c.in-Err.ensures.alike c.half_of-count-in-Err.result.count c.half_of-count-in-Err.result.end c.self.inside.room c.ended-self-inside-in-Err.result x c.in-Err.why c.requires.room
     (ap (λ (h : Half). h.count) c.half_of-count-in-Err.ensures) (ap (λ (h : Half). h.end) c.half_of-count-in-Err.ensures) c.ended-self-inside-in-Err.ensures).1

@@ -7,29 +7,29 @@ use Rattle.image_tape.proofs.tape.ImageTape.put_item.Goals as goal
 pub next-behind-requires : goal.next-behind-requires
 next-behind-requires g c = room_small g.B.ByteDisk c.args.at _ _ c.self.view_is c.self.invariant c.requires.room
 
-pub returns-in-Ok-write_at : goal.returns-in-Ok-write_at
-returns-in-Ok-write_at g c = λ x sound same.
+pub returns-in-Ok-write_at-clause-wrote : goal.returns-in-Ok-write_at-clause-wrote
+returns-in-Ok-write_at-clause-wrote g c = λ x sound same.
     wrote_well g.B.ByteDisk c.args.at x c.args.self.now c.begin.new.self c.write_at.new.self c.end.new.self c.in-Ok.ensures.looks c.in-Ok.ensures.rose c.moment-past.result.items c.moment-past.ensures tt
-    (c.in-Ok-write_at.ensures x sound same) (ended_at g.B.ByteDisk c.next-behind.result (next c.args.at) _ _ _ c.next-behind.ensures c.end.ensures)
+    (c.in-Ok-write_at.ensures.writes x sound same) (ended_at g.B.ByteDisk c.next-behind.result (next c.args.at) _ _ _ c.next-behind.ensures c.end.ensures)
 
-pub returns-in-Err-write_at : goal.returns-in-Err-write_at
-returns-in-Err-write_at g c = λ x sound same.
+pub returns-in-Err-write_at-clause-wrote : goal.returns-in-Err-write_at-clause-wrote
+returns-in-Err-write_at-clause-wrote g c = λ x sound same.
     wrote_badly g.B.ByteDisk c.args.at x c.args.self.now c.begin.new.self c.write_at.new.self c.fail.new.self c.in-Ok.ensures.looks c.in-Ok.ensures.rose c.moment-past.result.items c.moment-past.ensures c.in-Err-write_at.why
-    (c.in-Err-write_at.ensures x sound same) c.fail.ensures
+    (c.in-Err-write_at.ensures.writes x sound same) c.fail.ensures
 
-pub returns-in-Err : goal.returns-in-Err
-returns-in-Err g c = λ x sound same.
+pub returns-in-Err-clause-wrote : goal.returns-in-Err-clause-wrote
+returns-in-Err-clause-wrote g c = λ x sound same.
     wrote_not g.B.ByteDisk c.args.at x c.args.self.now c.begin.new.self c.fail-in-Err.new.self c.in-Err.ensures.looks c.in-Err.ensures.rose c.moment-past.result.items c.moment-past.ensures c.in-Err.why c.fail-in-Err.ensures
 
 pub end-requires : goal.end-requires
 end-requires g c =
     early_then g.B.ByteDisk _ c.begin.new.self c.write_at.new.self c.moment-past.result.items c.moment-past.ensures c.in-Ok.ensures.looks c.in-Ok.ensures.rose
-    ((c.in-Ok-write_at.ensures c.requires.sound.0 c.requires.sound.1 c.requires.sound.2).count.later)
+    ((c.in-Ok-write_at.ensures.writes c.requires.sound.0 c.requires.sound.1 c.requires.sound.2).count.later)
 
 pub fail-requires : goal.fail-requires
 fail-requires g c =
     early_then g.B.ByteDisk _ c.begin.new.self c.write_at.new.self c.moment-past.result.items c.moment-past.ensures c.in-Ok.ensures.looks c.in-Ok.ensures.rose
-    ((c.in-Err-write_at.ensures c.requires.sound.0 c.requires.sound.1 c.requires.sound.2).count.later)
+    ((c.in-Err-write_at.ensures.writes c.requires.sound.0 c.requires.sound.1 c.requires.sound.2).count.later)
 
 pub fail-requires-in-Err : goal.fail-requires-in-Err
 fail-requires-in-Err g c =

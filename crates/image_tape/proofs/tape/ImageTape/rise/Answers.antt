@@ -9,8 +9,8 @@ use Rattle.image_tape.proofs.Surely.{settled_in}
 use Rattle.image_tape.proofs.Wholes.{there}
 use Rattle.image_tape.proofs.tape.ImageTape.rise.Goals as goal
 
-pub returns-in_default : goal.returns-in_default
-returns-in_default g c = rises_not g.B.ByteDisk c.args.at _ c.args.self.now
+pub returns-in_default-clause-rises : goal.returns-in_default-clause-rises
+returns-in_default-clause-rises g c = rises_not g.B.ByteDisk c.args.at _ c.args.self.now
 
 pub commit-requires-clause-stands : goal.commit-requires-clause-stands
 commit-requires-clause-stands g c =
@@ -26,8 +26,8 @@ commit-requires-in-Each-clause-stands g c =
     there (λ b s x. MayStand g.B.ByteDisk b s x) c.with_vcr-base.result c.with_vcr-reads.result _ _ _ _ c.with_vcr-base.ensures c.with_vcr-reads.ensures c.self.view_is
     (risen_stand g.B.ByteDisk _ c.self.invariant (settled_in g.B.ByteDisk _ _ c.self.view_is c.requires) c.in-Some.vcr (search rules) (search rules))
 
-pub returns-in-Some-counted_end : goal.returns-in-Some-counted_end
-returns-in-Some-counted_end g c =
+pub returns-in-Some-counted_end-clause-rises : goal.returns-in-Some-counted_end-clause-rises
+returns-in-Some-counted_end-clause-rises g c =
     let at_v = subst (λ v. IsCounted c.args.at c.in-Some-counted_end.end v) (sym c.self.view_is) c.in-Some-counted_end.ensures.some in
     rises_cut g.B.ByteDisk c.commit.result c.args.at c.ended-shorter.result c.ended-left.result _ _ c.commit.new.self c.self.view_is c.self.invariant c.requires c.in-Some.vcr
     (search rules) (search rules) c.in-Some-counted_end.end at_v
@@ -35,8 +35,8 @@ returns-in-Some-counted_end g c =
     (c.ended-left.ensures ∙ ap (λ (s : SlotValue). cut_value c.args.at.part c.args.at.pos c.in-Some-counted_end.end s) c.with_vcr-reads.ensures)
     c.commit.ensures.commit c.commit.ensures.set
 
-pub returns-in-Each : goal.returns-in-Each
-returns-in-Each g c =
+pub returns-in-Each-clause-rises : goal.returns-in-Each-clause-rises
+returns-in-Each-clause-rises g c =
     rises_uncut g.B.ByteDisk c.commit-in-Each.result c.args.at c.with_vcr-base.result c.with_vcr-reads.result _ _ c.commit-in-Each.new.self c.self.view_is c.self.invariant c.requires
     c.in-Some.vcr (search rules) (search rules) c.with_vcr-base.ensures c.with_vcr-reads.ensures
     (subst (λ v. IsUncounted c.args.at v) (sym c.self.view_is) c.in-None.ensures.none) c.commit-in-Each.ensures.commit c.commit-in-Each.ensures.set
@@ -46,7 +46,7 @@ invariant_of-self g c =
     (lags {T = Unit {0}} {E = DriveErr} g.B.ByteDisk _ _ c.self.invariant c.with_vcr-reads.result c.args.at tt c.self.view_is c.requires c.in-Some.vcr (search rules) (search rules)
     c.with_vcr-reads.ensures c.in-None.ensures.none).0
 
-pub returns-in-AtFlush : goal.returns-in-AtFlush
-returns-in-AtFlush g c =
+pub returns-in-AtFlush-clause-rises : goal.returns-in-AtFlush-clause-rises
+returns-in-AtFlush-clause-rises g c =
     (lags g.B.ByteDisk _ _ c.self.invariant c.with_vcr-reads.result c.args.at tt c.self.view_is c.requires c.in-Some.vcr (search rules) (search rules)
     c.with_vcr-reads.ensures c.in-None.ensures.none).1

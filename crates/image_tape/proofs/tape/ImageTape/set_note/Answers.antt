@@ -28,8 +28,8 @@ pub commit-requires-clause-later : goal.commit-requires-clause-later
 commit-requires-clause-later g c =
     omega (arith, ap (λ (s : SlotValue). s.vcr) c.with_vcr-base.ensures, ap (λ (v : View g.row.B.Denot). v.reads.vcr) c.self.view_is)
 
-pub returns : goal.returns
-returns g c =
+pub returns-clause-noted : goal.returns-clause-noted
+returns-clause-noted g c =
     note_is_set_at g.B.ByteDisk c.commit.result c.args.part c.args.note c.with_vcr-base.result c.with_note-reads.result _ _ c.commit.new.self c.self.view_is c.self.invariant
     c.requires (c.with_vcr-base.ensures ∙ ap (λ (s : SlotValue). with_vcr c.self.inside.reads.vcr s) c.with_note-noted.ensures) c.with_note-reads.ensures c.commit.ensures.commit
     c.commit.ensures.set

@@ -1,8 +1,9 @@
-use Rattle.std.proofs.Common.{arith, ℕ, ◌∙◌, ap, length, List}
+use Rattle.std.proofs.Common.{arith, rules, ℕ, ◌∙◌, ap, length, List}
 use Rattle.image_format.specs.declared.values.Half.{Half}
 use Rattle.image_format.specs.Records.{head_bytes}
 use Rattle.image_tape.specs.Halves.{half_of}
 use Rattle.image_tape.proofs.Behind.{behind_at, ends_within, head_size, more_hides, next_within, no_hides, record_behind, then_hides}
+use Rattle.image_tape.proofs.Blaming.{end_blame}
 use Rattle.image_tape.proofs.tape.ImageTape.write_record.Goals as goal
 
 pub returns-then-end-clause-hides : goal.returns-then-end-clause-hides
@@ -31,3 +32,7 @@ returns-clause-behind g c =
     c.args.bytes.now 5 (ap (λ (l : List ℕ). length l) c.encode_head.ensures ∙ head_size c.args.head)
     (ends_within g.B.ByteDisk c.args.part _ _ c.half_of-end.result.end c.self.view_is c.self.invariant c.requires.settled (ap (λ (h : Half). h.end) c.half_of-end.ensures))
     c.write_behind.ensures.untold c.write_behind-2.ensures.untold c.in_default.ensures.told c.write_behind-2.ensures.told)
+
+pub returns-then-end-clause-blamed : goal.returns-then-end-clause-blamed
+returns-then-end-clause-blamed g c =
+    end_blame g.B.ByteDisk _ c.args.part _ _ c.half_of-end.result.end c.self.view_is c.self.invariant c.requires.settled (ap (λ (h : Half). h.end) c.half_of-end.ensures) (search rules)
