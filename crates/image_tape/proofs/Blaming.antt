@@ -1,7 +1,6 @@
 -- Why a command of a tape failed, step by step.
-use Rattle.std.proofs.Common.{◌≡◌, ◌≢◌, ◌≤◌, ◌<◌, ◌+◌, ◌-◌, ◌^◌, ℕ, List, ⊎_elim, inl, inr, Option, Some, None, Result, Ok, Err, OnErr, refl, sym, ap, ◌∙◌, subst, arith}
-use Rattle.std.specs.Prelude.{◌⊎◌, IfErr, IfNone}
-use Rattle.tape_types.specs.Counts.{HasCause, Rose}
+use Rattle.std.proofs.Common.{◌≡◌, ◌≢◌, ◌≤◌, ◌<◌, ◌+◌, ◌-◌, ◌^◌, ℕ, List, ⊎_elim, inr, Option, Some, None, Result, Err, refl, sym, ap, ◌∙◌, subst, arith}
+use Rattle.std.specs.Prelude.{IfErr, IfNone}
 use Rattle.byte_disk.specs.Files.{Files}
 use Rattle.byte_disk.specs.declared.disk.ByteDisk.{Ghosts}
 use Rattle.image_slots.specs.State as slot
@@ -19,7 +18,7 @@ use Rattle.image_tape.specs.declared.doubt.Doubt.{Doubt}
 use Rattle.image_tape.specs.declared.doubt.Doubt.TheVariants.{Settled, Open}
 use Rattle.image_tape.specs.Halves.{half_of}
 use Rattle.image_tape.specs.Steps.{IsFound}
-use Rattle.image_tape.specs.Blames.{AreSpent, IsBlamed, IsSpent, Never}
+use Rattle.image_tape.specs.Blames.{IsBlamed}
 use Rattle.image_tape.specs.Tape.{IsKept, Tells, View}
 use Rattle.image_tape.proofs.Setting.{number_of}
 use Rattle.image_tape.proofs.Shaping.{end_small}
@@ -28,77 +27,14 @@ use Rattle.image_tape.proofs.Surely.{other_by_number}
 use Rattle.image_tape.proofs.Telling.{tells_of}
 use Rattle.image_tape.proofs.Upkeep.{with_slots}
 
-rose_earlier : (a b c : ℕ) → a ≤ b → Rose b c → Rose a c
-rose_earlier a b c le h = omega (arith, le, h)
-
 untold_by : {X : Type 0} (o : Option X) → ((x : X) → o ≡ Some x → ⊥) → o ≡ None
 untold_by None not = refl
 untold_by (Some x) not = absurd (not x refl)
 
 module _ {D : Type 0} (disk : Ghosts D) where
-  abbrev pub Reason : (before : ℕ) → (View D → Type 0) → View D → Type 0
-  Reason before P v = Rose before (disk.faults v.slots.disk) ⊎ P v ⊎ (disk.held v.slots.disk ≡ None)
-
-  -- the same reason, of a tape over the same disk
-  pub same_reason : (P Q : View D → Type 0) (before : ℕ) (b c : View D) → c.slots ≡ b.slots → (P b → Q c) → Reason before P b → Reason before Q c
-  same_reason P Q before b c same other h =
-      ⊎_elim
-      (λ (up : Rose before (disk.faults b.slots.disk)). inl (subst (λ (s : slot.View D). Rose before (disk.faults s.disk)) (sym same) up))
-      (λ (rest : P b ⊎ (disk.held b.slots.disk ≡ None)). inr (⊎_elim (λ (p : P b). inl (other p))
-      (λ (none : disk.held b.slots.disk ≡ None). inr (subst (λ (s : slot.View D). disk.held s.disk ≡ None) (sym same) none)) rest)) h
-
-  earlier_reason : (P : View D → Type 0) (a b : ℕ) (c : View D) → a ≤ b → Reason b P c → Reason a P c
-  earlier_reason P a b c le h =
-      ⊎_elim
-      (λ (up : Rose b (disk.faults c.slots.disk)). inl (rose_earlier a b (disk.faults c.slots.disk) le up))
-      (λ (rest : P c ⊎ (disk.held c.slots.disk ≡ None)). inr rest) h
-
-  -- what succeeded has no reason
-  pub no_blame : {T E : Type 0} {P : View D → Type 0} (x : T) (a : View D) → IsBlamed {E = E} disk P (Ok x) a a
-  no_blame x a = record { later = omega arith; failed = tt }
-
-  pub well : {T U E F : Type 0} {P Q : View D → Type 0} (e : Result U F) (x : T) (a b c : View D) → c.slots ≡ b.slots → IsBlamed disk P e a b
-      → IsBlamed {E = E} disk Q (Ok x) a c
-  well e x a b c same h = record {
-    later = subst (λ (s : slot.View D). disk.faults a.slots.disk ≤ disk.faults s.disk) (sym same) h.later;
-    failed = tt;
-  }
-
-  -- what failed is answered
-  pub badly : {T U E F : Type 0} {P Q : View D → Type 0} (why : F) (other : E) (a b c : View D) → c.slots ≡ b.slots → (P b → Q c)
-      → IsBlamed {T = U} disk P (Err why) a b → IsBlamed {T = T} disk Q (Err other) a c
-  badly {P = P} {Q = Q} why other a b c same more h = record {
-    later = subst (λ (s : slot.View D). disk.faults a.slots.disk ≤ disk.faults s.disk) (sym same) h.later;
-    failed = same_reason P Q (disk.faults a.slots.disk) b c same more h.failed;
-  }
-
   -- of a disk that tells no files nothing is said
   pub told_nothing : {T E : Type 0} {P : View D → Type 0} (why : E) (v : View D) → disk.held v.slots.disk ≡ None → IsBlamed {T = T} disk P (Err why) v v
   told_nothing why v none = record { later = omega arith; failed = inr (inr none) }
-
-  -- one step after another
-  pub then_blame : {T E : Type 0} {P : View D → Type 0} (e : Result T E) (a b c : View D) → disk.faults a.slots.disk ≤ disk.faults b.slots.disk
-      → IsBlamed disk P e b c → IsBlamed disk P e a c
-  then_blame (Ok x) a b c le h = record { later = omega (arith, le, h.later); failed = tt }
-  then_blame {P = P} (Err why) a b c le h = record {
-    later = omega (arith, le, h.later);
-    failed = earlier_reason P (disk.faults a.slots.disk) (disk.faults b.slots.disk) c le h.failed;
-  }
-
-  -- a command on a partition's file
-  pub command_well : {T U E F : Type 0} {step : Files → Files → Type 0} {P : View D → Type 0} (x : T) (y : U) (v w : View D) (s : slot.View D) → v ≡ w
-      → slot.IsCommand {E = E} disk step (Ok x) v.slots s → IsBlamed {E = F} disk P (Ok y) w (with_slots s v)
-  command_well x y v w s is done = record {
-    later = subst (λ (a : View D). disk.faults a.slots.disk ≤ disk.faults s.disk) is done.cause.later;
-    failed = tt;
-  }
-
-  pub command_badly : {T U E F : Type 0} {step : Files → Files → Type 0} {P : View D → Type 0} (x : E) (y : F) (v w : View D) (s : slot.View D) → v ≡ w
-      → slot.IsCommand {T = T} disk step (Err x) v.slots s → IsBlamed {T = U} disk P (Err y) w (with_slots s v)
-  command_badly x y v w s is done = record {
-    later = subst (λ (a : View D). disk.faults a.slots.disk ≤ disk.faults s.disk) is done.cause.later;
-    failed = inl (subst (λ (a : View D). Rose (disk.faults a.slots.disk) (disk.faults s.disk)) is done.cause.failed);
-  }
 
   -- what is known of the header of a disk that tells its files
   header_some : (v : View D) (leaves : Files → Type 0) (d : Files) (o : Doubt) → Tells o v leaves d
