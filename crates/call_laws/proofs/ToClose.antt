@@ -15,6 +15,7 @@ use Rattle.session_script.specs.declared.logs.Event.{Event}
 use Rattle.tape_layout.specs.declared.ops.Op.{Op}
 use Rattle.cartridge_meaning.specs.Meaning.{dp_end, ip_end}
 use Rattle.cartridge_meaning.specs.Mounts.{Mounts}
+use Rattle.cartridge_meaning.specs.Pointers.{indexes_of}
 use Rattle.serving_promise.specs.Ends.{begun}
 use Rattle.serving_promise.specs.Served.{Fixed, View}
 use Rattle.crash_laws.specs.Laws.{AddsOps, CanServe, IsSafeNow}
@@ -24,6 +25,7 @@ use Rattle.closing_laws.specs.Indexed.{SyncsAreDueOn}
 use Rattle.closing_laws.specs.Ready.{GoesOnBy, IsStepOnTape}
 use Rattle.closing_laws.proofs.Aheads.{none_is_ahead}
 use Rattle.closing_laws.proofs.IndexLaw.{indexes_stay}
+use Rattle.closing_laws.proofs.OwnLaw.{own_indexes_stay}
 use Rattle.closing_laws.proofs.Readied.{tapes_stay_ready}
 use Rattle.closing_laws.proofs.Rests.{volumes_rest}
 use Rattle.plan_laws.specs.Planned.{IsOnWay, Items, ends_in, mounted_items, with_ops}
@@ -66,6 +68,7 @@ module _ {D : Type 0} (drive : Ghosts D) (fixed : Fixed D) where
         (λ c told. (mounts c told, items c told Dp));
     indexed = λ can. (indexes_stay {D = D}).begins planned limits fixed next can.held (mounts can.held can.told)
         can.reads_as (items can.held can.told);
+    own = λ can c told. (own_indexes_stay {D = D}).begins planned limits fixed next c (mounts c told) (items c told);
   }
 
   -- ---- a submission
@@ -98,6 +101,8 @@ module _ {D : Type 0} (drive : Ghosts D) (fixed : Fixed D) where
           (reads can) refl same on_same goes;
       indexed = λ can. (indexes_stay {D = D}).submitted planned limits v w asked (was.indexed can) ops
           (reads can) refl on_same goes ends size (dues can);
+      own = λ can c told. (own_indexes_stay {D = D}).submitted planned limits (indexes_of c.dp) v w asked
+          (was.own can c told) (was.indexed can) ops (reads can) refl on_same goes ends size (dues can);
     }
 
   -- ---- a turn
@@ -121,6 +126,8 @@ module _ {D : Type 0} (drive : Ghosts D) (fixed : Fixed D) where
       alone = was.alone;
       tape = λ can. (tapes_stay_ready drive).turned planned limits v1 w1 added (was.tape can) step history;
       indexed = λ can. (indexes_stay {D = D}).turned planned limits v1 w1 added (was.indexed can) refl history step.on;
+      own = λ can c told. (own_indexes_stay {D = D}).turned planned limits (indexes_of c.dp) v1 w1 added
+          (was.own can c told) refl history step.on;
     }
 
     pub voided_ready : (placed : Placed) → w1.history ≡ v1.history ++ placed ∷ [] → placed.fate ≡ fates.Void
@@ -135,4 +142,6 @@ module _ {D : Type 0} (drive : Ghosts D) (fixed : Fixed D) where
       tape = λ can. (tapes_stay_ready drive).voided planned limits v1 w1 added placed (was.tape can) step history fate;
       indexed = λ can. (indexes_stay {D = D}).voided planned limits v1 w1 added placed
           (was.indexed can) refl history fate step.on;
+      own = λ can c told. (own_indexes_stay {D = D}).voided planned limits (indexes_of c.dp) v1 w1 added placed
+          (was.own can c told) refl history fate step.on;
     }

@@ -18,6 +18,7 @@ use Rattle.crash_laws.specs.May.{IsAllowed}
 use Rattle.crash_laws.specs.Safe.{space_now}
 use Rattle.promise_laws.specs.Kept.{CanRead, IsKept, Plan}
 use Rattle.closing_laws.specs.Indexed.{IsIndexed}
+use Rattle.closing_laws.specs.Owned.{KeepsOwn}
 use Rattle.closing_laws.specs.Ready.{HasNoneAhead, IsTapeReady}
 use Rattle.waiting_reads.specs.Waiting.{answer_for}
 use Rattle.plan_laws.specs.Planned.{Items}
@@ -34,7 +35,8 @@ pub record HasAnswers {D : Type 0} (p : Parts D) : Type 0 where
       → answer_for k p.answered ≡ Some a
 
 -- What a close will ask for: what was mounted is that of the cartridge, no index of the index partition is ahead where
--- none is due on the data partition, and what both partitions end with.
+-- none is due on the data partition, what both partitions end with, and which indexes the run has put on the data
+-- partition.
 pub record IsReadyToClose {D : Type 0} (drive : Ghosts D) (fixed : Fixed D) (plan : Plan drive fixed) (planned : Items)
     (v : View D) : Type 0 where
   pub mounts : (c : Cartridge) → drive.held fixed.first ≡ Some c → Mounts c fixed.mounted
@@ -48,6 +50,8 @@ pub record IsReadyToClose {D : Type 0} (drive : Ghosts D) (fixed : Fixed D) (pla
       → indexes_of (planned Ip) ≡ []
   pub tape : CanRead drive fixed → IsTapeReady drive planned (drive.limits fixed.first) v
   pub indexed : CanRead drive fixed → IsIndexed planned (drive.limits fixed.first) v
+  pub own : CanRead drive fixed → (c : Cartridge) → drive.held fixed.first ≡ Some c
+      → KeepsOwn planned (drive.limits fixed.first) (indexes_of c.dp) v
 
 -- All that is promised of the volume is kept, with a plan; its parts are tied, on a tape that is that plan; a session
 -- drains for a write alone; the answers of reads are kept until they are handed out; it can be closed; and the owner of

@@ -61,11 +61,11 @@ data Moves (v : Rules) (on : Bool) (old : Space) (tree : Tree) (IsText : List �
       → Moves v on old tree IsText tree (space.after v on old (index text)) (space.ops_of v on old (index text))
 
 -- the text is that of a sync that was placed
-record IsSynced (g : Given) (st : Standing) (p : Placed) (text : List ℕ) : Type 0 where
-  done : p.fate ≡ fates.Done
-  call : call_at g.calls p ≡ Some Sync
-  changed : st.space.changed ≡ true
-  text_is : text ≡ sync_text g st p.at
+pub record IsSynced (g : Given) (st : Standing) (p : Placed) (text : List ℕ) : Type 0 where
+  pub done : p.fate ≡ fates.Done
+  pub call : call_at g.calls p ≡ Some Sync
+  pub changed : st.space.changed ≡ true
+  pub text_is : text ≡ sync_text g st p.at
 
 module _ (g : Given) (on : Option ℕ) (history : List Placed) (p : Placed) where
   abbrev here : Bool
@@ -271,7 +271,7 @@ module _ {D : Type 0} where
       Tells label tree text =
           IsTold label (carried old.fixed.mounted.index) tree (cartridge_on planned) (space_now limits old) text
 
-      told_synced : (text : List ℕ) → IsSynced g (standing_now limits old) placed text
+      pub told_synced : (text : List ℕ) → IsSynced g (standing_now limits old) placed text
           → Tells old.fixed.mounted.label (standing_now limits old).tree text
       told_synced text is =
           let labels = was.open_ends.labels in

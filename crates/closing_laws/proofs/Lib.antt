@@ -11,5 +11,8 @@ pub mod Opened
 pub mod Newest
 pub mod Mounted
 pub mod IndexLaw
+pub mod OwnPlaces
+pub mod OwnLaw
+pub mod OwnSyncs
 pub mod Rests
 pub mod May

@@ -80,21 +80,21 @@ module _ (label : Label) (facts : Carried) (tree : Tree) (planned : Items) (s : 
   items_are : with_ops asked planned Dp ≡ items
   items_are = indexed_dp label planned open_ends v on s text
 
-  indexes_are : indexes_of (with_ops asked planned Dp) ≡ new_construct (planned Dp) bs ∷ indexes_of (planned Dp)
+  pub indexes_are : indexes_of (with_ops asked planned Dp) ≡ new_construct (planned Dp) bs ∷ indexes_of (planned Dp)
   indexes_are = ap indexes_of items_are
       ∙ ap (λ (c : Content). c.constructs) (construct_content (planned Dp) bs open_ends.dp some_new)
 
-  end_dp_is : s.ends.dp ≡ length (planned Dp)
+  pub end_dp_is : s.ends.dp ≡ length (planned Dp)
   end_dp_is = ap (λ (e : Ends). e.dp) ends
 
-  end_ip_is : s.ends.ip ≡ length (planned Ip)
+  pub end_ip_is : s.ends.ip ≡ length (planned Ip)
   end_ip_is = ap (λ (e : Ends). e.ip) ends
 
   pub last_new : (space.after v on s (index text)).last_dp ≡ last_block (indexes_of (with_ops asked planned Dp))
   last_new = ap (λ (n : ℕ). Some (n + 1)) end_dp_is ∙ ap last_block (sym indexes_are)
 
-  reads_new : IsLastOnDp label (indexes_of items) (Some its.told)
-  reads_new = new_last label (planned Dp) bs its.told open_ends.dp some_new
+  reads_put : IsLastOnDp label (indexes_of items) (Some its.told)
+  reads_put = new_last label (planned Dp) bs its.told open_ends.dp some_new
       (subst (λ (w : List ℕ). IndexText w its.told) (sym (joined v.block_size text size)) its.reads) its.uuid
       (its.here ∙ ap (λ (n : ℕ). record { letter = letter_of label Dp; block = n + 1 }) end_dp_is)
       (its.back ∙ ap (option_map (λ (block : ℕ). record { letter = letter_of label Dp; block = block })) last
@@ -115,20 +115,30 @@ module _ (label : Label) (facts : Carried) (tree : Tree) (planned : Items) (s : 
   further_dp : s.ends.dp ≤ length (with_ops asked planned Dp)
   further_dp = omega (arith, end_dp_is, length-append (planned Dp) (items_by Dp asked))
 
+  -- the new index is the last one, and tells the tree there
+  pub reads_new : IsLastOnDp label (indexes_of (with_ops asked planned Dp)) (Some its.told)
+  reads_new = subst (λ (l : List Item). IsLastOnDp label (indexes_of l) (Some its.told)) (sym items_are) reads_put
+
+  pub within_new : AllByRecursion (FitsNode label (length (with_ops asked planned Ip)) (length (with_ops asked planned Dp)))
+      its.told.nodes
+  within_new = nodes_further label s.ends.ip s.ends.dp (length (with_ops asked planned Ip))
+      (length (with_ops asked planned Dp)) further_ip further_dp its.told.nodes its.within
+
+  pub tree_new : IsTreeOf label (cartridge_on (with_ops asked planned)) its.told tree
+  tree_new = tree_stays label s.ends.ip s.ends.dp differ (cartridge_on planned) (cartridge_on (with_ops asked planned))
+      its.told tree its.within (sym (take-append-le s.ends.ip (planned Ip) (items_by Ip asked) long_ip))
+      (sym (take-append-le s.ends.dp (planned Dp) (items_by Dp asked) long_dp)) its.tree_is
+
   pub ends_with_told : EndsWithTree label facts tree (space.after v on s (index text)) (with_ops asked planned)
   ends_with_told = record {
     index = its.told;
     some = λ none. (let wrong : new_construct (planned Dp) bs ∷ indexes_of (planned Dp) ≡ [] = sym indexes_are
         ∙ none in cc);
-    reads = subst (λ (l : List Item). IsLastOnDp label (indexes_of l) (Some its.told)) (sym items_are) reads_new;
+    reads = reads_new;
     ends = subst (λ (l : List Item). EndsWithLast l (indexes_of l)) (sym items_are)
         (ends_with_new (planned Dp) bs open_ends.dp some_new);
     generation = its.generation;
     facts_are = its.facts_are;
-    within = nodes_further label s.ends.ip s.ends.dp (length (with_ops asked planned Ip))
-        (length (with_ops asked planned Dp))
-        further_ip further_dp its.told.nodes its.within;
-    tree_is = tree_stays label s.ends.ip s.ends.dp differ (cartridge_on planned) (cartridge_on (with_ops asked planned))
-        its.told tree its.within (sym (take-append-le s.ends.ip (planned Ip) (items_by Ip asked) long_ip))
-        (sym (take-append-le s.ends.dp (planned Dp) (items_by Dp asked) long_dp)) its.tree_is;
+    within = within_new;
+    tree_is = tree_new;
   }

@@ -4,4 +4,5 @@ pub mod Near
 pub mod Whole
 pub mod Ready
 pub mod Indexed
+pub mod Owned
 pub mod May

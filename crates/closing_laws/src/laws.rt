@@ -3,6 +3,7 @@
 ghost use Rattle.closing_laws.specs.Laws.{ClosedVolumesStand, ClosesAreSafe, IndexesOfClosesAreDue};
 ghost use Rattle.closing_laws.specs.Indexed.{IndexesStay};
 ghost use Rattle.closing_laws.specs.Near.{ClosesCanTell};
+ghost use Rattle.closing_laws.specs.Owned.{OwnIndexesStay, SyncsAreCovered};
 ghost use Rattle.closing_laws.specs.Ready.{NoneIsAhead, TapesStayReady, VolumesRest};
 ghost use Rattle.closing_laws.specs.Whole.{WholesStay};
 
@@ -46,6 +47,16 @@ pub fn tapes_stay_ready<D: Drive>()
 /// And as long as nothing has changed since its last index, that tells the tree of the whole history.
 pub fn indexes_stay<D: Drive>()
     ensures { IndexesStay D }
+{}
+
+/// And the indexes that the history has admitted are its top, each a link of the chain with the tree of its place.
+pub fn own_indexes_stay<D: Drive>()
+    ensures { OwnIndexesStay D }
+{}
+
+/// Behind a sync that is done the newest of them tells the tree that the sync covers.
+pub fn syncs_are_covered()
+    ensures { SyncsAreCovered }
 {}
 
 /// Where nothing was asked of the tape a crash leaves no more than at the start.

@@ -9,3 +9,4 @@ pub mod ServeClauses
 pub mod ServeSteps
 pub mod Disks
 pub mod AgainLemmas
+pub mod Generations

@@ -69,11 +69,11 @@ module _ {D : Type 0} (drive : Ghosts D) (moment : Option Moment) (count : ℕ) 
   by_end : (end : VolumeEnd) → IsServedSo drive start now moment (made_script count) log end → IsTold (end_status end) (closed_line (Some log) end) sink status
       → DoesMake moment count drive start now sink status (Some log)
   by_end (ends.Done generation s t n) so told =
-      does (made log (Closed generation) n) (so.mounted, record { ended = record { run = so.run; ends = so.ends.closed }; nodes_are = so.ends.nodes_are }) refl told
+      does (made log (Closed generation) n) (so.mounted, record { ended = record { run = so.run; ends = so.ends.closed; own = so.ends.own }; nodes_are = so.ends.nodes_are }) refl told
   by_end (ends.Full need limit) so told =
-      does (made log (Short need limit) 0) (so.mounted, record { ended = record { run = so.run; ends = so.ends }; nodes_are = λ tree mounted can. tt }) refl told
+      does (made log (Short need limit) 0) (so.mounted, record { ended = record { run = so.run; ends = so.ends; own = tt }; nodes_are = λ tree mounted can. tt }) refl told
   by_end (ends.Drive counts) so told =
-      does (made log (Failed counts) 0) (so.mounted, record { ended = record { run = so.run; ends = so.ends }; nodes_are = λ tree mounted can. tt }) refl told
+      does (made log (Failed counts) 0) (so.mounted, record { ended = record { run = so.run; ends = so.ends; own = tt }; nodes_are = λ tree mounted can. tt }) refl told
   by_end ends.NoMemory so told = does (starved log) so.run refl told
   by_end (ends.Volume error) so told = absurd so.ends
 

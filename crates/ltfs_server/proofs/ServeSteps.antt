@@ -32,7 +32,7 @@ use Rattle.basic_commands.specs.Runs.{IsScriptIn, Taken, Written}
 use Rattle.basic_commands.specs.Scripts.{IsUnread, unread_status, unread_text}
 use Rattle.session_run.specs.Serving.{HoldsTree}
 use Rattle.session_run.specs.Timed.{TimedView, one_moment}
-use Rattle.ltfs_server.specs.Serving.{IsServedEnd, end_status, told_whole, IsServedRun, ServedEnd, served, served_log, served_status, served_text, unclosed, unscripted, unserved, unwritten}
+use Rattle.ltfs_server.specs.Serving.{IsServedEnd, IsServedRun, LeavesOwn, ServedEnd, end_status, served, served_log, served_status, served_text, told_whole, unclosed, unscripted, unserved, unwritten}
 use Rattle.basic_commands.specs.declared.scripts.Unread.{Unread}
 use Rattle.basic_commands.specs.declared.scripts.Unread.TheVariants as unread
 use Rattle.ltfs_server.proofs.ServeClauses.{serve_does}
@@ -124,19 +124,19 @@ module _ {D : Type 0} (drive : Ghosts D) (moment : Option Moment) (source : Take
 
   -- it ended so, which is told
   ended : (end : ServeEnd) (result : Option Log) → HoldsTree (drive.held start) → IsRunBy drive script moment start now log
-      → IsEndOf cartridges script (seen drive start) (seen drive now) log end → result ≡ Some log
+      → IsEndOf cartridges script (seen drive start) (seen drive now) log end → LeavesOwn drive start now moment end script log → result ≡ Some log
       → IsTold (status_of end) (serve_text log end) sink status → DoesServe moment source drive start now sink status result
-  ended end result tree run ends same told = does result (served log end)
-      (tree, record { script = script; spelled = is.spelled; whole = is.whole; run = record { run = run; ends = ends } }) same refl told
+  ended end result tree run ends own same told = does result (served log end)
+      (tree, record { script = script; spelled = is.spelled; whole = is.whole; run = record { run = run; ends = ends; own = own } }) same refl told
 
   by_end : (end : VolumeEnd) → IsServedSo drive start now moment script log end → IsTold (end_status end) (log_text log ++ end_line end) sink status
       → DoesServe moment source drive start now sink status (Some log)
   by_end (ends.Done generation s t n) is_so told =
-      ended (Closed generation) (Some log) is_so.mounted is_so.run is_so.ends.closed refl
+      ended (Closed generation) (Some log) is_so.mounted is_so.run is_so.ends.closed is_so.ends.own refl
       (subst (λ m. IsTold 0 (log_text log ++ end_line (ends.Done generation (bounded (steps log.events)) m n)) sink status) is_so.ends.travel_is
       (subst (λ m. IsTold 0 (log_text log ++ end_line (ends.Done generation m t n)) sink status) is_so.ends.steps_are told))
-  by_end (ends.Full need limit) is_so told = ended (Short need limit) (Some log) is_so.mounted is_so.run is_so.ends refl told
-  by_end (ends.Drive counts) is_so told = ended (Failed counts) (Some log) is_so.mounted is_so.run is_so.ends refl told
+  by_end (ends.Full need limit) is_so told = ended (Short need limit) (Some log) is_so.mounted is_so.run is_so.ends tt refl told
+  by_end (ends.Drive counts) is_so told = ended (Failed counts) (Some log) is_so.mounted is_so.run is_so.ends tt refl told
   by_end ends.NoMemory is_so told = does (Some log) (unclosed log) (run_of is_so.run) refl refl told
   by_end (ends.Volume error) is_so told = absurd is_so.ends
 

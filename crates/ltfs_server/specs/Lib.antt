@@ -8,3 +8,4 @@ pub mod Ready
 pub mod Disks
 pub mod Runs
 pub mod Again
+pub mod Generations

@@ -1,20 +1,27 @@
 -- What `serve` comes to: when it comes to that, and what is told then.
-use Rattle.std.specs.Prelude.{◌⊎◌, ℕ, List, ◌++◌, Option, Some, None, IfSome, codes}
+use Rattle.std.specs.Prelude.{◌≡◌, ◌⊎◌, ℕ, List, ◌++◌, Option, Some, None, IfSome, codes}
 use Rattle.std.specs.Io.KnownBytes.{Appends}
+use Rattle.tape_types.specs.declared.cartridges.Cartridge.{Cartridge}
 use Rattle.tape_types.specs.declared.cartridges.Twin.{Twin}
 use Rattle.tape_types.specs.declared.moments.Moment.{Moment}
 use Rattle.session_script.specs.LogText.{log_text}
 use Rattle.session_script.specs.declared.logs.Log.{Log}
 use Rattle.session_script.specs.declared.scripts.ScriptLine.{ScriptLine}
+use Rattle.plain_tree.specs.Tree.{Tree}
 use Rattle.tape_drive.specs.declared.drive.Drive.{Ghosts}
 use Rattle.mount_recover.specs.Labels.{AreCounts}
 use Rattle.mount_recover.specs.Steps.{Blames}
+use Rattle.cartridge_meaning.specs.Carried.{carried}
+use Rattle.cartridge_meaning.specs.Meaning.{Reads}
+use Rattle.cartridge_meaning.specs.Mounts.{Mounts}
 use Rattle.cartridge_meaning.specs.declared.errors.MountErr.{MountErr}
+use Rattle.cartridge_meaning.specs.declared.mounted.Mounted.{Mounted}
 use Rattle.serving_promise.specs.Headline.{Closed, Failed, IsEndOf, ServeEnd, Short, serve_text, status_of}
 use Rattle.serving_promise.specs.Meanings.{cartridges}
+use Rattle.serving_promise.specs.Served.{CanTell}
 use Rattle.order_laws.specs.Kept.{seen}
 use Rattle.run_laws.specs.Went.{IsRunBy}
-use Rattle.session_run.specs.Serving.{HoldsTree, end_line}
+use Rattle.session_run.specs.Serving.{HasOwnOnTop, HoldsTree, end_line}
 use Rattle.session_run.specs.declared.ends.ServeEnd.{ServeEnd as VolumeEnd}
 use Rattle.session_run.specs.declared.ends.ServeEnd.TheVariants as ends
 use Rattle.basic_commands.specs.Headline.{IsDriveFaultPrinted}
@@ -70,11 +77,20 @@ served_log (served log end) = Some log
 served_log (unclosed log) = Some log
 served_log (unwritten log) = Some log
 
+-- a close that is done leaves the run's own indexes at the top of the data partition
+abbrev pub LeavesOwn : {D : Type 0} → Ghosts D → (old new : D) → Option Moment → ServeEnd → List ScriptLine → Log → Type 0
+LeavesOwn drive old new moment (Closed generation) script log = (tree : Tree) (mounted : Mounted) (first : Cartridge)
+    → CanTell (λ c. Reads c (carried mounted.index) tree mounted.newest × Mounts c mounted) (drive.commands old)
+    (seen drive old)
+    → drive.held old ≡ Some first → HasOwnOnTop drive old new moment script log tree mounted first
+LeavesOwn drive old new moment _ script log = Unit {0}
+
 -- the run of a script, between two moments of a drive, ended so
 pub record EndsRun {D : Type 0} (drive : Ghosts D) (old new : D) (moment : Option Moment) (end : ServeEnd)
     (script : List ScriptLine) (log : Log) : Type 0 where
   pub run : IsRunBy drive script moment old new log
   pub ends : IsEndOf cartridges script (seen drive old) (seen drive new) log end
+  pub own : LeavesOwn drive old new moment end script log
 
 module _ {D : Type 0} (drive : Ghosts D) (old new : D) (moment : Option Moment) (source : Taken) where
   -- the log is that of a run of the script that was left in the source

@@ -2,6 +2,7 @@
 
 ghost use Rattle.ltfs_server.specs.Again.{CrashesLeaveReady};
 ghost use Rattle.ltfs_server.specs.Disks.{SurvivesOnDisks, SurvivesOnDisksInMemory};
+ghost use Rattle.ltfs_server.specs.Generations.{RunsLeaveGenerations};
 ghost use Rattle.ltfs_server.specs.Ready.{LeavesReady};
 ghost use Rattle.ltfs_server.specs.Sentence.{SurvivesInMemory};
 
@@ -58,4 +59,11 @@ pub fn headlines_survive_on_disks_in_memory(tape: &ImageTape<MemDisk>)
 /// tree where there is no log.
 pub fn crashes_leave_drives_ready()
     ensures { CrashesLeaveReady ⟦<MemDrive as Drive>⟧ }
+{}
+
+/// A run of `serve` or of `make` was closed, over any drive that told a cartridge as it began. The indexes that its history
+/// and its close have put on the data partition are the top of the chain, over the indexes that stood there before: each
+/// is a generation of the volume, whose tree is the tree at the place where it was admitted.
+pub fn runs_leave_generations<D: Drive>()
+    ensures { RunsLeaveGenerations D.Drive }
 {}

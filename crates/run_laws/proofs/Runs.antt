@@ -41,7 +41,7 @@ module _ {D : Type 0} (drive : Ghosts D) (script : List ScriptLine) (at : Option
     (closes : Closes cartridges (seen drive v.fixed.first) (seen drive v.drive) (seen drive now) v now log outcome
     step_count travel_sum nodes) where
   -- the history, the events and the replies of the volume are those of the log
-  history : v.history ≡ log.history
+  pub history : v.history ≡ log.history
   history = history_is drive script at start v log played closes.log_is
 
   events : v.events ≡ log.events
@@ -52,20 +52,20 @@ module _ {D : Type 0} (drive : Ghosts D) (script : List ScriptLine) (at : Option
 
   module _ (mounted : Mounted) (tree : Tree)
       (can : CanTell (IsFound mounted tree) (drive.commands start) (seen drive start)) where
-    mounted_is : v.fixed.mounted ≡ mounted
+    pub mounted_is : v.fixed.mounted ≡ mounted
     mounted_is = sym (same_mounted drive played.most start v.fixed.first played.looked v.fixed.since played.since
         v.fixed.mounted v.fixed.tree played.mounted mounted tree can)
 
-    tree_is : v.fixed.tree ≡ tree
+    pub tree_is : v.fixed.tree ≡ tree
     tree_is = sym (same_read drive played.most start v.fixed.first played.looked v.fixed.since played.since
         v.fixed.mounted v.fixed.tree played.mounted mounted tree can)
 
-    told : CanTell (ReadsAs v.fixed.mounted v.fixed.tree) v.fixed.since (seen drive v.fixed.first)
+    pub told : CanTell (ReadsAs v.fixed.mounted v.fixed.tree) v.fixed.since (seen drive v.fixed.first)
     told = told_read drive played.most start v.fixed.first played.looked v.fixed.since played.since
         v.fixed.mounted v.fixed.tree played.mounted mounted tree can
 
     -- what the definitions of space start from is the same
-    given_is : given v (seen drive v.fixed.first) ≡ given_of script tree mounted (seen drive start)
+    pub given_is : given v (seen drive v.fixed.first) ≡ given_of script tree mounted (seen drive start)
     given_is = λ i. record {
       calls = calls_of (played.script_is i);
       tree = tree_is i;
@@ -76,7 +76,7 @@ module _ {D : Type 0} (drive : Ghosts D) (script : List ScriptLine) (at : Option
     truth : IsTrue (seen drive v.fixed.first) v
     truth = played.served.truly told
 
-    rightly : IsAskedRightly (given_of script tree mounted (seen drive start)) v.on log.history log.events
+    pub rightly : IsAskedRightly (given_of script tree mounted (seen drive start)) v.on log.history log.events
     rightly = subst (λ (e : Given × List Placed × List Event). IsAskedRightly e.0 v.on e.1 e.2)
         (λ i. (given_is i, history i, events i)) (played.logged.truly told)
 

@@ -1,4 +1,5 @@
 pub mod Allowed
 pub mod Running
 pub mod ServingSteps
+pub mod OwnRuns
 pub mod Whole

@@ -25,7 +25,9 @@ use Rattle.serving_promise.specs.declared.answers.CloseEnd.{CloseEnd}
 use Rattle.serving_promise.specs.declared.answers.CloseEnd.TheVariants as close_ends
 use Rattle.serving_promise.specs.declared.contract.Closed.{Closed}
 use Rattle.order_laws.specs.Kept.{seen}
-use Rattle.run_laws.specs.Laws.{IsRun, PlaysAreRuns}
+use Rattle.run_laws.specs.Laws.{IsPlayed, IsRun, PlaysAreRuns}
+use Rattle.volume_core.specs.Promised.{LeavesOwnIndexes}
+use Rattle.session_run.proofs.OwnRuns.{own_on_top}
 use Rattle.session_run.specs.Ran.{HasRun, IsServedWhole}
 use Rattle.session_run.specs.declared.ran.RanEnd.{RanEnd}
 use Rattle.session_run.specs.declared.ran.RanEnd.TheVariants as run_ends
@@ -74,9 +76,10 @@ rose_to before now [] rises = omega (arith, rises)
 rose_to before now (t ∷ more) (lowest, rose, rest) = let later : min t.after (2 ^ 64 - 1) ≤ now = rose_to t.after now more rest in omega (arith, lowest, rose, later)
 
 module _ {D : Type 0} (drive : Ghosts D) (plays : PlaysAreRuns drive) (start : D) (v : View D) (closed : Closed D) (on : IsBegun drive start v.fixed) (whole : IsServedWhole drive v)
-    (closes : Closes cartridges (seen drive v.fixed.first) (seen drive v.drive) (seen drive closed.drive) v closed.drive closed.log closed.outcome closed.steps closed.travel closed.nodes) where
-  ran : IsRun drive v.fixed.script v.fixed.moment start closed.drive closed.log closed.outcome closed.nodes
-  ran = plays v.fixed.script v.fixed.moment start v closed.drive closed.log closed.outcome closed.steps closed.travel closed.nodes record {
+    (closes : Closes cartridges (seen drive v.fixed.first) (seen drive v.drive) (seen drive closed.drive) v closed.drive closed.log closed.outcome closed.steps closed.travel closed.nodes)
+    (own : LeavesOwnIndexes drive v closed.drive closed.outcome) where
+  played : IsPlayed drive v.fixed.script v.fixed.moment start v
+  played = record {
     most = mount_most (drive.limits start) * drive.MOST;
     looked = on.looked.looks;
     faults = on.looked.faults;
@@ -90,7 +93,10 @@ module _ {D : Type 0} (drive : Ghosts D) (plays : PlaysAreRuns drive) (start : D
     history = whole.history;
     count = whole.promised.count;
     nothing = whole.nothing;
-  } closes
+  }
+
+  ran : IsRun drive v.fixed.script v.fixed.moment start closed.drive closed.log closed.outcome closed.nodes
+  ran = plays v.fixed.script v.fixed.moment start v closed.drive closed.log closed.outcome closed.steps closed.travel closed.nodes played closes
 
   tree : HoldsTree (drive.held start)
   tree = if_some (drive.held start) _ (λ c held. let found = on.mounted c (on.looked.looks.held ∙ held) in (carried v.fixed.mounted.index, v.fixed.tree, v.fixed.mounted.newest, found.1))
@@ -100,20 +106,25 @@ module _ {D : Type 0} (drive : Ghosts D) (plays : PlaysAreRuns drive) (start : D
       let served : min (drive.faults v.fixed.first) (2 ^ 64 - 1) ≤ drive.faults v.drive = rose_to _ _ (filter_map fault_of v.events) whole.promised.served.orderly.faults.rises in
       omega (arith, range, on.looked.faults, served, closes.faults)
 
-  ends_so : (outcome : CloseEnd) (step_count travel_sum nodes : ℕ) → IsRun drive v.fixed.script v.fixed.moment start closed.drive closed.log outcome nodes
+  ends_so : (outcome : CloseEnd) (step_count travel_sum nodes : ℕ) → LeavesOwnIndexes drive v closed.drive outcome → IsRun drive v.fixed.script v.fixed.moment start closed.drive closed.log outcome nodes
       → step_count ≡ bounded (steps closed.log.events) → travel_sum ≡ bounded (travel closed.log.events)
       → EndsSo drive start closed.drive v.fixed.moment v.fixed.script closed.log (closed_end outcome step_count travel_sum nodes)
-  ends_so (close_ends.Done generation) step_count travel_sum nodes run steps_are travel_is =
-      record { closed = run.end; steps_are = steps_are; travel_is = travel_is; nodes_are = run.nodes_are }
-  ends_so (close_ends.Full need limit) step_count travel_sum nodes run steps_are travel_is = run.end
-  ends_so (close_ends.Fault counts) step_count travel_sum nodes run steps_are travel_is = run.end
-  ends_so close_ends.NoMemory step_count travel_sum nodes run steps_are travel_is = tt
+  ends_so (close_ends.Done generation) step_count travel_sum nodes left run steps_are travel_is = record {
+    closed = run.end;
+    steps_are = steps_are;
+    travel_is = travel_is;
+    nodes_are = run.nodes_are;
+    own = own_on_top drive v.fixed.script v.fixed.moment start v closed.drive closed.log closed.outcome closed.steps closed.travel closed.nodes played closes generation left;
+  }
+  ends_so (close_ends.Full need limit) step_count travel_sum nodes left run steps_are travel_is = run.end
+  ends_so (close_ends.Fault counts) step_count travel_sum nodes left run steps_are travel_is = run.end
+  ends_so close_ends.NoMemory step_count travel_sum nodes left run steps_are travel_is = tt
 
   was : drive.faults start ≤ 2 ^ 64 - 1
       → IsServedSo drive start closed.drive v.fixed.moment v.fixed.script closed.log (closed_end closed.outcome closed.steps closed.travel closed.nodes)
   was range = record {
     run = ran.run;
-    ends = ends_so closed.outcome closed.steps closed.travel closed.nodes ran
+    ends = ends_so closed.outcome closed.steps closed.travel closed.nodes own ran
         (closes.steps_are ∙ ap (λ events. bounded (steps events)) (sym closes.log_is.events))
         (closes.travel_is ∙ ap (λ events. bounded (travel events)) (sym closes.log_is.events));
     mounted = tree;
@@ -131,13 +142,13 @@ pub was_served : {D : Type 0} (drive : Ghosts D) → PlaysAreRuns drive → (sta
     → served.drive ≡ closed.drive → served.log ≡ Some closed.log → served.end ≡ closed_end closed.outcome closed.steps closed.travel closed.nodes
     → v.fixed ≡ begun.fixed → drive.faults start ≤ 2 ^ 64 - 1 → IsBegun drive start begun.fixed → IsServedWhole drive v
     → Closes cartridges (seen drive v.fixed.first) (seen drive v.drive) (seen drive closed.drive) v closed.drive closed.log closed.outcome closed.steps closed.travel closed.nodes
-    → Whole drive start begun.fixed.moment begun.fixed.script served
-was_served {D} drive plays start begun v closed served drive_is log_is end_is same range on whole closes =
+    → LeavesOwnIndexes drive v closed.drive closed.outcome → Whole drive start begun.fixed.moment begun.fixed.script served
+was_served {D} drive plays start begun v closed served drive_is log_is end_is same range on whole closes own =
     subst (λ d. IsWhole drive start d begun.fixed.moment begun.fixed.script served.log served.end) (sym drive_is)
     (subst (λ l. IsWhole drive start closed.drive begun.fixed.moment begun.fixed.script l served.end) (sym log_is)
     (subst (λ e. IsServedSo drive start closed.drive begun.fixed.moment begun.fixed.script closed.log e) (sym end_is)
     (subst (λ (f : Fixed D). IsServedSo drive start closed.drive f.moment f.script closed.log (closed_end closed.outcome closed.steps closed.travel closed.nodes)) same
-    (was drive plays start v closed (subst (IsBegun drive start) (sym same) on) whole closes range))))
+    (was drive plays start v closed (subst (IsBegun drive start) (sym same) on) whole closes own range))))
 
 -- ---- no call was made
 

@@ -1,5 +1,5 @@
 -- What serving the cartridge in a drive promises, by whether there is a log and by how it ended.
-use Rattle.std.specs.Prelude.{◌≡◌, ◌≤◌, ℕ, ◌+◌, ◌*◌, List, ◌++◌, length, Option, Some, None, IfSome, codes, decimal}
+use Rattle.std.specs.Prelude.{◌≡◌, ◌≤◌, ℕ, ◌+◌, ◌*◌, List, ◌++◌, length, reverse, Option, Some, None, IfSome, codes, decimal}
 use Rattle.std.specs.FinMap as fin
 use Rattle.tape_types.specs.declared.cartridges.Cartridge.{Cartridge}
 use Rattle.tape_types.specs.declared.moments.Moment.{Moment}
@@ -13,18 +13,22 @@ use Rattle.mount_recover.specs.Known.{mount_most}
 use Rattle.mount_recover.specs.Labels.{AreCounts}
 use Rattle.cartridge_meaning.specs.Carried.{Carried, carried}
 use Rattle.cartridge_meaning.specs.Faults.{MountFault}
-use Rattle.cartridge_meaning.specs.Meaning.{Reads}
+use Rattle.cartridge_meaning.specs.Labels.{HasLabels}
+use Rattle.cartridge_meaning.specs.Meaning.{Reads, ip_end}
 use Rattle.cartridge_meaning.specs.Mounts.{Mounts}
+use Rattle.cartridge_meaning.specs.Pointers.{indexes_of}
 use Rattle.cartridge_meaning.specs.declared.errors.MountErr.{MountErr}
 use Rattle.cartridge_meaning.specs.declared.errors.MountErr.TheVariants as errors
+use Rattle.cartridge_meaning.specs.declared.labels.Labels.{Labels}
 use Rattle.cartridge_meaning.specs.declared.mounted.Mounted.{Mounted}
 use Rattle.serving_promise.specs.Ends.{bounded}
-use Rattle.serving_promise.specs.Headline.{Closed, Failed, IsEndOf, Short, tree_of_log}
+use Rattle.serving_promise.specs.Headline.{Closed, Failed, IsEndOf, IsOn, Short, tree_of_log}
 use Rattle.serving_promise.specs.Meanings.{cartridges}
-use Rattle.serving_promise.specs.Served.{CanTell, Fixed}
+use Rattle.serving_promise.specs.Served.{CanTell, Fixed, given_of}
 use Rattle.serving_promise.specs.declared.answers.CloseEnd.{CloseEnd}
 use Rattle.serving_promise.specs.declared.answers.CloseEnd.TheVariants as closes
 use Rattle.order_laws.specs.Kept.{seen}
+use Rattle.closing_laws.specs.Owned.{HasOwn, all_places}
 use Rattle.run_laws.specs.Went.{IsRunBy}
 use Rattle.basic_commands.specs.Formats.{full_text}
 use Rattle.basic_commands.specs.Labels.{mount_status, mount_text}
@@ -67,6 +71,20 @@ IsUnserved held before now end = ⊥
 -- ---- all calls were made
 
 module _ {D : Type 0} (drive : Ghosts D) (start now : D) (at : Option Moment) (script : List ScriptLine) (log : Log) where
+  -- The top of the data partition are the run's own indexes, the newest first, in the order in which the history and the
+  -- close admit them, over those that stood there at the start. Each is a link of the chain, with the tree of its place,
+  -- and their generations go up by one from that of the mount.
+  pub record HasOwnOnTop (tree : Tree) (mounted : Mounted) (first : Cartridge) : Type 0 where
+    pub on : Option ℕ
+    pub on_is : IsOn (given_of script tree mounted (seen drive start)) log.events log.history on
+    pub held : Cartridge
+    pub told : drive.held now ≡ Some held
+    pub labels : Labels
+    pub has_labels : HasLabels held labels
+    pub label_is : mounted.label ≡ labels.ip
+    pub has : HasOwn mounted.label (ip_end held) held mounted.newest (tree_of_log script tree log)
+        (indexes_of first.dp) (reverse (all_places (given_of script tree mounted (seen drive start)) on log.history))
+
   -- The volume was closed, with this generation. So many steps of the head were made, over so many positions; and so
   -- many nodes has the tree of the whole history, where the cartridge read as a tree.
   pub record IsClosed (generation step_count travel_sum nodes : ℕ) : Type 0 where
@@ -77,6 +95,10 @@ module _ {D : Type 0} (drive : Ghosts D) (start now : D) (at : Option Moment) (s
         → CanTell (λ c. Reads c (carried mounted.index) tree mounted.newest × Mounts c mounted) (drive.commands start)
         (seen drive start)
         → nodes ≡ fin.len (tree_of_log script tree log (length log.history)).nodes
+    pub own : (tree : Tree) (mounted : Mounted) (first : Cartridge)
+        → CanTell (λ c. Reads c (carried mounted.index) tree mounted.newest × Mounts c mounted) (drive.commands start)
+        (seen drive start)
+        → drive.held start ≡ Some first → HasOwnOnTop tree mounted first
 
   -- that, or the close was short of space by these numbers, or a command of it failed, by these counts; without memory
   -- nothing is promised of the end

@@ -1,5 +1,5 @@
 -- A volume that is closed ends as is promised.
-use Rattle.std.proofs.Common.{◌≡◌, ℕ, ◌≤◌, ◌||◌, not, Bool, true, false, List, ◌++◌, length, Option, refl, sym, ap}
+use Rattle.std.proofs.Common.{◌≡◌, ℕ, ◌≤◌, ◌||◌, not, Bool, true, false, List, ◌++◌, length, Option, Some, refl, sym, ap}
 use Rattle.std.proofs.Common.{subst, ◌∙◌}
 use Rattle.std.specs.Prelude.{Result, Ok, Err}
 use Rattle.std.specs.FinMap as fin
@@ -27,15 +27,16 @@ use Rattle.volume_core.specs.Commands.{AreOpsDone, EndsWith}
 use Rattle.volume_core.specs.Finish as finish
 use Rattle.volume_core.specs.Finish.{AdmitsOnDp, AdmitsOnIp, Finishes, IsAdmittedOnIp, IsShortOnIp, close_end}
 use Rattle.volume_core.specs.Finish.{lasts_of, short_end}
-use Rattle.volume_core.specs.Promised.{CanClose, ClosesEnd, EndsAsPromised}
+use Rattle.closing_laws.specs.Owned.{LeavesOwn}
+use Rattle.volume_core.specs.Promised.{CanClose, ClosesEnd, EndsAsPromised, LeavesOwnIndexes}
 use Rattle.volume_core.proofs.Admitted as admitted
 use Rattle.volume_core.proofs.Alike.{known_alike}
 use Rattle.volume_core.proofs.Counts.{GoesOn, GoesTo, ends_to, ops_to, stays}
 use Rattle.volume_core.proofs.Crashing.{admitted_survives, now_survives, short_holds, short_survives}
 use Rattle.volume_core.proofs.DoneClose.{shown_done}
-use Rattle.volume_core.proofs.DoneLast.{shown_last}
+use Rattle.volume_core.proofs.DoneLast.{own_last, shown_last}
 use Rattle.volume_core.proofs.DoneNotes.{AllDone, all_done}
-use Rattle.volume_core.proofs.DoneStill.{shown_still}
+use Rattle.volume_core.proofs.DoneStill.{own_still, shown_still}
 use Rattle.volume_core.proofs.Keeping.{Survives}
 use Rattle.volume_core.proofs.Mid.{admitted_ip, mid_generation, mid_ops}
 use Rattle.volume_core.proofs.Nodes.{as_many}
@@ -69,8 +70,9 @@ module _ {D : Type 0} (drive : Ghosts D)
   -- what all ends share
   with_end : (new : D) (outcome : CloseEnd) → GoesOn drive p.drive new
       → TellsNodes outcome tree (fin.len p.stock.tree.nodes) → IsEndFor new outcome
-      → (CanServe drive fixed → Survives drive v new) → EndsAsPromised drive fixed next at p new outcome
-  with_end new outcome goes nodes end crash =
+      → (CanServe drive fixed → Survives drive v new) → LeavesOwnIndexes drive v new outcome
+      → EndsAsPromised drive fixed next at p new outcome
+  with_end new outcome goes nodes end crash own =
       let order = can.runs.kept.order.orderly in
       record {
         nodes = λ read. nodes;
@@ -80,6 +82,7 @@ module _ {D : Type 0} (drive : Ghosts D)
         limits = goes.limits ∙ order.limits;
         untold = λ none. goes.untold (order.untold none);
         crash = crash;
+        own = own;
       }
 
   -- ---- too little space
@@ -109,7 +112,7 @@ module _ {D : Type 0} (drive : Ghosts D)
               (admitted.held drive fixed next at p planned can.runs.tied) need limit short,
         )),
       )
-      (λ serve. now_survives drive fixed next at p can counts_now serve)
+      (λ serve. now_survives drive fixed next at p can counts_now serve) tt
 
   module _ (mid : Stocked) (dp : AdmitsOnDp at p.stock mid) where
     on_ip_end : (need limit : ℕ) (new : D) (result : Result Unit Twin) → IsShortOnIp at p.stock need limit
@@ -123,9 +126,9 @@ module _ {D : Type 0} (drive : Ghosts D)
           λ so. absurd (fits_dp (tape_on planned) g p.on p.listed.history at p.stock stock mid dp so),
           λ serve fits. holds serve,
         )
-        crash
+        crash tt
     on_ip_end need limit new (Err counts) short goes crash holds =
-        with_end new (outcomes.Fault counts) goes.goes tt goes.tells crash
+        with_end new (outcomes.Fault counts) goes.goes tt goes.tells crash tt
 
     -- ---- all was admitted
 
@@ -133,6 +136,21 @@ module _ {D : Type 0} (drive : Ghosts D)
     as_many_nodes = as_many (tape_on planned) p.stock.tree tree
         ((admitted.held drive fixed next at p planned can.runs.tied).plain
         ∙ are_replays g p.on p.listed.history (length p.listed.history))
+
+    -- all that is done on the tape, where an index goes to the index partition and where none does
+    all_last : (last : Stocked) (new : D) → IsAdmittedOnIp g st1 at mid last true
+        → AllDone drive last.layout.ops (lasts_of mid) true p.drive new
+        → AllDone drive ((p.stock.layout.ops ++ admitted.asked drive fixed next at p) ++ closing_ops drive fixed next at p can)
+        (lasts_of mid) true p.drive new
+    all_last last new ip all = subst (λ (l : List Op). AllDone drive l (lasts_of mid) true p.drive new)
+        (ip.1.ops
+        ∙ ap (λ (l : List Op). l ++ closing_ops drive fixed next at p can) (mid_ops drive fixed next at p can mid dp)) all
+
+    all_still : (last : Stocked) (new : D) → IsAdmittedOnIp g st1 at mid last false
+        → AllDone drive last.layout.ops (lasts_of mid) (not noted) p.drive new
+        → AllDone drive (p.stock.layout.ops ++ admitted.asked drive fixed next at p) (lasts_of mid) (not noted) p.drive new
+    all_still last new ip all = subst (λ (l : List Op). AllDone drive l (lasts_of mid) (not noted) p.drive new)
+        (ap (λ (s : Stocked). s.layout.ops) ip.1 ∙ mid_ops drive fixed next at p can mid dp) all
 
     shown_by : (last : Stocked) (due : Bool) (new : D) → IsAdmittedOnIp g st1 at mid last due
         → AllDone drive last.layout.ops (lasts_of mid) (due || not noted) p.drive new
@@ -143,11 +161,7 @@ module _ {D : Type 0} (drive : Ghosts D)
     shown_by last true new ip all read =
         shown_done drive fixed.first new fixed.mounted fixed.tree tree st1.space.newest mid.frame.generation
         (mid_generation drive fixed next at p can mid dp)
-        (shown_last drive fixed next at p can read mid dp ip.1.fits new
-        (subst (λ (l : List Op). AllDone drive l (lasts_of mid) true p.drive new)
-        (ip.1.ops
-        ∙ ap (λ (l : List Op). l ++ closing_ops drive fixed next at p can) (mid_ops drive fixed next at p can mid dp))
-        all))
+        (shown_last drive fixed next at p can read mid dp ip.1.fits new (all_last last new ip all))
     shown_by last false new ip all read =
         let quiet = still drive fixed next at p can counts_now read ip.0 in
         shown_done drive fixed.first new fixed.mounted fixed.tree tree st1.space.newest mid.frame.generation
@@ -155,8 +169,17 @@ module _ {D : Type 0} (drive : Ghosts D)
         (shown_still drive fixed next at p can read mid dp quiet noted new (sym is_noted)
         (known_alike read.held fixed.mounted (can.runs.closes.mounts read.held read.told) quiet.ip_done quiet.dp_done fixed.tree
         read.reads_as)
-        (subst (λ (l : List Op). AllDone drive l (lasts_of mid) (not noted) p.drive new)
-        (ap (λ (s : Stocked). s.layout.ops) ip.1 ∙ mid_ops drive fixed next at p can mid dp) all))
+        (all_still last new ip all))
+
+    own_by : (last : Stocked) (due : Bool) (new : D) → IsAdmittedOnIp g st1 at mid last due
+        → AllDone drive last.layout.ops (lasts_of mid) (due || not noted) p.drive new → CanRead drive fixed
+        → (first : Cartridge) → drive.held fixed.first ≡ Some first
+        → (held : Cartridge) × (drive.held new ≡ Some held) × LeavesOwn (drive.limits fixed.first) first held v
+    own_by last true new ip all read first told =
+        own_last drive fixed next at p can read mid dp ip.1.fits new (all_last last new ip all) first told
+    own_by last false new ip all read first told =
+        own_still drive fixed next at p can read mid dp (still drive fixed next at p can counts_now read ip.0) noted new
+        (sym is_noted) (all_still last new ip all) first told
 
     went_end : (last : Stocked) (due : Bool) (new : D) (result : Result Unit Twin) → AdmitsOnIp at p.stock mid last due
         → EndsWith drive last.layout.ops (lasts_of mid) (due || not noted) p.drive new result → GoesTo drive p.drive new result → (CanServe drive fixed → Survives drive v new)
@@ -169,14 +192,16 @@ module _ {D : Type 0} (drive : Ghosts D)
               (all_done drive last.layout.ops (lasts_of mid) (due || not noted) p.drive new (Ok done) ends refl) read,
         )
         crash
+        (λ read first told. own_by last due new (admitted_ip drive fixed next at p can mid dp last due ip)
+        (all_done drive last.layout.ops (lasts_of mid) (due || not noted) p.drive new (Ok done) ends refl) read first told)
     went_end last due new (Err counts) ip ends goes crash =
-        with_end new (outcomes.Fault counts) goes.goes tt goes.tells crash
+        with_end new (outcomes.Fault counts) goes.goes tt goes.tells crash tt
 
   ended : (new : D) (outcome : CloseEnd) → Finishes drive noted at p.stock p.drive new outcome
       → EndsAsPromised drive fixed next at p new outcome
   ended _ _ finish.no_memory =
       with_end p.drive outcomes.NoMemory (stays drive p.drive) tt refl
-      (λ serve. now_survives drive fixed next at p can counts_now serve)
+      (λ serve. now_survives drive fixed next at p can counts_now serve) tt
   ended _ _ (finish.short_on_dp need limit short) = on_dp_end need limit short
   ended _ _ (finish.short_on_ip need limit mid new result dp short does) =
       on_ip_end mid dp need limit new result short (ops_to drive mid.layout.ops p.drive new result does)

@@ -1,5 +1,5 @@
 -- What the data partition ends with behind the index of a close that goes there, or without one.
-use Rattle.std.proofs.Common.{◌≡◌, ℕ, ◌≤◌, ◌&&◌, not, Bool, true, false, List, [], length, Option, Some, None, refl}
+use Rattle.std.proofs.Common.{◌≡◌, ℕ, ◌≤◌, ◌&&◌, not, Bool, true, false, List, [], length, reverse, Option, Some, None, refl}
 use Rattle.std.proofs.Common.{sym, ap, subst, ◌∙◌, append-nil, arith}
 use Rattle.tape_types.specs.declared.cartridges.Cartridge.{Cartridge}
 use Rattle.tape_types.specs.declared.cartridges.Item.{Item}
@@ -17,7 +17,7 @@ use Rattle.cartridge_meaning.specs.declared.labels.Labels.{Labels}
 use Rattle.image_laws.specs.Made.{part_items}
 use Rattle.space_laws.specs.Closing.{close_ask, is_dp_due}
 use Rattle.space_laws.specs.Space as space
-use Rattle.space_laws.specs.Space.{Space, index, is_over, ops_of}
+use Rattle.space_laws.specs.Space.{Space, index, is_over, nothing, ops_of}
 use Rattle.space_laws.specs.Standing.{Given, Standing, rules, sync_text}
 use Rattle.serving_promise.specs.Served.{Fixed, View, tree_after}
 use Rattle.crash_laws.specs.Safe.{Planned, trees_of, volume_of}
@@ -25,6 +25,8 @@ use Rattle.promise_laws.specs.Kept.{CanRead}
 use Rattle.plan_laws.specs.Planned.{Items, with_ops}
 use Rattle.state_laws.specs.Parts.{Parts, view_of}
 use Rattle.closing_laws.specs.Indexed.{EndsWithTree, IsIndexed, IsOpen, cartridge_on}
+use Rattle.closing_laws.specs.Owned.{HasOwn, all_places}
+use Rattle.closing_laws.proofs.OwnLaw.{closing_own}
 use Rattle.closing_laws.proofs.Newest.{IsTold, ends_with_told, last_new, some_new, told_by}
 use Rattle.closing_laws.proofs.Opened.{indexed_ip, indexed_open}
 use Rattle.volume_core.specs.Promised.{CanClose}
@@ -78,6 +80,9 @@ module _ {D : Type 0} (drive : Ghosts D) (fixed : Fixed D) (next : Option Moment
   abbrev planned : Items
   planned = can.runs.planned
 
+  abbrev planned1 : Items
+  planned1 = admitted.planned1 drive fixed next at p can.runs.planned can.runs.tied
+
   abbrev text : List ℕ
   text = sync_text g st at
 
@@ -113,6 +118,27 @@ module _ {D : Type 0} (drive : Ghosts D) (fixed : Fixed D) (next : Option Moment
       (items_on fixed indexed.open_ends.labels planned) fits in
       subst (λ (l : Label). IsTold l facts tree (cartridge_on planned) st.space text) (sym indexed.open_ends.label_is)
       (told_by (volume_of q.labels v) (trees_of v) q.made st.space text due.0 due.1)
+
+  -- so it is of the index that the close asks for
+  pub closing_told : is_over (rules g) on st.space (close_ask g st at) ≡ false → (w : List ℕ)
+      → close_ask g st at ≡ index w → IsTold label facts tree (cartridge_on planned) st.space w
+  closing_told fits w is = by (is_dp_due g st.space) fits is
+    where
+      by : (due : Bool) → is_over (rules g) on st.space (admitted.ask_by due text) ≡ false
+          → admitted.ask_by due text ≡ index w → IsTold label facts tree (cartridge_on planned) st.space w
+      by true within same =
+          let texts : text ≡ w = (let e : index text ≡ index w = same in cc) in
+          subst (λ (l : List ℕ). IsTold label facts tree (cartridge_on planned) st.space l) texts (its_text within)
+      by false within same = absurd (let wrong : nothing ≡ index w = same in cc)
+
+  -- the indexes of the run with that one
+  pub closing_has : is_over (rules g) on st.space (close_ask g st at) ≡ false → (first : Cartridge)
+      → drive.held fixed.first ≡ Some first
+      → HasOwn label (length (planned1 Ip)) (cartridge_on planned1) fixed.mounted.newest (tree_after v)
+      (indexes_of first.dp) (reverse (all_places g p.on p.listed.history))
+  closing_has fits first told =
+      closing_own planned (drive.limits fixed.first) (indexes_of first.dp) v at (can.runs.closes.own read first told)
+      indexed can.runs.tied.ends size (closing_told fits)
 
   due_by : is_over (rules g) on st.space (index text) ≡ false
       → IsIndexedBy label facts tree (space_by true) (with_ops (ops_by true) planned)

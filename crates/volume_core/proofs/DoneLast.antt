@@ -1,5 +1,5 @@
 -- A close that is done, with an index on the index partition.
-use Rattle.std.proofs.Common.{◌≡◌, ◌≢◌, inl, ℕ, ◌≤◌, true, List, [], ◌∷◌, ◌++◌, length, Option, Some, None, IfSome}
+use Rattle.std.proofs.Common.{◌≡◌, ◌≢◌, inl, ℕ, ◌≤◌, true, List, [], ◌∷◌, ◌++◌, length, reverse, Option, Some, None, IfSome}
 use Rattle.std.proofs.Common.{refl, sym, ap, subst, ◌∙◌, append-nil, arith}
 use Rattle.tape_types.specs.declared.cartridges.Cartridge.{Cartridge}
 use Rattle.tape_types.specs.declared.cartridges.Item.{Item}
@@ -17,7 +17,7 @@ use Rattle.cartridge_meaning.specs.Meaning.{HasOneIndex}
 use Rattle.cartridge_meaning.specs.Pointers.{indexes_of, last_block}
 use Rattle.cartridge_meaning.specs.declared.labels.Labels.{Labels}
 use Rattle.image_laws.specs.Plans.{IsCloseDue}
-use Rattle.image_laws.proofs.Indexes.{construct_is, with_construct}
+use Rattle.image_laws.proofs.Indexes.{construct_is, some_blocks, with_construct}
 use Rattle.space_laws.specs.Closing.{close_limit, close_need, close_text}
 use Rattle.space_laws.specs.Standing.{Given, Standing}
 use Rattle.serving_promise.specs.Crash.{IsSound}
@@ -29,11 +29,13 @@ use Rattle.promise_laws.specs.Kept.{CanRead}
 use Rattle.plan_laws.specs.Planned.{Items}
 use Rattle.state_laws.specs.Parts.{Parts, view_of}
 use Rattle.closing_laws.specs.Indexed.{EndsWithTree}
+use Rattle.closing_laws.specs.Owned.{LeavesOwn, all_places}
+use Rattle.closing_laws.proofs.OwnLaw.{closed_on}
 use Rattle.volume_core.specs.Finish.{AdmitsOnDp, lasts_of}
 use Rattle.volume_core.specs.Promised.{CanClose}
 use Rattle.volume_core.proofs.Admitted as admitted
 use Rattle.volume_core.proofs.DoneClose.{IsShown}
-use Rattle.volume_core.proofs.DoneIndexed.{IsIndexedBy, alone_now, indexed_now, items_on, plan_on}
+use Rattle.volume_core.proofs.DoneIndexed.{IsIndexedBy, alone_now, closing_has, indexed_now, items_on, plan_on}
 use Rattle.volume_core.proofs.DoneNotes.{AllDone, AreBothNoted, notes_done}
 use Rattle.volume_core.proofs.DoneWent.{WentBehind, close_dp, close_ip, went_alike, went_consistent, went_dp_form}
 use Rattle.volume_core.proofs.DoneWent.{went_ip_form, went_labels, went_one, went_stands, went_tells}
@@ -172,10 +174,13 @@ module _ {D : Type 0} (drive : Ghosts D) (fixed : Fixed D) (next : Option Moment
               q.made due.0 went both.now ip_now dp_now);
         }
 
-    pub shown_last : (new : D)
-        → AllDone drive ops2 (lasts_of mid) true p.drive new
-        → IsShown drive fixed.first new fixed.mounted fixed.tree tree st1.space.newest
-    shown_last new all =
+    abbrev items : List Item
+    items = with_construct (planned1 Ip) (blocks_of fixed.mounted.label.block text)
+
+    -- all ops and both notes are done
+    last_both : (new : D) → AllDone drive ops2 (lasts_of mid) true p.drive new
+        → (c : Cartridge) × AreBothNoted drive labels.ip c new × (c.ip ≡ items) × (c.dp ≡ planned1 Dp)
+    last_both new all =
         let start = told_now in
         let done = does_there drive (planned2 drive fixed next at p can) ops2 [] p.drive all.mid all.does start.0
         (there_last drive fixed next at p can read room start.0 start.1) in
@@ -184,9 +189,37 @@ module _ {D : Type 0} (drive : Ghosts D) (fixed : Fixed D) (next : Option Moment
         let may = went_tells labels facts tree st1.space planned1 fixed.mounted.label.block text (trees_of v) q.made
         due.0 went done.0 ip_now dp_now (lasts_of mid) (mid_generation drive fixed next at p can mid dp)
         (mid_end drive fixed next at p can mid dp) (mid_last drive fixed next at p can mid dp) in
-        let block = dp_block (indexes_of (planned1 Dp)) indexed.told.some in
-        noted_last new done.0
-        (notes_done drive labels.ip (lasts_of mid) uuid_is block.0 (last_is block.0 block.1) all.mid new done.0
-        all.notes done.1.told
-        (closed_rests drive fixed next at p can (p.stock.layout.ops ++ admitted.asked drive fixed next at p) p.drive
-        all.mid all.does) may) ip_now dp_now
+        let block = dp_block (indexes_of (planned1 Dp)) indexed.told.some in (
+          done.0,
+          notes_done drive labels.ip (lasts_of mid) uuid_is block.0 (last_is block.0 block.1) all.mid new done.0
+              all.notes done.1.told
+              (closed_rests drive fixed next at p can (p.stock.layout.ops ++ admitted.asked drive fixed next at p)
+              p.drive all.mid all.does) may,
+          ip_now,
+          dp_now,
+        )
+
+    pub shown_last : (new : D) → AllDone drive ops2 (lasts_of mid) true p.drive new
+        → IsShown drive fixed.first new fixed.mounted fixed.tree tree st1.space.newest
+    shown_last new all = let last = last_both new all in noted_last new last.0 last.1 last.2 last.3
+
+    -- the indexes of the run are its top
+    pub own_last : (new : D) → AllDone drive ops2 (lasts_of mid) true p.drive new → (first : Cartridge)
+        → drive.held fixed.first ≡ Some first
+        → (held : Cartridge) × (drive.held new ≡ Some held) × LeavesOwn (drive.limits fixed.first) first held v
+    own_last new all first told =
+        let last = last_both new all in (
+          last.1.now,
+          last.1.told,
+          record {
+            labels = labels;
+            has_labels = went_labels labels facts tree st1.space planned1 fixed.mounted.label.block text (trees_of v)
+                q.made due.0 went last.1.now (last.1.ip ∙ last.2) (last.1.dp ∙ last.3);
+            label_is = indexed.open_ends.label_is;
+            has = closed_on fixed.mounted.label can.runs.tied.mount.letters.2 planned1 fixed.mounted.newest (tree_after v)
+                (indexes_of first.dp) (reverse (all_places g p.on p.listed.history))
+                (blocks_of fixed.mounted.label.block text) last.1.now indexed.open_ends.ip
+                (some_blocks fixed.mounted.label.block text some due.1.some) (last.1.ip ∙ last.2) (last.1.dp ∙ last.3)
+                (closing_has drive fixed next at p can read (fits drive fixed next at p can mid dp) first told);
+          },
+        )

@@ -1,5 +1,5 @@
 -- A close that is done, with no index to write.
-use Rattle.std.proofs.Common.{◌≡◌, ◌≢◌, ◌⊎◌, inl, inr, ℕ, ◌+◌, not, Bool, true, false, List, [], ◌∷◌, ◌++◌, length}
+use Rattle.std.proofs.Common.{◌≡◌, ◌≢◌, ◌⊎◌, inl, inr, ℕ, ◌+◌, not, Bool, true, false, List, [], ◌∷◌, ◌++◌, length, reverse}
 use Rattle.std.proofs.Common.{take, Option, Some, IfSome, refl, sym, ap, subst, ◌∙◌, append-nil, arith}
 use Rattle.std.proofs.lemmas.List.{take_all}
 use Rattle.tape_types.specs.declared.cartridges.Cartridge.{Cartridge}
@@ -13,7 +13,7 @@ use Rattle.ltfs_label.specs.declared.Label.{Label}
 use Rattle.content_laws.specs.Readings.{Construct, HasForm, first_of}
 use Rattle.tape_layout.specs.declared.ops.Op.{Op}
 use Rattle.cartridge_meaning.specs.Carried.{Carried, carried}
-use Rattle.cartridge_meaning.specs.Meaning.{AreAlike, IsTreeOf, Stands}
+use Rattle.cartridge_meaning.specs.Meaning.{AreAlike, IsTreeOf, Stands, ip_end}
 use Rattle.cartridge_meaning.specs.Mounts.{Mounts}
 use Rattle.cartridge_meaning.specs.Pointers.{IsLastOnDp, indexes_of, last_block}
 use Rattle.cartridge_meaning.proofs.Frame.{tree_stays}
@@ -35,6 +35,8 @@ use Rattle.plan_laws.specs.Planned.{Items}
 use Rattle.state_laws.specs.Parts.{Parts, view_of}
 use Rattle.closing_laws.specs.Closing.{IsAtRest}
 use Rattle.closing_laws.specs.Indexed.{EndsWithTree, cartridge_on}
+use Rattle.closing_laws.specs.Owned.{HasOwn, LeavesOwn, all_places}
+use Rattle.closing_laws.proofs.OwnLaw.{none_own}
 use Rattle.volume_core.specs.Finish.{AdmitsOnDp, lasts_of}
 use Rattle.volume_core.specs.Promised.{CanClose}
 use Rattle.volume_core.proofs.Admitted as admitted
@@ -46,6 +48,7 @@ use Rattle.volume_core.proofs.Settled.{none_done}
 use Rattle.volume_core.proofs.Same.{same_alike, same_consistent, same_labels, same_one, same_stands}
 use Rattle.volume_core.proofs.Still.{IsStill, dp_is, dp_last, ip_is, mounts_tell}
 use Rattle.volume_core.proofs.There.{dp_whole, way_now}
+use Rattle.volume_core.proofs.Unchanged.{unchanged}
 
 module _ {D : Type 0} (drive : Ghosts D) (fixed : Fixed D) (next : Option Moment) (at : Moment) (p : Parts D)
     (can : CanClose drive fixed next at p) (read : CanRead drive fixed) (mid : Stocked)
@@ -204,3 +207,31 @@ module _ {D : Type 0} (drive : Ghosts D) (fixed : Fixed D) (next : Option Moment
             (subst (λ (o : Option Cartridge). IfSome o (λ x. IsSound cartridges x)) read.told was).one_index;
         alike = alike_by both.now both.ip both.dp known;
       }
+
+  -- no index of the run is there
+  pub own_still : (noted : Bool) (new : D) → fixed.mounted.noted ≡ noted
+      → AllDone drive ops1 (lasts_of mid) (not noted) p.drive new → (first : Cartridge)
+      → drive.held fixed.first ≡ Some first
+      → (held : Cartridge) × (drive.held new ≡ Some held) × LeavesOwn (drive.limits fixed.first) first held v
+  own_still noted new is all first told =
+      let both = by_notes noted new is all in
+      let g = admitted.g drive fixed next at p in
+      let older = indexes_of first.dp in
+      let none : reverse (all_places g p.on p.listed.history) ≡ [] =
+      none_own can.runs.planned (drive.limits fixed.first) older v (can.runs.closes.own read first told)
+      (ap (λ (s : Space). s.newest) (unchanged g p.on p.listed.history quiet.changed quiet.admitted_none)) quiet.not_due in (
+        both.now,
+        both.told,
+        record {
+          labels = mounts.found.labels;
+          has_labels = same_labels c both.now both.ip both.dp mounts.found.labels mounts.found.forms.has;
+          label_is = mounts.label;
+          has = subst (λ (ks : List ℕ). HasOwn fixed.mounted.label (ip_end both.now) both.now fixed.mounted.newest
+              (tree_after v) older ks) (sym none) (record {
+                own = [];
+                links = ap indexes_of both.dp
+                    ∙ ap (λ (x : Cartridge). indexes_of x.dp) (some_same read.held first (sym read.told ∙ told));
+                trees = tt;
+              });
+        },
+      )

@@ -17,7 +17,7 @@ use Rattle.serving_promise.specs.declared.answers.CloseEnd.{CloseEnd}
 use Rattle.order_laws.specs.Kept.{seen}
 use Rattle.order_laws.proofs.PhaseLaw.{nothing_waits}
 use Rattle.state_laws.specs.Parts.{Parts, view_of}
-use Rattle.volume_core.specs.Promised.{CanClose, ClosesEnd, IsToClose}
+use Rattle.volume_core.specs.Promised.{CanClose, ClosesEnd, EndsAsPromised, IsToClose, LeavesOwnIndexes}
 use Rattle.volume_core.specs.Leaving.{IsClosed}
 use Rattle.volume_core.specs.Serving.{IsServing, next_moment}
 use Rattle.volume_core.proofs.Counting.{placed_within}
@@ -86,13 +86,28 @@ module _ {D : Type 0} (drive : Ghosts D) (law : ClosesEnd drive) (fixed : Fixed 
       let c = to_close drive fixed one next p v serving is nothing at moment in
       record { runs = c.runs; nothing = c.nothing; moment = c.moment; good = good }
 
+  -- what it shows
+  ended : (noted : Bool) (at : Moment) (new : D) (log : Log) (outcome : CloseEnd) (step_count travel_sum nodes : ℕ)
+      → noted ≡ fixed.mounted.noted → IfSome (next_moment one next) (λ m. at ≡ m)
+      → IsClosed drive noted at p new log outcome step_count travel_sum nodes
+      → EndsAsPromised drive fixed (next_moment one next) at p new outcome
+  ended noted at new log outcome step_count travel_sum nodes same moment c =
+      law fixed (next_moment one next) at p noted new outcome (can_close at moment c.good) same c.finishes
+
+  pub leaves_own : (noted : Bool) (at : Moment) (new : D) (log : Log) (outcome : CloseEnd)
+      (step_count travel_sum nodes : ℕ) → noted ≡ fixed.mounted.noted → IfSome (next_moment one next) (λ m. at ≡ m)
+      → IsClosed drive noted at p new log outcome step_count travel_sum nodes → LeavesOwnIndexes drive v new outcome
+  leaves_own noted at new log outcome step_count travel_sum nodes same moment c =
+      subst (λ (w : View D). LeavesOwnIndexes drive w new outcome) is
+      (ended noted at new log outcome step_count travel_sum nodes same moment c).own
+
   pub closes : (noted : Bool) (at : Moment) (new : D) (log : Log) (outcome : CloseEnd) (step_count travel_sum nodes : ℕ)
       → noted ≡ fixed.mounted.noted → IfSome (next_moment one next) (λ m. at ≡ m)
       → IsClosed drive noted at p new log outcome step_count travel_sum nodes
       → Closes cartridges (seen drive v.fixed.first) (seen drive v.drive) (seen drive new) v new log outcome step_count
       travel_sum nodes
   closes noted at new log outcome step_count travel_sum nodes same moment c =
-      let e = law fixed (next_moment one next) at p noted new outcome (can_close at moment c.good) same c.finishes in
+      let e = ended noted at new log outcome step_count travel_sum nodes same moment c in
       subst (λ (w : View D). Closes cartridges (seen drive w.fixed.first) (seen drive w.drive) (seen drive new) w new log
       outcome step_count travel_sum nodes) is record {
         log_is = record {

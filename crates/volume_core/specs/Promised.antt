@@ -1,6 +1,7 @@
 -- What the close of a volume shows, over any drive.
-use Rattle.std.specs.Prelude.{◌≡◌, ◌≤◌, Bool, Option, None, IfSome, length}
+use Rattle.std.specs.Prelude.{◌≡◌, ◌≤◌, Bool, Option, Some, None, IfSome, length}
 use Rattle.std.specs.FinMap as fin
+use Rattle.tape_types.specs.declared.cartridges.Cartridge.{Cartridge}
 use Rattle.tape_types.specs.declared.moments.Moment.{Moment}
 use Rattle.tape_drive.specs.declared.drive.Drive.{Ghosts}
 use Rattle.session_script.specs.Sessions.{greatest_session}
@@ -10,12 +11,14 @@ use Rattle.serving_promise.specs.Crash.{SurvivesCrashes}
 use Rattle.serving_promise.specs.Ends.{IsEnd, TellsNodes}
 use Rattle.serving_promise.specs.Marks.{NothingWaits}
 use Rattle.serving_promise.specs.Meanings.{cartridges}
-use Rattle.serving_promise.specs.Served.{Fixed, tree_after}
+use Rattle.serving_promise.specs.Served.{Fixed, View, tree_after}
 use Rattle.serving_promise.specs.declared.answers.CloseEnd.{CloseEnd}
+use Rattle.serving_promise.specs.declared.answers.CloseEnd.TheVariants as ends
 use Rattle.order_laws.specs.Kept.{seen}
 use Rattle.crash_laws.specs.Laws.{CanServe}
 use Rattle.promise_laws.specs.Kept.{CanRead}
 use Rattle.state_laws.specs.Parts.{Parts, view_of}
+use Rattle.closing_laws.specs.Owned.{LeavesOwn}
 use Rattle.call_laws.specs.Running.{IsRunning}
 use Rattle.volume_core.specs.Finish.{Finishes}
 
@@ -35,6 +38,14 @@ pub record CanClose {D : Type 0} (drive : Ghosts D) (fixed : Fixed D) (next : Op
   pub moment : IfSome next (λ m. at ≡ m)
   pub good : IsGood p.stock.tree
 
+-- A close that is done leaves the run's own indexes at the top of the data partition, over those that stood there at
+-- the start.
+abbrev pub LeavesOwnIndexes : {D : Type 0} → Ghosts D → View D → D → CloseEnd → Type 0
+LeavesOwnIndexes drive v new (ends.Done generation) = CanRead drive v.fixed → (first : Cartridge)
+    → drive.held v.fixed.first ≡ Some first
+    → (held : Cartridge) × (drive.held new ≡ Some held) × LeavesOwn (drive.limits v.fixed.first) first held v
+LeavesOwnIndexes drive v new _ = Unit {0}
+
 -- What its close gives, beside the log and what that has cost.
 pub record EndsAsPromised {D : Type 0} (drive : Ghosts D) (fixed : Fixed D) (next : Option Moment) (at : Moment)
     (p : Parts D) (new : D) (outcome : CloseEnd) : Type 0 where
@@ -48,6 +59,7 @@ pub record EndsAsPromised {D : Type 0} (drive : Ghosts D) (fixed : Fixed D) (nex
   pub untold : drive.held fixed.first ≡ None → drive.held new ≡ None
   pub crash : CanServe drive fixed → SurvivesCrashes cartridges (carried fixed.mounted.index)
       (tree_after (view_of fixed next p)) (length p.listed.history) p.trail.acks (seen drive new).leavings fixed.since
+  pub own : LeavesOwnIndexes drive (view_of fixed next p) new outcome
 
 -- A volume that is closed ends as is promised.
 abbrev pub ClosesEnd : {D : Type 0} → Ghosts D → Type 0

@@ -14,6 +14,7 @@ ghost use Rattle.order_laws.specs.Kept.{seen};
 ghost use Rattle.crash_laws.specs.May.{MayStart};
 ghost use Rattle.log_laws.specs.Acts.{Moves};
 ghost use Rattle.log_laws.specs.Loads.{load_of, taken_by, taken_by_drain};
+ghost use Rattle.volume_core.specs.Promised.{LeavesOwnIndexes};
 ghost use Rattle.volume_core.specs.Serving.{next_moment};
 
 use crate::closing::close;
@@ -219,10 +220,11 @@ impl<D: Drive, C: Clock> Volume<D, C> {
 
     /// Closes a volume in which nothing waits: what is due of its indexes is written, all ops are done, and the notes
     /// tell of the last indexes. The log is that of all calls; steps and travel are those of its events, without the
-    /// close's.
+    /// close's. Where the drive told a cartridge, the indexes that were put on the data partition are its top.
     pub fn close(self) -> Closed<D>
         requires { NothingWaits (greatest_session self.fixed.script) self.marks }
-        ensures { Closes cartridges (seen D.Drive self.fixed.first) (seen D.Drive self.drive)
+        ensures own { LeavesOwnIndexes D.Drive self result.drive result.outcome }
+        ensures closes { Closes cartridges (seen D.Drive self.fixed.first) (seen D.Drive self.drive)
             (seen D.Drive result.drive) self result.drive result.log result.outcome result.steps result.travel
             result.nodes }
     {
