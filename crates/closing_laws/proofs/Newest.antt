@@ -119,8 +119,8 @@ module _ (label : Label) (facts : Carried) (tree : Tree) (planned : Items) (s : 
   pub reads_new : IsLastOnDp label (indexes_of (with_ops asked planned Dp)) (Some its.told)
   reads_new = subst (λ (l : List Item). IsLastOnDp label (indexes_of l) (Some its.told)) (sym items_are) reads_put
 
-  pub within_new : AllByRecursion (FitsNode label (length (with_ops asked planned Ip)) (length (with_ops asked planned Dp)))
-      its.told.nodes
+  pub within_new : AllByRecursion
+      (FitsNode label (length (with_ops asked planned Ip)) (length (with_ops asked planned Dp))) its.told.nodes
   within_new = nodes_further label s.ends.ip s.ends.dp (length (with_ops asked planned Ip))
       (length (with_ops asked planned Dp)) further_ip further_dp its.told.nodes its.within
 

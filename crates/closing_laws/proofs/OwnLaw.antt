@@ -1,4 +1,4 @@
--- That the indexes which a history has admitted are the top of the data partition, from the start on and over each call.
+-- That the indexes which a history has admitted are the top of the data partition, from the start on.
 use Rattle.std.proofs.Common.{◌≡◌, ◌≢◌, inl, inr, ℕ, suc, ◌+◌, ◌<◌, ◌≤◌, if◌then◌else◌, Bool, true, false, List, [], ◌∷◌, ◌++◌, length, map}
 use Rattle.std.proofs.Common.{reverse, take, Option, Some, None, IfSome, refl, sym, ap, subst, ◌∙◌, append-nil, arith, length-append}
 use Rattle.std.specs.List.{AllByRecursion}
@@ -454,7 +454,7 @@ module _ {D : Type 0} where
   submitted planned limits older old new asked was indexed are adds fixed on (inr (placed, history)) ends size dues =
       let its = own_ask (given_by limits old) old.on old.history placed in
       let same : space.ops_of (rules (given_by limits old)) (is_on (facts_of old.fixed.mounted) old.on (length old.history))
-          (space_now limits old) its.ask ≡ asked =
+      (space_now limits old) its.ask ≡ asked =
       append_cancel_left old.ops _ asked (ap (λ (l : List Op). old.ops ++ l) (sym its.ops)
       ∙ sym (adds.placed placed history) ∙ are) in
       subst (λ (l : List Op). KeepsOwn (with_ops l planned) limits older new) same

@@ -40,8 +40,8 @@ module _ (g : Given) (on : Option ℕ) where
   abbrev at_end : List Placed → Standing
   at_end ps = standing g on ps (length ps)
 
-  -- So many indexes were admitted as the newest generation says; and as long as nothing changes, the tree is that of the
-  -- place of the last of them.
+  -- So many indexes were admitted as the newest generation says; and as long as nothing changes, the tree is that of
+  -- the place of the last of them.
   record Covers (ps : List Placed) : Type 0 where
     newest : (at_end ps).space.newest ≡ g.mounted.newest + length (own_places g on ps)
     early : (front : List ℕ) (j : ℕ) → own_places g on ps ≡ front ++ j ∷ [] → j ≤ length ps
@@ -138,7 +138,8 @@ module _ (g : Given) (on : Option ℕ) where
       subst Covers (append_assoc done (p ∷ []) rest) (along (done ++ p ∷ []) rest (goes_on done p was))
 
   -- those that come later stand behind
-  places_more : (done rest : List Placed) → (more : List ℕ) × (own_places g on (done ++ rest) ≡ own_places g on done ++ more)
+  places_more : (done rest : List Placed)
+      → (more : List ℕ) × (own_places g on (done ++ rest) ≡ own_places g on done ++ more)
   places_more done [] =
       ([], ap (own_places g on) (append-nil done) ∙ sym (append-nil (own_places g on done)))
   places_more done (p ∷ rest) =
@@ -153,10 +154,10 @@ module _ (g : Given) (on : Option ℕ) where
 
   -- ---- a sync that is done
 
-  unchanged : (v : Rules) (here : Bool) (s : Space) (text : List ℕ) (b : Bool) → s.changed ≡ b
-      → (space.after v here s (cond b (index text) nothing)).changed ≡ false
-  unchanged v here s text true is = refl
-  unchanged v here s text false is = is
+  unchanged : (v : Rules) (ip_on : Bool) (s : Space) (text : List ℕ) (b : Bool) → s.changed ≡ b
+      → (space.after v ip_on s (cond b (index text) nothing)).changed ≡ false
+  unchanged v ip_on s text true is = refl
+  unchanged v ip_on s text false is = is
 
   pub sync_covered : (front : List Placed) (p : Placed) (rest : List Placed) → p.fate ≡ fates.Done
       → call_at g.calls p ≡ Some Sync → own_places g on (front ++ p ∷ []) ≢ []

@@ -1,11 +1,11 @@
 -- The indexes that a run has put on the data partition of its volume, over those that stood there before.
-use Rattle.std.specs.Prelude.{ℕ, ◌≡◌, ◌≢◌, ◌+◌, ◌≤◌, ◌<◌, if◌then◌else◌, true, false, List, [], ◌∷◌, ◌++◌, length, reverse}
+use Rattle.std.specs.Prelude.{ℕ, ◌≡◌, ◌≢◌, ◌+◌, ◌≤◌, ◌<◌, if◌then◌else◌, List, [], ◌∷◌, ◌++◌, length, reverse}
 use Rattle.std.specs.Prelude.{Option, Some, None, IfSome}
 use Rattle.std.specs.List.{AllByRecursion, enumerate_from, flat_map}
 use Rattle.tape_types.specs.declared.cartridges.Cartridge.{Cartridge}
 use Rattle.tape_types.specs.declared.cartridges.Limits.{Limits}
 use Rattle.tape_types.specs.declared.cartridges.Part.{Part}
-use Rattle.tape_types.specs.declared.cartridges.Part.TheVariants.{Ip, Dp}
+use Rattle.tape_types.specs.declared.cartridges.Part.TheVariants.{Ip}
 use Rattle.tape_types.specs.declared.moments.Moment.{Moment}
 use Rattle.plain_tree.specs.History.{call_at}
 use Rattle.plain_tree.specs.Tree.{Tree}
@@ -26,7 +26,7 @@ use Rattle.cartridge_meaning.specs.Pointers.{IsOfVolume, PointsOnDp, indexes_of}
 use Rattle.cartridge_meaning.specs.declared.labels.Labels.{Labels}
 use Rattle.space_laws.specs.Closing.{is_dp_due}
 use Rattle.space_laws.specs.Space as space
-use Rattle.space_laws.specs.Space.{Ask, Space}
+use Rattle.space_laws.specs.Space.{Ask}
 use Rattle.space_laws.specs.Standing.{Given, Standing, ask_of, standing}
 use Rattle.serving_promise.specs.Ends.{begun}
 use Rattle.serving_promise.specs.Served.{Fixed, View, tree_after}
@@ -106,7 +106,8 @@ pub record HasOwn (label : Label) (end_ip : ℕ) (c : Cartridge) (newest : ℕ) 
 
 -- what is planned of the data partition has an index for each place at which the history has admitted one, over those
 -- that stood there at the start
-pub record KeepsOwn {D : Type 0} (planned : Items) (limits : Limits) (older : List Construct) (v : View D) : Type 0 where
+pub record KeepsOwn {D : Type 0} (planned : Items) (limits : Limits) (older : List Construct) (v : View D)
+    : Type 0 where
   pub has : HasOwn v.fixed.mounted.label (length (planned Ip)) (cartridge_on planned) v.fixed.mounted.newest
       (tree_after v) older (reverse (own_places (given_by limits v) v.on v.history))
   pub within : AllByRecursion (λ place. place ≤ length v.history)

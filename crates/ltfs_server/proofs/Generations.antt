@@ -220,6 +220,12 @@ runs_leave_generations drive old new moment script log generation tree mounted f
     let top = ends.own tree mounted first can told in
     let closed = (ends.ends tree mounted can).3 in
     let same : closed.held ≡ top.held = some_same closed.held top.held (sym closed.told ∙ top.told) in
-    let found = subst (λ (c : Cartridge). Found c) same closed.closed.stands.reads.found in
-    (top.held, top.told, (top.on, top.on_is,
-    generations drive old new moment script log tree mounted first top found))
+    let found = subst (λ (c : Cartridge). Found c) same closed.closed.stands.reads.found in (
+      top.held,
+      top.told,
+      (
+        top.on,
+        top.on_is,
+        generations drive old new moment script log tree mounted first top found,
+      ),
+    )

@@ -43,8 +43,8 @@ pub record LeavesGenerations (script : List ScriptLine) (tree : Tree) (mounted :
       → GenTree held found (standing g on log.history (length front + 1)).space.newest
       (tree_of_log script tree log (length front))
 
--- So each run leaves it that was closed, and that had begun with a drive that told a cartridge which read as a tree, with
--- nothing pending.
+-- So each run leaves it that was closed, and that had begun with a drive that told a cartridge which read as a tree,
+-- with nothing pending.
 abbrev pub RunsLeaveGenerations : {D : Type 0} → Ghosts D → Type 0
 RunsLeaveGenerations {D} drive = (old new : D) (moment : Option Moment) (script : List ScriptLine) (log : Log)
     (generation : ℕ) (tree : Tree) (mounted : Mounted) (first : Cartridge)

@@ -78,7 +78,8 @@ served_log (unclosed log) = Some log
 served_log (unwritten log) = Some log
 
 -- a close that is done leaves the run's own indexes at the top of the data partition
-abbrev pub LeavesOwn : {D : Type 0} → Ghosts D → (old new : D) → Option Moment → ServeEnd → List ScriptLine → Log → Type 0
+abbrev pub LeavesOwn : {D : Type 0} → Ghosts D → (old new : D) → Option Moment → ServeEnd → List ScriptLine → Log
+    → Type 0
 LeavesOwn drive old new moment (Closed generation) script log = (tree : Tree) (mounted : Mounted) (first : Cartridge)
     → CanTell (λ c. Reads c (carried mounted.index) tree mounted.newest × Mounts c mounted) (drive.commands old)
     (seen drive old)

@@ -1,5 +1,6 @@
 -- What serving the cartridge in a drive promises, by whether there is a log and by how it ended.
-use Rattle.std.specs.Prelude.{◌≡◌, ◌≤◌, ℕ, ◌+◌, ◌*◌, List, ◌++◌, length, reverse, Option, Some, None, IfSome, codes, decimal}
+use Rattle.std.specs.Prelude.{◌≡◌, ◌≤◌, ℕ, ◌+◌, ◌*◌, List, ◌++◌, length, reverse, Option, Some, None, IfSome}
+use Rattle.std.specs.Prelude.{codes, decimal}
 use Rattle.std.specs.FinMap as fin
 use Rattle.tape_types.specs.declared.cartridges.Cartridge.{Cartridge}
 use Rattle.tape_types.specs.declared.moments.Moment.{Moment}
@@ -71,9 +72,9 @@ IsUnserved held before now end = ⊥
 -- ---- all calls were made
 
 module _ {D : Type 0} (drive : Ghosts D) (start now : D) (at : Option Moment) (script : List ScriptLine) (log : Log) where
-  -- The top of the data partition are the run's own indexes, the newest first, in the order in which the history and the
-  -- close admit them, over those that stood there at the start. Each is a link of the chain, with the tree of its place,
-  -- and their generations go up by one from that of the mount.
+  -- The top of the data partition are the run's own indexes, the newest first, in the order in which the history and
+  -- the close admit them, over those that stood there at the start. Each is a link of the chain, with the tree of its
+  -- place, and their generations go up by one from that of the mount.
   pub record HasOwnOnTop (tree : Tree) (mounted : Mounted) (first : Cartridge) : Type 0 where
     pub on : Option ℕ
     pub on_is : IsOn (given_of script tree mounted (seen drive start)) log.events log.history on
@@ -86,7 +87,8 @@ module _ {D : Type 0} (drive : Ghosts D) (start now : D) (at : Option Moment) (s
         (indexes_of first.dp) (reverse (all_places (given_of script tree mounted (seen drive start)) on log.history))
 
   -- The volume was closed, with this generation. So many steps of the head were made, over so many positions; and so
-  -- many nodes has the tree of the whole history, where the cartridge read as a tree.
+  -- many nodes has the tree of the whole history, and the run's own indexes are the top of the data partition, where
+  -- the cartridge read as a tree.
   pub record IsClosed (generation step_count travel_sum nodes : ℕ) : Type 0 where
     pub closed : IsEndOf cartridges script (seen drive start) (seen drive now) log (Closed generation)
     pub steps_are : step_count ≡ bounded (steps log.events)
