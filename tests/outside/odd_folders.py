@@ -3,11 +3,12 @@
 
 usage: odd_folders.py PROGRAM
 
-Folders that are missing, that another program has claimed, or that can't be written; files that are no regular ones;
-headers and records that are damaged. Then a cartridge is formatted and served with standard streams that are closed,
-whose numbers the system gives to the next file that is opened.
+Folders that are missing, that are files, that another program has claimed, or that can't be written; files that are no
+regular ones, or were removed since the last run; headers and records that are damaged. Then a cartridge is formatted
+and served with standard streams that are closed, whose numbers the system gives to the next file that is opened.
 """
 import fcntl
+import itertools
 import os
 import pathlib
 import shutil
@@ -19,6 +20,7 @@ TIME = "2024-01-02T03:04:05.000000000Z"
 UUID = "30a91a08-daae-48d1-ae75-69804e61d2ea"
 NOBODY = 65534
 FAULT = (4, "drive 0 1\n")
+BLANK = (3, "volume Vol1 ip\n")
 COMMANDS = {
     "label": [], "list": [], "generations": [], "view": ["1"], "serve": ["--at", TIME], "make": ["1", "--at", TIME],
     "format": ["TAPE01", UUID, "--block", "4096", "--at", TIME],
@@ -74,6 +76,11 @@ class Trial:
         held = os.open(folder, os.O_RDONLY)
         fcntl.flock(held, fcntl.LOCK_EX)
         self.refuses("another program has it", folder)
+        fcntl.flock(held, fcntl.LOCK_SH)
+        self.refuses("another program reads it", folder, ("serve", "make", "format"))
+        for command in ("label", "list", "generations", "view"):
+            self.expect(f"{command} where another program reads it", self.run(command, self.right),
+                        self.run(command, folder))
         os.close(held)
         self.expect("list behind it", 0, self.run("list", folder)[0])
 
@@ -85,6 +92,28 @@ class Trial:
                 (folder / name).unlink()
                 make(folder / name)
                 self.refuses(f"{name} is {what}", folder, ("list", "serve", "format"))
+
+    def no_folder(self):
+        self.refuses("it is missing", self.where / "missing")
+        file = self.fresh() / "cm.img"
+        before = file.read_bytes()
+        for command in COMMANDS:
+            self.expect(f"{command} where it is a file", FAULT, self.run(command, file))
+        self.expect("the file", before, file.read_bytes())
+
+    def removed(self):
+        """No file that was removed is made anew, as long as another tells that there was a cartridge."""
+        names = ("cm.img", "ip.img", "dp.img")
+        for gone in (*((name,) for name in names), *itertools.combinations(names, 2)):
+            folder = self.fresh()
+            for name in gone:
+                (folder / name).unlink()
+            self.refuses(f"{' and '.join(gone)} went", folder)
+        folder = self.fresh()
+        for name in names:
+            (folder / name).unlink()
+        self.expect("label where all files went", BLANK, self.run("label", folder))
+        self.expect("files there", {}, files_of(folder))
 
     def damaged(self):
         cm, dp = ((self.right / name).read_bytes() for name in ("cm.img", "dp.img"))
@@ -122,7 +151,7 @@ class Trial:
         empty.mkdir()
         for path in (empty, folder, *folder.iterdir()):
             path.chmod(0o555 if path.is_dir() else 0o444)
-        self.expect("label of a blank folder", (3, "volume Vol1 ip\n"), self.run("label", empty, **how))
+        self.expect("label of a blank folder", BLANK, self.run("label", empty, **how))
         self.expect("format there", FAULT, self.run("format", empty, **how))
         self.expect("files there", {}, files_of(empty))
         self.expect("list of a cartridge", self.run("list", self.right), self.run("list", folder, **how))
@@ -147,8 +176,8 @@ def main():
     with tempfile.TemporaryDirectory() as where:
         pathlib.Path(where).chmod(0o755)
         trial = Trial(os.path.abspath(sys.argv[1]), pathlib.Path(where))
-        trial.refuses("it is missing", trial.where / "missing")
-        for step in (trial.claimed, trial.no_files, trial.damaged, trial.unwritable, trial.closed_streams):
+        for step in (trial.no_folder, trial.claimed, trial.no_files, trial.removed, trial.damaged, trial.unwritable,
+                     trial.closed_streams):
             step()
         print(f"{trial.tried} looked at, {trial.wrong} wrong")
     return 1 if trial.wrong else 0

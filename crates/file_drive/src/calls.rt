@@ -7,13 +7,22 @@ use std::os::fd::AsRawFd;
 use std::os::unix::fs::FileExt;
 use std::rt::Files;
 
+/// Who else may have a folder that is claimed.
+#[derive(Clone, Copy, Drop)]
+pub enum Claim {
+    /// Nobody.
+    Alone,
+    /// All who claim it so. None of them writes.
+    Shared,
+}
+
 /// The system's files, as a disk over a folder calls them.
 pub trait FolderCalls: Files + AllocGlobal + Drop {
     /// Opens a file, and never as a standard stream, also where one of these is closed.
     fn open_apart(&self, how: &OpenOptions, path: &str) -> io::Result<Self::File>;
 
-    /// Claims an open folder for this program alone, until it is closed. It fails where another program has it.
-    fn claim(&self, folder: &Self::File) -> io::Result<()>;
+    /// Claims an open folder until it is closed. It fails where another program's claim forbids it.
+    fn claim(&self, folder: &Self::File, claim: Claim) -> io::Result<()>;
 
     /// Fills the buffer with the bytes of a file from a place on.
     fn read_at(&self, file: &Self::File, at: u64, buf: &mut [u8]) -> io::Result<()>
@@ -32,8 +41,11 @@ impl FolderCalls for HostRuntime {
         Ok(file)
     }
 
-    fn claim(&self, folder: &File) -> io::Result<()> {
-        Ok(folder.try_lock()?)
+    fn claim(&self, folder: &File, claim: Claim) -> io::Result<()> {
+        match claim {
+            Claim::Alone => Ok(folder.try_lock()?),
+            Claim::Shared => Ok(folder.try_lock_shared()?),
+        }
     }
 
     fn read_at(&self, file: &File, at: u64, buf: &mut [u8]) -> io::Result<()> {

@@ -3,7 +3,7 @@ ghost use Rattle.std.specs.Prelude.{◌≡◌, ◌≤◌, ◌<◌, ◌^◌, ◌+
 ghost use Rattle.tape_types.specs.Counts.{HasCause};
 ghost use Rattle.byte_disk.specs.Commands.{IsOneMore};
 
-use crate::calls::FolderCalls;
+use crate::calls::{Claim, FolderCalls};
 use crate::folder::Folder;
 use byte_disk::{ByteDisk, DiskFault, File};
 use std::io;
@@ -11,9 +11,9 @@ use tape_types::NoMemory;
 
 /// A disk of byte files over three files of a folder: `ip.img`, `dp.img` and `cm.img`. It tells no content.
 ///
-/// The first command opens the folder, and claims it for this program alone. A command fails where the system refuses a
-/// call, where a range isn't within its file, and where one of the three is no regular file. Each sync after one that
-/// failed fails.
+/// The first command opens the folder, and claims it: for this program alone, or beside others that write nothing
+/// either. A command fails where the system refuses a call, where a range isn't within its file, where one of the three
+/// is no regular file, and where it would write under a claim that is shared. Each sync after one that failed fails.
 #[derive(Drop)]
 pub struct FolderDisk<R: FolderCalls> {
     folder: Folder<R>,
@@ -23,12 +23,12 @@ pub struct FolderDisk<R: FolderCalls> {
 
 impl<R: FolderCalls> FolderDisk<R> {
     /// A disk that has had no command. Nothing is opened yet; a folder that is missing is a fault of the first one.
-    pub fn new(rt: R, path: String) -> Result<FolderDisk<R>, NoMemory>
+    pub fn new(rt: R, path: String, claim: Claim) -> Result<FolderDisk<R>, NoMemory>
         ensures faults { IfOk result (λ d. d.faults ≡ 0) }
         ensures commands { IfOk result (λ d. d.commands ≡ 0) }
     {
         Ok(FolderDisk {
-            folder: Folder::new(rt, path)?,
+            folder: Folder::new(rt, path, claim)?,
             faults: 0,
             commands: 0,
         })

@@ -8,7 +8,7 @@ ghost use Rattle.tape_types.specs.Cartridges.{capacity, next};
 ghost use Rattle.tape_drive.specs.Commands.{after_read, Counted};
 ghost use Rattle.file_drive.specs.Sizes.{folder_limits};
 
-use crate::calls::FolderCalls;
+use crate::calls::{Claim, FolderCalls};
 use crate::stage::Stage;
 use crate::tape::folder_limits;
 use tape_drive::{Drive, DriveErr, Got};
@@ -29,15 +29,15 @@ pub struct FileDrive<R: FolderCalls> {
 }
 
 impl<R: FolderCalls> FileDrive<R> {
-    /// A drive that has had no command, with the room for all that a command needs. A folder that is missing is a
-    /// fault of the first one.
-    pub fn new(rt: R, folder: String) -> Result<FileDrive<R>, NoMemory>
+    /// A drive that has had no command, with the room for all that a command needs. A folder that is missing, or that
+    /// can't be claimed, is a fault of the first one. Under a claim that is shared each command that writes fails.
+    pub fn new(rt: R, folder: String, claim: Claim) -> Result<FileDrive<R>, NoMemory>
         ensures head { IfOk result (λ d. d.head ≡ None) }
         ensures faults { IfOk result (λ d. d.faults ≡ 0) }
         ensures commands { IfOk result (λ d. d.commands ≡ 0) }
     {
         Ok(FileDrive {
-            stage: Stage::new(rt, folder)?,
+            stage: Stage::new(rt, folder, claim)?,
             head: None,
             faults: 0,
             commands: 0,

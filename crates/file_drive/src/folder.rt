@@ -1,7 +1,7 @@
 // The folder, and the files of an image in it.
 ghost use Rattle.std.specs.Prelude.{◌≡◌, length};
 
-use crate::calls::FolderCalls;
+use crate::calls::{Claim, FolderCalls};
 use crate::image_files::{ImageFiles, name_of};
 use byte_disk::File;
 use std::fs::{self, OpenFile, OpenOptions};
@@ -9,11 +9,12 @@ use std::io::{self, ErrorKind};
 use tape_types::NoMemory;
 
 /// A folder that the first call opens and claims. Each of its files is opened by the first call on it, to be read, and
-/// once more by the first one that writes to it.
+/// once more by the first one that writes to it. Where the claim is shared, each call that writes fails.
 #[derive(Drop)]
 pub struct Folder<R: FolderCalls> {
     rt: R,
     path: String,
+    claim: Claim,
     folder: Option<R::File>,
     files: ImageFiles<R>,
     /// Whether a sync has failed. What the system has stored since then isn't known.
@@ -21,11 +22,12 @@ pub struct Folder<R: FolderCalls> {
 }
 
 impl<R: FolderCalls> Folder<R> {
-    pub fn new(rt: R, path: String) -> Result<Folder<R>, NoMemory> {
+    pub fn new(rt: R, path: String, claim: Claim) -> Result<Folder<R>, NoMemory> {
         let files = ImageFiles::new(rt.alloc())?;
         Ok(Folder {
             rt,
             path,
+            claim,
             folder: None,
             files,
             is_unsure: false,
@@ -75,6 +77,9 @@ impl<R: FolderCalls> Folder<R> {
         if self.files.of(file).is_writable() {
             return Ok(());
         }
+        if let Claim::Shared = self.claim {
+            return Err(ErrorKind::PermissionDenied.into());
+        }
         let Some(found) = self.open(file, true)? else {
             return Err(ErrorKind::NotFound.into());
         };
@@ -93,7 +98,7 @@ impl<R: FolderCalls> Folder<R> {
             return Err(ErrorKind::NotADirectory.into());
         }
         let folder = self.rt.open_apart(OpenOptions::new().read(true), path)?;
-        self.rt.claim(&folder)?;
+        self.rt.claim(&folder, self.claim)?;
         self.folder = Some(folder);
         Ok(())
     }

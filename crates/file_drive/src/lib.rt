@@ -13,6 +13,6 @@ mod image_files;
 mod stage;
 mod tape;
 
-pub use calls::FolderCalls;
+pub use calls::{Claim, FolderCalls};
 pub use disk::FolderDisk;
 pub use drive::FileDrive;

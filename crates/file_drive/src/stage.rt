@@ -5,7 +5,7 @@ ghost use Rattle.tape_types.specs.Cartridges.{capacity};
 ghost use Rattle.tape_drive.specs.Commands.{FillsBuffer};
 ghost use Rattle.file_drive.specs.Sizes.{folder_limits};
 
-use crate::calls::FolderCalls;
+use crate::calls::{Claim, FolderCalls};
 use crate::tape::{Closed, Opened};
 use tape_drive::{DriveErr, Got};
 use tape_types::{NoMemory, Note, Part, Place};
@@ -21,9 +21,9 @@ pub struct Stage<R: FolderCalls> {
 }
 
 impl<R: FolderCalls> Stage<R> {
-    pub(crate) fn new(rt: R, path: String) -> Result<Stage<R>, NoMemory> {
+    pub(crate) fn new(rt: R, path: String, claim: Claim) -> Result<Stage<R>, NoMemory> {
         Ok(Stage {
-            closed: Some(Closed::new(rt, path)?),
+            closed: Some(Closed::new(rt, path, claim)?),
             opened: None,
         })
     }

@@ -5,7 +5,7 @@ ghost use Rattle.tape_types.specs.Cartridges.{capacity};
 ghost use Rattle.tape_drive.specs.Commands.{FillsBuffer};
 ghost use Rattle.file_drive.specs.Sizes.{folder_limits};
 
-use crate::calls::FolderCalls;
+use crate::calls::{Claim, FolderCalls};
 use crate::disk::FolderDisk;
 use byte_disk::{ByteDisk, DiskFault, File};
 use image_format::Room;
@@ -46,10 +46,10 @@ impl<R: FolderCalls> Model for Closed<R> {
 }
 
 impl<R: FolderCalls> Closed<R> {
-    pub(crate) fn new(rt: R, path: String) -> Result<Closed<R>, NoMemory> {
+    pub(crate) fn new(rt: R, path: String, claim: Claim) -> Result<Closed<R>, NoMemory> {
         let room = Room::new(rt.alloc(), folder_limits())?;
         Ok(Closed {
-            disk: FolderDisk::new(rt, path)?,
+            disk: FolderDisk::new(rt, path, claim)?,
             room,
         })
     }

@@ -8,7 +8,7 @@ mod server;
 mod serves;
 mod twice;
 
-use file_drive::FileDrive;
+use file_drive::{Claim, FileDrive};
 use server::run;
 use std::alloc::{AllocError, Global};
 use std::env;
@@ -58,7 +58,18 @@ fn drive_of(
         Some(folder) => folder.clone()?,
         None => String::new(alloc),
     };
-    FileDrive::new(rt.clone()?, folder)
+    FileDrive::new(rt.clone()?, folder, claim_of(words))
+}
+
+/// How the folder is claimed. Commands that write have it alone; those that only read may have it side by side.
+fn claim_of(words: &Vec<String>) -> Claim {
+    let Some(command) = words.get(0) else {
+        return Claim::Shared;
+    };
+    match command.as_str() {
+        "format" | "serve" | "make" => Claim::Alone,
+        _ => Claim::Shared,
+    }
 }
 
 /// The words of the command line without the program's name.
