@@ -77,10 +77,10 @@ class Copy:
             module.write(f"#[cfg(test)]\nmod {inner} {{\n{text}}}\n")
         return tests_in(f"{outer}::{inner}", text)
 
-    def run(self, crate, only=None):
-        """Runs the tests of a crate, or those with this word in their names. Returns what came of each by its name, and
-        all that was said."""
-        words = ["rt", "try", "--test", "--seconds", str(SECONDS), *(["--", only] if only else [])]
+    def run(self, crate, only=None, how=()):
+        """Runs the tests of a crate, or those with this word in their names, with further words for the kit. Returns
+        what came of each by its name, and all that was said."""
+        words = ["rt", "try", "--test", "--seconds", str(SECONDS), *how, *(["--", only] if only else [])]
         ran = subprocess.run(words, cwd=self.source(crate).parent, stdin=subprocess.DEVNULL, capture_output=True)
         said = (ran.stdout + ran.stderr).decode(errors="backslashreplace")
         told, last = {}, None
