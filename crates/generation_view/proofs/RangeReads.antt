@@ -1,5 +1,5 @@
 -- The blocks of a range of a file, and what a read of it is answered.
-use Rattle.std.proofs.Common.{◌≡◌, ℕ, ◌-◌, ◌*◌, ◌<◌, ◌≤◌, ◌^◌, min, not, Bool, true, false, cond, List, [], ◌∷◌, ◌++◌, length, Option, Some, None, Result, Ok, Err, IfOk, is_none, refl, sym, ap, subst, ◌∙◌, arith}
+use Rattle.std.proofs.Common.{◌≡◌, ℕ, ◌+◌, ◌-◌, ◌*◌, ◌<◌, ◌≤◌, ◌^◌, min, not, Bool, true, false, cond, List, [], ◌∷◌, ◌++◌, length, Option, Some, None, Result, Ok, Err, IfOk, is_none, refl, sym, ap, subst, ◌∙◌, arith}
 use Rattle.std.specs.Prelude.{IfSome}
 use Rattle.std.specs.FinMap as fin
 use Rattle.std.specs.List.{AllByRecursion, filter, flat_map}
@@ -12,7 +12,7 @@ use Rattle.tape_drive.specs.Looks.{Looks}
 use Rattle.tape_drive.specs.declared.drive.Drive.{Ghosts}
 use Rattle.extent_map.specs.Blocks.{FileStandsIn}
 use Rattle.extent_map.specs.Cells.{Tape, file_cells, tape_of}
-use Rattle.extent_map.specs.Laid.{Room}
+use Rattle.extent_map.specs.Laid.{IsLaid, Laid, Room}
 use Rattle.extent_map.specs.Pieces.{planned, read_piece}
 use Rattle.extent_map.specs.Replies.{distinct, place_in, places_in, same_place, size_of}
 use Rattle.extent_map.specs.declared.pieces.Piece.{Piece}
@@ -40,10 +40,12 @@ use Rattle.file_tree.specs.declared.ready.Ready.TheVariants as readies
 use Rattle.file_tree.proofs.CallLemmas.{file_there}
 use Rattle.file_tree.proofs.WriteLemmas.{long_as}
 use Rattle.file_tree.proofs.RefusalLemmas.{no_file_alike, whole_read}
+use Rattle.extent_map.proofs.PieceLemmas.{plans_read}
+use Rattle.extent_map.proofs.ReplyLemmas.{range_long}
 use Rattle.held_volume.proofs.Asks.{has_laid}
 use Rattle.held_volume.proofs.Lies.{path_of, plain_there}
 use Rattle.held_volume.proofs.ReadPlans.{planned_within, range_within}
-use Rattle.held_volume.proofs.PieceStands.{StandsWhere, plan_stands}
+use Rattle.held_volume.proofs.PieceStands.{StandsWhere, pieces_long, plan_stands}
 use Rattle.waiting_reads.specs.Gathering.{got_or_damaged, read_answer}
 use Rattle.generation_view.specs.Reads.{AreBelow, ArePlanned, IsReadBy, blocks_of, blocks_of_kind, blocks_read}
 use Rattle.generation_view.specs.declared.errors.ReadErr.{ReadErr}
@@ -187,3 +189,54 @@ pub refused_read : (t : FileTree) (path : Path) (offset count : ℕ) (placed : R
     → IsPlaced t (asks.Read path offset count) placed → (tape : Tape) → answers.Refused r ≡ answer (plain_of tape t) (asks.Read path offset count)
 refused_read t path offset count placed r is p tape =
     sym (refused_whole t path offset count r (subst (λ (x : Result Ready Refusal). IsPlaced t (asks.Read path offset count) x) is p) tape)
+
+-- ---- how many blocks a range has
+
+filter_few : (test : Place → Bool) (places : List Place) → length (filter test places) ≤ length places
+filter_few test [] = omega arith
+filter_few test (p ∷ places) = by (test p) (filter_few test places)
+  where
+    by : (b : Bool) → length (filter test places) ≤ length places → length (cond b (p ∷ filter test places) (filter test places)) ≤ length (p ∷ places)
+    by true few = omega (arith, few)
+    by false few = omega (arith, few)
+
+distinct_few : (places : List Place) → length (distinct places) ≤ length places
+distinct_few [] = omega arith
+distinct_few (p ∷ places) = omega (arith, filter_few (λ other. not (same_place p other)) (distinct places), distinct_few places)
+
+places_few : (pieces : List Piece) → length (flat_map place_in pieces) ≤ length pieces
+places_few [] = omega arith
+places_few (Zeros count ∷ pieces) = omega (arith, places_few pieces)
+places_few (Stored place byte count ∷ pieces) = omega (arith, places_few pieces)
+
+planned_few : (f : Laid) (count : ℕ) → IsLaid f → length (places_in (planned f 0 (min count (f.length - 0)))) ≤ count
+planned_few f count laid =
+    omega (
+      arith,
+      distinct_few (flat_map place_in pieces),
+      places_few pieces,
+      pieces_long f.block_size pieces (plans_read.in_one_block f 0 within laid),
+      range_long f 0 within pieces short (λ tape. plans_read.read tape f 0 within laid short),
+    )
+  where
+    within : ℕ
+    within = min count (f.length - 0)
+
+    pieces : List Piece
+    pieces = planned f 0 within
+
+    short : 0 + within ≤ f.length
+    short = omega arith
+
+-- the first bytes of a file stand in no more blocks than they are
+pub blocks_few : (t : FileTree) (path : Path) (count : ℕ) → IsGood t → length (blocks_read t path 0 count) ≤ count
+blocks_few t path count good = by_node (fin.get t.nodes path) refl
+  where
+    by_kind : (node : Node) → fin.get t.nodes path ≡ Some node → (kind : Kind) → node.kind ≡ kind → length (blocks_of_kind 0 count kind) ≤ count
+    by_kind node here kinds.Dir is = omega arith
+    by_kind node here (kinds.Link text) is = omega arith
+    by_kind node here (kinds.File room) is = planned_few room.laid count (good.files path node room here is).lies
+
+    by_node : (o : Option Node) → fin.get t.nodes path ≡ o → length (blocks_of 0 count o) ≤ count
+    by_node None is = omega arith
+    by_node (Some node) is = by_kind node is node.kind refl

@@ -152,6 +152,7 @@ module _ (c : Cartridge) (found : Found c) (differ : found.labels.ip.index ≢ f
       generation_is = omega (arith, old, new);
       tree_is = (tree, is, refl);
     };
+    made = refl;
     k = ends.k;
     older = ends.older;
     stands = ends.stands;

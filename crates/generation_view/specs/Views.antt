@@ -89,6 +89,7 @@ item_ends c part = length (items_of part c)
 -- the tree of a generation is there, of the index that stands there, and names only blocks that the cartridge has
 pub record IsThere (c : Cartridge) (found : Found c) (generation : ℕ) (tree : FileTree) (spot : Spot) : Type 0 where
   pub gen : GenTree c found generation (plain_of (tape_of c) tree)
+  pub made : gen.tree_is.0 ≡ tree
   pub k : Construct
   pub older : List Construct
   pub stands : behind (indexes_of c.dp) gen.newer ≡ k ∷ older
@@ -133,10 +134,11 @@ pub record CanBeRead (told : Option Cartridge) (limits : Limits) (tree : FileTre
   pub room : LiesBelow (capacities limits) tree
   pub there : IfSome told (λ c. LiesBelow (item_ends c) tree)
 
--- A view shows the tree of a generation of a cartridge, and where its index stands.
+-- A view shows the tree of a generation of a cartridge, as its index has it, and where that stands.
 pub record IsViewOf (generation : ℕ) (c : Cartridge) (view : Opened) : Type 0 where
   pub found : Found c
   pub gen : GenTree c found generation (plain_of (tape_of c) view.tree)
+  pub made : gen.tree_is.0 ≡ view.tree
   pub k : Construct
   pub older : List Construct
   pub stands : behind (indexes_of c.dp) gen.newer ≡ k ∷ older

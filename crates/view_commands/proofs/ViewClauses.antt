@@ -37,7 +37,7 @@ use Rattle.basic_commands.specs.Outcomes.{IsListingTold, IsTold}
 use Rattle.basic_commands.specs.Runs.{IsOneOf, Looked, Written, looked}
 use Rattle.basic_commands.proofs.MountClauses.{among_all, among_refused}
 use Rattle.basic_commands.proofs.Told.{by_six, by_status, by_text, if_some, of_some}
-use Rattle.view_commands.specs.Outcomes.{ChainEnd, IsAnswerOf, IsChainEnd, IsReadTold, IsReplyTold, IsSeenOf, IsSeenTold, IsViewEnd, ViewEnd, all_told, answered, chain_status, chain_text, end_status, end_text, seen, seen_of, seen_part, unread, unseen, untold}
+use Rattle.view_commands.specs.Outcomes.{AreBlocksAt, AreBlocksFor, ChainEnd, IsAnswerOf, IsChainEnd, IsReadTold, IsReplyTold, IsSeenOf, IsSeenTold, IsViewEnd, ViewEnd, all_told, answered, chain_status, chain_text, end_status, end_text, seen, seen_of, seen_part, unread, unseen, untold}
 use Rattle.view_commands.specs.Promises.{AreGenerationsPrinted, DoesGenerations, DoesView, HasNoTree, IsFaultPrinted, IsPartSeen, IsRefusalPrinted, IsViewPrinted}
 use Rattle.view_commands.specs.Texts.{answer_line, generations_text, view_status, view_text}
 use Rattle.view_commands.proofs.Ends.{chain_done, drive_told, fault_told, memory_told, view_done, view_isnt, view_known}
@@ -192,7 +192,7 @@ view_whole asked drive (unseen e) c is held found tree gen still =
 module _ {D : Type 0} (asked : ViewWords) (drive : Ghosts D) (old new : D) (sink : Written) (status : ℕ) (log : Option Log) where
   -- so many commands as it is opened, and two for each block
   abbrev pub LooksSo : ℕ → Type 0
-  LooksSo blocks = Looks drive ((26 + 2 * (drive.limits old).cap_ip + 5 * (drive.limits old).cap_dp + 2 * blocks) * drive.MOST) old new
+  LooksSo blocks = AreBlocksFor asked (drive.held old) blocks × Looks drive ((26 + 2 * (drive.limits old).cap_ip + 5 * (drive.limits old).cap_dp + 2 * blocks) * drive.MOST) old new
 
   pub view_does : (end : ViewEnd) → IsViewEnd asked (looked drive old new) end → (blocks : ℕ) → LooksSo blocks → log ≡ None
       → IsTold (end_status end) (end_text end) sink status → DoesView asked drive old new sink status log
@@ -211,7 +211,7 @@ module _ {D : Type 0} (asked : ViewWords) (drive : Ghosts D) (old new : D) (sink
         complete = λ still quiet. if_some (drive.held old)
             (λ c. (found : Found c) (tree : Tree) → GenTree c found asked.generation tree → IsOneOf status (0 ∷ 7 ∷ []))
             (λ c held found tree gen. by_status (λ n. IsOneOf n (0 ∷ 7 ∷ [])) w t sink status told (view_whole asked saw end c is held found tree gen still) (λ rose. absurd (quiet rose)));
-        looks = (blocks, looks);
+        looks = (blocks, looks.0, looks.1);
         no_log = none;
         told = (end, is, told);
       }
@@ -224,6 +224,10 @@ module _ {D : Type 0} (asked : ViewWords) (drive : Ghosts D) (old new : D) (sink
       → IsTold (end_status end) (end_text end) sink status ⊎ IsTold 7 (codes "memory\n") sink status → DoesView asked drive old new sink status log
   view_or_memory end is blocks looks none (inl told) = view_does end is blocks looks none told
   view_or_memory end is blocks looks none (inr told) = view_does (unseen errors.NoMemory) starved blocks looks none told
+
+-- where none is read
+no_blocks_for : (asked : ViewWords) (held : Option Cartridge) → AreBlocksFor asked held 0
+no_blocks_for asked held = record { without = λ none. refl; those = λ path is. inl refl; few = omega arith }
 
 -- what a view shows of a cartridge
 seen_so : (generation : ℕ) (c : Cartridge) (view : Opened) → view.generation ≡ generation → IsViewOf generation c view → IsSeenOf generation c (seen_of (tape_of c) view)
@@ -249,8 +253,8 @@ module _ {D : Type 0} (asked : ViewWords) (drive : Ghosts D) (old mid : D) (view
   view_listed new sink status log same none path told = subst (λ d. DoesView asked drive old d sink status log) (sym same) (by (tape_told (drive.held old) sink status found told))
     where
       by_end : (l : Listing) → IfSome (drive.held old) (λ c. IsSeenOf asked.generation c l) → IsListingTold l sink status → DoesView asked drive old mid sink status log
-      by_end l is (inl all) = view_does asked drive old mid sink status log (seen l) (path, is) 0 no_blocks none all
-      by_end l is (inr part) = view_does asked drive old mid sink status log (seen_part l part.0) (path, is) 0 no_blocks none part.1
+      by_end l is (inl all) = view_does asked drive old mid sink status log (seen l) (path, is) 0 (no_blocks_for asked (drive.held old), no_blocks) none all
+      by_end l is (inr part) = view_does asked drive old mid sink status log (seen_part l part.0) (path, is) 0 (no_blocks_for asked (drive.held old), no_blocks) none part.1
 
       by : (l : Listing) × IfSome (drive.held old) (λ c. IsSeenOf asked.generation c l) × IsListingTold l sink status → DoesView asked drive old mid sink status log
       by all = by_end all.0 all.1 all.2
@@ -260,8 +264,8 @@ module _ {D : Type 0} (asked : ViewWords) (drive : Ghosts D) (old mid : D) (view
 
   -- the reply to a read through a view is told
   pub view_answered : (path : Path) (new : D) (sink : Written) (status : ℕ) (log : Option Log) → asked.path ≡ Some path → drive.faults old ≤ drive.faults mid
-      → IsReadTold drive view path mid new sink status log → DoesView asked drive old new sink status log
-  view_answered path new sink status log asks later read = by read.told
+      → length (blocks_read view.tree path 0 1048576) ≤ 1048576 → IsReadTold drive view path mid new sink status log → DoesView asked drive old new sink status log
+  view_answered path new sink status log asks later few read = by read.told
     where
       blocks : ℕ
       blocks = length (blocks_read view.tree path 0 1048576)
@@ -269,6 +273,24 @@ module _ {D : Type 0} (asked : ViewWords) (drive : Ghosts D) (old mid : D) (view
       both : Looks drive ((26 + 2 * (drive.limits old).cap_ip + 5 * (drive.limits old).cap_dp + 2 * blocks) * drive.MOST) old new
       both = subst (λ (most : ℕ). Looks drive most old new) (joined (26 + 2 * (drive.limits old).cap_ip + 5 * (drive.limits old).cap_dp) blocks drive.MOST)
           (then_looks drive ((26 + 2 * (drive.limits old).cap_ip + 5 * (drive.limits old).cap_dp) * drive.MOST) (2 * blocks * drive.MOST) old mid new looks read.looks)
+
+      are_blocks : AreBlocksFor asked (drive.held old) blocks
+      are_blocks = record {
+        without = λ none. absurd (none_or (sym none ∙ asks));
+        those = λ other is. inr (if_some (drive.held old) (λ c. AreBlocksAt asked.generation other c blocks) (there other (is_path other (sym asks ∙ is))));
+        few = few;
+      }
+        where
+          none_or : ◌≡◌ {A = Option Path} None (Some path) → ⊥
+          none_or e = cc e
+
+          is_path : (other : Path) → ◌≡◌ {A = Option Path} (Some path) (Some other) → path ≡ other
+          is_path other e = cc e
+
+          there : (other : Path) → path ≡ other → (c : Cartridge) → drive.held old ≡ Some c → AreBlocksAt asked.generation other c blocks
+          there other same c held =
+              let v = found c held in
+              (v.found, plain_of (tape_of c) view.tree, v.gen, ap (λ p. length (blocks_read view.tree p 0 1048576)) same ∙ ap (λ t. length (blocks_read t other 0 1048576)) (sym v.made))
 
       answer_so : (told : Answer) → ((c : Cartridge) → drive.held mid ≡ Some c → told ≡ answer (plain_of (tape_of c) view.tree) (Read path 0 1048576))
           → (c : Cartridge) → drive.held old ≡ Some c → IsAnswerOf asked.generation path c told
@@ -281,10 +303,10 @@ module _ {D : Type 0} (asked : ViewWords) (drive : Ghosts D) (old mid : D) (view
 
       by : IsReplyTold drive view path mid new sink status → DoesView asked drive old new sink status log
       by (inl (told, is, text)) = view_or_memory asked drive old new sink status log (answered told)
-          (path, asks, if_some (drive.held old) (λ c. IsAnswerOf asked.generation path c told) (answer_so told is)) blocks both read.no_log text
-      by (inr (inl (counts, rise, text))) = view_or_memory asked drive old new sink status log (unread counts) (since counts rise) blocks both read.no_log text
+          (path, asks, if_some (drive.held old) (λ c. IsAnswerOf asked.generation path c told) (answer_so told is)) blocks (are_blocks, both) read.no_log text
+      by (inr (inl (counts, rise, text))) = view_or_memory asked drive old new sink status log (unread counts) (since counts rise) blocks (are_blocks, both) read.no_log text
       by (inr (inr text)) = view_or_memory asked drive old new sink status log (unseen errors.NoMemory)
-          (if_some (drive.held old) (RefusesView asked.generation errors.NoMemory) (λ c held. tt), tt) blocks both read.no_log (inr text)
+          (if_some (drive.held old) (RefusesView asked.generation errors.NoMemory) (λ c held. tt), tt) blocks (are_blocks, both) read.no_log (inr text)
 
 -- ---- a read
 
@@ -323,7 +345,7 @@ module _ {D : Type 0} (asked : ViewWords) (drive : Ghosts D) (old mid new : D) (
       → DoesView asked drive old new sink status log
   view_unseen e same none is counts looks wanted status_is told = subst (λ d. DoesView asked drive old d sink status log) (sym same)
       (view_or_memory asked drive old mid sink status log (unseen e) (if_some (drive.held old) (RefusesView asked.generation e) is, counts) 0
-      (no_more (26 + 2 * (drive.limits old).cap_ip + 5 * (drive.limits old).cap_dp) looks) none
+      (no_blocks_for asked (drive.held old), no_more (26 + 2 * (drive.limits old).cap_ip + 5 * (drive.limits old).cap_dp) looks) none
       (subst (λ w. IsTold w (view_text e) sink status ⊎ IsTold 7 (codes "memory\n") sink status) status_is told))
     where
       no_more : (n : ℕ) → Looks drive (n * drive.MOST) old mid → Looks drive ((n + 2 * 0) * drive.MOST) old mid

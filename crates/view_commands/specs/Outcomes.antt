@@ -129,3 +129,17 @@ pub record IsReadTold {D : Type 0} (drive : Ghosts D) (view : Opened) (path : Pa
   pub later : drive.faults old ≤ drive.faults new
   pub looks : Looks drive (2 * length (blocks_read view.tree path 0 1048576) * drive.MOST) old new
   pub no_log : log ≡ None
+
+-- so many are the blocks in which the index of a generation has the first mebibyte of the file at a path
+abbrev pub AreBlocksAt : (generation : ℕ) → Path → Cartridge → ℕ → Type 0
+AreBlocksAt generation path c blocks =
+    (found : Found c) × (tree : Tree) × (gen : GenTree c found generation tree)
+    × (blocks ≡ length (blocks_read gen.tree_is.0 path 0 1048576))
+
+-- How many blocks are read for `view`: none without a path, nor where there is no view; else those in which the first
+-- mebibyte of the file stands, which are no more than it has bytes.
+pub record AreBlocksFor (asked : ViewWords) (held : Option Cartridge) (blocks : ℕ) : Type 0 where
+  pub without : asked.path ≡ None → blocks ≡ 0
+  pub those : (path : Path) → asked.path ≡ Some path
+      → (blocks ≡ 0) ⊎ IfSome held (λ c. AreBlocksAt asked.generation path c blocks)
+  pub few : blocks ≤ 1048576

@@ -26,8 +26,8 @@ use Rattle.basic_commands.specs.Labels.{mount_text}
 use Rattle.basic_commands.specs.Listings.{Listing, text_of_listing}
 use Rattle.basic_commands.specs.Outcomes.{IsTold}
 use Rattle.basic_commands.specs.Runs.{IsOneOf, Written, looked}
-use Rattle.view_commands.specs.Outcomes.{ChainEnd, IsAnswerOf, IsChainEnd, IsSeenOf, IsViewEnd, ViewEnd, chain_status}
-use Rattle.view_commands.specs.Outcomes.{chain_text, end_status, end_text}
+use Rattle.view_commands.specs.Outcomes.{AreBlocksFor, ChainEnd, IsAnswerOf, IsChainEnd, IsSeenOf, IsViewEnd, ViewEnd}
+use Rattle.view_commands.specs.Outcomes.{chain_status, chain_text, end_status, end_text}
 use Rattle.view_commands.specs.Texts.{answer_line, generations_text, view_status, view_text}
 
 -- the generations were printed, and where the drive told a cartridge they are its chain
@@ -107,8 +107,9 @@ pub record DoesView {D : Type 0} (asked : ViewWords) (drive : Ghosts D) (old new
       → IfSome (drive.held old) (λ c. (found : Found c) (tree : Tree) → GenTree c found asked.generation tree
       → IsOneOf status (0 ∷ 7 ∷ []))
   -- the cartridge is only looked at: as it is opened, and with two commands for each block that is read
-  pub looks : (blocks : ℕ) × Looks drive ((26 + 2 * (drive.limits old).cap_ip + 5 * (drive.limits old).cap_dp
-      + 2 * blocks) * drive.MOST) old new
+  pub looks : (blocks : ℕ) × AreBlocksFor asked (drive.held old) blocks
+      × Looks drive ((26 + 2 * (drive.limits old).cap_ip + 5 * (drive.limits old).cap_dp + 2 * blocks) * drive.MOST)
+      old new
   pub no_log : log ≡ None
   pub told : (end : ViewEnd) × IsViewEnd asked (looked drive old new) end
       × IsTold (end_status end) (end_text end) sink status

@@ -32,10 +32,13 @@ pub fn run_view<D: Drive, K: Sink>(
     let mut drive = drive;
     let ViewWords { generation, path } = asked;
     match open_view(alloc, &mut drive, generation) {
-        Ok(view) => match path {
-            None => write_view(alloc, view, drive, out),
-            Some(path) => read_view(alloc, view, path, drive, out),
-        },
+        Ok(view) => {
+            let _tree_is_good = view.tree().count();
+            match path {
+                None => write_view(alloc, view, drive, out),
+                Some(path) => read_view(alloc, view, path, drive, out),
+            }
+        }
         Err(error) => tell_made(
             out,
             view_text(alloc, error),

@@ -15,7 +15,7 @@ pub returns-in-Ok-There-clause-found : goal.returns-in-Ok-There-clause-found
 returns-in-Ok-There-clause-found g c = λ held h.
     let t = seen_there g.D.Drive c.begin-start.result c.args.drive.now c.seek.new.drive c.args.generation c.in-Ok-There.field-0 held c.in-Ok-There.tree c.in-Ok-There.spot
     c.in-Ok-There.field-0-is h c.in-Ok-There.ensures in
-    record { found = t.0; gen = t.1.gen; k = t.1.k; older = t.1.older; stands = t.1.stands; spot_is = t.1.spot_is }
+    record { found = t.0; gen = t.1.gen; made = t.1.made; k = t.1.k; older = t.1.older; stands = t.1.stands; spot_is = t.1.spot_is }
 
 pub returns-in-Ok-There-clause-looks : goal.returns-in-Ok-There-clause-looks
 returns-in-Ok-There-clause-looks g c =

@@ -1,3 +1,7 @@
+use Rattle.std.proofs.Common.{◌≤◌, length, subst}
+use Rattle.file_tree.specs.Tree.{FileTree}
+use Rattle.generation_view.specs.Reads.{blocks_read}
+use Rattle.generation_view.proofs.RangeReads.{blocks_few}
 use Rattle.view_commands.specs.Texts.{view_text}
 use Rattle.view_commands.proofs.ViewClauses.{view_answered, view_listed, view_unseen}
 use Rattle.view_commands.proofs.trees.run_view.Goals as goal
@@ -10,7 +14,9 @@ returns-in-None g c =
 pub returns-in-Some : goal.returns-in-Some
 returns-in-Some g c =
     view_answered c.args.asked g.D.Drive c.args.drive c.open_view.new.drive c.in-Ok.view c.in-Ok.ensures.opened.generation_is c.in-Ok.ensures.found c.in-Ok.ensures.looks c.in-Some.path
-    _ _ _ _ c.in-Some.is c.in-Ok.ensures.counts.later c.read_view.ensures
+    _ _ _ _ c.in-Some.is c.in-Ok.ensures.counts.later
+    (subst (λ (t : FileTree). length (blocks_read t c.in-Some.path 0 1048576) ≤ 1048576) c.tree.ensures (blocks_few c.tree.result.now c.in-Some.path 1048576 c.count-tree_is_good.ensures.good))
+    c.read_view.ensures
 
 pub returns-in-Err : goal.returns-in-Err
 returns-in-Err g c =
