@@ -17,7 +17,7 @@ from cases import TOP, Difference, chosen, run_group
 LIBRARIES = TOP / "tests" / "crates"
 ENDING = ".rt.in"
 # How long the tests of one crate may take, in seconds.
-SECONDS = 1_800
+SECONDS = 3_600
 TEST = re.compile(r"^ *#\[test\]\n(?: *#\[.*\]\n)* *fn (\w+)", re.M)
 TOLD = re.compile(r"^test (\S+) \.\.\. (\w+)$")
 
