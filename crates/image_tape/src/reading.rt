@@ -56,16 +56,24 @@ impl<B: ByteDisk> ImageTape<B> {
         if let Err(why) = self.fetch(part, from, &mut bytes) {
             return Err(why);
         }
-        buf.clear();
         match decode_head(&bytes) {
             Some(Head::Block(size)) => self.read_block(part, from.saturating_add(5), size, buf),
-            Some(Head::Mark) => Ok(Got::Mark),
-            Some(Head::Torn) => Ok(Got::Torn),
-            None => Ok(Got::Torn),
+            Some(Head::Mark) => {
+                buf.clear();
+                Ok(Got::Mark)
+            }
+            Some(Head::Torn) => {
+                buf.clear();
+                Ok(Got::Torn)
+            }
+            None => {
+                buf.clear();
+                Ok(Got::Torn)
+            }
         }
     }
 
-    // Reads so many bytes from there on.
+    // Reads so many bytes from there on, in place of what the buffer has.
     fn read_block(
         &mut self,
         part: Part,
@@ -74,7 +82,6 @@ impl<B: ByteDisk> ImageTape<B> {
         buf: &mut Vec<u8>,
     ) -> Result<Got, DriveErr>
         requires room { 1048576 ≤ vec_capacity buf.old }
-        requires empty { length buf.old.items ≡ 0 }
         requires least { 1 ≤ size }
         requires most { size ≤ 1048576 }
         requires within { IfSome (B.held self.old.slots.disk) (λ d. from + size ≤ length (bytes_of (file_of part) d)) }

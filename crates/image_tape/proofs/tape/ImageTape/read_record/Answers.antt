@@ -33,10 +33,10 @@ returns-in-Some-Mark-clause-item g c =
 pub returns-in-Some-Torn-clause-item : goal.returns-in-Some-Torn-clause-item
 returns-in-Some-Torn-clause-item g c =
     let is = sym c.decode_head.ensures ∙ c.in-Some-Torn.is ∙ ap some_head c.in-Some-Torn.field-0-is in
-    subst (λ (l : List ℕ). ReadsRecord c.args.part c.args.from (g.B.ByteDisk.held c.args.self.now.slots.disk) got.Torn l) (sym c.clear.ensures.items)
+    subst (λ (l : List ℕ). ReadsRecord c.args.part c.args.from (g.B.ByteDisk.held c.args.self.now.slots.disk) got.Torn l) (sym c.clear-in-Some-Torn.ensures.items)
     (torn_item c.args.part c.args.from _ c.fetch.new.buf c.in_default.ensures.value is)
 
 pub returns-in-None-clause-item : goal.returns-in-None-clause-item
 returns-in-None-clause-item g c =
-    subst (λ (l : List ℕ). ReadsRecord c.args.part c.args.from (g.B.ByteDisk.held c.args.self.now.slots.disk) got.Torn l) (sym c.clear.ensures.items)
+    subst (λ (l : List ℕ). ReadsRecord c.args.part c.args.from (g.B.ByteDisk.held c.args.self.now.slots.disk) got.Torn l) (sym c.clear-in-None.ensures.items)
     (none_item c.args.part c.args.from _ c.fetch.new.buf c.in_default.ensures.value (sym c.decode_head.ensures ∙ c.in-None.is))
