@@ -377,7 +377,7 @@ module _ {D : Type 0} (words : List (String Global)) (gives : Gives) (one : Opti
         label = λ label. label_does drive old new sink status log (unlabelled errors.NoMemory) (if_some (drive.held old) _ (λ c held. tt), tt) (looks_no _ same range) (no_log, told);
         list = λ list. list_does drive old new sink status log (unlisted errors.NoMemory) (if_some (drive.held old) _ (λ c held. tt), tt) (looks_no _ same range) (no_log, told);
         generations = λ generations. chain_does drive old new sink status log (untold view_errors.NoMemory) (if_some (drive.held old) _ (λ c held. tt), tt) (looks_no _ same range) no_log told;
-        view = λ asked view. view_does asked drive old new sink status log (unseen view_errors.NoMemory) (if_some (drive.held old) _ (λ c held. tt), tt) 0 (looks_no _ same range) no_log told;
+        view = λ asked view. view_does asked drive old new sink status log (unseen view_errors.NoMemory) (if_some (drive.held old) _ (λ c held. tt), tt) 0 (record { without = λ none. refl; those = λ path is. inl refl; few = omega arith }, looks_no _ same range) no_log told;
         format = λ asked format. format_does drive old new asked gives sink status log (unformatted refusals.NoMemory) same (subst (λ (d : D). Goes drive old d) (sym same) (goes_still drive old)) (no_log, told);
         serve = λ at are. serve_does drive old new (one_moment at one) source sink log status (unscripted unread.NoMemory) tt (λ none. looks_no _ same range) (ap drive.limits same) (λ held. ap drive.held same ∙ held) (no_log, told);
         make = λ n time are. make_does drive old new (one_moment time one) n sink log status (unmade errors.NoMemory) (if_some (drive.held old) _ (λ c held. tt), tt) (λ none. looks_no _ same range) (ap drive.limits same) (λ held. ap drive.held same ∙ held) (no_log, told);
