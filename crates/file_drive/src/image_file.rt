@@ -1,6 +1,7 @@
 // A file of an image. One that is missing counts as empty.
 ghost use Rattle.std.specs.Prelude.{◌≡◌, length};
 
+use crate::ahead::Ahead;
 use crate::calls::FolderCalls;
 use std::alloc::Global;
 use std::fs::OpenFile;
@@ -25,6 +26,7 @@ pub struct ImageFile<R: FolderCalls> {
     held: Vec<u8>,
     /// How many bytes are held back at most.
     most: usize,
+    ahead: Ahead,
 }
 
 impl<R: FolderCalls> ImageFile<R> {
@@ -39,6 +41,7 @@ impl<R: FolderCalls> ImageFile<R> {
             held_from: 0,
             held: Vec::with_capacity(alloc, most)?,
             most,
+            ahead: Ahead::new(alloc)?,
         })
     }
 
@@ -87,8 +90,9 @@ impl<R: FolderCalls> ImageFile<R> {
         if end > self.held_from {
             self.write_out(rt)?;
         }
+        let written = self.written();
         match &self.file {
-            Some(file) => rt.read_at(file, at, buf),
+            Some(file) => self.ahead.read(rt, file, at, buf, written),
             None => Err(ErrorKind::UnexpectedEof.into()),
         }
     }
@@ -104,6 +108,7 @@ impl<R: FolderCalls> ImageFile<R> {
             self.held_from = at;
         }
         self.is_durable = false;
+        self.ahead.forget(at, end);
         if bytes.len() > self.most {
             self.write_at(rt, at, bytes)?;
         } else {
@@ -124,6 +129,15 @@ impl<R: FolderCalls> ImageFile<R> {
         }
         self.is_durable = true;
         Ok(())
+    }
+
+    // How many bytes of it nothing that is held back is put in place of or behind.
+    fn written(&self) -> u64 {
+        if self.held.is_empty() {
+            self.length
+        } else {
+            self.held_from
+        }
     }
 
     // Whether so many bytes from a place on follow those that are held back, and are held back with them.

@@ -4,6 +4,7 @@
 //! missing counts as empty; the first command that writes makes it.
 #![tactic(auto)]
 
+mod ahead;
 mod calls;
 mod disk;
 mod drive;
