@@ -77,10 +77,10 @@ class Copy:
             module.write(f"#[cfg(test)]\nmod {inner} {{\n{text}}}\n")
         return tests_in(f"{outer}::{inner}", text)
 
-    def run(self, crate, only=None, how=()):
+    def run(self, crate, only=None, how=(), rt="rt"):
         """Runs the tests of a crate, or those with this word in their names, with further words for the kit. Returns
         what came of each by its name, and all that was said."""
-        words = ["rt", "try", "--test", "--seconds", str(SECONDS), *how, *(["--", only] if only else [])]
+        words = [rt, "try", "--test", "--seconds", str(SECONDS), *how, *(["--", only] if only else [])]
         ran = subprocess.run(words, cwd=self.source(crate).parent, stdin=subprocess.DEVNULL, capture_output=True)
         said = (ran.stdout + ran.stderr).decode(errors="backslashreplace")
         told, last = {}, None
@@ -99,14 +99,14 @@ def tests_in(module, text):
     return [f"{module}::{name}" for name in TEST.findall(text)]
 
 
-def run_tests(copy, tests, words):
+def run_tests(copy, tests, words, rt="rt"):
     """Runs a group whose cases are tests of crates. `tests` has the names of its tests for each crate; where there is
     more than one crate, the names of cases begin with theirs. Returns the status."""
     named = {f"{crate}/{name}" if len(tests) > 1 else name: (crate, name) for crate in tests for name in tests[crate]}
     wanted = [named[it] for it in chosen(named, words)]
     only = wanted[0][1] if len(wanted) == 1 else None
     with concurrent.futures.ThreadPoolExecutor(os.cpu_count()) as pool:
-        runs = {crate: pool.submit(copy.run, crate, only) for crate in dict.fromkeys(it for it, _ in wanted)}
+        runs = {crate: pool.submit(copy.run, crate, only, (), rt) for crate in dict.fromkeys(it for it, _ in wanted)}
 
         def came_of(crate, name):
             told, said = runs[crate].result()
