@@ -110,11 +110,13 @@ of_told : (held : Option Cartridge) (found : FoundTree) (sink : Written) (status
 of_told None found sink status is told = (listing_of whole found, tt, told whole)
 of_told (Some c) found sink status is told = (listing_of (tape_of c) found, is c refl, told (tape_of c))
 
-pub found_listed : {D : Type 0} (drive : Ghosts D) (old new : D) (sink : Written) (status : ℕ) (found : FoundTree)
-    → ((c : Cartridge) → drive.held old ≡ Some c → IsListingOf c (listing_of (tape_of c) found)) → ((tape : Tape) → IsListingTold (listing_of tape found) sink status)
+pub found_listed : {D : Type 0} (drive : Ghosts D) (old new : D) (sink : Written) (status wanted : ℕ) (found : FoundTree)
+    → ((c : Cartridge) → drive.held old ≡ Some c → IsListingOf c (listing_of (tape_of c) found))
+    → status ≡ wanted → ((tape : Tape) → IsListingTold (listing_of tape found) sink wanted)
     → Looks drive (mount_most (drive.limits old) * drive.MOST) old new
     → DoesList drive old new sink status None
-found_listed drive old new sink status found is told looks = by_told (of_told (drive.held old) found sink status is told)
+found_listed drive old new sink status wanted found is status_is told looks =
+    by_told (of_told (drive.held old) found sink status is (λ tape. subst (λ n. IsListingTold (listing_of tape found) sink n) (sym status_is) (told tape)))
   where
     by_end : (l : Listing) → IfSome (drive.held old) (λ c. IsListingOf c l) → IsListingTold l sink status → DoesList drive old new sink status None
     by_end l known (inl all) = list_does drive old new sink status None (listed l) known looks (refl, all)

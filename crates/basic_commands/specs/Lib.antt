@@ -7,3 +7,4 @@ pub mod Promises
 pub mod Runs
 pub mod Scripts
 pub mod Sessions
+pub mod Statuses

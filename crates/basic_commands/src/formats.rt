@@ -4,8 +4,9 @@ ghost use Rattle.format_volume.specs.Refusals.{spec_fault};
 ghost use Rattle.basic_commands.specs.Formats.{format_status, format_text, formatted_text, full_text};
 ghost use Rattle.basic_commands.specs.Promises.{DoesFormat};
 ghost use Rattle.basic_commands.specs.Runs.{written};
+ghost use Rattle.basic_commands.specs.Statuses.{status_number};
 
-use crate::ended::Ended;
+use crate::ended::{Ended, Status};
 use crate::labels::drive_text;
 use crate::session::moment;
 use crate::telling::{bytes_of, tell, tell_made};
@@ -33,13 +34,13 @@ pub fn run_format<D: Drive, K: Sink, C: Clock>(
     let at = moment(asked.at, &mut clock);
     let line = match formatted_text(alloc, asked.volume.uuid) {
         Ok(line) => line,
-        Err(NoMemory) => return tell(out, b"memory\n", 7, None, drive),
+        Err(NoMemory) => return tell(out, b"memory\n", Status::NoMemory, None, drive),
     };
     let mut spec = asked.volume;
     spec.at = at;
     let mut drive = drive;
     match format(alloc, &mut drive, &spec) {
-        Ok(()) => tell(out, line.as_slice(), 0, None, drive),
+        Ok(()) => tell(out, line.as_slice(), Status::Done, None, drive),
         Err(error) => tell_made(
             out,
             format_text(alloc, error),
@@ -80,13 +81,13 @@ fn format_text(alloc: Global, error: FormatErr) -> Result<Bytes, NoMemory>
     }
 }
 
-fn format_status(error: FormatErr) -> u8
-    ensures { result ≡ format_status error }
+fn format_status(error: FormatErr) -> Status
+    ensures { status_number result ≡ format_status error }
 {
     match error {
-        FormatErr::BadSpec(_) => 1,
-        FormatErr::Full { .. } => 8,
-        FormatErr::Drive(_) => 4,
-        FormatErr::NoMemory => 7,
+        FormatErr::BadSpec(_) => Status::Words,
+        FormatErr::Full { .. } => Status::Full,
+        FormatErr::Drive(_) => Status::Drive,
+        FormatErr::NoMemory => Status::NoMemory,
     }
 }

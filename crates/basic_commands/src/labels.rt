@@ -3,8 +3,9 @@ ghost use Rattle.basic_commands.specs.Labels.{facts_text, label_line, labels_tex
 ghost use Rattle.basic_commands.specs.Labels.{place_line, truth_name, volume_text};
 ghost use Rattle.basic_commands.specs.Promises.{DoesLabel};
 ghost use Rattle.basic_commands.specs.Runs.{written};
+ghost use Rattle.basic_commands.specs.Statuses.{status_number};
 
-use crate::ended::Ended;
+use crate::ended::{Ended, Status};
 use crate::telling::{bytes_of, tell_made};
 use index_model::{IndexErr, refusal_text};
 use ltfs_label::Label;
@@ -23,7 +24,7 @@ pub fn run_label<D: Drive, K: Sink>(alloc: Global, drive: D, out: &mut K) -> End
 {
     let mut drive = drive;
     match read_labels(alloc, &mut drive) {
-        Ok(labels) => tell_made(out, labels_text(alloc, &labels), 0, None, drive),
+        Ok(labels) => tell_made(out, labels_text(alloc, &labels), Status::Done, None, drive),
         Err(error) => tell_made(
             out,
             mount_text(alloc, error),
@@ -154,12 +155,12 @@ pub fn mount_text(alloc: Global, error: MountErr) -> Result<Bytes, NoMemory>
     }
 }
 
-pub fn mount_status(error: MountErr) -> u8
-    ensures { result ≡ mount_status error }
+pub fn mount_status(error: MountErr) -> Status
+    ensures { status_number result ≡ mount_status error }
 {
     match error {
-        MountErr::Drive(_) => 4,
-        MountErr::NoMemory => 7,
-        _ => 3,
+        MountErr::Drive(_) => Status::Drive,
+        MountErr::NoMemory => Status::NoMemory,
+        _ => Status::Volume,
     }
 }

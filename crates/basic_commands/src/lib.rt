@@ -11,7 +11,7 @@ mod scripts;
 mod session;
 mod telling;
 
-pub use ended::Ended;
+pub use ended::{Ended, Status};
 pub use formats::{full_text, run_format};
 pub use labels::{drive_text, mount_status, mount_text, run_label};
 pub use lists::{FoundTree, run_list, write_found};

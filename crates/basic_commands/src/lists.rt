@@ -11,8 +11,9 @@ ghost use Rattle.basic_commands.specs.Listings.{IsListingOf, listing_of};
 ghost use Rattle.basic_commands.specs.Outcomes.{IsListingTold};
 ghost use Rattle.basic_commands.specs.Promises.{DoesList};
 ghost use Rattle.basic_commands.specs.Runs.{written};
+ghost use Rattle.basic_commands.specs.Statuses.{status_number};
 
-use crate::ended::Ended;
+use crate::ended::{Ended, Status};
 use crate::labels::{mount_status, mount_text};
 use crate::telling::tell_made;
 use file_tree::Tree;
@@ -45,7 +46,7 @@ pub fn run_list<D: Drive, K: Sink>(alloc: Global, drive: D, out: &mut K) -> Ende
         Ok(found) => {
             let status = write_found(alloc, &found, out);
             Ended {
-                status,
+                status: status.number(),
                 drive,
                 log: None,
             }
@@ -104,15 +105,16 @@ fn spot_of(mounted: &Mounted) -> Spot
 }
 
 /// Writes the listing of a tree, and answers the status with which the run ends.
-pub fn write_found<K: Sink>(alloc: Global, found: &FoundTree, out: &mut K) -> u8
-    ensures { (tape : Tape) → IsListingTold (listing_of tape found.now) (written K.Sink out.old out.new) result }
+pub fn write_found<K: Sink>(alloc: Global, found: &FoundTree, out: &mut K) -> Status
+    ensures { (tape : Tape)
+        → IsListingTold (listing_of tape found.now) (written K.Sink out.old out.new) (status_number result) }
 {
     match write_tree(alloc, &found.tree, found.generation, found.spot, out) {
-        Ok(()) => 0,
-        Err(ListErr::Sink) => 6,
+        Ok(()) => Status::Done,
+        Err(ListErr::Sink) => Status::Sink,
         Err(ListErr::NoMemory) => match out.write(b"memory\n") {
-            Ok(()) => 7,
-            Err(_) => 6,
+            Ok(()) => Status::NoMemory,
+            Err(_) => Status::Sink,
         },
     }
 }

@@ -3,8 +3,9 @@ ghost use Rattle.basic_commands.specs.Headline.{done_text};
 ghost use Rattle.basic_commands.specs.Outcomes.{IsPlainEnd, plain_log, plain_status, plain_text};
 ghost use Rattle.basic_commands.specs.Promises.{DoesPlain};
 ghost use Rattle.basic_commands.specs.Runs.{taken, written};
+ghost use Rattle.basic_commands.specs.Statuses.{status_number};
 
-use crate::ended::Ended;
+use crate::ended::{Ended, Status};
 use crate::scripts::{Unread, read_calls, refusal_text, source_text};
 use crate::session::run_script;
 use crate::telling::{bytes_of, tell_made};
@@ -41,15 +42,15 @@ impl PlainEnd {
     }
 
     /// The status with which the program ends, and the log, where the calls were run.
-    pub fn into_parts(self) -> (u8, Option<Log>)
-        ensures status { result.0 ≡ plain_status self }
+    pub fn into_parts(self) -> (Status, Option<Log>)
+        ensures status { status_number result.0 ≡ plain_status self }
         ensures log { result.1 ≡ plain_log self }
     {
         match self {
-            PlainEnd::Done(log) => (0, Some(log)),
-            PlainEnd::Script(_) => (2, None),
-            PlainEnd::Source(_) => (5, None),
-            PlainEnd::NoMemory(log) => (7, log),
+            PlainEnd::Done(log) => (Status::Done, Some(log)),
+            PlainEnd::Script(_) => (Status::Script, None),
+            PlainEnd::Source(_) => (Status::Source, None),
+            PlainEnd::NoMemory(log) => (Status::NoMemory, log),
         }
     }
 }

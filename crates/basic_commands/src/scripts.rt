@@ -4,7 +4,9 @@ ghost use Rattle.std.specs.Prelude.{◌≡◌, ◌<◌, ◌^◌, length, IfErr, 
 ghost use Rattle.basic_commands.specs.Headline.{refusal_line, source_line};
 ghost use Rattle.basic_commands.specs.Runs.{IsScriptIn, taken};
 ghost use Rattle.basic_commands.specs.Scripts.{IsUnread, unread_status, unread_text};
+ghost use Rattle.basic_commands.specs.Statuses.{status_number};
 
+use crate::ended::Status;
 use crate::telling::bytes_of;
 use session_script::{Script, ScriptErr, ScriptFault, read_script};
 use std::alloc::Global;
@@ -70,12 +72,12 @@ pub fn unread_text(alloc: Global, why: Unread) -> Result<Bytes, NoMemory>
     }
 }
 
-pub fn unread_status(why: Unread) -> u8
-    ensures { result ≡ unread_status why }
+pub fn unread_status(why: Unread) -> Status
+    ensures { status_number result ≡ unread_status why }
 {
     match why {
-        Unread::Script(_) => 2,
-        Unread::Source(_) => 5,
-        Unread::NoMemory => 7,
+        Unread::Script(_) => Status::Script,
+        Unread::Source(_) => Status::Source,
+        Unread::NoMemory => Status::NoMemory,
     }
 }

@@ -3,29 +3,34 @@
 ghost use Rattle.std.specs.Prelude.{◌≡◌, ◌⊎◌, ℕ, List, IfOk, codes, string_bytes};
 ghost use Rattle.basic_commands.specs.Outcomes.{IsTold};
 ghost use Rattle.basic_commands.specs.Runs.{written};
+ghost use Rattle.basic_commands.specs.Statuses.{status_number};
 
-use crate::ended::Ended;
+use crate::ended::{Ended, Status};
 use session_script::Log;
 use tape_drive::Drive;
 use tape_edge::Sink;
 use tape_types::{Bytes, NoMemory};
 
-/// Writes a text, and ends the run with this status; where the sink fails, with 6.
+/// Writes a text, and ends the run with this status; where the sink fails, with `Sink`.
 pub fn tell<D: Drive, K: Sink>(
     out: &mut K,
     text: &[u8],
-    status: u8,
+    status: Status,
     log: Option<Log>,
     drive: D,
 ) -> Ended<D>
-    ensures told { IsTold status text.now (written K.Sink out.old out.new) result.status }
+    ensures told { IsTold (status_number status) text.now (written K.Sink out.old out.new) result.status }
     ensures log { result.log ≡ log }
     ensures drive { result.drive ≡ drive }
 {
     match out.write(text) {
-        Ok(()) => Ended { status, drive, log },
+        Ok(()) => Ended {
+            status: status.number(),
+            drive,
+            log,
+        },
         Err(_) => Ended {
-            status: 6,
+            status: Status::Sink.number(),
             drive,
             log,
         },
@@ -36,19 +41,19 @@ pub fn tell<D: Drive, K: Sink>(
 pub fn tell_made<D: Drive, K: Sink>(
     out: &mut K,
     made: Result<Bytes, NoMemory>,
-    status: u8,
+    status: Status,
     log: Option<Log>,
     drive: D,
 ) -> Ended<D>
     ensures told { (text : List ℕ) → IfOk made (λ m. m ≡ text)
-        → IsTold status text (written K.Sink out.old out.new) result.status
+        → IsTold (status_number status) text (written K.Sink out.old out.new) result.status
         ⊎ IsTold 7 (codes "memory\n") (written K.Sink out.old out.new) result.status }
     ensures log { result.log ≡ log }
     ensures drive { result.drive ≡ drive }
 {
     match made {
         Ok(text) => tell(out, text.as_slice(), status, log, drive),
-        Err(NoMemory) => tell(out, b"memory\n", 7, log, drive),
+        Err(NoMemory) => tell(out, b"memory\n", Status::NoMemory, log, drive),
     }
 }
 

@@ -8,6 +8,7 @@ mod server;
 mod serves;
 mod twice;
 
+use basic_commands::Status;
 use file_drive::{Claim, FileDrive};
 use server::run;
 use std::alloc::{AllocError, Global};
@@ -44,7 +45,7 @@ fn main(rt: HostRuntime) -> ExitCode {
 /// Tells that memory was refused.
 fn starved(rt: &HostRuntime) -> ExitCode {
     let _ = println!(rt; "memory");
-    ExitCode::from(7)
+    ExitCode::from(Status::NoMemory.number())
 }
 
 /// The drive over the folder of the second word, with the room that it needs; without one, over a name that no folder

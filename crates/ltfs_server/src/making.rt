@@ -14,7 +14,7 @@ ghost use Rattle.basic_commands.specs.Runs.{written};
 ghost use Rattle.session_run.specs.Timed.{one_moment};
 
 use crate::serves::end_status;
-use basic_commands::{Ended, bytes_of, tell, tell_made};
+use basic_commands::{Ended, Status, bytes_of, tell, tell_made};
 use plain_tree::Answer;
 use session_run::{ServeEnd, Served, TimedClock, end_line, serve_volume};
 use session_script::{Log, Reply, make_script};
@@ -57,7 +57,7 @@ pub fn run_make<
             let served = serve_volume(rt, alloc, drive, clock, script, gate);
             tell_served(alloc, served, out)
         }
-        Err(NoMemory) => tell(out, b"memory\n", 7, None, drive),
+        Err(NoMemory) => tell(out, b"memory\n", Status::NoMemory, None, drive),
     }
 }
 

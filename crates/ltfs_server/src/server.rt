@@ -21,7 +21,7 @@ ghost use Rattle.ltfs_server.specs.Allowed.{MayServeLeft};
 
 use crate::making::run_make;
 use crate::serves::run_serve;
-use basic_commands::{Ended, run_format, run_label, run_list, run_plain, tell};
+use basic_commands::{Ended, Status, run_format, run_label, run_list, run_plain, tell};
 use command_line::{Command, WordsErr, read_words};
 use std::alloc::Global;
 use std::sync::Wait;
@@ -155,7 +155,7 @@ fn run_asked<
         Ok(Command::Make { count, at }) => {
             run_make(rt, alloc, count, at, drive, out, clock, gate)
         }
-        Err(WordsErr::Form) => tell(out, b"words\n", 1, None, drive),
-        Err(WordsErr::NoMemory) => tell(out, b"memory\n", 7, None, drive),
+        Err(WordsErr::Form) => tell(out, b"words\n", Status::Words, None, drive),
+        Err(WordsErr::NoMemory) => tell(out, b"memory\n", Status::NoMemory, None, drive),
     }
 }

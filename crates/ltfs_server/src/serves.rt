@@ -6,13 +6,14 @@ ghost use Rattle.session_script.specs.declared.scripts.ScriptLine.{ScriptLine};
 ghost use Rattle.tape_edge.specs.Clocks.{IsSince1970};
 ghost use Rattle.cartridge_meaning.specs.Notes.{HasHonestNotes};
 ghost use Rattle.basic_commands.specs.Runs.{IsScriptIn, Taken, taken, written};
+ghost use Rattle.basic_commands.specs.Statuses.{status_number};
 ghost use Rattle.session_run.specs.Serving.{Whole};
 ghost use Rattle.session_run.specs.Timed.{one_moment};
 ghost use Rattle.ltfs_server.specs.Allowed.{MayServeLeft};
 ghost use Rattle.ltfs_server.specs.Promises.{DoesServe};
 ghost use Rattle.ltfs_server.specs.Serving.{end_status, told_whole};
 
-use basic_commands::{Ended, read_calls, tell_made, unread_status, unread_text};
+use basic_commands::{Ended, Status, read_calls, tell_made, unread_status, unread_text};
 use session_run::{ServeEnd, Served, TimedClock, end_line, serve_volume};
 use session_script::{Log, log_text};
 use std::alloc::Global;
@@ -90,15 +91,15 @@ fn served_text(alloc: Global, log: &Option<Log>, end: &ServeEnd) -> Result<Bytes
     }
 }
 
-/// The status with which the program ends.
-pub fn end_status(end: &ServeEnd) -> u8
-    ensures { result ≡ end_status end.now }
+/// The status of an end.
+pub fn end_status(end: &ServeEnd) -> Status
+    ensures { status_number result ≡ end_status end.now }
 {
     match end {
-        ServeEnd::Done { .. } => 0,
-        ServeEnd::Volume(_) => 3,
-        ServeEnd::Drive(_) => 4,
-        ServeEnd::Full { .. } => 8,
-        ServeEnd::NoMemory => 7,
+        ServeEnd::Done { .. } => Status::Done,
+        ServeEnd::Volume(_) => Status::Volume,
+        ServeEnd::Drive(_) => Status::Drive,
+        ServeEnd::Full { .. } => Status::Full,
+        ServeEnd::NoMemory => Status::NoMemory,
     }
 }

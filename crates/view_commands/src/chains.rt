@@ -2,7 +2,7 @@ ghost use Rattle.basic_commands.specs.Runs.{written};
 ghost use Rattle.view_commands.specs.Promises.{DoesGenerations};
 
 use crate::texts::{generations_text, view_status, view_text};
-use basic_commands::{Ended, tell_made};
+use basic_commands::{Ended, Status, tell_made};
 use generation_view::generations;
 use std::alloc::Global;
 use tape_drive::Drive;
@@ -18,7 +18,7 @@ pub fn run_generations<D: Drive, K: Sink>(alloc: Global, drive: D, out: &mut K) 
         Ok(told) => tell_made(
             out,
             generations_text(alloc, told.as_slice()),
-            0,
+            Status::Done,
             None,
             drive,
         ),

@@ -2,10 +2,11 @@
 
 ghost use Rattle.std.specs.Prelude.{◌≡◌, ◌++◌, codes, decimal, IfOk, OnOk, string_bytes};
 ghost use Rattle.std.specs.List.{flat_map};
+ghost use Rattle.basic_commands.specs.Statuses.{status_number};
 ghost use Rattle.view_commands.specs.Texts.{broken_words, generation_line, generation_words, generations_text};
 ghost use Rattle.view_commands.specs.Texts.{view_status, view_text, why_text};
 
-use basic_commands::{bytes_of, drive_text, mount_status, mount_text};
+use basic_commands::{Status, bytes_of, drive_text, mount_status, mount_text};
 use generation_view::{BreakWhy, Generation, ViewErr};
 use index_model::refusal_text;
 use std::alloc::Global;
@@ -101,14 +102,14 @@ fn why_text(alloc: Global, why: BreakWhy) -> Result<Bytes, NoMemory>
     }
 }
 
-/// The status with which the program ends where no generation is told.
-pub fn view_status(error: ViewErr) -> u8
-    ensures { result ≡ view_status error }
+/// The status with which a run ends where no generation is told.
+pub fn view_status(error: ViewErr) -> Status
+    ensures { status_number result ≡ view_status error }
 {
     match error {
         ViewErr::Mount(fault) => mount_status(fault),
-        ViewErr::Broken(_, _) | ViewErr::NoGeneration(_) => 3,
-        ViewErr::Drive(_) => 4,
-        ViewErr::NoMemory => 7,
+        ViewErr::Broken(_, _) | ViewErr::NoGeneration(_) => Status::Volume,
+        ViewErr::Drive(_) => Status::Drive,
+        ViewErr::NoMemory => Status::NoMemory,
     }
 }

@@ -8,7 +8,7 @@ ghost use Rattle.view_commands.specs.Promises.{DoesView};
 
 use crate::answers::answer_line;
 use crate::texts::{view_status, view_text};
-use basic_commands::{Ended, FoundTree, drive_text, tell, tell_made, write_found};
+use basic_commands::{Ended, FoundTree, Status, drive_text, tell, tell_made, write_found};
 use command_line::ViewWords;
 use generation_view::{ReadErr, View, open_view};
 use std::alloc::Global;
@@ -64,7 +64,7 @@ fn write_view<D: Drive, K: Sink>(alloc: Global, view: View<D>, drive: D, out: &m
     };
     let status = write_found(alloc, &found, out);
     Ended {
-        status,
+        status: status.number(),
         drive,
         log: None,
     }
@@ -85,8 +85,14 @@ fn read_view<D: Drive, K: Sink>(
 {
     let mut drive = drive;
     match view.read(alloc, &mut drive, path, 0, MOST) {
-        Ok(answer) => tell_made(out, answer_line(alloc, answer), 0, None, drive),
-        Err(ReadErr::Drive(counts)) => tell_made(out, drive_text(alloc, counts), 4, None, drive),
-        Err(ReadErr::NoMemory) => tell(out, b"memory\n", 7, None, drive),
+        Ok(answer) => tell_made(out, answer_line(alloc, answer), Status::Done, None, drive),
+        Err(ReadErr::Drive(counts)) => tell_made(
+            out,
+            drive_text(alloc, counts),
+            Status::Drive,
+            None,
+            drive,
+        ),
+        Err(ReadErr::NoMemory) => tell(out, b"memory\n", Status::NoMemory, None, drive),
     }
 }

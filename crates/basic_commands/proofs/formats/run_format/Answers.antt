@@ -24,5 +24,5 @@ returns g c =
     format_refused g.D.Drive c.args.drive c.format.new.drive _ c.args.asked _ _ _ _ c.in-Err-format.error c.tell_made.ensures.drive c.tell_made.ensures.log
     (refused_end g.D.Drive c.args.drive c.format.new.drive c.args.asked _ c.in-Err-format.error c.moment-at.result c.moment-at.ensures.given c.requires.fine
     c.in-Err-format.ensures.refused c.in-Err-format.ensures.untouched c.in-Err-format.ensures.counts.told)
-    c.in-Err-format.ensures.goes c.format_status.result c.format_status.ensures
+    c.in-Err-format.ensures.goes _ c.format_status.ensures
     (c.tell_made.ensures.told (format_text c.in-Err-format.error) c.format_text.ensures)

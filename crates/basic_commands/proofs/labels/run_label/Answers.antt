@@ -10,5 +10,5 @@ returns-in-Ok g c =
 pub returns-in-Err : goal.returns-in-Err
 returns-in-Err g c =
     label_unread g.D.Drive c.args.drive c.read_labels.new.drive _ _ _ _ c.in-Err.error c.tell_made-in-Err.ensures.drive c.tell_made-in-Err.ensures.log c.in-Err.ensures.refused
-    c.in-Err.ensures.counts.told c.in-Err.ensures.looks c.mount_status.result c.mount_status.ensures
+    c.in-Err.ensures.counts.told c.in-Err.ensures.looks _ c.mount_status.ensures
     (c.tell_made-in-Err.ensures.told (mount_text c.in-Err.error) c.mount_text.ensures)

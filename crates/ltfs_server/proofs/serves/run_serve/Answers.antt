@@ -25,4 +25,4 @@ returns-in-Ok g c =
 pub returns-in-Err : goal.returns-in-Err
 returns-in-Err g c =
     serve_unread g.D.Drive _ _ _ _ c.args.drive _ _ c.in-Err.why c.tell_made.ensures.drive c.tell_made.ensures.log (omega (arith, c.commands-commands_are_in_range.ensures))
-    c.in-Err.ensures.unread c.unread_status.result c.unread_status.ensures (c.tell_made.ensures.told (unread_text c.in-Err.why) c.unread_text.ensures)
+    c.in-Err.ensures.unread _ c.unread_status.ensures (c.tell_made.ensures.told (unread_text c.in-Err.why) c.unread_text.ensures)

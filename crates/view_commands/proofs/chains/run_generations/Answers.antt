@@ -16,5 +16,5 @@ returns-in-Ok g c =
 pub returns-in-Err : goal.returns-in-Err
 returns-in-Err g c =
     chain_untold g.D.Drive c.args.drive c.generations.new.drive _ _ _ _ c.in-Err.error c.tell_made-in-Err.ensures.drive c.tell_made-in-Err.ensures.log
-    c.in-Err.ensures.refused c.in-Err.ensures.counts.told c.in-Err.ensures.looks c.view_status.result c.view_status.ensures
+    c.in-Err.ensures.refused c.in-Err.ensures.counts.told c.in-Err.ensures.looks _ c.view_status.ensures
     (c.tell_made-in-Err.ensures.told (view_text c.in-Err.error) c.view_text.ensures)

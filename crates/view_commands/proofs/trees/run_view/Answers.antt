@@ -21,5 +21,5 @@ returns-in-Some g c =
 pub returns-in-Err : goal.returns-in-Err
 returns-in-Err g c =
     view_unseen c.args.asked g.D.Drive c.args.drive c.open_view.new.drive _ _ _ _ c.in-Err.error c.tell_made.ensures.drive c.tell_made.ensures.log
-    c.in-Err.ensures.refused c.in-Err.ensures.counts.told c.in-Err.ensures.looks c.view_status.result c.view_status.ensures
+    c.in-Err.ensures.refused c.in-Err.ensures.counts.told c.in-Err.ensures.looks _ c.view_status.ensures
     (c.tell_made.ensures.told (view_text c.in-Err.error) c.view_text.ensures)
