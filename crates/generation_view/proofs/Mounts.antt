@@ -1,44 +1,31 @@
 -- A walk from the mount on.
-use Rattle.std.proofs.Common.{◌≡◌, ℕ, List, refl, sym, subst, ◌∙◌, arith}
+use Rattle.std.proofs.Common.{◌≡◌, ℕ, List, refl, subst, ◌∙◌}
 use Rattle.tape_types.specs.declared.cartridges.Cartridge.{Cartridge}
 use Rattle.tape_types.specs.declared.cartridges.Part.TheVariants.{Dp}
-use Rattle.content_laws.proofs.ReadForms as forms
 use Rattle.cartridge_meaning.specs.Meaning.{Found}
-use Rattle.cartridge_meaning.specs.Mounts.{Mounts}
 use Rattle.cartridge_meaning.specs.declared.errors.MountErr.{MountErr}
 use Rattle.cartridge_meaning.specs.declared.errors.MountErr.TheVariants as errors
-use Rattle.cartridge_meaning.specs.declared.mounted.Mounted.{Mounted}
-use Rattle.volume_scan.specs.declared.content.Content.{Content}
-use Rattle.volume_scan.specs.Scans.{AreBetween, IsContent, IsInPlaces}
+use Rattle.volume_scan.specs.declared.content.Construct.{Construct}
 use Rattle.mount_recover.specs.Labels.{AreCounts as mount_counts}
-use Rattle.mount_recover.specs.Lasts.{LacksLayout}
+use Rattle.mount_recover.specs.Lasts.{IsScannedMount}
 use Rattle.mount_recover.specs.Steps.{Blames}
-use Rattle.mount_recover.proofs.ScanLemmas.{long_front, seen}
+use Rattle.mount_recover.specs.declared.mounting.Scanned.{Scanned}
+use Rattle.mount_recover.proofs.ScanLemmas.{long_front}
 use Rattle.generation_view.specs.Told.{AreCounts, AreKnown, RefusesChain, TellsChain, TellsWalk, refusal}
 use Rattle.generation_view.specs.declared.errors.BreakWhy.{BreakWhy}
 use Rattle.generation_view.specs.declared.errors.ViewErr.TheVariants as view_errors
 use Rattle.generation_view.specs.declared.telling.Generation.{Generation}
 use Rattle.generation_view.specs.declared.telling.Walked.{Walked}
 use Rattle.generation_view.specs.declared.telling.Walked.TheVariants as walks
-use Rattle.generation_view.proofs.Walks.{between_more}
 
--- a mounted cartridge's data partition has its form
-pub never_lacks : (c : Cartridge) (m : Mounted) (e : MountErr) → Mounts c m → LacksLayout Dp e c → Blames e c
-never_lacks c m (errors.Drive counts) is lacks = tt
-never_lacks c m errors.NoMemory is lacks = tt
-never_lacks c m (errors.Layout place) is lacks = absurd (forms.never_both c.dp place.pos is.found.forms.dp lacks.1)
-never_lacks c m e is lacks = absurd lacks
-
--- what is known of it where a walk begins
-pub known_of : (c : Cartridge) (m : Mounted) (found : Content) (places : List _) → Mounts c m → IsContent c.dp found → places ≡ found.constructs
-    → AreKnown m.end_ip places c
-known_of c m found places is content same =
-    let s = seen c.dp found (long_front Dp c (is.found.labels, is.found.forms.has)) content in
-    record { form = s.form; long = s.long; places_are = same ∙ s.constructs; end_is = is.ip_end }
-
-pub inside_of : (capacity : ℕ) (found : Content) (places : List _) → IsInPlaces capacity found → places ≡ found.constructs → AreBetween 4 capacity places
-inside_of capacity found places is same =
-    subst (AreBetween 4 capacity) (sym same) (between_more 4 found.lead capacity found.constructs (omega (arith, is.lead, is.front)) is.constructs)
+-- what is known of a mounted cartridge where a walk begins
+pub known_of : (c : Cartridge) (s : Scanned) (places : List Construct) → IsScannedMount s c → places ≡ s.places → AreKnown s.mounted.end_ip places c
+known_of c s places is same = record {
+  form = is.mounts.found.forms.dp;
+  long = long_front Dp c (is.mounts.found.labels, is.mounts.found.forms.has);
+  places_are = same ∙ is.places_are;
+  end_is = is.mounts.ip_end;
+}
 
 -- ---- what is told of a walk
 

@@ -182,7 +182,7 @@ module _ (c : Cartridge) (found : Found c) (differ : found.labels.ip.index ≢ f
 
 module _ {D : Type 0} (drive : Ghosts D) (start : Start) (a b : D) (generation : ℕ) (s : Sought) where
   abbrev pub SeeksTo : Type 0
-  SeeksTo = IsStep drive start ((23 + 2 * start.limits.cap_ip + 2 * start.limits.cap_dp) + ((1 + start.limits.cap_dp) + start.limits.cap_dp)) a b
+  SeeksTo = IsStep drive start ((23 + 2 * start.limits.cap_ip + 2 * start.limits.cap_dp) + start.limits.cap_dp) a b
       (λ s c. (found : Found c) × IsSought c found generation s) (IsSoundSought start.limits) Blames (Ok s)
 
   -- a view of what is there can be read on this drive
@@ -211,7 +211,7 @@ module _ {D : Type 0} (drive : Ghosts D) (start : Start) (a b : D) (generation :
   pub all_looks : IsSince drive start a → SeeksTo → Looks drive ((26 + 2 * (drive.limits a).cap_ip + 5 * (drive.limits a).cap_dp) * drive.MOST) a b
   all_looks since step =
       subst (λ (l : Limits). Looks drive ((26 + 2 * l.cap_ip + 5 * l.cap_dp) * drive.MOST) a b) (sym since.limits)
-      (looks_more drive start ((23 + 2 * start.limits.cap_ip + 2 * start.limits.cap_dp) + ((1 + start.limits.cap_dp) + start.limits.cap_dp))
+      (looks_more drive start ((23 + 2 * start.limits.cap_ip + 2 * start.limits.cap_dp) + start.limits.cap_dp)
       (26 + 2 * start.limits.cap_ip + 5 * start.limits.cap_dp) a b (omega arith) step.looks)
 
 pub refuses_view : (c : Cartridge) (generation : ℕ) (e : MountErr) → Blames e c → RefusesView generation (refusal e) c

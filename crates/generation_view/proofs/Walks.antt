@@ -125,10 +125,6 @@ newer_on g [] index all newer = (newer, tt)
 newer_on g (i ∷ done) index all newer = (all.0, newer_on g done index all.1 newer)
 
 -- places up to one are places up to a later one
-pub between_more : (from to more : ℕ) (ks : List Construct) → to ≤ more → AreBetween from to ks → AreBetween from more ks
-between_more from to more [] le b = omega (arith, le, b)
-between_more from to more (k ∷ ks) le b = (b.0, b.1, b.2, between_more k.after to more ks le b.3)
-
 -- ---- a walk over a drive
 
 module _ {D : Type 0} (drive : Ghosts D) (start : Start) (label : Label) (end_ip : ℕ) where

@@ -1,5 +1,8 @@
 //! Why a chain breaks, and why nothing is told of one.
 
+ghost use Rattle.std.specs.Prelude.{◌≡◌};
+ghost use Rattle.generation_view.specs.Told.{refusal};
+
 use cartridge_meaning::MountErr;
 use index_model::IndexErr;
 use tape_types::{Place, Twin};
@@ -32,6 +35,17 @@ pub enum ViewErr {
     Drive(Twin),
     /// Memory was refused.
     NoMemory,
+}
+
+/// What a mount's refusal is here.
+pub fn refusal(fault: MountErr) -> ViewErr
+    ensures { result ≡ refusal fault }
+{
+    match fault {
+        MountErr::Drive(counts) => ViewErr::Drive(counts),
+        MountErr::NoMemory => ViewErr::NoMemory,
+        _ => ViewErr::Mount(fault),
+    }
 }
 
 /// Why nothing is read of a view.

@@ -7,7 +7,6 @@ mod examples;
 mod laws;
 mod links;
 mod reads;
-mod scans;
 mod seeking;
 mod telling;
 mod views;

@@ -10,7 +10,6 @@ ghost use Rattle.generation_view.specs.Told.{AreKnown};
 ghost use Rattle.generation_view.specs.Views.{CanBeTree, IsMadeOf, IsSought, IsSoundSought};
 
 use crate::errors::BreakWhy;
-use crate::scans::scan_chain;
 use crate::ways::{Way, walk_back};
 use cartridge_meaning::{MountErr, Mounted};
 use file_tree::Tree;
@@ -42,33 +41,16 @@ pub fn seek<D: Drive>(
 ) -> Result<Sought, MountErr>
     requires since { IsSince D.Drive start drive.old }
     requires now { start.faults ≡ D.faults drive.old }
-    ensures { IsStep D.Drive start ((23 + 2 * start.limits.cap_ip + 2 * start.limits.cap_dp)
-        + ((1 + start.limits.cap_dp) + start.limits.cap_dp)) drive.old drive.new
+    ensures { IsStep D.Drive start
+        ((23 + 2 * start.limits.cap_ip + 2 * start.limits.cap_dp) + start.limits.cap_dp) drive.old drive.new
         (λ s c. (found : Found c) × IsSought c found generation s) (IsSoundSought start.limits) Blames result }
 {
-    let mounted = mount_by_scan(alloc, drive, start)?;
-    seek_mounted(alloc, drive, start, &mounted, generation)
+    let scanned = mount_by_scan(alloc, drive, start)?;
+    let places = scanned.places.into_vec();
+    seek_behind(alloc, drive, start, &scanned.mounted, places, generation)
 }
 
-/// Looks for a generation of what was mounted.
-fn seek_mounted<D: Drive>(
-    alloc: Global,
-    drive: &mut D,
-    start: Start,
-    mounted: &Mounted,
-    generation: u64,
-) -> Result<Sought, MountErr>
-    requires since { IsSince D.Drive start drive.old }
-    requires known { IfSome (D.held drive.old) (λ c. Mounts c mounted.now) }
-    requires sound { IsSoundMount start.limits mounted.now }
-    ensures { IsStep D.Drive start ((1 + start.limits.cap_dp) + start.limits.cap_dp) drive.old drive.new
-        (λ s c. (found : Found c) × IsSought c found generation s) (IsSoundSought start.limits) Blames result }
-{
-    let places = scan_chain(alloc, drive, start, mounted)?;
-    seek_behind(alloc, drive, start, mounted, places, generation)
-}
-
-/// The same, where the indexes of the data partition stand there, with the oldest first.
+/// Looks for a generation of what was mounted, where the indexes of the data partition stand there, the oldest first.
 fn seek_behind<D: Drive>(
     alloc: Global,
     drive: &mut D,

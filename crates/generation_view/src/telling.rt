@@ -4,15 +4,13 @@ ghost use Rattle.std.specs.Prelude.{◌≡◌, ◌≤◌, ◌+◌, ◌*◌, leng
 ghost use Rattle.tape_types.specs.declared.cartridges.Cartridge.{Cartridge};
 ghost use Rattle.tape_drive.specs.Looks.{Looks};
 ghost use Rattle.cartridge_meaning.specs.Meaning.{Found};
-ghost use Rattle.cartridge_meaning.specs.Mounts.{Mounts};
 ghost use Rattle.volume_scan.specs.Scans.{AreBetween};
 ghost use Rattle.mount_recover.specs.Steps.{Blames, IsFree, IsSince, IsStep};
 ghost use Rattle.generation_view.specs.Told.{AreKnown, HasCounts, IsToldOf, RefusesChain, TellsChain, TellsWalk};
 
-use crate::errors::{BreakWhy, ViewErr};
+use crate::errors::{BreakWhy, ViewErr, refusal};
 use crate::links::{Step, read_link};
-use crate::scans::{refusal, scan_chain};
-use cartridge_meaning::{MountErr, Mounted};
+use cartridge_meaning::MountErr;
 use index_model::Index;
 use ltfs_label::Label;
 use mount_recover::{Start, begin, mount_by_scan};
@@ -75,27 +73,13 @@ pub fn generations<D: Drive>(alloc: Global, drive: &mut D) -> Result<List<Genera
 fn walk_all<D: Drive>(alloc: Global, drive: &mut D, start: Start) -> Result<Walked, MountErr>
     requires since { IsSince D.Drive start drive.old }
     requires now { start.faults ≡ D.faults drive.old }
-    ensures { IsStep D.Drive start ((23 + 2 * start.limits.cap_ip + 2 * start.limits.cap_dp)
-        + ((1 + start.limits.cap_dp) + start.limits.cap_dp)) drive.old drive.new
+    ensures { IsStep D.Drive start
+        ((23 + 2 * start.limits.cap_ip + 2 * start.limits.cap_dp) + start.limits.cap_dp) drive.old drive.new
         (λ walk c. (found : Found c) × TellsWalk c found walk) (λ walk. Unit {0}) Blames result }
 {
-    let mounted = mount_by_scan(alloc, drive, start)?;
-    walk_mounted(alloc, drive, start, &mounted)
-}
-
-/// Reads the data partition of what was mounted, and walks along the chain.
-fn walk_mounted<D: Drive>(
-    alloc: Global,
-    drive: &mut D,
-    start: Start,
-    mounted: &Mounted,
-) -> Result<Walked, MountErr>
-    requires since { IsSince D.Drive start drive.old }
-    requires known { IfSome (D.held drive.old) (λ c. Mounts c mounted.now) }
-    ensures { IsStep D.Drive start ((1 + start.limits.cap_dp) + start.limits.cap_dp) drive.old drive.new
-        (λ walk c. (found : Found c) × TellsWalk c found walk) (λ walk. Unit {0}) Blames result }
-{
-    let places = scan_chain(alloc, drive, start, mounted)?;
+    let scanned = mount_by_scan(alloc, drive, start)?;
+    let places = scanned.places.into_vec();
+    let mounted = &scanned.mounted;
     walk(alloc, drive, start, &mounted.label, mounted.end_ip, places)
 }
 

@@ -6,9 +6,8 @@ ghost use Rattle.tape_drive.specs.Looks.{Looks};
 ghost use Rattle.generation_view.specs.Told.{HasCounts};
 ghost use Rattle.generation_view.specs.Views.{IsOpenOn, IsViewOf, RefusesView};
 
-use crate::errors::{ReadErr, ViewErr};
+use crate::errors::{ReadErr, ViewErr, refusal};
 use crate::reads::read_file;
-use crate::scans::refusal;
 use crate::seeking::{Sought, seek};
 use file_tree::{Ready, Tree};
 use index_model::Spot;

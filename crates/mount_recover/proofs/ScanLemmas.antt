@@ -23,7 +23,7 @@ use Rattle.content_laws.proofs.ReadForms.{form}
 use Rattle.volume_scan.specs.declared.content.Construct.{Construct}
 use Rattle.volume_scan.specs.declared.content.Content.{Content}
 use Rattle.volume_scan.specs.declared.errors.ScanErr.{ScanErr}
-use Rattle.volume_scan.specs.Scans.{HasCounts, IsContent, IsInPlaces, places_of}
+use Rattle.volume_scan.specs.Scans.{AreBetween, HasCounts, IsContent, IsInPlaces, places_of}
 use Rattle.cartridge_meaning.specs.Faults.{LacksFormOn}
 use Rattle.cartridge_meaning.specs.Labels.{HasLabel, HasRecord}
 use Rattle.ltfs_label.specs.Values.{LabelValue, label_of}
@@ -127,6 +127,14 @@ pub last_first : (k : readings.Construct) (older : List readings.Construct)
 last_first k older =
     ap (λ (ks : List readings.Construct). map places_of ks) (reverse-append (k ∷ []) older)
     ∙ map-append places_of (reverse older) (k ∷ [])
+
+-- they stand behind the labels and within a capacity
+pub within : (capacity : ℕ) (found : Content) → IsInPlaces capacity found → AreBetween 4 capacity found.constructs
+within capacity found places = more 4 found.lead capacity found.constructs (omega (arith, places.lead, places.front)) places.constructs
+  where
+    more : (from to end : ℕ) (ks : List Construct) → to ≤ end → AreBetween from to ks → AreBetween from end ks
+    more from to end [] le b = omega (arith, le, b)
+    more from to end (k ∷ ks) le b = (b.0, b.1, b.2, more k.after to end ks le b.3)
 
 -- all indexes but the last, and the last
 pub parted : (ks : List readings.Construct) (places rest : List Construct) (place : Construct) → places ≡ map places_of (reverse ks)

@@ -83,6 +83,18 @@ module _ {D : Type 0} (drive : Ghosts D) (start : Start) where
     since = step.since;
   }
 
+  -- the same, where it is handed on as it is
+  pub stops_as : {T U : Type 0} {m : ℕ} {a b : D} {F : T → Cartridge → Type 0} {A : T → Type 0} {R : MountErr → Cartridge → Type 0}
+      {H : U → Cartridge → Type 0} {C : U → Type 0} {e : MountErr} → IsStep drive start m a b F A R (Err e) → IsStep drive start m a b H C R (Err e)
+  stops_as step = record {
+    found = tt;
+    any = tt;
+    refused = step.refused;
+    counts = record { later = step.counts.later; told = step.counts.told };
+    looks = step.looks;
+    since = step.since;
+  }
+
   -- a step that was done, and one that refuses
   pub stops_after : {T U W : Type 0} {m n most : ℕ} {a b d : D} {F : T → Cartridge → Type 0} {A : T → Type 0} {R S V : MountErr → Cartridge → Type 0}
       {G : U → Cartridge → Type 0} {B : U → Type 0} {H : W → Cartridge → Type 0} {C : W → Type 0} {x : T} {e : MountErr}

@@ -31,13 +31,14 @@ use Rattle.content_laws.specs.Content.{content}
 use Rattle.content_laws.specs.Ends.{lead_of}
 use Rattle.cartridge_meaning.specs.Labels.{HasLabels}
 use Rattle.cartridge_meaning.specs.Meaning.{AreWithin, FitsNode, HasForms, dp_end, ip_end}
+use Rattle.cartridge_meaning.specs.Mounts.{Mounts}
 use Rattle.cartridge_meaning.specs.Pointers.{IsLastOnDp, IsLastOnIp, IsOfVolume, chosen, indexes_of, text_of}
 use Rattle.cartridge_meaning.specs.declared.errors.MountErr.{MountErr}
 use Rattle.cartridge_meaning.specs.declared.errors.MountErr.TheVariants as errors
 use Rattle.cartridge_meaning.specs.declared.labels.Labels.{Labels}
 use Rattle.volume_scan.specs.declared.content.Construct.{Construct}
 use Rattle.volume_scan.specs.declared.content.Content.{Content}
-use Rattle.volume_scan.specs.Scans.{IsContent, IsInPlaces, places_of}
+use Rattle.volume_scan.specs.Scans.{AreBetween, IsContent, IsInPlaces, places_of}
 use Rattle.mount_recover.specs.declared.scans.Scans.{Scans}
 use Rattle.mount_recover.specs.declared.documents.Beside.{Beside}
 use Rattle.mount_recover.specs.declared.lasts.Last.{Last}
@@ -48,6 +49,7 @@ use Rattle.mount_recover.specs.declared.choices.Standing.{Standing}
 use Rattle.mount_recover.specs.Labels.{IsSpelled}
 use Rattle.mount_recover.specs.declared.choices.Choice.{Choice}
 use Rattle.mount_recover.specs.declared.flags.Flags.{Flags}
+use Rattle.mount_recover.specs.declared.mounting.Scanned.{Scanned}
 use Rattle.cartridge_meaning.specs.declared.mounted.Mounted.{Mounted}
 
 abbrev pub HasSomeLabels : Cartridge → Type 0
@@ -405,6 +407,17 @@ pub record IsSoundMount (limits : Limits) (m : Mounted) : Type 0 where
   pub last_dp : IfSome m.last_dp (λ pos. pos < m.end_dp)
   pub ip_end : (4 ≤ m.end_ip) × (m.end_ip ≤ limits.cap_ip)
   pub dp_end : (4 ≤ m.end_dp) × (m.end_dp ≤ limits.cap_dp)
+
+-- What a mount by a scan tells of a cartridge: what it stands for, and where the indexes of its data partition stand,
+-- the oldest first.
+pub record IsScannedMount (s : Scanned) (c : Cartridge) : Type 0 where
+  pub mounts : Mounts c s.mounted
+  pub places_are : s.places ≡ map places_of (reverse (indexes_of c.dp))
+
+-- what holds of it over every drive
+pub record IsSoundScanned (limits : Limits) (s : Scanned) : Type 0 where
+  pub mounted : IsSoundMount limits s.mounted
+  pub places : AreBetween 4 limits.cap_dp s.places
 
 -- it was mounted, or the drive failed or memory was refused
 abbrev pub IsMounted : Result Mounted MountErr → Type 0

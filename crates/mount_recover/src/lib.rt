@@ -20,7 +20,6 @@ pub use cartridge_meaning::{Labels, MountErr, Mounted};
 pub use documents::read_index_at;
 pub use extents::{Ends, first_outside};
 pub use labels::read_labels;
-pub use mounting::{mount, mount_by_scan};
+pub use mounting::{Scanned, mount, mount_by_scan};
 pub use pointers::points_on_dp;
-pub use scans::scan_one;
 pub use starts::{Start, begin};

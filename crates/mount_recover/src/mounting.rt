@@ -12,7 +12,7 @@ ghost use Rattle.mount_recover.specs.Labels.{AreLabels, HasCounts};
 ghost use Rattle.std.specs.Option.{option_map};
 ghost use Rattle.mount_recover.specs.declared.choices.Standing.{Standing as StandingOf};
 ghost use Rattle.mount_recover.specs.Lasts.{Agrees, AreInPlaces, AreLasts, AreSoundLasts, IsMounted, IsMountedAs};
-ghost use Rattle.mount_recover.specs.Lasts.{IsScan, IsSoundMount};
+ghost use Rattle.mount_recover.specs.Lasts.{IsScan, IsScannedMount, IsSoundMount, IsSoundScanned};
 ghost use Rattle.mount_recover.specs.Noted.{AreNotes};
 ghost use Rattle.mount_recover.specs.Steps.{Blames, IsSince, IsStep, IsStepBy};
 
@@ -29,7 +29,8 @@ use index_model::Spot;
 use ltfs_label::Label;
 use std::alloc::Global;
 use tape_drive::Drive;
-use tape_types::Part;
+use tape_types::{List, Part};
+use volume_scan::Construct;
 
 /// Both partitions end with their last indexes, of which both notes tell.
 const ALL_DONE: Flags = Flags {
@@ -124,21 +125,32 @@ fn find_by_labels<D: Drive>(
 {
     match choose_by_notes(alloc, drive, start, &labels, notes) {
         Ok(Some(choice)) => Ok(mounted(labels.ip, choice, ALL_DONE)),
-        Ok(None) => find_by_scan(alloc, drive, start, labels, notes),
+        Ok(None) => match find_by_scan(alloc, drive, start, labels, notes) {
+            Ok(scanned) => Ok(scanned.mounted),
+            Err(fault) => Err(fault),
+        },
         Err(fault) => Err(fault),
     }
 }
 
+/// What a mount by a scan finds.
+#[derive(Drop)]
+pub struct Scanned {
+    pub mounted: Mounted,
+    /// Where the indexes of the data partition stand, the oldest first.
+    pub places: List<Construct>,
+}
+
 /// Reads what the cartridge in a drive stands for by all that stands on both partitions, whatever its notes say, and
-/// writes nothing: for what has to read the data partition in any case. The errors are those of [`mount`].
+/// writes nothing: for what needs all indexes of the data partition. The errors are those of [`mount`].
 pub fn mount_by_scan<D: Drive>(
     alloc: Global,
     drive: &mut D,
     start: Start,
-) -> Result<Mounted, MountErr>
+) -> Result<Scanned, MountErr>
     requires since { IsSince D.Drive start drive.old }
     ensures { IsStep D.Drive start (23 + 2 * start.limits.cap_ip + 2 * start.limits.cap_dp) drive.old drive.new
-        (λ m c. Mounts c m) (IsSoundMount start.limits) Blames result }
+        IsScannedMount (IsSoundScanned start.limits) Blames result }
 {
     let notes = match read_notes(drive, start) {
         Ok(notes) => notes,
@@ -153,11 +165,11 @@ fn scan_with_notes<D: Drive>(
     drive: &mut D,
     start: Start,
     notes: &Notes,
-) -> Result<Mounted, MountErr>
+) -> Result<Scanned, MountErr>
     requires since { IsSince D.Drive start drive.old }
     requires notes { IfSome (D.held drive.old) (AreNotes notes.now) }
     ensures { IsStep D.Drive start (20 + 2 * start.limits.cap_ip + 2 * start.limits.cap_dp) drive.old drive.new
-        (λ m c. Mounts c m) (IsSoundMount start.limits) Blames result }
+        IsScannedMount (IsSoundScanned start.limits) Blames result }
 {
     let labels = match find_labels(alloc, drive, start) {
         Ok(labels) => labels,
@@ -173,16 +185,20 @@ fn find_by_scan<D: Drive>(
     start: Start,
     labels: Labels,
     notes: &Notes,
-) -> Result<Mounted, MountErr>
+) -> Result<Scanned, MountErr>
     requires since { IsSince D.Drive start drive.old }
     requires sound { AreLabels labels }
     requires known { IfSome (D.held drive.old) (λ c. HasLabels c labels × AreNotes notes.now c) }
     ensures { IsStep D.Drive start (((1 + start.limits.cap_ip) + (1 + start.limits.cap_dp))
         + (((1 + start.limits.cap_dp) + (1 + start.limits.cap_ip)) + 4))
-        drive.old drive.new (λ m c. Mounts c m) (IsSoundMount start.limits) Blames result }
+        drive.old drive.new IsScannedMount (IsSoundScanned start.limits) Blames result }
 {
     let scans = scan_both(alloc, drive, start)?;
-    find_by_scans(alloc, drive, start, labels, notes, &scans)
+    let mounted = find_by_scans(alloc, drive, start, labels, notes, &scans)?;
+    Ok(Scanned {
+        mounted,
+        places: scans.dp.constructs,
+    })
 }
 
 /// Where both partitions are scanned.

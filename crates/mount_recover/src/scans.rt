@@ -35,7 +35,7 @@ pub fn scan_both<D: Drive>(alloc: Global, drive: &mut D, start: Start) -> Result
 }
 
 /// Reads a partition with labels.
-pub fn scan_one<D: Drive>(
+fn scan_one<D: Drive>(
     alloc: Global,
     drive: &mut D,
     start: Start,
