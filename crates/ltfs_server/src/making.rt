@@ -16,7 +16,7 @@ ghost use Rattle.session_run.specs.Timed.{one_moment};
 use crate::serves::end_status;
 use basic_commands::{Ended, Status, bytes_of, tell, tell_made};
 use plain_tree::Answer;
-use session_run::{ServeEnd, Served, TimedClock, end_line, serve_volume};
+use session_run::{Host, ServeEnd, Served, TimedClock, end_line, serve_volume};
 use session_script::{Log, Reply, make_script};
 use std::alloc::Global;
 use std::sync::Wait;
@@ -34,14 +34,12 @@ pub fn run_make<
     C: Clock + Send,
     G: Gate + Sync,
 >(
-    rt: &R,
-    alloc: Global,
+    host: &Host<'_, R, G>,
     count: u32,
     at: Option<Moment>,
     drive: D,
     out: &mut K,
     clock: C,
-    gate: &G,
 ) -> Ended<D>
     requires few { count ≤ 1024 }
     requires since { IfSome at IsSince1970 }
@@ -51,11 +49,11 @@ pub fn run_make<
         result.status result.log }
 {
     let _commands_are_in_range = drive.commands();
-    match make_script(alloc, count) {
+    match make_script(host.alloc, count) {
         Ok(script) => {
             let clock = TimedClock::new(at, clock);
-            let served = serve_volume(rt, alloc, drive, clock, script, gate);
-            tell_served(alloc, served, out)
+            let served = serve_volume(host, drive, clock, script);
+            tell_served(host.alloc, served, out)
         }
         Err(NoMemory) => tell(out, b"memory\n", Status::NoMemory, None, drive),
     }

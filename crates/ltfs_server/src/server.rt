@@ -23,6 +23,7 @@ use crate::making::run_make;
 use crate::serves::run_serve;
 use basic_commands::{Ended, Status, run_format, run_label, run_list, run_plain, tell};
 use command_line::{Command, WordsErr, read_words};
+use session_run::Host;
 use std::alloc::Global;
 use std::sync::Wait;
 use std::thread::Threads;
@@ -113,7 +114,8 @@ pub fn run<
     }) D.Drive drive result.drive e
         × EndsAs e (written K.Sink out.old out.new) result.status result.log }
 {
-    run_asked(rt, alloc, words, drive, script, out, clock, gate)
+    let host = Host { rt, alloc, gate };
+    run_asked(&host, words, drive, script, out, clock)
 }
 
 /// The same, as one clause.
@@ -125,14 +127,12 @@ fn run_asked<
     C: Clock + Send,
     G: Gate + Sync,
 >(
-    rt: &R,
-    alloc: Global,
+    host: &Host<'_, R, G>,
     words: &Vec<String>,
     drive: D,
     script: &mut S,
     out: &mut K,
     clock: C,
-    gate: &G,
 ) -> Ended<D>
     requires honest { AskToMount words.now.items → IfSome (D.held drive) HasHonestNotes }
     requires formats { (asked : FormatWords) → IsFormatWords words.now.items asked → AllowsAll D.allows }
@@ -144,6 +144,7 @@ fn run_asked<
         (written K.Sink out.old out.new) D.Drive drive result.drive result.status result.log }
 {
     let _commands_are_in_range = drive.commands();
+    let alloc = host.alloc;
     match read_words(alloc, words.as_slice()) {
         Ok(Command::Plain { at }) => run_plain(alloc, at, drive, script, out, clock),
         Ok(Command::Label) => run_label(alloc, drive, out),
@@ -151,10 +152,8 @@ fn run_asked<
         Ok(Command::Generations) => run_generations(alloc, drive, out),
         Ok(Command::View(asked)) => run_view(alloc, asked, drive, out),
         Ok(Command::Format(asked)) => run_format(alloc, asked, drive, out, clock),
-        Ok(Command::Serve { at }) => run_serve(rt, alloc, at, drive, script, out, clock, gate),
-        Ok(Command::Make { count, at }) => {
-            run_make(rt, alloc, count, at, drive, out, clock, gate)
-        }
+        Ok(Command::Serve { at }) => run_serve(host, at, drive, script, out, clock),
+        Ok(Command::Make { count, at }) => run_make(host, count, at, drive, out, clock),
         Err(WordsErr::Form) => tell(out, b"words\n", Status::Words, None, drive),
         Err(WordsErr::NoMemory) => tell(out, b"memory\n", Status::NoMemory, None, drive),
     }

@@ -14,7 +14,7 @@ ghost use Rattle.ltfs_server.specs.Promises.{DoesServe};
 ghost use Rattle.ltfs_server.specs.Serving.{end_status, told_whole};
 
 use basic_commands::{Ended, Status, read_calls, tell_made, unread_status, unread_text};
-use session_run::{ServeEnd, Served, TimedClock, end_line, serve_volume};
+use session_run::{Host, ServeEnd, Served, TimedClock, end_line, serve_volume};
 use session_script::{Log, log_text};
 use std::alloc::Global;
 use std::sync::Wait;
@@ -33,14 +33,12 @@ pub fn run_serve<
     C: Clock + Send,
     G: Gate + Sync,
 >(
-    rt: &R,
-    alloc: Global,
+    host: &Host<'_, R, G>,
     at: Option<Moment>,
     drive: D,
     script: &mut S,
     out: &mut K,
     clock: C,
-    gate: &G,
 ) -> Ended<D>
     requires since { IfSome at IsSince1970 }
     requires honest { IfSome (D.held drive) HasHonestNotes }
@@ -49,15 +47,15 @@ pub fn run_serve<
         (written K.Sink out.old out.new) result.status result.log }
 {
     let _commands_are_in_range = drive.commands();
-    match read_calls(alloc, script) {
+    match read_calls(host.alloc, script) {
         Ok(calls) => {
             let clock = TimedClock::new(at, clock);
-            let served = serve_volume(rt, alloc, drive, clock, calls, gate);
-            tell_served(alloc, served, out)
+            let served = serve_volume(host, drive, clock, calls);
+            tell_served(host.alloc, served, out)
         }
         Err(why) => tell_made(
             out,
-            unread_text(alloc, why),
+            unread_text(host.alloc, why),
             unread_status(why),
             None,
             drive,

@@ -16,6 +16,7 @@ ghost use Rattle.ltfs_server.specs.Sentence.{to_serve};
 
 use crate::server::run;
 use basic_commands::Ended;
+use session_run::Host;
 use std::alloc::Global;
 use std::sync::Wait;
 use std::thread::Threads;
@@ -94,10 +95,11 @@ pub fn crash_then_run<
         → IsReadyAgain to_serve (taken S.Source script.old script.new) facts tree generation t.first.log
         (made t.image drive.limits [])) }
 {
-    let first = run_once(rt, alloc, words, drive, script, out, clock, gate);
+    let host = Host { rt, alloc, gate };
+    let first = run_once(&host, words, drive, script, out, clock);
     let image = crash_within(&first.drive, ip, dp)?;
     let next = drive_after(alloc, &first.drive, ip, dp)?;
-    let second = run_once(rt, alloc, words, next, script2, out2, clock2, gate);
+    let second = run_once(&host, words, next, script2, out2, clock2);
     Ok(Twice {
         first,
         image,
@@ -107,14 +109,12 @@ pub fn crash_then_run<
 
 /// All that `run` promises, as one clause, over a drive in memory.
 fn run_once<R: Threads + Wait + Sync, S: Source, K: Sink, C: Clock + Send, G: Gate + Sync>(
-    rt: &R,
-    alloc: Global,
+    host: &Host<'_, R, G>,
     words: &Vec<String>,
     drive: MemDrive,
     script: &mut S,
     out: &mut K,
     clock: C,
-    gate: &G,
 ) -> Ended<MemDrive>
     requires honest { HasHonestNotes drive.held }
     ensures { RunsSo (record {
@@ -124,6 +124,7 @@ fn run_once<R: Threads + Wait + Sync, S: Source, K: Sink, C: Clock + Send, G: Ga
       source = taken S.Source script.old script.new;
     }) ⟦<MemDrive as Drive>⟧ drive result.drive (written K.Sink out.old out.new) result.status result.log }
 {
+    let Host { rt, alloc, gate } = *host;
     run(rt, alloc, words, drive, script, out, clock, gate)
 }
 

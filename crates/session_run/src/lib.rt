@@ -5,12 +5,14 @@
 #![tactic(auto)]
 
 mod ends;
+mod host;
 mod ran;
 mod serving;
 mod threads;
 mod timed;
 
 pub use ends::{ServeEnd, Served, end_line};
+pub use host::Host;
 pub use ran::{Ran, RanEnd, run_sessions};
 pub use serving::serve_volume;
 pub use timed::TimedClock;

@@ -5,9 +5,9 @@ ghost use Rattle.session_script.specs.Sessions.{greatest_session};
 ghost use Rattle.serving_promise.specs.Ends.{begun};
 ghost use Rattle.session_run.specs.Ran.{HasRun};
 
+use crate::host::Host;
 use crate::threads::make_all;
 use log_laws::logs_go_on;
-use std::alloc::Global;
 use std::sync::Wait;
 use std::thread::Threads;
 use tape_desk::Desk;
@@ -34,11 +34,9 @@ pub struct Ran<D: Drive, C: Clock> {
 /// threads can be made. Each passes the gate before each of its turns, and once more behind its last reply. There are
 /// as many sessions as the script has. Where memory is refused nothing was asked of the volume.
 pub fn run_sessions<R: Threads + Wait + Sync, D: Drive + Send, C: Clock + Send, G: Gate + Sync>(
-    rt: &R,
-    alloc: Global,
+    host: &Host<'_, R, G>,
     volume: Volume<D, C>,
     sessions: u16,
-    gate: &G,
 ) -> Ran<D, C>
     requires sessions { sessions ≡ greatest_session volume.fixed.script }
     requires fresh { volume ≡ begun volume.fixed volume.next }
@@ -47,7 +45,7 @@ pub fn run_sessions<R: Threads + Wait + Sync, D: Drive + Send, C: Clock + Send, 
     if sessions == 0 {
         run_none(volume)
     } else {
-        run_some(rt, alloc, volume, sessions, gate)
+        run_some(host, volume, sessions)
     }
 }
 
@@ -68,11 +66,9 @@ fn run_none<D: Drive, C: Clock>(volume: Volume<D, C>) -> Ran<D, C>
 
 /// A run of one session or more.
 fn run_some<R: Threads + Wait + Sync, D: Drive + Send, C: Clock + Send, G: Gate + Sync>(
-    rt: &R,
-    alloc: Global,
+    host: &Host<'_, R, G>,
     volume: Volume<D, C>,
     sessions: u16,
-    gate: &G,
 ) -> Ran<D, C>
     requires some { 1 ≤ sessions }
     requires sessions { sessions ≡ greatest_session volume.fixed.script }
@@ -80,7 +76,7 @@ fn run_some<R: Threads + Wait + Sync, D: Drive + Send, C: Clock + Send, G: Gate 
     ensures { HasRun D.Drive volume result.volume result.outcome }
 {
     let _most = volume.script().sessions();
-    let (desk, mut passes) = match Desk::open(alloc, volume, sessions) {
+    let (desk, mut passes) = match Desk::open(host.alloc, volume, sessions) {
         Ok(dealt) => dealt,
         Err(volume) => {
             return Ran {
@@ -89,7 +85,7 @@ fn run_some<R: Threads + Wait + Sync, D: Drive + Send, C: Clock + Send, G: Gate 
             };
         }
     };
-    make_all(rt, &desk, passes.as_mut_slice(), gate);
+    make_all(host.rt, &desk, passes.as_mut_slice(), host.gate);
     Ran {
         volume: desk.close_desk(passes),
         outcome: RanEnd::Done,

@@ -8,13 +8,13 @@ ghost use Rattle.crash_laws.specs.May.{MayServe, MayStart};
 ghost use Rattle.session_run.specs.Serving.{IsBegun, IsLookedAt, Whole};
 
 use crate::ends::{ServeEnd, Served, mount_end, of_close};
+use crate::host::Host;
 use crate::ran::{Ran, RanEnd, run_sessions};
 use cartridge_meaning::Mounted;
 use mount_recover::mount;
 use run_laws::plays_are_runs;
 use serving_promise::Kept;
 use session_script::Script;
-use std::alloc::Global;
 use std::snapshot::Snapshot;
 use std::sync::Wait;
 use std::thread::Threads;
@@ -25,12 +25,10 @@ use volume_core::Volume;
 /// Mounts the cartridge in a drive, runs all sessions of a script on its volume, and closes the volume. Each command is
 /// made only where the owner of the drive allows all that a crash may leave of it.
 pub fn serve_volume<R: Threads + Wait + Sync, D: Drive + Send, C: Clock + Send, G: Gate + Sync>(
-    rt: &R,
-    alloc: Global,
+    host: &Host<'_, R, G>,
     drive: D,
     clock: C,
     script: Script,
-    gate: &G,
 ) -> Served<D>
     requires honest { IfSome (D.held drive) HasHonestNotes }
     requires allowed { MayServe D.Drive script (C.one clock) drive }
@@ -40,8 +38,8 @@ pub fn serve_volume<R: Threads + Wait + Sync, D: Drive + Send, C: Clock + Send, 
     let _faults_are_in_range = drive.faults();
     let since = Snapshot::of(&drive.commands());
     let mut drive = drive;
-    match mount(alloc, &mut drive) {
-        Ok(mounted) => serve_mounted(rt, alloc, mounted, drive, clock, script, since, gate),
+    match mount(host.alloc, &mut drive) {
+        Ok(mounted) => serve_mounted(host, mounted, drive, clock, script, since),
         Err(error) => Served {
             drive,
             log: None,
@@ -52,14 +50,12 @@ pub fn serve_volume<R: Threads + Wait + Sync, D: Drive + Send, C: Clock + Send, 
 
 /// Runs a script on a volume that was mounted, and closes it.
 fn serve_mounted<R: Threads + Wait + Sync, D: Drive + Send, C: Clock + Send, G: Gate + Sync>(
-    rt: &R,
-    alloc: Global,
+    host: &Host<'_, R, G>,
     mounted: Mounted,
     drive: D,
     clock: C,
     script: Script,
     since: Snapshot<u64>,
-    gate: &G,
 ) -> Served<D>
     requires mounts { IfSome (D.held drive) (λ c. Mounts c mounted) }
     requires mount { IsMount (D.limits drive) mounted }
@@ -68,8 +64,8 @@ fn serve_mounted<R: Threads + Wait + Sync, D: Drive + Send, C: Clock + Send, G: 
     ensures { (start : D) → D.faults start ≤ 2 ^ 64 - 1 → IsLookedAt D.Drive start drive
         → since.value ≡ D.commands start → Whole D.Drive start (C.one clock) script result }
 {
-    match Volume::start(alloc, mounted, drive, clock, script, since) {
-        Ok(volume) => serve_begun(rt, alloc, volume, gate),
+    match Volume::start(host.alloc, mounted, drive, clock, script, since) {
+        Ok(volume) => serve_begun(host, volume),
         Err(Kept { drive, clock: _ }) => Served {
             drive,
             log: None,
@@ -80,17 +76,15 @@ fn serve_mounted<R: Threads + Wait + Sync, D: Drive + Send, C: Clock + Send, G: 
 
 /// Runs the script of a volume that was begun, and closes the volume.
 fn serve_begun<R: Threads + Wait + Sync, D: Drive + Send, C: Clock + Send, G: Gate + Sync>(
-    rt: &R,
-    alloc: Global,
+    host: &Host<'_, R, G>,
     volume: Volume<D, C>,
-    gate: &G,
 ) -> Served<D>
     requires { volume ≡ begun volume.fixed volume.next }
     ensures { (start : D) → D.faults start ≤ 2 ^ 64 - 1 → IsBegun D.Drive start volume.fixed
         → Whole D.Drive start volume.fixed.moment volume.fixed.script result }
 {
     let sessions = volume.script().sessions();
-    let Ran { volume, outcome } = run_sessions(rt, alloc, volume, sessions, gate);
+    let Ran { volume, outcome } = run_sessions(host, volume, sessions);
     match outcome {
         RanEnd::Done => {
             plays_are_runs::<D>();
