@@ -1,7 +1,9 @@
 -- That a run which was closed leaves its own indexes as the top of the chain.
+use Rattle.std.specs.Prelude.{Contains, map, take}
 use Rattle.std.proofs.Common.{◌≡◌, ◌≢◌, ◌∙◌, ℕ, ◌+◌, ◌<◌, ◌≤◌, if◌then◌else◌, List, [], ◌∷◌, ◌++◌, length, reverse, Option, Some, None}
 use Rattle.std.proofs.Common.{refl, sym, ap, subst, arith, length-append}
 use Rattle.std.specs.List.{AllByRecursion}
+use Rattle.std.proofs.Math.Seq.{take-append-add}
 use Rattle.std.proofs.lemmas.List.{append_assoc, length-reverse, reverse-append}
 use Rattle.tape_types.specs.declared.cartridges.Cartridge.{Cartridge}
 use Rattle.tape_types.specs.declared.moments.Moment.{Moment}
@@ -12,6 +14,7 @@ use Rattle.plain_tree.specs.declared.calls.Fate.TheVariants as fates
 use Rattle.plain_tree.specs.declared.calls.Placed.{Placed}
 use Rattle.index_model.specs.declared.indexes.Index.{Index}
 use Rattle.ltfs_label.specs.declared.Label.{Label}
+use Rattle.session_script.specs.declared.logs.Ack.{Ack}
 use Rattle.session_script.specs.declared.logs.Log.{Log}
 use Rattle.session_script.specs.declared.scripts.ScriptLine.{ScriptLine}
 use Rattle.content_laws.specs.Readings.{Construct}
@@ -26,7 +29,9 @@ use Rattle.cartridge_meaning.proofs.OneWay.{labels_once}
 use Rattle.space_laws.specs.Closing.{is_dp_due}
 use Rattle.space_laws.specs.Standing.{Given, standing}
 use Rattle.space_laws.proofs.TreeLaw.{are_replays}
+use Rattle.serving_promise.specs.Acks.{AreAcks}
 use Rattle.serving_promise.specs.Headline.{tree_of_log}
+use Rattle.serving_promise.specs.Replies.{AreReplies}
 use Rattle.serving_promise.specs.Served.{CanTell, given_of}
 use Rattle.order_laws.specs.Kept.{seen}
 use Rattle.closing_laws.specs.Owned.{IsCovered, LinkDownTo, TellTrees, all_places, own_places}
@@ -35,6 +40,7 @@ use Rattle.session_run.specs.Serving.{HasOwnOnTop}
 use Rattle.generation_view.specs.Chain.{AreLinks, GenTree, IsLink, behind}
 use Rattle.ltfs_server.specs.Generations.{LeavesGenerations, RunsLeaveGenerations}
 use Rattle.ltfs_server.specs.Serving.{EndsRun}
+use Rattle.ltfs_server.proofs.Acknowledged.{acks_are_done}
 
 -- ---- links
 
@@ -198,19 +204,35 @@ module _ {D : Type 0} (drive : Ghosts D) (old new : D) (moment : Option Moment) 
       (sym (same_tree (length front) its.place its.tree))
       (tree_at its.earlier its.place (its.later ++ closing) there))
 
-  pub generations : LeavesGenerations script tree mounted (given_of script tree mounted (seen drive old)) top.on first
-      top.held log
-  generations = record {
-    found = found;
-    own = top.has.own;
-    links = are_links;
-    older = behind_is found.labels.ip top.held (indexes_of first.dp) None (indexes_of top.held.dp) top.has.own links;
-    count = as_many found.labels.ip (ip_end top.held) top.held mounted.newest (tree_of_log script tree log)
-        (reverse places) top.has.own trees
-        ∙ length-reverse places;
-    trees = tree_at;
-    synced = synced_at;
-  }
+  module _ (log_on : Option ℕ) (replies : AreReplies g log_on log.history log.events (map Some log.replies))
+      (acks : AreAcks log.events (map Some log.replies) log.acks) where
+    acknowledged_at : (ack : Ack) → Contains log.acks ack → own_places g top.on (take (ack.place + 1) log.history) ≢ []
+        → GenTree top.held found (standing g top.on log.history (ack.place + 1)).space.newest
+        (tree_of_log script tree log ack.place)
+    acknowledged_at ack there some =
+        let its = acks_are_done g log_on log.history log.events (map Some log.replies) replies log.acks acks ack there in
+        let first_ones : take (ack.place + 1) log.history ≡ its.front ++ its.p ∷ [] =
+        ap (λ (n : ℕ). take (n + 1) log.history) (sym its.count)
+        ∙ ap (λ (h : List Placed). take (length its.front + 1) h) its.history_is
+        ∙ take-append-add its.front (its.p ∷ its.rest) 1 in
+        subst (λ (n : ℕ). GenTree top.held found (standing g top.on log.history (n + 1)).space.newest
+        (tree_of_log script tree log n)) its.count
+        (synced_at its.front its.p its.rest its.history_is its.done its.called
+        (λ none. some (ap (own_places g top.on) first_ones ∙ none)))
+
+    pub generations : LeavesGenerations script tree mounted g top.on first top.held log
+    generations = record {
+      found = found;
+      own = top.has.own;
+      links = are_links;
+      older = behind_is found.labels.ip top.held (indexes_of first.dp) None (indexes_of top.held.dp) top.has.own links;
+      count = as_many found.labels.ip (ip_end top.held) top.held mounted.newest (tree_of_log script tree log)
+          (reverse places) top.has.own trees
+          ∙ length-reverse places;
+      trees = tree_at;
+      synced = synced_at;
+      acknowledged = acknowledged_at;
+    }
 
 some_same : (x y : Cartridge) → Some x ≡ Some y → x ≡ y
 some_same x y e = cc e
@@ -220,12 +242,14 @@ runs_leave_generations drive old new moment script log generation tree mounted f
     let top = ends.own tree mounted first can told in
     let closed = (ends.ends tree mounted can).3 in
     let same : closed.held ≡ top.held = some_same closed.held top.held (sym closed.told ∙ top.told) in
-    let found = subst (λ (c : Cartridge). Found c) same closed.closed.stands.reads.found in (
+    let found = subst (λ (c : Cartridge). Found c) same closed.closed.stands.reads.found in
+    let true_log = ends.run.serves.truly tree mounted can in (
       top.held,
       top.told,
       (
         top.on,
         top.on_is,
-        generations drive old new moment script log tree mounted first top found,
+        generations drive old new moment script log tree mounted first top found true_log.on true_log.replies
+            ends.run.serves.log_is.acks,
       ),
     )

@@ -1,3 +1,4 @@
+pub mod Acknowledged
 pub mod Asked
 pub mod EndedRuns
 pub mod FencedLemmas

@@ -1,5 +1,5 @@
 -- The generations that a run leaves: its own indexes are the top of the chain, each with the tree of its place.
-use Rattle.std.specs.Prelude.{ℕ, ◌≡◌, ◌≢◌, ◌+◌, List, [], ◌∷◌, ◌++◌, length, Option, Some, None}
+use Rattle.std.specs.Prelude.{ℕ, ◌≡◌, ◌≢◌, ◌+◌, List, [], ◌∷◌, ◌++◌, Contains, length, take, Option, Some, None}
 use Rattle.tape_types.specs.declared.cartridges.Cartridge.{Cartridge}
 use Rattle.tape_types.specs.declared.moments.Moment.{Moment}
 use Rattle.plain_tree.specs.History.{call_at}
@@ -8,6 +8,7 @@ use Rattle.plain_tree.specs.declared.calls.Call.TheVariants.{Sync}
 use Rattle.plain_tree.specs.declared.calls.Fate.TheVariants as fates
 use Rattle.plain_tree.specs.declared.calls.Placed.{Placed}
 use Rattle.index_model.specs.declared.indexes.Index.{Index}
+use Rattle.session_script.specs.declared.logs.Ack.{Ack}
 use Rattle.session_script.specs.declared.logs.Log.{Log}
 use Rattle.session_script.specs.declared.scripts.ScriptLine.{ScriptLine}
 use Rattle.tape_drive.specs.declared.drive.Drive.{Ghosts}
@@ -42,6 +43,10 @@ pub record LeavesGenerations (script : List ScriptLine) (tree : Tree) (mounted :
       → p.fate ≡ fates.Done → call_at g.calls p ≡ Some Sync → own_places g on (front ++ p ∷ []) ≢ []
       → GenTree held found (standing g on log.history (length front + 1)).space.newest
       (tree_of_log script tree log (length front))
+  -- so behind each sync that was acknowledged
+  pub acknowledged : (ack : Ack) → Contains log.acks ack → own_places g on (take (ack.place + 1) log.history) ≢ []
+      → GenTree held found (standing g on log.history (ack.place + 1)).space.newest
+      (tree_of_log script tree log ack.place)
 
 -- So each run leaves it that was closed, and that had begun with a drive that told a cartridge which read as a tree,
 -- with nothing pending.
