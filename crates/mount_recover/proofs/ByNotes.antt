@@ -29,7 +29,7 @@ use Rattle.mount_recover.specs.Noted.{AreEndsBy, AreEndsOf, AreEndsWithin, AreNa
 use Rattle.mount_recover.specs.declared.choices.Choice.{Choice}
 use Rattle.mount_recover.specs.declared.choices.Standing.{Standing}
 use Rattle.mount_recover.specs.declared.extents.Ends.{Ends}
-use Rattle.mount_recover.specs.declared.lasts.Last.{Last}
+use Rattle.mount_recover.specs.declared.lasts.LastIndex.{LastIndex}
 use Rattle.mount_recover.specs.declared.lasts.Lasts.{Lasts}
 use Rattle.mount_recover.specs.declared.notes.Named.{Named}
 use Rattle.mount_recover.specs.declared.notes.Notes.{Notes}
@@ -41,12 +41,12 @@ use Rattle.mount_recover.proofs.ScanLemmas.{long_front}
 
 -- ---- the ends
 
-ends_by_lasts : (ip dp : Last) (ip_s dp_s : Option Standing) (ends : Ends) → ip_s ≡ standing_of (Some ip) → dp_s ≡ standing_of (Some dp) → AreEndsBy ip_s dp_s ends
+ends_by_lasts : (ip dp : LastIndex) (ip_s dp_s : Option Standing) (ends : Ends) → ip_s ≡ standing_of (Some ip) → dp_s ≡ standing_of (Some dp) → AreEndsBy ip_s dp_s ends
     → (ends.ip ≡ ip.place.mark) × (ends.dp ≡ dp.place.after)
 ends_by_lasts ip dp ip_s dp_s ends ip_is dp_is are =
     subst (λ (o : Option Standing). AreEndsBy (standing_of (Some ip)) o ends) dp_is (subst (λ (o : Option Standing). AreEndsBy o dp_s ends) ip_is are)
 
-mark_end : (c : Cartridge) (l : Last) (ks : List readings.Construct) → indexes_of c.ip ≡ ks → readings.HasForm c.ip → 4 ≤ length (front c.ip)
+mark_end : (c : Cartridge) (l : LastIndex) (ks : List readings.Construct) → indexes_of c.ip ≡ ks → readings.HasForm c.ip → 4 ≤ length (front c.ip)
     → place_in (Some l) ≡ newest ks → EndsWithLast c.ip ks → end_ip (content c.ip) ≡ l.place.mark
 mark_end c l [] are form long stands ends = absurd ends
 mark_end c l (k ∷ older) are form long stands ends =
@@ -83,8 +83,8 @@ module _ (labels : Labels) (n : Named) (limits : Limits) (lasts : Lasts) (noted 
 -- last indexes that were found by the notes are sound
 pub noted_sound : (labels : Labels) (n : Named) (limits : Limits) (lasts : Lasts) → AreNotedLasts labels.ip n limits lasts → AreSoundLasts labels.ip limits lasts
 noted_sound labels n limits lasts noted = record {
-  dp = subst (λ (o : Option Last). IfSome o (IsSoundLast labels.ip limits.cap_dp)) (sym noted.dp_is) noted.dp_noted.sound;
-  ip = subst (λ (o : Option Last). IfSome o (IsSoundLast labels.ip limits.cap_ip)) (sym noted.ip_is) noted.ip_noted.sound;
+  dp = subst (λ (o : Option LastIndex). IfSome o (IsSoundLast labels.ip limits.cap_dp)) (sym noted.dp_is) noted.dp_noted.sound;
+  ip = subst (λ (o : Option LastIndex). IfSome o (IsSoundLast labels.ip limits.cap_ip)) (sym noted.ip_is) noted.ip_noted.sound;
 }
 
 -- the notes have their last indexes
@@ -97,7 +97,7 @@ none_lacks labels n limits lasts noted (inr none) =
 
 -- ---- the choice
 
-tells : (note : Note) (vcr uuid capacity : ℕ) (label : Label) (part : Part) (values : Coherency) (l : Last) (s : Option Standing) → IsCurrentAs note vcr uuid values
+tells : (note : Note) (vcr uuid capacity : ℕ) (label : Label) (part : Part) (values : Coherency) (l : LastIndex) (s : Option Standing) → IsCurrentAs note vcr uuid values
     → IsNotedLast label part values capacity l → s ≡ standing_of (Some l) → TellsStanding note vcr uuid s
 tells note vcr uuid capacity label part values l s current noted is = record {
   values = values;

@@ -32,23 +32,23 @@ use Rattle.mount_recover.specs.Noted.{AreEndsOf, AreEndsWithin}
 use Rattle.mount_recover.specs.declared.extents.Ends.{Ends}
 use Rattle.mount_recover.specs.declared.choices.Choice.{Choice}
 use Rattle.mount_recover.specs.declared.choices.Standing.{Standing}
-use Rattle.mount_recover.specs.declared.lasts.Last.{Last}
+use Rattle.mount_recover.specs.declared.lasts.LastIndex.{LastIndex}
 use Rattle.mount_recover.specs.declared.lasts.Lasts.{Lasts}
 use Rattle.mount_recover.specs.declared.lasts.Lasts.TheVariants as found
-use Rattle.mount_recover.specs.declared.lasts.Twin.{Twin}
+use Rattle.mount_recover.specs.declared.lasts.TwinIndex.{TwinIndex}
 use Rattle.mount_recover.specs.declared.scans.Scans.{Scans}
 use Rattle.volume_scan.proofs.Told.{lacks_form}
 
 -- ---- where the next items go
 
-pub place_is : (l : Last) (k : readings.Construct) (older : List readings.Construct) → place_in (Some l) ≡ newest (k ∷ older) → l.place ≡ places_of k
+pub place_is : (l : LastIndex) (k : readings.Construct) (older : List readings.Construct) → place_in (Some l) ≡ newest (k ∷ older) → l.place ≡ places_of k
 place_is l k older is = cc
 
 pub none_newest : (ks : List readings.Construct) → None ≡ newest ks → ks ≡ []
 none_newest [] is = refl
 none_newest (k ∷ older) is = absurd (cc is)
 
-ends_in : (pos : ℕ) (phase : Phase) (ks : List readings.Construct) (last : Option Last) (found : Content) (end : ℕ) → EndsAt pos phase ks
+ends_in : (pos : ℕ) (phase : Phase) (ks : List readings.Construct) (last : Option LastIndex) (found : Content) (end : ℕ) → EndsAt pos phase ks
     → ((at : ℕ) → phase ≢ Bad at) → found.lead ≡ lead_of pos phase → found.front ≡ pos → place_in last ≡ newest ks → IsIpEnd found (standing_of last) end
     → end ≡ end_ip_in pos phase ks
 ends_in pos (Data zero) [] None found end at sound lead front_is is ends = ends ∙ lead
@@ -71,13 +71,13 @@ ends_in pos (InIndex mark blocks) (k ∷ older) (Some l) found end at sound lead
 sound_phase : (items : List Item) → HasForm items → (at : ℕ) → (content items).phase ≢ Bad at
 sound_phase items form at bad = never_both items at form (lacks_form items at bad)
 
-pub ends_ip : (items : List Item) (last : Option Last) (found : Content) (end : ℕ) → IsSeen items found → place_in last ≡ newest (indexes_of items)
+pub ends_ip : (items : List Item) (last : Option LastIndex) (found : Content) (end : ℕ) → IsSeen items found → place_in last ≡ newest (indexes_of items)
     → IsIpEnd found (standing_of last) end → end ≡ end_ip (content items)
 ends_ip items last found end seen is ends =
     ends_in (content items).pos (content items).phase (content items).constructs last found end (content_placed items).ends (sound_phase items seen.form)
     seen.lead (seen.front ∙ sym (pos_is items seen.long (sound_phase items seen.form))) is ends
 
-pub ends_dp : (ks : List readings.Construct) (last : Option Last) → place_in last ≡ newest ks → dp_ends (standing_of last) ≡ end_dp ks
+pub ends_dp : (ks : List readings.Construct) (last : Option LastIndex) → place_in last ≡ newest ks → dp_ends (standing_of last) ≡ end_dp ks
 ends_dp [] None is = refl
 ends_dp [] (Some l) is = absurd (cc is)
 ends_dp (k ∷ older) None is = absurd (cc is)
@@ -87,7 +87,7 @@ from_four : (ks : List Construct) (from to : ℕ) → AreBetween from to ks → 
 from_four [] from to b = b
 from_four (k ∷ ks) from to b = omega (arith, b.0, b.1, b.2, from_four ks k.after to b.3)
 
-pub ip_in_range : (capacity : ℕ) (label : Label) (last : Option Last) (found : Content) (end : ℕ) → IsInPlaces capacity found → IfSome last (IsSoundLast label capacity)
+pub ip_in_range : (capacity : ℕ) (label : Label) (last : Option LastIndex) (found : Content) (end : ℕ) → IsInPlaces capacity found → IfSome last (IsSoundLast label capacity)
     → IsIpEnd found (standing_of last) end → (4 ≤ end) × (end ≤ capacity)
 ip_in_range capacity label None found end places sound ends =
     (omega (arith, ends, from_four found.constructs 4 found.lead places.constructs), omega (arith, ends, places.lead, places.front))
@@ -96,7 +96,7 @@ ip_in_range capacity label (Some l) found end places sound (inl ends) =
 ip_in_range capacity label (Some l) found end places sound (inr ends) =
     (omega (arith, ends.1, from_four found.constructs 4 found.lead places.constructs), omega (arith, ends.1, places.lead, places.front))
 
-pub dp_in_range : (capacity : ℕ) (label : Label) (last : Option Last) (end : ℕ) → 4 ≤ capacity → IfSome last (IsSoundLast label capacity)
+pub dp_in_range : (capacity : ℕ) (label : Label) (last : Option LastIndex) (end : ℕ) → 4 ≤ capacity → IfSome last (IsSoundLast label capacity)
     → end ≡ dp_ends (standing_of last) → (4 ≤ end) × (end ≤ capacity) × IfSome (standing_of last) (λ s. s.place.first < end)
 dp_in_range capacity label None end least sound ends = (omega (arith, ends), omega (arith, ends, least), tt)
 dp_in_range capacity label (Some l) end least sound ends = (
@@ -106,7 +106,7 @@ dp_in_range capacity label (Some l) end least sound ends = (
 )
 
 -- an index of its generation is beside that of the data partition
-pub picked_alike : (twin : Twin) (dp : Last) → IsPicked (ip_in (found.Alike twin dp)) (Some dp) dp Dp
+pub picked_alike : (twin : TwinIndex) (dp : LastIndex) → IsPicked (ip_in (found.Alike twin dp)) (Some dp) dp Dp
 picked_alike twin dp = record {
   index = ap (λ (b : Bool). Some (cond b (twin_of dp.index twin) dp.index)) (not_below dp.index.generation);
   side_is = ap (λ (b : Bool). cond b Ip Dp) (not_below dp.index.generation);
@@ -169,7 +169,7 @@ module _ (c : Cartridge) (labels : Labels) (ends : Ends) (lasts : Lasts) (forms 
         }
 
 -- the chosen index is one of the last ones
-sound_index : (label : Label) (ip dp : Option Last) (capacity other : ℕ) (index : Index) → IfSome ip (IsSoundLast label capacity) → IfSome dp (IsSoundLast label other)
+sound_index : (label : Label) (ip dp : Option LastIndex) (capacity other : ℕ) (index : Index) → IfSome ip (IsSoundLast label capacity) → IfSome dp (IsSoundLast label other)
     → chosen (index_in ip) (index_in dp) ≡ Some index → IsSound label index
 sound_index label None None capacity other index ip dp is = absurd (cc is)
 sound_index label None (Some d) capacity other index ip dp is = let same : d.index ≡ index = cc is in subst (IsSound label) same dp.index

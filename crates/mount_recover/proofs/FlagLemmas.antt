@@ -34,7 +34,7 @@ use Rattle.mount_recover.specs.declared.notes.Notes.{Notes}
 use Rattle.mount_recover.specs.Lasts.{EndsAs, IsFront, IsSeen, TellsBoth, TellsStanding, newest, place_in, standing_of}
 use Rattle.mount_recover.specs.Steps.{IsFree, IsSince, IsStep}
 use Rattle.mount_recover.specs.declared.choices.Standing.{Standing}
-use Rattle.mount_recover.specs.declared.lasts.Last.{Last}
+use Rattle.mount_recover.specs.declared.lasts.LastIndex.{LastIndex}
 use Rattle.mount_recover.specs.declared.starts.Start.{Start}
 use Rattle.mount_recover.proofs.ChoiceLemmas.{place_is}
 use Rattle.mount_recover.proofs.StepLemmas.{at_told, since_next}
@@ -103,7 +103,7 @@ ends_before items count last s is front_is differ ends =
     let within : s.place.after ≤ count = subst (λ (o : Option Standing). IfSome o (λ s. s.place.after ≤ count)) is front_is.within in
     differ (omega (arith, all, within, front_is.count_is, front_within items))
 
-pub front_of : (items : List Item) (found : Content) (last : Option Last) (standing : Option Standing) → IsSeen items found
+pub front_of : (items : List Item) (found : Content) (last : Option LastIndex) (standing : Option Standing) → IsSeen items found
     → place_in last ≡ newest (indexes_of items) → standing ≡ standing_of last → IsFront items found.front standing
 front_of items found last standing seen place kept = record {
   count_is = seen.front;
@@ -112,7 +112,7 @@ front_of items found last standing seen place kept = record {
       (after_within last (indexes_of items) place (end_dp_within items seen.long));
 }
   where
-    after_within : (last : Option Last) (ks : List readings.Construct) → place_in last ≡ newest ks → end_dp ks ≤ length (front items)
+    after_within : (last : Option LastIndex) (ks : List readings.Construct) → place_in last ≡ newest ks → end_dp ks ≤ length (front items)
         → IfSome (standing_of last) (λ s. s.place.after ≤ found.front)
     after_within None ks is le = tt
     after_within (Some l) [] is le = absurd (cc is)

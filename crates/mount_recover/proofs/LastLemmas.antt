@@ -24,7 +24,7 @@ use Rattle.volume_scan.specs.declared.content.Content.{Content}
 use Rattle.volume_scan.specs.Scans.{AreBetween, IsInPlaces, places_of}
 use Rattle.mount_recover.specs.Labels.{AreCounts}
 use Rattle.mount_recover.specs.Lasts.{AreLasts, AreLastsWith, AreSoundLasts, AreSoundWith, HasIndexAt, IsBadNewest, IsBadText, IsDocument, IsInPlace, IsKnownDp, IsKnownIp, IsLastDp, IsLastIp, IsNewest, IsNoText, IsOfNewest, IsParted, IsScan, IsSeen, IsSoundLast, IsTrueAt, index_in, ip_in, newest}
-use Rattle.mount_recover.specs.declared.lasts.Last.{Last}
+use Rattle.mount_recover.specs.declared.lasts.LastIndex.{LastIndex}
 use Rattle.mount_recover.specs.declared.lasts.Lasts.{Lasts}
 use Rattle.mount_recover.specs.declared.scans.Scans.{Scans}
 use Rattle.mount_recover.specs.Steps.{Blames, IsFree}
@@ -226,16 +226,16 @@ module _ (c : Cartridge) (labels : Labels) (place : Construct) (dps : List Const
 
 -- ---- both
 
-pub are_lasts : (label : Label) (dp : Option Last) (lasts : Lasts) (c : Cartridge) → IsLastDp label dp c → AreLastsWith label dp lasts c → AreLasts label lasts c
+pub are_lasts : (label : Label) (dp : Option LastIndex) (lasts : Lasts) (c : Cartridge) → IsLastDp label dp c → AreLastsWith label dp lasts c → AreLasts label lasts c
 are_lasts label dp lasts c last is = record {
-  dp = subst (λ (o : Option Last). IsLastDp label o c) (sym is.dp_is) last;
-  ip = subst (λ (o : Option Last). IsLastIp label (index_in o) (ip_in lasts) c) (sym is.dp_is) is.ip;
+  dp = subst (λ (o : Option LastIndex). IsLastDp label o c) (sym is.dp_is) last;
+  ip = subst (λ (o : Option LastIndex). IsLastIp label (index_in o) (ip_in lasts) c) (sym is.dp_is) is.ip;
 }
 
-pub are_sound : (label : Label) (limits : Limits) (dp : Option Last) (lasts : Lasts) → IfSome dp (IsSoundLast label limits.cap_dp)
+pub are_sound : (label : Label) (limits : Limits) (dp : Option LastIndex) (lasts : Lasts) → IfSome dp (IsSoundLast label limits.cap_dp)
     → AreSoundWith label limits.cap_ip dp lasts → AreSoundLasts label limits lasts
 are_sound label limits dp lasts last is =
-    record { dp = subst (λ (o : Option Last). IfSome o (IsSoundLast label limits.cap_dp)) (sym is.dp_is) last; ip = is.ip }
+    record { dp = subst (λ (o : Option LastIndex). IfSome o (IsSoundLast label limits.cap_dp)) (sym is.dp_is) last; ip = is.ip }
 
 -- ---- what a scan makes known
 
@@ -255,7 +255,7 @@ pub known_dp : (c : Cartridge) (labels : Labels) (s : Scans) (older : List Const
 known_dp c labels s older place scan split =
     let n = newest_of c.dp s.dp older place scan.dp split in record { forms = forms_of c labels s scan; newest = n.0; parted = n.1 }
 
-pub known_ip : (c : Cartridge) (labels : Labels) (s : Scans) (on_dp : Option Last) (older : List Construct) (place : Construct) → IsScan labels s c
+pub known_ip : (c : Cartridge) (labels : Labels) (s : Scans) (on_dp : Option LastIndex) (older : List Construct) (place : Construct) → IsScan labels s c
     → IsLastDp labels.ip on_dp c → s.ip.constructs ≡ older ++ place ∷ [] → IsKnownIp labels place s.dp.constructs (index_in on_dp) c
 known_ip c labels s on_dp older place scan dp split =
     let n = newest_of c.ip s.ip older place scan.ip split in

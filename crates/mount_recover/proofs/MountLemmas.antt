@@ -42,7 +42,7 @@ use Rattle.mount_recover.specs.Noted.{IsChosenByNotes}
 use Rattle.mount_recover.specs.declared.choices.Choice.{Choice}
 use Rattle.mount_recover.specs.declared.choices.Standing.{Standing}
 use Rattle.mount_recover.specs.declared.flags.Flags.{Flags}
-use Rattle.mount_recover.specs.declared.lasts.Last.{Last}
+use Rattle.mount_recover.specs.declared.lasts.LastIndex.{LastIndex}
 use Rattle.mount_recover.specs.declared.lasts.Lasts.{Lasts}
 use Rattle.mount_recover.proofs.ChoiceLemmas.{place_is}
 
@@ -51,40 +51,40 @@ both first second = ((λ a. second.0 (first.0 a)), λ c. first.1 (second.1 c))
 
 -- ---- by what is kept of a last index
 
-standing_some : (last : Option Last) (s : Standing) → standing_of last ≡ Some s
-    → (l : Last) × (last ≡ Some l) × (s.place ≡ l.place) × (s.generation ≡ l.index.generation) × (s.back ≡ l.index.back)
+standing_some : (last : Option LastIndex) (s : Standing) → standing_of last ≡ Some s
+    → (l : LastIndex) × (last ≡ Some l) × (s.place ≡ l.place) × (s.generation ≡ l.index.generation) × (s.back ≡ l.index.back)
 standing_some None s is = absurd (cc is)
 standing_some (Some l) s is =
     let same : ◌≡◌ {A = Standing} (record { place = l.place; generation = l.index.generation; back = l.index.back }) s = cc is in
     (l, refl, sym (ap (λ (x : Standing). x.place) same), sym (ap (λ (x : Standing). x.generation) same), sym (ap (λ (x : Standing). x.back) same))
 
-index_some : (last : Option Last) (index : Index) → index_in last ≡ Some index → (l : Last) × (last ≡ Some l) × (l.index ≡ index)
+index_some : (last : Option LastIndex) (index : Index) → index_in last ≡ Some index → (l : LastIndex) × (last ≡ Some l) × (l.index ≡ index)
 index_some None index is = absurd (cc is)
 index_some (Some l) index is = (l, refl, (cc is))
 
-place_some : (last : Option Last) (ks : List readings.Construct) → place_in last ≡ newest ks → ks ≢ [] → (l : Last) × (last ≡ Some l)
+place_some : (last : Option LastIndex) (ks : List readings.Construct) → place_in last ≡ newest ks → ks ≢ [] → (l : LastIndex) × (last ≡ Some l)
 place_some (Some l) ks is some = (l, refl)
 place_some None [] is some = absurd (some refl)
 place_some None (k ∷ older) is some = absurd (cc is)
 
-block_of : (l : Last) (ks : List readings.Construct) → place_in (Some l) ≡ newest ks → last_block ks ≡ Some l.place.first
+block_of : (l : LastIndex) (ks : List readings.Construct) → place_in (Some l) ≡ newest ks → last_block ks ≡ Some l.place.first
 block_of l [] is = absurd (cc is)
 block_of l (k ∷ older) is = ap (λ (p : Construct). Some p.first) (sym (place_is l k older is))
 
-pub spot_of : (label : Label) (l : Last) (ks : List readings.Construct) → place_in (Some l) ≡ newest ks
+pub spot_of : (label : Label) (l : LastIndex) (ks : List readings.Construct) → place_in (Some l) ≡ newest ks
     → newest_spot label ks ≡ Some (record { letter = label.dpart; block = l.place.first })
 spot_of label l [] is = absurd (cc is)
 spot_of label l (k ∷ older) is =
     ap (λ (p : Construct). Some (record { letter = label.dpart; block = p.first })) (sym (place_is l k older is))
 
-first_last : (last : Option Last) (ks : List readings.Construct) → place_in last ≡ newest ks
+first_last : (last : Option LastIndex) (ks : List readings.Construct) → place_in last ≡ newest ks
     → option_map (λ (s : Standing). s.place.first) (standing_of last) ≡ last_block ks
 first_last None [] is = refl
 first_last None (k ∷ older) is = absurd (cc is)
 first_last (Some l) ks is = sym (block_of l ks is)
 
 -- the items end as what is kept of the last index says, exactly where they end with that
-pub ends_same : (items : List Item) (last : Option Last) (ks : List readings.Construct) → place_in last ≡ newest ks
+pub ends_same : (items : List Item) (last : Option LastIndex) (ks : List readings.Construct) → place_in last ≡ newest ks
     → EndsAs items (standing_of last) ↔ EndsWithLast items ks
 ends_same items None [] is = ((λ ends. ends), λ ends. ends)
 ends_same items None (k ∷ older) is = absurd (cc is)
@@ -92,12 +92,12 @@ ends_same items (Some l) [] is = absurd (cc is)
 ends_same items (Some l) (k ∷ older) is =
     let same = ap (λ (p : Construct). p.after) (place_is l k older is) in ((λ ends. ends ∙ same), λ ends. ends ∙ sym same)
 
-not_empty : (l : Last) (ks : List readings.Construct) → place_in (Some l) ≡ newest ks → ks ≢ []
+not_empty : (l : LastIndex) (ks : List readings.Construct) → place_in (Some l) ≡ newest ks → ks ≢ []
 not_empty l ks is none = absurd (let bad : place_in (Some l) ≡ None = is ∙ ap newest none in cc bad)
 
 -- ---- the notes
 
-tells_noted : (c : Cartridge) (label : Label) (part : Part) (last : Option Last) (standing : Option Standing) → standing ≡ standing_of last
+tells_noted : (c : Cartridge) (label : Label) (part : Part) (last : Option LastIndex) (standing : Option Standing) → standing ≡ standing_of last
     → place_in last ≡ newest (indexes_of (items_of part c)) → ((index : Index) → index_in last ≡ Some index → LastReads label part c index)
     → ((index : Index) → LastReads label part c index → index_in last ≡ Some index)
     → TellsStanding (note_of part c) c.vcr label.uuid standing ↔ IsNoted c label part
@@ -164,7 +164,7 @@ module _ (c : Cartridge) (labels : Labels) (lasts : Lasts) (choice : Choice) (d 
     within = d.within;
   }
 
-  place_on : (part : Part) (last : Last) → last_on part (ip_in lasts) (dp_in lasts) ≡ Some last → last_place part c ≡ Some (record { part = part; pos = last.place.first })
+  place_on : (part : Part) (last : LastIndex) → last_on part (ip_in lasts) (dp_in lasts) ≡ Some last → last_place part c ≡ Some (record { part = part; pos = last.place.first })
   place_on Ip last is = ap (option_map (λ (pos : ℕ). record { part = Ip; pos = pos })) (block_of last (indexes_of c.ip) (ap place_in (sym is) ∙ d.lasts_are.ip.place))
   place_on Dp last is = ap (option_map (λ (pos : ℕ). record { part = Dp; pos = pos })) (block_of last (indexes_of c.dp) (ap place_in (sym is) ∙ d.lasts_are.dp.place))
 

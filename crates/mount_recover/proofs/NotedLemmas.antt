@@ -29,10 +29,10 @@ use Rattle.mount_recover.specs.Labels.{AreLabels}
 use Rattle.mount_recover.specs.Lasts.{AreLasts, IsDocument, IsInPlace, IsKnownIp, IsLastDp, IsLastIp, IsTextOf, IsTwinAt, newest, twin_of}
 use Rattle.mount_recover.specs.Noted.{AreNotedLasts, AreTold, EndWithLasts, EndsAt, Follows, IsEnding, IsLastFrom, IsNotedLast, IsNotedText, IsOfNote, IsTold, lacks_memory}
 use Rattle.mount_recover.specs.declared.endings.Ending.{Ending}
-use Rattle.mount_recover.specs.declared.lasts.Last.{Last}
+use Rattle.mount_recover.specs.declared.lasts.LastIndex.{LastIndex}
 use Rattle.mount_recover.specs.declared.lasts.Lasts.{Lasts}
 use Rattle.mount_recover.specs.declared.lasts.Lasts.TheVariants as found
-use Rattle.mount_recover.specs.declared.lasts.Twin.{Twin}
+use Rattle.mount_recover.specs.declared.lasts.TwinIndex.{TwinIndex}
 use Rattle.mount_recover.specs.declared.notes.Named.{Named}
 use Rattle.mount_recover.proofs.LastLemmas.{of_newest, right_ip}
 use Rattle.mount_recover.proofs.MountLemmas.{spot_of}
@@ -54,7 +54,7 @@ one_noted document label letter note place index other text noted =
     subst (IsOfNote label letter note place) (one_index_text document other index noted.text text) noted.is_of
 
 -- what follows the last index of the data partition by one reading of a text does so by another
-pub one_follows : (document : List ℕ) (label : Label) (index other : Index) (dp : Last) → IndexText document index → IndexText document other
+pub one_follows : (document : List ℕ) (label : Label) (index other : Index) (dp : LastIndex) → IndexText document index → IndexText document other
     → Follows label other dp → Follows label index dp
 one_follows document label index other dp text others follows =
     subst (λ (x : Index). Follows label x dp) (one_index_text document other index others text) follows
@@ -129,9 +129,9 @@ module _ (c : Cartridge) (label : Label) (note : Coherency) (document : List ℕ
 -- ---- the data partition
 
 -- the last index of the data partition, where its document was read: none only where the partition goes on
-pub noted_dp : (c : Cartridge) (label : Label) (note : Coherency) (document text : List ℕ) (place : Construct) (found : Option Last) → text ≡ document
+pub noted_dp : (c : Cartridge) (label : Label) (note : Coherency) (document text : List ℕ) (place : Construct) (found : Option LastIndex) → text ≡ document
     → IfSome found (λ l. (l.place ≡ place) × IsNotedText text label label.dpart note place l.index)
-    → ((index : Index) → IsNotedText text label label.dpart note place index → (l : Last) × (found ≡ Some l))
+    → ((index : Index) → IsNotedText text label label.dpart note place index → (l : LastIndex) × (found ≡ Some l))
     → IsTold label Dp note c → EndsAt c.dp document place
     → MatchOption found (¬ EndsWithLast c.dp (indexes_of c.dp)) (λ l. IsLastDp label (Some l) c × EndsWithLast c.dp (indexes_of c.dp))
 noted_dp c label note document text place None same some all told ends =
@@ -149,7 +149,7 @@ noted_dp c label note document text place (Some l) same some all told ends =
     )
 
 -- an index that was read is a last one found by its note
-pub noted_last : (label : Label) (part : Part) (letter capacity : ℕ) (note : Coherency) (text before after : List ℕ) (e : Ending) (found : Option Last)
+pub noted_last : (label : Label) (part : Part) (letter capacity : ℕ) (note : Coherency) (text before after : List ℕ) (e : Ending) (found : Option LastIndex)
     → letter ≡ letter_of label part → 5 ≤ note.block
     → IfSome found (λ l. (l.place ≡ e.place) × IsNotedText text label letter note e.place l.index)
     → IsEnding capacity (note.block - 1) before after e → IfSome found (IsNotedLast label part note capacity)
@@ -175,7 +175,7 @@ noted_last label part letter capacity note text before after e (Some l) letter_i
 -- ---- the index partition
 
 -- what is known by the notes is known of the last indexes that the notes tell of
-module _ (c : Cartridge) (labels : Labels) (n : Named) (told : AreTold labels n c) (known : IsKnownByNotes c) (dp : Last) (last : IsLastDp labels.ip (Some dp) c) where
+module _ (c : Cartridge) (labels : Labels) (n : Named) (told : AreTold labels n c) (known : IsKnownByNotes c) (dp : LastIndex) (last : IsLastDp labels.ip (Some dp) c) where
   labels_are : known.found.labels ≡ labels
   labels_are = labels_once c known.found.labels labels known.found.forms.has told.has
 
@@ -222,7 +222,7 @@ module _ (c : Cartridge) (labels : Labels) (n : Named) (told : AreTold labels n 
   }
 
 -- the last index of the index partition, where it follows that of the data partition
-module _ (c : Cartridge) (labels : Labels) (n : Named) (told : AreTold labels n c) (dp : Last) (last : IsLastDp labels.ip (Some dp) c)
+module _ (c : Cartridge) (labels : Labels) (n : Named) (told : AreTold labels n c) (dp : LastIndex) (last : IsLastDp labels.ip (Some dp) c)
     (document : List ℕ) (place : Construct) (ends : EndsAt c.ip document place) where
   -- what is known of the index partition
   pub known_ip : IsKnownIp labels place (map places_of (reverse (indexes_of c.dp))) (Some dp.index) c
@@ -254,9 +254,9 @@ module _ (c : Cartridge) (labels : Labels) (n : Named) (told : AreTold labels n 
       ap (λ (x : Index). x.generation) same ∙ sym told.ip.tells.generation
 
 -- both last indexes, where the second one was read
-pub noted_both : (c : Cartridge) (labels : Labels) (n : Named) (dp now : Last) (document text : List ℕ) (place : Construct) (found_is : Option Lasts) → text ≡ document
+pub noted_both : (c : Cartridge) (labels : Labels) (n : Named) (dp now : LastIndex) (document text : List ℕ) (place : Construct) (found_is : Option Lasts) → text ≡ document
     → now ≡ dp
-    → IfSome found_is (λ l. (ip : Last) × (l ≡ found.OnBoth ip now) × (ip.place ≡ place) × IsNotedText text labels.ip labels.ip.index n.ip place ip.index × Follows labels.ip ip.index now)
+    → IfSome found_is (λ l. (ip : LastIndex) × (l ≡ found.OnBoth ip now) × (ip.place ≡ place) × IsNotedText text labels.ip labels.ip.index n.ip place ip.index × Follows labels.ip ip.index now)
     → ((index : Index) → IsNotedText text labels.ip labels.ip.index n.ip place index → Follows labels.ip index now → (l : Lasts) × (found_is ≡ Some l))
     → AreTold labels n c → IsLastDp labels.ip (Some dp) c → EndsWithLast c.dp (indexes_of c.dp) → EndsAt c.ip document place
     → MatchOption found_is (¬ IsKnownByNotes c) (λ lasts. AreLasts labels.ip lasts c × EndWithLasts c)
@@ -268,9 +268,9 @@ noted_both c labels n dp now document text place None same now_is some all told 
 noted_both c labels n dp now document text place (Some l) same now_is some all told last dp_ends ends =
     subst (λ (x : Lasts). AreLasts labels.ip x c × EndWithLasts c) (sym some.1) (
       record {
-        dp = subst (λ (x : Last). IsLastDp labels.ip (Some x) c) (sym now_is) last;
+        dp = subst (λ (x : LastIndex). IsLastDp labels.ip (Some x) c) (sym now_is) last;
         ip =
-            subst (λ (x : Last). IsLastIp labels.ip (Some x.index) (Some some.0) c) (sym now_is)
+            subst (λ (x : LastIndex). IsLastIp labels.ip (Some x.index) (Some some.0) c) (sym now_is)
             (subst (λ (p : Construct). IsLastIp labels.ip (Some dp.index) (Some (record { index = some.0.index; place = p })) c) (sym some.2)
             (last_ip c labels n told dp last document place ends some.0.index
             (subst (λ (t : List ℕ). IsNotedText t labels.ip labels.ip.index n.ip place some.0.index) same some.3)
@@ -280,8 +280,8 @@ noted_both c labels n dp now document text place (Some l) same now_is some all t
     )
 
 -- so were both found by the notes
-pub sound_both : (labels : Labels) (n : Named) (limits : Limits) (dp now : Last) (before after text : List ℕ) (e : Ending) (found_is : Option Lasts) → now ≡ dp → 5 ≤ n.ip.block
-    → IfSome found_is (λ l. (ip : Last) × (l ≡ found.OnBoth ip now) × (ip.place ≡ e.place) × IsNotedText text labels.ip labels.ip.index n.ip e.place ip.index × Follows labels.ip ip.index now)
+pub sound_both : (labels : Labels) (n : Named) (limits : Limits) (dp now : LastIndex) (before after text : List ℕ) (e : Ending) (found_is : Option Lasts) → now ≡ dp → 5 ≤ n.ip.block
+    → IfSome found_is (λ l. (ip : LastIndex) × (l ≡ found.OnBoth ip now) × (ip.place ≡ e.place) × IsNotedText text labels.ip labels.ip.index n.ip e.place ip.index × Follows labels.ip ip.index now)
     → IsNotedLast labels.ip Dp n.dp limits.cap_dp dp → IsEnding limits.cap_ip (n.ip.block - 1) before after e
     → IfSome found_is (AreNotedLasts labels.ip n limits)
 sound_both labels n limits dp now before after text e None now_is low some noted any = tt
@@ -299,7 +299,7 @@ sound_both labels n limits dp now before after text e (Some l) now_is low some n
     })
 
 -- both last indexes, where the second one is the first one but for its pointers
-module _ (labels : Labels) (n : Named) (limits : Limits) (dp now : Last) (now_is : now ≡ dp) (e : Ending) (twin : Twin) (low : 5 ≤ n.ip.block)
+module _ (labels : Labels) (n : Named) (limits : Limits) (dp now : LastIndex) (now_is : now ≡ dp) (e : Ending) (twin : TwinIndex) (low : 5 ≤ n.ip.block)
     (place_is : twin.place ≡ e.place) (here_is : twin.here ≡ record { letter = labels.ip.index; block = n.ip.block })
     (back_is : twin.back ≡ record { letter = labels.ip.dpart; block = dp.place.first })
     (range : IsLimits limits) (spelled : AreLabels labels) (noted : IsNotedLast labels.ip Dp n.dp limits.cap_dp dp)
@@ -330,7 +330,7 @@ module _ (labels : Labels) (n : Named) (limits : Limits) (dp now : Last) (now_is
       of : (o : Option Lasts) → IfSome o (λ l. (l ≡ found.Alike twin now) × (now.index.generation ≡ n.ip.generation)) → IfNone o (now.index.generation ≢ n.ip.generation)
           → MatchOption o (¬ IsKnownByNotes c) (λ lasts. AreLasts labels.ip lasts c × EndWithLasts c)
       of None has hasnt = λ known.
-          hasnt (ap (λ (x : Last). x.index.generation) now_is
+          hasnt (ap (λ (x : LastIndex). x.index.generation) now_is
           ∙ twin_generation c labels n told dp last document e.place ends (twin_of dp.index twin)
           (subst (λ (p : Construct). IsLastIp labels.ip (Some dp.index) (Some (record { index = twin_of dp.index twin; place = p })) c) place_is is_last))
       of (Some l) has hasnt =
@@ -356,7 +356,7 @@ module _ (labels : Labels) (n : Named) (limits : Limits) (dp now : Last) (now_is
               first = ap (λ (p : Construct). p.first) place_is ∙ first;
               noted = record {
                 here = twin_at.here ∙ ap (λ (p : Construct). record { letter = labels.ip.index; block = p.first }) (sym place_is);
-                generation = ap (λ (x : Last). x.index.generation) (sym now_is) ∙ has.1;
+                generation = ap (λ (x : LastIndex). x.index.generation) (sym now_is) ∙ has.1;
               };
             };
             follows = record { later = omega arith; back = ap (λ (s : _). Some s) back_is };

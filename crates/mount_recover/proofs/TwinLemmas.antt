@@ -17,14 +17,14 @@ use Rattle.cartridge_meaning.specs.declared.labels.Labels.{Labels}
 use Rattle.volume_scan.specs.declared.content.Construct.{Construct}
 use Rattle.mount_recover.specs.Labels.{AreLabels}
 use Rattle.mount_recover.specs.Lasts.{IsDocument, IsInPlace, IsKnownIp, IsLastDp, IsLastIp, IsSoundLast, IsTextOf, IsTwinAt, twin_of}
-use Rattle.mount_recover.specs.declared.lasts.Last.{Last}
-use Rattle.mount_recover.specs.declared.lasts.Twin.{Twin}
+use Rattle.mount_recover.specs.declared.lasts.LastIndex.{LastIndex}
+use Rattle.mount_recover.specs.declared.lasts.TwinIndex.{TwinIndex}
 use Rattle.mount_recover.proofs.LastLemmas.{of_newest, right_ip}
 use Rattle.mount_recover.proofs.LetterRanges.{letters_in_range}
 use Rattle.mount_recover.proofs.MountLemmas.{spot_of}
 
 -- an index is as valid with other pointers
-valid_twin : (index : Index) (twin : Twin) → IsValid index → IsSpot twin.here → IsSpot twin.back → IsValid (twin_of index twin)
+valid_twin : (index : Index) (twin : TwinIndex) → IsValid index → IsSpot twin.here → IsSpot twin.back → IsValid (twin_of index twin)
 valid_twin index twin valid here back = record {
   formed = record {
     creator = valid.formed.creator;
@@ -47,7 +47,7 @@ valid_twin index twin valid here back = record {
 spot : (letter block : ℕ) (s : Spot) → s ≡ record { letter = letter; block = block } → IsLetter letter → block ≤ 2 ^ 40 → IsSpot s
 spot letter block s is ranged within = subst IsSpot (sym is) (record { letter = ranged; block = omega (arith, within) })
 
-module _ (labels : Labels) (limits : Limits) (place : Construct) (dp : Last) (twin : Twin) (at : IsTwinAt labels.ip place dp.place twin)
+module _ (labels : Labels) (limits : Limits) (place : Construct) (dp : LastIndex) (twin : TwinIndex) (at : IsTwinAt labels.ip place dp.place twin)
     (range : IsLimits limits) (spelled : AreLabels labels) (in_place : IsInPlace limits.cap_ip place) (sound : IsSoundLast labels.ip limits.cap_dp dp) where
   here : IsSpot twin.here
   here =

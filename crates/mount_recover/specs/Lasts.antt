@@ -41,10 +41,10 @@ use Rattle.volume_scan.specs.declared.content.Content.{Content}
 use Rattle.volume_scan.specs.Scans.{AreBetween, IsContent, IsInPlaces, places_of}
 use Rattle.mount_recover.specs.declared.scans.Scans.{Scans}
 use Rattle.mount_recover.specs.declared.documents.Beside.{Beside}
-use Rattle.mount_recover.specs.declared.lasts.Last.{Last}
+use Rattle.mount_recover.specs.declared.lasts.LastIndex.{LastIndex}
 use Rattle.mount_recover.specs.declared.lasts.Lasts.{Lasts}
 use Rattle.mount_recover.specs.declared.lasts.Lasts.TheVariants as found
-use Rattle.mount_recover.specs.declared.lasts.Twin.{Twin}
+use Rattle.mount_recover.specs.declared.lasts.TwinIndex.{TwinIndex}
 use Rattle.mount_recover.specs.declared.choices.Standing.{Standing}
 use Rattle.mount_recover.specs.Labels.{IsSpelled}
 use Rattle.mount_recover.specs.declared.choices.Choice.{Choice}
@@ -191,7 +191,7 @@ abbrev pub pointed : Index → (here back : Spot) → Index
 pointed index here back = record index { here = here; back = Some back }
 
 -- an index with the pointers of another that is like it
-abbrev pub twin_of : Index → Twin → Index
+abbrev pub twin_of : Index → TwinIndex → Index
 twin_of index twin = pointed index twin.here twin.back
 
 -- a text in memory is the one that is written of an index
@@ -200,20 +200,20 @@ pub record IsTextOf (index : Index) (text : List ℕ) : Type 0 where
   pub in_memory : length text < 2 ^ 64
 
 -- what an index points to that stands there on the index partition, where this is the last place on the data partition
-pub record IsTwinAt (label : Label) (place dp : Construct) (twin : Twin) : Type 0 where
+pub record IsTwinAt (label : Label) (place dp : Construct) (twin : TwinIndex) : Type 0 where
   pub place_is : twin.place ≡ place
   pub here : twin.here ≡ record { letter = label.index; block = place.first }
   pub back : twin.back ≡ record { letter = label.dpart; block = dp.first }
 
 -- the last index of each partition, and where it stands
-abbrev pub ip_in : Lasts → Option Last
+abbrev pub ip_in : Lasts → Option LastIndex
 ip_in found.None = None
 ip_in (found.OnIp ip) = Some ip
 ip_in (found.OnDp dp) = None
 ip_in (found.OnBoth ip dp) = Some ip
 ip_in (found.Alike ip dp) = Some (record { index = twin_of dp.index ip; place = ip.place })
 
-abbrev pub dp_in : Lasts → Option Last
+abbrev pub dp_in : Lasts → Option LastIndex
 dp_in found.None = None
 dp_in (found.OnIp ip) = None
 dp_in (found.OnDp dp) = Some dp
@@ -224,11 +224,11 @@ abbrev pub generation_in : Option Index → Option ℕ
 generation_in None = None
 generation_in (Some index) = Some index.generation
 
-abbrev pub index_in : Option Last → Option Index
+abbrev pub index_in : Option LastIndex → Option Index
 index_in None = None
 index_in (Some l) = Some l.index
 
-abbrev pub place_in : Option Last → Option Construct
+abbrev pub place_in : Option LastIndex → Option Construct
 place_in None = None
 place_in (Some l) = Some l.place
 
@@ -237,17 +237,17 @@ pub record IsSound (label : Label) (index : Index) : Type 0 where
   pub valid : IsValid index
   pub uuid : index.uuid ≡ label.uuid
 
-pub record IsSoundLast (label : Label) (capacity : ℕ) (last : Last) : Type 0 where
+pub record IsSoundLast (label : Label) (capacity : ℕ) (last : LastIndex) : Type 0 where
   pub index : IsSound label last.index
   pub place : IsInPlace capacity last.place
 
 -- the last index of the data partition, and where it stands
-pub record IsLastDp (label : Label) (last : Option Last) (c : Cartridge) : Type 0 where
+pub record IsLastDp (label : Label) (last : Option LastIndex) (c : Cartridge) : Type 0 where
   pub index : IsLastOnDp label (indexes_of c.dp) (index_in last)
   pub place : place_in last ≡ newest (indexes_of c.dp)
 
 -- the same of the index partition
-pub record IsLastIp (label : Label) (on_dp : Option Index) (last : Option Last) (c : Cartridge) : Type 0 where
+pub record IsLastIp (label : Label) (on_dp : Option Index) (last : Option LastIndex) (c : Cartridge) : Type 0 where
   pub index : IsLastOnIp label (indexes_of c.ip) (indexes_of c.dp) on_dp (index_in last)
   pub place : place_in last ≡ newest (indexes_of c.ip)
 
@@ -260,16 +260,16 @@ pub record AreSoundLasts (label : Label) (limits : Limits) (lasts : Lasts) : Typ
   pub ip : IfSome (ip_in lasts) (IsSoundLast label limits.cap_ip)
 
 -- the last indexes, where that of the data partition is this one
-pub record AreLastsWith (label : Label) (dp : Option Last) (lasts : Lasts) (c : Cartridge) : Type 0 where
+pub record AreLastsWith (label : Label) (dp : Option LastIndex) (lasts : Lasts) (c : Cartridge) : Type 0 where
   pub dp_is : dp_in lasts ≡ dp
   pub ip : IsLastIp label (index_in dp) (ip_in lasts) c
 
-pub record AreSoundWith (label : Label) (capacity : ℕ) (dp : Option Last) (lasts : Lasts) : Type 0 where
+pub record AreSoundWith (label : Label) (capacity : ℕ) (dp : Option LastIndex) (lasts : Lasts) : Type 0 where
   pub dp_is : dp_in lasts ≡ dp
   pub ip : IfSome (ip_in lasts) (IsSoundLast label capacity)
 
 -- what is kept of the last index of a partition
-abbrev pub standing_of : Option Last → Option Standing
+abbrev pub standing_of : Option LastIndex → Option Standing
 standing_of None = None
 standing_of (Some l) =
     Some (record { place = l.place; generation = l.index.generation; back = l.index.back })
@@ -280,19 +280,19 @@ side None on_dp = Dp
 side (Some on_ip) None = Ip
 side (Some on_ip) (Some on_dp) = cond (nat_lt on_dp.generation on_ip.generation) Ip Dp
 
-abbrev pub last_on : Part → (ip dp : Option Last) → Option Last
+abbrev pub last_on : Part → (ip dp : Option LastIndex) → Option LastIndex
 last_on Ip ip dp = ip
 last_on Dp ip dp = dp
 
 -- the index of the greater generation, that of the data partition on a tie
-pub record IsPicked (ip dp : Option Last) (last : Last) (part : Part) : Type 0 where
+pub record IsPicked (ip dp : Option LastIndex) (last : LastIndex) (part : Part) : Type 0 where
   pub index : chosen (index_in ip) (index_in dp) ≡ Some last.index
   pub side_is : side (index_in ip) (index_in dp) ≡ part
   pub on : last_on part ip dp ≡ Some last
 
 -- that index and what is kept of the last ones; or none, where there is no index
 pub record IsChosen (lasts : Lasts) (choice : Choice) : Type 0 where
-  pub last : Last
+  pub last : LastIndex
   pub picked : IsPicked (ip_in lasts) (dp_in lasts) last choice.chosen.part
   pub index : choice.index ≡ last.index
   pub first : choice.chosen.pos ≡ last.place.first

@@ -39,7 +39,7 @@ use Rattle.mount_recover.specs.declared.endings.Ending.{Ending}
 use Rattle.mount_recover.specs.declared.endings.Next.{Next}
 use Rattle.mount_recover.specs.declared.endings.Next.TheVariants as nexts
 use Rattle.mount_recover.specs.declared.endings.Run.{Run}
-use Rattle.mount_recover.specs.declared.lasts.Last.{Last}
+use Rattle.mount_recover.specs.declared.lasts.LastIndex.{LastIndex}
 use Rattle.mount_recover.specs.declared.lasts.Lasts.{Lasts}
 use Rattle.mount_recover.specs.declared.notes.Named.{Named}
 use Rattle.mount_recover.specs.declared.notes.Notes.{Notes}
@@ -173,13 +173,13 @@ pub record IsNotedText (document : List ℕ) (label : Label) (letter : ℕ) (val
   pub is_of : IsOfNote label letter values place index
 
 -- the last index of a partition was found by its note
-pub record IsNotedLast (label : Label) (part : Part) (values : Coherency) (capacity : ℕ) (l : Last) : Type 0 where
+pub record IsNotedLast (label : Label) (part : Part) (values : Coherency) (capacity : ℕ) (l : LastIndex) : Type 0 where
   pub sound : IsSoundLast label capacity l
   pub first : l.place.first ≡ values.block
   pub noted : IsAsNoted (letter_of label part) values l.place l.index
 
 -- an index of the index partition is no older than the last one of the data partition, and points back to it
-pub record Follows (label : Label) (index : Index) (dp : Last) : Type 0 where
+pub record Follows (label : Label) (index : Index) (dp : LastIndex) : Type 0 where
   pub later : dp.index.generation ≤ index.generation
   pub back : index.back ≡ Some (record { letter = label.dpart; block = dp.place.first })
 
@@ -195,10 +195,10 @@ pub record EndWithLasts (c : Cartridge) : Type 0 where
 
 -- the last indexes of both partitions were found by the notes
 pub record AreNotedLasts (label : Label) (n : Named) (limits : Limits) (lasts : Lasts) : Type 0 where
-  pub dp : Last
+  pub dp : LastIndex
   pub dp_is : dp_in lasts ≡ Some dp
   pub dp_noted : IsNotedLast label Dp n.dp limits.cap_dp dp
-  pub ip : Last
+  pub ip : LastIndex
   pub ip_is : ip_in lasts ≡ Some ip
   pub ip_noted : IsNotedLast label Ip n.ip limits.cap_ip ip
   pub follows : Follows label ip.index dp

@@ -14,7 +14,7 @@ ghost use Rattle.cartridge_meaning.specs.Meaning.{FitsNode, HasForms};
 ghost use Rattle.cartridge_meaning.specs.declared.errors.MountErr.TheVariants as errors;
 
 use crate::extents::{Ends, first_outside};
-use crate::lasts::{Last, Lasts};
+use crate::lasts::{LastIndex, Lasts};
 use crate::scans::Scans;
 use cartridge_meaning::{Labels, MountErr};
 use index_model::{Index, Spot};
@@ -145,7 +145,7 @@ fn standings(lasts: &Lasts) -> (Option<Standing>, Option<Standing>)
     }
 }
 
-fn kept(last: &Last) -> Standing
+fn kept(last: &LastIndex) -> Standing
     ensures { Some result ≡ standing_of (Some last.now) }
 {
     Standing {
@@ -183,7 +183,7 @@ fn end_of_dp(last: Option<Standing>) -> u64
 
 /// The last index of the greater generation, that of the data partition on a tie, and its partition.
 #[tactic(auto, using(crate::proofs::ChoiceLemmas::picked_alike))]
-fn pick(lasts: Lasts) -> Option<(Last, Part)>
+fn pick(lasts: Lasts) -> Option<(LastIndex, Part)>
     ensures { MatchOption result (HasNone lasts) (λ x. IsPicked (ip_in lasts) (dp_in lasts) x.0 x.1) }
 {
     match lasts {
@@ -195,7 +195,7 @@ fn pick(lasts: Lasts) -> Option<(Last, Part)>
     }
 }
 
-fn newer(ip: Last, dp: Last) -> (Last, Part)
+fn newer(ip: LastIndex, dp: LastIndex) -> (LastIndex, Part)
     ensures { IsPicked (Some ip) (Some dp) result.0 result.1 }
 {
     if dp.index.generation < ip.index.generation {

@@ -26,7 +26,7 @@ use volume_scan::Construct;
 
 /// The last index of a partition, and where it stands.
 #[derive(Drop)]
-pub struct Last {
+pub struct LastIndex {
     pub index: Index,
     pub place: Construct,
 }
@@ -34,7 +34,7 @@ pub struct Last {
 /// An index of the index partition that is the data partition's last one but for its pointers: where it stands, and
 /// what they are.
 #[derive(Clone, Copy)]
-pub struct Twin {
+pub struct TwinIndex {
     pub place: Construct,
     pub here: Spot,
     pub back: Spot,
@@ -44,10 +44,19 @@ pub struct Twin {
 #[derive(Drop)]
 pub enum Lasts {
     None,
-    OnIp(Last),
-    OnDp(Last),
-    OnBoth { ip: Last, dp: Last },
-    Alike { ip: Twin, dp: Last },
+    OnIp(LastIndex),
+    OnDp(LastIndex),
+    OnBoth { ip: LastIndex, dp: LastIndex },
+    Alike { ip: TwinIndex, dp: LastIndex },
+}
+
+/// What the last indexes of a cartridge are read by: its labels, and what stands on both partitions.
+#[derive(Drop)]
+struct Basis<'a> {
+    alloc: Global,
+    start: Start,
+    labels: &'a Labels,
+    scans: &'a Scans,
 }
 
 /// Reads the last index of each partition, that of the data partition first. The second document takes the memory of
@@ -66,113 +75,118 @@ pub fn read_lasts<D: Drive>(
     ensures { IsStep D.Drive start ((1 + start.limits.cap_dp) + (1 + start.limits.cap_ip)) drive.old drive.new
         (AreLasts labels.now.ip) (AreSoundLasts labels.now.ip start.limits) Blames result }
 {
+    let basis = Basis {
+        alloc,
+        start,
+        labels,
+        scans,
+    };
     let mut document = Vec::new(alloc);
-    let dp = last_on_dp(alloc, drive, start, labels, scans, &mut document)?;
-    last_on_ip(alloc, drive, start, labels, scans, dp, &mut document)
+    let dp = last_on_dp(drive, &basis, &mut document)?;
+    last_on_ip(drive, &basis, dp, &mut document)
 }
 
 fn last_on_dp<D: Drive>(
-    alloc: Global,
     drive: &mut D,
-    start: Start,
-    labels: &Labels,
-    scans: &Scans,
+    basis: &Basis<'_>,
     document: &mut Vec<u8>,
-) -> Result<Option<Last>, MountErr>
-    requires since { IsSince D.Drive start drive.old }
-    requires places { AreInPlaces start.limits scans.now }
-    requires known { IfSome (D.held drive.old) (IsScan labels.now scans.now) }
-    ensures { IsStep D.Drive start (1 + start.limits.cap_dp) drive.old drive.new (IsLastDp labels.now.ip)
-        (λ last. IfSome last (IsSoundLast labels.now.ip start.limits.cap_dp)) Blames result }
+) -> Result<Option<LastIndex>, MountErr>
+    requires since { IsSince D.Drive basis.now.start drive.old }
+    requires places { AreInPlaces basis.now.start.limits basis.now.scans.now }
+    requires known { IfSome (D.held drive.old) (IsScan basis.now.labels.now basis.now.scans.now) }
+    ensures { IsStep D.Drive basis.now.start (1 + basis.now.start.limits.cap_dp) drive.old drive.new
+        (IsLastDp basis.now.labels.now.ip)
+        (λ last. IfSome last (IsSoundLast basis.now.labels.now.ip basis.now.start.limits.cap_dp)) Blames result }
 {
-    match scans.dp.constructs.as_slice().split_last() {
+    match basis.scans.dp.constructs.as_slice().split_last() {
         None => Ok(None),
-        Some((place, older)) => read_on_dp(alloc, drive, start, labels, *place, older, document),
+        Some((place, older)) => read_on_dp(drive, basis, *place, older, document),
     }
 }
 
 /// Reads the last index of the data partition, which stands there behind others.
 fn read_on_dp<D: Drive>(
-    alloc: Global,
     drive: &mut D,
-    start: Start,
-    labels: &Labels,
+    basis: &Basis<'_>,
     place: Construct,
     older: &[Construct],
     document: &mut Vec<u8>,
-) -> Result<Option<Last>, MountErr>
-    requires since { IsSince D.Drive start drive.old }
-    requires place { IsInPlace start.limits.cap_dp place }
-    requires known { IfSome (D.held drive.old) (IsKnownDp labels.now place older.now) }
-    ensures { IsStep D.Drive start (1 + start.limits.cap_dp) drive.old drive.new (IsLastDp labels.now.ip)
-        (λ last. IfSome last (IsSoundLast labels.now.ip start.limits.cap_dp)) Blames result }
+) -> Result<Option<LastIndex>, MountErr>
+    requires since { IsSince D.Drive basis.now.start drive.old }
+    requires place { IsInPlace basis.now.start.limits.cap_dp place }
+    requires known { IfSome (D.held drive.old) (IsKnownDp basis.now.labels.now place older.now) }
+    ensures { IsStep D.Drive basis.now.start (1 + basis.now.start.limits.cap_dp) drive.old drive.new
+        (IsLastDp basis.now.labels.now.ip)
+        (λ last. IfSome last (IsSoundLast basis.now.labels.now.ip basis.now.start.limits.cap_dp)) Blames result }
 {
-    let index = read_index_at(alloc, drive, start, &labels.ip, Part::Dp, place, document)?;
-    if !points_on_dp(&labels.ip, place.first, older, &index) {
+    let label = &basis.labels.ip;
+    let index = read_index_at(
+        basis.alloc,
+        drive,
+        basis.start,
+        label,
+        Part::Dp,
+        place,
+        document,
+    )?;
+    if !points_on_dp(label, place.first, older, &index) {
         return Err(MountErr::WrongPointer(Place {
             part: Part::Dp,
             pos: place.first,
         }));
     }
-    Ok(Some(Last { index, place }))
+    Ok(Some(LastIndex { index, place }))
 }
 
 /// Reads the last index of the index partition, in place of the document of the data partition's.
 fn last_on_ip<D: Drive>(
-    alloc: Global,
     drive: &mut D,
-    start: Start,
-    labels: &Labels,
-    scans: &Scans,
-    dp: Option<Last>,
+    basis: &Basis<'_>,
+    dp: Option<LastIndex>,
     document: &mut Vec<u8>,
 ) -> Result<Lasts, MountErr>
-    requires since { IsSince D.Drive start drive.old }
-    requires sound { AreLabels labels.now }
-    requires places { AreInPlaces start.limits scans.now }
-    requires known { IfSome (D.held drive.old) (IsScan labels.now scans.now) }
-    requires dp { IfSome (D.held drive.old) (IsLastDp labels.now.ip dp) }
-    requires sound_dp { IfSome dp (IsSoundLast labels.now.ip start.limits.cap_dp) }
-    ensures { IsStep D.Drive start (1 + start.limits.cap_ip) drive.old drive.new (AreLastsWith labels.now.ip dp)
-        (AreSoundWith labels.now.ip start.limits.cap_ip dp) Blames result }
+    requires since { IsSince D.Drive basis.now.start drive.old }
+    requires sound { AreLabels basis.now.labels.now }
+    requires places { AreInPlaces basis.now.start.limits basis.now.scans.now }
+    requires known { IfSome (D.held drive.old) (IsScan basis.now.labels.now basis.now.scans.now) }
+    requires dp { IfSome (D.held drive.old) (IsLastDp basis.now.labels.now.ip dp) }
+    requires sound_dp { IfSome dp (IsSoundLast basis.now.labels.now.ip basis.now.start.limits.cap_dp) }
+    ensures { IsStep D.Drive basis.now.start (1 + basis.now.start.limits.cap_ip) drive.old drive.new
+        (AreLastsWith basis.now.labels.now.ip dp)
+        (AreSoundWith basis.now.labels.now.ip basis.now.start.limits.cap_ip dp) Blames result }
 {
-    let dps = scans.dp.constructs.as_slice();
-    match (scans.ip.constructs.as_slice().split_last(), dp) {
+    match (basis.scans.ip.constructs.as_slice().split_last(), dp) {
         (None, None) => Ok(Lasts::None),
         (None, Some(dp)) => Ok(Lasts::OnDp(dp)),
-        (Some((place, _)), None) => read_alone(alloc, drive, start, labels, *place, dps, document),
-        (Some((place, _)), Some(dp)) => {
-            read_beside(alloc, drive, start, labels, *place, dps, dp, document)
-        }
+        (Some((place, _)), None) => read_alone(drive, basis, *place, document),
+        (Some((place, _)), Some(dp)) => read_beside(drive, basis, *place, dp, document),
     }
 }
 
 /// Reads the last index of the index partition, where the data partition has none.
 fn read_alone<D: Drive>(
-    alloc: Global,
     drive: &mut D,
-    start: Start,
-    labels: &Labels,
+    basis: &Basis<'_>,
     place: Construct,
-    dps: &[Construct],
     document: &mut Vec<u8>,
 ) -> Result<Lasts, MountErr>
-    requires since { IsSince D.Drive start drive.old }
-    requires place { IsInPlace start.limits.cap_ip place }
-    requires known { IfSome (D.held drive.old) (IsKnownIp labels.now place dps.now None) }
-    ensures { IsStep D.Drive start (1 + start.limits.cap_ip) drive.old drive.new (AreLastsWith labels.now.ip None)
-        (AreSoundWith labels.now.ip start.limits.cap_ip None) Blames result }
+    requires since { IsSince D.Drive basis.now.start drive.old }
+    requires place { IsInPlace basis.now.start.limits.cap_ip place }
+    requires known { IfSome (D.held drive.old) (IsKnownIp basis.now.labels.now place basis.now.scans.now.dp.constructs None) }
+    ensures { IsStep D.Drive basis.now.start (1 + basis.now.start.limits.cap_ip) drive.old drive.new
+        (AreLastsWith basis.now.labels.now.ip None)
+        (AreSoundWith basis.now.labels.now.ip basis.now.start.limits.cap_ip None) Blames result }
 {
     read_document(
-        alloc,
+        basis.alloc,
         drive,
-        start,
+        basis.start,
         Part::Ip,
         place,
-        labels.ip.block,
+        basis.labels.ip.block,
         document,
     )?;
-    match told_on_ip(alloc, labels, place, dps, None, document.as_slice()) {
+    match told_on_ip(basis, place, None, document.as_slice()) {
         Ok(ip) => Ok(Lasts::OnIp(ip)),
         Err(fault) => Err(fault),
     }
@@ -181,43 +195,42 @@ fn read_alone<D: Drive>(
 /// Reads the last index of the index partition beside that of the data partition, which it mostly is but for its
 /// pointers.
 fn read_beside<D: Drive>(
-    alloc: Global,
     drive: &mut D,
-    start: Start,
-    labels: &Labels,
+    basis: &Basis<'_>,
     place: Construct,
-    dps: &[Construct],
-    dp: Last,
+    dp: LastIndex,
     document: &mut Vec<u8>,
 ) -> Result<Lasts, MountErr>
-    requires since { IsSince D.Drive start drive.old }
-    requires sound { AreLabels labels.now }
-    requires place { IsInPlace start.limits.cap_ip place }
-    requires known { IfSome (D.held drive.old) (IsKnownIp labels.now place dps.now (Some dp.index)) }
-    requires dp { IfSome (D.held drive.old) (IsLastDp labels.now.ip (Some dp)) }
-    requires sound_dp { IsSoundLast labels.now.ip start.limits.cap_dp dp }
-    ensures { IsStep D.Drive start (1 + start.limits.cap_ip) drive.old drive.new (AreLastsWith labels.now.ip (Some dp))
-        (AreSoundWith labels.now.ip start.limits.cap_ip (Some dp)) Blames result }
+    requires since { IsSince D.Drive basis.now.start drive.old }
+    requires sound { AreLabels basis.now.labels.now }
+    requires place { IsInPlace basis.now.start.limits.cap_ip place }
+    requires known { IfSome (D.held drive.old)
+        (IsKnownIp basis.now.labels.now place basis.now.scans.now.dp.constructs (Some dp.index)) }
+    requires dp { IfSome (D.held drive.old) (IsLastDp basis.now.labels.now.ip (Some dp)) }
+    requires sound_dp { IsSoundLast basis.now.labels.now.ip basis.now.start.limits.cap_dp dp }
+    ensures { IsStep D.Drive basis.now.start (1 + basis.now.start.limits.cap_ip) drive.old drive.new
+        (AreLastsWith basis.now.labels.now.ip (Some dp))
+        (AreSoundWith basis.now.labels.now.ip basis.now.start.limits.cap_ip (Some dp)) Blames result }
 {
     let mut dp = dp;
-    let twin = twin_at(&labels.ip, place, dp.place);
+    let twin = twin_at(&basis.labels.ip, place, dp.place);
     match write_twin(&mut dp.index, twin.here, twin.back, document) {
         Ok(()) => {}
         Err(NoMemory) => return Err(MountErr::NoMemory),
     }
     if read_document(
-        alloc,
+        basis.alloc,
         drive,
-        start,
+        basis.start,
         Part::Ip,
         place,
-        labels.ip.block,
+        basis.labels.ip.block,
         document,
     )? {
         return Ok(Lasts::Alike { ip: twin, dp });
     }
     let generation = Some(dp.index.generation);
-    match told_on_ip(alloc, labels, place, dps, generation, document.as_slice()) {
+    match told_on_ip(basis, place, generation, document.as_slice()) {
         Ok(ip) => Ok(Lasts::OnBoth { ip, dp }),
         Err(fault) => Err(fault),
     }
@@ -225,10 +238,10 @@ fn read_beside<D: Drive>(
 
 /// What an index that stands there on the index partition points to, where it is not older than the last one of the
 /// data partition.
-fn twin_at(label: &Label, place: Construct, dp: Construct) -> Twin
+fn twin_at(label: &Label, place: Construct, dp: Construct) -> TwinIndex
     ensures { IsTwinAt label.now place dp result }
 {
-    Twin {
+    TwinIndex {
         place,
         here: Spot {
             letter: label.index,
@@ -265,32 +278,33 @@ pub fn write_twin(
 /// The last index of the index partition, whose document this is, beside one of this generation on the data partition,
 /// or none.
 fn told_on_ip(
-    alloc: Global,
-    labels: &Labels,
+    basis: &Basis<'_>,
     place: Construct,
-    dps: &[Construct],
     on_dp: Option<u64>,
     document: &[u8],
-) -> Result<Last, MountErr>
+) -> Result<LastIndex, MountErr>
     ensures sound { IfOk result (λ ip. (capacity : ℕ) → IsInPlace capacity place
-        → IsSoundLast labels.now.ip capacity ip) }
+        → IsSoundLast basis.now.labels.now.ip capacity ip) }
     ensures found { IfOk result (λ ip. (c : Cartridge) (dp : Option IndexOf) → on_dp ≡ generation_in dp
-        → IsKnownIp labels.now place dps.now dp c → IsDocument document.now (indexes_of c.ip)
-        → IsLastIp labels.now.ip dp (Some ip) c) }
+        → IsKnownIp basis.now.labels.now place basis.now.scans.now.dp.constructs dp c
+        → IsDocument document.now (indexes_of c.ip) → IsLastIp basis.now.labels.now.ip dp (Some ip) c) }
     ensures refused { IfErr result (λ e. (c : Cartridge) (dp : Option IndexOf) → on_dp ≡ generation_in dp
-        → IsKnownIp labels.now place dps.now dp c → IsDocument document.now (indexes_of c.ip) → Blames e c) }
+        → IsKnownIp basis.now.labels.now place basis.now.scans.now.dp.constructs dp c
+        → IsDocument document.now (indexes_of c.ip) → Blames e c) }
     ensures counts { IfErr result (λ e. (before now : ℕ) → AreCounts before now e) }
 {
     let at = Place {
         part: Part::Ip,
         pos: place.first,
     };
-    let index = match read_text(alloc, document, &labels.ip, at) {
+    let label = &basis.labels.ip;
+    let index = match read_text(basis.alloc, document, label, at) {
         Ok(index) => index,
         Err(fault) => return Err(fault),
     };
-    if !points_on_ip(&labels.ip, place.first, dps, on_dp, &index) {
+    let dps = basis.scans.dp.constructs.as_slice();
+    if !points_on_ip(label, place.first, dps, on_dp, &index) {
         return Err(MountErr::WrongPointer(at));
     }
-    Ok(Last { index, place })
+    Ok(LastIndex { index, place })
 }

@@ -17,7 +17,7 @@ ghost use Rattle.mount_recover.specs.Noted.{AreNotes, AreNotedLasts, AreTold, Ca
 ghost use Rattle.mount_recover.specs.Noted.{Follows, IsAsNoted, IsChosenByNotes, IsNotedLast, IsNotedText};
 ghost use Rattle.mount_recover.specs.Noted.{IsOfNote, IsTold};
 ghost use Rattle.mount_recover.specs.Noted.{lacks_memory};
-ghost use Rattle.mount_recover.specs.declared.lasts.Last.{Last as LastOf};
+ghost use Rattle.mount_recover.specs.declared.lasts.LastIndex.{LastIndex as LastOf};
 ghost use Rattle.mount_recover.specs.declared.lasts.Lasts.{Lasts as LastsOf};
 ghost use Rattle.mount_recover.specs.declared.lasts.Lasts.TheVariants as lasts;
 ghost use Rattle.mount_recover.specs.declared.notes.Named.{Named as NamedOf};
@@ -25,7 +25,7 @@ ghost use Rattle.mount_recover.specs.Steps.{IsFree, IsSince, IsStepBy};
 
 use crate::choices::{Choice, decide, ends_noted};
 use crate::endings::read_ending;
-use crate::lasts::{Last, Lasts, Twin, write_twin};
+use crate::lasts::{LastIndex, Lasts, TwinIndex, write_twin};
 use crate::notes::{Named, Notes, what_is_named};
 use crate::starts::Start;
 use cartridge_meaning::{Labels, MountErr};
@@ -122,7 +122,7 @@ fn noted_on_dp<D: Drive>(
     labels: &Labels,
     note: Coherency,
     document: &mut Vec<u8>,
-) -> Result<Option<Last>, MountErr>
+) -> Result<Option<LastIndex>, MountErr>
     requires since { IsSince D.Drive start drive.old }
     requires begins { CanBegin start.limits.cap_dp note.block }
     requires known { IfSome (D.held drive.old) (IsTold labels.now.ip Dp note) }
@@ -158,7 +158,7 @@ fn noted_on_ip<D: Drive>(
     start: Start,
     labels: &Labels,
     named: Named,
-    dp: Last,
+    dp: LastIndex,
     document: &mut Vec<u8>,
 ) -> Result<Option<Lasts>, MountErr>
     requires since { IsSince D.Drive start drive.old }
@@ -189,7 +189,7 @@ fn noted_on_ip<D: Drive>(
         Ok(Some(e)) => {
             if e.same {
                 let place = e.place;
-                Ok(alike(named.ip, Twin { place, here, back }, dp))
+                Ok(alike(named.ip, TwinIndex { place, here, back }, dp))
             } else {
                 match told_by_note(
                     alloc,
@@ -211,7 +211,7 @@ fn noted_on_ip<D: Drive>(
 
 /// The last indexes, where that of the index partition is the other one but for its pointers, and the note has its
 /// generation.
-fn alike(note: Coherency, ip: Twin, dp: Last) -> Option<Lasts>
+fn alike(note: Coherency, ip: TwinIndex, dp: LastIndex) -> Option<Lasts>
     ensures some { IfSome result (λ l. (l ≡ lasts.Alike ip dp) × (dp.index.generation ≡ note.generation)) }
     ensures none { IfNone result (dp.index.generation ≢ note.generation) }
 {
@@ -228,7 +228,7 @@ fn told_by_note(
     label: &Label,
     note: Coherency,
     place: Construct,
-    dp: Last,
+    dp: LastIndex,
     document: &[u8],
 ) -> Result<Option<Lasts>, NoMemory>
     ensures some { IfOk result (λ found. IfSome found (λ l. (ip : LastOf) × (l ≡ lasts.OnBoth ip dp)
@@ -252,7 +252,7 @@ fn told_by_note(
 }
 
 /// Whether an index is no older than the last one of the data partition, and points back to it.
-fn follows(label: &Label, index: &Index, dp: &Last) -> bool
+fn follows(label: &Label, index: &Index, dp: &LastIndex) -> bool
     ensures { IsTrue result ↔ Follows label.now index.now dp.now }
 {
     let back = Spot {
@@ -271,7 +271,7 @@ fn noted_text(
     note: Coherency,
     place: Construct,
     document: &[u8],
-) -> Result<Option<Last>, NoMemory>
+) -> Result<Option<LastIndex>, NoMemory>
     ensures some { IfOk result (λ found. IfSome found (λ l. (l.place ≡ place)
         × IsNotedText document.now label.now letter note place l.index)) }
     ensures all { IfOk result (λ found. (index : IndexOf) → IsNotedText document.now label.now letter note place index
@@ -280,7 +280,7 @@ fn noted_text(
     match read_index(alloc, document) {
         Ok(index) => {
             if is_of_note(label, letter, note, place, &index) {
-                Ok(Some(Last { index, place }))
+                Ok(Some(LastIndex { index, place }))
             } else {
                 Ok(None)
             }

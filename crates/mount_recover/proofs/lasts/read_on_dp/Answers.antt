@@ -10,22 +10,22 @@ read_index_at-requires-clause-known g c =
 
 pub returns-in_err-index : goal.returns-in_err-index
 returns-in_err-index g c =
-    given_step g.D.Drive c.args.start c.from_residual.ensures.1
-    (stops g.D.Drive c.args.start (omega (arith, c.requires.place.after)) c.in_err-index.ensures
-    (λ held h bad. blamed_dp held c.args.labels.now c.args.place c.args.older.now
-    (at_told (IsKnownDp c.args.labels.now c.args.place c.args.older.now) h c.requires.known) c.in_err-index.field-0.0 bad))
+    given_step g.D.Drive c.args.basis.now.start c.from_residual.ensures.1
+    (stops g.D.Drive c.args.basis.now.start (omega (arith, c.requires.place.after)) c.in_err-index.ensures
+    (λ held h bad. blamed_dp held c.args.basis.now.labels.now c.args.place c.args.older.now
+    (at_told (IsKnownDp c.args.basis.now.labels.now c.args.place c.args.older.now) h c.requires.known) c.in_err-index.field-0.0 bad))
 
 pub returns-then-not-points_on_dp : goal.returns-then-not-points_on_dp
 returns-then-not-points_on_dp g c =
-    refused_after g.D.Drive c.args.start (more_step g.D.Drive c.args.start (omega (arith, c.requires.place.after)) c.in_ok-index.ensures) tt
-    (λ held h of. wrong_dp held c.args.labels.now c.args.place c.args.older.now
-    (at_told (IsKnownDp c.args.labels.now c.args.place c.args.older.now) h c.requires.known) c.in_ok-index.index of
+    refused_after g.D.Drive c.args.basis.now.start (more_step g.D.Drive c.args.basis.now.start (omega (arith, c.requires.place.after)) c.in_ok-index.ensures) tt
+    (λ held h of. wrong_dp held c.args.basis.now.labels.now c.args.place c.args.older.now
+    (at_told (IsKnownDp c.args.basis.now.labels.now c.args.place c.args.older.now) h c.requires.known) c.in_ok-index.index of
     (λ k ks first are points. let bad : true ≡ false = sym ((c.points_on_dp.ensures k ks first are).1 points) ∙ c.if-not-points_on_dp.true in cc bad))
 
 pub returns : goal.returns
 returns g c =
-    found_after g.D.Drive c.args.start (more_step g.D.Drive c.args.start (omega (arith, c.requires.place.after)) c.in_ok-index.ensures)
-    (λ held h of. right_dp held c.args.labels.now c.args.place c.args.older.now
-    (at_told (IsKnownDp c.args.labels.now c.args.place c.args.older.now) h c.requires.known) c.in_ok-index.index of
+    found_after g.D.Drive c.args.basis.now.start (more_step g.D.Drive c.args.basis.now.start (omega (arith, c.requires.place.after)) c.in_ok-index.ensures)
+    (λ held h of. right_dp held c.args.basis.now.labels.now c.args.place c.args.older.now
+    (at_told (IsKnownDp c.args.basis.now.labels.now c.args.place c.args.older.now) h c.requires.known) c.in_ok-index.index of
     (λ k ks first are. (c.points_on_dp.ensures k ks first are).0 c.if-not-points_on_dp.false))
     (λ sound. record { index = sound; place = c.requires.place })
