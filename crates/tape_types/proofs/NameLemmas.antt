@@ -10,6 +10,7 @@ use Rattle.std.proofs.lemmas.Str.{chars-IsAscii}
 use Rattle.std.proofs.lemmas.Str.Ascii.{IsAscii-from_all}
 use Rattle.unicode_normalization.specs.Forms.{Form, is_nfc}
 use Rattle.unicode_normalization.proofs.FormsLemmas.{normalize-ascii, is_in_form_from}
+use Rattle.tape_types.specs.Bounds.{longest_name}
 use Rattle.tape_types.specs.Names.{has_byte, is_plain, name_fault}
 
 -- A plain character is none of those that are looked for.
@@ -24,7 +25,7 @@ plain b h = record { ascii = grind (arith, nat_tests); no_slash = grind (arith, 
 all_plain : (name : List ℕ) → list_all is_plain name ≡ true → All IsPlain name
 all_plain name all = λ k d lt. plain _ (AllPass-from_list_all is_plain name all k d lt)
 
-pub common : (name : List ℕ) (first : ℕ) → slice_get name 0 ≡ Some first → (first ≡ 46 → ⊥) → length name ≤ 255 → list_all is_plain name ≡ true → name_fault name ≡ None
+pub common : (name : List ℕ) (first : ℕ) → slice_get name 0 ≡ Some first → (first ≡ 46 → ⊥) → length name ≤ longest_name → list_all is_plain name ≡ true → name_fault name ≡ None
 common [] first is other short all = absurd cc
 common (b ∷ rest) first is other short all =
     let name : List ℕ = b ∷ rest in
@@ -32,7 +33,7 @@ common (b ∷ rest) first is other short all =
     let ascii : All (λ c. c < 128) name = λ k d lt. (each k d lt).ascii in
     let same : chars name ≡ name = chars-IsAscii name (IsAscii-from_all name ascii) in
     let some : (length name == 0) ≡ false = grind (arith, nat_tests) in
-    let few : nat_lt 255 (length (chars name)) ≡ false = subst (λ (cs : List ℕ). nat_lt 255 (length cs) ≡ false) (sym same) (grind (arith, nat_tests)) in
+    let few : nat_lt longest_name (length (chars name)) ≡ false = subst (λ (cs : List ℕ). nat_lt longest_name (length cs) ≡ false) (sym same) (grind (arith, nat_tests)) in
     let slash : has_byte 47 name ≡ false = list_any_none (λ x. x == 47) name (λ k d lt. (each k d lt).no_slash) in
     let nul : has_byte 0 name ≡ false = list_any_none (λ x. x == 0) name (λ k d lt. (each k d lt).no_nul) in
     let begins : first ≡ b = cc in

@@ -1,5 +1,6 @@
 -- Cartridges and their parts (LTFS 2.4 on partitions and on medium auxiliary memory).
-use Rattle.std.specs.Prelude.{ℕ, ◌==◌, ◌+◌, ◌≤◌, ◌^◌, ◌&&◌, Bool, true, false, List, length, All}
+use Rattle.std.specs.Prelude.{ℕ, ◌==◌, ◌+◌, ◌≤◌, ◌&&◌, Bool, true, false, List, length, All}
+use Rattle.tape_types.specs.Bounds.{most_positions}
 use Rattle.tape_types.specs.declared.cartridges.Part.{Part}
 use Rattle.tape_types.specs.declared.cartridges.Part.TheVariants.{Ip, Dp}
 use Rattle.tape_types.specs.declared.cartridges.Place.{Place}
@@ -63,6 +64,6 @@ pub record FitsLimits (limits : Limits) (c : Cartridge) : Type 0 where
 -- a partition has 4 to 2^40 positions
 pub record IsLimits (limits : Limits) : Type 0 where
   pub ip_least : 4 ≤ limits.cap_ip
-  pub ip_most : limits.cap_ip ≤ 2 ^ 40
+  pub ip_most : limits.cap_ip ≤ most_positions
   pub dp_least : 4 ≤ limits.cap_dp
-  pub dp_most : limits.cap_dp ≤ 2 ^ 40
+  pub dp_most : limits.cap_dp ≤ most_positions

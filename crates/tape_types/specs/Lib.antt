@@ -1,3 +1,4 @@
+pub mod Bounds
 pub mod Cartridges
 pub mod Counts
 pub mod Moments

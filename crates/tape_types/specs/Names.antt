@@ -4,6 +4,7 @@ use Rattle.std.specs.Prelude.{None, Result, Ok, Err, codes}
 use Rattle.std.specs.List.{list_any}
 use Rattle.std.specs.Str.{chars, bytes_eq}
 use Rattle.unicode_normalization.specs.Forms.{is_nfc}
+use Rattle.tape_types.specs.Bounds.{longest_name}
 use Rattle.tape_types.specs.declared.names.NameErr.{NameErr}
 use Rattle.tape_types.specs.declared.names.NameErr.TheVariants as faults
 
@@ -18,7 +19,7 @@ is_dot name = bytes_eq name (codes ".") || bytes_eq name (codes "..")
 abbrev pub name_fault : List ℕ → Option NameErr
 name_fault name =
     if length name == 0 then Some faults.Empty
-    else if nat_lt 255 (length (chars name)) then Some faults.Long
+    else if nat_lt longest_name (length (chars name)) then Some faults.Long
     else if has_byte 47 name then Some faults.Slash
     else if has_byte 0 name then Some faults.Nul
     else if is_dot name then Some faults.Dot

@@ -4,6 +4,7 @@ ghost use Rattle.std.specs.Str.{chars};
 ghost use Rattle.unicode_normalization.specs.Forms.{is_nfc};
 ghost use Rattle.tape_types.specs.Names.{IsNameAnswer, has_byte, is_dot, is_plain, name_fault};
 
+use crate::bounds::LONGEST_NAME;
 use std::alloc::{AllocError, Global};
 
 /// Why a text is no name of a node.
@@ -35,7 +36,7 @@ pub fn check_name(alloc: Global, name: &str) -> Result<(), NameErr>
     if name.is_empty() {
         return Err(NameErr::Empty);
     }
-    if char_count(name) > 255 {
+    if char_count(name) > LONGEST_NAME {
         return Err(NameErr::Long);
     }
     if contains_byte(name, b'/') {
@@ -62,7 +63,7 @@ fn is_common(name: &str) -> bool
     let Some(first) = name.as_bytes().first() else {
         return false;
     };
-    *first != b'.' && name.len() <= 255 && are_plain(name)
+    *first != b'.' && name.len() <= LONGEST_NAME && are_plain(name)
 }
 
 fn are_plain(name: &str) -> bool
