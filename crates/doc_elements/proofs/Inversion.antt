@@ -1,5 +1,6 @@
 -- What a piece that is read is, and what is read where such a piece stands.
 use Rattle.std.proofs.Common.{◌≡◌, ℕ, ◌+◌, List, [], Bool, true, false, cond, ◌==◌, ◌&&◌, Option, Some, None, Result, Ok, Err, nat_le, not, refl, ap, subst}
+use Rattle.tape_types.specs.Bounds.{most_nodes}
 use Rattle.doc_fields.specs.declared.tags.Tag.{Tag}
 use Rattle.doc_fields.specs.declared.starts.Start.{Start}
 use Rattle.doc_fields.specs.Reading.{Read, byte}
@@ -43,7 +44,7 @@ missing_ok (Some t) u e = absurd cc
 pub record Allowed (f : Frame) (nodes : ℕ) (tag : Tag) (c : Child) : Type 0 where
   pub child : rule f.place tag ≡ c
   pub follows : MayFollow f.place f.seen tag
-  pub room : (opens_node c && nat_le 65536 nodes) ≡ false
+  pub room : (opens_node c && nat_le most_nodes nodes) ≡ false
 
 pub unless_ok : {A : Type 0} (b : Bool) (d : PieceErr) (r : Result A PieceErr) (y : A) → cond b (Err d) r ≡ Ok y → (b ≡ false) × (r ≡ Ok y)
 unless_ok true d r y e = absurd cc
@@ -61,15 +62,15 @@ verdict_ok f nodes at tag c e =
     let k = known_ok r at (beside f nodes at tag r) c e in
     let alone = unless_ok (has_any (excludes tag) f.seen) (errors.Unknown at) _ c k in
     let once = unless_ok (member tag f.seen && not (may_repeat f.place tag)) (errors.Twice at) _ c alone.1 in
-    let few = unless_ok (opens_node r && nat_le 65536 nodes) errors.TooMany _ c once.1 in
+    let few = unless_ok (opens_node r && nat_le most_nodes nodes) errors.TooMany _ c once.1 in
     let same : r ≡ c = cc (few.1) in
-    record { child = same; follows = record { alone = alone.0; once = once.0 }; room = subst (λ (x : Child). (opens_node x && nat_le 65536 nodes) ≡ false) same few.0 }
+    record { child = same; follows = record { alone = alone.0; once = once.0 }; room = subst (λ (x : Child). (opens_node x && nat_le most_nodes nodes) ≡ false) same few.0 }
 
 pub leaf_verdict : (f : Frame) (nodes at : ℕ) (tag : Tag) (form : Form) → rule f.place tag ≡ child.Leaf form → MayFollow f.place f.seen tag → verdict f nodes at tag ≡ Ok (child.Leaf form)
 unfolding verdict
 leaf_verdict f nodes at tag form is m = rw (is, m.alone, m.once) refl
 
-pub parent_verdict : (f : Frame) (nodes at : ℕ) (tag : Tag) (q : Place) → rule f.place tag ≡ child.Parent q → MayFollow f.place f.seen tag → (opens_node (child.Parent q) && nat_le 65536 nodes) ≡ false → verdict f nodes at tag ≡ Ok (child.Parent q)
+pub parent_verdict : (f : Frame) (nodes at : ℕ) (tag : Tag) (q : Place) → rule f.place tag ≡ child.Parent q → MayFollow f.place f.seen tag → (opens_node (child.Parent q) && nat_le most_nodes nodes) ≡ false → verdict f nodes at tag ≡ Ok (child.Parent q)
 unfolding verdict
 parent_verdict f nodes at tag q is m room = rw (is, m.alone, m.once, room) refl
 
@@ -81,7 +82,7 @@ pub record ParentStarts (text : List ℕ) (f : Frame) (at : ℕ) (q : Place) (st
 
 -- there is room for one node more, where the parent is one
 abbrev pub HasPlace : Place → ℕ → Type 0
-HasPlace q nodes = (opens_node (child.Parent q) && nat_le 65536 nodes) ≡ false
+HasPlace q nodes = (opens_node (child.Parent q) && nat_le most_nodes nodes) ≡ false
 
 -- what a piece is that begins at a place, and ends at another
 abbrev pub What : List ℕ → Frame → ℕ → ℕ → Piece → ℕ → Type 0

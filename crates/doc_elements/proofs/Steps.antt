@@ -1,5 +1,6 @@
 -- One piece more.
 use Rattle.std.proofs.Common.{◌≡◌, ℕ, ◌<◌, ◌≤◌, List, [], ◌∷◌, ◌++◌, true, Result, Ok, Err, refl, sym, ap, arith}
+use Rattle.tape_types.specs.Bounds.{most_nodes}
 use Rattle.doc_elements.specs.declared.errors.PieceErr.{PieceErr}
 use Rattle.doc_elements.specs.declared.errors.PieceErr.TheVariants as errors
 use Rattle.doc_elements.specs.declared.schema.Place.{Place}
@@ -13,13 +14,13 @@ use Rattle.doc_elements.specs.Answers.{HasRoom, Fails, UnlessMemory, piece_of}
 
 -- ---- how many nodes have begun
 
-few_opens : (q : Place) (n : ℕ) → (is_node q ≡ true → n < 65536) → n ≤ 65536 → counted (opens q) n ≤ 65536
+few_opens : (q : Place) (n : ℕ) → (is_node q ≡ true → n < most_nodes) → n ≤ most_nodes → counted (opens q) n ≤ most_nodes
 few_opens place.Root n room few = omega (arith, room refl)
 few_opens place.Directory n room few = omega (arith, room refl)
 few_opens place.File n room few = omega (arith, room refl)
 few_opens _ n room few = few
 
-pub few_counted : (p : code_piece.Piece) (n : ℕ) → HasRoom p n → n ≤ 65536 → counted (piece_of p) n ≤ 65536
+pub few_counted : (p : code_piece.Piece) (n : ℕ) → HasRoom p n → n ≤ most_nodes → counted (piece_of p) n ≤ most_nodes
 few_counted (code_pieces.Opens q) n room few = few_opens q n room few
 few_counted (code_pieces.Whole q) n room few = few_opens q n room few
 few_counted code_pieces.Closes n room few = few

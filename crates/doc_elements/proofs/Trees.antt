@@ -1,6 +1,7 @@
 -- The grammar of elements and the pieces that are read one after the other say the same.
 use Rattle.std.proofs.Common.{◌≡◌, ℕ, zero, suc, ◌+◌, ◌≤◌, ◌<◌, List, [], ◌∷◌, ◌++◌, Bool, true, false, ◌&&◌, nat_le, if◌then◌else◌, length, Ok, IsUtf8, refl, sym, ap, subst, ◌∙◌, append_assoc, length-append, arith}
 use Rattle.std.proofs.lemmas.Bool.{leb-false, lt-leb}
+use Rattle.tape_types.specs.Bounds.{most_nodes}
 use Rattle.doc_fields.specs.declared.tags.Tag.{Tag}
 use Rattle.doc_fields.specs.Space.{space_end}
 use Rattle.doc_fields.specs.EndTag.{end_at}
@@ -20,14 +21,14 @@ at_place p seen = record { place = p; seen = seen }
 abbrev pub one_if : Bool → ℕ
 one_if b = if b then 1 else 0
 
-le_false : (n : ℕ) → n < 65536 → nat_le 65536 n ≡ false
-le_false n lt = lt-leb 65536 n lt
+le_false : (n : ℕ) → n < most_nodes → nat_le most_nodes n ≡ false
+le_false n lt = lt-leb most_nodes n lt
 
-room_by : (b : Bool) (n : ℕ) → n + one_if b ≤ 65536 → (b && nat_le 65536 n) ≡ false
+room_by : (b : Bool) (n : ℕ) → n + one_if b ≤ most_nodes → (b && nat_le most_nodes n) ≡ false
 room_by true n le = le_false n (omega (arith, le))
 room_by false n le = refl
 
-has_place : (q : Place) (n : ℕ) → n + one_if (is_node q) ≤ 65536 → HasPlace q n
+has_place : (q : Place) (n : ℕ) → n + one_if (is_node q) ≤ most_nodes → HasPlace q n
 has_place q n le = room_by (is_node q) n le
 
 counted_by : (b : Bool) (n : ℕ) → (if b then suc n else n) ≡ n + one_if b
@@ -37,11 +38,11 @@ counted_by false n = omega arith
 counted_opens : (q : Place) (n : ℕ) → counted (opens q) n ≡ n + one_if (is_node q)
 counted_opens q n = counted_by (is_node q) n
 
-few_by : (b : Bool) (n : ℕ) → n ≤ 65536 → (b && nat_le 65536 n) ≡ false → n + one_if b ≤ 65536
-few_by true n le e = omega (arith, leb-false 65536 n e)
+few_by : (b : Bool) (n : ℕ) → n ≤ most_nodes → (b && nat_le most_nodes n) ≡ false → n + one_if b ≤ most_nodes
+few_by true n le e = omega (arith, leb-false most_nodes n e)
 few_by false n le e = omega (arith, le)
 
-few_place : (q : Place) (n : ℕ) → n ≤ 65536 → HasPlace q n → n + one_if (is_node q) ≤ 65536
+few_place : (q : Place) (n : ℕ) → n ≤ most_nodes → HasPlace q n → n + one_if (is_node q) ≤ most_nodes
 few_place q n le e = few_by (is_node q) n le e
 
 -- ---- what is spelled is read
@@ -56,7 +57,7 @@ reaches_append text (p ∷ ps) qs a [] n b gs m end r s = r
 reaches_append text (p ∷ ps) qs a (f ∷ fs) n b gs m end r s = (r.0, r.1, reaches_append text ps qs r.0 (after p f fs) (counted p n) b gs m end r.2 s)
 
 mutual
-  pub item_reached : (text : List ℕ) (p : Place) (seen : List Tag) (fs : List Frame) (at nodes : ℕ) (i : Item) (next : ℕ) → MayFollow p seen (item_tag i) → Spelled text p (space_end text at) i next → nodes + nodes_of i ≤ 65536
+  pub item_reached : (text : List ℕ) (p : Place) (seen : List Tag) (fs : List Frame) (at nodes : ℕ) (i : Item) (next : ℕ) → MayFollow p seen (item_tag i) → Spelled text p (space_end text at) i next → nodes + nodes_of i ≤ most_nodes
       → Reaches text (pieces_of i) at (at_place p seen ∷ fs) nodes (point next (at_place p (item_tag i ∷ seen) ∷ fs) (nodes + nodes_of i))
   item_reached text p seen fs at nodes (plain tag v) next new s few =
       let n : nodes + 0 ≡ nodes = omega arith in
@@ -66,8 +67,8 @@ mutual
       (next, is_piece text (at_place p seen) nodes at (whole q) next (s.0, record { starts = s.1; follows = new }, has_place q nodes few, s.2, s.3, s.4), ap (point next (at_place p (tag_of q ∷ seen) ∷ fs)) n)
   item_reached text p seen fs at nodes (nested q is) next new s few =
       let o = counted_opens q nodes in
-      let room : nodes + one_if (is_node q) ≤ 65536 = omega (arith, few) in
-      let inner : counted (opens q) nodes + node_count is ≤ 65536 = omega (arith, o, few) in
+      let room : nodes + one_if (is_node q) ≤ most_nodes = omega (arith, few) in
+      let inner : counted (opens q) nodes + node_count is ≤ most_nodes = omega (arith, o, few) in
       let total : counted (opens q) nodes + node_count is ≡ nodes + (one_if (is_node q) + node_count is) = omega (arith, o) in
       let more = all_reached text q [] (at_place p (tag_of q ∷ seen) ∷ fs) s.0.next (counted (opens q) nodes) is s.3 next s.4 s.5 inner in (
         s.0.next,
@@ -76,16 +77,16 @@ mutual
       )
 
   -- the children of a parent, and its end tag
-  pub all_reached : (text : List ℕ) (p : Place) (seen : List Tag) (fs : List Frame) (at nodes : ℕ) (is : Items) (end next : ℕ) → AllSpelled text p seen at is end → end_at text end (tag_of p) ≡ Ok next → nodes + node_count is ≤ 65536
+  pub all_reached : (text : List ℕ) (p : Place) (seen : List Tag) (fs : List Frame) (at nodes : ℕ) (is : Items) (end next : ℕ) → AllSpelled text p seen at is end → end_at text end (tag_of p) ≡ Ok next → nodes + node_count is ≤ most_nodes
       → Reaches text (all_pieces is ++ closes ∷ []) at (at_place p seen ∷ fs) nodes (point next fs (nodes + node_count is))
   all_reached text p seen fs at nodes no_items end next s e few =
       let n : nodes + 0 ≡ nodes = omega arith in
       (next, is_piece text (at_place p seen) nodes at closes next (ap (λ (x : ℕ). end_at text x (tag_of p)) (sym s.0) ∙ e, s.1), ap (point next fs) n)
   all_reached text p seen fs at nodes (item i is) end next s e few =
-      let front : nodes + nodes_of i ≤ 65536 = omega (arith, few) in
+      let front : nodes + nodes_of i ≤ most_nodes = omega (arith, few) in
       let first = item_reached text p seen fs at nodes i s.1 s.0 s.2 front in
       let total : nodes + nodes_of i + node_count is ≡ nodes + (nodes_of i + node_count is) = omega arith in
-      let rest : nodes + nodes_of i + node_count is ≤ 65536 = omega (arith, few) in
+      let rest : nodes + nodes_of i + node_count is ≤ most_nodes = omega (arith, few) in
       let others = all_reached text p (item_tag i ∷ seen) fs s.1 (nodes + nodes_of i) is end next s.3 e rest in
       let both = reaches_append text (pieces_of i) (all_pieces is ++ closes ∷ []) at (at_place p seen ∷ fs) nodes s.1 (at_place p (item_tag i ∷ seen) ∷ fs) (nodes + nodes_of i) (point next fs (nodes + nodes_of i + node_count is)) first others in
       subst (λ (ps : List Piece). Reaches text ps at (at_place p seen ∷ fs) nodes (point next fs (nodes + (nodes_of i + node_count is)))) (sym (append_assoc (pieces_of i) (all_pieces is) (closes ∷ [])))
@@ -101,7 +102,7 @@ pub record Parsed (text : List ℕ) (p : Place) (seen : List Tag) (fs : List Fra
   pub children : AllSpelled text p seen at items end
   pub ends : end_at text end (tag_of p) ≡ Ok next
   pub split : ps ≡ all_pieces items ++ closes ∷ qs
-  pub few : nodes ≤ 65536 → nodes + node_count items ≤ 65536
+  pub few : nodes ≤ most_nodes → nodes + node_count items ≤ most_nodes
   pub rest : Reaches text qs next fs (nodes + node_count items) to
 
 joined : (x y : Piece) (ps front mid bs rest : List Piece) → ps ≡ front ++ y ∷ mid → mid ≡ bs ++ y ∷ rest → x ∷ ps ≡ x ∷ (front ++ y ∷ []) ++ bs ++ y ∷ rest
@@ -193,7 +194,7 @@ elements_of doc text ps valid x =
       few = omega (arith, p.few (omega arith));
     }
 
-pub accepted : (doc : Place) (text : List ℕ) (items : Items) → DocumentText doc text items → node_count items ≤ 65536 → Accepts doc text (all_pieces items ++ closes ∷ [])
+pub accepted : (doc : Place) (text : List ℕ) (items : Items) → DocumentText doc text items → node_count items ≤ most_nodes → Accepts doc text (all_pieces items ++ closes ∷ [])
 accepted doc text items d few = record {
   point = point d.after [] (0 + node_count items);
   opened = record { inside = d.inside; head_is = d.head_is; reaches = all_reached text doc [] [] d.inside 0 items d.end d.after d.children d.ends (omega (arith, few)) };

@@ -1,5 +1,6 @@
 -- What the code's values stand for, and what a call may answer where reading gives a value or a refusal.
 use Rattle.std.specs.Prelude.{◌≡◌, ◌<◌, ℕ, true, Result, Ok, Err}
+use Rattle.tape_types.specs.Bounds.{most_nodes}
 use Rattle.tape_types.specs.Times.{civil_of}
 use Rattle.doc_elements.specs.declared.errors.PieceErr.{PieceErr}
 use Rattle.doc_elements.specs.declared.errors.PieceErr.TheVariants as errors
@@ -29,8 +30,8 @@ piece_of (code_pieces.Leaf tag v) = leaf tag (val_of v)
 
 -- there are fewer nodes than there may be, where a piece begins one
 abbrev pub HasRoom : Piece → ℕ → Type 0
-HasRoom (code_pieces.Opens p) nodes = is_node p ≡ true → nodes < 65536
-HasRoom (code_pieces.Whole p) nodes = is_node p ≡ true → nodes < 65536
+HasRoom (code_pieces.Opens p) nodes = is_node p ≡ true → nodes < most_nodes
+HasRoom (code_pieces.Whole p) nodes = is_node p ≡ true → nodes < most_nodes
 HasRoom code_pieces.Closes nodes = Unit {0}
 HasRoom (code_pieces.Leaf tag v) nodes = Unit {0}
 

@@ -1,6 +1,7 @@
 -- Spellings of elements inside one another.
 use Rattle.std.specs.Prelude.{◌≡◌, ◌≤◌, ⊤, ℕ, ◌+◌, List, [], ◌∷◌, ◌++◌, length, true, false, None, Ok, IsUtf8, not}
 use Rattle.std.specs.Prelude.{◌&&◌, if◌then◌else◌}
+use Rattle.tape_types.specs.Bounds.{most_nodes}
 use Rattle.tape_types.specs.declared.moments.Moment.{Moment}
 use Rattle.tape_types.specs.Times.{civil_of}
 use Rattle.doc_fields.specs.declared.tags.Tag.{Tag}
@@ -105,7 +106,7 @@ pub record IsMade (doc : Place) (text : List ℕ) (ps : List Piece) : Type 0 whe
   pub items : Items
   pub spelled : DocumentText doc text items
   pub split : ps ≡ all_pieces items ++ closes ∷ []
-  pub few : node_count items ≤ 65536
+  pub few : node_count items ≤ most_nodes
 
 -- a time that is told is that of a moment
 abbrev pub IsTimed : Val → Type 0

@@ -6,6 +6,7 @@ use Rattle.std.specs.List.{list_any}
 use Rattle.std.specs.Str.{chars, is_utf8}
 use Rattle.base64.specs.Engines.{standard}
 use Rattle.base64.specs.GeneralPurpose.{decoded_of}
+use Rattle.tape_types.specs.Bounds.{longest_name, most_nodes}
 use Rattle.tape_types.specs.declared.times.Civil.{Civil}
 use Rattle.tape_types.specs.Names.{has_byte, is_dot}
 use Rattle.doc_fields.specs.declared.errors.Why.{Why}
@@ -108,7 +109,7 @@ number_in f text from = do
 
 -- up to 255 characters without a slash and a NUL
 abbrev pub is_volume_name : List ℕ → Bool
-is_volume_name name = nat_le (length (chars name)) 255 && not (has_byte 47 name) && not (has_byte 0 name)
+is_volume_name name = nat_le (length (chars name)) longest_name && not (has_byte 47 name) && not (has_byte 0 name)
 
 -- whether a text may be a name of a form
 abbrev pub is_name : Form → List ℕ → Bool
@@ -231,7 +232,7 @@ abbrev pub beside : Frame → ℕ → ℕ → Tag → Child → Result Child Pie
 beside f nodes at tag c =
     if has_any (excludes tag) f.seen then Err (errors.Unknown at)
     else (if member tag f.seen && not (may_repeat f.place tag) then Err (errors.Twice at)
-    else (if opens_node c && nat_le 65536 nodes then Err errors.TooMany else Ok c))
+    else (if opens_node c && nat_le most_nodes nodes then Err errors.TooMany else Ok c))
 
 abbrev pub if_known : Child → ℕ → Result Child PieceErr → Result Child PieceErr
 if_known child.Unknown at r = Err (errors.Unknown at)

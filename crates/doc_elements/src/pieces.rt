@@ -1,6 +1,7 @@
 //! The piece of a document that follows.
 
 ghost use Rattle.std.specs.Prelude.{◌≡◌, ◌≤◌, ◌<◌, ◌+◌, ℕ, true, List, length, IfOk};
+ghost use Rattle.tape_types.specs.Bounds.{most_nodes};
 ghost use Rattle.doc_fields.specs.declared.tags.Tag.{Tag};
 ghost use Rattle.doc_elements.specs.Children.{Holds, first_missing};
 ghost use Rattle.doc_elements.specs.Pieces.{beside, child_at, close_at, has_any, made, none_missing, opens_node};
@@ -15,9 +16,7 @@ use crate::schema::{Child, Place, child_of, excludes, is_node, may_repeat, requi
 use crate::values::{Value, leaf};
 use doc_fields::{Start, Tag, Why, byte, plain_start, read_end, read_name, read_rest, skip_space};
 use std::alloc::Global;
-
-/// The most nodes of an index, the root among them.
-const MOST_NODES: u32 = 65_536;
+use tape_types::MOST_NODES;
 
 /// A start tag or an end tag of a parent, or a whole element.
 #[derive(Drop)]
@@ -60,7 +59,7 @@ fn opens_node(child: Child) -> bool
 /// Whether an element may stand as a child here, with so many nodes before it.
 #[tactic(auto, unfolding(crate::specs::Pieces::verdict))]
 fn verdict(frame: Frame, nodes: u32, at: usize, tag: Tag) -> Result<Child, PieceErr>
-    ensures room { IfOk result (λ c. opens_node c ≡ true → nodes < 65536) }
+    ensures room { IfOk result (λ c. opens_node c ≡ true → nodes < most_nodes) }
     ensures value { (tags : List Tag) → Holds frame.seen tags →
         result ≡ verdict (record { place = frame.place; seen = tags }) nodes at tag }
 {
@@ -73,7 +72,7 @@ fn verdict(frame: Frame, nodes: u32, at: usize, tag: Tag) -> Result<Child, Piece
 
 /// The same of an element that is known there.
 fn beside(frame: Frame, nodes: u32, at: usize, tag: Tag, child: Child) -> Result<Child, PieceErr>
-    ensures room { IfOk result (λ c. opens_node c ≡ true → nodes < 65536) }
+    ensures room { IfOk result (λ c. opens_node c ≡ true → nodes < most_nodes) }
     ensures value { (tags : List Tag) → Holds frame.seen tags →
         result ≡ beside (record { place = frame.place; seen = tags }) nodes at tag child }
 {
@@ -109,7 +108,7 @@ fn made(
     text: &[u8],
 ) -> Result<(Piece, usize), PieceErr>
     requires { start.next ≤ length text.now }
-    ensures room { IfOk result (λ x. (nodes : ℕ) → (opens_node child ≡ true → nodes < 65536) → HasRoom x.0 nodes) }
+    ensures room { IfOk result (λ x. (nodes : ℕ) → (opens_node child ≡ true → nodes < most_nodes) → HasRoom x.0 nodes) }
     ensures value { Gives (λ x. (piece_of x.0, x.1)) result (made child tag from start text.now) }
     ensures within { IfOk result (λ x. (start.next ≤ x.1) × (x.1 ≤ length text.now)) }
 {

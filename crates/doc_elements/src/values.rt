@@ -22,7 +22,7 @@ use doc_fields::{
 use ltfs_text::{ReadNameErr, read_name};
 use node_keys::is_key;
 use std::alloc::Global;
-use tape_types::{Bytes, Moment, NoMemory, Text};
+use tape_types::{Bytes, LONGEST_NAME, Moment, NoMemory, Text};
 
 /// The value of a leaf.
 #[derive(Drop)]
@@ -101,7 +101,7 @@ fn contains_byte(name: &str, byte: u8) -> bool
 fn is_volume_name(name: &str) -> bool
     ensures { result ≡ is_volume_name name.now }
 {
-    char_count(name) <= 255 && !contains_byte(name, b'/') && !contains_byte(name, 0)
+    char_count(name) <= LONGEST_NAME && !contains_byte(name, b'/') && !contains_byte(name, 0)
 }
 
 /// Whether a text may be a name of a form.

@@ -8,12 +8,13 @@ use Rattle.std.specs.Ordering.{nat_cmp, eq_by_cmp}
 use Rattle.std.specs.declared.cmp.Ordering.{Ordering}
 use Rattle.std.specs.Cmp.Lexicographic.{slice_cmp}
 use Rattle.std.specs.FinMap as fin
+use Rattle.tape_types.specs.Bounds.{longest_name}
 use Rattle.tape_types.specs.Names.{has_byte}
 use Rattle.node_keys.specs.declared.xattrs.Xattr.{Xattr}
 
 -- 1 to 255 characters, none of them NUL
 abbrev pub is_key : List ℕ → Bool
-is_key key = nat_lt 0 (length key) && nat_le (length (chars key)) 255 && not (has_byte 0 key)
+is_key key = nat_lt 0 (length key) && nat_le (length (chars key)) longest_name && not (has_byte 0 key)
 
 -- keys stand by their bytes
 abbrev pub key_cmp : List ℕ → List ℕ → Ordering

@@ -6,7 +6,7 @@ ghost use Rattle.tape_types.specs.Names.{has_byte};
 ghost use Rattle.node_keys.specs.Keys.{is_key};
 
 use std::alloc::Global;
-use tape_types::{Bytes, NoMemory, Text};
+use tape_types::{Bytes, LONGEST_NAME, NoMemory, Text};
 
 /// An extended attribute of a node.
 #[derive(Drop)]
@@ -43,5 +43,5 @@ fn contains_byte(key: &str, byte: u8) -> bool
 pub fn is_key(key: &str) -> bool
     ensures { result ≡ is_key key.now }
 {
-    !key.is_empty() && char_count(key) <= 255 && !contains_byte(key, 0)
+    !key.is_empty() && char_count(key) <= LONGEST_NAME && !contains_byte(key, 0)
 }
