@@ -6,6 +6,7 @@ use Rattle.std.proofs.lemmas.Bool.Decides.{nat_tests}
 use Rattle.std.proofs.lemmas.List.Elements.{All-nil, All-cons}
 use Rattle.std.proofs.lemmas.Str.{IsUtf8-from_ascii, chars-IsAscii}
 use Rattle.std.proofs.lemmas.Str.Ascii.{IsAscii-from_all}
+use Rattle.tape_types.specs.Bounds.{longest_file, longest_name}
 use Rattle.tape_types.specs.Names.{has_byte}
 use Rattle.tape_types.specs.declared.moments.Moment.{Moment}
 use Rattle.tape_types.specs.declared.moments.Times.{Times}
@@ -69,7 +70,7 @@ in_order times =
       together = λ at n is. each (λ k x. LiesIn nodes k x.parent) (archive_rest times) (itself 0, (itself 1, (through 2 0 _ (omega arith) refl docs_root, tt))) at n is;
     }
 
-volume_name : (text : List ℕ) → list_all printable text ≡ true → nat_le (length text) 255 ≡ true → has_byte 47 text ≡ false → has_byte 0 text ≡ false → IsVolumeName text
+volume_name : (text : List ℕ) → list_all printable text ≡ true → nat_le (length text) longest_name ≡ true → has_byte 47 text ≡ false → has_byte 0 text ≡ false → IsVolumeName text
 volume_name text e short no_slash no_nul = record {
   utf8 = IsUtf8-from_ascii text (ascii text e);
   short = rw (chars-IsAscii text (ascii text e)) (grind (arith, nat_tests));
@@ -148,17 +149,17 @@ one_apart at other offset h =
 
 files : (times : Times) → AreFiles (archive_nodes times)
 files times = record {
-  size = λ at bytes extents h. subst (λ b. b ≤ 2 ^ 40) (sym (the_file times at bytes extents h).0) (omega arith);
+  size = λ at bytes extents h. subst (λ b. b ≤ longest_file) (sym (the_file times at bytes extents h).0) (omega arith);
   ends = λ at bytes extents h. subst (AllByRecursion (λ e. e.offset + e.count ≤ 2 ^ 62)) (sym (the_file times at bytes extents h).1) (omega arith, tt);
   apart = λ at bytes extents h one two offset shared. one_apart one two offset (subst (λ xs. ShareOffset xs one two offset) (the_file times at bytes extents h).1 shared);
 }
 
-key : (text : List ℕ) → list_all printable text ≡ true → nat_lt 0 (length text) ≡ true → nat_le (length text) 255 ≡ true → has_byte 0 text ≡ false → is_key text ≡ true
+key : (text : List ℕ) → list_all printable text ≡ true → nat_lt 0 (length text) ≡ true → nat_le (length text) longest_name ≡ true → has_byte 0 text ≡ false → is_key text ≡ true
 key text e some short no_nul =
     rw (chars-IsAscii text (ascii text e))
-    (and_from (nat_lt 0 (length text) && nat_le (length text) 255) (not (has_byte 0 text)) (and_from (nat_lt 0 (length text)) (nat_le (length text) 255) some short) (ap not no_nul))
+    (and_from (nat_lt 0 (length text) && nat_le (length text) longest_name) (not (has_byte 0 text)) (and_from (nat_lt 0 (length text)) (nat_le (length text) longest_name) some short) (ap not no_nul))
 
-xattr : (x : Xattr) → list_all printable x.key ≡ true → nat_lt 0 (length x.key) ≡ true → nat_le (length x.key) 255 ≡ true → has_byte 0 x.key ≡ false → IsBytes x.value → IsXattr x
+xattr : (x : Xattr) → list_all printable x.key ≡ true → nat_lt 0 (length x.key) ≡ true → nat_le (length x.key) longest_name ≡ true → has_byte 0 x.key ≡ false → IsBytes x.value → IsXattr x
 xattr x e some short no_nul are = record {
   utf8 = IsUtf8-from_ascii x.key (ascii x.key e);
   key = key x.key e some short no_nul;
@@ -202,7 +203,7 @@ formed at times = record {
   count = omega arith;
   order = in_order times;
   names = named times;
-  xattrs = (tt, (tt, ((xattr note refl refl refl refl (two_bytes 104 105 (omega arith) (omega arith)), (xattr bin refl refl refl refl (two_bytes 0 255 (omega arith) (omega arith)), (xattr hi refl refl refl refl (two_bytes 104 105 (omega arith) (omega arith)), tt))), (tt, tt))));
+  xattrs = (tt, (tt, ((xattr note refl refl refl refl (two_bytes 104 105 (omega arith) (omega arith)), (xattr bin refl refl refl refl (two_bytes 0 longest_name (omega arith) (omega arith)), (xattr hi refl refl refl refl (two_bytes 104 105 (omega arith) (omega arith)), tt))), (tt, tt))));
   kinds = (tt, (tt, ((record { offset = omega arith; letter = letter 98 refl refl; block = omega arith; byte = omega arith; count = omega arith }, tt), (IsUtf8-from_ascii (codes "docs/read me.txt") (ascii (codes "docs/read me.txt") refl), tt))));
 }
 

@@ -1,6 +1,7 @@
 -- What is told of damaged indexes.
 use Rattle.std.proofs.Common.{◌≡◌, ◌⊎◌, ℕ, ◌+◌, ◌<◌, ◌≤◌, ◌^◌, ◌==◌, if◌then◌else◌, List, [], ◌∷◌, codes, inl, inr, subst, refl, sym, ap, ◌∙◌, arith}
 use Rattle.std.specs.List.{AllByRecursion}
+use Rattle.tape_types.specs.Bounds.{longest_file}
 use Rattle.tape_types.specs.declared.moments.Moment.{Moment}
 use Rattle.tape_types.specs.declared.moments.Times.{Times}
 use Rattle.index_model.specs.declared.nodes.Kind.{Kind}
@@ -237,7 +238,8 @@ touching_file times at bytes extents f =
 
 pub touching_fine : (times : Times) → AreFiles (with_file times (kinds.File 5 touching))
 touching_fine times = record {
-  size = λ at bytes extents f. subst (λ b. b ≤ 2 ^ 40) (sym (touching_file times at bytes extents f).0) (omega arith);
+  size = λ at bytes extents f. subst (λ b. b ≤ longest_file) (sym (touching_file times at bytes extents f).0)
+      (omega arith);
   ends = λ at bytes extents f. subst (AllByRecursion (λ e. e.offset + e.count ≤ 2 ^ 62)) (sym (touching_file times at bytes extents f).1) (omega arith, (omega arith, (omega arith, tt)));
   apart = λ at bytes extents f one two offset shared. touching_apart one two offset (subst (λ xs. ShareOffset xs one two offset) (touching_file times at bytes extents f).1 shared);
 }

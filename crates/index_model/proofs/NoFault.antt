@@ -2,6 +2,7 @@
 use Rattle.std.proofs.Common.{◌≡◌, ℕ, zero, suc, ◌+◌, ◌<◌, ◌≤◌, ◌^◌, List, [], ◌∷◌, inl, inr, ⊎_elim, refl, sym, arith}
 use Rattle.std.specs.List.{AllByRecursion}
 use Rattle.std.proofs.lemmas.Bool.{cases_lt, cases_eq}
+use Rattle.tape_types.specs.Bounds.{longest_file}
 use Rattle.index_model.specs.declared.indexes.Index.{Index}
 use Rattle.index_model.specs.declared.nodes.Node.{Node}
 use Rattle.index_model.specs.declared.nodes.RawExtent.{RawExtent}
@@ -98,7 +99,7 @@ names_are nodes none = same_place (HaveOneName nodes) (turned_name nodes) (λ i 
 -- files of which none is bad are right
 pub files_are : (nodes : List Node) → ((at : ℕ) → IsBadFile nodes at → ⊥) → AreFiles nodes
 files_are nodes none = record {
-  size = λ at bytes extents f. not_more bytes (2 ^ 40) (λ long. none at (inl record { bytes = bytes; extents = extents; file = f; out = inl long }));
+  size = λ at bytes extents f. not_more bytes longest_file (λ long. none at (inl record { bytes = bytes; extents = extents; file = f; out = inl long }));
   ends = λ at bytes extents f. each_end extents (λ far. none at (inl record { bytes = bytes; extents = extents; file = f; out = inr far }));
   apart = λ at bytes extents f one two offset.
       same_place (λ i j. ShareOffset extents i j offset) (turned_share extents offset)

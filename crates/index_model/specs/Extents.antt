@@ -2,6 +2,7 @@
 use Rattle.std.specs.Prelude.{◌≡◌, ◌⊎◌, ⊤, ℕ, ◌+◌, ◌<◌, ◌≤◌, ◌^◌, List}
 use Rattle.std.specs.List.{AllByRecursion}
 use Rattle.std.specs.Str.{IsUtf8}
+use Rattle.tape_types.specs.Bounds.{longest_file}
 use Rattle.index_model.specs.declared.nodes.RawExtent.{RawExtent}
 use Rattle.index_model.specs.declared.nodes.Kind.{Kind}
 use Rattle.index_model.specs.declared.nodes.Kind.TheVariants as kinds
@@ -46,7 +47,7 @@ pub record ShareOffset (extents : List RawExtent) (at other offset : ℕ) : Type
 -- Each file has at most 2^40 bytes. Its extents end at or before 2^62, and no two of them share an offset; one of no
 -- bytes shares none.
 pub record AreFiles (nodes : List Node) : Type 0 where
-  pub size : (at bytes : ℕ) (extents : List RawExtent) → IsFileAt nodes at bytes extents → bytes ≤ 2 ^ 40
+  pub size : (at bytes : ℕ) (extents : List RawExtent) → IsFileAt nodes at bytes extents → bytes ≤ longest_file
   pub ends : (at bytes : ℕ) (extents : List RawExtent) → IsFileAt nodes at bytes extents →
       AllByRecursion (λ e. e.offset + e.count ≤ 2 ^ 62) extents
   pub apart : (at bytes : ℕ) (extents : List RawExtent) → IsFileAt nodes at bytes extents → (one two offset : ℕ) →
@@ -72,7 +73,7 @@ pub record IsOutOfBounds (nodes : List Node) (at : ℕ) : Type 0 where
   pub bytes : ℕ
   pub extents : List RawExtent
   pub file : IsFileAt nodes at bytes extents
-  pub out : (2 ^ 40 < bytes) ⊎ EndsTooFar extents
+  pub out : (longest_file < bytes) ⊎ EndsTooFar extents
 
 -- at this place stands a file of which some extents overlap
 pub record HasOverlap (nodes : List Node) (at : ℕ) : Type 0 where

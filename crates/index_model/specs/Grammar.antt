@@ -1,6 +1,7 @@
 -- What the text of an index is, by what its elements tell (LTFS 2.4 on the index).
 use Rattle.std.specs.Prelude.{◌≡◌, ◌⊎◌, ◌≤◌, ℕ, List, [], ◌∷◌, Option, Some, None, ◌==◌, if◌then◌else◌}
 use Rattle.std.specs.Option.{option_map}
+use Rattle.tape_types.specs.Bounds.{most_nodes}
 use Rattle.doc_fields.specs.declared.tags.Tag.{Tag}
 use Rattle.doc_fields.specs.declared.tags.Tag.TheVariants.{Creator, Comment, VolumeUuid, Partition, GenerationNumber}
 use Rattle.doc_fields.specs.declared.tags.Tag.TheVariants.{UpdateTime, StartBlock, AllowPolicyUpdate, Size}
@@ -178,7 +179,7 @@ pub record Spells (text : List ℕ) (v : IndexValue) : Type 0 where
   pub root : inside place.Root items ≡ Some root_items
   pub facts : TellsFacts root_items v.root
   pub contents : TellsContents root_items v.inside
-  pub few : node_count items ≤ 65536
+  pub few : node_count items ≤ most_nodes
 
 -- the text is that of an index, of which no fault is told
 pub record IndexText (text : List ℕ) (index : Index) : Type 0 where

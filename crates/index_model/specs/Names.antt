@@ -1,6 +1,7 @@
 -- The names of nodes (LTFS 2.4 on names). A name is given by its bytes in UTF-8.
 use Rattle.std.specs.Prelude.{◌≡◌, ℕ, ◌<◌, ◌≤◌, List, false, length}
 use Rattle.std.specs.Str.{IsUtf8, chars}
+use Rattle.tape_types.specs.Bounds.{longest_name}
 use Rattle.tape_types.specs.Names.{has_byte, is_dot}
 use Rattle.index_model.specs.declared.nodes.Node.{Node}
 use Rattle.index_model.specs.Places.{IsAt}
@@ -8,7 +9,7 @@ use Rattle.index_model.specs.Places.{IsAt}
 -- the name of a volume, which is its root's: up to 255 characters without a slash and a NUL
 pub record IsVolumeName (name : List ℕ) : Type 0 where
   pub utf8 : IsUtf8 name
-  pub short : length (chars name) ≤ 255
+  pub short : length (chars name) ≤ longest_name
   pub no_slash : has_byte 47 name ≡ false
   pub no_nul : has_byte 0 name ≡ false
 

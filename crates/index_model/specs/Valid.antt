@@ -2,6 +2,7 @@
 use Rattle.std.specs.Prelude.{◌<◌, ◌≤◌, ◌^◌, length, IfSome}
 use Rattle.std.specs.List.{AllByRecursion}
 use Rattle.std.specs.Str.{IsUtf8}
+use Rattle.tape_types.specs.Bounds.{most_nodes}
 use Rattle.index_model.specs.declared.indexes.Index.{Index}
 use Rattle.index_model.specs.declared.indexes.Policy.{Policy}
 use Rattle.index_model.specs.declared.indexes.Spot.{Spot}
@@ -32,7 +33,7 @@ pub record IsFormed (index : Index) : Type 0 where
   pub here : IsSpot index.here
   pub back : IfSome index.back IsSpot
   pub policy : IfSome index.policy IsPolicy
-  pub count : length index.nodes ≤ 65536
+  pub count : length index.nodes ≤ most_nodes
   pub order : AreInOrder index.nodes
   pub names : AreNames index.nodes
   pub xattrs : AllByRecursion (λ node. AllByRecursion IsXattr node.xattrs) index.nodes
