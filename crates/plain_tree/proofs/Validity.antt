@@ -11,6 +11,7 @@ use Rattle.std.proofs.lemmas.Bool.Decides.{nat_tests}
 use Rattle.std.proofs.lemmas.List.{length-take, length-drop, length-append, drop_at, take-take, take_all, drop-take, length-map}
 use Rattle.std.proofs.lemmas.Bool.{cases_lt}
 use Rattle.std.proofs.Math.Seq.{take-append-add}
+use Rattle.tape_types.specs.Bounds.{most_nodes}
 use Rattle.tape_types.specs.declared.moments.Moment.{Moment}
 use Rattle.plain_tree.specs.declared.nodes.Node.{Node}
 use Rattle.plain_tree.specs.declared.nodes.Kind.{Kind}
@@ -100,7 +101,7 @@ uid_in (Some v) = v.0
 
 module _ (mark more : Path → Option (ℕ × Bool)) (p : Path) (dir : Bool) (c d h up : ℕ)
     (adds : (q : Path) → more q ≡ cond (is_eq (path_cmp q p)) (Some (h + 1, dir)) (mark q))
-    (free : mark p ≡ None) (some : p ≢ []) (below : mark (parent_of p) ≡ Some (up, true)) (room : h < 2 ^ 62) (space : c < 65536) (count : d ≡ c + 1) where
+    (free : mark p ≡ None) (some : p ≢ []) (below : mark (parent_of p) ≡ Some (up, true)) (room : h < 2 ^ 62) (space : c < most_nodes) (count : d ≡ c + 1) where
   at : (q : Path) → ((q ≡ p) × (more q ≡ Some (h + 1, dir))) ⊎ (more q ≡ mark q)
   at q = cases_at mark p q (more q) (h + 1, dir) (path_cmp q p) refl (adds q)
 
@@ -145,7 +146,7 @@ not_some (Some x) e = cc
 pub not_root : (p : Path) → at_root p ≡ None → p ≢ []
 not_root p e is = let wrong : true ≡ false = sym (ap (λ q. eqb (length q) 0) is) ∙ not_refused (eqb (length p) 0) Root e in cc
 
-pub room_of : (t : Tree) → too_many t ≡ None → (fin.len t.nodes < 65536) × (t.highest < 2 ^ 62)
+pub room_of : (t : Tree) → too_many t ≡ None → (fin.len t.nodes < most_nodes) × (t.highest < 2 ^ 62)
 room_of t e = grind (arith, nat_tests)
 
 pub dir_there : (nodes : Nodes) (path : Path) → no_dir nodes path ≡ None → (up : ℕ) × (mark_at nodes path ≡ Some (up, true))

@@ -2,6 +2,7 @@
 use Rattle.std.specs.Prelude.{ℕ, zero, suc, ◌+◌, ◌^◌, List, [], ◌∷◌, Bool, true, false, ◌||◌, nat_le, nat_lt, ◌==◌}
 use Rattle.std.specs.Prelude.{if◌then◌else◌, length, take, Option, Some, None, is_none, is_some}
 use Rattle.std.specs.FinMap as fin
+use Rattle.tape_types.specs.Bounds.{longest_file, most_nodes}
 use Rattle.tape_types.specs.Names.{name_fault}
 use Rattle.plain_tree.specs.declared.nodes.Node.{Node}
 use Rattle.plain_tree.specs.declared.nodes.Kind.{Kind}
@@ -92,11 +93,11 @@ exists_at nodes path = refuse_if (fin.contains_key nodes path) Exists
 
 -- a file has at most 2^40 bytes
 abbrev pub too_long : ℕ → Option Refusal
-too_long length = refuse_if (nat_lt (2 ^ 40) length) TooLong
+too_long length = refuse_if (nat_lt longest_file length) TooLong
 
 -- there are at most 65,536 nodes, and uids up to 2^62
 abbrev pub too_many : Tree → Option Refusal
-too_many t = refuse_if (nat_le 65536 (fin.len t.nodes) || nat_le (2 ^ 62) t.highest) TooMany
+too_many t = refuse_if (nat_le most_nodes (fin.len t.nodes) || nat_le (2 ^ 62) t.highest) TooMany
 
 abbrev pub not_empty : Nodes → Path → Option Refusal
 not_empty nodes path = refuse_if (nat_lt 0 (length (entries_in nodes path))) NotEmpty

@@ -4,6 +4,7 @@ use Rattle.std.specs.Prelude.{IsSome}
 use Rattle.std.specs.Coded.{Π_prop, coded_option, Coded-set}
 use Rattle.std.specs.Cmp.Lexicographic.{lists_total, nat_list_cmp_total}
 use Rattle.std.specs.FinMap as fin
+use Rattle.tape_types.specs.Bounds.{most_nodes}
 use mathlib.Core.HLevel.{Σ_prop_path}
 use mathlib.Core.Path.{sym, ◌∙◌}
 use Rattle.plain_tree.specs.declared.nodes.Node.{Node}
@@ -56,7 +57,7 @@ pub record CanStand (nodes : Nodes) (path : Path) (new : Node) : Type 0 where
   pub shape : IsShape (mark_at nodes) (fin.len nodes) highest
   pub next : new.uid ≡ highest + 1
   pub room : highest < 2 ^ 62
-  pub space : fin.len nodes < 65536
+  pub space : fin.len nodes < most_nodes
   pub named : path ≢ []
   pub free : fin.get nodes path ≡ None
   pub up : (uid : ℕ) × (mark_at nodes (parent_of path) ≡ Some (uid, true))

@@ -1,6 +1,7 @@
 -- What is true of every tree that calls reach.
 use Rattle.std.specs.Prelude.{◌≡◌, ◌≢◌, ℕ, ◌^◌, ◌≤◌, [], Bool, true, false, Option, Some, None}
 use Rattle.std.specs.FinMap as fin
+use Rattle.tape_types.specs.Bounds.{most_nodes}
 use Rattle.plain_tree.specs.declared.nodes.Node.{Node}
 use Rattle.plain_tree.specs.declared.nodes.Kind.{Kind}
 use Rattle.plain_tree.specs.declared.nodes.Kind.TheVariants as kinds
@@ -29,7 +30,7 @@ pub record IsShape (mark : Path → Option (ℕ × Bool)) (count highest : ℕ) 
   pub given : (p : Path) (uid : ℕ) (dir : Bool) → mark p ≡ Some (uid, dir) → (1 ≤ uid) × (uid ≤ highest)
   pub distinct : (p q : Path) (uid : ℕ) (d e : Bool) → mark p ≡ Some (uid, d) → mark q ≡ Some (uid, e) → p ≡ q
   pub bounded : highest ≤ 2 ^ 62
-  pub few : count ≤ 65536
+  pub few : count ≤ most_nodes
 
 abbrev pub IsValid : Tree → Type 0
 IsValid t = IsShape (mark_at t.nodes) (fin.len t.nodes) t.highest

@@ -1,4 +1,5 @@
-ghost use Rattle.std.specs.Prelude.{◌≡◌, ◌<◌, ◌+◌, ◌^◌, ◌≤◌, length, OnOk, OnErr};
+ghost use Rattle.std.specs.Prelude.{◌≡◌, ◌<◌, ◌+◌, ◌≤◌, length, OnOk, OnErr};
+ghost use Rattle.tape_types.specs.Bounds.{longest_file};
 ghost use Rattle.plain_tree.specs.Cells.{resized};
 ghost use Rattle.plain_tree.specs.Tree.{touched, change_noted, file_changed, written_to, sort_of, changed_by, new_node};
 ghost use Rattle.plain_tree.specs.Refusals.{missing_below};
@@ -40,7 +41,7 @@ fn touch_node(node: &mut Node, at: Moment)
 /// Puts bytes into a file and touches it, or changes nothing.
 pub fn write_node(node: &mut Node, offset: u64, bytes: &[u8], at: Moment) -> Result<(), NoMemory>
     requires some { 0 < length bytes.now }
-    requires fits { offset + length bytes.now ≤ 2 ^ 40 }
+    requires fits { offset + length bytes.now ≤ longest_file }
     ensures ok { OnOk result (node.new ≡ written_to offset bytes.now at node.old) }
     ensures err { OnErr result (node.new ≡ node.old) }
 {

@@ -1,9 +1,10 @@
-ghost use Rattle.std.specs.Prelude.{◌≡◌, ℕ, List, ◌<◌, ◌+◌, ◌≤◌, ◌^◌, length, map, Some, None, OnOk, OnErr, IfOk};
+ghost use Rattle.std.specs.Prelude.{◌≡◌, ℕ, List, ◌<◌, ◌+◌, ◌≤◌, length, map, Some, None, OnOk, OnErr, IfOk};
 ghost use Rattle.std.specs.Prelude.{IfErr, IsSome, nat_lt};
 ghost use Rattle.std.specs.List.Sorted.{IsStrictlySortedBy};
 ghost use Rattle.std.specs.Option.{option_copied, option_map};
 ghost use Rattle.std.specs.Ordering.{nat_cmp};
 ghost use Rattle.std.specs.BTreeMap.{get, IsUnchanged};
+ghost use Rattle.tape_types.specs.Bounds.{longest_file};
 ghost use Rattle.plain_tree.specs.Tree.{changed_by, sort_of, written_to};
 ghost use Rattle.plain_tree.specs.Links.{child, walk, name_cmp, lines, lines_of, IsPut, IsPutIn, IsMovedTo, IsSame};
 ghost use Rattle.plain_tree.specs.Links.{IsLast};
@@ -134,7 +135,7 @@ impl Links {
         at: Moment,
     ) -> Result<(), NoMemory>
         requires some { 0 < length bytes.now }
-        requires fits { offset + length bytes.now ≤ 2 ^ 40 }
+        requires fits { offset + length bytes.now ≤ longest_file }
         ensures ok { OnOk result (IsPut (child self.old) (child self.new) uid name.now
             (option_map (written_to offset bytes.now at) (child self.old uid name.now))) }
         ensures err { OnErr result (IsSame (child self.old) (child self.new)) }
@@ -219,7 +220,7 @@ fn write_name(
     at: Moment,
 ) -> Result<(), NoMemory>
     requires some { 0 < length bytes.now }
-    requires fits { offset + length bytes.now ≤ 2 ^ 40 }
+    requires fits { offset + length bytes.now ≤ longest_file }
     ensures ok { OnOk result (IsPutIn names.old names.new name.now
         (option_map (written_to offset bytes.now at) (get name_cmp names.old name.now))) }
     ensures err { OnErr result ((n : Name) → get name_cmp names.new n ≡ get name_cmp names.old n) }

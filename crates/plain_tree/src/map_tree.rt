@@ -14,11 +14,7 @@ use crate::paths::{is_below, parent, same_path};
 use crate::refusals::{bad_name, no_dir, no_file, no_node};
 use std::alloc::Global;
 use std::marker::Model;
-use tape_types::{Moment, NoMemory, Text};
-
-const MOST_NODES: usize = 65536;
-
-const LONGEST: u64 = 1 << 40;
+use tape_types::{LONGEST_FILE, MOST_NODES, Moment, NoMemory, Text};
 
 const LAST_UID: u64 = 1 << 62;
 
@@ -124,7 +120,7 @@ impl MapTree {
         if let Some(refusal) = no_file(&self.nodes, path) {
             return Ok(Answer::Refused(refusal));
         }
-        if offset > LONGEST || bytes.len() as u64 > LONGEST - offset {
+        if offset > LONGEST_FILE || bytes.len() as u64 > LONGEST_FILE - offset {
             return Ok(Answer::Refused(Refusal::TooLong));
         }
         if !bytes.is_empty() {
@@ -139,7 +135,7 @@ impl MapTree {
     {
         match file_length(&self.nodes, path) {
             Err(refusal) => Answer::Refused(refusal),
-            Ok(_) if size > LONGEST => Answer::Refused(Refusal::TooLong),
+            Ok(_) if size > LONGEST_FILE => Answer::Refused(Refusal::TooLong),
             Ok(present) => {
                 if size != present {
                     self.nodes.change(path, Change::Resize(size), at);
@@ -262,7 +258,7 @@ impl MapTree {
         if self.nodes.contains(path) {
             return Ok(Some(Refusal::Exists));
         }
-        if self.nodes.len() >= MOST_NODES || self.highest >= LAST_UID {
+        if self.nodes.len() >= MOST_NODES as usize || self.highest >= LAST_UID {
             return Ok(Some(Refusal::TooMany));
         }
         Ok(None)

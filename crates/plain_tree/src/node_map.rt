@@ -1,3 +1,4 @@
+ghost use Rattle.tape_types.specs.Bounds.{longest_file};
 ghost use Rattle.plain_tree.specs.Seen.{Seen, Seen-prop};
 
 use crate::calls::{Entry, Refusal};
@@ -35,7 +36,7 @@ impl Model for NodeMap {
 }
 
 impl NodeMap {
-    ghost use Rattle.std.specs.Prelude.{◌≡◌, ◌≢◌, ℕ, List, [], None, Some, ◌<◌, ◌+◌, ◌^◌, ◌≤◌, length, map, nat_lt};
+    ghost use Rattle.std.specs.Prelude.{◌≡◌, ◌≢◌, ℕ, List, [], None, Some, ◌<◌, ◌+◌, ◌≤◌, length, map, nat_lt};
     ghost use Rattle.std.specs.Prelude.{IsSome, OnOk, OnErr, IfOk, IfErr, IfSome, IfNone};
     ghost use Rattle.std.specs.FinMap as fin;
     ghost use Rattle.plain_tree.specs.Paths.{parent_of};
@@ -180,7 +181,7 @@ impl NodeMap {
         at: Moment,
     ) -> Result<(), NoMemory>
         requires some { 0 < length bytes.now }
-        requires fits { offset + length bytes.now ≤ 2 ^ 40 }
+        requires fits { offset + length bytes.now ≤ longest_file }
         ensures ok { OnOk result (self.new ≡ changed_at (written_to offset bytes.now at) path.now self.old) }
         ensures err { OnErr result (self.new ≡ self.old) }
     {

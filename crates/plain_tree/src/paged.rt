@@ -1,6 +1,7 @@
-ghost use Rattle.std.specs.Prelude.{◌≡◌, ℕ, ◌+◌, ◌-◌, ◌/◌, ◌%◌, ◌^◌, ◌<◌, ◌≤◌, ◌⊎◌, ◌++◌, length, [], OnOk, OnErr};
+ghost use Rattle.std.specs.Prelude.{◌≡◌, ℕ, ◌+◌, ◌-◌, ◌/◌, ◌%◌, ◌<◌, ◌≤◌, ◌⊎◌, ◌++◌, length, [], OnOk, OnErr};
 ghost use Rattle.std.specs.Prelude.{IfOk, is_some, true, map, slice_index, Some, false};
 ghost use Rattle.std.specs.List.{range_with_len};
+ghost use Rattle.tape_types.specs.Bounds.{longest_file};
 ghost use Rattle.plain_tree.specs.Cells.{written, resized, range_of, bytes_of};
 ghost use Rattle.plain_tree.specs.Pages.{page_at, byte_at};
 
@@ -68,7 +69,7 @@ impl PagedFile {
     /// Puts bytes at an offset, with zeros in a gap. Without memory nothing changes.
     pub fn write(&mut self, offset: u64, bytes: &[u8]) -> Result<(), NoMemory>
         requires some { 0 < length bytes.now }
-        requires fits { offset + length bytes.now ≤ 2 ^ 40 }
+        requires fits { offset + length bytes.now ≤ longest_file }
         ensures ok { OnOk result (self.new ≡ written self.old offset (map Some bytes.now)) }
         ensures err { OnErr result (self.new ≡ self.old) }
     {
@@ -143,7 +144,7 @@ fn append_zeros(bytes: &mut Vec<u8>, size: usize) -> Result<(), AllocError>
 
 /// Adds pages of zeros where there are none, which changes no byte.
 fn add_pages(pages: &mut Pages, alloc: Global, first: u64, last: u64) -> Result<(), AllocError>
-    requires { last < 2 ^ 40 }
+    requires { last < longest_file }
     ensures same { (i : ℕ) → byte_at (λ b. b.value) pages.new.entries i ≡ byte_at (λ b. b.value) pages.old.entries i }
     ensures there { OnOk result ((q : ℕ) → first ≤ q → q ≤ last → is_some (page_at pages.new.entries q) ≡ true) }
 {
@@ -170,7 +171,7 @@ fn add_page(pages: &mut Pages, alloc: Global, number: u64) -> Result<(), AllocEr
 /// Puts bytes into pages that are there.
 fn put_bytes(pages: &mut Pages, offset: u64, bytes: &[u8])
     requires some { 0 < length bytes.now }
-    requires fits { offset + length bytes.now ≤ 2 ^ 40 }
+    requires fits { offset + length bytes.now ≤ longest_file }
     requires there { (q : ℕ) → offset / 4096 ≤ q → q ≤ (offset + length bytes.now - 1) / 4096
         → is_some (page_at pages.old.entries q) ≡ true }
     ensures inside { (k : ℕ) → k < length bytes.now
