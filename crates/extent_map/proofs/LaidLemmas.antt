@@ -4,6 +4,7 @@ use Rattle.std.proofs.lemmas.Bool.{cases_lt}
 use Rattle.std.proofs.lemmas.Bool.Decides.{nat_tests}
 use Rattle.std.proofs.Math.Nat.{div-eq_of_lt, mod-eq_of_lt, mul-le-mul_left}
 use Rattle.std.proofs.lemmas.Nat.{mod_below, div_below}
+use Rattle.tape_types.specs.Bounds.{longest_file}
 use Rattle.tape_types.specs.declared.cartridges.Extent.{Extent}
 use Rattle.tape_types.specs.declared.cartridges.Part.{Part}
 use Rattle.extent_map.specs.Laid.{Laid, AreLaid, IsLaid, unless_empty, front_of, rest_of, before, past, cut, left_from, overlaid, resized}
@@ -132,7 +133,7 @@ left_laid size low high (e ∷ es) at some h le = ⊎_elim
 
 -- ---- the two calls keep the invariant
 
-pub overlaid_laid : (f : Laid) (new : Extent) → IsLaid f → 1 ≤ new.count → new.offset + new.count ≤ 2 ^ 40 → new.byte < f.block_size → new.block ≤ 2 ^ 62 → IsLaid (overlaid f new)
+pub overlaid_laid : (f : Laid) (new : Extent) → IsLaid f → 1 ≤ new.count → new.offset + new.count ≤ longest_file → new.byte < f.block_size → new.block ≤ 2 ^ 62 → IsLaid (overlaid f new)
 overlaid_laid f new h some fits byte block =
     let end = new.offset + new.count in
     let high = max f.length end in
@@ -149,7 +150,7 @@ overlaid_laid f new h some fits byte block =
           );
     }
 
-pub resized_laid : (f : Laid) (n : ℕ) → IsLaid f → n ≤ 2 ^ 40 → IsLaid (resized f n)
+pub resized_laid : (f : Laid) (n : ℕ) → IsLaid f → n ≤ longest_file → IsLaid (resized f n)
 resized_laid f n h fits = record {
   some_block = h.some_block;
   can_be = fits;

@@ -7,6 +7,7 @@ use Rattle.std.proofs.lemmas.Bool.Decides.{nat_tests}
 use Rattle.std.proofs.lemmas.List.{set_at, get_or-drop, length-drop, length-take-le, drop_all, set_split, take-take, drop_at, take-append-le}
 use Rattle.std.proofs.lemmas.List.Concat.{flat_map-append}
 use Rattle.std.proofs.lemmas.List.Elements.{All-take, All-drop, All-same}
+use Rattle.tape_types.specs.Bounds.{longest_file}
 use Rattle.tape_types.specs.declared.cartridges.Extent.{Extent}
 use Rattle.extent_map.specs.Laid.{AreLaid, unless_empty, front_of, rest_of, before, past, cut, left_from}
 use Rattle.extent_map.proofs.LaidLemmas.{laid_le, laid_lower, before_whole, past_none, past_part, cut_past, left_same}
@@ -16,7 +17,7 @@ pub record IsAt (size low high : ℕ) (e : Extent) : Type 0 where
   pub from : low ≤ e.offset
   pub some : 1 ≤ e.count
   pub byte : e.byte < size
-  pub far : e.block + e.count ≤ 2 ^ 62 + 2 ^ 40
+  pub far : e.block + e.count ≤ 2 ^ 62 + longest_file
   pub ends : e.offset + e.count ≤ high
 
 pub laid_at : (size low high : ℕ) (es : List Extent) → AreLaid size low high es → (k : ℕ) (d : Extent) → k < length es → IsAt size low high (get_or es k d)
@@ -220,7 +221,7 @@ bytes_within size low high es ds j n h is =
     All-same (λ (e : Extent). e.byte < size) ds (take n (drop j es)) is
     (All-take (λ (e : Extent). e.byte < size) n (drop j es) (All-drop (λ (e : Extent). e.byte < size) j es (λ k d lt. (laid_at size low high es h k d lt).byte)))
 
-pub blocks_far : (size low high : ℕ) (es ds : List Extent) (j n : ℕ) → AreLaid size low high es → ds ≡ take n (drop j es) → All (λ (e : Extent). e.block + e.count ≤ 2 ^ 62 + 2 ^ 40) ds
+pub blocks_far : (size low high : ℕ) (es ds : List Extent) (j n : ℕ) → AreLaid size low high es → ds ≡ take n (drop j es) → All (λ (e : Extent). e.block + e.count ≤ 2 ^ 62 + longest_file) ds
 blocks_far size low high es ds j n h is =
-    All-same (λ (e : Extent). e.block + e.count ≤ 2 ^ 62 + 2 ^ 40) ds (take n (drop j es)) is
-    (All-take (λ (e : Extent). e.block + e.count ≤ 2 ^ 62 + 2 ^ 40) n (drop j es) (All-drop (λ (e : Extent). e.block + e.count ≤ 2 ^ 62 + 2 ^ 40) j es (λ k d lt. (laid_at size low high es h k d lt).far)))
+    All-same (λ (e : Extent). e.block + e.count ≤ 2 ^ 62 + longest_file) ds (take n (drop j es)) is
+    (All-take (λ (e : Extent). e.block + e.count ≤ 2 ^ 62 + longest_file) n (drop j es) (All-drop (λ (e : Extent). e.block + e.count ≤ 2 ^ 62 + longest_file) j es (λ k d lt. (laid_at size low high es h k d lt).far)))

@@ -2,6 +2,7 @@
 use Rattle.std.specs.Prelude.{ℕ, ◌+◌, ◌-◌, ◌/◌, ◌%◌, ◌^◌, ◌<◌, ◌≤◌, min, max, List, [], ◌∷◌, ◌++◌, ◌==◌, if◌then◌else◌}
 use Rattle.std.specs.Prelude.{nat_lt, nat_le}
 use Rattle.std.specs.List.{flat_map, filter}
+use Rattle.tape_types.specs.Bounds.{longest_file}
 use Rattle.tape_types.specs.declared.cartridges.Extent.{Extent}
 
 -- a file: the bytes of a block of its volume, the file's length, and its extents by their offsets
@@ -20,13 +21,13 @@ pub record Room : Type 0 where
 abbrev pub AreLaid : ℕ → ℕ → ℕ → List Extent → Type 0
 AreLaid block_size from end [] = from ≤ end
 AreLaid block_size from end (e ∷ es) =
-    (from ≤ e.offset) × (1 ≤ e.count) × (e.byte < block_size) × (e.block + e.count ≤ 2 ^ 62 + 2 ^ 40)
+    (from ≤ e.offset) × (1 ≤ e.count) × (e.byte < block_size) × (e.block + e.count ≤ 2 ^ 62 + longest_file)
     × AreLaid block_size (e.offset + e.count) end es
 
 -- blocks have bytes, the length is one that a file can have, and the extents lie within it
 pub record IsLaid (f : Laid) : Type 0 where
   pub some_block : 1 ≤ f.block_size
-  pub can_be : f.length ≤ 2 ^ 40
+  pub can_be : f.length ≤ longest_file
   pub are_laid : AreLaid f.block_size 0 f.length f.extents
 
 -- the extent alone, or none where it has no bytes

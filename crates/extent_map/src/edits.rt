@@ -3,6 +3,7 @@ ghost use Rattle.std.specs.Prelude.{replicate, ◌∷◌, ◌++◌, length, IsSo
 ghost use Rattle.std.specs.List.{flat_map, All};
 ghost use Rattle.std.specs.List.Sorted.{IsPartitionedBy, IsPartitionPoint};
 ghost use Rattle.std.specs.Option.{option_to_list};
+ghost use Rattle.tape_types.specs.Bounds.{longest_file};
 ghost use Rattle.tape_types.specs.declared.cartridges.Extent.{Extent};
 ghost use Rattle.extent_map.specs.Laid.{AreLaid, rest_of as rest_after, before, cut, left_from};
 
@@ -10,9 +11,9 @@ use tape_types::Extent;
 
 /// Puts an extent in place of what others have in its range. Takes no memory.
 pub fn put(extents: &mut Vec<Extent>, new: Extent, block_size: u32)
-    requires laid { AreLaid block_size 0 (2 ^ 40) extents.old.items }
+    requires laid { AreLaid block_size 0 longest_file extents.old.items }
     requires some { 1 ≤ new.count }
-    requires fits { new.offset + new.count ≤ 2 ^ 40 }
+    requires fits { new.offset + new.count ≤ longest_file }
     requires room { vec_len extents.old + 2 ≤ vec_capacity extents.old }
     ensures { extents.new.items ≡ cut new.offset extents.old.items
         ++ new ∷ left_from block_size (new.offset + new.count) extents.old.items }
@@ -27,7 +28,7 @@ pub fn put(extents: &mut Vec<Extent>, new: Extent, block_size: u32)
 
 /// Cuts extents at an offset. Takes no memory.
 pub fn cut_off(extents: &mut Vec<Extent>, at: u64)
-    requires { (block_size : ℕ) × AreLaid block_size 0 (2 ^ 40) extents.old.items }
+    requires { (block_size : ℕ) × AreLaid block_size 0 longest_file extents.old.items }
     ensures { extents.new.items ≡ cut at extents.old.items }
 {
     let kept = ended_by(extents, at);
@@ -68,7 +69,7 @@ pub fn part(extents: &[Extent], first: usize, last: usize) -> &[Extent]
 pub fn rest_of(extent: Extent, count: u64, block_size: u32) -> Extent
     requires size { 1 ≤ block_size }
     requires within { count ≤ extent.count }
-    requires far { extent.block + extent.count ≤ 2 ^ 62 + 2 ^ 40 }
+    requires far { extent.block + extent.count ≤ 2 ^ 62 + longest_file }
     requires offset { extent.offset + count < 2 ^ 64 }
     ensures { result ≡ rest_after block_size count extent }
 {
@@ -100,7 +101,7 @@ fn front_before(extents: &[Extent], place: usize, at: u64) -> Option<Extent>
 
 /// Cuts off what the extent at a place has before an offset. It is the first that ends past the offset.
 fn begin_at(extents: &mut Vec<Extent>, place: usize, at: u64, block_size: u32)
-    requires laid { AreLaid block_size 0 (2 ^ 40) extents.old.items }
+    requires laid { AreLaid block_size 0 longest_file extents.old.items }
     requires place { IsPartitionPoint (λ (e : Extent). nat_le e.count (at - e.offset) ≡ true)
         (λ (e : Extent). nat_le e.count (at - e.offset) ≡ false) extents.old.items place }
     requires within { place ≤ vec_len extents.old }

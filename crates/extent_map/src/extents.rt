@@ -1,5 +1,6 @@
 ghost use Rattle.std.specs.Prelude.{◌≡◌, ℕ, ◌+◌, ◌^◌, ◌<◌, ◌≤◌, [], OnOk, IfOk};
 ghost use Rattle.std.specs.List.{All, flat_map};
+ghost use Rattle.tape_types.specs.Bounds.{longest_file};
 ghost use Rattle.plain_tree.specs.Cells as plain;
 ghost use Rattle.extent_map.specs.Laid.{IsLaid, overlaid, resized};
 ghost use Rattle.extent_map.specs.Cells.{Tape, cells_of, file_cells};
@@ -68,7 +69,7 @@ impl Extents {
     pub fn overlay(&mut self, new: Extent)
         requires room { 2 ≤ self.old.spare }
         requires some { 1 ≤ new.count }
-        requires fits { new.offset + new.count ≤ 2 ^ 40 }
+        requires fits { new.offset + new.count ≤ longest_file }
         requires byte { new.byte < self.old.laid.block_size }
         requires block { new.block ≤ 2 ^ 62 }
         ensures extents { self.new.laid ≡ overlaid self.old.laid new }
@@ -83,7 +84,7 @@ impl Extents {
 
     /// Cuts the file, or makes it longer by bytes that are 0. Takes no memory.
     pub fn set_length(&mut self, length: u64)
-        requires { length ≤ 2 ^ 40 }
+        requires { length ≤ longest_file }
         ensures extents { self.new.laid ≡ resized self.old.laid length }
         ensures laid { IsLaid self.new.laid }
         ensures bytes { (tape : Tape)

@@ -1,6 +1,7 @@
 ghost use Rattle.std.specs.Prelude.{◌≡◌, ℕ, ◌+◌, ◌-◌, ◌*◌, ◌^◌, ◌<◌, ◌≤◌, List, ◌++◌, OnOk, IfOk, IfSome};
 ghost use Rattle.std.specs.List.{flat_map, All};
 ghost use Rattle.std.specs.Option.{option_to_list};
+ghost use Rattle.tape_types.specs.Bounds.{longest_file};
 ghost use Rattle.tape_types.specs.declared.cartridges.Extent.{Extent};
 ghost use Rattle.extent_map.specs.Laid.{before, past, cut, left_from};
 ghost use Rattle.extent_map.specs.Pieces.{zeros, piece_in as piece_of, pieces_of, with_gaps};
@@ -27,8 +28,8 @@ pub fn push_range(
     block_size: u32,
 ) -> Result<(), AllocError>
     requires byte { All (λ (e : Extent). e.byte < block_size) extents.now }
-    requires far { All (λ (e : Extent). e.block + e.count ≤ 2 ^ 62 + 2 ^ 40) extents.now }
-    requires range { end ≤ 2 ^ 40 }
+    requires far { All (λ (e : Extent). e.block + e.count ≤ 2 ^ 62 + longest_file) extents.now }
+    requires range { end ≤ longest_file }
     ensures { OnOk result (pieces.new.items ≡ pieces.old.items
         ++ with_gaps block_size from end (left_from block_size from (cut end extents.now))) }
 {
@@ -50,8 +51,8 @@ fn push_next(
     block_size: u32,
 ) -> Result<u64, AllocError>
     requires byte { extent.byte < block_size }
-    requires far { extent.block + extent.count ≤ 2 ^ 62 + 2 ^ 40 }
-    requires range { end ≤ 2 ^ 40 }
+    requires far { extent.block + extent.count ≤ 2 ^ 62 + longest_file }
+    requires range { end ≤ longest_file }
     ensures { IfOk result (λ next. (more : List Extent) → pieces.old.items
         ++ with_gaps block_size at end (flat_map (past block_size from) (before end extent) ++ more)
         ≡ pieces.new.items ++ with_gaps block_size next end more) }
@@ -69,7 +70,7 @@ fn push_next(
 /// What of an extent lies in a range.
 fn clip(extent: Extent, from: u64, end: u64, block_size: u32) -> Option<Extent>
     requires byte { extent.byte < block_size }
-    requires far { extent.block + extent.count ≤ 2 ^ 62 + 2 ^ 40 }
+    requires far { extent.block + extent.count ≤ 2 ^ 62 + longest_file }
     ensures run { option_to_list result ≡ flat_map (past block_size from) (before end extent) }
     ensures byte { IfSome result (λ run. run.byte < block_size) }
     ensures far { IfSome result (λ run. run.block + run.count ≤ extent.block + extent.count) }
@@ -96,7 +97,7 @@ fn push_zeros(pieces: &mut Vec<Piece>, from: u64, to: u64) -> Result<(), AllocEr
 /// Appends a run of bytes, cut at the ends of blocks.
 fn push_run(pieces: &mut Vec<Piece>, run: Extent, block_size: u32) -> Result<(), AllocError>
     requires byte { run.byte < block_size }
-    requires far { run.block + run.count ≤ 2 ^ 62 + 2 ^ 40 }
+    requires far { run.block + run.count ≤ 2 ^ 62 + longest_file }
     ensures { OnOk result (pieces.new.items ≡ pieces.old.items ++ pieces_of block_size run) }
 {
     let bytes = u64::from(run.byte) + run.count;
@@ -109,7 +110,7 @@ fn push_run(pieces: &mut Vec<Piece>, run: Extent, block_size: u32) -> Result<(),
 /// What of a run lies in its k-th block.
 fn piece_in(run: Extent, k: u64, block_size: u32) -> Piece
     requires byte { run.byte < block_size }
-    requires far { run.block + run.count ≤ 2 ^ 62 + 2 ^ 40 }
+    requires far { run.block + run.count ≤ 2 ^ 62 + longest_file }
     requires there { k * block_size < run.byte + run.count }
     ensures { result ≡ piece_of block_size run k }
 {

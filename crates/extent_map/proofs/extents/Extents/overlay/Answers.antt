@@ -1,4 +1,5 @@
-use Rattle.std.proofs.Common.{◌≡◌, ◌<◌, ◌^◌, sym, ap, ◌∙◌, subst, arith}
+use Rattle.std.proofs.Common.{◌≡◌, ◌<◌, sym, ap, ◌∙◌, subst, arith}
+use Rattle.tape_types.specs.Bounds.{longest_file}
 use Rattle.plain_tree.specs.Cells as plain
 use Rattle.extent_map.specs.Laid.{Room, IsLaid}
 use Rattle.extent_map.specs.Cells.{cells_of, file_cells}
@@ -9,7 +10,7 @@ use Rattle.extent_map.proofs.extents.Extents.overlay.Goals as goal
 pub put-requires-clause-laid : goal.put-requires-clause-laid
 put-requires-clause-laid c =
     let f = c.self.inside in
-    laid_raise f.block_size 0 f.length (2 ^ 40) f.extents.items c.self.invariant.can_be c.self.invariant.are_laid
+    laid_raise f.block_size 0 f.length longest_file f.extents.items c.self.invariant.can_be c.self.invariant.are_laid
 
 pub invariant_of-self : goal.invariant_of-self
 invariant_of-self c =

@@ -1,4 +1,5 @@
-use Rattle.std.proofs.Common.{◌^◌, sym, ap, ◌∙◌, subst}
+use Rattle.std.proofs.Common.{sym, ap, ◌∙◌, subst}
+use Rattle.tape_types.specs.Bounds.{longest_file}
 use Rattle.plain_tree.specs.Cells as plain
 use Rattle.extent_map.specs.Laid.{Room, IsLaid}
 use Rattle.extent_map.specs.Cells.{file_cells}
@@ -9,7 +10,7 @@ use Rattle.extent_map.proofs.extents.Extents.set_length.Goals as goal
 pub cut_off-requires : goal.cut_off-requires
 cut_off-requires c =
     let f = c.self.inside in
-    (f.block_size, laid_raise f.block_size 0 f.length (2 ^ 40) f.extents.items c.self.invariant.can_be c.self.invariant.are_laid)
+    (f.block_size, laid_raise f.block_size 0 f.length longest_file f.extents.items c.self.invariant.can_be c.self.invariant.are_laid)
 
 pub invariant_of-self : goal.invariant_of-self
 invariant_of-self c =
