@@ -1,5 +1,6 @@
 -- What a search through the nodes tells: the UID of the first node that is wrong.
-use Rattle.std.specs.Prelude.{◌≡◌, ◌⊎◌, ℕ, ◌<◌, ◌^◌, Bool, true, false, List, Option, Some, None}
+use Rattle.std.specs.Prelude.{◌≡◌, ◌⊎◌, ℕ, ◌<◌, Bool, true, false, List, Option, Some, None}
+use Rattle.tape_types.specs.Bounds.{longest_file}
 use Rattle.node_keys.specs.declared.xattrs.Xattr.{Xattr}
 use Rattle.index_model.specs.declared.faults.Fault.{Fault}
 use Rattle.index_model.specs.declared.faults.Fault.TheVariants as faults
@@ -43,7 +44,7 @@ TellsTwice xattrs false = (at : ℕ) → ¬ IsAgain xattrs at
 
 -- a file of so many bytes with these extents is too long, or some extent ends too far
 abbrev pub IsOut : ℕ → List RawExtent → Type 0
-IsOut bytes extents = (2 ^ 40 < bytes) ⊎ EndsTooFar extents
+IsOut bytes extents = (longest_file < bytes) ⊎ EndsTooFar extents
 
 -- what is told of a file with this UID, and none where nothing is wrong with it
 abbrev pub TellsFile : ℕ → ℕ → List RawExtent → Option Fault → Type 0

@@ -7,10 +7,7 @@ ghost use Rattle.index_faults.specs.Firsts.{TellsBad, TellsFile, TellsNode};
 
 use index_model::{Fault, Kind, Node, RawExtent};
 use std::alloc::Global;
-use tape_types::NoMemory;
-
-/// The length of a file, in bytes, is at most this.
-const LONGEST: u64 = 1 << 40;
+use tape_types::{LONGEST_FILE, NoMemory};
 
 /// An extent ends at or before this offset.
 const FARTHEST: u64 = 1 << 62;
@@ -48,7 +45,7 @@ fn file_fault(
 ) -> Result<Option<Fault>, NoMemory>
     ensures { IfOk result (TellsFile uid length extents.now) }
 {
-    if length > LONGEST || !end_in_time(extents) {
+    if length > LONGEST_FILE || !end_in_time(extents) {
         return Ok(Some(Fault::Extent(uid)));
     }
     if overlap(alloc, extents)? {
