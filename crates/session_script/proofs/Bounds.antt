@@ -7,6 +7,7 @@ use Rattle.std.proofs.lemmas.Bool.{cases_eq, eq-eqb, leb-false, ltb-false}
 use Rattle.std.proofs.lemmas.List.Sums.{sum_by-append}
 use Rattle.std.proofs.lemmas.Bool.Decides.{nat_tests}
 use Rattle.plain_tree.specs.declared.calls.Call.{Call}
+use Rattle.session_script.specs.Bounds.{most_asked, most_calls, most_in_all, most_sessions, most_written}
 use Rattle.session_script.specs.declared.scripts.ScriptLine.{ScriptLine}
 use Rattle.session_script.specs.declared.scripts.ScriptWhy.{ScriptWhy}
 use Rattle.session_script.specs.declared.scripts.ScriptWhy.TheVariants as reasons
@@ -21,11 +22,11 @@ one_if b = cond b 1 0
 
 -- what passes no limit
 pub record IsWithin (before : List ScriptLine) (line : ScriptLine) : Type 0 where
-  pub calls : length (calls_of before line.who) < 1024
-  pub small_write : bytes_written line.call ≤ 65536
-  pub small_read : bytes_asked line.call ≤ 1048576
-  pub written : sum_by (λ l. bytes_written l.call) before + bytes_written line.call ≤ 67108864
-  pub asked : sum_by (λ l. bytes_asked l.call) before + bytes_asked line.call ≤ 67108864
+  pub calls : length (calls_of before line.who) < most_calls
+  pub small_write : bytes_written line.call ≤ most_written
+  pub small_read : bytes_asked line.call ≤ most_asked
+  pub written : sum_by (λ l. bytes_written l.call) before + bytes_written line.call ≤ most_in_all
+  pub asked : sum_by (λ l. bytes_asked l.call) before + bytes_asked line.call ≤ most_in_all
 
 not_some : {A : Type 0} (b : Bool) (x : A) (o : Option A) → cond b (Some x) o ≡ None → (b ≡ false) × (o ≡ None)
 not_some true x o e = cc
@@ -57,13 +58,13 @@ written-more before line = sum_by-more (λ (l : ScriptLine). bytes_written l.cal
 pub asked-more : (before : List ScriptLine) (line : ScriptLine) → sum_by (λ l. bytes_asked l.call) (before ++ line ∷ []) ≡ sum_by (λ l. bytes_asked l.call) before + bytes_asked line.call
 asked-more before line = sum_by-more (λ (l : ScriptLine). bytes_asked l.call) before line
 
-pub IsBounded-more : (before : List ScriptLine) (line : ScriptLine) → IsBounded before → 1 ≤ line.who → line.who ≤ 16 → limit_passed before line ≡ None → IsBounded (before ++ line ∷ [])
+pub IsBounded-more : (before : List ScriptLine) (line : ScriptLine) → IsBounded before → 1 ≤ line.who → line.who ≤ most_sessions → limit_passed before line ≡ None → IsBounded (before ++ line ∷ [])
 IsBounded-more before line was low high passed =
     let within = IsWithin-passed before line passed in record {
       has_sessions = HasSessions-more before line was.has_sessions low high;
       calls = λ who. ⊎_elim
           (λ (same : line.who ≡ who).
-          let e : length (calls_of before who) < 1024 = subst (λ w. length (calls_of before w) < 1024) same within.calls in
+          let e : length (calls_of before who) < most_calls = subst (λ w. length (calls_of before w) < most_calls) same within.calls in
           omega (arith, length-calls_more before line who, ap one_if (eq-eqb line.who who same)))
           (λ (other : line.who ≢ who). omega (arith, was.calls who, length-calls_more before line who, ap one_if (ne_eqb line.who who other)))
           (cases_eq line.who who);
@@ -76,7 +77,8 @@ abbrev calls_to : List ScriptLine → ℕ → ℕ
 calls_to s zero = 0
 calls_to s (suc n) = calls_to s n + length (calls_of s (suc n))
 
-calls_to-le : (s : List ScriptLine) (n : ℕ) → ((who : ℕ) → length (calls_of s who) ≤ 1024) → calls_to s n ≤ n * 1024
+calls_to-le : (s : List ScriptLine) (n : ℕ) → ((who : ℕ) → length (calls_of s who) ≤ most_calls)
+    → calls_to s n ≤ n * most_calls
 calls_to-le s zero few = omega arith
 calls_to-le s (suc n) few = omega (arith, calls_to-le s n few, few (suc n))
 
@@ -98,25 +100,26 @@ calls_from_one x s (suc n) low high = ⊎_elim
     (λ (other : x.who ≢ suc n). omega (arith, calls_from_one x s n low (omega arith), one_more x s (suc n), ap one_if (ne_eqb x.who (suc n) other)))
     (cases_eq x.who (suc n))
 
-all_counted : (s : List ScriptLine) → HasSessions s → length s ≤ calls_to s 16
+all_counted : (s : List ScriptLine) → HasSessions s → length s ≤ calls_to s most_sessions
 all_counted [] has = omega arith
 all_counted (x ∷ s) has =
-    let first : (1 ≤ x.who) × (x.who ≤ 16) = has 0 x (omega arith) in
-    let rest : length s ≤ calls_to s 16 = all_counted s (λ k d lt. has (suc k) d (omega arith)) in
-    omega (arith, calls_from_one x s 16 first.0 first.1)
+    let first : (1 ≤ x.who) × (x.who ≤ most_sessions) = has 0 x (omega arith) in
+    let rest : length s ≤ calls_to s most_sessions = all_counted s (λ k d lt. has (suc k) d (omega arith)) in
+    omega (arith, calls_from_one x s most_sessions first.0 first.1)
 
 -- 16 sessions with at most 1,024 calls each
-pub few_calls : (s : List ScriptLine) → IsBounded s → length s ≤ 16384
-few_calls s within = omega (arith, all_counted s within.has_sessions, calls_to-le s 16 within.calls)
+pub few_calls : (s : List ScriptLine) → IsBounded s → length s ≤ most_sessions * most_calls
+few_calls s within = omega (arith, all_counted s within.has_sessions, calls_to-le s most_sessions within.calls)
 
 -- what a line spells is a line of one of 16 sessions within the limits
-session_low : (word : List ℕ) (who : ℕ) → session_of word ≡ Some who → (1 ≤ who) × (who ≤ 16)
+session_low : (word : List ℕ) (who : ℕ) → session_of word ≡ Some who → (1 ≤ who) × (who ≤ most_sessions)
 session_low word who e = at (number_of word) e
   where
-    inner : (n : ℕ) (b : Bool) → cond (nat_le 1 n && nat_le n 16 && b) (Some n) None ≡ Some who → (1 ≤ who) × (who ≤ 16)
+    inner : (n : ℕ) (b : Bool) → cond (nat_le 1 n && nat_le n most_sessions && b) (Some n) None ≡ Some who
+        → (1 ≤ who) × (who ≤ most_sessions)
     inner n b h = grind (arith, nat_tests)
 
-    at : (o : Option ℕ) → option_and_then (λ n. cond (nat_le 1 n && nat_le n 16 && not (starts_with nat_eq word (codes "0"))) (Some n) None) o ≡ Some who → (1 ≤ who) × (who ≤ 16)
+    at : (o : Option ℕ) → option_and_then (λ n. cond (nat_le 1 n && nat_le n most_sessions && not (starts_with nat_eq word (codes "0"))) (Some n) None) o ≡ Some who → (1 ≤ who) × (who ≤ most_sessions)
     at None h = cc
     at (Some n) h = inner n _ h
 
@@ -124,11 +127,11 @@ with_session-who : (who : ℕ) (r : Result Call ScriptWhy) (line : ScriptLine) �
 with_session-who who (Ok call) line e = let same : record { who = who; call = call } ≡ line = cc in ap (λ (l : ScriptLine). l.who) (sym same)
 with_session-who who (Err why) line e = cc
 
-spelled_session : (words : List (List ℕ)) (line : ScriptLine) → spelled_by words ≡ Ok line → (1 ≤ line.who) × (line.who ≤ 16)
+spelled_session : (words : List (List ℕ)) (line : ScriptLine) → spelled_by words ≡ Ok line → (1 ≤ line.who) × (line.who ≤ most_sessions)
 spelled_session [] line e = cc
 spelled_session (word ∷ words) line e = at (session_of word) refl e
   where
-    at : (o : Option ℕ) → session_of word ≡ o → read_as o reasons.Who (λ who. with_session who (call_of words)) ≡ Ok line → (1 ≤ line.who) × (line.who ≤ 16)
+    at : (o : Option ℕ) → session_of word ≡ o → read_as o reasons.Who (λ who. with_session who (call_of words)) ≡ Ok line → (1 ≤ line.who) × (line.who ≤ most_sessions)
     at None is h = cc
     at (Some who) is h =
         let same = with_session-who who (call_of words) line h in
@@ -151,5 +154,5 @@ line_spelled before line spelled e = top (is_utf8 line) (is_skipped line) (spell
     top true true r h = cc
     top true false r h = within r h
 
-pub line_session : (before : List ScriptLine) (line : List ℕ) (spelled : ScriptLine) → line_of before line ≡ Ok (Some spelled) → (1 ≤ spelled.who) × (spelled.who ≤ 16)
+pub line_session : (before : List ScriptLine) (line : List ℕ) (spelled : ScriptLine) → line_of before line ≡ Ok (Some spelled) → (1 ≤ spelled.who) × (spelled.who ≤ most_sessions)
 line_session before line spelled e = spelled_session (words_of line) spelled (line_spelled before line spelled e).0

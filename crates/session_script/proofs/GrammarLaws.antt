@@ -9,6 +9,7 @@ use Rattle.std.proofs.lemmas.List.{map-append}
 use Rattle.std.proofs.lemmas.List.Elements.{filter-append}
 use Rattle.std.proofs.lemmas.List.Splits.{length-slice_split}
 use Rattle.std.proofs.lemmas.List.Sums.{sum_by-append}
+use Rattle.session_script.specs.Bounds.{longest_script, most_asked, most_calls, most_in_all, most_written}
 use Rattle.session_script.specs.declared.scripts.ScriptErr.{ScriptErr}
 use Rattle.session_script.specs.declared.scripts.ScriptLine.{ScriptLine}
 use Rattle.session_script.specs.declared.scripts.ScriptWhy.{ScriptWhy}
@@ -41,25 +42,26 @@ IsWithinLimits-more before line was passed =
     let within = IsWithin-passed before line passed in record {
       calls = λ who. ⊎_elim
           (λ (same : line.who ≡ who).
-          let e : length (calls_of before who) < 1024 = subst (λ w. length (calls_of before w) < 1024) same within.calls in
+          let e : length (calls_of before who) < most_calls = subst (λ w. length (calls_of before w) < most_calls) same within.calls in
           omega (arith, length-calls_more before line who, ap one_if (eq-eqb line.who who same)))
           (λ (other : line.who ≢ who). omega (arith, was.calls who, length-calls_more before line who, ap one_if (ne_eqb line.who who other)))
           (cases_eq line.who who);
-      written = all_push (λ l. bytes_written l.call ≤ 65536) before line was.written within.small_write;
-      asked = all_push (λ l. bytes_asked l.call ≤ 1048576) before line was.asked within.small_read;
+      written = all_push (λ l. bytes_written l.call ≤ most_written) before line was.written within.small_write;
+      asked = all_push (λ l. bytes_asked l.call ≤ most_asked) before line was.asked within.small_read;
       written_in_all = rw written-more within.written;
       asked_in_all = rw asked-more within.asked;
     }
 
 -- the limits that are left to test
 abbrev last_left : List ScriptLine → ScriptLine → Option ScriptWhy
-last_left s l = cond (nat_lt 67108864 (sum_by (λ x. bytes_asked x.call) s + bytes_asked l.call)) (Some reasons.Sum) None
+last_left s l = cond (nat_lt most_in_all (sum_by (λ x. bytes_asked x.call) s + bytes_asked l.call))
+    (Some reasons.Sum) None
 
 abbrev sums_left : List ScriptLine → ScriptLine → Option ScriptWhy
-sums_left s l = cond (nat_lt 67108864 (sum_by (λ x. bytes_written x.call) s + bytes_written l.call)) (Some reasons.Sum) (last_left s l)
+sums_left s l = cond (nat_lt most_in_all (sum_by (λ x. bytes_written x.call) s + bytes_written l.call)) (Some reasons.Sum) (last_left s l)
 
 abbrev limits_left : List ScriptLine → ScriptLine → Option ScriptWhy
-limits_left s l = cond (nat_lt 65536 (bytes_written l.call) || nat_lt 1048576 (bytes_asked l.call)) (Some reasons.Big) (sums_left s l)
+limits_left s l = cond (nat_lt most_written (bytes_written l.call) || nat_lt most_asked (bytes_asked l.call)) (Some reasons.Big) (sums_left s l)
 
 -- a line of a script within the limits passes none behind those before it
 limit_kept : (before more : List ScriptLine) (line : ScriptLine) → IsWithinLimits ((before ++ line ∷ []) ++ more) → limit_passed before line ≡ None
@@ -69,29 +71,30 @@ limit_kept before more line h =
     ∙ ap (λ b. cond b (Some reasons.Sum) (last_left before line)) written
     ∙ ap (λ b. cond b (Some reasons.Sum) None) asked
   where
-    calls : nat_le 1024 (length (calls_of before line.who)) ≡ false
+    calls : nat_le most_calls (length (calls_of before line.who)) ≡ false
     calls =
-        let few : length (calls_of ((before ++ line ∷ []) ++ more) line.who) ≤ 1024 = h.calls line.who in
+        let few : length (calls_of ((before ++ line ∷ []) ++ more) line.who) ≤ most_calls = h.calls line.who in
         let sum : length (calls_of ((before ++ line ∷ []) ++ more) line.who) ≡ length (calls_of (before ++ line ∷ []) line.who) + length (calls_of more line.who) = ap length (calls_of-append (before ++ line ∷ []) more line.who) ∙ length-append _ _ in
-        let here : length (calls_of before line.who) < 1024 = omega (arith, length-calls_more before line line.who, ap one_if (eq-eqb line.who line.who refl)) in
+        let here : length (calls_of before line.who) < most_calls = omega (arith, length-calls_more before line line.who, ap one_if (eq-eqb line.who line.who refl)) in
         grind (arith, nat_tests, here)
 
-    big : (nat_lt 65536 (bytes_written line.call) || nat_lt 1048576 (bytes_asked line.call)) ≡ false
+    big : (nat_lt most_written (bytes_written line.call) || nat_lt most_asked (bytes_asked line.call)) ≡ false
     big =
-        let small_write = all_last (λ (l : ScriptLine). bytes_written l.call ≤ 65536) before more line h.written in
-        let small_read = all_last (λ (l : ScriptLine). bytes_asked l.call ≤ 1048576) before more line h.asked in
+        let small_write = all_last (λ (l : ScriptLine). bytes_written l.call ≤ most_written)
+            before more line h.written in
+        let small_read = all_last (λ (l : ScriptLine). bytes_asked l.call ≤ most_asked) before more line h.asked in
         grind (arith, nat_tests, small_write, small_read)
 
-    written : nat_lt 67108864 (sum_by (λ x. bytes_written x.call) before + bytes_written line.call) ≡ false
+    written : nat_lt most_in_all (sum_by (λ x. bytes_written x.call) before + bytes_written line.call) ≡ false
     written =
         let all = sum_by-append (λ (l : ScriptLine). bytes_written l.call) (before ++ line ∷ []) more in
-        let here : sum_by (λ x. bytes_written x.call) before + bytes_written line.call ≤ 67108864 = omega (arith, all, written-more before line, h.written_in_all) in
+        let here : sum_by (λ x. bytes_written x.call) before + bytes_written line.call ≤ most_in_all = omega (arith, all, written-more before line, h.written_in_all) in
         grind (arith, nat_tests, here)
 
-    asked : nat_lt 67108864 (sum_by (λ x. bytes_asked x.call) before + bytes_asked line.call) ≡ false
+    asked : nat_lt most_in_all (sum_by (λ x. bytes_asked x.call) before + bytes_asked line.call) ≡ false
     asked =
         let all = sum_by-append (λ (l : ScriptLine). bytes_asked l.call) (before ++ line ∷ []) more in
-        let here : sum_by (λ x. bytes_asked x.call) before + bytes_asked line.call ≤ 67108864 = omega (arith, all, asked-more before line, h.asked_in_all) in
+        let here : sum_by (λ x. bytes_asked x.call) before + bytes_asked line.call ≤ most_in_all = omega (arith, all, asked-more before line, h.asked_in_all) in
         grind (arith, nat_tests, here)
 
 -- what lines add to a script
@@ -155,7 +158,7 @@ short_text false e r script h = (refl, h)
 
 pub script_found : (text : List ℕ) (script : List ScriptLine) → script_of text ≡ Ok script → IsScriptText text script
 script_found text script e =
-    let short = short_text (nat_lt 16777216 (length text)) _ (script_from 1 [] (lines_of text)) script e in
+    let short = short_text (nat_lt longest_script (length text)) _ (script_from 1 [] (lines_of text)) script e in
     let adds = from_found 1 [] (lines_of text) script short.1 IsWithinLimits-nil in record {
       lines = lines_of text;
       some = omega (arith, length-slice_split (λ b. eqb b 10) text);
@@ -167,7 +170,7 @@ script_found text script e =
 
 pub script_only : (text : List ℕ) (script : List ScriptLine) → IsScriptText text script → script_of text ≡ Ok script
 script_only text script h =
-    let short : nat_lt 16777216 (length text) ≡ false = grind (arith, nat_tests, h.short) in
+    let short : nat_lt longest_script (length text) ≡ false = grind (arith, nat_tests, h.short) in
     ap (λ b. cond b (Err (record { line = 0; why = reasons.Long })) (script_from 1 [] (lines_of text))) short
     ∙ ap (script_from 1 []) (ap lines_of h.joined.joined ∙ split_joined 10 h.lines h.some h.joined.free)
     ∙ from_only 1 [] h.lines script h.spelled h.limited

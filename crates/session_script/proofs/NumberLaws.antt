@@ -6,6 +6,7 @@ use Rattle.std.specs.Char.{is_digit}
 use Rattle.std.proofs.lemmas.Bool.{and_parts, leb-true, ltb-true}
 use Rattle.std.proofs.lemmas.Bool.Decides.{nat_tests}
 use Rattle.std.proofs.Math.Nat.{add-mul, mul_assoc, mul_comm, pow-suc}
+use Rattle.session_script.specs.Bounds.{most_sessions}
 use Rattle.session_script.specs.Words.{decimal_value, number_of, session_of}
 use Rattle.session_script.specs.ScriptText.{IsDecimalDigit, place_value, SpellsNumber, SpellsSession}
 
@@ -70,7 +71,7 @@ no_zero_front [] h = refl
 no_zero_front (d ∷ word) h = grind (arith, nat_tests)
 
 abbrev in_range : List ℕ → ℕ → Bool
-in_range word who = nat_le 1 who && nat_le who 16 && not (starts_with nat_eq word (codes "0"))
+in_range word who = nat_le 1 who && nat_le who most_sessions && not (starts_with nat_eq word (codes "0"))
 
 pub session_found : (word : List ℕ) (who : ℕ) → session_of word ≡ Some who → SpellsSession word who
 session_found word who e = at (number_of word) refl e
@@ -79,21 +80,22 @@ session_found word who e = at (number_of word) refl e
     at None is h = cc
     at (Some n) is h =
         let parts = some_if (in_range word n) n who h in
-        let first = and_parts (nat_le 1 n && nat_le n 16) (not (starts_with nat_eq word (codes "0"))) parts.0 in
-        let second = and_parts (nat_le 1 n) (nat_le n 16) first.0 in
+        let first = and_parts (nat_le 1 n && nat_le n most_sessions) (not (starts_with nat_eq word (codes "0")))
+            parts.0 in
+        let second = and_parts (nat_le 1 n) (nat_le n most_sessions) first.0 in
         let low : 1 ≤ n = leb-true _ _ second.0 in
-        let high : n ≤ 16 = leb-true _ _ second.1 in record {
+        let high : n ≤ most_sessions = leb-true _ _ second.1 in record {
           number = subst (SpellsNumber word) parts.1 (number_found word n is);
           low = subst (λ m. 1 ≤ m) parts.1 low;
-          high = subst (λ m. m ≤ 16) parts.1 high;
+          high = subst (λ m. m ≤ most_sessions) parts.1 high;
           no_zero = zero_front word first.1;
         }
 
 pub session_only : (word : List ℕ) (who : ℕ) → SpellsSession word who → session_of word ≡ Some who
 session_only word who h =
     let low : nat_le 1 who ≡ true = grind (arith, nat_tests, h.low) in
-    let high : nat_le who 16 ≡ true = grind (arith, nat_tests, h.high) in
+    let high : nat_le who most_sessions ≡ true = grind (arith, nat_tests, h.high) in
     ap (option_and_then (λ n. cond (in_range word n) (Some n) None)) (number_only word who h.number)
-    ∙ ap (λ b. cond (b && nat_le who 16 && not (starts_with nat_eq word (codes "0"))) (Some who) None) low
+    ∙ ap (λ b. cond (b && nat_le who most_sessions && not (starts_with nat_eq word (codes "0"))) (Some who) None) low
     ∙ ap (λ b. cond (b && not (starts_with nat_eq word (codes "0"))) (Some who) None) high
     ∙ ap (λ b. cond b (Some who) None) (no_zero_front word h.no_zero)

@@ -8,6 +8,7 @@ use Rattle.std.proofs.lemmas.List.Splits.{length-slice_split}
 use Rattle.std.proofs.lemmas.Str.{IsUtf8-from_is_utf8, is_utf8-from_IsUtf8}
 use Rattle.plain_tree.specs.declared.calls.Call.{Call}
 use Rattle.plain_tree.specs.declared.calls.Call.TheVariants.{Mkdir, Create, Truncate, Read, Listing, Stat, Rename, Remove, Sync}
+use Rattle.session_script.specs.Bounds.{longest_script, most_asked, most_calls, most_in_all, most_written}
 use Rattle.session_script.specs.declared.scripts.ScriptErr.{ScriptErr}
 use Rattle.session_script.specs.declared.scripts.ScriptLine.{ScriptLine}
 use Rattle.session_script.specs.declared.scripts.ScriptWhy.{ScriptWhy}
@@ -210,35 +211,38 @@ module _ (told : ScriptWhy) where
 
 -- a limit that is told is passed, and none that is tested before it
 pub limit_found : (before : List ScriptLine) (line : ScriptLine) (told : ScriptWhy) → limit_passed before line ≡ Some told → PassesLimit before line told
-limit_found before line told e = calls_at (nat_le 1024 (length (calls_of before line.who))) refl e
+limit_found before line told e = calls_at (nat_le most_calls (length (calls_of before line.who))) refl e
   where
-    asked_at : length (calls_of before line.who) < 1024 → bytes_written line.call ≤ 65536 → bytes_asked line.call ≤ 1048576 → (b : Bool)
-        → nat_lt 67108864 (sum_by (λ l. bytes_asked l.call) before + bytes_asked line.call) ≡ b → cond b (Some reasons.Sum) None ≡ Some told → PassesLimit before line told
+    asked_at : length (calls_of before line.who) < most_calls → bytes_written line.call ≤ most_written → bytes_asked line.call ≤ most_asked → (b : Bool)
+        → nat_lt most_in_all (sum_by (λ l. bytes_asked l.call) before + bytes_asked line.call) ≡ b → cond b (Some reasons.Sum) None ≡ Some told → PassesLimit before line told
     asked_at few write read true is h = let same : reasons.Sum ≡ told = cc in subst (PassesLimit before line) same (few, write, read, inr (ltb-true _ _ is))
     asked_at few write read false is h = cc
 
-    written_at : length (calls_of before line.who) < 1024 → bytes_written line.call ≤ 65536 → bytes_asked line.call ≤ 1048576 → (b : Bool)
-        → nat_lt 67108864 (sum_by (λ l. bytes_written l.call) before + bytes_written line.call) ≡ b
-        → cond b (Some reasons.Sum) (cond (nat_lt 67108864 (sum_by (λ l. bytes_asked l.call) before + bytes_asked line.call)) (Some reasons.Sum) None) ≡ Some told → PassesLimit before line told
+    written_at : length (calls_of before line.who) < most_calls → bytes_written line.call ≤ most_written → bytes_asked line.call ≤ most_asked → (b : Bool)
+        → nat_lt most_in_all (sum_by (λ l. bytes_written l.call) before + bytes_written line.call) ≡ b
+        → cond b (Some reasons.Sum) (cond (nat_lt most_in_all (sum_by (λ l. bytes_asked l.call) before + bytes_asked line.call)) (Some reasons.Sum) None) ≡ Some told → PassesLimit before line told
     written_at few write read true is h = let same : reasons.Sum ≡ told = cc in subst (PassesLimit before line) same (few, write, read, inl (ltb-true _ _ is))
-    written_at few write read false is h = asked_at few write read (nat_lt 67108864 (sum_by (λ l. bytes_asked l.call) before + bytes_asked line.call)) refl h
+    written_at few write read false is h = asked_at few write read (nat_lt most_in_all (sum_by (λ l. bytes_asked l.call) before + bytes_asked line.call)) refl h
 
-    big_at : length (calls_of before line.who) < 1024 → (b c : Bool) → nat_lt 65536 (bytes_written line.call) ≡ b → nat_lt 1048576 (bytes_asked line.call) ≡ c
+    big_at : length (calls_of before line.who) < most_calls → (b c : Bool) → nat_lt most_written (bytes_written line.call) ≡ b → nat_lt most_asked (bytes_asked line.call) ≡ c
         → cond (b || c) (Some reasons.Big)
-        (cond (nat_lt 67108864 (sum_by (λ l. bytes_written l.call) before + bytes_written line.call)) (Some reasons.Sum)
-        (cond (nat_lt 67108864 (sum_by (λ l. bytes_asked l.call) before + bytes_asked line.call)) (Some reasons.Sum) None)) ≡ Some told → PassesLimit before line told
+        (cond (nat_lt most_in_all (sum_by (λ l. bytes_written l.call) before + bytes_written line.call))
+            (Some reasons.Sum)
+        (cond (nat_lt most_in_all (sum_by (λ l. bytes_asked l.call) before + bytes_asked line.call)) (Some reasons.Sum) None)) ≡ Some told → PassesLimit before line told
     big_at few true c write read h = let same : reasons.Big ≡ told = cc in subst (PassesLimit before line) same (few, inl (ltb-true _ _ write))
     big_at few false true write read h = let same : reasons.Big ≡ told = cc in subst (PassesLimit before line) same (few, inr (ltb-true _ _ read))
     big_at few false false write read h =
-        written_at few (ltb-false _ _ write) (ltb-false _ _ read) (nat_lt 67108864 (sum_by (λ l. bytes_written l.call) before + bytes_written line.call)) refl h
+        written_at few (ltb-false _ _ write) (ltb-false _ _ read) (nat_lt most_in_all (sum_by (λ l. bytes_written l.call) before + bytes_written line.call)) refl h
 
-    calls_at : (b : Bool) → nat_le 1024 (length (calls_of before line.who)) ≡ b
+    calls_at : (b : Bool) → nat_le most_calls (length (calls_of before line.who)) ≡ b
         → cond b (Some reasons.Calls)
-        (cond (nat_lt 65536 (bytes_written line.call) || nat_lt 1048576 (bytes_asked line.call)) (Some reasons.Big)
-        (cond (nat_lt 67108864 (sum_by (λ l. bytes_written l.call) before + bytes_written line.call)) (Some reasons.Sum)
-        (cond (nat_lt 67108864 (sum_by (λ l. bytes_asked l.call) before + bytes_asked line.call)) (Some reasons.Sum) None))) ≡ Some told → PassesLimit before line told
+        (cond (nat_lt most_written (bytes_written line.call) || nat_lt most_asked (bytes_asked line.call))
+            (Some reasons.Big)
+        (cond (nat_lt most_in_all (sum_by (λ l. bytes_written l.call) before + bytes_written line.call))
+            (Some reasons.Sum)
+        (cond (nat_lt most_in_all (sum_by (λ l. bytes_asked l.call) before + bytes_asked line.call)) (Some reasons.Sum) None))) ≡ Some told → PassesLimit before line told
     calls_at true is h = let same : reasons.Calls ≡ told = cc in subst (PassesLimit before line) same (leb-true _ _ is)
-    calls_at false is h = big_at (leb-false _ _ is) (nat_lt 65536 (bytes_written line.call)) (nat_lt 1048576 (bytes_asked line.call)) refl refl h
+    calls_at false is h = big_at (leb-false _ _ is) (nat_lt most_written (bytes_written line.call)) (nat_lt most_asked (bytes_asked line.call)) refl refl h
 
 module _ (before : List ScriptLine) (line : List ℕ) where
   by_form : (told : ScriptWhy) → IsUtf8 line → (IsSkippedLine line → ⊥) → LacksCall line told → IsRefusedLine before line told
@@ -354,9 +358,9 @@ from_refused n before (line ∷ lines) e is within = at (line_of before line) re
         }
 
 pub first_refused : (text : List ℕ) (e : ScriptErr) → script_of text ≡ Err e → IsTooLong text e ⊎ IsRefusedText text e
-first_refused text e is = at (nat_lt 16777216 (length text)) refl is
+first_refused text e is = at (nat_lt longest_script (length text)) refl is
   where
-    at : (b : Bool) → nat_lt 16777216 (length text) ≡ b → cond b (Err (record { line = 0; why = reasons.Long })) (script_from 1 [] (lines_of text)) ≡ Err e → IsTooLong text e ⊎ IsRefusedText text e
+    at : (b : Bool) → nat_lt longest_script (length text) ≡ b → cond b (Err (record { line = 0; why = reasons.Long })) (script_from 1 [] (lines_of text)) ≡ Err e → IsTooLong text e ⊎ IsRefusedText text e
     at true long h = let same : e ≡ record { line = 0; why = reasons.Long } = cc in inl (same, ltb-true _ _ long)
     at false short h =
         let found = from_refused 1 [] (lines_of text) e h IsWithinLimits-nil in inr (record {

@@ -7,6 +7,7 @@ use Rattle.std.proofs.lemmas.Bool.Decides.{nat_tests}
 use Rattle.std.proofs.lemmas.Str.{IsUtf8-from_is_utf8, is_utf8-from_IsUtf8}
 use Rattle.plain_tree.specs.declared.calls.Call.{Call}
 use Rattle.plain_tree.specs.declared.calls.Call.TheVariants.{Mkdir, Create, Write, Truncate, Read, Listing, Stat, Rename, Remove, Sync}
+use Rattle.session_script.specs.Bounds.{longest_script}
 use Rattle.session_script.specs.declared.scripts.ScriptErr.{ScriptErr}
 use Rattle.session_script.specs.declared.scripts.ScriptLine.{ScriptLine}
 use Rattle.session_script.specs.declared.scripts.ScriptWhy.{ScriptWhy}
@@ -216,7 +217,7 @@ front_free P [] more h = tt
 front_free P (l ∷ front) more h = (h.0, front_free P front more h.1)
 
 -- the lines before the one that is refused are read
-front_read : (front : List (List ℕ)) (script : List ScriptLine) → AllByRecursion (Lacks 10) front → length (join_with_byte 10 front) ≤ 16777216 → SpellLines front script → IsWithinLimits script
+front_read : (front : List (List ℕ)) (script : List ScriptLine) → AllByRecursion (Lacks 10) front → length (join_with_byte 10 front) ≤ longest_script → SpellLines front script → IsWithinLimits script
     → script_from 1 [] front ≡ Ok script
 front_read [] [] free short spelled within = refl
 front_read [] (s ∷ script) free short spelled within = absurd spelled
@@ -229,15 +230,15 @@ front_read (l ∷ front) script free short spelled within =
       spelled = spelled;
       limited = within;
     }) in
-    let parts = short_text (nat_lt 16777216 (length (join_with_byte 10 (l ∷ front)))) _ (script_from 1 [] (lines_of (join_with_byte 10 (l ∷ front)))) script read in
+    let parts = short_text (nat_lt longest_script (length (join_with_byte 10 (l ∷ front)))) _ (script_from 1 [] (lines_of (join_with_byte 10 (l ∷ front)))) script read in
     ap (script_from 1 []) (sym (split_joined 10 (l ∷ front) (omega arith) free)) ∙ parts.1
 
 text_refused : (text : List ℕ) (e : ScriptErr) → IsRefusedText text e → script_of text ≡ Err e
 text_refused text e h =
-    let short : nat_lt 16777216 (length text) ≡ false = grind (arith, nat_tests, h.short) in
+    let short : nat_lt longest_script (length text) ≡ false = grind (arith, nat_tests, h.short) in
     let some : 0 < length (h.front ++ h.line ∷ h.rest) = omega (arith, length-append h.front (h.line ∷ h.rest)) in
     let size : length text ≡ length (join_with_byte 10 (h.front ++ h.line ∷ h.rest)) = ap length h.joined.joined in
-    let front_short : length (join_with_byte 10 h.front) ≤ 16777216 = omega (arith, join_shorter h.front h.line h.rest, size, h.short) in
+    let front_short : length (join_with_byte 10 h.front) ≤ longest_script = omega (arith, join_shorter h.front h.line h.rest, size, h.short) in
     ap (λ b. cond b (Err (record { line = 0; why = reasons.Long })) (script_from 1 [] (lines_of text))) short
     ∙ ap (script_from 1 []) (ap lines_of h.joined.joined ∙ split_joined 10 (h.front ++ h.line ∷ h.rest) some h.joined.free)
     ∙ more_lines 1 [] h.front (h.line ∷ h.rest)
@@ -248,7 +249,7 @@ text_refused text e h =
 
 long_refused : (text : List ℕ) (e : ScriptErr) → IsTooLong text e → script_of text ≡ Err e
 long_refused text e h =
-    let long : nat_lt 16777216 (length text) ≡ true = grind (arith, nat_tests, h.1) in
+    let long : nat_lt longest_script (length text) ≡ true = grind (arith, nat_tests, h.1) in
     ap (λ b. cond b (Err (record { line = 0; why = reasons.Long })) (script_from 1 [] (lines_of text))) long ∙ ap Err (sym h.0)
 
 pub refusal_only : (text : List ℕ) (e : ScriptErr) → IsRefusal text e → script_of text ≡ Err e

@@ -4,6 +4,7 @@ use Rattle.std.specs.Prelude.{slice_get, filter}
 use Rattle.std.specs.Option.{option_map}
 use Rattle.std.proofs.lemmas.List.{length_push, get_or_append_left, get_or_push, get_or-set_same, get_or-set_other, length-set, take-append-le, take_at, get_or-replicate, get_or_default}
 use Rattle.std.proofs.lemmas.Bool.{cases_lt, cases_eq, eq-eqb}
+use Rattle.session_script.specs.Bounds.{most_sessions}
 use Rattle.session_script.specs.declared.scripts.ScriptLine.{ScriptLine}
 use Rattle.session_script.specs.Grammar.{calls_of}
 use Rattle.session_script.specs.Sessions.{nth_at, greatest_session, HasSessions, places_from, IsIndexed}
@@ -117,13 +118,14 @@ call_there n (x ∷ a) who nth lt = at (eqb x.who who) refl nth lt (λ m l. call
         (ap (λ b. slice_get (map (λ (y : ScriptLine). y.call) (cond b (x ∷ filter (λ y. eqb y.who who) a) (filter (λ y. eqb y.who who) a))) m) is)
 
 -- a session that no line has
-pub no_calls : (a : List ScriptLine) (who : ℕ) → HasSessions a → (1 ≤ who → who ≤ 16 → ⊥) → length (calls_of a who) ≡ 0
+pub no_calls : (a : List ScriptLine) (who : ℕ) → HasSessions a → (1 ≤ who → who ≤ most_sessions → ⊥)
+    → length (calls_of a who) ≡ 0
 no_calls [] who has out = refl
 no_calls (x ∷ a) who has out =
     ap (λ b. length (map (λ (y : ScriptLine). y.call) (cond b (x ∷ filter (λ y. eqb y.who who) a) (filter (λ y. eqb y.who who) a)))) other
     ∙ no_calls a who (λ k d lt. has (suc k) d (omega arith)) out
   where
-    first : (1 ≤ x.who) × (x.who ≤ 16)
+    first : (1 ≤ x.who) × (x.who ≤ most_sessions)
     first = has 0 x (omega arith)
 
     other : eqb x.who who ≡ false
@@ -146,25 +148,26 @@ greatest-more a l = from 0 a
     from n [] = refl
     from n (x ∷ b) = from (max n x.who) b
 
-pub HasSessions-more : (a : List ScriptLine) (l : ScriptLine) → HasSessions a → 1 ≤ l.who → l.who ≤ 16 → HasSessions (a ++ l ∷ [])
+pub HasSessions-more : (a : List ScriptLine) (l : ScriptLine) → HasSessions a → 1 ≤ l.who → l.who ≤ most_sessions → HasSessions (a ++ l ∷ [])
 HasSessions-more a l has low high k d lt = ⊎_elim
-    (λ (within : k < length a). subst (λ (x : ScriptLine). (1 ≤ x.who) × (x.who ≤ 16)) (sym (get_or_append_left a (l ∷ []) d k within)) (has k d within))
-    (λ (past : length a ≤ k). subst (λ (x : ScriptLine). (1 ≤ x.who) × (x.who ≤ 16)) (sym (get_or_push a l d k (omega (arith, length_push a l)))) (low, high))
+    (λ (within : k < length a). subst (λ (x : ScriptLine). (1 ≤ x.who) × (x.who ≤ most_sessions)) (sym (get_or_append_left a (l ∷ []) d k within)) (has k d within))
+    (λ (past : length a ≤ k). subst (λ (x : ScriptLine). (1 ≤ x.who) × (x.who ≤ most_sessions)) (sym (get_or_push a l d k (omega (arith, length_push a l)))) (low, high))
     (cases_lt k (length a))
 
-pub IsIndexed-nil : (lists : List (List ℕ)) → lists ≡ replicate 16 [] → IsIndexed [] [] lists 0
+pub IsIndexed-nil : (lists : List (List ℕ)) → lists ≡ replicate most_sessions [] → IsIndexed [] [] lists 0
 IsIndexed-nil lists same = record {
   has_sessions = λ k d lt. absurd (omega arith);
   small = omega arith;
   numbered = refl;
   numbers = λ k lt. absurd (omega arith);
   listed = ap length same;
-  lists = λ who low high. ap (λ ls. get_or ls (who - 1) []) same ∙ get_or-replicate 16 (who - 1) [] [] (omega arith);
+  lists = λ who low high. ap (λ ls. get_or ls (who - 1) []) same ∙ get_or-replicate most_sessions (who - 1) [] []
+      (omega arith);
   greatest = refl;
 }
 
 pub IsIndexed-push : (a : List ScriptLine) (nths : List ℕ) (places : List (List ℕ)) (sessions : ℕ) (l : ScriptLine) (nth : ℕ) (more : List (List ℕ)) (greatest : ℕ)
-    → IsIndexed a nths places sessions → 1 ≤ l.who → l.who ≤ 16 → length a + 1 < 2 ^ 32
+    → IsIndexed a nths places sessions → 1 ≤ l.who → l.who ≤ most_sessions → length a + 1 < 2 ^ 32
     → nth ≡ length (get_or places (l.who - 1) []) → more ≡ set places (l.who - 1) (get_or places (l.who - 1) [] ++ length a ∷ []) → greatest ≡ max sessions l.who
     → IsIndexed (a ++ l ∷ []) (nths ++ nth ∷ []) more greatest
 IsIndexed-push a nths places sessions l nth more greatest was low high small counted changed best = record {
@@ -192,17 +195,17 @@ IsIndexed-push a nths places sessions l nth more greatest was low high small cou
   greatest = best ∙ ap (λ n. max n l.who) was.greatest ∙ sym (greatest-more a l);
 }
 
-pub list_of : (a : List ScriptLine) (nths : List ℕ) (places : List (List ℕ)) (sessions who : ℕ) (x : List ℕ) → IsIndexed a nths places sessions → 1 ≤ who → who ≤ 16 → x ≡ get_or places (who - 1) x → x ≡ places_from 0 a who
+pub list_of : (a : List ScriptLine) (nths : List ℕ) (places : List (List ℕ)) (sessions who : ℕ) (x : List ℕ) → IsIndexed a nths places sessions → 1 ≤ who → who ≤ most_sessions → x ≡ get_or places (who - 1) x → x ≡ places_from 0 a who
 list_of a nths places sessions who x was low high read =
-    let listed : length places ≡ 16 = was.listed in
+    let listed : length places ≡ most_sessions = was.listed in
     read ∙ get_or_default places (who - 1) x [] (omega arith) ∙ was.lists who low high
 
 pub IsIndexed-pushed : (a lines : List ScriptLine) (nths numbers : List ℕ) (places : List (List ℕ)) (sessions greatest : ℕ) (l : ScriptLine) (nth place : ℕ) (read old new : List ℕ)
-    → IsIndexed a nths places sessions → 1 ≤ l.who → l.who ≤ 16 → length a + 1 < 2 ^ 32
+    → IsIndexed a nths places sessions → 1 ≤ l.who → l.who ≤ most_sessions → length a + 1 < 2 ^ 32
     → lines ≡ a ++ l ∷ [] → numbers ≡ nths ++ nth ∷ [] → nth ≡ length read → read ≡ get_or places (l.who - 1) read → old ≡ get_or places (l.who - 1) old
     → place ≡ length a → new ≡ old ++ place ∷ [] → greatest ≡ max sessions l.who → IsIndexed lines numbers (set places (l.who - 1) new) greatest
 IsIndexed-pushed a lines nths numbers places sessions greatest l nth place read old new was low high small lines_are numbers_are counted read_is old_is place_is new_is best =
-    let listed : length places ≡ 16 = was.listed in
+    let listed : length places ≡ most_sessions = was.listed in
     let read_there : read ≡ get_or places (l.who - 1) [] = read_is ∙ get_or_default places (l.who - 1) read [] (omega arith) in
     let old_there : old ≡ get_or places (l.who - 1) [] = old_is ∙ get_or_default places (l.who - 1) old [] (omega arith) in
     let new_there : new ≡ get_or places (l.who - 1) [] ++ length a ∷ [] = new_is ∙ ap (λ o. o ++ place ∷ []) old_there ∙ ap (λ p. get_or places (l.who - 1) [] ++ p ∷ []) place_is in
@@ -210,8 +213,8 @@ IsIndexed-pushed a lines nths numbers places sessions greatest l nth place read 
     rw (lines_are, numbers_are)
     (IsIndexed-push a nths places sessions l nth (set places (l.who - 1) new) greatest was low high small (counted ∙ ap length read_there) (ap (set places (l.who - 1)) new_there) best)
 
-pub session_of_call : (a : List ScriptLine) (who nth : ℕ) → HasSessions a → nth < length (calls_of a who) → (1 ≤ who) × (who ≤ 16)
+pub session_of_call : (a : List ScriptLine) (who nth : ℕ) → HasSessions a → nth < length (calls_of a who) → (1 ≤ who) × (who ≤ most_sessions)
 session_of_call a who nth has lt = ⊎_elim
     (λ (low : who < 1). absurd (omega (arith, no_calls a who has (λ x y. omega arith))))
-    (λ (low : 1 ≤ who). (low, ⊎_elim (λ (high : 16 < who). absurd (omega (arith, no_calls a who has (λ x y. omega arith)))) (λ (high : who ≤ 16). high) (cases_lt 16 who)))
+    (λ (low : 1 ≤ who). (low, ⊎_elim (λ (high : most_sessions < who). absurd (omega (arith, no_calls a who has (λ x y. omega arith)))) (λ (high : who ≤ most_sessions). high) (cases_lt most_sessions who)))
     (cases_lt who 1)

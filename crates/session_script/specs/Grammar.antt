@@ -7,6 +7,7 @@ use Rattle.plain_tree.specs.declared.calls.Call.{Call}
 use Rattle.plain_tree.specs.declared.calls.Call.TheVariants.{Mkdir, Create, Write, Truncate, Read, Listing, Stat}
 use Rattle.plain_tree.specs.declared.calls.Call.TheVariants.{Rename, Remove, Sync}
 use Rattle.plain_tree.specs.History.{Calls}
+use Rattle.session_script.specs.Bounds.{longest_script, most_asked, most_calls, most_in_all, most_written}
 use Rattle.session_script.specs.declared.words.Verb.{Verb}
 use Rattle.session_script.specs.declared.words.Verb.TheVariants as verbs
 use Rattle.session_script.specs.declared.scripts.ScriptWhy.{ScriptWhy}
@@ -78,10 +79,12 @@ bytes_asked _ = 0
 -- the first limit that a line passes, behind the lines that stand before it
 abbrev pub limit_passed : List ScriptLine → ScriptLine → Option ScriptWhy
 limit_passed before line =
-    if nat_le 1024 (length (calls_of before line.who)) then Some reasons.Calls
-    else if nat_lt 65536 (bytes_written line.call) || nat_lt 1048576 (bytes_asked line.call) then Some reasons.Big
-    else if nat_lt 67108864 (sum_by (λ l. bytes_written l.call) before + bytes_written line.call) then Some reasons.Sum
-    else if nat_lt 67108864 (sum_by (λ l. bytes_asked l.call) before + bytes_asked line.call) then Some reasons.Sum
+    if nat_le most_calls (length (calls_of before line.who)) then Some reasons.Calls
+    else if nat_lt most_written (bytes_written line.call) || nat_lt most_asked (bytes_asked line.call)
+        then Some reasons.Big
+    else if nat_lt most_in_all (sum_by (λ l. bytes_written l.call) before + bytes_written line.call)
+        then Some reasons.Sum
+    else if nat_lt most_in_all (sum_by (λ l. bytes_asked l.call) before + bytes_asked line.call) then Some reasons.Sum
     else None
 
 -- a line that passes no limit, or the limit that it passes
@@ -130,7 +133,7 @@ lines_of text = slice_split (λ b. b == 10) text
 -- the script of a text, or its first refusal
 abbrev pub script_of : List ℕ → Result (List ScriptLine) ScriptErr
 script_of text =
-    if nat_lt 16777216 (length text) then Err (record { line = 0; why = reasons.Long })
+    if nat_lt longest_script (length text) then Err (record { line = 0; why = reasons.Long })
     else script_from 1 [] (lines_of text)
 
 -- a fault of reading is the text's first refusal, or want of memory

@@ -1,3 +1,4 @@
+pub mod Bounds
 pub mod Escapes
 pub mod Grammar
 pub mod Limits

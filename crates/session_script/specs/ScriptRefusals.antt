@@ -3,6 +3,7 @@ use Rattle.std.specs.Prelude.{◌≡◌, ◌⊎◌, ℕ, ◌+◌, ◌<◌, ◌�
 use Rattle.std.specs.List.{AllByRecursion}
 use Rattle.std.specs.Str.{IsUtf8}
 use Rattle.plain_tree.specs.Paths.{Path}
+use Rattle.session_script.specs.Bounds.{longest_script, most_asked, most_calls, most_in_all, most_written}
 use Rattle.session_script.specs.declared.scripts.ScriptErr.{ScriptErr}
 use Rattle.session_script.specs.declared.scripts.ScriptLine.{ScriptLine}
 use Rattle.session_script.specs.declared.scripts.ScriptWhy.{ScriptWhy}
@@ -84,13 +85,15 @@ LacksForm words _ = ⊥
 -- the first limit that a call passes behind the lines before it: the calls of its session, the bytes of the call, and
 -- those of all writes or of all reads
 abbrev pub PassesLimit : List ScriptLine → ScriptLine → ScriptWhy → Type 0
-PassesLimit before line reasons.Calls = 1024 ≤ length (calls_of before line.who)
+PassesLimit before line reasons.Calls = most_calls ≤ length (calls_of before line.who)
 PassesLimit before line reasons.Big =
-    (length (calls_of before line.who) < 1024) × ((65536 < bytes_written line.call) ⊎ (1048576 < bytes_asked line.call))
+    (length (calls_of before line.who) < most_calls)
+    × ((most_written < bytes_written line.call) ⊎ (most_asked < bytes_asked line.call))
 PassesLimit before line reasons.Sum =
-    (length (calls_of before line.who) < 1024) × (bytes_written line.call ≤ 65536) × (bytes_asked line.call ≤ 1048576)
-    × ((67108864 < sum_by (λ l. bytes_written l.call) before + bytes_written line.call)
-    ⊎ (67108864 < sum_by (λ l. bytes_asked l.call) before + bytes_asked line.call))
+    (length (calls_of before line.who) < most_calls) × (bytes_written line.call ≤ most_written)
+    × (bytes_asked line.call ≤ most_asked)
+    × ((most_in_all < sum_by (λ l. bytes_written l.call) before + bytes_written line.call)
+    ⊎ (most_in_all < sum_by (λ l. bytes_asked l.call) before + bytes_asked line.call))
 PassesLimit before line _ = ⊥
 
 -- the first word of a line names no session
@@ -120,7 +123,7 @@ pub record IsRefusedText (text : List ℕ) (e : ScriptErr) : Type 0 where
   pub line : List ℕ
   pub rest : List (List ℕ)
   pub script : List ScriptLine
-  pub short : length text ≤ 16777216
+  pub short : length text ≤ longest_script
   pub joined : IsJoined 10 (front ++ line ∷ rest) text
   pub number : e.line ≡ length front + 1
   pub spelled : SpellLines front script
@@ -129,7 +132,7 @@ pub record IsRefusedText (text : List ℕ) (e : ScriptErr) : Type 0 where
 
 -- a text over its limit is refused at line 0
 abbrev pub IsTooLong : List ℕ → ScriptErr → Type 0
-IsTooLong text e = (e ≡ record { line = 0; why = reasons.Long }) × (16777216 < length text)
+IsTooLong text e = (e ≡ record { line = 0; why = reasons.Long }) × (longest_script < length text)
 
 -- what a refusal says of its text
 abbrev pub IsRefusal : List ℕ → ScriptErr → Type 0

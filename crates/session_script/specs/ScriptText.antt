@@ -8,6 +8,8 @@ use Rattle.plain_tree.specs.declared.calls.Call.{Call}
 use Rattle.plain_tree.specs.declared.calls.Call.TheVariants.{Mkdir, Create, Write, Truncate, Read, Listing, Stat}
 use Rattle.plain_tree.specs.declared.calls.Call.TheVariants.{Rename, Remove, Sync}
 use Rattle.plain_tree.specs.Paths.{Name, Path}
+use Rattle.session_script.specs.Bounds.{longest_script, most_asked, most_calls, most_in_all, most_sessions}
+use Rattle.session_script.specs.Bounds.{most_written}
 use Rattle.session_script.specs.declared.scripts.ScriptLine.{ScriptLine}
 use Rattle.session_script.specs.Grammar.{calls_of, bytes_written, bytes_asked, script_of}
 
@@ -40,7 +42,7 @@ pub record SpellsNumber (word : List ℕ) (n : ℕ) : Type 0 where
 pub record SpellsSession (word : List ℕ) (who : ℕ) : Type 0 where
   pub number : SpellsNumber word who
   pub low : 1 ≤ who
-  pub high : who ≤ 16
+  pub high : who ≤ most_sessions
   pub no_zero : slice_index word 0 ≢ 48
 
 -- a name isn't empty, has no slash, and is UTF-8 once its escapes are decoded
@@ -139,18 +141,18 @@ SpellLines (line ∷ lines) (spelled ∷ script) =
 
 -- 1,024 calls a session, 65,536 bytes a write and 1,048,576 a read, and 67,108,864 bytes in all for either
 pub record IsWithinLimits (script : List ScriptLine) : Type 0 where
-  pub calls : (who : ℕ) → length (calls_of script who) ≤ 1024
-  pub written : AllByRecursion (λ l. bytes_written l.call ≤ 65536) script
-  pub asked : AllByRecursion (λ l. bytes_asked l.call ≤ 1048576) script
-  pub written_in_all : sum_by (λ l. bytes_written l.call) script ≤ 67108864
-  pub asked_in_all : sum_by (λ l. bytes_asked l.call) script ≤ 67108864
+  pub calls : (who : ℕ) → length (calls_of script who) ≤ most_calls
+  pub written : AllByRecursion (λ l. bytes_written l.call ≤ most_written) script
+  pub asked : AllByRecursion (λ l. bytes_asked l.call ≤ most_asked) script
+  pub written_in_all : sum_by (λ l. bytes_written l.call) script ≤ most_in_all
+  pub asked_in_all : sum_by (λ l. bytes_asked l.call) script ≤ most_in_all
 
 -- a text of one line or more, with a line feed between each two, that spell the script within the limits
 pub record IsScriptText (text : List ℕ) (script : List ScriptLine) : Type 0 where
   pub lines : List (List ℕ)
   pub some : 1 ≤ length lines
   pub joined : IsJoined 10 lines text
-  pub short : length text ≤ 16777216
+  pub short : length text ≤ longest_script
   pub spelled : SpellLines lines script
   pub limited : IsWithinLimits script
 

@@ -2,6 +2,7 @@
 use Rattle.std.specs.Prelude.{◌≡◌, ℕ, ◌+◌, ◌-◌, ◌^◌, ◌<◌, ◌≤◌, max, List, [], ◌∷◌, ◌==◌, if◌then◌else◌, All, fold, map}
 use Rattle.std.specs.Prelude.{length, take, slice_get, slice_index, slice_index_or, unwrap_or}
 use Rattle.std.specs.Option.{option_map}
+use Rattle.session_script.specs.Bounds.{most_sessions}
 use Rattle.session_script.specs.declared.scripts.ScriptLine.{ScriptLine}
 use Rattle.session_script.specs.Grammar.{calls_of}
 
@@ -15,7 +16,7 @@ greatest_session script = fold max 0 (map (λ l. l.who) script)
 
 -- every session is one of 16
 abbrev pub HasSessions : List ScriptLine → Type 0
-HasSessions script = All (λ l. (1 ≤ l.who) × (l.who ≤ 16)) script
+HasSessions script = All (λ l. (1 ≤ l.who) × (l.who ≤ most_sessions)) script
 
 -- the places of a session's lines, of which the first line of the list has this place
 abbrev pub places_from : ℕ → List ScriptLine → ℕ → List ℕ
@@ -29,6 +30,6 @@ pub record IsIndexed (lines : List ScriptLine) (nths : List ℕ) (places : List 
   pub small : length lines < 2 ^ 32
   pub numbered : length nths ≡ length lines
   pub numbers : (k : ℕ) → k < length lines → slice_index nths k ≡ nth_at lines k
-  pub listed : length places ≡ 16
-  pub lists : (who : ℕ) → 1 ≤ who → who ≤ 16 → slice_index_or places (who - 1) [] ≡ places_from 0 lines who
+  pub listed : length places ≡ most_sessions
+  pub lists : (who : ℕ) → 1 ≤ who → who ≤ most_sessions → slice_index_or places (who - 1) [] ≡ places_from 0 lines who
   pub greatest : sessions ≡ greatest_session lines

@@ -7,6 +7,7 @@ use Rattle.std.specs.Str.{bytes_eq, is_utf8}
 use Rattle.std.specs.Char.{digit_value, is_digit}
 use Rattle.percent_encoding.specs.Percent.{percent_decode}
 use Rattle.plain_tree.specs.Paths.{Name, Path}
+use Rattle.session_script.specs.Bounds.{most_sessions}
 use Rattle.session_script.specs.declared.words.Verb.{Verb}
 use Rattle.session_script.specs.declared.words.Verb.TheVariants as verbs
 
@@ -32,7 +33,8 @@ number_of word =
 abbrev pub session_of : List ℕ → Option ℕ
 session_of word =
     option_and_then
-    (λ who. if nat_le 1 who && nat_le who 16 && not (starts_with nat_eq word (codes "0")) then Some who else None)
+    (λ who. if nat_le 1 who && nat_le who most_sessions && not (starts_with nat_eq word (codes "0"))
+        then Some who else None)
     (number_of word)
 
 abbrev pub verb_of : List ℕ → Option Verb

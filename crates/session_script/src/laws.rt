@@ -1,5 +1,22 @@
+ghost use Rattle.std.specs.Prelude.{◌≡◌};
+ghost use Rattle.session_script.specs.Bounds.{longest_script, most_asked, most_calls, most_in_all};
+ghost use Rattle.session_script.specs.Bounds.{most_sessions, most_written};
 ghost use Rattle.session_script.specs.ScriptRefusals.{RefusesTheFirst};
 ghost use Rattle.session_script.specs.ScriptText.{ReadsGrammar};
+
+use crate::limits::{
+    LONGEST_SCRIPT, MOST_ASKED, MOST_CALLS, MOST_IN_ALL, MOST_SESSIONS, MOST_WRITTEN,
+};
+
+/// Each constant is the limit that definitions name.
+pub fn limits_are()
+    ensures sessions { MOST_SESSIONS ≡ most_sessions }
+    ensures calls { MOST_CALLS ≡ most_calls }
+    ensures written { MOST_WRITTEN ≡ most_written }
+    ensures asked { MOST_ASKED ≡ most_asked }
+    ensures in_all { MOST_IN_ALL ≡ most_in_all }
+    ensures script { LONGEST_SCRIPT ≡ longest_script }
+{}
 
 /// What is read as a script is spelled as one, and what is spelled as one is read.
 pub fn reads_the_grammar()

@@ -6,6 +6,7 @@ mod drafts;
 mod escapes;
 mod faults;
 mod laws;
+mod limits;
 mod logs;
 mod made;
 mod paths;
@@ -16,7 +17,10 @@ mod scripts;
 mod words;
 
 pub use escapes::push_escaped;
-pub use laws::{reads_the_grammar, refuses_the_first};
+pub use laws::{limits_are, reads_the_grammar, refuses_the_first};
+pub use limits::{
+    LONGEST_SCRIPT, MOST_ASKED, MOST_CALLS, MOST_IN_ALL, MOST_SESSIONS, MOST_WRITTEN,
+};
 pub use logs::{Ack, Event, Log, Reply};
 pub use made::make_script;
 pub use printing::log_text;

@@ -1,6 +1,7 @@
 //! Scripts that are made from a number.
 
 ghost use Rattle.std.specs.Prelude.{◌≡◌, ◌+◌, ◌*◌, ◌<◌, ◌≤◌, ◌^◌, [], ◌∷◌, ◌++◌, length, decimal, IfOk};
+ghost use Rattle.session_script.specs.Bounds.{most_calls};
 ghost use Rattle.session_script.specs.Made.{numbered, folder_of, write_of, last_of, call_for, made_call, made_round};
 ghost use Rattle.session_script.specs.Made.{made_script};
 
@@ -36,7 +37,7 @@ fn file_path(alloc: Global, who: u16, letter: &str, file: u32) -> Result<List<Te
 
 /// The write to a file.
 fn write_call(alloc: Global, who: u16, file: u32) -> Result<Call, NoMemory>
-    requires { file ≤ 1024 }
+    requires { file ≤ most_calls }
     ensures { IfOk result (λ call. call ≡ write_of who file) }
 {
     let session = u32::from(who);
@@ -64,7 +65,7 @@ fn last_call(alloc: Global, who: u16, file: u32) -> Result<Call, NoMemory>
 
 /// A call for a file, by its place among the four.
 fn file_call(alloc: Global, who: u16, file: u32, step: u32) -> Result<Call, NoMemory>
-    requires { file ≤ 1024 }
+    requires { file ≤ most_calls }
     ensures { IfOk result (λ call. call ≡ call_for who file step) }
 {
     match step {
@@ -83,7 +84,7 @@ fn file_call(alloc: Global, who: u16, file: u32, step: u32) -> Result<Call, NoMe
 
 /// A session's call of a number, counted from 0.
 fn nth_call(alloc: Global, who: u16, nth: u32) -> Result<Call, NoMemory>
-    requires { nth ≤ 1024 }
+    requires { nth ≤ most_calls }
     ensures { IfOk result (λ call. call ≡ made_call who nth) }
 {
     if nth == 0 {
@@ -96,7 +97,7 @@ fn nth_call(alloc: Global, who: u16, nth: u32) -> Result<Call, NoMemory>
 
 /// The script with one call more of each session.
 fn with_round(alloc: Global, script: Script, nth: u32) -> Result<Script, NoMemory>
-    requires few { nth < 1024 }
+    requires few { nth < most_calls }
     requires small { length script ≤ 8 * nth }
     ensures { IfOk result (λ longer. longer ≡ script ++ made_round nth) }
 {
@@ -112,7 +113,7 @@ fn with_round(alloc: Global, script: Script, nth: u32) -> Result<Script, NoMemor
 /// writes, reads and renames one file after the other, with a sync in place of each 32nd rename. No session has more
 /// than 1,024 calls.
 pub fn make_script(alloc: Global, count: u32) -> Result<Script, NoMemory>
-    requires { count ≤ 1024 }
+    requires { count ≤ most_calls }
     ensures { IfOk result (λ script. script ≡ made_script count) }
 {
     let mut script = Script::new(alloc)?;

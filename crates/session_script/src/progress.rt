@@ -1,23 +1,16 @@
 ghost use Rattle.std.specs.Prelude.{◌≡◌, ◌≤◌, [], ◌∷◌, ◌++◌, sum_by, None, IfOk};
+ghost use Rattle.session_script.specs.Bounds.{most_sessions};
 ghost use Rattle.session_script.specs.Grammar.{bytes_written, bytes_asked, limit_passed, line_of};
 ghost use Rattle.session_script.specs.Readings.{call_drafted, IsRead};
 ghost use Rattle.session_script.specs.Limits.{IsBounded};
 
 use crate::drafts::{Draft, bytes_asked, bytes_written, read_words};
 use crate::faults::LineFault;
+use crate::limits::{MOST_ASKED, MOST_CALLS, MOST_IN_ALL, MOST_WRITTEN};
 use crate::scripts::{Script, ScriptLine, ScriptWhy};
 use crate::words::{is_skipped, is_text};
 use std::alloc::Global;
 use tape_types::NoMemory;
-
-/// How many calls a session may have.
-const MOST_CALLS: u32 = 1024;
-/// How many bytes a write may have.
-const MOST_WRITTEN: u64 = 65536;
-/// How many bytes a read may ask for.
-const MOST_ASKED: u64 = 1048576;
-/// How many bytes all writes may have, and all reads may ask for.
-const MOST_IN_ALL: u64 = 67108864;
 
 /// The script of the lines so far, with what its calls write and ask to read in all.
 #[derive(Drop)]
@@ -81,7 +74,7 @@ impl Progress {
 
     /// The script with one more line, which is within the limits.
     pub fn with(self, line: ScriptLine) -> Result<Progress, NoMemory>
-        requires session { (1 ≤ line.who) × (line.who ≤ 16) }
+        requires session { (1 ≤ line.who) × (line.who ≤ most_sessions) }
         requires limited { limit_passed self.script line ≡ None }
         ensures { IfOk result (λ progress. progress.script ≡ self.script ++ line ∷ []) }
     {

@@ -1,6 +1,8 @@
 ghost use Rattle.std.specs.Prelude.{◌≡◌, [], replicate, IfOk, Some};
+ghost use Rattle.session_script.specs.Bounds.{most_sessions};
 ghost use Rattle.session_script.specs.ReasonNames.{reason_name};
 
+use crate::limits::MOST_SESSIONS;
 use plain_tree::Call;
 use std::alloc::Global;
 use std::fmt;
@@ -130,7 +132,7 @@ impl Script {
 
     /// The script with one more line.
     pub(crate) fn push(self, line: ScriptLine) -> Result<Script, NoMemory>
-        requires session { (1 ≤ line.who) × (line.who ≤ 16) }
+        requires session { (1 ≤ line.who) × (line.who ≤ most_sessions) }
         requires small { length self + 1 < 2 ^ 32 }
         ensures { IfOk result (λ script. script ≡ self ++ line ∷ []) }
     {
@@ -197,7 +199,7 @@ impl Script {
     pub fn count(&self, who: u16) -> u32
         ensures { result ≡ length (calls_of self.now who) }
     {
-        if who >= 1 && who <= 16 {
+        if who >= 1 && who <= MOST_SESSIONS {
             self.places[who as usize - 1].len() as u32
         } else {
             0
@@ -216,10 +218,10 @@ impl Script {
 
 /// A list with no place for each session from 1 to 16.
 fn empty_lists(alloc: Global) -> Result<Vec<List<u32>>, NoMemory>
-    ensures { IfOk result (λ lists. lists.items ≡ replicate 16 []) }
+    ensures { IfOk result (λ lists. lists.items ≡ replicate most_sessions []) }
 {
     let mut lists = Vec::new(alloc);
-    for _session in 0..16usize {
+    for _session in 0..MOST_SESSIONS as usize {
         lists.push(List::new(alloc))?;
     }
     Ok(lists)

@@ -6,6 +6,7 @@ ghost use Rattle.session_script.specs.Grammar.{is_skipped, call_with};
 ghost use Rattle.session_script.specs.Readings.{pieces_left, call_given};
 ghost use Rattle.session_script.specs.declared.words.Verb.{Verb};
 
+use crate::limits::MOST_SESSIONS;
 use memchr::memchr;
 
 /// The word that names a call.
@@ -81,7 +82,7 @@ pub fn read_session(word: &[u8]) -> Option<u16>
     ensures { result ≡ session_of word.now }
 {
     let who = read_number(word)?;
-    if who >= 1 && who <= 16 && !word.starts_with(b"0") {
+    if who >= 1 && who <= u64::from(MOST_SESSIONS) && !word.starts_with(b"0") {
         Some(who as u16)
     } else {
         None
