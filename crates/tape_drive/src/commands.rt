@@ -1,5 +1,6 @@
 // The commands of the drive in memory.
-ghost use Rattle.std.specs.Prelude.{◌≡◌, ◌≤◌, ◌<◌, ◌+◌, ◌-◌, ◌^◌, length, IfOk, OnOk, vec_capacity, Some};
+ghost use Rattle.std.specs.Prelude.{◌≡◌, ◌≤◌, ◌<◌, ◌+◌, ◌-◌, length, IfOk, OnOk, vec_capacity, Some};
+ghost use Rattle.tape_types.specs.Bounds.{most_positions};
 ghost use Rattle.tape_types.specs.declared.cartridges.Place.{Place};
 ghost use Rattle.tape_types.specs.declared.cartridges.Item.{Item};
 ghost use Rattle.tape_types.specs.declared.cartridges.Item.TheVariants as item;
@@ -245,7 +246,7 @@ fn block(alloc: Global, bytes: &[u8]) -> Result<Item, NoMemory>
 }
 
 fn step(at: Place) -> Place
-    requires { at.pos < 2 ^ 40 }
+    requires { at.pos < most_positions }
     ensures { result ≡ next at }
 {
     Place {
@@ -258,7 +259,7 @@ fn step(at: Place) -> Place
 fn read_item(found: &Item, at: Place, buf: &mut Vec<u8>) -> (Got, Place)
     requires room { 1048576 ≤ vec_capacity buf.old }
     requires size { IsItem found.now }
-    requires inside { at.pos < 2 ^ 40 }
+    requires inside { at.pos < most_positions }
     ensures room { 1048576 ≤ vec_capacity buf.new }
     ensures item { IsRead (Some found.now) result.0 buf.new.items }
     ensures place { result.1 ≡ after_read result.0 at }

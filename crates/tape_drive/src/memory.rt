@@ -3,6 +3,7 @@ ghost use Rattle.std.specs.Prelude.{◌≡◌, ◌≤◌, ◌<◌, ◌+◌, ◌-
 ghost use Rattle.std.specs.Prelude.{IfOk, IsTrue, All, ◌↔◌, reverse, Option, Some};
 ghost use Rattle.std.specs.Option.{option_copied};
 ghost use Rattle.tape_drive.specs.Commands.{item_at};
+ghost use Rattle.tape_types.specs.Bounds.{most_positions};
 ghost use Rattle.tape_types.specs.declared.cartridges.Place.{Place};
 ghost use Rattle.tape_types.specs.declared.cartridges.Item.{Item};
 ghost use Rattle.tape_types.specs.declared.cartridges.Cartridge.{Cartridge};
@@ -199,7 +200,7 @@ impl MemDrive {
     pub(crate) fn item_at(&self, at: Place) -> Option<&Item>
         ensures value { option_copied result ≡ item_at at self.now.held }
         ensures size { (x : Item) → option_copied result ≡ Some x → IsItem x }
-        ensures inside { (x : Item) → option_copied result ≡ Some x → at.pos < 2 ^ 40 }
+        ensures inside { (x : Item) → option_copied result ≡ Some x → at.pos < most_positions }
     {
         self.items_of(at.part).get(at.pos as usize)
     }
@@ -215,7 +216,7 @@ impl MemDrive {
     pub(crate) fn items_of(&self, part: Part) -> &[Item]
         ensures value { result.now ≡ items_of part self.now.held }
         ensures size { All IsItem result.now }
-        ensures count { length result.now ≤ 2 ^ 40 }
+        ensures count { length result.now ≤ most_positions }
     {
         match part {
             Part::Ip => self.ip.as_slice(),

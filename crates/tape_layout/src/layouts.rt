@@ -3,6 +3,7 @@ ghost use Rattle.std.specs.Prelude.{false, nat_le, IfSome, MatchOption, OnOk, On
 ghost use Rattle.std.specs.Int.{div_ceil};
 ghost use Rattle.std.specs.List.{All};
 ghost use Rattle.std.specs.Option.{option_map};
+ghost use Rattle.tape_types.specs.Bounds.{most_positions};
 ghost use Rattle.tape_types.specs.Cartridges.{capacity};
 ghost use Rattle.tape_layout.specs.Admissions as admissions;
 ghost use Rattle.tape_layout.specs.Admissions.{IsAdmitted, close_admission, data_admission, index_admission};
@@ -229,7 +230,7 @@ impl Layout {
     /// Where the next item of a partition goes.
     fn place_on(&self, part: Part) -> Place
         ensures place { result ≡ record { part = part; pos = end_of part self.now.ends } }
-        ensures small { result.pos ≤ 2 ^ 40 }
+        ensures small { result.pos ≤ most_positions }
     {
         Place {
             part,
