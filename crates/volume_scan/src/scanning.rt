@@ -3,6 +3,7 @@
 ghost use Rattle.std.specs.Prelude.{◌≡◌, ◌≤◌, ◌+◌, ◌-◌, ◌*◌, ◌^◌, length, Some, vec_capacity, IfOk, IfSome};
 ghost use Rattle.content_laws.specs.Readings.{front};
 ghost use Rattle.tape_drive.specs.Looks.{Looks};
+ghost use Rattle.tape_types.specs.Bounds.{most_positions};
 ghost use Rattle.tape_types.specs.Cartridges.{capacity, items_of};
 ghost use Rattle.tape_types.specs.declared.cartridges.Cartridge.{Cartridge};
 ghost use Rattle.volume_scan.specs.Scans.{HasCounts, IsInPlaces, IsScanned};
@@ -60,7 +61,7 @@ fn read_to_end<D: Drive>(
 ) -> Result<Content, ScanErr>
     requires head { D.head drive.old ≡ Some (record { part = part; pos = reading.pos }) }
     requires positions { positions ≡ capacity part (D.limits drive.old) }
-    requires most { positions ≤ 2 ^ 40 }
+    requires most { positions ≤ most_positions }
     requires before { before ≤ D.faults drive.old }
     requires commands { D.commands drive.old ≤ 2 ^ 64 - 1 }
     requires buffer { 1048576 ≤ vec_capacity buffer.old }
