@@ -3,6 +3,7 @@ use Rattle.std.proofs.Common.{Option, ◌≡◌, ℕ, zero, suc, ◌+◌, ◌<�
 use Rattle.std.specs.Option.{option_map}
 use Rattle.std.specs.List.{AllByRecursion, slice_get}
 use Rattle.std.specs.FinMap as fin
+use Rattle.tape_types.specs.Bounds.{longest_file}
 use Rattle.tape_types.specs.declared.cartridges.Extent.{Extent}
 use Rattle.node_keys.specs.declared.xattrs.Xattr.{Xattr}
 use Rattle.node_keys.specs.Keys.{list_of}
@@ -75,7 +76,7 @@ module _ (letters : Letters) (size end : ℕ) (es : List Extent) (h : AreLaid si
       (λ e. e)
       (λ gt. absurd (told_behind j i offset s.two s.one gt s.other_is s.is s.other_covers.until s.covers.from))
 
-told_ends : (letters : Letters) (size from end : ℕ) (es : List Extent) → AreLaid size from end es → end ≤ 2 ^ 40 → AllByRecursion (λ (e : RawExtent). e.offset + e.count ≤ 2 ^ 62) (map (raw_of letters) es)
+told_ends : (letters : Letters) (size from end : ℕ) (es : List Extent) → AreLaid size from end es → end ≤ longest_file → AllByRecursion (λ (e : RawExtent). e.offset + e.count ≤ 2 ^ 62) (map (raw_of letters) es)
 told_ends letters size from end [] h short = tt
 told_ends letters size from end (x ∷ es) h short =
     let most = laid_le size (x.offset + x.count) end es h.4 in

@@ -7,6 +7,7 @@ use Rattle.plain_tree.specs.declared.nodes.Kind.TheVariants as plain_kinds
 use Rattle.plain_tree.specs.Refusals.{first_of, no_file, too_long}
 use Rattle.plain_tree.specs.Tree as plain
 use Rattle.plain_tree.proofs.Validity.{first_none, not_refused}
+use Rattle.tape_types.specs.Bounds.{longest_file}
 use Rattle.tape_types.specs.declared.cartridges.Extent.{Extent}
 use Rattle.extent_map.specs.Laid.{Room}
 use Rattle.file_tree.specs.declared.nodes.Node.{Node}
@@ -38,18 +39,18 @@ still_file a b file was lie =
     (now.room, record { path = now.path; node = now.node; there = now.there; is = now.is; file = now.file })
 
 -- what the checks of a write and of a truncation leave
-pub long_free : (p : plain.Tree) (path : List (List ℕ)) (n : ℕ) → first_of (no_file p.nodes path ∷ too_long n ∷ []) ≡ None → (no_file p.nodes path ≡ None) × (n ≤ 2 ^ 40)
+pub long_free : (p : plain.Tree) (path : List (List ℕ)) (n : ℕ) → first_of (no_file p.nodes path ∷ too_long n ∷ []) ≡ None → (no_file p.nodes path ≡ None) × (n ≤ longest_file)
 long_free p path n free =
     let a = first_none (no_file p.nodes path) (too_long n ∷ []) free in
     let b = first_none (too_long n) [] a.1 in
-    let test : nat_lt (2 ^ 40) n ≡ false = not_refused (nat_lt (2 ^ 40) n) refusals.TooLong b.0 in
+    let test : nat_lt longest_file n ≡ false = not_refused (nat_lt longest_file n) refusals.TooLong b.0 in
     (a.0, within n test)
   where
-    within : (n : ℕ) → nat_lt (2 ^ 40) n ≡ false → n ≤ 2 ^ 40
+    within : (n : ℕ) → nat_lt longest_file n ≡ false → n ≤ longest_file
     within n e = grind (arith, nat_tests)
 
 pub can_write : (t : FileTree) (file : ℕ) (room : Room) (new : Extent) → HasExtents t.nodes file room → IsFileOf t.block_size room.laid → ((room : Room) → HasExtents t.nodes file room → 2 ≤ room.spare)
-    → 1 ≤ new.count → new.offset + new.count ≤ 2 ^ 40 → new.byte ≡ 0 → new.block + new.count ≤ 2 ^ 62 → CanWrite t file new
+    → 1 ≤ new.count → new.offset + new.count ≤ longest_file → new.byte ≡ 0 → new.block + new.count ≤ 2 ^ 62 → CanWrite t file new
 can_write t file room new h good space some fits byte last = record {
   room = room;
   extents = h;

@@ -3,6 +3,7 @@ use Rattle.std.proofs.Common.{Option, ◌≡◌, ◌⊎◌, ℕ, ◌≤◌, Bool
 use Rattle.std.specs.FinMap as fin
 use Rattle.std.specs.Str.{IsUtf8, chars}
 use Rattle.std.proofs.lemmas.Bool.Decides.{nat_tests}
+use Rattle.tape_types.specs.Bounds.{longest_name}
 use Rattle.tape_types.specs.Names.{name_fault, has_byte, is_dot}
 use Rattle.tape_types.specs.declared.names.NameErr.{NameErr}
 use Rattle.tape_types.specs.declared.names.NameErr.TheVariants as faults
@@ -38,14 +39,14 @@ no_fault name false false false false false rest e = (refl, refl, refl, refl, re
 
 pub fit_name : (name : Name) → IsUtf8 name → name_fault name ≡ None → IsNodeName name
 fit_name name utf8 none =
-    let is = no_fault name (eqb (length name) 0) (ltb 255 (length (chars name))) (has_byte 47 name) (has_byte 0 name) (is_dot name) _ none in
+    let is = no_fault name (eqb (length name) 0) (ltb longest_name (length (chars name))) (has_byte 47 name) (has_byte 0 name) (is_dot name) _ none in
     record {
       text = record { utf8 = utf8; short = short is.1; no_slash = is.2; no_nul = is.3 };
       some = some is.0;
       no_dot = is.4;
     }
   where
-    short : ltb 255 (length (chars name)) ≡ false → length (chars name) ≤ 255
+    short : ltb longest_name (length (chars name)) ≡ false → length (chars name) ≤ longest_name
     short e = grind (arith, nat_tests)
 
     some : eqb (length name) 0 ≡ false → 1 ≤ length name

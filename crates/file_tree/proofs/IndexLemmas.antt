@@ -5,6 +5,7 @@ use Rattle.std.specs.List.{AllByRecursion, filter, slice_get}
 use Rattle.std.specs.FinMap as fin
 use Rattle.std.proofs.lemmas.Bool.Decides.{nat_tests}
 use Rattle.std.proofs.lemmas.List.{length-append, length-map, append-nil}
+use Rattle.tape_types.specs.Bounds.{longest_file, most_nodes}
 use Rattle.tape_types.specs.declared.cartridges.Extent.{Extent}
 use Rattle.tape_types.specs.declared.cartridges.Part.{Part}
 use Rattle.tape_types.specs.declared.cartridges.Part.TheVariants as parts
@@ -205,7 +206,7 @@ module _ (letters : Letters) (t : FileTree) (good : IsGood t) where
   names_told : AreNames nodes
   names_told = record { volume = λ node is. subst IsVolumeName (sym (root_told node is)) good.volume; others = name_told }
 
-  extents_told : (size low high : ℕ) (es : List Extent) → AreLetters letters → AreLaid size low high es → high ≤ 2 ^ 40 → size < 2 ^ 32
+  extents_told : (size low high : ℕ) (es : List Extent) → AreLetters letters → AreLaid size low high es → high ≤ longest_file → size < 2 ^ 32
       → ((part : Part) (pos : ℕ) → SomeStandsIn size es part pos → pos ≤ 2 ^ 62) → AllByRecursion IsExtent (map (raw_of letters) es)
   extents_told size low high [] are laid short small near = tt
   extents_told size low high (e ∷ es) are laid short small near =
@@ -250,9 +251,9 @@ module _ (letters : Letters) (t : FileTree) (good : IsGood t) where
   xattrs_told : AllByRecursion (λ (node : told.Node). AllByRecursion IsXattr node.xattrs) nodes
   xattrs_told = all_fit (fin.entries m) (λ i e is. good.fit e.0 e.1 (entry_get m i e.0 e.1 is))
 
-  count_told : length nodes ≤ 65536
+  count_told : length nodes ≤ most_nodes
   count_told =
-      let few : fin.len (plain_nodes whole m) ≤ 65536 = (good.valid whole).few in
+      let few : fin.len (plain_nodes whole m) ≤ most_nodes = (good.valid whole).few in
       omega (arith, few, plain_len whole m, fin.len-entries m, length-map (fin.entries m) tell)
 
   pub told_valid : (index : Index) → AreLetters letters → TellsTree letters t index → IsFitVolume index → IsValid index
@@ -266,7 +267,7 @@ module _ (letters : Letters) (t : FileTree) (good : IsGood t) where
       here = volume.here;
       back = volume.back;
       policy = volume.policy;
-      count = subst (λ (l : List told.Node). length l ≤ 65536) (sym tells.nodes) count_told;
+      count = subst (λ (l : List told.Node). length l ≤ most_nodes) (sym tells.nodes) count_told;
       order = subst Rattle.index_model.specs.Order.AreInOrder (sym tells.nodes) (order.told_in_order letters t good);
       names = subst AreNames (sym tells.nodes) names_told;
       xattrs = subst (λ (l : List told.Node). AllByRecursion (λ (node : told.Node). AllByRecursion IsXattr node.xattrs) l) (sym tells.nodes) xattrs_told;

@@ -4,6 +4,7 @@ use Rattle.std.specs.List.{AllByRecursion, list_all}
 use Rattle.std.proofs.Math.Nat.{div-le_self}
 use Rattle.std.proofs.lemmas.Bool.Decides.{nat_tests}
 use Rattle.std.proofs.lemmas.Bool.{or_cases}
+use Rattle.tape_types.specs.Bounds.{longest_file, most_positions}
 use Rattle.index_model.specs.declared.indexes.Index.{Index}
 use Rattle.index_model.specs.declared.nodes.RawExtent.{RawExtent}
 use Rattle.index_model.specs.declared.nodes.Node.{Node}
@@ -24,12 +25,12 @@ less a b e = grind (arith, nat_tests)
 module _ (letters : Letters) (size : ℕ) (small : size < 2 ^ 32) where
   good_raw : (raw : RawExtent) → on_volume letters size raw ≡ true → IsOnVolume letters size raw × EndsNear letters size raw
   good_raw raw e =
-      let a = both_true (((eqb raw.letter letters.0 || eqb raw.letter letters.1) && ltb raw.byte size) && ltb raw.block (2 ^ 40)) (ltb raw.count (2 ^ 40)) e in
-      let b = both_true ((eqb raw.letter letters.0 || eqb raw.letter letters.1) && ltb raw.byte size) (ltb raw.block (2 ^ 40)) a.0 in
+      let a = both_true (((eqb raw.letter letters.0 || eqb raw.letter letters.1) && ltb raw.byte size) && ltb raw.block most_positions) (ltb raw.count longest_file) e in
+      let b = both_true ((eqb raw.letter letters.0 || eqb raw.letter letters.1) && ltb raw.byte size) (ltb raw.block most_positions) a.0 in
       let d = both_true (eqb raw.letter letters.0 || eqb raw.letter letters.1) (ltb raw.byte size) b.0 in
       let byte : raw.byte < size = less raw.byte size d.1 in
-      let block : raw.block < 2 ^ 40 = less raw.block (2 ^ 40) b.1 in
-      let count : raw.count < 2 ^ 40 = less raw.count (2 ^ 40) a.1 in (
+      let block : raw.block < most_positions = less raw.block most_positions b.1 in
+      let count : raw.count < longest_file = less raw.count longest_file a.1 in (
         λ some. (⊎_elim (λ h. inl (equal raw.letter letters.0 h)) (λ h. inr (equal raw.letter letters.1 h)) (or_cases (eqb raw.letter letters.0) (eqb raw.letter letters.1) d.0), byte),
         λ part pos h. let least : (raw.byte + h.byte) / size ≤ raw.byte + h.byte = div-le_self (raw.byte + h.byte) size in omega (arith, least, h.within, h.here, byte, block, count, small),
       )

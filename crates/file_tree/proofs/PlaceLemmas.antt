@@ -2,6 +2,7 @@
 use Rattle.std.proofs.Common.{Option, ◌⊎◌, ◌≡◌, ℕ, zero, suc, ◌+◌, ◌<◌, ◌≤◌, true, false, List, [], ◌∷◌, ◌++◌, length, get_or, Some, None, IsSome, is_some, sym, ap, ◌∙◌, refl, subst, arith, inl, inr, set}
 use Rattle.std.specs.FinMap as fin
 use Rattle.std.proofs.lemmas.List.{length-set, length-append}
+use Rattle.tape_types.specs.Bounds.{most_nodes}
 use Rattle.file_tree.specs.declared.nodes.Node.{Node}
 use Rattle.file_tree.specs.declared.nodes.Spot.{Spot}
 use Rattle.file_tree.specs.Tree.{Nodes, number_at}
@@ -151,5 +152,5 @@ used_most [] = omega arith
 used_most (None ∷ spots) = omega (arith, used_most spots)
 used_most (Some z ∷ spots) = omega (arith, used_most spots)
 
-pub count_most : (spots : List (Option Spot)) (count : ℕ) (m : Nodes) → IsStored spots count m → count ≤ 65536
+pub count_most : (spots : List (Option Spot)) (count : ℕ) (m : Nodes) → IsStored spots count m → count ≤ most_nodes
 count_most spots count m s = omega (arith, s.filled, used_most spots, s.few)

@@ -24,6 +24,7 @@ use Rattle.plain_tree.specs.declared.calls.Facts.{Facts}
 use Rattle.plain_tree.specs.declared.calls.Sort.{Sort}
 use Rattle.plain_tree.specs.declared.calls.Sort.TheVariants as sorts
 use Rattle.std.proofs.lemmas.Bool.Decides.{nat_tests}
+use Rattle.tape_types.specs.Bounds.{most_nodes}
 use Rattle.file_tree.proofs.WriteLemmas.{long_as}
 use Rattle.file_tree.specs.Places.{IsLast}
 use Rattle.name_tries.proofs.ItemLemmas.{some_same}
@@ -144,15 +145,15 @@ file_by t path number sort stands of = by node.0.kind refl
     by (kinds.File room) e = ap file_says (sym node.2 ∙ ap sort_in e) ∙ sym (file_of_kind whole t.nodes path node.0 (plain_kind_of whole (kinds.File room)) node.1 (ap (plain_kind_of whole) e))
     by (kinds.Link text) e = ap file_says (sym node.2 ∙ ap sort_in e) ∙ sym (file_of_kind whole t.nodes path node.0 (plain_kinds.Link text) node.1 (ap (plain_kind_of whole) e))
 
-pub full_then : (t : FileTree) (n : ℕ) → n ≡ fin.len t.nodes → 65536 ≤ n → refuse_if (nat_le 65536 n) refusals.TooMany ≡ too_many (plain_of whole t)
+pub full_then : (t : FileTree) (n : ℕ) → n ≡ fin.len t.nodes → most_nodes ≤ n → refuse_if (nat_le most_nodes n) refusals.TooMany ≡ too_many (plain_of whole t)
 full_then t n is le =
-    let e : nat_le 65536 n ≡ true = grind (arith, nat_tests) in
-    ap (λ b. refuse_if b refusals.TooMany) e ∙ sym (ap (λ b. refuse_if (b || nat_le (2 ^ 62) t.highest) refusals.TooMany) (ap (nat_le 65536) (plain_len whole t.nodes ∙ sym is) ∙ e))
+    let e : nat_le most_nodes n ≡ true = grind (arith, nat_tests) in
+    ap (λ b. refuse_if b refusals.TooMany) e ∙ sym (ap (λ b. refuse_if (b || nat_le (2 ^ 62) t.highest) refusals.TooMany) (ap (nat_le most_nodes) (plain_len whole t.nodes ∙ sym is) ∙ e))
 
-pub full_else : (t : FileTree) (n h : ℕ) → n ≡ fin.len t.nodes → n < 65536 → h ≡ t.highest → refuse_if (nat_le (2 ^ 62) h) refusals.TooMany ≡ too_many (plain_of whole t)
+pub full_else : (t : FileTree) (n h : ℕ) → n ≡ fin.len t.nodes → n < most_nodes → h ≡ t.highest → refuse_if (nat_le (2 ^ 62) h) refusals.TooMany ≡ too_many (plain_of whole t)
 full_else t n h is lt highest =
-    let e : nat_le 65536 n ≡ false = grind (arith, nat_tests) in
-    sym (ap (λ b. refuse_if (b || nat_le (2 ^ 62) t.highest) refusals.TooMany) (ap (nat_le 65536) (plain_len whole t.nodes ∙ sym is) ∙ e) ∙ ap (λ k. refuse_if (nat_le (2 ^ 62) k) refusals.TooMany) (sym highest))
+    let e : nat_le most_nodes n ≡ false = grind (arith, nat_tests) in
+    sym (ap (λ b. refuse_if (b || nat_le (2 ^ 62) t.highest) refusals.TooMany) (ap (nat_le most_nodes) (plain_len whole t.nodes ∙ sym is) ∙ e) ∙ ap (λ k. refuse_if (nat_le (2 ^ 62) k) refusals.TooMany) (sym highest))
 
 pub if_ok : {A E : Type 0} {P Q : A → Type 0} (r : Result A E) → ((v : A) → P v → Q v) → IfOk r P → IfOk r Q
 if_ok (Ok v) f p = f v p

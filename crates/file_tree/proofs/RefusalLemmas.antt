@@ -12,6 +12,7 @@ use Rattle.plain_tree.specs.Paths.{same_path, parent_of, is_below, name_in}
 use Rattle.plain_tree.specs.Refusals.{first_of, refuse_if, bad_name, at_root, why_missing, no_node, no_dir, no_file, exists_at, too_many, not_empty, too_long, damaged, new_refusal, rename_refusal, refusal_of}
 use Rattle.plain_tree.specs.Tree as plain
 use Rattle.extent_map.specs.Cells.{Tape, cell_at, cell_of, covers}
+use Rattle.tape_types.specs.Bounds.{most_nodes}
 use Rattle.tape_types.specs.declared.cartridges.Extent.{Extent}
 use Rattle.file_tree.specs.declared.nodes.Node.{Node}
 use Rattle.file_tree.specs.declared.nodes.Kind.{Kind}
@@ -95,7 +96,7 @@ module _ (a b : Tape) (t : FileTree) where
   new_alike path =
       ap (λ r. first_of (bad_name path ∷ at_root path ∷ r ∷ exists_at (plain_nodes a t.nodes) path ∷ too_many (plain_of a t) ∷ [])) (no_dir_alike a b t.nodes (parent_of path))
       ∙ ap (λ r. first_of (bad_name path ∷ at_root path ∷ no_dir (plain_nodes b t.nodes) (parent_of path) ∷ refuse_if r refusals.Exists ∷ too_many (plain_of a t) ∷ [])) (contains_alike a b t.nodes path)
-      ∙ ap (λ n. first_of (bad_name path ∷ at_root path ∷ no_dir (plain_nodes b t.nodes) (parent_of path) ∷ exists_at (plain_nodes b t.nodes) path ∷ refuse_if (nat_le 65536 n || nat_le (2 ^ 62) t.highest) refusals.TooMany ∷ [])) (len_alike a b t.nodes)
+      ∙ ap (λ n. first_of (bad_name path ∷ at_root path ∷ no_dir (plain_nodes b t.nodes) (parent_of path) ∷ exists_at (plain_nodes b t.nodes) path ∷ refuse_if (nat_le most_nodes n || nat_le (2 ^ 62) t.highest) refusals.TooMany ∷ [])) (len_alike a b t.nodes)
 
   rename_alike : (from to : List (List ℕ)) → rename_refusal (plain_nodes a t.nodes) from to ≡ rename_refusal (plain_nodes b t.nodes) from to
   rename_alike from to =

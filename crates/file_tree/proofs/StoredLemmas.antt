@@ -2,6 +2,7 @@
 use Rattle.std.proofs.Common.{Option, ◌≡◌, ℕ, zero, suc, ◌+◌, ◌-◌, ◌<◌, cond, List, [], ◌∷◌, ◌++◌, length, Some, None, is_some, sym, ap, ◌∙◌, refl, subst, arith, ⊎_elim, lit≤}
 use Rattle.std.specs.Option.{option_map}
 use Rattle.std.specs.FinMap as fin
+use Rattle.tape_types.specs.Bounds.{most_nodes}
 use Rattle.plain_tree.specs.Paths.{path_cmp}
 use Rattle.plain_tree.specs.Seen.{CanLeave, CanMove}
 use Rattle.plain_tree.proofs.NodeLemmas.{path_total}
@@ -20,7 +21,7 @@ use Rattle.file_tree.proofs.PlaceLemmas.{kept_node, node_now, held_within, held_
 use Rattle.file_tree.proofs.PlainLemmas.{none_plain, len_moved, bare_too}
 
 module _ (spots next : List (Option Spot)) (count : ℕ) (m : Nodes) (s : IsStored spots count m) where
-  pub stored_put : (p : List (List ℕ)) (x : List ℕ) (d : ℕ) (node : Node) (place : ℕ) → number_at m p ≡ Some d → fin.get m (p ++ x ∷ []) ≡ None → node.number ≡ place → held spots place ≡ None → place < 65536
+  pub stored_put : (p : List (List ℕ)) (x : List ℕ) (d : ℕ) (node : Node) (place : ℕ) → number_at m p ≡ Some d → fin.get m (p ++ x ∷ []) ≡ None → node.number ≡ place → held spots place ≡ None → place < most_nodes
       → IsSetIn spots next place (Some (record { parent = d; name = x; node = node })) → used next ≡ used spots + 1 → IsStored next (count + 1) (fin.insert m (p ++ x ∷ []) node)
   stored_put p x d node place dir free is empty fits put more = record {
     shown = inserted (held spots) (held next) m s.shown p x d node dir free (ap (held spots) is ∙ empty) (subst (λ n. IsKept (held spots) (held next) n (Some (record { parent = d; name = x; node = node }))) (sym is) put.kept);
@@ -127,7 +128,7 @@ taken_gone at m s p n there path stood =
 
 -- a node behind all others
 pub stored_append : (spots next : List (Option Spot)) (count : ℕ) (m : Nodes) → IsStored spots count m → (p : List (List ℕ)) (x : List ℕ) (d : ℕ) (node : Node) → number_at m p ≡ Some d → fin.get m (p ++ x ∷ []) ≡ None
-    → node.number ≡ length spots → length spots < 65536 → next ≡ spots ++ Some (record { parent = d; name = x; node = node }) ∷ [] → IsStored next (count + 1) (fin.insert m (p ++ x ∷ []) node)
+    → node.number ≡ length spots → length spots < most_nodes → next ≡ spots ++ Some (record { parent = d; name = x; node = node }) ∷ [] → IsStored next (count + 1) (fin.insert m (p ++ x ∷ []) node)
 stored_append spots next count m s p x d node dir free number fits is =
     let z : Spot = record { parent = d; name = x; node = node } in
     stored_put spots next count m s p x d node (length spots) dir free number (held_past spots (length spots) (omega arith)) fits (push_in spots next (length spots) z is refl) (ap used is ∙ used_push spots z)

@@ -1,6 +1,7 @@
 -- Changes of one node that stays where it is.
 use Rattle.std.specs.Prelude.{◌≡◌, ℕ, ◌+◌, ◌^◌, ◌≤◌, ◌<◌, ⊤, Some}
 use Rattle.std.specs.FinMap as fin
+use Rattle.tape_types.specs.Bounds.{longest_file}
 use Rattle.tape_types.specs.declared.moments.Moment.{Moment}
 use Rattle.tape_types.specs.declared.cartridges.Extent.{Extent}
 use Rattle.extent_map.specs.Laid.{Laid, Room, IsLaid, overlaid, resized}
@@ -24,7 +25,7 @@ change_noted at node = record node { times = record node.times { change = at } }
 pub record CanOverlay (room : Room) (new : Extent) : Type 0 where
   pub space : 2 ≤ room.spare
   pub some : 1 ≤ new.count
-  pub fits : new.offset + new.count ≤ 2 ^ 40
+  pub fits : new.offset + new.count ≤ longest_file
   pub byte : new.byte < room.laid.block_size
   pub block : new.block ≤ 2 ^ 62
 
@@ -60,7 +61,7 @@ can_overlay new (kinds.Link text) = ⊤
 abbrev pub CanChange : Change → Node → Type 0
 CanChange changes.Touch node = ⊤
 CanChange changes.Note node = ⊤
-CanChange (changes.Resize length) node = length ≤ 2 ^ 40
+CanChange (changes.Resize length) node = length ≤ longest_file
 CanChange (changes.Overlay new) node = can_overlay new node.kind
 
 -- a file lies as it did, and there may be memory for more of its extents; another node is as it was

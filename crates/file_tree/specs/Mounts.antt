@@ -3,6 +3,7 @@ use Rattle.std.specs.Prelude.{◌≡◌, ◌≢◌, ◌⊎◌, ℕ, ◌+◌, ◌
 use Rattle.std.specs.Prelude.{fold, length, Some}
 use Rattle.std.specs.List.{AllByRecursion}
 use Rattle.std.specs.FinMap as fin
+use Rattle.tape_types.specs.Bounds.{most_nodes}
 use Rattle.tape_types.specs.declared.cartridges.Extent.{Extent}
 use Rattle.tape_types.specs.declared.cartridges.Part.{Part}
 use Rattle.tape_types.specs.declared.cartridges.Part.TheVariants as parts
@@ -126,7 +127,7 @@ pub record AreTold (letters : Letters) (size : ℕ) (nodes : List told.Node) : T
   pub kinds : AllByRecursion (λ node. IsKind node.kind) nodes
   pub on_volume : (at bytes : ℕ) (raws : List RawExtent) → IsFileAt nodes at bytes raws
       → AllByRecursion (IsOnVolume letters size) raws
-  pub count : length nodes ≤ 65536
+  pub count : length nodes ≤ most_nodes
 
 -- the tree is that of the index
 pub record IsTreeOf (letters : Letters) (size : ℕ) (index : Index) (t : FileTree) : Type 0 where

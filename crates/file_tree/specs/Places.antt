@@ -1,6 +1,7 @@
 -- The places in which nodes are kept, and what may be done with them.
 use Rattle.std.specs.Prelude.{◌≡◌, ℕ, ◌+◌, ◌<◌, ◌≤◌, min, max, List, [], ◌∷◌, ◌++◌, length, take, Option, Some, None}
 use Rattle.std.specs.FinMap as fin
+use Rattle.tape_types.specs.Bounds.{most_nodes}
 use Rattle.plain_tree.specs.Seen.{CanLeave, CanMove}
 use Rattle.file_tree.specs.declared.nodes.Node.{Node}
 use Rattle.file_tree.specs.declared.nodes.Spot.{Spot}
@@ -35,7 +36,7 @@ pub record IsStored (spots : List (Option Spot)) (count : ℕ) (m : Nodes) : Typ
   pub shown : IsShown (held spots) m
   pub counted : count ≡ fin.len m
   pub filled : count ≡ used spots
-  pub few : length spots ≤ 65536
+  pub few : length spots ≤ most_nodes
 
 -- some path has this number
 abbrev pub IsThere : Nodes → ℕ → Type 0
@@ -53,7 +54,7 @@ pub record CanPut (t : Stored) (dir : ℕ) (name : List ℕ) : Type 0 where
   pub path : Path
   pub stands : number_at t.nodes path ≡ Some dir
   pub free : fin.get t.nodes (path ++ name ∷ []) ≡ None
-  pub space : fin.len t.nodes < 65536
+  pub space : fin.len t.nodes < most_nodes
   pub room : 1 ≤ t.spare
 
 -- a node may be put at this place, under a name into the directory with this number
@@ -69,14 +70,14 @@ pub record CanAppend (t : StoreView) (dir : ℕ) (name : List ℕ) : Type 0 wher
   pub path : Path
   pub stands : number_at t.nodes path ≡ Some dir
   pub free : fin.get t.nodes (path ++ name ∷ []) ≡ None
-  pub space : length t.spots < 65536
+  pub space : length t.spots < most_nodes
 
 -- a node may be stored, under a name in the directory with this number
 pub record CanStore (t : StoreView) (dir : ℕ) (name : List ℕ) : Type 0 where
   pub path : Path
   pub stands : number_at t.nodes path ≡ Some dir
   pub free : fin.get t.nodes (path ++ name ∷ []) ≡ None
-  pub space : used t.spots < 65536
+  pub space : used t.spots < most_nodes
   pub room : 1 ≤ t.spare
 
 -- the node with this number may be taken out, as in the plain tree

@@ -1,6 +1,7 @@
 -- How the extents that an index tells of a file come into it, one after the other.
-use Rattle.std.specs.Prelude.{◌≡◌, ◌⊎◌, ⊤, ℕ, ◌+◌, ◌<◌, ◌≤◌, ◌^◌, List, [], ◌∷◌, map}
+use Rattle.std.specs.Prelude.{◌≡◌, ◌⊎◌, ⊤, ℕ, ◌+◌, ◌<◌, ◌≤◌, List, [], ◌∷◌, map}
 use Rattle.std.specs.List.{AllByRecursion}
+use Rattle.tape_types.specs.Bounds.{longest_file}
 use Rattle.tape_types.specs.declared.cartridges.Extent.{Extent}
 use Rattle.index_model.specs.declared.nodes.RawExtent.{RawExtent}
 use Rattle.index_model.specs.Extents.{IsExtent}
@@ -43,7 +44,7 @@ pub record IsPlaced (letters : Letters) (size length : ℕ) (front rest : List R
 -- all extents that are told of a file can come into it
 pub record AreRaws (letters : Letters) (size length : ℕ) (raws : List RawExtent) : Type 0 where
   pub some_block : 1 ≤ size
-  pub short : length ≤ 2 ^ 40
+  pub short : length ≤ longest_file
   pub each : AllByRecursion (IsRaw letters size) raws
   pub apart : AllApart raws
 

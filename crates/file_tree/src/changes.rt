@@ -1,4 +1,5 @@
-ghost use Rattle.std.specs.Prelude.{◌≡◌, ◌^◌, ◌≤◌, OnOk};
+ghost use Rattle.std.specs.Prelude.{◌≡◌, ◌≤◌, OnOk};
+ghost use Rattle.tape_types.specs.Bounds.{longest_file};
 ghost use Rattle.extent_map.specs.Laid.{IsLaid, resized, overlaid};
 ghost use Rattle.file_tree.specs.Changes.{touched, IsChangedBy, CanChange, IsRelaid, IsRoomier, HasRoom};
 
@@ -39,7 +40,7 @@ fn touch_node(node: &mut Node, at: Moment)
 }
 
 fn resize_node(node: &mut Node, length: u64, at: Moment)
-    requires { length ≤ 2 ^ 40 }
+    requires { length ≤ longest_file }
     ensures changed { IsRelaid (λ laid. resized laid length) at node.old node.new }
     ensures number { node.new.number ≡ node.old.number }
 {

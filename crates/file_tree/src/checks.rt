@@ -14,11 +14,7 @@ use crate::ready::Ready;
 use crate::tree::Tree;
 use plain_tree::{Call, Refusal, Sort};
 use std::alloc::Global;
-use tape_types::{NameErr, NoMemory, Text, check_name};
-
-const MOST_NODES: u32 = 65536;
-
-const LONGEST: u64 = 1 << 40;
+use tape_types::{LONGEST_FILE, MOST_NODES, NameErr, NoMemory, Text, check_name};
 
 const LAST_UID: u64 = 1 << 62;
 
@@ -132,7 +128,7 @@ fn long_file_at(tree: &Tree, path: &[Text], offset: u64, count: u64) -> Result<u
 {
     match file_at(tree, path) {
         Ok(number) => {
-            if offset > LONGEST || count > LONGEST - offset {
+            if offset > LONGEST_FILE || count > LONGEST_FILE - offset {
                 return Err(Refusal::TooLong);
             }
             Ok(number)

@@ -1,5 +1,6 @@
 ghost use Rattle.std.specs.Prelude.{◌≡◌, ◌-◌, ◌<◌, ◌≤◌, ◌^◌, List, [], ◌∷◌, ◌++◌, OnOk, IfOk};
 ghost use Rattle.std.specs.List.{AllByRecursion};
+ghost use Rattle.tape_types.specs.Bounds.{longest_file};
 ghost use Rattle.index_model.specs.declared.nodes.RawExtent.{RawExtent};
 ghost use Rattle.extent_map.specs.Laid.{IsLaid, front_of};
 ghost use Rattle.file_tree.specs.Mounts.{extent_of as told_extent, laid_of, part_of as told_part};
@@ -60,7 +61,7 @@ fn put_raw(
     length: u64,
     letters: Letters,
 ) -> Result<(), NoMemory>
-    requires short { length ≤ 2 ^ 40 }
+    requires short { length ≤ longest_file }
     requires size { extents.old.laid.block_size < 2 ^ 32 }
     requires raw { IsRaw letters extents.old.laid.block_size raw }
     ensures { OnOk result ((front rest : List RawExtent)

@@ -1,4 +1,5 @@
 ghost use Rattle.std.specs.Prelude.{◌≡◌, ℕ, ◌<◌, ◌≤◌, map, length, IfOk};
+ghost use Rattle.tape_types.specs.Bounds.{most_nodes};
 ghost use Rattle.index_model.specs.Places.{IsAt};
 ghost use Rattle.file_tree.specs.Told.{letter_of as told_letter, raw_of as told_raw, told_kind_of, told_node_of};
 ghost use Rattle.file_tree.specs.Told.{AreApart};
@@ -12,7 +13,7 @@ use tape_types::{Extent, List, NoMemory, Part, Text};
 
 /// At each number the place that it has in the list. All are below the count.
 pub fn places_of(alloc: Global, numbers: &[u32], count: usize) -> Result<Vec<u32>, NoMemory>
-    requires few { length numbers.now ≤ 65536 }
+    requires few { length numbers.now ≤ most_nodes }
     requires below { (place number : ℕ) → IsAt numbers.now place number → number < count }
     requires apart { AreApart numbers.now }
     ensures { IfOk result (λ places. (place number : ℕ) → IsAt numbers.now place number

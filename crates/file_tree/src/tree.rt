@@ -1,4 +1,5 @@
 ghost use Rattle.std.specs.Prelude.{◌≡◌, ℕ, ◌≤◌, List, Some};
+ghost use Rattle.tape_types.specs.Bounds.{longest_file};
 ghost use Rattle.extent_map.specs.Laid.{Room};
 ghost use Rattle.plain_tree.specs.Paths.{Path};
 ghost use Rattle.file_tree.specs.Tree.{HasExtents, number_at};
@@ -74,7 +75,7 @@ impl Model for Tree {
 }
 
 impl Tree {
-    ghost use Rattle.std.specs.Prelude.{◌≡◌, ◌≢◌, ℕ, ◌+◌, ◌^◌, ◌≤◌, ◌==◌, if◌then◌else◌, nat_lt, length, List, []};
+    ghost use Rattle.std.specs.Prelude.{◌≡◌, ◌≢◌, ℕ, ◌+◌, ◌≤◌, ◌==◌, if◌then◌else◌, nat_lt, length, List, []};
     ghost use Rattle.std.specs.Prelude.{◌∷◌, ◌++◌, Some, OnOk, IfOk};
     ghost use Rattle.std.specs.FinMap as fin;
     ghost use Rattle.extent_map.specs.Laid.{Laid, Room, overlaid, resized};
@@ -362,7 +363,7 @@ impl Tree {
     /// Cuts a file, or makes it longer by bytes that are 0. The length that it has changes nothing. Takes no memory.
     pub fn set_length(&mut self, file: u32, length: u64, at: Moment)
         requires file { (room : Room) × HasExtents self.old.nodes file room }
-        requires fits { length ≤ 2 ^ 40 }
+        requires fits { length ≤ longest_file }
         ensures plain { IsTruncated file length at self.old self.new }
         ensures numbers { NumbersCome (λ p. p) self.old self.new }
         ensures extents { (laid : Laid) → HasLaid self.old.nodes file laid

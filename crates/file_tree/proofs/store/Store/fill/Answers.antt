@@ -1,5 +1,6 @@
 use Rattle.std.proofs.Common.{◌≡◌, ◌+◌, ◌<◌, None, ap, ◌∙◌, arith, length, [], ◌∷◌, ◌++◌, rules}
 use Rattle.std.specs.FinMap as fin
+use Rattle.tape_types.specs.Bounds.{most_nodes}
 use Rattle.file_tree.specs.declared.nodes.Node.{Node}
 use Rattle.file_tree.specs.Seen.{held}
 use Rattle.file_tree.proofs.ShownLemmas.{one_number}
@@ -28,7 +29,7 @@ invariant_of-self-inside c =
     let now = fin.insert m (c.requires.path ++ c.args.name ∷ []) node in
     let same = spots_now c.self.inside c.args.self.now c.self.view_is in
     let empty : held spots place ≡ None = ap (λ l. held l place) same ∙ c.requires.empty in
-    let fits : place < 65536 = omega (arith, s.few, c.requires.within, ap length same) in
+    let fits : place < most_nodes = omega (arith, s.few, c.requires.within, ap length same) in
     let t = stored_put spots next c.self.inside.count m s c.requires.path c.args.name c.args.dir node place c.requires.stands c.requires.free (ap (λ (n : Node). n.number) c.numbered.ensures) empty fits c.fill_spot.ensures.set c.fill_spot.ensures.filled in
     (seen next now t.shown, tt)
 
@@ -43,7 +44,7 @@ invariant_of-self c =
     let now = fin.insert m (c.requires.path ++ c.args.name ∷ []) node in
     let same = spots_now c.self.inside c.args.self.now c.self.view_is in
     let empty : held spots place ≡ None = ap (λ l. held l place) same ∙ c.requires.empty in
-    let fits : place < 65536 = omega (arith, s.few, c.requires.within, ap length same) in
+    let fits : place < most_nodes = omega (arith, s.few, c.requires.within, ap length same) in
     let t = stored_put spots next c.self.inside.count m s c.requires.path c.args.name c.args.dir node place c.requires.stands c.requires.free (ap (λ (n : Node). n.number) c.numbered.ensures) empty fits c.fill_spot.ensures.set c.fill_spot.ensures.filled in
     still next (c.self.inside.count + 1) now _ (search rules) t
 
@@ -58,7 +59,7 @@ returns-clause-put c path stood =
     let now = fin.insert m (c.requires.path ++ c.args.name ∷ []) node in
     let same = spots_now c.self.inside c.args.self.now c.self.view_is in
     let empty : held spots place ≡ None = ap (λ l. held l place) same ∙ c.requires.empty in
-    let fits : place < 65536 = omega (arith, s.few, c.requires.within, ap length same) in
+    let fits : place < most_nodes = omega (arith, s.few, c.requires.within, ap length same) in
     let t = stored_put spots next c.self.inside.count m s c.requires.path c.args.name c.args.dir node place c.requires.stands c.requires.free (ap (λ (n : Node). n.number) c.numbered.ensures) empty fits c.fill_spot.ensures.set c.fill_spot.ensures.filled in
     sole next (c.self.inside.count + 1) now _ (search rules) t
     ∙ ap (λ p. fin.insert m (p ++ c.args.name ∷ []) node) (one_number (held spots) m s.shown c.requires.path path c.args.dir c.requires.stands stood)
