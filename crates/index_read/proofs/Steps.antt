@@ -1,6 +1,7 @@
 -- One piece more.
 use Rattle.std.proofs.Common.{◌≡◌, ℕ, zero, suc, ◌≤◌, List, [], ◌∷◌, ◌++◌, length, Bool, true, false, Result, Ok, Err, refl, sym, ap, subst, ◌∙◌, arith}
 use Rattle.std.proofs.lemmas.List.{length-append}
+use Rattle.tape_types.specs.Bounds.{most_nodes}
 use Rattle.doc_elements.specs.declared.errors.PieceErr.{PieceErr}
 use Rattle.doc_elements.specs.declared.schema.Place.{Place}
 use Rattle.doc_elements.specs.declared.schema.Place.TheVariants as place
@@ -93,10 +94,10 @@ module _ (text : List ℕ) (inside at next : ℕ) (ps : List Piece) (o : Opened)
       subst (λ (x : State). Tell (ps ++ p ∷ []) outermost blank (levels_of (opened_after p o os s)) x) (sym told)
       (subst (λ (ls : List Level). Tell (ps ++ p ∷ []) outermost blank ls (piece_told p (level_of o) s)) levels (tell_more ps outermost blank (level_of o) (levels_of os) s p tells))
 
-pub few_next : (p : code_piece.Piece) (l : Level) (s t : State) → HasRoom p (length s.nodes) → length s.nodes ≤ 65536 → t ≡ piece_told (piece_of p) l s → length t.nodes ≤ 65536
+pub few_next : (p : code_piece.Piece) (l : Level) (s t : State) → HasRoom p (length s.nodes) → length s.nodes ≤ most_nodes → t ≡ piece_told (piece_of p) l s → length t.nodes ≤ most_nodes
 few_next p l s t room few told =
     let e : counted (piece_of p) (length s.nodes) ≡ length t.nodes = told_count (piece_of p) l s ∙ ap (λ (x : State). length x.nodes) (sym told) in
-    subst (λ (n : ℕ). n ≤ 65536) e (few_counted p (length s.nodes) room few)
+    subst (λ (n : ℕ). n ≤ most_nodes) e (few_counted p (length s.nodes) room few)
 
 -- ---- the end
 

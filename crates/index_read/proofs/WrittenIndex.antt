@@ -3,6 +3,7 @@ use Rattle.std.proofs.Common.{◌≡◌, ℕ, suc, ◌+◌, ◌≤◌, ◌<◌, 
 use Rattle.std.specs.Prelude.{⊤}
 use Rattle.std.specs.List.{AllByRecursion}
 use Rattle.std.proofs.lemmas.List.{length-map}
+use Rattle.tape_types.specs.Bounds.{most_nodes}
 use Rattle.doc_fields.specs.declared.tags.Tag.TheVariants.{LtfsIndex}
 use Rattle.doc_fields.specs.Tags.{spelled}
 use Rattle.index_model.specs.declared.indexes.Index.{Index}
@@ -124,7 +125,7 @@ by_nodes index v valid short volume (root ∷ others) same e =
 
 -- ---- the document
 
-spelled_by : (text : List ℕ) (v : IndexValue) → text ≡ framed place.Index (texts_of (items_of v)) → GoodIndex v → length (all_nodes v) ≤ 65536 → Spells text v
+spelled_by : (text : List ℕ) (v : IndexValue) → text ≡ framed place.Index (texts_of (items_of v)) → GoodIndex v → length (all_nodes v) ≤ most_nodes → Spells text v
 spelled_by text v is good few =
     let body = texts_of (items_of v) in
     let items = all_good v good in
@@ -144,7 +145,7 @@ pub document_back : (index : Index) (v : IndexValue) → IsValid index → Tells
 document_back index v valid tells short =
     let count = valid.formed.count in
     let same : length (all_nodes v) ≡ length index.nodes = ap length (sym tells.nodes) ∙ length-map index.nodes value_of in
-    let few : length (all_nodes v) ≤ 65536 = omega arith in
+    let few : length (all_nodes v) ≤ most_nodes = omega arith in
     record {
       value = v;
       spells = spelled_by (canonical v) v (canonical_is v) (by_nodes index v valid short tells.volume index.nodes refl tells.nodes) few;

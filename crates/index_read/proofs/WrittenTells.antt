@@ -1,6 +1,7 @@
 -- The elements of an index that are written tell that index.
 use Rattle.std.proofs.Common.{◌≡◌, ℕ, ◌+◌, ◌≤◌, List, [], ◌∷◌, length, Option, Some, None, inl, inr, refl, ap, arith, length-append}
 use Rattle.std.specs.Option.{option_map}
+use Rattle.tape_types.specs.Bounds.{most_nodes}
 use Rattle.doc_fields.specs.declared.tags.Tag.TheVariants.{Creator, Comment, VolumeUuid, GenerationNumber, UpdateTime, AllowPolicyUpdate, Size, VolumeLockState, HighestFileUid, Symlink}
 use Rattle.doc_fields.specs.declared.values.LockState.{LockState}
 use Rattle.index_model.specs.declared.indexes.Policy.{Policy}
@@ -224,7 +225,7 @@ volume_count v root =
     let comment = maybe_count comment_item v.comment (item (plain VolumeUuid (uuid v.uuid)) (item (plain GenerationNumber (number v.generation)) (item (plain UpdateTime (time v.updated)) (item (nested place.Here (spot_items v.here)) b)))) (λ t. refl) in
     omega arith
 
-pub all_count : (v : IndexValue) → length (all_nodes v) ≤ 65536 → node_count (items_of v) ≤ 65536
+pub all_count : (v : IndexValue) → length (all_nodes v) ≤ most_nodes → node_count (items_of v) ≤ most_nodes
 all_count v few =
     let volume = volume_count v.volume (directory_items v.root (nodes_items v.inside)) in
     let root = directory_count v.root (nodes_items v.inside) in

@@ -2,6 +2,7 @@
 use Rattle.std.proofs.Common.{◌≡◌, ℕ, ◌^◌, ◌<◌, ◌≤◌, true, false, nat_le, nat_lt, List, ◌∷◌, length, get_or, IsUtf8, refl, arith}
 use Rattle.std.specs.Str.{chars}
 use Rattle.std.proofs.lemmas.Bool.Decides.{nat_tests}
+use Rattle.tape_types.specs.Bounds.{longest_name}
 use Rattle.doc_fields.specs.declared.tags.Tag.{Tag}
 use Rattle.doc_fields.specs.declared.tags.Tag.TheVariants.{Comment, Name, Symlink}
 use Rattle.doc_fields.specs.declared.values.LockState.{LockState}
@@ -29,7 +30,7 @@ target_back name u = record { again = λ text from start rest a e. name_in_back 
 
 volume_name_is : (name : List ℕ) → IsVolumeName name → is_volume_name name ≡ true
 volume_name_is name h =
-    let short : nat_le (length (chars name)) 255 ≡ true = let s = h.short in grind (arith, nat_tests) in
+    let short : nat_le (length (chars name)) longest_name ≡ true = let s = h.short in grind (arith, nat_tests) in
     rw (short, h.no_slash, h.no_nul) refl
 
 pub volume_name_back : (name : List ℕ) → IsVolumeName name → ReadsBack form.VolumeName Name (words name)

@@ -1,6 +1,7 @@
 //! Pieces one after the other.
 
 ghost use Rattle.std.specs.Prelude.{◌≡◌, ◌≤◌, ◌<◌, ℕ, List, true, length, OnOk, IfOk, IfErr};
+ghost use Rattle.tape_types.specs.Bounds.{most_nodes};
 ghost use Rattle.doc_elements.specs.Schema.{is_node};
 ghost use Rattle.doc_elements.specs.declared.schema.Place.TheVariants as place;
 ghost use Rattle.doc_elements.specs.Answers.{HasRoom, UnlessMemory, piece_of};
@@ -87,7 +88,7 @@ fn with_child(level: Level, tag: Tag) -> Level
 
 /// Takes in what a piece tells, which stands in an open parent.
 fn tell(alloc: Global, draft: &mut Draft, level: Level, piece: Piece) -> Result<(), NoMemory>
-    requires { length draft.old.nodes.items ≤ 65536 }
+    requires { length draft.old.nodes.items ≤ most_nodes }
     ensures { OnOk result (state_of draft.new ≡ piece_told (piece_of piece) (level_in level) (state_of draft.old)) }
 {
     match piece {

@@ -1,4 +1,5 @@
 use Rattle.std.proofs.Common.{ℕ, List, [], ◌∷◌, ◌≡◌, ◌≤◌, ◌-◌, ◌+◌, length}
+use Rattle.tape_types.specs.Bounds.{most_nodes}
 use Rattle.doc_elements.specs.declared.schema.Place.TheVariants as place
 use Rattle.doc_elements.specs.Pieces.{Piece}
 use Rattle.doc_elements.specs.Documents.{Reaches, fresh}
@@ -10,7 +11,7 @@ use Rattle.index_read.proofs.walking.walk.Given as goal
 
 pub record Kept (text : List ℕ) (inside at : ℕ) (top : code_level.Level) (outer : List code_level.Level) (s : State) : Type 0 where
   pub within : at ≤ length text
-  pub few : length s.nodes ≤ 65536
+  pub few : length s.nodes ≤ most_nodes
   pub ps : List Piece
   pub o : Opened
   pub os : List Opened
