@@ -7,6 +7,7 @@ use Rattle.tape_types.specs.declared.cartridges.Twin.{Twin}
 use Rattle.tape_types.specs.declared.moments.Moment.{Moment}
 use Rattle.plain_tree.specs.declared.calls.Fate.TheVariants as fates
 use Rattle.plain_tree.specs.declared.calls.Placed.{Placed}
+use Rattle.session_script.specs.Bounds.{most_sessions}
 use Rattle.session_script.specs.declared.logs.Event.TheVariants.{Drains, Rests, Synced, Syncs, Wants, Worked}
 use Rattle.session_script.specs.declared.logs.Reply.{Reply}
 use Rattle.event_laws.specs.Rows.{dp, queues, twin}
@@ -204,7 +205,7 @@ served_is at = record {
     untold = λ e. e;
     cached = none_yet;
   };
-  sessions = one_only (λ (l : ScriptLine). (1 ≤ l.who) × (l.who ≤ 16)) (record { who = 1; call = write [] }) (omega arith, omega arith);
+  sessions = one_only (λ (l : ScriptLine). (1 ≤ l.who) × (l.who ≤ most_sessions)) (record { who = 1; call = write [] }) (omega arith, omega arith);
   count = refl;
   done = λ k p e none. absurd (none_at k none);
   apart = λ k. refl;

@@ -7,6 +7,7 @@ use Rattle.std.proofs.lemmas.List.Elements.{All-head, All-push, All-tail}
 use Rattle.std.proofs.lemmas.List.Folds.{list_any-append}
 use Rattle.tape_types.specs.declared.moments.Moment.{Moment}
 use Rattle.plain_tree.specs.declared.calls.Placed.{Placed}
+use Rattle.session_script.specs.Bounds.{most_sessions}
 use Rattle.session_script.specs.Grammar.{calls_of}
 use Rattle.session_script.specs.Sessions.{HasSessions, greatest_session}
 use Rattle.session_script.specs.declared.logs.Ack.{Ack}
@@ -61,14 +62,14 @@ greatest_from a (x ∷ xs) = omega (arith, greatest_from (max a x) xs)
 
 session_from : (a who : ℕ) (script : List ScriptLine) → HasSessions script → 0 < length (calls_of script who) → (1 ≤ who) × (who ≤ fold max a (map (λ (l : ScriptLine). l.who) script))
 session_from a who [] every some = absurd (omega (arith, some))
-session_from a who (line ∷ script) every some = by (line.who == who) refl some (session_from (max a line.who) who script (All-tail (λ (l : ScriptLine). (1 ≤ l.who) × (l.who ≤ 16)) line script every))
+session_from a who (line ∷ script) every some = by (line.who == who) refl some (session_from (max a line.who) who script (All-tail (λ (l : ScriptLine). (1 ≤ l.who) × (l.who ≤ most_sessions)) line script every))
   where
     by : (b : Bool) → (line.who == who) ≡ b → 0 < length (map (λ (l : ScriptLine). l.call) (cond b (line ∷ filter (λ (l : ScriptLine). l.who == who) script) (filter (λ (l : ScriptLine). l.who == who) script)))
         → (0 < length (calls_of script who) → (1 ≤ who) × (who ≤ fold max (max a line.who) (map (λ (l : ScriptLine). l.who) script)))
         → (1 ≤ who) × (who ≤ fold max (max a line.who) (map (λ (l : ScriptLine). l.who) script))
     by true is h more =
         let same = eqb-true line.who who is in
-        let first = All-head (λ (l : ScriptLine). (1 ≤ l.who) × (l.who ≤ 16)) line script every in
+        let first = All-head (λ (l : ScriptLine). (1 ≤ l.who) × (l.who ≤ most_sessions)) line script every in
         (omega (arith, same, first.0), omega (arith, same, greatest_from (max a line.who) (map (λ (l : ScriptLine). l.who) script)))
     by false is h more = more h
 
