@@ -1,6 +1,7 @@
 // The drive over a folder, as far as it keeps count.
-ghost use Rattle.std.specs.Prelude.{◌≡◌, ◌≤◌, ◌<◌, ◌^◌, ◌+◌, ◌-◌, length, vec_capacity, None, Some, Ok, IfOk, OnOk};
+ghost use Rattle.std.specs.Prelude.{◌≡◌, ◌≤◌, ◌<◌, ◌+◌, ◌-◌, length, vec_capacity, None, Some, Ok, IfOk, OnOk};
 ghost use Rattle.std.specs.Prelude.{OnErr};
+ghost use Rattle.tape_types.specs.Bounds.{most_positions};
 ghost use Rattle.tape_types.specs.declared.cartridges.Limits.{Limits};
 ghost use Rattle.tape_types.specs.declared.cartridges.Place.{Place};
 ghost use Rattle.tape_types.specs.Counts.{HasCause};
@@ -191,7 +192,7 @@ fn capacity_of(part: Part) -> u64
 }
 
 fn step(at: Place) -> Place
-    requires { at.pos < 2 ^ 40 }
+    requires { at.pos < most_positions }
     ensures { result ≡ next at }
 {
     Place {

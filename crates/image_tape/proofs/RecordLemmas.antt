@@ -1,10 +1,11 @@
 -- A record is found where it begins, and what stands at a place.
-use Rattle.std.proofs.Common.{◌≡◌, ℕ, ◌+◌, ◌*◌, ◌^◌, ◌<◌, ◌≤◌, Bool, true, false, List, [], ◌∷◌, ◌++◌, take, drop, length, get_or, Some, None, refl, sym, ap, ◌∙◌, subst, arith}
+use Rattle.std.proofs.Common.{◌≡◌, ℕ, ◌+◌, ◌*◌, ◌<◌, ◌≤◌, Bool, true, false, List, [], ◌∷◌, ◌++◌, take, drop, length, get_or, Some, None, refl, sym, ap, ◌∙◌, subst, arith}
 use Rattle.std.specs.Prelude.{slice_get}
 use Rattle.std.specs.List.{All, flat_map}
 use Rattle.std.proofs.lemmas.List.{drop_at, drop-drop, drop-take, drop_more, get_or_append_left, get_or_at, length-append, take-take, take_at}
 use Rattle.std.proofs.lemmas.List.Elements.{All-head, All-tail, All-drop}
 use Rattle.std.proofs.lemmas.Option.{slice_get-get_or, slice_get_past}
+use Rattle.tape_types.specs.Bounds.{most_positions}
 use Rattle.tape_types.specs.Cartridges.{IsItem, items_of}
 use Rattle.tape_types.specs.declared.cartridges.Cartridge.{Cartridge}
 use Rattle.tape_types.specs.declared.cartridges.Item.{Item}
@@ -43,10 +44,10 @@ records_size (x ∷ xs) each =
     omega (arith, item_size x (All-head IsItem x xs each), records_size xs (All-tail IsItem x xs each), length-append (record_bytes x) (flat_map record_bytes xs))
 
 -- so they end below 2^62
-pub end_size : (h : Half) (file : List ℕ) (items : List Item) → AreRecords h file items → h.count ≤ 2 ^ 40 → h.end ≤ 2 ^ 40 * 1048581
+pub end_size : (h : Half) (file : List ℕ) (items : List Item) → AreRecords h file items → h.count ≤ most_positions → h.end ≤ most_positions * 1048581
 end_size h file items are most = omega (arith, all_bytes h file items are, records_size items are.each, are.count, most)
 
-has_record : (h : Half) (file : List ℕ) (items : List Item) (n : ℕ) → AreRecords h file items → h.count ≤ 2 ^ 40 → n < length items
+has_record : (h : Half) (file : List ℕ) (items : List Item) (n : ℕ) → AreRecords h file items → h.count ≤ most_positions → n < length items
     → HasRecord (length (flat_map record_bytes (take n items))) (get_or items n item.Torn) file
 has_record h file items n are most lt =
     let x = get_or items n item.Torn in
@@ -74,7 +75,7 @@ has_record h file items n are most lt =
     }
 
 -- the record of a position begins at its offset
-pub record_at : (h : Half) (offsets file : List ℕ) (items : List Item) (n : ℕ) → AreRecords h file items → offsets ≡ offsets_from 0 items → h.count ≤ 2 ^ 40
+pub record_at : (h : Half) (offsets file : List ℕ) (items : List Item) (n : ℕ) → AreRecords h file items → offsets ≡ offsets_from 0 items → h.count ≤ most_positions
     → n < h.count → HasRecord (get_or offsets n 0) (get_or items n item.Torn) file
 record_at h offsets file items n are is most lt =
     let inside_all : n < length items = omega (arith, lt, are.count) in

@@ -2,6 +2,7 @@
 use Rattle.std.proofs.Common.{◌≡◌, ℕ, ◌+◌, ◌-◌, ◌*◌, ◌^◌, ◌<◌, ◌≤◌, ◌⊎◌, inl, inr, min, Bool, true, false, List, [], ◌∷◌, ◌++◌, take, length, get_or, Option, Some, Result, Ok, Err, OnOk, refl, sym, ap, ◌∙◌, subst, arith}
 use Rattle.std.specs.List.{flat_map}
 use Rattle.std.proofs.lemmas.List.{append-nil, length-append, length-take-le, take-append-le, take-take, take_all, take_at}
+use Rattle.tape_types.specs.Bounds.{most_positions}
 use Rattle.tape_types.specs.Cartridges.{IsItem, IsLimits, capacity, items_of}
 use Rattle.tape_types.specs.declared.cartridges.Cartridge.{Cartridge}
 use Rattle.tape_types.specs.declared.cartridges.Item.{Item}
@@ -107,7 +108,7 @@ records_count Ip st = st.in_ip.records.count
 records_count Dp st = st.in_dp.records.count
 
 pub end_small : (part : Part) {limits : Limits} {said reads : SlotValue} {room : Offsets} {leaves : Files → Type 0} {d : Files} (st : Stands limits said reads room leaves d)
-    → (half_of part reads).count ≤ 2 ^ 40 → (half_of part reads).end ≤ 2 ^ 40 * 1048581
+    → (half_of part reads).count ≤ most_positions → (half_of part reads).end ≤ most_positions * 1048581
 end_small Ip {reads = reads} {d = d} st most = end_size reads.ip d.ip st.ip st.in_ip.records most
 end_small Dp {reads = reads} {d = d} st most = end_size reads.dp d.dp st.dp st.in_dp.records most
 

@@ -2,6 +2,7 @@
 use Rattle.std.proofs.Common.{◌≡◌, ℕ, ◌+◌, ◌-◌, ◌^◌, ◌<◌, ◌≤◌, min, Bool, List, [], ◌++◌, length, get_or, Option, Some, None, Result, Ok, Err, IfOk, IfSome, sym, ap, ◌∙◌, subst, arith}
 use Rattle.std.specs.Prelude.{slice_get}
 use Rattle.std.proofs.lemmas.Option.{same_Some}
+use Rattle.tape_types.specs.Bounds.{most_positions}
 use Rattle.tape_types.specs.Cartridges.{capacity}
 use Rattle.tape_types.specs.declared.cartridges.Cartridge.{Cartridge}
 use Rattle.tape_types.specs.declared.cartridges.Item.{Item}
@@ -90,12 +91,12 @@ fits_of : (part : Part) {D : Type 0} (v : View D) → Holds v.room v.reads
 fits_of Ip v holds = holds.fits_ip
 fits_of Dp v holds = holds.fits_dp
 
-pub cap_of : (part : Part) {D : Type 0} (disk : Ghosts D) (v : View D) → IsKept disk v → capacity part v.room.limits ≤ 2 ^ 40
+pub cap_of : (part : Part) {D : Type 0} (disk : Ghosts D) (v : View D) → IsKept disk v → capacity part v.room.limits ≤ most_positions
 cap_of Ip disk v kept = kept.limits.ip_most
 cap_of Dp disk v kept = kept.limits.dp_most
 
 module _ {D : Type 0} (disk : Ghosts D) (v : View D) (kept : IsKept disk v) where
-  pub small_of : (part : Part) → (half_of part v.reads).count ≤ 2 ^ 40
+  pub small_of : (part : Part) → (half_of part v.reads).count ≤ most_positions
   small_of part = omega (arith, fits_of part v kept.holds, cap_of part disk v kept)
 
   stands_of : (d : Files) → disk.held v.slots.disk ≡ Some d → Stands v.room.limits v.base v.reads v.room (disk.leaves v.slots.disk) d
@@ -155,5 +156,5 @@ abbrev pub some_head : Head → Option Head
 some_head h = Some h
 
 -- a position below the capacity is small
-pub room_small : {D : Type 0} (disk : Ghosts D) (at : Place) (v w : View D) → v ≡ w → IsKept disk v → at.pos < capacity at.part w.room.limits → at.pos < 2 ^ 40
+pub room_small : {D : Type 0} (disk : Ghosts D) (at : Place) (v w : View D) → v ≡ w → IsKept disk v → at.pos < capacity at.part w.room.limits → at.pos < most_positions
 room_small {D = D} disk at v w is kept room = omega (arith, room, cap_of at.part disk v kept, ap (λ (x : View D). capacity at.part x.room.limits) is)

@@ -1,5 +1,6 @@
 // The commands of the tape.
-ghost use Rattle.std.specs.Prelude.{◌≡◌, ◌≤◌, ◌<◌, ◌++◌, ◌^◌, length, vec_capacity, IfOk, IfSome, OnOk, Some};
+ghost use Rattle.std.specs.Prelude.{◌≡◌, ◌≤◌, ◌<◌, ◌++◌, length, vec_capacity, IfOk, IfSome, OnOk, Some};
+ghost use Rattle.tape_types.specs.Bounds.{most_positions};
 ghost use Rattle.tape_types.specs.declared.cartridges.Item.{Item};
 ghost use Rattle.image_format.specs.Records.{IsHead, head_bytes, record_bytes};
 ghost use Rattle.tape_types.specs.declared.cartridges.Cartridge.{Cartridge};
@@ -186,7 +187,7 @@ impl<B: ByteDisk> ImageTape<B> {
 
 // One position further.
 fn next(at: Place) -> Place
-    requires { at.pos < 2 ^ 40 }
+    requires { at.pos < most_positions }
     ensures { result ≡ next at }
 {
     Place {
