@@ -1,5 +1,5 @@
 -- The indexes of an empty volume are valid ones.
-use Rattle.std.proofs.Common.{ℕ, zero, suc, ◌≡◌, ◌≤◌, ◌<◌, ◌^◌, ◌∙◌, ◌&&◌, List, [], ◌∷◌, length, Bool, true, false}
+use Rattle.std.proofs.Common.{ℕ, zero, suc, ◌≡◌, ◌≤◌, ◌<◌, ◌∙◌, ◌&&◌, List, [], ◌∷◌, length, Bool, true, false}
 use Rattle.std.proofs.Common.{Option, Some, None, refl, sym, ap, subst, arith, nat_le, not, IsAscii, All, IfSome}
 use Rattle.std.specs.List.{list_all}
 use Rattle.std.proofs.lemmas.Bool.{and_from, and_parts}
@@ -22,6 +22,7 @@ use Rattle.index_model.specs.declared.indexes.Policy.{Policy}
 use Rattle.index_model.specs.declared.nodes.Kind.TheVariants as kinds
 use Rattle.index_model.specs.declared.nodes.Node.{Node}
 use Rattle.index_model.specs.declared.nodes.RawExtent.{RawExtent}
+use Rattle.tape_types.specs.Bounds.{longest_file, longest_name}
 use Rattle.tape_types.specs.Names.{has_byte}
 use Rattle.tape_types.specs.declared.cartridges.Part.{Part}
 use Rattle.tape_types.specs.declared.cartridges.Part.TheVariants.{Ip, Dp}
@@ -71,11 +72,12 @@ not_so false e = refl
 
 name_fits : (name : List ℕ) → is_volume_name name ≡ true → IsUtf8 name → IsVolumeName name
 name_fits name is utf8 =
-    let outer = and_parts (nat_le (length (chars name)) 255 && not (has_byte 47 name)) (not (has_byte 0 name)) is in
-    let inner = and_parts (nat_le (length (chars name)) 255) (not (has_byte 47 name)) outer.0 in
+    let outer = and_parts (nat_le (length (chars name)) longest_name && not (has_byte 47 name))
+        (not (has_byte 0 name)) is in
+    let inner = and_parts (nat_le (length (chars name)) longest_name) (not (has_byte 47 name)) outer.0 in
     record {
       utf8 = utf8;
-      short = true_le (length (chars name)) 255 inner.0;
+      short = true_le (length (chars name)) longest_name inner.0;
       no_slash = not_so (has_byte 47 name) inner.1;
       no_nul = not_so (has_byte 0 name) outer.1;
     }
@@ -83,9 +85,9 @@ name_fits name is utf8 =
 policy_fits : (policy : Option Policy) → is_policy policy ≡ true → HasTexts policy → IfSome policy IsPolicy
 policy_fits None is texts = tt
 policy_fits (Some p) is texts =
-    let outer = and_parts (nat_le p.size (2 ^ 40) && nat_le (length p.names) 64) (list_all is_pattern p.names) is in
-    let inner = and_parts (nat_le p.size (2 ^ 40)) (nat_le (length p.names) 64) outer.0 in
-    let most : p.size ≤ 2 ^ 40 = true_le p.size (2 ^ 40) inner.0 in
+    let outer = and_parts (nat_le p.size longest_file && nat_le (length p.names) 64) (list_all is_pattern p.names) is in
+    let inner = and_parts (nat_le p.size longest_file) (nat_le (length p.names) 64) outer.0 in
+    let most : p.size ≤ longest_file = true_le p.size longest_file inner.0 in
     record { size = omega (arith, most); names = texts }
 
 spot_fits : (part : Part) → IsSpot (first_spot part)

@@ -6,6 +6,7 @@ use Rattle.std.specs.List.{AllByRecursion, list_all}
 use Rattle.std.specs.Str.{IsUtf8, chars}
 use Rattle.doc_fields.specs.Texts.{is_allowed}
 use Rattle.index_model.specs.declared.indexes.Policy.{Policy}
+use Rattle.tape_types.specs.Bounds.{longest_file, longest_name}
 use Rattle.tape_types.specs.Names.{has_byte}
 use Rattle.format_volume.specs.declared.requests.FormatSpec.{FormatSpec}
 use Rattle.format_volume.specs.declared.requests.Field.{Field}
@@ -17,16 +18,17 @@ is_capital byte = is_in_range 65 90 byte || is_in_range 48 57 byte
 
 -- up to 255 characters without a slash and a NUL
 abbrev pub is_volume_name : List ℕ → Bool
-is_volume_name name = nat_le (length (chars name)) 255 && not (has_byte 47 name) && not (has_byte 0 name)
+is_volume_name name = nat_le (length (chars name)) longest_name && not (has_byte 47 name) && not (has_byte 0 name)
 
 -- 1 to 255 characters that a document may have
 abbrev pub is_pattern : List ℕ → Bool
-is_pattern text = nat_le 1 (length text) && nat_le (length (chars text)) 255 && list_all is_allowed (chars text)
+is_pattern text = nat_le 1 (length text) && nat_le (length (chars text)) longest_name
+    && list_all is_allowed (chars text)
 
 -- up to 64 patterns, for files of up to 2^40 bytes
 abbrev pub is_policy : Option Policy → Bool
 is_policy None = true
-is_policy (Some p) = nat_le p.size (2 ^ 40) && nat_le (length p.names) 64 && list_all is_pattern p.names
+is_policy (Some p) = nat_le p.size longest_file && nat_le (length p.names) 64 && list_all is_pattern p.names
 
 -- the first field with a value that it may not have
 abbrev pub spec_fault : FormatSpec → Option Field

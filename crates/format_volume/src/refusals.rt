@@ -10,6 +10,7 @@ ghost use Rattle.format_volume.specs.Refusals.{is_pattern, is_policy, is_volume_
 
 use crate::requests::{Field, FormatSpec};
 use index_model::{Policy, TextList};
+use tape_types::{LONGEST_FILE, LONGEST_NAME};
 
 /// The first field with a value that it may not have.
 pub fn spec_fault(spec: &FormatSpec) -> Option<Field>
@@ -45,7 +46,7 @@ fn is_capital(byte: u8) -> bool
 fn is_volume_name(name: &str) -> bool
     ensures { result ≡ is_volume_name name.now }
 {
-    char_count(name) <= 255 && !has_byte(name, b'/') && !has_byte(name, 0)
+    char_count(name) <= LONGEST_NAME && !has_byte(name, b'/') && !has_byte(name, 0)
 }
 
 fn char_count(text: &str) -> usize
@@ -65,7 +66,7 @@ fn is_policy(policy: &Option<Policy>) -> bool
 {
     match policy {
         Some(policy) => {
-            policy.size <= 1 << 40 && policy.names.len() <= 64 && are_patterns(&policy.names)
+            policy.size <= LONGEST_FILE && policy.names.len() <= 64 && are_patterns(&policy.names)
         }
         None => true,
     }
@@ -85,7 +86,7 @@ fn are_patterns(names: &TextList) -> bool
 fn is_pattern(text: &str) -> bool
     ensures { result ≡ is_pattern text.now }
 {
-    !text.is_empty() && char_count(text) <= 255 && are_allowed(text)
+    !text.is_empty() && char_count(text) <= LONGEST_NAME && are_allowed(text)
 }
 
 /// Whether a document may have each character of a text.
