@@ -2,6 +2,7 @@
 use Rattle.std.proofs.Common.{◌≡◌, ◌⊎◌, ⊎_elim, ℕ, ◌+◌, ◌≤◌, ◌<◌, ◌^◌, List, length, inl, inr, refl, subst, arith}
 use Rattle.std.proofs.lemmas.Bool.{cases_lt}
 use Rattle.std.proofs.lemmas.Option.{slice_get_within}
+use Rattle.tape_types.specs.Bounds.{longest_file}
 use Rattle.index_model.specs.declared.faults.Fault.{Fault}
 use Rattle.index_model.specs.declared.faults.Fault.TheVariants as faults
 use Rattle.index_model.specs.declared.indexes.Index.{Index}
@@ -158,7 +159,7 @@ known_overlap es =
 known_out : (nodes : List Node) (at : ℕ) → Known (IsOutOfBounds nodes at)
 known_out nodes at =
     known_by (λ h. record { bytes = h.0; extents = h.1; file = h.2; out = h.3 }) (λ o. (o.bytes, o.extents, o.file, o.out))
-    (known_file nodes at (λ bytes es. (2 ^ 40 < bytes) ⊎ EndsTooFar es) (λ bytes es. known_either (known_lt (2 ^ 40) bytes) (known_far es)))
+    (known_file nodes at (λ bytes es. (longest_file < bytes) ⊎ EndsTooFar es) (λ bytes es. known_either (known_lt longest_file bytes) (known_far es)))
 
 known_overlapped : (nodes : List Node) (at : ℕ) → Known (HasOverlap nodes at)
 known_overlapped nodes at =

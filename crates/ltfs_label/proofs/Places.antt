@@ -3,6 +3,7 @@ use Rattle.std.proofs.Common.{◌≡◌, ℕ, ◌≤◌, List, [], ◌∷◌, Bo
 use Rattle.std.specs.Prelude.{⊤, IsSome}
 use Rattle.std.specs.List.{AllByRecursion}
 use Rattle.std.proofs.lemmas.Bool.Decides.{nat_tests}
+use Rattle.tape_types.specs.Bounds.{most_nodes}
 use Rattle.doc_fields.specs.declared.starts.Start.{Start}
 use Rattle.doc_fields.specs.declared.tags.Tag.{Tag}
 use Rattle.doc_fields.specs.declared.tags.Tag.TheVariants.{LtfsLabel, Creator, FormatTime, VolumeUuid, Partition, IndexLetter, DataLetter, BlockSize, Compression}
@@ -117,7 +118,7 @@ mutual
       let rest = no_nodes text p (item_tag i ∷ seen) s.1 is end of s.3 in
       omega (arith, here, rest)
 
-pub few_of : (text : List ℕ) (items : Items) → DocumentText place.Label text items → node_count items ≤ 65536
+pub few_of : (text : List ℕ) (items : Items) → DocumentText place.Label text items → node_count items ≤ most_nodes
 few_of text items d = let none = no_nodes text place.Label [] d.inside items d.end refl d.children in omega (arith, none)
 
 -- ---- the size of a block
@@ -209,7 +210,7 @@ first_plain {A} {B} (Err e) s h = by e.why
     by why.NoMemory = h
 
 -- there is room for each node, since none has begun
-room_plain : (b : Bool) (c : Child) → IsPlain (cond (b && nat_le 65536 0) (Err pieces.TooMany) (Ok c))
+room_plain : (b : Bool) (c : Child) → IsPlain (cond (b && nat_le most_nodes 0) (Err pieces.TooMany) (Ok c))
 room_plain true c = tt
 room_plain false c = tt
 

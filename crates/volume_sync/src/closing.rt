@@ -1,6 +1,7 @@
 //! The admission of the index of a close.
 
-ghost use Rattle.std.specs.Prelude.{◌≡◌, ◌≤◌, ◌^◌, IfOk, length};
+ghost use Rattle.std.specs.Prelude.{◌≡◌, ◌≤◌, IfOk, length};
+ghost use Rattle.tape_types.specs.Bounds.{most_positions};
 ghost use Rattle.space_laws.specs.Files.{canon};
 ghost use Rattle.volume_sync.specs.Frames.{IsCloseOf, close_index};
 
@@ -22,7 +23,7 @@ pub fn close_document(
     end: u64,
     at: Moment,
 ) -> Result<Vec<u8>, NoMemory>
-    requires { end ≤ 2 ^ 40 }
+    requires { end ≤ most_positions }
     ensures text { IfOk result (λ doc. doc.items ≡ canon (close_index frame.now tree.now generation last_dp end at)) }
     ensures some { IfOk result (λ doc. 1 ≤ length doc.items) }
 {

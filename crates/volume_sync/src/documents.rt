@@ -1,6 +1,7 @@
 //! The text of an index of the volume.
 
-ghost use Rattle.std.specs.Prelude.{◌≡◌, ◌≤◌, ◌^◌, IfOk, length};
+ghost use Rattle.std.specs.Prelude.{◌≡◌, ◌≤◌, IfOk, length};
+ghost use Rattle.tape_types.specs.Bounds.{most_positions};
 ghost use Rattle.file_tree.specs.Carried.{index_of_tree};
 ghost use Rattle.space_laws.specs.Files.{canon};
 ghost use Rattle.volume_sync.specs.Frames.{heading_of, letters_of};
@@ -32,7 +33,7 @@ pub fn heading(
     back: Option<u64>,
     at: Moment,
 ) -> Result<Heading, NoMemory>
-    requires { end ≤ 2 ^ 40 }
+    requires { end ≤ most_positions }
     ensures { IfOk result (λ heading. heading ≡ heading_of frame.now generation letter end back at) }
 {
     let creator = Text::from_string(String::from_str(alloc, "ltfs_server 1.0.0")?);

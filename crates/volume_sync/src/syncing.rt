@@ -1,6 +1,7 @@
 //! The admission of the index of a sync.
 
 ghost use Rattle.std.specs.Prelude.{◌≡◌, ◌≤◌, ◌^◌, IfOk, length};
+ghost use Rattle.tape_types.specs.Bounds.{most_positions};
 ghost use Rattle.space_laws.specs.Files.{canon};
 ghost use Rattle.volume_sync.specs.Frames.{IsSync, sync_index};
 
@@ -20,7 +21,7 @@ pub fn document(
     at: Moment,
 ) -> Result<Vec<u8>, NoMemory>
     requires generation { frame.now.generation ≤ 2 ^ 62 }
-    requires end { end ≤ 2 ^ 40 }
+    requires end { end ≤ most_positions }
     ensures text { IfOk result (λ doc. doc.items ≡ canon (sync_index frame.now tree.now end at)) }
     ensures some { IfOk result (λ doc. 1 ≤ length doc.items) }
 {

@@ -1,6 +1,7 @@
 //! One read that waits.
 
-ghost use Rattle.std.specs.Prelude.{◌≡◌, ◌≢◌, ◌≤◌, ◌^◌, false, length, replicate, IfOk};
+ghost use Rattle.std.specs.Prelude.{◌≡◌, ◌≢◌, ◌≤◌, false, length, replicate, IfOk};
+ghost use Rattle.tape_types.specs.Bounds.{longest_file};
 ghost use Rattle.extent_map.specs.Cells.{Tape};
 ghost use Rattle.extent_map.specs.Replies.{places_in, size_of};
 ghost use Rattle.plain_tree.specs.declared.calls.Answer.TheVariants as answers;
@@ -40,7 +41,7 @@ impl Model for Reading {
 impl Reading {
     /// A read of these pieces, for which no block was read.
     pub fn new(alloc: Global, ticket: u64, pieces: List<Piece>) -> Result<Reading, NoMemory>
-        requires { size_of pieces ≤ 2 ^ 40 }
+        requires { size_of pieces ≤ longest_file }
         ensures ticket { IfOk result (λ g. g.ticket ≡ ticket) }
         ensures pieces { IfOk result (λ g. g.pieces ≡ pieces) }
         ensures begins { IfOk result (λ g. (tape : Tape) → IsGathering tape (λ place. false) g) }
@@ -139,7 +140,7 @@ fn twice(bytes: Vec<u8>, copy: Vec<u8>) -> (Answer, Answer)
 
 /// How many bytes these pieces have.
 fn size(pieces: &[Piece]) -> usize
-    requires { size_of pieces.now ≤ 2 ^ 40 }
+    requires { size_of pieces.now ≤ longest_file }
     ensures { result ≡ size_of pieces.now }
 {
     let mut total = 0;

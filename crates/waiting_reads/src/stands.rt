@@ -1,8 +1,9 @@
 //! Where the pieces of a read stand on tape.
 
-ghost use Rattle.std.specs.Prelude.{◌≡◌, ◌^◌, ◌≤◌, ◌++◌, true, false, nat_le, nat_lt, length, take, drop};
+ghost use Rattle.std.specs.Prelude.{◌≡◌, ◌≤◌, ◌++◌, true, false, nat_le, nat_lt, length, take, drop};
 ghost use Rattle.std.specs.Prelude.{Some, OnOk, IfOk, slice_get};
 ghost use Rattle.std.specs.List.Sorted.{IsNonDecreasingBy, IsPartitionPoint};
+ghost use Rattle.tape_types.specs.Bounds.{longest_file};
 ghost use Rattle.extent_map.specs.Cells.{Tape};
 ghost use Rattle.extent_map.specs.Replies.{IsBlock, IsFilled, IsGathered, IsGatheredPiece, IsPutAt, Places};
 ghost use Rattle.extent_map.specs.Replies.{bytes_in as bytes_of_piece, size_of};
@@ -27,7 +28,7 @@ pub struct Stand {
 /// The pieces that stand on tape, by the positions of their blocks, and those at one position in the order of the
 /// pieces.
 pub fn stands_of(alloc: Global, pieces: &[Piece]) -> Result<Vec<Stand>, NoMemory>
-    requires { size_of pieces.now ≤ 2 ^ 40 }
+    requires { size_of pieces.now ≤ longest_file }
     ensures { IfOk result (λ stands. AreStands pieces.now stands.items) }
 {
     let mut stands = Vec::with_capacity(alloc, pieces.len())?;
