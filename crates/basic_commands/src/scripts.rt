@@ -8,13 +8,10 @@ ghost use Rattle.basic_commands.specs.Statuses.{status_number};
 
 use crate::ended::Status;
 use crate::telling::bytes_of;
-use session_script::{Script, ScriptErr, ScriptFault, read_script};
+use session_script::{LONGEST_SCRIPT, Script, ScriptErr, ScriptFault, read_script};
 use std::alloc::Global;
 use tape_edge::{ReadFailure, Source, read_input};
 use tape_types::{Bytes, NoMemory, Twin};
-
-/// No script has more bytes.
-const SCRIPT_LIMIT: usize = 16_777_216;
 
 /// Why there is no script.
 #[derive(Clone, Copy)]
@@ -32,7 +29,7 @@ pub fn read_calls<S: Source>(alloc: Global, source: &mut S) -> Result<Script, Un
     ensures few { IfOk result (λ script. length script < 2 ^ 32) }
     ensures unread { IfErr result (IsUnread (taken S.Source source.old source.new)) }
 {
-    let text = match read_input(alloc, source, SCRIPT_LIMIT) {
+    let text = match read_input(alloc, source, LONGEST_SCRIPT) {
         Ok(text) => text,
         Err(ReadFailure::Fault(counts)) => return Err(Unread::Source(counts)),
         Err(ReadFailure::NoMemory) => return Err(Unread::NoMemory),
