@@ -5,17 +5,18 @@ use Rattle.std.specs.Int.{div_ceil}
 use Rattle.std.proofs.Math.Nat.{mul-le-mul}
 use Rattle.std.proofs.lemmas.Bool.Decides.{nat_tests}
 use Rattle.std.proofs.lemmas.Grind.{div_ceil_times}
+use Rattle.tape_types.specs.Bounds.{most_positions}
 use Rattle.tape_types.specs.declared.cartridges.Part.TheVariants.{Dp}
 use Rattle.space_laws.specs.Space.{Rules, Space, index, index_need, is_over, nothing}
 use Rattle.space_laws.specs.Standing.{rules, sync_text}
 use Rattle.due_laws.specs.Laws.{AdmittedTextsAreShort}
 
-short : (size long end cap : ℕ) → 1 ≤ size → size ≤ 1048576 → cap ≤ 2 ^ 40 → end + 2 + div_ceil long size ≤ cap
+short : (size long end cap : ℕ) → 1 ≤ size → size ≤ 1048576 → cap ≤ most_positions → end + 2 + div_ceil long size ≤ cap
     → long < 2 ^ 64
 short size long end cap some most near fits =
     let all : long ≤ div_ceil long size * size = (div_ceil_times long size some).0 in
-    let blocks : div_ceil long size ≤ 2 ^ 40 = omega (arith, near, fits) in
-    let most_bytes : div_ceil long size * size ≤ 2 ^ 40 * 1048576 = mul-le-mul blocks most in
+    let blocks : div_ceil long size ≤ most_positions = omega (arith, near, fits) in
+    let most_bytes : div_ceil long size * size ≤ most_positions * 1048576 = mul-le-mul blocks most in
     omega (arith, all, most_bytes)
 
 -- an index that isn't over the limit ends within the capacity

@@ -4,6 +4,7 @@ use Rattle.std.specs.List.{AllByRecursion}
 use Rattle.std.proofs.Math.Nat.{div-le_self}
 use Rattle.std.proofs.lemmas.Bool.Decides.{nat_tests}
 use Rattle.std.proofs.lemmas.Nat.{mul-le}
+use Rattle.tape_types.specs.Bounds.{most_positions}
 use Rattle.tape_types.specs.declared.cartridges.Part.{Part}
 use Rattle.tape_types.specs.declared.cartridges.Part.TheVariants.{Dp, Ip}
 use Rattle.index_model.specs.Extents.{IsFileAt}
@@ -22,16 +23,16 @@ use Rattle.held_volume.specs.Mounted.{MountsAreStock, MountsCanStart, letters_of
 use Rattle.held_volume.specs.Stocks.{ends_of}
 
 -- the block of a size within an end that is near
-near_enough : (block size byte count end pos inside : ℕ) → 1 ≤ size → size ≤ 2 ^ 20 → end ≤ 2 ^ 40 → block * size + byte + count ≤ end * size
+near_enough : (block size byte count end pos inside : ℕ) → 1 ≤ size → size ≤ 2 ^ 20 → end ≤ most_positions → block * size + byte + count ≤ end * size
     → inside < count → block + (byte + inside) / size ≡ pos → pos ≤ 2 ^ 62
 near_enough block size byte count end pos inside some small most high within here =
-    let ends : end * size ≤ 2 ^ 40 * 2 ^ 20 = mul-le end size (2 ^ 40) (2 ^ 20) most small in
+    let ends : end * size ≤ most_positions * 2 ^ 20 = mul-le end size most_positions (2 ^ 20) most small in
     let begins : block * 1 ≤ block * size = mul-le block 1 block size (omega arith) some in
     let one : block * 1 ≡ block = omega arith in
     let least : (byte + inside) / size ≤ byte + inside = div-le_self (byte + inside) size in
     omega (arith, ends, begins, one, least, high, within, here)
 
-module _ (label : Label) (ip dp : ℕ) (differ : label.index ≢ label.dpart) (some : 1 ≤ label.block) (small : label.block ≤ 2 ^ 20) (ip_most : ip ≤ 2 ^ 40) (dp_most : dp ≤ 2 ^ 40) where
+module _ (label : Label) (ip dp : ℕ) (differ : label.index ≢ label.dpart) (some : 1 ≤ label.block) (small : label.block ≤ 2 ^ 20) (ip_most : ip ≤ most_positions) (dp_most : dp ≤ most_positions) where
   abbrev Fit : RawExtent → Type 0
   Fit e = 0 < e.count → Fits label ip dp e
 
@@ -39,7 +40,7 @@ module _ (label : Label) (ip dp : ℕ) (differ : label.index ≢ label.dpart) (s
   on_one Ip letter is = inl is
   on_one Dp letter is = inr is
 
-  end_most : (part : Part) → end_on part ip dp ≤ 2 ^ 40
+  end_most : (part : Part) → end_on part ip dp ≤ most_positions
   end_most Ip = ip_most
   end_most Dp = dp_most
 
@@ -92,8 +93,8 @@ pub mounts_can_start : MountsCanStart
 mounts_can_start limits m range is =
     let some : 1 ≤ m.label.block = omega (arith, is.blocks.0) in
     let small : m.label.block ≤ 2 ^ 20 = omega (arith, is.blocks.1) in
-    let ip : m.end_ip ≤ 2 ^ 40 = omega (arith, is.ip_end.1, range.ip_most) in
-    let dp : m.end_dp ≤ 2 ^ 40 = omega (arith, is.dp_end.1, range.dp_most) in
+    let ip : m.end_ip ≤ most_positions = omega (arith, is.ip_end.1, range.ip_most) in
+    let dp : m.end_dp ≤ most_positions = omega (arith, is.dp_end.1, range.dp_most) in
     record {
       mounts = record {
         valid = is.valid;

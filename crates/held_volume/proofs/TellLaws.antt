@@ -1,6 +1,7 @@
 -- That a sync which fits has an index that can be told.
 use Rattle.std.proofs.Common.{◌≡◌, ℕ, ◌+◌, ◌<◌, ◌≤◌, ◌^◌, Bool, true, false, cond, nat_lt, List, IfSome, Option, Some, None, sym, ap, ◌∙◌, refl, subst, arith}
 use Rattle.std.proofs.lemmas.Bool.Decides.{nat_tests}
+use Rattle.tape_types.specs.Bounds.{most_positions}
 use Rattle.tape_types.specs.declared.cartridges.Limits.{Limits}
 use Rattle.tape_types.specs.declared.cartridges.Part.TheVariants.{Dp}
 use Rattle.tape_types.specs.declared.moments.Moment.{Moment}
@@ -17,7 +18,7 @@ record HasPlace (v : Rules) (s : Space) : Type 0 where
   generation : s.newest + 1 ≤ 2 ^ 62
   here : s.ends.dp + 1 ≤ 2 ^ 62
 
-index_has_place : (v : Rules) (on : Bool) (s : Space) (text : List ℕ) → v.limits.cap_dp ≤ 2 ^ 40 → is_over v on s (index text) ≡ false → HasPlace v s
+index_has_place : (v : Rules) (on : Bool) (s : Space) (text : List ℕ) → v.limits.cap_dp ≤ most_positions → is_over v on s (index text) ≡ false → HasPlace v s
 index_has_place v on s text most fits = by (nat_lt (2 ^ 62) (s.newest + 1)) refl
   where
     by : (b : Bool) → nat_lt (2 ^ 62) (s.newest + 1) ≡ b → HasPlace v s
@@ -31,11 +32,11 @@ index_has_place v on s text most fits = by (nat_lt (2 ^ 62) (s.newest + 1)) refl
         no_less : (a b : ℕ) → nat_lt a b ≡ false → b ≤ a
         no_less a b e = grind (arith, nat_tests, e)
 
-        near : (end count cap : ℕ) → cap ≤ 2 ^ 40 → end + 2 + count ≤ cap → end + 1 ≤ 2 ^ 62
+        near : (end count cap : ℕ) → cap ≤ most_positions → end + 2 + count ≤ cap → end + 1 ≤ 2 ^ 62
         near end count cap most h = omega (arith, most, h)
 
-dp_most : (limits : Limits) (m : Mounted) (g : Given) → IsMounted limits m g → g.limits.cap_dp ≤ 2 ^ 40
-dp_most limits m g is = subst (λ (l : Limits). l.cap_dp ≤ 2 ^ 40) (sym is.limits_are) is.range.dp_most
+dp_most : (limits : Limits) (m : Mounted) (g : Given) → IsMounted limits m g → g.limits.cap_dp ≤ most_positions
+dp_most limits m g is = subst (λ (l : Limits). l.cap_dp ≤ most_positions) (sym is.limits_are) is.range.dp_most
 
 can_tell : (limits : Limits) (m : Mounted) (g : Given) (on : Bool) (st : Standing) (at : Moment) → IsMounted limits m g → st.space.changed ≡ true → is_over (rules g) on st.space (ask_of g st asks.Sync at) ≡ false → IsBackNear st → CanTell g st
 can_tell limits m g on st at is changed fits back =
@@ -60,7 +61,7 @@ first_near limits m g is = subst (λ (f : MountFacts). IfSome f.last_dp (λ bloc
     by None h = tt
     by (Some pos) h = omega (arith, h, is.mount.dp_end.1, is.range.dp_most)
 
-near_after : (v : Rules) (on : Bool) (s : Space) (ask : Ask) → v.limits.cap_dp ≤ 2 ^ 40 → is_over v on s ask ≡ false → IfSome s.last_dp (λ block. block ≤ 2 ^ 62)
+near_after : (v : Rules) (on : Bool) (s : Space) (ask : Ask) → v.limits.cap_dp ≤ most_positions → is_over v on s ask ≡ false → IfSome s.last_dp (λ block. block ≤ 2 ^ 62)
     → IfSome (space.after v on s ask).last_dp (λ block. block ≤ 2 ^ 62)
 near_after v on s nothing most fits back = back
 near_after v on s change most fits back = back

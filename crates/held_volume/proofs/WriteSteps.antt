@@ -1,6 +1,7 @@
 -- What an overlay leaves, as a step.
-use Rattle.std.proofs.Common.{◌≡◌, ℕ, ◌+◌, ◌≤◌, ◌^◌, max, Bool, false, List, [], length, Option, None, Result, Ok, Err, sym, ap, ◌∙◌, refl, arith}
+use Rattle.std.proofs.Common.{◌≡◌, ℕ, ◌+◌, ◌≤◌, max, Bool, false, List, [], length, Option, None, Result, Ok, Err, sym, ap, ◌∙◌, refl, arith}
 use Rattle.std.specs.Option.{unwrap_or}
+use Rattle.tape_types.specs.Bounds.{longest_file, most_positions}
 use Rattle.tape_types.specs.declared.cartridges.Extent.{Extent}
 use Rattle.tape_types.specs.declared.moments.Moment.{Moment}
 use Rattle.plain_tree.specs.Cells.{written}
@@ -65,19 +66,19 @@ is_ok_then (Ok done) e h = h
 is_ok_then (Err why) e h = absurd cc
 
 -- an end of a partition is far from the greatest number
-pub end_near : (limits : Limits) (size : ℕ) (ends : Ends) (ops : List Op) (part : Part) → AreStanding limits size ends ops → end_of part ends ≤ 2 ^ 40
+pub end_near : (limits : Limits) (size : ℕ) (ends : Ends) (ops : List Op) (part : Part) → AreStanding limits size ends ops → end_of part ends ≤ most_positions
 end_near limits size ends ops part s = by part
   where
-    by : (p : Part) → end_of p ends ≤ 2 ^ 40
+    by : (p : Part) → end_of p ends ≤ most_positions
     by Ip = omega (arith, s.can_be.ip.high, s.can_be.limits_are)
     by Dp = omega (arith, s.can_be.dp.high, s.can_be.limits_are)
 
 -- the extent at an end of a partition can be put into the file
 pub can_put : (t : FileTree) (file : ℕ) (has : (room : Room) × HasExtents t.nodes file room) (l : Plan) (wanted : Bool) (bytes : List ℕ) (offset : ℕ) (place : Place) → IsGood t
-    → ((room : Room) → HasExtents t.nodes file room → 2 ≤ room.spare) → 1 ≤ length bytes → offset + length bytes ≤ 2 ^ 40 → AreStanding l.limits l.block_size l.ends l.ops
+    → ((room : Room) → HasExtents t.nodes file room → 2 ≤ room.spare) → 1 ≤ length bytes → offset + length bytes ≤ longest_file → AreStanding l.limits l.block_size l.ends l.ops
     → place ≡ (data_admission l wanted bytes).place → CanWrite t file (record { offset = offset; block = place.pos; count = length bytes; byte = 0; part = place.part })
 can_put t file has l wanted bytes offset place good space some fits standing place_is =
-    let near : end_of (part_for l wanted (div_ceil (length bytes) l.block_size)) l.ends ≤ 2 ^ 40 = end_near l.limits l.block_size l.ends l.ops (part_for l wanted (div_ceil (length bytes) l.block_size)) standing in
+    let near : end_of (part_for l wanted (div_ceil (length bytes) l.block_size)) l.ends ≤ most_positions = end_near l.limits l.block_size l.ends l.ops (part_for l wanted (div_ceil (length bytes) l.block_size)) standing in
     let pos : place.pos ≡ end_of (part_for l wanted (div_ceil (length bytes) l.block_size)) l.ends = ap (λ (p : Place). p.pos) place_is in
     can_write t file has.0 (record { offset = offset; block = place.pos; count = length bytes; byte = 0; part = place.part }) has.1
     (good.files has.1.path has.1.node has.0 has.1.there has.1.file) space some fits refl (omega (arith, near, pos, fits))

@@ -3,6 +3,7 @@ use Rattle.std.proofs.Common.{◌≡◌, ◌≢◌, ℕ, zero, suc, ◌+◌, ◌
 use Rattle.std.specs.List.{AllByRecursion}
 use Rattle.std.proofs.Math.Nat.{div-le_self}
 use Rattle.std.proofs.lemmas.Nat.{mul-le}
+use Rattle.tape_types.specs.Bounds.{most_positions}
 use Rattle.tape_types.specs.declared.cartridges.Part.{Part}
 use Rattle.tape_types.specs.declared.cartridges.Part.TheVariants.{Ip, Dp}
 use Rattle.index_model.specs.Extents.{IsFileAt}
@@ -20,21 +21,22 @@ use Rattle.mount_recover.specs.Labels.{IsSpelled}
 use Rattle.mount_recover.proofs.LabelRanges.{block_in_range}
 
 -- the block of a size within an end that is near
-near_enough : (block size byte count end cap pos inside : ℕ) → 1 ≤ size → size ≤ 2 ^ 20 → end ≤ cap → cap ≤ 2 ^ 40 → block * size + byte + count ≤ end * size
+near_enough : (block size byte count end cap pos inside : ℕ) → 1 ≤ size → size ≤ 2 ^ 20 → end ≤ cap → cap ≤ most_positions → block * size + byte + count ≤ end * size
     → inside < count → block + (byte + inside) / size ≡ pos → pos ≤ 2 ^ 62
 near_enough block size byte count end cap pos inside some small below most high within here =
-    let ends : end * size ≤ 2 ^ 40 * 2 ^ 20 = mul-le end size (2 ^ 40) (2 ^ 20) (omega (arith, below, most)) small in
+    let ends : end * size ≤ most_positions * 2 ^ 20 = mul-le end size most_positions (2 ^ 20)
+        (omega (arith, below, most)) small in
     let begins : block * 1 ≤ block * size = mul-le block 1 block size (omega arith) some in
     let one : block * 1 ≡ block = omega arith in
     let least : (byte + inside) / size ≤ byte + inside = div-le_self (byte + inside) size in
     omega (arith, ends, begins, one, least, high, within, here)
 
-module _ (label : Label) (ip dp : ℕ) (some : 1 ≤ label.block) (small : label.block ≤ 2 ^ 20) (ip_most : ip ≤ 2 ^ 40) (dp_most : dp ≤ 2 ^ 40) where
+module _ (label : Label) (ip dp : ℕ) (some : 1 ≤ label.block) (small : label.block ≤ 2 ^ 20) (ip_most : ip ≤ most_positions) (dp_most : dp ≤ most_positions) where
   on_one : (part : Part) (letter : ℕ) → letter ≡ letter_of label part → (letter ≡ label.index) ⊎ (letter ≡ label.dpart)
   on_one Ip letter is = inl is
   on_one Dp letter is = inr is
 
-  end_most : (part : Part) → end_on part ip dp ≤ 2 ^ 40
+  end_most : (part : Part) → end_on part ip dp ≤ most_positions
   end_most Ip = ip_most
   end_most Dp = dp_most
 
@@ -47,7 +49,7 @@ module _ (label : Label) (ip dp : ℕ) (some : 1 ≤ label.block) (small : label
   near (raw ∷ raws) fits = (
     (λ part pos stands.
         let f = fits.0 (omega (arith, stands.within)) in
-        near_enough raw.block label.block raw.byte raw.count (end_on f.part ip dp) (2 ^ 40) pos stands.byte some small (end_most f.part) (omega arith) f.high stands.within stands.here),
+        near_enough raw.block label.block raw.byte raw.count (end_on f.part ip dp) most_positions pos stands.byte some small (end_most f.part) (omega arith) f.high stands.within stands.here),
     near raws fits.1,
   )
 
@@ -61,7 +63,7 @@ module _ (label : Label) (ip dp : ℕ) (some : 1 ≤ label.block) (small : label
   file_fits nodes at bytes raws all file = subst (FitsKind label ip dp) file.file (fits_at nodes at file.node all file.is)
 
 -- an index of a volume whose extents end before two places, far below the last one, can be made a tree
-pub fits_can_mount : (label : Label) (ip dp : ℕ) (index : Index) → IsSpelled label → label.index ≢ label.dpart → IsValid index → ip ≤ 2 ^ 40 → dp ≤ 2 ^ 40
+pub fits_can_mount : (label : Label) (ip dp : ℕ) (index : Index) → IsSpelled label → label.index ≢ label.dpart → IsValid index → ip ≤ most_positions → dp ≤ most_positions
     → AllByRecursion (FitsNode label ip dp) index.nodes → CanMount index (label.index, label.dpart) label.block
 fits_can_mount label ip dp index spelled letters valid ip_most dp_most fits =
     let size = block_in_range spelled.0 _ spelled.1 in

@@ -1,5 +1,6 @@
 -- An index of the index partition that is, but for its pointers, the last one of the data partition.
 use Rattle.std.proofs.Common.{ℕ, ◌≤◌, ◌<◌, ◌^◌, ◌≡◌, inl, List, length, Some, sym, ◌∙◌, ap, subst, arith}
+use Rattle.tape_types.specs.Bounds.{most_positions}
 use Rattle.tape_types.specs.declared.cartridges.Cartridge.{Cartridge}
 use Rattle.tape_types.specs.declared.cartridges.Limits.{Limits}
 use Rattle.tape_types.specs.Cartridges.{IsLimits}
@@ -44,7 +45,7 @@ valid_twin index twin valid here back = record {
   agrees = record { uids = valid.agrees.uids; names = valid.agrees.names; keys = valid.agrees.keys; files = valid.agrees.files };
 }
 
-spot : (letter block : ℕ) (s : Spot) → s ≡ record { letter = letter; block = block } → IsLetter letter → block ≤ 2 ^ 40 → IsSpot s
+spot : (letter block : ℕ) (s : Spot) → s ≡ record { letter = letter; block = block } → IsLetter letter → block ≤ most_positions → IsSpot s
 spot letter block s is ranged within = subst IsSpot (sym is) (record { letter = ranged; block = omega (arith, within) })
 
 module _ (labels : Labels) (limits : Limits) (place : Construct) (dp : LastIndex) (twin : TwinIndex) (at : IsTwinAt labels.ip place dp.place twin)

@@ -4,6 +4,7 @@ ghost use Rattle.std.specs.Prelude.{◌≡◌, ◌≢◌, ◌≤◌, ◌<◌, �
 ghost use Rattle.std.specs.Prelude.{slice_get, vec_capacity, IfNone, IfOk, IfSome, MatchOption};
 ghost use Rattle.tape_drive.specs.Commands.{item_at};
 ghost use Rattle.tape_drive.specs.Looks.{Looks};
+ghost use Rattle.tape_types.specs.Bounds.{most_positions};
 ghost use Rattle.tape_types.specs.Cartridges.{capacity, items_of, next};
 ghost use Rattle.tape_types.specs.declared.cartridges.Cartridge.{Cartridge};
 ghost use Rattle.tape_types.specs.declared.cartridges.Item.TheVariants as items;
@@ -96,7 +97,7 @@ fn read_index_here<D: Drive>(
 ) -> Result<Option<Ending>, Stop>
     requires head { (part : Part) × (D.head drive.old ≡ Some (record { part = part; pos = mark })) }
     requires range { (4 ≤ mark) × (mark + 1 < positions) }
-    requires most { positions ≤ 2 ^ 40 }
+    requires most { positions ≤ most_positions }
     requires room { 1048576 ≤ vec_capacity buffer.old }
     requires commands { D.commands drive.old ≤ 2 ^ 64 - 1 }
     ensures told { IfOk result (λ found. (c : Cartridge) (bs : List (List ℕ))
@@ -192,7 +193,7 @@ fn read_to_mark<D: Drive>(
 ) -> Result<Option<Run>, Stop>
     requires head { (part : Part) × (D.head drive.old ≡ Some (record { part = part; pos = first })) }
     requires range { (1 ≤ first) × (first < positions) }
-    requires most { positions ≤ 2 ^ 40 }
+    requires most { positions ≤ most_positions }
     requires room { 1048576 ≤ vec_capacity buffer.old }
     requires commands { D.commands drive.old ≤ 2 ^ 64 - 1 }
     ensures room { 1048576 ≤ vec_capacity buffer.new }
