@@ -14,7 +14,8 @@ use Rattle.doc_elements.specs.Answers.{HasRoom, Fails, UnlessMemory, piece_of}
 
 -- ---- how many nodes have begun
 
-few_opens : (q : Place) (n : ℕ) → (is_node q ≡ true → n < most_nodes) → n ≤ most_nodes → counted (opens q) n ≤ most_nodes
+few_opens : (q : Place) (n : ℕ) → (is_node q ≡ true → n < most_nodes) → n ≤ most_nodes
+    → counted (opens q) n ≤ most_nodes
 few_opens place.Root n room few = omega (arith, room refl)
 few_opens place.Directory n room few = omega (arith, room refl)
 few_opens place.File n room few = omega (arith, room refl)

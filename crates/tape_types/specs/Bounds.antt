@@ -9,7 +9,7 @@ most_nodes = 65536
 abbrev pub longest_file : ℕ
 longest_file = 2 ^ 40
 
--- a name has at most so many characters, and so has a key of an attribute (LTFS 2.4)
+-- a name has at most so many characters (LTFS 2.4), and so has a key of an attribute, and a pattern of a policy
 abbrev pub longest_name : ℕ
 longest_name = 255
 
