@@ -4,6 +4,7 @@ use Rattle.std.specs.List.{list_any}
 use Rattle.std.proofs.Common.{⊎_elim, inl, inr, refl, sym, ap, subst, ◌∙◌, arith, length-append}
 use Rattle.std.proofs.lemmas.Bool.{cases_Bool, eq-eqb, ne_eqb, or_left, or_right}
 use Rattle.std.proofs.lemmas.List.{map-append}
+use Rattle.tape_types.specs.Bounds.{most_positions}
 use Rattle.tape_types.specs.Cartridges.{IsLimits, capacity, items_of}
 use Rattle.tape_types.specs.declared.cartridges.Cartridge.{Cartridge}
 use Rattle.tape_types.specs.declared.cartridges.Limits.{Limits}
@@ -106,7 +107,7 @@ can_do (Put at bytes) limits held size room le within = (record { room = room.0;
 can_do (Mark at) limits held size room le within = record { room = room; within = within }
 can_do (Flush at) limits held size room le within = tt
 
-least : (part : Part) (limits : Limits) → IsLimits limits → capacity part limits ≤ 2 ^ 40
+least : (part : Part) (limits : Limits) → IsLimits limits → capacity part limits ≤ most_positions
 least Ip limits l = l.ip_most
 least Dp limits l = l.dp_most
 

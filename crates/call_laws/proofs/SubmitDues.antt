@@ -2,6 +2,7 @@
 use Rattle.std.proofs.Common.{◌≡◌, ℕ, ◌+◌, ◌^◌, ◌<◌, ◌≤◌, Bool, true, false, cond, nat_lt, List, length, Option, Some, None, IfSome, slice_get, refl, sym, ap, ◌∙◌, subst, arith}
 use Rattle.std.specs.Prelude.{if◌then◌else◌}
 use Rattle.std.proofs.lemmas.Bool.Decides.{nat_tests}
+use Rattle.tape_types.specs.Bounds.{most_positions}
 use Rattle.tape_types.specs.declared.cartridges.Item.{Item}
 use Rattle.tape_types.specs.declared.cartridges.Part.{Part}
 use Rattle.tape_types.specs.declared.cartridges.Part.TheVariants.{Dp}
@@ -50,7 +51,7 @@ within v on s text is = by (nat_lt (2 ^ 62) (s.newest + 1)) refl is
     by true none over = absurd (let wrong : true ≡ false = sym none ∙ over in cc wrong)
     by false some over = (not_over (2 ^ 62) (s.newest + 1) some, not_over v.limits.cap_dp (index_need v Dp s text) over)
 
-back_near : (o : Option ℕ) (n : ℕ) → n ≤ 2 ^ 40 → IfSome o (λ pos. pos < n) → IfSome o (λ block. block ≤ 2 ^ 62)
+back_near : (o : Option ℕ) (n : ℕ) → n ≤ most_positions → IfSome o (λ pos. pos < n) → IfSome o (λ block. block ≤ 2 ^ 62)
 back_near None n near is = tt
 back_near (Some pos) n near is = omega (arith, near, is)
 
@@ -82,7 +83,7 @@ module _ {D : Type 0} (drive : Ghosts D) (fixed : Fixed D) (planned : Items) (be
     room : (st.space.newest + 1 ≤ 2 ^ 62) × (index_need (rules g) Dp st.space (sync_text g st at) ≤ g.limits.cap_dp)
     room = within (rules g) on st.space (sync_text g st at) admitted
 
-    near : st.space.ends.dp + 2 ≤ 2 ^ 40
+    near : st.space.ends.dp + 2 ≤ most_positions
     near = omega (arith, room.1, tied.limits.dp_most)
 
     can_tell : CanTell g st

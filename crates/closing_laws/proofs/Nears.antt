@@ -7,6 +7,7 @@ use Rattle.std.specs.List.{enumerate_from}
 use Rattle.std.proofs.lemmas.Bool.Decides.{nat_tests}
 use Rattle.std.proofs.lemmas.List.{take-append-le}
 use Rattle.std.proofs.lemmas.Option.{slice_get-get_or, slice_get_within}
+use Rattle.tape_types.specs.Bounds.{most_positions}
 use Rattle.tape_types.specs.Cartridges.{IsLimits}
 use Rattle.tape_types.specs.declared.cartridges.Limits.{Limits}
 use Rattle.tape_types.specs.declared.cartridges.Part.TheVariants.{Dp}
@@ -56,10 +57,11 @@ room v on s text is = by (nat_lt (2 ^ 62) (s.newest + 1)) refl is
 one_more : (n : ℕ) → 1 ≤ n + 1
 one_more n = omega arith
 
-near_block : (end count cap : ℕ) → cap ≤ 2 ^ 40 → end + 2 + count ≤ cap → end + 1 ≤ 2 ^ 62
+near_block : (end count cap : ℕ) → cap ≤ most_positions → end + 2 + count ≤ cap → end + 1 ≤ 2 ^ 62
 near_block end count cap most fits = omega (arith, most, fits)
 
-near_after : (v : Rules) (on : Bool) (s : Space) (ask : Ask) → v.limits.cap_dp ≤ 2 ^ 40 → is_over v on s ask ≡ false
+near_after : (v : Rules) (on : Bool) (s : Space) (ask : Ask) → v.limits.cap_dp ≤ most_positions
+    → is_over v on s ask ≡ false
     → IsNear s → IsNear (space.after v on s ask)
 near_after v on s nothing most fits near = near
 near_after v on s change most fits near = record { least = near.least; most = near.most; back = near.back }
@@ -80,7 +82,7 @@ abbrev IsFit : Given → Bool → Standing → Placed → Type 0
 IsFit g on st p = (call : Call) → call_at g.calls p ≡ Some call → p.fate ≡ fates.Done
     → is_over (rules g) on st.space (ask_of g st call p.at) ≡ false
 
-near_placed : (g : Given) (on : Bool) (st : Standing) (p : Placed) → g.limits.cap_dp ≤ 2 ^ 40 → IsFit g on st p
+near_placed : (g : Given) (on : Bool) (st : Standing) (p : Placed) → g.limits.cap_dp ≤ most_positions → IsFit g on st p
     → IsNear st.space → IsNear (after_placed g on st p).space
 near_placed g on st p most fits near = by p.fate (call_at g.calls p) refl refl
   where
@@ -184,7 +186,7 @@ can_tell limits m g st is near on_ip on_dp =
           (ap (λ (l : Limits). l.cap_dp) is.limits_are) is.range.dp_most;
     }
   where
-    close_to : (end cap same : ℕ) → end ≤ cap → cap ≡ same → same ≤ 2 ^ 40 → end + 1 ≤ 2 ^ 62
+    close_to : (end cap same : ℕ) → end ≤ cap → cap ≡ same → same ≤ most_positions → end + 1 ≤ 2 ^ 62
     close_to end cap same within is most = omega (arith, within, is, most)
 
 pub closes_can_tell : {D : Type 0} (drive : Ghosts D) → ClosesCanTell drive

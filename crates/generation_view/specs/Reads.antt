@@ -1,8 +1,9 @@
 -- What is read through a view.
-use Rattle.std.specs.Prelude.{ℕ, ◌≡◌, ◌*◌, ◌-◌, ◌<◌, ◌≤◌, ◌^◌, min, List, [], ◌∷◌, length, fold, Option, Some, None, Result, IfOk}
+use Rattle.std.specs.Prelude.{ℕ, ◌≡◌, ◌*◌, ◌-◌, ◌<◌, ◌≤◌, min, List, [], ◌∷◌, length, fold, Option, Some, None, Result, IfOk}
 use Rattle.std.specs.Prelude.{IfErr}
 use Rattle.std.specs.List.{AllByRecursion, flat_map}
 use Rattle.std.specs.FinMap as fin
+use Rattle.tape_types.specs.Bounds.{longest_file}
 use Rattle.tape_types.specs.Counts.{Rose}
 use Rattle.tape_types.specs.declared.cartridges.Cartridge.{Cartridge}
 use Rattle.tape_types.specs.declared.cartridges.Place.{Place}
@@ -67,7 +68,7 @@ pub record ArePlanned (tree : FileTree) (file offset count : ℕ) (pieces : List
   pub laid : IsFileOf tree.block_size room.laid
   pub are : pieces ≡ planned room.laid offset (min count (room.laid.length - offset))
   pub reads : (tape : Tape) → flat_map (read_piece tape) pieces ≡ range_of (file_cells tape room.laid) offset count
-  pub small : size_of pieces ≤ 2 ^ 40
+  pub small : size_of pieces ≤ longest_file
 
 -- these places, and others
 abbrev pub with_places : Places → List Place → Places

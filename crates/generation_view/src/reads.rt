@@ -5,6 +5,7 @@ ghost use Rattle.plain_tree.specs.Calls.{answer};
 ghost use Rattle.plain_tree.specs.Paths.{Path};
 ghost use Rattle.plain_tree.specs.Refusals.{refusal_of};
 ghost use Rattle.plain_tree.specs.declared.calls.Call.TheVariants.{Read};
+ghost use Rattle.tape_types.specs.Bounds.{longest_file};
 ghost use Rattle.tape_types.specs.Cartridges.{capacity, items_of};
 ghost use Rattle.tape_types.specs.Counts.{HasCause};
 ghost use Rattle.tape_drive.specs.Looks.{Looks};
@@ -75,7 +76,7 @@ fn read_pieces<D: Drive>(
     drive: &mut D,
     pieces: List<Piece>,
 ) -> Result<Answer, ReadErr>
-    requires small { size_of pieces ≤ 2 ^ 40 }
+    requires small { size_of pieces ≤ longest_file }
     requires room { AreBelow (capacities (D.limits drive.old)) (places_in pieces) }
     requires there { IfSome (D.held drive.old) (λ c. AreBelow (item_ends c) (places_in pieces)) }
     requires commands { D.commands drive.old ≤ 2 ^ 64 - 1 }

@@ -1,6 +1,7 @@
 //! All generations of a volume.
 
 ghost use Rattle.std.specs.Prelude.{◌≡◌, ◌≤◌, ◌+◌, ◌*◌, length, Some, IfOk, IfErr, IfSome};
+ghost use Rattle.tape_types.specs.Bounds.{most_nodes};
 ghost use Rattle.tape_types.specs.declared.cartridges.Cartridge.{Cartridge};
 ghost use Rattle.tape_drive.specs.Looks.{Looks};
 ghost use Rattle.cartridge_meaning.specs.Meaning.{Found};
@@ -131,7 +132,7 @@ fn walk<D: Drive>(
 
 /// What is told of an index with this first block.
 fn told_of(block: u64, index: &Index) -> Generation
-    requires { length index.now.nodes ≤ 65536 }
+    requires { length index.now.nodes ≤ most_nodes }
     ensures { IsToldOf block index.now result }
 {
     Generation {

@@ -6,6 +6,7 @@ use Rattle.std.specs.Int.{div_ceil}
 use Rattle.std.proofs.Math.Nat.{mul-le-mul}
 use Rattle.std.proofs.lemmas.Bool.Decides.{nat_tests}
 use Rattle.std.proofs.lemmas.Grind.{div_ceil_times}
+use Rattle.tape_types.specs.Bounds.{most_positions}
 use Rattle.tape_types.specs.declared.cartridges.Item.{Item}
 use Rattle.tape_types.specs.declared.cartridges.Limits.{Limits}
 use Rattle.tape_types.specs.declared.cartridges.Part.{Part}
@@ -65,12 +66,12 @@ within v on s text is = by (nat_lt (2 ^ 62) (s.newest + 1)) refl is
     by false some over =
         (not_over (2 ^ 62) (s.newest + 1) some, not_over v.limits.cap_dp (index_need v Dp s text) over)
 
-short : (size long end cap : ℕ) → 1 ≤ size → size ≤ 1048576 → cap ≤ 2 ^ 40 → end + 2 + div_ceil long size ≤ cap
+short : (size long end cap : ℕ) → 1 ≤ size → size ≤ 1048576 → cap ≤ most_positions → end + 2 + div_ceil long size ≤ cap
     → long < 2 ^ 64
 short size long end cap some most near fits =
     let all : long ≤ div_ceil long size * size = (div_ceil_times long size some).0 in
-    let blocks : div_ceil long size ≤ 2 ^ 40 = omega (arith, near, fits) in
-    let most_bytes : div_ceil long size * size ≤ 2 ^ 40 * 1048576 = mul-le-mul blocks most in
+    let blocks : div_ceil long size ≤ most_positions = omega (arith, near, fits) in
+    let most_bytes : div_ceil long size * size ≤ most_positions * 1048576 = mul-le-mul blocks most in
     omega (arith, all, most_bytes)
 
 -- what a close asks of the data partition where an index is due there or not

@@ -1,7 +1,8 @@
 //! Reads, which are answered at once where all their blocks are held or kept, and else wait for the others.
 
-ghost use Rattle.std.specs.Prelude.{◌≡◌, ◌≢◌, ◌+◌, ◌*◌, ◌^◌, ◌≤◌, ◌<◌, ℕ, List as Items, None, IfOk, OnErr, OnOk};
+ghost use Rattle.std.specs.Prelude.{◌≡◌, ◌≢◌, ◌+◌, ◌*◌, ◌≤◌, ◌<◌, ℕ, List as Items, None, IfOk, OnErr, OnOk};
 ghost use Rattle.std.specs.Prelude.{length, true};
+ghost use Rattle.tape_types.specs.Bounds.{longest_file};
 ghost use Rattle.extent_map.specs.Replies.{bytes_in as bytes_of_piece, size_of};
 ghost use Rattle.file_tree.specs.Tree.{plain_of, whole};
 ghost use Rattle.event_laws.specs.Trail.{IsTrail, is_trail_from};
@@ -29,11 +30,8 @@ use serving_promise::Submitted;
 use std::alloc::Global;
 use tape_drive::Drive;
 use tape_layout::AdmitErr;
-use tape_types::{List, NoMemory, Place, Text};
+use tape_types::{LONGEST_FILE, List, NoMemory, Place, Text};
 use waiting_reads::{Reading, Readings};
-
-/// How many bytes a read has room for at most.
-const MOST: u64 = 1_099_511_627_776;
 
 /// A read that has the blocks that are held or kept, the places of those that it wants, and of those that were kept.
 struct Fetched {
@@ -263,12 +261,12 @@ fn fetch(
 
 /// Whether there is room for the bytes of these pieces.
 fn is_small(pieces: &[Piece]) -> bool
-    ensures { result ≡ true → size_of pieces.now ≤ 2 ^ 40 }
+    ensures { result ≡ true → size_of pieces.now ≤ longest_file }
 {
     let mut total = 0;
     for piece in pieces {
         let count = bytes_in(piece);
-        if count > MOST - total {
+        if count > LONGEST_FILE - total {
             return false;
         }
         total += count;
