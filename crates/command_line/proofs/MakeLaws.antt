@@ -6,6 +6,7 @@ use Rattle.clap.specs.Words.{Text}
 use Rattle.clap.specs.Simple.{built, names_of}
 use Rattle.clap.specs.Walk.{Walk, nothing_held, plain_word, walk_from, walked, word_met}
 use Rattle.clap.proofs.OnLiterals.{clap_on_literals}
+use Rattle.session_script.specs.Bounds.{most_calls}
 use Rattle.session_script.specs.ScriptText.{SpellsNumber}
 use Rattle.session_script.specs.Words.{number_of}
 use Rattle.session_script.proofs.NumberLaws.{number_found}
@@ -33,7 +34,7 @@ number_has_none (b ∷ rest) n h = let low : 48 ≤ b = h.digits.0.0 in record {
 count_has_none : (word : Text) (count : ℕ) → count_told (Some word) ≡ Some count → HasNoDash word
 count_has_none word count told = at (number_of word) refl told
   where
-    at : (o : Option ℕ) → number_of word ≡ o → option_and_then (λ n. if nat_le 1 n && nat_le n 1024 then Some n else None) o ≡ Some count → HasNoDash word
+    at : (o : Option ℕ) → number_of word ≡ o → option_and_then (λ n. if nat_le 1 n && nat_le n most_calls then Some n else None) o ≡ Some count → HasNoDash word
     at None is h = cc
     at (Some n) is h = number_has_none word n (number_found word n is)
 

@@ -4,6 +4,7 @@ use Rattle.std.specs.Prelude.{◌≡◌, ℕ, List, ◌∷◌, map, Option, Some
 use Rattle.std.specs.Prelude.{◌&&◌, nat_le, if◌then◌else◌, option_and_then}
 use Rattle.std.specs.Global.{Global}
 use Rattle.clap.specs.Words.{App, Text, with_rule}
+use Rattle.session_script.specs.Bounds.{most_calls}
 use Rattle.session_script.specs.Words.{number_of}
 use Rattle.tape_types.specs.declared.moments.Moment.{Moment}
 use Rattle.command_line.specs.Options.{IsMomentGiven, Takes, bare, positional, value_of, with_moment}
@@ -36,7 +37,7 @@ make_app = with_moment (with_rule (bare (codes "make")) (positional (codes "coun
 -- a number of 1 to 1,024
 abbrev pub count_told : Option Text → Option ℕ
 count_told text =
-    option_and_then (λ n. if nat_le 1 n && nat_le n 1024 then Some n else None) (option_and_then number_of text)
+    option_and_then (λ n. if nat_le 1 n && nat_le n most_calls then Some n else None) (option_and_then number_of text)
 
 -- the words behind `make` and its folder: how many calls each session makes, and the moment of `--at`
 pub record IsMakeForm (words : List Text) (count : ℕ) (at : Option Moment) : Type 0 where

@@ -6,6 +6,7 @@ ghost use Rattle.command_line.specs.Options.{bare};
 use crate::forms::{WordsErr, bare_command, command_with_moment, find_in, make_command};
 use crate::views::{ViewWords, read_view};
 use crate::volumes::{FormatWords, read_at, read_number, read_volume};
+use session_script::MOST_CALLS;
 use std::alloc::Global;
 use tape_types::Moment;
 
@@ -118,7 +119,7 @@ fn read_count(text: Option<&str>) -> Option<u32>
     ensures { result ≡ count_told (option_map (λ t. t.now) text.entry) }
 {
     let count = read_number(text?)?;
-    if count >= 1 && count <= 1024 {
+    if count >= 1 && count <= u64::from(MOST_CALLS) {
         Some(count as u32)
     } else {
         None

@@ -7,6 +7,7 @@ use Rattle.std.proofs.lemmas.List.{take_at}
 use Rattle.atomic_table.specs.Seated.{TableId}
 use Rattle.tape_types.specs.declared.moments.Moment.{Moment}
 use Rattle.plain_tree.specs.History.{IsInterleaving, numbers_of}
+use Rattle.session_script.specs.Bounds.{most_sessions}
 use Rattle.session_script.specs.Grammar.{calls_of}
 use Rattle.session_script.specs.Sessions.{HasSessions, greatest_session}
 use Rattle.session_script.specs.declared.scripts.ScriptLine.{ScriptLine}
@@ -40,7 +41,7 @@ no_calls_from n (l ∷ lines) who has out =
     ap (λ b. length (map (λ (y : ScriptLine). y.call) (cond b (l ∷ filter (λ y. y.who == who) lines) (filter (λ y. y.who == who) lines)))) other
     ∙ no_calls_from (max n l.who) lines who (λ k d lt. has (suc k) d (omega arith)) out
   where
-    first : (1 ≤ l.who) × (l.who ≤ 16)
+    first : (1 ≤ l.who) × (l.who ≤ most_sessions)
     first = has 0 l (omega arith)
 
     other : (l.who == who) ≡ false
