@@ -7,6 +7,7 @@ use Rattle.std.proofs.lemmas.Bool.Decides.{nat_tests}
 use Rattle.std.specs.Global.{Global}
 use Rattle.tape_types.specs.declared.moments.Moment.{Moment}
 use Rattle.tape_edge.specs.Clocks.{IsSince1970}
+use Rattle.session_script.specs.Bounds.{most_calls}
 use Rattle.session_script.specs.Words.{number_of}
 use Rattle.session_script.specs.declared.logs.Log.{Log}
 use Rattle.tape_drive.specs.Looks.{Looks}
@@ -433,20 +434,20 @@ pub asked_make : (w words : List (String Global)) (k : Command) (count : ℕ) (a
 asked_make w words k count at same is spelled = subst (λ v. IsMakeWords v count at) same (subst (λ (k : Command). IsSpelledBy w (Ok k)) is spelled)
 
 -- a count of words is 1,024 at most
-given_few : (text : Option (List ℕ)) (count : ℕ) → count_told text ≡ Some count → count ≤ 1024
+given_few : (text : Option (List ℕ)) (count : ℕ) → count_told text ≡ Some count → count ≤ most_calls
 given_few text count is = by (option_and_then number_of text) is
   where
-    by_test : (n : ℕ) (b : Bool) → (nat_le 1 n && nat_le n 1024) ≡ b → (if b then Some n else None) ≡ Some count → count ≤ 1024
+    by_test : (n : ℕ) (b : Bool) → (nat_le 1 n && nat_le n most_calls) ≡ b → (if b then Some n else None) ≡ Some count → count ≤ most_calls
     by_test n true test same =
         let n_is : n ≡ count = cc same in
         grind (arith, nat_tests, test, n_is)
     by_test n false test same = cc same
 
-    by : (told : Option ℕ) → option_and_then (λ n. if nat_le 1 n && nat_le n 1024 then Some n else None) told ≡ Some count → count ≤ 1024
+    by : (told : Option ℕ) → option_and_then (λ n. if nat_le 1 n && nat_le n most_calls then Some n else None) told ≡ Some count → count ≤ most_calls
     by None same = cc same
-    by (Some n) same = by_test n (nat_le 1 n && nat_le n 1024) refl same
+    by (Some n) same = by_test n (nat_le 1 n && nat_le n most_calls) refl same
 
-pub make_few : (words : List (String Global)) (count : ℕ) (at : Option Moment) → IsMakeWords words count at → count ≤ 1024
+pub make_few : (words : List (String Global)) (count : ℕ) (at : Option Moment) → IsMakeWords words count at → count ≤ most_calls
 make_few words count at is = given_few (value_of make_app (codes "count") is.1) count is.3.counted
 
 -- a moment of words is one of the years 1970 to 9999

@@ -1,6 +1,7 @@
 //! The command `make`.
 
 ghost use Rattle.std.specs.Prelude.{◌≡◌, ◌≤◌, ℕ, Option as Maybe, IfOk, IfSome};
+ghost use Rattle.session_script.specs.Bounds.{most_calls};
 ghost use Rattle.session_script.specs.Made.{made_script};
 ghost use Rattle.tape_edge.specs.Clocks.{IsSince1970};
 ghost use Rattle.cartridge_meaning.specs.Notes.{HasHonestNotes};
@@ -41,7 +42,7 @@ pub fn run_make<
     out: &mut K,
     clock: C,
 ) -> Ended<D>
-    requires few { count ≤ 1024 }
+    requires few { count ≤ most_calls }
     requires since { IfSome at IsSince1970 }
     requires honest { IfSome (D.held drive) HasHonestNotes }
     requires allowed { MayServe D.Drive (made_script count) (one_moment at (C.one clock)) drive }
