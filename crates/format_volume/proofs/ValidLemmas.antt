@@ -73,7 +73,7 @@ not_so false e = refl
 name_fits : (name : List ℕ) → is_volume_name name ≡ true → IsUtf8 name → IsVolumeName name
 name_fits name is utf8 =
     let outer = and_parts (nat_le (length (chars name)) longest_name && not (has_byte 47 name))
-        (not (has_byte 0 name)) is in
+    (not (has_byte 0 name)) is in
     let inner = and_parts (nat_le (length (chars name)) longest_name) (not (has_byte 47 name)) outer.0 in
     record {
       utf8 = utf8;

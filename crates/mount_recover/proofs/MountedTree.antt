@@ -25,7 +25,7 @@ near_enough : (block size byte count end cap pos inside : ℕ) → 1 ≤ size �
     → inside < count → block + (byte + inside) / size ≡ pos → pos ≤ 2 ^ 62
 near_enough block size byte count end cap pos inside some small below most high within here =
     let ends : end * size ≤ most_positions * 2 ^ 20 = mul-le end size most_positions (2 ^ 20)
-        (omega (arith, below, most)) small in
+    (omega (arith, below, most)) small in
     let begins : block * 1 ≤ block * size = mul-le block 1 block size (omega arith) some in
     let one : block * 1 ≡ block = omega arith in
     let least : (byte + inside) / size ≤ byte + inside = div-le_self (byte + inside) size in

@@ -81,7 +81,7 @@ limit_kept before more line h =
     big : (nat_lt most_written (bytes_written line.call) || nat_lt most_asked (bytes_asked line.call)) ≡ false
     big =
         let small_write = all_last (λ (l : ScriptLine). bytes_written l.call ≤ most_written)
-            before more line h.written in
+        before more line h.written in
         let small_read = all_last (λ (l : ScriptLine). bytes_asked l.call ≤ most_asked) before more line h.asked in
         grind (arith, nat_tests, small_write, small_read)
 

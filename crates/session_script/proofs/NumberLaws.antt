@@ -81,7 +81,7 @@ session_found word who e = at (number_of word) refl e
     at (Some n) is h =
         let parts = some_if (in_range word n) n who h in
         let first = and_parts (nat_le 1 n && nat_le n most_sessions) (not (starts_with nat_eq word (codes "0")))
-            parts.0 in
+        parts.0 in
         let second = and_parts (nat_le 1 n) (nat_le n most_sessions) first.0 in
         let low : 1 ≤ n = leb-true _ _ second.0 in
         let high : n ≤ most_sessions = leb-true _ _ second.1 in record {

@@ -227,7 +227,7 @@ limit_found before line told e = calls_at (nat_le most_calls (length (calls_of b
     big_at : length (calls_of before line.who) < most_calls → (b c : Bool) → nat_lt most_written (bytes_written line.call) ≡ b → nat_lt most_asked (bytes_asked line.call) ≡ c
         → cond (b || c) (Some reasons.Big)
         (cond (nat_lt most_in_all (sum_by (λ l. bytes_written l.call) before + bytes_written line.call))
-            (Some reasons.Sum)
+        (Some reasons.Sum)
         (cond (nat_lt most_in_all (sum_by (λ l. bytes_asked l.call) before + bytes_asked line.call)) (Some reasons.Sum) None)) ≡ Some told → PassesLimit before line told
     big_at few true c write read h = let same : reasons.Big ≡ told = cc in subst (PassesLimit before line) same (few, inl (ltb-true _ _ write))
     big_at few false true write read h = let same : reasons.Big ≡ told = cc in subst (PassesLimit before line) same (few, inr (ltb-true _ _ read))
@@ -237,9 +237,9 @@ limit_found before line told e = calls_at (nat_le most_calls (length (calls_of b
     calls_at : (b : Bool) → nat_le most_calls (length (calls_of before line.who)) ≡ b
         → cond b (Some reasons.Calls)
         (cond (nat_lt most_written (bytes_written line.call) || nat_lt most_asked (bytes_asked line.call))
-            (Some reasons.Big)
+        (Some reasons.Big)
         (cond (nat_lt most_in_all (sum_by (λ l. bytes_written l.call) before + bytes_written line.call))
-            (Some reasons.Sum)
+        (Some reasons.Sum)
         (cond (nat_lt most_in_all (sum_by (λ l. bytes_asked l.call) before + bytes_asked line.call)) (Some reasons.Sum) None))) ≡ Some told → PassesLimit before line told
     calls_at true is h = let same : reasons.Calls ≡ told = cc in subst (PassesLimit before line) same (leb-true _ _ is)
     calls_at false is h = big_at (leb-false _ _ is) (nat_lt most_written (bytes_written line.call)) (nat_lt most_asked (bytes_asked line.call)) refl refl h

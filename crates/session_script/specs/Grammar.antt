@@ -81,9 +81,9 @@ abbrev pub limit_passed : List ScriptLine → ScriptLine → Option ScriptWhy
 limit_passed before line =
     if nat_le most_calls (length (calls_of before line.who)) then Some reasons.Calls
     else if nat_lt most_written (bytes_written line.call) || nat_lt most_asked (bytes_asked line.call)
-        then Some reasons.Big
+    then Some reasons.Big
     else if nat_lt most_in_all (sum_by (λ l. bytes_written l.call) before + bytes_written line.call)
-        then Some reasons.Sum
+    then Some reasons.Sum
     else if nat_lt most_in_all (sum_by (λ l. bytes_asked l.call) before + bytes_asked line.call) then Some reasons.Sum
     else None
 

@@ -34,7 +34,7 @@ abbrev pub session_of : List ℕ → Option ℕ
 session_of word =
     option_and_then
     (λ who. if nat_le 1 who && nat_le who most_sessions && not (starts_with nat_eq word (codes "0"))
-        then Some who else None)
+    then Some who else None)
     (number_of word)
 
 abbrev pub verb_of : List ℕ → Option Verb

@@ -13,8 +13,8 @@ returns c =
     let laid = c.requires.1 in
     let k = c.ended_by-kept.result in
     cut_list size 0 longest_file es c.args.at k (option_to_list c.front_before-front.result)
-        c.keep.new.extents.items laid
+    c.keep.new.extents.items laid
     (found size 0 longest_file es c.deref.result.now c.args.at k c.deref.ensures.value laid
-        c.ended_by-kept.ensures.parts)
+    c.ended_by-kept.ensures.parts)
     (c.front_before-front.ensures.front ∙ ap (λ l. flat_map (before c.args.at) (take 1 (drop k l))) c.deref-2.ensures.value)
     c.keep.ensures
