@@ -49,17 +49,7 @@ module _ {M F : Type 0} where
 
   -- the other's numbers and history beside its own, and what that one knew of the part that stays
   abbrev pub beside : Knowledge M F → Knowledge M F → Knowledge M F
-  beside v w = record {
-    ticket = None;
-    served = false;
-    numbers = v.numbers;
-    seen = v.seen;
-    joined_numbers = w.numbers;
-    joined_seen = w.seen;
-    joined_fixed = w.fixed;
-    seats = v.seats;
-    fixed = v.fixed;
-  }
+  beside v w = record (ended v) { joined_numbers = w.numbers; joined_seen = w.seen; joined_fixed = w.fixed }
 
   -- the numbers of both, and the longer history
   abbrev pub merged : Knowledge M F → Knowledge M F
