@@ -50,12 +50,5 @@ reaches_more text (q ∷ ps) a (g ∷ gs) m at f fs n p next h e = (h.0, h.1, re
 -- ---- what doesn't fit
 
 pub unless_memory : (e : PieceErr) (r : Result (Piece × ℕ) PieceErr) (Q : Type 0) → (r ≡ Err e → Q) → Fails e r → UnlessMemory e Q
-unless_memory (errors.Syntax at) r Q f h = f h
-unless_memory (errors.Unknown at) r Q f h = f h
-unless_memory (errors.Twice at) r Q f h = f h
-unless_memory errors.Version r Q f h = f h
-unless_memory (errors.Missing t) r Q f h = f h
-unless_memory (errors.Number at) r Q f h = f h
-unless_memory (errors.Name at) r Q f h = f h
-unless_memory errors.TooMany r Q f h = f h
 unless_memory errors.NoMemory r Q f h = tt
+unless_memory _ r Q f h = f h

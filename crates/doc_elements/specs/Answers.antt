@@ -37,28 +37,15 @@ HasRoom (code_pieces.Leaf tag v) nodes = Unit {0}
 
 -- a refusal is the one that reading gives, unless memory was refused
 abbrev pub Fails : {B : Type 0} → PieceErr → Result B PieceErr → Type 0
-Fails (errors.Syntax at) read = read ≡ Err (errors.Syntax at)
-Fails (errors.Unknown at) read = read ≡ Err (errors.Unknown at)
-Fails (errors.Twice at) read = read ≡ Err (errors.Twice at)
-Fails errors.Version read = read ≡ Err errors.Version
-Fails (errors.Missing t) read = read ≡ Err (errors.Missing t)
-Fails (errors.Number at) read = read ≡ Err (errors.Number at)
-Fails (errors.Name at) read = read ≡ Err (errors.Name at)
-Fails errors.TooMany read = read ≡ Err errors.TooMany
 Fails errors.NoMemory read = Unit {0}
+Fails e read = read ≡ Err e
 
 -- what a call answered, seen by a view, is what reading gives; or memory was refused
 abbrev pub Gives : {A B : Type 0} → (A → B) → Result A PieceErr → Result B PieceErr → Type 0
 Gives view (Ok x) read = read ≡ Ok (view x)
 Gives view (Err e) read = Fails e read
 
+-- what a refusal claims, unless memory was refused
 abbrev pub UnlessMemory : PieceErr → Type 0 → Type 0
-UnlessMemory (errors.Syntax at) P = P
-UnlessMemory (errors.Unknown at) P = P
-UnlessMemory (errors.Twice at) P = P
-UnlessMemory errors.Version P = P
-UnlessMemory (errors.Missing t) P = P
-UnlessMemory (errors.Number at) P = P
-UnlessMemory (errors.Name at) P = P
-UnlessMemory errors.TooMany P = P
 UnlessMemory errors.NoMemory P = Unit {0}
+UnlessMemory _ P = P

@@ -6,20 +6,8 @@ use Rattle.index_model.specs.declared.errors.IndexErr.TheVariants as errors
 
 -- a refusal is due, unless memory was refused
 abbrev pub UnlessMemory : IndexErr → Type 0 → Type 0
-UnlessMemory (errors.Syntax at) P = P
-UnlessMemory (errors.Unknown at) P = P
-UnlessMemory (errors.Twice at) P = P
-UnlessMemory errors.Version P = P
-UnlessMemory (errors.Missing t) P = P
-UnlessMemory (errors.Number at) P = P
-UnlessMemory (errors.Name at) P = P
-UnlessMemory errors.TooMany P = P
-UnlessMemory (errors.Uid n) P = P
-UnlessMemory (errors.SameName n) P = P
-UnlessMemory (errors.SameKey n) P = P
-UnlessMemory (errors.Extent n) P = P
-UnlessMemory (errors.Overlap n) P = P
 UnlessMemory errors.NoMemory P = Unit {0}
+UnlessMemory _ P = P
 
 -- the index was read, or memory was refused
 abbrev pub IsReadOr : Result Index IndexErr → Index → Type 0

@@ -56,13 +56,8 @@ pub record Stops (text : List ℕ) (e : LabelErr) : Type 0 where
 
 -- a refusal is due, unless memory was refused
 abbrev pub UnlessMemory : LabelErr → Type 0 → Type 0
-UnlessMemory (errors.Syntax at) P = P
-UnlessMemory (errors.Unknown at) P = P
-UnlessMemory (errors.Twice at) P = P
-UnlessMemory errors.Version P = P
-UnlessMemory (errors.Missing t) P = P
-UnlessMemory (errors.Number at) P = P
 UnlessMemory errors.NoMemory P = Unit {0}
+UnlessMemory _ P = P
 
 -- the label was read, or memory was refused
 abbrev pub IsReadOr : Result Label LabelErr → LabelValue → Type 0
