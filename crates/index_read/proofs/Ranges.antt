@@ -4,7 +4,7 @@ use Rattle.std.specs.Prelude.{⊤}
 use Rattle.std.specs.Str.{chars, is_utf8}
 use Rattle.std.proofs.lemmas.Bool.Decides.{nat_tests}
 use Rattle.std.proofs.lemmas.Str.{IsUtf8-from_is_utf8}
-use Rattle.tape_types.specs.Bounds.{longest_name}
+use Rattle.std.proofs.lemmas.Bool.{not-true, and_parts}
 use Rattle.tape_types.specs.Names.{has_byte, is_dot}
 use Rattle.tape_types.specs.Uuids.{uuid_in}
 use Rattle.doc_fields.specs.declared.starts.Start.{Start}
@@ -15,7 +15,6 @@ use Rattle.doc_fields.specs.Reading.{between, byte, syntax_at}
 use Rattle.doc_fields.specs.Space.{space_end}
 use Rattle.doc_fields.specs.Texts.{text_at}
 use Rattle.doc_fields.specs.Values.{letter_at, uuid_at, uuid_or_fault}
-use Rattle.doc_fields.proofs.Again.{both}
 use Rattle.ltfs_text.specs.Names.{decoded}
 use Rattle.doc_elements.specs.declared.errors.PieceErr.{PieceErr}
 use Rattle.doc_elements.specs.declared.errors.PieceErr.TheVariants as errors
@@ -43,11 +42,8 @@ InRange form.Uuid (uuid n) = n < 2 ^ 128
 InRange form.Letter (letter b) = IsLetter b
 InRange form.Bounded (number n) = n ≤ 2 ^ 62
 InRange form.Generation (number n) = (1 ≤ n) × (n ≤ 2 ^ 62)
+InRange form.BlockSize (number n) = (4096 ≤ n) × (n ≤ 1048576)
 InRange _ _ = ⊤
-
-not_true : (b : Bool) → not b ≡ true → b ≡ false
-not_true true e = absurd cc
-not_true false e = refl
 
 -- what holds of what was read holds of the value
 as_value : (P : Val → Type 0) (x v : Val) (m n : ℕ) → ◌≡◌ {A = Result (Val × ℕ) PieceErr} (Ok (x, m)) (Ok (v, n)) → P x → P v
@@ -57,17 +53,17 @@ as_value P x v m n e h = let pair : ◌≡◌ {A = Val × ℕ} (x, m) (v, n) = c
 
 volume_name : (name : List ℕ) → IsUtf8 name → is_volume_name name ≡ true → IsVolumeName name
 volume_name name valid e =
-    let a = both (nat_le (length (chars name)) longest_name && not (has_byte 47 name)) (not (has_byte 0 name)) e in
-    let b = both (nat_le (length (chars name)) longest_name) (not (has_byte 47 name)) a.0 in
+    let a = and_parts (nat_le (length (chars name)) 255 && not (has_byte 47 name)) (not (has_byte 0 name)) e in
+    let b = and_parts (nat_le (length (chars name)) 255) (not (has_byte 47 name)) a.0 in
     let short = b.0 in
-    record { utf8 = valid; short = grind (arith, nat_tests); no_slash = not_true (has_byte 47 name) b.1; no_nul = not_true (has_byte 0 name) a.1 }
+    record { utf8 = valid; short = grind (arith, nat_tests); no_slash = not-true (has_byte 47 name) b.1; no_nul = not-true (has_byte 0 name) a.1 }
 
 node_name : (name : List ℕ) → IsUtf8 name → is_name form.NodeName name ≡ true → IsNodeName name
 node_name name valid e =
-    let a = both (is_volume_name name && nat_lt 0 (length name)) (not (is_dot name)) e in
-    let b = both (is_volume_name name) (nat_lt 0 (length name)) a.0 in
+    let a = and_parts (is_volume_name name && nat_lt 0 (length name)) (not (is_dot name)) e in
+    let b = and_parts (is_volume_name name) (nat_lt 0 (length name)) a.0 in
     let some = b.1 in
-    record { text = volume_name name valid b.0; some = grind (arith, nat_tests); no_dot = not_true (is_dot name) a.1 }
+    record { text = volume_name name valid b.0; some = grind (arith, nat_tests); no_dot = not-true (is_dot name) a.1 }
 
 any_name : (f : Form) (name : List ℕ) → IsUtf8 name → is_name f name ≡ true → (f ≡ form.Text → ⊥) → InRange f (words name)
 any_name form.Text name valid e other = absurd (other refl)
@@ -82,7 +78,7 @@ named_range f from raw name other e = by (is_utf8 raw && is_name f raw) refl e
   where
     by : (b : Bool) → (is_utf8 raw && is_name f raw) ≡ b → cond b (Ok raw) (Err (errors.Name from)) ≡ Ok name → InRange f (words name)
     by true is h =
-        let parts = both (is_utf8 raw) (is_name f raw) is in
+        let parts = and_parts (is_utf8 raw) (is_name f raw) is in
         let same : raw ≡ name = cc (h) in
         subst (λ (t : List ℕ). InRange f (words t)) same (any_name f raw (IsUtf8-from_is_utf8 raw parts.0) parts.1 other)
     by false is h = absurd cc
@@ -124,6 +120,7 @@ bytes_range start text v n e =
 from_tests : (f : Form) (n : ℕ) → nat_lt n (least f) ≡ false → is_too_great f n ≡ false → InRange f (number n)
 from_tests form.Bounded n small great = grind (arith, nat_tests)
 from_tests form.Generation n small great = (grind (arith, nat_tests), grind (arith, nat_tests))
+from_tests form.BlockSize n small great = (grind (arith, nat_tests), grind (arith, nat_tests))
 from_tests form.Text n small great = tt
 from_tests _ n small great = tt
 
@@ -143,7 +140,7 @@ letter_range text at x e = by (nat_le 97 (byte text at) && nat_le (byte text at)
   where
     by : (b : Bool) → (nat_le 97 (byte text at) && nat_le (byte text at) 122) ≡ b → cond b (Ok (byte text at, at + 1)) (syntax_at at) ≡ Ok x → IsLetter x.0
     by true is h =
-        let parts = both (nat_le 97 (byte text at)) (nat_le (byte text at) 122) is in
+        let parts = and_parts (nat_le 97 (byte text at)) (nat_le (byte text at) 122) is in
         let low = parts.0 in
         let high = parts.1 in
         let same : (byte text at, at + 1) ≡ x = cc (h) in

@@ -8,7 +8,6 @@ pub mod LabelKept
 pub mod LabelLemmas
 pub mod LabelRanges
 pub mod LastLemmas
-pub mod LetterRanges
 pub mod MountLemmas
 pub mod MountedTree
 pub mod NoteLemmas

@@ -21,7 +21,7 @@ use Rattle.mount_recover.specs.Lasts.{IsDocument, IsInPlace, IsKnownIp, IsLastDp
 use Rattle.mount_recover.specs.declared.lasts.LastIndex.{LastIndex}
 use Rattle.mount_recover.specs.declared.lasts.TwinIndex.{TwinIndex}
 use Rattle.mount_recover.proofs.LastLemmas.{of_newest, right_ip}
-use Rattle.mount_recover.proofs.LetterRanges.{letters_in_range}
+use Rattle.mount_recover.proofs.LabelRanges.{letters_in_range}
 use Rattle.mount_recover.proofs.MountLemmas.{spot_of}
 
 -- an index is as valid with other pointers

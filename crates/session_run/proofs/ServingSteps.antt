@@ -34,8 +34,7 @@ use Rattle.session_run.specs.declared.ran.RanEnd.TheVariants as run_ends
 use Rattle.session_run.specs.Serving.{EndsSo, HoldsTree, IsBegun, IsLookedAt, IsServedSo, IsUnserved, IsWhole, Whole, closed_end, mount_end}
 use Rattle.session_run.specs.declared.ends.ServeEnd.{ServeEnd}
 use Rattle.session_run.specs.declared.ends.Served.{Served}
-use Rattle.mount_recover.proofs.LabelRanges.{block_in_range}
-use Rattle.mount_recover.proofs.LetterRanges.{letters_in_range}
+use Rattle.mount_recover.proofs.LabelRanges.{block_in_range, letters_in_range}
 use Rattle.basic_commands.proofs.Told.{if_some, of_some}
 
 -- what was mounted can be served
