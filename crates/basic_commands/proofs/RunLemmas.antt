@@ -3,7 +3,8 @@ use Rattle.std.proofs.Common.{◌≡◌, ℕ, ◌+◌, ◌<◌, ◌≤◌, List,
 use Rattle.std.specs.Prelude.{Option, slice_get}
 use Rattle.std.proofs.lemmas.Bool.{cases_lt}
 use Rattle.std.proofs.lemmas.List.{length_push, map-append, take_all, take_more}
-use Rattle.std.proofs.lemmas.Option.{slice_get_within, get_or_from_slice_get}
+use Rattle.std.proofs.lemmas.Option.{slice_get_within, get_or_from_slice_get, same_Some}
+use Rattle.tape_types.proofs.Lists.{slice_get-append, slice_get-seam}
 use Rattle.tape_types.specs.declared.moments.Moment.{Moment}
 use Rattle.plain_tree.specs.History.{Calls, IsInterleaving, after_placement, replay}
 use Rattle.plain_tree.specs.Tree.{Tree, empty_tree}
@@ -16,7 +17,7 @@ use Rattle.session_script.specs.Replies.{AreReplies, IsPlainReply, IsReply}
 use Rattle.session_script.specs.declared.logs.Log.{Log}
 use Rattle.session_script.specs.declared.logs.Reply.{Reply}
 use Rattle.session_script.specs.declared.scripts.ScriptLine.{ScriptLine}
-use Rattle.session_script.proofs.HistoryLemmas.{call_at_line, interleaving_more, replay-push, replies_more, slice_get-append, slice_get-seam, some_same}
+use Rattle.session_script.proofs.HistoryLemmas.{call_at_line, interleaving_more, replay-push, replies_more}
 use Rattle.basic_commands.specs.Headline.{AreMoments, IsMoment, IsPlainRun}
 use Rattle.basic_commands.specs.Runs.{Gives}
 use Rattle.basic_commands.specs.Sessions.{after_fate, IsRunSoFar}
@@ -41,7 +42,7 @@ moments_more at gives history p so_far here place q found = ⊎_elim
     (λ ge.
     let within : place < length (history ++ p ∷ []) = slice_get_within (history ++ p ∷ []) place q found in
     let last : place ≡ length history = omega (arith, length_push history p) in
-    let same : p ≡ q = some_same p q (sym (slice_get-seam history p) ∙ ap (slice_get (history ++ p ∷ [])) (sym last) ∙ found) in
+    let same : p ≡ q = same_Some p q (sym (slice_get-seam history p) ∙ ap (slice_get (history ++ p ∷ [])) (sym last) ∙ found) in
     subst (λ x. IsMoment at gives (place + 1) x.at) same (subst (λ n. IsMoment at gives (n + 1) p.at) (sym last) here))
     (cases_lt place (length history))
 

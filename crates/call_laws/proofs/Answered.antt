@@ -2,7 +2,8 @@
 use Rattle.std.specs.Prelude.{◌≡◌, ◌⊎◌, ◌==◌, ◌||◌, ℕ, zero, suc, ◌<◌, Bool, true, false, List, [], ◌∷◌, fold, length, Option, Some, None, slice_get}
 use Rattle.std.specs.List.{list_any}
 use Rattle.std.proofs.Common.{inl, inr, refl, sym, ap, subst, ◌∙◌, arith, length-set}
-use Rattle.std.proofs.lemmas.Bool.{both_ways, cases_Bool, eqb-true, eq-eqb, ne_eqb}
+use Rattle.std.proofs.lemmas.Bool.{both_ways, cases_Bool, eqb-true, eq-eqb, ne_eqb, or_parts}
+use Rattle.std.proofs.lemmas.Option.{same_Some, slice_get_within}
 use Rattle.plain_tree.specs.declared.calls.Answer.TheVariants as the_answers
 use Rattle.session_script.specs.declared.logs.Event.{Event}
 use Rattle.session_script.specs.declared.logs.Reply.{Reply}
@@ -12,9 +13,8 @@ use Rattle.event_laws.specs.Trail.{after}
 use Rattle.serving_promise.specs.Acks.{answers}
 use Rattle.serving_promise.specs.Served.{AreWaiting, is_waiting}
 use Rattle.order_laws.specs.Sides.{IsBrought, IsReplied}
-use Rattle.order_laws.proofs.Lists.{at_within, some_same}
 use Rattle.state_laws.specs.Stepping.{all_synced, replied, synced_events}
-use Rattle.call_laws.proofs.Splits.{flip, or_false}
+use Rattle.call_laws.proofs.Splits.{flip}
 
 abbrev pub synced : Reply
 synced = the_replies.Answer the_answers.Synced
@@ -68,10 +68,10 @@ one_brought st added told t reply are b k came was is = by (k == t) refl
     by : (same : Bool) → (k == t) ≡ same → IsBrought st added k came
     by true same =
         let at : k ≡ t = eqb-true k t same in
-        let there : Some reply ≡ came = some_same (Some reply) came (sym (told_here told t reply (at_within told t None b.waited)) ∙ ap (λ n. slice_get (replied t reply told) n) (sym at) ∙ is) in
+        let there : Some reply ≡ came = same_Some (Some reply) came (sym (told_here told t reply (slice_get_within told t None b.waited)) ∙ ap (λ n. slice_get (replied t reply told) n) (sym at) ∙ is) in
         subst (IsBrought st added k) there (subst (λ n. IsReplied st added n reply) (sym at) b.gives)
     by false other =
-        let none : None ≡ came = some_same None came (sym was ∙ sym (told_else told t k reply other) ∙ is) in
+        let none : None ≡ came = same_Some None came (sym was ∙ sym (told_else told t k reply other) ∙ is) in
         subst (IsBrought st added k) none (b.others k other ∙ are.none_yet k was)
 
 pub one_kept : (st : State) (told : List (Option Reply)) (t : ℕ) (reply : Reply) → slice_get told t ≡ Some None
@@ -94,7 +94,7 @@ one_came told t reply k came waited was is = by (k == t) refl
     by : (same : Bool) → (k == t) ≡ same → (k ≡ t) × (reply ≡ came)
     by true same =
         let at : k ≡ t = eqb-true k t same in
-        (at, some reply came (sym (told_here told t reply (at_within told t None waited)) ∙ ap (λ n. slice_get (replied t reply told) n) (sym at) ∙ is))
+        (at, some reply came (sym (told_here told t reply (slice_get_within told t None waited)) ∙ ap (λ n. slice_get (replied t reply told) n) (sym at) ∙ is))
     by false other = absurd (none_some came (sym was ∙ sym (told_else told t k reply other) ∙ is))
 
 -- no reply comes
@@ -103,7 +103,7 @@ pub none_brought : (st : State) (added : List Event) (told : List (Option Reply)
     → (k : ℕ) (came : Option Reply) → slice_get told k ≡ Some None → slice_get told k ≡ Some came
     → IsBrought st added k came
 none_brought st added told are still k came was is =
-    subst (IsBrought st added k) (some_same None came (sym was ∙ is)) (still k (are.none_yet k was))
+    subst (IsBrought st added k) (same_Some None came (sym was ∙ is)) (still k (are.none_yet k was))
 
 -- ---- syncs
 
@@ -116,7 +116,7 @@ pub synced_else : (tickets : List ℕ) (told : List (Option Reply)) (k : ℕ)
     → slice_get (all_synced tickets told) k ≡ slice_get told k
 synced_else [] told k none = refl
 synced_else (t ∷ tickets) told k none =
-    let parts = or_false (t == k) (list_any (answers k) (synced_events tickets)) none in
+    let parts = or_parts (t == k) (list_any (answers k) (synced_events tickets)) none in
     synced_else tickets (replied t synced told) k parts.1 ∙ told_else told t k synced (flip t k parts.0)
 
 pub synced_here : (tickets : List ℕ) (told : List (Option Reply)) (k : ℕ) → k < length told

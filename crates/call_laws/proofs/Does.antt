@@ -4,6 +4,7 @@ use Rattle.std.specs.List.{list_all, list_any}
 use Rattle.std.proofs.Common.{inl, inr, refl, sym, ap, subst, ◌∙◌, arith, append-nil}
 use Rattle.std.proofs.lemmas.Bool.{both_ways, cases_Bool}
 use Rattle.std.proofs.lemmas.List.Elements.{All-cons}
+use Rattle.std.proofs.lemmas.Option.{same_Some, slice_get_within}
 use Rattle.tape_types.specs.Cartridges.{next}
 use Rattle.tape_types.specs.Counts.{IsRise}
 use Rattle.tape_types.specs.declared.cartridges.Cartridge.{Cartridge}
@@ -37,7 +38,6 @@ use Rattle.order_laws.specs.Kept.{seen}
 use Rattle.order_laws.specs.Sides.{IsBrought, TurnsInOrder}
 use Rattle.order_laws.proofs.Apart.{still_untouched}
 use Rattle.order_laws.proofs.Frames.{is_turning, no_step_no_fault, syncs_it, wants_it, worked_stays}
-use Rattle.order_laws.proofs.Lists.{at_within, some_same}
 use Rattle.order_laws.proofs.Owned.{after_more}
 use Rattle.order_laws.proofs.Turning.{all_turn, answers_step, unanswered}
 use Rattle.crash_laws.proofs.Stepped.{on_already, on_never, on_turned}
@@ -214,9 +214,9 @@ module _ {D : Type 0} (drive : Ghosts D) (fixed : Fixed D) (plan : Plan drive fi
     where
       by : (list_any (answers k) (synced_events tickets) ≡ true) ⊎ (list_any (answers k) (synced_events tickets) ≡ false) → IsBrought st added k reply
       by (inl has) = subst (IsBrought st added k)
-          (some_same (Some synced) reply (sym (synced_here tickets old.listed.replies k (at_within old.listed.replies k None was) has) ∙ is))
+          (same_Some (Some synced) reply (sym (synced_here tickets old.listed.replies k (slice_get_within old.listed.replies k None was) has) ∙ is))
           (record { waits = answered_rests k has; fault = sym (none_owned st (place_of op) tickets (of_call k)); synced = sym has })
-      by (inr none) = subst (IsBrought st added k) (some_same None reply (sym was ∙ sym (synced_else tickets old.listed.replies k none) ∙ is))
+      by (inr none) = subst (IsBrought st added k) (same_Some None reply (sym was ∙ sym (synced_else tickets old.listed.replies k none) ∙ is))
           (not_synced tickets (after st (Worked (place_of op) None)) k none ∙ waits_on k ∙ kept.order.orderly.waiting.none_yet k was)
 
   -- ---- what the step shows
@@ -292,9 +292,9 @@ module _ {D : Type 0} (drive : Ghosts D) (fixed : Fixed D) (plan : Plan drive fi
           let waited : list_any (syncs_it k) st.syncs ≡ true =
           sym (ap (list_any (syncs_it k)) (worked_stays st (waiting_op st)).syncs) ∙ answered_waits tickets st1 k (rest_allowed st (Worked (place_of op) None) (synced_events tickets) trail) has in
           let s = syncs_at (given before (seen drive fixed.first)).calls old.listed.history old.trail.events k kept.order.orderly.syncs waited in
-          let placed : s.placed ≡ p = some_same s.placed p (sym s.at ∙ at) in
-          let its : Sync ≡ call = some_same Sync call (sym s.sync ∙ ap (call_at (given before (seen drive fixed.first)).calls) placed ∙ is) in
-          inl (sym (same synced reply (sym (synced_here tickets old.listed.replies k (at_within old.listed.replies k None was) has) ∙ there))
+          let placed : s.placed ≡ p = same_Some s.placed p (sym s.at ∙ at) in
+          let its : Sync ≡ call = same_Some Sync call (sym s.sync ∙ ap (call_at (given before (seen drive fixed.first)).calls) placed ∙ is) in
+          inl (sym (same synced reply (sym (synced_here tickets old.listed.replies k (slice_get_within old.listed.replies k None was) has) ∙ there))
           ∙ ap (λ c. the_replies.Answer (answer (standing (given before (seen drive fixed.first)) old.on old.listed.history k).tree c)) its)
 
   truth : AnswersTruly (seen drive fixed.first) before after_it

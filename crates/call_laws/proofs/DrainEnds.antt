@@ -3,6 +3,7 @@ use Rattle.std.proofs.Common.{◌≡◌, ◌==◌, ◌||◌, not, ℕ, Bool, tru
 use Rattle.std.specs.Prelude.{IfSome, filter_map, slice_get}
 use Rattle.std.specs.List.{cons_option, list_any}
 use Rattle.std.proofs.lemmas.List.Elements.{filter_map-append}
+use Rattle.tape_types.proofs.Lists.{slice_get-seam}
 use Rattle.tape_types.specs.declared.cartridges.Twin.{Twin}
 use Rattle.tape_types.specs.declared.moments.Moment.{Moment}
 use Rattle.tape_drive.specs.declared.drive.Drive.{Ghosts}
@@ -35,7 +36,6 @@ use Rattle.order_laws.specs.Kept.{seen}
 use Rattle.order_laws.specs.Laws.{IsInOrder}
 use Rattle.order_laws.specs.Sides.{AsksOneMoment, DrainsInOrder, MovesOn}
 use Rattle.order_laws.proofs.Frames.{no_step_owned}
-use Rattle.order_laws.proofs.Lists.{at_end}
 use Rattle.order_laws.proofs.Told.{owned_more}
 use Rattle.order_laws.proofs.TurnLaw.{drain_turns_keep}
 use Rattle.reply_laws.specs.Draining.{DrainsForWrites}
@@ -160,7 +160,7 @@ module _ {D : Type 0} (drive : Ghosts D) (fixed : Fixed D) (planned : Items) (be
 
     at_last : slice_get new.listed.replies (length old.listed.history) ≡ Some (Some fault)
     at_last = ap (λ (rs : List (Option Reply)). slice_get rs (length old.listed.history)) replies_are
-        ∙ ap (λ n. slice_get (old.listed.replies ++ Some fault ∷ []) n) (sym order.count) ∙ at_end old.listed.replies (Some fault)
+        ∙ ap (λ n. slice_get (old.listed.replies ++ Some fault ∷ []) n) (sym order.count) ∙ slice_get-seam old.listed.replies (Some fault)
 
     voids : CanRead drive fixed → VoidsTruly (seen drive fixed.first) v w who counts
     voids can =
@@ -172,7 +172,7 @@ module _ {D : Type 0} (drive : Ghosts D) (fixed : Fixed D) (planned : Items) (be
           writes = call.2;
           owned = told_faults_are_owned new.listed.history new.trail.events new.listed.replies new.trail.kept (drive.faults fixed.first) (drive.faults new.drive)
               order_then.orderly.faults (length old.listed.history) placed counts
-              (ap (λ (ps : List Placed). slice_get ps (length old.listed.history)) history_is ∙ at_end old.listed.history placed) at_last;
+              (ap (λ (ps : List Placed). slice_get ps (length old.listed.history)) history_is ∙ slice_get-seam old.listed.history placed) at_last;
           added = a.added;
           events = t.events ∙ a.events;
           ops = ap (λ (k : Stocked). k.layout.ops) t.tape.stock ∙ a.ops;

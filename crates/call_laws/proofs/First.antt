@@ -1,6 +1,7 @@
 -- What is planned first: what the mount found, or blocks of zeros up to its ends where the drive tells no cartridge.
 use Rattle.std.specs.Prelude.{ℕ, zero, suc, ◌≡◌, ◌<◌, ◌≤◌, List, [], ◌∷◌, take, Option, Some, None, IfSome, slice_get}
 use Rattle.std.proofs.Common.{refl, sym, ap, subst, ◌∙◌, arith}
+use Rattle.std.proofs.lemmas.Option.{same_Some}
 use Rattle.tape_types.specs.declared.cartridges.Cartridge.{Cartridge}
 use Rattle.tape_types.specs.declared.cartridges.Limits.{Limits}
 use Rattle.tape_types.specs.declared.cartridges.Part.{Part}
@@ -54,9 +55,6 @@ pub record IsFirst (told : Option Cartridge) (m : Mounted) (tree : Tree) (g : Gi
   pub mounts : (c : Cartridge) → told ≡ Some c → Mounts c m
   pub reads_as : IfSome told (λ c. Reads c (carried m.index) tree m.newest)
 
-one_of : (a b : Cartridge) → ◌≡◌ {A = Option Cartridge} (Some a) (Some b) → a ≡ b
-one_of a b e = cc
-
 module _ (limits : Limits) (m : Mounted) (some : 1 ≤ m.label.block) (tree : Tree) (g : Given)
     (mounted_is : g.mounted ≡ mounted_facts m) (limits_are : g.limits ≡ limits) (tree_is : g.tree ≡ tree) (s : Stocked)
     (stands : (tape : Tape) → StartsFrom tape limits m g → IsStock tape g m.ip_on (first_standing g) s)
@@ -90,9 +88,9 @@ module _ (limits : Limits) (m : Mounted) (some : 1 ≤ m.label.block) (tree : Tr
     stock = go_by_the_tape.below (tape_of c) (tape_on (mounted_items c)) g m.ip_on (first_standing g) s
         (subst (λ e. AgreeBelow (ends_of e) (tape_of c) (tape_on (mounted_items c))) (sym ends_are) (agrees c m h))
         (stands_on (Some c) plain);
-    way = λ d e. subst (λ d. IsOnWay (mounted_items c) [] d) (one_of c d e) (ways_go_on.begins c m h);
-    items = λ d e part. ap (λ d. mounted_items d part) (sym (one_of c d e));
-    mounts = λ d e. subst (λ d. Mounts d m) (one_of c d e) h;
+    way = λ d e. subst (λ d. IsOnWay (mounted_items c) [] d) (same_Some c d e) (ways_go_on.begins c m h);
+    items = λ d e part. ap (λ d. mounted_items d part) (sym (same_Some c d e));
+    mounts = λ d e. subst (λ d. Mounts d m) (same_Some c d e) h;
     reads_as = reads c h plain;
   }
 

@@ -1,6 +1,7 @@
 -- What a submission places, with its ops, where the cartridge reads as the tree.
 use Rattle.std.proofs.Common.{◌≡◌, inl, inr, ℕ, false, List, [], ◌∷◌, ◌++◌, length}
 use Rattle.std.proofs.Common.{Option, None, Some, sym, ap, subst, ◌∙◌}
+use Rattle.std.proofs.lemmas.Option.{same_Some}
 use Rattle.tape_types.specs.declared.moments.Moment.{Moment}
 use Rattle.plain_tree.specs.History.{call_at}
 use Rattle.plain_tree.specs.declared.calls.Call.{Call}
@@ -31,9 +32,6 @@ goes_by v w who nth (submitted.Ready reply) placing = inr (placing.placed, placi
 goes_by v w who nth (submitted.Wait ticket) placing = inr (placing.1.placed, placing.1.history)
 goes_by v w who nth submitted.Drain placing = inl placing.history
 
-some_call : (a b : Call) → Some a ≡ Some b → a ≡ b
-some_call a b e = cc
-
 module _ {D : Type 0} (first : Drive) (v w : View D) (who nth : ℕ) where
   abbrev g : Given
   g = given v first
@@ -56,7 +54,7 @@ module _ {D : Type 0} (first : Drive) (v w : View D) (who nth : ℕ) where
         → call_at g.calls placed ≡ Some call → IsWithin call placed.at
     within_at fits placed history call is =
         let same = is_one placed history in
-        let called : t.call ≡ call = some_call t.call call (sym t.is_call ∙ ap (call_at g.calls) same ∙ is) in
+        let called : t.call ≡ call = same_Some t.call call (sym t.is_call ∙ ap (call_at g.calls) same ∙ is) in
         subst (λ (c : Call). IsWithin c placed.at) called
         (subst (λ (m : Moment). IsWithin t.call m) (ap (λ (q : Placed). q.at) same) fits)
 

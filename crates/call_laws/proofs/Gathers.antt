@@ -4,6 +4,7 @@ use Rattle.std.specs.List.{list_any}
 use Rattle.std.proofs.Common.{inl, refl, sym, ap, subst, ◌∙◌, arith}
 use Rattle.std.proofs.lemmas.Bool.{eqb-true, eq-eqb, or_from, or_left}
 use Rattle.std.proofs.lemmas.List.{map-append}
+use Rattle.std.proofs.lemmas.Option.{same_Some, none-some}
 use Rattle.tape_types.specs.Cartridges.{next as next_place}
 use Rattle.tape_types.specs.declared.cartridges.Cartridge.{Cartridge}
 use Rattle.tape_types.specs.declared.cartridges.Item.{Item}
@@ -34,7 +35,6 @@ use Rattle.serving_promise.specs.Served.{Fixed, given, is_waiting}
 use Rattle.serving_promise.specs.Steps.{HeadIsRead}
 use Rattle.order_laws.specs.Kept.{seen}
 use Rattle.order_laws.proofs.Frames.{syncs_it, wants_it}
-use Rattle.order_laws.proofs.Lists.{some_same}
 use Rattle.space_laws.specs.Standing.{Given, standing}
 use Rattle.reply_laws.specs.Within.{IsAnswerAt}
 use Rattle.event_journal.specs.Trails.{state}
@@ -58,9 +58,6 @@ use Rattle.call_laws.proofs.Splits.{all_mid, any_mid}
 use Rattle.call_laws.proofs.Taken.{reads_with, reads_without}
 
 -- ---- small facts
-
-none_some : {X : Type 0} (x : X) → None ≡ Some x → ⊥
-none_some x e = cc
 
 not_yet : (reply : Reply) → Some None ≡ Some (Some reply) → ⊥
 not_yet reply e = cc
@@ -140,7 +137,7 @@ module _ {D : Type 0} (drive : Ghosts D) (fixed : Fixed D) (plan : Plan drive fi
   block_is c told = by (drive.held old.drive) refl
     where
       by : (o : Option Cartridge) → drive.held old.drive ≡ o → IsBlock (tape_on planned) place block
-      by None is = absurd (none_some c (sym (tied.told is) ∙ told))
+      by None is = absurd (none-some c (sym (tied.told is) ∙ told))
       by (Some h) is = tapes_tell.found planned old.stock.layout.ops place got block h (tied.way h is)
           (stands drive fixed plan planned next_at old kept tied ticket place did.request) (did.found h is)
 
@@ -243,8 +240,8 @@ module _ {D : Type 0} (drive : Ghosts D) (fixed : Fixed D) (plan : Plan drive fi
     came can k p call reply at is was there =
         let c = one_came old.listed.replies ticket (the_replies.Answer gives) k reply waited was (sym (ap (λ l. slice_get l k) told_are) ∙ there) in
         let same : k ≡ one.ticket = c.0 ∙ sym did.read.stands.ticket_is in
-        let placed : reading.placed ≡ p = some_same reading.placed p (sym reading.placed_is ∙ ap (slice_get old.listed.history) (sym same) ∙ at) in
-        let calls : reading.call ≡ call = some_same reading.call call (sym reading.call_is ∙ ap (call_at g.calls) placed ∙ is) in
+        let placed : reading.placed ≡ p = same_Some reading.placed p (sym reading.placed_is ∙ ap (slice_get old.listed.history) (sym same) ∙ at) in
+        let calls : reading.call ≡ call = same_Some reading.call call (sym reading.call_is ∙ ap (call_at g.calls) placed ∙ is) in
         let read : gives ≡ read_answer (tape_on planned) did.next.pieces =
         on.1.2.1 (tape_on planned) (was_met left ticket) (gathers can.held can.told) (λ q h. all_met left.requests ticket q gone) in
         let tree : answer (standing g old.on old.listed.history k).tree call ≡ read_answer (tape_on planned) did.next.pieces =

@@ -2,6 +2,7 @@
 use Rattle.std.proofs.Common.{◌≡◌, ◌⊎◌, ℕ, zero, suc, ◌==◌, ◌||◌, ◌&&◌, inl, inr, Bool, true, false, cond, List, [], ◌∷◌, length, map, take, Option, Some, None, ⊎_elim, refl, sym, ap, ◌∙◌}
 use Rattle.std.specs.FinMap as fin
 use Rattle.std.specs.List.{list_any}
+use Rattle.std.proofs.lemmas.Bool.{or_right}
 use Rattle.tape_types.specs.declared.cartridges.Part.{Part}
 use Rattle.tape_types.specs.declared.cartridges.Part.TheVariants.{Dp, Ip}
 use Rattle.tape_types.specs.declared.cartridges.Place.{Place}
@@ -97,13 +98,9 @@ held_put_at Dp Dp n m block bytes later rest e h = by (n == m) e
 held_put_at Ip Dp n m block bytes later rest e h = h e
 held_put_at Dp Ip n m block bytes later rest e h = h e
 
-or_rest : (a rest : Bool) → rest ≡ true → (a || rest) ≡ true
-or_rest true rest e = refl
-or_rest false rest e = e
-
 pub held_put : (place : Place) (ops : List Op) (bytes : List ℕ) → held_in place ops ≡ Some bytes → list_any (puts_at place) (map headed ops) ≡ true
 held_put place [] bytes e = absurd cc
 held_put place (Put at block ∷ ops) bytes e =
     held_put_at at.part place.part at.pos place.pos block bytes (held_in place ops) (list_any (puts_at place) (map headed ops)) e (λ later. held_put place ops bytes later)
-held_put place (Mark at ∷ ops) bytes e = or_rest (puts_at place (headed (Mark at))) (list_any (puts_at place) (map headed ops)) (held_put place ops bytes e)
-held_put place (Flush at ∷ ops) bytes e = or_rest (puts_at place (headed (Flush at))) (list_any (puts_at place) (map headed ops)) (held_put place ops bytes e)
+held_put place (Mark at ∷ ops) bytes e = or_right (puts_at place (headed (Mark at))) (list_any (puts_at place) (map headed ops)) (held_put place ops bytes e)
+held_put place (Flush at ∷ ops) bytes e = or_right (puts_at place (headed (Flush at))) (list_any (puts_at place) (map headed ops)) (held_put place ops bytes e)

@@ -2,7 +2,7 @@
 use Rattle.std.specs.Prelude.{◌≡◌, ◌==◌, ◌&&◌, ◌||◌, not, Bool, true, false, cond, List, [], ◌∷◌, ◌++◌, filter, fold, Some, None}
 use Rattle.std.specs.List.{list_any}
 use Rattle.std.proofs.Common.{⊎_elim, refl, sym, ap, subst, ◌∙◌}
-use Rattle.std.proofs.lemmas.Bool.{and_parts, both_ways, cases_Bool, eq-eqb}
+use Rattle.std.proofs.lemmas.Bool.{and_parts, both_ways, cases_Bool, eq-eqb, not-true, or_parts}
 use Rattle.std.proofs.lemmas.List.Folds.{list_any-append}
 use Rattle.tape_types.specs.declared.cartridges.Part.{Part}
 use Rattle.tape_types.specs.declared.cartridges.Part.TheVariants.{Ip, Dp}
@@ -14,7 +14,6 @@ use Rattle.order_laws.proofs.Frames.{worked_stays}
 use Rattle.order_laws.proofs.Lists.{any_filter}
 use Rattle.order_laws.proofs.Turning.{eqb_flip, may_come}
 use Rattle.call_laws.proofs.States.{failed_leaves}
-use Rattle.call_laws.proofs.Splits.{or_false}
 
 -- no later one asks for the same
 abbrev pub Once : List Request → Type 0
@@ -54,7 +53,7 @@ once_more : (rs : List Request) (r : Request) → list_any (asks r.ticket r.plac
     → Once (rs ++ r ∷ [])
 once_more [] r none once = (refl, tt)
 once_more (x ∷ rs) r none once =
-    let parts = or_false (asks r.ticket r.place x) (list_any (asks r.ticket r.place) rs) none in (
+    let parts = or_parts (asks r.ticket r.place x) (list_any (asks r.ticket r.place) rs) none in (
       list_any-append (asks x.ticket x.place) rs (r ∷ [])
           ∙ both_false (list_any (asks x.ticket x.place) rs) (asks x.ticket x.place r || false) once.0 (both_false (asks x.ticket x.place r) false (asks_flip x r ∙ parts.0) refl),
       once_more rs r parts.1 once.1,
@@ -62,14 +61,10 @@ once_more (x ∷ rs) r none once =
 
 -- ---- as events come
 
-not_true : (b : Bool) → not b ≡ true → b ≡ false
-not_true true e = absurd (cc)
-not_true false e = refl
-
 one_once : (st : State) (e : Event) → fits st e ≡ true → Once st.requests → Once (after st e).requests
 one_once st (Wants ticket place) fit once =
     once_more st.requests (record { ticket = ticket; place = place; arrival = st.arrived })
-    (not_true (list_any (asks ticket place) st.requests) (and_parts (not (list_any (asks ticket place) st.requests)) (not (list_any (puts_at place) (ops st))) fit).0) once
+    (not-true (list_any (asks ticket place) st.requests) (and_parts (not (list_any (asks ticket place) st.requests)) (not (list_any (puts_at place) (ops st))) fit).0) once
 one_once st (Queues place) fit once = once
 one_once st (Syncs ticket) fit once = once
 one_once st (Synced ticket) fit once = once
@@ -95,10 +90,10 @@ none_before : (front : List Request) (r : Request) (behind : List Request) → O
     → list_any (asks r.ticket r.place) front ≡ false
 none_before [] r behind once = refl
 none_before (x ∷ front) r behind once =
-    let parts = or_false (list_any (asks x.ticket x.place) front) (asks x.ticket x.place r || list_any (asks x.ticket x.place) behind)
+    let parts = or_parts (list_any (asks x.ticket x.place) front) (asks x.ticket x.place r || list_any (asks x.ticket x.place) behind)
     (sym (list_any-append (asks x.ticket x.place) front (r ∷ behind)) ∙ once.0) in
     both_false (asks r.ticket r.place x) (list_any (asks r.ticket r.place) front)
-    (asks_flip r x ∙ (or_false (asks x.ticket x.place r) (list_any (asks x.ticket x.place) behind) parts.1).0) (none_before front r behind once.1)
+    (asks_flip r x ∙ (or_parts (asks x.ticket x.place r) (list_any (asks x.ticket x.place) behind) parts.1).0) (none_before front r behind once.1)
 
 none_behind : (front : List Request) (r : Request) (behind : List Request) → Once (front ++ r ∷ behind)
     → list_any (asks r.ticket r.place) behind ≡ false
@@ -108,7 +103,7 @@ none_behind (x ∷ front) r behind once = none_behind front r behind once.1
 keeps_all : {X : Type 0} (p : X → Bool) (xs : List X) → list_any p xs ≡ false → filter (λ x. not (p x)) xs ≡ xs
 keeps_all p [] none = refl
 keeps_all p (x ∷ xs) none =
-    let parts = or_false (p x) (list_any p xs) none in
+    let parts = or_parts (p x) (list_any p xs) none in
     ap (λ b. cond (not b) (x ∷ filter (λ y. not (p y)) xs) (filter (λ y. not (p y)) xs)) parts.0
     ∙ ap (λ l. x ∷ l) (keeps_all p xs parts.1)
 
@@ -119,7 +114,7 @@ takes_one p [] x behind none is later =
     ap (λ b. cond (not b) (x ∷ filter (λ y. not (p y)) behind) (filter (λ y. not (p y)) behind)) is
     ∙ keeps_all p behind later
 takes_one p (y ∷ front) x behind none is later =
-    let parts = or_false (p y) (list_any p front) none in
+    let parts = or_parts (p y) (list_any p front) none in
     ap (λ b. cond (not b) (y ∷ filter (λ z. not (p z)) (front ++ x ∷ behind)) (filter (λ z. not (p z)) (front ++ x ∷ behind))) parts.0
     ∙ ap (λ l. y ∷ l) (takes_one p front x behind parts.1 is later)
 

@@ -3,6 +3,7 @@ use Rattle.std.proofs.Common.{◌≡◌, ℕ, ◌+◌, ◌<◌, ◌≤◌, ◌||
 use Rattle.std.specs.Prelude.{All, IfSome, slice_index_or}
 use Rattle.std.specs.List.{list_any}
 use Rattle.std.proofs.lemmas.Bool.Decides.{nat_tests}
+use Rattle.std.proofs.lemmas.Option.{slice_get_within}
 use Rattle.tape_types.specs.declared.cartridges.Cartridge.{Cartridge}
 use Rattle.tape_types.specs.declared.cartridges.Part.TheVariants.{Dp, Ip}
 use Rattle.tape_types.specs.declared.cartridges.Place.{Place}
@@ -23,7 +24,7 @@ use Rattle.space_laws.proofs.Steps.{are_still}
 use Rattle.serving_promise.specs.Mount.{facts_of}
 use Rattle.serving_promise.specs.Served.{Fixed, given}
 use Rattle.order_laws.specs.Kept.{seen}
-use Rattle.order_laws.proofs.Lists.{at_more, at_within}
+use Rattle.order_laws.proofs.Lists.{at_more}
 use Rattle.reply_laws.specs.Sides.{on_here, standing_here}
 use Rattle.reply_laws.proofs.Places.{standing_goes_on}
 use Rattle.crash_laws.proofs.Placing.{standings_go_on}
@@ -47,7 +48,7 @@ reading_later g on history p planned told st r h = record {
   call_is = h.call_is;
   answers =
       ap (λ (s : Standing). answer s.tree h.call)
-      ((standing_goes_on g on history p).stands r.ticket (let less : r.ticket < length history = at_within history r.ticket h.placed h.placed_is in omega (arith, less)))
+      ((standing_goes_on g on history p).stands r.ticket (let less : r.ticket < length history = slice_get_within history r.ticket h.placed h.placed_is in omega (arith, less)))
       ∙ h.answers;
   below = h.below;
   gathering = h.gathering;

@@ -1,6 +1,7 @@
 -- The reads that wait stay right as a call is placed and its ops are admitted.
 use Rattle.std.proofs.Common.{◌≡◌, ℕ, ◌<◌, not, Bool, true, false, List, [], ◌∷◌, ◌++◌, length, Option, Some, None, IfSome, slice_index_or, All, sym, ap, ◌∙◌, subst, arith}
 use Rattle.std.specs.List.{list_any}
+use Rattle.tape_types.proofs.Lists.{slice_get-append}
 use Rattle.tape_types.specs.declared.cartridges.Cartridge.{Cartridge}
 use Rattle.extent_map.specs.Replies.{Places, gathered}
 use Rattle.extent_map.specs.declared.pieces.Piece.{Piece}
@@ -12,7 +13,7 @@ use Rattle.event_laws.specs.Waiting.{Request, State}
 use Rattle.tape_layout.specs.declared.ops.Op.{Op}
 use Rattle.tape_layout.specs.Ops.{AreNext}
 use Rattle.space_laws.specs.Standing.{Given, Standing}
-use Rattle.reply_laws.proofs.Lists.{get_left, get_within}
+use Rattle.reply_laws.proofs.Lists.{get_within}
 use Rattle.reply_laws.proofs.Places.{standing_goes_on}
 use Rattle.waiting_reads.specs.Gathering.{Gathering, HasSoFar, IsGathering, got_or_damaged}
 use Rattle.plan_laws.specs.Planned.{Items, LieBelow, ends_in, tape_on, with_ops}
@@ -49,7 +50,7 @@ module _ (g : Given) (on : Option ℕ) (history : List Placed) (p : Placed) (pla
       let within : r.ticket < length history = get_within history r.ticket is.placed is.placed_is in
       record {
         placed = is.placed;
-        placed_is = get_left history (p ∷ []) r.ticket within ∙ is.placed_is;
+        placed_is = slice_get-append history (p ∷ []) r.ticket within ∙ is.placed_is;
         call = is.call;
         call_is = is.call_is;
         answers = ap (λ (s : Standing). answer s.tree is.call) ((standing_goes_on g on history p).stands r.ticket (omega (arith, within)))

@@ -1,6 +1,7 @@
 -- What a submission shows beside what it adds, whatever it places.
 use Rattle.std.proofs.Common.{◌≡◌, ℕ, ◌<◌, Bool, true, false, cond, nat_le, List, [], ◌∷◌, ◌++◌, length, map, Option, Some, None, length-append, refl, sym, ap, subst, ◌∙◌, arith}
 use Rattle.std.proofs.lemmas.Bool.{false_from_ne_true}
+use Rattle.std.proofs.lemmas.Option.{slice_get_within}
 use Rattle.tape_types.specs.declared.moments.Moment.{Moment}
 use Rattle.tape_drive.specs.declared.drive.Drive.{Ghosts}
 use Rattle.plain_tree.specs.declared.calls.Placed.{Placed}
@@ -13,7 +14,6 @@ use Rattle.serving_promise.specs.Served.{Fixed, given, headed, is_waiting}
 use Rattle.order_laws.specs.Kept.{seen}
 use Rattle.order_laws.specs.Laws.{IsInOrder}
 use Rattle.order_laws.specs.Sides.{MayFollow}
-use Rattle.order_laws.proofs.Lists.{at_within}
 use Rattle.reply_laws.proofs.Lists.{next_same}
 use Rattle.crash_laws.specs.Laws.{AddsOps}
 use Rattle.crash_laws.proofs.Trails.{trail_behind}
@@ -70,5 +70,5 @@ module _ {D : Type 0} (drive : Ghosts D) (fixed : Fixed D) (before after : Optio
   rests_here kept = false_from_ne_true (is_waiting (after_all old.trail.events) (length old.listed.history))
       (λ waits.
       let within : length old.listed.history < length old.listed.replies =
-      at_within old.listed.replies (length old.listed.history) None (kept.orderly.waiting.waits (length old.listed.history) waits) in
+      slice_get_within old.listed.replies (length old.listed.history) None (kept.orderly.waiting.waits (length old.listed.history) waits) in
       omega (arith, kept.count, within))

@@ -55,11 +55,6 @@ first_read ticket (r ∷ reads) has = by (r.ticket == ticket) refl has (λ h. fi
 
 -- ---- tests
 
--- neither of two tests passes
-pub or_false : (a b : Bool) → (a || b) ≡ false → (a ≡ false) × (b ≡ false)
-or_false true b h = absurd (cc)
-or_false false b h = (refl, h)
-
 -- two numbers differ either way
 pub flip : (a b : ℕ) → (a == b) ≡ false → (b == a) ≡ false
 flip a b other = ne_eqb b a (λ same. both_ways (a == b) other (eq-eqb a b (sym same)))

@@ -2,7 +2,7 @@
 use Rattle.std.specs.Prelude.{◌≡◌, ◌==◌, ◌||◌, not, ℕ, Bool, true, false, List, [], ◌∷◌, ◌++◌, All, drop, filter_map, fold, map, Option, Some, None}
 use Rattle.std.specs.List.{cons_option, list_any}
 use Rattle.std.proofs.Common.{⊎_elim, refl, sym, ap, subst, ◌∙◌, arith}
-use Rattle.std.proofs.lemmas.Bool.{both_ways, eqb-true, eq-eqb, or_cases, or_left}
+use Rattle.std.proofs.lemmas.Bool.{both_ways, eqb-true, eq-eqb, or_cases, or_left, or_parts}
 use Rattle.std.proofs.lemmas.List.Elements.{All-cons}
 use Rattle.tape_types.specs.declared.cartridges.Part.TheVariants.{Ip}
 use Rattle.tape_types.specs.declared.cartridges.Place.{Place}
@@ -25,7 +25,6 @@ use Rattle.order_laws.proofs.Frames.{no_step_owned, syncs_it, wants_it}
 use Rattle.order_laws.proofs.Lists.{any_filter, any_filter_same}
 use Rattle.order_laws.proofs.Turning.{answers_step, both_none, drain_faults_from, owned-cons, owned_head}
 use Rattle.state_laws.specs.Stepping.{synced_events}
-use Rattle.call_laws.proofs.Splits.{or_false}
 
 -- the ops, and who wants blocks
 pub record Leaves (old new : State) (standing : List waiting.Op) : Type 0 where
@@ -129,7 +128,7 @@ pub not_synced : (tickets : List ℕ) (st : State) (k : ℕ) → list_any (answe
     → is_waiting (fold after st (synced_events tickets)) k ≡ is_waiting st k
 not_synced [] st k none = refl
 not_synced (t ∷ tickets) st k none =
-    let parts = or_false (t == k) (list_any (answers k) (synced_events tickets)) none in
+    let parts = or_parts (t == k) (list_any (answers k) (synced_events tickets)) none in
     not_synced tickets (after st (Synced t)) k parts.1
     ∙ ap (λ b. list_any (wants_it k) st.requests || b) (any_filter_same (syncs_it k) (λ (s : Waiter). not (s.ticket == t)) st.syncs (still_by k t parts.0))
 

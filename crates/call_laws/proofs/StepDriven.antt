@@ -1,6 +1,8 @@
 -- What an op that was done, or failed, leaves on tape.
 use Rattle.std.specs.Prelude.{◌≡◌, ℕ, ◌≤◌, false, List, [], ◌∷◌, ◌++◌, length, take, Option, Some, None, IfSome, slice_get}
 use Rattle.std.proofs.Common.{refl, sym, ap, subst, ◌∙◌, arith, length-take}
+use Rattle.std.proofs.lemmas.Option.{same_Some, none-some}
+use Rattle.tape_types.proofs.Lists.{slice_get-seam}
 use Rattle.tape_types.specs.Cartridges.{items_of, next}
 use Rattle.tape_types.specs.declared.cartridges.Cartridge.{Cartridge}
 use Rattle.tape_types.specs.declared.cartridges.Item.{Item}
@@ -17,7 +19,6 @@ use Rattle.tape_layout.specs.declared.ops.Op.TheVariants.{Flush, Mark, Put}
 use Rattle.serving_promise.specs.Served.{is_flush}
 use Rattle.serving_promise.specs.Steps.{item_of}
 use Rattle.crash_laws.specs.Changes.{IsWell}
-use Rattle.order_laws.proofs.Lists.{at_end}
 
 -- ---- the item
 
@@ -25,7 +26,7 @@ at_last : (pos : ℕ) (x : Item) (old new : List Item) → pos ≤ length old �
     → slice_get new pos ≡ Some x
 at_last pos x old new le is =
     let long : length (take pos old) ≡ pos = omega (arith, length-take pos old, le) in
-    ap (λ l. slice_get l pos) is ∙ ap (λ n. slice_get (take pos old ++ x ∷ []) n) (sym long) ∙ at_end (take pos old) x
+    ap (λ l. slice_get l pos) is ∙ ap (λ n. slice_get (take pos old ++ x ∷ []) n) (sym long) ∙ slice_get-seam (take pos old) x
 
 put_at_place : (at : Place) (x : Item) (end : StepDone) (old new : Cartridge) → IsWell end
     → at.pos ≤ length (items_of at.part old) → AfterPut at x end old new → item_at at new ≡ Some x
@@ -58,12 +59,6 @@ op_behind (Flush at) end head well is none = absurd (cc)
 
 -- ---- what is told
 
-some_same : {X : Type 0} (x y : X) → Some x ≡ Some y → x ≡ y
-some_same x y e = cc
-
-none_some : {X : Type 0} (x : X) → None ≡ Some x → ⊥
-none_some x e = cc
-
 module _ {D : Type 0} (drive : Ghosts D) (op : Op) (end : StepDone) (before now : D) (step : IsOpStep drive op end before now) where
   -- a cartridge that is told now was told before
   pub was_told : (c : Cartridge) → drive.held now ≡ Some c
@@ -72,12 +67,12 @@ module _ {D : Type 0} (drive : Ghosts D) (op : Op) (end : StepDone) (before now 
     where
       by : (o : Option Cartridge) → drive.held before ≡ o
           → (b : Cartridge) × (drive.held before ≡ Some b) × AfterOp op end b c
-      by None e = absurd (none_some c (sym (step.made.untold e) ∙ is))
-      by (Some b) e = let t = step.told b e in (b, e, subst (AfterOp op end b) (some_same t.0 c (sym t.1 ∙ is)) t.2)
+      by None e = absurd (none-some c (sym (step.made.untold e) ∙ is))
+      by (Some b) e = let t = step.told b e in (b, e, subst (AfterOp op end b) (same_Some t.0 c (sym t.1 ∙ is)) t.2)
 
   pub was_untold : drive.held now ≡ None → drive.held before ≡ None
   was_untold none = by (drive.held before) refl
     where
       by : (o : Option Cartridge) → drive.held before ≡ o → drive.held before ≡ None
       by None e = e
-      by (Some b) e = let t = step.told b e in absurd (none_some t.0 (sym none ∙ t.1))
+      by (Some b) e = let t = step.told b e in absurd (none-some t.0 (sym none ∙ t.1))

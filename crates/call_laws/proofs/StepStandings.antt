@@ -1,7 +1,8 @@
 -- What stands at the end of the history, once an op was done.
-use Rattle.std.specs.Prelude.{◌≡◌, ◌||◌, ℕ, ◌≤◌, nat_le, Bool, true, false, cond, List, length, Option, Some, None, IfSome}
+use Rattle.std.specs.Prelude.{◌≡◌, ℕ, ◌≤◌, nat_le, Bool, true, false, cond, List, length, Option, Some, None, IfSome}
 use Rattle.std.proofs.Common.{refl, ap, arith}
 use Rattle.std.proofs.lemmas.Bool.Decides.{nat_tests}
+use Rattle.std.proofs.lemmas.Bool.{or_right}
 use Rattle.extent_map.specs.Cells.{Tape}
 use Rattle.plain_tree.specs.declared.calls.Placed.{Placed}
 use Rattle.tape_layout.specs.Plans.{Plan}
@@ -28,21 +29,17 @@ same_standing op g None history k = turned (settles_dp op) g history k
 le_is : (a b : ℕ) → a ≤ b → nat_le a b ≡ true
 le_is a b h = grind (arith, nat_tests)
 
-on_by : (a b : Bool) → b ≡ true → (a || b) ≡ true
-on_by true b e = refl
-on_by false b e = e
-
 always : (b x : Bool) → x ≡ true → x ≡ cond b true x
 always true x e = e
 always false x e = refl
 
 may_turn : (b : Bool) (m : MountFacts) (n : ℕ) → is_on m (cond b (Some n) None) n ≡ cond b true (is_on m None n)
-may_turn true m n = on_by m.ip_on (nat_le n n) (le_is n n (omega arith))
+may_turn true m n = or_right m.ip_on (nat_le n n) (le_is n n (omega arith))
 may_turn false m n = refl
 
 pub on_turns : (op : Op) (m : MountFacts) (on : Option ℕ) (n : ℕ) → IfSome on (λ first. first ≤ n)
     → is_on m (on_done op n on) n ≡ cond (settles_dp op) true (is_on m on n)
-on_turns op m (Some first) n le = always (settles_dp op) (is_on m (Some first) n) (on_by m.ip_on (nat_le first n) (le_is first n le))
+on_turns op m (Some first) n le = always (settles_dp op) (is_on m (Some first) n) (or_right m.ip_on (nat_le first n) (le_is first n le))
 on_turns op m None n le = may_turn (settles_dp op) m n
 
 may_be : (b : Bool) (n : ℕ) → IfSome (cond b (Some n) None) (λ first. first ≤ n)

@@ -3,6 +3,7 @@ use Rattle.std.specs.Prelude.{ℕ, ◌≡◌, ◌==◌, ◌++◌, ◌<◌, ◌^�
 use Rattle.std.proofs.Common.{⊎_elim, refl, sym, ap, subst, ◌∙◌, arith}
 use Rattle.std.proofs.lemmas.Bool.{eq-eqb}
 use Rattle.std.proofs.lemmas.List.{append-nil, append_cancel_left}
+use Rattle.tape_types.proofs.Lists.{slice_get-seam}
 use Rattle.tape_types.specs.declared.cartridges.Cartridge.{Cartridge}
 use Rattle.tape_types.specs.declared.moments.Moment.{Moment}
 use Rattle.tape_drive.specs.declared.drive.Drive.{Ghosts}
@@ -19,7 +20,7 @@ use Rattle.serving_promise.specs.declared.marks.Kind.{Kind}
 use Rattle.serving_promise.specs.declared.marks.Kind.TheVariants.{Places as places, Hands as hands, Begins as begins}
 use Rattle.order_laws.specs.Kept.{seen}
 use Rattle.order_laws.specs.Laws.{IsInOrder}
-use Rattle.order_laws.proofs.Lists.{at_end, at_more, at_push}
+use Rattle.order_laws.proofs.Lists.{at_more, at_push}
 use Rattle.reply_laws.proofs.Draining.{drains_stay_for_writes}
 use Rattle.crash_laws.specs.Safe.{Follows}
 use Rattle.promise_laws.specs.Kept.{IsKeptOn, Plan}
@@ -114,7 +115,7 @@ module _ {D : Type 0} (first now : Drive) (fixed : Fixed D) (before after_it : O
       none_there ticket k r same is there =
           let n : ticket ≡ k = cc in
           let k_is : k ≡ length old.listed.replies = sym n ∙ is ∙ sym count in
-          let e : Some None ≡ Some (Some r) = sym (at_end old.listed.replies None) ∙ ap (slice_get (old.listed.replies ++ None ∷ [])) (sym k_is) ∙ there in
+          let e : Some None ≡ Some (Some r) = sym (slice_get-seam old.listed.replies None) ∙ ap (slice_get (old.listed.replies ++ None ∷ [])) (sym k_is) ∙ there in
           absurd (cc)
   keeps_replies submitted.Drain s are =
       let kinds : List Kind = begins ∷ [] in

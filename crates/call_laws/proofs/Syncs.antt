@@ -4,6 +4,8 @@ use Rattle.std.specs.List.{cons_option, list_any}
 use Rattle.std.proofs.Common.{⊎_elim, inl, inr, refl, sym, ap, subst, ◌∙◌, append_assoc}
 use Rattle.std.proofs.lemmas.Bool.{eqb-true, eq-eqb, or_cases, or_left, or_right}
 use Rattle.std.proofs.lemmas.List.Folds.{list_any-append}
+use Rattle.std.proofs.lemmas.Option.{same_Some}
+use Rattle.tape_types.proofs.Lists.{slice_get-seam}
 use Rattle.tape_types.specs.declared.cartridges.Place.{Place}
 use Rattle.plain_tree.specs.History.{Calls, call_at}
 use Rattle.plain_tree.specs.declared.calls.Call.{Call}
@@ -17,7 +19,7 @@ use Rattle.event_laws.specs.Trail.{after, after_all, without_first_waiter}
 use Rattle.event_laws.specs.Waiting.{Op, Request, State, Waiter, start, waiting_op, with_flushes}
 use Rattle.serving_promise.specs.Acks.{AreSyncs, done_syncs, syncs_ticket}
 use Rattle.order_laws.proofs.Frames.{syncs_it, worked_stays}
-use Rattle.order_laws.proofs.Lists.{any_filter, at_end, at_more, some_same}
+use Rattle.order_laws.proofs.Lists.{any_filter, at_more}
 use Rattle.order_laws.proofs.Placing.{done_push_other, done_push_sync}
 use Rattle.order_laws.proofs.Rising.{has}
 
@@ -57,7 +59,7 @@ one_before st (Worked place (Some counts)) k h = inl (first_before st.head st.ar
 
 has_first : (o : Option ℕ) (rest : List ℕ) (k : ℕ) → o ≡ Some k → has k (cons_option o rest) ≡ true
 has_first None rest k e = absurd (cc)
-has_first (Some n) rest k e = or_left (n == k) (has k rest) (eq-eqb n k (some_same n k e))
+has_first (Some n) rest k e = or_left (n == k) (has k rest) (eq-eqb n k (same_Some n k e))
 
 has_later : (o : Option ℕ) (rest : List ℕ) (k : ℕ) → has k rest ≡ true → has k (cons_option o rest) ≡ true
 has_later None rest k e = e
@@ -98,7 +100,7 @@ one_placed : (calls : Calls) (history : List Placed) (q : Placed) (fate : Fate) 
     → AreSyncsAt calls (history ++ q ∷ [])
 one_placed calls history q fates.Done (Some Sync) fate call are k h =
     ⊎_elim (λ old. longer calls history q k (are k old))
-    (λ new. record { placed = q; at = subst (λ n. slice_get (history ++ q ∷ []) n ≡ Some q) (eqb-true (length history) k (one (length history == k) new)) (at_end history q); sync = call })
+    (λ new. record { placed = q; at = subst (λ n. slice_get (history ++ q ∷ []) n ≡ Some q) (eqb-true (length history) k (one (length history == k) new)) (slice_get-seam history q); sync = call })
     (or_cases (has k (done_syncs calls history)) ((length history == k) || false)
     (sym (list_any-append (λ x. x == k) (done_syncs calls history) (length history ∷ [])) ∙ sym (ap (has k) (done_push_sync calls history q fate call)) ∙ h))
   where

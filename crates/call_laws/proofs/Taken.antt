@@ -2,7 +2,7 @@
 use Rattle.std.specs.Prelude.{◌≡◌, ◌⊎◌, ◌==◌, not, ℕ, suc, Bool, true, false, cond, List, [], ◌∷◌, ◌++◌, All, AllPairs, Contains, filter, Option, IfSome}
 use Rattle.std.specs.List.{list_any}
 use Rattle.std.proofs.Common.{⊎_elim, inl, inr, sym, ap, subst, ◌∙◌, arith}
-use Rattle.std.proofs.lemmas.Bool.{and_parts, both_ways, eqb-true, eq-eqb}
+use Rattle.std.proofs.lemmas.Bool.{and_parts, both_ways, eqb-true, eq-eqb, or_parts}
 use Rattle.std.proofs.lemmas.List.Elements.{All-cons, All-head, All-tail, All-weaker}
 use Rattle.std.proofs.lemmas.List.Kept.{AllPairs-cons}
 use Rattle.tape_types.specs.declared.cartridges.Cartridge.{Cartridge}
@@ -18,7 +18,7 @@ use Rattle.space_laws.specs.Standing.{Given}
 use Rattle.plan_laws.specs.Planned.{Items, tape_on}
 use Rattle.reply_laws.proofs.Lists.{in_cases, in_first, in_rest}
 use Rattle.state_laws.specs.Tied.{AreReading, IsAsked, IsReading, is_of, was_met}
-use Rattle.call_laws.proofs.Splits.{flip, or_false}
+use Rattle.call_laws.proofs.Splits.{flip}
 
 -- ---- lists
 
@@ -55,7 +55,7 @@ all_some P p (x ∷ xs) all = some_by P (p x) x (filter p xs) (All-head P x xs a
 
 all_none : {X : Type 0} (p : X → Bool) (xs : List X) → list_any p xs ≡ false → All (λ (x : X). p x ≡ false) xs
 all_none {X = X} p [] h = none (λ (x : X). p x ≡ false)
-all_none {X = X} p (x ∷ xs) h = let parts = or_false (p x) (list_any p xs) h in All-cons (λ (x : X). p x ≡ false) x xs parts.0 (all_none p xs parts.1)
+all_none {X = X} p (x ∷ xs) h = let parts = or_parts (p x) (list_any p xs) h in All-cons (λ (x : X). p x ≡ false) x xs parts.0 (all_none p xs parts.1)
 
 -- ---- each once
 

@@ -1,6 +1,7 @@
 -- A call that is answered at once and leaves all as it was.
 use Rattle.std.proofs.Common.{◌≡◌, ◌≢◌, ℕ, Bool, true, false, List, [], length, map, Option, Some, None, refl, sym, ap, subst, ◌∙◌}
 use Rattle.std.specs.Prelude.{All, IfSome, slice_index_or}
+use Rattle.std.proofs.lemmas.Option.{same_Some}
 use Rattle.tape_types.specs.declared.moments.Moment.{Moment}
 use Rattle.tape_drive.specs.declared.drive.Drive.{Ghosts}
 use Rattle.plain_tree.specs.Calls.{answer}
@@ -119,9 +120,6 @@ module _ {D : Type 0} (drive : Ghosts D) (fixed : Fixed D) (planned : Items) (p 
       subst (λ (o : Option Cartridge). IfSome o (λ c. IsPlannedBlock planned (slice_index_or p.cached k d))) told (tied.cached k d less).bytes
   may_use _ c told = tt
 
-pub some_call : (a b : Call) → Some a ≡ Some b → a ≡ b
-some_call a b e = cc
-
 module _ {D : Type 0} (drive : Ghosts D) where
   pub shown : (fixed : Fixed D) (plan : Plan drive fixed) (planned : Items) (before after : Option Moment) (who nth : ℕ) (call : Call) (at : Moment) (told : Answer) (old new : Parts D)
       → IsSubmission drive fixed plan planned before after who nth call at (submitted.Ready (replies.Answer told)) old new → Answers who nth call at told old new
@@ -141,7 +139,7 @@ module _ {D : Type 0} (drive : Ghosts D) where
       (λ can q history done sync.
       let same : p ≡ q = next_same old.listed.history p q (sym v.places.history ∙ history) in
       let called : Some call ≡ Some calls.Sync = sym s.is_call ∙ ap (call_at g.calls) same ∙ sync in
-      absurd (no_sync planned old.cached st.tree call told v.no_sync is.0 (some_call call calls.Sync called)))
+      absurd (no_sync planned old.cached st.tree call told v.no_sync is.0 (same_Some call calls.Sync called)))
       (after_nothing drive fixed old new p call v.asks.moves.on v.places.history refl s.is_call is.1)
       (λ st is. subst (λ (k : Stocked). IsStock (tape_on planned) g on st k) (sym v.stock) is)
       (used_right drive fixed planned old new.cached s.tied s.good s.kept.order.orderly.standing call v.uses)

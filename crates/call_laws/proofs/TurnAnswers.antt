@@ -3,6 +3,7 @@ use Rattle.std.specs.Prelude.{◌≡◌, ◌≢◌, ◌==◌, not, ℕ, Bool, tr
 use Rattle.std.proofs.Common.{⊎_elim, refl, sym, ap, subst, ◌∙◌}
 use Rattle.std.proofs.lemmas.Bool.{both_ways, eq-eqb, eqb-true, false_from_ne_true}
 use Rattle.std.proofs.lemmas.List.Folds.{list_any-from_Any}
+use Rattle.std.proofs.lemmas.Option.{same_Some}
 use Rattle.tape_drive.specs.declared.drive.Drive.{Ghosts}
 use Rattle.plain_tree.specs.declared.calls.Answer.{Answer}
 use Rattle.plain_tree.specs.declared.calls.Answer.TheVariants as the_answers
@@ -13,7 +14,6 @@ use Rattle.serving_promise.specs.Marks.{after, idle, mark, phase, places_of, wai
 use Rattle.serving_promise.specs.Served.{View}
 use Rattle.serving_promise.specs.declared.marks.Kind.TheVariants as kinds
 use Rattle.order_laws.specs.Laws.{IsInOrder}
-use Rattle.order_laws.proofs.Lists.{some_same}
 use Rattle.order_laws.proofs.Marked.{phase_more}
 use Rattle.order_laws.proofs.PhaseLaw.{phases_plain}
 use Rattle.order_laws.proofs.Picked.{has_picked, passes}
@@ -40,7 +40,7 @@ module _ {D : Type 0} (old new : Parts D) (has_old : HasAnswers old) (keeps : Ke
   kept_by who k a waiting now other (not_yet e) = keeps.came k a e now other
   kept_by who k a waiting now other (there reply e) =
       let same : reply ≡ the_replies.Answer a =
-      some_same reply (the_replies.Answer a) (some_same (Some reply) (Some (the_replies.Answer a)) (sym (stay k reply e) ∙ now)) in
+      same_Some reply (the_replies.Answer a) (same_Some (Some reply) (Some (the_replies.Answer a)) (sym (stay k reply e) ∙ now)) in
       keeps.stay k a (has_old.kept who k a waiting (e ∙ ap (λ (r : Reply). Some (Some r)) same) other)
 
   pub answers_stay : HasAnswers new

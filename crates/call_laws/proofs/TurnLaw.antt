@@ -1,6 +1,7 @@
 -- A turn of a session that waits adds what is promised of it, and the volume runs on.
 use Rattle.std.specs.Prelude.{◌≡◌, ◌-◌, ◌^◌, ◌<◌, ◌≤◌, ℕ, List, [], Option, Some, None, slice_get}
 use Rattle.std.proofs.Common.{refl, sym, ap, subst, ◌∙◌}
+use Rattle.std.proofs.lemmas.Option.{same_Some}
 use Rattle.tape_types.specs.declared.cartridges.Cartridge.{Cartridge}
 use Rattle.tape_types.specs.declared.moments.Moment.{Moment}
 use Rattle.tape_drive.specs.declared.drive.Drive.{Ghosts}
@@ -12,7 +13,6 @@ use Rattle.serving_promise.specs.Steps.{Turns}
 use Rattle.serving_promise.specs.declared.answers.Turn.{Turn}
 use Rattle.serving_promise.specs.declared.answers.Turn.TheVariants as the_turns
 use Rattle.order_laws.specs.Kept.{seen}
-use Rattle.order_laws.proofs.Lists.{some_same}
 use Rattle.reply_laws.proofs.Draining.{drains_stay_for_writes}
 use Rattle.promise_laws.proofs.Joined.{turns_keep_all}
 use Rattle.call_laws.proofs.ShowLaw.{steps_show}
@@ -146,7 +146,7 @@ module _ {D : Type 0} (drive : Ghosts D)
       (record {
         came = came_by drive fixed (view_of fixed next old) (view_of fixed next mid) added shows.0
             (steps_driven drive fixed next old mid added s.steps);
-        none = λ r e. absurd (let h : None ≡ Some r = some_same None (Some r) (sym yet ∙ e) in cc);
+        none = λ r e. absurd (let h : None ≡ Some r = same_Some None (Some r) (sym yet ∙ e) in cc);
         tied = shows.1;
         answers = answers_stay old mid runs.answers s.answers shows.0.replies.count shows.0.replies.each shows.0.marks;
       })

@@ -2,6 +2,7 @@
 use Rattle.std.specs.Prelude.{◌≡◌, ◌-◌, ◌^◌, ◌≤◌, ℕ, List, [], ◌∷◌, ◌++◌, Option, Some, None, slice_get}
 use Rattle.std.proofs.Common.{append-nil, arith, refl, sym, ap, subst, ◌∙◌}
 use Rattle.std.proofs.lemmas.List.Elements.{All-nil}
+use Rattle.std.proofs.lemmas.Option.{same_Some}
 use Rattle.tape_types.specs.Counts.{IsRise}
 use Rattle.tape_types.specs.declared.cartridges.Twin.{Twin}
 use Rattle.tape_drive.specs.declared.drive.Drive.{Ghosts}
@@ -20,7 +21,6 @@ use Rattle.serving_promise.specs.declared.marks.Kind.TheVariants as kinds
 use Rattle.serving_promise.specs.declared.marks.Mark.{Mark}
 use Rattle.order_laws.specs.Kept.{seen}
 use Rattle.order_laws.specs.Sides.{IsBrought, TurnsInOrder}
-use Rattle.order_laws.proofs.Lists.{some_same}
 use Rattle.reply_laws.specs.Within.{AnswersTruly}
 use Rattle.crash_laws.specs.Changes.{AreDriven}
 use Rattle.promise_laws.specs.Kept.{CanRead, IsKept, Plan, TurnsRightly}
@@ -83,7 +83,7 @@ came_none drive fixed plan v kept counted = record {
   kept = sym (append-nil v.kept);
   order = record {
     follows = record { trail = refl; standing = kept.order.orderly.standing };
-    replied = λ k reply e f. subst (IsBrought (after_all v.events) [] k) (some_same None reply (sym e ∙ f)) (kept.order.orderly.waiting.none_yet k e);
+    replied = λ k reply e f. subst (IsBrought (after_all v.events) [] k) (same_Some None reply (sym e ∙ f)) (kept.order.orderly.waiting.none_yet k e);
     moves = record {
       rises = All-nil (λ (t : Twin). IsRise (drive.faults v.drive) (drive.faults v.drive) t.before t.after);
       limits = refl;
@@ -91,7 +91,7 @@ came_none drive fixed plan v kept counted = record {
     };
   };
   truth = λ can. record {
-    came = λ k p call reply at is none there. absurd (let h : None ≡ Some reply = some_same None (Some reply) (sym none ∙ there) in cc);
+    came = λ k p call reply at is none there. absurd (let h : None ≡ Some reply = same_Some None (Some reply) (sym none ∙ there) in cc);
     added = [];
     events = sym (append-nil v.events);
     ops = refl;
@@ -202,7 +202,7 @@ turns_more drive fixed old v added who ticket s driven fixed_is next yet = (
     added = added;
     adds = s.adds;
     step = s.step;
-    none = λ reply e. absurd (let h : None ≡ Some reply = some_same None (Some reply) (sym yet ∙ s.replies.each ticket reply e) in cc);
+    none = λ reply e. absurd (let h : None ≡ Some reply = same_Some None (Some reply) (sym yet ∙ s.replies.each ticket reply e) in cc);
     kept = s.kept;
     marks = s.marks ∙ sym (append-nil old.marks);
     answered = (yet, s.one);

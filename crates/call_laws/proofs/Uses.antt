@@ -3,6 +3,7 @@ use Rattle.std.proofs.Common.{◌≡◌, ◌≢◌, ◌⊎◌, ℕ, ◌<◌, ◌
 use Rattle.std.specs.Prelude.{All, Contains, IfSome, filter, filter_map, is_some, slice_get, slice_index_or}
 use Rattle.std.specs.List.{list_any}
 use Rattle.std.proofs.lemmas.List.Elements.{All-cons, All-nil}
+use Rattle.tape_types.proofs.Lists.{slice_get-append}
 use Rattle.tape_types.specs.declared.cartridges.Cartridge.{Cartridge}
 use Rattle.tape_types.specs.declared.cartridges.Item.{Item}
 use Rattle.tape_types.specs.declared.cartridges.Item.TheVariants as item
@@ -33,7 +34,7 @@ use Rattle.serving_promise.specs.Submits.{blocks_in}
 use Rattle.serving_promise.proofs.CacheLaws.{with_block_all}
 use Rattle.block_cache.specs.Kept.{Kept, is_cached, with_block}
 use Rattle.reply_laws.proofs.Distinct.{in_distinct}
-use Rattle.reply_laws.proofs.Lists.{get_left, get_within, in_cases, in_first, in_none, in_rest}
+use Rattle.reply_laws.proofs.Lists.{get_within, in_cases, in_first, in_none, in_rest}
 use Rattle.plan_laws.specs.Planned.{IsDoneAt, IsOnWay, Items, ends_in, with_ops}
 use Rattle.plan_laws.proofs.Places.{places_stay}
 use Rattle.plan_laws.proofs.Tells.{tapes_tell}
@@ -130,8 +131,8 @@ below_length planned Dp pos low = low
 more_planned : (told : Option Cartridge) (planned : Items) (added : List Op) (block : Kept) → IsDoneAt planned [] block.0 ⊎ (block.0.pos < length (planned block.0.part))
     → IfSome told (λ c. IsPlannedBlock planned block) → IfSome told (λ c. IsPlannedBlock (with_ops added planned) block)
 more_planned None planned added block low is = tt
-more_planned (Some c) planned added block (inl d) is = get_left (planned block.0.part) (items_by block.0.part added) block.0.pos (below_length planned block.0.part block.0.pos d.below) ∙ is
-more_planned (Some c) planned added block (inr low) is = get_left (planned block.0.part) (items_by block.0.part added) block.0.pos low ∙ is
+more_planned (Some c) planned added block (inl d) is = slice_get-append (planned block.0.part) (items_by block.0.part added) block.0.pos (below_length planned block.0.part block.0.pos d.below) ∙ is
+more_planned (Some c) planned added block (inr low) is = slice_get-append (planned block.0.part) (items_by block.0.part added) block.0.pos low ∙ is
 
 -- with more ops
 pub cached_more : (planned : Items) (standing added : List Op) (told : Option Cartridge) (cached : List Kept) → AreNext (ends_in planned) added

@@ -4,6 +4,7 @@ use Rattle.std.specs.Prelude.{All, Contains, IfSome, filter_map, fold, slice_ind
 use Rattle.std.specs.List.{list_any}
 use Rattle.std.proofs.lemmas.Bool.{false_from_ne_true}
 use Rattle.std.proofs.lemmas.List.Folds.{list_any-append}
+use Rattle.std.proofs.lemmas.Option.{same_Some}
 use Rattle.tape_types.specs.declared.cartridges.Place.{Place}
 use Rattle.tape_types.specs.declared.moments.Moment.{Moment}
 use Rattle.tape_drive.specs.declared.drive.Drive.{Ghosts}
@@ -54,7 +55,7 @@ use Rattle.call_laws.proofs.Uses.{all_left, asked_is, found_is, wanted_unheld}
 use Rattle.call_laws.proofs.Placed.{after_nothing, given_in, on_after, on_in, reached_later, reads_to, stands_in, tied_still}
 use Rattle.call_laws.proofs.ReadBlocks.{all_below, blocks_stand, stored_list}
 use Rattle.call_laws.proofs.Rightly.{adds_by, follows_by}
-use Rattle.call_laws.proofs.Told.{may_use, some_call}
+use Rattle.call_laws.proofs.Told.{may_use}
 use Rattle.call_laws.proofs.Voided.{read_asks}
 use Rattle.call_laws.proofs.Wanting.{asks_it, kept_by, reads_more, requests_are, wants_of}
 
@@ -215,7 +216,7 @@ module _ {D : Type 0} (drive : Ghosts D) (fixed : Fixed D) (plan : Plan drive fi
     due = λ can q history is_done sync.
         let same : placed ≡ q = next_same old.listed.history placed q (sym w.places.history ∙ history) in
         let called : Some call ≡ Some calls.Sync = sym s.is_call ∙ ap (call_at g.calls) same ∙ sync in
-        absurd (read_isnt_sync path offset count (some_call call calls.Sync called));
+        absurd (read_isnt_sync path offset count (same_Some call calls.Sync called));
   }
 
   tied_after : IsTied drive fixed (with_ops [] planned) new

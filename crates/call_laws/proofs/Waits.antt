@@ -1,8 +1,9 @@
 -- Reads that wait, once an op was done or failed.
 use Rattle.std.specs.Prelude.{◌≡◌, ◌||◌, not, ℕ, Bool, true, false, List, ◌∷◌, All, map, Option, IfSome}
 use Rattle.std.specs.List.{list_any}
-use Rattle.std.proofs.Common.{refl, sym, ap, subst, ◌∙◌}
+use Rattle.std.proofs.Common.{sym, ap, subst, ◌∙◌}
 use Rattle.std.proofs.lemmas.List.Elements.{All-weaker}
+use Rattle.std.proofs.lemmas.Bool.{or_right}
 use Rattle.tape_types.specs.declared.cartridges.Cartridge.{Cartridge}
 use Rattle.tape_types.specs.declared.cartridges.Place.{Place}
 use Rattle.plain_tree.specs.Calls.{answer}
@@ -21,10 +22,6 @@ use Rattle.state_laws.specs.Tied.{AreFilesRight, AreReading, IsAsked, IsReading,
 or_second : (a b : Bool) → (a || b) ≡ false → b ≡ false
 or_second true b h = absurd (cc)
 or_second false b h = h
-
-or_later : (a b : Bool) → b ≡ true → (a || b) ≡ true
-or_later true b h = refl
-or_later false b h = h
 
 -- what was done at a place is done there with one op less
 pub still_done : (planned : Items) (op : Op) (later : List Op) (place : Place) → IsDoneAt planned (op ∷ later) place
@@ -80,5 +77,5 @@ files_done files planned op later plan right = record {
   below = right.below;
   bytes = λ part pos stands put. rest_holds (record { part = part; pos = pos }) (ends_in plan.made) op later plan.next put
       (right.bytes part pos stands
-      (or_later (puts_at (record { part = part; pos = pos }) (headed op)) (list_any (puts_at (record { part = part; pos = pos })) (map headed later)) put));
+      (or_right (puts_at (record { part = part; pos = pos }) (headed op)) (list_any (puts_at (record { part = part; pos = pos })) (map headed later)) put));
 }

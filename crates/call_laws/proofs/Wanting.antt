@@ -6,6 +6,9 @@ use Rattle.std.proofs.lemmas.Bool.Decides.{nat_tests}
 use Rattle.std.proofs.lemmas.List.Elements.{All-append, All-cons, All-head, All-push, All-tail, Contains-append_left, Contains-push}
 use Rattle.std.proofs.lemmas.List.Folds.{list_any-append, list_any_none}
 use Rattle.std.proofs.lemmas.List.Quantifiers.{all_pairs_push}
+use Rattle.std.proofs.lemmas.Option.{slice_get_within}
+use Rattle.std.proofs.lemmas.Bool.{or_left}
+use Rattle.tape_types.proofs.Lists.{slice_get-seam}
 use Rattle.tape_types.specs.declared.cartridges.Cartridge.{Cartridge}
 use Rattle.tape_types.specs.declared.cartridges.Place.{Place}
 use Rattle.tape_types.proofs.Places.{same_back}
@@ -20,9 +23,7 @@ use Rattle.event_laws.specs.Trail.{after, asks}
 use Rattle.event_laws.specs.Waiting.{Request, State, same_place}
 use Rattle.tape_layout.specs.declared.ops.Op.{Op}
 use Rattle.space_laws.specs.Standing.{Given, Standing, standing}
-use Rattle.order_laws.proofs.Lists.{at_within}
 use Rattle.reply_laws.proofs.Blocks.{number_itself}
-use Rattle.reply_laws.proofs.Lists.{get_end}
 use Rattle.reply_laws.proofs.Places.{standing_goes_on}
 use Rattle.plan_laws.specs.Planned.{IsDoneAt, Items, LieBelow, ends_in, tape_on}
 use Rattle.group_laws.specs.Groups.{requests_for}
@@ -85,10 +86,6 @@ or_true : (b : Bool) → (b || true) ≡ true
 or_true true = refl
 or_true false = refl
 
-or_before : (a b : Bool) → a ≡ true → (a || b) ≡ true
-or_before true b e = refl
-or_before false b e = absurd cc
-
 -- ---- reads
 
 module _ (g : Given) (on : Option ℕ) (history : List Placed) (p : Placed) (planned : Items) (told : Option Cartridge) (ops : List Op) (st now : State) (reads : List Gathering) (read : Gathering)
@@ -103,7 +100,7 @@ module _ (g : Given) (on : Option ℕ) (history : List Placed) (p : Placed) (pla
   news = requests_for here st.arrived places
 
   ticket_low : (r : Gathering) → IsReading g on history planned told st r → r.ticket < here
-  ticket_low r is = at_within history r.ticket is.placed is.placed_is
+  ticket_low r is = slice_get_within history r.ticket is.placed is.placed_is
 
   -- no request is of the next place yet
   pub requests_low : All (λ (r : Request). (r.ticket == here) ≡ false) st.requests
@@ -141,13 +138,13 @@ module _ (g : Given) (on : Option ℕ) (history : List Placed) (p : Placed) (pla
     below = is.below;
     gathering = subst (λ (f : Places). IfSome told (λ c. IsGathering (tape_on planned) f r)) (λ i place. old_met r (ticket_low r is) place i) is.gathering;
     asked = ap (list_any (is_of r.ticket)) requests ∙ list_any-append (is_of r.ticket) st.requests news
-        ∙ or_before (list_any (is_of r.ticket) st.requests) (list_any (is_of r.ticket) news) is.asked;
+        ∙ or_left (list_any (is_of r.ticket) st.requests) (list_any (is_of r.ticket) news) is.asked;
   }
 
   new_reading : IsReading g on (history ++ p ∷ []) planned told now read
   new_reading = record {
     placed = p;
-    placed_is = ap (slice_get (history ++ p ∷ [])) ticket ∙ get_end history p;
+    placed_is = ap (slice_get (history ++ p ∷ [])) ticket ∙ slice_get-seam history p;
     call = call;
     call_is = call_is;
     answers = ap (λ (n : ℕ). answer (standing g on (history ++ p ∷ []) n).tree call) ticket

@@ -3,12 +3,12 @@ use Rattle.std.specs.Prelude.{ℕ, ◌≡◌, ◌==◌, ◌<◌, ◌≤◌, true
 use Rattle.std.proofs.Common.{⊎_elim, refl, sym, ap, ◌∙◌}
 use Rattle.std.proofs.lemmas.Bool.{cases_lt, eq-eqb}
 use Rattle.std.proofs.lemmas.List.Folds.{list_any-from_Any}
+use Rattle.std.proofs.lemmas.Option.{slice_get_past}
 use Rattle.tape_drive.specs.declared.drive.Drive.{Ghosts}
 use Rattle.plain_tree.specs.declared.calls.Placed.{Placed}
 use Rattle.serving_promise.specs.Marks.{phase, waits}
 use Rattle.serving_promise.specs.Served.{View}
 use Rattle.order_laws.specs.Laws.{IsInOrder}
-use Rattle.order_laws.proofs.Lists.{at_past}
 use Rattle.order_laws.proofs.PhaseLaw.{phases_plain}
 use Rattle.order_laws.proofs.Picked.{has_picked, passes}
 use Rattle.order_laws.proofs.Rising.{has}
@@ -23,7 +23,7 @@ waits_within drive v order who k waiting = ⊎_elim (λ less. less) (λ past. ab
     by : length v.history ≤ k → ⊥
     by past =
         let placed = ((phases_plain drive v order who).waits_for k).0 waiting in
-        let no : false ≡ true = sym (ap (passes (λ (p : Placed). p.who == who)) (at_past v.history k past))
+        let no : false ≡ true = sym (ap (passes (λ (p : Placed). p.who == who)) (slice_get_past v.history k past))
         ∙ sym (has_picked (λ (p : Placed). p.who == who) v.history k) ∙ ap (has k) (sym (order.orderly.marks.places who))
         ∙ contains_has _ k placed.placed in
         cc

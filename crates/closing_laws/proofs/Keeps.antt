@@ -2,6 +2,7 @@
 use Rattle.std.proofs.Common.{◌≡◌, ◌⊎◌, ℕ, ◌+◌, ◌≤◌, Bool, List, [], ◌∷◌, ◌++◌, map, length, Option, Some, None, refl}
 use Rattle.std.proofs.Common.{sym, ap, subst, ◌∙◌}
 use Rattle.std.proofs.lemmas.List.{map-append}
+use Rattle.std.proofs.lemmas.Option.{same_Some}
 use Rattle.tape_types.specs.declared.cartridges.Cartridge.{Cartridge}
 use Rattle.tape_types.specs.declared.cartridges.Note.{Note}
 use Rattle.tape_types.specs.declared.cartridges.Part.{Part}
@@ -37,7 +38,7 @@ use Rattle.serving_promise.proofs.FineLaw.{fine_cartridges_stand}
 use Rattle.crash_laws.specs.Changes.{IsWell}
 use Rattle.crash_laws.specs.Safe.{IsSafe, Planned, seen_by, trees_of, volume_of, waits_after, with_jobs}
 use Rattle.crash_laws.proofs.Admits.{index_ops, op_of}
-use Rattle.crash_laws.proofs.Bridge.{heads_do_ops, some_same}
+use Rattle.crash_laws.proofs.Bridge.{heads_do_ops}
 use Rattle.crash_laws.proofs.Waits.{all_has}
 use Rattle.closing_laws.specs.Closing.{HasSpace, IsAtRest, IsClosing, state_at}
 use Rattle.closing_laws.specs.Laws.{ClosesAreSafe, close_ops}
@@ -231,7 +232,7 @@ module _ {D : Type 0} (drive : Ghosts D) where
   noted planned v part note values old new before now c rest told_old told_new has vcr tells step either =
       let x = state_at v planned c.made c.done c.jobs in
       let kept = subst (λ (held : Cartridge). IsKept drive x old held)
-      (some_same c.held before (sym c.told ∙ told_old)) c.kept in
+      (same_Some c.held before (sym c.told ∙ told_old)) c.kept in
       record {
         made = c.made;
         jobs = c.jobs;
@@ -249,7 +250,7 @@ module _ {D : Type 0} (drive : Ghosts D) where
       → IsStep (WithinNote part note) (moment_of drive old before) (moment_of drive new now)
       → IsNoted part note before now → IsSettled (Some now) (drive.leaves new) → IsAtRest drive new
   rests part note old new before now rest told_old told_new step is settled held told =
-      subst (λ (c : Cartridge). HasNothingPending (moment_of drive new c)) (some_same now held (sym told_new ∙ told))
+      subst (λ (c : Cartridge). HasNothingPending (moment_of drive new c)) (same_Some now held (sym told_new ∙ told))
       ((steps_keep drive).sure old new before now part note (rest before told_old) step is settled)
 
   -- ---- what that gives

@@ -1,5 +1,6 @@
 -- What stands once a close is done.
 use Rattle.std.proofs.Common.{◌≡◌, List, [], ◌∷◌, map, refl, sym, ap, subst, ◌∙◌}
+use Rattle.std.proofs.lemmas.Option.{same_Some}
 use Rattle.tape_types.specs.declared.cartridges.Cartridge.{Cartridge}
 use Rattle.tape_drive.specs.declared.drive.Drive.{Ghosts}
 use Rattle.image_laws.specs.Laws.{IsKept}
@@ -7,7 +8,6 @@ use Rattle.image_laws.specs.Made.{Job, Made, after}
 use Rattle.image_laws.specs.Plans.{close_jobs}
 use Rattle.image_laws.proofs.Stated.{closes_leave}
 use Rattle.crash_laws.proofs.Admits.{op_of}
-use Rattle.crash_laws.proofs.Bridge.{some_same}
 use Rattle.closing_laws.specs.Closing.{state_at}
 use Rattle.closing_laws.specs.Laws.{ClosedVolumesStand}
 
@@ -22,7 +22,7 @@ module _ {D : Type 0} (drive : Ghosts D) where
       let none_left : c.jobs ≡ [] = no_jobs c.jobs c.ops_are in
       let made_is : c.made ≡ after planned.made (close_jobs rules space text) =
       ap (λ (jobs : List Job). after c.made jobs) (sym none_left) ∙ c.plan in
-      let here = some_same c.held held (sym c.told ∙ told) in
+      let here = same_Some c.held held (sym c.told ∙ told) in
       let kept = subst (λ (jobs : List Job). IsKept drive (state_at v planned c.made c.done jobs) d c.held) none_left
       c.kept in
       let kept_here = subst (λ (h : Cartridge). IsKept drive (state_at v planned c.made c.done []) d h) here kept in

@@ -1,5 +1,6 @@
 -- The commands of a close may be made.
 use Rattle.std.proofs.Common.{◌≡◌, ℕ, List, [], ◌∷◌, map, Option, Some, refl, sym, subst, ◌∙◌}
+use Rattle.std.proofs.lemmas.Option.{same_Some}
 use Rattle.coherency.specs.Notes.{HasValues}
 use Rattle.coherency.specs.declared.Coherency.{Coherency}
 use Rattle.tape_types.specs.declared.cartridges.Cartridge.{Cartridge}
@@ -17,7 +18,6 @@ use Rattle.image_laws.specs.Made.{Job, least}
 use Rattle.image_laws.proofs.Stated.{kept_gives}
 use Rattle.serving_promise.specs.Served.{View}
 use Rattle.crash_laws.specs.Safe.{Planned, trees_of, volume_of}
-use Rattle.crash_laws.proofs.Bridge.{some_same}
 use Rattle.crash_laws.proofs.May.{first_job, same_op}
 use Rattle.closing_laws.specs.Closing.{IsAtRest, IsClosing, state_at}
 use Rattle.closing_laws.specs.May.{ClosesMay, IsAllowedView}
@@ -39,7 +39,7 @@ module _ {D : Type 0} (drive : Ghosts D) where
   may_do : (planned : Planned) (v : View D) (o : Op) (later : List Op) (d : D) → IsAllowedView drive v
       → IsClosing drive v planned (o ∷ later) d → MayDo drive o d
   may_do planned v o later d a c held told before image leaves within =
-      let same = some_same c.held held (sym c.told ∙ told) in
+      let same = same_Some c.held held (sym c.told ∙ told) in
       let its = first_job c.jobs o later c.ops_are in
       let kept : IsKept drive (state_at v planned c.made c.done (its.0 ∷ its.1)) d c.held =
       subst (λ (l : List Job). IsKept drive (state_at v planned c.made c.done l) d c.held) its.2 c.kept in
@@ -54,7 +54,7 @@ module _ {D : Type 0} (drive : Ghosts D) where
       → LeavesAllowed (WithinNote part note) (drive.leaves d) drive.allows
   may_note planned v part note values d held a c rest told has vcr tells before image leaves within =
       let x = state_at v planned c.made c.done c.jobs in
-      let kept : IsKept drive x d held = subst (λ (h : Cartridge). IsKept drive x d h) (some_same c.held held (sym c.told ∙ told)) c.kept in
+      let kept : IsKept drive x d held = subst (λ (h : Cartridge). IsKept drive x d h) (same_Some c.held held (sym c.told ∙ told)) c.kept in
       fine_allowed planned v (least c.made.base) image a
       ((kept_gives drive).note_may x d held before image part note values kept (rest held told) has vcr tells leaves within)
 

@@ -3,6 +3,7 @@ use Rattle.std.proofs.Common.{◌≡◌, ◌≢◌, inl, inr, ℕ, suc, ◌+◌,
 use Rattle.std.proofs.Common.{reverse, take, Option, Some, None, IfSome, refl, sym, ap, subst, ◌∙◌, append-nil, arith, length-append}
 use Rattle.std.specs.List.{AllByRecursion}
 use Rattle.std.proofs.lemmas.List.{append_cancel_left, reverse-append, take-append-le, take_all}
+use Rattle.std.proofs.lemmas.Option.{same_Some}
 use Rattle.tape_types.specs.declared.cartridges.Cartridge.{Cartridge}
 use Rattle.tape_types.specs.declared.cartridges.Item.{Item}
 use Rattle.tape_types.specs.declared.cartridges.Item.TheVariants.{Block, Mark}
@@ -42,7 +43,6 @@ use Rattle.serving_promise.specs.Steps.{on_after}
 use Rattle.reply_laws.proofs.Truths.{agree_after}
 use Rattle.crash_laws.specs.Laws.{AddsOps}
 use Rattle.crash_laws.specs.Safe.{given_by, items_by, space_now, standing_now}
-use Rattle.crash_laws.proofs.Bridge.{some_same}
 use Rattle.crash_laws.proofs.Placing.{same_standing, standings_go_on}
 use Rattle.plan_laws.specs.Planned.{Items, ends_in, mounted_items, with_ops}
 use Rattle.tape_layout.specs.Ops.{end_of}
@@ -218,7 +218,7 @@ module _ (label : Label) (planned : Items) (newest : ℕ) (tree other : ℕ → 
           (reads_new label facts (other place) planned s v on text open_ends ends last size its)
 
       told_is : reads.0 ≡ its.told
-      told_is = sym (some_same its.told reads.0 reads.1)
+      told_is = sym (same_Some its.told reads.0 reads.1)
 
       generation_is : its.told.generation ≡ newest + length places + 1
       generation_is = omega (arith, its.generation, newest_is)

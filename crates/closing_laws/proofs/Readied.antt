@@ -1,6 +1,7 @@
 -- What a close finds on tape that has no index to write on the data partition, or none at all.
 use Rattle.std.proofs.Common.{◌≡◌, ⊎_elim, inl, inr, true, false, List, [], ◌∷◌, ◌++◌, Option, Some, None, refl}
 use Rattle.std.proofs.Common.{sym, ap, subst, ◌∙◌}
+use Rattle.std.proofs.lemmas.Option.{same_Some}
 use Rattle.tape_types.specs.declared.cartridges.Cartridge.{Cartridge}
 use Rattle.tape_types.specs.declared.cartridges.Limits.{Limits}
 use Rattle.tape_types.specs.declared.cartridges.Part.TheVariants.{Dp}
@@ -20,7 +21,6 @@ use Rattle.serving_promise.specs.Served.{Fixed, View}
 use Rattle.crash_laws.specs.Changes.{AreDriven, IsDriven}
 use Rattle.crash_laws.specs.Laws.{AddsOps}
 use Rattle.crash_laws.specs.Safe.{space_now}
-use Rattle.crash_laws.proofs.Bridge.{some_same}
 use Rattle.crash_laws.proofs.Placing.{standings_go_on}
 use Rattle.plan_laws.specs.Planned.{IsOnWay, Items, mounted_items, with_ops}
 use Rattle.closing_laws.specs.Ready.{GoesOnBy, HasDpIndex, IsStepOnTape, IsTapeReady, TapesStayReady}
@@ -101,7 +101,7 @@ module _ {D : Type 0} (drive : Ghosts D) where
       by None is = absurd (let wrong : None ≡ Some c = sym (step.made.untold is) ∙ told in cc)
       by (Some before) is =
           let it = step.told before is in
-          (before, is, subst (λ (d : Cartridge). AfterOp op end before d) (some_same it.0 c (sym it.1 ∙ told)) it.2)
+          (before, is, subst (λ (d : Cartridge). AfterOp op end before d) (same_Some it.0 c (sym it.1 ∙ told)) it.2)
 
   module _ (planned : Items) (old new : View D) (way : (c : Cartridge) → drive.held old.drive ≡ Some c
       → IsOnWay planned old.ops c) where

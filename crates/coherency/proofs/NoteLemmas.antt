@@ -1,10 +1,10 @@
 -- The fields of a note.
-use Rattle.std.proofs.Common.{◌≡◌, ℕ, ◌+◌, ◌<◌, ◌≤◌, ◌^◌, Bool, nat_le, true, false, ◌==◌, ◌&&◌, List, [], ◌∷◌, ◌++◌, length, get_or, take, drop, map, replicate, codes, refl, sym, ap, ◌∙◌, arith, Some, None}
+use Rattle.std.proofs.Common.{◌≡◌, ℕ, ◌+◌, ◌<◌, ◌≤◌, ◌^◌, nat_le, true, ◌==◌, List, [], ◌∷◌, ◌++◌, length, get_or, take, drop, map, replicate, codes, refl, sym, ap, ◌∙◌, arith, Some, None}
 use Rattle.std.specs.Cmp.Derive.{both_true}
 use Rattle.std.specs.List.{slice_range, range_with_len}
 use Rattle.std.specs.Int.{w64, from_be_bytes, to_be_bytes}
 use Rattle.std.specs.Str.{bytes_eq}
-use Rattle.std.proofs.lemmas.Bool.{eq-eqb, eqb-true}
+use Rattle.std.proofs.lemmas.Bool.{eq-eqb, eqb-true, and_parts}
 use Rattle.std.proofs.lemmas.Grind.{same_number_lists}
 use Rattle.std.proofs.lemmas.List.FromFn.{length-map-range_with_len, get_or-map-range_with_len}
 use Rattle.std.proofs.lemmas.Nat.{from_be_bytes-to_be_bytes_8}
@@ -39,17 +39,12 @@ pub note-frame : (note : List ℕ) (c : Coherency) → IsNote note c → has_fra
 note-frame note c h =
     both_true (both_true (both_true (both_true (eq-eqb (get_or note 0 0) 8 h.reference_length) (same_bytes (slice_range note 25 27) (0 ∷ 43 ∷ []) h.information_length)) (same_bytes (slice_range note 27 32) (codes "LTFS" ++ 0 ∷ []) h.signature)) (eq-eqb (get_or note 68 0) 0 h.uuid_end)) (le_true (get_or note 69 0) 1 h.version)
 
-both : (a b : Bool) → (a && b) ≡ true → (a ≡ true) × (b ≡ true)
-both true true e = (refl, refl)
-both true false e = absurd (cc e)
-both false b e = absurd (cc e)
-
 pub frame-note : (note : List ℕ) (c : Coherency) → length note ≡ 70 → has_frame note ≡ true → c.vcr ≡ from_be_bytes w64 (slice_range note 1 9) → c.generation ≡ from_be_bytes w64 (slice_range note 9 17) → c.block ≡ from_be_bytes w64 (slice_range note 17 25) → uuid_in (slice_range note 32 68) ≡ Some c.uuid → IsNote note c
 frame-note note c long frame vcr generation block uuid =
-    let version = both _ (nat_le (get_or note 69 0) 1) frame in
-    let uuid_end = both _ (get_or note 68 0 == 0) version.0 in
-    let signature = both _ (bytes_eq (slice_range note 27 32) (codes "LTFS" ++ 0 ∷ [])) uuid_end.0 in
-    let lengths = both (get_or note 0 0 == 8) (bytes_eq (slice_range note 25 27) (0 ∷ 43 ∷ [])) signature.0 in
+    let version = and_parts _ (nat_le (get_or note 69 0) 1) frame in
+    let uuid_end = and_parts _ (get_or note 68 0 == 0) version.0 in
+    let signature = and_parts _ (bytes_eq (slice_range note 27 32) (codes "LTFS" ++ 0 ∷ [])) uuid_end.0 in
+    let lengths = and_parts (get_or note 0 0 == 8) (bytes_eq (slice_range note 25 27) (0 ∷ 43 ∷ [])) signature.0 in
     record {
       size = long;
       reference_length = eqb-true (get_or note 0 0) 8 lengths.0;

@@ -1,5 +1,6 @@
 -- What a head says of an op is what the theory of crashes asks of it.
 use Rattle.std.proofs.Common.{◌≡◌, inl, ℕ, Option, Some, refl, sym, subst, ◌∙◌}
+use Rattle.std.proofs.lemmas.Option.{same_Some}
 use Rattle.tape_types.specs.declared.cartridges.Cartridge.{Cartridge}
 use Rattle.tape_types.specs.declared.cartridges.Item.{Item}
 use Rattle.tape_types.specs.declared.cartridges.Item.TheVariants as item
@@ -19,9 +20,6 @@ use Rattle.image_laws.specs.Kept.{IsStep, IsSureAfter}
 use Rattle.image_laws.specs.Moments.{moment_of}
 use Rattle.crash_laws.specs.Changes.{IsWell}
 use Rattle.crash_laws.specs.Laws.{HeadsDoOps}
-
-pub some_same : {X : Type 0} (x y : X) → Some x ≡ Some y → x ≡ y
-some_same x y e = cc
 
 same_within : (op : Op) (before : Cartridge) (count : ℕ) (leaves_old leaves_new : Cartridge → Type 0) (since_old since_new : ℕ → Cartridge → Type 0)
     → Crashes (WithinOp op before) count leaves_old leaves_new since_old since_new → Crashes (Within op before) count leaves_old leaves_new since_old since_new
@@ -64,7 +62,7 @@ module _ {D : Type 0} (drive : Ghosts D) where
       → drive.held new ≡ Some now → AfterOp op end before now
   after_op op end old new before now step told after =
       let it = step.told before told in
-      subst (λ (c : Cartridge). AfterOp op end before c) (some_same it.0 now (sym it.1 ∙ after)) it.2
+      subst (λ (c : Cartridge). AfterOp op end before c) (same_Some it.0 now (sym it.1 ∙ after)) it.2
 
   pub heads_do_ops : HeadsDoOps drive
   heads_do_ops = record {

@@ -4,6 +4,7 @@ use Rattle.std.specs.Prelude.{All, filter, ◌==◌}
 use Rattle.std.specs.List.{AllByRecursion, fold, list_any}
 use Rattle.std.proofs.lemmas.Bool.{eqb-true}
 use Rattle.std.proofs.lemmas.List.Elements.{All-head, All-tail}
+use Rattle.std.proofs.lemmas.Option.{same_Some}
 use Rattle.tape_types.specs.declared.cartridges.Cartridge.{Cartridge}
 use Rattle.tape_types.specs.declared.cartridges.Limits.{Limits}
 use Rattle.tape_types.specs.declared.cartridges.Part.{Part}
@@ -44,7 +45,7 @@ use Rattle.crash_laws.specs.Changes.{IsStepped, IsWell}
 use Rattle.crash_laws.specs.Laws.{StepsAreSafe}
 use Rattle.crash_laws.specs.Safe.{AreInOrder, IsDpFlush, IsSafe, Settle, state_of, wait_of, Planned}
 use Rattle.crash_laws.proofs.Admits.{at_acked, at_others, op_of}
-use Rattle.crash_laws.proofs.Bridge.{heads_do_ops, looked, some_same}
+use Rattle.crash_laws.proofs.Bridge.{heads_do_ops, looked}
 use Rattle.crash_laws.proofs.Fields.{At, of_view, state_at, to_view}
 use Rattle.crash_laws.proofs.Submitted.{state_after}
 use Rattle.crash_laws.proofs.Trails.{IsFewer, first_allowed, le_is, not_due, op_done, op_failed, order_filter, order_on, order_weaker, rest_allowed, served_keeps, taken, trail_behind, waits_first}
@@ -283,7 +284,7 @@ module _ {D : Type 0} (drive : Ghosts D)
   waiting_is : (old : View D) (op : Op) (later : List Op) (w : waiting.Op) → map headed old.ops ≡ waiting.ops (after_all old.events) → old.ops ≡ op ∷ later
       → waiting_op (after_all old.events) ≡ Some w → w ≡ headed op
   waiting_is old op later w are is waits =
-      some_same w (headed op) (sym (waits_first (after_all old.events) w waits)
+      same_Some w (headed op) (sym (waits_first (after_all old.events) w waits)
       ∙ ap (λ (l : List waiting.Op). first_of l) (sym are ∙ ap (λ (l : List Op). map headed l) is))
 
   turns_on : (old : View D) (op : Op) (later : List Op) (place : Place) (answers : List Event) (w : waiting.Op)

@@ -1,7 +1,7 @@
 -- Texts of bytes that stand for themselves are read as they stand.
 use Rattle.std.proofs.Common.{◌≡◌, ℕ, zero, suc, ◌+◌, ◌-◌, ◌<◌, ◌≤◌, eqb, Bool, true, false, not, ◌==◌, List, [], ◌∷◌, ◌++◌, Ok, length, take, drop, get_or, IsUtf8, refl, sym, ap, ◌∙◌, arith}
 use Rattle.std.specs.List.{list_all}
-use Rattle.std.proofs.lemmas.Bool.{and_from}
+use Rattle.std.proofs.lemmas.Bool.{and_from, and_parts}
 use Rattle.std.proofs.lemmas.Bool.Decides.{nat_tests}
 use Rattle.std.proofs.lemmas.List.{take_more, get_or-drop, length-drop}
 use Rattle.std.proofs.lemmas.List.Folds.{list_all-append}
@@ -9,7 +9,6 @@ use Rattle.std.proofs.lemmas.Str.{IsUtf8-from_ascii}
 use Rattle.doc_fields.specs.Reading.{Read, ◌>>=◌, between}
 use Rattle.doc_fields.specs.Space.{run_end}
 use Rattle.doc_fields.specs.Texts.{is_simple, run_text, text_at, text_end}
-use Rattle.doc_fields.proofs.Again.{both}
 use Rattle.doc_fields.proofs.Runs.{run_more, run_stops}
 use Rattle.doc_fields.proofs.SimpleTexts.{simple_text, run_whole}
 use Rattle.doc_elements.specs.Bare.{is_bare}
@@ -55,12 +54,12 @@ low b e = grind (arith, nat_tests)
 
 all_simple : (bs : List ℕ) → list_all is_bare bs ≡ true → list_all is_simple bs ≡ true
 all_simple [] e = refl
-all_simple (b ∷ bs) e = let p = both (is_bare b) (list_all is_bare bs) e in and_from (is_simple b) (list_all is_simple bs) (simple b p.0) (all_simple bs p.1)
+all_simple (b ∷ bs) e = let p = and_parts (is_bare b) (list_all is_bare bs) e in and_from (is_simple b) (list_all is_simple bs) (simple b p.0) (all_simple bs p.1)
 
 all_low : (bs : List ℕ) → list_all is_bare bs ≡ true → (i : ℕ) → get_or bs i 0 < 128
 all_low [] e i = omega arith
-all_low (b ∷ bs) e zero = low b (both (is_bare b) (list_all is_bare bs) e).0
-all_low (b ∷ bs) e (suc i) = all_low bs (both (is_bare b) (list_all is_bare bs) e).1 i
+all_low (b ∷ bs) e zero = low b (and_parts (is_bare b) (list_all is_bare bs) e).0
+all_low (b ∷ bs) e (suc i) = all_low bs (and_parts (is_bare b) (list_all is_bare bs) e).1 i
 
 -- where a text ends of which each byte up to a place passes a test
 pub run_to_end : (test : ℕ → Bool) (text : List ℕ) (at i : ℕ) → IsRunTo test text at i → i < length text → eqb (get_or text i 0) 60 ≡ true → text_end text at ≡ i

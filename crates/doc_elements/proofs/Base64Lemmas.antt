@@ -2,7 +2,7 @@
 use Rattle.std.proofs.Common.{◌≡◌, ℕ, zero, suc, ◌*◌, ◌+◌, ◌/◌, ◌%◌, ◌<◌, Bool, true, false, eqb, nat_le, nat_lt, not, cond, ◌&&◌, ◌==◌, List, [], ◌∷◌, ◌++◌, length, replicate, slice_index, filter, Option, Some, None, Result, Ok, Err, refl, ap, ◌∙◌, arith}
 use Rattle.std.specs.List.{list_all}
 use Rattle.std.specs.Result.{result_ok}
-use Rattle.std.proofs.lemmas.Bool.{and_from}
+use Rattle.std.proofs.lemmas.Bool.{and_from, and_parts}
 use Rattle.std.proofs.lemmas.Bool.Decides.{nat_tests}
 use Rattle.std.proofs.lemmas.Str.{IsUtf8-from_ascii, chars-IsAscii}
 use Rattle.base64.specs.declared.decode.DecodeError.{DecodeError}
@@ -14,7 +14,6 @@ use Rattle.base64.proofs.Tables.{all_below_at}
 use Rattle.doc_fields.specs.Space.{is_space}
 use Rattle.doc_fields.specs.Texts.{IsWritable, is_allowed}
 use Rattle.doc_fields.specs.Written.{escape, escaped}
-use Rattle.doc_fields.proofs.Again.{both}
 use Rattle.doc_elements.specs.declared.errors.PieceErr.TheVariants as errors
 use Rattle.doc_elements.specs.Pieces.{from_base64, some_bytes, without_space}
 
@@ -57,7 +56,7 @@ cons_plain x xs p ps = and_from (is_plain x) (list_all is_plain xs) p ps
 
 plain_append : (xs ys : List ℕ) → list_all is_plain xs ≡ true → list_all is_plain ys ≡ true → list_all is_plain (xs ++ ys) ≡ true
 plain_append [] ys e f = f
-plain_append (x ∷ xs) ys e f = let p = both (is_plain x) (list_all is_plain xs) e in cons_plain x (xs ++ ys) p.0 (plain_append xs ys p.1 f)
+plain_append (x ∷ xs) ys e f = let p = and_parts (is_plain x) (list_all is_plain xs) e in cons_plain x (xs ++ ys) p.0 (plain_append xs ys p.1 f)
 
 abbrev alphabet : List ℕ
 alphabet = engine_symbols standard
@@ -124,18 +123,18 @@ plain_escaped b h =
 
 unspaced : (xs : List ℕ) → list_all is_plain xs ≡ true → without_space xs ≡ xs
 unspaced [] e = refl
-unspaced (x ∷ xs) e = let p = both (is_plain x) (list_all is_plain xs) e in rw (plain_space x p.0) (ap (λ (l : List ℕ). x ∷ l) (unspaced xs p.1))
+unspaced (x ∷ xs) e = let p = and_parts (is_plain x) (list_all is_plain xs) e in rw (plain_space x p.0) (ap (λ (l : List ℕ). x ∷ l) (unspaced xs p.1))
 
 unescaped : (xs : List ℕ) → list_all is_plain xs ≡ true → escape xs ≡ xs
 unescaped [] e = refl
 unescaped (x ∷ xs) e =
-    let p = both (is_plain x) (list_all is_plain xs) e in
+    let p = and_parts (is_plain x) (list_all is_plain xs) e in
     ap (λ (l : List ℕ). l ++ escape xs) (plain_escaped x p.0) ∙ ap (λ (l : List ℕ). x ∷ l) (unescaped xs p.1)
 
 all_allowed : (xs : List ℕ) → list_all is_plain xs ≡ true → list_all is_allowed xs ≡ true
 all_allowed [] e = refl
 all_allowed (x ∷ xs) e =
-    let p = both (is_plain x) (list_all is_plain xs) e in
+    let p = and_parts (is_plain x) (list_all is_plain xs) e in
     and_from (is_allowed x) (list_all is_allowed xs) (plain_allowed x p.0) (all_allowed xs p.1)
 
 -- ---- what is written is read again

@@ -5,10 +5,10 @@ use Rattle.std.specs.List.{list_all}
 use Rattle.std.specs.Str.{chars, encode_utf8_all}
 use Rattle.std.proofs.lemmas.Bool.Decides.{nat_tests}
 use Rattle.std.proofs.lemmas.Str.{IsUtf8-from_ascii, chars-IsAscii, encode_ascii}
+use Rattle.std.proofs.lemmas.Bool.{and_parts}
 use Rattle.doc_fields.specs.Reading.{Read, ◌>>=◌, between}
 use Rattle.doc_fields.specs.Space.{is_space}
 use Rattle.doc_fields.specs.Texts.{is_allowed, line_feeds, put_front, resolved, resolved_text, run_text, text_at}
-use Rattle.doc_fields.proofs.Again.{both}
 use Rattle.doc_fields.proofs.SimpleTexts.{run_whole}
 use Rattle.doc_elements.specs.Bare.{is_bare, is_lined}
 use Rattle.doc_elements.specs.Pieces.{without_space}
@@ -19,15 +19,15 @@ low b e = grind (arith, nat_tests)
 
 all_low : (bs : List ℕ) → list_all is_lined bs ≡ true → (i : ℕ) → get_or bs i 0 < 128
 all_low [] e i = omega arith
-all_low (b ∷ bs) e zero = low b (both (is_lined b) (list_all is_lined bs) e).0
-all_low (b ∷ bs) e (suc i) = all_low bs (both (is_lined b) (list_all is_lined bs) e).1 i
+all_low (b ∷ bs) e zero = low b (and_parts (is_lined b) (list_all is_lined bs) e).0
+all_low (b ∷ bs) e (suc i) = all_low bs (and_parts (is_lined b) (list_all is_lined bs) e).1 i
 
 one_byte : (c : ℕ) (cs read : List ℕ) → c < 128 → encode_utf8_all cs ≡ read → encode_utf8_all (c ∷ cs) ≡ c ∷ read
 one_byte c cs read lt is = ap (λ (l : List ℕ). l ++ encode_utf8_all cs) (encode_ascii c lt) ∙ ap (λ (l : List ℕ). c ∷ l) is
 
 spelled : (cs : List ℕ) → list_all is_lined cs ≡ true → encode_utf8_all cs ≡ cs
 spelled [] e = refl
-spelled (c ∷ cs) e = let p = both (is_lined c) (list_all is_lined cs) e in one_byte c cs cs (low c p.0) (spelled cs p.1)
+spelled (c ∷ cs) e = let p = and_parts (is_lined c) (list_all is_lined cs) e in one_byte c cs cs (low c p.0) (spelled cs p.1)
 
 -- a character that stands for itself is read in front of the others
 itself : (cut : Bool) (at c : ℕ) (rest read : List ℕ) → eqb c 38 ≡ false → eqb c 13 ≡ false → is_allowed c ≡ true
@@ -57,7 +57,7 @@ skipped n d rest (inr is) = elim (eqb d 10) as (λ b. eqb d 10 ≡ b → (n ≡ 
 as_read : (cut : Bool) (skip at : ℕ) (cs : List ℕ) → list_all is_lined cs ≡ true → (skip ≡ 0) ⊎ (skip ≡ line_feeds cs) → IsReadAs cut skip at cs
 as_read cut skip at [] e some = record { read = []; told = refl; spelled = refl; symbols = refl }
 as_read cut (suc n) at (d ∷ rest) e some =
-    let p = both (is_lined d) (list_all is_lined rest) e in
+    let p = and_parts (is_lined d) (list_all is_lined rest) e in
     let s = skipped n d rest some in
     let more = as_read cut n (at + length (encode_utf8 d)) rest p.1 (inl s.0) in
     record {
@@ -67,7 +67,7 @@ as_read cut (suc n) at (d ∷ rest) e some =
       symbols = more.symbols ∙ sym (ap (λ b. cond (not b) (d ∷ without_space rest) (without_space rest)) s.1);
     }
 as_read cut zero at (c ∷ rest) e some =
-    let p = both (is_lined c) (list_all is_lined rest) e in
+    let p = and_parts (is_lined c) (list_all is_lined rest) e in
     let next = at + length (encode_utf8 c) in
     elim (eqb c 13) as (λ b. eqb c 13 ≡ b → IsReadAs cut 0 at (c ∷ rest)) [
       | true ↦ λ is.

@@ -1,6 +1,6 @@
 -- Elements that are written are spelled.
-use Rattle.std.proofs.Common.{◌≡◌, ℕ, ◌+◌, Bool, true, false, not, ◌&&◌, List, [], ◌∷◌, ◌++◌, length, drop, Option, Some, None, Ok, IsUtf8, refl, sym, ap, subst, ◌∙◌, append_assoc, add-zero, arith, length-append}
-use Rattle.std.proofs.lemmas.Bool.{and_parts}
+use Rattle.std.proofs.Common.{◌≡◌, ℕ, ◌+◌, true, false, not, ◌&&◌, List, [], ◌∷◌, ◌++◌, length, drop, Option, Some, None, Ok, IsUtf8, refl, sym, ap, subst, ◌∙◌, append_assoc, add-zero, arith, length-append}
+use Rattle.std.proofs.lemmas.Bool.{and_parts, not-true}
 use Rattle.std.proofs.lemmas.Str.{IsUtf8-append, IsUtf8-nil}
 use Rattle.doc_fields.specs.declared.tags.Tag.{Tag}
 use Rattle.doc_fields.specs.declared.starts.Attribute.{Attribute}
@@ -60,10 +60,6 @@ leaf_again f tag v from start text m rest good full a next e =
 
 -- ---- where children stand
 
-not_true : (b : Bool) → not b ≡ true → b ≡ false
-not_true true e = absurd cc
-not_true false e = refl
-
 none_is : (o : Option Tag) → is_none o ≡ true → o ≡ None
 none_is None e = refl
 none_is (Some tag) e = absurd cc
@@ -71,7 +67,7 @@ none_is (Some tag) e = absurd cc
 follows : (p : Place) (seen : List Tag) (tag : Tag) → may_follow p seen tag ≡ true → MayFollow p seen tag
 follows p seen tag e =
     let x = and_parts (not (has_any (excludes tag) seen)) (not (member tag seen && not (may_repeat p tag))) e in
-    record { alone = not_true _ x.0; once = not_true _ x.1 }
+    record { alone = not-true _ x.0; once = not-true _ x.1 }
 
 mutual
   item_again : (text : List ℕ) (p : Place) (at : ℕ) (i : Item) (rest : List ℕ) → GoodItem p i → drop at text ≡ text_of i ++ rest → Spelled text p (space_end text at) i (at + length (text_of i))

@@ -4,6 +4,7 @@ use Rattle.std.specs.List.{list_all}
 use Rattle.std.specs.Str.{chars, is_utf8}
 use Rattle.std.proofs.lemmas.Bool.Decides.{nat_tests}
 use Rattle.std.proofs.lemmas.Str.{IsUtf8-from_is_utf8}
+use Rattle.std.proofs.lemmas.Bool.{and_parts}
 use Rattle.base64.specs.Engines.{standard}
 use Rattle.base64.specs.GeneralPurpose.{IsBytes, encode_of}
 use Rattle.node_keys.specs.Keys.{is_key}
@@ -12,7 +13,7 @@ use Rattle.doc_fields.specs.declared.starts.Start.{Start}
 use Rattle.doc_fields.specs.declared.tags.Tag.TheVariants.{Key, Value}
 use Rattle.doc_fields.specs.Texts.{IsWritable, is_allowed}
 use Rattle.doc_fields.specs.Written.{escape}
-use Rattle.doc_fields.proofs.Again.{both, next_is, within}
+use Rattle.doc_fields.proofs.Again.{next_is, within}
 use Rattle.doc_fields.proofs.TextsAgain.{escape_valid, text_again}
 use Rattle.doc_elements.specs.declared.errors.PieceErr.{PieceErr}
 use Rattle.doc_elements.specs.declared.schema.Form.TheVariants as form
@@ -36,7 +37,7 @@ record IsShown (bs : List ℕ) : Type 0 where
 
 shown_by : (bs : List ℕ) → IsBytes bs → (b : Bool) → is_text bs ≡ b → IsShown bs
 shown_by bs are true is =
-    let parts = both (is_utf8 bs) (list_all is_allowed (chars bs)) is in
+    let parts = and_parts (is_utf8 bs) (list_all is_allowed (chars bs)) is in
     record {
       shown = bs;
       coded = false;

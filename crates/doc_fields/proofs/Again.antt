@@ -2,6 +2,7 @@
 use Rattle.std.proofs.Common.{◌≡◌, ℕ, suc, ◌+◌, ◌-◌, ◌<◌, Bool, true, false, eqb, ◌&&◌, List, [], ◌∷◌, ◌++◌, length, get_or, drop, Ok, refl, sym, ap, ◌∙◌, add-zero, arith, length-drop}
 use Rattle.std.proofs.lemmas.Bool.Decides.{nat_tests}
 use Rattle.std.proofs.lemmas.List.{drop_at, take_at, drop-drop, get_or-drop}
+use Rattle.std.proofs.lemmas.Bool.{and_parts}
 use Rattle.doc_fields.specs.Space.{is_space, run_end, space_end}
 use Rattle.doc_fields.specs.Reading.{byte, between, one_at, literal_at}
 
@@ -38,14 +39,10 @@ abbrev pub all_pass : (ℕ → Bool) → List ℕ → Bool
 all_pass p [] = true
 all_pass p (b ∷ s) = p b && all_pass p s
 
-pub both : (a b : Bool) → (a && b) ≡ true → (a ≡ true) × (b ≡ true)
-both true b e = (refl, e)
-both false b e = absurd cc
-
 pub run_again : (p : ℕ → Bool) (s : List ℕ) (c : ℕ) (rest : List ℕ) (at : ℕ) → all_pass p s ≡ true → p c ≡ false → run_end p at (s ++ c ∷ rest) ≡ at + length s
 run_again p [] c rest at a stop = rw (stop, add-zero at) refl
 run_again p (b ∷ s) c rest at a stop =
-    let x = both (p b) (all_pass p s) a in
+    let x = and_parts (p b) (all_pass p s) a in
     let there : at + 1 + length s ≡ at + suc (length s) = omega arith in
     rw x.0 (run_again p s c rest (at + 1) x.1 stop ∙ rw there refl)
 

@@ -4,12 +4,11 @@ use Rattle.std.specs.Char.{encode_utf8}
 use Rattle.std.specs.Str.{chars, encode_utf8_all}
 use Rattle.std.specs.List.{list_all}
 use Rattle.std.proofs.lemmas.Bool.Decides.{nat_tests}
-use Rattle.std.proofs.lemmas.Bool.{and_from}
+use Rattle.std.proofs.lemmas.Bool.{and_from, and_parts}
 use Rattle.doc_fields.specs.Characters.{Left, characters}
 use Rattle.doc_fields.specs.Reading.{Read, begins, syntax_at}
 use Rattle.doc_fields.specs.Texts.{and_then, digit_of, finished, is_allowed, is_cut_reference, line_feeds, named, numbered, put_front, reference, referred, resolved, unit_at, with_unit}
 use Rattle.doc_fields.specs.Values.{first_word}
-use Rattle.doc_fields.proofs.Again.{both}
 
 abbrev MayStand : ℕ × ℕ → Type 0
 MayStand u = is_allowed u.0 ≡ true
@@ -37,7 +36,7 @@ either false x y first second = second
 word_ok : (words : List (List ℕ × ℕ)) (rest : List ℕ) → list_all (λ w. is_allowed w.1) words ≡ true → IfSome (first_word words rest) MayStand
 word_ok [] rest e = tt
 word_ok (w ∷ words) rest e =
-    let p = both (is_allowed w.1) (list_all (λ w. is_allowed w.1) words) e in
+    let p = and_parts (is_allowed w.1) (list_all (λ w. is_allowed w.1) words) e in
     either (begins w.0 rest) (Some (w.1, length w.0)) (first_word words rest) p.0 (word_ok words rest p.1)
 
 reference_ok : (rest : List ℕ) → IfSome (reference rest) MayStand
@@ -128,7 +127,7 @@ allowed_low c e = grind (arith, nat_tests, e)
 all_bytes : (cs : List ℕ) → list_all is_allowed cs ≡ true → (i : ℕ) → get_or (encode_utf8_all cs) i 0 < 256
 all_bytes [] e = none_left
 all_bytes (c ∷ cs) e =
-    let p = both (is_allowed c) (list_all is_allowed cs) e in
+    let p = and_parts (is_allowed c) (list_all is_allowed cs) e in
     joined_bytes (encode_utf8 c) (encode_utf8_all cs) (character_bytes c (allowed_low c p.0)) (all_bytes cs p.1)
 
 -- what the characters that are left of a text are written in is bytes

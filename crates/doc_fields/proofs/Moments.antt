@@ -7,6 +7,7 @@ use Rattle.std.proofs.lemmas.Bool.Decides.{nat_tests}
 use Rattle.std.proofs.lemmas.List.{length-take, take_all}
 use Rattle.std.proofs.lemmas.Slice.Eq.{bytes_eq-Decides}
 use Rattle.std.proofs.lemmas.Str.{IsUtf8-from_is_utf8, IsUtf8-nil, is_utf8-from_IsUtf8}
+use Rattle.std.proofs.lemmas.Bool.{and_parts}
 use Rattle.jiff_core.specs.Calendar.{days_from_civil, days_in_month, IsCivilDate}
 use Rattle.jiff_core.proofs.SignedLemmas.{signed_arith}
 use Rattle.jiff_core.proofs.DateLemmas.{days_from_civil-max}
@@ -19,7 +20,6 @@ use Rattle.tape_types.proofs.DayLemmas.{day_not_early, day_not_late, first_day}
 use Rattle.tape_types.proofs.TextLemmas.{parts_of}
 use Rattle.doc_fields.specs.Reading.{between}
 use Rattle.doc_fields.specs.Values.{shown, time_at, time_or_fault}
-use Rattle.doc_fields.proofs.Again.{both}
 
 -- a moment has this date and time of day
 abbrev pub HasMoment : Civil → Type 0
@@ -55,12 +55,12 @@ lt_is a b h = grind (arith, nat_tests)
 
 tested : (c : Civil) → is_civil c ≡ true → Tested c
 tested c e =
-    let second = both (nat_le 1 c.month && nat_le c.month 12 && nat_le 1 c.day && nat_le c.day (days_in_month (pos c.year) c.month) && nat_lt c.hour 24 && nat_lt c.minute 60) (nat_lt c.second 60) e in
-    let minute = both (nat_le 1 c.month && nat_le c.month 12 && nat_le 1 c.day && nat_le c.day (days_in_month (pos c.year) c.month) && nat_lt c.hour 24) (nat_lt c.minute 60) second.0 in
-    let hour = both (nat_le 1 c.month && nat_le c.month 12 && nat_le 1 c.day && nat_le c.day (days_in_month (pos c.year) c.month)) (nat_lt c.hour 24) minute.0 in
-    let day_high = both (nat_le 1 c.month && nat_le c.month 12 && nat_le 1 c.day) (nat_le c.day (days_in_month (pos c.year) c.month)) hour.0 in
-    let day_low = both (nat_le 1 c.month && nat_le c.month 12) (nat_le 1 c.day) day_high.0 in
-    let month = both (nat_le 1 c.month) (nat_le c.month 12) day_low.0 in
+    let second = and_parts (nat_le 1 c.month && nat_le c.month 12 && nat_le 1 c.day && nat_le c.day (days_in_month (pos c.year) c.month) && nat_lt c.hour 24 && nat_lt c.minute 60) (nat_lt c.second 60) e in
+    let minute = and_parts (nat_le 1 c.month && nat_le c.month 12 && nat_le 1 c.day && nat_le c.day (days_in_month (pos c.year) c.month) && nat_lt c.hour 24) (nat_lt c.minute 60) second.0 in
+    let hour = and_parts (nat_le 1 c.month && nat_le c.month 12 && nat_le 1 c.day && nat_le c.day (days_in_month (pos c.year) c.month)) (nat_lt c.hour 24) minute.0 in
+    let day_high = and_parts (nat_le 1 c.month && nat_le c.month 12 && nat_le 1 c.day) (nat_le c.day (days_in_month (pos c.year) c.month)) hour.0 in
+    let day_low = and_parts (nat_le 1 c.month && nat_le c.month 12) (nat_le 1 c.day) day_high.0 in
+    let month = and_parts (nat_le 1 c.month) (nat_le c.month 12) day_low.0 in
     record {
       month_low = le_is 1 c.month month.0;
       month_high = le_is c.month 12 month.1;
@@ -118,7 +118,7 @@ read_moment text c e = by (bytes_eq text (civil_text (numbers_in text)) && is_ci
     by : (b : Bool) → (bytes_eq text (civil_text (numbers_in text)) && is_civil (numbers_in text)) ≡ b → cond b (Some (numbers_in text)) None ≡ Some c → HasMoment c
     by false is h = absurd (let wrong : None ≡ Some c = h in cc)
     by true is h =
-        let parts = both (bytes_eq text (civil_text (numbers_in text))) (is_civil (numbers_in text)) is in
+        let parts = and_parts (bytes_eq text (civil_text (numbers_in text))) (is_civil (numbers_in text)) is in
         let shown : text ≡ civil_text (numbers_in text) = (bytes_eq-Decides text (civil_text (numbers_in text))).0 parts.0 in
         let places = parts_of text (numbers_in text) shown in
         let year : (numbers_in text).year ≡ number_from 0 (digits 4 (numbers_in text).year) = ap (number_from 0) places.year in

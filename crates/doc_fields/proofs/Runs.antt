@@ -1,7 +1,8 @@
 -- Steps of the recursions over what is left of a text.
-use Rattle.std.proofs.Common.{◌≡◌, ℕ, zero, suc, nat_lt, ◌&&◌, ◌+◌, ◌-◌, ◌*◌, ◌<◌, ◌≤◌, Bool, true, false, cond, List, [], ◌∷◌, eqb, Ok, Err, length, get_or, drop, refl, ◌∙◌, arith}
+use Rattle.std.proofs.Common.{◌≡◌, ℕ, zero, suc, nat_lt, ◌+◌, ◌-◌, ◌*◌, ◌<◌, ◌≤◌, Bool, true, false, cond, List, [], ◌∷◌, eqb, Ok, Err, length, get_or, drop, refl, ◌∙◌, arith}
 use Rattle.std.proofs.lemmas.List.{at_drop_more, at_drop_all}
 use Rattle.std.proofs.lemmas.Bool.Decides.{nat_tests}
+use Rattle.std.proofs.lemmas.Bool.{and_parts}
 use Rattle.doc_fields.specs.declared.errors.Why.TheVariants.{Syntax}
 use Rattle.doc_fields.specs.Reading.{literal_at, has_no_zero}
 use Rattle.doc_fields.specs.Space.{run_end}
@@ -44,14 +45,10 @@ literal_stops word text k at lt ne =
 pub literal_done : (word text : List ℕ) (k at : ℕ) → length word ≤ k → literal_at (drop k word) text (at + k) ≡ Ok (at + k)
 literal_done word text k at le = at_drop_all (λ (w : List ℕ). literal_at w text (at + k)) word k le
 
-and_true : (a b : Bool) → (a && b) ≡ true → (a ≡ true) × (b ≡ true)
-and_true true b e = (refl, e)
-and_true false b e = absurd cc
-
 pub no_zero : (word : List ℕ) (k : ℕ) → has_no_zero word ≡ true → k < length word → 0 < get_or word k 0
 no_zero [] k e lt = absurd (omega arith)
-no_zero (b ∷ word) zero e lt = let both = and_true (nat_lt 0 b) (has_no_zero word) e in grind (arith, nat_tests)
-no_zero (b ∷ word) (suc k) e lt = let both = and_true (nat_lt 0 b) (has_no_zero word) e in no_zero word k both.1 (omega arith)
+no_zero (b ∷ word) zero e lt = let both = and_parts (nat_lt 0 b) (has_no_zero word) e in grind (arith, nat_tests)
+no_zero (b ∷ word) (suc k) e lt = let both = and_parts (nat_lt 0 b) (has_no_zero word) e in no_zero word k both.1 (omega arith)
 
 -- only within a text a byte can stand that isn't 0
 pub inside : (text : List ℕ) (at : ℕ) → 0 < get_or text at 0 → at < length text

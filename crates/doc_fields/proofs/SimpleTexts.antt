@@ -1,19 +1,15 @@
 -- Texts in which every byte stands for itself.
-use Rattle.std.proofs.Common.{◌≡◌, ℕ, ◌+◌, ◌<◌, ◌≤◌, ◌⊎◌, inl, inr, nat_lt, eqb, Bool, true, false, ◌&&◌, List, [], ◌∷◌, Ok, length, IsUtf8, refl, sym, ap, subst, ◌∙◌, arith}
+use Rattle.std.proofs.Common.{◌≡◌, ℕ, ◌+◌, ◌<◌, ◌≤◌, ◌⊎◌, inl, inr, nat_lt, eqb, Bool, true, false, List, [], ◌∷◌, Ok, length, IsUtf8, refl, sym, ap, subst, ◌∙◌, arith}
 use Rattle.std.specs.Char.{encode_utf8}
 use Rattle.std.specs.List.{list_all}
 use Rattle.std.specs.Str.{chars, encode_utf8_all, all_scalars}
 use Rattle.std.proofs.lemmas.Bool.Decides.{nat_tests}
 use Rattle.std.proofs.lemmas.List.Folds.{list_all-append}
 use Rattle.std.proofs.lemmas.Str.{encodes-chars, scalars-chars, utf8_valid_len-IsUtf8}
-use Rattle.std.proofs.lemmas.Bool.{cases_order}
+use Rattle.std.proofs.lemmas.Bool.{cases_order, and_parts}
 use lib.Utf8.{encode, scalar, scalar_cases}
 use Rattle.doc_fields.specs.Reading.{Read, ◌>>=◌}
 use Rattle.doc_fields.specs.Texts.{is_allowed, is_simple, put_front, resolved, resolved_text, run_text}
-
-both : (a b : Bool) → (a && b) ≡ true → (a ≡ true) × (b ≡ true)
-both true b e = (refl, e)
-both false b e = absurd cc
 
 -- a character that stands for itself
 record IsItself (c : ℕ) : Type 0 where
@@ -45,7 +41,7 @@ not_last c e is = let bad : list_all is_simple (encode_utf8 65535) ≡ true = su
 
 itself : (c : ℕ) → scalar c ≡ true → list_all is_simple (encode_utf8 c) ≡ true → IsItself c
 itself c valid e = elim (cases_order c 128) [
-  | inr (inl lt) ↦ low c lt (both (is_simple c) true (sym (ap (list_all is_simple) (one_byte c lt)) ∙ e)).0
+  | inr (inl lt) ↦ low c lt (and_parts (is_simple c) true (sym (ap (list_all is_simple) (one_byte c lt)) ∙ e)).0
   | inl same ↦ high c (omega (arith, same)) (scalar_cases c valid) (not_first c e) (not_last c e)
   | inr (inr gt) ↦ high c (omega (arith, gt)) (scalar_cases c valid) (not_first c e) (not_last c e)
 ]
@@ -53,8 +49,8 @@ itself c valid e = elim (cases_order c 128) [
 each : (cut : Bool) (at : ℕ) (cs : List ℕ) → all_scalars cs ≡ true → list_all is_simple (encode_utf8_all cs) ≡ true → resolved cut 0 at cs ≡ Ok cs
 each cut at [] valid e = refl
 each cut at (c ∷ cs) valid e =
-    let parts = both (scalar c) (all_scalars cs) valid in
-    let simple = both (list_all is_simple (encode_utf8 c)) (list_all is_simple (encode_utf8_all cs)) (sym (list_all-append is_simple (encode_utf8 c) (encode_utf8_all cs)) ∙ e) in
+    let parts = and_parts (scalar c) (all_scalars cs) valid in
+    let simple = and_parts (list_all is_simple (encode_utf8 c)) (list_all is_simple (encode_utf8_all cs)) (sym (list_all-append is_simple (encode_utf8 c) (encode_utf8_all cs)) ∙ e) in
     let h = itself c parts.0 simple.0 in
     let rest = each cut (at + length (encode_utf8 c)) cs parts.1 simple.1 in
     rw (h.allowed, h.no_reference, h.no_return) (ap (put_front c) rest)

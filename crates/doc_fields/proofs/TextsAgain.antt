@@ -3,7 +3,7 @@ use Rattle.std.proofs.Common.{◌≡◌, ℕ, suc, ◌+◌, ◌<◌, ◌≤◌, 
 use Rattle.std.specs.Char.{encode_utf8}
 use Rattle.std.specs.List.{list_all}
 use Rattle.std.specs.Str.{chars, encode_utf8_all, all_scalars}
-use Rattle.std.proofs.lemmas.Bool.{cases_eq, cases_order}
+use Rattle.std.proofs.lemmas.Bool.{cases_eq, cases_order, and_parts}
 use Rattle.std.proofs.lemmas.Bool.Decides.{nat_tests}
 use Rattle.std.proofs.lemmas.Grind.{flat_map-append}
 use Rattle.std.proofs.lemmas.Str.{chars_from_encodes, encodes-append, encodes-chars, inside_one, scalars-chars}
@@ -12,7 +12,7 @@ use Rattle.doc_fields.specs.Reading.{Read, ◌>>=◌}
 use Rattle.doc_fields.specs.Space.{run_end}
 use Rattle.doc_fields.specs.Texts.{is_allowed, IsWritable, put_front, reference, resolved, resolved_text, run_text, text_at, text_end}
 use Rattle.doc_fields.specs.Written.{escape, escaped}
-use Rattle.doc_fields.proofs.Again.{all_pass, between_again, both, next_is, run_again, within}
+use Rattle.doc_fields.proofs.Again.{all_pass, between_again, next_is, run_again, within}
 use Rattle.doc_fields.proofs.SimpleTexts.{run_whole}
 
 -- a byte or character that has an escape, or one that stands for itself
@@ -71,7 +71,7 @@ escaped_again cut at more cs c h = five (EscapedAgain cut at more cs) c (amp_aga
 resolved_again : (cut : Bool) (at : ℕ) (cs : List ℕ) → list_all is_allowed cs ≡ true → resolved cut 0 at (escape cs) ≡ Ok cs
 resolved_again cut at [] e = refl
 resolved_again cut at (c ∷ cs) e =
-    let x = both (is_allowed c) (list_all is_allowed cs) e in
+    let x = and_parts (is_allowed c) (list_all is_allowed cs) e in
     escaped_again cut at (escape cs) cs c (λ place. resolved_again cut place cs x.1) x.0
 
 -- ---- the escapes of bytes are those of characters
@@ -128,7 +128,7 @@ scalars_escaped more c h = five (λ c. scalar c ≡ true → all_scalars (escape
 
 scalars_escape : (cs : List ℕ) → all_scalars cs ≡ true → all_scalars (escape cs) ≡ true
 scalars_escape [] e = refl
-scalars_escape (c ∷ cs) e = let x = both (scalar c) (all_scalars cs) e in scalars_escaped (escape cs) c (scalars_escape cs x.1) x.0
+scalars_escape (c ∷ cs) e = let x = and_parts (scalar c) (all_scalars cs) e in scalars_escaped (escape cs) c (scalars_escape cs x.1) x.0
 
 -- ---- no escape has a `<`
 

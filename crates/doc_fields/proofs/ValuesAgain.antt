@@ -5,6 +5,7 @@ use Rattle.std.specs.Int.{w128, byte_at, to_be_bytes, bytes_high_first}
 use Rattle.std.specs.List.{slice_index_or}
 use Rattle.std.proofs.lemmas.Fmt.{decimal_by_steps, length-decimal-le}
 use Rattle.std.proofs.lemmas.Bool.Decides.{nat_tests}
+use Rattle.std.proofs.lemmas.Bool.{and_parts}
 use Rattle.tape_types.specs.declared.moments.Moment.{Moment}
 use Rattle.tape_types.specs.declared.times.Civil.{Civil}
 use Rattle.tape_types.specs.Times.{IsCivil, civil_in, civil_of, civil_text, is_civil, time_text}
@@ -21,7 +22,7 @@ use Rattle.doc_fields.specs.Reading.{between}
 use Rattle.doc_fields.specs.Values.{bool_at, letter_at, lock_at, lock_word, shown, time_at, uuid_at}
 use Rattle.doc_fields.specs.Written.{bool_text}
 use Rattle.doc_fields.proofs.NumberLemmas.{of_good}
-use Rattle.doc_fields.proofs.Again.{all_pass, both, between_again, byte_is}
+use Rattle.doc_fields.proofs.Again.{all_pass, between_again, byte_is}
 
 -- ---- numbers
 
@@ -33,7 +34,7 @@ worth n (d ∷ ds) = worth (n * 10 + (d - 48)) ds
 digits_again : (ds : List ℕ) (c : ℕ) (rest : List ℕ) (n at : ℕ) → all_pass is_digit ds ≡ true → is_digit c ≡ false → digits n at (ds ++ c ∷ rest) ≡ (worth n ds, at + length ds)
 digits_again [] c rest n at good stop = rw (stop, add-zero at) refl
 digits_again (d ∷ ds) c rest n at good stop =
-    let x = both (is_digit d) (all_pass is_digit ds) good in
+    let x = and_parts (is_digit d) (all_pass is_digit ds) good in
     let there : at + 1 + length ds ≡ at + suc (length ds) = omega arith in
     rw x.0 (digits_again ds c rest (n * 10 + (d - 48)) (at + 1) x.1 stop ∙ rw there refl)
 
@@ -43,7 +44,7 @@ worth_more (x ∷ ds) n d = worth_more ds (n * 10 + (x - 48)) d
 
 digits_more_pass : (ds : List ℕ) (d : ℕ) → all_pass is_digit ds ≡ true → is_digit d ≡ true → all_pass is_digit (ds ++ d ∷ []) ≡ true
 digits_more_pass [] d a b = rw b refl
-digits_more_pass (x ∷ ds) d a b = let y = both (is_digit x) (all_pass is_digit ds) a in rw y.0 (digits_more_pass ds d y.1 b)
+digits_more_pass (x ∷ ds) d a b = let y = and_parts (is_digit x) (all_pass is_digit ds) a in rw y.0 (digits_more_pass ds d y.1 b)
 
 pub record IsWritten (n : ℕ) (ds : List ℕ) : Type 0 where
   pub good : all_pass is_digit ds ≡ true

@@ -4,6 +4,7 @@ use Rattle.std.specs.Fmt.{decimal}
 use Rattle.std.specs.Int.{w128, to_be_bytes}
 use Rattle.std.proofs.lemmas.Bool.Decides.{nat_tests}
 use Rattle.std.proofs.lemmas.Str.{IsUtf8-append, IsUtf8-from_ascii, IsUtf8-nil}
+use Rattle.std.proofs.lemmas.Bool.{and_parts}
 use Rattle.tape_types.specs.declared.moments.Moment.{Moment}
 use Rattle.tape_types.specs.declared.times.Civil.{Civil}
 use Rattle.tape_types.specs.Times.{civil_of, civil_text, digits, time_text}
@@ -12,7 +13,7 @@ use Rattle.uuid.specs.Text.{by_index, lower, hex_digit, nibble}
 use Rattle.uuid.proofs.TextLemmas.{hyphenated_ascii}
 use Rattle.doc_fields.specs.Numbers.{is_digit}
 use Rattle.doc_fields.specs.Space.{is_space, space_end}
-use Rattle.doc_fields.proofs.Again.{all_pass, both, space_again}
+use Rattle.doc_fields.proofs.Again.{all_pass, space_again}
 use Rattle.doc_fields.proofs.ValuesAgain.{decimal_written}
 
 abbrev pub is_ascii : ℕ → Bool
@@ -28,14 +29,14 @@ one_valid b lt = IsUtf8-from_ascii (b ∷ []) (λ i. one i)
 pub ascii_valid : (s : List ℕ) → all_pass is_ascii s ≡ true → IsUtf8 s
 ascii_valid [] e = IsUtf8-nil
 ascii_valid (b ∷ s) e =
-    let x = both (is_ascii b) (all_pass is_ascii s) e in
+    let x = and_parts (is_ascii b) (all_pass is_ascii s) e in
     let low : b < 128 = grind (arith, nat_tests) in
     IsUtf8-append (b ∷ []) s (one_valid b low) (ascii_valid s x.1)
 
 digits_ascii : (s : List ℕ) → all_pass is_digit s ≡ true → all_pass is_ascii s ≡ true
 digits_ascii [] e = refl
 digits_ascii (b ∷ s) e =
-    let x = both (is_digit b) (all_pass is_digit s) e in
+    let x = and_parts (is_digit b) (all_pass is_digit s) e in
     let low : is_ascii b ≡ true = grind (arith, nat_tests) in
     rw low (digits_ascii s x.1)
 
@@ -72,7 +73,7 @@ digit_stops d h = grind (arith, nat_tests)
 
 first_digit : (s : List ℕ) → 0 < length s → all_pass is_digit s ≡ true → is_space (get_or s 0 0) ≡ false
 first_digit [] some e = absurd (omega arith)
-first_digit (b ∷ s) some e = digit_stops b (both (is_digit b) (all_pass is_digit s) e).0
+first_digit (b ∷ s) some e = digit_stops b (and_parts (is_digit b) (all_pass is_digit s) e).0
 
 pub decimal_first : (n : ℕ) → n < 2 ^ 64 → is_space (get_or (decimal n) 0 0) ≡ false
 decimal_first n lt = let w = decimal_written n lt in first_digit (decimal n) w.some w.good

@@ -11,6 +11,8 @@ use Rattle.std.specs.declared.cmp.Ordering.TheVariants.{Less, Equal, Greater}
 use Rattle.std.specs.FinMap as fin
 use Rattle.std.proofs.lemmas.List.Elements.{filter-append}
 use Rattle.std.proofs.lemmas.List.Concat.{flat_map-append}
+use Rattle.std.proofs.lemmas.Bool.{or_right}
+use Rattle.plain_tree.proofs.NodeLemmas.{tied}
 use Rattle.tape_types.specs.declared.cartridges.Part.{Part}
 use Rattle.tape_types.specs.declared.cartridges.Part.TheVariants.{Ip, Dp}
 use Rattle.tape_types.specs.declared.cartridges.Place.{Place}
@@ -92,17 +94,12 @@ part_back Dp Ip e = cc
 alike : (p q : Place) → is_at (key_cmp (key_of p)) (key_of q) ≡ true → p ≡ q
 alike p q e = by (bool_cmp (same_part p.part Dp) (same_part q.part Dp)) refl e
   where
-    equal : (r : Ordering) → is_eq r ≡ true → r ≡ Equal
-    equal Less e = cc
-    equal Equal e = refl
-    equal Greater e = cc
-
     by : (r : Ordering) → bool_cmp (same_part p.part Dp) (same_part q.part Dp) ≡ r → is_eq (ordering_then r (nat_cmp p.pos q.pos)) ≡ true → p ≡ q
     by Less is t = cc
     by Greater is t = cc
     by Equal is t =
         let part = part_back p.part q.part is in
-        let pos = fin.nat_cmp-IsAntisymmetric p.pos q.pos (equal (nat_cmp p.pos q.pos) t) in
+        let pos = fin.nat_cmp-IsAntisymmetric p.pos q.pos (tied (nat_cmp p.pos q.pos) t) in
         ap (λ (k : Part). record { part = k; pos = p.pos }) part ∙ ap (λ n. record { part = q.part; pos = n }) pos
 
 has_last : (p y : Place) (places : List Place) → has_place p (places ++ y ∷ []) ≡ (has_place p places || same_place p y)
@@ -167,16 +164,12 @@ has_distinct (x ∷ xs) y = by (same_place y x) refl (has_distinct xs y)
     by true e same = ap (λ t. t || has_place y (filter (λ other. not (same_place x other)) (distinct xs))) e ∙ sym (ap (λ t. t || has_place y xs) e)
     by false e same = ap (λ t. same_place y x || t) (has_filtered x y (distinct xs) e ∙ same)
 
-right_too : (a b : Bool) → b ≡ true → (a || b) ≡ true
-right_too true b e = refl
-right_too false b e = e
-
 all_read : (tape : Tape) (read : Places) (pieces : List Piece) → ((place : Place) → has_place place (flat_map place_in pieces) ≡ true → read place ≡ true) → gathered tape read pieces ≡ flat_map (read_piece tape) pieces
 all_read tape read [] each = refl
 all_read tape read (Zeros count ∷ pieces) each = ap (λ l. replicate count (Some 0) ++ l) (all_read tape read pieces each)
 all_read tape read (Stored place byte count ∷ pieces) each =
     ap (λ t. cond t (read_piece tape (Stored place byte count)) (replicate count (Some 0)) ++ gathered tape read pieces) (each place (ap (λ t. t || has_place place (flat_map place_in pieces)) (same_itself place)))
-    ∙ ap (λ l. read_piece tape (Stored place byte count) ++ l) (all_read tape read pieces (λ other there. each other (right_too (same_place other place) (has_place other (flat_map place_in pieces)) there)))
+    ∙ ap (λ l. read_piece tape (Stored place byte count) ++ l) (all_read tape read pieces (λ other there. each other (or_right (same_place other place) (has_place other (flat_map place_in pieces)) there)))
 
 zeros_joined : (m n : ℕ) → ◌≡◌ {A = List ℕ} (replicate (m + n) 0) (replicate m 0 ++ replicate n 0)
 zeros_joined zero n = let e : 0 + n ≡ n = omega arith in ap (λ k. replicate {A = ℕ} k 0) e

@@ -6,6 +6,7 @@ use Rattle.std.specs.List.{range_with_len, flat_map}
 use Rattle.std.proofs.lemmas.List.{length-append, length-take-le, length-drop, take_all, drop_all}
 use Rattle.std.proofs.lemmas.List.Concat.{flat_map-append}
 use Rattle.std.proofs.lemmas.List.FromFn.{length-map-range_with_len}
+use Rattle.std.proofs.lemmas.Option.{same_Some}
 use Rattle.tape_types.specs.declared.cartridges.Place.{Place}
 use Rattle.tape_types.proofs.Places.{same_places}
 use Rattle.plain_tree.specs.Cells.{Cell, bytes_of, range_of}
@@ -17,9 +18,6 @@ use Rattle.extent_map.specs.Cells.{Tape, file_cells, cell_at}
 use Rattle.extent_map.specs.Pieces.{read_piece}
 use Rattle.extent_map.specs.Replies.{same_place, bytes_in, size_of, Places, gathered_piece, gathered, with_place, IsBlock, IsGathered, IsGatheredPiece, IsFilledPiece, IsPutAt}
 use borrow.Rule.Slice.PartMut.{put_mid, post_of}
-
-some_is : {X : Type 0} (x y : X) → ◌≡◌ {A = Option X} (Some x) (Some y) → x ≡ y
-some_is x y e = cc
 
 -- ---- bytes of cells that follow one another
 
@@ -39,18 +37,18 @@ cut (Some b ∷ xs) ys bytes is = by (bytes_of (xs ++ ys)) refl is (cut xs ys)
     by None e f again = let wrong : ◌≡◌ {A = Option (List ℕ)} None (Some bytes) = sym (ap (option_map (λ bs. b ∷ bs)) e) ∙ f in cc
     by (Some more) e f again =
         let c = again more e in
-        let whole : b ∷ more ≡ bytes = some_is (b ∷ more) bytes (sym (ap (option_map (λ bs. b ∷ bs)) e) ∙ f) in
+        let whole : b ∷ more ≡ bytes = same_Some (b ∷ more) bytes (sym (ap (option_map (λ bs. b ∷ bs)) e) ∙ f) in
         record { front = b ∷ c.front; rest = c.rest; front_is = ap (option_map (λ bs. b ∷ bs)) c.front_is; rest_is = c.rest_is; is = sym whole ∙ ap (λ l. b ∷ l) c.is }
 
 pub joined : (xs ys : List Cell) (cs bs : List ℕ) → bytes_of xs ≡ Some cs → bytes_of ys ≡ Some bs → bytes_of (xs ++ ys) ≡ Some (cs ++ bs)
-joined [] ys cs bs x y = y ∙ ap (λ l. Some (l ++ bs)) (some_is [] cs x)
+joined [] ys cs bs x y = y ∙ ap (λ l. Some (l ++ bs)) (same_Some [] cs x)
 joined (None ∷ xs) ys cs bs x y = cc
 joined (Some b ∷ xs) ys all bs x y = by (bytes_of xs) refl x (joined xs ys)
   where
     by : (o : Option (List ℕ)) → bytes_of xs ≡ o → option_map (λ bs. b ∷ bs) (bytes_of xs) ≡ Some all → ((cs ds : List ℕ) → bytes_of xs ≡ Some cs → bytes_of ys ≡ Some ds → bytes_of (xs ++ ys) ≡ Some (cs ++ ds)) → bytes_of (Some b ∷ xs ++ ys) ≡ Some (all ++ bs)
     by None e f again = let wrong : ◌≡◌ {A = Option (List ℕ)} None (Some all) = sym (ap (option_map (λ bs. b ∷ bs)) e) ∙ f in cc
     by (Some cs) e f again =
-        let whole : b ∷ cs ≡ all = some_is (b ∷ cs) all (sym (ap (option_map (λ bs. b ∷ bs)) e) ∙ f) in
+        let whole : b ∷ cs ≡ all = same_Some (b ∷ cs) all (sym (ap (option_map (λ bs. b ∷ bs)) e) ∙ f) in
         ap (option_map (λ bs. b ∷ bs)) (again cs bs e y) ∙ ap (λ l. Some (l ++ bs)) whole
 
 pub lost_front : (xs ys : List Cell) → bytes_of xs ≡ None → bytes_of (xs ++ ys) ≡ None
@@ -68,14 +66,14 @@ lost_rest (None ∷ xs) ys lost = refl
 lost_rest (Some b ∷ xs) ys lost = ap (option_map (λ bs. b ∷ bs)) (lost_rest xs ys lost)
 
 pub long_bytes : (xs : List Cell) (bs : List ℕ) → bytes_of xs ≡ Some bs → length bs ≡ length xs
-long_bytes [] bs is = ap length (sym (some_is [] bs is))
+long_bytes [] bs is = ap length (sym (same_Some [] bs is))
 long_bytes (None ∷ xs) bs is = cc
 long_bytes (Some b ∷ xs) bs is = by (bytes_of xs) refl is (long_bytes xs)
   where
     by : (o : Option (List ℕ)) → bytes_of xs ≡ o → option_map (λ bs. b ∷ bs) (bytes_of xs) ≡ Some bs → ((cs : List ℕ) → bytes_of xs ≡ Some cs → length cs ≡ length xs) → length bs ≡ suc (length xs)
     by None e f again = let wrong : ◌≡◌ {A = Option (List ℕ)} None (Some bs) = sym (ap (option_map (λ bs. b ∷ bs)) e) ∙ f in cc
     by (Some cs) e f again =
-        ap length (sym (some_is (b ∷ cs) bs (sym (ap (option_map (λ bs. b ∷ bs)) e) ∙ f))) ∙ ap suc (again cs e)
+        ap length (sym (same_Some (b ∷ cs) bs (sym (ap (option_map (λ bs. b ∷ bs)) e) ∙ f))) ∙ ap suc (again cs e)
 
 long_zeros : (n : ℕ) → length {A = Cell} (replicate n (Some 0)) ≡ n
 long_zeros zero = refl
@@ -204,7 +202,7 @@ module _ (tape : Tape) (read : Places) (place : Place) (pieces : List Piece) (i 
 -- all pieces are filled
 pub ends : (tape : Tape) (read : Places) (place : Place) (pieces : List Piece) (i at : ℕ) (bytes : List ℕ) → length pieces ≤ i → Halfway tape read place pieces i at bytes → IsGathered tape (with_place read place) pieces bytes
 ends tape read place pieces i at bytes done h =
-    let none : h.rest ≡ [] = sym (some_is [] h.rest (ap (λ l. bytes_of (gathered tape read l)) (sym (drop_all i pieces done)) ∙ h.rest_is)) in
+    let none : h.rest ≡ [] = sym (same_Some [] h.rest (ap (λ l. bytes_of (gathered tape read l)) (sym (drop_all i pieces done)) ∙ h.rest_is)) in
     ap (λ l. bytes_of (gathered tape (with_place read place) l)) (sym (take_all i pieces done)) ∙ h.front_is ∙ ap (λ l. Some l) (sym (append-nil h.front) ∙ ap (λ l. h.front ++ l) (sym none) ∙ sym h.is)
 
 pub some_part : (part : List ℕ) → (length part ≡ 0 → ⊥) → 1 ≤ length part

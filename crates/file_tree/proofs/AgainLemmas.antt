@@ -10,6 +10,7 @@ use Rattle.std.proofs.lemmas.Bool.{cases_lt}
 use Rattle.std.proofs.lemmas.Cmp.{tied_itself}
 use Rattle.std.proofs.lemmas.List.{append-nil}
 use Rattle.std.proofs.lemmas.Option.{slice_get_within}
+use Rattle.file_tree.proofs.EditLemmas.{parent_ends}
 use Rattle.node_keys.specs.Keys.{list_of}
 use Rattle.index_model.specs.declared.indexes.Index.{Index}
 use Rattle.index_model.specs.declared.nodes.Node as told
@@ -31,7 +32,7 @@ use Rattle.file_tree.specs.Told.{raw_of, place_of, name_or, told_kind_of, told_o
 use Rattle.file_tree.specs.Indexes.{NamesAscend, kind_in_order, node_in_order, IndexesAreToldAgain}
 use Rattle.name_tries.proofs.ItemLemmas.{some_same}
 use Rattle.file_tree.proofs.PathLemmas.{by_last, no_name}
-use Rattle.file_tree.proofs.ToldLemmas.{entry_get, get_entry, entry_place, sorted_map_entries, last_is, parent_is}
+use Rattle.file_tree.proofs.ToldLemmas.{entry_get, get_entry, entry_place, sorted_map_entries, last_is}
 use Rattle.file_tree.proofs.OrderLemmas.{parent_less, ascends}
 use Rattle.file_tree.proofs.MountLemmas.{at_path, told_at, path_once, ends}
 
@@ -279,7 +280,7 @@ module _ (letters : Letters) (size : ℕ) (index : Index) (can : CanMount index 
       let above = get_entry m more.0 found.0 found.1 in
       let number : above.0 ≡ end.node.parent = sym (in_place above.0 (more.0, found.0) above.1) ∙ found.2 in
       record {
-        parent = ap (λ q. place_of (parent_of q) (fin.keys m)) more.2 ∙ ap (λ q. place_of q (fin.keys m)) (parent_is more.0 more.1) ∙ entry_place m above.0 more.0 found.0 above.1 ∙ number ∙ ap (λ (n : told.Node). n.parent) node_is;
+        parent = ap (λ q. place_of (parent_of q) (fin.keys m)) more.2 ∙ ap (λ q. place_of q (fin.keys m)) (parent_ends more.0 more.1) ∙ entry_place m above.0 more.0 found.0 above.1 ∙ number ∙ ap (λ (n : told.Node). n.parent) node_is;
         name = ap (λ q. name_or t.name (last_name q)) more.2 ∙ ap (name_or t.name) (last_is more.0 more.1) ∙ sym end.named ∙ ap (λ (n : told.Node). n.name) node_is;
       })
       (by_last e.0)

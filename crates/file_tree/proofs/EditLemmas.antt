@@ -23,6 +23,7 @@ use Rattle.file_tree.proofs.PathLemmas.{same_nodes, get_here, get_other, gone_he
 use Rattle.file_tree.proofs.PlainLemmas.{plain_get, plain_insert}
 use Rattle.file_tree.proofs.UpdateLemmas.{from_where, stay, come}
 
+-- the parent of a path with one name more is that path
 pub parent_ends : (p : List (List ℕ)) (x : List ℕ) → parent_of (p ++ x ∷ []) ≡ p
 parent_ends p x = take_at p (x ∷ []) (length (p ++ x ∷ []) - 1) (omega (arith, length-append p (x ∷ [])))
 

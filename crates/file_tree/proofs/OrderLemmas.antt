@@ -9,6 +9,7 @@ use Rattle.std.specs.Cmp.Lexicographic.{nat_list_cmp_total}
 use Rattle.std.specs.FinMap as fin
 use Rattle.std.proofs.lemmas.Cmp.{tied_itself}
 use Rattle.std.proofs.lemmas.List.{length-append}
+use Rattle.file_tree.proofs.EditLemmas.{parent_ends}
 use Rattle.index_model.specs.declared.nodes.Node as told
 use Rattle.index_model.specs.Places.{IsAt}
 use Rattle.index_model.specs.Order.{AreInOrder, IsDirAt, LiesIn, itself, through}
@@ -28,7 +29,7 @@ use Rattle.file_tree.specs.Valid.{IsGood}
 use Rattle.name_tries.proofs.ItemLemmas.{some_same}
 use Rattle.file_tree.proofs.PathLemmas.{by_last, no_name}
 use Rattle.file_tree.proofs.PlainLemmas.{plain_get}
-use Rattle.file_tree.proofs.ToldLemmas.{entry_get, get_entry, entry_place, sorted_map_entries, parent_is}
+use Rattle.file_tree.proofs.ToldLemmas.{entry_get, get_entry, entry_place, sorted_map_entries}
 
 abbrev Path : Type 0
 Path = List (List ℕ)
@@ -198,7 +199,7 @@ module _ (letters : Letters) (volume : List ℕ) (m : Nodes) (count highest : �
   up at u x n is =
       let mark : mark_at (plain_nodes whole m) (u ++ x ∷ []) ≡ Some (n.uid, is_dir (plain_kind_of whole n.kind)) = ap mark_of (plain_get whole m (u ++ x ∷ []) ∙ ap (option_map (plain_node_of whole)) (entry_get m at (u ++ x ∷ []) n is)) in
       let above = shape.parents (u ++ x ∷ []) n.uid (is_dir (plain_kind_of whole n.kind)) mark (no_name u x) in
-      let found = dir_marked m u above.0 (ap (mark_at (plain_nodes whole m)) (sym (parent_is u x)) ∙ above.1) in
+      let found = dir_marked m u above.0 (ap (mark_at (plain_nodes whole m)) (sym (parent_ends u x)) ∙ above.1) in
       let entry = get_entry m u found.0 found.1 in
       record {
         place = entry.0;
@@ -206,7 +207,7 @@ module _ (letters : Letters) (volume : List ℕ) (m : Nodes) (count highest : �
         is = entry.1;
         kind = found.2;
         before = earlier m entry.0 at u (u ++ x ∷ []) found.0 n entry.1 is (parent_less u x);
-        parent = ap (λ q. place_of q (fin.keys m)) (parent_is u x) ∙ entry_place m entry.0 u found.0 entry.1;
+        parent = ap (λ q. place_of q (fin.keys m)) (parent_ends u x) ∙ entry_place m entry.0 u found.0 entry.1;
       }
 
   -- a node whose path goes on from another's lies in that

@@ -5,6 +5,7 @@ use Rattle.std.specs.List.{slice_get}
 use Rattle.std.specs.FinMap as fin
 use Rattle.std.proofs.lemmas.List.{length-append, length-map}
 use Rattle.std.proofs.lemmas.Option.{slice_get-map}
+use Rattle.file_tree.proofs.EditLemmas.{parent_ends}
 use Rattle.index_model.specs.Places.{IsAt}
 use Rattle.plain_tree.specs.Paths.{path_cmp, same_path, parent_of, last_name}
 use Rattle.plain_tree.proofs.MoveLemmas.{both_true, same_is, is_same, not_true, none_above}
@@ -94,13 +95,6 @@ last_is p x = ap (slice_get (p ++ x ∷ [])) (omega (arith, length-append p (x �
     at_end [] = refl
     at_end (y ∷ p) = at_end p
 
-pub parent_is : (p : Path) (x : List ℕ) → parent_of (p ++ x ∷ []) ≡ p
-parent_is p x = ap (λ k. take k (p ++ x ∷ [])) (omega (arith, length-append p (x ∷ []))) ∙ front p
-  where
-    front : (p : Path) → take (length p) (p ++ x ∷ []) ≡ p
-    front [] = refl
-    front (y ∷ p) = ap (λ l. y ∷ l) (front p)
-
 pub name_of_other : (m : Nodes) (volume name : List ℕ) (n : ℕ) → n ≢ 0 → number_at m [] ≡ Some 0 → ((p : Path) (x : List ℕ) → number_at m (p ++ x ∷ []) ≡ Some n → name ≡ x) → (p : Path) → number_at m p ≡ Some n → name ≡ name_or volume (last_name p)
 name_of_other m volume name n some root named p is = ⊎_elim
     (λ (e : p ≡ []). absurd (some (some_same n 0 (sym is ∙ ap (number_at m) e ∙ root))))
@@ -116,7 +110,7 @@ above_now at m s n z is p there = ⊎_elim
     let same : spot 0 [] root.0 ≡ z = same_spot _ _ (sym (s.rooted root.0 root.1) ∙ ap at (sym zero_is) ∙ is) in
     ap (λ q. number_at m (parent_of q)) e ∙ s.root ∙ ap (λ (k : Spot). Some k.parent) same)
     (λ (more : (u : Path) × (x : List ℕ) × (p ≡ u ++ x ∷ [])).
-    ap (λ q. number_at m (parent_of q)) more.2 ∙ ap (number_at m) (parent_is more.0 more.1)
+    ap (λ q. number_at m (parent_of q)) more.2 ∙ ap (number_at m) (parent_ends more.0 more.1)
     ∙ parent_now at m s n z is more.0 more.1 (ap (number_at m) (sym more.2) ∙ there))
     (by_last p)
 

@@ -1,6 +1,7 @@
 -- Notes, and what a crash may leave of them.
 use Rattle.std.proofs.Common.{ℕ, ◌-◌, ◌^◌, ◌<◌, ◌≡◌, ◌∙◌, ◌⊎◌, inl, inr}
 use Rattle.std.proofs.Common.{List, Option, Some, None, refl, sym, ap, subst}
+use Rattle.tape_drive.proofs.Exact.{same_cartridge}
 use Rattle.coherency.specs.Notes.{IsNote, note_of}
 use Rattle.tape_types.specs.declared.cartridges.Cartridge.{Cartridge}
 use Rattle.tape_types.specs.declared.cartridges.Note.{Note}
@@ -25,19 +26,14 @@ sure_looked (Some c) (Some d) leaves_a leaves_b count since_a since_b same sure 
 sure_looked None (Some d) leaves_a leaves_b count since_a since_b same sure crashes = absurd (cc same)
 sure_looked (Some c) None leaves_a leaves_b count since_a since_b same sure crashes = absurd (cc same)
 
--- two cartridges with the same items, reference and notes
-pub alike : (c d : Cartridge) → c.ip ≡ d.ip → c.dp ≡ d.dp → c.vcr ≡ d.vcr → c.note_ip ≡ d.note_ip → c.note_dp ≡ d.note_dp → c ≡ d
-alike c d ip dp vcr note_ip note_dp =
-    λ t. record { ip = ip t; dp = dp t; vcr = vcr t; note_ip = note_ip t; note_dp = note_dp t }
-
 -- an image of what was noted
 noted_image : (part : Part) (note : Note) (c d image : Cartridge) → IsNoted part note c d → HasState d image
     → (image ≡ c) ⊎ IsNoted part note c image → image ≡ d
 noted_image part note c d image noted state (inl same) =
-    alike image d (ap (λ (k : Cartridge). k.ip) same ∙ sym noted.ip) (ap (λ (k : Cartridge). k.dp) same ∙ sym noted.dp)
+    same_cartridge image d (ap (λ (k : Cartridge). k.ip) same ∙ sym noted.ip) (ap (λ (k : Cartridge). k.dp) same ∙ sym noted.dp)
     state.vcr state.note_ip state.note_dp
 noted_image part note c d image noted state (inr new) =
-    alike image d (new.ip ∙ sym noted.ip) (new.dp ∙ sym noted.dp) state.vcr state.note_ip state.note_dp
+    same_cartridge image d (new.ip ∙ sym noted.ip) (new.dp ∙ sym noted.dp) state.vcr state.note_ip state.note_dp
 
 -- nothing is pending after a note was written
 pub sure_noted : (part : Part) (note : Note) (a b : Option Cartridge) (leaves_a leaves_b : Cartridge → Type 0) (count : ℕ)
@@ -64,7 +60,7 @@ pub both_noted : (note : Note) (a b : Option Cartridge) (c : Cartridge)
 both_noted note a b c first second =
     let d : Cartridge = first.0 in
     let t = second d first.1 in
-    t.1 ∙ ap Some (alike t.0 (record c { note_ip = note; note_dp = note })
+    t.1 ∙ ap Some (same_cartridge t.0 (record c { note_ip = note; note_dp = note })
     (t.2.ip ∙ first.2.ip) (t.2.dp ∙ first.2.dp) (t.2.vcr ∙ first.2.vcr)
     (t.2.other_note ∙ first.2.written) t.2.written)
 

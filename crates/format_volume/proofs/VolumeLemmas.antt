@@ -2,12 +2,12 @@
 use Rattle.std.proofs.Common.{ℕ, ◌≡◌, ◌∙◌, List, ◌++◌, take, length}
 use Rattle.std.proofs.Common.{Some, refl, ap, subst, arith, length-append}
 use Rattle.std.proofs.lemmas.List.{take_all}
+use Rattle.tape_drive.proofs.Exact.{same_cartridge}
 use Rattle.coherency.specs.Notes.{IsNote, note_of}
 use Rattle.tape_types.specs.declared.cartridges.Cartridge.{Cartridge}
 use Rattle.tape_types.specs.declared.cartridges.Item.{Item}
 use Rattle.tape_types.specs.declared.cartridges.Part.TheVariants.{Ip, Dp}
 use Rattle.tape_drive.specs.declared.drive.Drive.{Ghosts}
-use Rattle.format_volume.proofs.NoteLemmas.{alike}
 use Rattle.format_volume.specs.declared.requests.FormatSpec.{FormatSpec}
 use Rattle.format_volume.specs.Steps.{AreAppended, HasNotes, HoldsVolume, WritesBoth, with_notes}
 use Rattle.format_volume.specs.Texts.{AreTextsOf}
@@ -69,7 +69,7 @@ module _ {D : Type 0} (drive : Ghosts D) where
       let t = wrote k held in
       let d : Cartridge = t.0 in
       let n = notes d t.1 in
-      n.0 ∙ ap Some (alike (with_notes spec d) (volume_for spec (vcr_after spec k.vcr)) t.2.ip_items t.2.dp_items t.2.vcr
+      n.0 ∙ ap Some (same_cartridge (with_notes spec d) (volume_for spec (vcr_after spec k.vcr)) t.2.ip_items t.2.dp_items t.2.vcr
       (ap (λ (v : ℕ). note_for spec v) t.2.vcr)
       (ap (λ (v : ℕ). note_for spec v) t.2.vcr))
 

@@ -1,7 +1,7 @@
 -- Writes one behind the other.
 use Rattle.std.proofs.Common.{ℕ, ◌+◌, ◌≡◌, ◌≤◌, ◌∙◌, List, [], ◌∷◌, ◌++◌, take, length}
 use Rattle.std.proofs.Common.{Some, None, refl, sym, ap, subst, arith, append_assoc, append-nil, length-append}
-use Rattle.std.proofs.Common.{map, slice_get, zero, suc, ◌<◌, Result, Ok, Err, OnOk}
+use Rattle.std.proofs.Common.{map, slice_get, zero, suc, ◌<◌}
 use Rattle.std.specs.Int.{div_ceil}
 use Rattle.index_construct.specs.Blocks.{blocks_of}
 use Rattle.index_construct.proofs.Cuts.{cut_in_one_way}
@@ -24,10 +24,6 @@ take_suc (y ∷ xs) (suc k) x is = ap (λ l. y ∷ l) (take_suc xs k x is)
 
 take_next : {X : Type 0} (xs : List X) (k : ℕ) (x : X) → slice_get xs k ≡ Some x → take (k + 1) xs ≡ take k xs ++ x ∷ []
 take_next xs k x is = let one : k + 1 ≡ suc k = omega arith in ap (λ (n : ℕ). take n xs) one ∙ take_suc xs k x is
-
-pub on_ok : {T E P Q : Type 0} (r : Result T E) → (P → Q) → OnOk r P → OnOk r Q
-on_ok (Ok _) give p = give p
-on_ok (Err _) give p = p
 
 -- what was kept and appended is no longer than both together
 kept_all : (pos : ℕ) (items more : List Item) → take (pos + length more) (take pos items ++ more) ≡ take pos items ++ more

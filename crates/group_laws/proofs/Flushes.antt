@@ -4,6 +4,7 @@ use Rattle.std.specs.List.{list_any, range_with_len}
 use Rattle.std.specs.Int.{div_ceil}
 use Rattle.std.proofs.lemmas.List.{map-append}
 use Rattle.std.proofs.lemmas.List.Folds.{list_any-append}
+use Rattle.std.proofs.lemmas.Bool.{or_left, or_right}
 use Rattle.tape_types.specs.declared.cartridges.Part.{Part}
 use Rattle.tape_types.specs.declared.cartridges.Part.TheVariants.{Ip, Dp}
 use Rattle.tape_types.specs.declared.cartridges.Place.{Place}
@@ -22,14 +23,6 @@ part_self : (p : Part) → same_part p p ≡ true
 part_self Ip = refl
 part_self Dp = refl
 
-left : (a b : Bool) → a ≡ true → (a || b) ≡ true
-left true b is = refl
-left false b is = cc
-
-pub right : (a b : Bool) → b ≡ true → (a || b) ≡ true
-right true b is = refl
-right false b is = is
-
 pub neither : (a b : Bool) → a ≡ false → b ≡ false → (a || b) ≡ false
 neither true b one other = cc
 neither false b one other = other
@@ -40,11 +33,11 @@ flushes_behind : (xs ys : List Place) → ((part : Part) → has_part part xs �
 flushes_behind [] ys c = refl
 flushes_behind (x ∷ xs) ys c =
     ap (λ b. record { place = x; flush = not b } ∷ with_flushes (xs ++ ys)) later
-    ∙ ap (λ l. put_at x ∷ l) (flushes_behind xs ys (λ part there. c part (right (same_part part x.part) (has_part part xs) there)))
+    ∙ ap (λ l. put_at x ∷ l) (flushes_behind xs ys (λ part there. c part (or_right (same_part part x.part) (has_part part xs) there)))
   where
     later : list_any (λ (q : Place). same_part x.part q.part) (xs ++ ys) ≡ true
     later = list_any-append (λ (q : Place). same_part x.part q.part) xs ys
-        ∙ right (has_part x.part xs) (has_part x.part ys) (c x.part (left (same_part x.part x.part) (has_part x.part xs) (part_self x.part)))
+        ∙ or_right (has_part x.part xs) (has_part x.part ys) (c x.part (or_left (same_part x.part x.part) (has_part x.part xs) (part_self x.part)))
 
 -- ---- blocks
 
@@ -82,7 +75,7 @@ ends_so : (items : List Op) (pos : ℕ) → has_part Ip (places_of items) ≡ fa
     → IsIndex (items ++ Flush (dp pos) ∷ [])
 ends_so items pos off plain = record {
   off = ap (has_part Ip) split ∙ list_any-append (λ (p : Place). same_part Ip p.part) (places_of items) (dp pos ∷ []) ∙ neither (has_part Ip (places_of items)) false off refl;
-  there = ap (has_part Dp) split ∙ list_any-append (λ (p : Place). same_part Dp p.part) (places_of items) (dp pos ∷ []) ∙ right (has_part Dp (places_of items)) true refl;
+  there = ap (has_part Dp) split ∙ list_any-append (λ (p : Place). same_part Dp p.part) (places_of items) (dp pos ∷ []) ∙ or_right (has_part Dp (places_of items)) true refl;
   flushes = ap with_flushes split ∙ flushes_behind (places_of items) (dp pos ∷ []) covered
       ∙ ap (λ l. l ++ record { place = dp pos; flush = true } ∷ []) (sym plain) ∙ sym (map-append headed items (Flush (dp pos) ∷ []));
 }

@@ -3,6 +3,7 @@ use Rattle.std.proofs.Common.{◌≡◌, ℕ, ◌+◌, Bool, true, false, not, �
 use Rattle.std.specs.List.{All, filter, flat_map, fold, list_any}
 use Rattle.std.proofs.lemmas.List.Elements.{All-head, All-tail}
 use Rattle.std.proofs.lemmas.List.Folds.{list_any-append}
+use Rattle.std.proofs.lemmas.Bool.{and_from}
 use Rattle.tape_types.specs.declared.cartridges.Part.{Part}
 use Rattle.tape_types.specs.declared.cartridges.Part.TheVariants.{Ip, Dp}
 use Rattle.tape_types.specs.declared.cartridges.Place.{Place}
@@ -14,10 +15,6 @@ use Rattle.serving_promise.specs.Submits.{queues_at}
 use Rattle.group_laws.specs.Groups.{AreApart, requests_for}
 use Rattle.group_laws.specs.Laws.{HasWanted, OpsMayCome, ReadsMayWant, wants_at}
 
-both : (a b : Bool) → a ≡ true → b ≡ true → (a && b) ≡ true
-both true b one other = other
-both false b one other = cc
-
 not_due : (due answer : Bool) → due ≡ false → (not due || answer) ≡ true
 not_due true answer is = cc
 not_due false answer is = refl
@@ -25,12 +22,12 @@ not_due false answer is = refl
 queue_trail : (places : List Place) (st : State) → is_due st ≡ false → is_trail_from st (queues_at places) ≡ true
 queue_trail [] st calm = refl
 queue_trail (p ∷ ps) st calm =
-    both (allows st (events.Queues p)) (is_trail_from (after st (events.Queues p)) (queues_at ps)) (not_due (is_due st) false calm) (queue_trail ps (after st (events.Queues p)) calm)
+    and_from (allows st (events.Queues p)) (is_trail_from (after st (events.Queues p)) (queues_at ps)) (not_due (is_due st) false calm) (queue_trail ps (after st (events.Queues p)) calm)
 
 sync_trail : (places : List Place) (st : State) (here : ℕ) → is_due st ≡ false → is_trail_from st (queues_at places ++ events.Syncs here ∷ []) ≡ true
-sync_trail [] st here calm = both (allows st (events.Syncs here)) true (not_due (is_due st) false calm) refl
+sync_trail [] st here calm = and_from (allows st (events.Syncs here)) true (not_due (is_due st) false calm) refl
 sync_trail (p ∷ ps) st here calm =
-    both (allows st (events.Queues p)) (is_trail_from (after st (events.Queues p)) (queues_at ps ++ events.Syncs here ∷ [])) (not_due (is_due st) false calm)
+    and_from (allows st (events.Queues p)) (is_trail_from (after st (events.Queues p)) (queues_at ps ++ events.Syncs here ∷ [])) (not_due (is_due st) false calm)
     (sync_trail ps (after st (events.Queues p)) here calm)
 
 pub ops_may_come : OpsMayCome
@@ -88,9 +85,9 @@ want_trail : (places : List Place) (st : State) (here : ℕ) → is_due st ≡ f
     → All (λ (p : Place). list_any (puts_at p) (ops st) ≡ false) places → is_trail_from st (wants_at here places) ≡ true
 want_trail [] st here calm asked apart free = refl
 want_trail (p ∷ ps) st here calm asked apart free =
-    both (allows st (events.Wants here p)) (is_trail_from (after st (events.Wants here p)) (wants_at here ps))
-    (both (not (list_any (asks here p) st.requests) && not (list_any (puts_at p) (ops st))) (not (is_due st) || false)
-    (both (not (list_any (asks here p) st.requests)) (not (list_any (puts_at p) (ops st))) (ap not asked.0) (ap not (All-head (λ (p : Place). list_any (puts_at p) (ops st) ≡ false) p ps free)))
+    and_from (allows st (events.Wants here p)) (is_trail_from (after st (events.Wants here p)) (wants_at here ps))
+    (and_from (not (list_any (asks here p) st.requests) && not (list_any (puts_at p) (ops st))) (not (is_due st) || false)
+    (and_from (not (list_any (asks here p) st.requests)) (not (list_any (puts_at p) (ops st))) (ap not asked.0) (ap not (All-head (λ (p : Place). list_any (puts_at p) (ops st) ≡ false) p ps free)))
     (not_due (is_due st) false calm))
     (want_trail ps (after st (events.Wants here p)) here calm (still_not here p st.arrived st.requests ps asked.1 apart.0) apart.1
     (All-tail (λ (p : Place). list_any (puts_at p) (ops st) ≡ false) p ps free))

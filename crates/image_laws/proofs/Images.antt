@@ -1,6 +1,7 @@
 -- What a write leaves of the images that a crash may leave.
 use Rattle.std.proofs.Common.{◌≡◌, ◌⊎◌, ⊎_elim, inl, inr, ℕ, ◌<◌, ◌≤◌, ◌++◌, List, [], ◌∷◌, take, length, Option, Some, refl, sym, ap, subst, ◌∙◌, arith}
 use Rattle.std.proofs.lemmas.List.{take-append-le}
+use Rattle.tape_drive.proofs.Exact.{same_cartridge}
 use Rattle.tape_types.specs.declared.cartridges.Cartridge.{Cartridge}
 use Rattle.tape_types.specs.declared.cartridges.Item.{Item}
 use Rattle.tape_types.specs.declared.cartridges.Item.TheVariants.{Torn}
@@ -23,9 +24,6 @@ use Rattle.image_laws.specs.Made.{Base, Entry, Made, Trees, Volume, or_last, par
 use Rattle.image_laws.proofs.Fronts.{end_within, form_torn, indexes_torn, long_dp, long_enough, one_torn}
 
 -- ---- cartridges and their notes
-
-pub same_cartridge : (c d : Cartridge) → c.ip ≡ d.ip → c.dp ≡ d.dp → c.vcr ≡ d.vcr → c.note_ip ≡ d.note_ip → c.note_dp ≡ d.note_dp → c ≡ d
-same_cartridge c d ip dp vcr note_ip note_dp = λ i. record { ip = ip i; dp = dp i; vcr = vcr i; note_ip = note_ip i; note_dp = note_dp i }
 
 pub same_note : (part : Part) (c d : Cartridge) → c.note_ip ≡ d.note_ip → c.note_dp ≡ d.note_dp → note_of part c ≡ note_of part d
 same_note Ip c d ip dp = ip

@@ -1,5 +1,6 @@
 -- What is kept, over the notes of a close.
 use Rattle.std.proofs.Common.{◌≡◌, ◌⊎◌, ⊎_elim, inl, inr, ℕ, ◌≤◌, List, Some, Result, Ok, Err, refl, sym, ap, subst, ◌∙◌, arith, take, length}
+use Rattle.tape_drive.proofs.Exact.{same_cartridge}
 use Rattle.tape_types.specs.declared.cartridges.Cartridge.{Cartridge}
 use Rattle.tape_types.specs.declared.cartridges.Item.{Item}
 use Rattle.tape_types.specs.declared.cartridges.Note.{Note}
@@ -23,7 +24,7 @@ use Rattle.image_laws.specs.Images.{AreUpTo, IsDpImage, IsImage, IsIpImage}
 use Rattle.image_laws.specs.Kept.{HasNothingPending, IsStep, Moment, ReadsAs, Wait, plan_of}
 use Rattle.image_laws.specs.Kept as kept
 use Rattle.image_laws.specs.Made.{Job, Made, Trees, Volume}
-use Rattle.image_laws.proofs.Images.{image_of, same_cartridge}
+use Rattle.image_laws.proofs.Images.{image_of}
 use Rattle.image_laws.specs.Fine.{IsFine}
 use Rattle.image_laws.specs.Made.{least}
 use Rattle.image_laws.proofs.Fines.{fine}

@@ -7,9 +7,10 @@ use Rattle.std.specs.BTreeMap.{is_at}
 use Rattle.std.specs.BTreeSet.{BTreeSet, contains, Updates}
 use Rattle.std.specs.Cmp.Lexicographic.{slice_cmp}
 use Rattle.std.specs.FinMap.{nat_cmp-IsAntisymmetric, slice_cmp-IsAntisymmetric}
-use Rattle.std.specs.Ordering.{is_eq, nat_cmp}
+use Rattle.std.specs.Ordering.{nat_cmp}
 use Rattle.std.specs.declared.cmp.Ordering.{Ordering}
-use Rattle.std.specs.declared.cmp.Ordering.TheVariants.{Less, Equal, Greater}
+use Rattle.std.specs.declared.cmp.Ordering.TheVariants.{Less}
+use Rattle.node_keys.proofs.SortLemmas.{tied}
 use Rattle.node_keys.specs.declared.xattrs.Xattr.{Xattr}
 use Rattle.index_model.specs.declared.nodes.Node.{Node}
 use Rattle.index_model.specs.Keys.{HasKeyTwice}
@@ -86,12 +87,7 @@ pub record IsKept (xs : List Xattr) (seen : BTreeSet (Bor (List ℕ))) (at : ℕ
   pub knows : Knows (contains slot_cmp seen) (IsThere xs at)
 
 key_is_same : (a b : Bor (List ℕ)) → is_at (slot_cmp a) b ≡ true → a.now ≡ b.now
-key_is_same a b at = slice_cmp-IsAntisymmetric nat_cmp-IsAntisymmetric a.now b.now (is_equal _ at)
-  where
-    is_equal : (o : Ordering) → is_eq o ≡ true → o ≡ Equal
-    is_equal Less e = absurd (false_true e)
-    is_equal Equal e = refl
-    is_equal Greater e = absurd (false_true e)
+key_is_same a b at = slice_cmp-IsAntisymmetric nat_cmp-IsAntisymmetric a.now b.now (tied _ at)
 
 key_itself : (a b : Bor (List ℕ)) → a.now ≡ b.now → is_at (slot_cmp a) b ≡ true
 key_itself a b same = rw (same, tied_itself nat_list_cmp_total b.now) refl

@@ -18,6 +18,7 @@ use Rattle.index_faults.specs.Firsts.{IsNowhereBefore, IsToldFirst}
 use Rattle.index_faults.specs.Digest.{digest}
 use Rattle.index_faults.proofs.Firsts.{before_more, false_true, nowhere, told_first}
 use Rattle.std.proofs.lemmas.Option.{slice_get_within}
+use Rattle.node_keys.proofs.SortLemmas.{tied}
 use Rattle.index_faults.proofs.Keys.{Knows, knows_more, knows_none}
 
 -- a node before this place, and not the root, has this parent and this name
@@ -51,15 +52,10 @@ pub record IsKept (nodes : List Node) (seen : BTreeSet Slot) (at : ℕ) : Type 0
 -- slots that compare as equal have all parts equal
 pub slot_is : (a b : Slot) → is_at (slot_cmp a) b ≡ true → (a.0 ≡ b.0) × (a.1 ≡ b.1) × (a.2.now ≡ b.2.now)
 slot_is a b at =
-    let both = then_equal (ordering_then (nat_cmp a.0 b.0) (nat_cmp a.1 b.1)) (slice_cmp nat_cmp a.2.now b.2.now) (is_equal _ at) in
+    let both = then_equal (ordering_then (nat_cmp a.0 b.0) (nat_cmp a.1 b.1)) (slice_cmp nat_cmp a.2.now b.2.now) (tied _ at) in
     let front = then_equal (nat_cmp a.0 b.0) (nat_cmp a.1 b.1) both.0 in
     (nat_cmp-IsAntisymmetric a.0 b.0 front.0, nat_cmp-IsAntisymmetric a.1 b.1 front.1, slice_cmp-IsAntisymmetric nat_cmp-IsAntisymmetric a.2.now b.2.now both.1)
   where
-    is_equal : (o : Ordering) → is_eq o ≡ true → o ≡ Equal
-    is_equal Less e = absurd (false_true e)
-    is_equal Equal e = refl
-    is_equal Greater e = absurd (false_true e)
-
     then_equal : (o p : Ordering) → ordering_then o p ≡ Equal → (o ≡ Equal) × (p ≡ Equal)
     then_equal Less p e = absurd (false_true (ap is_eq e))
     then_equal Equal p e = (refl, e)

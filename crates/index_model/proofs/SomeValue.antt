@@ -3,6 +3,7 @@ use Rattle.std.proofs.Common.{◌≡◌, ℕ, zero, suc, ◌+◌, ◌<◌, ◌�
 use Rattle.std.proofs.lemmas.Bool.{cases_lt}
 use Rattle.std.proofs.lemmas.List.{append_assoc, append-nil}
 use Rattle.std.specs.List.{slice_get}
+use Rattle.std.proofs.lemmas.Option.{none-some, same_Some}
 use Rattle.index_model.specs.declared.indexes.Index.{Index}
 use Rattle.index_model.specs.declared.nodes.Kind.{Kind}
 use Rattle.index_model.specs.declared.nodes.Kind.TheVariants as kinds
@@ -14,7 +15,7 @@ use Rattle.index_model.specs.Places.{IsAt}
 use Rattle.index_model.specs.Values.{IndexValue, Nodes, Tells, count, facts_of, listed, value_in, value_of, volume_of}
 use Rattle.index_model.specs.Values.Nodes.{no_nodes, directory, file, link}
 use Rattle.index_model.proofs.OrderLaws.{parent_within, together}
-use Rattle.index_model.proofs.Walks.{none_some, same_element, some_same}
+use Rattle.index_model.proofs.Walks.{same_element}
 
 -- ---- lists by place
 
@@ -25,17 +26,17 @@ drop_nil (suc at) = refl
 -- behind the last element nothing is left
 nothing_left : {X : Type 0} (xs : List X) (at : ℕ) → slice_get xs at ≡ None → drop at xs ≡ []
 nothing_left [] at none = drop_nil at
-nothing_left (x ∷ xs) zero none = absurd (none_some x (sym none))
+nothing_left (x ∷ xs) zero none = absurd (none-some x (sym none))
 nothing_left (x ∷ xs) (suc at) none = nothing_left xs at none
 
 -- what is left from a place on begins with the element there
 left_from : {X : Type 0} (xs : List X) (at : ℕ) (x : X) → IsAt xs at x → drop at xs ≡ x ∷ drop (suc at) xs
-left_from [] at x is = absurd (none_some x is)
-left_from (y ∷ ys) zero x is = ap (λ z. z ∷ ys) (some_same y x is)
+left_from [] at x is = absurd (none-some x is)
+left_from (y ∷ ys) zero x is = ap (λ z. z ∷ ys) (same_Some y x is)
 left_from (y ∷ ys) (suc at) x is = left_from ys at x is
 
 within : {X : Type 0} (xs : List X) (at : ℕ) (x : X) → IsAt xs at x → at < length xs
-within [] at x is = absurd (none_some x is)
+within [] at x is = absurd (none-some x is)
 within (y ∷ ys) zero x is = omega arith
 within (y ∷ ys) (suc at) x is = omega (arith, within ys at x is)
 
@@ -164,7 +165,7 @@ module _ (nodes : List Node) (order : AreInOrder nodes) (left : ℕ) (more : Can
       (cases_lt node.parent parent)
 
   place_read : (here : Option Node) → slice_get nodes at ≡ here → ((node : Node) → IsAt nodes at node → node.parent ≤ parent) → IsRead nodes parent at
-  place_read None e most = nothing_read nodes parent at (λ node is. absurd (none_some node (sym e ∙ is)))
+  place_read None e most = nothing_read nodes parent at (λ node is. absurd (none-some node (sym e ∙ is)))
   place_read (Some node) e most = node_read node e (most node e)
 
 read : (nodes : List Node) → AreInOrder nodes → (left : ℕ) → CanRead nodes left

@@ -1,5 +1,5 @@
 -- A node changed in its place.
-use Rattle.std.proofs.Common.{◌≡◌, ℕ, zero, suc, ◌<◌, List, [], ◌∷◌, map, Some, None, length, set, OnOk, Result, Ok, Err, refl, sym, ap, ◌∙◌, arith}
+use Rattle.std.proofs.Common.{◌≡◌, ℕ, zero, suc, ◌<◌, List, [], ◌∷◌, map, Some, None, length, set, refl, sym, ap, ◌∙◌, arith}
 use Rattle.std.specs.List.{slice_get}
 use Rattle.index_model.specs.declared.nodes.Node.{Node}
 use Rattle.index_model.specs.Values.{NodeValue, value_of}
@@ -17,7 +17,3 @@ pub changed_none : (nodes : List Node) (at : ℕ) (f : NodeValue → NodeValue) 
 changed_none [] at f past = refl
 changed_none (n ∷ nodes) zero f past = absurd (past (omega arith))
 changed_none (n ∷ nodes) (suc at) f past = ap (λ vs. value_of n ∷ vs) (changed_none nodes at f (λ lt. past (omega (arith, lt))))
-
-pub on_ok : {E : Type 0} (r : Result Unit E) (A B : Type 0) → (A → B) → OnOk r A → OnOk r B
-on_ok (Ok x) A B f a = f a
-on_ok (Err e) A B f a = a

@@ -1,6 +1,6 @@
 -- What the children of a node tell of it: the facts that each node has.
-use Rattle.std.proofs.Common.{◌≡◌, ℕ, List, [], ◌∷◌, ◌++◌, Bool, true, false, ◌==◌, ◌&&◌, ◌||◌, not, Option, Some, None, if◌then◌else◌, refl, sym, ap, subst, ◌∙◌}
-use Rattle.std.proofs.lemmas.Bool.{eqb-true}
+use Rattle.std.proofs.Common.{◌≡◌, ℕ, List, [], ◌∷◌, ◌++◌, Bool, true, false, ◌==◌, ◌&&◌, not, Option, Some, None, if◌then◌else◌, refl, sym, ap, subst, ◌∙◌}
+use Rattle.std.proofs.lemmas.Bool.{eqb-true, or_right}
 use Rattle.node_keys.specs.declared.xattrs.Xattr.{Xattr}
 use Rattle.doc_fields.specs.declared.tags.Tag.{Tag}
 use Rattle.doc_fields.specs.declared.tags.Tag.TheVariants.{FileUid, Name, CreationTime, ChangeTime, ModifyTime, AccessTime, BackupTime, ReadOnly}
@@ -47,12 +47,8 @@ not_now p seen (plain u w) t follows there once = by (code t == code u) refl
 not_now p seen (bare q) t follows there once = refl
 not_now p seen (nested q is) t follows there once = refl
 
-or_true : (b c : Bool) → c ≡ true → (b || c) ≡ true
-or_true true c e = refl
-or_true false c e = e
-
 pub member_later : (t u : Tag) (seen : List Tag) → member t seen ≡ true → member t (u ∷ seen) ≡ true
-member_later t u seen there = or_true (code t == code u) (member t seen) there
+member_later t u seen there = or_right (code t == code u) (member t seen) there
 
 pub not_again : (p : Place) (seen : List Tag) (is : Items) (t : Tag) → Fits p seen is → member t seen ≡ true → may_repeat p t ≡ false → told t is ≡ None
 not_again p seen no_items t fits there once = refl

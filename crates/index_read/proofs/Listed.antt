@@ -2,6 +2,7 @@
 use Rattle.std.proofs.Common.{◌≡◌, ℕ, zero, suc, ◌+◌, ◌<◌, ◌≤◌, List, [], ◌∷◌, ◌++◌, length, drop, map, ⊎_elim, refl, sym, ap, subst, ◌∙◌, arith}
 use Rattle.std.proofs.lemmas.Bool.{cases_lt}
 use Rattle.std.proofs.lemmas.List.{append_assoc, append-nil, length-map}
+use Rattle.std.proofs.lemmas.Option.{none-some}
 use Rattle.index_model.specs.declared.nodes.Kind.{Kind}
 use Rattle.index_model.specs.declared.nodes.Kind.TheVariants as kinds
 use Rattle.index_model.specs.declared.nodes.Node.{Node}
@@ -9,7 +10,7 @@ use Rattle.index_model.specs.Order.{AreInOrder, IsDirAt, LiesIn}
 use Rattle.index_model.specs.Order.LiesIn.{itself, through}
 use Rattle.index_model.specs.Places.{IsAt}
 use Rattle.index_model.specs.Values.{IndexValue, NodeFacts, NodeValue, Nodes, no_nodes, directory, file, link, all_nodes, count, listed, value_in, value_of}
-use Rattle.index_model.proofs.Walks.{none_some, same_element}
+use Rattle.index_model.proofs.Walks.{same_element}
 use Rattle.index_read.proofs.Nodes.{length_listed}
 
 -- ---- lists by place
@@ -34,7 +35,7 @@ begins (node ∷ nodes) (suc at) x xs e =
     record { node = h.node; is = h.is; value = h.value; rest = ap (λ (n : ℕ). map value_of (drop n (node ∷ nodes))) next ∙ h.rest }
 
 within : {X : Type 0} (xs : List X) (at : ℕ) (x : X) → IsAt xs at x → at < length xs
-within [] at x is = absurd (none_some x is)
+within [] at x is = absurd (none-some x is)
 within (y ∷ ys) zero x is = omega arith
 within (y ∷ ys) (suc at) x is = omega (arith, within ys at x is)
 

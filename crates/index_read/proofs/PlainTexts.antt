@@ -6,11 +6,11 @@ use Rattle.std.specs.Str.{chars, encode_utf8_all, all_scalars}
 use Rattle.std.specs.Str.Lossy.{utf8_valid_len}
 use Rattle.std.proofs.lemmas.Bool.Decides.{nat_tests}
 use Rattle.std.proofs.lemmas.Str.{chars-encodes}
+use Rattle.std.proofs.lemmas.Bool.{and_parts}
 use lib.Utf8.{scalar}
 use Rattle.doc_fields.specs.Reading.{Read, ◌>>=◌, begins, between, syntax_at}
 use Rattle.doc_fields.specs.Texts.{is_allowed, named, digit_of, and_then, finished, numbered, reference, line_feeds, put_front, referred, unit_at, with_unit, resolved, resolved_text, run_text, text_at, text_end}
 use Rattle.doc_fields.specs.Values.{first_word}
-use Rattle.doc_fields.proofs.Again.{both}
 use Rattle.doc_fields.proofs.Allowed.{characters_are_bytes}
 use Rattle.base64.specs.GeneralPurpose.{IsBytes}
 use Rattle.index_model.specs.Texts.{IsPlainText}
@@ -49,7 +49,7 @@ numbered_good base n k (b ∷ rest) =
 
 word_good : (words : List (List ℕ × ℕ)) (rest : List ℕ) → list_all (λ (w : List ℕ × ℕ). is_allowed w.1) words ≡ true → IsGood (first_word words rest)
 word_good [] rest h = none_good
-word_good (w ∷ words) rest h = let x = both (is_allowed w.1) (list_all (λ (w : List ℕ × ℕ). is_allowed w.1) words) h in either_good (begins w.0 rest) (Some (w.1, length w.0)) (first_word words rest) (one x.0) (word_good words rest x.1)
+word_good (w ∷ words) rest h = let x = and_parts (is_allowed w.1) (list_all (λ (w : List ℕ × ℕ). is_allowed w.1) words) h in either_good (begins w.0 rest) (Some (w.1, length w.0)) (first_word words rest) (one x.0) (word_good words rest x.1)
   where
     one : is_allowed w.1 ≡ true → IsGood (Some (w.1, length w.0))
     one is r e = let same : (w.1, length w.0) ≡ r = cc (e) in ap (λ (x : ℕ × ℕ). is_allowed x.0) (sym same) ∙ is
@@ -111,7 +111,7 @@ allowed_scalar c e = grind (arith, nat_tests)
 
 all_scalar : (cs : List ℕ) → list_all is_allowed cs ≡ true → all_scalars cs ≡ true
 all_scalar [] e = refl
-all_scalar (c ∷ cs) e = let x = both (is_allowed c) (list_all is_allowed cs) e in rw (allowed_scalar c x.0, all_scalar cs x.1) refl
+all_scalar (c ∷ cs) e = let x = and_parts (is_allowed c) (list_all is_allowed cs) e in rw (allowed_scalar c x.0, all_scalar cs x.1) refl
 
 plain_encoded : (cs : List ℕ) → list_all is_allowed cs ≡ true → IsPlainText (encode_utf8_all cs)
 plain_encoded cs e =

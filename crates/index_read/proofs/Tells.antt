@@ -1,6 +1,7 @@
 -- What the elements of a document tell of the volume is one thing, and it is what a reader takes from them.
 use Rattle.std.proofs.Common.{◌≡◌, ℕ, List, [], ◌∷◌, Bool, Option, Some, None, IfSome, refl, sym, ap, subst, ◌∙◌}
 use Rattle.std.specs.Option.{option_map}
+use Rattle.std.proofs.lemmas.Option.{same_Some}
 use Rattle.tape_types.specs.declared.times.Civil.{Civil}
 use Rattle.doc_fields.specs.declared.tags.Tag.TheVariants.{Creator, Comment, VolumeUuid, Partition, GenerationNumber, UpdateTime, StartBlock, AllowPolicyUpdate, Size, VolumeLockState, HighestFileUid}
 use Rattle.doc_fields.specs.declared.values.LockState.{LockState}
@@ -126,9 +127,6 @@ maybe_one R (Some is) None b one h k = absurd h
 maybe_one R (Some is) (Some x) None one h k = absurd k
 maybe_one R (Some is) (Some x) (Some y) one h k = ap (λ z. Some z) (one is x y h k)
 
-some_same : {X : Type 0} (x y : X) → Some x ≡ Some y → x ≡ y
-some_same x y e = cc
-
 pub one_volume : (is : Items) (a b : VolumeFacts) → TellsVolume is a → TellsVolume is b → a ≡ b
 one_volume is a b h k =
     let creator = some_words (told Creator is) a.creator b.creator h.creator k.creator in
@@ -136,7 +134,7 @@ one_volume is a b h k =
     let uuid = some_uuid (told VolumeUuid is) a.uuid b.uuid h.uuid k.uuid in
     let generation = some_number (told GenerationNumber is) a.generation b.generation h.generation k.generation in
     let updated = some_time (told UpdateTime is) a.updated b.updated h.updated k.updated in
-    let here = some_same a.here b.here (maybe_one TellsSpot (inside place.Here is) (Some a.here) (Some b.here) one_spot h.here k.here) in
+    let here = same_Some a.here b.here (maybe_one TellsSpot (inside place.Here is) (Some a.here) (Some b.here) one_spot h.here k.here) in
     let back = maybe_one TellsSpot (inside place.Back is) a.back b.back one_spot h.back k.back in
     let allow = some_truth (told AllowPolicyUpdate is) a.allow b.allow h.allow k.allow in
     let policy = maybe_one TellsPolicy (inside place.Policy is) a.policy b.policy one_policy h.policy k.policy in

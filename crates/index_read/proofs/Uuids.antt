@@ -3,19 +3,19 @@ use Rattle.std.proofs.Common.{◌≡◌, ℕ, zero, suc, ◌+◌, ◌*◌, ◌<�
 use Rattle.std.specs.Int.{w128, from_be_bytes}
 use Rattle.std.specs.List.{list_all, slice_index}
 use Rattle.std.proofs.lemmas.Bool.Decides.{nat_tests}
+use Rattle.std.proofs.lemmas.Bool.{and_parts}
+use Rattle.std.proofs.lemmas.Option.{same_Some}
 use Rattle.uuid.specs.Text.{by_index, byte_of_digits, digits_of, has_hyphens, is_hex_digit, parsed_hyphenated, parsed_simple, value_of}
 use Rattle.uuid.proofs.TextLemmas.{by_index_at}
 use Rattle.tape_types.specs.Uuids.{uuid_in}
-use Rattle.doc_fields.proofs.Again.{both}
-use Rattle.index_model.proofs.Walks.{some_same}
 
 digit_fits : (c : ℕ) → is_hex_digit c ≡ true → value_of c < 16
 digit_fits c e = grind (arith, nat_tests)
 
 digits_fit : (hex : List ℕ) → list_all is_hex_digit hex ≡ true → (k : ℕ) → value_of (slice_index hex k) < 16
 digits_fit [] e k = omega arith
-digits_fit (c ∷ hex) e zero = digit_fits c (both (is_hex_digit c) (list_all is_hex_digit hex) e).0
-digits_fit (c ∷ hex) e (suc k) = digits_fit hex (both (is_hex_digit c) (list_all is_hex_digit hex) e).1 k
+digits_fit (c ∷ hex) e zero = digit_fits c (and_parts (is_hex_digit c) (list_all is_hex_digit hex) e).0
+digits_fit (c ∷ hex) e (suc k) = digits_fit hex (and_parts (is_hex_digit c) (list_all is_hex_digit hex) e).1 k
 
 byte_fits : (hex : List ℕ) → list_all is_hex_digit hex ≡ true → (j : ℕ) → byte_of_digits hex j < 256
 byte_fits hex e j = omega (arith, digits_fit hex e (2 * j), digits_fit hex e (2 * j + 1))
@@ -46,7 +46,7 @@ uuid_fits text n e =
     let a = some_mapped (from_be_bytes w128) (parsed_hyphenated text) n e in
     let b = some_if ((length text == 36) && has_hyphens text) (parsed_simple hex) a.0 a.1 in
     let c = some_if ((length hex == 32) && list_all is_hex_digit hex) (Some (by_index 16 (byte_of_digits hex))) a.0 b.1 in
-    let digits = (both (length hex == 32) (list_all is_hex_digit hex) c.0).1 in
-    let bytes : by_index 16 (byte_of_digits hex) ≡ a.0 = some_same _ _ c.1 in
+    let digits = (and_parts (length hex == 32) (list_all is_hex_digit hex) c.0).1 in
+    let bytes : by_index 16 (byte_of_digits hex) ≡ a.0 = same_Some _ _ c.1 in
     let fits = bytes_fit (by_index 16 (byte_of_digits hex)) (λ i less. rw (by_index_at 16 (byte_of_digits hex) i 0 less) (byte_fits hex digits i)) in
     subst (λ (m : ℕ). m < 2 ^ 128) (ap (from_be_bytes w128) bytes ∙ a.2) fits

@@ -1,6 +1,7 @@
 -- The index of a text is valid.
 use Rattle.std.proofs.Common.{◌≡◌, ℕ, zero, suc, ◌+◌, ◌<◌, List, [], ◌∷◌, ◌++◌, map, sym, subst, arith}
 use Rattle.std.specs.List.{AllByRecursion}
+use Rattle.std.proofs.lemmas.Option.{same_Some}
 use Rattle.index_model.specs.declared.indexes.Index.{Index}
 use Rattle.index_model.specs.declared.nodes.Kind.TheVariants as kinds
 use Rattle.index_model.specs.declared.nodes.Node.{Node}
@@ -13,7 +14,7 @@ use Rattle.index_model.specs.Names.{AreNames, IsNodeName, IsVolumeName}
 use Rattle.index_model.specs.Places.{IsAt}
 use Rattle.index_model.specs.Valid.{IsFormed, IsValid}
 use Rattle.index_model.specs.Values.{IndexValue, NodeValue, Nodes, no_nodes, directory, file, link, all_nodes, count, listed, value_in, value_of, volume_of}
-use Rattle.index_model.proofs.Walks.{all_at, some_same}
+use Rattle.index_model.proofs.Walks.{all_at}
 use Rattle.index_read.proofs.Formed.{AreFacts, AreFormed, IsFormedVolume, all_count, all_xattrs, contents_formed, root_named, volume_formed}
 use Rattle.index_read.proofs.Listed.{listed_in_order, listed_length}
 use Rattle.index_read.proofs.Ranged.{all_ranged, inside_ranged}
@@ -52,7 +53,7 @@ xattrs_of (node ∷ nodes) h = (h.0.facts.xattrs, xattrs_of nodes h.1)
 
 names_of : (root : Node) (others : List Node) → IsVolumeName root.name → AllByRecursion (λ (n : Node). IsFormedNode (value_of n)) others → AreNames (root ∷ others)
 names_of root others name h = record {
-  volume = λ node is. subst (λ (n : Node). IsVolumeName n.name) (some_same root node is) name;
+  volume = λ node is. subst (λ (n : Node). IsVolumeName n.name) (same_Some root node is) name;
   others = λ at node behind is. behind_root at node behind is;
 }
   where

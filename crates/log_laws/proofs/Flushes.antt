@@ -5,6 +5,7 @@ use Rattle.std.specs.List.{list_any}
 use Rattle.std.proofs.Common.{refl, sym, ap, ◌∙◌, arith}
 use Rattle.std.proofs.lemmas.List.Folds.{list_any-append}
 use Rattle.std.proofs.lemmas.List.Sums.{take_while-cons}
+use Rattle.tape_types.proofs.Lists.{scan-append}
 use Rattle.tape_types.specs.declared.cartridges.Place.{Place}
 use Rattle.session_script.specs.declared.logs.Event.{Event}
 use Rattle.session_script.specs.declared.logs.Event.TheVariants as events
@@ -13,7 +14,6 @@ use Rattle.event_laws.specs.Waiting.{Op, State, waiting_op}
 use Rattle.serving_promise.specs.Served.{queued}
 use Rattle.serving_promise.specs.Steps.{does_dp_flush}
 use Rattle.reply_laws.specs.Sides.{does_op}
-use Rattle.reply_laws.proofs.Lists.{scan_append}
 
 -- which of the events do a flush of the data partition, from a state on
 abbrev pub flushes : State → List Event → List Bool
@@ -92,7 +92,7 @@ until_first st e later = counted_first e (does_dp_flush (waiting_op st) e) (zip 
 pub flush_append : (st : State) (before added : List Event)
     → any_flush st (before ++ added) ≡ (any_flush st before || any_flush (fold after st before) added)
 flush_append st before added =
-    ap (list_any (λ is. is)) (scan_append after (λ st e. does_dp_flush (waiting_op st) e) st before added)
+    ap (list_any (λ is. is)) (scan-append after (λ st e. does_dp_flush (waiting_op st) e) st before added)
     ∙ list_any-append (λ is. is) (flushes st before) (flushes (fold after st before) added)
 
 -- once one was done, what comes later changes nothing

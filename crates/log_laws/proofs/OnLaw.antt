@@ -5,6 +5,7 @@ use Rattle.std.specs.List.{list_any}
 use Rattle.std.proofs.Common.{refl, sym, ap, ◌∙◌, subst, arith, take_all}
 use Rattle.std.proofs.lemmas.List.{length-map}
 use Rattle.std.proofs.lemmas.List.Folds.{list_any-append}
+use Rattle.std.proofs.lemmas.Bool.{or_left}
 use Rattle.plain_tree.specs.declared.calls.Placed.{Placed}
 use Rattle.session_script.specs.declared.logs.Event.{Event}
 use Rattle.event_laws.specs.Trail.{after, after_all}
@@ -16,7 +17,6 @@ use Rattle.serving_promise.specs.Served.{Drive, View, given, given_of, queued}
 use Rattle.serving_promise.specs.Steps.{AreOfStep, does_dp_flush, no_step, on_after, one_step}
 use Rattle.reply_laws.specs.Sides.{does_op}
 use Rattle.reply_laws.proofs.Asked.{GoesTo}
-use Rattle.reply_laws.proofs.Lists.{or_left}
 use Rattle.reply_laws.proofs.Places.{admitted_alike, agree_before}
 use Rattle.log_laws.proofs.Flushes.{answers_do_none, any_flush, flush_append, none_flush, none_flush_of}
 use Rattle.log_laws.proofs.Flushes.{until_now, until_stays}

@@ -3,6 +3,7 @@ use Rattle.std.specs.Prelude.{◌≡◌, ℕ, true, List, [], ◌∷◌, ◌++�
 use Rattle.std.specs.Prelude.{Contains, Option, Some, None, slice_get}
 use Rattle.std.proofs.Common.{refl, ap, ◌∙◌, subst}
 use Rattle.std.proofs.lemmas.List.Elements.{filter_map-append}
+use Rattle.tape_types.proofs.Lists.{slice_get-seam}
 use Rattle.tape_types.specs.declared.cartridges.Place.{Place}
 use Rattle.plain_tree.specs.History.{call_at}
 use Rattle.plain_tree.specs.declared.calls.Call.{Call}
@@ -20,7 +21,7 @@ use Rattle.serving_promise.specs.Submits.{IsOfDone, queues_at, synced_at}
 use Rattle.reply_laws.proofs.AskLaws.{none_of}
 use Rattle.reply_laws.proofs.Asked.{GoesTo, goes_next, of_reads_on}
 use Rattle.reply_laws.proofs.Blocks.{pair_back, queues_want, synced_want, wants_here}
-use Rattle.reply_laws.proofs.Lists.{get_end, picks_none}
+use Rattle.reply_laws.proofs.Lists.{picks_none}
 use Rattle.reply_laws.proofs.Places.{agree_always}
 
 -- a call that is done and asks for a block is a read
@@ -64,7 +65,7 @@ reads_next g history p before added call done call_is of_it are =
         let here = pair_back (length history) (filter_map wanted added) ticket place
         (subst (λ ws. Contains ws (ticket, place)) (wants_here (length history) before call added of_it) has) in (
           p,
-          ap (slice_get (history ++ p ∷ [])) here.0 ∙ get_end history p,
+          ap (slice_get (history ++ p ∷ [])) here.0 ∙ slice_get-seam history p,
           done,
           ap is_read call_is
               ∙ read_asks (length history) before call added of_it ticket place has,

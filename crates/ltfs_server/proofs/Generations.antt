@@ -5,6 +5,7 @@ use Rattle.std.proofs.Common.{refl, sym, ap, subst, arith, length-append}
 use Rattle.std.specs.List.{AllByRecursion}
 use Rattle.std.proofs.Math.Seq.{take-append-add}
 use Rattle.std.proofs.lemmas.List.{append_assoc, length-reverse, reverse-append}
+use Rattle.std.proofs.lemmas.Option.{same_Some}
 use Rattle.tape_types.specs.declared.cartridges.Cartridge.{Cartridge}
 use Rattle.tape_types.specs.declared.moments.Moment.{Moment}
 use Rattle.plain_tree.specs.History.{call_at}
@@ -234,14 +235,11 @@ module _ {D : Type 0} (drive : Ghosts D) (old new : D) (moment : Option Moment) 
       acknowledged = acknowledged_at;
     }
 
-some_same : (x y : Cartridge) → Some x ≡ Some y → x ≡ y
-some_same x y e = cc e
-
 pub runs_leave_generations : {D : Type 0} (drive : Ghosts D) → RunsLeaveGenerations drive
 runs_leave_generations drive old new moment script log generation tree mounted first ends can told =
     let top = ends.own tree mounted first can told in
     let closed = (ends.ends tree mounted can).3 in
-    let same : closed.held ≡ top.held = some_same closed.held top.held (sym closed.told ∙ top.told) in
+    let same : closed.held ≡ top.held = same_Some closed.held top.held (sym closed.told ∙ top.told) in
     let found = subst (λ (c : Cartridge). Found c) same closed.closed.stands.reads.found in
     let true_log = ends.run.serves.truly tree mounted can in (
       top.held,

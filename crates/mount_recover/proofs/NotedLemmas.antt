@@ -2,6 +2,7 @@
 use Rattle.std.proofs.Common.{ℕ, ◌-◌, ◌≤◌, ◌≡◌, ◌≢◌, inl, Bool, true, false, List, [], ◌∷◌, map, reverse, Option, Some, None, refl, sym, ◌∙◌, ap, subst, arith}
 use Rattle.std.proofs.lemmas.Bool.Decides.{nat_tests}
 use Rattle.std.specs.Prelude.{IfNone, IfSome, MatchOption, nat_lt, cond}
+use Rattle.std.proofs.lemmas.Option.{same_Some}
 use Rattle.tape_types.specs.declared.cartridges.Cartridge.{Cartridge}
 use Rattle.tape_types.specs.declared.cartridges.Limits.{Limits}
 use Rattle.tape_types.specs.declared.cartridges.Part.{Part}
@@ -78,9 +79,6 @@ document_is ks document place k older are stands is =
     let both : Some (places_of k) ≡ Some place = sym (ap newest are) ∙ stands in
     (subst (IsDocument document) are is, (cc both))
 
-some_same : (x y : Index) → ◌≡◌ {A = Option Index} (Some x) (Some y) → x ≡ y
-some_same x y is = cc is
-
 module _ (c : Cartridge) (label : Label) (note : Coherency) (document : List ℕ) (place : Construct) where
   -- the last index of the data partition is as its note says
   dp_text : (told : IsTold label Dp note c) → EndsAt c.dp document place → IsNotedText document label label.dpart note place told.tells.index
@@ -91,7 +89,7 @@ module _ (c : Cartridge) (label : Label) (note : Coherency) (document : List ℕ
       at (k ∷ older) are last =
           let d = document_is (indexes_of c.dp) document place k older are ends.stands ends.document_is in
           let both : Some told.tells.index ≡ Some last.0 = last.1 in
-          let same : last.0 ≡ told.tells.index = sym (some_same told.tells.index last.0 both) in
+          let same : last.0 ≡ told.tells.index = sym (same_Some told.tells.index last.0 both) in
           subst (IsNotedText document label label.dpart note place) same
           (record {
             text = subst (λ (t : List ℕ). IndexText t last.0) (sym d.0) last.2.text;
@@ -113,7 +111,7 @@ module _ (c : Cartridge) (label : Label) (note : Coherency) (document : List ℕ
       at [] are last = absurd (cc last)
       at (k ∷ older) are last =
           let d = document_is (indexes_of c.ip) document place k older are ends.stands ends.document_is in
-          let same : last.0 ≡ told.tells.index = sym (some_same told.tells.index last.0 last.1) in
+          let same : last.0 ≡ told.tells.index = sym (same_Some told.tells.index last.0 last.1) in
           subst (IsNotedText document label label.index note place) same
           (record {
             text = subst (λ (t : List ℕ). IndexText t last.0) (sym d.0) last.2.text;
@@ -196,12 +194,12 @@ module _ (c : Cartridge) (labels : Labels) (n : Named) (told : AreTold labels n 
       last_ip_once labels.ip (indexes_of c.ip) (indexes_of c.dp) (Some dp.index) known.found.on_ip (Some told.ip.tells.index) there noted_ip
 
   done_is : known.ip_done.on_ip ≡ told.ip.tells.index
-  done_is = some_same known.ip_done.on_ip told.ip.tells.index (sym known.ip_done.last ∙ on_ip)
+  done_is = same_Some known.ip_done.on_ip told.ip.tells.index (sym known.ip_done.last ∙ on_ip)
 
   no_older : (b : Bool) (i d f : Index) → b ≡ nat_lt d.generation i.generation → Some (cond b i d) ≡ Some f → i.generation ≡ f.generation → d.generation ≤ i.generation
   no_older true i d f is chosen_is same = let less : nat_lt d.generation i.generation ≡ true = sym is in grind (arith, nat_tests, less)
   no_older false i d f is chosen_is same =
-      let e : d ≡ f = some_same d f chosen_is in omega (arith, ap (λ (x : Index). x.generation) e, same)
+      let e : d ≡ f = same_Some d f chosen_is in omega (arith, ap (λ (x : Index). x.generation) e, same)
 
   later : dp.index.generation ≤ told.ip.tells.index.generation
   later =
@@ -249,7 +247,7 @@ module _ (c : Cartridge) (labels : Labels) (n : Named) (told : AreTold labels n 
   twin_generation index is =
       let here = last_dp_once labels.ip (indexes_of c.dp) told.ip.tells.last.0 (Some dp.index) told.ip.tells.last.1 last.index in
       let there = subst (λ (o : Option Index). IsLastOnIp labels.ip (indexes_of c.ip) (indexes_of c.dp) o (Some told.ip.tells.index)) here told.ip.tells.last.2 in
-      let same = some_same index told.ip.tells.index
+      let same = same_Some index told.ip.tells.index
       (last_ip_once labels.ip (indexes_of c.ip) (indexes_of c.dp) (Some dp.index) (Some index) (Some told.ip.tells.index) is.index there) in
       ap (λ (x : Index). x.generation) same ∙ sym told.ip.tells.generation
 

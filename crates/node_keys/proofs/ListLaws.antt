@@ -1,10 +1,11 @@
 -- The list that a map of attributes says, and what a map says of the list that it came from.
-use Rattle.std.proofs.Common.{◌≡◌, ℕ, zero, suc, ◌<◌, Bool, true, false, T, List, [], ◌∷◌, map, Some, Contains, refl, sym, ap, ◌∙◌, subst, arith, unwrap_or, is_eq}
+use Rattle.std.proofs.Common.{◌≡◌, ℕ, zero, suc, ◌<◌, Bool, true, false, T, List, [], ◌∷◌, map, Some, Contains, refl, sym, ap, ◌∙◌, subst, arith, is_eq}
 use Rattle.std.specs.List.{AllByRecursion, slice_get, IsDistinct}
 use Rattle.std.specs.Ordering.{eq_by_cmp}
 use Rattle.std.proofs.lemmas.Cmp.{tied_itself}
 use Rattle.std.proofs.lemmas.Map.Keys.{IsDistinct-from_sorted, IsDistinct-cons, IsDistinct-head, IsDistinct-tail}
 use Rattle.std.specs.FinMap as fin
+use Rattle.std.proofs.lemmas.Option.{same_Some}
 use Rattle.node_keys.specs.declared.xattrs.Xattr.{Xattr}
 use Rattle.node_keys.specs.Keys.{KeyMap, key_cmp, keys_of, entries_of, map_of, list_of, IsAscending, AreKeysApart}
 use Rattle.node_keys.proofs.Ordered.{key_total, key_exact, get_is, entries_are, from_sorted}
@@ -40,9 +41,6 @@ pub is_list : (xs : List Xattr) (m : KeyMap) → entries_of xs ≡ fin.entries m
 is_list xs m is = sym (untold xs) ∙ ap rows is
 
 -- ---- what holds of all attributes
-
-some_same : {X : Type 0} (a b : X) → Some a ≡ Some b → a ≡ b
-some_same a b e = ap (λ o. unwrap_or o a) e
 
 all_from : (P : Xattr → Type 0) (xs : List Xattr) → ((x : Xattr) → Contains xs x → P x) → AllByRecursion P xs
 all_from P [] each = tt
@@ -85,7 +83,7 @@ all_differ key (x ∷ xs) each = (differ key x.key (each 0 x refl), all_differ k
 none_same : (key : List ℕ) (xs : List Xattr) → AllByRecursion (λ k. eq_by_cmp key_cmp key k ≡ false) (keys_of xs) → (at : ℕ) (x : Xattr) → slice_get xs at ≡ Some x → key ≡ x.key → ⊥
 none_same key [] all at x is same = cc
 none_same key (y ∷ ys) all zero x is same =
-    let here : eq_by_cmp key_cmp key key ≡ false = ap (eq_by_cmp key_cmp key) (same ∙ ap (λ (z : Xattr). z.key) (sym (some_same y x is))) ∙ all.0 in
+    let here : eq_by_cmp key_cmp key key ≡ false = ap (eq_by_cmp key_cmp key) (same ∙ ap (λ (z : Xattr). z.key) (sym (same_Some y x is))) ∙ all.0 in
     let tie : eq_by_cmp key_cmp key key ≡ true = ap is_eq (tied_itself key_total key) in
     let wrong : true ≡ false = sym tie ∙ here in
     cc
@@ -106,6 +104,6 @@ pub places_apart : (xs : List Xattr) → AreKeysApart xs → NoKeyTwice xs
 places_apart [] apart earlier later one other lt is also same = cc
 places_apart (x ∷ xs) apart earlier zero one other lt is also same = absurd (omega (arith, lt))
 places_apart (x ∷ xs) apart zero (suc later) one other lt is also same =
-    none_same x.key xs (IsDistinct-head (eq_by_cmp key_cmp) x.key (keys_of xs) apart) later other also (ap (λ (z : Xattr). z.key) (some_same x one is) ∙ same)
+    none_same x.key xs (IsDistinct-head (eq_by_cmp key_cmp) x.key (keys_of xs) apart) later other also (ap (λ (z : Xattr). z.key) (same_Some x one is) ∙ same)
 places_apart (x ∷ xs) apart (suc earlier) (suc later) one other lt is also same =
     places_apart xs (IsDistinct-tail (eq_by_cmp key_cmp) x.key (keys_of xs) apart) earlier later one other (omega (arith, lt)) is also same

@@ -1,5 +1,5 @@
 -- Attributes that are sorted by their keys: they ascend where no key stands twice, and say the same map.
-use Rattle.std.proofs.Common.{◌≡◌, ℕ, zero, suc, ◌+◌, ◌<◌, Bool, true, false, cond, List, [], ◌∷◌, length, get_or, Some, None, Option, Contains, refl, sym, ap, ap₂, ◌∙◌, subst, arith, unwrap_or, Ordering, Less, Equal, Greater, is_lt, is_eq}
+use Rattle.std.proofs.Common.{◌≡◌, ℕ, zero, suc, ◌+◌, ◌<◌, Bool, true, false, cond, List, [], ◌∷◌, length, get_or, Some, None, Option, Contains, refl, sym, ap, ap₂, ◌∙◌, subst, arith, Ordering, Less, Equal, Greater, is_lt, is_eq}
 use Rattle.std.specs.Ordering.{eq_by_cmp, ordering_reverse}
 use Rattle.std.specs.Cmp.{IsStrictWeakOrder}
 use Rattle.std.specs.List.Sorted.{IsPermutation, IsSortedBy}
@@ -8,6 +8,7 @@ use Rattle.std.proofs.lemmas.List.{length-map, get_or-map}
 use Rattle.std.proofs.lemmas.List.Sorted.{ranks_by, IsPermutation-map, IsPermutation-sym, Contains-permutation}
 use Rattle.std.proofs.lemmas.Map.Keys.{IsDistinct-IsPermutation, IsDistinct-tail, apart_from_distinct, sorted_from_all_adjacent}
 use Rattle.std.specs.FinMap as fin
+use Rattle.std.proofs.lemmas.Option.{same_Some}
 use Rattle.node_keys.specs.declared.xattrs.Xattr.{Xattr}
 use Rattle.node_keys.specs.Keys.{key_cmp, keys_of, entries_of, map_of, IsAscending, AreKeysApart}
 use Rattle.node_keys.proofs.Ordered.{key_total, key_exact, get_is}
@@ -45,13 +46,11 @@ ascend_sorted (y ∷ ys) up apart = sorted_from_all_adjacent key_total (keys_of 
     (ap₂ (λ a b. is_lt (key_cmp a b)) next here ∙ up k y (omega arith) within)
     (apart_from_distinct (eq_by_cmp key_cmp) (keys_of all) k (k + 1) y.key apart (omega arith) lt))
 
+-- what compares as equal does so by its order
 pub tied : (r : Ordering) → is_eq r ≡ true → r ≡ Equal
 tied Less e = cc
 tied Equal e = refl
 tied Greater e = cc
-
-some_same : (a b : List ℕ) → Some a ≡ Some b → a ≡ b
-some_same a b e = ap (λ o. unwrap_or o a) e
 
 -- an attribute of the list with this key and this value
 abbrev pub HasOne : List Xattr → List ℕ → List ℕ → Type 0
@@ -65,7 +64,7 @@ found_one (x ∷ xs) key value is = cases (eq_by_cmp key_cmp key x.key) refl (fo
     cases : (b : Bool) → eq_by_cmp key_cmp key x.key ≡ b → (fin.find key_cmp key (entries_of xs) ≡ Some value → HasOne xs key value) → HasOne (x ∷ xs) key value
     cases true tie behind =
         let told : Some x.value ≡ Some value = ap (λ b. cond b (Some x.value) (fin.find key_cmp key (entries_of xs))) (sym tie) ∙ is in
-        (x, (0, omega arith, refl), sym (key_exact key x.key (tied (key_cmp key x.key) tie)), some_same x.value value told)
+        (x, (0, omega arith, refl), sym (key_exact key x.key (tied (key_cmp key x.key) tie)), same_Some x.value value told)
     cases false differ behind =
         let rest = behind (ap (λ b. cond b (Some x.value) (fin.find key_cmp key (entries_of xs))) (sym differ) ∙ is) in
         (rest.0, (suc rest.1.0, omega (arith, rest.1.1), rest.1.2), rest.2, rest.3)

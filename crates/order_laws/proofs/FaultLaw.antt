@@ -3,6 +3,8 @@ use Rattle.std.specs.Prelude.{◌≡◌, ◌==◌, ℕ, ◌+◌, ◌≤◌, ◌<
 use Rattle.std.proofs.Common.{⊎_elim, refl, sym, ap, subst, ◌∙◌, arith, append-nil}
 use Rattle.std.proofs.lemmas.Bool.{and_from, eq-eqb, eqb-true, false_from_ne_true}
 use Rattle.std.proofs.lemmas.List.{length_push}
+use Rattle.std.proofs.lemmas.Option.{slice_get_within}
+use Rattle.tape_types.proofs.Lists.{slice_get-seam}
 use Rattle.tape_types.specs.declared.cartridges.Twin.{Twin}
 use Rattle.tape_types.specs.declared.moments.Moment.{Moment}
 use Rattle.plain_tree.specs.History.{call_at}
@@ -23,7 +25,7 @@ use Rattle.serving_promise.specs.declared.marks.Kind.TheVariants.{Places as plac
 use Rattle.order_laws.specs.Kept.{IsKeptOrder, is_rising, owed}
 use Rattle.order_laws.specs.Phases.{is_course_from}
 use Rattle.order_laws.proofs.Acked.{synced_push}
-use Rattle.order_laws.proofs.Lists.{at_end, at_more, at_push, at_within}
+use Rattle.order_laws.proofs.Lists.{at_more, at_push}
 use Rattle.order_laws.proofs.Marked.{AreMore, IsOwed, course_more, marked, marks_more, phase_more, places_more, to_owed}
 use Rattle.order_laws.proofs.PlaceLaw.{handed_too, kinds_hand, kinds_place}
 use Rattle.order_laws.proofs.Placing.{as_many_places, done_push_other, placed_push, places_push}
@@ -92,7 +94,7 @@ module _ {D : Type 0} (first now : Drive) (v : View D) (p : Placed) (counts : Tw
     stay = λ k r e. at_more v.replies (Some reply ∷ []) k (Some r) e;
     handed = λ k r has.
         let is = kinds_hand (length v.history) kinds (Some reply) (handed_too reply) k r has in
-        subst (λ n. slice_get (v.replies ++ Some reply ∷ []) n ≡ Some (Some r)) (c.kept.count ∙ is.0) (at_end v.replies (Some reply) ∙ ap Some is.1);
+        subst (λ n. slice_get (v.replies ++ Some reply ∷ []) n ≡ Some (Some r)) (c.kept.count ∙ is.0) (slice_get-seam v.replies (Some reply) ∙ ap Some is.1);
     owes = owes c;
     once = once c;
   }
@@ -102,7 +104,7 @@ module _ {D : Type 0} (first now : Drive) (v : View D) (p : Placed) (counts : Tw
 
   rests_here : CanFail → is_waiting (after_all v.events) (length v.history) ≡ false
   rests_here c = false_from_ne_true (is_waiting (after_all v.events) (length v.history))
-      (λ waits. omega (arith, c.kept.count, at_within v.replies (length v.history) None (c.kept.orderly.waiting.waits (length v.history) waits)))
+      (λ waits. omega (arith, c.kept.count, slice_get_within v.replies (length v.history) None (c.kept.orderly.waiting.waits (length v.history) waits)))
 
   more : CanFail → (w : ℕ) → phase w (v.marks ++ map (mark p.who) kinds) ≡ draining → length (places_of w (v.marks ++ map (mark p.who) kinds)) < length (calls_of v.fixed.script w)
   more c w e = by (p.who == w) refl (sym (phase_more p.who w v.marks kinds) ∙ e) (places_more p.who w v.marks kinds)
@@ -133,7 +135,7 @@ module _ {D : Type 0} (first now : Drive) (v : View D) (p : Placed) (counts : Tw
     sessions = c.kept.sessions;
     count = omega (arith, length_push v.replies (Some reply), length_push v.history p, c.kept.count);
     done = λ k q h r. ⊎_elim
-        (λ was. ⊎_elim (λ now. c.kept.done k q now was) (λ last. absurd (omega (arith, last.0, c.kept.count, at_within v.replies k None was))) (at_push v.history p q k h))
+        (λ was. ⊎_elim (λ now. c.kept.done k q now was) (λ last. absurd (omega (arith, last.0, c.kept.count, slice_get_within v.replies k None was))) (at_push v.history p q k h))
         (λ last. absurd (let no : Some reply ≡ None = last.1 in cc))
         (at_push v.replies (Some reply) None k r);
     rising = subst (λ l. is_rising (l ++ tickets (after_all v.events).syncs) ≡ true) (sym same_synced) c.kept.rising;

@@ -1,16 +1,10 @@
 -- Lists that grow at their end.
-use Rattle.std.specs.Prelude.{◌≡◌, ◌⊎◌, ◌||◌, not, ℕ, zero, suc, ◌+◌, ◌≤◌, ◌<◌, Bool, true, false, cond, List, [], ◌∷◌, ◌++◌, drop, filter, filter_map, fold, length, Option, Some, None, slice_get}
-use Rattle.std.specs.List.{after_first, enumerate_from, list_all, list_any, range_with_len, scan, zip}
+use Rattle.std.specs.Prelude.{◌≡◌, ◌⊎◌, ◌||◌, not, ℕ, zero, suc, ◌+◌, ◌≤◌, ◌<◌, Bool, true, false, cond, List, [], ◌∷◌, ◌++◌, drop, filter, filter_map, length, Option, Some, None, slice_get}
+use Rattle.std.specs.List.{after_first, enumerate_from, list_all, list_any, range_with_len, zip}
 use Rattle.std.proofs.Common.{⊎_elim, inl, inr, refl, sym, ap, subst, ◌∙◌, arith, length-append}
 use Rattle.std.proofs.lemmas.List.Elements.{filter_map-append}
+use Rattle.std.proofs.lemmas.Option.{same_Some}
 use Rattle.event_laws.specs.Trail.{both}
-
-pub some_same : {X : Type 0} (x y : X) → Some x ≡ Some y → x ≡ y
-some_same x y e = cc
-
-pub scan-append : {S X Y : Type 0} (next : S → X → S) (out : S → X → Y) (a : S) (xs ys : List X) → scan next out a (xs ++ ys) ≡ scan next out a xs ++ scan next out (fold next a xs) ys
-scan-append next out a [] ys = refl
-scan-append next out a (x ∷ xs) ys = ap (λ l. out a x ∷ l) (scan-append next out (next a x) xs ys)
 
 pub enumerate-push : {X : Type 0} (n : ℕ) (xs : List X) (y : X) → enumerate_from n (xs ++ y ∷ []) ≡ enumerate_from n xs ++ (n + length xs, y) ∷ []
 enumerate-push n [] y = let same : n ≡ n + 0 = omega arith in ap (λ m. (m, y) ∷ []) same
@@ -47,7 +41,7 @@ range-push a (suc n) =
 
 -- an element of a list with one more stood there, or is the last
 pub at_push : {X : Type 0} (xs : List X) (y z : X) (k : ℕ) → slice_get (xs ++ y ∷ []) k ≡ Some z → (slice_get xs k ≡ Some z) ⊎ ((k ≡ length xs) × (y ≡ z))
-at_push [] y z zero e = inr (refl, some_same y z e)
+at_push [] y z zero e = inr (refl, same_Some y z e)
 at_push [] y z (suc k) e = cc
 at_push (x ∷ xs) y z zero e = inl e
 at_push (x ∷ xs) y z (suc k) e = ⊎_elim (λ h. inl h) (λ h. inr (ap suc h.0, h.1)) (at_push xs y z k e)
@@ -57,20 +51,6 @@ pub at_more : {X : Type 0} (xs ys : List X) (k : ℕ) (x : X) → slice_get xs k
 at_more [] ys k x e = cc
 at_more (a ∷ xs) ys zero x e = e
 at_more (a ∷ xs) ys (suc k) x e = at_more xs ys k x e
-
-pub at_end : {X : Type 0} (xs : List X) (y : X) → slice_get (xs ++ y ∷ []) (length xs) ≡ Some y
-at_end [] y = refl
-at_end (x ∷ xs) y = at_end xs y
-
-pub at_past : {X : Type 0} (xs : List X) (k : ℕ) → length xs ≤ k → slice_get xs k ≡ None
-at_past [] k past = refl
-at_past (x ∷ xs) zero past = absurd (omega (arith, past))
-at_past (x ∷ xs) (suc k) past = at_past xs k (omega (arith, past))
-
-pub at_within : {X : Type 0} (xs : List X) (k : ℕ) (x : X) → slice_get xs k ≡ Some x → k < length xs
-at_within [] k x e = absurd (cc)
-at_within (a ∷ xs) zero x e = omega arith
-at_within (a ∷ xs) (suc k) x e = omega (arith, at_within xs k x e)
 
 -- an element that is there
 pub at_some : {X : Type 0} (xs : List X) (k : ℕ) → k < length xs → (x : X) × (slice_get xs k ≡ Some x)

@@ -2,7 +2,7 @@
 use Rattle.std.specs.Prelude.{◌≡◌, ◌⊎◌, ◌==◌, ◌&&◌, ◌||◌, not, ℕ, ◌≤◌, ◌<◌, nat_lt, Bool, true, false, cond, List, [], ◌∷◌, ◌++◌, Contains, filter_map, fold, length, Option, Some, None, slice_get}
 use Rattle.std.specs.List.{list_all, list_any}
 use Rattle.std.proofs.Common.{⊎_elim, inl, inr, refl, sym, ap, subst, ◌∙◌, arith}
-use Rattle.std.proofs.lemmas.Bool.{and_from, and_parts, both_ways, cases_Bool, eq-eqb, eqb-true, false_from_ne_true, ltb-true, not_from_false}
+use Rattle.std.proofs.lemmas.Bool.{and_from, and_parts, both_ways, cases_Bool, eq-eqb, eqb-true, false_from_ne_true, ltb-true, not_from_false, not-true}
 use Rattle.std.proofs.lemmas.List.Folds.{Any-from_list_any, list_any-from_Any}
 use Rattle.std.proofs.lemmas.List.Sums.{fold-append}
 use Rattle.tape_drive.specs.declared.drive.Drive.{Ghosts}
@@ -101,10 +101,6 @@ handed_contains given q there =
     let any = Any-from_list_any (λ (e : ℕ × Reply). e.0 == q) given there in
     (any.1.1, subst (λ n. Contains given (n, any.1.1)) (eqb-true any.1.0 q any.4) (any.0, any.2, any.3))
 
-not_true : (b : Bool) → not b ≡ true → b ≡ false
-not_true true e = absurd (cc)
-not_true false e = refl
-
 -- ---- which session drains
 
 -- a drain has begun in these, and goes on
@@ -176,7 +172,7 @@ plain_phases who marks course rising = record {
         let parts = and_parts (has place (places_of who marks)) (not (handed place (kinds_of who marks))) (sym (final place) ∙ ap (is_waits place) e ∙ eq-eqb place place refl) in
         record {
           placed = has_contains (places_of who marks) place parts.0;
-          not_handed = λ reply there. both_ways (handed place (kinds_of who marks)) (not_true (handed place (kinds_of who marks)) parts.1) (contains_handed (hands_of who marks) place reply there);
+          not_handed = λ reply there. both_ways (handed place (kinds_of who marks)) (not-true (handed place (kinds_of who marks)) parts.1) (contains_handed (hands_of who marks) place reply there);
         }
 
     waiting : (place : ℕ) → IsPending who place marks → phase who marks ≡ waits place

@@ -5,6 +5,8 @@ use Rattle.std.proofs.Common.{⊎_elim, refl, sym, ap, subst, ◌∙◌, arith, 
 use Rattle.std.proofs.lemmas.Bool.{and_from, eq-eqb, eqb-true, false_from_ne_true}
 use Rattle.std.proofs.lemmas.List.{length_push}
 use Rattle.std.proofs.lemmas.List.Elements.{filter_map-append}
+use Rattle.std.proofs.lemmas.Option.{same_Some, slice_get_past}
+use Rattle.tape_types.proofs.Lists.{slice_get-seam}
 use Rattle.tape_types.specs.declared.moments.Moment.{Moment}
 use Rattle.plain_tree.specs.declared.calls.Fate.TheVariants as fates
 use Rattle.plain_tree.specs.declared.calls.Placed.{Placed}
@@ -28,7 +30,7 @@ use Rattle.order_laws.specs.Kept.{IsKeptOrder, is_rising, owed}
 use Rattle.order_laws.specs.Phases.{is_course_from}
 use Rattle.order_laws.proofs.Acked.{acks_more, commands_more, reached_more, synced_at, synced_push}
 use Rattle.order_laws.proofs.Frames.{no_step_no_fault, no_step_owned, own_drains, own_list, own_same, own_steps, syncs_it, wants_it}
-use Rattle.order_laws.proofs.Lists.{at_end, at_more, at_past, at_push, count_after, some_same}
+use Rattle.order_laws.proofs.Lists.{at_more, at_push, count_after}
 use Rattle.order_laws.proofs.Marked.{AreMore, IsOwed, course_more, marks_more, phase_more, places_more, to_owed}
 use Rattle.order_laws.proofs.Owned.{AreOwn, after_more, trail_more}
 use Rattle.order_laws.proofs.Placing.{as_many_places, placed_push, places_push}
@@ -122,7 +124,7 @@ module _ {D : Type 0} (first now : Drive) (old : View D) (p : Placed) (reply : O
     stay = λ k r e. at_more old.replies (reply ∷ []) k (Some r) e;
     handed = λ k r has.
         let is = kinds_hand (length old.history) kinds reply c.kinds_are k r has in
-        subst (λ n. slice_get (old.replies ++ reply ∷ []) n ≡ Some (Some r)) (c.kept.count ∙ is.0) (at_end old.replies reply ∙ ap Some is.1);
+        subst (λ n. slice_get (old.replies ++ reply ∷ []) n ≡ Some (Some r)) (c.kept.count ∙ is.0) (slice_get-seam old.replies reply ∙ ap Some is.1);
     owes = owes c;
     once = λ w. omega (arith, same_owed c w, c.kept.once w);
   }
@@ -138,7 +140,7 @@ module _ {D : Type 0} (first now : Drive) (old : View D) (p : Placed) (reply : O
   none_made c = ap length (own_steps added (length old.history) c.own.own)
 
   first_answered : CanPlace → (t : ℕ) → has t (filter_map synced_ticket added) ≡ true → list_any (answers t) old.events ≡ false
-  first_answered c t h = not_before old.events old.replies old.acks t c.kept.orderly.acks (ap synced_at (at_past old.replies t (by (list_any (answers (length old.history)) added) (sym (ap (has t) c.own.answered) ∙ h))))
+  first_answered c t h = not_before old.events old.replies old.acks t c.kept.orderly.acks (ap synced_at (slice_get_past old.replies t (by (list_any (answers (length old.history)) added) (sym (ap (has t) c.own.answered) ∙ h))))
     where
       by : (b : Bool) → has t (cond b (length old.history ∷ []) []) ≡ true → length old.replies ≤ t
       by true e = at_here (length old.history == t) refl e

@@ -3,6 +3,7 @@ use Rattle.std.specs.Prelude.{◌≡◌, ◌==◌, not, ℕ, false, cond, List, 
 use Rattle.std.specs.List.{list_any}
 use Rattle.std.proofs.Common.{⊎_elim, refl, sym, ap, ap₂, subst, ◌∙◌, arith}
 use Rattle.std.proofs.lemmas.Bool.{cases_lt, eq-eqb, false_from_ne_true}
+use Rattle.std.proofs.lemmas.Option.{slice_get_within}
 use Rattle.tape_drive.specs.declared.drive.Drive.{Ghosts}
 use Rattle.plain_tree.specs.declared.calls.Fate.{Fate}
 use Rattle.plain_tree.specs.declared.calls.Fate.TheVariants as fates
@@ -30,7 +31,6 @@ use Rattle.order_laws.specs.Laws.{IsInOrder, SubmissionsKeepOrder}
 use Rattle.order_laws.specs.Phases.{goes_on}
 use Rattle.order_laws.specs.Sides.{HasOneMoment, MayFollow}
 use Rattle.order_laws.proofs.Marked.{to_owed}
-use Rattle.order_laws.proofs.Lists.{at_within}
 use Rattle.order_laws.proofs.Owned.{after_more, submitted as own_events, unanswered_waits}
 use Rattle.order_laws.proofs.PlaceLaw.{AreKinds, CanPlace, handed_too, placed_alone, placed_view, placing_keeps}
 use Rattle.order_laws.proofs.SessionLaw.{CanDrain, drained_view, draining_keeps, drains_is, drains_more}
@@ -101,7 +101,7 @@ drains_one {D = D} drive old new who nth kept can fixed same_drive same_kept his
 -- nobody waits for the next place
 rests_here : {D : Type 0} (drive : Ghosts D) (old : View D) → IsInOrder drive old → is_waiting (after_all old.events) (length old.history) ≡ false
 rests_here drive old kept = false_from_ne_true (is_waiting (after_all old.events) (length old.history))
-    (λ waits. omega (arith, kept.count, at_within old.replies (length old.history) None (kept.orderly.waiting.waits (length old.history) waits)))
+    (λ waits. omega (arith, kept.count, slice_get_within old.replies (length old.history) None (kept.orderly.waiting.waits (length old.history) waits)))
 
 -- the blocks that are kept then were read
 cached_on : {D : Type 0} (drive : Ghosts D) (old new : View D) (who nth : ℕ) (answer : Submitted) → IsInOrder drive old

@@ -5,6 +5,8 @@ use Rattle.std.specs.Option.{option_and_then, option_to_list}
 use Rattle.std.proofs.Common.{inl, inr, refl, sym, ap, subst, ◌∙◌, arith, append-nil, append_assoc}
 use Rattle.std.proofs.lemmas.Bool.{eqb-true}
 use Rattle.std.proofs.lemmas.List.Elements.{filter_map-append}
+use Rattle.std.proofs.lemmas.Option.{same_Some, slice_get_within}
+use Rattle.tape_types.proofs.Lists.{scan-append}
 use Rattle.tape_types.specs.declared.cartridges.Twin.{Twin}
 use Rattle.plain_tree.specs.declared.calls.Fate.{Fate}
 use Rattle.plain_tree.specs.declared.calls.Fate.TheVariants as fates
@@ -17,7 +19,7 @@ use Rattle.event_laws.specs.Waiting.{State, start}
 use Rattle.serving_promise.specs.Faults.{AreFaults, AreRises, kept_for, told, told_at, told_done, told_to, told_void}
 use Rattle.serving_promise.specs.Steps.{without_session}
 use Rattle.order_laws.specs.Sides.{owned_from}
-use Rattle.order_laws.proofs.Lists.{at_some, at_within, scan-append, zip-get, zip-push}
+use Rattle.order_laws.proofs.Lists.{at_some, zip-get, zip-push}
 use Rattle.order_laws.proofs.Turning.{drain_faults_from, drained_is_owned}
 use Rattle.order_laws.proofs.Waits.{At, at, not_yet, past, still_past, there}
 
@@ -77,7 +79,7 @@ calls_told events added history old new turned were k = by (at old k) ∙ sym (o
     by (past e) = told_same history old new k (still_past old new k turned.count e ∙ sym e) ∙ were k ∙ none_more (turned.past_end k e)
     by (there reply e) = told_same history old new k ((turned.each k reply e).0 ∙ sym e) ∙ were k ∙ none_more (turned.each k reply e).1
     by (not_yet e) =
-        let within = at_within old k None e in
+        let within = slice_get_within old k None e in
         let p = at_some history k (omega (arith, within, turned.placed)) in
         let x = at_some new k (omega (arith, within, turned.count)) in
         let done = turned.done k p.0 p.1 e in
@@ -102,9 +104,6 @@ told_to_same who (p ∷ history) (a ∷ old) (b ∷ new) count each =
     ap (λ o. cons_option (cond (p.who == who) o None) (told_to history new who)) (none_void p.fate b a (each 0 p a b refl refl refl))
     ∙ ap (λ l. cons_option (cond (p.who == who) (told_void p.fate a) None) l) (told_to_same who history old new (omega (arith, count)) (λ k q c d h o n. each (suc k) q c d h o n))
 
-some_same : {X : Type 0} (x y : X) → Some x ≡ Some y → x ≡ y
-some_same x y e = cc
-
 pub sessions_told : (events added : List Event) (history : List Placed) (old new : List (Option Reply)) (kept : List (ℕ × Twin)) → AreTold (after_all events) added history old new
     → ((who : ℕ) → told_to history old who ++ kept_for who kept ≡ owned_by (of_session who) events)
     → (who : ℕ) → told_to history new who ++ kept_for who (kept ++ drain_faults_from (after_all events) added) ≡ owned_by (of_session who) (events ++ added)
@@ -121,7 +120,7 @@ sessions_told events added history old new kept turned were who =
       where
         by : (a : Option Reply) → slice_get old k ≡ Some a → (b ≡ a) ⊎ (p.fate ≡ fates.Done)
         by None o = inr (turned.done k p h o)
-        by (Some reply) o = inl (some_same b (Some reply) (sym n ∙ (turned.each k reply o).0))
+        by (Some reply) o = inl (same_Some b (Some reply) (sym n ∙ (turned.each k reply o).0))
 
 pub faults_turn : (events added : List Event) (history : List Placed) (old new : List (Option Reply)) (kept : List (ℕ × Twin)) (first before now : ℕ)
     → AreTold (after_all events) added history old new → AreRises before now (filter_map fault_of added) → AreFaults history events old kept first before

@@ -2,6 +2,7 @@
 use Rattle.std.specs.Prelude.{◌≡◌, ◌≢◌, ◌==◌, ◌≤◌, ◌++◌, ℕ, zero, suc, Bool, true, false, cond, All, Contains, List, [], ◌∷◌, filter_map, fold, length, map, Option, Some, None, slice_get}
 use Rattle.std.specs.List.{cons_option, range_with_len}
 use Rattle.std.proofs.Common.{refl, arith, sym, ap, ⊎_elim, inl, true≢false, subst}
+use Rattle.std.proofs.lemmas.Option.{same_Some}
 use Rattle.tape_types.specs.Counts.{IsRise}
 use Rattle.tape_types.specs.declared.cartridges.Twin.{Twin}
 use Rattle.tape_types.specs.declared.moments.Moment.{Moment}
@@ -32,14 +33,11 @@ use Rattle.serving_promise.specs.declared.answers.Submitted.TheVariants as submi
 use Rattle.order_laws.specs.Rows.{IsKept, IsOrdered, at_once, fails, flushed, served, session_drains, smaller, sync_stands, telling, to_flush, with_acks, with_events, with_history, with_marks, with_ops, with_replies, without_reply}
 use Rattle.order_laws.specs.Sides.{HasOneMoment, IsAnswered, IsBrought, IsReplied, MayFollow, MovesOn, TurnsInOrder}
 
-some_same : {X : Type 0} (x y : X) → Some x ≡ Some y → x ≡ y
-some_same x y e = cc
-
 synced_then : (at : Moment) (k : ℕ) (reply : Option Reply) → slice_get (before_flush at).replies k ≡ Some None → slice_get (after_flush at 34 handed_marks (Some 3)).replies k ≡ Some reply
     → IsBrought (to_flush at) flushed k reply
 synced_then at zero reply o n = absurd (cc)
 synced_then at (suc zero) reply o n = absurd (cc)
-synced_then at (suc (suc zero)) reply o n = subst (IsBrought (to_flush at) flushed 2) (some_same (Some synced) reply n) (record { waits = refl; fault = refl; synced = refl })
+synced_then at (suc (suc zero)) reply o n = subst (IsBrought (to_flush at) flushed 2) (same_Some (Some synced) reply n) (record { waits = refl; fault = refl; synced = refl })
 synced_then at (suc (suc (suc k))) reply o n = absurd (cc)
 
 pub flush_is : (at : Moment) → TurnsInOrder (drive_at 33 (Some (dp 11))) (drive_at 34 (Some (dp 11))) (before_flush at) (after_flush at 34 handed_marks (Some 3)) flushed

@@ -4,6 +4,7 @@ use Rattle.std.specs.List.{cons_option}
 use Rattle.std.proofs.Common.{inl, refl, sym, ap, subst, ◌∙◌, arith, append-nil, append_assoc}
 use Rattle.std.proofs.lemmas.Bool.{and_parts, eq-eqb}
 use Rattle.std.proofs.lemmas.List.Elements.{All-head, filter_map-append}
+use Rattle.std.proofs.lemmas.Option.{same_Some}
 use Rattle.tape_types.specs.Counts.{IsRise}
 use Rattle.tape_types.specs.declared.cartridges.Twin.{Twin}
 use Rattle.tape_drive.specs.declared.drive.Drive.{Ghosts}
@@ -34,7 +35,6 @@ use Rattle.order_laws.specs.Sides.{DrainsInOrder, IsBrought, MayFollow, TurnsInO
 use Rattle.order_laws.proofs.Apart.{still_untouched}
 use Rattle.order_laws.proofs.FaultLaw.{CanFail, failed_view, failing_keeps}
 use Rattle.order_laws.proofs.Frames.{no_step_no_fault}
-use Rattle.order_laws.proofs.Lists.{some_same}
 use Rattle.order_laws.proofs.Marked.{marked}
 use Rattle.order_laws.proofs.Owned.{after_more, trail_more}
 use Rattle.order_laws.proofs.OwnFault.{own_fault}
@@ -203,7 +203,7 @@ drain_turns_keep {D = D} drive most old new who (drained.Fault counts) kept drai
     let stand : map headed new.ops ≡ ops (after_all (old.events ++ t.made)) = stand_by old new (t.made ++ []) side.follows t.adds.events ∙ ap (λ l. ops (after_all (old.events ++ l))) (append-nil t.made) in
     let stepped : IsKeptOrder first now v = stepping_keeps first before now old old.replies t.made
     (drain_step drive most old new who (drained.Fault counts) old.replies kept t side refl (λ k reply e. e)
-    (λ k reply e f. subst (Brought (after_all old.events) t.made k) (some_same None reply (sym e ∙ f))
+    (λ k reply e f. subst (Brought (after_all old.events) t.made k) (same_Some None reply (sym e ∙ f))
     (own_fault (after_all old.events) t.made old.kept who k counts t.step.shape (trail_of old new who (drained.Fault counts) t.made side.follows) (λ some. t.none (inl some)) t.answered.0 (kept.orderly.waiting.none_yet k e)))) new.drive old.next new.on new.ops new.cached stand cache in
     let c : CanFail first now v p counts = record {
       kept = stepped;

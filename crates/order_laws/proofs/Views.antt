@@ -5,6 +5,7 @@ use Rattle.std.proofs.Common.{⊎_elim, refl, sym, ap, subst, ◌∙◌, arith}
 use Rattle.std.proofs.lemmas.Bool.{eqb-true, lt-ltb, or_cases}
 use Rattle.std.proofs.lemmas.List.Elements.{All-head, All-push, All-tail}
 use Rattle.std.proofs.lemmas.List.Folds.{list_any-append}
+use Rattle.std.proofs.lemmas.Option.{slice_get_within}
 use Rattle.tape_types.specs.declared.moments.Moment.{Moment}
 use Rattle.plain_tree.specs.declared.calls.Placed.{Placed}
 use Rattle.session_script.specs.Bounds.{most_sessions}
@@ -19,7 +20,6 @@ use Rattle.serving_promise.specs.Acks.{AreAcks, answers, synced_places}
 use Rattle.serving_promise.specs.Served.{AreWaiting, View}
 use Rattle.order_laws.proofs.Acked.{has_answered, has_synced_place, synced_at}
 use Rattle.order_laws.proofs.Frames.{syncs_it, wants_it}
-use Rattle.order_laws.proofs.Lists.{at_within}
 use Rattle.order_laws.proofs.Rising.{all_from, has}
 use Rattle.order_laws.proofs.Turning.{tickets}
 use Rattle.order_laws.proofs.Waits.{At, at, not_yet, past, there}
@@ -88,8 +88,8 @@ synced_within replies k h = by (at replies k)
   where
     by : At replies k → k < length replies
     by (past e) = absurd (let no : false ≡ true = sym (ap synced_at e) ∙ h in cc)
-    by (not_yet e) = at_within replies k None e
-    by (there reply e) = at_within replies k (Some reply) e
+    by (not_yet e) = slice_get_within replies k None e
+    by (there reply e) = slice_get_within replies k (Some reply) e
 
 -- all syncs that were answered or wait stand before the next place
 pub syncs_before : (st : State) (replies : List (Option Reply)) (here : ℕ) → length replies ≡ here → AreWaiting st replies → list_all (λ x. nat_lt x here) (synced_places replies ++ tickets st.syncs) ≡ true
@@ -97,7 +97,7 @@ syncs_before st replies here count waiting = all_from (λ x. nat_lt x here) (syn
   where
     by : (k : ℕ) → has k (synced_places replies ++ tickets st.syncs) ≡ true → k < length replies
     by k h = ⊎_elim (λ there. synced_within replies k (sym (has_synced_place replies k) ∙ there))
-        (λ there. at_within replies k None (waiting.waits k (Rattle.std.proofs.lemmas.Bool.or_right (list_any (wants_it k) st.requests) (list_any (syncs_it k) st.syncs) (sym (has_tickets k st.syncs) ∙ there))))
+        (λ there. slice_get_within replies k None (waiting.waits k (Rattle.std.proofs.lemmas.Bool.or_right (list_any (wants_it k) st.requests) (list_any (syncs_it k) st.syncs) (sym (has_tickets k st.syncs) ∙ there))))
         (or_cases (has k (synced_places replies)) (has k (tickets st.syncs)) (sym (list_any-append (λ x. x == k) (synced_places replies) (tickets st.syncs)) ∙ h))
 
 -- a place that isn't synced was not answered

@@ -2,7 +2,7 @@
 use Rattle.std.proofs.Common.{◌≡◌, ◌≢◌, ◌⊎◌, inl, inr, ◌↔◌, ℕ, eqb, leb, Bool, true, false, ◌&&◌, ◌||◌, List, [], ◌∷◌, ◌++◌, length, Option, Some, None, refl, sym, ap, subst, arith, IsTrue}
 use Rattle.std.specs.List.{list_any, Any}
 use Rattle.std.specs.Str.{chars}
-use Rattle.std.proofs.lemmas.Bool.{cases_eq}
+use Rattle.std.proofs.lemmas.Bool.{cases_eq, and_parts, or_cases, or_left, or_right}
 use Rattle.std.proofs.lemmas.List.Folds.{Any-from_list_any, list_any-from_Any}
 use Rattle.std.proofs.lemmas.Bool.Decides.{nat_tests}
 use Rattle.index_model.specs.declared.indexes.Policy.{Policy}
@@ -13,21 +13,6 @@ use Rattle.placement.proofs.Follows.{passed, passes_on, empty_is}
 
 -- ---- what tests tell
 
-both : (a b : Bool) → (a && b) ≡ true → (a ≡ true) × (b ≡ true)
-both true b e = (refl, e)
-both false b e = absurd cc
-
-either : (a b : Bool) → (a || b) ≡ true → (a ≡ true) ⊎ (b ≡ true)
-either true b e = inl refl
-either false b e = inr e
-
-first_does : (a b : Bool) → a ≡ true → (a || b) ≡ true
-first_does a b e = rw e refl
-
-second_does : (a b : Bool) → b ≡ true → (a || b) ≡ true
-second_does true b e = refl
-second_does false b e = e
-
 -- ---- behind a `*`
 
 pub record IsEnd (test : List ℕ → Bool) (text : List ℕ) : Type 0 where
@@ -37,27 +22,27 @@ pub record IsEnd (test : List ℕ → Bool) (text : List ℕ) : Type 0 where
   pub passes : test behind ≡ true
 
 end_of : (test : List ℕ → Bool) (text : List ℕ) → list_any test (suffixes text) ≡ true → IsEnd test text
-end_of test [] e = elim (either (test []) false e) [
+end_of test [] e = elim (or_cases (test []) false e) [
   | inl is ↦ record { front = []; behind = []; whole = refl; passes = is }
   | inr no_more ↦ cc
 ]
-end_of test (c ∷ cs) e = elim (either (test (c ∷ cs)) (list_any test (suffixes cs)) e) [
+end_of test (c ∷ cs) e = elim (or_cases (test (c ∷ cs)) (list_any test (suffixes cs)) e) [
   | inl is ↦ record { front = []; behind = c ∷ cs; whole = refl; passes = is }
   | inr more ↦ let end = end_of test cs more in record { front = c ∷ end.front; behind = end.behind; whole = ap (λ t. c ∷ t) end.whole; passes = end.passes }
 ]
 
 end_is : (test : List ℕ → Bool) (front behind : List ℕ) → test behind ≡ true → list_any test (suffixes (front ++ behind)) ≡ true
-end_is test [] [] e = first_does (test []) false e
-end_is test [] (c ∷ cs) e = first_does (test (c ∷ cs)) (list_any test (suffixes cs)) e
-end_is test (c ∷ front) behind e = second_does (test (c ∷ front ++ behind)) (list_any test (suffixes (front ++ behind))) (end_is test front behind e)
+end_is test [] [] e = or_left (test []) false e
+end_is test [] (c ∷ cs) e = or_left (test (c ∷ cs)) (list_any test (suffixes cs)) e
+end_is test (c ∷ front) behind e = or_right (test (c ∷ front ++ behind)) (list_any test (suffixes (front ++ behind))) (end_is test front behind e)
 
 -- ---- patterns
 
 passes_one : (p : ℕ) (ps text : List ℕ) → p ≢ 42 → ((t : List ℕ) → stands_for ps t ≡ true → StandsFor ps t) → one_then (λ c. eqb p 63 || eqb p c) (stands_for ps) text ≡ true → StandsFor (p ∷ ps) text
 passes_one p ps [] other all e = absurd cc
 passes_one p ps (c ∷ cs) other all e =
-    let parts = both (eqb p 63 || eqb p c) (stands_for ps cs) e in
-    passes_on p c ps cs other (elim (either (eqb p 63) (eqb p c) parts.0) [
+    let parts = and_parts (eqb p 63 || eqb p c) (stands_for ps cs) e in
+    passes_on p c ps cs other (elim (or_cases (eqb p 63) (eqb p c) parts.0) [
       | inl one ↦ inl (grind (arith, nat_tests, one))
       | inr itself ↦ inr (grind (arith, nat_tests, itself))
     ]) (all cs parts.1)
@@ -125,10 +110,10 @@ computed (Some policy) name size = (chosen, only)
   where
     chosen : IsTrue (chooses_ip (Some policy) name size) → IsChosen policy name size
     chosen e =
-        let parts = both (leb size policy.size) (eqb (length policy.names) 0 || list_any (λ pattern. matches pattern name) policy.names) e in
+        let parts = and_parts (leb size policy.size) (eqb (length policy.names) 0 || list_any (λ pattern. matches pattern name) policy.names) e in
         record {
           short = grind (arith, nat_tests, parts.0);
-          named = elim (either (eqb (length policy.names) 0) (list_any (λ pattern. matches pattern name) policy.names) parts.1) [
+          named = elim (or_cases (eqb (length policy.names) 0) (list_any (λ pattern. matches pattern name) policy.names) parts.1) [
             | inl none ↦ inl (none_are policy.names (grind (arith, nat_tests, none)))
             | inr some ↦ inr (any_stands name policy.names some)
           ];
@@ -138,8 +123,8 @@ computed (Some policy) name size = (chosen, only)
     only h =
         let short : leb size policy.size ≡ true = grind (arith, nat_tests, h.short) in
         rw short (elim h.named [
-          | inl none ↦ first_does (eqb (length policy.names) 0) (list_any (λ pattern. matches pattern name) policy.names) (rw none refl)
-          | inr some ↦ second_does (eqb (length policy.names) 0) (list_any (λ pattern. matches pattern name) policy.names) (any_only name policy.names some)
+          | inl none ↦ or_left (eqb (length policy.names) 0) (list_any (λ pattern. matches pattern name) policy.names) (rw none refl)
+          | inr some ↦ or_right (eqb (length policy.names) 0) (list_any (λ pattern. matches pattern name) policy.names) (any_only name policy.names some)
         ])
 
 pub same_choice : (b : Bool) (policy : Option Policy) (name : List ℕ) (size : ℕ) → b ≡ chooses_ip policy name size → IsTrue b ↔ ChoosesIp policy name size

@@ -1,6 +1,7 @@
 -- The laws of refusals, uids, writes and renames.
 use Rattle.std.proofs.Common.{◌⊎◌, ◌≡◌, ℕ, ◌+◌, ◌<◌, ◌≤◌, true, false, cond, eqb, List, [], ◌∷◌, length, map, Option, Some, None, sym, ap, subst, ◌∙◌, refl, arith, ⊎_elim, inl, inr}
 use Rattle.std.specs.FinMap as fin
+use Rattle.std.proofs.lemmas.Option.{same_Some}
 use Rattle.tape_types.specs.declared.moments.Moment.{Moment}
 use Rattle.plain_tree.specs.declared.nodes.Node.{Node}
 use Rattle.plain_tree.specs.declared.nodes.Kind.{Kind}
@@ -78,9 +79,6 @@ record IsLater (t next : Tree) : Type 0 where
 abbrev HasUidsOf : Nodes → Nodes → Type 0
 HasUidsOf next m = (path : Path) (node : Node) → fin.get next path ≡ Some node → (q : Path) × (old : Node) × (fin.get m q ≡ Some old) × IsOf node old
 
-same_some : (x y : Node) → Some x ≡ Some y → x ≡ y
-same_some x y e = cc
-
 is_of_itself : (node : Node) → IsOf node node
 is_of_itself node = (refl, refl)
 
@@ -90,7 +88,7 @@ uids_changed change keeps p m path node is =
       | None ↦ λ none. (path, node, sym (ap (λ n. fin.get n path) (changed_missing change p m none)) ∙ is, is_of_itself node)
       | Some old ↦ λ found.
           elim (same_path path p) as (λ b. same_path path p ≡ b → (q : Path) × (old : Node) × (fin.get m q ≡ Some old) × IsOf node old) [
-            | true ↦ λ same. (p, old, found, subst (λ n. IsOf n old) (sym (same_some node (change old) (sym is ∙ ap (λ n. fin.get n path) (changed_found change p m old found) ∙ here_inserted m p path (change old) same))) (keeps old))
+            | true ↦ λ same. (p, old, found, subst (λ n. IsOf n old) (sym (same_Some node (change old) (sym is ∙ ap (λ n. fin.get n path) (changed_found change p m old found) ∙ here_inserted m p path (change old) same))) (keeps old))
             | false ↦ λ other. (path, node, sym (ap (λ n. fin.get n path) (changed_found change p m old found) ∙ other_inserted m p path (change old) other) ∙ is, is_of_itself node)
           ] refl
     ] refl
@@ -146,7 +144,7 @@ later_new kind t path at = record {
       let was = uids_touched at (parent_of path) (fin.insert t.nodes path (new_node kind (t.highest + 1) at)) q node is in
       elim (same_path was.0 path) as (λ b. same_path was.0 path ≡ b → ((p : Path) × (old : Node) × (fin.get t.nodes p ≡ Some old) × IsOf node old) ⊎ ((t.highest < node.uid) × (node.keys ≡ fin.empty))) [
         | true ↦ λ same. inr (
-            let made : was.1 ≡ new = same_some was.1 new (sym was.2 ∙ here_inserted t.nodes path was.0 new same) in
+            let made : was.1 ≡ new = same_Some was.1 new (sym was.2 ∙ here_inserted t.nodes path was.0 new same) in
             let uid : was.1.uid ≡ t.highest + 1 = ap (λ n. n.uid) made in
             (omega (arith, was.3.0, uid), was.3.1 ∙ ap (λ n. n.keys) made))
         | false ↦ λ other. inl (was.0, was.1, sym (other_inserted t.nodes path was.0 (new_node kind (t.highest + 1) at) other) ∙ was.2, was.3)

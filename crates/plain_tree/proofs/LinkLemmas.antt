@@ -1,5 +1,5 @@
 -- What stands in directories after changes of the maps of their names, and where paths lead.
-use Rattle.std.proofs.Common.{◌≡◌, ℕ, ◌+◌, ◌<◌, true, false, List, [], ◌∷◌, ◌++◌, length, take, map, get_or, Option, Some, None, IsSome, is_some, Result, Ok, Err, OnOk, OnErr, sym, ap, ◌∙◌, refl, subst}
+use Rattle.std.proofs.Common.{◌≡◌, ℕ, ◌+◌, ◌<◌, true, false, List, [], ◌∷◌, ◌++◌, length, take, map, get_or, Option, Some, None, IsSome, is_some, Result, Ok, Err, OnErr, sym, ap, ◌∙◌, refl, subst}
 use Rattle.std.specs.declared.cmp.Ordering.TheVariants.{Less, Equal, Greater}
 use Rattle.std.specs.Ordering.{is_eq, nat_cmp}
 use Rattle.std.specs.Option.{option_map}
@@ -8,6 +8,7 @@ use Rattle.std.specs.Map.{keys_of}
 use Rattle.std.specs.List.Sorted.{IsStrictlySortedBy}
 use Rattle.std.specs.FinMap as fin
 use Rattle.std.proofs.lemmas.List.{take_more}
+pub use Rattle.std.proofs.lemmas.Result.{on_ok_weaker as on_ok, on_err_weaker as on_err}
 use Rattle.plain_tree.specs.declared.nodes.Node.{Node}
 use Rattle.plain_tree.specs.declared.calls.Entry.{Entry}
 use Rattle.plain_tree.specs.Links.{Child, Names, name_cmp, under, child, walk, lines, line_of, IsPut, IsPutIn, IsMovedTo}
@@ -39,14 +40,6 @@ same_in names new name node w was is by n =
           ap (get name_cmp new) (sym same) ∙ by.1 ∙ ap (λ x. Some x) is ∙ was ∙ ap (get name_cmp names) same
       | Greater ↦ λ is. by.2 n (ap is_eq is)
     ] refl
-
-pub on_ok : {T E A B : Type 0} (r : Result T E) → (A → B) → OnOk r A → OnOk r B
-on_ok (Ok x) f a = f a
-on_ok (Err x) f a = a
-
-pub on_err : {T E A B : Type 0} (r : Result T E) → (A → B) → OnErr r A → OnErr r B
-on_err (Ok x) f a = a
-on_err (Err x) f a = f a
 
 -- a place where nothing stands stays so
 pub put_nothing : (f : Node → Node) (child : Child) (uid : ℕ) (name : List ℕ) → None ≡ child uid name → IsPut child child uid name (option_map f (child uid name))

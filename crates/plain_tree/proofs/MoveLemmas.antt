@@ -1,5 +1,5 @@
 -- What moving a node with all below it does to each path.
-use Rattle.std.proofs.Common.{Option, ◌≡◌, Bool, true, false, cond, ◌&&◌, ◌||◌, List, [], ◌∷◌, ◌++◌, length, take, drop, map, Some, None, is_some, sym, ap, ◌∙◌, refl, subst, Decides}
+use Rattle.std.proofs.Common.{Option, ◌≡◌, Bool, true, false, cond, ◌||◌, List, [], ◌∷◌, ◌++◌, length, take, drop, map, Some, None, is_some, sym, ap, ◌∙◌, refl, subst, Decides}
 use Rattle.std.specs.declared.cmp.Ordering.{Ordering}
 use Rattle.std.specs.declared.cmp.Ordering.TheVariants.{Less, Equal, Greater}
 use Rattle.std.specs.Ordering.{is_eq, is_lt}
@@ -9,14 +9,13 @@ use Rattle.std.proofs.lemmas.Slice.Eq.{slice_eq-Decides}
 use Rattle.std.proofs.lemmas.List.{take-append-drop, take_at, drop_at}
 use Rattle.std.specs.List.{list_any}
 use Rattle.std.specs.FinMap as fin
+pub use Rattle.std.proofs.lemmas.Bool.{and_parts as both_true, false_from_ne_true as not_true}
+use Rattle.std.proofs.lemmas.Bool.{or_right}
+use Rattle.node_keys.proofs.SortLemmas.{tied}
 use Rattle.plain_tree.specs.declared.nodes.Node.{Node}
 use Rattle.plain_tree.specs.Paths.{Path, path_cmp, same_path, is_at_or_below, moved_path}
 use Rattle.plain_tree.specs.Tree.{Nodes, moved}
-use Rattle.plain_tree.proofs.NodeLemmas.{path_total, path_exact, tied}
-
-pub both_true : (a b : Bool) → (a && b) ≡ true → (a ≡ true) × (b ≡ true)
-both_true true b e = (refl, e)
-both_true false b e = cc
+use Rattle.plain_tree.proofs.NodeLemmas.{path_total, path_exact}
 
 -- paths, tested and compared
 pub same_is : (x y : Path) → same_path x y ≡ true → x ≡ y
@@ -44,10 +43,6 @@ moved_below from to k e = ap (λ b. cond b (to ++ drop (length from) k) k) e
 pub moved_other : (from to k : Path) → is_at_or_below from k ≡ false → moved_path from to k ≡ k
 moved_other from to k e = ap (λ b. cond b (to ++ drop (length from) k) k) e
 
-or_right : (a b : Bool) → b ≡ true → (a || b) ≡ true
-or_right true b e = refl
-or_right false b e = e
-
 pub other_removed : (m : Nodes) (p q : Path) → same_path q p ≡ false → fin.get (fin.remove m p) q ≡ fin.get m q
 other_removed m p q other = fin.get-remove path_total m p q ∙ ap (λ b. cond b None (fin.get m q)) other
 
@@ -71,10 +66,6 @@ none_above (y ∷ es) x e =
     less_apart Less e = refl
     less_apart Equal e = cc
     less_apart Greater e = cc
-
-pub not_true : (b : Bool) → (b ≡ true → ⊥) → b ≡ false
-not_true true h = absurd (h refl)
-not_true false h = refl
 
 pub not_same : (x y : Path) → (same_path x y ≡ true → ⊥) → same_path x y ≡ false
 not_same x y h = not_true (same_path x y) h

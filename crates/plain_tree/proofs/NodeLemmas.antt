@@ -1,11 +1,9 @@
 -- The order of paths, and a change of the node at one.
-use Rattle.std.proofs.Common.{◌≡◌, true, Some, None, refl}
-use Rattle.std.specs.declared.cmp.Ordering.{Ordering}
-use Rattle.std.specs.declared.cmp.Ordering.TheVariants.{Less, Equal, Greater}
-use Rattle.std.specs.Ordering.{is_eq}
+use Rattle.std.proofs.Common.{◌≡◌, Some, None, refl}
 use Rattle.std.specs.Cmp.{IsTotalOrder}
 use Rattle.std.specs.Cmp.Lexicographic.{lists_total, nat_list_cmp_total}
 use Rattle.std.specs.FinMap as fin
+pub use Rattle.node_keys.proofs.SortLemmas.{tied}
 use Rattle.plain_tree.specs.declared.nodes.Node.{Node}
 use Rattle.plain_tree.specs.Paths.{Path, path_cmp}
 use Rattle.plain_tree.specs.Tree.{Nodes, changed_at}
@@ -22,8 +20,3 @@ path_total = lists_total nat_list_cmp_total
 
 pub path_exact : fin.IsAntisymmetric path_cmp
 path_exact = fin.slice_cmp-IsAntisymmetric (fin.slice_cmp-IsAntisymmetric fin.nat_cmp-IsAntisymmetric)
-
-pub tied : (r : Ordering) → is_eq r ≡ true → r ≡ Equal
-tied Less e = cc
-tied Equal e = refl
-tied Greater e = cc

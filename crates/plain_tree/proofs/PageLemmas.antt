@@ -1,8 +1,6 @@
 -- What a change of one page does to the bytes of a file, and what the bytes say of its cells.
 use Rattle.std.proofs.Common.{◌≡◌, ◌⊎◌, ℕ, ◌+◌, ◌-◌, ◌/◌, ◌%◌, ◌<◌, ◌≤◌, Bool, true, false, cond, ltb, List, [], ◌∷◌, ◌++◌, length, get_or, take, drop, map, replicate, Option, Some, None, is_some, sym, ap, ◌∙◌, refl, subst, arith, ⊎_elim, inl, inr, max, min}
 use Rattle.std.specs.List.{range_with_len}
-use Rattle.std.specs.declared.cmp.Ordering.{Ordering}
-use Rattle.std.specs.declared.cmp.Ordering.TheVariants.{Less, Equal, Greater}
 use Rattle.std.specs.Ordering.{is_eq, nat_cmp}
 use Rattle.std.specs.FinMap.{nat_cmp-IsAntisymmetric}
 use Rattle.std.specs.Option.{option_map}
@@ -15,13 +13,9 @@ use Rattle.std.specs.List.{filter}
 use borrow.Rule.Slice.PartMut.{put_mid}
 use Rattle.std.proofs.lemmas.List.{get_or-replicate, get_or_past, length-replicate, get_or-take, get_or-drop, get_or_append_left, get_or-append_right, get_or_default, same_lists, length-take, length-append, length-drop}
 use Rattle.std.proofs.lemmas.List.FromFn.{length-map-range_with_len, get_or-map-range_with_len}
+use Rattle.node_keys.proofs.SortLemmas.{tied}
 use Rattle.plain_tree.specs.Cells.{Cell, bytes_of}
 use Rattle.plain_tree.specs.Pages.{byte_in, page_at, byte_at}
-
-tied : (r : Ordering) → is_eq r ≡ true → r ≡ Equal
-tied Less e = cc
-tied Equal e = refl
-tied Greater e = cc
 
 same_key : (k q : ℕ) → is_eq (nat_cmp k q) ≡ true → k ≡ q
 same_key k q h = nat_cmp-IsAntisymmetric k q (tied _ h)

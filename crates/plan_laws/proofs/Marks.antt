@@ -1,9 +1,10 @@
 -- Where no mark is put.
-use Rattle.std.proofs.Common.{◌≡◌, ℕ, ◌+◌, ◌*◌, ◌/◌, ◌<◌, ◌≤◌, ◌⊎◌, ⊎_elim, inl, inr, ◌∙◌, ◌||◌, Bool, true, false, List, [], ◌∷◌, ◌++◌, length, map, Option, Some, None, refl, sym, ap, subst, arith, div-mul-le_self}
+use Rattle.std.proofs.Common.{◌≡◌, ℕ, ◌+◌, ◌*◌, ◌/◌, ◌<◌, ◌≤◌, ◌⊎◌, ⊎_elim, ◌∙◌, true, false, List, [], ◌∷◌, ◌++◌, length, map, Option, Some, None, refl, sym, ap, subst, arith, div-mul-le_self}
 use Rattle.std.specs.List.{list_any}
 use Rattle.std.proofs.lemmas.Bool.Decides.{nat_tests}
 use Rattle.std.proofs.lemmas.List.{map-append}
 use Rattle.std.proofs.lemmas.List.Folds.{list_any-append}
+use Rattle.std.proofs.lemmas.Bool.{or_right, or_cases}
 use Rattle.tape_types.specs.declared.cartridges.Extent.{Extent}
 use Rattle.tape_types.specs.declared.cartridges.Part.{Part}
 use Rattle.tape_types.specs.declared.cartridges.Part.TheVariants.{Ip, Dp}
@@ -26,16 +27,10 @@ use Rattle.plan_laws.proofs.Admits.{puts_lead}
 use Rattle.plan_laws.proofs.Ends.{rises}
 use Rattle.plan_laws.proofs.Plans.{held_parts}
 use Rattle.plan_laws.proofs.Stored.{puts_held}
-use Rattle.plan_laws.proofs.Tells.{later_put}
 
 -- this holds bytes
 abbrev HasBytes : Option (List ℕ) → Type 0
 HasBytes held = (bytes : List ℕ) × (held ≡ Some bytes)
-
--- a test that one of two passes
-which : (one other : Bool) → (one || other) ≡ true → (one ≡ true) ⊎ (other ≡ true)
-which true other is = inl refl
-which false other is = inr is
 
 -- ---- ops that come next put nothing before the ends
 
@@ -62,7 +57,7 @@ puts_behind (op ∷ ops) e place next is = ⊎_elim
     (λ (here : puts_at place (headed op) ≡ true). op_behind place e op here next.0)
     (λ (later : IsPutBy ops place).
     omega (arith, rises place.part e op next.0, puts_behind ops (after_op e op) place next.1 later))
-    (which (puts_at place (headed op)) (list_any (puts_at place) (map headed ops)) is)
+    (or_cases (puts_at place (headed op)) (list_any (puts_at place) (map headed ops)) is)
 
 -- ---- the first op is done
 
@@ -100,7 +95,7 @@ marks_done : (ends : Ends) (op : Op) (ops : List Op) (tree : FileTree) → AreNe
 marks_done ends op ops tree next none part pos stands put =
     rest_holds (record { part = part; pos = pos }) ends op ops next put
     (none part pos stands
-    (later_put (puts_at (record { part = part; pos = pos }) (headed op))
+    (or_right (puts_at (record { part = part; pos = pos }) (headed op))
     (list_any (puts_at (record { part = part; pos = pos })) (map headed ops)) put))
 
 -- ---- ops are added
@@ -129,7 +124,7 @@ held_last place (op ∷ ops) asked has = by (held_by place op) (held_last place 
 pub put_by_either : (place : Place) (ops asked : List Op) → IsPutBy (ops ++ asked) place
     → IsPutBy ops place ⊎ IsPutBy asked place
 put_by_either place ops asked is =
-    which (list_any (puts_at place) (map headed ops)) (list_any (puts_at place) (map headed asked))
+    or_cases (list_any (puts_at place) (map headed ops)) (list_any (puts_at place) (map headed asked))
     (sym (list_any-append (puts_at place) (map headed ops) (map headed asked))
     ∙ sym (ap (λ (l : List waiting.Op). list_any (puts_at place) l) (map-append headed ops asked)) ∙ is)
 

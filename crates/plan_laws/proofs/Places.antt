@@ -1,6 +1,7 @@
 -- What is done at a place stays so.
-use Rattle.std.proofs.Common.{◌≡◌, ⊎_elim, ◌∙◌, ◌||◌, Bool, true, false, List, ◌∷◌, ◌++◌, map, None, refl, sym, arith}
+use Rattle.std.proofs.Common.{◌≡◌, ⊎_elim, ◌∙◌, ◌||◌, Bool, true, false, List, ◌∷◌, ◌++◌, map, None, sym, arith}
 use Rattle.std.specs.List.{list_any}
+use Rattle.std.proofs.lemmas.Bool.{or_right, false_from_ne_true}
 use Rattle.tape_types.specs.declared.cartridges.Place.{Place}
 use Rattle.file_tree.specs.Blocks.{LiesBelow, TreeStandsIn}
 use Rattle.file_tree.specs.Tree.{FileTree}
@@ -12,13 +13,7 @@ use Rattle.held_volume.specs.Stocks.{ends_of}
 use Rattle.plan_laws.specs.Laws.{PlacesStay}
 use Rattle.plan_laws.specs.Planned.{IsDoneAt, IsPutBy, Items, NoMarks, ends_in, with_ops}
 use Rattle.plan_laws.proofs.Marks.{put_by_either, puts_behind}
-use Rattle.plan_laws.proofs.Tells.{later_put}
 use Rattle.plan_laws.proofs.Stays.{further}
-
--- a test that isn't passed is failed
-not_passed : (b : Bool) → (b ≡ true → ⊥) → b ≡ false
-not_passed true never = absurd (never refl)
-not_passed false never = refl
 
 passed_not : (b : Bool) → b ≡ false → b ≡ true → ⊥
 passed_not true failed passed = cc failed
@@ -30,7 +25,7 @@ place_wanted : (planned : Items) (ops : List Op) (tree : FileTree) (place : Plac
 place_wanted planned ops tree place below none stands free = record {
   below = below place.part place.pos stands;
   free =
-      not_passed (list_any (puts_at place) (map headed ops))
+      false_from_ne_true (list_any (puts_at place) (map headed ops))
       (λ put. let has = none place.part place.pos stands put in cc (sym has.1 ∙ free));
 }
 
@@ -38,7 +33,7 @@ place_added : (planned : Items) (ops asked : List Op) (place : Place) → AreNex
     → IsDoneAt planned ops place → IsDoneAt (with_ops asked planned) (ops ++ asked) place
 place_added planned ops asked place next d = record {
   below = further planned asked place.part place.pos d.below;
-  free = not_passed (list_any (puts_at place) (map headed (ops ++ asked))) (λ put. ⊎_elim
+  free = false_from_ne_true (list_any (puts_at place) (map headed (ops ++ asked))) (λ put. ⊎_elim
       (λ (old : IsPutBy ops place). passed_not (list_any (puts_at place) (map headed ops)) d.free old)
       (λ (new : IsPutBy asked place). omega (arith, d.below, puts_behind asked (ends_in planned) place next new))
       (put_by_either place ops asked put));
@@ -48,9 +43,9 @@ place_done : (planned : Items) (op : Op) (ops : List Op) (place : Place) → IsD
     → IsDoneAt planned ops place
 place_done planned op ops place d = record {
   below = d.below;
-  free = not_passed (list_any (puts_at place) (map headed ops)) (λ put.
+  free = false_from_ne_true (list_any (puts_at place) (map headed ops)) (λ put.
       passed_not (puts_at place (headed op) || list_any (puts_at place) (map headed ops)) d.free
-      (later_put (puts_at place (headed op)) (list_any (puts_at place) (map headed ops)) put));
+      (or_right (puts_at place (headed op)) (list_any (puts_at place) (map headed ops)) put));
 }
 
 pub places_stay : PlacesStay

@@ -1,6 +1,7 @@
 -- Below the ends nothing changes.
 use Rattle.std.proofs.Common.{◌≡◌, ℕ, ◌+◌, ◌<◌, ◌≤◌, ◌∙◌, Bool, List, [], ◌∷◌, ◌++◌, map, Option, Some, refl, sym, ap, subst, arith, replicate, if◌then◌else◌, length-append}
 use Rattle.std.specs.List.{flat_map, range_with_len}
+use Rattle.tape_types.proofs.Lists.{slice_get-append}
 use Rattle.tape_types.specs.declared.cartridges.Item.{Item}
 use Rattle.tape_types.specs.declared.cartridges.Part.{Part}
 use Rattle.extent_map.specs.Blocks.{AreAlikeIn}
@@ -13,7 +14,6 @@ use Rattle.plain_tree.specs.Cells.{Cell}
 use Rattle.file_tree.specs.Blocks.{LiesBelow, TreeStandsIn}
 use Rattle.file_tree.specs.Tree.{FileTree}
 use Rattle.file_tree.specs.Writes.{HoldsBytes}
-use Rattle.session_script.proofs.HistoryLemmas.{slice_get-append}
 use Rattle.tape_layout.specs.declared.ops.Op.{Op}
 use Rattle.tape_layout.specs.declared.standing.Ends.{Ends}
 use Rattle.tape_layout.specs.Ops.{end_of}

@@ -1,8 +1,9 @@
 -- What the head reads, and what an op holds, is what is planned there.
-use Rattle.std.proofs.Common.{◌≡◌, ℕ, ◌+◌, ◌<◌, ◌≤◌, ◌⊎◌, ⊎_elim, inl, inr, ◌∙◌, ◌==◌, ◌||◌, Bool, true, false, true≢false, List, [], ◌∷◌, ◌++◌, length, drop, map, Option, Some, None, slice_get, refl, sym, ap, subst, arith, take-append-drop}
+use Rattle.std.proofs.Common.{◌≡◌, ℕ, ◌+◌, ◌<◌, ◌≤◌, ◌⊎◌, ⊎_elim, inl, inr, ◌∙◌, ◌==◌, Bool, true, false, true≢false, List, [], ◌∷◌, ◌++◌, length, drop, map, Option, Some, None, slice_get, refl, sym, ap, subst, arith, take-append-drop}
 use Rattle.std.specs.List.{list_any}
-use Rattle.std.proofs.lemmas.Bool.{cases_lt}
+use Rattle.std.proofs.lemmas.Bool.{cases_lt, or_left, or_right}
 use Rattle.std.proofs.lemmas.Bool.Decides.{nat_tests}
+use Rattle.tape_types.proofs.Lists.{slice_get-append}
 use Rattle.tape_types.specs.declared.cartridges.Cartridge.{Cartridge}
 use Rattle.tape_types.specs.declared.cartridges.Item.{Item}
 use Rattle.tape_types.specs.declared.cartridges.Item.TheVariants as item
@@ -17,7 +18,6 @@ use Rattle.extent_map.specs.Replies.{IsBlock}
 use Rattle.head_core.specs.Steps.{IsFoundAt}
 use Rattle.head_core.specs.declared.work.StepDone.TheVariants as outcome
 use Rattle.event_laws.specs.Trail.{puts_at}
-use Rattle.session_script.proofs.HistoryLemmas.{slice_get-append}
 use Rattle.tape_layout.specs.declared.ops.Op.{Op}
 use Rattle.tape_layout.specs.declared.ops.Op.TheVariants.{Put, Mark, Flush}
 use Rattle.tape_layout.specs.declared.standing.Ends.{Ends}
@@ -54,23 +54,14 @@ op_or_not place e (Put at bytes) next low = put_or_not place.part at.part place.
 op_or_not place e (Mark at) next low = put_or_not place.part at.part place.pos at.pos e next low
 op_or_not place e (Flush at) next low = inr low
 
--- a test that the first of two passes, or the second
-first_put : (one other : Bool) → one ≡ true → (one || other) ≡ true
-first_put true other is = refl
-first_put false other is = absurd (cc is)
-
-pub later_put : (one other : Bool) → other ≡ true → (one || other) ≡ true
-later_put true other is = refl
-later_put false other is = is
-
 pub is_put : (ops : List Op) (e : Ends) (place : Place) → AreNext e ops → end_of place.part e ≤ place.pos
     → place.pos < end_of place.part (after_ops e ops) → IsPutBy ops place
 is_put [] e place next low high = absurd (omega (arith, low, high))
 is_put (op ∷ ops) e place next low high = ⊎_elim
     (λ (here : puts_at place (headed op) ≡ true).
-    first_put (puts_at place (headed op)) (list_any (puts_at place) (map headed ops)) here)
+    or_left (puts_at place (headed op)) (list_any (puts_at place) (map headed ops)) here)
     (λ (further : end_of place.part (after_op e op) ≤ place.pos).
-    later_put (puts_at place (headed op)) (list_any (puts_at place) (map headed ops))
+    or_right (puts_at place (headed op)) (list_any (puts_at place) (map headed ops))
     (is_put ops (after_op e op) place next.1 further high))
     (op_or_not place e op next.0 low)
 

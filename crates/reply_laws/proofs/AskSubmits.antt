@@ -4,6 +4,7 @@ use Rattle.std.specs.List.{list_any}
 use Rattle.std.proofs.Common.{refl, sym, ap, ◌∙◌, subst, inl, inr, ⊎_elim, arith, length-append, take_all}
 use Rattle.std.proofs.lemmas.List.{append-nil, length-map, take-append-le}
 use Rattle.std.proofs.lemmas.List.Elements.{filter_map-append}
+use Rattle.tape_types.proofs.Lists.{slice_get-seam}
 use Rattle.tape_types.specs.declared.cartridges.Place.{Place}
 use Rattle.tape_types.specs.declared.cartridges.Twin.{Twin}
 use Rattle.plain_tree.specs.History.{call_at}
@@ -32,7 +33,7 @@ use Rattle.reply_laws.specs.Asks.{AskingBegins, AsksTruly, QueueTheirOps, Submis
 use Rattle.reply_laws.proofs.AskLaws.{AsksOf, ask_parts, ask_whole, asks_on, none_of}
 use Rattle.reply_laws.proofs.Asked.{asked_on, begun_on, goes_next, grouped_on, needed_on, of_reads_on, picked_later, put_off_on, stays_there, stood_append, stood_later, stood_long, touched_before}
 use Rattle.reply_laws.proofs.Blocks.{needed_wanted, pair_back, pair_there, queues_want, reads_need, synced_want, wanted_needed, wants_here}
-use Rattle.reply_laws.proofs.Lists.{get_behind, get_end, get_within, in_cases, split}
+use Rattle.reply_laws.proofs.Lists.{get_behind, get_within, in_cases, split}
 use Rattle.reply_laws.proofs.Places.{agree_always, stands_on}
 
 -- ---- the sync of a submission
@@ -160,7 +161,7 @@ module _ (g : Given) (on : Option ℕ) (history : List Placed) (p : Placed) (tra
     (few : is_write_at call ≡ true → length (ops (after_all trail)) ≤ 64)
     (queues : filter_map queued trail ≡ map place_of (admitted g on history)) (all_queues : filter_map queued (trail ++ added) ≡ map place_of (admitted g on (history ++ p ∷ []))) where
   here_at : slice_get (history ++ p ∷ []) (length history) ≡ Some p
-  here_at = get_end history p
+  here_at = slice_get-seam history p
 
   stands_here : standing g on (history ++ p ∷ []) (length history) ≡ standing g on history (length history)
   stands_here = stands_on g on history (history ++ p ∷ []) (length history) (take-append-le (length history) history (p ∷ []) (omega arith))

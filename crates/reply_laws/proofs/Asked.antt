@@ -6,6 +6,9 @@ use Rattle.std.proofs.lemmas.Grind.{flat_map-append}
 use Rattle.std.proofs.lemmas.List.{length-map, take-append-le}
 use Rattle.std.proofs.lemmas.List.Elements.{Contains-append_cases, Contains-append_left, Contains-append_right, filter_map-append}
 use Rattle.std.proofs.lemmas.List.Folds.{list_any-append}
+use Rattle.std.proofs.lemmas.Option.{same_Some}
+use Rattle.std.proofs.lemmas.Bool.{or_left}
+use Rattle.tape_types.proofs.Lists.{slice_get-append, scan-append}
 use Rattle.tape_types.specs.declared.cartridges.Place.{Place}
 use Rattle.plain_tree.specs.History.{call_at}
 use Rattle.plain_tree.specs.declared.calls.Fate.TheVariants as fates
@@ -20,7 +23,7 @@ use Rattle.serving_promise.specs.Acks.{syncs_ticket}
 use Rattle.serving_promise.specs.Asking.{AreAsked, AreGrouped, AreNeeded, AreOfReads, ArePutOff, blocks_of, is_read, is_write_at, stood, stood_at, touches, want_of}
 use Rattle.serving_promise.specs.Served.{queued}
 use Rattle.reply_laws.specs.Asks.{AreBegun}
-use Rattle.reply_laws.proofs.Lists.{enumerate_append, flat_map_same, get_left, get_next, get_within, or_left, scan_append, some_same, split}
+use Rattle.reply_laws.proofs.Lists.{enumerate_append, flat_map_same, get_next, get_within, split}
 use Rattle.reply_laws.proofs.Places.{Agree, admits_alike, admits_before, admitted_alike, at_place}
 
 -- ---- a history that goes on
@@ -37,7 +40,7 @@ stays_there history = record { kept = λ k p at. at; same = λ k within. refl; w
 
 pub goes_next : (history : List Placed) (p : Placed) → GoesTo history (history ++ p ∷ []) (λ k q. (k ≡ length history) × (p ≡ q))
 goes_next history p = record {
-  kept = λ k q at. get_left history (p ∷ []) k (get_within history k q at) ∙ at;
+  kept = λ k q at. slice_get-append history (p ∷ []) k (get_within history k q at) ∙ at;
   same = λ k within. take-append-le k history (p ∷ []) within;
   which = λ k q at. by k q (get_next history p k q at);
   longer = omega (arith, length-append history (p ∷ []));
@@ -116,7 +119,7 @@ stood_later st added = filter_map (λ n. n) (scan after stood_at st added)
 
 pub stood_append : (before added : List Event) → stood (before ++ added) ≡ stood before ++ stood_later (after_all before) added
 stood_append before added =
-    ap (filter_map (λ n. n)) (scan_append after stood_at start before added) ∙ filter_map-append (λ n. n) (scan after stood_at start before) (scan after stood_at (after_all before) added)
+    ap (filter_map (λ n. n)) (scan-append after stood_at start before added) ∙ filter_map-append (λ n. n) (scan after stood_at start before) (scan after stood_at (after_all before) added)
 
 stood_one : (st : State) (e : Event) → length (filter_map (λ n. n) (stood_at st e ∷ [])) ≡ length (filter_map queued (e ∷ []))
 stood_one st (events.Wants ticket place) = refl
@@ -149,7 +152,7 @@ admitted_front g on front p rest =
 
 parted : (history : List Placed) (k : ℕ) (p : Placed) → slice_get history k ≡ Some p → take k history ++ p ∷ drop (suc k) history ≡ history
 parted [] k p e = cc
-parted (q ∷ qs) zero p e = ap (λ x. x ∷ qs) (sym (some_same q p e))
+parted (q ∷ qs) zero p e = ap (λ x. x ∷ qs) (sym (same_Some q p e))
 parted (q ∷ qs) (suc k) p e = ap (λ xs. q ∷ xs) (parted qs k p e)
 
 -- where a placement admits an op, it isn't the last of those that the history admits before
@@ -183,7 +186,7 @@ put_off_on g on off history later Next before added goes agree queues are more k
         let got : slice_get (stood (before ++ added)) (length (admitted g on (take k later))) ≡ slice_get (stood before) (length (admitted g off (take k history))) =
         ap (slice_get (stood (before ++ added))) count
         ∙ ap (λ ns. slice_get ns (length (admitted g off (take k history)))) (stood_append before added)
-        ∙ get_left (stood before) (stood_later (after_all before) added) (length (admitted g off (take k history))) low in
+        ∙ slice_get-append (stood before) (stood_later (after_all before) added) (length (admitted g off (take k history))) low in
         subst (λ o. IfSome o (λ n. n ≤ 64)) (sym got) (are k p was write has)
 
 -- ---- syncs

@@ -5,6 +5,7 @@ use Rattle.std.proofs.Common.{refl, sym, ap, ◌∙◌, subst, inl, inr, ⊎_eli
 use Rattle.std.proofs.lemmas.List.{append-nil, map-append}
 use Rattle.std.proofs.lemmas.List.Elements.{filter_map-append}
 use Rattle.std.proofs.lemmas.List.Folds.{list_any-append}
+use Rattle.std.proofs.lemmas.Bool.{or_left, or_right, or_cases}
 use Rattle.tape_types.specs.declared.cartridges.Part.{Part}
 use Rattle.tape_types.specs.declared.cartridges.Part.TheVariants.{Ip, Dp}
 use Rattle.tape_types.specs.declared.cartridges.Place.{Place}
@@ -23,7 +24,7 @@ use Rattle.serving_promise.proofs.CacheLaws.{passing_asks, refused_asks}
 use Rattle.extent_map.specs.Replies.{distinct}
 use Rattle.block_cache.specs.Kept.{Kept, is_cached}
 use Rattle.reply_laws.proofs.Distinct.{cached_read, distinct_in, filter_in, in_distinct, in_filter}
-use Rattle.reply_laws.proofs.Lists.{and_first, and_second, in_cases, in_first, in_none, in_rest, or_cases, or_left, or_right, picks_none}
+use Rattle.reply_laws.proofs.Lists.{and_first, and_second, in_cases, in_first, in_none, in_rest, picks_none}
 
 -- ---- places
 

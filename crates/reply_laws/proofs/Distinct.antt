@@ -3,6 +3,7 @@ use Rattle.std.proofs.Common.{◌≡◌, ◌⊎◌, ℕ, ◌&&◌, ◌||◌, eqb
 use Rattle.std.specs.List.{filter, list_any}
 use Rattle.std.specs.Prelude.{All, Contains}
 use Rattle.std.proofs.lemmas.List.Elements.{All-head, All-tail}
+use Rattle.std.proofs.lemmas.Bool.{or_left, or_right}
 use Rattle.tape_types.specs.declared.cartridges.Place.{Place}
 use Rattle.tape_types.proofs.Places.{same_itself, same_places}
 use Rattle.extent_map.proofs.DistinctLemmas.{has_distinct}
@@ -11,14 +12,6 @@ use Rattle.session_script.specs.declared.logs.Event.{Event}
 use Rattle.block_cache.specs.Kept.{Kept, is_cached, stands_at}
 use Rattle.serving_promise.specs.Cached.{was_read}
 use Rattle.reply_laws.proofs.Lists.{in_cases, in_first, in_none, in_rest}
-
-or_first : (a b : Bool) → a ≡ true → (a || b) ≡ true
-or_first true b e = refl
-or_first false b e = absurd cc
-
-or_second : (a b : Bool) → b ≡ true → (a || b) ≡ true
-or_second true b e = refl
-or_second false b e = e
 
 pub has_in : (place : Place) (places : List Place) → has_place place places ≡ true → Contains places place
 has_in place [] e = absurd cc
@@ -31,8 +24,8 @@ has_in place (x ∷ xs) e = by (has_in place xs) (same_place place x) refl
 pub in_has : (place : Place) (places : List Place) → Contains places place → has_place place places ≡ true
 in_has place [] has = absurd (in_none place has)
 in_has place (x ∷ xs) has = ⊎_elim
-    (λ is. or_first (same_place place x) (has_place place xs) (subst (λ y. same_place place y ≡ true) (sym is) (same_itself place)))
-    (λ later. or_second (same_place place x) (has_place place xs) (in_has place xs later))
+    (λ is. or_left (same_place place x) (has_place place xs) (subst (λ y. same_place place y ≡ true) (sym is) (same_itself place)))
+    (λ later. or_right (same_place place x) (has_place place xs) (in_has place xs later))
     (in_cases x xs place has)
 
 pub in_distinct : (xs : List Place) (y : Place) → Contains (distinct xs) y → Contains xs y

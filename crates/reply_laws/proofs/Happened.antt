@@ -5,6 +5,7 @@ use Rattle.std.proofs.Common.{refl, sym, ap, ◌∙◌, subst, arith, length-app
 use Rattle.std.proofs.lemmas.List.{length-map}
 use Rattle.std.proofs.lemmas.List.Elements.{Contains-append_left, filter_map-append}
 use Rattle.std.proofs.lemmas.List.Folds.{list_all-append, list_any-append}
+use Rattle.tape_types.proofs.Lists.{scan-append}
 use Rattle.tape_types.specs.declared.cartridges.Place.{Place}
 use Rattle.tape_types.specs.declared.cartridges.Twin.{Twin}
 use Rattle.session_script.specs.declared.logs.Event.{Event}
@@ -15,13 +16,13 @@ use Rattle.serving_promise.specs.Served.{queued}
 use Rattle.serving_promise.specs.Steps.{AreOfStep, no_step, one_step, is_step}
 use Rattle.reply_laws.specs.Laws.{OwnersKeepFaults}
 use Rattle.reply_laws.specs.Sides.{does_op}
-use Rattle.reply_laws.proofs.Lists.{and_first, and_second, picks_none, scan_append}
+use Rattle.reply_laws.proofs.Lists.{and_first, and_second, picks_none}
 
 -- ---- faults
 
 owned_on : (events added : List Event) → owned (events ++ added) ≡ owned events ++ filter_map (λ o. o) (scan after (λ st e. both (owner_of st e) (fault_of e)) (after_all events) added)
 owned_on events added =
-    ap (filter_map (λ o. o)) (scan_append after (λ st e. both (owner_of st e) (fault_of e)) start events added)
+    ap (filter_map (λ o. o)) (scan-append after (λ st e. both (owner_of st e) (fault_of e)) start events added)
     ∙ filter_map-append (λ o. o) (scan after (λ st e. both (owner_of st e) (fault_of e)) start events) (scan after (λ st e. both (owner_of st e) (fault_of e)) (after_all events) added)
 
 pub owners_keep_faults : OwnersKeepFaults
@@ -92,7 +93,7 @@ queued_or_done events = omega (arith, ever_from start events)
 pub trail_behind : (events added : List Event) → IsTrail (events ++ added) → is_trail_from (after_all events) added ≡ true
 trail_behind events added is =
     and_second (list_all (λ may. may) (scan after allows start events)) (is_trail_from (after_all events) added)
-    (sym (ap (list_all (λ may. may)) (scan_append after allows start events added) ∙ list_all-append (λ may. may) (scan after allows start events) (scan after allows (after_all events) added)) ∙ is)
+    (sym (ap (list_all (λ may. may)) (scan-append after allows start events added) ∙ list_all-append (λ may. may) (scan after allows start events) (scan after allows (after_all events) added)) ∙ is)
 
 -- how many ops a step has done
 abbrev pub done_by : List Event → ℕ

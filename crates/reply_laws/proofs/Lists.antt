@@ -1,8 +1,10 @@
 -- Lists that go on, and what is said of their places.
-use Rattle.std.specs.Prelude.{◌||◌, Option, filter_map, ◌≡◌, ◌⊎◌, ◌<◌, ◌≤◌, ◌+◌, ◌&&◌, ℕ, zero, suc, Bool, true, false, List, [], ◌∷◌, ◌++◌, length, fold, scan, Some, None, slice_get, slice_index_or, Contains}
+use Rattle.std.specs.Prelude.{Option, filter_map, ◌≡◌, ◌⊎◌, ◌<◌, ◌≤◌, ◌+◌, ◌&&◌, ℕ, zero, suc, Bool, true, false, List, [], ◌∷◌, ◌++◌, length, fold, Some, None, slice_get, slice_index_or, Contains}
 use Rattle.std.specs.List.{enumerate_from, flat_map}
 use Rattle.std.proofs.Common.{refl, sym, ap, ◌∙◌, arith, inl, inr}
 use Rattle.std.proofs.lemmas.List.{append_cancel_left}
+pub use Rattle.std.proofs.lemmas.Option.{slice_get_within as get_within}
+use Rattle.std.proofs.lemmas.Option.{same_Some}
 
 -- ---- lists with their places
 
@@ -35,37 +37,16 @@ flat_map_same f h n (x ∷ xs) same =
 
 -- ---- what is scanned
 
-pub scan_append : {S X Y : Type 0} (next : S → X → S) (out : S → X → Y) (s : S) (xs ys : List X) → scan next out s (xs ++ ys) ≡ scan next out s xs ++ scan next out (fold next s xs) ys
-scan_append next out s [] ys = refl
-scan_append next out s (x ∷ xs) ys = ap (λ more. out s x ∷ more) (scan_append next out (next s x) xs ys)
-
 -- ---- what stands at a place
-
-pub get_within : {X : Type 0} (xs : List X) (k : ℕ) (x : X) → slice_get xs k ≡ Some x → k < length xs
-get_within [] k x e = cc
-get_within (y ∷ ys) zero x e = omega arith
-get_within (y ∷ ys) (suc k) x e = omega (arith, get_within ys k x e)
 
 pub get_past : {X : Type 0} (xs : List X) (k : ℕ) → slice_get xs k ≡ None → length xs ≤ k
 get_past [] k e = omega arith
 get_past (x ∷ xs) zero e = cc
 get_past (x ∷ xs) (suc k) e = omega (arith, get_past xs k e)
 
-pub get_left : {X : Type 0} (xs ys : List X) (k : ℕ) → k < length xs → slice_get (xs ++ ys) k ≡ slice_get xs k
-get_left [] ys k less = absurd (omega (arith, less))
-get_left (x ∷ xs) ys zero less = refl
-get_left (x ∷ xs) ys (suc k) less = get_left xs ys k (omega (arith, less))
-
-pub get_end : {X : Type 0} (xs : List X) (y : X) → slice_get (xs ++ y ∷ []) (length xs) ≡ Some y
-get_end [] y = refl
-get_end (x ∷ xs) y = get_end xs y
-
-pub some_same : {X : Type 0} (x y : X) → Some x ≡ Some y → x ≡ y
-some_same x y e = cc
-
 -- a place of a list with one element more is one of its own, or the last
 pub get_next : {X : Type 0} (xs : List X) (y : X) (k : ℕ) (x : X) → slice_get (xs ++ y ∷ []) k ≡ Some x → ((k < length xs) × (slice_get xs k ≡ Some x)) ⊎ ((k ≡ length xs) × (y ≡ x))
-get_next [] y zero x e = inr (refl, some_same y x e)
+get_next [] y zero x e = inr (refl, same_Some y x e)
 get_next [] y (suc k) x e = cc
 get_next (z ∷ zs) y zero x e = inl (omega arith, e)
 get_next (z ∷ zs) y (suc k) x e = by (get_next zs y k x e)
@@ -90,18 +71,6 @@ and_first false b e = cc
 pub and_second : (a b : Bool) → (a && b) ≡ true → b ≡ true
 and_second true b e = e
 and_second false b e = cc
-
-pub or_left : (a b : Bool) → a ≡ true → (a || b) ≡ true
-or_left true b e = refl
-or_left false b e = cc
-
-pub or_right : (a b : Bool) → b ≡ true → (a || b) ≡ true
-or_right true b e = refl
-or_right false b e = e
-
-pub or_cases : (a b : Bool) → (a || b) ≡ true → (a ≡ true) ⊎ (b ≡ true)
-or_cases true b e = inl refl
-or_cases false b e = inr e
 
 -- ---- what is picked from a list
 

@@ -3,6 +3,7 @@ use Rattle.std.specs.Prelude.{◌≡◌, ◌==◌, ℕ, zero, suc, cond, List, [
 use Rattle.std.specs.Option.{option_and_then, option_to_list}
 use Rattle.std.proofs.Common.{refl, sym, ap, ◌∙◌, subst}
 use Rattle.std.proofs.lemmas.List.Elements.{Contains-append_left}
+use Rattle.std.proofs.lemmas.Option.{same_Some}
 use Rattle.tape_types.specs.declared.cartridges.Twin.{Twin}
 use Rattle.plain_tree.specs.declared.calls.Fate.{Fate}
 use Rattle.plain_tree.specs.declared.calls.Fate.TheVariants as fates
@@ -14,12 +15,12 @@ use Rattle.event_laws.specs.Trail.{owned_by}
 use Rattle.serving_promise.specs.Faults.{AreFaults, kept_for, told_at, told_done, told_to, told_void}
 use Rattle.reply_laws.specs.Laws.{ToldFaultsAreOwned, teller}
 use Rattle.reply_laws.proofs.Blocks.{number_itself}
-use Rattle.reply_laws.proofs.Lists.{in_first, in_rest, picks_none, picks_some, some_same}
+use Rattle.reply_laws.proofs.Lists.{in_first, in_rest, picks_none, picks_some}
 
 get_both : {X Y : Type 0} (xs : List X) (ys : List Y) (k : ℕ) (x : X) (y : Y) → slice_get xs k ≡ Some x → slice_get ys k ≡ Some y → slice_get (zip xs ys) k ≡ Some (x, y)
 get_both [] ys k x y e f = cc
 get_both (a ∷ xs) [] k x y e f = cc
-get_both (a ∷ xs) (b ∷ ys) zero x y e f = ap Some (ap (λ c. (c, b)) (some_same a x e) ∙ ap (λ c. (x, c)) (some_same b y f))
+get_both (a ∷ xs) (b ∷ ys) zero x y e f = ap Some (ap (λ c. (c, b)) (same_Some a x e) ∙ ap (λ c. (x, c)) (same_Some b y f))
 get_both (a ∷ xs) (b ∷ ys) (suc k) x y e f = get_both xs ys k x y e f
 
 -- what is picked at a place is among all that is picked
@@ -32,7 +33,7 @@ takes f x xs y e = subst (λ ys. Contains ys y) (sym (picks_some f x xs y e)) (i
 
 picked_at : {X Y : Type 0} (f : X → Option Y) (xs : List X) (k : ℕ) (x : X) (y : Y) → slice_get xs k ≡ Some x → f x ≡ Some y → Contains (filter_map f xs) y
 picked_at f [] k x y e g = cc
-picked_at f (a ∷ xs) zero x y e g = takes f a xs y (ap f (some_same a x e) ∙ g)
+picked_at f (a ∷ xs) zero x y e g = takes f a xs y (ap f (same_Some a x e) ∙ g)
 picked_at f (a ∷ xs) (suc k) x y e g = skip f a xs y (f a) refl (picked_at f xs k x y e g)
 
 module _ (history : List Placed) (events : List Event) (kept : List (Option Reply)) (waiting : List (ℕ × Twin)) (before now : ℕ) (faults : AreFaults history events kept waiting before now)

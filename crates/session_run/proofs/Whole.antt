@@ -4,6 +4,7 @@ use Rattle.std.specs.List.{range_with_len}
 use Rattle.std.proofs.Common.{⊎_elim, refl, sym, ap, subst, ◌∙◌, arith, append-nil, drop_of_length-le, ne_eqb}
 use Rattle.std.proofs.lemmas.Bool.{cases_lt}
 use Rattle.std.proofs.lemmas.List.{take_at}
+use Rattle.std.proofs.lemmas.Option.{same_Some}
 use Rattle.atomic_table.specs.Seated.{TableId}
 use Rattle.tape_types.specs.declared.moments.Moment.{Moment}
 use Rattle.plain_tree.specs.History.{IsInterleaving, numbers_of}
@@ -95,9 +96,6 @@ written_back n new old same is =
     let none : drop (length new) old ≡ [] = drop_of_length-le old (omega (arith, same)) in
     ap (λ l. take n (new ++ l)) none ∙ ap (λ k. take k (new ++ [])) (is ∙ sym same) ∙ take_whole new []
 
-some_same : {X : Type 0} (x y : X) → Some x ≡ Some y → x ≡ y
-some_same x y e = cc e
-
 module _ {D : Type 0} (lock : TableId) (n : ℕ) (fixed : Fixed D) (ps qs : List (DeskView D))
     (dealt : AreDealt lock n fixed ps) (same : length qs ≡ length ps)
     (done : (k : ℕ) (p : DeskView D) → k < length ps → IsDone (slice_index_or ps k p) (slice_index_or qs k p)) where
@@ -119,7 +117,7 @@ module _ {D : Type 0} (lock : TableId) (n : ℕ) (fixed : Fixed D) (ps qs : List
   )
 
   fixed_is : (v : View D) → ArePartsOf qs v → (k : ℕ) (p : DeskView D) → k < length ps → v.fixed ≡ fixed
-  fixed_is v parts k p lt = some_same v.fixed fixed
+  fixed_is v parts k p lt = same_Some v.fixed fixed
       (sym (parts k p (omega (arith, lt, same))).fixed ∙ (done k p lt).fixed ∙ (dealt.1 k p lt).fixed_is)
 
   -- what the desk gives back at its close

@@ -1,9 +1,9 @@
 -- A script that grows within its limits.
 use Rattle.std.proofs.Common.{◌≡◌, ◌≢◌, ℕ, zero, suc, ◌+◌, ◌*◌, ◌<◌, ◌≤◌, Bool, true, false, cond, eqb, List, [], ◌∷◌, ◌++◌, length, sum_by, sym, ap, ◌∙◌, refl, subst, arith, ⊎_elim, Some, None, Ok, Err, ne_eqb, map}
-use Rattle.std.specs.Prelude.{Option, Result, nat_le, nat_eq, ◌&&◌, ◌||◌, not, filter, option_and_then, codes}
+use Rattle.std.specs.Prelude.{Option, Result, nat_le, nat_eq, ◌&&◌, not, filter, option_and_then, codes}
 use Rattle.std.specs.List.{starts_with}
 use Rattle.std.specs.Str.{is_utf8}
-use Rattle.std.proofs.lemmas.Bool.{cases_eq, eq-eqb, leb-false, ltb-false}
+use Rattle.std.proofs.lemmas.Bool.{cases_eq, eq-eqb, leb-false, ltb-false, or_parts}
 use Rattle.std.proofs.lemmas.List.Sums.{sum_by-append}
 use Rattle.std.proofs.lemmas.Bool.Decides.{nat_tests}
 use Rattle.plain_tree.specs.declared.calls.Call.{Call}
@@ -32,10 +32,6 @@ not_some : {A : Type 0} (b : Bool) (x : A) (o : Option A) → cond b (Some x) o 
 not_some true x o e = cc
 not_some false x o e = (refl, e)
 
-neither : (a b : Bool) → (a || b) ≡ false → (a ≡ false) × (b ≡ false)
-neither true b h = cc
-neither false b h = (refl, h)
-
 pub IsWithin-passed : (before : List ScriptLine) (line : ScriptLine) → limit_passed before line ≡ None → IsWithin before line
 IsWithin-passed before line e =
     let first = not_some _ reasons.Calls _ e in
@@ -43,8 +39,8 @@ IsWithin-passed before line e =
     let third = not_some _ reasons.Sum _ second.1 in
     let fourth = not_some _ reasons.Sum _ third.1 in record {
       calls = leb-false _ _ first.0;
-      small_write = ltb-false _ _ (neither _ _ second.0).0;
-      small_read = ltb-false _ _ (neither _ _ second.0).1;
+      small_write = ltb-false _ _ (or_parts _ _ second.0).0;
+      small_read = ltb-false _ _ (or_parts _ _ second.0).1;
       written = ltb-false _ _ third.0;
       asked = ltb-false _ _ fourth.0;
     }

@@ -7,7 +7,8 @@ use Rattle.std.proofs.lemmas.List.{map-append, take-append-le, length_push, take
 use Rattle.std.proofs.lemmas.List.Elements.{filter-append}
 use Rattle.std.proofs.lemmas.List.FromFn.{map-range_with_len_more}
 use Rattle.std.proofs.lemmas.List.Sums.{fold-append}
-use Rattle.std.proofs.lemmas.Option.{slice_get_within}
+use Rattle.std.proofs.lemmas.Option.{slice_get_within, same_Some}
+use Rattle.tape_types.proofs.Lists.{slice_get-append, slice_get-seam}
 use Rattle.plain_tree.specs.declared.calls.Call.{Call}
 use Rattle.plain_tree.specs.declared.calls.Placed.{Placed}
 use Rattle.plain_tree.specs.History.{Calls, call_at, after_placement, replay, IsInterleaving}
@@ -59,15 +60,12 @@ interleaving_more script line history p same next so_far who =
     ∙ numbers_go_on (eqb line.who who) (calls_of script who) line.call p.nth (λ is. next ∙ ap (λ w. length (calls_of script w)) (eqb-true line.who who is))
     ∙ ap (λ l. range_with_len 0 (length l)) (sym (shown-push (λ l. l.call) (λ l. eqb l.who who) script line))
 
-pub some_same : {A : Type 0} (x y : A) → Some x ≡ Some y → x ≡ y
-some_same x y e = cc
-
 -- the call of a line is the one of its session with as many calls before it
 pub call_at_line : (script : List ScriptLine) (k : ℕ) (line : ScriptLine) → slice_get script k ≡ Some line
     → slice_get (calls_of script line.who) (length (calls_of (take k script) line.who)) ≡ Some line.call
 call_at_line [] k line found = cc
 call_at_line (x ∷ script) zero line found =
-    let same : x ≡ line = some_same x line found in
+    let same : x ≡ line = same_Some x line found in
     ap (λ b. slice_get (map (λ l. l.call) (cond b (x ∷ filter (λ l. eqb l.who line.who) script) (filter (λ l. eqb l.who line.who) script))) 0) (eq-eqb x.who line.who (ap (λ l. l.who) same))
     ∙ ap (λ l. Some l.call) same
 call_at_line (x ∷ script) (suc k) line found = at (eqb x.who line.who) (call_at_line script k line found)
@@ -77,15 +75,6 @@ call_at_line (x ∷ script) (suc k) line found = at (eqb x.who line.who) (call_a
         (length (map (λ l. l.call) (cond b (x ∷ filter (λ l. eqb l.who line.who) (take k script)) (filter (λ l. eqb l.who line.who) (take k script))))) ≡ Some line.call
     at true rest = rest
     at false rest = rest
-
-pub slice_get-append : {A : Type 0} (xs ys : List A) (k : ℕ) → k < length xs → slice_get (xs ++ ys) k ≡ slice_get xs k
-slice_get-append [] ys k lt = absurd (omega arith)
-slice_get-append (x ∷ xs) ys zero lt = refl
-slice_get-append (x ∷ xs) ys (suc k) lt = slice_get-append xs ys k (omega arith)
-
-pub slice_get-seam : {A : Type 0} (xs : List A) (y : A) → slice_get (xs ++ y ∷ []) (length xs) ≡ Some y
-slice_get-seam [] y = refl
-slice_get-seam (x ∷ xs) y = slice_get-seam xs y
 
 -- one more placement with its reply, where what may come to the placements before it may come still
 replies_go_on : (calls : Calls) (may_come : MayCome) (history : List Placed) (answered : List Reply) (p : Placed) (call : Call) (reply : Reply)
@@ -101,8 +90,8 @@ replies_go_on calls may_come history answered p call reply stays so_far is answe
       (λ ge.
       let within : place < length (history ++ p ∷ []) = slice_get_within (history ++ p ∷ []) place q at_q in
       let last : place ≡ length history = omega (arith, length_push history p) in
-      let is_p : p ≡ q = some_same p q (sym (slice_get-seam history p) ∙ ap (slice_get (history ++ p ∷ [])) (sym last) ∙ at_q) in
-      let is_reply : reply ≡ r = some_same reply r (sym (slice_get-seam answered reply) ∙ ap (slice_get (answered ++ reply ∷ [])) (so_far.count ∙ sym last) ∙ at_r) in (
+      let is_p : p ≡ q = same_Some p q (sym (slice_get-seam history p) ∙ ap (slice_get (history ++ p ∷ [])) (sym last) ∙ at_q) in
+      let is_reply : reply ≡ r = same_Some reply r (sym (slice_get-seam answered reply) ∙ ap (slice_get (answered ++ reply ∷ [])) (so_far.count ∙ sym last) ∙ at_r) in (
         call,
         ap (call_at calls) (sym is_p) ∙ is,
         subst (λ k. may_come (history ++ p ∷ []) k q call r) (sym last)

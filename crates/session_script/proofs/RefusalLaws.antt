@@ -3,7 +3,7 @@ use Rattle.std.proofs.Common.{◌≡◌, ◌⊎◌, inl, inr, ℕ, ◌+◌, ◌<
 use Rattle.std.specs.Prelude.{Option, Result, ◌||◌, not, nat_le, nat_lt}
 use Rattle.std.specs.List.{AllByRecursion, list_any}
 use Rattle.std.specs.Str.{IsUtf8, is_utf8}
-use Rattle.std.proofs.lemmas.Bool.{leb-true, leb-false, ltb-true, ltb-false}
+use Rattle.std.proofs.lemmas.Bool.{leb-true, leb-false, ltb-true, ltb-false, or_parts}
 use Rattle.std.proofs.lemmas.List.Splits.{length-slice_split}
 use Rattle.std.proofs.lemmas.Str.{IsUtf8-from_is_utf8, is_utf8-from_IsUtf8}
 use Rattle.plain_tree.specs.declared.calls.Call.{Call}
@@ -36,13 +36,9 @@ no_number w is h = let some : number_of w ≡ Some h.0 = number_only w h.0 h.1 i
 no_bytes : (w : List ℕ) → bytes_of w ≡ None → (bytes : List ℕ) × SpellsBytes w bytes → ⊥
 no_bytes w is h = let some : bytes_of w ≡ Some h.0 = bytes_only w h.0 h.1 in cc
 
-neither : (a b : Bool) → (a || b) ≡ false → (a ≡ false) × (b ≡ false)
-neither true b h = cc
-neither false b h = (refl, h)
-
 all_full : (words : List (List ℕ)) → list_any is_empty words ≡ false → AllByRecursion (λ w. 1 ≤ length w) words
 all_full [] h = tt
-all_full (w ∷ words) h = let both = neither (is_empty w) (list_any is_empty words) h in (not_empty w both.0, all_full words both.1)
+all_full (w ∷ words) h = let both = or_parts (is_empty w) (list_any is_empty words) h in (not_empty w both.0, all_full words both.1)
 
 pub none_empty : (words : List (List ℕ)) → AllByRecursion (λ w. 1 ≤ length w) words → list_any is_empty words ≡ false
 none_empty [] h = refl

@@ -4,19 +4,10 @@ use Rattle.std.specs.Prelude.{slice_get, filter}
 use Rattle.std.specs.Option.{option_map}
 use Rattle.std.proofs.lemmas.List.{length_push, get_or_append_left, get_or_push, get_or-set_same, get_or-set_other, length-set, take-append-le, take_at, get_or-replicate, get_or_default}
 use Rattle.std.proofs.lemmas.Bool.{cases_lt, cases_eq, eq-eqb}
-use Rattle.session_script.specs.Bounds.{most_sessions}
+use Rattle.tape_types.proofs.Lists.{slice_get-append, slice_get-seam}
 use Rattle.session_script.specs.declared.scripts.ScriptLine.{ScriptLine}
 use Rattle.session_script.specs.Grammar.{calls_of}
 use Rattle.session_script.specs.Sessions.{nth_at, greatest_session, HasSessions, places_from, IsIndexed}
-
-slice_get_left : {X : Type 0} (a b : List X) (k : ℕ) → k < length a → slice_get (a ++ b) k ≡ slice_get a k
-slice_get_left [] b k lt = absurd (omega arith)
-slice_get_left (x ∷ a) b zero lt = refl
-slice_get_left (x ∷ a) b (suc k) lt = slice_get_left a b k (omega arith)
-
-slice_get_end : {X : Type 0} (a : List X) (x : X) → slice_get (a ++ x ∷ []) (length a) ≡ Some x
-slice_get_end [] x = refl
-slice_get_end (y ∷ a) x = slice_get_end a x
 
 pub calls_more : (a : List ScriptLine) (l : ScriptLine) (who : ℕ) → calls_of (a ++ l ∷ []) who ≡ calls_of a who ++ cond (eqb l.who who) (l.call ∷ []) []
 calls_more [] l who = at (eqb l.who who)
@@ -133,12 +124,12 @@ no_calls (x ∷ a) who has out =
 
 pub nth_at-old : (a : List ScriptLine) (l : ScriptLine) (k : ℕ) → k < length a → nth_at (a ++ l ∷ []) k ≡ nth_at a k
 nth_at-old a l k lt =
-    ap (λ o. unwrap_or (option_map (λ (line : ScriptLine). length (calls_of (take k (a ++ l ∷ [])) line.who)) o) 0) (slice_get_left a (l ∷ []) k lt)
+    ap (λ o. unwrap_or (option_map (λ (line : ScriptLine). length (calls_of (take k (a ++ l ∷ [])) line.who)) o) 0) (slice_get-append a (l ∷ []) k lt)
     ∙ ap (λ s. unwrap_or (option_map (λ (line : ScriptLine). length (calls_of s line.who)) (slice_get a k)) 0) (take-append-le k a (l ∷ []) (omega arith))
 
 pub nth_at-new : (a : List ScriptLine) (l : ScriptLine) → nth_at (a ++ l ∷ []) (length a) ≡ length (calls_of a l.who)
 nth_at-new a l =
-    ap (λ o. unwrap_or (option_map (λ (line : ScriptLine). length (calls_of (take (length a) (a ++ l ∷ [])) line.who)) o) 0) (slice_get_end a l)
+    ap (λ o. unwrap_or (option_map (λ (line : ScriptLine). length (calls_of (take (length a) (a ++ l ∷ [])) line.who)) o) 0) (slice_get-seam a l)
     ∙ ap (λ s. length (calls_of s l.who)) (take_at a (l ∷ []) (length a) refl)
 
 greatest-more : (a : List ScriptLine) (l : ScriptLine) → greatest_session (a ++ l ∷ []) ≡ max (greatest_session a) l.who

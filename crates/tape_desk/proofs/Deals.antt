@@ -2,6 +2,7 @@
 use Rattle.std.specs.Prelude.{ℕ, zero, suc, ◌≡◌, ◌≤◌, ◌<◌, ◌+◌, ◌-◌, List, [], ◌∷◌, ◌++◌, length, Some, slice_index_or}
 use Rattle.std.proofs.Common.{refl, sym, ap, subst, ◌∙◌, arith}
 use Rattle.std.proofs.lemmas.List.{length_push, same_from_push}
+use Rattle.std.proofs.lemmas.Option.{same_Some}
 use Rattle.atomic_table.specs.Seated.{TableId}
 use Rattle.session_script.specs.Grammar.{calls_of}
 use Rattle.session_script.specs.Sessions.{greatest_session}
@@ -16,9 +17,6 @@ use Rattle.tape_desk.specs.Dealing.{AreCounts, AreDealtAfter, CanBegin, CanDeal,
 numbers_length : (n : ℕ) → length (numbers_to n) ≡ n
 numbers_length zero = refl
 numbers_length (suc n) = omega (arith, numbers_length n, length_push (numbers_to n) (suc n))
-
-some_is : {F : Type 0} (f g : F) → Some f ≡ Some g → f ≡ g
-some_is f g e = cc e
 
 abbrev Whole : Type 0 → Type 0
 Whole D = PassView Mark (Fixed D)
@@ -163,7 +161,7 @@ module _ {D : Type 0} where
           → (fixed : Fixed D) → first.fixed ≡ Some fixed → AreDealt lock sessions fixed qs
       all_dealt qs x is begun fixed known =
           let same : has.can.fixed ≡ fixed =
-          some_is has.can.fixed fixed (sym (ap (λ (p : Whole D). p.fixed) has.can.whole_is) ∙ known) in
+          same_Some has.can.fixed fixed (sym (ap (λ (p : Whole D). p.fixed) has.can.whole_is) ∙ known) in
           let from : AreDealtAfter lock sessions has.can.fixed 0 (view_of whole n 0 ∷ ps) =
           subst (λ (k : ℕ). AreDealtAfter lock sessions has.can.fixed k (view_of whole n 0 ∷ ps))
           (let h : n - 1 ≡ 0 = omega (arith, one_is) in h) (dealt_before whole left_is) in

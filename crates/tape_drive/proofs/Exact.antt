@@ -33,6 +33,7 @@ gives_past held es image h =
       state = record { vcr = refl; note_ip = refl; note_dp = refl };
     })
 
+-- two cartridges with the same items, reference and notes are one
 pub same_cartridge : (c d : Cartridge) → c.ip ≡ d.ip → c.dp ≡ d.dp → c.vcr ≡ d.vcr → c.note_ip ≡ d.note_ip → c.note_dp ≡ d.note_dp → c ≡ d
 same_cartridge c d ip dp vcr n m =
     ap (λ (l : List Item). reads_as l c.dp c.vcr c.note_ip c.note_dp) ip

@@ -1,12 +1,12 @@
 -- That the texts of the paths of a tree's nodes are made one from another.
-use Rattle.std.proofs.Common.{◌≡◌, T, Bool, true, false, Option, ℕ, zero, suc, ◌+◌, ◌<◌, List, [], ◌∷◌, ◌++◌, codes, decimal, length, take, map, get_or, Some, inl, inr, ◌⊎◌, sym, ap, ◌∙◌, refl, arith, append_assoc, length-append}
+use Rattle.std.proofs.Common.{◌≡◌, T, Bool, true, false, ℕ, zero, suc, ◌+◌, ◌<◌, List, [], ◌∷◌, ◌++◌, codes, decimal, length, take, map, get_or, Some, inl, inr, ◌⊎◌, sym, ap, ◌∙◌, refl, arith, append_assoc, length-append}
 use Rattle.std.specs.List.{slice_get}
 use Rattle.std.specs.FinMap as fin
 use Rattle.std.specs.Ordering.{is_lt}
 use Rattle.std.proofs.Math.Seq.{take-append_seam}
 use Rattle.std.proofs.lemmas.Grind.{flat_map-append}
 use Rattle.std.proofs.lemmas.List.{get_or-map, get_or-take, length-map, length-take-le, map_more}
-use Rattle.std.proofs.lemmas.Option.{get_or_from_slice_get, slice_get_within}
+use Rattle.std.proofs.lemmas.Option.{get_or_from_slice_get, slice_get_within, same_Some}
 use Rattle.index_model.specs.declared.nodes.Node as told
 use Rattle.index_model.specs.declared.nodes.Kind as told_kind
 use Rattle.index_model.specs.declared.nodes.Kind.TheVariants as told_kinds
@@ -21,9 +21,6 @@ use Rattle.plain_tree.proofs.MoveLemmas.{both_true}
 use Rattle.session_script.specs.Escapes.{escaped}
 use Rattle.tree_listing.specs.Listing.{line_of, line_of_kind, names_text, path_text, AreNodesOf, Tells, TellsKind}
 use Rattle.tree_listing.specs.Steps.{AreWalked, next_names, shown, told_line, told_line_of}
-
-some_same : {X : Type 0} (x y : X) → ◌≡◌ {A = Option X} (Some x) (Some y) → x ≡ y
-some_same x y e = cc
 
 whole_list : {X : Type 0} (l : List X) → l ++ [] ≡ l
 whole_list [] = refl
@@ -59,7 +56,7 @@ root_least (x ∷ k) less = cc
 never_root : (es : List (Path × Node)) (k : Path) (i : ℕ) (e : Path × Node) → fin.Entries.below_all path_cmp k es ≡ true → slice_get es i ≡ Some e → e.0 ≡ [] → ⊥
 never_root [] k i e below is root = cc
 never_root (f ∷ es) k zero e below is root =
-    root_least k (sym (ap (λ (q : Path). is_lt (path_cmp k q)) (ap (λ (r : Path × Node). r.0) (some_same f e is) ∙ root)) ∙ (both_true (is_lt (path_cmp k f.0)) (fin.Entries.below_all path_cmp k es) below).0)
+    root_least k (sym (ap (λ (q : Path). is_lt (path_cmp k q)) (ap (λ (r : Path × Node). r.0) (same_Some f e is) ∙ root)) ∙ (both_true (is_lt (path_cmp k f.0)) (fin.Entries.below_all path_cmp k es) below).0)
 never_root (f ∷ es) k (suc i) e below is root = never_root es k i e (both_true (is_lt (path_cmp k f.0)) (fin.Entries.below_all path_cmp k es) below).1 is root
 
 not_root : (es : List (Path × Node)) (i : ℕ) (e : Path × Node) → fin.is_sorted path_cmp es ≡ true → 0 < i → slice_get es i ≡ Some e → e.0 ≡ [] → ⊥
@@ -122,13 +119,13 @@ module _ (nodes : List told.Node) (order : AreInOrder nodes) (tree : Tree) (are 
   first_path node e is at = by (by_last e.0)
     where
       top : node.parent ≡ 0
-      top = ap (λ (n : told.Node). n.parent) (some_same node order.root (sym is ∙ order.first)) ∙ order.is_root.parent
+      top = ap (λ (n : told.Node). n.parent) (same_Some node order.root (sym is ∙ order.first)) ∙ order.is_root.parent
 
       by : (e.0 ≡ []) ⊎ ((p : Path) × (x : List ℕ) × (e.0 ≡ p ++ x ∷ [])) → e.0 ≡ []
       by (inl none) = none
       by (inr (p, x, path)) =
           let dir = (are.each 0 node e is at).parent p x path in
-          let same : p ≡ e.0 = ap (λ (r : Path × Node). r.0) (some_same (p, dir.0) e (sym dir.1 ∙ ap (slice_get es) top ∙ at)) in
+          let same : p ≡ e.0 = ap (λ (r : Path × Node). r.0) (same_Some (p, dir.0) e (sym dir.1 ∙ ap (slice_get es) top ∙ at)) in
           absurd (omega (arith, ap length same, ap length path, length-append p (x ∷ [])))
 
   -- a node behind the first, by its path
@@ -154,10 +151,10 @@ module _ (nodes : List told.Node) (order : AreInOrder nodes) (tree : Tree) (are 
 
   goes_on : (at upper : ℕ) → LiesIn nodes at upper → (p q : Path) (x y : Node) → slice_get es at ≡ Some (p, x) → slice_get es upper ≡ Some (q, y) → (rest : Path) × (p ≡ q ++ rest)
   goes_on _ _ (itself at) p q x y is_p is_q =
-      ([], ap (λ (r : Path × Node). r.0) (some_same (p, x) (q, y) (sym is_p ∙ is_q)) ∙ sym (whole_list q))
+      ([], ap (λ (r : Path × Node). r.0) (same_Some (p, x) (q, y) (sym is_p ∙ is_q)) ∙ sym (whole_list q))
   goes_on _ _ (through at upper node some is lies) p q x y is_p is_q =
       let l = later at node some is in
-      let path : p ≡ l.u ++ l.x ∷ [] = ap (λ (r : Path × Node). r.0) (some_same (p, x) (l.u ++ l.x ∷ [], l.n) (sym is_p ∙ l.is)) in
+      let path : p ≡ l.u ++ l.x ∷ [] = ap (λ (r : Path × Node). r.0) (same_Some (p, x) (l.u ++ l.x ∷ [], l.n) (sym is_p ∙ l.is)) in
       let more = goes_on node.parent upper lies l.u q l.dir y l.above is_q in
       (more.0 ++ l.x ∷ [], path ∙ ap (λ u. u ++ l.x ∷ []) more.1 ∙ append_assoc q more.0 (l.x ∷ []))
 
@@ -223,5 +220,5 @@ module _ (nodes : List told.Node) (order : AreInOrder nodes) (tree : Tree) (are 
         begins = λ none. absurd (omega (arith, none));
         last = λ k e same is.
             let here : at ≡ k = omega (arith, same) in
-            n.text ∙ ap (λ (r : Path × Node). names_text r.0) (some_same n.e e (sym n.is ∙ ap (slice_get es) here ∙ is));
+            n.text ∙ ap (λ (r : Path × Node). names_text r.0) (same_Some n.e e (sym n.is ∙ ap (slice_get es) here ∙ is));
       }

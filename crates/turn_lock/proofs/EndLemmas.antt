@@ -1,5 +1,7 @@
 -- How the lock begins, and how it ends.
 use Rattle.std.proofs.Common.{◌≡◌, ◌≢◌, ℕ, zero, suc, ◌^◌, ◌<◌, false, List, [], ◌∷◌, length, Option, Some, sym, refl, ap, ◌∙◌, subst, arith}
+use Rattle.std.proofs.lemmas.Option.{same_Some}
+use Rattle.std.proofs.lemmas.Bool.{false_from_ne_true}
 use mathlib.Core.Option.{some, some-injective, some-ne-none}
 use mathlib.Core.Logic.{dite}
 use native.Mathlib.Decide.{ℕ_discrete}
@@ -12,7 +14,7 @@ use Rattle.turn_lock.specs.Knowing.{owns, owns_times, calm, IsCalm}
 use Rattle.turn_lock.specs.Rule.{Fits, IsKept}
 use Rattle.turn_lock.proofs.SumLemmas.{total_two, total_one, numbers_length, no_length}
 use Rattle.turn_lock.proofs.HistoryLemmas.{sees_all, sees_whole}
-use Rattle.turn_lock.proofs.RuleLemmas.{no_some, same_fixed, not_true, not_both, has_some}
+use Rattle.turn_lock.proofs.RuleLemmas.{no_some, not_both, has_some}
 
 nothing_joined : {P : Type 0} → 0 < 0 → P
 nothing_joined lt = absurd (omega (arith, lt))
@@ -67,7 +69,7 @@ module _ {T M F : Type 0} (history : T → List M) (fixed : T → F) (names : M 
 
   -- and none is served
   none_served : (s : State (Option T) V) (k : Rule s) (id : ℕ) (m : Me (Option T) V) → IsCalm m → get_elem? s.views id ≡ some m.0 → length m.0.numbers ≡ seats → (i : ℕ) (u : V) → get_elem? s.views i ≡ some u → u.served ≡ false
-  none_served s k id m still at all i u there = not_true u.served (λ up. dite (ℕ_discrete i id)
+  none_served s k id m still at all i u there = false_from_ne_true u.served (λ up. dite (ℕ_discrete i id)
       (λ same. not_both u.served up (ap (λ (z : V). z.served) (some-injective u m.0 (sym there ∙ (ap (get_elem? s.views) same ∙ at))) ∙ still.unserved))
       (λ ne. let r = k.each i u there in let e = r.entitled in let z = others_have_none s k id m.0 at all still.none_joined i u ne there in let one = has_some u.ticket k.serving (r.turn up).0 in absurd (omega (arith, e, z, one))))
 
@@ -85,4 +87,4 @@ module _ {T M F : Type 0} (history : T → List M) (fixed : T → F) (names : M 
 
   pub closed_state : (id : ℕ) (m : Me (Option T) V) (words : List ℕ) (xs : List (Option T)) (slot : Option T) (y : T) → IsCalm m → length m.0.numbers ≡ m.0.seats → Final (Seen Rule id m.0) words xs → get_elem? xs 0 ≡ some slot → slot ≡ Some y
       → (m.0.fixed ≡ Some (fixed y)) × (history y ≡ m.0.seen)
-  closed_state id m words xs slot y still all last there is = let r = closed id m words xs slot still all last there in let same : r.0 ≡ y = same_fixed r.0 y (sym r.1 ∙ is) in subst (λ (z : T). (m.0.fixed ≡ Some (fixed z)) × (history z ≡ m.0.seen)) same (r.2, r.3)
+  closed_state id m words xs slot y still all last there is = let r = closed id m words xs slot still all last there in let same : r.0 ≡ y = same_Some r.0 y (sym r.1 ∙ is) in subst (λ (z : T). (m.0.fixed ≡ Some (fixed z)) × (history z ≡ m.0.seen)) same (r.2, r.3)

@@ -7,6 +7,7 @@ use mathlib.Core.Logic.{dite}
 use native.Mathlib.Decide.{ℕ_discrete}
 use lib.ListN.{get_elem?}
 use Rattle.std.proofs.lemmas.Bool.Decides.{nat_tests}
+use Rattle.std.proofs.lemmas.Bool.{false_from_ne_true}
 use Rattle.atomic_table.specs.Table.{State, Me}
 use Rattle.atomic_table.proofs.Lists.{at_set, set_else}
 use Rattle.turn_lock.specs.declared.rule.Knowledge.{Knowledge}
@@ -17,18 +18,8 @@ use Rattle.turn_lock.specs.Rule.{has, holds_ticket, Fits, IsHome, IsKept}
 use Rattle.turn_lock.proofs.SumLemmas.{total_set, total_two, total_le, number_within, number_at_most_once}
 use Rattle.turn_lock.proofs.HistoryLemmas.{sees_more, adds_anothers}
 
-pub same_some : (n m : ℕ) → Some n ≡ Some m → n ≡ m
-same_some n m e = cc e
-
 pub no_some : (m : ℕ) → None ≡ Some m → ⊥
 no_some m e = cc e
-
-pub same_fixed : {F : Type 0} (f g : F) → Some f ≡ Some g → f ≡ g
-same_fixed f g e = cc e
-
-pub not_true : (b : Bool) → (b ≡ true → ⊥) → b ≡ false
-not_true true h = absurd (h refl)
-not_true false h = refl
 
 pub not_both : (b : Bool) → b ≡ true → b ≡ false → ⊥
 not_both b t f = let e : true ≡ false = sym t ∙ f in cc e
@@ -117,7 +108,7 @@ module _ {T M F : Type 0} (history : T → List M) (fixed : T → F) (names : M 
 
   -- nor is the one that waits for it
   pub all_unserved : (s : St) (k : Rule s) (id n : ℕ) (m : Me (Option T) V) → IsWaiting n m → get_elem? s.views id ≡ some m.0 → k.serving ≡ n → (i : ℕ) (u : V) → get_elem? s.views i ≡ some u → u.served ≡ false
-  all_unserved s k id n m wait at e i u there = not_true u.served (λ up. dite (ℕ_discrete i id)
+  all_unserved s k id n m wait at e i u there = false_from_ne_true u.served (λ up. dite (ℕ_discrete i id)
       (λ same. not_both u.served up (ap (λ (z : V). z.served) (some-injective u m.0 (sym there ∙ (ap (get_elem? s.views) same ∙ at))) ∙ wait.unserved))
       (λ ne. other_unserved s k id m.0 at (wait.ticket ∙ ap (λ (z : ℕ). Some z) (sym e)) i u ne there up))
 

@@ -7,6 +7,7 @@ use native.Mathlib.Decide.{ℕ_discrete}
 use lib.ListN.{get_elem?}
 use lib.Seq.{set-get_or}
 use Rattle.std.proofs.lemmas.Bool.Decides.{nat_tests}
+use Rattle.std.proofs.lemmas.Option.{same_Some}
 use Rattle.atomic_table.specs.Table.{State, Me, step, keeps, takes, gives, stepped, Allows}
 use Rattle.atomic_table.proofs.Lists.{set_here, set_again}
 use Rattle.turn_lock.specs.declared.rule.Knowledge.{Knowledge}
@@ -16,7 +17,7 @@ use Rattle.turn_lock.specs.Rule.{has, holds_ticket, Fits, IsKept}
 use Rattle.turn_lock.specs.Steps.{Turns, draws, looks, counts, ends}
 use Rattle.turn_lock.proofs.SumLemmas.{total_set, total_zero}
 use Rattle.turn_lock.proofs.HistoryLemmas.{sees_all, sees_own}
-use Rattle.turn_lock.proofs.RuleLemmas.{same_some, no_some, same_fixed, not_both, holds_none, has_some, few_tickets, moved, still_apart, alone, unserved_before, not_home, other_unserved, all_unserved, no_more, others_see}
+use Rattle.turn_lock.proofs.RuleLemmas.{no_some, not_both, holds_none, has_some, few_tickets, moved, still_apart, alone, unserved_before, not_home, other_unserved, all_unserved, no_more, others_see}
 
 pub same_state : {T : Type 0} (x y : T) → ◌≡◌ {A = List (ℕ × Option T)} ((0, Some x) ∷ []) ((0, Some y) ∷ []) → x ≡ y
 same_state {T} x y e = let p : ◌≡◌ {A = ℕ × Option T} (0, Some x) (0, Some y) = cc e in let q : Some x ≡ Some y = ap (λ (z : ℕ × Option T). z.1) p in cc q
@@ -39,7 +40,7 @@ module _ {T M F : Type 0} (history : T → List M) (fixed : T → F) (names : M 
 
   draw_fits : (serving ticket : ℕ) (whole : List M) (v : V) → Fits names seats serving ticket whole f v → 0 < length v.numbers → serving ≤ ticket → Fits names seats serving (ticket + 1) whole f (drew v ticket)
   draw_fits a b whole v t some_number le = record {
-    ranged = λ n e. let same = same_some b n e in (omega (arith, le, same), omega (arith, same));
+    ranged = λ n e. let same = same_Some b n e in (omega (arith, le, same), omega (arith, same));
     entitled = omega (arith, some_number);
     sees = t.sees;
     sees_joined = λ lt. nothing_joined lt;
@@ -108,13 +109,13 @@ module _ {T M F : Type 0} (history : T → List M) (fixed : T → F) (names : M 
         takes 0 (Some x),
         h.1,
         turn_comes s k id n m x wait at now h.2,
-        λ j is. let same = same_some n j (sym wait.ticket ∙ is) in (
+        λ j is. let same = same_Some n j (sym wait.ticket ∙ is) in (
           (λ _. let sees : Sees names m.0.seats m.0.numbers m.0.seen (history x) = subst (λ (l : List M). Sees names m.0.seats m.0.numbers m.0.seen l) (sym h.2) (subst (λ (z : ℕ). Sees names z m.0.numbers m.0.seen k.whole) (sym q.1) (t.sees wait.some_number)) in
               record { state = x; known = refl; slot = refl; same = q.0 ∙ ap (λ (z : F). Some z) (sym h.3); sees = sees; own = sees_own names m.0.seats m.0.numbers m.0.seen (history x) sees }),
           λ other. absurd (other (e ∙ same)),
         ),
       ))
-      (λ ne. (m.0, keeps, tt, unmoved s k 1 id m.0 at, λ j is. let same = same_some n j (sym wait.ticket ∙ is) in ((λ e. absurd (ne (e ∙ sym same))), λ _. refl)))
+      (λ ne. (m.0, keeps, tt, unmoved s k 1 id m.0 at, λ j is. let same = same_Some n j (sym wait.ticket ∙ is) in ((λ e. absurd (ne (e ∙ sym same))), λ _. refl)))
 
   pub counts_keeps : (id new : ℕ) (m : Mine) (x : T) → HasTurn (Some x) m → new ≡ length (history x) → AddsOwn names m.0.numbers m.0.seen (history x) → Allows Rule 1 id m 2 (λ _. new) (λ _. counts history (step 1 2 new 0 none) m new)
   counts_keeps id new m x turn long adds s k one at small =
@@ -134,7 +135,7 @@ module _ {T M F : Type 0} (history : T → List M) (fixed : T → F) (names : M 
   pub ends_keeps : (id : ℕ) (m : Mine) (x : T) → HasTurn (Some x) m → m.0.seen ≡ history x → m.0.fixed ≡ Some (fixed x) → Allows Rule 1 id m 1 (λ j. (j + 1) % 2 ^ 64) (ends (step 1 1 1 0 none) m)
   ends_keeps id m x turn hist fix s k one at small =
       let v : V = m.0 in let w : V = ended v in let t = k.each id v at in let mine = t.turn turn.served in let three = k.three_words in let one_slot = k.one_slot in let no = no_more history fixed names seats f v turn.none_joined in
-      let now : k.serving ≡ turn.n = same_some k.serving turn.n (sym mine.0 ∙ turn.ticket) in let low = turn.low in
+      let now : k.serving ≡ turn.n = same_Some k.serving turn.n (sym mine.0 ∙ turn.ticket) in let low = turn.low in
       let found : get_or s.words 1 0 ≡ k.serving = k.serving_is in
       let new : ℕ = (get_or s.words 1 0 + 1) % 2 ^ 64 in
       let new_is : new ≡ k.serving + 1 = omega (arith, found, now, low) in
@@ -156,7 +157,7 @@ module _ {T M F : Type 0} (history : T → List M) (fixed : T → F) (names : M 
               turn = λ up. absurd (other_unserved history fixed names seats f s k id v at mine.0 i u ne there up);
             })
             record { ranged = λ j e. absurd (no_some j e); entitled = omega arith; sees = t.sees; sees_joined = λ lt. nothing_joined lt; same = t.same; same_joined = λ lt. nothing_joined lt; turn = λ up. absurd (not_both false up refl) }
-            (λ _. (x, set_here s.homes 0 (some (Some x)) (omega arith), sym hist ∙ mine.1, same_fixed (fixed x) f (sym fix ∙ (t.same turn.some_number).0)))),
+            (λ _. (x, set_here s.homes 0 (some (Some x)) (omega arith), sym hist ∙ mine.1, same_Some (fixed x) f (sym fix ∙ (t.same turn.some_number).0)))),
         (refl, refl),
       )
 

@@ -1,5 +1,6 @@
 -- Whether both partitions of a cartridge tell the same is decided, where both are done.
 use Rattle.std.proofs.Common.{◌≡◌, true, List, [], ◌∷◌, Option, Some, None, sym, ap, subst, ◌∙◌}
+use Rattle.std.proofs.lemmas.Option.{same_Some}
 use Rattle.tape_types.specs.declared.cartridges.Cartridge.{Cartridge}
 use Rattle.plain_tree.specs.Tree.{Tree}
 use Rattle.extent_map.specs.Cells.{tape_of}
@@ -18,7 +19,6 @@ use Rattle.cartridge_meaning.specs.declared.mounted.Mounted.{Mounted}
 use Rattle.cartridge_meaning.proofs.Known.{Known, known_both, known_by}
 use Rattle.cartridge_meaning.proofs.OneTree.{tree_once}
 use Rattle.cartridge_meaning.proofs.OneWay.{same_index, same_labels, same_on_ip}
-use Rattle.crash_laws.proofs.Bridge.{some_same}
 use Rattle.volume_core.proofs.Built.{some_tree}
 use Rattle.volume_core.proofs.Equal.{told_facts, told_tree}
 use Rattle.volume_core.proofs.Still.{ip_is, on_dp_is}
@@ -28,7 +28,7 @@ last_valid : (label : Label) (ks dps : List Construct) (on_dp : Option Index) (x
     → IsLastOnIp label ks dps on_dp (Some x) → IsValid x
 last_valid label [] dps on_dp x h = absurd (let wrong : Some x ≡ None = h in cc)
 last_valid label (k ∷ older) dps on_dp x h =
-    subst (λ (y : Index). IsValid y) (some_same h.0 x (sym h.1)) (index_valid (text_of k) h.0 h.2.text)
+    subst (λ (y : Index). IsValid y) (same_Some h.0 x (sym h.1)) (index_valid (text_of k) h.0 h.2.text)
 
 -- whether an index tells a tree
 known_tree : (label : Label) (c : Cartridge) (index : Index) (tree : Tree) → IsValid index
@@ -77,7 +77,7 @@ module _ (c : Cartridge) (m : Mounted) (mounts : Mounts c m) (ip : m.ip_done ≡
   back : AreAlike c (carried m.index) tree m.newest → Same
   back h =
       let same : h.ip_index ≡ k.on_ip =
-      some_same h.ip_index k.on_ip (sym h.ip_last ∙ same_on_ip c h.found f ∙ k.last) in
+      same_Some h.ip_index k.on_ip (sym h.ip_last ∙ same_on_ip c h.found f ∙ k.last) in
       (h.ip_facts ∙ ap carried same, tree_there h.found h.ip_index k.on_ip same h.ip_tree)
 
   on_ip_valid : IsValid k.on_ip

@@ -1,8 +1,8 @@
 -- What is known of a volume that is closed.
-use Rattle.std.proofs.Common.{◌≡◌, ⊎_elim, ℕ, ◌==◌, ◌||◌, Bool, true, false, List, [], ◌∷◌, map, Option, Some, None}
+use Rattle.std.proofs.Common.{◌≡◌, ⊎_elim, ℕ, ◌==◌, ◌||◌, true, List, [], ◌∷◌, map, Option, Some, None}
 use Rattle.std.proofs.Common.{slice_get, refl, sym, ap, ◌∙◌, arith}
 use Rattle.std.specs.List.{list_any}
-use Rattle.std.proofs.lemmas.Bool.{eq-eqb}
+use Rattle.std.proofs.lemmas.Bool.{eq-eqb, or_right}
 use Rattle.std.proofs.lemmas.Option.{slice_get_cases, slice_get_within}
 use Rattle.tape_types.specs.declared.moments.Moment.{Moment}
 use Rattle.tape_drive.specs.declared.drive.Drive.{Ghosts}
@@ -23,10 +23,6 @@ use Rattle.volume_core.proofs.Admitted as admitted
 
 listed : (s : Waiter) (syncs : List Waiter) → list_any (λ (w : Waiter). w.ticket == s.ticket) (s ∷ syncs) ≡ true
 listed s syncs = ap (λ b. b || list_any (λ (w : Waiter). w.ticket == s.ticket) syncs) (eq-eqb s.ticket s.ticket refl)
-
-or_right : (a b : Bool) → b ≡ true → (a || b) ≡ true
-or_right true b is = refl
-or_right false b is = is
 
 module _ {D : Type 0} (drive : Ghosts D) (fixed : Fixed D) (next : Option Moment) (at : Moment) (p : Parts D)
     (can : CanClose drive fixed next at p) where

@@ -7,7 +7,7 @@ use Rattle.std.proofs.lemmas.List.{drop-append-le, drop-drop, drop-take, length-
 use Rattle.std.proofs.lemmas.List.Sums.{fold-append}
 use Rattle.std.proofs.lemmas.List.Folds.{list_any-append}
 use Rattle.std.proofs.lemmas.List.Elements.{filter_map-append}
-use Rattle.std.proofs.lemmas.Option.{slice_get-get_or}
+use Rattle.std.proofs.lemmas.Option.{slice_get-get_or, same_Some}
 use Rattle.tape_types.specs.declared.cartridges.Part.{Part}
 use Rattle.tape_types.specs.declared.cartridges.Part.TheVariants.{Ip, Dp}
 use Rattle.tape_types.specs.declared.cartridges.Place.{Place}
@@ -287,9 +287,6 @@ to_op_within (e ∷ events) =
       | false ↦ omega (arith, to_op_within events)
     ]
 
-some_same : {X : Type 0} (x y : X) → Some x ≡ Some y → x ≡ y
-some_same x y e = cc
-
 same_parts : (a b : Part) → same_part a b ≡ true → a ≡ b
 same_parts Ip Ip e = refl
 same_parts Ip Dp e = absurd cc
@@ -372,7 +369,7 @@ worked_at xs place old new flush walked may flush_is goes = by (has_first (drop 
           place = p;
           flush = is_last p.part (drop (to_op (drop old.first xs)) (drop old.first xs));
         } ≡ taken.op
-        = some_same _ _ (sym is.first ∙ ap (λ s. first_of (all_of s)) walked.ops ∙ taken.first) in
+        = same_Some _ _ (sym is.first ∙ ap (λ s. first_of (all_of s)) walked.ops ∙ taken.first) in
         let part : p.part ≡ place.part = ap (λ (o : Op). o.place.part) op_is ∙ taken.part in
         let flush_op : taken.op.flush ≡ flush
         = ap (λ (o : Op). o.flush) (sym op_is)

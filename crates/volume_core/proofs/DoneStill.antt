@@ -2,6 +2,7 @@
 use Rattle.std.proofs.Common.{◌≡◌, ◌≢◌, ◌⊎◌, inl, inr, ℕ, ◌+◌, not, Bool, true, false, List, [], ◌∷◌, ◌++◌, length, reverse}
 use Rattle.std.proofs.Common.{take, Option, Some, IfSome, refl, sym, ap, subst, ◌∙◌, append-nil, arith}
 use Rattle.std.proofs.lemmas.List.{take_all}
+use Rattle.std.proofs.lemmas.Option.{same_Some}
 use Rattle.tape_types.specs.declared.cartridges.Cartridge.{Cartridge}
 use Rattle.tape_types.specs.declared.cartridges.Item.{Item}
 use Rattle.tape_types.specs.declared.cartridges.Part.TheVariants.{Ip, Dp}
@@ -27,7 +28,6 @@ use Rattle.serving_promise.specs.Ends.{IsLeftApart}
 use Rattle.serving_promise.specs.Meanings.{cartridges}
 use Rattle.serving_promise.specs.Served.{Fixed, View, tree_after}
 use Rattle.held_volume.specs.Stocks.{Stocked}
-use Rattle.crash_laws.proofs.Bridge.{some_same}
 use Rattle.crash_laws.specs.Safe.{items_by}
 use Rattle.promise_laws.specs.Kept.{CanRead}
 use Rattle.order_laws.specs.Kept.{seen}
@@ -102,7 +102,7 @@ module _ {D : Type 0} (drive : Ghosts D) (fixed : Fixed D) (next : Option Moment
 
   -- its last index is the chosen one
   same_index : told.index ≡ mounts.found.index
-  same_index = some_same told.index mounts.found.index
+  same_index = same_Some told.index mounts.found.index
       (last_dp_once fixed.mounted.label (indexes_of c.dp) (Some told.index) (Some mounts.found.index)
       (subst (λ (l : List Item). IsLastOnDp fixed.mounted.label (indexes_of l) (Some told.index)) (sym dp_planned)
       told.reads)
@@ -230,7 +230,7 @@ module _ {D : Type 0} (drive : Ghosts D) (fixed : Fixed D) (next : Option Moment
               (tree_after v) older ks) (sym none) (record {
                 own = [];
                 links = ap indexes_of both.dp
-                    ∙ ap (λ (x : Cartridge). indexes_of x.dp) (some_same read.held first (sym read.told ∙ told));
+                    ∙ ap (λ (x : Cartridge). indexes_of x.dp) (same_Some read.held first (sym read.told ∙ told));
                 trees = tt;
               });
         },

@@ -3,6 +3,7 @@ use Rattle.std.specs.Prelude.{ℕ, ◌≡◌, cond, List, [], ◌∷◌, ◌++�
 use Rattle.std.proofs.Common.{refl, sym, ap, subst, ◌∙◌, append_assoc}
 use Rattle.std.proofs.Math.Seq.{set-append_seam}
 use Rattle.std.proofs.lemmas.Bool.{eq-eqb}
+use Rattle.tape_types.proofs.Lists.{slice_get-seam}
 use Rattle.tape_types.specs.declared.cartridges.Twin.{Twin}
 use Rattle.plain_tree.specs.declared.calls.Fate.TheVariants as fates
 use Rattle.plain_tree.specs.declared.calls.Placed.{Placed}
@@ -14,7 +15,6 @@ use Rattle.serving_promise.specs.Marks.{after, draining, mark, phase, placed_and
 use Rattle.serving_promise.specs.Steps.{without_session}
 use Rattle.serving_promise.specs.declared.marks.Kind.TheVariants as kinds
 use Rattle.serving_promise.specs.declared.marks.Mark.{Mark}
-use Rattle.order_laws.proofs.Lists.{at_end}
 use Rattle.order_laws.proofs.Marked.{phase_more}
 use Rattle.event_journal.specs.Placements.{Listed, or_none, there}
 use Rattle.event_journal.specs.Trails.{Journaled}
@@ -53,7 +53,7 @@ module _ (placed : Placed) (here : ℕ) (old mid : Listed) (here_is : here ≡ l
     (p : PlacesHere placed old mid) where
   pub none_yet : slice_get mid.replies here ≡ Some None
   none_yet = ap (λ (rs : List (Option Reply)). slice_get rs here) p.replies
-      ∙ ap (λ k. slice_get (old.replies ++ None ∷ []) k) (here_is ∙ sym p.each) ∙ at_end old.replies None
+      ∙ ap (λ k. slice_get (old.replies ++ None ∷ []) k) (here_is ∙ sym p.each) ∙ slice_get-seam old.replies None
 
   module _ (reply : Reply) (now : Listed) (r : Replies here reply mid now) where
     told_all : now.replies ≡ old.replies ++ Some reply ∷ []
@@ -64,7 +64,7 @@ module _ (placed : Placed) (here : ℕ) (old mid : Listed) (here_is : here ≡ l
     pub there_now : slice_get now.replies here ≡ Some (Some reply)
     there_now = ap (λ (rs : List (Option Reply)). slice_get rs here) told_all
         ∙ ap (λ k. slice_get (old.replies ++ Some reply ∷ []) k) (here_is ∙ sym p.each)
-        ∙ at_end old.replies (Some reply)
+        ∙ slice_get-seam old.replies (Some reply)
 
     pub waits_here : phase placed.who old.marks ≡ draining → phase placed.who now.marks ≡ waits here
     waits_here drains = ap (phase placed.who) (r.marks ∙ p.marks)

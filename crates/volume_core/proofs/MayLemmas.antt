@@ -1,6 +1,7 @@
 -- That each command of a close may be made.
 use Rattle.std.proofs.Common.{◌≡◌, ◌⊎◌, ◌≤◌, ⊎_elim, inl, inr, ℕ, Bool, List, [], ◌∷◌, Option, Some, None, refl, sym, subst, ◌∙◌}
 use Rattle.std.specs.Prelude.{Ok}
+use Rattle.std.proofs.lemmas.Option.{same_Some}
 use Rattle.coherency.specs.Notes.{HasValues}
 use Rattle.coherency.specs.declared.Coherency.{Coherency}
 use Rattle.tape_types.specs.declared.cartridges.Cartridge.{Cartridge}
@@ -32,9 +33,6 @@ use Rattle.volume_core.proofs.Crashing.{last_closes, mid_closing}
 use Rattle.volume_core.proofs.Keeping.{does_keep, note_keeps}
 use Rattle.volume_core.proofs.Mid.{admitted_ip}
 use Rattle.volume_core.proofs.Noting.{may_tell, note_rests, read_rests, read_step}
-
-some_same : (c d : Cartridge) → Some c ≡ Some d → c ≡ d
-some_same c d is = cc
 
 module _ {D : Type 0} (drive : Ghosts D) where
   -- what may be left of a drive that tells, from what might be left of it before
@@ -95,7 +93,7 @@ module _ {D : Type 0} (drive : Ghosts D) where
         close = record { planned = close.planned; view = close.view; allowed = close.allowed; closing = closing };
         rest = now.2;
         tells = subst (λ (d : Cartridge). MayTell d close.planned.labels.ip lasts)
-            (some_same now.0 c (sym now.1 ∙ told)) now.3;
+            (same_Some now.0 c (sym now.1 ∙ told)) now.3;
       })
       may
 
@@ -125,7 +123,7 @@ module _ {D : Type 0} (drive : Ghosts D) where
       let closing1 = (closes_are_safe drive).looked it.close.planned it.close.view [] old first it.close.closing
       read.held (λ held at. read_step drive old first (Ok vcr) held read) in
       let now = w.told b here in
-      let same : now.0 ≡ c = some_same now.0 c (sym now.1 ∙ told) in
+      let same : now.0 ≡ c = same_Some now.0 c (sym now.1 ∙ told) in
       subst (λ (d : Cartridge). AreNotesAllowed drive lasts second d × (vcr ≡ d.vcr)) same (
         record {
           close = record {

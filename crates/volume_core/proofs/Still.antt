@@ -2,6 +2,8 @@
 use Rattle.std.proofs.Common.{◌≡◌, ◌≢◌, ℕ, ◌+◌, ◌≤◌, ◌||◌, ◌&&◌, not, Bool, true, false, cond, nat_lt, List, [], ◌∷◌}
 use Rattle.std.proofs.Common.{◌++◌, Option, Some, None, refl, sym, ap, subst, ◌∙◌}
 use Rattle.std.specs.Option.{option_map}
+use Rattle.std.proofs.lemmas.Bool.{not-false}
+use Rattle.std.proofs.lemmas.Option.{same_Some}
 use Rattle.tape_types.specs.declared.cartridges.Cartridge.{Cartridge}
 use Rattle.tape_types.specs.declared.cartridges.Part.{Part}
 use Rattle.tape_types.specs.declared.cartridges.Part.TheVariants.{Ip, Dp}
@@ -31,7 +33,6 @@ use Rattle.volume_core.proofs.Admitted as admitted
 use Rattle.volume_core.proofs.Ended.{ends_at_last}
 use Rattle.volume_core.specs.May.{MayTell}
 use Rattle.volume_core.proofs.Unchanged.{unchanged}
-use Rattle.crash_laws.proofs.Bridge.{some_same}
 
 -- ---- the last indexes of a cartridge whose partitions are both done
 
@@ -43,7 +44,7 @@ not_both ip None some e = some refl
 not_both None (Some pos) some e = let none : None ≡ Some (on_part Dp pos) = e in cc
 not_both (Some at) (Some pos) some e =
     let both : Some (on_part Ip at) ≡ Some (on_part Dp pos) = e in
-    let differ : Ip ≡ Dp = ap (λ (p : Place). p.part) (some_same (on_part Ip at) (on_part Dp pos) both) in
+    let differ : Ip ≡ Dp = ap (λ (p : Place). p.part) (same_Some (on_part Ip at) (on_part Dp pos) both) in
     cc
 
 some_block : (ks : List Construct) → ks ≢ [] → last_block ks ≢ None
@@ -123,10 +124,6 @@ or_right : (a b : Bool) → (a || b) ≡ false → b ≡ false
 or_right false b is = is
 or_right true b is = absurd (let wrong : true ≡ false = is in cc wrong)
 
-not_false : (b : Bool) → not b ≡ false → b ≡ true
-not_false true is = refl
-not_false false is = absurd (let wrong : true ≡ false = is in cc wrong)
-
 done_first : (done admitted : Bool) → (not done && not admitted) ≡ false → admitted ≡ false → done ≡ true
 done_first true admitted is none = refl
 done_first false false is none = absurd (let wrong : true ≡ false = is in cc wrong)
@@ -163,7 +160,7 @@ module _ {D : Type 0} (drive : Ghosts D) (fixed : Fixed D) (next : Option Moment
   still_rest same none held told image left =
       let start = counts_now fixed.first fixed.since image read.reached (can.runs.closes.rests read same none image left) in
       let same_held = ((can.runs.closes.tape read).untouched same none).1 in
-      read.sure image start ∙ some_same read.held held (sym read.told ∙ sym same_held ∙ told)
+      read.sure image start ∙ same_Some read.held held (sym read.told ∙ sym same_held ∙ told)
 
   pub still : is_ip_due g (admitted.st1 drive fixed next at p).space ≡ false → IsStill drive fixed next at p
   still not_ip = by (is_dp_due g st.space) refl
@@ -186,7 +183,7 @@ module _ {D : Type 0} (drive : Ghosts D) (fixed : Fixed D) (next : Option Moment
             no_ops = ap (λ (l : List Op). l ++ admitted.asked drive fixed next at p) untouched.0
                 ∙ ap (λ (due : Bool). ops_of (rules g) on st.space (admitted.ask_by due (sync_text g st at))) is;
             held = untouched.1;
-            ip_done = not_false fixed.mounted.ip_done
+            ip_done = not-false fixed.mounted.ip_done
                 (or_right (admitted.st1 drive fixed next at p).space.admitted (not fixed.mounted.ip_done) not_ip);
             dp_done = done_first fixed.mounted.dp_done st.space.admitted
                 (or_right st.space.changed (not fixed.mounted.dp_done && not st.space.admitted) is) none;
