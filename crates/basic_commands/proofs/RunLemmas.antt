@@ -4,6 +4,7 @@ use Rattle.std.specs.Prelude.{Option, slice_get}
 use Rattle.std.proofs.lemmas.Bool.{cases_lt}
 use Rattle.std.proofs.lemmas.List.{length_push, map-append, take_all, take_more}
 use Rattle.std.proofs.lemmas.Option.{slice_get_within, get_or_from_slice_get, same_Some}
+use Rattle.plain_tree.proofs.HistoryLemmas.{replay_push}
 use Rattle.tape_types.proofs.Lists.{slice_get-append, slice_get-seam}
 use Rattle.tape_types.specs.declared.moments.Moment.{Moment}
 use Rattle.plain_tree.specs.History.{Calls, IsInterleaving, after_placement, replay}
@@ -17,7 +18,7 @@ use Rattle.session_script.specs.Replies.{AreReplies, IsPlainReply, IsReply}
 use Rattle.session_script.specs.declared.logs.Log.{Log}
 use Rattle.session_script.specs.declared.logs.Reply.{Reply}
 use Rattle.session_script.specs.declared.scripts.ScriptLine.{ScriptLine}
-use Rattle.session_script.proofs.HistoryLemmas.{call_at_line, interleaving_more, replay-push, replies_more}
+use Rattle.session_script.proofs.HistoryLemmas.{call_at_line, interleaving_more, replies_more}
 use Rattle.basic_commands.specs.Headline.{AreMoments, IsMoment, IsPlainRun}
 use Rattle.basic_commands.specs.Runs.{Gives}
 use Rattle.basic_commands.specs.Sessions.{after_fate, IsRunSoFar}
@@ -81,7 +82,7 @@ run_goes_on script k at gives now next tree left history longer answered more li
       count = length_push history p ∙ ap (λ n. n + 1) so_far.count;
       tree_is = leaves ∙ ap (after_fate p.fate line.call p.at) so_far.tree_is
           ∙ sym (placed_is (calls_of script) (replay (calls_of script) (empty_tree so_far.first) history) p.who p.nth p.at p.fate line.call called)
-          ∙ sym (replay-push (calls_of script) (empty_tree so_far.first) history p);
+          ∙ sym (replay_push (calls_of script) (empty_tree so_far.first) history p);
       lines = map-append (λ q. q.who) history (p ∷ []) ∙ ap (λ l. l ++ p.who ∷ []) so_far.lines ∙ ap (λ w. map (λ l. l.who) (take k script) ++ w ∷ []) who
           ∙ sym (ap (map (λ l. l.who)) grown ∙ map-append (λ l. l.who) (take k script) (line ∷ []));
       placed = subst (λ s. IsInterleaving (calls_of s) (history ++ p ∷ [])) (sym grown) (interleaving_more (take k script) line history p who nth so_far.placed);

@@ -2,7 +2,7 @@
 use Rattle.std.specs.Prelude.{◌≡◌, ◌==◌, ◌&&◌, ◌||◌, not, Bool, true, false, cond, List, [], ◌∷◌, ◌++◌, filter, fold, Some, None}
 use Rattle.std.specs.List.{list_any}
 use Rattle.std.proofs.Common.{⊎_elim, refl, sym, ap, subst, ◌∙◌}
-use Rattle.std.proofs.lemmas.Bool.{and_parts, both_ways, cases_Bool, eq-eqb, not-true, or_parts}
+use Rattle.std.proofs.lemmas.Bool.{and_parts, both_ways, cases_Bool, eq-eqb, not-true, or_parts, or_from}
 use Rattle.std.proofs.lemmas.List.Folds.{list_any-append}
 use Rattle.tape_types.specs.declared.cartridges.Part.{Part}
 use Rattle.tape_types.specs.declared.cartridges.Part.TheVariants.{Ip, Dp}
@@ -33,10 +33,6 @@ asks_flip a b =
     ∙ ap (λ c. a.ticket == b.ticket && (c && b.place.pos == a.place.pos)) (part_flip b.place.part a.place.part)
     ∙ ap (λ c. a.ticket == b.ticket && (same_part a.place.part b.place.part && c)) (eqb_flip b.place.pos a.place.pos)
 
-both_false : (a b : Bool) → a ≡ false → b ≡ false → (a || b) ≡ false
-both_false true b h k = absurd (cc)
-both_false false b h k = k
-
 none_kept : {X : Type 0} (p q : X → Bool) (xs : List X) → list_any p xs ≡ false → list_any p (filter q xs) ≡ false
 none_kept p q xs none = ⊎_elim (λ some. absurd (both_ways (list_any p xs) none (any_filter p q xs some))) (λ e. e) (cases_Bool (list_any p (filter q xs)))
 
@@ -55,7 +51,7 @@ once_more [] r none once = (refl, tt)
 once_more (x ∷ rs) r none once =
     let parts = or_parts (asks r.ticket r.place x) (list_any (asks r.ticket r.place) rs) none in (
       list_any-append (asks x.ticket x.place) rs (r ∷ [])
-          ∙ both_false (list_any (asks x.ticket x.place) rs) (asks x.ticket x.place r || false) once.0 (both_false (asks x.ticket x.place r) false (asks_flip x r ∙ parts.0) refl),
+          ∙ or_from (list_any (asks x.ticket x.place) rs) (asks x.ticket x.place r || false) once.0 (or_from (asks x.ticket x.place r) false (asks_flip x r ∙ parts.0) refl),
       once_more rs r parts.1 once.1,
     )
 
@@ -92,7 +88,7 @@ none_before [] r behind once = refl
 none_before (x ∷ front) r behind once =
     let parts = or_parts (list_any (asks x.ticket x.place) front) (asks x.ticket x.place r || list_any (asks x.ticket x.place) behind)
     (sym (list_any-append (asks x.ticket x.place) front (r ∷ behind)) ∙ once.0) in
-    both_false (asks r.ticket r.place x) (list_any (asks r.ticket r.place) front)
+    or_from (asks r.ticket r.place x) (list_any (asks r.ticket r.place) front)
     (asks_flip r x ∙ (or_parts (asks x.ticket x.place r) (list_any (asks x.ticket x.place) behind) parts.1).0) (none_before front r behind once.1)
 
 none_behind : (front : List Request) (r : Request) (behind : List Request) → Once (front ++ r ∷ behind)

@@ -1,16 +1,16 @@
 -- Submissions keep a volume safe.
 use Rattle.tape_layout.specs.Ops.{end_of}
 use Rattle.image_laws.specs.Plans.{IsDue, data_jobs, index_jobs}
-use Rattle.std.proofs.Common.{◌≡◌, ℕ, suc, ◌+◌, ◌-◌, ◌^◌, ◌<◌, Bool, true, false, cond, not, ◌&&◌, if◌then◌else◌, List, [], ◌∷◌, ◌++◌, length, map, None, refl, sym, ap, subst, ◌∙◌, arith, append_assoc, append-nil, length-append}
+use Rattle.std.proofs.Common.{◌≡◌, ℕ, ◌+◌, ◌-◌, ◌^◌, ◌<◌, Bool, true, false, cond, not, ◌&&◌, if◌then◌else◌, List, [], ◌∷◌, ◌++◌, length, map, None, refl, sym, ap, subst, ◌∙◌, arith, append_assoc, append-nil, length-append}
 use Rattle.std.specs.Prelude.{filter, filter_map, ◌==◌}
 use Rattle.std.specs.List.{AllByRecursion, fold}
 use Rattle.std.proofs.lemmas.Bool.{eq-eqb}
 use Rattle.std.proofs.lemmas.List.{length-map}
 use Rattle.std.proofs.lemmas.List.Elements.{filter-append, filter_map-append}
 use Rattle.std.proofs.lemmas.List.Sums.{fold-append}
+use Rattle.event_laws.proofs.LoadLaw.{flushes_long}
 use Rattle.tape_types.specs.declared.cartridges.Cartridge.{Cartridge}
 use Rattle.tape_types.specs.declared.cartridges.Part.TheVariants.{Ip, Dp}
-use Rattle.tape_types.specs.declared.cartridges.Place.{Place}
 use Rattle.tape_drive.specs.declared.drive.Drive.{Ghosts}
 use Rattle.tape_layout.specs.declared.ops.Op.{Op}
 use Rattle.plain_tree.specs.declared.calls.Placed.{Placed}
@@ -53,10 +53,6 @@ quiet_state old new added is quiet =
       done = ap (λ (st : State). st.done) (state_after old new added is) ∙ all.done;
       syncs = ap (λ (st : State). st.syncs) (state_after old new added is) ∙ all.syncs;
     }
-
-flushes_long : (ps : List Place) → length (with_flushes ps) ≡ length ps
-flushes_long [] = refl
-flushes_long (p ∷ ps) = ap (λ n. suc n) (flushes_long ps)
 
 -- the ops for which a sync waits
 abbrev ended_by : State → List waiting.Op

@@ -3,6 +3,7 @@ use Rattle.std.proofs.Common.{◌≡◌, ℕ, ◌+◌, ◌-◌, ◌<◌, ◌≤�
 use Rattle.std.specs.List.{filter}
 use Rattle.std.proofs.lemmas.Bool.Decides.{nat_tests}
 use Rattle.std.proofs.lemmas.List.Elements.{filter-append}
+use Rattle.std.proofs.lemmas.Bool.{lt-ltb, le-ltb}
 use Rattle.tape_types.specs.declared.cartridges.Extent.{Extent}
 use Rattle.extent_map.specs.Laid.{unless_empty, front_of, rest_of, before, past, cut, left_from, taken_out}
 use Rattle.extent_map.specs.Laws.{OverlaysTakeOut}
@@ -20,12 +21,6 @@ none_kept p x fails = by (eqb x.count 0) refl
     by : (b : Bool) → eqb x.count 0 ≡ b → filter p (cond b [] (x ∷ [])) ≡ []
     by true is = refl
     by false is = let some : 1 ≤ x.count = grind (arith, nat_tests) in ap (λ b. cond b (x ∷ []) []) (fails some)
-
-lower : (a b : ℕ) → a < b → ltb a b ≡ true
-lower a b h = grind (arith, nat_tests)
-
-not_lower : (a b : ℕ) → b ≤ a → ltb a b ≡ false
-not_lower a b h = grind (arith, nat_tests)
 
 upper : (a b : ℕ) → b ≤ a → leb b a ≡ true
 upper a b h = grind (arith, nat_tests)
@@ -45,8 +40,8 @@ module _ (size from end : ℕ) (order : from ≤ end) where
   lows (e ∷ es) =
       filter-append low (before from e ++ past size end e) (taken_out size from end es)
       ∙ ap (λ l. l ++ filter low (taken_out size from end es)) (filter-append low (before from e) (past size end e))
-      ∙ ap (λ l. l ++ filter low (past size end e) ++ filter low (taken_out size from end es)) (all_kept low (front_of (from - e.offset) e) (λ some. lower e.offset from (omega arith)))
-      ∙ ap (λ l. before from e ++ l ++ filter low (taken_out size from end es)) (none_kept low (rest_of size (end - e.offset) e) (λ some. not_lower (e.offset + (end - e.offset)) from (omega arith)))
+      ∙ ap (λ l. l ++ filter low (past size end e) ++ filter low (taken_out size from end es)) (all_kept low (front_of (from - e.offset) e) (λ some. lt-ltb e.offset from (omega arith)))
+      ∙ ap (λ l. before from e ++ l ++ filter low (taken_out size from end es)) (none_kept low (rest_of size (end - e.offset) e) (λ some. le-ltb (e.offset + (end - e.offset)) from (omega arith)))
       ∙ ap (λ l. l ++ filter low (taken_out size from end es)) (append-nil (before from e))
       ∙ ap (λ l. before from e ++ l) (lows es)
 

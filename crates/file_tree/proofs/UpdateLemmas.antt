@@ -1,9 +1,9 @@
 -- The map that is seen after each change of what is kept.
-use Rattle.std.proofs.Common.{◌⊎◌, ◌≡◌, ◌≢◌, ℕ, ◌<◌, true, false, cond, eqb, List, [], ◌∷◌, ◌++◌, length, drop, map, Some, None, is_some, sym, ap, ◌∙◌, refl, arith, inl, inr, ⊎_elim}
+use Rattle.std.proofs.Common.{◌⊎◌, ◌≡◌, ◌≢◌, ℕ, ◌<◌, true, false, cond, List, [], ◌∷◌, ◌++◌, length, drop, map, Some, None, is_some, sym, ap, ◌∙◌, refl, arith, inl, inr, ⊎_elim}
 use Rattle.std.specs.Option.{option_map}
 use Rattle.std.specs.FinMap as fin
-use Rattle.std.proofs.lemmas.Bool.Decides.{nat_tests}
 use Rattle.std.proofs.lemmas.List.{length-append, append-nil, append_assoc, drop_at}
+use Rattle.std.proofs.lemmas.Bool.{cases_eq}
 use Rattle.plain_tree.specs.Paths.{path_cmp, is_at_or_below, moved_path}
 use Rattle.plain_tree.proofs.MoveLemmas.{find_moved, back, below_split, below_join, not_true}
 use Rattle.plain_tree.proofs.NodeLemmas.{path_total}
@@ -16,12 +16,6 @@ use Rattle.file_tree.specs.Seen.{Held, IsShown, IsKept}
 use Rattle.name_tries.proofs.ItemLemmas.{some_same}
 use Rattle.file_tree.proofs.PathLemmas.{by_last, no_name, same_last, longer, get_here, get_other, gone_here, gone_other, is_or_not, has_it, number_is, node_at}
 use Rattle.file_tree.proofs.ShownLemmas.{spot, same_spot, root_number, dir_of, one_path, stands}
-
-same_or_not : (a b : ℕ) → (a ≡ b) ⊎ (a ≡ b → ⊥)
-same_or_not a b = elim (eqb a b) as (λ t. eqb a b ≡ t → (a ≡ b) ⊎ (a ≡ b → ⊥)) [
-  | true ↦ λ e. inl (grind (arith, nat_tests))
-  | false ↦ λ e. inr (λ same. grind (arith, nat_tests))
-] refl
 
 module _ (at next : Held) (m : Nodes) (s : IsShown at m) where
   -- a node more
@@ -93,13 +87,13 @@ module _ (at next : Held) (m : Nodes) (s : IsShown at m) where
           let same : spot d x node ≡ z = same_spot _ _ (sym put.here ∙ ap next (sym e) ∙ is) in
           ap (λ (w : Spot). w.node.number) (sym same) ∙ sym e)
           (λ other. s.numbered n z (sym (put.others n other) ∙ is))
-          (same_or_not n node.number);
+          (cases_eq n node.number);
       complete = λ n z is. ⊎_elim
           (λ (e : n ≡ node.number). has_it new q n (number_is new q node (get_here m q node) ∙ ap (λ k. Some k) (sym e)))
           (λ other.
           let found = stands at m s n z (sym (put.others n other) ∙ is) in
           has_it new found.0 n (numbers found.0 n (number_is m found.0 z.node found.1 ∙ ap (λ k. Some k) found.2)))
-          (same_or_not n node.number);
+          (cases_eq n node.number);
     }
 
   -- a node that has changed, but for its number
@@ -162,13 +156,13 @@ module _ (at next : Held) (m : Nodes) (s : IsShown at m) where
           let same : spot x.parent x.name node ≡ z = same_spot _ _ (sym put.here ∙ ap next (sym e) ∙ is) in
           ap (λ (w : Spot). w.node.number) (sym same) ∙ number ∙ sym e)
           (λ other. s.numbered n z (sym (put.others n other) ∙ is))
-          (same_or_not n old.number);
+          (cases_eq n old.number);
       complete = λ n z is. ⊎_elim
           (λ (e : n ≡ old.number). has_it changed q n (same_numbers q ∙ number_is m q old there ∙ ap (λ k. Some k) (sym e)))
           (λ other.
           let found = stands at m s n z (sym (put.others n other) ∙ is) in
           has_it changed found.0 n (same_numbers found.0 ∙ number_is m found.0 z.node found.1 ∙ ap (λ k. Some k) found.2))
-          (same_or_not n old.number);
+          (cases_eq n old.number);
     }
 
   -- a node less
@@ -210,7 +204,7 @@ module _ (at next : Held) (m : Nodes) (s : IsShown at m) where
       numbered = λ n z is. ⊎_elim
           (λ (e : n ≡ node.number). absurd (unlike (next n) z (ap next e ∙ put.here) is))
           (λ other. s.numbered n z (sym (put.others n other) ∙ is))
-          (same_or_not n node.number);
+          (cases_eq n node.number);
       complete = λ n z is. ⊎_elim
           (λ (e : n ≡ node.number). absurd (unlike (next n) z (ap next e ∙ put.here) is))
           (λ other.
@@ -218,7 +212,7 @@ module _ (at next : Held) (m : Nodes) (s : IsShown at m) where
           has_it less found.0 n (
           ap (option_map (λ (n : Node). n.number)) (gone_other m spot_path found.0 (λ e. other (sym found.2 ∙ ap (λ (w : Node). w.number) (some_same z.node node (sym found.1 ∙ ap (fin.get m) e ∙ there)))))
           ∙ number_is m found.0 z.node found.1 ∙ ap (λ k. Some k) found.2))
-          (same_or_not n node.number);
+          (cases_eq n node.number);
     }
 
 pub get_moved : (from to : List (List ℕ)) (m : Nodes) (q : List (List ℕ)) → ((x : List (List ℕ)) → is_at_or_below to x ≡ true → fin.get m x ≡ None)
@@ -375,11 +369,11 @@ module _ (at next : Held) (m : Nodes) (s : IsShown at m) (p u : List (List ℕ))
         let same : spot d y node ≡ z = same_spot _ _ (sym put.here ∙ ap next (sym e) ∙ is) in
         ap (λ (w : Spot). w.node.number) (sym same) ∙ sym e)
         (λ other. s.numbered n z (sym (put.others n other) ∙ is))
-        (same_or_not n node.number);
+        (cases_eq n node.number);
     complete = λ n z is. ⊎_elim
         (λ (e : n ≡ node.number). has_it after (moved_path from to from) n (number_after from n (number_is m from node there ∙ ap (λ k. Some k) (sym e))))
         (λ other.
         let found = stands at m s n z (sym (put.others n other) ∙ is) in
         has_it after (moved_path from to found.0) n (number_after found.0 n (number_is m found.0 z.node found.1 ∙ ap (λ k. Some k) found.2)))
-        (same_or_not n node.number);
+        (cases_eq n node.number);
   }

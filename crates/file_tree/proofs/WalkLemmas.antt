@@ -1,11 +1,11 @@
 -- Where paths lead in what is kept is what the map has.
-use Rattle.std.proofs.Common.{Option, ◌≡◌, ◌≢◌, ℕ, zero, suc, Bool, true, false, cond, ◌&&◌, not, eqb, nat_eq, List, [], ◌∷◌, ◌++◌, Some, None, sym, ap, ◌∙◌, refl, arith, Decides, slice_get}
+use Rattle.std.proofs.Common.{Option, ◌≡◌, ◌≢◌, ℕ, zero, suc, Bool, true, false, cond, ◌&&◌, not, eqb, nat_eq, List, [], ◌∷◌, ◌++◌, Some, None, sym, ap, ◌∙◌, refl, Decides, slice_get}
 use Rattle.std.specs.Cmp.{unsigned_Decides}
 use Rattle.std.specs.Cmp.Lexicographic.{pointwise}
 use Rattle.std.specs.FinMap as fin
-use Rattle.std.proofs.lemmas.Bool.Decides.{nat_tests}
 use Rattle.std.proofs.lemmas.Slice.Eq.{slice_eq-Decides}
 use Rattle.std.proofs.lemmas.List.{append-nil}
+use Rattle.std.proofs.lemmas.Bool.{eqb-true, eq-eqb, ne_eqb}
 use Rattle.plain_tree.proofs.MoveLemmas.{both_true}
 use Rattle.plain_tree.proofs.SeenLemmas.{unlike, snoc}
 use Rattle.file_tree.specs.declared.nodes.Node.{Node}
@@ -18,26 +18,17 @@ use Rattle.file_tree.proofs.ShownLemmas.{spot, dir_of, kept_at, stands, stands_i
 pub name_Decides : (x y : List ℕ) → Decides (pointwise nat_eq x y) (x ≡ y)
 name_Decides x y = slice_eq-Decides unsigned_Decides x y _ refl
 
-pub eq_is : (a b : ℕ) → eqb a b ≡ true → a ≡ b
-eq_is a b e = grind (arith, nat_tests)
-
-pub is_eq : (a b : ℕ) → a ≡ b → eqb a b ≡ true
-is_eq a b e = grind (arith, nat_tests)
-
-pub not_eq : (a b : ℕ) → a ≢ b → eqb a b ≡ false
-not_eq a b e = grind (arith, nat_tests)
-
 -- the test of a child, and what it says
 pub child_says : (dir : ℕ) (name : List ℕ) (z : Spot) → is_child dir name (Some z) ≡ true → (z.node.number ≢ 0) × (z.parent ≡ dir) × (z.name ≡ name)
 child_says dir name z is =
     let a = both_true (not (eqb z.node.number 0) && eqb z.parent dir) (pointwise nat_eq z.name name) is in
     let b = both_true (not (eqb z.node.number 0)) (eqb z.parent dir) a.0 in
-    (λ zero_is. let wrong : false ≡ true = sym (ap not (is_eq z.node.number 0 zero_is)) ∙ b.0 in cc, eq_is z.parent dir b.1, (name_Decides z.name name).0 a.1)
+    (λ zero_is. let wrong : false ≡ true = sym (ap not (eq-eqb z.node.number 0 zero_is)) ∙ b.0 in cc, eqb-true z.parent dir b.1, (name_Decides z.name name).0 a.1)
 
 pub says_child : (dir : ℕ) (name : List ℕ) (z : Spot) → z.node.number ≢ 0 → z.parent ≡ dir → z.name ≡ name → is_child dir name (Some z) ≡ true
 says_child dir name z some parent named =
-    ap (λ b. not b && eqb z.parent dir && pointwise nat_eq z.name name) (not_eq z.node.number 0 some)
-    ∙ ap (λ b. b && pointwise nat_eq z.name name) (is_eq z.parent dir parent) ∙ (name_Decides z.name name).1 named
+    ap (λ b. not b && eqb z.parent dir && pointwise nat_eq z.name name) (ne_eqb z.node.number 0 some)
+    ∙ ap (λ b. b && pointwise nat_eq z.name name) (eq-eqb z.parent dir parent) ∙ (name_Decides z.name name).1 named
 
 held_at : (spots : List (Option Spot)) (n : ℕ) (z : Spot) → slice_get spots n ≡ Some (Some z) → held spots n ≡ Some z
 held_at spots n z is = rw is refl

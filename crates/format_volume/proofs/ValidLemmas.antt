@@ -1,14 +1,13 @@
 -- The indexes of an empty volume are valid ones.
-use Rattle.std.proofs.Common.{ℕ, zero, suc, ◌≡◌, ◌≤◌, ◌<◌, ◌^◌, ◌∙◌, ◌&&◌, List, [], ◌∷◌, length, Bool, true}
+use Rattle.std.proofs.Common.{ℕ, zero, suc, ◌≡◌, ◌≤◌, ◌<◌, ◌^◌, ◌∙◌, ◌&&◌, List, [], ◌∷◌, length, Bool, true, false}
 use Rattle.std.proofs.Common.{Option, Some, None, refl, sym, ap, subst, arith, nat_le, not, IsAscii, All, IfSome}
 use Rattle.std.specs.List.{list_all}
-use Rattle.std.proofs.lemmas.Bool.{and_from, and_parts, not-true}
+use Rattle.std.proofs.lemmas.Bool.{and_from, and_parts}
 use Rattle.std.proofs.lemmas.Bool.Decides.{nat_tests}
 use Rattle.std.proofs.lemmas.List.Elements.{All-nil, All-cons}
 use Rattle.std.proofs.lemmas.Str.{IsUtf8-from_ascii, chars-IsAscii}
 use Rattle.std.proofs.lemmas.Str.Ascii.{IsAscii-from_all}
 use Rattle.std.specs.Str.{IsUtf8, chars}
-use Rattle.std.proofs.lemmas.Option.{none-some}
 use Rattle.doc_fields.specs.Texts.{is_allowed}
 use Rattle.index_model.specs.Extents.{AreFiles, IsFileAt}
 use Rattle.index_model.specs.Keys.{AreKeysApart}
@@ -18,6 +17,7 @@ use Rattle.index_model.specs.Places.{IsAt}
 use Rattle.index_model.specs.Texts.{IsPlainText}
 use Rattle.index_model.specs.Uids.{AreUids}
 use Rattle.index_model.specs.Valid.{IsPolicy, IsSpot, IsValid}
+use Rattle.std.proofs.lemmas.Option.{none-some}
 use Rattle.index_model.specs.declared.indexes.Policy.{Policy}
 use Rattle.index_model.specs.declared.nodes.Kind.TheVariants as kinds
 use Rattle.index_model.specs.declared.nodes.Node.{Node}
@@ -66,6 +66,10 @@ creator_plain = plain creator refl
 true_le : (a b : ℕ) → nat_le a b ≡ true → a ≤ b
 true_le a b h = grind arith
 
+not_so : (b : Bool) → not b ≡ true → b ≡ false
+not_so true e = absurd (cc e)
+not_so false e = refl
+
 name_fits : (name : List ℕ) → is_volume_name name ≡ true → IsUtf8 name → IsVolumeName name
 name_fits name is utf8 =
     let outer = and_parts (nat_le (length (chars name)) longest_name && not (has_byte 47 name))
@@ -74,8 +78,8 @@ name_fits name is utf8 =
     record {
       utf8 = utf8;
       short = true_le (length (chars name)) 255 inner.0;
-      no_slash = not-true (has_byte 47 name) inner.1;
-      no_nul = not-true (has_byte 0 name) outer.1;
+      no_slash = not_so (has_byte 47 name) inner.1;
+      no_nul = not_so (has_byte 0 name) outer.1;
     }
 
 policy_fits : (policy : Option Policy) → is_policy policy ≡ true → HasTexts policy → IfSome policy IsPolicy

@@ -1,10 +1,10 @@
 -- The flushes among the ops of a group are those that were admitted.
-use Rattle.std.proofs.Common.{◌≡◌, ℕ, ◌+◌, Bool, true, false, not, ◌||◌, List, [], ◌∷◌, ◌++◌, length, map, sym, ap, ◌∙◌, refl}
+use Rattle.std.proofs.Common.{◌≡◌, ℕ, ◌+◌, Bool, true, false, not, List, [], ◌∷◌, ◌++◌, length, map, sym, ap, ◌∙◌, refl}
 use Rattle.std.specs.List.{list_any, range_with_len}
 use Rattle.std.specs.Int.{div_ceil}
 use Rattle.std.proofs.lemmas.List.{map-append}
 use Rattle.std.proofs.lemmas.List.Folds.{list_any-append}
-use Rattle.std.proofs.lemmas.Bool.{or_left, or_right}
+use Rattle.std.proofs.lemmas.Bool.{or_left, or_right, or_from}
 use Rattle.tape_types.specs.declared.cartridges.Part.{Part}
 use Rattle.tape_types.specs.declared.cartridges.Part.TheVariants.{Ip, Dp}
 use Rattle.tape_types.specs.declared.cartridges.Place.{Place}
@@ -22,10 +22,6 @@ use Rattle.group_laws.specs.Groups.{has_part, places_of}
 part_self : (p : Part) → same_part p p ≡ true
 part_self Ip = refl
 part_self Dp = refl
-
-pub neither : (a b : Bool) → a ≡ false → b ≡ false → (a || b) ≡ false
-neither true b one other = cc
-neither false b one other = other
 
 -- each partition of the first list is one of the second: so none of the first ones is the last of its partition
 flushes_behind : (xs ys : List Place) → ((part : Part) → has_part part xs ≡ true → has_part part ys ≡ true)
@@ -74,7 +70,7 @@ pub record IsIndex (asked : List Op) : Type 0 where
 ends_so : (items : List Op) (pos : ℕ) → has_part Ip (places_of items) ≡ false → map headed items ≡ map put_at (places_of items)
     → IsIndex (items ++ Flush (dp pos) ∷ [])
 ends_so items pos off plain = record {
-  off = ap (has_part Ip) split ∙ list_any-append (λ (p : Place). same_part Ip p.part) (places_of items) (dp pos ∷ []) ∙ neither (has_part Ip (places_of items)) false off refl;
+  off = ap (has_part Ip) split ∙ list_any-append (λ (p : Place). same_part Ip p.part) (places_of items) (dp pos ∷ []) ∙ or_from (has_part Ip (places_of items)) false off refl;
   there = ap (has_part Dp) split ∙ list_any-append (λ (p : Place). same_part Dp p.part) (places_of items) (dp pos ∷ []) ∙ or_right (has_part Dp (places_of items)) true refl;
   flushes = ap with_flushes split ∙ flushes_behind (places_of items) (dp pos ∷ []) covered
       ∙ ap (λ l. l ++ record { place = dp pos; flush = true } ∷ []) (sym plain) ∙ sym (map-append headed items (Flush (dp pos) ∷ []));
@@ -90,7 +86,7 @@ ends_so items pos off plain = record {
 -- a mark, blocks and a mark
 framed_off : (pos last : ℕ) (blocks : List Op) → has_part Ip (places_of blocks) ≡ false → has_part Ip (places_of ((Mark (dp pos) ∷ blocks) ++ Mark (dp last) ∷ [])) ≡ false
 framed_off pos last blocks off = ap (has_part Ip) (map-append place_of (Mark (dp pos) ∷ blocks) (Mark (dp last) ∷ []))
-    ∙ list_any-append (λ (p : Place). same_part Ip p.part) (places_of blocks) (dp last ∷ []) ∙ neither (has_part Ip (places_of blocks)) false off refl
+    ∙ list_any-append (λ (p : Place). same_part Ip p.part) (places_of blocks) (dp last ∷ []) ∙ or_from (has_part Ip (places_of blocks)) false off refl
 
 framed_plain : (pos last : ℕ) (blocks : List Op) → map headed blocks ≡ map put_at (places_of blocks)
     → map headed ((Mark (dp pos) ∷ blocks) ++ Mark (dp last) ∷ []) ≡ map put_at (places_of ((Mark (dp pos) ∷ blocks) ++ Mark (dp last) ∷ []))

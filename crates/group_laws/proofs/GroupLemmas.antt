@@ -3,6 +3,7 @@ use Rattle.std.proofs.Common.{◌≡◌, ℕ, ◌+◌, Bool, true, false, ◌||�
 use Rattle.std.proofs.lemmas.List.{map-append}
 use Rattle.std.proofs.lemmas.List.Folds.{list_any-append}
 use Rattle.std.proofs.lemmas.List.Sums.{fold-append}
+use Rattle.std.proofs.lemmas.Bool.{or_from}
 use Rattle.tape_types.specs.declared.cartridges.Part.{Part}
 use Rattle.tape_types.specs.declared.cartridges.Part.TheVariants.{Ip, Dp}
 use Rattle.tape_types.specs.declared.cartridges.Place.{Place}
@@ -17,7 +18,7 @@ use Rattle.serving_promise.specs.Served.{headed}
 use Rattle.serving_promise.specs.Submits.{queues_at}
 use Rattle.group_laws.specs.Groups.{AdmitsNothing, IsGrouped, has_part, ops_after, places_of, without_done}
 use Rattle.group_laws.specs.Laws.{GroupsBegin, IsEnded, IsQueued, OthersKeepGroups, SyncsEndTheirOps, SyncsOfNothingEndNone, WritesQueueTheirOps, queued, synced}
-use Rattle.group_laws.proofs.Flushes.{ended_so, is_index, neither, puts_headed, puts_off}
+use Rattle.group_laws.proofs.Flushes.{ended_so, is_index, puts_headed, puts_off}
 
 pub groups_begin : GroupsBegin
 groups_begin m = record { due = λ is. refl; changed = λ is. refl }
@@ -45,7 +46,7 @@ grouped_on : (v : Rules) (part : Part) (bytes : List ℕ) (s : Space) (st : Stat
 grouped_on v Ip bytes s st g = record { due = λ is. let wrong : true ≡ false = is in cc; changed = λ is. let wrong : true ≡ false = is in cc }
 grouped_on v Dp bytes s st g = record {
   due = λ is. list_any-append (λ (p : Place). same_part Ip p.part) st.group (places_of (puts v.block_size Dp s.ends.dp bytes))
-      ∙ neither (has_part Ip st.group) (has_part Ip (places_of (puts v.block_size Dp s.ends.dp bytes))) (g.due is) (puts_off v.block_size s.ends.dp bytes);
+      ∙ or_from (has_part Ip st.group) (has_part Ip (places_of (puts v.block_size Dp s.ends.dp bytes))) (g.due is) (puts_off v.block_size s.ends.dp bytes);
   changed = λ is. let wrong : true ≡ false = is in cc;
 }
 

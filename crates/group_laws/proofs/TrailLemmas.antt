@@ -3,7 +3,7 @@ use Rattle.std.proofs.Common.{◌≡◌, ℕ, ◌+◌, Bool, true, false, not, �
 use Rattle.std.specs.List.{All, filter, flat_map, fold, list_any}
 use Rattle.std.proofs.lemmas.List.Elements.{All-head, All-tail}
 use Rattle.std.proofs.lemmas.List.Folds.{list_any-append}
-use Rattle.std.proofs.lemmas.Bool.{and_from}
+use Rattle.std.proofs.lemmas.Bool.{and_from, or_from, and_left}
 use Rattle.tape_types.specs.declared.cartridges.Part.{Part}
 use Rattle.tape_types.specs.declared.cartridges.Part.TheVariants.{Ip, Dp}
 use Rattle.tape_types.specs.declared.cartridges.Place.{Place}
@@ -43,23 +43,15 @@ right_false : (a b : Bool) → (a || b) ≡ false → b ≡ false
 right_false true b is = cc
 right_false false b is = is
 
-neither : (a b : Bool) → a ≡ false → b ≡ false → (a || b) ≡ false
-neither true b one other = cc
-neither false b one other = other
-
 -- it has asked for none of these
 abbrev NotAsked : ℕ → List Request → List Place → Type 0
 NotAsked here requests [] = Unit {0}
 NotAsked here requests (p ∷ ps) = (list_any (asks here p) requests ≡ false) × NotAsked here requests ps
 
-another : (mine same : Bool) → mine ≡ false → (mine && same) ≡ false
-another true same is = cc
-another false same is = refl
-
 none_asked : (here : ℕ) (p : Place) (requests : List Request) → list_any (λ (r : Request). eqb r.ticket here) requests ≡ false → list_any (asks here p) requests ≡ false
 none_asked here p [] is = refl
 none_asked here p (r ∷ rs) is =
-    neither (asks here p r) (list_any (asks here p) rs) (another (eqb r.ticket here) (same_place r.place p) (left_false _ _ is)) (none_asked here p rs (right_false (eqb r.ticket here) _ is))
+    or_from (asks here p r) (list_any (asks here p) rs) (and_left (eqb r.ticket here) (same_place r.place p) (left_false _ _ is)) (none_asked here p rs (right_false (eqb r.ticket here) _ is))
 
 not_asked : (here : ℕ) (requests : List Request) (places : List Place) → list_any (λ (r : Request). eqb r.ticket here) requests ≡ false → NotAsked here requests places
 not_asked here requests [] is = tt
@@ -69,7 +61,7 @@ one_more : (here : ℕ) (p q : Place) (arrival : ℕ) (requests : List Request) 
     → list_any (asks here q) (requests ++ record { ticket = here; place = p; arrival = arrival } ∷ []) ≡ false
 one_more here p q arrival requests old other =
     list_any-append (asks here q) requests (record { ticket = here; place = p; arrival = arrival } ∷ [])
-    ∙ neither (list_any (asks here q) requests) _ old (neither (eqb here here && same_place p q) false (other_place (eqb here here) (same_place p q) other) refl)
+    ∙ or_from (list_any (asks here q) requests) _ old (or_from (eqb here here && same_place p q) false (other_place (eqb here here) (same_place p q) other) refl)
   where
     other_place : (mine same : Bool) → same ≡ false → (mine && same) ≡ false
     other_place true same is = is
@@ -123,7 +115,7 @@ none_kept keep test [] is = refl
 none_kept keep test (p ∷ ps) is = by (keep p) (none_kept keep test ps (right_false (test p) (list_any test ps) is))
   where
     by : (b : Bool) → list_any test (filter keep ps) ≡ false → list_any test (cond b (p ∷ filter keep ps) (filter keep ps)) ≡ false
-    by true rest = neither (test p) (list_any test (filter keep ps)) (left_false (test p) (list_any test ps) is) rest
+    by true rest = or_from (test p) (list_any test (filter keep ps)) (left_false (test p) (list_any test ps) is) rest
     by false rest = rest
 
 apart_kept : (keep : Place → Bool) (places : List Place) → AreApart places → AreApart (filter keep places)
@@ -151,7 +143,7 @@ none_left p (q ∷ qs) = by (replies.same_place p q) refl (none_left p qs)
     by : (b : Bool) → replies.same_place p q ≡ b → list_any (same_place p) (filter (λ other. not (replies.same_place p other)) qs) ≡ false
         → list_any (same_place p) (cond (not b) (q ∷ filter (λ other. not (replies.same_place p other)) qs) (filter (λ other. not (replies.same_place p other)) qs)) ≡ false
     by true is rest = rest
-    by false is rest = neither (same_place p q) _ (alike p q ∙ is) rest
+    by false is rest = or_from (same_place p q) _ (alike p q ∙ is) rest
 
 apart_once : (places : List Place) → AreApart (replies.distinct places)
 apart_once [] = tt

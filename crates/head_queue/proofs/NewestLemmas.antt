@@ -1,6 +1,6 @@
 -- The newest number of each owner: found, put in, put in the place of another, and taken out.
 use Rattle.std.proofs.Common.{◌≡◌, ◌≢◌, ℕ, zero, suc, ◌<◌, ◌≤◌, Bool, true, false, cond, nat_eq, ltb, List, [], ◌∷◌, length, get_or, set, Option, Some, None, refl, ap, sym, subst, ◌∙◌, arith}
-use Rattle.std.proofs.lemmas.Bool.{eq-eqb, eqb-true, ltb-true}
+use Rattle.std.proofs.lemmas.Bool.{eq-eqb, eqb-true, ltb-true, ltb-false}
 use Rattle.std.proofs.lemmas.Bool.Decides.{nat_tests}
 use Rattle.std.specs.List.{AllByRecursion, insert, remove}
 use Rattle.std.specs.List.Sorted.{IsPartitionedBy, IsPartitionPoint}
@@ -47,13 +47,10 @@ partitioned (x ∷ xs) o h zero (suc j) d le lt does = stays x.owner (get_or xs 
 partitioned (x ∷ xs) o h (suc i) zero d le lt does = absurd (omega arith)
 partitioned (x ∷ xs) o h (suc i) (suc j) d le lt does = partitioned xs o h.1 i j d (omega arith) (omega arith) does
 
-not_below : (a o : ℕ) → ltb a o ≡ false → o ≤ a
-not_below a o h = grind (arith, nat_tests)
-
 pub place : (xs : List Owned) (o at : ℕ) → IsPartitionPoint (λ (x : Owned). ltb x.owner o ≡ true) (λ (x : Owned). ltb x.owner o ≡ false) xs at → IsPlace xs o at
 place xs o at parts = record {
   below = λ k d lt. ltb-true (get_or xs k d).owner o (parts.0 k d (omega arith) lt);
-  above = λ k d le lt. not_below (get_or xs k d).owner o (parts.1 k d le lt);
+  above = λ k d le lt. ltb-false (get_or xs k d).owner o (parts.1 k d le lt);
 }
 
 next : (x : Owned) (xs : List Owned) (o at : ℕ) → IsPlace (x ∷ xs) o (suc at) → IsPlace xs o at

@@ -5,6 +5,7 @@ use Rattle.std.specs.List.{list_any}
 use Rattle.std.proofs.Common.{refl, sym, ap, ◌∙◌, arith}
 use Rattle.std.proofs.lemmas.List.Folds.{list_any-append}
 use Rattle.std.proofs.lemmas.List.Sums.{take_while-cons}
+use Rattle.std.proofs.lemmas.Bool.{or_from}
 use Rattle.tape_types.proofs.Lists.{scan-append}
 use Rattle.tape_types.specs.declared.cartridges.Place.{Place}
 use Rattle.session_script.specs.declared.logs.Event.{Event}
@@ -48,9 +49,6 @@ or_first true b h = cc
 or_second : (a b : Bool) → (a || b) ≡ false → b ≡ false
 or_second false b h = h
 or_second true b h = cc
-
-both_false : (a b : Bool) → a ≡ false → b ≡ false → (a || b) ≡ false
-both_false a b h k = ap (λ x. x || b) h ∙ k
 
 -- ---- one event
 
@@ -149,7 +147,7 @@ no_flush (Some op) (events.Worked place (Some counts)) h = refl
 pub none_flush : (st : State) (trail : List Event) → list_any does_op trail ≡ false → any_flush st trail ≡ false
 none_flush st [] h = refl
 none_flush st (e ∷ later) h =
-    both_false (does_dp_flush (waiting_op st) e) (any_flush (after st e) later)
+    or_from (does_dp_flush (waiting_op st) e) (any_flush (after st e) later)
     (no_flush (waiting_op st) e (or_first (does_op e) (list_any does_op later) h))
     (none_flush (after st e) later (or_second (does_op e) (list_any does_op later) h))
 
@@ -158,7 +156,7 @@ pub none_flush_of : (waits : Option Op) (trail : List Event) → list_any does_o
     → list_any (does_dp_flush waits) trail ≡ false
 none_flush_of waits [] h = refl
 none_flush_of waits (e ∷ later) h =
-    both_false (does_dp_flush waits e) (list_any (does_dp_flush waits) later)
+    or_from (does_dp_flush waits e) (list_any (does_dp_flush waits) later)
     (no_flush waits e (or_first (does_op e) (list_any does_op later) h))
     (none_flush_of waits later (or_second (does_op e) (list_any does_op later) h))
 
@@ -169,5 +167,5 @@ an_answer _ h = cc
 pub answers_do_none : (answers : List Event) → All (λ a. is_answer a ≡ true) answers → list_any does_op answers ≡ false
 answers_do_none [] all = refl
 answers_do_none (a ∷ later) all =
-    both_false (does_op a) (list_any does_op later) (an_answer a (all 0 a (omega arith)))
+    or_from (does_op a) (list_any does_op later) (an_answer a (all 0 a (omega arith)))
     (answers_do_none later (λ k d less. all (suc k) d (omega (arith, less))))

@@ -1,6 +1,7 @@
 -- Which check of a cartridge fails, and what its labels are.
 use Rattle.std.proofs.Common.{◌≡◌, ◌∙◌, ℕ, List, Option, Some, None, Result, Ok, Err, IfOk, IfErr, refl, sym, ap, subst}
 use Rattle.std.specs.Prelude.{IfSome, IsErrAnd}
+use Rattle.cartridge_meaning.proofs.OneWay.{label_once}
 use Rattle.tape_types.specs.declared.cartridges.Cartridge.{Cartridge}
 use Rattle.tape_types.specs.declared.cartridges.Item.{Item}
 use Rattle.tape_types.specs.declared.cartridges.Part.TheVariants as parts
@@ -9,8 +10,6 @@ use Rattle.tape_types.specs.Times.{civil_of, civil_text, time_text}
 use Rattle.tape_types.proofs.CivilLemmas.{time_text_injective}
 use Rattle.vol_label.specs.declared.Vol1.{Vol1}
 use Rattle.vol_label.specs.Table.{IsRecord}
-use Rattle.ltfs_label.proofs.Texts.{one_value}
-use Rattle.ltfs_label.specs.Grammar.{LabelText}
 use Rattle.ltfs_label.specs.Values.{LabelValue, label_of}
 use Rattle.cartridge_meaning.specs.declared.labels.Labels.{Labels}
 use Rattle.cartridge_meaning.specs.declared.errors.MountErr.{MountErr}
@@ -44,19 +43,13 @@ one_record items v w h k =
     let owner : v.owner ≡ w.owner = sym h.spelled.owner_identifier ∙ other.owner_identifier in
     λ i. record { volume = volume i; owner = owner i }
 
-one_label : (items : List Item) (v w : LabelValue) → HasLabel items v → HasLabel items w → v ≡ w
-one_label items v w h k =
-    let same : h.bytes ≡ k.bytes = same_block items 2 h.bytes k.bytes h.stands.block k.stands.block in
-    let other : LabelText h.bytes w = subst (λ (b : List ℕ). LabelText b w) (sym same) k.spelled in
-    one_value h.bytes v w h.spelled other
-
 differ_not : (c : Cartridge) (l : Labels) (ip dp : LabelValue) → HasLabels c l → HasLabel c.ip ip → HasLabel c.dp dp → ¬ AreOfOneVolume ip dp → ⊥
 differ_not c l ip dp h at_ip at_dp differ =
-    differ (subst (λ v. AreOfOneVolume v dp) (one_label c.ip (label_of l.ip) ip h.ip at_ip) (subst (λ v. AreOfOneVolume (label_of l.ip) v) (one_label c.dp (label_of l.dp) dp h.dp at_dp) h.one_volume))
+    differ (subst (λ v. AreOfOneVolume v dp) (label_once c.ip (label_of l.ip) ip h.ip at_ip) (subst (λ v. AreOfOneVolume (label_of l.ip) v) (label_once c.dp (label_of l.dp) dp h.dp at_dp) h.one_volume))
 
 -- a cartridge with labels has no others, and fails no check
 pub is_read_as : (c : Cartridge) (l : Labels) (r : Result Labels MountErr) → IfOk r (λ m. HasLabels c m) → IfErr r (Fails c) → HasLabels c l → IsReadAs l r
-is_read_as c l (Ok m) found fails h = (one_record c.ip m.ip_record l.ip_record found.ip_record h.ip_record, one_record c.dp m.dp_record l.dp_record found.dp_record h.dp_record, one_label c.ip (label_of m.ip) (label_of l.ip) found.ip h.ip, one_label c.dp (label_of m.dp) (label_of l.dp) found.dp h.dp)
+is_read_as c l (Ok m) found fails h = (one_record c.ip m.ip_record l.ip_record found.ip_record h.ip_record, one_record c.dp m.dp_record l.dp_record found.dp_record h.dp_record, label_once c.ip (label_of m.ip) (label_of l.ip) found.ip h.ip, label_once c.dp (label_of m.dp) (label_of l.dp) found.dp h.dp)
 is_read_as c l (Err (errors.Vol1 parts.Ip)) found fails h = fails (l.ip_record, h.ip_record)
 is_read_as c l (Err (errors.Vol1 parts.Dp)) found fails h = fails.1 (l.dp_record, h.dp_record)
 is_read_as c l (Err (errors.Label parts.Ip)) found fails h = fails.1 (label_of l.ip, h.ip)

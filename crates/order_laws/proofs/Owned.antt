@@ -2,7 +2,7 @@
 use Rattle.std.specs.Prelude.{◌≡◌, ◌==◌, ◌&&◌, ◌||◌, not, ℕ, ◌+◌, nat_lt, Bool, true, false, cond, List, [], ◌∷◌, ◌++◌, filter, filter_map, fold, length, map, Option, Some, None}
 use Rattle.std.specs.List.{list_all, list_any}
 use Rattle.std.proofs.Common.{refl, sym, ap, subst, ◌∙◌, append-nil, append_assoc}
-use Rattle.std.proofs.lemmas.Bool.{and_from, and_parts, both_ways, eq-eqb, or_from}
+use Rattle.std.proofs.lemmas.Bool.{and_from, and_parts, both_ways, eq-eqb, or_from, and_right}
 use Rattle.std.proofs.lemmas.List.{map-append}
 use Rattle.std.proofs.lemmas.List.Elements.{filter_map-append}
 use Rattle.std.proofs.lemmas.List.Folds.{list_all-append, list_any-append}
@@ -108,10 +108,6 @@ or_right_false : (a b : Bool) → (a || b) ≡ false → b ≡ false
 or_right_false true b h = absurd (cc)
 or_right_false false b h = h
 
-and_right_false : (a b : Bool) → b ≡ false → (a && b) ≡ false
-and_right_false true b e = e
-and_right_false false b e = refl
-
 -- requests and ops alone
 plain_own : (calls : Calls) (history : List Placed) (p : Placed) (st : State) (added : List Event) → list_all (is_plain (length history)) added ≡ true
     → done_syncs calls (history ++ p ∷ []) ≡ done_syncs calls history → AreOwn calls history p st added
@@ -125,7 +121,7 @@ plain_own calls history p st added every same =
           subst (λ l. is_rising ((front ++ l) ++ tickets (fold after st added).syncs) ≡ true) (sym is.answered)
           (subst (λ l. is_rising (l ++ tickets (fold after st added).syncs) ≡ true) (sym (append-nil front))
           (subst (λ l. is_rising (front ++ tickets l) ≡ true) (sym (is.syncs st)) rising));
-      apart = λ rests. and_right_false (list_any (wants_it (length history)) (fold after st added).requests) (list_any (syncs_it (length history)) (fold after st added).syncs)
+      apart = λ rests. and_right (list_any (wants_it (length history)) (fold after st added).requests) (list_any (syncs_it (length history)) (fold after st added).syncs)
           (ap (list_any (syncs_it (length history))) (is.syncs st) ∙ or_right_false (list_any (wants_it (length history)) st.requests) (list_any (syncs_it (length history)) st.syncs) rests);
     }
 

@@ -6,13 +6,14 @@ use Rattle.std.specs.FinMap.{nat_cmp-IsAntisymmetric}
 use Rattle.std.specs.Option.{option_map}
 use Rattle.std.specs.Cmp.{nat_cmp_total}
 use Rattle.std.proofs.lemmas.Cmp.{tied_itself}
-use Rattle.std.proofs.lemmas.Bool.{cases_lt}
-use Rattle.std.proofs.Common.{rules, tests, Result, Ok, Err, is_ok, OnOk}
+use Rattle.std.proofs.lemmas.Bool.{cases_lt, cases_Bool}
+use Rattle.std.proofs.Common.{Result, Ok, Err, is_ok, OnOk}
 use Rattle.std.specs.Map.{lookup}
 use Rattle.std.specs.List.{filter}
 use borrow.Rule.Slice.PartMut.{put_mid}
 use Rattle.std.proofs.lemmas.List.{get_or-replicate, get_or_past, length-replicate, get_or-take, get_or-drop, get_or_append_left, get_or-append_right, get_or_default, same_lists, length-take, length-append, length-drop}
 use Rattle.std.proofs.lemmas.List.FromFn.{length-map-range_with_len, get_or-map-range_with_len}
+pub use Rattle.std.proofs.lemmas.Bool.{lt-ltb as ltb-is_true, le-ltb as ltb-is_false}
 use Rattle.node_keys.proofs.SortLemmas.{tied}
 use Rattle.plain_tree.specs.Cells.{Cell, bytes_of}
 use Rattle.plain_tree.specs.Pages.{byte_in, page_at, byte_at}
@@ -23,13 +24,9 @@ same_key k q h = nat_cmp-IsAntisymmetric k q (tied _ h)
 self_cmp : (k q : ℕ) → k ≡ q → is_eq (nat_cmp k q) ≡ true
 self_cmp k q e = subst (λ q. is_eq (nat_cmp k q) ≡ true) e (ap is_eq (tied_itself nat_cmp_total k))
 
-tested : (b : Bool) → (b ≡ true) ⊎ (b ≡ false)
-tested true = inl refl
-tested false = inr refl
-
 -- two numbers are one, or they differ by the order's test
 same_or_not : (k q : ℕ) → (k ≡ q) ⊎ (is_eq (nat_cmp k q) ≡ false)
-same_or_not k q = ⊎_elim (λ yes. inl (same_key k q yes)) (λ other. inr other) (tested (is_eq (nat_cmp k q)))
+same_or_not k q = ⊎_elim (λ yes. inl (same_key k q yes)) (λ other. inr other) (cases_Bool (is_eq (nat_cmp k q)))
 
 module _ {B : Type 0} (bytes : B → List ℕ) (es fs : List (ℕ × B)) (k : ℕ) (page : B) (found : (q : ℕ) → page_at fs q ≡ cond (is_eq (nat_cmp k q)) (Some page) (page_at es q)) where
   kept_at : (b : Bool) (o : Option B) → is_some o ≡ true → is_some (cond b (Some page) o) ≡ true
@@ -234,9 +231,3 @@ zeros_read n fits =
     (omega (arith, length-take n page, length-map-range_with_len {X = ℕ} (λ i. 0) 0 n))
     (λ k d lt. let within : k < n = omega (arith, lt, length-take n page) in
     get_or-take n page k d within ∙ get_or-replicate 4096 k 0 d (omega arith) ∙ sym (get_or-map-range_with_len {X = ℕ} (λ i. 0) 0 n k k d within (omega arith)))
-
-pub ltb-is_true : (a b : ℕ) → a < b → ltb a b ≡ true
-ltb-is_true a b h = search (rules, tests)
-
-pub ltb-is_false : (a b : ℕ) → b ≤ a → ltb a b ≡ false
-ltb-is_false a b h = search (rules, tests)

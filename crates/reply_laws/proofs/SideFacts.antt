@@ -1,18 +1,13 @@
 -- Which replies may come at once, and which may not.
-use Rattle.std.specs.Prelude.{◌∷◌, ◌≡◌, ℕ, Bool, List, [], cond, codes, length, Some}
+use Rattle.std.specs.Prelude.{◌∷◌, ◌≡◌, ℕ, Bool, [], codes, length, Some}
 use Rattle.std.proofs.Common.{refl, arith, sym, ap, ◌∙◌, true≢false}
-use Rattle.std.specs.FinMap as fin
-use Rattle.std.specs.Ordering.{eq_by_cmp}
+use Rattle.serving_promise.proofs.ReplyFacts.{get_put}
 use Rattle.tape_types.specs.declared.cartridges.Twin.{Twin}
 use Rattle.tape_types.specs.declared.moments.Moment.{Moment}
-use Rattle.plain_tree.proofs.NodeLemmas.{path_total}
 use Rattle.plain_tree.specs.Calls.{answer}
-use Rattle.plain_tree.specs.Paths.{path_cmp}
-use Rattle.plain_tree.specs.Tree.{Nodes}
 use Rattle.plain_tree.specs.declared.calls.Answer.{Answer}
 use Rattle.plain_tree.specs.declared.calls.Answer.TheVariants as answers
 use Rattle.plain_tree.specs.declared.calls.Call.TheVariants.{Read, Sync}
-use Rattle.plain_tree.specs.declared.nodes.Node.{Node}
 use Rattle.session_script.specs.declared.logs.Reply.TheVariants as replies
 use Rattle.space_laws.specs.Histories.{given, path, with_a}
 use Rattle.space_laws.specs.Mount.{MountFacts}
@@ -25,10 +20,6 @@ use Rattle.serving_promise.specs.Served.{IsTrue}
 use Rattle.serving_promise.specs.declared.answers.Submitted.TheVariants as submitted
 use Rattle.reply_laws.specs.Worked.{one_sync, silent, synced}
 use Rattle.reply_laws.proofs.Truths.{places_truly}
-
--- what stands at a path once a node was put somewhere
-get_put : (m : Nodes) (p : List (List ℕ)) (node : Node) (q : List (List ℕ)) → fin.get (fin.insert m p node) q ≡ cond (eq_by_cmp path_cmp q p) (Some node) (fin.get m q)
-get_put = fin.get-insert path_total
 
 reads_nothing : (at : Moment) → answer (with_a at) (Read path 0 5) ≡ answers.Got []
 reads_nothing at = simp (get_put) refl

@@ -6,20 +6,16 @@ use Rattle.std.proofs.lemmas.Bool.{eqb-true, eq-eqb, cases_lt}
 use Rattle.std.proofs.lemmas.List.{map-append, take-append-le, length_push, take_all}
 use Rattle.std.proofs.lemmas.List.Elements.{filter-append}
 use Rattle.std.proofs.lemmas.List.FromFn.{map-range_with_len_more}
-use Rattle.std.proofs.lemmas.List.Sums.{fold-append}
 use Rattle.std.proofs.lemmas.Option.{slice_get_within, same_Some}
 use Rattle.tape_types.proofs.Lists.{slice_get-append, slice_get-seam}
 use Rattle.plain_tree.specs.declared.calls.Call.{Call}
 use Rattle.plain_tree.specs.declared.calls.Placed.{Placed}
-use Rattle.plain_tree.specs.History.{Calls, call_at, after_placement, replay, IsInterleaving}
+use Rattle.plain_tree.specs.History.{Calls, call_at, replay, IsInterleaving}
 use Rattle.plain_tree.specs.Tree.{Tree}
 use Rattle.session_script.specs.Grammar.{calls_of}
 use Rattle.session_script.specs.Replies.{AreReplies, IsPlainReply, IsReply, MayCome}
 use Rattle.session_script.specs.declared.logs.Reply.{Reply}
 use Rattle.session_script.specs.declared.scripts.ScriptLine.{ScriptLine}
-
-pub replay-push : (calls : Calls) (first : Tree) (history : List Placed) (p : Placed) → replay calls first (history ++ p ∷ []) ≡ after_placement calls (replay calls first history) p
-replay-push calls first history p = fold-append (after_placement calls) first history (p ∷ [])
 
 filter-one : {A : Type 0} (test : A → Bool) (x : A) → filter test (x ∷ []) ≡ cond (test x) (x ∷ []) []
 filter-one test x = at (test x)
