@@ -182,6 +182,7 @@ value_range form.Letter from start text v n e =
     as_value (InRange form.Letter) (letter b.0.0) v _ n b.2 (letter_range text at b.0 (lift_ok (letter_at text at) b.0 b.1))
 value_range form.Bounded from start text v n e = number_range form.Bounded text _ v n e
 value_range form.Generation from start text v n e = number_range form.Generation text _ v n e
+value_range form.BlockSize from start text v n e = number_range form.BlockSize text _ v n e
 value_range form.Number from start text v n e = tt
 value_range _ from start text v n e = tt
 
