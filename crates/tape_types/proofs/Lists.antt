@@ -1,5 +1,6 @@
 -- What stands at a place of a list that goes on, and what is scanned of it.
-use Rattle.std.proofs.Common.{◌≡◌, ℕ, zero, suc, ◌<◌, List, [], ◌∷◌, ◌++◌, length, fold, Some, slice_get, refl, ap, arith}
+use Rattle.std.proofs.Common.{◌≡◌, ℕ, zero, suc, ◌<◌, List, [], ◌∷◌, ◌++◌, length, fold, Some, slice_get}
+use Rattle.std.proofs.Common.{refl, ap, arith}
 use Rattle.std.specs.List.{scan}
 
 -- what stood in a list stands there when more follows
