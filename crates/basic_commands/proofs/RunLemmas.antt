@@ -5,7 +5,7 @@ use Rattle.std.proofs.lemmas.Bool.{cases_lt}
 use Rattle.std.proofs.lemmas.List.{length_push, map-append, take_all, take_more}
 use Rattle.std.proofs.lemmas.Option.{slice_get_within, get_or_from_slice_get, same_Some}
 use Rattle.plain_tree.proofs.HistoryLemmas.{replay_push}
-use Rattle.tape_types.proofs.Lists.{slice_get-append, slice_get-seam}
+use Rattle.tape_types.proofs.LongerLists.{slice_get-append, slice_get-seam}
 use Rattle.tape_types.specs.declared.moments.Moment.{Moment}
 use Rattle.plain_tree.specs.History.{Calls, IsInterleaving, after_placement, replay}
 use Rattle.plain_tree.specs.Tree.{Tree, empty_tree}

@@ -1,7 +1,7 @@
 -- The reads that wait stay right as a call is placed and its ops are admitted.
 use Rattle.std.proofs.Common.{◌≡◌, ℕ, ◌<◌, not, Bool, true, false, List, [], ◌∷◌, ◌++◌, length, Option, Some, None, IfSome, slice_index_or, All, sym, ap, ◌∙◌, subst, arith}
 use Rattle.std.specs.List.{list_any}
-use Rattle.tape_types.proofs.Lists.{slice_get-append}
+use Rattle.tape_types.proofs.LongerLists.{slice_get-append}
 use Rattle.tape_types.specs.declared.cartridges.Cartridge.{Cartridge}
 use Rattle.extent_map.specs.Replies.{Places, gathered}
 use Rattle.extent_map.specs.declared.pieces.Piece.{Piece}

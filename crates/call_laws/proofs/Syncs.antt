@@ -5,7 +5,7 @@ use Rattle.std.proofs.Common.{⊎_elim, inl, inr, refl, sym, ap, subst, ◌∙�
 use Rattle.std.proofs.lemmas.Bool.{eqb-true, eq-eqb, or_cases, or_left, or_right}
 use Rattle.std.proofs.lemmas.List.Folds.{list_any-append}
 use Rattle.std.proofs.lemmas.Option.{same_Some}
-use Rattle.tape_types.proofs.Lists.{slice_get-seam}
+use Rattle.tape_types.proofs.LongerLists.{slice_get-seam}
 use Rattle.tape_types.specs.declared.cartridges.Place.{Place}
 use Rattle.plain_tree.specs.History.{Calls, call_at}
 use Rattle.plain_tree.specs.declared.calls.Call.{Call}

@@ -6,7 +6,7 @@ use Rattle.std.proofs.Common.{refl, sym, ap, ◌∙◌, arith}
 use Rattle.std.proofs.lemmas.List.Folds.{list_any-append}
 use Rattle.std.proofs.lemmas.List.Sums.{take_while-cons}
 use Rattle.std.proofs.lemmas.Bool.{or_from}
-use Rattle.tape_types.proofs.Lists.{scan-append}
+use Rattle.tape_types.proofs.LongerLists.{scan-append}
 use Rattle.tape_types.specs.declared.cartridges.Place.{Place}
 use Rattle.session_script.specs.declared.logs.Event.{Event}
 use Rattle.session_script.specs.declared.logs.Event.TheVariants as events

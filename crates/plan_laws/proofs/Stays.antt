@@ -1,7 +1,7 @@
 -- Below the ends nothing changes.
 use Rattle.std.proofs.Common.{◌≡◌, ℕ, ◌+◌, ◌<◌, ◌≤◌, ◌∙◌, Bool, List, [], ◌∷◌, ◌++◌, map, Option, Some, refl, sym, ap, subst, arith, replicate, if◌then◌else◌, length-append}
 use Rattle.std.specs.List.{flat_map, range_with_len}
-use Rattle.tape_types.proofs.Lists.{slice_get-append}
+use Rattle.tape_types.proofs.LongerLists.{slice_get-append}
 use Rattle.tape_types.specs.declared.cartridges.Item.{Item}
 use Rattle.tape_types.specs.declared.cartridges.Part.{Part}
 use Rattle.extent_map.specs.Blocks.{AreAlikeIn}

@@ -8,7 +8,7 @@ use Rattle.std.proofs.lemmas.List.Elements.{Contains-append_cases, Contains-appe
 use Rattle.std.proofs.lemmas.List.Folds.{list_any-append}
 use Rattle.std.proofs.lemmas.Option.{same_Some}
 use Rattle.std.proofs.lemmas.Bool.{or_left}
-use Rattle.tape_types.proofs.Lists.{slice_get-append, scan-append}
+use Rattle.tape_types.proofs.LongerLists.{slice_get-append, scan-append}
 use Rattle.tape_types.specs.declared.cartridges.Place.{Place}
 use Rattle.plain_tree.specs.History.{call_at}
 use Rattle.plain_tree.specs.declared.calls.Fate.TheVariants as fates

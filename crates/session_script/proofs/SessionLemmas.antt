@@ -7,7 +7,7 @@ use Rattle.std.proofs.lemmas.Bool.{cases_lt, cases_eq, eq-eqb}
 use Rattle.session_script.specs.declared.scripts.ScriptLine.{ScriptLine}
 use Rattle.session_script.specs.Grammar.{calls_of}
 use Rattle.session_script.specs.Sessions.{nth_at, greatest_session, HasSessions, places_from, IsIndexed}
-use Rattle.tape_types.proofs.Lists.{slice_get-append, slice_get-seam}
+use Rattle.tape_types.proofs.LongerLists.{slice_get-append, slice_get-seam}
 
 pub calls_more : (a : List ScriptLine) (l : ScriptLine) (who : ℕ) → calls_of (a ++ l ∷ []) who ≡ calls_of a who ++ cond (eqb l.who who) (l.call ∷ []) []
 calls_more [] l who = at (eqb l.who who)

@@ -1,7 +1,7 @@
 pub mod CivilLemmas
 pub mod DayLemmas
 pub mod DigitLemmas
-pub mod Lists
+pub mod LongerLists
 pub mod NameLemmas
 pub mod Places
 pub mod ShownLemmas

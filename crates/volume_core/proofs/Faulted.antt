@@ -3,7 +3,7 @@ use Rattle.std.specs.Prelude.{ℕ, ◌≡◌, cond, List, [], ◌∷◌, ◌++�
 use Rattle.std.proofs.Common.{refl, sym, ap, subst, ◌∙◌, append_assoc}
 use Rattle.std.proofs.Math.Seq.{set-append_seam}
 use Rattle.std.proofs.lemmas.Bool.{eq-eqb}
-use Rattle.tape_types.proofs.Lists.{slice_get-seam}
+use Rattle.tape_types.proofs.LongerLists.{slice_get-seam}
 use Rattle.tape_types.specs.declared.cartridges.Twin.{Twin}
 use Rattle.plain_tree.specs.declared.calls.Fate.TheVariants as fates
 use Rattle.plain_tree.specs.declared.calls.Placed.{Placed}
