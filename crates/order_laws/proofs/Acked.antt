@@ -7,6 +7,7 @@ use Rattle.std.proofs.lemmas.List.{map-append}
 use Rattle.std.proofs.lemmas.List.Elements.{All-append, All-contains, All-contains_itself, All-get_or, All-map, All-push, All-weaker, filter_map-append}
 use Rattle.std.proofs.lemmas.List.Folds.{list_any-append}
 use Rattle.std.proofs.lemmas.List.Quantifiers.{all_pairs_push}
+use Rattle.std.proofs.lemmas.Option.{slice_get_within}
 use Rattle.session_script.specs.declared.logs.Ack.{Ack}
 use Rattle.session_script.specs.declared.logs.Event.{Event}
 use Rattle.session_script.specs.declared.logs.Event.TheVariants.{Wants, Queues, Syncs, Synced, Drains, Rests, Served, Worked}
@@ -81,7 +82,7 @@ synced_turn added old new turned rises =
         ap synced_at (turned.each k reply e).0 ∙ or_false (is_synced (Some reply)) (has k (filter_map synced_ticket added)) (has_answered added k ∙ (turned.each k reply e).1)
         ∙ ap (λ o. synced_at o || has k (filter_map synced_ticket added)) (sym e)
     by k (not_yet e) =
-        let x = Rattle.order_laws.proofs.Lists.at_some new k (omega (arith, turned.count, Rattle.order_laws.proofs.Lists.at_within old k None e)) in
+        let x = Rattle.order_laws.proofs.Lists.at_some new k (omega (arith, turned.count, slice_get_within old k None e)) in
         ap synced_at x.1 ∙ turned.replied k x.0 e x.1 ∙ sym (has_answered added k) ∙ ap (λ o. synced_at o || has k (filter_map synced_ticket added)) (sym e)
 
 -- ---- acks

@@ -5,7 +5,7 @@ use Rattle.std.proofs.Common.{⊎_elim, refl, sym, ap, subst, ◌∙◌, arith, 
 use Rattle.std.proofs.lemmas.Bool.{and_from, eq-eqb, eqb-true, false_from_ne_true}
 use Rattle.std.proofs.lemmas.List.{length_push}
 use Rattle.std.proofs.lemmas.List.Elements.{filter_map-append}
-use Rattle.std.proofs.lemmas.Option.{slice_get_past}
+use Rattle.std.proofs.lemmas.Option.{slice_get_past, slice_get_within}
 use Rattle.tape_types.proofs.LongerLists.{slice_get-seam}
 use Rattle.tape_types.specs.declared.moments.Moment.{Moment}
 use Rattle.plain_tree.specs.declared.calls.Fate.TheVariants as fates
@@ -190,7 +190,7 @@ module _ {D : Type 0} (first now : Drive) (old : View D) (p : Placed) (reply : O
           ap (λ b. b && list_any (syncs_it k) (fold after_event (after_all old.events) added).syncs) same.wants ∙ ap (λ b. list_any (wants_it k) (after_all old.events).requests && b) same.syncs ∙ c.kept.apart k
       by true is = subst (λ n. (list_any (wants_it n) (fold after_event (after_all old.events) added).requests && list_any (syncs_it n) (fold after_event (after_all old.events) added).syncs) ≡ false) (eqb-true (length old.history) k is)
           (c.own.apart (false_from_ne_true (is_waiting (after_all old.events) (length old.history))
-          (λ waits. omega (arith, c.kept.count, Rattle.order_laws.proofs.Lists.at_within old.replies (length old.history) None (c.kept.orderly.waiting.waits (length old.history) waits)))))
+          (λ waits. omega (arith, c.kept.count, slice_get_within old.replies (length old.history) None (c.kept.orderly.waiting.waits (length old.history) waits)))))
 
   still_rising : CanPlace → is_rising (synced_places (old.replies ++ reply ∷ []) ++ tickets (after_all (old.events ++ added)).syncs) ≡ true
   still_rising c =
@@ -205,10 +205,10 @@ module _ {D : Type 0} (first now : Drive) (old : View D) (p : Placed) (reply : O
     count = omega (arith, length_push old.replies reply, length_push old.history p, c.kept.count);
     done = λ k q h r. ⊎_elim
         (λ was. ⊎_elim (λ now. c.kept.done k q was now)
-        (λ last. absurd (omega (arith, last.0, c.kept.count, Rattle.order_laws.proofs.Lists.at_within old.history k q was)))
+        (λ last. absurd (omega (arith, last.0, c.kept.count, slice_get_within old.history k q was)))
         (at_push old.replies reply None k r))
         (λ last. subst (λ (q : Placed). q.fate ≡ fates.Done) last.1
-        (c.fate (⊎_elim (λ was. absurd (omega (arith, last.0, c.kept.count, Rattle.order_laws.proofs.Lists.at_within old.replies k None was))) (λ end. end.1) (at_push old.replies reply None k r))))
+        (c.fate (⊎_elim (λ was. absurd (omega (arith, last.0, c.kept.count, slice_get_within old.replies k None was))) (λ end. end.1) (at_push old.replies reply None k r))))
         (at_push old.history p q k h);
     apart = λ k. subst (λ (s : State). (list_any (wants_it k) s.requests && list_any (syncs_it k) s.syncs) ≡ false) (sym (after_more old.events added)) (still_apart c k);
     rising = still_rising c;
