@@ -17,25 +17,10 @@ use Rattle.plain_tree.specs.Refusals.{first_of, refuse_if, bad_name, at_root, wh
 use Rattle.plain_tree.specs.Tree as plain
 use Rattle.plain_tree.specs.Valid.{IsValid, is_dir, mark_of, mark_at}
 use Rattle.file_tree.specs.declared.nodes.Node.{Node}
-use Rattle.file_tree.specs.declared.ready.Ready.{Ready}
-use Rattle.file_tree.specs.declared.ready.Ready.TheVariants as readies
 use Rattle.file_tree.specs.Tree.{Nodes, FileTree, StandsAt, number_at, plain_node_of, plain_nodes, plain_of, whole}
-use Rattle.file_tree.specs.Ready.{IsReady, IsPlaced, IsChecked, about}
 use Rattle.file_tree.proofs.EditLemmas.{parent_ends}
 use Rattle.file_tree.proofs.PathLemmas.{no_name}
 use Rattle.file_tree.proofs.PlainLemmas.{plain_get}
-
--- ---- the arms of the calls
-
--- a call about the node that was found
-pub placed_at : (t : FileTree) (call want : Call) (check : Path → Option Refusal) (s p : Path) (found : Result ℕ Refusal) (placed : Result Ready Refusal) → call ≡ want → s ≡ p → placed ≡ about found → refusal_of (plain_of whole t) want ≡ check p
-    → ((n : ℕ) → StandsAt t p n → IsReady t want (readies.At n)) → IsChecked (check s) t s found → IsPlaced t call placed
-placed_at t call want check s p found placed asked same is why ready checked =
-    subst (λ c. IsPlaced t c placed) (sym asked) (subst (λ r. IsPlaced t want r) (sym is) (by found (subst (λ q. IsChecked (check q) t q found) same checked)))
-  where
-    by : (found : Result ℕ Refusal) → IsChecked (check p) t p found → IsPlaced t want (about found)
-    by (Ok n) is = (why ∙ is.0, ready n is.1)
-    by (Err refusal) is = why ∙ is
 
 -- ---- the order of the checks
 

@@ -5,8 +5,8 @@ use Rattle.tape_types.specs.Bounds.{longest_file}
 use Rattle.tape_types.specs.declared.moments.Moment.{Moment}
 use Rattle.tape_types.specs.declared.cartridges.Extent.{Extent}
 use Rattle.extent_map.specs.Laid.{Laid, Room, IsLaid, overlaid, resized}
-use Rattle.file_tree.specs.declared.changes.Change.{Change}
-use Rattle.file_tree.specs.declared.changes.Change.TheVariants as changes
+use Rattle.file_tree.specs.declared.changes.NodeChange.{NodeChange}
+use Rattle.file_tree.specs.declared.changes.NodeChange.TheVariants as changes
 use Rattle.file_tree.specs.declared.nodes.Node.{Node}
 use Rattle.file_tree.specs.declared.nodes.Kind.{Kind}
 use Rattle.file_tree.specs.declared.nodes.Kind.TheVariants as kinds
@@ -46,7 +46,7 @@ abbrev pub IsRelaid : (Laid → Laid) → Moment → Node → Node → Type 0
 IsRelaid change at before next = relaid_as change at before next before.kind
 
 -- the node is changed so at this moment
-abbrev pub IsChangedBy : Change → Moment → Node → Node → Type 0
+abbrev pub IsChangedBy : NodeChange → Moment → Node → Node → Type 0
 IsChangedBy changes.Touch at before next = next ≡ touched at before
 IsChangedBy changes.Note at before next = next ≡ change_noted at before
 IsChangedBy (changes.Resize length) at before next = IsRelaid (λ laid. resized laid length) at before next
@@ -58,7 +58,7 @@ can_overlay new (kinds.File room) = CanOverlay room new
 can_overlay new (kinds.Link text) = ⊤
 
 -- the node can be changed so
-abbrev pub CanChange : Change → Node → Type 0
+abbrev pub CanChange : NodeChange → Node → Type 0
 CanChange changes.Touch node = ⊤
 CanChange changes.Note node = ⊤
 CanChange (changes.Resize length) node = length ≤ longest_file

@@ -8,7 +8,7 @@ use tape_types::{Extent, Moment, NoMemory};
 
 /// A change of a node that takes no memory.
 #[derive(Clone, Copy)]
-pub enum Change {
+pub enum NodeChange {
     /// Sets change and modify time.
     Touch,
     /// Sets the change time.
@@ -19,16 +19,16 @@ pub enum Change {
     Overlay(Extent),
 }
 
-pub fn change_node(node: &mut Node, change: Change, at: Moment)
+pub fn change_node(node: &mut Node, change: NodeChange, at: Moment)
     requires { CanChange change node.old }
     ensures changed { IsChangedBy change at node.old node.new }
     ensures number { node.new.number ≡ node.old.number }
 {
     match change {
-        Change::Touch => touch_node(node, at),
-        Change::Note => node.times.change = at,
-        Change::Resize(length) => resize_node(node, length, at),
-        Change::Overlay(new) => overlay_node(node, new, at),
+        NodeChange::Touch => touch_node(node, at),
+        NodeChange::Note => node.times.change = at,
+        NodeChange::Resize(length) => resize_node(node, length, at),
+        NodeChange::Overlay(new) => overlay_node(node, new, at),
     }
 }
 
@@ -51,7 +51,7 @@ fn resize_node(node: &mut Node, length: u64, at: Moment)
 }
 
 fn overlay_node(node: &mut Node, new: Extent, at: Moment)
-    requires { CanChange (Change.Overlay new) node.old }
+    requires { CanChange (NodeChange.Overlay new) node.old }
     ensures changed { IsRelaid (λ laid. overlaid laid new) at node.old node.new }
     ensures number { node.new.number ≡ node.old.number }
 {

@@ -5,66 +5,31 @@ ghost use Rattle.plain_tree.specs.Refusals.{bad_name as why_bad_name, no_node as
 ghost use Rattle.plain_tree.specs.Refusals.{no_file as why_no_file, exists_at, not_empty, first_of, refuse_if};
 ghost use Rattle.plain_tree.specs.Refusals.{too_many, too_long as why_too_long, new_refusal as why_not_new};
 ghost use Rattle.plain_tree.specs.Refusals.{refusal_of};
+ghost use Rattle.plain_tree.specs.declared.calls.Call.TheVariants as asks;
 ghost use Rattle.file_tree.specs.Tree.{StandsAt, plain_of, whole};
 ghost use Rattle.file_tree.specs.Places.{IsThere};
-ghost use Rattle.file_tree.specs.Ready.{IsPlaced, IsPlacedBy, IsChecked, AreChecked, made_in, about};
+ghost use Rattle.file_tree.specs.Checks.{AreChecked, IsChecked, IsMove};
 
 use crate::found::Found;
-use crate::ready::Ready;
 use crate::tree::Tree;
-use plain_tree::{Call, Refusal, Sort};
+use plain_tree::{Refusal, Sort};
 use std::alloc::Global;
-use tape_types::{LONGEST_FILE, MOST_NODES, NameErr, NoMemory, Text, check_name};
+use tape_types::{NameErr, NoMemory, Text, check_name};
+
+/// What a rename moves, where the tree doesn't refuse it.
+#[derive(Clone, Copy, Debug, PartialEq, Eq)]
+pub enum Move {
+    /// Nothing: it is to the path that the node has.
+    Nothing,
+    /// The node with this number, into the directory with that number.
+    Into { number: u32, dir: u32 },
+}
+
+const MOST_NODES: u32 = 65536;
+
+const LONGEST: u64 = 1 << 40;
 
 const LAST_UID: u64 = 1 << 62;
-
-/// Which nodes a call is about, or why it is refused, where no byte is lost on the tape.
-pub fn place_call(
-    tree: &Tree,
-    alloc: Global,
-    call: &Call,
-) -> Result<Result<Ready, Refusal>, NoMemory>
-    ensures { IfOk result (λ placed. IsPlaced tree.now call.now placed) }
-{
-    match call {
-        Call::Mkdir { path } => Ok(make_in(dir_of_new(tree, alloc, path.as_slice())?)),
-        Call::Create { path } => Ok(make_in(dir_of_new(tree, alloc, path.as_slice())?)),
-        Call::Write {
-            path,
-            offset,
-            bytes,
-        } => Ok(at(long_file_at(tree, path.as_slice(), *offset, bytes.len() as u64))),
-        Call::Truncate { path, length } => {
-            Ok(at(long_file_at(tree, path.as_slice(), *length, 0)))
-        }
-        Call::Read { path, .. } => Ok(at(file_at(tree, path.as_slice()))),
-        Call::Listing { path } => Ok(at(dir_at(tree, path.as_slice()))),
-        Call::Stat { path } => Ok(at(node_at(tree, path.as_slice()))),
-        Call::Rename { from, to } => place_rename(tree, alloc, from.as_slice(), to.as_slice()),
-        Call::Remove { path } => Ok(at(bare_at(tree, path.as_slice()))),
-        Call::Sync => Ok(Ok(Ready::Nothing)),
-    }
-}
-
-/// A new node in the directory that was found.
-fn make_in(found: Result<u32, Refusal>) -> Result<Ready, Refusal>
-    ensures { result ≡ made_in found }
-{
-    match found {
-        Ok(dir) => Ok(Ready::Make { dir }),
-        Err(refusal) => Err(refusal),
-    }
-}
-
-/// The node that was found.
-fn at(found: Result<u32, Refusal>) -> Result<Ready, Refusal>
-    ensures { result ≡ about found }
-{
-    match found {
-        Ok(number) => Ok(Ready::At { number }),
-        Err(refusal) => Err(refusal),
-    }
-}
 
 /// Whether the last name is one that no node may have.
 fn bad_name(alloc: Global, path: &[Text]) -> Result<Option<Refusal>, NoMemory>
@@ -106,7 +71,7 @@ fn dir_at(tree: &Tree, path: &[Text]) -> Result<u32, Refusal>
 }
 
 /// The file at a path, or why the path is none.
-fn file_at(tree: &Tree, path: &[Text]) -> Result<u32, Refusal>
+pub fn file_at(tree: &Tree, path: &[Text]) -> Result<u32, Refusal>
     ensures { IsChecked (why_no_file (plain_of whole tree.now).nodes path.now) tree.now path.now result }
 {
     match tree.find(path) {
@@ -121,7 +86,7 @@ fn file_at(tree: &Tree, path: &[Text]) -> Result<u32, Refusal>
 }
 
 /// The file at a path, or why it can't be as long as to the end of a range.
-fn long_file_at(tree: &Tree, path: &[Text], offset: u64, count: u64) -> Result<u32, Refusal>
+pub fn long_file_at(tree: &Tree, path: &[Text], offset: u64, count: u64) -> Result<u32, Refusal>
     ensures { IsChecked
         (first_of (why_no_file (plain_of whole tree.now).nodes path.now ∷ why_too_long (offset + count) ∷ []))
         tree.now path.now result }
@@ -138,8 +103,8 @@ fn long_file_at(tree: &Tree, path: &[Text], offset: u64, count: u64) -> Result<u
 }
 
 /// The node at a path, or why it can't be removed.
-fn bare_at(tree: &Tree, path: &[Text]) -> Result<u32, Refusal>
-    ensures { IsChecked (refusal_of (plain_of whole tree.now) (Call.Remove path.now)) tree.now path.now result }
+pub fn bare_at(tree: &Tree, path: &[Text]) -> Result<u32, Refusal>
+    ensures { IsChecked (refusal_of (plain_of whole tree.now) (asks.Remove path.now)) tree.now path.now result }
 {
     if path.is_empty() {
         return Err(Refusal::Root);
@@ -157,7 +122,11 @@ fn bare_at(tree: &Tree, path: &[Text]) -> Result<u32, Refusal>
 }
 
 /// The directory of a new node's path, or why no node may be made there.
-fn dir_of_new(tree: &Tree, alloc: Global, path: &[Text]) -> Result<Result<u32, Refusal>, NoMemory>
+pub fn dir_of_new(
+    tree: &Tree,
+    alloc: Global,
+    path: &[Text],
+) -> Result<Result<u32, Refusal>, NoMemory>
     ensures { IfOk result (λ found. IsChecked (why_not_new (plain_of whole tree.now) path.now) tree.now
         (paths.parent_of path.now) found) }
 {
@@ -197,14 +166,15 @@ fn is_full(tree: &Tree) -> bool
     tree.count() >= MOST_NODES || tree.highest() >= LAST_UID
 }
 
-/// Which nodes a rename is about, or why it is refused.
-fn place_rename(
+/// What a rename moves, or why it is refused.
+pub fn find_move(
     tree: &Tree,
     alloc: Global,
     from: &[Text],
     to: &[Text],
-) -> Result<Result<Ready, Refusal>, NoMemory>
-    ensures { IfOk result (λ placed. IsPlaced tree.now (Call.Rename from.now to.now) placed) }
+) -> Result<Result<Move, Refusal>, NoMemory>
+    ensures { IfOk result (λ found. IsMove (refusal_of (plain_of whole tree.now) (asks.Rename from.now to.now))
+        tree.now from.now to.now found) }
 {
     if let Some(refusal) = bad_name(alloc, to)? {
         return Ok(Err(refusal));
@@ -272,23 +242,23 @@ fn both_in(tree: &Tree, up: &[Text], name: &Text) -> Result<(u32, u32), Refusal>
     }
 }
 
-/// What a rename is ready for, once both nodes are found, or why it is refused.
+/// What a rename moves, once both nodes are found, or why it is refused.
 fn move_in(
     tree: &Tree,
     from: &[Text],
     to: &[Text],
     numbers: (u32, u32),
     name: &Text,
-) -> Result<Ready, Refusal>
+) -> Result<Move, Refusal>
     requires there { IsThere tree.now.nodes numbers.1 }
     ensures { (up : Path) → StandsAt tree.now from.now numbers.0 → StandsAt tree.now up numbers.1
-        → to.now ≡ up ++ name.now ∷ [] → IsPlacedBy (if paths.same_path from.now to.now then None else
+        → to.now ≡ up ++ name.now ∷ [] → IsMove (if paths.same_path from.now to.now then None else
         first_of (exists_at (plain_of whole tree.now).nodes to.now
         ∷ refuse_if (paths.is_below from.now to.now) Refusal.Inside ∷ []))
-        tree.now (Call.Rename from.now to.now) result }
+        tree.now from.now to.now result }
 {
     if same_path(from, to) {
-        return Ok(Ready::Same);
+        return Ok(Move::Nothing);
     }
     let (number, dir) = numbers;
     if tree.taken(dir, name).is_some() {
@@ -297,7 +267,7 @@ fn move_in(
     if is_below(from, to) {
         return Err(Refusal::Inside);
     }
-    Ok(Ready::Move { number, dir })
+    Ok(Move::Into { number, dir })
 }
 
 /// Whether two paths are one. Long ones mostly differ in their last names.

@@ -7,7 +7,7 @@ ghost use Rattle.file_tree.specs.Seen.{held};
 ghost use Rattle.file_tree.specs.Order.{AreEmpty};
 ghost use Rattle.file_tree.specs.Places.{used, CanStore, IsSetIn};
 
-use crate::changes::Change;
+use crate::changes::NodeChange;
 use crate::guesses::Guesses;
 use crate::listing::lines_of;
 use crate::members::{child, is_child, name_in, name_out, named};
@@ -346,7 +346,7 @@ impl Places {
     }
 
     /// Changes a node. Takes no memory.
-    pub fn change(&mut self, number: u32, change: Change, at: Moment)
+    pub fn change(&mut self, number: u32, change: NodeChange, at: Moment)
         requires there { IsThere self.old.nodes number }
         requires can { (path : Path) (node : Node) → fin.get self.old.nodes path ≡ Some node → node.number ≡ number
             → CanChange change node }

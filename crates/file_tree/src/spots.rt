@@ -5,7 +5,7 @@ ghost use Rattle.file_tree.specs.Seen.{held};
 ghost use Rattle.file_tree.specs.Changes.{CanChange, IsChangedBy, IsRoomier, HasRoom};
 ghost use Rattle.file_tree.specs.Places.{used, IsChangedIn, IsSetIn};
 
-use crate::changes::{Change, change_node, reserve_node};
+use crate::changes::{NodeChange, change_node, reserve_node};
 use crate::nodes::Spot;
 use tape_types::{Moment, NoMemory, Text};
 
@@ -75,7 +75,7 @@ pub fn shift_spot(spots: &mut Spots, number: u32, dir: u32, name: Text)
 }
 
 /// Changes a node.
-pub fn change_spot(spots: &mut Spots, number: u32, change: Change, at: Moment)
+pub fn change_spot(spots: &mut Spots, number: u32, change: NodeChange, at: Moment)
     requires there { IsSome (held spots.old.items number) }
     requires can { (s : Spot) → held spots.old.items number ≡ Some s → CanChange change s.node }
     ensures changed { IsChangedIn spots.old.items spots.new.items number (λ a b. IsChangedBy change at a b) }

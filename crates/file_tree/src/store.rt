@@ -1,7 +1,7 @@
 ghost use Rattle.std.specs.Prelude.{◌≡◌};
 ghost use Rattle.file_tree.specs.Seen.{Seen, Seen-prop};
 
-use crate::changes::Change;
+use crate::changes::NodeChange;
 use crate::nodes::{Node, Spot};
 use crate::spots::{change_spot, fill_spot, reserve_spot, shift_spot, spot_at, take_spot};
 use std::alloc::Global;
@@ -206,7 +206,7 @@ impl Store {
     }
 
     /// Changes a node. Takes no memory.
-    pub fn change(&mut self, number: u32, change: Change, at: Moment)
+    pub fn change(&mut self, number: u32, change: NodeChange, at: Moment)
         requires there { IsThere self.old.nodes number }
         requires can { (path : Path) (node : Node) → fin.get self.old.nodes path ≡ Some node → node.number ≡ number
             → CanChange change node }

@@ -6,18 +6,16 @@ ghost use Rattle.file_tree.specs.Tree.{HasExtents, number_at};
 ghost use Rattle.file_tree.specs.Edits.{IsNewKind, IsLongAt, made_node};
 
 use crate::carried::{Carried, Heading};
-use crate::changes::Change;
-use crate::checks::place_call;
+use crate::changes::NodeChange;
 use crate::found::{Found, facts_of, lost_below, sort_of};
 use crate::mount::place_nodes;
 use crate::nodes::{Kind, Node};
 use crate::places::Places;
 use crate::raws::Letters;
-use crate::ready::Ready;
 use extent_map::Extents;
 use index_model::Index;
 use node_keys::Keys;
-use plain_tree::{Call, Entry, Facts, Refusal, Sort};
+use plain_tree::{Entry, Facts, Sort};
 use std::alloc::Global;
 use std::marker::Model;
 use tape_types::{Extent, List, Moment, NoMemory, Text, Times};
@@ -86,11 +84,10 @@ impl Tree {
     ghost use Rattle.file_tree.specs.Tree.{StandsAt, HasExtents, HasLaid, number_at, plain_of, whole};
     ghost use Rattle.plain_tree.specs.declared.nodes.Node.{Node as PlainNode};
     ghost use Rattle.plain_tree.specs.Tree.{entries_in, facts_of};
-    ghost use Rattle.plain_tree.specs.Refusals.{no_node, refusal_of};
+    ghost use Rattle.plain_tree.specs.Refusals.{no_node};
     ghost use Rattle.file_tree.specs.Places.{IsThere};
     ghost use Rattle.file_tree.specs.Mounts.{CanMount, IsTreeOf};
     ghost use Rattle.file_tree.specs.Reads.{IsFound, refusal_found, IsOfSort};
-    ghost use Rattle.file_tree.specs.Ready.{IsPlaced};
     ghost use Rattle.file_tree.specs.Carried.{index_of_tree};
     ghost use Rattle.file_tree.specs.Told.{told_nodes};
     ghost use Rattle.file_tree.specs.Valid.{IsFileOf, IsGood};
@@ -227,23 +224,6 @@ impl Tree {
         carried.to_index(alloc, heading, self.highest, nodes)
     }
 
-    /// Why a call is refused, where no byte is lost on the tape.
-    pub fn check(&self, alloc: Global, call: &Call) -> Result<Option<Refusal>, NoMemory>
-        ensures { IfOk result (λ refusal. refusal ≡ refusal_of (plain_of whole self.now) call.now) }
-    {
-        match self.place(alloc, call)? {
-            Ok(_) => Ok(None),
-            Err(refusal) => Ok(Some(refusal)),
-        }
-    }
-
-    /// Which nodes a call is about, or why it is refused, where no byte is lost on the tape.
-    pub fn place(&self, alloc: Global, call: &Call) -> Result<Result<Ready, Refusal>, NoMemory>
-        ensures { IfOk result (λ placed. IsPlaced self.now call.now placed) }
-    {
-        place_call(self, alloc, call)
-    }
-
     /// Makes room for one more node.
     pub fn reserve(&mut self) -> Result<(), NoMemory>
         ensures nodes { self.new.nodes ≡ self.old.nodes }
@@ -274,7 +254,7 @@ impl Tree {
         let kind = new_kind(self.alloc, sort, self.block_size);
         let node = new_node(self.alloc, uid, kind, at);
         let number = self.places.put(dir, name, node);
-        self.places.change(dir, Change::Touch, at);
+        self.places.change(dir, NodeChange::Touch, at);
         self.highest = uid;
         number
     }
@@ -294,7 +274,7 @@ impl Tree {
     {
         let dir = self.places.parent(number);
         self.places.take(number);
-        self.places.change(dir, Change::Touch, at);
+        self.places.change(dir, NodeChange::Touch, at);
     }
 
     /// Moves a node, and all below it, under a name into a directory. Takes no memory.
@@ -312,9 +292,9 @@ impl Tree {
         let _is_text = name.as_str();
         let old = self.places.parent(number);
         self.places.shift(number, dir, name);
-        self.places.change(number, Change::Note, at);
-        self.places.change(old, Change::Touch, at);
-        self.places.change(dir, Change::Touch, at);
+        self.places.change(number, NodeChange::Note, at);
+        self.places.change(old, NodeChange::Touch, at);
+        self.places.change(dir, NodeChange::Touch, at);
     }
 
     /// The extents of a file.
@@ -357,7 +337,7 @@ impl Tree {
         ensures room { self.new.spare ≡ self.old.spare }
     {
         let _numbers_differ = self.places.len();
-        self.places.change(file, Change::Overlay(new), at);
+        self.places.change(file, NodeChange::Overlay(new), at);
     }
 
     /// Cuts a file, or makes it longer by bytes that are 0. The length that it has changes nothing. Takes no memory.
@@ -374,7 +354,7 @@ impl Tree {
         ensures room { self.new.spare ≡ self.old.spare }
     {
         if length_of(&self.places, file) != length {
-            self.places.change(file, Change::Resize(length), at);
+            self.places.change(file, NodeChange::Resize(length), at);
         }
     }
 }

@@ -1,15 +1,18 @@
 -- What calls that store nothing ask of the tape.
-use Rattle.std.proofs.Common.{◌≡◌, ◌≢◌, ℕ, Bool, true, false, cond, eqb, length, Option, Some, None, sym, ap, ◌∙◌, refl, subst, arith}
+use Rattle.std.proofs.Common.{◌≡◌, ◌≢◌, ℕ, suc, Bool, true, false, cond, eqb, [], ◌∷◌, length, Option, Some, None, Result, Ok, Err, IfOk, sym, ap, ◌∙◌, refl, subst, arith}
+use Rattle.std.specs.Prelude.{◌==◌}
 use Rattle.std.specs.FinMap as fin
 use Rattle.std.proofs.lemmas.Bool.Decides.{nat_tests}
 use Rattle.tape_types.specs.declared.moments.Moment.{Moment}
 use Rattle.plain_tree.specs.Paths.{Path, same_path}
-use Rattle.plain_tree.specs.Refusals.{refusal_of}
+use Rattle.plain_tree.specs.Refusals.{new_refusal, refusal_of}
 use Rattle.plain_tree.specs.Tree as plain
 use Rattle.plain_tree.specs.Tree.{cells_at}
 use Rattle.plain_tree.specs.declared.calls.Call.{Call}
 use Rattle.plain_tree.specs.declared.calls.Call.TheVariants as asks
 use Rattle.plain_tree.specs.declared.calls.Refusal.{Refusal}
+use Rattle.plain_tree.specs.declared.calls.Refusal.TheVariants as refusals
+use Rattle.plain_tree.specs.declared.calls.Sort.{Sort}
 use Rattle.plain_tree.specs.declared.calls.Sort.TheVariants as sorts
 use Rattle.extent_map.specs.Cells.{Tape}
 use Rattle.extent_map.specs.Laid.{Laid, Room, resized}
@@ -17,6 +20,7 @@ use Rattle.file_tree.specs.Blocks.{AddsNoBlock}
 use Rattle.file_tree.specs.Edits.{making, IsTruncated, KeepsVolume, NumbersCome, OthersLie}
 use Rattle.file_tree.specs.Tree.{FileTree, HasExtents, HasLaid, StandsAt, plain_kind_of, plain_of, whole}
 use Rattle.file_tree.specs.Valid.{IsGood}
+use Rattle.file_tree.proofs.PathLemmas.{some_same}
 use Rattle.file_tree.proofs.TreeLemmas.{after_free, free_too}
 use Rattle.file_tree.proofs.WriteLemmas.{long_as}
 use Rattle.space_laws.proofs.PlainAsks.{ask_plainly}
@@ -24,7 +28,7 @@ use Rattle.space_laws.specs.Files.{Files, with_file}
 use Rattle.space_laws.specs.Laws.{may_lay_anew}
 use Rattle.space_laws.specs.Space.{change, nothing}
 use Rattle.space_laws.specs.Standing.{Given, Standing, ask_of, ask_unless, ask_unrefused, uid_at}
-use Rattle.held_volume.specs.Applied.{IsChanging, IsStill}
+use Rattle.held_volume.specs.Applied.{IsChanging, IsMade, IsStill, IsTried}
 use Rattle.held_volume.specs.Steps.{IsStep}
 use Rattle.held_volume.specs.Stocks.{LieAs}
 use Rattle.held_volume.proofs.Lies.{path_of, plain_there}
@@ -115,20 +119,59 @@ module _ (t : FileTree) (path : Path) (file : ℕ) (room : Room) (size : ℕ) (a
           numbers others highest volume tape st.files held);
     }
 
--- ---- the arms of a match on the call
+-- ---- new nodes
 
-module _ (before next : FileTree) (at : Moment) (call : Call) (free : refusal_of (plain_of whole before) call ≡ None) where
-  free_as : (other : Call) → call ≡ other → refusal_of (plain_of whole before) other ≡ None
-  free_as other is = ap (refusal_of (plain_of whole before)) (sym is) ∙ free
+-- a node is made by this call alone, which is refused as any new node is
+pub made_refusal : (t : plain.Tree) (sort : Sort) (path : Path) (call : Call) → making sort path ≡ Some call → refusal_of t call ≡ new_refusal t path
+made_refusal t sorts.Dir path call is = ap (refusal_of t) (sym (some_same (asks.Mkdir path) call is))
+made_refusal t sorts.File path call is = ap (refusal_of t) (sym (some_same (asks.Create path) call is))
+made_refusal t sorts.Link path call is = let wrong : None ≡ Some call = is in cc
 
-  pub mkdir_arm : (path slice : Path) → call ≡ asks.Mkdir path → slice ≡ path → ((c : Call) → making sorts.Dir slice ≡ Some c → IsStep c at before next) → IsChanging call at before next
-  mkdir_arm path slice is same steps = subst (λ c. IsChanging c at before next) (sym is)
-      (step_changes before next at (asks.Mkdir path) (λ p o c e. cc) refl (λ g st. refl) (free_as (asks.Mkdir path) is) (steps (asks.Mkdir path) (ap (λ p. Some (asks.Mkdir p)) same)))
+-- a new directory and a new file are changes
+dir_changes : (before next : FileTree) (at : Moment) (path : Path) → refusal_of (plain_of whole before) (asks.Mkdir path) ≡ None → IsStep (asks.Mkdir path) at before next
+    → IsChanging (asks.Mkdir path) at before next
+dir_changes before next at path free step = step_changes before next at (asks.Mkdir path) (λ p o c e. cc) refl (λ g st. refl) free step
 
-  pub create_arm : (path slice : Path) → call ≡ asks.Create path → slice ≡ path → ((c : Call) → making sorts.File slice ≡ Some c → IsStep c at before next) → IsChanging call at before next
-  create_arm path slice is same steps = subst (λ c. IsChanging c at before next) (sym is)
-      (step_changes before next at (asks.Create path) (λ p o c e. cc) refl (λ g st. refl) (free_as (asks.Create path) is) (steps (asks.Create path) (ap (λ p. Some (asks.Create p)) same)))
+file_changes : (before next : FileTree) (at : Moment) (path : Path) → refusal_of (plain_of whole before) (asks.Create path) ≡ None → IsStep (asks.Create path) at before next
+    → IsChanging (asks.Create path) at before next
+file_changes before next at path free step = step_changes before next at (asks.Create path) (λ p o c e. cc) refl (λ g st. refl) free step
 
-  pub remove_arm : (path slice : Path) → call ≡ asks.Remove path → slice ≡ path → IsStep (asks.Remove slice) at before next → IsChanging call at before next
-  remove_arm path slice is same step = subst (λ c. IsChanging c at before next) (sym is)
-      (step_changes before next at (asks.Remove path) (λ p o c e. cc) refl (λ g st. refl) (free_as (asks.Remove path) is) (subst (λ p. IsStep (asks.Remove p) at before next) same step))
+-- so what was made is tried
+pub dir_tried : {E : Type 0} (before next : FileTree) (at : Moment) (path : Path) (r : Result (Result Bool Refusal) E) → IfOk r (λ made. (call : Call) → making sorts.Dir path ≡ Some call → IsMade call at before next made)
+    → IfOk r (IsTried (asks.Mkdir path) at before next)
+dir_tried before next at path (Ok (Ok true)) made = let m = made (asks.Mkdir path) refl in (m.0, dir_changes before next at path m.0 m.1)
+dir_tried before next at path (Ok (Ok false)) made = absurd (made (asks.Mkdir path) refl)
+dir_tried before next at path (Ok (Err refusal)) made = made (asks.Mkdir path) refl
+dir_tried before next at path (Err e) made = tt
+
+pub file_tried : {E : Type 0} (before next : FileTree) (at : Moment) (path : Path) (r : Result (Result Bool Refusal) E) → IfOk r (λ made. (call : Call) → making sorts.File path ≡ Some call → IsMade call at before next made)
+    → IfOk r (IsTried (asks.Create path) at before next)
+file_tried before next at path (Ok (Ok true)) made = let m = made (asks.Create path) refl in (m.0, file_changes before next at path m.0 m.1)
+file_tried before next at path (Ok (Ok false)) made = absurd (made (asks.Create path) refl)
+file_tried before next at path (Ok (Err refusal)) made = made (asks.Create path) refl
+file_tried before next at path (Err e) made = tt
+
+-- a node that is taken out is a change
+pub removed_changes : (before next : FileTree) (at : Moment) (path : Path) → refusal_of (plain_of whole before) (asks.Remove path) ≡ None → IsStep (asks.Remove path) at before next
+    → IsChanging (asks.Remove path) at before next
+removed_changes before next at path free step = step_changes before next at (asks.Remove path) (λ p o c e. cc) refl (λ g st. refl) free step
+
+-- ---- what is refused at once
+
+-- no node is made at the root
+pub none_at_root : (t : plain.Tree) (path : Path) → length path ≡ 0 → new_refusal t path ≡ Some refusals.Root
+none_at_root t [] is = refl
+none_at_root t (name ∷ path) is = absurd (omega (arith, is))
+
+-- a path with a name isn't the root's
+below_root : (n : ℕ) → (suc n == 0) ≡ false
+below_root n = grind (arith, nat_tests)
+
+-- no node is moved there
+to_root : (t : plain.Tree) (from : Path) → refusal_of t (asks.Rename from []) ≡ Some refusals.Root
+to_root t [] = refl
+to_root t (name ∷ from) = rw (below_root (length from)) refl
+
+pub none_to_root : (t : plain.Tree) (from to : Path) → length to ≡ 0 → refusal_of t (asks.Rename from to) ≡ Some refusals.Root
+none_to_root t from [] is = to_root t from
+none_to_root t from (name ∷ to) is = absurd (omega (arith, is))

@@ -1,5 +1,5 @@
 -- That what is held after a call is what stands after it.
-use Rattle.std.proofs.Common.{◌≡◌, ℕ, ◌+◌, ◌*◌, ◌/◌, ◌<◌, ◌≤◌, max, Bool, true, false, eqb, nat_lt, drop, List, [], ◌∷◌, ◌++◌, length, Option, Some, None, Result, Ok, Err, sym, ap, ◌∙◌, refl, subst, arith, ⊎_elim}
+use Rattle.std.proofs.Common.{◌≡◌, ℕ, ◌+◌, ◌*◌, ◌/◌, ◌<◌, ◌≤◌, max, Bool, true, false, eqb, nat_lt, drop, List, [], ◌∷◌, ◌++◌, length, Option, Some, None, Result, Ok, Err, IfOk, IfErr, OnErr, sym, ap, ◌∙◌, refl, subst, arith, ⊎_elim}
 use Rattle.std.specs.Int.{div_ceil}
 use Rattle.std.specs.Option.{unwrap_or}
 use Rattle.std.proofs.lemmas.List.{append-nil}
@@ -16,16 +16,17 @@ use Rattle.extent_map.specs.Cells.{Tape}
 use Rattle.extent_map.specs.Laid.{overlaid}
 use Rattle.plain_tree.specs.Calls.{after}
 use Rattle.plain_tree.specs.Paths.{Path, last_name}
-use Rattle.plain_tree.specs.Refusals.{refusal_of}
+use Rattle.plain_tree.specs.Refusals.{no_file, refusal_of}
 use Rattle.plain_tree.specs.Tree as plain
 use Rattle.plain_tree.specs.declared.calls.Call.{Call}
 use Rattle.plain_tree.specs.declared.calls.Call.TheVariants as asks
 use Rattle.plain_tree.specs.declared.calls.Refusal.{Refusal}
 use Rattle.file_tree.specs.Blocks.{ExtentLiesBelow, TreeStandsIn}
-use Rattle.file_tree.specs.Tree.{FileTree, plain_of, whole}
+use Rattle.file_tree.specs.Checks.{IsChecked}
+use Rattle.file_tree.specs.Tree.{FileTree, StandsAt, plain_of, whole}
 use Rattle.file_tree.specs.Writes.{HoldsBytes}
 use Rattle.file_tree.proofs.BlockLemmas.{blocks_make_the_tree, ends_hold}
-use Rattle.file_tree.proofs.RefusalLemmas.{refusals_alike}
+use Rattle.file_tree.proofs.RefusalLemmas.{refusals_alike, whole_read}
 use Rattle.file_tree.proofs.TreeLemmas.{free_too}
 use Rattle.placement.specs.Computed.{chooses_ip}
 use Rattle.tape_layout.specs.Admissions.{Admission, IsAdmitted, data_admission}
@@ -41,10 +42,12 @@ use Rattle.space_laws.specs.Space as space
 use Rattle.space_laws.specs.Space.{Ask, Rules, Space, blocks, change, index, index_need, is_over, limit_of, need_of, nothing, ops_of, part_for, plan_of, store}
 use Rattle.space_laws.specs.Standing.{Given, Standing, ask_of, ask_unless, ask_unrefused, files_after, rules, uid_at}
 use Rattle.volume_sync.specs.declared.frames.Frame.{Frame}
-use Rattle.held_volume.specs.Applied.{IsApplied, IsChange, IsDone, IsFull, IsChanging, IsLate, IsRefusedAs, IsTreeStep, IsUnchanged, LeavesAll, new_run}
+use Rattle.held_volume.specs.Applied.{IsApplied, IsChange, IsDone, IsFull, IsChanging, IsLate, IsNoted, IsTreeStep, IsTried, IsUnchanged, LeavesAll, new_run}
+use Rattle.held_volume.specs.Reads.{IsReadable}
 use Rattle.held_volume.specs.Steps.{IsSameTree, IsWrite, file_changed}
 use Rattle.held_volume.specs.Stocks.{IsStock, LieAs, Stocked, ends_of, stocked, with_change}
 use Rattle.held_volume.proofs.Asks.{asks_nothing}
+use Rattle.held_volume.proofs.TreeSteps.{unchanged}
 
 -- ---- what is held is as it was
 
@@ -300,29 +303,69 @@ pub refused_leaves : (old before : FileTree) (l now : Plan) (f : Frame) (a : Adm
 refused_leaves old before l now f a (Full need limit) same admitted = subst (λ n. IsUnchanged (stocked old l f) (stocked before n f)) (sym admitted.3) (is_unchanged old before l f same)
 refused_leaves old before l now f a NoMemory same admitted = subst (λ n. IsUnchanged (stocked old l f) (stocked before n f)) (sym admitted) (is_unchanged old before l f same)
 
--- ---- the arms of a match on the call
+-- ---- a call as a whole
 
-pub write_arm : (early : Tape) (g : Given) (on : Bool) (st : Standing) (call : Call) (path slice : Path) (offset : ℕ) (bytes given : List ℕ) (at : Moment) (old new : Stocked) (r : Result Unit AdmitErr)
-    → call ≡ asks.Write path offset bytes → slice ≡ path → given ≡ bytes → IsChange early g on st (asks.Write slice offset given) at old new r → IsChange early g on st call at old new r
-write_arm early g on st call path slice offset bytes given at old new r is same same_bytes h =
-    subst (λ c. IsChange early g on st c at old new r) (ap (λ p. asks.Write p offset given) same ∙ ap (λ b. asks.Write path offset b) same_bytes ∙ sym is) h
-
+-- a call that the tree refuses is refused, whatever is lost on the tape
 pub refused_too : (early : Tape) (t : FileTree) (tree : plain.Tree) (call : Call) (refusal : Refusal) → plain_of early t ≡ tree → refusal_of (plain_of whole t) call ≡ Some refusal → refusal_of tree call ≡ Some refusal
 refused_too early t tree call refusal is told =
     ap (λ t. refusal_of t call) (sym is) ∙ ⊎_elim (λ (same : refusal_of (plain_of early t) call ≡ refusal_of (plain_of whole t) call). same ∙ told)
     (λ lost. absurd (let wrong : None ≡ Some refusal = sym lost.1 ∙ told in cc)) (refusals_alike early t call)
 
--- ---- a call as a whole
+-- what is told of a write that the tree doesn't refuse
+pub write_told : (early : Tape) (g : Given) (on : Bool) (st : Standing) (call : Call) (at : Moment) (old new : Stocked) → refusal_of (plain_of whole old.tree) call ≡ None
+    → IsDone early g on st call at old new → IsApplied early g on st call at old new (Ok None)
+write_told early g on st call at old new free h = (free, h)
 
-abbrev pub lifted : Result Unit AdmitErr → Result (Option Refusal) AdmitErr
-lifted (Ok done) = Ok None
-lifted (Err e) = Err e
+pub write_not : (early : Tape) (g : Given) (on : Bool) (st : Standing) (call : Call) (at : Moment) (old new : Stocked) (e : AdmitErr) → refusal_of (plain_of whole old.tree) call ≡ None
+    → IsChange early g on st call at old new (Err e) → IsApplied early g on st call at old new (Err e)
+write_not early g on st call at old new (Full need limit) free h = (free, h)
+write_not early g on st call at old new NoMemory free h = tt
 
-pub as_applied : (early : Tape) (g : Given) (on : Bool) (st : Standing) (call : Call) (at : Moment) (old new : Stocked) (r : Result Unit AdmitErr) (q : Result (Option Refusal) AdmitErr)
-    → refusal_of (plain_of whole old.tree) call ≡ None → IsChange early g on st call at old new r → q ≡ lifted r → IsApplied early g on st call at old new q
-as_applied early g on st call at old new (Ok done) q free h is = subst (λ q. IsApplied early g on st call at old new q) (sym is) (free, h)
-as_applied early g on st call at old new (Err (Full need limit)) q free h is = subst (λ q. IsApplied early g on st call at old new q) (sym is) (free, h)
-as_applied early g on st call at old new (Err NoMemory) q free h is = subst (λ q. IsApplied early g on st call at old new q) (sym is) tt
+-- a call that stores nothing is applied once it was tried and noted
+pub tried_applied : {E : Type 0} (before next : FileTree) (l : Plan) (f now : Frame) (call want : Call) (at : Moment) (tried : Result (Result Bool Refusal) E) (told : Result (Option Refusal) AdmitErr)
+    → call ≡ want → IfOk tried (IsTried want at before next) → IsNoted tried f now told
+    → (early : Tape) (g : Given) (on : Bool) (st : Standing) → IsStock early g on st (stocked before l f)
+    → IsApplied early g on st call at (stocked before l f) (stocked next l now) told
+tried_applied before next l f now call want at (Ok (Ok changed)) told is try note early g on st i =
+    subst (λ c. IsApplied early g on st c at (stocked before l f) (stocked next l now) told) (sym is)
+    (subst (λ t. IsApplied early g on st want at (stocked before l f) (stocked next l now) t) (sym note.0)
+    (try.0, subst (λ n. IsDone early g on st want at (stocked before l f) (stocked next l n)) (sym note.1) (step_done before next l f want at changed try.1 early g on st i)))
+tried_applied before next l f now call want at (Ok (Err refusal)) told is try note early g on st i =
+    subst (λ c. IsApplied early g on st c at (stocked before l f) (stocked next l now) told) (sym is)
+    (subst (λ t. IsApplied early g on st want at (stocked before l f) (stocked next l now) t) (sym note.0)
+    (refused_too early before st.tree want refusal i.plain try.0))
+tried_applied before next l f now call want at (Err none) told is try note early g on st i =
+    subst (λ t. IsApplied early g on st call at (stocked before l f) (stocked next l now) t) (sym note.0) tt
+
+-- and leaves all where it isn't done
+pub tried_leaves : {E : Type 0} (before next : FileTree) (l : Plan) (f now : Frame) (want : Call) (at : Moment) (tried : Result (Result Bool Refusal) E) (told : Result (Option Refusal) AdmitErr)
+    → IfOk tried (IsTried want at before next) → OnErr tried (IsSameTree before next) → IsNoted tried f now told
+    → LeavesAll (stocked before l f) (stocked next l now) told
+tried_leaves before next l f now want at (Ok (Ok changed)) told try err note = subst (LeavesAll (stocked before l f) (stocked next l now)) (sym note.0) tt
+tried_leaves before next l f now want at (Ok (Err refusal)) told try err note =
+    subst (LeavesAll (stocked before l f) (stocked next l now)) (sym note.0)
+    (ap (λ t. stocked t l now) try.1 ∙ ap (stocked before l) note.1)
+tried_leaves before next l f now want at (Err none) told try err note =
+    subst (LeavesAll (stocked before l f) (stocked next l now)) (sym note.0)
+    (subst (λ n. IsUnchanged (stocked before l f) (stocked next l n)) (sym note.1) (is_unchanged before next l f err))
+
+-- a file that is found may be read
+pub readable : (t : FileTree) (path : Path) (r : Result ℕ Refusal) → IsChecked (no_file (plain_of whole t).nodes path) t path r → IfOk r (IsReadable t path)
+readable t path (Ok file) is = record { stands = is.1; free = λ offset count. whole_read t path offset count ∙ is.0 }
+readable t path (Err refusal) is = tt
+
+-- and a read of what is none is refused, whatever is lost on the tape
+pub not_readable : (t : FileTree) (s : Stocked) (path : Path) (r : Result ℕ Refusal) → t ≡ s.tree → IsChecked (no_file (plain_of whole t).nodes path) t path r
+    → IfErr r (λ refusal. (offset count : ℕ) (tape : Tape) (g : Given) (on : Bool) (st : Standing) → IsStock tape g on st s
+    → refusal_of st.tree (asks.Read path offset count) ≡ Some refusal)
+not_readable t s path (Ok file) same is = tt
+not_readable t s path (Err refusal) same is = λ offset count tape g on st i.
+    refused_too tape t st.tree (asks.Read path offset count) refusal (ap (plain_of tape) same ∙ i.plain) (whole_read t path offset count ∙ is)
+
+-- a tree that is the same is so whatever stands on tape
+pub same_tree : {X E : Type 0} (before next : FileTree) (r : Result X E) → OnErr r (next ≡ before) → OnErr r (IsSameTree before next)
+same_tree before next (Ok x) is = tt
+same_tree before next (Err e) is = subst (IsSameTree before) (sym is) (unchanged before)
 
 -- ---- ops
 
@@ -347,7 +390,3 @@ op_done t l now f tape g on st i is = record {
   block_size = i.block_size;
   below = i.below;
 }
-
-pub refused_as : (early : Tape) (t : FileTree) (tree : plain.Tree) (call : Call) (r : Option Refusal) → plain_of early t ≡ tree → r ≡ refusal_of (plain_of whole t) call → IsRefusedAs tree call r
-refused_as early t tree call (Some refusal) is told = refused_too early t tree call refusal is (sym told)
-refused_as early t tree call None is told = tt

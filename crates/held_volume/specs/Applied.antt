@@ -8,7 +8,6 @@ use Rattle.extent_map.specs.Cells.{Tape}
 use Rattle.plain_tree.specs.Refusals.{refusal_of}
 use Rattle.plain_tree.specs.Tree.{Tree}
 use Rattle.plain_tree.specs.declared.calls.Call.{Call}
-use Rattle.plain_tree.specs.declared.calls.Call.TheVariants as asks
 use Rattle.plain_tree.specs.declared.calls.Refusal.{Refusal}
 use Rattle.file_tree.specs.Blocks.{AddsNoBlock, TreeStandsIn}
 use Rattle.file_tree.specs.Edits.{IsAfter, KeepsVolume}
@@ -19,7 +18,9 @@ use Rattle.tape_layout.specs.declared.errors.AdmitErr.{AdmitErr}
 use Rattle.tape_layout.specs.declared.errors.AdmitErr.TheVariants.{Full, NoMemory}
 use Rattle.space_laws.specs.Space.{Ask, change, is_over, limit_of, need_of, nothing, ops_of, part_for, store}
 use Rattle.space_laws.specs.Standing.{Given, Standing, after_done, ask_of, files_after, rules}
-use Rattle.held_volume.specs.Stocks.{IsStock, LieAs, Stocked}
+use Rattle.volume_sync.specs.declared.frames.Frame.{Frame}
+use Rattle.held_volume.specs.Steps.{IsStep}
+use Rattle.held_volume.specs.Stocks.{IsStock, LieAs, Stocked, with_change}
 
 -- the run of new blocks that bytes get
 abbrev pub new_run : Given → Bool → Standing → Bool → List ℕ → Extent
@@ -59,11 +60,6 @@ abbrev pub IsChange : Tape → Given → Bool → Standing → Call → Moment �
 IsChange early g on st call at old new (Ok done) = IsDone early g on st call at old new
 IsChange early g on st call at old new (Err (Full need limit)) = IsFull g on st call at need limit
 IsChange early g on st call at old new (Err NoMemory) = Unit {0}
-
--- what is told to refuse a call does so
-abbrev pub IsRefusedAs : Tree → Call → Option Refusal → Type 0
-IsRefusedAs tree call (Some refusal) = refusal_of tree call ≡ Some refusal
-IsRefusedAs tree call None = Unit {0}
 
 -- What a call is answered: the tree's refusal, where no byte is lost on the tape; that it is done; or that it doesn't
 -- fit. Want of memory may stand in place of each.
@@ -107,8 +103,24 @@ abbrev pub IsTreeStep : Call → Moment → Bool → FileTree → FileTree → T
 IsTreeStep call at true before next = IsChanging call at before next
 IsTreeStep call at false before next = IsStill call at before next
 
--- a call that neither writes bytes nor asks for an index
-abbrev pub StoresNothing : Call → Type 0
-StoresNothing (asks.Write path offset bytes) = ⊥
-StoresNothing asks.Sync = ⊥
-StoresNothing _ = Unit {0}
+-- What a call that stores nothing makes of the tree: it is refused, where no byte is lost on the tape, and leaves it as
+-- it was; or it isn't, and has changed it or not.
+abbrev pub IsTried : Call → Moment → FileTree → FileTree → Result Bool Refusal → Type 0
+IsTried call at before next (Ok changed) =
+    (refusal_of (plain_of whole before) call ≡ None) × IsTreeStep call at changed before next
+IsTried call at before next (Err refusal) =
+    (refusal_of (plain_of whole before) call ≡ Some refusal) × (next ≡ before)
+
+-- what a call that makes a node makes of it: it is refused and leaves it as it was, or has made its step
+abbrev pub IsMade : Call → Moment → FileTree → FileTree → Result Bool Refusal → Type 0
+IsMade call at before next (Ok true) = (refusal_of (plain_of whole before) call ≡ None) × IsStep call at before next
+IsMade call at before next (Ok false) = ⊥
+IsMade call at before next (Err refusal) =
+    (refusal_of (plain_of whole before) call ≡ Some refusal) × (next ≡ before)
+
+-- what the next index stands on once that is noted, and what is told of the call
+abbrev pub IsNoted : {E : Type 0} → Result (Result Bool Refusal) E → Frame → Frame → Result (Option Refusal) AdmitErr
+    → Type 0
+IsNoted (Ok (Ok changed)) before next told = (told ≡ Ok None) × (next ≡ with_change changed before)
+IsNoted (Ok (Err refusal)) before next told = (told ≡ Ok (Some refusal)) × (next ≡ before)
+IsNoted (Err none) before next told = (told ≡ Err NoMemory) × (next ≡ before)

@@ -16,7 +16,7 @@ use Rattle.plain_tree.specs.declared.calls.Answer.TheVariants.{Got, Refused}
 use Rattle.plain_tree.specs.declared.calls.Call.TheVariants.{Read}
 use Rattle.plain_tree.specs.declared.calls.Refusal.TheVariants.{Damaged}
 use Rattle.file_tree.specs.Blocks.{Ends, TreeStandsIn}
-use Rattle.file_tree.specs.Tree.{FileTree}
+use Rattle.file_tree.specs.Tree.{FileTree, StandsAt, plain_of, whole}
 use Rattle.space_laws.specs.Standing.{Standing, uid_at}
 use Rattle.held_volume.specs.Stocks.{ends_of}
 
@@ -51,6 +51,11 @@ PiecesStandIn tree pieces = AllByRecursion (PieceStandsIn tree) pieces
 
 abbrev pub PiecesLieBelow : Ends → List Piece → Type 0
 PiecesLieBelow ends pieces = AllByRecursion (PieceLiesBelow ends) pieces
+
+-- the node with this number stands at the path and may be read, where no byte is lost on the tape
+pub record IsReadable (tree : FileTree) (path : Path) (file : ℕ) : Type 0 where
+  pub stands : StandsAt tree path file
+  pub free : (offset count : ℕ) → refusal_of (plain_of whole tree) (Read path offset count) ≡ None
 
 -- These are the pieces of the range, up to the end of the file. The read is answered what they are read as, and refused
 -- only where a byte of them is lost. Each stands in a block of the tree, before the end of its partition.

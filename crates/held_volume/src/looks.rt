@@ -1,19 +1,19 @@
 //! Answers of calls that look at the tree alone.
 
-ghost use Rattle.std.specs.Prelude.{◌≡◌, Bool, None, IfOk};
+ghost use Rattle.std.specs.Prelude.{◌≡◌, Bool, IfOk};
 ghost use Rattle.extent_map.specs.Cells.{Tape};
 ghost use Rattle.plain_tree.specs.Calls.{answer};
-ghost use Rattle.plain_tree.specs.Refusals.{no_node, refusal_of};
-ghost use Rattle.file_tree.specs.Tree.{StandsAt, plain_of, whole};
+ghost use Rattle.plain_tree.specs.Paths.{Path};
+ghost use Rattle.file_tree.specs.Tree.{plain_of};
 ghost use Rattle.tape_layout.specs.Plans.{Plan};
 ghost use Rattle.space_laws.specs.Standing.{Given, Standing};
-ghost use Rattle.held_volume.specs.Reads.{IsPlanOfAtMost, IsReadPlan};
+ghost use Rattle.held_volume.specs.Reads.{IsPlanOfAtMost, IsReadPlan, IsReadable};
 ghost use Rattle.held_volume.specs.Stocks.{IsStock, stocked};
 ghost use Rattle.volume_sync.specs.declared.frames.Frame.{Frame};
 
 use extent_map::Piece;
 use file_tree::{Found, Tree};
-use plain_tree::{Answer, Call, Refusal, Sort};
+use plain_tree::{Answer, Call, Lines, Refusal, Sort};
 use std::alloc::Global;
 use tape_types::{List, NoMemory, Text};
 
@@ -24,7 +24,7 @@ pub fn list(tree: &Tree, alloc: Global, path: &[Text]) -> Result<Answer, NoMemor
     match tree.find(path) {
         Found::Node(number) => match tree.sort(number) {
             Sort::Dir => match tree.children(alloc, number) {
-                Ok(entries) => Ok(Answer::Names(entries)),
+                Ok(entries) => Ok(Answer::Names(Lines::new(alloc, entries)?)),
                 Err(e) => Err(e),
             },
             Sort::File => Ok(Answer::Refused(Refusal::NotDir)),
@@ -49,31 +49,20 @@ pub fn stat(tree: &Tree, alloc: Global, path: &[Text]) -> Result<Answer, NoMemor
     }
 }
 
-/// The number of the node at a path.
-fn node_at(tree: &Tree, path: &[Text]) -> u32
-    requires { no_node (plain_of whole tree.now).nodes path.now ≡ None }
-    ensures { StandsAt tree.now path.now result }
-{
-    match tree.find(path) {
-        Found::Node(number) => number,
-        Found::Missing | Found::NotDir => unreachable!(),
-    }
-}
-
-/// The pieces of a read that isn't refused, up to the end of the file.
+/// The pieces of at most so many bytes of a file from an offset on, up to its end.
 pub fn plan(
     tree: &Tree,
     alloc: Global,
-    path: &[Text],
+    file: u32,
     offset: u64,
     count: u64,
 ) -> Result<List<Piece>, NoMemory>
-    requires { refusal_of (plain_of whole tree.now) (Call.Read path.now offset count) ≡ None }
-    ensures reads { IfOk result (λ pieces. (l : Plan) (f : Frame) (tape : Tape) (g : Given) (on : Bool) (st : Standing)
-        → IsStock tape g on st (stocked tree.now l f) → IsReadPlan tape st tree.now path.now offset count pieces) }
+    requires { (path : Path) × IsReadable tree.now path file }
+    ensures reads { IfOk result (λ pieces. (path : Path) → IsReadable tree.now path file → (l : Plan) (f : Frame)
+        (tape : Tape) (g : Given) (on : Bool) (st : Standing)
+        → IsStock tape g on st (stocked tree.now l f) → IsReadPlan tape st tree.now path offset count pieces) }
     ensures most { IfOk result (λ pieces. IsPlanOfAtMost tree.now.block_size count pieces) }
 {
-    let file = node_at(tree, path);
     let _count = tree.count();
     let extents = tree.extents(file);
     let from = offset.min(extents.length());

@@ -1,36 +1,36 @@
 //! What is held of a volume.
 
-ghost use Rattle.std.specs.Prelude.{◌≡◌, ◌≤◌, ◌^◌, [], ◌∷◌, Bool, true, None, drop, length};
-ghost use Rattle.std.specs.Prelude.{OnErr, IfOk, IfSome, MatchOption};
+ghost use Rattle.std.specs.Prelude.{◌≡◌, ◌≤◌, ◌^◌, [], ◌∷◌, ℕ, Bool, true, Some, drop, length};
+ghost use Rattle.std.specs.Prelude.{OnErr, IfErr, IfOk, IfSome, MatchOption};
 ghost use Rattle.std.specs.Option.{option_map};
 ghost use Rattle.extent_map.specs.Cells.{Tape};
 ghost use Rattle.space_laws.specs.Standing.{Given, Standing, first_standing, rules};
 ghost use Rattle.held_volume.specs.Mounted.{CanStart, StartsFrom, letters_of};
-ghost use Rattle.plain_tree.specs.Calls.{answer};
+ghost use Rattle.plain_tree.specs.Calls.{answer, call_of_change};
+ghost use Rattle.plain_tree.specs.Paths.{Path};
 ghost use Rattle.plain_tree.specs.Refusals.{refusal_of};
 ghost use Rattle.std.specs.FinMap as fin;
 ghost use Rattle.file_tree.specs.Mounts.{IsTreeOf};
-ghost use Rattle.file_tree.specs.Ready.{IsReady};
-ghost use Rattle.file_tree.specs.Tree.{plain_of, whole};
+ghost use Rattle.file_tree.specs.Tree.{plain_of};
 ghost use Rattle.file_tree.specs.Valid.{IsGood};
 ghost use Rattle.tape_layout.specs.Ops.{HasRoom, held_in};
-ghost use Rattle.tape_layout.specs.Plans.{AreStanding, Plan};
-ghost use Rattle.held_volume.specs.Applied.{IsApplied, IsChange, IsRefusedAs, IsUnchanged, LeavesAll, StoresNothing};
+ghost use Rattle.tape_layout.specs.Plans.{AreStanding};
+ghost use Rattle.held_volume.specs.Applied.{IsApplied, IsChange, IsNoted, IsUnchanged, LeavesAll};
 ghost use Rattle.held_volume.specs.Closed.{IsDpChange, IsDpDocument, IsIpDocument, IsIpEnd, closed_dp};
-ghost use Rattle.held_volume.specs.Reads.{IsPlanOfAtMost, IsReadPlan};
-ghost use Rattle.held_volume.specs.Stocks.{IsStock, stocked, with_change};
+ghost use Rattle.held_volume.specs.Reads.{IsPlanOfAtMost, IsReadPlan, IsReadable};
+ghost use Rattle.held_volume.specs.Stocks.{IsStock, stocked};
 ghost use Rattle.held_volume.specs.Syncs.{BringsAtMost, IsDocument};
 
-use crate::changes::{change_tree, number_of};
+use crate::changes::{make, remove, rename, truncate};
 use crate::closings::{ClosingTexts, admit_on_ip, closing_texts};
 use crate::looks::{list, plan, stat};
-use crate::syncs::{admit_due, due_document, most_ops, sync};
+use crate::syncs::{admit_due, due_document, most_ops};
 use crate::writes::write;
 use cartridge_meaning::Mounted;
 use extent_map::Piece;
-use file_tree::{Carried, Ready, Tree};
+use file_tree::{Carried, Tree, file_at};
 use ltfs_label::Label;
-use plain_tree::{Answer, Call, Refusal};
+use plain_tree::{Answer, Call, Change, Refusal, Sort};
 use std::alloc::Global;
 use std::marker::Model;
 use tape_layout::{AdmitErr, Layout, Op};
@@ -104,49 +104,42 @@ impl Stock {
         })
     }
 
-    /// Makes a call at a moment, and tells why the tree refuses it. A call that is refused, and one that doesn't fit on
-    /// the tape, leaves all as it was, and so does one for which memory is refused.
-    pub fn apply(&mut self, call: &Call, at: Moment) -> Result<Option<Refusal>, AdmitErr>
+    /// Makes a change at a moment, and tells why the tree refuses it. A change that is refused, and one that doesn't fit
+    /// on the tape, leaves all as it was, and so does one for which memory is refused.
+    pub fn apply(&mut self, change: Change<'_>, at: Moment) -> Result<Option<Refusal>, AdmitErr>
         ensures applied { (early : Tape) (g : Given) (on : Bool) (st : Standing) → IsStock early g on st self.old
-            → IsApplied early g on st call.now at self.old self.new result }
+            → IsApplied early g on st (call_of_change change.entry) at self.old self.new result }
         ensures leaves { LeavesAll self.old self.new result }
     {
-        let ready = match self.tree.place(self.alloc, call)? {
-            Ok(ready) => ready,
-            Err(refusal) => return Ok(Some(refusal)),
-        };
-        let done = change(
+        apply(
             self.alloc,
             &mut self.tree,
             &mut self.layout,
             &mut self.frame,
-            call,
-            ready,
+            change,
             at,
-        );
-        match done {
-            Ok(()) => Ok(None),
-            Err(e) => Err(e),
-        }
+        )
     }
 
-    /// Why the tree refuses a call, where no byte is lost on the tape.
-    pub fn check(&self, call: &Call) -> Result<Option<Refusal>, NoMemory>
-        ensures refusal { IfOk result (λ refusal. refusal ≡ refusal_of (plain_of whole self.now.tree) call.now) }
-        ensures told { IfOk result (λ refusal. (tape : Tape) (g : Given) (on : Bool) (st : Standing)
-            → IsStock tape g on st self.now → IsRefusedAs st.tree call.now refusal) }
+    /// The number of the file at a path, or why a read of it is refused, where no byte is lost on the tape.
+    pub fn file_at(&self, path: &[Text]) -> Result<u32, Refusal>
+        ensures found { IfOk result (IsReadable self.now.tree path.now) }
+        ensures refused { IfErr result (λ refusal. (offset count : ℕ) (tape : Tape) (g : Given) (on : Bool)
+            (st : Standing) → IsStock tape g on st self.now
+            → refusal_of st.tree (Call.Read path.now offset count) ≡ Some refusal) }
     {
-        self.tree.check(self.alloc, call)
+        file_at(&self.tree, path)
     }
 
-    /// The pieces of a read that isn't refused, of at most so many bytes from an offset on, up to the end of the file.
-    pub fn plan(&self, path: &[Text], offset: u64, count: u64) -> Result<List<Piece>, NoMemory>
-        requires { refusal_of (plain_of whole self.now.tree) (Call.Read path.now offset count) ≡ None }
-        ensures reads { IfOk result (λ pieces. (tape : Tape) (g : Given) (on : Bool) (st : Standing)
-            → IsStock tape g on st self.now → IsReadPlan tape st self.now.tree path.now offset count pieces) }
+    /// The pieces of at most so many bytes of a file from an offset on, up to its end.
+    pub fn plan(&self, file: u32, offset: u64, count: u64) -> Result<List<Piece>, NoMemory>
+        requires { (path : Path) × IsReadable self.now.tree path file }
+        ensures reads { IfOk result (λ pieces. (path : Path) → IsReadable self.now.tree path file
+            → (tape : Tape) (g : Given) (on : Bool) (st : Standing)
+            → IsStock tape g on st self.now → IsReadPlan tape st self.now.tree path offset count pieces) }
         ensures most { IfOk result (λ pieces. IsPlanOfAtMost self.now.tree.block_size count pieces) }
     {
-        plan(&self.tree, self.alloc, path, offset, count)
+        plan(&self.tree, self.alloc, file, offset, count)
     }
 
     /// The text of the index that a sync at a moment admits, or none where nothing has changed since the last one.
@@ -156,17 +149,6 @@ impl Stock {
         ensures some { IfOk result (λ due. IfSome due (λ doc. 1 ≤ length doc.items)) }
     {
         due_document(self.alloc, &self.tree, &self.layout, &self.frame, at)
-    }
-
-    /// Admits the text that `document` gave.
-    pub fn sync(&mut self, due: &Option<Vec<u8>>) -> Result<(), AdmitErr>
-        requires { IfSome due.now (λ doc. 1 ≤ length doc.items) }
-        ensures applied { (early : Tape) (g : Given) (on : Bool) (st : Standing) (at : Moment)
-            → IsStock early g on st self.old → IsDocument g st at (option_map (λ doc. doc.items) due.now)
-            → IsChange early g on st Call.Sync at self.old self.new result }
-        ensures leaves { OnErr result (IsUnchanged self.old self.new) }
-    {
-        admit_due(&mut self.layout, &mut self.frame, due)
     }
 
     /// The texts of the indexes that a close at a moment admits. That on the index partition tells of the one on the
@@ -182,10 +164,13 @@ impl Stock {
         closing_texts(self.alloc, &self.tree, &self.layout, &self.frame, at)
     }
 
-    /// Admits the text that a close has on the data partition.
+    /// Admits the text that a sync or a close has on the data partition.
     pub fn admit_dp(&mut self, due: &Option<Vec<u8>>) -> Result<(), AdmitErr>
         requires { IfSome due.now (λ doc. 1 ≤ length doc.items) }
-        ensures applied { (early : Tape) (g : Given) (on : Bool) (st : Standing) (at : Moment)
+        ensures syncs { (early : Tape) (g : Given) (on : Bool) (st : Standing) (at : Moment)
+            → IsStock early g on st self.old → IsDocument g st at (option_map (λ doc. doc.items) due.now)
+            → IsChange early g on st Call.Sync at self.old self.new result }
+        ensures closes { (early : Tape) (g : Given) (on : Bool) (st : Standing) (at : Moment)
             → IsStock early g on st self.old → IsDpDocument g st at (option_map (λ doc. doc.items) due.now)
             → IsDpChange early g on st at self.old self.new result }
         ensures leaves { OnErr result (IsUnchanged self.old self.new) }
@@ -224,13 +209,6 @@ impl Stock {
         ensures { result ≡ self.now.frame.last_dp }
     {
         self.frame.last_dp
-    }
-
-    /// Whether both coherency attributes were those of the last indexes when the volume was mounted.
-    pub fn noted(&self) -> bool
-        ensures { result ≡ self.now.frame.noted }
-    {
-        self.frame.noted
     }
 
     /// How many ops a write of these bytes, or a sync whose index has this text, brings at most.
@@ -317,82 +295,48 @@ impl Stock {
     }
 }
 
-/// Makes a call that the tree doesn't refuse.
-fn change(
+/// Makes a change at a moment, and tells why the tree refuses it.
+fn apply(
     alloc: Global,
     tree: &mut Tree,
     layout: &mut Layout,
     frame: &mut Frame,
-    call: &Call,
-    ready: Ready,
+    change: Change<'_>,
     at: Moment,
-) -> Result<(), AdmitErr>
-    requires free { refusal_of (plain_of whole tree.old) call.now ≡ None }
-    requires ready { IsReady tree.old call.now ready }
-    requires generation { frame.old.generation ≤ 2 ^ 62 }
+) -> Result<Option<Refusal>, AdmitErr>
     ensures applied { (early : Tape) (g : Given) (on : Bool) (st : Standing)
         → IsStock early g on st (stocked tree.old layout.old frame.old)
-        → IsChange early g on st call.now at (stocked tree.old layout.old frame.old)
+        → IsApplied early g on st (call_of_change change.entry) at (stocked tree.old layout.old frame.old)
         (stocked tree.new layout.new frame.new) result }
-    ensures err { OnErr result (IsUnchanged (stocked tree.old layout.old frame.old)
-        (stocked tree.new layout.new frame.new)) }
-    ensures generation { frame.new.generation ≤ 2 ^ 62 }
+    ensures leaves { LeavesAll (stocked tree.old layout.old frame.old) (stocked tree.new layout.new frame.new) result }
+    ensures generation { frame.new.generation ≡ frame.old.generation }
 {
-    match call {
-        Call::Write {
+    match change {
+        Change::Mkdir { path } => note(frame, make(tree, alloc, path, Sort::Dir, at)),
+        Change::Create { path } => note(frame, make(tree, alloc, path, Sort::File, at)),
+        Change::Write {
             path,
             offset,
             bytes,
-        } => {
-            let path = path.as_slice();
-            let file = number_of(tree, path, ready);
-            write(
-                tree,
-                layout,
-                frame,
-                path,
-                file,
-                *offset,
-                bytes.as_slice(),
-                at,
-            )
-        }
-        Call::Sync => sync(alloc, tree, layout, frame, at),
-        _ => change_alone(alloc, tree, frame, call, ready, at),
+        } => write(tree, layout, frame, path, offset, bytes, at),
+        Change::Truncate { path, length } => note(frame, Ok(truncate(tree, path, length, at))),
+        Change::Rename { from, to } => note(frame, rename(tree, alloc, from, to, at)),
+        Change::Remove { path } => note(frame, Ok(remove(tree, path, at))),
     }
 }
 
-/// Makes a call that isn't refused and stores nothing.
-fn change_alone(
-    alloc: Global,
-    tree: &mut Tree,
+/// Notes whether the tree has changed, and tells why a call was refused.
+fn note(
     frame: &mut Frame,
-    call: &Call,
-    ready: Ready,
-    at: Moment,
-) -> Result<(), AdmitErr>
-    requires free { refusal_of (plain_of whole tree.old) call.now ≡ None }
-    requires ready { IsReady tree.old call.now ready }
-    requires stores { StoresNothing call.now }
-    ensures applied { (l : Plan) (early : Tape) (g : Given) (on : Bool) (st : Standing)
-        → IsStock early g on st (stocked tree.old l frame.old)
-        → IsChange early g on st call.now at (stocked tree.old l frame.old) (stocked tree.new l frame.new) result }
-    ensures err { OnErr result ((l : Plan)
-        → IsUnchanged (stocked tree.old l frame.old) (stocked tree.new l frame.new)) }
-    ensures generation { frame.new.generation ≡ frame.old.generation }
+    tried: Result<Result<bool, Refusal>, NoMemory>,
+) -> Result<Option<Refusal>, AdmitErr>
+    ensures { IsNoted tried frame.old frame.new result }
 {
-    let Ok(changed) = change_tree(tree, alloc, call, ready, at) else {
-        return Err(AdmitErr::NoMemory);
-    };
-    note(frame, changed);
-    Ok(())
-}
-
-/// Notes whether the tree has changed.
-fn note(frame: &mut Frame, changed: bool)
-    ensures { frame.new ≡ with_change changed frame.old }
-{
-    if changed {
-        frame.changed = true;
+    match tried? {
+        Ok(changed) => {
+            frame.changed |= changed;
+            Ok(None)
+        }
+        Err(refusal) => Ok(Some(refusal)),
     }
 }

@@ -76,29 +76,6 @@ pub fn admit_due(
     }
 }
 
-/// Admits an index of the tree where it has changed since the last one.
-pub fn sync(
-    alloc: Global,
-    tree: &Tree,
-    layout: &mut Layout,
-    frame: &mut Frame,
-    at: Moment,
-) -> Result<(), AdmitErr>
-    requires { frame.old.generation ≤ 2 ^ 62 }
-    ensures applied { (early : Tape) (g : Given) (on : Bool) (st : Standing)
-        → IsStock early g on st (stocked tree.now layout.old frame.old)
-        → IsChange early g on st Call.Sync at (stocked tree.now layout.old frame.old)
-        (stocked tree.now layout.new frame.new) result }
-    ensures err { OnErr result (IsUnchanged (stocked tree.now layout.old frame.old)
-        (stocked tree.now layout.new frame.new)) }
-    ensures generation { frame.new.generation ≤ 2 ^ 62 }
-{
-    let Ok(due) = due_document(alloc, tree, layout, frame, at) else {
-        return Err(AdmitErr::NoMemory);
-    };
-    admit_due(layout, frame, &due)
-}
-
 /// How many ops a write of these bytes, or an index with this text, brings at most, over blocks of this size.
 pub fn most_ops(bytes: &[u8], block: u32) -> usize
     requires { 1 ≤ block }

@@ -11,20 +11,47 @@ ghost use Rattle.plain_tree.specs.Tree.{cells_at};
 ghost use Rattle.file_tree.specs.Edits.{CanWrite};
 ghost use Rattle.file_tree.specs.Tree.{HasExtents, StandsAt, plain_of, whole};
 ghost use Rattle.space_laws.specs.Standing.{Given, Standing};
-ghost use Rattle.held_volume.specs.Applied.{IsChange, IsUnchanged};
+ghost use Rattle.held_volume.specs.Applied.{IsApplied, IsChange, IsUnchanged, LeavesAll};
 ghost use Rattle.held_volume.specs.Steps.{IsSameTree, IsWrite};
 ghost use Rattle.held_volume.specs.Stocks.{IsStock, stocked};
 
-use file_tree::Tree;
+use file_tree::{Tree, long_file_at};
 use index_model::Policy;
 use placement::chooses_ip;
-use plain_tree::Call;
+use plain_tree::{Call, Refusal};
 use tape_layout::{AdmitErr, Layout};
 use tape_types::{Extent, Moment, NoMemory, Text};
 use volume_sync::Frame;
 
-/// Puts bytes into a file, which has this number, from an offset on: they are admitted for new blocks.
+/// Puts bytes into a file from an offset on, unless that is refused: they are admitted for new blocks.
 pub fn write(
+    tree: &mut Tree,
+    layout: &mut Layout,
+    frame: &mut Frame,
+    path: &[Text],
+    offset: u64,
+    bytes: &[u8],
+    at: Moment,
+) -> Result<Option<Refusal>, AdmitErr>
+    ensures applied { (early : Tape) (g : Given) (on : Bool) (st : Standing)
+        → IsStock early g on st (stocked tree.old layout.old frame.old)
+        → IsApplied early g on st (Call.Write path.now offset bytes.now) at (stocked tree.old layout.old frame.old)
+        (stocked tree.new layout.new frame.new) result }
+    ensures leaves { LeavesAll (stocked tree.old layout.old frame.old) (stocked tree.new layout.new frame.new) result }
+    ensures generation { frame.new.generation ≡ frame.old.generation }
+{
+    let file = match long_file_at(tree, path, offset, bytes.len() as u64) {
+        Ok(file) => file,
+        Err(refusal) => return Ok(Some(refusal)),
+    };
+    match write_at(tree, layout, frame, path, file, offset, bytes, at) {
+        Ok(()) => Ok(None),
+        Err(e) => Err(e),
+    }
+}
+
+/// Puts bytes into a file, which has this number, from an offset on: they are admitted for new blocks.
+fn write_at(
     tree: &mut Tree,
     layout: &mut Layout,
     frame: &mut Frame,

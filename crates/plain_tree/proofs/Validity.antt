@@ -17,8 +17,8 @@ use Rattle.plain_tree.specs.declared.nodes.Node.{Node}
 use Rattle.plain_tree.specs.declared.nodes.Kind.{Kind}
 use Rattle.plain_tree.specs.declared.nodes.Kind.TheVariants as kinds
 use Rattle.plain_tree.specs.declared.calls.Entry.{Entry}
-use Rattle.plain_tree.specs.declared.changes.Change.{Change}
-use Rattle.plain_tree.specs.declared.changes.Change.TheVariants as changes
+use Rattle.plain_tree.specs.declared.changes.NodeChange.{NodeChange}
+use Rattle.plain_tree.specs.declared.changes.NodeChange.TheVariants as changes
 use Rattle.plain_tree.proofs.PageLemmas.{ltb-is_true}
 use Rattle.plain_tree.specs.declared.calls.Refusal.{Refusal}
 use Rattle.plain_tree.specs.declared.calls.Refusal.TheVariants.{Root, Exists, NotEmpty, Inside}
@@ -77,7 +77,7 @@ file_mark change at node = by node.kind refl
     by (kinds.File cells) is = rw is refl
     by (kinds.Link text) is = rw is refl
 
-pub change_mark : (change : Change) (at : Moment) (node : Node) → mark_of (Some (changed_by change at node)) ≡ mark_of (Some node)
+pub change_mark : (change : NodeChange) (at : Moment) (node : Node) → mark_of (Some (changed_by change at node)) ≡ mark_of (Some node)
 change_mark changes.Touch at node = refl
 change_mark changes.Note at node = refl
 change_mark (changes.Resize size) at node = file_mark (λ cells. resized cells size) at node

@@ -10,6 +10,8 @@ use Rattle.plain_tree.specs.declared.calls.Answer.TheVariants as answers
 use Rattle.plain_tree.specs.declared.calls.Call.{Call}
 use Rattle.plain_tree.specs.declared.calls.Call.TheVariants.{Mkdir, Create, Write, Truncate, Read, Listing, Stat}
 use Rattle.plain_tree.specs.declared.calls.Call.TheVariants.{Rename, Remove, Sync}
+use Rattle.plain_tree.specs.declared.calls.Change.{Change}
+use Rattle.plain_tree.specs.declared.calls.Change.TheVariants as changes
 use Rattle.plain_tree.specs.declared.calls.Refusal.{Refusal}
 use Rattle.plain_tree.specs.Cells.{resized, range_of, bytes_of}
 use Rattle.plain_tree.specs.Paths.{Path, same_path, parent_of}
@@ -96,3 +98,12 @@ answer_unless (Some refusal) value = answers.Refused refusal
 -- what a call is answered
 abbrev pub answer : Tree → Call → Answer
 answer t call = answer_unless (refusal_of t call) (value_of t call)
+
+-- the call that asks for a change
+abbrev pub call_of_change : Change → Call
+call_of_change (changes.Mkdir path) = Mkdir path.now
+call_of_change (changes.Create path) = Create path.now
+call_of_change (changes.Write path offset bytes) = Write path.now offset bytes.now
+call_of_change (changes.Truncate path length) = Truncate path.now length
+call_of_change (changes.Rename from to) = Rename from.now to.now
+call_of_change (changes.Remove path) = Remove path.now

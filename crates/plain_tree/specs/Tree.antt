@@ -12,8 +12,8 @@ use Rattle.plain_tree.specs.declared.calls.Sort.{Sort}
 use Rattle.plain_tree.specs.declared.calls.Sort.TheVariants as sorts
 use Rattle.plain_tree.specs.declared.calls.Entry.{Entry}
 use Rattle.plain_tree.specs.declared.calls.Facts.{Facts}
-use Rattle.plain_tree.specs.declared.changes.Change.{Change}
-use Rattle.plain_tree.specs.declared.changes.Change.TheVariants as changes
+use Rattle.plain_tree.specs.declared.changes.NodeChange.{NodeChange}
+use Rattle.plain_tree.specs.declared.changes.NodeChange.TheVariants as changes
 use Rattle.plain_tree.specs.Cells.{Cell, written, resized}
 use Rattle.plain_tree.specs.Paths.{Path, path_cmp, name_in, moved_path}
 
@@ -71,7 +71,7 @@ abbrev pub written_to : ℕ → List ℕ → Moment → Node → Node
 written_to offset bytes at = file_changed (λ cells. written cells offset (map Some bytes)) at
 
 -- a node with a change made at a moment
-abbrev pub changed_by : Change → Moment → Node → Node
+abbrev pub changed_by : NodeChange → Moment → Node → Node
 changed_by changes.Touch at node = touched at node
 changed_by changes.Note at node = change_noted at node
 changed_by (changes.Resize size) at node = file_changed (λ cells. resized cells size) at node

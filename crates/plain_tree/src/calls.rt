@@ -1,6 +1,7 @@
 ghost use Rattle.std.specs.Prelude.{Some};
 ghost use Rattle.plain_tree.specs.RefusalNames.{refusal_name};
 
+use crate::lines::Lines;
 use std::fmt;
 use tape_types::{Bytes, List, Moment, Text, Times};
 
@@ -51,6 +52,33 @@ pub enum Call {
     },
     /// Asks that all that was placed before is found again after a failure.
     Sync,
+}
+
+/// A call that changes the tree, by what it asks.
+#[derive(Clone, Copy)]
+pub enum Change<'a> {
+    Mkdir {
+        path: &'a [Text],
+    },
+    Create {
+        path: &'a [Text],
+    },
+    Write {
+        path: &'a [Text],
+        offset: u64,
+        bytes: &'a [u8],
+    },
+    Truncate {
+        path: &'a [Text],
+        length: u64,
+    },
+    Rename {
+        from: &'a [Text],
+        to: &'a [Text],
+    },
+    Remove {
+        path: &'a [Text],
+    },
 }
 
 /// What a node is.
@@ -113,7 +141,7 @@ pub enum Answer {
     Done,
     Synced,
     Got(Bytes),
-    Names(List<Entry>),
+    Names(Lines),
     Facts(Facts),
     Refused(Refusal),
 }

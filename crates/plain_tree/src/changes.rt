@@ -12,7 +12,7 @@ use tape_types::{Moment, NoMemory, Times};
 
 /// A change of a node that takes no memory.
 #[derive(Clone, Copy)]
-pub enum Change {
+pub enum NodeChange {
     /// Sets change and modify time.
     Touch,
     /// Sets the change time.
@@ -21,13 +21,13 @@ pub enum Change {
     Resize(u64),
 }
 
-pub fn change_node(node: &mut Node, change: Change, at: Moment)
+pub fn change_node(node: &mut Node, change: NodeChange, at: Moment)
     ensures { node.new ≡ changed_by change at node.old }
 {
     match change {
-        Change::Touch => touch_node(node, at),
-        Change::Note => node.times.change = at,
-        Change::Resize(size) => resize_node(node, size, at),
+        NodeChange::Touch => touch_node(node, at),
+        NodeChange::Note => node.times.change = at,
+        NodeChange::Resize(size) => resize_node(node, size, at),
     }
 }
 

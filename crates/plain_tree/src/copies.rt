@@ -1,20 +1,8 @@
 ghost use Rattle.std.specs.Prelude.{◌≡◌, IfOk};
 
-use crate::calls::{Answer, Entry, Facts};
+use crate::calls::{Answer, Facts};
 use std::alloc::Global;
-use tape_types::{List, NoMemory};
-
-impl Entry {
-    /// A second line that equals this one.
-    pub fn try_clone(&self, alloc: Global) -> Result<Entry, NoMemory>
-        ensures { IfOk result (λ copy. copy ≡ self.now) }
-    {
-        Ok(Entry {
-            sort: self.sort,
-            name: self.name.try_clone(alloc)?,
-        })
-    }
-}
+use tape_types::NoMemory;
 
 impl Facts {
     /// Second facts that equal these.
@@ -32,7 +20,7 @@ impl Facts {
 }
 
 impl Answer {
-    /// A second answer that equals this one.
+    /// A second answer that equals this one. The lines of a listing are shared.
     pub fn try_clone(&self, alloc: Global) -> Result<Answer, NoMemory>
         ensures { IfOk result (λ copy. copy ≡ self.now) }
     {
@@ -40,19 +28,9 @@ impl Answer {
             Answer::Done => Ok(Answer::Done),
             Answer::Synced => Ok(Answer::Synced),
             Answer::Got(bytes) => Ok(Answer::Got(bytes.try_clone(alloc)?)),
-            Answer::Names(entries) => Ok(Answer::Names(second_lines(alloc, entries)?)),
+            Answer::Names(lines) => Ok(Answer::Names(lines.share()?)),
             Answer::Facts(facts) => Ok(Answer::Facts(facts.try_clone(alloc)?)),
             Answer::Refused(refusal) => Ok(Answer::Refused(*refusal)),
         }
     }
-}
-
-fn second_lines(alloc: Global, entries: &List<Entry>) -> Result<List<Entry>, NoMemory>
-    ensures { IfOk result (λ copy. copy ≡ entries.now) }
-{
-    let mut copy = List::new(alloc);
-    for entry in entries.as_slice() {
-        copy.push(entry.try_clone(alloc)?)?;
-    }
-    Ok(copy)
 }

@@ -6,6 +6,7 @@ mod changes;
 mod copies;
 mod keys;
 mod laws;
+mod lines;
 mod links;
 mod map_tree;
 mod node_map;
@@ -15,11 +16,12 @@ mod paths;
 mod plain;
 mod refusals;
 
-pub use calls::{Answer, Call, Entry, Facts, Fate, Placed, Refusal, Sort};
+pub use calls::{Answer, Call, Change, Entry, Facts, Fate, Placed, Refusal, Sort};
 pub use keys::NodeKeys;
 pub use laws::{
     attributes_stay, listings_are_exact, reads_see_writes, refused_calls_change_nothing,
     renames_keep_nodes, trees_stay_valid, uids_never_return,
 };
+pub use lines::Lines;
 pub use nodes::{Kind, Node};
 pub use plain::Plain;

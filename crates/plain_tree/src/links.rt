@@ -11,7 +11,7 @@ ghost use Rattle.plain_tree.specs.Links.{IsLast};
 ghost use Rattle.plain_tree.specs.Paths.{Name};
 
 use crate::calls::Entry;
-use crate::changes::{Change, change_node, put_node, sort_of, write_node};
+use crate::changes::{NodeChange, change_node, put_node, sort_of, write_node};
 use crate::keys::NodeKeys;
 use crate::nodes::{Kind, Node};
 use std::alloc::Global;
@@ -116,7 +116,7 @@ impl Links {
     }
 
     /// Changes what stands under a name of a directory.
-    pub fn change(&mut self, uid: u64, name: &Text, change: Change, at: Moment)
+    pub fn change(&mut self, uid: u64, name: &Text, change: NodeChange, at: Moment)
         ensures { IsPut (child self.old) (child self.new) uid name.now
             (option_map (changed_by change at) (child self.old uid name.now)) }
     {
@@ -203,7 +203,7 @@ fn put_name(names: &mut Names, name: Text, node: Node) -> Result<(), NoMemory>
     Ok(())
 }
 
-fn change_name(names: &mut Names, name: &Text, change: Change, at: Moment)
+fn change_name(names: &mut Names, name: &Text, change: NodeChange, at: Moment)
     ensures { IsPutIn names.old names.new name.now
         (option_map (changed_by change at) (get name_cmp names.old name.now)) }
 {

@@ -6,7 +6,8 @@ ghost use Rattle.plain_tree.specs.Tree.{empty_tree, facts_of, sort_of, cells_at}
 ghost use Rattle.plain_tree.specs.Calls.{after, after_unless, answer, answer_unless, with_new, with_length};
 
 use crate::calls::{Answer, Call, Facts, Refusal};
-use crate::changes::{Change, new_node, sort_of};
+use crate::changes::{NodeChange, new_node, sort_of};
+use crate::lines::Lines;
 use crate::node_map::NodeMap;
 use crate::nodes::{Kind, Node};
 use crate::paged::PagedFile;
@@ -101,7 +102,7 @@ impl MapTree {
         let uid = self.highest + 1;
         self.nodes
             .insert(self.alloc, path, new_node(self.alloc, kind, uid, at))?;
-        self.nodes.change(parent(path), Change::Touch, at);
+        self.nodes.change(parent(path), NodeChange::Touch, at);
         self.highest = uid;
         Ok(Answer::Done)
     }
@@ -138,7 +139,7 @@ impl MapTree {
             Ok(_) if size > LONGEST_FILE => Answer::Refused(Refusal::TooLong),
             Ok(present) => {
                 if size != present {
-                    self.nodes.change(path, Change::Resize(size), at);
+                    self.nodes.change(path, NodeChange::Resize(size), at);
                 }
                 Answer::Done
             }
@@ -163,7 +164,10 @@ impl MapTree {
     {
         match no_dir(&self.nodes, path) {
             Some(refusal) => Ok(Answer::Refused(refusal)),
-            None => Ok(Answer::Names(self.nodes.list(self.alloc, path)?)),
+            None => {
+                let entries = self.nodes.list(self.alloc, path)?;
+                Ok(Answer::Names(Lines::new(self.alloc, entries)?))
+            }
         }
     }
 
@@ -182,7 +186,7 @@ impl MapTree {
             return Answer::Refused(Refusal::NotEmpty);
         }
         self.nodes.remove(path);
-        self.nodes.change(parent(path), Change::Touch, at);
+        self.nodes.change(parent(path), NodeChange::Touch, at);
         Answer::Done
     }
 
@@ -206,9 +210,9 @@ impl MapTree {
         }
         if !same_path(from, to) {
             self.nodes.rename(self.alloc, from, to)?;
-            self.nodes.change(to, Change::Note, at);
-            self.nodes.change(parent(from), Change::Touch, at);
-            self.nodes.change(parent(to), Change::Touch, at);
+            self.nodes.change(to, NodeChange::Note, at);
+            self.nodes.change(parent(from), NodeChange::Touch, at);
+            self.nodes.change(parent(to), NodeChange::Touch, at);
         }
         Ok(Answer::Done)
     }

@@ -2,7 +2,7 @@ ghost use Rattle.tape_types.specs.Bounds.{longest_file};
 ghost use Rattle.plain_tree.specs.Seen.{Seen, Seen-prop};
 
 use crate::calls::{Entry, Refusal};
-use crate::changes::{Change, change_node, missing_below, new_node, write_node};
+use crate::changes::{NodeChange, change_node, missing_below, new_node, write_node};
 use crate::links::Links;
 use crate::nodes::{Kind, Node};
 use std::alloc::Global;
@@ -160,7 +160,7 @@ impl NodeMap {
     }
 
     /// Changes the node at a path, where there is one.
-    pub fn change(&mut self, path: &[Text], change: Change, at: Moment)
+    pub fn change(&mut self, path: &[Text], change: NodeChange, at: Moment)
         ensures { self.new ≡ changed_at (changed_by change at) path.now self.old }
     {
         if path.is_empty() {

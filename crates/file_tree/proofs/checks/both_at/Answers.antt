@@ -3,7 +3,7 @@ use Rattle.plain_tree.specs.Paths.{Path}
 use Rattle.plain_tree.specs.Refusals.{first_of, no_node, no_dir}
 use Rattle.plain_tree.proofs.MoveLemmas.{same_is}
 use Rattle.file_tree.specs.Tree.{plain_nodes, whole}
-use Rattle.file_tree.specs.Ready.{AreChecked}
+use Rattle.file_tree.specs.Checks.{AreChecked}
 use Rattle.file_tree.proofs.checks.both_at.Goals as goal
 
 pub returns-then-same_path : goal.returns-then-same_path

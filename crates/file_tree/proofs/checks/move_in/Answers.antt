@@ -31,9 +31,7 @@ returns c up number dir split = (
   moved_freely c.args.tree.now c.args.from.now c.args.to.now c.taken.result (sym c.same_path.ensures ∙ c.if-same_path.false)
       (ap (number_at c.args.tree.now.nodes) split ∙ c.taken.ensures up dir) (sym c.is_some.ensures ∙ c.if-is_some.false)
       ∙ ap (λ b. refuse_if b refusals.Inside) (sym c.is_below.ensures ∙ c.if-is_below.false),
-  (
-    λ same. let wrong : true ≡ false = sym (is_same c.args.from.now c.args.to.now same) ∙ sym c.same_path.ensures ∙ c.if-same_path.false in cc,
-    number,
-    subst (λ p. StandsAt c.args.tree.now p c.args.numbers.1) (sym (ap parent_of split ∙ parent_ends up c.args.name.now)) dir,
-  ),
+  (λ same. let wrong : true ≡ false = sym (is_same c.args.from.now c.args.to.now same) ∙ sym c.same_path.ensures ∙ c.if-same_path.false in cc),
+  number,
+  subst (λ p. StandsAt c.args.tree.now p c.args.numbers.1) (sym (ap parent_of split ∙ parent_ends up c.args.name.now)) dir,
 )

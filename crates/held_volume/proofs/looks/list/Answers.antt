@@ -1,13 +1,15 @@
+use Rattle.std.proofs.Common.{◌∙◌}
 use Rattle.held_volume.proofs.looks.list.Goals as goal
 use Rattle.plain_tree.specs.declared.calls.Refusal.TheVariants.{NotDir}
 use Rattle.plain_tree.specs.declared.calls.Sort.TheVariants as sorts
 use Rattle.file_tree.proofs.ReadLemmas.{dir_by}
 use Rattle.held_volume.proofs.LookLemmas.{lists, no_list}
 
-pub returns-in-Ok : goal.returns-in-Ok
-returns-in-Ok c tape =
+pub returns-in_ok-new-in-Ok : goal.returns-in_ok-new-in-Ok
+returns-in_ok-new-in-Ok c tape =
     let stands = (c.in-Node.ensures {u = tt}).number in
-    lists tape c.args.tree.now c.args.path.now c.in-Node.number c.in-Ok.entries stands (c.in-Dir.ensures {u = tt}) (c.in-Ok.ensures {u = tt} tape c.args.path.now stands)
+    lists tape c.args.tree.now c.args.path.now c.in-Node.number c.in_ok-new-in-Ok.field-0 stands (c.in-Dir.ensures {u = tt})
+    (c.in_ok-new-in-Ok.ensures {u = tt} ∙ c.in-Ok.ensures {u = tt} tape c.args.path.now stands)
 
 pub returns-in-File : goal.returns-in-File
 returns-in-File c tape =

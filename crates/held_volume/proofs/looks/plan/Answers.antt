@@ -9,15 +9,18 @@ use Rattle.space_laws.specs.Standing.{Given, Standing}
 use Rattle.volume_sync.specs.declared.frames.Frame.{Frame}
 use Rattle.file_tree.proofs.CallLemmas.{file_there}
 use Rattle.file_tree.proofs.RefusalLemmas.{whole_read}
-use Rattle.held_volume.specs.Reads.{IsPlanOfAtMost, IsReadPlan}
+use Rattle.plain_tree.specs.Paths.{Path}
+use Rattle.held_volume.specs.Reads.{IsPlanOfAtMost, IsReadPlan, IsReadable}
 use Rattle.held_volume.specs.Stocks.{IsStock, stocked}
 use Rattle.held_volume.proofs.looks.plan.Goals as goal
 use Rattle.held_volume.proofs.ReadPlans.{plan_of_most, read_planned, two_ok}
 
 pub extents-extents-requires : goal.extents-extents-requires
 extents-extents-requires c =
-    file_there c.args.tree.now c.args.path.now c.node_at-file.result c.node_at-file.ensures
-    (sym (whole_read c.args.tree.now c.args.path.now c.args.offset c.args.count) ∙ c.requires)
+    let path = c.requires.0 in
+    let readable = c.requires.1 in
+    file_there c.args.tree.now path c.args.file readable.stands
+    (sym (whole_read c.args.tree.now path c.args.offset c.args.count) ∙ readable.free c.args.offset c.args.count)
 
 pub returns-clause-reads : goal.returns-clause-reads
 returns-clause-reads c =
@@ -25,10 +28,10 @@ returns-clause-reads c =
     two_ok c.plan.result
     (λ pieces. pieces ≡ planned room.laid c.min-from.result c.min-within.result)
     (λ pieces. (tape : Tape) → flat_map (read_piece tape) pieces ≡ range_of (file_cells tape room.laid) c.min-from.result c.min-within.result)
-    (λ pieces. (l : Plan) (f : Frame) (tape : Tape) (g : Given) (on : Bool) (st : Standing) → IsStock tape g on st (stocked c.args.tree.now l f)
-    → IsReadPlan tape st c.args.tree.now c.args.path.now c.args.offset c.args.count pieces)
-    (λ pieces is reads. read_planned c.args.tree.now c.args.path.now c.node_at-file.result c.args.offset c.args.count c.min-from.result c.min-within.result room pieces
-    c.count-count.ensures.good c.node_at-file.ensures c.extents-extents.ensures.extents c.extents-extents.ensures.laid c.requires
+    (λ pieces. (path : Path) → IsReadable c.args.tree.now path c.args.file → (l : Plan) (f : Frame) (tape : Tape) (g : Given) (on : Bool) (st : Standing) → IsStock tape g on st (stocked c.args.tree.now l f)
+    → IsReadPlan tape st c.args.tree.now path c.args.offset c.args.count pieces)
+    (λ pieces is reads path readable. read_planned c.args.tree.now path c.args.file c.args.offset c.args.count c.min-from.result c.min-within.result room pieces
+    c.count-count.ensures.good readable.stands c.extents-extents.ensures.extents c.extents-extents.ensures.laid (readable.free c.args.offset c.args.count)
     (c.min-from.ensures ∙ ap (min c.args.offset) c.length.ensures) (c.min-within.ensures ∙ ap (λ n. min c.args.count (n - c.min-from.result)) c.length-2.ensures) is reads)
     c.plan.ensures.pieces c.plan.ensures.bytes
 

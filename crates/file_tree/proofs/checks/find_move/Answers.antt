@@ -2,7 +2,7 @@ use Rattle.std.proofs.Common.{◌≡◌, rules, None}
 use Rattle.plain_tree.specs.Refusals.{at_root, bad_name}
 use Rattle.file_tree.specs.Tree.{plain_nodes, whole}
 use Rattle.file_tree.proofs.ReadyLemmas.{rename_refused}
-use Rattle.file_tree.proofs.checks.place_rename.Goals as goal
+use Rattle.file_tree.proofs.checks.find_move.Goals as goal
 
 pub returns-in-Err : goal.returns-in-Err
 returns-in-Err c =
