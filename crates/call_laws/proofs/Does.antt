@@ -27,11 +27,11 @@ use Rattle.head_core.specs.declared.work.StepDone.{StepDone}
 use Rattle.event_laws.specs.Trail.{IsTrail, after, after_all, is_trail_from, of_call, steps}
 use Rattle.event_laws.specs.Waiting as waiting
 use Rattle.event_laws.specs.Waiting.{State, first_of, same_part, waiting_op}
-use Rattle.tape_layout.specs.Ops.{place_of}
+use Rattle.tape_layout.specs.Ops.{is_flush, place_of}
 use Rattle.tape_layout.specs.declared.ops.Op.{Op}
 use Rattle.space_laws.specs.Standing.{Given, Standing, is_on, standing}
 use Rattle.serving_promise.specs.Acks.{answers, synced_places}
-use Rattle.serving_promise.specs.Served.{Fixed, View, given, headed, is_flush, is_waiting}
+use Rattle.serving_promise.specs.Served.{Fixed, View, given, headed, is_waiting}
 use Rattle.serving_promise.specs.Steps.{HeadIsBehind, HeadIsRead, IsOnTape, StepsOnce, does_dp_flush, item_of, on_after, one_step}
 use Rattle.serving_promise.specs.Submits.{Adds}
 use Rattle.order_laws.specs.Kept.{seen}

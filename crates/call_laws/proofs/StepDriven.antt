@@ -13,10 +13,9 @@ use Rattle.tape_drive.specs.declared.drive.Drive.{Ghosts}
 use Rattle.head_core.specs.Steps.{AfterOp, AfterPut, IsEndOfOp, IsEndOfPut, IsOpStep, head_after}
 use Rattle.head_core.specs.declared.work.StepDone.{StepDone}
 use Rattle.head_core.specs.declared.work.StepDone.TheVariants as ends
-use Rattle.tape_layout.specs.Ops.{place_of}
+use Rattle.tape_layout.specs.Ops.{is_flush, place_of}
 use Rattle.tape_layout.specs.declared.ops.Op.{Op}
 use Rattle.tape_layout.specs.declared.ops.Op.TheVariants.{Flush, Mark, Put}
-use Rattle.serving_promise.specs.Served.{is_flush}
 use Rattle.serving_promise.specs.Steps.{item_of}
 use Rattle.crash_laws.specs.Changes.{IsWell}
 

@@ -14,7 +14,7 @@ use Rattle.tape_types.specs.declared.cartridges.Twin.{Twin}
 use Rattle.tape_drive.specs.declared.drive.Drive.{Ghosts}
 use Rattle.tape_layout.specs.declared.ops.Op.{Op}
 use Rattle.tape_layout.specs.declared.ops.Op.TheVariants as ops
-use Rattle.tape_layout.specs.Ops.{HasRoom}
+use Rattle.tape_layout.specs.Ops.{HasRoom, is_flush}
 use Rattle.plain_tree.specs.declared.calls.Placed.{Placed}
 use Rattle.session_script.specs.declared.logs.Ack.{Ack}
 use Rattle.session_script.specs.declared.logs.Event.{Event}
@@ -38,7 +38,7 @@ use Rattle.image_laws.specs.Made.{after as after_jobs}
 use Rattle.image_laws.proofs.Flushes.{none_stays}
 use Rattle.image_laws.proofs.Stated.{kept_gives, steps_keep}
 use Rattle.serving_promise.specs.Mount.{facts_of}
-use Rattle.serving_promise.specs.Served.{Fixed, View, headed, is_flush}
+use Rattle.serving_promise.specs.Served.{Fixed, View, headed}
 use Rattle.serving_promise.specs.Steps.{does_dp_flush, on_after}
 use Rattle.serving_promise.specs.Submits.{acks_for}
 use Rattle.crash_laws.specs.Changes.{IsStepped, IsWell}

@@ -33,10 +33,8 @@ use Rattle.file_tree.specs.Tree.{FileTree, HasExtents, StandsAt, plain_kind_of, 
 use Rattle.file_tree.specs.declared.nodes.Kind.{Kind}
 use Rattle.file_tree.specs.declared.nodes.Kind.TheVariants as kinds
 use Rattle.file_tree.specs.declared.nodes.Node.{Node}
-use Rattle.file_tree.specs.Ready.{IsPlaced}
+use Rattle.file_tree.specs.Checks.{IsChecked}
 use Rattle.file_tree.specs.Valid.{IsFileOf, IsGood}
-use Rattle.file_tree.specs.declared.ready.Ready.{Ready}
-use Rattle.file_tree.specs.declared.ready.Ready.TheVariants as readies
 use Rattle.file_tree.proofs.CallLemmas.{file_there}
 use Rattle.file_tree.proofs.WriteLemmas.{long_as}
 use Rattle.file_tree.proofs.RefusalLemmas.{no_file_alike, whole_read}
@@ -168,10 +166,12 @@ range_planned t file offset count from within room pieces good has laid from_is 
     whole_within = within_is ∙ ap (λ n. min count (room.laid.length - n)) from_is
 
 -- the file that a read is about
-pub at_read : (t : FileTree) (path : Path) (offset count : ℕ) (placed : Result Ready Refusal) (ready : Ready) (number : ℕ) → placed ≡ Ok ready → ready ≡ readies.At number
-    → IsPlaced t (asks.Read path offset count) placed → (refusal_of (plain_of whole t) (asks.Read path offset count) ≡ None) × StandsAt t path number
-at_read t path offset count placed ready number is at p =
-    subst (λ (x : Result Ready Refusal). IsPlaced t (asks.Read path offset count) x) (is ∙ ap (λ (y : Ready). Ok y) at) p
+pub at_read : (t : FileTree) (path slice : Path) (offset count number : ℕ) → slice ≡ path → IsChecked (no_file (plain_of whole t).nodes slice) t slice (Ok number)
+    → (refusal_of (plain_of whole t) (asks.Read path offset count) ≡ None) × StandsAt t path number
+at_read t path slice offset count number same is =
+    let here : IsChecked (no_file (plain_of whole t).nodes path) t path (Ok number) =
+    subst (λ p. IsChecked (no_file (plain_of whole t).nodes p) t p (Ok number)) same is in
+    (whole_read t path offset count ∙ here.0, here.1)
 
 pub file_read : (t : FileTree) (path : Path) (offset count number : ℕ) → refusal_of (plain_of whole t) (asks.Read path offset count) ≡ None → StandsAt t path number
     → (room : Room) × HasExtents t.nodes number room
@@ -185,10 +185,10 @@ refused_whole t path offset count r is tape =
     (ap (λ o. first_of (o ∷ damaged (plain_of tape t).nodes path offset count ∷ []))
     (no_file_alike tape whole t.nodes path ∙ sym (whole_read t path offset count) ∙ is))
 
-pub refused_read : (t : FileTree) (path : Path) (offset count : ℕ) (placed : Result Ready Refusal) (r : Refusal) → placed ≡ Err r
-    → IsPlaced t (asks.Read path offset count) placed → (tape : Tape) → answers.Refused r ≡ answer (plain_of tape t) (asks.Read path offset count)
-refused_read t path offset count placed r is p tape =
-    sym (refused_whole t path offset count r (subst (λ (x : Result Ready Refusal). IsPlaced t (asks.Read path offset count) x) is p) tape)
+pub refused_read : (t : FileTree) (path slice : Path) (offset count : ℕ) (r : Refusal) → slice ≡ path → IsChecked (no_file (plain_of whole t).nodes slice) t slice (Err r)
+    → (tape : Tape) → answers.Refused r ≡ answer (plain_of tape t) (asks.Read path offset count)
+refused_read t path slice offset count r same is tape =
+    sym (refused_whole t path offset count r (whole_read t path offset count ∙ ap (no_file (plain_of whole t).nodes) (sym same) ∙ is) tape)
 
 -- ---- how many blocks a range has
 

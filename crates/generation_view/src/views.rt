@@ -9,10 +9,10 @@ ghost use Rattle.generation_view.specs.Views.{IsOpenOn, IsViewOf, RefusesView};
 use crate::errors::{ReadErr, ViewErr, refusal};
 use crate::reads::read_file;
 use crate::seeking::{Sought, seek};
-use file_tree::{Ready, Tree};
+use file_tree::{Tree, file_at};
 use index_model::Spot;
 use mount_recover::begin;
-use plain_tree::{Answer, Call};
+use plain_tree::Answer;
 use std::alloc::Global;
 use std::marker::Model;
 use std::snapshot::Snapshot;
@@ -159,18 +159,9 @@ impl<D: Drive> View<D> {
             (λ c. answer (plain_of (tape_of c) self.now.tree) (Read path offset count)) drive.old drive.new result }
     {
         let _commands_are_in_range = drive.commands();
-        let call = Call::Read {
-            path,
-            offset,
-            count,
-        };
-        match self.tree.place(alloc, &call) {
-            Ok(Ok(Ready::At { number })) => read_file(
-                alloc, &self.tree, drive, number, offset, count,
-            ),
-            Ok(Ok(_)) => unreachable!(),
-            Ok(Err(refusal)) => Ok(Answer::Refused(refusal)),
-            Err(NoMemory) => Err(ReadErr::NoMemory),
+        match file_at(&self.tree, path.as_slice()) {
+            Ok(file) => read_file(alloc, &self.tree, drive, file, offset, count),
+            Err(refusal) => Ok(Answer::Refused(refusal)),
         }
     }
 }

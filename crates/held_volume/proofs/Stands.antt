@@ -43,7 +43,7 @@ use Rattle.space_laws.specs.Space.{Ask, Rules, Space, blocks, change, index, ind
 use Rattle.space_laws.specs.Standing.{Given, Standing, ask_of, ask_unless, ask_unrefused, files_after, rules, uid_at}
 use Rattle.volume_sync.specs.declared.frames.Frame.{Frame}
 use Rattle.held_volume.specs.Applied.{IsApplied, IsChange, IsDone, IsFull, IsChanging, IsLate, IsNoted, IsTreeStep, IsTried, IsUnchanged, LeavesAll, new_run}
-use Rattle.held_volume.specs.Reads.{IsReadable}
+use Rattle.held_volume.specs.Reads.{IsReadable, IsUnreadable}
 use Rattle.held_volume.specs.Steps.{IsSameTree, IsWrite, file_changed}
 use Rattle.held_volume.specs.Stocks.{IsStock, LieAs, Stocked, ends_of, stocked, with_change}
 use Rattle.held_volume.proofs.Asks.{asks_nothing}
@@ -356,11 +356,13 @@ readable t path (Err refusal) is = tt
 
 -- and a read of what is none is refused, whatever is lost on the tape
 pub not_readable : (t : FileTree) (s : Stocked) (path : Path) (r : Result ℕ Refusal) → t ≡ s.tree → IsChecked (no_file (plain_of whole t).nodes path) t path r
-    → IfErr r (λ refusal. (offset count : ℕ) (tape : Tape) (g : Given) (on : Bool) (st : Standing) → IsStock tape g on st s
-    → refusal_of st.tree (asks.Read path offset count) ≡ Some refusal)
+    → IfErr r (IsUnreadable s path)
 not_readable t s path (Ok file) same is = tt
-not_readable t s path (Err refusal) same is = λ offset count tape g on st i.
-    refused_too tape t st.tree (asks.Read path offset count) refusal (ap (plain_of tape) same ∙ i.plain) (whole_read t path offset count ∙ is)
+not_readable t s path (Err refusal) same is = record {
+  found = λ offset count. ap (λ t. refusal_of (plain_of whole t) (asks.Read path offset count)) (sym same) ∙ whole_read t path offset count ∙ is;
+  each = λ offset count tape g on st i.
+      refused_too tape t st.tree (asks.Read path offset count) refusal (ap (plain_of tape) same ∙ i.plain) (whole_read t path offset count ∙ is);
+}
 
 -- a tree that is the same is so whatever stands on tape
 pub same_tree : {X E : Type 0} (before next : FileTree) (r : Result X E) → OnErr r (next ≡ before) → OnErr r (IsSameTree before next)

@@ -1,5 +1,5 @@
 -- What a read gathers of what is held.
-use Rattle.std.specs.Prelude.{◌≡◌, ℕ, ◌-◌, ◌<◌, ◌≤◌, min, List, length, Option, Some, None, is_none}
+use Rattle.std.specs.Prelude.{◌≡◌, ℕ, Bool, ◌-◌, ◌<◌, ◌≤◌, min, List, length, Option, Some, None, is_none}
 use Rattle.std.specs.List.{All, AllByRecursion, flat_map}
 use Rattle.extent_map.specs.Cells.{Tape}
 use Rattle.extent_map.specs.Laid.{Laid}
@@ -14,11 +14,12 @@ use Rattle.plain_tree.specs.Refusals.{refusal_of, refuse_if}
 use Rattle.plain_tree.specs.declared.calls.Answer.{Answer}
 use Rattle.plain_tree.specs.declared.calls.Answer.TheVariants.{Got, Refused}
 use Rattle.plain_tree.specs.declared.calls.Call.TheVariants.{Read}
+use Rattle.plain_tree.specs.declared.calls.Refusal.{Refusal}
 use Rattle.plain_tree.specs.declared.calls.Refusal.TheVariants.{Damaged}
 use Rattle.file_tree.specs.Blocks.{Ends, TreeStandsIn}
 use Rattle.file_tree.specs.Tree.{FileTree, StandsAt, plain_of, whole}
-use Rattle.space_laws.specs.Standing.{Standing, uid_at}
-use Rattle.held_volume.specs.Stocks.{ends_of}
+use Rattle.space_laws.specs.Standing.{Given, Standing, uid_at}
+use Rattle.held_volume.specs.Stocks.{IsStock, Stocked, ends_of}
 
 -- how the file at a path lies
 abbrev pub file_at : Standing → Path → Laid
@@ -56,6 +57,12 @@ PiecesLieBelow ends pieces = AllByRecursion (PieceLiesBelow ends) pieces
 pub record IsReadable (tree : FileTree) (path : Path) (file : ℕ) : Type 0 where
   pub stands : StandsAt tree path file
   pub free : (offset count : ℕ) → refusal_of (plain_of whole tree) (Read path offset count) ≡ None
+
+-- a read of the path is refused so, whatever is lost on the tape
+pub record IsUnreadable (s : Stocked) (path : Path) (refusal : Refusal) : Type 0 where
+  pub found : (offset count : ℕ) → refusal_of (plain_of whole s.tree) (Read path offset count) ≡ Some refusal
+  pub each : (offset count : ℕ) (tape : Tape) (g : Given) (on : Bool) (st : Standing) → IsStock tape g on st s
+      → refusal_of st.tree (Read path offset count) ≡ Some refusal
 
 -- These are the pieces of the range, up to the end of the file. The read is answered what they are read as, and refused
 -- only where a byte of them is lost. Each stands in a block of the tree, before the end of its partition.

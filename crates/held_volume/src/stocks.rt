@@ -1,6 +1,6 @@
 //! What is held of a volume.
 
-ghost use Rattle.std.specs.Prelude.{◌≡◌, ◌≤◌, ◌^◌, [], ◌∷◌, ℕ, Bool, true, Some, drop, length};
+ghost use Rattle.std.specs.Prelude.{◌≡◌, ◌<◌, ◌≤◌, ◌^◌, [], ◌∷◌, Bool, true, Some, drop, length, slice_get};
 ghost use Rattle.std.specs.Prelude.{OnErr, IfErr, IfOk, IfSome, MatchOption};
 ghost use Rattle.std.specs.Option.{option_map};
 ghost use Rattle.extent_map.specs.Cells.{Tape};
@@ -8,16 +8,15 @@ ghost use Rattle.space_laws.specs.Standing.{Given, Standing, first_standing, rul
 ghost use Rattle.held_volume.specs.Mounted.{CanStart, StartsFrom, letters_of};
 ghost use Rattle.plain_tree.specs.Calls.{answer, call_of_change};
 ghost use Rattle.plain_tree.specs.Paths.{Path};
-ghost use Rattle.plain_tree.specs.Refusals.{refusal_of};
 ghost use Rattle.std.specs.FinMap as fin;
 ghost use Rattle.file_tree.specs.Mounts.{IsTreeOf};
 ghost use Rattle.file_tree.specs.Tree.{plain_of};
 ghost use Rattle.file_tree.specs.Valid.{IsGood};
-ghost use Rattle.tape_layout.specs.Ops.{HasRoom, held_in};
+ghost use Rattle.tape_layout.specs.Ops.{HasRoom, held_in, place_of};
 ghost use Rattle.tape_layout.specs.Plans.{AreStanding};
 ghost use Rattle.held_volume.specs.Applied.{IsApplied, IsChange, IsNoted, IsUnchanged, LeavesAll};
 ghost use Rattle.held_volume.specs.Closed.{IsDpChange, IsDpDocument, IsIpDocument, IsIpEnd, closed_dp};
-ghost use Rattle.held_volume.specs.Reads.{IsPlanOfAtMost, IsReadPlan, IsReadable};
+ghost use Rattle.held_volume.specs.Reads.{IsPlanOfAtMost, IsReadPlan, IsReadable, IsUnreadable};
 ghost use Rattle.held_volume.specs.Stocks.{IsStock, stocked};
 ghost use Rattle.held_volume.specs.Syncs.{BringsAtMost, IsDocument};
 
@@ -124,9 +123,7 @@ impl Stock {
     /// The number of the file at a path, or why a read of it is refused, where no byte is lost on the tape.
     pub fn file_at(&self, path: &[Text]) -> Result<u32, Refusal>
         ensures found { IfOk result (IsReadable self.now.tree path.now) }
-        ensures refused { IfErr result (λ refusal. (offset count : ℕ) (tape : Tape) (g : Given) (on : Bool)
-            (st : Standing) → IsStock tape g on st self.now
-            → refusal_of st.tree (Call.Read path.now offset count) ≡ Some refusal) }
+        ensures refused { IfErr result (IsUnreadable self.now path.now) }
     {
         file_at(&self.tree, path)
     }
@@ -267,6 +264,14 @@ impl Stock {
         self.layout.ends()
     }
 
+    /// Where the op is done that stands behind so many others.
+    pub fn place_behind(&self, others: u64) -> Place
+        requires { others < length self.now.layout.ops }
+        ensures { option_map place_of (slice_get self.now.layout.ops others) ≡ Some result }
+    {
+        self.layout.place_behind(others)
+    }
+
     /// The bytes that stand to be written at a place. It costs the logarithm of the ops that stand.
     pub fn held(&self, place: Place) -> Option<&Bytes>
         ensures { option_map (λ b. b.now) result ≡ held_in place self.now.layout.ops }
@@ -312,16 +317,12 @@ fn apply(
     ensures generation { frame.new.generation ≡ frame.old.generation }
 {
     match change {
-        Change::Mkdir { path } => note(frame, make(tree, alloc, path, Sort::Dir, at)),
-        Change::Create { path } => note(frame, make(tree, alloc, path, Sort::File, at)),
-        Change::Write {
-            path,
-            offset,
-            bytes,
-        } => write(tree, layout, frame, path, offset, bytes, at),
-        Change::Truncate { path, length } => note(frame, Ok(truncate(tree, path, length, at))),
-        Change::Rename { from, to } => note(frame, rename(tree, alloc, from, to, at)),
-        Change::Remove { path } => note(frame, Ok(remove(tree, path, at))),
+        Change::Mkdir(path) => note(frame, make(tree, alloc, path, Sort::Dir, at)),
+        Change::Create(path) => note(frame, make(tree, alloc, path, Sort::File, at)),
+        Change::Write(path, offset, bytes) => write(tree, layout, frame, path, offset, bytes, at),
+        Change::Truncate(path, length) => note(frame, Ok(truncate(tree, path, length, at))),
+        Change::Rename(from, to) => note(frame, rename(tree, alloc, from, to, at)),
+        Change::Remove(path) => note(frame, Ok(remove(tree, path, at))),
     }
 }
 

@@ -21,13 +21,13 @@ use Rattle.head_core.specs.declared.work.StepDone.TheVariants as ends
 use Rattle.event_laws.specs.Trail.{after, after_all, fault_of, step_to, steps}
 use Rattle.event_laws.specs.Waiting as waiting
 use Rattle.event_laws.specs.Waiting.{State, first_of, ops, start}
-use Rattle.tape_layout.specs.Ops.{place_of}
+use Rattle.tape_layout.specs.Ops.{is_flush, place_of}
 use Rattle.tape_layout.specs.declared.ops.Op.{Op}
 use Rattle.tape_layout.specs.declared.ops.Op.TheVariants.{Put, Mark, Flush}
 use Rattle.serving_promise.specs.Acks.{synced_ticket}
 use Rattle.serving_promise.specs.Crash.{Meaning}
 use Rattle.serving_promise.specs.Ends.{begun}
-use Rattle.serving_promise.specs.Served.{Fixed, IsServed, View, headed, is_flush}
+use Rattle.serving_promise.specs.Served.{Fixed, IsServed, View, headed}
 use Rattle.serving_promise.specs.Steps.{is_step}
 use Rattle.serving_promise.specs.Submits.{acks_for}
 use Rattle.order_laws.specs.Kept.{seen}

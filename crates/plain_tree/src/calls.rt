@@ -54,31 +54,15 @@ pub enum Call {
     Sync,
 }
 
-/// A call that changes the tree, by what it asks.
+/// A call that changes the tree, with what it asks: paths, and of a write an offset and bytes, of a truncation a length.
 #[derive(Clone, Copy)]
 pub enum Change<'a> {
-    Mkdir {
-        path: &'a [Text],
-    },
-    Create {
-        path: &'a [Text],
-    },
-    Write {
-        path: &'a [Text],
-        offset: u64,
-        bytes: &'a [u8],
-    },
-    Truncate {
-        path: &'a [Text],
-        length: u64,
-    },
-    Rename {
-        from: &'a [Text],
-        to: &'a [Text],
-    },
-    Remove {
-        path: &'a [Text],
-    },
+    Mkdir(&'a [Text]),
+    Create(&'a [Text]),
+    Write(&'a [Text], u64, &'a [u8]),
+    Truncate(&'a [Text], u64),
+    Rename(&'a [Text], &'a [Text]),
+    Remove(&'a [Text]),
 }
 
 /// What a node is.

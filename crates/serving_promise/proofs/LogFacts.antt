@@ -7,7 +7,7 @@ use Rattle.event_laws.specs.Trail.{of_call, of_session, owned_by}
 use Rattle.event_laws.specs.Rows.{dp, twin, one_sync, failed_write, failed_drain, two_sessions}
 use Rattle.event_laws.specs.Waiting.{with_flushes}
 use Rattle.space_laws.specs.Space.{ops_of}
-use Rattle.serving_promise.specs.Served.{is_flush}
+use Rattle.tape_layout.specs.Ops.{is_flush}
 use Rattle.space_laws.specs.Trials.{after_asks, for_ip, places as places_in, short_index, small}
 use Rattle.serving_promise.specs.Acks.{AreAcks, AreSyncs}
 use Rattle.serving_promise.specs.Submits.{acks_for}

@@ -23,8 +23,7 @@ use Rattle.event_laws.specs.Trail.{IsTrail, after_all, drains_now}
 use Rattle.cartridge_meaning.specs.Carried.{carried}
 use Rattle.cartridge_meaning.specs.declared.mounted.Mounted.{Mounted}
 use Rattle.tape_layout.specs.declared.ops.Op.{Op}
-use Rattle.tape_layout.specs.Ops.{place_of}
-use Rattle.tape_layout.specs.declared.ops.Op.TheVariants as ops
+use Rattle.tape_layout.specs.Ops.{is_flush, place_of}
 use Rattle.space_laws.specs.Standing.{Given, admitted}
 use Rattle.block_cache.specs.Kept.{Kept}
 use Rattle.serving_promise.specs.Acks.{AreAcks, AreReached, AreSyncs}
@@ -85,11 +84,6 @@ placed_by who history = filter_map (λ e. cond (e.1.who == who) (Some e.0) None)
 abbrev pub queued : Event → Option Place
 queued (events.Queues place) = Some place
 queued _ = None
-
-abbrev pub is_flush : Op → Bool
-is_flush (ops.Put place bytes) = false
-is_flush (ops.Mark place) = false
-is_flush (ops.Flush place) = true
 
 -- an op as the head sees it
 abbrev pub headed : Op → waiting.Op

@@ -26,8 +26,7 @@ use Rattle.event_laws.specs.Trail.{IsTrail}
 use Rattle.event_laws.specs.Waiting.{same_part}
 use Rattle.head_queue.specs.Waiting.{Waiting}
 use Rattle.tape_layout.specs.declared.ops.Op.{Op}
-use Rattle.tape_layout.specs.Ops.{place_of}
-use Rattle.serving_promise.specs.Served.{is_flush}
+use Rattle.tape_layout.specs.Ops.{is_flush, place_of}
 use Rattle.crash_laws.specs.Changes.{IsWell}
 use Rattle.held_volume.specs.Stocks.{Stocked}
 use Rattle.event_journal.specs.Trails.{Journaled, due_ticket, first_waiter, kept_for_drain, state}

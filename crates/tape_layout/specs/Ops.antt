@@ -28,6 +28,11 @@ place_of (Put place bytes) = place
 place_of (Mark place) = place
 place_of (Flush place) = place
 
+abbrev pub is_flush : Op → Bool
+is_flush (Put place bytes) = false
+is_flush (Mark place) = false
+is_flush (Flush place) = true
+
 -- where the next item of each partition goes once an op is admitted: behind a block or a mark
 abbrev pub after_op : Ends → Op → Ends
 after_op e (Put place bytes) = with_end place.part (place.pos + 1) e

@@ -1,5 +1,5 @@
 ghost use Rattle.std.specs.Prelude.{◌≡◌, ◌+◌, ◌<◌, ◌≤◌, ◌^◌, [], ◌∷◌, ◌++◌, ℕ, List, Option, None, length, drop, true};
-ghost use Rattle.std.specs.Prelude.{false, nat_le, IfSome, MatchOption, OnOk, OnErr};
+ghost use Rattle.std.specs.Prelude.{false, nat_le, slice_get, Some, IfSome, MatchOption, OnOk, OnErr};
 ghost use Rattle.std.specs.Int.{div_ceil};
 ghost use Rattle.std.specs.List.{All};
 ghost use Rattle.std.specs.Option.{option_map};
@@ -12,7 +12,7 @@ ghost use Rattle.tape_layout.specs.declared.ops.Op.{Op};
 ghost use Rattle.tape_layout.specs.declared.standing.Ends.{Ends};
 ghost use Rattle.tape_layout.specs.declared.standing.Standing.{Standing};
 ghost use Rattle.tape_layout.specs.Ops.{AreNext, HasRoom, after_ops, counted, end_of, held_by, held_in, IsFirstPast};
-ghost use Rattle.tape_layout.specs.Ops.{IsHeld};
+ghost use Rattle.tape_layout.specs.Ops.{IsHeld, place_of};
 ghost use Rattle.tape_layout.specs.Plans.{AreStanding, CanAdmit, CanBe, Lead, plan};
 
 use crate::drafts::Draft;
@@ -187,6 +187,14 @@ impl Layout {
         ensures { option_map (λ b. b.now) result ≡ held_in place self.now.ops }
     {
         find(&self.todo, place)
+    }
+
+    /// Where the op is done that stands behind so many others.
+    pub fn place_behind(&self, others: u64) -> Place
+        requires { others < length self.now.ops }
+        ensures { option_map place_of (slice_get self.now.ops others) ≡ Some result }
+    {
+        self.todo[others as usize].op.place()
     }
 
     /// The op that is to be done next.

@@ -16,7 +16,7 @@ ghost use Rattle.volume_steps.specs.Wanted.{CanWantBlocks};
 ghost use Rattle.volume_core.specs.Turns.{Gives, RunsFor, SubmitsAt, told};
 
 use crate::draining::ROOM;
-use plain_tree::Call;
+use plain_tree::{Call, Change};
 use serving_promise::Submitted;
 use std::alloc::Global;
 use tape_drive::Drive;
@@ -100,9 +100,26 @@ fn make<D: Drive>(parts: &mut Parts<D>, alloc: Global, asked: Asked, call: &Call
             path,
             offset,
             count,
-        } => parts.read_bytes(asked, alloc, call, path.as_slice(), *offset, *count),
+        } => parts.read_bytes(asked, alloc, path.as_slice(), *offset, *count),
+        Call::Listing { path } => parts.list(asked, alloc, path.as_slice()),
+        Call::Stat { path } => parts.stat(asked, alloc, path.as_slice()),
         Call::Sync => parts.sync(asked),
-        Call::Listing { .. } | Call::Stat { .. } => parts.look(asked, call),
-        _ => parts.change(asked, call),
+        Call::Mkdir { path } => parts.change(asked, Change::Mkdir(path.as_slice())),
+        Call::Create { path } => parts.change(asked, Change::Create(path.as_slice())),
+        Call::Write {
+            path,
+            offset,
+            bytes,
+        } => {
+            let bytes = bytes.as_slice();
+            parts.change(asked, Change::Write(path.as_slice(), *offset, bytes))
+        }
+        Call::Truncate { path, length } => {
+            parts.change(asked, Change::Truncate(path.as_slice(), *length))
+        }
+        Call::Rename { from, to } => {
+            parts.change(asked, Change::Rename(from.as_slice(), to.as_slice()))
+        }
+        Call::Remove { path } => parts.change(asked, Change::Remove(path.as_slice())),
     }
 }

@@ -38,7 +38,6 @@ use Rattle.serving_promise.specs.Served.{headed}
 use Rattle.serving_promise.specs.Submits.{blocks_in, stored_at}
 use Rattle.serving_promise.specs.declared.answers.Submitted.{Submitted}
 use Rattle.serving_promise.specs.declared.answers.Submitted.TheVariants as submitted
-use Rattle.held_volume.specs.Applied.{IsRefusedAs}
 use Rattle.held_volume.specs.Reads as reads
 use Rattle.held_volume.specs.Reads.{IsReadPlan, PiecesStandIn}
 use Rattle.held_volume.specs.Stocks.{IsStock, Stocked}
@@ -88,21 +87,6 @@ read_refused drive who nth path offset count at why result old new can is told f
     (λ isnt. refl, λ free. let clash : Some why ≡ None = sym is ∙ free in absurd cc)
     (λ synced. cc)
     refl (as_it_was old) f
-
-pub call_refused : {D : Type 0} (drive : Ghosts D) (who nth : ℕ) (call : Call) (path : List (List ℕ)) (offset count : ℕ) (at : Moment)
-    (found : Option Refusal) (why : Refusal) (result : Submitted) (old new : Parts D) → CanAsk who old
-    → call ≡ calls.Read path offset count → found ≡ Some why → found ≡ refusal_of (plain_of whole old.stock.tree) call
-    → ((tape : Tape) (g : Given) (on : Bool) (st : Standing) → IsStock tape g on st old.stock → IsRefusedAs st.tree call found)
-    → Finishes who nth at fates.Done (the_replies.Answer (the_answers.Refused why)) result old new
-    → IsSubmitted drive who nth at old new call result
-call_refused drive who nth call path offset count at found why result old new can is some refused told f =
-    subst (λ (c : Call). IsSubmitted drive who nth at old new c result) (sym is)
-    (read_refused drive who nth path offset count at why result old new can
-    (sym (ap (refusal_of (plain_of whole old.stock.tree)) is) ∙ sym refused ∙ some)
-    (λ tape g on st stock.
-    let known : refusal_of st.tree call ≡ Some why = subst (λ r. IsRefusedAs st.tree call r) some (told tape g on st stock) in
-    sym (ap (refusal_of st.tree) is) ∙ known)
-    f)
 
 -- ---- what was fetched
 

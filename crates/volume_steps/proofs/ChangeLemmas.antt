@@ -1,56 +1,62 @@
 -- Calls that change the tree, and the ops that they queue.
-use Rattle.std.specs.Prelude.{ℕ, ◌≡◌, ◌+◌, ◌-◌, ◌*◌, ◌≤◌, Bool, false, List, [], ◌∷◌, ◌++◌, length, map, Option, Some, None, Result, Ok, Err, OnOk}
+use Rattle.std.specs.Prelude.{ℕ, ◌≡◌, ◌+◌, ◌-◌, ◌*◌, ◌≤◌, Bool, false, List, [], ◌∷◌, ◌++◌, drop, length, map, Option, Some, None, Result, Ok, Err, OnOk}
 use Rattle.std.specs.Option.{unwrap_or}
 use Rattle.std.proofs.Common.{refl, sym, ap, subst, ◌∙◌, arith}
-use Rattle.std.proofs.lemmas.List.{length-map}
 use Rattle.tape_types.specs.declared.moments.Moment.{Moment}
-use Rattle.tape_types.specs.declared.cartridges.Part.TheVariants.{Ip, Dp}
-use Rattle.tape_types.specs.declared.cartridges.Place.{Place}
 use Rattle.extent_map.specs.Cells.{Tape}
-use Rattle.plain_tree.specs.Calls.{answer_unless, value_of}
+use Rattle.plain_tree.specs.Calls.{answer_unless, call_of_change, value_of}
 use Rattle.plain_tree.specs.Paths.{last_name}
 use Rattle.plain_tree.specs.Refusals.{refusal_of}
 use Rattle.plain_tree.specs.declared.calls.Answer.TheVariants as the_answers
 use Rattle.plain_tree.specs.declared.calls.Call.{Call}
-use Rattle.plain_tree.specs.declared.calls.Call.TheVariants.{Read, Sync, Write}
+use Rattle.plain_tree.specs.declared.calls.Call.TheVariants.{Read, Write}
+use Rattle.plain_tree.specs.declared.calls.Change.{Change}
+use Rattle.plain_tree.specs.declared.calls.Change.TheVariants as changes
 use Rattle.plain_tree.specs.declared.calls.Fate.TheVariants as fates
 use Rattle.plain_tree.specs.declared.calls.Refusal.{Refusal}
 use Rattle.placement.specs.Computed.{chooses_ip}
 use Rattle.session_script.specs.declared.logs.Event.{Event}
 use Rattle.session_script.specs.declared.logs.Reply.TheVariants as the_replies
-use Rattle.file_tree.specs.Blocks.{LiesBelow}
 use Rattle.file_tree.specs.Tree.{plain_of, whole}
 use Rattle.tape_drive.specs.declared.drive.Drive.{Ghosts}
 use Rattle.tape_layout.specs.Ops.{place_of}
-use Rattle.tape_layout.specs.Plans.{AreStanding, Plan}
 use Rattle.tape_layout.specs.declared.errors.AdmitErr.{AdmitErr}
 use Rattle.tape_layout.specs.declared.ops.Op.{Op}
-use Rattle.tape_layout.specs.declared.standing.Ends.{Ends}
-use Rattle.space_laws.proofs.PlainAsks.{of_other}
-use Rattle.space_laws.specs.Space.{Ask, after, ops_of}
+use Rattle.space_laws.specs.Space.{ops_of}
 use Rattle.space_laws.specs.Standing.{Given, Standing, ask_of, ask_unless, ask_unrefused, length_after, rules}
 use Rattle.serving_promise.specs.Replies.{may_wait}
 use Rattle.serving_promise.specs.Submits.{queues_at}
 use Rattle.serving_promise.specs.declared.answers.Submitted.{Submitted}
-use Rattle.held_volume.specs.Applied.{IsDone, IsLate}
+use Rattle.held_volume.specs.Applied.{IsDone}
 use Rattle.held_volume.specs.Syncs.{BringsAtMost}
-use Rattle.held_volume.specs.Stocks.{IsStock, Stocked, ends_of}
+use Rattle.held_volume.specs.Stocks.{IsStock, Stocked}
 use Rattle.event_journal.specs.Trails.{Journaled}
-use Rattle.plan_laws.specs.Planned.{tape_on, with_ops}
-use Rattle.plan_laws.proofs.Stays.{tapes_stay}
+use Rattle.plan_laws.specs.Planned.{tape_on}
 use Rattle.state_laws.specs.Parts.{Parts}
 use Rattle.block_cache.specs.Kept.{Kept}
 use Rattle.state_laws.specs.Placing.{Changes, IsVoidFor, only_looks, UsesKept}
-use Rattle.volume_steps.specs.Asking.{CanAsk, Finishes, IsSubmitted, QueuesDone, Reserves, Stands, run, told_void}
+use Rattle.volume_steps.specs.Asking.{CanAsk, Finishes, IsSubmitted, QueuesDone, Reserves, Stands, told_void}
 use Rattle.call_laws.specs.SubmitLaws as made
-use Rattle.volume_steps.proofs.RunLemmas.{AsksNoText, between, between_length, runs_of_ops}
 use Rattle.volume_steps.proofs.SubmitLemmas.{placed_answered, placed_void}
 
 -- ---- what is asked
 
-pub no_text : (g : Given) (st : Standing) (call : Call) (at : Moment) → may_wait call ≡ false → AsksNoText (ask_of g st call at)
-no_text g st Sync at is = absurd (cc is)
-no_text g st call at is = of_other AsksNoText (omega arith) (omega arith) (λ wanted bytes. omega arith) g st call at refl
+-- no change waits, or only looks
+pub changes_wait_not : (change : Change) → may_wait (call_of_change change) ≡ false
+changes_wait_not (changes.Mkdir path) = refl
+changes_wait_not (changes.Create path) = refl
+changes_wait_not (changes.Write path offset bytes) = refl
+changes_wait_not (changes.Truncate path length) = refl
+changes_wait_not (changes.Rename from to) = refl
+changes_wait_not (changes.Remove path) = refl
+
+pub changes_look_not : (change : Change) → only_looks (call_of_change change) ≡ false
+changes_look_not (changes.Mkdir path) = refl
+changes_look_not (changes.Create path) = refl
+changes_look_not (changes.Write path offset bytes) = refl
+changes_look_not (changes.Truncate path length) = refl
+changes_look_not (changes.Rename from to) = refl
+changes_look_not (changes.Remove path) = refl
 
 -- ---- the room of a write
 
@@ -84,35 +90,18 @@ write_room r stock call path offset bytes read most spare is same brings room =
     (brings_by g on st (refusal_of st.tree (Write path offset bytes)) path offset bytes at most spare
     (subst (λ (b : List ℕ). BringsAtMost (rules g) on st.space (length b) most) same (brings tape g on st stands)) enough)) room
 
--- ---- where the ends are once a call is done
+-- ---- what stands behind the ops that stood
 
-some_bytes : (g : Given) (on : Bool) (st : Standing) (tape : Tape) (stock : Stocked) → IsStock tape g on st stock
-    → AreStanding stock.layout.limits stock.layout.block_size stock.layout.ends stock.layout.ops → 1 ≤ g.mounted.label.block
-some_bytes g on st tape stock is standing = subst (λ (l : Plan). 1 ≤ l.block_size) is.layout standing.can_be.some
+after_front : {X : Type 0} (front more : List X) → drop (length front) (front ++ more) ≡ more
+after_front [] more = refl
+after_front (x ∷ front) more = after_front front more
 
-pub late_ends : {D : Type 0} (p : Parts D) (s : Stands p) (call : Call) (at : Moment) (next : Stocked)
-    → AreStanding p.stock.layout.limits p.stock.layout.block_size p.stock.layout.ends p.stock.layout.ops
-    → IsDone (tape_on s.planned) s.g s.on s.st call at p.stock next
-    → next.layout.ends ≡ (after (rules s.g) s.on s.st.space (ask_of s.g s.st call at)).ends
-late_ends p s call at next standing d =
-    let ask : Ask = ask_of s.g s.st call at in
-    let asked : List Op = ops_of (rules s.g) s.on s.st.space ask in
-    let late : IsLate (tape_on s.planned) (tape_on (with_ops asked s.planned)) s.g s.on s.st ask p.stock.tree =
-    tapes_stay.late s.planned asked p.stock.tree s.g s.on s.st ask
-    (subst (λ (e : Ends). LiesBelow (ends_of e) p.stock.tree) s.ends s.stock.below) refl s.ends
-    (some_bytes s.g s.on s.st (tape_on s.planned) p.stock s.stock standing) in
-    ap (λ (l : Plan). l.ends) (d.stands (tape_on (with_ops asked s.planned)) late).layout
-
--- the places between the ends are those of the ops
-pub queued_are : {D : Type 0} (p : Parts D) (s : Stands p) (call : Call) (at : Moment) (next : Stocked) → may_wait call ≡ false
-    → AreStanding p.stock.layout.limits p.stock.layout.block_size p.stock.layout.ends p.stock.layout.ops
-    → IsDone (tape_on s.planned) s.g s.on s.st call at p.stock next
-    → between p.stock.layout.ends next.layout.ends ≡ map place_of (ops_of (rules s.g) s.on s.st.space (ask_of s.g s.st call at))
-queued_are p s call at next no_wait standing d =
-    let was : p.stock.layout.ends ≡ s.st.space.ends = ap (λ (l : Plan). l.ends) s.stock.layout in
-    ap (λ (e : Ends). between e next.layout.ends) was
-    ∙ runs_of_ops (rules s.g) s.on s.st.space (ask_of s.g s.st call at) next.layout.ends (no_text s.g s.st call at no_wait)
-    (late_ends p s call at next standing d)
+-- the ops of a call stand behind those that stood
+pub asked_behind : (early : Tape) (g : Given) (on : Bool) (st : Standing) (call : Call) (at : Moment) (old next : Stocked) (others : ℕ) → others ≡ length old.layout.ops
+    → IsDone early g on st call at old next → drop others next.layout.ops ≡ ops_of (rules g) on st.space (ask_of g st call at)
+asked_behind early g on st call at old next others is d =
+    ap (λ n. drop n next.layout.ops) is ∙ ap (λ (os : List Op). drop (length old.layout.ops) os) d.ops
+    ∙ after_front old.layout.ops (ops_of (rules g) on st.space (ask_of g st call at))
 
 -- ---- the call
 
@@ -121,45 +110,32 @@ abbrev pub DoneAlways : Call → Moment → Stocked → Stocked → Type 0
 DoneAlways call at old next = (early : Tape) (g : Given) (on : Bool) (st : Standing) → IsStock early g on st old
     → (refusal_of (plain_of whole old.tree) call ≡ None) × IsDone early g on st call at old next
 
-pub change_room : {D : Type 0} (p : Parts D) (s : Stands p) (call : Call) (at : Moment) (next : Stocked) (spare ip dp : ℕ)
-    → may_wait call ≡ false → ip ≡ p.stock.layout.ends.ip → dp ≡ p.stock.layout.ends.dp
-    → AreStanding p.stock.layout.limits p.stock.layout.block_size p.stock.layout.ends p.stock.layout.ops
-    → DoneAlways call at p.stock next
+-- there is room for their events
+pub change_room : {D : Type 0} (p : Parts D) (s : Stands p) (call : Call) (at : Moment) (next : Stocked) (spare others : ℕ)
+    → others ≡ length p.stock.layout.ops → DoneAlways call at p.stock next
     → ((tape : Tape) (g : Given) (on : Bool) (st : Standing) (at : Moment) → IsStock tape g on st p.stock
     → 2 * length (ops_of (rules g) on st.space (ask_of g st call at)) ≤ spare)
-    → 2 * ((next.layout.ends.ip - ip) + (next.layout.ends.dp - dp)) ≤ spare
-change_room p s call at next spare ip dp no_wait ip_is dp_is standing done room =
+    → 2 * length (drop others next.layout.ops) ≤ spare
+change_room p s call at next spare others is done room =
     let d : IsDone (tape_on s.planned) s.g s.on s.st call at p.stock next = (done (tape_on s.planned) s.g s.on s.st s.stock).1 in
-    let asked : List Op = ops_of (rules s.g) s.on s.st.space (ask_of s.g s.st call at) in
-    let same : length (between p.stock.layout.ends next.layout.ends) ≡ length (map place_of asked) =
-    ap (λ (ps : List Place). length ps) (queued_are p s call at next no_wait standing d) in
-    let places : length (map place_of asked) ≡ length asked = length-map asked place_of in
     omega (
       arith,
       room (tape_on s.planned) s.g s.on s.st at s.stock,
-      between_length p.stock.layout.ends next.layout.ends,
-      same,
-      places,
-      ip_is,
-      dp_is,
+      ap (λ (os : List Op). length os) (asked_behind (tape_on s.planned) s.g s.on s.st call at p.stock next others is d),
     )
 
-pub change_done : {D : Type 0} (drive : Ghosts D) (who nth : ℕ) (call : Call) (at : Moment) (result : Submitted) (ip dp : ℕ)
+-- a change is submitted whose ops are queued
+pub change_done : {D : Type 0} (drive : Ghosts D) (who nth : ℕ) (call : Call) (at : Moment) (result : Submitted) (others : ℕ)
     (next : Stocked) (trail : Journaled) (old new : Parts D) (s : Stands old) → may_wait call ≡ false
-    → only_looks call ≡ false → ip ≡ old.stock.layout.ends.ip → dp ≡ old.stock.layout.ends.dp
-    → AreStanding old.stock.layout.limits old.stock.layout.block_size old.stock.layout.ends old.stock.layout.ops
+    → only_looks call ≡ false → others ≡ length old.stock.layout.ops
     → DoneAlways call at old.stock next → trail.events ≡ old.trail.events → trail.acks ≡ old.trail.acks
     → trail.kept ≡ old.trail.kept
-    → QueuesDone who nth at (run Ip ip (next.layout.ends.ip - ip) ++ run Dp dp (next.layout.ends.dp - dp)) result
-    (record old { stock = next; trail = trail }) new
+    → QueuesDone who nth at (map place_of (drop others next.layout.ops)) result (record old { stock = next; trail = trail }) new
     → IsSubmitted drive who nth at old new call result
-change_done drive who nth call at result ip dp next trail old new s no_wait no_look ip_is dp_is standing done events acks kept q =
+change_done drive who nth call at result others next trail old new s no_wait no_look is done events acks kept q =
     let d : IsDone (tape_on s.planned) s.g s.on s.st call at old.stock next = (done (tape_on s.planned) s.g s.on s.st s.stock).1 in
     let asked : List Op = ops_of (rules s.g) s.on s.st.space (ask_of s.g s.st call at) in
-    let places : run Ip ip (next.layout.ends.ip - ip) ++ run Dp dp (next.layout.ends.dp - dp) ≡ map place_of asked =
-    ap (λ k. run Ip k (next.layout.ends.ip - k) ++ run Dp dp (next.layout.ends.dp - dp)) ip_is
-    ∙ ap (λ k. run Ip old.stock.layout.ends.ip (next.layout.ends.ip - old.stock.layout.ends.ip) ++ run Dp k (next.layout.ends.dp - k)) dp_is
-    ∙ queued_are old s call at next no_wait standing d in
+    let behind : drop others next.layout.ops ≡ asked = asked_behind (tape_on s.planned) s.g s.on s.st call at old.stock next others is d in
     let stock : new.stock ≡ next = ap (λ (p : Parts _). p.stock) q.others in
     let changes : Changes who nth call at old new = record {
       no_wait = no_wait;
@@ -180,8 +156,8 @@ change_done drive who nth call at result ip dp next trail old new s no_wait no_l
         reads = ap (λ (p : Parts _). p.reads) q.others;
       };
       cached = ap (λ (p : Parts _). p.cached) q.others;
-      events = q.queues.events ∙ ap (λ (es : List Event). es ++ queues_at (run Ip ip (next.layout.ends.ip - ip) ++ run Dp dp (next.layout.ends.dp - dp))) events
-          ∙ ap (λ (ps : List Place). old.trail.events ++ queues_at ps) places;
+      events = q.queues.events ∙ ap (λ (es : List Event). es ++ queues_at (map place_of (drop others next.layout.ops))) events
+          ∙ ap (λ (os : List Op). old.trail.events ++ queues_at (map place_of os)) behind;
       acks = q.queues.acks ∙ acks;
       places = record {
         history = q.places.history;

@@ -3,14 +3,12 @@ mod AwaitLemmas
 mod ChangeLemmas
 mod EndLemmas
 mod FillLemmas
-mod IndexLemmas
 mod OpLemmas
 mod PickLemmas
 mod PlacingLemmas
 pub mod QueueLemmas
 mod ReadLemmas
 mod RequestLemmas
-mod RunLemmas
 mod StepLemmas
 pub mod SubmitLemmas
 mod SyncDone

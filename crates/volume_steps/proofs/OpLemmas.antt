@@ -12,8 +12,7 @@ use Rattle.event_laws.specs.Waiting as waiting
 use Rattle.event_laws.specs.Waiting.{State, Waiter, waiting_op}
 use Rattle.event_laws.specs.Trail.{after, after_all, after_op, without_first_op}
 use Rattle.tape_layout.specs.declared.ops.Op.{Op}
-use Rattle.tape_layout.specs.Ops.{place_of}
-use Rattle.serving_promise.specs.Served.{is_flush}
+use Rattle.tape_layout.specs.Ops.{is_flush, place_of}
 use Rattle.held_volume.specs.Stocks.{Stocked}
 use Rattle.event_journal.specs.Placements.{Listed}
 use Rattle.event_journal.specs.Trails.{state}

@@ -18,8 +18,8 @@ use Rattle.event_laws.specs.Trail.{allows, fits, is_answer}
 use Rattle.event_laws.specs.Waiting as waiting
 use Rattle.event_laws.specs.Waiting.{State, Waiter, is_calm, is_due, waiting_op}
 use Rattle.tape_layout.specs.declared.ops.Op.{Op}
-use Rattle.tape_layout.specs.Ops.{place_of}
-use Rattle.serving_promise.specs.Served.{headed, is_flush}
+use Rattle.tape_layout.specs.Ops.{is_flush, place_of}
+use Rattle.serving_promise.specs.Served.{headed}
 use Rattle.waiting_reads.specs.Gathering.{Gathering}
 use Rattle.waiting_reads.specs.Waiting.{HasTicket, StandsAt, has_ticket}
 use Rattle.event_journal.specs.Trails.{due_of, due_ticket, state}

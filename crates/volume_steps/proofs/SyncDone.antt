@@ -1,5 +1,5 @@
 -- A sync that was admitted.
-use Rattle.std.specs.Prelude.{ℕ, ◌≡◌, ◌+◌, ◌-◌, ◌*◌, ◌<◌, ◌≤◌, Bool, true, false, cond, List, ◌∷◌, ◌++◌, length, map, Option, Some, None, Result, Ok, Err, OnOk}
+use Rattle.std.specs.Prelude.{ℕ, ◌≡◌, ◌+◌, ◌*◌, ◌≤◌, Bool, true, false, cond, drop, List, ◌∷◌, ◌++◌, length, map, Option, Some, None, Result, Ok, Err, OnOk}
 use Rattle.std.proofs.Common.{refl, sym, ap, subst, ◌∙◌, arith, length-append}
 use Rattle.tape_types.specs.declared.moments.Moment.{Moment}
 use Rattle.tape_types.specs.declared.cartridges.Place.{Place}
@@ -15,9 +15,7 @@ use Rattle.event_laws.specs.Trail.{after_all}
 use Rattle.event_laws.specs.Waiting as waiting
 use Rattle.tape_drive.specs.declared.drive.Drive.{Ghosts}
 use Rattle.tape_layout.specs.Ops.{place_of}
-use Rattle.tape_layout.specs.Plans.{AreStanding, Plan}
 use Rattle.tape_layout.specs.declared.ops.Op.{Op}
-use Rattle.tape_layout.specs.declared.standing.Ends.{Ends}
 use Rattle.space_laws.specs.Space.{Ask, index, nothing, ops_of}
 use Rattle.space_laws.specs.Standing.{Given, Standing, ask_of, ask_unless, ask_unrefused, rules, sync_text}
 use Rattle.serving_promise.specs.Submits.{queues_at, synced_at}
@@ -32,71 +30,28 @@ use Rattle.state_laws.specs.Placing.{PlacesCall, Syncs, synced_here, synced_repl
 use Rattle.state_laws.specs.Stepping.{acks_at}
 use Rattle.call_laws.specs.SubmitLaws as made
 use Rattle.call_laws.specs.SubmitLaws.{synced_answer}
-use Rattle.volume_steps.specs.Asking.{CanAsk, CanQueueSync, IsSubmitted, Queues, QueuesSync, Stands, WaitsSynced, index_places}
-use Rattle.volume_steps.proofs.ChangeLemmas.{late_ends}
-use Rattle.volume_steps.proofs.IndexLemmas.{AsksText, index_are, index_least, places_long}
+use Rattle.volume_steps.specs.Asking.{CanAsk, CanQueueSync, IsSubmitted, Queues, QueuesSync, Stands, WaitsSynced}
+use Rattle.volume_steps.proofs.ChangeLemmas.{asked_behind}
 
-text_unless : (r : Option Refusal) (ask : Ask) → AsksText ask → AsksText (ask_unless r ask)
-text_unless None ask is = is
-text_unless (Some why) ask is = omega arith
-
-text_cond : (b : Bool) (text : List ℕ) → AsksText (cond b (index text) nothing)
-text_cond true text = omega arith
-text_cond false text = omega arith
-
-asks_text : (g : Given) (st : Standing) (at : Moment) → AsksText (ask_of g st calls.Sync at)
-asks_text g st at = text_unless (refusal_of st.tree calls.Sync) (ask_unrefused g st calls.Sync at)
-    (text_cond st.space.changed (sync_text g st at))
-
--- where the ops of a sync stand, and how many they are
-module _ {D : Type 0} (p : Parts D) (s : Stands p) (at : Moment) (next : Stocked)
-    (standing : AreStanding p.stock.layout.limits p.stock.layout.block_size p.stock.layout.ends p.stock.layout.ops)
-    (d : IsDone (tape_on s.planned) s.g s.on s.st calls.Sync at p.stock next) where
-  abbrev asked : List Op
-  asked = ops_of (rules s.g) s.on s.st.space (ask_of s.g s.st calls.Sync at)
-
-  pub added_are : length next.layout.ops ≡ length p.stock.layout.ops + length asked
-  added_are = ap (λ (os : List Op). length os) d.ops ∙ length-append p.stock.layout.ops asked
-
-  pub sync_places : (ip dp count : ℕ) → ip ≡ p.stock.layout.ends.ip → dp ≡ p.stock.layout.ends.dp → count ≡ length p.stock.layout.ops
-      → index_places ip dp next.layout.ends.dp (length next.layout.ops - count) ≡ map place_of asked
-  sync_places ip dp count ip_is dp_is count_is =
-      let ends : p.stock.layout.ends ≡ s.st.space.ends = ap (λ (l : Plan). l.ends) s.stock.layout in
-      let same_ip : ip ≡ s.st.space.ends.ip = ip_is ∙ ap (λ (e : Ends). e.ip) ends in
-      let same_dp : dp ≡ s.st.space.ends.dp = dp_is ∙ ap (λ (e : Ends). e.dp) ends in
-      let many : length next.layout.ops - count ≡ length asked = omega (arith, added_are, count_is) in
-      ap (λ k. index_places k dp next.layout.ends.dp (length next.layout.ops - count)) same_ip
-      ∙ ap (λ k. index_places s.st.space.ends.ip k next.layout.ends.dp (length next.layout.ops - count)) same_dp
-      ∙ index_are (rules s.g) s.on s.st.space (ask_of s.g s.st calls.Sync at) next.layout.ends.dp (length next.layout.ops - count)
-      (asks_text s.g s.st at) (ap (λ (e : Ends). e.dp) (late_ends p s calls.Sync at next standing d)) many
-
-pub can_queue : {D : Type 0} (p : Parts D) (s : Stands p) (at : Moment) (next : Stocked) (trail : Journaled) (ip dp count : ℕ)
+-- the ops of a sync can be queued
+pub can_queue : {D : Type 0} (p : Parts D) (s : Stands p) (at : Moment) (next : Stocked) (trail : Journaled) (others : ℕ)
     → trail.events ≡ p.trail.events
-    → AreStanding p.stock.layout.limits p.stock.layout.block_size p.stock.layout.ends p.stock.layout.ops
     → ((early : Tape) (g : Given) (on : Bool) (st : Standing) → IsStock early g on st p.stock
     → IsDone early g on st calls.Sync at p.stock next)
-    → ip ≡ p.stock.layout.ends.ip → dp ≡ p.stock.layout.ends.dp → count ≡ length p.stock.layout.ops
+    → others ≡ length p.stock.layout.ops
     → ((tape : Tape) (g : Given) (on : Bool) (st : Standing) → IsStock tape g on st p.stock
     → 2 * length (ops_of (rules g) on st.space (ask_of g st calls.Sync at)) + 2 ≤ trail.spare)
-    → CanQueueSync ip dp count next trail
-can_queue p s at next trail ip dp count same standing done ip_is dp_is count_is room =
+    → CanQueueSync others next trail
+can_queue p s at next trail others same done is room =
     let d : IsDone (tape_on s.planned) s.g s.on s.st calls.Sync at p.stock next = done (tape_on s.planned) s.g s.on s.st s.stock in
-    let ops : List Op = ops_of (rules s.g) s.on s.st.space (ask_of s.g s.st calls.Sync at) in
-    let more : length next.layout.ops ≡ length p.stock.layout.ops + length ops = added_are p s at next standing d in
-    let many : length next.layout.ops - count ≡ length ops = omega (arith, more, count_is) in
-    let same_dp : dp ≡ s.st.space.ends.dp = dp_is ∙ ap (λ (l : Plan). l.ends.dp) s.stock.layout in
-    let places : length (index_places ip dp next.layout.ends.dp (length next.layout.ops - count)) ≡ length ops =
-    places_long (index_places ip dp next.layout.ends.dp (length next.layout.ops - count)) ops
-    (sync_places p s at next standing d ip dp count ip_is dp_is count_is) in
+    let asked : List Op = ops_of (rules s.g) s.on s.st.space (ask_of s.g s.st calls.Sync at) in
+    let behind : length (drop others next.layout.ops) ≡ length asked =
+    ap (λ (os : List Op). length os) (asked_behind (tape_on s.planned) s.g s.on s.st calls.Sync at p.stock next others is d) in
+    let all : length next.layout.ops ≡ length p.stock.layout.ops + length asked =
+    ap (λ (os : List Op). length os) d.ops ∙ length-append p.stock.layout.ops asked in
     record {
-      many = omega (arith, more, count_is);
-      some = λ after.
-          subst (λ k. (next.layout.ends.dp - k) + 1 ≤ length next.layout.ops - count) (sym same_dp)
-          (index_least (rules s.g) s.on s.st.space (ask_of s.g s.st calls.Sync at) next.layout.ends.dp (length next.layout.ops - count)
-          (asks_text s.g s.st at) (ap (λ (e : Ends). e.dp) (late_ends p s calls.Sync at next standing d)) many
-          (subst (λ k. k < next.layout.ends.dp) same_dp after));
-      ops = omega (arith, more, places, s.ops, ap (λ (es : List Event). length (waiting.ops (after_all es))) same);
-      room = omega (arith, many, room (tape_on s.planned) s.g s.on s.st s.stock);
+      ops = omega (arith, all, behind, s.ops, ap (λ (es : List Event). length (waiting.ops (after_all es))) same);
+      room = omega (arith, behind, room (tape_on s.planned) s.g s.on s.st s.stock);
     }
 
 -- ---- the room of a sync
@@ -140,40 +95,26 @@ pub can_after : {D : Type 0} (who : ℕ) (places : List Place) (mid : Journaled)
     → CanAsk who (record p { trail = mid })
 can_after who places mid p can q = record { place = can.place; trail = q.trail; none_due = q.none_due }
 
-pub queues_sync : {D : Type 0} (drive : Ghosts D) (who nth : ℕ) (at : Moment) (ip dp next added count : ℕ) (result : Submitted)
-    (mid : Journaled) (old new : Parts D) → next ≡ old.stock.layout.ends.dp → added ≡ length old.stock.layout.ops - count
-    → Queues (index_places ip dp next added) old.trail mid
-    → WaitsSynced drive who nth at result (record old { trail = mid }) new
-    → QueuesSync drive who nth at (index_places ip dp old.stock.layout.ends.dp (length old.stock.layout.ops - count)) result old new
-queues_sync drive who nth at ip dp next added count result mid old new next_is added_is q w = record {
-  mid = mid;
-  queues = subst (λ k. Queues (index_places ip dp k (length old.stock.layout.ops - count)) old.trail mid) next_is
-      (subst (λ k. Queues (index_places ip dp next k) old.trail mid) added_is q);
-  waits = w;
-}
-
-pub sync_made : {D : Type 0} (drive : Ghosts D) (who nth : ℕ) (at : Moment) (result : Submitted) (ip dp count : ℕ) (next : Stocked)
+-- a sync is submitted whose ops are queued
+pub sync_made : {D : Type 0} (drive : Ghosts D) (who nth : ℕ) (at : Moment) (result : Submitted) (others : ℕ) (next : Stocked)
     (trail : Journaled) (old new : Parts D) (s : Stands old) → trail.events ≡ old.trail.events → trail.acks ≡ old.trail.acks
-    → trail.kept ≡ old.trail.kept → ip ≡ old.stock.layout.ends.ip → dp ≡ old.stock.layout.ends.dp
-    → count ≡ length old.stock.layout.ops
-    → AreStanding old.stock.layout.limits old.stock.layout.block_size old.stock.layout.ends old.stock.layout.ops
+    → trail.kept ≡ old.trail.kept → others ≡ length old.stock.layout.ops
     → ((early : Tape) (g : Given) (on : Bool) (st : Standing) → IsStock early g on st old.stock
     → IsDone early g on st calls.Sync at old.stock next)
-    → QueuesSync drive who nth at (index_places ip dp next.layout.ends.dp (length next.layout.ops - count)) result
+    → QueuesSync drive who nth at (map place_of (drop others next.layout.ops)) result
     (record old { stock = next; trail = trail }) new
     → IsSubmitted drive who nth at old new calls.Sync result
-sync_made drive who nth at result ip dp count next trail old new s events acks kept ip_is dp_is count_is standing done q =
+sync_made drive who nth at result others next trail old new s events acks kept is_others done q =
     let d : IsDone (tape_on s.planned) s.g s.on s.st calls.Sync at old.stock next = done (tape_on s.planned) s.g s.on s.st s.stock in
     let ops : List Op = ops_of (rules s.g) s.on s.st.space (ask_of s.g s.st calls.Sync at) in
     let here : ℕ = length old.listed.history in
     let w = q.waits in
-    let places : index_places ip dp next.layout.ends.dp (length next.layout.ops - count) ≡ map place_of ops =
-    sync_places old s at next standing d ip dp count ip_is dp_is count_is in
+    let behind : drop others next.layout.ops ≡ ops = asked_behind (tape_on s.planned) s.g s.on s.st calls.Sync at old.stock next others is_others d in
     let stock : new.stock ≡ next = ap (λ (p : Parts _). p.stock) w.others in
     let mid : q.mid.events ≡ old.trail.events ++ queues_at (map place_of ops) =
     q.queues.events
-    ∙ ap (λ (es : List Event). es ++ queues_at (index_places ip dp next.layout.ends.dp (length next.layout.ops - count))) events
-    ∙ ap (λ (ps : List Place). old.trail.events ++ queues_at ps) places in
+    ∙ ap (λ (es : List Event). es ++ queues_at (map place_of (drop others next.layout.ops))) events
+    ∙ ap (λ (os : List Op). old.trail.events ++ queues_at (map place_of os)) behind in
     let syncs : Syncs drive who nth at old new = record {
       applied = λ early g on st is.
           subst (λ (x : Stocked). IsDone early g on st calls.Sync at old.stock x) (sym stock) (done early g on st is);

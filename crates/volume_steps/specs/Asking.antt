@@ -1,9 +1,6 @@
 -- What a submission asks of the parts of a volume, and how it ends.
-use Rattle.std.specs.Prelude.{ℕ, ◌≡◌, ◌+◌, ◌-◌, ◌*◌, ◌<◌, ◌≤◌, nat_lt, cond, Bool, true, false, List, [], ◌∷◌, ◌++◌}
-use Rattle.std.specs.Prelude.{Some, None, length, map}
-use Rattle.std.specs.List.{range_with_len}
-use Rattle.tape_types.specs.declared.cartridges.Part.{Part}
-use Rattle.tape_types.specs.declared.cartridges.Part.TheVariants.{Ip, Dp}
+use Rattle.std.specs.Prelude.{ℕ, ◌≡◌, ◌+◌, ◌*◌, ◌<◌, ◌≤◌, Bool, List, [], ◌∷◌, ◌++◌}
+use Rattle.std.specs.Prelude.{Some, None, drop, length}
 use Rattle.tape_types.specs.declared.cartridges.Place.{Place}
 use Rattle.tape_types.specs.declared.moments.Moment.{Moment}
 use Rattle.plain_tree.specs.declared.calls.Answer.TheVariants as the_answers
@@ -90,10 +87,6 @@ pub record Reserves {D : Type 0} (old new : Parts D) : Type 0 where
   pub calls : new.listed.calls ≡ old.listed.calls
   pub sessions : new.listed.sessions ≡ old.listed.sessions
 
--- the places from a position of a partition on, so many
-abbrev pub run : Part → ℕ → ℕ → List Place
-run part from n = map (λ k. record { part = part; pos = from + k }) (range_with_len 0 n)
-
 -- ops at these places are queued
 pub record Queues (places : List Place) (old new : Journaled) : Type 0 where
   pub events : new.events ≡ old.events ++ queues_at places
@@ -141,24 +134,10 @@ pub record WaitsSynced {D : Type 0} (drive : Ghosts D) (who nth : ℕ) (at : Mom
   pub places : PlacesCall who nth at fates.Done (synced_reply old.stock.layout.ops) old new
   pub others : new ≡ record old { listed = new.listed; trail = new.trail }
 
--- the flush of the index partition before an index, where one is due
-abbrev pub flush_at : Bool → ℕ → List Place
-flush_at true ip = record { part = Ip; pos = ip } ∷ []
-flush_at false ip = []
-
--- The places of the ops of an index, with which the data partition goes on from one end to the next; where there are
--- more than the index has, the first is a flush of the index partition.
-abbrev pub index_places : ℕ → ℕ → ℕ → ℕ → List Place
-index_places ip dp next added =
-    cond (nat_lt dp next) (flush_at (nat_lt ((next - dp) + 1) added) ip ++ run Dp dp ((next + 1) - dp)) []
-
--- the ops of a sync were admitted, from these ends on and behind so many ops, and there is room for their events
-pub record CanQueueSync (ip dp count : ℕ) (stock : Stocked) (trail : Journaled) : Type 0 where
-  pub many : count ≤ length stock.layout.ops
-  pub some : dp < stock.layout.ends.dp → (stock.layout.ends.dp - dp) + 1 ≤ length stock.layout.ops - count
-  pub ops : length (waiting.ops (state trail))
-      + length (index_places ip dp stock.layout.ends.dp (length stock.layout.ops - count)) ≡ length stock.layout.ops
-  pub room : 2 * (length stock.layout.ops - count) + 2 ≤ trail.spare
+-- the ops of a sync were admitted behind so many others, and there is room for their events
+pub record CanQueueSync (others : ℕ) (stock : Stocked) (trail : Journaled) : Type 0 where
+  pub ops : length (waiting.ops (state trail)) + length (drop others stock.layout.ops) ≡ length stock.layout.ops
+  pub room : 2 * length (drop others stock.layout.ops) + 2 ≤ trail.spare
 
 -- the ops of a sync are queued at these places, and then it waits or is answered
 pub record QueuesSync {D : Type 0} (drive : Ghosts D) (who nth : ℕ) (at : Moment) (queued : List Place)

@@ -15,8 +15,8 @@ use Rattle.head_queue.specs.Queued.{requests}
 use Rattle.tape_drive.specs.declared.drive.Drive.{Ghosts}
 use Rattle.tape_drive.specs.declared.drive.Got.{Got}
 use Rattle.tape_layout.specs.declared.ops.Op.{Op}
-use Rattle.tape_layout.specs.Ops.{place_of}
-use Rattle.serving_promise.specs.Served.{headed, is_flush}
+use Rattle.tape_layout.specs.Ops.{is_flush, place_of}
+use Rattle.serving_promise.specs.Served.{headed}
 use Rattle.event_journal.specs.Trails.{due_ticket, first_waiter, kept_for_drain, state}
 use Rattle.waiting_reads.specs.Gathering.{Gathering}
 use Rattle.waiting_reads.specs.Waiting.{IsFilledBy, answer_for}

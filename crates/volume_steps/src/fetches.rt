@@ -6,6 +6,8 @@ ghost use Rattle.tape_types.specs.Bounds.{longest_file};
 ghost use Rattle.extent_map.specs.Replies.{bytes_in as bytes_of_piece, size_of};
 ghost use Rattle.file_tree.specs.Tree.{plain_of, whole};
 ghost use Rattle.event_laws.specs.Trail.{IsTrail, is_trail_from};
+ghost use Rattle.held_volume.specs.Reads.{IsReadable};
+ghost use Rattle.plain_tree.specs.Paths.{Path};
 ghost use Rattle.plain_tree.specs.Refusals.{refusal_of};
 ghost use Rattle.plain_tree.specs.declared.calls.Call.TheVariants as calls;
 ghost use Rattle.tape_layout.specs.Ops.{held_in};
@@ -25,7 +27,7 @@ use event_journal::Trail;
 use extent_map::Piece;
 use head_queue::Queue;
 use held_volume::Stock;
-use plain_tree::{Answer, Call};
+use plain_tree::Answer;
 use serving_promise::Submitted;
 use std::alloc::Global;
 use tape_drive::Drive;
@@ -47,7 +49,6 @@ impl<D: Drive> Parts<D> {
         &mut self,
         asked: Asked,
         alloc: Global,
-        call: &Call,
         path: &[Text],
         offset: u64,
         count: u64,
@@ -55,18 +56,16 @@ impl<D: Drive> Parts<D> {
         requires can { CanAsk asked.who (seen_parts self.old) }
         requires stands { Stands (seen_parts self.old) }
         requires wants { CanWantBlocks (seen_parts self.old) }
-        requires is_read { call.now ≡ calls.Read path.now offset count }
         ensures submits { IsSubmitted D.Drive asked.who asked.nth asked.at (seen_parts self.old) (seen_parts self.new)
-            call.now result }
+            (calls.Read path.now offset count) result }
         ensures answered { self.new.reads.answered ≡ self.old.reads.answered }
         ensures placed { result ≢ submitted.Drain }
     {
-        match self.stock.check(call) {
-            Ok(None) => self.read_file(asked, alloc, path, offset, count),
-            Ok(Some(refusal)) => {
+        match self.stock.file_at(path) {
+            Ok(file) => self.read_file(asked, alloc, file, offset, count),
+            Err(refusal) => {
                 self.answer(asked, Answer::Refused(refusal), Answer::Refused(refusal))
             }
-            Err(NoMemory) => self.void(asked, AdmitErr::NoMemory),
         }
     }
 
@@ -76,21 +75,22 @@ impl<D: Drive> Parts<D> {
         &mut self,
         asked: Asked,
         alloc: Global,
-        path: &[Text],
+        file: u32,
         offset: u64,
         count: u64,
     ) -> Submitted
         requires can { CanAsk asked.who (seen_parts self.old) }
         requires stands { Stands (seen_parts self.old) }
         requires wants { CanWantBlocks (seen_parts self.old) }
-        requires free { refusal_of (plain_of whole self.old.stock.tree) (calls.Read path.now offset count) ≡ None }
-        ensures submits { IsSubmitted D.Drive asked.who asked.nth asked.at (seen_parts self.old) (seen_parts self.new)
-            (calls.Read path.now offset count) result }
+        requires file { (path : Path) × IsReadable self.old.stock.tree path file }
+        ensures submits { (path : Path) → IsReadable self.old.stock.tree path file
+            → IsSubmitted D.Drive asked.who asked.nth asked.at (seen_parts self.old) (seen_parts self.new)
+            (calls.Read path offset count) result }
         ensures answered { self.new.reads.answered ≡ self.old.reads.answered }
         ensures placed { result ≢ submitted.Drain }
     {
         let here = self.placements.len();
-        match fetch(&self.stock, &self.cache, alloc, here, path, offset, count) {
+        match fetch(&self.stock, &self.cache, alloc, here, file, offset, count) {
             Ok(fetched) => {
                 let Fetched {
                     reading,
@@ -235,14 +235,15 @@ fn fetch(
     cache: &BlockCache,
     alloc: Global,
     ticket: u64,
-    path: &[Text],
+    file: u32,
     offset: u64,
     count: u64,
 ) -> Result<Fetched, NoMemory>
-    requires { refusal_of (plain_of whole stock.now.tree) (calls.Read path.now offset count) ≡ None }
-    ensures { IfOk result (λ f. IsFetched stock.now cache.now ticket path.now offset count f.reading f.wanted f.found) }
+    requires { (path : Path) × IsReadable stock.now.tree path file }
+    ensures { IfOk result (λ f. (path : Path) → IsReadable stock.now.tree path file
+        → IsFetched stock.now cache.now ticket path offset count f.reading f.wanted f.found) }
 {
-    let pieces = stock.plan(path, offset, count)?;
+    let pieces = stock.plan(file, offset, count)?;
     if !is_small(pieces.as_slice()) {
         return Err(NoMemory);
     }

@@ -5,7 +5,6 @@ mod drains;
 mod fetches;
 mod handing;
 mod looks;
-mod ops;
 mod parts;
 mod placing;
 mod requests;

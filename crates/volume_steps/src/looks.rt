@@ -1,9 +1,11 @@
 //! Calls that look at the tree.
 
-ghost use Rattle.std.specs.Prelude.{◌≡◌, ◌≢◌, true, IfOk};
+ghost use Rattle.std.specs.Prelude.{◌≡◌, ◌≢◌, true, Ok, IfOk};
 ghost use Rattle.extent_map.specs.Cells.{Tape};
 ghost use Rattle.file_tree.specs.Tree.{plain_of};
 ghost use Rattle.plain_tree.specs.Calls.{answer};
+ghost use Rattle.plain_tree.specs.declared.calls.Call.{Call};
+ghost use Rattle.plain_tree.specs.declared.calls.Call.TheVariants as calls;
 ghost use Rattle.state_laws.specs.Placing.{only_looks};
 ghost use Rattle.serving_promise.specs.declared.answers.Submitted.TheVariants as submitted;
 ghost use Rattle.volume_steps.specs.Asking.{CanAsk, IsSubmitted};
@@ -11,12 +13,12 @@ ghost use Rattle.volume_steps.specs.Seen.{seen_parts};
 
 use crate::parts::Parts;
 use crate::placing::Asked;
-use held_volume::Stock;
-use plain_tree::{Answer, Call};
+use plain_tree::Answer;
 use serving_promise::Submitted;
+use std::alloc::Global;
 use tape_drive::Drive;
 use tape_layout::AdmitErr;
-use tape_types::NoMemory;
+use tape_types::{NoMemory, Text};
 
 /// An answer that is told, and one that is kept.
 struct Twice {
@@ -25,17 +27,41 @@ struct Twice {
 }
 
 impl<D: Drive> Parts<D> {
-    /// Answers a call that looks at the tree.
-    #[tactic(auto, using(crate::proofs::SubmitLemmas::no_memory_here, crate::proofs::SubmitLemmas::ready_no_drain))]
-    pub fn look(&mut self, asked: Asked, call: &Call) -> Submitted
-        requires can { CanAsk asked.who (seen_parts self.old) }
-        requires looks { only_looks call.now ≡ true }
+    /// Answers a listing.
+    pub fn list(&mut self, asked: Asked, alloc: Global, path: &[Text]) -> Submitted
+        requires { CanAsk asked.who (seen_parts self.old) }
         ensures submits { IsSubmitted D.Drive asked.who asked.nth asked.at (seen_parts self.old) (seen_parts self.new)
-            call.now result }
+            (calls.Listing path.now) result }
         ensures answered { self.new.reads.answered ≡ self.old.reads.answered }
         ensures placed { result ≢ submitted.Drain }
     {
-        match told_twice(&self.stock, call) {
+        let told = self.stock.list(path);
+        self.tell(asked, alloc, told)
+    }
+
+    /// Tells the facts of a node.
+    pub fn stat(&mut self, asked: Asked, alloc: Global, path: &[Text]) -> Submitted
+        requires { CanAsk asked.who (seen_parts self.old) }
+        ensures submits { IsSubmitted D.Drive asked.who asked.nth asked.at (seen_parts self.old) (seen_parts self.new)
+            (calls.Stat path.now) result }
+        ensures answered { self.new.reads.answered ≡ self.old.reads.answered }
+        ensures placed { result ≢ submitted.Drain }
+    {
+        let told = self.stock.stat(path);
+        self.tell(asked, alloc, told)
+    }
+
+    /// Places a call that looks at the tree, with what it is answered.
+    #[tactic(auto, using(crate::proofs::SubmitLemmas::no_memory_here, crate::proofs::SubmitLemmas::ready_no_drain))]
+    fn tell(&mut self, asked: Asked, alloc: Global, told: Result<Answer, NoMemory>) -> Submitted
+        requires { CanAsk asked.who (seen_parts self.old) }
+        ensures submits { (call : Call) → only_looks call ≡ true
+            → IfOk told (λ a. (tape : Tape) → a ≡ answer (plain_of tape self.old.stock.tree) call)
+            → IsSubmitted D.Drive asked.who asked.nth asked.at (seen_parts self.old) (seen_parts self.new) call result }
+        ensures answered { self.new.reads.answered ≡ self.old.reads.answered }
+        ensures placed { result ≢ submitted.Drain }
+    {
+        match twice(told, alloc) {
             Ok(both) => {
                 let Twice { told, kept } = both;
                 self.answer(asked, told, kept)
@@ -45,26 +71,12 @@ impl<D: Drive> Parts<D> {
     }
 }
 
-/// What a call is answered that looks at the tree, twice.
-fn told_twice(stock: &Stock, call: &Call) -> Result<Twice, NoMemory>
-    requires { only_looks call.now ≡ true }
-    ensures told { IfOk result (λ both. (tape : Tape)
-        → both.told ≡ answer (plain_of tape stock.now.tree) call.now) }
+/// An answer, and what is kept of it. A listing is made once.
+fn twice(told: Result<Answer, NoMemory>, alloc: Global) -> Result<Twice, NoMemory>
+    ensures told { IfOk result (λ both. told ≡ Ok both.told) }
     ensures same { IfOk result (λ both. both.kept ≡ both.told) }
 {
-    let told = told_once(stock, call)?;
-    let kept = told_once(stock, call)?;
+    let told = told?;
+    let kept = told.try_clone(alloc)?;
     Ok(Twice { told, kept })
-}
-
-/// What a call is answered that looks at the tree.
-fn told_once(stock: &Stock, call: &Call) -> Result<Answer, NoMemory>
-    requires { only_looks call.now ≡ true }
-    ensures { IfOk result (λ told. (tape : Tape) → told ≡ answer (plain_of tape stock.now.tree) call.now) }
-{
-    match call {
-        Call::Listing { path } => stock.list(path.as_slice()),
-        Call::Stat { path } => stock.stat(path.as_slice()),
-        _ => unreachable!(),
-    }
 }

@@ -1,6 +1,6 @@
 //! Syncs.
 
-ghost use Rattle.std.specs.Prelude.{◌≡◌, ◌≢◌, ◌+◌, ◌-◌, ◌*◌, ◌<◌, ◌≤◌, ◌^◌, Bool, nat_lt, length, None, Some, IfSome};
+ghost use Rattle.std.specs.Prelude.{◌≡◌, ◌≢◌, ◌+◌, ◌*◌, ◌≤◌, Bool, drop, length, map, None, Some, IfSome};
 ghost use Rattle.std.specs.Prelude.{OnOk};
 ghost use Rattle.std.specs.Option.{option_map};
 ghost use Rattle.extent_map.specs.Cells.{Tape};
@@ -14,20 +14,21 @@ ghost use Rattle.held_volume.specs.Stocks.{IsStock};
 ghost use Rattle.held_volume.specs.Syncs.{IsDocument};
 ghost use Rattle.event_journal.specs.Trails.{due_ticket, state};
 ghost use Rattle.serving_promise.specs.declared.answers.Submitted.TheVariants as submitted;
-ghost use Rattle.volume_steps.specs.Asking.{AnswersSync, Awaits, CanAsk, CanPlace, CanQueueSync, IsSubmitted, Queues};
-ghost use Rattle.volume_steps.specs.Asking.{QueuesSync, Stands, WaitsSynced, flush_at, index_places, run};
+ghost use Rattle.volume_steps.specs.Asking.{AnswersSync, Awaits, CanAsk, CanPlace, CanQueueSync, IsSubmitted};
+ghost use Rattle.volume_steps.specs.Asking.{QueuesSync, Stands, WaitsSynced};
+ghost use Rattle.tape_layout.specs.Ops.{place_of};
 ghost use Rattle.volume_steps.specs.Seen.{seen_parts};
 
 use crate::parts::Parts;
 use crate::placing::Asked;
-use crate::submits::queue_run;
+use crate::submits::queue_ops;
 use event_journal::Trail;
 use held_volume::Stock;
 use plain_tree::Answer;
 use serving_promise::Submitted;
 use tape_drive::Drive;
 use tape_layout::AdmitErr;
-use tape_types::{NoMemory, Part, Place};
+use tape_types::NoMemory;
 
 impl<D: Drive> Parts<D> {
     /// Admits the index of a sync where the tree has changed since the last one, and queues its ops.
@@ -59,28 +60,25 @@ impl<D: Drive> Parts<D> {
         ensures answered { self.new.reads.answered ≡ self.old.reads.answered }
         ensures placed { result ≢ submitted.Drain }
     {
-        let (ip, dp) = self.stock.ends();
-        let count = self.stock.waiting();
+        let standing = self.stock.waiting();
         if reserve_sync(&self.stock, &mut self.trail, due).is_err() {
             return self.void(asked, AdmitErr::NoMemory);
         }
-        match self.stock.sync(due) {
-            Ok(()) => self.queue_sync(asked, ip, dp, count),
+        match self.stock.admit_dp(due) {
+            Ok(()) => self.queue_sync(asked, standing),
             Err(error) => self.void(asked, error),
         }
     }
 
-    /// Queues the ops of a sync that was admitted, from these ends on and behind so many ops.
-    fn queue_sync(&mut self, asked: Asked, ip: u64, dp: u64, count: u64) -> Submitted
+    /// Queues the ops of a sync that was admitted, which stand behind so many others.
+    fn queue_sync(&mut self, asked: Asked, others: u64) -> Submitted
         requires can { CanAsk asked.who (seen_parts self.old) }
-        requires numbers { CanQueueSync ip dp count self.old.stock self.old.trail }
+        requires numbers { CanQueueSync others self.old.stock self.old.trail }
         requires waiter { 1 ≤ self.old.trail.waiters }
-        ensures { QueuesSync D.Drive asked.who asked.nth asked.at (index_places ip dp self.old.stock.layout.ends.dp
-            (length self.old.stock.layout.ops - count)) result (seen_parts self.old) (seen_parts self.new) }
+        ensures { QueuesSync D.Drive asked.who asked.nth asked.at
+            (map place_of (drop others self.old.stock.layout.ops)) result (seen_parts self.old) (seen_parts self.new) }
     {
-        let (_, next) = self.stock.ends();
-        let added = self.stock.waiting() - count;
-        queue_index(&mut self.trail, ip, dp, next, added);
+        queue_ops(&self.stock, &mut self.trail, others);
         self.wait_synced(asked)
     }
 
@@ -144,45 +142,5 @@ fn reserve_sync(stock: &Stock, trail: &mut Trail, due: &Option<Vec<u8>>) -> Resu
             None => Err(NoMemory),
         },
         None => trail.reserve(1),
-    }
-}
-
-/// Queues the ops of the index of a sync, with which the data partition goes on from one end to the next: a flush of
-/// the index partition is first, where there are more than the index has.
-#[tactic(auto, using(crate::proofs::IndexLemmas::index_room, crate::proofs::IndexLemmas::index_room_then, crate::proofs::IndexLemmas::index_left, crate::proofs::IndexLemmas::index_some, crate::proofs::IndexLemmas::index_none))]
-fn queue_index(trail: &mut Trail, ip: u64, dp: u64, next: u64, added: u64)
-    requires none_due { due_ticket (state trail.old) ≡ None }
-    requires near { next < 2 ^ 63 }
-    requires some { dp < next → (next - dp) + 1 ≤ added }
-    requires room { 2 * added ≤ trail.old.spare }
-    ensures queues { Queues (index_places ip dp next added) trail.old trail.new }
-    ensures spare { trail.old.spare ≤ trail.new.spare + 2 * added }
-    ensures waiters { trail.new.waiters ≡ trail.old.waiters }
-{
-    if dp < next {
-        queue_flush(trail, ip, next - dp + 1 < added);
-        queue_run(trail, Part::Dp, dp, next + 1);
-    } else {
-        let _head = trail.head();
-    }
-}
-
-/// Queues a flush of the index partition, or nothing.
-#[tactic(auto, using(crate::proofs::QueueLemmas::may_queue, crate::proofs::QueueLemmas::queues_none, crate::proofs::QueueLemmas::queues_one, crate::proofs::QueueLemmas::queues_flush, crate::proofs::QueueLemmas::queues_no_flush))]
-fn queue_flush(trail: &mut Trail, ip: u64, flush: bool)
-    requires none_due { due_ticket (state trail.old) ≡ None }
-    requires room { 2 * length (flush_at flush ip) ≤ trail.old.spare }
-    ensures queues { Queues (flush_at flush ip) trail.old trail.new }
-    ensures spare { trail.old.spare ≤ trail.new.spare + 2 * length (flush_at flush ip) }
-    ensures waiters { trail.new.waiters ≡ trail.old.waiters }
-{
-    if flush {
-        trail.queues(Place {
-            part: Part::Ip,
-            pos: ip,
-        });
-        let _head = trail.head();
-    } else {
-        let _head = trail.head();
     }
 }

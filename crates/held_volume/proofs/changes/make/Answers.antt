@@ -26,15 +26,17 @@ returns-clause-ok c call made =
     let free : refusal_of (plain_of whole c.args.tree.now) call ≡ None =
     made_refusal (plain_of whole c.args.tree.now) c.args.sort c.args.path.now call made ∙ found.0 in
     let same = same_nodes c.args.tree.now c.reserve.new.self c.reserve.ensures.nodes c.reserve.ensures.highest c.reserve.ensures.volume in
-    let split : c.args.path.now ≡ c.in-Some.field-0-1.now ++ c.in_ok-name.name ∷ [] = c.in-Some.ensures.cases.0 ∙ ap (λ (n : List ℕ). c.in-Some.field-0-1.now ++ n ∷ []) (sym (c.in_ok-name.ensures {u = tt})) in
-    (free, step_from c.args.tree.now c.reserve.new.self c.make_in.new.tree call c.args.at same (c.make_in.ensures (record {
-      path = c.in-Some.field-0-1.now;
-      stands = subst (λ (p : Path). StandsAt c.reserve.new.self p c.in-Ok.dir) (ap parent_of c.in-Some.ensures.cases.0 ∙ parent_ends c.in-Some.field-0-1.now c.in-Some.name.now) (subst (λ (m : Nodes). number_at m (parent_of c.args.path.now) ≡ Some c.in-Ok.dir) (sym c.reserve.ensures.nodes) found.1);
-      call = call;
-      made_by = ap (making c.args.sort) (sym split) ∙ made;
-      free = ap (λ t. refusal_of t call) (same.plain whole) ∙ free;
-      room = c.in_ok-reserve.ensures.room;
-    })))
+    let split : c.args.path.now ≡ c.in-Some.field-0-1.now ++ c.in_ok-name.name ∷ [] = c.in-Some.ensures.cases.0 ∙ ap (λ (n : List ℕ). c.in-Some.field-0-1.now ++ n ∷ []) (sym (c.in_ok-name.ensures {u = tt})) in (
+      free,
+      step_from c.args.tree.now c.reserve.new.self c.make_in.new.tree call c.args.at same (c.make_in.ensures (record {
+        path = c.in-Some.field-0-1.now;
+        stands = subst (λ (p : Path). StandsAt c.reserve.new.self p c.in-Ok.dir) (ap parent_of c.in-Some.ensures.cases.0 ∙ parent_ends c.in-Some.field-0-1.now c.in-Some.name.now) (subst (λ (m : Nodes). number_at m (parent_of c.args.path.now) ≡ Some c.in-Ok.dir) (sym c.reserve.ensures.nodes) found.1);
+        call = call;
+        made_by = ap (making c.args.sort) (sym split) ∙ made;
+        free = ap (λ t. refusal_of t call) (same.plain whole) ∙ free;
+        room = c.in_ok-reserve.ensures.room;
+      })),
+    )
 
 pub returns-in_default-clause-ok : goal.returns-in_default-clause-ok
 returns-in_default-clause-ok c call made = (

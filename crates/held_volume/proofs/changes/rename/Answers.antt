@@ -19,13 +19,15 @@ returns-in_ok-name-in-Ok-Into-clause-ok c =
     let apart = not_true (same_path c.args.from.now c.args.to.now) (λ same. found.1 (same_is c.args.from.now c.args.to.now same)) in
     let up = c.in-Some.field-0-1.now in
     let dir = subst (λ (p : Path). StandsAt c.args.tree.now p c.in-Ok-Into.dir) (ap parent_of c.in-Some.ensures.cases.0 ∙ parent_ends up c.in-Some.name.now) found.3 in
-    let split : c.args.to.now ≡ up ++ c.in_ok-name-in-Ok-Into.name ∷ [] = c.in-Some.ensures.cases.0 ∙ ap (λ (n : List ℕ). up ++ n ∷ []) (sym (c.in_ok-name-in-Ok-Into.ensures {u = tt})) in
-    (found.0, rename_changes c.args.tree.now c.move_to.new.self c.args.at c.args.from.now c.args.to.now apart found.0
-    (renamed_step c.args.tree.now c.move_to.new.self c.args.from.now c.args.to.now c.args.at c.count-count.ensures.good c.count-count_now.ensures.good
-    found.0 apart
-    (subst (λ p. IsAfter (asks.Rename c.args.from.now p) c.args.at c.args.tree.now c.move_to.new.self) (sym split) (m.plain c.args.from.now up found.2 dir))
-    (subst (λ p. NumbersCome (moved_path c.args.from.now p) c.args.tree.now c.move_to.new.self) (sym split) (m.numbers c.args.from.now up found.2 dir))
-    m.extents m.blocks m.volume))
+    let split : c.args.to.now ≡ up ++ c.in_ok-name-in-Ok-Into.name ∷ [] = c.in-Some.ensures.cases.0 ∙ ap (λ (n : List ℕ). up ++ n ∷ []) (sym (c.in_ok-name-in-Ok-Into.ensures {u = tt})) in (
+      found.0,
+      rename_changes c.args.tree.now c.move_to.new.self c.args.at c.args.from.now c.args.to.now apart found.0
+          (renamed_step c.args.tree.now c.move_to.new.self c.args.from.now c.args.to.now c.args.at c.count-count.ensures.good c.count-count_now.ensures.good
+          found.0 apart
+          (subst (λ p. IsAfter (asks.Rename c.args.from.now p) c.args.at c.args.tree.now c.move_to.new.self) (sym split) (m.plain c.args.from.now up found.2 dir))
+          (subst (λ p. NumbersCome (moved_path c.args.from.now p) c.args.tree.now c.move_to.new.self) (sym split) (m.numbers c.args.from.now up found.2 dir))
+          m.extents m.blocks m.volume),
+    )
 
 pub returns-in_default-clause-ok : goal.returns-in_default-clause-ok
 returns-in_default-clause-ok c = (none_to_root (plain_of whole c.args.tree.now) c.args.from.now c.args.to.now c.in_default.ensures.cases, refl)

@@ -5,11 +5,11 @@ use Rattle.volume_steps.proofs.AwaitLemmas.{fetched}
 use Rattle.volume_steps.proofs.fetches.fetch.Goals as goal
 
 pub returns : goal.returns
-returns c =
+returns c path readable =
     let first = c.in_ok-reading.reading in
     let read = c.take_held.new.reading in
-    fetched c.args.stock.now c.args.cache.now c.args.ticket c.args.path.now c.args.offset c.args.count c.in_ok-pieces.pieces first read
-    c.in_ok-places.places c.new-wanted.result c.take_held.new.wanted c.new-found.result c.take_held.new.found c.in_ok-pieces.ensures.reads
+    fetched c.args.stock.now c.args.cache.now c.args.ticket path c.args.offset c.args.count c.in_ok-pieces.pieces first read
+    c.in_ok-places.places c.new-wanted.result c.take_held.new.wanted c.new-found.result c.take_held.new.found (c.in_ok-pieces.ensures.reads path readable)
     c.in_ok-reading.ensures.ticket c.in_ok-reading.ensures.pieces c.in_ok-reading.ensures.begins c.in_ok-places.ensures c.new-wanted.ensures
     c.new-found.ensures
     (subst (λ (ps : List Place). AreTakenFrom c.args.stock.now.layout.ops c.args.cache.now ps first read c.new-wanted.result c.take_held.new.wanted

@@ -12,13 +12,13 @@ use Rattle.generation_view.proofs.views.View.read.Goals as goal
 
 pub read_file-requires-clause-file : goal.read_file-requires-clause-file
 read_file-requires-clause-file g c =
-    let at = at_read c.self.inside.tree c.args.path c.args.offset c.args.count c.in-Ok-Ok-At.field-0 c.in-Ok-Ok-At.field-0-0 c.in-Ok-Ok-At.number
-    c.in-Ok-Ok-At.field-0-is c.in-Ok-Ok-At.field-0-0-is c.in-Ok-Ok-At.ensures in
-    file_read c.self.inside.tree c.args.path c.args.offset c.args.count c.in-Ok-Ok-At.number at.0 at.1
+    let at = at_read c.self.inside.tree c.args.path c.as_slice.result.now c.args.offset c.args.count c.in-Ok.file
+    c.as_slice.ensures c.in-Ok.ensures in
+    file_read c.self.inside.tree c.args.path c.args.offset c.args.count c.in-Ok.file at.0 at.1
 
-pub returns-in-Ok-Err : goal.returns-in-Ok-Err
-returns-in-Ok-Err g c =
+pub returns-in-Err : goal.returns-in-Err
+returns-in-Err g c =
     not_read g.D.Drive c.args.drive.now c.args.drive.now _ (λ held. answer (plain_of (tape_of held) c.args.self.now.tree) (asks.Read c.args.path c.args.offset c.args.count))
-    (answers.Refused c.in-Ok-Err.refusal) (omega (arith, c.commands-commands_are_in_range.ensures))
-    (λ held. subst (λ (view : Opened). answers.Refused c.in-Ok-Err.refusal ≡ answer (plain_of (tape_of held) view.tree) (asks.Read c.args.path c.args.offset c.args.count)) c.self.view_is
-    (refused_read c.self.inside.tree c.args.path c.args.offset c.args.count c.in-Ok-Err.field-0 c.in-Ok-Err.refusal c.in-Ok-Err.field-0-is c.in-Ok-Err.ensures (tape_of held)))
+    (answers.Refused c.in-Err.refusal) (omega (arith, c.commands-commands_are_in_range.ensures))
+    (λ held. subst (λ (view : Opened). answers.Refused c.in-Err.refusal ≡ answer (plain_of (tape_of held) view.tree) (asks.Read c.args.path c.args.offset c.args.count)) c.self.view_is
+    (refused_read c.self.inside.tree c.args.path c.as_slice.result.now c.args.offset c.args.count c.in-Err.refusal c.as_slice.ensures c.in-Err.ensures (tape_of held)))

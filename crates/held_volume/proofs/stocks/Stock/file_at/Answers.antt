@@ -1,8 +1,4 @@
-use Rattle.std.proofs.Common.{IfOk, IfErr, ℕ, Bool, Some, ◌≡◌, ap, ◌∙◌, subst}
-use Rattle.extent_map.specs.Cells.{Tape}
-use Rattle.plain_tree.specs.Refusals.{refusal_of}
-use Rattle.plain_tree.specs.declared.calls.Call.TheVariants as asks
-use Rattle.file_tree.specs.Tree.{FileTree, plain_of}
+use Rattle.std.proofs.Common.{IfOk, ap, subst}
 use Rattle.held_volume.specs.Reads.{IsReadable}
 use Rattle.held_volume.specs.Stocks.{Stocked}
 use Rattle.held_volume.proofs.Stands.{not_readable, readable}

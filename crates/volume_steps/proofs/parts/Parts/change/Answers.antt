@@ -1,7 +1,8 @@
 use Rattle.std.proofs.Common.{Ok, ap, refl, ◌∙◌}
+use Rattle.plain_tree.specs.Calls.{call_of_change}
 use Rattle.held_volume.proofs.WriteSteps.{is_ok_then}
 use Rattle.volume_steps.specs.Seen.{seen_parts}
-use Rattle.volume_steps.proofs.ChangeLemmas.{change_done, change_refused, change_room, change_void}
+use Rattle.volume_steps.proofs.ChangeLemmas.{change_done, change_refused, change_room, change_void, changes_look_not, changes_wait_not}
 use Rattle.volume_steps.proofs.EndLemmas.{done_of, refused_of, reserves_both, same_of, told_of, unchanged_of, unchanged_same}
 use Rattle.volume_steps.proofs.SubmitLemmas.{no_memory}
 use Rattle.volume_steps.proofs.parts.Parts.change.Goals as goal
@@ -10,7 +11,7 @@ pub returns-then-is_err-clause-submits : goal.returns-then-is_err-clause-submits
 returns-then-is_err-clause-submits g c =
     let old = seen_parts c.args.self.now in
     let r = c.reserve_for.ensures in
-    no_memory g.D.Drive c.args.asked.who c.args.asked.nth c.args.call.now c.args.asked.at c.void.result old
+    no_memory g.D.Drive c.args.asked.who c.args.asked.nth (call_of_change c.args.change) c.args.asked.at c.void.result old
     (record old { trail = c.reserve_for.new.trail }) (seen_parts c.void.new.self) c.requires.can
     (reserves_both old old.stock c.reserve_for.new.trail (unchanged_same old.stock old.stock refl) r.events r.acks r.kept)
     c.void.ensures
@@ -19,10 +20,9 @@ pub queue_change-requires-clause-room : goal.queue_change-requires-clause-room
 queue_change-requires-clause-room g c =
     let old = seen_parts c.args.self.now in
     let is = c.in-Ok-None.is ∙ ap Ok c.in-Ok-None.field-0-is in
-    change_room old c.requires.stands c.args.call.now c.args.asked.at c.apply.new.self c.reserve_for.new.trail.spare
-    c.ends-ip.result.0 c.ends-ip.result.1 c.requires.no_wait (ap (λ p. p.0) c.ends-ip.ensures.ends)
-    (ap (λ p. p.1) c.ends-ip.ensures.ends) c.ends-ip.ensures.standing
-    (done_of c.args.call.now c.args.asked.at old.stock c.apply.new.self c.apply.result is c.apply.ensures.applied)
+    change_room old c.requires.stands (call_of_change c.args.change) c.args.asked.at c.apply.new.self c.reserve_for.new.trail.spare
+    c.waiting-standing.result c.waiting-standing.ensures
+    (done_of (call_of_change c.args.change) c.args.asked.at old.stock c.apply.new.self c.apply.result is c.apply.ensures.applied)
     (is_ok_then c.reserve_for.result (c.if-is_err.ensures {u = tt}).value c.reserve_for.ensures.room)
 
 pub returns-in-Ok-None-clause-submits : goal.returns-in-Ok-None-clause-submits
@@ -30,11 +30,10 @@ returns-in-Ok-None-clause-submits g c =
     let old = seen_parts c.args.self.now in
     let r = c.reserve_for.ensures in
     let is = c.in-Ok-None.is ∙ ap Ok c.in-Ok-None.field-0-is in
-    change_done g.D.Drive c.args.asked.who c.args.asked.nth c.args.call.now c.args.asked.at c.queue_change.result
-    c.ends-ip.result.0 c.ends-ip.result.1 c.apply.new.self c.reserve_for.new.trail old (seen_parts c.queue_change.new.self)
-    c.requires.stands c.requires.no_wait c.requires.no_look (ap (λ p. p.0) c.ends-ip.ensures.ends)
-    (ap (λ p. p.1) c.ends-ip.ensures.ends) c.ends-ip.ensures.standing
-    (done_of c.args.call.now c.args.asked.at old.stock c.apply.new.self c.apply.result is c.apply.ensures.applied)
+    change_done g.D.Drive c.args.asked.who c.args.asked.nth (call_of_change c.args.change) c.args.asked.at c.queue_change.result
+    c.waiting-standing.result c.apply.new.self c.reserve_for.new.trail old (seen_parts c.queue_change.new.self)
+    c.requires.stands (changes_wait_not c.args.change) (changes_look_not c.args.change) c.waiting-standing.ensures
+    (done_of (call_of_change c.args.change) c.args.asked.at old.stock c.apply.new.self c.apply.result is c.apply.ensures.applied)
     r.events r.acks r.kept c.queue_change.ensures
 
 pub returns-in-Ok-Some-clause-submits : goal.returns-in-Ok-Some-clause-submits
@@ -44,10 +43,10 @@ returns-in-Ok-Some-clause-submits g c =
     let refusal = c.in-Ok-Some.refusal in
     let is = c.in-Ok-Some.is ∙ ap Ok c.in-Ok-Some.field-0-is in
     let same = same_of old.stock c.apply.new.self refusal c.apply.result is c.apply.ensures.leaves in
-    change_refused g.D.Drive c.args.asked.who c.args.asked.nth c.args.call.now c.args.asked.at c.answer.result refusal old
+    change_refused g.D.Drive c.args.asked.who c.args.asked.nth (call_of_change c.args.change) c.args.asked.at c.answer.result refusal old
     (record old { stock = c.apply.new.self; trail = c.reserve_for.new.trail }) (seen_parts c.answer.new.self) c.requires.can
-    c.requires.no_wait
-    (refused_of c.args.call.now c.args.asked.at old.stock c.apply.new.self refusal c.apply.result is c.apply.ensures.applied)
+    (changes_wait_not c.args.change)
+    (refused_of (call_of_change c.args.change) c.args.asked.at old.stock c.apply.new.self refusal c.apply.result is c.apply.ensures.applied)
     same
     (reserves_both old c.apply.new.self c.reserve_for.new.trail (unchanged_same old.stock c.apply.new.self same) r.events r.acks r.kept)
     c.answer.ensures
@@ -56,10 +55,10 @@ pub returns-in-Err-clause-submits : goal.returns-in-Err-clause-submits
 returns-in-Err-clause-submits g c =
     let old = seen_parts c.args.self.now in
     let r = c.reserve_for.ensures in
-    change_void g.D.Drive c.args.asked.who c.args.asked.nth c.args.call.now c.args.asked.at c.void-in-Err.result c.in-Err.error old
+    change_void g.D.Drive c.args.asked.who c.args.asked.nth (call_of_change c.args.change) c.args.asked.at c.void-in-Err.result c.in-Err.error old
     (record old { stock = c.apply.new.self; trail = c.reserve_for.new.trail }) (seen_parts c.void-in-Err.new.self)
     c.requires.can
-    (told_of c.args.call.now c.args.asked.at old.stock c.apply.new.self c.in-Err.error c.apply.result c.in-Err.is c.apply.ensures.applied)
+    (told_of (call_of_change c.args.change) c.args.asked.at old.stock c.apply.new.self c.in-Err.error c.apply.result c.in-Err.is c.apply.ensures.applied)
     (reserves_both old c.apply.new.self c.reserve_for.new.trail
     (unchanged_of old.stock c.apply.new.self c.in-Err.error c.apply.result c.in-Err.is c.apply.ensures.leaves) r.events r.acks r.kept)
     c.void-in-Err.ensures

@@ -37,7 +37,7 @@ finish_op-requires-in-Wrote-clause-op g c =
       later = drop 1 c.args.self.now.stock.layout.ops;
       first = (c.in-Some.ensures {u = tt}).first;
       place_is = c.place-place.ensures;
-      flush_is = c.flushes-flush.ensures;
+      flush_is = c.is_flush-flush.ensures;
       waits = is;
     }
 
@@ -56,7 +56,7 @@ finish_op-requires-in-Flushed-clause-op g c =
       later = drop 1 c.args.self.now.stock.layout.ops;
       first = (c.in-Some.ensures {u = tt}).first;
       place_is = c.place-place.ensures;
-      flush_is = c.flushes-flush.ensures;
+      flush_is = c.is_flush-flush.ensures;
       waits = is;
     }
 

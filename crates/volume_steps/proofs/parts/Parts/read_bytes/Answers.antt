@@ -1,16 +1,16 @@
 use Rattle.volume_steps.specs.Seen.{seen_parts}
-use Rattle.volume_steps.proofs.AwaitLemmas.{call_refused}
-use Rattle.volume_steps.proofs.SubmitLemmas.{no_memory_here}
+use Rattle.volume_steps.proofs.AwaitLemmas.{read_refused}
 use Rattle.volume_steps.proofs.parts.Parts.read_bytes.Goals as goal
 
-pub returns-in-Ok-Some-clause-submits : goal.returns-in-Ok-Some-clause-submits
-returns-in-Ok-Some-clause-submits g c =
-    call_refused g.D.Drive c.args.asked.who c.args.asked.nth c.args.call.now c.args.path.now c.args.offset c.args.count
-    c.args.asked.at c.in-Ok-Some.field-0 c.in-Ok-Some.refusal c.answer.result (seen_parts c.args.self.now)
-    (seen_parts c.answer.new.self) c.requires.can c.requires.is_read c.in-Ok-Some.field-0-is c.in-Ok-Some.ensures.refusal
-    c.in-Ok-Some.ensures.told c.answer.ensures
+pub returns-in-Ok-clause-submits : goal.returns-in-Ok-clause-submits
+returns-in-Ok-clause-submits g c = c.read_file.ensures.submits c.args.path.now (c.in-Ok.ensures {u = tt}).found
+
+pub read_file-requires-clause-file : goal.read_file-requires-clause-file
+read_file-requires-clause-file g c = (c.args.path.now, (c.in-Ok.ensures {u = tt}).found)
 
 pub returns-in-Err-clause-submits : goal.returns-in-Err-clause-submits
 returns-in-Err-clause-submits g c =
-    no_memory_here g.D.Drive c.args.asked.who c.args.asked.nth c.args.call.now c.args.asked.at c.void.result
-    (seen_parts c.args.self.now) (seen_parts c.void.new.self) c.requires.can c.void.ensures
+    let why = (c.in-Err.ensures {u = tt}).refused in
+    read_refused g.D.Drive c.args.asked.who c.args.asked.nth c.args.path.now c.args.offset c.args.count
+    c.args.asked.at c.in-Err.refusal c.answer.result (seen_parts c.args.self.now) (seen_parts c.answer.new.self) c.requires.can
+    (why.found c.args.offset c.args.count) (why.each c.args.offset c.args.count) c.answer.ensures

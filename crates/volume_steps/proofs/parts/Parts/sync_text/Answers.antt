@@ -1,4 +1,4 @@
-use Rattle.std.proofs.Common.{ap, refl}
+use Rattle.std.proofs.Common.{refl}
 use Rattle.plain_tree.specs.declared.calls.Call.TheVariants as calls
 use Rattle.held_volume.proofs.WriteSteps.{is_ok_then}
 use Rattle.volume_steps.specs.Seen.{seen_parts}
@@ -20,10 +20,10 @@ returns-then-is_err-clause-submits g c =
 pub queue_sync-requires-clause-numbers : goal.queue_sync-requires-clause-numbers
 queue_sync-requires-clause-numbers g c =
     let old = seen_parts c.args.self.now in
-    can_queue old c.requires.stands c.args.asked.at c.sync.new.self c.reserve_sync.new.trail c.ends-ip.result.0
-    c.ends-ip.result.1 c.waiting-count.result c.reserve_sync.ensures.events c.ends-ip.ensures.standing
-    (λ early h on st is. (c.in-Ok.ensures {u = tt}).applied early h on st c.args.asked.at is (c.requires.document early h on st is))
-    (ap (λ p. p.0) c.ends-ip.ensures.ends) (ap (λ p. p.1) c.ends-ip.ensures.ends) c.waiting-count.ensures
+    can_queue old c.requires.stands c.args.asked.at c.admit_dp.new.self c.reserve_sync.new.trail c.waiting-standing.result
+    c.reserve_sync.ensures.events
+    (λ early h on st is. (c.in-Ok.ensures {u = tt}).syncs early h on st c.args.asked.at is (c.requires.document early h on st is))
+    c.waiting-standing.ensures
     (λ tape h on st is.
     is_ok_then c.reserve_sync.result (c.if-is_err.ensures {u = tt}).value c.reserve_sync.ensures.room tape h on st c.args.asked.at is
     (c.requires.document tape h on st is))
@@ -32,11 +32,10 @@ pub returns-in-Ok-clause-submits : goal.returns-in-Ok-clause-submits
 returns-in-Ok-clause-submits g c =
     let old = seen_parts c.args.self.now in
     let r = c.reserve_sync.ensures in
-    sync_made g.D.Drive c.args.asked.who c.args.asked.nth c.args.asked.at c.queue_sync.result c.ends-ip.result.0
-    c.ends-ip.result.1 c.waiting-count.result c.sync.new.self c.reserve_sync.new.trail old (seen_parts c.queue_sync.new.self)
-    c.requires.stands r.events r.acks r.kept (ap (λ p. p.0) c.ends-ip.ensures.ends) (ap (λ p. p.1) c.ends-ip.ensures.ends)
-    c.waiting-count.ensures c.ends-ip.ensures.standing
-    (λ early h on st is. (c.in-Ok.ensures {u = tt}).applied early h on st c.args.asked.at is (c.requires.document early h on st is))
+    sync_made g.D.Drive c.args.asked.who c.args.asked.nth c.args.asked.at c.queue_sync.result
+    c.waiting-standing.result c.admit_dp.new.self c.reserve_sync.new.trail old (seen_parts c.queue_sync.new.self)
+    c.requires.stands r.events r.acks r.kept c.waiting-standing.ensures
+    (λ early h on st is. (c.in-Ok.ensures {u = tt}).syncs early h on st c.args.asked.at is (c.requires.document early h on st is))
     c.queue_sync.ensures
 
 pub returns-in-Err-clause-submits : goal.returns-in-Err-clause-submits
@@ -44,9 +43,9 @@ returns-in-Err-clause-submits g c =
     let old = seen_parts c.args.self.now in
     let r = c.reserve_sync.ensures in
     change_void g.D.Drive c.args.asked.who c.args.asked.nth calls.Sync c.args.asked.at c.void-in-Err.result c.in-Err.error old
-    (record old { stock = c.sync.new.self; trail = c.reserve_sync.new.trail }) (seen_parts c.void-in-Err.new.self)
+    (record old { stock = c.admit_dp.new.self; trail = c.reserve_sync.new.trail }) (seen_parts c.void-in-Err.new.self)
     c.requires.can
-    (sync_told c.args.asked.at old.stock c.sync.new.self c.in-Err.error
-    (λ early h on st is. (c.in-Err.ensures {u = tt}).applied early h on st c.args.asked.at is (c.requires.document early h on st is)))
-    (reserves_both old c.sync.new.self c.reserve_sync.new.trail (c.in-Err.ensures {u = tt}).leaves r.events r.acks r.kept)
+    (sync_told c.args.asked.at old.stock c.admit_dp.new.self c.in-Err.error
+    (λ early h on st is. (c.in-Err.ensures {u = tt}).syncs early h on st c.args.asked.at is (c.requires.document early h on st is)))
+    (reserves_both old c.admit_dp.new.self c.reserve_sync.new.trail (c.in-Err.ensures {u = tt}).leaves r.events r.acks r.kept)
     c.void-in-Err.ensures

@@ -1,0 +1,12 @@
+use Rattle.std.proofs.Common.{rules, ◌<◌, ◌≤◌, length, arith}
+use Rattle.volume_steps.proofs.QueueLemmas.{queuing_on, queuing_room}
+use Rattle.volume_steps.proofs.submits.queue_ops.Goals as goal
+
+pub loop-nth-preserved : goal.loop-nth-preserved
+loop-nth-preserved c =
+    let more : c.loop-nth.nth < length c.args.stock.now.layout.ops = search rules in (
+      omega (arith, c.loop-nth.invariant.0),
+      queuing_on c.args.others c.loop-nth.nth c.args.stock.now.layout.ops c.place_behind.result c.args.trail.now c.loop-nth.trail c.queues.new.self
+          c.loop-nth.invariant.1 c.loop-nth.invariant.0 more c.place_behind.ensures c.queues.ensures.events c.queues.ensures.acks
+          c.queues.ensures.kept c.queues.ensures.spare c.queues.ensures.waiters,
+    )
