@@ -17,7 +17,7 @@ use std::alloc::Global;
 use std::marker::Model;
 use std::snapshot::Snapshot;
 use tape_drive::Drive;
-use tape_types::{List, NoMemory, Part, Place, Text};
+use tape_types::{List, Part, Place, Text};
 
 /// The tree of a generation of a volume, whose bytes are read from the drive on which it was opened.
 #[derive(Drop)]
