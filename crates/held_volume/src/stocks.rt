@@ -1,6 +1,6 @@
 //! What is held of a volume.
 
-ghost use Rattle.std.specs.Prelude.{◌≡◌, ◌<◌, ◌≤◌, ◌^◌, [], ◌∷◌, Bool, true, Some, drop, length, slice_get};
+ghost use Rattle.std.specs.Prelude.{◌≡◌, ◌≤◌, ◌^◌, [], ◌∷◌, Bool, true, drop, length};
 ghost use Rattle.std.specs.Prelude.{OnErr, IfErr, IfOk, IfSome, MatchOption};
 ghost use Rattle.std.specs.Option.{option_map};
 ghost use Rattle.extent_map.specs.Cells.{Tape};
@@ -8,12 +8,10 @@ ghost use Rattle.space_laws.specs.Standing.{Given, Standing, first_standing, rul
 ghost use Rattle.held_volume.specs.Mounted.{CanStart, StartsFrom, letters_of};
 ghost use Rattle.plain_tree.specs.Calls.{answer, call_of_change};
 ghost use Rattle.plain_tree.specs.Paths.{Path};
-ghost use Rattle.std.specs.FinMap as fin;
 ghost use Rattle.file_tree.specs.Mounts.{IsTreeOf};
 ghost use Rattle.file_tree.specs.Tree.{plain_of};
 ghost use Rattle.file_tree.specs.Valid.{IsGood};
-ghost use Rattle.tape_layout.specs.Ops.{HasRoom, held_in, place_of};
-ghost use Rattle.tape_layout.specs.Plans.{AreStanding};
+ghost use Rattle.tape_layout.specs.Ops.{HasRoom};
 ghost use Rattle.held_volume.specs.Applied.{IsApplied, IsChange, IsNoted, IsUnchanged, LeavesAll};
 ghost use Rattle.held_volume.specs.Closed.{IsDpChange, IsDpDocument, IsIpDocument, IsIpEnd, closed_dp};
 ghost use Rattle.held_volume.specs.Reads.{IsPlanOfAtMost, IsReadPlan, IsReadable, IsUnreadable};
@@ -28,12 +26,11 @@ use crate::writes::write;
 use cartridge_meaning::Mounted;
 use extent_map::Piece;
 use file_tree::{Carried, Tree, file_at};
-use ltfs_label::Label;
 use plain_tree::{Answer, Call, Change, Refusal, Sort};
 use std::alloc::Global;
 use std::marker::Model;
 use tape_layout::{AdmitErr, Layout, Op};
-use tape_types::{Bytes, Limits, List, Moment, NoMemory, Place, Text};
+use tape_types::{Limits, List, Moment, NoMemory, Text};
 use volume_sync::Frame;
 
 /// What is held of a volume while it is served: its tree, what is admitted for the tape and not done yet, and what its
@@ -186,26 +183,26 @@ impl Stock {
         admit_on_ip(&mut self.layout, &mut self.frame, due)
     }
 
-    /// The label of the volume.
-    pub fn label(&self) -> &Label
-        ensures { result.now ≡ self.now.frame.label }
+    /// The tree of the volume.
+    pub fn tree(&self) -> &Tree
+        ensures { result.now ≡ self.now.tree }
     {
-        &self.frame.label
+        &self.tree
     }
 
-    /// The newest generation, up to 2^62.
-    pub fn generation(&self) -> u64
-        ensures generation { result ≡ self.now.frame.generation }
-        ensures most { result ≤ 2 ^ 62 }
+    /// What is admitted for the tape and not done yet.
+    pub fn layout(&self) -> &Layout
+        ensures { result.now ≡ self.now.layout }
     {
-        self.frame.generation
+        &self.layout
     }
 
-    /// The first block of the last index that was admitted on the data partition.
-    pub fn last_dp(&self) -> Option<u64>
-        ensures { result ≡ self.now.frame.last_dp }
+    /// What the next index stands on, beside the tree.
+    pub fn frame(&self) -> &Frame
+        ensures frame { result.now ≡ self.now.frame }
+        ensures most { result.now.generation ≤ 2 ^ 62 }
     {
-        self.frame.last_dp
+        &self.frame
     }
 
     /// How many ops a write of these bytes, or a sync whose index has this text, brings at most.
@@ -238,45 +235,6 @@ impl Stock {
             → IsStock tape g true st self.new }
     {
         self.layout.place_on_ip();
-    }
-
-    /// How many nodes the tree has, the root among them.
-    pub fn count(&self) -> u32
-        ensures count { result ≡ fin.len self.now.tree.nodes }
-        ensures good { IsGood self.now.tree }
-    {
-        self.tree.count()
-    }
-
-    /// How many ops stand.
-    pub fn waiting(&self) -> u64
-        ensures { result ≡ length self.now.layout.ops }
-    {
-        self.layout.waiting()
-    }
-
-    /// Where the next item of the index partition goes, and of the data partition.
-    pub fn ends(&self) -> (u64, u64)
-        ensures ends { result ≡ record { 0 = self.now.layout.ends.ip; 1 = self.now.layout.ends.dp } }
-        ensures standing { AreStanding self.now.layout.limits self.now.layout.block_size self.now.layout.ends
-            self.now.layout.ops }
-    {
-        self.layout.ends()
-    }
-
-    /// Where the op is done that stands behind so many others.
-    pub fn place_behind(&self, others: u64) -> Place
-        requires { others < length self.now.layout.ops }
-        ensures { option_map place_of (slice_get self.now.layout.ops others) ≡ Some result }
-    {
-        self.layout.place_behind(others)
-    }
-
-    /// The bytes that stand to be written at a place. It costs the logarithm of the ops that stand.
-    pub fn held(&self, place: Place) -> Option<&Bytes>
-        ensures { option_map (λ b. b.now) result ≡ held_in place self.now.layout.ops }
-    {
-        self.layout.held(place)
     }
 
     /// The op that is to be done next.

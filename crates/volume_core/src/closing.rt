@@ -25,7 +25,7 @@ pub fn close<D: Drive>(parts: Parts<D>, noted: bool, at: Moment, told: Vec<Reply
         result.travel result.nodes }
 {
     let mut parts = parts;
-    let nodes = parts.stock.count();
+    let nodes = parts.stock.tree().count();
     let outcome = finish(&mut parts, noted, at);
     let Left { drive, log } = take_log(parts, told);
     let cost = costs_of(&log.events);

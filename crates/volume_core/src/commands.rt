@@ -36,7 +36,7 @@ pub fn do_ops<D: Drive>(head: &mut Head<D>, stock: &mut Stock) -> Result<(), Twi
     requires may { MayDoAll D.Drive stock.old.layout.ops head.old.drive }
     ensures { AreOpsDone D.Drive stock.old.layout.ops head.old.drive head.new.drive result }
 {
-    while stock.waiting() > 0 {
+    while stock.layout().waiting() > 0 {
         match do_first(head, stock) {
             Ok(()) => (),
             Err(counts) => return Err(counts),

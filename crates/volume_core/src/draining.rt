@@ -57,7 +57,7 @@ fn end_drain<D: Drive, C: Clock>(parts: &mut Parts<D>, clock: &mut C, who: u16) 
         tell_fault(parts, clock, who, counts);
         return Some(Drained::Fault(counts));
     }
-    if parts.stock.waiting() > ROOM {
+    if parts.stock.layout().waiting() > ROOM {
         return None;
     }
     rest(parts, who);

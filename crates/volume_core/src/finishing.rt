@@ -58,12 +58,13 @@ fn last_of(stock: &Stock) -> Last
     ensures standing { AreStanding stock.now.layout.limits stock.now.layout.block_size stock.now.layout.ends
         stock.now.layout.ops }
 {
-    let (end, _) = stock.ends();
+    let (end, _) = stock.layout().ends();
+    let frame = stock.frame();
     Last {
-        uuid: stock.label().uuid,
-        generation: stock.generation(),
+        uuid: frame.label.uuid,
+        generation: frame.generation,
         on_ip: end + 1,
-        on_dp: stock.last_dp(),
+        on_dp: frame.last_dp,
     }
 }
 

@@ -41,8 +41,8 @@ pub fn submit<D: Drive, C: Clock>(
     ensures answered { parts.new.reads.answered ≡ parts.old.reads.answered }
     ensures good { IsGood (seen_parts parts.old).stock.tree }
 {
-    let _nodes = parts.stock.count();
-    if is_put_off(parts.stock.waiting(), call) {
+    let _nodes = parts.stock.tree().count();
+    if is_put_off(parts.stock.layout().waiting(), call) {
         return put_off(parts, clock, who, nth);
     }
     let at = ask(clock);

@@ -316,7 +316,7 @@ fn take_block(
     ensures { OnOk result (IsTakenFrom (held_in place stock.now.layout.ops) (bytes_at cache.now place) place reading.old
         reading.new wanted.old wanted.new found.old found.new) }
 {
-    match stock.held(place) {
+    match stock.layout().held(place) {
         Some(bytes) => {
             reading.fill(place, bytes.as_slice());
             Ok(())

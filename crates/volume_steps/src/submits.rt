@@ -34,7 +34,7 @@ impl<D: Drive> Parts<D> {
         ensures answered { self.new.reads.answered ≡ self.old.reads.answered }
         ensures placed { result ≢ submitted.Drain }
     {
-        let standing = self.stock.waiting();
+        let standing = self.stock.layout().waiting();
         if reserve_for(&self.stock, &mut self.trail, change).is_err() {
             return self.void(asked, AdmitErr::NoMemory);
         }
@@ -83,8 +83,9 @@ pub fn queue_ops(stock: &Stock, trail: &mut Trail, others: u64)
     ensures spare { trail.old.spare ≤ trail.new.spare + 2 * length (drop others stock.now.layout.ops) }
     ensures waiters { trail.new.waiters ≡ trail.old.waiters }
 {
-    for nth in others..stock.waiting() {
-        trail.queues(stock.place_behind(nth));
+    let layout = stock.layout();
+    for nth in others..layout.waiting() {
+        trail.queues(layout.place_behind(nth));
     }
     let _head = trail.head();
 }

@@ -60,7 +60,7 @@ impl<D: Drive> Parts<D> {
         ensures answered { self.new.reads.answered ≡ self.old.reads.answered }
         ensures placed { result ≢ submitted.Drain }
     {
-        let standing = self.stock.waiting();
+        let standing = self.stock.layout().waiting();
         if reserve_sync(&self.stock, &mut self.trail, due).is_err() {
             return self.void(asked, AdmitErr::NoMemory);
         }
@@ -92,7 +92,7 @@ impl<D: Drive> Parts<D> {
         ensures { WaitsSynced D.Drive asked.who asked.nth asked.at result (seen_parts self.old) (seen_parts self.new) }
     {
         let here = self.placements.len();
-        let standing = self.stock.waiting();
+        let standing = self.stock.layout().waiting();
         self.trail.syncs(here, standing);
         if standing == 0 {
             self.answer_sync(asked, here)

@@ -1,4 +1,5 @@
 use Rattle.std.proofs.Common.{sym, ap, subst, ◌∙◌}
+use Rattle.file_tree.specs.Valid.{IsGood}
 use Rattle.event_laws.specs.Trail.{IsTrail}
 use Rattle.event_journal.specs.Trails.{Journaled}
 use Rattle.volume_core.proofs.closing.close.Goals as goal
@@ -17,6 +18,6 @@ finish-outcome-requires g c = (
     runs = c.requires.can.runs;
     nothing = c.requires.can.nothing;
     moment = c.requires.can.moment;
-    good = c.count-nodes.ensures.good;
+    good = subst IsGood c.tree.ensures c.count-nodes.ensures.good;
   },
 )

@@ -1,5 +1,6 @@
 use Rattle.std.specs.Prelude.{◌&&◌, nat_lt, length}
 use Rattle.std.proofs.Common.{ap, ◌∙◌}
+use Rattle.tape_layout.specs.Plans.{Plan}
 use Rattle.serving_promise.specs.Replies.{is_write}
 use Rattle.volume_steps.specs.Seen.{seen_parts}
 use Rattle.volume_core.specs.Turns.{told}
@@ -13,13 +14,13 @@ put_off-requires-clause-can g c =
 
 pub put_off-requires-clause-many : goal.put_off-requires-clause-many
 put_off-requires-clause-many g c =
-    let is = c.is_put_off.ensures ∙ ap (λ n. is_write c.args.call.now && nat_lt 64 n) c.waiting.ensures in
+    let is = c.is_put_off.ensures ∙ ap (λ n. is_write c.args.call.now && nat_lt 64 n) (c.waiting.ensures ∙ ap (λ (l : Plan). length l.ops) c.layout.ensures) in
     is_many c.is_put_off.result (is_write c.args.call.now) (length c.args.parts.now.stock.layout.ops) is
     c.if-is_put_off.true
 
 pub put_off-requires-clause-allowed : goal.put_off-requires-clause-allowed
 put_off-requires-clause-allowed g c =
-    let is = c.is_put_off.ensures ∙ ap (λ n. is_write c.args.call.now && nat_lt 64 n) c.waiting.ensures in
+    let is = c.is_put_off.ensures ∙ ap (λ n. is_write c.args.call.now && nat_lt 64 n) (c.waiting.ensures ∙ ap (λ (l : Plan). length l.ops) c.layout.ensures) in
     may_drain g.D.Drive c.args.who c.args.nth c.args.call.now (seen_parts c.args.parts.now) c.requires.runs
     (is_many c.is_put_off.result (is_write c.args.call.now) (length c.args.parts.now.stock.layout.ops) is
     c.if-is_put_off.true)
@@ -29,7 +30,7 @@ returns-then-is_put_off-clause-submits g c = c.put_off.ensures.submits c.args.ca
 
 pub returns-then-is_put_off-clause-put_off : goal.returns-then-is_put_off-clause-put_off
 returns-then-is_put_off-clause-put_off g c =
-    let is = c.is_put_off.ensures ∙ ap (λ n. is_write c.args.call.now && nat_lt 64 n) c.waiting.ensures in
+    let is = c.is_put_off.ensures ∙ ap (λ n. is_write c.args.call.now && nat_lt 64 n) (c.waiting.ensures ∙ ap (λ (l : Plan). length l.ops) c.layout.ensures) in
     put_off_now c.is_put_off.result (is_write c.args.call.now && nat_lt 64 (length c.args.parts.now.stock.layout.ops))
     c.put_off.result is c.if-is_put_off.true c.put_off.ensures.ends
 
@@ -54,6 +55,6 @@ returns-clause-submits g c =
 
 pub returns-clause-put_off : goal.returns-clause-put_off
 returns-clause-put_off g c =
-    let is = c.is_put_off.ensures ∙ ap (λ n. is_write c.args.call.now && nat_lt 64 n) c.waiting.ensures in
+    let is = c.is_put_off.ensures ∙ ap (λ n. is_write c.args.call.now && nat_lt 64 n) (c.waiting.ensures ∙ ap (λ (l : Plan). length l.ops) c.layout.ensures) in
     not_put_off c.is_put_off.result (is_write c.args.call.now && nat_lt 64 (length c.args.parts.now.stock.layout.ops))
     c.make.result is c.if-is_put_off.false c.make.ensures.placed

@@ -1,4 +1,7 @@
-use Rattle.std.proofs.Common.{rules, ◌<◌, ◌≤◌, length, arith}
+use Rattle.std.proofs.Common.{rules, ◌<◌, ◌≤◌, length, slice_get, ap, sym, ◌∙◌, arith}
+use Rattle.std.specs.Option.{option_map}
+use Rattle.tape_layout.specs.Ops.{place_of}
+use Rattle.tape_layout.specs.Plans.{Plan}
 use Rattle.volume_steps.proofs.QueueLemmas.{queuing_on, queuing_room}
 use Rattle.volume_steps.proofs.submits.queue_ops.Goals as goal
 
@@ -7,6 +10,6 @@ loop-nth-preserved c =
     let more : c.loop-nth.nth < length c.args.stock.now.layout.ops = search rules in (
       omega (arith, c.loop-nth.invariant.0),
       queuing_on c.args.others c.loop-nth.nth c.args.stock.now.layout.ops c.place_behind.result c.args.trail.now c.loop-nth.trail c.queues.new.self
-          c.loop-nth.invariant.1 c.loop-nth.invariant.0 more c.place_behind.ensures c.queues.ensures.events c.queues.ensures.acks
+          c.loop-nth.invariant.1 c.loop-nth.invariant.0 more (ap (λ (l : Plan). option_map place_of (slice_get l.ops c.loop-nth.nth)) (sym c.layout-layout.ensures) ∙ c.place_behind.ensures) c.queues.ensures.events c.queues.ensures.acks
           c.queues.ensures.kept c.queues.ensures.spare c.queues.ensures.waiters,
     )

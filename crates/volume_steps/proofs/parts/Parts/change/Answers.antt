@@ -1,5 +1,6 @@
-use Rattle.std.proofs.Common.{Ok, ap, refl, ◌∙◌}
+use Rattle.std.proofs.Common.{length, Ok, ap, refl, ◌∙◌}
 use Rattle.plain_tree.specs.Calls.{call_of_change}
+use Rattle.tape_layout.specs.Plans.{Plan}
 use Rattle.held_volume.proofs.WriteSteps.{is_ok_then}
 use Rattle.volume_steps.specs.Seen.{seen_parts}
 use Rattle.volume_steps.proofs.ChangeLemmas.{change_done, change_refused, change_room, change_void, changes_look_not, changes_wait_not}
@@ -21,7 +22,7 @@ queue_change-requires-clause-room g c =
     let old = seen_parts c.args.self.now in
     let is = c.in-Ok-None.is ∙ ap Ok c.in-Ok-None.field-0-is in
     change_room old c.requires.stands (call_of_change c.args.change) c.args.asked.at c.apply.new.self c.reserve_for.new.trail.spare
-    c.waiting-standing.result c.waiting-standing.ensures
+    c.waiting-standing.result (c.waiting-standing.ensures ∙ ap (λ (l : Plan). length l.ops) c.layout.ensures)
     (done_of (call_of_change c.args.change) c.args.asked.at old.stock c.apply.new.self c.apply.result is c.apply.ensures.applied)
     (is_ok_then c.reserve_for.result (c.if-is_err.ensures {u = tt}).value c.reserve_for.ensures.room)
 
@@ -32,7 +33,7 @@ returns-in-Ok-None-clause-submits g c =
     let is = c.in-Ok-None.is ∙ ap Ok c.in-Ok-None.field-0-is in
     change_done g.D.Drive c.args.asked.who c.args.asked.nth (call_of_change c.args.change) c.args.asked.at c.queue_change.result
     c.waiting-standing.result c.apply.new.self c.reserve_for.new.trail old (seen_parts c.queue_change.new.self)
-    c.requires.stands (changes_wait_not c.args.change) (changes_look_not c.args.change) c.waiting-standing.ensures
+    c.requires.stands (changes_wait_not c.args.change) (changes_look_not c.args.change) (c.waiting-standing.ensures ∙ ap (λ (l : Plan). length l.ops) c.layout.ensures)
     (done_of (call_of_change c.args.change) c.args.asked.at old.stock c.apply.new.self c.apply.result is c.apply.ensures.applied)
     r.events r.acks r.kept c.queue_change.ensures
 

@@ -1,5 +1,6 @@
-use Rattle.std.proofs.Common.{refl}
+use Rattle.std.proofs.Common.{length, ap, refl, ◌∙◌}
 use Rattle.plain_tree.specs.declared.calls.Call.TheVariants as calls
+use Rattle.tape_layout.specs.Plans.{Plan}
 use Rattle.held_volume.proofs.WriteSteps.{is_ok_then}
 use Rattle.volume_steps.specs.Seen.{seen_parts}
 use Rattle.volume_steps.proofs.ChangeLemmas.{change_void}
@@ -23,7 +24,7 @@ queue_sync-requires-clause-numbers g c =
     can_queue old c.requires.stands c.args.asked.at c.admit_dp.new.self c.reserve_sync.new.trail c.waiting-standing.result
     c.reserve_sync.ensures.events
     (λ early h on st is. (c.in-Ok.ensures {u = tt}).syncs early h on st c.args.asked.at is (c.requires.document early h on st is))
-    c.waiting-standing.ensures
+    (c.waiting-standing.ensures ∙ ap (λ (l : Plan). length l.ops) c.layout.ensures)
     (λ tape h on st is.
     is_ok_then c.reserve_sync.result (c.if-is_err.ensures {u = tt}).value c.reserve_sync.ensures.room tape h on st c.args.asked.at is
     (c.requires.document tape h on st is))
@@ -34,7 +35,7 @@ returns-in-Ok-clause-submits g c =
     let r = c.reserve_sync.ensures in
     sync_made g.D.Drive c.args.asked.who c.args.asked.nth c.args.asked.at c.queue_sync.result
     c.waiting-standing.result c.admit_dp.new.self c.reserve_sync.new.trail old (seen_parts c.queue_sync.new.self)
-    c.requires.stands r.events r.acks r.kept c.waiting-standing.ensures
+    c.requires.stands r.events r.acks r.kept (c.waiting-standing.ensures ∙ ap (λ (l : Plan). length l.ops) c.layout.ensures)
     (λ early h on st is. (c.in-Ok.ensures {u = tt}).syncs early h on st c.args.asked.at is (c.requires.document early h on st is))
     c.queue_sync.ensures
 
