@@ -1,0 +1,58 @@
+use Rattle.std.proofs.Common.{ap, sym, subst, ◌∙◌}
+use Rattle.plain_tree.specs.declared.calls.Call.{Call}
+use Rattle.plain_tree.specs.declared.calls.Call.TheVariants as asks
+use Rattle.volume_steps.specs.Asking.{IsSubmitted}
+use Rattle.volume_steps.specs.Seen.{seen_parts}
+use Rattle.volume_core.proofs.submitting.make.Goals as goal
+
+pub returns-in-Read-clause-submits : goal.returns-in-Read-clause-submits
+returns-in-Read-clause-submits g c =
+    subst (λ (call : Call). IsSubmitted g.D.Drive c.args.asked.who c.args.asked.nth c.args.asked.at (seen_parts c.args.parts.now) (seen_parts c.read_bytes.new.self) call c.read_bytes.result)
+    (ap (λ p. asks.Read p c.in-Read.offset c.in-Read.count) c.as_slice.ensures ∙ sym c.in-Read.is) c.read_bytes.ensures.submits
+
+pub returns-in-Listing-clause-submits : goal.returns-in-Listing-clause-submits
+returns-in-Listing-clause-submits g c =
+    subst (λ (call : Call). IsSubmitted g.D.Drive c.args.asked.who c.args.asked.nth c.args.asked.at (seen_parts c.args.parts.now) (seen_parts c.list.new.self) call c.list.result)
+    (ap asks.Listing c.as_slice-in-Listing.ensures ∙ sym c.in-Listing.is) c.list.ensures.submits
+
+pub returns-in-Stat-clause-submits : goal.returns-in-Stat-clause-submits
+returns-in-Stat-clause-submits g c =
+    subst (λ (call : Call). IsSubmitted g.D.Drive c.args.asked.who c.args.asked.nth c.args.asked.at (seen_parts c.args.parts.now) (seen_parts c.stat.new.self) call c.stat.result)
+    (ap asks.Stat c.as_slice-in-Stat.ensures ∙ sym c.in-Stat.is) c.stat.ensures.submits
+
+pub returns-in-Mkdir-clause-submits : goal.returns-in-Mkdir-clause-submits
+returns-in-Mkdir-clause-submits g c =
+    subst (λ (call : Call). IsSubmitted g.D.Drive c.args.asked.who c.args.asked.nth c.args.asked.at (seen_parts c.args.parts.now) (seen_parts c.change.new.self) call c.change.result)
+    (ap asks.Mkdir c.as_slice-in-Mkdir.ensures ∙ sym c.in-Mkdir.is) c.change.ensures.submits
+
+pub returns-in-Create-clause-submits : goal.returns-in-Create-clause-submits
+returns-in-Create-clause-submits g c =
+    subst (λ (call : Call). IsSubmitted g.D.Drive c.args.asked.who c.args.asked.nth c.args.asked.at (seen_parts c.args.parts.now) (seen_parts c.change-in-Create.new.self) call c.change-in-Create.result)
+    (ap asks.Create c.as_slice-in-Create.ensures ∙ sym c.in-Create.is) c.change-in-Create.ensures.submits
+
+pub returns-in-Truncate-clause-submits : goal.returns-in-Truncate-clause-submits
+returns-in-Truncate-clause-submits g c =
+    subst (λ (call : Call). IsSubmitted g.D.Drive c.args.asked.who c.args.asked.nth c.args.asked.at (seen_parts c.args.parts.now) (seen_parts c.change-in-Truncate.new.self) call c.change-in-Truncate.result)
+    (ap (λ p. asks.Truncate p c.in-Truncate.length) c.as_slice-in-Truncate.ensures ∙ sym c.in-Truncate.is) c.change-in-Truncate.ensures.submits
+
+pub returns-in-Remove-clause-submits : goal.returns-in-Remove-clause-submits
+returns-in-Remove-clause-submits g c =
+    subst (λ (call : Call). IsSubmitted g.D.Drive c.args.asked.who c.args.asked.nth c.args.asked.at (seen_parts c.args.parts.now) (seen_parts c.change-in-Remove.new.self) call c.change-in-Remove.result)
+    (ap asks.Remove c.as_slice-in-Remove.ensures ∙ sym c.in-Remove.is) c.change-in-Remove.ensures.submits
+
+pub returns-in-Sync-clause-submits : goal.returns-in-Sync-clause-submits
+returns-in-Sync-clause-submits g c =
+    subst (λ (call : Call). IsSubmitted g.D.Drive c.args.asked.who c.args.asked.nth c.args.asked.at (seen_parts c.args.parts.now) (seen_parts c.sync.new.self) call c.sync.result)
+    (sym c.in-Sync.is) c.sync.ensures.submits
+
+pub returns-in-Write-clause-submits : goal.returns-in-Write-clause-submits
+returns-in-Write-clause-submits g c =
+    subst (λ (call : Call). IsSubmitted g.D.Drive c.args.asked.who c.args.asked.nth c.args.asked.at (seen_parts c.args.parts.now) (seen_parts c.change-in-Write.new.self) call c.change-in-Write.result)
+    (ap (λ p. asks.Write p c.in-Write.offset c.as_slice-bytes.result.now) c.as_slice-in-Write.ensures ∙ ap (λ b. asks.Write c.in-Write.path c.in-Write.offset b) c.as_slice-bytes.ensures ∙ sym c.in-Write.is)
+    c.change-in-Write.ensures.submits
+
+pub returns-in-Rename-clause-submits : goal.returns-in-Rename-clause-submits
+returns-in-Rename-clause-submits g c =
+    subst (λ (call : Call). IsSubmitted g.D.Drive c.args.asked.who c.args.asked.nth c.args.asked.at (seen_parts c.args.parts.now) (seen_parts c.change-in-Rename.new.self) call c.change-in-Rename.result)
+    (ap (λ p. asks.Rename p c.as_slice-in-Rename-2.result.now) c.as_slice-in-Rename.ensures ∙ ap (asks.Rename c.in-Rename.from) c.as_slice-in-Rename-2.ensures ∙ sym c.in-Rename.is)
+    c.change-in-Rename.ensures.submits
