@@ -200,24 +200,7 @@ module _ {D : Type 0} (drive : Ghosts D) where
     kept = (steps_keep drive).read (state_at v planned c.made c.done c.jobs) old new c.held c.kept (step c.held c.told);
   }
 
-  -- a flush beside the ops, done or failed
-  flushed : (planned : Planned) (v : View D) (ops : List Op) (place : Place) (end : StepDone) (old new : D)
-      → IsClosing drive v planned ops old → IsOpStep drive (the_ops.Flush place) end old new
-      → IsClosing drive v planned ops new
-  flushed planned v ops place end old new c step =
-      let it = step.told c.held c.told in
-      record {
-        made = c.made;
-        jobs = c.jobs;
-        done = c.done;
-        held = c.held;
-        told = it.1 ∙ ap (λ (h : Cartridge). Some h) it.2;
-        ops_are = c.ops_are;
-        plan = c.plan;
-        kept = (steps_keep drive).flushed (state_at v planned c.made c.done c.jobs) old new c.held c.kept
-            (step.made.commands.later, step.crash c.held c.told);
-      }
-
+  -- behind a flush nothing is pending
   settled : (place : Place) (old new : D) → IsOpStep drive (the_ops.Flush place) outcome.Flushed old new
       → IsAtRest drive new
   settled place old new step held told =
@@ -282,7 +265,6 @@ module _ {D : Type 0} (drive : Ghosts D) where
     failed = λ planned v op later counts old new c step.
         failed_with planned v op later old new c.made c.done c.held c.told counts step c.jobs c.ops_are c.plan c.kept;
     looked = looked;
-    flushed = flushed;
     settled = settled;
     noted = noted;
     rests = rests;

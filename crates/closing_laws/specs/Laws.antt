@@ -74,9 +74,6 @@ pub record ClosesAreSafe {D : Type 0} (drive : Ghosts D) : Type 0 where
       → drive.held new ≡ drive.held old
       → ((c : Cartridge) → drive.held old ≡ Some c → IsStep NothingNew (moment_of drive old c) (moment_of drive new c))
       → IsClosing drive v planned ops new
-  pub flushed : (planned : Planned) (v : View D) (ops : List Op) (place : Place) (end : StepDone) (old new : D)
-      → IsClosing drive v planned ops old → IsOpStep drive (the_ops.Flush place) end old new
-      → IsClosing drive v planned ops new
   pub settled : (place : Place) (old new : D) → IsOpStep drive (the_ops.Flush place) outcome.Flushed old new
       → IsAtRest drive new
   pub noted : (planned : Planned) (v : View D) (part : Part) (note : Note) (values : Coherency) (old new : D)
