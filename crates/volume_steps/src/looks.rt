@@ -61,7 +61,7 @@ impl<D: Drive> Parts<D> {
         ensures answered { self.new.reads.answered ≡ self.old.reads.answered }
         ensures placed { result ≢ submitted.Drain }
     {
-        match twice(told, alloc) {
+        match keep_too(told, alloc) {
             Ok(both) => {
                 let Twice { told, kept } = both;
                 self.answer(asked, told, kept)
@@ -72,7 +72,7 @@ impl<D: Drive> Parts<D> {
 }
 
 /// An answer, and what is kept of it. A listing is made once.
-fn twice(told: Result<Answer, NoMemory>, alloc: Global) -> Result<Twice, NoMemory>
+fn keep_too(told: Result<Answer, NoMemory>, alloc: Global) -> Result<Twice, NoMemory>
     ensures told { IfOk result (λ both. told ≡ Ok both.told) }
     ensures same { IfOk result (λ both. both.kept ≡ both.told) }
 {
