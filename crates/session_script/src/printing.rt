@@ -133,18 +133,18 @@ fn names_words(alloc: Global, entries: &[Entry]) -> Result<String, NoMemory>
 fn push_entry(words: &mut String, entry: &Entry) -> Result<(), NoMemory>
     ensures { OnOk result (string_bytes words.new ≡ string_bytes words.old ++ entry_text entry.now) }
 {
-    let letter = sort_letter(entry.sort);
-    write!(words, " {letter}:")?;
+    words.push_str(entry_front(entry.sort))?;
     push_escaped(words, entry.name.as_str().as_bytes())
 }
 
-fn sort_letter(sort: Sort) -> &'static str
-    ensures { result.now ≡ sort_letter sort }
+/// What stands in front of a name.
+fn entry_front(sort: Sort) -> &'static str
+    ensures { result.now ≡ codes " " ++ sort_letter sort ++ codes ":" }
 {
     match sort {
-        Sort::Dir => "d",
-        Sort::File => "f",
-        Sort::Link => "l",
+        Sort::Dir => " d:",
+        Sort::File => " f:",
+        Sort::Link => " l:",
     }
 }
 
