@@ -126,7 +126,7 @@ queuing_on others nth ops place old mid new q low more is events acks kept spare
     })
 
 all_taken : {X : Type 0} (xs : List X) (n : ℕ) → n ≡ length xs → take n xs ≡ xs
-all_taken xs n is = ap (λ k. take k xs) is ∙ take_all xs
+all_taken xs n is = take_all n xs (omega (arith, is))
 
 -- in the end all are
 pub queuing_ends : (others nth : ℕ) (ops : List Op) (old new : Journaled) → Queuing (places_behind others ops) (nth - others) old new → length ops ≤ nth
