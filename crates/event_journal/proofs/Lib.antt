@@ -1,4 +1,3 @@
-mod TrailLemmas
+pub mod TrailLemmas
 mod PlacementLemmas
-mod OpLemmas
 mod MovedLemmas

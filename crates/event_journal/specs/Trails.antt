@@ -1,11 +1,14 @@
 -- The events of a served volume as they are kept, with what they leave.
-use Rattle.std.specs.Prelude.{◌≡◌, ℕ, ◌≤◌, ◌∷◌, [], List, Option, Some, None, map, cond, nat_le, length, drop}
+use Rattle.std.specs.Prelude.{◌≡◌, ℕ, ◌+◌, ◌≤◌, Bool, true, false, ◌∷◌, [], List, Option, Some, None, map, cond}
+use Rattle.std.specs.Prelude.{nat_le, length, drop}
 use Rattle.tape_types.specs.declared.cartridges.Twin.{Twin}
 use Rattle.session_script.specs.declared.logs.Ack.{Ack}
 use Rattle.tape_types.specs.declared.cartridges.Place.{Place}
 use Rattle.session_script.specs.declared.logs.Event.{Event}
+use Rattle.session_script.specs.declared.logs.Event.TheVariants.{Wants, Queues, Syncs, Synced, Drains, Rests}
+use Rattle.session_script.specs.declared.logs.Event.TheVariants.{Worked}
 use Rattle.event_laws.specs.Waiting as waiting
-use Rattle.event_laws.specs.Waiting.{State}
+use Rattle.event_laws.specs.Waiting.{State, ops}
 use Rattle.event_laws.specs.Trail.{IsTrail, after_all}
 use Rattle.event_laws.specs.Load.{load}
 use Rattle.event_journal.specs.declared.trails.KeptFault.{KeptFault}
@@ -53,12 +56,48 @@ drains_left [] drains = drop 1 drains
 abbrev pub kept_for_drain : State → Twin → List (ℕ × Twin)
 kept_for_drain st counts = kept_by st.syncs st.drains counts
 
--- what is kept beside the events is what they leave, and there is room for all that they will bring
-pub record IsTracked (events : List Event) (syncs : List SyncWait) (drains : List ℕ) (done : ℕ) (head : Place)
+-- how many more there are to bring an event of their own once it has come: a request, an op, a sync or a drain
+abbrev pub asked_by : Event → ℕ
+asked_by (Wants ticket place) = 1
+asked_by (Queues place) = 1
+asked_by (Syncs ticket) = 1
+asked_by (Drains who) = 1
+asked_by _ = 0
+
+-- how many more wait once it has come
+abbrev pub waiters_of : Event → ℕ
+waiters_of (Syncs ticket) = 1
+waiters_of (Drains who) = 1
+waiters_of _ = 0
+
+-- it adds a waiter, or takes one
+abbrev pub moves_waiters : Event → Bool
+moves_waiters (Syncs ticket) = true
+moves_waiters (Synced ticket) = true
+moves_waiters (Drains who) = true
+moves_waiters (Rests who) = true
+moves_waiters (Worked place (Some counts)) = true
+moves_waiters _ = false
+
+-- its acknowledgement, which bears this number of commands
+abbrev pub acks_of : ℕ → Event → List Ack
+acks_of commands (Synced ticket) = record { place = ticket; command = commands } ∷ []
+acks_of commands _ = []
+
+-- the fault of it that is kept for a session that drains
+abbrev pub kept_of : State → Event → List (ℕ × Twin)
+kept_of st (Worked place (Some counts)) = kept_for_drain st counts
+kept_of st _ = []
+
+-- What is kept beside the events is what they leave, and how many ops they have queued, done or not. There is room for
+-- all that they will bring.
+pub record IsTracked (events : List Event) (syncs : List SyncWait) (drains : List ℕ) (queued done : ℕ) (head : Place)
     (bound for_events for_acks for_kept : ℕ) : Type 0 where
   pub trail : IsTrail events
   pub syncs_are : map waiter_of syncs ≡ (after_all events).syncs
   pub drains_are : drains ≡ (after_all events).drains
+  pub queued_is : queued ≡ length (ops (after_all events)) + (after_all events).done
+  pub few : queued ≤ length events
   pub done_is : done ≡ (after_all events).done
   pub head_is : head ≡ (after_all events).head
   pub bounded : load (after_all events) ≤ bound

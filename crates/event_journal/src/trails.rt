@@ -1,17 +1,15 @@
 //! The events of a served volume, and who waits.
 
-ghost use Rattle.std.specs.Prelude.{◌≡◌, ◌+◌, ◌-◌, ◌≤◌, ◌<◌, ◌^◌, ◌*◌, ℕ, vec_len, vec_capacity, drop, filter, map};
-ghost use Rattle.std.specs.Prelude.{not, ◌==◌, [], ◌∷◌, ◌++◌, length, true, OnOk, IfSome, None, Some, Option};
+ghost use Rattle.std.specs.Prelude.{◌≡◌, ◌+◌, ◌-◌, ◌≤◌, ◌<◌, ◌*◌, ◌^◌, vec_len, vec_capacity, drop, filter, map};
+ghost use Rattle.std.specs.Prelude.{not, ◌==◌, [], ◌∷◌, ◌++◌, length, true, false, OnOk, IfSome, None, Some, Option};
 ghost use Rattle.std.specs.Prelude.{option_map, MatchOption};
-ghost use Rattle.tape_types.specs.Cartridges.{next};
 ghost use Rattle.session_script.specs.declared.logs.Event.TheVariants as events;
-ghost use Rattle.event_laws.specs.Waiting.{first_of, is_calm, ops, waiting_op};
-ghost use Rattle.event_laws.specs.Trail as trail;
-ghost use Rattle.event_laws.specs.Trail.{IsTrail, allows};
+ghost use Rattle.event_laws.specs.Waiting.{first_of, ops};
+ghost use Rattle.event_laws.specs.Trail.{IsTrail, after, allows};
 ghost use Rattle.serving_promise.specs.Faults.{kept_for};
 ghost use Rattle.serving_promise.specs.Steps.{without_session};
-ghost use Rattle.event_journal.specs.Trails.{Journaled, drains_left, due_ticket, first_waiter, kept_as};
-ghost use Rattle.event_journal.specs.Trails.{kept_for_drain, kept_from, state, waiter_of};
+ghost use Rattle.event_journal.specs.Trails.{Journaled, acks_of, asked_by, drains_left, due_ticket, first_waiter};
+ghost use Rattle.event_journal.specs.Trails.{kept_as, kept_from, kept_of, moves_waiters, state, waiters_of};
 
 use crate::lists::push;
 use session_script::{Ack, Event};
@@ -42,8 +40,8 @@ pub struct KeptFault {
     pub counts: Twin,
 }
 
-/// The events that have come, the syncs that were acknowledged, the faults that are kept for sessions that drained, and
-/// what the events leave: where the head stands, and who waits.
+/// The events that have come, the syncs that were acknowledged, the faults that are kept for sessions that drained,
+/// and what the events leave: where the head stands, who waits, and how many ops were queued and done.
 #[derive(Drop)]
 pub struct Trail {
     events: Vec<Event>,
@@ -51,6 +49,7 @@ pub struct Trail {
     kept: Vec<KeptFault>,
     syncs: Vec<SyncWait>,
     drains: Vec<u16>,
+    queued: u64,
     done: u64,
     head: Place,
     bound: usize,
@@ -72,7 +71,7 @@ impl Model for Trail {
           (min (vec_capacity a.drains - vec_len a.drains) (vec_capacity a.kept - vec_len a.kept - vec_len a.drains));
     } };
 
-    ghost invariant = { λ a. IsTracked a.events.items a.syncs.items a.drains.items a.done a.head a.bound
+    ghost invariant = { λ a. IsTracked a.events.items a.syncs.items a.drains.items a.queued a.done a.head a.bound
         (vec_capacity a.events - vec_len a.events) (vec_capacity a.acks - vec_len a.acks)
         (vec_capacity a.kept - vec_len a.kept) };
 }
@@ -90,6 +89,7 @@ impl Trail {
             kept: Vec::new(alloc),
             syncs: Vec::new(alloc),
             drains: Vec::new(alloc),
+            queued: 0,
             done: 0,
             head: Place {
                 part: Part::Ip,
@@ -146,9 +146,11 @@ impl Trail {
         }
     }
 
-    /// The sync that has waited longest, where it has no more to wait for.
+    /// The sync that has waited longest, where it has no more to wait for. Then its answer may come.
+    #[tactic(auto, using(crate::proofs::TrailLemmas::due_may_come))]
     pub fn due(&self) -> Option<u64>
-        ensures { result ≡ due_ticket (state self.now) }
+        ensures due { result ≡ due_ticket (state self.now) }
+        ensures may { IfSome result (λ ticket. allows (state self.now) (events.Synced ticket) ≡ true) }
     {
         let sync = self.syncs.first()?;
         if sync.due <= self.done {
@@ -178,23 +180,45 @@ impl Trail {
         found
     }
 
-    /// A read asks for a block.
-    #[tactic(auto, using(crate::proofs::TrailLemmas::wants_tracked))]
-    pub fn wants(&mut self, ticket: u64, place: Place)
-        requires room { 2 ≤ self.old.spare }
-        requires allowed { allows (state self.old) (events.Wants ticket place) ≡ true }
-        ensures events { self.new.events ≡ self.old.events ++ events.Wants ticket place ∷ [] }
-        ensures acks { self.new.acks ≡ self.old.acks }
-        ensures kept { self.new.kept ≡ self.old.kept }
-        ensures spare { self.old.spare ≤ self.new.spare + 2 }
-        ensures waiters { self.new.waiters ≡ self.old.waiters }
+    /// Writes down an event that may come, behind which the head stands here. An acknowledgement bears this number of
+    /// commands.
+    pub fn write(&mut self, event: Event, head: Place, commands: u64)
+        requires allowed { allows (state self.old) event ≡ true }
+        requires head { head ≡ (after (state self.old) event).head }
+        requires room { 2 * asked_by event ≤ self.old.spare }
+        requires waiter { waiters_of event ≤ self.old.waiters }
+        ensures events { self.new.events ≡ self.old.events ++ event ∷ [] }
+        ensures acks { self.new.acks ≡ self.old.acks ++ acks_of commands event }
+        ensures kept { self.new.kept ≡ self.old.kept ++ kept_of (state self.old) event }
+        ensures spare { self.old.spare ≤ self.new.spare + 2 * asked_by event }
+        ensures waiters { moves_waiters event ≡ false → self.new.waiters ≡ self.old.waiters }
     {
-        push(&mut self.events, Event::Wants { ticket, place });
-        self.bound += 1;
+        self.bound = bound_behind(self.bound, event);
+        match event {
+            Event::Wants { .. } => (),
+            Event::Queues { .. } => self.queued += 1,
+            Event::Syncs { ticket } => {
+                let due = self.queued;
+                push(&mut self.syncs, SyncWait { ticket, due });
+            }
+            Event::Synced { ticket } => {
+                forget_sync(&mut self.syncs, ticket);
+                acknowledge(&mut self.acks, ticket, commands);
+            }
+            Event::Drains { who } => push(&mut self.drains, who),
+            Event::Rests { who } => forget_drain(&mut self.drains, who),
+            Event::Served { .. } => (),
+            Event::Worked { fault: None, .. } => self.done += 1,
+            Event::Worked {
+                fault: Some(counts),
+                ..
+            } => forget_first(&mut self.syncs, &mut self.drains, &mut self.kept, counts),
+        }
+        push(&mut self.events, event);
+        self.head = head;
     }
 
     /// An op was admitted.
-    #[tactic(auto, using(crate::proofs::TrailLemmas::queues_tracked))]
     pub fn queues(&mut self, place: Place)
         requires room { 2 ≤ self.old.spare }
         requires allowed { allows (state self.old) (events.Queues place) ≡ true }
@@ -204,12 +228,11 @@ impl Trail {
         ensures spare { self.old.spare ≤ self.new.spare + 2 }
         ensures waiters { self.new.waiters ≡ self.old.waiters }
     {
-        push(&mut self.events, Event::Queues { place });
-        self.bound += 1;
+        let head = self.head();
+        self.write(Event::Queues { place }, head, 0);
     }
 
     /// A sync waits for all ops that stand, of which there are so many.
-    #[tactic(auto, using(crate::proofs::TrailLemmas::syncs_tracked))]
     pub fn syncs(&mut self, ticket: u64, standing: u64)
         requires room { 2 ≤ self.old.spare }
         requires waiter { 1 ≤ self.old.waiters }
@@ -220,16 +243,13 @@ impl Trail {
         ensures kept { self.new.kept ≡ self.old.kept }
         ensures spare { self.old.spare ≤ self.new.spare + 2 }
     {
-        // An op that is done or stands was queued by an event.
-        let _events = self.events.len();
-        let due = self.done + standing;
-        push(&mut self.syncs, SyncWait { ticket, due });
-        push(&mut self.events, Event::Syncs { ticket });
-        self.bound += 1;
+        let _standing = standing;
+        let head = self.head();
+        self.write(Event::Syncs { ticket }, head, 0);
     }
 
     /// The sync that has waited longest is answered, at this number of commands.
-    #[tactic(auto, using(crate::proofs::TrailLemmas::synced_tracked))]
+    #[tactic(auto, using(crate::proofs::TrailLemmas::due_may_come))]
     pub fn synced(&mut self, ticket: u64, commands: u64)
         requires { due_ticket (state self.old) ≡ Some ticket }
         ensures events { self.new.events ≡ self.old.events ++ events.Synced ticket ∷ [] }
@@ -237,131 +257,37 @@ impl Trail {
         ensures kept { self.new.kept ≡ self.old.kept }
         ensures spare { self.old.spare ≤ self.new.spare }
     {
-        forget_sync(&mut self.syncs, ticket);
-        let ack = Ack {
-            place: ticket,
-            command: commands,
-        };
-        push(&mut self.acks, ack);
-        push(&mut self.events, Event::Synced { ticket });
-        self.bound -= 1;
+        let head = self.head();
+        self.write(Event::Synced { ticket }, head, commands);
     }
+}
 
-    /// A session waits for room.
-    #[tactic(auto, using(crate::proofs::TrailLemmas::drains_tracked))]
-    pub fn drains(&mut self, who: u16)
-        requires room { 2 ≤ self.old.spare }
-        requires waiter { 1 ≤ self.old.waiters }
-        requires allowed { allows (state self.old) (events.Drains who) ≡ true }
-        ensures events { self.new.events ≡ self.old.events ++ events.Drains who ∷ [] }
-        ensures acks { self.new.acks ≡ self.old.acks }
-        ensures kept { self.new.kept ≡ self.old.kept }
-        ensures spare { self.old.spare ≤ self.new.spare + 2 }
-    {
-        push(&mut self.drains, who);
-        push(&mut self.events, Event::Drains { who });
-        self.bound += 1;
+/// The bound on what there is to do, once the event has come.
+fn bound_behind(bound: usize, event: Event) -> usize
+    requires some { 1 ≤ bound + 2 * asked_by event }
+    requires fits { bound + 2 * asked_by event < 2 ^ 64 }
+    ensures { result + 1 ≡ bound + 2 * asked_by event }
+{
+    match event {
+        Event::Wants { .. } => bound + 1,
+        Event::Queues { .. } => bound + 1,
+        Event::Syncs { .. } => bound + 1,
+        Event::Drains { .. } => bound + 1,
+        _ => bound - 1,
     }
+}
 
-    /// A session waits for room no more.
-    #[tactic(auto, using(crate::proofs::TrailLemmas::rests_tracked))]
-    pub fn rests(&mut self, who: u16)
-        requires { allows (state self.old) (events.Rests who) ≡ true }
-        ensures events { self.new.events ≡ self.old.events ++ events.Rests who ∷ [] }
-        ensures acks { self.new.acks ≡ self.old.acks }
-        ensures kept { self.new.kept ≡ self.old.kept }
-        ensures spare { self.old.spare ≤ self.new.spare }
-    {
-        forget_drain(&mut self.drains, who);
-        push(&mut self.events, Event::Rests { who });
-        self.bound -= 1;
-    }
-
-    /// A request was served.
-    #[tactic(auto, using(crate::proofs::TrailLemmas::served_tracked))]
-    pub fn served(&mut self, ticket: u64, place: Place)
-        requires pos { place.pos < 2 ^ 63 }
-        requires allowed { allows (state self.old) (events.Served ticket place None) ≡ true }
-        ensures events { self.new.events ≡ self.old.events ++ events.Served ticket place None ∷ [] }
-        ensures acks { self.new.acks ≡ self.old.acks }
-        ensures kept { self.new.kept ≡ self.old.kept }
-        ensures spare { self.old.spare ≤ self.new.spare }
-        ensures waiters { self.new.waiters ≡ self.old.waiters }
-    {
-        self.head = behind(place);
-        push(
-            &mut self.events,
-            Event::Served {
-                ticket,
-                place,
-                fault: None,
-            },
-        );
-        self.bound -= 1;
-    }
-
-    /// The step for a request failed.
-    #[tactic(auto, using(crate::proofs::TrailLemmas::failed_tracked))]
-    pub fn failed(&mut self, ticket: u64, place: Place, counts: Twin)
-        requires { allows (state self.old) (events.Served ticket place (Some counts)) ≡ true }
-        ensures events { self.new.events ≡ self.old.events ++ events.Served ticket place (Some counts) ∷ [] }
-        ensures acks { self.new.acks ≡ self.old.acks }
-        ensures kept { self.new.kept ≡ self.old.kept }
-        ensures spare { self.old.spare ≤ self.new.spare }
-        ensures waiters { self.new.waiters ≡ self.old.waiters }
-    {
-        self.head = place;
-        push(
-            &mut self.events,
-            Event::Served {
-                ticket,
-                place,
-                fault: Some(counts),
-            },
-        );
-        self.bound -= 1;
-    }
-
-    /// The first op was done.
-    #[tactic(auto, using(crate::proofs::TrailLemmas::worked_tracked))]
-    pub fn worked(&mut self, place: Place, flush: bool)
-        requires pos { place.pos < 2 ^ 63 }
-        requires op { waiting_op (state self.old) ≡ Some (record { place = place; flush = flush }) }
-        requires allowed { allows (state self.old) (events.Worked place None) ≡ true }
-        ensures events { self.new.events ≡ self.old.events ++ events.Worked place None ∷ [] }
-        ensures acks { self.new.acks ≡ self.old.acks }
-        ensures kept { self.new.kept ≡ self.old.kept }
-        ensures spare { self.old.spare ≤ self.new.spare }
-        ensures waiters { self.new.waiters ≡ self.old.waiters }
-    {
-        // An op that is done or stands was queued by an event.
-        let _events = self.events.len();
-        self.head = head_behind(place, flush);
-        self.done += 1;
-        push(&mut self.events, Event::Worked { place, fault: None });
-        self.bound -= 1;
-    }
-
-    /// The step for the first op failed: who has waited longest waits no more.
-    #[tactic(auto, using(crate::proofs::TrailLemmas::broke_tracked))]
-    pub fn broke(&mut self, place: Place, counts: Twin)
-        requires { allows (state self.old) (events.Worked place (Some counts)) ≡ true }
-        ensures events { self.new.events ≡ self.old.events ++ events.Worked place (Some counts) ∷ [] }
-        ensures acks { self.new.acks ≡ self.old.acks }
-        ensures kept { self.new.kept ≡ self.old.kept ++ kept_for_drain (state self.old) counts }
-        ensures spare { self.old.spare ≤ self.new.spare }
-    {
-        forget_first(&mut self.syncs, &mut self.drains, &mut self.kept, counts);
-        self.head = place;
-        push(
-            &mut self.events,
-            Event::Worked {
-                place,
-                fault: Some(counts),
-            },
-        );
-        self.bound -= 1;
-    }
+/// The sync is acknowledged at this number of commands.
+fn acknowledge(acks: &mut Vec<Ack>, place: u64, commands: u64)
+    requires { vec_len acks.old < vec_capacity acks.old }
+    ensures items { acks.new.items ≡ acks.old.items ++ record { place = place; command = commands } ∷ [] }
+    ensures capacity { vec_capacity acks.old ≤ vec_capacity acks.new }
+{
+    let ack = Ack {
+        place,
+        command: commands,
+    };
+    push(acks, ack);
 }
 
 /// The sync waits no more.
@@ -413,31 +339,12 @@ fn forget_first(
     ensures drains { drains.new.items ≡ drains_left syncs.old.items drains.old.items }
     ensures kept { map kept_as kept.new.items ≡ map kept_as kept.old.items
         ++ kept_from syncs.old.items drains.old.items counts }
-    ensures room { length drains.new.items ≤ vec_capacity kept.new - vec_len kept.new }
+    ensures capacity { vec_capacity kept.old ≤ vec_capacity kept.new }
 {
     if !syncs.is_empty() {
         let _gone = syncs.remove(0);
     } else if !drains.is_empty() {
         let who = drains.remove(0);
         push(kept, KeptFault { who, counts });
-    }
-}
-
-/// Where the head stands behind an op.
-fn head_behind(place: Place, flush: bool) -> Place
-    requires { place.pos < 2 ^ 63 }
-    ensures { result ≡ trail.behind (record { place = place; flush = flush }) }
-{
-    if flush { place } else { behind(place) }
-}
-
-/// The place behind a place.
-fn behind(place: Place) -> Place
-    requires { place.pos < 2 ^ 63 }
-    ensures { result ≡ next place }
-{
-    Place {
-        part: place.part,
-        pos: place.pos + 1,
     }
 }

@@ -1,3 +1,4 @@
 pub mod RowFacts
 pub mod TrailLaw
 pub mod LoadLaw
+pub mod OpLaw

@@ -38,7 +38,8 @@ any_weaker p q (x ∷ xs) w h = by (p x) (q x) (w x) (any_weaker p q xs w) h
 shorter : {X : Type 0} (p : X → Bool) (xs : List X) → length (filter (λ x. not (p x)) xs) ≤ length xs
 shorter p xs = omega (arith, length-filter_both p (λ x. not (p x)) (λ x. refl) xs)
 
-fewer : {X : Type 0} (p : X → Bool) (xs : List X) → list_any p xs ≡ true → length (filter (λ x. not (p x)) xs) + 1 ≤ length xs
+-- where one passes, those that don't are fewer
+pub fewer : {X : Type 0} (p : X → Bool) (xs : List X) → list_any p xs ≡ true → length (filter (λ x. not (p x)) xs) + 1 ≤ length xs
 fewer p xs h = omega (arith, length-filter_both p (λ x. not (p x)) (λ x. refl) xs, any_some p xs h)
 
 -- ---- ops
@@ -62,11 +63,11 @@ waiter_goes head arrived requests done ended group [] (who ∷ drains) calm = om
 waiter_goes head arrived requests done ended group (s ∷ syncs) drains calm = omega arith
 
 -- what the head takes of ops is the first of them, and somebody waits for it
-record IsTaken (st : State) : Type 0 where
-  op : Op
-  waits : waiting_op st ≡ Some op
-  first : first_of (ops st) ≡ Some op
-  not_calm : is_calm st ≡ false
+pub record IsTaken (st : State) : Type 0 where
+  pub op : Op
+  pub waits : waiting_op st ≡ Some op
+  pub first : first_of (ops st) ≡ Some op
+  pub not_calm : is_calm st ≡ false
 
 taken_by : (st : State) (calm : Bool) → is_calm st ≡ calm → (first : Option Op) → first_of (ops st) ≡ first → (place : Place)
     → takes_op st place (cond calm None first) ≡ true → IsTaken st
@@ -74,7 +75,8 @@ taken_by st true is first there place h = absurd (cc)
 taken_by st false is None there place h = absurd (cc)
 taken_by st false is (Some op) there place h = record { op = op; waits = ap (λ b. cond b None (first_of (ops st))) is ∙ there; first = there; not_calm = is }
 
-taken : (st : State) (place : Place) → takes_op st place (waiting_op st) ≡ true → IsTaken st
+-- what the head takes of ops is taken
+pub taken : (st : State) (place : Place) → takes_op st place (waiting_op st) ≡ true → IsTaken st
 taken st place h = taken_by st (is_calm st) refl (first_of (ops st)) refl place h
 
 asked_by : (st : State) (ticket : ℕ) (place : Place) (r : Request) → takes_request st ticket place r ≡ true → asks ticket place r ≡ true
