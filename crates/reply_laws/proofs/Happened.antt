@@ -1,17 +1,15 @@
 -- What events leave: who owns a fault, how many ops are done, and how many stand.
-use Rattle.std.specs.Prelude.{◌≡◌, ◌+◌, ◌||◌, ℕ, suc, Bool, true, false, cond, List, [], ◌∷◌, ◌++◌, All, length, fold, map, filter_map, scan, Contains, Option, Some, None}
+use Rattle.std.specs.Prelude.{◌≡◌, ◌+◌, ◌||◌, ℕ, suc, Bool, true, false, cond, List, [], ◌∷◌, ◌++◌, All, length, fold, filter_map, scan, Contains, Some, None}
 use Rattle.std.specs.List.{list_all, list_any}
 use Rattle.std.proofs.Common.{refl, sym, ap, ◌∙◌, subst, arith, length-append}
-use Rattle.std.proofs.lemmas.List.{length-map}
 use Rattle.std.proofs.lemmas.List.Elements.{Contains-append_left, filter_map-append}
 use Rattle.std.proofs.lemmas.List.Folds.{list_all-append, list_any-append}
-use Rattle.tape_types.proofs.LongerLists.{scan-append}
-use Rattle.tape_types.specs.declared.cartridges.Place.{Place}
 use Rattle.tape_types.specs.declared.cartridges.Twin.{Twin}
 use Rattle.session_script.specs.declared.logs.Event.{Event}
 use Rattle.session_script.specs.declared.logs.Event.TheVariants.{Wants, Queues, Syncs, Synced, Drains, Rests, Served, Worked}
-use Rattle.event_laws.specs.Trail.{IsTrail, Owner, after, after_all, after_op, allows, both, fault_of, is_answer, is_of, is_trail_from, owned, owned_by, owner_of, takes_op, without_first_waiter}
-use Rattle.event_laws.specs.Waiting.{Op, Request, State, Waiter, first_of, is_calm, ops, put_at, start, waiting_op, with_flushes}
+use Rattle.event_laws.specs.Trail.{IsTrail, Owner, after, after_all, allows, both, fault_of, is_answer, is_of, is_trail_from, owned, owned_by, owner_of}
+use Rattle.event_laws.specs.Waiting.{State, ops, start}
+use Rattle.event_laws.proofs.OpLaw.{done_more, ever, ever_one, failed_done, ops_done, ops_queued}
 use Rattle.serving_promise.specs.Served.{queued}
 use Rattle.serving_promise.specs.Steps.{AreOfStep, no_step, one_step, is_step}
 use Rattle.reply_laws.specs.Laws.{OwnersKeepFaults}
@@ -34,55 +32,14 @@ owners_keep_faults owner events added counts has =
 
 -- ---- ops that stand, that were done, and that were queued
 
-flushes_long : (places : List Place) → length (with_flushes places) ≡ length places
-flushes_long [] = refl
-flushes_long (p ∷ later) = ap suc (flushes_long later)
-
--- how many ops stand, and how many were done
-abbrev ever : State → ℕ
-ever st = length (ops st) + st.done
-
--- an op that waits stands
-done_one : (head : Place) (arrived : ℕ) (requests : List Request) (done : ℕ) (ended : List Op) (group : List Place) (syncs : List Waiter) (drains : List ℕ) (op : Op)
-    → first_of (ended ++ map put_at group) ≡ Some op
-    → ever (after_op (Some op) (record { head = head; arrived = arrived; requests = requests; done = done; ended = ended; group = group; syncs = syncs; drains = drains }))
-    ≡ length (ended ++ map put_at group) + done
-done_one head arrived requests done [] [] syncs drains op is = absurd (let no : None ≡ Some op = is in cc)
-done_one head arrived requests done [] (p ∷ group) syncs drains op is = omega arith
-done_one head arrived requests done (o ∷ ended) group syncs drains op is = omega arith
-
-waits_first : (calm : Bool) (first : Option Op) (op : Op) → cond calm None first ≡ Some op → first ≡ Some op
-waits_first true first op e = cc
-waits_first false first op e = e
-
-worked : (st : State) (waits : Option Op) → waiting_op st ≡ waits → ever (after_op waits st) ≡ ever st
-worked st None is = refl
-worked st (Some op) is = done_one st.head st.arrived st.requests st.done st.ended st.group st.syncs st.drains op (waits_first (is_calm st) (first_of (ops st)) op is)
-
-failed : (head : Place) (arrived : ℕ) (requests : List Request) (done : ℕ) (ended : List Op) (group : List Place) (syncs : List Waiter) (drains : List ℕ)
-    → ever (without_first_waiter (record { head = head; arrived = arrived; requests = requests; done = done; ended = ended; group = group; syncs = syncs; drains = drains }))
-    ≡ length (ended ++ map put_at group) + done
-failed head arrived requests done ended group [] drains = refl
-failed head arrived requests done ended group (s ∷ syncs) drains = refl
-
-ever_one : (st : State) (e : Event) → ever (after st e) ≡ ever st + length (filter_map queued (e ∷ []))
-ever_one st (Wants ticket place) = omega arith
-ever_one st (Queues place) =
-    omega (arith, length-append st.ended (map put_at (st.group ++ place ∷ [])), length-map (st.group ++ place ∷ []) put_at, length-append st.group (place ∷ []), length-append st.ended (map put_at st.group), length-map st.group put_at)
-ever_one st (Syncs ticket) =
-    omega (arith, length-append (st.ended ++ with_flushes st.group) (map put_at []), length-append st.ended (with_flushes st.group), flushes_long st.group, length-append st.ended (map put_at st.group), length-map st.group put_at)
-ever_one st (Synced ticket) = omega arith
-ever_one st (Drains who) = omega arith
-ever_one st (Rests who) = omega arith
-ever_one st (Served ticket place None) = omega arith
-ever_one st (Served ticket place (Some counts)) = omega arith
-ever_one st (Worked place None) = omega (arith, worked st (waiting_op st) refl)
-ever_one st (Worked place (Some counts)) = omega (arith, failed st.head st.arrived st.requests st.done st.ended st.group st.syncs st.drains)
+queued_one : (e : Event) → length (filter_map queued (e ∷ [])) ≡ ops_queued e
+queued_one (Queues place) = refl
+queued_one _ = refl
 
 ever_from : (st : State) (events : List Event) → ever (fold after st events) ≡ ever st + length (filter_map queued events)
 ever_from st [] = omega arith
 ever_from st (e ∷ later) =
-    omega (arith, ever_from (after st e) later, ever_one st e, ap length (filter_map-append queued (e ∷ []) later), length-append (filter_map queued (e ∷ [])) (filter_map queued later))
+    omega (arith, ever_from (after st e) later, ever_one st e, queued_one e, ap length (filter_map-append queued (e ∷ []) later), length-append (filter_map queued (e ∷ [])) (filter_map queued later))
 
 -- the ops that were queued are those that stand and those that were done
 pub queued_or_done : (events : List Event) → length (ops (after_all events)) + (after_all events).done ≡ length (filter_map queued events)
@@ -99,31 +56,12 @@ trail_behind events added is =
 abbrev pub done_by : List Event → ℕ
 done_by added = cond (list_any does_op added) 1 0
 
-after_waiting : (head : Place) (arrived : ℕ) (requests : List Request) (done : ℕ) (ended : List Op) (group : List Place) (syncs : List Waiter) (drains : List ℕ) (op : Op)
-    → (after_op (Some op) (record { head = head; arrived = arrived; requests = requests; done = done; ended = ended; group = group; syncs = syncs; drains = drains })).done ≡ done + 1
-after_waiting head arrived requests done [] group syncs drains op = refl
-after_waiting head arrived requests done (o ∷ ended) group syncs drains op = refl
-
-taken : (st : State) (place : Place) (waits : Option Op) → takes_op st place waits ≡ true → (after_op waits st).done ≡ st.done + 1
-taken st place None h = absurd (cc)
-taken st place (Some op) h = after_waiting st.head st.arrived st.requests st.done st.ended st.group st.syncs st.drains op
-
-failed_done : (head : Place) (arrived : ℕ) (requests : List Request) (done : ℕ) (ended : List Op) (group : List Place) (syncs : List Waiter) (drains : List ℕ)
-    → (without_first_waiter (record { head = head; arrived = arrived; requests = requests; done = done; ended = ended; group = group; syncs = syncs; drains = drains })).done ≡ done
-failed_done head arrived requests done ended group [] drains = refl
-failed_done head arrived requests done ended group (s ∷ syncs) drains = refl
+done_one : (e : Event) → cond (does_op e) 1 0 ≡ ops_done e
+done_one (Worked place None) = refl
+done_one _ = refl
 
 done_one_more : (st : State) (e : Event) → allows st e ≡ true → (after st e).done ≡ st.done + cond (does_op e) 1 0
-done_one_more st (Wants ticket place) h = omega arith
-done_one_more st (Queues place) h = omega arith
-done_one_more st (Syncs ticket) h = omega arith
-done_one_more st (Synced ticket) h = omega arith
-done_one_more st (Drains who) h = omega arith
-done_one_more st (Rests who) h = omega arith
-done_one_more st (Served ticket place None) h = omega arith
-done_one_more st (Served ticket place (Some counts)) h = omega arith
-done_one_more st (Worked place None) h = taken st place (waiting_op st) (and_first (takes_op st place (waiting_op st)) _ h)
-done_one_more st (Worked place (Some counts)) h = omega (arith, failed_done st.head st.arrived st.requests st.done st.ended st.group st.syncs st.drains)
+done_one_more st e h = omega (arith, done_more st e h, done_one e)
 
 -- an event that does no op leaves the count of those that were done
 kept_one : (st : State) (e : Event) → does_op e ≡ false → (after st e).done ≡ st.done
