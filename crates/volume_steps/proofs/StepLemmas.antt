@@ -1,13 +1,16 @@
 -- What the head did, and what was made of it, is a step.
-use Rattle.std.specs.Prelude.{ℕ, ◌≡◌, ◌==◌, Bool, true, false, List, [], ◌∷◌, ◌++◌, Some, None, slice_get}
+use Rattle.std.specs.Prelude.{ℕ, ◌≡◌, ◌==◌, Bool, true, false, List, ◌∷◌, ◌++◌, Option, Some, None, slice_get}
 use Rattle.std.specs.List.{list_any}
 use Rattle.tape_types.specs.declared.cartridges.Cartridge.{Cartridge}
 use Rattle.tape_types.specs.declared.cartridges.Place.{Place}
 use Rattle.tape_types.specs.declared.cartridges.Twin.{Twin}
 use Rattle.tape_drive.specs.declared.drive.Drive.{Ghosts}
 use Rattle.tape_drive.specs.declared.drive.Got.{Got}
-use Rattle.std.proofs.Common.{refl, sym, ap, subst, ◌∙◌}
+use Rattle.std.proofs.Common.{sym, ap, subst, ◌∙◌}
 use Rattle.session_script.specs.declared.logs.Event.{Event}
+use Rattle.session_script.specs.declared.logs.Event.TheVariants.{Worked}
+use Rattle.event_laws.specs.Trail.{after, after_op, behind}
+use Rattle.event_laws.specs.Waiting.{State, waiting_op, Op as Waits}
 use Rattle.head_core.specs.Steps.{IsFoundAt, IsOpStep, IsReadStep}
 use Rattle.head_core.specs.declared.work.StepDone.{StepDone}
 use Rattle.head_core.specs.declared.work.StepDone.TheVariants as ends
@@ -20,6 +23,11 @@ use Rattle.event_journal.specs.Trails.{first_waiter, state}
 use Rattle.call_laws.specs.Handing.{StepsOn}
 use Rattle.volume_steps.specs.Moves.{FinishesOp, KeepsAnswer, MissesBlock, TakesBlock, TellsFault}
 use Rattle.volume_steps.proofs.AnswerLemmas.{AreRight, fault_keeps, missed_keeps, read_keeps, synced_keep}
+
+-- behind an op that is done the head stands where its event leaves it
+pub stands_behind : (st : State) (place : Place) (flush : Bool) → waiting_op st ≡ Some (record { place = place; flush = flush })
+    → behind (record { place = place; flush = flush }) ≡ (after st (Worked place None)).head
+stands_behind st place flush waits = ap (λ (o : Option Waits). (after_op o st).head) (sym waits)
 
 -- a step that adds some events
 abbrev pub SomeStep : {D : Type 0} → Ghosts D → Parts D → Parts D → Type 0

@@ -9,6 +9,7 @@ ghost use Rattle.volume_steps.specs.Asking.{CanAsk, Reserves};
 ghost use Rattle.volume_steps.specs.Seen.{seen_parts};
 
 use crate::parts::Parts;
+use session_script::Event;
 use tape_drive::Drive;
 use tape_types::NoMemory;
 
@@ -24,7 +25,8 @@ impl<D: Drive> Parts<D> {
         ensures answered { self.new.reads.answered ≡ self.old.reads.answered }
     {
         self.reserve_drain()?;
-        self.trail.drains(who);
+        let head = self.trail.head();
+        self.trail.write(Event::Drains { who }, head, 0);
         let _head = self.trail.head();
         self.placements.begin(who);
         Ok(())

@@ -29,6 +29,7 @@ use head_queue::Queue;
 use held_volume::Stock;
 use plain_tree::Answer;
 use serving_promise::Submitted;
+use session_script::Event;
 use std::alloc::Global;
 use tape_drive::Drive;
 use tape_layout::AdmitErr;
@@ -223,8 +224,10 @@ fn ask_all(trail: &mut Trail, queue: &mut Queue, ticket: u64, wanted: &[Place])
     ensures requests { HasRequests ticket wanted.now queue.old queue.new }
 {
     for place in wanted {
-        trail.wants(ticket, *place);
-        let _node = queue.add(ticket, *place);
+        let head = trail.head();
+        let place = *place;
+        trail.write(Event::Wants { ticket, place }, head, 0);
+        let _node = queue.add(ticket, place);
     }
     let _head = trail.head();
 }

@@ -21,6 +21,7 @@ ghost use Rattle.volume_steps.specs.Seen.{seen_parts};
 ghost use Rattle.volume_steps.specs.Moves.{AnswersSyncs, FinishesOp, IsFirstOp, IsReady, MissesBlock, SyncsWait};
 ghost use Rattle.volume_steps.specs.Moves.{TakesBlock, TakesOp, TellsFault, on_from};
 
+use crate::ops::{behind, flushes, head_behind, place, settles};
 use crate::parts::Parts;
 use crate::requests::forget_requests;
 use block_cache::BlockCache;
@@ -28,7 +29,7 @@ use event_journal::Waiter;
 use head_core::{StepDone, Work};
 use head_queue::Pick;
 use plain_tree::Answer;
-use session_script::Reply;
+use session_script::{Event, Reply};
 use tape_drive::{Drive, Got};
 use tape_types::{Part, Place, Twin};
 
@@ -98,6 +99,7 @@ impl<D: Drive> Parts<D> {
     }
 
     /// The first op stands no more.
+    #[tactic(auto, using(crate::proofs::StepLemmas::stands_behind))]
     fn take_op(&mut self, place: Place, flush: bool)
         requires op { IsFirstOp (seen_parts self.old) place flush }
         requires allowed { allows (state self.old.trail) (the_events.Worked place None) ≡ true }
@@ -105,7 +107,9 @@ impl<D: Drive> Parts<D> {
         ensures { TakesOp place flush (seen_parts self.old) (seen_parts self.new) }
     {
         self.stock.done_op();
-        self.trail.worked(place, flush);
+        let head = head_behind(place, flush);
+        self.trail
+            .write(Event::Worked { place, fault: None }, head, 0);
         if settles(place, flush) {
             self.turn_on();
         }
@@ -134,7 +138,8 @@ impl<D: Drive> Parts<D> {
     {
         let commands = self.head.commands();
         while let Some(ticket) = self.trail.due() {
-            self.trail.synced(ticket, commands);
+            let head = self.trail.head();
+            self.trail.write(Event::Synced { ticket }, head, commands);
             self.placements
                 .answer(ticket, Reply::Answer(Answer::Synced));
         }
@@ -148,7 +153,11 @@ impl<D: Drive> Parts<D> {
         ensures { (op : Done) → place ≡ place_of op → TellsFault op counts (seen_parts self.old) (seen_parts self.new) }
     {
         self.tell_fault(counts);
-        self.trail.broke(place, counts);
+        let event = Event::Worked {
+            place,
+            fault: Some(counts),
+        };
+        self.trail.write(event, place, 0);
         let _at = self.trail.head();
     }
 
@@ -192,7 +201,12 @@ impl<D: Drive> Parts<D> {
         requires none { slice_get (seen_parts self.old).listed.replies owner ≡ Some None }
         ensures { TakesBlock owner place got (seen_parts self.old).block (seen_parts self.old) (seen_parts self.new) }
     {
-        self.trail.served(owner, place);
+        let event = Event::Served {
+            ticket: owner,
+            place,
+            fault: None,
+        };
+        self.trail.write(event, behind(place), 0);
         let _at = self.trail.head();
         self.queue.remove(node);
         self.reads.fill(owner, place, self.head.block());
@@ -212,7 +226,12 @@ impl<D: Drive> Parts<D> {
         requires none { slice_get (seen_parts self.old).listed.replies owner ≡ Some None }
         ensures { MissesBlock owner place counts (seen_parts self.old) (seen_parts self.new) }
     {
-        self.trail.failed(owner, place, counts);
+        let event = Event::Served {
+            ticket: owner,
+            place,
+            fault: Some(counts),
+        };
+        self.trail.write(event, place, 0);
         let _at = self.trail.head();
         forget_requests(&mut self.queue, owner);
         self.reads.forget(owner);

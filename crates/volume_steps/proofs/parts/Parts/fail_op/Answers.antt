@@ -1,9 +1,9 @@
-use Rattle.std.specs.Prelude.{◌≡◌, List, [], ◌∷◌, ◌++◌, Some}
-use Rattle.std.proofs.Common.{ap, sym, ◌∙◌}
+use Rattle.std.specs.Prelude.{[], ◌∷◌, ◌++◌, Some}
+use Rattle.std.proofs.Common.{ap, ◌∙◌}
+use Rattle.std.proofs.lemmas.List.{append-nil}
 use Rattle.tape_types.specs.declared.cartridges.Place.{Place}
-use Rattle.session_script.specs.declared.logs.Event.{Event}
 use Rattle.session_script.specs.declared.logs.Event.TheVariants.{Worked}
-use Rattle.event_journal.specs.Trails.{Journaled, kept_for_drain, state}
+use Rattle.event_journal.specs.Trails.{kept_for_drain, state}
 use Rattle.volume_steps.specs.declared.parts.Parts.{Parts as Held}
 use Rattle.volume_steps.proofs.parts.Parts.fail_op.Goals as goal
 
@@ -15,11 +15,11 @@ returns g c op here =
       drive = ap (λ (p : Held D). p.head.drive) same;
       stock = ap (λ (p : Held D). p.stock) same;
       on = ap (λ (p : Held D). p.on) same;
-      events = c.broke.ensures.events ∙ ap (λ (p : Held D). p.trail.events ++ Worked c.args.place (Some c.args.counts) ∷ []) same
+      events = c.write.ensures.events ∙ ap (λ (p : Held D). p.trail.events ++ Worked c.args.place (Some c.args.counts) ∷ []) same
           ∙ ap (λ (at : Place). c.args.self.now.trail.events ++ Worked at (Some c.args.counts) ∷ []) here;
       trail = c.head-at.ensures.trail;
-      acks = c.broke.ensures.acks ∙ ap (λ (p : Held D). p.trail.acks) same;
-      kept = c.broke.ensures.kept
+      acks = c.write.ensures.acks ∙ append-nil _ ∙ ap (λ (p : Held D). p.trail.acks) same;
+      kept = c.write.ensures.kept
           ∙ ap (λ (p : Held D). p.trail.kept ++ kept_for_drain (state p.trail) c.args.counts) same;
       listed = record {
         history = c.tell_fault.ensures.listed.history;

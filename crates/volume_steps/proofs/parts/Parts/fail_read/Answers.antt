@@ -1,5 +1,5 @@
-use Rattle.std.specs.Prelude.{◌≡◌, List}
-use Rattle.std.proofs.Common.{refl, sym, subst, ◌∙◌}
+use Rattle.std.proofs.Common.{refl, ◌∙◌}
+use Rattle.std.proofs.lemmas.List.{append-nil}
 use Rattle.volume_steps.proofs.ReadLemmas.{missed}
 use Rattle.volume_steps.proofs.parts.Parts.fail_read.Goals as goal
 
@@ -8,11 +8,11 @@ returns g c =
     missed c.args.owner c.args.place c.args.counts _ _ refl record {
       stock = refl;
       on = refl;
-      acks = c.failed.ensures.acks;
-      kept = c.failed.ensures.kept;
+      acks = c.write.ensures.acks ∙ append-nil _;
+      kept = c.write.ensures.kept ∙ append-nil _;
       listed = record { history = c.answer.ensures.history; marks = c.answer.ensures.marks; calls = c.answer.ensures.calls; sessions = c.answer.ensures.sessions };
       trail = c.head-at.ensures.trail;
       arrived = c.forget_requests.ensures.arrived;
     }
-    c.failed.ensures.events c.requires.request c.forget_requests.ensures.waiting c.forget.ensures.forgotten c.forget.ensures.answered
+    c.write.ensures.events c.requires.request c.forget_requests.ensures.waiting c.forget.ensures.forgotten c.forget.ensures.answered
     c.answer.ensures.replies refl

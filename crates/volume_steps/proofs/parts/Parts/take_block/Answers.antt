@@ -1,10 +1,10 @@
-use Rattle.std.specs.Prelude.{ℕ, ◌≡◌, List, [], ◌∷◌, ◌++◌}
+use Rattle.std.specs.Prelude.{ℕ, List, [], ◌∷◌, ◌++◌}
 use Rattle.std.proofs.Common.{refl, sym, ap, subst, ◌∙◌}
+use Rattle.std.proofs.lemmas.List.{append-nil}
 use Rattle.plain_tree.specs.declared.calls.Answer.{Answer}
 use Rattle.waiting_reads.specs.Waiting.{IsFilledOne}
 use Rattle.state_laws.specs.Stepping.{IsKeptAfter}
-use Rattle.volume_steps.specs.Seen.{seen_parts}
-use Rattle.volume_steps.proofs.ReadLemmas.{TakesRequest, is_answered, waits_on}
+use Rattle.volume_steps.proofs.ReadLemmas.{is_answered, waits_on}
 use Rattle.volume_steps.proofs.parts.Parts.take_block.Goals as goal
 
 pub returns-then-waits : goal.returns-then-waits
@@ -14,13 +14,13 @@ returns-then-waits g c =
       only = record {
         stock = refl;
         on = refl;
-        acks = c.served.ensures.acks;
-        kept = c.served.ensures.kept;
+        acks = c.write.ensures.acks ∙ append-nil _;
+        kept = c.write.ensures.kept ∙ append-nil _;
         listed = record { history = refl; marks = refl; calls = refl; sessions = refl };
         trail = c.head-at.ensures.trail;
         arrived = c.remove.ensures.arrived;
       };
-      events = c.served.ensures.events;
+      events = c.write.ensures.events;
       request = record {
         front = c.requires.node.1.front;
         one = c.requires.node.0;
@@ -48,13 +48,13 @@ returns g c =
       only = record {
         stock = refl;
         on = refl;
-        acks = c.served.ensures.acks;
-        kept = c.served.ensures.kept;
+        acks = c.write.ensures.acks ∙ append-nil _;
+        kept = c.write.ensures.kept ∙ append-nil _;
         listed = record { history = c.answer.ensures.history; marks = c.answer.ensures.marks; calls = c.answer.ensures.calls; sessions = c.answer.ensures.sessions };
         trail = c.head-at.ensures.trail;
         arrived = c.remove.ensures.arrived;
       };
-      events = c.served.ensures.events;
+      events = c.write.ensures.events;
       request = record {
         front = c.requires.node.1.front;
         one = c.requires.node.0;
