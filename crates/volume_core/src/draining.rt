@@ -14,7 +14,7 @@ ghost use Rattle.volume_core.specs.Turns.{DrainsAt, Runs, told};
 
 use plain_tree::{Fate, Placed};
 use serving_promise::Drained;
-use session_script::Reply;
+use session_script::{Event, Reply};
 use tape_drive::Drive;
 use tape_edge::Clock;
 use tape_types::{Moment, Twin};
@@ -71,7 +71,8 @@ fn rest<D: Drive>(parts: &mut Parts<D>, who: u16)
     requires room { length (seen_parts parts.old).stock.layout.ops ≤ 64 }
     ensures { RestsNow who (seen_parts parts.old) (seen_parts parts.new) }
 {
-    parts.trail.rests(who);
+    let head = parts.trail.head();
+    parts.trail.write(Event::Rests { who }, head, 0);
     let _at = parts.trail.head();
     parts.placements.rest(who);
 }
