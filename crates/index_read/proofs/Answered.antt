@@ -11,7 +11,7 @@ use Rattle.index_read.proofs.Assembled.{assembled}
 use Rattle.index_read.proofs.Exact.{one_index_text, never_both}
 use Rattle.index_read.proofs.Whole.{unless_map}
 
-read_text : (text : List ℕ) (index : Index) → IsReadAs text index → Agrees index → IndexText text index
+pub read_text : (text : List ℕ) (index : Index) → IsReadAs text index → Agrees index → IndexText text index
 read_text text index r agrees =
     let a = assembled text r.state r.valid r.whole in
     record { value = a.value; spells = a.spells; tells = record { volume = r.volume ∙ sym a.volume; nodes = r.nodes ∙ sym a.nodes }; agrees = agrees }

@@ -32,3 +32,6 @@ pub mod WrittenTells
 pub mod WrittenIndex
 pub mod WrittenLinks
 pub mod Answered
+pub mod Further
+pub mod FurtherPieces
+pub mod Repointed

@@ -11,9 +11,12 @@ use Rattle.doc_elements.specs.Elements.{Item, plain}
 use Rattle.doc_elements.specs.declared.pieces.Piece as code_piece
 use Rattle.doc_elements.specs.Answers.{HasRoom, Fails, UnlessMemory, piece_of}
 use Rattle.doc_elements.proofs.Steps.{few_counted, point, reaches_more, unless_memory}
+use Rattle.doc_elements.specs.Documents.{head_of}
+use Rattle.doc_elements.specs.Pieces.{Frame}
 use Rattle.index_read.specs.declared.walking.Level as code_level
+use Rattle.index_read.specs.Fronts.{IsFront, IsRootPointed}
 use Rattle.index_read.specs.Told.{State, Level, Tell, blank, outermost, changed, begun, ended, leaf_told, levels_after, piece_told}
-use Rattle.index_read.specs.Walks.{Opened, frames_of, level_of, levels_of, opened_after, coded, Keeps, Walked}
+use Rattle.index_read.specs.Walks.{Opened, frames_of, level_of, levels_of, opened_after, coded, stacked, Kept, Keeps, Walked}
 
 -- ---- how many nodes have begun
 
@@ -101,6 +104,13 @@ few_next p l s t room few told =
 
 -- ---- the end
 
+-- what is kept goes on while a parent is open
+pub is_kept : (text : List ℕ) (ps : List Piece) (inside next : ℕ) (os : List Opened) (top : code_level.Level) (outer : List code_level.Level) (done : Bool) (s : State)
+    → Reaches text ps inside (fresh place.Index ∷ []) 0 (point next (frames_of os) (length s.nodes)) → Tell ps outermost blank (levels_of os) s → Keeps os top outer done → done ≡ false
+    → next ≤ length text → length s.nodes ≤ 65536 → Kept text inside next top outer s
+is_kept text ps inside next [] top outer done s r t k d le few = let same : true ≡ false = sym k ∙ d in absurd (cc)
+is_kept text ps inside next (o ∷ os) top outer done s r t k d le few = record { within = le; few = few; ps = ps; o = o; os = os; top_is = k.1; outer_is = k.2; reaches = r; tells = t }
+
 pub is_walked : (text : List ℕ) (ps : List Piece) (inside next : ℕ) (os : List Opened) (top : code_level.Level) (outer : List code_level.Level) (done : Bool) (s : State)
     → Reaches text ps inside (fresh place.Index ∷ []) 0 (point next (frames_of os) (length s.nodes)) → Tell ps outermost blank (levels_of os) s → Keeps os top outer done → done ≡ true → Walked text inside next s
 is_walked text ps inside next [] top outer done s r t k d = record { ps = ps; reaches = r; tells = t }
@@ -123,3 +133,28 @@ pub halted_at : (text : List ℕ) (inside at n m : ℕ) (ps : List Piece) (o : O
 halted_at text inside at n m ps o os top e is count r h =
     unless_memory e (piece_at (record { place = top.frame.place; seen = o.frame.seen }) m text at) (Halted place.Index text inside e)
     (λ fails. halted text inside at n ps o os e r (at_top text at n m top o (Err e) is count fails)) h
+
+-- ---- a front
+
+-- what is kept is a front, where the root alone is open, and both pointers have stood in it
+pub is_front : (text : List ℕ) (inside at : ℕ) (top : code_level.Level) (outer : List code_level.Level) (s : State) → Kept text inside at top outer s → length outer ≡ 0 → IsRootPointed top
+    → head_of place.Index text ≡ Ok inside → IsFront text at top.frame.seen s
+is_front text inside at top outer s k none root head = by k.os (ap length (sym k.outer_is) ∙ none) k.reaches k.tells
+  where
+    by : (os : List Opened) → length (stacked os) ≡ 0 → Reaches text k.ps inside (fresh place.Index ∷ []) 0 (point at (frames_of (k.o ∷ os)) (length s.nodes)) → Tell k.ps outermost blank (levels_of (k.o ∷ os)) s → IsFront text at top.frame.seen s
+    by [] e r t =
+        let seen_is = ap (λ (x : code_level.Level). x.frame.seen) k.top_is in
+        let places : k.o.frame.place ≡ place.Index = ap (λ (x : code_level.Level). x.frame.place) (sym k.top_is) ∙ root.place in
+        let nodes : k.o.node ≡ 0 = ap (λ (x : code_level.Level). x.node) (sym k.top_is) ∙ root.node in
+        record {
+          inside = inside;
+          head_is = head;
+          ps = k.ps;
+          tags = k.o.frame.seen;
+          seen_is = seen_is;
+          reaches = subst (λ (p : Place). Reaches text k.ps inside (fresh place.Index ∷ []) 0 (point at (record { place = p; seen = k.o.frame.seen } ∷ []) (length s.nodes))) places r;
+          tells = subst (λ (n : ℕ). Tell k.ps outermost blank (record { place = place.Index; node = n } ∷ []) s) nodes (subst (λ (p : Place). Tell k.ps outermost blank (record { place = p; node = k.o.node } ∷ []) s) places t);
+          here = root.here k.o.frame.seen seen_is;
+          back = root.back k.o.frame.seen seen_is;
+        }
+    by (o ∷ os) e r t = absurd (omega (arith, e, length-append (stacked os) (coded o ∷ [])))

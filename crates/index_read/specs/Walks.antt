@@ -1,5 +1,5 @@
 -- What a reader keeps while it goes from piece to piece.
-use Rattle.std.specs.Prelude.{◌≡◌, ◌⊎◌, IsUtf8, ℕ, List, [], ◌∷◌, ◌++◌, Bool, true, false, map, length}
+use Rattle.std.specs.Prelude.{◌≡◌, ◌≤◌, ◌⊎◌, IsUtf8, ℕ, List, [], ◌∷◌, ◌++◌, Bool, true, false, map, length}
 use Rattle.doc_fields.specs.declared.tags.Tag.{Tag}
 use Rattle.doc_elements.specs.Children.{children_of}
 use Rattle.index_model.specs.declared.errors.IndexErr.{IndexErr}
@@ -55,6 +55,20 @@ stacked (o ∷ os) = stacked os ++ coded o ∷ []
 abbrev pub Keeps : List Opened → code_level.Level → List code_level.Level → Bool → Type 0
 Keeps [] top outer done = done ≡ true
 Keeps (o ∷ os) top outer done = (done ≡ false) × (top ≡ coded o) × (outer ≡ stacked os)
+
+-- a reader of the text behind the root's start tag: the open parents that it keeps, and what was told
+pub record Kept (text : List ℕ) (inside at : ℕ) (top : code_level.Level) (outer : List code_level.Level) (s : State)
+    : Type 0 where
+  pub within : at ≤ length text
+  pub few : length s.nodes ≤ 65536
+  pub ps : List Piece
+  pub o : Opened
+  pub os : List Opened
+  pub top_is : top ≡ coded o
+  pub outer_is : outer ≡ stacked os
+  pub reaches : Reaches text ps inside (fresh place.Index ∷ []) 0
+      (record { at = at; parents = frames_of (o ∷ os); nodes = length s.nodes })
+  pub tells : Tell ps outermost blank (levels_of (o ∷ os)) s
 
 -- the pieces from the root's start tag to its end tag, and what they tell
 pub record Walked (text : List ℕ) (inside to : ℕ) (s : State) : Type 0 where

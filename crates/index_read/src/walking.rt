@@ -1,16 +1,20 @@
 //! Pieces one after the other.
 
-ghost use Rattle.std.specs.Prelude.{◌≡◌, ◌≤◌, ◌<◌, ℕ, List, true, length, OnOk, IfOk, IfErr};
-ghost use Rattle.tape_types.specs.Bounds.{most_nodes};
+ghost use Rattle.std.specs.Prelude.{◌≡◌, ◌≤◌, ◌<◌, ℕ, List, Ok, true, length, OnOk, IfOk, IfErr, IfSome, IsTrue};
 ghost use Rattle.doc_elements.specs.Schema.{is_node};
 ghost use Rattle.doc_elements.specs.declared.schema.Place.TheVariants as place;
 ghost use Rattle.doc_elements.specs.Answers.{HasRoom, UnlessMemory, piece_of};
 ghost use Rattle.index_read.specs.Drafts.{state_of};
 ghost use Rattle.index_read.specs.Told.{State, blank, node_in, piece_told};
-ghost use Rattle.doc_elements.specs.Documents.{Halted};
+ghost use Rattle.doc_elements.specs.Children.{Holds, member};
+ghost use Rattle.doc_elements.specs.Documents.{Halted, head_of};
+ghost use Rattle.doc_fields.specs.declared.tags.Tag.{Tag as TagOf};
+ghost use Rattle.doc_fields.specs.declared.tags.Tag.TheVariants.{Location, PreviousGenerationLocation};
+ghost use Rattle.index_read.specs.Fronts.{IsFront, IsRootPointed};
 ghost use Rattle.index_read.specs.Walks.{Keeps, Opened, Walked, coded, level_in, opened_after, stacked, with_tag};
 
 use crate::drafts::Draft;
+use crate::fronts::Front;
 use doc_elements::{Children, Frame, Piece, PieceErr, Place, is_node, next_piece, tag_of};
 use doc_fields::Tag;
 use std::alloc::{AllocError, Global};
@@ -136,4 +140,66 @@ pub fn walk(alloc: Global, text: &[u8], inside: usize) -> Result<(Draft, usize),
         }
     }
     unreachable!()
+}
+
+/// Whether an open parent is the root, and both pointers have stood in it.
+fn is_root_pointed(top: Level) -> bool
+    ensures { IsTrue result → IsRootPointed top }
+{
+    match top.frame.place {
+        Place::Index => top.node == 0 && tells_both(top.frame.seen),
+        _ => false,
+    }
+}
+
+fn tells_both(seen: Children) -> bool
+    ensures here { IsTrue result → (tags : List TagOf) → Holds seen tags → member Location tags ≡ true }
+    ensures back { IsTrue result → (tags : List TagOf) → Holds seen tags → member PreviousGenerationLocation tags ≡ true }
+{
+    seen.has(Tag::Location) && seen.has(Tag::PreviousGenerationLocation)
+}
+
+/// The shortest front of a text that tells both pointers behind the root's start tag, which ends at `inside`; none
+/// where nodes come before them, where the text isn't read, or where memory is refused.
+pub fn front_behind(alloc: Global, text: &[u8], inside: usize) -> Option<Front>
+    requires { inside ≤ length text.now }
+    ensures front { IfSome result (λ f. head_of place.Index text.now ≡ Ok inside
+        → IsFront text.now f.at f.seen (state_of f.draft)) }
+    ensures within { IfSome result (λ f. f.at ≤ length text.now) }
+{
+    let mut draft = Draft::new(alloc);
+    let mut outer: Vec<Level> = Vec::new(alloc);
+    let mut top = Level {
+        frame: Frame {
+            place: Place::Index,
+            seen: Children::none(),
+        },
+        node: 0,
+    };
+    let mut at = inside;
+    while draft.nodes.len() == 0 {
+        let open = outer.len();
+        if open == 0 && is_root_pointed(top) {
+            return Some(Front {
+                draft,
+                seen: top.frame.seen,
+                at,
+            });
+        }
+        let level = top;
+        let Ok((piece, next)) = next_piece(alloc, top.frame, 0, text, at) else {
+            return None;
+        };
+        at = next;
+        let Ok(done) = moved(&piece, 0, &mut top, &mut outer) else {
+            return None;
+        };
+        let Ok(()) = tell(alloc, &mut draft, level, piece) else {
+            return None;
+        };
+        if done {
+            return None;
+        }
+    }
+    None
 }

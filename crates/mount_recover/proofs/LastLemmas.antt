@@ -23,7 +23,7 @@ use Rattle.volume_scan.specs.declared.content.Construct.{Construct}
 use Rattle.volume_scan.specs.declared.content.Content.{Content}
 use Rattle.volume_scan.specs.Scans.{AreBetween, IsInPlaces, places_of}
 use Rattle.mount_recover.specs.Labels.{AreCounts}
-use Rattle.mount_recover.specs.Lasts.{AreLasts, AreLastsWith, AreSoundLasts, AreSoundWith, HasIndexAt, IsBadNewest, IsBadText, IsDocument, IsInPlace, IsKnownDp, IsKnownIp, IsLastDp, IsLastIp, IsNewest, IsNoText, IsOfNewest, IsParted, IsScan, IsSeen, IsSoundLast, IsTrueAt, index_in, ip_in, newest}
+use Rattle.mount_recover.specs.Lasts.{AreLasts, AreLastsWith, AreSoundLasts, AreSoundWith, HasIndexAt, IsBadNewest, IsBadText, IsDocument, IsInPlace, IsKnownDp, IsKnownIp, IsLastDp, IsLastIp, IsNewest, IsNoText, IsOfNewest, IsParted, IsScan, IsSeen, IsSoundLast, IsSoundRead, IsTrueAt, index_in, ip_in, newest}
 use Rattle.mount_recover.specs.declared.lasts.LastIndex.{LastIndex}
 use Rattle.mount_recover.specs.declared.lasts.Lasts.{Lasts}
 use Rattle.mount_recover.specs.declared.scans.Scans.{Scans}
@@ -285,3 +285,8 @@ pub last_in_place : (capacity : ℕ) (found : Content) (older : List Construct) 
 last_in_place capacity found older place places split =
     last_between older place 4 found.lead capacity (omega arith) (omega (arith, places.lead, places.front))
     (subst (λ (ks : List Construct). AreBetween 4 found.lead ks) split places.constructs)
+
+-- the last index of a partition is sound, whatever document it was read of
+pub sound_read : (label : Label) (capacity : ℕ) (document : List ℕ) (last : Option LastIndex) → IfSome last (IsSoundRead label capacity document) → IfSome last (IsSoundLast label capacity)
+sound_read label capacity document None read = tt
+sound_read label capacity document (Some l) read = read.sound

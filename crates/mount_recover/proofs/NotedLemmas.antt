@@ -27,8 +27,8 @@ use Rattle.volume_scan.specs.declared.content.Construct.{Construct}
 use Rattle.volume_scan.specs.Scans.{places_of}
 use Rattle.mount_recover.specs.Known.{IsKnownByNotes}
 use Rattle.mount_recover.specs.Labels.{AreLabels}
-use Rattle.mount_recover.specs.Lasts.{AreLasts, IsDocument, IsInPlace, IsKnownIp, IsLastDp, IsLastIp, IsTextOf, IsTwinAt, newest, twin_of}
-use Rattle.mount_recover.specs.Noted.{AreNotedLasts, AreTold, EndWithLasts, EndsAt, Follows, IsEnding, IsLastFrom, IsNotedLast, IsNotedText, IsOfNote, IsTold, lacks_memory}
+use Rattle.mount_recover.specs.Lasts.{AreLasts, IsDocument, IsInPlace, IsKnownIp, IsLastDp, IsLastIp, IsTwinAt, newest, twin_of}
+use Rattle.mount_recover.specs.Noted.{AreNotedLasts, AreTold, EndWithLasts, EndsAt, Follows, IsEnding, IsLastFrom, IsNotedLast, IsNotedRead, IsNotedText, IsOfNote, IsTold, lacks_memory}
 use Rattle.mount_recover.specs.declared.endings.Ending.{Ending}
 use Rattle.mount_recover.specs.declared.lasts.LastIndex.{LastIndex}
 use Rattle.mount_recover.specs.declared.lasts.Lasts.{Lasts}
@@ -296,6 +296,17 @@ sound_both labels n limits dp now before after text e (Some l) now_is low some n
       follows = some.4;
     })
 
+-- the last index of a partition was found by its note in a document, which stands there
+pub noted_read : (label : Label) (part : Part) (letter capacity : ℕ) (note : Coherency) (text document before after : List ℕ) (e : Ending) (found : Option LastIndex) → text ≡ document
+    → letter ≡ letter_of label part → 5 ≤ note.block
+    → IfSome found (λ l. (l.place ≡ e.place) × IsNotedText text label letter note e.place l.index)
+    → IsEnding capacity (note.block - 1) before after e → IfSome found (IsNotedRead label part note capacity document)
+noted_read label part letter capacity note text document before after e None same letter_is low some any = tt
+noted_read label part letter capacity note text document before after e (Some l) same letter_is low some any = record {
+  last = noted_last label part letter capacity note text before after e (Some l) letter_is low some any;
+  text = subst (λ (t : List ℕ). IndexText t l.index) same some.1.text;
+}
+
 -- both last indexes, where the second one is the first one but for its pointers
 module _ (labels : Labels) (n : Named) (limits : Limits) (dp now : LastIndex) (now_is : now ≡ dp) (e : Ending) (twin : TwinIndex) (low : 5 ≤ n.ip.block)
     (place_is : twin.place ≡ e.place) (here_is : twin.here ≡ record { letter = labels.ip.index; block = n.ip.block })
@@ -316,14 +327,14 @@ module _ (labels : Labels) (n : Named) (limits : Limits) (dp now : LastIndex) (n
 
   -- both last indexes, or the cartridge is not known by its notes
   pub alike_found : (c : Cartridge) → AreTold labels n c → IsLastDp labels.ip (Some dp) c → EndsWithLast c.dp (indexes_of c.dp)
-      → (document : List ℕ) → EndsAt c.ip document e.place → IsTextOf (twin_of dp.index twin) document
+      → (document : List ℕ) → EndsAt c.ip document e.place → IndexText document (twin_of dp.index twin)
       → MatchOption found_is (¬ IsKnownByNotes c) (λ lasts. AreLasts labels.ip lasts c × EndWithLasts c)
-  alike_found c told last dp_ends document ends written = of found_is some none
+  alike_found c told last dp_ends document ends text = of found_is some none
     where
       is_last : IsLastIp labels.ip (Some dp.index) (Some (record { index = twin_of dp.index twin; place = twin.place })) c
       is_last =
           right_twin labels limits e.place dp twin twin_at range spelled any.place noted.sound c (map places_of (reverse (indexes_of c.dp)))
-          (known_ip c labels n told dp last document e.place ends) last document ends.document_is written
+          (known_ip c labels n told dp last document e.place ends) last document ends.document_is text
 
       of : (o : Option Lasts) → IfSome o (λ l. (l ≡ found.Alike twin now) × (now.index.generation ≡ n.ip.generation)) → IfNone o (now.index.generation ≢ n.ip.generation)
           → MatchOption o (¬ IsKnownByNotes c) (λ lasts. AreLasts labels.ip lasts c × EndWithLasts c)

@@ -1,23 +1,20 @@
 -- An index of the index partition that is, but for its pointers, the last one of the data partition.
-use Rattle.std.proofs.Common.{ℕ, ◌≤◌, ◌<◌, ◌^◌, ◌≡◌, inl, List, length, Some, sym, ◌∙◌, ap, subst, arith}
-use Rattle.tape_types.specs.Bounds.{most_positions}
+use Rattle.std.proofs.Common.{ℕ, ◌≤◌, ◌^◌, ◌≡◌, inl, List, Some, sym, ◌∙◌, ap, subst, arith}
 use Rattle.tape_types.specs.declared.cartridges.Cartridge.{Cartridge}
 use Rattle.tape_types.specs.declared.cartridges.Limits.{Limits}
 use Rattle.tape_types.specs.Cartridges.{IsLimits}
-use Rattle.index_model.proofs.SomeValue.{some_value}
 use Rattle.index_model.specs.Grammar.{IndexText}
 use Rattle.index_model.specs.Texts.{IsLetter}
 use Rattle.index_model.specs.Valid.{IsSpot, IsValid}
 use Rattle.index_model.specs.declared.indexes.Index.{Index}
 use Rattle.index_model.specs.declared.indexes.Spot.{Spot}
-use Rattle.index_read.proofs.WrittenLinks.{document_read}
 use Rattle.content_laws.specs.Readings as readings
 use Rattle.content_laws.specs.Readings.{first_of}
 use Rattle.cartridge_meaning.specs.Pointers.{PointsOnIp, indexes_of}
 use Rattle.cartridge_meaning.specs.declared.labels.Labels.{Labels}
 use Rattle.volume_scan.specs.declared.content.Construct.{Construct}
 use Rattle.mount_recover.specs.Labels.{AreLabels}
-use Rattle.mount_recover.specs.Lasts.{IsDocument, IsInPlace, IsKnownIp, IsLastDp, IsLastIp, IsSoundLast, IsTextOf, IsTwinAt, twin_of}
+use Rattle.mount_recover.specs.Lasts.{IsDocument, IsInPlace, IsKnownIp, IsLastDp, IsLastIp, IsSoundLast, IsTwinAt, twin_of}
 use Rattle.mount_recover.specs.declared.lasts.LastIndex.{LastIndex}
 use Rattle.mount_recover.specs.declared.lasts.TwinIndex.{TwinIndex}
 use Rattle.mount_recover.proofs.LastLemmas.{of_newest, right_ip}
@@ -70,20 +67,13 @@ module _ (labels : Labels) (limits : Limits) (place : Construct) (dp : LastIndex
   }
 
   pub right_twin : (c : Cartridge) (dps : List Construct) → IsKnownIp labels place dps (Some dp.index) c → IsLastDp labels.ip (Some dp) c
-      → (document : List ℕ) → IsDocument document (indexes_of c.ip) → IsTextOf (twin_of dp.index twin) document
+      → (document : List ℕ) → IsDocument document (indexes_of c.ip) → IndexText document (twin_of dp.index twin)
       → IsLastIp labels.ip (Some dp.index) (Some (record { index = twin_of dp.index twin; place = twin.place })) c
-  right_twin c dps known last document is written =
+  right_twin c dps known last document is text =
       subst (λ (p : Construct). IsLastIp labels.ip (Some dp.index) (Some (record { index = twin_of dp.index twin; place = p })) c) (sym at.place_is)
       (right_ip c labels place dps (Some dp.index) known (twin_of dp.index twin)
       (of_newest labels.ip (indexes_of c.ip) document (twin_of dp.index twin) is text sound.index.uuid) points)
     where
-      text : IndexText document (twin_of dp.index twin)
-      text =
-          let v = some_value (twin_of dp.index twin) valid.formed.order in
-          let same = written.is v.0 v.1 in
-          subst (λ (t : List ℕ). IndexText t (twin_of dp.index twin)) (sym same)
-          (document_read (twin_of dp.index twin) v.0 valid v.1 (subst (λ (t : List ℕ). length t < 2 ^ 64) same written.in_memory))
-
       points : (k : readings.Construct) → place.first ≡ first_of k → PointsOnIp labels.ip k (indexes_of c.dp) (Some dp.index) (twin_of dp.index twin)
       points k first = record {
         here = at.here ∙ ap (λ (n : ℕ). record { letter = labels.ip.index; block = n }) first;

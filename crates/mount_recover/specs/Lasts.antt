@@ -14,10 +14,8 @@ use Rattle.tape_types.specs.declared.cartridges.Place.{Place}
 use Rattle.tape_types.specs.Cartridges.{items_of}
 use Rattle.coherency.specs.Notes.{HasValues}
 use Rattle.coherency.specs.declared.Coherency.{Coherency}
-use Rattle.index_model.specs.Canonical.{canonical}
 use Rattle.index_model.specs.Grammar.{IndexText, Stops}
 use Rattle.index_model.specs.Valid.{IsValid}
-use Rattle.index_model.specs.Values.{IndexValue, Tells}
 use Rattle.index_model.specs.declared.errors.IndexErr.{IndexErr}
 use Rattle.index_model.specs.declared.errors.IndexErr.TheVariants as index_errors
 use Rattle.index_model.specs.declared.indexes.Index.{Index}
@@ -194,11 +192,6 @@ pointed index here back = record index { here = here; back = Some back }
 abbrev pub twin_of : Index → TwinIndex → Index
 twin_of index twin = pointed index twin.here twin.back
 
--- a text in memory is the one that is written of an index
-pub record IsTextOf (index : Index) (text : List ℕ) : Type 0 where
-  pub is : (v : IndexValue) → Tells index v → text ≡ canonical v
-  pub in_memory : length text < 2 ^ 64
-
 -- what an index points to that stands there on the index partition, where this is the last place on the data partition
 pub record IsTwinAt (label : Label) (place dp : Construct) (twin : TwinIndex) : Type 0 where
   pub place_is : twin.place ≡ place
@@ -240,6 +233,11 @@ pub record IsSound (label : Label) (index : Index) : Type 0 where
 pub record IsSoundLast (label : Label) (capacity : ℕ) (last : LastIndex) : Type 0 where
   pub index : IsSound label last.index
   pub place : IsInPlace capacity last.place
+
+-- the same of one that was read of a document
+pub record IsSoundRead (label : Label) (capacity : ℕ) (document : List ℕ) (last : LastIndex) : Type 0 where
+  pub sound : IsSoundLast label capacity last
+  pub text : IndexText document last.index
 
 -- the last index of the data partition, and where it stands
 pub record IsLastDp (label : Label) (last : Option LastIndex) (c : Cartridge) : Type 0 where

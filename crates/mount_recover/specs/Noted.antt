@@ -178,6 +178,12 @@ pub record IsNotedLast (label : Label) (part : Part) (values : Coherency) (capac
   pub first : l.place.first ≡ values.block
   pub noted : IsAsNoted (letter_of label part) values l.place l.index
 
+-- the same of one that was read of a document
+pub record IsNotedRead (label : Label) (part : Part) (values : Coherency) (capacity : ℕ) (document : List ℕ)
+    (l : LastIndex) : Type 0 where
+  pub last : IsNotedLast label part values capacity l
+  pub text : IndexText document l.index
+
 -- an index of the index partition is no older than the last one of the data partition, and points back to it
 pub record Follows (label : Label) (index : Index) (dp : LastIndex) : Type 0 where
   pub later : dp.index.generation ≤ index.generation

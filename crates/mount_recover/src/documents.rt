@@ -48,7 +48,8 @@ pub fn read_index_at<D: Drive>(
     requires place { IsInPlace (capacity part start.limits) place }
     requires known { IfSome (D.held drive.old) (λ c. HasIndexAt (items_of part c) place) }
     ensures { IsStep D.Drive start (place.after - place.first) drive.old drive.new
-        (λ index c. IsTrueAt (items_of part c) place (λ k. IsOfVolume label.now k index)) (IsSound label.now)
+        (λ index c. IsTrueAt (items_of part c) place (λ k. IsOfVolume label.now k index))
+        (λ index. IsSound label.now index × IndexText document.new.items index)
         (λ e c. IsTrueAt (items_of part c) place (λ k. IsNoText (text_of k) label.now.uuid
         (record { part = part; pos = place.first }) e)) result }
 {

@@ -1,14 +1,14 @@
 //! The last indexes of a cartridge.
 
-ghost use Rattle.std.specs.Prelude.{◌≡◌, ◌+◌, ℕ, None, Option, Some, IfErr, IfOk, IfSome, OnOk};
+ghost use Rattle.std.specs.Prelude.{◌≡◌, ◌+◌, ℕ, None, Option, Some, IfErr, IfOk, IfSome};
 ghost use Rattle.index_model.specs.declared.indexes.Index.{Index as IndexOf};
 ghost use Rattle.cartridge_meaning.specs.Pointers.{indexes_of};
 ghost use Rattle.tape_types.specs.declared.cartridges.Cartridge.{Cartridge};
 ghost use Rattle.mount_recover.specs.Labels.{AreCounts, AreLabels};
 ghost use Rattle.mount_recover.specs.Lasts.{AreInPlaces, AreLasts, AreLastsWith, AreSoundLasts, AreSoundWith};
 ghost use Rattle.mount_recover.specs.Lasts.{IsDocument, IsInPlace, IsKnownDp, IsKnownIp};
-ghost use Rattle.mount_recover.specs.Lasts.{IsLastDp, IsLastIp, IsScan, IsSoundLast};
-ghost use Rattle.mount_recover.specs.Lasts.{IsTextOf, IsTwinAt, generation_in, pointed};
+ghost use Rattle.mount_recover.specs.Lasts.{IsLastDp, IsLastIp, IsScan, IsSoundLast, IsSoundRead};
+ghost use Rattle.mount_recover.specs.Lasts.{IsTwinAt, generation_in};
 ghost use Rattle.mount_recover.specs.Steps.{Blames, IsSince, IsStep};
 
 use crate::documents::{read_document, read_index_at, read_text};
@@ -17,11 +17,11 @@ use crate::scans::Scans;
 use crate::starts::Start;
 use cartridge_meaning::{Labels, MountErr};
 use index_model::{Index, Spot};
-use index_write::index_text;
+use index_read::repoint;
 use ltfs_label::Label;
 use std::alloc::Global;
 use tape_drive::Drive;
-use tape_types::{NoMemory, Part, Place};
+use tape_types::{Part, Place};
 use volume_scan::Construct;
 
 /// The last index of a partition, and where it stands.
@@ -96,7 +96,8 @@ fn last_on_dp<D: Drive>(
     requires known { IfSome (D.held drive.old) (IsScan basis.now.labels.now basis.now.scans.now) }
     ensures { IsStep D.Drive basis.now.start (1 + basis.now.start.limits.cap_dp) drive.old drive.new
         (IsLastDp basis.now.labels.now.ip)
-        (λ last. IfSome last (IsSoundLast basis.now.labels.now.ip basis.now.start.limits.cap_dp)) Blames result }
+        (λ last. IfSome last (IsSoundRead basis.now.labels.now.ip basis.now.start.limits.cap_dp document.new.items))
+        Blames result }
 {
     match basis.scans.dp.constructs.as_slice().split_last() {
         None => Ok(None),
@@ -117,7 +118,8 @@ fn read_on_dp<D: Drive>(
     requires known { IfSome (D.held drive.old) (IsKnownDp basis.now.labels.now place older.now) }
     ensures { IsStep D.Drive basis.now.start (1 + basis.now.start.limits.cap_dp) drive.old drive.new
         (IsLastDp basis.now.labels.now.ip)
-        (λ last. IfSome last (IsSoundLast basis.now.labels.now.ip basis.now.start.limits.cap_dp)) Blames result }
+        (λ last. IfSome last (IsSoundRead basis.now.labels.now.ip basis.now.start.limits.cap_dp document.new.items))
+        Blames result }
 {
     let label = &basis.labels.ip;
     let index = read_index_at(
@@ -150,7 +152,7 @@ fn last_on_ip<D: Drive>(
     requires places { AreInPlaces basis.now.start.limits basis.now.scans.now }
     requires known { IfSome (D.held drive.old) (IsScan basis.now.labels.now basis.now.scans.now) }
     requires dp { IfSome (D.held drive.old) (IsLastDp basis.now.labels.now.ip dp) }
-    requires sound_dp { IfSome dp (IsSoundLast basis.now.labels.now.ip basis.now.start.limits.cap_dp) }
+    requires sound_dp { IfSome dp (IsSoundRead basis.now.labels.now.ip basis.now.start.limits.cap_dp document.old.items) }
     ensures { IsStep D.Drive basis.now.start (1 + basis.now.start.limits.cap_ip) drive.old drive.new
         (AreLastsWith basis.now.labels.now.ip dp)
         (AreSoundWith basis.now.labels.now.ip basis.now.start.limits.cap_ip dp) Blames result }
@@ -193,7 +195,7 @@ fn read_alone<D: Drive>(
 }
 
 /// Reads the last index of the index partition beside that of the data partition, which it mostly is but for its
-/// pointers.
+/// pointers. The document of the data partition's stands there.
 fn read_beside<D: Drive>(
     drive: &mut D,
     basis: &Basis<'_>,
@@ -207,18 +209,14 @@ fn read_beside<D: Drive>(
     requires known { IfSome (D.held drive.old)
         (IsKnownIp basis.now.labels.now place basis.now.scans.now.dp.constructs (Some dp.index)) }
     requires dp { IfSome (D.held drive.old) (IsLastDp basis.now.labels.now.ip (Some dp)) }
-    requires sound_dp { IsSoundLast basis.now.labels.now.ip basis.now.start.limits.cap_dp dp }
+    requires sound_dp { IsSoundRead basis.now.labels.now.ip basis.now.start.limits.cap_dp document.old.items dp }
     ensures { IsStep D.Drive basis.now.start (1 + basis.now.start.limits.cap_ip) drive.old drive.new
         (AreLastsWith basis.now.labels.now.ip (Some dp))
         (AreSoundWith basis.now.labels.now.ip basis.now.start.limits.cap_ip (Some dp)) Blames result }
 {
-    let mut dp = dp;
     let twin = twin_at(&basis.labels.ip, place, dp.place);
-    match write_twin(&mut dp.index, twin.here, twin.back, document) {
-        Ok(()) => {}
-        Err(NoMemory) => return Err(MountErr::NoMemory),
-    }
-    if read_document(
+    let likely = repoint(basis.alloc, document, twin.here, twin.back);
+    let same = read_document(
         basis.alloc,
         drive,
         basis.start,
@@ -226,7 +224,8 @@ fn read_beside<D: Drive>(
         place,
         basis.labels.ip.block,
         document,
-    )? {
+    )?;
+    if likely && same {
         return Ok(Lasts::Alike { ip: twin, dp });
     }
     let generation = Some(dp.index.generation);
@@ -252,27 +251,6 @@ fn twin_at(label: &Label, place: Construct, dp: Construct) -> TwinIndex
             block: dp.first,
         },
     }
-}
-
-/// Puts the text of an index with these pointers in place of a document.
-pub fn write_twin(
-    index: &mut Index,
-    here: Spot,
-    back: Spot,
-    document: &mut Vec<u8>,
-) -> Result<(), NoMemory>
-    ensures index { index.new ≡ index.old }
-    ensures text { OnOk result (IsTextOf (pointed index.old here back) document.new.items) }
-{
-    let (was_here, was_back) = (index.here, index.back);
-    index.here = here;
-    index.back = Some(back);
-    document.clear();
-    let done = index_text(index, document);
-    let _in_memory = document.len();
-    index.here = was_here;
-    index.back = was_back;
-    done
 }
 
 /// The last index of the index partition, whose document this is, beside one of this generation on the data partition,

@@ -14,7 +14,7 @@ ghost use Rattle.mount_recover.specs.Known.{IsKnownByNotes, blocks_of_newest, la
 ghost use Rattle.mount_recover.specs.Labels.{AreLabels};
 ghost use Rattle.mount_recover.specs.Lasts.{AreLasts, IsLastDp, IsSoundChoice, dp_in};
 ghost use Rattle.mount_recover.specs.Noted.{AreNotes, AreNotedLasts, AreTold, CanBegin, EndWithLasts, EndsAt};
-ghost use Rattle.mount_recover.specs.Noted.{Follows, IsAsNoted, IsChosenByNotes, IsNotedLast, IsNotedText};
+ghost use Rattle.mount_recover.specs.Noted.{Follows, IsAsNoted, IsChosenByNotes, IsNotedRead, IsNotedText};
 ghost use Rattle.mount_recover.specs.Noted.{IsOfNote, IsTold};
 ghost use Rattle.mount_recover.specs.Noted.{lacks_memory};
 ghost use Rattle.mount_recover.specs.declared.lasts.LastIndex.{LastIndex as LastOf};
@@ -25,13 +25,13 @@ ghost use Rattle.mount_recover.specs.Steps.{IsFree, IsSince, IsStepBy};
 
 use crate::choices::{Choice, decide, ends_noted};
 use crate::endings::read_ending;
-use crate::lasts::{LastIndex, Lasts, TwinIndex, write_twin};
+use crate::lasts::{LastIndex, Lasts, TwinIndex};
 use crate::notes::{Named, Notes, what_is_named};
 use crate::starts::Start;
 use cartridge_meaning::{Labels, MountErr};
 use coherency::Coherency;
 use index_model::{Index, IndexErr, Spot};
-use index_read::read_index;
+use index_read::{read_index, repoint};
 use ltfs_label::Label;
 use std::alloc::Global;
 use tape_drive::Drive;
@@ -129,7 +129,8 @@ fn noted_on_dp<D: Drive>(
     ensures { IsStepBy D.Drive start start.limits.cap_dp (λ c n. n ≤ 4 + blocks_of_newest (indexes_of c.dp))
         drive.old drive.new (λ found c. MatchOption found (¬ EndsWithLast c.dp (indexes_of c.dp))
         (λ last. IsLastDp labels.now.ip (Some last) c × EndsWithLast c.dp (indexes_of c.dp)))
-        (λ found. IfSome found (IsNotedLast labels.now.ip Dp note start.limits.cap_dp)) IsFree result }
+        (λ found. IfSome found (IsNotedRead labels.now.ip Dp note start.limits.cap_dp document.new.items))
+        IsFree result }
 {
     match read_ending(alloc, drive, start, Part::Dp, note.block - 1, document) {
         Ok(Some(e)) => {
@@ -151,7 +152,8 @@ fn noted_on_dp<D: Drive>(
 }
 
 /// The last indexes, where that of the data partition is this one, the note of the index partition names its last one,
-/// and that partition ends with it. Mostly it is the other one but for its pointers.
+/// and that partition ends with it. Mostly it is the other one but for its pointers. The document of the data
+/// partition's stands there.
 fn noted_on_ip<D: Drive>(
     alloc: Global,
     drive: &mut D,
@@ -164,7 +166,7 @@ fn noted_on_ip<D: Drive>(
     requires since { IsSince D.Drive start drive.old }
     requires sound { AreLabels labels.now }
     requires begins { CanBegin start.limits.cap_ip named.ip.block }
-    requires noted { IsNotedLast labels.now.ip Dp named.dp start.limits.cap_dp dp }
+    requires noted { IsNotedRead labels.now.ip Dp named.dp start.limits.cap_dp document.old.items dp }
     requires known { IfSome (D.held drive.old) (λ c. AreTold labels.now named c × IsLastDp labels.now.ip (Some dp) c
         × EndsWithLast c.dp (indexes_of c.dp)) }
     ensures { IsStepBy D.Drive start start.limits.cap_ip (λ c n. n ≤ 4 + blocks_of_newest (indexes_of c.ip))
@@ -172,7 +174,6 @@ fn noted_on_ip<D: Drive>(
         (λ lasts. AreLasts labels.now.ip lasts c × EndWithLasts c))
         (λ found. IfSome found (AreNotedLasts labels.now.ip named start.limits)) IsFree result }
 {
-    let mut dp = dp;
     let here = Spot {
         letter: labels.ip.index,
         block: named.ip.block,
@@ -181,13 +182,10 @@ fn noted_on_ip<D: Drive>(
         letter: labels.ip.dpart,
         block: dp.place.first,
     };
-    match write_twin(&mut dp.index, here, back, document) {
-        Ok(()) => {}
-        Err(NoMemory) => return Err(MountErr::NoMemory),
-    }
+    let likely = repoint(alloc, document, here, back);
     match read_ending(alloc, drive, start, Part::Ip, named.ip.block - 1, document) {
         Ok(Some(e)) => {
-            if e.same {
+            if likely && e.same {
                 let place = e.place;
                 Ok(alike(named.ip, TwinIndex { place, here, back }, dp))
             } else {

@@ -10,17 +10,10 @@ use Rattle.index_read.specs.declared.walking.Level as code_level
 use Rattle.doc_elements.specs.Answers.{HasRoom, piece_of}
 use Rattle.index_read.specs.Drafts.{state_of}
 use Rattle.index_read.specs.Told.{State, Level, Tell, blank, outermost, piece_told}
-use Rattle.index_read.specs.Walks.{Opened, Keeps, frames_of, level_in, level_of, levels_of, opened_after}
-use Rattle.index_read.proofs.Steps.{halted_at, reaches_next, tells_next, few_next, is_walked, at_top}
+use Rattle.index_read.specs.Walks.{Kept, Opened, Keeps, frames_of, level_in, level_of, levels_of, opened_after}
+use Rattle.index_read.proofs.Steps.{halted_at, is_kept, reaches_next, tells_next, few_next, is_walked, at_top}
 use Rattle.doc_elements.proofs.Steps.{point}
-use Rattle.index_read.proofs.walking.walk.Invariants.{Kept}
 use Rattle.index_read.proofs.walking.walk.Goals as goal
-
-is_kept : (text : List ℕ) (ps : List Piece) (inside next : ℕ) (os : List Opened) (top : code_level.Level) (outer : List code_level.Level) (done : Bool) (s : State)
-    → Reaches text ps inside (fresh place.Index ∷ []) 0 (point next (frames_of os) (length s.nodes)) → Tell ps outermost blank (levels_of os) s → Keeps os top outer done → done ≡ false
-    → next ≤ length text → length s.nodes ≤ most_nodes → Kept text inside next top outer s
-is_kept text ps inside next [] top outer done s r t k d le few = let same : true ≡ false = sym k ∙ d in absurd (cc)
-is_kept text ps inside next (o ∷ os) top outer done s r t k d le few = record { within = le; few = few; ps = ps; o = o; os = os; top_is = k.1; outer_is = k.2; reaches = r; tells = t }
 
 pub loop-at-init : goal.loop-at-init
 loop-at-init c =

@@ -1,6 +1,7 @@
 use Rattle.std.proofs.Common.{◌≡◌, List, ℕ, subst, sym, arith}
 use Rattle.tape_types.specs.Cartridges.{items_of}
 use Rattle.cartridge_meaning.specs.Pointers.{text_of}
+use Rattle.index_model.specs.Grammar.{IndexText}
 use Rattle.index_read.proofs.ValidIndexes.{index_valid}
 use Rattle.mount_recover.specs.Lasts.{IsTrueAt}
 use Rattle.mount_recover.proofs.LastLemmas.{bad_counts, free_at, no_text_at, of_volume_at}
@@ -19,7 +20,10 @@ returns-in-Ok g c =
     (λ held h is. of_volume_at c.args.label.now (items_of c.args.part held) c.args.place c.as_slice.result.now c.in-Ok.index
     (subst (λ (t : List ℕ). IsTrueAt (items_of c.args.part held) c.args.place (λ k. t ≡ text_of k)) (sym c.as_slice.ensures.value) is)
     c.in-Ok.ensures.found.0 c.in-Ok.ensures.found.1)
-    (λ unit. record { valid = index_valid c.as_slice.result.now c.in-Ok.index c.in-Ok.ensures.found.0; uuid = c.in-Ok.ensures.found.1 })
+    (λ unit. (
+      record { valid = index_valid c.as_slice.result.now c.in-Ok.index c.in-Ok.ensures.found.0; uuid = c.in-Ok.ensures.found.1 },
+      subst (λ (t : List ℕ). IndexText t c.in-Ok.index) c.as_slice.ensures.value c.in-Ok.ensures.found.0,
+    ))
 
 pub returns-in-Err : goal.returns-in-Err
 returns-in-Err g c =

@@ -2,7 +2,7 @@ use Rattle.std.proofs.Common.{Option, subst, sym, arith}
 use Rattle.std.specs.Prelude.{IfSome}
 use Rattle.tape_types.specs.declared.cartridges.Cartridge.{Cartridge}
 use Rattle.mount_recover.specs.Lasts.{IsLastDp, IsScan}
-use Rattle.mount_recover.proofs.LastLemmas.{are_lasts, are_sound}
+use Rattle.mount_recover.proofs.LastLemmas.{are_lasts, are_sound, sound_read}
 use Rattle.mount_recover.proofs.StepLemmas.{given_step, known, stops, then_step}
 use Rattle.mount_recover.proofs.lasts.read_lasts.Goals as goal
 
@@ -23,5 +23,5 @@ pub returns : goal.returns
 returns g c =
     then_step g.D.Drive c.args.start c.in_ok-dp.ensures c.last_on_ip.ensures
     (λ held h dp lasts with. are_lasts c.args.labels.now.ip c.in_ok-dp.dp lasts held dp with)
-    (λ dp lasts with. are_sound c.args.labels.now.ip c.args.start.limits c.in_ok-dp.dp lasts dp with)
+    (λ dp lasts with. are_sound c.args.labels.now.ip c.args.start.limits c.in_ok-dp.dp lasts (sound_read _ _ _ c.in_ok-dp.dp dp) with)
     (λ held h dp e blames. blames)

@@ -28,4 +28,4 @@ returns g c =
     (λ held h of. right_dp held c.args.basis.now.labels.now c.args.place c.args.older.now
     (at_told (IsKnownDp c.args.basis.now.labels.now c.args.place c.args.older.now) h c.requires.known) c.in_ok-index.index of
     (λ k ks first are. (c.points_on_dp.ensures k ks first are).0 c.if-not-points_on_dp.false))
-    (λ sound. record { index = sound; place = c.requires.place })
+    (λ read. record { sound = record { index = read.0; place = c.requires.place }; text = read.1 })

@@ -1,0 +1,276 @@
+-- A text with another front, in which other pointers stand, is read as the same index with these pointers.
+use Rattle.std.proofs.Common.{◌≡◌, ℕ, zero, suc, ◌+◌, Bool, true, false, cond, not, ◌==◌, ◌&&◌, ◌||◌, List, [], ◌∷◌, ◌++◌, length, take, drop, ◌≤◌, Option, Some, None, Result, Ok, Err, IsUtf8, refl, sym, ap, subst, ◌∙◌, arith}
+use Rattle.std.proofs.lemmas.List.{length-take-le, take-append-drop}
+use Rattle.std.proofs.lemmas.Str.{IsCharBoundary-from_take, IsUtf8-append, IsUtf8-drop}
+use Rattle.doc_fields.specs.declared.tags.Tag.{Tag}
+use Rattle.doc_fields.specs.declared.tags.Tag.TheVariants.{Location, LtfsIndex, PreviousGenerationLocation}
+use Rattle.doc_fields.specs.Space.{space_end}
+use Rattle.doc_elements.specs.declared.children.Children.{Children}
+use Rattle.doc_elements.specs.declared.errors.PieceErr.{PieceErr}
+use Rattle.doc_elements.specs.declared.schema.Place.{Place}
+use Rattle.doc_elements.specs.declared.schema.Place.TheVariants as place
+use Rattle.doc_elements.specs.declared.schema.Child.TheVariants as child
+use Rattle.doc_elements.specs.Children.{Holds, bits_of, children_of, code, first_missing, member}
+use Rattle.doc_elements.specs.Documents.{Accepts, Point, Reaches, after, counted, fresh, head_of, with_child}
+use Rattle.doc_elements.specs.Elements.{Item, plain, MayFollow}
+use Rattle.doc_elements.specs.Pieces.{Frame, Piece, closes, has_any, leaf, opens, piece_at, whole}
+use Rattle.doc_elements.specs.Schema.{excludes, may_repeat, required, rule, tag_of}
+use Rattle.doc_elements.proofs.Bits.{has_is}
+use Rattle.doc_elements.proofs.Inversion.{ParentStarts, What, is_piece, piece_is}
+use Rattle.index_model.specs.declared.indexes.Index.{Index}
+use Rattle.index_model.specs.declared.indexes.Spot.{Spot}
+use Rattle.index_model.specs.Grammar.{IndexText}
+use Rattle.index_model.specs.Valid.{Agrees}
+use Rattle.index_model.specs.Values.{VolumeFacts, volume_of}
+use Rattle.index_read.specs.Fronts.{IsFront, repointed, with_pointers}
+use Rattle.index_read.specs.Told.{State, Level, Tell, begun, blank, ended, leaf_told, levels_after, node_in, outermost, piece_told}
+use Rattle.index_read.specs.Walks.{IsReadAs, IsWhole, Opened, frames_of, level_of, levels_of, opened_after, with_tag}
+use Rattle.index_read.proofs.Answered.{read_text}
+use Rattle.index_read.proofs.Exact.{Read, spelled_whole}
+use Rattle.index_read.proofs.Facts.{member_later}
+use Rattle.index_read.proofs.FurtherPieces.{moved, past, past_all, past_is, reaches_back, reaches_past, same_past, space_past}
+use Rattle.index_read.proofs.Trees.{tell_append}
+
+-- ---- the order in which children have stood there doesn't count
+
+abbrev Same : List Tag → List Tag → Type 0
+Same seen tags = (t : Tag) → member t seen ≡ member t tags
+
+any_alike : (xs seen tags : List Tag) → Same seen tags → has_any xs seen ≡ has_any xs tags
+any_alike [] seen tags same = refl
+any_alike (x ∷ xs) seen tags same = rw (same x, any_alike xs seen tags same) refl
+
+missing_alike : (xs seen tags : List Tag) → Same seen tags → first_missing xs seen ≡ first_missing xs tags
+missing_alike [] seen tags same = refl
+missing_alike (x ∷ xs) seen tags same = rw (same x, missing_alike xs seen tags same) refl
+
+follows_alike : (p : Place) (seen tags : List Tag) (tag : Tag) → Same seen tags → MayFollow p seen tag → MayFollow p tags tag
+follows_alike p seen tags tag same m = record {
+  alone = sym (any_alike (excludes tag) seen tags same) ∙ m.alone;
+  once = subst (λ (b : Bool). (b && not (may_repeat p tag)) ≡ false) (same tag) m.once;
+}
+
+abbrev frame : Place → List Tag → Frame
+frame p seen = record { place = p; seen = seen }
+
+what_alike : (text : List ℕ) (p : Place) (seen tags : List Tag) (nodes at : ℕ) (x : Piece) (next : ℕ) → Same seen tags → What text (frame p seen) nodes at x next → What text (frame p tags) nodes at x next
+what_alike text p seen tags nodes at closes next same w = (w.0, sym (missing_alike (required p) seen tags same) ∙ w.1)
+what_alike text p seen tags nodes at (leaf tag v) next same w = (w.0, w.1, w.2, follows_alike p seen tags tag same w.3, w.4)
+what_alike text p seen tags nodes at (opens q) next same w = (w.0, record { starts = w.1.starts; follows = follows_alike p seen tags (tag_of q) same w.1.follows }, w.2, w.3, w.4)
+what_alike text p seen tags nodes at (whole q) next same w = (w.0, record { starts = w.1.starts; follows = follows_alike p seen tags (tag_of q) same w.1.follows }, w.2, w.3, w.4, w.5)
+
+piece_alike : (text : List ℕ) (p : Place) (seen tags : List Tag) (nodes at : ℕ) (x : Piece) (next : ℕ) → Same seen tags → piece_at (frame p seen) nodes text at ≡ Ok (x, next) → piece_at (frame p tags) nodes text at ≡ Ok (x, next)
+piece_alike text p seen tags nodes at x next same e = is_piece text (frame p tags) nodes at x next (what_alike text p seen tags nodes (space_end text at) x next same (piece_is text (frame p seen) nodes at x next e))
+
+more_alike : (t : Tag) (seen tags : List Tag) → Same seen tags → Same (t ∷ seen) (t ∷ tags)
+more_alike t seen tags same u = ap (λ b. code u == code t || b) (same u)
+
+-- the outermost parent with its children in another order, behind other open parents
+abbrev above : List Frame → Place → List Tag → List Frame
+above [] p seen = frame p seen ∷ []
+above (f ∷ fs) p seen = f ∷ above fs p seen
+
+reaches_alike : (text : List ℕ) (ps : List Piece) (at : ℕ) (fs : List Frame) (p : Place) (seen tags : List Tag) (nodes : ℕ) (end : Point) → Same seen tags → end.parents ≡ []
+    → Reaches text ps at (above fs p seen) nodes end → Reaches text ps at (above fs p tags) nodes end
+reaches_alike text [] at [] p seen tags nodes end same none r = absurd (let bad : [] ≡ frame p seen ∷ [] = sym none ∙ ap (λ (x : Point). x.parents) r in cc)
+reaches_alike text [] at (f ∷ fs) p seen tags nodes end same none r = absurd (let bad : [] ≡ f ∷ above fs p seen = sym none ∙ ap (λ (x : Point). x.parents) r in cc)
+reaches_alike text (closes ∷ ps) at [] p seen tags nodes end same none r = (r.0, piece_alike text p seen tags nodes at closes r.0 same r.1, r.2)
+reaches_alike text (leaf tag v ∷ ps) at [] p seen tags nodes end same none r =
+    (r.0, piece_alike text p seen tags nodes at (leaf tag v) r.0 same r.1, reaches_alike text ps r.0 [] p (tag ∷ seen) (tag ∷ tags) nodes end (more_alike tag seen tags same) none r.2)
+reaches_alike text (whole q ∷ ps) at [] p seen tags nodes end same none r =
+    (r.0, piece_alike text p seen tags nodes at (whole q) r.0 same r.1, reaches_alike text ps r.0 [] p (tag_of q ∷ seen) (tag_of q ∷ tags) (counted (whole q) nodes) end (more_alike (tag_of q) seen tags same) none r.2)
+reaches_alike text (opens q ∷ ps) at [] p seen tags nodes end same none r =
+    (r.0, piece_alike text p seen tags nodes at (opens q) r.0 same r.1, reaches_alike text ps r.0 (fresh q ∷ []) p (tag_of q ∷ seen) (tag_of q ∷ tags) (counted (opens q) nodes) end (more_alike (tag_of q) seen tags same) none r.2)
+reaches_alike text (closes ∷ ps) at (f ∷ fs) p seen tags nodes end same none r = (r.0, r.1, reaches_alike text ps r.0 fs p seen tags nodes end same none r.2)
+reaches_alike text (leaf tag v ∷ ps) at (f ∷ fs) p seen tags nodes end same none r = (r.0, r.1, reaches_alike text ps r.0 (with_child tag f ∷ fs) p seen tags nodes end same none r.2)
+reaches_alike text (whole q ∷ ps) at (f ∷ fs) p seen tags nodes end same none r = (r.0, r.1, reaches_alike text ps r.0 (with_child (tag_of q) f ∷ fs) p seen tags (counted (whole q) nodes) end same none r.2)
+reaches_alike text (opens q ∷ ps) at (f ∷ fs) p seen tags nodes end same none r = (r.0, r.1, reaches_alike text ps r.0 (fresh q ∷ with_child (tag_of q) f ∷ fs) p seen tags (counted (opens q) nodes) end same none r.2)
+
+-- the same children, by the bits that stand for them
+same_children : (c : Children) (seen tags : List Tag) → Holds c seen → Holds c tags → Same seen tags
+same_children c seen tags h k t =
+    let bits : bits_of seen ≡ bits_of tags = ap (λ (x : Children). x.bits) (sym h ∙ k) in
+    sym (has_is t seen) ∙ rw bits (has_is t tags)
+
+-- ---- behind the pointers nothing tells of them
+
+-- an open parent in which no pointer can begin or be told
+abbrev Free : Place → List Tag → Type 0
+Free place.Here seen = ⊥
+Free place.Back seen = ⊥
+Free place.Index seen = (member Location seen ≡ true) × (member PreviousGenerationLocation seen ≡ true)
+Free _ seen = Unit {0}
+
+abbrev AllFree : List Opened → Type 0
+AllFree [] = Unit {0}
+AllFree (o ∷ os) = Free o.frame.place o.frame.seen × AllFree os
+
+twice : (t : Tag) (seen : List Tag) → member t seen ≡ true → (member t seen && true) ≡ false → ⊥
+twice t seen there once = let bad : true ≡ false = sym (rw there refl) ∙ once in cc
+
+no_here : (p : Place) (seen : List Tag) → Free p seen → rule p Location ≡ child.Parent place.Here → MayFollow p seen Location → ⊥
+no_here place.Index seen free is m = twice Location seen free.0 m.once
+no_here place.Here seen free is m = free
+no_here place.Back seen free is m = free
+no_here _ seen free is m = absurd (cc (is))
+
+no_back : (p : Place) (seen : List Tag) → Free p seen → rule p PreviousGenerationLocation ≡ child.Parent place.Back → MayFollow p seen PreviousGenerationLocation → ⊥
+no_back place.Index seen free is m = twice PreviousGenerationLocation seen free.1 m.once
+no_back place.Here seen free is m = free
+no_back place.Back seen free is m = free
+no_back _ seen free is m = absurd (cc (is))
+
+no_index : (p : Place) → rule p LtfsIndex ≡ child.Parent place.Index → ⊥
+no_index place.Index is = absurd (cc (is))
+no_index _ is = absurd (cc (is))
+
+opens_free : (q p : Place) (seen : List Tag) → Free p seen → rule p (tag_of q) ≡ child.Parent q → MayFollow p seen (tag_of q) → Free q []
+opens_free place.Here p seen free is m = no_here p seen free is m
+opens_free place.Back p seen free is m = no_back p seen free is m
+opens_free place.Index p seen free is m = absurd (no_index p is)
+opens_free _ p seen free is m = tt
+
+child_free : (tag : Tag) (p : Place) (seen : List Tag) → Free p seen → Free p (tag ∷ seen)
+child_free tag place.Here seen free = free
+child_free tag place.Back seen free = free
+child_free tag place.Index seen free = (member_later Location tag seen free.0, member_later PreviousGenerationLocation tag seen free.1)
+child_free tag _ seen free = tt
+
+module _ (here back : Spot) where
+  begun_kept : (q : Place) (seen : List Tag) (node : ℕ) (s : State) → Free q seen → begun q node (repointed here back s) ≡ repointed here back (begun q node s)
+  begun_kept place.Here seen node s free = absurd free
+  begun_kept place.Back seen node s free = absurd free
+  begun_kept _ seen node s free = refl
+
+  leaf_kept : (q : Place) (seen : List Tag) (node : ℕ) (i : Item) (s : State) → Free q seen → leaf_told q node i (repointed here back s) ≡ repointed here back (leaf_told q node i s)
+  leaf_kept place.Here seen node i s free = absurd free
+  leaf_kept place.Back seen node i s free = absurd free
+  leaf_kept _ seen node i s free = refl
+
+  ended_kept : (q : Place) (node : ℕ) (s : State) → ended q node (repointed here back s) ≡ repointed here back (ended q node s)
+  ended_kept place.Extent node s = refl
+  ended_kept _ node s = refl
+
+  -- pieces behind the pointers tell the same, whatever these are
+  tell_kept : (text : List ℕ) (ps : List Piece) (at : ℕ) (os : List Opened) (nodes : ℕ) (end : Point) (s : State) (ms : List Level) (t : State) → AllFree os
+      → Reaches text ps at (frames_of os) nodes end → Tell ps (levels_of os) s ms t → Tell ps (levels_of os) (repointed here back s) ms (repointed here back t)
+  tell_kept text [] at os nodes end s ms t free r h = (h.0, ap (repointed here back) h.1)
+  tell_kept text (p ∷ ps) at [] nodes end s ms t free r h = h
+  tell_kept text (closes ∷ ps) at (o ∷ os) nodes end s ms t free r h =
+      subst (λ (x : State). Tell ps (levels_of os) x ms (repointed here back t)) (sym (ended_kept o.frame.place o.node s))
+      (tell_kept text ps r.0 os nodes end (ended o.frame.place o.node s) ms t free.1 r.2 h)
+  tell_kept text (leaf tag v ∷ ps) at (o ∷ os) nodes end s ms t free r h =
+      subst (λ (x : State). Tell ps (levels_of (o ∷ os)) x ms (repointed here back t)) (sym (leaf_kept o.frame.place o.frame.seen o.node (plain tag v) s free.0))
+      (tell_kept text ps r.0 (with_tag tag o ∷ os) nodes end (leaf_told o.frame.place o.node (plain tag v) s) ms t (child_free tag o.frame.place o.frame.seen free.0, free.1) r.2 h)
+  tell_kept text (opens q ∷ ps) at (o ∷ os) nodes end s ms t free r h =
+      let w = piece_is text o.frame nodes at (opens q) r.0 r.1 in
+      let inner = opens_free q o.frame.place o.frame.seen free.0 w.1.starts.child w.1.follows in
+      subst (λ (x : State). Tell ps (record { place = q; node = node_in q o.node s } ∷ levels_of (o ∷ os)) x ms (repointed here back t)) (sym (begun_kept q [] o.node s inner))
+      (tell_kept text ps r.0 (record { frame = fresh q; node = node_in q o.node s } ∷ with_tag (tag_of q) o ∷ os) (counted (opens q) nodes) end (begun q o.node s) ms t (inner, (child_free (tag_of q) o.frame.place o.frame.seen free.0, free.1)) r.2 h)
+  tell_kept text (whole q ∷ ps) at (o ∷ os) nodes end s ms t free r h =
+      let w = piece_is text o.frame nodes at (whole q) r.0 r.1 in
+      let inner = opens_free q o.frame.place o.frame.seen free.0 w.1.starts.child w.1.follows in
+      let both : ended q (node_in q o.node s) (begun q o.node (repointed here back s)) ≡ repointed here back (ended q (node_in q o.node s) (begun q o.node s)) =
+          ap (ended q (node_in q o.node s)) (begun_kept q [] o.node s inner) ∙ ended_kept q (node_in q o.node s) (begun q o.node s) in
+      subst (λ (x : State). Tell ps (levels_of (o ∷ os)) x ms (repointed here back t)) (sym both)
+      (tell_kept text ps r.0 (with_tag (tag_of q) o ∷ os) (counted (whole q) nodes) end (ended q (node_in q o.node s) (begun q o.node s)) ms t (child_free (tag_of q) o.frame.place o.frame.seen free.0, free.1) r.2 h)
+
+-- ---- a front and what follows
+
+-- two walks from one point: the longer goes on where the shorter ends
+split_at : (text : List ℕ) (qs ps : List Piece) (at : ℕ) (fs : List Frame) (nodes to : ℕ) (g : Frame) (gs : List Frame) (n : ℕ) (end : Point)
+    → Reaches text qs at fs nodes (record { at = to; parents = g ∷ gs; nodes = n }) → Reaches text ps at fs nodes end → end.parents ≡ []
+    → (rs : List Piece) × (ps ≡ qs ++ rs) × Reaches text rs to (g ∷ gs) n end
+split_at text [] ps at fs nodes to g gs n end r s none =
+    let places : at ≡ to = sym (ap (λ (x : Point). x.at) r) in
+    let parents : fs ≡ g ∷ gs = sym (ap (λ (x : Point). x.parents) r) in
+    let counts : nodes ≡ n = sym (ap (λ (x : Point). x.nodes) r) in
+    (ps, refl, subst (λ (k : ℕ). Reaches text ps to (g ∷ gs) k end) counts (subst (λ (hs : List Frame). Reaches text ps to hs nodes end) parents (subst (λ (k : ℕ). Reaches text ps k fs nodes end) places s)))
+split_at text (q ∷ qs) ps at [] nodes to g gs n end r s none = absurd r
+split_at text (q ∷ qs) [] at (f ∷ fs) nodes to g gs n end r s none = absurd (let bad : [] ≡ f ∷ fs = sym none ∙ ap (λ (x : Point). x.parents) s in cc)
+split_at text (q ∷ qs) (p ∷ ps) at (f ∷ fs) nodes to g gs n end r s none =
+    let both : ◌≡◌ {A = Result (Piece × ℕ) PieceErr} (Ok (p, s.0)) (Ok (q, r.0)) = sym s.1 ∙ r.1 in
+    let pair : ◌≡◌ {A = Piece × ℕ} (p, s.0) (q, r.0) = cc in
+    let tops : p ≡ q = ap (λ (x : Piece × ℕ). x.0) pair in
+    let nexts : s.0 ≡ r.0 = ap (λ (x : Piece × ℕ). x.1) pair in
+    let more : Reaches text ps r.0 (after q f fs) (counted q nodes) end = subst (λ (k : ℕ). Reaches text ps k (after q f fs) (counted q nodes) end) nexts (subst (λ (x : Piece). Reaches text ps s.0 (after x f fs) (counted x nodes) end) tops s.2) in
+    let rest = split_at text qs ps r.0 (after q f fs) (counted q nodes) to g gs n end r.2 more none in
+    let all : p ∷ ps ≡ q ∷ (qs ++ rest.0) = λ i. tops i ∷ rest.1 i in
+    (rest.0, all, rest.2)
+
+tell_split : (qs rs : List Piece) (ls : List Level) (s : State) (ms : List Level) (u : State) (ns : List Level) (t : State) → Tell qs ls s ms u → Tell (qs ++ rs) ls s ns t → Tell rs ms u ns t
+tell_split [] rs ls s ms u ns t h k = subst (λ (x : State). Tell rs ms x ns t) h.1 (subst (λ (x : List Level). Tell rs x s ns t) h.0 k)
+tell_split (q ∷ qs) rs [] s ms u ns t h k = absurd h
+tell_split (q ∷ qs) rs (l ∷ ls) s ms u ns t h k = tell_split qs rs (levels_after q l ls s) (piece_told q l s) ms u ns t h k
+
+reaches_join : (text : List ℕ) (qs rs : List Piece) (at : ℕ) (fs : List Frame) (nodes to : ℕ) (gs : List Frame) (n : ℕ) (end : Point)
+    → Reaches text qs at fs nodes (record { at = to; parents = gs; nodes = n }) → Reaches text rs to gs n end → Reaches text (qs ++ rs) at fs nodes end
+reaches_join text [] rs at fs nodes to gs n end r s =
+    let places : to ≡ at = ap (λ (x : Point). x.at) r in
+    let parents : gs ≡ fs = ap (λ (x : Point). x.parents) r in
+    let counts : n ≡ nodes = ap (λ (x : Point). x.nodes) r in
+    subst (λ (k : ℕ). Reaches text rs at fs k end) counts (subst (λ (hs : List Frame). Reaches text rs at hs n end) parents (subst (λ (k : ℕ). Reaches text rs k gs n end) places s))
+reaches_join text (q ∷ qs) rs at [] nodes to gs n end r s = r
+reaches_join text (q ∷ qs) rs at (f ∷ fs) nodes to gs n end r s = (r.0, r.1, reaches_join text qs rs r.0 (after q f fs) (counted q nodes) to gs n end r.2 s)
+
+-- ---- the whole
+
+module _ (front other rest : List ℕ) (seen : Children) (s : State) (here back : Spot) (first : IsFront (front ++ rest) (length front) seen s) (second : IsFront (other ++ rest) (length other) seen (repointed here back s)) where
+  -- all of the one text is read as it was, so all of the other one is, with its pointers
+  whole_repointed : (t : State) → IsWhole (front ++ rest) t → IsWhole (other ++ rest) (repointed here back t)
+  whole_repointed t w =
+      let o = w.accepts.opened in
+      let end = w.accepts.point in
+      let heads : ◌≡◌ {A = Result ℕ PieceErr} (Ok o.inside) (Ok first.inside) = sym o.head_is ∙ first.head_is in
+      let insides : o.inside ≡ first.inside = cc in
+      let walk : Reaches (front ++ rest) w.ps first.inside (fresh place.Index ∷ []) 0 end = subst (λ (n : ℕ). Reaches (front ++ rest) w.ps n (fresh place.Index ∷ []) 0 end) insides o.reaches in
+      let cut = split_at (front ++ rest) first.ps w.ps first.inside (fresh place.Index ∷ []) 0 (length front) (frame place.Index first.tags) [] (length s.nodes) end first.reaches walk w.accepts.closed in
+      let told : Tell cut.0 outermost s [] t = tell_split first.ps cut.0 outermost blank outermost s [] t first.tells (subst (λ (l : List Piece). Tell l outermost blank [] t) cut.1 w.tells) in
+      let from : length front ≡ past front 0 = omega (arith, past_is front 0) in
+      let begins : past other 0 ≡ length other = omega (arith, past_is other 0) in
+      let tail = reaches_back front rest cut.0 0 (frame place.Index first.tags ∷ []) (length s.nodes) end (subst (λ (n : ℕ). Reaches (front ++ rest) cut.0 n (frame place.Index first.tags ∷ []) (length s.nodes) end) from cut.2) in
+      let closed : tail.0.parents ≡ [] = ap (λ (x : Point). x.parents) (sym tail.2) ∙ w.accepts.closed in
+      let there = reaches_past other rest cut.0 0 (frame place.Index first.tags ∷ []) (length s.nodes) tail.0 tail.1 in
+      let mine = reaches_alike (other ++ rest) cut.0 (past other 0) [] place.Index first.tags second.tags (length s.nodes) (moved other tail.0) (same_children seen first.tags second.tags first.seen_is second.seen_is) closed there in
+      let joined = reaches_join (other ++ rest) second.ps cut.0 second.inside (fresh place.Index ∷ []) 0 (length other) (frame place.Index second.tags ∷ []) (length s.nodes) (moved other tail.0) second.reaches
+          (subst (λ (n : ℕ). Reaches (other ++ rest) cut.0 n (frame place.Index second.tags ∷ []) (length s.nodes) (moved other tail.0)) begins mine) in
+      let ended : past front (space_end rest tail.0.at) ≡ past front (length rest) =
+          sym (space_past front rest tail.0.at) ∙ ap (λ (x : Point). space_end (front ++ rest) x.at) (sym tail.2) ∙ w.accepts.ended ∙ sym (past_all front rest) in
+      let kept : Tell cut.0 outermost (repointed here back s) [] (repointed here back t) =
+          tell_kept here back (front ++ rest) cut.0 (length front) (record { frame = frame place.Index first.tags; node = 0 } ∷ []) (length s.nodes) end s [] t ((first.here, first.back), tt) cut.2 told in
+      record {
+        ps = second.ps ++ cut.0;
+        accepts = record {
+          point = moved other tail.0;
+          opened = record { inside = second.inside; head_is = second.head_is; reaches = joined };
+          closed = closed;
+          ended = space_past other rest tail.0.at ∙ ap (past other) (same_past front (space_end rest tail.0.at) (length rest) ended) ∙ past_all other rest;
+        };
+        tells = tell_append second.ps cut.0 outermost blank outermost (repointed here back s) [] (repointed here back t) second.tells kept;
+      }
+
+  -- a text with another front of other pointers is that of the same index with these pointers
+  pub text_repointed : IsUtf8 (other ++ rest) → (index : Index) → IndexText (front ++ rest) index → IndexText (other ++ rest) (with_pointers index here back)
+  text_repointed valid index i =
+      let x = spelled_whole (front ++ rest) i.value i.spells in
+      let facts : volume_of index ≡ x.state.volume = i.tells.volume ∙ x.volume in
+      let agrees : Agrees (with_pointers index here back) = record { uids = i.agrees.uids; names = i.agrees.names; keys = i.agrees.keys; files = i.agrees.files } in
+      read_text (other ++ rest) (with_pointers index here back)
+      (record {
+        valid = valid;
+        state = repointed here back x.state;
+        whole = whole_repointed x.state x.whole;
+        volume = ap (λ (v : VolumeFacts). record v { here = here; back = Some back }) facts;
+        nodes = i.tells.nodes ∙ x.nodes;
+      }) agrees
+
+-- the same of a text that gets another front up to a place
+pub text_swapped : (text other : List ℕ) (at : ℕ) (seen : Children) (s : State) (here back : Spot) → at ≤ length text → IsFront text at seen s → IsUtf8 (take at text) → IsUtf8 other
+    → IsFront (other ++ drop at text) (length other) seen (repointed here back s) → (index : Index) → IndexText text index → IndexText (other ++ drop at text) (with_pointers index here back)
+text_swapped text other at seen s here back le first front_valid other_valid second index i =
+    let valid : IsUtf8 text = i.spells.spelled.valid in
+    let rest_valid : IsUtf8 (drop at text) = IsUtf8-drop text at valid (IsCharBoundary-from_take text at valid le front_valid) in
+    let whole : text ≡ take at text ++ drop at text = sym (take-append-drop at text) in
+    let long : at ≡ length (take at text) = sym (length-take-le at text le) in
+    let begins : IsFront (take at text ++ drop at text) (length (take at text)) seen s = subst (λ (n : ℕ). IsFront (take at text ++ drop at text) n seen s) long (subst (λ (t : List ℕ). IsFront t at seen s) whole first) in
+    text_repointed (take at text) other (drop at text) seen s here back begins second (IsUtf8-append other (drop at text) other_valid rest_valid) index (subst (λ (t : List ℕ). IndexText t index) whole i)

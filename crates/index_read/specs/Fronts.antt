@@ -1,0 +1,69 @@
+-- The front of a document of an index, behind which both of its pointers are told.
+use Rattle.std.specs.Prelude.{◌≡◌, ℕ, List, [], ◌∷◌, true, length, Some, None, Ok}
+use Rattle.tape_types.specs.Times.{civil_of}
+use Rattle.doc_fields.specs.declared.tags.Tag.{Tag}
+use Rattle.doc_fields.specs.declared.tags.Tag.TheVariants.{Location, PreviousGenerationLocation}
+use Rattle.index_model.specs.declared.indexes.Index.{Index}
+use Rattle.index_model.specs.declared.indexes.Spot.{Spot}
+use Rattle.doc_elements.specs.Children.{Holds, member}
+use Rattle.doc_elements.specs.declared.children.Children.{Children}
+use Rattle.doc_elements.specs.declared.schema.Place.TheVariants as place
+use Rattle.doc_elements.specs.Pieces.{Piece}
+use Rattle.doc_elements.specs.Documents.{Reaches, fresh, head_of}
+use Rattle.index_read.specs.declared.drafts.Draft.{Draft}
+use Rattle.index_read.specs.declared.walking.Level as code_level
+use Rattle.index_read.specs.Told.{State, Tell, blank, outermost}
+
+-- up to a place a text is whole pieces, of which the root alone is open then; its children that have stood there, both
+-- pointers among them, and what was told
+pub record IsFront (text : List ℕ) (at : ℕ) (seen : Children) (s : State) : Type 0 where
+  pub inside : ℕ
+  pub head_is : head_of place.Index text ≡ Ok inside
+  pub ps : List Piece
+  pub tags : List Tag
+  pub seen_is : Holds seen tags
+  pub reaches : Reaches text ps inside (fresh place.Index ∷ []) 0
+      (record { at = at; parents = record { place = place.Index; seen = tags } ∷ []; nodes = length s.nodes })
+  pub tells : Tell ps outermost blank outermost s
+  pub here : member Location tags ≡ true
+  pub back : member PreviousGenerationLocation tags ≡ true
+
+-- what was told, with other pointers
+abbrev pub repointed : (here back : Spot) → State → State
+repointed here back s = record s { volume = record s.volume { here = here; back = Some back } }
+
+-- an index with other pointers
+abbrev pub with_pointers : Index → (here back : Spot) → Index
+with_pointers index here back = record index { here = here; back = Some back }
+
+-- both pointers have stood in an open parent, which is the root
+pub record IsRootPointed (top : code_level.Level) : Type 0 where
+  pub place : top.frame.place ≡ place.Index
+  pub node : top.node ≡ 0
+  pub here : (tags : List Tag) → Holds top.frame.seen tags → member Location tags ≡ true
+  pub back : (tags : List Tag) → Holds top.frame.seen tags → member PreviousGenerationLocation tags ≡ true
+
+-- ---- two indexes that are alike but for their pointers and nodes
+
+pub record AreNamedAlike (a b : Index) : Type 0 where
+  pub creator : a.creator ≡ b.creator
+  pub comment : a.comment ≡ b.comment
+  pub updated : civil_of a.updated ≡ civil_of b.updated
+
+pub record AreNumberedAlike (a b : Index) : Type 0 where
+  pub uuid : a.uuid ≡ b.uuid
+  pub generation : a.generation ≡ b.generation
+  pub highest : a.highest ≡ b.highest
+
+pub record AreRuledAlike (a b : Index) : Type 0 where
+  pub allow : a.allow ≡ b.allow
+  pub policy : a.policy ≡ b.policy
+  pub lock : a.lock ≡ b.lock
+
+-- two drafts tell the same of what belongs to no index
+pub record AreDraftedAlike (a b : Draft) : Type 0 where
+  pub nodes_first : a.nodes.items ≡ []
+  pub nodes_second : b.nodes.items ≡ []
+  pub extent : a.extent ≡ b.extent
+  pub key : a.xattr.key ≡ b.xattr.key
+  pub value : a.xattr.value ≡ b.xattr.value
