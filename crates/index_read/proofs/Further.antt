@@ -3,20 +3,17 @@ use Rattle.std.proofs.Common.{◌≡◌, ℕ, zero, suc, ◌+◌, ◌*◌, ◌-�
 use Rattle.std.proofs.lemmas.Bool.Decides.{nat_tests}
 use lib.Dec.{eqb-suc-suc, leb-suc-suc}
 use Rattle.std.specs.Prelude.{codes}
-use Rattle.std.specs.Option.{option_map}
 use Rattle.std.specs.Str.{chars, encode_utf8_all}
 use Rattle.std.specs.Char.{encode_utf8}
 use Rattle.std.specs.Str.Lossy.{utf8_valid_len}
 use Rattle.tape_types.specs.declared.times.Civil.{Civil}
 use Rattle.tape_types.specs.Times.{civil_in}
 use Rattle.tape_types.specs.Uuids.{uuid_in}
-use Rattle.doc_fields.specs.declared.errors.FieldErr.{FieldErr}
 use Rattle.doc_fields.specs.declared.errors.Why.TheVariants as why
 use Rattle.doc_fields.specs.declared.starts.Attribute.{Attribute}
 use Rattle.doc_fields.specs.declared.starts.Attribute.TheVariants as attribute
 use Rattle.doc_fields.specs.declared.starts.Start.{Start}
 use Rattle.doc_fields.specs.declared.tags.Tag.{Tag}
-use Rattle.doc_fields.specs.declared.values.LockState.{LockState}
 use Rattle.doc_fields.specs.declared.values.LockState.TheVariants.{Unlocked, Locked, PermLocked}
 use Rattle.doc_fields.specs.Reading.{Read, ◌>>=◌, between, byte, fault, literal_at, one_at, syntax_at, unknown_at}
 use Rattle.doc_fields.specs.Space.{is_space, run_end, space_end}

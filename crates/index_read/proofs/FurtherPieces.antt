@@ -1,9 +1,6 @@
 -- Pieces are read alike where they stand further on in a text.
-use Rattle.std.proofs.Common.{◌≡◌, ℕ, zero, suc, ◌+◌, ◌^◌, Bool, true, false, cond, not, ◌==◌, ◌&&◌, ◌||◌, nat_le, nat_lt, List, [], ◌∷◌, ◌++◌, length, Option, Some, None, Result, Ok, Err, refl, sym, ap, subst, ◌∙◌, arith}
+use Rattle.std.proofs.Common.{◌≡◌, ℕ, suc, ◌+◌, Bool, not, ◌==◌, ◌&&◌, nat_le, nat_lt, List, [], ◌∷◌, ◌++◌, length, Option, Some, None, Result, Ok, Err, refl, sym, ap, subst, ◌∙◌, arith}
 use lib.Dec.{eqb-suc-suc}
-use Rattle.doc_fields.specs.declared.errors.FieldErr.{FieldErr}
-use Rattle.doc_fields.specs.declared.errors.Why.{Why}
-use Rattle.doc_fields.specs.declared.errors.Why.TheVariants as why
 use Rattle.doc_fields.specs.declared.starts.Attribute.{Attribute}
 use Rattle.doc_fields.specs.declared.starts.Start.{Start}
 use Rattle.doc_fields.specs.declared.tags.Tag.{Tag}
@@ -20,14 +17,13 @@ use Rattle.doc_elements.specs.declared.schema.Child.{Child}
 use Rattle.doc_elements.specs.declared.schema.Child.TheVariants as child
 use Rattle.doc_elements.specs.declared.schema.Form.{Form}
 use Rattle.doc_elements.specs.declared.schema.Form.TheVariants as form
-use Rattle.doc_elements.specs.declared.schema.Place.{Place}
 use Rattle.doc_elements.specs.Children.{first_missing, member}
 use Rattle.doc_elements.specs.Documents.{Point, Reaches, after, counted}
-use Rattle.doc_elements.specs.Pieces.{Frame, Piece, Val, ◌>>=◌, beside, bytes, bytes_in, bytes_of, bytes_told, child_at, close_at, closes, empty_value, has_any, if_known, in_range, is_base64, is_encoded, is_name, is_too_great, leaf, leaf_at, least, letter, lift, lock, made, name_in, name_of, named, none_missing, number, number_in, opens, opens_node, piece_at, some_bytes, spaced, time, truth, unknown_by, unknown_first, uuid, value_in, verdict, whole, words}
+use Rattle.doc_elements.specs.Pieces.{Frame, Piece, Val, ◌>>=◌, beside, bytes_in, bytes_of, bytes_told, child_at, close_at, closes, empty_value, has_any, if_known, in_range, is_base64, is_encoded, is_name, is_too_great, leaf, leaf_at, least, letter, lift, lock, made, name_in, name_of, named, none_missing, number, number_in, opens, opens_node, piece_at, some_bytes, spaced, time, truth, unknown_by, unknown_first, uuid, value_in, verdict, whole, words}
 use Rattle.doc_elements.specs.Schema.{excludes, may_repeat, required, rule, tag_of}
 use Rattle.ltfs_text.specs.Names.{decoded}
 use Rattle.std.specs.Str.{is_utf8}
-use Rattle.index_read.proofs.Further.{Alike, behind, both_behind, just, if_alike, self_alike, tag_behind, space_further, rest_further, named_further, end_further, number_further, bool_further, lock_further, letter_further, time_further, uuid_further, text_further}
+use Rattle.index_read.proofs.Further.{Alike, behind, just, if_alike, self_alike, tag_behind, space_further, rest_further, named_further, end_further, number_further, bool_further, lock_further, letter_further, time_further, uuid_further, text_further}
 
 -- ---- tools
 

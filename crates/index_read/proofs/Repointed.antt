@@ -1,5 +1,5 @@
 -- A text with another front, in which other pointers stand, is read as the same index with these pointers.
-use Rattle.std.proofs.Common.{◌≡◌, ℕ, zero, suc, ◌+◌, Bool, true, false, cond, not, ◌==◌, ◌&&◌, ◌||◌, List, [], ◌∷◌, ◌++◌, length, take, drop, ◌≤◌, Option, Some, None, Result, Ok, Err, IsUtf8, refl, sym, ap, subst, ◌∙◌, arith}
+use Rattle.std.proofs.Common.{◌≡◌, ℕ, Bool, true, false, not, ◌==◌, ◌&&◌, ◌||◌, List, [], ◌∷◌, ◌++◌, length, take, drop, ◌≤◌, Some, Result, Ok, IsUtf8, refl, sym, ap, subst, ◌∙◌, arith}
 use Rattle.std.proofs.lemmas.List.{length-take-le, take-append-drop}
 use Rattle.std.proofs.lemmas.Str.{IsCharBoundary-from_take, IsUtf8-append, IsUtf8-drop}
 use Rattle.doc_fields.specs.declared.tags.Tag.{Tag}
@@ -10,13 +10,13 @@ use Rattle.doc_elements.specs.declared.errors.PieceErr.{PieceErr}
 use Rattle.doc_elements.specs.declared.schema.Place.{Place}
 use Rattle.doc_elements.specs.declared.schema.Place.TheVariants as place
 use Rattle.doc_elements.specs.declared.schema.Child.TheVariants as child
-use Rattle.doc_elements.specs.Children.{Holds, bits_of, children_of, code, first_missing, member}
-use Rattle.doc_elements.specs.Documents.{Accepts, Point, Reaches, after, counted, fresh, head_of, with_child}
+use Rattle.doc_elements.specs.Children.{Holds, bits_of, code, first_missing, member}
+use Rattle.doc_elements.specs.Documents.{Point, Reaches, after, counted, fresh, with_child}
 use Rattle.doc_elements.specs.Elements.{Item, plain, MayFollow}
 use Rattle.doc_elements.specs.Pieces.{Frame, Piece, closes, has_any, leaf, opens, piece_at, whole}
 use Rattle.doc_elements.specs.Schema.{excludes, may_repeat, required, rule, tag_of}
 use Rattle.doc_elements.proofs.Bits.{has_is}
-use Rattle.doc_elements.proofs.Inversion.{ParentStarts, What, is_piece, piece_is}
+use Rattle.doc_elements.proofs.Inversion.{What, is_piece, piece_is}
 use Rattle.index_model.specs.declared.indexes.Index.{Index}
 use Rattle.index_model.specs.declared.indexes.Spot.{Spot}
 use Rattle.index_model.specs.Grammar.{IndexText}
@@ -24,9 +24,9 @@ use Rattle.index_model.specs.Valid.{Agrees}
 use Rattle.index_model.specs.Values.{VolumeFacts, volume_of}
 use Rattle.index_read.specs.Fronts.{IsFront, repointed, with_pointers}
 use Rattle.index_read.specs.Told.{State, Level, Tell, begun, blank, ended, leaf_told, levels_after, node_in, outermost, piece_told}
-use Rattle.index_read.specs.Walks.{IsReadAs, IsWhole, Opened, frames_of, level_of, levels_of, opened_after, with_tag}
+use Rattle.index_read.specs.Walks.{IsWhole, Opened, frames_of, levels_of, with_tag}
 use Rattle.index_read.proofs.Answered.{read_text}
-use Rattle.index_read.proofs.Exact.{Read, spelled_whole}
+use Rattle.index_read.proofs.Exact.{spelled_whole}
 use Rattle.index_read.proofs.Facts.{member_later}
 use Rattle.index_read.proofs.FurtherPieces.{moved, past, past_all, past_is, reaches_back, reaches_past, same_past, space_past}
 use Rattle.index_read.proofs.Trees.{tell_append}

@@ -12,7 +12,6 @@ use Rattle.doc_elements.specs.declared.pieces.Piece as code_piece
 use Rattle.doc_elements.specs.Answers.{HasRoom, Fails, UnlessMemory, piece_of}
 use Rattle.doc_elements.proofs.Steps.{few_counted, point, reaches_more, unless_memory}
 use Rattle.doc_elements.specs.Documents.{head_of}
-use Rattle.doc_elements.specs.Pieces.{Frame}
 use Rattle.index_read.specs.declared.walking.Level as code_level
 use Rattle.index_read.specs.Fronts.{IsFront, IsRootPointed}
 use Rattle.index_read.specs.Told.{State, Level, Tell, blank, outermost, changed, begun, ended, leaf_told, levels_after, piece_told}

@@ -1,5 +1,5 @@
 -- The front of a document of an index, behind which both of its pointers are told.
-use Rattle.std.specs.Prelude.{◌≡◌, ℕ, List, [], ◌∷◌, true, length, Some, None, Ok}
+use Rattle.std.specs.Prelude.{◌≡◌, ℕ, List, [], ◌∷◌, true, length, Some, Ok}
 use Rattle.tape_types.specs.Times.{civil_of}
 use Rattle.doc_fields.specs.declared.tags.Tag.{Tag}
 use Rattle.doc_fields.specs.declared.tags.Tag.TheVariants.{Location, PreviousGenerationLocation}

@@ -16,7 +16,7 @@ returns-in-Ok g c =
     (λ held h of. λ newer k ks parts there older.
     c.step_of.ensures.told held k ks (at_told (λ (x : Cartridge). HasIndexAt x.dp c.args.place × (c.args.end_ip ≡ ip_end x)) h c.requires.known).1 there older
     (of newer k ks parts there))
-    (λ sound. c.step_of.ensures.sound sound)
+    (λ read. c.step_of.ensures.sound read.0)
 
 pub returns-in-Some : goal.returns-in-Some
 returns-in-Some g c =

@@ -1,4 +1,4 @@
-use Rattle.std.proofs.Common.{rules, ◌≡◌, ◌≤◌, ◌++◌, ℕ, List, drop, length, take, IsUtf8, sym, ap, subst, ◌∙◌}
+use Rattle.std.proofs.Common.{rules, ◌≡◌, ◌≤◌, ◌++◌, ℕ, List, drop, length, take, IsUtf8, sym, subst, ◌∙◌}
 use Rattle.doc_elements.specs.declared.children.Children.{Children}
 use Rattle.index_model.specs.Grammar.{IndexText}
 use Rattle.index_read.specs.Drafts.{state_of}

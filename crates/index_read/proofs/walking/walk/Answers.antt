@@ -1,16 +1,15 @@
-use Rattle.std.proofs.Common.{rules, ◌≡◌, ◌≤◌, ℕ, List, [], ◌∷◌, ◌++◌, Bool, true, false, map, length, Ok, refl, sym, ap, subst, ◌∙◌, arith}
+use Rattle.std.proofs.Common.{rules, ◌≡◌, ℕ, [], ◌∷◌, ◌++◌, map, length, Ok, refl, sym, ap, subst, ◌∙◌, arith}
 use Rattle.std.proofs.lemmas.List.{length-map}
 use Rattle.tape_types.specs.Bounds.{most_nodes}
 use Rattle.doc_elements.specs.declared.children.Children.{Children}
 use Rattle.doc_elements.specs.declared.schema.Place.TheVariants as place
-use Rattle.doc_elements.specs.Pieces.{Piece}
-use Rattle.doc_elements.specs.Documents.{Reaches, fresh}
+use Rattle.doc_elements.specs.Documents.{fresh}
 use Rattle.index_model.specs.Values.{value_of}
 use Rattle.index_read.specs.declared.walking.Level as code_level
 use Rattle.doc_elements.specs.Answers.{HasRoom, piece_of}
 use Rattle.index_read.specs.Drafts.{state_of}
-use Rattle.index_read.specs.Told.{State, Level, Tell, blank, outermost, piece_told}
-use Rattle.index_read.specs.Walks.{Kept, Opened, Keeps, frames_of, level_in, level_of, levels_of, opened_after}
+use Rattle.index_read.specs.Told.{State, Level, piece_told}
+use Rattle.index_read.specs.Walks.{level_in, level_of, opened_after}
 use Rattle.index_read.proofs.Steps.{halted_at, is_kept, reaches_next, tells_next, few_next, is_walked, at_top}
 use Rattle.doc_elements.proofs.Steps.{point}
 use Rattle.index_read.proofs.walking.walk.Goals as goal

@@ -1,4 +1,4 @@
-use Rattle.std.proofs.Common.{ℕ, ◌-◌, ◌+◌, length}
+use Rattle.std.proofs.Common.{◌-◌, ◌+◌, length}
 use Rattle.index_read.specs.Drafts.{state_of}
 use Rattle.index_read.specs.Walks.{Kept}
 use Rattle.index_read.proofs.walking.walk.Given as goal

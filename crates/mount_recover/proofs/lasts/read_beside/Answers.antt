@@ -1,7 +1,7 @@
 use Rattle.std.proofs.Common.{List, ℕ, Some, refl, subst, sym, arith}
 use Rattle.index_model.specs.Grammar.{IndexText}
 use Rattle.cartridge_meaning.specs.Pointers.{indexes_of}
-use Rattle.mount_recover.specs.Lasts.{AreLastsWith, AreSoundWith, IsDocument, IsKnownIp, IsLastDp, twin_of}
+use Rattle.mount_recover.specs.Lasts.{IsDocument, IsKnownIp, IsLastDp, twin_of}
 use Rattle.mount_recover.proofs.LastLemmas.{newest_document, newest_there}
 use Rattle.mount_recover.proofs.MountLemmas.{free_blames}
 use Rattle.mount_recover.proofs.StepLemmas.{at_told, found_after, given_step, more_step, refused_after, stops, told_then}
