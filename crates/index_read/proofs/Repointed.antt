@@ -1,12 +1,14 @@
 -- A text with another front, in which other pointers stand, is read as the same index with these pointers.
-use Rattle.std.proofs.Common.{◌≡◌, ℕ, Bool, true, false, not, ◌==◌, ◌&&◌, ◌||◌, List, [], ◌∷◌, ◌++◌, length, take, drop, ◌≤◌, Some, Result, Ok, IsUtf8, refl, sym, ap, subst, ◌∙◌, arith}
+use Rattle.std.proofs.Common.{◌≡◌, ℕ, Bool, true, false, not, ◌==◌, ◌&&◌, ◌||◌, List, [], ◌∷◌, ◌++◌, length, take, drop, ◌≤◌, Option, None, Some, Result, Ok, IsUtf8, ⊎_elim, refl, sym, ap, subst, ◌∙◌, arith}
+use Rattle.std.specs.Option.{option_map}
 use Rattle.std.proofs.lemmas.List.{length-take-le, take-append-drop}
 use Rattle.std.proofs.lemmas.Str.{IsCharBoundary-from_take, IsUtf8-append, IsUtf8-drop}
 use Rattle.doc_fields.specs.declared.tags.Tag.{Tag}
-use Rattle.doc_fields.specs.declared.tags.Tag.TheVariants.{Location, LtfsIndex, PreviousGenerationLocation}
+use Rattle.doc_fields.specs.declared.tags.Tag.TheVariants.{AllowPolicyUpdate, Creator, Directory, ExtentInfo, GenerationNumber, HighestFileUid, Location, LtfsIndex, PreviousGenerationLocation, Symlink, UpdateTime, VolumeUuid}
 use Rattle.doc_fields.specs.Space.{space_end}
 use Rattle.doc_elements.specs.declared.children.Children.{Children}
 use Rattle.doc_elements.specs.declared.errors.PieceErr.{PieceErr}
+use Rattle.doc_elements.specs.declared.schema.Form.{Form}
 use Rattle.doc_elements.specs.declared.schema.Place.{Place}
 use Rattle.doc_elements.specs.declared.schema.Place.TheVariants as place
 use Rattle.doc_elements.specs.declared.schema.Child.TheVariants as child
@@ -22,8 +24,8 @@ use Rattle.index_model.specs.declared.indexes.Spot.{Spot}
 use Rattle.index_model.specs.Grammar.{IndexText}
 use Rattle.index_model.specs.Valid.{Agrees}
 use Rattle.index_model.specs.Values.{VolumeFacts, volume_of}
-use Rattle.index_read.specs.Fronts.{IsFront, repointed, with_pointers}
-use Rattle.index_read.specs.Told.{State, Level, Tell, begun, blank, ended, leaf_told, levels_after, node_in, outermost, piece_told}
+use Rattle.index_read.specs.Fronts.{HasBack, IsFront, repointed, with_pointers}
+use Rattle.index_read.specs.Told.{State, Level, Tell, begun, blank, ended, leaf_told, levels_after, node_in, outermost, piece_told, spot_with}
 use Rattle.index_read.specs.Walks.{IsWhole, Opened, frames_of, levels_of, with_tag}
 use Rattle.index_read.proofs.Answered.{read_text}
 use Rattle.index_read.proofs.Exact.{spelled_whole}
@@ -31,66 +33,93 @@ use Rattle.index_read.proofs.Facts.{member_later}
 use Rattle.index_read.proofs.FurtherPieces.{moved, past, past_all, past_is, reaches_back, reaches_past, same_past, space_past}
 use Rattle.index_read.proofs.Trees.{tell_append}
 
--- ---- the order in which children have stood there doesn't count
+-- ---- neither the order of the children that have stood there counts, nor the back pointer among them
+
+-- a parent that is no back pointer
+abbrev IsOther : Place → Type 0
+IsOther place.Back = ⊥
+IsOther _ = Unit {0}
+
+abbrev IsOtherPiece : Piece → Type 0
+IsOtherPiece (opens q) = IsOther q
+IsOtherPiece (whole q) = IsOther q
+IsOtherPiece closes = Unit {0}
+IsOtherPiece (leaf tag v) = Unit {0}
+
+abbrev NoBack : List Piece → Type 0
+NoBack [] = Unit {0}
+NoBack (p ∷ ps) = IsOtherPiece p × NoBack ps
 
 abbrev Same : List Tag → List Tag → Type 0
-Same seen tags = (t : Tag) → member t seen ≡ member t tags
+Same seen tags = (t : Tag) → (code t == code PreviousGenerationLocation) ≡ false → member t seen ≡ member t tags
 
-any_alike : (xs seen tags : List Tag) → Same seen tags → has_any xs seen ≡ has_any xs tags
-any_alike [] seen tags same = refl
-any_alike (x ∷ xs) seen tags same = rw (same x, any_alike xs seen tags same) refl
+any_alike : (tag : Tag) (seen tags : List Tag) → Same seen tags → has_any (excludes tag) seen ≡ has_any (excludes tag) tags
+any_alike ExtentInfo seen tags same = rw (same ExtentInfo refl, same Symlink refl) refl
+any_alike Symlink seen tags same = rw (same ExtentInfo refl, same Symlink refl) refl
+any_alike _ seen tags same = refl
 
-missing_alike : (xs seen tags : List Tag) → Same seen tags → first_missing xs seen ≡ first_missing xs tags
-missing_alike [] seen tags same = refl
-missing_alike (x ∷ xs) seen tags same = rw (same x, missing_alike xs seen tags same) refl
+missing_alike : (seen tags : List Tag) → Same seen tags → first_missing (required place.Index) seen ≡ first_missing (required place.Index) tags
+missing_alike seen tags same = rw (same Creator refl, same VolumeUuid refl, same GenerationNumber refl, same UpdateTime refl, same Location refl, same AllowPolicyUpdate refl, same HighestFileUid refl, same Directory refl) refl
 
-follows_alike : (p : Place) (seen tags : List Tag) (tag : Tag) → Same seen tags → MayFollow p seen tag → MayFollow p tags tag
-follows_alike p seen tags tag same m = record {
-  alone = sym (any_alike (excludes tag) seen tags same) ∙ m.alone;
-  once = subst (λ (b : Bool). (b && not (may_repeat p tag)) ≡ false) (same tag) m.once;
+follows_alike : (seen tags : List Tag) (tag : Tag) → Same seen tags → (code tag == code PreviousGenerationLocation) ≡ false → MayFollow place.Index seen tag → MayFollow place.Index tags tag
+follows_alike seen tags tag same other m = record {
+  alone = sym (any_alike tag seen tags same) ∙ m.alone;
+  once = subst (λ (b : Bool). (b && not (may_repeat place.Index tag)) ≡ false) (same tag other) m.once;
 }
 
 abbrev frame : Place → List Tag → Frame
 frame p seen = record { place = p; seen = seen }
 
-what_alike : (text : List ℕ) (p : Place) (seen tags : List Tag) (nodes at : ℕ) (x : Piece) (next : ℕ) → Same seen tags → What text (frame p seen) nodes at x next → What text (frame p tags) nodes at x next
-what_alike text p seen tags nodes at closes next same w = (w.0, sym (missing_alike (required p) seen tags same) ∙ w.1)
-what_alike text p seen tags nodes at (leaf tag v) next same w = (w.0, w.1, w.2, follows_alike p seen tags tag same w.3, w.4)
-what_alike text p seen tags nodes at (opens q) next same w = (w.0, record { starts = w.1.starts; follows = follows_alike p seen tags (tag_of q) same w.1.follows }, w.2, w.3, w.4)
-what_alike text p seen tags nodes at (whole q) next same w = (w.0, record { starts = w.1.starts; follows = follows_alike p seen tags (tag_of q) same w.1.follows }, w.2, w.3, w.4, w.5)
+-- no leaf and no other parent has the element of the back pointer
+leaf_other : (tag : Tag) (f : Form) → rule place.Index tag ≡ child.Leaf f → (code tag == code PreviousGenerationLocation) ≡ false
+leaf_other PreviousGenerationLocation f is = absurd (cc (is))
+leaf_other _ f is = refl
 
-piece_alike : (text : List ℕ) (p : Place) (seen tags : List Tag) (nodes at : ℕ) (x : Piece) (next : ℕ) → Same seen tags → piece_at (frame p seen) nodes text at ≡ Ok (x, next) → piece_at (frame p tags) nodes text at ≡ Ok (x, next)
-piece_alike text p seen tags nodes at x next same e = is_piece text (frame p tags) nodes at x next (what_alike text p seen tags nodes (space_end text at) x next same (piece_is text (frame p seen) nodes at x next e))
+parent_other : (q : Place) → IsOther q → (code (tag_of q) == code PreviousGenerationLocation) ≡ false
+parent_other place.Back other = absurd other
+parent_other _ other = refl
+
+what_alike : (text : List ℕ) (seen tags : List Tag) (nodes at : ℕ) (x : Piece) (next : ℕ) → Same seen tags → IsOtherPiece x → What text (frame place.Index seen) nodes at x next → What text (frame place.Index tags) nodes at x next
+what_alike text seen tags nodes at closes next same other w = (w.0, sym (missing_alike seen tags same) ∙ w.1)
+what_alike text seen tags nodes at (leaf tag v) next same other w = (w.0, w.1, w.2, follows_alike seen tags tag same (leaf_other tag w.0 w.2.child) w.3, w.4)
+what_alike text seen tags nodes at (opens q) next same other w = (w.0, record { starts = w.1.starts; follows = follows_alike seen tags (tag_of q) same (parent_other q other) w.1.follows }, w.2, w.3, w.4)
+what_alike text seen tags nodes at (whole q) next same other w = (w.0, record { starts = w.1.starts; follows = follows_alike seen tags (tag_of q) same (parent_other q other) w.1.follows }, w.2, w.3, w.4, w.5)
+
+piece_alike : (text : List ℕ) (seen tags : List Tag) (nodes at : ℕ) (x : Piece) (next : ℕ) → Same seen tags → IsOtherPiece x → piece_at (frame place.Index seen) nodes text at ≡ Ok (x, next)
+    → piece_at (frame place.Index tags) nodes text at ≡ Ok (x, next)
+piece_alike text seen tags nodes at x next same other e = is_piece text (frame place.Index tags) nodes at x next (what_alike text seen tags nodes (space_end text at) x next same other (piece_is text (frame place.Index seen) nodes at x next e))
 
 more_alike : (t : Tag) (seen tags : List Tag) → Same seen tags → Same (t ∷ seen) (t ∷ tags)
-more_alike t seen tags same u = ap (λ b. code u == code t || b) (same u)
+more_alike t seen tags same u other = ap (λ b. code u == code t || b) (same u other)
 
--- the outermost parent with its children in another order, behind other open parents
-abbrev above : List Frame → Place → List Tag → List Frame
-above [] p seen = frame p seen ∷ []
-above (f ∷ fs) p seen = f ∷ above fs p seen
+-- the root with other children, behind other open parents
+abbrev above : List Frame → List Tag → List Frame
+above [] seen = frame place.Index seen ∷ []
+above (f ∷ fs) seen = f ∷ above fs seen
 
-reaches_alike : (text : List ℕ) (ps : List Piece) (at : ℕ) (fs : List Frame) (p : Place) (seen tags : List Tag) (nodes : ℕ) (end : Point) → Same seen tags → end.parents ≡ []
-    → Reaches text ps at (above fs p seen) nodes end → Reaches text ps at (above fs p tags) nodes end
-reaches_alike text [] at [] p seen tags nodes end same none r = absurd (let bad : [] ≡ frame p seen ∷ [] = sym none ∙ ap (λ (x : Point). x.parents) r in cc)
-reaches_alike text [] at (f ∷ fs) p seen tags nodes end same none r = absurd (let bad : [] ≡ f ∷ above fs p seen = sym none ∙ ap (λ (x : Point). x.parents) r in cc)
-reaches_alike text (closes ∷ ps) at [] p seen tags nodes end same none r = (r.0, piece_alike text p seen tags nodes at closes r.0 same r.1, r.2)
-reaches_alike text (leaf tag v ∷ ps) at [] p seen tags nodes end same none r =
-    (r.0, piece_alike text p seen tags nodes at (leaf tag v) r.0 same r.1, reaches_alike text ps r.0 [] p (tag ∷ seen) (tag ∷ tags) nodes end (more_alike tag seen tags same) none r.2)
-reaches_alike text (whole q ∷ ps) at [] p seen tags nodes end same none r =
-    (r.0, piece_alike text p seen tags nodes at (whole q) r.0 same r.1, reaches_alike text ps r.0 [] p (tag_of q ∷ seen) (tag_of q ∷ tags) (counted (whole q) nodes) end (more_alike (tag_of q) seen tags same) none r.2)
-reaches_alike text (opens q ∷ ps) at [] p seen tags nodes end same none r =
-    (r.0, piece_alike text p seen tags nodes at (opens q) r.0 same r.1, reaches_alike text ps r.0 (fresh q ∷ []) p (tag_of q ∷ seen) (tag_of q ∷ tags) (counted (opens q) nodes) end (more_alike (tag_of q) seen tags same) none r.2)
-reaches_alike text (closes ∷ ps) at (f ∷ fs) p seen tags nodes end same none r = (r.0, r.1, reaches_alike text ps r.0 fs p seen tags nodes end same none r.2)
-reaches_alike text (leaf tag v ∷ ps) at (f ∷ fs) p seen tags nodes end same none r = (r.0, r.1, reaches_alike text ps r.0 (with_child tag f ∷ fs) p seen tags nodes end same none r.2)
-reaches_alike text (whole q ∷ ps) at (f ∷ fs) p seen tags nodes end same none r = (r.0, r.1, reaches_alike text ps r.0 (with_child (tag_of q) f ∷ fs) p seen tags (counted (whole q) nodes) end same none r.2)
-reaches_alike text (opens q ∷ ps) at (f ∷ fs) p seen tags nodes end same none r = (r.0, r.1, reaches_alike text ps r.0 (fresh q ∷ with_child (tag_of q) f ∷ fs) p seen tags (counted (opens q) nodes) end same none r.2)
+reaches_alike : (text : List ℕ) (ps : List Piece) (at : ℕ) (fs : List Frame) (seen tags : List Tag) (nodes : ℕ) (end : Point) → Same seen tags → NoBack ps → end.parents ≡ []
+    → Reaches text ps at (above fs seen) nodes end → Reaches text ps at (above fs tags) nodes end
+reaches_alike text [] at [] seen tags nodes end same other none r = absurd (let bad : [] ≡ frame place.Index seen ∷ [] = sym none ∙ ap (λ (x : Point). x.parents) r in cc)
+reaches_alike text [] at (f ∷ fs) seen tags nodes end same other none r = absurd (let bad : [] ≡ f ∷ above fs seen = sym none ∙ ap (λ (x : Point). x.parents) r in cc)
+reaches_alike text (closes ∷ ps) at [] seen tags nodes end same other none r = (r.0, piece_alike text seen tags nodes at closes r.0 same tt r.1, r.2)
+reaches_alike text (leaf tag v ∷ ps) at [] seen tags nodes end same other none r =
+    (r.0, piece_alike text seen tags nodes at (leaf tag v) r.0 same tt r.1, reaches_alike text ps r.0 [] (tag ∷ seen) (tag ∷ tags) nodes end (more_alike tag seen tags same) other.1 none r.2)
+reaches_alike text (whole q ∷ ps) at [] seen tags nodes end same other none r =
+    (r.0, piece_alike text seen tags nodes at (whole q) r.0 same other.0 r.1, reaches_alike text ps r.0 [] (tag_of q ∷ seen) (tag_of q ∷ tags) (counted (whole q) nodes) end (more_alike (tag_of q) seen tags same) other.1 none r.2)
+reaches_alike text (opens q ∷ ps) at [] seen tags nodes end same other none r =
+    (r.0, piece_alike text seen tags nodes at (opens q) r.0 same other.0 r.1, reaches_alike text ps r.0 (fresh q ∷ []) (tag_of q ∷ seen) (tag_of q ∷ tags) (counted (opens q) nodes) end (more_alike (tag_of q) seen tags same) other.1 none r.2)
+reaches_alike text (closes ∷ ps) at (f ∷ fs) seen tags nodes end same other none r = (r.0, r.1, reaches_alike text ps r.0 fs seen tags nodes end same other.1 none r.2)
+reaches_alike text (leaf tag v ∷ ps) at (f ∷ fs) seen tags nodes end same other none r = (r.0, r.1, reaches_alike text ps r.0 (with_child tag f ∷ fs) seen tags nodes end same other.1 none r.2)
+reaches_alike text (whole q ∷ ps) at (f ∷ fs) seen tags nodes end same other none r = (r.0, r.1, reaches_alike text ps r.0 (with_child (tag_of q) f ∷ fs) seen tags (counted (whole q) nodes) end same other.1 none r.2)
+reaches_alike text (opens q ∷ ps) at (f ∷ fs) seen tags nodes end same other none r = (r.0, r.1, reaches_alike text ps r.0 (fresh q ∷ with_child (tag_of q) f ∷ fs) seen tags (counted (opens q) nodes) end same other.1 none r.2)
 
--- the same children, by the bits that stand for them
-same_children : (c : Children) (seen tags : List Tag) → Holds c seen → Holds c tags → Same seen tags
-same_children c seen tags h k t =
-    let bits : bits_of seen ≡ bits_of tags = ap (λ (x : Children). x.bits) (sym h ∙ k) in
-    sym (has_is t seen) ∙ rw bits (has_is t tags)
+-- the same children but for the back pointer, by the bits that stand for them
+same_children : (c : Children) (seen tags : List Tag) → Holds c (PreviousGenerationLocation ∷ seen) → Holds c tags → Same seen tags
+same_children c seen tags h k t other =
+    let bits : bits_of (PreviousGenerationLocation ∷ seen) ≡ bits_of tags = ap (λ (x : Children). x.bits) (sym h ∙ k) in
+    let both : member t (PreviousGenerationLocation ∷ seen) ≡ member t tags = sym (has_is t (PreviousGenerationLocation ∷ seen)) ∙ rw bits (has_is t tags) in
+    let less : member t (PreviousGenerationLocation ∷ seen) ≡ member t seen = rw other refl in
+    sym less ∙ both
 
 -- ---- behind the pointers nothing tells of them
 
@@ -98,7 +127,7 @@ same_children c seen tags h k t =
 abbrev Free : Place → List Tag → Type 0
 Free place.Here seen = ⊥
 Free place.Back seen = ⊥
-Free place.Index seen = (member Location seen ≡ true) × (member PreviousGenerationLocation seen ≡ true)
+Free place.Index seen = member Location seen ≡ true
 Free _ seen = Unit {0}
 
 abbrev AllFree : List Opened → Type 0
@@ -109,31 +138,25 @@ twice : (t : Tag) (seen : List Tag) → member t seen ≡ true → (member t see
 twice t seen there once = let bad : true ≡ false = sym (rw there refl) ∙ once in cc
 
 no_here : (p : Place) (seen : List Tag) → Free p seen → rule p Location ≡ child.Parent place.Here → MayFollow p seen Location → ⊥
-no_here place.Index seen free is m = twice Location seen free.0 m.once
+no_here place.Index seen free is m = twice Location seen free m.once
 no_here place.Here seen free is m = free
 no_here place.Back seen free is m = free
 no_here _ seen free is m = absurd (cc (is))
-
-no_back : (p : Place) (seen : List Tag) → Free p seen → rule p PreviousGenerationLocation ≡ child.Parent place.Back → MayFollow p seen PreviousGenerationLocation → ⊥
-no_back place.Index seen free is m = twice PreviousGenerationLocation seen free.1 m.once
-no_back place.Here seen free is m = free
-no_back place.Back seen free is m = free
-no_back _ seen free is m = absurd (cc (is))
 
 no_index : (p : Place) → rule p LtfsIndex ≡ child.Parent place.Index → ⊥
 no_index place.Index is = absurd (cc (is))
 no_index _ is = absurd (cc (is))
 
-opens_free : (q p : Place) (seen : List Tag) → Free p seen → rule p (tag_of q) ≡ child.Parent q → MayFollow p seen (tag_of q) → Free q []
-opens_free place.Here p seen free is m = no_here p seen free is m
-opens_free place.Back p seen free is m = no_back p seen free is m
-opens_free place.Index p seen free is m = absurd (no_index p is)
-opens_free _ p seen free is m = tt
+opens_free : (q p : Place) (seen : List Tag) → IsOther q → Free p seen → rule p (tag_of q) ≡ child.Parent q → MayFollow p seen (tag_of q) → Free q []
+opens_free place.Here p seen other free is m = no_here p seen free is m
+opens_free place.Back p seen other free is m = other
+opens_free place.Index p seen other free is m = absurd (no_index p is)
+opens_free _ p seen other free is m = tt
 
 child_free : (tag : Tag) (p : Place) (seen : List Tag) → Free p seen → Free p (tag ∷ seen)
 child_free tag place.Here seen free = free
 child_free tag place.Back seen free = free
-child_free tag place.Index seen free = (member_later Location tag seen free.0, member_later PreviousGenerationLocation tag seen free.1)
+child_free tag place.Index seen free = member_later Location tag seen free
 child_free tag _ seen free = tt
 
 module _ (here back : Spot) where
@@ -152,28 +175,120 @@ module _ (here back : Spot) where
   ended_kept _ node s = refl
 
   -- pieces behind the pointers tell the same, whatever these are
-  tell_kept : (text : List ℕ) (ps : List Piece) (at : ℕ) (os : List Opened) (nodes : ℕ) (end : Point) (s : State) (ms : List Level) (t : State) → AllFree os
+  tell_kept : (text : List ℕ) (ps : List Piece) (at : ℕ) (os : List Opened) (nodes : ℕ) (end : Point) (s : State) (ms : List Level) (t : State) → NoBack ps → AllFree os
       → Reaches text ps at (frames_of os) nodes end → Tell ps (levels_of os) s ms t → Tell ps (levels_of os) (repointed here back s) ms (repointed here back t)
-  tell_kept text [] at os nodes end s ms t free r h = (h.0, ap (repointed here back) h.1)
-  tell_kept text (p ∷ ps) at [] nodes end s ms t free r h = h
-  tell_kept text (closes ∷ ps) at (o ∷ os) nodes end s ms t free r h =
+  tell_kept text [] at os nodes end s ms t other free r h = (h.0, ap (repointed here back) h.1)
+  tell_kept text (p ∷ ps) at [] nodes end s ms t other free r h = h
+  tell_kept text (closes ∷ ps) at (o ∷ os) nodes end s ms t other free r h =
       subst (λ (x : State). Tell ps (levels_of os) x ms (repointed here back t)) (sym (ended_kept o.frame.place o.node s))
-      (tell_kept text ps r.0 os nodes end (ended o.frame.place o.node s) ms t free.1 r.2 h)
-  tell_kept text (leaf tag v ∷ ps) at (o ∷ os) nodes end s ms t free r h =
+      (tell_kept text ps r.0 os nodes end (ended o.frame.place o.node s) ms t other.1 free.1 r.2 h)
+  tell_kept text (leaf tag v ∷ ps) at (o ∷ os) nodes end s ms t other free r h =
       subst (λ (x : State). Tell ps (levels_of (o ∷ os)) x ms (repointed here back t)) (sym (leaf_kept o.frame.place o.frame.seen o.node (plain tag v) s free.0))
-      (tell_kept text ps r.0 (with_tag tag o ∷ os) nodes end (leaf_told o.frame.place o.node (plain tag v) s) ms t (child_free tag o.frame.place o.frame.seen free.0, free.1) r.2 h)
-  tell_kept text (opens q ∷ ps) at (o ∷ os) nodes end s ms t free r h =
+      (tell_kept text ps r.0 (with_tag tag o ∷ os) nodes end (leaf_told o.frame.place o.node (plain tag v) s) ms t other.1 (child_free tag o.frame.place o.frame.seen free.0, free.1) r.2 h)
+  tell_kept text (opens q ∷ ps) at (o ∷ os) nodes end s ms t other free r h =
       let w = piece_is text o.frame nodes at (opens q) r.0 r.1 in
-      let inner = opens_free q o.frame.place o.frame.seen free.0 w.1.starts.child w.1.follows in
+      let inner = opens_free q o.frame.place o.frame.seen other.0 free.0 w.1.starts.child w.1.follows in
       subst (λ (x : State). Tell ps (record { place = q; node = node_in q o.node s } ∷ levels_of (o ∷ os)) x ms (repointed here back t)) (sym (begun_kept q [] o.node s inner))
-      (tell_kept text ps r.0 (record { frame = fresh q; node = node_in q o.node s } ∷ with_tag (tag_of q) o ∷ os) (counted (opens q) nodes) end (begun q o.node s) ms t (inner, (child_free (tag_of q) o.frame.place o.frame.seen free.0, free.1)) r.2 h)
-  tell_kept text (whole q ∷ ps) at (o ∷ os) nodes end s ms t free r h =
+      (tell_kept text ps r.0 (record { frame = fresh q; node = node_in q o.node s } ∷ with_tag (tag_of q) o ∷ os) (counted (opens q) nodes) end (begun q o.node s) ms t other.1 (inner, (child_free (tag_of q) o.frame.place o.frame.seen free.0, free.1)) r.2 h)
+  tell_kept text (whole q ∷ ps) at (o ∷ os) nodes end s ms t other free r h =
       let w = piece_is text o.frame nodes at (whole q) r.0 r.1 in
-      let inner = opens_free q o.frame.place o.frame.seen free.0 w.1.starts.child w.1.follows in
+      let inner = opens_free q o.frame.place o.frame.seen other.0 free.0 w.1.starts.child w.1.follows in
       let both : ended q (node_in q o.node s) (begun q o.node (repointed here back s)) ≡ repointed here back (ended q (node_in q o.node s) (begun q o.node s)) =
           ap (ended q (node_in q o.node s)) (begun_kept q [] o.node s inner) ∙ ended_kept q (node_in q o.node s) (begun q o.node s) in
       subst (λ (x : State). Tell ps (levels_of (o ∷ os)) x ms (repointed here back t)) (sym both)
-      (tell_kept text ps r.0 (with_tag (tag_of q) o ∷ os) (counted (whole q) nodes) end (ended q (node_in q o.node s) (begun q o.node s)) ms t (child_free (tag_of q) o.frame.place o.frame.seen free.0, free.1) r.2 h)
+      (tell_kept text ps r.0 (with_tag (tag_of q) o ∷ os) (counted (whole q) nodes) end (ended q (node_in q o.node s) (begun q o.node s)) ms t other.1 (child_free (tag_of q) o.frame.place o.frame.seen free.0, free.1) r.2 h)
+
+-- ---- no back pointer comes
+
+-- an open parent in which none can begin
+abbrev Shut : Place → List Tag → Type 0
+Shut place.Index seen = member PreviousGenerationLocation seen ≡ true
+Shut _ seen = Unit {0}
+
+abbrev AllShut : List Frame → Type 0
+AllShut [] = Unit {0}
+AllShut (f ∷ fs) = Shut f.place f.seen × AllShut fs
+
+child_shut : (tag : Tag) (p : Place) (seen : List Tag) → Shut p seen → Shut p (tag ∷ seen)
+child_shut tag place.Index seen shut = member_later PreviousGenerationLocation tag seen shut
+child_shut tag _ seen shut = tt
+
+opens_shut : (q p : Place) → rule p (tag_of q) ≡ child.Parent q → Shut q []
+opens_shut place.Index p is = absurd (no_index p is)
+opens_shut _ p is = tt
+
+no_back : (p : Place) (seen : List Tag) → Shut p seen → rule p PreviousGenerationLocation ≡ child.Parent place.Back → MayFollow p seen PreviousGenerationLocation → ⊥
+no_back place.Index seen shut is m = twice PreviousGenerationLocation seen shut m.once
+no_back _ seen shut is m = absurd (cc (is))
+
+opens_other : (q p : Place) (seen : List Tag) → Shut p seen → rule p (tag_of q) ≡ child.Parent q → MayFollow p seen (tag_of q) → IsOther q
+opens_other place.Back p seen shut is m = no_back p seen shut is m
+opens_other _ p seen shut is m = tt
+
+-- it has stood there, so it doesn't come again
+once_seen : (text : List ℕ) (ps : List Piece) (at : ℕ) (fs : List Frame) (nodes : ℕ) (end : Point) → AllShut fs → Reaches text ps at fs nodes end → NoBack ps
+once_seen text [] at fs nodes end shut r = tt
+once_seen text (p ∷ ps) at [] nodes end shut r = absurd r
+once_seen text (closes ∷ ps) at (f ∷ fs) nodes end shut r = (tt, once_seen text ps r.0 fs nodes end shut.1 r.2)
+once_seen text (leaf tag v ∷ ps) at (f ∷ fs) nodes end shut r = (tt, once_seen text ps r.0 (with_child tag f ∷ fs) nodes end (child_shut tag f.place f.seen shut.0, shut.1) r.2)
+once_seen text (opens q ∷ ps) at (f ∷ fs) nodes end shut r =
+    let w = piece_is text f nodes at (opens q) r.0 r.1 in
+    let is = w.1.starts.child in
+    (opens_other q f.place f.seen shut.0 is w.1.follows, once_seen text ps r.0 (fresh q ∷ with_child (tag_of q) f ∷ fs) (counted (opens q) nodes) end (opens_shut q f.place is, (child_shut (tag_of q) f.place f.seen shut.0, shut.1)) r.2)
+once_seen text (whole q ∷ ps) at (f ∷ fs) nodes end shut r =
+    let w = piece_is text f nodes at (whole q) r.0 r.1 in
+    (opens_other q f.place f.seen shut.0 w.1.starts.child w.1.follows, once_seen text ps r.0 (with_child (tag_of q) f ∷ fs) (counted (whole q) nodes) end (child_shut (tag_of q) f.place f.seen shut.0, shut.1) r.2)
+
+abbrev is_there : Option Spot → Bool
+is_there None = false
+is_there (Some x) = true
+
+abbrev has_back : State → Bool
+has_back s = is_there s.volume.back
+
+there_still : (f : Spot → Spot) (o : Option Spot) → is_there o ≡ true → is_there (option_map f o) ≡ true
+there_still f None there = there
+there_still f (Some x) there = refl
+
+begun_back : (q : Place) (node : ℕ) (s : State) → has_back s ≡ true → has_back (begun q node s) ≡ true
+begun_back place.Back node s there = refl
+begun_back _ node s there = there
+
+leaf_back : (q : Place) (node : ℕ) (i : Item) (s : State) → has_back s ≡ true → has_back (leaf_told q node i s) ≡ true
+leaf_back place.Back node i s there = there_still (spot_with i) s.volume.back there
+leaf_back _ node i s there = there
+
+ended_back : (q : Place) (node : ℕ) (s : State) → has_back s ≡ true → has_back (ended q node s) ≡ true
+ended_back place.Extent node s there = there
+ended_back _ node s there = there
+
+piece_back : (p : Piece) (l : Level) (s : State) → has_back s ≡ true → has_back (piece_told p l s) ≡ true
+piece_back (opens q) l s there = begun_back q l.node s there
+piece_back (whole q) l s there = ended_back q (node_in q l.node s) (begun q l.node s) (begun_back q l.node s there)
+piece_back closes l s there = ended_back l.place l.node s there
+piece_back (leaf tag v) l s there = leaf_back l.place l.node (plain tag v) s there
+
+tell_back : (ps : List Piece) (ls : List Level) (s : State) (ms : List Level) (t : State) → Tell ps ls s ms t → has_back s ≡ true → has_back t ≡ true
+tell_back [] ls s ms t h there = ap has_back (sym h.1) ∙ there
+tell_back (p ∷ ps) [] s ms t h there = absurd h
+tell_back (p ∷ ps) (l ∷ ls) s ms t h there = tell_back ps (levels_after p l ls s) (piece_told p l s) ms t h (piece_back p l s there)
+
+begun_other : (q : Place) (node : ℕ) (s : State) → (has_back (begun q node s) ≡ true → ⊥) → IsOther q
+begun_other place.Back node s never = never refl
+begun_other _ node s never = tt
+
+-- none is told in the end, so none comes
+never_told : (ps : List Piece) (ls : List Level) (s : State) (ms : List Level) (t : State) → t.volume.back ≡ None → Tell ps ls s ms t → NoBack ps
+never_told [] ls s ms t none h = tt
+never_told (p ∷ ps) [] s ms t none h = absurd h
+never_told (closes ∷ ps) (l ∷ ls) s ms t none h = (tt, never_told ps ls (ended l.place l.node s) ms t none h)
+never_told (leaf tag v ∷ ps) (l ∷ ls) s ms t none h = (tt, never_told ps (l ∷ ls) (leaf_told l.place l.node (plain tag v) s) ms t none h)
+never_told (opens q ∷ ps) (l ∷ ls) s ms t none h =
+    (begun_other q l.node s (λ there. let bad : true ≡ false = sym (tell_back ps (record { place = q; node = node_in q l.node s } ∷ l ∷ ls) (begun q l.node s) ms t h there) ∙ ap is_there none in cc),
+    never_told ps (record { place = q; node = node_in q l.node s } ∷ l ∷ ls) (begun q l.node s) ms t none h)
+never_told (whole q ∷ ps) (l ∷ ls) s ms t none h =
+    (begun_other q l.node s (λ there. let bad : true ≡ false = sym (tell_back ps (l ∷ ls) (ended q (node_in q l.node s) (begun q l.node s)) ms t h (ended_back q (node_in q l.node s) (begun q l.node s) there)) ∙ ap is_there none in cc),
+    never_told ps (l ∷ ls) (ended q (node_in q l.node s) (begun q l.node s)) ms t none h)
 
 -- ---- a front and what follows
 
@@ -215,10 +330,11 @@ reaches_join text (q ∷ qs) rs at (f ∷ fs) nodes to gs n end r s = (r.0, r.1,
 
 -- ---- the whole
 
-module _ (front other rest : List ℕ) (seen : Children) (s : State) (here back : Spot) (first : IsFront (front ++ rest) (length front) seen s) (second : IsFront (other ++ rest) (length other) seen (repointed here back s)) where
+module _ (front other rest : List ℕ) (seen more : Children) (s : State) (here back : Spot) (lone : Bool) (first : IsFront (front ++ rest) (length front) seen s) (second : IsFront (other ++ rest) (length other) more (repointed here back s))
+    (with_back : (tags : List Tag) → Holds seen tags → Holds more (PreviousGenerationLocation ∷ tags)) (has : (tags : List Tag) → Holds seen tags → HasBack lone tags) where
   -- all of the one text is read as it was, so all of the other one is, with its pointers
-  whole_repointed : (t : State) → IsWhole (front ++ rest) t → IsWhole (other ++ rest) (repointed here back t)
-  whole_repointed t w =
+  whole_repointed : (t : State) → (lone ≡ true → t.volume.back ≡ None) → IsWhole (front ++ rest) t → IsWhole (other ++ rest) (repointed here back t)
+  whole_repointed t alone w =
       let o = w.accepts.opened in
       let end = w.accepts.point in
       let heads : ◌≡◌ {A = Result ℕ PieceErr} (Ok o.inside) (Ok first.inside) = sym o.head_is ∙ first.head_is in
@@ -226,18 +342,22 @@ module _ (front other rest : List ℕ) (seen : Children) (s : State) (here back 
       let walk : Reaches (front ++ rest) w.ps first.inside (fresh place.Index ∷ []) 0 end = subst (λ (n : ℕ). Reaches (front ++ rest) w.ps n (fresh place.Index ∷ []) 0 end) insides o.reaches in
       let cut = split_at (front ++ rest) first.ps w.ps first.inside (fresh place.Index ∷ []) 0 (length front) (frame place.Index first.tags) [] (length s.nodes) end first.reaches walk w.accepts.closed in
       let told : Tell cut.0 outermost s [] t = tell_split first.ps cut.0 outermost blank outermost s [] t first.tells (subst (λ (l : List Piece). Tell l outermost blank [] t) cut.1 w.tells) in
+      let comes : NoBack cut.0 =
+          ⊎_elim (λ (is : lone ≡ true). never_told cut.0 outermost s [] t (alone is) told)
+          (λ (there : member PreviousGenerationLocation first.tags ≡ true). once_seen (front ++ rest) cut.0 (length front) (frame place.Index first.tags ∷ []) (length s.nodes) end (there, tt) cut.2)
+          (has first.tags first.seen_is) in
       let from : length front ≡ past front 0 = omega (arith, past_is front 0) in
       let begins : past other 0 ≡ length other = omega (arith, past_is other 0) in
       let tail = reaches_back front rest cut.0 0 (frame place.Index first.tags ∷ []) (length s.nodes) end (subst (λ (n : ℕ). Reaches (front ++ rest) cut.0 n (frame place.Index first.tags ∷ []) (length s.nodes) end) from cut.2) in
       let closed : tail.0.parents ≡ [] = ap (λ (x : Point). x.parents) (sym tail.2) ∙ w.accepts.closed in
       let there = reaches_past other rest cut.0 0 (frame place.Index first.tags ∷ []) (length s.nodes) tail.0 tail.1 in
-      let mine = reaches_alike (other ++ rest) cut.0 (past other 0) [] place.Index first.tags second.tags (length s.nodes) (moved other tail.0) (same_children seen first.tags second.tags first.seen_is second.seen_is) closed there in
+      let mine = reaches_alike (other ++ rest) cut.0 (past other 0) [] first.tags second.tags (length s.nodes) (moved other tail.0) (same_children more first.tags second.tags (with_back first.tags first.seen_is) second.seen_is) comes closed there in
       let joined = reaches_join (other ++ rest) second.ps cut.0 second.inside (fresh place.Index ∷ []) 0 (length other) (frame place.Index second.tags ∷ []) (length s.nodes) (moved other tail.0) second.reaches
           (subst (λ (n : ℕ). Reaches (other ++ rest) cut.0 n (frame place.Index second.tags ∷ []) (length s.nodes) (moved other tail.0)) begins mine) in
       let ended : past front (space_end rest tail.0.at) ≡ past front (length rest) =
           sym (space_past front rest tail.0.at) ∙ ap (λ (x : Point). space_end (front ++ rest) x.at) (sym tail.2) ∙ w.accepts.ended ∙ sym (past_all front rest) in
       let kept : Tell cut.0 outermost (repointed here back s) [] (repointed here back t) =
-          tell_kept here back (front ++ rest) cut.0 (length front) (record { frame = frame place.Index first.tags; node = 0 } ∷ []) (length s.nodes) end s [] t ((first.here, first.back), tt) cut.2 told in
+          tell_kept here back (front ++ rest) cut.0 (length front) (record { frame = frame place.Index first.tags; node = 0 } ∷ []) (length s.nodes) end s [] t comes (first.here, tt) cut.2 told in
       record {
         ps = second.ps ++ cut.0;
         accepts = record {
@@ -250,8 +370,8 @@ module _ (front other rest : List ℕ) (seen : Children) (s : State) (here back 
       }
 
   -- a text with another front of other pointers is that of the same index with these pointers
-  pub text_repointed : IsUtf8 (other ++ rest) → (index : Index) → IndexText (front ++ rest) index → IndexText (other ++ rest) (with_pointers index here back)
-  text_repointed valid index i =
+  pub text_repointed : IsUtf8 (other ++ rest) → (index : Index) → (lone ≡ true → index.back ≡ None) → IndexText (front ++ rest) index → IndexText (other ++ rest) (with_pointers index here back)
+  text_repointed valid index alone i =
       let x = spelled_whole (front ++ rest) i.value i.spells in
       let facts : volume_of index ≡ x.state.volume = i.tells.volume ∙ x.volume in
       let agrees : Agrees (with_pointers index here back) = record { uids = i.agrees.uids; names = i.agrees.names; keys = i.agrees.keys; files = i.agrees.files } in
@@ -259,18 +379,19 @@ module _ (front other rest : List ℕ) (seen : Children) (s : State) (here back 
       (record {
         valid = valid;
         state = repointed here back x.state;
-        whole = whole_repointed x.state x.whole;
+        whole = whole_repointed x.state (λ is. ap (λ (v : VolumeFacts). v.back) (sym facts) ∙ alone is) x.whole;
         volume = ap (λ (v : VolumeFacts). record v { here = here; back = Some back }) facts;
         nodes = i.tells.nodes ∙ x.nodes;
       }) agrees
 
 -- the same of a text that gets another front up to a place
-pub text_swapped : (text other : List ℕ) (at : ℕ) (seen : Children) (s : State) (here back : Spot) → at ≤ length text → IsFront text at seen s → IsUtf8 (take at text) → IsUtf8 other
-    → IsFront (other ++ drop at text) (length other) seen (repointed here back s) → (index : Index) → IndexText text index → IndexText (other ++ drop at text) (with_pointers index here back)
-text_swapped text other at seen s here back le first front_valid other_valid second index i =
+pub text_swapped : (text other : List ℕ) (at : ℕ) (seen more : Children) (s : State) (here back : Spot) (lone : Bool) → at ≤ length text → IsFront text at seen s → IsUtf8 (take at text) → IsUtf8 other
+    → IsFront (other ++ drop at text) (length other) more (repointed here back s) → ((tags : List Tag) → Holds seen tags → Holds more (PreviousGenerationLocation ∷ tags))
+    → ((tags : List Tag) → Holds seen tags → HasBack lone tags) → (index : Index) → (lone ≡ true → index.back ≡ None) → IndexText text index → IndexText (other ++ drop at text) (with_pointers index here back)
+text_swapped text other at seen more s here back lone le first front_valid other_valid second with_back has index alone i =
     let valid : IsUtf8 text = i.spells.spelled.valid in
     let rest_valid : IsUtf8 (drop at text) = IsUtf8-drop text at valid (IsCharBoundary-from_take text at valid le front_valid) in
     let whole : text ≡ take at text ++ drop at text = sym (take-append-drop at text) in
     let long : at ≡ length (take at text) = sym (length-take-le at text le) in
     let begins : IsFront (take at text ++ drop at text) (length (take at text)) seen s = subst (λ (n : ℕ). IsFront (take at text ++ drop at text) n seen s) long (subst (λ (t : List ℕ). IsFront t at seen s) whole first) in
-    text_repointed (take at text) other (drop at text) seen s here back begins second (IsUtf8-append other (drop at text) other_valid rest_valid) index (subst (λ (t : List ℕ). IndexText t index) whole i)
+    text_repointed (take at text) other (drop at text) seen more s here back lone begins second with_back has (IsUtf8-append other (drop at text) other_valid rest_valid) index alone (subst (λ (t : List ℕ). IndexText t index) whole i)

@@ -136,9 +136,9 @@ halted_at text inside at n m ps o os top e is count r h =
 -- ---- a front
 
 -- what is kept is a front, where the root alone is open, and both pointers have stood in it
-pub is_front : (text : List ℕ) (inside at : ℕ) (top : code_level.Level) (outer : List code_level.Level) (s : State) → Kept text inside at top outer s → length outer ≡ 0 → IsRootPointed top
+pub is_front : (text : List ℕ) (inside at : ℕ) (lone : Bool) (top : code_level.Level) (outer : List code_level.Level) (s : State) → Kept text inside at top outer s → length outer ≡ 0 → IsRootPointed lone top
     → head_of place.Index text ≡ Ok inside → IsFront text at top.frame.seen s
-is_front text inside at top outer s k none root head = by k.os (ap length (sym k.outer_is) ∙ none) k.reaches k.tells
+is_front text inside at lone top outer s k none root head = by k.os (ap length (sym k.outer_is) ∙ none) k.reaches k.tells
   where
     by : (os : List Opened) → length (stacked os) ≡ 0 → Reaches text k.ps inside (fresh place.Index ∷ []) 0 (point at (frames_of (k.o ∷ os)) (length s.nodes)) → Tell k.ps outermost blank (levels_of (k.o ∷ os)) s → IsFront text at top.frame.seen s
     by [] e r t =
@@ -154,6 +154,5 @@ is_front text inside at top outer s k none root head = by k.os (ap length (sym k
           reaches = subst (λ (p : Place). Reaches text k.ps inside (fresh place.Index ∷ []) 0 (point at (record { place = p; seen = k.o.frame.seen } ∷ []) (length s.nodes))) places r;
           tells = subst (λ (n : ℕ). Tell k.ps outermost blank (record { place = place.Index; node = n } ∷ []) s) nodes (subst (λ (p : Place). Tell k.ps outermost blank (record { place = p; node = k.o.node } ∷ []) s) places t);
           here = root.here k.o.frame.seen seen_is;
-          back = root.back k.o.frame.seen seen_is;
         }
     by (o ∷ os) e r t = absurd (omega (arith, e, length-append (stacked os) (coded o ∷ [])))

@@ -1,5 +1,5 @@
--- The front of a document of an index, behind which both of its pointers are told.
-use Rattle.std.specs.Prelude.{◌≡◌, ℕ, List, [], ◌∷◌, true, length, Some, Ok}
+-- The front of a document of an index, behind which its pointers are told.
+use Rattle.std.specs.Prelude.{◌≡◌, ◌⊎◌, Bool, ℕ, List, [], ◌∷◌, true, length, Some, Ok}
 use Rattle.tape_types.specs.Times.{civil_of}
 use Rattle.doc_fields.specs.declared.tags.Tag.{Tag}
 use Rattle.doc_fields.specs.declared.tags.Tag.TheVariants.{Location, PreviousGenerationLocation}
@@ -14,8 +14,8 @@ use Rattle.index_read.specs.declared.drafts.Draft.{Draft}
 use Rattle.index_read.specs.declared.walking.Level as code_level
 use Rattle.index_read.specs.Told.{State, Tell, blank, outermost}
 
--- up to a place a text is whole pieces, of which the root alone is open then; its children that have stood there, both
--- pointers among them, and what was told
+-- up to a place a text is whole pieces, of which the root alone is open then; its children that have stood there, the
+-- self pointer among them, and what was told
 pub record IsFront (text : List ℕ) (at : ℕ) (seen : Children) (s : State) : Type 0 where
   pub inside : ℕ
   pub head_is : head_of place.Index text ≡ Ok inside
@@ -26,7 +26,10 @@ pub record IsFront (text : List ℕ) (at : ℕ) (seen : Children) (s : State) : 
       (record { at = at; parents = record { place = place.Index; seen = tags } ∷ []; nodes = length s.nodes })
   pub tells : Tell ps outermost blank outermost s
   pub here : member Location tags ≡ true
-  pub back : member PreviousGenerationLocation tags ≡ true
+
+-- the back pointer has stood there, where there is one
+abbrev pub HasBack : Bool → List Tag → Type 0
+HasBack lone tags = (lone ≡ true) ⊎ (member PreviousGenerationLocation tags ≡ true)
 
 -- what was told, with other pointers
 abbrev pub repointed : (here back : Spot) → State → State
@@ -36,12 +39,12 @@ repointed here back s = record s { volume = record s.volume { here = here; back 
 abbrev pub with_pointers : Index → (here back : Spot) → Index
 with_pointers index here back = record index { here = here; back = Some back }
 
--- both pointers have stood in an open parent, which is the root
-pub record IsRootPointed (top : code_level.Level) : Type 0 where
+-- the pointers have stood in an open parent, which is the root; `lone` says that there is no back pointer
+pub record IsRootPointed (lone : Bool) (top : code_level.Level) : Type 0 where
   pub place : top.frame.place ≡ place.Index
   pub node : top.node ≡ 0
   pub here : (tags : List Tag) → Holds top.frame.seen tags → member Location tags ≡ true
-  pub back : (tags : List Tag) → Holds top.frame.seen tags → member PreviousGenerationLocation tags ≡ true
+  pub back : (tags : List Tag) → Holds top.frame.seen tags → HasBack lone tags
 
 -- ---- two indexes that are alike but for their pointers and nodes
 

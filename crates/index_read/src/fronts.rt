@@ -1,17 +1,20 @@
 //! Other pointers in the text of an index.
 
-ghost use Rattle.std.specs.Prelude.{◌≡◌, ◌++◌, ◌≤◌, [], true, drop, length, take, IfSome, IsTrue, IsUtf8, None, Some};
+ghost use Rattle.std.specs.Prelude.{◌≡◌, ◌++◌, ◌≤◌, ◌∷◌, [], List, true, drop, length, take, IfSome, IsTrue, IsUtf8, None, Some};
 ghost use Rattle.tape_types.specs.Times.{civil_of};
-ghost use Rattle.index_model.specs.declared.indexes.Index.{Index as IndexOf};
+ghost use Rattle.doc_elements.specs.Children.{Holds};
+ghost use Rattle.doc_fields.specs.declared.tags.Tag.{Tag as TagOf};
+ghost use Rattle.doc_fields.specs.declared.tags.Tag.TheVariants.{PreviousGenerationLocation};
 ghost use Rattle.index_model.specs.Grammar.{IndexText};
 ghost use Rattle.index_read.specs.Drafts.{state_of};
-ghost use Rattle.index_read.specs.Fronts.{AreDraftedAlike, AreNamedAlike, AreNumberedAlike, AreRuledAlike, IsFront};
+ghost use Rattle.index_read.specs.Fronts.{AreDraftedAlike, AreNamedAlike, AreNumberedAlike, AreRuledAlike, HasBack, IsFront};
 ghost use Rattle.index_read.specs.Fronts.{repointed, with_pointers};
 
 use crate::drafts::Draft;
 use crate::guesses::respelled;
 use crate::walking::front_behind;
 use doc_elements::{Children, Place, readable, skip_head};
+use doc_fields::Tag;
 use index_model::{Index, Node, Spot};
 use std::alloc::Global;
 use tape_types::{Bytes, Moment, Text};
@@ -27,18 +30,25 @@ pub struct Front {
 /// Puts other pointers in the text of an index, as they are likely to be spelled there, and tells whether it is now the
 /// text of that index with these pointers. Where it isn't, any bytes may stand there. What follows the pointers isn't
 /// read: it is as it was.
-pub fn repoint(alloc: Global, text: &mut Vec<u8>, here: Spot, back: Spot) -> bool
-    ensures { IsTrue result → (index : IndexOf) → IndexText text.old.items index
-        → IndexText text.new.items (with_pointers index here back) }
+pub fn repoint(
+    alloc: Global,
+    index: &Index,
+    text: &mut Vec<u8>,
+    here: Spot,
+    back: Spot,
+) -> bool
+    ensures { IsTrue result → IndexText text.old.items index.now
+        → IndexText text.new.items (with_pointers index.now here back) }
 {
-    let Some(first) = front_of(alloc, text.as_slice()) else {
+    let lone = is_lone(index);
+    let Some(first) = front_of(alloc, text.as_slice(), lone) else {
         return false;
     };
     let front = &text[..first.at];
     if !is_text(front) {
         return false;
     }
-    let Some(other) = respelled(alloc, front, here, back) else {
+    let Some(other) = respelled(alloc, front, lone, here, back) else {
         return false;
     };
     if !is_text(other.as_slice()) {
@@ -48,36 +58,57 @@ pub fn repoint(alloc: Global, text: &mut Vec<u8>, here: Spot, back: Spot) -> boo
     if !put_front(text, first.at, other) {
         return false;
     }
-    let Some(second) = front_of(alloc, text.as_slice()) else {
+    let Some(second) = front_of(alloc, text.as_slice(), false) else {
         return false;
     };
     is_repointed(&first, &second, length, here, back)
 }
 
+/// Whether an index has no back pointer.
+fn is_lone(index: &Index) -> bool
+    ensures { result ≡ true → index.now.back ≡ None }
+{
+    match index.back {
+        Some(_) => false,
+        None => true,
+    }
+}
+
 /// Whether a second front has so many bytes, and tells these pointers and all else that the first one tells.
 fn is_repointed(first: &Front, second: &Front, length: usize, here: Spot, back: Spot) -> bool
     ensures at { IsTrue result → second.now.at ≡ length }
-    ensures seen { IsTrue result → second.now.seen ≡ first.now.seen }
+    ensures seen { IsTrue result → (tags : List TagOf) → Holds first.now.seen tags
+        → Holds second.now.seen (PreviousGenerationLocation ∷ tags) }
     ensures told { IsTrue result → state_of second.now.draft ≡ repointed here back (state_of first.now.draft) }
 {
     ends_alike(first, second, length) && tells_alike(&first.draft, &second.draft, here, back)
 }
 
-/// Whether a second front has so many bytes, and the same children of the root have stood there.
+/// Whether a second front has so many bytes, and the same children of the root have stood there, and a back pointer.
 fn ends_alike(first: &Front, second: &Front, length: usize) -> bool
     ensures at { IsTrue result → second.now.at ≡ length }
-    ensures seen { IsTrue result → second.now.seen ≡ first.now.seen }
+    ensures seen { IsTrue result → (tags : List TagOf) → Holds first.now.seen tags
+        → Holds second.now.seen (PreviousGenerationLocation ∷ tags) }
 {
-    second.at == length && second.seen == first.seen
+    second.at == length && has_more(first.seen, second.seen)
 }
 
-/// The shortest front of a text that tells both pointers of its index, where they stand before the nodes.
-fn front_of(alloc: Global, text: &[u8]) -> Option<Front>
+fn has_more(first: Children, second: Children) -> bool
+    ensures { IsTrue result → (tags : List TagOf) → Holds first tags
+        → Holds second (PreviousGenerationLocation ∷ tags) }
+{
+    let more = first.with(Tag::PreviousGenerationLocation);
+    second == more
+}
+
+/// The shortest front of a text that tells the pointers of its index, where they stand before the nodes.
+fn front_of(alloc: Global, text: &[u8], lone: bool) -> Option<Front>
     ensures front { IfSome result (λ f. IsFront text.now f.at f.seen (state_of f.draft)) }
+    ensures back { IfSome result (λ f. (tags : List TagOf) → Holds f.seen tags → HasBack lone tags) }
     ensures within { IfSome result (λ f. f.at ≤ length text.now) }
 {
     match skip_head(Place::Index, text) {
-        Ok(inside) => front_behind(alloc, text, inside),
+        Ok(inside) => front_behind(alloc, text, inside, lone),
         Err(_) => None,
     }
 }

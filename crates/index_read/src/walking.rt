@@ -9,8 +9,8 @@ ghost use Rattle.index_read.specs.Told.{State, blank, node_in, piece_told};
 ghost use Rattle.doc_elements.specs.Children.{Holds, member};
 ghost use Rattle.doc_elements.specs.Documents.{Halted, head_of};
 ghost use Rattle.doc_fields.specs.declared.tags.Tag.{Tag as TagOf};
-ghost use Rattle.doc_fields.specs.declared.tags.Tag.TheVariants.{Location, PreviousGenerationLocation};
-ghost use Rattle.index_read.specs.Fronts.{IsFront, IsRootPointed};
+ghost use Rattle.doc_fields.specs.declared.tags.Tag.TheVariants.{Location};
+ghost use Rattle.index_read.specs.Fronts.{HasBack, IsFront, IsRootPointed};
 ghost use Rattle.index_read.specs.Walks.{Keeps, Opened, Walked, coded, level_in, opened_after, stacked, with_tag};
 
 use crate::drafts::Draft;
@@ -142,29 +142,40 @@ pub fn walk(alloc: Global, text: &[u8], inside: usize) -> Result<(Draft, usize),
     unreachable!()
 }
 
-/// Whether an open parent is the root, and both pointers have stood in it.
-fn is_root_pointed(top: Level) -> bool
-    ensures { IsTrue result → IsRootPointed top }
+/// Whether an open parent is the root, and the pointers have stood in it, of which `lone` says that there is but one.
+fn is_root_pointed(top: Level, lone: bool) -> bool
+    ensures { IsTrue result → IsRootPointed lone top }
 {
     match top.frame.place {
-        Place::Index => top.node == 0 && tells_both(top.frame.seen),
+        Place::Index => top.node == 0 && has_pointers(top.frame.seen, lone),
         _ => false,
     }
 }
 
-fn tells_both(seen: Children) -> bool
+fn has_pointers(seen: Children, lone: bool) -> bool
     ensures here { IsTrue result → (tags : List TagOf) → Holds seen tags → member Location tags ≡ true }
-    ensures back { IsTrue result → (tags : List TagOf) → Holds seen tags → member PreviousGenerationLocation tags ≡ true }
+    ensures back { IsTrue result → (tags : List TagOf) → Holds seen tags → HasBack lone tags }
 {
-    seen.has(Tag::Location) && seen.has(Tag::PreviousGenerationLocation)
+    seen.has(Tag::Location) && has_back(seen, lone)
 }
 
-/// The shortest front of a text that tells both pointers behind the root's start tag, which ends at `inside`; none
-/// where nodes come before them, where the text isn't read, or where memory is refused.
-pub fn front_behind(alloc: Global, text: &[u8], inside: usize) -> Option<Front>
+fn has_back(seen: Children, lone: bool) -> bool
+    ensures { IsTrue result → (tags : List TagOf) → Holds seen tags → HasBack lone tags }
+{
+    if lone {
+        return true;
+    }
+    seen.has(Tag::PreviousGenerationLocation)
+}
+
+/// The shortest front of a text that tells the pointers behind the root's start tag, which ends at `inside`: both, or
+/// the self pointer where there is no other; none where nodes come before them, where the text isn't read, or where
+/// memory is refused.
+pub fn front_behind(alloc: Global, text: &[u8], inside: usize, lone: bool) -> Option<Front>
     requires { inside ≤ length text.now }
     ensures front { IfSome result (λ f. head_of place.Index text.now ≡ Ok inside
         → IsFront text.now f.at f.seen (state_of f.draft)) }
+    ensures back { IfSome result (λ f. (tags : List TagOf) → Holds f.seen tags → HasBack lone tags) }
     ensures within { IfSome result (λ f. f.at ≤ length text.now) }
 {
     let mut draft = Draft::new(alloc);
@@ -179,7 +190,7 @@ pub fn front_behind(alloc: Global, text: &[u8], inside: usize) -> Option<Front>
     let mut at = inside;
     while draft.nodes.len() == 0 {
         let open = outer.len();
-        if open == 0 && is_root_pointed(top) {
+        if open == 0 && is_root_pointed(top, lone) {
             return Some(Front {
                 draft,
                 seen: top.frame.seen,

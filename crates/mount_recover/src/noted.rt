@@ -182,7 +182,7 @@ fn noted_on_ip<D: Drive>(
         letter: labels.ip.dpart,
         block: dp.place.first,
     };
-    let likely = repoint(alloc, document, here, back);
+    let likely = repoint(alloc, &dp.index, document, here, back);
     match read_ending(alloc, drive, start, Part::Ip, named.ip.block - 1, document) {
         Ok(Some(e)) => {
             if likely && e.same {

@@ -1,5 +1,4 @@
 use Rattle.std.proofs.Common.{rules, ◌≡◌, ◌≤◌, ◌++◌, ℕ, List, drop, length, take, IsUtf8, sym, subst, ◌∙◌}
-use Rattle.doc_elements.specs.declared.children.Children.{Children}
 use Rattle.index_model.specs.Grammar.{IndexText}
 use Rattle.index_read.specs.Drafts.{state_of}
 use Rattle.index_read.specs.Fronts.{IsFront, repointed, with_pointers}
@@ -8,7 +7,7 @@ use Rattle.index_read.proofs.Repointed.{text_swapped}
 use Rattle.index_read.proofs.fronts.repoint.Goals as goal
 
 pub returns : goal.returns
-returns c = λ yes index i.
+returns c = λ yes i.
     let text = c.args.text.now.items in
     let first = c.in-Some.first in
     let second = c.in-Some-front_of.second in
@@ -21,9 +20,9 @@ returns c = λ yes index i.
     let long : c.len-length.result ≡ length other = search rules in
     let there : IsFront (other ++ drop first.at text) second.at second.seen (state_of second.draft) =
         subst (λ (t : List ℕ). IsFront t second.at second.seen (state_of second.draft)) (c.as_slice-3.ensures.value ∙ put) c.in-Some-front_of.ensures.front in
-    let same : IsFront (other ++ drop first.at text) (length other) first.seen (repointed c.args.here c.args.back (state_of first.draft)) =
-        subst (λ (s : State). IsFront (other ++ drop first.at text) (length other) first.seen s) (c.is_repointed.ensures.told yes)
-        (subst (λ (x : Children). IsFront (other ++ drop first.at text) (length other) x (state_of second.draft)) (c.is_repointed.ensures.seen yes)
-        (subst (λ (n : ℕ). IsFront (other ++ drop first.at text) n second.seen (state_of second.draft)) (c.is_repointed.ensures.at yes ∙ long) there)) in
-    subst (λ (t : List ℕ). IndexText t (with_pointers index c.args.here c.args.back)) (sym put)
-    (text_swapped text other first.at first.seen (state_of first.draft) c.args.here c.args.back le begins valid other_valid same index i)
+    let same : IsFront (other ++ drop first.at text) (length other) second.seen (repointed c.args.here c.args.back (state_of first.draft)) =
+        subst (λ (s : State). IsFront (other ++ drop first.at text) (length other) second.seen s) (c.is_repointed.ensures.told yes)
+        (subst (λ (n : ℕ). IsFront (other ++ drop first.at text) n second.seen (state_of second.draft)) (c.is_repointed.ensures.at yes ∙ long) there) in
+    subst (λ (t : List ℕ). IndexText t (with_pointers c.args.index.now c.args.here c.args.back)) (sym put)
+    (text_swapped text other first.at first.seen second.seen (state_of first.draft) c.args.here c.args.back c.is_lone-lone.result le begins valid other_valid same (c.is_repointed.ensures.seen yes)
+    c.in-Some.ensures.back c.args.index.now c.is_lone-lone.ensures i)

@@ -54,5 +54,5 @@ pub returns-then-is_root_pointed-clause-front : goal.returns-then-is_root_pointe
 returns-then-is_root_pointed-clause-front c =
     let len : c.len-open.result ≡ length c.loop-alloc.outer.items = search rules in
     let none : c.len-open.result ≡ 0 = c.if-open-eq0.true in
-    λ head. is_front c.args.text.now c.args.inside c.loop-alloc.at c.loop-alloc.top c.loop-alloc.outer.items (state_of c.loop-alloc.draft) c.loop-alloc.invariant (sym len ∙ none)
+    λ head. is_front c.args.text.now c.args.inside c.loop-alloc.at c.args.lone c.loop-alloc.top c.loop-alloc.outer.items (state_of c.loop-alloc.draft) c.loop-alloc.invariant (sym len ∙ none)
     (c.is_root_pointed.ensures c.if-is_root_pointed.true) head

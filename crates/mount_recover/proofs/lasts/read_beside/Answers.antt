@@ -28,7 +28,7 @@ returns-then-same g c =
           (at_told (IsKnownIp c.args.basis.now.labels.now c.args.place c.args.basis.now.scans.now.dp.constructs (Some c.args.dp.index)) h c.requires.known)
           (at_told (IsLastDp c.args.basis.now.labels.now.ip (Some c.args.dp)) h c.requires.dp) c.read_document.new.document.items
           (newest_document held.ip c.args.place c.read_document.new.document.items (at_told (IsKnownIp c.args.basis.now.labels.now c.args.place c.args.basis.now.scans.now.dp.constructs (Some c.args.dp.index)) h c.requires.known).newest is)
-          (subst (λ (t : List ℕ). IndexText t (twin_of c.args.dp.index c.twin_at-twin.result)) (sym (c.in_ok-same.ensures.any c.if-same.true)) (c.repoint-likely.ensures c.if-likely.true c.args.dp.index c.requires.sound_dp.text));
+          (subst (λ (t : List ℕ). IndexText t (twin_of c.args.dp.index c.twin_at-twin.result)) (sym (c.in_ok-same.ensures.any c.if-same.true)) (c.repoint-likely.ensures c.if-likely.true c.requires.sound_dp.text));
     }))
     (λ same.
     (record {

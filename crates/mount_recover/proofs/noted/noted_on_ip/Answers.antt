@@ -26,7 +26,7 @@ returns-then-e g c =
     alike_found c.args.labels.now c.args.named c.args.start.limits c.args.dp _ refl
     c.in-Ok-Some.e _ c.requires.begins.0 refl refl refl c.requires.since.range c.requires.sound c.requires.noted.last _ _ any c.alike.result c.alike.ensures.some c.alike.ensures.none
     held k.0 k.1 k.2 c.read_ending.new.document.items ends
-    (subst (λ (t : List ℕ). IndexText t (pointed c.args.dp.index (record { letter = c.args.labels.now.ip.index; block = c.args.named.ip.block }) (record { letter = c.args.labels.now.ip.dpart; block = c.args.dp.place.first }))) (sym (any.same c.if-e.true)) (c.repoint-likely.ensures c.if-likely.true c.args.dp.index c.requires.noted.text)))
+    (subst (λ (t : List ℕ). IndexText t (pointed c.args.dp.index (record { letter = c.args.labels.now.ip.index; block = c.args.named.ip.block }) (record { letter = c.args.labels.now.ip.dpart; block = c.args.dp.place.first }))) (sym (any.same c.if-e.true)) (c.repoint-likely.ensures c.if-likely.true c.requires.noted.text)))
     (λ any.
     alike_sound c.args.labels.now c.args.named c.args.start.limits c.args.dp _ refl
     c.in-Ok-Some.e _ c.requires.begins.0 refl refl refl c.requires.since.range c.requires.sound c.requires.noted.last _ _ any c.alike.result c.alike.ensures.some c.alike.ensures.none)
