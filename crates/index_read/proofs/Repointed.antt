@@ -194,7 +194,7 @@ module _ (here back : Spot) where
       let w = piece_is text o.frame nodes at (whole q) r.0 r.1 in
       let inner = opens_free q o.frame.place o.frame.seen other.0 free.0 w.1.starts.child w.1.follows in
       let both : ended q (node_in q o.node s) (begun q o.node (repointed here back s)) ≡ repointed here back (ended q (node_in q o.node s) (begun q o.node s)) =
-          ap (ended q (node_in q o.node s)) (begun_kept q [] o.node s inner) ∙ ended_kept q (node_in q o.node s) (begun q o.node s) in
+      ap (ended q (node_in q o.node s)) (begun_kept q [] o.node s inner) ∙ ended_kept q (node_in q o.node s) (begun q o.node s) in
       subst (λ (x : State). Tell ps (levels_of (o ∷ os)) x ms (repointed here back t)) (sym both)
       (tell_kept text ps r.0 (with_tag (tag_of q) o ∷ os) (counted (whole q) nodes) end (ended q (node_in q o.node s) (begun q o.node s)) ms t other.1 (child_free (tag_of q) o.frame.place o.frame.seen free.0, free.1) r.2 h)
 
@@ -283,12 +283,14 @@ never_told [] ls s ms t none h = tt
 never_told (p ∷ ps) [] s ms t none h = absurd h
 never_told (closes ∷ ps) (l ∷ ls) s ms t none h = (tt, never_told ps ls (ended l.place l.node s) ms t none h)
 never_told (leaf tag v ∷ ps) (l ∷ ls) s ms t none h = (tt, never_told ps (l ∷ ls) (leaf_told l.place l.node (plain tag v) s) ms t none h)
-never_told (opens q ∷ ps) (l ∷ ls) s ms t none h =
-    (begun_other q l.node s (λ there. let bad : true ≡ false = sym (tell_back ps (record { place = q; node = node_in q l.node s } ∷ l ∷ ls) (begun q l.node s) ms t h there) ∙ ap is_there none in cc),
-    never_told ps (record { place = q; node = node_in q l.node s } ∷ l ∷ ls) (begun q l.node s) ms t none h)
-never_told (whole q ∷ ps) (l ∷ ls) s ms t none h =
-    (begun_other q l.node s (λ there. let bad : true ≡ false = sym (tell_back ps (l ∷ ls) (ended q (node_in q l.node s) (begun q l.node s)) ms t h (ended_back q (node_in q l.node s) (begun q l.node s) there)) ∙ ap is_there none in cc),
-    never_told ps (l ∷ ls) (ended q (node_in q l.node s) (begun q l.node s)) ms t none h)
+never_told (opens q ∷ ps) (l ∷ ls) s ms t none h = (
+  begun_other q l.node s (λ there. let bad : true ≡ false = sym (tell_back ps (record { place = q; node = node_in q l.node s } ∷ l ∷ ls) (begun q l.node s) ms t h there) ∙ ap is_there none in cc),
+  never_told ps (record { place = q; node = node_in q l.node s } ∷ l ∷ ls) (begun q l.node s) ms t none h,
+)
+never_told (whole q ∷ ps) (l ∷ ls) s ms t none h = (
+  begun_other q l.node s (λ there. let bad : true ≡ false = sym (tell_back ps (l ∷ ls) (ended q (node_in q l.node s) (begun q l.node s)) ms t h (ended_back q (node_in q l.node s) (begun q l.node s) there)) ∙ ap is_there none in cc),
+  never_told ps (l ∷ ls) (ended q (node_in q l.node s) (begun q l.node s)) ms t none h,
+)
 
 -- ---- a front and what follows
 
@@ -343,9 +345,9 @@ module _ (front other rest : List ℕ) (seen more : Children) (s : State) (here 
       let cut = split_at (front ++ rest) first.ps w.ps first.inside (fresh place.Index ∷ []) 0 (length front) (frame place.Index first.tags) [] (length s.nodes) end first.reaches walk w.accepts.closed in
       let told : Tell cut.0 outermost s [] t = tell_split first.ps cut.0 outermost blank outermost s [] t first.tells (subst (λ (l : List Piece). Tell l outermost blank [] t) cut.1 w.tells) in
       let comes : NoBack cut.0 =
-          ⊎_elim (λ (is : lone ≡ true). never_told cut.0 outermost s [] t (alone is) told)
-          (λ (there : member PreviousGenerationLocation first.tags ≡ true). once_seen (front ++ rest) cut.0 (length front) (frame place.Index first.tags ∷ []) (length s.nodes) end (there, tt) cut.2)
-          (has first.tags first.seen_is) in
+      ⊎_elim (λ (is : lone ≡ true). never_told cut.0 outermost s [] t (alone is) told)
+      (λ (there : member PreviousGenerationLocation first.tags ≡ true). once_seen (front ++ rest) cut.0 (length front) (frame place.Index first.tags ∷ []) (length s.nodes) end (there, tt) cut.2)
+      (has first.tags first.seen_is) in
       let from : length front ≡ past front 0 = omega (arith, past_is front 0) in
       let begins : past other 0 ≡ length other = omega (arith, past_is other 0) in
       let tail = reaches_back front rest cut.0 0 (frame place.Index first.tags ∷ []) (length s.nodes) end (subst (λ (n : ℕ). Reaches (front ++ rest) cut.0 n (frame place.Index first.tags ∷ []) (length s.nodes) end) from cut.2) in
@@ -353,11 +355,11 @@ module _ (front other rest : List ℕ) (seen more : Children) (s : State) (here 
       let there = reaches_past other rest cut.0 0 (frame place.Index first.tags ∷ []) (length s.nodes) tail.0 tail.1 in
       let mine = reaches_alike (other ++ rest) cut.0 (past other 0) [] first.tags second.tags (length s.nodes) (moved other tail.0) (same_children more first.tags second.tags (with_back first.tags first.seen_is) second.seen_is) comes closed there in
       let joined = reaches_join (other ++ rest) second.ps cut.0 second.inside (fresh place.Index ∷ []) 0 (length other) (frame place.Index second.tags ∷ []) (length s.nodes) (moved other tail.0) second.reaches
-          (subst (λ (n : ℕ). Reaches (other ++ rest) cut.0 n (frame place.Index second.tags ∷ []) (length s.nodes) (moved other tail.0)) begins mine) in
+      (subst (λ (n : ℕ). Reaches (other ++ rest) cut.0 n (frame place.Index second.tags ∷ []) (length s.nodes) (moved other tail.0)) begins mine) in
       let ended : past front (space_end rest tail.0.at) ≡ past front (length rest) =
-          sym (space_past front rest tail.0.at) ∙ ap (λ (x : Point). space_end (front ++ rest) x.at) (sym tail.2) ∙ w.accepts.ended ∙ sym (past_all front rest) in
+      sym (space_past front rest tail.0.at) ∙ ap (λ (x : Point). space_end (front ++ rest) x.at) (sym tail.2) ∙ w.accepts.ended ∙ sym (past_all front rest) in
       let kept : Tell cut.0 outermost (repointed here back s) [] (repointed here back t) =
-          tell_kept here back (front ++ rest) cut.0 (length front) (record { frame = frame place.Index first.tags; node = 0 } ∷ []) (length s.nodes) end s [] t comes (first.here, tt) cut.2 told in
+      tell_kept here back (front ++ rest) cut.0 (length front) (record { frame = frame place.Index first.tags; node = 0 } ∷ []) (length s.nodes) end s [] t comes (first.here, tt) cut.2 told in
       record {
         ps = second.ps ++ cut.0;
         accepts = record {

@@ -30,13 +30,7 @@ pub struct Front {
 /// Puts other pointers in the text of an index, as they are likely to be spelled there, and tells whether it is now the
 /// text of that index with these pointers. Where it isn't, any bytes may stand there. What follows the pointers isn't
 /// read: it is as it was.
-pub fn repoint(
-    alloc: Global,
-    index: &Index,
-    text: &mut Vec<u8>,
-    here: Spot,
-    back: Spot,
-) -> bool
+pub fn repoint(alloc: Global, index: &Index, text: &mut Vec<u8>, here: Spot, back: Spot) -> bool
     ensures { IsTrue result → IndexText text.old.items index.now
         → IndexText text.new.items (with_pointers index.now here back) }
 {

@@ -36,8 +36,12 @@ fn with_new(alloc: Global, front: &[u8]) -> Option<Vec<u8>> {
     let close = name_end.checked_sub(b"location".len())?;
     let mut other = Vec::new(alloc);
     other.extend_from_slice(front).ok()?;
-    other.extend_from_slice(front.get(space_begin(front, begin)..begin)?).ok()?;
-    other.extend_from_slice(b"<previousgenerationlocation").ok()?;
+    other
+        .extend_from_slice(front.get(space_begin(front, begin)..begin)?)
+        .ok()?;
+    other
+        .extend_from_slice(b"<previousgenerationlocation")
+        .ok()?;
     other.extend_from_slice(front.get(inside..close)?).ok()?;
     other.extend_from_slice(b"previousgenerationlocation").ok()?;
     other.extend_from_slice(front.get(name_end..)?).ok()?;

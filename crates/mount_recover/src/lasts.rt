@@ -215,13 +215,7 @@ fn read_beside<D: Drive>(
         (AreSoundWith basis.now.labels.now.ip basis.now.start.limits.cap_ip (Some dp)) Blames result }
 {
     let twin = twin_at(&basis.labels.ip, place, dp.place);
-    let likely = repoint(
-        basis.alloc,
-        &dp.index,
-        document,
-        twin.here,
-        twin.back,
-    );
+    let likely = repoint(basis.alloc, &dp.index, document, twin.here, twin.back);
     let same = read_document(
         basis.alloc,
         drive,

@@ -19,10 +19,10 @@ returns c = λ yes i.
     let other_valid : IsUtf8 other = search rules in
     let long : c.len-length.result ≡ length other = search rules in
     let there : IsFront (other ++ drop first.at text) second.at second.seen (state_of second.draft) =
-        subst (λ (t : List ℕ). IsFront t second.at second.seen (state_of second.draft)) (c.as_slice-3.ensures.value ∙ put) c.in-Some-front_of.ensures.front in
+    subst (λ (t : List ℕ). IsFront t second.at second.seen (state_of second.draft)) (c.as_slice-3.ensures.value ∙ put) c.in-Some-front_of.ensures.front in
     let same : IsFront (other ++ drop first.at text) (length other) second.seen (repointed c.args.here c.args.back (state_of first.draft)) =
-        subst (λ (s : State). IsFront (other ++ drop first.at text) (length other) second.seen s) (c.is_repointed.ensures.told yes)
-        (subst (λ (n : ℕ). IsFront (other ++ drop first.at text) n second.seen (state_of second.draft)) (c.is_repointed.ensures.at yes ∙ long) there) in
+    subst (λ (s : State). IsFront (other ++ drop first.at text) (length other) second.seen s) (c.is_repointed.ensures.told yes)
+    (subst (λ (n : ℕ). IsFront (other ++ drop first.at text) n second.seen (state_of second.draft)) (c.is_repointed.ensures.at yes ∙ long) there) in
     subst (λ (t : List ℕ). IndexText t (with_pointers c.args.index.now c.args.here c.args.back)) (sym put)
     (text_swapped text other first.at first.seen second.seen (state_of first.draft) c.args.here c.args.back c.is_lone-lone.result le begins valid other_valid same (c.is_repointed.ensures.seen yes)
     c.in-Some.ensures.back c.args.index.now c.is_lone-lone.ensures i)
