@@ -1,14 +1,15 @@
 //! Other pointers in the text of an index.
 
-ghost use Rattle.std.specs.Prelude.{◌≡◌, ◌++◌, ◌≤◌, ◌∷◌, [], List, true, drop, length, take, IfSome, IsTrue, IsUtf8, None, Some};
+ghost use Rattle.std.specs.Prelude.{◌≡◌, ◌++◌, ◌≤◌, ◌∷◌, [], List, true, drop, length, IfSome, IsTrue, IsUtf8, None};
+ghost use Rattle.std.specs.Prelude.{Some};
 ghost use Rattle.tape_types.specs.Times.{civil_of};
 ghost use Rattle.doc_elements.specs.Children.{Holds};
 ghost use Rattle.doc_fields.specs.declared.tags.Tag.{Tag as TagOf};
 ghost use Rattle.doc_fields.specs.declared.tags.Tag.TheVariants.{PreviousGenerationLocation};
 ghost use Rattle.index_model.specs.Grammar.{IndexText};
 ghost use Rattle.index_read.specs.Drafts.{state_of};
-ghost use Rattle.index_read.specs.Fronts.{AreDraftedAlike, AreNamedAlike, AreNumberedAlike, AreRuledAlike, HasBack, IsFront};
-ghost use Rattle.index_read.specs.Fronts.{repointed, with_pointers};
+ghost use Rattle.index_read.specs.Fronts.{AreDraftedAlike, AreNamedAlike, AreNumberedAlike, AreRuledAlike};
+ghost use Rattle.index_read.specs.Fronts.{HasBack, IsFront, repointed, with_pointers};
 
 use crate::drafts::Draft;
 use crate::guesses::respelled;

@@ -152,7 +152,8 @@ fn last_on_ip<D: Drive>(
     requires places { AreInPlaces basis.now.start.limits basis.now.scans.now }
     requires known { IfSome (D.held drive.old) (IsScan basis.now.labels.now basis.now.scans.now) }
     requires dp { IfSome (D.held drive.old) (IsLastDp basis.now.labels.now.ip dp) }
-    requires sound_dp { IfSome dp (IsSoundRead basis.now.labels.now.ip basis.now.start.limits.cap_dp document.old.items) }
+    requires sound_dp { IfSome dp
+        (IsSoundRead basis.now.labels.now.ip basis.now.start.limits.cap_dp document.old.items) }
     ensures { IsStep D.Drive basis.now.start (1 + basis.now.start.limits.cap_ip) drive.old drive.new
         (AreLastsWith basis.now.labels.now.ip dp)
         (AreSoundWith basis.now.labels.now.ip basis.now.start.limits.cap_ip dp) Blames result }
