@@ -217,49 +217,6 @@ impl Trail {
         push(&mut self.events, event);
         self.head = head;
     }
-
-    /// An op was admitted.
-    pub fn queues(&mut self, place: Place)
-        requires room { 2 ≤ self.old.spare }
-        requires allowed { allows (state self.old) (events.Queues place) ≡ true }
-        ensures events { self.new.events ≡ self.old.events ++ events.Queues place ∷ [] }
-        ensures acks { self.new.acks ≡ self.old.acks }
-        ensures kept { self.new.kept ≡ self.old.kept }
-        ensures spare { self.old.spare ≤ self.new.spare + 2 }
-        ensures waiters { self.new.waiters ≡ self.old.waiters }
-    {
-        let head = self.head();
-        self.write(Event::Queues { place }, head, 0);
-    }
-
-    /// A sync waits for all ops that stand, of which there are so many.
-    pub fn syncs(&mut self, ticket: u64, standing: u64)
-        requires room { 2 ≤ self.old.spare }
-        requires waiter { 1 ≤ self.old.waiters }
-        requires allowed { allows (state self.old) (events.Syncs ticket) ≡ true }
-        requires standing { standing ≡ length (ops (state self.old)) }
-        ensures events { self.new.events ≡ self.old.events ++ events.Syncs ticket ∷ [] }
-        ensures acks { self.new.acks ≡ self.old.acks }
-        ensures kept { self.new.kept ≡ self.old.kept }
-        ensures spare { self.old.spare ≤ self.new.spare + 2 }
-    {
-        let _standing = standing;
-        let head = self.head();
-        self.write(Event::Syncs { ticket }, head, 0);
-    }
-
-    /// The sync that has waited longest is answered, at this number of commands.
-    #[tactic(auto, using(crate::proofs::TrailLemmas::due_may_come))]
-    pub fn synced(&mut self, ticket: u64, commands: u64)
-        requires { due_ticket (state self.old) ≡ Some ticket }
-        ensures events { self.new.events ≡ self.old.events ++ events.Synced ticket ∷ [] }
-        ensures acks { self.new.acks ≡ self.old.acks ++ record { place = ticket; command = commands } ∷ [] }
-        ensures kept { self.new.kept ≡ self.old.kept }
-        ensures spare { self.old.spare ≤ self.new.spare }
-    {
-        let head = self.head();
-        self.write(Event::Synced { ticket }, head, commands);
-    }
 }
 
 /// The bound on what there is to do, once the event has come.

@@ -14,7 +14,7 @@ use crate::found::Found;
 use crate::tree::Tree;
 use plain_tree::{Refusal, Sort};
 use std::alloc::Global;
-use tape_types::{NameErr, NoMemory, Text, check_name};
+use tape_types::{LONGEST_FILE, MOST_NODES, NameErr, NoMemory, Text, check_name};
 
 /// What a rename moves, where the tree doesn't refuse it.
 #[derive(Clone, Copy, Debug, PartialEq, Eq)]
@@ -24,10 +24,6 @@ pub enum Move {
     /// The node with this number, into the directory with that number.
     Into { number: u32, dir: u32 },
 }
-
-const MOST_NODES: u32 = 65536;
-
-const LONGEST: u64 = 1 << 40;
 
 const LAST_UID: u64 = 1 << 62;
 

@@ -1,5 +1,5 @@
 -- The indexes of an empty volume are valid ones.
-use Rattle.std.proofs.Common.{ℕ, zero, suc, ◌≡◌, ◌≤◌, ◌<◌, ◌^◌, ◌∙◌, ◌&&◌, List, [], ◌∷◌, length, Bool, true, false}
+use Rattle.std.proofs.Common.{ℕ, zero, suc, ◌≡◌, ◌≤◌, ◌<◌, ◌∙◌, ◌&&◌, List, [], ◌∷◌, length, Bool, true, false}
 use Rattle.std.proofs.Common.{Option, Some, None, refl, sym, ap, subst, arith, nat_le, not, IsAscii, All, IfSome}
 use Rattle.std.specs.List.{list_all}
 use Rattle.std.proofs.lemmas.Bool.{and_from, and_parts}
@@ -77,7 +77,7 @@ name_fits name is utf8 =
     let inner = and_parts (nat_le (length (chars name)) longest_name) (not (has_byte 47 name)) outer.0 in
     record {
       utf8 = utf8;
-      short = true_le (length (chars name)) 255 inner.0;
+      short = true_le (length (chars name)) longest_name inner.0;
       no_slash = not_so (has_byte 47 name) inner.1;
       no_nul = not_so (has_byte 0 name) outer.1;
     }

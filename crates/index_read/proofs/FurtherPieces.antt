@@ -1,5 +1,6 @@
 -- Pieces are read alike where they stand further on in a text.
 use Rattle.std.proofs.Common.{◌≡◌, ℕ, suc, ◌+◌, Bool, not, ◌==◌, ◌&&◌, nat_le, nat_lt, List, [], ◌∷◌, ◌++◌, length, Option, Some, None, Result, Ok, Err, refl, sym, ap, subst, ◌∙◌, arith}
+use Rattle.tape_types.specs.Bounds.{most_nodes}
 use lib.Dec.{eqb-suc-suc}
 use Rattle.doc_fields.specs.declared.starts.Attribute.{Attribute}
 use Rattle.doc_fields.specs.declared.starts.Start.{Start}
@@ -73,7 +74,7 @@ beside_alike : (f : Frame) (nodes at later : ℕ) (tag : Tag) (c : Child) → Al
 beside_alike f nodes at later tag c =
     let a : Bool = has_any (excludes tag) f.seen in
     let b : Bool = member tag f.seen && not (may_repeat f.place tag) in
-    let d : Bool = opens_node c && nat_le 65536 nodes in
+    let d : Bool = opens_node c && nat_le most_nodes nodes in
     if_alike just a a (Err (errors.Unknown at)) _ (Err (errors.Unknown later)) _ refl tt
     (if_alike just b b (Err (errors.Twice at)) _ (Err (errors.Twice later)) _ refl tt
     (if_alike just d d (Err errors.TooMany) (Ok c) (Err errors.TooMany) (Ok c) refl tt refl))

@@ -5,6 +5,7 @@ use Rattle.std.specs.Str.{chars, is_utf8}
 use Rattle.std.proofs.lemmas.Bool.Decides.{nat_tests}
 use Rattle.std.proofs.lemmas.Str.{IsUtf8-from_is_utf8}
 use Rattle.std.proofs.lemmas.Bool.{not-true, and_parts}
+use Rattle.tape_types.specs.Bounds.{longest_name}
 use Rattle.tape_types.specs.Names.{has_byte, is_dot}
 use Rattle.tape_types.specs.Uuids.{uuid_in}
 use Rattle.doc_fields.specs.declared.starts.Start.{Start}
@@ -53,8 +54,8 @@ as_value P x v m n e h = let pair : ◌≡◌ {A = Val × ℕ} (x, m) (v, n) = c
 
 volume_name : (name : List ℕ) → IsUtf8 name → is_volume_name name ≡ true → IsVolumeName name
 volume_name name valid e =
-    let a = and_parts (nat_le (length (chars name)) 255 && not (has_byte 47 name)) (not (has_byte 0 name)) e in
-    let b = and_parts (nat_le (length (chars name)) 255) (not (has_byte 47 name)) a.0 in
+    let a = and_parts (nat_le (length (chars name)) longest_name && not (has_byte 47 name)) (not (has_byte 0 name)) e in
+    let b = and_parts (nat_le (length (chars name)) longest_name) (not (has_byte 47 name)) a.0 in
     let short = b.0 in
     record { utf8 = valid; short = grind (arith, nat_tests); no_slash = not-true (has_byte 47 name) b.1; no_nul = not-true (has_byte 0 name) a.1 }
 

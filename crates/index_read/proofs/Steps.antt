@@ -106,7 +106,7 @@ few_next p l s t room few told =
 -- what is kept goes on while a parent is open
 pub is_kept : (text : List ℕ) (ps : List Piece) (inside next : ℕ) (os : List Opened) (top : code_level.Level) (outer : List code_level.Level) (done : Bool) (s : State)
     → Reaches text ps inside (fresh place.Index ∷ []) 0 (point next (frames_of os) (length s.nodes)) → Tell ps outermost blank (levels_of os) s → Keeps os top outer done → done ≡ false
-    → next ≤ length text → length s.nodes ≤ 65536 → Kept text inside next top outer s
+    → next ≤ length text → length s.nodes ≤ most_nodes → Kept text inside next top outer s
 is_kept text ps inside next [] top outer done s r t k d le few = let same : true ≡ false = sym k ∙ d in absurd (cc)
 is_kept text ps inside next (o ∷ os) top outer done s r t k d le few = record { within = le; few = few; ps = ps; o = o; os = os; top_is = k.1; outer_is = k.2; reaches = r; tells = t }
 

@@ -1,5 +1,6 @@
 -- What a reader keeps while it goes from piece to piece.
 use Rattle.std.specs.Prelude.{◌≡◌, ◌≤◌, ◌⊎◌, IsUtf8, ℕ, List, [], ◌∷◌, ◌++◌, Bool, true, false, map, length}
+use Rattle.tape_types.specs.Bounds.{most_nodes}
 use Rattle.doc_fields.specs.declared.tags.Tag.{Tag}
 use Rattle.doc_elements.specs.Children.{children_of}
 use Rattle.index_model.specs.declared.errors.IndexErr.{IndexErr}
@@ -60,7 +61,7 @@ Keeps (o ∷ os) top outer done = (done ≡ false) × (top ≡ coded o) × (oute
 pub record Kept (text : List ℕ) (inside at : ℕ) (top : code_level.Level) (outer : List code_level.Level) (s : State)
     : Type 0 where
   pub within : at ≤ length text
-  pub few : length s.nodes ≤ 65536
+  pub few : length s.nodes ≤ most_nodes
   pub ps : List Piece
   pub o : Opened
   pub os : List Opened

@@ -1,6 +1,7 @@
 //! Pieces one after the other.
 
 ghost use Rattle.std.specs.Prelude.{◌≡◌, ◌≤◌, ◌<◌, ℕ, List, Ok, true, length, OnOk, IfOk, IfErr, IfSome, IsTrue};
+ghost use Rattle.tape_types.specs.Bounds.{most_nodes};
 ghost use Rattle.doc_elements.specs.Schema.{is_node};
 ghost use Rattle.doc_elements.specs.declared.schema.Place.TheVariants as place;
 ghost use Rattle.doc_elements.specs.Answers.{HasRoom, UnlessMemory, piece_of};

@@ -1,5 +1,6 @@
 -- An index of the index partition that is, but for its pointers, the last one of the data partition.
 use Rattle.std.proofs.Common.{ℕ, ◌≤◌, ◌^◌, ◌≡◌, inl, List, Some, sym, ◌∙◌, ap, subst, arith}
+use Rattle.tape_types.specs.Bounds.{most_positions}
 use Rattle.tape_types.specs.declared.cartridges.Cartridge.{Cartridge}
 use Rattle.tape_types.specs.declared.cartridges.Limits.{Limits}
 use Rattle.tape_types.specs.Cartridges.{IsLimits}

@@ -2,9 +2,11 @@
 #![tactic(auto)]
 
 mod drains;
+mod events;
 mod fetches;
 mod handing;
 mod looks;
+mod ops;
 mod parts;
 mod placing;
 mod requests;

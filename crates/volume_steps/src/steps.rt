@@ -1,6 +1,6 @@
 //! Steps of the head.
 
-ghost use Rattle.std.specs.Prelude.{◌≡◌, ◌<◌, ◌^◌, ◌&&◌, ℕ, true, List, ◌∷◌, Some, None, length, slice_get};
+ghost use Rattle.std.specs.Prelude.{◌≡◌, ◌<◌, ◌^◌, ℕ, true, List, ◌∷◌, Some, None, length, slice_get};
 ghost use Rattle.head_queue.specs.Allowed.{op_place};
 ghost use Rattle.head_queue.specs.Orders.{IsIn};
 ghost use Rattle.head_queue.specs.Picks.{IsOpPicked, IsPicked};
@@ -15,13 +15,11 @@ ghost use Rattle.waiting_reads.specs.Waiting.{HasTicket};
 ghost use Rattle.state_laws.specs.Stepping.{IsKeptAfter, IsOneRequest, KeepsListed, told_fault};
 ghost use Rattle.call_laws.specs.StepLaws.{CanStep};
 ghost use Rattle.call_laws.specs.Handing.{StepsOn};
-ghost use Rattle.tape_types.specs.declared.cartridges.Part.TheVariants as parts;
-ghost use Rattle.event_laws.specs.Waiting.{same_part};
 ghost use Rattle.volume_steps.specs.Seen.{seen_parts};
 ghost use Rattle.volume_steps.specs.Moves.{AnswersSyncs, FinishesOp, IsFirstOp, IsReady, MissesBlock, SyncsWait};
 ghost use Rattle.volume_steps.specs.Moves.{TakesBlock, TakesOp, TellsFault, on_from};
 
-use crate::ops::{behind, flushes, head_behind, place, settles};
+use crate::ops::{behind, head_behind, settles};
 use crate::parts::Parts;
 use crate::requests::forget_requests;
 use block_cache::BlockCache;
@@ -31,7 +29,7 @@ use head_queue::Pick;
 use plain_tree::Answer;
 use session_script::{Event, Reply};
 use tape_drive::{Drive, Got};
-use tape_types::{Part, Place, Twin};
+use tape_types::{Place, Twin};
 
 impl<D: Drive> Parts<D> {
     /// Makes the step of the head that comes next.
@@ -248,15 +246,5 @@ fn keep_block(cache: &mut BlockCache, place: Place, got: Got, block: &[u8])
         Got::Mark => (),
         Got::End => (),
         Got::Torn => (),
-    }
-}
-
-/// Whether an op at this place is a flush of the data partition.
-fn settles(place: Place, flush: bool) -> bool
-    ensures { result ≡ flush && same_part place.part parts.Dp }
-{
-    match place.part {
-        Part::Ip => false,
-        Part::Dp => flush,
     }
 }

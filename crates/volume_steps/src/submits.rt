@@ -13,6 +13,7 @@ ghost use Rattle.serving_promise.specs.declared.answers.Submitted.TheVariants as
 ghost use Rattle.volume_steps.specs.Asking.{CanAsk, IsSubmitted, Queues, QueuesDone, Stands};
 ghost use Rattle.volume_steps.specs.Seen.{seen_parts};
 
+use crate::events::note_op;
 use crate::parts::Parts;
 use crate::placing::Asked;
 use event_journal::Trail;
@@ -85,7 +86,7 @@ pub fn queue_ops(stock: &Stock, trail: &mut Trail, others: u64)
 {
     let layout = stock.layout();
     for nth in others..layout.waiting() {
-        trail.queues(layout.place_behind(nth));
+        note_op(trail, layout.place_behind(nth));
     }
     let _head = trail.head();
 }

@@ -19,6 +19,7 @@ ghost use Rattle.volume_steps.specs.Asking.{QueuesSync, Stands, WaitsSynced};
 ghost use Rattle.tape_layout.specs.Ops.{place_of};
 ghost use Rattle.volume_steps.specs.Seen.{seen_parts};
 
+use crate::events::{note_answer, note_sync};
 use crate::parts::Parts;
 use crate::placing::Asked;
 use crate::submits::queue_ops;
@@ -93,7 +94,7 @@ impl<D: Drive> Parts<D> {
     {
         let here = self.placements.len();
         let standing = self.stock.layout().waiting();
-        self.trail.syncs(here, standing);
+        note_sync(&mut self.trail, here);
         if standing == 0 {
             self.answer_sync(asked, here)
         } else {
@@ -109,7 +110,7 @@ impl<D: Drive> Parts<D> {
             (seen_parts self.new) }
     {
         let commands = self.head.commands();
-        self.trail.synced(here, commands);
+        note_answer(&mut self.trail, here, commands);
         let _head = self.trail.head();
         self.answer(asked, Answer::Synced, Answer::Synced)
     }

@@ -1,6 +1,5 @@
 use Rattle.std.proofs.Common.{rules, ◌≡◌, ℕ, [], ◌∷◌, ◌++◌, map, length, Ok, refl, sym, ap, subst, ◌∙◌, arith}
 use Rattle.std.proofs.lemmas.List.{length-map}
-use Rattle.tape_types.specs.Bounds.{most_nodes}
 use Rattle.doc_elements.specs.declared.children.Children.{Children}
 use Rattle.doc_elements.specs.declared.schema.Place.TheVariants as place
 use Rattle.doc_elements.specs.Documents.{fresh}

@@ -24,7 +24,7 @@ returns-in-Err-Full-clause-finishes g c =
     (λ early given on st is. subst (λ (e : AdmitErr). IsDpChange early given on st c.args.at c.args.parts.now.stock
     c.admit_dp.new.self (Err e))
     c.in-Err-Full.field-0-is
-    ((c.in-Err-Full.ensures {u = tt}).applied early given on st c.args.at is
+    ((c.in-Err-Full.ensures {u = tt}).closes early given on st c.args.at is
     ((c.in-Ok.ensures {u = tt}).texts early given on st is).0))
 
 pub returns-in-Err-NoMemory-clause-finishes : goal.returns-in-Err-NoMemory-clause-finishes
@@ -40,7 +40,7 @@ end_with-told-requires-clause-can g c =
     let held = c.args.parts.now.stock in
     let mid = c.admit_dp.new.self in
     let did = admits_dp c.args.at held mid dp ip (c.in-Ok.ensures {u = tt}).texts (c.in-Ok-admit_dp.ensures {u =
-    tt}).applied in
+    tt}).closes in
     let went_on = admits_ip c.args.at held mid dp ip (c.in-Ok.ensures {u = tt}).texts did c.admit_ip.new.self
     (c.in-Ok-admit_ip.ensures {u = tt}).applied in
     can_do_last g.D.Drive c.requires.0 c.requires.1 (seen_parts c.args.parts.now) c.requires.2.runs c.args.at mid did
@@ -53,7 +53,7 @@ end_with-told-requires-clause-may g c =
     let held = c.args.parts.now.stock in
     let mid = c.admit_dp.new.self in
     let did = admits_dp c.args.at held mid dp ip (c.in-Ok.ensures {u = tt}).texts (c.in-Ok-admit_dp.ensures {u =
-    tt}).applied in
+    tt}).closes in
     let went_on = admits_ip c.args.at held mid dp ip (c.in-Ok.ensures {u = tt}).texts did c.admit_ip.new.self
     (c.in-Ok-admit_ip.ensures {u = tt}).applied in
     subst (λ (l : Lasts). MayEnd g.D.Drive c.admit_ip.new.self.layout.ops l c.args.parts.now.head.drive)
@@ -68,7 +68,7 @@ returns-in-Ok-admit_ip-clause-finishes g c =
     let held = c.args.parts.now.stock in
     let mid = c.admit_dp.new.self in
     let did = admits_dp c.args.at held mid dp ip (c.in-Ok.ensures {u = tt}).texts (c.in-Ok-admit_dp.ensures {u =
-    tt}).applied in
+    tt}).closes in
     let went_on = admits_ip c.args.at held mid dp ip (c.in-Ok.ensures {u = tt}).texts did c.admit_ip.new.self
     (c.in-Ok-admit_ip.ensures {u = tt}).applied in
     went g.D.Drive c.args.noted c.args.at held mid c.args.parts.now.head.drive c.end_with-told.new.head.drive
@@ -85,7 +85,7 @@ do_ops-told-requires-clause-can g c =
     let held = c.args.parts.now.stock in
     let mid = c.admit_dp.new.self in
     let did = admits_dp c.args.at held mid dp ip (c.in-Ok.ensures {u = tt}).texts (c.in-Ok-admit_dp.ensures {u =
-    tt}).applied in
+    tt}).closes in
     subst (λ (l : Plan). CanDoAll g.D.Drive l.ops c.args.parts.now.head.drive)
     (sym ((c.in-Err-Full-admit_ip.ensures {u = tt}).leaves).layout)
     (can_do_mid g.D.Drive c.requires.0 c.requires.1 (seen_parts c.args.parts.now) c.requires.2.runs c.args.at mid did
@@ -98,7 +98,7 @@ do_ops-told-requires-clause-may g c =
     let held = c.args.parts.now.stock in
     let mid = c.admit_dp.new.self in
     let did = admits_dp c.args.at held mid dp ip (c.in-Ok.ensures {u = tt}).texts (c.in-Ok-admit_dp.ensures {u =
-    tt}).applied in
+    tt}).closes in
     subst (λ (l : Plan). MayDoAll g.D.Drive l.ops c.args.parts.now.head.drive)
     (sym ((c.in-Err-Full-admit_ip.ensures {u = tt}).leaves).layout)
     (may_short g.D.Drive g.met.D.Drive.counts_now c.requires.0 c.requires.1 c.args.at (seen_parts c.args.parts.now)
@@ -112,7 +112,7 @@ returns-in-Err-Full-admit_ip-clause-finishes g c =
     let held = c.args.parts.now.stock in
     let mid = c.admit_dp.new.self in
     let did = admits_dp c.args.at held mid dp ip (c.in-Ok.ensures {u = tt}).texts (c.in-Ok-admit_dp.ensures {u =
-    tt}).applied in
+    tt}).closes in
     let full : AppliesIp ip mid c.admit_ip.new.self (Err (Full c.in-Err-Full-admit_ip.need
     c.in-Err-Full-admit_ip.limit))
     = subst (λ (e : AdmitErr). AppliesIp ip mid c.admit_ip.new.self (Err e)) c.in-Err-Full-admit_ip.field-0-is

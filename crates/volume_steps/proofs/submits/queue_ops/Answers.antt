@@ -9,7 +9,7 @@ pub loop-nth-preserved : goal.loop-nth-preserved
 loop-nth-preserved c =
     let more : c.loop-nth.nth < length c.args.stock.now.layout.ops = search rules in (
       omega (arith, c.loop-nth.invariant.0),
-      queuing_on c.args.others c.loop-nth.nth c.args.stock.now.layout.ops c.place_behind.result c.args.trail.now c.loop-nth.trail c.queues.new.self
-          c.loop-nth.invariant.1 c.loop-nth.invariant.0 more (ap (λ (l : Plan). option_map place_of (slice_get l.ops c.loop-nth.nth)) (sym c.layout-layout.ensures) ∙ c.place_behind.ensures) c.queues.ensures.events c.queues.ensures.acks
-          c.queues.ensures.kept c.queues.ensures.spare c.queues.ensures.waiters,
+      queuing_on c.args.others c.loop-nth.nth c.args.stock.now.layout.ops c.place_behind.result c.args.trail.now c.loop-nth.trail c.note_op.new.trail
+          c.loop-nth.invariant.1 c.loop-nth.invariant.0 more (ap (λ (l : Plan). option_map place_of (slice_get l.ops c.loop-nth.nth)) (sym c.layout-layout.ensures) ∙ c.place_behind.ensures) c.note_op.ensures.events c.note_op.ensures.acks
+          c.note_op.ensures.kept c.note_op.ensures.spare c.note_op.ensures.waiters,
     )
