@@ -8,19 +8,19 @@ use Rattle.byte_disk.specs.declared.disk.File.TheVariants.{Ip, Dp, Cm}
 use Rattle.byte_disk.specs.declared.record.Change.{Change}
 use Rattle.byte_disk.specs.declared.record.Act.{Act}
 use Rattle.byte_disk.specs.declared.record.Act.TheVariants.{Wrote, Synced}
-use Rattle.byte_disk.specs.declared.record.Entry.{Entry}
+use Rattle.byte_disk.specs.declared.record.DoneCommand.{DoneCommand}
 use Rattle.byte_disk.specs.Files.{Files, IsBroken, KeepsOthers, bytes_of, with_bytes}
 use Rattle.byte_disk.specs.Record.{undo, pending, LeavesFile, Leaves, LeftWithin, LeftSince, Numbered, IsRecordOf}
 use Rattle.byte_disk.proofs.Kept.{record_kept, held_left}
 
 -- since a number that no act has reached there is no other moment than now
-none_within : (count : ℕ) (held : Files) (es : List Entry) (image : Files) → count < 2 ^ 64 - 1 → Numbered count es
+none_within : (count : ℕ) (held : Files) (es : List DoneCommand) (image : Files) → count < 2 ^ 64 - 1 → Numbered count es
     → LeftWithin held es count image → ⊥
 none_within count held [] image lt numbered h = h
 none_within count held (e ∷ es) image lt numbered (inl h) = absurd (omega (arith, numbered.0 lt, h.0))
 none_within count held (e ∷ es) image lt numbered (inr h) = none_within count (undo e.act held) es image lt numbered.1 h
 
-pub since_at : (count t : ℕ) (held : Files) (es : List Entry) (image : Files) → Numbered count es → t ≤ count
+pub since_at : (count t : ℕ) (held : Files) (es : List DoneCommand) (image : Files) → Numbered count es → t ≤ count
     → LeftWithin held es t image → LeftSince count held es t image
 since_at count t held es image numbered le h = ⊎_elim
     (λ (lt : count < 2 ^ 64 - 1). ⊎_elim
@@ -48,7 +48,7 @@ any_same file at n d = record {
     others_same Dp d = (refl, refl)
     others_same Cm d = (refl, refl)
 
-module _ (held : Files) (es : List Entry) (count count2 : ℕ) (numbered : Numbered count es) (rose : Rose count count2)
+module _ (held : Files) (es : List DoneCommand) (count count2 : ℕ) (numbered : Numbered count es) (rose : Rose count count2)
     (step : Files → Files → Type 0) where
   -- a command that leaves no entry
   pub quiet : ((image : Files) → step image image)
@@ -69,7 +69,7 @@ module _ (held : Files) (es : List Entry) (count count2 : ℕ) (numbered : Numbe
 
   -- one that leaves an entry with its number
   module _ (new : Files) (act : Act) (undone : undo act new ≡ held) where
-    abbrev now_es : List Entry
+    abbrev now_es : List DoneCommand
     now_es = record { number = count; act = act } ∷ es
 
     pub acts : ((image : Files) → Leaves new now_es image → (before : Files) × Leaves (undo act new) es before × step before image)
@@ -101,7 +101,7 @@ module _ (held : Files) (es : List Entry) (count count2 : ℕ) (numbered : Numbe
         }
 
 -- what may be left after a write is what could be left before, with any bytes in its range
-pub write_back : (file : File) (w : Change) (number : ℕ) (new : Files) (es : List Entry) (image : Files)
+pub write_back : (file : File) (w : Change) (number : ℕ) (new : Files) (es : List DoneCommand) (image : Files)
     → Leaves new (record { number = number; act = Wrote file w } ∷ es) image
     → (before : Files) × Leaves (undo (Wrote file w) new) es before × IsBroken file w.at w.count before image
 write_back Ip w number new es image left = (
@@ -121,7 +121,7 @@ write_back Cm w number new es image left = (
 )
 
 -- what may be left after a sync could be left before
-pub sync_back : (file : File) (number : ℕ) (held : Files) (es : List Entry) (image : Files) → IsRecordOf held es
+pub sync_back : (file : File) (number : ℕ) (held : Files) (es : List DoneCommand) (image : Files) → IsRecordOf held es
     → Leaves held (record { number = number; act = Synced file } ∷ es) image → Leaves held es image
 sync_back Ip number held es image kept left = record {
   ip = subst (λ (l : List ℕ). LeavesFile held.ip (pending Ip es) l) (sym left.ip) (held_left held.ip (pending Ip es) (record_kept Ip held es kept));
@@ -140,7 +140,7 @@ sync_back Cm number held es image kept left = record {
 }
 
 -- after a sync every crash leaves the file as it reads
-pub synced_sure : (file : File) (number : ℕ) (held : Files) (es : List Entry) (image : Files)
+pub synced_sure : (file : File) (number : ℕ) (held : Files) (es : List DoneCommand) (image : Files)
     → Leaves held (record { number = number; act = Synced file } ∷ es) image → bytes_of file image ≡ bytes_of file held
 synced_sure Ip number held es image left = left.ip
 synced_sure Dp number held es image left = left.dp

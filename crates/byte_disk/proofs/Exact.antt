@@ -4,7 +4,7 @@ use Rattle.std.proofs.lemmas.Bool.{cases_lt}
 use Rattle.std.proofs.lemmas.List.{ext_get_or}
 use Rattle.byte_disk.specs.declared.disk.File.TheVariants.{Ip, Dp, Cm}
 use Rattle.byte_disk.specs.declared.record.Change.{Change}
-use Rattle.byte_disk.specs.declared.record.Entry.{Entry}
+use Rattle.byte_disk.specs.declared.record.DoneCommand.{DoneCommand}
 use Rattle.byte_disk.specs.Files.{AreFiles, Files, IsOutside}
 use Rattle.byte_disk.specs.Record.{AreKept, IsRecordOf, Leaves, LeavesFile, pending, unwritten}
 use Rattle.byte_disk.specs.Images.{AreLeft, Gives, IsLeft, IsPending, crash_image, image_of, longest, shortest}
@@ -85,7 +85,7 @@ is_left held (w ∷ ws) kept image left =
     not_here i (inr more) settled (inl here) = absurd (omega (arith, more, here.1))
     not_here i out settled (inr older) = settled older
 
-module _ (held : Files) (es : List Entry) (kept : IsRecordOf held es) (image : Files) where
+module _ (held : Files) (es : List DoneCommand) (kept : IsRecordOf held es) (image : Files) where
   kept_ip : AreKept held.ip (pending Ip es)
   kept_ip = record_kept Ip held es kept
 
@@ -122,13 +122,13 @@ module _ (held : Files) (es : List Entry) (kept : IsRecordOf held es) (image : F
   leaves_give left = left_gives (leaves_are left)
 
 -- what choices give, a crash may leave
-pub choice_left : (held : Files) (es : List Entry) → IsRecordOf held es → (choice : Files) → AreFiles choice → Leaves held es (crash_image held es choice)
+pub choice_left : (held : Files) (es : List DoneCommand) → IsRecordOf held es → (choice : Files) → AreFiles choice → Leaves held es (crash_image held es choice)
 choice_left held es kept choice are = are_leaves held es kept (crash_image held es choice) (record {
   ip = image_left held.ip (pending Ip es) (record_kept Ip held es kept) choice.ip are.ip;
   dp = image_left held.dp (pending Dp es) (record_kept Dp held es kept) choice.dp are.dp;
   cm = image_left held.cm (pending Cm es) (record_kept Cm held es kept) choice.cm are.cm;
 })
 
-pub give_leaves : (held : Files) (es : List Entry) → IsRecordOf held es → (image : Files) → Gives held es image → Leaves held es image
+pub give_leaves : (held : Files) (es : List DoneCommand) → IsRecordOf held es → (image : Files) → Gives held es image → Leaves held es image
 give_leaves held es kept image (choice, are, is) =
     subst (λ (d : Files). Leaves held es d) (sym is) (choice_left held es kept choice are)

@@ -7,26 +7,26 @@ use Rattle.byte_disk.specs.declared.disk.File.TheVariants.{Ip, Dp, Cm}
 use Rattle.byte_disk.specs.declared.record.Change.{Change}
 use Rattle.byte_disk.specs.declared.record.Act.{Act}
 use Rattle.byte_disk.specs.declared.record.Act.TheVariants.{Wrote, Synced}
-use Rattle.byte_disk.specs.declared.record.Entry.{Entry}
+use Rattle.byte_disk.specs.declared.record.DoneCommand.{DoneCommand}
 use Rattle.byte_disk.specs.Files.{Files, bytes_of, with_bytes, written, AreBytes}
 use Rattle.byte_disk.specs.Record.{change_of, unwritten, undo, pending_after, pending, LeavesFile, Numbered, AreKept, IsActKept, IsRecordOf, IsSound}
 use Rattle.byte_disk.proofs.Written.{put_back, put_kept}
 
 -- the number of commands rises
-numbered_later : (count count2 : ℕ) (es : List Entry) → count2 ≡ min (count + 1) (2 ^ 64 - 1) → Numbered count es → Numbered count2 es
+numbered_later : (count count2 : ℕ) (es : List DoneCommand) → count2 ≡ min (count + 1) (2 ^ 64 - 1) → Numbered count es → Numbered count2 es
 numbered_later count count2 [] is n = tt
 numbered_later count count2 (e ∷ es) is n = ((λ lt. omega (arith, n.0 (omega arith))), numbered_later count count2 es is n.1)
 
-pub sound_later : (count count2 : ℕ) (held : Files) (es : List Entry) → count2 ≡ min (count + 1) (2 ^ 64 - 1) → IsSound count held es → IsSound count2 held es
+pub sound_later : (count count2 : ℕ) (held : Files) (es : List DoneCommand) → count2 ≡ min (count + 1) (2 ^ 64 - 1) → IsSound count held es → IsSound count2 held es
 sound_later count count2 held es is sound = record { numbers = numbered_later count count2 es is sound.numbers; kept = sound.kept }
 
 -- the newest entry comes first
-pub newest : (acts acts2 : List Entry) (e : Entry) → acts2 ≡ acts ++ e ∷ [] → reverse acts2 ≡ e ∷ reverse acts
+pub newest : (acts acts2 : List DoneCommand) (e : DoneCommand) → acts2 ≡ acts ++ e ∷ [] → reverse acts2 ≡ e ∷ reverse acts
 newest acts acts2 e is = ap reverse is ∙ reverse-append acts (e ∷ [])
 
 -- bytes were put into a file
 module _ (at count : ℕ) (bytes : List ℕ) (few : length bytes ≤ count) (are : AreBytes bytes) (end : at + count < 2 ^ 62) where
-  put_record : (file : File) (d : Files) (es : List Entry) → at ≤ length (bytes_of file d) → IsRecordOf d es
+  put_record : (file : File) (d : Files) (es : List DoneCommand) → at ≤ length (bytes_of file d) → IsRecordOf d es
       → IsActKept (Wrote file (change_of at count bytes (bytes_of file d))) (with_bytes file (written at bytes (bytes_of file d)) d)
       × IsRecordOf (undo (Wrote file (change_of at count bytes (bytes_of file d))) (with_bytes file (written at bytes (bytes_of file d)) d)) es
   put_record Ip d es within kept = (
@@ -42,7 +42,7 @@ module _ (at count : ℕ) (bytes : List ℕ) (few : length bytes ≤ count) (are
     subst (λ (l : List ℕ). IsRecordOf (record { ip = d.ip; dp = d.dp; cm = l }) es) (sym (put_back at bytes d.cm within count)) kept,
   )
 
-  pub put_sound : (file : File) (number commands : ℕ) (d : Files) (es : List Entry) → at ≤ length (bytes_of file d)
+  pub put_sound : (file : File) (number commands : ℕ) (d : Files) (es : List DoneCommand) → at ≤ length (bytes_of file d)
       → (commands < 2 ^ 64 - 1 → number < commands) → IsSound commands d es
       → IsSound commands (with_bytes file (written at bytes (bytes_of file d)) d)
       (record { number = number; act = Wrote file (change_of at count bytes (bytes_of file d)) } ∷ es)
@@ -82,7 +82,7 @@ act_kept Cm (Synced Ip) d ws kept rest = rest
 act_kept Cm (Synced Dp) d ws kept rest = rest
 act_kept Cm (Synced Cm) d ws kept rest = kept_bytes d.cm ws rest
 
-pub record_kept : (file : File) (d : Files) (es : List Entry) → IsRecordOf d es → AreKept (bytes_of file d) (pending file es)
+pub record_kept : (file : File) (d : Files) (es : List DoneCommand) → IsRecordOf d es → AreKept (bytes_of file d) (pending file es)
 record_kept Ip d [] kept = kept.0
 record_kept Dp d [] kept = kept.1
 record_kept Cm d [] kept = kept.2

@@ -7,7 +7,7 @@ use Rattle.std.proofs.lemmas.List.Elements.{All-head, All-tail}
 use Rattle.crash_steps.specs.Crashes.{IsSureOf}
 use Rattle.byte_disk.specs.declared.disk.File.{File}
 use Rattle.byte_disk.specs.declared.disk.File.TheVariants.{Ip, Dp, Cm}
-use Rattle.byte_disk.specs.declared.record.Entry.{Entry}
+use Rattle.byte_disk.specs.declared.record.DoneCommand.{DoneCommand}
 use Rattle.byte_disk.specs.Files.{AreBytes, AreFiles, Files, IsBroken, are_files, is_byte, told}
 use Rattle.byte_disk.specs.Record.{IsRecordOf, pending}
 use Rattle.byte_disk.proofs.Kept.{kept_bytes, record_kept}
@@ -28,7 +28,7 @@ pub are_told : (d : Files) → AreFiles d → told d ≡ Some d
 are_told d are = ap (λ (t : Bool). if t then Some d else None) (by_files d are)
 
 -- those that a record leads to are of bytes
-pub record_files : (d : Files) (es : List Entry) → IsRecordOf d es → AreFiles d
+pub record_files : (d : Files) (es : List DoneCommand) → IsRecordOf d es → AreFiles d
 record_files d es kept = record {
   ip = kept_bytes d.ip (pending Ip es) (record_kept Ip d es kept);
   dp = kept_bytes d.dp (pending Dp es) (record_kept Dp d es kept);

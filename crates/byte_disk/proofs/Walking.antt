@@ -6,16 +6,16 @@ use Rattle.byte_disk.specs.declared.disk.File.{File}
 use Rattle.byte_disk.specs.declared.record.Change.{Change}
 use Rattle.byte_disk.specs.declared.record.Act.{Act}
 use Rattle.byte_disk.specs.declared.record.Act.TheVariants.{Wrote, Synced}
-use Rattle.byte_disk.specs.declared.record.Entry.{Entry}
+use Rattle.byte_disk.specs.declared.record.DoneCommand.{DoneCommand}
 use Rattle.byte_disk.specs.Record.{is_same, pending_after, unwritten, AreKept}
 use Rattle.byte_disk.specs.Images.{original, reach, chosen, chosen_in}
 use Rattle.byte_disk.specs.Walks.{is_sync_of, undone_by, reach_by, chosen_by, IsKeptIf, IsKeptBy}
 
 -- the newest entry of the record's front
-last_entry : (acts : List Entry) (i : ℕ) (d : Entry) → i < length acts → reverse (take (i + 1) acts) ≡ get_or acts i d ∷ reverse (take i acts)
+last_entry : (acts : List DoneCommand) (i : ℕ) (d : DoneCommand) → i < length acts → reverse (take (i + 1) acts) ≡ get_or acts i d ∷ reverse (take i acts)
 last_entry acts i d lt = ap reverse (take_more acts i d lt) ∙ reverse-append (take i acts) (get_or acts i d ∷ [])
 
-pub newest_at : (acts : List Entry) (left : ℕ) (d : Entry) → 0 < left → left ≤ length acts
+pub newest_at : (acts : List DoneCommand) (left : ℕ) (d : DoneCommand) → 0 < left → left ≤ length acts
     → reverse (take left acts) ≡ get_or acts (left - 1) d ∷ reverse (take (left - 1) acts)
 newest_at acts left d some le =
     let one : left - 1 + 1 ≡ left = omega (arith, some) in

@@ -3,7 +3,7 @@ use Rattle.std.specs.Prelude.{ℕ, ◌+◌, ◌-◌, ◌≤◌, ◌<◌, ◌≡�
 use Rattle.std.specs.Prelude.{slice_index}
 use Rattle.byte_disk.specs.declared.disk.File.TheVariants.{Ip, Dp, Cm}
 use Rattle.byte_disk.specs.declared.record.Change.{Change}
-use Rattle.byte_disk.specs.declared.record.Entry.{Entry}
+use Rattle.byte_disk.specs.declared.record.DoneCommand.{DoneCommand}
 use Rattle.byte_disk.specs.Files.{Files, AreBytes, AreFiles, bytes_at, written}
 use Rattle.byte_disk.specs.Record.{unwritten, pending}
 
@@ -38,7 +38,7 @@ pub record IsLeft (held : List ℕ) (ws : List Change) (image : List ℕ) : Type
   pub bytes : AreBytes image
 
 -- each file by itself
-pub record AreLeft (held : Files) (es : List Entry) (image : Files) : Type 0 where
+pub record AreLeft (held : Files) (es : List DoneCommand) (image : Files) : Type 0 where
   pub ip : IsLeft held.ip (pending Ip es) image.ip
   pub dp : IsLeft held.dp (pending Dp es) image.dp
   pub cm : IsLeft held.cm (pending Cm es) image.cm
@@ -62,7 +62,7 @@ image_of held ws choice =
     let size : ℕ = max (shortest held ws) (min (length choice) (longest held ws)) in
     chosen ws choice (take size (held ++ drop (length held) choice))
 
-abbrev pub crash_image : Files → List Entry → Files → Files
+abbrev pub crash_image : Files → List DoneCommand → Files → Files
 crash_image held es choice = record {
   ip = image_of held.ip (pending Ip es) choice.ip;
   dp = image_of held.dp (pending Dp es) choice.dp;
@@ -70,5 +70,5 @@ crash_image held es choice = record {
 }
 
 -- some three lists of bytes give this image
-abbrev pub Gives : Files → List Entry → Files → Type 0
+abbrev pub Gives : Files → List DoneCommand → Files → Type 0
 Gives held es image = (choice : Files) × AreFiles choice × (image ≡ crash_image held es choice)

@@ -6,29 +6,29 @@ use Rattle.std.proofs.Common.{inl, inr, arith, refl, subst}
 use Rattle.std.proofs.lemmas.Bool.{and_parts, ltb-true}
 use Rattle.std.proofs.lemmas.List.Elements.{All-cons, All-nil}
 use Rattle.byte_disk.specs.Files.{AreBytes, AreFiles, Files, are_files, is_byte, told}
-use Rattle.byte_disk.specs.declared.record.Entry.{Entry}
+use Rattle.byte_disk.specs.declared.record.DoneCommand.{DoneCommand}
 use Rattle.byte_disk.specs.Record.{undo, Leaves, LeftWithin, LeftSince}
 
-pub only_now : (count : ℕ) (held : Files) (es : List Entry) (image : Files) → count < 2 ^ 64 - 1
+pub only_now : (count : ℕ) (held : Files) (es : List DoneCommand) (image : Files) → count < 2 ^ 64 - 1
     → LeftSince count held es count image → Leaves held es image
 only_now count held es image lt (inl now) = now
 only_now count held es image lt (inr (inl less, past)) = absurd (omega arith)
 only_now count held es image lt (inr (inr most, past)) = absurd (omega arith)
 
-lower_within : (held : Files) (es : List Entry) (t u : ℕ) (image : Files) → t ≤ u
+lower_within : (held : Files) (es : List DoneCommand) (t u : ℕ) (image : Files) → t ≤ u
     → LeftWithin held es u image → LeftWithin held es t image
 lower_within held [] t u image le h = absurd h
 lower_within held (e ∷ es) t u image le (inl (began, left)) = inl (omega arith, left)
 lower_within held (e ∷ es) t u image le (inr past) = inr (lower_within (undo e.act held) es t u image le past)
 
-pub lower : (count : ℕ) (held : Files) (es : List Entry) (t u : ℕ) (image : Files) → t ≤ u
+pub lower : (count : ℕ) (held : Files) (es : List DoneCommand) (t u : ℕ) (image : Files) → t ≤ u
     → LeftSince count held es u image → LeftSince count held es t image
 lower count held es t u image le (inl now) = inl now
 lower count held es t u image le (inr (inl less, past)) =
     inr (inl (omega arith), lower_within held es t u image le past)
 lower count held es t u image le (inr (inr most, past)) = inr (inr most, lower_within held es t u image le past)
 
-pub counts_now : (count : ℕ) (held : Files) (es : List Entry) (t : ℕ) (image : Files)
+pub counts_now : (count : ℕ) (held : Files) (es : List DoneCommand) (t : ℕ) (image : Files)
     → Leaves held es image → LeftSince count held es t image
 counts_now count held es t image now = inl now
 

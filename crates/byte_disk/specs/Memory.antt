@@ -4,7 +4,7 @@ use Rattle.std.specs.Prelude.{Result, Ok, Err}
 use Rattle.byte_disk.specs.declared.disk.File.{File}
 use Rattle.byte_disk.specs.declared.record.Act.{Act}
 use Rattle.byte_disk.specs.declared.record.Act.TheVariants.{Wrote, Synced}
-use Rattle.byte_disk.specs.declared.record.Entry.{Entry}
+use Rattle.byte_disk.specs.declared.record.DoneCommand.{DoneCommand}
 use Rattle.byte_disk.specs.Files.{Files, bytes_of, with_bytes, written}
 use Rattle.byte_disk.specs.Record.{change_of, IsSound}
 
@@ -13,7 +13,7 @@ pub record View : Type 0 where
   -- the files as they read
   pub held : Files
   -- what its commands have done, the newest first
-  pub acts : List Entry
+  pub acts : List DoneCommand
   -- the numbers of the commands that fail
   pub fails : List ℕ
   -- how many bytes of a write that is listed to fail arrive

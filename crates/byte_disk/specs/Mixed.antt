@@ -4,7 +4,7 @@ use Rattle.std.specs.Prelude.{length, get_or, replicate}
 use Rattle.byte_disk.specs.declared.disk.File.{File}
 use Rattle.byte_disk.specs.declared.disk.File.TheVariants.{Ip, Dp, Cm}
 use Rattle.byte_disk.specs.declared.record.Change.{Change}
-use Rattle.byte_disk.specs.declared.record.Entry.{Entry}
+use Rattle.byte_disk.specs.declared.record.DoneCommand.{DoneCommand}
 use Rattle.byte_disk.specs.Files.{Files}
 use Rattle.byte_disk.specs.Record.{pending}
 use Rattle.byte_disk.specs.Images.{original, shortest, longest}
@@ -13,7 +13,7 @@ use Rattle.byte_disk.specs.Images.{original, shortest, longest}
 abbrev pub filled_file : ℕ → Bool → List ℕ → List Change → List ℕ
 filled_file fill keep held ws = replicate (if keep then length held else shortest held ws) fill
 
-abbrev pub filled : ℕ → Bool → Files → List Entry → Files
+abbrev pub filled : ℕ → Bool → Files → List DoneCommand → Files
 filled fill keep held es = record {
   ip = filled_file fill keep held.ip (pending Ip es);
   dp = filled_file fill keep held.dp (pending Dp es);
@@ -50,7 +50,7 @@ seed_of Ip seed = seed
 seed_of Dp seed = stir (stir seed)
 seed_of Cm seed = stir (stir (stir (stir seed)))
 
-abbrev pub mixed : ℕ → Files → List Entry → Files
+abbrev pub mixed : ℕ → Files → List DoneCommand → Files
 mixed seed held es = record {
   ip = mixed_file (seed_of Ip seed) held.ip (pending Ip es);
   dp = mixed_file (seed_of Dp seed) held.dp (pending Dp es);

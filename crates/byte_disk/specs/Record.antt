@@ -6,7 +6,7 @@ use Rattle.byte_disk.specs.declared.disk.File.TheVariants.{Ip, Dp, Cm}
 use Rattle.byte_disk.specs.declared.record.Change.{Change}
 use Rattle.byte_disk.specs.declared.record.Act.{Act}
 use Rattle.byte_disk.specs.declared.record.Act.TheVariants.{Wrote, Synced}
-use Rattle.byte_disk.specs.declared.record.Entry.{Entry}
+use Rattle.byte_disk.specs.declared.record.DoneCommand.{DoneCommand}
 use Rattle.byte_disk.specs.Files.{Files, bytes_of, with_bytes, bytes_at, written, AreBytes, IsAnyIn}
 
 -- one file is the other one
@@ -41,7 +41,7 @@ pending_after file (Wrote other w) ws = if is_same file other then w ∷ ws else
 pending_after file (Synced other) ws = if is_same file other then [] else ws
 
 -- the writes to a file since its last sync that succeeded, the newest first
-abbrev pub pending : File → List Entry → List Change
+abbrev pub pending : File → List DoneCommand → List Change
 pending file [] = []
 pending file (e ∷ es) = pending_after file e.act (pending file es)
 
@@ -53,14 +53,14 @@ LeavesFile held (w ∷ ws) image =
     (before : List ℕ) × LeavesFile (unwritten w held) ws before × IsAnyIn w.at w.count before image
 
 -- what a crash may leave now: of each file what it may leave of it, whatever it leaves of the others
-pub record Leaves (held : Files) (es : List Entry) (image : Files) : Type 0 where
+pub record Leaves (held : Files) (es : List DoneCommand) (image : Files) : Type 0 where
   pub ip : LeavesFile held.ip (pending Ip es) image.ip
   pub dp : LeavesFile held.dp (pending Dp es) image.dp
   pub cm : LeavesFile held.cm (pending Cm es) image.cm
 
 -- What a crash may have left before or after an act that had begun at the number t or later. What it leaves within a
 -- write it leaves after it, too, and what it leaves within a sync it could leave before.
-abbrev pub LeftWithin : Files → List Entry → ℕ → Files → Type 0
+abbrev pub LeftWithin : Files → List DoneCommand → ℕ → Files → Type 0
 LeftWithin held [] t image = ⊥
 LeftWithin held (e ∷ es) t image =
     ((t ≤ e.number) × (Leaves held (e ∷ es) image ⊎ Leaves (undo e.act held) es image))
@@ -68,12 +68,12 @@ LeftWithin held (e ∷ es) t image =
 
 -- What a crash may have left since the number was t: now, or by such an act. The number stands at `count`, and since
 -- that number there is no other moment than now.
-abbrev pub LeftSince : ℕ → Files → List Entry → ℕ → Files → Type 0
+abbrev pub LeftSince : ℕ → Files → List DoneCommand → ℕ → Files → Type 0
 LeftSince count held es t image =
     Leaves held es image ⊎ (((t < count) ⊎ (2 ^ 64 - 1 ≤ count)) × LeftWithin held es t image)
 
 -- each act began at a smaller number than now, unless the number stands at its end
-abbrev pub Numbered : ℕ → List Entry → Type 0
+abbrev pub Numbered : ℕ → List DoneCommand → Type 0
 Numbered count [] = Unit {0}
 Numbered count (e ∷ es) = (count < 2 ^ 64 - 1 → e.number < count) × Numbered count es
 
@@ -95,11 +95,11 @@ IsActKept (Wrote file w) d = IsKept w (bytes_of file d)
 IsActKept (Synced file) d = Unit {0}
 
 -- the record of files that read so: at first they had bytes, and each act has left what it may leave
-abbrev pub IsRecordOf : Files → List Entry → Type 0
+abbrev pub IsRecordOf : Files → List DoneCommand → Type 0
 IsRecordOf d [] = AreBytes d.ip × AreBytes d.dp × AreBytes d.cm
 IsRecordOf d (e ∷ es) = IsActKept e.act d × IsRecordOf (undo e.act d) es
 
 -- a disk's record and its number of commands go together
-pub record IsSound (count : ℕ) (held : Files) (es : List Entry) : Type 0 where
+pub record IsSound (count : ℕ) (held : Files) (es : List DoneCommand) : Type 0 where
   pub numbers : Numbered count es
   pub kept : IsRecordOf held es

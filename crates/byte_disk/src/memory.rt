@@ -9,7 +9,7 @@ ghost use Rattle.byte_disk.specs.Record.{IsSound};
 
 use crate::disk::{DiskFault, File};
 use crate::files::{FileBytes, are_bytes};
-use crate::record::{Act, Entry};
+use crate::record::{Act, DoneCommand};
 use std::alloc::Global;
 use std::marker::Model;
 use tape_types::{Bytes, List, NoMemory};
@@ -21,7 +21,7 @@ pub struct MemDisk {
     alloc: Global,
     files: FileBytes,
     /// The oldest first.
-    acts: Vec<Entry>,
+    acts: Vec<DoneCommand>,
     fails: List<u64>,
     arrives: u64,
     commands: u64,
@@ -147,7 +147,7 @@ impl MemDisk {
     }
 
     // The record, the oldest entry first.
-    pub(crate) fn acts(&self) -> &[Entry]
+    pub(crate) fn acts(&self) -> &[DoneCommand]
         ensures value { reverse result.now ≡ self.now.acts }
         ensures sound { IsSound self.now.commands self.now.held self.now.acts }
     {
@@ -159,7 +159,7 @@ impl MemDisk {
         ensures ok { OnOk result (self.new ≡ acted number (Synced file) self.old.held self.old) }
         ensures err { OnErr result (self.new ≡ self.old) }
     {
-        self.acts.push(Entry {
+        self.acts.push(DoneCommand {
             number,
             act: Act::Synced { file },
         })?;
@@ -185,7 +185,7 @@ impl MemDisk {
         are_bytes(bytes);
         self.acts.reserve(1)?;
         let change = self.files.put(self.alloc, file, at, count, bytes)?;
-        self.acts.push_reserved(Entry {
+        self.acts.push_reserved(DoneCommand {
             number,
             act: Act::Wrote { file, change },
         });

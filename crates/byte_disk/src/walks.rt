@@ -6,10 +6,10 @@ ghost use Rattle.byte_disk.specs.Images.{original, reach, chosen, chosen_in};
 ghost use Rattle.byte_disk.specs.Walks.{is_sync_of, undone_by, reach_by, chosen_by, IsKeptIf, IsKeptBy};
 
 use crate::disk::File;
-use crate::record::{Act, Change, Entry};
+use crate::record::{Act, Change, DoneCommand};
 
 // Takes a file back to its last sync.
-pub(crate) fn go_back(bytes: &mut Vec<u8>, acts: &[Entry], file: File)
+pub(crate) fn go_back(bytes: &mut Vec<u8>, acts: &[DoneCommand], file: File)
     requires { AreKept bytes.old.items (pending file (reverse acts.now)) }
     ensures { bytes.new.items ≡ original bytes.old.items (pending file (reverse acts.now)) }
 {
@@ -25,7 +25,7 @@ pub(crate) fn go_back(bytes: &mut Vec<u8>, acts: &[Entry], file: File)
 }
 
 // How far the ranges of the writes since the last sync reach, up to the end of a u64.
-pub(crate) fn reached(acts: &[Entry], file: File) -> u64
+pub(crate) fn reached(acts: &[DoneCommand], file: File) -> u64
     ensures { result ≡ min (reach (pending file (reverse acts.now))) (2 ^ 64 - 1) }
 {
     let mut most = 0;
@@ -42,7 +42,7 @@ pub(crate) fn reached(acts: &[Entry], file: File) -> u64
 }
 
 // Puts the bytes of a choice into the ranges of the writes since the last sync.
-pub(crate) fn choose(bytes: &mut Vec<u8>, acts: &[Entry], file: File, choice: &[u8])
+pub(crate) fn choose(bytes: &mut Vec<u8>, acts: &[DoneCommand], file: File, choice: &[u8])
     ensures { bytes.new.items ≡ chosen (pending file (reverse acts.now)) choice.now bytes.old.items }
 {
     let mut left = acts.len();

@@ -6,14 +6,14 @@ use Rattle.plain_tree.specs.declared.calls.Answer.{Answer}
 use Rattle.session_script.specs.declared.logs.Reply.{Reply}
 use Rattle.session_script.specs.declared.logs.Reply.TheVariants as the_replies
 use Rattle.serving_promise.specs.Marks.{after, mark, phase, waits}
-use Rattle.serving_promise.specs.declared.marks.Kind.{Kind}
+use Rattle.serving_promise.specs.declared.marks.MarkKind.{MarkKind}
 use Rattle.waiting_reads.specs.Waiting.{answer_for}
 use Rattle.order_laws.proofs.Marked.{phase_more}
 use Rattle.state_laws.specs.Parts.{Parts}
 use Rattle.call_laws.specs.Running.{HasAnswers}
 
 -- the replies that are there stay, and what a session waits for was there already, or isn't there yet
-pub record KeepsTheReplies {D : Type 0} (old new : Parts D) (who : ℕ) (kinds : List Kind) : Type 0 where
+pub record KeepsTheReplies {D : Type 0} (old new : Parts D) (who : ℕ) (kinds : List MarkKind) : Type 0 where
   pub answered : new.answered ≡ old.answered
   pub marks : new.listed.marks ≡ old.listed.marks ++ map (mark who) kinds
   pub stay : (k : ℕ) (reply : Reply) → slice_get old.listed.replies k ≡ Some (Some reply)
@@ -23,7 +23,7 @@ pub record KeepsTheReplies {D : Type 0} (old new : Parts D) (who : ℕ) (kinds :
   pub never : (k : ℕ) (reply : Reply) → fold after (phase who old.listed.marks) kinds ≡ waits k
       → slice_get new.listed.replies k ≡ Some (Some reply) → ⊥
 
-pub answers_stay : {D : Type 0} (old new : Parts D) (who : ℕ) (kinds : List Kind) → KeepsTheReplies old new who kinds
+pub answers_stay : {D : Type 0} (old new : Parts D) (who : ℕ) (kinds : List MarkKind) → KeepsTheReplies old new who kinds
     → HasAnswers old → HasAnswers new
 answers_stay old new who kinds keeps are = record {
   each = λ k a is. keeps.stay k (the_replies.Answer a) (are.each k a (sym (ap (answer_for k) keeps.answered) ∙ is));

@@ -7,8 +7,8 @@ use Rattle.tape_types.specs.declared.moments.Moment.{Moment}
 use Rattle.plain_tree.specs.declared.calls.Answer.{Answer}
 use Rattle.session_script.specs.declared.logs.Reply.TheVariants as the_replies
 use Rattle.serving_promise.specs.Marks.{after, draining, idle, mark, phase, waits}
-use Rattle.serving_promise.specs.declared.marks.Kind.{Kind}
-use Rattle.serving_promise.specs.declared.marks.Kind.TheVariants as kinds
+use Rattle.serving_promise.specs.declared.marks.MarkKind.{MarkKind}
+use Rattle.serving_promise.specs.declared.marks.MarkKind.TheVariants as kinds
 use Rattle.serving_promise.specs.declared.marks.Mark.{Mark}
 use Rattle.order_laws.proofs.Lists.{at_more, at_push}
 use Rattle.order_laws.proofs.Marked.{phase_more}
@@ -18,7 +18,7 @@ use Rattle.call_laws.specs.Draining.{RestsNow, TakesFault}
 use Rattle.call_laws.specs.Running.{HasAnswers}
 
 -- where marks leave their session idle, who waits then waited before
-waits_still : (who w k : ℕ) (marks : List Mark) (added : List Kind) → fold after (phase who marks) added ≡ idle
+waits_still : (who w k : ℕ) (marks : List Mark) (added : List MarkKind) → fold after (phase who marks) added ≡ idle
     → phase w (marks ++ map (mark who) added) ≡ waits k → phase w marks ≡ waits k
 waits_still who w k marks added rests h = by (who == w) refl (sym (phase_more who w marks added) ∙ h)
   where

@@ -30,7 +30,7 @@ use Rattle.serving_promise.specs.Steps.{DrainsOnce, drain_faults, without_sessio
 use Rattle.serving_promise.specs.Submits.{acks_for, call_of}
 use Rattle.serving_promise.specs.declared.answers.Drained.{Drained}
 use Rattle.serving_promise.specs.declared.answers.Drained.TheVariants as the_drained
-use Rattle.serving_promise.specs.declared.marks.Kind.TheVariants as kinds
+use Rattle.serving_promise.specs.declared.marks.MarkKind.TheVariants as kinds
 use Rattle.serving_promise.specs.declared.marks.Mark.{Mark}
 use Rattle.order_laws.specs.Kept.{seen}
 use Rattle.order_laws.specs.Laws.{IsInOrder}

@@ -13,8 +13,8 @@ use Rattle.tape_types.specs.declared.cartridges.Item.TheVariants.{Block}
 use Rattle.tape_types.specs.declared.cartridges.Part.{Part}
 use Rattle.tape_types.specs.declared.cartridges.Part.TheVariants.{Dp, Ip}
 use Rattle.index_model.specs.declared.indexes.Index.{Index}
-use Rattle.index_model.specs.declared.nodes.Kind as told_kind
-use Rattle.index_model.specs.declared.nodes.Kind.TheVariants as told_kinds
+use Rattle.index_model.specs.declared.nodes.NodeKind as told_kind
+use Rattle.index_model.specs.declared.nodes.NodeKind.TheVariants as told_kinds
 use Rattle.plain_tree.specs.Paths.{Path}
 use Rattle.plain_tree.specs.declared.nodes.Kind.TheVariants as plain_kinds
 use Rattle.extent_map.specs.Cells.{Tape, byte_in, cell_at, cell_of, covers, file_cells}
@@ -22,8 +22,8 @@ use Rattle.extent_map.specs.Laid.{Laid, Room}
 use Rattle.file_tree.specs.Blocks.{AgreeBelow, LiesBelow}
 use Rattle.file_tree.specs.Mounts.{IsKindOf, IsTreeOf, Letters}
 use Rattle.file_tree.specs.Tree.{FileTree, plain_kind_of, plain_node_of, plain_nodes, plain_of, whole}
-use Rattle.file_tree.specs.declared.nodes.Kind.{Kind}
-use Rattle.file_tree.specs.declared.nodes.Kind.TheVariants as kinds
+use Rattle.file_tree.specs.declared.nodes.HeldKind.{HeldKind}
+use Rattle.file_tree.specs.declared.nodes.HeldKind.TheVariants as kinds
 use Rattle.file_tree.specs.declared.nodes.Node.{Node}
 use Rattle.file_tree.proofs.BlockLemmas.{ends_hold}
 use Rattle.file_tree.proofs.MountLemmas.{told_at}
@@ -64,7 +64,7 @@ module _ (one other : Tape) (size : ℕ) (some : 1 ≤ size)
     same_node path node there =
         ap (λ k. record (plain_node_of one node) { kind = k }) (by node.kind refl)
       where
-        by : (kind : Kind) → node.kind ≡ kind → plain_kind_of one kind ≡ plain_kind_of other kind
+        by : (kind : HeldKind) → node.kind ≡ kind → plain_kind_of one kind ≡ plain_kind_of other kind
         by kinds.Dir e = refl
         by (kinds.Link text) e = refl
         by (kinds.File room) e =
@@ -141,15 +141,15 @@ near_whole size ends part pos byte near =
 
 -- ---- the tree of an index
 
-size_of : (letters : Letters) (size : ℕ) (kind : told_kind.Kind) (room : Room)
+size_of : (letters : Letters) (size : ℕ) (kind : told_kind.NodeKind) (room : Room)
     → IsKindOf letters size kind (kinds.File room) → room.laid.block_size ≡ size
-size_of letters size told_kinds.Dir room is = absurd (let wrong : ◌≡◌ {A = Kind} (kinds.File room) kinds.Dir = is in cc)
+size_of letters size told_kinds.Dir room is = absurd (let wrong : ◌≡◌ {A = HeldKind} (kinds.File room) kinds.Dir = is in cc)
 size_of letters size (told_kinds.Link text) room is =
-    absurd (let wrong : ◌≡◌ {A = Kind} (kinds.File room) (kinds.Link text) = is in cc)
+    absurd (let wrong : ◌≡◌ {A = HeldKind} (kinds.File room) (kinds.Link text) = is in cc)
 size_of letters size (told_kinds.File bytes raws) room is =
     ap (λ (r : Room). r.laid.block_size) (one_room room is.0 is.1) ∙ ap (λ (f : Laid). f.block_size) is.2
   where
-    one_room : (r s : Room) → ◌≡◌ {A = Kind} (kinds.File r) (kinds.File s) → r ≡ s
+    one_room : (r s : Room) → ◌≡◌ {A = HeldKind} (kinds.File r) (kinds.File s) → r ≡ s
     one_room r s e = cc
 
 -- a tree that was mounted is the same on a tape that has lost nothing as on blocks of zeros up to its ends

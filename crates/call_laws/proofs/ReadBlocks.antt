@@ -21,8 +21,8 @@ use Rattle.extent_map.specs.declared.pieces.Piece.{Piece}
 use Rattle.extent_map.proofs.DistinctLemmas.{has_distinct}
 use Rattle.extent_map.specs.declared.pieces.Piece.TheVariants.{Stored, Zeros}
 use Rattle.tape_types.proofs.Places.{same_places}
-use Rattle.file_tree.specs.declared.nodes.Kind.{Kind}
-use Rattle.file_tree.specs.declared.nodes.Kind.TheVariants as kinds
+use Rattle.file_tree.specs.declared.nodes.HeldKind.{HeldKind}
+use Rattle.file_tree.specs.declared.nodes.HeldKind.TheVariants as kinds
 use Rattle.file_tree.specs.declared.nodes.Node.{Node}
 use Rattle.file_tree.specs.Tree.{FileTree, plain_node_of, plain_nodes, plain_of, whole}
 use Rattle.file_tree.specs.Valid.{IsGood}
@@ -92,7 +92,7 @@ file_at t path free = by (fin.get t.nodes path) refl
         absurd cc
     by (Some node) e = kind node.kind refl
       where
-        kind : (k : Kind) → node.kind ≡ k → FileAt t path
+        kind : (k : HeldKind) → node.kind ≡ k → FileAt t path
         kind kinds.Dir is =
             let found : no_file (plain_nodes whole t.nodes) path ≡ Some refusals.IsDir = rw (plain_get whole t.nodes path ∙ ap (option_map (plain_node_of whole)) e, is) refl in
             let clash : None ≡ Some refusals.IsDir = sym free ∙ found in

@@ -6,8 +6,8 @@ use Rattle.std.proofs.lemmas.Option.{slice_get_within}
 use Rattle.tape_types.specs.declared.cartridges.Part.{Part}
 use Rattle.index_model.specs.Places.{IsAt}
 use Rattle.index_model.specs.declared.nodes.Node as told
-use Rattle.index_model.specs.declared.nodes.Kind as told_kind
-use Rattle.index_model.specs.declared.nodes.Kind.TheVariants as told_kinds
+use Rattle.index_model.specs.declared.nodes.NodeKind as told_kind
+use Rattle.index_model.specs.declared.nodes.NodeKind.TheVariants as told_kinds
 use Rattle.extent_map.specs.Blocks.{FileStandsIn}
 use Rattle.file_tree.specs.Blocks.{TreeStandsIn}
 use Rattle.file_tree.specs.Mounts.{IsKindOf, IsTreeOf, Stands, laid_of}
@@ -29,13 +29,13 @@ found_there p (first ∷ nodes) node is = by (p first) (found_there p nodes node
 module _ (m : MountFacts) (t : FileTree) (is : IsTreeOf (letters m) m.label.block m.index t) (part : Part)
     (pos : ℕ) where
   -- a node of the tree that is told of as a file has its blocks
-  in_node : (at : ℕ) (node : told.Node) (kind : told_kind.Kind) → node.kind ≡ kind
+  in_node : (at : ℕ) (node : told.Node) (kind : told_kind.NodeKind) → node.kind ≡ kind
       → Stands (letters m) m.label.block m.index.nodes t.nodes at node → FileStandsIn (laid_node m kind) part pos
       → TreeStandsIn t part pos
   in_node at node told_kinds.Dir e s h = absurd h
   in_node at node (told_kinds.Link text) e s h = absurd h
   in_node at node (told_kinds.File bytes raws) e s h =
-      let k = subst (λ (kind : told_kind.Kind). IsKindOf (letters m) m.label.block kind s.n.kind) e s.same.kind in
+      let k = subst (λ (kind : told_kind.NodeKind). IsKindOf (letters m) m.label.block kind s.n.kind) e s.same.kind in
       record {
         number = at;
         laid = laid_of (letters m) m.label.block bytes raws;

@@ -25,8 +25,8 @@ use Rattle.plain_tree.specs.declared.calls.Placed.{Placed}
 use Rattle.std.specs.Option.{option_map}
 use Rattle.file_tree.specs.Tree.{FileTree, plain_kind_of, plain_node_of, plain_of, whole}
 use Rattle.file_tree.specs.Valid.{IsFileOf, IsGood}
-use Rattle.file_tree.specs.declared.nodes.Kind.{Kind}
-use Rattle.file_tree.specs.declared.nodes.Kind.TheVariants as kinds
+use Rattle.file_tree.specs.declared.nodes.HeldKind.{HeldKind}
+use Rattle.file_tree.specs.declared.nodes.HeldKind.TheVariants as kinds
 use Rattle.file_tree.specs.declared.nodes.Node.{Node}
 use Rattle.file_tree.proofs.CallLemmas.{long_free}
 use Rattle.file_tree.proofs.PlainLemmas.{plain_get}
@@ -145,7 +145,7 @@ pub file_lies : (tape : Tape) (t : FileTree) (files : Files) (path : List (List 
 file_lies tape t files path offset bytes good lie free =
     by (fin.get t.nodes path) refl ((long_free (plain_of whole t) path (offset + length bytes) free).0)
   where
-    is_file : (node : Node) (k : Kind) → fin.get t.nodes path ≡ Some node → node.kind ≡ k → no_file (plain_of whole t).nodes path ≡ None
+    is_file : (node : Node) (k : HeldKind) → fin.get t.nodes path ≡ Some node → node.kind ≡ k → no_file (plain_of whole t).nodes path ≡ None
         → IsFileOf t.block_size (files (uid_at (plain_of tape t).nodes path))
     is_file node kinds.Dir there is none =
         let wrong : None ≡ Some IsDir = sym none ∙ file_of_kind whole t.nodes path node plain_kinds.Dir there (ap (plain_kind_of whole) is) in

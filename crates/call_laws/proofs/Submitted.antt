@@ -16,8 +16,8 @@ use Rattle.serving_promise.specs.Served.{Drive, Fixed, View}
 use Rattle.serving_promise.specs.Submits.{CanSubmit, Submits}
 use Rattle.serving_promise.specs.declared.answers.Submitted.{Submitted}
 use Rattle.serving_promise.specs.declared.answers.Submitted.TheVariants as submitted
-use Rattle.serving_promise.specs.declared.marks.Kind.{Kind}
-use Rattle.serving_promise.specs.declared.marks.Kind.TheVariants.{Places as places, Hands as hands, Begins as begins}
+use Rattle.serving_promise.specs.declared.marks.MarkKind.{MarkKind}
+use Rattle.serving_promise.specs.declared.marks.MarkKind.TheVariants.{Places as places, Hands as hands, Begins as begins}
 use Rattle.order_laws.specs.Kept.{seen}
 use Rattle.order_laws.specs.Laws.{IsInOrder}
 use Rattle.order_laws.proofs.Lists.{at_more, at_push}
@@ -72,7 +72,7 @@ waits_never k true is here e = absurd (cc)
 waits_never k false is here e = absurd (cc)
 
 -- one placement more, whose reply is there where it was handed out at once
-module _ {D : Type 0} (old new : Parts D) (who : ℕ) (kinds : List Kind) (reply : Option Reply)
+module _ {D : Type 0} (old new : Parts D) (who : ℕ) (kinds : List MarkKind) (reply : Option Reply)
     (answered : new.answered ≡ old.answered)
     (marks : new.listed.marks ≡ old.listed.marks ++ map (mark who) kinds)
     (replies : new.listed.replies ≡ old.listed.replies ++ reply ∷ [])
@@ -98,12 +98,12 @@ module _ {D : Type 0} (first now : Drive) (fixed : Fixed D) (before after_it : O
       → HasAnswers old → HasAnswers new
   keeps_replies (submitted.Ready reply) s are =
       let here : ℕ = length old.listed.history in
-      let kinds : List Kind = places here ∷ hands here reply ∷ [] in
+      let kinds : List MarkKind = places here ∷ hands here reply ∷ [] in
       answers_stay old new who kinds
       (placed_keeps old new who kinds (Some reply) answered s.marks s.placing.replies within
       (λ k r waiting there. waits_never k (here == here) (eq-eqb here here refl) here (ap (λ ph. fold after ph kinds) (sym can.free) ∙ waiting))) are
   keeps_replies (submitted.Wait ticket) s are =
-      let kinds : List Kind = places ticket ∷ [] in
+      let kinds : List MarkKind = places ticket ∷ [] in
       answers_stay old new who kinds
       (placed_keeps old new who kinds None answered s.marks s.placing.1.replies within
       (λ k r waiting there.
@@ -118,7 +118,7 @@ module _ {D : Type 0} (first now : Drive) (fixed : Fixed D) (before after_it : O
           let e : Some None ≡ Some (Some r) = sym (slice_get-seam old.listed.replies None) ∙ ap (slice_get (old.listed.replies ++ None ∷ [])) (sym k_is) ∙ there in
           absurd (cc)
   keeps_replies submitted.Drain s are =
-      let kinds : List Kind = begins ∷ [] in
+      let kinds : List MarkKind = begins ∷ [] in
       answers_stay old new who kinds
       (record {
         answered = answered;

@@ -12,7 +12,7 @@ use Rattle.session_script.specs.declared.logs.Reply.{Reply}
 use Rattle.session_script.specs.declared.logs.Reply.TheVariants as the_replies
 use Rattle.serving_promise.specs.Marks.{after, idle, mark, phase, places_of, waits}
 use Rattle.serving_promise.specs.Served.{View}
-use Rattle.serving_promise.specs.declared.marks.Kind.TheVariants as kinds
+use Rattle.serving_promise.specs.declared.marks.MarkKind.TheVariants as kinds
 use Rattle.order_laws.specs.Laws.{IsInOrder}
 use Rattle.order_laws.proofs.Marked.{phase_more}
 use Rattle.order_laws.proofs.PhaseLaw.{phases_plain}

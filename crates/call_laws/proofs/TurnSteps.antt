@@ -17,7 +17,7 @@ use Rattle.serving_promise.specs.Steps.{HeadIsBehind, HeadIsRead, IsOnTape, Keep
 use Rattle.serving_promise.specs.Submits.{Adds}
 use Rattle.serving_promise.specs.declared.answers.Turn.{Turn}
 use Rattle.serving_promise.specs.declared.answers.Turn.TheVariants as turns
-use Rattle.serving_promise.specs.declared.marks.Kind.TheVariants as kinds
+use Rattle.serving_promise.specs.declared.marks.MarkKind.TheVariants as kinds
 use Rattle.serving_promise.specs.declared.marks.Mark.{Mark}
 use Rattle.order_laws.specs.Kept.{seen}
 use Rattle.order_laws.specs.Sides.{IsBrought, TurnsInOrder}

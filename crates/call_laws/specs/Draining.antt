@@ -13,7 +13,7 @@ use Rattle.serving_promise.specs.Marks.{mark}
 use Rattle.serving_promise.specs.Steps.{without_session}
 use Rattle.serving_promise.specs.declared.answers.Drained.{Drained}
 use Rattle.serving_promise.specs.declared.answers.Drained.TheVariants as the_drained
-use Rattle.serving_promise.specs.declared.marks.Kind.TheVariants as kinds
+use Rattle.serving_promise.specs.declared.marks.MarkKind.TheVariants as kinds
 use Rattle.state_laws.specs.Parts.{Parts}
 use Rattle.state_laws.specs.Placing.{PlacesCall}
 use Rattle.call_laws.specs.Handing.{StepsOn}

@@ -9,7 +9,7 @@ use Rattle.tape_drive.specs.declared.drive.Drive.{Ghosts}
 use Rattle.serving_promise.specs.Marks.{mark}
 use Rattle.serving_promise.specs.declared.answers.Turn.{Turn}
 use Rattle.serving_promise.specs.declared.answers.Turn.TheVariants as the_turns
-use Rattle.serving_promise.specs.declared.marks.Kind.TheVariants as kinds
+use Rattle.serving_promise.specs.declared.marks.MarkKind.TheVariants as kinds
 use Rattle.waiting_reads.specs.Waiting.{answer_for, for_others}
 use Rattle.state_laws.specs.Parts.{Parts}
 use Rattle.state_laws.specs.Stepping.{Steps}

@@ -14,8 +14,8 @@ use Rattle.ltfs_label.specs.Grammar.{LabelText}
 use Rattle.ltfs_label.specs.Values.{LabelValue}
 use Rattle.index_model.specs.declared.indexes.Index.{Index}
 use Rattle.index_model.specs.declared.indexes.Spot.{Spot}
-use Rattle.index_model.specs.declared.nodes.Kind.{Kind}
-use Rattle.index_model.specs.declared.nodes.Kind.TheVariants as kinds
+use Rattle.index_model.specs.declared.nodes.NodeKind.{NodeKind}
+use Rattle.index_model.specs.declared.nodes.NodeKind.TheVariants as kinds
 use Rattle.index_model.specs.declared.nodes.Node.{Node}
 use Rattle.index_model.specs.declared.nodes.RawExtent.{RawExtent}
 use Rattle.content_laws.specs.Readings.{Construct}
@@ -201,7 +201,7 @@ module _ (label : Label) (ip dp : ℕ) where
   known_extents [] = inl tt
   known_extents (e ∷ es) = known_both (known_if_some e) (known_extents es)
 
-  known_kind : (kind : Kind) → Known (FitsKind label ip dp kind)
+  known_kind : (kind : NodeKind) → Known (FitsKind label ip dp kind)
   known_kind kinds.Dir = inl tt
   known_kind (kinds.File size extents) = known_extents extents
   known_kind (kinds.Link text) = inl tt

@@ -6,8 +6,8 @@ use Rattle.tape_types.specs.Bounds.{longest_file}
 use Rattle.index_model.specs.declared.faults.Fault.{Fault}
 use Rattle.index_model.specs.declared.faults.Fault.TheVariants as faults
 use Rattle.index_model.specs.declared.indexes.Index.{Index}
-use Rattle.index_model.specs.declared.nodes.Kind.{Kind}
-use Rattle.index_model.specs.declared.nodes.Kind.TheVariants as kinds
+use Rattle.index_model.specs.declared.nodes.NodeKind.{NodeKind}
+use Rattle.index_model.specs.declared.nodes.NodeKind.TheVariants as kinds
 use Rattle.index_model.specs.declared.nodes.Node.{Node}
 use Rattle.index_model.specs.declared.nodes.RawExtent.{RawExtent}
 use Rattle.index_model.specs.Extents.{Covers, EndsTooFar, HasOverlap, IsBadFile, IsFileAt, IsOutOfBounds, Overlap}
@@ -91,7 +91,7 @@ known_key_twice nodes at =
 
 -- ---- files
 
-known_kind : (kind : Kind) (Q : ℕ → List RawExtent → Type 0) → ((bytes : ℕ) (es : List RawExtent) → Known (Q bytes es))
+known_kind : (kind : NodeKind) (Q : ℕ → List RawExtent → Type 0) → ((bytes : ℕ) (es : List RawExtent) → Known (Q bytes es))
     → Known ((bytes : ℕ) × (es : List RawExtent) × (kind ≡ kinds.File bytes es) × Q bytes es)
 known_kind kinds.Dir Q known = inr (λ h. let wrong : kinds.Dir ≡ kinds.File h.0 h.1 = h.2 in cc)
 known_kind (kinds.Link text) Q known = inr (λ h. let wrong : kinds.Link text ≡ kinds.File h.0 h.1 = h.2 in cc)

@@ -16,8 +16,8 @@ use Rattle.file_tree.proofs.BlockLemmas.{blocks_make_the_tree}
 use Rattle.file_tree.proofs.MountedBlocks.{built_stands}
 use Rattle.index_model.specs.declared.indexes.Index.{Index}
 use Rattle.index_model.specs.declared.indexes.Spot.{Spot}
-use Rattle.index_model.specs.declared.nodes.Kind.{Kind}
-use Rattle.index_model.specs.declared.nodes.Kind.TheVariants as kinds
+use Rattle.index_model.specs.declared.nodes.NodeKind.{NodeKind}
+use Rattle.index_model.specs.declared.nodes.NodeKind.TheVariants as kinds
 use Rattle.index_model.specs.declared.nodes.Node.{Node}
 use Rattle.index_model.specs.declared.nodes.RawExtent.{RawExtent}
 use Rattle.index_model.proofs.Walks.{all_at}
@@ -100,7 +100,7 @@ module _ (label : Label) (ip dp ip2 dp2 : ℕ) (le : ip ≤ ip2) (le2 : dp ≤ d
   extents_further [] all = all
   extents_further (e ∷ es) all = (λ some. extent_further e (all.0 some), extents_further es all.1)
 
-  kind_further : (kind : Kind) → FitsKind label ip dp kind → FitsKind label ip2 dp2 kind
+  kind_further : (kind : NodeKind) → FitsKind label ip dp kind → FitsKind label ip2 dp2 kind
   kind_further kinds.Dir f = f
   kind_further (kinds.File size extents) f = extents_further extents f
   kind_further (kinds.Link text) f = f

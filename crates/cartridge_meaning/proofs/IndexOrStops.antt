@@ -1,6 +1,6 @@
 -- Each text is that of an index, or stops.
 use Rattle.std.proofs.Common.{◌⊎◌, ⊎_elim, ℕ, List, [], IsUtf8, inl, inr, refl, sym, subst, ◌∙◌}
-use Rattle.doc_elements.specs.declared.schema.Place.TheVariants as place
+use Rattle.doc_elements.specs.declared.schema.Container.TheVariants as place
 use Rattle.doc_elements.specs.Documents.{Accepts, IsAccepted, IsStopped}
 use Rattle.doc_elements.specs.Pieces.{Piece}
 use Rattle.doc_elements.proofs.Ends.{accepted_or_stops}

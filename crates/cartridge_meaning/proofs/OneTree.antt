@@ -3,14 +3,14 @@ use Rattle.std.proofs.Common.{◌≡◌, ℕ, List, Option, Some, None, length, 
 use Rattle.std.specs.FinMap as fin
 use Rattle.std.specs.Option.{option_map}
 use Rattle.index_model.specs.declared.indexes.Index.{Index}
-use Rattle.index_model.specs.declared.nodes.Kind as told_kind
-use Rattle.index_model.specs.declared.nodes.Kind.TheVariants as told_kinds
+use Rattle.index_model.specs.declared.nodes.NodeKind as told_kind
+use Rattle.index_model.specs.declared.nodes.NodeKind.TheVariants as told_kinds
 use Rattle.index_model.specs.declared.nodes.Node as told
 use Rattle.plain_tree.specs.declared.nodes.Kind.TheVariants as plain_kinds
 use Rattle.plain_tree.specs.declared.nodes.Node as plain_node
 use Rattle.extent_map.specs.Laid.{Laid}
 use Rattle.extent_map.specs.Cells.{Tape, file_cells}
-use Rattle.file_tree.specs.declared.nodes.Kind.{Kind}
+use Rattle.file_tree.specs.declared.nodes.HeldKind.{HeldKind}
 use Rattle.file_tree.specs.declared.nodes.Node.{Node}
 use Rattle.file_tree.specs.Mounts.{Letters, IsBuilt, IsKindOf, IsNodeOf, IsTreeOf}
 use Rattle.file_tree.specs.Tree.{FileTree, Nodes, plain_kind_of, plain_node_of, plain_nodes, plain_of}
@@ -19,7 +19,7 @@ use Rattle.file_tree.proofs.PathLemmas.{same_nodes}
 use Rattle.file_tree.proofs.PlainLemmas.{plain_get}
 
 module _ (tape : Tape) (letters : Letters) (size : ℕ) where
-  kind_once : (kind : told_kind.Kind) (a b : Kind) → IsKindOf letters size kind a → IsKindOf letters size kind b
+  kind_once : (kind : told_kind.NodeKind) (a b : HeldKind) → IsKindOf letters size kind a → IsKindOf letters size kind b
       → plain_kind_of tape a ≡ plain_kind_of tape b
   kind_once told_kinds.Dir a b h k = ap (plain_kind_of tape) (h ∙ sym k)
   kind_once (told_kinds.File length raws) a b h k =

@@ -9,8 +9,8 @@ use Rattle.extent_map.specs.Cells.{tape_of}
 use Rattle.file_tree.specs.Mounts as mounts
 use Rattle.file_tree.specs.Tree.{FileTree, plain_of}
 use Rattle.index_model.specs.declared.indexes.Index.{Index}
-use Rattle.index_model.specs.declared.nodes.Kind.{Kind}
-use Rattle.index_model.specs.declared.nodes.Kind.TheVariants as kinds
+use Rattle.index_model.specs.declared.nodes.NodeKind.{NodeKind}
+use Rattle.index_model.specs.declared.nodes.NodeKind.TheVariants as kinds
 use Rattle.index_model.specs.declared.nodes.Node.{Node}
 use Rattle.index_model.specs.declared.nodes.RawExtent.{RawExtent}
 use Rattle.ltfs_label.specs.declared.Label.{Label}
@@ -35,7 +35,7 @@ pub record Fits (label : Label) (ip dp : ℕ) (e : RawExtent) : Type 0 where
   pub high : e.block * label.block + e.byte + e.count ≤ end_on part ip dp * label.block
 
 -- so does each extent of a node that has bytes
-abbrev pub FitsKind : Label → (ip dp : ℕ) → Kind → Type 0
+abbrev pub FitsKind : Label → (ip dp : ℕ) → NodeKind → Type 0
 FitsKind label ip dp kinds.Dir = Unit {0}
 FitsKind label ip dp (kinds.File size extents) = AllByRecursion (λ e. 0 < e.count → Fits label ip dp e) extents
 FitsKind label ip dp (kinds.Link text) = Unit {0}

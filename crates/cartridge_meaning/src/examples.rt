@@ -7,7 +7,7 @@ ghost use Rattle.tape_types.specs.declared.cartridges.Item.TheVariants.{Block, M
 ghost use Rattle.cartridge_meaning.specs.Labels.{AreOfOneVolume, HasSomeLabel, HasSomeRecord};
 ghost use Rattle.tape_types.specs.declared.cartridges.Part.TheVariants.{Ip, Dp};
 ghost use Rattle.index_model.specs.declared.indexes.Spot.{Spot};
-ghost use Rattle.index_model.specs.declared.nodes.Kind.TheVariants.{File};
+ghost use Rattle.index_model.specs.declared.nodes.NodeKind.TheVariants.{File};
 ghost use Rattle.cartridge_meaning.specs.Meaning.{Fits, FitsKind, dp_end, ip_end};
 ghost use Rattle.cartridge_meaning.specs.Mounts.{chosen_place, last_place};
 ghost use Rattle.cartridge_meaning.specs.Notes.{HasHonestNotes};

@@ -26,7 +26,7 @@ use Rattle.space_laws.specs.Space.{Rules, Space, index, ops_of, with_index}
 use Rattle.image_laws.specs.Events.{IsDone, IsFailed, Within}
 use Rattle.image_laws.specs.Kept.{HasNothingPending, IsHeld, IsStep, IsSureAfter, Kept, Wait}
 use Rattle.image_laws.specs.Laws.{IsKept, IsServing, State}
-use Rattle.image_laws.specs.Made.{Entry, Job, Made, after, makes}
+use Rattle.image_laws.specs.Made.{CoveredIndex, Job, Made, after, makes}
 use Rattle.image_laws.specs.Moments.{moment_of}
 use Rattle.image_laws.specs.Plans.{IsCloseDue, IsDue, IsPlanned, close_jobs, index_jobs}
 use Rattle.image_laws.proofs.Longer.{after_append}
@@ -98,7 +98,7 @@ module _ {D : Type 0} (drive : Ghosts D) where
       kept = kept;
     }
 
-    indexed : (rules : Rules) (on : Bool) (text : List ℕ) (e : Entry)
+    indexed : (rules : Rules) (on : Bool) (text : List ℕ) (e : CoveredIndex)
         → IsDue (volume_of planned.labels v) (trees_of v) planned.made space text e → 1 ≤ rules.block_size
         → IsClosing drive v (with_jobs (index_jobs rules space text e) planned)
         (ops ++ ops_of rules on space (index text)) d

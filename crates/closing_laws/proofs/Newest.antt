@@ -19,7 +19,7 @@ use Rattle.cartridge_meaning.specs.Carried.{Carried, carried}
 use Rattle.cartridge_meaning.specs.Meaning.{FitsNode, IsTreeOf}
 use Rattle.cartridge_meaning.specs.Pointers.{IsLastOnDp, indexes_of, last_block, letter_of}
 use Rattle.cartridge_meaning.proofs.Frame.{nodes_further, tree_stays}
-use Rattle.image_laws.specs.Made.{Entry, Made, Trees, Volume, cartridge_of}
+use Rattle.image_laws.specs.Made.{CoveredIndex, Made, Trees, Volume, cartridge_of}
 use Rattle.image_laws.specs.Plans.{IsDue}
 use Rattle.image_laws.proofs.Indexes.{construct_content, ends_with_new, joined, new_construct, new_last, some_blocks}
 use Rattle.image_laws.proofs.Indexes.{spot_named, with_construct}
@@ -45,7 +45,7 @@ pub record IsTold (label : Label) (facts : Carried) (tree : Tree) (c : Cartridge
   pub tree_is : IsTreeOf label c told tree
 
 -- so is each index that is due
-pub told_by : (v : Volume) (t : Trees) (s : Made) (space : Space) (text : List ℕ) (e : Entry) → IsDue v t s space text e
+pub told_by : (v : Volume) (t : Trees) (s : Made) (space : Space) (text : List ℕ) (e : CoveredIndex) → IsDue v t s space text e
     → IsTold v.labels.ip v.facts (t.nth t.count) (cartridge_of s) space text
 told_by v t s space text e due = record {
   told = e.index;

@@ -28,7 +28,7 @@ use Rattle.space_laws.specs.Space.{Rules, Space, index, ops_of, with_index}
 use Rattle.space_laws.specs.Standing.{Standing}
 use Rattle.held_volume.specs.Stocks.{IsStock, Stocked}
 use Rattle.image_laws.specs.Kept.{IsStep}
-use Rattle.image_laws.specs.Made.{Entry, Job, cartridge_of}
+use Rattle.image_laws.specs.Made.{CoveredIndex, Job, cartridge_of}
 use Rattle.image_laws.specs.Moments.{moment_of}
 use Rattle.image_laws.specs.Plans.{IsCloseDue, IsDue, close_jobs, index_jobs}
 use Rattle.image_laws.specs.Left.{StandsClosed}
@@ -53,7 +53,7 @@ pub record ClosesAreSafe {D : Type 0} (drive : Ghosts D) : Type 0 where
   pub begins : (planned : Planned) (space : Space) (v : View D) → IsSafe drive planned space v
       → waits_after v.events ≡ [] → IsClosing drive v planned v.ops v.drive × HasSpace v planned space
   pub indexed : (planned : Planned) (space : Space) (v : View D) (ops : List Op) (d : D) (rules : Rules) (on : Bool)
-      (text : List ℕ) (e : Entry) → IsClosing drive v planned ops d → HasSpace v planned space
+      (text : List ℕ) (e : CoveredIndex) → IsClosing drive v planned ops d → HasSpace v planned space
       → IsDue (volume_of planned.labels v) (trees_of v) planned.made space text e → 1 ≤ rules.block_size
       → IsClosing drive v (with_jobs (index_jobs rules space text e) planned)
       (ops ++ ops_of rules on space (index text)) d

@@ -25,7 +25,7 @@ use Rattle.image_laws.specs.Fine.{GoesOn}
 use Rattle.image_laws.specs.Images.{MayWrite}
 use Rattle.image_laws.specs.Kept.{IsServed, Kept, Wait}
 use Rattle.image_laws.specs.Laws.{State}
-use Rattle.image_laws.specs.Made.{Entry, Job, Made, after, makes, plain}
+use Rattle.image_laws.specs.Made.{CoveredIndex, Job, Made, after, makes, plain}
 use Rattle.image_laws.specs.Moments.{moment_of}
 use Rattle.image_laws.specs.Plans.{IsDue, data_jobs, index_jobs}
 use Rattle.image_laws.proofs.Acks.{kept_acked}
@@ -64,14 +64,14 @@ first_free true end = ((λ (flush : Ip ≡ Dp). cc), tt)
 first_free false end = tt
 
 -- what comes before the flush of an index
-abbrev before_flush : Rules → Space → List ℕ → Entry → List Job
+abbrev before_flush : Rules → Space → List ℕ → CoveredIndex → List Job
 before_flush rules space text e =
     map plain (flush_first space.flush_due space.ends.ip)
     ++ plain (ops.Mark (record { part = Dp; pos = space.ends.dp })) ∷ []
     ++ map plain (puts rules.block_size Dp (space.ends.dp + 1) text)
     ++ record { op = ops.Mark (record { part = Dp; pos = space.ends.dp + 1 + blocks rules text }); whole = Some e } ∷ []
 
-before_free : (rules : Rules) (space : Space) (text : List ℕ) (e : Entry) → AllByRecursion IsFree (before_flush rules space text e)
+before_free : (rules : Rules) (space : Space) (text : List ℕ) (e : CoveredIndex) → AllByRecursion IsFree (before_flush rules space text e)
 before_free rules space text e = all_more IsFree _ _
     (all_more IsFree _ _
     (all_more IsFree _ _ (first_free space.flush_due space.ends.ip) ((λ flush. flush), tt))
@@ -81,7 +81,7 @@ before_free rules space text e = all_more IsFree _ _
 last_settles : (front : List Job) (last : Job) (s : Made) → (after s (front ++ last ∷ [])).base.ahead ≡ None → Settle (after s front) (last ∷ [])
 last_settles front last s none = ((λ flush. sym (ap (λ (m : Made). m.base.ahead) (after_append front (last ∷ []) s)) ∙ none), tt)
 
-pub index_settle : (rules : Rules) (space : Space) (text : List ℕ) (e : Entry) (s : Made)
+pub index_settle : (rules : Rules) (space : Space) (text : List ℕ) (e : CoveredIndex) (s : Made)
     → (after s (index_jobs rules space text e)).base.ahead ≡ None → Settle s (index_jobs rules space text e)
 index_settle rules space text e s none =
     settle_more (before_flush rules space text e) (plain (ops.Flush (record { part = Dp; pos = space.ends.dp + 2 + blocks rules text })) ∷ []) s
@@ -100,7 +100,7 @@ plain_ops (x ∷ xs) = ap (λ (l : List Op). x ∷ l) (plain_ops xs)
 abbrev pub op_of : Job → Op
 op_of job = job.op
 
-pub index_ops : (rules : Rules) (space : Space) (text : List ℕ) (e : Entry)
+pub index_ops : (rules : Rules) (space : Space) (text : List ℕ) (e : CoveredIndex)
     → map op_of (index_jobs rules space text e)
     ≡ flush_first space.flush_due space.ends.ip ++ construct rules.block_size Dp space.ends.dp text
 index_ops rules space text e = by (flush_first space.flush_due space.ends.ip) (puts rules.block_size Dp (space.ends.dp + 1) text)
@@ -308,7 +308,7 @@ module _ {D : Type 0} (drive : Ghosts D) (planned : Planned) (fixed : Fixed D) (
 module _ {D : Type 0} (drive : Ghosts D) (planned : Planned) (fixed : Fixed D) (d : D) (on : Option ℕ) where
   -- the index of a sync, which waits for it
   pub at_indexed : (space : Space) (history : List Placed) (acks : List Ack) (done : ℕ) (syncs : List Waiter) (asked : List Op) (rules : Rules)
-      (text : List ℕ) (e : Entry) (w : Waiter) (a : At drive planned space fixed d history acks done syncs on asked)
+      (text : List ℕ) (e : CoveredIndex) (w : Waiter) (a : At drive planned space fixed d history acks done syncs on asked)
       → IsDue (state_at planned.labels fixed history acks done syncs a.made a.jobs).volume (trees_at fixed history) (after a.made a.jobs) space text e
       → 1 ≤ rules.block_size → w.ticket ≡ length history
       → w.due ≡ done + length (asked ++ (flush_first space.flush_due space.ends.ip ++ construct rules.block_size Dp space.ends.dp text))

@@ -6,18 +6,18 @@ use Rattle.tape_types.specs.declared.cartridges.Part.{Part}
 use Rattle.tape_types.specs.declared.cartridges.Part.TheVariants.{Ip, Dp}
 use Rattle.tape_layout.specs.declared.ops.Op.{Op}
 use Rattle.tape_layout.specs.declared.ops.Op.TheVariants as ops
-use Rattle.image_laws.specs.Made.{Entry, Job, Made, after, does, makes, part_items, put_on}
+use Rattle.image_laws.specs.Made.{CoveredIndex, Job, Made, after, does, makes, part_items, put_on}
 use Rattle.crash_laws.specs.Laws.{PlansGrow}
 use Rattle.crash_laws.specs.Safe.{Follows, Planned, item_on, items_by, put_by}
 use Rattle.crash_laws.proofs.Admits.{op_of}
 
-put_grows : (part on : Part) (x : Item) (whole : Option Entry) (s : Made) → part_items part (put_on on x whole s) ≡ part_items part s ++ item_on part on x
+put_grows : (part on : Part) (x : Item) (whole : Option CoveredIndex) (s : Made) → part_items part (put_on on x whole s) ≡ part_items part s ++ item_on part on x
 put_grows Ip Ip x whole s = refl
 put_grows Ip Dp x whole s = sym (append-nil s.ip)
 put_grows Dp Ip x whole s = sym (append-nil s.dp)
 put_grows Dp Dp x whole s = refl
 
-op_grows : (part : Part) (op : Op) (whole : Option Entry) (s : Made) → part_items part (does op whole s) ≡ part_items part s ++ put_by part op
+op_grows : (part : Part) (op : Op) (whole : Option CoveredIndex) (s : Made) → part_items part (does op whole s) ≡ part_items part s ++ put_by part op
 op_grows part (ops.Put place bytes) whole s = put_grows part place.part (Block bytes) whole s
 op_grows part (ops.Mark place) whole s = put_grows part place.part Mark whole s
 op_grows Ip (ops.Flush place) whole s = sym (append-nil s.ip)

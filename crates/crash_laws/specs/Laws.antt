@@ -27,7 +27,7 @@ use Rattle.space_laws.specs.Space as space
 use Rattle.space_laws.specs.Standing.{admitted_at, after_placed, asked, is_on, rules, sync_text}
 use Rattle.image_laws.specs.Kept.{IsStep, IsSureAfter}
 use Rattle.image_laws.specs.Events.{IsDone, IsFailed, Within}
-use Rattle.image_laws.specs.Made.{Entry, Job, part_items}
+use Rattle.image_laws.specs.Made.{CoveredIndex, Job, part_items}
 use Rattle.image_laws.specs.Moments.{moment_of}
 use Rattle.image_laws.specs.Plans.{IsDue, data_jobs, index_jobs}
 use Rattle.image_laws.specs.Starts.{made_of}
@@ -98,7 +98,7 @@ pub record SubmissionsAreSafe {D : Type 0} (drive : Ghosts D) : Type 0 where
       (with_jobs (stored_jobs rules (is_on (facts_of old.fixed.mounted) old.on place) s wanted bytes) p)
       (space.after rules (is_on (facts_of old.fixed.mounted) old.on place) s (store wanted bytes)) new
   pub synced : (p : Planned) (s : Space) (old new : View D) (placed : Placed) (queues : List Event) (rules : Rules)
-      (on : Bool) (text : List ℕ) (e : Entry)
+      (on : Bool) (text : List ℕ) (e : CoveredIndex)
       → IsSafe drive p s old
       → IsPlaced drive old new placed (ops_of rules on s (index text))
       (events_of_sync (length old.history) old.events queues)
@@ -191,7 +191,7 @@ AsksNoIndex (index text) = ⊥
 -- The index of a sync is due that is placed next at a moment: it is one of the volume, of the whole history, which
 -- tells its tree from what stands once all ops are done.
 abbrev pub IsNextDue : {D : Type 0} → Planned → Limits → View D → Moment → Type 0
-IsNextDue p limits v at = (e : Entry) × IsDue (volume_of p.labels v) (trees_of v) p.made (space_now limits v)
+IsNextDue p limits v at = (e : CoveredIndex) × IsDue (volume_of p.labels v) (trees_of v) p.made (space_now limits v)
     (sync_text (given_by limits v) (standing_now limits v) at) e
 
 -- Each call that is placed keeps a volume safe, with the space that its history leaves: a void one; one that asks for

@@ -13,7 +13,7 @@ use Rattle.doc_elements.specs.declared.errors.PieceErr.{PieceErr}
 use Rattle.doc_elements.specs.declared.errors.PieceErr.TheVariants as errors
 use Rattle.doc_elements.specs.declared.schema.Form.{Form}
 use Rattle.doc_elements.specs.declared.schema.Form.TheVariants as form
-use Rattle.doc_elements.specs.declared.schema.Place.{Place}
+use Rattle.doc_elements.specs.declared.schema.Container.{Container}
 use Rattle.doc_elements.specs.Documents.{Accepts, Halts, IsAccepted, IsStopped, Open, Point, Reaches, after, at_end, at_head, at_piece, counted, fresh, head_of, readable}
 use Rattle.doc_elements.specs.Pieces.{Frame, Piece, Val, ◌>>=◌, bytes, bytes_in, bytes_of, closes, empty_value, in_range, is_too_great, leaf, leaf_at, least, letter, lift, lock, name_in, name_of, named, number, number_in, opens, piece_at, spaced, time, truth, uuid, value_in, whole, words}
 use Rattle.doc_elements.proofs.Inversion.{What, bind_ok, lift_ok, piece_is}
@@ -182,24 +182,24 @@ walked (suc n) text at (f ∷ fs) nodes le =
 
 -- ---- the whole text
 
-abbrev pub Whole : Place → List ℕ → Type 0
+abbrev pub Whole : Container → List ℕ → Type 0
 Whole doc text = (ps : List Piece) × Accepts doc text ps
 
-abbrev pub Stopped : Place → List ℕ → Type 0
+abbrev pub Stopped : Container → List ℕ → Type 0
 Stopped doc text = (e : PieceErr) × Halts doc text e
 
-closed : (doc : Place) (text : List ℕ) (ps : List Piece) (end : Point) → Open doc text ps end → end.parents ≡ [] → Whole doc text ⊎ Stopped doc text
+closed : (doc : Container) (text : List ℕ) (ps : List Piece) (end : Point) → Open doc text ps end → end.parents ≡ [] → Whole doc text ⊎ Stopped doc text
 closed doc text ps end open_is none = by (eqb (space_end text end.at) (length text)) refl
   where
     by : (b : Bool) → eqb (space_end text end.at) (length text) ≡ b → Whole doc text ⊎ Stopped doc text
     by true is = inl (ps, record { point = end; opened = open_is; closed = none; ended = eqb-true (space_end text end.at) (length text) is })
     by false is = inr (errors.Syntax (space_end text end.at), at_end ps end open_is none (eqb-false (space_end text end.at) (length text) is))
 
-finished : (doc : Place) (text : List ℕ) (ps : List Piece) (end : Point) → Open doc text ps end → (fs : List Frame) → end.parents ≡ fs → Final text end.at fs end.nodes → Whole doc text ⊎ Stopped doc text
+finished : (doc : Container) (text : List ℕ) (ps : List Piece) (end : Point) → Open doc text ps end → (fs : List Frame) → end.parents ≡ fs → Final text end.at fs end.nodes → Whole doc text ⊎ Stopped doc text
 finished doc text ps end open_is [] none final = closed doc text ps end open_is none
 finished doc text ps end open_is (f ∷ fs) are final = inr (final.0, at_piece ps end f fs open_is are final.1)
 
-whole_or_halts : (doc : Place) (text : List ℕ) → Whole doc text ⊎ Stopped doc text
+whole_or_halts : (doc : Container) (text : List ℕ) → Whole doc text ⊎ Stopped doc text
 whole_or_halts doc text = by_head (head_of doc text) refl
   where
     by_head : (r : Result ℕ PieceErr) → head_of doc text ≡ r → Whole doc text ⊎ Stopped doc text
@@ -208,13 +208,13 @@ whole_or_halts doc text = by_head (head_of doc text) refl
         let w = walked (length text) text inside (fresh doc ∷ []) 0 (omega arith) in
         finished doc text w.ps w.end (record { inside = inside; head_is = is; reaches = w.reaches }) w.end.parents refl w.final
 
-by_utf8 : (doc : Place) (text : List ℕ) (ps : List Piece) → Accepts doc (readable text) ps → IsAccepted doc text ⊎ IsStopped doc text
+by_utf8 : (doc : Container) (text : List ℕ) (ps : List Piece) → Accepts doc (readable text) ps → IsAccepted doc text ⊎ IsStopped doc text
 by_utf8 doc text ps acc = ⊎_elim
     (λ (valid : IsUtf8 text). inl (ps, valid, subst (λ (t : List ℕ). Accepts doc t ps) (readable_all text valid) acc))
     (λ cut. inr (errors.Syntax (length (readable text)), inr (record { ps = ps; accepts = acc; more = cut }, refl)))
     (utf8_or_cut text)
 
-pub accepted_or_stops : (doc : Place) (text : List ℕ) → IsAccepted doc text ⊎ IsStopped doc text
+pub accepted_or_stops : (doc : Container) (text : List ℕ) → IsAccepted doc text ⊎ IsStopped doc text
 accepted_or_stops doc text = ⊎_elim
     (λ (whole : Whole doc (readable text)). by_utf8 doc text whole.0 whole.1)
     (λ (stopped : Stopped doc (readable text)). inr (stopped.0, inl stopped.1))

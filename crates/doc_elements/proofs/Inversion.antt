@@ -7,7 +7,7 @@ use Rattle.doc_fields.specs.Reading.{Read, byte}
 use Rattle.doc_fields.specs.Space.{space_end}
 use Rattle.doc_fields.specs.StartTag.{named_at, rest_at}
 use Rattle.doc_fields.specs.EndTag.{end_at}
-use Rattle.doc_elements.specs.declared.schema.Place.{Place}
+use Rattle.doc_elements.specs.declared.schema.Container.{Container}
 use Rattle.doc_elements.specs.declared.schema.Form.{Form}
 use Rattle.doc_elements.specs.declared.schema.Child.{Child}
 use Rattle.doc_elements.specs.declared.schema.Child.TheVariants as child
@@ -70,18 +70,18 @@ pub leaf_verdict : (f : Frame) (nodes at : ℕ) (tag : Tag) (form : Form) → ru
 unfolding verdict
 leaf_verdict f nodes at tag form is m = rw (is, m.alone, m.once) refl
 
-pub parent_verdict : (f : Frame) (nodes at : ℕ) (tag : Tag) (q : Place) → rule f.place tag ≡ child.Parent q → MayFollow f.place f.seen tag → (opens_node (child.Parent q) && nat_le most_nodes nodes) ≡ false → verdict f nodes at tag ≡ Ok (child.Parent q)
+pub parent_verdict : (f : Frame) (nodes at : ℕ) (tag : Tag) (q : Container) → rule f.place tag ≡ child.Parent q → MayFollow f.place f.seen tag → (opens_node (child.Parent q) && nat_le most_nodes nodes) ≡ false → verdict f nodes at tag ≡ Ok (child.Parent q)
 unfolding verdict
 parent_verdict f nodes at tag q is m room = rw (is, m.alone, m.once, room) refl
 
 -- ---- a piece
 
-pub record ParentStarts (text : List ℕ) (f : Frame) (at : ℕ) (q : Place) (start : Start) : Type 0 where
+pub record ParentStarts (text : List ℕ) (f : Frame) (at : ℕ) (q : Container) (start : Start) : Type 0 where
   pub starts : Starts text f.place at (child.Parent q) (tag_of q) start
   pub follows : MayFollow f.place f.seen (tag_of q)
 
 -- there is room for one node more, where the parent is one
-abbrev pub HasPlace : Place → ℕ → Type 0
+abbrev pub HasPlace : Container → ℕ → Type 0
 HasPlace q nodes = (opens_node (child.Parent q) && nat_le most_nodes nodes) ≡ false
 
 -- what a piece is that begins at a place, and ends at another

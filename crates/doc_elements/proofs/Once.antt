@@ -1,7 +1,7 @@
 -- A text is read in one way.
 use Rattle.std.proofs.Common.{◌≡◌, ℕ, List, [], ◌∷◌, length, IsUtf8, Result, Ok, Err, refl, sym, ap, subst, ◌∙◌, inl, inr}
 use Rattle.doc_fields.specs.Space.{space_end}
-use Rattle.doc_elements.specs.declared.schema.Place.{Place}
+use Rattle.doc_elements.specs.declared.schema.Container.{Container}
 use Rattle.doc_elements.specs.declared.errors.PieceErr.{PieceErr}
 use Rattle.doc_elements.specs.declared.errors.PieceErr.TheVariants as errors
 use Rattle.doc_elements.specs.Pieces.{Piece, Frame, piece_at}
@@ -43,7 +43,7 @@ same_end text (p ∷ ps) (q ∷ qs) at (f ∷ fs) nodes a b r final s final2 =
     record { pieces = whole; ends = rest.ends }
 
 -- the same for what is open in a text
-pub same_open : (doc : Place) (text : List ℕ) (ps qs : List Piece) (a b : Point) → Open doc text ps a → IsFinal text a → Open doc text qs b → IsFinal text b → SameEnd ps qs a b
+pub same_open : (doc : Container) (text : List ℕ) (ps qs : List Piece) (a b : Point) → Open doc text ps a → IsFinal text a → Open doc text qs b → IsFinal text b → SameEnd ps qs a b
 same_open doc text ps qs a b x final y final2 =
     let heads : ◌≡◌ {A = Result ℕ PieceErr} (Ok x.inside) (Ok y.inside) = sym x.head_is ∙ y.head_is in
     let insides : x.inside ≡ y.inside = cc in
@@ -56,13 +56,13 @@ stopped_final : (text : List ℕ) (end : Point) (f : Frame) (fs : List Frame) (e
 stopped_final text end f fs e is h = subst (λ (gs : List Frame). Final text end.at gs end.nodes) (sym is) (e, h)
 
 -- a whole document has its pieces and its end
-pub one_document : (doc : Place) (text : List ℕ) (ps qs : List Piece) (x : Accepts doc text ps) (y : Accepts doc text qs) → SameEnd ps qs x.point y.point
+pub one_document : (doc : Container) (text : List ℕ) (ps qs : List Piece) (x : Accepts doc text ps) (y : Accepts doc text qs) → SameEnd ps qs x.point y.point
 one_document doc text ps qs x y = same_open doc text ps qs x.point y.point x.opened (closed_final text x.point x.closed) y.opened (closed_final text y.point y.closed)
 
-no_head : (doc : Place) (text : List ℕ) (e : PieceErr) (ps : List Piece) (a : Point) → head_of doc text ≡ Err e → Open doc text ps a → ⊥
+no_head : (doc : Container) (text : List ℕ) (e : PieceErr) (ps : List Piece) (a : Point) → head_of doc text ≡ Err e → Open doc text ps a → ⊥
 no_head doc text e ps a h o = let both : ◌≡◌ {A = Result ℕ PieceErr} (Err e) (Ok o.inside) = sym h ∙ o.head_is in cc
 
-not_both : (doc : Place) (text : List ℕ) (ps : List Piece) (e : PieceErr) → Accepts doc text ps → Halts doc text e → ⊥
+not_both : (doc : Container) (text : List ℕ) (ps : List Piece) (e : PieceErr) → Accepts doc text ps → Halts doc text e → ⊥
 not_both doc text ps e x (at_head h) = no_head doc text e ps x.point h x.opened
 not_both doc text ps e x (at_piece qs end f fs o is h) =
     let same = same_open doc text ps qs x.point end x.opened (closed_final text x.point x.closed) o (stopped_final text end f fs e is h) in
@@ -73,7 +73,7 @@ not_both doc text ps e x (at_end qs end o none ne) =
     ne (ap (λ (p : Point). space_end text p.at) (sym same.ends) ∙ x.ended)
 
 -- a text halts at one place
-one_halt : (doc : Place) (text : List ℕ) (e f : PieceErr) → Halts doc text e → Halts doc text f → e ≡ f
+one_halt : (doc : Container) (text : List ℕ) (e f : PieceErr) → Halts doc text e → Halts doc text f → e ≡ f
 one_halt doc text e f (at_head h) (at_head k) = let both : ◌≡◌ {A = Result ℕ PieceErr} (Err e) (Err f) = sym h ∙ k in cc
 one_halt doc text e f (at_head h) (at_piece ps end g gs o is k) = absurd (no_head doc text e ps end h o)
 one_halt doc text e f (at_head h) (at_end ps end o none ne) = absurd (no_head doc text e ps end h o)
@@ -95,11 +95,11 @@ one_halt doc text e f (at_end ps end o none ne) (at_end qs to x nothing ne2) =
 
 -- ---- the text in UTF-8
 
-pub never_both : (doc : Place) (text : List ℕ) (ps : List Piece) (e : PieceErr) → IsUtf8 text → Accepts doc text ps → StopsAt doc text e → ⊥
+pub never_both : (doc : Container) (text : List ℕ) (ps : List Piece) (e : PieceErr) → IsUtf8 text → Accepts doc text ps → StopsAt doc text e → ⊥
 never_both doc text ps e valid x (inl h) = not_both doc text ps e x (subst (λ (t : List ℕ). Halts doc t e) (readable_all text valid) h)
 never_both doc text ps e valid x (inr r) = r.0.more (ap length (readable_all text valid))
 
-pub one_stop : (doc : Place) (text : List ℕ) (e f : PieceErr) → StopsAt doc text e → StopsAt doc text f → e ≡ f
+pub one_stop : (doc : Container) (text : List ℕ) (e f : PieceErr) → StopsAt doc text e → StopsAt doc text f → e ≡ f
 one_stop doc text e f (inl h) (inl k) = one_halt doc (readable text) e f h k
 one_stop doc text e f (inl h) (inr r) = absurd (not_both doc (readable text) r.0.ps e r.0.accepts h)
 one_stop doc text e f (inr r) (inl k) = absurd (not_both doc (readable text) r.0.ps f r.0.accepts k)

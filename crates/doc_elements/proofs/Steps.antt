@@ -3,8 +3,8 @@ use Rattle.std.proofs.Common.{◌≡◌, ℕ, ◌<◌, ◌≤◌, List, [], ◌�
 use Rattle.tape_types.specs.Bounds.{most_nodes}
 use Rattle.doc_elements.specs.declared.errors.PieceErr.{PieceErr}
 use Rattle.doc_elements.specs.declared.errors.PieceErr.TheVariants as errors
-use Rattle.doc_elements.specs.declared.schema.Place.{Place}
-use Rattle.doc_elements.specs.declared.schema.Place.TheVariants as place
+use Rattle.doc_elements.specs.declared.schema.Container.{Container}
+use Rattle.doc_elements.specs.declared.schema.Container.TheVariants as place
 use Rattle.doc_elements.specs.Schema.{is_node}
 use Rattle.doc_elements.specs.Pieces.{Piece, opens, Frame, piece_at}
 use Rattle.doc_elements.specs.Documents.{Point, Reaches, after, counted}
@@ -14,7 +14,7 @@ use Rattle.doc_elements.specs.Answers.{HasRoom, Fails, UnlessMemory, piece_of}
 
 -- ---- how many nodes have begun
 
-few_opens : (q : Place) (n : ℕ) → (is_node q ≡ true → n < most_nodes) → n ≤ most_nodes
+few_opens : (q : Container) (n : ℕ) → (is_node q ≡ true → n < most_nodes) → n ≤ most_nodes
     → counted (opens q) n ≤ most_nodes
 few_opens place.Root n room few = omega (arith, room refl)
 few_opens place.Directory n room few = omega (arith, room refl)

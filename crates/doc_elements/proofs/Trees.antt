@@ -5,7 +5,7 @@ use Rattle.tape_types.specs.Bounds.{most_nodes}
 use Rattle.doc_fields.specs.declared.tags.Tag.{Tag}
 use Rattle.doc_fields.specs.Space.{space_end}
 use Rattle.doc_fields.specs.EndTag.{end_at}
-use Rattle.doc_elements.specs.declared.schema.Place.{Place}
+use Rattle.doc_elements.specs.declared.schema.Container.{Container}
 use Rattle.doc_elements.specs.Schema.{tag_of, is_node}
 use Rattle.doc_elements.specs.Pieces.{Piece, opens, whole, closes, leaf, Frame}
 use Rattle.doc_elements.specs.Documents.{Point, Reaches, Accepts, after, counted}
@@ -13,7 +13,7 @@ use Rattle.doc_elements.specs.Elements.{Item, plain, bare, nested, Items, no_ite
 use Rattle.doc_elements.proofs.Inversion.{HasPlace, piece_is, is_piece}
 use Rattle.doc_elements.proofs.Steps.{point}
 
-abbrev pub at_place : Place → List Tag → Frame
+abbrev pub at_place : Container → List Tag → Frame
 at_place p seen = record { place = p; seen = seen }
 
 -- ---- room for nodes
@@ -28,21 +28,21 @@ room_by : (b : Bool) (n : ℕ) → n + one_if b ≤ most_nodes → (b && nat_le 
 room_by true n le = le_false n (omega (arith, le))
 room_by false n le = refl
 
-has_place : (q : Place) (n : ℕ) → n + one_if (is_node q) ≤ most_nodes → HasPlace q n
+has_place : (q : Container) (n : ℕ) → n + one_if (is_node q) ≤ most_nodes → HasPlace q n
 has_place q n le = room_by (is_node q) n le
 
 counted_by : (b : Bool) (n : ℕ) → (if b then suc n else n) ≡ n + one_if b
 counted_by true n = omega arith
 counted_by false n = omega arith
 
-counted_opens : (q : Place) (n : ℕ) → counted (opens q) n ≡ n + one_if (is_node q)
+counted_opens : (q : Container) (n : ℕ) → counted (opens q) n ≡ n + one_if (is_node q)
 counted_opens q n = counted_by (is_node q) n
 
 few_by : (b : Bool) (n : ℕ) → n ≤ most_nodes → (b && nat_le most_nodes n) ≡ false → n + one_if b ≤ most_nodes
 few_by true n le e = omega (arith, leb-false most_nodes n e)
 few_by false n le e = omega (arith, le)
 
-few_place : (q : Place) (n : ℕ) → n ≤ most_nodes → HasPlace q n → n + one_if (is_node q) ≤ most_nodes
+few_place : (q : Container) (n : ℕ) → n ≤ most_nodes → HasPlace q n → n + one_if (is_node q) ≤ most_nodes
 few_place q n le e = few_by (is_node q) n le e
 
 -- ---- what is spelled is read
@@ -57,7 +57,7 @@ reaches_append text (p ∷ ps) qs a [] n b gs m end r s = r
 reaches_append text (p ∷ ps) qs a (f ∷ fs) n b gs m end r s = (r.0, r.1, reaches_append text ps qs r.0 (after p f fs) (counted p n) b gs m end r.2 s)
 
 mutual
-  pub item_reached : (text : List ℕ) (p : Place) (seen : List Tag) (fs : List Frame) (at nodes : ℕ) (i : Item) (next : ℕ) → MayFollow p seen (item_tag i) → Spelled text p (space_end text at) i next → nodes + nodes_of i ≤ most_nodes
+  pub item_reached : (text : List ℕ) (p : Container) (seen : List Tag) (fs : List Frame) (at nodes : ℕ) (i : Item) (next : ℕ) → MayFollow p seen (item_tag i) → Spelled text p (space_end text at) i next → nodes + nodes_of i ≤ most_nodes
       → Reaches text (pieces_of i) at (at_place p seen ∷ fs) nodes (point next (at_place p (item_tag i ∷ seen) ∷ fs) (nodes + nodes_of i))
   item_reached text p seen fs at nodes (plain tag v) next new s few =
       let n : nodes + 0 ≡ nodes = omega arith in
@@ -77,7 +77,7 @@ mutual
       )
 
   -- the children of a parent, and its end tag
-  pub all_reached : (text : List ℕ) (p : Place) (seen : List Tag) (fs : List Frame) (at nodes : ℕ) (is : Items) (end next : ℕ) → AllSpelled text p seen at is end → end_at text end (tag_of p) ≡ Ok next → nodes + node_count is ≤ most_nodes
+  pub all_reached : (text : List ℕ) (p : Container) (seen : List Tag) (fs : List Frame) (at nodes : ℕ) (is : Items) (end next : ℕ) → AllSpelled text p seen at is end → end_at text end (tag_of p) ≡ Ok next → nodes + node_count is ≤ most_nodes
       → Reaches text (all_pieces is ++ closes ∷ []) at (at_place p seen ∷ fs) nodes (point next fs (nodes + node_count is))
   all_reached text p seen fs at nodes no_items end next s e few =
       let n : nodes + 0 ≡ nodes = omega arith in
@@ -94,7 +94,7 @@ mutual
 
 -- ---- what is read is spelled
 
-pub record Parsed (text : List ℕ) (p : Place) (seen : List Tag) (fs : List Frame) (at nodes : ℕ) (ps : List Piece) (to : Point) : Type 0 where
+pub record Parsed (text : List ℕ) (p : Container) (seen : List Tag) (fs : List Frame) (at nodes : ℕ) (ps : List Piece) (to : Point) : Type 0 where
   pub items : Items
   pub end : ℕ
   pub next : ℕ
@@ -108,7 +108,7 @@ pub record Parsed (text : List ℕ) (p : Place) (seen : List Tag) (fs : List Fra
 joined : (x y : Piece) (ps front mid bs rest : List Piece) → ps ≡ front ++ y ∷ mid → mid ≡ bs ++ y ∷ rest → x ∷ ps ≡ x ∷ (front ++ y ∷ []) ++ bs ++ y ∷ rest
 joined x y ps front mid bs rest e f = rw (e, f) (simp append_assoc)
 
-pub parse : (n : ℕ) (ps : List Piece) (text : List ℕ) (p : Place) (seen : List Tag) (fs : List Frame) (at nodes : ℕ) (to : Point) → length ps ≤ n → to.parents ≡ [] → Reaches text ps at (at_place p seen ∷ fs) nodes to → Parsed text p seen fs at nodes ps to
+pub parse : (n : ℕ) (ps : List Piece) (text : List ℕ) (p : Container) (seen : List Tag) (fs : List Frame) (at nodes : ℕ) (to : Point) → length ps ≤ n → to.parents ≡ [] → Reaches text ps at (at_place p seen ∷ fs) nodes to → Parsed text p seen fs at nodes ps to
 parse n [] text p seen fs at nodes to le none r = let bad : [] ≡ at_place p seen ∷ fs = sym none ∙ ap (λ (x : Point). x.parents) r in absurd (cc)
 parse zero (x ∷ ps) text p seen fs at nodes to le none r = absurd (omega (arith, le))
 parse (suc n) (closes ∷ ps) text p seen fs at nodes to le none r =
@@ -173,7 +173,7 @@ nothing_left : (text : List ℕ) (qs : List Piece) (at n : ℕ) (to : Point) →
 nothing_left text [] at n to r = (refl, sym (ap (λ (x : Point). x.at) r))
 nothing_left text (q ∷ qs) at n to r = absurd r
 
-pub elements_of : (doc : Place) (text : List ℕ) (ps : List Piece) → IsUtf8 text → Accepts doc text ps → IsMade doc text ps
+pub elements_of : (doc : Container) (text : List ℕ) (ps : List Piece) → IsUtf8 text → Accepts doc text ps → IsMade doc text ps
 elements_of doc text ps valid x =
     let o = x.opened in
     let p = parse (length ps) ps text doc [] [] o.inside 0 x.point (omega arith) x.closed o.reaches in
@@ -194,7 +194,7 @@ elements_of doc text ps valid x =
       few = omega (arith, p.few (omega arith));
     }
 
-pub accepted : (doc : Place) (text : List ℕ) (items : Items) → DocumentText doc text items → node_count items ≤ most_nodes → Accepts doc text (all_pieces items ++ closes ∷ [])
+pub accepted : (doc : Container) (text : List ℕ) (items : Items) → DocumentText doc text items → node_count items ≤ most_nodes → Accepts doc text (all_pieces items ++ closes ∷ [])
 accepted doc text items d few = record {
   point = point d.after [] (0 + node_count items);
   opened = record { inside = d.inside; head_is = d.head_is; reaches = all_reached text doc [] [] d.inside 0 items d.end d.after d.children d.ends (omega (arith, few)) };
@@ -202,5 +202,5 @@ accepted doc text items d few = record {
   ended = d.ended;
 }
 
-pub made_accepted : (doc : Place) (text : List ℕ) (ps : List Piece) → IsMade doc text ps → Accepts doc text ps
+pub made_accepted : (doc : Container) (text : List ℕ) (ps : List Piece) → IsMade doc text ps → Accepts doc text ps
 made_accepted doc text ps m = subst (λ (l : List Piece). Accepts doc text l) (sym m.split) (accepted doc text m.items m.spelled m.few)

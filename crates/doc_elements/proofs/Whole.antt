@@ -6,7 +6,7 @@ use Rattle.doc_fields.specs.Reading.{Read}
 use Rattle.doc_fields.specs.declared.errors.FieldErr.{FieldErr}
 use Rattle.doc_elements.specs.declared.errors.PieceErr.{PieceErr}
 use Rattle.doc_elements.specs.declared.errors.PieceErr.TheVariants as errors
-use Rattle.doc_elements.specs.declared.schema.Place.{Place}
+use Rattle.doc_elements.specs.declared.schema.Container.{Container}
 use Rattle.doc_elements.specs.Pieces.{lift, refusal}
 use Rattle.doc_elements.specs.Documents.{head_of, Halts, Halted, at_piece, readable}
 use Rattle.doc_elements.specs.Answers.{UnlessMemory}
@@ -19,7 +19,7 @@ pub unless_map : (e : PieceErr) (P Q : Type 0) → (P → Q) → UnlessMemory e 
 unless_map errors.NoMemory P Q f p = tt
 unless_map _ P Q f p = f p
 
-pub halted_halts : (doc : Place) (text : List ℕ) (inside : ℕ) (e : PieceErr) → head_of doc text ≡ Ok inside → Halted doc text inside e → Halts doc text e
+pub halted_halts : (doc : Container) (text : List ℕ) (inside : ℕ) (e : PieceErr) → head_of doc text ≡ Ok inside → Halted doc text inside e → Halts doc text e
 halted_halts doc text inside e h x = at_piece x.ps x.point x.f x.fs (record { inside = inside; head_is = h; reaches = x.reaches }) x.parents x.fails
 
 pub lifted : {A : Type 0} (r : Read A) (e : FieldErr) → r ≡ Err e → lift r ≡ Err (refusal e.why e.at)

@@ -9,32 +9,32 @@ use Rattle.doc_fields.proofs.Again.{next_is, space_again}
 use Rattle.doc_fields.proofs.HeadAgain.{head_again}
 use Rattle.doc_fields.proofs.TagsAgain.{end_again, opened}
 use Rattle.doc_fields.proofs.WrittenBytes.{ascii_valid}
-use Rattle.doc_elements.specs.declared.schema.Place.{Place}
-use Rattle.doc_elements.specs.declared.schema.Place.TheVariants as place
+use Rattle.doc_elements.specs.declared.schema.Container.{Container}
+use Rattle.doc_elements.specs.declared.schema.Container.TheVariants as place
 use Rattle.doc_elements.specs.Documents.{begins, head_of, root_at}
 use Rattle.doc_elements.specs.Elements.{AllSpelled, DocumentText, Items}
 use Rattle.doc_elements.specs.Schema.{tag_of}
 use Rattle.doc_elements.specs.Written.{head}
 
 -- the text of a document whose elements have this text
-abbrev pub framed : Place → List ℕ → List ℕ
+abbrev pub framed : Container → List ℕ → List ℕ
 framed doc body = head ++ (start_text (tag_of doc) Version ++ (body ++ end_text (tag_of doc)))
 
 -- where the elements begin
-abbrev pub inner : Place → ℕ
+abbrev pub inner : Container → ℕ
 inner doc = 38 + length (start_text (tag_of doc) Version)
 
-root_again : (doc : Place) (text : List ℕ) (at : ℕ) (rest : List ℕ) → begins doc (tag_of doc) ≡ true → drop at text ≡ start_text (tag_of doc) Version ++ rest → root_at doc text at ≡ Ok (at + length (start_text (tag_of doc) Version))
+root_again : (doc : Container) (text : List ℕ) (at : ℕ) (rest : List ℕ) → begins doc (tag_of doc) ≡ true → drop at text ≡ start_text (tag_of doc) Version ++ rest → root_at doc text at ≡ Ok (at + length (start_text (tag_of doc) Version))
 unfolding root_at
 root_again place.Label text at rest is e = let o = opened text LtfsLabel Version at rest refl e in rw (o.named, o.rest) refl
 root_again place.Index text at rest is e = let o = opened text LtfsIndex Version at rest refl e in rw (o.named, o.rest) refl
 root_again _ text at rest is e = absurd cc
 
 -- the `<` of the root's start tag is no white space
-root_space : (doc : Place) (text : List ℕ) (at : ℕ) (rest : List ℕ) → drop at text ≡ start_text (tag_of doc) Version ++ rest → space_end text at ≡ at
+root_space : (doc : Container) (text : List ℕ) (at : ℕ) (rest : List ℕ) → drop at text ≡ start_text (tag_of doc) Version ++ rest → space_end text at ≡ at
 root_space doc text at rest e = space_again text at 60 _ e refl
 
-head_is : (doc : Place) (text body : List ℕ) → begins doc (tag_of doc) ≡ true → text ≡ framed doc body → head_of doc text ≡ Ok (inner doc)
+head_is : (doc : Container) (text body : List ℕ) → begins doc (tag_of doc) ≡ true → text ≡ framed doc body → head_of doc text ≡ Ok (inner doc)
 unfolding head_of
 head_is doc text body is e =
     let rest = body ++ end_text (tag_of doc) in
@@ -47,12 +47,12 @@ all_of_it : (text : List ℕ) (at : ℕ) → drop at text ≡ [] → at ≡ leng
 unfolding space_end
 all_of_it text at e f = rw (e, f) refl
 
-tags_valid : (doc : Place) → begins doc (tag_of doc) ≡ true → IsUtf8 (start_text (tag_of doc) Version) × IsUtf8 (end_text (tag_of doc))
+tags_valid : (doc : Container) → begins doc (tag_of doc) ≡ true → IsUtf8 (start_text (tag_of doc) Version) × IsUtf8 (end_text (tag_of doc))
 tags_valid place.Label is = (ascii_valid (start_text LtfsLabel Version) refl, ascii_valid (end_text LtfsLabel) refl)
 tags_valid place.Index is = (ascii_valid (start_text LtfsIndex Version) refl, ascii_valid (end_text LtfsIndex) refl)
 tags_valid _ is = absurd cc
 
-pub written_document : (doc : Place) (text body : List ℕ) (items : Items) → begins doc (tag_of doc) ≡ true → text ≡ framed doc body → IsUtf8 body
+pub written_document : (doc : Container) (text body : List ℕ) (items : Items) → begins doc (tag_of doc) ≡ true → text ≡ framed doc body → IsUtf8 body
     → (drop (inner doc) text ≡ body ++ end_text (tag_of doc) → AllSpelled text doc [] (inner doc) items (inner doc + length body)) → DocumentText doc text items
 written_document doc text body items is e valid children =
     let start_tag = start_text (tag_of doc) Version in

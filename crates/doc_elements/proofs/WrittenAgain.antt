@@ -13,7 +13,7 @@ use Rattle.doc_fields.proofs.Again.{next_is, space_again}
 use Rattle.doc_fields.proofs.TagsAgain.{end_again, opened}
 use Rattle.doc_fields.proofs.WrittenBytes.{ascii_valid}
 use Rattle.doc_elements.specs.Children.{member}
-use Rattle.doc_elements.specs.declared.schema.Place.{Place}
+use Rattle.doc_elements.specs.declared.schema.Container.{Container}
 use Rattle.doc_elements.specs.declared.schema.Form.{Form}
 use Rattle.doc_elements.specs.declared.schema.Child.{Child}
 use Rattle.doc_elements.specs.declared.schema.Child.TheVariants as child
@@ -27,7 +27,7 @@ regroup : (a b c d : List ℕ) → (a ++ b ++ c) ++ d ≡ a ++ (b ++ (c ++ d))
 regroup a b c d = simp append_assoc
 
 -- a start tag that was written
-record Begun (text : List ℕ) (p : Place) (at : ℕ) (c : Child) (tag : Tag) (a : Attribute) (rest : List ℕ) : Type 0 where
+record Begun (text : List ℕ) (p : Container) (at : ℕ) (c : Child) (tag : Tag) (a : Attribute) (rest : List ℕ) : Type 0 where
   here : space_end text at ≡ at
   start : Start
   starts : Starts text p at c tag start
@@ -36,7 +36,7 @@ record Begun (text : List ℕ) (p : Place) (at : ℕ) (c : Child) (tag : Tag) (a
   next : start.next ≡ at + length (start_text tag a)
   left : drop (at + length (start_text tag a)) text ≡ rest
 
-begun : (text : List ℕ) (p : Place) (at : ℕ) (c : Child) (tag : Tag) (a : Attribute) (rest : List ℕ) → rule p tag ≡ c → HasTags tag a → drop at text ≡ start_text tag a ++ rest → Begun text p at c tag a rest
+begun : (text : List ℕ) (p : Container) (at : ℕ) (c : Child) (tag : Tag) (a : Attribute) (rest : List ℕ) → rule p tag ≡ c → HasTags tag a → drop at text ≡ start_text tag a ++ rest → Begun text p at c tag a rest
 begun text p at c tag a rest r tags e =
     let o = opened text tag a at rest tags.may e in
     record {
@@ -64,13 +64,13 @@ none_is : (o : Option Tag) → is_none o ≡ true → o ≡ None
 none_is None e = refl
 none_is (Some tag) e = absurd cc
 
-follows : (p : Place) (seen : List Tag) (tag : Tag) → may_follow p seen tag ≡ true → MayFollow p seen tag
+follows : (p : Container) (seen : List Tag) (tag : Tag) → may_follow p seen tag ≡ true → MayFollow p seen tag
 follows p seen tag e =
     let x = and_parts (not (has_any (excludes tag) seen)) (not (member tag seen && not (may_repeat p tag))) e in
     record { alone = not-true _ x.0; once = not-true _ x.1 }
 
 mutual
-  item_again : (text : List ℕ) (p : Place) (at : ℕ) (i : Item) (rest : List ℕ) → GoodItem p i → drop at text ≡ text_of i ++ rest → Spelled text p (space_end text at) i (at + length (text_of i))
+  item_again : (text : List ℕ) (p : Container) (at : ℕ) (i : Item) (rest : List ℕ) → GoodItem p i → drop at text ≡ text_of i ++ rest → Spelled text p (space_end text at) i (at + length (text_of i))
   item_again text p at (plain tag v) rest good e =
       let a = attribute_of tag v in
       let e1 : drop at text ≡ start_text tag a ++ (content_of tag v ++ (end_text tag ++ rest)) = e ∙ regroup (start_text tag a) (content_of tag v) (end_text tag) rest in
@@ -89,7 +89,7 @@ mutual
       let there : end + length (end_text (tag_of q)) ≡ at + length (element (tag_of q) (texts_of is)) = omega (arith, length-append (s ++ texts_of is) (end_text (tag_of q)), length-append s (texts_of is)) in
       (b.start, subst (λ (n : ℕ). Starts text p n (child.Parent q) (tag_of q) b.start) (sym b.here) b.starts, b.full, end, subst (λ (n : ℕ). AllSpelled text q [] n is end) (sym b.next) inside, close ∙ ap (λ (n : ℕ). Ok n) there)
 
-  pub all_again : (text : List ℕ) (p : Place) (seen : List Tag) (at : ℕ) (is : Items) (rest : List ℕ) → stand p seen is ≡ true → GoodItems p is → drop at text ≡ texts_of is ++ 60 ∷ rest → AllSpelled text p seen at is (at + length (texts_of is))
+  pub all_again : (text : List ℕ) (p : Container) (seen : List Tag) (at : ℕ) (is : Items) (rest : List ℕ) → stand p seen is ≡ true → GoodItems p is → drop at text ≡ texts_of is ++ 60 ∷ rest → AllSpelled text p seen at is (at + length (texts_of is))
   all_again text p seen at no_items rest standing good e = (rw (add-zero at) (sym (space_again text at 60 rest e refl)), none_is _ standing)
   all_again text p seen at (item i is) rest standing good e =
       let x = and_parts (may_follow p seen (item_tag i)) (stand p (item_tag i ∷ seen) is) standing in
@@ -119,11 +119,11 @@ within_valid : (tag : Tag) (a : Attribute) (content : List ℕ) → HasTags tag 
 within_valid tag a content h valid = IsUtf8-append (start_text tag a ++ content) (end_text tag) (IsUtf8-append (start_text tag a) content (start_valid tag a h) valid) (end_valid tag a h)
 
 mutual
-  item_valid : (p : Place) (i : Item) → GoodItem p i → IsUtf8 (text_of i)
+  item_valid : (p : Container) (i : Item) → GoodItem p i → IsUtf8 (text_of i)
   item_valid p (plain tag v) good = within_valid tag (attribute_of tag v) (content_of tag v) good.2 good.3.valid
   item_valid p (bare q) good = absurd good
   item_valid p (nested q is) good = within_valid (tag_of q) Absent (texts_of is) good.1 (all_valid q is good.3)
 
-  pub all_valid : (p : Place) (is : Items) → GoodItems p is → IsUtf8 (texts_of is)
+  pub all_valid : (p : Container) (is : Items) → GoodItems p is → IsUtf8 (texts_of is)
   all_valid p no_items good = IsUtf8-nil
   all_valid p (item i is) good = IsUtf8-append (text_of i) (texts_of is) (item_valid p i good.0) (all_valid p is good.1)

@@ -16,7 +16,7 @@ use Rattle.doc_fields.proofs.WrittenBytes.{is_ascii}
 use Rattle.doc_elements.specs.Children.{member, first_missing}
 use Rattle.ltfs_text.specs.declared.names.NameText.{NameText}
 use Rattle.ltfs_text.specs.Names.{written}
-use Rattle.doc_elements.specs.declared.schema.Place.{Place}
+use Rattle.doc_elements.specs.declared.schema.Container.{Container}
 use Rattle.doc_elements.specs.declared.schema.Form.{Form}
 use Rattle.doc_elements.specs.declared.schema.Child.TheVariants as child
 use Rattle.doc_elements.specs.Elements.{Item, plain, bare, nested, Items, no_items, item, item_tag}
@@ -76,19 +76,19 @@ abbrev pub is_none : Option Tag → Bool
 is_none None = true
 is_none (Some tag) = false
 
-abbrev pub may_follow : Place → List Tag → Tag → Bool
+abbrev pub may_follow : Container → List Tag → Tag → Bool
 may_follow p seen tag = not (has_any (excludes tag) seen) && not (member tag seen && not (may_repeat p tag))
 
-abbrev pub stand : Place → List Tag → Items → Bool
+abbrev pub stand : Container → List Tag → Items → Bool
 stand p seen no_items = is_none (first_missing (required p) seen)
 stand p seen (item i is) = may_follow p seen (item_tag i) && stand p (item_tag i ∷ seen) is
 
 abbrev mutual
-  pub GoodItem : Place → Item → Type 0
+  pub GoodItem : Container → Item → Type 0
   GoodItem p (plain tag v) = (f : Form) × (rule p tag ≡ child.Leaf f) × HasTags tag (attribute_of tag v) × ReadsBack f tag v
   GoodItem p (bare q) = ⊥
   GoodItem p (nested q is) = (rule p (tag_of q) ≡ child.Parent q) × HasTags (tag_of q) Absent × (stand q [] is ≡ true) × GoodItems q is
 
-  pub GoodItems : Place → Items → Type 0
+  pub GoodItems : Container → Items → Type 0
   GoodItems p no_items = ⊤
   GoodItems p (item i is) = GoodItem p i × GoodItems p is

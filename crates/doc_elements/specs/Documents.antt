@@ -7,8 +7,8 @@ use Rattle.doc_fields.specs.declared.tags.Tag.TheVariants.{LtfsLabel, LtfsIndex,
 use Rattle.doc_fields.specs.Space.{space_end}
 use Rattle.doc_fields.specs.StartTag.{named_at, rest_at}
 use Rattle.doc_fields.specs.Declaration.{head_at}
-use Rattle.doc_elements.specs.declared.schema.Place.{Place}
-use Rattle.doc_elements.specs.declared.schema.Place.TheVariants as place
+use Rattle.doc_elements.specs.declared.schema.Container.{Container}
+use Rattle.doc_elements.specs.declared.schema.Container.TheVariants as place
 use Rattle.doc_elements.specs.declared.errors.PieceErr.{PieceErr}
 use Rattle.doc_elements.specs.declared.errors.PieceErr.TheVariants as errors
 use Rattle.doc_elements.specs.Schema.{tag_of, is_node}
@@ -19,7 +19,7 @@ use Rattle.doc_elements.specs.Pieces.{Piece, opens, whole, closes, leaf, Frame, 
 abbrev pub with_child : Tag → Frame → Frame
 with_child tag f = record { place = f.place; seen = tag ∷ f.seen }
 
-abbrev pub fresh : Place → Frame
+abbrev pub fresh : Container → Frame
 fresh p = record { place = p; seen = [] }
 
 -- what a piece leaves open
@@ -52,16 +52,16 @@ Reaches text (p ∷ ps) at (f ∷ fs) nodes end =
 -- ---- the text as a whole, of a document with this root
 
 -- whether the document begins with this element
-abbrev pub begins : Place → Tag → Bool
+abbrev pub begins : Container → Tag → Bool
 begins place.Label LtfsLabel = true
 begins place.Index LtfsIndex = true
 begins _ _ = false
 
-abbrev pub root_only : Place → ℕ → Tag → Result (Unit {0}) PieceErr
+abbrev pub root_only : Container → ℕ → Tag → Result (Unit {0}) PieceErr
 root_only doc at tag = if begins doc tag then Ok tt else Err (errors.Unknown at)
 
 -- the start tag with which the document's one element begins
-unfoldable pub root_at : Place → List ℕ → ℕ → Result ℕ PieceErr
+unfoldable pub root_at : Container → List ℕ → ℕ → Result ℕ PieceErr
 root_at doc text at = do
   t ← lift (named_at text at)
   _ ← unknown_first (rest_at t.0 at text t.1) (root_only doc at t.0)
@@ -69,26 +69,26 @@ root_at doc text at = do
   if start.empty then Err (errors.Missing Creator) else Ok start.next
 
 -- a declaration or none, white space and that start tag, and the place behind them
-unfoldable pub head_of : Place → List ℕ → Result ℕ PieceErr
+unfoldable pub head_of : Container → List ℕ → Result ℕ PieceErr
 head_of doc text = do
   from ← lift (head_at text 0)
   root_at doc text (space_end text from)
 
 -- the text up to a point is whole pieces that may stand there
-pub record Open (doc : Place) (text : List ℕ) (ps : List Piece) (point : Point) : Type 0 where
+pub record Open (doc : Container) (text : List ℕ) (ps : List Piece) (point : Point) : Type 0 where
   pub inside : ℕ
   pub head_is : head_of doc text ≡ Ok inside
   pub reaches : Reaches text ps inside (fresh doc ∷ []) 0 point
 
 -- all of it is pieces, and nothing is left open
-pub record Accepts (doc : Place) (text : List ℕ) (ps : List Piece) : Type 0 where
+pub record Accepts (doc : Container) (text : List ℕ) (ps : List Piece) : Type 0 where
   pub point : Point
   pub opened : Open doc text ps point
   pub closed : point.parents ≡ []
   pub ended : space_end text point.at ≡ length text
 
 -- where and why it doesn't go on: at its head, at a piece, or behind its root
-pub data Halts (doc : Place) (text : List ℕ) : PieceErr → Type 0 where
+pub data Halts (doc : Container) (text : List ℕ) : PieceErr → Type 0 where
   at_head : {e : PieceErr} → head_of doc text ≡ Err e → Halts doc text e
   at_piece : {e : PieceErr} (ps : List Piece) (point : Point) (f : Frame) (fs : List Frame) → Open doc text ps point →
       point.parents ≡ f ∷ fs → piece_at f point.nodes text point.at ≡ Err e → Halts doc text e
@@ -102,27 +102,27 @@ abbrev pub readable : List ℕ → List ℕ
 readable text = take (utf8_valid_len text) text
 
 -- the front is a whole document, and a byte that isn't UTF-8 follows
-pub record EndsBadly (doc : Place) (text : List ℕ) : Type 0 where
+pub record EndsBadly (doc : Container) (text : List ℕ) : Type 0 where
   pub ps : List Piece
   pub accepts : Accepts doc (readable text) ps
   pub more : length (readable text) ≢ length text
 
 -- where and why the text doesn't go on; a byte that isn't UTF-8 ends it
-abbrev pub StopsAt : Place → List ℕ → PieceErr → Type 0
+abbrev pub StopsAt : Container → List ℕ → PieceErr → Type 0
 StopsAt doc text e =
     Halts doc (readable text) e ⊎ (EndsBadly doc text × (e ≡ errors.Syntax (length (readable text))))
 
 -- all of a text is UTF-8, and a whole document
-abbrev pub IsAccepted : Place → List ℕ → Type 0
+abbrev pub IsAccepted : Container → List ℕ → Type 0
 IsAccepted doc text = (ps : List Piece) × IsUtf8 text × Accepts doc text ps
 
-abbrev pub IsStopped : Place → List ℕ → Type 0
+abbrev pub IsStopped : Container → List ℕ → Type 0
 IsStopped doc text = (e : PieceErr) × StopsAt doc text e
 
 -- ---- what a reader knows before the end
 
 -- the pieces before the first that doesn't fit, behind the root's start tag
-pub record Halted (doc : Place) (text : List ℕ) (inside : ℕ) (e : PieceErr) : Type 0 where
+pub record Halted (doc : Container) (text : List ℕ) (inside : ℕ) (e : PieceErr) : Type 0 where
   pub ps : List Piece
   pub point : Point
   pub reaches : Reaches text ps inside (fresh doc ∷ []) 0 point

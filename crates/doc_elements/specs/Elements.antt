@@ -10,7 +10,7 @@ use Rattle.doc_fields.specs.Space.{space_end}
 use Rattle.doc_fields.specs.StartTag.{named_at, rest_at}
 use Rattle.doc_fields.specs.EndTag.{end_at}
 use Rattle.doc_elements.specs.Children.{member, first_missing}
-use Rattle.doc_elements.specs.declared.schema.Place.{Place}
+use Rattle.doc_elements.specs.declared.schema.Container.{Container}
 use Rattle.doc_elements.specs.declared.schema.Form.{Form}
 use Rattle.doc_elements.specs.declared.schema.Child.{Child}
 use Rattle.doc_elements.specs.declared.schema.Child.TheVariants as child
@@ -22,8 +22,8 @@ use Rattle.doc_elements.specs.Documents.{head_of}
 mutual
   pub data Item : Type 0 where
     plain : Tag → Val → Item
-    bare : Place → Item
-    nested : Place → Items → Item
+    bare : Container → Item
+    nested : Container → Items → Item
 
   pub data Items : Type 0 where
     no_items : Items
@@ -35,7 +35,7 @@ item_tag (bare p) = tag_of p
 item_tag (nested p is) = tag_of p
 
 -- a start tag of a child that has its place here
-pub record Starts (text : List ℕ) (p : Place) (at : ℕ) (c : Child) (tag : Tag) (start : Start) : Type 0 where
+pub record Starts (text : List ℕ) (p : Container) (at : ℕ) (c : Child) (tag : Tag) (start : Start) : Type 0 where
   pub child : rule p tag ≡ c
   pub name_end : ℕ
   pub named : named_at text at ≡ Ok (tag, name_end)
@@ -43,13 +43,13 @@ pub record Starts (text : List ℕ) (p : Place) (at : ℕ) (c : Child) (tag : Ta
 
 -- an element may stand behind others in a parent: none of it has stood there, unless it may repeat, and none that it
 -- excludes
-pub record MayFollow (p : Place) (seen : List Tag) (tag : Tag) : Type 0 where
+pub record MayFollow (p : Container) (seen : List Tag) (tag : Tag) : Type 0 where
   pub alone : has_any (excludes tag) seen ≡ false
   pub once : (member tag seen && not (may_repeat p tag)) ≡ false
 
 abbrev mutual
   -- the spelling of a child of p, from one place up to another
-  pub Spelled : List ℕ → Place → ℕ → Item → ℕ → Type 0
+  pub Spelled : List ℕ → Container → ℕ → Item → ℕ → Type 0
   Spelled text p at (plain tag v) next =
       (form : Form) × (start : Start) × Starts text p at (child.Leaf form) tag start
       × (leaf_at form tag at start text ≡ Ok (v, next))
@@ -62,7 +62,7 @@ abbrev mutual
 
   -- the spellings of children of p, behind some that stood there: each may stand there, and each that is required has
   -- come
-  pub AllSpelled : List ℕ → Place → List Tag → ℕ → Items → ℕ → Type 0
+  pub AllSpelled : List ℕ → Container → List Tag → ℕ → Items → ℕ → Type 0
   AllSpelled text p seen at no_items end = (end ≡ space_end text at) × (first_missing (required p) seen ≡ None)
   AllSpelled text p seen at (item i is) end =
       MayFollow p seen (item_tag i) × (next : ℕ) × Spelled text p (space_end text at) i next
@@ -91,7 +91,7 @@ abbrev mutual
   all_pieces (item i is) = pieces_of i ++ all_pieces is
 
 -- the bytes are a declaration or none, white space, one spelling of the root with these children, and white space
-pub record DocumentText (doc : Place) (text : List ℕ) (items : Items) : Type 0 where
+pub record DocumentText (doc : Container) (text : List ℕ) (items : Items) : Type 0 where
   pub valid : IsUtf8 text
   pub inside : ℕ
   pub head_is : head_of doc text ≡ Ok inside
@@ -102,7 +102,7 @@ pub record DocumentText (doc : Place) (text : List ℕ) (items : Items) : Type 0
   pub ended : space_end text after ≡ length text
 
 -- a text's pieces are those of elements that it spells, of which 65,536 at most are nodes
-pub record IsMade (doc : Place) (text : List ℕ) (ps : List Piece) : Type 0 where
+pub record IsMade (doc : Container) (text : List ℕ) (ps : List Piece) : Type 0 where
   pub items : Items
   pub spelled : DocumentText doc text items
   pub split : ps ≡ all_pieces items ++ closes ∷ []

@@ -28,7 +28,7 @@ use Rattle.ltfs_text.specs.Names.{decoded}
 use Rattle.node_keys.specs.Keys.{is_key}
 use Rattle.doc_elements.specs.declared.errors.PieceErr.{PieceErr}
 use Rattle.doc_elements.specs.declared.errors.PieceErr.TheVariants as errors
-use Rattle.doc_elements.specs.declared.schema.Place.{Place}
+use Rattle.doc_elements.specs.declared.schema.Container.{Container}
 use Rattle.doc_elements.specs.declared.schema.Form.{Form}
 use Rattle.doc_elements.specs.declared.schema.Form.TheVariants as form
 use Rattle.doc_elements.specs.declared.schema.Child.{Child}
@@ -47,14 +47,14 @@ pub data Val : Type 0 where
   bytes : List ℕ → Val
 
 pub data Piece : Type 0 where
-  opens : Place → Piece
-  whole : Place → Piece
+  opens : Container → Piece
+  whole : Container → Piece
   closes : Piece
   leaf : Tag → Val → Piece
 
 -- an open parent, and the children that stood in it, the last one first
 pub record Frame : Type 0 where
-  pub place : Place
+  pub place : Container
   pub seen : List Tag
 
 infixl 10 ◌>>=◌

@@ -13,8 +13,8 @@ use Rattle.doc_fields.specs.declared.tags.Tag.TheVariants.{CreationTime, ChangeT
 use Rattle.doc_fields.specs.declared.tags.Tag.TheVariants.{ReadOnly, OpenForWrite, ExtendedAttributes, Contents}
 use Rattle.doc_fields.specs.declared.tags.Tag.TheVariants.{ExtentInfo, Symlink, Extent, FileOffset, ByteOffset}
 use Rattle.doc_fields.specs.declared.tags.Tag.TheVariants.{ByteCount, Xattr, Key, Value}
-use Rattle.doc_elements.specs.declared.schema.Place.{Place}
-use Rattle.doc_elements.specs.declared.schema.Place.TheVariants as place
+use Rattle.doc_elements.specs.declared.schema.Container.{Container}
+use Rattle.doc_elements.specs.declared.schema.Container.TheVariants as place
 use Rattle.doc_elements.specs.declared.schema.Form.{Form}
 use Rattle.doc_elements.specs.declared.schema.Form.TheVariants as form
 use Rattle.doc_elements.specs.declared.schema.Child.{Child}
@@ -123,7 +123,7 @@ xattr_rule Value = child.Leaf form.Value
 xattr_rule _ = child.Unknown
 
 -- what an element is as a child, by its parent
-abbrev pub rule : Place → Tag → Child
+abbrev pub rule : Container → Tag → Child
 rule place.Label tag = label_rule tag
 rule place.Own tag = own_rule tag
 rule place.Letters tag = letters_rule tag
@@ -142,7 +142,7 @@ rule place.Extent tag = extent_rule tag
 rule place.Xattr tag = xattr_rule tag
 
 -- the children that a parent must have
-abbrev pub required : Place → List Tag
+abbrev pub required : Container → List Tag
 required place.Label = Creator ∷ FormatTime ∷ VolumeUuid ∷ Location ∷ Partitions ∷ BlockSize ∷ Compression ∷ []
 required place.Own = Partition ∷ []
 required place.Letters = IndexLetter ∷ DataLetter ∷ []
@@ -166,7 +166,7 @@ required place.Extent = FileOffset ∷ Partition ∷ StartBlock ∷ ByteOffset �
 required place.Xattr = Key ∷ Value ∷ []
 
 -- the element of a parent
-abbrev pub tag_of : Place → Tag
+abbrev pub tag_of : Container → Tag
 tag_of place.Label = LtfsLabel
 tag_of place.Own = Location
 tag_of place.Letters = Partitions
@@ -185,7 +185,7 @@ tag_of place.Extent = Extent
 tag_of place.Xattr = Xattr
 
 -- whether a parent may have an element any number of times
-abbrev pub may_repeat : Place → Tag → Bool
+abbrev pub may_repeat : Container → Tag → Bool
 may_repeat place.Criteria Name = true
 may_repeat place.Contents Directory = true
 may_repeat place.Contents File = true
@@ -200,14 +200,14 @@ excludes Symlink = ExtentInfo ∷ Symlink ∷ []
 excludes _ = []
 
 -- whether a parent stands for a node
-abbrev pub is_node : Place → Bool
+abbrev pub is_node : Container → Bool
 is_node place.Root = true
 is_node place.Directory = true
 is_node place.File = true
 is_node _ = false
 
 -- a number for each parent
-abbrev pub place_code : Place → ℕ
+abbrev pub place_code : Container → ℕ
 place_code place.Index = 0
 place_code place.Here = 1
 place_code place.Back = 2

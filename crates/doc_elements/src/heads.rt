@@ -4,19 +4,19 @@ ghost use Rattle.std.specs.Prelude.{◌≡◌, ◌≤◌, ◌<◌, length, IfOk,
 ghost use Rattle.doc_elements.specs.Documents.{begins, head_of, readable, root_at};
 
 use crate::errors::PieceErr;
-use crate::schema::Place;
+use crate::schema::Container;
 use doc_fields::{Tag, Why, read_head, read_name, read_rest, skip_space};
 use std::str;
 
-fn begins(root: Place, tag: Tag) -> bool
+fn begins(root: Container, tag: Tag) -> bool
     ensures { result ≡ begins root tag }
 {
     match root {
-        Place::Label => match tag {
+        Container::Label => match tag {
             Tag::LtfsLabel => true,
             _ => false,
         },
-        Place::Index => match tag {
+        Container::Index => match tag {
             Tag::LtfsIndex => true,
             _ => false,
         },
@@ -26,7 +26,7 @@ fn begins(root: Place, tag: Tag) -> bool
 
 /// Reads the start tag with which the one element begins, and gives the place behind it.
 #[tactic(auto, unfolding(crate::specs::Documents::root_at))]
-fn root(root: Place, text: &[u8], at: usize) -> Result<usize, PieceErr>
+fn root(root: Container, text: &[u8], at: usize) -> Result<usize, PieceErr>
     requires { at ≤ length text.now }
     ensures value { result ≡ root_at root text.now at }
     ensures within { IfOk result (λ x. x ≤ length text.now) }
@@ -57,7 +57,7 @@ fn root(root: Place, text: &[u8], at: usize) -> Result<usize, PieceErr>
 
 /// Goes past the declaration and the start tag of the one element, and gives the place behind them.
 #[tactic(auto, unfolding(crate::specs::Documents::head_of))]
-pub fn skip_head(place: Place, text: &[u8]) -> Result<usize, PieceErr>
+pub fn skip_head(place: Container, text: &[u8]) -> Result<usize, PieceErr>
     ensures value { result ≡ head_of place text.now }
     ensures within { IfOk result (λ x. x ≤ length text.now) }
 {

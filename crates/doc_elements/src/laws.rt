@@ -10,7 +10,7 @@ ghost use Rattle.doc_fields.specs.Written.{escape};
 ghost use Rattle.ltfs_text.specs.Names.{written};
 ghost use Rattle.doc_elements.specs.declared.errors.PieceErr.{PieceErr};
 ghost use Rattle.doc_elements.specs.declared.schema.Form.TheVariants as form;
-ghost use Rattle.doc_elements.specs.declared.schema.Place.{Place as ThePlace};
+ghost use Rattle.doc_elements.specs.declared.schema.Container.{Container as ThePlace};
 ghost use Rattle.doc_elements.specs.Documents.{Accepts, IsAccepted, IsStopped, StopsAt};
 ghost use Rattle.doc_elements.specs.Elements.{IsMade, IsTimedPiece};
 ghost use Rattle.doc_elements.specs.Pieces.{Piece as ThePiece, bytes, from_base64, value_in, without_space, words};

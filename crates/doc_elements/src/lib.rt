@@ -17,5 +17,5 @@ pub use errors::PieceErr;
 pub use heads::{readable, skip_head};
 pub use laws::{attributes_read_back, pieces_are_elements, texts_are_read_in_one_way};
 pub use pieces::{Frame, Piece, next_piece};
-pub use schema::{Place, is_node, tag_of};
+pub use schema::{Container, is_node, tag_of};
 pub use values::Value;

@@ -2,7 +2,7 @@
 //! contract rests on it.
 
 use crate::pieces::Frame;
-use crate::schema::{Place, required};
+use crate::schema::{Container, required};
 use doc_fields::Tag;
 
 /// The element that likely stands next: the first one that has to stand there and doesn't yet.
@@ -16,9 +16,9 @@ pub fn likely(frame: Frame) -> Tag {
 /// The element that likely stands behind those that have to.
 fn likely_behind(frame: Frame) -> Tag {
     match frame.place {
-        Place::File => Tag::ExtentInfo,
-        Place::Contents if frame.seen.has(Tag::File) => Tag::File,
-        Place::Contents => Tag::Directory,
+        Container::File => Tag::ExtentInfo,
+        Container::Contents if frame.seen.has(Tag::File) => Tag::File,
+        Container::Contents => Tag::Directory,
         _ => Tag::Extent,
     }
 }

@@ -12,7 +12,7 @@ ghost use Rattle.doc_elements.specs.Answers.{Gives, HasRoom, piece_of};
 use crate::children::Children;
 use crate::errors::PieceErr;
 use crate::likely::likely;
-use crate::schema::{Child, Place, child_of, excludes, is_node, may_repeat, required, tag_of};
+use crate::schema::{Child, Container, child_of, excludes, is_node, may_repeat, required, tag_of};
 use crate::values::{Value, leaf};
 use doc_fields::{Start, Tag, Why, byte, plain_start, read_end, read_name, read_rest, skip_space};
 use std::alloc::Global;
@@ -21,9 +21,9 @@ use tape_types::MOST_NODES;
 /// A start tag or an end tag of a parent, or a whole element.
 #[derive(Drop)]
 pub enum Piece {
-    Opens(Place),
+    Opens(Container),
     /// A parent without children, as one tag.
-    Whole(Place),
+    Whole(Container),
     Closes,
     Leaf(Tag, Value),
 }
@@ -31,7 +31,7 @@ pub enum Piece {
 /// An open parent, and which children have stood in it.
 #[derive(Clone, Copy, Debug)]
 pub struct Frame {
-    pub place: Place,
+    pub place: Container,
     pub seen: Children,
 }
 
@@ -88,7 +88,7 @@ fn beside(frame: Frame, nodes: u32, at: usize, tag: Tag, child: Child) -> Result
     Ok(child)
 }
 
-fn none_missing(place: Place, seen: Children) -> Result<(), PieceErr>
+fn none_missing(place: Container, seen: Children) -> Result<(), PieceErr>
     ensures { (tags : List Tag) → Holds seen tags →
         Gives (λ _. tt) result (none_missing (first_missing (required place) tags)) }
 {

@@ -10,7 +10,7 @@ use doc_fields::Tag;
 
 /// A parent, by what may stand in it.
 #[derive(Clone, Copy, Debug, PartialEq, Eq)]
-pub enum Place {
+pub enum Container {
     /// A label.
     Label,
     /// The partition of a label.
@@ -74,7 +74,7 @@ pub enum Child {
     /// It may not stand there.
     Unknown,
     Leaf(Form),
-    Parent(Place),
+    Parent(Container),
 }
 
 fn child_of_label(tag: Tag) -> Child
@@ -84,8 +84,8 @@ fn child_of_label(tag: Tag) -> Child
         Tag::Creator => Child::Leaf(Form::Text),
         Tag::FormatTime => Child::Leaf(Form::Time),
         Tag::VolumeUuid => Child::Leaf(Form::Uuid),
-        Tag::Location => Child::Parent(Place::Own),
-        Tag::Partitions => Child::Parent(Place::Letters),
+        Tag::Location => Child::Parent(Container::Own),
+        Tag::Partitions => Child::Parent(Container::Letters),
         Tag::BlockSize => Child::Leaf(Form::BlockSize),
         Tag::Compression => Child::Leaf(Form::Truth),
         _ => Child::Unknown,
@@ -118,13 +118,13 @@ fn child_of_index(tag: Tag) -> Child
         Tag::VolumeUuid => Child::Leaf(Form::Uuid),
         Tag::GenerationNumber => Child::Leaf(Form::Generation),
         Tag::UpdateTime => Child::Leaf(Form::Time),
-        Tag::Location => Child::Parent(Place::Here),
-        Tag::PreviousGenerationLocation => Child::Parent(Place::Back),
+        Tag::Location => Child::Parent(Container::Here),
+        Tag::PreviousGenerationLocation => Child::Parent(Container::Back),
         Tag::AllowPolicyUpdate => Child::Leaf(Form::Truth),
-        Tag::DataPlacementPolicy => Child::Parent(Place::Policy),
+        Tag::DataPlacementPolicy => Child::Parent(Container::Policy),
         Tag::VolumeLockState => Child::Leaf(Form::Lock),
         Tag::HighestFileUid => Child::Leaf(Form::Number),
-        Tag::Directory => Child::Parent(Place::Root),
+        Tag::Directory => Child::Parent(Container::Root),
         _ => Child::Unknown,
     }
 }
@@ -139,7 +139,7 @@ fn child_of_node(name: Form, tag: Tag) -> Child
         Tag::CreationTime | Tag::ChangeTime | Tag::ModifyTime | Tag::AccessTime | Tag::BackupTime =>
             Child::Leaf(Form::Time),
         Tag::ReadOnly => Child::Leaf(Form::Truth),
-        Tag::ExtendedAttributes => Child::Parent(Place::Attributes),
+        Tag::ExtendedAttributes => Child::Parent(Container::Attributes),
         _ => Child::Unknown,
     }
 }
@@ -148,7 +148,7 @@ fn child_of_directory(name: Form, tag: Tag) -> Child
     ensures { result ≡ directory_rule name tag }
 {
     match tag {
-        Tag::Contents => Child::Parent(Place::Contents),
+        Tag::Contents => Child::Parent(Container::Contents),
         _ => child_of_node(name, tag),
     }
 }
@@ -159,7 +159,7 @@ fn child_of_file(tag: Tag) -> Child
     match tag {
         Tag::Length => Child::Leaf(Form::Number),
         Tag::OpenForWrite => Child::Leaf(Form::Truth),
-        Tag::ExtentInfo => Child::Parent(Place::ExtentInfo),
+        Tag::ExtentInfo => Child::Parent(Container::ExtentInfo),
         Tag::Symlink => Child::Leaf(Form::AnyName),
         _ => child_of_node(Form::NodeName, tag),
     }
@@ -201,8 +201,8 @@ fn child_of_contents(tag: Tag) -> Child
     ensures { result ≡ contents_rule tag }
 {
     match tag {
-        Tag::Directory => Child::Parent(Place::Directory),
-        Tag::File => Child::Parent(Place::File),
+        Tag::Directory => Child::Parent(Container::Directory),
+        Tag::File => Child::Parent(Container::File),
         _ => Child::Unknown,
     }
 }
@@ -211,7 +211,7 @@ fn child_of_policy(tag: Tag) -> Child
     ensures { result ≡ policy_rule tag }
 {
     match tag {
-        Tag::IndexPartitionCriteria => Child::Parent(Place::Criteria),
+        Tag::IndexPartitionCriteria => Child::Parent(Container::Criteria),
         _ => Child::Unknown,
     }
 }
@@ -220,7 +220,7 @@ fn child_of_extents(tag: Tag) -> Child
     ensures { result ≡ extents_rule tag }
 {
     match tag {
-        Tag::Extent => Child::Parent(Place::Extent),
+        Tag::Extent => Child::Parent(Container::Extent),
         _ => Child::Unknown,
     }
 }
@@ -229,7 +229,7 @@ fn child_of_attributes(tag: Tag) -> Child
     ensures { result ≡ attributes_rule tag }
 {
     match tag {
-        Tag::Xattr => Child::Parent(Place::Xattr),
+        Tag::Xattr => Child::Parent(Container::Xattr),
         _ => Child::Unknown,
     }
 }
@@ -245,57 +245,57 @@ fn child_of_xattr(tag: Tag) -> Child
 }
 
 /// What an element is as a child of a parent.
-pub fn child_of(place: Place, tag: Tag) -> Child
+pub fn child_of(place: Container, tag: Tag) -> Child
     ensures { result ≡ rule place tag }
 {
     match place {
-        Place::Label => child_of_label(tag),
-        Place::Own => child_of_own(tag),
-        Place::Letters => child_of_letters(tag),
-        Place::Index => child_of_index(tag),
-        Place::Here | Place::Back => child_of_spot(tag),
-        Place::Policy => child_of_policy(tag),
-        Place::Criteria => child_of_criteria(tag),
-        Place::Root => child_of_directory(Form::VolumeName, tag),
-        Place::Directory => child_of_directory(Form::NodeName, tag),
-        Place::Contents => child_of_contents(tag),
-        Place::File => child_of_file(tag),
-        Place::Attributes => child_of_attributes(tag),
-        Place::ExtentInfo => child_of_extents(tag),
-        Place::Extent => child_of_extent(tag),
-        Place::Xattr => child_of_xattr(tag),
+        Container::Label => child_of_label(tag),
+        Container::Own => child_of_own(tag),
+        Container::Letters => child_of_letters(tag),
+        Container::Index => child_of_index(tag),
+        Container::Here | Container::Back => child_of_spot(tag),
+        Container::Policy => child_of_policy(tag),
+        Container::Criteria => child_of_criteria(tag),
+        Container::Root => child_of_directory(Form::VolumeName, tag),
+        Container::Directory => child_of_directory(Form::NodeName, tag),
+        Container::Contents => child_of_contents(tag),
+        Container::File => child_of_file(tag),
+        Container::Attributes => child_of_attributes(tag),
+        Container::ExtentInfo => child_of_extents(tag),
+        Container::Extent => child_of_extent(tag),
+        Container::Xattr => child_of_xattr(tag),
     }
 }
 
 /// The element of a parent.
-pub fn tag_of(place: Place) -> Tag
+pub fn tag_of(place: Container) -> Tag
     ensures { result ≡ tag_of place }
 {
     match place {
-        Place::Label => Tag::LtfsLabel,
-        Place::Own => Tag::Location,
-        Place::Letters => Tag::Partitions,
-        Place::Index => Tag::LtfsIndex,
-        Place::Here => Tag::Location,
-        Place::Back => Tag::PreviousGenerationLocation,
-        Place::Policy => Tag::DataPlacementPolicy,
-        Place::Criteria => Tag::IndexPartitionCriteria,
-        Place::Root | Place::Directory => Tag::Directory,
-        Place::Contents => Tag::Contents,
-        Place::File => Tag::File,
-        Place::Attributes => Tag::ExtendedAttributes,
-        Place::ExtentInfo => Tag::ExtentInfo,
-        Place::Extent => Tag::Extent,
-        Place::Xattr => Tag::Xattr,
+        Container::Label => Tag::LtfsLabel,
+        Container::Own => Tag::Location,
+        Container::Letters => Tag::Partitions,
+        Container::Index => Tag::LtfsIndex,
+        Container::Here => Tag::Location,
+        Container::Back => Tag::PreviousGenerationLocation,
+        Container::Policy => Tag::DataPlacementPolicy,
+        Container::Criteria => Tag::IndexPartitionCriteria,
+        Container::Root | Container::Directory => Tag::Directory,
+        Container::Contents => Tag::Contents,
+        Container::File => Tag::File,
+        Container::Attributes => Tag::ExtendedAttributes,
+        Container::ExtentInfo => Tag::ExtentInfo,
+        Container::Extent => Tag::Extent,
+        Container::Xattr => Tag::Xattr,
     }
 }
 
 /// The children that a parent must have.
-pub fn required(place: Place) -> &'static [Tag]
+pub fn required(place: Container) -> &'static [Tag]
     ensures { result.now ≡ required place }
 {
     match place {
-        Place::Label => &[
+        Container::Label => &[
             Tag::Creator,
             Tag::FormatTime,
             Tag::VolumeUuid,
@@ -304,9 +304,9 @@ pub fn required(place: Place) -> &'static [Tag]
             Tag::BlockSize,
             Tag::Compression,
         ],
-        Place::Own => &[Tag::Partition],
-        Place::Letters => &[Tag::IndexLetter, Tag::DataLetter],
-        Place::Index => &[
+        Container::Own => &[Tag::Partition],
+        Container::Letters => &[Tag::IndexLetter, Tag::DataLetter],
+        Container::Index => &[
             Tag::Creator,
             Tag::VolumeUuid,
             Tag::GenerationNumber,
@@ -316,10 +316,10 @@ pub fn required(place: Place) -> &'static [Tag]
             Tag::HighestFileUid,
             Tag::Directory,
         ],
-        Place::Here | Place::Back => &[Tag::Partition, Tag::StartBlock],
-        Place::Policy => &[Tag::IndexPartitionCriteria],
-        Place::Criteria => &[Tag::Size],
-        Place::Root | Place::Directory => &[
+        Container::Here | Container::Back => &[Tag::Partition, Tag::StartBlock],
+        Container::Policy => &[Tag::IndexPartitionCriteria],
+        Container::Criteria => &[Tag::Size],
+        Container::Root | Container::Directory => &[
             Tag::FileUid,
             Tag::Name,
             Tag::CreationTime,
@@ -330,7 +330,7 @@ pub fn required(place: Place) -> &'static [Tag]
             Tag::ReadOnly,
             Tag::Contents,
         ],
-        Place::File => &[
+        Container::File => &[
             Tag::FileUid,
             Tag::Name,
             Tag::Length,
@@ -341,36 +341,36 @@ pub fn required(place: Place) -> &'static [Tag]
             Tag::BackupTime,
             Tag::ReadOnly,
         ],
-        Place::Contents | Place::Attributes | Place::ExtentInfo => &[],
-        Place::Extent => &[
+        Container::Contents | Container::Attributes | Container::ExtentInfo => &[],
+        Container::Extent => &[
             Tag::FileOffset,
             Tag::Partition,
             Tag::StartBlock,
             Tag::ByteOffset,
             Tag::ByteCount,
         ],
-        Place::Xattr => &[Tag::Key, Tag::Value],
+        Container::Xattr => &[Tag::Key, Tag::Value],
     }
 }
 
 /// Whether a parent may have an element any number of times.
-pub fn may_repeat(place: Place, tag: Tag) -> bool
+pub fn may_repeat(place: Container, tag: Tag) -> bool
     ensures { result ≡ may_repeat place tag }
 {
     match place {
-        Place::Criteria => match tag {
+        Container::Criteria => match tag {
             Tag::Name => true,
             _ => false,
         },
-        Place::Contents => match tag {
+        Container::Contents => match tag {
             Tag::Directory | Tag::File => true,
             _ => false,
         },
-        Place::Attributes => match tag {
+        Container::Attributes => match tag {
             Tag::Xattr => true,
             _ => false,
         },
-        Place::ExtentInfo => match tag {
+        Container::ExtentInfo => match tag {
             Tag::Extent => true,
             _ => false,
         },
@@ -389,11 +389,11 @@ pub fn excludes(tag: Tag) -> &'static [Tag]
 }
 
 /// Whether a parent stands for a node.
-pub fn is_node(place: Place) -> bool
+pub fn is_node(place: Container) -> bool
     ensures { result ≡ is_node place }
 {
     match place {
-        Place::Root | Place::Directory | Place::File => true,
+        Container::Root | Container::Directory | Container::File => true,
         _ => false,
     }
 }

@@ -5,13 +5,13 @@ use Rattle.std.proofs.lemmas.Option.{slice_get_within}
 use Rattle.node_keys.specs.Keys.{map_of}
 use Rattle.index_model.specs.Places.{IsAt}
 use Rattle.index_model.specs.declared.nodes.Node as told
-use Rattle.index_model.specs.declared.nodes.Kind as told_kind
-use Rattle.index_model.specs.declared.nodes.Kind.TheVariants as told_kinds
+use Rattle.index_model.specs.declared.nodes.NodeKind as told_kind
+use Rattle.index_model.specs.declared.nodes.NodeKind.TheVariants as told_kinds
 use Rattle.plain_tree.specs.Paths.{Path}
 use Rattle.file_tree.specs.Mounts.{AreTold, IsBuilt, IsKindOf, IsNodeOf, Letters, laid_of}
 use Rattle.file_tree.specs.Tree.{Nodes, number_at}
-use Rattle.file_tree.specs.declared.nodes.Kind.{Kind}
-use Rattle.file_tree.specs.declared.nodes.Kind.TheVariants as kinds
+use Rattle.file_tree.specs.declared.nodes.HeldKind.{HeldKind}
+use Rattle.file_tree.specs.declared.nodes.HeldKind.TheVariants as kinds
 use Rattle.file_tree.specs.declared.nodes.Node.{Node}
 use Rattle.file_tree.proofs.MountLemmas.{are_told, built_more, first_built, one_node}
 use Rattle.file_tree.proofs.MountedGood.{built_differ}
@@ -19,7 +19,7 @@ use Rattle.file_tree.proofs.PathLemmas.{number_is}
 use Rattle.due_laws.specs.Laws.{MountsHaveTrees}
 
 -- the node of which one is told
-abbrev pub kind_of : Letters → ℕ → told_kind.Kind → Kind
+abbrev pub kind_of : Letters → ℕ → told_kind.NodeKind → HeldKind
 kind_of letters size told_kinds.Dir = kinds.Dir
 kind_of letters size (told_kinds.File bytes raws) =
     kinds.File (record { laid = laid_of letters size bytes raws; spare = 0 })
@@ -35,7 +35,7 @@ node_of letters size at node = record {
   kind = kind_of letters size node.kind;
 }
 
-pub is_kind : (letters : Letters) (size : ℕ) (kind : told_kind.Kind)
+pub is_kind : (letters : Letters) (size : ℕ) (kind : told_kind.NodeKind)
     → IsKindOf letters size kind (kind_of letters size kind)
 is_kind letters size told_kinds.Dir = refl
 is_kind letters size (told_kinds.File bytes raws) =

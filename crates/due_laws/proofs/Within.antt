@@ -15,8 +15,8 @@ use Rattle.file_tree.specs.Told.{raw_of, told_kind_of, told_of, told_nodes}
 use Rattle.file_tree.specs.Told as file_told
 use Rattle.file_tree.specs.Tree.{FileTree}
 use Rattle.file_tree.specs.Valid.{IsGood}
-use Rattle.file_tree.specs.declared.nodes.Kind.{Kind}
-use Rattle.file_tree.specs.declared.nodes.Kind.TheVariants as kinds
+use Rattle.file_tree.specs.declared.nodes.HeldKind.{HeldKind}
+use Rattle.file_tree.specs.declared.nodes.HeldKind.TheVariants as kinds
 use Rattle.file_tree.specs.declared.nodes.Node.{Node}
 use Rattle.file_tree.specs.Blocks.{LiesBelow, TreeStandsIn}
 use Rattle.file_tree.proofs.ToldLemmas.{entry_get}
@@ -86,7 +86,7 @@ module _ (label : Label) (ip dp : ℕ) where
         → FitsKind label ip dp (told_kind_of (label.index, label.dpart) n.kind)
     fit_kind p n there = by n.kind refl
       where
-        by : (k : Kind) → n.kind ≡ k → FitsKind label ip dp (told_kind_of (label.index, label.dpart) k)
+        by : (k : HeldKind) → n.kind ≡ k → FitsKind label ip dp (told_kind_of (label.index, label.dpart) k)
         by kinds.Dir e = tt
         by (kinds.Link text) e = tt
         by (kinds.File room) e =

@@ -9,8 +9,8 @@ use Rattle.std.proofs.lemmas.List.Elements.{filter-append}
 use Rattle.plain_tree.specs.declared.calls.Placed.{Placed}
 use Rattle.session_script.specs.declared.logs.Reply.{Reply}
 use Rattle.serving_promise.specs.declared.marks.Mark.{Mark}
-use Rattle.serving_promise.specs.declared.marks.Kind.{Kind}
-use Rattle.serving_promise.specs.declared.marks.Kind.TheVariants as kinds
+use Rattle.serving_promise.specs.declared.marks.MarkKind.{MarkKind}
+use Rattle.serving_promise.specs.declared.marks.MarkKind.TheVariants as kinds
 use Rattle.serving_promise.specs.Marks.{idle, draining, waits, after, kinds_of, mark, phase}
 use Rattle.event_journal.specs.declared.placements.Stored.{Stored}
 use Rattle.event_journal.specs.declared.placements.What.{What}
@@ -75,30 +75,30 @@ kinds_more who marks m = ap (λ (ms : List Mark). map (λ (x : Mark). x.kind) ms
     ∙ map-append (λ (x : Mark). x.kind) (filter (λ (x : Mark). x.who == who) marks) (filter (λ (x : Mark). x.who == who) (m ∷ []))
 
 phase_fold : (who : ℕ) (marks : List Mark) (m : Mark) → phase who (marks ++ m ∷ []) ≡ fold after (phase who marks) (kinds_of who (m ∷ []))
-phase_fold who marks m = ap (λ (ks : List Kind). fold after idle ks) (kinds_more who marks m)
+phase_fold who marks m = ap (λ (ks : List MarkKind). fold after idle ks) (kinds_more who marks m)
     ∙ fold-append after idle (kinds_of who marks) (kinds_of who (m ∷ []))
 
 -- a session's mark takes it to its next phase
-pub phase_here : (who : ℕ) (marks : List Mark) (kind : Kind) → phase who (marks ++ mark who kind ∷ []) ≡ after (phase who marks) kind
+pub phase_here : (who : ℕ) (marks : List Mark) (kind : MarkKind) → phase who (marks ++ mark who kind ∷ []) ≡ after (phase who marks) kind
 phase_here who marks kind = phase_fold who marks (mark who kind)
-    ∙ ap (λ (ks : List Kind). fold after (phase who marks) ks) (kinds_by who (mark who kind) true (eq-eqb who who refl))
+    ∙ ap (λ (ks : List MarkKind). fold after (phase who marks) ks) (kinds_by who (mark who kind) true (eq-eqb who who refl))
 
 -- and leaves all others as they are
-pub phase_there : (who other : ℕ) (marks : List Mark) (kind : Kind) → other ≢ who
+pub phase_there : (who other : ℕ) (marks : List Mark) (kind : MarkKind) → other ≢ who
     → phase other (marks ++ mark who kind ∷ []) ≡ phase other marks
 phase_there who other marks kind apart = phase_fold other marks (mark who kind) ∙ by (who == other) refl
   where
     by : (b : Bool) → (who == other) ≡ b → fold after (phase other marks) (kinds_of other (mark who kind ∷ [])) ≡ phase other marks
     by true is = absurd (apart (sym (eqb-true who other is)))
-    by false isnt = ap (λ (ks : List Kind). fold after (phase other marks) ks) (kinds_by other (mark who kind) false isnt)
+    by false isnt = ap (λ (ks : List MarkKind). fold after (phase other marks) ks) (kinds_by other (mark who kind) false isnt)
 
 -- ---- busy sessions
 
-pub busy_most : (sessions who : ℕ) (marks : List Mark) (kind : Kind) → busy sessions (marks ++ mark who kind ∷ []) ≤ busy sessions marks + 1
+pub busy_most : (sessions who : ℕ) (marks : List Mark) (kind : MarkKind) → busy sessions (marks ++ mark who kind ∷ []) ≤ busy sessions marks + 1
 busy_most sessions who marks kind = count_most (λ k. is_busy (phase k marks)) (λ k. is_busy (phase k (marks ++ mark who kind ∷ []))) who sessions
     (λ k apart. ap is_busy (phase_there who k marks kind apart))
 
-pub busy_less : (sessions who : ℕ) (marks : List Mark) (kind : Kind) → 1 ≤ who → who ≤ sessions
+pub busy_less : (sessions who : ℕ) (marks : List Mark) (kind : MarkKind) → 1 ≤ who → who ≤ sessions
     → is_busy (phase who marks) ≡ true → is_busy (after (phase who marks) kind) ≡ false
     → busy sessions (marks ++ mark who kind ∷ []) + 1 ≡ busy sessions marks
 busy_less sessions who marks kind low high was is = count_less (λ k. is_busy (phase k marks))
@@ -291,7 +291,7 @@ pub hand_fits : (history : List Placed) (told : List (Option Reply)) (marks : Li
     → IsListed history told marks calls sessions h r room → phase who (map (shown told) marks) ≡ waits place
     → 1 ≤ who → who ≤ sessions → 1 ≤ room
 hand_fits history told marks calls sessions h r room who place is waiting low high =
-    let kind : Kind = kinds.Hands place (or_none None) in
+    let kind : MarkKind = kinds.Hands place (or_none None) in
     let less : busy sessions (map (shown told) marks ++ mark who kind ∷ []) + 1 ≡ busy sessions (map (shown told) marks) =
     busy_less sessions who (map (shown told) marks) kind low high (ap is_busy waiting)
     (ap (λ p. is_busy (after p kind)) waiting ∙ ap is_busy (hands_free place (or_none None))) in

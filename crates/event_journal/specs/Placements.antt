@@ -6,8 +6,8 @@ use Rattle.plain_tree.specs.declared.calls.Placed.{Placed}
 use Rattle.session_script.specs.declared.logs.Reply.{Reply}
 use Rattle.session_script.specs.declared.logs.Reply.TheVariants as replies
 use Rattle.serving_promise.specs.declared.marks.Mark.{Mark}
-use Rattle.serving_promise.specs.declared.marks.Kind.{Kind}
-use Rattle.serving_promise.specs.declared.marks.Kind.TheVariants as kinds
+use Rattle.serving_promise.specs.declared.marks.MarkKind.{MarkKind}
+use Rattle.serving_promise.specs.declared.marks.MarkKind.TheVariants as kinds
 use Rattle.serving_promise.specs.Marks.{Phase, idle, draining, waits, phase, mark}
 use Rattle.event_journal.specs.declared.placements.Stored.{Stored}
 use Rattle.event_journal.specs.declared.placements.What.{What}
@@ -32,7 +32,7 @@ or_none (Some reply) = reply
 or_none None = replies.NoMemory
 
 -- a mark that was stored, with the reply that was handed out
-abbrev pub kind_of : List (Option Reply) → What → Kind
+abbrev pub kind_of : List (Option Reply) → What → MarkKind
 kind_of told (stored.Places place) = kinds.Places place
 kind_of told (stored.Hands place) = kinds.Hands place (or_none (there (slice_get told place)))
 kind_of told stored.Begins = kinds.Begins

@@ -14,8 +14,8 @@ use Rattle.file_tree.proofs.EditLemmas.{parent_ends}
 use Rattle.node_keys.specs.Keys.{list_of}
 use Rattle.index_model.specs.declared.indexes.Index.{Index}
 use Rattle.index_model.specs.declared.nodes.Node as told
-use Rattle.index_model.specs.declared.nodes.Kind as told_kind
-use Rattle.index_model.specs.declared.nodes.Kind.TheVariants as told_kinds
+use Rattle.index_model.specs.declared.nodes.NodeKind as told_kind
+use Rattle.index_model.specs.declared.nodes.NodeKind.TheVariants as told_kinds
 use Rattle.index_model.specs.Order.{AreInOrder, LiesIn, itself, through}
 use Rattle.index_model.specs.Places.{IsAt}
 use Rattle.plain_tree.specs.Links.{name_cmp}
@@ -23,7 +23,7 @@ use Rattle.plain_tree.specs.Paths.{path_cmp, parent_of, last_name}
 use Rattle.plain_tree.proofs.NodeLemmas.{path_total}
 use Rattle.extent_map.specs.Laid.{Laid}
 use Rattle.file_tree.specs.declared.nodes.Node.{Node}
-use Rattle.file_tree.specs.declared.nodes.Kind.{Kind}
+use Rattle.file_tree.specs.declared.nodes.HeldKind.{HeldKind}
 use Rattle.plain_tree.specs.Paths.{Name, Path}
 use Rattle.file_tree.specs.Tree.{Nodes, FileTree}
 use Rattle.file_tree.specs.Mounts.{Letters, IsKindOf, IsNodeOf, IsPathOf, IsBuilt, CanMount, IsTreeOf}
@@ -251,7 +251,7 @@ module _ (letters : Letters) (size : ℕ) (index : Index) (can : CanMount index 
   abbrev tell : (Path × Node) → told.Node
   tell = told_of letters t.name (fin.keys m)
 
-  kind_again : (kind : told_kind.Kind) (k : Kind) → IsKindOf letters size kind k → told_kind_of letters k ≡ kind_in_order letters size kind
+  kind_again : (kind : told_kind.NodeKind) (k : HeldKind) → IsKindOf letters size kind k → told_kind_of letters k ≡ kind_in_order letters size kind
   kind_again told_kinds.Dir k is = ap (told_kind_of letters) is
   kind_again (told_kinds.Link text) k is = ap (told_kind_of letters) is
   kind_again (told_kinds.File bytes raws) k is = ap (told_kind_of letters) is.1 ∙ ap (λ (f : Laid). told_kinds.File f.length (map (raw_of letters) f.extents)) is.2

@@ -9,8 +9,8 @@ use Rattle.node_keys.specs.declared.xattrs.Xattr.{Xattr}
 use Rattle.node_keys.specs.Keys.{list_of}
 use Rattle.node_keys.proofs.ListLaws.{list_apart, places_apart}
 use Rattle.index_model.specs.declared.nodes.Node as told
-use Rattle.index_model.specs.declared.nodes.Kind as told_kind
-use Rattle.index_model.specs.declared.nodes.Kind.TheVariants as told_kinds
+use Rattle.index_model.specs.declared.nodes.NodeKind as told_kind
+use Rattle.index_model.specs.declared.nodes.NodeKind.TheVariants as told_kinds
 use Rattle.index_model.specs.declared.nodes.RawExtent.{RawExtent}
 use Rattle.index_model.specs.declared.indexes.Index.{Index}
 use Rattle.index_model.specs.Places.{IsAt}
@@ -23,8 +23,8 @@ use Rattle.plain_tree.specs.Valid.{IsShape, is_dir, mark_of, mark_at}
 use Rattle.extent_map.specs.Laid.{Room, AreLaid}
 use Rattle.extent_map.proofs.LaidLemmas.{laid_le}
 use Rattle.file_tree.specs.declared.nodes.Node.{Node}
-use Rattle.file_tree.specs.declared.nodes.Kind.{Kind}
-use Rattle.file_tree.specs.declared.nodes.Kind.TheVariants as kinds
+use Rattle.file_tree.specs.declared.nodes.HeldKind.{HeldKind}
+use Rattle.file_tree.specs.declared.nodes.HeldKind.TheVariants as kinds
 use Rattle.file_tree.specs.Tree.{Nodes, FileTree, plain_node_of, plain_kind_of, plain_nodes, whole}
 use Rattle.file_tree.specs.Mounts.{Letters}
 use Rattle.file_tree.specs.Told.{place_of, name_or, raw_of, told_kind_of, told_of, told_in, told_nodes}
@@ -89,22 +89,22 @@ uid_of None = 0
 uid_of (Some v) = v.0
 
 -- a file that is told is one that lies so
-pub record IsToldFile (letters : Letters) (kind : Kind) (bytes : ℕ) (raws : List RawExtent) : Type 0 where
+pub record IsToldFile (letters : Letters) (kind : HeldKind) (bytes : ℕ) (raws : List RawExtent) : Type 0 where
   pub room : Room
   pub is : kind ≡ kinds.File room
   pub long : room.laid.length ≡ bytes
   pub extents : map (raw_of letters) room.laid.extents ≡ raws
 
-pub told_file : (letters : Letters) (kind : Kind) (bytes : ℕ) (raws : List RawExtent) → told_kind_of letters kind ≡ told_kinds.File bytes raws → IsToldFile letters kind bytes raws
+pub told_file : (letters : Letters) (kind : HeldKind) (bytes : ℕ) (raws : List RawExtent) → told_kind_of letters kind ≡ told_kinds.File bytes raws → IsToldFile letters kind bytes raws
 told_file letters kinds.Dir bytes raws e = cc
 told_file letters (kinds.Link text) bytes raws e = cc
 told_file letters (kinds.File room) bytes raws e = record { room = room; is = refl; long = ap bytes_of e; extents = ap raws_of e }
   where
-    bytes_of : told_kind.Kind → ℕ
+    bytes_of : told_kind.NodeKind → ℕ
     bytes_of (told_kinds.File n rs) = n
     bytes_of other = 0
 
-    raws_of : told_kind.Kind → List RawExtent
+    raws_of : told_kind.NodeKind → List RawExtent
     raws_of (told_kinds.File n rs) = rs
     raws_of other = []
 

@@ -11,8 +11,8 @@ use Rattle.extent_map.specs.Cells.{Tape}
 use Rattle.extent_map.specs.Blocks.{FileStandsIn, StandsIn, AreAlikeIn}
 use Rattle.extent_map.proofs.BlockLemmas.{blocks_make_the_file, no_other_blocks}
 use Rattle.file_tree.specs.declared.nodes.Node.{Node}
-use Rattle.file_tree.specs.declared.nodes.Kind.{Kind}
-use Rattle.file_tree.specs.declared.nodes.Kind.TheVariants as kinds
+use Rattle.file_tree.specs.declared.nodes.HeldKind.{HeldKind}
+use Rattle.file_tree.specs.declared.nodes.HeldKind.TheVariants as kinds
 use Rattle.plain_tree.specs.Paths.{Path}
 use Rattle.file_tree.specs.Tree.{Nodes, FileTree, HasLaid, plain_kind_of, plain_node_of, plain_nodes, plain_of}
 use Rattle.file_tree.specs.Edits.{OthersLie, AllLie}
@@ -28,7 +28,7 @@ module _ (one other : Tape) (t : FileTree) (alike : AreAlikeIn (TreeStandsIn t) 
   same_node : (path : Path) (node : Node) → fin.get t.nodes path ≡ Some node → plain_node_of one node ≡ plain_node_of other node
   same_node path node there = ap (λ k. record { uid = node.uid; times = node.times; readonly = node.readonly; keys = node.keys.map; kind = k }) (by node.kind refl)
     where
-      by : (kind : Kind) → node.kind ≡ kind → plain_kind_of one kind ≡ plain_kind_of other kind
+      by : (kind : HeldKind) → node.kind ≡ kind → plain_kind_of one kind ≡ plain_kind_of other kind
       by kinds.Dir e = refl
       by (kinds.Link text) e = refl
       by (kinds.File room) e = ap (λ cells. plain_kinds.File cells) (blocks_make_the_file one other room.laid (λ part pos byte h.
@@ -72,7 +72,7 @@ one_laid m number f g differ a b =
     let room_is : a.room ≡ b.room = one_room a.room b.room (sym a.file ∙ ap (λ (n : Node). n.kind) node_is ∙ b.file) in
     sym a.lies ∙ ap (λ (r : Room). r.laid) room_is ∙ b.lies
   where
-    one_room : (r s : Room) → ◌≡◌ {A = Kind} (kinds.File r) (kinds.File s) → r ≡ s
+    one_room : (r s : Room) → ◌≡◌ {A = HeldKind} (kinds.File r) (kinds.File s) → r ≡ s
     one_room r s e = cc
 
 pub all_lie_adds : (t next : FileTree) → AllLie t next → AddsNoBlock t next

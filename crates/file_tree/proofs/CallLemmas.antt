@@ -11,8 +11,8 @@ use Rattle.tape_types.specs.Bounds.{longest_file}
 use Rattle.tape_types.specs.declared.cartridges.Extent.{Extent}
 use Rattle.extent_map.specs.Laid.{Room}
 use Rattle.file_tree.specs.declared.nodes.Node.{Node}
-use Rattle.file_tree.specs.declared.nodes.Kind.{Kind}
-use Rattle.file_tree.specs.declared.nodes.Kind.TheVariants as kinds
+use Rattle.file_tree.specs.declared.nodes.HeldKind.{HeldKind}
+use Rattle.file_tree.specs.declared.nodes.HeldKind.TheVariants as kinds
 use Rattle.file_tree.specs.Tree.{FileTree, StandsAt, HasExtents, plain_kind_of, plain_nodes, whole}
 use Rattle.std.proofs.Math.Nat.{div-le_self}
 use Rattle.file_tree.specs.Valid.{IsFileOf}
@@ -27,7 +27,7 @@ file_there t path file stands free = by node.0.kind refl
     node : (n : Node) × (fin.get t.nodes path ≡ Some n) × (n.number ≡ file)
     node = node_at t.nodes path file stands
 
-    by : (k : Kind) → node.0.kind ≡ k → (room : Room) × HasExtents t.nodes file room
+    by : (k : HeldKind) → node.0.kind ≡ k → (room : Room) × HasExtents t.nodes file room
     by kinds.Dir e = let wrong : Some refusals.IsDir ≡ None = sym (file_of_kind whole t.nodes path node.0 plain_kinds.Dir node.1 (ap (plain_kind_of whole) e)) ∙ free in cc
     by (kinds.Link text) e = let wrong : Some refusals.IsLink ≡ None = sym (file_of_kind whole t.nodes path node.0 (plain_kinds.Link text) node.1 (ap (plain_kind_of whole) e)) ∙ free in cc
     by (kinds.File room) e = (room, record { path = path; node = node.0; there = node.1; is = node.2; file = e })

@@ -13,7 +13,7 @@ use Rattle.plain_tree.proofs.MoveLemmas.{below_split, below_join, not_true}
 use Rattle.extent_map.specs.Cells.{Tape}
 use Rattle.extent_map.specs.Laid.{Laid, Room}
 use Rattle.file_tree.specs.declared.nodes.Node.{Node}
-use Rattle.file_tree.specs.declared.nodes.Kind.TheVariants as kinds
+use Rattle.file_tree.specs.declared.nodes.HeldKind.TheVariants as kinds
 use Rattle.file_tree.specs.Tree.{Nodes, number_at, moved, HasLaid, plain_node_of, plain_nodes}
 use Rattle.file_tree.specs.Changes.{IsChangedAt}
 use Rattle.plain_tree.specs.Paths.{Path}

@@ -13,7 +13,7 @@ use Rattle.plain_tree.specs.declared.calls.Refusal.TheVariants as refusals
 use Rattle.plain_tree.specs.Paths.{is_at_or_below}
 use Rattle.plain_tree.specs.Refusals.{bad_name, refuse_if}
 use Rattle.file_tree.specs.declared.nodes.Node.{Node}
-use Rattle.file_tree.specs.declared.nodes.Kind.TheVariants as kinds
+use Rattle.file_tree.specs.declared.nodes.HeldKind.TheVariants as kinds
 use Rattle.plain_tree.specs.Paths.{Name, Path}
 use Rattle.file_tree.specs.Tree.{Nodes, moved}
 use Rattle.file_tree.specs.Changes.{IsChangedAt}

@@ -24,8 +24,8 @@ use Rattle.extent_map.specs.Cells.{Tape}
 use Rattle.extent_map.specs.Blocks.{SomeStandsIn, FileStandsIn}
 use Rattle.extent_map.proofs.LaidLemmas.{laid_le}
 use Rattle.file_tree.specs.declared.nodes.Node.{Node}
-use Rattle.file_tree.specs.declared.nodes.Kind.{Kind}
-use Rattle.file_tree.specs.declared.nodes.Kind.TheVariants as kinds
+use Rattle.file_tree.specs.declared.nodes.HeldKind.{HeldKind}
+use Rattle.file_tree.specs.declared.nodes.HeldKind.TheVariants as kinds
 use Rattle.plain_tree.specs.Paths.{Name, Path}
 use Rattle.file_tree.specs.Tree.{Nodes, FileTree, plain_kind_of, plain_node_of, plain_nodes, plain_of, whole}
 use Rattle.file_tree.specs.Mounts.{Letters, part_of, extent_of, by_offset, laid_of, IsKindOf, IsNodeOf, IsPathOf, IsBuilt, IsOnVolume, EndsNear, CanMount}
@@ -144,7 +144,7 @@ module _ (letters : Letters) (t : FileTree) (good : IsGood t) where
       (by_last p)
 
   module _ (size : ℕ) (size_is : size ≡ t.block_size) (differ : letters.0 ≢ letters.1) (u : Nodes) (built : IsBuilt letters size nodes (length nodes) u) where
-    kind_back : (kind kind2 : Kind) → IsKindOf letters size (told_kind_of letters kind) kind2 → ((room : Room) → kind ≡ kinds.File room → IsFileOf size room.laid) → without_room kind2 ≡ without_room kind
+    kind_back : (kind kind2 : HeldKind) → IsKindOf letters size (told_kind_of letters kind) kind2 → ((room : Room) → kind ≡ kinds.File room → IsFileOf size room.laid) → without_room kind2 ≡ without_room kind
     kind_back kinds.Dir kind2 is file = ap without_room is
     kind_back (kinds.Link text) kind2 is file = ap without_room is
     kind_back (kinds.File room) kind2 is file = ap without_room is.1 ∙ ap (λ (f : Laid). kinds.File (record { laid = f; spare = 0 })) (is.2 ∙ told_lies letters size room.laid differ (file room refl))
@@ -229,7 +229,7 @@ module _ (letters : Letters) (t : FileTree) (good : IsGood t) where
   kind_told : AreLetters letters → (p : Path) (n : Node) → fin.get m p ≡ Some n → IsKind (told_kind_of letters n.kind)
   kind_told are p n there = by n.kind refl
     where
-      by : (k : Kind) → n.kind ≡ k → IsKind (told_kind_of letters k)
+      by : (k : HeldKind) → n.kind ≡ k → IsKind (told_kind_of letters k)
       by kinds.Dir e = tt
       by (kinds.Link text) e = (good.fit p n there).text text e
       by (kinds.File room) e =
@@ -332,7 +332,7 @@ module _ (letters : Letters) (t : FileTree) (good : IsGood t) where
 
 -- ---- the same plain tree
 
-kind_plain : (tape : Tape) (kind : Kind) → plain_kind_of tape (without_room kind) ≡ plain_kind_of tape kind
+kind_plain : (tape : Tape) (kind : HeldKind) → plain_kind_of tape (without_room kind) ≡ plain_kind_of tape kind
 kind_plain tape kinds.Dir = refl
 kind_plain tape (kinds.File room) = refl
 kind_plain tape (kinds.Link text) = refl

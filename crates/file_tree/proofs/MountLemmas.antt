@@ -14,8 +14,8 @@ use Rattle.node_keys.specs.Keys as keys
 use Rattle.node_keys.proofs.ListLaws.{apart_by_places}
 use Rattle.index_model.specs.declared.indexes.Index.{Index}
 use Rattle.index_model.specs.declared.nodes.Node as told
-use Rattle.index_model.specs.declared.nodes.Kind as told_kind
-use Rattle.index_model.specs.declared.nodes.Kind.TheVariants as told_kinds
+use Rattle.index_model.specs.declared.nodes.NodeKind as told_kind
+use Rattle.index_model.specs.declared.nodes.NodeKind.TheVariants as told_kinds
 use Rattle.index_model.specs.declared.nodes.RawExtent.{RawExtent}
 use Rattle.index_model.specs.Extents.{IsExtent, IsKind, IsFileAt, ShareOffset}
 use Rattle.index_model.specs.Keys.{AreKeysApart}
@@ -26,7 +26,7 @@ use Rattle.index_model.specs.Uids.{AreUids}
 use Rattle.index_model.proofs.Walks.{all_at}
 use Rattle.extent_map.specs.Cells.{Tape}
 use Rattle.file_tree.specs.declared.nodes.Node.{Node}
-use Rattle.file_tree.specs.declared.nodes.Kind.{Kind}
+use Rattle.file_tree.specs.declared.nodes.HeldKind.{HeldKind}
 use Rattle.file_tree.specs.Tree.{Nodes, number_at, plain_kind_of, plain_node_of, plain_nodes}
 use Rattle.file_tree.specs.Places.{StoreView, CanAppend}
 use Rattle.file_tree.specs.Valid.{AreFilesOf}
@@ -322,7 +322,7 @@ are_told index letters size can = record {
   count = can.valid.formed.count;
 }
 
-dir_same : (letters : Letters) (size : ℕ) (tape : Tape) (k : told_kind.Kind) (kind : Kind) → IsKindOf letters size k kind → k ≡ told_kinds.Dir → is_dir (plain_kind_of tape kind) ≡ true
+dir_same : (letters : Letters) (size : ℕ) (tape : Tape) (k : told_kind.NodeKind) (kind : HeldKind) → IsKindOf letters size k kind → k ≡ told_kinds.Dir → is_dir (plain_kind_of tape kind) ≡ true
 dir_same letters size tape told_kinds.Dir kind is e = ap (λ k. is_dir (plain_kind_of tape k)) is
 dir_same letters size tape (told_kinds.File n raws) kind is e = cc
 dir_same letters size tape (told_kinds.Link text) kind is e = cc

@@ -6,8 +6,8 @@ use Rattle.std.proofs.lemmas.Bool.{cases_lt}
 use Rattle.tape_types.specs.declared.cartridges.Extent.{Extent}
 use Rattle.tape_types.specs.declared.cartridges.Part.{Part}
 use Rattle.index_model.specs.declared.nodes.Node as told
-use Rattle.index_model.specs.declared.nodes.Kind as told_kind
-use Rattle.index_model.specs.declared.nodes.Kind.TheVariants as told_kinds
+use Rattle.index_model.specs.declared.nodes.NodeKind as told_kind
+use Rattle.index_model.specs.declared.nodes.NodeKind.TheVariants as told_kinds
 use Rattle.index_model.specs.declared.nodes.RawExtent.{RawExtent}
 use Rattle.index_model.specs.Extents.{IsFileAt}
 use Rattle.index_model.specs.Places.{IsAt}
@@ -15,8 +15,8 @@ use Rattle.index_model.proofs.Walks.{all_at}
 use Rattle.extent_map.specs.Laid.{Laid, Room, cut, put_among}
 use Rattle.extent_map.specs.Blocks.{StandsIn, SomeStandsIn, FileStandsIn}
 use Rattle.extent_map.proofs.BlockLemmas.{in_joined, in_cut}
-use Rattle.file_tree.specs.declared.nodes.Kind.{Kind}
-use Rattle.file_tree.specs.declared.nodes.Kind.TheVariants as kinds
+use Rattle.file_tree.specs.declared.nodes.HeldKind.{HeldKind}
+use Rattle.file_tree.specs.declared.nodes.HeldKind.TheVariants as kinds
 use Rattle.file_tree.specs.Tree.{Nodes, HasLaid}
 use Rattle.file_tree.proofs.MountLemmas.{told_at}
 use Rattle.file_tree.specs.Mounts.{Letters, extent_of, by_offset, laid_of, IsKindOf, part_of, IsBuilt, EndsNear, IndexStandsIn, EndsBelow, MountsLieBelow}
@@ -53,12 +53,12 @@ module _ (size : ℕ) (part : Part) (pos : ℕ) where
   of_raws letters (raw ∷ raws) (inr more) = let found = of_raws letters raws more in (suc found.0, found.1, found.2, found.3)
 
 -- what is told of a file
-file_of : (letters : Letters) (size : ℕ) (kind : told_kind.Kind) (room : Room) → IsKindOf letters size kind (kinds.File room) → (bytes : ℕ) × (raws : List RawExtent) × (kind ≡ told_kinds.File bytes raws) × (room.laid ≡ laid_of letters size bytes raws)
+file_of : (letters : Letters) (size : ℕ) (kind : told_kind.NodeKind) (room : Room) → IsKindOf letters size kind (kinds.File room) → (bytes : ℕ) × (raws : List RawExtent) × (kind ≡ told_kinds.File bytes raws) × (room.laid ≡ laid_of letters size bytes raws)
 file_of letters size told_kinds.Dir room is = let wrong : kinds.File room ≡ kinds.Dir = is in cc
 file_of letters size (told_kinds.Link text) room is = let wrong : kinds.File room ≡ kinds.Link text = is in cc
 file_of letters size (told_kinds.File bytes raws) room is = (bytes, raws, refl, ap (λ (r : Room). r.laid) (one_room room is.0 is.1) ∙ is.2)
   where
-    one_room : (r s : Room) → ◌≡◌ {A = Kind} (kinds.File r) (kinds.File s) → r ≡ s
+    one_room : (r s : Room) → ◌≡◌ {A = HeldKind} (kinds.File r) (kinds.File s) → r ≡ s
     one_room r s e = cc
 
 -- each block of the tree is one of the index

@@ -6,15 +6,15 @@ use Rattle.std.specs.Str.{IsUtf8}
 use Rattle.node_keys.proofs.ListLaws.{found_in_map}
 use Rattle.index_model.specs.declared.indexes.Index.{Index}
 use Rattle.index_model.specs.declared.nodes.Node as told
-use Rattle.index_model.specs.declared.nodes.Kind as told_kind
-use Rattle.index_model.specs.declared.nodes.Kind.TheVariants as told_kinds
+use Rattle.index_model.specs.declared.nodes.NodeKind as told_kind
+use Rattle.index_model.specs.declared.nodes.NodeKind.TheVariants as told_kinds
 use Rattle.index_model.specs.Extents.{IsKind}
 use Rattle.index_model.specs.Keys.{IsXattr}
 use Rattle.index_model.specs.Names.{IsVolumeName, IsNodeName}
 use Rattle.index_model.specs.Places.{IsAt}
 use Rattle.index_model.proofs.Walks.{all_at}
-use Rattle.file_tree.specs.declared.nodes.Kind.{Kind}
-use Rattle.file_tree.specs.declared.nodes.Kind.TheVariants as kinds
+use Rattle.file_tree.specs.declared.nodes.HeldKind.{HeldKind}
+use Rattle.file_tree.specs.declared.nodes.HeldKind.TheVariants as kinds
 use Rattle.plain_tree.specs.Paths.{Name}
 use Rattle.file_tree.specs.Tree.{Nodes}
 use Rattle.file_tree.specs.Valid.{AreFilesOf, NumbersDiffer, AreFit, IsGood}
@@ -33,12 +33,12 @@ built_differ letters size nodes before m built p q number is also =
     path_once nodes a.0.number b.0.number p q (a.2 ∙ sym b.2) one.2 two.2
 
 -- the text of a link is that which is told
-link_of : (letters : Letters) (size : ℕ) (kind : told_kind.Kind) (text : List ℕ) → IsKindOf letters size kind (kinds.Link text) → IsKind kind → IsUtf8 text
+link_of : (letters : Letters) (size : ℕ) (kind : told_kind.NodeKind) (text : List ℕ) → IsKindOf letters size kind (kinds.Link text) → IsKind kind → IsUtf8 text
 link_of letters size told_kinds.Dir text is good = let wrong : kinds.Link text ≡ kinds.Dir = is in cc
 link_of letters size (told_kinds.File bytes raws) text is good = let wrong : kinds.Link text ≡ kinds.File is.0 = is.1 in cc
 link_of letters size (told_kinds.Link told) text is good = subst IsUtf8 (one told text (sym is)) good
   where
-    one : (a b : List ℕ) → ◌≡◌ {A = Kind} (kinds.Link a) (kinds.Link b) → a ≡ b
+    one : (a b : List ℕ) → ◌≡◌ {A = HeldKind} (kinds.Link a) (kinds.Link b) → a ≡ b
     one a b e = cc
 
 module _ (index : Index) (letters : Letters) (size : ℕ) (can : CanMount index letters size) (m : Nodes) (b : IsBuilt letters size index.nodes (length index.nodes) m) where

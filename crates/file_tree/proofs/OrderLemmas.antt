@@ -20,8 +20,8 @@ use Rattle.plain_tree.proofs.NodeLemmas.{path_total}
 use Rattle.plain_tree.proofs.LinkLemmas.{name_exact}
 use Rattle.plain_tree.proofs.MoveLemmas.{both_true}
 use Rattle.file_tree.specs.declared.nodes.Node.{Node}
-use Rattle.file_tree.specs.declared.nodes.Kind.{Kind}
-use Rattle.file_tree.specs.declared.nodes.Kind.TheVariants as kinds
+use Rattle.file_tree.specs.declared.nodes.HeldKind.{HeldKind}
+use Rattle.file_tree.specs.declared.nodes.HeldKind.TheVariants as kinds
 use Rattle.file_tree.specs.Tree.{Nodes, FileTree, plain_node_of, plain_kind_of, plain_nodes, whole}
 use Rattle.file_tree.specs.Mounts.{Letters}
 use Rattle.file_tree.specs.Told.{place_of, told_kind_of, told_of, told_in, told_nodes}
@@ -141,7 +141,7 @@ abbrev second : Option (ℕ × Bool) → Bool
 second None = false
 second (Some v) = v.1
 
-is_dir_plain : (kind : Kind) → is_dir (plain_kind_of whole kind) ≡ true → kind ≡ kinds.Dir
+is_dir_plain : (kind : HeldKind) → is_dir (plain_kind_of whole kind) ≡ true → kind ≡ kinds.Dir
 is_dir_plain kinds.Dir e = refl
 is_dir_plain (kinds.File room) e = cc
 is_dir_plain (kinds.Link text) e = cc

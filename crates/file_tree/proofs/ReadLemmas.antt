@@ -15,8 +15,8 @@ use Rattle.plain_tree.proofs.FrontLemmas.{missing_longer, front_decides}
 use Rattle.extent_map.specs.Cells.{Tape}
 use Rattle.file_tree.specs.declared.nodes.Node.{Node}
 use Rattle.file_tree.specs.Tree.{Nodes, FileTree, StandsAt, number_at, plain_kind_of, plain_node_of, plain_nodes, plain_of, whole}
-use Rattle.file_tree.specs.declared.nodes.Kind.{Kind}
-use Rattle.file_tree.specs.declared.nodes.Kind.TheVariants as kinds
+use Rattle.file_tree.specs.declared.nodes.HeldKind.{HeldKind}
+use Rattle.file_tree.specs.declared.nodes.HeldKind.TheVariants as kinds
 use Rattle.file_tree.specs.declared.found.Found.{Found}
 use Rattle.file_tree.specs.Reads.{IsFound, refusal_found, lost_below, sort_in, IsOfSort}
 use Rattle.extent_map.specs.Laid.{Room}
@@ -98,17 +98,17 @@ none_checks m path why none is = (same_dir none ∙ is, same_file none ∙ is)
 
 -- ---- what the calls' checks say
 
-pub lost_found : (t : FileTree) (path : List (List ℕ)) (kind : Kind) (found : Found) → found ≡ lost_below kind → fin.get t.nodes path ≡ None → IsFound t path found
+pub lost_found : (t : FileTree) (path : List (List ℕ)) (kind : HeldKind) (found : Found) → found ≡ lost_below kind → fin.get t.nodes path ≡ None → IsFound t path found
 lost_found t path kinds.Dir found is none = subst (IsFound t path) (sym is) none
 lost_found t path (kinds.File room) found is none = subst (IsFound t path) (sym is) none
 lost_found t path (kinds.Link text) found is none = subst (IsFound t path) (sym is) none
 
-pub lost_refusal : (tape : Tape) (kind : Kind) → Some (missing_below (plain_kind_of tape kind)) ≡ refusal_found (lost_below kind)
+pub lost_refusal : (tape : Tape) (kind : HeldKind) → Some (missing_below (plain_kind_of tape kind)) ≡ refusal_found (lost_below kind)
 lost_refusal tape kinds.Dir = refl
 lost_refusal tape (kinds.File room) = refl
 lost_refusal tape (kinds.Link text) = refl
 
-pub sort_same : (tape : Tape) (kind : Kind) → plain.sort_of (plain_kind_of tape kind) ≡ sort_in kind
+pub sort_same : (tape : Tape) (kind : HeldKind) → plain.sort_of (plain_kind_of tape kind) ≡ sort_in kind
 sort_same tape kinds.Dir = refl
 sort_same tape (kinds.File room) = refl
 sort_same tape (kinds.Link text) = refl
@@ -129,7 +129,7 @@ dir_by t path number sort stands of = by node.0.kind refl
     node : (n : Node) × (fin.get t.nodes path ≡ Some n) × (sort_in n.kind ≡ sort)
     node = of path stands
 
-    by : (k : Kind) → node.0.kind ≡ k → dir_says sort ≡ no_dir (plain_nodes whole t.nodes) path
+    by : (k : HeldKind) → node.0.kind ≡ k → dir_says sort ≡ no_dir (plain_nodes whole t.nodes) path
     by kinds.Dir e = ap dir_says (sym node.2 ∙ ap sort_in e) ∙ sym (dir_of_kind whole t.nodes path node.0 plain_kinds.Dir node.1 (ap (plain_kind_of whole) e))
     by (kinds.File room) e = ap dir_says (sym node.2 ∙ ap sort_in e) ∙ sym (dir_of_kind whole t.nodes path node.0 (plain_kind_of whole (kinds.File room)) node.1 (ap (plain_kind_of whole) e))
     by (kinds.Link text) e = ap dir_says (sym node.2 ∙ ap sort_in e) ∙ sym (dir_of_kind whole t.nodes path node.0 (plain_kinds.Link text) node.1 (ap (plain_kind_of whole) e))
@@ -140,7 +140,7 @@ file_by t path number sort stands of = by node.0.kind refl
     node : (n : Node) × (fin.get t.nodes path ≡ Some n) × (sort_in n.kind ≡ sort)
     node = of path stands
 
-    by : (k : Kind) → node.0.kind ≡ k → file_says sort ≡ no_file (plain_nodes whole t.nodes) path
+    by : (k : HeldKind) → node.0.kind ≡ k → file_says sort ≡ no_file (plain_nodes whole t.nodes) path
     by kinds.Dir e = ap file_says (sym node.2 ∙ ap sort_in e) ∙ sym (file_of_kind whole t.nodes path node.0 plain_kinds.Dir node.1 (ap (plain_kind_of whole) e))
     by (kinds.File room) e = ap file_says (sym node.2 ∙ ap sort_in e) ∙ sym (file_of_kind whole t.nodes path node.0 (plain_kind_of whole (kinds.File room)) node.1 (ap (plain_kind_of whole) e))
     by (kinds.Link text) e = ap file_says (sym node.2 ∙ ap sort_in e) ∙ sym (file_of_kind whole t.nodes path node.0 (plain_kinds.Link text) node.1 (ap (plain_kind_of whole) e))

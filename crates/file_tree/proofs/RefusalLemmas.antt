@@ -15,8 +15,8 @@ use Rattle.extent_map.specs.Cells.{Tape, cell_at, cell_of, covers}
 use Rattle.tape_types.specs.Bounds.{most_nodes}
 use Rattle.tape_types.specs.declared.cartridges.Extent.{Extent}
 use Rattle.file_tree.specs.declared.nodes.Node.{Node}
-use Rattle.file_tree.specs.declared.nodes.Kind.{Kind}
-use Rattle.file_tree.specs.declared.nodes.Kind.TheVariants as kinds
+use Rattle.file_tree.specs.declared.nodes.HeldKind.{HeldKind}
+use Rattle.file_tree.specs.declared.nodes.HeldKind.TheVariants as kinds
 use Rattle.file_tree.specs.Tree.{Nodes, FileTree, plain_kind_of, plain_node_of, plain_nodes, plain_of, whole}
 use Rattle.file_tree.specs.Edits.{RefusalsAreAlike}
 use Rattle.file_tree.proofs.PlainLemmas.{plain_get, plain_entries, plain_len}
@@ -30,7 +30,7 @@ module _ (a b : Tape) (m : Nodes) where
       by None e before = rw (plain_get a m (take n path) ∙ ap (option_map (plain_node_of a)) e, plain_get b m (take n path) ∙ ap (option_map (plain_node_of b)) e) before
       by (Some node) e before = kind node.kind refl
         where
-          kind : (k : Kind) → node.kind ≡ k → why_missing (plain_nodes a m) path (suc n) ≡ why_missing (plain_nodes b m) path (suc n)
+          kind : (k : HeldKind) → node.kind ≡ k → why_missing (plain_nodes a m) path (suc n) ≡ why_missing (plain_nodes b m) path (suc n)
           kind kinds.Dir is = rw (plain_get a m (take n path) ∙ ap (option_map (plain_node_of a)) e, plain_get b m (take n path) ∙ ap (option_map (plain_node_of b)) e, is) refl
           kind (kinds.File room) is = rw (plain_get a m (take n path) ∙ ap (option_map (plain_node_of a)) e, plain_get b m (take n path) ∙ ap (option_map (plain_node_of b)) e, is) refl
           kind (kinds.Link text) is = rw (plain_get a m (take n path) ∙ ap (option_map (plain_node_of a)) e, plain_get b m (take n path) ∙ ap (option_map (plain_node_of b)) e, is) refl
@@ -49,7 +49,7 @@ module _ (a b : Tape) (m : Nodes) where
       by None e = rw (plain_get a m path ∙ ap (option_map (plain_node_of a)) e, plain_get b m path ∙ ap (option_map (plain_node_of b)) e) (ap (λ r. Some r) (missing_alike path (length path)))
       by (Some node) e = kind node.kind refl
         where
-          kind : (k : Kind) → node.kind ≡ k → no_dir (plain_nodes a m) path ≡ no_dir (plain_nodes b m) path
+          kind : (k : HeldKind) → node.kind ≡ k → no_dir (plain_nodes a m) path ≡ no_dir (plain_nodes b m) path
           kind kinds.Dir is = rw (plain_get a m path ∙ ap (option_map (plain_node_of a)) e, plain_get b m path ∙ ap (option_map (plain_node_of b)) e, is) refl
           kind (kinds.File room) is = rw (plain_get a m path ∙ ap (option_map (plain_node_of a)) e, plain_get b m path ∙ ap (option_map (plain_node_of b)) e, is) refl
           kind (kinds.Link text) is = rw (plain_get a m path ∙ ap (option_map (plain_node_of a)) e, plain_get b m path ∙ ap (option_map (plain_node_of b)) e, is) refl
@@ -61,7 +61,7 @@ module _ (a b : Tape) (m : Nodes) where
       by None e = rw (plain_get a m path ∙ ap (option_map (plain_node_of a)) e, plain_get b m path ∙ ap (option_map (plain_node_of b)) e) (ap (λ r. Some r) (missing_alike path (length path)))
       by (Some node) e = kind node.kind refl
         where
-          kind : (k : Kind) → node.kind ≡ k → no_file (plain_nodes a m) path ≡ no_file (plain_nodes b m) path
+          kind : (k : HeldKind) → node.kind ≡ k → no_file (plain_nodes a m) path ≡ no_file (plain_nodes b m) path
           kind kinds.Dir is = rw (plain_get a m path ∙ ap (option_map (plain_node_of a)) e, plain_get b m path ∙ ap (option_map (plain_node_of b)) e, is) refl
           kind (kinds.File room) is = rw (plain_get a m path ∙ ap (option_map (plain_node_of a)) e, plain_get b m path ∙ ap (option_map (plain_node_of b)) e, is) refl
           kind (kinds.Link text) is = rw (plain_get a m path ∙ ap (option_map (plain_node_of a)) e, plain_get b m path ∙ ap (option_map (plain_node_of b)) e, is) refl
@@ -73,7 +73,7 @@ module _ (a b : Tape) (m : Nodes) where
       by None = refl
       by (Some n) = refl
 
-  sort_alike : (k : Kind) → plain.sort_of (plain_kind_of a k) ≡ plain.sort_of (plain_kind_of b k)
+  sort_alike : (k : HeldKind) → plain.sort_of (plain_kind_of a k) ≡ plain.sort_of (plain_kind_of b k)
   sort_alike kinds.Dir = refl
   sort_alike (kinds.File room) = refl
   sort_alike (kinds.Link text) = refl
@@ -165,7 +165,7 @@ cells_whole m path = by (fin.get m path) refl
     by None e = rw (plain_get whole m path ∙ ap (option_map (plain_node_of whole)) e) tt
     by (Some node) e = kind node.kind refl
       where
-        kind : (k : Kind) → node.kind ≡ k → AreSome (plain.cells_at (plain_nodes whole m) path)
+        kind : (k : HeldKind) → node.kind ≡ k → AreSome (plain.cells_at (plain_nodes whole m) path)
         kind kinds.Dir is = rw (plain_get whole m path ∙ ap (option_map (plain_node_of whole)) e, is) tt
         kind (kinds.File room) is = rw (plain_get whole m path ∙ ap (option_map (plain_node_of whole)) e, is) (whole_map room.laid.block_size room.laid.extents (range_with_len 0 room.laid.length))
         kind (kinds.Link text) is = rw (plain_get whole m path ∙ ap (option_map (plain_node_of whole)) e, is) tt

@@ -24,8 +24,8 @@ use Rattle.index_model.specs.Names.{IsVolumeName, IsNodeName}
 use Rattle.extent_map.specs.Blocks.{FileStandsIn}
 use Rattle.extent_map.specs.Laid.{Laid, Room}
 use Rattle.file_tree.specs.declared.nodes.Node.{Node}
-use Rattle.file_tree.specs.declared.nodes.Kind.{Kind}
-use Rattle.file_tree.specs.declared.nodes.Kind.TheVariants as kinds
+use Rattle.file_tree.specs.declared.nodes.HeldKind.{HeldKind}
+use Rattle.file_tree.specs.declared.nodes.HeldKind.TheVariants as kinds
 use Rattle.file_tree.specs.Tree.{Nodes, FileTree, number_at, StandsAt, HasLaid, plain_kind_of, plain_node_of, plain_nodes, plain_of, whole}
 use Rattle.file_tree.specs.Changes.{IsChangedAt, touched}
 use Rattle.file_tree.specs.Places.{CanPut}
@@ -94,7 +94,7 @@ made_by sorts.File q call p at is =
     (ap (refusal_of p) (sym e), ap (λ c. after_done p c at) (sym e), λ path o n f. let wrong : asks.Create q ≡ asks.Read path o n = e ∙ f in cc)
 made_by sorts.Link q call p at is = cc
 
-new_plain : (tape : Tape) (size : ℕ) (sort : Sort) (kind : Kind) → IsNewKind size sort kind → plain_kind_of tape kind ≡ plain_new sort
+new_plain : (tape : Tape) (size : ℕ) (sort : Sort) (kind : HeldKind) → IsNewKind size sort kind → plain_kind_of tape kind ≡ plain_new sort
 new_plain tape size sorts.Dir kind is = ap (plain_kind_of tape) is
 new_plain tape size sorts.File kind is = ap (plain_kind_of tape) is.1 ∙ ap (λ (f : Laid). plain_kinds.File (file_cells tape f)) is.2
 new_plain tape size sorts.Link kind is = ap (plain_kind_of tape) is
@@ -118,7 +118,7 @@ module _ (t : FileTree) (good : IsGood t) (dir : ℕ) (name : List ℕ) (sort : 
   pub make_named : IsUtf8 name → IsNodeName name
   make_named utf8 = fit_name name utf8 (not_bad can.path name (first_none (bad_name q) _ (sym (made_by sort q can.call (plain_of whole t) at can.made_by).0 ∙ can.free)).0)
 
-  module _ (next : FileTree) (number : ℕ) (node : Node) (kind : Kind) (middle : Nodes)
+  module _ (next : FileTree) (number : ℕ) (node : Node) (kind : HeldKind) (middle : Nodes)
       (is : node ≡ record (made_node (t.highest + 1) kind at) { number = number }) (new : IsNewKind t.block_size sort kind)
       (put : (path : List (List ℕ)) → number_at t.nodes path ≡ Some dir → middle ≡ fin.insert t.nodes (path ++ name ∷ []) node)
       (ch : IsChangedAt middle next.nodes dir (λ a b. b ≡ touched at a)) (highest : next.highest ≡ t.highest + 1) (size : next.block_size ≡ t.block_size)
@@ -185,14 +185,14 @@ module _ (t : FileTree) (good : IsGood t) (dir : ℕ) (name : List ℕ) (sort : 
             let same : k.0 ≡ room = one_room k.0 room (sym k.1 ∙ e) in
             subst (λ (r : Room). IsFileOf t.block_size r.laid) same (subst (λ f. IsFileOf t.block_size f) (sym k.2) (record { size = refl; lies = record { some_block = good.some_block; can_be = omega arith; are_laid = omega arith } }))
           where
-            one_room : (a b : Room) → ◌≡◌ {A = Kind} (kinds.File a) (kinds.File b) → a ≡ b
+            one_room : (a b : Room) → ◌≡◌ {A = HeldKind} (kinds.File a) (kinds.File b) → a ≡ b
             one_room a b f = cc
         by sorts.Link dir_is e = let wrong : kinds.Dir ≡ kinds.File room = sym dir_is ∙ e in cc
 
     new_kind_is : (room : Room) → node.kind ≡ kinds.File room → room.laid ≡ record { block_size = t.block_size; length = 0; extents = [] }
     new_kind_is room file = by sort new (sym (ap (λ (n : Node). n.kind) is) ∙ file)
       where
-        one_room : (a b : Room) → ◌≡◌ {A = Kind} (kinds.File a) (kinds.File b) → a ≡ b
+        one_room : (a b : Room) → ◌≡◌ {A = HeldKind} (kinds.File a) (kinds.File b) → a ≡ b
         one_room a b f = cc
 
         by : (s : Sort) → IsNewKind t.block_size s kind → kind ≡ kinds.File room → room.laid ≡ record { block_size = t.block_size; length = 0; extents = [] }

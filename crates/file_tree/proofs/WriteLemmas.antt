@@ -20,8 +20,8 @@ use Rattle.extent_map.specs.Cells.{Tape, cell_at, cells_of, file_cells}
 use Rattle.extent_map.specs.Laid.{Laid, Room, IsLaid, overlaid, resized}
 use Rattle.extent_map.proofs.LawLemmas.{overlays_write, lengths_truncate}
 use Rattle.file_tree.specs.declared.nodes.Node.{Node}
-use Rattle.file_tree.specs.declared.nodes.Kind.{Kind}
-use Rattle.file_tree.specs.declared.nodes.Kind.TheVariants as kinds
+use Rattle.file_tree.specs.declared.nodes.HeldKind.{HeldKind}
+use Rattle.file_tree.specs.declared.nodes.HeldKind.TheVariants as kinds
 use Rattle.file_tree.specs.Tree.{Nodes, FileTree, number_at, StandsAt, HasExtents, HasLaid, plain_kind_of, plain_node_of, plain_nodes, plain_of}
 use Rattle.file_tree.specs.Changes.{IsChangedAt, LiesNow, IsRelaid, relaid_as, IsRoomier, roomier_as, KeepsLaid, HasRoom, kind_has_room, CanOverlay, can_overlay}
 use Rattle.file_tree.specs.Valid.{IsFileOf, AreFilesOf, NumbersDiffer, AreFit, IsGood}
@@ -35,7 +35,7 @@ use Rattle.file_tree.proofs.EditLemmas.{change_numbers, change_plain, change_oth
 use Rattle.file_tree.proofs.BlockLemmas.{all_lie_adds, overlay_adds as adds_overlay, length_adds as adds_length}
 use Rattle.file_tree.proofs.FitLemmas.{fit_change}
 
-one_room : (a b : Room) → ◌≡◌ {A = Kind} (kinds.File a) (kinds.File b) → a ≡ b
+one_room : (a b : Room) → ◌≡◌ {A = HeldKind} (kinds.File a) (kinds.File b) → a ≡ b
 one_room a b e = cc
 
 -- the change of a file, opened
@@ -214,7 +214,7 @@ long_is m file present laid has long =
 roomier_plain : (tape : Tape) (a b : Node) → IsRoomier a b → plain_node_of tape b ≡ plain_node_of tape a
 roomier_plain tape a b is = by a.kind refl (is)
   where
-    by : (k : Kind) → a.kind ≡ k → IsRoomier a b → plain_node_of tape b ≡ plain_node_of tape a
+    by : (k : HeldKind) → a.kind ≡ k → IsRoomier a b → plain_node_of tape b ≡ plain_node_of tape a
     by kinds.Dir e r = ap (plain_node_of tape) (subst (roomier_as a b) e r)
     by (kinds.Link text) e r = ap (plain_node_of tape) (subst (roomier_as a b) e r)
     by (kinds.File room) e r =
@@ -237,7 +237,7 @@ module _ (t next : FileTree) (good : IsGood t) (file : ℕ) (Q : Node → Type 0
   was_laid_so : (room : Room) → ch.new.kind ≡ kinds.File room → (old : Room) × (ch.old.kind ≡ kinds.File old) × (room.laid ≡ old.laid)
   was_laid_so room is = by ch.old.kind refl ch.changed.0
     where
-      by : (k : Kind) → ch.old.kind ≡ k → IsRoomier ch.old ch.new → (old : Room) × (ch.old.kind ≡ kinds.File old) × (room.laid ≡ old.laid)
+      by : (k : HeldKind) → ch.old.kind ≡ k → IsRoomier ch.old ch.new → (old : Room) × (ch.old.kind ≡ kinds.File old) × (room.laid ≡ old.laid)
       by kinds.Dir e r = let wrong : kinds.Dir ≡ kinds.File room = sym e ∙ ap (λ (n : Node). n.kind) (sym (subst (roomier_as ch.old ch.new) e r)) ∙ is in cc
       by (kinds.Link text) e r = let wrong : kinds.Link text ≡ kinds.File room = sym e ∙ ap (λ (n : Node). n.kind) (sym (subst (roomier_as ch.old ch.new) e r)) ∙ is in cc
       by (kinds.File old) e r =
@@ -306,14 +306,14 @@ module _ (t next : FileTree) (good : IsGood t) (file : ℕ) (Q : Node → Type 0
   was_link : (text : List ℕ) → ch.new.kind ≡ kinds.Link text → ch.old.kind ≡ kinds.Link text
   was_link text is = by ch.old.kind refl ch.changed.0
     where
-      by : (k : Kind) → ch.old.kind ≡ k → IsRoomier ch.old ch.new → ch.old.kind ≡ kinds.Link text
+      by : (k : HeldKind) → ch.old.kind ≡ k → IsRoomier ch.old ch.new → ch.old.kind ≡ kinds.Link text
       by kinds.Dir e r = ap (λ (n : Node). n.kind) (sym (subst (roomier_as ch.old ch.new) e r)) ∙ is
       by (kinds.Link text) e r = ap (λ (n : Node). n.kind) (sym (subst (roomier_as ch.old ch.new) e r)) ∙ is
       by (kinds.File old) e r =
           let keeps : KeepsLaid ch.old ch.new old.laid = subst (roomier_as ch.old ch.new) e r in
           let wrong : kinds.File keeps.room ≡ kinds.Link text = sym (ap (λ (n : Node). n.kind) keeps.is) ∙ is in cc
 
-  same_keys : (k : Kind) → ch.old.kind ≡ k → IsRoomier ch.old ch.new → ch.new.keys ≡ ch.old.keys
+  same_keys : (k : HeldKind) → ch.old.kind ≡ k → IsRoomier ch.old ch.new → ch.new.keys ≡ ch.old.keys
   same_keys kinds.Dir e r = ap (λ (n : Node). n.keys) (subst (roomier_as ch.old ch.new) e r)
   same_keys (kinds.Link text) e r = ap (λ (n : Node). n.keys) (subst (roomier_as ch.old ch.new) e r)
   same_keys (kinds.File old) e r =

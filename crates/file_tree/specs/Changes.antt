@@ -8,8 +8,8 @@ use Rattle.extent_map.specs.Laid.{Laid, Room, IsLaid, overlaid, resized}
 use Rattle.file_tree.specs.declared.changes.NodeChange.{NodeChange}
 use Rattle.file_tree.specs.declared.changes.NodeChange.TheVariants as changes
 use Rattle.file_tree.specs.declared.nodes.Node.{Node}
-use Rattle.file_tree.specs.declared.nodes.Kind.{Kind}
-use Rattle.file_tree.specs.declared.nodes.Kind.TheVariants as kinds
+use Rattle.file_tree.specs.declared.nodes.HeldKind.{HeldKind}
+use Rattle.file_tree.specs.declared.nodes.HeldKind.TheVariants as kinds
 use Rattle.file_tree.specs.Tree.{Nodes, number_at}
 use Rattle.plain_tree.specs.Paths.{Path}
 
@@ -37,7 +37,7 @@ pub record LiesNow (at : Moment) (before next : Node) (laid : Laid) : Type 0 whe
   pub good : IsLaid laid
 
 -- a file lies as the change of its extents says, and is touched; another node is as it was
-abbrev pub relaid_as : (Laid → Laid) → Moment → Node → Node → Kind → Type 0
+abbrev pub relaid_as : (Laid → Laid) → Moment → Node → Node → HeldKind → Type 0
 relaid_as change at before next kinds.Dir = next ≡ before
 relaid_as change at before next (kinds.File room) = LiesNow at before next (change room.laid)
 relaid_as change at before next (kinds.Link text) = next ≡ before
@@ -52,7 +52,7 @@ IsChangedBy changes.Note at before next = next ≡ change_noted at before
 IsChangedBy (changes.Resize length) at before next = IsRelaid (λ laid. resized laid length) at before next
 IsChangedBy (changes.Overlay new) at before next = IsRelaid (λ laid. overlaid laid new) at before next
 
-abbrev pub can_overlay : Extent → Kind → Type 0
+abbrev pub can_overlay : Extent → HeldKind → Type 0
 can_overlay new kinds.Dir = ⊤
 can_overlay new (kinds.File room) = CanOverlay room new
 can_overlay new (kinds.Link text) = ⊤
@@ -70,7 +70,7 @@ pub record KeepsLaid (before next : Node) (laid : Laid) : Type 0 where
   pub is : next ≡ record before { kind = kinds.File room }
   pub lies : room.laid ≡ laid
 
-abbrev pub roomier_as : Node → Node → Kind → Type 0
+abbrev pub roomier_as : Node → Node → HeldKind → Type 0
 roomier_as before next kinds.Dir = next ≡ before
 roomier_as before next (kinds.File room) = KeepsLaid before next room.laid
 roomier_as before next (kinds.Link text) = next ≡ before
@@ -79,7 +79,7 @@ abbrev pub IsRoomier : Node → Node → Type 0
 IsRoomier before next = roomier_as before next before.kind
 
 -- there is memory for an overlay, where it is a file
-abbrev pub kind_has_room : Kind → Type 0
+abbrev pub kind_has_room : HeldKind → Type 0
 kind_has_room kinds.Dir = ⊤
 kind_has_room (kinds.File room) = 2 ≤ room.spare
 kind_has_room (kinds.Link text) = ⊤

@@ -17,8 +17,8 @@ use Rattle.extent_map.specs.Laid.{Laid, Room}
 use Rattle.extent_map.specs.Cells.{Tape, cells_of}
 use Rattle.extent_map.specs.Blocks.{StandsIn}
 use Rattle.file_tree.specs.declared.nodes.Node.{Node}
-use Rattle.file_tree.specs.declared.nodes.Kind.{Kind}
-use Rattle.file_tree.specs.declared.nodes.Kind.TheVariants as kinds
+use Rattle.file_tree.specs.declared.nodes.HeldKind.{HeldKind}
+use Rattle.file_tree.specs.declared.nodes.HeldKind.TheVariants as kinds
 use Rattle.file_tree.specs.Changes.{CanOverlay}
 use Rattle.file_tree.specs.Tree.{Nodes, FileTree, StandsAt, HasExtents, HasLaid, plain_of, whole}
 use Rattle.plain_tree.specs.Paths.{Path}
@@ -39,7 +39,7 @@ pub record CanMake (t : FileTree) (dir : ℕ) (name : List ℕ) (sort : Sort) : 
   pub room : 1 ≤ t.spare
 
 -- a node that was made at a moment, without attributes; a number is given when it is put into the tree
-abbrev pub made_node : ℕ → Kind → Moment → Node
+abbrev pub made_node : ℕ → HeldKind → Moment → Node
 made_node uid kind at = record {
   number = 0;
   uid = uid;
@@ -50,7 +50,7 @@ made_node uid kind at = record {
 }
 
 -- what a new node of a sort is: a file has no bytes
-abbrev pub IsNewKind : ℕ → Sort → Kind → Type 0
+abbrev pub IsNewKind : ℕ → Sort → HeldKind → Type 0
 IsNewKind size sorts.Dir kind = kind ≡ kinds.Dir
 IsNewKind size sorts.File kind = (room : Room) × (kind ≡ kinds.File room)
     × (room.laid ≡ record { block_size = size; length = 0; extents = [] })

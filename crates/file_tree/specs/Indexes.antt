@@ -6,16 +6,16 @@ use Rattle.index_model.specs.declared.indexes.Index.{Index}
 use Rattle.std.specs.declared.cmp.Ordering.TheVariants.{Less}
 use Rattle.node_keys.specs.Keys.{list_of, map_of}
 use Rattle.index_model.specs.declared.nodes.Node as told
-use Rattle.index_model.specs.declared.nodes.Kind as told_kind
-use Rattle.index_model.specs.declared.nodes.Kind.TheVariants as told_kinds
+use Rattle.index_model.specs.declared.nodes.NodeKind as told_kind
+use Rattle.index_model.specs.declared.nodes.NodeKind.TheVariants as told_kinds
 use Rattle.index_model.specs.Places.{IsAt}
 use Rattle.plain_tree.specs.Links.{name_cmp}
 use Rattle.index_model.specs.Texts.{IsLetter, IsPlainText}
 use Rattle.index_model.specs.Valid.{IsSpot, IsPolicy, IsValid}
 use Rattle.extent_map.specs.Cells.{Tape}
 use Rattle.file_tree.specs.declared.nodes.Node.{Node}
-use Rattle.file_tree.specs.declared.nodes.Kind.{Kind}
-use Rattle.file_tree.specs.declared.nodes.Kind.TheVariants as kinds
+use Rattle.file_tree.specs.declared.nodes.HeldKind.{HeldKind}
+use Rattle.file_tree.specs.declared.nodes.HeldKind.TheVariants as kinds
 use Rattle.plain_tree.specs.Paths.{Path}
 use Rattle.file_tree.specs.Tree.{FileTree, plain_of}
 use Rattle.file_tree.specs.Mounts.{Letters, laid_of, CanMount, IsTreeOf}
@@ -43,7 +43,7 @@ pub record AreLetters (letters : Letters) : Type 0 where
   pub ip : IsLetter letters.0
   pub dp : IsLetter letters.1
 
-abbrev pub without_room : Kind → Kind
+abbrev pub without_room : HeldKind → HeldKind
 without_room kinds.Dir = kinds.Dir
 without_room (kinds.File room) = kinds.File (record { laid = room.laid; spare = 0 })
 without_room (kinds.Link text) = kinds.Link text
@@ -78,7 +78,7 @@ NamesAscend nodes = (at later : ℕ) (node other : told.Node) → 0 < at → at 
     → IsAt nodes at node → IsAt nodes later other → node.parent ≡ other.parent → name_cmp node.name other.name ≡ Less
 
 -- a file's extents by their offsets, cut at its length, without those of no bytes
-abbrev pub kind_in_order : Letters → ℕ → told_kind.Kind → told_kind.Kind
+abbrev pub kind_in_order : Letters → ℕ → told_kind.NodeKind → told_kind.NodeKind
 kind_in_order letters size told_kinds.Dir = told_kinds.Dir
 kind_in_order letters size (told_kinds.File bytes raws) =
     told_kinds.File bytes (map (raw_of letters) (laid_of letters size bytes raws).extents)

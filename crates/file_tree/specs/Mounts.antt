@@ -10,8 +10,8 @@ use Rattle.tape_types.specs.declared.cartridges.Part.TheVariants as parts
 use Rattle.node_keys.specs.Keys.{map_of}
 use Rattle.index_model.specs.declared.indexes.Index.{Index}
 use Rattle.index_model.specs.declared.nodes.Node as told
-use Rattle.index_model.specs.declared.nodes.Kind as told_kind
-use Rattle.index_model.specs.declared.nodes.Kind.TheVariants as told_kinds
+use Rattle.index_model.specs.declared.nodes.NodeKind as told_kind
+use Rattle.index_model.specs.declared.nodes.NodeKind.TheVariants as told_kinds
 use Rattle.index_model.specs.declared.nodes.RawExtent.{RawExtent}
 use Rattle.index_model.specs.Extents.{AreFiles, IsKind, IsFileAt}
 use Rattle.index_model.specs.Keys.{AreKeysApart}
@@ -22,8 +22,8 @@ use Rattle.index_model.specs.Valid.{IsValid}
 use Rattle.extent_map.specs.Laid.{Laid, Room, cut, put_among}
 use Rattle.extent_map.specs.Blocks.{StandsIn}
 use Rattle.file_tree.specs.declared.nodes.Node.{Node}
-use Rattle.file_tree.specs.declared.nodes.Kind.{Kind}
-use Rattle.file_tree.specs.declared.nodes.Kind.TheVariants as kinds
+use Rattle.file_tree.specs.declared.nodes.HeldKind.{HeldKind}
+use Rattle.file_tree.specs.declared.nodes.HeldKind.TheVariants as kinds
 use Rattle.file_tree.specs.Tree.{Nodes, FileTree}
 use Rattle.file_tree.specs.Blocks.{Ends, TreeStandsIn, LiesBelow}
 use Rattle.plain_tree.specs.Paths.{Path}
@@ -57,7 +57,7 @@ laid_of letters size length raws = record {
 }
 
 -- a node is what is told of one
-abbrev pub IsKindOf : Letters → ℕ → told_kind.Kind → Kind → Type 0
+abbrev pub IsKindOf : Letters → ℕ → told_kind.NodeKind → HeldKind → Type 0
 IsKindOf letters size told_kinds.Dir kind = kind ≡ kinds.Dir
 IsKindOf letters size (told_kinds.File length raws) kind = (room : Room) × (kind ≡ kinds.File room)
     × (room.laid ≡ laid_of letters size length raws)

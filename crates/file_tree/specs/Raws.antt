@@ -5,11 +5,11 @@ use Rattle.tape_types.specs.Bounds.{longest_file}
 use Rattle.tape_types.specs.declared.cartridges.Extent.{Extent}
 use Rattle.index_model.specs.declared.nodes.RawExtent.{RawExtent}
 use Rattle.index_model.specs.Extents.{IsExtent}
-use Rattle.index_model.specs.declared.nodes.Kind as told_kind
-use Rattle.index_model.specs.declared.nodes.Kind.TheVariants as told_kinds
+use Rattle.index_model.specs.declared.nodes.NodeKind as told_kind
+use Rattle.index_model.specs.declared.nodes.NodeKind.TheVariants as told_kinds
 use Rattle.extent_map.specs.Laid.{Laid, Room, IsLaid, cut}
-use Rattle.file_tree.specs.declared.nodes.Kind.{Kind}
-use Rattle.file_tree.specs.declared.nodes.Kind.TheVariants as kinds
+use Rattle.file_tree.specs.declared.nodes.HeldKind.{HeldKind}
+use Rattle.file_tree.specs.declared.nodes.HeldKind.TheVariants as kinds
 use Rattle.file_tree.specs.Valid.{IsFileOf}
 use Rattle.file_tree.specs.Mounts.{Letters, extent_of, by_offset, IsOnVolume}
 
@@ -49,10 +49,10 @@ pub record AreRaws (letters : Letters) (size length : ℕ) (raws : List RawExten
   pub apart : AllApart raws
 
 -- what is told of the node can be kept
-pub record CanKeep (letters : Letters) (size : ℕ) (kind : told_kind.Kind) : Type 0 where
+pub record CanKeep (letters : Letters) (size : ℕ) (kind : told_kind.NodeKind) : Type 0 where
   pub some_block : 1 ≤ size
   pub raws : (bytes : ℕ) (raws : List RawExtent) → kind ≡ told_kinds.File bytes raws → AreRaws letters size bytes raws
 
 -- a file lies as files of the volume do
-abbrev pub LiesWell : ℕ → Kind → Type 0
+abbrev pub LiesWell : ℕ → HeldKind → Type 0
 LiesWell size kind = (room : Room) → kind ≡ kinds.File room → IsFileOf size room.laid

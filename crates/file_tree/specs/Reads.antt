@@ -5,8 +5,8 @@ use Rattle.plain_tree.specs.declared.calls.Refusal.{Refusal}
 use Rattle.plain_tree.specs.declared.calls.Refusal.TheVariants as refusals
 use Rattle.plain_tree.specs.declared.calls.Sort.{Sort}
 use Rattle.plain_tree.specs.declared.calls.Sort.TheVariants as sorts
-use Rattle.file_tree.specs.declared.nodes.Kind.{Kind}
-use Rattle.file_tree.specs.declared.nodes.Kind.TheVariants as kinds
+use Rattle.file_tree.specs.declared.nodes.HeldKind.{HeldKind}
+use Rattle.file_tree.specs.declared.nodes.HeldKind.TheVariants as kinds
 use Rattle.file_tree.specs.declared.nodes.Node.{Node}
 use Rattle.file_tree.specs.declared.found.Found.{Found}
 use Rattle.file_tree.specs.declared.found.Found.TheVariants as founds
@@ -26,12 +26,12 @@ refusal_found founds.Missing = Some refusals.NotFound
 refusal_found founds.NotDir = Some refusals.NotDir
 
 -- what is found where a path goes on below such a node, under a name that isn't there
-abbrev pub lost_below : Kind → Found
+abbrev pub lost_below : HeldKind → Found
 lost_below kinds.Dir = founds.Missing
 lost_below (kinds.File room) = founds.NotDir
 lost_below (kinds.Link text) = founds.NotDir
 
-abbrev pub sort_in : Kind → Sort
+abbrev pub sort_in : HeldKind → Sort
 sort_in kinds.Dir = sorts.Dir
 sort_in (kinds.File room) = sorts.File
 sort_in (kinds.Link text) = sorts.Link

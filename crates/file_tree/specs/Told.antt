@@ -6,14 +6,14 @@ use Rattle.tape_types.specs.declared.cartridges.Part.{Part}
 use Rattle.tape_types.specs.declared.cartridges.Part.TheVariants as parts
 use Rattle.node_keys.specs.Keys.{list_of}
 use Rattle.index_model.specs.declared.nodes.Node as told
-use Rattle.index_model.specs.declared.nodes.Kind as told_kind
-use Rattle.index_model.specs.declared.nodes.Kind.TheVariants as told_kinds
+use Rattle.index_model.specs.declared.nodes.NodeKind as told_kind
+use Rattle.index_model.specs.declared.nodes.NodeKind.TheVariants as told_kinds
 use Rattle.index_model.specs.declared.nodes.RawExtent.{RawExtent}
 use Rattle.index_model.specs.Places.{IsAt}
 use Rattle.plain_tree.specs.Paths.{same_path, parent_of, last_name}
 use Rattle.file_tree.specs.declared.nodes.Node.{Node}
-use Rattle.file_tree.specs.declared.nodes.Kind.{Kind}
-use Rattle.file_tree.specs.declared.nodes.Kind.TheVariants as kinds
+use Rattle.file_tree.specs.declared.nodes.HeldKind.{HeldKind}
+use Rattle.file_tree.specs.declared.nodes.HeldKind.TheVariants as kinds
 use Rattle.file_tree.specs.Tree.{Nodes, FileTree, number_at}
 use Rattle.file_tree.specs.Mounts.{Letters}
 use Rattle.plain_tree.specs.Paths.{Path}
@@ -34,7 +34,7 @@ raw_of letters e = record {
 }
 
 -- what is told of what a node is: of a file its length and its extents
-abbrev pub told_kind_of : Letters → Kind → told_kind.Kind
+abbrev pub told_kind_of : Letters → HeldKind → told_kind.NodeKind
 told_kind_of letters kinds.Dir = told_kinds.Dir
 told_kind_of letters (kinds.File room) = told_kinds.File room.laid.length (map (raw_of letters) room.laid.extents)
 told_kind_of letters (kinds.Link text) = told_kinds.Link text

@@ -11,8 +11,8 @@ use Rattle.plain_tree.specs.Tree as plain
 use Rattle.extent_map.specs.Laid.{Laid, Room}
 use Rattle.extent_map.specs.Cells.{Tape, file_cells}
 use Rattle.file_tree.specs.declared.nodes.Node.{Node}
-use Rattle.file_tree.specs.declared.nodes.Kind.{Kind}
-use Rattle.file_tree.specs.declared.nodes.Kind.TheVariants as kinds
+use Rattle.file_tree.specs.declared.nodes.HeldKind.{HeldKind}
+use Rattle.file_tree.specs.declared.nodes.HeldKind.TheVariants as kinds
 use Rattle.plain_tree.specs.Paths.{Path}
 
 -- what stands at each path
@@ -59,7 +59,7 @@ pub record HasLaid (nodes : Nodes) (number : ℕ) (laid : Laid) : Type 0 where
   pub lies : room.laid ≡ laid
 
 -- what a node is, with the bytes of a file
-abbrev pub plain_kind_of : Tape → Kind → plain_kind.Kind
+abbrev pub plain_kind_of : Tape → HeldKind → plain_kind.Kind
 plain_kind_of tape kinds.Dir = plain_kinds.Dir
 plain_kind_of tape (kinds.File room) = plain_kinds.File (file_cells tape room.laid)
 plain_kind_of tape (kinds.Link text) = plain_kinds.Link text

@@ -9,7 +9,7 @@ use Rattle.plain_tree.specs.Valid.{IsValid}
 use Rattle.extent_map.specs.Laid.{Laid, Room, IsLaid}
 use Rattle.extent_map.specs.Cells.{Tape}
 use Rattle.file_tree.specs.declared.nodes.Node.{Node}
-use Rattle.file_tree.specs.declared.nodes.Kind.TheVariants as kinds
+use Rattle.file_tree.specs.declared.nodes.HeldKind.TheVariants as kinds
 use Rattle.plain_tree.specs.Paths.{Name, Path}
 use Rattle.file_tree.specs.Tree.{Nodes, FileTree, number_at, plain_of}
 use Rattle.file_tree.specs.Blocks.{TreeStandsIn}

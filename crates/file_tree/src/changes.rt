@@ -3,7 +3,7 @@ ghost use Rattle.tape_types.specs.Bounds.{longest_file};
 ghost use Rattle.extent_map.specs.Laid.{IsLaid, resized, overlaid};
 ghost use Rattle.file_tree.specs.Changes.{touched, IsChangedBy, CanChange, IsRelaid, IsRoomier, HasRoom};
 
-use crate::nodes::{Kind, Node};
+use crate::nodes::{HeldKind, Node};
 use tape_types::{Extent, Moment, NoMemory};
 
 /// A change of a node that takes no memory.
@@ -44,7 +44,7 @@ fn resize_node(node: &mut Node, length: u64, at: Moment)
     ensures changed { IsRelaid (λ laid. resized laid length) at node.old node.new }
     ensures number { node.new.number ≡ node.old.number }
 {
-    if let Kind::File(extents) = &mut node.kind {
+    if let HeldKind::File(extents) = &mut node.kind {
         extents.set_length(length);
         touch_node(node, at);
     }
@@ -55,7 +55,7 @@ fn overlay_node(node: &mut Node, new: Extent, at: Moment)
     ensures changed { IsRelaid (λ laid. overlaid laid new) at node.old node.new }
     ensures number { node.new.number ≡ node.old.number }
 {
-    if let Kind::File(extents) = &mut node.kind {
+    if let HeldKind::File(extents) = &mut node.kind {
         extents.overlay(new);
         touch_node(node, at);
     }
@@ -68,7 +68,7 @@ pub fn reserve_node(node: &mut Node) -> Result<(), NoMemory>
     ensures number { node.new.number ≡ node.old.number }
 {
     match &mut node.kind {
-        Kind::File(extents) => extents.reserve(),
-        Kind::Dir | Kind::Link(_) => Ok(()),
+        HeldKind::File(extents) => extents.reserve(),
+        HeldKind::Dir | HeldKind::Link(_) => Ok(()),
     }
 }

@@ -4,7 +4,7 @@ ghost use Rattle.extent_map.specs.Cells.{Tape};
 ghost use Rattle.file_tree.specs.Tree.{plain_node_of, plain_kind_of};
 ghost use Rattle.file_tree.specs.Reads.{lost_below as what_is_lost, sort_in};
 
-use crate::nodes::{Kind, Node};
+use crate::nodes::{HeldKind, Node};
 use plain_tree::{Facts, Sort};
 use std::alloc::Global;
 use tape_types::{NoMemory, Text};
@@ -21,22 +21,22 @@ pub enum Found {
 }
 
 /// What is found where a path goes on below a node, under a name that isn't there.
-pub fn lost_below(kind: &Kind) -> Found
+pub fn lost_below(kind: &HeldKind) -> Found
     ensures { result ≡ what_is_lost kind.now }
 {
     match kind {
-        Kind::Dir => Found::Missing,
-        Kind::File(_) | Kind::Link(_) => Found::NotDir,
+        HeldKind::Dir => Found::Missing,
+        HeldKind::File(_) | HeldKind::Link(_) => Found::NotDir,
     }
 }
 
-pub fn sort_of(kind: &Kind) -> Sort
+pub fn sort_of(kind: &HeldKind) -> Sort
     ensures { result ≡ sort_in kind.now }
 {
     match kind {
-        Kind::Dir => Sort::Dir,
-        Kind::File(_) => Sort::File,
-        Kind::Link(_) => Sort::Link,
+        HeldKind::Dir => Sort::Dir,
+        HeldKind::File(_) => Sort::File,
+        HeldKind::Link(_) => Sort::Link,
     }
 }
 
@@ -54,21 +54,21 @@ pub fn facts_of(alloc: Global, node: &Node) -> Result<Facts, NoMemory>
 }
 
 /// The length of a file, in bytes, and 0 of another node.
-fn length_of(kind: &Kind) -> u64
+fn length_of(kind: &HeldKind) -> u64
     ensures { (tape : Tape) → result ≡ length (cells_of_kind (plain_kind_of tape kind.now)) }
 {
     match kind {
-        Kind::File(extents) => extents.length(),
-        Kind::Dir | Kind::Link(_) => 0,
+        HeldKind::File(extents) => extents.length(),
+        HeldKind::Dir | HeldKind::Link(_) => 0,
     }
 }
 
 /// The text of a link, and none of another node.
-fn text_of(alloc: Global, kind: &Kind) -> Result<Text, NoMemory>
+fn text_of(alloc: Global, kind: &HeldKind) -> Result<Text, NoMemory>
     ensures { IfOk result (λ text. (tape : Tape) → text ≡ text_of_kind (plain_kind_of tape kind.now)) }
 {
     match kind {
-        Kind::Link(text) => text.try_clone(alloc),
-        Kind::Dir | Kind::File(_) => Ok(Text::from_string(String::new(alloc))),
+        HeldKind::Link(text) => text.try_clone(alloc),
+        HeldKind::Dir | HeldKind::File(_) => Ok(Text::from_string(String::new(alloc))),
     }
 }

@@ -4,11 +4,11 @@ ghost use Rattle.file_tree.specs.Raws.{CanKeep, LiesWell};
 ghost use Rattle.file_tree.specs.Valid.{AreFilesOf};
 ghost use Rattle.node_keys.specs.Keys.{AreKeysApart};
 
-use crate::nodes::{Kind, Node};
+use crate::nodes::{HeldKind, Node};
 use crate::places::Places;
 use crate::raws::{Letters, extents_from};
 use crate::store::Store;
-use index_model::{Kind as ToldKind, Node as ToldNode};
+use index_model::{Node as ToldNode, NodeKind as ToldKind};
 use node_keys::Keys;
 use std::alloc::Global;
 use tape_types::NoMemory;
@@ -102,17 +102,17 @@ fn kind_from(
     told: &ToldKind,
     letters: Letters,
     block_size: u32,
-) -> Result<Kind, NoMemory>
+) -> Result<HeldKind, NoMemory>
     requires { CanKeep letters block_size told.now }
     ensures kind { IfOk result (λ kind. IsKindOf letters block_size told.now kind) }
     ensures files { IfOk result (λ kind. LiesWell block_size kind) }
 {
     match told {
-        ToldKind::Dir => Ok(Kind::Dir),
+        ToldKind::Dir => Ok(HeldKind::Dir),
         ToldKind::File { length, extents } => {
             let extents = extents_from(alloc, extents.as_slice(), *length, letters, block_size)?;
-            Ok(Kind::File(extents))
+            Ok(HeldKind::File(extents))
         }
-        ToldKind::Link { text } => Ok(Kind::Link(text.try_clone(alloc)?)),
+        ToldKind::Link { text } => Ok(HeldKind::Link(text.try_clone(alloc)?)),
     }
 }

@@ -11,12 +11,12 @@ pub struct Node {
     pub times: Times,
     pub readonly: bool,
     pub keys: Keys,
-    pub kind: Kind,
+    pub kind: HeldKind,
 }
 
 /// What a node is, with what it holds.
 #[derive(Drop)]
-pub enum Kind {
+pub enum HeldKind {
     Dir,
     File(Extents),
     Link(Text),

@@ -4,9 +4,9 @@ ghost use Rattle.index_model.specs.Places.{IsAt};
 ghost use Rattle.file_tree.specs.Told.{letter_of as told_letter, raw_of as told_raw, told_kind_of, told_node_of};
 ghost use Rattle.file_tree.specs.Told.{AreApart};
 
-use crate::nodes::{Kind, Node};
+use crate::nodes::{HeldKind, Node};
 use crate::raws::Letters;
-use index_model::{Kind as ToldKind, Node as ToldNode, RawExtent};
+use index_model::{Node as ToldNode, NodeKind as ToldKind, RawExtent};
 use node_keys::Xattr;
 use std::alloc::Global;
 use tape_types::{Extent, List, NoMemory, Part, Text};
@@ -59,16 +59,16 @@ fn copies(alloc: Global, xattrs: &[Xattr]) -> Result<List<Xattr>, NoMemory>
     Ok(copies)
 }
 
-fn told_kind(alloc: Global, kind: &Kind, letters: Letters) -> Result<ToldKind, NoMemory>
+fn told_kind(alloc: Global, kind: &HeldKind, letters: Letters) -> Result<ToldKind, NoMemory>
     ensures { IfOk result (λ told. told ≡ told_kind_of letters kind.now) }
 {
     match kind {
-        Kind::Dir => Ok(ToldKind::Dir),
-        Kind::File(extents) => Ok(ToldKind::File {
+        HeldKind::Dir => Ok(ToldKind::Dir),
+        HeldKind::File(extents) => Ok(ToldKind::File {
             length: extents.length(),
             extents: raws_of(alloc, extents.as_slice(), letters)?,
         }),
-        Kind::Link(text) => Ok(ToldKind::Link {
+        HeldKind::Link(text) => Ok(ToldKind::Link {
             text: text.try_clone(alloc)?,
         }),
     }

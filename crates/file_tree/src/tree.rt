@@ -9,7 +9,7 @@ use crate::carried::{Carried, Heading};
 use crate::changes::NodeChange;
 use crate::found::{Found, facts_of, lost_below, sort_of};
 use crate::mount::place_nodes;
-use crate::nodes::{Kind, Node};
+use crate::nodes::{HeldKind, Node};
 use crate::places::Places;
 use crate::raws::Letters;
 use extent_map::Extents;
@@ -304,8 +304,8 @@ impl Tree {
         ensures laid { IsFileOf self.now.block_size result.now.laid }
     {
         match &self.places.node(file).kind {
-            Kind::File(extents) => extents,
-            Kind::Dir | Kind::Link(_) => unreachable!(),
+            HeldKind::File(extents) => extents,
+            HeldKind::Dir | HeldKind::Link(_) => unreachable!(),
         }
     }
 
@@ -365,24 +365,24 @@ fn length_of(places: &Places, file: u32) -> u64
     ensures { (path : Path) → number_at places.now.nodes path ≡ Some file → IsLongAt places.now.nodes path result }
 {
     match &places.node(file).kind {
-        Kind::File(extents) => extents.length(),
-        Kind::Dir | Kind::Link(_) => unreachable!(),
+        HeldKind::File(extents) => extents.length(),
+        HeldKind::Dir | HeldKind::Link(_) => unreachable!(),
     }
 }
 
 /// What a new node is. Takes no memory.
-fn new_kind(alloc: Global, sort: Sort, block_size: u32) -> Kind
+fn new_kind(alloc: Global, sort: Sort, block_size: u32) -> HeldKind
     requires { 1 ≤ block_size }
     ensures { IsNewKind block_size sort result }
 {
     match sort {
-        Sort::Dir | Sort::Link => Kind::Dir,
-        Sort::File => Kind::File(Extents::new(alloc, block_size)),
+        Sort::Dir | Sort::Link => HeldKind::Dir,
+        Sort::File => HeldKind::File(Extents::new(alloc, block_size)),
     }
 }
 
 /// A node without attributes. Takes no memory.
-fn new_node(alloc: Global, uid: u64, kind: Kind, at: Moment) -> Node
+fn new_node(alloc: Global, uid: u64, kind: HeldKind, at: Moment) -> Node
     ensures { result ≡ made_node uid kind at }
 {
     Node {

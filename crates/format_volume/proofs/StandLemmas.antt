@@ -10,7 +10,7 @@ use Rattle.file_tree.specs.Edits.{made_node}
 use Rattle.file_tree.specs.Mounts as mounts
 use Rattle.file_tree.specs.Tree.{FileTree, plain_nodes}
 use Rattle.file_tree.specs.declared.nodes.Node as kept
-use Rattle.file_tree.specs.declared.nodes.Kind.TheVariants as kept_kinds
+use Rattle.file_tree.specs.declared.nodes.HeldKind.TheVariants as kept_kinds
 use Rattle.file_tree.proofs.MountLemmas.{first_built}
 use Rattle.file_tree.proofs.PathLemmas.{same_nodes}
 use Rattle.file_tree.proofs.PlainLemmas.{plain_insert, plain_none}

@@ -19,7 +19,7 @@ use Rattle.index_model.specs.Uids.{AreUids}
 use Rattle.index_model.specs.Valid.{IsPolicy, IsSpot, IsValid}
 use Rattle.std.proofs.lemmas.Option.{none-some}
 use Rattle.index_model.specs.declared.indexes.Policy.{Policy}
-use Rattle.index_model.specs.declared.nodes.Kind.TheVariants as kinds
+use Rattle.index_model.specs.declared.nodes.NodeKind.TheVariants as kinds
 use Rattle.index_model.specs.declared.nodes.Node.{Node}
 use Rattle.index_model.specs.declared.nodes.RawExtent.{RawExtent}
 use Rattle.tape_types.specs.Bounds.{longest_file, longest_name}

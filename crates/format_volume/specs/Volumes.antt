@@ -20,7 +20,7 @@ use Rattle.index_model.specs.Values.{IndexValue, facts_of, no_nodes, volume_of}
 use Rattle.index_model.specs.declared.indexes.Index.{Index}
 use Rattle.index_model.specs.declared.indexes.Spot.{Spot}
 use Rattle.index_model.specs.declared.nodes.Node.{Node}
-use Rattle.index_model.specs.declared.nodes.Kind.TheVariants as kinds
+use Rattle.index_model.specs.declared.nodes.NodeKind.TheVariants as kinds
 use Rattle.ltfs_label.specs.Canonical as label_text
 use Rattle.ltfs_label.specs.Values.{label_of}
 use Rattle.ltfs_label.specs.declared.Label.{Label}

@@ -13,7 +13,7 @@ ghost use Rattle.format_volume.specs.Volumes.{back_on, creator, document_on, fir
 ghost use Rattle.format_volume.specs.Volumes.{label_on, letter, record_for, root_of};
 
 use crate::requests::FormatSpec;
-use index_model::{Index, Kind, Node, Policy, Spot, TextList};
+use index_model::{Index, Node, NodeKind, Policy, Spot, TextList};
 use index_write::index_text;
 use ltfs_label::{Label, write_label};
 use std::alloc::Global;
@@ -160,7 +160,7 @@ fn root_of(alloc: Global, spec: &FormatSpec) -> Result<Node, NoMemory>
         times: Times::all_at(spec.at),
         readonly: false,
         xattrs: List::new(alloc),
-        kind: Kind::Dir,
+        kind: NodeKind::Dir,
     })
 }
 

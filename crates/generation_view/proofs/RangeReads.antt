@@ -30,8 +30,8 @@ use Rattle.plain_tree.specs.declared.calls.Refusal.{Refusal}
 use Rattle.plain_tree.specs.declared.calls.Refusal.TheVariants.{Damaged}
 use Rattle.file_tree.specs.Blocks.{Ends, LiesBelow}
 use Rattle.file_tree.specs.Tree.{FileTree, HasExtents, StandsAt, plain_kind_of, plain_of, whole}
-use Rattle.file_tree.specs.declared.nodes.Kind.{Kind}
-use Rattle.file_tree.specs.declared.nodes.Kind.TheVariants as kinds
+use Rattle.file_tree.specs.declared.nodes.HeldKind.{HeldKind}
+use Rattle.file_tree.specs.declared.nodes.HeldKind.TheVariants as kinds
 use Rattle.file_tree.specs.declared.nodes.Node.{Node}
 use Rattle.file_tree.specs.Checks.{IsChecked}
 use Rattle.file_tree.specs.Valid.{IsFileOf, IsGood}
@@ -232,7 +232,7 @@ planned_few f count laid =
 pub blocks_few : (t : FileTree) (path : Path) (count : ℕ) → IsGood t → length (blocks_read t path 0 count) ≤ count
 blocks_few t path count good = by_node (fin.get t.nodes path) refl
   where
-    by_kind : (node : Node) → fin.get t.nodes path ≡ Some node → (kind : Kind) → node.kind ≡ kind → length (blocks_of_kind 0 count kind) ≤ count
+    by_kind : (node : Node) → fin.get t.nodes path ≡ Some node → (kind : HeldKind) → node.kind ≡ kind → length (blocks_of_kind 0 count kind) ≤ count
     by_kind node here kinds.Dir is = omega arith
     by_kind node here (kinds.Link text) is = omega arith
     by_kind node here (kinds.File room) is = planned_few room.laid count (good.files path node room here is).lies

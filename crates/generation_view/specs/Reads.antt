@@ -20,15 +20,15 @@ use Rattle.extent_map.specs.declared.pieces.Piece.{Piece}
 use Rattle.file_tree.specs.Blocks.{Ends}
 use Rattle.file_tree.specs.Tree.{FileTree, HasExtents}
 use Rattle.file_tree.specs.Valid.{IsFileOf, IsGood}
-use Rattle.file_tree.specs.declared.nodes.Kind.{Kind}
-use Rattle.file_tree.specs.declared.nodes.Kind.TheVariants as kinds
+use Rattle.file_tree.specs.declared.nodes.HeldKind.{HeldKind}
+use Rattle.file_tree.specs.declared.nodes.HeldKind.TheVariants as kinds
 use Rattle.file_tree.specs.declared.nodes.Node.{Node}
 use Rattle.waiting_reads.specs.Gathering.{Gathering, IsGathering}
 use Rattle.generation_view.specs.declared.errors.ReadErr.{ReadErr}
 use Rattle.generation_view.specs.declared.errors.ReadErr.TheVariants as errors
 
 -- the places of the blocks in which a range of a file stands, up to its end, each once; none where there is no file
-abbrev pub blocks_of_kind : (offset count : ℕ) → Kind → List Place
+abbrev pub blocks_of_kind : (offset count : ℕ) → HeldKind → List Place
 blocks_of_kind offset count kinds.Dir = []
 blocks_of_kind offset count (kinds.File room) =
     places_in (planned room.laid offset (min count (room.laid.length - offset)))

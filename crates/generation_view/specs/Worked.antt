@@ -8,7 +8,7 @@ use Rattle.plain_tree.specs.Tree.{times_at}
 use Rattle.index_model.specs.Grammar.{IndexText}
 use Rattle.index_model.specs.declared.indexes.Index.{Index}
 use Rattle.index_model.specs.declared.nodes.Node.{Node}
-use Rattle.index_model.specs.declared.nodes.Kind.TheVariants.{File}
+use Rattle.index_model.specs.declared.nodes.NodeKind.TheVariants.{File}
 use Rattle.content_laws.specs.Worked.{block, first_index, second_index, synced_dp}
 use Rattle.content_laws.specs.Readings.{Construct}
 use Rattle.cartridge_meaning.specs.Meaning.{Found}

@@ -6,7 +6,7 @@ use Rattle.tape_types.specs.declared.cartridges.Part.{Part}
 use Rattle.tape_types.specs.declared.cartridges.Part.TheVariants.{Ip, Dp}
 use Rattle.tape_types.specs.declared.cartridges.Place.{Place}
 use Rattle.tape_types.specs.Cartridges.{other}
-use Rattle.head_queue.specs.declared.entries.Entry.{Entry}
+use Rattle.head_queue.specs.declared.entries.QueueEntry.{QueueEntry}
 use Rattle.head_queue.specs.Cuts.{first_of}
 use Rattle.head_queue.specs.Waiting.{Waiting}
 use Rattle.event_laws.specs.Waiting.{as_number, same_part}
@@ -29,7 +29,7 @@ zip P Q R f (w ∷ ws) h g = (f w h.0 g.0, zip P Q R f ws h.1 g.1)
 
 -- ---- where a walk ends
 
-pub walked_some : (es : List (Option Entry)) (members : List ℕ) (m at next : ℕ) (e : Entry) → (w : IsWalked es m members at) → next ≡ first_of 0 w.passed.cut.behind
+pub walked_some : (es : List (Option QueueEntry)) (members : List ℕ) (m at next : ℕ) (e : QueueEntry) → (w : IsWalked es m members at) → next ≡ first_of 0 w.passed.cut.behind
     → entry_at es next ≡ Some e → IsFirst (map (waiting_at es) members) m (waiting next (Some e))
 walked_some es members m at next e w next_is is = by w.passed.cut.behind w.passed.cut.parts next_is w.ends
   where
@@ -45,7 +45,7 @@ walked_some es members m at next e w next_is is = by w.passed.cut.behind w.passe
           upto = subst (λ (v : Waiting). m ≤ rank v) same ends;
         }
 
-pub walked_none : (es : List (Option Entry)) (members : List ℕ) (size m at next : ℕ) (part : Part) → AreKept es members size → (w : IsWalked es m members at) → next ≡ first_of 0 w.passed.cut.behind
+pub walked_none : (es : List (Option QueueEntry)) (members : List ℕ) (size m at next : ℕ) (part : Part) → AreKept es members size → (w : IsWalked es m members at) → next ≡ first_of 0 w.passed.cut.behind
     → entry_at es next ≡ None → AllByRecursion (λ v. v.place.part ≡ part → rank v < m) (map (waiting_at es) members)
 walked_none es members size m at next part kept w next_is is = by w.passed.cut.behind w.passed.cut.parts next_is
   where
@@ -207,24 +207,24 @@ no_part (w ∷ ws) part h g = absurd (by part w.place.part h.0 g.0)
 
 -- ---- what the two searches answer
 
-pub second_least : (ws : List Waiting) (part : Part) (pos : ℕ) (r : Option (ℕ × Entry)) → AreOrdered ws
+pub second_least : (ws : List Waiting) (part : Part) (pos : ℕ) (r : Option (ℕ × QueueEntry)) → AreOrdered ws
     → IfSome r (λ p. IsFirst ws (rank_of (record { part = part; pos = 0 }) 0) (waiting p.0 (Some p.1))) → IfSome r (λ p. p.1.place.part ≡ part)
     → AllByRecursion (λ v. v.place.part ≡ part → rank v < rank_of (record { part = part; pos = pos }) 0) ws
     → IfSome r (λ p. AllByRecursion (λ v. v.place.part ≡ part → comes_first pos (waiting p.0 (Some p.1)) v ≡ true) ws)
 second_least ws part pos None ordered first is behind = tt
 second_least ws part pos (Some p) ordered first is behind = round ws part pos (waiting p.0 (Some p.1)) ordered first is behind
 
-pub second_none : (ws : List Waiting) (part : Part) (r : Option (ℕ × Entry)) → IfNone r (AllByRecursion (λ v. v.place.part ≡ part → rank v < rank_of (record { part = part; pos = 0 }) 0) ws)
+pub second_none : (ws : List Waiting) (part : Part) (r : Option (ℕ × QueueEntry)) → IfNone r (AllByRecursion (λ v. v.place.part ≡ part → rank v < rank_of (record { part = part; pos = 0 }) 0) ws)
     → IfNone r (AllByRecursion (λ v. v.place.part ≢ part) ws)
 second_none ws part None h = none_of ws part h
 second_none ws part (Some p) h = tt
 
-pub far_least : (ws : List Waiting) (head : Place) (r : Option (ℕ × Entry)) → AllByRecursion (λ v. v.place.part ≢ head.part) ws → IfSome r (λ p. p.1.place.part ≡ other head.part)
+pub far_least : (ws : List Waiting) (head : Place) (r : Option (ℕ × QueueEntry)) → AllByRecursion (λ v. v.place.part ≢ head.part) ws → IfSome r (λ p. p.1.place.part ≡ other head.part)
     → IfSome r (λ p. AllByRecursion (λ v. v.place.part ≡ other head.part → comes_first head.pos (waiting p.0 (Some p.1)) v ≡ true) ws)
     → IfSome r (λ p. AllByRecursion (λ v. stands_in head (waiting p.0 (Some p.1)) v ≡ true) ws)
 far_least ws head None none is h = tt
 far_least ws head (Some p) none is h = part_second ws head (waiting p.0 (Some p.1)) is none h
 
-pub far_none : (ws : List Waiting) (part : Part) (r : Option (ℕ × Entry)) → AllByRecursion (λ v. v.place.part ≢ part) ws → IfNone r (AllByRecursion (λ v. v.place.part ≢ other part) ws) → IfNone r (ws ≡ [])
+pub far_none : (ws : List Waiting) (part : Part) (r : Option (ℕ × QueueEntry)) → AllByRecursion (λ v. v.place.part ≢ part) ws → IfNone r (AllByRecursion (λ v. v.place.part ≢ other part) ws) → IfNone r (ws ≡ [])
 far_none ws part None h g = no_part ws part h g
 far_none ws part (Some p) h g = tt

@@ -2,7 +2,7 @@
 use Rattle.std.proofs.Common.{◌≡◌, ◌≢◌, ℕ, zero, suc, ◌+◌, ◌*◌, ◌^◌, ◌<◌, ◌≤◌, Bool, true, false, cond, nat_eq, List, [], ◌∷◌, ◌++◌, length, get_or, map, Option, Some, None, IsSome, refl, ap, sym, subst, ◌∙◌, arith, inl, inr, ◌⊎◌}
 use Rattle.std.proofs.lemmas.Bool.{eq-eqb, eqb-true}
 use Rattle.std.specs.List.{AllByRecursion}
-use Rattle.head_queue.specs.declared.entries.Entry.{Entry}
+use Rattle.head_queue.specs.declared.entries.QueueEntry.{QueueEntry}
 use Rattle.head_queue.specs.Cuts.{Misses, Differ, IsCut, IsMember}
 use Rattle.head_queue.specs.Waiting.{Waiting}
 use Rattle.head_queue.specs.Orders.{IsIn, HasNode}
@@ -23,7 +23,7 @@ pub nodes_both : (xs ys : List Waiting) → map (λ (w : Waiting). w.node) (xs +
 nodes_both [] ys = refl
 nodes_both (x ∷ xs) ys = ap (λ (ks : List ℕ). x.node ∷ ks) (nodes_both xs ys)
 
-pub nodes_are : (es : List (Option Entry)) (ks : List ℕ) → map (λ (w : Waiting). w.node) (map (waiting_at es) ks) ≡ ks
+pub nodes_are : (es : List (Option QueueEntry)) (ks : List ℕ) → map (λ (w : Waiting). w.node) (map (waiting_at es) ks) ≡ ks
 nodes_are es [] = refl
 nodes_are es (k ∷ ks) = ap (λ (ns : List ℕ). k ∷ ns) (nodes_are es ks)
 
@@ -71,7 +71,7 @@ pub later : (v : Waiting) (w : Waiting) → IsFit v → IsFit w → v.arrival < 
 later v w fv fw lt le = past (part_number w.place.part * 2 ^ 64 + w.place.pos) (part_number v.place.part * 2 ^ 64 + v.place.pos) w.arrival v.arrival (rank w) (rank v) refl refl fw.arrival fv.arrival lt le
 
 -- all that follow the first one past a rank are past it
-above : (es : List (Option Entry)) (w : Waiting) (ks : List ℕ) → IsFit w → AllByRecursion IsFit (map (waiting_at es) ks) → AllByRecursion (λ v. v.arrival < w.arrival) (map (waiting_at es) ks)
+above : (es : List (Option QueueEntry)) (w : Waiting) (ks : List ℕ) → IsFit w → AllByRecursion IsFit (map (waiting_at es) ks) → AllByRecursion (λ v. v.arrival < w.arrival) (map (waiting_at es) ks)
     → Rising (map (waiting_at es) ks) → IsNoneBefore es (rank w) ks → AllByRecursion (λ v. rank w < rank v) (map (waiting_at es) ks)
 above es w [] fw fit late rising h = tt
 above es w (k ∷ ks) fw fit late rising h =
@@ -85,39 +85,39 @@ above es w (k ∷ ks) fw fit late rising h =
 -- ---- entries that change at one number
 
 -- at n the one has e, and all else is alike
-abbrev pub Changed : List (Option Entry) → List (Option Entry) → ℕ → Option Entry → Type 0
+abbrev pub Changed : List (Option QueueEntry) → List (Option QueueEntry) → ℕ → Option QueueEntry → Type 0
 Changed es fs n e = (k : ℕ) → entry_at fs k ≡ cond (nat_eq k n) e (entry_at es k)
 
-changed_here : (es fs : List (Option Entry)) (n : ℕ) (e : Option Entry) → Changed es fs n e → entry_at fs n ≡ e
+changed_here : (es fs : List (Option QueueEntry)) (n : ℕ) (e : Option QueueEntry) → Changed es fs n e → entry_at fs n ≡ e
 changed_here es fs n e h = h n ∙ ap (λ (b : Bool). cond b e (entry_at es n)) (eq-eqb n n refl)
 
-changed_not : (es fs : List (Option Entry)) (n : ℕ) (e : Option Entry) → Changed es fs n e → (k : ℕ) → k ≢ n → entry_at fs k ≡ entry_at es k
+changed_not : (es fs : List (Option QueueEntry)) (n : ℕ) (e : Option QueueEntry) → Changed es fs n e → (k : ℕ) → k ≢ n → entry_at fs k ≡ entry_at es k
 changed_not es fs n e h k ne = h k ∙ elim (nat_eq k n) as (λ b. nat_eq k n ≡ b → cond b e (entry_at es k) ≡ entry_at es k) [
   | true ↦ λ same. absurd (ne (eqb-true k n same))
   | false ↦ λ other. refl
 ] refl
 
-pub same_map : (es fs : List (Option Entry)) (n : ℕ) (e : Option Entry) → Changed es fs n e → (ks : List ℕ) → Misses n ks → map (waiting_at fs) ks ≡ map (waiting_at es) ks
+pub same_map : (es fs : List (Option QueueEntry)) (n : ℕ) (e : Option QueueEntry) → Changed es fs n e → (ks : List ℕ) → Misses n ks → map (waiting_at fs) ks ≡ map (waiting_at es) ks
 same_map es fs n e h [] m = refl
 same_map es fs n e h (k ∷ ks) m =
-    ap (λ (o : Option Entry). waiting k o ∷ map (waiting_at fs) ks) (changed_not es fs n e h k (λ q. m.0 (sym q)))
+    ap (λ (o : Option QueueEntry). waiting k o ∷ map (waiting_at fs) ks) (changed_not es fs n e h k (λ q. m.0 (sym q)))
     ∙ ap (λ (ws : List Waiting). waiting_at es k ∷ ws) (same_map es fs n e h ks m.1)
 
-same_filled : (es fs : List (Option Entry)) (n : ℕ) (e : Option Entry) → Changed es fs n e → (ks : List ℕ) → Misses n ks → AllByRecursion (λ k. IsSome (entry_at es k)) ks → AllByRecursion (λ k. IsSome (entry_at fs k)) ks
+same_filled : (es fs : List (Option QueueEntry)) (n : ℕ) (e : Option QueueEntry) → Changed es fs n e → (ks : List ℕ) → Misses n ks → AllByRecursion (λ k. IsSome (entry_at es k)) ks → AllByRecursion (λ k. IsSome (entry_at fs k)) ks
 same_filled es fs n e h [] m g = tt
 same_filled es fs n e h (k ∷ ks) m g = (subst IsSome (sym (changed_not es fs n e h k (λ q. m.0 (sym q)))) g.0, same_filled es fs n e h ks m.1 g.1)
 
 -- what the order is after a request was put in
-pub order_more : (es fs : List (Option Entry)) (n : ℕ) (e : Option Entry) (members : List ℕ) (at : ℕ) → Changed es fs n e → (c : IsCut members at) → Misses n members
+pub order_more : (es fs : List (Option QueueEntry)) (n : ℕ) (e : Option QueueEntry) (members : List ℕ) (at : ℕ) → Changed es fs n e → (c : IsCut members at) → Misses n members
     → map (waiting_at fs) (c.front ++ n ∷ c.behind) ≡ map (waiting_at es) c.front ++ waiting n e ∷ map (waiting_at es) c.behind
 order_more es fs n e members at h c m =
     let misses : Misses n (c.front ++ c.behind) = subst (Misses n) c.parts m in
     map_both (waiting_at fs) c.front (n ∷ c.behind)
     ∙ ap (λ (ws : List Waiting). ws ++ waiting_at fs n ∷ map (waiting_at fs) c.behind) (same_map es fs n e h c.front (misses_front n c.front c.behind misses))
     ∙ ap (λ (ws : List Waiting). map (waiting_at es) c.front ++ waiting_at fs n ∷ ws) (same_map es fs n e h c.behind (misses_behind n c.front c.behind misses))
-    ∙ ap (λ (o : Option Entry). map (waiting_at es) c.front ++ waiting n o ∷ map (waiting_at es) c.behind) (changed_here es fs n e h)
+    ∙ ap (λ (o : Option QueueEntry). map (waiting_at es) c.front ++ waiting n o ∷ map (waiting_at es) c.behind) (changed_here es fs n e h)
 
-pub kept_more : (es fs : List (Option Entry)) (n : ℕ) (e : Entry) (members : List ℕ) (size at : ℕ) → AreKept es members size → Changed es fs n (Some e)
+pub kept_more : (es fs : List (Option QueueEntry)) (n : ℕ) (e : QueueEntry) (members : List ℕ) (size at : ℕ) → AreKept es members size → Changed es fs n (Some e)
     → (w : IsWalked es (rank_of e.place e.arrival) members at) → Misses n (0 ∷ members) → IsFit (waiting n (Some e))
     → AllByRecursion (λ v. v.arrival < e.arrival) (map (waiting_at es) members) → length fs ≡ size
     → AreKept fs (w.passed.cut.front ++ n ∷ w.passed.cut.behind) size
@@ -152,12 +152,12 @@ kept_more es fs n e members size at kept h w m fit late wide =
     }
 
 -- what the order is after a request was taken out
-pub order_less : (es fs : List (Option Entry)) (n : ℕ) (members : List ℕ) → Differ members → Changed es fs n None → (w : IsMember members n)
+pub order_less : (es fs : List (Option QueueEntry)) (n : ℕ) (members : List ℕ) → Differ members → Changed es fs n None → (w : IsMember members n)
     → map (waiting_at fs) (w.front ++ w.behind) ≡ map (waiting_at es) w.front ++ map (waiting_at es) w.behind
 order_less es fs n members d h w =
     same_map es fs n None h (w.front ++ w.behind) (misses_here w.front w.behind n (subst Differ w.parts d)) ∙ map_both (waiting_at es) w.front w.behind
 
-pub kept_less : (es fs : List (Option Entry)) (n : ℕ) (members : List ℕ) (size : ℕ) → AreKept es members size → Changed es fs n None → (w : IsMember members n) → length fs ≡ size
+pub kept_less : (es fs : List (Option QueueEntry)) (n : ℕ) (members : List ℕ) (size : ℕ) → AreKept es members size → Changed es fs n None → (w : IsMember members n) → length fs ≡ size
     → AreKept fs (w.front ++ w.behind) size
 kept_less es fs n members size kept h w wide =
     let differ : Differ (0 ∷ (w.front ++ n ∷ w.behind)) = subst (λ (ns : List ℕ). Differ (0 ∷ ns)) w.parts kept.differ in
@@ -185,7 +185,7 @@ kept_less es fs n members size kept h w wide =
 
 -- ---- from the requests to their numbers
 
-abbrev pub member_of : (es : List (Option Entry)) (members : List ℕ) (n : ℕ) → (h : HasNode (map (waiting_at es) members) n) → IsMember members n
+abbrev pub member_of : (es : List (Option QueueEntry)) (members : List ℕ) (n : ℕ) → (h : HasNode (map (waiting_at es) members) n) → IsMember members n
 member_of es members n h = record {
   front = map (λ (w : Waiting). w.node) h.front;
   behind = map (λ (w : Waiting). w.node) h.behind;
@@ -193,16 +193,16 @@ member_of es members n h = record {
       ∙ ap (λ (k : ℕ). map (λ (w : Waiting). w.node) h.front ++ k ∷ map (λ (w : Waiting). w.node) h.behind) h.node;
 }
 
-told : (es : List (Option Entry)) (ks : List ℕ) → AllByRecursion (λ w. waiting_at es w.node ≡ w) (map (waiting_at es) ks)
+told : (es : List (Option QueueEntry)) (ks : List ℕ) → AllByRecursion (λ w. waiting_at es w.node ≡ w) (map (waiting_at es) ks)
 told es [] = tt
 told es (k ∷ ks) = (refl, told es ks)
 
-again : (es : List (Option Entry)) (ws : List Waiting) → AllByRecursion (λ w. waiting_at es w.node ≡ w) ws → map (waiting_at es) (map (λ (w : Waiting). w.node) ws) ≡ ws
+again : (es : List (Option QueueEntry)) (ws : List Waiting) → AllByRecursion (λ w. waiting_at es w.node ≡ w) ws → map (waiting_at es) (map (λ (w : Waiting). w.node) ws) ≡ ws
 again es [] h = refl
 again es (w ∷ ws) h = ap (λ (v : Waiting). v ∷ map (waiting_at es) (map (λ (w : Waiting). w.node) ws)) h.0 ∙ ap (λ (vs : List Waiting). w ∷ vs) (again es ws h.1)
 
 -- what is left of the requests is what stood before and behind
-pub order_left : (es fs : List (Option Entry)) (n : ℕ) (members : List ℕ) → Differ members → Changed es fs n None → (h : HasNode (map (waiting_at es) members) n)
+pub order_left : (es fs : List (Option QueueEntry)) (n : ℕ) (members : List ℕ) → Differ members → Changed es fs n None → (h : HasNode (map (waiting_at es) members) n)
     → map (waiting_at fs) ((member_of es members n h).front ++ (member_of es members n h).behind) ≡ h.front ++ h.behind
 order_left es fs n members d g h =
     let each : AllByRecursion (λ w. waiting_at es w.node ≡ w) (h.front ++ h.here ∷ h.behind) = subst (AllByRecursion (λ (w : Waiting). waiting_at es w.node ≡ w)) h.parts (told es members) in
@@ -211,16 +211,16 @@ order_left es fs n members d g h =
     ∙ ap (λ (ws : List Waiting). h.front ++ ws) (again es h.behind (w_behind (λ w. waiting_at es w.node ≡ w) h.front (h.here ∷ h.behind) each).1)
 
 -- no request has this number
-pub misses_node : (es : List (Option Entry)) (n : ℕ) (ks : List ℕ) → AllByRecursion (λ w. w.node ≢ n) (map (waiting_at es) ks) → Misses n ks
+pub misses_node : (es : List (Option QueueEntry)) (n : ℕ) (ks : List ℕ) → AllByRecursion (λ w. w.node ≢ n) (map (waiting_at es) ks) → Misses n ks
 misses_node es n [] h = tt
 misses_node es n (k ∷ ks) h = ((λ e. h.0 (sym e)), misses_node es n ks h.1)
 
-pub nodes_miss : (es : List (Option Entry)) (n : ℕ) (ks : List ℕ) → Misses n ks → AllByRecursion (λ w. w.node ≢ n) (map (waiting_at es) ks)
+pub nodes_miss : (es : List (Option QueueEntry)) (n : ℕ) (ks : List ℕ) → Misses n ks → AllByRecursion (λ w. w.node ≢ n) (map (waiting_at es) ks)
 nodes_miss es n [] h = tt
 nodes_miss es n (k ∷ ks) h = ((λ e. h.0 (sym e)), nodes_miss es n ks h.1)
 
 -- what waits under a number is one of the requests
-pub is_in : (es : List (Option Entry)) (members : List ℕ) (size n : ℕ) (e : Entry) → AreKept es members size → entry_at es n ≡ Some e → IsIn (map (waiting_at es) members) (waiting n (Some e))
+pub is_in : (es : List (Option QueueEntry)) (members : List ℕ) (size n : ℕ) (e : QueueEntry) → AreKept es members size → entry_at es n ≡ Some e → IsIn (map (waiting_at es) members) (waiting n (Some e))
 is_in es members size n e kept is = by (find n members)
   where
     by : Misses n members ⊎ IsMember members n → IsIn (map (waiting_at es) members) (waiting n (Some e))
@@ -229,10 +229,10 @@ is_in es members size n e kept is = by (find n members)
       front = map (waiting_at es) w.front;
       behind = map (waiting_at es) w.behind;
       parts = ap (map (waiting_at es)) w.parts ∙ map_both (waiting_at es) w.front (n ∷ w.behind)
-          ∙ ap (λ (o : Option Entry). map (waiting_at es) w.front ++ waiting n o ∷ map (waiting_at es) w.behind) is;
+          ∙ ap (λ (o : Option QueueEntry). map (waiting_at es) w.front ++ waiting n o ∷ map (waiting_at es) w.behind) is;
     }
 
-pub is_none : (es : List (Option Entry)) (members : List ℕ) (size n : ℕ) → AreKept es members size → entry_at es n ≡ None → AllByRecursion (λ w. w.node ≢ n) (map (waiting_at es) members)
+pub is_none : (es : List (Option QueueEntry)) (members : List ℕ) (size n : ℕ) → AreKept es members size → entry_at es n ≡ None → AllByRecursion (λ w. w.node ≢ n) (map (waiting_at es) members)
 is_none es members size n kept is = nodes_miss es n members (by (find n members))
   where
     by : Misses n members ⊎ IsMember members n → Misses n members
@@ -240,12 +240,12 @@ is_none es members size n kept is = nodes_miss es n members (by (find n members)
     by (inr w) = absurd (some_none (entry_at es n) is (all_behind (λ k. IsSome (entry_at es k)) w.front (n ∷ w.behind) (subst (AllByRecursion (λ k. IsSome (entry_at es k))) w.parts kept.filled)).0)
 
 -- a number under which something waits is one of those that there are
-within : (es : List (Option Entry)) (k : ℕ) → IsSome (get_or es k None) → k < length es
+within : (es : List (Option QueueEntry)) (k : ℕ) → IsSome (get_or es k None) → k < length es
 within [] k h = absurd (some_none None refl h)
 within (e ∷ es) zero h = omega arith
 within (e ∷ es) (suc k) h = let lt : k < length es = within es k h in omega arith
 
-pub member_fits : (es : List (Option Entry)) (members : List ℕ) (size n : ℕ) → AreKept es members size → IsMember members n → (1 ≤ n) × (n ≤ size)
+pub member_fits : (es : List (Option QueueEntry)) (members : List ℕ) (size n : ℕ) → AreKept es members size → IsMember members n → (1 ≤ n) × (n ≤ size)
 member_fits es members size n kept w = by n (all_behind (λ k. IsSome (entry_at es k)) w.front (n ∷ w.behind) (subst (AllByRecursion (λ k. IsSome (entry_at es k))) w.parts kept.filled)).0
   where
     by : (k : ℕ) → IsSome (entry_at es k) → (1 ≤ k) × (k ≤ size)

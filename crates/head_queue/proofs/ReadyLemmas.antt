@@ -4,7 +4,7 @@ use Rattle.std.proofs.lemmas.Bool.{eq-eqb, eqb-true}
 use Rattle.std.proofs.lemmas.List.Sums.{sum_by-cons}
 use Rattle.std.specs.List.{AllByRecursion, slice_index_or, list_any}
 use Rattle.head_queue.specs.declared.newest.Owned.{Owned}
-use Rattle.head_queue.specs.declared.entries.Entry.{Entry}
+use Rattle.head_queue.specs.declared.entries.QueueEntry.{QueueEntry}
 use Rattle.head_queue.specs.Cuts.{Misses, Differ}
 use Rattle.head_queue.specs.Entries.{waiting}
 use Rattle.head_queue.specs.Waiting.{Waiting}
@@ -197,11 +197,11 @@ ready_more order now size pairs after wide free left arrived capacity room w r t
     longer a b c d e f g h = omega arith
 
 -- what is told of a number that has a request
-pub record IsGiven (order : List Waiting) (pairs : List Owned) (n : ℕ) (e : Entry) : Type 0 where
+pub record IsGiven (order : List Waiting) (pairs : List Owned) (n : ℕ) (e : QueueEntry) : Type 0 where
   pub has : HasNode order n
   pub owner : owner_of n pairs ≡ Some e.owner
 
-pub given : (order : List Waiting) (size : ℕ) (pairs : List Owned) (wide : ℕ) (free : List ℕ) (arrived capacity n : ℕ) (e : Entry)
+pub given : (order : List Waiting) (size : ℕ) (pairs : List Owned) (wide : ℕ) (free : List ℕ) (arrived capacity n : ℕ) (e : QueueEntry)
     → AreReady order size pairs wide free arrived capacity → IsIn order (waiting n (Some e)) → IsGiven order pairs n e
 given order size pairs wide free arrived capacity n e r i =
     let differ : Differ (map node_of i.front ++ n ∷ map node_of i.behind) = subst Differ (ap (map node_of) i.parts ∙ nodes_both i.front (waiting n (Some e) ∷ i.behind)) (nodes_differ order size pairs wide free arrived capacity r) in

@@ -2,7 +2,7 @@
 use Rattle.std.proofs.Common.{◌≡◌, ◌≢◌, ℕ, suc, ◌<◌, Bool, true, false, cond, nat_eq, List, [], ◌∷◌, ◌++◌, length, map, Option, Some, None, IsSome, refl, ap, sym, subst, ◌∙◌, append_assoc, arith, inl, inr, ◌⊎◌}
 use Rattle.std.proofs.lemmas.Bool.{eq-eqb, eqb-true}
 use Rattle.std.specs.List.{AllByRecursion}
-use Rattle.head_queue.specs.declared.entries.Entry.{Entry}
+use Rattle.head_queue.specs.declared.entries.QueueEntry.{QueueEntry}
 use Rattle.head_queue.specs.Cuts.{first_of, last_of, rest_after, Misses, Differ, IsCut, IsMember}
 use Rattle.head_queue.specs.Waiting.{Waiting}
 use Rattle.head_queue.specs.Entries.{entry_at, waiting_at}
@@ -23,7 +23,7 @@ find k (x ∷ xs) = elim (nat_eq k x) as (λ b. nat_eq k x ≡ b → Misses k (x
     later e (inl m) = inl ((λ same. let t : nat_eq k x ≡ true = eq-eqb k x same in cc), m)
     later e (inr w) = inr (record { front = x ∷ w.front; behind = w.behind; parts = ap (λ (ns : List ℕ). x ∷ ns) w.parts })
 
-pub some_none : (o : Option Entry) → o ≡ None → IsSome o → ⊥
+pub some_none : (o : Option QueueEntry) → o ≡ None → IsSome o → ⊥
 some_none None e h = cc
 some_none (Some x) e h = cc
 
@@ -45,7 +45,7 @@ weaker f a b [] lt h = tt
 weaker f a b (x ∷ xs) lt h = (let l : f x < a = h.0 in omega arith, weaker f a b xs lt h.1)
 
 -- a walk begins
-pub led : (es : List (Option Entry)) (m : ℕ) (members : List ℕ) (size k : ℕ) → AreKept es members size → Starts es m k → IsPassed es m members k
+pub led : (es : List (Option QueueEntry)) (m : ℕ) (members : List ℕ) (size k : ℕ) → AreKept es members size → Starts es m k → IsPassed es m members k
 led es m members size k kept (inl zero_it) = record { cut = record { front = []; behind = members; parts = refl; last = zero_it }; below = tt }
 led es m members size k kept (inr leads) = by (find k members)
   where
@@ -60,11 +60,11 @@ led es m members size k kept (inr leads) = by (find k members)
     }
 
 -- nothing waits under 0
-no_zero : (es : List (Option Entry)) (m k : ℕ) → k ≡ 0 → Leads es m k → ⊥
+no_zero : (es : List (Option QueueEntry)) (m k : ℕ) → k ≡ 0 → Leads es m k → ⊥
 no_zero es m k e leads = some_none None refl (subst (λ (n : ℕ). IsSome (entry_at es n)) e leads.there)
 
 -- it goes on
-pub goes : (es : List (Option Entry)) (m : ℕ) (members : List ℕ) (at next : ℕ) → IsWalking es m members at next → Leads es m next → IsPassed es m members next
+pub goes : (es : List (Option QueueEntry)) (m : ℕ) (members : List ℕ) (at next : ℕ) → IsWalking es m members at next → Leads es m next → IsPassed es m members next
 goes es m members at next w leads = by w.passed.cut.behind w.passed.cut.parts w.next_is
   where
     by : (behind : List ℕ) → members ≡ w.passed.cut.front ++ behind → next ≡ first_of 0 behind → IsPassed es m members next
@@ -92,7 +92,7 @@ cut_rest members at d c =
     ∙ rest_is 0 c.front c.behind (subst (λ (ns : List ℕ). Differ (0 ∷ ns)) c.parts d)
 
 -- there is less to walk
-pub nearer : (es : List (Option Entry)) (m : ℕ) (members : List ℕ) (at next : ℕ) → Differ (0 ∷ members) → IsWalking es m members at next → Leads es m next
+pub nearer : (es : List (Option QueueEntry)) (m : ℕ) (members : List ℕ) (at next : ℕ) → Differ (0 ∷ members) → IsWalking es m members at next → Leads es m next
     → length (rest_after next (0 ∷ members)) < length (rest_after at (0 ∷ members))
 nearer es m members at next d w leads = by w.passed.cut.behind w.passed.cut.parts w.next_is (cut_rest members at d w.passed.cut)
   where
@@ -106,7 +106,7 @@ nearer es m members at next d w leads = by w.passed.cut.behind w.passed.cut.part
         omega arith
 
 -- it ends
-pub ended : (es : List (Option Entry)) (m : ℕ) (members : List ℕ) (size at next : ℕ) → AreKept es members size → IsWalking es m members at next → (Leads es m next → ⊥) → IsWalked es m members at
+pub ended : (es : List (Option QueueEntry)) (m : ℕ) (members : List ℕ) (size at next : ℕ) → AreKept es members size → IsWalking es m members at next → (Leads es m next → ⊥) → IsWalked es m members at
 ended es m members size at next kept w stop = record { passed = w.passed; ends = by w.passed.cut.behind w.passed.cut.parts w.next_is }
   where
     by : (behind : List ℕ) → members ≡ w.passed.cut.front ++ behind → next ≡ first_of 0 behind → IsNoneBefore es m behind

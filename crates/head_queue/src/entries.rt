@@ -7,14 +7,14 @@ use tape_types::{Part, Place};
 
 /// A request that waits: whose it is, where its block stands, and how many came before it.
 #[derive(Clone, Copy)]
-pub struct Entry {
+pub struct QueueEntry {
     pub owner: u64,
     pub place: Place,
     pub arrival: u64,
 }
 
 /// What waits under a number.
-pub fn get(entries: &[Option<Entry>], number: u32) -> Option<Entry>
+pub fn get(entries: &[Option<QueueEntry>], number: u32) -> Option<QueueEntry>
     ensures { result ≡ entry_at entries.now number }
 {
     if number == 0 {
@@ -29,7 +29,7 @@ pub fn get(entries: &[Option<Entry>], number: u32) -> Option<Entry>
 }
 
 /// Has something wait under a number, or nothing.
-pub fn set(entries: &mut Vec<Option<Entry>>, number: u32, entry: Option<Entry>)
+pub fn set(entries: &mut Vec<Option<QueueEntry>>, number: u32, entry: Option<QueueEntry>)
     requires some { 1 ≤ number }
     requires within { number ≤ vec_len entries.old }
     ensures entries { (k : ℕ)
@@ -41,7 +41,7 @@ pub fn set(entries: &mut Vec<Option<Entry>>, number: u32, entry: Option<Entry>)
 }
 
 /// Makes one more number, under which nothing waits. Takes no memory.
-pub fn widen(entries: &mut Vec<Option<Entry>>)
+pub fn widen(entries: &mut Vec<Option<QueueEntry>>)
     requires { vec_len entries.old < vec_capacity entries.old }
     ensures entries { (k : ℕ) → entry_at entries.new.items k ≡ entry_at entries.old.items k }
     ensures len { vec_len entries.new ≡ vec_len entries.old + 1 }
@@ -53,7 +53,7 @@ pub fn widen(entries: &mut Vec<Option<Entry>>)
 }
 
 /// Whether a request stands before a place, or at it and came before so many.
-pub fn is_before(entry: Entry, place: Place, arrival: u64) -> bool
+pub fn is_before(entry: QueueEntry, place: Place, arrival: u64) -> bool
     ensures { result ≡ nat_lt (rank_of entry.place entry.arrival) (rank_of place arrival) }
 {
     if entry.place.part != place.part {

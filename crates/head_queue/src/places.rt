@@ -2,7 +2,7 @@ ghost use Rattle.std.specs.Prelude.{◌≡◌};
 ghost use Rattle.tape_types.specs.Cartridges.{other};
 
 use crate::chains::Chain;
-use crate::entries::{Entry, get, set, widen};
+use crate::entries::{QueueEntry, get, set, widen};
 use crate::walks::{last_before, start};
 use std::alloc::Global;
 use std::marker::Model;
@@ -11,7 +11,7 @@ use tape_types::{NoMemory, Part, Place};
 /// The requests that wait, in a chain by place and then arrival.
 #[derive(Drop)]
 pub struct Places {
-    entries: Vec<Option<Entry>>,
+    entries: Vec<Option<QueueEntry>>,
     chain: Chain,
     /// The number before the one that was taken out last: where a sweep goes on.
     swept: u32,
@@ -98,7 +98,7 @@ impl Places {
     }
 
     /// What waits under a number.
-    pub fn get(&self, number: u32) -> Option<Entry>
+    pub fn get(&self, number: u32) -> Option<QueueEntry>
         ensures some { IfSome result (λ e. IsIn self.now.order (waiting number (Some e))) }
         ensures none { IfNone result (AllByRecursion (λ w. w.node ≢ number) self.now.order) }
         ensures differ { Differ (0 ∷ map (λ w. w.node) self.now.order) }
@@ -107,7 +107,7 @@ impl Places {
     }
 
     /// Has a request wait under a number, behind all that stand before its place or at it. Takes no memory.
-    pub fn insert(&mut self, number: u32, entry: Entry)
+    pub fn insert(&mut self, number: u32, entry: QueueEntry)
         requires some { 1 ≤ number }
         requires within { number ≤ self.old.size }
         requires apart { AllByRecursion (λ w. w.node ≢ number) self.old.order }
@@ -143,7 +143,7 @@ impl Places {
     }
 
     /// The first request of a place's partition that stands there or past it.
-    fn first_from(&self, place: Place) -> Option<(u32, Entry)>
+    fn first_from(&self, place: Place) -> Option<(u32, QueueEntry)>
         ensures some { IfSome result (λ p. IsFirst self.now.order (rank_of place 0) (waiting p.0 (Some p.1))) }
         ensures part { IfSome result (λ p. p.1.place.part ≡ place.part) }
         ensures none { IfNone result
@@ -164,7 +164,7 @@ impl Places {
     }
 
     /// The request of a partition that the head serves first, where it stands at a position.
-    fn first_in(&self, part: Part, pos: u64) -> Option<(u32, Entry)>
+    fn first_in(&self, part: Part, pos: u64) -> Option<(u32, QueueEntry)>
         ensures some { IfSome result (λ p. IsIn self.now.order (waiting p.0 (Some p.1))) }
         ensures part { IfSome result (λ p. p.1.place.part ≡ part) }
         ensures least { IfSome result (λ p. AllByRecursion (λ w. w.place.part ≡ part
@@ -178,7 +178,7 @@ impl Places {
     }
 
     /// The request that the head serves first.
-    pub fn first(&self, head: Place) -> Option<(u32, Entry)>
+    pub fn first(&self, head: Place) -> Option<(u32, QueueEntry)>
         ensures some { IfSome result (λ p. IsIn self.now.order (waiting p.0 (Some p.1))) }
         ensures least { IfSome result
             (λ p. AllByRecursion (λ w. stands_in head (waiting p.0 (Some p.1)) w ≡ true) self.now.order) }

@@ -3,7 +3,7 @@ ghost use Rattle.event_laws.specs.Waiting.{as_number, key, same_part};
 ghost use Rattle.head_queue.specs.Keys.{is_upto};
 ghost use Rattle.head_queue.specs.Ready.{AreReady};
 
-use crate::entries::Entry;
+use crate::entries::QueueEntry;
 use crate::owners::Owners;
 use crate::places::Places;
 use crate::steps::Steps;
@@ -105,7 +105,7 @@ impl Queue {
         let Some(node) = self.free.pop() else {
             unreachable!();
         };
-        let entry = Entry {
+        let entry = QueueEntry {
             owner,
             place,
             arrival: self.arrived,

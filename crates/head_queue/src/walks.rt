@@ -4,11 +4,11 @@ ghost use Rattle.head_queue.specs.Ranks.{rank, rank_of};
 ghost use Rattle.head_queue.specs.Kept.{AreKept, IsWalked, Leads, Starts};
 
 use crate::chains::Chain;
-use crate::entries::{Entry, get, is_before};
+use crate::entries::{QueueEntry, get, is_before};
 use tape_types::Place;
 
 /// Whether a number has a request that stands before a place, or at it and came before so many.
-pub fn leads(entries: &[Option<Entry>], number: u32, place: Place, arrival: u64) -> bool
+pub fn leads(entries: &[Option<QueueEntry>], number: u32, place: Place, arrival: u64) -> bool
     ensures { IsTrue result ↔ Leads entries.now (rank_of place arrival) number }
 {
     match get(entries, number) {
@@ -18,7 +18,13 @@ pub fn leads(entries: &[Option<Entry>], number: u32, place: Place, arrival: u64)
 }
 
 /// The first of two numbers that leads to a place, or 0.
-pub fn start(entries: &[Option<Entry>], hint: u32, other: u32, place: Place, arrival: u64) -> u32
+pub fn start(
+    entries: &[Option<QueueEntry>],
+    hint: u32,
+    other: u32,
+    place: Place,
+    arrival: u64,
+) -> u32
     ensures { Starts entries.now (rank_of place arrival) result }
 {
     if leads(entries, hint, place, arrival) {
@@ -33,7 +39,7 @@ pub fn start(entries: &[Option<Entry>], hint: u32, other: u32, place: Place, arr
 /// The last number of a chain before a place, or 0, found by steps forward from one that leads there.
 pub fn last_before(
     chain: &Chain,
-    entries: &[Option<Entry>],
+    entries: &[Option<QueueEntry>],
     from: u32,
     place: Place,
     arrival: u64,

@@ -17,7 +17,7 @@ use Rattle.plain_tree.specs.declared.nodes.Kind.TheVariants as plain_kinds
 use Rattle.extent_map.specs.Cells.{Tape}
 use Rattle.extent_map.specs.Laid.{Room}
 use Rattle.file_tree.specs.declared.nodes.Node.{Node}
-use Rattle.file_tree.specs.declared.nodes.Kind.TheVariants as kinds
+use Rattle.file_tree.specs.declared.nodes.HeldKind.TheVariants as kinds
 use Rattle.file_tree.specs.Blocks.{AddsNoBlock}
 use Rattle.file_tree.specs.Edits.{CanMake, IsAfter, KeepsVolume, NumbersCome, OthersLie, making}
 use Rattle.file_tree.specs.Tree.{FileTree, HasLaid, Nodes, StandsAt, number_at, plain_node_of, plain_of, whole}

@@ -7,15 +7,15 @@ use Rattle.std.proofs.lemmas.Bool.Decides.{nat_tests}
 use Rattle.index_model.specs.Places.{IsAt}
 use Rattle.index_model.specs.Uids.{AreUids}
 use Rattle.index_model.specs.declared.nodes.Node as told
-use Rattle.index_model.specs.declared.nodes.Kind as told_kind
-use Rattle.index_model.specs.declared.nodes.Kind.TheVariants as told_kinds
+use Rattle.index_model.specs.declared.nodes.NodeKind as told_kind
+use Rattle.index_model.specs.declared.nodes.NodeKind.TheVariants as told_kinds
 use Rattle.extent_map.specs.Cells.{Tape}
 use Rattle.extent_map.specs.Laid.{Room}
 use Rattle.plain_tree.specs.Paths.{Path}
 use Rattle.file_tree.specs.Mounts.{CanMount, IsKindOf, IsTreeOf}
 use Rattle.file_tree.specs.Tree.{FileTree}
-use Rattle.file_tree.specs.declared.nodes.Kind.{Kind}
-use Rattle.file_tree.specs.declared.nodes.Kind.TheVariants as kinds
+use Rattle.file_tree.specs.declared.nodes.HeldKind.{HeldKind}
+use Rattle.file_tree.specs.declared.nodes.HeldKind.TheVariants as kinds
 use Rattle.file_tree.specs.declared.nodes.Node.{Node}
 use Rattle.file_tree.proofs.MountedBlocks.{mounts_lie_below}
 use Rattle.file_tree.proofs.MountLemmas.{path_once}
@@ -82,12 +82,12 @@ module _ (m : MountFacts) (t : FileTree) (mounts : CanMount m.index (letters m) 
       ∙ ap (laid_found m) (found_at m.index.nodes node.number told_is.node told_is.is uids.apart)
       ∙ by told_is.node.kind refl (subst (IsKindOf (letters m) m.label.block told_is.node.kind) (ap (λ (n : Node). n.kind) same ∙ file) s.same.kind)
     where
-      one_room : (a b : Room) → ◌≡◌ {A = Kind} (kinds.File a) (kinds.File b) → a ≡ b
+      one_room : (a b : Room) → ◌≡◌ {A = HeldKind} (kinds.File a) (kinds.File b) → a ≡ b
       one_room a b e = cc
 
-      by : {k : told_kind.Kind} (kind : told_kind.Kind) → k ≡ kind → IsKindOf (letters m) m.label.block k (kinds.File room) → laid_node m k ≡ room.laid
-      by told_kinds.Dir e h = absurd (let wrong : ◌≡◌ {A = Kind} (kinds.File room) kinds.Dir = subst (λ k. IsKindOf (letters m) m.label.block k (kinds.File room)) e h in cc)
-      by (told_kinds.Link text) e h = absurd (let wrong : ◌≡◌ {A = Kind} (kinds.File room) (kinds.Link text) = subst (λ k. IsKindOf (letters m) m.label.block k (kinds.File room)) e h in cc)
+      by : {k : told_kind.NodeKind} (kind : told_kind.NodeKind) → k ≡ kind → IsKindOf (letters m) m.label.block k (kinds.File room) → laid_node m k ≡ room.laid
+      by told_kinds.Dir e h = absurd (let wrong : ◌≡◌ {A = HeldKind} (kinds.File room) kinds.Dir = subst (λ k. IsKindOf (letters m) m.label.block k (kinds.File room)) e h in cc)
+      by (told_kinds.Link text) e h = absurd (let wrong : ◌≡◌ {A = HeldKind} (kinds.File room) (kinds.Link text) = subst (λ k. IsKindOf (letters m) m.label.block k (kinds.File room)) e h in cc)
       by (told_kinds.File size raws) e h =
           let f = subst (λ k. IsKindOf (letters m) m.label.block k (kinds.File room)) e h in
           ap (laid_node m) e ∙ sym (ap (λ (r : Room). r.laid) (one_room room f.0 f.1) ∙ f.2)

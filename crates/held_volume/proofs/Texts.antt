@@ -5,7 +5,7 @@ use Rattle.tape_types.specs.declared.moments.Moment.{Moment}
 use Rattle.tape_types.specs.declared.cartridges.Part.{Part}
 use Rattle.tape_types.specs.declared.cartridges.Part.TheVariants.{Ip, Dp}
 use Rattle.index_model.specs.declared.indexes.Index.{Index}
-use Rattle.index_model.specs.declared.nodes.Kind.TheVariants as told_kinds
+use Rattle.index_model.specs.declared.nodes.NodeKind.TheVariants as told_kinds
 use Rattle.plain_tree.specs.Paths.{Path}
 use Rattle.plain_tree.specs.Tree as plain
 use Rattle.plain_tree.specs.declared.nodes.Node as plain_node
@@ -15,8 +15,8 @@ use Rattle.file_tree.specs.Mounts.{Letters}
 use Rattle.file_tree.specs.Told as file_told
 use Rattle.file_tree.specs.Told.{letter_of, raw_of}
 use Rattle.file_tree.specs.Tree.{FileTree, plain_node_of, plain_of}
-use Rattle.file_tree.specs.declared.nodes.Kind.{Kind}
-use Rattle.file_tree.specs.declared.nodes.Kind.TheVariants as kinds
+use Rattle.file_tree.specs.declared.nodes.HeldKind.{HeldKind}
+use Rattle.file_tree.specs.declared.nodes.HeldKind.TheVariants as kinds
 use Rattle.file_tree.specs.declared.nodes.Node.{Node}
 use Rattle.file_tree.proofs.PlainLemmas.{plain_entries}
 use Rattle.file_tree.proofs.ToldLemmas.{entry_get}
@@ -45,7 +45,7 @@ module _ (tape : Tape) (both : Letters) (name : List ℕ) (files : Files) (t : F
   kind_told : (path : Path) (node : Node) → fin.get t.nodes path ≡ Some node → file_told.told_kind_of both node.kind ≡ space.told_kind both (files node.uid) (plain_node_of tape node).kind
   kind_told path node there = by node.kind refl
     where
-      by : (k : Kind) → node.kind ≡ k → file_told.told_kind_of both node.kind ≡ space.told_kind both (files node.uid) (plain_node_of tape node).kind
+      by : (k : HeldKind) → node.kind ≡ k → file_told.told_kind_of both node.kind ≡ space.told_kind both (files node.uid) (plain_node_of tape node).kind
       by kinds.Dir e = rw e refl
       by (kinds.Link text) e = rw e refl
       by (kinds.File room) e =

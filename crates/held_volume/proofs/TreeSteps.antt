@@ -13,7 +13,7 @@ use Rattle.plain_tree.specs.declared.calls.Call.TheVariants as asks
 use Rattle.extent_map.specs.Cells.{Tape}
 use Rattle.extent_map.specs.Laid.{Laid, Room}
 use Rattle.file_tree.specs.declared.nodes.Node.{Node}
-use Rattle.file_tree.specs.declared.nodes.Kind.TheVariants as kinds
+use Rattle.file_tree.specs.declared.nodes.HeldKind.TheVariants as kinds
 use Rattle.file_tree.specs.Blocks.{AddsNoBlock}
 use Rattle.file_tree.specs.Edits.{AllLie, IsAfter, KeepsVolume, NumbersCome, OthersLie}
 use Rattle.file_tree.specs.Tree.{FileTree, HasLaid, StandsAt, number_at, plain_node_of, plain_nodes, plain_of, whole}

@@ -5,7 +5,7 @@ use Rattle.extent_map.specs.Cells.{Tape}
 use Rattle.extent_map.specs.Laid.{Laid, Room}
 use Rattle.plain_tree.specs.Paths.{Path}
 use Rattle.file_tree.specs.declared.nodes.Node.{Node}
-use Rattle.file_tree.specs.declared.nodes.Kind.TheVariants as kinds
+use Rattle.file_tree.specs.declared.nodes.HeldKind.TheVariants as kinds
 use Rattle.file_tree.specs.Blocks.{Ends, LiesBelow}
 use Rattle.file_tree.specs.Carried.{carried_of}
 use Rattle.file_tree.specs.Tree.{FileTree, plain_of}

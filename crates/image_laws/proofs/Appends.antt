@@ -22,7 +22,7 @@ use Rattle.tape_layout.specs.declared.ops.Op.TheVariants as ops
 use Rattle.tape_layout.specs.Ops.{puts}
 use Rattle.cartridge_meaning.specs.Pointers.{IsLastOnDp, IsLastOnIp, indexes_of}
 use Rattle.image_laws.specs.Images.{AreSafe, Counts, IsBehind, IsDpImage, IsIpImage, IsSound, MayWrite}
-use Rattle.image_laws.specs.Made.{Base, Entry, Job, Made, Trees, Volume, after, part_items, plain, put_on}
+use Rattle.image_laws.specs.Made.{Base, CoveredIndex, Job, Made, Trees, Volume, after, part_items, plain, put_on}
 use Rattle.image_laws.proofs.Longer.{after_append, image_has_index, indexes_long, end_within, safe_append}
 
 -- ---- a partition on which no index stands in the way of the next item
@@ -111,7 +111,7 @@ quiet_mark items since whole labels is =
 
 -- ---- what was made stays sound
 
-pub dp_more : (v : Volume) (t : Trees) (plan : Cartridge) (b : Base) (dp more : List Item) (last : Entry) → b.indexes ≢ []
+pub dp_more : (v : Volume) (t : Trees) (plan : Cartridge) (b : Base) (dp more : List Item) (last : CoveredIndex) → b.indexes ≢ []
     → HasForm (dp ++ more) → indexes_of (dp ++ more) ≡ indexes_of dp → IsDpImage v t plan b dp last
     → IsDpImage v t plan b (dp ++ more) last
 dp_more v t plan b dp more last some form same i =
@@ -137,7 +137,7 @@ ip_empty v plan b ip none form empty agrees further = record {
   one = subst (λ (ks : List Construct). IsOneAtMost ip ks) (sym empty) tt;
   on_ip = None;
   reads = subst (λ (ks : List Construct). IsLastOnIp v.labels.ip ks b.indexes (Some b.floor.index) None) (sym empty) refl;
-  behind = subst (λ (ahead : Option Entry). IsBehind b.floor ahead None) (sym none) tt;
+  behind = subst (λ (ahead : Option CoveredIndex). IsBehind b.floor ahead None) (sym none) tt;
   agrees = agrees;
   further = further;
 }

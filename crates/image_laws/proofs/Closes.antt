@@ -29,7 +29,7 @@ use Rattle.image_laws.specs.Left.{IsCloseDone, IsLonger, StandsClosed}
 use Rattle.image_laws.specs.Closed.{EndsWithClose}
 use Rattle.image_laws.specs.Images.{Counts, IsBehind, IsIpImage, IsSound, Tells}
 use Rattle.image_laws.specs.Kept.{Kept, Moment, Serves, Wait}
-use Rattle.image_laws.specs.Made.{Base, Entry, Job, Made, Trees, Volume, after, cartridge_of, flushed, newer_of, newest_entry, plain, put_on, still_ahead}
+use Rattle.image_laws.specs.Made.{Base, CoveredIndex, Job, Made, Trees, Volume, after, cartridge_of, flushed, newer_of, newest_entry, plain, put_on, still_ahead}
 use Rattle.image_laws.specs.Plans.{IsCloseDue, IsPlanned, close_jobs}
 use Rattle.image_laws.proofs.Admits.{kept_more, kept_sound}
 use Rattle.image_laws.proofs.Appends.{IsOpened, IsQuiet, LeadsTo, form_of, leads_append, puts_are, quiet_mark, run, run_makes, sound_put, with_items}
@@ -40,7 +40,7 @@ use Rattle.image_laws.proofs.Indexes.{construct_content, construct_is, construct
 use Rattle.image_laws.proofs.Longer.{after_append, sound_longer}
 
 -- the newest index of the data partition is flushed
-flushed_indexes : (v : Volume) (t : Trees) (plan : Cartridge) (b : Base) (end : ℕ) (ks more : List Construct) (last : Entry) → b.ahead ≡ None → last ≡ b.floor
+flushed_indexes : (v : Volume) (t : Trees) (plan : Cartridge) (b : Base) (end : ℕ) (ks more : List Construct) (last : CoveredIndex) → b.ahead ≡ None → last ≡ b.floor
     → ks ≡ more ++ b.indexes → Counts v t plan b end more last → ks ≡ b.indexes
 flushed_indexes v t plan b end ks more last none indexed split (inl h) = split ∙ ap (λ (l : List Construct). l ++ b.indexes) h.0
 flushed_indexes v t plan b end ks more last none indexed split (inr h) =
@@ -48,8 +48,8 @@ flushed_indexes v t plan b end ks more last none indexed split (inr h) =
     omega (
       arith,
       h.0,
-      ap (λ (o : Option Entry). (newer_of o b.floor).index.generation) none,
-      ap (λ (e : Entry). e.index.generation) indexed,
+      ap (λ (o : Option CoveredIndex). (newer_of o b.floor).index.generation) none,
+      ap (λ (e : CoveredIndex). e.index.generation) indexed,
     )
     )
 
@@ -98,7 +98,7 @@ module _ (v : Volume) (t : Trees) (s : Made) (space : Space) (rules : Rules) (te
   end_closed = ap end_ip is_content
 
   generation_is : index.generation ≡ s.base.floor.index.generation
-  generation_is = due.generation ∙ p.newest_is ∙ ap (λ (o : Option Entry). (newer_of o s.base.floor).index.generation) none
+  generation_is = due.generation ∙ p.newest_is ∙ ap (λ (o : Option CoveredIndex). (newer_of o s.base.floor).index.generation) none
 
   back_is : index.back ≡ newest_spot v.labels.ip (indexes_of s.dp)
   back_is =
@@ -130,7 +130,7 @@ module _ (v : Volume) (t : Trees) (s : Made) (space : Space) (rules : Rules) (te
     reads =
         subst (λ (ks : List Construct). IsLastOnIp v.labels.ip ks b.indexes (Some b.floor.index) (Some index)) (sym is_indexes)
         (ip_reads b.indexes b.floor.index same back);
-    behind = subst (λ (o : Option Entry). IsBehind b.floor o (Some index)) (sym not_ahead) (omega (arith, same));
+    behind = subst (λ (o : Option CoveredIndex). IsBehind b.floor o (Some index)) (sym not_ahead) (omega (arith, same));
     agrees = refl;
     further = omega (arith, sure, end_closed);
   }
@@ -209,7 +209,7 @@ module _ (v : Volume) (t : Trees) (s : Made) (space : Space) (rules : Rules) (te
 
     can_flush : CanFlush plan (closed s.base)
     can_flush = record {
-      above = subst (λ (o : Option Entry). IsAbove s.base.floor o) (sym none) tt;
+      above = subst (λ (o : Option CoveredIndex). IsAbove s.base.floor o) (sym none) tt;
       longer = record { more_ip = []; ip = sym (append-nil items); more_dp = []; dp = sym (append-nil s.dp) };
       opened = opened_ip;
       sure = omega (arith, sound.grounded.on_ip, end_closed);
@@ -219,7 +219,7 @@ module _ (v : Volume) (t : Trees) (s : Made) (space : Space) (rules : Rules) (te
     flushed_sound =
         flush_sound v t plan (closed s.base) (record { part = Ip; pos = space.ends.ip + 2 + blocks rules text }) can_flush closed_sound
         (λ not_ahead.
-        ip_closed (flushed (closed s.base)) not_ahead (generation_is ∙ ap (λ (e : Entry). e.index.generation) (sym p.indexed)) back_is (omega (arith, end_closed)))
+        ip_closed (flushed (closed s.base)) not_ahead (generation_is ∙ ap (λ (e : CoveredIndex). e.index.generation) (sym p.indexed)) back_is (omega (arith, end_closed)))
 
     flushed_last : LeadsTo v t plan (closed s.base) (flushing ∷ []) close_made
     flushed_last = record { safe = (tt, flushed_sound, tt); to = refl }
@@ -233,15 +233,15 @@ module _ (v : Volume) (t : Trees) (s : Made) (space : Space) (rules : Rules) (te
   -- ---- what stands behind it
 
   same_generation : index.generation ≡ s.last.index.generation
-  same_generation = generation_is ∙ ap (λ (e : Entry). e.index.generation) (sym p.indexed)
+  same_generation = generation_is ∙ ap (λ (e : CoveredIndex). e.index.generation) (sym p.indexed)
 
   module _ (c : Cartridge) (ip_is : c.ip ≡ items) (dp_is : c.dp ≡ s.dp) (sound : IsSound v t plan close_made) where
     newest_last : newest_entry (flushed (closed s.base)) ≡ s.last
-    newest_last = ap (λ (o : Option Entry). newer_of (still_ahead s.last o) s.last) none
+    newest_last = ap (λ (o : Option CoveredIndex). newer_of (still_ahead s.last o) s.last) none
 
     tells : Tells v t plan (end_ip (content items)) (end_dp (indexes_of s.dp)) s.last
     tells =
-        subst (λ (e : Entry). Tells v t plan (end_ip (content items)) (end_dp (indexes_of s.dp)) e) newest_last sound.grounded.tells
+        subst (λ (e : CoveredIndex). Tells v t plan (end_ip (content items)) (end_dp (indexes_of s.dp)) e) newest_last sound.grounded.tells
 
     has : HasLabels c v.labels
     has =
@@ -290,8 +290,8 @@ module _ (v : Volume) (t : Trees) (s : Made) (space : Space) (rules : Rules) (te
         p.covered unchanged s.last.place
         (omega (
           arith,
-          ap (λ (o : Option Entry). (newer_of o s.base.floor).place) none,
-          ap (λ (e : Entry). e.place) p.indexed,
+          ap (λ (o : Option CoveredIndex). (newer_of o s.base.floor).place) none,
+          ap (λ (e : CoveredIndex). e.place) p.indexed,
         ))
         tells.covered
 

@@ -15,7 +15,7 @@ use Rattle.image_laws.specs.Events.{IsDone, IsFailed, Within}
 use Rattle.image_laws.specs.Fine.{IsFine}
 use Rattle.image_laws.specs.Images.{AreHonest, AreUpTo, IsGrounded, IsImage, IsNext, IsSound}
 use Rattle.image_laws.specs.Kept.{IsHeld, IsStep, IsSureAfter, Kept, Moment, ReadsAs, Wait, plan_of}
-use Rattle.image_laws.specs.Made.{Base, Entry, Job, Made, Trees, Volume, after, does, least, makes, put_on}
+use Rattle.image_laws.specs.Made.{Base, CoveredIndex, Job, Made, Trees, Volume, after, does, least, makes, put_on}
 use Rattle.image_laws.proofs.Acks.{held_on, waiting_on}
 use Rattle.image_laws.proofs.Fines.{fine, weaker}
 use Rattle.image_laws.proofs.Flushed.{flush_least, flush_reads}
@@ -24,12 +24,12 @@ use Rattle.image_laws.proofs.Written.{broken_reads, broken_vcr, written_reads}
 
 -- ---- what jobs leave in front
 
-put_front : (p : Part) (x : Item) (whole : Option Entry) (s : Made) (n : ℕ) → n ≤ length s.ip
+put_front : (p : Part) (x : Item) (whole : Option CoveredIndex) (s : Made) (n : ℕ) → n ≤ length s.ip
     → (n ≤ length (put_on p x whole s).ip) × (take n (put_on p x whole s).ip ≡ take n s.ip)
 put_front Ip x whole s n le = (omega (arith, le, length-append s.ip (x ∷ [])), take-append-le n s.ip (x ∷ []) le)
 put_front Dp x whole s n le = (le, refl)
 
-does_front : (op : Op) (whole : Option Entry) (s : Made) (n : ℕ) → n ≤ length s.ip → (n ≤ length (does op whole s).ip) × (take n (does op whole s).ip ≡ take n s.ip)
+does_front : (op : Op) (whole : Option CoveredIndex) (s : Made) (n : ℕ) → n ≤ length s.ip → (n ≤ length (does op whole s).ip) × (take n (does op whole s).ip ≡ take n s.ip)
 does_front (ops.Put place bytes) whole s n le = put_front place.part (Block bytes) whole s n le
 does_front (ops.Mark place) whole s n le = put_front place.part Mark whole s n le
 does_front (ops.Flush place) whole s n le = (le, refl)
@@ -40,13 +40,13 @@ front_after (job ∷ jobs) s n le =
     let one = does_front job.op job.whole s n le in
     front_after jobs (makes job s) n one.0 ∙ one.1
 
-put_base : (p : Part) (x : Item) (whole : Option Entry) (s : Made) → (put_on p x whole s).base ≡ s.base
+put_base : (p : Part) (x : Item) (whole : Option CoveredIndex) (s : Made) → (put_on p x whole s).base ≡ s.base
 put_base Ip x whole s = refl
 put_base Dp x whole s = refl
 
 -- ---- one op
 
-module _ (v : Volume) (t : Trees) (plan : Cartridge) (whole : Option Entry) (s : Made) (held : Cartridge) where
+module _ (v : Volume) (t : Trees) (plan : Cartridge) (whole : Option CoveredIndex) (s : Made) (held : Cartridge) where
   -- honest notes know no greater reference than their cartridge has
   held_up : AreHonest v held → AreUpTo v held.vcr held
   held_up honest Ip note has same = honest.ip.not_ahead note has same

@@ -19,7 +19,7 @@ use Rattle.image_laws.specs.Closed.{Begins, IsExact, PutsOn}
 use Rattle.image_laws.specs.Events.{IsDone, IsFailed}
 use Rattle.image_laws.specs.Images.{IsNext}
 use Rattle.image_laws.specs.Starts.{made_of}
-use Rattle.image_laws.specs.Made.{Entry, Made, does, makes, part_items, put_on}
+use Rattle.image_laws.specs.Made.{CoveredIndex, Made, does, makes, part_items, put_on}
 
 rest_exact : (written part : Part) (s : Made) (old new : Cartridge) → (written ≡ part → ⊥) → KeepsRest written old new → IsExact part s old
     → IsExact part s new
@@ -28,12 +28,12 @@ rest_exact Ip Dp s old new differ rest exact = rest.other_part ∙ exact
 rest_exact Dp Ip s old new differ rest exact = rest.other_part ∙ exact
 rest_exact Dp Dp s old new differ rest exact = absurd (differ refl)
 
-flushed_exact : (part : Part) (place : Place) (whole : Option Entry) (s : Made) (old new : Cartridge) → new ≡ old → IsExact part s old
+flushed_exact : (part : Part) (place : Place) (whole : Option CoveredIndex) (s : Made) (old new : Cartridge) → new ≡ old → IsExact part s old
     → IsExact part (does (ops.Flush place) whole s) new
 flushed_exact Ip place whole s old new same exact = ap (λ (c : Cartridge). c.ip) same ∙ exact
 flushed_exact Dp place whole s old new same exact = ap (λ (c : Cartridge). c.dp) same ∙ exact
 
-put_exact : (written part : Part) (pos : ℕ) (x : Item) (whole : Option Entry) (s : Made) (old new : Cartridge) → pos ≡ length (part_items written s)
+put_exact : (written part : Part) (pos : ℕ) (x : Item) (whole : Option CoveredIndex) (s : Made) (old new : Cartridge) → pos ≡ length (part_items written s)
     → Begins written s old → IsWritten written pos x old new → ((written ≡ part) ⊎ IsExact part s old) → IsExact part (put_on written x whole s) new
 put_exact Ip Ip pos x whole s old new at begins w which =
     w.items ∙ ap (λ (n : ℕ). take n old.ip ++ x ∷ []) at ∙ ap (λ (l : List Item). l ++ x ∷ []) begins
@@ -45,7 +45,7 @@ put_exact Dp Ip pos x whole s old new at begins w (inl same) = absurd (cc)
 put_exact Dp Ip pos x whole s old new at begins w (inr exact) = w.rest.other_part ∙ exact
 
 -- a partition ends where it was made to once an item is put on it, and as long as no op on it fails
-pub done_exact : (part : Part) (op : Op) (whole : Option Entry) (s : Made) (old new : Cartridge) → IsNext op s → ((written : Part) → Begins written s old)
+pub done_exact : (part : Part) (op : Op) (whole : Option CoveredIndex) (s : Made) (old new : Cartridge) → IsNext op s → ((written : Part) → Begins written s old)
     → IsDone op old new → (PutsOn part op ⊎ IsExact part s old) → IsExact part (makes (record { op = op; whole = whole }) s) new
 done_exact part (ops.Put place bytes) whole s old new next begins done which =
     put_exact place.part part place.pos (Block bytes) whole s old new next.0 (begins place.part) done which

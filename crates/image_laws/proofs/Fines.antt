@@ -14,13 +14,13 @@ use Rattle.cartridge_meaning.specs.Pointers.{IsLastOnIp, chosen, indexes_of}
 use Rattle.cartridge_meaning.proofs.Frame.{labels_stay, nodes_further, tree_stays}
 use Rattle.image_laws.specs.Fine.{IsFine, IsSame}
 use Rattle.image_laws.specs.Images.{Counts, IsBehind, IsGrounded, IsImage, Tells}
-use Rattle.image_laws.specs.Made.{Base, Entry, Trees, Volume, least, newer_of, newest, newest_entry}
+use Rattle.image_laws.specs.Made.{Base, CoveredIndex, Trees, Volume, least, newer_of, newest, newest_entry}
 use Rattle.image_laws.proofs.Fronts.{front_same}
 use Rattle.image_laws.proofs.Pointing.{at_most, behind_newest, counts_point}
 
 -- which index is chosen, and that it tells a tree
-pub record IsChosen (v : Volume) (t : Trees) (plan : Cartridge) (b : Base) (end : ℕ) (on_ip : Option Index) (last : Entry) : Type 0 where
-  pub chosen_entry : Entry
+pub record IsChosen (v : Volume) (t : Trees) (plan : Cartridge) (b : Base) (end : ℕ) (on_ip : Option Index) (last : CoveredIndex) : Type 0 where
+  pub chosen_entry : CoveredIndex
   pub choice : chosen on_ip (Some last.index) ≡ Some chosen_entry.index
   pub low : least b ≤ chosen_entry.place
   pub tells : Tells v t plan b.sure end chosen_entry
@@ -38,18 +38,18 @@ dp_chosen None d le = refl
 dp_chosen (Some i) d le = passes i d (ltb d.generation i.generation) refl le
 
 -- the newest of what was flushed
-newest_chosen : (floor : Entry) (ahead : Option Entry) (on_ip : Option Index) → IsBehind floor ahead on_ip
+newest_chosen : (floor : CoveredIndex) (ahead : Option CoveredIndex) (on_ip : Option Index) → IsBehind floor ahead on_ip
     → chosen on_ip (Some floor.index) ≡ Some (newer_of ahead floor).index
 newest_chosen floor None on_ip h = dp_chosen on_ip floor.index h
 newest_chosen floor (Some a) on_ip h =
     ap (λ (o : Option Index). chosen o (Some floor.index)) h.0 ∙ picks a.index floor.index (ltb floor.index.generation a.index.generation) refl h.1
 
 module _ (v : Volume) (t : Trees) (plan : Cartridge) (b : Base) (g : IsGrounded v t plan b) where
-  chosen_by : (end : ℕ) (more : List Construct) (last : Entry) (on_ip : Option Index) → IsBehind b.floor b.ahead on_ip
+  chosen_by : (end : ℕ) (more : List Construct) (last : CoveredIndex) (on_ip : Option Index) → IsBehind b.floor b.ahead on_ip
       → end ≡ end_dp (more ++ b.indexes) → Counts v t plan b end more last → IsChosen v t plan b end on_ip last
   chosen_by end more last on_ip h at (inl same) = record {
     chosen_entry = newest_entry b;
-    choice = ap (λ (e : Entry). chosen on_ip (Some e.index)) same.1 ∙ newest_chosen b.floor b.ahead on_ip h;
+    choice = ap (λ (e : CoveredIndex). chosen on_ip (Some e.index)) same.1 ∙ newest_chosen b.floor b.ahead on_ip h;
     low = omega arith;
     tells = subst (λ (n : ℕ). Tells v t plan b.sure n (newest_entry b)) (ap (λ (m : List Construct). end_dp (m ++ b.indexes)) (sym same.0) ∙ sym at) g.tells;
   }
@@ -117,7 +117,7 @@ module _ (v : Volume) (t : Trees) (plan : Cartridge) (b : Base) (g : IsGrounded 
       }
 
   -- no index of the data partition is newer than what was flushed where its last is the one that was
-  none_newer : (ahead : Option Entry) (on_ip : Option Index) → IsBehind b.floor ahead on_ip → (newer_of ahead b.floor).index.generation < b.floor.index.generation → ⊥
+  none_newer : (ahead : Option CoveredIndex) (on_ip : Option Index) → IsBehind b.floor ahead on_ip → (newer_of ahead b.floor).index.generation < b.floor.index.generation → ⊥
   none_newer None on_ip h less = omega (arith, less)
   none_newer (Some a) on_ip h less = omega (arith, less, h.1)
 
@@ -130,11 +130,11 @@ module _ (v : Volume) (t : Trees) (plan : Cartridge) (b : Base) (g : IsGrounded 
           let ends : end_dp b.indexes ≡ end_dp (indexes_of c.dp) = ap (λ (m : List Construct). end_dp (m ++ b.indexes)) (sym same.0) ∙ sym (ap end_dp image.dp.split) in
           stands_by c image (record {
             chosen_entry = newest_entry b;
-            choice = ap (λ (e : Entry). chosen image.ip.on_ip (Some e.index)) same.1 ∙ newest_chosen b.floor b.ahead image.ip.on_ip image.ip.behind;
+            choice = ap (λ (e : CoveredIndex). chosen image.ip.on_ip (Some e.index)) same.1 ∙ newest_chosen b.floor b.ahead image.ip.on_ip image.ip.behind;
             low = omega arith;
             tells = subst (λ (n : ℕ). Tells v t plan b.sure n (newest_entry b)) ends g.tells;
           })
-      by (inr newer) = absurd (none_newer b.ahead image.ip.on_ip image.ip.behind (omega (arith, newer.0, ap (λ (e : Entry). e.index.generation) is)))
+      by (inr newer) = absurd (none_newer b.ahead image.ip.on_ip image.ip.behind (omega (arith, newer.0, ap (λ (e : CoveredIndex). e.index.generation) is)))
 
 -- of fewer placements at least
 pub weaker : (v : Volume) (t : Trees) (j k : ℕ) (c : Cartridge) → j ≤ k → IsFine v t k c → IsFine v t j c

@@ -17,23 +17,23 @@ use Rattle.content_laws.proofs.Whole.{front_within}
 use Rattle.cartridge_meaning.specs.Pointers.{IsLastOnDp, IsLastOnIp, indexes_of}
 use Rattle.image_laws.specs.Images.{Counts, IsBehind, IsDpImage, IsGrounded, IsImage, IsIpImage}
 use Rattle.image_laws.specs.Kept.{ReadsAs}
-use Rattle.image_laws.specs.Made.{Base, Entry, Made, Trees, Volume, does, flushed, least, newer_of, still_ahead}
+use Rattle.image_laws.specs.Made.{Base, CoveredIndex, Made, Trees, Volume, does, flushed, least, newer_of, still_ahead}
 use Rattle.image_laws.proofs.Fronts.{front_same, short_content}
 use Rattle.image_laws.proofs.Images.{image_of}
 use Rattle.image_laws.proofs.Pointing.{at_most, counts_point}
 
 -- the last index is the one that was flushed, or newer than all that was, and covers no less
-abbrev IsOn : Entry → Option Entry → Entry → Type 0
+abbrev IsOn : CoveredIndex → Option CoveredIndex → CoveredIndex → Type 0
 IsOn floor ahead last = (last ≡ floor) ⊎ (((newer_of ahead floor).index.generation < last.index.generation) × ((newer_of ahead floor).place ≤ last.place))
 
-counts_on : (v : Volume) (t : Trees) (plan : Cartridge) (b : Base) (end : ℕ) (more : List Construct) (last : Entry) → Counts v t plan b end more last → IsOn b.floor b.ahead last
+counts_on : (v : Volume) (t : Trees) (plan : Cartridge) (b : Base) (end : ℕ) (more : List Construct) (last : CoveredIndex) → Counts v t plan b end more last → IsOn b.floor b.ahead last
 counts_on v t plan b end more last (inl same) = inl same.1
 counts_on v t plan b end more last (inr newer) = inr (newer.0, newer.1)
 
 -- the index of the index partition stays ahead, or is no longer newer
-flush_behind : (floor last : Entry) (ahead : Option Entry) (on_ip : Option Index) → IsBehind floor ahead on_ip → IsOn floor ahead last
+flush_behind : (floor last : CoveredIndex) (ahead : Option CoveredIndex) (on_ip : Option Index) → IsBehind floor ahead on_ip → IsOn floor ahead last
     → IsBehind last (still_ahead last ahead) on_ip
-flush_behind floor last None on_ip h (inl same) = subst (λ (e : Entry). IsBehind e None on_ip) (sym same) h
+flush_behind floor last None on_ip h (inl same) = subst (λ (e : CoveredIndex). IsBehind e None on_ip) (sym same) h
 flush_behind floor last None on_ip h (inr newer) = at_most on_ip floor.index.generation last.index.generation (omega (arith, newer.0)) h
 flush_behind floor last (Some a) on_ip h on = by (ltb a.index.generation last.index.generation) refl on
   where
@@ -41,26 +41,26 @@ flush_behind floor last (Some a) on_ip h on = by (ltb a.index.generation last.in
     by true is on =
         let less : a.index.generation < last.index.generation = grind (arith, nat_tests) in
         subst (λ (o : Option Index). IfSome o (λ index. index.generation ≤ last.index.generation)) (sym h.0) (omega (arith, less))
-    by false is (inl same) = (h.0, omega (arith, h.1, ap (λ (e : Entry). e.index.generation) same))
+    by false is (inl same) = (h.0, omega (arith, h.1, ap (λ (e : CoveredIndex). e.index.generation) same))
     by false is (inr newer) = absurd (let no : last.index.generation ≤ a.index.generation = grind (arith, nat_tests) in omega (arith, no, newer.0))
 
 -- what is flushed then covers no less than what was flushed before
-flush_covers : (floor last : Entry) (ahead : Option Entry) (on_ip : Option Index) → IsBehind floor ahead on_ip → IsOn floor ahead last
+flush_covers : (floor last : CoveredIndex) (ahead : Option CoveredIndex) (on_ip : Option Index) → IsBehind floor ahead on_ip → IsOn floor ahead last
     → (newer_of ahead floor).place ≤ (newer_of (still_ahead last ahead) last).place
-flush_covers floor last None on_ip h (inl same) = omega (arith, ap (λ (e : Entry). e.place) same)
+flush_covers floor last None on_ip h (inl same) = omega (arith, ap (λ (e : CoveredIndex). e.place) same)
 flush_covers floor last None on_ip h (inr newer) = newer.1
 flush_covers floor last (Some a) on_ip h on = by (ltb a.index.generation last.index.generation) refl on
   where
     by : (lt : Bool) → ltb a.index.generation last.index.generation ≡ lt → IsOn floor (Some a) last → a.place ≤ (newer_of (if lt then None else Some a) last).place
     by true is (inl same) =
-        absurd (let less : a.index.generation < last.index.generation = grind (arith, nat_tests) in omega (arith, less, h.1, ap (λ (e : Entry). e.index.generation) same))
+        absurd (let less : a.index.generation < last.index.generation = grind (arith, nat_tests) in omega (arith, less, h.1, ap (λ (e : CoveredIndex). e.index.generation) same))
     by true is (inr newer) = newer.1
     by false is on = omega arith
 
 module _ (v : Volume) (t : Trees) (plan : Cartridge) (s : Made) (held : Cartridge)
     (g : IsGrounded v t plan s.base) (reads : ReadsAs v t plan s held) (begins : (n : ℕ) → n ≤ length s.ip → take n s.ip ≡ take n plan.ip) where
   counted : Counts v t plan s.base (end_dp (indexes_of held.dp)) reads.image.dp.more s.last
-  counted = subst (λ (e : Entry). Counts v t plan s.base (end_dp (indexes_of held.dp)) reads.image.dp.more e) reads.last_is reads.image.dp.counts
+  counted = subst (λ (e : CoveredIndex). Counts v t plan s.base (end_dp (indexes_of held.dp)) reads.image.dp.more e) reads.last_is reads.image.dp.counts
 
   on : IsOn s.base.floor s.base.ahead s.last
   on = counts_on v t plan s.base (end_dp (indexes_of held.dp)) reads.image.dp.more s.last counted
@@ -105,7 +105,7 @@ module _ (v : Volume) (t : Trees) (plan : Cartridge) (s : Made) (held : Cartridg
         form = d.form;
         more = [];
         split = reads.no_more;
-        reads = subst (λ (e : Entry). IsLastOnDp v.labels.ip (indexes_of held.dp) (Some e.index)) reads.last_is d.reads;
+        reads = subst (λ (e : CoveredIndex). IsLastOnDp v.labels.ip (indexes_of held.dp) (Some e.index)) reads.last_is d.reads;
         agrees = d.agrees;
         counts = inl (refl, refl);
       }
@@ -113,7 +113,7 @@ module _ (v : Volume) (t : Trees) (plan : Cartridge) (s : Made) (held : Cartridg
   pub flush_image : IsImage v t plan (flushed s) held
   flush_image = image_of v t plan (flushed s) held s.last on_ip on_dp reads.image.honest
 
-  pub flush_reads : (place : Place) (whole : Option Entry) → ReadsAs v t plan (does (ops.Flush place) whole s) held
+  pub flush_reads : (place : Place) (whole : Option CoveredIndex) → ReadsAs v t plan (does (ops.Flush place) whole s) held
   flush_reads place whole = record {
     ip = reads.ip;
     dp = reads.dp;

@@ -19,7 +19,7 @@ use Rattle.cartridge_meaning.specs.Pointers.{indexes_of}
 use Rattle.cartridge_meaning.proofs.Frame.{nodes_further}
 use Rattle.image_laws.specs.Left.{IsLonger}
 use Rattle.image_laws.specs.Images.{AreSafe, Counts, IsBehind, IsGrounded, IsIpImage, IsSound, Tells}
-use Rattle.image_laws.specs.Made.{Base, Entry, Job, Made, Trees, Volume, after, cartridge_of, does, flushed, makes, newer_of, newest_entry, put_on, still_ahead}
+use Rattle.image_laws.specs.Made.{Base, CoveredIndex, Job, Made, Trees, Volume, after, cartridge_of, does, flushed, makes, newer_of, newest_entry, put_on, still_ahead}
 use Rattle.image_laws.specs.Plans.{IsReady}
 use Rattle.image_laws.proofs.Appends.{IsOpened, data_before, data_opened, form_of, ip_empty, opened_long}
 use Rattle.image_laws.proofs.Longer.{end_within, image_has_index}
@@ -27,21 +27,21 @@ use Rattle.image_laws.proofs.Longer.{end_within, image_has_index}
 -- ---- the index that is ahead
 
 -- an index that is ahead is newer
-abbrev pub IsAbove : Entry → Option Entry → Type 0
+abbrev pub IsAbove : CoveredIndex → Option CoveredIndex → Type 0
 IsAbove floor None = Unit {0}
 IsAbove floor (Some ahead) = floor.index.generation < ahead.index.generation
 
-pub behind_above : (floor : Entry) (ahead : Option Entry) (on_ip : Option Index) → IsBehind floor ahead on_ip → IsAbove floor ahead
+pub behind_above : (floor : CoveredIndex) (ahead : Option CoveredIndex) (on_ip : Option Index) → IsBehind floor ahead on_ip → IsAbove floor ahead
 behind_above floor None on_ip h = tt
 behind_above floor (Some a) on_ip h = h.1
 
-abbrev IsPassed : Entry → Entry → Type 0
+abbrev IsPassed : CoveredIndex → CoveredIndex → Type 0
 IsPassed last a = (a.index.generation < last.index.generation) × (still_ahead last (Some a) ≡ None)
 
-abbrev IsStill : Entry → Entry → Type 0
+abbrev IsStill : CoveredIndex → CoveredIndex → Type 0
 IsStill last a = (last.index.generation ≤ a.index.generation) × (still_ahead last (Some a) ≡ Some a)
 
-still_cases : (last a : Entry) → IsPassed last a ⊎ IsStill last a
+still_cases : (last a : CoveredIndex) → IsPassed last a ⊎ IsStill last a
 still_cases last a = by_test (ltb a.index.generation last.index.generation) refl
   where
     by_test : (test : Bool) → ltb a.index.generation last.index.generation ≡ test → IsPassed last a ⊎ IsStill last a
@@ -51,38 +51,38 @@ still_cases last a = by_test (ltb a.index.generation last.index.generation) refl
         inr (ltb-false a.index.generation last.index.generation is, ap (λ (b : Bool). if b then None else Some a) is)
 
 -- the newest index of the data partition is the one that was flushed, or newer than all that was
-abbrev pub IsSameOrNewer : Entry → Option Entry → Entry → Type 0
+abbrev pub IsSameOrNewer : CoveredIndex → Option CoveredIndex → CoveredIndex → Type 0
 IsSameOrNewer floor ahead last = (last ≡ floor) ⊎ ((newer_of ahead floor).index.generation < last.index.generation)
 
-above_flush : (floor last : Entry) (ahead : Option Entry) → IsAbove floor ahead → IsSameOrNewer floor ahead last → IsAbove last (still_ahead last ahead)
+above_flush : (floor last : CoveredIndex) (ahead : Option CoveredIndex) → IsAbove floor ahead → IsSameOrNewer floor ahead last → IsAbove last (still_ahead last ahead)
 above_flush floor last None above h = tt
 above_flush floor last (Some a) above h =
     ⊎_elim
-    (λ (p : IsPassed last a). subst (λ (o : Option Entry). IsAbove last o) (sym p.1) tt)
+    (λ (p : IsPassed last a). subst (λ (o : Option CoveredIndex). IsAbove last o) (sym p.1) tt)
     (λ (p : IsStill last a).
     let less : last.index.generation < a.index.generation =
     ⊎_elim
-    (λ (same : last ≡ floor). omega (arith, above, ap (λ (e : Entry). e.index.generation) same))
+    (λ (same : last ≡ floor). omega (arith, above, ap (λ (e : CoveredIndex). e.index.generation) same))
     (λ (newer : a.index.generation < last.index.generation). absurd (omega (arith, newer, p.0)))
     h in
-    subst (λ (o : Option Entry). IsAbove last o) (sym p.1) less)
+    subst (λ (o : Option CoveredIndex). IsAbove last o) (sym p.1) less)
     (still_cases last a)
 
 -- a flush of the same index leaves the newest
-pub newest_stays : (floor last : Entry) (ahead : Option Entry) → IsAbove floor ahead → last ≡ floor
+pub newest_stays : (floor last : CoveredIndex) (ahead : Option CoveredIndex) → IsAbove floor ahead → last ≡ floor
     → newer_of (still_ahead last ahead) last ≡ newer_of ahead floor
 newest_stays floor last None above same = same
 newest_stays floor last (Some a) above same =
     ⊎_elim
-    (λ (p : IsPassed last a). absurd (omega (arith, p.0, above, ap (λ (e : Entry). e.index.generation) same)))
-    (λ (p : IsStill last a). ap (λ (o : Option Entry). newer_of o last) p.1)
+    (λ (p : IsPassed last a). absurd (omega (arith, p.0, above, ap (λ (e : CoveredIndex). e.index.generation) same)))
+    (λ (p : IsStill last a). ap (λ (o : Option CoveredIndex). newer_of o last) p.1)
     (still_cases last a)
 
 pub flush_above : (s : Made) → IsAbove s.base.floor s.base.ahead → s.last ≡ s.base.floor → IsAbove s.last (still_ahead s.last s.base.ahead)
 flush_above s above same = above_flush s.base.floor s.last s.base.ahead above (inl same)
 
 -- behind a newer index none is ahead
-pub none_ahead : (floor last : Entry) (ahead : Option Entry) → (newer_of ahead floor).index.generation < last.index.generation
+pub none_ahead : (floor last : CoveredIndex) (ahead : Option CoveredIndex) → (newer_of ahead floor).index.generation < last.index.generation
     → still_ahead last ahead ≡ None
 none_ahead floor last None less = refl
 none_ahead floor last (Some a) less =
@@ -91,17 +91,17 @@ none_ahead floor last (Some a) less =
     (λ (p : IsStill last a). absurd (omega (arith, p.0, less)))
     (still_cases last a)
 
-pub counts_cases : (v : Volume) (t : Trees) (plan : Cartridge) (b : Base) (end : ℕ) (more : List Construct) (last : Entry) → Counts v t plan b end more last
+pub counts_cases : (v : Volume) (t : Trees) (plan : Cartridge) (b : Base) (end : ℕ) (more : List Construct) (last : CoveredIndex) → Counts v t plan b end more last
     → IsSameOrNewer b.floor b.ahead last
 counts_cases v t plan b end more last (inl h) = inl h.1
 counts_cases v t plan b end more last (inr h) = inr h.0
 
-above_put : (part : Part) (x : Item) (whole : Option Entry) (s : Made) → IsAbove s.base.floor s.base.ahead
+above_put : (part : Part) (x : Item) (whole : Option CoveredIndex) (s : Made) → IsAbove s.base.floor s.base.ahead
     → IsAbove (put_on part x whole s).base.floor (put_on part x whole s).base.ahead
 above_put Ip x whole s above = above
 above_put Dp x whole s above = above
 
-above_does : (v : Volume) (t : Trees) (plan : Cartridge) (op : Op) (whole : Option Entry) (s : Made) → IsSound v t plan s → IsAbove s.base.floor s.base.ahead
+above_does : (v : Volume) (t : Trees) (plan : Cartridge) (op : Op) (whole : Option CoveredIndex) (s : Made) → IsSound v t plan s → IsAbove s.base.floor s.base.ahead
     → IsAbove (does op whole s).base.floor (does op whole s).base.ahead
 above_does v t plan (ops.Put place bytes) whole s h above = above_put place.part (Block bytes) whole s above
 above_does v t plan (ops.Mark place) whole s h above = above_put place.part Mark whole s above
@@ -117,7 +117,7 @@ above_after v t plan (job ∷ jobs) s sound safe above =
 
 -- ---- what the flushed state tells
 
-pub tells_further : (v : Volume) (t : Trees) (plan : Cartridge) (ip dp ip2 dp2 : ℕ) (e : Entry) → ip ≤ ip2 → dp ≤ dp2
+pub tells_further : (v : Volume) (t : Trees) (plan : Cartridge) (ip dp ip2 dp2 : ℕ) (e : CoveredIndex) → ip ≤ ip2 → dp ≤ dp2
     → Tells v t plan ip dp e → Tells v t plan ip2 dp2 e
 tells_further v t plan ip dp ip2 dp2 e le le2 h = record {
   facts = h.facts;
@@ -127,19 +127,19 @@ tells_further v t plan ip dp ip2 dp2 e le le2 h = record {
 }
 
 -- the newest of what was flushed tells, or a newer index does
-abbrev TellsNewest : Volume → Trees → Cartridge → (ip dp : ℕ) → Entry → Option Entry → Entry → Type 0
+abbrev TellsNewest : Volume → Trees → Cartridge → (ip dp : ℕ) → CoveredIndex → Option CoveredIndex → CoveredIndex → Type 0
 TellsNewest v t plan ip dp floor ahead last =
     ((last ≡ floor) × Tells v t plan ip dp (newer_of ahead floor))
     ⊎ (((newer_of ahead floor).index.generation < last.index.generation) × Tells v t plan ip dp last)
 
-flush_tells : (v : Volume) (t : Trees) (plan : Cartridge) (ip dp : ℕ) (floor last : Entry) (ahead : Option Entry) → IsAbove floor ahead
+flush_tells : (v : Volume) (t : Trees) (plan : Cartridge) (ip dp : ℕ) (floor last : CoveredIndex) (ahead : Option CoveredIndex) → IsAbove floor ahead
     → TellsNewest v t plan ip dp floor ahead last → Tells v t plan ip dp (newer_of (still_ahead last ahead) last)
 flush_tells v t plan ip dp floor last ahead above (inl h) =
-    subst (λ (e : Entry). Tells v t plan ip dp e) (sym (newest_stays floor last ahead above h.0)) h.1
+    subst (λ (e : CoveredIndex). Tells v t plan ip dp e) (sym (newest_stays floor last ahead above h.0)) h.1
 flush_tells v t plan ip dp floor last ahead above (inr h) =
-    subst (λ (o : Option Entry). Tells v t plan ip dp (newer_of o last)) (sym (none_ahead floor last ahead h.0)) h.1
+    subst (λ (o : Option CoveredIndex). Tells v t plan ip dp (newer_of o last)) (sym (none_ahead floor last ahead h.0)) h.1
 
-sound_tells : (v : Volume) (t : Trees) (plan : Cartridge) (b : Base) (ks more : List Construct) (last : Entry) → ks ≡ more ++ b.indexes → IsGrounded v t plan b
+sound_tells : (v : Volume) (t : Trees) (plan : Cartridge) (b : Base) (ks more : List Construct) (last : CoveredIndex) → ks ≡ more ++ b.indexes → IsGrounded v t plan b
     → Counts v t plan b (end_dp ks) more last → TellsNewest v t plan b.sure (end_dp ks) b.floor b.ahead last
 sound_tells v t plan b ks more last split g (inl h) =
     let same : ks ≡ b.indexes = split ∙ ap (λ (l : List Construct). l ++ b.indexes) h.0 in
@@ -210,14 +210,14 @@ end_ready items r free =
     ∙ ap (λ (l : List Item). length l) r.whole
 
 -- none is ahead from then on
-none_put : (part : Part) (x : Item) (whole : Option Entry) (s : Made) → s.base.ahead ≡ None → (put_on part x whole s).base.ahead ≡ None
+none_put : (part : Part) (x : Item) (whole : Option CoveredIndex) (s : Made) → s.base.ahead ≡ None → (put_on part x whole s).base.ahead ≡ None
 none_put Ip x whole s none = none
 none_put Dp x whole s none = none
 
-none_does : (op : Op) (whole : Option Entry) (s : Made) → s.base.ahead ≡ None → (does op whole s).base.ahead ≡ None
+none_does : (op : Op) (whole : Option CoveredIndex) (s : Made) → s.base.ahead ≡ None → (does op whole s).base.ahead ≡ None
 none_does (ops.Put place bytes) whole s none = none_put place.part (Block bytes) whole s none
 none_does (ops.Mark place) whole s none = none_put place.part Mark whole s none
-none_does (ops.Flush place) whole s none = ap (λ (o : Option Entry). still_ahead s.last o) none
+none_does (ops.Flush place) whole s none = ap (λ (o : Option CoveredIndex). still_ahead s.last o) none
 
 pub none_stays : (jobs : List Job) (s : Made) → s.base.ahead ≡ None → (after s jobs).base.ahead ≡ None
 none_stays [] s none = none

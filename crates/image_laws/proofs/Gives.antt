@@ -20,7 +20,7 @@ use Rattle.image_laws.specs.Events.{IsReached}
 use Rattle.image_laws.specs.Images.{IsNext}
 use Rattle.image_laws.specs.Fine.{IsFine, IsSame}
 use Rattle.image_laws.specs.Kept.{IsHeld, Kept, Moment, Wait, plan_of}
-use Rattle.image_laws.specs.Made.{Entry, Job, Made, Trees, Volume, least, newest, part_items}
+use Rattle.image_laws.specs.Made.{CoveredIndex, Job, Made, Trees, Volume, least, newest, part_items}
 use Rattle.image_laws.proofs.Pointing.{counts_point}
 use Rattle.image_laws.proofs.Fines.{fine, flushed_stands}
 
@@ -74,14 +74,14 @@ module _ (v : Volume) (t : Trees) (s : Made) (since : ℕ) (d : Moment) (done : 
   pub last_on_ip : IsLastOnIp v.labels.ip (indexes_of d.held.ip) (indexes_of d.held.dp) (Some s.last.index) k.reads.image.ip.on_ip
   last_on_ip =
       let i = k.reads.image in
-      subst (λ (e : Entry). IsLastOnIp v.labels.ip (indexes_of d.held.ip) (indexes_of d.held.dp) (Some e.index) i.ip.on_ip) k.reads.last_is
+      subst (λ (e : CoveredIndex). IsLastOnIp v.labels.ip (indexes_of d.held.ip) (indexes_of d.held.dp) (Some e.index) i.ip.on_ip) k.reads.last_is
       (subst (λ (ks : List Construct). IsLastOnIp v.labels.ip (indexes_of d.held.ip) ks (Some i.last.index) i.ip.on_ip) (sym i.dp.split)
       (counts_point v t (plan_of s jobs) s.base (end_dp (indexes_of d.held.dp)) (indexes_of d.held.ip) i.dp.more i.last i.ip.on_ip
       k.sound.grounded.some i.ip.behind i.dp.counts i.ip.reads))
 
   pub last_on_dp : IsLastOnDp v.labels.ip (indexes_of d.held.dp) (Some s.last.index)
   last_on_dp =
-      subst (λ (e : Entry). IsLastOnDp v.labels.ip (indexes_of d.held.dp) (Some e.index)) k.reads.last_is k.reads.image.dp.reads
+      subst (λ (e : CoveredIndex). IsLastOnDp v.labels.ip (indexes_of d.held.dp) (Some e.index)) k.reads.last_is k.reads.image.dp.reads
 
   -- so a note with the generation and the place of that index tells of it
   pub tells_on_dp : (note : Coherency) → note.generation ≡ s.last.index.generation → last_block (indexes_of s.dp) ≡ Some note.block

@@ -12,14 +12,14 @@ use Rattle.space_laws.specs.Space.{Space}
 use Rattle.image_laws.specs.Fine.{GoesOn, IsFine, IsSame}
 use Rattle.image_laws.specs.Images.{AreSafe, AreUpTo, Counts, IsDpImage, IsGrounded, IsImage, IsSound, Tells}
 use Rattle.image_laws.specs.Kept.{IsHeld, IsServed, Kept, Moment, ReadsAs, Serves, Wait, plan_of}
-use Rattle.image_laws.specs.Made.{Base, Entry, Job, Made, Trees, Volume, after, least, makes}
+use Rattle.image_laws.specs.Made.{Base, CoveredIndex, Job, Made, Trees, Volume, after, least, makes}
 use Rattle.image_laws.specs.Plans.{IsPlanned}
 
 module _ (v : Volume) (old new : Trees) (more : GoesOn old new) where
   pub same_on : (from to : ℕ) → to ≤ old.count → IsSame old from to → IsSame new from to
   same_on from to le same j low high = more.same j (omega (arith, high, le)) ∙ same j low high ∙ sym (more.same to le)
 
-  pub tells_on : (c : Cartridge) (ip dp : ℕ) (e : Entry) → Tells v old c ip dp e → Tells v new c ip dp e
+  pub tells_on : (c : Cartridge) (ip dp : ℕ) (e : CoveredIndex) → Tells v old c ip dp e → Tells v new c ip dp e
   tells_on c ip dp e h = record {
     facts = h.facts;
     within = h.within;
@@ -27,11 +27,11 @@ module _ (v : Volume) (old new : Trees) (more : GoesOn old new) where
     tree = subst (IsTreeOf v.labels.ip c e.index) (sym (more.same e.place h.covered)) h.tree;
   }
 
-  counts_on : (plan : Cartridge) (b : Base) (end : ℕ) (newer : List Construct) (last : Entry) → Counts v old plan b end newer last → Counts v new plan b end newer last
+  counts_on : (plan : Cartridge) (b : Base) (end : ℕ) (newer : List Construct) (last : CoveredIndex) → Counts v old plan b end newer last → Counts v new plan b end newer last
   counts_on plan b end newer last (inl h) = inl h
   counts_on plan b end newer last (inr h) = inr (h.0, h.1, tells_on plan b.sure end last h.2)
 
-  dp_on : (plan : Cartridge) (b : Base) (dp : List Item) (last : Entry) → IsDpImage v old plan b dp last → IsDpImage v new plan b dp last
+  dp_on : (plan : Cartridge) (b : Base) (dp : List Item) (last : CoveredIndex) → IsDpImage v old plan b dp last → IsDpImage v new plan b dp last
   dp_on plan b dp last h = record {
     labels = h.labels;
     form = h.form;

@@ -20,7 +20,7 @@ use Rattle.cartridge_meaning.specs.Notes.{IsHonestNote}
 use Rattle.cartridge_meaning.specs.Pointers.{IsLastOnDp, IsLastOnIp, indexes_of}
 use Rattle.cartridge_meaning.proofs.Frame.{labels_stay}
 use Rattle.image_laws.specs.Images.{AreHonest, AreUpTo, Counts, IsDpImage, IsGrounded, IsImage, IsIpImage, IsSound, MayWrite}
-use Rattle.image_laws.specs.Made.{Base, Entry, Made, Trees, Volume, or_last, part_items, put_on}
+use Rattle.image_laws.specs.Made.{Base, CoveredIndex, Made, Trees, Volume, or_last, part_items, put_on}
 use Rattle.image_laws.proofs.Fronts.{end_within, form_torn, indexes_torn, long_dp, long_enough, one_torn}
 
 -- ---- cartridges and their notes
@@ -95,7 +95,7 @@ ip_torn v plan b ip le i = record {
   further = subst (λ (s : Content). b.sure ≤ end_ip s) (sym (content_torn ip)) i.further;
 }
 
-pub dp_torn : (v : Volume) (t : Trees) (plan : Cartridge) (b : Base) (dp : List Item) (last : Entry) → 4 ≤ length (front dp) → IsDpImage v t plan b dp last
+pub dp_torn : (v : Volume) (t : Trees) (plan : Cartridge) (b : Base) (dp : List Item) (last : CoveredIndex) → 4 ≤ length (front dp) → IsDpImage v t plan b dp last
     → IsDpImage v t plan b (dp ++ Torn ∷ []) last
 dp_torn v t plan b dp last long d =
     let within = end_within dp long in
@@ -118,7 +118,7 @@ module _ (v : Volume) (t : Trees) (plan : Cartridge) (b : Base) (g : IsGrounded 
   pub sure_within : (ip : List Item) → IsIpImage v plan b ip → b.sure ≤ length ip
   sure_within ip i = long_enough b.sure ip plan.ip i.agrees g.on_ip
 
-  pub front_of_dp : (dp : List Item) (last : Entry) → IsDpImage v t plan b dp last → 4 ≤ length (front dp)
+  pub front_of_dp : (dp : List Item) (last : CoveredIndex) → IsDpImage v t plan b dp last → 4 ≤ length (front dp)
   front_of_dp dp last d =
       let c : Cartridge = record { ip = plan.ip; dp = dp; vcr = plan.vcr; note_ip = plan.note_ip; note_dp = plan.note_dp } in
       long_dp c v.labels (labels_stay plan c v.labels refl (sym d.labels) g.labels)
@@ -126,18 +126,18 @@ module _ (v : Volume) (t : Trees) (plan : Cartridge) (b : Base) (g : IsGrounded 
   pub ip_ends : (x : Item) (good new : List Item) → IsIpImage v plan b good → IsIpImage v plan b (good ++ x ∷ []) → EndsAt good x new → IsIpImage v plan b new
   ip_ends x good new one then ends = at_ends (λ (l : List Item). IsIpImage v plan b l) x good new one (ip_torn v plan b good (sure_within good one) one) then ends
 
-  pub dp_ends : (x : Item) (good new : List Item) (last next : Entry) → IsDpImage v t plan b good last → IsDpImage v t plan b (good ++ x ∷ []) next
-      → EndsAt good x new → (e : Entry) × IsDpImage v t plan b new e
+  pub dp_ends : (x : Item) (good new : List Item) (last next : CoveredIndex) → IsDpImage v t plan b good last → IsDpImage v t plan b (good ++ x ∷ []) next
+      → EndsAt good x new → (e : CoveredIndex) × IsDpImage v t plan b new e
   dp_ends x good new last next one then ends =
-      at_ends (λ (l : List Item). (e : Entry) × IsDpImage v t plan b l e) x good new (last, one) (last, dp_torn v t plan b good last (front_of_dp good last one) one) (next, then) ends
+      at_ends (λ (l : List Item). (e : CoveredIndex) × IsDpImage v t plan b l e) x good new (last, one) (last, dp_torn v t plan b good last (front_of_dp good last one) one) (next, then) ends
 
 -- an image whose partitions are images, where its notes are honest
-abbrev pub image_of : (v : Volume) (t : Trees) (plan : Cartridge) (b : Base) (c : Cartridge) (last : Entry) → IsIpImage v plan b c.ip → IsDpImage v t plan b c.dp last
+abbrev pub image_of : (v : Volume) (t : Trees) (plan : Cartridge) (b : Base) (c : Cartridge) (last : CoveredIndex) → IsIpImage v plan b c.ip → IsDpImage v t plan b c.dp last
     → AreHonest v c → IsImage v t plan b c
 image_of v t plan b c last ip dp honest = record { ip = ip; last = last; dp = dp; honest = honest }
 
 -- what a crash may leave within a write
-pub written : (v : Volume) (t : Trees) (plan : Cartridge) (p : Part) (pos : ℕ) (x : Item) (whole : Option Entry) (s : Made) (held before c : Cartridge)
+pub written : (v : Volume) (t : Trees) (plan : Cartridge) (p : Part) (pos : ℕ) (x : Item) (whole : Option CoveredIndex) (s : Made) (held before c : Cartridge)
     → take (length s.ip) held.ip ≡ s.ip → take (length s.dp) held.dp ≡ s.dp → pos ≡ length (part_items p s) → MayWrite p s.base
     → IsSound v t plan s → IsSound v t plan (put_on p x whole s) → AreUpTo v held.vcr before → IsImage v t plan s.base before
     → WithinWrite p pos x held before c → IsImage v t plan s.base c
@@ -151,7 +151,7 @@ written v t plan Ip pos x whole s held before c ip dp at may sound then up image
     image_of v t plan s.base c image.last on_ip on_dp (honest_written v Ip pos x held before c up image.honest w)
 written v t plan Dp pos x whole s held before c ip dp at may sound then up image w =
     let on_ip = subst (λ (l : List Item). IsIpImage v plan s.base l) (sym w.rest.other_part) image.ip in
-    let on_dp : (e : Entry) × IsDpImage v t plan s.base c.dp e =
+    let on_dp : (e : CoveredIndex) × IsDpImage v t plan s.base c.dp e =
     ⊎_elim
     (λ (same : (c.dp ≡ before.dp) × ((c.vcr ≡ before.vcr) ⊎ VcrRose held c)). (image.last, subst (λ (l : List Item). IsDpImage v t plan s.base l image.last) (sym same.0) image.dp))
     (λ (cut : IsCut pos x held.dp c.dp × VcrRose held c).

@@ -28,7 +28,7 @@ use Rattle.image_laws.specs.Left.{IsLonger}
 use Rattle.image_laws.specs.Fine.{IsSame}
 use Rattle.image_laws.specs.Images.{Counts, IsSound, Tells}
 use Rattle.image_laws.specs.Kept.{IsServed, Kept, Moment, Serves, Wait, plan_of}
-use Rattle.image_laws.specs.Made.{Base, Entry, Job, Made, Trees, Volume, after, cartridge_of, flushed, least, newer_of, newest, newest_entry, plain, put_on, still_ahead}
+use Rattle.image_laws.specs.Made.{Base, CoveredIndex, Job, Made, Trees, Volume, after, cartridge_of, flushed, least, newer_of, newest, newest_entry, plain, put_on, still_ahead}
 use Rattle.image_laws.specs.Plans.{IsDue, IsPlanned, IsReady, index_jobs}
 use Rattle.image_laws.proofs.Admits.{kept_sound, served_unchanged, serves_more}
 use Rattle.image_laws.proofs.Appends.{IsOpened, IsQuiet, LeadsTo, form_of, leads_append, puts_are, quiet_mark, run, sound_put, with_items}
@@ -149,7 +149,7 @@ flushed_first v t plan s true end sure indexed can ready free sound =
 
 -- ---- the index
 
-module _ (v : Volume) (t : Trees) (s : Made) (space : Space) (rules : Rules) (text : List ℕ) (e : Entry) (p : IsPlanned t s space)
+module _ (v : Volume) (t : Trees) (s : Made) (space : Space) (rules : Rules) (text : List ℕ) (e : CoveredIndex) (p : IsPlanned t s space)
     (due : IsDue v t s space text e) (size : 1 ≤ rules.block_size) (above : IsAbove s.base.floor s.base.ahead) (sound : IsSound v t (cartridge_of s) s) where
   abbrev bs : List (List ℕ)
   bs = blocks_of rules.block_size text
@@ -199,7 +199,7 @@ module _ (v : Volume) (t : Trees) (s : Made) (space : Space) (rules : Rules) (te
   module _ (b : Base) (sound1 : IsSound v t plan (with_base b s)) (sure : b.sure ≡ length s.ip) (newest_is : newest_entry b ≡ newest_entry s.base)
       (above1 : IsAbove b.floor b.ahead) where
     is_newer : newest b < e.index.generation
-    is_newer = omega (arith, due.generation, p.newest_is, ap (λ (f : Entry). f.index.generation) newest_is)
+    is_newer = omega (arith, due.generation, p.newest_is, ap (λ (f : CoveredIndex). f.index.generation) newest_is)
 
     dp_reads : IsLastOnDp v.labels.ip (indexes_of (with_construct s.dp bs)) (Some e.index)
     dp_reads =
@@ -218,7 +218,7 @@ module _ (v : Volume) (t : Trees) (s : Made) (space : Space) (rules : Rules) (te
     dp_counts : Counts v t plan b (end_dp (k ∷ indexes_of s.dp)) (k ∷ sound1.dp.more) e
     dp_counts = inr (
       is_newer,
-      omega (arith, due.all, sound.grounded.tells.covered, ap (λ (f : Entry). f.place) newest_is),
+      omega (arith, due.all, sound.grounded.tells.covered, ap (λ (f : CoveredIndex). f.place) newest_is),
       dp_tells,
     )
 
@@ -304,7 +304,7 @@ module _ (v : Volume) (t : Trees) (s : Made) (space : Space) (rules : Rules) (te
     none_is_ahead = none_ahead b.floor e b.ahead is_newer
 
     last_is_newest : newest_entry (flushed (indexed b)) ≡ e
-    last_is_newest = ap (λ (o : Option Entry). newer_of o e) none_is_ahead
+    last_is_newest = ap (λ (o : Option CoveredIndex). newer_of o e) none_is_ahead
 
     same_here : IsSame t t.count t.count
     same_here j from to = let here : j ≡ t.count = omega (arith, from, to) in ap (λ (n : ℕ). t.nth n) here
@@ -313,12 +313,12 @@ module _ (v : Volume) (t : Trees) (s : Made) (space : Space) (rules : Rules) (te
     planned_index = record {
       end_ip = p.end_ip;
       end_dp = omega (arith, p.end_dp, construct_long s.dp bs, count_is rules.block_size text);
-      newest_is = omega (arith, due.generation, ap (λ (f : Entry). f.index.generation) last_is_newest);
+      newest_is = omega (arith, due.generation, ap (λ (f : CoveredIndex). f.index.generation) last_is_newest);
       last_dp = ap (λ (n : ℕ). Some (n + 1)) p.end_dp ∙ ap last_block (sym is_indexes);
       indexed = refl;
       flushed = λ same. end_of_ip;
       covered = λ same.
-          let place : least (flushed (indexed b)) ≡ t.count = ap (λ (f : Entry). f.place) last_is_newest ∙ due.all in
+          let place : least (flushed (indexed b)) ≡ t.count = ap (λ (f : CoveredIndex). f.place) last_is_newest ∙ due.all in
           subst (λ (n : ℕ). IsSame t n t.count) (sym place) same_here;
       ended = λ same. ends_with_new s.dp bs p.ready_dp some;
       ready_ip = p.ready_ip;
@@ -349,7 +349,7 @@ kept_above v t s since d done jobs waits acks k =
     (behind_above s.base.floor s.base.ahead k.reads.image.ip.on_ip k.reads.image.ip.behind)
 
 pub admitted_index : (v : Volume) (t : Trees) (s : Made) (since : ℕ) (d : Moment) (done : ℕ) (jobs : List Job) (waits : List Wait) (acks : List Ack) (space : Space)
-    (rules : Rules) (text : List ℕ) (e : Entry)
+    (rules : Rules) (text : List ℕ) (e : CoveredIndex)
     → Serves v t s since d done jobs waits acks space → IsDue v t (after s jobs) space text e → 1 ≤ rules.block_size
     → Serves v t s since d done (jobs ++ index_jobs rules space text e) waits acks (with_index rules text space)
 admitted_index v t s since d done jobs waits acks space rules text e h due size =
@@ -361,7 +361,7 @@ admitted_index v t s since d done jobs waits acks space rules text e h due size 
 
 -- the sync for which it was admitted
 pub index_served : (v : Volume) (t : Trees) (s : Made) (since : ℕ) (d : Moment) (done : ℕ) (jobs : List Job) (waits : List Wait) (acks : List Ack) (space : Space)
-    (rules : Rules) (text : List ℕ) (e : Entry)
+    (rules : Rules) (text : List ℕ) (e : CoveredIndex)
     → Serves v t s since d done jobs waits acks space → IsDue v t (after s jobs) space text e → 1 ≤ rules.block_size
     → IsServed t s done (jobs ++ index_jobs rules space text e) (record { place = t.count; due = done + length (jobs ++ index_jobs rules space text e) })
 index_served v t s since d done jobs waits acks space rules text e h due size =
@@ -371,7 +371,7 @@ index_served v t s since d done jobs waits acks space rules text e h due size =
 
 -- behind it no index is ahead
 pub index_settled : (v : Volume) (t : Trees) (s : Made) (since : ℕ) (d : Moment) (done : ℕ) (jobs : List Job) (waits : List Wait) (acks : List Ack) (space : Space)
-    (rules : Rules) (text : List ℕ) (e : Entry)
+    (rules : Rules) (text : List ℕ) (e : CoveredIndex)
     → Serves v t s since d done jobs waits acks space → IsDue v t (after s jobs) space text e → 1 ≤ rules.block_size
     → (after s (jobs ++ index_jobs rules space text e)).base.ahead ≡ None
 index_settled v t s since d done jobs waits acks space rules text e h due size =

@@ -21,7 +21,7 @@ use Rattle.cartridge_meaning.specs.declared.labels.Labels.{Labels}
 use Rattle.cartridge_meaning.proofs.Frame.{labels_stay, tree_stays}
 use Rattle.image_laws.specs.Left.{IsLonger, PlansGoOn}
 use Rattle.image_laws.specs.Images.{AreSafe, Counts, IsDpImage, IsGrounded, IsImage, IsIpImage, IsSound, Tells}
-use Rattle.image_laws.specs.Made.{Base, Entry, Job, Made, Trees, Volume, after, cartridge_of, does, makes, newest_entry, put_on}
+use Rattle.image_laws.specs.Made.{Base, CoveredIndex, Job, Made, Trees, Volume, after, cartridge_of, does, makes, newest_entry, put_on}
 
 -- ---- lengths
 
@@ -49,11 +49,11 @@ some_behind [] ks some none = some none
 some_behind (k ∷ more) ks some none = cc none
 
 -- the end of an image of the data partition lies within the plan
-pub image_has_index : (v : Volume) (t : Trees) (plan : Cartridge) (b : Base) (dp : List Item) (last : Entry) → b.indexes ≢ []
+pub image_has_index : (v : Volume) (t : Trees) (plan : Cartridge) (b : Base) (dp : List Item) (last : CoveredIndex) → b.indexes ≢ []
     → IsDpImage v t plan b dp last → indexes_of dp ≢ []
 image_has_index v t plan b dp last some i none = some_behind i.more b.indexes some (sym i.split ∙ none)
 
-pub image_end : (v : Volume) (t : Trees) (plan : Cartridge) (b : Base) (dp : List Item) (last : Entry) → b.indexes ≢ []
+pub image_end : (v : Volume) (t : Trees) (plan : Cartridge) (b : Base) (dp : List Item) (last : CoveredIndex) → b.indexes ≢ []
     → IsDpImage v t plan b dp last → end_dp (indexes_of dp) ≤ length plan.dp
 image_end v t plan b dp last some i =
     same_length (end_dp (indexes_of dp)) dp plan.dp i.agrees (end_within dp (image_has_index v t plan b dp last some i))
@@ -73,7 +73,7 @@ module _ (v : Volume) (t : Trees) (plan longer : Cartridge) (l : IsLonger plan l
     omega (arith, ap (λ (xs : List Item). length xs) l.dp, length-append plan.dp l.more_dp),
   )
 
-  pub tells_longer : (ip dp : ℕ) (e : Entry) → v.labels.ip.index ≢ v.labels.ip.dpart → ip ≤ length plan.ip → dp ≤ length plan.dp
+  pub tells_longer : (ip dp : ℕ) (e : CoveredIndex) → v.labels.ip.index ≢ v.labels.ip.dpart → ip ≤ length plan.ip → dp ≤ length plan.dp
       → Tells v t plan ip dp e → Tells v t longer ip dp e
   tells_longer ip dp e differ le_ip le_dp h = record {
     facts = h.facts;
@@ -97,13 +97,13 @@ module _ (v : Volume) (t : Trees) (plan longer : Cartridge) (l : IsLonger plan l
         on_dp = omega (arith, g.on_dp, more.1);
       }
 
-  counts_longer : (b : Base) (end : ℕ) (more : List Construct) (e : Entry) → IsGrounded v t plan b → end ≤ length plan.dp
+  counts_longer : (b : Base) (end : ℕ) (more : List Construct) (e : CoveredIndex) → IsGrounded v t plan b → end ≤ length plan.dp
       → Counts v t plan b end more e → Counts v t longer b end more e
   counts_longer b end more e g le (inl h) = inl h
   counts_longer b end more e g le (inr h) =
       inr (h.0, h.1, tells_longer b.sure end e g.labels.one_volume.places.letters g.on_ip le h.2)
 
-  pub dp_longer : (b : Base) (dp : List Item) (last : Entry) → IsGrounded v t plan b → IsDpImage v t plan b dp last
+  pub dp_longer : (b : Base) (dp : List Item) (last : CoveredIndex) → IsGrounded v t plan b → IsDpImage v t plan b dp last
       → IsDpImage v t longer b dp last
   dp_longer b dp last g i =
       let end = image_end v t plan b dp last g.some i in
@@ -166,11 +166,11 @@ IsGrown s made = IsLonger (cartridge_of s) (cartridge_of made)
 none_longer : (s : Made) → IsGrown s s
 none_longer s = record { more_ip = []; ip = sym (append-nil s.ip); more_dp = []; dp = sym (append-nil s.dp) }
 
-put_longer : (part : Part) (x : Item) (whole : Option Entry) (s : Made) → IsGrown s (put_on part x whole s)
+put_longer : (part : Part) (x : Item) (whole : Option CoveredIndex) (s : Made) → IsGrown s (put_on part x whole s)
 put_longer Ip x whole s = record { more_ip = x ∷ []; ip = refl; more_dp = []; dp = sym (append-nil s.dp) }
 put_longer Dp x whole s = record { more_ip = []; ip = sym (append-nil s.ip); more_dp = x ∷ []; dp = refl }
 
-does_longer : (op : Op) (whole : Option Entry) (s : Made) → IsGrown s (does op whole s)
+does_longer : (op : Op) (whole : Option CoveredIndex) (s : Made) → IsGrown s (does op whole s)
 does_longer (ops.Put place bytes) whole s = put_longer place.part (Block bytes) whole s
 does_longer (ops.Mark place) whole s = put_longer place.part Mark whole s
 does_longer (ops.Flush place) whole s =

@@ -8,10 +8,10 @@ use Rattle.content_laws.specs.Readings.{Construct}
 use Rattle.cartridge_meaning.specs.Pointers.{IsLastOnIp}
 use Rattle.cartridge_meaning.proofs.Frame.{pointers_stay}
 use Rattle.image_laws.specs.Images.{Counts, IsBehind}
-use Rattle.image_laws.specs.Made.{Base, Entry, Trees, Volume, newer_of, newest}
+use Rattle.image_laws.specs.Made.{Base, CoveredIndex, Trees, Volume, newer_of, newest}
 
 -- the index of the index partition is no newer than the newest of both
-pub behind_newest : (floor : Entry) (ahead : Option Entry) (on_ip : Option Index) → IsBehind floor ahead on_ip
+pub behind_newest : (floor : CoveredIndex) (ahead : Option CoveredIndex) (on_ip : Option Index) → IsBehind floor ahead on_ip
     → IfSome on_ip (λ index. index.generation ≤ (newer_of ahead floor).index.generation)
 behind_newest floor None on_ip h = h
 behind_newest floor (Some e) None h = tt
@@ -36,11 +36,11 @@ points_on label (k ∷ older) more dps old new on_ip some less h =
     (h.0, h.1, h.2, record { here = h.3.here; back = pointers_stay label h.0 old new more dps some is_less h.3.back })
 
 -- so it does beside each image of the data partition
-pub counts_point : (v : Volume) (t : Trees) (plan : Cartridge) (b : Base) (end : ℕ) (ips more : List Construct) (last : Entry) (on_ip : Option Index)
+pub counts_point : (v : Volume) (t : Trees) (plan : Cartridge) (b : Base) (end : ℕ) (ips more : List Construct) (last : CoveredIndex) (on_ip : Option Index)
     → b.indexes ≢ [] → IsBehind b.floor b.ahead on_ip → Counts v t plan b end more last
     → IsLastOnIp v.labels.ip ips b.indexes (Some b.floor.index) on_ip → IsLastOnIp v.labels.ip ips (more ++ b.indexes) (Some last.index) on_ip
 counts_point v t plan b end ips more last on_ip some behind (inl same) h =
-    subst (λ (e : Entry). IsLastOnIp v.labels.ip ips (more ++ b.indexes) (Some e.index) on_ip) (sym same.1)
+    subst (λ (e : CoveredIndex). IsLastOnIp v.labels.ip ips (more ++ b.indexes) (Some e.index) on_ip) (sym same.1)
     (subst (λ (m : List Construct). IsLastOnIp v.labels.ip ips (m ++ b.indexes) (Some b.floor.index) on_ip) (sym same.0) h)
 counts_point v t plan b end ips more last on_ip some behind (inr newer) h =
     points_on v.labels.ip ips more b.indexes b.floor.index last.index on_ip some

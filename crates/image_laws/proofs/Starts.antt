@@ -29,7 +29,7 @@ use Rattle.space_laws.specs.Space.{Space}
 use Rattle.image_laws.specs.Fine.{IsFine}
 use Rattle.image_laws.specs.Images.{AreHonest, AreUpTo, IsBehind, IsDpImage, IsGrounded, IsImage, IsIpImage, IsSound, Tells}
 use Rattle.image_laws.specs.Kept.{IsServed, Kept, Moment, ReadsAs, Serves, plan_of}
-use Rattle.image_laws.specs.Made.{Base, Entry, Made, Trees, Volume, cartridge_of, newest_entry, newer_of}
+use Rattle.image_laws.specs.Made.{Base, CoveredIndex, Made, Trees, Volume, cartridge_of, newest_entry, newer_of}
 use Rattle.image_laws.specs.Plans.{IsPlanned, IsReady}
 use Rattle.image_laws.specs.Starts.{CanStart, IsFirstSpace, ahead_of, begun_with, first_entry, made_of}
 use Rattle.image_laws.proofs.Cut.{cut_is_whole, has_form, is_good, long_front}
@@ -200,7 +200,7 @@ module _ (v : Volume) (d : Moment) (since : ℕ) (tree : Tree) (generation : ℕ
     one = subst (IsOneAtMost s.ip) (sym ip_none) tt;
     on_ip = None;
     reads = subst (λ (ks : List Construct). IsLastOnIp v.labels.ip ks (indexes_of c.dp) (Some has_last.0) None) (sym ip_none) refl;
-    behind = subst (λ (o : Option Entry). IsBehind s.base.floor o None) (sym on) tt;
+    behind = subst (λ (o : Option CoveredIndex). IsBehind s.base.floor o None) (sym on) tt;
     agrees = refl;
     further = omega (arith, ip_end_is);
   }
@@ -292,7 +292,7 @@ module _ (v : Volume) (d : Moment) (since : ℕ) (tree : Tree) (generation : ℕ
   plans space is = record {
     end_ip = is.end_ip ∙ sym ip_long;
     end_dp = is.end_dp ∙ sym dp_long;
-    newest_is = is.newest ∙ same_generation ∙ ap (λ (e : Entry). e.index.generation) (sym newest_is);
+    newest_is = is.newest ∙ same_generation ∙ ap (λ (e : CoveredIndex). e.index.generation) (sym newest_is);
     last_dp = is.last_dp ∙ ap last_block (sym dp_indexes);
     indexed = refl;
     flushed = λ due. sym ip_long;

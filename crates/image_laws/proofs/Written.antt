@@ -15,7 +15,7 @@ use Rattle.tape_drive.specs.Crashes.{WithinWrite}
 use Rattle.cartridge_meaning.specs.Pointers.{indexes_of}
 use Rattle.image_laws.specs.Images.{AreHonest, AreUpTo, IsDpImage, IsIpImage, IsSound, MayWrite}
 use Rattle.image_laws.specs.Kept.{ReadsAs}
-use Rattle.image_laws.specs.Made.{Entry, Made, Trees, Volume, or_last, part_items, put_on}
+use Rattle.image_laws.specs.Made.{CoveredIndex, Made, Trees, Volume, or_last, part_items, put_on}
 use Rattle.image_laws.proofs.Fronts.{indexes_torn}
 use Rattle.image_laws.proofs.Images.{dp_torn, front_of_dp, honest_written, image_of, ip_torn, sure_within}
 
@@ -58,7 +58,7 @@ module _ (v : Volume) (t : Trees) (plan : Cartridge) (pos : ℕ) (x : Item) (s :
   item_put good old items at is e = e ∙ ap (λ (l : List Item). l ++ x ∷ []) (front_is good old at is)
 
   -- it was done
-  pub written_reads : (p : Part) (whole : Option Entry) → pos ≡ length (part_items p s) → MayWrite p s.base → IsSound v t plan (put_on p x whole s)
+  pub written_reads : (p : Part) (whole : Option CoveredIndex) → pos ≡ length (part_items p s) → MayWrite p s.base → IsSound v t plan (put_on p x whole s)
       → IsWritten p pos x held new → ReadsAs v t plan (put_on p x whole s) new
   written_reads Ip whole at may then w =
       let is : new.ip ≡ s.ip ++ x ∷ [] = item_put s.ip held.ip new.ip at reads.ip w.items in
@@ -99,7 +99,7 @@ module _ (v : Volume) (t : Trees) (plan : Cartridge) (pos : ℕ) (x : Item) (s :
     further = further;
   }
 
-  on_dp : AreHonest v new → new.ip ≡ held.ip → (last : Entry) → IsDpImage v t plan s.base new.dp last → last ≡ s.last → take (length s.dp) new.dp ≡ s.dp
+  on_dp : AreHonest v new → new.ip ≡ held.ip → (last : CoveredIndex) → IsDpImage v t plan s.base new.dp last → last ≡ s.last → take (length s.dp) new.dp ≡ s.dp
       → indexes_of new.dp ≡ indexes_of s.dp → ReadsAs v t plan s new
   on_dp honest same last image is front no_more = record {
     ip = ap (λ (l : List Item). take (length s.ip) l) same ∙ reads.ip;

@@ -8,12 +8,12 @@ use Rattle.content_laws.specs.Worked.{block, first_index, labels, second_index, 
 use Rattle.tape_layout.specs.declared.ops.Op.TheVariants as ops
 use Rattle.cartridge_meaning.specs.Pointers.{indexes_of}
 use Rattle.image_laws.specs.Images.{IsNext}
-use Rattle.image_laws.specs.Made.{Entry, Made, after}
+use Rattle.image_laws.specs.Made.{CoveredIndex, Made, after}
 use Rattle.image_laws.specs.Worked.{covered, entry, mounted, on_dp, on_ip, put_on_ip, so_far, write_again}
 use Rattle.image_laws.specs.Worked.{write_and_sync}
 
 -- which indexes an image of the data partition has: up to the last mark the first alone, torn or not
-pub record TellsImages (s : Made) (second : Entry) : Type 0 where
+pub record TellsImages (s : Made) (second : CoveredIndex) : Type 0 where
   pub at_first : indexes_of s.dp ≡ first_index ∷ []
   pub in_data : indexes_of (so_far s (write_and_sync second) 1).dp ≡ first_index ∷ []
   pub begun : indexes_of (so_far s (write_and_sync second) 2).dp ≡ first_index ∷ []
@@ -23,7 +23,7 @@ pub record TellsImages (s : Made) (second : Entry) : Type 0 where
   pub flushed : (so_far s (write_and_sync second) 5).dp ≡ synced_dp
 
 -- how many placements each image covers: those of the first index, until the second is flushed
-pub record TellsCovered (s : Made) (first second : Entry) : Type 0 where
+pub record TellsCovered (s : Made) (first second : CoveredIndex) : Type 0 where
   pub at_first : covered s (write_and_sync second) 0 ≡ first.place
   pub in_data : covered s (write_and_sync second) 1 ≡ first.place
   pub whole : covered s (write_and_sync second) 4 ≡ first.place
@@ -31,7 +31,7 @@ pub record TellsCovered (s : Made) (first second : Entry) : Type 0 where
   pub last : (so_far s (write_and_sync second) 4).last ≡ second
 
 -- after a sync each image has its index, and covers what it covers, until the next index is whole, and is flushed
-pub record TellsLater (s : Made) (second third : Entry) : Type 0 where
+pub record TellsLater (s : Made) (second third : CoveredIndex) : Type 0 where
   pub in_data : indexes_of (so_far s (write_again second third) 6).dp ≡ second_index ∷ first_index ∷ []
   pub torn : indexes_of ((so_far s (write_again second third) 6).dp ++ Torn ∷ []) ≡ second_index ∷ first_index ∷ []
   pub in_index : indexes_of (so_far s (write_again second third) 8).dp ≡ second_index ∷ first_index ∷ []

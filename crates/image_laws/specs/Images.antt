@@ -19,12 +19,12 @@ use Rattle.cartridge_meaning.specs.Labels.{HasLabels}
 use Rattle.cartridge_meaning.specs.Meaning.{FitsNode, IsTreeOf}
 use Rattle.cartridge_meaning.specs.Notes.{IsHonestNote}
 use Rattle.cartridge_meaning.specs.Pointers.{IsLastOnDp, IsLastOnIp, indexes_of}
-use Rattle.image_laws.specs.Made.{Base, Entry, Job, Made, Trees, Volume, least, makes, newest, newest_entry}
+use Rattle.image_laws.specs.Made.{Base, CoveredIndex, Job, Made, Trees, Volume, least, makes, newest, newest_entry}
 use Rattle.image_laws.specs.Made.{part_items}
 
 -- An index tells the tree of the placements that it covers, with the bytes that stand on this cartridge; it names
 -- only blocks before these ends; and it carries over what the volume does.
-pub record Tells (v : Volume) (t : Trees) (c : Cartridge) (ip dp : ℕ) (e : Entry) : Type 0 where
+pub record Tells (v : Volume) (t : Trees) (c : Cartridge) (ip dp : ℕ) (e : CoveredIndex) : Type 0 where
   pub facts : v.facts ≡ carried e.index
   pub within : AllByRecursion (FitsNode v.labels.ip ip dp) e.index.nodes
   pub covered : e.place ≤ t.count
@@ -32,7 +32,7 @@ pub record Tells (v : Volume) (t : Trees) (c : Cartridge) (ip dp : ℕ) (e : Ent
 
 -- The newest index of a data partition is the one that stood there at the last flush, or it is newer than all that
 -- stood then, covers no fewer placements, and tells their tree, of blocks that were flushed on the index partition.
-abbrev pub Counts : Volume → Trees → Cartridge → Base → (end : ℕ) → (more : List Construct) → Entry → Type 0
+abbrev pub Counts : Volume → Trees → Cartridge → Base → (end : ℕ) → (more : List Construct) → CoveredIndex → Type 0
 Counts v t plan b end more last =
     ((more ≡ []) × (last ≡ b.floor))
     ⊎ ((newest b < last.index.generation) × (least b ≤ last.place) × Tells v t plan b.sure end last)
@@ -40,7 +40,7 @@ Counts v t plan b end more last =
 -- A data partition as a crash may leave it: with the labels, in form, with all indexes that were flushed, and with
 -- the items that are planned up to the end of its newest index.
 pub record IsDpImage (v : Volume) (t : Trees) (plan : Cartridge) (b : Base) (dp : List Item)
-    (last : Entry) : Type 0 where
+    (last : CoveredIndex) : Type 0 where
   pub labels : take 4 dp ≡ take 4 plan.dp
   pub form : HasForm dp
   pub more : List Construct
@@ -51,7 +51,7 @@ pub record IsDpImage (v : Volume) (t : Trees) (plan : Cartridge) (b : Base) (dp 
 
 -- the index of the index partition is the one that is ahead, or it isn't newer than what was flushed of the data
 -- partition
-abbrev pub IsBehind : Entry → Option Entry → Option Index → Type 0
+abbrev pub IsBehind : CoveredIndex → Option CoveredIndex → Option Index → Type 0
 IsBehind floor None on_ip = IfSome on_ip (λ index. index.generation ≤ floor.index.generation)
 IsBehind floor (Some ahead) on_ip = (on_ip ≡ Some ahead.index) × (floor.index.generation < ahead.index.generation)
 
@@ -79,7 +79,7 @@ AreUpTo v vcr c = (part : Part) (note : Coherency) → HasValues (note_of part c
 -- a cartridge as a crash may leave it
 pub record IsImage (v : Volume) (t : Trees) (plan : Cartridge) (b : Base) (c : Cartridge) : Type 0 where
   pub ip : IsIpImage v plan b c.ip
-  pub last : Entry
+  pub last : CoveredIndex
   pub dp : IsDpImage v t plan b c.dp last
   pub honest : AreHonest v c
 

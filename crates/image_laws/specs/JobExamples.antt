@@ -9,7 +9,7 @@ use Rattle.content_laws.specs.Worked.{block, labels}
 use Rattle.tape_layout.specs.declared.ops.Op.TheVariants as ops
 use Rattle.cartridge_meaning.specs.Pointers.{indexes_of}
 use Rattle.space_laws.specs.Space.{Rules, Space}
-use Rattle.image_laws.specs.Made.{Entry, Made, after, least, newest, plain}
+use Rattle.image_laws.specs.Made.{CoveredIndex, Made, after, least, newest, plain}
 use Rattle.image_laws.specs.Plans.{close_jobs, data_jobs, index_jobs}
 use Rattle.image_laws.specs.Worked.{mounted, on_dp, on_ip, put_on_ip, so_far}
 
@@ -29,7 +29,7 @@ space_at ip dp due = record {
 }
 
 -- which ops are admitted, and where each goes
-pub record TellsJobs (e : Entry) : Type 0 where
+pub record TellsJobs (e : CoveredIndex) : Type 0 where
   pub one_block : data_jobs (blocks_of_size 4096) Dp 7 (4 ∷ []) ≡ plain (ops.Put (on_dp 7) (4 ∷ [])) ∷ []
   pub three_blocks : data_jobs (blocks_of_size 2) Dp 7 (1 ∷ 2 ∷ 3 ∷ 4 ∷ 5 ∷ [])
       ≡ plain (ops.Put (on_dp 7) (1 ∷ 2 ∷ []))
@@ -58,12 +58,12 @@ pub record TellsJobs (e : Entry) : Type 0 where
       ∷ []
 
 -- a block on the index partition, flushed there, and then an index of both
-abbrev pub synced : Entry → Entry → Made
+abbrev pub synced : CoveredIndex → CoveredIndex → Made
 synced first second =
     after (mounted first None) (put_on_ip ++ index_jobs (blocks_of_size 4096) (space_at 5 7 false) (5 ∷ []) second)
 
 -- a close behind it
-abbrev pub closing : Entry → Entry → ℕ → Made
+abbrev pub closing : CoveredIndex → CoveredIndex → ℕ → Made
 closing first second n =
     so_far (synced first second) (close_jobs (blocks_of_size 4096) (space_at 5 10 false) (7 ∷ [])) n
 
@@ -73,7 +73,7 @@ closing_index = record { mark = 5; blocks = (7 ∷ []) ∷ [] }
 
 -- What a close makes: the index partition has its index with the last mark alone, torn or not, and its data end at 5
 -- all along; the data partition stays, and no more is covered.
-pub record TellsClose (first second : Entry) : Type 0 where
+pub record TellsClose (first second : CoveredIndex) : Type 0 where
   pub before : (closing first second 0).base.sure ≡ 5
   pub opened : indexes_of (closing first second 1).ip ≡ []
   pub filled : indexes_of (closing first second 2).ip ≡ []

@@ -21,7 +21,7 @@ use Rattle.image_laws.specs.Fine.{GoesOn, IsFine, IsSame}
 use Rattle.image_laws.specs.Images.{IsGrounded, IsImage, MayWrite}
 use Rattle.image_laws.specs.Kept.{HasNothingPending, IsServed, IsStep, IsSureAfter, Kept, Moment, Serves, Wait}
 use Rattle.image_laws.specs.Left.{IsCloseDone, StandsClosed}
-use Rattle.image_laws.specs.Made.{Base, Entry, Job, Made, Trees, Volume, after, least, makes}
+use Rattle.image_laws.specs.Made.{Base, CoveredIndex, Job, Made, Trees, Volume, after, least, makes}
 use Rattle.image_laws.specs.Moments.{moment_of}
 use Rattle.image_laws.specs.Plans.{IsCloseDue, IsDue, close_jobs, data_jobs, index_jobs}
 use Rattle.image_laws.specs.Starts.{CanStart, IsFirstSpace, begun_with, made_of}
@@ -132,10 +132,10 @@ pub record AdmissionsKeep {D : Type 0} (drive : Ghosts D) : Type 0 where
       → IsServing drive x space d c → MayWrite part (all_made x).base
       → IsServing drive (with_more (data_jobs rules part (end_of part space.ends) bytes) x)
       (with_data rules part bytes space) d c
-  pub indexed : (x : State) (space : Space) (d : D) (c : Cartridge) (rules : Rules) (text : List ℕ) (e : Entry)
+  pub indexed : (x : State) (space : Space) (d : D) (c : Cartridge) (rules : Rules) (text : List ℕ) (e : CoveredIndex)
       → IsServing drive x space d c → IsDue x.volume x.trees (all_made x) space text e → 1 ≤ rules.block_size
       → IsServing drive (with_more (index_jobs rules space text e) x) (with_index rules text space) d c
-  pub settled : (x : State) (space : Space) (d : D) (c : Cartridge) (rules : Rules) (text : List ℕ) (e : Entry)
+  pub settled : (x : State) (space : Space) (d : D) (c : Cartridge) (rules : Rules) (text : List ℕ) (e : CoveredIndex)
       → IsServing drive x space d c → IsDue x.volume x.trees (all_made x) space text e → 1 ≤ rules.block_size
       → (all_made (with_more (index_jobs rules space text e) x)).base.ahead ≡ None
   pub closed : (x : State) (space : Space) (d : D) (c : Cartridge) (rules : Rules) (text : List ℕ) (index : Index)
@@ -145,7 +145,7 @@ pub record AdmissionsKeep {D : Type 0} (drive : Ghosts D) : Type 0 where
 
 -- a sync waits for all jobs, its own index's among them; one that isn't preceded by a change needs no index
 pub record SyncsAreHeld {D : Type 0} (drive : Ghosts D) : Type 0 where
-  pub changed : (x : State) (space : Space) (d : D) (c : Cartridge) (rules : Rules) (text : List ℕ) (e : Entry)
+  pub changed : (x : State) (space : Space) (d : D) (c : Cartridge) (rules : Rules) (text : List ℕ) (e : CoveredIndex)
       → IsServing drive x space d c → IsDue x.volume x.trees (all_made x) space text e → 1 ≤ rules.block_size
       → IsServed x.trees x.made x.done (x.jobs ++ index_jobs rules space text e)
       (next_wait (with_more (index_jobs rules space text e) x))

@@ -28,7 +28,7 @@ pub record Trees : Type 0 where
   pub count : ℕ
 
 -- an index, and so many placements of the history that it covers
-pub record Entry : Type 0 where
+pub record CoveredIndex : Type 0 where
   pub index : Index
   pub place : ℕ
 
@@ -38,15 +38,15 @@ pub record Entry : Type 0 where
 pub record Base : Type 0 where
   pub sure : ℕ
   pub indexes : List Construct
-  pub floor : Entry
-  pub ahead : Option Entry
+  pub floor : CoveredIndex
+  pub ahead : Option CoveredIndex
 
 -- the newer of the two indexes
-abbrev pub newer_of : Option Entry → Entry → Entry
+abbrev pub newer_of : Option CoveredIndex → CoveredIndex → CoveredIndex
 newer_of None floor = floor
 newer_of (Some ahead) floor = ahead
 
-abbrev pub newest_entry : Base → Entry
+abbrev pub newest_entry : Base → CoveredIndex
 newest_entry b = newer_of b.ahead b.floor
 
 -- how many placements are covered by what was flushed
@@ -60,7 +60,7 @@ newest b = (newest_entry b).index.generation
 pub record Made : Type 0 where
   pub ip : List Item
   pub dp : List Item
-  pub last : Entry
+  pub last : CoveredIndex
   pub base : Base
 
 -- the items as a cartridge, of which labels, indexes and blocks are read
@@ -70,18 +70,18 @@ cartridge_of s = record { ip = s.ip; dp = s.dp; vcr = 0; note_ip = Absent; note_
 -- an op, and the index of the data partition that is whole with it
 pub record Job : Type 0 where
   pub op : Op
-  pub whole : Option Entry
+  pub whole : Option CoveredIndex
 
-abbrev pub or_last : Option Entry → Entry → Entry
+abbrev pub or_last : Option CoveredIndex → CoveredIndex → CoveredIndex
 or_last None last = last
 or_last (Some whole) last = whole
 
-abbrev pub put_on : Part → Item → Option Entry → Made → Made
+abbrev pub put_on : Part → Item → Option CoveredIndex → Made → Made
 put_on Ip x whole s = record { ip = s.ip ++ x ∷ []; dp = s.dp; last = s.last; base = s.base }
 put_on Dp x whole s = record { ip = s.ip; dp = s.dp ++ x ∷ []; last = or_last whole s.last; base = s.base }
 
 -- it stays ahead as long as no newer index is flushed
-abbrev pub still_ahead : Entry → Option Entry → Option Entry
+abbrev pub still_ahead : CoveredIndex → Option CoveredIndex → Option CoveredIndex
 still_ahead last None = None
 still_ahead last (Some ahead) = if nat_lt ahead.index.generation last.index.generation then None else Some ahead
 
@@ -94,7 +94,7 @@ flushed s = record {
   ahead = still_ahead s.last s.base.ahead;
 }
 
-abbrev pub does : Op → Option Entry → Made → Made
+abbrev pub does : Op → Option CoveredIndex → Made → Made
 does (ops.Put place bytes) whole s = put_on place.part (Block bytes) whole s
 does (ops.Mark place) whole s = put_on place.part Mark whole s
 does (ops.Flush place) whole s = record { ip = s.ip; dp = s.dp; last = s.last; base = flushed s }

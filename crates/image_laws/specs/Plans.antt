@@ -16,7 +16,7 @@ use Rattle.cartridge_meaning.specs.Pointers.{indexes_of, last_block, letter_of}
 use Rattle.space_laws.specs.Space.{Rules, Space, blocks}
 use Rattle.image_laws.specs.Fine.{IsSame}
 use Rattle.image_laws.specs.Images.{Tells}
-use Rattle.image_laws.specs.Made.{Entry, Job, Made, Trees, Volume, cartridge_of, least, newest, plain}
+use Rattle.image_laws.specs.Made.{CoveredIndex, Job, Made, Trees, Volume, cartridge_of, least, newest, plain}
 
 -- a partition whose next item is data or the mark that opens an index
 pub record IsReady (items : List Item) : Type 0 where
@@ -47,7 +47,7 @@ data_jobs rules part end bytes = map plain (puts rules.block_size part end bytes
 
 -- the jobs of an index: what is due on the index partition is flushed; then a mark, the blocks of the text, the mark
 -- with which the index is whole, and a flush
-abbrev pub index_jobs : Rules → Space → List ℕ → Entry → List Job
+abbrev pub index_jobs : Rules → Space → List ℕ → CoveredIndex → List Job
 index_jobs rules space text e =
     map plain (flush_first space.flush_due space.ends.ip)
     ++ plain (ops.Mark (record { part = Dp; pos = space.ends.dp })) ∷ []
@@ -57,7 +57,7 @@ index_jobs rules space text e =
 
 -- The text of an index that may be admitted on the data partition: it is that of an index of the volume, of the next
 -- generation, with its pointers right, which covers the whole history and tells its tree from what is planned.
-pub record IsDue (v : Volume) (t : Trees) (s : Made) (space : Space) (text : List ℕ) (e : Entry) : Type 0 where
+pub record IsDue (v : Volume) (t : Trees) (s : Made) (space : Space) (text : List ℕ) (e : CoveredIndex) : Type 0 where
   pub some : 1 ≤ length text
   pub reads : IndexText text e.index
   pub uuid : e.index.uuid ≡ v.labels.ip.uuid

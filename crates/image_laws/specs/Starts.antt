@@ -9,18 +9,18 @@ use Rattle.cartridge_meaning.specs.Notes.{IsHonest}
 use Rattle.cartridge_meaning.specs.Pointers.{indexes_of, last_block}
 use Rattle.space_laws.specs.Space.{Space}
 use Rattle.image_laws.specs.Kept.{Moment}
-use Rattle.image_laws.specs.Made.{Entry, Made, Trees, Volume}
+use Rattle.image_laws.specs.Made.{CoveredIndex, Made, Trees, Volume}
 
 -- nothing was placed yet
 abbrev pub begun_with : Tree → Trees
 begun_with tree = record { nth = λ k. tree; count = 0 }
 
 -- covers no placement
-abbrev pub first_entry : Index → Entry
+abbrev pub first_entry : Index → CoveredIndex
 first_entry index = record { index = index; place = 0 }
 
 -- the index of the index partition, where it is newer than the one of the data partition
-abbrev pub ahead_of : Option Index → Index → Option Entry
+abbrev pub ahead_of : Option Index → Index → Option CoveredIndex
 ahead_of None on_dp = None
 ahead_of (Some on_ip) on_dp = if nat_lt on_dp.generation on_ip.generation then Some (first_entry on_ip) else None
 

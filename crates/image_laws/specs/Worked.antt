@@ -7,14 +7,14 @@ use Rattle.tape_types.specs.declared.cartridges.Place.{Place}
 use Rattle.index_model.specs.declared.indexes.Index.{Index}
 use Rattle.content_laws.specs.Worked.{empty_dp, first_index, labels}
 use Rattle.tape_layout.specs.declared.ops.Op.TheVariants as ops
-use Rattle.image_laws.specs.Made.{Base, Entry, Job, Made, after, least, plain}
+use Rattle.image_laws.specs.Made.{Base, CoveredIndex, Job, Made, after, least, plain}
 
 -- an index of this generation that covers so many placements
-abbrev pub entry : Index → (generation place : ℕ) → Entry
+abbrev pub entry : Index → (generation place : ℕ) → CoveredIndex
 entry index generation place = record { index = record index { generation = generation }; place = place }
 
 -- labels, and one index on the data partition; there may be a newer one on the index partition
-abbrev pub mounted : Entry → Option Entry → Made
+abbrev pub mounted : CoveredIndex → Option CoveredIndex → Made
 mounted first ahead = record {
   ip = labels;
   dp = empty_dp;
@@ -29,7 +29,7 @@ abbrev pub on_dp : ℕ → Place
 on_dp pos = record { part = Dp; pos = pos }
 
 -- a block of data, and an index that covers it
-abbrev pub write_and_sync : Entry → List Job
+abbrev pub write_and_sync : CoveredIndex → List Job
 write_and_sync second =
     plain (ops.Put (on_dp 7) (4 ∷ []))
     ∷ plain (ops.Mark (on_dp 8))
@@ -39,7 +39,7 @@ write_and_sync second =
     ∷ []
 
 -- once that is done, another block, and another index
-abbrev pub write_again : Entry → Entry → List Job
+abbrev pub write_again : CoveredIndex → CoveredIndex → List Job
 write_again second third =
     write_and_sync second
     ++ plain (ops.Put (on_dp 11) (6 ∷ []))

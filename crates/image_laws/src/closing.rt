@@ -13,7 +13,7 @@ ghost use Rattle.image_laws.specs.Closed.{Begins, EndsWithClose, IsExact, PutsOn
 ghost use Rattle.image_laws.specs.Events.{IsDone, IsFailed};
 ghost use Rattle.image_laws.specs.Images.{IsNext};
 ghost use Rattle.image_laws.specs.Left.{CloseStands, PlansGoOn};
-ghost use Rattle.image_laws.specs.Made.{Entry, Job, Made, Trees, Volume, after, makes};
+ghost use Rattle.image_laws.specs.Made.{CoveredIndex, Job, Made, Trees, Volume, after, makes};
 ghost use Rattle.image_laws.specs.Starts.{made_of};
 
 /// What is so of a plan stays so as it goes on.
@@ -35,7 +35,7 @@ pub fn a_close_stands()
 pub fn partitions_end_where_they_were_made_to()
     ensures begun { (c : Cartridge) (on_ip : Option Index) (on_dp : Index) → EndsWithLast c.dp (indexes_of c.dp)
         → IsExact Dp (made_of c on_ip on_dp) c }
-    ensures done { (part : Part) (op : Op) (whole : Option Entry) (s : Made) (old new : Cartridge) → IsNext op s
+    ensures done { (part : Part) (op : Op) (whole : Option CoveredIndex) (s : Made) (old new : Cartridge) → IsNext op s
         → ((written : Part) → Begins written s old) → IsDone op old new → (PutsOn part op ⊎ IsExact part s old)
         → IsExact part (makes (record { op = op; whole = whole }) s) new }
     ensures failed { (part : Part) (op : Op) (s : Made) (old new : Cartridge) → ¬ PutsOn part op → IsFailed op old new

@@ -3,8 +3,8 @@ use Rattle.std.proofs.Common.{◌≡◌, ℕ, ◌+◌, ◌<◌, ◌≤◌, List,
 use Rattle.std.proofs.lemmas.Option.{slice_get_within}
 use Rattle.index_model.specs.declared.faults.Fault.{Fault}
 use Rattle.index_model.specs.declared.faults.Fault.TheVariants as faults
-use Rattle.index_model.specs.declared.nodes.Kind.{Kind}
-use Rattle.index_model.specs.declared.nodes.Kind.TheVariants as kinds
+use Rattle.index_model.specs.declared.nodes.NodeKind.{NodeKind}
+use Rattle.index_model.specs.declared.nodes.NodeKind.TheVariants as kinds
 use Rattle.index_model.specs.declared.nodes.Node.{Node}
 use Rattle.index_model.specs.declared.nodes.RawExtent.{RawExtent}
 use Rattle.index_model.specs.Extents.{HasOverlap, IsBadFile, IsFileAt, IsOutOfBounds, Overlap}
@@ -60,7 +60,7 @@ module _ (nodes : List Node) (at : ℕ) (node : Node) (is : IsAt nodes at node) 
           wrong = ((λ out. h.1.0 (out_is out)), over);
         }
 
-  node_right_of : (kind : Kind) → node.kind ≡ kind → TellsNode node.uid kind None → IsBadFile nodes at → ⊥
+  node_right_of : (kind : NodeKind) → node.kind ≡ kind → TellsNode node.uid kind None → IsBadFile nodes at → ⊥
   node_right_of kinds.Dir is_kind right = no_file (λ bytes extents e. dir_file bytes extents (sym is_kind ∙ e))
     where
       dir_file : (bytes : ℕ) (extents : List RawExtent) → kinds.Dir ≡ kinds.File bytes extents → ⊥
@@ -71,7 +71,7 @@ module _ (nodes : List Node) (at : ℕ) (node : Node) (is : IsAt nodes at node) 
       link_file bytes extents e = cc e
   node_right_of (kinds.File bytes extents) is_kind right = is_right bytes extents is_kind right
 
-  node_tells_of : IsNowhereBefore (IsBadFile nodes) at → (kind : Kind) → node.kind ≡ kind → (fault : Fault) → TellsNode node.uid kind (Some fault) → TellsBad nodes (Some fault)
+  node_tells_of : IsNowhereBefore (IsBadFile nodes) at → (kind : NodeKind) → node.kind ≡ kind → (fault : Fault) → TellsNode node.uid kind (Some fault) → TellsBad nodes (Some fault)
   node_tells_of none kinds.Dir is_kind fault h = absurd (some_none fault h)
     where
       some_none : (fault : Fault) → Some fault ≡ None → ⊥

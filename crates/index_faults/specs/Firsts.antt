@@ -4,8 +4,8 @@ use Rattle.tape_types.specs.Bounds.{longest_file}
 use Rattle.node_keys.specs.declared.xattrs.Xattr.{Xattr}
 use Rattle.index_model.specs.declared.faults.Fault.{Fault}
 use Rattle.index_model.specs.declared.faults.Fault.TheVariants as faults
-use Rattle.index_model.specs.declared.nodes.Kind.{Kind}
-use Rattle.index_model.specs.declared.nodes.Kind.TheVariants as kinds
+use Rattle.index_model.specs.declared.nodes.NodeKind.{NodeKind}
+use Rattle.index_model.specs.declared.nodes.NodeKind.TheVariants as kinds
 use Rattle.index_model.specs.declared.nodes.Node.{Node}
 use Rattle.index_model.specs.declared.nodes.RawExtent.{RawExtent}
 use Rattle.index_model.specs.Extents.{EndsTooFar, HasOverlap, IsBadFile, IsOutOfBounds, Overlap}
@@ -56,7 +56,7 @@ TellsFile uid bytes extents (Some (faults.Extent n)) = (n ≡ uid) × IsOut byte
 TellsFile uid bytes extents (Some (faults.Overlap n)) = (n ≡ uid) × ((¬ IsOut bytes extents) × Overlap extents)
 
 -- what is told of a node with this UID: of a file as above, and of any other node nothing
-abbrev pub TellsNode : ℕ → Kind → Option Fault → Type 0
+abbrev pub TellsNode : ℕ → NodeKind → Option Fault → Type 0
 TellsNode uid kinds.Dir fault = fault ≡ None
 TellsNode uid (kinds.Link text) fault = fault ≡ None
 TellsNode uid (kinds.File bytes extents) fault = TellsFile uid bytes extents fault

@@ -5,7 +5,7 @@ ghost use Rattle.index_model.specs.Extents.{EndsTooFar, Overlap};
 ghost use Rattle.index_faults.specs.Crossings.{EndsInTime, Follows, IsCrossed};
 ghost use Rattle.index_faults.specs.Firsts.{TellsBad, TellsFile, TellsNode};
 
-use index_model::{Fault, Kind, Node, RawExtent};
+use index_model::{Fault, Node, NodeKind, RawExtent};
 use std::alloc::Global;
 use tape_types::{LONGEST_FILE, NoMemory};
 
@@ -30,7 +30,12 @@ fn node_fault(alloc: Global, node: &Node) -> Result<Option<Fault>, NoMemory>
     ensures { IfOk result (TellsNode node.now.uid node.now.kind) }
 {
     match &node.kind {
-        Kind::File { length, extents } => file_fault(alloc, node.uid, *length, extents.as_slice()),
+        NodeKind::File { length, extents } => file_fault(
+            alloc,
+            node.uid,
+            *length,
+            extents.as_slice(),
+        ),
         _ => Ok(None),
     }
 }

@@ -10,7 +10,7 @@ use Rattle.tape_types.specs.Bounds.{longest_file, longest_name}
 use Rattle.tape_types.specs.Names.{has_byte}
 use Rattle.tape_types.specs.declared.moments.Moment.{Moment}
 use Rattle.tape_types.specs.declared.moments.Times.{Times}
-use Rattle.index_model.specs.declared.nodes.Kind.TheVariants as kinds
+use Rattle.index_model.specs.declared.nodes.NodeKind.TheVariants as kinds
 use Rattle.index_model.specs.declared.nodes.Node.{Node}
 use Rattle.index_model.specs.declared.nodes.RawExtent.{RawExtent}
 use Rattle.index_model.specs.Archive.{archive, archive_nodes, archive_rest, bin, hello, hi, node, note}

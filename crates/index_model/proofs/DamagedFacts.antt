@@ -4,8 +4,8 @@ use Rattle.std.specs.List.{AllByRecursion}
 use Rattle.tape_types.specs.Bounds.{longest_file}
 use Rattle.tape_types.specs.declared.moments.Moment.{Moment}
 use Rattle.tape_types.specs.declared.moments.Times.{Times}
-use Rattle.index_model.specs.declared.nodes.Kind.{Kind}
-use Rattle.index_model.specs.declared.nodes.Kind.TheVariants as kinds
+use Rattle.index_model.specs.declared.nodes.NodeKind.{NodeKind}
+use Rattle.index_model.specs.declared.nodes.NodeKind.TheVariants as kinds
 use Rattle.index_model.specs.declared.nodes.RawExtent.{RawExtent}
 use Rattle.index_model.specs.declared.nodes.Node.{Node}
 use Rattle.index_model.specs.Archive.{archive_nodes, hello, index_of, late_node, long_file, node, node_in_file, one_name, shared_byte, touching, two_notes, with_file, with_keys}
@@ -71,7 +71,7 @@ in_file times order =
     not_dir e = cc e
 
 -- the UIDs of a root and a file
-file_uids : (times : Times) (xs : List Xattr) (kind : Kind) → AreUids 2 (with_keys times xs kind)
+file_uids : (times : Times) (xs : List Xattr) (kind : NodeKind) → AreUids 2 (with_keys times xs kind)
 file_uids times xs kind =
     let nodes = with_keys times xs kind in
     record {
@@ -86,22 +86,22 @@ file_uids times xs kind =
     uid at n is = each (λ k x. x.uid ≡ k + 1) (with_keys times xs kind) (refl, (refl, tt)) at n is
 
 -- it is the one node behind the root
-file_place : (times : Times) (xs : List Xattr) (kind : Kind) (at : ℕ) (n : Node) → 0 < at → IsAt (with_keys times xs kind) at n → at ≡ 1
+file_place : (times : Times) (xs : List Xattr) (kind : NodeKind) (at : ℕ) (n : Node) → 0 < at → IsAt (with_keys times xs kind) at n → at ≡ 1
 file_place times xs kind at n behind is =
     each (λ k x. 0 < k → k ≡ 1) (with_keys times xs kind) ((λ h. absurd (omega (arith, h))), ((λ h. refl), tt)) at n is behind
 
-file_names : (times : Times) (xs : List Xattr) (kind : Kind) → AreNamesApart (with_keys times xs kind)
+file_names : (times : Times) (xs : List Xattr) (kind : NodeKind) → AreNamesApart (with_keys times xs kind)
 file_names times xs kind at other h =
     file_place times xs kind at h.node h.behind_root h.is ∙ sym (file_place times xs kind other h.named h.other_behind_root h.other_is)
 
 -- the root has no attribute
-root_keys : (times : Times) (xs : List Xattr) (kind : Kind) (before : ℕ) → before < 1 → HasKeyTwice (with_keys times xs kind) before → ⊥
+root_keys : (times : Times) (xs : List Xattr) (kind : NodeKind) (before : ℕ) → before < 1 → HasKeyTwice (with_keys times xs kind) before → ⊥
 root_keys times xs kind before small h =
     each (λ k x. k < 1 → (i : ℕ) (a : Xattr) → IsAt x.xattrs i a → ⊥) (with_keys times xs kind)
     ((λ _ i a is. each {X = Xattr} (λ _ _. ⊥) [] tt i a is), ((λ less. absurd (omega (arith, less))), tt)) before h.node h.is small h.earlier h.one h.one_is
 
 -- nor has the file
-file_keys : (times : Times) (kind : Kind) → AreKeysApart (with_file times kind)
+file_keys : (times : Times) (kind : NodeKind) → AreKeysApart (with_file times kind)
 file_keys times kind at h =
     each (λ k x. (i : ℕ) (a : Xattr) → IsAt x.xattrs i a → ⊥) (with_file times kind)
     ((λ i a is. each {X = Xattr} (λ _ _. ⊥) [] tt i a is), ((λ i a is. each {X = Xattr} (λ _ _. ⊥) [] tt i a is), tt)) at h.node h.is h.earlier h.one h.one_is
@@ -121,12 +121,12 @@ key_twice at times = record {
 dir_file : (bytes : ℕ) (extents : List RawExtent) → kinds.Dir ≡ kinds.File bytes extents → ⊥
 dir_file bytes extents e = cc e
 
-no_file_at_root : (times : Times) (kind : Kind) (before bytes : ℕ) (extents : List RawExtent) → before < 1 → IsFileAt (with_file times kind) before bytes extents → ⊥
+no_file_at_root : (times : Times) (kind : NodeKind) (before bytes : ℕ) (extents : List RawExtent) → before < 1 → IsFileAt (with_file times kind) before bytes extents → ⊥
 no_file_at_root times kind before bytes extents small f =
     each (λ k x. k < 1 → x.kind ≡ kinds.File bytes extents → ⊥) (with_file times kind)
     ((λ h e. dir_file bytes extents e), ((λ h e. absurd (omega (arith, h))), tt)) before f.node f.is small f.file
 
-root_fine : (times : Times) (kind : Kind) (before : ℕ) → before < 1 → IsBadFile (with_file times kind) before → ⊥
+root_fine : (times : Times) (kind : NodeKind) (before : ℕ) → before < 1 → IsBadFile (with_file times kind) before → ⊥
 root_fine times kind before small (inl out) = no_file_at_root times kind before out.bytes out.extents small out.file
 root_fine times kind before small (inr over) = no_file_at_root times kind before over.bytes over.extents small over.file
 

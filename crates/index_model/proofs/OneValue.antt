@@ -3,8 +3,8 @@ use Rattle.std.proofs.Common.{◌≡◌, ℕ, ◌+◌, ◌<◌, List, [], ◌∷
 use Rattle.std.specs.Prelude.{⊤}
 use Rattle.std.proofs.lemmas.List.{append_assoc, append-nil}
 use Rattle.index_model.specs.declared.indexes.Index.{Index}
-use Rattle.index_model.specs.declared.nodes.Kind.{Kind}
-use Rattle.index_model.specs.declared.nodes.Kind.TheVariants as kinds
+use Rattle.index_model.specs.declared.nodes.NodeKind.{NodeKind}
+use Rattle.index_model.specs.declared.nodes.NodeKind.TheVariants as kinds
 use Rattle.index_model.specs.declared.nodes.RawExtent.{RawExtent}
 use Rattle.index_model.specs.Values.{IndexValue, NodeFacts, NodeValue, Nodes, Tells, VolumeFacts, all_nodes, count, listed, value_in}
 use Rattle.index_model.specs.Values.Nodes.{no_nodes, directory, file, link}
@@ -52,7 +52,7 @@ same_text : (s t : List ℕ) → kinds.Link s ≡ kinds.Link t → s ≡ t
 same_text s t e = cc
 
 -- a node of this directory stands not behind all that is in the directory
-not_behind : (p : ℕ) (f : NodeFacts) (kind : Kind) (xs ys : List NodeValue) → BeginsBefore p xs → xs ≡ value_in p f kind ∷ ys → ⊥
+not_behind : (p : ℕ) (f : NodeFacts) (kind : NodeKind) (xs ys : List NodeValue) → BeginsBefore p xs → xs ≡ value_in p f kind ∷ ys → ⊥
 not_behind p f kind xs ys before e = let less : p < p = subst (BeginsBefore p) e before in omega (arith, less)
 
 -- what is behind the nodes of a directory begins before a place too, if what comes after them does

@@ -5,8 +5,8 @@ use Rattle.std.proofs.lemmas.List.{append_assoc, append-nil}
 use Rattle.std.specs.List.{slice_get}
 use Rattle.std.proofs.lemmas.Option.{none-some, same_Some}
 use Rattle.index_model.specs.declared.indexes.Index.{Index}
-use Rattle.index_model.specs.declared.nodes.Kind.{Kind}
-use Rattle.index_model.specs.declared.nodes.Kind.TheVariants as kinds
+use Rattle.index_model.specs.declared.nodes.NodeKind.{NodeKind}
+use Rattle.index_model.specs.declared.nodes.NodeKind.TheVariants as kinds
 use Rattle.index_model.specs.declared.nodes.Node.{Node}
 use Rattle.index_model.specs.declared.nodes.RawExtent.{RawExtent}
 use Rattle.index_model.specs.Order.{AreInOrder, LiesIn}
@@ -74,7 +74,7 @@ nothing_read : (nodes : List Node) (parent at : ℕ) → ((node : Node) → IsAt
 nothing_read nodes parent at up = record { tree = no_nodes; end = at; counts = omega arith; told = refl; up = up }
 
 -- the node at a place, and those from the next place on
-first_told : (nodes : List Node) (parent at : ℕ) (node : Node) (kind : Kind) → IsAt nodes at node → node.parent ≡ parent → node.kind ≡ kind →
+first_told : (nodes : List Node) (parent at : ℕ) (node : Node) (kind : NodeKind) → IsAt nodes at node → node.parent ≡ parent → node.kind ≡ kind →
     map value_of (drop at nodes) ≡ value_in parent (facts_of node) kind ∷ map value_of (drop (at + 1) nodes)
 first_told nodes parent at node kind is in_it same =
     let next : suc at ≡ at + 1 = omega arith in
@@ -152,7 +152,7 @@ module _ (nodes : List Node) (order : AreInOrder nodes) (left : ℕ) (more : Can
       more parent inside.end (omega (arith, less)) (omega (arith, long, less))
       (λ next next_is. omega (arith, in_it, steps_up nodes order at inside.end node next is next_is less (inside.up next next_is)))
 
-  kind_read : (node : Node) (kind : Kind) → IsAt nodes at node → node.parent ≡ parent → node.kind ≡ kind → IsRead nodes parent at
+  kind_read : (node : Node) (kind : NodeKind) → IsAt nodes at node → node.parent ≡ parent → node.kind ≡ kind → IsRead nodes parent at
   kind_read node kinds.Dir is in_it same = directory_read nodes parent at node is in_it same inside_read (behind_directory_read node is in_it inside_read)
   kind_read node (kinds.File bytes extents) is in_it same = file_read nodes parent at node bytes extents is in_it same (behind_read node is in_it (file_is_leaf node bytes extents same))
   kind_read node (kinds.Link text) is in_it same = link_read nodes parent at node text is in_it same (behind_read node is in_it (link_is_leaf node text same))

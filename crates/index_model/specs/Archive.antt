@@ -6,8 +6,8 @@ use Rattle.tape_types.specs.declared.moments.Times.{Times}
 use Rattle.node_keys.specs.declared.xattrs.Xattr.{Xattr}
 use Rattle.index_model.specs.declared.indexes.Index.{Index}
 use Rattle.doc_fields.specs.declared.values.LockState.TheVariants as locks
-use Rattle.index_model.specs.declared.nodes.Kind.{Kind}
-use Rattle.index_model.specs.declared.nodes.Kind.TheVariants as kinds
+use Rattle.index_model.specs.declared.nodes.NodeKind.{NodeKind}
+use Rattle.index_model.specs.declared.nodes.NodeKind.TheVariants as kinds
 use Rattle.index_model.specs.declared.nodes.Node.{Node}
 use Rattle.index_model.specs.declared.nodes.RawExtent.{RawExtent}
 
@@ -15,7 +15,7 @@ use Rattle.index_model.specs.declared.nodes.RawExtent.{RawExtent}
 abbrev pub hello : RawExtent
 hello = record { offset = 0; letter = 98; block = 7; byte = 0; count = 5 }
 
-abbrev pub node : Times → ℕ → ℕ → List ℕ → Kind → Node
+abbrev pub node : Times → ℕ → ℕ → List ℕ → NodeKind → Node
 node times parent uid name kind =
     record { parent = parent; uid = uid; name = name; times = times; readonly = false; xattrs = []; kind = kind }
 
@@ -68,10 +68,10 @@ archive at times = index_of at 4 (archive_nodes times)
 -- Damaged in one way each.
 
 -- the root, and one more node in it
-abbrev pub with_keys : Times → List Xattr → Kind → List Node
+abbrev pub with_keys : Times → List Xattr → NodeKind → List Node
 with_keys times xattrs kind = node times 0 1 [] kinds.Dir ∷ keyed xattrs (node times 0 2 (codes "f") kind) ∷ []
 
-abbrev pub with_file : Times → Kind → List Node
+abbrev pub with_file : Times → NodeKind → List Node
 with_file times kind = with_keys times [] kind
 
 -- two nodes of one directory with one name

@@ -4,8 +4,8 @@ use Rattle.std.specs.List.{AllByRecursion}
 use Rattle.std.specs.Str.{IsUtf8}
 use Rattle.tape_types.specs.Bounds.{longest_file}
 use Rattle.index_model.specs.declared.nodes.RawExtent.{RawExtent}
-use Rattle.index_model.specs.declared.nodes.Kind.{Kind}
-use Rattle.index_model.specs.declared.nodes.Kind.TheVariants as kinds
+use Rattle.index_model.specs.declared.nodes.NodeKind.{NodeKind}
+use Rattle.index_model.specs.declared.nodes.NodeKind.TheVariants as kinds
 use Rattle.index_model.specs.declared.nodes.Node.{Node}
 use Rattle.index_model.specs.Places.{IsAt}
 use Rattle.index_model.specs.Texts.{IsLetter}
@@ -19,7 +19,7 @@ pub record IsExtent (e : RawExtent) : Type 0 where
   pub count : e.count ≤ 2 ^ 62
 
 -- what a node's element may hold: a file's extents are such, and a link's text is any text
-abbrev pub IsKind : Kind → Type 0
+abbrev pub IsKind : NodeKind → Type 0
 IsKind kinds.Dir = ⊤
 IsKind (kinds.File bytes extents) = AllByRecursion IsExtent extents
 IsKind (kinds.Link text) = IsUtf8 text

@@ -15,8 +15,8 @@ use Rattle.index_model.specs.declared.indexes.Index.{Index}
 use Rattle.index_model.specs.declared.indexes.Policy.{Policy}
 use Rattle.index_model.specs.declared.indexes.Spot.{Spot}
 use Rattle.index_model.specs.declared.nodes.RawExtent.{RawExtent}
-use Rattle.doc_elements.specs.declared.schema.Place.{Place}
-use Rattle.doc_elements.specs.declared.schema.Place.TheVariants as place
+use Rattle.doc_elements.specs.declared.schema.Container.{Container}
+use Rattle.doc_elements.specs.declared.schema.Container.TheVariants as place
 use Rattle.index_model.specs.declared.errors.IndexErr.{IndexErr}
 use Rattle.index_model.specs.declared.faults.Fault.{Fault}
 use Rattle.doc_elements.specs.Schema.{place_code}
@@ -44,13 +44,13 @@ told tag no_items = None
 told tag (item i more) = or_else (told tag more) (own tag i)
 
 -- the children of an element, where it is this parent
-abbrev pub own_children : Place → Item → Option Items
+abbrev pub own_children : Container → Item → Option Items
 own_children p (plain tag v) = None
 own_children p (bare q) = if place_code p == place_code q then Some no_items else None
 own_children p (nested q is) = if place_code p == place_code q then Some is else None
 
 -- the children of a parent among children, where it is there; of several it is the last
-abbrev pub inside : Place → Items → Option Items
+abbrev pub inside : Container → Items → Option Items
 inside p no_items = None
 inside p (item i more) = or_else (inside p more) (own_children p i)
 

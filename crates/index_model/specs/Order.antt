@@ -1,7 +1,7 @@
 -- The order in which a document tells its nodes: a directory before what is in it, and all of that before whatever
 -- comes behind the directory.
 use Rattle.std.specs.Prelude.{◌≡◌, ℕ, suc, ◌<◌, List}
-use Rattle.index_model.specs.declared.nodes.Kind.TheVariants as kinds
+use Rattle.index_model.specs.declared.nodes.NodeKind.TheVariants as kinds
 use Rattle.index_model.specs.declared.nodes.Node.{Node}
 use Rattle.index_model.specs.Places.{IsAt}
 

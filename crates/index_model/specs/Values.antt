@@ -9,8 +9,8 @@ use Rattle.node_keys.specs.declared.xattrs.Xattr.{Xattr}
 use Rattle.index_model.specs.declared.indexes.Index.{Index}
 use Rattle.index_model.specs.declared.indexes.Policy.{Policy}
 use Rattle.index_model.specs.declared.indexes.Spot.{Spot}
-use Rattle.index_model.specs.declared.nodes.Kind.{Kind}
-use Rattle.index_model.specs.declared.nodes.Kind.TheVariants as kinds
+use Rattle.index_model.specs.declared.nodes.NodeKind.{NodeKind}
+use Rattle.index_model.specs.declared.nodes.NodeKind.TheVariants as kinds
 use Rattle.index_model.specs.declared.nodes.Node.{Node}
 use Rattle.index_model.specs.declared.nodes.RawExtent.{RawExtent}
 
@@ -62,9 +62,9 @@ pub record IndexValue : Type 0 where
 pub record NodeValue : Type 0 where
   pub parent : ℕ
   pub facts : NodeFacts
-  pub kind : Kind
+  pub kind : NodeKind
 
-abbrev pub value_in : ℕ → NodeFacts → Kind → NodeValue
+abbrev pub value_in : ℕ → NodeFacts → NodeKind → NodeValue
 value_in parent facts kind = record { parent = parent; facts = facts; kind = kind }
 
 abbrev pub count : Nodes → ℕ

@@ -4,7 +4,7 @@ ghost use Rattle.tape_types.specs.declared.moments.Times.{Times};
 ghost use Rattle.index_model.specs.Archive.{archive, archive_nodes, index_of, late_node, long_file, node_in_file};
 ghost use Rattle.index_model.specs.Archive.{one_name, shared_byte, touching, two_notes, with_file};
 ghost use Rattle.index_model.specs.Extents.{AreFiles};
-ghost use Rattle.index_model.specs.declared.nodes.Kind.TheVariants as kinds;
+ghost use Rattle.index_model.specs.declared.nodes.NodeKind.TheVariants as kinds;
 ghost use Rattle.index_model.specs.Order.{AreInOrder};
 ghost use Rattle.index_model.specs.Refusals.{IsToldOf};
 ghost use Rattle.index_model.specs.declared.faults.Fault.TheVariants as faults;

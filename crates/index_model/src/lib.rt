@@ -16,6 +16,6 @@ pub use examples::the_definitions_tell_valid_from_damaged;
 pub use faults::Fault;
 pub use indexes::{Index, Policy, Spot};
 pub use laws::{directories_stand_together, indexes_tell_one_value, one_fault_is_told};
-pub use nodes::{Kind, Node, RawExtent};
+pub use nodes::{Node, NodeKind, RawExtent};
 pub use telling::refusal_text;
 pub use text_list::TextList;

@@ -25,7 +25,7 @@ pub struct RawExtent {
 
 /// What a node is.
 #[derive(Drop)]
-pub enum Kind {
+pub enum NodeKind {
     /// A directory. Its children are the nodes that name it as their parent.
     Dir,
     /// A file. `length` is in bytes, at most 2^40 in a valid index. The extents stand in the
@@ -59,5 +59,5 @@ pub struct Node {
     /// The extended attributes, in the order of the document. In a valid index no key stands
     /// twice; there may be any number of them.
     pub xattrs: List<Xattr>,
-    pub kind: Kind,
+    pub kind: NodeKind,
 }

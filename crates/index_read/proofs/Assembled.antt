@@ -3,8 +3,8 @@ use Rattle.std.proofs.Common.{◌≡◌, ℕ, List, [], ◌∷◌, Bool, true, f
 use Rattle.doc_fields.specs.declared.tags.Tag.{Tag}
 use Rattle.doc_fields.specs.declared.tags.Tag.TheVariants.{Directory}
 use Rattle.doc_elements.specs.Children.{code, member}
-use Rattle.index_model.specs.declared.nodes.Kind.TheVariants as kinds
-use Rattle.doc_elements.specs.declared.schema.Place.TheVariants as place
+use Rattle.index_model.specs.declared.nodes.NodeKind.TheVariants as kinds
+use Rattle.doc_elements.specs.declared.schema.Container.TheVariants as place
 use Rattle.doc_elements.specs.declared.schema.Child.{Child}
 use Rattle.doc_elements.specs.declared.schema.Child.TheVariants as child
 use Rattle.doc_elements.specs.Schema.{rule, required}

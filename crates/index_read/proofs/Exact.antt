@@ -1,9 +1,9 @@
 -- A text is an index's, or stops, in one way.
 use Rattle.std.proofs.Common.{◌≡◌, ℕ, List, [], ◌∷◌, ◌++◌, Some, inl, inr, refl, sym, ap, subst, ◌∙◌}
 use Rattle.index_model.specs.declared.indexes.Index.{Index}
-use Rattle.index_model.specs.declared.nodes.Kind.TheVariants as kinds
+use Rattle.index_model.specs.declared.nodes.NodeKind.TheVariants as kinds
 use Rattle.index_model.specs.declared.errors.IndexErr.{IndexErr}
-use Rattle.doc_elements.specs.declared.schema.Place.TheVariants as place
+use Rattle.doc_elements.specs.declared.schema.Container.TheVariants as place
 use Rattle.index_model.specs.Values.{value_in, listed, IndexValue, all_nodes, Tells}
 use Rattle.doc_elements.specs.Pieces.{closes}
 use Rattle.index_model.specs.Documents.{StopsAs, fault_told, refusal_told}

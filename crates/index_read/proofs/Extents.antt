@@ -3,11 +3,11 @@ use Rattle.std.proofs.Common.{◌≡◌, ℕ, List, [], ◌∷◌, ◌++◌, len
 use Rattle.std.proofs.lemmas.List.{append-nil}
 use Rattle.doc_fields.specs.declared.tags.Tag.{Tag}
 use Rattle.doc_fields.specs.declared.tags.Tag.TheVariants.{LtfsLabel, Location, Partition, StartBlock, FileOffset, ByteOffset, ByteCount, Extent}
-use Rattle.index_model.specs.declared.nodes.Kind.{Kind}
-use Rattle.index_model.specs.declared.nodes.Kind.TheVariants as kinds
+use Rattle.index_model.specs.declared.nodes.NodeKind.{NodeKind}
+use Rattle.index_model.specs.declared.nodes.NodeKind.TheVariants as kinds
 use Rattle.index_model.specs.declared.nodes.RawExtent.{RawExtent}
-use Rattle.doc_elements.specs.declared.schema.Place.{Place}
-use Rattle.doc_elements.specs.declared.schema.Place.TheVariants as place
+use Rattle.doc_elements.specs.declared.schema.Container.{Container}
+use Rattle.doc_elements.specs.declared.schema.Container.TheVariants as place
 use Rattle.doc_elements.specs.declared.schema.Form.{Form}
 use Rattle.doc_elements.specs.declared.schema.Form.TheVariants as form
 use Rattle.doc_elements.specs.declared.schema.Child.TheVariants as child
@@ -47,7 +47,7 @@ extent_step seen i is e fits =
       number_step e.count (own ByteCount i) (told ByteCount is) (λ v h. told_form place.Extent seen is ByteCount form.Bounded v fits refl h),
     ) refl
 
-no_parent : (t : Tag) (q : Place) → extent_rule t ≡ child.Parent q → ⊥
+no_parent : (t : Tag) (q : Container) → extent_rule t ≡ child.Parent q → ⊥
 no_parent Location q e = cc
 no_parent _ q e = cc
 
@@ -79,26 +79,26 @@ extents_in (item (nested place.Extent is) more) = extent_in is ∷ extents_in mo
 extents_in (item _ more) = extents_in more
 
 -- the kind with extents more, where it is a file's
-abbrev pub with_more : List RawExtent → Kind → Kind
+abbrev pub with_more : List RawExtent → NodeKind → NodeKind
 with_more es kinds.Dir = kinds.Dir
 with_more es (kinds.File bytes extents) = kinds.File bytes (extents ++ es)
 with_more es (kinds.Link text) = kinds.Link text
 
-pub with_none : (k : Kind) → k ≡ with_more [] k
+pub with_none : (k : NodeKind) → k ≡ with_more [] k
 with_none kinds.Dir = refl
 with_none (kinds.File bytes extents) = ap (λ (es : List RawExtent). kinds.File bytes es) (sym (append-nil extents))
 with_none (kinds.Link text) = refl
 
-with_next : (e : RawExtent) (es : List RawExtent) (k : Kind) → with_more es (one_more e k) ≡ with_more (e ∷ es) k
+with_next : (e : RawExtent) (es : List RawExtent) (k : NodeKind) → with_more es (one_more e k) ≡ with_more (e ∷ es) k
 with_next e es kinds.Dir = refl
 with_next e es (kinds.File bytes extents) = ap (λ (xs : List RawExtent). kinds.File bytes xs) (append_assoc extents (e ∷ []) es)
 with_next e es (kinds.Link text) = refl
 
 -- a node among others
-abbrev pub nodes_with : List NodeValue → ℕ → NodeFacts → List NodeValue → Kind → List NodeValue
+abbrev pub nodes_with : List NodeValue → ℕ → NodeFacts → List NodeValue → NodeKind → List NodeValue
 nodes_with front parent f behind k = front ++ (value_in parent f k ∷ behind)
 
-pub extents_told : (seen : List Tag) (is : Items) (s : State) (front : List NodeValue) (parent : ℕ) (f : NodeFacts) (k : Kind) (behind : List NodeValue) → Fits place.ExtentInfo seen is → s.nodes ≡ nodes_with front parent f behind k
+pub extents_told : (seen : List Tag) (is : Items) (s : State) (front : List NodeValue) (parent : ℕ) (f : NodeFacts) (k : NodeKind) (behind : List NodeValue) → Fits place.ExtentInfo seen is → s.nodes ≡ nodes_with front parent f behind k
     → (items_told place.ExtentInfo (length front) is s).nodes ≡ nodes_with front parent f behind (with_more (extents_in is) k)
 extents_told seen no_items s front parent f k behind fits at = at ∙ ap (nodes_with front parent f behind) (with_none k)
 extents_told seen (item (plain t v) is) s front parent f k behind fits at = absurd (leafless t fits.0.0 fits.0.1)

@@ -5,8 +5,8 @@ use Rattle.node_keys.specs.declared.xattrs.Xattr.{Xattr}
 use Rattle.doc_fields.specs.declared.tags.Tag.{Tag}
 use Rattle.doc_fields.specs.declared.tags.Tag.TheVariants.{FileUid, Name, CreationTime, ChangeTime, ModifyTime, AccessTime, BackupTime, ReadOnly}
 use Rattle.doc_elements.specs.Children.{code, member}
-use Rattle.doc_elements.specs.declared.schema.Place.{Place}
-use Rattle.doc_elements.specs.declared.schema.Place.TheVariants as place
+use Rattle.doc_elements.specs.declared.schema.Container.{Container}
+use Rattle.doc_elements.specs.declared.schema.Container.TheVariants as place
 use Rattle.doc_elements.specs.declared.schema.Form.TheVariants as form
 use Rattle.doc_elements.specs.declared.schema.Child.{Child}
 use Rattle.doc_elements.specs.declared.schema.Child.TheVariants as child
@@ -22,7 +22,7 @@ use Rattle.index_read.proofs.OfForms.{IsOf, or_none, number_step, words_step, ti
 
 -- ---- elements that aren't there
 
-pub not_own : (p : Place) (i : Item) (t : Tag) → FitsItem p i → rule p t ≡ child.Unknown → own t i ≡ None
+pub not_own : (p : Container) (i : Item) (t : Tag) → FitsItem p i → rule p t ≡ child.Unknown → own t i ≡ None
 not_own p (plain u w) t fits unknown = by (code t == code u) refl
   where
     by : (b : Bool) → (code t == code u) ≡ b → (if b then Some w else None) ≡ None
@@ -32,13 +32,13 @@ not_own p (bare q) t fits unknown = refl
 not_own p (nested q is) t fits unknown = refl
 
 -- what has stood there and may not repeat doesn't follow
-pub follows_once : (p : Place) (seen : List Tag) (t u : Tag) → MayFollow p seen u → t ≡ u → member t seen ≡ true → may_repeat p t ≡ false → ⊥
+pub follows_once : (p : Container) (seen : List Tag) (t u : Tag) → MayFollow p seen u → t ≡ u → member t seen ≡ true → may_repeat p t ≡ false → ⊥
 follows_once p seen t u follows same there once =
     let h : (member t seen && not (may_repeat p t)) ≡ false = subst (λ (x : Tag). (member x seen && not (may_repeat p x)) ≡ false) (sym same) follows.once in
     let bad : true ≡ false = rw (there, once) at h in
     cc
 
-pub not_now : (p : Place) (seen : List Tag) (i : Item) (t : Tag) → MayFollow p seen (item_tag i) → member t seen ≡ true → may_repeat p t ≡ false → own t i ≡ None
+pub not_now : (p : Container) (seen : List Tag) (i : Item) (t : Tag) → MayFollow p seen (item_tag i) → member t seen ≡ true → may_repeat p t ≡ false → own t i ≡ None
 not_now p seen (plain u w) t follows there once = by (code t == code u) refl
   where
     by : (b : Bool) → (code t == code u) ≡ b → (if b then Some w else None) ≡ None
@@ -50,35 +50,35 @@ not_now p seen (nested q is) t follows there once = refl
 pub member_later : (t u : Tag) (seen : List Tag) → member t seen ≡ true → member t (u ∷ seen) ≡ true
 member_later t u seen there = or_right (code t == code u) (member t seen) there
 
-pub not_again : (p : Place) (seen : List Tag) (is : Items) (t : Tag) → Fits p seen is → member t seen ≡ true → may_repeat p t ≡ false → told t is ≡ None
+pub not_again : (p : Container) (seen : List Tag) (is : Items) (t : Tag) → Fits p seen is → member t seen ≡ true → may_repeat p t ≡ false → told t is ≡ None
 not_again p seen no_items t fits there once = refl
 not_again p seen (item i is) t fits there once =
     rw (not_again p (item_tag i ∷ seen) is t fits.2 (member_later t (item_tag i) seen there) once, not_now p seen i t fits.1 there once) refl
 
 -- ---- parents by their numbers
 
-places : List Place
+places : List Container
 places = place.Index ∷ place.Here ∷ place.Back ∷ place.Policy ∷ place.Criteria ∷ place.Root ∷ place.Directory ∷ place.Contents ∷ place.File ∷ place.Attributes ∷ place.ExtentInfo ∷ place.Extent ∷ place.Label ∷ place.Own ∷ place.Letters
     ∷ place.Xattr ∷ []
 
-numbered : ℕ → List Place → Place
+numbered : ℕ → List Container → Container
 numbered n [] = place.Index
 numbered n (p ∷ ps) = if n == place_code p then p else numbered n ps
 
-back_from_number : (p : Place) → numbered (place_code p) places ≡ p
+back_from_number : (p : Container) → numbered (place_code p) places ≡ p
 unfolding numbered places
 back_from_number place.Index = refl
 back_from_number _ = refl
 
-pub same_place : (p q : Place) → (place_code p == place_code q) ≡ true → p ≡ q
+pub same_place : (p q : Container) → (place_code p == place_code q) ≡ true → p ≡ q
 same_place p q e = sym (back_from_number p) ∙ ap (λ n. numbered n places) (eqb-true (place_code p) (place_code q) e) ∙ back_from_number q
 
-pub no_inside : (p : Place) (seen : List Tag) (is : Items) (q : Place) → Fits p seen is → member (tag_of q) seen ≡ true → may_repeat p (tag_of q) ≡ false → inside q is ≡ None
+pub no_inside : (p : Container) (seen : List Tag) (is : Items) (q : Container) → Fits p seen is → member (tag_of q) seen ≡ true → may_repeat p (tag_of q) ≡ false → inside q is ≡ None
 no_inside p seen no_items q fits there once = refl
 no_inside p seen (item i is) q fits there once =
     rw (no_inside p (item_tag i ∷ seen) is q fits.2 (member_later (tag_of q) (item_tag i) seen there) once, now i fits.1) refl
   where
-    by : (r : Place) (x : Items) → MayFollow p seen (tag_of r) → (b : Bool) → (place_code q == place_code r) ≡ b → (if b then Some x else None) ≡ None
+    by : (r : Container) (x : Items) → MayFollow p seen (tag_of r) → (b : Bool) → (place_code q == place_code r) ≡ b → (if b then Some x else None) ≡ None
     by r x follows true h = absurd (follows_once p seen (tag_of q) (tag_of r) follows (ap tag_of (same_place q r h)) there once)
     by r x follows false h = refl
 
@@ -88,12 +88,12 @@ no_inside p seen (item i is) q fits there once =
     now (nested r x) follows = by r x follows (place_code q == place_code r) refl
 
 -- the children of a parent fit it
-pub inside_fits : (p : Place) (seen : List Tag) (is : Items) (q : Place) (x : Items) → Fits p seen is → inside q is ≡ Some x → Fits q [] x
+pub inside_fits : (p : Container) (seen : List Tag) (is : Items) (q : Container) (x : Items) → Fits p seen is → inside q is ≡ Some x → Fits q [] x
 inside_fits p seen no_items q x fits e = absurd cc
 inside_fits p seen (item i is) q x fits e = by (inside q is) refl (λ y. inside_fits p (item_tag i ∷ seen) is q y fits.2) e
   where
-    one : (r : Place) (y : Items) → Fits r [] y → (b : Bool) → (place_code q == place_code r) ≡ b → (if b then Some y else None) ≡ Some x → Fits q [] x
-    one r y f true h o = let same : y ≡ x = cc (o) in subst (λ (z : Items). Fits q [] z) same (subst (λ (s : Place). Fits s [] y) (sym (same_place q r h)) f)
+    one : (r : Container) (y : Items) → Fits r [] y → (b : Bool) → (place_code q == place_code r) ≡ b → (if b then Some y else None) ≡ Some x → Fits q [] x
+    one r y f true h o = let same : y ≡ x = cc (o) in subst (λ (z : Items). Fits q [] z) same (subst (λ (s : Container). Fits s [] y) (sym (same_place q r h)) f)
     one r y f false h o = absurd cc
 
     now : (i : Item) → FitsItem p i → own_children q i ≡ Some x → Fits q [] x
@@ -181,12 +181,12 @@ facts_step t v is f forms =
     ) refl
 
 -- a parent among the children tells none of the leaves
-no_leaves : (q : Place) (x is : Items) (f : NodeFacts) (xs : List Xattr) → record (facts_from (item (nested q x) is) f) { xattrs = xs } ≡ record (facts_from is f) { xattrs = xs }
+no_leaves : (q : Container) (x is : Items) (f : NodeFacts) (xs : List Xattr) → record (facts_from (item (nested q x) is) f) { xattrs = xs } ≡ record (facts_from is f) { xattrs = xs }
 no_leaves q x is f xs =
     rw (or_none (told FileUid is), or_none (told Name is), or_none (told CreationTime is), or_none (told ChangeTime is), or_none (told ModifyTime is), or_none (told AccessTime is), or_none (told BackupTime is), or_none (told ReadOnly is)) refl
 
 -- one that has no attributes tells nothing
-pub facts_parent : (q : Place) (x is : Items) (f : NodeFacts) → own_children place.Attributes (nested q x) ≡ None → facts_from (item (nested q x) is) f ≡ facts_from is f
+pub facts_parent : (q : Container) (x is : Items) (f : NodeFacts) → own_children place.Attributes (nested q x) ≡ None → facts_from (item (nested q x) is) f ≡ facts_from is f
 facts_parent q x is f other =
     let old = facts_from (item (nested q x) is) f in
     ap (λ (o : Option Items). record old { xattrs = xattrs_or f.xattrs (or_else (inside place.Attributes is) o) }) other

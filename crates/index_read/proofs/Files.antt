@@ -4,10 +4,10 @@ use Rattle.std.proofs.lemmas.List.{append-nil}
 use Rattle.doc_fields.specs.declared.tags.Tag.{Tag}
 use Rattle.doc_fields.specs.declared.tags.Tag.TheVariants.{Length, Symlink, ExtentInfo, ExtendedAttributes}
 use Rattle.doc_elements.specs.Children.{code, member}
-use Rattle.index_model.specs.declared.nodes.Kind.{Kind}
-use Rattle.index_model.specs.declared.nodes.Kind.TheVariants as kinds
+use Rattle.index_model.specs.declared.nodes.NodeKind.{NodeKind}
+use Rattle.index_model.specs.declared.nodes.NodeKind.TheVariants as kinds
 use Rattle.index_model.specs.declared.nodes.RawExtent.{RawExtent}
-use Rattle.doc_elements.specs.declared.schema.Place.TheVariants as place
+use Rattle.doc_elements.specs.declared.schema.Container.TheVariants as place
 use Rattle.doc_elements.specs.declared.schema.Form.TheVariants as form
 use Rattle.index_model.specs.Values.{NodeFacts, NodeValue, Nodes, file, link, value_in, listed}
 use Rattle.doc_elements.specs.Pieces.{Val, words}
@@ -23,7 +23,7 @@ use Rattle.index_read.proofs.Xattrs.{attributes_told, with_xattrs, xattrs_in}
 -- ---- a file
 
 -- a leaf changes the node that it stands in
-pub leaf_changes : (i : Item) (nodes front : List NodeValue) (parent : ℕ) (f : NodeFacts) (k : Kind) (behind : List NodeValue) → nodes ≡ nodes_with front parent f behind k
+pub leaf_changes : (i : Item) (nodes front : List NodeValue) (parent : ℕ) (f : NodeFacts) (k : NodeKind) (behind : List NodeValue) → nodes ≡ nodes_with front parent f behind k
     → changed (length front) (node_with i) nodes ≡ nodes_with front parent (facts_with i f) behind (kind_with i k)
 leaf_changes i nodes front parent f k behind at = ap (changed (length front) (node_with i)) at ∙ changed_at front (value_in parent f k) behind (node_with i)
 
@@ -35,7 +35,7 @@ own_member t u v w seen e = by (code t == code u) e
     by false h = absurd cc
 
 -- the kind that children of a file tell, over what was told
-abbrev pub file_kind : Items → ℕ → List RawExtent → Kind
+abbrev pub file_kind : Items → ℕ → List RawExtent → NodeKind
 file_kind is bytes es = link_or (kinds.File (number_or bytes (told Length is)) (es ++ extents_of (inside place.ExtentInfo is))) (told Symlink is)
 
 -- the rest of a link
@@ -77,7 +77,7 @@ file_leaf seen t v is s front parent f bytes es behind fits at later =
     u : State
     u = item_told place.File (length front) i s
 
-    k : Kind
+    k : NodeKind
     k = kinds.File (number_or bytes (own Length i)) es
 
     by : (o : Option Val) → own Symlink i ≡ o → u.nodes ≡ nodes_with front parent (facts_with i f) behind (link_or k o)

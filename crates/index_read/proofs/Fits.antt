@@ -15,7 +15,7 @@ use Rattle.doc_fields.specs.Texts.{text_at}
 use Rattle.doc_fields.specs.Values.{bool_at, letter_at, lock_at, time_at, uuid_at}
 use Rattle.doc_elements.specs.Children.{code, member, first_missing}
 use Rattle.doc_elements.specs.declared.errors.PieceErr.{PieceErr}
-use Rattle.doc_elements.specs.declared.schema.Place.{Place}
+use Rattle.doc_elements.specs.declared.schema.Container.{Container}
 use Rattle.doc_elements.specs.declared.schema.Form.{Form}
 use Rattle.doc_elements.specs.declared.schema.Form.TheVariants as form
 use Rattle.doc_elements.specs.declared.schema.Child.{Child}
@@ -46,13 +46,13 @@ HasForm form.Generation v = (n : ℕ) × (v ≡ number n)
 
 abbrev mutual
   -- an element that may be a child
-  pub FitsItem : Place → Item → Type 0
+  pub FitsItem : Container → Item → Type 0
   FitsItem p (plain tag v) = (f : Form) × (rule p tag ≡ child.Leaf f) × HasForm f v
   FitsItem p (bare q) = (rule p (tag_of q) ≡ child.Parent q) × (first_missing (required q) [] ≡ None)
   FitsItem p (nested q is) = (rule p (tag_of q) ≡ child.Parent q) × Fits q [] is
 
   -- the children of a parent, behind some that stood there
-  pub Fits : Place → List Tag → Items → Type 0
+  pub Fits : Container → List Tag → Items → Type 0
   Fits p seen no_items = first_missing (required p) seen ≡ None
   Fits p seen (item i is) = FitsItem p i × MayFollow p seen (item_tag i) × Fits p (item_tag i ∷ seen) is
 
@@ -126,12 +126,12 @@ leaf_form f tag from start text v n e = by start.empty e
 -- ---- what is spelled fits
 
 mutual
-  pub item_fits : (text : List ℕ) (p : Place) (at : ℕ) (i : Item) (next : ℕ) → Spelled text p at i next → FitsItem p i
+  pub item_fits : (text : List ℕ) (p : Container) (at : ℕ) (i : Item) (next : ℕ) → Spelled text p at i next → FitsItem p i
   item_fits text p at (plain tag v) next s = (s.0, s.2.child, leaf_form s.0 tag at s.1 text v next s.3)
   item_fits text p at (bare q) next s = (s.1.child, s.4)
   item_fits text p at (nested q is) next s = (s.1.child, all_fit text q [] s.0.next is s.3 s.4)
 
-  pub all_fit : (text : List ℕ) (p : Place) (seen : List Tag) (at : ℕ) (is : Items) (end : ℕ) → AllSpelled text p seen at is end → Fits p seen is
+  pub all_fit : (text : List ℕ) (p : Container) (seen : List Tag) (at : ℕ) (is : Items) (end : ℕ) → AllSpelled text p seen at is end → Fits p seen is
   all_fit text p seen at no_items end s = s.1
   all_fit text p seen at (item i is) end s = (item_fits text p (space_end text at) i s.1 s.2, s.0, all_fit text p (item_tag i ∷ seen) s.1 is end s.3)
 
@@ -151,7 +151,7 @@ same_tag t u e = sym (back_from_code t) ∙ ap (λ n. coded_in n all_tags) (eqb-
 
 -- ---- what is told
 
-pub own_form : (p : Place) (i : Item) (t : Tag) (f : Form) (v : Val) → FitsItem p i → rule p t ≡ child.Leaf f → own t i ≡ Some v → HasForm f v
+pub own_form : (p : Container) (i : Item) (t : Tag) (f : Form) (v : Val) → FitsItem p i → rule p t ≡ child.Leaf f → own t i ≡ Some v → HasForm f v
 own_form p (plain u w) t f v fits is e = by (code t == code u) refl e
   where
     by : (b : Bool) → (code t == code u) ≡ b → (if b then Some w else None) ≡ Some v → HasForm f v
@@ -165,7 +165,7 @@ own_form p (plain u w) t f v fits is e = by (code t == code u) refl e
 own_form p (bare q) t f v fits is e = absurd cc
 own_form p (nested q is) t f v fits r e = absurd cc
 
-pub told_form : (p : Place) (seen : List Tag) (is : Items) (t : Tag) (f : Form) (v : Val) → Fits p seen is → rule p t ≡ child.Leaf f → told t is ≡ Some v → HasForm f v
+pub told_form : (p : Container) (seen : List Tag) (is : Items) (t : Tag) (f : Form) (v : Val) → Fits p seen is → rule p t ≡ child.Leaf f → told t is ≡ Some v → HasForm f v
 told_form p seen no_items t f v fits r e = absurd cc
 told_form p seen (item i is) t f v fits r e = by (told t is) refl (λ w. told_form p (item_tag i ∷ seen) is t f w fits.2 r) e
   where
@@ -183,13 +183,13 @@ missing_member t (u ∷ ts) seen e h = by (member u seen) refl (code t == code u
     by true is false same later d k = later d k
 
 -- an element of the right name is there
-own_there : (p : Place) (i : Item) (t : Tag) (f : Form) → FitsItem p i → rule p t ≡ child.Leaf f → (code t == code (item_tag i)) ≡ true → (v : Val) × (own t i ≡ Some v)
+own_there : (p : Container) (i : Item) (t : Tag) (f : Form) → FitsItem p i → rule p t ≡ child.Leaf f → (code t == code (item_tag i)) ≡ true → (v : Val) × (own t i ≡ Some v)
 own_there p (plain u w) t f fits r e = (w, rw e refl)
 own_there p (bare q) t f fits r e = absurd (let bad : ◌≡◌ {A = Child} (child.Leaf f) (child.Parent q) = sym r ∙ ap (rule p) (same_tag t (tag_of q) e) ∙ fits.0 in cc)
 own_there p (nested q is) t f fits r e = absurd (let bad : ◌≡◌ {A = Child} (child.Leaf f) (child.Parent q) = sym r ∙ ap (rule p) (same_tag t (tag_of q) e) ∙ fits.0 in cc)
 
 -- a leaf that must be there is told
-told_there : (p : Place) (seen : List Tag) (is : Items) (t : Tag) (f : Form) → Fits p seen is → rule p t ≡ child.Leaf f → member t (required p) ≡ true → member t seen ≡ false → (v : Val) × (told t is ≡ Some v)
+told_there : (p : Container) (seen : List Tag) (is : Items) (t : Tag) (f : Form) → Fits p seen is → rule p t ≡ child.Leaf f → member t (required p) ≡ true → member t seen ≡ false → (v : Val) × (told t is ≡ Some v)
 told_there p seen no_items t f fits r must new = absurd (let bad : true ≡ false = sym (missing_member t (required p) seen fits must) ∙ new in cc)
 told_there p seen (item i is) t f fits r must new = by (told t is) refl (code t == code (item_tag i)) refl (told_there p (item_tag i ∷ seen) is t f fits.2 r must)
   where
@@ -200,7 +200,7 @@ told_there p seen (item i is) t f fits r must new = by (told t is) refl (code t 
         let more = later (rw (same, new) refl) in
         absurd (let bad : None ≡ Some more.0 = sym h ∙ more.1 in cc)
 
-pub must_tell : (p : Place) (is : Items) (t : Tag) (f : Form) → Fits p [] is → rule p t ≡ child.Leaf f → member t (required p) ≡ true → (v : Val) × (told t is ≡ Some v) × HasForm f v
+pub must_tell : (p : Container) (is : Items) (t : Tag) (f : Form) → Fits p [] is → rule p t ≡ child.Leaf f → member t (required p) ≡ true → (v : Val) × (told t is ≡ Some v) × HasForm f v
 must_tell p is t f fits r must =
     let h = told_there p [] is t f fits r must refl in
     (h.0, h.1, told_form p [] is t f h.0 fits r h.1)

@@ -8,8 +8,8 @@ use Rattle.doc_fields.specs.declared.tags.Tag.TheVariants.{Creator, Comment, Vol
 use Rattle.index_model.specs.declared.indexes.Policy.{Policy}
 use Rattle.index_model.specs.declared.indexes.Spot.{Spot}
 use Rattle.index_model.specs.declared.nodes.RawExtent.{RawExtent}
-use Rattle.doc_elements.specs.declared.schema.Place.{Place}
-use Rattle.doc_elements.specs.declared.schema.Place.TheVariants as place
+use Rattle.doc_elements.specs.declared.schema.Container.{Container}
+use Rattle.doc_elements.specs.declared.schema.Container.TheVariants as place
 use Rattle.doc_elements.specs.declared.schema.Form.TheVariants as form
 use Rattle.doc_elements.specs.declared.schema.Child.TheVariants as child
 use Rattle.index_model.specs.Extents.{IsExtent}
@@ -41,7 +41,7 @@ comment_formed : (is : Items) (o : Option (List ℕ)) → AreRanged place.Index 
 comment_formed is None ranged e = tt
 comment_formed is (Some t) ranged e = told_range place.Index is Comment form.Text (words t) ranged refl e
 
-spot_formed : (q : Place) → rule q Partition ≡ child.Leaf form.Letter → rule q StartBlock ≡ child.Leaf form.Bounded → (is : Items) (s : Spot) → AreRanged q is → TellsSpot is s → IsSpot s
+spot_formed : (q : Container) → rule q Partition ≡ child.Leaf form.Letter → rule q StartBlock ≡ child.Leaf form.Bounded → (is : Items) (s : Spot) → AreRanged q is → TellsSpot is s → IsSpot s
 spot_formed q letters blocks is s ranged t = record {
   letter = told_range q is Partition form.Letter (letter s.letter) ranged letters t.letter;
   block = told_range q is StartBlock form.Bounded (number s.block) ranged blocks t.block;
@@ -56,7 +56,7 @@ policy_formed is p ranged t =
     }
 
 -- what is told of a parent's children holds of what the parent stands for, where it is there
-maybe_formed : {X : Type 0} (R : Items → X → Type 0) (P : X → Type 0) (p q : Place) (is : Items) (x : Option X) → ((js : Items) (y : X) → AreRanged q js → R js y → P y) → AreRanged p is → TellsMaybe R (inside q is) x → IfSome x P
+maybe_formed : {X : Type 0} (R : Items → X → Type 0) (P : X → Type 0) (p q : Container) (is : Items) (x : Option X) → ((js : Items) (y : X) → AreRanged q js → R js y → P y) → AreRanged p is → TellsMaybe R (inside q is) x → IfSome x P
 maybe_formed {X = X} R P p q is x formed ranged t = by (inside q is) refl x t
   where
     by : (o : Option Items) → inside q is ≡ o → (x : Option X) → TellsMaybe R o x → IfSome x P
@@ -122,7 +122,7 @@ xattrs_formed (item (nested place.Xattr x) is) xs ranged t =
     subst (AllByRecursion IsXattr) (sym t.2) all
 xattrs_formed (item (nested _ x) is) xs ranged t = xattrs_formed is xs ranged.1 t
 
-pub all_xattrs : (p : Place) (is : Items) (f : NodeFacts) → AreRanged p is → TellsFacts is f → AllByRecursion IsXattr f.xattrs
+pub all_xattrs : (p : Container) (is : Items) (f : NodeFacts) → AreRanged p is → TellsFacts is f → AllByRecursion IsXattr f.xattrs
 all_xattrs p is f ranged t = by (inside place.Attributes is) refl t.xattrs
   where
     by : (o : Option Items) → inside place.Attributes is ≡ o → HasXattrs o f.xattrs → AllByRecursion IsXattr f.xattrs
@@ -171,7 +171,7 @@ mutual
   nodes_formed (item (nested place.File x) is) nodes ranged t = file_formed x nodes t.0 ranged.0 t.1 (nodes_formed is t.0 ranged.1 t.2)
   nodes_formed (item (nested _ x) is) nodes ranged t = nodes_formed is nodes ranged.1 t
 
-  pub contents_formed : (p : Place) (is : Items) (nodes : Nodes) → AreRanged p is → TellsContents is nodes → AreFormed nodes
+  pub contents_formed : (p : Container) (is : Items) (nodes : Nodes) → AreRanged p is → TellsContents is nodes → AreFormed nodes
   contents_formed p no_items nodes ranged t = subst AreFormed (sym t) tt
   contents_formed p (item (plain u v) is) nodes ranged t = contents_formed p is nodes ranged.1 t
   contents_formed p (item (bare q) is) nodes ranged t = contents_formed p is nodes ranged.1 t

@@ -3,8 +3,8 @@ use Rattle.std.proofs.Common.{◌≡◌, ℕ, zero, suc, ◌+◌, ◌<◌, ◌�
 use Rattle.std.proofs.lemmas.Bool.{cases_lt}
 use Rattle.std.proofs.lemmas.List.{append_assoc, append-nil, length-map}
 use Rattle.std.proofs.lemmas.Option.{none-some}
-use Rattle.index_model.specs.declared.nodes.Kind.{Kind}
-use Rattle.index_model.specs.declared.nodes.Kind.TheVariants as kinds
+use Rattle.index_model.specs.declared.nodes.NodeKind.{NodeKind}
+use Rattle.index_model.specs.declared.nodes.NodeKind.TheVariants as kinds
 use Rattle.index_model.specs.declared.nodes.Node.{Node}
 use Rattle.index_model.specs.Order.{AreInOrder, IsDirAt, LiesIn}
 use Rattle.index_model.specs.Order.LiesIn.{itself, through}
@@ -64,7 +64,7 @@ record IsStanding (nodes : List Node) (parent at size : ℕ) (rest : List NodeVa
   last : LiesBefore nodes end parent
 
 -- the first of them is told, in a directory that stands before it
-module _ (nodes : List Node) (parent at : ℕ) (f : NodeFacts) (kind : Kind) (xs : List NodeValue) (first : Begins nodes at (value_in parent f kind) xs) (below : parent < at) (dir : IsDirAt nodes parent) (before : LiesBefore nodes at parent) where
+module _ (nodes : List Node) (parent at : ℕ) (f : NodeFacts) (kind : NodeKind) (xs : List NodeValue) (first : Begins nodes at (value_in parent f kind) xs) (below : parent < at) (dir : IsDirAt nodes parent) (before : LiesBefore nodes at parent) where
   in_it : first.node.parent ≡ parent
   in_it = ap (λ (n : NodeValue). n.parent) first.value
 

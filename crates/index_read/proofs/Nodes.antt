@@ -4,9 +4,9 @@ use Rattle.std.proofs.lemmas.List.{append-nil}
 use Rattle.doc_fields.specs.declared.tags.Tag.{Tag}
 use Rattle.doc_fields.specs.declared.tags.Tag.TheVariants.{LtfsLabel, Directory, File, Name, Symlink, Contents, ExtendedAttributes}
 use Rattle.doc_elements.specs.Children.{member}
-use Rattle.index_model.specs.declared.nodes.Kind.TheVariants as kinds
-use Rattle.doc_elements.specs.declared.schema.Place.{Place}
-use Rattle.doc_elements.specs.declared.schema.Place.TheVariants as place
+use Rattle.index_model.specs.declared.nodes.NodeKind.TheVariants as kinds
+use Rattle.doc_elements.specs.declared.schema.Container.{Container}
+use Rattle.doc_elements.specs.declared.schema.Container.TheVariants as place
 use Rattle.doc_elements.specs.declared.schema.Form.{Form}
 use Rattle.doc_elements.specs.declared.schema.Form.TheVariants as form
 use Rattle.doc_elements.specs.declared.schema.Child.TheVariants as child
@@ -190,7 +190,7 @@ root_leaf : (t : Tag) (v : Val) (f : Form) → directory_rule form.VolumeName t 
 root_leaf Name v f e has = let same : f ≡ form.VolumeName = cc in (form.NodeName, refl, subst (λ (g : Form). HasForm g v) same has)
 root_leaf _ v f e has = (f, e, has)
 
-root_parent : (t : Tag) (q : Place) → directory_rule form.VolumeName t ≡ child.Parent q → directory_rule form.NodeName t ≡ child.Parent q
+root_parent : (t : Tag) (q : Container) → directory_rule form.VolumeName t ≡ child.Parent q → directory_rule form.NodeName t ≡ child.Parent q
 root_parent Name q e = absurd cc
 root_parent _ q e = e
 

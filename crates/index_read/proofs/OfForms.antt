@@ -4,7 +4,7 @@ use Rattle.std.specs.Option.{option_map}
 use Rattle.tape_types.specs.declared.times.Civil.{Civil}
 use Rattle.doc_fields.specs.declared.tags.Tag.{Tag}
 use Rattle.doc_fields.specs.declared.values.LockState.{LockState}
-use Rattle.doc_elements.specs.declared.schema.Place.{Place}
+use Rattle.doc_elements.specs.declared.schema.Container.{Container}
 use Rattle.doc_elements.specs.declared.schema.Form.{Form}
 use Rattle.doc_elements.specs.declared.schema.Child.TheVariants as child
 use Rattle.doc_elements.specs.Schema.{rule}
@@ -94,5 +94,5 @@ lock_may None of = refl
 lock_may (Some v) of = let h = of v refl in rw h.1 refl
 
 -- what is told of a leaf is of the leaf's kind
-pub has_form : (p : Place) (seen : List Tag) (is : Items) (t : Tag) (f : Form) → Fits p seen is → rule p t ≡ child.Leaf f → (v : Val) → told t is ≡ Some v → HasForm f v
+pub has_form : (p : Container) (seen : List Tag) (is : Items) (t : Tag) (f : Form) → Fits p seen is → rule p t ≡ child.Leaf f → (v : Val) → told t is ≡ Some v → HasForm f v
 has_form p seen is t f fits r v e = told_form p seen is t f v fits r e

@@ -6,8 +6,8 @@ use Rattle.doc_fields.specs.declared.tags.Tag.{Tag}
 use Rattle.doc_fields.specs.declared.tags.Tag.TheVariants.{Name}
 use Rattle.doc_fields.specs.Space.{space_end}
 use Rattle.doc_elements.specs.Children.{code}
-use Rattle.doc_elements.specs.declared.schema.Place.{Place}
-use Rattle.doc_elements.specs.declared.schema.Place.TheVariants as place
+use Rattle.doc_elements.specs.declared.schema.Container.{Container}
+use Rattle.doc_elements.specs.declared.schema.Container.TheVariants as place
 use Rattle.doc_elements.specs.declared.schema.Form.{Form}
 use Rattle.doc_elements.specs.declared.schema.Form.TheVariants as form
 use Rattle.doc_elements.specs.declared.schema.Child.{Child}
@@ -22,31 +22,31 @@ use Rattle.index_read.proofs.Ranges.{InRange, leaf_range}
 
 abbrev mutual
   -- each leaf in this child of p has a value in its range
-  pub IsRanged : Place → Item → Type 0
+  pub IsRanged : Container → Item → Type 0
   IsRanged p (plain tag v) = (f : Form) × (rule p tag ≡ child.Leaf f) × InRange f v
   IsRanged p (bare q) = ⊤
   IsRanged p (nested q is) = AreRanged q is
 
   -- each leaf in these children of p has one
-  pub AreRanged : Place → Items → Type 0
+  pub AreRanged : Container → Items → Type 0
   AreRanged p no_items = ⊤
   AreRanged p (item i is) = IsRanged p i × AreRanged p is
 
 -- ---- what is spelled is in its range
 
 mutual
-  item_ranged : (text : List ℕ) (p : Place) (at : ℕ) (i : Item) (next : ℕ) → Spelled text p at i next → IsRanged p i
+  item_ranged : (text : List ℕ) (p : Container) (at : ℕ) (i : Item) (next : ℕ) → Spelled text p at i next → IsRanged p i
   item_ranged text p at (plain tag v) next s = (s.0, s.2.child, leaf_range s.0 tag at s.1 text v next s.3)
   item_ranged text p at (bare q) next s = tt
   item_ranged text p at (nested q is) next s = all_ranged text q [] s.0.next is s.3 s.4
 
-  pub all_ranged : (text : List ℕ) (p : Place) (seen : List Tag) (at : ℕ) (is : Items) (end : ℕ) → AllSpelled text p seen at is end → AreRanged p is
+  pub all_ranged : (text : List ℕ) (p : Container) (seen : List Tag) (at : ℕ) (is : Items) (end : ℕ) → AllSpelled text p seen at is end → AreRanged p is
   all_ranged text p seen at no_items end s = tt
   all_ranged text p seen at (item i is) end s = (item_ranged text p (space_end text at) i s.1 s.2, all_ranged text p (item_tag i ∷ seen) s.1 is end s.3)
 
 -- ---- what is told is in its range
 
-own_range : (p : Place) (i : Item) (t : Tag) (f : Form) (v : Val) → IsRanged p i → rule p t ≡ child.Leaf f → own t i ≡ Some v → InRange f v
+own_range : (p : Container) (i : Item) (t : Tag) (f : Form) (v : Val) → IsRanged p i → rule p t ≡ child.Leaf f → own t i ≡ Some v → InRange f v
 own_range p (plain u w) t f v ranged is e = by (code t == code u) refl e
   where
     by : (b : Bool) → (code t == code u) ≡ b → (if b then Some w else None) ≡ Some v → InRange f v
@@ -59,7 +59,7 @@ own_range p (plain u w) t f v ranged is e = by (code t == code u) refl e
 own_range p (bare q) t f v ranged is e = absurd cc
 own_range p (nested q is) t f v ranged r e = absurd cc
 
-pub told_range : (p : Place) (is : Items) (t : Tag) (f : Form) (v : Val) → AreRanged p is → rule p t ≡ child.Leaf f → told t is ≡ Some v → InRange f v
+pub told_range : (p : Container) (is : Items) (t : Tag) (f : Form) (v : Val) → AreRanged p is → rule p t ≡ child.Leaf f → told t is ≡ Some v → InRange f v
 told_range p no_items t f v ranged r e = absurd cc
 told_range p (item i is) t f v ranged r e = by (told t is) refl (λ w. told_range p is t f w ranged.1 r) e
   where
@@ -68,12 +68,12 @@ told_range p (item i is) t f v ranged r e = by (told t is) refl (λ w. told_rang
     by (Some w) h later o = let same : w ≡ v = cc (o) in subst (InRange f) same (later w h)
 
 -- the children of a parent among children
-pub inside_ranged : (p : Place) (is : Items) (q : Place) (x : Items) → AreRanged p is → inside q is ≡ Some x → AreRanged q x
+pub inside_ranged : (p : Container) (is : Items) (q : Container) (x : Items) → AreRanged p is → inside q is ≡ Some x → AreRanged q x
 inside_ranged p no_items q x ranged e = absurd cc
 inside_ranged p (item i is) q x ranged e = by (inside q is) refl (λ y. inside_ranged p is q y ranged.1) e
   where
-    one : (r : Place) (y : Items) → AreRanged r y → (b : Bool) → (place_code q == place_code r) ≡ b → (if b then Some y else None) ≡ Some x → AreRanged q x
-    one r y h true is o = let same : y ≡ x = cc (o) in subst (AreRanged q) same (subst (λ (s : Place). AreRanged s y) (sym (same_place q r is)) h)
+    one : (r : Container) (y : Items) → AreRanged r y → (b : Bool) → (place_code q == place_code r) ≡ b → (if b then Some y else None) ≡ Some x → AreRanged q x
+    one r y h true is o = let same : y ≡ x = cc (o) in subst (AreRanged q) same (subst (λ (s : Container). AreRanged s y) (sym (same_place q r is)) h)
     one r y h false is o = absurd cc
 
     now : (i : Item) → IsRanged p i → own_children q i ≡ Some x → AreRanged q x

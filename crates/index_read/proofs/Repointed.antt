@@ -9,8 +9,8 @@ use Rattle.doc_fields.specs.Space.{space_end}
 use Rattle.doc_elements.specs.declared.children.Children.{Children}
 use Rattle.doc_elements.specs.declared.errors.PieceErr.{PieceErr}
 use Rattle.doc_elements.specs.declared.schema.Form.{Form}
-use Rattle.doc_elements.specs.declared.schema.Place.{Place}
-use Rattle.doc_elements.specs.declared.schema.Place.TheVariants as place
+use Rattle.doc_elements.specs.declared.schema.Container.{Container}
+use Rattle.doc_elements.specs.declared.schema.Container.TheVariants as place
 use Rattle.doc_elements.specs.declared.schema.Child.TheVariants as child
 use Rattle.doc_elements.specs.Children.{Holds, bits_of, code, first_missing, member}
 use Rattle.doc_elements.specs.Documents.{Point, Reaches, after, counted, fresh, with_child}
@@ -36,7 +36,7 @@ use Rattle.index_read.proofs.Trees.{tell_append}
 -- ---- neither the order of the children that have stood there counts, nor the back pointer among them
 
 -- a parent that is no back pointer
-abbrev IsOther : Place → Type 0
+abbrev IsOther : Container → Type 0
 IsOther place.Back = ⊥
 IsOther _ = Unit {0}
 
@@ -67,7 +67,7 @@ follows_alike seen tags tag same other m = record {
   once = subst (λ (b : Bool). (b && not (may_repeat place.Index tag)) ≡ false) (same tag other) m.once;
 }
 
-abbrev frame : Place → List Tag → Frame
+abbrev frame : Container → List Tag → Frame
 frame p seen = record { place = p; seen = seen }
 
 -- no leaf and no other parent has the element of the back pointer
@@ -75,7 +75,7 @@ leaf_other : (tag : Tag) (f : Form) → rule place.Index tag ≡ child.Leaf f �
 leaf_other PreviousGenerationLocation f is = absurd (cc (is))
 leaf_other _ f is = refl
 
-parent_other : (q : Place) → IsOther q → (code (tag_of q) == code PreviousGenerationLocation) ≡ false
+parent_other : (q : Container) → IsOther q → (code (tag_of q) == code PreviousGenerationLocation) ≡ false
 parent_other place.Back other = absurd other
 parent_other _ other = refl
 
@@ -124,7 +124,7 @@ same_children c seen tags h k t other =
 -- ---- behind the pointers nothing tells of them
 
 -- an open parent in which no pointer can begin or be told
-abbrev Free : Place → List Tag → Type 0
+abbrev Free : Container → List Tag → Type 0
 Free place.Here seen = ⊥
 Free place.Back seen = ⊥
 Free place.Index seen = member Location seen ≡ true
@@ -137,40 +137,40 @@ AllFree (o ∷ os) = Free o.frame.place o.frame.seen × AllFree os
 twice : (t : Tag) (seen : List Tag) → member t seen ≡ true → (member t seen && true) ≡ false → ⊥
 twice t seen there once = let bad : true ≡ false = sym (rw there refl) ∙ once in cc
 
-no_here : (p : Place) (seen : List Tag) → Free p seen → rule p Location ≡ child.Parent place.Here → MayFollow p seen Location → ⊥
+no_here : (p : Container) (seen : List Tag) → Free p seen → rule p Location ≡ child.Parent place.Here → MayFollow p seen Location → ⊥
 no_here place.Index seen free is m = twice Location seen free m.once
 no_here place.Here seen free is m = free
 no_here place.Back seen free is m = free
 no_here _ seen free is m = absurd (cc (is))
 
-no_index : (p : Place) → rule p LtfsIndex ≡ child.Parent place.Index → ⊥
+no_index : (p : Container) → rule p LtfsIndex ≡ child.Parent place.Index → ⊥
 no_index place.Index is = absurd (cc (is))
 no_index _ is = absurd (cc (is))
 
-opens_free : (q p : Place) (seen : List Tag) → IsOther q → Free p seen → rule p (tag_of q) ≡ child.Parent q → MayFollow p seen (tag_of q) → Free q []
+opens_free : (q p : Container) (seen : List Tag) → IsOther q → Free p seen → rule p (tag_of q) ≡ child.Parent q → MayFollow p seen (tag_of q) → Free q []
 opens_free place.Here p seen other free is m = no_here p seen free is m
 opens_free place.Back p seen other free is m = other
 opens_free place.Index p seen other free is m = absurd (no_index p is)
 opens_free _ p seen other free is m = tt
 
-child_free : (tag : Tag) (p : Place) (seen : List Tag) → Free p seen → Free p (tag ∷ seen)
+child_free : (tag : Tag) (p : Container) (seen : List Tag) → Free p seen → Free p (tag ∷ seen)
 child_free tag place.Here seen free = free
 child_free tag place.Back seen free = free
 child_free tag place.Index seen free = member_later Location tag seen free
 child_free tag _ seen free = tt
 
 module _ (here back : Spot) where
-  begun_kept : (q : Place) (seen : List Tag) (node : ℕ) (s : State) → Free q seen → begun q node (repointed here back s) ≡ repointed here back (begun q node s)
+  begun_kept : (q : Container) (seen : List Tag) (node : ℕ) (s : State) → Free q seen → begun q node (repointed here back s) ≡ repointed here back (begun q node s)
   begun_kept place.Here seen node s free = absurd free
   begun_kept place.Back seen node s free = absurd free
   begun_kept _ seen node s free = refl
 
-  leaf_kept : (q : Place) (seen : List Tag) (node : ℕ) (i : Item) (s : State) → Free q seen → leaf_told q node i (repointed here back s) ≡ repointed here back (leaf_told q node i s)
+  leaf_kept : (q : Container) (seen : List Tag) (node : ℕ) (i : Item) (s : State) → Free q seen → leaf_told q node i (repointed here back s) ≡ repointed here back (leaf_told q node i s)
   leaf_kept place.Here seen node i s free = absurd free
   leaf_kept place.Back seen node i s free = absurd free
   leaf_kept _ seen node i s free = refl
 
-  ended_kept : (q : Place) (node : ℕ) (s : State) → ended q node (repointed here back s) ≡ repointed here back (ended q node s)
+  ended_kept : (q : Container) (node : ℕ) (s : State) → ended q node (repointed here back s) ≡ repointed here back (ended q node s)
   ended_kept place.Extent node s = refl
   ended_kept _ node s = refl
 
@@ -201,7 +201,7 @@ module _ (here back : Spot) where
 -- ---- no back pointer comes
 
 -- an open parent in which none can begin
-abbrev Shut : Place → List Tag → Type 0
+abbrev Shut : Container → List Tag → Type 0
 Shut place.Index seen = member PreviousGenerationLocation seen ≡ true
 Shut _ seen = Unit {0}
 
@@ -209,19 +209,19 @@ abbrev AllShut : List Frame → Type 0
 AllShut [] = Unit {0}
 AllShut (f ∷ fs) = Shut f.place f.seen × AllShut fs
 
-child_shut : (tag : Tag) (p : Place) (seen : List Tag) → Shut p seen → Shut p (tag ∷ seen)
+child_shut : (tag : Tag) (p : Container) (seen : List Tag) → Shut p seen → Shut p (tag ∷ seen)
 child_shut tag place.Index seen shut = member_later PreviousGenerationLocation tag seen shut
 child_shut tag _ seen shut = tt
 
-opens_shut : (q p : Place) → rule p (tag_of q) ≡ child.Parent q → Shut q []
+opens_shut : (q p : Container) → rule p (tag_of q) ≡ child.Parent q → Shut q []
 opens_shut place.Index p is = absurd (no_index p is)
 opens_shut _ p is = tt
 
-no_back : (p : Place) (seen : List Tag) → Shut p seen → rule p PreviousGenerationLocation ≡ child.Parent place.Back → MayFollow p seen PreviousGenerationLocation → ⊥
+no_back : (p : Container) (seen : List Tag) → Shut p seen → rule p PreviousGenerationLocation ≡ child.Parent place.Back → MayFollow p seen PreviousGenerationLocation → ⊥
 no_back place.Index seen shut is m = twice PreviousGenerationLocation seen shut m.once
 no_back _ seen shut is m = absurd (cc (is))
 
-opens_other : (q p : Place) (seen : List Tag) → Shut p seen → rule p (tag_of q) ≡ child.Parent q → MayFollow p seen (tag_of q) → IsOther q
+opens_other : (q p : Container) (seen : List Tag) → Shut p seen → rule p (tag_of q) ≡ child.Parent q → MayFollow p seen (tag_of q) → IsOther q
 opens_other place.Back p seen shut is m = no_back p seen shut is m
 opens_other _ p seen shut is m = tt
 
@@ -250,15 +250,15 @@ there_still : (f : Spot → Spot) (o : Option Spot) → is_there o ≡ true → 
 there_still f None there = there
 there_still f (Some x) there = refl
 
-begun_back : (q : Place) (node : ℕ) (s : State) → has_back s ≡ true → has_back (begun q node s) ≡ true
+begun_back : (q : Container) (node : ℕ) (s : State) → has_back s ≡ true → has_back (begun q node s) ≡ true
 begun_back place.Back node s there = refl
 begun_back _ node s there = there
 
-leaf_back : (q : Place) (node : ℕ) (i : Item) (s : State) → has_back s ≡ true → has_back (leaf_told q node i s) ≡ true
+leaf_back : (q : Container) (node : ℕ) (i : Item) (s : State) → has_back s ≡ true → has_back (leaf_told q node i s) ≡ true
 leaf_back place.Back node i s there = there_still (spot_with i) s.volume.back there
 leaf_back _ node i s there = there
 
-ended_back : (q : Place) (node : ℕ) (s : State) → has_back s ≡ true → has_back (ended q node s) ≡ true
+ended_back : (q : Container) (node : ℕ) (s : State) → has_back s ≡ true → has_back (ended q node s) ≡ true
 ended_back place.Extent node s there = there
 ended_back _ node s there = there
 
@@ -273,7 +273,7 @@ tell_back [] ls s ms t h there = ap has_back (sym h.1) ∙ there
 tell_back (p ∷ ps) [] s ms t h there = absurd h
 tell_back (p ∷ ps) (l ∷ ls) s ms t h there = tell_back ps (levels_after p l ls s) (piece_told p l s) ms t h (piece_back p l s there)
 
-begun_other : (q : Place) (node : ℕ) (s : State) → (has_back (begun q node s) ≡ true → ⊥) → IsOther q
+begun_other : (q : Container) (node : ℕ) (s : State) → (has_back (begun q node s) ≡ true → ⊥) → IsOther q
 begun_other place.Back node s never = never refl
 begun_other _ node s never = tt
 

@@ -3,8 +3,8 @@ use Rattle.std.proofs.Common.{◌≡◌, ℕ, zero, suc, ◌≤◌, List, [], �
 use Rattle.std.proofs.lemmas.List.{length-append}
 use Rattle.tape_types.specs.Bounds.{most_nodes}
 use Rattle.doc_elements.specs.declared.errors.PieceErr.{PieceErr}
-use Rattle.doc_elements.specs.declared.schema.Place.{Place}
-use Rattle.doc_elements.specs.declared.schema.Place.TheVariants as place
+use Rattle.doc_elements.specs.declared.schema.Container.{Container}
+use Rattle.doc_elements.specs.declared.schema.Container.TheVariants as place
 use Rattle.doc_elements.specs.Pieces.{Piece, opens, whole, closes, leaf, piece_at}
 use Rattle.doc_elements.specs.Documents.{Halted, Reaches, after, counted, fresh}
 use Rattle.doc_elements.specs.Elements.{Item, plain}
@@ -27,18 +27,18 @@ changed_length (suc at) f (x ∷ xs) = ap suc (changed_length at f xs)
 one_more : {X : Type 0} (xs : List X) (x : X) → suc (length xs) ≡ length (xs ++ x ∷ [])
 one_more xs x = omega (arith, length-append xs (x ∷ []))
 
-begun_count : (p : Place) (node : ℕ) (s : State) → counted (opens p) (length s.nodes) ≡ length (begun p node s).nodes
+begun_count : (p : Container) (node : ℕ) (s : State) → counted (opens p) (length s.nodes) ≡ length (begun p node s).nodes
 begun_count place.Root node s = one_more s.nodes _
 begun_count place.Directory node s = one_more s.nodes _
 begun_count place.File node s = one_more s.nodes _
 begun_count _ node s = refl
 
-ended_count : (p : Place) (node : ℕ) (s : State) → length s.nodes ≡ length (ended p node s).nodes
+ended_count : (p : Container) (node : ℕ) (s : State) → length s.nodes ≡ length (ended p node s).nodes
 ended_count place.Extent node s = sym (changed_length node _ s.nodes)
 ended_count place.Xattr node s = sym (changed_length node _ s.nodes)
 ended_count _ node s = refl
 
-leaf_count : (p : Place) (node : ℕ) (i : Item) (s : State) → length s.nodes ≡ length (leaf_told p node i s).nodes
+leaf_count : (p : Container) (node : ℕ) (i : Item) (s : State) → length s.nodes ≡ length (leaf_told p node i s).nodes
 leaf_count place.Root node i s = sym (changed_length node _ s.nodes)
 leaf_count place.Directory node i s = sym (changed_length node _ s.nodes)
 leaf_count place.File node i s = sym (changed_length node _ s.nodes)
@@ -119,7 +119,7 @@ is_walked text ps inside next (o ∷ os) top outer done s r t k d = let same : f
 pub at_top : (text : List ℕ) (at n m : ℕ) (top : code_level.Level) (o : Opened) (r : Result (Piece × ℕ) PieceErr) → top ≡ coded o → m ≡ n
     → piece_at (record { place = top.frame.place; seen = o.frame.seen }) m text at ≡ r → piece_at o.frame n text at ≡ r
 at_top text at n m top o r e c h =
-    subst (λ (k : ℕ). piece_at o.frame k text at ≡ r) c (subst (λ (p : Place). piece_at (record { place = p; seen = o.frame.seen }) m text at ≡ r) (ap (λ (x : code_level.Level). x.frame.place) e) h)
+    subst (λ (k : ℕ). piece_at o.frame k text at ≡ r) c (subst (λ (p : Container). piece_at (record { place = p; seen = o.frame.seen }) m text at ≡ r) (ap (λ (x : code_level.Level). x.frame.place) e) h)
 
 -- ---- what doesn't fit
 
@@ -151,8 +151,8 @@ is_front text inside at lone top outer s k none root head = by k.os (ap length (
           ps = k.ps;
           tags = k.o.frame.seen;
           seen_is = seen_is;
-          reaches = subst (λ (p : Place). Reaches text k.ps inside (fresh place.Index ∷ []) 0 (point at (record { place = p; seen = k.o.frame.seen } ∷ []) (length s.nodes))) places r;
-          tells = subst (λ (n : ℕ). Tell k.ps outermost blank (record { place = place.Index; node = n } ∷ []) s) nodes (subst (λ (p : Place). Tell k.ps outermost blank (record { place = p; node = k.o.node } ∷ []) s) places t);
+          reaches = subst (λ (p : Container). Reaches text k.ps inside (fresh place.Index ∷ []) 0 (point at (record { place = p; seen = k.o.frame.seen } ∷ []) (length s.nodes))) places r;
+          tells = subst (λ (n : ℕ). Tell k.ps outermost blank (record { place = place.Index; node = n } ∷ []) s) nodes (subst (λ (p : Container). Tell k.ps outermost blank (record { place = p; node = k.o.node } ∷ []) s) places t);
           here = root.here k.o.frame.seen seen_is;
         }
     by (o ∷ os) e r t = absurd (omega (arith, e, length-append (stacked os) (coded o ∷ [])))

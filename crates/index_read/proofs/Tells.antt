@@ -7,8 +7,8 @@ use Rattle.doc_fields.specs.declared.tags.Tag.TheVariants.{Creator, Comment, Vol
 use Rattle.doc_fields.specs.declared.values.LockState.{LockState}
 use Rattle.index_model.specs.declared.indexes.Policy.{Policy}
 use Rattle.index_model.specs.declared.indexes.Spot.{Spot}
-use Rattle.doc_elements.specs.declared.schema.Place.{Place}
-use Rattle.doc_elements.specs.declared.schema.Place.TheVariants as place
+use Rattle.doc_elements.specs.declared.schema.Container.{Container}
+use Rattle.doc_elements.specs.declared.schema.Container.TheVariants as place
 use Rattle.doc_elements.specs.declared.schema.Form.TheVariants as form
 use Rattle.doc_elements.specs.declared.schema.Child.TheVariants as child
 use Rattle.doc_elements.specs.Schema.{rule, required}
@@ -25,7 +25,7 @@ use Rattle.index_read.proofs.Within.{must_have, here_or, back_or, criteria_or, p
 
 -- ---- places and the policy
 
-spot_tells : (p : Place) (is : Items) → Fits p [] is → (letter_rule : rule p Partition ≡ child.Leaf form.Letter) → (block_rule : rule p StartBlock ≡ child.Leaf form.Bounded) → (required p ≡ Partition ∷ StartBlock ∷ []) → TellsSpot is (spot_told is blank_spot)
+spot_tells : (p : Container) (is : Items) → Fits p [] is → (letter_rule : rule p Partition ≡ child.Leaf form.Letter) → (block_rule : rule p StartBlock ≡ child.Leaf form.Bounded) → (required p ≡ Partition ∷ StartBlock ∷ []) → TellsSpot is (spot_told is blank_spot)
 spot_tells p is fits l b r = record {
   letter = letter_known 0 (told Partition is) (must_tell p is Partition form.Letter fits l (rw r refl));
   block = number_known 0 (told StartBlock is) (must_tell p is StartBlock form.Bounded fits b (rw r refl));
@@ -49,7 +49,7 @@ policy_tells : (o : Option Items) → IfSome o (λ js. Fits place.Policy [] js) 
 policy_tells None h = tt
 policy_tells (Some js) h = criteria_tells js (inside place.Criteria js) refl (must_have place.Policy js place.Criteria h refl refl)
 
-if_inside : (is : Items) (p : Place) → Fits place.Index [] is → IfSome (inside p is) (λ js. Fits p [] js)
+if_inside : (is : Items) (p : Container) → Fits place.Index [] is → IfSome (inside p is) (λ js. Fits p [] js)
 if_inside is p fits = go (inside p is) refl
   where
     go : (o : Option Items) → inside p is ≡ o → IfSome o (λ js. Fits p [] js)

@@ -9,14 +9,14 @@ use Rattle.doc_fields.specs.declared.tags.Tag.{Tag}
 use Rattle.doc_fields.specs.declared.tags.Tag.TheVariants.{UpdateTime, CreationTime, ChangeTime, ModifyTime, AccessTime, BackupTime}
 use Rattle.doc_fields.proofs.Moments.{HasMoment}
 use Rattle.doc_elements.specs.Children.{code}
-use Rattle.doc_elements.specs.declared.schema.Place.{Place}
-use Rattle.doc_elements.specs.declared.schema.Place.TheVariants as place
+use Rattle.doc_elements.specs.declared.schema.Container.{Container}
+use Rattle.doc_elements.specs.declared.schema.Container.TheVariants as place
 use Rattle.doc_elements.specs.Elements.{IsTimed, IsTimedPiece, plain}
 use Rattle.doc_elements.specs.Pieces.{Piece, Val, bytes, closes, leaf, letter, lock, number, opens, time, truth, uuid, whole, words}
 use Rattle.doc_elements.proofs.Timed.{reached_timed}
 use Rattle.index_model.specs.declared.indexes.Index.{Index}
-use Rattle.index_model.specs.declared.nodes.Kind.{Kind}
-use Rattle.index_model.specs.declared.nodes.Kind.TheVariants as kinds
+use Rattle.index_model.specs.declared.nodes.NodeKind.{NodeKind}
+use Rattle.index_model.specs.declared.nodes.NodeKind.TheVariants as kinds
 use Rattle.index_model.specs.declared.nodes.Node.{Node}
 use Rattle.index_model.specs.Grammar.{own}
 use Rattle.index_model.specs.Values.{NodeValue, TimesValue, times_of, value_of, volume_of}
@@ -59,7 +59,7 @@ pub record IsTimedState (s : State) : Type 0 where
 at_epoch : HasMoment (civil_of epoch)
 at_epoch = (epoch, refl)
 
-blank_times : (parent : ℕ) (kind : Kind) → IsTimedNode (blank_node parent kind)
+blank_times : (parent : ℕ) (kind : NodeKind) → IsTimedNode (blank_node parent kind)
 blank_times parent kind = record { create = at_epoch; change = at_epoch; modify = at_epoch; access = at_epoch; backup = at_epoch }
 
 node_timed : (t : Tag) (v : Val) (n : NodeValue) → IsTimed v → IsTimedNode n → IsTimedNode (node_with (plain t v) n)
@@ -80,7 +80,7 @@ all_more : {X : Type 0} (P : X → Type 0) (xs : List X) (x : X) → AllByRecurs
 all_more P [] x all h = (h, tt)
 all_more P (y ∷ xs) x all h = (all.0, all_more P xs x all.1 h)
 
-begun_timed : (p : Place) (node : ℕ) (s : State) → IsTimedState s → IsTimedState (begun p node s)
+begun_timed : (p : Container) (node : ℕ) (s : State) → IsTimedState s → IsTimedState (begun p node s)
 begun_timed place.Here node s h = record { updated = h.updated; nodes = h.nodes }
 begun_timed place.Back node s h = record { updated = h.updated; nodes = h.nodes }
 begun_timed place.Criteria node s h = record { updated = h.updated; nodes = h.nodes }
@@ -91,7 +91,7 @@ begun_timed place.Extent node s h = record { updated = h.updated; nodes = h.node
 begun_timed place.Xattr node s h = record { updated = h.updated; nodes = h.nodes }
 begun_timed _ node s h = h
 
-leaf_told_timed : (p : Place) (node : ℕ) (t : Tag) (v : Val) (s : State) → IsTimed v → IsTimedState s → IsTimedState (leaf_told p node (plain t v) s)
+leaf_told_timed : (p : Container) (node : ℕ) (t : Tag) (v : Val) (s : State) → IsTimed v → IsTimedState s → IsTimedState (leaf_told p node (plain t v) s)
 leaf_told_timed place.Index node t v s k h = record { updated = time_timed s.volume.updated (own UpdateTime (plain t v)) h.updated (own_timed UpdateTime t v k); nodes = h.nodes }
 leaf_told_timed place.Here node t v s k h = record { updated = h.updated; nodes = h.nodes }
 leaf_told_timed place.Back node t v s k h = record { updated = h.updated; nodes = h.nodes }
@@ -103,7 +103,7 @@ leaf_told_timed place.Extent node t v s k h = record { updated = h.updated; node
 leaf_told_timed place.Xattr node t v s k h = record { updated = h.updated; nodes = h.nodes }
 leaf_told_timed _ node t v s k h = h
 
-ended_timed : (p : Place) (node : ℕ) (s : State) → IsTimedState s → IsTimedState (ended p node s)
+ended_timed : (p : Container) (node : ℕ) (s : State) → IsTimedState s → IsTimedState (ended p node s)
 ended_timed place.Extent node s h = record { updated = h.updated; nodes = all_changed IsTimedNode (with_extent s.extent) node s.nodes (λ n k. k) h.nodes }
 ended_timed place.Xattr node s h = record { updated = h.updated; nodes = all_changed IsTimedNode (with_xattr s.xattr) node s.nodes (λ n k. k) h.nodes }
 ended_timed place.Index node s h = h

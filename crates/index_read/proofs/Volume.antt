@@ -4,8 +4,8 @@ use Rattle.doc_fields.specs.declared.tags.Tag.{Tag}
 use Rattle.doc_fields.specs.declared.tags.Tag.TheVariants.{Partition, StartBlock, Size, Name, Location}
 use Rattle.index_model.specs.declared.indexes.Policy.{Policy}
 use Rattle.index_model.specs.declared.indexes.Spot.{Spot}
-use Rattle.doc_elements.specs.declared.schema.Place.{Place}
-use Rattle.doc_elements.specs.declared.schema.Place.TheVariants as place
+use Rattle.doc_elements.specs.declared.schema.Container.{Container}
+use Rattle.doc_elements.specs.declared.schema.Container.TheVariants as place
 use Rattle.doc_elements.specs.declared.schema.Form.TheVariants as form
 use Rattle.doc_elements.specs.declared.schema.Child.TheVariants as child
 use Rattle.doc_elements.specs.Schema.{rule, spot_rule, criteria_rule, tag_of}
@@ -22,20 +22,20 @@ abbrev pub spot_told : Items → Spot → Spot
 spot_told is s = record { letter = letter_or s.letter (told Partition is); block = number_or s.block (told StartBlock is) }
 
 -- a parent all of whose children are a place's letter and block
-abbrev pub IsSpotPlace : Place → Type 0
+abbrev pub IsSpotPlace : Container → Type 0
 IsSpotPlace p = (rule p ≡ spot_rule)
 
-spot_step : (p : Place) (seen : List Tag) (i : Item) (more : Items) (s : Spot) → IsSpotPlace p → Fits p seen more → spot_told more (spot_with i s) ≡ spot_told (item i more) s
+spot_step : (p : Container) (seen : List Tag) (i : Item) (more : Items) (s : Spot) → IsSpotPlace p → Fits p seen more → spot_told more (spot_with i s) ≡ spot_told (item i more) s
 spot_step p seen i more s is fits =
     let a = sym (letter_step s.letter (own Partition i) (told Partition more) (has_form p seen more Partition form.Letter fits (ap (λ r. r Partition) is))) in
     let b = sym (number_step s.block (own StartBlock i) (told StartBlock more) (has_form p seen more StartBlock form.Bounded fits (ap (λ r. r StartBlock) is))) in
     λ k. record { letter = a k; block = b k }
 
-no_parent : (tag : Tag) (q : Place) → spot_rule tag ≡ child.Parent q → ⊥
+no_parent : (tag : Tag) (q : Container) → spot_rule tag ≡ child.Parent q → ⊥
 no_parent Location q e = cc
 no_parent _ q e = cc
 
-not_parent : (p : Place) (q : Place) (tag : Tag) → IsSpotPlace p → rule p tag ≡ child.Parent q → ⊥
+not_parent : (p : Container) (q : Container) (tag : Tag) → IsSpotPlace p → rule p tag ≡ child.Parent q → ⊥
 not_parent p q tag is e = no_parent tag q (sym (ap (λ r. r tag) is) ∙ e)
 
 abbrev pub with_here : Spot → State → State
@@ -63,7 +63,7 @@ back_told seen (item (nested q is) more) node spot s fits = absurd (not_parent p
 abbrev pub policy_told : Items → Policy → Policy
 policy_told is p = record { size = number_or p.size (told Size is); names = p.names ++ names_in is }
 
-no_criteria : (tag : Tag) (q : Place) → criteria_rule tag ≡ child.Parent q → ⊥
+no_criteria : (tag : Tag) (q : Container) → criteria_rule tag ≡ child.Parent q → ⊥
 no_criteria Location q e = cc
 no_criteria _ q e = cc
 

@@ -3,7 +3,7 @@ use Rattle.std.proofs.Common.{◌≡◌, ℕ, List, [], length, Ok, inl, inr, re
 use Rattle.doc_fields.specs.Space.{space_end}
 use Rattle.doc_elements.specs.declared.errors.PieceErr.{PieceErr}
 use Rattle.doc_elements.specs.declared.errors.PieceErr.TheVariants as pieces
-use Rattle.doc_elements.specs.declared.schema.Place.TheVariants as place
+use Rattle.doc_elements.specs.declared.schema.Container.TheVariants as place
 use Rattle.doc_elements.specs.Answers as answers
 use Rattle.doc_elements.specs.Documents.{Accepts, head_of, Halts, at_end, readable}
 use Rattle.index_model.specs.declared.errors.IndexErr.{IndexErr}

@@ -6,8 +6,8 @@ use Rattle.doc_fields.specs.declared.tags.Tag.TheVariants.{Creator, Comment, Vol
 use Rattle.doc_elements.specs.Children.{code, member}
 use Rattle.index_model.specs.declared.indexes.Policy.{Policy}
 use Rattle.index_model.specs.declared.indexes.Spot.{Spot}
-use Rattle.doc_elements.specs.declared.schema.Place.{Place}
-use Rattle.doc_elements.specs.declared.schema.Place.TheVariants as place
+use Rattle.doc_elements.specs.declared.schema.Container.{Container}
+use Rattle.doc_elements.specs.declared.schema.Container.TheVariants as place
 use Rattle.doc_elements.specs.declared.schema.Form.{Form}
 use Rattle.doc_elements.specs.declared.schema.Form.TheVariants as form
 use Rattle.doc_elements.specs.declared.schema.Child.{Child}
@@ -23,7 +23,7 @@ use Rattle.index_read.proofs.OfForms.{has_form, words_step, words_told_step, tim
 use Rattle.index_read.proofs.Volume.{spot_told, with_here, here_told, back_told, policy_told, with_policy, criteria_told}
 
 -- the parents in a directory
-abbrev pub is_within : Place → Bool
+abbrev pub is_within : Container → Bool
 is_within place.Root = true
 is_within place.Directory = true
 is_within place.Contents = true
@@ -34,7 +34,7 @@ is_within place.Extent = true
 is_within place.Xattr = true
 is_within _ = false
 
-child_within : (p q : Place) → rule p (tag_of q) ≡ child.Parent q → is_within p ≡ true → is_within q ≡ true
+child_within : (p q : Container) → rule p (tag_of q) ≡ child.Parent q → is_within p ≡ true → is_within q ≡ true
 child_within place.Label q e h = absurd cc
 child_within place.Own q e h = absurd cc
 child_within place.Letters q e h = absurd cc
@@ -64,19 +64,19 @@ child_within place.Extent _ e h = absurd cc
 child_within place.Xattr place.Xattr e h = absurd cc
 child_within place.Xattr _ e h = absurd cc
 
-begun_within : (q : Place) (node : ℕ) (s : State) → is_within q ≡ true → (begun q node s).volume ≡ s.volume
+begun_within : (q : Container) (node : ℕ) (s : State) → is_within q ≡ true → (begun q node s).volume ≡ s.volume
 begun_within place.Index node s h = refl
 begun_within place.Here node s h = absurd cc
 begun_within place.Back node s h = absurd cc
 begun_within place.Criteria node s h = absurd cc
 begun_within _ node s h = refl
 
-ended_within : (q : Place) (node : ℕ) (s : State) → (ended q node s).volume ≡ s.volume
+ended_within : (q : Container) (node : ℕ) (s : State) → (ended q node s).volume ≡ s.volume
 ended_within place.Extent node s = refl
 ended_within place.Xattr node s = refl
 ended_within _ node s = refl
 
-leaf_within : (p : Place) (node : ℕ) (i : Item) (s : State) → is_within p ≡ true → (leaf_told p node i s).volume ≡ s.volume
+leaf_within : (p : Container) (node : ℕ) (i : Item) (s : State) → is_within p ≡ true → (leaf_told p node i s).volume ≡ s.volume
 leaf_within place.Index node i s h = absurd cc
 leaf_within place.Here node i s h = absurd cc
 leaf_within place.Back node i s h = absurd cc
@@ -84,14 +84,14 @@ leaf_within place.Criteria node i s h = absurd cc
 leaf_within _ node i s h = refl
 
 mutual
-  item_within : (p : Place) (node : ℕ) (i : Item) (s : State) → FitsItem p i → is_within p ≡ true → (item_told p node i s).volume ≡ s.volume
+  item_within : (p : Container) (node : ℕ) (i : Item) (s : State) → FitsItem p i → is_within p ≡ true → (item_told p node i s).volume ≡ s.volume
   item_within p node (plain t v) s fits h = leaf_within p node (plain t v) s h
   item_within p node (bare q) s fits h = ended_within q _ (begun q node s) ∙ begun_within q node s (child_within p q fits.0 h)
   item_within p node (nested q is) s fits h =
       let within = child_within p q fits.0 h in
       ended_within q _ (items_told q (node_in q node s) is (begun q node s)) ∙ items_within q [] (node_in q node s) is (begun q node s) fits.1 within ∙ begun_within q node s within
 
-  pub items_within : (p : Place) (seen : List Tag) (node : ℕ) (is : Items) (s : State) → Fits p seen is → is_within p ≡ true → (items_told p node is s).volume ≡ s.volume
+  pub items_within : (p : Container) (seen : List Tag) (node : ℕ) (is : Items) (s : State) → Fits p seen is → is_within p ≡ true → (items_told p node is s).volume ≡ s.volume
   items_within p seen node no_items s fits h = refl
   items_within p seen node (item i is) s fits h = items_within p (item_tag i ∷ seen) node is (item_told p node i s) fits.2 h ∙ item_within p node i s fits.0 h
 
@@ -131,7 +131,7 @@ policy_twice a o (Some is) h = rw (h.1) refl
 
 -- ---- parents that must be there
 
-own_parent_there : (p : Place) (i : Item) (q : Place) → FitsItem p i → rule p (tag_of q) ≡ child.Parent q → (code (tag_of q) == code (item_tag i)) ≡ true → (is : Items) × (own_children q i ≡ Some is)
+own_parent_there : (p : Container) (i : Item) (q : Container) → FitsItem p i → rule p (tag_of q) ≡ child.Parent q → (code (tag_of q) == code (item_tag i)) ≡ true → (is : Items) × (own_children q i ≡ Some is)
 own_parent_there p (plain u w) q fits r e = absurd (let bad : ◌≡◌ {A = Child} (child.Parent q) (child.Leaf fits.0) = sym r ∙ ap (rule p) (same_tag (tag_of q) u e) ∙ fits.1 in cc)
 own_parent_there p (bare x) q fits r e =
     let both : ◌≡◌ {A = Child} (child.Parent q) (child.Parent x) = sym r ∙ ap (rule p) (same_tag (tag_of q) (tag_of x) e) ∙ fits.0 in
@@ -144,7 +144,7 @@ own_parent_there p (nested x js) q fits r e =
     let code : (place_code q == place_code x) ≡ true = subst (λ y. (place_code q == place_code y) ≡ true) same (eq-eqb (place_code q) (place_code q) refl) in
     (js, rw code refl)
 
-inside_there : (p : Place) (seen : List Tag) (is : Items) (q : Place) → Fits p seen is → rule p (tag_of q) ≡ child.Parent q → member (tag_of q) (required p) ≡ true → member (tag_of q) seen ≡ false → (js : Items) × (inside q is ≡ Some js)
+inside_there : (p : Container) (seen : List Tag) (is : Items) (q : Container) → Fits p seen is → rule p (tag_of q) ≡ child.Parent q → member (tag_of q) (required p) ≡ true → member (tag_of q) seen ≡ false → (js : Items) × (inside q is ≡ Some js)
 inside_there p seen no_items q fits r must new = absurd (let bad : true ≡ false = sym (missing_member (tag_of q) (required p) seen fits must) ∙ new in cc)
 inside_there p seen (item i is) q fits r must new = go (inside q is) refl (code (tag_of q) == code (item_tag i)) refl (inside_there p (item_tag i ∷ seen) is q fits.2 r must)
   where
@@ -156,7 +156,7 @@ inside_there p seen (item i is) q fits r must new = go (inside q is) refl (code 
         absurd (let bad : None ≡ Some more.0 = sym h ∙ more.1 in cc)
 
 -- a parent that must be there is there, with its children
-pub must_have : (p : Place) (is : Items) (q : Place) → Fits p [] is → rule p (tag_of q) ≡ child.Parent q → member (tag_of q) (required p) ≡ true → (js : Items) × (inside q is ≡ Some js) × Fits q [] js
+pub must_have : (p : Container) (is : Items) (q : Container) → Fits p [] is → rule p (tag_of q) ≡ child.Parent q → member (tag_of q) (required p) ≡ true → (js : Items) × (inside q is ≡ Some js) × Fits q [] js
 must_have p is q fits r must =
     let h = inside_there p [] is q fits r must refl in
     (h.0, h.1, inside_fits p [] is q h.0 fits h.1)

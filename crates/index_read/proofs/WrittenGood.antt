@@ -19,8 +19,8 @@ use Rattle.ltfs_text.specs.Names.{written}
 use Rattle.index_model.specs.declared.indexes.Policy.{Policy}
 use Rattle.index_model.specs.declared.indexes.Spot.{Spot}
 use Rattle.index_model.specs.declared.nodes.RawExtent.{RawExtent}
-use Rattle.doc_elements.specs.declared.schema.Place.{Place}
-use Rattle.doc_elements.specs.declared.schema.Place.TheVariants as place
+use Rattle.doc_elements.specs.declared.schema.Container.{Container}
+use Rattle.doc_elements.specs.declared.schema.Container.TheVariants as place
 use Rattle.doc_elements.specs.declared.schema.Form.{Form}
 use Rattle.doc_elements.specs.declared.schema.Form.TheVariants as form
 use Rattle.doc_elements.specs.declared.schema.Child.TheVariants as child
@@ -87,10 +87,10 @@ pub record GoodIndex (v : IndexValue) : Type 0 where
 
 -- ---- one element
 
-leaf_good : (p : Place) (tag : Tag) (v : Val) (f : Form) → rule p tag ≡ child.Leaf f → may_have tag (attribute_of tag v) ≡ true → all_pass is_ascii (spelled tag) ≡ true → ReadsBack f tag v → GoodItem p (plain tag v)
+leaf_good : (p : Container) (tag : Tag) (v : Val) (f : Form) → rule p tag ≡ child.Leaf f → may_have tag (attribute_of tag v) ≡ true → all_pass is_ascii (spelled tag) ≡ true → ReadsBack f tag v → GoodItem p (plain tag v)
 leaf_good p tag v f r may ascii back = (f, r, record { may = may; name = ascii }, back)
 
-parent_good : (p q : Place) (is : Items) → rule p (tag_of q) ≡ child.Parent q → may_have (tag_of q) Absent ≡ true → all_pass is_ascii (spelled (tag_of q)) ≡ true → stand q [] is ≡ true → GoodItems q is → GoodItem p (nested q is)
+parent_good : (p q : Container) (is : Items) → rule p (tag_of q) ≡ child.Parent q → may_have (tag_of q) Absent ≡ true → all_pass is_ascii (spelled (tag_of q)) ≡ true → stand q [] is ≡ true → GoodItems q is → GoodItem p (nested q is)
 parent_good p q is r may ascii standing good = (r, record { may = may; name = ascii }, standing, good)
 
 may_name : (name : List ℕ) → may_have Name (encoding (written name)) ≡ true
@@ -121,7 +121,7 @@ may_value bs = go (is_text bs)
     go true = refl
     go false = refl
 
-maybe_good : {X : Type 0} (p : Place) (make : X → Item) (P : X → Type 0) (o : Option X) (is : Items) → ((x : X) → P x → GoodItem p (make x)) → IfSome o P → GoodItems p is → GoodItems p (maybe make o is)
+maybe_good : {X : Type 0} (p : Container) (make : X → Item) (P : X → Type 0) (o : Option X) (is : Items) → ((x : X) → P x → GoodItem p (make x)) → IfSome o P → GoodItems p is → GoodItems p (maybe make o is)
 maybe_good p make P None is each h good = good
 maybe_good p make P (Some x) is each h good = (each x h, good)
 
@@ -132,7 +132,7 @@ repeats false = refl
 
 -- ---- what stands in one another
 
-spot_good : (p : Place) (s : Spot) → rule p Partition ≡ child.Leaf form.Letter → rule p StartBlock ≡ child.Leaf form.Bounded → IsSpot s → GoodItems p (spot_items s)
+spot_good : (p : Container) (s : Spot) → rule p Partition ≡ child.Leaf form.Letter → rule p StartBlock ≡ child.Leaf form.Bounded → IsSpot s → GoodItems p (spot_items s)
 spot_good p s l b h = (
   leaf_good p Partition (letter s.letter) form.Letter l refl refl (letter_back Partition s.letter h.letter),
   (leaf_good p StartBlock (number s.block) form.Bounded b refl refl (bounded_back StartBlock s.block h.block), tt),
@@ -201,21 +201,21 @@ xattrs_good : (xs : List Xattr) → AllByRecursion IsXattr xs → GoodItems plac
 xattrs_good [] h = tt
 xattrs_good (x ∷ xs) h = (xattr_good x h.0, xattrs_good xs h.1)
 
-attributes_good : (p : Place) (xs : List Xattr) (behind : Items) → rule p ExtendedAttributes ≡ child.Parent place.Attributes → AllByRecursion IsXattr xs → GoodItems p behind → GoodItems p (attributes_items xs behind)
+attributes_good : (p : Container) (xs : List Xattr) (behind : Items) → rule p ExtendedAttributes ≡ child.Parent place.Attributes → AllByRecursion IsXattr xs → GoodItems p behind → GoodItems p (attributes_items xs behind)
 attributes_good p [] behind r h good = good
 attributes_good p (x ∷ xs) behind r h good = (parent_good p place.Attributes (xattrs_items (x ∷ xs)) r refl refl (xattrs_stand (x ∷ xs) []) (xattrs_good (x ∷ xs) h), good)
 
 -- ---- directories and files
 
 -- a parent in which the times of a node stand
-pub record HasTimes (p : Place) : Type 0 where
+pub record HasTimes (p : Container) : Type 0 where
   create : rule p CreationTime ≡ child.Leaf form.Time
   change : rule p ChangeTime ≡ child.Leaf form.Time
   modify : rule p ModifyTime ≡ child.Leaf form.Time
   access : rule p AccessTime ≡ child.Leaf form.Time
   backup : rule p BackupTime ≡ child.Leaf form.Time
 
-times_good : (p : Place) (t : TimesValue) (behind : Items) → HasTimes p → AreMoments t → GoodItems p behind → GoodItems p (times_items t behind)
+times_good : (p : Container) (t : TimesValue) (behind : Items) → HasTimes p → AreMoments t → GoodItems p behind → GoodItems p (times_items t behind)
 times_good p t behind r h good = (
   leaf_good p CreationTime (time t.create) form.Time r.create refl refl (time_back CreationTime t.create h.create.0 h.create.1),
   (
@@ -249,7 +249,7 @@ file_good f bytes last h name fits good = (
   ),
 )
 
-directory_good : (p : Place) (f : NodeFacts) (inside : Nodes) → rule p FileUid ≡ child.Leaf form.Number → GoodItem p (plain Name (words f.name)) → HasTimes p → rule p ReadOnly ≡ child.Leaf form.Truth → rule p ExtendedAttributes ≡ child.Parent place.Attributes → rule p (tag_of place.Contents) ≡ child.Parent place.Contents → GoodFacts f → GoodItems place.Contents (nodes_items inside) → GoodItems p (directory_items f (nodes_items inside))
+directory_good : (p : Container) (f : NodeFacts) (inside : Nodes) → rule p FileUid ≡ child.Leaf form.Number → GoodItem p (plain Name (words f.name)) → HasTimes p → rule p ReadOnly ≡ child.Leaf form.Truth → rule p ExtendedAttributes ≡ child.Parent place.Attributes → rule p (tag_of place.Contents) ≡ child.Parent place.Contents → GoodFacts f → GoodItems place.Contents (nodes_items inside) → GoodItems p (directory_items f (nodes_items inside))
 directory_good p f inside uid name times readonly marked contents h good = (
   leaf_good p FileUid (number f.uid) form.Number uid refl refl (number_back FileUid f.uid h.uid),
   (

@@ -7,10 +7,10 @@ use Rattle.tape_types.specs.Bounds.{most_nodes}
 use Rattle.doc_fields.specs.declared.tags.Tag.TheVariants.{LtfsIndex}
 use Rattle.doc_fields.specs.Tags.{spelled}
 use Rattle.index_model.specs.declared.indexes.Index.{Index}
-use Rattle.index_model.specs.declared.nodes.Kind.{Kind}
-use Rattle.index_model.specs.declared.nodes.Kind.TheVariants as kinds
+use Rattle.index_model.specs.declared.nodes.NodeKind.{NodeKind}
+use Rattle.index_model.specs.declared.nodes.NodeKind.TheVariants as kinds
 use Rattle.index_model.specs.declared.nodes.Node.{Node}
-use Rattle.doc_elements.specs.declared.schema.Place.TheVariants as place
+use Rattle.doc_elements.specs.declared.schema.Container.TheVariants as place
 use Rattle.index_model.specs.Canonical.{canonical}
 use Rattle.doc_elements.proofs.Written.{framed, inner, written_document}
 use Rattle.index_model.specs.Extents.{AreFiles, IsExtent, IsKind}
@@ -45,7 +45,7 @@ all_split P (x ∷ xs) ys h = let rest = all_split P xs ys h.1 in ((h.0, rest.0)
 
 -- ---- what a valid index tells can be told in a document
 
-abbrev GoodKind : Kind → Type 0
+abbrev GoodKind : NodeKind → Type 0
 GoodKind kinds.Dir = ⊤
 GoodKind (kinds.File bytes extents) = (bytes < 2 ^ 64) × AllByRecursion IsExtent extents
 GoodKind (kinds.Link text) = IsUtf8 text × (length text < 2 ^ 64)
@@ -70,7 +70,7 @@ facts_good highest node bounded most xattrs = record {
   times = record { create = (node.times.create, refl); change = (node.times.change, refl); modify = (node.times.modify, refl); access = (node.times.access, refl); backup = (node.times.backup, refl) };
 }
 
-kind_good : (nodes : List Node) (at : ℕ) (node : Node) (kind : Kind) → AreFiles nodes → IsAt nodes at node → node.kind ≡ kind → IsKind kind → IsShortLink kind → GoodKind kind
+kind_good : (nodes : List Node) (at : ℕ) (node : Node) (kind : NodeKind) → AreFiles nodes → IsAt nodes at node → node.kind ≡ kind → IsKind kind → IsShortLink kind → GoodKind kind
 kind_good nodes at node kinds.Dir files is e k short = tt
 kind_good nodes at node (kinds.File bytes extents) files is e k short =
     let most = files.size at bytes extents record { node = node; is = is; file = e } in

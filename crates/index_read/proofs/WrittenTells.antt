@@ -8,7 +8,7 @@ use Rattle.index_model.specs.declared.indexes.Policy.{Policy}
 use Rattle.index_model.specs.declared.indexes.Spot.{Spot}
 use Rattle.index_model.specs.declared.nodes.RawExtent.{RawExtent}
 use Rattle.node_keys.specs.declared.xattrs.Xattr.{Xattr}
-use Rattle.doc_elements.specs.declared.schema.Place.TheVariants as place
+use Rattle.doc_elements.specs.declared.schema.Container.TheVariants as place
 use Rattle.index_model.specs.Grammar.{inside, names_in, told, TellsContents, TellsExtents, TellsFacts, TellsFile, TellsLink, TellsXattrs, TellsMaybe, TellsNodes, TellsPolicy, TellsSpot, TellsVolume}
 use Rattle.doc_elements.specs.Elements.{Item, Items, item, nested, no_items, node_count, nodes_of, plain}
 use Rattle.doc_elements.specs.Pieces.{words, time, uuid, number, truth, lock}

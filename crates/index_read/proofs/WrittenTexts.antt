@@ -11,7 +11,7 @@ use Rattle.doc_fields.specs.Written.{start_text, end_text}
 use Rattle.index_model.specs.declared.indexes.Policy.{Policy}
 use Rattle.index_model.specs.declared.indexes.Spot.{Spot}
 use Rattle.index_model.specs.declared.nodes.RawExtent.{RawExtent}
-use Rattle.doc_elements.specs.declared.schema.Place.TheVariants as place
+use Rattle.doc_elements.specs.declared.schema.Container.TheVariants as place
 use Rattle.index_model.specs.Canonical.{attributes, canonical, directory_text, element, extent, file_front, file_text, head, if_told, letter, link_text, name, nodes_text, number, policy, spot, time, truth, volume_text, xattr}
 use Rattle.index_model.specs.Canonical as text
 use Rattle.doc_elements.specs.Pieces as val

@@ -5,9 +5,9 @@ use Rattle.node_keys.specs.declared.xattrs.Xattr.{Xattr}
 use Rattle.doc_fields.specs.declared.tags.Tag.{Tag}
 use Rattle.doc_fields.specs.declared.tags.Tag.TheVariants.{LtfsLabel, Location, Key, Value}
 use Rattle.doc_fields.specs.declared.tags.Tag.TheVariants as tags
-use Rattle.index_model.specs.declared.nodes.Kind.{Kind}
-use Rattle.doc_elements.specs.declared.schema.Place.{Place}
-use Rattle.doc_elements.specs.declared.schema.Place.TheVariants as place
+use Rattle.index_model.specs.declared.nodes.NodeKind.{NodeKind}
+use Rattle.doc_elements.specs.declared.schema.Container.{Container}
+use Rattle.doc_elements.specs.declared.schema.Container.TheVariants as place
 use Rattle.doc_elements.specs.declared.schema.Form.{Form}
 use Rattle.doc_elements.specs.declared.schema.Form.TheVariants as form
 use Rattle.doc_elements.specs.declared.schema.Child.TheVariants as child
@@ -35,7 +35,7 @@ xattr_step seen i is x fits =
       bytes_step x.value (own Value i) (told Value is) (λ v h. told_form place.Xattr seen is Value form.Value v fits refl h),
     ) refl
 
-no_parent : (t : Tag) (q : Place) → xattr_rule t ≡ child.Parent q → ⊥
+no_parent : (t : Tag) (q : Container) → xattr_rule t ≡ child.Parent q → ⊥
 no_parent Location q e = cc
 no_parent _ q e = cc
 
@@ -67,7 +67,7 @@ xattrs_in (item _ more) = xattrs_in more
 abbrev pub with_xattrs : List Xattr → NodeFacts → NodeFacts
 with_xattrs xs f = record f { xattrs = f.xattrs ++ xs }
 
-pub attributes_told : (seen : List Tag) (is : Items) (s : State) (front : List NodeValue) (parent : ℕ) (f : NodeFacts) (k : Kind) (behind : List NodeValue) → Fits place.Attributes seen is → s.nodes ≡ nodes_with front parent f behind k
+pub attributes_told : (seen : List Tag) (is : Items) (s : State) (front : List NodeValue) (parent : ℕ) (f : NodeFacts) (k : NodeKind) (behind : List NodeValue) → Fits place.Attributes seen is → s.nodes ≡ nodes_with front parent f behind k
     → (items_told place.Attributes (length front) is s).nodes ≡ nodes_with front parent (with_xattrs (xattrs_in is) f) behind k
 attributes_told seen no_items s front parent f k behind fits at = at ∙ ap (λ (xs : List Xattr). nodes_with front parent (record f { xattrs = xs }) behind k) (sym (append-nil f.xattrs))
 attributes_told seen (item (plain t v) is) s front parent f k behind fits at = absurd (leafless t fits.0.0 fits.0.1)

@@ -7,7 +7,7 @@ use Rattle.index_model.specs.declared.indexes.Index.{Index}
 use Rattle.index_model.specs.declared.indexes.Spot.{Spot}
 use Rattle.doc_elements.specs.Children.{Holds, member}
 use Rattle.doc_elements.specs.declared.children.Children.{Children}
-use Rattle.doc_elements.specs.declared.schema.Place.TheVariants as place
+use Rattle.doc_elements.specs.declared.schema.Container.TheVariants as place
 use Rattle.doc_elements.specs.Pieces.{Piece}
 use Rattle.doc_elements.specs.Documents.{Reaches, fresh, head_of}
 use Rattle.index_read.specs.declared.drafts.Draft.{Draft}

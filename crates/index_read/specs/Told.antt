@@ -16,11 +16,11 @@ use Rattle.doc_fields.specs.declared.values.LockState.{LockState}
 use Rattle.node_keys.specs.declared.xattrs.Xattr.{Xattr}
 use Rattle.index_model.specs.declared.indexes.Policy.{Policy}
 use Rattle.index_model.specs.declared.indexes.Spot.{Spot}
-use Rattle.index_model.specs.declared.nodes.Kind.{Kind}
-use Rattle.index_model.specs.declared.nodes.Kind.TheVariants as kinds
+use Rattle.index_model.specs.declared.nodes.NodeKind.{NodeKind}
+use Rattle.index_model.specs.declared.nodes.NodeKind.TheVariants as kinds
 use Rattle.index_model.specs.declared.nodes.RawExtent.{RawExtent}
-use Rattle.doc_elements.specs.declared.schema.Place.{Place}
-use Rattle.doc_elements.specs.declared.schema.Place.TheVariants as place
+use Rattle.doc_elements.specs.declared.schema.Container.{Container}
+use Rattle.doc_elements.specs.declared.schema.Container.TheVariants as place
 use Rattle.doc_elements.specs.Schema.{is_node}
 use Rattle.index_model.specs.Values.{NodeFacts, TimesValue, NodeValue, VolumeFacts}
 use Rattle.doc_elements.specs.Pieces.{Val, words, time, uuid, letter, number, truth, lock, bytes}
@@ -67,7 +67,7 @@ bytes_or old (Some (bytes bs)) = bs
 bytes_or old _ = old
 
 -- a symbolic link, where its text is told
-abbrev pub link_or : Kind → Option Val → Kind
+abbrev pub link_or : NodeKind → Option Val → NodeKind
 link_or old (Some (words text)) = kinds.Link text
 link_or old _ = old
 
@@ -118,12 +118,12 @@ facts_with i f = record {
 }
 
 -- the length is a file's
-abbrev pub sized : Item → Kind → Kind
+abbrev pub sized : Item → NodeKind → NodeKind
 sized i kinds.Dir = kinds.Dir
 sized i (kinds.File size extents) = kinds.File (number_or size (own Length i)) extents
 sized i (kinds.Link text) = kinds.Link text
 
-abbrev pub kind_with : Item → Kind → Kind
+abbrev pub kind_with : Item → NodeKind → NodeKind
 kind_with i k = link_or (sized i k) (own Symlink i)
 
 abbrev pub node_with : Item → NodeValue → NodeValue
@@ -189,7 +189,7 @@ blank_times = record {
   backup = civil_of epoch;
 }
 
-abbrev pub blank_node : ℕ → Kind → NodeValue
+abbrev pub blank_node : ℕ → NodeKind → NodeValue
 blank_node parent kind = record {
   parent = parent;
   facts = record { uid = 0; name = []; times = blank_times; readonly = false; xattrs = [] };
@@ -215,11 +215,11 @@ changed zero f (x ∷ xs) = f x ∷ xs
 changed (suc at) f (x ∷ xs) = x ∷ changed at f xs
 
 -- the node that a parent's children speak of: its own, or the one that it stands in
-abbrev pub node_in : Place → ℕ → State → ℕ
+abbrev pub node_in : Container → ℕ → State → ℕ
 node_in p node s = if is_node p then length s.nodes else node
 
 -- a parent begins in a node
-abbrev pub begun : Place → ℕ → State → State
+abbrev pub begun : Container → ℕ → State → State
 begun place.Here node s = record s { volume = record s.volume { here = blank_spot } }
 begun place.Back node s = record s { volume = record s.volume { back = Some blank_spot } }
 begun place.Criteria node s = record s { volume = record s.volume { policy = Some blank_policy } }
@@ -231,7 +231,7 @@ begun place.Xattr node s = record s { xattr = blank_xattr }
 begun _ node s = s
 
 -- a leaf of a parent
-abbrev pub leaf_told : Place → ℕ → Item → State → State
+abbrev pub leaf_told : Container → ℕ → Item → State → State
 leaf_told place.Index node i s = record s { volume = volume_with i s.volume }
 leaf_told place.Here node i s = record s { volume = record s.volume { here = spot_with i s.volume.here } }
 leaf_told place.Back node i s = record s { volume = record s.volume { back = option_map (spot_with i) s.volume.back } }
@@ -244,7 +244,7 @@ leaf_told place.Extent node i s = record s { extent = extent_with i s.extent }
 leaf_told place.Xattr node i s = record s { xattr = xattr_with i s.xattr }
 leaf_told _ node i s = s
 
-abbrev pub one_more : RawExtent → Kind → Kind
+abbrev pub one_more : RawExtent → NodeKind → NodeKind
 one_more e kinds.Dir = kinds.Dir
 one_more e (kinds.File size extents) = kinds.File size (extents ++ e ∷ [])
 one_more e (kinds.Link text) = kinds.Link text
@@ -256,7 +256,7 @@ abbrev pub with_xattr : Xattr → NodeValue → NodeValue
 with_xattr x n = record n { facts = record n.facts { xattrs = n.facts.xattrs ++ x ∷ [] } }
 
 -- a parent ends; of an attribute nothing is left then but in its node
-abbrev pub ended : Place → ℕ → State → State
+abbrev pub ended : Container → ℕ → State → State
 ended place.Extent node s = record s { nodes = changed node (with_extent s.extent) s.nodes }
 ended place.Xattr node s = record s { nodes = changed node (with_xattr s.xattr) s.nodes; xattr = blank_xattr }
 ended _ node s = s
@@ -264,12 +264,12 @@ ended _ node s = s
 -- ---- elements
 
 abbrev mutual
-  pub item_told : Place → ℕ → Item → State → State
+  pub item_told : Container → ℕ → Item → State → State
   item_told p node (plain tag v) s = leaf_told p node (plain tag v) s
   item_told p node (bare q) s = ended q (node_in q node s) (begun q node s)
   item_told p node (nested q is) s = ended q (node_in q node s) (items_told q (node_in q node s) is (begun q node s))
 
-  pub items_told : Place → ℕ → Items → State → State
+  pub items_told : Container → ℕ → Items → State → State
   items_told p node no_items s = s
   items_told p node (item i is) s = items_told p node is (item_told p node i s)
 
@@ -277,7 +277,7 @@ abbrev mutual
 
 -- an open parent, and the node that its children speak of
 pub record Level : Type 0 where
-  pub place : Place
+  pub place : Container
   pub node : ℕ
 
 abbrev pub levels_after : Piece → Level → List Level → State → List Level

@@ -4,7 +4,7 @@ use Rattle.tape_types.specs.Bounds.{most_nodes}
 use Rattle.doc_fields.specs.declared.tags.Tag.{Tag}
 use Rattle.doc_elements.specs.Children.{children_of}
 use Rattle.index_model.specs.declared.errors.IndexErr.{IndexErr}
-use Rattle.doc_elements.specs.declared.schema.Place.TheVariants as place
+use Rattle.doc_elements.specs.declared.schema.Container.TheVariants as place
 use Rattle.doc_elements.specs.Schema.{tag_of}
 use Rattle.doc_elements.specs.Pieces.{Piece, opens, whole, closes, leaf, Frame}
 use Rattle.doc_elements.specs.Documents.{Accepts, Reaches, fresh, with_child}

@@ -4,7 +4,7 @@ ghost use Rattle.std.specs.Prelude.{◌≡◌, ◌<◌, true, ◌++◌, ◌∷�
 ghost use Rattle.std.specs.Option.{option_map};
 ghost use Rattle.tape_types.specs.Times.{civil_of};
 ghost use Rattle.doc_fields.specs.declared.tags.Tag.TheVariants as tags;
-ghost use Rattle.index_model.specs.declared.nodes.Kind.TheVariants as kinds;
+ghost use Rattle.index_model.specs.declared.nodes.NodeKind.TheVariants as kinds;
 ghost use Rattle.doc_elements.specs.Elements.{plain};
 ghost use Rattle.doc_elements.specs.Pieces.{bytes, letter, number, words, time, uuid, truth, lock};
 ghost use Rattle.index_model.specs.Values.{facts_of, value_of, volume_of};
@@ -14,9 +14,9 @@ ghost use Rattle.index_read.specs.Told.{begun, blank, blank_node, blank_volume, 
 ghost use Rattle.index_read.specs.Told.{extent_with, facts_with, kind_with, leaf_told, node_with, one_more};
 ghost use Rattle.index_read.specs.Told.{policy_with, spot_with, volume_with, with_extent, with_xattr, xattr_with};
 
-use doc_elements::{Place, Value};
+use doc_elements::{Container, Value};
 use doc_fields::{LockState, Tag};
-use index_model::{Index, Kind, Node, Policy, RawExtent, Spot, TextList};
+use index_model::{Index, Node, NodeKind, Policy, RawExtent, Spot, TextList};
 use node_keys::Xattr;
 use std::alloc::Global;
 use std::mem;
@@ -156,11 +156,11 @@ fn put_node_number(node: &mut Node, tag: Tag, n: u64)
     }
 }
 
-fn put_length(kind: &mut Kind, n: u64)
+fn put_length(kind: &mut NodeKind, n: u64)
     ensures { kind.new ≡ kind_with (plain tags.Length (number n)) kind.old }
 {
     match kind {
-        Kind::File { length, .. } => *length = n,
+        NodeKind::File { length, .. } => *length = n,
         _ => {}
     }
 }
@@ -170,7 +170,7 @@ fn put_node_text(node: &mut Node, tag: Tag, text: Text)
 {
     match tag {
         Tag::Name => node.name = text,
-        Tag::Symlink => node.kind = Kind::Link { text },
+        Tag::Symlink => node.kind = NodeKind::Link { text },
         _ => {}
     }
 }
@@ -283,7 +283,7 @@ fn blank_index(alloc: Global) -> Index
 }
 
 /// A node of which nothing has been told.
-fn blank_node(alloc: Global, parent: u32, kind: Kind) -> Node
+fn blank_node(alloc: Global, parent: u32, kind: NodeKind) -> Node
     ensures { value_of result ≡ blank_node parent kind }
 {
     Node {
@@ -364,11 +364,11 @@ fn push_item<T: Drop>(alloc: Global, items: &mut List<T>, item: T) -> Result<(),
     Ok(())
 }
 
-fn add_extent(alloc: Global, kind: &mut Kind, extent: RawExtent) -> Result<(), NoMemory>
+fn add_extent(alloc: Global, kind: &mut NodeKind, extent: RawExtent) -> Result<(), NoMemory>
     ensures { OnOk result (kind.new ≡ one_more extent kind.old) }
 {
     match kind {
-        Kind::File { extents, .. } => push_item(alloc, extents, extent),
+        NodeKind::File { extents, .. } => push_item(alloc, extents, extent),
         _ => Ok(()),
     }
 }
@@ -403,7 +403,12 @@ fn tell_xattr(alloc: Global, nodes: &mut Vec<Node>, at: u32, xattr: Xattr) -> Re
     }
 }
 
-fn push_node(alloc: Global, nodes: &mut Vec<Node>, parent: u32, kind: Kind) -> Result<(), NoMemory>
+fn push_node(
+    alloc: Global,
+    nodes: &mut Vec<Node>,
+    parent: u32,
+    kind: NodeKind,
+) -> Result<(), NoMemory>
     ensures { OnOk result (map value_of nodes.new.items ≡ map value_of nodes.old.items ++ blank_node parent kind ∷ []) }
 {
     nodes.push(blank_node(alloc, parent, kind))?;
@@ -424,55 +429,61 @@ impl Draft {
     }
 
     /// A parent begins that stands in a node.
-    pub fn begin(&mut self, alloc: Global, place: Place, node: u32) -> Result<(), NoMemory>
+    pub fn begin(&mut self, alloc: Global, place: Container, node: u32) -> Result<(), NoMemory>
         ensures { OnOk result (state_of self.new ≡ begun place node (state_of self.old)) }
     {
         match place {
-            Place::Here => self.index.here = BLANK_SPOT,
-            Place::Back => self.index.back = Some(BLANK_SPOT),
-            Place::Criteria => {
+            Container::Here => self.index.here = BLANK_SPOT,
+            Container::Back => self.index.back = Some(BLANK_SPOT),
+            Container::Criteria => {
                 self.index.policy = Some(Policy {
                     size: 0,
                     names: TextList::new(alloc),
                 });
             }
-            Place::Root => push_node(alloc, &mut self.nodes, 0, Kind::Dir)?,
-            Place::Directory => push_node(alloc, &mut self.nodes, node, Kind::Dir)?,
-            Place::File => push_file(alloc, &mut self.nodes, node)?,
-            Place::Extent => self.extent = BLANK_EXTENT,
-            Place::Xattr => self.xattr = blank_xattr(alloc),
+            Container::Root => push_node(alloc, &mut self.nodes, 0, NodeKind::Dir)?,
+            Container::Directory => push_node(alloc, &mut self.nodes, node, NodeKind::Dir)?,
+            Container::File => push_file(alloc, &mut self.nodes, node)?,
+            Container::Extent => self.extent = BLANK_EXTENT,
+            Container::Xattr => self.xattr = blank_xattr(alloc),
             _ => {}
         }
         Ok(())
     }
 
     /// A leaf of a parent, whose children speak of a node.
-    pub fn tell(&mut self, place: Place, node: u32, tag: Tag, value: Value) -> Result<(), NoMemory>
+    pub fn tell(
+        &mut self,
+        place: Container,
+        node: u32,
+        tag: Tag,
+        value: Value,
+    ) -> Result<(), NoMemory>
         ensures { OnOk result (state_of self.new
             ≡ leaf_told place node (plain tag (val_of value)) (state_of self.old)) }
     {
         match place {
-            Place::Index => put_index(&mut self.index, tag, value),
-            Place::Here => put_spot(&mut self.index.here, tag, &value),
-            Place::Back => put_back(&mut self.index.back, tag, &value),
-            Place::Criteria => put_criteria(&mut self.index.policy, tag, value)?,
-            Place::Root | Place::Directory | Place::File => {
+            Container::Index => put_index(&mut self.index, tag, value),
+            Container::Here => put_spot(&mut self.index.here, tag, &value),
+            Container::Back => put_back(&mut self.index.back, tag, &value),
+            Container::Criteria => put_criteria(&mut self.index.policy, tag, value)?,
+            Container::Root | Container::Directory | Container::File => {
                 tell_node(&mut self.nodes, node, tag, value)
             }
-            Place::Extent => put_extent(&mut self.extent, tag, &value),
-            Place::Xattr => put_xattr(&mut self.xattr, tag, value),
+            Container::Extent => put_extent(&mut self.extent, tag, &value),
+            Container::Xattr => put_xattr(&mut self.xattr, tag, value),
             _ => drop(value),
         }
         Ok(())
     }
 
     /// A parent ends, whose children spoke of a node.
-    pub fn end(&mut self, alloc: Global, place: Place, node: u32) -> Result<(), NoMemory>
+    pub fn end(&mut self, alloc: Global, place: Container, node: u32) -> Result<(), NoMemory>
         ensures { OnOk result (state_of self.new ≡ ended place node (state_of self.old)) }
     {
         match place {
-            Place::Extent => tell_extent(alloc, &mut self.nodes, node, self.extent),
-            Place::Xattr => {
+            Container::Extent => tell_extent(alloc, &mut self.nodes, node, self.extent),
+            Container::Xattr => {
                 let xattr = mem::replace(&mut self.xattr, blank_xattr(alloc));
                 tell_xattr(alloc, &mut self.nodes, node, xattr)
             }
@@ -506,7 +517,7 @@ fn push_file(alloc: Global, nodes: &mut Vec<Node>, parent: u32) -> Result<(), No
     ensures { OnOk result (map value_of nodes.new.items ≡ map value_of nodes.old.items
         ++ blank_node parent (kinds.File 0 []) ∷ []) }
 {
-    let kind = Kind::File {
+    let kind = NodeKind::File {
         length: 0,
         extents: List::new(alloc),
     };

@@ -14,7 +14,7 @@ ghost use Rattle.index_read.specs.Fronts.{HasBack, IsFront, repointed, with_poin
 use crate::drafts::Draft;
 use crate::guesses::respelled;
 use crate::walking::front_behind;
-use doc_elements::{Children, Place, readable, skip_head};
+use doc_elements::{Children, Container, readable, skip_head};
 use doc_fields::Tag;
 use index_model::{Index, Node, Spot};
 use std::alloc::Global;
@@ -102,7 +102,7 @@ fn front_of(alloc: Global, text: &[u8], lone: bool) -> Option<Front>
     ensures back { IfSome result (λ f. (tags : List TagOf) → Holds f.seen tags → HasBack lone tags) }
     ensures within { IfSome result (λ f. f.at ≤ length text.now) }
 {
-    match skip_head(Place::Index, text) {
+    match skip_head(Container::Index, text) {
         Ok(inside) => front_behind(alloc, text, inside, lone),
         Err(_) => None,
     }

@@ -1,7 +1,7 @@
 //! The text of an index as a whole.
 
 ghost use Rattle.std.specs.Prelude.{◌≡◌, map, IfOk, IfErr};
-ghost use Rattle.doc_elements.specs.declared.schema.Place.TheVariants as place;
+ghost use Rattle.doc_elements.specs.declared.schema.Container.TheVariants as place;
 ghost use Rattle.doc_elements.specs.Answers as pieces;
 ghost use Rattle.doc_elements.specs.Documents.{Halts};
 ghost use Rattle.index_model.specs.Valid.{Agrees};
@@ -14,7 +14,7 @@ ghost use Rattle.index_read.specs.Walks.{IsReadAs, IsRefused, IsWhole};
 
 use crate::drafts::Draft;
 use crate::walking::walk;
-use doc_elements::{PieceErr, Place, readable, skip_head};
+use doc_elements::{Container, PieceErr, readable, skip_head};
 use doc_fields::skip_space;
 use index_faults::first_fault;
 use index_model::{Index, IndexErr};
@@ -26,7 +26,7 @@ fn whole(alloc: Global, text: &[u8]) -> Result<Draft, PieceErr>
     ensures found { IfOk result (λ d. IsWhole text.now (state_of d)) }
     ensures refused { IfErr result (λ e. pieces.UnlessMemory e (Halts place.Index text.now e)) }
 {
-    let inside = match skip_head(Place::Index, text) {
+    let inside = match skip_head(Container::Index, text) {
         Ok(inside) => inside,
         Err(fault) => return Err(fault),
     };

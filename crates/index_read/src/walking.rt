@@ -3,7 +3,7 @@
 ghost use Rattle.std.specs.Prelude.{◌≡◌, ◌≤◌, ◌<◌, ℕ, List, Ok, true, length, OnOk, IfOk, IfErr, IfSome, IsTrue};
 ghost use Rattle.tape_types.specs.Bounds.{most_nodes};
 ghost use Rattle.doc_elements.specs.Schema.{is_node};
-ghost use Rattle.doc_elements.specs.declared.schema.Place.TheVariants as place;
+ghost use Rattle.doc_elements.specs.declared.schema.Container.TheVariants as place;
 ghost use Rattle.doc_elements.specs.Answers.{HasRoom, UnlessMemory, piece_of};
 ghost use Rattle.index_read.specs.Drafts.{state_of};
 ghost use Rattle.index_read.specs.Told.{State, blank, node_in, piece_told};
@@ -16,7 +16,7 @@ ghost use Rattle.index_read.specs.Walks.{Keeps, Opened, Walked, coded, level_in,
 
 use crate::drafts::Draft;
 use crate::fronts::Front;
-use doc_elements::{Children, Frame, Piece, PieceErr, Place, is_node, next_piece, tag_of};
+use doc_elements::{Children, Container, Frame, Piece, PieceErr, is_node, next_piece, tag_of};
 use doc_fields::Tag;
 use std::alloc::{AllocError, Global};
 use tape_types::NoMemory;
@@ -30,7 +30,7 @@ pub struct Level {
 
 /// The node that the children of a parent speak of, which stands in a node; so many nodes have
 /// begun before it.
-fn node_in(place: Place, node: u32, nodes: u32) -> u32
+fn node_in(place: Container, node: u32, nodes: u32) -> u32
     ensures { (s : State) → length s.nodes ≡ nodes → result ≡ node_in place node s }
 {
     if is_node(place) { nodes } else { node }
@@ -120,7 +120,7 @@ pub fn walk(alloc: Global, text: &[u8], inside: usize) -> Result<(Draft, usize),
     let mut outer: Vec<Level> = Vec::new(alloc);
     let mut top = Level {
         frame: Frame {
-            place: Place::Index,
+            place: Container::Index,
             seen: Children::none(),
         },
         node: 0,
@@ -148,7 +148,7 @@ fn is_root_pointed(top: Level, lone: bool) -> bool
     ensures { IsTrue result → IsRootPointed lone top }
 {
     match top.frame.place {
-        Place::Index => top.node == 0 && has_pointers(top.frame.seen, lone),
+        Container::Index => top.node == 0 && has_pointers(top.frame.seen, lone),
         _ => false,
     }
 }
@@ -183,7 +183,7 @@ pub fn front_behind(alloc: Global, text: &[u8], inside: usize, lone: bool) -> Op
     let mut outer: Vec<Level> = Vec::new(alloc);
     let mut top = Level {
         frame: Frame {
-            place: Place::Index,
+            place: Container::Index,
             seen: Children::none(),
         },
         node: 0,

@@ -14,7 +14,7 @@ use Rattle.tape_types.specs.Times.{civil_text}
 use Rattle.tape_types.specs.Uuids.{uuid_text}
 use Rattle.uuid.specs.Text.{by_index}
 use Rattle.doc_fields.specs.Values.{lock_word}
-use Rattle.index_model.specs.declared.nodes.Kind.TheVariants as kinds
+use Rattle.index_model.specs.declared.nodes.NodeKind.TheVariants as kinds
 use Rattle.index_model.specs.declared.nodes.Node.{Node}
 use Rattle.index_model.specs.declared.nodes.RawExtent.{RawExtent}
 use Rattle.index_model.specs.Canonical.{attributes, canonical, directory_text, head, if_told, nodes_text, policy, spot, volume_text, words, element, extent, file_front, file_text, link_text, name, number, time, times, truth}

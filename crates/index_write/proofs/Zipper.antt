@@ -3,8 +3,8 @@ use Rattle.std.proofs.Common.{◌≡◌, ◌≢◌, ℕ, zero, suc, ◌+◌, ◌
 use Rattle.std.specs.List.{slice_get}
 use Rattle.std.proofs.lemmas.List.{drop_all}
 use Rattle.std.proofs.lemmas.Option.{slice_get-get_or}
-use Rattle.index_model.specs.declared.nodes.Kind.{Kind}
-use Rattle.index_model.specs.declared.nodes.Kind.TheVariants as kinds
+use Rattle.index_model.specs.declared.nodes.NodeKind.{NodeKind}
+use Rattle.index_model.specs.declared.nodes.NodeKind.TheVariants as kinds
 use Rattle.index_model.specs.declared.nodes.Node.{Node}
 use Rattle.index_model.specs.Canonical.{attributes, directory_text, name, nodes_text, number, times, truth}
 use Rattle.doc_fields.specs.declared.starts.Attribute.TheVariants.{Absent}
@@ -106,7 +106,7 @@ writes_inside nodes at o node xs (directory f i b) behind first next up parent d
     let more = next ∙ tail_of _ _ _ _ (first ∙ is) in
     record {
       rest = nodes_text i ++ coming_text ((o.dir, b) ∷ behind);
-      rests = subst (λ (k : Kind). Rests nodes (at + 1) (opened k at o) (nodes_text i ++ coming_text ((o.dir, b) ∷ behind))) (sym kind) (record {
+      rests = subst (λ (k : NodeKind). Rests nodes (at + 1) (opened k at o) (nodes_text i ++ coming_text ((o.dir, b) ∷ behind))) (sym kind) (record {
         inside = i;
         behind = (o.dir, b) ∷ behind;
         depth = ap suc depth ∙ omega arith;
@@ -123,7 +123,7 @@ writes_inside nodes at o node xs (file f n l b) behind first next up parent dept
     let more = next ∙ tail_of _ _ _ _ (first ∙ is) in
     record {
       rest = nodes_text b ++ coming_text behind;
-      rests = subst (λ (k : Kind). Rests nodes (at + 1) (opened k at o) (nodes_text b ++ coming_text behind)) (sym kind) (record {
+      rests = subst (λ (k : NodeKind). Rests nodes (at + 1) (opened k at o) (nodes_text b ++ coming_text behind)) (sym kind) (record {
         inside = b;
         behind = behind;
         depth = depth;
@@ -140,7 +140,7 @@ writes_inside nodes at o node xs (link f t b) behind first next up parent depth 
     let more = next ∙ tail_of _ _ _ _ (first ∙ is) in
     record {
       rest = nodes_text b ++ coming_text behind;
-      rests = subst (λ (k : Kind). Rests nodes (at + 1) (opened k at o) (nodes_text b ++ coming_text behind)) (sym kind) (record {
+      rests = subst (λ (k : NodeKind). Rests nodes (at + 1) (opened k at o) (nodes_text b ++ coming_text behind)) (sym kind) (record {
         inside = b;
         behind = behind;
         depth = depth;

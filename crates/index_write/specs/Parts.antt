@@ -9,8 +9,8 @@ use Rattle.doc_fields.specs.declared.tags.Tag.TheVariants.{Name, ReadOnly, Conte
 use Rattle.tape_types.specs.Uuids.{uuid_text}
 use Rattle.doc_fields.specs.Values.{lock_word}
 use Rattle.doc_fields.specs.Written.{start_text, end_text}
-use Rattle.index_model.specs.declared.nodes.Kind.{Kind}
-use Rattle.index_model.specs.declared.nodes.Kind.TheVariants as kinds
+use Rattle.index_model.specs.declared.nodes.NodeKind.{NodeKind}
+use Rattle.index_model.specs.declared.nodes.NodeKind.TheVariants as kinds
 use Rattle.index_model.specs.declared.indexes.Spot.{Spot}
 use Rattle.doc_elements.specs.Written.{bytes_text, bytes_type}
 use Rattle.index_model.specs.Canonical.{element, number, words, time, letter, if_told, policy, name, times, truth}
@@ -61,7 +61,7 @@ volume_rear v =
     ++ number HighestFileUid v.highest
 
 -- what stands of a node where its turn comes, by what it is
-abbrev pub kind_text : NodeFacts → Kind → List ℕ
+abbrev pub kind_text : NodeFacts → NodeKind → List ℕ
 kind_text f kinds.Dir = opening f
 kind_text f (kinds.File bytes extents) = file_text f bytes extents
 kind_text f (kinds.Link text) = link_text f text

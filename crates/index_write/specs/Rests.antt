@@ -3,8 +3,8 @@
 use Rattle.std.specs.Prelude.{◌≡◌, ⊤, ℕ, zero, suc, ◌+◌, ◌<◌, List, [], ◌∷◌, ◌++◌, length, map, drop, Option, Some}
 use Rattle.std.specs.Prelude.{None}
 use Rattle.std.specs.List.{slice_get}
-use Rattle.index_model.specs.declared.nodes.Kind.{Kind}
-use Rattle.index_model.specs.declared.nodes.Kind.TheVariants as kinds
+use Rattle.index_model.specs.declared.nodes.NodeKind.{NodeKind}
+use Rattle.index_model.specs.declared.nodes.NodeKind.TheVariants as kinds
 use Rattle.index_model.specs.declared.nodes.Node.{Node}
 use Rattle.index_model.specs.Canonical.{nodes_text}
 use Rattle.index_model.specs.Values.{Nodes, NodeValue, count, listed, value_of}
@@ -56,7 +56,7 @@ pub record Goes (nodes : List Node) (at : ℕ) (inner : Open) (old new text : Li
   pub so_far : old ++ text ≡ new ++ rest
 
 -- which directory is open behind a node
-abbrev pub opened : Kind → ℕ → Open → Open
+abbrev pub opened : NodeKind → ℕ → Open → Open
 opened kinds.Dir at inner = record { dir = at; depth = inner.depth + 1 }
 opened (kinds.File bytes extents) at inner = inner
 opened (kinds.Link text) at inner = inner

@@ -2,8 +2,8 @@
 use Rattle.std.specs.Prelude.{ℕ, ◌-◌, ◌^◌, List, [], ◌++◌, length, map, min}
 use Rattle.std.specs.List.{sum}
 use Rattle.index_model.specs.declared.nodes.Node.{Node}
-use Rattle.index_model.specs.declared.nodes.Kind.{Kind}
-use Rattle.index_model.specs.declared.nodes.Kind.TheVariants as kinds
+use Rattle.index_model.specs.declared.nodes.NodeKind.{NodeKind}
+use Rattle.index_model.specs.declared.nodes.NodeKind.TheVariants as kinds
 use Rattle.doc_fields.specs.declared.tags.Tag.TheVariants.{FileUid, Name, ReadOnly}
 use Rattle.index_model.specs.Canonical.{attributes, number, name, times, truth, directory_text, file_text, link_text}
 use Rattle.index_model.specs.Values.{NodeFacts, NodeValue, value_of}
@@ -29,7 +29,7 @@ directory_length f = length (directory_text f [])
 abbrev pub node_length : NodeValue → ℕ
 node_length node = by node.kind
   where
-    by : Kind → ℕ
+    by : NodeKind → ℕ
     by kinds.Dir = directory_length node.facts
     by (kinds.File bytes extents) = length (file_text node.facts bytes extents)
     by (kinds.Link text) = length (link_text node.facts text)

@@ -18,7 +18,7 @@ ghost use Rattle.ltfs_text.specs.Names.{encoded};
 
 use crate::attributes::text_of;
 use doc_fields::LockState;
-use index_model::{Index, Kind, Node, Policy, RawExtent, Spot, TextList};
+use index_model::{Index, Node, NodeKind, Policy, RawExtent, Spot, TextList};
 use itoa::Buffer;
 use ltfs_text::{ESCAPED, has_special};
 use node_keys::Xattr;
@@ -220,9 +220,9 @@ fn node_len(node: &Node) -> u64
     ensures { result ≡ bounded (node_length (value_of node.now)) }
 {
     match &node.kind {
-        Kind::Dir => directory_len(node),
-        Kind::File { length, extents } => file_len(node, *length, extents.as_slice()),
-        Kind::Link { text } => link_len(node, text),
+        NodeKind::Dir => directory_len(node),
+        NodeKind::File { length, extents } => file_len(node, *length, extents.as_slice()),
+        NodeKind::Link { text } => link_len(node, text),
     }
 }
 

@@ -10,7 +10,7 @@ ghost use Rattle.index_write.specs.Parts.{closing, file_start, node_text, openin
 
 use crate::attributes::put_attributes;
 use crate::fields::{put, put_moment, put_name, put_number, put_sign, put_symlink, put_truth};
-use index_model::{Kind, Node, RawExtent};
+use index_model::{Node, NodeKind, RawExtent};
 use tape_types::{NoMemory, Text, Times};
 
 fn put_times(out: &mut Vec<u8>, times: &Times) -> Result<(), NoMemory>
@@ -117,9 +117,9 @@ fn put_node(out: &mut Vec<u8>, node: &Node) -> Result<(), NoMemory>
     ensures err { OnErr result (Keeps out.old.items out.new.items) }
 {
     match &node.kind {
-        Kind::Dir => put_opening(out, node),
-        Kind::File { length, extents } => put_file(out, node, *length, extents.as_slice()),
-        Kind::Link { text } => put_link(out, node, text),
+        NodeKind::Dir => put_opening(out, node),
+        NodeKind::File { length, extents } => put_file(out, node, *length, extents.as_slice()),
+        NodeKind::Link { text } => put_link(out, node, text),
     }
 }
 
@@ -161,17 +161,17 @@ fn close_to(out: &mut Vec<u8>, nodes: &[Node], inner: Open, dir: usize) -> Resul
 }
 
 /// Which directory is open behind a node.
-fn opened(kind: &Kind, at: usize, inner: Open) -> Open
+fn opened(kind: &NodeKind, at: usize, inner: Open) -> Open
     requires { inner.depth < at }
     ensures { result ≡ opened kind.now at inner }
 {
     match kind {
-        Kind::Dir => Open {
+        NodeKind::Dir => Open {
             dir: at,
             depth: inner.depth + 1,
         },
-        Kind::File { .. } => inner,
-        Kind::Link { .. } => inner,
+        NodeKind::File { .. } => inner,
+        NodeKind::Link { .. } => inner,
     }
 }
 

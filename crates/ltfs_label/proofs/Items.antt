@@ -7,7 +7,7 @@ use Rattle.doc_fields.specs.declared.tags.Tag.TheVariants.{Creator, FormatTime, 
 use Rattle.doc_fields.specs.Texts.{IsWritable}
 use Rattle.doc_fields.proofs.WrittenBytes.{decimal_valid}
 use Rattle.doc_elements.specs.declared.schema.Form.TheVariants as form
-use Rattle.doc_elements.specs.declared.schema.Place.TheVariants as place
+use Rattle.doc_elements.specs.declared.schema.Container.TheVariants as place
 use Rattle.doc_elements.specs.Elements.{Items, item, nested, no_items, plain}
 use Rattle.doc_elements.specs.Pieces.{words, time, uuid, letter, number, truth}
 use Rattle.doc_elements.proofs.WrittenItems.{GoodItems, ReadsBack, texts_of}

@@ -24,8 +24,8 @@ use Rattle.doc_elements.specs.declared.schema.Child.{Child}
 use Rattle.doc_elements.specs.declared.schema.Child.TheVariants as child
 use Rattle.doc_elements.specs.declared.schema.Form.{Form}
 use Rattle.doc_elements.specs.declared.schema.Form.TheVariants as form
-use Rattle.doc_elements.specs.declared.schema.Place.{Place}
-use Rattle.doc_elements.specs.declared.schema.Place.TheVariants as place
+use Rattle.doc_elements.specs.declared.schema.Container.{Container}
+use Rattle.doc_elements.specs.declared.schema.Container.TheVariants as place
 use Rattle.doc_elements.specs.Answers as answers
 use Rattle.doc_elements.specs.Documents.{Halts, Point, Reaches, StopsAt, after, at_end, at_head, at_piece, begins, counted, fresh, head_of, readable, root_at, root_only}
 use Rattle.doc_elements.specs.Elements.{AllSpelled, DocumentText, Item, Items, Spelled, bare, item, item_tag, nested, no_items, node_count, nodes_of, plain}
@@ -37,17 +37,17 @@ use Rattle.ltfs_label.specs.Reading.{FitsBlock, told}
 
 -- ---- the parents of a label
 
-abbrev pub of_label : Place → Bool
+abbrev pub of_label : Container → Bool
 of_label place.Label = true
 of_label place.Own = true
 of_label place.Letters = true
 of_label _ = false
 
-pub record Inner (q : Place) : Type 0 where
+pub record Inner (q : Container) : Type 0 where
   pub of : of_label q ≡ true
   pub no_node : is_node q ≡ false
 
-inner_of : (p q : Place) → of_label p ≡ true → rule p (tag_of q) ≡ child.Parent q → Inner q
+inner_of : (p q : Container) → of_label p ≡ true → rule p (tag_of q) ≡ child.Parent q → Inner q
 inner_of place.Label place.Own e h = record { of = refl; no_node = refl }
 inner_of place.Label place.Letters e h = record { of = refl; no_node = refl }
 inner_of place.Label _ e h = absurd cc
@@ -102,7 +102,7 @@ none_begun text f at p next of h = (next_of text f [] (space_end text at) p next
 -- ---- no element is a node
 
 mutual
-  no_nodes_in : (text : List ℕ) (p : Place) (at : ℕ) (i : Item) (next : ℕ) → of_label p ≡ true → Spelled text p at i next → nodes_of i ≡ 0
+  no_nodes_in : (text : List ℕ) (p : Container) (at : ℕ) (i : Item) (next : ℕ) → of_label p ≡ true → Spelled text p at i next → nodes_of i ≡ 0
   no_nodes_in text p at (plain tag v) next of s = refl
   no_nodes_in text p at (bare q) next of s = none_by (is_node q) (inner_of p q of s.1.child).no_node
   no_nodes_in text p at (nested q is) next of s =
@@ -111,7 +111,7 @@ mutual
       let rest = no_nodes text q [] s.0.next is s.3 i.of s.4 in
       omega (arith, here, rest)
 
-  no_nodes : (text : List ℕ) (p : Place) (seen : List Tag) (at : ℕ) (is : Items) (end : ℕ) → of_label p ≡ true → AllSpelled text p seen at is end → node_count is ≡ 0
+  no_nodes : (text : List ℕ) (p : Container) (seen : List Tag) (at : ℕ) (is : Items) (end : ℕ) → of_label p ≡ true → AllSpelled text p seen at is end → node_count is ≡ 0
   no_nodes text p seen at no_items end of s = refl
   no_nodes text p seen at (item i is) end of s =
       let here = no_nodes_in text p (space_end text at) i s.1 of s.2 in
@@ -123,7 +123,7 @@ few_of text items d = let none = no_nodes text place.Label [] d.inside items d.e
 
 -- ---- the size of a block
 
-size_form : (p : Place) (f : Form) → of_label p ≡ true → rule p BlockSize ≡ child.Leaf f → f ≡ form.BlockSize
+size_form : (p : Container) (f : Form) → of_label p ≡ true → rule p BlockSize ≡ child.Leaf f → f ≡ form.BlockSize
 size_form place.Label f e h = let same : form.BlockSize ≡ f = cc in sym same
 size_form place.Own f e h = absurd cc
 size_form place.Letters f e h = absurd cc
@@ -254,7 +254,7 @@ letters_form IndexLetter f h = let same : form.Letter ≡ f = cc in ap is_plain_
 letters_form DataLetter f h = let same : form.Letter ≡ f = cc in ap is_plain_form (sym same)
 letters_form _ f h = absurd cc
 
-form_of : (p : Place) (tag : Tag) (f : Form) → of_label p ≡ true → rule p tag ≡ child.Leaf f → is_plain_form f ≡ true
+form_of : (p : Container) (tag : Tag) (f : Form) → of_label p ≡ true → rule p tag ≡ child.Leaf f → is_plain_form f ≡ true
 form_of place.Label tag f e h = label_form tag f h
 form_of place.Own tag f e h = own_form tag f h
 form_of place.Letters tag f e h = letters_form tag f h
@@ -307,7 +307,7 @@ leaf_plain f tag from start text e =
     (then_plain (value_in f from start text) _ (value_plain f from start text e) (λ x h.
     then_plain (lift (end_at text x.1 tag)) _ (lift_plain (end_at text x.1 tag)) (λ y k. tt)))
 
-made_plain : (p : Place) (c : Child) (tag : Tag) (from : ℕ) (start : Start) (text : List ℕ) → of_label p ≡ true → rule p tag ≡ c → IsPlain (made c tag from start text)
+made_plain : (p : Container) (c : Child) (tag : Tag) (from : ℕ) (start : Start) (text : List ℕ) → of_label p ≡ true → rule p tag ≡ c → IsPlain (made c tag from start text)
 unfolding made
 made_plain p child.Unknown tag from start text of is = refl
 made_plain p (child.Leaf f) tag from start text of is =

@@ -2,8 +2,8 @@
 use Rattle.std.proofs.Common.{◌≡◌, ℕ, List, [], ◌∷◌, ◌++◌, Bool, true, false, Result, Ok, Err, refl, sym, ap, subst, ◌∙◌}
 use Rattle.doc_elements.specs.declared.errors.PieceErr.{PieceErr}
 use Rattle.doc_elements.specs.declared.pieces.Frame as code_frame
-use Rattle.doc_elements.specs.declared.schema.Place.{Place}
-use Rattle.doc_elements.specs.declared.schema.Place.TheVariants as place
+use Rattle.doc_elements.specs.declared.schema.Container.{Container}
+use Rattle.doc_elements.specs.declared.schema.Container.TheVariants as place
 use Rattle.doc_elements.specs.Answers.{Fails, UnlessMemory}
 use Rattle.doc_elements.specs.Documents.{Halted, Reaches, after, counted, fresh}
 use Rattle.doc_elements.specs.Pieces.{Piece, Frame, piece_at}
@@ -33,7 +33,7 @@ is_walked text ps inside next [] top outer done v r h d e = record { ps = ps; re
 is_walked text ps inside next (g ∷ gs) top outer done v r h d e = let same : false ≡ true = sym h.0 ∙ d in absurd (cc)
 
 pub at_top : (text : List ℕ) (at : ℕ) (top : code_frame.Frame) (f : Frame) (r : Result (Piece × ℕ) PieceErr) → top ≡ coded f → piece_at (record { place = top.place; seen = f.seen }) 0 text at ≡ r → piece_at f 0 text at ≡ r
-at_top text at top f r e h = subst (λ (p : Place). piece_at (record { place = p; seen = f.seen }) 0 text at ≡ r) (ap (λ (x : code_frame.Frame). x.place) e) h
+at_top text at top f r e h = subst (λ (p : Container). piece_at (record { place = p; seen = f.seen }) 0 text at ≡ r) (ap (λ (x : code_frame.Frame). x.place) e) h
 
 pub halted_at : (text : List ℕ) (inside at : ℕ) (ps : List Piece) (f : Frame) (fs : List Frame) (top : code_frame.Frame) (e : PieceErr) → top ≡ coded f
     → Reaches text ps inside (fresh place.Label ∷ []) 0 (point at (f ∷ fs) 0) → Fails e (piece_at (record { place = top.place; seen = f.seen }) 0 text at) → UnlessMemory e (Halted place.Label text inside e)

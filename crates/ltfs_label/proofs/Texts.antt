@@ -7,7 +7,7 @@ use Rattle.doc_fields.specs.declared.tags.Tag.TheVariants.{Creator, FormatTime, 
 use Rattle.doc_fields.proofs.Moments.{HasMoment}
 use Rattle.doc_elements.specs.declared.errors.PieceErr.{PieceErr}
 use Rattle.doc_elements.specs.declared.errors.PieceErr.TheVariants as pieces
-use Rattle.doc_elements.specs.declared.schema.Place.TheVariants as place
+use Rattle.doc_elements.specs.declared.schema.Container.TheVariants as place
 use Rattle.doc_elements.specs.Answers as answers
 use Rattle.doc_elements.specs.Documents.{Accepts, Halts, IsAccepted, IsStopped, StopsAt, readable}
 use Rattle.doc_elements.specs.Elements.{IsTimed, IsTimedPiece, all_pieces}

@@ -6,7 +6,7 @@ use Rattle.doc_fields.specs.declared.tags.Tag.TheVariants.{LtfsLabel}
 use Rattle.doc_fields.specs.declared.starts.Attribute.TheVariants.{Version}
 use Rattle.doc_fields.specs.Tags.{spelled}
 use Rattle.doc_fields.specs.Written.{end_text, start_text}
-use Rattle.doc_elements.specs.declared.schema.Place.TheVariants as place
+use Rattle.doc_elements.specs.declared.schema.Container.TheVariants as place
 use Rattle.doc_elements.proofs.Written.{framed, inner, written_document}
 use Rattle.doc_elements.proofs.WrittenAgain.{all_again, all_valid}
 use Rattle.doc_elements.proofs.WrittenItems.{texts_of}

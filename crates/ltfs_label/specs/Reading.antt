@@ -6,7 +6,7 @@ use Rattle.doc_elements.specs.Children.{children_of}
 use Rattle.doc_elements.specs.declared.errors.PieceErr.{PieceErr}
 use Rattle.doc_elements.specs.declared.errors.PieceErr.TheVariants as pieces
 use Rattle.doc_elements.specs.declared.pieces.Frame as code_frame
-use Rattle.doc_elements.specs.declared.schema.Place.TheVariants as place
+use Rattle.doc_elements.specs.declared.schema.Container.TheVariants as place
 use Rattle.doc_elements.specs.Documents.{Accepts, Reaches, StopsAt, fresh}
 use Rattle.doc_elements.specs.Pieces.{Piece, opens, whole, closes, leaf, Frame, number}
 use Rattle.ltfs_label.specs.declared.Label.{Label}

@@ -1,7 +1,7 @@
 //! The text of a label as a whole.
 
 ghost use Rattle.std.specs.Prelude.{◌≡◌, ℕ, List, IfOk, IfErr};
-ghost use Rattle.doc_elements.specs.declared.schema.Place.TheVariants as place;
+ghost use Rattle.doc_elements.specs.declared.schema.Container.TheVariants as place;
 ghost use Rattle.doc_elements.specs.Answers as pieces;
 ghost use Rattle.doc_elements.specs.Documents.{Halts};
 ghost use Rattle.ltfs_label.specs.declared.errors.LabelErr.{LabelErr};
@@ -12,7 +12,7 @@ ghost use Rattle.ltfs_label.specs.Values.{LabelValue, label_of};
 use crate::Label;
 use crate::errors::{LabelErr, told};
 use crate::walking::walk;
-use doc_elements::{PieceErr, Place, readable, skip_head};
+use doc_elements::{Container, PieceErr, readable, skip_head};
 use doc_fields::skip_space;
 use std::alloc::Global;
 
@@ -21,7 +21,7 @@ fn whole(alloc: Global, text: &[u8]) -> Result<Label, PieceErr>
     ensures found { IfOk result (λ l. Reads text.now (label_of l)) }
     ensures refused { IfErr result (λ e. pieces.UnlessMemory e (Halts place.Label text.now e)) }
 {
-    let inside = match skip_head(Place::Label, text) {
+    let inside = match skip_head(Container::Label, text) {
         Ok(inside) => inside,
         Err(fault) => return Err(fault),
     };

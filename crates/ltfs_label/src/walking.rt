@@ -2,7 +2,7 @@
 
 ghost use Rattle.std.specs.Prelude.{◌≡◌, ◌≤◌, ◌<◌, List, length, IfOk, IfErr};
 ghost use Rattle.tape_types.specs.Times.{civil_of};
-ghost use Rattle.doc_elements.specs.declared.schema.Place.TheVariants as place;
+ghost use Rattle.doc_elements.specs.declared.schema.Container.TheVariants as place;
 ghost use Rattle.doc_elements.specs.Answers.{UnlessMemory, piece_of, val_of};
 ghost use Rattle.doc_elements.specs.Documents.{Halted, after};
 ghost use Rattle.doc_elements.specs.Pieces as pieces;
@@ -10,7 +10,7 @@ ghost use Rattle.ltfs_label.specs.Reading.{FitsBlock, Keeps, Walked, coded, set,
 ghost use Rattle.ltfs_label.specs.Values.{blank, epoch, label_of, set_leaf};
 
 use crate::Label;
-use doc_elements::{Children, Frame, Piece, PieceErr, Place, Value, next_piece, tag_of};
+use doc_elements::{Children, Container, Frame, Piece, PieceErr, Value, next_piece, tag_of};
 use doc_fields::Tag;
 use std::alloc::{AllocError, Global};
 use tape_types::{Moment, Text};
@@ -161,7 +161,7 @@ pub fn walk(alloc: Global, text: &[u8], inside: usize) -> Result<(Label, usize),
     let mut label = blank(alloc);
     let mut outer: Vec<Frame> = Vec::new(alloc);
     let mut top = Frame {
-        place: Place::Label,
+        place: Container::Label,
         seen: Children::none(),
     };
     let mut at = inside;

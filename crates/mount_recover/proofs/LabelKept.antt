@@ -4,7 +4,7 @@ use Rattle.doc_fields.specs.declared.tags.Tag.{Tag}
 use Rattle.doc_fields.specs.declared.starts.Start.{Start}
 use Rattle.doc_fields.specs.Space.{space_end}
 use Rattle.doc_elements.specs.Children.{first_missing, member}
-use Rattle.doc_elements.specs.declared.schema.Place.{Place}
+use Rattle.doc_elements.specs.declared.schema.Container.{Container}
 use Rattle.doc_elements.specs.declared.schema.Form.{Form}
 use Rattle.doc_elements.specs.declared.schema.Child.TheVariants as child
 use Rattle.doc_elements.specs.Schema.{rule}
@@ -19,18 +19,18 @@ joined v (p ∷ ps) qs = joined (set p v) ps qs
 
 -- each leaf keeps it
 abbrev pub LeavesKeep : (LabelValue → Type 0) → List ℕ → Type 0
-LeavesKeep P text = (p : Place) (tag : Tag) (f : Form) (from : ℕ) (start : Start) (x : Val) (next : ℕ) (v : LabelValue) → rule p tag ≡ child.Leaf f
+LeavesKeep P text = (p : Container) (tag : Tag) (f : Form) (from : ℕ) (start : Start) (x : Val) (next : ℕ) (v : LabelValue) → rule p tag ≡ child.Leaf f
     → leaf_at f tag from start text ≡ Ok (x, next) → P v → P (set_leaf tag x v)
 
 module _ (P : LabelValue → Type 0) (text : List ℕ) (leaf_keeps : LeavesKeep P text) where
   mutual
-    one_keeps : (p : Place) (at : ℕ) (i : Item) (next : ℕ) (v : LabelValue) → Spelled text p at i next → P v → P (value_from v (pieces_of i))
+    one_keeps : (p : Container) (at : ℕ) (i : Item) (next : ℕ) (v : LabelValue) → Spelled text p at i next → P v → P (value_from v (pieces_of i))
     one_keeps p at (plain tag x) next v (f, start, starts, read) good = leaf_keeps p tag f at start x next v starts.child read good
     one_keeps p at (bare q) next v spelled good = good
     one_keeps p at (nested q is) next v (start, starts, unclosed, end, children, ended) good =
         subst P (sym (joined v (all_pieces is) (closes ∷ []))) (all_keep q [] start.next is end v children good)
 
-    pub all_keep : (p : Place) (seen : List Tag) (at : ℕ) (is : Items) (end : ℕ) (v : LabelValue) → AllSpelled text p seen at is end → P v → P (value_from v (all_pieces is))
+    pub all_keep : (p : Container) (seen : List Tag) (at : ℕ) (is : Items) (end : ℕ) (v : LabelValue) → AllSpelled text p seen at is end → P v → P (value_from v (all_pieces is))
     all_keep p seen at no_items end v spelled good = good
     all_keep p seen at (item i is) end v (new, next, one, more) good =
         subst P (sym (joined v (pieces_of i) (all_pieces is)))

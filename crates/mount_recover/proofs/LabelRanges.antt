@@ -12,8 +12,8 @@ use Rattle.doc_fields.specs.EndTag.{end_at}
 use Rattle.doc_fields.specs.Values.{letter_at}
 use Rattle.doc_elements.specs.Children.{code, member}
 use Rattle.doc_elements.specs.declared.errors.PieceErr.{PieceErr}
-use Rattle.doc_elements.specs.declared.schema.Place.{Place}
-use Rattle.doc_elements.specs.declared.schema.Place.TheVariants as place
+use Rattle.doc_elements.specs.declared.schema.Container.{Container}
+use Rattle.doc_elements.specs.declared.schema.Container.TheVariants as place
 use Rattle.doc_elements.specs.declared.schema.Form.{Form}
 use Rattle.doc_elements.specs.declared.schema.Form.TheVariants as form
 use Rattle.doc_elements.specs.declared.schema.Child.TheVariants as child
@@ -80,23 +80,23 @@ is_number tag from start text x next read =
 -- ---- an element that a label has
 
 -- A leaf that a place of a label has: its tag and its form, which value of a label it tells, and what its form gives.
-record IsTold (p : Place) (element : Tag) (f : Form) (make : ℕ → Val) (get : LabelValue → ℕ) : Type 0 where
+record IsTold (p : Container) (element : Tag) (f : Form) (make : ℕ → Val) (get : LabelValue → ℕ) : Type 0 where
   stays : (tag : Tag) (x : Val) (v : LabelValue) → (code tag == code element) ≡ false → get (set_leaf tag x v) ≡ get v
   sets : (tag : Tag) (n : ℕ) (v : LabelValue) → (code tag == code element) ≡ true → get (set_leaf tag (make n) v) ≡ n
-  only : (q : Place) (tag : Tag) (g : Form) → rule q tag ≡ child.Leaf g → (code tag == code element) ≡ true → g ≡ f
+  only : (q : Container) (tag : Tag) (g : Form) → rule q tag ≡ child.Leaf g → (code tag == code element) ≡ true → g ≡ f
   made : (tag : Tag) (from : ℕ) (start : Start) (text : List ℕ) (x : Val) (next : ℕ)
       → leaf_at f tag from start text ≡ Ok (x, next) → (n : ℕ) × (x ≡ make n)
-  no_parent : (tag : Tag) (q : Place) → rule p tag ≡ child.Parent q → (code tag == code element) ≡ true → ⊥
+  no_parent : (tag : Tag) (q : Container) → rule p tag ≡ child.Parent q → (code tag == code element) ≡ true → ⊥
   front : List Tag
   behind : List Tag
   parts : required p ≡ front ++ element ∷ behind
 
-module _ {p : Place} {element : Tag} {f : Form} {make : ℕ → Val} {get : LabelValue → ℕ}
+module _ {p : Container} {element : Tag} {f : Form} {make : ℕ → Val} {get : LabelValue → ℕ}
     (is_told : IsTold p element f make get) where
   abbrev Has : LabelValue → Type 0
   Has v = InRange f (make (get v))
 
-  tells : (text : List ℕ) (q : Place) (tag : Tag) (g : Form) (from : ℕ) (start : Start) (x : Val) (next : ℕ)
+  tells : (text : List ℕ) (q : Container) (tag : Tag) (g : Form) (from : ℕ) (start : Start) (x : Val) (next : ℕ)
       (v : LabelValue) → rule q tag ≡ child.Leaf g → leaf_at g tag from start text ≡ Ok (x, next)
       → (code tag == code element) ≡ true → Has (set_leaf tag x v)
   tells text q tag g from start x next v ruled read is =
@@ -107,7 +107,7 @@ module _ {p : Place} {element : Tag} {f : Form} {make : ℕ → Val} {get : Labe
       subst (λ (y : Val). Has (set_leaf tag y v)) (sym found.1)
       (subst (λ (n : ℕ). InRange f (make n)) (sym (is_told.sets tag found.0 v is)) good)
 
-  keeps : (text : List ℕ) (q : Place) (tag : Tag) (g : Form) (from : ℕ) (start : Start) (x : Val) (next : ℕ)
+  keeps : (text : List ℕ) (q : Container) (tag : Tag) (g : Form) (from : ℕ) (start : Start) (x : Val) (next : ℕ)
       (v : LabelValue) → rule q tag ≡ child.Leaf g → leaf_at g tag from start text ≡ Ok (x, next)
       → Has v → Has (set_leaf tag x v)
   keeps text q tag g from start x next v ruled read good =
@@ -177,14 +177,14 @@ size_sets BlockSize n v e = refl
 size_sets tag n v e = absurd (cc e)
 
 -- the element of a size is a leaf of a label
-size_only : (q : Place) (tag : Tag) (g : Form) → rule q tag ≡ child.Leaf g → (code tag == 11) ≡ true
+size_only : (q : Container) (tag : Tag) (g : Form) → rule q tag ≡ child.Leaf g → (code tag == 11) ≡ true
     → g ≡ form.BlockSize
 size_only place.Label BlockSize g ruled is = cc ruled
 size_only place.Own BlockSize g ruled is = absurd (cc ruled)
 size_only q BlockSize g ruled is = absurd (cc ruled)
 size_only q tag g ruled is = absurd (cc is)
 
-size_no_parent : (tag : Tag) (q : Place) → rule place.Label tag ≡ child.Parent q → (code tag == 11) ≡ true → ⊥
+size_no_parent : (tag : Tag) (q : Container) → rule place.Label tag ≡ child.Parent q → (code tag == 11) ≡ true → ⊥
 size_no_parent BlockSize q ruled is = cc ruled
 size_no_parent tag q ruled is = cc is
 
@@ -214,7 +214,7 @@ no_leaf Partitions f ruled is = cc ruled
 no_leaf tag f ruled is = cc is
 
 -- and these have leaves alone
-leaves_alone : (tag : Tag) (q : Place) → rule place.Letters tag ≡ child.Parent q → ⊥
+leaves_alone : (tag : Tag) (q : Container) → rule place.Letters tag ≡ child.Parent q → ⊥
 leaves_alone IndexLetter q ruled = cc ruled
 leaves_alone DataLetter q ruled = cc ruled
 leaves_alone tag q ruled = cc ruled
@@ -262,7 +262,7 @@ index_sets : (tag : Tag) (n : ℕ) (v : LabelValue) → (code tag == 9) ≡ true
 index_sets IndexLetter n v e = refl
 index_sets tag n v e = absurd (cc e)
 
-index_only : (q : Place) (tag : Tag) (g : Form) → rule q tag ≡ child.Leaf g → (code tag == 9) ≡ true → g ≡ form.Letter
+index_only : (q : Container) (tag : Tag) (g : Form) → rule q tag ≡ child.Leaf g → (code tag == 9) ≡ true → g ≡ form.Letter
 index_only place.Letters IndexLetter g ruled is = cc ruled
 index_only place.Own IndexLetter g ruled is = absurd (cc ruled)
 index_only q IndexLetter g ruled is = absurd (cc ruled)
@@ -285,7 +285,7 @@ data_sets : (tag : Tag) (n : ℕ) (v : LabelValue) → (code tag == 10) ≡ true
 data_sets DataLetter n v e = refl
 data_sets tag n v e = absurd (cc e)
 
-data_only : (q : Place) (tag : Tag) (g : Form) → rule q tag ≡ child.Leaf g → (code tag == 10) ≡ true → g ≡ form.Letter
+data_only : (q : Container) (tag : Tag) (g : Form) → rule q tag ≡ child.Leaf g → (code tag == 10) ≡ true → g ≡ form.Letter
 data_only place.Letters DataLetter g ruled is = cc ruled
 data_only place.Own DataLetter g ruled is = absurd (cc ruled)
 data_only q DataLetter g ruled is = absurd (cc ruled)

@@ -5,7 +5,7 @@ ghost use Rattle.std.specs.List.{AllByRecursion};
 ghost use Rattle.cartridge_meaning.specs.Meaning.{Fits, FitsKind, FitsNode};
 ghost use Rattle.mount_recover.specs.Lasts.{IsFirstOutside, LiesOn};
 
-use index_model::{Kind, Node, RawExtent};
+use index_model::{Node, NodeKind, RawExtent};
 use ltfs_label::Label;
 
 /// Where the next item of each partition goes.
@@ -29,13 +29,13 @@ pub fn first_outside(label: &Label, ends: Ends, nodes: &[Node]) -> Option<u64>
 }
 
 /// Whether the extents of a node lie before the ends.
-fn fits(label: &Label, ends: Ends, kind: &Kind) -> bool
+fn fits(label: &Label, ends: Ends, kind: &NodeKind) -> bool
     ensures { IsTrue result ↔ FitsKind label.now ends.ip ends.dp kind.now }
 {
     match kind {
-        Kind::Dir => true,
-        Kind::File { extents, .. } => all_fit(label, ends, extents.as_slice()),
-        Kind::Link { .. } => true,
+        NodeKind::Dir => true,
+        NodeKind::File { extents, .. } => all_fit(label, ends, extents.as_slice()),
+        NodeKind::Link { .. } => true,
     }
 }
 

@@ -20,8 +20,8 @@ use Rattle.serving_promise.specs.Faults.{kept_for}
 use Rattle.serving_promise.specs.Marks.{after, draining, idle, mark, phase, place_in, places_of, waits}
 use Rattle.serving_promise.specs.Served.{Drive, View, is_waiting, placed_by}
 use Rattle.serving_promise.specs.Steps.{without_session}
-use Rattle.serving_promise.specs.declared.marks.Kind.{Kind}
-use Rattle.serving_promise.specs.declared.marks.Kind.TheVariants.{Places as places, Hands as hands}
+use Rattle.serving_promise.specs.declared.marks.MarkKind.{MarkKind}
+use Rattle.serving_promise.specs.declared.marks.MarkKind.TheVariants.{Places as places, Hands as hands}
 use Rattle.order_laws.specs.Kept.{IsKeptOrder, is_rising, owed}
 use Rattle.order_laws.specs.Phases.{is_course_from}
 use Rattle.order_laws.proofs.Acked.{synced_push}
@@ -46,7 +46,7 @@ module _ {D : Type 0} (first now : Drive) (v : View D) (p : Placed) (counts : Tw
   abbrev reply : Reply
   reply = replies.Fault counts
 
-  abbrev kinds : List Kind
+  abbrev kinds : List MarkKind
   kinds = places (length v.history) ∷ hands (length v.history) (replies.Fault counts) ∷ []
 
   abbrev pub failed_view : Option Moment → View D

@@ -12,7 +12,7 @@ use Rattle.session_script.specs.declared.logs.Reply.{Reply}
 use Rattle.event_laws.specs.Waiting.{State}
 use Rattle.serving_promise.specs.Marks.{Phase, after, draining, hand_in, hands_of, idle, kinds_of, mark, phase, place_in, places_of}
 use Rattle.serving_promise.specs.Served.{AreMarks, placed_by}
-use Rattle.serving_promise.specs.declared.marks.Kind.{Kind}
+use Rattle.serving_promise.specs.declared.marks.MarkKind.{MarkKind}
 use Rattle.serving_promise.specs.declared.marks.Mark.{Mark}
 use Rattle.order_laws.specs.Kept.{owed}
 use Rattle.order_laws.specs.Phases.{goes_on, is_course, is_course_from}
@@ -23,7 +23,7 @@ no_kinds : (b : Bool) → kinds_of 0 [] ≡ cond b [] []
 no_kinds true = refl
 no_kinds false = refl
 
-kinds_by : (who w : ℕ) (kinds : List Kind) → kinds_of w (map (mark who) kinds) ≡ cond (who == w) kinds []
+kinds_by : (who w : ℕ) (kinds : List MarkKind) → kinds_of w (map (mark who) kinds) ≡ cond (who == w) kinds []
 kinds_by who w [] = no_kinds (who == w)
 kinds_by who w (kind ∷ kinds) = by (who == w) refl (kinds_by who w kinds)
   where
@@ -32,19 +32,19 @@ kinds_by who w (kind ∷ kinds) = by (who == w) refl (kinds_by who w kinds)
     by true is more = ap (λ l. kind ∷ l) (more ∙ ap (λ b. cond b kinds []) is)
     by false is more = more ∙ ap (λ b. cond b kinds []) is
 
-pub kinds_more : (who w : ℕ) (marks : List Mark) (kinds : List Kind) → kinds_of w (marks ++ map (mark who) kinds) ≡ kinds_of w marks ++ cond (who == w) kinds []
+pub kinds_more : (who w : ℕ) (marks : List Mark) (kinds : List MarkKind) → kinds_of w (marks ++ map (mark who) kinds) ≡ kinds_of w marks ++ cond (who == w) kinds []
 kinds_more who w marks kinds =
     ap (map (λ (m : Mark). m.kind)) (filter-append (λ (m : Mark). m.who == w) marks (map (mark who) kinds))
     ∙ map-append (λ (m : Mark). m.kind) (filter (λ (m : Mark). m.who == w) marks) (filter (λ (m : Mark). m.who == w) (map (mark who) kinds))
     ∙ ap (λ l. kinds_of w marks ++ l) (kinds_by who w kinds)
 
-pub phase_more : (who w : ℕ) (marks : List Mark) (kinds : List Kind) → phase w (marks ++ map (mark who) kinds) ≡ fold after (phase w marks) (cond (who == w) kinds [])
+pub phase_more : (who w : ℕ) (marks : List Mark) (kinds : List MarkKind) → phase w (marks ++ map (mark who) kinds) ≡ fold after (phase w marks) (cond (who == w) kinds [])
 phase_more who w marks kinds = ap (fold after idle) (kinds_more who w marks kinds) ∙ fold-append after idle (kinds_of w marks) (cond (who == w) kinds [])
 
-pub places_more : (who w : ℕ) (marks : List Mark) (kinds : List Kind) → places_of w (marks ++ map (mark who) kinds) ≡ places_of w marks ++ filter_map place_in (cond (who == w) kinds [])
+pub places_more : (who w : ℕ) (marks : List Mark) (kinds : List MarkKind) → places_of w (marks ++ map (mark who) kinds) ≡ places_of w marks ++ filter_map place_in (cond (who == w) kinds [])
 places_more who w marks kinds = ap (filter_map place_in) (kinds_more who w marks kinds) ∙ filter_map-append place_in (kinds_of w marks) (cond (who == w) kinds [])
 
-pub hands_more : (who w : ℕ) (marks : List Mark) (kinds : List Kind) → hands_of w (marks ++ map (mark who) kinds) ≡ hands_of w marks ++ filter_map hand_in (cond (who == w) kinds [])
+pub hands_more : (who w : ℕ) (marks : List Mark) (kinds : List MarkKind) → hands_of w (marks ++ map (mark who) kinds) ≡ hands_of w marks ++ filter_map hand_in (cond (who == w) kinds [])
 hands_more who w marks kinds = ap (filter_map hand_in) (kinds_more who w marks kinds) ∙ filter_map-append hand_in (kinds_of w marks) (cond (who == w) kinds [])
 
 -- ---- who drains
@@ -80,7 +80,7 @@ to_owed sessions history replies st kept marks are who = record {
 -- ---- the marks of a longer list
 
 -- what the kinds of a call's marks say of its session, and what is true of what they tell
-pub record AreMore (sessions who : ℕ) (old new : List Placed) (before now : List (Option Reply)) (st : State) (kept : List (ℕ × Twin)) (marks : List Mark) (kinds : List Kind) : Type 0 where
+pub record AreMore (sessions who : ℕ) (old new : List Placed) (before now : List (Option Reply)) (st : State) (kept : List (ℕ × Twin)) (marks : List Mark) (kinds : List MarkKind) : Type 0 where
   pub who_is : (1 ≤ who) × (who ≤ sessions)
   pub places : (w : ℕ) → placed_by w new ≡ placed_by w old ++ filter_map place_in (cond (who == w) kinds [])
   pub stay : (k : ℕ) (reply : Reply) → slice_get before k ≡ Some (Some reply) → slice_get now k ≡ Some (Some reply)
@@ -88,15 +88,15 @@ pub record AreMore (sessions who : ℕ) (old new : List Placed) (before now : Li
   pub owes : (w : ℕ) → IsOwed (fold after (phase w marks) (cond (who == w) kinds [])) (owed st kept w)
   pub once : (w : ℕ) → owed st kept w ≤ 1
 
-all_marks : (P : Mark → Type 0) (who : ℕ) (kinds : List Kind) → ((kind : Kind) → P (mark who kind)) → All P (map (mark who) kinds)
+all_marks : (P : Mark → Type 0) (who : ℕ) (kinds : List MarkKind) → ((kind : MarkKind) → P (mark who kind)) → All P (map (mark who) kinds)
 all_marks P who [] each = All-nil P
 all_marks P who (kind ∷ kinds) each = All-cons P (mark who kind) (map (mark who) kinds) (each kind) (all_marks P who kinds each)
 
-from_cond : (b : Bool) (kinds : List Kind) (x : ℕ × Reply) → Contains (filter_map hand_in (cond b kinds [])) x → Contains (filter_map hand_in kinds) x
+from_cond : (b : Bool) (kinds : List MarkKind) (x : ℕ × Reply) → Contains (filter_map hand_in (cond b kinds [])) x → Contains (filter_map hand_in kinds) x
 from_cond true kinds x has = has
 from_cond false kinds x has = absurd (omega (arith, has.1))
 
-pub marks_more : (sessions who : ℕ) (old new : List Placed) (before now : List (Option Reply)) (a b : State) (kept_before kept : List (ℕ × Twin)) (marks : List Mark) (kinds : List Kind)
+pub marks_more : (sessions who : ℕ) (old new : List Placed) (before now : List (Option Reply)) (a b : State) (kept_before kept : List (ℕ × Twin)) (marks : List Mark) (kinds : List MarkKind)
     → AreMarks sessions old before a kept_before marks → AreMore sessions who old new before now b kept marks kinds → AreMarks sessions new now b kept (marks ++ map (mark who) kinds)
 marks_more sessions who old new before now a b kept_before kept marks kinds are more = record {
   sessions_are = All-append (λ (m : Mark). (1 ≤ m.who) × (m.who ≤ sessions)) marks (map (mark who) kinds) are.sessions_are (all_marks (λ (m : Mark). (1 ≤ m.who) × (m.who ≤ sessions)) who kinds (λ kind. more.who_is));
@@ -136,7 +136,7 @@ marks_stay sessions history before now a b kept_before kept marks are stay same 
 
 -- ---- marks that calls make
 
-pub course-append : (ph : Phase) (xs ys : List Kind) → is_course_from ph (xs ++ ys) ≡ (is_course_from ph xs && is_course_from (fold after ph xs) ys)
+pub course-append : (ph : Phase) (xs ys : List MarkKind) → is_course_from ph (xs ++ ys) ≡ (is_course_from ph xs && is_course_from (fold after ph xs) ys)
 course-append ph [] ys = refl
 course-append ph (kind ∷ xs) ys = by (goes_on ph kind) (course-append (after ph kind) xs ys)
   where
@@ -146,7 +146,7 @@ course-append ph (kind ∷ xs) ys = by (goes_on ph kind) (course-append (after p
     by false more = refl
 
 -- marks that may come in the phase of their session
-pub course_more : (who : ℕ) (marks : List Mark) (kinds : List Kind) → is_course_from (phase who marks) kinds ≡ true → ((w : ℕ) → is_course (kinds_of w marks) ≡ true)
+pub course_more : (who : ℕ) (marks : List Mark) (kinds : List MarkKind) → is_course_from (phase who marks) kinds ≡ true → ((w : ℕ) → is_course (kinds_of w marks) ≡ true)
     → (w : ℕ) → is_course (kinds_of w (marks ++ map (mark who) kinds)) ≡ true
 course_more who marks kinds may were w =
     ap is_course (kinds_more who w marks kinds) ∙ course-append idle (kinds_of w marks) (cond (who == w) kinds [])

@@ -13,8 +13,8 @@ use Rattle.event_laws.specs.Trail.{after_all, drains_now}
 use Rattle.serving_promise.specs.Faults.{kept_for}
 use Rattle.serving_promise.specs.Marks.{NothingWaits, Phase, after, draining, hand_in, hands_of, idle, kinds_of, phase, place_in, places_of, waits}
 use Rattle.serving_promise.specs.Served.{Drive, View, placed_by}
-use Rattle.serving_promise.specs.declared.marks.Kind.{Kind}
-use Rattle.serving_promise.specs.declared.marks.Kind.TheVariants.{Places as places, Hands as hands, Begins as begins, Rests as rests}
+use Rattle.serving_promise.specs.declared.marks.MarkKind.{MarkKind}
+use Rattle.serving_promise.specs.declared.marks.MarkKind.TheVariants.{Places as places, Hands as hands, Begins as begins, Rests as rests}
 use Rattle.serving_promise.specs.declared.marks.Mark.{Mark}
 use Rattle.order_laws.specs.Kept.{IsKeptOrder, is_rising, seen}
 use Rattle.order_laws.specs.Laws.{NothingIsLeftWhereNothingWaits, PhasesArePlain}
@@ -31,7 +31,7 @@ abbrev is_waits : ℕ → Phase → Bool
 is_waits q (waits p) = p == q
 is_waits q ph = false
 
-abbrev handed : ℕ → List Kind → Bool
+abbrev handed : ℕ → List MarkKind → Bool
 handed q kinds = list_any (λ (e : ℕ × Reply). e.0 == q) (filter_map hand_in kinds)
 
 -- all later places are past the one that is waited for
@@ -54,7 +54,7 @@ handed_over p p' q ps f h same past e = by (p == q) refl (has q ps) refl
     by true is true isc = absurd (omega (arith, ltb-true p q (all_has (nat_lt p) ps q past isc), eqb-true p q is))
     by true is false isc = e ∙ ap (λ c. (false || c) && not h) isc ∙ sym (ap (λ b. not (b || h)) (other ∙ is))
 
-final_waits : (q : ℕ) (ph : Phase) (kinds : List Kind) → is_course_from ph kinds ≡ true → is_rising (filter_map place_in kinds) ≡ true → is_past ph (filter_map place_in kinds) ≡ true
+final_waits : (q : ℕ) (ph : Phase) (kinds : List MarkKind) → is_course_from ph kinds ≡ true → is_rising (filter_map place_in kinds) ≡ true → is_past ph (filter_map place_in kinds) ≡ true
     → is_waits q (fold after ph kinds) ≡ ((is_waits q ph || has q (filter_map place_in kinds)) && not (handed q kinds))
 final_waits q ph [] course rising past = nothing_yet (is_waits q ph)
 final_waits q idle (places p ∷ kinds) course rising past =
@@ -104,16 +104,16 @@ handed_contains given q there =
 -- ---- which session drains
 
 -- a drain has begun in these, and goes on
-record HasBegun (kinds : List Kind) : Type 0 where
-  before : List Kind
-  since : List Kind
+record HasBegun (kinds : List MarkKind) : Type 0 where
+  before : List MarkKind
+  since : List MarkKind
   kinds_are : kinds ≡ before ++ begins ∷ since
   still : list_any ends_drain since ≡ false
 
-begun_before : (kind : Kind) (kinds : List Kind) → HasBegun kinds → HasBegun (kind ∷ kinds)
+begun_before : (kind : MarkKind) (kinds : List MarkKind) → HasBegun kinds → HasBegun (kind ∷ kinds)
 begun_before kind kinds b = record { before = kind ∷ b.before; since = b.since; kinds_are = ap (λ l. kind ∷ l) b.kinds_are; still = b.still }
 
-final_drains : (ph : Phase) (kinds : List Kind) → is_course_from ph kinds ≡ true → fold after ph kinds ≡ draining → ((ph ≡ draining) × (list_any ends_drain kinds ≡ false)) ⊎ HasBegun kinds
+final_drains : (ph : Phase) (kinds : List MarkKind) → is_course_from ph kinds ≡ true → fold after ph kinds ≡ draining → ((ph ≡ draining) × (list_any ends_drain kinds ≡ false)) ⊎ HasBegun kinds
 final_drains ph [] course e = inl (e, refl)
 final_drains idle (places p ∷ kinds) course e =
     ⊎_elim (λ h. absurd (let no : waits p ≡ draining = h.0 in cc)) (λ b. inr (begun_before (places p) kinds b)) (final_drains (waits p) kinds course e)
@@ -135,19 +135,19 @@ final_drains (waits p) (places p' ∷ kinds) course e = absurd (cc)
 final_drains (waits p) (begins ∷ kinds) course e = absurd (cc)
 final_drains (waits p) (rests ∷ kinds) course e = absurd (cc)
 
-still_drains : (kinds : List Kind) → is_course_from draining kinds ≡ true → list_any ends_drain kinds ≡ false → fold after draining kinds ≡ draining
+still_drains : (kinds : List MarkKind) → is_course_from draining kinds ≡ true → list_any ends_drain kinds ≡ false → fold after draining kinds ≡ draining
 still_drains [] course still = refl
 still_drains (places p ∷ kinds) course still = absurd (cc)
 still_drains (rests ∷ kinds) course still = absurd (cc)
 still_drains (hands p r ∷ kinds) course still = absurd (cc)
 still_drains (begins ∷ kinds) course still = absurd (cc)
 
-begins_drain : (ph : Phase) (since : List Kind) → is_course_from ph (begins ∷ since) ≡ true → list_any ends_drain since ≡ false → fold after ph (begins ∷ since) ≡ draining
+begins_drain : (ph : Phase) (since : List MarkKind) → is_course_from ph (begins ∷ since) ≡ true → list_any ends_drain since ≡ false → fold after ph (begins ∷ since) ≡ draining
 begins_drain idle since course still = still_drains since course still
 begins_drain draining since course still = absurd (cc)
 begins_drain (waits p) since course still = absurd (cc)
 
-begun_drains : (kinds : List Kind) → is_course kinds ≡ true → HasBegun kinds → fold after idle kinds ≡ draining
+begun_drains : (kinds : List MarkKind) → is_course kinds ≡ true → HasBegun kinds → fold after idle kinds ≡ draining
 begun_drains kinds course b =
     let parts = and_parts (is_course_from idle b.before) (is_course_from (fold after idle b.before) (begins ∷ b.since))
     (sym (course-append idle b.before (begins ∷ b.since)) ∙ subst (λ l. is_course l ≡ true) b.kinds_are course) in

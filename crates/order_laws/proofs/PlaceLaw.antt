@@ -24,8 +24,8 @@ use Rattle.serving_promise.specs.Faults.{kept_for, told}
 use Rattle.serving_promise.specs.Marks.{Phase, after, draining, hand_in, idle, mark, phase, place_in, places_of, waits}
 use Rattle.serving_promise.specs.Served.{Drive, IsOrderly, View, headed, is_waiting, placed_by}
 use Rattle.serving_promise.specs.Submits.{CanSubmit, acks_for}
-use Rattle.serving_promise.specs.declared.marks.Kind.{Kind}
-use Rattle.serving_promise.specs.declared.marks.Kind.TheVariants.{Places as places, Hands as hands}
+use Rattle.serving_promise.specs.declared.marks.MarkKind.{MarkKind}
+use Rattle.serving_promise.specs.declared.marks.MarkKind.TheVariants.{Places as places, Hands as hands}
 use Rattle.order_laws.specs.Kept.{IsKeptOrder, is_rising, owed}
 use Rattle.order_laws.specs.Phases.{is_course_from}
 use Rattle.order_laws.proofs.Acked.{acks_more, commands_more, reached_more, synced_at, synced_push}
@@ -41,33 +41,33 @@ use Rattle.order_laws.proofs.Views.{moments_push, not_before, session_is, syncs_
 use Rattle.order_laws.proofs.Waits.{waiting_push}
 
 -- the kinds of the marks of a placement: its place, and at once its reply where it is there
-pub data AreKinds (here : ℕ) : List Kind → Option Reply → Type 0 where
+pub data AreKinds (here : ℕ) : List MarkKind → Option Reply → Type 0 where
   placed_alone : AreKinds here (places here ∷ []) None
   handed_too : (reply : Reply) → AreKinds here (places here ∷ hands here reply ∷ []) (Some reply)
 
-pub kinds_place : (here : ℕ) (kinds : List Kind) (reply : Option Reply) → AreKinds here kinds reply → (b : Bool) → cond b (here ∷ []) [] ≡ filter_map place_in (cond b kinds [])
+pub kinds_place : (here : ℕ) (kinds : List MarkKind) (reply : Option Reply) → AreKinds here kinds reply → (b : Bool) → cond b (here ∷ []) [] ≡ filter_map place_in (cond b kinds [])
 kinds_place here kinds reply placed_alone true = refl
 kinds_place here kinds reply placed_alone false = refl
 kinds_place here kinds reply (handed_too r) true = refl
 kinds_place here kinds reply (handed_too r) false = refl
 
-pub kinds_hand : (here : ℕ) (kinds : List Kind) (reply : Option Reply) → AreKinds here kinds reply → (k : ℕ) (r : Reply) → Contains (filter_map hand_in kinds) (k, r) → (here ≡ k) × (reply ≡ Some r)
+pub kinds_hand : (here : ℕ) (kinds : List MarkKind) (reply : Option Reply) → AreKinds here kinds reply → (k : ℕ) (r : Reply) → Contains (filter_map hand_in kinds) (k, r) → (here ≡ k) × (reply ≡ Some r)
 kinds_hand here kinds reply placed_alone k r has = absurd (omega (arith, has.1))
 kinds_hand here kinds reply (handed_too given) k r (zero, less, is) = (ap (λ e. e.0) is, ap (λ e. Some e.1) is)
 kinds_hand here kinds reply (handed_too given) k r (suc n, less, is) = absurd (omega (arith, less))
 
 -- behind it the session doesn't drain
-kinds_phase : (here : ℕ) (kinds : List Kind) (reply : Option Reply) → AreKinds here kinds reply → (ph : Phase) → ph ≡ idle → fold after ph kinds ≡ draining → ⊥
+kinds_phase : (here : ℕ) (kinds : List MarkKind) (reply : Option Reply) → AreKinds here kinds reply → (ph : Phase) → ph ≡ idle → fold after ph kinds ≡ draining → ⊥
 kinds_phase here kinds reply placed_alone ph is e = let h : waits here ≡ draining = sym (ap (λ ph. after ph (places here)) is) ∙ e in cc
 kinds_phase here kinds reply (handed_too r) ph is e =
     let h : idle ≡ draining = sym (ap (λ ph. after (after ph (places here)) (hands here r)) is ∙ ap (λ b. cond b idle (waits here)) (eq-eqb here here refl)) ∙ e in cc
 
-kinds_go_on : (here : ℕ) (kinds : List Kind) (reply : Option Reply) → AreKinds here kinds reply → (ph : Phase) → ph ≡ idle → is_course_from ph kinds ≡ true
+kinds_go_on : (here : ℕ) (kinds : List MarkKind) (reply : Option Reply) → AreKinds here kinds reply → (ph : Phase) → ph ≡ idle → is_course_from ph kinds ≡ true
 kinds_go_on here kinds reply placed_alone ph is = ap (λ ph. is_course_from ph (places here ∷ [])) is
 kinds_go_on here kinds reply (handed_too r) ph is =
     ap (λ ph. is_course_from ph (places here ∷ hands here r ∷ [])) is ∙ and_from (here == here) true (eq-eqb here here refl) refl
 
-module _ {D : Type 0} (first now : Drive) (old : View D) (p : Placed) (reply : Option Reply) (added : List Event) (kinds : List Kind) where
+module _ {D : Type 0} (first now : Drive) (old : View D) (p : Placed) (reply : Option Reply) (added : List Event) (kinds : List MarkKind) where
   here : ℕ
   here = length old.history
 

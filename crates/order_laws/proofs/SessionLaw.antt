@@ -19,8 +19,8 @@ use Rattle.serving_promise.specs.Acks.{answers, synced_places, synced_ticket, sy
 use Rattle.serving_promise.specs.Marks.{after, draining, hand_in, idle, mark, phase, place_in, places_of, waits}
 use Rattle.serving_promise.specs.Served.{AreWaiting, Drive, IsOrderly, View, headed, is_waiting, placed_by}
 use Rattle.serving_promise.specs.Submits.{acks_for}
-use Rattle.serving_promise.specs.declared.marks.Kind.{Kind}
-use Rattle.serving_promise.specs.declared.marks.Kind.TheVariants.{Hands as hands}
+use Rattle.serving_promise.specs.declared.marks.MarkKind.{MarkKind}
+use Rattle.serving_promise.specs.declared.marks.MarkKind.TheVariants.{Hands as hands}
 use Rattle.order_laws.specs.Kept.{IsKeptOrder, is_rising, owed}
 use Rattle.order_laws.specs.Phases.{goes_on, is_course_from}
 use Rattle.order_laws.proofs.Acked.{acks_more, commands_more, reached_more}
@@ -48,7 +48,7 @@ drains_is who = record { stepless = refl; begins_none = refl; answers_none = ref
 pub rests_is : (who : ℕ) → IsOfDrain (Rests who)
 rests_is who = record { stepless = refl; begins_none = refl; answers_none = refl; waits = λ st k. refl; syncs = λ st. refl; requests = λ st. refl }
 
-module _ {D : Type 0} (first now : Drive) (v : View D) (who : ℕ) (e : Event) (kind : Kind) where
+module _ {D : Type 0} (first now : Drive) (v : View D) (who : ℕ) (e : Event) (kind : MarkKind) where
   -- what is shown of it
   pub record CanDrain : Type 0 where
     pub kept : IsKeptOrder first now v

@@ -24,8 +24,8 @@ use Rattle.serving_promise.specs.Cached.{IsCache}
 use Rattle.serving_promise.proofs.CacheLaws.{submits_stay}
 use Rattle.space_laws.specs.Standing.{standing}
 use Rattle.serving_promise.specs.declared.answers.Submitted.TheVariants as submitted
-use Rattle.serving_promise.specs.declared.marks.Kind.{Kind}
-use Rattle.serving_promise.specs.declared.marks.Kind.TheVariants.{Places as places, Hands as hands, Begins as begins}
+use Rattle.serving_promise.specs.declared.marks.MarkKind.{MarkKind}
+use Rattle.serving_promise.specs.declared.marks.MarkKind.TheVariants.{Places as places, Hands as hands, Begins as begins}
 use Rattle.order_laws.specs.Kept.{owed, seen}
 use Rattle.order_laws.specs.Laws.{IsInOrder, SubmissionsKeepOrder}
 use Rattle.order_laws.specs.Phases.{goes_on}
@@ -42,7 +42,7 @@ stand_by old new added follows events = follows.standing ∙ ap (λ l. ops (afte
 
 -- ---- a placement
 
-places_one : {D : Type 0} (drive : Ghosts D) (old new : View D) (who nth : ℕ) (fate : Fate) (reply : Option Reply) (added : List Event) (kinds : List Kind)
+places_one : {D : Type 0} (drive : Ghosts D) (old new : View D) (who nth : ℕ) (fate : Fate) (reply : Option Reply) (added : List Event) (kinds : List MarkKind)
     → IsInOrder drive old → CanSubmit old who nth → new.fixed ≡ old.fixed → new.drive ≡ old.drive → new.kept ≡ old.kept → Places old new who nth fate reply → Adds (seen drive new.drive) old new added
     → IsOfFate fate (length old.history) old.events (call_of old who nth) added → new.marks ≡ old.marks ++ map (mark who) kinds → AreKinds (length old.history) kinds reply
     → (reply ≡ None → fate ≡ fates.Done) → HasOneMoment old → MayFollow old new added → is_waiting (after_all new.events) (length old.history) ≡ not (is_some reply) → told reply ≡ None

@@ -20,8 +20,8 @@ use Rattle.serving_promise.specs.Served.{IsOrderly}
 use Rattle.order_laws.specs.Phases.{is_course}
 use Rattle.session_script.specs.declared.scripts.ScriptLine.{ScriptLine}
 use Rattle.serving_promise.specs.Marks.{after, draining, hand_in, idle, mark, place_in}
-use Rattle.serving_promise.specs.declared.marks.Kind.{Kind}
-use Rattle.serving_promise.specs.declared.marks.Kind.TheVariants.{Places as places, Hands as hands, Begins as begins, Rests as rests}
+use Rattle.serving_promise.specs.declared.marks.MarkKind.{MarkKind}
+use Rattle.serving_promise.specs.declared.marks.MarkKind.TheVariants.{Places as places, Hands as hands, Begins as begins, Rests as rests}
 use Rattle.serving_promise.specs.declared.marks.Mark.{Mark}
 use Rattle.serving_promise.specs.Served.{View}
 use Rattle.serving_promise.specs.Steps.{IsDrained}
@@ -155,7 +155,7 @@ never_drains true e = cc
 never_drains false e = cc
 
 -- the kinds of two marks
-kinds_of_two : Bool → List Kind
+kinds_of_two : Bool → List MarkKind
 kinds_of_two b = map (λ (m : Mark). m.kind) (cond b (mark 1 (places 0) ∷ cond b (mark 1 (hands 0 done) ∷ []) []) (cond b (mark 1 (hands 0 done) ∷ []) []))
 
 two_place : (b : Bool) → filter_map place_in (kinds_of_two b) ≡ cons_option (cond b (Some 0) None) []

@@ -27,7 +27,7 @@ use Rattle.serving_promise.specs.declared.answers.Drained.{Drained}
 use Rattle.serving_promise.specs.declared.answers.Drained.TheVariants as drained
 use Rattle.serving_promise.specs.declared.answers.Turn.{Turn}
 use Rattle.serving_promise.specs.declared.answers.Turn.TheVariants as turns
-use Rattle.serving_promise.specs.declared.marks.Kind.TheVariants.{Places as places, Hands as hands, Rests as rests}
+use Rattle.serving_promise.specs.declared.marks.MarkKind.TheVariants.{Places as places, Hands as hands, Rests as rests}
 use Rattle.order_laws.specs.Kept.{IsKeptOrder, seen}
 use Rattle.order_laws.specs.Laws.{DrainTurnsKeepOrder, IsInOrder, TurnsKeepOrder}
 use Rattle.order_laws.specs.Phases.{goes_on}

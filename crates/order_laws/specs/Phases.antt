@@ -9,16 +9,16 @@ use Rattle.serving_promise.specs.Faults.{kept_for}
 use Rattle.serving_promise.specs.Marks.{NothingWaits, Phase, after, draining, hands_of, idle, kinds_of, phase, places_of}
 use Rattle.serving_promise.specs.Marks.{waits}
 use Rattle.serving_promise.specs.Served.{View}
-use Rattle.serving_promise.specs.declared.marks.Kind.{Kind}
-use Rattle.serving_promise.specs.declared.marks.Kind.TheVariants.{Places as places, Hands as hands, Begins as begins}
-use Rattle.serving_promise.specs.declared.marks.Kind.TheVariants.{Rests as rests}
+use Rattle.serving_promise.specs.declared.marks.MarkKind.{MarkKind}
+use Rattle.serving_promise.specs.declared.marks.MarkKind.TheVariants.{Places as places, Hands as hands, Begins as begins}
+use Rattle.serving_promise.specs.declared.marks.MarkKind.TheVariants.{Rests as rests}
 use Rattle.serving_promise.specs.declared.marks.Mark.{Mark}
 
 -- ---- the marks that calls make
 
 -- which mark may come in a phase: an idle session places a call or begins to drain, one that waits is handed the reply
 -- of its place, and one that drains rests or places its write
-abbrev pub goes_on : Phase → Kind → Bool
+abbrev pub goes_on : Phase → MarkKind → Bool
 goes_on idle (places q) = true
 goes_on idle begins = true
 goes_on (waits p) (hands q reply) = p == q
@@ -26,10 +26,10 @@ goes_on draining (places q) = true
 goes_on draining rests = true
 goes_on ph kind = false
 
-abbrev pub is_course_from : Phase → List Kind → Bool
+abbrev pub is_course_from : Phase → List MarkKind → Bool
 is_course_from ph kinds = list_all (λ may. may) (scan after goes_on ph kinds)
 
-abbrev pub is_course : List Kind → Bool
+abbrev pub is_course : List MarkKind → Bool
 is_course kinds = is_course_from idle kinds
 
 -- ---- phases in plain words
@@ -40,15 +40,15 @@ pub record IsPending (who place : ℕ) (marks : List Mark) : Type 0 where
   pub not_handed : (reply : Reply) → Contains (hands_of who marks) (place, reply) → ⊥
 
 -- with this mark a drain is over
-abbrev pub ends_drain : Kind → Bool
+abbrev pub ends_drain : MarkKind → Bool
 ends_drain (places p) = true
 ends_drain rests = true
 ends_drain _ = false
 
 -- a drain of the session has begun, and since then it neither rested nor placed a call
 pub record IsInDrain (who : ℕ) (marks : List Mark) : Type 0 where
-  pub before : List Kind
-  pub since : List Kind
+  pub before : List MarkKind
+  pub since : List MarkKind
   pub marks_are : kinds_of who marks ≡ before ++ begins ∷ since
   pub goes_on_still : list_any ends_drain since ≡ false
 

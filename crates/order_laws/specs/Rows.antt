@@ -17,10 +17,10 @@ use Rattle.order_laws.specs.Kept.{IsKeptOrder}
 use Rattle.serving_promise.specs.Trials.{done, placed, write}
 use Rattle.serving_promise.specs.Turning.{before_flush, drive_at, holding, view}
 use Rattle.serving_promise.specs.Marks.{mark}
-use Rattle.serving_promise.specs.declared.marks.Kind.{Kind}
+use Rattle.serving_promise.specs.declared.marks.MarkKind.{MarkKind}
 use Rattle.serving_promise.specs.declared.marks.Mark.{Mark}
-use Rattle.serving_promise.specs.declared.marks.Kind.TheVariants.{Places as places, Hands as hands, Begins as begins}
-use Rattle.serving_promise.specs.declared.marks.Kind.TheVariants.{Rests as rests}
+use Rattle.serving_promise.specs.declared.marks.MarkKind.TheVariants.{Places as places, Hands as hands, Begins as begins}
+use Rattle.serving_promise.specs.declared.marks.MarkKind.TheVariants.{Rests as rests}
 
 -- the flush of a sync is done, and the sync answered
 abbrev pub flushed : List Event
@@ -46,16 +46,16 @@ abbrev pub at_once : List Event
 at_once = Syncs 0 ∷ Synced 0 ∷ []
 
 -- the marks of a session that writes, has its reply, and drains, and three that no calls make
-abbrev pub a_course : List Kind
+abbrev pub a_course : List MarkKind
 a_course = places 0 ∷ hands 0 done ∷ begins ∷ rests ∷ places 1 ∷ []
 
-abbrev pub hand_of_another : List Kind
+abbrev pub hand_of_another : List MarkKind
 hand_of_another = places 0 ∷ hands 1 done ∷ []
 
-abbrev pub two_at_once : List Kind
+abbrev pub two_at_once : List MarkKind
 two_at_once = places 0 ∷ places 1 ∷ []
 
-abbrev pub drains_and_waits : List Kind
+abbrev pub drains_and_waits : List MarkKind
 drains_and_waits = places 0 ∷ begins ∷ []
 
 -- what is promised of a volume over a drive after 30 commands, and what is kept of it

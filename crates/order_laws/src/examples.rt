@@ -4,8 +4,8 @@ ghost use Rattle.session_script.specs.declared.logs.Event.TheVariants.{Drains, R
 ghost use Rattle.plain_tree.specs.declared.calls.Fate.TheVariants as fates;
 ghost use Rattle.tape_layout.specs.declared.ops.Op.TheVariants.{Flush};
 ghost use Rattle.serving_promise.specs.Marks.{mark};
-ghost use Rattle.serving_promise.specs.declared.marks.Kind.TheVariants.{Places as places, Hands as hands};
-ghost use Rattle.serving_promise.specs.declared.marks.Kind.TheVariants.{Begins as begins, Rests as rests};
+ghost use Rattle.serving_promise.specs.declared.marks.MarkKind.TheVariants.{Places as places, Hands as hands};
+ghost use Rattle.serving_promise.specs.declared.marks.MarkKind.TheVariants.{Begins as begins, Rests as rests};
 ghost use Rattle.event_laws.specs.Rows.{dp, queues, twin};
 ghost use Rattle.event_laws.specs.Trail.{after_all};
 ghost use Rattle.serving_promise.specs.Served.{IsOrderly, View};

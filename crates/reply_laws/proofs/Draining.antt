@@ -18,8 +18,8 @@ use Rattle.serving_promise.specs.declared.answers.Submitted.{Submitted}
 use Rattle.serving_promise.specs.declared.answers.Submitted.TheVariants as submitted
 use Rattle.serving_promise.specs.declared.answers.Turn.{Turn}
 use Rattle.serving_promise.specs.declared.answers.Turn.TheVariants as turns
-use Rattle.serving_promise.specs.declared.marks.Kind.{Kind}
-use Rattle.serving_promise.specs.declared.marks.Kind.TheVariants.{Places as places, Hands as hands, Begins as begins, Rests as rests}
+use Rattle.serving_promise.specs.declared.marks.MarkKind.{MarkKind}
+use Rattle.serving_promise.specs.declared.marks.MarkKind.TheVariants.{Places as places, Hands as hands, Begins as begins, Rests as rests}
 use Rattle.serving_promise.specs.declared.marks.Mark.{Mark}
 use Rattle.reply_laws.specs.Draining.{DrainsForWrites, DrainsStayForWrites}
 use Rattle.reply_laws.proofs.Blocks.{number_is, number_itself}
@@ -34,12 +34,12 @@ kept_first p x xs is = rw is refl
 left_first : {X : Type 0} (p : X → Bool) (x : X) (xs : List X) → p x ≡ false → filter p (x ∷ xs) ≡ filter p xs
 left_first p x xs is = rw is refl
 
-kinds_own : (who : ℕ) (kinds : List Kind) → kinds_of who (map (mark who) kinds) ≡ kinds
+kinds_own : (who : ℕ) (kinds : List MarkKind) → kinds_of who (map (mark who) kinds) ≡ kinds
 kinds_own who [] = refl
 kinds_own who (k ∷ ks) =
     ap (map (λ (m : Mark). m.kind)) (kept_first (λ (m : Mark). m.who == who) (mark who k) (map (mark who) ks) (number_itself who)) ∙ ap (λ more. k ∷ more) (kinds_own who ks)
 
-kinds_other : (who other : ℕ) (kinds : List Kind) → (who == other) ≡ false → kinds_of other (map (mark who) kinds) ≡ []
+kinds_other : (who other : ℕ) (kinds : List MarkKind) → (who == other) ≡ false → kinds_of other (map (mark who) kinds) ≡ []
 kinds_other who other [] differ = refl
 kinds_other who other (k ∷ ks) differ =
     ap (map (λ (m : Mark). m.kind)) (left_first (λ (m : Mark). m.who == other) (mark who k) (map (mark who) ks) differ) ∙ kinds_other who other ks differ
@@ -58,11 +58,11 @@ places_append who before added = ap (filter_map place_in) (kinds_append who befo
 -- ---- a call that marks for one session
 
 -- where that session drains once it is made, it has placed nothing, and was to write
-record StillDrains {D : Type 0} (old : View D) (who : ℕ) (kinds : List Kind) : Type 0 where
+record StillDrains {D : Type 0} (old : View D) (who : ℕ) (kinds : List MarkKind) : Type 0 where
   no_place : filter_map place_in kinds ≡ []
   writes : is_write_at (call_of old who (length (places_of who old.marks))) ≡ true
 
-module _ {D : Type 0} (old new : View D) (who : ℕ) (kinds : List Kind) (fixed : new.fixed ≡ old.fixed) (marks : new.marks ≡ old.marks ++ map (mark who) kinds)
+module _ {D : Type 0} (old new : View D) (who : ℕ) (kinds : List MarkKind) (fixed : new.fixed ≡ old.fixed) (marks : new.marks ≡ old.marks ++ map (mark who) kinds)
     (still : fold after (phase who old.marks) kinds ≡ draining → StillDrains old who kinds) (are : DrainsForWrites old) where
   moved : (w : ℕ) → is_write_at (slice_get (calls_of old.fixed.script w) (length (places_of w (old.marks ++ map (mark who) kinds)))) ≡ true → is_write_at (call_of new w (length (places_of w new.marks))) ≡ true
   moved w is =
@@ -109,7 +109,7 @@ idle_never : {P : Type 0} → idle ≡ draining → P
 idle_never e = absurd (cc)
 
 -- what kinds leave of a phase that is known
-from : (before known : Phase) (kinds : List Kind) → before ≡ known → fold after before kinds ≡ draining → fold after known kinds ≡ draining
+from : (before known : Phase) (kinds : List MarkKind) → before ≡ known → fold after before kinds ≡ draining → fold after known kinds ≡ draining
 from before known kinds is drains = ap (λ p. fold after p kinds) (sym is) ∙ drains
 
 put_off_writes : {D : Type 0} (v : View D) (call : Option Call) → is_put_off v call ≡ true → is_write_at call ≡ true

@@ -11,7 +11,7 @@ use Rattle.tape_drive.specs.Memory.{View}
 use Rattle.tape_drive.specs.Record.{LeftSince}
 use Rattle.tape_drive.specs.Since.{GaveSince}
 use Rattle.tape_drive.specs.declared.crash.Cut.{Cut}
-use Rattle.tape_drive.specs.declared.record.Entry.{Entry}
+use Rattle.tape_drive.specs.declared.record.DoneCommand.{DoneCommand}
 use Rattle.tape_drive.proofs.Exact.{gave_left, image_left}
 use Rattle.tape_drive.proofs.Since.{since_gave}
 use Rattle.cartridge_meaning.specs.Carried.{Carried}
@@ -71,7 +71,7 @@ run_survives now left script at first log facts tree generation run ready =
 
 -- ---- a new drive
 
-no_entry : (newer older : List Entry) (e : Entry) → [] ≡ newer ++ e ∷ older → ⊥
+no_entry : (newer older : List DoneCommand) (e : DoneCommand) → [] ≡ newer ++ e ∷ older → ⊥
 no_entry [] older e is = cc
 no_entry (n ∷ newer) older e is = cc
 

@@ -14,7 +14,7 @@ use Rattle.serving_promise.specs.Submits.{acks_for}
 use Rattle.serving_promise.specs.Faults.{AreRises, told_at, told_to}
 use Rattle.serving_promise.specs.Headline.{Closed, end_text, queued_before_flush}
 use Rattle.serving_promise.specs.Marks.{phase, idle, waits, marks_of_submit, mark, places_of}
-use Rattle.serving_promise.specs.declared.marks.Kind.TheVariants.{Places as places}
+use Rattle.serving_promise.specs.declared.marks.MarkKind.TheVariants.{Places as places}
 use Rattle.serving_promise.specs.Served.{placed_by}
 use Rattle.serving_promise.specs.Trials.{ack, done, four_done, sync_replies, fault_replies, fault_of_another, sync_marks, drain_marks, log_of, placed, fault, calls_of_one, read, write}
 use Rattle.plain_tree.specs.declared.calls.Call.TheVariants.{Sync}

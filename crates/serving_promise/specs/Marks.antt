@@ -2,9 +2,9 @@
 use Rattle.std.specs.Prelude.{◌≡◌, ℕ, ◌==◌, cond, List, [], ◌∷◌, map, filter, fold, filter_map, Option, Some, None, ◌≤◌}
 use Rattle.session_script.specs.declared.logs.Reply.{Reply}
 use Rattle.session_script.specs.declared.logs.Reply.TheVariants as replies
-use Rattle.serving_promise.specs.declared.marks.Kind.{Kind}
-use Rattle.serving_promise.specs.declared.marks.Kind.TheVariants.{Places as places, Hands as hands, Begins as begins}
-use Rattle.serving_promise.specs.declared.marks.Kind.TheVariants.{Rests as rests}
+use Rattle.serving_promise.specs.declared.marks.MarkKind.{MarkKind}
+use Rattle.serving_promise.specs.declared.marks.MarkKind.TheVariants.{Places as places, Hands as hands, Begins as begins}
+use Rattle.serving_promise.specs.declared.marks.MarkKind.TheVariants.{Rests as rests}
 use Rattle.serving_promise.specs.declared.marks.Mark.{Mark}
 use Rattle.serving_promise.specs.declared.answers.Submitted.{Submitted}
 use Rattle.serving_promise.specs.declared.answers.Submitted.TheVariants as submitted
@@ -23,7 +23,7 @@ pub data Phase : Type 0 where
 
 -- it waits for a place from its placement until the reply is handed out, and drains from the begin of a drain until
 -- it rests or places
-abbrev pub after : Phase → Kind → Phase
+abbrev pub after : Phase → MarkKind → Phase
 after (waits p) (places q) = waits p
 after (waits p) (hands q reply) = cond (p == q) idle (waits p)
 after (waits p) begins = waits p
@@ -38,13 +38,13 @@ after draining begins = draining
 after draining rests = idle
 
 -- the kinds of a session's marks, in order
-abbrev pub kinds_of : ℕ → List Mark → List Kind
+abbrev pub kinds_of : ℕ → List Mark → List MarkKind
 kinds_of who marks = map (λ m. m.kind) (filter (λ m. m.who == who) marks)
 
 abbrev pub phase : ℕ → List Mark → Phase
 phase who marks = fold after idle (kinds_of who marks)
 
-abbrev pub place_in : Kind → Option ℕ
+abbrev pub place_in : MarkKind → Option ℕ
 place_in (places p) = Some p
 place_in _ = None
 
@@ -52,7 +52,7 @@ place_in _ = None
 abbrev pub places_of : ℕ → List Mark → List ℕ
 places_of who marks = filter_map place_in (kinds_of who marks)
 
-abbrev pub hand_in : Kind → Option (ℕ × Reply)
+abbrev pub hand_in : MarkKind → Option (ℕ × Reply)
 hand_in (hands p reply) = Some (p, reply)
 hand_in _ = None
 
@@ -66,7 +66,7 @@ NothingWaits sessions marks = (who : ℕ) → 1 ≤ who → who ≤ sessions →
 
 -- ---- what each call appends
 
-abbrev pub mark : ℕ → Kind → Mark
+abbrev pub mark : ℕ → MarkKind → Mark
 mark who kind = record { who = who; kind = kind }
 
 -- a placement here, and at once its reply

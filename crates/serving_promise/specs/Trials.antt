@@ -29,8 +29,8 @@ use Rattle.tape_types.specs.declared.cartridges.Cartridge.{Cartridge}
 use Rattle.tape_types.specs.declared.cartridges.Note.TheVariants.{Absent}
 use Rattle.serving_promise.specs.Crash.{Meaning, Leavings}
 use Rattle.serving_promise.specs.Marks.{mark}
-use Rattle.serving_promise.specs.declared.marks.Kind.TheVariants.{Places as places, Hands as hands, Begins as begins}
-use Rattle.serving_promise.specs.declared.marks.Kind.TheVariants.{Rests as rests}
+use Rattle.serving_promise.specs.declared.marks.MarkKind.TheVariants.{Places as places, Hands as hands, Begins as begins}
+use Rattle.serving_promise.specs.declared.marks.MarkKind.TheVariants.{Rests as rests}
 use Rattle.serving_promise.specs.declared.marks.Mark.{Mark}
 use Rattle.serving_promise.specs.Replies.{Facts}
 

@@ -13,8 +13,8 @@ use Rattle.session_script.specs.declared.logs.Reply.{Reply}
 use Rattle.session_script.specs.declared.scripts.ScriptLine.{ScriptLine}
 use Rattle.event_laws.specs.Rows.{dp, queues, twin, works}
 use Rattle.serving_promise.specs.Marks.{mark}
-use Rattle.serving_promise.specs.declared.marks.Kind.TheVariants.{Places as places, Hands as hands, Begins as begins}
-use Rattle.serving_promise.specs.declared.marks.Kind.TheVariants.{Rests as rests}
+use Rattle.serving_promise.specs.declared.marks.MarkKind.TheVariants.{Places as places, Hands as hands, Begins as begins}
+use Rattle.serving_promise.specs.declared.marks.MarkKind.TheVariants.{Rests as rests}
 use Rattle.serving_promise.specs.declared.marks.Mark.{Mark}
 use Rattle.serving_promise.specs.Served.{Drive, View}
 use Rattle.serving_promise.specs.Trials.{ack, cartridge, mounted, done, fault, placed, synced, with_a, write}

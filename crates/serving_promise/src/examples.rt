@@ -34,7 +34,7 @@ ghost use Rattle.serving_promise.specs.Submits.{acks_for, Submits};
 ghost use Rattle.serving_promise.specs.Faults.{AreRises, told_at, told_to};
 ghost use Rattle.serving_promise.specs.Headline.{Closed, end_text, queued_before_flush};
 ghost use Rattle.serving_promise.specs.Marks.{phase, idle, waits, marks_of_submit, mark, places_of};
-ghost use Rattle.serving_promise.specs.declared.marks.Kind.TheVariants.{Places as places};
+ghost use Rattle.serving_promise.specs.declared.marks.MarkKind.TheVariants.{Places as places};
 ghost use Rattle.tape_layout.specs.Ops.{is_flush, place_of};
 ghost use Rattle.serving_promise.specs.Served.{AreStanding, placed_by, Fixed, IsServed};
 ghost use Rattle.serving_promise.specs.declared.answers.Submitted.TheVariants as submitted;

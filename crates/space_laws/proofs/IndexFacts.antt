@@ -5,7 +5,7 @@ use Rattle.tape_types.specs.declared.moments.Moment.{Moment}
 use Rattle.tape_types.specs.declared.moments.Times.{Times}
 use Rattle.index_model.specs.Archive.{archive, archive_nodes, bin, hello, hi, keyed, node, note}
 use Rattle.index_model.specs.Values.{IndexValue, directory, facts_of, file, link, no_nodes, all_nodes, value_of as node_value}
-use Rattle.index_model.specs.declared.nodes.Kind.TheVariants as kinds
+use Rattle.index_model.specs.declared.nodes.NodeKind.TheVariants as kinds
 use Rattle.space_laws.specs.Files.{value_of}
 
 pub archive_nests : (at : Moment) (times : Times) → option_map (λ (v : IndexValue). v.inside) (value_of (archive at times))

@@ -10,8 +10,8 @@ use Rattle.std.proofs.lemmas.List.Elements.{filter-append}
 use Rattle.index_model.specs.Canonical.{canonical}
 use Rattle.index_model.specs.Values.{IndexValue, NodeFacts, NodeValue, Nodes, Tells, all_nodes, count, directory, facts_of, file, link, listed, no_nodes, value_in, value_of as node_value, volume_of}
 use Rattle.index_model.specs.declared.indexes.Index.{Index}
-use Rattle.index_model.specs.declared.nodes.Kind.{Kind}
-use Rattle.index_model.specs.declared.nodes.Kind.TheVariants as kinds
+use Rattle.index_model.specs.declared.nodes.NodeKind.{NodeKind}
+use Rattle.index_model.specs.declared.nodes.NodeKind.TheVariants as kinds
 use Rattle.index_model.specs.declared.nodes.Node.{Node}
 use Rattle.index_model.specs.declared.nodes.RawExtent.{RawExtent}
 use Rattle.space_laws.specs.Laws.{ValuesAreTold}
@@ -40,10 +40,10 @@ is_in parent e = e.1.parent == parent && nat_lt 0 e.0
 
 -- ---- which of them stand in a directory
 
-yes : (parent at : ℕ) (facts : NodeFacts) (kind : Kind) → parent < at → is_in parent (at, value_in parent facts kind) ≡ true
+yes : (parent at : ℕ) (facts : NodeFacts) (kind : NodeKind) → parent < at → is_in parent (at, value_in parent facts kind) ≡ true
 yes parent at facts kind less = grind (arith, nat_tests)
 
-never : (parent other at : ℕ) (facts : NodeFacts) (kind : Kind) → parent ≢ other → is_in other (at, value_in parent facts kind) ≡ false
+never : (parent other at : ℕ) (facts : NodeFacts) (kind : NodeKind) → parent ≢ other → is_in other (at, value_in parent facts kind) ≡ false
 never parent other at facts kind differ = ap (λ b. b && nat_lt 0 at) (ne_eqb parent other differ)
 
 keep : (d : ℕ) (e : Entry) (es more : List Entry) → is_in d e ≡ true → filter (is_in d) es ≡ more → filter (is_in d) (e ∷ es) ≡ e ∷ more
@@ -159,7 +159,7 @@ has_own (link facts text behind) all parent at less part =
 
 -- ---- gathered again
 
-abbrev followed_value : NodeFacts → Kind → (inside behind : Nodes) → Nodes
+abbrev followed_value : NodeFacts → NodeKind → (inside behind : Nodes) → Nodes
 followed_value facts kinds.Dir inside behind = directory facts inside behind
 followed_value facts (kinds.File size extents) inside behind = file facts size extents behind
 followed_value facts (kinds.Link text) inside behind = link facts text behind
@@ -209,7 +209,7 @@ filter_valued parent [] = refl
 filter_valued parent (e ∷ es) =
     pick_valued (e.1.parent == parent && nat_lt 0 e.0) e (filter (λ e. e.1.parent == parent && nat_lt 0 e.0) es) (filter (is_in parent) (valued es)) (filter_valued parent es)
 
-same_followed : (node : Node) (kind : Kind) (inside behind : Nodes) → followed node kind inside behind ≡ followed_value (facts_of node) kind inside behind
+same_followed : (node : Node) (kind : NodeKind) (inside behind : Nodes) → followed node kind inside behind ≡ followed_value (facts_of node) kind inside behind
 same_followed node kinds.Dir inside behind = refl
 same_followed node (kinds.File size extents) inside behind = refl
 same_followed node (kinds.Link text) inside behind = refl

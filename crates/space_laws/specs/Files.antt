@@ -19,8 +19,8 @@ use Rattle.index_model.specs.Canonical.{canonical}
 use Rattle.index_model.specs.Values.{IndexValue, Nodes, no_nodes, directory, file, link, facts_of, volume_of}
 use Rattle.index_model.specs.declared.indexes.Index.{Index}
 use Rattle.index_model.specs.declared.nodes.Node.{Node}
-use Rattle.index_model.specs.declared.nodes.Kind.{Kind}
-use Rattle.index_model.specs.declared.nodes.Kind.TheVariants as kinds
+use Rattle.index_model.specs.declared.nodes.NodeKind.{NodeKind}
+use Rattle.index_model.specs.declared.nodes.NodeKind.TheVariants as kinds
 use Rattle.space_laws.specs.Mount.{MountFacts}
 
 -- how the file of each uid lies
@@ -30,7 +30,7 @@ Files = ℕ → Laid
 abbrev pub letters : MountFacts → Letters
 letters m = (m.label.index, m.label.dpart)
 
-abbrev pub laid_node : MountFacts → Kind → Laid
+abbrev pub laid_node : MountFacts → NodeKind → Laid
 laid_node m (kinds.File size extents) = laid_of (letters m) m.label.block size extents
 laid_node m _ = laid_of (letters m) m.label.block 0 []
 
@@ -49,7 +49,7 @@ with_file uid change files n = cond (n == uid) (change (files n)) (files n)
 -- ---- the index
 
 -- what an index tells of what a node is
-abbrev pub told_kind : Letters → Laid → plain_kind.Kind → Kind
+abbrev pub told_kind : Letters → Laid → plain_kind.Kind → NodeKind
 told_kind both laid plain_kinds.Dir = kinds.Dir
 told_kind both laid (plain_kinds.File cells) = kinds.File (length cells) (map (raw_of both) laid.extents)
 told_kind both laid (plain_kinds.Link text) = kinds.Link text
@@ -94,7 +94,7 @@ index_at m tree files generation at part pos back = record {
 -- ---- its text
 
 -- a node, with what stands in it where it is a directory, and the nodes behind it
-abbrev pub followed : Node → Kind → (inside behind : Nodes) → Nodes
+abbrev pub followed : Node → NodeKind → (inside behind : Nodes) → Nodes
 followed node kinds.Dir inside behind = directory (facts_of node) inside behind
 followed node (kinds.File size extents) inside behind = file (facts_of node) size extents behind
 followed node (kinds.Link text) inside behind = link (facts_of node) text behind

@@ -34,7 +34,7 @@ use Rattle.serving_promise.specs.Marks.{mark, placed_and_handed}
 use Rattle.serving_promise.specs.Replies.{may_wait}
 use Rattle.serving_promise.specs.Submits.{blocks_in, queues_at, stored_at, synced_at}
 use Rattle.serving_promise.specs.declared.marks.Mark.{Mark}
-use Rattle.serving_promise.specs.declared.marks.Kind.TheVariants as kinds
+use Rattle.serving_promise.specs.declared.marks.MarkKind.TheVariants as kinds
 use Rattle.block_cache.specs.Kept.{Kept, is_cached, used_all}
 use Rattle.held_volume.specs.Applied.{IsDone, IsFull, IsUnchanged}
 use Rattle.held_volume.specs.Stocks.{IsStock, Stocked}

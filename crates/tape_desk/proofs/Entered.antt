@@ -9,7 +9,7 @@ use Rattle.turn_lock.specs.Histories.{AddsOwn, own_entries}
 use Rattle.turn_lock.specs.Sums.{times}
 use Rattle.turn_lock.proofs.Callers.{adds_more}
 use Rattle.serving_promise.specs.Marks.{after, hand_in, hands_of, idle, kinds_of, mark, phase, place_in, places_of}
-use Rattle.serving_promise.specs.declared.marks.Kind.{Kind}
+use Rattle.serving_promise.specs.declared.marks.MarkKind.{MarkKind}
 use Rattle.serving_promise.specs.declared.marks.Mark.{Mark}
 use Rattle.order_laws.proofs.Marked.{kinds_more as marks_more}
 
@@ -33,31 +33,31 @@ same_kinds who numbers before whole own same = own_kinds who whole
 
 -- ---- marks that a session adds
 
-pub kinds_more : (who : ℕ) (old new : List Mark) (kinds : List Kind) → new ≡ old ++ map (mark who) kinds
+pub kinds_more : (who : ℕ) (old new : List Mark) (kinds : List MarkKind) → new ≡ old ++ map (mark who) kinds
     → kinds_of who new ≡ kinds_of who old ++ kinds
 kinds_more who old new kinds more =
     ap (kinds_of who) more
     ∙ marks_more who who old kinds
     ∙ ap (λ b. kinds_of who old ++ cond b kinds []) (eq-eqb who who refl)
 
-all_own : (who : ℕ) (kinds : List Kind) → All (λ (m : Mark). m.who ≡ who) (map (mark who) kinds)
+all_own : (who : ℕ) (kinds : List MarkKind) → All (λ (m : Mark). m.who ≡ who) (map (mark who) kinds)
 all_own who [] = All-nil (λ (m : Mark). m.who ≡ who)
 all_own who (kind ∷ kinds) = All-cons (λ (m : Mark). m.who ≡ who) (mark who kind) (map (mark who) kinds) refl (all_own who kinds)
 
-pub own_more : (who : ℕ) (numbers : List ℕ) (old new : List Mark) (kinds : List Kind) → numbers ≡ who ∷ []
+pub own_more : (who : ℕ) (numbers : List ℕ) (old new : List Mark) (kinds : List MarkKind) → numbers ≡ who ∷ []
     → new ≡ old ++ map (mark who) kinds → AddsOwn (λ (m : Mark). m.who) numbers old new
 own_more who numbers old new kinds own more = adds_more (λ (m : Mark). m.who) who numbers old new (map (mark who) kinds) own more (all_own who kinds)
 
 -- ---- what kinds say
 
-pub phase_then : (who : ℕ) (old new : List Mark) (kinds : List Kind) → kinds_of who new ≡ kinds_of who old ++ kinds
+pub phase_then : (who : ℕ) (old new : List Mark) (kinds : List MarkKind) → kinds_of who new ≡ kinds_of who old ++ kinds
     → phase who new ≡ fold after (phase who old) kinds
 phase_then who old new kinds more = ap (fold after idle) more ∙ fold-append after idle (kinds_of who old) kinds
 
-pub places_then : (who : ℕ) (old new : List Mark) (kinds : List Kind) → kinds_of who new ≡ kinds_of who old ++ kinds
+pub places_then : (who : ℕ) (old new : List Mark) (kinds : List MarkKind) → kinds_of who new ≡ kinds_of who old ++ kinds
     → places_of who new ≡ places_of who old ++ filter_map place_in kinds
 places_then who old new kinds more = ap (filter_map place_in) more ∙ filter_map-append place_in (kinds_of who old) kinds
 
-pub hands_then : (who : ℕ) (old new : List Mark) (kinds : List Kind) → kinds_of who new ≡ kinds_of who old ++ kinds
+pub hands_then : (who : ℕ) (old new : List Mark) (kinds : List MarkKind) → kinds_of who new ≡ kinds_of who old ++ kinds
     → hands_of who new ≡ hands_of who old ++ filter_map hand_in kinds
 hands_then who old new kinds more = ap (filter_map hand_in) more ∙ filter_map-append hand_in (kinds_of who old) kinds

@@ -13,7 +13,7 @@ use Rattle.turn_lock.specs.Passes.{PassView, joined}
 use Rattle.tape_drive.specs.declared.drive.Drive.{Ghosts}
 use Rattle.serving_promise.specs.Marks.{NothingWaits, after, hand_in, hands_of, idle, kinds_of, phase}
 use Rattle.serving_promise.specs.Served.{Fixed, View}
-use Rattle.serving_promise.specs.declared.marks.Kind.{Kind}
+use Rattle.serving_promise.specs.declared.marks.MarkKind.{MarkKind}
 use Rattle.serving_promise.specs.declared.marks.Mark.{Mark}
 use Rattle.tape_desk.specs.Passes.{AreAll, ArePartsOf, DeskView, IsHeld, IsPartOf, IsRested, view_of}
 use Rattle.tape_desk.specs.Promised.{IsPromised}

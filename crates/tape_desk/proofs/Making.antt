@@ -9,8 +9,8 @@ use Rattle.session_script.specs.Sessions.{greatest_session}
 use Rattle.session_script.specs.declared.logs.Reply.{Reply}
 use Rattle.serving_promise.specs.Marks.{Phase, after, hand_in, hands_of, idle, kinds_of, phase, place_in, places_of, waits}
 use Rattle.serving_promise.specs.Served.{Fixed}
-use Rattle.serving_promise.specs.declared.marks.Kind.{Kind}
-use Rattle.serving_promise.specs.declared.marks.Kind.TheVariants.{Places as places, Hands as hands, Begins as begins, Rests as rests}
+use Rattle.serving_promise.specs.declared.marks.MarkKind.{MarkKind}
+use Rattle.serving_promise.specs.declared.marks.MarkKind.TheVariants.{Places as places, Hands as hands, Begins as begins, Rests as rests}
 use Rattle.serving_promise.specs.declared.marks.Mark.{Mark}
 use Rattle.tape_desk.specs.Passes.{DeskView, HasMore, IsHeld, view_of}
 use Rattle.tape_desk.specs.Turns.{GoesOn, IsMade, IsPutOff, Keeps, answered_at}
@@ -33,16 +33,16 @@ module _ {D : Type 0} where
     begins = (first.begins.0 ++ later.begins.0, sym (append_assoc a.seen first.begins.0 later.begins.0) ∙ ap (λ l. l ++ later.begins.0) first.begins.1 ∙ later.begins.1);
   }
 
-  pub goes_then : (who : ℕ) (xs ys : List Kind) (a b c : PassOf D) → GoesOn who xs a b → GoesOn who ys b c → GoesOn who (xs ++ ys) a c
+  pub goes_then : (who : ℕ) (xs ys : List MarkKind) (a b c : PassOf D) → GoesOn who xs a b → GoesOn who ys b c → GoesOn who (xs ++ ys) a c
   goes_then who xs ys a b c first later = record {
     keeps = keeps_then a b c first.keeps later.keeps;
     adds = later.adds ∙ ap (λ l. l ++ ys) first.adds ∙ append_assoc (kinds_of who a.seen) xs ys;
   }
 
-  pub of_session : (n who : ℕ) (kinds : List Kind) (a b : PassOf D) → n ≡ who → GoesOn n kinds a b → GoesOn who kinds a b
+  pub of_session : (n who : ℕ) (kinds : List MarkKind) (a b : PassOf D) → n ≡ who → GoesOn n kinds a b → GoesOn who kinds a b
   of_session n who kinds a b same goes = subst (λ (k : ℕ). GoesOn k kinds a b) same goes
 
-  pub phase_is : (who : ℕ) (kinds : List Kind) (a b : PassOf D) (before : Phase) → phase who a.seen ≡ before → GoesOn who kinds a b
+  pub phase_is : (who : ℕ) (kinds : List MarkKind) (a b : PassOf D) (before : Phase) → phase who a.seen ≡ before → GoesOn who kinds a b
       → phase who b.seen ≡ fold after before kinds
   phase_is who kinds a b before was goes = phase_then who a.seen b.seen kinds goes.adds ∙ ap (λ ph. fold after ph kinds) was
 
@@ -60,7 +60,7 @@ module _ {D : Type 0} where
 
   -- ---- a call that is made
 
-  made_by : (who here : ℕ) (reply : Reply) (kinds : List Kind) (a b c : PassOf D) → IsPutOff who a b → GoesOn who kinds b c
+  made_by : (who here : ℕ) (reply : Reply) (kinds : List MarkKind) (a b c : PassOf D) → IsPutOff who a b → GoesOn who kinds b c
       → filter_map place_in kinds ≡ here ∷ [] → filter_map hand_in kinds ≡ (here, reply) ∷ [] → fold after idle kinds ≡ idle
       → IsMade who reply a c
   made_by who here reply kinds a b c off goes place hand rest = record {

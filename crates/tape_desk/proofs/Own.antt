@@ -9,7 +9,7 @@ use Rattle.turn_lock.specs.Sums.{times}
 use Rattle.turn_lock.specs.Histories.{Sees, own_entries}
 use Rattle.turn_lock.proofs.Callers.{own_of_one}
 use Rattle.serving_promise.specs.Marks.{kinds_of}
-use Rattle.serving_promise.specs.declared.marks.Kind.{Kind}
+use Rattle.serving_promise.specs.declared.marks.MarkKind.{MarkKind}
 use Rattle.serving_promise.specs.declared.marks.Mark.{Mark}
 
 abbrev pub who_of : Mark → ℕ

@@ -7,7 +7,7 @@ use Rattle.session_script.specs.Grammar.{calls_of}
 use Rattle.serving_promise.specs.Marks.{Phase, after, idle, kinds_of, mark, phase, place_in}
 use Rattle.serving_promise.specs.Served.{Fixed, View}
 use Rattle.serving_promise.specs.Submits.{CanSubmit}
-use Rattle.serving_promise.specs.declared.marks.Kind.{Kind}
+use Rattle.serving_promise.specs.declared.marks.MarkKind.{MarkKind}
 use Rattle.serving_promise.specs.declared.marks.Mark.{Mark}
 use Rattle.tape_desk.specs.Turns.{CanPlace, GoesOn, IsOwn}
 use Rattle.tape_desk.proofs.Entered.{kinds_more, own_more, same_kinds}
@@ -35,7 +35,7 @@ module _ {D : Type 0} (who : ℕ) (p : PassView Mark (Fixed D)) (own : IsOwn who
   fixed_stays fixed told stays q inside = ap (λ (r : PassView Mark (Fixed D)). r.fixed) inside ∙ told
       ∙ ap (λ (f : Fixed D). Some f) (ap (λ (u : View D). u.fixed) (sym is) ∙ sym stays)
 
-  module _ (kinds : List Kind) (new : List Mark) (more : new ≡ v.marks ++ map (mark who) kinds) (q : PassView Mark (Fixed D))
+  module _ (kinds : List MarkKind) (new : List Mark) (more : new ≡ v.marks ++ map (mark who) kinds) (q : PassView Mark (Fixed D))
       (inside : q ≡ entered taken.marks p) where
     grown : new ≡ taken.marks ++ map (mark who) kinds
     grown = more ∙ ap (λ (u : View D). u.marks ++ map (mark who) kinds) is

@@ -12,33 +12,33 @@ use Rattle.serving_promise.specs.declared.answers.Submitted.{Submitted}
 use Rattle.serving_promise.specs.declared.answers.Submitted.TheVariants as submitted
 use Rattle.serving_promise.specs.declared.answers.Turn.{Turn}
 use Rattle.serving_promise.specs.declared.answers.Turn.TheVariants as turns
-use Rattle.serving_promise.specs.declared.marks.Kind.{Kind}
-use Rattle.serving_promise.specs.declared.marks.Kind.TheVariants.{Places as places, Hands as hands, Begins as begins}
-use Rattle.serving_promise.specs.declared.marks.Kind.TheVariants.{Rests as rests}
+use Rattle.serving_promise.specs.declared.marks.MarkKind.{MarkKind}
+use Rattle.serving_promise.specs.declared.marks.MarkKind.TheVariants.{Places as places, Hands as hands, Begins as begins}
+use Rattle.serving_promise.specs.declared.marks.MarkKind.TheVariants.{Rests as rests}
 use Rattle.serving_promise.specs.declared.marks.Mark.{Mark}
 
 -- ---- which marks a turn adds
 
 -- a placement here, and at once its reply
-abbrev pub answered_at : ℕ → Reply → List Kind
+abbrev pub answered_at : ℕ → Reply → List MarkKind
 answered_at here reply = places here ∷ hands here reply ∷ []
 
-abbrev pub kinds_of_submit : ℕ → Submitted → List Kind
+abbrev pub kinds_of_submit : ℕ → Submitted → List MarkKind
 kinds_of_submit here (submitted.Ready reply) = answered_at here reply
 kinds_of_submit here (submitted.Wait ticket) = places ticket ∷ []
 kinds_of_submit here submitted.Drain = begins ∷ []
 
-abbrev pub kinds_of_turn : ℕ → Turn → List Kind
+abbrev pub kinds_of_turn : ℕ → Turn → List MarkKind
 kinds_of_turn ticket (turns.Ready reply) = hands ticket reply ∷ []
 kinds_of_turn ticket turns.More = []
 
-abbrev pub kinds_of_drain : ℕ → Drained → List Kind
+abbrev pub kinds_of_drain : ℕ → Drained → List MarkKind
 kinds_of_drain here drained.Room = rests ∷ []
 kinds_of_drain here drained.More = []
 kinds_of_drain here (drained.Fault counts) = answered_at here (replies.Fault counts)
 
 -- what a drain adds until there is room, or until the reply is there
-abbrev pub kinds_of_wait : ℕ → Option Reply → List Kind
+abbrev pub kinds_of_wait : ℕ → Option Reply → List MarkKind
 kinds_of_wait here None = rests ∷ []
 kinds_of_wait here (Some reply) = answered_at here reply
 
@@ -66,7 +66,7 @@ module _ {D : Type 0} where
     pub begins : (more : List Mark) × (old.seen ++ more ≡ new.seen)
 
   -- the session's marks are those before, and then these
-  pub record GoesOn (who : ℕ) (kinds : List Kind) (old new : PassView Mark (Fixed D)) : Type 0 where
+  pub record GoesOn (who : ℕ) (kinds : List MarkKind) (old new : PassView Mark (Fixed D)) : Type 0 where
     pub keeps : Keeps old new
     pub adds : kinds_of who new.seen ≡ kinds_of who old.seen ++ kinds
 

@@ -2,7 +2,7 @@
 
 ghost use Rattle.std.specs.Prelude.{◌≡◌, ◌∷◌, [], ℕ};
 ghost use Rattle.serving_promise.specs.Marks.{draining, phase, waits};
-ghost use Rattle.serving_promise.specs.declared.marks.Kind.TheVariants.{Hands as hands};
+ghost use Rattle.serving_promise.specs.declared.marks.MarkKind.TheVariants.{Hands as hands};
 ghost use Rattle.tape_desk.specs.Passes.{Calls, HasMore};
 ghost use Rattle.tape_desk.specs.Turns.{CanPlace, GoesOn, IsMade, IsOwn};
 ghost use Rattle.tape_desk.specs.Turns.{kinds_of_drain, kinds_of_submit, kinds_of_turn, kinds_of_wait};

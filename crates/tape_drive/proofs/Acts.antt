@@ -12,7 +12,7 @@ use Rattle.tape_types.specs.Cartridges.{items_of}
 use Rattle.tape_types.specs.Counts.{Rose}
 use Rattle.tape_drive.specs.declared.record.Act.{Act}
 use Rattle.tape_drive.specs.declared.record.Act.TheVariants.{Put, Flushed, Noted, Settled}
-use Rattle.tape_drive.specs.declared.record.Entry.{Entry}
+use Rattle.tape_drive.specs.declared.record.DoneCommand.{DoneCommand}
 use Rattle.tape_drive.specs.Commands.{KeepsRest, VcrRose, IsWritten, IsBroken, IsNoted}
 use Rattle.tape_drive.specs.Crashes.{IsCut, WithinWrite, WithinNote, Crashes}
 use Rattle.tape_drive.specs.Memory.{with_item}
@@ -20,13 +20,13 @@ use Rattle.tape_drive.specs.Record.{front, with_items, with_note, undo, IsStage,
 use Rattle.tape_drive.proofs.Sound.{front_of}
 
 -- since a number that no act has reached there is no other moment than now
-none_within : (count : ℕ) (held : Cartridge) (es : List Entry) (image : Cartridge) → count < 2 ^ 64 - 1 → Numbered count es
+none_within : (count : ℕ) (held : Cartridge) (es : List DoneCommand) (image : Cartridge) → count < 2 ^ 64 - 1 → Numbered count es
     → LeftWithin held es count image → ⊥
 none_within count held [] image lt numbered h = h
 none_within count held (e ∷ es) image lt numbered (inl h) = absurd (omega (arith, numbered.0 lt, h.0))
 none_within count held (e ∷ es) image lt numbered (inr h) = none_within count (undo e.act held) es image lt numbered.1 h
 
-pub since_at : (count t : ℕ) (held : Cartridge) (es : List Entry) (image : Cartridge) → Numbered count es → t ≤ count
+pub since_at : (count t : ℕ) (held : Cartridge) (es : List DoneCommand) (image : Cartridge) → Numbered count es → t ≤ count
     → LeftWithin held es t image → LeftSince count held es t image
 since_at count t held es image numbered le h = ⊎_elim
     (λ (lt : count < 2 ^ 64 - 1). ⊎_elim
@@ -50,7 +50,7 @@ during_same Flushed after image = refl
 during_same (Noted part before) after image = inl refl
 during_same Settled after image = refl
 
-module _ (held : Cartridge) (es : List Entry) (count count2 : ℕ) (numbered : Numbered count es) (rose : Rose count count2)
+module _ (held : Cartridge) (es : List DoneCommand) (count count2 : ℕ) (numbered : Numbered count es) (rose : Rose count count2)
     (step : Cartridge → Cartridge → Type 0) where
   -- a command that leaves no entry
   pub quiet : ((image : Cartridge) → step image image)

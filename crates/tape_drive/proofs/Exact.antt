@@ -7,7 +7,7 @@ use Rattle.tape_types.specs.declared.cartridges.Note.{Note}
 use Rattle.tape_types.specs.declared.cartridges.Cartridge.{Cartridge}
 use Rattle.tape_drive.specs.declared.record.Act.{Act}
 use Rattle.tape_drive.specs.declared.record.Act.TheVariants.{Put, Flushed, Noted, Settled}
-use Rattle.tape_drive.specs.declared.record.Entry.{Entry}
+use Rattle.tape_drive.specs.declared.record.DoneCommand.{DoneCommand}
 use Rattle.tape_drive.specs.declared.crash.Cut.{Cut}
 use Rattle.tape_drive.specs.Commands.{IsNoted}
 use Rattle.tape_drive.specs.Crashes.{HasState}
@@ -17,12 +17,12 @@ use Rattle.tape_drive.specs.Images.{is_same, moments, undone, crash_image, Gives
 use Rattle.tape_drive.proofs.Stood.{OwnStage, StoodBy, Stood, stood_now, image_in, image_from}
 
 -- each partition of an image has stood, and the rest is as it reads
-pub record IsPast (held : Cartridge) (es : List Entry) (image : Cartridge) : Type 0 where
+pub record IsPast (held : Cartridge) (es : List DoneCommand) (image : Cartridge) : Type 0 where
   pub ip : Stood Ip held.ip es image.ip
   pub dp : Stood Dp held.dp es image.dp
   pub state : HasState held image
 
-pub gives_past : (held : Cartridge) (es : List Entry) (image : Cartridge) → Gives held es image → IsPast held es image
+pub gives_past : (held : Cartridge) (es : List DoneCommand) (image : Cartridge) → Gives held es image → IsPast held es image
 gives_past held es image h =
     let ip = h.0 in
     let dp = h.1 in
@@ -42,7 +42,7 @@ same_cartridge c d ip dp vcr n m =
     ∙ ap (λ (k : Note). reads_as d.ip d.dp d.vcr k c.note_dp) n
     ∙ ap (λ (k : Note). reads_as d.ip d.dp d.vcr d.note_ip k) m
 
-pub past_gives : (held : Cartridge) (es : List Entry) (image : Cartridge) → IsPast held es image → Gives held es image
+pub past_gives : (held : Cartridge) (es : List DoneCommand) (image : Cartridge) → IsPast held es image → Gives held es image
 past_gives held es image past =
     let ip = image_from Ip held.ip es image.ip past.ip in
     let dp = image_from Dp held.dp es image.dp past.dp in
@@ -68,7 +68,7 @@ undone_dp (Noted Dp n) c = refl
 undone_dp Settled c = refl
 
 -- the present cartridge
-now_past : (held : Cartridge) (es : List Entry) → IsPast held es held
+now_past : (held : Cartridge) (es : List DoneCommand) → IsPast held es held
 now_past held es = record { ip = stood_now Ip held.ip es; dp = stood_now Dp held.dp es; state = record { vcr = refl; note_ip = refl; note_dp = refl } }
 
 -- what has stood, a crash may leave: by an act, from what stood before it
@@ -76,7 +76,7 @@ settles_put : (failed : Bool) (part : Part) (gone : List Item) (held image : Car
 settles_put true part gone held image state = tt
 settles_put false part gone held image state = state
 
-left_by : (act : Act) (held : Cartridge) (es : List Entry) (image : Cartridge) → StoodBy Ip act held.ip image.ip (Stood Ip (undone Ip act held.ip) es image.ip)
+left_by : (act : Act) (held : Cartridge) (es : List DoneCommand) (image : Cartridge) → StoodBy Ip act held.ip image.ip (Stood Ip (undone Ip act held.ip) es image.ip)
     → StoodBy Dp act held.dp image.dp (Stood Dp (undone Dp act held.dp) es image.dp) → HasState held image → ((c : Cartridge) → IsPast (undo act held) es c → Leaves (undo act held) es c)
     → Settles act held image × ((before : Cartridge) × Leaves (undo act held) es before × During act held before image)
 left_by (Put Ip gone failed) held es image (inl stage) dp state ih = (
@@ -134,12 +134,12 @@ left_by (Noted Dp n) held es image ip dp state ih = (
 )
 left_by Settled held es image ip dp state ih = (state, (image, ih image (record { ip = ip; dp = dp; state = state }), refl))
 
-pub past_left : (held : Cartridge) (es : List Entry) (image : Cartridge) → IsPast held es image → Leaves held es image
+pub past_left : (held : Cartridge) (es : List DoneCommand) (image : Cartridge) → IsPast held es image → Leaves held es image
 past_left held [] image past = same_cartridge image held past.ip past.dp past.state.vcr past.state.note_ip past.state.note_dp
 past_left held (e ∷ es) image past = left_by e.act held es image past.ip past.dp past.state (λ (c : Cartridge) (h : IsPast (undo e.act held) es c). past_left (undo e.act held) es c h)
 
 -- the same, or so before the failed writes that nothing has succeeded after
-abbrev pub WasPast : Cartridge → List Entry → Cartridge → Type 0
+abbrev pub WasPast : Cartridge → List DoneCommand → Cartridge → Type 0
 WasPast held [] image = IsPast held [] image
 WasPast held (e ∷ es) image = IsPast held (e ∷ es) image ⊎ (IsFailure e.act × WasPast (undo e.act held) es image)
 
@@ -154,13 +154,13 @@ behind part Flushed items x E fail h = absurd fail
 behind part (Noted p n) items x E fail h = absurd fail
 behind part Settled items x E fail h = absurd fail
 
-was_ip : (held : Cartridge) (es : List Entry) (image : Cartridge) → WasPast held es image → Stood Ip held.ip es image.ip
+was_ip : (held : Cartridge) (es : List DoneCommand) (image : Cartridge) → WasPast held es image → Stood Ip held.ip es image.ip
 was_ip held [] image past = past.ip
 was_ip held (e ∷ es) image (inl past) = past.ip
 was_ip held (e ∷ es) image (inr earlier) =
     behind Ip e.act held.ip image.ip (Stood Ip (undone Ip e.act held.ip) es image.ip) earlier.0 (subst (λ (l : List Item). Stood Ip l es image.ip) (undone_ip e.act held) (was_ip (undo e.act held) es image earlier.1))
 
-was_dp : (held : Cartridge) (es : List Entry) (image : Cartridge) → WasPast held es image → Stood Dp held.dp es image.dp
+was_dp : (held : Cartridge) (es : List DoneCommand) (image : Cartridge) → WasPast held es image → Stood Dp held.dp es image.dp
 was_dp held [] image past = past.dp
 was_dp held (e ∷ es) image (inl past) = past.dp
 was_dp held (e ∷ es) image (inr earlier) =
@@ -177,7 +177,7 @@ failed_notes Flushed c fail = absurd fail
 failed_notes (Noted p n) c fail = absurd fail
 failed_notes Settled c fail = absurd fail
 
-was_notes : (held : Cartridge) (es : List Entry) (image : Cartridge) → WasPast held es image → SameNotes image held
+was_notes : (held : Cartridge) (es : List DoneCommand) (image : Cartridge) → WasPast held es image → SameNotes image held
 was_notes held [] image past = record { ip = past.state.note_ip; dp = past.state.note_dp }
 was_notes held (e ∷ es) image (inl past) = record { ip = past.state.note_ip; dp = past.state.note_dp }
 was_notes held (e ∷ es) image (inr earlier) =
@@ -186,14 +186,14 @@ was_notes held (e ∷ es) image (inr earlier) =
     record { ip = same.ip ∙ put.ip; dp = same.dp ∙ put.dp }
 
 -- a write that has ended, by what it may have left: the image as it was before, or as the write shows
-put_same : (failed : Bool) (part : Part) (gone : List Item) (held : Cartridge) (es : List Entry) (number : ℕ) (before image : Cartridge)
+put_same : (failed : Bool) (part : Part) (gone : List Item) (held : Cartridge) (es : List DoneCommand) (number : ℕ) (before image : Cartridge)
     → Settles (Put part gone failed) held image → WasPast (undo (Put part gone failed) held) es before → image ≡ before
     → (HasState held image → IsPast held (record { number = number; act = Put part gone failed } ∷ es) image)
     → IsPast held (record { number = number; act = Put part gone failed } ∷ es) image ⊎ (IsFailure (Put part gone failed) × WasPast (undo (Put part gone failed) held) es image)
 put_same true part gone held es number before image settles was is past = inr (tt, subst (λ (c : Cartridge). WasPast (undo (Put part gone true) held) es c) (sym is) was)
 put_same false part gone held es number before image settles was is past = inl (past settles)
 
-pub was_put : (part : Part) (gone : List Item) (failed : Bool) (held : Cartridge) (es : List Entry) (number : ℕ) (before image : Cartridge)
+pub was_put : (part : Part) (gone : List Item) (failed : Bool) (held : Cartridge) (es : List DoneCommand) (number : ℕ) (before image : Cartridge)
     → Settles (Put part gone failed) held image → WasPast (undo (Put part gone failed) held) es before → DuringPut part held before image
     → IsPast held (record { number = number; act = Put part gone failed } ∷ es) image ⊎ (IsFailure (Put part gone failed) × WasPast (undo (Put part gone failed) held) es image)
 was_put Ip gone failed held es number before image settles was during =
@@ -202,7 +202,7 @@ was_put Ip gone failed held es number before image settles was during =
     let notes = was_notes (undo (Put Ip gone failed) held) es before was in
     let state : image.vcr ≡ held.vcr → HasState held image =
     λ (vcr : image.vcr ≡ held.vcr). record { vcr = vcr; note_ip = during.rest.note_ip ∙ notes.ip; note_dp = during.rest.note_dp ∙ notes.dp } in
-    let e : Entry = record { number = number; act = Put Ip gone failed } in
+    let e : DoneCommand = record { number = number; act = Put Ip gone failed } in
     let old : image.ip ≡ before.ip → HasState held image → IsPast held (e ∷ es) image =
     λ (same : image.ip ≡ before.ip) (s : HasState held image). record { ip = inr (subst (λ (l : List Item). Stood Ip (front held.ip ++ gone) es l) (sym same) ip); dp = dp; state = s } in
     ⊎_elim
@@ -219,7 +219,7 @@ was_put Dp gone failed held es number before image settles was during =
     let notes = was_notes (undo (Put Dp gone failed) held) es before was in
     let state : image.vcr ≡ held.vcr → HasState held image =
     λ (vcr : image.vcr ≡ held.vcr). record { vcr = vcr; note_ip = during.rest.note_ip ∙ notes.ip; note_dp = during.rest.note_dp ∙ notes.dp } in
-    let e : Entry = record { number = number; act = Put Dp gone failed } in
+    let e : DoneCommand = record { number = number; act = Put Dp gone failed } in
     let old : image.dp ≡ before.dp → HasState held image → IsPast held (e ∷ es) image =
     λ (same : image.dp ≡ before.dp) (s : HasState held image). record { ip = ip; dp = inr (subst (λ (l : List Item). Stood Dp (front held.dp ++ gone) es l) (sym same) dp); state = s } in
     ⊎_elim
@@ -231,7 +231,7 @@ was_put Dp gone failed held es number before image settles was during =
     (λ (stage : IsStage held.dp image.dp × (image.vcr ≡ held.vcr)). inl (record { ip = ip; dp = inl stage.0; state = state stage.1 }))
     during.items
 
-was_by : (number : ℕ) (act : Act) (held : Cartridge) (es : List Entry) (before image : Cartridge) → Settles act held image → WasPast (undo act held) es before → During act held before image
+was_by : (number : ℕ) (act : Act) (held : Cartridge) (es : List DoneCommand) (before image : Cartridge) → Settles act held image → WasPast (undo act held) es before → During act held before image
     → IsPast held (record { number = number; act = act } ∷ es) image ⊎ (IsFailure act × WasPast (undo act held) es image)
 was_by number (Put part gone failed) held es before image settles was during = was_put part gone failed held es number before image settles was during
 was_by number Flushed held es before image settles was during =
@@ -264,12 +264,12 @@ was_by number Settled held es before image settles was during = inl (record {
   state = settles;
 })
 
-pub left_was : (held : Cartridge) (es : List Entry) (image : Cartridge) → Leaves held es image → WasPast held es image
+pub left_was : (held : Cartridge) (es : List DoneCommand) (image : Cartridge) → Leaves held es image → WasPast held es image
 left_was held [] image is = subst (λ (c : Cartridge). IsPast held [] c) (sym is) (now_past held [])
 left_was held (e ∷ es) image left = was_by e.number e.act held es left.1.0 image left.0 (left_was (undo e.act held) es left.1.0 left.1.1) left.1.2
 
 -- a failed write leaves what could be left before it
-failed_left : (act : Act) (held : Cartridge) (es : List Entry) (image : Cartridge) → IsFailure act → Leaves (undo act held) es image
+failed_left : (act : Act) (held : Cartridge) (es : List DoneCommand) (image : Cartridge) → IsFailure act → Leaves (undo act held) es image
     → Settles act held image × ((before : Cartridge) × Leaves (undo act held) es before × During act held before image)
 failed_left (Put part gone true) held es image fail left =
     (tt, (image, left, record { items = inl (refl, inl refl); rest = record { other_part = refl; note_ip = refl; note_dp = refl } }))
@@ -278,19 +278,19 @@ failed_left Flushed held es image fail left = absurd fail
 failed_left (Noted part n) held es image fail left = absurd fail
 failed_left Settled held es image fail left = absurd fail
 
-pub gave_left : (held : Cartridge) (es : List Entry) (image : Cartridge) → Gave held es image → Leaves held es image
+pub gave_left : (held : Cartridge) (es : List DoneCommand) (image : Cartridge) → Gave held es image → Leaves held es image
 gave_left held [] image gave = past_left held [] image (gives_past held [] image gave)
 gave_left held (e ∷ es) image (inl gives) = past_left held (e ∷ es) image (gives_past held (e ∷ es) image gives)
 gave_left held (e ∷ es) image (inr earlier) = failed_left e.act held es image earlier.0 (gave_left (undo e.act held) es image earlier.1)
 
-pub was_gave : (held : Cartridge) (es : List Entry) (image : Cartridge) → WasPast held es image → Gave held es image
+pub was_gave : (held : Cartridge) (es : List DoneCommand) (image : Cartridge) → WasPast held es image → Gave held es image
 was_gave held [] image past = past_gives held [] image past
 was_gave held (e ∷ es) image (inl past) = inl (past_gives held (e ∷ es) image past)
 was_gave held (e ∷ es) image (inr earlier) = inr (earlier.0, was_gave (undo e.act held) es image earlier.1)
 
-pub left_gave : (held : Cartridge) (es : List Entry) (image : Cartridge) → Leaves held es image → Gave held es image
+pub left_gave : (held : Cartridge) (es : List DoneCommand) (image : Cartridge) → Leaves held es image → Gave held es image
 left_gave held es image left = was_gave held es image (left_was held es image left)
 
 -- two cuts give what a crash may leave
-pub image_left : (held : Cartridge) (es : List Entry) (ip dp : Cut) → ip.moment < moments es → dp.moment < moments es → Leaves held es (crash_image held es ip dp)
+pub image_left : (held : Cartridge) (es : List DoneCommand) (ip dp : Cut) → ip.moment < moments es → dp.moment < moments es → Leaves held es (crash_image held es ip dp)
 image_left held es ip dp lt_ip lt_dp = past_left held es (crash_image held es ip dp) (gives_past held es (crash_image held es ip dp) (ip, dp, lt_ip, lt_dp, refl))

@@ -12,7 +12,7 @@ use Rattle.tape_types.specs.declared.cartridges.Cartridge.{Cartridge}
 use Rattle.tape_types.specs.Cartridges.{items_of, capacity, IsItem, HoldsAtMost}
 use Rattle.tape_drive.specs.declared.record.Act.{Act}
 use Rattle.tape_drive.specs.declared.record.Act.TheVariants.{Put, Flushed, Noted, Settled}
-use Rattle.tape_drive.specs.declared.record.Entry.{Entry}
+use Rattle.tape_drive.specs.declared.record.DoneCommand.{DoneCommand}
 use Rattle.tape_drive.specs.Record.{front, undo, IsStage, KeptLimits, IsSound}
 use Rattle.tape_drive.specs.Images.{is_same, moments, undone, image_of}
 use Rattle.tape_drive.proofs.Stood.{OwnStage, StoodBy, Stood, image_in}
@@ -41,20 +41,20 @@ fits_by part Flushed limit items x E some fits ih h = subst (λ (l : List Item).
 fits_by part (Noted p n) limit items x E some fits ih h = ih h
 fits_by part Settled limit items x E some fits ih h = ih h
 
-ip_fits : (limits : Limits) (held : Cartridge) (es : List Entry) (x : List Item) → 1 ≤ limits.cap_ip → KeptLimits limits held es → Stood Ip held.ip es x → HoldsAtMost limits.cap_ip x
+ip_fits : (limits : Limits) (held : Cartridge) (es : List DoneCommand) (x : List Item) → 1 ≤ limits.cap_ip → KeptLimits limits held es → Stood Ip held.ip es x → HoldsAtMost limits.cap_ip x
 ip_fits limits held [] x some kept is = subst (λ (l : List Item). HoldsAtMost limits.cap_ip l) (sym is) kept.ip
 ip_fits limits held (e ∷ es) x some kept h =
     fits_by Ip e.act limits.cap_ip held.ip x (Stood Ip (undone Ip e.act held.ip) es x) some kept.0.ip
     (λ (earlier : Stood Ip (undone Ip e.act held.ip) es x). ip_fits limits (undo e.act held) es x some kept.1 (subst (λ (l : List Item). Stood Ip l es x) (sym (undone_ip e.act held)) earlier)) h
 
-dp_fits : (limits : Limits) (held : Cartridge) (es : List Entry) (x : List Item) → 1 ≤ limits.cap_dp → KeptLimits limits held es → Stood Dp held.dp es x → HoldsAtMost limits.cap_dp x
+dp_fits : (limits : Limits) (held : Cartridge) (es : List DoneCommand) (x : List Item) → 1 ≤ limits.cap_dp → KeptLimits limits held es → Stood Dp held.dp es x → HoldsAtMost limits.cap_dp x
 dp_fits limits held [] x some kept is = subst (λ (l : List Item). HoldsAtMost limits.cap_dp l) (sym is) kept.dp
 dp_fits limits held (e ∷ es) x some kept h =
     fits_by Dp e.act limits.cap_dp held.dp x (Stood Dp (undone Dp e.act held.dp) es x) some kept.0.dp
     (λ (earlier : Stood Dp (undone Dp e.act held.dp) es x). dp_fits limits (undo e.act held) es x some kept.1 (subst (λ (l : List Item). Stood Dp l es x) (sym (undone_dp e.act held)) earlier)) h
 
 -- an image of a partition keeps to its capacity
-pub image_fits : (part : Part) (limits : Limits) (count : ℕ) (held : Cartridge) (es : List Entry) (m : ℕ) (t : Bool) → IsSound limits count held es → m < moments es
+pub image_fits : (part : Part) (limits : Limits) (count : ℕ) (held : Cartridge) (es : List DoneCommand) (m : ℕ) (t : Bool) → IsSound limits count held es → m < moments es
     → HoldsAtMost (capacity part limits) (image_of part (items_of part held) es m t)
 image_fits Ip limits count held es m t sound lt =
     let least = sound.range.ip_least in ip_fits limits held es (image_of Ip held.ip es m t) (omega arith) sound.sizes (image_in Ip held.ip es m t lt)

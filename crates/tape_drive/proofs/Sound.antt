@@ -14,21 +14,21 @@ use Rattle.tape_types.specs.declared.cartridges.Cartridge.{Cartridge}
 use Rattle.tape_types.specs.Cartridges.{items_of, note_of, capacity, IsItem, HoldsAtMost, FitsLimits}
 use Rattle.tape_drive.specs.declared.record.Act.{Act}
 use Rattle.tape_drive.specs.declared.record.Act.TheVariants.{Put, Noted}
-use Rattle.tape_drive.specs.declared.record.Entry.{Entry}
+use Rattle.tape_drive.specs.declared.record.DoneCommand.{DoneCommand}
 use Rattle.tape_drive.specs.Memory.{with_item}
 use Rattle.tape_drive.specs.Placed.{reads_as, IsPlaced, IsNotePlaced}
 use Rattle.tape_drive.specs.Record.{front, with_note, undo, Numbered, KeptLimits, IsSound}
 
 -- the number of commands rises
-numbered_later : (count count2 : ℕ) (es : List Entry) → count2 ≡ min (count + 1) (2 ^ 64 - 1) → Numbered count es → Numbered count2 es
+numbered_later : (count count2 : ℕ) (es : List DoneCommand) → count2 ≡ min (count + 1) (2 ^ 64 - 1) → Numbered count es → Numbered count2 es
 numbered_later count count2 [] is n = tt
 numbered_later count count2 (e ∷ es) is n = ((λ lt. omega (arith, n.0 (omega arith))), numbered_later count count2 es is n.1)
 
-pub sound_later : (limits : Limits) (count count2 : ℕ) (held : Cartridge) (es : List Entry) → count2 ≡ min (count + 1) (2 ^ 64 - 1) → IsSound limits count held es → IsSound limits count2 held es
+pub sound_later : (limits : Limits) (count count2 : ℕ) (held : Cartridge) (es : List DoneCommand) → count2 ≡ min (count + 1) (2 ^ 64 - 1) → IsSound limits count held es → IsSound limits count2 held es
 sound_later limits count count2 held es is sound = record { range = sound.range; sizes = sound.sizes; numbers = numbered_later count count2 es is sound.numbers }
 
 -- an entry more
-pub sound_acted : (limits : Limits) (count number : ℕ) (act : Act) (old new : Cartridge) (es : List Entry) → undo act new ≡ old → FitsLimits limits new → (count < 2 ^ 64 - 1 → number < count)
+pub sound_acted : (limits : Limits) (count number : ℕ) (act : Act) (old new : Cartridge) (es : List DoneCommand) → undo act new ≡ old → FitsLimits limits new → (count < 2 ^ 64 - 1 → number < count)
     → IsSound limits count old es → IsSound limits count new (record { number = number; act = act } ∷ es)
 sound_acted limits count number act old new es back fits below sound = record {
   range = sound.range;
@@ -37,7 +37,7 @@ sound_acted limits count number act old new es back fits below sound = record {
 }
 
 -- a cartridge within a sound record keeps to its limits
-pub sound_fits : (limits : Limits) (count : ℕ) (held : Cartridge) (es : List Entry) → IsSound limits count held es → FitsLimits limits held
+pub sound_fits : (limits : Limits) (count : ℕ) (held : Cartridge) (es : List DoneCommand) → IsSound limits count held es → FitsLimits limits held
 sound_fits limits count held [] sound = sound.sizes
 sound_fits limits count held (e ∷ es) sound = sound.sizes.0
 
@@ -100,5 +100,5 @@ fits_note limits Ip note c fits = record { ip = fits.ip; dp = fits.dp }
 fits_note limits Dp note c fits = record { ip = fits.ip; dp = fits.dp }
 
 -- the newest entry comes first
-pub newest : (acts acts2 : List Entry) (e : Entry) → acts2 ≡ acts ++ e ∷ [] → reverse acts2 ≡ e ∷ reverse acts
+pub newest : (acts acts2 : List DoneCommand) (e : DoneCommand) → acts2 ≡ acts ++ e ∷ [] → reverse acts2 ≡ e ∷ reverse acts
 newest acts acts2 e is = ap reverse is ∙ reverse-append acts (e ∷ [])

@@ -9,7 +9,7 @@ use Rattle.tape_types.specs.declared.cartridges.Item.{Item}
 use Rattle.tape_types.specs.declared.cartridges.Item.TheVariants as item
 use Rattle.tape_drive.specs.declared.record.Act.{Act}
 use Rattle.tape_drive.specs.declared.record.Act.TheVariants.{Put, Flushed, Noted, Settled}
-use Rattle.tape_drive.specs.declared.record.Entry.{Entry}
+use Rattle.tape_drive.specs.declared.record.DoneCommand.{DoneCommand}
 use Rattle.tape_drive.specs.Record.{front, IsStage}
 use Rattle.tape_drive.specs.Images.{is_same, moments, undone, moments_after, stood_by, stood, earlier_or, next_by, next_put, torn_at, image_of}
 
@@ -25,7 +25,7 @@ StoodBy part (Noted p before) items image earlier = earlier
 StoodBy part Settled items image earlier = earlier
 
 -- what a partition may be found as, back over the record
-abbrev pub Stood : Part → List Item → List Entry → List Item → Type 0
+abbrev pub Stood : Part → List Item → List DoneCommand → List Item → Type 0
 Stood part items [] image = image ≡ items
 Stood part items (e ∷ es) image = StoodBy part e.act items image (Stood part (undone part e.act items) es image)
 
@@ -40,7 +40,7 @@ now_by part Flushed items E all = refl
 now_by part (Noted p before) items E all = all items
 now_by part Settled items E all = all items
 
-pub stood_now : (part : Part) (items : List Item) (es : List Entry) → Stood part items es items
+pub stood_now : (part : Part) (items : List Item) (es : List DoneCommand) → Stood part items es items
 stood_now part items [] = refl
 stood_now part items (e ∷ es) = now_by part e.act items (λ (l x : List Item). Stood part l es x) (λ (l : List Item). stood_now part l es)
 
@@ -54,7 +54,7 @@ none_by part Flushed n m items earlier ih le = refl
 none_by part (Noted p before) n m items earlier ih le = ih le
 none_by part Settled n m items earlier ih le = ih le
 
-pub none_after : (part : Part) (items : List Item) (es : List Entry) (m : ℕ) → moments es ≤ m → next_put part items es m ≡ None
+pub none_after : (part : Part) (items : List Item) (es : List DoneCommand) (m : ℕ) → moments es ≤ m → next_put part items es m ≡ None
 none_after part items [] m le = refl
 none_after part items (e ∷ es) m le =
     none_by part e.act (moments es) m items (next_put part (undone part e.act items) es m) (λ (h : moments es ≤ m). none_after part (undone part e.act items) es m h) le
@@ -77,7 +77,7 @@ still_by part Flushed n m items s earlier ih lt none = refl
 still_by part (Noted p before) n m items s earlier ih lt none = ih lt none
 still_by part Settled n m items s earlier ih lt none = ih lt none
 
-pub still_stands : (part : Part) (items : List Item) (es : List Entry) (m : ℕ) → m < moments es → next_put part items es m ≡ None → stood part items es m ≡ items
+pub still_stands : (part : Part) (items : List Item) (es : List DoneCommand) (m : ℕ) → m < moments es → next_put part items es m ≡ None → stood part items es m ≡ items
 still_stands part items [] m lt none = refl
 still_stands part items (e ∷ es) m lt none =
     still_by part e.act (moments es) m items (stood part (undone part e.act items) es m) (next_put part (undone part e.act items) es m)
@@ -101,7 +101,7 @@ in_by part Flushed n m items s E all ih lt = refl
 in_by part (Noted p before) n m items s E all ih lt = ih lt
 in_by part Settled n m items s E all ih lt = ih lt
 
-pub stood_in : (part : Part) (items : List Item) (es : List Entry) (m : ℕ) → m < moments es → Stood part items es (stood part items es m)
+pub stood_in : (part : Part) (items : List Item) (es : List DoneCommand) (m : ℕ) → m < moments es → Stood part items es (stood part items es m)
 stood_in part items [] m lt = refl
 stood_in part items (e ∷ es) m lt =
     in_by part e.act (moments es) m items (stood part (undone part e.act items) es m) (λ (l x : List Item). Stood part l es x) (λ (l : List Item). stood_now part l es)
@@ -154,7 +154,7 @@ torn_by part Flushed n m pos items s earlier E none ih still lt is = absurd (cc)
 torn_by part (Noted p before) n m pos items s earlier E none ih still lt is = ih lt is
 torn_by part Settled n m pos items s earlier E none ih still lt is = ih lt is
 
-pub torn_in : (part : Part) (items : List Item) (es : List Entry) (m pos : ℕ) → m < moments es → next_put part items es m ≡ Some pos → Stood part items es (take pos (stood part items es m) ++ item.Torn ∷ [])
+pub torn_in : (part : Part) (items : List Item) (es : List DoneCommand) (m pos : ℕ) → m < moments es → next_put part items es m ≡ Some pos → Stood part items es (take pos (stood part items es m) ++ item.Torn ∷ [])
 torn_in part items [] m pos lt is = absurd (cc)
 torn_in part items (e ∷ es) m pos lt is =
     let l = undone part e.act items in
@@ -164,17 +164,17 @@ torn_in part items (e ∷ es) m pos lt is =
     (λ (below : m < moments es) (h : next_put part (undone part e.act items) es m ≡ None). still_stands part l es m below h) lt is
 
 -- each image by a cut has stood, with a Torn or without
-image_by : (part : Part) (items s : List Item) (es : List Entry) (nx : Option ℕ) (t : Bool) → Stood part items es s → ((pos : ℕ) → nx ≡ Some pos → Stood part items es (take pos s ++ item.Torn ∷ []))
+image_by : (part : Part) (items s : List Item) (es : List DoneCommand) (nx : Option ℕ) (t : Bool) → Stood part items es s → ((pos : ℕ) → nx ≡ Some pos → Stood part items es (take pos s ++ item.Torn ∷ []))
     → Stood part items es (torn_at (if t then nx else None) s)
 image_by part items s es nx false plain torn = plain
 image_by part items s es None true plain torn = plain
 image_by part items s es (Some pos) true plain torn = torn pos refl
 
-pub image_in : (part : Part) (items : List Item) (es : List Entry) (m : ℕ) (t : Bool) → m < moments es → Stood part items es (image_of part items es m t)
+pub image_in : (part : Part) (items : List Item) (es : List DoneCommand) (m : ℕ) (t : Bool) → m < moments es → Stood part items es (image_of part items es m t)
 image_in part items es m t lt = image_by part items (stood part items es m) es (next_put part items es m) t (stood_in part items es m lt) (λ (pos : ℕ) (is : next_put part items es m ≡ Some pos). torn_in part items es m pos lt is)
 
 -- some cut gives this image of a partition
-abbrev pub IsImage : Part → List Item → List Entry → List Item → Type 0
+abbrev pub IsImage : Part → List Item → List DoneCommand → List Item → Type 0
 IsImage part items es image = (m : ℕ) × (t : Bool) × (m < moments es) × (image ≡ image_of part items es m t)
 
 -- which of three a moment is
@@ -237,7 +237,7 @@ from_by part (Noted p before) items x n f g E none ih h = ih h
 from_by part Settled items x n f g E none ih h = ih h
 
 -- what has stood is the image by some cut
-pub image_from : (part : Part) (items : List Item) (es : List Entry) (x : List Item) → Stood part items es x → IsImage part items es x
+pub image_from : (part : Part) (items : List Item) (es : List DoneCommand) (x : List Item) → Stood part items es x → IsImage part items es x
 image_from part items [] x h = (0, false, omega arith, h)
 image_from part items (e ∷ es) x h =
     let l = undone part e.act items in

@@ -7,23 +7,23 @@ use Rattle.tape_types.specs.declared.cartridges.Part.{Part}
 use Rattle.tape_types.specs.declared.cartridges.Item.{Item}
 use Rattle.tape_drive.specs.declared.record.Act.{Act}
 use Rattle.tape_drive.specs.declared.record.Act.TheVariants.{Put, Flushed, Noted, Settled}
-use Rattle.tape_drive.specs.declared.record.Entry.{Entry}
+use Rattle.tape_drive.specs.declared.record.DoneCommand.{DoneCommand}
 use Rattle.tape_drive.specs.declared.crash.Walk.{Walk}
 use Rattle.tape_drive.specs.Images.{is_same, moments, moments_after, undone, stood_by, stood, earlier_or, next_by, next_put}
 use Rattle.tape_drive.specs.Walks.{PutSteps, Steps}
 use Rattle.tape_drive.proofs.Stood.{none_after}
 
 -- the newest entry of the record's front
-pub last_entry : (acts : List Entry) (i : ℕ) (d : Entry) → i < length acts → reverse (take (i + 1) acts) ≡ get_or acts i d ∷ reverse (take i acts)
+pub last_entry : (acts : List DoneCommand) (i : ℕ) (d : DoneCommand) → i < length acts → reverse (take (i + 1) acts) ≡ get_or acts i d ∷ reverse (take i acts)
 last_entry acts i d lt = ap reverse (take_more acts i d lt) ∙ reverse-append (take i acts) (get_or acts i d ∷ [])
 
 -- what is reached
-pub record Reaches (part : Part) (m : ℕ) (e : Entry) (es : List Entry) (old new : Walk) : Type 0 where
+pub record Reaches (part : Part) (m : ℕ) (e : DoneCommand) (es : List DoneCommand) (old new : Walk) : Type 0 where
   pub items : stood part old.items.items (e ∷ es) m ≡ new.items.items
   pub next : earlier_or (next_put part old.items.items (e ∷ es) m) old.next ≡ new.next
 
 -- what is left to go back over
-pub record GoesOn (part : Part) (m : ℕ) (e : Entry) (es : List Entry) (old new : Walk) : Type 0 where
+pub record GoesOn (part : Part) (m : ℕ) (e : DoneCommand) (es : List DoneCommand) (old new : Walk) : Type 0 where
   pub count : new.count ≡ moments es
   pub moment : m < new.count
   pub items : stood part old.items.items (e ∷ es) m ≡ stood part new.items.items es m
@@ -73,7 +73,7 @@ reaches_by part m n Flushed old new s earlier counted none lt steps = (sym steps
 reaches_by part m n (Noted p before) old new s earlier counted none lt steps = absurd steps
 reaches_by part m n Settled old new s earlier counted none lt steps = absurd steps
 
-pub reaches : (part : Part) (m : ℕ) (e : Entry) (es : List Entry) (old new : Walk) → old.count ≡ moments (e ∷ es) → m < old.count → Steps true part m e.act old new → Reaches part m e es old new
+pub reaches : (part : Part) (m : ℕ) (e : DoneCommand) (es : List DoneCommand) (old new : Walk) → old.count ≡ moments (e ∷ es) → m < old.count → Steps true part m e.act old new → Reaches part m e es old new
 reaches part m e es old new counted lt steps =
     let l = undone part e.act old.items.items in
     let is = reaches_by part m (moments es) e.act old new (stood part l es m) (next_put part l es m) counted (λ (h : moments es ≤ m). none_after part l es m h) lt steps in
@@ -99,7 +99,7 @@ goes_by part m n Settled old new f g counted lt steps = (
   ap (λ (o : Option ℕ). earlier_or (g old.items.items) o) (sym steps.next) ∙ ap (λ (l : List Item). earlier_or (g l) new.next) (sym steps.items),
 )
 
-pub goes_on : (part : Part) (m : ℕ) (e : Entry) (es : List Entry) (old new : Walk) → old.count ≡ moments (e ∷ es) → m < old.count → Steps false part m e.act old new → GoesOn part m e es old new
+pub goes_on : (part : Part) (m : ℕ) (e : DoneCommand) (es : List DoneCommand) (old new : Walk) → old.count ≡ moments (e ∷ es) → m < old.count → Steps false part m e.act old new → GoesOn part m e es old new
 goes_on part m e es old new counted lt steps =
     let is = goes_by part m (moments es) e.act old new (λ (l : List Item). stood part l es m) (λ (l : List Item). next_put part l es m) counted lt steps in
     record { count = is.0; moment = is.1; items = is.2; next = is.3 }

@@ -8,7 +8,7 @@ use Rattle.tape_types.specs.declared.cartridges.Item.TheVariants as item
 use Rattle.tape_types.specs.declared.cartridges.Cartridge.{Cartridge}
 use Rattle.tape_drive.specs.declared.record.Act.{Act}
 use Rattle.tape_drive.specs.declared.record.Act.TheVariants.{Put, Flushed, Noted, Settled}
-use Rattle.tape_drive.specs.declared.record.Entry.{Entry}
+use Rattle.tape_drive.specs.declared.record.DoneCommand.{DoneCommand}
 use Rattle.tape_drive.specs.declared.crash.Cut.{Cut}
 use Rattle.tape_drive.specs.Record.{front, undo}
 
@@ -28,7 +28,7 @@ moments_after Settled n = n
 
 -- How many moments there are from the last flush that succeeded up to now, with both. A write or mark that reached
 -- the tape has added two: one for its cut, and one for its item.
-abbrev pub moments : List Entry → ℕ
+abbrev pub moments : List DoneCommand → ℕ
 moments [] = 1
 moments (e ∷ es) = moments_after e.act (moments es)
 
@@ -50,7 +50,7 @@ stood_by part (Noted p before) n moment items earlier = earlier
 stood_by part Settled n moment items earlier = earlier
 
 -- what stood in a partition at a moment
-abbrev pub stood : Part → List Item → List Entry → ℕ → List Item
+abbrev pub stood : Part → List Item → List DoneCommand → ℕ → List Item
 stood part items [] moment = items
 stood part items (e ∷ es) moment =
     stood_by part e.act (moments es) moment items (stood part (undone part e.act items) es moment)
@@ -69,7 +69,7 @@ next_by part (Noted p before) n moment items earlier = earlier
 next_by part Settled n moment items earlier = earlier
 
 -- the position of the item that was written next in a partition after a moment
-abbrev pub next_put : Part → List Item → List Entry → ℕ → Option ℕ
+abbrev pub next_put : Part → List Item → List DoneCommand → ℕ → Option ℕ
 next_put part items [] moment = None
 next_put part items (e ∷ es) moment =
     next_by part e.act (moments es) moment items (next_put part (undone part e.act items) es moment)
@@ -81,12 +81,12 @@ torn_at (Some pos) items = take pos items ++ item.Torn ∷ []
 
 -- A partition's image by a cut: what stood at its moment; or that, cut at the position of the item that was written
 -- next, with a Torn at its end.
-abbrev pub image_of : Part → List Item → List Entry → ℕ → Bool → List Item
+abbrev pub image_of : Part → List Item → List DoneCommand → ℕ → Bool → List Item
 image_of part items es moment torn =
     torn_at (if torn then next_put part items es moment else None) (stood part items es moment)
 
 -- an image by a cut of each partition, with the volume change reference and the attributes as they read
-abbrev pub crash_image : Cartridge → List Entry → Cut → Cut → Cartridge
+abbrev pub crash_image : Cartridge → List DoneCommand → Cut → Cut → Cartridge
 crash_image held es ip dp = record {
   ip = image_of Ip held.ip es ip.moment ip.torn;
   dp = image_of Dp held.dp es dp.moment dp.torn;
@@ -96,7 +96,7 @@ crash_image held es ip dp = record {
 }
 
 -- some two cuts give this image
-abbrev pub Gives : Cartridge → List Entry → Cartridge → Type 0
+abbrev pub Gives : Cartridge → List DoneCommand → Cartridge → Type 0
 Gives held es image =
     (ip : Cut) × (dp : Cut) × (ip.moment < moments es) × (dp.moment < moments es) × (image ≡ crash_image held es ip dp)
 
@@ -109,6 +109,6 @@ IsFailure (Noted part before) = ⊥
 IsFailure Settled = ⊥
 
 -- two cuts give this image, or gave it before the failed writes that nothing has succeeded after
-abbrev pub Gave : Cartridge → List Entry → Cartridge → Type 0
+abbrev pub Gave : Cartridge → List DoneCommand → Cartridge → Type 0
 Gave held [] image = Gives held [] image
 Gave held (e ∷ es) image = Gives held (e ∷ es) image ⊎ (IsFailure e.act × Gave (undo e.act held) es image)

@@ -13,7 +13,7 @@ use Rattle.tape_drive.specs.declared.schedule.Fail.{Fail}
 use Rattle.tape_drive.specs.declared.schedule.Schedule.{Schedule}
 use Rattle.tape_drive.specs.declared.record.Act.{Act}
 use Rattle.tape_drive.specs.declared.record.Act.TheVariants.{Put}
-use Rattle.tape_drive.specs.declared.record.Entry.{Entry}
+use Rattle.tape_drive.specs.declared.record.DoneCommand.{DoneCommand}
 use Rattle.tape_drive.specs.declared.drive.Got.{Got}
 use Rattle.tape_drive.specs.Commands.{item_at, IsRead, after_read}
 use Rattle.tape_drive.specs.Schedule.{up, fresh, counted, IsStopped, IsListed}
@@ -24,7 +24,7 @@ pub record View : Type 0 where
   -- the cartridge as it reads
   pub held : Cartridge
   -- what its commands have done, the newest first
-  pub acts : List Entry
+  pub acts : List DoneCommand
   pub head : Option Place
   pub limits : Limits
   pub commands : ℕ

@@ -12,7 +12,7 @@ use Rattle.tape_drive.specs.Commands.{KeepsRest, IsNoted}
 use Rattle.tape_drive.specs.Crashes.{HasState}
 use Rattle.tape_drive.specs.declared.record.Act.{Act}
 use Rattle.tape_drive.specs.declared.record.Act.TheVariants.{Put, Flushed, Noted, Settled}
-use Rattle.tape_drive.specs.declared.record.Entry.{Entry}
+use Rattle.tape_drive.specs.declared.record.DoneCommand.{DoneCommand}
 
 -- a partition without its last item
 abbrev pub front : List Item → List Item
@@ -63,14 +63,14 @@ Settles (Noted part before) held image = HasState held image
 Settles Settled held image = HasState held image
 
 -- what a crash may leave now
-abbrev pub Leaves : Cartridge → List Entry → Cartridge → Type 0
+abbrev pub Leaves : Cartridge → List DoneCommand → Cartridge → Type 0
 Leaves held [] image = image ≡ held
 Leaves held (e ∷ es) image =
     Settles e.act held image
     × ((before : Cartridge) × Leaves (undo e.act held) es before × During e.act held before image)
 
 -- what a crash may have left while an act went on that had begun at the number t or later
-abbrev pub LeftWithin : Cartridge → List Entry → ℕ → Cartridge → Type 0
+abbrev pub LeftWithin : Cartridge → List DoneCommand → ℕ → Cartridge → Type 0
 LeftWithin held [] t image = ⊥
 LeftWithin held (e ∷ es) t image =
     ((t ≤ e.number) × ((before : Cartridge) × Leaves (undo e.act held) es before × During e.act held before image))
@@ -78,22 +78,22 @@ LeftWithin held (e ∷ es) t image =
 
 -- What a crash may have left since the number was t: now, or while such an act went on. The number stands at `count`,
 -- and since that number there is no other moment than now.
-abbrev pub LeftSince : ℕ → Cartridge → List Entry → ℕ → Cartridge → Type 0
+abbrev pub LeftSince : ℕ → Cartridge → List DoneCommand → ℕ → Cartridge → Type 0
 LeftSince count held es t image =
     Leaves held es image ⊎ (((t < count) ⊎ (2 ^ 64 - 1 ≤ count)) × LeftWithin held es t image)
 
 -- each act began at a smaller number than now, unless the number stands at its end
-abbrev pub Numbered : ℕ → List Entry → Type 0
+abbrev pub Numbered : ℕ → List DoneCommand → Type 0
 Numbered count [] = Unit {0}
 Numbered count (e ∷ es) = (count < 2 ^ 64 - 1 → e.number < count) × Numbered count es
 
 -- the cartridge keeps to its limits, now and at each moment of the record
-abbrev pub KeptLimits : Limits → Cartridge → List Entry → Type 0
+abbrev pub KeptLimits : Limits → Cartridge → List DoneCommand → Type 0
 KeptLimits limits held [] = FitsLimits limits held
 KeptLimits limits held (e ∷ es) = FitsLimits limits held × KeptLimits limits (undo e.act held) es
 
 -- a drive's record, limits and number of commands go together
-pub record IsSound (limits : Limits) (count : ℕ) (held : Cartridge) (es : List Entry) : Type 0 where
+pub record IsSound (limits : Limits) (count : ℕ) (held : Cartridge) (es : List DoneCommand) : Type 0 where
   pub range : IsLimits limits
   pub sizes : KeptLimits limits held es
   pub numbers : Numbered count es

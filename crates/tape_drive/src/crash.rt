@@ -9,7 +9,7 @@ ghost use Rattle.tape_drive.specs.Images.{crash_image, Gave};
 
 use crate::drive::Drive;
 use crate::memory::MemDrive;
-use crate::record::{Act, Entry};
+use crate::record::{Act, DoneCommand};
 use std::alloc::Global;
 use tape_types::{Cartridge, Item, List, NoMemory, Part};
 
@@ -97,7 +97,7 @@ pub fn since_gives_all(drive: &MemDrive)
     let _sound = drive.acts();
 }
 
-fn count_moments(acts: &[Entry]) -> u64
+fn count_moments(acts: &[DoneCommand]) -> u64
     ensures value { result ≡ moments (reverse acts.now) }
     ensures some { 1 ≤ result }
 {
@@ -168,7 +168,7 @@ impl Walk {
         alloc: Global,
         part: Part,
         moment: u64,
-        acts: &[Entry],
+        acts: &[DoneCommand],
     ) -> Result<(), NoMemory>
         requires count { self.old.count ≡ moments (reverse acts.now) }
         requires moment { moment < self.old.count }

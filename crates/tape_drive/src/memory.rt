@@ -10,7 +10,7 @@ ghost use Rattle.tape_types.specs.declared.cartridges.Cartridge.{Cartridge};
 ghost use Rattle.tape_drive.specs.Placed.{IsPlaced, IsNotePlaced};
 
 use crate::drive::DriveErr;
-use crate::record::{Act, Entry};
+use crate::record::{Act, DoneCommand};
 use crate::schedule::{Cmd, Fail, Schedule, Start};
 use std::alloc::Global;
 use std::marker::Model;
@@ -29,7 +29,7 @@ pub struct MemDrive {
     note_dp: Note,
     head: Option<Place>,
     /// The oldest first.
-    acts: Vec<Entry>,
+    acts: Vec<DoneCommand>,
     commands: u64,
     faults: u64,
     starved: u64,
@@ -206,7 +206,7 @@ impl MemDrive {
     }
 
     // The record, the oldest entry first.
-    pub(crate) fn acts(&self) -> &[Entry]
+    pub(crate) fn acts(&self) -> &[DoneCommand]
         ensures value { reverse result.now ≡ self.now.acts }
         ensures sound { IsSound self.now.limits self.now.commands self.now.held self.now.acts }
     {
@@ -231,7 +231,7 @@ impl MemDrive {
         ensures ok { OnOk result (self.new ≡ acted number act self.old.held self.old) }
         ensures err { OnErr result (self.new ≡ self.old) }
     {
-        self.acts.push(Entry { number, act })?;
+        self.acts.push(DoneCommand { number, act })?;
         Ok(())
     }
 
@@ -255,7 +255,7 @@ impl MemDrive {
         self.acts.reserve(1)?;
         let gone = put_at(self.alloc, &mut self.ip, &mut self.dp, at, item)?;
         self.vcr += 1;
-        self.acts.push_reserved(Entry {
+        self.acts.push_reserved(DoneCommand {
             number,
             act: Act::Put {
                 part: at.part,
@@ -274,7 +274,7 @@ impl MemDrive {
     {
         self.acts.reserve(1)?;
         let before = put_note(&mut self.note_ip, &mut self.note_dp, part, note);
-        self.acts.push_reserved(Entry {
+        self.acts.push_reserved(DoneCommand {
             number,
             act: Act::Noted { part, before },
         });

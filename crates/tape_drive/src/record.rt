@@ -24,7 +24,7 @@ pub(crate) enum Act {
 
 /// A command that has done something, with the number of commands at which it began.
 #[derive(Drop)]
-pub(crate) struct Entry {
+pub(crate) struct DoneCommand {
     pub number: u64,
     pub act: Act,
 }

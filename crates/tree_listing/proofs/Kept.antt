@@ -10,8 +10,8 @@ use Rattle.index_model.specs.declared.nodes.Node as told
 use Rattle.plain_tree.specs.Paths.{Path, last_name}
 use Rattle.plain_tree.specs.declared.nodes.Node as plain_node
 use Rattle.file_tree.specs.declared.nodes.Node.{Node}
-use Rattle.file_tree.specs.declared.nodes.Kind.{Kind}
-use Rattle.file_tree.specs.declared.nodes.Kind.TheVariants as kinds
+use Rattle.file_tree.specs.declared.nodes.HeldKind.{HeldKind}
+use Rattle.file_tree.specs.declared.nodes.HeldKind.TheVariants as kinds
 use Rattle.file_tree.specs.Mounts.{Letters}
 use Rattle.file_tree.specs.Told.{name_or, told_kind_of, told_nodes, told_of}
 use Rattle.file_tree.specs.Tree.{FileTree, plain_kind_of, plain_node_of, plain_nodes, plain_of, whole}
@@ -23,7 +23,7 @@ use Rattle.file_tree.proofs.ToldLemmas.{last_is}
 use Rattle.file_tree.proofs.WriteLemmas.{long_as}
 use Rattle.tree_listing.specs.Listing.{AreNodesOf, Tells, TellsKind}
 
-kind_told : (letters : Letters) (tape : Tape) (kind : Kind) → TellsKind (told_kind_of letters kind) (plain_kind_of tape kind)
+kind_told : (letters : Letters) (tape : Tape) (kind : HeldKind) → TellsKind (told_kind_of letters kind) (plain_kind_of tape kind)
 kind_told letters tape kinds.Dir = tt
 kind_told letters tape (kinds.File room) = sym (long_as tape room.laid)
 kind_told letters tape (kinds.Link text) = refl

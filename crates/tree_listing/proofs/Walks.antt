@@ -8,8 +8,8 @@ use Rattle.std.proofs.lemmas.Grind.{flat_map-append}
 use Rattle.std.proofs.lemmas.List.{get_or-map, get_or-take, length-map, length-take-le, map_more}
 use Rattle.std.proofs.lemmas.Option.{get_or_from_slice_get, slice_get_within, same_Some}
 use Rattle.index_model.specs.declared.nodes.Node as told
-use Rattle.index_model.specs.declared.nodes.Kind as told_kind
-use Rattle.index_model.specs.declared.nodes.Kind.TheVariants as told_kinds
+use Rattle.index_model.specs.declared.nodes.NodeKind as told_kind
+use Rattle.index_model.specs.declared.nodes.NodeKind.TheVariants as told_kinds
 use Rattle.index_model.specs.Order.{AreInOrder, LiesIn, itself, through}
 use Rattle.index_model.specs.Places.{IsAt}
 use Rattle.plain_tree.specs.Paths.{Path, path_cmp}
@@ -86,7 +86,7 @@ shown_path : (p : Path) → shown (names_text p) ≡ path_text p
 shown_path [] = refl
 shown_path (name ∷ p) = refl
 
-same_kind : (path : List ℕ) (uid : ℕ) (told : told_kind.Kind) (kind : Kind) → TellsKind told kind → told_line_of path uid told ≡ line_of_kind path uid kind
+same_kind : (path : List ℕ) (uid : ℕ) (told : told_kind.NodeKind) (kind : Kind) → TellsKind told kind → told_line_of path uid told ≡ line_of_kind path uid kind
 same_kind path uid told_kinds.Dir kinds.Dir tells = refl
 same_kind path uid (told_kinds.File size extents) (kinds.File cells) tells =
     ap (λ n. codes "f " ++ decimal uid ++ codes " " ++ decimal n ++ codes " " ++ path ++ codes "\n") tells

@@ -7,8 +7,8 @@ use Rattle.tape_edge.specs.Streams.{AppendsFront}
 use Rattle.index_model.specs.Places.{IsAt}
 use Rattle.index_model.specs.declared.indexes.Spot.{Spot}
 use Rattle.index_model.specs.declared.nodes.Node as told
-use Rattle.index_model.specs.declared.nodes.Kind as told_kind
-use Rattle.index_model.specs.declared.nodes.Kind.TheVariants as told_kinds
+use Rattle.index_model.specs.declared.nodes.NodeKind as told_kind
+use Rattle.index_model.specs.declared.nodes.NodeKind.TheVariants as told_kinds
 use Rattle.plain_tree.specs.declared.nodes.Node.{Node}
 use Rattle.plain_tree.specs.declared.nodes.Kind.{Kind}
 use Rattle.plain_tree.specs.declared.nodes.Kind.TheVariants as kinds
@@ -60,7 +60,7 @@ abbrev pub first_lines : ℕ → Tree → List ℕ
 first_lines count tree = flat_map line_of (take count (fin.entries tree.nodes))
 
 -- what an index tells of what a node is: of a file its length
-abbrev pub TellsKind : told_kind.Kind → Kind → Type 0
+abbrev pub TellsKind : told_kind.NodeKind → Kind → Type 0
 TellsKind told_kinds.Dir kinds.Dir = Unit {0}
 TellsKind (told_kinds.File size extents) (kinds.File cells) = size ≡ length cells
 TellsKind (told_kinds.Link text) (kinds.Link same) = text ≡ same

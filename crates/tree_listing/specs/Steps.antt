@@ -6,8 +6,8 @@ use Rattle.std.specs.FinMap as fin
 use Rattle.std.specs.Io.KnownBytes.{Appends}
 use Rattle.tape_types.specs.Counts.{Rose}
 use Rattle.index_model.specs.declared.nodes.Node as told
-use Rattle.index_model.specs.declared.nodes.Kind as told_kind
-use Rattle.index_model.specs.declared.nodes.Kind.TheVariants as told_kinds
+use Rattle.index_model.specs.declared.nodes.NodeKind as told_kind
+use Rattle.index_model.specs.declared.nodes.NodeKind.TheVariants as told_kinds
 use Rattle.plain_tree.specs.declared.nodes.Node.{Node}
 use Rattle.plain_tree.specs.Paths.{Path}
 use Rattle.plain_tree.specs.Tree.{Tree}
@@ -24,7 +24,7 @@ shown [] = codes "/"
 shown (b ∷ names) = b ∷ names
 
 -- the line of a node as an index tells it
-abbrev pub told_line_of : (path : List ℕ) (uid : ℕ) → told_kind.Kind → List ℕ
+abbrev pub told_line_of : (path : List ℕ) (uid : ℕ) → told_kind.NodeKind → List ℕ
 told_line_of path uid told_kinds.Dir = codes "d " ++ decimal uid ++ codes " " ++ path ++ codes "\n"
 told_line_of path uid (told_kinds.File size extents) =
     codes "f " ++ decimal uid ++ codes " " ++ decimal size ++ codes " " ++ path ++ codes "\n"

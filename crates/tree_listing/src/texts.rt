@@ -5,7 +5,7 @@ ghost use Rattle.session_script.specs.Escapes.{escaped};
 ghost use Rattle.tree_listing.specs.Listing.{generation_line, spot_text};
 ghost use Rattle.tree_listing.specs.Steps.{shown, told_line};
 
-use index_model::{Kind, Node, Spot};
+use index_model::{Node, NodeKind, Spot};
 use itoa::Buffer;
 use session_script::push_escaped;
 use std::alloc::Global;
@@ -49,14 +49,14 @@ pub fn put_line(alloc: Global, out: &mut Vec<u8>, names: &[u8], node: &Node) -> 
 {
     let path = shown(names);
     match &node.kind {
-        Kind::Dir => {
+        NodeKind::Dir => {
             put(out, b"d ")?;
             put_number(out, node.uid)?;
             put(out, b" ")?;
             put(out, path)?;
             put(out, b"\n")
         }
-        Kind::File { length, .. } => {
+        NodeKind::File { length, .. } => {
             put(out, b"f ")?;
             put_number(out, node.uid)?;
             put(out, b" ")?;
@@ -65,7 +65,7 @@ pub fn put_line(alloc: Global, out: &mut Vec<u8>, names: &[u8], node: &Node) -> 
             put(out, path)?;
             put(out, b"\n")
         }
-        Kind::Link { text } => {
+        NodeKind::Link { text } => {
             put(out, b"l ")?;
             put_number(out, node.uid)?;
             put(out, b" ")?;

@@ -13,7 +13,7 @@ use Rattle.tape_types.specs.declared.moments.Moment.{Moment}
 use Rattle.serving_promise.specs.Faults.{kept_for}
 use Rattle.serving_promise.specs.Marks.{after, draining, mark, phase, placed_and_handed, places_of, waits}
 use Rattle.serving_promise.specs.Steps.{without_session}
-use Rattle.serving_promise.specs.declared.marks.Kind.TheVariants as kinds
+use Rattle.serving_promise.specs.declared.marks.MarkKind.TheVariants as kinds
 use Rattle.serving_promise.specs.declared.marks.Mark.{Mark}
 use Rattle.order_laws.proofs.Marked.{phase_more}
 use Rattle.event_journal.specs.Placements.{Listed, or_none, there}

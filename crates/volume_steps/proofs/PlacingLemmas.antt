@@ -9,9 +9,9 @@ use Rattle.plain_tree.specs.declared.calls.Fate.{Fate}
 use Rattle.plain_tree.specs.declared.calls.Placed.{Placed}
 use Rattle.session_script.specs.declared.logs.Reply.{Reply}
 use Rattle.tape_types.specs.declared.moments.Moment.{Moment}
-use Rattle.serving_promise.specs.declared.marks.Kind.{Kind}
+use Rattle.serving_promise.specs.declared.marks.MarkKind.{MarkKind}
 use Rattle.serving_promise.specs.declared.marks.Mark.{Mark}
-use Rattle.serving_promise.specs.declared.marks.Kind.TheVariants as kinds
+use Rattle.serving_promise.specs.declared.marks.MarkKind.TheVariants as kinds
 use Rattle.serving_promise.specs.Marks.{idle, waits, after, kinds_of, mark, phase, placed_and_handed}
 use Rattle.event_journal.specs.Placements.{Listed, or_none, there}
 use Rattle.state_laws.specs.Parts.{Parts}
@@ -36,13 +36,13 @@ kind_alone : (who : ℕ) (m : Mark) (b : Bool) → (m.who == who) ≡ b → b �
 kind_alone who m true is so = rw is refl
 kind_alone who m false is so = cc
 
-pub phase_here : (who : ℕ) (marks : List Mark) (kind : Kind) → phase who (marks ++ mark who kind ∷ []) ≡ after (phase who marks) kind
+pub phase_here : (who : ℕ) (marks : List Mark) (kind : MarkKind) → phase who (marks ++ mark who kind ∷ []) ≡ after (phase who marks) kind
 phase_here who marks kind =
-    ap (λ (ks : List Kind). fold after idle ks)
+    ap (λ (ks : List MarkKind). fold after idle ks)
     (ap (λ (ms : List Mark). map (λ (x : Mark). x.kind) ms) (filter-append (λ (x : Mark). x.who == who) marks (mark who kind ∷ []))
     ∙ map-append (λ (x : Mark). x.kind) (filter (λ (x : Mark). x.who == who) marks) (filter (λ (x : Mark). x.who == who) (mark who kind ∷ [])))
     ∙ fold-append after idle (kinds_of who marks) (kinds_of who (mark who kind ∷ []))
-    ∙ ap (λ (ks : List Kind). fold after (phase who marks) ks) (kind_alone who (mark who kind) (who == who) refl (eq-eqb who who refl))
+    ∙ ap (λ (ks : List MarkKind). fold after (phase who marks) ks) (kind_alone who (mark who kind) (who == who) refl (eq-eqb who who refl))
 
 -- ---- a call is placed, its reply is kept, and is handed out
 

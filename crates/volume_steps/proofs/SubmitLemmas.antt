@@ -25,7 +25,7 @@ use Rattle.session_script.specs.declared.logs.Event.TheVariants as the_events
 use Rattle.session_script.specs.declared.logs.Reply.{Reply}
 use Rattle.serving_promise.specs.Marks.{mark}
 use Rattle.serving_promise.specs.declared.marks.Mark.{Mark}
-use Rattle.serving_promise.specs.declared.marks.Kind.TheVariants as kinds
+use Rattle.serving_promise.specs.declared.marks.MarkKind.TheVariants as kinds
 use Rattle.session_script.specs.declared.logs.Reply.TheVariants as the_replies
 use Rattle.event_laws.specs.Trail.{IsTrail}
 use Rattle.tape_drive.specs.declared.drive.Drive.{Ghosts}

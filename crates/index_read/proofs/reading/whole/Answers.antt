@@ -1,5 +1,5 @@
 use Rattle.std.proofs.Common.{◌≡◌, Ok, Err, sym, ◌∙◌}
-use Rattle.doc_elements.specs.declared.schema.Place.TheVariants as place
+use Rattle.doc_elements.specs.declared.schema.Container.TheVariants as place
 use Rattle.doc_elements.specs.Documents.{Halted, Halts, at_head, head_of}
 use Rattle.doc_elements.proofs.Whole.{halted_halts, unless_always, unless_map}
 use Rattle.index_read.proofs.Whole.{walked_halts}

@@ -1,7 +1,7 @@
 use Rattle.std.proofs.Common.{ℕ, List, [], ◌∷◌, ◌++◌, ◌≡◌, ◌≤◌, Bool, true, false, length, Ok, refl, sym, ap, ◌∙◌, arith}
 use Rattle.doc_elements.specs.declared.children.Children.{Children}
 use Rattle.doc_elements.specs.declared.pieces.Frame as code_frame
-use Rattle.doc_elements.specs.declared.schema.Place.TheVariants as place
+use Rattle.doc_elements.specs.declared.schema.Container.TheVariants as place
 use Rattle.doc_elements.specs.Answers.{piece_of}
 use Rattle.doc_elements.specs.Documents.{after, Reaches, fresh}
 use Rattle.doc_elements.specs.Pieces.{Piece, Frame}

@@ -1,6 +1,6 @@
 use Rattle.std.proofs.Common.{ℕ, List, [], ◌∷◌, ◌≡◌, ◌≤◌, ◌-◌, ◌+◌, length}
 use Rattle.doc_elements.specs.declared.pieces.Frame as code_frame
-use Rattle.doc_elements.specs.declared.schema.Place.TheVariants as place
+use Rattle.doc_elements.specs.declared.schema.Container.TheVariants as place
 use Rattle.doc_elements.specs.Documents.{Reaches, fresh}
 use Rattle.doc_elements.specs.Pieces.{Piece, Frame}
 use Rattle.ltfs_label.specs.Reading.{coded, stacked, value_from}

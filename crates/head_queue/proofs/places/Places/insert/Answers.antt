@@ -1,7 +1,7 @@
 use Rattle.std.proofs.Common.{◌≡◌, ◌≢◌, ℕ, ◌<◌, ◌≤◌, List, ◌∷◌, length, map, Option, Some, ap, sym, subst, ◌∙◌, arith, rules}
 use Rattle.std.specs.List.{AllByRecursion}
 use Rattle.std.specs.Vec.{vec_len}
-use Rattle.head_queue.specs.declared.entries.Entry.{Entry}
+use Rattle.head_queue.specs.declared.entries.QueueEntry.{QueueEntry}
 use Rattle.head_queue.specs.Cuts.{Misses}
 use Rattle.head_queue.specs.Waiting.{Waiting}
 use Rattle.head_queue.specs.Orders.{Order}
@@ -23,7 +23,7 @@ invariant_of-self c =
       λ e. let some : 1 ≤ c.args.number = c.requires.some in absurd (omega arith),
       misses_node c.self.inside.entries.items c.args.number c.self.inside.chain.members (subst (AllByRecursion (λ (w : Waiting). w.node ≢ c.args.number)) (sym (ap (λ (o : Order). o.order) c.self.view_is)) c.requires.apart),
     ) in
-    let walked = subst (λ (es : List (Option Entry)). IsWalked es (rank_of c.args.entry.place c.args.entry.arrival) c.self.inside.chain.members c.last_before-at.result) c.deref-2.ensures.value c.last_before-at.ensures in
+    let walked = subst (λ (es : List (Option QueueEntry)). IsWalked es (rank_of c.args.entry.place c.args.entry.arrival) c.self.inside.chain.members c.last_before-at.result) c.deref-2.ensures.value c.last_before-at.ensures in
     subst (λ (n : ℕ). AreKept c.set.new.entries.items c.insert.new.self.members n) (sym c.insert.ensures.size)
     (subst (λ (ks : List ℕ). AreKept c.set.new.entries.items ks c.self.inside.chain.size) (sym (c.insert.ensures.members walked.passed.cut))
     (kept_more c.self.inside.entries.items c.set.new.entries.items c.args.number c.args.entry c.self.inside.chain.members c.self.inside.chain.size c.last_before-at.result c.self.invariant c.set.ensures.entries walked misses (record { pos = omega arith; arrival = omega arith })
@@ -35,7 +35,7 @@ returns-clause-order c =
       λ e. let some : 1 ≤ c.args.number = c.requires.some in absurd (omega arith),
       misses_node c.self.inside.entries.items c.args.number c.self.inside.chain.members (subst (AllByRecursion (λ (w : Waiting). w.node ≢ c.args.number)) (sym (ap (λ (o : Order). o.order) c.self.view_is)) c.requires.apart),
     ) in
-    let walked = subst (λ (es : List (Option Entry)). IsWalked es (rank_of c.args.entry.place c.args.entry.arrival) c.self.inside.chain.members c.last_before-at.result) c.deref-2.ensures.value c.last_before-at.ensures in
+    let walked = subst (λ (es : List (Option QueueEntry)). IsWalked es (rank_of c.args.entry.place c.args.entry.arrival) c.self.inside.chain.members c.last_before-at.result) c.deref-2.ensures.value c.last_before-at.ensures in
     record {
       front = map (waiting_at c.self.inside.entries.items) walked.passed.cut.front;
       behind = map (waiting_at c.self.inside.entries.items) walked.passed.cut.behind;

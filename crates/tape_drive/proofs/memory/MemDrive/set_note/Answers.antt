@@ -5,7 +5,7 @@ use Rattle.tape_types.specs.declared.cartridges.Cartridge.{Cartridge}
 use Rattle.tape_types.specs.declared.cartridges.Note.{Note}
 use Rattle.tape_drive.specs.declared.record.Act.{Act}
 use Rattle.tape_drive.specs.declared.record.Act.TheVariants.{Noted}
-use Rattle.tape_drive.specs.declared.record.Entry.{Entry}
+use Rattle.tape_drive.specs.declared.record.DoneCommand.{DoneCommand}
 use Rattle.tape_drive.specs.Record.{IsSound, undo, with_note}
 use Rattle.tape_drive.specs.Placed.{reads_as}
 use Rattle.tape_drive.specs.Memory.{View}
@@ -25,8 +25,8 @@ invariant_of-self-2 c =
     let back : undo act new ≡ held =
     ap (λ (d : Cartridge). undo act d) is.0 ∙ ap (λ (n : Note). undo (Noted part n) (with_note part c.args.note held)) is.1 ∙ undo_note part c.args.note held in
     let items : c.push_reserved.new.self.items ≡ m.acts.items ++ record { number = c.args.number; act = act } ∷ [] =
-    c.push_reserved.ensures.items ∙ ap (λ (es : List Entry). es ++ record { number = c.args.number; act = act } ∷ []) c.reserve.ensures.items in
-    subst (λ (es : List Entry). IsSound m.limits m.commands new es)
+    c.push_reserved.ensures.items ∙ ap (λ (es : List DoneCommand). es ++ record { number = c.args.number; act = act } ∷ []) c.reserve.ensures.items in
+    subst (λ (es : List DoneCommand). IsSound m.limits m.commands new es)
     (sym (newest m.acts.items c.push_reserved.new.self.items (record { number = c.args.number; act = act }) items))
     (sound_acted m.limits m.commands c.args.number act held new (reverse m.acts.items) back
     (subst (λ (d : Cartridge). FitsLimits m.limits d) (sym is.0) (fits_note m.limits part c.args.note held (sound_fits m.limits m.commands held _ c.self.invariant))) below c.self.invariant)

@@ -2,7 +2,7 @@ use Rattle.std.proofs.Common.{◌≤◌, ◌∙◌, length, ap, sym, subst}
 use Rattle.plain_tree.specs.declared.calls.Placed.{Placed}
 use Rattle.std.specs.Prelude.{◌++◌, ◌∷◌, []}
 use Rattle.serving_promise.specs.Marks.{mark}
-use Rattle.serving_promise.specs.declared.marks.Kind.TheVariants as kinds
+use Rattle.serving_promise.specs.declared.marks.MarkKind.TheVariants as kinds
 use Rattle.volume_steps.specs.Seen.{seen_parts}
 use Rattle.volume_steps.proofs.PlacingLemmas.{none_yet, places, there_now, waits_here}
 use Rattle.volume_steps.proofs.parts.Parts.place_answered.Goals as goal
